@@ -1,0 +1,168 @@
+-- Which bytes open a session, and with which faults they do not.
+use Rattle.std.proofs.Common.{◌≡◌, ◌⊎◌, ℕ, List, ◌∷◌, ◌++◌, Option, Some, true, length, drop, refl, sym, ap, subst, ◌∙◌, arith, length-append, inl, inr}
+use Rattle.std.specs.List.{concat}
+use Rattle.std.specs.Prelude.{filter}
+use Rattle.std.specs.Option.{IsSome}
+use Rattle.std.proofs.lemmas.Bool.Decides.{nat_tests}
+use Rattle.hii_bytes.specs.declared.cause.Cause.{Cause}
+use Rattle.hii_bytes.specs.declared.cause.Fault.{Fault}
+use Rattle.hii_bytes.specs.Faults.{HasNone, IsLeast, Refuses, Then, out_of_memory}
+use Rattle.hii_bytes.specs.Numbers.{number_in}
+use Rattle.hii_bytes.proofs.FaultLemmas.{then_first, then_second, then_none}
+use Rattle.hii_packages.specs.Packages.{Entry, Spells, nth_forms, pieces_of, stops, end_package}
+use Rattle.hii_packages.specs.Faults.{IsListFault, IsFormsFault}
+use Rattle.hii_packages.proofs.PackageLemmas.{pieces-concat}
+use Rattle.hii_packages.proofs.SpellLemmas.{end_from_spells}
+use Rattle.hii_packages.proofs.PlaceLemmas as list_places
+use Rattle.hii_packages.proofs.FormsLemmas.{there_without_fault}
+use Rattle.ifr_opcodes.specs.Forest.{Placed, places}
+use Rattle.ifr_opcodes.specs.Reading.{tree_of}
+use Rattle.ifr_scopes.specs.Accepted.{IsAccepted, IsPackageFault}
+use Rattle.ifr_scopes.specs.Framing.{IsFramingFault}
+use Rattle.ifr_scopes.specs.Structure.{IsStructureFault}
+use Rattle.ifr_scopes.specs.References.{IsReferenceFault}
+use Rattle.ifr_scopes.specs.Nodes.{nodes_of, is_form}
+use Rattle.ifr_scopes.proofs.RunLemmas.{none_where_spelled}
+use Rattle.hii_varstore.specs.Layout.{Shape}
+use Rattle.hii_varstore.specs.Image.{SpellsImage}
+use Rattle.hii_varstore.specs.StoreNodes.{IsStoreFault}
+use Rattle.hii_varstore.specs.Faults.{IsImageFault, IsNoMemory}
+use Rattle.hii_varstore.proofs.FaultLemmas as image
+use Rattle.hii_questions.specs.Faults.{IsQuestionFault}
+use Rattle.browser_core.specs.State.{State}
+use Rattle.browser_core.specs.Opening.{bytes_or_none, forms_bytes, HasSource, layout_in, IsSourceFault, IsFormSetFault, IsOpenFault, IsBrowsable, Opens}
+
+-- ---- the forms package of a number
+
+size_of_end : (rest : List ℕ) → number_in (end_package ++ rest) 0 3 ≡ 4
+unfolding number_in
+size_of_end rest = refl
+
+stops_end : (rest : List ℕ) → stops (end_package ++ rest) ≡ true
+stops_end rest = let size = size_of_end rest in grind (arith, nat_tests)
+
+-- the packages that a list spells are those that are cut off behind its header
+spelled_pieces : (list : List ℕ) (packages : List (List ℕ)) → Spells list packages → pieces_of (drop 20 list) ≡ packages
+spelled_pieces list packages s =
+    ap pieces_of s.whole
+    ∙ pieces-concat (length (concat packages ++ (end_package ++ s.rest))) packages (end_package ++ s.rest) s.each (stops_end s.rest) (omega (arith, length-append (concat packages) (end_package ++ s.rest)))
+
+pub source_bytes : (list : List ℕ) (n : ℕ) (source : Entry) → HasSource list n source → forms_bytes list n ≡ source.bytes
+unfolding forms_bytes
+source_bytes list n source (packages, s, found) =
+    ap (λ (ps : List (List ℕ)). bytes_or_none (nth_forms ps n)) (spelled_pieces list packages s) ∙ ap bytes_or_none found
+
+some_is : (o : Option Entry) (source : Entry) → o ≡ Some source → IsSome o
+some_is o source e = subst IsSome (sym e) refl
+
+no_source_fault : (list : List ℕ) (n : ℕ) (source : Entry) → HasSource list n source → HasNone (IsSourceFault list n)
+no_source_fault list n source (packages, s, found) =
+    then_none (IsListFault list) (IsFormsFault list n) (list_places.no_fault list _ (end_from_spells list packages s))
+    ((there_without_fault list packages n s).1 (some_is (nth_forms packages n) source found))
+
+-- ---- what can be browsed has no fault
+
+accepted_no_fault : (ifr : List ℕ) → IsAccepted ifr → HasNone (IsPackageFault ifr)
+accepted_no_fault ifr a =
+    then_none (IsFramingFault ifr) (Then (IsStructureFault (nodes_of ifr)) (IsReferenceFault (nodes_of ifr))) (none_where_spelled ifr (tree_of ifr) a.checked.spelled)
+    (then_none (IsStructureFault (nodes_of ifr)) (IsReferenceFault (nodes_of ifr)) a.checked.sound a.referred)
+
+browsable_no_fault : (ifr : List ℕ) → IsBrowsable ifr → HasNone (IsFormSetFault ifr)
+browsable_no_fault ifr b =
+    then_none (IsPackageFault ifr) (Then (IsStoreFault (nodes_of ifr)) (IsQuestionFault (nodes_of ifr) (layout_in ifr))) (accepted_no_fault ifr b.accepted)
+    (then_none (IsStoreFault (nodes_of ifr)) (IsQuestionFault (nodes_of ifr) (layout_in ifr)) b.stores b.questions)
+
+opens_no_fault : (list : List ℕ) (n : ℕ) (stores : List ℕ) (start : State) → Opens list n stores start → HasNone (IsOpenFault list n stores)
+opens_no_fault list n stores start o =
+    let is : start.ifr ≡ forms_bytes list n = o.bytes ∙ sym (source_bytes list n o.source o.found) in
+    then_none (IsSourceFault list n) (Then (IsFormSetFault (forms_bytes list n)) (IsImageFault (layout_in (forms_bytes list n)) stores)) (no_source_fault list n o.source o.found)
+    (subst (λ ifr. HasNone (Then (IsFormSetFault ifr) (IsImageFault (layout_in ifr) stores))) is
+    (then_none (IsFormSetFault start.ifr) (IsImageFault (layout_in start.ifr) stores) (browsable_no_fault start.ifr o.browsable)
+    (image.no_fault (layout_in start.ifr) stores start.working o.stores)))
+
+-- what is refused where the bytes open a session is want of memory
+pub only_memory : (list : List ℕ) (n : ℕ) (stores : List ℕ) (start : State) (fault : Fault) → Opens list n stores start → Refuses (IsOpenFault list n stores) fault → fault ≡ out_of_memory
+only_memory list n stores start fault o (inl memory) = memory
+only_memory list n stores start fault o (inr least) = absurd (opens_no_fault list n stores start o fault.cause fault.place least.told)
+
+-- ---- the part that refuses
+
+refuses_first : (First Second : Cause → ℕ → Type 0) (fault : Fault) → Refuses First fault → Refuses (Then First Second) fault
+refuses_first First Second fault (inl memory) = inl memory
+refuses_first First Second fault (inr least) = inr (then_first First Second fault least)
+
+refuses_second : (First Second : Cause → ℕ → Type 0) (fault : Fault) → HasNone First → Refuses Second fault → Refuses (Then First Second) fault
+refuses_second First Second fault none (inl memory) = inl memory
+refuses_second First Second fault none (inr least) = inr (then_second First Second fault none least)
+
+-- the list refuses
+pub refuses_source : (list : List ℕ) (n : ℕ) (stores : List ℕ) (fault : Fault) → IsLeast (IsSourceFault list n) fault → Refuses (IsOpenFault list n stores) fault
+refuses_source list n stores fault least = refuses_first (IsSourceFault list n) _ fault (inr least)
+
+-- its forms package refuses, or the image
+refuses_later : (list : List ℕ) (n : ℕ) (stores : List ℕ) (source : Entry) (ifr : List ℕ) (fault : Fault) → HasSource list n source → ifr ≡ source.bytes
+    → Refuses (Then (IsFormSetFault ifr) (IsImageFault (layout_in ifr) stores)) fault → Refuses (IsOpenFault list n stores) fault
+refuses_later list n stores source ifr fault found is r =
+    refuses_second (IsSourceFault list n) (Then (IsFormSetFault (forms_bytes list n)) (IsImageFault (layout_in (forms_bytes list n)) stores)) fault (no_source_fault list n source found)
+    (subst (λ ifr. Refuses (Then (IsFormSetFault ifr) (IsImageFault (layout_in ifr) stores)) fault) (is ∙ sym (source_bytes list n source found)) r)
+
+refuses_form_set : (list : List ℕ) (n : ℕ) (stores : List ℕ) (source : Entry) (ifr : List ℕ) (fault : Fault) → HasSource list n source → ifr ≡ source.bytes
+    → Refuses (IsFormSetFault ifr) fault → Refuses (IsOpenFault list n stores) fault
+refuses_form_set list n stores source ifr fault found is r =
+    refuses_later list n stores source ifr fault found is (refuses_first (IsFormSetFault ifr) (IsImageFault (layout_in ifr) stores) fault r)
+
+pub refuses_package : (list : List ℕ) (n : ℕ) (stores : List ℕ) (source : Entry) (ifr : List ℕ) (fault : Fault) → HasSource list n source → ifr ≡ source.bytes
+    → Refuses (IsPackageFault ifr) fault → Refuses (IsOpenFault list n stores) fault
+refuses_package list n stores source ifr fault found is r =
+    refuses_form_set list n stores source ifr fault found is (refuses_first (IsPackageFault ifr) (Then (IsStoreFault (nodes_of ifr)) (IsQuestionFault (nodes_of ifr) (layout_in ifr))) fault r)
+
+pub refuses_stores : (list : List ℕ) (n : ℕ) (stores : List ℕ) (source : Entry) (ifr : List ℕ) (fault : Fault) → HasSource list n source → ifr ≡ source.bytes → IsAccepted ifr
+    → Refuses (IsStoreFault (nodes_of ifr)) fault → Refuses (IsOpenFault list n stores) fault
+refuses_stores list n stores source ifr fault found is a r =
+    refuses_form_set list n stores source ifr fault found is
+    (refuses_second (IsPackageFault ifr) (Then (IsStoreFault (nodes_of ifr)) (IsQuestionFault (nodes_of ifr) (layout_in ifr))) fault (accepted_no_fault ifr a)
+    (refuses_first (IsStoreFault (nodes_of ifr)) (IsQuestionFault (nodes_of ifr) (layout_in ifr)) fault r))
+
+pub refuses_questions : (list : List ℕ) (n : ℕ) (stores : List ℕ) (source : Entry) (ifr : List ℕ) (shape : Shape) (fault : Fault) → HasSource list n source → ifr ≡ source.bytes → IsAccepted ifr
+    → HasNone (IsStoreFault (nodes_of ifr)) → shape ≡ layout_in ifr → Refuses (IsQuestionFault (nodes_of ifr) shape) fault → Refuses (IsOpenFault list n stores) fault
+refuses_questions list n stores source ifr shape fault found is a sound laid r =
+    refuses_form_set list n stores source ifr fault found is
+    (refuses_second (IsPackageFault ifr) (Then (IsStoreFault (nodes_of ifr)) (IsQuestionFault (nodes_of ifr) (layout_in ifr))) fault (accepted_no_fault ifr a)
+    (refuses_second (IsStoreFault (nodes_of ifr)) (IsQuestionFault (nodes_of ifr) (layout_in ifr)) fault sound (subst (λ shape. Refuses (IsQuestionFault (nodes_of ifr) shape) fault) laid r)))
+
+as_memory : (fault : Fault) → IsNoMemory fault → fault ≡ out_of_memory
+as_memory fault (cause, place) = let whole : ◌≡◌ {A = Fault} record { cause = fault.cause; place = fault.place } out_of_memory = cc in whole
+
+image_refuses : (IsFault : Cause → ℕ → Type 0) (fault : Fault) → IsNoMemory fault ⊎ IsLeast IsFault fault → Refuses IsFault fault
+image_refuses IsFault fault (inl memory) = inl (as_memory fault memory)
+image_refuses IsFault fault (inr least) = inr least
+
+-- a package that can be browsed, of its parts
+pub browsable : (ifr : List ℕ) (shape : Shape) → IsAccepted ifr → HasNone (IsStoreFault (nodes_of ifr)) → shape ≡ layout_in ifr → HasNone (IsQuestionFault (nodes_of ifr) shape) → IsBrowsable ifr
+browsable ifr shape a sound laid questions = record {
+  accepted = a;
+  stores = sound;
+  questions = subst (λ shape. HasNone (IsQuestionFault (nodes_of ifr) shape)) laid questions;
+}
+
+pub refuses_image : (list : List ℕ) (n : ℕ) (stores : List ℕ) (source : Entry) (ifr : List ℕ) (shape : Shape) (fault : Fault) → HasSource list n source → ifr ≡ source.bytes → IsBrowsable ifr
+    → shape ≡ layout_in ifr → IsNoMemory fault ⊎ IsLeast (IsImageFault shape stores) fault → Refuses (IsOpenFault list n stores) fault
+refuses_image list n stores source ifr shape fault found is b laid r =
+    refuses_later list n stores source ifr fault found is
+    (refuses_second (IsFormSetFault ifr) (IsImageFault (layout_in ifr) stores) fault (browsable_no_fault ifr b)
+    (subst (λ shape. Refuses (IsImageFault shape stores) fault) laid (image_refuses (IsImageFault shape stores) fault r)))
+
+-- what the bytes open
+pub opened : (list : List ℕ) (n : ℕ) (stores : List ℕ) (source : Entry) (start : State) (shape : Shape) (first : Placed) (others : List Placed)
+    → HasSource list n source → start.ifr ≡ source.bytes → IsBrowsable start.ifr → shape ≡ layout_in start.ifr → SpellsImage shape stores start.committed → start.working ≡ start.committed
+    → filter is_form (nodes_of start.ifr) ≡ first ∷ others → start.form ≡ first.place → Opens list n stores start
+opened list n stores source start shape first others found is b laid spelled same forms place = record {
+  source = source;
+  found = found;
+  bytes = is;
+  browsable = b;
+  stores = subst (SpellsImage (layout_in start.ifr) stores) (sym same) (subst (λ shape. SpellsImage shape stores start.committed) laid spelled);
+  submitted = sym same;
+  others = places others;
+  forms = ap places forms ∙ ap (λ (p : ℕ). p ∷ places others) (sym place);
+}

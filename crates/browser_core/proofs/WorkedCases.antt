@@ -1,0 +1,88 @@
+-- Some worked cases, computed from the definitions: what a script over small lists leaves and writes.
+use Rattle.std.proofs.Common.{◌≡◌, ℕ, ◌+◌, List, [], ◌∷◌, ◌++◌, refl}
+use Rattle.std.specs.Prelude.{replicate, codes}
+use Rattle.std.specs.Fmt.{digits}
+use Rattle.hii_bytes.specs.Numbers.{number_in}
+use Rattle.ifr_opcodes.specs.Reading.{cut, levels, tree_of}
+use Rattle.unicode_width.proofs.Computing.{unicode_width}
+use Rattle.hii_varstore.specs.Image.{image_of}
+use Rattle.hii_varstore.specs.Stores.{StoreMap, with_bytes}
+use Rattle.browser_core.specs.State.{State}
+use Rattle.browser_core.specs.Run.{outcome_of}
+
+-- ---- opcodes
+
+-- a form set with the GUID of sixteen bytes 22
+abbrev form_set : List ℕ
+form_set = (0x0E ∷ 0x97 ∷ replicate 16 0x22) ++ (1 ∷ 0 ∷ 0 ∷ 0 ∷ 0 ∷ [])
+
+-- the store 1 of two bytes
+abbrev store : List ℕ
+store = (0x24 ∷ 0x18 ∷ replicate 16 0x33) ++ (1 ∷ 0 ∷ 2 ∷ 0 ∷ 0x56 ∷ 0 ∷ [])
+
+-- the form 1 with the title 2
+abbrev form : List ℕ
+form = 1 ∷ 0x86 ∷ 1 ∷ 0 ∷ 2 ∷ 0 ∷ []
+
+-- a checkbox over a byte of the store, whose prompt is its id and 2
+abbrev checkbox : ℕ → ℕ → List ℕ
+checkbox id offset = 0x06 ∷ 0x0E ∷ (id + 2) ∷ 0 ∷ 0 ∷ 0 ∷ id ∷ 0 ∷ 1 ∷ 0 ∷ offset ∷ 0 ∷ 0 ∷ 0 ∷ []
+
+abbrev suppress_if : List ℕ
+suppress_if = 0x0A ∷ 0x82 ∷ []
+
+abbrev equal_to : ℕ → ℕ → List ℕ
+equal_to id value = 0x12 ∷ 0x06 ∷ id ∷ 0 ∷ value ∷ 0 ∷ []
+
+abbrev end : List ℕ
+end = 0x29 ∷ 2 ∷ []
+
+abbrev before : List ℕ
+before = form_set ++ store ++ form
+
+-- a session at the first form of a package, over the bytes of its store
+abbrev started : List ℕ → List ℕ → State
+started ifr bytes =
+    let stores : StoreMap = record { guid = replicate 16 0x22; stores = record { id = 1; bytes = bytes } ∷ [] } in
+    record { ifr = ifr; committed = stores; working = stores; form = 51 }
+
+-- ---- a checkbox is set and submitted
+
+abbrev one_checkbox : List ℕ
+one_checkbox = (75 ∷ 0 ∷ 0 ∷ 2 ∷ []) ++ before ++ checkbox 1 0 ++ end ++ end
+
+a_checkbox_is_set : (outcome_of (started one_checkbox (0 ∷ 0 ∷ [])) (codes "page\nset 1 1\nsubmit\n")).text
+    ≡ codes "FORM 1 #2\n  1 *     1 #3                       [ ]\nOK\nOK 1\nCHANGED 1\n"
+unfolding cut levels tree_of number_in with_bytes digits unicode_width
+a_checkbox_is_set = refl
+
+-- the image that is written then
+abbrev set_image : List ℕ
+set_image = codes "HVS2" ++ replicate 16 0x22 ++ (1 ∷ 0 ∷ 1 ∷ 0 ∷ 2 ∷ 0 ∷ 1 ∷ 0 ∷ [])
+
+a_set_checkbox_is_submitted : image_of (outcome_of (started one_checkbox (0 ∷ 0 ∷ [])) (codes "page\nset 1 1\nsubmit\n")).state.committed ≡ set_image
+unfolding cut levels tree_of number_in with_bytes digits unicode_width image_of
+a_set_checkbox_is_submitted = refl
+
+-- ---- a checkbox is hidden while another one is set
+
+abbrev two_checkboxes : List ℕ
+two_checkboxes = (99 ∷ 0 ∷ 0 ∷ 2 ∷ []) ++ before ++ suppress_if ++ equal_to 2 1 ++ checkbox 1 0 ++ end ++ checkbox 2 1 ++ end ++ end
+
+a_hidden_checkbox_is_denied : (outcome_of (started two_checkboxes (0 ∷ 1 ∷ [])) (codes "page\nset 1 1\nset 2 0\npage\n")).text
+    ≡ codes "FORM 1 #2\n  1 *     2 #4                       [x]\nDENIED suppressif at 00000039\nOK\nFORM 1 #2\n  1 *     1 #3                       [ ]\n  2 *     2 #4                       [ ]\n"
+unfolding cut levels tree_of number_in with_bytes digits unicode_width
+a_hidden_checkbox_is_denied = refl
+
+-- ---- a checkbox that hides itself
+
+abbrev hiding_itself : List ℕ
+hiding_itself = (85 ∷ 0 ∷ 0 ∷ 2 ∷ []) ++ before ++ suppress_if ++ equal_to 1 1 ++ checkbox 1 0 ++ end ++ end ++ end
+
+an_unset_one_is_seen : (outcome_of (started hiding_itself (0 ∷ 0 ∷ [])) (codes "page\n")).text ≡ codes "FORM 1 #2\n  1 *     1 #3                       [ ]\n"
+unfolding cut levels tree_of number_in with_bytes digits unicode_width
+an_unset_one_is_seen = refl
+
+a_set_one_is_not_seen : (outcome_of (started hiding_itself (1 ∷ 0 ∷ [])) (codes "page\n")).text ≡ codes "FORM 1 #2\n"
+unfolding cut levels tree_of number_in with_bytes digits unicode_width
+a_set_one_is_not_seen = refl

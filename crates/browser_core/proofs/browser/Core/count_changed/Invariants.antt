@@ -1,0 +1,21 @@
+use Rattle.std.proofs.Common.{◌≡◌, ◌+◌, length}
+use Rattle.std.specs.Prelude.{filter}
+use Rattle.std.specs.List.{AllByRecursion}
+use Rattle.ifr_scopes.specs.Lists.{form_node}
+use Rattle.hii_questions.specs.Lists.{questions_left}
+use Rattle.browser_core.specs.State.{State}
+use Rattle.browser_core.specs.Opening.{layout_in}
+use Rattle.browser_core.specs.Standing.{LiesIn}
+use Rattle.browser_core.specs.Step.{is_other, changed}
+use Rattle.browser_core.proofs.browser.Core.count_changed.Given as goal
+
+-- the changed questions so far, and those that are left, are all
+abbrev pub invariant-loop-question : goal.invariant-loop-question
+invariant-loop-question l =
+    let s : State = record { ifr = l.self-inside.forms; committed = l.self-inside.committed; working = l.self-inside.working; form = (form_node l.self-inside.form).place } in
+    record {
+      can : goal.iterator-loop-question.can_next l.question-iterator;
+      ends : goal.iterator-loop-question.is_finite l.question-iterator;
+      lie : AllByRecursion (LiesIn (layout_in s.ifr)) (questions_left l.question-iterator);
+      counted : l.count + length (filter (is_other s) (questions_left l.question-iterator)) ≡ length (changed s);
+    }

@@ -1,0 +1,7 @@
+use Rattle.std.proofs.lemmas.Result.{err_from_is_err_and}
+use Rattle.browser_core.proofs.session.Session.open.Goals as goal
+
+pub returns-in_err-core-clause-accepted : goal.returns-in_err-core-clause-accepted
+returns-in_err-core-clause-accepted c =
+    let p = err_from_is_err_and c.from_residual.result c.from_residual.ensures.1 in
+    λ start o. rw (p.1, p.2) (c.in_err-core.ensures.accepted start o)

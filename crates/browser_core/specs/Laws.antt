@@ -1,0 +1,35 @@
+-- What commands leave as it is.
+use Rattle.std.specs.Prelude.{◌≡◌, ◌⊎◌, ℕ, ◌+◌, ◌<◌, ◌≤◌, Some, List, [], ◌∷◌}
+use Rattle.ifr_opcodes.specs.Forest.{Placed}
+use Rattle.ifr_scopes.specs.Nodes.{nodes_of}
+use Rattle.hii_varstore.specs.Stores.{byte_of}
+use Rattle.hii_questions.specs.Fields.{Field, field_of, question_with}
+use Rattle.hii_commands.specs.Orders.{Order, SetValue}
+use Rattle.browser_core.specs.State.{State}
+use Rattle.browser_core.specs.Step.{step}
+use Rattle.browser_core.specs.declared.reply.Reply.TheVariants.{Accepted}
+
+-- the state after some commands
+abbrev pub state_with : State → List Order → State
+state_with s [] = s
+state_with s (order ∷ orders) = state_with (step s order).state orders
+
+-- The command sets the question of an id, whose field has this byte of a store, and is carried out.
+abbrev pub SetsByte : State → Order → ℕ → ℕ → Type 0
+SetsByte s (SetValue id value) store at =
+    (n : Placed) × (field : Field) × (question_with (nodes_of s.ifr) id ≡ Some n) × (field_of n.op ≡ Some field)
+    × (store ≡ field.store) × (field.offset ≤ at) × (at < field.offset + field.width) × ((step s (SetValue id value)).reply ≡ Accepted)
+SetsByte s _ store at = ⊥
+
+-- one of some commands does so
+abbrev pub SomeSetsByte : State → List Order → ℕ → ℕ → Type 0
+SomeSetsByte s [] store at = ⊥
+SomeSetsByte s (order ∷ orders) store at = SetsByte s order store at ⊎ SomeSetsByte (step s order).state orders store at
+
+-- A byte that is submitted as it stands, and that no command sets, stays in the stores that commands read and in those
+-- that are submitted.
+abbrev pub KeepsOtherBytes : Type 0
+KeepsOtherBytes = (s : State) (orders : List Order) (store at : ℕ) → byte_of s.working store at ≡ byte_of s.committed store at
+    → (SomeSetsByte s orders store at → ⊥)
+    → (byte_of (state_with s orders).working store at ≡ byte_of s.committed store at)
+    × (byte_of (state_with s orders).committed store at ≡ byte_of s.committed store at)

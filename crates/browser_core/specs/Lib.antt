@@ -1,0 +1,7 @@
+pub mod State
+pub mod Texts
+pub mod Step
+pub mod Run
+pub mod Opening
+pub mod Standing
+pub mod Laws

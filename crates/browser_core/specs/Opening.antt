@@ -1,0 +1,63 @@
+-- Which bytes open a session, and with which faults they do not (own rule).
+use Rattle.std.specs.Prelude.{◌≡◌, ℕ, List, [], ◌∷◌, drop, filter, Option, Some, None}
+use Rattle.hii_bytes.specs.Faults.{HasNone, Then}
+use Rattle.hii_bytes.specs.declared.cause.Cause.{Cause}
+use Rattle.hii_packages.specs.Packages.{Entry, Spells, pieces_of, nth_forms}
+use Rattle.hii_packages.specs.Faults.{IsListFault, IsFormsFault}
+use Rattle.ifr_opcodes.specs.Forest.{places}
+use Rattle.ifr_scopes.specs.Accepted.{IsAccepted, IsPackageFault}
+use Rattle.ifr_scopes.specs.Nodes.{nodes_of, is_form}
+use Rattle.hii_varstore.specs.Layout.{Shape}
+use Rattle.hii_varstore.specs.StoreNodes.{layout_of, IsStoreFault}
+use Rattle.hii_varstore.specs.Image.{SpellsImage}
+use Rattle.hii_varstore.specs.Faults.{IsImageFault}
+use Rattle.hii_questions.specs.Faults.{IsQuestionFault}
+use Rattle.browser_core.specs.State.{State}
+
+-- the bytes of a package, none where it is not there
+abbrev pub bytes_or_none : Option Entry → List ℕ
+bytes_or_none None = []
+bytes_or_none (Some source) = source.bytes
+
+-- the bytes of the forms package of a number, or none (UEFI 2.8, 33.3.1: a list's packages stand behind its header of 20 bytes)
+unfoldable pub forms_bytes : List ℕ → ℕ → List ℕ
+forms_bytes list n = bytes_or_none (nth_forms (pieces_of (drop 20 list)) n)
+
+-- The list spells packages, and this is its forms package of the number.
+abbrev pub HasSource : List ℕ → ℕ → Entry → Type 0
+HasSource list n source = (packages : List (List ℕ)) × Spells list packages × (nth_forms packages n ≡ Some source)
+
+-- the stores that a package declares
+abbrev pub layout_in : List ℕ → Shape
+layout_in ifr = layout_of (nodes_of ifr)
+
+-- the faults of a list's packages, then that there is no forms package of the number
+abbrev pub IsSourceFault : List ℕ → ℕ → Cause → ℕ → Type 0
+IsSourceFault list n = Then (IsListFault list) (IsFormsFault list n)
+
+-- the faults of a forms package, then of its stores, then of its questions
+abbrev pub IsFormSetFault : List ℕ → Cause → ℕ → Type 0
+IsFormSetFault ifr = Then (IsPackageFault ifr) (Then (IsStoreFault (nodes_of ifr)) (IsQuestionFault (nodes_of ifr) (layout_in ifr)))
+
+-- The faults of a session's bytes: of the list, then of the forms package of the number, then of the image of its stores.
+abbrev pub IsOpenFault : List ℕ → ℕ → List ℕ → Cause → ℕ → Type 0
+IsOpenFault list n image =
+    Then (IsSourceFault list n) (Then (IsFormSetFault (forms_bytes list n)) (IsImageFault (layout_in (forms_bytes list n)) image))
+
+-- A package is accepted, and so are its stores and its questions.
+pub record IsBrowsable (ifr : List ℕ) : Type 0 where
+  pub accepted : IsAccepted ifr
+  pub stores : HasNone (IsStoreFault (nodes_of ifr))
+  pub questions : HasNone (IsQuestionFault (nodes_of ifr) (layout_in ifr))
+
+-- The list spells packages, among them a forms package of the number, which can be browsed; the image spells its stores,
+-- with which a session begins, at the first form.
+pub record Opens (list : List ℕ) (n : ℕ) (image : List ℕ) (start : State) : Type 0 where
+  pub source : Entry
+  pub found : HasSource list n source
+  pub bytes : start.ifr ≡ source.bytes
+  pub browsable : IsBrowsable start.ifr
+  pub stores : SpellsImage (layout_in start.ifr) image start.working
+  pub submitted : start.committed ≡ start.working
+  pub others : List ℕ
+  pub forms : places (filter is_form (nodes_of start.ifr)) ≡ start.form ∷ others

@@ -1,0 +1,34 @@
+-- What holds of a session at all times, and what a value that is to be set comes to.
+use Rattle.std.specs.Prelude.{◌≡◌, ℕ, ℤ, List, Some, Result, Ok, Err, length}
+use Rattle.ifr_opcodes.specs.Forest.{Placed}
+use Rattle.ifr_scopes.specs.Checked.{IsNodeOf}
+use Rattle.ifr_scopes.specs.Nodes.{nodes_of}
+use Rattle.hii_varstore.specs.Layout.{Shape, HasRange}
+use Rattle.hii_varstore.specs.Stores.{StoreMap, shape_of, with_bytes}
+use Rattle.hii_questions.specs.Fields as fields
+use Rattle.hii_questions.specs.Inputs.{whole}
+use Rattle.hii_questions.specs.Survey.{Survey}
+use Rattle.hii_questions.specs.declared.input.Field.{Field}
+use Rattle.guard_policy.specs.declared.denial.Denial.{Denial}
+use Rattle.browser_core.specs.State.{State}
+use Rattle.browser_core.specs.Opening.{IsBrowsable, layout_in}
+use Rattle.browser_core.specs.Texts.{ok_text}
+use Rattle.browser_core.specs.Step.{accepted, denied, set_question}
+
+-- The package can be browsed, the questions and the stores are its own, and the form is one of its nodes.
+pub record Stands (ifr : List ℕ) (questions : Survey) (committed working : StoreMap) (form : Placed) : Type 0 where
+  pub together : questions.ifr ≡ ifr
+  pub browsable : IsBrowsable ifr
+  pub submitted : shape_of committed ≡ layout_in ifr
+  pub laid : shape_of working ≡ layout_in ifr
+  pub node : IsNodeOf ifr form
+
+-- the field of a question lies in its store
+abbrev pub LiesIn : Shape → Placed → Type 0
+LiesIn shape n = (field : fields.Field) → fields.field_of n.op ≡ Some field → HasRange shape field.store field.offset field.width
+
+-- New bytes that lie in their store, and with which the question takes the value; or why it does not.
+abbrev pub Sets : State → ℕ → ℤ → Result Field Denial → Type 0
+Sets s id value (Ok new) = HasRange (shape_of s.working) new.store new.offset (length new.bytes)
+    × (set_question s (fields.question_with (nodes_of s.ifr) id) (whole value) ≡ accepted (record s { working = with_bytes s.working new.store new.offset new.bytes }) ok_text)
+Sets s id value (Err denial) = set_question s (fields.question_with (nodes_of s.ifr) id) (whole value) ≡ denied s denial

@@ -1,0 +1,117 @@
+-- What a command does: the state that it leaves, its text and whether it was carried out (own rule).
+use Rattle.std.specs.Prelude.{ℕ, ◌&&◌, Bool, not, nat_eq, true, Option, Some, None, Result, Ok, Err, List, [], ◌∷◌, ◌++◌, length, filter}
+use Rattle.std.specs.List.{flat_map}
+use Rattle.std.specs.Cmp.Lexicographic.{pointwise}
+use Rattle.hii_bytes.specs.declared.cause.Cause.{Cause}
+use Rattle.ifr_opcodes.specs.Forest.{Placed, node_at}
+use Rattle.ifr_opcodes.specs.Fields.{question_id}
+use Rattle.ifr_scopes.specs.Nodes.{nodes_of, is_question}
+use Rattle.hii_varstore.specs.Stores.{StoreMap, field_of as bytes_of_field, with_bytes}
+use Rattle.hii_questions.specs.Fields.{Field, field_of, question_with}
+use Rattle.hii_questions.specs.Answers.{answers}
+use Rattle.hii_questions.specs.Inputs.{Offer, whole, fits}
+use Rattle.hii_questions.specs.declared.denial.DenialKind.{DenialKind}
+use Rattle.hii_questions.specs.declared.denial.DenialKind.TheVariants.{NoQuestion}
+use Rattle.guard_policy.specs.Policy.{fixed}
+use Rattle.guard_policy.specs.declared.denial.Denial.{Denial}
+use Rattle.form_page.specs.Pages.{page_text}
+use Rattle.hii_commands.specs.Orders.{Order, ShowPage, SetValue, SubmitChanges, DiscardChanges}
+use Rattle.hii_commands.specs.Meaning.{cause_of}
+use Rattle.hii_commands.specs.Reading.{reading_of}
+use Rattle.hii_commands.specs.declared.command.BadLine.{BadLine}
+use Rattle.hii_commands.specs.Line.{without_return}
+use Rattle.browser_core.specs.State.{State}
+use Rattle.browser_core.specs.Texts.{ok_text, count_text, changed_text, denied_text, refused_text}
+use Rattle.browser_core.specs.declared.reply.Reply.{Reply}
+use Rattle.browser_core.specs.declared.reply.Reply.TheVariants.{Accepted, Denied, Refused}
+
+-- the state that a command leaves, its text, and how it was answered
+pub record Outcome : Type 0 where
+  pub state : State
+  pub text : List ℕ
+  pub reply : Reply
+
+abbrev pub accepted : State → List ℕ → Outcome
+accepted s text = record { state = s; text = text; reply = Accepted }
+
+-- A denied command and a refused line change nothing.
+abbrev pub denied : State → Denial → Outcome
+denied s denial = record { state = s; text = denied_text denial; reply = Denied denial }
+
+abbrev pub refused : State → Cause → Outcome
+refused s cause = record { state = s; text = refused_text cause; reply = Refused cause }
+
+-- ---- page
+
+abbrev pub page_at : State → Option Placed → List ℕ
+page_at s None = []
+page_at s (Some form) = page_text (nodes_of s.ifr) s.working form
+
+abbrev pub show_page : State → Outcome
+show_page s = accepted s (page_at s (node_at (nodes_of s.ifr) s.form))
+
+-- ---- set: the question is there, it is not fixed, and it takes the value
+
+-- the stores with new bytes in a field
+abbrev pub with_field : StoreMap → Option Field → List ℕ → StoreMap
+with_field stores None bytes = stores
+with_field stores (Some field) bytes = with_bytes stores field.store field.offset bytes
+
+abbrev pub set_fitting : State → Placed → Result (List ℕ) DenialKind → Outcome
+set_fitting s q (Err kind) = denied s record { kind = kind; place = q.place; message = 0 }
+set_fitting s q (Ok bytes) = accepted (record s { working = with_field s.working (field_of q.op) bytes }) ok_text
+
+abbrev pub set_unless : State → Placed → Offer → Option Denial → Outcome
+set_unless s q offer (Some denial) = denied s denial
+set_unless s q offer None = set_fitting s q (fits q.op offer)
+
+abbrev pub set_question : State → Option Placed → Offer → Outcome
+set_question s None offer = denied s record { kind = NoQuestion; place = 0; message = 0 }
+set_question s (Some q) offer = set_unless s q offer (fixed (answers (nodes_of s.ifr) s.working) q)
+
+-- ---- submit and discard
+
+-- the bytes of a question's field in the stores
+abbrev pub field_bytes : StoreMap → Option Field → Option (List ℕ)
+field_bytes stores None = None
+field_bytes stores (Some field) = bytes_of_field stores field.store field.offset field.width
+
+abbrev pub are_same : Option (List ℕ) → Option (List ℕ) → Bool
+are_same (Some xs) (Some ys) = pointwise nat_eq xs ys
+are_same _ _ = true
+
+-- the field of a question holds other bytes than when it was last submitted
+abbrev pub is_other : State → Placed → Bool
+is_other s n = not (are_same (field_bytes s.committed (field_of n.op)) (field_bytes s.working (field_of n.op)))
+
+-- the questions whose fields hold other bytes than when they were last submitted, by place
+abbrev pub is_changed : State → Placed → Bool
+is_changed s n = is_question n && is_other s n
+
+abbrev pub changed : State → List Placed
+changed s = filter (is_changed s) (nodes_of s.ifr)
+
+abbrev pub submitted : State → Outcome
+submitted s = accepted (record s { committed = s.working }) (count_text (length (changed s)) ++ flat_map (λ n. changed_text (question_id n.op)) (changed s))
+
+-- ---- a command
+
+abbrev pub step : State → Order → Outcome
+step s ShowPage = show_page s
+step s (SetValue id value) = set_question s (question_with (nodes_of s.ifr) id) (whole value)
+step s SubmitChanges = submitted s
+step s DiscardChanges = accepted (record s { working = s.committed }) ok_text
+
+-- ---- a line of a script
+
+abbrev pub step_reading : State → Result Order BadLine → Outcome
+step_reading s (Ok order) = step s order
+step_reading s (Err bad) = refused s (cause_of bad)
+
+-- An empty line, or a CR alone, does nothing.
+abbrev pub step_text : State → List ℕ → List ℕ → Outcome
+step_text s line [] = accepted s []
+step_text s line (b ∷ bytes) = step_reading s (reading_of line)
+
+abbrev pub step_line : State → List ℕ → Outcome
+step_line s line = step_text s line (without_return line)

@@ -1,0 +1,254 @@
+//! A form set that is browsed, and what commands do to it.
+
+ghost use Rattle.std.specs.Prelude.{◌≡◌, ◌≤◌, ◌+◌, ◌∷◌, not, List, filter, length, IfOk, IfErr, option_copied, slice_range};
+ghost use Rattle.hii_bytes.specs.Faults.{Refuses, IsLeast, out_of_memory};
+ghost use Rattle.hii_bytes.specs.Watching.{pen_of, Writes};
+ghost use Rattle.hii_packages.specs.Package.{entry_of};
+ghost use Rattle.ifr_opcodes.specs.Forest.{Placed};
+ghost use Rattle.ifr_scopes.specs.Checked.{IsNodeOf};
+ghost use Rattle.ifr_scopes.specs.Lists.{form_node};
+ghost use Rattle.ifr_scopes.specs.Nodes.{nodes_of, is_form};
+ghost use Rattle.hii_commands.specs.Meaning.{order_of};
+ghost use Rattle.hii_varstore.specs.Stores.{shape_of};
+ghost use Rattle.hii_questions.specs.Fields.{field_of};
+ghost use Rattle.hii_questions.specs.Views.{question_node};
+ghost use Rattle.browser_core.specs.State.{State};
+ghost use Rattle.browser_core.specs.Step.{step, show_page, changed, are_same, field_bytes, submitted};
+ghost use Rattle.browser_core.specs.Standing.{Sets, LiesIn};
+ghost use Rattle.browser_core.specs.Opening.{Opens, IsOpenFault, IsSourceFault, HasSource};
+
+use crate::reply::Reply;
+use crate::texts::{put_changed, put_count, put_denial};
+use form_page::Page;
+use guard_policy::{Denial, Policy};
+use hii_bytes::{Fault, Watched};
+use hii_commands::Command;
+use hii_packages::laws::spelled_bytes_have_no_fault;
+use hii_packages::{Package, PackageList};
+use hii_questions::{DenialKind, Field, Input, Question, Questions, check_value};
+use hii_varstore::{Layout, Stores};
+use ifr_scopes::laws::a_node_is_that_of_its_place;
+use ifr_scopes::{Form, Forms};
+use std::alloc::Global;
+use std::io::Write;
+use std::marker::Model;
+
+/// A form set, the stores as they were last submitted, the stores that commands read and change, and the current form.
+#[derive(Drop)]
+pub(crate) struct Core<'a> {
+    forms: Forms<'a>,
+    questions: Questions<'a>,
+    committed: Stores,
+    working: Stores,
+    form: Form<'a>,
+}
+
+impl<'a> Model for Core<'a> {
+    ghost use Rattle.ifr_scopes.specs.Lists.{form_node};
+    ghost use Rattle.browser_core.specs.State.{State};
+    ghost use Rattle.browser_core.specs.Standing.{Stands};
+
+    ghost Value = { State };
+
+    ghost view = { λ c. record { ifr = c.forms; committed = c.committed; working = c.working; form = (form_node c.form).place } };
+
+    ghost invariant = { λ c. Stands c.forms c.questions c.committed c.working (form_node c.form) };
+}
+
+impl<'a> Core<'a> {
+    /// The forms package of a number in a list, over the image of its stores, at its first form; or the least fault of
+    /// these bytes. The language is not looked at.
+    pub(crate) fn open(
+        alloc: Global,
+        list: &'a [u8],
+        forms: usize,
+        stores: &[u8],
+        _lang: &[u8],
+    ) -> Result<Core<'a>, Fault>
+        ensures opened { IfOk result (Opens list.entry.now forms stores.now) }
+        ensures refused { IfErr result (Refuses (IsOpenFault list.entry.now forms stores.now)) }
+        // Where the bytes open a session, nothing but want of memory refuses it.
+        ensures accepted { (start : State) → Opens list.entry.now forms stores.now start → IfErr result (λ fault. fault ≡ out_of_memory) }
+    {
+        let source = find_source(list, forms)?;
+        let forms = Forms::read(alloc, source)?;
+        let layout = Layout::read(alloc, &forms)?;
+        let questions = Questions::read(alloc, &forms, &layout)?;
+        let committed = Stores::read(alloc, &layout, stores)?;
+        let working = committed.copy(alloc)?;
+        let form = first_form(&forms);
+        Ok(Core {
+            forms,
+            questions,
+            committed,
+            working,
+            form,
+        })
+    }
+
+    pub(crate) fn committed(&self) -> &Stores
+        ensures { result.now ≡ self.now.committed }
+    {
+        &self.committed
+    }
+
+    pub(crate) fn working(&self) -> &Stores
+        ensures { result.now ≡ self.now.working }
+    {
+        &self.working
+    }
+
+    /// Carries the command out and writes its text as far as the writer takes it.
+    pub(crate) fn carry_out<W: Write>(&mut self, command: Command, out: &mut Watched<W>) -> Reply
+        ensures state { self.new ≡ (step self.old (order_of command)).state }
+        ensures text { Writes (pen_of W.contents out.old) (pen_of W.contents out.new) (step self.old (order_of command)).text }
+        ensures reply { result ≡ (step self.old (order_of command)).reply }
+    {
+        match command {
+            Command::Page => {
+                self.put_page(out);
+                Reply::Accepted
+            }
+            Command::Set { question, value } => self.set(question, value, out),
+            Command::Submit => {
+                self.put_submitted(out);
+                self.committed.copy_from(&self.working);
+                Reply::Accepted
+            }
+            Command::Discard => {
+                self.working.copy_from(&self.committed);
+                out.put(b"OK\n");
+                Reply::Accepted
+            }
+        }
+    }
+
+    // Writes the page of the current form.
+    fn put_page<W: Write>(&self, out: &mut Watched<W>)
+        ensures { Writes (pen_of W.contents out.old) (pen_of W.contents out.new) (show_page self.now).text }
+    {
+        let policy = Policy::new(&self.forms, &self.questions);
+        Page::new(self.form, policy, &self.working).put_page(out);
+    }
+
+    // Sets the question of an id to a value, or writes why it is denied.
+    fn set<W: Write>(&mut self, id: u16, value: i128, out: &mut Watched<W>) -> Reply
+        ensures state { self.new ≡ (step self.old (order_of (Command.Set id value))).state }
+        ensures text { Writes (pen_of W.contents out.old) (pen_of W.contents out.new) (step self.old (order_of (Command.Set id value))).text }
+        ensures reply { result ≡ (step self.old (order_of (Command.Set id value))).reply }
+    {
+        match self.new_field(id, value) {
+            Ok(field) => {
+                field.put(&mut self.working);
+                out.put(b"OK\n");
+                Reply::Accepted
+            }
+            Err(denial) => {
+                put_denial(denial, out);
+                Reply::Denied(denial)
+            }
+        }
+    }
+
+    // The new bytes with which the question of an id has a value, where it may be changed and takes it.
+    fn new_field(&self, id: u16, value: i128) -> Result<Field, Denial>
+        ensures { Sets self.now id value result }
+    {
+        let Some(question) = self.questions.find(id) else {
+            return Err(Denial {
+                kind: DenialKind::NoQuestion,
+                place: 0,
+                message: 0,
+            });
+        };
+        let policy = Policy::new(&self.forms, &self.questions);
+        policy.changeable(question.statement(), &self.working)?;
+        match check_value(question, Input::Number(value)) {
+            Ok(field) => Ok(field),
+            Err(denied) => Err(Denial {
+                kind: denied.kind,
+                place: denied.place,
+                message: 0,
+            }),
+        }
+    }
+
+    // Writes how many questions have other bytes than when they were last submitted, and each of them by place.
+    fn put_submitted<W: Write>(&self, out: &mut Watched<W>)
+        ensures { Writes (pen_of W.contents out.old) (pen_of W.contents out.new) (submitted self.now).text }
+    {
+        put_count(self.count_changed(), out);
+        for question in self.questions.all() {
+            if differs(question, &self.committed, &self.working) {
+                put_changed(question.id(), out);
+            }
+        }
+    }
+
+    // How many questions have other bytes than when they were last submitted.
+    fn count_changed(&self) -> u64
+        ensures { result ≡ length (changed self.now) }
+    {
+        let mut count = 0;
+        for question in self.questions.all() {
+            if differs(question, &self.committed, &self.working) {
+                count += 1;
+            }
+        }
+        count
+    }
+}
+
+// The forms package of a number of the packages that a list spells.
+fn find_source(list: &[u8], number: usize) -> Result<Package<'_>, Fault>
+    ensures found { IfOk result (λ source. HasSource list.now number (entry_of source)) }
+    ensures refused { IfErr result (IsLeast (IsSourceFault list.now number)) }
+{
+    let packages = PackageList::read(list)?;
+    spelled_bytes_have_no_fault();
+    packages.forms(number)
+}
+
+// The first form, by place.
+fn first_form<'a>(forms: &Forms<'a>) -> Form<'a>
+    ensures first { (others : List Placed) × (filter is_form (nodes_of forms.now) ≡ form_node result ∷ others) }
+    ensures node { IsNodeOf forms.now (form_node result) }
+{
+    // The package is accepted: it has a form.
+    forms.bytes();
+    a_node_is_that_of_its_place();
+    forms.forms().next().unwrap()
+}
+
+// The bytes of the field of a question, if it has one.
+fn bytes_in<'s>(stores: &'s Stores, question: Question<'_>) -> Option<&'s [u8]>
+    requires { LiesIn (shape_of stores.now) (question_node question) }
+    ensures { option_copied result ≡ field_bytes stores.now (field_of (question_node question.entry).op) }
+{
+    let op = question.op();
+    if op.store() == 0 {
+        return None;
+    }
+    let bytes = stores.bytes(op.store())?;
+    Some(part(bytes, usize::from(op.offset()), 1))
+}
+
+// The bytes from an offset on, of a width.
+fn part(bytes: &[u8], offset: usize, width: usize) -> &[u8]
+    requires { offset + width ≤ length bytes.now }
+    ensures { result.now ≡ slice_range bytes.now offset (offset + width) }
+{
+    &bytes[offset..offset + width]
+}
+
+// Whether the field of a question has other bytes in these stores.
+fn differs(question: Question<'_>, committed: &Stores, working: &Stores) -> bool
+    requires committed { LiesIn (shape_of committed.now) (question_node question) }
+    requires working { LiesIn (shape_of working.now) (question_node question) }
+    ensures { result ≡ not (are_same (field_bytes committed.now (field_of (question_node question.entry).op)) (field_bytes working.now (field_of (question_node question.entry).op))) }
+{
+    match (bytes_in(committed, question), bytes_in(working, question)) {
+        (Some(old), Some(new)) => old != new,
+        _ => false,
+    }
+}

@@ -1,0 +1,16 @@
+//! A session of the setup browser: a package list and the stores of its form set, which the commands of a script show
+//! and change.
+#![tactic(auto)]
+
+mod browser;
+pub mod laws;
+mod reply;
+mod script;
+mod session;
+#[cfg(test)]
+mod tests;
+mod texts;
+
+pub use reply::{End, Reply, RunFault};
+pub use session::Session;
+pub use texts::{put_refusal, put_refusal_at};

@@ -1,0 +1,131 @@
+//! The lines of a script, one after the other.
+
+ghost use Rattle.std.specs.Prelude.{◌≡◌, ◌↔◌, ◌++◌, ℕ, List, [], IsTrue, true, false, Err};
+ghost use Rattle.hii_bytes.specs.Watching.{Pen, pen_of, inner_of, has_failed, Writes};
+ghost use Rattle.hii_commands.specs.Line.{held_of, without_return};
+ghost use Rattle.hii_commands.specs.Script.{whole_lines};
+ghost use Rattle.browser_core.specs.State.{State};
+ghost use Rattle.browser_core.specs.Step.{step_line};
+ghost use Rattle.browser_core.specs.Run.{Runs, Stands, Stops};
+
+use crate::browser::Core;
+use crate::reply::{End, RunFault};
+use crate::texts::put_refusal;
+use hii_bytes::{Cause, Watched};
+use hii_commands::{LineBuffer, SCRIPT_LIMIT, read_line};
+use std::io::{Read, Write};
+
+// The most bytes that a script may have.
+const LIMIT: usize = SCRIPT_LIMIT as usize;
+
+// The most bytes of one read.
+const PIECE: usize = 512;
+
+/// Runs the lines of a script. A line that is not empty at the script's end needs no LF.
+pub(crate) fn run_all<R: Read, W: Write>(
+    core: &mut Core<'_>,
+    line: &mut LineBuffer,
+    script: &mut Watched<R>,
+    out: &mut Watched<W>,
+) -> Result<End, RunFault>
+    ensures run { Runs core.old (pen_of W.contents out.old) (R.remaining (inner_of script.old)) result
+        core.new (pen_of W.contents out.new) (R.remaining (inner_of script.new)) }
+    ensures reads { result ≡ Err RunFault.Read → has_failed script.new ≡ true }
+    ensures writes { result ≡ Err RunFault.Write → has_failed out.new ≡ true }
+{
+    if out.failed() {
+        return Err(RunFault::Write);
+    }
+    line.clear();
+    let mut piece = [0u8; PIECE];
+    let mut count = 0usize;
+    while count <= LIMIT {
+        let room = (LIMIT + 1 - count).min(PIECE);
+        let buf = &mut piece[..room];
+        let n = match script.read(buf) {
+            Ok(n) => n,
+            Err(_) => return Err(RunFault::Read),
+        };
+        if n == 0 {
+            run_line(core, line, out);
+            return if out.failed() {
+                Err(RunFault::Write)
+            } else {
+                Ok(End::Done)
+            };
+        }
+        let within = n.min(LIMIT - count);
+        run_piece(core, line, &buf[..within], out);
+        if out.failed() {
+            return Err(RunFault::Write);
+        }
+        count += n;
+    }
+    put_refusal(Cause::ScriptTooLong, out);
+    if out.failed() {
+        Err(RunFault::Write)
+    } else {
+        Ok(End::TooLong)
+    }
+}
+
+// Feeds the piece, and runs each line that it ends, unless the writer fails.
+fn run_piece<W: Write>(
+    core: &mut Core<'_>,
+    line: &mut LineBuffer,
+    piece: &[u8],
+    out: &mut Watched<W>,
+)
+    ensures stands { (start : State) (pen : Pen) (bytes : List ℕ) → Stands start pen bytes core.old line.old (pen_of W.contents out.old)
+        → has_failed out.new ≡ false → Stands start pen (bytes ++ piece.now) core.new line.new (pen_of W.contents out.new) }
+    ensures stops { (start : State) (pen : Pen) (bytes : List ℕ) → Stands start pen bytes core.old line.old (pen_of W.contents out.old)
+        → has_failed out.new ≡ true → Stops start pen (whole_lines (bytes ++ piece.now)) core.new (pen_of W.contents out.new) }
+{
+    let mut rest = piece;
+    while !rest.is_empty() {
+        let fed = line.feed(rest);
+        rest = &rest[fed.taken..];
+        if fed.complete {
+            run_line(core, line, out);
+            line.clear();
+            if out.failed() {
+                return;
+            }
+        }
+    }
+}
+
+// Runs the line that is held.
+fn run_line<W: Write>(core: &mut Core<'_>, line: &LineBuffer, out: &mut Watched<W>)
+    ensures state { (bytes : List ℕ) → line.now ≡ held_of bytes → core.new ≡ (step_line core.old bytes).state }
+    ensures text { (bytes : List ℕ) → line.now ≡ held_of bytes
+        → Writes (pen_of W.contents out.old) (pen_of W.contents out.new) (step_line core.old bytes).text }
+{
+    match line.line() {
+        Ok(bytes) => run_bytes(core, bytes, out),
+        Err(bad) => put_refusal(bad.cause(), out),
+    }
+}
+
+// Runs a line, of which nothing is done where it is empty or a CR alone.
+fn run_bytes<W: Write>(core: &mut Core<'_>, line: &[u8], out: &mut Watched<W>)
+    ensures state { core.new ≡ (step_line core.old line.now).state }
+    ensures text { Writes (pen_of W.contents out.old) (pen_of W.contents out.new) (step_line core.old line.now).text }
+{
+    if is_blank(line) {
+        return;
+    }
+    match read_line(line) {
+        Ok(command) => {
+            core.carry_out(command, out);
+        }
+        Err(bad) => put_refusal(bad.cause(), out),
+    }
+}
+
+// Whether the line is empty, or a CR alone.
+fn is_blank(line: &[u8]) -> bool
+    ensures { IsTrue result ↔ (without_return line.now ≡ []) }
+{
+    matches!(line, [] | [b'\r'])
+}

@@ -1,0 +1,11 @@
+use Rattle.std.proofs.Common.{◌≡◌, length}
+use Rattle.ifr_scopes.specs.Lists.{statements_left}
+use Rattle.form_page.specs.Views.{rows_left}
+use Rattle.form_page.proofs.page.RowsIterator.next.Given as goal
+
+-- the statements that were passed are hidden
+abbrev pub invariant-loop-statement : goal.invariant-loop-statement
+invariant-loop-statement l = rows_left l.self ≡ rows_left l.fn.self
+
+abbrev pub decreases-loop-statement : goal.decreases-loop-statement
+decreases-loop-statement l = length (statements_left l.self.statements)

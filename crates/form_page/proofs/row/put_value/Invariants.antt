@@ -1,0 +1,12 @@
+use Rattle.std.proofs.Common.{length}
+use Rattle.hii_bytes.specs.Watching.{pen_of, Stands}
+use Rattle.form_page.specs.Texts.{utf8}
+use Rattle.form_page.specs.Views.{value_text, value_chars_left}
+use Rattle.form_page.proofs.row.put_value.Given as goal
+
+-- the characters before those that are left were written
+abbrev pub invariant-loop-c : goal.invariant-loop-c
+invariant-loop-c g l = Stands (pen_of g.W.Write.contents l.fn.out) (pen_of g.W.Write.contents l.out) (utf8 (value_text l.fn.value)) (utf8 (value_chars_left l.text))
+
+abbrev pub decreases-loop-c : goal.decreases-loop-c
+decreases-loop-c g l = length (value_chars_left l.text)

@@ -1,0 +1,12 @@
+use Rattle.std.proofs.Common.{length}
+use Rattle.hii_bytes.specs.Watching.{pen_of, Stands}
+use Rattle.form_page.specs.Texts.{utf8}
+use Rattle.form_page.specs.Views.{chars_left}
+use Rattle.form_page.proofs.shown.put_shown.Given as goal
+
+-- the characters before those that are left were written
+abbrev pub invariant-loop-c : goal.invariant-loop-c
+invariant-loop-c g l = Stands (pen_of g.W.Write.contents l.fn.out) (pen_of g.W.Write.contents l.out) (utf8 (chars_left l.fn.text)) (utf8 (chars_left l.text))
+
+abbrev pub decreases-loop-c : goal.decreases-loop-c
+decreases-loop-c g l = length (chars_left l.text)

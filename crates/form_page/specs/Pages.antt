@@ -1,0 +1,72 @@
+-- The page of a form: its title and a row for each of its statements that is not hidden (UEFI 2.8, 33.2.5.2 Forms; how a row
+-- looks is an own rule).
+use Rattle.std.specs.Prelude.{ℕ, ◌+◌, Bool, if◌then◌else◌, Option, Some, None, is_some, is_none, List, [], ◌∷◌, ◌++◌, filter, codes, decimal}
+use Rattle.std.specs.List.{flat_map}
+use Rattle.hii_bytes.specs.Texts.{right_aligned}
+use Rattle.ifr_opcodes.specs.Forest.{Placed}
+use Rattle.ifr_opcodes.specs.Fields.{form_id, form_title, statement_prompt, question_id}
+use Rattle.ifr_expr.specs.Values.{Value, boolean}
+use Rattle.ifr_scopes.specs.Nodes.{statements, is_question}
+use Rattle.hii_varstore.specs.Stores.{StoreMap}
+use Rattle.hii_questions.specs.Answers.{answers, value_of_field}
+use Rattle.hii_questions.specs.Fields.{field_of}
+use Rattle.guard_policy.specs.Policy.{hidden, fixed}
+use Rattle.form_page.specs.Texts.{shown, utf8, in_columns}
+
+-- a row: its number, its mark, the id of its question, its prompt and its value
+pub record Row : Type 0 where
+  pub number : ℕ
+  pub mark : ℕ
+  pub question : Option ℕ
+  pub prompt : List ℕ
+  pub value : List ℕ
+
+-- what may be changed is marked by a star, what is fixed by an exclamation mark
+abbrev pub mark_of : Bool → ℕ
+mark_of is_fixed = if is_fixed then 33 else 42
+
+-- a checkbox shows an x where it is true and a space where it is false, and nothing where it has no field
+abbrev pub shown_value : Value → List ℕ
+shown_value (boolean b) = (if b then 120 else 32) ∷ []
+shown_value _ = []
+
+-- the id and the value of a statement that is a question
+abbrev pub id_of : Placed → Option ℕ
+id_of n = if is_question n then Some (question_id n.op) else None
+
+abbrev pub value_of : StoreMap → Placed → List ℕ
+value_of stores n = if is_question n then shown_value (value_of_field stores (field_of n.op)) else []
+
+abbrev pub row_of : List Placed → StoreMap → ℕ → Placed → Row
+row_of ns stores number n = record {
+  number = number;
+  mark = mark_of (is_some (fixed (answers ns stores) n));
+  question = id_of n;
+  prompt = shown (statement_prompt n.op);
+  value = value_of stores n;
+}
+
+abbrev pub rows_from : List Placed → StoreMap → ℕ → List Placed → List Row
+rows_from ns stores number [] = []
+rows_from ns stores number (n ∷ rest) = row_of ns stores number n ∷ rows_from ns stores (number + 1) rest
+
+-- the rows of a form, numbered from 1
+abbrev pub rows : List Placed → StoreMap → Placed → List Row
+rows ns stores form = rows_from ns stores 1 (filter (λ n. is_none (hidden (answers ns stores) n)) (statements form))
+
+-- a question's id in five columns, or that there is none
+abbrev pub id_text : Option ℕ → List ℕ
+id_text None = codes "    -"
+id_text (Some id) = right_aligned 5 (decimal id)
+
+abbrev pub row_text : Row → List ℕ
+row_text row =
+    right_aligned 3 (decimal row.number) ++ codes " " ++ (row.mark ∷ []) ++ codes " " ++ id_text row.question ++ codes " "
+    ++ in_columns 24 row.prompt ++ codes " [" ++ utf8 row.value ++ codes "]\n"
+
+abbrev pub title_text : Placed → List ℕ
+title_text form = codes "FORM " ++ decimal (form_id form.op) ++ codes " " ++ utf8 (shown (form_title form.op)) ++ codes "\n"
+
+-- the bytes of a page
+abbrev pub page_text : List Placed → StoreMap → Placed → List ℕ
+page_text ns stores form = title_text form ++ flat_map row_text (rows ns stores form)

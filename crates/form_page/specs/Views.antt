@@ -1,0 +1,45 @@
+-- What the values of a page stand for.
+use Rattle.std.specs.Prelude.{ℕ, if◌then◌else◌, Option, Some, None, is_none, List, [], ◌∷◌, filter, drop, decimal}
+use Rattle.ifr_scopes.specs.Lists.{statements_left}
+use Rattle.ifr_scopes.specs.Nodes.{nodes_of}
+use Rattle.hii_questions.specs.Answers.{answers}
+use Rattle.guard_policy.specs.Policy.{hidden}
+use Rattle.guard_policy.specs.Views.{bytes_of}
+use Rattle.form_page.specs.Pages.{rows_from}
+use Rattle.form_page.specs.Pages as pages
+use Rattle.form_page.specs.declared.shown.Shown.{Shown}
+use Rattle.form_page.specs.declared.shown.Shown.TheVariants.{Nothing, Missing}
+use Rattle.form_page.specs.declared.shown.ShownChars.{ShownChars}
+use Rattle.form_page.specs.declared.row.RowValue.{RowValue}
+use Rattle.form_page.specs.declared.row.RowValue.TheVariants.{Empty, Checkbox}
+use Rattle.form_page.specs.declared.row.RowValueChars.{RowValueChars}
+use Rattle.form_page.specs.declared.row.Row.{Row}
+use Rattle.form_page.specs.declared.page.Rows.{Rows}
+
+-- the characters of a shown text
+abbrev pub text_of : Shown → List ℕ
+text_of Nothing = []
+text_of (Missing id) = 35 ∷ decimal id
+
+abbrev pub chars_left : ShownChars → List ℕ
+chars_left it = drop it.next it.text.items
+
+-- the characters of a value
+abbrev pub value_text : RowValue → List ℕ
+value_text Empty = []
+value_text (Checkbox b) = (if b then 120 else 32) ∷ []
+
+abbrev pub option_list : Option ℕ → List ℕ
+option_list None = []
+option_list (Some c) = c ∷ []
+
+abbrev pub value_chars_left : RowValueChars → List ℕ
+value_chars_left it = option_list it.left
+
+abbrev pub row_seen : Row → pages.Row
+row_seen row = record { number = row.number; mark = row.mark; question = row.question; prompt = text_of row.prompt; value = value_text row.value }
+
+abbrev pub rows_left : Rows → List pages.Row
+rows_left it =
+    let ns = nodes_of (bytes_of it.policy) in
+    rows_from ns it.stores.now it.number (filter (λ n. is_none (hidden (answers ns it.stores.now) n)) (statements_left it.statements))

@@ -1,0 +1,54 @@
+//! Pages as bytes.
+
+ghost use Rattle.std.specs.Prelude.{◌≡◌};
+ghost use Rattle.std.specs.List.{flat_map};
+ghost use Rattle.hii_bytes.specs.Watching.{pen_of, Writes, Tells};
+ghost use Rattle.ifr_scopes.specs.Lists.{form_node};
+ghost use Rattle.ifr_scopes.specs.Nodes.{nodes_of};
+ghost use Rattle.guard_policy.specs.Views.{bytes_of};
+ghost use Rattle.form_page.specs.Pages as pages;
+ghost use Rattle.form_page.specs.Views.{rows_left};
+
+use crate::page::{Page, Rows};
+use crate::row::put_row;
+use crate::shown::put_shown;
+use hii_bytes::{Watched, WriteFault};
+use std::io::Write;
+
+fn put_rows<W: Write>(rows: Rows<'_, '_>, out: &mut Watched<W>)
+    ensures { Writes (pen_of W.contents out.old) (pen_of W.contents out.new) (flat_map pages.row_text (rows_left rows.entry)) }
+{
+    let mut rows = rows;
+    while let Some(row) = rows.next() {
+        put_row(row, out);
+    }
+}
+
+impl<'a, 's> Page<'a, 's> {
+    /// Writes the page: a line with the form's id and title, and a line for each row. A writer's fault is answered with the
+    /// bytes that were written before it.
+    pub fn write_page<W: Write>(&self, out: &mut Watched<W>) -> Result<(), WriteFault>
+        ensures { Tells (pen_of W.contents out.old) (pen_of W.contents out.new) result (pages.page_text (nodes_of (bytes_of self.now.policy)) self.now.stores.now (form_node self.now.form)) }
+    {
+        out.restart();
+        self.put_page(out);
+        if out.failed() {
+            return Err(WriteFault {
+                written: out.taken(),
+            });
+        }
+        Ok(())
+    }
+
+    /// Writes the page as one of several texts: a fault of the writer is asked of the writer.
+    pub fn put_page<W: Write>(&self, out: &mut Watched<W>)
+        ensures { Writes (pen_of W.contents out.old) (pen_of W.contents out.new) (pages.page_text (nodes_of (bytes_of self.now.policy)) self.now.stores.now (form_node self.now.form)) }
+    {
+        out.put(b"FORM ");
+        out.put_decimal(u64::from(self.form.op().id()));
+        out.put(b" ");
+        put_shown(self.title().chars(), out);
+        out.put(b"\n");
+        put_rows(self.rows(), out);
+    }
+}

@@ -1,0 +1,4 @@
+pub mod NumberLemmas
+pub mod FaultLemmas
+pub mod WritingLemmas
+pub mod FirstFaultLemmas

@@ -1,0 +1,116 @@
+//! Readers and writers that remember whether they failed.
+ghost use Rattle.std.specs.Prelude.{◌≡◌, ◌≤◌, ◌<◌, ℕ, IsErr, OnErr, IfOk, OnOk, true, false, length, is_err};
+ghost use Rattle.std.specs.Io.{ReadsAtMost, WritesAtMost};
+ghost use Rattle.std.specs.Io.KnownBytes.{ReadConsumes, WriteAppends, Keeps};
+ghost use Rattle.hii_bytes.specs.Watching.{inner_of, has_failed, taken_of, saturating_sum};
+
+use std::io::{Error, ErrorKind, Read, Result, Write};
+
+/// A reader or writer that remembers whether a read or a write was a fault: an error of any kind, or a write of some
+/// bytes that took none. From then on each read and write is a fault.
+#[derive(Drop)]
+pub struct Watched<T> {
+    inner: T,
+    is_failed: bool,
+    taken: u64,
+}
+
+impl<T> Watched<T> {
+    pub fn new(inner: T) -> Watched<T>
+        ensures inner { inner_of result ≡ inner }
+        ensures sound { has_failed result ≡ false }
+        ensures none_taken { taken_of result ≡ 0 }
+    {
+        Watched {
+            inner,
+            is_failed: false,
+            taken: 0,
+        }
+    }
+
+    /// Whether a read or a write erred, or a write of some bytes took none.
+    pub fn failed(&self) -> bool
+        ensures { result ≡ has_failed self.now }
+    {
+        self.is_failed
+    }
+
+    /// The reader or writer that is watched.
+    pub fn into_inner(self) -> T
+        ensures { result ≡ inner_of self }
+    {
+        self.inner
+    }
+
+    /// How many bytes the writes since the last `restart` took.
+    pub fn taken(&self) -> u64
+        ensures { result ≡ taken_of self.now }
+    {
+        self.taken
+    }
+
+    /// Counts from 0 again.
+    pub fn restart(&mut self)
+        ensures inner { inner_of self.new ≡ inner_of self.old }
+        ensures failed { has_failed self.new ≡ has_failed self.old }
+        ensures none_taken { taken_of self.new ≡ 0 }
+    {
+        self.taken = 0;
+    }
+}
+
+impl<R: Read> Read for Watched<R> {
+    ghost remaining = { λ w. R.remaining (inner_of w) };
+
+    fn read(&mut self, buf: &mut [u8]) -> Result<usize>
+        ensures bound { ReadsAtMost result buf.new }
+        ensures bytes { ReadConsumes (R.remaining (inner_of self.old)) (R.remaining (inner_of self.new)) result buf.new }
+        ensures fault { has_failed self.new ≡ is_err result }
+        ensures stays { has_failed self.old ≡ true → IsErr result }
+    {
+        if self.is_failed {
+            return Err(Error::from(ErrorKind::Other));
+        }
+        let result = self.inner.read(buf);
+        self.is_failed = result.is_err();
+        result
+    }
+}
+
+impl<W: Write> Write for Watched<W> {
+    ghost contents = { λ w. W.contents (inner_of w) };
+
+    fn write(&mut self, buf: &[u8]) -> Result<usize>
+        ensures bound { WritesAtMost result buf.now }
+        ensures bytes { WriteAppends (W.contents (inner_of self.old)) (W.contents (inner_of self.new)) result buf.now }
+        ensures counted { IfOk result (λ n. taken_of self.new ≡ saturating_sum (taken_of self.old) n) }
+        ensures not_counted { OnErr result (taken_of self.new ≡ taken_of self.old) }
+        ensures err { OnErr result (has_failed self.new ≡ true) }
+        ensures none { IfOk result (λ n. n ≡ 0 → 0 < length buf.now → has_failed self.new ≡ true) }
+        ensures some { IfOk result (λ n. 0 < n → has_failed self.new ≡ false) }
+        ensures empty { length buf.now ≡ 0 → OnOk result (has_failed self.new ≡ false) }
+        ensures stays { has_failed self.old ≡ true → IsErr result }
+    {
+        if self.is_failed {
+            return Err(Error::from(ErrorKind::Other));
+        }
+        let result = self.inner.write(buf);
+        match &result {
+            Ok(n) => {
+                self.is_failed = *n == 0 && !buf.is_empty();
+                self.taken = self.taken.saturating_add(*n as u64);
+            }
+            Err(_) => self.is_failed = true,
+        }
+        result
+    }
+
+    fn flush(&mut self) -> Result<()>
+        ensures bytes { Keeps (W.contents (inner_of self.old)) (W.contents (inner_of self.new)) }
+        ensures failed { has_failed self.new ≡ has_failed self.old }
+        ensures counted { taken_of self.new ≡ taken_of self.old }
+    {
+        self.inner.flush()
+    }
+}
+

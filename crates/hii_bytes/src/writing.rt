@@ -1,0 +1,92 @@
+//! Texts on a watched writer.
+
+ghost use Rattle.std.specs.Prelude.{◌≡◌, ◌≤◌, ◌<◌, ℕ, false, length, decimal, replicate, encode_utf8};
+ghost use Rattle.std.specs.Fmt.{digit_glyph};
+ghost use Rattle.hii_bytes.specs.Watching.{pen_of, Writes};
+ghost use Rattle.hii_bytes.specs.Texts.{right_aligned, hex_of};
+
+use crate::watched::Watched;
+use itoa::Buffer;
+use std::io::Write;
+use thiserror::Error;
+
+/// A writer's fault, after this many bytes of a text.
+#[derive(Clone, Copy, Debug, PartialEq, Eq, Error)]
+#[error("the writer failed after {written} bytes")]
+pub struct WriteFault {
+    pub written: u64,
+}
+
+impl<W: Write> Watched<W> {
+    /// Writes all of the bytes, unless the writer fails. At a writer that failed before nothing is written.
+    pub fn put(&mut self, bytes: &[u8])
+        ensures { Writes (pen_of W.contents self.old) (pen_of W.contents self.new) bytes.now }
+    {
+        let mut rest = bytes;
+        while !rest.is_empty() {
+            match self.write(rest) {
+                Ok(0) => return,
+                Ok(n) => rest = &rest[n..],
+                Err(_) => return,
+            }
+        }
+    }
+}
+
+const SPACES: [u8; 24] = [b' '; 24];
+
+impl<W: Write> Watched<W> {
+    /// Writes the number in decimal digits.
+    pub fn put_decimal(&mut self, n: u64)
+        ensures { Writes (pen_of W.contents self.old) (pen_of W.contents self.new) (decimal n) }
+    {
+        let mut buffer = Buffer::new();
+        self.put(buffer.format(n).as_bytes());
+    }
+
+    /// Writes the number in decimal digits, after as many spaces as make it this wide.
+    pub fn put_decimal_right(&mut self, width: usize, n: u64)
+        requires { width ≤ 24 }
+        ensures { Writes (pen_of W.contents self.old) (pen_of W.contents self.new) (right_aligned width (decimal n)) }
+    {
+        let mut buffer = Buffer::new();
+        let digits = buffer.format(n).as_bytes();
+        self.put_spaces(width.saturating_sub(digits.len()));
+        self.put(digits);
+    }
+
+    /// Writes that many spaces.
+    pub fn put_spaces(&mut self, count: usize)
+        requires { count ≤ 24 }
+        ensures { Writes (pen_of W.contents self.old) (pen_of W.contents self.new) (replicate count 32) }
+    {
+        self.put(&SPACES[..count]);
+    }
+
+    /// Writes the byte in two lower-case hex digits.
+    pub fn put_hex(&mut self, byte: u8)
+        ensures { Writes (pen_of W.contents self.old) (pen_of W.contents self.new) (hex_of byte) }
+    {
+        self.put(&[hex_digit(byte / 16), hex_digit(byte % 16)]);
+    }
+
+    /// Writes the character in UTF-8.
+    pub fn put_char(&mut self, c: char)
+        ensures { Writes (pen_of W.contents self.old) (pen_of W.contents self.new) (encode_utf8 c) }
+    {
+        let mut bytes = [0u8; 4];
+        self.put(c.encode_utf8(&mut bytes).as_bytes());
+    }
+
+}
+
+fn hex_digit(digit: u8) -> u8
+    requires { digit < 16 }
+    ensures { result ≡ digit_glyph false digit }
+{
+    if digit < 10 {
+        b'0' + digit
+    } else {
+        b'a' + (digit - 10)
+    }
+}

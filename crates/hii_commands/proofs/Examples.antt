@@ -1,0 +1,54 @@
+-- Worked values of the definitions.
+use Rattle.std.proofs.Common.{◌≡◌, pos, negsuc, [], ◌∷◌, Some, None, Ok, Err, codes, refl}
+use Rattle.hii_commands.specs.declared.command.BadLine.TheVariants.{BadCommand}
+use Rattle.hii_commands.specs.Orders.{ShowPage, SetValue}
+use Rattle.hii_commands.specs.Reading.{order_in, reading_of}
+use Rattle.hii_commands.specs.Script.{lines_of, whole_lines}
+
+leading_zeros : order_in (codes "set 00001 -0") ≡ Some (SetValue 1 (pos 0))
+leading_zeros = refl
+
+least_value : order_in (codes "set 65535 -18446744073709551615") ≡ Some (SetValue 65535 (negsuc 18446744073709551614))
+least_value = refl
+
+hex_of_either_case : order_in (codes "set 7 0xfFFF") ≡ Some (SetValue 7 (pos 65535))
+hex_of_either_case = refl
+
+too_large_question : order_in (codes "set 65536 1") ≡ None
+too_large_question = refl
+
+six_digits : order_in (codes "set 000001 1") ≡ None
+six_digits = refl
+
+too_large_value : order_in (codes "set 1 18446744073709551616") ≡ None
+too_large_value = refl
+
+no_plus : order_in (codes "set 1 +1") ≡ None
+no_plus = refl
+
+negative_hex : order_in (codes "set 1 -0x1") ≡ None
+negative_hex = refl
+
+two_spaces : order_in (codes "set  1 1") ≡ None
+two_spaces = refl
+
+space_behind : order_in (codes "page ") ≡ None
+space_behind = refl
+
+one_return : reading_of (codes "page\r") ≡ Ok ShowPage
+one_return = refl
+
+two_returns : reading_of (codes "page\r\r") ≡ Err BadCommand
+two_returns = refl
+
+empty_line : reading_of [] ≡ Err BadCommand
+empty_line = refl
+
+last_without_lf : lines_of (codes "page\n\nsubmit") ≡ codes "page" ∷ [] ∷ codes "submit" ∷ []
+last_without_lf = refl
+
+last_with_lf : lines_of (codes "page\n") ≡ codes "page" ∷ []
+last_with_lf = refl
+
+open_line : whole_lines (codes "page\nsub") ≡ codes "page" ∷ []
+open_line = refl

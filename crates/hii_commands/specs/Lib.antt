@@ -1,0 +1,5 @@
+pub mod Line
+pub mod Script
+pub mod Orders
+pub mod Meaning
+pub mod Reading

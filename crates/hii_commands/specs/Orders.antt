@@ -1,0 +1,37 @@
+-- The forms of a script's commands (own rule).
+use Rattle.std.specs.Prelude.{◌≡◌, ◌⊎◌, ℕ, ℤ, pos, neg_ℤ, ◌^◌, ◌<◌, ◌≤◌, List, ◌++◌, length, codes}
+use Rattle.std.specs.Str.Parse.{IsNumeral, digits_value}
+
+-- what a command asks for, without where its bytes lie
+pub data Order : Type 0 where
+  ShowPage : Order
+  SetValue : ℕ → ℤ → Order
+  SubmitChanges : Order
+  DiscardChanges : Order
+
+-- One digit or more of a radix, `most` at most, that write this number, which is below a limit. A letter counts in
+-- either case.
+pub record IsNumber (radix most limit : ℕ) (text : List ℕ) (n : ℕ) : Type 0 where
+  pub digits : IsNumeral radix text
+  pub few : length text ≤ most
+  pub value : digits_value radix text ≡ n
+  pub small : n < limit
+
+-- a question's id: 1 to 5 decimal digits, at most 65535
+abbrev pub IsQuestion : List ℕ → ℕ → Type 0
+IsQuestion text q = IsNumber 10 5 65536 text q
+
+-- a value: 1 to 20 decimal digits, or a minus and as many, or `0x` and 1 to 16 hex digits; the magnitude is below 2^64
+abbrev pub IsValue : List ℕ → ℤ → Type 0
+IsValue text z = (digits : List ℕ) × (n : ℕ) ×
+    (((text ≡ digits) × IsNumber 10 20 (2 ^ 64) digits n × (z ≡ pos n))
+    ⊎ ((text ≡ codes "-" ++ digits) × IsNumber 10 20 (2 ^ 64) digits n × (z ≡ neg_ℤ (pos n)))
+    ⊎ ((text ≡ codes "0x" ++ digits) × IsNumber 16 16 (2 ^ 64) digits n × (z ≡ pos n)))
+
+-- The text has the form of the command that asks for this: its words, with one space between them.
+abbrev pub Asks : List ℕ → Order → Type 0
+Asks text ShowPage = text ≡ codes "page"
+Asks text (SetValue q z) =
+    (question value : List ℕ) × (text ≡ codes "set " ++ (question ++ (codes " " ++ value))) × IsQuestion question q × IsValue value z
+Asks text SubmitChanges = text ≡ codes "submit"
+Asks text DiscardChanges = text ≡ codes "discard"

@@ -1,0 +1,66 @@
+-- What a line means, as a function of the line (own rule). Laws say that it is the relation.
+use Rattle.std.specs.Prelude.{ℕ, ℤ, pos, neg_ℤ, ◌^◌, ◌==◌, ◌&&◌, nat_lt, nat_le, if◌then◌else◌, Bool, List, [], ◌∷◌, length, take, drop, codes, Option, Some, None, Result, Err, option_map}
+use Rattle.std.specs.Char.{is_digit}
+use Rattle.std.specs.List.{list_all}
+use Rattle.std.specs.Option.{ok_or}
+use Rattle.std.specs.Str.{bytes_eq}
+use Rattle.std.specs.Str.Parse.{digits_value}
+use Rattle.hii_commands.specs.declared.limits.TheConstants.{LINE_LIMIT}
+use Rattle.hii_commands.specs.declared.command.BadLine.{BadLine}
+use Rattle.hii_commands.specs.declared.command.BadLine.TheVariants.{BadCommand, LineTooLong}
+use Rattle.hii_commands.specs.Line.{without_return}
+use Rattle.hii_commands.specs.Orders.{Order, ShowPage, SetValue, SubmitChanges, DiscardChanges}
+
+-- the number of the text as in `IsNumber`, where it is one
+abbrev pub number_below : ℕ → ℕ → ℕ → List ℕ → Option ℕ
+number_below limit radix most text =
+    if nat_lt 0 (length text) && (list_all (λ byte. is_digit byte radix) text && (nat_le (length text) most && nat_lt (digits_value radix text) limit))
+    then Some (digits_value radix text) else None
+
+abbrev pub question_in : List ℕ → Option ℕ
+question_in text = number_below 65536 10 5 text
+
+-- whether the text begins with a word
+abbrev pub begins_with : List ℕ → List ℕ → Bool
+begins_with text word = bytes_eq (take (length word) text) word
+
+abbrev pub value_in : List ℕ → Option ℤ
+value_in text =
+    if begins_with text (codes "-") then option_map (λ n. neg_ℤ (pos n)) (number_below (2 ^ 64) 10 20 (drop 1 text))
+    else if begins_with text (codes "0x") then option_map pos (number_below (2 ^ 64) 16 16 (drop 2 text))
+    else option_map pos (number_below (2 ^ 64) 10 20 text)
+
+-- the bytes before the first space, and those after it where there is one
+abbrev pub cut_word : List ℕ → List ℕ × Option (List ℕ)
+cut_word [] = ([], None)
+cut_word (b ∷ text) = if b == 32 then ([], Some text) else (b ∷ (cut_word text).0, (cut_word text).1)
+
+abbrev pub set_order : Option ℕ → Option ℤ → Option Order
+set_order None z = None
+set_order (Some q) z = option_map (SetValue q) z
+
+-- the order of `set` over the words behind it
+abbrev pub set_in : List ℕ × Option (List ℕ) → Option Order
+set_in (question, None) = None
+set_in (question, Some value) = set_order (question_in question) (value_in value)
+
+-- the order of a word that stands alone
+abbrev pub plain_in : List ℕ → Option Order
+plain_in word =
+    if bytes_eq word (codes "page") then Some ShowPage
+    else if bytes_eq word (codes "submit") then Some SubmitChanges
+    else if bytes_eq word (codes "discard") then Some DiscardChanges
+    else None
+
+-- the order of a first word and the rest behind its space
+abbrev pub words_in : List ℕ × Option (List ℕ) → Option Order
+words_in (word, None) = plain_in word
+words_in (word, Some rest) = if bytes_eq word (codes "set") then set_in (cut_word rest) else None
+
+-- what a text without LF and CR asks for
+abbrev pub order_in : List ℕ → Option Order
+order_in text = words_in (cut_word text)
+
+-- what a line without its LF is read as
+abbrev pub reading_of : List ℕ → Result Order BadLine
+reading_of line = if nat_lt LINE_LIMIT (length line) then Err LineTooLong else ok_or (order_in (without_return line)) BadCommand

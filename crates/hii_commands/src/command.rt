@@ -1,0 +1,168 @@
+//! What a line asks for.
+
+ghost use Rattle.std.specs.Prelude.{◌≡◌, ◌⊎◌, ◌<◌, ◌≤◌, ◌^◌, ◌==◌, ℤ, pos, Some, None, Ok, Err, MatchOption, MatchResult, SomeIff, length, option_map};
+ghost use Rattle.std.specs.List.{list_all};
+ghost use Rattle.std.specs.Char.{is_digit};
+ghost use Rattle.std.specs.Str.{bytes_eq};
+ghost use Rattle.hii_commands.specs.Line.{without_return};
+ghost use Rattle.hii_commands.specs.Meaning.{Means, IsRefused, order_of, cause_of};
+ghost use Rattle.hii_commands.specs.Reading.{order_in, reading_of, set_in, plain_in, value_in, question_in, number_below, cut_word};
+
+use crate::bytes::first_place;
+use crate::limits::LINE_LIMIT;
+use hii_bytes::Cause;
+use std::str;
+
+/// One command of a script.
+#[derive(Clone, Copy, Debug, PartialEq, Eq)]
+pub enum Command {
+    /// `page`: the current form's page.
+    Page,
+    /// `set Q V`: the value of a question. The magnitude is below 2^64.
+    Set { question: u16, value: i128 },
+    /// `submit`: the working stores become the committed ones.
+    Submit,
+    /// `discard`: the committed stores become the working ones.
+    Discard,
+}
+
+/// Why a line is no command.
+#[derive(Clone, Copy, Debug, PartialEq, Eq)]
+pub enum BadLine {
+    BadCommand,
+    LineTooLong,
+}
+
+impl BadLine {
+    /// The cause by which the line is refused.
+    pub fn cause(self) -> Cause
+        ensures { result ≡ cause_of self }
+    {
+        match self {
+            BadLine::BadCommand => Cause::BadCommand,
+            BadLine::LineTooLong => Cause::LineTooLong,
+        }
+    }
+}
+
+/// The command that a line without its LF is. One CR at its end belongs to its length and not to the command. An empty
+/// line is no command.
+pub fn read_line(line: &[u8]) -> Result<Command, BadLine>
+    ensures means { MatchResult result (λ command. Means line.now (order_of command)) (IsRefused line.now) }
+    // The same as a function of the line.
+    ensures reads { MatchResult result (λ command. reading_of line.now ≡ Ok (order_of command)) (λ bad. reading_of line.now ≡ Err bad) }
+{
+    if line.len() > LINE_LIMIT {
+        return Err(BadLine::LineTooLong);
+    }
+    match command_in(drop_return(line)) {
+        Some(command) => Ok(command),
+        None => Err(BadLine::BadCommand),
+    }
+}
+
+fn drop_return(line: &[u8]) -> &[u8]
+    ensures { result.now ≡ without_return line.now }
+{
+    let count = line.len();
+    if count > 0 && line[count - 1] == b'\r' {
+        &line[..count - 1]
+    } else {
+        line
+    }
+}
+
+fn command_in(text: &[u8]) -> Option<Command>
+    ensures { option_map order_of result ≡ order_in text.now }
+{
+    match split_word(text) {
+        (word, None) => plain_command(word),
+        (word, Some(rest)) => {
+            if is_word(word, b"set") {
+                set_command(rest)
+            } else {
+                None
+            }
+        }
+    }
+}
+
+fn is_word(text: &[u8], word: &[u8]) -> bool
+    ensures { result ≡ bytes_eq text.now word.now }
+{
+    text == word
+}
+
+// The bytes before the first space, and those after it where there is one.
+fn split_word(text: &[u8]) -> (&[u8], Option<&[u8]>)
+    ensures { cut_word text.now ≡ (result.0.now, option_map (λ rest. rest.now) result.1) }
+{
+    match first_place(text, b' ') {
+        Some(end) => (&text[..end], Some(&text[end + 1..])),
+        None => (text, None),
+    }
+}
+
+fn plain_command(word: &[u8]) -> Option<Command>
+    ensures { option_map order_of result ≡ plain_in word.now }
+{
+    if is_word(word, b"page") {
+        Some(Command::Page)
+    } else if is_word(word, b"submit") {
+        Some(Command::Submit)
+    } else if is_word(word, b"discard") {
+        Some(Command::Discard)
+    } else {
+        None
+    }
+}
+
+fn set_command(rest: &[u8]) -> Option<Command>
+    ensures { option_map order_of result ≡ set_in (cut_word rest.now) }
+{
+    let (question, value) = split_word(rest);
+    let question = question_of(question)?;
+    let value = value_of(value?)?;
+    Some(Command::Set { question, value })
+}
+
+fn question_of(text: &[u8]) -> Option<u16>
+    ensures { result ≡ question_in text.now }
+{
+    let number = number_of_digits(text, 10, 5)?;
+    u16::try_from(number).ok()
+}
+
+fn value_of(text: &[u8]) -> Option<i128>
+    ensures { result ≡ value_in text.now }
+{
+    if let Some(digits) = text.strip_prefix(b"-") {
+        let magnitude = number_of_digits(digits, 10, 20)?;
+        return Some(-i128::from(magnitude));
+    }
+    if let Some(digits) = text.strip_prefix(b"0x") {
+        return number_of_digits(digits, 16, 16).map(i128::from);
+    }
+    number_of_digits(text, 10, 20).map(i128::from)
+}
+
+// The number below 2^64 that one to `most` digits of a radix write.
+fn number_of_digits(text: &[u8], radix: u32, most: usize) -> Option<u64>
+    requires { (radix ≡ 10) ⊎ (radix ≡ 16) }
+    ensures { result ≡ number_below (2 ^ 64) radix most text.now }
+{
+    if text.len() > most || !are_digits(text, radix) {
+        return None;
+    }
+    match str::from_utf8(text) {
+        Ok(digits) => u64::from_str_radix(digits, radix).ok(),
+        Err(_) => None,
+    }
+}
+
+fn are_digits(text: &[u8], radix: u32) -> bool
+    requires { (radix ≡ 10) ⊎ (radix ≡ 16) }
+    ensures { result ≡ list_all (λ byte. is_digit byte radix) text.now }
+{
+    text.iter().all(|byte| char::from(*byte).is_digit(radix))
+}

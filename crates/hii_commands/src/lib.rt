@@ -1,0 +1,14 @@
+//! The lines of a script and the commands that they are.
+#![tactic(auto)]
+
+mod bytes;
+mod command;
+pub mod laws;
+mod limits;
+mod line;
+#[cfg(test)]
+mod tests;
+
+pub use command::{BadLine, Command, read_line};
+pub use limits::{LINE_LIMIT, SCRIPT_LIMIT};
+pub use line::{Fed, LineBuffer};

@@ -1,0 +1,13 @@
+//! Lists of HII packages (UEFI 2.8, 33.3.1 Package Lists and Package Headers).
+#![tactic(auto)]
+
+pub mod laws;
+mod list;
+mod package;
+mod packages;
+#[cfg(test)]
+mod tests;
+
+pub use list::PackageList;
+pub use package::{DEVICE_PATH, END, FORMS, Package, STRINGS};
+pub use packages::Packages;

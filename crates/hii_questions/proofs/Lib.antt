@@ -1,0 +1,3 @@
+pub mod QuestionLemmas
+pub mod FieldLemmas
+pub mod LawLemmas

@@ -1,0 +1,12 @@
+-- How denials are named (own rule).
+use Rattle.std.specs.Prelude.{ℕ, List, codes}
+use Rattle.hii_questions.specs.declared.denial.DenialKind.{DenialKind}
+use Rattle.hii_questions.specs.declared.denial.DenialKind.TheVariants.{SuppressIf, ReadOnly, Outside, Kind, Range, NoQuestion}
+
+abbrev pub kind_name : DenialKind → List ℕ
+kind_name SuppressIf = codes "suppressif"
+kind_name ReadOnly = codes "readonly"
+kind_name Outside = codes "outside"
+kind_name Kind = codes "kind"
+kind_name Range = codes "range"
+kind_name NoQuestion = codes "noquestion"

@@ -1,0 +1,11 @@
+pub mod Fields
+pub mod Answers
+pub mod Inputs
+pub mod Faults
+pub mod Denials
+pub mod Survey
+pub mod Views
+pub mod Lists
+pub mod Over
+pub mod Checks
+pub mod Laws

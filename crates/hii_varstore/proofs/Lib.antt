@@ -1,0 +1,7 @@
+pub mod TableLemmas
+pub mod PlaceLemmas
+pub mod ImageLemmas
+pub mod FaultLemmas
+pub mod WriteLemmas
+pub mod LawLemmas
+pub mod StoreNodeLemmas

@@ -1,0 +1,172 @@
+-- The stores that a form set declares: their places rise, and the first that repeats an id has the least fault.
+use Rattle.std.proofs.Common.{◌≡◌, ℕ, ◌+◌, ◌^◌, ◌<◌, ◌≤◌, Bool, true, false, eqb, nat_eq, length, Option, Some, None, List, [], ◌∷◌, ◌++◌, append_assoc, map, refl, sym, ap, subst, ◌∙◌, arith, inl, inr, lit≤}
+use Rattle.std.specs.Prelude.{Contains, filter}
+use Rattle.std.specs.List.{AllByRecursion, IsDistinct, list_any}
+use Rattle.std.specs.BTreeSet.{BTreeSet}
+use Rattle.std.proofs.lemmas.Bool.{cases_Bool, ne_eqb, false≢true}
+use Rattle.std.proofs.lemmas.List.{map-append, append-nil}
+use Rattle.std.proofs.lemmas.List.Elements.{All-tail}
+use Rattle.hii_bytes.specs.Faults.{IsLeast, HasNone, AreAll, first_fault, Rise}
+use Rattle.hii_bytes.specs.declared.cause.Cause.{Cause}
+use Rattle.hii_bytes.specs.declared.cause.Cause.TheVariants.{DuplicateVarstore}
+use Rattle.hii_bytes.specs.declared.cause.Fault.{Fault}
+use Rattle.hii_bytes.proofs.FirstFaultLemmas.{first_among, none_among}
+use Rattle.ifr_opcodes.specs.Fields.{varstore_id}
+use Rattle.ifr_opcodes.specs.Opcode.{is_end, IsWhole}
+use Rattle.ifr_opcodes.specs.Forest.{Ancestor, Placed}
+use Rattle.ifr_scopes.specs.Checked.{IsAt, AreAt, node_in}
+use Rattle.ifr_scopes.specs.Lists.{stores_left}
+use Rattle.ifr_scopes.specs.Nodes.{is_store}
+use Rattle.ifr_scopes.specs.References.{Ranked, ranked}
+use Rattle.ifr_scopes.specs.Views.{nodes_left}
+use Rattle.ifr_scopes.specs.Visits.{left}
+use Rattle.ifr_scopes.specs.Walking.{scan}
+use Rattle.ifr_scopes.specs.declared.varstore.Varstores.{Varstores}
+use Rattle.hii_varstore.specs.declared.buffer.Buffer.{Buffer}
+use Rattle.hii_varstore.specs.StoreNodes.{declared_buffer, is_taken, repeats_store, IsRepeatedStore, AreIdsOf}
+use Rattle.hii_varstore.specs.Table.{AreBuffers}
+
+-- ---- places rise
+
+abbrev node_place : Placed → ℕ
+node_place n = n.place
+
+abbrev ranked_place : Ranked → ℕ
+ranked_place r = r.node.place
+
+rise_lower : (ns : List Placed) (low lower : ℕ) → lower ≤ low → Rise node_place low ns → Rise node_place lower ns
+rise_lower [] low lower h r = tt
+rise_lower (n ∷ ns) low lower h r = (omega (arith, r.0), r.1)
+
+scan_rises : (at : ℕ) (path : List Ancestor) (ops : List (List ℕ)) → AllByRecursion IsWhole ops → Rise node_place at (scan at path ops)
+unfolding scan
+scan_rises at path [] w = tt
+scan_rises at path (op ∷ ops) w =
+    let long : 2 ≤ length op = w.0.long in
+    elim (cases_Bool (is_end op)) [
+      | inl end ↦
+          elim (cases_Bool (eqb (length path) 0)) [
+            | inl outer ↦ rw (end, outer) tt
+            | inr inner ↦ rw (end, inner) (rise_lower _ (at + length op) at (omega arith) (scan_rises (at + length op) _ ops w.1))
+          ]
+      | inr node ↦ rw node (omega arith, rise_lower _ (at + length op) (at + 1) (omega arith) (scan_rises (at + length op) _ ops w.1))
+    ]
+
+found_rise : (bytes : List ℕ) (ns : List Placed) (low : ℕ) → AreAt bytes ns → Rise node_place low ns → Rise node_place low (map (λ n. node_in bytes n.place) ns)
+found_rise bytes [] low at r = tt
+found_rise bytes (n ∷ ns) low at r =
+    let same : (node_in bytes n.place).place ≡ n.place = (at 0 n (omega arith)).placed in
+    (omega (arith, r.0, same), rise_lower _ (n.place + 1) _ (omega (arith, same)) (found_rise bytes ns (n.place + 1) (All-tail (λ (m : Placed). IsAt bytes m.place m.op) n ns at) r.1))
+
+filter_rises : (test : Placed → Bool) (ns : List Placed) (low : ℕ) → Rise node_place low ns → Rise node_place low (filter test ns)
+filter_rises test [] low r = tt
+filter_rises test (n ∷ ns) low r = elim (cases_Bool (test n)) [
+  | inl h ↦ rw h (r.0, filter_rises test ns (n.place + 1) r.1)
+  | inr h ↦ rw h (rise_lower _ (n.place + 1) low (omega (arith, r.0)) (filter_rises test ns (n.place + 1) r.1))
+]
+
+ranked_rise : (before ns : List Placed) (low : ℕ) → Rise node_place low ns → Rise ranked_place low (ranked before ns)
+ranked_rise before [] low r = tt
+ranked_rise before (n ∷ ns) low r = (r.0, ranked_rise (before ++ n ∷ []) ns (n.place + 1) r.1)
+
+stores_rise : (stores : Varstores) → Rise ranked_place stores.nodes.walk.at (ranked [] (stores_left stores))
+stores_rise stores =
+    let walk = stores.nodes.walk in
+    let scanned = scan_rises walk.at _ _ walk.walking.whole in
+    ranked_rise [] (stores_left stores) walk.at (filter_rises is_store (nodes_left stores.nodes) walk.at (found_rise walk.bytes.now (left walk) walk.at stores.nodes.stand scanned))
+
+-- ---- the first store that repeats an id
+
+abbrev causes : List Cause
+causes = DuplicateVarstore ∷ []
+
+abbrev pub first_repeat : List Placed → List Placed → Option Fault
+first_repeat before ns = first_fault ranked_place repeats_store causes (ranked before ns)
+
+among : (r : Ranked) (d : Cause) → repeats_store r d ≡ true → Contains causes d
+among r DuplicateVarstore h = (0, omega arith, refl)
+among r _ h = absurd (false≢true h)
+
+all_causes : AreAll repeats_store causes
+all_causes = record { rise = (lit≤ tt, tt); all = among }
+
+pub refused_among : (stores : Varstores) (fault : Fault) → first_repeat [] (stores_left stores) ≡ Some fault → IsLeast (IsRepeatedStore (stores_left stores)) fault
+refused_among stores fault e = first_among ranked_place repeats_store causes stores.nodes.walk.at (ranked [] (stores_left stores)) fault all_causes (stores_rise stores) e
+
+pub sound_among : (ns : List Placed) → first_repeat [] ns ≡ None → HasNone (IsRepeatedStore ns)
+sound_among ns e = none_among ranked_place repeats_store causes (ranked [] ns) all_causes e
+
+-- ---- the stores so far
+
+-- Some stores were met, and their ids are known; the first fault of all is that of those which are left.
+pub record HasMet (all left : List Placed) (ids : BTreeSet ℕ) (buffers : List Buffer) : Type 0 where
+  pub before : List Placed
+  pub parts : all ≡ before ++ left
+  pub known : AreIdsOf before ids
+  pub built : buffers ≡ map declared_buffer before
+  pub sound : AreBuffers buffers
+  pub same : first_repeat before left ≡ first_repeat [] all
+
+AllByRecursion-push : {X : Type 0} (P : X → Type 0) (xs : List X) (x : X) → AllByRecursion P xs → P x → AllByRecursion P (xs ++ x ∷ [])
+AllByRecursion-push P [] x all here = (here, tt)
+AllByRecursion-push P (y ∷ ys) x all here = (all.0, AllByRecursion-push P ys x all.1 here)
+
+apart_push : (xs : List ℕ) (x : ℕ) → IsDistinct nat_eq xs → list_any (λ y. eqb y x) xs ≡ false → IsDistinct nat_eq (xs ++ x ∷ [])
+unfolding IsDistinct
+apart_push [] x apart other = (tt, tt)
+apart_push (y ∷ ys) x apart other =
+    elim (cases_Bool (eqb y x)) [
+      | inl same ↦ absurd (false≢true (sym (rw same at other)))
+      | inr here ↦ (AllByRecursion-push (λ z. nat_eq y z ≡ false) ys x apart.0 here, apart_push ys x apart.1 (rw here at other))
+    ]
+
+ids_known : (ns : List Placed) (id : ℕ) → list_any (λ n. eqb (varstore_id n.op) id) ns ≡ list_any (λ y. eqb y id) (map (λ (b : Buffer). b.id) (map declared_buffer ns))
+ids_known [] id = refl
+ids_known (n ∷ ns) id = rw (ids_known ns id) refl
+
+not_taken : (ns : List Placed) (id : ℕ) → is_taken id ns ≡ false → list_any (λ y. eqb y id) (0 ∷ map (λ (b : Buffer). b.id) (map declared_buffer ns)) ≡ false
+not_taken ns id h = elim (cases_Bool (eqb id 0)) [
+  | inl zero_id ↦ absurd (false≢true (sym (rw zero_id at h)))
+  | inr other ↦
+      let here : eqb 0 id ≡ false = ne_eqb 0 id (λ e. false≢true (sym other ∙ ap (λ k. eqb k 0) (sym e))) in
+      rw here (sym (ids_known ns id) ∙ rw other at h)
+]
+
+pub met_more : (all left : List Placed) (n : Placed) (ids more : BTreeSet ℕ) (buffers : List Buffer) (b : Buffer) → (met : HasMet all (n ∷ left) ids buffers)
+    → b ≡ declared_buffer n → (b.id < 2 ^ 16) × (b.size < 2 ^ 16) → is_taken b.id met.before ≡ false → AreIdsOf (met.before ++ n ∷ []) more → HasMet all left more (buffers ++ b ∷ [])
+met_more all left n ids more buffers b met is fits free known =
+    let its : is_taken (varstore_id n.op) met.before ≡ false = rw is at free in
+    let ids_apart : IsDistinct nat_eq ((0 ∷ map (λ (c : Buffer). c.id) buffers) ++ b.id ∷ []) = apart_push (0 ∷ map (λ (c : Buffer). c.id) buffers) b.id met.sound.apart
+    (ap (λ (bs : List Buffer). list_any (λ y. eqb y b.id) (0 ∷ map (λ (c : Buffer). c.id) bs)) met.built ∙ not_taken met.before b.id free) in
+    record {
+      before = met.before ++ n ∷ [];
+      parts = met.parts ∙ sym (append_assoc met.before (n ∷ []) left);
+      known = known;
+      built = ap (λ (bs : List Buffer). bs ++ b ∷ []) met.built ∙ ap (λ (c : Buffer). map declared_buffer met.before ++ c ∷ []) is ∙ sym (map-append declared_buffer met.before (n ∷ []));
+      sound = record {
+        fit = AllByRecursion-push (λ (c : Buffer). (c.id < 2 ^ 16) × (c.size < 2 ^ 16)) buffers b met.sound.fit fits;
+        apart = subst (λ (xs : List ℕ). IsDistinct nat_eq (0 ∷ xs)) (sym (map-append (λ (c : Buffer). c.id) buffers (b ∷ []))) ids_apart;
+      };
+      same = rw its at met.same;
+    }
+
+pub met_all : (all left : List Placed) (ids : BTreeSet ℕ) (buffers : List Buffer) → HasMet all left ids buffers → left ≡ [] → (buffers ≡ map declared_buffer all) × (first_repeat [] all ≡ None)
+met_all all left ids buffers met e =
+    let whole : all ≡ met.before = met.parts ∙ ap (λ (ns : List Placed). met.before ++ ns) e ∙ append-nil met.before in
+    (met.built ∙ ap (map declared_buffer) (sym whole), sym met.same ∙ ap (first_repeat met.before) e)
+
+-- a store that repeats an id is the first fault
+pub met_again : (all left : List Placed) (n : Placed) (ids : BTreeSet ℕ) (buffers : List Buffer) → (met : HasMet all (n ∷ left) ids buffers) → is_taken (varstore_id n.op) met.before ≡ true
+    → first_repeat [] all ≡ Some record { cause = DuplicateVarstore; place = n.place }
+met_again all left n ids buffers met taken = sym (rw taken at met.same)
+
+pub met_none : (all : List Placed) (ids : BTreeSet ℕ) (buffers : List Buffer) → AreIdsOf [] ids → buffers ≡ [] → HasMet all all ids buffers
+unfolding IsDistinct
+met_none all ids buffers known none = record {
+  before = [];
+  parts = refl;
+  known = known;
+  built = none;
+  sound = rw none record { fit = tt; apart = (tt, tt) };
+  same = refl;
+}

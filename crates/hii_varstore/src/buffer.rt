@@ -1,0 +1,6 @@
+/// A buffer store of a form set: its id, and how many bytes it holds (UEFI 2.8, 33.3.8 Forms Package, EFI_IFR_VARSTORE).
+#[derive(Clone, Copy, Debug, PartialEq, Eq)]
+pub struct Buffer {
+    pub id: u16,
+    pub size: u16,
+}

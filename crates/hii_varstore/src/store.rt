@@ -1,0 +1,77 @@
+//! What one buffer store holds.
+
+ghost use Rattle.std.specs.Prelude.{◌≡◌, ◌+◌, ◌<◌, ◌≤◌, ◌^◌, IfOk, length, slice_range};
+ghost use Rattle.std.specs.Borrow.{sem};
+ghost use Rattle.hii_varstore.specs.Stores.{buffer_of};
+ghost use Rattle.hii_varstore.specs.Lending.{LendsRange};
+
+use std::alloc::{AllocError, Global};
+use std::marker::Model;
+
+/// The id of a buffer store, and its bytes.
+#[derive(Debug, Drop)]
+pub(crate) struct Store {
+    id: u16,
+    bytes: Vec<u8>,
+}
+
+impl Model for Store {
+    ghost use Rattle.std.specs.Prelude.{ℕ, ◌<◌, ◌^◌, length};
+    ghost use Rattle.hii_varstore.specs.Stores.{Store as TheStore};
+
+    ghost Value = { TheStore };
+
+    ghost view = { λ s. record { id = s.id; bytes = s.bytes.items } };
+
+    ghost invariant = { λ s. length s.bytes.items < 2 ^ 16 };
+}
+
+impl Store {
+    /// A store of this id that holds these bytes.
+    pub(crate) fn new(alloc: Global, id: u16, bytes: &[u8]) -> Result<Store, AllocError>
+        requires { length bytes.now < 2 ^ 16 }
+        ensures { IfOk result (λ store. store ≡ record { id = id; bytes = bytes.now }) }
+    {
+        Ok(Store {
+            id,
+            bytes: Vec::from_slice(alloc, bytes)?,
+        })
+    }
+
+    /// A second store that holds the same.
+    pub(crate) fn copy(&self, alloc: Global) -> Result<Store, AllocError>
+        ensures { IfOk result (λ store. store ≡ self.now) }
+    {
+        Store::new(alloc, self.id, &self.bytes)
+    }
+
+    pub(crate) fn id(&self) -> u16
+        ensures { result ≡ self.now.id }
+    {
+        self.id
+    }
+
+    pub(crate) fn bytes(&self) -> &[u8]
+        ensures value { result.now ≡ self.now.bytes }
+        ensures small { length self.now.bytes < 2 ^ 16 }
+    {
+        &self.bytes
+    }
+
+    /// A range of the bytes, to be written.
+    pub(crate) fn range_mut(&mut self, offset: usize, width: usize) -> &mut [u8]
+        requires { offset + width ≤ length self.old.bytes }
+        ensures* lends { sem 𝓛 (LendsRange self.entry offset result) }
+        ensures value { result.now ≡ slice_range self.old.bytes offset (offset + width) }
+    {
+        self.bytes.slice_mut(offset..offset + width)
+    }
+
+    /// Takes over the bytes of a store of the same id and size.
+    pub(crate) fn copy_from(&mut self, other: &Store)
+        requires { buffer_of self.old ≡ buffer_of other.now }
+        ensures { self.new ≡ other.now }
+    {
+        self.bytes.copy_from_slice(&other.bytes);
+    }
+}

@@ -1,0 +1,167 @@
+//! What the buffer stores of a form set hold.
+
+ghost use Rattle.std.specs.Prelude.{◌≡◌, ◌⊎◌, IfOk, IfErr, length, map, option_copied, Some};
+ghost use Rattle.hii_bytes.specs.Faults.{IsLeast};
+ghost use Rattle.hii_bytes.specs.Watching.{pen_of, Writes, Tells};
+ghost use Rattle.hii_varstore.specs.Stores.{StoreMap, buffer_of, shape_of, bytes_of, field_of, with_bytes};
+ghost use Rattle.hii_varstore.specs.Layout.{HasRange};
+ghost use Rattle.hii_varstore.specs.Lending.{LendsField};
+ghost use Rattle.std.specs.Borrow.{sem};
+ghost use Rattle.hii_varstore.specs.Image.{image_of, SpellsImage};
+ghost use Rattle.hii_varstore.specs.Faults.{IsImageFault, IsNoMemory};
+
+use crate::fault::no_memory;
+use crate::image::{MARK, put_stores, read_head, read_stores};
+use crate::layout::Layout;
+use crate::store::Store;
+use crate::table::Table;
+use hii_bytes::{Fault, Watched, WriteFault};
+use std::alloc::{AllocError, Global};
+use std::io::Write;
+use std::marker::Model;
+
+/// The bytes of the buffer stores of a form set, and the form set's GUID.
+#[derive(Debug, Drop)]
+pub struct Stores {
+    guid: [u8; 16],
+    table: Table,
+    stores: Vec<Store>,
+}
+
+impl Model for Stores {
+    ghost use Rattle.hii_varstore.specs.Stores.{StoreMap};
+
+    ghost Value = { StoreMap };
+
+    ghost use Rattle.hii_varstore.specs.Table.{AreStores};
+
+    ghost view = { λ s. record { guid = s.guid; stores = s.stores.items } };
+
+    ghost invariant = { λ s. AreStores s.table s.stores.items };
+}
+
+impl Stores {
+    /// The stores of a layout that an image spells in either of its forms. Refuses the image by its first field that is
+    /// cut short, or has other bytes than the layout wants, or by the bytes left over; the place is the offset in bytes
+    /// in the image. A refused growth is `OutOfMemory` at 0.
+    pub fn read(alloc: Global, layout: &Layout<'_>, image: &[u8]) -> Result<Stores, Fault>
+        ensures spelled { IfOk result (SpellsImage layout.now image.now) }
+        ensures refused { IfErr result (λ fault. IsNoMemory fault ⊎ IsLeast (IsImageFault layout.now image.now) fault) }
+        // Where the image spells stores, nothing but want of memory refuses it.
+        ensures accepted { (stores : StoreMap) → SpellsImage layout.now image.now stores → IfErr result IsNoMemory }
+    {
+        let place = read_head(layout.guid().bytes(), image)?;
+        let stores = read_stores(alloc, layout.table(), image, place)?;
+        let Ok(table) = layout.table().copy(alloc) else {
+            return no_memory();
+        };
+        let mut guid = [0; 16];
+        guid.copy_from_slice(layout.guid().bytes());
+        Ok(Stores {
+            guid,
+            table,
+            stores,
+        })
+    }
+
+    /// A second set of the same stores, or `OutOfMemory` where a growth is refused.
+    pub fn copy(&self, alloc: Global) -> Result<Stores, Fault>
+        ensures same { IfOk result (λ stores. stores ≡ self.now) }
+        ensures refused { IfErr result IsNoMemory }
+    {
+        let Ok(table) = self.table.copy(alloc) else {
+            return no_memory();
+        };
+        let Ok(stores) = copies(alloc, &self.stores) else {
+            return no_memory();
+        };
+        Ok(Stores {
+            guid: self.guid,
+            table,
+            stores,
+        })
+    }
+
+    /// The bytes of the store of an id, if there is one.
+    pub fn bytes(&self, id: u16) -> Option<&[u8]>
+        ensures { option_copied result ≡ bytes_of self.now id }
+    {
+        let place = self.table.find(id)?;
+        Some(self.stores[place].bytes())
+    }
+
+    /// The `width` bytes of the store of an id from an offset in bytes on, to be written.
+    pub fn field_mut(&mut self, id: u16, offset: usize, width: usize) -> &mut [u8]
+        requires { HasRange (shape_of self.old) id offset width }
+        ensures* lends { sem 𝓛 (LendsField self.entry id offset result) }
+        ensures value { field_of self.old id offset width ≡ Some result.now }
+        ensures size { length result.now ≡ width }
+    {
+        let place = self.table.find(id).unwrap();
+        let store = &mut self.stores[place];
+        store.range_mut(offset, width)
+    }
+
+    /// Writes bytes into the store of an id, from an offset in bytes on.
+    pub fn put(&mut self, id: u16, offset: usize, bytes: &[u8])
+        requires { HasRange (shape_of self.old) id offset (length bytes.now) }
+        ensures written { self.new ≡ with_bytes self.old id offset bytes.now }
+        ensures shape { shape_of self.new ≡ shape_of self.old }
+    {
+        self.field_mut(id, offset, bytes.len())
+            .copy_from_slice(bytes);
+    }
+
+    /// Takes over the bytes of other stores of the same layout.
+    pub fn copy_from(&mut self, other: &Stores)
+        requires { shape_of self.old ≡ shape_of other.now }
+        ensures { self.new ≡ other.now }
+    {
+        copy_all(&mut self.stores, &other.stores);
+    }
+
+    /// Writes the image of the stores. At a writer's fault the front of the image is written, as many bytes as the fault
+    /// says.
+    pub fn image_into<W: Write>(&self, out: &mut Watched<W>) -> Result<(), WriteFault>
+        ensures { Tells (pen_of W.contents out.old) (pen_of W.contents out.new) result (image_of self.now) }
+    {
+        out.restart();
+        self.put_image(out);
+        if out.failed() {
+            return Err(WriteFault {
+                written: out.taken(),
+            });
+        }
+        Ok(())
+    }
+
+    /// Writes the image of the stores as one of several texts: a fault of the writer is asked of the writer.
+    pub fn put_image<W: Write>(&self, out: &mut Watched<W>)
+        ensures { Writes (pen_of W.contents out.old) (pen_of W.contents out.new) (image_of self.now) }
+    {
+        out.put(&MARK);
+        out.put(&self.guid);
+        put_stores(&self.stores, out);
+    }
+}
+
+// A second list of the same stores.
+fn copies(alloc: Global, stores: &[Store]) -> Result<Vec<Store>, AllocError>
+    ensures { IfOk result (λ copies. copies.items ≡ stores.now) }
+{
+    let mut copies = Vec::with_capacity(alloc, stores.len())?;
+    for store in stores {
+        copies.push(store.copy(alloc)?)?;
+    }
+    Ok(copies)
+}
+
+// Takes over the bytes of stores of the same ids and sizes.
+fn copy_all(stores: &mut [Store], others: &[Store])
+    requires { map buffer_of stores.old ≡ map buffer_of others.now }
+    ensures { stores.new ≡ others.now }
+{
+    for (place, store) in stores.iter_mut().enumerate() {
+        store.copy_from(&others[place]);
+    }
+}

@@ -1,0 +1,65 @@
+//! The buffer stores by place, found by their ids.
+
+ghost use Rattle.std.specs.Prelude.{◌≡◌, IfOk};
+ghost use Rattle.hii_varstore.specs.Table.{AreBuffers, place_of};
+
+use crate::buffer::Buffer;
+use std::alloc::{AllocError, Global};
+use std::collections::BTreeMap;
+use std::marker::Model;
+
+/// The buffer stores by place, with an index by id.
+#[derive(Debug, Drop)]
+pub(crate) struct Table {
+    buffers: Vec<Buffer>,
+    places: BTreeMap<u16, usize>,
+}
+
+impl Model for Table {
+    ghost use Rattle.std.specs.Prelude.{List};
+    ghost use Rattle.hii_varstore.specs.declared.buffer.Buffer.{Buffer};
+
+    ghost Value = { List Buffer };
+
+    ghost use Rattle.hii_varstore.specs.Table.{IsTable};
+
+    ghost view = { λ t. t.buffers.items };
+
+    ghost invariant = { λ t. IsTable t.buffers.items t.places };
+}
+
+impl Table {
+    /// The table of these stores.
+    pub(crate) fn new(alloc: Global, buffers: Vec<Buffer>) -> Result<Table, AllocError>
+        requires { AreBuffers buffers.items }
+        ensures { IfOk result (λ table. table ≡ buffers.items) }
+    {
+        let mut places = BTreeMap::new(alloc);
+        for (place, buffer) in buffers.iter().enumerate() {
+            places.insert(buffer.id, place)?;
+        }
+        Ok(Table { buffers, places })
+    }
+
+    /// A second table of the same stores.
+    pub(crate) fn copy(&self, alloc: Global) -> Result<Table, AllocError>
+        ensures { IfOk result (λ table. table ≡ self.now) }
+    {
+        Table::new(alloc, Vec::from_slice(alloc, &self.buffers)?)
+    }
+
+    /// The stores by place.
+    pub(crate) fn buffers(&self) -> &[Buffer]
+        ensures value { result.now ≡ self.now }
+        ensures sound { AreBuffers self.now }
+    {
+        &self.buffers
+    }
+
+    /// The place among the stores of the one of an id.
+    pub(crate) fn find(&self, id: u16) -> Option<usize>
+        ensures { result ≡ place_of self.now id }
+    {
+        self.places.get(&id).copied()
+    }
+}

@@ -1,0 +1,226 @@
+use crate::{Buffer, Layout, Stores, laws};
+use hii_bytes::{Cause, Fault, Guid, Watched, WriteFault};
+use hii_packages::{FORMS, Package};
+use ifr_scopes::Forms;
+use std::alloc::Global;
+use std::io;
+use std::io::{ErrorKind, Write};
+use std::test::Fail;
+
+static GUID: [u8; 16] = [0x22; 16];
+
+static OLDER: [u8; 10] = [0x48, 0x56, 0x53, 0x31, 1, 0, 1, 0, 2, 0];
+
+static HEAD: [u8; 22] = [
+    0x48, 0x56, 0x53, 0x32, 0x22, 0x22, 0x22, 0x22, 0x22, 0x22, 0x22, 0x22, 0x22, 0x22, 0x22, 0x22,
+    0x22, 0x22, 0x22, 0x22, 1, 0,
+];
+
+static IMAGE: [u8; 28] = [
+    0x48, 0x56, 0x53, 0x32, 0x22, 0x22, 0x22, 0x22, 0x22, 0x22, 0x22, 0x22, 0x22, 0x22, 0x22, 0x22,
+    0x22, 0x22, 0x22, 0x22, 1, 0, 1, 0, 2, 0, 1, 0,
+];
+
+// One store of id 1 and 2 bytes.
+fn one_store(alloc: Global) -> Result<Layout<'static>, Fail> {
+    let buffers = Vec::from_slice(alloc, &[Buffer { id: 1, size: 2 }])?;
+    let guid = Guid::at(&GUID, 0).unwrap();
+    Ok(Layout::new(alloc, guid, buffers)?)
+}
+
+// A form set with two stores and a form.
+const PACKAGE: [u8; 84] = [
+    84, 0, 0, 2, // the package's header
+    0x0e, 0x97, 0x22, 0x22, 0x22, 0x22, 0x22, 0x22, 0x22, 0x22, 0x22, 0x22, 0x22, 0x22, 0x22, 0x22,
+    0x22, 0x22, 1, 0, 2, 0, 0, // FORM_SET, at 4
+    0x24, 24, 1, 2, 3, 4, 5, 6, 7, 8, 9, 10, 11, 12, 13, 14, 15, 16, 1, 0, 2, 0, b'A', 0, // a store of the id 1 and 2 bytes, at 27
+    0x24, 23, 1, 2, 3, 4, 5, 6, 7, 8, 9, 10, 11, 12, 13, 14, 15, 16, 7, 0, 3, 0, 0, // a store of the id 7 and 3 bytes, at 51
+    0x01, 0x86, 1, 0, 1, 0, // a form, at 74
+    0x29, 2, 0x29, 2, // at 80, 82
+];
+
+/// Takes that many bytes, and then fails.
+#[derive(Drop)]
+struct Limited {
+    bytes: Vec<u8>,
+    room: usize,
+}
+
+impl Write for Limited {
+    fn write(&mut self, buf: &[u8]) -> io::Result<usize> {
+        let n = buf.len().min(self.room);
+        if n == 0 && !buf.is_empty() {
+            return Err(io::Error::from(ErrorKind::Other));
+        }
+        self.bytes.extend_from_slice(&buf[..n])?;
+        self.room -= n;
+        Ok(n)
+    }
+
+    fn flush(&mut self) -> io::Result<()> {
+        Ok(())
+    }
+}
+
+#[test]
+fn an_image_is_read_and_written(rt: HostRuntime) -> Result<(), Fail> {
+    let alloc = rt.alloc();
+    let layout = one_store(alloc)?;
+    assert_eq!(rt;
+        (layout.size(1), layout.size(2), layout.buffers().len()),
+        (Some(2), None, 1)
+    );
+    assert_eq!(rt; layout.guid().bytes(), GUID.as_slice());
+    let mut image = Vec::from_slice(alloc, &OLDER)?;
+    image.extend_from_slice(&[1, 0])?;
+    let mut out = Watched::new(Vec::new(alloc));
+    laws::an_older_image_is_written_anew(alloc, &layout, &image, &mut out)??;
+    assert_eq!(rt; out.into_inner().as_slice(), IMAGE.as_slice());
+    Ok(())
+}
+
+fn declared(alloc: Global, bytes: &[u8; 84]) -> Result<Layout<'_>, Fault> {
+    let source = Package {
+        place: 0,
+        kind: FORMS,
+        bytes,
+    };
+    let forms = Forms::read(alloc, source)?;
+    Layout::read(alloc, &forms)
+}
+
+#[test]
+fn a_layout_is_read(rt: HostRuntime) -> Result<(), Fail> {
+    let alloc = rt.alloc();
+    let layout = declared(alloc, &PACKAGE)?;
+    assert_eq!(rt; layout.guid().bytes(), GUID.as_slice());
+    assert_eq!(rt;
+        layout.buffers(),
+        [Buffer { id: 1, size: 2 }, Buffer { id: 7, size: 3 }].as_slice()
+    );
+    for id in [0, 1] {
+        let mut repeated = PACKAGE;
+        repeated[69] = id;
+        let fault = declared(alloc, &repeated).err();
+        assert_eq!(rt;
+            fault.map(|fault| (fault.cause, fault.place)),
+            Some((Cause::DuplicateVarstore, 51))
+        );
+    }
+    Ok(())
+}
+
+#[test]
+fn bytes_are_written_and_copied(rt: HostRuntime) -> Result<(), Fail> {
+    let alloc = rt.alloc();
+    let buffers = Vec::from_slice(
+        alloc,
+        &[Buffer { id: 7, size: 1 }, Buffer { id: 2, size: 3 }],
+    )?;
+    let layout = Layout::new(alloc, Guid::at(&GUID, 0).unwrap(), buffers)?;
+    let image = b"HVS1\x02\x00\x07\x00\x01\x00A\x02\x00\x03\x00BCD";
+    let mut stores = Stores::read(alloc, &layout, image)?;
+    let committed = stores.copy(alloc)?;
+    assert!(rt;
+        stores.bytes(7) == Some(b"A".as_slice()) && stores.bytes(2) == Some(b"BCD".as_slice())
+    );
+    assert!(rt; stores.bytes(3).is_none());
+    laws::a_write_keeps_the_shape();
+    assert!(rt; layout.size(2) == Some(3));
+    stores.put(2, 1, b"x");
+    stores.field_mut(2, 2, 1)[0] = b'y';
+    assert!(rt;
+        stores.bytes(7) == Some(b"A".as_slice()) && stores.bytes(2) == Some(b"Bxy".as_slice())
+    );
+    stores.copy_from(&committed);
+    assert_eq!(rt; stores.bytes(2), Some(b"BCD".as_slice()));
+    Ok(())
+}
+
+#[test]
+fn a_writer_fails_after_each_byte(rt: HostRuntime) -> Result<(), Fail> {
+    let alloc = rt.alloc();
+    let layout = one_store(alloc)?;
+    let stores = Stores::read(alloc, &layout, &IMAGE)?;
+    for room in 0..IMAGE.len() {
+        let mut out = Watched::new(Limited {
+            bytes: Vec::new(alloc),
+            room,
+        });
+        let fault = WriteFault {
+            written: room as u64,
+        };
+        assert_eq!(rt; stores.image_into(&mut out), Err(fault));
+        assert_eq!(rt; out.into_inner().bytes.as_slice(), &IMAGE[..room]);
+    }
+    Ok(())
+}
+
+#[test]
+fn faults_of_an_image(rt: HostRuntime) -> Result<(), Fail> {
+    let alloc = rt.alloc();
+    let layout = one_store(alloc)?;
+    for (head, rest, cause, place) in [
+        (
+            OLDER.as_slice(),
+            b"\x00\x00\x00".as_slice(),
+            Cause::StoreTrailing,
+            12,
+        ),
+        (OLDER.as_slice(), b"\x00".as_slice(), Cause::StoreShort, 10),
+        (
+            &OLDER[..8],
+            b"\x03\x00\x00\x00".as_slice(),
+            Cause::StoreSize,
+            8,
+        ),
+        (
+            &OLDER[..6],
+            b"\x02\x00\x02\x00\x00\x00".as_slice(),
+            Cause::StoreId,
+            6,
+        ),
+        (
+            &OLDER[..3],
+            b"9\x01\x00\x01\x00\x02\x00\x00\x00".as_slice(),
+            Cause::StoreMagic,
+            0,
+        ),
+        (b"HV9".as_slice(), b"".as_slice(), Cause::StoreShort, 0),
+        (
+            &HEAD[..4],
+            b"\x23\x22\x22\x22\x22\x22\x22\x22\x22\x22\x22\x22\x22\x22\x22\x22".as_slice(),
+            Cause::StoreFormSet,
+            4,
+        ),
+        (&HEAD[..19], b"".as_slice(), Cause::StoreShort, 4),
+        (&HEAD[..20], b"\x02\x00".as_slice(), Cause::StoreCount, 20),
+        (
+            HEAD.as_slice(),
+            b"\x01\x00\x03\x00\x01\x00".as_slice(),
+            Cause::StoreSize,
+            24,
+        ),
+        (
+            HEAD.as_slice(),
+            b"\x01\x00\x02\x00\x01".as_slice(),
+            Cause::StoreShort,
+            26,
+        ),
+        (
+            HEAD.as_slice(),
+            b"\x01\x00\x02\x00\x01\x00\x00".as_slice(),
+            Cause::StoreTrailing,
+            28,
+        ),
+    ] {
+        let mut image = Vec::from_slice(alloc, head)?;
+        image.extend_from_slice(rest)?;
+        let fault = Stores::read(alloc, &layout, &image).err();
+        assert_eq!(rt;
+            fault.map(|fault| (fault.cause, fault.place)),
+            Some((cause, place))
+        );
+    }
+    Ok(())
+}

@@ -1,0 +1,3 @@
+pub mod OpcodeLemmas
+pub mod ForestLemmas
+pub mod FieldLemmas

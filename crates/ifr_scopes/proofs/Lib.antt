@@ -1,0 +1,14 @@
+pub mod CountLemmas
+pub mod RunLemmas
+pub mod NodeLemmas
+pub mod PlaceLemmas
+pub mod WalkLemmas
+pub mod FirstLemmas
+pub mod StructureLemmas
+pub mod ViewLemmas
+pub mod NodeFactLemmas
+pub mod ConditionLemmas
+pub mod IndexLemmas
+pub mod PathLemmas
+pub mod ReferenceLemmas
+pub mod AroundLemmas

@@ -1,0 +1,145 @@
+-- The ancestors of a node are nodes of the package.
+use Rattle.std.proofs.Common.{◌≡◌, ℕ, zero, suc, ◌+◌, ◌<◌, ◌≤◌, Bool, true, false, eqb, Option, Some, None, List, [], ◌∷◌, ◌++◌, length, map, get_or, refl, sym, ap, ◌∙◌, subst, inl, inr, arith}
+use Rattle.std.specs.Prelude.{Contains, ◌&&◌, filter, option_map}
+use Rattle.std.specs.List.{AllByRecursion}
+use Rattle.std.proofs.lemmas.Bool.{cases_Bool, eq-eqb, ne_eqb, cond-true, cond-false}
+use Rattle.std.proofs.lemmas.List.Elements.{Contains-get_or, Contains-append_cases, Contains-append_left, Contains-append_right}
+use Rattle.ifr_opcodes.specs.Opcode.{number}
+use Rattle.ifr_opcodes.specs.Forest.{Forest, none, node, flat, Ancestor, Placed, as_ancestor, nodes_at, below, Spells}
+use Rattle.ifr_opcodes.specs.Reading.{tree_of}
+use Rattle.ifr_scopes.specs.Guards.{is_guard, guards, places_of}
+use Rattle.ifr_scopes.specs.Index.{is_indexed, indexed_at, guard_places, or_none, guards_of_indexed}
+use Rattle.ifr_scopes.specs.Nodes.{nodes_of, is_statement, statements}
+use Rattle.ifr_scopes.specs.Checked.{IsAt, IsNodeOf, AreNodesOf, node_in, has_guard}
+use Rattle.ifr_scopes.proofs.ViewLemmas.{is_at, node_in_place, further, below_within, contains_found}
+use Rattle.ifr_scopes.proofs.PlaceLemmas.{Within, above, is_found, nodes_within}
+
+-- an ancestor is one of these nodes
+abbrev pub IsOf : List Placed → Ancestor → Type 0
+IsOf ns a = (m : Placed) × Contains ns m × (as_ancestor m ≡ a)
+
+all_of-push : (ns : List Placed) (path : List Ancestor) (a : Ancestor) → AllByRecursion (IsOf ns) path → IsOf ns a → AllByRecursion (IsOf ns) (path ++ a ∷ [])
+all_of-push ns [] a all last = (last, tt)
+all_of-push ns (b ∷ path) a all last = (all.0, all_of-push ns path a all.1 last)
+
+-- each node's path has nodes alone, where the forest's path has
+path_of : (ns : List Placed) (f : Forest) (at : ℕ) (path : List Ancestor) → AllByRecursion (IsOf ns) path → ((m : Placed) → Contains (nodes_at at path f) m → Contains ns m)
+    → (n : Placed) → Contains (nodes_at at path f) n → AllByRecursion (IsOf ns) n.path
+path_of ns none at path all within n (k, lt, e) = absurd (omega arith)
+path_of ns (node op children rest) at path all within n (zero, lt, e) = subst (λ (p : Placed). AllByRecursion (IsOf ns) p.path) e all
+path_of ns (node op children rest) at path all within n (suc k, lt, e) =
+    let behind = at + length (flat (node op children none)) in
+    let here : Placed = record { place = at; op = op; path = path; children = children } in
+    let entered = path ++ as_ancestor here ∷ [] in
+    let its = nodes_at (at + length op) entered children in
+    let after = nodes_at behind path rest in
+    elim (Contains-append_cases its after n (k, omega arith, e)) [
+      | inl w ↦ path_of ns children (at + length op) entered (all_of-push ns path (as_ancestor here) all (here, within here (0, omega arith, refl), refl)) (λ m v. within m (further here (its ++ after) m (Contains-append_left its after m v))) n w
+      | inr w ↦ path_of ns rest behind path all (λ m v. within m (further here (its ++ after) m (Contains-append_right its after m v))) n w
+    ]
+
+pub path_is_of : (bytes : List ℕ) (n : Placed) → Contains (nodes_of bytes) n → AllByRecursion (IsOf (nodes_of bytes)) n.path
+path_is_of bytes n within = path_of (nodes_of bytes) (tree_of bytes) 4 [] tt (λ m v. v) n within
+
+-- ---- the guards among them
+
+its_place : (bytes : List ℕ) (a : Ancestor) → Spells bytes (tree_of bytes) → IsOf (nodes_of bytes) a → as_ancestor (node_in bytes a.place) ≡ a
+its_place bytes a s (m, within, is) = ap (λ (b : Ancestor). as_ancestor (node_in bytes b.place)) (sym is) ∙ ap as_ancestor (node_in_place bytes m s within) ∙ is
+
+is_there : (bytes : List ℕ) (a : Ancestor) → Spells bytes (tree_of bytes) → IsOf (nodes_of bytes) a → is_guard (number a.op) ≡ true → has_guard bytes a.place ≡ true
+is_there bytes a s (m, within, is) guards =
+    let at : IsAt bytes a.place a.op = subst (λ (b : Ancestor). IsAt bytes b.place b.op) is (is_at bytes m s within) in
+    rw (at.there, at.opcode) guards
+
+pub are_guards : (bytes : List ℕ) (path : List Ancestor) → Spells bytes (tree_of bytes) → AllByRecursion (IsOf (nodes_of bytes)) path
+    → AllByRecursion (λ place. has_guard bytes place ≡ true) (places_of (filter (λ a. is_guard (number a.op)) path))
+are_guards bytes [] s all = tt
+are_guards bytes (a ∷ path) s all = elim (cases_Bool (is_guard (number a.op))) [
+  | inl guards ↦ rw guards (is_there bytes a s all.0 guards, are_guards bytes path s all.1)
+  | inr other ↦ rw other (are_guards bytes path s all.1)
+]
+
+pub guards_again : (bytes : List ℕ) (path : List Ancestor) → Spells bytes (tree_of bytes) → AllByRecursion (IsOf (nodes_of bytes)) path
+    → map (λ place. as_ancestor (node_in bytes place)) (places_of (filter (λ a. is_guard (number a.op)) path)) ≡ filter (λ a. is_guard (number a.op)) path
+guards_again bytes [] s all = refl
+guards_again bytes (a ∷ path) s all = elim (cases_Bool (is_guard (number a.op))) [
+  | inl guards ↦ rw guards (ap (λ (b : Ancestor). b ∷ map (λ place. as_ancestor (node_in bytes place)) (places_of (filter (λ a. is_guard (number a.op)) path))) (its_place bytes a s all.0) ∙ ap (λ (l : List Ancestor). a ∷ l) (guards_again bytes path s all.1))
+  | inr other ↦ rw other (guards_again bytes path s all.1)
+]
+
+-- ---- what the index has at a place
+
+find_within : (ns : List Placed) (place : ℕ) (n : Placed) → indexed_at ns place ≡ Some n → Contains ns n
+find_within [] place n e = absurd cc
+find_within (m ∷ ns) place n e = elim (cases_Bool (is_indexed m && eqb m.place place)) [
+  | inl here ↦ let same : m ≡ n = cc (sym (cond-true (is_indexed m && eqb m.place place) (Some m) (indexed_at ns place) here) ∙ e) in (0, omega arith, same)
+  | inr later ↦ further m ns n (find_within ns place n (sym (cond-false (is_indexed m && eqb m.place place) (Some m) (indexed_at ns place) later) ∙ e))
+]
+
+-- the places that the index has, as guards of the package
+pub record Kept (bytes : List ℕ) (place : ℕ) (places : List ℕ) : Type 0 where
+  pub guards : AllByRecursion (λ place. has_guard bytes place ≡ true) places
+  pub again : map (λ place. as_ancestor (node_in bytes place)) places ≡ guards_of_indexed (nodes_of bytes) place
+
+pub kept_some : (bytes : List ℕ) (place : ℕ) (places : List ℕ) → Spells bytes (tree_of bytes) → Some places ≡ guard_places (nodes_of bytes) place → Kept bytes place places
+kept_some bytes place places s e = go (indexed_at (nodes_of bytes) place) refl e
+  where
+    go : (o : Option Placed) → indexed_at (nodes_of bytes) place ≡ o → Some places ≡ option_map (λ n. places_of (guards n)) o → Kept bytes place places
+    go None is e = absurd cc
+    go (Some n) is e =
+        let all = path_is_of bytes n (find_within (nodes_of bytes) place n is) in
+        let same : places ≡ places_of (guards n) = cc in
+        record {
+          guards = subst (AllByRecursion (λ place. has_guard bytes place ≡ true)) (sym same) (are_guards bytes n.path s all);
+          again = ap (λ (l : List ℕ). map (λ place. as_ancestor (node_in bytes place)) l) same ∙ guards_again bytes n.path s all ∙ sym (ap (λ (o : Option Placed). or_none (option_map guards o)) is);
+        }
+
+pub kept_none : (bytes : List ℕ) (place : ℕ) → None ≡ guard_places (nodes_of bytes) place → guards_of_indexed (nodes_of bytes) place ≡ []
+kept_none bytes place e = go (indexed_at (nodes_of bytes) place) e
+  where
+    go : (o : Option Placed) → None ≡ option_map (λ n. places_of (guards n)) o → or_none (option_map guards o) ≡ []
+    go None e = refl
+    go (Some n) e = absurd cc
+
+-- ---- what is looked up at the place of a form or a statement
+
+and_false : (a b : Bool) → b ≡ false → a && b ≡ false
+and_false true b e = e
+and_false false b e = refl
+
+and_true : (a b : Bool) → a ≡ true → b ≡ true → a && b ≡ true
+and_true a b p q = rw (p, q) refl
+
+indexed_here : (ns : List Placed) (low high : ℕ) (n : Placed) (k : ℕ) → Within low high ns → k < length ns → get_or ns k n ≡ n → is_indexed n ≡ true → indexed_at ns n.place ≡ Some n
+indexed_here [] low high n k w lt e is = absurd (omega arith)
+indexed_here (m ∷ ns) low high n zero w lt e is =
+    let same : m ≡ n = e in
+    let here : is_indexed m && eqb m.place n.place ≡ true = and_true _ _ (ap is_indexed same ∙ is) (eq-eqb m.place n.place (ap (λ (p : Placed). p.place) same)) in
+    cond-true (is_indexed m && eqb m.place n.place) (Some m) (indexed_at ns n.place) here ∙ ap (λ (p : Placed). Some p) same
+indexed_here (m ∷ ns) low high n (suc k) w lt e is =
+    let later : m.place + 1 ≤ n.place = above ns (m.place + 1) high n k w.1 (omega arith) e in
+    let other : is_indexed m && eqb m.place n.place ≡ false = and_false (is_indexed m) _ (ne_eqb m.place n.place (λ same. omega arith)) in
+    cond-false (is_indexed m && eqb m.place n.place) (Some m) (indexed_at ns n.place) other ∙ indexed_here ns (m.place + 1) high n k w.1 (omega arith) e is
+
+pub own_guards : (bytes : List ℕ) (n : Placed) → Spells bytes (tree_of bytes) → Contains (nodes_of bytes) n → is_indexed n ≡ true → guards_of_indexed (nodes_of bytes) n.place ≡ guards n
+own_guards bytes n s c is =
+    ap (λ (o : Option Placed). or_none (option_map guards o))
+    (indexed_here (nodes_of bytes) 4 (4 + length (flat (tree_of bytes))) n c.0 (nodes_within (tree_of bytes) 4 [] s.are_nodes) c.1 c.2 is)
+
+-- ---- the statements of a form
+
+kept_first : (m : Placed) (xs ns : List Placed) (n : Placed) → (Contains xs n → Contains ns n) → Contains (m ∷ xs) n → Contains (m ∷ ns) n
+kept_first m xs ns n later (zero, lt, e) = (0, omega arith, e)
+kept_first m xs ns n later (suc k, lt, e) = further m ns n (later (k, omega arith, e))
+
+kept : (is : Placed → Bool) (ns : List Placed) (n : Placed) → Contains (filter is ns) n → Contains ns n
+kept is [] n (k, lt, e) = absurd (omega arith)
+kept is (m ∷ ns) n w = elim (cases_Bool (is m)) [
+  | inl holds ↦ kept_first m (filter is ns) ns n (kept is ns n) (subst (λ (l : List Placed). Contains l n) (cond-true (is m) (m ∷ filter is ns) (filter is ns) holds) w)
+  | inr fails ↦ further m ns n (kept is ns n (subst (λ (l : List Placed). Contains l n) (cond-false (is m) (m ∷ filter is ns) (filter is ns) fails) w))
+]
+
+pub statements_of : (bytes : List ℕ) (form : Placed) → Spells bytes (tree_of bytes) → IsNodeOf bytes form → AreNodesOf bytes (statements form)
+statements_of bytes form s is = λ i d lt.
+    let within = below_within (tree_of bytes) 4 [] form (get_or (statements form) i d) (contains_found (nodes_of bytes) form.place form is) (kept is_statement (below form) _ (Contains-get_or (statements form) i d lt)) in
+    is_found bytes (tree_of bytes) (get_or (statements form) i d) s within

@@ -1,0 +1,88 @@
+-- The first id that comes again has the least fault.
+use Rattle.std.proofs.Common.{◌≡◌, ℕ, zero, suc, ◌+◌, ◌<◌, ◌≤◌, Bool, true, false, Option, Some, None, List, [], ◌∷◌, ◌++◌, length, refl, sym, ap, ◌∙◌, arith, inl, inr, lit≤}
+use Rattle.std.specs.Prelude.{◌&&◌, not, ◌==◌, Contains, filter}
+use Rattle.std.specs.List.{list_any}
+use Rattle.std.proofs.Math.Bool.{and-false}
+use Rattle.std.proofs.lemmas.Bool.{cases_Bool, false≢true, true≢false}
+use Rattle.hii_bytes.specs.Cause.{number_of}
+use Rattle.hii_bytes.specs.Faults.{IsLeast, HasNone, AreAll, first_fault, Rise}
+use Rattle.hii_bytes.specs.declared.cause.Cause.{Cause}
+use Rattle.hii_bytes.specs.declared.cause.Cause.TheVariants.{DuplicateForm, DuplicateQuestion, NoForm}
+use Rattle.hii_bytes.specs.declared.cause.Fault.{Fault}
+use Rattle.hii_bytes.proofs.FirstFaultLemmas.{first_among, none_among}
+use Rattle.ifr_opcodes.specs.Fields.{question_id}
+use Rattle.ifr_opcodes.specs.Forest.{Forest, flat, Placed, nodes, AreNodes}
+use Rattle.ifr_scopes.specs.Nodes.{is_form, is_question}
+use Rattle.ifr_scopes.specs.References.{Ranked, ranked, repeats, repeat_causes, IsReferenceFault}
+use Rattle.ifr_scopes.specs.MetIds.{AreOf}
+use Rattle.ifr_scopes.specs.declared.references.MetIds.{MetIds}
+use Rattle.ifr_scopes.proofs.PlaceLemmas.{Within, nodes_within}
+
+abbrev place_of : Ranked → ℕ
+place_of r = r.node.place
+
+-- the first fault among nodes that have others before them
+abbrev pub first_repeat : List Placed → List Placed → Option Fault
+first_repeat before ns = first_fault place_of repeats repeat_causes (ranked before ns)
+
+-- Some nodes were met, and their ids are known: the first fault of all nodes is that of those which are left.
+pub record HasMet (all left : List Placed) (ids : MetIds) : Type 0 where
+  pub before : List Placed
+  pub known : AreOf before ids
+  pub same : first_repeat before left ≡ first_repeat [] all
+
+among : (r : Ranked) (d : Cause) → repeats r d ≡ true → Contains repeat_causes d
+among r DuplicateForm h = (0, omega arith, refl)
+among r DuplicateQuestion h = (1, omega arith, refl)
+among r _ h = absurd (false≢true h)
+
+all_causes : AreAll repeats repeat_causes
+all_causes = record { rise = (lit≤ tt, (lit≤ tt, tt)); all = among }
+
+rising : (before ns : List Placed) (low high : ℕ) → Within low high ns → Rise place_of low (ranked before ns)
+rising before [] low high w = tt
+rising before (n ∷ ns) low high w = (w.0, rising (before ++ n ∷ []) ns (n.place + 1) high w.1)
+
+above : (before ns : List Placed) (low high : ℕ) (r : Ranked) → Within low high ns → Contains (ranked before ns) r → low ≤ r.node.place
+above before [] low high r w (k, lt, e) = absurd (omega arith)
+above before (n ∷ ns) low high r w (zero, lt, e) = omega (arith, w.0, ap place_of e)
+above before (n ∷ ns) low high r w (suc k, lt, e) = omega (arith, w.0, above (before ++ n ∷ []) ns (n.place + 1) high r w.1 (k, omega arith, e))
+
+-- the first node repeats nothing
+first_repeats : (n : Placed) (d : Cause) → repeats (record { before = []; node = n }) d ≡ true → ⊥
+first_repeats n DuplicateForm h = false≢true (sym (and-false (is_form n)) ∙ h)
+first_repeats n DuplicateQuestion h = false≢true (sym (ap (λ (b : Bool). is_question n && b) (and-false (not (question_id n.op == 0))) ∙ and-false (is_question n)) ∙ h)
+first_repeats n _ h = false≢true h
+
+later : (ns : List Placed) (low high : ℕ) (r : Ranked) (d : Cause) → Within low high ns → Contains (ranked [] ns) r → repeats r d ≡ true → low < r.node.place
+later [] low high r d w (k, lt, e) h = absurd (omega arith)
+later (n ∷ ns) low high r d w (zero, lt, e) h = absurd (first_repeats n d (ap (λ (q : Ranked). repeats q d) e ∙ h))
+later (n ∷ ns) low high r d w (suc k, lt, e) h = omega (arith, w.0, above (n ∷ []) ns (n.place + 1) high r w.1 (k, omega arith, e))
+
+no_forms : (ns : List Placed) → list_any is_form ns ≡ false → filter is_form ns ≡ []
+no_forms [] e = refl
+no_forms (n ∷ ns) e = elim (cases_Bool (is_form n)) [ inl h ↦ absurd (true≢false (rw h at e)) | inr h ↦ rw h (no_forms ns (rw h at e)) ]
+
+some_form : (ns : List Placed) → list_any is_form ns ≡ true → filter is_form ns ≡ [] → ⊥
+some_form [] some e = false≢true some
+some_form (n ∷ ns) some e = elim (cases_Bool (is_form n)) [ inl h ↦ let filled = rw h at e in cc | inr h ↦ some_form ns (rw h at some) (rw h at e) ]
+
+pub no_form_is_least : (f : Forest) → AreNodes f → list_any is_form (nodes f) ≡ false → IsLeast (IsReferenceFault (nodes f)) (record { cause = NoForm; place = 4 })
+no_form_is_least f a e = record {
+  told = inl (no_forms (nodes f) e, refl, refl);
+  least = λ d p other. elim other [
+    | inl h ↦ inr (sym h.2, omega (arith, ap number_of h.1))
+    | inr h ↦ inl (omega (arith, h.2, later (nodes f) 4 (4 + length (flat f)) h.0 d (nodes_within f 4 [] a) h.1 h.3))
+  ];
+}
+
+pub refused_among : (f : Forest) (fault : Fault) → AreNodes f → list_any is_form (nodes f) ≡ true → first_repeat [] (nodes f) ≡ Some fault → IsLeast (IsReferenceFault (nodes f)) fault
+refused_among f fault a some e =
+    let l = first_among place_of repeats repeat_causes 4 (ranked [] (nodes f)) fault all_causes (rising [] (nodes f) 4 (4 + length (flat f)) (nodes_within f 4 [] a)) e in
+    record { told = inr l.told; least = λ d p other. elim other [ inl h ↦ absurd (some_form (nodes f) some h.0) | inr h ↦ l.least d p h ] }
+
+pub sound_among : (ns : List Placed) → list_any is_form ns ≡ true → first_repeat [] ns ≡ None → HasNone (IsReferenceFault ns)
+sound_among ns some e = λ d p other. elim other [
+  | inl h ↦ some_form ns some h.0
+  | inr h ↦ none_among place_of repeats repeat_causes (ranked [] ns) all_causes e d p h
+]

@@ -1,0 +1,20 @@
+use Rattle.std.proofs.Common.{List, map, sym, ap, ◌∙◌, subst}
+use Rattle.ifr_opcodes.specs.Forest.{Placed}
+use Rattle.ifr_scopes.specs.Checked.{IsChecked, AreAt, node_in}
+use Rattle.ifr_scopes.specs.Nodes.{nodes_of}
+use Rattle.ifr_scopes.specs.Visits.{left}
+use Rattle.ifr_scopes.proofs.ViewLemmas.{all_found, are_at}
+use Rattle.ifr_scopes.proofs.nodes.Nodes.over.Goals as goal
+
+pub invariant_of-result : goal.invariant_of-result
+invariant_of-result c =
+    let bytes = c.args.ifr.now in
+    record {
+      checked = subst IsChecked (sym c.over.ensures.kept) c.requires;
+      stand = subst (λ b. AreAt b (left c.over.result)) (sym c.over.ensures.kept) (subst (AreAt bytes) (sym c.over.ensures.nodes) (are_at bytes (nodes_of bytes) c.requires.spelled (λ n w. w)));
+    }
+
+pub returns-clause-all : goal.returns-clause-all
+returns-clause-all c =
+    let bytes = c.args.ifr.now in
+    ap (λ b. map (λ n. node_in b n.place) (left c.over.result)) c.over.ensures.kept ∙ ap (λ (l : List Placed). map (λ n. node_in bytes n.place) l) c.over.ensures.nodes ∙ all_found bytes (nodes_of bytes) c.requires.spelled (λ n w. w)

@@ -1,0 +1,24 @@
+-- Which guards cover a form or a statement, looked up by its place.
+use Rattle.std.specs.Prelude.{ℕ, Bool, ◌==◌, ◌&&◌, ◌||◌, Option, Some, None, option_map, List, []}
+use Rattle.std.specs.List.{find}
+use Rattle.ifr_opcodes.specs.Forest.{Ancestor, Placed}
+use Rattle.ifr_scopes.specs.Guards.{guards, places_of}
+use Rattle.ifr_scopes.specs.Nodes.{is_form, is_statement}
+
+abbrev pub is_indexed : Placed → Bool
+is_indexed n = is_form n || is_statement n
+
+-- the form or statement at a place
+abbrev pub indexed_at : List Placed → ℕ → Option Placed
+indexed_at ns place = find (λ n. is_indexed n && (n.place == place)) ns
+
+-- the guards of the form or statement at a place, the outermost first; none at any other place
+abbrev pub or_none : Option (List Ancestor) → List Ancestor
+or_none None = []
+or_none (Some its) = its
+
+abbrev pub guards_of_indexed : List Placed → ℕ → List Ancestor
+guards_of_indexed ns place = or_none (option_map guards (indexed_at ns place))
+
+abbrev pub guard_places : List Placed → ℕ → Option (List ℕ)
+guard_places ns place = option_map (λ n. places_of (guards n)) (indexed_at ns place)

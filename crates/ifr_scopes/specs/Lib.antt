@@ -1,0 +1,14 @@
+pub mod Framing
+pub mod Walking
+pub mod Visits
+pub mod Guards
+pub mod Nodes
+pub mod Table
+pub mod Structure
+pub mod References
+pub mod Checked
+pub mod Views
+pub mod Index
+pub mod Lists
+pub mod Accepted
+pub mod MetIds

@@ -1,0 +1,63 @@
+-- What the iterators over a package have before them.
+use Rattle.std.specs.Prelude.{ℕ, List, drop, filter, map}
+use Rattle.ifr_opcodes.specs.Forest.{Ancestor, Placed, as_ancestor}
+use Rattle.ifr_scopes.specs.Checked.{node_in}
+use Rattle.ifr_opcodes.specs.Opcode.{number}
+use Rattle.ifr_scopes.specs.Guards.{is_guard}
+use Rattle.ifr_scopes.specs.Nodes.{is_form, is_store, is_statement}
+use Rattle.ifr_scopes.specs.Views.{node_of, nodes_left}
+use Rattle.ifr_scopes.specs.declared.guard.Guard.{Guard}
+use Rattle.ifr_scopes.specs.declared.guard.GuardViews.{GuardViews}
+use Rattle.ifr_scopes.specs.declared.form_set.FormSet.{FormSet}
+use Rattle.ifr_scopes.specs.declared.varstore.Varstore.{Varstore}
+use Rattle.ifr_scopes.specs.declared.varstore.Varstores.{Varstores}
+use Rattle.ifr_scopes.specs.declared.guards_at.GuardsAt.{GuardsAt}
+use Rattle.ifr_scopes.specs.declared.guards_of.GuardsOf.{GuardsOf}
+use Rattle.ifr_scopes.specs.declared.form.Form.{Form}
+use Rattle.ifr_scopes.specs.declared.form.FormViews.{FormViews}
+use Rattle.ifr_scopes.specs.declared.statement.Statement.{Statement}
+use Rattle.ifr_scopes.specs.declared.statement.Statements.{Statements}
+
+-- a guard, a form and a statement as nodes
+abbrev pub guard_node : Guard → Ancestor
+guard_node guard = as_ancestor (node_of guard.node)
+
+abbrev pub form_node : Form → Placed
+form_node form = node_of form.node
+
+abbrev pub statement_node : Statement → Placed
+statement_node statement = node_of statement.node
+
+-- the bytes of the package of a form and of a statement
+abbrev pub form_package : Form → List ℕ
+form_package form = form.node.ifr.now
+
+abbrev pub statement_package : Statement → List ℕ
+statement_package statement = statement.node.ifr.now
+
+abbrev pub guards_left : GuardsAt → List Ancestor
+guards_left it = map (λ place. as_ancestor (node_in it.ifr.now place)) it.places.now
+
+abbrev pub guards_of_left : GuardsOf → List Ancestor
+guards_of_left it = map (λ place. as_ancestor (node_in it.ifr.now place)) (drop it.next it.places.items)
+
+abbrev pub forms_left : FormViews → List Placed
+forms_left it = filter is_form (nodes_left it.nodes)
+
+abbrev pub statements_left : Statements → List Placed
+statements_left it = filter is_statement (nodes_left it.nodes)
+
+abbrev pub form_set_node : FormSet → Placed
+form_set_node form_set = node_of form_set.node
+
+abbrev pub store_node : Varstore → Placed
+store_node store = node_of store.node
+
+abbrev pub guard_placed : Guard → Placed
+guard_placed guard = node_of guard.node
+
+abbrev pub stores_left : Varstores → List Placed
+stores_left it = filter is_store (nodes_left it.nodes)
+
+abbrev pub all_guards_left : GuardViews → List Placed
+all_guards_left it = filter (λ n. is_guard (number n.op)) (nodes_left it.nodes)

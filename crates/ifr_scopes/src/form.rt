@@ -1,0 +1,81 @@
+//! Forms.
+
+ghost use Rattle.std.specs.Prelude.{◌≡◌, true};
+ghost use Rattle.ifr_scopes.specs.Nodes.{is_form};
+ghost use Rattle.ifr_scopes.specs.Views.{node_of};
+
+use crate::guards_of::GuardsOf;
+use crate::node::Node;
+use crate::nodes::Nodes;
+use crate::statement::Statements;
+use ifr_opcodes::FormOp;
+
+/// A form (UEFI 2.8, 33.2.5.2 Forms).
+#[derive(Clone, Copy, Debug)]
+pub struct Form<'a> {
+    pub(crate) node: Node<'a>,
+    pub ghost form: { is_form (node_of node) ≡ true },
+}
+
+impl<'a> Form<'a> {
+    ghost use Rattle.ifr_opcodes.specs.Ops.{bytes_of};
+    ghost use Rattle.ifr_scopes.specs.Nodes.{statements};
+    ghost use Rattle.ifr_scopes.specs.Guards.{guards};
+    ghost use Rattle.ifr_scopes.specs.Lists.{guards_of_left, form_node, statements_left};
+
+    /// Its place, in bytes from the package's header.
+    pub fn place(self) -> u32
+        ensures { result ≡ (form_node self.entry).place }
+    {
+        self.node.op().place
+    }
+
+    /// Its guards, the outermost first, found by a walk from the package's start; `Forms::guards_at` looks them up.
+    pub fn guards(self) -> GuardsOf<'a>
+        ensures { guards_of_left result ≡ guards (form_node self.entry) }
+    {
+        GuardsOf::around(self.node.ifr, self.node.op.place)
+    }
+
+    /// Its opcode.
+    pub fn op(self) -> FormOp<'a>
+        ensures { bytes_of result.op ≡ (form_node self.entry).op }
+    {
+        self.node.form()
+    }
+
+    /// Its statements, by place.
+    pub fn statements(self) -> Statements<'a>
+        ensures { statements_left result ≡ statements (form_node self.entry) }
+    {
+        Statements {
+            nodes: Nodes::inside(self.node),
+        }
+    }
+}
+
+/// The forms that are left of a package, by place.
+#[derive(Drop)]
+pub struct FormViews<'a> {
+    pub(crate) nodes: Nodes<'a>,
+}
+
+impl<'a> Iterator for FormViews<'a> {
+    ghost use Rattle.std.specs.Iterator.{YieldsFirstBy, item_count};
+    ghost use Rattle.ifr_scopes.specs.Lists.{form_node, forms_left};
+
+    type Item = Form<'a>;
+
+    ghost next_gives = { YieldsFirstBy form_node forms_left };
+
+    ghost remaining = { item_count forms_left };
+
+    fn next(&mut self) -> Option<Form<'a>> {
+        while let Some(node) = self.nodes.step() {
+            if node.is_form() {
+                return Some(Form { node });
+            }
+        }
+        None
+    }
+}

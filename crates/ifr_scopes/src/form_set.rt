@@ -1,0 +1,34 @@
+//! The form set of a package.
+
+ghost use Rattle.std.specs.Prelude.{◌≡◌, true};
+ghost use Rattle.ifr_scopes.specs.Nodes.{is_form_set};
+ghost use Rattle.ifr_scopes.specs.Views.{node_of};
+
+use crate::node::Node;
+use ifr_opcodes::FormSetOp;
+
+/// The form set of a package (UEFI 2.8, 33.2.5.1 Form Sets).
+#[derive(Clone, Copy, Debug)]
+pub struct FormSet<'a> {
+    pub(crate) node: Node<'a>,
+    pub ghost form_set: { is_form_set (node_of node) ≡ true },
+}
+
+impl<'a> FormSet<'a> {
+    ghost use Rattle.ifr_opcodes.specs.Ops.{bytes_of};
+    ghost use Rattle.ifr_scopes.specs.Lists.{form_set_node};
+
+    /// Its place, in bytes from the package's header.
+    pub fn place(self) -> u32
+        ensures { result ≡ (form_set_node self.entry).place }
+    {
+        self.node.op().place
+    }
+
+    /// Its opcode.
+    pub fn op(self) -> FormSetOp<'a>
+        ensures { bytes_of result.op ≡ (form_set_node self.entry).op }
+    {
+        self.node.form_set()
+    }
+}

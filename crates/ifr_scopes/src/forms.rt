@@ -1,0 +1,150 @@
+//! A forms package that was read.
+
+ghost use Rattle.std.specs.Prelude.{◌≡◌, ◌∷◌, List, IfOk, IfErr, filter, map};
+ghost use Rattle.hii_bytes.specs.Faults.{Refuses};
+ghost use Rattle.ifr_opcodes.specs.Forest.{Placed, as_ancestor};
+ghost use Rattle.ifr_opcodes.specs.Opcode.{number};
+ghost use Rattle.ifr_scopes.specs.Accepted.{IsAccepted, IsPackageFault};
+ghost use Rattle.ifr_scopes.specs.Checked.{AreGuards, node_in};
+ghost use Rattle.ifr_scopes.specs.Guards.{is_guard};
+ghost use Rattle.ifr_scopes.specs.Index.{guards_of_indexed};
+ghost use Rattle.ifr_scopes.specs.Lists.{form_set_node, stores_left, all_guards_left, forms_left, statements_left, guards_left};
+ghost use Rattle.ifr_scopes.specs.Nodes.{nodes_of, is_form, is_store, is_statement};
+
+use crate::form::FormViews;
+use crate::form_set::FormSet;
+use crate::framing::check_framing;
+use crate::guard::GuardViews;
+use crate::guards_at::GuardsAt;
+use crate::index::{Index, index_of};
+use crate::nodes::Nodes;
+use crate::references::check_references;
+use crate::statement::Statements;
+use crate::structure::check_structure;
+use crate::varstore::Varstores;
+use hii_bytes::Fault;
+use hii_packages::Package;
+use ifr_expr::{Expr, Rules};
+use std::alloc::Global;
+use std::marker::Model;
+
+/// The form set of a forms package (UEFI 2.8, 33.2.5.1 Form Sets), seen as the package's bytes.
+#[derive(Drop)]
+pub struct Forms<'a> {
+    ifr: &'a [u8],
+    index: Index,
+}
+
+impl<'a> Model for Forms<'a> {
+    ghost use Rattle.std.specs.Prelude.{ℕ, List, ◌≡◌, option_map};
+    ghost use Rattle.std.specs.BTreeMap.{get};
+    ghost use Rattle.std.specs.Ordering.{nat_cmp};
+    ghost use Rattle.ifr_scopes.specs.Accepted.{IsAccepted};
+    ghost use Rattle.ifr_scopes.specs.Index.{guard_places};
+    ghost use Rattle.ifr_scopes.specs.Nodes.{nodes_of};
+
+    ghost Value = { List ℕ };
+
+    ghost view = { λ s. s.ifr.now };
+
+    ghost invariant = { λ s. IsAccepted s.ifr.now × ((place : ℕ) → option_map (λ v. v.items) (get nat_cmp s.index place) ≡ guard_places (nodes_of s.ifr.now) place) };
+}
+
+impl<'a> Forms<'a> {
+    /// The form set of a package, or the least fault: of the framing (20 to 23), of a node by itself (24 to 31), of nodes
+    /// among each other (32, 33, 39). Places are in bytes from the package's header. Want of memory is OutOfMemory.
+    pub fn read(alloc: Global, source: Package<'a>) -> Result<Forms<'a>, Fault>
+        ensures read { IfOk result (λ forms. forms ≡ source.entry.bytes.now) }
+        ensures accepted { IfOk result IsAccepted }
+        ensures refused { IfErr result (Refuses (IsPackageFault source.entry.bytes.now)) }
+    {
+        let ifr = source.bytes;
+        check_framing(ifr)?;
+        check_structure(ifr)?;
+        check_references(alloc, ifr)?;
+        match index_of(alloc, ifr) {
+            Ok(index) => Ok(Forms { ifr, index }),
+            Err(_) => Err(Fault::out_of_memory()),
+        }
+    }
+
+    /// The bytes of the package, which is accepted.
+    pub fn bytes(&self) -> &'a [u8]
+        ensures bytes { result.now ≡ self.now }
+        ensures accepted { IsAccepted self.now }
+    {
+        self.ifr
+    }
+
+    /// The form set, which is the first node.
+    pub fn formset(&self) -> FormSet<'a>
+        ensures { (rest : List Placed) × (nodes_of self.now ≡ form_set_node result ∷ rest) }
+    {
+        let node = Nodes::over(self.ifr).step().unwrap();
+        FormSet { node }
+    }
+
+    /// The stores, by place.
+    pub fn stores(&self) -> Varstores<'a>
+        ensures { stores_left result ≡ filter is_store (nodes_of self.now) }
+    {
+        Varstores {
+            nodes: Nodes::over(self.ifr),
+        }
+    }
+
+    /// All guards, by place.
+    pub fn guards(&self) -> GuardViews<'a>
+        ensures { all_guards_left result ≡ filter (λ n. is_guard (number n.op)) (nodes_of self.now) }
+    {
+        GuardViews {
+            nodes: Nodes::over(self.ifr),
+        }
+    }
+
+    /// The forms, by place.
+    pub fn forms(&self) -> FormViews<'a>
+        ensures { forms_left result ≡ filter is_form (nodes_of self.now) }
+    {
+        FormViews {
+            nodes: Nodes::over(self.ifr),
+        }
+    }
+
+    /// The statements of all forms, by place.
+    pub fn statements(&self) -> Statements<'a>
+        ensures { statements_left result ≡ filter is_statement (nodes_of self.now) }
+    {
+        Statements {
+            nodes: Nodes::over(self.ifr),
+        }
+    }
+
+    // The places of these guards.
+    fn guard_places(&self, place: u32) -> &[u32]
+        ensures guards { AreGuards self.now result.now }
+        ensures again { map (λ guard. as_ancestor (node_in self.now guard)) result.now ≡ guards_of_indexed (nodes_of self.now) place }
+    {
+        match self.index.get(&place) {
+            Some(places) => places.as_slice(),
+            None => &[],
+        }
+    }
+
+    /// The guards of the form or statement at a place, the outermost first; none at any other place.
+    pub fn guards_at(&self, place: u32) -> GuardsAt<'_, 'a>
+        ensures { guards_left result ≡ guards_of_indexed (nodes_of self.now) place }
+    {
+        GuardsAt {
+            ifr: self.ifr,
+            places: self.guard_places(place),
+        }
+    }
+}
+
+// RULE is not among the opcodes of an accepted package.
+impl<'a> Rules<'a> for Forms<'a> {
+    fn rule(&self, _id: u8, _place: u32) -> Option<Expr<'a>> {
+        None
+    }
+}

@@ -1,0 +1,75 @@
+//! Guards and their conditions.
+
+ghost use Rattle.std.specs.Prelude.{◌≡◌, true};
+ghost use Rattle.ifr_opcodes.specs.Opcode.{number};
+ghost use Rattle.ifr_scopes.specs.Guards.{is_guard};
+ghost use Rattle.ifr_scopes.specs.Views.{node_of};
+
+use crate::node::Node;
+use crate::nodes::Nodes;
+use crate::places::node_at;
+use ifr_expr::Expr;
+use ifr_opcodes::Op;
+
+/// A guard: what stands in its scope is hidden while its condition holds (UEFI 2.8, 33.3.8.3, EFI_IFR_SUPPRESS_IF).
+#[derive(Clone, Copy, Debug)]
+pub struct Guard<'a> {
+    pub(crate) node: Node<'a>,
+    pub ghost guards: { is_guard (number (node_of node).op) ≡ true },
+}
+
+impl<'a> Guard<'a> {
+    ghost use Rattle.ifr_opcodes.specs.Forest.{as_ancestor};
+    ghost use Rattle.ifr_opcodes.specs.Ops.{bytes_of};
+    ghost use Rattle.ifr_expr.specs.Trees.{tree_in};
+    ghost use Rattle.ifr_expr.specs.Expressions.{tree_of};
+
+    /// Its place, in bytes from the package's header.
+    pub fn place(self) -> u32
+        ensures { result ≡ (node_of self.entry.node).place }
+    {
+        self.node.op().place
+    }
+
+    /// Its opcode.
+    pub fn op(self) -> Op<'a>
+        ensures place { result.place ≡ (node_of self.entry.node).place }
+        ensures bytes { bytes_of result ≡ (node_of self.entry.node).op }
+    {
+        self.node.op()
+    }
+
+    /// Its condition: the expression with which its scope begins.
+    pub fn condition(self) -> Expr<'a>
+        ensures { tree_of result ≡ tree_in (node_of self.entry.node).children }
+    {
+        let place = self.node.op.place + self.node.op.len() as u32;
+        Expr::read(node_at(self.node.ifr, place).op()).unwrap()
+    }
+}
+
+/// The guards that are left of a package, by place.
+#[derive(Drop)]
+pub struct GuardViews<'a> {
+    pub(crate) nodes: Nodes<'a>,
+}
+
+impl<'a> Iterator for GuardViews<'a> {
+    ghost use Rattle.std.specs.Iterator.{YieldsFirstBy, item_count};
+    ghost use Rattle.ifr_scopes.specs.Lists.{guard_placed, all_guards_left};
+
+    type Item = Guard<'a>;
+
+    ghost next_gives = { YieldsFirstBy guard_placed all_guards_left };
+
+    ghost remaining = { item_count all_guards_left };
+
+    fn next(&mut self) -> Option<Guard<'a>> {
+        while let Some(node) = self.nodes.step() {
+            if node.is_guard() {
+                return Some(Guard { node });
+            }
+        }
+        None
+    }
+}

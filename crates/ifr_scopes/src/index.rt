@@ -1,0 +1,40 @@
+//! The guards of forms and statements, by place.
+
+ghost use Rattle.std.specs.Prelude.{◌≡◌, ◌||◌, ◌==◌, ℕ, option_map, IfOk};
+ghost use Rattle.std.specs.BTreeMap.{get};
+ghost use Rattle.std.specs.Ordering.{nat_cmp};
+ghost use Rattle.ifr_opcodes.specs.declared.codes.TheConstants as codes;
+ghost use Rattle.ifr_scopes.specs.Checked.{IsChecked};
+ghost use Rattle.ifr_scopes.specs.Index.{guard_places};
+ghost use Rattle.ifr_scopes.specs.Nodes.{nodes_of};
+
+use crate::walk::Walk;
+use ifr_opcodes::{CHECKBOX, FORM};
+use smallvec::SmallVec;
+use std::alloc::{AllocError, Global};
+use std::collections::BTreeMap;
+
+/// The places of the guards of each form and statement, the outermost first.
+pub(crate) type Index = BTreeMap<u32, SmallVec<u32, 4>>;
+
+fn is_indexed(code: u8) -> bool
+    ensures { result ≡ (code == codes.FORM || code == codes.CHECKBOX) }
+{
+    code == FORM || code == CHECKBOX
+}
+
+/// The index of a checked package.
+pub(crate) fn index_of(alloc: Global, ifr: &[u8]) -> Result<Index, AllocError>
+    requires { IsChecked ifr.now }
+    ensures { IfOk result (λ index. (place : ℕ) → option_map (λ v. v.items) (get nat_cmp index place) ≡ guard_places (nodes_of ifr.now) place) }
+{
+    let mut index = BTreeMap::new(alloc);
+    let mut walk = Walk::over(ifr);
+    while let Some(visit) = walk.step() {
+        if is_indexed(visit.op.code) {
+            let guards = SmallVec::from_slice(alloc, walk.guards(&visit).as_slice())?;
+            index.insert(visit.op.place, guards)?;
+        }
+    }
+    Ok(index)
+}

@@ -1,0 +1,98 @@
+//! Laws of the definitions that the contracts cite.
+
+ghost use Rattle.std.specs.Prelude.{◌≡◌, ℕ, ◌+◌, ◌≤◌, ◌<◌, ◌^◌, Some, List, ◌++◌, length, slice_index, drop, Contains};
+ghost use Rattle.hii_bytes.specs.Faults.{HasNone};
+ghost use Rattle.hii_bytes.specs.declared.cause.Cause.{Cause};
+ghost use Rattle.ifr_opcodes.specs.Forest.{Forest, none, node, flat, AreNodes, Spells, Placed, nodes, node_at, places};
+ghost use Rattle.ifr_scopes.specs.Framing.{IsFramingFault};
+ghost use Rattle.ifr_scopes.specs.Checked.{AreNodesOf, IsNodeOf};
+ghost use Rattle.ifr_scopes.specs.Guards.{guards};
+ghost use Rattle.ifr_scopes.specs.Index.{guards_of_indexed};
+ghost use Rattle.ifr_scopes.specs.Accepted.{IsAccepted};
+ghost use Rattle.ifr_scopes.specs.Lists.{form_node, form_package, statement_node, statement_package};
+ghost use Rattle.ifr_scopes.specs.Nodes.{nodes_of, statements};
+ghost use Rattle.ifr_scopes.specs.declared.form.Form.{Form};
+ghost use Rattle.ifr_scopes.specs.declared.statement.Statement.{Statement};
+
+use crate::framing::check_framing;
+
+/// A package spells one forest at most.
+pub fn one_forest_is_spelled()
+    ensures { (bytes : List ℕ) (f g : Forest) → Spells bytes f → Spells bytes g → f ≡ g }
+{}
+
+/// The places of the nodes of a package rise.
+pub fn places_rise()
+    ensures { (bytes : List ℕ) (f : Forest) (i j : ℕ) → Spells bytes f → i < j → j < length (nodes f)
+        → slice_index (places (nodes f)) i < slice_index (places (nodes f)) j }
+{}
+
+/// A node of a package is the one that is found at its place.
+pub fn a_node_is_found_at_its_place()
+    ensures { (bytes : List ℕ) (f : Forest) (n : Placed) → Spells bytes f → Contains (nodes f) n → node_at (nodes f) n.place ≡ Some n }
+{}
+
+/// The bytes at the place of a node are those of its opcode and of the nodes below it.
+pub fn a_node_stands_at_its_place()
+    ensures { (bytes : List ℕ) (f : Forest) (n : Placed) → Spells bytes f → Contains (nodes f) n →
+        (more : List ℕ) × (drop n.place bytes ≡ flat (node n.op n.children none) ++ more) × AreNodes (node n.op n.children none) }
+{}
+
+/// The framing of a package has one fault at most.
+pub fn one_framing_fault()
+    ensures { (bytes : List ℕ) (a b : Cause) (p q : ℕ) → IsFramingFault bytes a p → IsFramingFault bytes b q → (p ≡ q) × (a ≡ b) }
+{}
+
+/// The framing of a package that spells a forest has no fault.
+pub fn spelled_bytes_have_no_framing_fault()
+    ensures { (bytes : List ℕ) (f : Forest) → Spells bytes f → HasNone (IsFramingFault bytes) }
+{}
+
+/// A package whose framing has no fault spells a forest.
+pub fn bytes_without_framing_fault_are_spelled(bytes: &[u8])
+    requires header { 4 ≤ length bytes.now }
+    requires small { length bytes.now < 2 ^ 32 }
+    ensures { HasNone (IsFramingFault bytes.now) → (f : Forest) × Spells bytes.now f }
+{
+    match check_framing(bytes) {
+        Ok(()) => {}
+        Err(_fault) => {}
+    }
+}
+
+/// What is looked up at the place of a form of a package are its guards.
+pub fn guards_of_a_form_are_found()
+    ensures { (bytes : List ℕ) (form : Form) → IsAccepted bytes → IsNodeOf bytes (form_node form) →
+        guards_of_indexed (nodes_of bytes) (form_node form).place ≡ guards (form_node form) }
+{}
+
+/// What is looked up at the place of a statement of a package are its guards.
+pub fn guards_of_a_statement_are_found()
+    ensures { (bytes : List ℕ) (statement : Statement) → IsAccepted bytes → IsNodeOf bytes (statement_node statement) →
+        guards_of_indexed (nodes_of bytes) (statement_node statement).place ≡ guards (statement_node statement) }
+{}
+
+/// A form is one of its package's nodes.
+pub fn a_form_is_a_node()
+    ensures { (form : Form) → IsNodeOf (form_package form) (form_node form) }
+{}
+
+/// A statement is one of its package's nodes.
+pub fn a_statement_is_a_node()
+    ensures { (statement : Statement) → IsNodeOf (statement_package statement) (statement_node statement) }
+{}
+
+/// A node of an accepted package is the one at its place.
+pub fn a_node_is_that_of_its_place()
+    ensures { (bytes : List ℕ) (n : Placed) → IsAccepted bytes → Contains (nodes_of bytes) n → IsNodeOf bytes n }
+{}
+
+/// The statements of a form of a package are nodes of the package.
+pub fn statements_are_nodes()
+    ensures { (bytes : List ℕ) (form : Placed) → IsAccepted bytes → IsNodeOf bytes form → AreNodesOf bytes (statements form) }
+{}
+
+/// The statements of a form, and one more, are fewer than a package may have bytes.
+pub fn statements_are_few()
+    ensures { (form : Form) → 1 + length (statements (form_node form)) < 2 ^ 32 }
+{}

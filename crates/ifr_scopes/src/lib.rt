@@ -1,0 +1,36 @@
+//! The nodes of a forms package: its framing, and walks over them (UEFI 2.8, 33.3.8 Forms Package).
+#![tactic(auto)]
+
+mod form;
+mod form_set;
+mod forms;
+mod framing;
+mod guard;
+mod guards;
+mod guards_at;
+mod guards_of;
+mod index;
+pub mod laws;
+mod node;
+mod nodes;
+mod places;
+mod references;
+mod statement;
+mod structure;
+mod table;
+#[cfg(test)]
+mod tests;
+mod varstore;
+mod walk;
+
+pub use form::{Form, FormViews};
+pub use form_set::FormSet;
+pub use forms::Forms;
+pub use guard::{Guard, GuardViews};
+pub use guards_at::GuardsAt;
+pub use guards_of::GuardsOf;
+pub use node::Node;
+pub use nodes::Nodes;
+pub use statement::{Statement, Statements};
+pub use varstore::{Varstore, Varstores};
+pub use walk::{Visit, Walk};

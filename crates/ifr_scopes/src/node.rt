@@ -1,0 +1,119 @@
+//! One node of a checked package.
+
+ghost use Rattle.ifr_opcodes.specs.Opcode.{spelled};
+ghost use Rattle.ifr_scopes.specs.Checked.{IsChecked, IsChecked-prop, IsAt, IsAt-prop};
+
+use crate::guards::is_guard;
+use ifr_opcodes::{
+    CHECKBOX, FORM, FORM_SET, FormOp, FormSetOp, Op, QuestionOp, StatementOp, VARSTORE, VarstoreOp,
+};
+
+/// A node of a package whose nodes were checked.
+#[derive(Clone, Copy, Debug)]
+pub struct Node<'a> {
+    pub(crate) ifr: &'a [u8],
+    pub(crate) op: Op<'a>,
+    pub ghost checked: { IsChecked ifr.now } by { IsChecked-prop ifr.now },
+    pub ghost stands: { IsAt ifr.now op.place (spelled op.code op.scope op.body.now) } by { IsAt-prop ifr.now op.place (spelled op.code op.scope op.body.now) },
+}
+
+impl<'a> Node<'a> {
+    ghost use Rattle.std.specs.Prelude.{◌≡◌, ◌==◌, true};
+    ghost use Rattle.ifr_opcodes.specs.Ops.{bytes_of};
+    ghost use Rattle.ifr_opcodes.specs.Opcode.{number};
+    ghost use Rattle.ifr_scopes.specs.Guards.{is_guard as is_guard_number};
+    ghost use Rattle.ifr_scopes.specs.Nodes as nodes;
+    ghost use Rattle.ifr_scopes.specs.Views.{node_of};
+
+    /// Its opcode.
+    pub fn op(self) -> Op<'a>
+        ensures place { result.place ≡ (node_of self.entry).place }
+        ensures bytes { bytes_of result ≡ (node_of self.entry).op }
+    {
+        self.op
+    }
+
+    /// Whether it is the form set.
+    pub fn is_form_set(self) -> bool
+        ensures { result ≡ nodes.is_form_set (node_of self.entry) }
+    {
+        self.op.code == FORM_SET
+    }
+
+    pub fn is_form(self) -> bool
+        ensures { result ≡ nodes.is_form (node_of self.entry) }
+    {
+        self.op.code == FORM
+    }
+
+    /// Whether it is a store.
+    pub fn is_store(self) -> bool
+        ensures { result ≡ nodes.is_store (node_of self.entry) }
+    {
+        self.op.code == VARSTORE
+    }
+
+    pub fn is_question(self) -> bool
+        ensures { result ≡ nodes.is_question (node_of self.entry) }
+    {
+        self.op.code == CHECKBOX
+    }
+
+    pub fn is_statement(self) -> bool
+        ensures { result ≡ nodes.is_statement (node_of self.entry) }
+    {
+        self.is_question()
+    }
+
+    /// Whether it is a guard: SUPPRESS_IF, GRAY_OUT_IF or DISABLE_IF.
+    pub fn is_guard(self) -> bool
+        ensures { result ≡ is_guard_number (number (node_of self.entry).op) }
+    {
+        is_guard(self.op.code)
+    }
+
+    /// The opcode of the form set.
+    pub fn form_set(self) -> FormSetOp<'a>
+        requires { nodes.is_form_set (node_of self) ≡ true }
+        ensures place { result.op.place ≡ (node_of self.entry).place }
+        ensures bytes { bytes_of result.op ≡ (node_of self.entry).op }
+    {
+        FormSetOp { op: self.op }
+    }
+
+    /// The opcode of a form.
+    pub fn form(self) -> FormOp<'a>
+        requires { nodes.is_form (node_of self) ≡ true }
+        ensures place { result.op.place ≡ (node_of self.entry).place }
+        ensures bytes { bytes_of result.op ≡ (node_of self.entry).op }
+    {
+        FormOp { op: self.op }
+    }
+
+    /// The opcode of a store.
+    pub fn store(self) -> VarstoreOp<'a>
+        requires { nodes.is_store (node_of self) ≡ true }
+        ensures place { result.op.place ≡ (node_of self.entry).place }
+        ensures bytes { bytes_of result.op ≡ (node_of self.entry).op }
+    {
+        VarstoreOp { op: self.op }
+    }
+
+    /// The opcode of a question, as far as all questions have the same.
+    pub fn question(self) -> QuestionOp<'a>
+        requires { nodes.is_question (node_of self) ≡ true }
+        ensures place { result.op.place ≡ (node_of self.entry).place }
+        ensures bytes { bytes_of result.op ≡ (node_of self.entry).op }
+    {
+        QuestionOp { op: self.op }
+    }
+
+    /// The opcode of a statement, as far as all statements have the same.
+    pub fn statement(self) -> StatementOp<'a>
+        requires { nodes.is_statement (node_of self) ≡ true }
+        ensures place { result.op.place ≡ (node_of self.entry).place }
+        ensures bytes { bytes_of result.op ≡ (node_of self.entry).op }
+    {
+        StatementOp { op: self.op }
+    }
+}

@@ -1,0 +1,105 @@
+-- What a run leaves, by how it ended.
+use Rattle.std.proofs.Common.{◌≡◌, ◌≢◌, ◌⊎◌, ℕ, List, Option, None, Some, IfSome, Result, Ok, Err, refl, ap, ◌∙◌, subst, inl, inr}
+use Rattle.std.proofs.lemmas.Option.{IfSome_then}
+use Rattle.std.specs.Io.KnownBytes.{Appends}
+use Rattle.hii_bytes.specs.declared.cause.Cause.TheVariants.{OutOfMemory}
+use Rattle.hii_bytes.specs.declared.cause.Fault.{Fault}
+use Rattle.hii_bytes.specs.Faults.{Refuses}
+use Rattle.hii_bytes.specs.Watching.{Pen}
+use Rattle.browser_core.specs.Opening.{IsOpenFault}
+use Rattle.hii_varstore.specs.Image.{image_of}
+use Rattle.browser_core.specs.State.{State}
+use Rattle.browser_core.specs.Run.{outcome_of, Finishes, BreaksOff, Overflows, Runs}
+use Rattle.browser_core.specs.declared.reply.RunFault.{RunFault}
+use Rattle.browser_core.specs.declared.reply.RunFault.TheVariants.{Read, Write}
+use Rattle.browser_core.specs.declared.reply.End.{End}
+use Rattle.browser_core.specs.declared.reply.End.TheVariants as end
+use Rattle.browser_core.proofs.RunLemmas.{finishes_known}
+use Rattle.setup_main.specs.declared.serve.Given.{Given}
+use Rattle.setup_main.specs.declared.serve.Ended.{Ended}
+use Rattle.setup_main.specs.declared.serve.Ended.TheVariants.{Done, Refused, ReadScript, WriteAnswers, WriteOut, NoMemory}
+use Rattle.setup_main.specs.Serving.{Starts, IsRefusedBy, RunsAll, IsRefused, ServesAll, Ends, Finished, Serves, IsTold}
+
+-- ---- a refused opening
+
+not_memory : (given : Given) (fault : Fault) → fault.cause ≢ OutOfMemory → Refuses (IsOpenFault given.list.now given.forms given.stores.now) fault → IsRefusedBy given fault
+not_memory given fault other (inl none) = absurd (other (ap (λ (f : Fault). f.cause) none))
+not_memory given fault other (inr least) = least
+
+-- the session was not opened, and why was told
+pub refused_serves : (given : Given) (before : Ends) (ended : Ended) (fault : Fault) (answered : Pen) → Refuses (IsOpenFault given.list.now given.forms given.stores.now) fault
+    → IsTold fault before.answers ended answered → Serves given before ended record { script = before.script; answers = answered; out = before.out }
+refused_serves given before Done fault answered why told = absurd told
+refused_serves given before Refused fault answered why told = (
+  refl,
+  inl (record { fault = fault; least = not_memory given fault told.0 why; text = told.1 }),
+)
+refused_serves given before ReadScript fault answered why told = absurd told
+refused_serves given before WriteAnswers fault answered why told = (
+  refl,
+  inl (elim told.0 [
+    | inl line ↦ record {
+      text = _;
+      line = inl (fault, not_memory given fault line.0 why, refl);
+      writes = line.1;
+      broken = told.1;
+    }
+    | inr line ↦ record { text = _; line = inr refl; writes = line; broken = told.1 }
+  ]),
+)
+refused_serves given before WriteOut fault answered why told = absurd told
+refused_serves given before NoMemory fault answered why told = (refl, told.1)
+
+-- ---- what a script left, by how it ended
+
+pub finishes_at : (start now : State) (pen new : Pen) (reader left : Option (List ℕ)) (result : Result End RunFault) (ended wanted : End)
+    → result ≡ Ok ended → ended ≡ wanted → Runs start pen reader result now new left → Finishes start pen reader wanted now new left
+finishes_at start now pen new reader left result ended wanted is same runs = subst (λ r. Runs start pen reader r now new left) (is ∙ ap Ok same) runs
+
+pub breaks_at : (start now : State) (pen new : Pen) (reader left : Option (List ℕ)) (result : Result End RunFault) (fault : RunFault)
+    → result ≡ Err fault → fault ≡ Read → Runs start pen reader result now new left → BreaksOff start pen reader now new left
+breaks_at start now pen new reader left result fault is same runs = subst (λ r. Runs start pen reader r now new left) (is ∙ ap Err same) runs
+
+pub overflows_at : (start now : State) (pen new : Pen) (reader left : Option (List ℕ)) (result : Result End RunFault) (fault : RunFault)
+    → result ≡ Err fault → fault ≡ Write → Runs start pen reader result now new left → Overflows start pen reader now new left
+overflows_at start now pen new reader left result fault is same runs = subst (λ r. Runs start pen reader r now new left) (is ∙ ap Err same) runs
+
+-- ---- a known script
+
+runs_all : (given : Given) (start now : State) (ended : End) (answers answered : Pen) (reader left : Option (List ℕ)) → Starts given start
+    → Finishes start answers reader ended now answered left
+    → IfSome reader (λ script. (run : RunsAll given script ended answers answered) × (now ≡ (outcome_of run.start script).state))
+runs_all given start now ended answers answered None left starts finishes = tt
+runs_all given start now ended answers answered (Some script) left starts finishes =
+    let known = finishes_known start now answers answered ended (Some script) left finishes in
+    (record { start = start; starts = starts; ends = known.0; text = known.2 }, known.1)
+
+of_finished : (given : Given) (before after : Ends) (ended : End) (run : Finished given before ended after)
+    → IfSome before.script (λ script. (all : RunsAll given script ended before.answers after.answers) × (run.now ≡ (outcome_of all.start script).state))
+of_finished given before after ended run = runs_all given run.start run.now ended before.answers after.answers before.script after.script run.starts run.finishes
+
+always : (script : Option (List ℕ)) (P : List ℕ → Type 0) → ((bytes : List ℕ) → P bytes) → IfSome script P
+always None P each = tt
+always (Some bytes) P each = each bytes
+
+pub done_known : (given : Given) (before after : Ends) (run : Finished given before end.Done after)
+    → Appends before.out.known after.out.known (image_of run.now.committed)
+    → IfSome before.script (λ script. ServesAll given script before.answers before.out Done after.answers after.out)
+done_known given before after run image = IfSome_then before.script (of_finished given before after end.Done run)
+    (λ script all. (all.0, subst (λ (s : State). Appends before.out.known after.out.known (image_of s.committed)) all.1 image))
+
+pub refused_known : (given : Given) (before after : Ends) → after.out ≡ before.out → IsRefused given before.answers after.answers ⊎ Finished given before end.TooLong after
+    → IfSome before.script (λ script. ServesAll given script before.answers before.out Refused after.answers after.out)
+refused_known given before after untouched (inl refused) = always before.script _ (λ script. (untouched, inl refused))
+refused_known given before after untouched (inr run) =
+    IfSome_then before.script (of_finished given before after end.TooLong run) (λ script all. (untouched, inr all.0))
+
+-- where the script's bytes are known, a run is that of all of them
+pub serves_known : (given : Given) (before after : Ends) (ended : Ended) → Serves given before ended after
+    → IfSome before.script (λ script. ServesAll given script before.answers before.out ended after.answers after.out)
+serves_known given before after Done h = done_known given before after h.0 h.1
+serves_known given before after Refused h = refused_known given before after h.0 h.1
+serves_known given before after ReadScript h = always before.script _ (λ script. tt)
+serves_known given before after WriteAnswers h = always before.script _ (λ script. tt)
+serves_known given before after WriteOut h = always before.script _ (λ script. tt)
+serves_known given before after NoMemory h = always before.script _ (λ script. h)

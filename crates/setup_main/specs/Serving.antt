@@ -1,0 +1,100 @@
+-- What a run of the program leaves, by how it ended (own rule).
+use Rattle.std.specs.Prelude.{◌≡◌, ◌≢◌, ◌⊎◌, ℕ, true, List, Option}
+use Rattle.std.specs.Io.KnownBytes.{Appends}
+use Rattle.hii_bytes.specs.declared.cause.Cause.TheVariants.{OutOfMemory}
+use Rattle.hii_bytes.specs.declared.cause.Fault.{Fault}
+use Rattle.hii_bytes.specs.declared.writing.WriteFault.{WriteFault}
+use Rattle.hii_bytes.specs.Faults.{IsLeast}
+use Rattle.hii_bytes.specs.Watching.{Pen, Writes, StopsWithin}
+use Rattle.hii_varstore.specs.Image.{image_of}
+use Rattle.browser_core.specs.State.{State}
+use Rattle.browser_core.specs.Opening.{Opens, IsOpenFault}
+use Rattle.browser_core.specs.Run.{outcome_of, Finishes, BreaksOff, Overflows}
+use Rattle.browser_core.specs.Texts.{refused_text, fault_text}
+use Rattle.browser_core.specs.declared.reply.End.{End}
+use Rattle.browser_core.specs.declared.reply.End.TheVariants as end
+use Rattle.setup_main.specs.declared.serve.Given.{Given}
+use Rattle.setup_main.specs.declared.serve.Ended.{Ended}
+use Rattle.setup_main.specs.declared.serve.Ended.TheVariants.{Done, Refused, ReadScript, WriteAnswers, WriteOut, NoMemory}
+
+-- the state with which a session over what is given begins
+abbrev pub Starts : Given → State → Type 0
+Starts given start = Opens given.list.now given.forms given.stores.now start
+
+-- the least fault of what is given
+abbrev pub IsRefusedBy : Given → Fault → Type 0
+IsRefusedBy given fault = IsLeast (IsOpenFault given.list.now given.forms given.stores.now) fault
+
+-- ---- a script of known bytes
+
+-- A session over what is given runs this script to an end, and its answers are written.
+pub record RunsAll (given : Given) (script : List ℕ) (end : End) (answers answered : Pen) : Type 0 where
+  pub start : State
+  pub starts : Starts given start
+  pub ends : end ≡ (outcome_of start script).end
+  pub text : Appends answers.known answered.known (outcome_of start script).text
+
+-- What is given is refused, and its least fault is told.
+pub record IsRefused (given : Given) (answers answered : Pen) : Type 0 where
+  pub fault : Fault
+  pub least : IsRefusedBy given fault
+  pub text : Appends answers.known answered.known (fault_text fault)
+
+-- What stands in the answers and in the image where no reader or writer fails. The image is that of the stores that were
+-- last submitted, and is written only after a whole script.
+abbrev pub ServesAll : Given → List ℕ → Pen → Pen → Ended → Pen → Pen → Type 0
+ServesAll given script answers out Done answered written =
+    (run : RunsAll given script end.Done answers answered) × Appends out.known written.known (image_of (outcome_of run.start script).state.committed)
+ServesAll given script answers out Refused answered written =
+    (written ≡ out) × (IsRefused given answers answered ⊎ RunsAll given script end.TooLong answers answered)
+ServesAll given script answers out NoMemory answered written =
+    (written ≡ out) × Appends answers.known answered.known (refused_text OutOfMemory)
+ServesAll given script answers out _ answered written = Unit {0}
+
+-- ---- any reader and writers
+
+-- what a run meets: the bytes that the script has, where they are known, the answers and the image
+pub record Ends : Type 0 where
+  pub script : Option (List ℕ)
+  pub answers : Pen
+  pub out : Pen
+
+-- A session over what is given runs the bytes that were read to an end, and its answers are written.
+pub record Finished (given : Given) (before : Ends) (end : End) (after : Ends) : Type 0 where
+  pub start : State
+  pub starts : Starts given start
+  pub now : State
+  pub finishes : Finishes start before.answers before.script end now after.answers after.script
+
+-- What is given is refused or finds no memory, and the answers fail at the line that tells it.
+pub record FailsAtOnce (given : Given) (before after : Ends) : Type 0 where
+  pub text : List ℕ
+  pub line : ((fault : Fault) × IsRefusedBy given fault × (text ≡ fault_text fault)) ⊎ (text ≡ refused_text OutOfMemory)
+  pub writes : Writes before.answers after.answers text
+  pub broken : after.answers.broken ≡ true
+
+abbrev pub Serves : Given → Ends → Ended → Ends → Type 0
+Serves given before Done after =
+    (run : Finished given before end.Done after) × Appends before.out.known after.out.known (image_of run.now.committed)
+Serves given before Refused after =
+    (after.out ≡ before.out) × (IsRefused given before.answers after.answers ⊎ Finished given before end.TooLong after)
+Serves given before ReadScript after =
+    (after.out ≡ before.out) × (start now : State) × Starts given start × BreaksOff start before.answers before.script now after.answers after.script
+Serves given before WriteAnswers after =
+    (after.out ≡ before.out)
+    × (FailsAtOnce given before after
+    ⊎ ((start now : State) × Starts given start × Overflows start before.answers before.script now after.answers after.script))
+Serves given before WriteOut after =
+    (run : Finished given before end.Done after) × (fault : WriteFault) × StopsWithin before.out after.out fault (image_of run.now.committed)
+Serves given before NoMemory after =
+    (after.out ≡ before.out) × Appends before.answers.known after.answers.known (refused_text OutOfMemory)
+
+-- ---- a fault alone
+
+-- A fault is told: want of memory without a place, any other at its place.
+abbrev pub IsTold : Fault → Pen → Ended → Pen → Type 0
+IsTold fault old Refused new = (fault.cause ≢ OutOfMemory) × Appends old.known new.known (fault_text fault)
+IsTold fault old NoMemory new = (fault.cause ≡ OutOfMemory) × Appends old.known new.known (refused_text OutOfMemory)
+IsTold fault old WriteAnswers new =
+    (((fault.cause ≢ OutOfMemory) × Writes old new (fault_text fault)) ⊎ Writes old new (refused_text OutOfMemory)) × (new.broken ≡ true)
+IsTold fault old _ new = ⊥

@@ -1,0 +1,46 @@
+//! Files of a limited length.
+
+ghost use Rattle.std.specs.Prelude.{◌≡◌, ◌≤◌, ◌<◌, IfSome, IfOk, length, MatchResult};
+
+use hii_bytes::Watched;
+use std::alloc::Global;
+use std::io::Read;
+
+/// Why a file was not read.
+#[derive(Clone, Copy, Debug, PartialEq, Eq)]
+pub enum ReadError {
+    /// It has more bytes than the limit.
+    TooLong,
+    /// A growth was refused.
+    NoMemory,
+    /// A read was a fault.
+    Fault,
+}
+
+/// The most bytes that a file may have.
+pub const FILE_LIMIT: u64 = 16_777_216;
+
+/// All bytes that the reader has, up to the limit.
+pub fn read_whole<R: Read>(alloc: Global, reader: &mut R) -> Result<Vec<u8>, ReadError>
+    ensures whole { IfSome (R.remaining reader.old) (λ all. MatchResult result
+        (λ bytes. (bytes.items ≡ all) × (length all ≤ FILE_LIMIT)) (λ e. e ≡ ReadError.TooLong → FILE_LIMIT < length all)) }
+    ensures limit { IfOk result (λ bytes. length bytes.items ≤ FILE_LIMIT) }
+{
+    let mut reader = Watched::new(reader);
+    let mut bytes = Vec::new(alloc);
+    let read = (&mut reader).take(FILE_LIMIT + 1).read_to_end(&mut bytes);
+    match read {
+        Ok(_) => {
+            if bytes.len() as u64 > FILE_LIMIT {
+                Err(ReadError::TooLong)
+            } else {
+                Ok(bytes)
+            }
+        }
+        Err(_) => Err(if reader.failed() {
+            ReadError::Fault
+        } else {
+            ReadError::NoMemory
+        }),
+    }
+}

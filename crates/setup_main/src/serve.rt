@@ -1,0 +1,119 @@
+//! A session over files that are read, apart from the system.
+
+ghost use Rattle.std.specs.Prelude.{◌≡◌, IfSome, true};
+ghost use Rattle.hii_bytes.specs.Watching.{pen_of, inner_of, has_failed};
+ghost use Rattle.setup_main.specs.Serving.{Serves, ServesAll, IsTold};
+
+use browser_core::{End, RunFault, Session, put_refusal, put_refusal_at};
+use hii_bytes::{Cause, Fault, Watched};
+use std::alloc::Global;
+use std::io::{Read, Write};
+
+/// What a run begins with.
+#[derive(Clone, Copy)]
+pub struct Given<'a> {
+    /// The bytes of the package list.
+    pub list: &'a [u8],
+    /// Which forms package is opened, counted from 1.
+    pub forms: usize,
+    /// The image of the stores.
+    pub stores: &'a [u8],
+    /// The language of the texts.
+    pub lang: &'a [u8],
+}
+
+/// How a run ended.
+#[derive(Clone, Copy, Debug, PartialEq, Eq)]
+pub enum Ended {
+    /// The script was run, and the image of its last submitted stores is written.
+    Done,
+    /// The bytes were refused, or the script is too long.
+    Refused,
+    /// The script could not be read.
+    ReadScript,
+    /// An answer could not be written.
+    WriteAnswers,
+    /// The image could not be written.
+    WriteOut,
+    /// A growth was refused.
+    NoMemory,
+}
+
+/// Opens the session, runs the script, and writes the image that it leaves. What refuses the bytes is told as an answer.
+pub fn serve<R: Read, A: Write, O: Write>(
+    alloc: Global,
+    given: Given<'_>,
+    script: &mut R,
+    answers: &mut A,
+    out: &mut O,
+) -> Ended {
+    serve_watched(
+        alloc,
+        given,
+        &mut Watched::new(script),
+        &mut Watched::new(answers),
+        &mut Watched::new(out),
+    )
+}
+
+/// The same, over readers and writers that are watched.
+pub fn serve_watched<R: Read, A: Write, O: Write>(
+    alloc: Global,
+    given: Given<'_>,
+    script: &mut Watched<R>,
+    answers: &mut Watched<A>,
+    out: &mut Watched<O>,
+) -> Ended
+    // Where the script's bytes are known.
+    ensures whole { IfSome (R.remaining (inner_of script.old)) (λ bytes. ServesAll given.entry bytes
+        (pen_of A.contents answers.old) (pen_of O.contents out.old) result (pen_of A.contents answers.new) (pen_of O.contents out.new)) }
+    // At any reader and writers, and at their faults.
+    ensures serves { Serves given.entry
+        record { script = R.remaining (inner_of script.old); answers = pen_of A.contents answers.old; out = pen_of O.contents out.old } result
+        record { script = R.remaining (inner_of script.new); answers = pen_of A.contents answers.new; out = pen_of O.contents out.new } }
+    ensures reads { result ≡ Ended.ReadScript → has_failed script.new ≡ true }
+    ensures answers { result ≡ Ended.WriteAnswers → has_failed answers.new ≡ true }
+    ensures writes { result ≡ Ended.WriteOut → has_failed out.new ≡ true }
+{
+    let mut session = match Session::open(
+        alloc,
+        given.list,
+        given.forms,
+        given.stores,
+        given.lang,
+    ) {
+        Ok(session) => session,
+        Err(fault) => return refuse(fault, answers),
+    };
+    let ran = session.run_script(script, answers);
+    match ran {
+        Ok(End::Done) => match session.committed().image_into(out) {
+            Ok(()) => Ended::Done,
+            Err(_) => Ended::WriteOut,
+        },
+        Ok(End::TooLong) => Ended::Refused,
+        Err(RunFault::Read) => Ended::ReadScript,
+        Err(RunFault::Write) => Ended::WriteAnswers,
+    }
+}
+
+// Tells why no session was opened.
+fn refuse<A: Write>(fault: Fault, answers: &mut Watched<A>) -> Ended
+    ensures { IsTold fault (pen_of A.contents answers.old) result (pen_of A.contents answers.new) }
+{
+    if fault.cause == Cause::OutOfMemory {
+        put_refusal(Cause::OutOfMemory, answers);
+        if answers.failed() {
+            Ended::WriteAnswers
+        } else {
+            Ended::NoMemory
+        }
+    } else {
+        put_refusal_at(fault, answers);
+        if answers.failed() {
+            Ended::WriteAnswers
+        } else {
+            Ended::Refused
+        }
+    }
+}
