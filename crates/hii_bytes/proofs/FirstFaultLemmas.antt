@@ -1,5 +1,5 @@
 -- The first of several things that has a fault has the least fault, where their places rise.
-use Rattle.std.proofs.Common.{◌≡◌, ◌⊎◌, ℕ, zero, suc, ◌+◌, ◌<◌, ◌≤◌, Bool, true, false, Option, Some, None, List, [], ◌∷◌, length, get_or, sym, ap, subst, ◌∙◌, arith, inl, inr}
+use Rattle.std.proofs.Common.{◌≡◌, ◌⊎◌, ℕ, zero, suc, ◌+◌, ◌<◌, ◌≤◌, Bool, true, false, Option, Some, None, List, [], ◌∷◌, sym, ap, subst, ◌∙◌, arith, inl, inr}
 use Rattle.std.specs.Prelude.{Contains}
 use Rattle.std.proofs.lemmas.Bool.{cond-true, cond-false, cases_Bool, false≢true}
 use Rattle.hii_bytes.specs.Cause.{number_of}
@@ -38,6 +38,7 @@ first_is_least has x low (b ∷ causes) c r e = elim (cases_Bool (has x b)) [
     least : (d : Cause) → Contains (b ∷ causes) d → number_of b ≤ number_of d
     least d (zero, lt, same) = omega (arith, ap number_of same)
     least d (suc k, lt, same) = omega (arith, above number_of (number_of b + 1) causes d r.1 (k, omega arith, same))
+
     behind : ((d : Cause) → Contains causes d → has x d ≡ true → number_of c ≤ number_of d) → (d : Cause) → Contains (b ∷ causes) d → has x d ≡ true → has x b ≡ false → number_of c ≤ number_of d
     behind later d (zero, lt, same) there not_first = absurd (false≢true (sym not_first ∙ ap (has x) same ∙ there))
     behind later d (suc k, lt, same) there not_first = later d (k, omega arith, same) there

@@ -113,4 +113,3 @@ impl<W: Write> Write for Watched<W> {
         self.inner.flush()
     }
 }
-

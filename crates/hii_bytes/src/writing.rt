@@ -77,7 +77,6 @@ impl<W: Write> Watched<W> {
         let mut bytes = [0u8; 4];
         self.put(c.encode_utf8(&mut bytes).as_bytes());
     }
-
 }
 
 fn hex_digit(digit: u8) -> u8

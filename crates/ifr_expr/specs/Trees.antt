@@ -2,7 +2,7 @@
 use Rattle.std.specs.Prelude.{ℕ, List, [], ◌∷◌}
 use Rattle.ifr_opcodes.specs.Forest.{Forest, none, node}
 use Rattle.ifr_opcodes.specs.Fields.{eq_id_val_question, eq_id_val_value}
-use Rattle.ifr_expr.specs.Values.{Value, undefined, is_number}
+use Rattle.ifr_expr.specs.Values.{Value, is_number}
 
 -- An operator with its operands. The one that is known, EQ_ID_VAL, has none.
 pub data Tree : Type 0 where

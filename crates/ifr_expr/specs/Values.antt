@@ -1,6 +1,6 @@
 -- The values of expressions and of questions (UEFI 2.8, 33.2.5.7 Expressions; that a text or a buffer does not hold, and
 -- that what cannot be compared is undefined, are own rules).
-use Rattle.std.specs.Prelude.{ℕ, Bool, true, false, ◌==◌, not, if◌then◌else◌, List}
+use Rattle.std.specs.Prelude.{ℕ, Bool, false, ◌==◌, not, if◌then◌else◌, List}
 
 pub data Value : Type 0 where
   undefined : Value

@@ -1,6 +1,4 @@
 -- What the values and expressions of the code stand for.
-use Rattle.ifr_opcodes.specs.Ops.{bytes_of}
-use Rattle.ifr_opcodes.specs.Views.{operator}
 use Rattle.ifr_expr.specs.Values as spec
 use Rattle.ifr_expr.specs.declared.value.Value.{Value}
 use Rattle.ifr_expr.specs.declared.value.Value.TheVariants.{Undefined, Boolean, Number, Text, Buffer}

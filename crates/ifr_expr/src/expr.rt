@@ -87,7 +87,12 @@ impl<'a> Expr<'a> {
 
     /// Its value, over what the questions answer, the rules and the id of the question in whose scope it stands, 0 for
     /// none.
-    pub fn value<A: Answers<'a>, R: Rules<'a>>(self, answers: &A, _rules: &R, _this: u16) -> Value<'a>
+    pub fn value<A: Answers<'a>, R: Rules<'a>>(
+        self,
+        answers: &A,
+        _rules: &R,
+        _this: u16,
+    ) -> Value<'a>
         ensures { value_of result ≡ value (A.answers answers.now) (tree_of self.entry) }
     {
         match self.op {

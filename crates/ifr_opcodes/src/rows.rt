@@ -5,8 +5,8 @@ ghost use Rattle.ifr_opcodes.specs.Fields.{least_length};
 ghost use Rattle.ifr_opcodes.specs.Ops.{bytes_of};
 
 use crate::codes::{CHECKBOX, EQ_ID_VAL, FORM, FORM_SET, VARSTORE};
-use crate::stores::before_nul;
 use crate::op::Op;
+use crate::stores::before_nul;
 
 /// How many bytes an opcode has at least: those of its fields and the two in front of them (UEFI 2.8, 33.3.8.3).
 pub fn least_len(op: Op) -> usize

@@ -1,4 +1,4 @@
-use Rattle.std.proofs.Common.{◌≡◌, ◌++◌, Option, Some, None, refl, sym, take-append-drop, drop, MatchOption, IsSome}
+use Rattle.std.proofs.Common.{Option, Some, None, refl, sym, take-append-drop, drop, MatchOption, IsSome}
 use Rattle.ifr_opcodes.specs.Opcode.{stated_length}
 use Rattle.ifr_expr.specs.Faults.{front}
 use Rattle.ifr_expr.proofs.expr.front_op.Goals as goal

@@ -1,4 +1,4 @@
-use Rattle.std.proofs.Common.{◌≡◌, ℕ, Result, Ok, Err, refl, sym, IfErr, IsOk, slice_range}
+use Rattle.std.proofs.Common.{ℕ, Result, Ok, Err, refl, sym, IfErr, IsOk, slice_range}
 use Rattle.ifr_expr.specs.Faults.{front, IsExpressionFault}
 use Rattle.hii_bytes.specs.Faults.{IsLeast, HasNone}
 use Rattle.hii_bytes.specs.declared.cause.Cause.{Cause}
