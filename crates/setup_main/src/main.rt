@@ -12,7 +12,7 @@ use clap::error::ErrorKind;
 use command_line::{Options, read_words};
 use hii_bytes::{Cause, Watched};
 use read_whole::ReadError;
-use serve::{Ended, Given};
+use serve::{Ended, Given, serve_watched};
 use std::fmt::Display;
 use std::io::{Read, Write};
 use std::process::ExitCode;
@@ -107,17 +107,17 @@ fn run<R: Files + Input + Print + Eprint + AllocGlobal>(rt: &R, options: Options
         stores: stores.as_slice(),
         lang: options.lang.as_bytes(),
     };
-    let mut out = OutFile {
+    let out = OutFile {
         rt,
         path: options.out,
         file: None,
     };
-    let ended = serve::serve(
+    let ended = serve_watched(
         rt.alloc(),
         given,
-        &mut rt.reader(),
-        &mut io::writer(rt),
-        &mut out,
+        &mut Watched::new(rt.reader()),
+        &mut Watched::new(io::writer(rt)),
+        &mut Watched::new(out),
     );
     match ended {
         Ended::Done => 0,
