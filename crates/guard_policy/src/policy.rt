@@ -25,7 +25,7 @@ use ifr_scopes::{Form, Forms, Guard, GuardsAt, Statement};
 fn suppresses<'a, A: Answers<'a>>(guard: Guard<'a>, answers: &A, forms: &Forms<'a>) -> bool
     ensures { result ≡ spec.suppresses (A.answers answers.now) (guard_node guard.entry) }
 {
-    guard.op().code == SUPPRESS_IF && guard.condition().holds(answers, forms, 0)
+    guard.op().code == SUPPRESS_IF && guard.condition().holds(answers, forms, guard.this())
 }
 
 // The first of these guards that suppresses.

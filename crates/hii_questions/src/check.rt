@@ -37,10 +37,7 @@ pub(crate) fn check_fields(forms: &Forms<'_>, layout: &Layout<'_>) -> Result<(),
     for statement in forms.statements() {
         let question = Question { statement };
         if let Some(cause) = fault_of(question, layout) {
-            return Err(Fault {
-                cause,
-                place: u64::from(question.place()),
-            });
+            return Err(question.op().op.fault(cause));
         }
     }
     Ok(())

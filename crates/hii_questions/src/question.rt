@@ -47,7 +47,8 @@ impl<'a> Question<'a> {
 
     /// Its opcode.
     pub fn op(self) -> QuestionOp<'a>
-        ensures { bytes_of result.op ≡ (question_node self.entry).op }
+        ensures place { result.op.place ≡ (question_node self.entry).place }
+        ensures bytes { bytes_of result.op ≡ (question_node self.entry).op }
     {
         self.statement.question()
     }

@@ -9,7 +9,7 @@ ghost use Rattle.hii_varstore.specs.StoreNodes.{declared_buffer, is_taken, IsRep
 ghost use Rattle.hii_varstore.specs.Table.{AreBuffers};
 
 use crate::buffer::Buffer;
-use crate::fault::{fault_at, no_memory};
+use crate::fault::no_memory;
 use hii_bytes::{Cause, Fault};
 use ifr_scopes::Varstores;
 use std::alloc::{AllocError, Global};
@@ -37,13 +37,14 @@ pub(crate) fn read_buffers(alloc: Global, stores: Varstores<'_>) -> Result<Vec<B
     let mut ids = BTreeSet::new(alloc);
     let mut buffers = Vec::new(alloc);
     for store in stores {
-        let id = store.op().id();
+        let op = store.op();
+        let id = op.id();
         match meets_again(&mut ids, id) {
             Ok(false) => {}
-            Ok(true) => return fault_at(Cause::DuplicateVarstore, store.place() as usize),
+            Ok(true) => return Err(op.op.fault(Cause::DuplicateVarstore)),
             Err(AllocError) => return no_memory(),
         }
-        let size = store.op().size();
+        let size = op.size();
         if buffers.push(Buffer { id, size }).is_err() {
             return no_memory();
         }

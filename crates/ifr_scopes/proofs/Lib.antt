@@ -12,3 +12,4 @@ pub mod IndexLemmas
 pub mod PathLemmas
 pub mod ReferenceLemmas
 pub mod AroundLemmas
+pub mod ScopeLemmas

@@ -3,14 +3,16 @@ use Rattle.std.proofs.Common.{◌≡◌, ℕ, zero, suc, ◌+◌, ◌<◌, ◌�
 use Rattle.std.specs.Prelude.{Contains, ◌&&◌, filter, option_map}
 use Rattle.std.specs.List.{AllByRecursion}
 use Rattle.std.proofs.lemmas.Bool.{cases_Bool, eq-eqb, ne_eqb, cond-true, cond-false}
-use Rattle.std.proofs.lemmas.List.Elements.{Contains-get_or, Contains-append_cases, Contains-append_left, Contains-append_right}
+use Rattle.std.proofs.lemmas.List.Elements.{All-from_recursion, Contains-get_or, Contains-append_cases, Contains-append_left, Contains-append_right}
 use Rattle.ifr_opcodes.specs.Opcode.{number}
 use Rattle.ifr_opcodes.specs.Forest.{Forest, none, node, flat, Ancestor, Placed, as_ancestor, nodes_at, below, Spells}
 use Rattle.ifr_opcodes.specs.Reading.{tree_of}
-use Rattle.ifr_scopes.specs.Guards.{is_guard, guards, places_of}
-use Rattle.ifr_scopes.specs.Index.{is_indexed, indexed_at, guard_places, or_none, guards_of_indexed}
+use Rattle.ifr_scopes.specs.Guards.{is_guard, guards, guards_among}
+use Rattle.ifr_scopes.specs.Index.{is_indexed, indexed_at, or_none, guards_of_indexed}
+use Rattle.ifr_scopes.specs.Kept.{IsKept, AreKept, kept_guard, kept_guards, kept_at}
 use Rattle.ifr_scopes.specs.Nodes.{nodes_of, is_statement, statements}
 use Rattle.ifr_scopes.specs.Checked.{IsAt, IsNodeOf, AreNodesOf, node_in, has_guard}
+use Rattle.ifr_scopes.specs.declared.guard_place.GuardPlace.{GuardPlace}
 use Rattle.ifr_scopes.proofs.ViewLemmas.{is_at, node_in_place, further, below_within, contains_found}
 use Rattle.ifr_scopes.proofs.PlaceLemmas.{Within, above, is_found, nodes_within}
 
@@ -51,21 +53,34 @@ is_there bytes a s (m, within, is) guards =
     let at : IsAt bytes a.place a.op = subst (λ (b : Ancestor). IsAt bytes b.place b.op) is (is_at bytes m s within) in
     rw (at.there, at.opcode) guards
 
-pub are_guards : (bytes : List ℕ) (path : List Ancestor) → Spells bytes (tree_of bytes) → AllByRecursion (IsOf (nodes_of bytes)) path
-    → AllByRecursion (λ place. has_guard bytes place ≡ true) (places_of (filter (λ a. is_guard (number a.op)) path))
-are_guards bytes [] s all = tt
-are_guards bytes (a ∷ path) s all = elim (cases_Bool (is_guard (number a.op))) [
-  | inl guards ↦ rw guards (is_there bytes a s all.0 guards, are_guards bytes path s all.1)
-  | inr other ↦ rw other (are_guards bytes path s all.1)
+are_kept : (bytes : List ℕ) (path : List Ancestor) → Spells bytes (tree_of bytes) → AllByRecursion (IsOf (nodes_of bytes)) path
+    → AllByRecursion (IsKept bytes) (map (kept_guard bytes) (guards_among path))
+are_kept bytes [] s all = tt
+are_kept bytes (a ∷ path) s all = elim (cases_Bool (is_guard (number a.op))) [
+  | inl guards ↦ rw guards (record { stands = is_there bytes a s all.0 guards; within = refl }, are_kept bytes path s all.1)
+  | inr other ↦ rw other (are_kept bytes path s all.1)
 ]
 
-pub guards_again : (bytes : List ℕ) (path : List Ancestor) → Spells bytes (tree_of bytes) → AllByRecursion (IsOf (nodes_of bytes)) path
-    → map (λ place. as_ancestor (node_in bytes place)) (places_of (filter (λ a. is_guard (number a.op)) path)) ≡ filter (λ a. is_guard (number a.op)) path
-guards_again bytes [] s all = refl
-guards_again bytes (a ∷ path) s all = elim (cases_Bool (is_guard (number a.op))) [
-  | inl guards ↦ rw guards (ap (λ (b : Ancestor). b ∷ map (λ place. as_ancestor (node_in bytes place)) (places_of (filter (λ a. is_guard (number a.op)) path))) (its_place bytes a s all.0) ∙ ap (λ (l : List Ancestor). a ∷ l) (guards_again bytes path s all.1))
-  | inr other ↦ rw other (guards_again bytes path s all.1)
+-- the guards at the places of these
+abbrev pub guards_again : List ℕ → List GuardPlace → List Ancestor
+guards_again bytes kept = map (λ guard. as_ancestor (node_in bytes guard.place)) kept
+
+again : (bytes : List ℕ) (path : List Ancestor) → Spells bytes (tree_of bytes) → AllByRecursion (IsOf (nodes_of bytes)) path → guards_again bytes (map (kept_guard bytes) (guards_among path)) ≡ guards_among path
+again bytes [] s all = refl
+again bytes (a ∷ path) s all = elim (cases_Bool (is_guard (number a.op))) [
+  | inl guards ↦ rw guards (ap (λ (b : Ancestor). b ∷ guards_again bytes (map (kept_guard bytes) (guards_among path))) (its_place bytes a s all.0) ∙ ap (λ (l : List Ancestor). a ∷ l) (again bytes path s all.1))
+  | inr other ↦ rw other (again bytes path s all.1)
 ]
+
+-- Guards of the package are kept, and stand for these.
+pub record Keeps (bytes : List ℕ) (kept : List GuardPlace) (its : List Ancestor) : Type 0 where
+  pub guards : AreKept bytes kept
+  pub again : guards_again bytes kept ≡ its
+
+pub keeps : (bytes : List ℕ) (n : Placed) → Spells bytes (tree_of bytes) → Contains (nodes_of bytes) n → Keeps bytes (kept_guards bytes n) (guards n)
+keeps bytes n s within =
+    let all = path_is_of bytes n within in
+    record { guards = All-from_recursion (λ guard. IsKept bytes guard) (kept_guards bytes n) (are_kept bytes n.path s all); again = again bytes n.path s all }
 
 -- ---- what the index has at a place
 
@@ -76,28 +91,20 @@ find_within (m ∷ ns) place n e = elim (cases_Bool (is_indexed m && eqb m.place
   | inr later ↦ further m ns n (find_within ns place n (sym (cond-false (is_indexed m && eqb m.place place) (Some m) (indexed_at ns place) later) ∙ e))
 ]
 
--- the places that the index has, as guards of the package
-pub record Kept (bytes : List ℕ) (place : ℕ) (places : List ℕ) : Type 0 where
-  pub guards : AllByRecursion (λ place. has_guard bytes place ≡ true) places
-  pub again : map (λ place. as_ancestor (node_in bytes place)) places ≡ guards_of_indexed (nodes_of bytes) place
-
-pub kept_some : (bytes : List ℕ) (place : ℕ) (places : List ℕ) → Spells bytes (tree_of bytes) → Some places ≡ guard_places (nodes_of bytes) place → Kept bytes place places
-kept_some bytes place places s e = go (indexed_at (nodes_of bytes) place) refl e
+pub kept_some : (bytes : List ℕ) (place : ℕ) (kept : List GuardPlace) → Spells bytes (tree_of bytes) → Some kept ≡ kept_at bytes (nodes_of bytes) place → Keeps bytes kept (guards_of_indexed (nodes_of bytes) place)
+kept_some bytes place kept s e = go (indexed_at (nodes_of bytes) place) refl e
   where
-    go : (o : Option Placed) → indexed_at (nodes_of bytes) place ≡ o → Some places ≡ option_map (λ n. places_of (guards n)) o → Kept bytes place places
+    go : (o : Option Placed) → indexed_at (nodes_of bytes) place ≡ o → Some kept ≡ option_map (kept_guards bytes) o → Keeps bytes kept (guards_of_indexed (nodes_of bytes) place)
     go None is e = absurd cc
     go (Some n) is e =
-        let all = path_is_of bytes n (find_within (nodes_of bytes) place n is) in
-        let same : places ≡ places_of (guards n) = cc in
-        record {
-          guards = subst (AllByRecursion (λ place. has_guard bytes place ≡ true)) (sym same) (are_guards bytes n.path s all);
-          again = ap (λ (l : List ℕ). map (λ place. as_ancestor (node_in bytes place)) l) same ∙ guards_again bytes n.path s all ∙ sym (ap (λ (o : Option Placed). or_none (option_map guards o)) is);
-        }
+        let same : kept ≡ kept_guards bytes n = cc in
+        let its : guards n ≡ guards_of_indexed (nodes_of bytes) place = sym (ap (λ (o : Option Placed). or_none (option_map guards o)) is) in
+        subst (Keeps bytes kept) its (subst (λ (l : List GuardPlace). Keeps bytes l (guards n)) (sym same) (keeps bytes n s (find_within (nodes_of bytes) place n is)))
 
-pub kept_none : (bytes : List ℕ) (place : ℕ) → None ≡ guard_places (nodes_of bytes) place → guards_of_indexed (nodes_of bytes) place ≡ []
+pub kept_none : (bytes : List ℕ) (place : ℕ) → None ≡ kept_at bytes (nodes_of bytes) place → guards_of_indexed (nodes_of bytes) place ≡ []
 kept_none bytes place e = go (indexed_at (nodes_of bytes) place) e
   where
-    go : (o : Option Placed) → None ≡ option_map (λ n. places_of (guards n)) o → or_none (option_map guards o) ≡ []
+    go : (o : Option Placed) → None ≡ option_map (kept_guards bytes) o → or_none (option_map guards o) ≡ []
     go None e = refl
     go (Some n) e = absurd cc
 

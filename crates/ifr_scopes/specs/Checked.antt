@@ -65,13 +65,6 @@ has_node bytes place = is_some (node_at (nodes_of bytes) place)
 abbrev pub has_guard : List ℕ → ℕ → Bool
 has_guard bytes place = has_node bytes place && is_guard (number (node_in bytes place).op)
 
--- guards stand at these places of the package
-abbrev pub AreGuards : List ℕ → List ℕ → Type 0
-AreGuards bytes places = All (λ place. has_guard bytes place ≡ true) places
-
-pub AreGuards-prop : (bytes places : List ℕ) → IsProp (AreGuards bytes places)
-AreGuards-prop bytes places = hlevel props
-
 ancestor_prop : (a b : Ancestor) → IsProp (a ≡ b)
 ancestor_prop a b = hlevel (props, forest_prop)
 

@@ -1,5 +1,5 @@
 -- The guards of a node (UEFI 2.8, 33.3.8.3, EFI_IFR_SUPPRESS_IF, EFI_IFR_GRAY_OUT_IF and EFI_IFR_DISABLE_IF).
-use Rattle.std.specs.Prelude.{ℕ, Bool, ◌==◌, ◌||◌, List, map, filter}
+use Rattle.std.specs.Prelude.{ℕ, Bool, ◌==◌, ◌||◌, List, filter}
 use Rattle.ifr_opcodes.specs.declared.codes.TheConstants.{SUPPRESS_IF, GRAY_OUT_IF, DISABLE_IF}
 use Rattle.ifr_opcodes.specs.Opcode.{number}
 use Rattle.ifr_opcodes.specs.Forest.{Ancestor, Placed}
@@ -15,7 +15,3 @@ guards_among path = filter (λ a. is_guard (number a.op)) path
 -- those on a node's path, the outermost first
 abbrev pub guards : Placed → List Ancestor
 guards n = guards_among n.path
-
--- the places of ancestors
-abbrev pub places_of : List Ancestor → List ℕ
-places_of path = map (λ a. a.place) path

@@ -2,7 +2,7 @@
 use Rattle.std.specs.Prelude.{ℕ, Bool, ◌==◌, ◌&&◌, ◌||◌, Option, Some, None, option_map, List, []}
 use Rattle.std.specs.List.{find}
 use Rattle.ifr_opcodes.specs.Forest.{Ancestor, Placed}
-use Rattle.ifr_scopes.specs.Guards.{guards, places_of}
+use Rattle.ifr_scopes.specs.Guards.{guards}
 use Rattle.ifr_scopes.specs.Nodes.{is_form, is_statement}
 
 abbrev pub is_indexed : Placed → Bool
@@ -19,6 +19,3 @@ or_none (Some its) = its
 
 abbrev pub guards_of_indexed : List Placed → ℕ → List Ancestor
 guards_of_indexed ns place = or_none (option_map guards (indexed_at ns place))
-
-abbrev pub guard_places : List Placed → ℕ → Option (List ℕ)
-guard_places ns place = option_map (λ n. places_of (guards n)) (indexed_at ns place)

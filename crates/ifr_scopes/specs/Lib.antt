@@ -9,6 +9,9 @@ pub mod References
 pub mod Checked
 pub mod Views
 pub mod Index
+pub mod Kept
+pub mod Scopes
+pub mod Around
 pub mod Lists
 pub mod Accepted
 pub mod MetIds

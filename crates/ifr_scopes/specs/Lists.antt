@@ -6,6 +6,7 @@ use Rattle.ifr_opcodes.specs.Opcode.{number}
 use Rattle.ifr_scopes.specs.Guards.{is_guard}
 use Rattle.ifr_scopes.specs.Nodes.{is_form, is_store, is_statement}
 use Rattle.ifr_scopes.specs.Views.{node_of, nodes_left}
+use Rattle.ifr_scopes.specs.Visits.{left}
 use Rattle.ifr_scopes.specs.declared.guard.Guard.{Guard}
 use Rattle.ifr_scopes.specs.declared.guard.GuardViews.{GuardViews}
 use Rattle.ifr_scopes.specs.declared.form_set.FormSet.{FormSet}
@@ -28,7 +29,10 @@ form_node form = node_of form.node
 abbrev pub statement_node : Statement → Placed
 statement_node statement = node_of statement.node
 
--- the bytes of the package of a form and of a statement
+-- the bytes of the package of a guard, of a form and of a statement
+abbrev pub guard_package : Guard → List ℕ
+guard_package guard = guard.node.ifr.now
+
 abbrev pub form_package : Form → List ℕ
 form_package form = form.node.ifr.now
 
@@ -36,10 +40,10 @@ abbrev pub statement_package : Statement → List ℕ
 statement_package statement = statement.node.ifr.now
 
 abbrev pub guards_left : GuardsAt → List Ancestor
-guards_left it = map (λ place. as_ancestor (node_in it.ifr.now place)) it.places.now
+guards_left it = map (λ guard. as_ancestor (node_in it.ifr.now guard.place)) it.kept.now
 
 abbrev pub guards_of_left : GuardsOf → List Ancestor
-guards_of_left it = map (λ place. as_ancestor (node_in it.ifr.now place)) (drop it.next it.places.items)
+guards_of_left it = map (λ guard. as_ancestor (node_in it.ifr.now guard.place)) (drop it.next it.kept.items)
 
 abbrev pub forms_left : FormViews → List Placed
 forms_left it = filter is_form (nodes_left it.nodes)
@@ -60,4 +64,4 @@ abbrev pub stores_left : Varstores → List Placed
 stores_left it = filter is_store (nodes_left it.nodes)
 
 abbrev pub all_guards_left : GuardViews → List Placed
-all_guards_left it = filter (λ n. is_guard (number n.op)) (nodes_left it.nodes)
+all_guards_left it = filter (λ n. is_guard (number n.op)) (left it.nodes.walk)

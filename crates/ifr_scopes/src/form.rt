@@ -21,7 +21,7 @@ impl<'a> Form<'a> {
     ghost use Rattle.ifr_opcodes.specs.Ops.{bytes_of};
     ghost use Rattle.ifr_scopes.specs.Nodes.{statements};
     ghost use Rattle.ifr_scopes.specs.Guards.{guards};
-    ghost use Rattle.ifr_scopes.specs.Lists.{guards_of_left, form_node, statements_left};
+    ghost use Rattle.ifr_scopes.specs.Lists.{guards_of_left, form_node, form_package, statements_left};
 
     /// Its place, in bytes from the package's header.
     pub fn place(self) -> u32
@@ -32,14 +32,16 @@ impl<'a> Form<'a> {
 
     /// Its guards, the outermost first, found by a walk from the package's start; `Forms::guards_at` looks them up.
     pub fn guards(self) -> GuardsOf<'a>
-        ensures { guards_of_left result ≡ guards (form_node self.entry) }
+        ensures guards { guards_of_left result ≡ guards (form_node self.entry) }
+        ensures of_package { result.ifr.now ≡ form_package self.entry }
     {
         GuardsOf::around(self.node.ifr, self.node.op.place)
     }
 
     /// Its opcode.
     pub fn op(self) -> FormOp<'a>
-        ensures { bytes_of result.op ≡ (form_node self.entry).op }
+        ensures place { result.op.place ≡ (form_node self.entry).place }
+        ensures bytes { bytes_of result.op ≡ (form_node self.entry).op }
     {
         self.node.form()
     }

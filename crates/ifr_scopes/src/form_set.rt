@@ -27,7 +27,8 @@ impl<'a> FormSet<'a> {
 
     /// Its opcode.
     pub fn op(self) -> FormSetOp<'a>
-        ensures { bytes_of result.op ≡ (form_set_node self.entry).op }
+        ensures place { result.op.place ≡ (form_set_node self.entry).place }
+        ensures bytes { bytes_of result.op ≡ (form_set_node self.entry).op }
     {
         self.node.form_set()
     }

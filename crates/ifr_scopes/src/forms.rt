@@ -5,9 +5,10 @@ ghost use Rattle.hii_bytes.specs.Faults.{Refuses};
 ghost use Rattle.ifr_opcodes.specs.Forest.{Placed, as_ancestor};
 ghost use Rattle.ifr_opcodes.specs.Opcode.{number};
 ghost use Rattle.ifr_scopes.specs.Accepted.{IsAccepted, IsPackageFault};
-ghost use Rattle.ifr_scopes.specs.Checked.{AreGuards, node_in};
+ghost use Rattle.ifr_scopes.specs.Checked.{node_in};
 ghost use Rattle.ifr_scopes.specs.Guards.{is_guard};
 ghost use Rattle.ifr_scopes.specs.Index.{guards_of_indexed};
+ghost use Rattle.ifr_scopes.specs.Kept.{AreKept};
 ghost use Rattle.ifr_scopes.specs.Lists.{form_set_node, stores_left, all_guards_left, forms_left, statements_left, guards_left};
 ghost use Rattle.ifr_scopes.specs.Nodes.{nodes_of, is_form, is_store, is_statement};
 
@@ -15,10 +16,12 @@ use crate::form::FormViews;
 use crate::form_set::FormSet;
 use crate::framing::check_framing;
 use crate::guard::GuardViews;
+use crate::guard_place::GuardPlace;
 use crate::guards_at::GuardsAt;
 use crate::index::{Index, index_of};
 use crate::nodes::Nodes;
 use crate::references::check_references;
+use crate::scoped_nodes::ScopedNodes;
 use crate::statement::Statements;
 use crate::structure::check_structure;
 use crate::varstore::Varstores;
@@ -40,14 +43,14 @@ impl<'a> Model for Forms<'a> {
     ghost use Rattle.std.specs.BTreeMap.{get};
     ghost use Rattle.std.specs.Ordering.{nat_cmp};
     ghost use Rattle.ifr_scopes.specs.Accepted.{IsAccepted};
-    ghost use Rattle.ifr_scopes.specs.Index.{guard_places};
+    ghost use Rattle.ifr_scopes.specs.Kept.{kept_at};
     ghost use Rattle.ifr_scopes.specs.Nodes.{nodes_of};
 
     ghost Value = { List ℕ };
 
     ghost view = { λ s. s.ifr.now };
 
-    ghost invariant = { λ s. IsAccepted s.ifr.now × ((place : ℕ) → option_map (λ v. v.items) (get nat_cmp s.index place) ≡ guard_places (nodes_of s.ifr.now) place) };
+    ghost invariant = { λ s. IsAccepted s.ifr.now × ((place : ℕ) → option_map (λ v. v.items) (get nat_cmp s.index place) ≡ kept_at s.ifr.now (nodes_of s.ifr.now) place) };
 }
 
 impl<'a> Forms<'a> {
@@ -98,7 +101,7 @@ impl<'a> Forms<'a> {
         ensures { all_guards_left result ≡ filter (λ n. is_guard (number n.op)) (nodes_of self.now) }
     {
         GuardViews {
-            nodes: Nodes::over(self.ifr),
+            nodes: ScopedNodes::over(self.ifr),
         }
     }
 
@@ -120,24 +123,25 @@ impl<'a> Forms<'a> {
         }
     }
 
-    // The places of these guards.
-    fn guard_places(&self, place: u32) -> &[u32]
-        ensures guards { AreGuards self.now result.now }
-        ensures again { map (λ guard. as_ancestor (node_in self.now guard)) result.now ≡ guards_of_indexed (nodes_of self.now) place }
+    // These guards as the index keeps them.
+    fn kept_at(&self, place: u32) -> &[GuardPlace]
+        ensures guards { AreKept self.now result.now }
+        ensures again { map (λ guard. as_ancestor (node_in self.now guard.place)) result.now ≡ guards_of_indexed (nodes_of self.now) place }
     {
         match self.index.get(&place) {
-            Some(places) => places.as_slice(),
+            Some(guards) => guards.as_slice(),
             None => &[],
         }
     }
 
     /// The guards of the form or statement at a place, the outermost first; none at any other place.
     pub fn guards_at(&self, place: u32) -> GuardsAt<'_, 'a>
-        ensures { guards_left result ≡ guards_of_indexed (nodes_of self.now) place }
+        ensures guards { guards_left result ≡ guards_of_indexed (nodes_of self.now) place }
+        ensures of_package { result.ifr.now ≡ self.now }
     {
         GuardsAt {
             ifr: self.ifr,
-            places: self.guard_places(place),
+            kept: self.kept_at(place),
         }
     }
 }

@@ -3,11 +3,12 @@
 ghost use Rattle.std.specs.Prelude.{◌≡◌, true};
 ghost use Rattle.ifr_opcodes.specs.Opcode.{number};
 ghost use Rattle.ifr_scopes.specs.Guards.{is_guard};
+ghost use Rattle.ifr_scopes.specs.Nodes.{this_of};
 ghost use Rattle.ifr_scopes.specs.Views.{node_of};
 
 use crate::node::Node;
-use crate::nodes::Nodes;
 use crate::places::node_at;
+use crate::scoped_nodes::ScopedNodes;
 use ifr_expr::Expr;
 use ifr_opcodes::Op;
 
@@ -15,7 +16,9 @@ use ifr_opcodes::Op;
 #[derive(Clone, Copy, Debug)]
 pub struct Guard<'a> {
     pub(crate) node: Node<'a>,
+    pub(crate) this: u16,
     pub ghost guards: { is_guard (number (node_of node).op) ≡ true },
+    pub ghost within: { this ≡ this_of (node_of node) },
 }
 
 impl<'a> Guard<'a> {
@@ -39,6 +42,13 @@ impl<'a> Guard<'a> {
         self.node.op()
     }
 
+    /// The id of the question in whose scope it stands, or 0.
+    pub fn this(self) -> u16
+        ensures { result ≡ this_of (node_of self.entry.node) }
+    {
+        self.this
+    }
+
     /// Its condition: the expression with which its scope begins.
     pub fn condition(self) -> Expr<'a>
         ensures { tree_of result ≡ tree_in (node_of self.entry.node).children }
@@ -51,7 +61,7 @@ impl<'a> Guard<'a> {
 /// The guards that are left of a package, by place.
 #[derive(Drop)]
 pub struct GuardViews<'a> {
-    pub(crate) nodes: Nodes<'a>,
+    pub(crate) nodes: ScopedNodes<'a>,
 }
 
 impl<'a> Iterator for GuardViews<'a> {
@@ -65,9 +75,12 @@ impl<'a> Iterator for GuardViews<'a> {
     ghost remaining = { item_count all_guards_left };
 
     fn next(&mut self) -> Option<Guard<'a>> {
-        while let Some(node) = self.nodes.step() {
-            if node.is_guard() {
-                return Some(Guard { node });
+        while let Some(met) = self.nodes.step() {
+            if met.node.is_guard() {
+                return Some(Guard {
+                    node: met.node,
+                    this: self.nodes.this(&met),
+                });
             }
         }
         None

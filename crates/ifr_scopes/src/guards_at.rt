@@ -1,18 +1,40 @@
 //! The guards at places that were kept.
 
-ghost use Rattle.std.specs.Prelude.{◌≡◌, All};
-ghost use Rattle.ifr_scopes.specs.Checked.{IsChecked, IsChecked-prop, AreGuards, AreGuards-prop};
+ghost use Rattle.std.specs.Prelude.{◌≡◌, IfSome};
+ghost use Rattle.ifr_scopes.specs.Checked.{IsChecked, IsChecked-prop};
+ghost use Rattle.ifr_scopes.specs.Kept.{AreKept, AreKept-prop};
 
 use crate::guard::Guard;
+use crate::guard_place::GuardPlace;
 use crate::places::node_at;
 
 /// The guards of a form or a statement that are left, the outermost first.
 #[derive(Debug, Drop)]
 pub struct GuardsAt<'s, 'a> {
     pub(crate) ifr: &'a [u8],
-    pub(crate) places: &'s [u32],
+    pub(crate) kept: &'s [GuardPlace],
     pub ghost checked: { IsChecked ifr.now } by { IsChecked-prop ifr.now },
-    pub ghost guards: { AreGuards ifr.now places.now } by { AreGuards-prop ifr.now places.now },
+    pub ghost guards: { AreKept ifr.now kept.now } by { AreKept-prop ifr.now kept.now },
+}
+
+impl<'s, 'a> GuardsAt<'s, 'a> {
+    ghost use Rattle.std.specs.Iterator.{YieldsFirstBy};
+    ghost use Rattle.ifr_scopes.specs.Lists.{guard_node, guard_package, guards_left};
+
+    /// Goes to the next guard, as `next` does: one of the same package.
+    pub fn step(&mut self) -> Option<Guard<'a>>
+        ensures steps { YieldsFirstBy guard_node guards_left self.old result self.new }
+        ensures of_package { IfSome result (λ guard. guard_package guard ≡ self.old.ifr.now) }
+        ensures kept { self.new.ifr.now ≡ self.old.ifr.now }
+    {
+        let (guard, kept) = self.kept.split_first()?;
+        let node = node_at(self.ifr, guard.place);
+        self.kept = kept;
+        Some(Guard {
+            node,
+            this: guard.this,
+        })
+    }
 }
 
 impl<'s, 'a> Iterator for GuardsAt<'s, 'a> {
@@ -26,11 +48,6 @@ impl<'s, 'a> Iterator for GuardsAt<'s, 'a> {
     ghost remaining = { item_count guards_left };
 
     fn next(&mut self) -> Option<Guard<'a>> {
-        let (place, places) = self.places.split_first()?;
-        let guard = Guard {
-            node: node_at(self.ifr, *place),
-        };
-        self.places = places;
-        Some(guard)
+        self.step()
     }
 }

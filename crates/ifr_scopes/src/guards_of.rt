@@ -1,53 +1,67 @@
 //! The guards around one node, found by a walk.
 
-ghost use Rattle.std.specs.Prelude.{◌≡◌, true};
-ghost use Rattle.ifr_scopes.specs.Checked.{IsChecked, IsChecked-prop, AreGuards, AreGuards-prop, has_node, node_in};
-ghost use Rattle.ifr_scopes.specs.Guards.{guards as guards_of_node, places_of};
+ghost use Rattle.std.specs.Prelude.{◌≡◌, true, IfSome};
+ghost use Rattle.ifr_scopes.specs.Checked.{IsChecked, IsChecked-prop, has_node, node_in};
+ghost use Rattle.ifr_scopes.specs.Guards.{guards as guards_of_node};
+ghost use Rattle.ifr_scopes.specs.Kept.{AreKept, AreKept-prop, kept_guards};
 
 use crate::guard::Guard;
+use crate::guard_place::GuardPlace;
 use crate::places::node_at;
-use crate::walk::Walk;
+use crate::scoped_nodes::ScopedNodes;
 use arrayvec::ArrayVec;
 
 /// The guards of a form or a statement that are left, the outermost first.
 #[derive(Drop)]
 pub struct GuardsOf<'a> {
     ifr: &'a [u8],
-    places: ArrayVec<u32, 64>,
+    kept: ArrayVec<GuardPlace, 64>,
     next: usize,
     pub ghost checked: { IsChecked ifr.now } by { IsChecked-prop ifr.now },
-    pub ghost guards: { AreGuards ifr.now places.items } by { AreGuards-prop ifr.now places.items },
+    pub ghost guards: { AreKept ifr.now kept.items } by { AreKept-prop ifr.now kept.items },
 }
 
 impl<'a> GuardsOf<'a> {
+    ghost use Rattle.std.specs.Iterator.{YieldsFirstBy};
     ghost use Rattle.ifr_opcodes.specs.Forest.{Ancestor};
-    ghost use Rattle.ifr_scopes.specs.Lists.{guards_of_left};
+    ghost use Rattle.ifr_scopes.specs.Lists.{guard_node, guard_package, guards_of_left};
 
     /// Those of the node at a place of a checked package.
     pub(crate) fn around(ifr: &'a [u8], place: u32) -> GuardsOf<'a>
         requires checked { IsChecked ifr.now }
         requires there { has_node ifr.now place ≡ true }
-        ensures { guards_of_left result ≡ guards_of_node (node_in ifr.now place) }
+        ensures guards { guards_of_left result ≡ guards_of_node (node_in ifr.now place) }
+        ensures of_package { result.ifr.now ≡ ifr.now }
     {
-        let places = places_around(ifr, place);
-        GuardsOf {
-            ifr,
-            places,
-            next: 0,
-        }
+        let kept = guards_around(ifr, place);
+        GuardsOf { ifr, kept, next: 0 }
+    }
+
+    /// Goes to the next guard, as `next` does: one of the same package.
+    pub fn step(&mut self) -> Option<Guard<'a>>
+        ensures steps { YieldsFirstBy guard_node guards_of_left self.old result self.new }
+        ensures of_package { IfSome result (λ guard. guard_package guard ≡ self.old.ifr.now) }
+        ensures kept { self.new.ifr.now ≡ self.old.ifr.now }
+    {
+        let guard = *self.kept.as_slice().get(self.next)?;
+        self.next += 1;
+        Some(Guard {
+            node: node_at(self.ifr, guard.place),
+            this: guard.this,
+        })
     }
 }
 
-// The places of the guards of the node at a place.
-fn places_around(ifr: &[u8], place: u32) -> ArrayVec<u32, 64>
+// The guards of the node at a place.
+fn guards_around(ifr: &[u8], place: u32) -> ArrayVec<GuardPlace, 64>
     requires checked { IsChecked ifr.now }
     requires there { has_node ifr.now place ≡ true }
-    ensures { result.items ≡ places_of (guards_of_node (node_in ifr.now place)) }
+    ensures { result.items ≡ kept_guards ifr.now (node_in ifr.now place) }
 {
-    let mut walk = Walk::over(ifr);
-    while let Some(visit) = walk.step() {
-        if visit.op.place == place {
-            return walk.guards(&visit);
+    let mut nodes = ScopedNodes::over(ifr);
+    while let Some(met) = nodes.step() {
+        if met.node.op().place == place {
+            return nodes.guards(&met);
         }
     }
     ArrayVec::new()
@@ -64,10 +78,6 @@ impl<'a> Iterator for GuardsOf<'a> {
     ghost remaining = { item_count guards_of_left };
 
     fn next(&mut self) -> Option<Guard<'a>> {
-        let place = *self.places.as_slice().get(self.next)?;
-        self.next += 1;
-        Some(Guard {
-            node: node_at(self.ifr, place),
-        })
+        self.step()
     }
 }

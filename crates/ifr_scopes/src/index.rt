@@ -5,17 +5,18 @@ ghost use Rattle.std.specs.BTreeMap.{get};
 ghost use Rattle.std.specs.Ordering.{nat_cmp};
 ghost use Rattle.ifr_opcodes.specs.declared.codes.TheConstants as codes;
 ghost use Rattle.ifr_scopes.specs.Checked.{IsChecked};
-ghost use Rattle.ifr_scopes.specs.Index.{guard_places};
+ghost use Rattle.ifr_scopes.specs.Kept.{kept_at};
 ghost use Rattle.ifr_scopes.specs.Nodes.{nodes_of};
 
-use crate::walk::Walk;
+use crate::guard_place::GuardPlace;
+use crate::scoped_nodes::ScopedNodes;
 use ifr_opcodes::{CHECKBOX, FORM};
 use smallvec::SmallVec;
 use std::alloc::{AllocError, Global};
 use std::collections::BTreeMap;
 
-/// The places of the guards of each form and statement, the outermost first.
-pub(crate) type Index = BTreeMap<u32, SmallVec<u32, 4>>;
+/// The guards of each form and statement by its place, the outermost first.
+pub(crate) type Index = BTreeMap<u32, SmallVec<GuardPlace, 4>>;
 
 fn is_indexed(code: u8) -> bool
     ensures { result ≡ (code == codes.FORM || code == codes.CHECKBOX) }
@@ -26,14 +27,15 @@ fn is_indexed(code: u8) -> bool
 /// The index of a checked package.
 pub(crate) fn index_of(alloc: Global, ifr: &[u8]) -> Result<Index, AllocError>
     requires { IsChecked ifr.now }
-    ensures { IfOk result (λ index. (place : ℕ) → option_map (λ v. v.items) (get nat_cmp index place) ≡ guard_places (nodes_of ifr.now) place) }
+    ensures { IfOk result (λ index. (place : ℕ) → option_map (λ v. v.items) (get nat_cmp index place) ≡ kept_at ifr.now (nodes_of ifr.now) place) }
 {
     let mut index = BTreeMap::new(alloc);
-    let mut walk = Walk::over(ifr);
-    while let Some(visit) = walk.step() {
-        if is_indexed(visit.op.code) {
-            let guards = SmallVec::from_slice(alloc, walk.guards(&visit).as_slice())?;
-            index.insert(visit.op.place, guards)?;
+    let mut nodes = ScopedNodes::over(ifr);
+    while let Some(met) = nodes.step() {
+        let op = met.node.op();
+        if is_indexed(op.code) {
+            let guards = SmallVec::from_slice(alloc, nodes.guards(&met).as_slice())?;
+            index.insert(op.place, guards)?;
         }
     }
     Ok(index)

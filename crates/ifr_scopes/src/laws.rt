@@ -1,9 +1,9 @@
 //! Laws of the definitions that the contracts cite.
 
-ghost use Rattle.std.specs.Prelude.{◌≡◌, ℕ, ◌+◌, ◌≤◌, ◌<◌, ◌^◌, Some, List, ◌++◌, length, slice_index, drop, Contains};
+ghost use Rattle.std.specs.Prelude.{◌≡◌, ℕ, ◌+◌, ◌≤◌, ◌<◌, ◌^◌, Some, List, ◌∷◌, ◌++◌, length, slice_index, drop, Contains};
 ghost use Rattle.hii_bytes.specs.Faults.{HasNone};
 ghost use Rattle.hii_bytes.specs.declared.cause.Cause.{Cause};
-ghost use Rattle.ifr_opcodes.specs.Forest.{Forest, none, node, flat, AreNodes, Spells, Placed, nodes, node_at, places};
+ghost use Rattle.ifr_opcodes.specs.Forest.{Forest, none, node, flat, AreNodes, Spells, Ancestor, Placed, as_ancestor, nodes, node_at, places};
 ghost use Rattle.ifr_scopes.specs.Framing.{IsFramingFault};
 ghost use Rattle.ifr_scopes.specs.Checked.{AreNodesOf, IsNodeOf};
 ghost use Rattle.ifr_scopes.specs.Guards.{guards};
@@ -85,6 +85,13 @@ pub fn a_statement_is_a_node()
 /// A node of an accepted package is the one at its place.
 pub fn a_node_is_that_of_its_place()
     ensures { (bytes : List ℕ) (n : Placed) → IsAccepted bytes → Contains (nodes_of bytes) n → IsNodeOf bytes n }
+{}
+
+/// What stands around a node of an accepted package is a node, and what stands around that one is what stands before it on
+/// the path.
+pub fn an_ancestor_is_a_node()
+    ensures { (bytes : List ℕ) (n : Placed) (before after : List Ancestor) (a : Ancestor) → IsAccepted bytes → IsNodeOf bytes n → n.path ≡ before ++ a ∷ after
+        → (m : Placed) × IsNodeOf bytes m × (as_ancestor m ≡ a) × (m.path ≡ before) }
 {}
 
 /// The statements of a form of a package are nodes of the package.

@@ -19,7 +19,7 @@ pub struct Statement<'a> {
 impl<'a> Statement<'a> {
     ghost use Rattle.ifr_opcodes.specs.Ops.{bytes_of};
     ghost use Rattle.ifr_scopes.specs.Guards.{guards};
-    ghost use Rattle.ifr_scopes.specs.Lists.{guards_of_left, statement_node};
+    ghost use Rattle.ifr_scopes.specs.Lists.{guards_of_left, statement_node, statement_package};
 
     /// Its place, in bytes from the package's header.
     pub fn place(self) -> u32
@@ -30,21 +30,24 @@ impl<'a> Statement<'a> {
 
     /// Its guards, the outermost first, found by a walk from the package's start; `Forms::guards_at` looks them up.
     pub fn guards(self) -> GuardsOf<'a>
-        ensures { guards_of_left result ≡ guards (statement_node self.entry) }
+        ensures guards { guards_of_left result ≡ guards (statement_node self.entry) }
+        ensures of_package { result.ifr.now ≡ statement_package self.entry }
     {
         GuardsOf::around(self.node.ifr, self.node.op.place)
     }
 
     /// Its opcode.
     pub fn op(self) -> StatementOp<'a>
-        ensures { bytes_of result.op ≡ (statement_node self.entry).op }
+        ensures place { result.op.place ≡ (statement_node self.entry).place }
+        ensures bytes { bytes_of result.op ≡ (statement_node self.entry).op }
     {
         self.node.statement()
     }
 
     /// Its opcode as that of a question.
     pub fn question(self) -> QuestionOp<'a>
-        ensures { bytes_of result.op ≡ (statement_node self.entry).op }
+        ensures place { result.op.place ≡ (statement_node self.entry).place }
+        ensures bytes { bytes_of result.op ≡ (statement_node self.entry).op }
     {
         self.node.question()
     }

@@ -178,7 +178,7 @@ pub(crate) fn check_structure(bytes: &[u8]) -> Result<(), Fault>
     }
     let mut walk = Walk::over(bytes);
     while let Some(visit) = walk.step() {
-        let around = walk.around(&visit);
+        let around = walk.around(visit.depth);
         if let Some(cause) = cause_of(bytes, visit.op, around, walk.first_child(&visit)) {
             return Err(visit.op.fault(cause));
         }

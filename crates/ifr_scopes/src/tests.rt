@@ -5,6 +5,7 @@ use crate::framing::check_framing;
 use crate::references::check_references;
 use crate::structure::check_structure;
 use hii_bytes::{Cause, Fault};
+use hii_packages::Package;
 use std::alloc::Global;
 use std::test::*;
 
@@ -78,7 +79,47 @@ fn guards(rt: HostRuntime) {
     }
     let question = walk.step().expect(&rt, "a question");
     assert_eq!(rt; (question.op.place, question.depth), (13, 3));
-    assert_eq!(rt; walk.guards(&question).as_slice(), [6].as_slice());
+    assert_eq!(rt; walk.around(question.depth), [4, 6, 10].as_slice());
+}
+
+// A form set whose form is under a guard.
+const GUARDED: [u8; 47] = [
+    47, 0, 0, 2, // the package's header
+    0x0e, 0x97, 1, 2, 3, 4, 5, 6, 7, 8, 9, 10, 11, 12, 13, 14, 15, 16, 0x21, 0x43, 5, 0, 1, // FORM_SET, at 4
+    0x0a, 0x82, // SUPPRESS_IF, at 27
+    0x12, 6, 7, 0, 1, 0, // the question 7 answers 1, at 29
+    0x01, 0x86, 7, 0, 8, 0, // a form, at 35
+    0x29, 2, 0x29, 2, 0x29, 2, // at 41, 43, 45
+];
+
+fn forms_of(alloc: Global, bytes: &[u8]) -> Result<Forms<'_>, Fault>
+    requires header { 4 ≤ length bytes.now }
+    requires small { length bytes.now < 2 ^ 24 }
+{
+    let source = Package {
+        place: 0,
+        kind: hii_packages::FORMS,
+        bytes,
+    };
+    Forms::read(alloc, source)
+}
+
+#[test]
+fn guards_in_no_question(rt: HostRuntime) -> Result<(), Fail> {
+    let forms = forms_of(rt.alloc(), &GUARDED)?;
+    let form = forms.forms().next().expect(&rt, "a form");
+    for guard in [
+        forms.guards().next(),
+        forms.guards_at(form.place()).next(),
+        form.guards().next(),
+    ] {
+        let guard = guard.expect(&rt, "a guard");
+        assert_eq!(rt; (guard.place(), guard.this()), (27, 0));
+        assert_eq!(rt; guard.op().code, 0x0a);
+        assert_eq!(rt; guard.condition().support().next(), Some(7));
+    }
+    assert!(rt; forms.guards_at(27).next().is_none());
+    Ok(())
 }
 
 // A form set with two forms and three questions.

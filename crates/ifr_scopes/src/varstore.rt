@@ -28,7 +28,8 @@ impl<'a> Varstore<'a> {
 
     /// Its opcode.
     pub fn op(self) -> VarstoreOp<'a>
-        ensures { bytes_of result.op ≡ (store_node self.entry).op }
+        ensures place { result.op.place ≡ (store_node self.entry).place }
+        ensures bytes { bytes_of result.op ≡ (store_node self.entry).op }
     {
         self.node.store()
     }

@@ -7,7 +7,6 @@ ghost use Rattle.ifr_opcodes.specs.Reading.{tree_of, mark_at};
 ghost use Rattle.ifr_scopes.specs.Walking.{IsWalking, IsWalking-prop};
 
 use crate::framing::HEADER;
-use crate::guards::guards_among;
 use arrayvec::ArrayVec;
 use ifr_opcodes::{END, Op, op_at, split_opcode};
 
@@ -114,9 +113,8 @@ impl<'a> Walk<'a> {
     ghost use Rattle.std.specs.Prelude.{take};
     ghost use Rattle.std.specs.Prelude.{All, drop};
     ghost use Rattle.ifr_opcodes.specs.Ops.{bytes_of};
-    ghost use Rattle.ifr_opcodes.specs.Reading.{ancestor_at, inside, opcodes_in};
+    ghost use Rattle.ifr_opcodes.specs.Reading.{inside, opcodes_in};
     ghost use Rattle.ifr_scopes.specs.Structure.{first_number};
-    ghost use Rattle.ifr_scopes.specs.Guards.{guards_among as guards_of, places_of};
 
     /// The number of the first child of the node that the walk met last.
     pub(crate) fn first_child(&self, visit: &Visit) -> Option<u8>
@@ -131,21 +129,14 @@ impl<'a> Walk<'a> {
         }
     }
 
-    /// The places of the scopes around the node that the walk met last, of those that it enters, the outermost first.
-    pub(crate) fn around(&self, visit: &Visit) -> &[u32]
-        requires { visit.now.depth ≤ length self.now.around.items }
-        ensures around { result.now ≡ take visit.now.depth self.now.around.items }
+    /// The places of the scopes around the node that the walk met last, as many as its depth says, the outermost first.
+    pub(crate) fn around(&self, depth: usize) -> &[u32]
+        requires { depth ≤ length self.now.around.items }
+        ensures around { result.now ≡ take depth self.now.around.items }
         ensures whole { All (λ place. IsWhole (mark_at self.now.bytes.now place).op) result.now }
+        ensures few { length result.now ≤ 64 }
     {
-        &self.around.as_slice()[..visit.depth]
-    }
-
-    /// The places of the guards around the node that the walk met last, of those that it enters, the outermost first.
-    pub(crate) fn guards(&self, visit: &Visit) -> ArrayVec<u32, 64>
-        requires { visit.now.depth ≤ length self.now.around.items }
-        ensures { result.items ≡ places_of (guards_of (map (ancestor_at self.now.bytes.now) (take visit.now.depth self.now.around.items))) }
-    {
-        guards_among(self.bytes, &self.around.as_slice()[..visit.depth])
+        &self.around.as_slice()[..depth]
     }
 }
 

@@ -16,7 +16,7 @@ returns-in-Some-fault_of-clause-refused c =
     refused_among c.args.forms.now shape _ c.requires
     (sym c.loop-statement.invariant.same ∙ ap (first_of shape) c.in-Some.ensures.steps
     ∙ ap (λ (o : Option Cause). fault_or o node.place left) (sym c.fault_of.ensures ∙ c.in-Some-fault_of.is)
-    ∙ ap (λ (p : ℕ). Some (fault p)) (sym (c.from.ensures ∙ c.place.ensures)))
+    ∙ ap (λ (p : ℕ). Some (fault p)) (sym c.op.ensures.place) ∙ ap (λ (f : Fault). Some f) (sym c.fault.ensures))
 
 pub returns-clause-sound : goal.returns-clause-sound
 returns-clause-sound c = sound_among (nodes_of c.args.forms.now) c.args.layout.now (sym c.loop-statement.invariant.same ∙ ap (first_of c.args.layout.now) c.in-None.ensures.steps.0)

@@ -19,18 +19,18 @@ pub returns-in-Ok-true-clause-refused : goal.returns-in-Ok-true-clause-refused
 returns-in-Ok-true-clause-refused c =
     let n = store_node c.in-Some.store in
     let met = subst (λ (ns : List Placed). HasMet (stores_left c.args.stores) ns c.loop-store.ids c.loop-store.buffers.items) c.in-Some.ensures.steps c.loop-store.invariant.met in
-    let its : c.id-id.result ≡ varstore_id n.op = c.id-id.ensures ∙ ap varstore_id c.op.ensures in
+    let its : c.id-id.result ≡ varstore_id n.op = c.id-id.ensures ∙ ap varstore_id c.op-op.ensures.bytes in
     let taken : is_taken (varstore_id n.op) met.before ≡ true = ap (λ id. is_taken id met.before) (sym its) ∙ sym (c.in-Ok-true.ensures.told met.before met.known) ∙ c.in-Ok-true.field-0-test in
     let first = refused_among c.args.stores _ (met_again _ _ n _ _ met taken) in
-    rw (c.fault_at.ensures, c.place.ensures) (inr first)
+    rw (c.fault.ensures, c.op-op.ensures.place) (inr first)
 
 pub loop-store-preserved : goal.loop-store-preserved
 loop-store-preserved c =
     let n = store_node c.in-Some.store in
     let b : Buffer = record { id = c.id-id.result; size = c.size-size.result } in
     let met = subst (λ (ns : List Placed). HasMet (stores_left c.args.stores) ns c.loop-store.ids c.loop-store.buffers.items) c.in-Some.ensures.steps c.loop-store.invariant.met in
-    let its : c.id-id.result ≡ varstore_id n.op = c.id-id.ensures ∙ ap varstore_id c.op.ensures in
-    let sized : c.size-size.result ≡ varstore_size n.op = c.size-size.ensures ∙ ap varstore_size c.op-in-loop-store.ensures in
+    let its : c.id-id.result ≡ varstore_id n.op = c.id-id.ensures ∙ ap varstore_id c.op-op.ensures.bytes in
+    let sized : c.size-size.result ≡ varstore_size n.op = c.size-size.ensures ∙ ap varstore_size c.op-op.ensures.bytes in
     let is : b ≡ declared_buffer n = cc in
     let free : is_taken c.id-id.result met.before ≡ false = sym (c.in-Ok-false.ensures.told met.before met.known) ∙ c.in-Ok-false.field-0-test in
     let new : c.meets_again.result ≡ Ok false = c.in-Ok-false.is ∙ ap Ok c.in-Ok-false.field-0-test in

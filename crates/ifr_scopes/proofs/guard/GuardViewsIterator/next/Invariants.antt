@@ -1,10 +1,10 @@
 use Rattle.std.proofs.Common.{◌≡◌, length}
 use Rattle.ifr_scopes.specs.Lists.{all_guards_left}
-use Rattle.ifr_scopes.specs.Views.{nodes_left}
+use Rattle.ifr_scopes.specs.Visits.{left}
 use Rattle.ifr_scopes.proofs.guard.GuardViewsIterator.next.Given as goal
 
-abbrev pub invariant-loop-node : goal.invariant-loop-node
-invariant-loop-node l = all_guards_left l.self ≡ all_guards_left l.fn.self
+abbrev pub invariant-loop-met : goal.invariant-loop-met
+invariant-loop-met l = all_guards_left l.self ≡ all_guards_left l.fn.self
 
-abbrev pub decreases-loop-node : goal.decreases-loop-node
-decreases-loop-node l = length (nodes_left l.self.nodes)
+abbrev pub decreases-loop-met : goal.decreases-loop-met
+decreases-loop-met l = length (left l.self.nodes.walk)

@@ -1,0 +1,6 @@
+/// Where a guard stands, in bytes from the package's header, and the id of the question in whose scope it stands, or 0.
+#[derive(Clone, Copy, Debug, Default)]
+pub struct GuardPlace {
+    pub(crate) place: u32,
+    pub(crate) this: u16,
+}

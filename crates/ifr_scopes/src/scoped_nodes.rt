@@ -1,0 +1,78 @@
+//! The nodes of a checked package, each with the scopes around it.
+
+ghost use Rattle.std.specs.Prelude.{◌≡◌, ◌∷◌, [], IfNone, IfSome};
+ghost use Rattle.ifr_scopes.specs.Checked.{IsChecked, IsChecked-prop, AreNodesOf, AreNodesOf-prop};
+ghost use Rattle.ifr_scopes.specs.Nodes.{nodes_of, this_of};
+ghost use Rattle.ifr_scopes.specs.Visits.{left};
+
+use crate::guard_place::GuardPlace;
+use crate::guards::{guards_among, this_among};
+use crate::node::Node;
+use crate::walk::Walk;
+use arrayvec::ArrayVec;
+
+/// A node, and how many scopes are around it.
+#[derive(Clone, Copy, Debug)]
+pub(crate) struct ScopedNode<'a> {
+    pub(crate) node: Node<'a>,
+    pub(crate) depth: usize,
+}
+
+/// The nodes that are left of a checked package, by place.
+#[derive(Drop)]
+pub struct ScopedNodes<'a> {
+    walk: Walk<'a>,
+    ghost checked: { IsChecked walk.bytes.now } by { IsChecked-prop walk.bytes.now },
+    ghost nodes: { AreNodesOf walk.bytes.now (left walk) } by { AreNodesOf-prop walk.bytes.now (left walk) },
+}
+
+impl<'a> ScopedNodes<'a> {
+    ghost use Rattle.ifr_scopes.specs.Around.{IsAround};
+    ghost use Rattle.ifr_scopes.specs.Kept.{kept_guards};
+    ghost use Rattle.ifr_scopes.specs.Views.{node_of};
+
+    /// All nodes of a package.
+    pub(crate) fn over(ifr: &'a [u8]) -> ScopedNodes<'a>
+        requires { IsChecked ifr.now }
+        ensures all { left result.walk ≡ nodes_of ifr.now }
+        ensures kept { result.walk.bytes.now ≡ ifr.now }
+    {
+        ScopedNodes {
+            walk: Walk::over(ifr),
+        }
+    }
+
+    /// Goes to the next node.
+    pub(crate) fn step(&mut self) -> Option<ScopedNode<'a>>
+        ensures none { IfNone result ((left self.old.walk ≡ []) × (left self.new.walk ≡ [])) }
+        ensures some { IfSome result (λ met. (left self.old.walk ≡ node_of met.node ∷ left self.new.walk) × IsAround self.new met) }
+        ensures kept { self.new.walk.bytes.now ≡ self.old.walk.bytes.now }
+    {
+        match self.walk.step() {
+            Some(visit) => Some(ScopedNode {
+                node: Node {
+                    ifr: self.walk.bytes(),
+                    op: visit.op,
+                },
+                depth: visit.depth,
+            }),
+            None => None,
+        }
+    }
+
+    /// The guards around the node that was met last, the outermost first.
+    pub(crate) fn guards(&self, met: &ScopedNode) -> ArrayVec<GuardPlace, 64>
+        requires { IsAround self.now met.now }
+        ensures { result.items ≡ kept_guards self.now.walk.bytes.now (node_of met.now.node) }
+    {
+        guards_among(self.walk.bytes(), self.walk.around(met.depth))
+    }
+
+    /// The id of the question in whose scope the node stands that was met last, or 0.
+    pub(crate) fn this(&self, met: &ScopedNode) -> u16
+        requires { IsAround self.now met.now }
+        ensures { result ≡ this_of (node_of met.now.node) }
+    {
+        this_among(self.walk.bytes(), self.walk.around(met.depth))
+    }
+}
