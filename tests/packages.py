@@ -53,6 +53,41 @@ def package(opcodes, length=None):
     return length.to_bytes(3, "little") + bytes([0x02]) + opcodes
 
 
+def text(characters):
+    """A text of the Basic Multilingual Plane with its zero unit."""
+    return characters.encode("utf-16-le") + bytes(2)
+
+
+def string(characters):
+    """A block with the text of one string id (UEFI 2.8, 33.3.6.2 String Information)."""
+    return bytes([0x14]) + text(characters)
+
+
+def strings(*texts):
+    """A block with the texts of so many ids."""
+    return bytes([0x16]) + u16(len(texts)) + b"".join(text(characters) for characters in texts)
+
+
+def skip(count):
+    """A block of so many ids without a text."""
+    return bytes([0x22, count]) if count < 256 else bytes([0x21]) + u16(count)
+
+
+def duplicate(other):
+    """A block with the text of another id."""
+    return bytes([0x20]) + u16(other)
+
+
+def string_package(language, blocks, info_offset=None, end=b"\0"):
+    """A string package (UEFI 2.8, 33.3.6 String Package). The blocks begin behind the language, or at the offset that is
+    given."""
+    language = language.encode() + b"\0"
+    info_offset = 46 + len(language) if info_offset is None else info_offset
+    fixed = u32(46) + u32(info_offset) + bytes(32) + u16(1)
+    body = fixed + language + blocks + end
+    return (4 + len(body)).to_bytes(3, "little") + bytes([0x04]) + body
+
+
 def package_list(packages, length=None):
     """A list of packages that ends as these bytes do. Its header tells its length, or the one that is given."""
     return bytes([0x11]) * 16 + u32(20 + len(packages) if length is None else length) + packages

@@ -12,7 +12,7 @@ use Rattle.hii_questions.specs.Inputs.{whole, fits, checkbox_bytes}
 use Rattle.hii_questions.specs.declared.denial.DenialKind.{DenialKind}
 use Rattle.guard_policy.specs.Policy.{fixed}
 use Rattle.guard_policy.specs.declared.denial.Denial.{Denial}
-use Rattle.hii_commands.specs.Orders.{Order, ShowPage, SetValue, SubmitChanges, DiscardChanges}
+use Rattle.hii_commands.specs.Orders.{Order, ShowPage, SetValue, ChooseLanguage, SubmitChanges, DiscardChanges}
 use Rattle.browser_core.specs.State.{State}
 use Rattle.browser_core.specs.Step.{step, set_question, set_unless, set_fitting, with_field}
 use Rattle.browser_core.specs.declared.reply.Reply.TheVariants.{Accepted}
@@ -98,6 +98,7 @@ step_keeps s (SetValue id value) store at same none = (
   set_keeps s value store at (question_with (nodes_of s.ifr) id) (λ n field found is here from inside ok. none (n, field, found, is, here, from, inside, ok)) ∙ same,
   ap (λ m. byte_of m store at) (set_submits s value (question_with (nodes_of s.ifr) id)),
 )
+step_keeps s (ChooseLanguage language) store at same none = (same, refl)
 step_keeps s SubmitChanges store at same none = (same, same)
 step_keeps s DiscardChanges store at same none = (refl, refl)
 

@@ -15,6 +15,8 @@ use Rattle.hii_packages.proofs.PackageLemmas.{pieces-concat}
 use Rattle.hii_packages.proofs.SpellLemmas.{end_from_spells}
 use Rattle.hii_packages.proofs.PlaceLemmas as list_places
 use Rattle.hii_packages.proofs.FormsLemmas.{there_without_fault}
+use Rattle.hii_languages.specs.Languages.{Spoken, string_packages, AreSpoken, IsStringsFault, chosen}
+use Rattle.hii_languages.proofs.SpokenLemmas.{spoken_sound}
 use Rattle.ifr_opcodes.specs.Forest.{Placed, places}
 use Rattle.ifr_opcodes.specs.Reading.{tree_of}
 use Rattle.ifr_scopes.specs.Accepted.{IsAccepted, IsPackageFault}
@@ -30,7 +32,7 @@ use Rattle.hii_varstore.specs.Faults.{IsImageFault, IsNoMemory}
 use Rattle.hii_varstore.proofs.FaultLemmas as image
 use Rattle.hii_questions.specs.Faults.{IsQuestionFault}
 use Rattle.browser_core.specs.State.{State}
-use Rattle.browser_core.specs.Opening.{bytes_or_none, forms_bytes, HasSource, layout_in, IsSourceFault, IsFormSetFault, IsOpenFault, IsBrowsable, Opens}
+use Rattle.browser_core.specs.Opening.{bytes_or_none, forms_bytes, HasSource, HasTexts, layout_in, IsSourceFault, IsTextFault, IsFormSetFault, IsBrowsingFault, IsOpenFault, IsBrowsable, Opens}
 
 -- ---- the forms package of a number
 
@@ -72,18 +74,35 @@ browsable_no_fault ifr b =
     then_none (IsPackageFault ifr) (Then (IsStoreFault (nodes_of ifr)) (IsQuestionFault (nodes_of ifr) (layout_in ifr))) (accepted_no_fault ifr b.accepted)
     (then_none (IsStoreFault (nodes_of ifr)) (IsQuestionFault (nodes_of ifr) (layout_in ifr)) b.stores b.questions)
 
-opens_no_fault : (list : List ℕ) (n : ℕ) (stores : List ℕ) (start : State) → Opens list n stores start → HasNone (IsOpenFault list n stores)
-opens_no_fault list n stores start o =
+-- its forms package of the number is found, these are its bytes, and its string packages say this
+pub record IsFound (list : List ℕ) (n : ℕ) (ifr : List ℕ) : Type 0 where
+  pub source : Entry
+  pub found : HasSource list n source
+  pub is : ifr ≡ source.bytes
+  pub spoken : List Spoken
+  pub texts : HasTexts list spoken
+
+pub is_found : (list : List ℕ) (n : ℕ) (packages : List (List ℕ)) (source : Entry) (ifr : List ℕ) (spoken : List Spoken) → Spells list packages → nth_forms packages n ≡ Some source → ifr ≡ source.bytes
+    → AreSpoken (string_packages packages) spoken → IsFound list n ifr
+is_found list n packages source ifr spoken s found is says = record { source = source; found = (packages, s, found); is = is; spoken = spoken; texts = (packages, s, says) }
+
+no_text_fault : (list : List ℕ) (spoken : List Spoken) → HasTexts list spoken → HasNone (IsTextFault list)
+no_text_fault list spoken (packages, s, says) =
+    subst (λ ps. HasNone (IsStringsFault (string_packages ps))) (sym (spelled_pieces list packages s)) (spoken_sound (string_packages packages) spoken says)
+
+opens_no_fault : (list : List ℕ) (n : ℕ) (stores language : List ℕ) (start : State) → Opens list n stores language start → HasNone (IsOpenFault list n stores)
+opens_no_fault list n stores language start o =
     let is : start.ifr ≡ forms_bytes list n = o.bytes ∙ sym (source_bytes list n o.source o.found) in
-    then_none (IsSourceFault list n) (Then (IsFormSetFault (forms_bytes list n)) (IsImageFault (layout_in (forms_bytes list n)) stores)) (no_source_fault list n o.source o.found)
-    (subst (λ ifr. HasNone (Then (IsFormSetFault ifr) (IsImageFault (layout_in ifr) stores))) is
+    then_none (IsSourceFault list n) (Then (IsTextFault list) (IsBrowsingFault (forms_bytes list n) stores)) (no_source_fault list n o.source o.found)
+    (then_none (IsTextFault list) (IsBrowsingFault (forms_bytes list n) stores) (no_text_fault list start.spoken o.texts)
+    (subst (λ ifr. HasNone (IsBrowsingFault ifr stores)) is
     (then_none (IsFormSetFault start.ifr) (IsImageFault (layout_in start.ifr) stores) (browsable_no_fault start.ifr o.browsable)
-    (image.no_fault (layout_in start.ifr) stores start.working o.stores)))
+    (image.no_fault (layout_in start.ifr) stores start.working o.stores))))
 
 -- what is refused where the bytes open a session is want of memory
-pub only_memory : (list : List ℕ) (n : ℕ) (stores : List ℕ) (start : State) (fault : Fault) → Opens list n stores start → Refuses (IsOpenFault list n stores) fault → fault ≡ out_of_memory
-only_memory list n stores start fault o (inl memory) = memory
-only_memory list n stores start fault o (inr least) = absurd (opens_no_fault list n stores start o fault.cause fault.place least.told)
+pub only_memory : (list : List ℕ) (n : ℕ) (stores language : List ℕ) (start : State) (fault : Fault) → Opens list n stores language start → Refuses (IsOpenFault list n stores) fault → fault ≡ out_of_memory
+only_memory list n stores language start fault o (inl memory) = memory
+only_memory list n stores language start fault o (inr least) = absurd (opens_no_fault list n stores language start o fault.cause fault.place least.told)
 
 -- ---- the part that refuses
 
@@ -99,34 +118,39 @@ refuses_second First Second fault none (inr least) = inr (then_second First Seco
 pub refuses_source : (list : List ℕ) (n : ℕ) (stores : List ℕ) (fault : Fault) → IsLeast (IsSourceFault list n) fault → Refuses (IsOpenFault list n stores) fault
 refuses_source list n stores fault least = refuses_first (IsSourceFault list n) _ fault (inr least)
 
+-- its string packages refuse
+pub refuses_texts : (list : List ℕ) (n : ℕ) (stores : List ℕ) (packages : List (List ℕ)) (source : Entry) (fault : Fault) → Spells list packages → nth_forms packages n ≡ Some source
+    → Refuses (IsStringsFault (string_packages packages)) fault → Refuses (IsOpenFault list n stores) fault
+refuses_texts list n stores packages source fault s found r =
+    refuses_second (IsSourceFault list n) (Then (IsTextFault list) (IsBrowsingFault (forms_bytes list n) stores)) fault (no_source_fault list n source (packages, s, found))
+    (refuses_first (IsTextFault list) (IsBrowsingFault (forms_bytes list n) stores) fault
+    (subst (λ ps. Refuses (IsStringsFault (string_packages ps)) fault) (sym (spelled_pieces list packages s)) r))
+
 -- its forms package refuses, or the image
-refuses_later : (list : List ℕ) (n : ℕ) (stores : List ℕ) (source : Entry) (ifr : List ℕ) (fault : Fault) → HasSource list n source → ifr ≡ source.bytes
-    → Refuses (Then (IsFormSetFault ifr) (IsImageFault (layout_in ifr) stores)) fault → Refuses (IsOpenFault list n stores) fault
-refuses_later list n stores source ifr fault found is r =
-    refuses_second (IsSourceFault list n) (Then (IsFormSetFault (forms_bytes list n)) (IsImageFault (layout_in (forms_bytes list n)) stores)) fault (no_source_fault list n source found)
-    (subst (λ ifr. Refuses (Then (IsFormSetFault ifr) (IsImageFault (layout_in ifr) stores)) fault) (is ∙ sym (source_bytes list n source found)) r)
+refuses_later : (list : List ℕ) (n : ℕ) (stores ifr : List ℕ) (fault : Fault) → IsFound list n ifr → Refuses (IsBrowsingFault ifr stores) fault → Refuses (IsOpenFault list n stores) fault
+refuses_later list n stores ifr fault f r =
+    refuses_second (IsSourceFault list n) (Then (IsTextFault list) (IsBrowsingFault (forms_bytes list n) stores)) fault (no_source_fault list n f.source f.found)
+    (refuses_second (IsTextFault list) (IsBrowsingFault (forms_bytes list n) stores) fault (no_text_fault list f.spoken f.texts)
+    (subst (λ ifr. Refuses (IsBrowsingFault ifr stores) fault) (f.is ∙ sym (source_bytes list n f.source f.found)) r))
 
-refuses_form_set : (list : List ℕ) (n : ℕ) (stores : List ℕ) (source : Entry) (ifr : List ℕ) (fault : Fault) → HasSource list n source → ifr ≡ source.bytes
-    → Refuses (IsFormSetFault ifr) fault → Refuses (IsOpenFault list n stores) fault
-refuses_form_set list n stores source ifr fault found is r =
-    refuses_later list n stores source ifr fault found is (refuses_first (IsFormSetFault ifr) (IsImageFault (layout_in ifr) stores) fault r)
+refuses_form_set : (list : List ℕ) (n : ℕ) (stores ifr : List ℕ) (fault : Fault) → IsFound list n ifr → Refuses (IsFormSetFault ifr) fault → Refuses (IsOpenFault list n stores) fault
+refuses_form_set list n stores ifr fault f r =
+    refuses_later list n stores ifr fault f (refuses_first (IsFormSetFault ifr) (IsImageFault (layout_in ifr) stores) fault r)
 
-pub refuses_package : (list : List ℕ) (n : ℕ) (stores : List ℕ) (source : Entry) (ifr : List ℕ) (fault : Fault) → HasSource list n source → ifr ≡ source.bytes
-    → Refuses (IsPackageFault ifr) fault → Refuses (IsOpenFault list n stores) fault
-refuses_package list n stores source ifr fault found is r =
-    refuses_form_set list n stores source ifr fault found is (refuses_first (IsPackageFault ifr) (Then (IsStoreFault (nodes_of ifr)) (IsQuestionFault (nodes_of ifr) (layout_in ifr))) fault r)
+pub refuses_package : (list : List ℕ) (n : ℕ) (stores ifr : List ℕ) (fault : Fault) → IsFound list n ifr → Refuses (IsPackageFault ifr) fault → Refuses (IsOpenFault list n stores) fault
+refuses_package list n stores ifr fault f r =
+    refuses_form_set list n stores ifr fault f (refuses_first (IsPackageFault ifr) (Then (IsStoreFault (nodes_of ifr)) (IsQuestionFault (nodes_of ifr) (layout_in ifr))) fault r)
 
-pub refuses_stores : (list : List ℕ) (n : ℕ) (stores : List ℕ) (source : Entry) (ifr : List ℕ) (fault : Fault) → HasSource list n source → ifr ≡ source.bytes → IsAccepted ifr
-    → Refuses (IsStoreFault (nodes_of ifr)) fault → Refuses (IsOpenFault list n stores) fault
-refuses_stores list n stores source ifr fault found is a r =
-    refuses_form_set list n stores source ifr fault found is
+pub refuses_stores : (list : List ℕ) (n : ℕ) (stores ifr : List ℕ) (fault : Fault) → IsFound list n ifr → IsAccepted ifr → Refuses (IsStoreFault (nodes_of ifr)) fault → Refuses (IsOpenFault list n stores) fault
+refuses_stores list n stores ifr fault f a r =
+    refuses_form_set list n stores ifr fault f
     (refuses_second (IsPackageFault ifr) (Then (IsStoreFault (nodes_of ifr)) (IsQuestionFault (nodes_of ifr) (layout_in ifr))) fault (accepted_no_fault ifr a)
     (refuses_first (IsStoreFault (nodes_of ifr)) (IsQuestionFault (nodes_of ifr) (layout_in ifr)) fault r))
 
-pub refuses_questions : (list : List ℕ) (n : ℕ) (stores : List ℕ) (source : Entry) (ifr : List ℕ) (shape : Shape) (fault : Fault) → HasSource list n source → ifr ≡ source.bytes → IsAccepted ifr
+pub refuses_questions : (list : List ℕ) (n : ℕ) (stores ifr : List ℕ) (shape : Shape) (fault : Fault) → IsFound list n ifr → IsAccepted ifr
     → HasNone (IsStoreFault (nodes_of ifr)) → shape ≡ layout_in ifr → Refuses (IsQuestionFault (nodes_of ifr) shape) fault → Refuses (IsOpenFault list n stores) fault
-refuses_questions list n stores source ifr shape fault found is a sound laid r =
-    refuses_form_set list n stores source ifr fault found is
+refuses_questions list n stores ifr shape fault f a sound laid r =
+    refuses_form_set list n stores ifr fault f
     (refuses_second (IsPackageFault ifr) (Then (IsStoreFault (nodes_of ifr)) (IsQuestionFault (nodes_of ifr) (layout_in ifr))) fault (accepted_no_fault ifr a)
     (refuses_second (IsStoreFault (nodes_of ifr)) (IsQuestionFault (nodes_of ifr) (layout_in ifr)) fault sound (subst (λ shape. Refuses (IsQuestionFault (nodes_of ifr) shape) fault) laid r)))
 
@@ -145,21 +169,24 @@ browsable ifr shape a sound laid questions = record {
   questions = subst (λ shape. HasNone (IsQuestionFault (nodes_of ifr) shape)) laid questions;
 }
 
-pub refuses_image : (list : List ℕ) (n : ℕ) (stores : List ℕ) (source : Entry) (ifr : List ℕ) (shape : Shape) (fault : Fault) → HasSource list n source → ifr ≡ source.bytes → IsBrowsable ifr
+pub refuses_image : (list : List ℕ) (n : ℕ) (stores ifr : List ℕ) (shape : Shape) (fault : Fault) → IsFound list n ifr → IsBrowsable ifr
     → shape ≡ layout_in ifr → IsNoMemory fault ⊎ IsLeast (IsImageFault shape stores) fault → Refuses (IsOpenFault list n stores) fault
-refuses_image list n stores source ifr shape fault found is b laid r =
-    refuses_later list n stores source ifr fault found is
+refuses_image list n stores ifr shape fault f b laid r =
+    refuses_later list n stores ifr fault f
     (refuses_second (IsFormSetFault ifr) (IsImageFault (layout_in ifr) stores) fault (browsable_no_fault ifr b)
     (subst (λ shape. Refuses (IsImageFault shape stores) fault) laid (image_refuses (IsImageFault shape stores) fault r)))
 
 -- what the bytes open
-pub opened : (list : List ℕ) (n : ℕ) (stores : List ℕ) (source : Entry) (start : State) (shape : Shape) (first : Placed) (others : List Placed)
-    → HasSource list n source → start.ifr ≡ source.bytes → IsBrowsable start.ifr → shape ≡ layout_in start.ifr → SpellsImage shape stores start.committed → start.working ≡ start.committed
-    → filter is_form (nodes_of start.ifr) ≡ first ∷ others → start.form ≡ first.place → Opens list n stores start
-opened list n stores source start shape first others found is b laid spelled same forms place = record {
+pub opened : (list : List ℕ) (n : ℕ) (stores language : List ℕ) (packages : List (List ℕ)) (source : Entry) (start : State) (shape : Shape) (first : Placed) (others : List Placed)
+    → Spells list packages → nth_forms packages n ≡ Some source → start.ifr ≡ source.bytes → AreSpoken (string_packages packages) start.spoken → start.language ≡ chosen start.spoken language
+    → IsBrowsable start.ifr → shape ≡ layout_in start.ifr → SpellsImage shape stores start.committed
+    → start.working ≡ start.committed → filter is_form (nodes_of start.ifr) ≡ first ∷ others → start.form ≡ first.place → Opens list n stores language start
+opened list n stores language packages source start shape first others s found is says chose b laid spelled same forms place = record {
   source = source;
-  found = found;
+  found = (packages, s, found);
   bytes = is;
+  texts = (packages, s, says);
+  language_is = chose;
   browsable = b;
   stores = subst (SpellsImage (layout_in start.ifr) stores) (sym same) (subst (λ shape. SpellsImage shape stores start.committed) laid spelled);
   submitted = sym same;

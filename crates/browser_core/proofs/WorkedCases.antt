@@ -1,10 +1,12 @@
 -- Some worked cases, computed from the definitions: what a script over small lists leaves and writes.
-use Rattle.std.proofs.Common.{◌≡◌, ℕ, ◌+◌, List, [], ◌∷◌, ◌++◌, refl}
+use Rattle.std.proofs.Common.{◌≡◌, ℕ, ◌+◌, None, Some, List, [], ◌∷◌, ◌++◌, refl}
 use Rattle.std.specs.Prelude.{replicate, codes}
 use Rattle.std.specs.Fmt.{digits}
 use Rattle.hii_bytes.specs.Numbers.{number_in}
 use Rattle.ifr_opcodes.specs.Reading.{cut, levels, tree_of}
 use Rattle.unicode_width.proofs.Computing.{unicode_width}
+use Rattle.sibt_strings.specs.Units.{chars_of_units}
+use Rattle.hii_languages.specs.Languages.{Spoken}
 use Rattle.hii_varstore.specs.Image.{image_of}
 use Rattle.hii_varstore.specs.Stores.{StoreMap, with_bytes}
 use Rattle.browser_core.specs.State.{State}
@@ -44,7 +46,7 @@ before = form_set ++ store ++ form
 abbrev started : List ℕ → List ℕ → State
 started ifr bytes =
     let stores : StoreMap = record { guid = replicate 16 0x22; stores = record { id = 1; bytes = bytes } ∷ [] } in
-    record { ifr = ifr; committed = stores; working = stores; form = 51 }
+    record { ifr = ifr; spoken = []; language = None; committed = stores; working = stores; form = 51 }
 
 -- ---- a checkbox is set and submitted
 
@@ -63,6 +65,20 @@ set_image = codes "HVS2" ++ replicate 16 0x22 ++ (1 ∷ 0 ∷ 1 ∷ 0 ∷ 2 ∷ 
 a_set_checkbox_is_submitted : image_of (outcome_of (started one_checkbox (0 ∷ 0 ∷ [])) (codes "page\nset 1 1\nsubmit\n")).state.committed ≡ set_image
 unfolding cut levels tree_of number_in with_bytes digits unicode_width image_of
 a_set_checkbox_is_submitted = refl
+
+-- ---- the prompt of a checkbox in two languages
+
+-- a string package of a language in which the id 3 has a text of one character
+abbrev speaking : List ℕ → ℕ → Spoken
+speaking language c = record { language = language; texts = None ∷ None ∷ Some (c ∷ 0 ∷ []) ∷ [] }
+
+abbrev in_english : State
+in_english = record (started one_checkbox (0 ∷ 0 ∷ [])) { spoken = speaking (codes "en-US") 65 ∷ speaking (codes "de") 66 ∷ []; language = Some 0 }
+
+a_prompt_is_shown : (outcome_of in_english (codes "page\nlang DE-at\npage\n")).text
+    ≡ codes "FORM 1 #2\n  1 *     1 A                        [ ]\nOK\nFORM 1 #2\n  1 *     1 B                        [ ]\n"
+unfolding cut levels tree_of number_in with_bytes digits unicode_width chars_of_units
+a_prompt_is_shown = refl
 
 -- ---- a checkbox is hidden while another one is set
 

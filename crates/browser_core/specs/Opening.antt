@@ -4,6 +4,7 @@ use Rattle.hii_bytes.specs.Faults.{HasNone, Then}
 use Rattle.hii_bytes.specs.declared.cause.Cause.{Cause}
 use Rattle.hii_packages.specs.Packages.{Entry, Spells, pieces_of, nth_forms}
 use Rattle.hii_packages.specs.Faults.{IsListFault, IsFormsFault}
+use Rattle.hii_languages.specs.Languages.{Spoken, string_packages, AreSpoken, IsStringsFault, chosen}
 use Rattle.ifr_opcodes.specs.Forest.{places}
 use Rattle.ifr_scopes.specs.Accepted.{IsAccepted, IsPackageFault}
 use Rattle.ifr_scopes.specs.Nodes.{nodes_of, is_form}
@@ -27,6 +28,14 @@ forms_bytes list n = bytes_or_none (nth_forms (pieces_of (drop 20 list)) n)
 abbrev pub HasSource : List ℕ → ℕ → Entry → Type 0
 HasSource list n source = (packages : List (List ℕ)) × Spells list packages × (nth_forms packages n ≡ Some source)
 
+-- The list spells packages, and its string packages say this.
+abbrev pub HasTexts : List ℕ → List Spoken → Type 0
+HasTexts list spoken = (packages : List (List ℕ)) × Spells list packages × AreSpoken (string_packages packages) spoken
+
+-- the faults of the string packages of a list, in their order
+abbrev pub IsTextFault : List ℕ → Cause → ℕ → Type 0
+IsTextFault list = IsStringsFault (string_packages (pieces_of (drop 20 list)))
+
 -- the stores that a package declares
 abbrev pub layout_in : List ℕ → Shape
 layout_in ifr = layout_of (nodes_of ifr)
@@ -39,10 +48,14 @@ IsSourceFault list n = Then (IsListFault list) (IsFormsFault list n)
 abbrev pub IsFormSetFault : List ℕ → Cause → ℕ → Type 0
 IsFormSetFault ifr = Then (IsPackageFault ifr) (Then (IsStoreFault (nodes_of ifr)) (IsQuestionFault (nodes_of ifr) (layout_in ifr)))
 
--- The faults of a session's bytes: of the list, then of the forms package of the number, then of the image of its stores.
+-- the faults of a forms package, then of the image of its stores
+abbrev pub IsBrowsingFault : List ℕ → List ℕ → Cause → ℕ → Type 0
+IsBrowsingFault ifr image = Then (IsFormSetFault ifr) (IsImageFault (layout_in ifr) image)
+
+-- The faults of a session's bytes: of the list, then of its string packages, then of the forms package of the number, then
+-- of the image of its stores.
 abbrev pub IsOpenFault : List ℕ → ℕ → List ℕ → Cause → ℕ → Type 0
-IsOpenFault list n image =
-    Then (IsSourceFault list n) (Then (IsFormSetFault (forms_bytes list n)) (IsImageFault (layout_in (forms_bytes list n)) image))
+IsOpenFault list n image = Then (IsSourceFault list n) (Then (IsTextFault list) (IsBrowsingFault (forms_bytes list n) image))
 
 -- A package is accepted, and so are its stores and its questions.
 pub record IsBrowsable (ifr : List ℕ) : Type 0 where
@@ -50,12 +63,14 @@ pub record IsBrowsable (ifr : List ℕ) : Type 0 where
   pub stores : HasNone (IsStoreFault (nodes_of ifr))
   pub questions : HasNone (IsQuestionFault (nodes_of ifr) (layout_in ifr))
 
--- The list spells packages, among them a forms package of the number, which can be browsed; the image spells its stores,
--- with which a session begins, at the first form.
-pub record Opens (list : List ℕ) (n : ℕ) (image : List ℕ) (start : State) : Type 0 where
+-- The list spells packages, among them a forms package of the number, which can be browsed; its string packages say texts,
+-- of which those for the language are shown; the image spells its stores, with which a session begins, at the first form.
+pub record Opens (list : List ℕ) (n : ℕ) (image language : List ℕ) (start : State) : Type 0 where
   pub source : Entry
   pub found : HasSource list n source
   pub bytes : start.ifr ≡ source.bytes
+  pub texts : HasTexts list start.spoken
+  pub language_is : start.language ≡ chosen start.spoken language
   pub browsable : IsBrowsable start.ifr
   pub stores : SpellsImage (layout_in start.ifr) image start.working
   pub submitted : start.committed ≡ start.working

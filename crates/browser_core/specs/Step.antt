@@ -6,6 +6,7 @@ use Rattle.hii_bytes.specs.declared.cause.Cause.{Cause}
 use Rattle.ifr_opcodes.specs.Forest.{Placed, node_at}
 use Rattle.ifr_opcodes.specs.Fields.{question_id}
 use Rattle.ifr_scopes.specs.Nodes.{nodes_of, is_question}
+use Rattle.hii_languages.specs.Languages.{chosen}
 use Rattle.hii_varstore.specs.Stores.{StoreMap, field_of as bytes_of_field, with_bytes}
 use Rattle.hii_questions.specs.Fields.{Field, field_of, question_with}
 use Rattle.hii_questions.specs.Answers.{answers}
@@ -15,12 +16,12 @@ use Rattle.hii_questions.specs.declared.denial.DenialKind.TheVariants.{NoQuestio
 use Rattle.guard_policy.specs.Policy.{fixed}
 use Rattle.guard_policy.specs.declared.denial.Denial.{Denial}
 use Rattle.form_page.specs.Pages.{page_text}
-use Rattle.hii_commands.specs.Orders.{Order, ShowPage, SetValue, SubmitChanges, DiscardChanges}
+use Rattle.hii_commands.specs.Orders.{Order, ShowPage, SetValue, ChooseLanguage, SubmitChanges, DiscardChanges}
 use Rattle.hii_commands.specs.Meaning.{cause_of}
 use Rattle.hii_commands.specs.Reading.{reading_of}
 use Rattle.hii_commands.specs.declared.command.BadLine.{BadLine}
 use Rattle.hii_commands.specs.Line.{without_return}
-use Rattle.browser_core.specs.State.{State}
+use Rattle.browser_core.specs.State.{State, texts}
 use Rattle.browser_core.specs.Texts.{ok_text, count_text, changed_text, denied_text, refused_text}
 use Rattle.browser_core.specs.declared.reply.Reply.{Reply}
 use Rattle.browser_core.specs.declared.reply.Reply.TheVariants.{Accepted, Denied, Refused}
@@ -45,7 +46,7 @@ refused s cause = record { state = s; text = refused_text cause; reply = Refused
 
 abbrev pub page_at : State → Option Placed → List ℕ
 page_at s None = []
-page_at s (Some form) = page_text (nodes_of s.ifr) s.working form
+page_at s (Some form) = page_text (texts s) (nodes_of s.ifr) s.working form
 
 abbrev pub show_page : State → Outcome
 show_page s = accepted s (page_at s (node_at (nodes_of s.ifr) s.form))
@@ -99,6 +100,7 @@ submitted s = accepted (record s { committed = s.working }) (count_text (length 
 abbrev pub step : State → Order → Outcome
 step s ShowPage = show_page s
 step s (SetValue id value) = set_question s (question_with (nodes_of s.ifr) id) (whole value)
+step s (ChooseLanguage language) = accepted (record s { language = chosen s.spoken language }) ok_text
 step s SubmitChanges = submitted s
 step s DiscardChanges = accepted (record s { working = s.committed }) ok_text
 

@@ -4,6 +4,7 @@ ghost use Rattle.std.specs.Prelude.{◌≡◌, ◌≤◌, ◌+◌, ◌∷◌, no
 ghost use Rattle.hii_bytes.specs.Faults.{Refuses, IsLeast, out_of_memory};
 ghost use Rattle.hii_bytes.specs.Watching.{pen_of, Writes};
 ghost use Rattle.hii_packages.specs.Package.{entry_of};
+ghost use Rattle.hii_packages.specs.Packages.{Spells, nth_forms};
 ghost use Rattle.ifr_opcodes.specs.Forest.{Placed};
 ghost use Rattle.ifr_scopes.specs.Checked.{IsNodeOf};
 ghost use Rattle.ifr_scopes.specs.Lists.{form_node};
@@ -15,7 +16,7 @@ ghost use Rattle.hii_questions.specs.Views.{question_node};
 ghost use Rattle.browser_core.specs.State.{State};
 ghost use Rattle.browser_core.specs.Step.{step, show_page, changed, are_same, field_bytes, submitted};
 ghost use Rattle.browser_core.specs.Standing.{Sets, LiesIn};
-ghost use Rattle.browser_core.specs.Opening.{Opens, IsOpenFault, IsSourceFault, HasSource};
+ghost use Rattle.browser_core.specs.Opening.{Opens, IsOpenFault, IsSourceFault};
 
 use crate::reply::Reply;
 use crate::texts::{put_changed, put_count, put_denial};
@@ -23,6 +24,7 @@ use form_page::Page;
 use guard_policy::{Denial, Policy};
 use hii_bytes::{Fault, Watched};
 use hii_commands::Command;
+use hii_languages::{Choice, Languages};
 use hii_packages::laws::spelled_bytes_have_no_fault;
 use hii_packages::{Package, PackageList};
 use hii_questions::{DenialKind, Field, Input, Question, Questions, check_value};
@@ -37,6 +39,8 @@ use std::marker::Model;
 #[derive(Drop)]
 pub(crate) struct Core<'a> {
     forms: Forms<'a>,
+    languages: Languages<'a>,
+    language: Choice,
     questions: Questions<'a>,
     committed: Stores,
     working: Stores,
@@ -44,41 +48,46 @@ pub(crate) struct Core<'a> {
 }
 
 impl<'a> Model for Core<'a> {
+    ghost use Rattle.hii_languages.specs.Views.{choice_of};
     ghost use Rattle.ifr_scopes.specs.Lists.{form_node};
     ghost use Rattle.browser_core.specs.State.{State};
     ghost use Rattle.browser_core.specs.Standing.{Stands};
 
     ghost Value = { State };
 
-    ghost view = { λ c. record { ifr = c.forms; committed = c.committed; working = c.working; form = (form_node c.form).place } };
+    ghost view = { λ c. record { ifr = c.forms; spoken = c.languages; language = choice_of c.language; committed = c.committed; working = c.working; form = (form_node c.form).place } };
 
     ghost invariant = { λ c. Stands c.forms c.questions c.committed c.working (form_node c.form) };
 }
 
 impl<'a> Core<'a> {
     /// The forms package of a number in a list, over the image of its stores, at its first form; or the least fault of
-    /// these bytes. The language is not looked at.
+    /// these bytes. Texts are those of the string package that is chosen for the language.
     pub(crate) fn open(
         alloc: Global,
         list: &'a [u8],
         forms: usize,
         stores: &[u8],
-        _lang: &[u8],
+        lang: &[u8],
     ) -> Result<Core<'a>, Fault>
-        ensures opened { IfOk result (Opens list.entry.now forms stores.now) }
+        ensures opened { IfOk result (Opens list.entry.now forms stores.now lang.now) }
         ensures refused { IfErr result (Refuses (IsOpenFault list.entry.now forms stores.now)) }
         // Where the bytes open a session, nothing but want of memory refuses it.
-        ensures accepted { (start : State) → Opens list.entry.now forms stores.now start → IfErr result (λ fault. fault ≡ out_of_memory) }
+        ensures accepted { (start : State) → Opens list.entry.now forms stores.now lang.now start → IfErr result (λ fault. fault ≡ out_of_memory) }
     {
-        let source = find_source(list, forms)?;
-        let forms = Forms::read(alloc, source)?;
+        let found = find_source(list, forms)?;
+        let languages = Languages::read(alloc, &found.packages)?;
+        let forms = Forms::read(alloc, found.forms)?;
         let layout = Layout::read(alloc, &forms)?;
         let questions = Questions::read(alloc, &forms, &layout)?;
         let committed = Stores::read(alloc, &layout, stores)?;
         let working = committed.copy(alloc)?;
         let form = first_form(&forms);
+        let language = languages.choose(lang);
         Ok(Core {
             forms,
+            languages,
+            language,
             questions,
             committed,
             working,
@@ -99,10 +108,14 @@ impl<'a> Core<'a> {
     }
 
     /// Carries the command out and writes its text as far as the writer takes it.
-    pub(crate) fn carry_out<W: Write>(&mut self, command: Command, out: &mut Watched<W>) -> Reply
-        ensures state { self.new ≡ (step self.old (order_of command)).state }
-        ensures text { Writes (pen_of W.contents out.old) (pen_of W.contents out.new) (step self.old (order_of command)).text }
-        ensures reply { result ≡ (step self.old (order_of command)).reply }
+    pub(crate) fn carry_out<W: Write>(
+        &mut self,
+        command: Command<'_>,
+        out: &mut Watched<W>,
+    ) -> Reply
+        ensures state { self.new ≡ (step self.old (order_of command.entry)).state }
+        ensures text { Writes (pen_of W.contents out.old) (pen_of W.contents out.new) (step self.old (order_of command.entry)).text }
+        ensures reply { result ≡ (step self.old (order_of command.entry)).reply }
     {
         match command {
             Command::Page => {
@@ -110,6 +123,11 @@ impl<'a> Core<'a> {
                 Reply::Accepted
             }
             Command::Set { question, value } => self.set(question, value, out),
+            Command::Lang(language) => {
+                self.language = self.languages.choose(language);
+                out.put(b"OK\n");
+                Reply::Accepted
+            }
             Command::Submit => {
                 self.put_submitted(out);
                 self.committed.copy_from(&self.working);
@@ -128,7 +146,14 @@ impl<'a> Core<'a> {
         ensures { Writes (pen_of W.contents out.old) (pen_of W.contents out.new) (show_page self.now).text }
     {
         let policy = Policy::new(&self.forms, &self.questions);
-        Page::new(self.form, policy, &self.working).put_page(out);
+        let page = Page::new(
+            self.form,
+            policy,
+            &self.working,
+            &self.languages,
+            self.language,
+        );
+        page.put_page(out);
     }
 
     // Sets the question of an id to a value, or writes why it is denied.
@@ -199,14 +224,23 @@ impl<'a> Core<'a> {
     }
 }
 
-// The forms package of a number of the packages that a list spells.
-fn find_source(list: &[u8], number: usize) -> Result<Package<'_>, Fault>
-    ensures found { IfOk result (λ source. HasSource list.now number (entry_of source)) }
+// The packages of a list, and the forms package of a number among them.
+#[derive(Drop)]
+struct Source<'a> {
+    packages: PackageList<'a>,
+    forms: Package<'a>,
+}
+
+// The packages that a list spells, with the forms package of a number.
+fn find_source(list: &[u8], number: usize) -> Result<Source<'_>, Fault>
+    ensures spelled { IfOk result (λ source. Spells list.now source.packages) }
+    ensures found { IfOk result (λ source. nth_forms source.packages number ≡ Some (entry_of source.forms)) }
     ensures refused { IfErr result (IsLeast (IsSourceFault list.now number)) }
 {
     let packages = PackageList::read(list)?;
     spelled_bytes_have_no_fault();
-    packages.forms(number)
+    let forms = packages.forms(number)?;
+    Ok(Source { packages, forms })
 }
 
 // The first form, by place.

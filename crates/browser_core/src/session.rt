@@ -37,8 +37,8 @@ impl<'a> Model for Session<'a> {
 }
 
 impl<'a> Session<'a> {
-    /// Opens the forms package of this number, counted from 1, of a list, over the image of its stores; or the least
-    /// fault of these bytes. It takes all memory that the session ever takes.
+    /// Opens the forms package of this number, counted from 1, of a list, over the image of its stores, with texts in a
+    /// language; or the least fault of these bytes. It takes all memory that the session ever takes.
     pub fn open(
         alloc: Global,
         list: &'a [u8],
@@ -46,10 +46,10 @@ impl<'a> Session<'a> {
         stores: &[u8],
         lang: &[u8],
     ) -> Result<Session<'a>, Fault>
-        ensures opened { IfOk result (Opens list.entry.now forms stores.now) }
+        ensures opened { IfOk result (Opens list.entry.now forms stores.now lang.now) }
         ensures refused { IfErr result (Refuses (IsOpenFault list.entry.now forms stores.now)) }
         // Where the bytes open a session, nothing but want of memory refuses it.
-        ensures accepted { (start : State) → Opens list.entry.now forms stores.now start → IfErr result (λ fault. fault ≡ out_of_memory) }
+        ensures accepted { (start : State) → Opens list.entry.now forms stores.now lang.now start → IfErr result (λ fault. fault ≡ out_of_memory) }
     {
         let core = Core::open(alloc, list, forms, stores, lang)?;
         let line = LineBuffer::new(alloc)?;
@@ -73,12 +73,12 @@ impl<'a> Session<'a> {
     /// Carries the command out, and then writes its text. Where the writer fails, the command is carried out all the same.
     pub fn run<W: Write>(
         &mut self,
-        command: Command,
+        command: Command<'_>,
         out: &mut Watched<W>,
     ) -> Result<Reply, WriteFault>
-        ensures state { self.new ≡ (step self.old (order_of command)).state }
-        ensures text { Tells (pen_of W.contents out.old) (pen_of W.contents out.new) result (step self.old (order_of command)).text }
-        ensures reply { IfOk result (λ reply. reply ≡ (step self.old (order_of command)).reply) }
+        ensures state { self.new ≡ (step self.old (order_of command.entry)).state }
+        ensures text { Tells (pen_of W.contents out.old) (pen_of W.contents out.new) result (step self.old (order_of command.entry)).text }
+        ensures reply { IfOk result (λ reply. reply ≡ (step self.old (order_of command.entry)).reply) }
     {
         out.restart();
         let reply = self.core.carry_out(command, out);

@@ -11,7 +11,7 @@ use Rattle.hii_varstore.specs.Stores.{StoreMap}
 use Rattle.hii_questions.specs.Answers.{answers, value_of_field}
 use Rattle.hii_questions.specs.Fields.{field_of}
 use Rattle.guard_policy.specs.Policy.{hidden, fixed}
-use Rattle.form_page.specs.Texts.{shown, utf8, in_columns}
+use Rattle.form_page.specs.Texts.{utf8, in_columns}
 
 -- a row: its number, its mark, the id of its question, its prompt and its value
 pub record Row : Type 0 where
@@ -37,22 +37,23 @@ id_of n = if is_question n then Some (question_id n.op) else None
 abbrev pub value_of : StoreMap → Placed → List ℕ
 value_of stores n = if is_question n then shown_value (value_of_field stores (field_of n.op)) else []
 
-abbrev pub row_of : List Placed → StoreMap → ℕ → Placed → Row
-row_of ns stores number n = record {
+-- the row of a statement, with the texts as the characters that are shown of each string id
+abbrev pub row_of : (ℕ → List ℕ) → List Placed → StoreMap → ℕ → Placed → Row
+row_of texts ns stores number n = record {
   number = number;
   mark = mark_of (is_some (fixed (answers ns stores) n));
   question = id_of n;
-  prompt = shown (statement_prompt n.op);
+  prompt = texts (statement_prompt n.op);
   value = value_of stores n;
 }
 
-abbrev pub rows_from : List Placed → StoreMap → ℕ → List Placed → List Row
-rows_from ns stores number [] = []
-rows_from ns stores number (n ∷ rest) = row_of ns stores number n ∷ rows_from ns stores (number + 1) rest
+abbrev pub rows_from : (ℕ → List ℕ) → List Placed → StoreMap → ℕ → List Placed → List Row
+rows_from texts ns stores number [] = []
+rows_from texts ns stores number (n ∷ rest) = row_of texts ns stores number n ∷ rows_from texts ns stores (number + 1) rest
 
 -- the rows of a form, numbered from 1
-abbrev pub rows : List Placed → StoreMap → Placed → List Row
-rows ns stores form = rows_from ns stores 1 (filter (λ n. is_none (hidden (answers ns stores) n)) (statements form))
+abbrev pub rows : (ℕ → List ℕ) → List Placed → StoreMap → Placed → List Row
+rows texts ns stores form = rows_from texts ns stores 1 (filter (λ n. is_none (hidden (answers ns stores) n)) (statements form))
 
 -- a question's id in five columns, or that there is none
 abbrev pub id_text : Option ℕ → List ℕ
@@ -64,9 +65,9 @@ row_text row =
     right_aligned 3 (decimal row.number) ++ codes " " ++ (row.mark ∷ []) ++ codes " " ++ id_text row.question ++ codes " "
     ++ in_columns 24 row.prompt ++ codes " [" ++ utf8 row.value ++ codes "]\n"
 
-abbrev pub title_text : Placed → List ℕ
-title_text form = codes "FORM " ++ decimal (form_id form.op) ++ codes " " ++ utf8 (shown (form_title form.op)) ++ codes "\n"
+abbrev pub title_text : (ℕ → List ℕ) → Placed → List ℕ
+title_text texts form = codes "FORM " ++ decimal (form_id form.op) ++ codes " " ++ utf8 (texts (form_title form.op)) ++ codes "\n"
 
 -- the bytes of a page
-abbrev pub page_text : List Placed → StoreMap → Placed → List ℕ
-page_text ns stores form = title_text form ++ flat_map row_text (rows ns stores form)
+abbrev pub page_text : (ℕ → List ℕ) → List Placed → StoreMap → Placed → List ℕ
+page_text texts ns stores form = title_text texts form ++ flat_map row_text (rows texts ns stores form)

@@ -1,12 +1,8 @@
 -- Texts of a page as characters, and their columns (own rule; a character's width is that of the crate unicode_width, which
 -- follows Unicode's East Asian Width).
-use Rattle.std.specs.Prelude.{ℕ, false, ◌+◌, ◌-◌, ◌==◌, nat_le, if◌then◌else◌, Option, Some, None, List, [], ◌∷◌, ◌++◌, replicate, decimal, encode_utf8}
+use Rattle.std.specs.Prelude.{ℕ, false, ◌+◌, ◌-◌, nat_le, if◌then◌else◌, Option, Some, None, List, [], ◌∷◌, ◌++◌, replicate, encode_utf8}
 use Rattle.std.specs.List.{flat_map}
 use Rattle.unicode_width.specs.Width.{char_width}
-
--- The text of a string id. Until texts are read, an id shows as itself, and 0 as nothing.
-abbrev pub shown : ℕ → List ℕ
-shown id = if id == 0 then [] else 35 ∷ decimal id
 
 -- the bytes of some characters
 abbrev pub utf8 : List ℕ → List ℕ

@@ -1,28 +1,19 @@
 -- What the values of a page stand for.
-use Rattle.std.specs.Prelude.{ℕ, if◌then◌else◌, Option, Some, None, is_none, List, [], ◌∷◌, filter, drop, decimal}
+use Rattle.std.specs.Prelude.{ℕ, if◌then◌else◌, Option, Some, None, is_none, List, [], ◌∷◌, filter}
 use Rattle.ifr_scopes.specs.Lists.{statements_left}
 use Rattle.ifr_scopes.specs.Nodes.{nodes_of}
 use Rattle.hii_questions.specs.Answers.{answers}
+use Rattle.hii_languages.specs.Shown.{shown_text}
+use Rattle.hii_languages.specs.Views.{choice_of, text_of}
 use Rattle.guard_policy.specs.Policy.{hidden}
 use Rattle.guard_policy.specs.Views.{bytes_of}
 use Rattle.form_page.specs.Pages.{rows_from}
 use Rattle.form_page.specs.Pages as pages
-use Rattle.form_page.specs.declared.shown.Shown.{Shown}
-use Rattle.form_page.specs.declared.shown.Shown.TheVariants.{Nothing, Missing}
-use Rattle.form_page.specs.declared.shown.ShownChars.{ShownChars}
 use Rattle.form_page.specs.declared.row.RowValue.{RowValue}
 use Rattle.form_page.specs.declared.row.RowValue.TheVariants.{Empty, Checkbox}
 use Rattle.form_page.specs.declared.row.RowValueChars.{RowValueChars}
 use Rattle.form_page.specs.declared.row.Row.{Row}
 use Rattle.form_page.specs.declared.page.Rows.{Rows}
-
--- the characters of a shown text
-abbrev pub text_of : Shown → List ℕ
-text_of Nothing = []
-text_of (Missing id) = 35 ∷ decimal id
-
-abbrev pub chars_left : ShownChars → List ℕ
-chars_left it = drop it.next it.text.items
 
 -- the characters of a value
 abbrev pub value_text : RowValue → List ℕ
@@ -41,5 +32,6 @@ row_seen row = record { number = row.number; mark = row.mark; question = row.que
 
 abbrev pub rows_left : Rows → List pages.Row
 rows_left it =
-    let ns = nodes_of (bytes_of it.policy) in
-    rows_from ns it.stores.now it.number (filter (λ n. is_none (hidden (answers ns it.stores.now) n)) (statements_left it.statements))
+    let ns = nodes_of (bytes_of it.page.policy) in
+    let stores = it.page.stores.now in
+    rows_from (shown_text it.page.languages.now (choice_of it.page.choice)) ns stores it.number (filter (λ n. is_none (hidden (answers ns stores) n)) (statements_left it.statements))

@@ -11,4 +11,3 @@ mod tests;
 
 pub use page::{Page, Rows};
 pub use row::{Row, RowValue, RowValueChars};
-pub use shown::{Shown, ShownChars};

@@ -5,14 +5,15 @@ ghost use Rattle.ifr_opcodes.specs.Fields.{form_title};
 ghost use Rattle.ifr_scopes.specs.Checked.{IsNodeOf, IsNodeOf-prop, AreNodesOf, AreNodesOf-prop};
 ghost use Rattle.ifr_scopes.specs.Lists.{form_node, statements_left};
 ghost use Rattle.ifr_scopes.specs.Nodes.{nodes_of};
+ghost use Rattle.hii_languages.specs.Shown.{shown_text};
+ghost use Rattle.hii_languages.specs.Views.{choice_of, text_of};
 ghost use Rattle.guard_policy.specs.Views.{bytes_of};
 ghost use Rattle.form_page.specs.Pages as pages;
-ghost use Rattle.form_page.specs.Texts.{shown};
 
 use crate::row::Row;
-use crate::shown::Shown;
 use crate::statement_row::row_of;
 use guard_policy::Policy;
+use hii_languages::{Choice, Languages, Shown};
 use hii_varstore::Stores;
 use ifr_scopes::laws::{statements_are_few, statements_are_nodes};
 use ifr_scopes::{Form, Statements};
@@ -21,57 +22,67 @@ use ifr_scopes::{Form, Statements};
 #[derive(Clone, Copy)]
 pub struct Page<'a, 's> {
     pub(crate) form: Form<'a>,
-    policy: Policy<'a, 's>,
-    stores: &'s Stores,
+    pub(crate) policy: Policy<'a, 's>,
+    pub(crate) stores: &'s Stores,
+    pub(crate) languages: &'s Languages<'a>,
+    pub(crate) choice: Choice,
     pub ghost together: { IsNodeOf (bytes_of policy) (form_node form) } by { IsNodeOf-prop (bytes_of policy) (form_node form) },
 }
 
 /// The rows that are left of a page.
 #[derive(Drop)]
 pub struct Rows<'a, 's> {
-    policy: Policy<'a, 's>,
-    stores: &'s Stores,
+    page: Page<'a, 's>,
     statements: Statements<'a>,
     number: u32,
-    pub ghost together: { AreNodesOf (bytes_of policy) (statements_left statements) } by { AreNodesOf-prop (bytes_of policy) (statements_left statements) },
+    pub ghost together: { AreNodesOf (bytes_of page.policy) (statements_left statements) } by { AreNodesOf-prop (bytes_of page.policy) (statements_left statements) },
     pub ghost few: { number + length (statements_left statements) < 2 ^ 32 },
 }
 
 impl<'a, 's> Page<'a, 's> {
-    ghost use Rattle.form_page.specs.Views.{rows_left, text_of};
+    ghost use Rattle.form_page.specs.Views.{rows_left};
 
-    /// The page of a form of the policy's package.
-    pub fn new(form: Form<'a>, policy: Policy<'a, 's>, stores: &'s Stores) -> Page<'a, 's>
+    /// The page of a form of the policy's package, with texts in the chosen language.
+    pub fn new(
+        form: Form<'a>,
+        policy: Policy<'a, 's>,
+        stores: &'s Stores,
+        languages: &'s Languages<'a>,
+        choice: Choice,
+    ) -> Page<'a, 's>
         requires { IsNodeOf (bytes_of policy) (form_node form) }
         ensures form { form_node result.form ≡ form_node form.entry }
         ensures policy { bytes_of result.policy ≡ bytes_of policy.entry }
         ensures stores { result.stores.now ≡ stores.now }
+        ensures languages { result.languages.now ≡ languages.now }
+        ensures choice { choice_of result.choice ≡ choice_of choice }
     {
         Page {
             form,
             policy,
             stores,
+            languages,
+            choice,
         }
     }
 
     /// The title of the form.
-    pub fn title(&self) -> Shown
-        ensures { text_of result ≡ shown (form_title (form_node self.now.form).op) }
+    pub fn title(&self) -> Shown<'a>
+        ensures { text_of result ≡ shown_text self.now.languages.now (choice_of self.now.choice) (form_title (form_node self.now.form).op) }
     {
-        Shown::of(self.form.op().title())
+        self.languages.text(self.choice, self.form.op().title())
     }
 
     /// Its rows: one for each statement of the form that is not hidden.
     pub fn rows(&self) -> Rows<'a, 's>
-        ensures { rows_left result ≡ pages.rows (nodes_of (bytes_of self.now.policy)) self.now.stores.now (form_node self.now.form) }
+        ensures { rows_left result ≡ pages.rows (shown_text self.now.languages.now (choice_of self.now.choice)) (nodes_of (bytes_of self.now.policy)) self.now.stores.now (form_node self.now.form) }
     {
         statements_are_few();
         statements_are_nodes();
         // The package is accepted.
         self.policy.forms().bytes();
         Rows {
-            policy: self.policy,
-            stores: self.stores,
+            page: *self,
             statements: self.form.statements(),
             number: 1,
         }
@@ -82,16 +93,17 @@ impl<'a, 's> Iterator for Rows<'a, 's> {
     ghost use Rattle.std.specs.Iterator.{YieldsFirstBy, item_count};
     ghost use Rattle.form_page.specs.Views.{row_seen, rows_left};
 
-    type Item = Row;
+    type Item = Row<'a>;
 
     ghost next_gives = { YieldsFirstBy row_seen rows_left };
 
     ghost remaining = { item_count rows_left };
 
-    fn next(&mut self) -> Option<Row> {
+    fn next(&mut self) -> Option<Row<'a>> {
+        let page = self.page;
         while let Some(statement) = self.statements.next() {
-            if self.policy.listed(statement, self.stores).is_ok() {
-                let row = row_of(self.policy, self.stores, self.number, statement);
+            if page.policy.listed(statement, page.stores).is_ok() {
+                let row = row_of(page, self.number, statement);
                 self.number += 1;
                 return Some(row);
             }

@@ -7,8 +7,9 @@ ghost use Rattle.form_page.specs.Texts.{utf8};
 ghost use Rattle.form_page.specs.Pages.{id_text, row_text, shown_value};
 ghost use Rattle.form_page.specs.Views.{value_text, row_seen};
 
-use crate::shown::{Shown, put_in_columns};
+use crate::shown::put_in_columns;
 use hii_bytes::Watched;
+use hii_languages::Shown;
 use ifr_expr::Value;
 use std::io::Write;
 
@@ -73,14 +74,14 @@ impl Iterator for RowValueChars {
 
 /// A row of a page.
 #[derive(Clone, Copy, Debug)]
-pub struct Row {
+pub struct Row<'a> {
     /// Its number on the page, from 1.
     pub number: u32,
     /// A star where the question may be changed, an exclamation mark where not.
     pub mark: u8,
     /// The id of its question, if the statement is one.
     pub question: Option<u16>,
-    pub prompt: Shown,
+    pub prompt: Shown<'a>,
     pub value: RowValue,
 }
 
@@ -103,8 +104,8 @@ fn put_id<W: Write>(question: Option<u16>, out: &mut Watched<W>)
 }
 
 /// Writes a row.
-pub(crate) fn put_row<W: Write>(row: Row, out: &mut Watched<W>)
-    ensures { Writes (pen_of W.contents out.old) (pen_of W.contents out.new) (row_text (row_seen row)) }
+pub(crate) fn put_row<W: Write>(row: Row<'_>, out: &mut Watched<W>)
+    ensures { Writes (pen_of W.contents out.old) (pen_of W.contents out.new) (row_text (row_seen row.entry)) }
 {
     out.put_decimal_right(3, u64::from(row.number));
     out.put(b" ");

@@ -1,86 +1,14 @@
-//! Texts of the list as they are shown.
+//! Texts of the list as they are written.
 
-ghost use Rattle.std.specs.Prelude.{◌≡◌, ◌+◌, ◌-◌, ◌≤◌, ◌∷◌, length, drop, decimal};
+ghost use Rattle.std.specs.Prelude.{◌≡◌, ◌-◌, ◌≤◌};
 ghost use Rattle.hii_bytes.specs.Watching.{pen_of, Writes};
-ghost use Rattle.form_page.specs.Texts.{shown, columns, utf8, cut_to, width, in_columns};
-ghost use Rattle.form_page.specs.Views.{chars_left};
+ghost use Rattle.hii_languages.specs.Views.{chars_left};
+ghost use Rattle.form_page.specs.Texts.{columns, utf8, cut_to, width, in_columns};
 
-use arrayvec::ArrayVec;
 use hii_bytes::Watched;
-use itoa::Buffer;
+use hii_languages::ShownChars;
 use std::io::Write;
 use unicode_width::UnicodeWidthChar;
-
-/// What is shown of a text of the list (UEFI 2.8, 33.2.6 Strings).
-#[derive(Clone, Copy, Debug, PartialEq, Eq)]
-pub enum Shown {
-    /// The string id 0.
-    Nothing,
-    /// A text that is not there: it shows as its string id.
-    Missing(u16),
-}
-
-// A number sign and the id in decimal digits.
-fn missing(id: u16) -> ArrayVec<u8, 6>
-    ensures { result.items ≡ 35 ∷ decimal id }
-{
-    let mut text = ArrayVec::new();
-    text.push(b'#');
-    let mut buffer = Buffer::new();
-    text.try_extend_from_slice(buffer.format(id).as_bytes())
-        .unwrap();
-    text
-}
-
-impl Shown {
-    ghost use Rattle.form_page.specs.Views.{text_of, chars_left};
-
-    /// What is shown of a string id.
-    pub(crate) fn of(id: u16) -> Shown
-        ensures { text_of result ≡ shown id }
-    {
-        if id == 0 {
-            Shown::Nothing
-        } else {
-            Shown::Missing(id)
-        }
-    }
-
-    /// Its characters.
-    pub fn chars(self) -> ShownChars
-        ensures { chars_left result ≡ text_of self }
-    {
-        let text = match self {
-            Shown::Nothing => ArrayVec::new(),
-            Shown::Missing(id) => missing(id),
-        };
-        ShownChars { text, next: 0 }
-    }
-}
-
-/// The characters that are left of a shown text.
-#[derive(Drop)]
-pub struct ShownChars {
-    text: ArrayVec<u8, 6>,
-    next: usize,
-}
-
-impl Iterator for ShownChars {
-    ghost use Rattle.std.specs.Iterator.{YieldsFirstBy, item_count};
-    ghost use Rattle.form_page.specs.Views.{chars_left};
-
-    type Item = char;
-
-    ghost next_gives = { YieldsFirstBy (λ c. c) chars_left };
-
-    ghost remaining = { item_count chars_left };
-
-    fn next(&mut self) -> Option<char> {
-        let byte = *self.text.as_slice().get(self.next)?;
-        self.next += 1;
-        Some(char::from(byte))
-    }
-}
 
 // How many columns a character takes.
 fn columns_of(c: char) -> usize
@@ -90,9 +18,9 @@ fn columns_of(c: char) -> usize
 }
 
 // Writes the longest front of whole characters that is at most this many columns wide, and answers how many columns are left.
-fn put_cut<W: Write>(text: ShownChars, room: usize, out: &mut Watched<W>) -> usize
-    ensures left { result ≡ room - width (cut_to room (chars_left text)) }
-    ensures text { Writes (pen_of W.contents out.old) (pen_of W.contents out.new) (utf8 (cut_to room (chars_left text))) }
+fn put_cut<W: Write>(text: ShownChars<'_>, room: usize, out: &mut Watched<W>) -> usize
+    ensures left { result ≡ room - width (cut_to room (chars_left text.entry)) }
+    ensures text { Writes (pen_of W.contents out.old) (pen_of W.contents out.new) (utf8 (cut_to room (chars_left text.entry))) }
 {
     let mut text = text;
     let mut room = room;
@@ -108,17 +36,17 @@ fn put_cut<W: Write>(text: ShownChars, room: usize, out: &mut Watched<W>) -> usi
 }
 
 /// Writes a text in so many columns: cut, and filled with spaces.
-pub(crate) fn put_in_columns<W: Write>(text: ShownChars, count: usize, out: &mut Watched<W>)
+pub(crate) fn put_in_columns<W: Write>(text: ShownChars<'_>, count: usize, out: &mut Watched<W>)
     requires { count ≤ 24 }
-    ensures { Writes (pen_of W.contents out.old) (pen_of W.contents out.new) (in_columns count (chars_left text)) }
+    ensures { Writes (pen_of W.contents out.old) (pen_of W.contents out.new) (in_columns count (chars_left text.entry)) }
 {
     let room = put_cut(text, count, out);
     out.put_spaces(room);
 }
 
 /// Writes a text whole.
-pub(crate) fn put_shown<W: Write>(text: ShownChars, out: &mut Watched<W>)
-    ensures { Writes (pen_of W.contents out.old) (pen_of W.contents out.new) (utf8 (chars_left text)) }
+pub(crate) fn put_shown<W: Write>(text: ShownChars<'_>, out: &mut Watched<W>)
+    ensures { Writes (pen_of W.contents out.old) (pen_of W.contents out.new) (utf8 (chars_left text.entry)) }
 {
     let mut text = text;
     while let Some(c) = text.next() {

@@ -4,13 +4,14 @@ ghost use Rattle.std.specs.Prelude.{◌≡◌};
 ghost use Rattle.ifr_scopes.specs.Checked.{IsNodeOf};
 ghost use Rattle.ifr_scopes.specs.Lists.{statement_node};
 ghost use Rattle.ifr_scopes.specs.Nodes.{nodes_of};
+ghost use Rattle.hii_languages.specs.Shown.{shown_text};
+ghost use Rattle.hii_languages.specs.Views.{choice_of};
 ghost use Rattle.guard_policy.specs.Views.{bytes_of};
 ghost use Rattle.form_page.specs.Pages as pages;
 ghost use Rattle.form_page.specs.Views.{row_seen, value_text};
 
+use crate::page::Page;
 use crate::row::{Row, RowValue};
-use crate::shown::Shown;
-use guard_policy::Policy;
 use hii_questions::{Question, read_value};
 use hii_varstore::Stores;
 use ifr_scopes::Statement;
@@ -39,22 +40,17 @@ fn mark_of(is_fixed: bool) -> u8
     if is_fixed { b'!' } else { b'*' }
 }
 
-/// The row of a statement.
-pub(crate) fn row_of<'a>(
-    policy: Policy<'a, '_>,
-    stores: &Stores,
-    number: u32,
-    statement: Statement<'a>,
-) -> Row
-    requires { IsNodeOf (bytes_of policy) (statement_node statement) }
-    ensures { row_seen result ≡ pages.row_of (nodes_of (bytes_of policy.entry)) stores.now number (statement_node statement.entry) }
+/// The row of a statement on a page.
+pub(crate) fn row_of<'a>(page: Page<'a, '_>, number: u32, statement: Statement<'a>) -> Row<'a>
+    requires { IsNodeOf (bytes_of page.policy) (statement_node statement) }
+    ensures { row_seen result ≡ pages.row_of (shown_text page.entry.languages.now (choice_of page.entry.choice)) (nodes_of (bytes_of page.entry.policy)) page.entry.stores.now number (statement_node statement.entry) }
 {
-    let is_fixed = policy.changeable(statement, stores).is_err();
+    let is_fixed = page.policy.changeable(statement, page.stores).is_err();
     Row {
         number,
         mark: mark_of(is_fixed),
         question: id_of(statement),
-        prompt: Shown::of(statement.op().prompt()),
-        value: value_of(statement, stores),
+        prompt: page.languages.text(page.choice, statement.op().prompt()),
+        value: value_of(statement, page.stores),
     }
 }

@@ -2,10 +2,11 @@ ghost use Rattle.std.specs.Prelude.{◌≤◌, ◌<◌, ◌^◌, length, IfSome}
 ghost use Rattle.ifr_scopes.specs.Checked.{IsNodeOf};
 ghost use Rattle.ifr_scopes.specs.Lists.{form_node};
 
-use crate::{Page, RowValue, Shown};
+use crate::{Page, RowValue};
 use guard_policy::Policy;
 use hii_bytes::{Watched, WriteFault};
-use hii_packages::{FORMS, Package};
+use hii_languages::{Languages, Shown};
+use hii_packages::{FORMS, Package, PackageList};
 use hii_questions::Questions;
 use hii_varstore::{Layout, Stores};
 use ifr_scopes::laws::a_node_is_that_of_its_place;
@@ -31,9 +32,15 @@ const PACKAGE: [u8; 127] = [
     0x29, 2, 0x29, 2, // at 123, 125
 ];
 
+/// A list with a string package, in which the string 3 is `Box`.
+const STRINGS: &[u8] = b"\x11\x11\x11\x11\x11\x11\x11\x11\x11\x11\x11\x11\x11\x11\x11\x11\x55\0\0\0\
+\x3d\0\0\x04\x2f\0\0\0\x31\0\0\0\0\0\0\0\0\0\0\0\0\0\0\0\0\0\0\0\0\0\0\0\0\0\0\0\0\0\0\0\0\0\0\0\x01\0\
+en\0\x22\x02\x14B\0o\0x\0\0\0\0\
+\x04\0\0\xdf";
+
 const IMAGE: &[u8] = b"HVS1\x01\x00\x01\x00\x02\x00\x00\x01";
 
-const TEXT: &[u8] = b"FORM 1 #2\n  1 *     1 #3                       [ ]\n  \
+const TEXT: &[u8] = b"FORM 1 #2\n  1 *     1 Box                      [ ]\n  \
 2 !  4660                          []\n  \
 3 ! 65535 #65535                   [x]\n";
 
@@ -89,30 +96,29 @@ fn a_page_has_a_title_and_rows(rt: HostRuntime) -> Result<(), Fail> {
     let questions = Questions::read(alloc, &forms, &layout)?;
     let stores = Stores::read(alloc, &layout, IMAGE)?;
     let form = first_form(&forms).expect(&rt, "a form");
-    let page = Page::new(form, Policy::new(&forms, &questions), &stores);
+    let list = PackageList::read(STRINGS)?;
+    let languages = Languages::read(alloc, &list)?;
+    let choice = languages.choose(b"en");
+    let policy = Policy::new(&forms, &questions);
+    let page = Page::new(form, policy, &stores, &languages, choice);
     let mut title = page.title().chars();
     for c in ['#', '2'] {
         assert_eq!(rt; title.next(), Some(c));
     }
     assert!(rt; title.next().is_none());
     let mut rows = page.rows();
-    for (number, mark, question, prompt, value) in [
-        (1, b'*', 1, Shown::Missing(3), RowValue::Checkbox(false)),
-        (2, b'!', 4660, Shown::Nothing, RowValue::Empty),
-        (
-            3,
-            b'!',
-            65535,
-            Shown::Missing(65535),
-            RowValue::Checkbox(true),
-        ),
+    for (number, mark, question, value) in [
+        (1, b'*', 1, RowValue::Checkbox(false)),
+        (2, b'!', 4660, RowValue::Empty),
+        (3, b'!', 65535, RowValue::Checkbox(true)),
     ] {
         let row = rows.next().expect(&rt, "a row");
         assert_eq!(rt;
             (row.number, row.mark, row.question),
             (number, mark, Some(question))
         );
-        assert_eq!(rt; (row.prompt, row.value), (prompt, value));
+        assert_eq!(rt; row.value, value);
+        assert!(rt; matches!(row.prompt, Shown::Nothing) == (number == 2));
     }
     assert!(rt; rows.next().is_none());
     for (value, shown) in [
@@ -135,7 +141,11 @@ fn a_page_is_written(rt: HostRuntime) -> Result<(), Fail> {
     let questions = Questions::read(alloc, &forms, &layout)?;
     let stores = Stores::read(alloc, &layout, IMAGE)?;
     let form = first_form(&forms).expect(&rt, "a form");
-    let page = Page::new(form, Policy::new(&forms, &questions), &stores);
+    let list = PackageList::read(STRINGS)?;
+    let languages = Languages::read(alloc, &list)?;
+    let choice = languages.choose(b"en");
+    let policy = Policy::new(&forms, &questions);
+    let page = Page::new(form, policy, &stores, &languages, choice);
     let mut out = Watched::new(Vec::new(alloc));
     assert_eq!(rt; page.write_page(&mut out), Ok(()));
     assert_eq!(rt; out.into_inner().as_slice(), TEXT);
@@ -154,7 +164,11 @@ fn a_writer_fails_after_each_byte(rt: HostRuntime) -> Result<(), Fail> {
     let questions = Questions::read(alloc, &forms, &layout)?;
     let stores = Stores::read(alloc, &layout, IMAGE)?;
     let form = first_form(&forms).expect(&rt, "a form");
-    let page = Page::new(form, Policy::new(&forms, &questions), &stores);
+    let list = PackageList::read(STRINGS)?;
+    let languages = Languages::read(alloc, &list)?;
+    let choice = languages.choose(b"en");
+    let policy = Policy::new(&forms, &questions);
+    let page = Page::new(form, policy, &stores, &languages, choice);
     for room in 0..TEXT.len() {
         let mut out = Watched::new(Limited {
             bytes: Vec::new(alloc),

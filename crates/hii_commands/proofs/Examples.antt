@@ -1,7 +1,7 @@
 -- Worked values of the definitions.
 use Rattle.std.proofs.Common.{◌≡◌, pos, negsuc, [], ◌∷◌, Some, None, Ok, Err, codes, refl}
 use Rattle.hii_commands.specs.declared.command.BadLine.TheVariants.{BadCommand}
-use Rattle.hii_commands.specs.Orders.{ShowPage, SetValue}
+use Rattle.hii_commands.specs.Orders.{ShowPage, SetValue, ChooseLanguage}
 use Rattle.hii_commands.specs.Reading.{order_in, reading_of}
 use Rattle.hii_commands.specs.Script.{lines_of, whole_lines}
 
@@ -34,6 +34,15 @@ two_spaces = refl
 
 space_behind : order_in (codes "page ") ≡ None
 space_behind = refl
+
+language : order_in (codes "lang en-US") ≡ Some (ChooseLanguage (codes "en-US"))
+language = refl
+
+no_language : order_in (codes "lang ") ≡ None
+no_language = refl
+
+underscore_in_a_language : order_in (codes "lang en_US") ≡ None
+underscore_in_a_language = refl
 
 one_return : reading_of (codes "page\r") ≡ Ok ShowPage
 one_return = refl

@@ -1,12 +1,13 @@
 -- The order that a text asks for, and the one that is found in it.
-use Rattle.std.proofs.Common.{◌≡◌, ◌==◌, ◌≤◌, ℕ, ℤ, pos, neg_ℤ, ◌^◌, ◌<◌, false, List, [], ◌∷◌, ◌++◌, drop, Option, Some, None, codes, option_map, refl, sym, ap, ◌∙◌, arith, inl, inr, subst}
+use Rattle.std.proofs.Common.{◌≡◌, ◌==◌, ◌&&◌, ◌≤◌, ℕ, ℤ, pos, neg_ℤ, ◌^◌, ◌<◌, Bool, true, false, List, [], ◌∷◌, ◌++◌, length, nat_le, drop, Option, Some, None, codes, option_map, refl, sym, ap, ◌∙◌, arith, inl, inr, subst}
 use Rattle.std.specs.Char.{digit_value}
+use Rattle.std.specs.List.{list_all}
 use Rattle.std.specs.Str.{bytes_eq}
 use Rattle.std.specs.Str.Parse.{AllDigits}
-use Rattle.std.proofs.lemmas.Bool.{cases_Bool, cond-true, cond-false, eqb-true}
+use Rattle.std.proofs.lemmas.Bool.{and_parts, and_from, cases_Bool, cond-true, cond-false, eqb-true, leb-true, le-leb}
 use Rattle.std.proofs.lemmas.Slice.Eq.{bytes_eq-Decides}
-use Rattle.hii_commands.specs.Orders.{Order, ShowPage, SetValue, SubmitChanges, DiscardChanges, Asks, IsValue}
-use Rattle.hii_commands.specs.Reading.{number_below, question_in, value_in, begins_with, cut_word, set_order, set_in, plain_in, words_in, order_in}
+use Rattle.hii_commands.specs.Orders.{Order, ShowPage, SetValue, ChooseLanguage, SubmitChanges, DiscardChanges, Asks, IsValue, IsLanguage, is_language_byte}
+use Rattle.hii_commands.specs.Reading.{number_below, question_in, value_in, begins_with, cut_word, set_order, set_in, lang_in, plain_in, words_in, order_in}
 use Rattle.hii_commands.proofs.WordLemmas.{cut_word-spaced, cut_word-together, together, begins, number_below-from, number_below-is, Lacks-digits}
 
 -- ---- values
@@ -65,11 +66,34 @@ value-is text z e = elim (cases_Bool (begins_with text (codes "-"))) [
       ]
 ]
 
+-- ---- languages
+
+-- the tests of `lang_in`
+abbrev is_language : List ℕ → Bool
+is_language text = nat_le 1 (length text) && (nat_le (length text) 63 && list_all is_language_byte text)
+
+language-from : (text : List ℕ) → IsLanguage text → lang_in text ≡ Some (ChooseLanguage text)
+language-from text h =
+    let all : is_language text ≡ true = and_from _ _ (le-leb _ _ h.some) (and_from _ _ (le-leb _ _ h.few) h.each) in
+    cond-true (is_language text) (Some (ChooseLanguage text)) None all
+
+lang_asks : (text rest : List ℕ) (order : Order) → text ≡ codes "lang" ++ 32 ∷ rest → lang_in rest ≡ Some order → Asks text order
+lang_asks text rest order whole e = elim (cases_Bool (is_language rest)) [
+  | inl all ↦
+      let some : Some (ChooseLanguage rest) ≡ Some order = sym (cond-true (is_language rest) (Some (ChooseLanguage rest)) None all) ∙ e in
+      let same : ChooseLanguage rest ≡ order = cc in
+      let p = and_parts _ _ all in
+      let q = and_parts _ _ p.1 in
+      subst (Asks text) same (whole, record { some = leb-true _ _ p.0; few = leb-true _ _ q.0; each = q.1 })
+  | inr other ↦ let none : ◌≡◌ {A = Option Order} None (Some order) = sym (cond-false (is_language rest) (Some (ChooseLanguage rest)) None other) ∙ e in (cc)
+]
+
 -- ---- orders
 
 pub found : (text : List ℕ) (order : Order) → Asks text order → order_in text ≡ Some order
 found text ShowPage e = ap order_in e
 found text SubmitChanges e = ap order_in e
+found text (ChooseLanguage language) (e, is_language) = ap order_in e ∙ language-from language is_language
 found text DiscardChanges e = ap order_in e
 found text (SetValue q z) (question, value, e, is_question, is_value) =
     ap order_in e
@@ -116,7 +140,14 @@ words_ask text order (word, Some rest) cut e = elim (cases_Bool (bytes_eq word (
   | inl is ↦
       let whole : text ≡ codes "set" ++ 32 ∷ rest = sym (cut_word-together text) ∙ ap together cut ∙ ap (λ w. w ++ 32 ∷ rest) ((bytes_eq-Decides word (codes "set")).0 is) in
       set_asks text rest order (cut_word rest) whole refl (sym (cond-true (bytes_eq word (codes "set")) _ _ is) ∙ e)
-  | inr other ↦ let none : ◌≡◌ {A = Option Order} None (Some order) = sym (cond-false (bytes_eq word (codes "set")) _ _ other) ∙ e in (cc)
+  | inr a ↦
+      let e' = sym (cond-false (bytes_eq word (codes "set")) _ _ a) ∙ e in
+      elim (cases_Bool (bytes_eq word (codes "lang"))) [
+        | inl is ↦
+            let whole : text ≡ codes "lang" ++ 32 ∷ rest = sym (cut_word-together text) ∙ ap together cut ∙ ap (λ w. w ++ 32 ∷ rest) ((bytes_eq-Decides word (codes "lang")).0 is) in
+            lang_asks text rest order whole (sym (cond-true (bytes_eq word (codes "lang")) _ _ is) ∙ e')
+        | inr b ↦ let none : ◌≡◌ {A = Option Order} None (Some order) = sym (cond-false (bytes_eq word (codes "lang")) _ _ b) ∙ e' in (cc)
+      ]
 ]
 
 -- the order that is found is asked for

@@ -4,16 +4,17 @@ use Rattle.hii_bytes.specs.declared.cause.Cause.{Cause}
 use Rattle.hii_bytes.specs.declared.cause.Cause.TheVariants as cause
 use Rattle.hii_commands.specs.declared.limits.TheConstants.{LINE_LIMIT}
 use Rattle.hii_commands.specs.declared.command.Command.{Command}
-use Rattle.hii_commands.specs.declared.command.Command.TheVariants.{Page, Set, Submit, Discard}
+use Rattle.hii_commands.specs.declared.command.Command.TheVariants.{Page, Set, Lang, Submit, Discard}
 use Rattle.hii_commands.specs.declared.command.BadLine.{BadLine}
 use Rattle.hii_commands.specs.declared.command.BadLine.TheVariants.{BadCommand, LineTooLong}
 use Rattle.hii_commands.specs.Line.{without_return}
-use Rattle.hii_commands.specs.Orders.{Order, ShowPage, SetValue, SubmitChanges, DiscardChanges, Asks}
+use Rattle.hii_commands.specs.Orders.{Order, ShowPage, SetValue, ChooseLanguage, SubmitChanges, DiscardChanges, Asks}
 
 -- what a command asks for
 abbrev pub order_of : Command → Order
 order_of Page = ShowPage
 order_of (Set q z) = SetValue q z
+order_of (Lang language) = ChooseLanguage language.now
 order_of Submit = SubmitChanges
 order_of Discard = DiscardChanges
 

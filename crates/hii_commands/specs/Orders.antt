@@ -1,11 +1,14 @@
 -- The forms of a script's commands (own rule).
-use Rattle.std.specs.Prelude.{◌≡◌, ◌⊎◌, ℕ, ℤ, pos, neg_ℤ, ◌^◌, ◌<◌, ◌≤◌, List, ◌++◌, length, codes}
+use Rattle.std.specs.Prelude.{◌≡◌, ◌⊎◌, ◌==◌, ◌||◌, ℕ, ℤ, pos, neg_ℤ, ◌^◌, ◌<◌, ◌≤◌, Bool, true, List, ◌++◌, length, codes}
+use Rattle.std.specs.Char.{is_ascii_alphanumeric}
+use Rattle.std.specs.List.{list_all}
 use Rattle.std.specs.Str.Parse.{IsNumeral, digits_value}
 
 -- what a command asks for, without where its bytes lie
 pub data Order : Type 0 where
   ShowPage : Order
   SetValue : ℕ → ℤ → Order
+  ChooseLanguage : List ℕ → Order
   SubmitChanges : Order
   DiscardChanges : Order
 
@@ -28,10 +31,21 @@ IsValue text z = (digits : List ℕ) × (n : ℕ) ×
     ⊎ ((text ≡ codes "-" ++ digits) × IsNumber 10 20 (2 ^ 64) digits n × (z ≡ neg_ℤ (pos n)))
     ⊎ ((text ≡ codes "0x" ++ digits) × IsNumber 16 16 (2 ^ 64) digits n × (z ≡ pos n)))
 
+-- a letter, a digit or a hyphen, as ASCII has them
+abbrev pub is_language_byte : ℕ → Bool
+is_language_byte byte = is_ascii_alphanumeric byte || byte == 45
+
+-- 1 to 63 letters, digits and hyphens
+pub record IsLanguage (text : List ℕ) : Type 0 where
+  pub some : 1 ≤ length text
+  pub few : length text ≤ 63
+  pub each : list_all is_language_byte text ≡ true
+
 -- The text has the form of the command that asks for this: its words, with one space between them.
 abbrev pub Asks : List ℕ → Order → Type 0
 Asks text ShowPage = text ≡ codes "page"
 Asks text (SetValue q z) =
     (question value : List ℕ) × (text ≡ codes "set " ++ (question ++ (codes " " ++ value))) × IsQuestion question q × IsValue value z
+Asks text (ChooseLanguage language) = (text ≡ codes "lang " ++ language) × IsLanguage language
 Asks text SubmitChanges = text ≡ codes "submit"
 Asks text DiscardChanges = text ≡ codes "discard"

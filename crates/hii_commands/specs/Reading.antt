@@ -9,7 +9,7 @@ use Rattle.hii_commands.specs.declared.limits.TheConstants.{LINE_LIMIT}
 use Rattle.hii_commands.specs.declared.command.BadLine.{BadLine}
 use Rattle.hii_commands.specs.declared.command.BadLine.TheVariants.{BadCommand, LineTooLong}
 use Rattle.hii_commands.specs.Line.{without_return}
-use Rattle.hii_commands.specs.Orders.{Order, ShowPage, SetValue, SubmitChanges, DiscardChanges}
+use Rattle.hii_commands.specs.Orders.{Order, ShowPage, SetValue, ChooseLanguage, SubmitChanges, DiscardChanges, is_language_byte}
 
 -- the number of the text as in `IsNumber`, where it is one
 abbrev pub number_below : ℕ → ℕ → ℕ → List ℕ → Option ℕ
@@ -44,6 +44,11 @@ abbrev pub set_in : List ℕ × Option (List ℕ) → Option Order
 set_in (question, None) = None
 set_in (question, Some value) = set_order (question_in question) (value_in value)
 
+-- the order of `lang` over what stands behind it
+abbrev pub lang_in : List ℕ → Option Order
+lang_in text =
+    if nat_le 1 (length text) && (nat_le (length text) 63 && list_all is_language_byte text) then Some (ChooseLanguage text) else None
+
 -- the order of a word that stands alone
 abbrev pub plain_in : List ℕ → Option Order
 plain_in word =
@@ -55,7 +60,10 @@ plain_in word =
 -- the order of a first word and the rest behind its space
 abbrev pub words_in : List ℕ × Option (List ℕ) → Option Order
 words_in (word, None) = plain_in word
-words_in (word, Some rest) = if bytes_eq word (codes "set") then set_in (cut_word rest) else None
+words_in (word, Some rest) =
+    if bytes_eq word (codes "set") then set_in (cut_word rest)
+    else if bytes_eq word (codes "lang") then lang_in rest
+    else None
 
 -- what a text without LF and CR asks for
 abbrev pub order_in : List ℕ → Option Order

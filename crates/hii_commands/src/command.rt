@@ -5,8 +5,9 @@ ghost use Rattle.std.specs.List.{list_all};
 ghost use Rattle.std.specs.Char.{is_digit};
 ghost use Rattle.std.specs.Str.{bytes_eq};
 ghost use Rattle.hii_commands.specs.Line.{without_return};
+ghost use Rattle.hii_commands.specs.Orders as orders;
 ghost use Rattle.hii_commands.specs.Meaning.{Means, IsRefused, order_of, cause_of};
-ghost use Rattle.hii_commands.specs.Reading.{order_in, reading_of, set_in, plain_in, value_in, question_in, number_below, cut_word};
+ghost use Rattle.hii_commands.specs.Reading.{order_in, reading_of, set_in, lang_in, plain_in, value_in, question_in, number_below, cut_word};
 
 use crate::bytes::first_place;
 use crate::limits::LINE_LIMIT;
@@ -15,11 +16,13 @@ use std::str;
 
 /// One command of a script.
 #[derive(Clone, Copy, Debug, PartialEq, Eq)]
-pub enum Command {
+pub enum Command<'a> {
     /// `page`: the current form's page.
     Page,
     /// `set Q V`: the value of a question. The magnitude is below 2^64.
     Set { question: u16, value: i128 },
+    /// `lang L`: the language of the texts that follow, 1 to 63 ASCII letters, digits and hyphens.
+    Lang(&'a [u8]),
     /// `submit`: the working stores become the committed ones.
     Submit,
     /// `discard`: the committed stores become the working ones.
@@ -47,7 +50,7 @@ impl BadLine {
 
 /// The command that a line without its LF is. One CR at its end belongs to its length and not to the command. An empty
 /// line is no command.
-pub fn read_line(line: &[u8]) -> Result<Command, BadLine>
+pub fn read_line(line: &[u8]) -> Result<Command<'_>, BadLine>
     ensures means { MatchResult result (λ command. Means line.now (order_of command)) (IsRefused line.now) }
     // The same as a function of the line.
     ensures reads { MatchResult result (λ command. reading_of line.now ≡ Ok (order_of command)) (λ bad. reading_of line.now ≡ Err bad) }
@@ -72,7 +75,7 @@ fn drop_return(line: &[u8]) -> &[u8]
     }
 }
 
-fn command_in(text: &[u8]) -> Option<Command>
+fn command_in(text: &[u8]) -> Option<Command<'_>>
     ensures { option_map order_of result ≡ order_in text.now }
 {
     match split_word(text) {
@@ -80,6 +83,8 @@ fn command_in(text: &[u8]) -> Option<Command>
         (word, Some(rest)) => {
             if is_word(word, b"set") {
                 set_command(rest)
+            } else if is_word(word, b"lang") {
+                lang_command(rest)
             } else {
                 None
             }
@@ -103,7 +108,7 @@ fn split_word(text: &[u8]) -> (&[u8], Option<&[u8]>)
     }
 }
 
-fn plain_command(word: &[u8]) -> Option<Command>
+fn plain_command(word: &[u8]) -> Option<Command<'_>>
     ensures { option_map order_of result ≡ plain_in word.now }
 {
     if is_word(word, b"page") {
@@ -117,13 +122,38 @@ fn plain_command(word: &[u8]) -> Option<Command>
     }
 }
 
-fn set_command(rest: &[u8]) -> Option<Command>
+fn set_command(rest: &[u8]) -> Option<Command<'_>>
     ensures { option_map order_of result ≡ set_in (cut_word rest.now) }
 {
     let (question, value) = split_word(rest);
     let question = question_of(question)?;
     let value = value_of(value?)?;
     Some(Command::Set { question, value })
+}
+
+// The most bytes of a language.
+const LANGUAGE_LIMIT: usize = 63;
+
+fn lang_command(rest: &[u8]) -> Option<Command<'_>>
+    ensures { option_map order_of result ≡ lang_in rest.now }
+{
+    if 1 <= rest.len() && rest.len() <= LANGUAGE_LIMIT && are_language_bytes(rest) {
+        Some(Command::Lang(rest))
+    } else {
+        None
+    }
+}
+
+fn are_language_bytes(text: &[u8]) -> bool
+    ensures { result ≡ list_all orders.is_language_byte text.now }
+{
+    text.iter().all(|byte| is_language_byte(*byte))
+}
+
+fn is_language_byte(byte: u8) -> bool
+    ensures { result ≡ orders.is_language_byte byte }
+{
+    byte.is_ascii_alphanumeric() || byte == b'-'
 }
 
 fn question_of(text: &[u8]) -> Option<u16>

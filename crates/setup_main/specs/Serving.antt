@@ -19,7 +19,7 @@ use Rattle.setup_main.specs.declared.serve.Ended.TheVariants.{Done, Refused, Rea
 
 -- the state with which a session over what is given begins
 abbrev pub Starts : Given → State → Type 0
-Starts given start = Opens given.list.now given.forms given.stores.now start
+Starts given start = Opens given.list.now given.forms given.stores.now given.lang.now start
 
 -- the least fault of what is given
 abbrev pub IsRefusedBy : Given → Fault → Type 0

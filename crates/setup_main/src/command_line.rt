@@ -28,8 +28,10 @@ pub fn read_words<'a>(alloc: Global, words: &'a [String]) -> Result<Options<'a>,
     let lang = Arg::new(alloc, "lang")
         .long("lang")
         .value_name("L")
+        .allow_hyphen_values(true)
         .default_value("en-US");
     let command = Command::new(alloc, "setup")
+        .bin_name("setup")?
         .arg(file(alloc, "list"))?
         .arg(file(alloc, "stores"))?
         .arg(file(alloc, "out"))?

@@ -1,7 +1,7 @@
 use Rattle.std.proofs.Common.{◌≡◌, ◌-◌, length}
 use Rattle.hii_bytes.specs.Watching.{pen_of, Stands}
 use Rattle.form_page.specs.Texts.{utf8, cut_to, width}
-use Rattle.form_page.specs.Views.{chars_left}
+use Rattle.hii_languages.specs.Views.{chars_left}
 use Rattle.form_page.proofs.shown.put_cut.Given as goal
 
 -- the characters before those that are left were written, and the others have the columns that are left

@@ -2,6 +2,7 @@ use Rattle.std.proofs.Common.{rules, Ok, sym, subst}
 use Rattle.std.specs.Int.{w128}
 use Rattle.std.proofs.Math.Facts.{to_z-of_z}
 use Rattle.ifr_scopes.specs.Lists.{form_node}
+use Rattle.hii_languages.specs.Views.{choice_of}
 use Rattle.hii_questions.specs.Views.{question_node}
 use Rattle.browser_core.specs.State.{State}
 use Rattle.browser_core.specs.Standing.{Sets}
@@ -15,7 +16,7 @@ changeable-requires c =
 
 pub returns-in-Ok : goal.returns-in-Ok
 returns-in-Ok c =
-    let inside : State = record { ifr = c.self.inside.forms; committed = c.self.inside.committed; working = c.self.inside.working; form = (form_node c.self.inside.form).place } in
+    let inside : State = record { ifr = c.self.inside.forms; spoken = c.self.inside.languages; language = choice_of c.self.inside.language; committed = c.self.inside.committed; working = c.self.inside.working; form = (form_node c.self.inside.form).place } in
     let free = rw (c.new-policy.ensures, c.statement.ensures) at (sym c.in_ok-changeable.ensures) in
     subst (λ (s : State). Sets s c.args.id c.args.value (Ok c.in-Ok.field)) c.self.view_is
     (sets_field inside c.self.inside.questions.ifr c.args.id c.args.value (question_node c.in-Some.question) c.in-Ok.field c.self.invariant.browsable c.self.invariant.laid c.self.invariant.together

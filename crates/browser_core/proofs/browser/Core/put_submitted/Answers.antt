@@ -2,6 +2,7 @@ use Rattle.std.proofs.Common.{rules, sym, ap, subst, ◌∙◌, length}
 use Rattle.std.specs.List.{AllByRecursion}
 use Rattle.hii_bytes.specs.Watching.{pen_of, Writes}
 use Rattle.ifr_scopes.specs.Lists.{form_node}
+use Rattle.hii_languages.specs.Views.{choice_of}
 use Rattle.hii_questions.specs.Lists.{questions_left}
 use Rattle.hii_questions.specs.Views.{question_node}
 use Rattle.browser_core.specs.State.{State}
@@ -22,7 +23,7 @@ differs-requires-clause-working g c =
 
 pub loop-question-init : goal.loop-question-init
 loop-question-init g c =
-    let s : State = record { ifr = c.self.inside.forms; committed = c.self.inside.committed; working = c.self.inside.working; form = (form_node c.self.inside.form).place } in
+    let s : State = record { ifr = c.self.inside.forms; spoken = c.self.inside.languages; language = choice_of c.self.inside.language; committed = c.self.inside.committed; working = c.self.inside.working; form = (form_node c.self.inside.form).place } in
     let all = all_questions c.self.inside.questions.ifr c.self.inside.forms (questions_left c.all-question-items.result) (questions_left c.into_iter-question-iterator.result)
     (ap questions_left c.into_iter-question-iterator.ensures.into_iter_gives) c.all-question-items.ensures c.self.invariant.together in
     record {
@@ -34,7 +35,7 @@ loop-question-init g c =
 
 pub loop-question-preserved-then-differs : goal.loop-question-preserved-then-differs
 loop-question-preserved-then-differs g c =
-    let s : State = record { ifr = c.self.inside.forms; committed = c.self.inside.committed; working = c.self.inside.working; form = (form_node c.self.inside.form).place } in
+    let s : State = record { ifr = c.self.inside.forms; spoken = c.self.inside.languages; language = choice_of c.self.inside.language; committed = c.self.inside.committed; working = c.self.inside.working; form = (form_node c.self.inside.form).place } in
     record {
       can = search rules;
       ends = search rules;
@@ -44,7 +45,7 @@ loop-question-preserved-then-differs g c =
 
 pub loop-question-preserved : goal.loop-question-preserved
 loop-question-preserved g c =
-    let s : State = record { ifr = c.self.inside.forms; committed = c.self.inside.committed; working = c.self.inside.working; form = (form_node c.self.inside.form).place } in
+    let s : State = record { ifr = c.self.inside.forms; spoken = c.self.inside.languages; language = choice_of c.self.inside.language; committed = c.self.inside.committed; working = c.self.inside.working; form = (form_node c.self.inside.form).place } in
     record {
       can = search rules;
       ends = search rules;
@@ -54,6 +55,6 @@ loop-question-preserved g c =
 
 pub returns : goal.returns
 returns g c =
-    let s : State = record { ifr = c.self.inside.forms; committed = c.self.inside.committed; working = c.self.inside.working; form = (form_node c.self.inside.form).place } in
+    let s : State = record { ifr = c.self.inside.forms; spoken = c.self.inside.languages; language = choice_of c.self.inside.language; committed = c.self.inside.committed; working = c.self.inside.working; form = (form_node c.self.inside.form).place } in
     subst (λ (s : State). Writes (pen_of g.W.Write.contents c.args.out.now) (pen_of g.W.Write.contents c.loop-question.out) (submitted s).text) c.self.view_is
     (Stands-all _ _ (submitted s).text (told (is_other s) (questions_left c.loop-question.question-iterator)) c.loop-question.invariant.text (ap (told (is_other s)) c.in-None.ensures.steps.0))

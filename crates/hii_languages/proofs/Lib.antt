@@ -1,0 +1,2 @@
+pub mod SpokenLemmas
+pub mod Examples

@@ -1,0 +1,3 @@
+pub mod Languages
+pub mod Shown
+pub mod Views

@@ -1,0 +1,157 @@
+//! The string packages of a list.
+
+ghost use Rattle.std.specs.Prelude.{◌≡◌, ◌==◌, List, IfOk, IfErr, option_map, position};
+ghost use Rattle.std.specs.Str.{str_eq_ignore_ascii_case};
+ghost use Rattle.hii_bytes.specs.Faults.{Refuses, out_of_memory};
+ghost use Rattle.sibt_strings.specs.Strings.{Speaks, IsStringFaultIn};
+ghost use Rattle.sibt_strings.specs.Views.{units_in};
+ghost use Rattle.hii_languages.specs.Languages.{Spoken, string_packages, AreSpoken, IsStringsFault, primary_subtag, first_package, chosen};
+ghost use Rattle.hii_languages.specs.Shown.{shown, shown_text, text_in_package};
+ghost use Rattle.hii_languages.specs.Views.{choice_of, seen, text_of};
+
+use crate::choice::Choice;
+use crate::shown::Shown;
+use hii_bytes::Fault;
+use hii_packages::{Package, PackageList, STRINGS};
+use sibt_strings::{StringTable, Strings, Units};
+use std::alloc::{AllocError, Global};
+use std::marker::Model;
+
+/// The string packages of a list, seen as what each says, in order.
+#[derive(Debug, Drop)]
+pub struct Languages<'a> {
+    tables: Vec<StringTable<'a>>,
+}
+
+impl<'a> Model for Languages<'a> {
+    ghost use Rattle.std.specs.Prelude.{List};
+    ghost use Rattle.hii_languages.specs.Languages.{Spoken};
+
+    ghost Value = { List Spoken };
+
+    ghost view = { λ s. s.tables.items };
+}
+
+// The place of a language's first hyphen.
+fn hyphen_of(language: &[u8]) -> Option<usize>
+    ensures { result ≡ position (λ byte. byte == 45) language.now }
+{
+    language.iter().position(|byte| *byte == b'-')
+}
+
+// The part of a language before its first hyphen, or all of it.
+fn primary_subtag_of(language: &[u8]) -> &[u8]
+    ensures { result.now ≡ primary_subtag language.now }
+{
+    match hyphen_of(language) {
+        Some(hyphen) => &language[..hyphen],
+        None => language,
+    }
+}
+
+// Whether two languages are equal, ignoring ASCII case.
+fn is_same(language: &[u8], other: &[u8]) -> bool
+    ensures { result ≡ str_eq_ignore_ascii_case language.now other.now }
+{
+    language.eq_ignore_ascii_case(other)
+}
+
+// The table of a string package.
+fn table_of<'a>(alloc: Global, source: Package<'a>) -> Result<StringTable<'a>, Fault>
+    ensures read { IfOk result (Speaks source.entry.bytes.now) }
+    ensures refused { IfErr result (Refuses (IsStringFaultIn source.entry.bytes.now source.entry.place)) }
+{
+    let strings = Strings::read(source)?;
+    match StringTable::read(alloc, strings) {
+        Ok(table) => Ok(table),
+        Err(AllocError) => Err(Fault::out_of_memory()),
+    }
+}
+
+impl<'a> Languages<'a> {
+    /// The string packages of a list, or the least fault of the first that has one: StringHeader, LanguageText,
+    /// StringBlock or StringText, at its place in bytes from the list's front. OutOfMemory where a growth was refused.
+    pub fn read(alloc: Global, list: &PackageList<'a>) -> Result<Languages<'a>, Fault>
+        ensures read { IfOk result (AreSpoken (string_packages list.now)) }
+        ensures refused { IfErr result (Refuses (IsStringsFault (string_packages list.now))) }
+        // Where each string package says something they are read, unless memory is wanting.
+        ensures accepted { (spoken : List Spoken) → AreSpoken (string_packages list.now) spoken → IfErr result (λ fault. fault ≡ out_of_memory) }
+    {
+        let mut tables = Vec::new(alloc);
+        for source in list.packages() {
+            if source.kind == STRINGS {
+                let table = table_of(alloc, source)?;
+                if tables.push(table).is_err() {
+                    return Err(Fault::out_of_memory());
+                }
+            }
+        }
+        Ok(Languages { tables })
+    }
+
+    /// The string package that is chosen for a language: the first whose language is equal, ignoring ASCII case; else the
+    /// first whose primary subtag (the part before the first hyphen) is equal, ignoring ASCII case; else the first (own
+    /// rule).
+    pub fn choose(&self, language: &[u8]) -> Choice
+        ensures { choice_of result ≡ chosen self.now language.now }
+    {
+        let number = self
+            .with_language(language)
+            .or(self.with_primary_subtag(language))
+            .or(self.first());
+        Choice { number }
+    }
+
+    // The first string package of a language.
+    fn with_language(&self, language: &[u8]) -> Option<usize>
+        ensures { result ≡ position (λ s. str_eq_ignore_ascii_case s.language language.now) self.now }
+    {
+        self.tables
+            .iter()
+            .position(|table| is_same(table.language(), language))
+    }
+
+    // The first string package of a language with the same primary subtag.
+    fn with_primary_subtag(&self, language: &[u8]) -> Option<usize>
+        ensures { result ≡ position (λ s. str_eq_ignore_ascii_case (primary_subtag s.language) (primary_subtag language.now)) self.now }
+    {
+        let primary = primary_subtag_of(language);
+        self.tables.iter().position(|table| is_same(primary_subtag_of(table.language()), primary))
+    }
+
+    // The first string package.
+    fn first(&self) -> Option<usize>
+        ensures { result ≡ first_package self.now }
+    {
+        if self.tables.is_empty() {
+            None
+        } else {
+            Some(0)
+        }
+    }
+
+    // The text of a string id in the string package of a number.
+    fn text_in(&self, number: Option<usize>, id: u16) -> Option<Units<'a>>
+        ensures { option_map units_in result ≡ text_in_package self.now number id }
+    {
+        self.tables.get(number?)?.text(id)
+    }
+
+    /// What is shown of a string id: nothing of the id 0; else the text of the chosen string package, else that of the
+    /// first one, else the id (own rule).
+    pub fn text(&self, choice: Choice, id: u16) -> Shown<'a>
+        ensures kind { seen result ≡ shown self.now (choice_of choice) id }
+        ensures characters { text_of result ≡ shown_text self.now (choice_of choice) id }
+    {
+        if id == 0 {
+            return Shown::Nothing;
+        }
+        match self
+            .text_in(choice.number, id)
+            .or(self.text_in(Some(0), id))
+        {
+            Some(units) => Shown::Units(units),
+            None => Shown::Missing(id),
+        }
+    }
+}

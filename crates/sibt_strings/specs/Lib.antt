@@ -1,0 +1,5 @@
+pub mod Blocks
+pub mod Strings
+pub mod Units
+pub mod Views
+pub mod Table

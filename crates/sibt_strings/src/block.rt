@@ -1,0 +1,23 @@
+//! What one block of a string package says.
+
+ghost use Rattle.std.specs.Prelude.{◌≡◌, is_some, true};
+ghost use Rattle.sibt_strings.specs.Blocks.{texts_in};
+
+/// So many texts, one after the other, at the front of the bytes.
+#[derive(Clone, Copy, Debug)]
+pub(crate) struct Texts<'a> {
+    pub(crate) count: u16,
+    pub(crate) bytes: &'a [u8],
+    pub(crate) ghost whole: { is_some (texts_in count bytes.now) ≡ true },
+}
+
+/// What a block says of the string ids that follow.
+#[derive(Clone, Copy, Debug)]
+pub(crate) enum Block<'a> {
+    Texts(Texts<'a>),
+    /// One id has the text of this one.
+    Duplicate(u16),
+    /// So many ids have no text.
+    Skip(u16),
+    Extension,
+}

@@ -1,0 +1,54 @@
+//! The parts of a string package behind its fixed part.
+
+ghost use Rattle.std.specs.Prelude.{◌≡◌, ◌⊎◌, List, IfErr, OnOk, option_map};
+ghost use Rattle.hii_bytes.specs.declared.cause.Cause.TheVariants.{StringBlock, StringText};
+ghost use Rattle.sibt_strings.specs.Blocks.{BadBlock, CutText, StandsAt};
+ghost use Rattle.sibt_strings.specs.Strings.{language_in};
+ghost use Rattle.sibt_strings.specs.Views.{HoldsBlocks};
+
+use crate::front::{Front, front_at};
+use hii_bytes::{Cause, Fault};
+
+/// Whether the bytes are whole blocks up to an end block; the place of a fault counts from the first byte.
+pub(crate) fn check_blocks(blocks: &[u8]) -> Result<(), Fault>
+    ensures whole { OnOk result (HoldsBlocks blocks.now) }
+    ensures bad { IfErr result (λ fault.
+        ((fault.cause ≡ StringBlock) × StandsAt blocks.now BadBlock fault.place)
+        ⊎ ((fault.cause ≡ StringText) × StandsAt blocks.now CutText fault.place)) }
+{
+    let mut rest = blocks;
+    'walk: loop {
+        let place = (blocks.len() - rest.len()) as u64;
+        match front_at(rest) {
+            Front::End => return Ok(()),
+            Front::Whole(_, behind) => rest = behind,
+            Front::CutText => {
+                return Err(Fault {
+                    cause: Cause::StringText,
+                    place,
+                });
+            }
+            Front::BadBlock => {
+                return Err(Fault {
+                    cause: Cause::StringBlock,
+                    place,
+                });
+            }
+        }
+    }
+}
+
+/// The ASCII text before the first NUL.
+pub(crate) fn language_at(bytes: &[u8]) -> Option<&[u8]>
+    ensures { option_map (λ language. language.now) result ≡ language_in bytes.now }
+{
+    for (i, byte) in bytes.iter().enumerate() {
+        if *byte == 0 {
+            return Some(&bytes[..i]);
+        }
+        if *byte > 0x7e {
+            return None;
+        }
+    }
+    None
+}

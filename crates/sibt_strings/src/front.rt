@@ -1,0 +1,139 @@
+//! The block at the front of the bytes of blocks.
+
+ghost use Rattle.std.specs.Prelude.{◌≡◌, ◌+◌, ◌<◌, ◌≤◌, ◌%◌, length, IfSome, MatchOption, option_map};
+ghost use Rattle.sibt_strings.specs.Blocks.{text_in, texts_in, front_of, texts_block, extension_block, Stops};
+ghost use Rattle.sibt_strings.specs.Views.{units_in, front_seen, EndsWith, LiesIn, LeavesLess, SplitsInto};
+
+use crate::block::{Block, Texts};
+use crate::block_types::{
+    DUPLICATE, END, EXT1, EXT2, EXT4, SKIP1, SKIP2, STRING_UCS2, STRING_UCS2_FONT, STRINGS_UCS2,
+    STRINGS_UCS2_FONT,
+};
+use crate::units::Units;
+use hii_bytes::{u16_at, u32_at};
+
+/// What stands at the front of the bytes of blocks.
+#[derive(Clone, Copy, Debug)]
+pub(crate) enum Front<'a> {
+    End,
+    /// A whole block, and the bytes behind it.
+    Whole(Block<'a>, &'a [u8]),
+    CutText,
+    BadBlock,
+}
+
+/// The units of a text without its zero unit, and the bytes behind that unit.
+pub(crate) fn split_text(bytes: &[u8]) -> Option<(Units<'_>, &[u8])>
+    ensures text { option_map (λ t. (units_in t.0, t.1.now)) result ≡ text_in bytes.now }
+    ensures rest { IfSome result (λ t. EndsWith bytes.now t.1.now) }
+{
+    let mut rest = bytes;
+    while let [low, high, behind @ ..] = rest {
+        if *low == 0 && *high == 0 {
+            return Some((Units::new(&bytes[..bytes.len() - rest.len()]), behind));
+        }
+        rest = behind;
+    }
+    None
+}
+
+/// The bytes behind so many texts.
+pub(crate) fn skip_texts(count: u16, bytes: &[u8]) -> Option<&[u8]>
+    ensures behind { option_map (λ rest. rest.now) result ≡ option_map (λ t. t.1) (texts_in count bytes.now) }
+    ensures rest { IfSome result (λ rest. EndsWith bytes.now rest.now) }
+{
+    let mut rest = bytes;
+    for _ in 0..count {
+        let (_, behind) = split_text(rest)?;
+        rest = behind;
+    }
+    Some(rest)
+}
+
+// A block of so many texts.
+fn texts_front(count: u16, bytes: &[u8]) -> Front<'_>
+    ensures front { front_seen result ≡ texts_block (texts_in count bytes.now) }
+    ensures inside { LiesIn result bytes.now }
+    ensures shorter { LeavesLess result (length bytes.now + 1) }
+{
+    match skip_texts(count, bytes) {
+        Some(rest) => Front::Whole(Block::Texts(Texts { count, bytes }), rest),
+        None => Front::CutText,
+    }
+}
+
+// An extension of a length in bytes, whose own header takes so many.
+fn extension_front(header: usize, size: usize, bytes: &[u8]) -> Front<'_>
+    requires { 0 < header }
+    ensures front { front_seen result ≡ extension_block header size bytes.now }
+    ensures inside { LiesIn result bytes.now }
+    ensures shorter { LeavesLess result (length bytes.now) }
+{
+    if size < header || bytes.len() < size {
+        return Front::BadBlock;
+    }
+    Front::Whole(Block::Extension, &bytes[size..])
+}
+
+/// What stands at the front of the bytes of blocks.
+#[tactic(auto, unfolding(crate::specs::Blocks::front_of))]
+pub(crate) fn front_at(bytes: &[u8]) -> Front<'_>
+    ensures front { front_seen result ≡ front_of bytes.now }
+    ensures inside { LiesIn result bytes.now }
+    ensures shorter { LeavesLess result (length bytes.now) }
+{
+    let [block_type, body @ ..] = bytes else {
+        return Front::BadBlock;
+    };
+    match *block_type {
+        END => Front::End,
+        STRING_UCS2 => texts_front(1, body),
+        STRING_UCS2_FONT => match body {
+            [_, text @ ..] => texts_front(1, text),
+            [] => Front::BadBlock,
+        },
+        STRINGS_UCS2 => match u16_at(body, 0) {
+            Some(count) => texts_front(count, &body[2..]),
+            None => Front::BadBlock,
+        },
+        STRINGS_UCS2_FONT => match u16_at(body, 1) {
+            Some(count) => texts_front(count, &body[3..]),
+            None => Front::BadBlock,
+        },
+        DUPLICATE => match u16_at(body, 0) {
+            Some(id) => Front::Whole(Block::Duplicate(id), &body[2..]),
+            None => Front::BadBlock,
+        },
+        SKIP2 => match u16_at(body, 0) {
+            Some(count) => Front::Whole(Block::Skip(count), &body[2..]),
+            None => Front::BadBlock,
+        },
+        SKIP1 => match body {
+            [count, rest @ ..] => Front::Whole(Block::Skip(u16::from(*count)), rest),
+            [] => Front::BadBlock,
+        },
+        EXT1 => match body {
+            [_, size, ..] => extension_front(3, usize::from(*size), bytes),
+            _ => Front::BadBlock,
+        },
+        EXT2 => match u16_at(body, 1) {
+            Some(size) => extension_front(4, usize::from(size), bytes),
+            None => Front::BadBlock,
+        },
+        EXT4 => match u32_at(body, 1) {
+            Some(size) => extension_front(6, size as usize, bytes),
+            None => Front::BadBlock,
+        },
+        _ => Front::BadBlock,
+    }
+}
+
+/// The whole block at the front of the bytes, if one stands there, and the bytes behind it.
+pub(crate) fn split_block(bytes: &[u8]) -> Option<(Block<'_>, &[u8])>
+    ensures { MatchOption result (Stops (front_of bytes.now)) (λ b. SplitsInto bytes.now b.0 b.1.now) }
+{
+    match front_at(bytes) {
+        Front::Whole(block, rest) => Some((block, rest)),
+        Front::End | Front::CutText | Front::BadBlock => None,
+    }
+}

@@ -1,0 +1,19 @@
+//! String packages: a language, and texts by string ids (UEFI 2.8, 33.3.6 String Package).
+#![tactic(auto)]
+
+mod block;
+mod block_types;
+mod blocks;
+mod entry;
+mod front;
+pub mod laws;
+mod place;
+mod strings;
+mod table;
+#[cfg(test)]
+mod tests;
+mod units;
+
+pub use strings::Strings;
+pub use table::StringTable;
+pub use units::{UnitChars, Units};
