@@ -6,7 +6,6 @@ use Rattle.ifr_opcodes.specs.Fields.{question_store, question_offset}
 use Rattle.ifr_scopes.specs.Nodes.{nodes_of}
 use Rattle.hii_varstore.specs.Stores.{byte_of}
 use Rattle.hii_varstore.proofs.WriteLemmas.{byte_after}
-use Rattle.hii_questions.specs.Answers.{answers}
 use Rattle.hii_questions.specs.Fields.{Field, field_of, question_with}
 use Rattle.hii_questions.specs.Inputs.{whole, fits, checkbox_bytes}
 use Rattle.hii_questions.specs.declared.denial.DenialKind.{DenialKind}
@@ -74,7 +73,7 @@ set_keeps : (s : State) (z : ℤ) (store at : ℕ) (q : Option Placed)
     → ((n : Placed) (field : Field) → q ≡ Some n → field_of n.op ≡ Some field → store ≡ field.store → field.offset ≤ at → at < field.offset + field.width → (set_question s q (whole z)).reply ≡ Accepted → ⊥)
     → byte_of (set_question s q (whole z)).state.working store at ≡ byte_of s.working store at
 set_keeps s z store at None none = refl
-set_keeps s z store at (Some n) none = unless_keeps s n z store at (fixed (answers (nodes_of s.ifr) s.working) n) (λ field is same from inside ok. none n field refl is same from inside ok)
+set_keeps s z store at (Some n) none = unless_keeps s n z store at (fixed (nodes_of s.ifr) s.working n) (λ field is same from inside ok. none n field refl is same from inside ok)
 
 fitting_submits : (s : State) (n : Placed) (r : Result (List ℕ) DenialKind) → (set_fitting s n r).state.committed ≡ s.committed
 fitting_submits s n (Err _) = refl
@@ -86,7 +85,7 @@ unless_submits s n z None = fitting_submits s n (fits n.op (whole z))
 
 set_submits : (s : State) (z : ℤ) (q : Option Placed) → (set_question s q (whole z)).state.committed ≡ s.committed
 set_submits s z None = refl
-set_submits s z (Some n) = unless_submits s n z (fixed (answers (nodes_of s.ifr) s.working) n)
+set_submits s z (Some n) = unless_submits s n z (fixed (nodes_of s.ifr) s.working n)
 
 -- a byte that is submitted as it stands
 abbrev pub Keeps : State → State → ℕ → ℕ → Type 0

@@ -8,7 +8,6 @@ use Rattle.ifr_scopes.specs.Nodes.{nodes_of}
 use Rattle.ifr_scopes.proofs.PlaceLemmas.{is_found}
 use Rattle.hii_varstore.specs.Layout.{HasRange}
 use Rattle.hii_varstore.specs.Stores.{shape_of}
-use Rattle.hii_questions.specs.Answers.{answers}
 use Rattle.hii_questions.specs.Checks.{range_of}
 use Rattle.hii_questions.specs.Fields.{field_of, question_with}
 use Rattle.hii_questions.specs.Inputs.{whole, fits}
@@ -32,11 +31,11 @@ none_of (Some denial) e = absurd cc
 
 -- a question that is not fixed and takes the value
 pub sets_field : (s : State) (asked : List ℕ) (id : ℕ) (value : ℤ) (n : Placed) (new : Field) → IsBrowsable s.ifr → shape_of s.working ≡ layout_in s.ifr → asked ≡ s.ifr
-    → question_with (nodes_of asked) id ≡ Some n → unless (fixed (answers (nodes_of s.ifr) s.working) n) ≡ Ok tt
+    → question_with (nodes_of asked) id ≡ Some n → unless (fixed (nodes_of s.ifr) s.working n) ≡ Ok tt
     → fits n.op (whole value) ≡ Ok new.bytes → field_of n.op ≡ Some (range_of new) → Sets s id value (Ok new)
 sets_field s asked id value n new browsable laid same found free fit field =
     let ns = nodes_of s.ifr in
     let there : question_with ns id ≡ Some n = subst (λ bytes. question_with (nodes_of bytes) id ≡ Some n) same found in
     let within = found_fits ns (layout_in s.ifr) id n (range_of new) browsable.questions there field in
-    let changes = none_of (fixed (answers ns s.working) n) free in
+    let changes = none_of (fixed ns s.working n) free in
     (subst (λ shape. HasRange shape new.store new.offset (length new.bytes)) (sym laid) within, rw (there, changes, fit, field) refl)

@@ -3,7 +3,10 @@ use Rattle.std.proofs.Common.{◌≡◌, ℕ, ◌+◌, None, Some, List, [], ◌
 use Rattle.std.specs.Prelude.{replicate, codes}
 use Rattle.std.specs.Fmt.{digits}
 use Rattle.hii_bytes.specs.Numbers.{number_in}
+use Rattle.ifr_opcodes.specs.Operators.{operands}
 use Rattle.ifr_opcodes.specs.Reading.{cut, levels, tree_of}
+use Rattle.ifr_expr.specs.Meaning.{leaf_value}
+use Rattle.ifr_expr.specs.Reading.{trees_of, tree_of_opcodes}
 use Rattle.unicode_width.proofs.Computing.{unicode_width}
 use Rattle.sibt_strings.specs.Units.{chars_of_units}
 use Rattle.hii_languages.specs.Languages.{Spoken}
@@ -87,7 +90,7 @@ two_checkboxes = (99 ∷ 0 ∷ 0 ∷ 2 ∷ []) ++ before ++ suppress_if ++ equal
 
 a_hidden_checkbox_is_denied : (outcome_of (started two_checkboxes (0 ∷ 1 ∷ [])) (codes "page\nset 1 1\nset 2 0\npage\n")).text
     ≡ codes "FORM 1 #2\n  1 *     2 #4                       [x]\nDENIED suppressif at 00000039\nOK\nFORM 1 #2\n  1 *     1 #3                       [ ]\n  2 *     2 #4                       [ ]\n"
-unfolding cut levels tree_of number_in with_bytes digits unicode_width
+unfolding cut levels tree_of number_in with_bytes digits unicode_width operands trees_of tree_of_opcodes leaf_value
 a_hidden_checkbox_is_denied = refl
 
 -- ---- a checkbox that hides itself
@@ -96,9 +99,9 @@ abbrev hiding_itself : List ℕ
 hiding_itself = (85 ∷ 0 ∷ 0 ∷ 2 ∷ []) ++ before ++ suppress_if ++ equal_to 1 1 ++ checkbox 1 0 ++ end ++ end ++ end
 
 an_unset_one_is_seen : (outcome_of (started hiding_itself (0 ∷ 0 ∷ [])) (codes "page\n")).text ≡ codes "FORM 1 #2\n  1 *     1 #3                       [ ]\n"
-unfolding cut levels tree_of number_in with_bytes digits unicode_width
+unfolding cut levels tree_of number_in with_bytes digits unicode_width operands trees_of tree_of_opcodes leaf_value
 an_unset_one_is_seen = refl
 
 a_set_one_is_not_seen : (outcome_of (started hiding_itself (1 ∷ 0 ∷ [])) (codes "page\n")).text ≡ codes "FORM 1 #2\n"
-unfolding cut levels tree_of number_in with_bytes digits unicode_width
+unfolding cut levels tree_of number_in with_bytes digits unicode_width operands trees_of tree_of_opcodes leaf_value
 a_set_one_is_not_seen = refl

@@ -9,7 +9,6 @@ use Rattle.ifr_scopes.specs.Nodes.{nodes_of, is_question}
 use Rattle.hii_languages.specs.Languages.{chosen}
 use Rattle.hii_varstore.specs.Stores.{StoreMap, field_of as bytes_of_field, with_bytes}
 use Rattle.hii_questions.specs.Fields.{Field, field_of, question_with}
-use Rattle.hii_questions.specs.Answers.{answers}
 use Rattle.hii_questions.specs.Inputs.{Offer, whole, fits}
 use Rattle.hii_questions.specs.declared.denial.DenialKind.{DenialKind}
 use Rattle.hii_questions.specs.declared.denial.DenialKind.TheVariants.{NoQuestion}
@@ -68,7 +67,7 @@ set_unless s q offer None = set_fitting s q (fits q.op offer)
 
 abbrev pub set_question : State → Option Placed → Offer → Outcome
 set_question s None offer = denied s record { kind = NoQuestion; place = 0; message = 0 }
-set_question s (Some q) offer = set_unless s q offer (fixed (answers (nodes_of s.ifr) s.working) q)
+set_question s (Some q) offer = set_unless s q offer (fixed (nodes_of s.ifr) s.working q)
 
 -- ---- submit and discard
 

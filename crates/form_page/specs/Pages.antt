@@ -8,7 +8,7 @@ use Rattle.ifr_opcodes.specs.Fields.{form_id, form_title, statement_prompt, ques
 use Rattle.ifr_expr.specs.Values.{Value, boolean}
 use Rattle.ifr_scopes.specs.Nodes.{statements, is_question}
 use Rattle.hii_varstore.specs.Stores.{StoreMap}
-use Rattle.hii_questions.specs.Answers.{answers, value_of_field}
+use Rattle.hii_questions.specs.Answers.{value_of_field}
 use Rattle.hii_questions.specs.Fields.{field_of}
 use Rattle.guard_policy.specs.Policy.{hidden, fixed}
 use Rattle.form_page.specs.Texts.{utf8, in_columns}
@@ -41,7 +41,7 @@ value_of stores n = if is_question n then shown_value (value_of_field stores (fi
 abbrev pub row_of : (ℕ → List ℕ) → List Placed → StoreMap → ℕ → Placed → Row
 row_of texts ns stores number n = record {
   number = number;
-  mark = mark_of (is_some (fixed (answers ns stores) n));
+  mark = mark_of (is_some (fixed ns stores n));
   question = id_of n;
   prompt = texts (statement_prompt n.op);
   value = value_of stores n;
@@ -53,7 +53,7 @@ rows_from texts ns stores number (n ∷ rest) = row_of texts ns stores number n 
 
 -- the rows of a form, numbered from 1
 abbrev pub rows : (ℕ → List ℕ) → List Placed → StoreMap → Placed → List Row
-rows texts ns stores form = rows_from texts ns stores 1 (filter (λ n. is_none (hidden (answers ns stores) n)) (statements form))
+rows texts ns stores form = rows_from texts ns stores 1 (filter (λ n. is_none (hidden ns stores n)) (statements form))
 
 -- a question's id in five columns, or that there is none
 abbrev pub id_text : Option ℕ → List ℕ

@@ -2,7 +2,6 @@
 use Rattle.std.specs.Prelude.{ℕ, if◌then◌else◌, Option, Some, None, is_none, List, [], ◌∷◌, filter}
 use Rattle.ifr_scopes.specs.Lists.{statements_left}
 use Rattle.ifr_scopes.specs.Nodes.{nodes_of}
-use Rattle.hii_questions.specs.Answers.{answers}
 use Rattle.hii_languages.specs.Shown.{shown_text}
 use Rattle.hii_languages.specs.Views.{choice_of, text_of}
 use Rattle.guard_policy.specs.Policy.{hidden}
@@ -34,4 +33,4 @@ abbrev pub rows_left : Rows → List pages.Row
 rows_left it =
     let ns = nodes_of (bytes_of it.page.policy) in
     let stores = it.page.stores.now in
-    rows_from (shown_text it.page.languages.now (choice_of it.page.choice)) ns stores it.number (filter (λ n. is_none (hidden (answers ns stores) n)) (statements_left it.statements))
+    rows_from (shown_text it.page.languages.now (choice_of it.page.choice)) ns stores it.number (filter (λ n. is_none (hidden ns stores n)) (statements_left it.statements))

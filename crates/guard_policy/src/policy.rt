@@ -1,6 +1,6 @@
 //! What a policy decides.
 
-ghost use Rattle.std.specs.Prelude.{◌≡◌, ◌==◌, ◌&&◌, ℕ, option_map};
+ghost use Rattle.std.specs.Prelude.{◌≡◌, ◌==◌, ◌&&◌, ℕ, [], option_map};
 ghost use Rattle.std.specs.List.{find};
 ghost use Rattle.ifr_opcodes.specs.Fields.{is_read_only};
 ghost use Rattle.ifr_opcodes.specs.Ops.{bytes_of};
@@ -23,7 +23,7 @@ use ifr_scopes::{Form, Forms, Guard, GuardsAt, Statement};
 
 // Whether a guard is a SUPPRESS_IF whose condition holds.
 fn suppresses<'a, A: Answers<'a>>(guard: Guard<'a>, answers: &A, forms: &Forms<'a>) -> bool
-    ensures { result ≡ spec.suppresses (A.answers answers.now) (guard_node guard.entry) }
+    ensures { result ≡ spec.suppresses [] (A.answers answers.now) (guard_node guard.entry) }
 {
     guard.op().code == SUPPRESS_IF && guard.condition().holds(answers, forms, guard.this())
 }
@@ -34,7 +34,7 @@ fn first_suppressing<'s, 'a, A: Answers<'a>>(
     answers: &A,
     forms: &Forms<'a>,
 ) -> Option<Guard<'a>>
-    ensures { option_map guard_node result ≡ find (spec.suppresses (A.answers answers.now)) (guards_left guards.entry) }
+    ensures { option_map guard_node result ≡ find (spec.suppresses [] (A.answers answers.now)) (guards_left guards.entry) }
 {
     let mut guards = guards;
     while let Some(guard) = guards.next() {
@@ -92,7 +92,7 @@ impl<'a, 's> Policy<'a, 's> {
     // The outermost guard of the form or statement at a place that suppresses it.
     fn unless_hidden(&self, place: u32, stores: &Stores) -> Result<(), Denial>
         ensures accepted { IsAccepted self.now.forms.now }
-        ensures decided { result ≡ spec.unless (spec.suppressed_by (find (spec.suppresses (answers (nodes_of self.now.forms.now) stores.now)) (guards_of_indexed (nodes_of self.now.forms.now) place))) }
+        ensures decided { result ≡ spec.unless (spec.suppressed_by (find (spec.suppresses [] (answers (nodes_of self.now.forms.now) stores.now)) (guards_of_indexed (nodes_of self.now.forms.now) place))) }
     {
         // The package is accepted: each guard has its condition.
         self.forms.bytes();
@@ -112,7 +112,7 @@ impl<'a, 's> Policy<'a, 's> {
     /// Whether a statement is seen: not where a SUPPRESS_IF around it holds. The denial names the outermost such.
     pub fn listed(&self, statement: Statement<'a>, stores: &Stores) -> Result<(), Denial>
         requires { IsNodeOf self.now.forms.now (statement_node statement) }
-        ensures { result ≡ spec.unless (spec.hidden (answers (nodes_of self.now.forms.now) stores.now) (statement_node statement.entry)) }
+        ensures { result ≡ spec.unless (spec.hidden (nodes_of self.now.forms.now) stores.now (statement_node statement.entry)) }
     {
         guards_of_a_statement_are_found();
         self.unless_hidden(statement.place(), stores)
@@ -121,7 +121,7 @@ impl<'a, 's> Policy<'a, 's> {
     /// Whether a form is opened: not where a SUPPRESS_IF around it holds. The denial names the outermost such.
     pub fn opens(&self, form: Form<'a>, stores: &Stores) -> Result<(), Denial>
         requires { IsNodeOf self.now.forms.now (form_node form) }
-        ensures { result ≡ spec.unless (spec.hidden (answers (nodes_of self.now.forms.now) stores.now) (form_node form.entry)) }
+        ensures { result ≡ spec.unless (spec.hidden (nodes_of self.now.forms.now) stores.now (form_node form.entry)) }
     {
         guards_of_a_form_are_found();
         self.unless_hidden(form.place(), stores)
@@ -131,7 +131,7 @@ impl<'a, 's> Policy<'a, 's> {
     /// The denial names the first of these that is so.
     pub fn changeable(&self, statement: Statement<'a>, stores: &Stores) -> Result<(), Denial>
         requires { IsNodeOf self.now.forms.now (statement_node statement) }
-        ensures { result ≡ spec.unless (spec.fixed (answers (nodes_of self.now.forms.now) stores.now) (statement_node statement.entry)) }
+        ensures { result ≡ spec.unless (spec.fixed (nodes_of self.now.forms.now) stores.now (statement_node statement.entry)) }
     {
         self.listed(statement, stores)?;
         fixed_itself(statement)

@@ -1,18 +1,20 @@
--- The tree that an expression of the code means, and the ids that are left of its support.
-use Rattle.std.specs.Prelude.{ℕ, Option, Some, None, List, []}
-use Rattle.ifr_opcodes.specs.Ops.{bytes_of}
-use Rattle.ifr_opcodes.specs.Views.{operator}
-use Rattle.ifr_opcodes.specs.declared.expressions.ExprOp.{ExprOp}
-use Rattle.ifr_expr.specs.Trees.{Tree, leaf, support}
+-- What the views of expressions stand for.
+use Rattle.std.specs.Prelude.{ℕ, ◌+◌, List, length}
+use Rattle.ifr_opcodes.specs.Forest.{Mark}
+use Rattle.ifr_expr.specs.Checked.{tree}
+use Rattle.ifr_expr.specs.OpcodesLeft.{opcodes_left}
+use Rattle.ifr_expr.specs.Trees.{Tree}
+use Rattle.ifr_expr.specs.declared.operators.Operators.{Operators}
 use Rattle.ifr_expr.specs.declared.expr.Expr.{Expr}
-use Rattle.ifr_expr.specs.declared.expr.Support.{Support}
 
+-- the tree that an expression means
 abbrev pub tree_of : Expr → Tree
-tree_of expr = leaf (bytes_of (operator expr.op))
+tree_of expr = tree expr.place expr.bytes.now
 
-abbrev pub support_of : Option ExprOp → List ℕ
-support_of None = []
-support_of (Some op) = support (leaf (bytes_of (operator op)))
+-- where it ends, in bytes from the package's header
+abbrev pub end_of : Expr → ℕ
+end_of expr = expr.place + length expr.bytes.now
 
-abbrev pub ids_left : Support → List ℕ
-ids_left it = support_of it.op
+-- the opcodes of the operators that are left
+abbrev pub operators_left : Operators → List Mark
+operators_left it = opcodes_left it.ops

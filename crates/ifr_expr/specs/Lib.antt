@@ -1,5 +1,14 @@
 pub mod Values
 pub mod Trees
+pub mod Counting
 pub mod Faults
+pub mod Reading
+pub mod Meaning
+pub mod Checked
 pub mod Views
+pub mod Stacks
+pub mod OpcodesLeft
 pub mod Expressions
+pub mod Named
+pub mod Supports
+pub mod Flat

@@ -1,26 +1,47 @@
--- Expressions as trees of operators, and what they mean (UEFI 2.8, 33.2.5.7 Expressions).
-use Rattle.std.specs.Prelude.{ℕ, List, [], ◌∷◌}
-use Rattle.ifr_opcodes.specs.Forest.{Forest, none, node}
-use Rattle.ifr_opcodes.specs.Fields.{eq_id_val_question, eq_id_val_value}
-use Rattle.ifr_expr.specs.Values.{Value, is_number}
+-- Expressions as trees of operators (UEFI 2.8, 33.2.5.7 Expressions).
+use Rattle.std.specs.Prelude.{◌≡◌, ℕ, ◌+◌, max, Option, Some, List, [], ◌∷◌, ◌++◌, length}
+use Rattle.ifr_opcodes.specs.Opcode.{number}
+use Rattle.ifr_opcodes.specs.Operators.{operands}
+use Rattle.ifr_opcodes.specs.Forest.{Forest, none, node, flat, Mark}
 
--- An operator with its operands. The one that is known, EQ_ID_VAL, has none.
+-- An operator with the trees of its operands, the left one first.
 pub data Tree : Type 0 where
-  leaf : (op : List ℕ) → Tree
+  leaf : (op : Mark) → Tree
+  one : (op : Mark) (operand : Tree) → Tree
+  two : (op : Mark) (left right : Tree) → Tree
 
 -- the opcodes that spell a tree: those of the operands, left first, and then its own
-abbrev pub post : Tree → List (List ℕ)
+abbrev pub post : Tree → List Mark
 post (leaf op) = op ∷ []
+post (one op operand) = post operand ++ op ∷ []
+post (two op left right) = post left ++ (post right ++ op ∷ [])
 
--- the value of a tree, by what the questions answer (UEFI 2.8, 33.3.8.3 EFI_IFR_EQ_ID_VAL)
-abbrev pub value : (ℕ → Value) → Tree → Value
-value answers (leaf op) = is_number (answers (eq_id_val_question op)) (eq_id_val_value op)
+-- how many operands an opcode takes, if it is an operator's
+abbrev pub takes : Mark → Option ℕ
+takes op = operands (number op.op)
 
--- the ids of the questions that a tree names, by place
-abbrev pub support : Tree → List ℕ
-support (leaf op) = eq_id_val_question op ∷ []
+-- Each operator has as many operands as it takes.
+abbrev pub IsFitting : Tree → Type 0
+IsFitting (leaf op) = takes op ≡ Some 0
+IsFitting (one op operand) = (takes op ≡ Some 1) × IsFitting operand
+IsFitting (two op left right) = (takes op ≡ Some 2) × (IsFitting left × IsFitting right)
 
--- the tree of the expression with which a forest begins
-abbrev pub tree_in : Forest → Tree
-tree_in none = leaf []
-tree_in (node op children rest) = leaf op
+-- how many values there are at once while it is evaluated
+abbrev pub need : Tree → ℕ
+need (leaf op) = 1
+need (one op operand) = need operand
+need (two op left right) = max (need left) (need right + 1)
+
+-- The opcodes mean the tree.
+pub record Means (marks : List Mark) (tree : Tree) : Type 0 where
+  pub spelled : post tree ≡ marks
+  pub fitting : IsFitting tree
+
+-- the opcodes of sibling nodes, of which the first stands at a place
+abbrev pub siblings : ℕ → Forest → List Mark
+siblings at none = []
+siblings at (node op children rest) = record { place = at; op = op } ∷ siblings (at + length (flat (node op children none))) rest
+
+-- the opcodes of an expression that stands at a place: its own, and then its children's
+abbrev pub expression : ℕ → List ℕ → Forest → List Mark
+expression at op children = record { place = at; op = op } ∷ siblings (at + length op) children

@@ -2,8 +2,21 @@
 //! Expressions).
 #![tactic(auto)]
 
+mod counting;
+mod evaluation;
 mod expr;
+mod given;
+pub mod laws;
+mod opcodes;
+mod operations;
+mod operators;
+mod rules;
+mod support;
+#[cfg(test)]
+mod tests;
 mod value;
 
-pub use expr::{Expr, Rules, Support};
+pub use expr::Expr;
+pub use rules::Rules;
+pub use support::Support;
 pub use value::{Answers, Value};

@@ -3,13 +3,51 @@
 /// The value of an expression, or what a question answers (UEFI 2.8, 33.2.5.7 Expressions).
 #[derive(Clone, Copy, Debug)]
 pub enum Value<'v> {
-    /// No value: the question has no answer, or the operands cannot be compared.
+    /// No value: the question has no answer, or the operands do not suit the operator.
     Undefined,
     Boolean(bool),
     Number(u64),
     /// Units of two bytes each, the lower byte first.
     Text(&'v [u8]),
     Buffer(&'v [u8]),
+}
+
+/// What an operator makes of values.
+#[derive(Clone, Copy, Debug, PartialEq, Eq)]
+pub(crate) enum Outcome {
+    Undefined,
+    Boolean(bool),
+    Number(u64),
+}
+
+impl Outcome {
+    ghost use Rattle.std.specs.Prelude.{◌≡◌};
+    ghost use Rattle.ifr_expr.specs.Views.{value_of, outcome_value};
+
+    // It as a value.
+    pub(crate) fn value<'v>(self) -> Value<'v>
+        ensures { value_of result ≡ outcome_value self }
+    {
+        match self {
+            Outcome::Undefined => Value::Undefined,
+            Outcome::Boolean(b) => Value::Boolean(b),
+            Outcome::Number(n) => Value::Number(n),
+        }
+    }
+}
+
+/// A value that waits for its operator.
+#[derive(Clone, Copy, Debug)]
+pub(crate) enum Operand {
+    Made(Outcome),
+    /// What the question of an id answers.
+    Answer(u16),
+}
+
+impl Default for Operand {
+    fn default() -> Self {
+        Operand::Made(Outcome::Undefined)
+    }
 }
 
 /// What questions answer.

@@ -1,3 +1,5 @@
 pub mod OpcodeLemmas
 pub mod ForestLemmas
 pub mod FieldLemmas
+pub mod OperatorLemmas
+pub mod OperandLemmas

@@ -1,13 +1,14 @@
 -- The fields of opcodes: numbers with the lowest byte first, at offsets in bytes from the opcode's first
 -- (UEFI 2.8, 33.3.8.3 Opcode Reference, under the name of each).
-use Rattle.std.specs.Prelude.{◌≡◌, ℕ, ◌+◌, ◌<◌, Bool, false, not, ◌==◌, if◌then◌else◌, List, length, drop, slice_range, bit_and}
+use Rattle.std.specs.Prelude.{◌≡◌, ℕ, ◌+◌, ◌*◌, ◌<◌, Bool, false, not, ◌==◌, ◌||◌, nat_lt, if◌then◌else◌, List, [], ◌∷◌, length, drop, slice_range, bit_and}
 use Rattle.std.specs.List.{before_first}
 use Rattle.hii_bytes.specs.declared.cause.Cause.{Cause}
 use Rattle.hii_bytes.specs.declared.cause.Cause.TheVariants.{OpOutside, OpSize}
 use Rattle.hii_bytes.specs.Numbers.{number_in}
-use Rattle.ifr_opcodes.specs.declared.codes.TheConstants.{FORM, CHECKBOX, FORM_SET, EQ_ID_VAL, VARSTORE}
+use Rattle.ifr_opcodes.specs.declared.codes.TheConstants.{FORM, CHECKBOX, SUPPRESS_IF, FORM_SET, EQ_ID_VAL, EQ_ID_ID, EQ_ID_VAL_LIST, VARSTORE, RULE_REF, QUESTION_REF1, UINT8, UINT16, UINT32}
 use Rattle.ifr_opcodes.specs.Opcode.{number}
 use Rattle.ifr_opcodes.specs.Forest.{Mark}
+use Rattle.ifr_opcodes.specs.Operators.{is_among, is_operator, uints}
 
 -- EFI_IFR_FORM_SET
 abbrev pub form_set_guid : List ℕ → List ℕ
@@ -80,9 +81,52 @@ eq_id_val_question op = number_in op 2 2
 abbrev pub eq_id_val_value : List ℕ → ℕ
 eq_id_val_value op = number_in op 4 2
 
--- the numbers of operators
-abbrev pub is_operator : ℕ → Bool
-is_operator code = code == EQ_ID_VAL
+-- EFI_IFR_EQ_ID_ID
+abbrev pub eq_id_id_first : List ℕ → ℕ
+eq_id_id_first op = number_in op 2 2
+
+abbrev pub eq_id_id_second : List ℕ → ℕ
+eq_id_id_second op = number_in op 4 2
+
+-- EFI_IFR_EQ_ID_VAL_LIST; its list is numbers of two bytes each
+abbrev pub eq_id_val_list_question : List ℕ → ℕ
+eq_id_val_list_question op = number_in op 2 2
+
+abbrev pub eq_id_val_list_count : List ℕ → ℕ
+eq_id_val_list_count op = number_in op 4 2
+
+abbrev pub pairs : List ℕ → List ℕ
+pairs (low ∷ high ∷ rest) = (low + 256 * high) ∷ pairs rest
+pairs _ = []
+
+abbrev pub eq_id_val_list_values : List ℕ → List ℕ
+eq_id_val_list_values op = pairs (slice_range op 6 (6 + 2 * eq_id_val_list_count op))
+
+-- EFI_IFR_QUESTION_REF1
+abbrev pub question_ref_question : List ℕ → ℕ
+question_ref_question op = number_in op 2 2
+
+-- EFI_IFR_RULE_REF
+abbrev pub rule_ref_rule : List ℕ → ℕ
+rule_ref_rule op = number_in op 2 1
+
+-- EFI_IFR_UINT8, EFI_IFR_UINT16, EFI_IFR_UINT32 and EFI_IFR_UINT64
+abbrev pub uint_width : ℕ → ℕ
+uint_width code = if code == UINT8 then 1 else (if code == UINT16 then 2 else (if code == UINT32 then 4 else 8))
+
+abbrev pub uint_value : List ℕ → ℕ
+uint_value op = number_in op 2 (uint_width (number op))
+
+-- how many bytes the fields of an operator of this number take, with the two in front of them
+unfoldable pub operator_length : ℕ → List ℕ → ℕ
+operator_length code op =
+    if code == EQ_ID_VAL then 6
+    else (if code == EQ_ID_ID then 6
+    else (if code == EQ_ID_VAL_LIST then (if nat_lt (length op) 6 then 6 else 6 + 2 * eq_id_val_list_count op)
+    else (if code == QUESTION_REF1 then 4
+    else (if code == RULE_REF then 3
+    else (if is_among code uints then 2 + uint_width code
+    else 2)))))
 
 -- how many bytes the fields of an opcode of this number take, with the two in front of them
 abbrev pub row_length : ℕ → List ℕ → ℕ
@@ -91,12 +135,19 @@ row_length code op =
     else (if code == FORM then 6
     else (if code == VARSTORE then 23 + length (varstore_name op)
     else (if code == CHECKBOX then 14
-    else (if code == EQ_ID_VAL then 6
-    else 2))))
+    else operator_length code op)))
 
 -- a longer opcode is accepted, and the rest ignored (own rule)
 abbrev pub least_length : List ℕ → ℕ
 least_length op = row_length (number op) op
+
+-- It has not all its fields.
+abbrev pub is_short : List ℕ → Bool
+is_short op = nat_lt (length op) (least_length op)
+
+-- whether an opcode of this number is known (own rule)
+abbrev pub is_listed : ℕ → Bool
+is_listed code = code == FORM_SET || code == FORM || code == VARSTORE || code == SUPPRESS_IF || code == CHECKBOX || is_operator code
 
 -- An opcode is not of the wanted numbers, or has not all its fields.
 abbrev pub IsMisread : (ℕ → Bool) → Mark → Cause → ℕ → Type 0

@@ -1,11 +1,14 @@
 -- What a typed view of an opcode is read from.
-use Rattle.std.specs.Prelude.{◌≡◌, ℕ, ◌≤◌, Bool, true, length, Result, Ok, Err}
+use Rattle.std.specs.Prelude.{◌≡◌, ℕ, ◌≤◌, Bool, true, List, length, Result, Ok, Err}
 use Rattle.hii_bytes.specs.declared.cause.Fault.{Fault}
 use Rattle.hii_bytes.specs.Faults.{IsLeast}
-use Rattle.ifr_opcodes.specs.Fields.{least_length, IsMisread, IsShort}
+use Rattle.ifr_opcodes.specs.Fields.{least_length, pairs, IsMisread, IsShort}
 use Rattle.ifr_opcodes.specs.Ops.{bytes_of, op_of}
 use Rattle.ifr_opcodes.specs.declared.expressions.ExprOp.{ExprOp}
-use Rattle.ifr_opcodes.specs.declared.expressions.ExprOp.TheVariants.{EqIdVal}
+use Rattle.ifr_opcodes.specs.declared.expressions.ExprOp.TheVariants.{Leaf, RuleRef, Unary, Binary}
+use Rattle.ifr_opcodes.specs.declared.expressions.LeafOp.{LeafOp}
+use Rattle.ifr_opcodes.specs.declared.expressions.LeafOp.TheVariants as leaf
+use Rattle.ifr_opcodes.specs.declared.eq_id_val_list.ListValues.{ListValues}
 use Rattle.ifr_opcodes.specs.declared.op.Op.{Op}
 
 -- An opcode of a wanted number with all its fields is read as itself, any other is refused.
@@ -19,5 +22,21 @@ ReadsLong least op_in op (Ok view) = (op_of (op_in view) ≡ op_of op) × (least
 ReadsLong least op_in op (Err fault) = IsLeast (IsShort least (op_of op)) fault
 
 -- the opcode of an operator
+abbrev pub leaf_operator : LeafOp → Op
+leaf_operator (leaf.EqIdVal view) = view.op
+leaf_operator (leaf.EqIdId view) = view.op
+leaf_operator (leaf.EqIdValList view) = view.op
+leaf_operator (leaf.QuestionRef view) = view.op
+leaf_operator (leaf.Uint view) = view.op
+leaf_operator (leaf.Constant view) = view.op
+leaf_operator (leaf.This view) = view.op
+
 abbrev pub operator : ExprOp → Op
-operator (EqIdVal view) = view.op
+operator (Leaf view) = leaf_operator view
+operator (RuleRef view) = view.op
+operator (Unary view) = view.op
+operator (Binary view) = view.op
+
+-- the numbers that are left of an EQ_ID_VAL_LIST
+abbrev pub values_left : ListValues → List ℕ
+values_left it = pairs it.rest.now

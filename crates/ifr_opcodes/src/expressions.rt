@@ -1,61 +1,204 @@
 //! The operators of expressions.
 
-ghost use Rattle.std.specs.Prelude.{◌≡◌, ◌≤◌, length};
-ghost use Rattle.ifr_opcodes.specs.declared.codes.TheConstants.{EQ_ID_VAL};
+ghost use Rattle.std.specs.Prelude.{◌≡◌, ◌+◌, ◌≤◌, length, true};
+ghost use Rattle.ifr_opcodes.specs.declared.codes.TheConstants.{RULE_REF, THIS};
+ghost use Rattle.ifr_opcodes.specs.Codes.{constant_code, unary_code, binary_code};
+ghost use Rattle.ifr_opcodes.specs.Fields.{uint_width};
+ghost use Rattle.ifr_opcodes.specs.Operators.{is_among, uints};
 ghost use Rattle.ifr_opcodes.specs.Ops.{bytes_of};
 
-use crate::codes::EQ_ID_VAL;
+use crate::codes::{
+    EQ_ID_ID, EQ_ID_VAL, EQ_ID_VAL_LIST, QUESTION_REF1, RULE_REF, THIS, UINT8, UINT16, UINT32,
+    UINT64,
+};
+use crate::eq_id_id::EqIdIdOp;
+use crate::eq_id_val::EqIdValOp;
+use crate::eq_id_val_list::EqIdValListOp;
 use crate::op::Op;
+use crate::operators::{Binary, Constant, Unary, operands};
+use crate::references::{QuestionRefOp, RuleRefOp};
+use crate::rows::least_len;
 use hii_bytes::{Cause, Fault};
 
-/// An operator of an expression.
+/// An operator of an expression, by how many operands it takes.
 #[derive(Clone, Copy, Debug)]
 pub enum ExprOp<'a> {
-    /// EFI_IFR_EQ_ID_VAL.
-    EqIdVal(EqIdValOp<'a>),
+    /// None.
+    Leaf(LeafOp<'a>),
+    /// None; its value is that of a rule.
+    RuleRef(RuleRefOp<'a>),
+    /// One.
+    Unary(UnaryOp<'a>),
+    /// Two.
+    Binary(BinaryOp<'a>),
 }
 
 impl<'a> ExprOp<'a> {
-    ghost use Rattle.ifr_opcodes.specs.Fields.{is_operator};
-    ghost use Rattle.ifr_opcodes.specs.Views.{Reads, operator};
+    ghost use Rattle.std.specs.Prelude.{Some};
+    ghost use Rattle.ifr_opcodes.specs.Operators.{is_operator, operands};
+    ghost use Rattle.ifr_opcodes.specs.Fields.{least_length};
+    ghost use Rattle.ifr_opcodes.specs.Ops.{op_of};
+    ghost use Rattle.ifr_opcodes.specs.Views.{Reads, operator, leaf_operator};
 
     /// An opcode that is no operator is refused by OpOutside, one that is shorter than its fields by OpSize, each at its
     /// place.
     pub fn read(op: Op<'a>) -> Result<ExprOp<'a>, Fault>
         ensures { Reads is_operator operator op.entry result }
     {
-        match op.code {
-            EQ_ID_VAL => {
-                op.check_length(6)?;
-                Ok(ExprOp::EqIdVal(EqIdValOp { op }))
-            }
-            _ => Err(op.fault(Cause::OpOutside)),
+        let Some(count) = operands(op.code) else {
+            return Err(op.fault(Cause::OpOutside));
+        };
+        op.check_length(least_len(op))?;
+        Ok(match count {
+            0 => ExprOp::without_operands(op),
+            1 => ExprOp::Unary(UnaryOp {
+                op,
+                operator: Unary::of(op.code),
+            }),
+            _ => ExprOp::Binary(BinaryOp {
+                op,
+                operator: Binary::of(op.code),
+            }),
+        })
+    }
+
+    // The view of an operator that takes no operands.
+    #[tactic(auto, unfolding(crate::specs::Fields::operator_length))]
+    fn without_operands(op: Op<'a>) -> ExprOp<'a>
+        requires leaf { operands op.code ≡ Some 0 }
+        requires sized { least_length (bytes_of op) ≤ length (bytes_of op) }
+        ensures { op_of (operator result) ≡ op_of op.entry }
+    {
+        if op.code == RULE_REF {
+            return ExprOp::RuleRef(RuleRefOp { op });
+        }
+        ExprOp::Leaf(LeafOp::of(op))
+    }
+
+    /// Its opcode.
+    pub fn op(self) -> Op<'a>
+        ensures { op_of result ≡ op_of (operator self.entry) }
+    {
+        match self {
+            ExprOp::Leaf(leaf) => leaf.op(),
+            ExprOp::RuleRef(view) => view.op,
+            ExprOp::Unary(view) => view.op,
+            ExprOp::Binary(view) => view.op,
         }
     }
 }
 
-/// Whether a question's value is a number (UEFI 2.8, 33.3.8.3, EFI_IFR_EQ_ID_VAL).
+/// An operator that takes no operands and is no reference to a rule.
 #[derive(Clone, Copy, Debug)]
-pub struct EqIdValOp<'a> {
-    pub op: Op<'a>,
-    pub ghost coded: { op.code ≡ EQ_ID_VAL },
-    pub ghost sized: { 6 ≤ length (bytes_of op) },
+pub enum LeafOp<'a> {
+    EqIdVal(EqIdValOp<'a>),
+    EqIdId(EqIdIdOp<'a>),
+    EqIdValList(EqIdValListOp<'a>),
+    QuestionRef(QuestionRefOp<'a>),
+    Uint(UintOp<'a>),
+    Constant(ConstantOp<'a>),
+    This(ThisOp<'a>),
 }
 
-impl<'a> EqIdValOp<'a> {
-    ghost use Rattle.ifr_opcodes.specs.Fields.{eq_id_val_question, eq_id_val_value};
+impl<'a> LeafOp<'a> {
+    ghost use Rattle.std.specs.Prelude.{Some, ◌≢◌};
+    ghost use Rattle.ifr_opcodes.specs.Operators.{operands};
+    ghost use Rattle.ifr_opcodes.specs.Fields.{least_length};
+    ghost use Rattle.ifr_opcodes.specs.Ops.{op_of};
+    ghost use Rattle.ifr_opcodes.specs.Views.{leaf_operator};
 
-    /// The question's id.
-    pub fn question(self) -> u16
-        ensures { result ≡ eq_id_val_question (bytes_of self.entry.op) }
+    // The view of an operator that takes no operands and is no reference to a rule.
+    #[tactic(auto, unfolding(crate::specs::Operators::operands, crate::specs::Fields::operator_length))]
+    fn of(op: Op<'a>) -> LeafOp<'a>
+        requires leaf { operands op.code ≡ Some 0 }
+        requires other { op.code ≢ RULE_REF }
+        requires sized { least_length (bytes_of op) ≤ length (bytes_of op) }
+        ensures { op_of (leaf_operator result) ≡ op_of op.entry }
     {
-        self.op.u16_at(2)
+        match op.code {
+            EQ_ID_VAL => LeafOp::EqIdVal(EqIdValOp { op }),
+            EQ_ID_ID => LeafOp::EqIdId(EqIdIdOp { op }),
+            EQ_ID_VAL_LIST => LeafOp::EqIdValList(EqIdValListOp { op }),
+            QUESTION_REF1 => LeafOp::QuestionRef(QuestionRefOp { op }),
+            UINT8 => LeafOp::Uint(UintOp { op }),
+            UINT16 => LeafOp::Uint(UintOp { op }),
+            UINT32 => LeafOp::Uint(UintOp { op }),
+            UINT64 => LeafOp::Uint(UintOp { op }),
+            THIS => LeafOp::This(ThisOp { op }),
+            _ => LeafOp::Constant(ConstantOp {
+                op,
+                constant: Constant::of(op.code),
+            }),
+        }
     }
+
+    /// Its opcode.
+    pub fn op(self) -> Op<'a>
+        ensures { op_of result ≡ op_of (leaf_operator self.entry) }
+    {
+        match self {
+            LeafOp::EqIdVal(view) => view.op,
+            LeafOp::EqIdId(view) => view.op,
+            LeafOp::EqIdValList(view) => view.op,
+            LeafOp::QuestionRef(view) => view.op,
+            LeafOp::Uint(view) => view.op,
+            LeafOp::Constant(view) => view.op,
+            LeafOp::This(view) => view.op,
+        }
+    }
+}
+
+/// A number of 1, 2, 4 or 8 bytes (UEFI 2.8, 33.3.8.3, EFI_IFR_UINT8 to EFI_IFR_UINT64).
+#[derive(Clone, Copy, Debug)]
+pub struct UintOp<'a> {
+    pub op: Op<'a>,
+    pub ghost coded: { is_among op.code uints ≡ true },
+    pub ghost sized: { 2 + uint_width op.code ≤ length (bytes_of op) },
+}
+
+impl<'a> UintOp<'a> {
+    ghost use Rattle.ifr_opcodes.specs.Fields.{uint_value};
 
     /// The number.
-    pub fn value(self) -> u16
-        ensures { result ≡ eq_id_val_value (bytes_of self.entry.op) }
+    pub fn value(self) -> u64
+        ensures { result ≡ uint_value (bytes_of self.entry.op) }
     {
-        self.op.u16_at(4)
+        match self.op.code {
+            UINT8 => self.op.number_at(2, 1),
+            UINT16 => self.op.number_at(2, 2),
+            UINT32 => self.op.number_at(2, 4),
+            _ => self.op.number_at(2, 8),
+        }
     }
+}
+
+/// A value that stands in its number (UEFI 2.8, 33.3.8.3, EFI_IFR_TRUE and the like).
+#[derive(Clone, Copy, Debug)]
+pub struct ConstantOp<'a> {
+    pub op: Op<'a>,
+    pub constant: Constant,
+    pub ghost coded: { constant_code constant ≡ op.code },
+}
+
+/// The value of the question in whose scope it stands (UEFI 2.8, 33.3.8.3, EFI_IFR_THIS).
+#[derive(Clone, Copy, Debug)]
+pub struct ThisOp<'a> {
+    pub op: Op<'a>,
+    pub ghost coded: { op.code ≡ THIS },
+}
+
+/// An operator that takes one operand (UEFI 2.8, 33.3.8.3, EFI_IFR_NOT and EFI_IFR_BITWISE_NOT).
+#[derive(Clone, Copy, Debug)]
+pub struct UnaryOp<'a> {
+    pub op: Op<'a>,
+    pub operator: Unary,
+    pub ghost coded: { unary_code operator ≡ op.code },
+}
+
+/// An operator that takes two operands, of which the left one stands first (UEFI 2.8, 33.3.8.3, EFI_IFR_AND and the like).
+#[derive(Clone, Copy, Debug)]
+pub struct BinaryOp<'a> {
+    pub op: Op<'a>,
+    pub operator: Binary,
+    pub ghost coded: { binary_code operator ≡ op.code },
 }

@@ -3,7 +3,7 @@
 ghost use Rattle.ifr_opcodes.specs.Opcode.{spelled, IsWhole, IsWhole-prop};
 
 use crate::split::rest_from;
-use hii_bytes::{Cause, Fault, u16_at};
+use hii_bytes::{Cause, Fault, number_at, u16_at};
 
 /// A whole opcode of a forms package (UEFI 2.8, 33.3.8.2.1 EFI_IFR_OP_HEADER).
 #[derive(Clone, Copy, Debug)]
@@ -20,7 +20,7 @@ pub struct Op<'a> {
 }
 
 impl<'a> Op<'a> {
-    ghost use Rattle.std.specs.Prelude.{◌≡◌, ◌==◌, ◌+◌, ◌<◌, ◌≤◌, ℕ, true, length, drop, OnOk, IfErr, IsOk};
+    ghost use Rattle.std.specs.Prelude.{◌≡◌, ◌==◌, ◌+◌, ◌<◌, ◌≤◌, ◌⊎◌, ℕ, true, length, drop, OnOk, IfErr, IsOk};
     ghost use Rattle.hii_bytes.specs.Faults.{IsLeast};
     ghost use Rattle.hii_bytes.specs.Numbers.{number_in};
     ghost use Rattle.ifr_opcodes.specs.Fields.{row_length, IsMisread, IsShort};
@@ -49,6 +49,16 @@ impl<'a> Op<'a> {
         ensures { result ≡ number_in (bytes_of self.entry) at 2 }
     {
         u16_at(self.body, at - 2).unwrap()
+    }
+
+    /// The number in 1, 2, 4 or 8 bytes at an offset from the opcode's first byte.
+    pub(crate) fn number_at(self, at: usize, width: usize) -> u64
+        requires wide { (width ≡ 1) ⊎ (width ≡ 2) ⊎ (width ≡ 4) ⊎ (width ≡ 8) }
+        requires behind_header { 2 ≤ at }
+        requires within { at + width ≤ length (bytes_of self) }
+        ensures { result ≡ number_in (bytes_of self.entry) at width }
+    {
+        number_at(self.body, at - 2, width).unwrap()
     }
 
     /// The bytes from an offset from the opcode's first byte on.

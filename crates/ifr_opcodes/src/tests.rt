@@ -43,8 +43,76 @@ fn form_and_expression(rt: HostRuntime) {
     assert_eq!(rt; (form.id(), form.title()), (7, 8));
     let (op, others) = split_opcode(&PACKAGE[59..], 59).expect(&rt, "an opcode");
     assert_eq!(rt; (op.place, others.len()), (59, 18));
-    let ExprOp::EqIdVal(view) = ExprOp::read(op).expect(&rt, "an operator");
+    let ExprOp::Leaf(LeafOp::EqIdVal(view)) = ExprOp::read(op).expect(&rt, "an operator") else {
+        panic!(rt; "no EQ_ID_VAL");
+    };
     assert_eq!(rt; (view.question(), view.value()), (11, 0x1234));
+}
+
+// The operator that these bytes are, at place 0.
+fn operator(bytes: &[u8]) -> Option<ExprOp<'_>> {
+    let op = op_at(bytes, 0).ok()?;
+    ExprOp::read(op).ok()
+}
+
+#[test]
+fn operators(rt: HostRuntime) {
+    let Some(ExprOp::Leaf(LeafOp::EqIdId(view))) = operator(&[0x13, 6, 1, 2, 3, 4]) else {
+        panic!(rt; "no EQ_ID_ID");
+    };
+    assert_eq!(rt; (view.first(), view.second()), (0x0201, 0x0403));
+    let list = [0x14, 11, 9, 0, 2, 0, 5, 0, 7, 1, 99];
+    let Some(ExprOp::Leaf(LeafOp::EqIdValList(view))) = operator(&list) else {
+        panic!(rt; "no EQ_ID_VAL_LIST");
+    };
+    let mut values = view.values();
+    assert_eq!(rt; (view.question(), view.count()), (9, 2));
+    assert_eq!(rt;
+        (values.next(), values.next(), values.next()),
+        (Some(5), Some(0x107), None)
+    );
+    let Some(ExprOp::Leaf(LeafOp::QuestionRef(view))) = operator(&[0x40, 0x84, 7, 0]) else {
+        panic!(rt; "no QUESTION_REF1");
+    };
+    assert_eq!(rt; view.question(), 7);
+    let Some(ExprOp::RuleRef(view)) = operator(&[0x3f, 3, 8]) else {
+        panic!(rt; "no RULE_REF");
+    };
+    assert_eq!(rt; view.rule(), 8);
+    let Some(ExprOp::Leaf(LeafOp::Uint(view))) = operator(&[0x44, 6, 4, 3, 2, 1]) else {
+        panic!(rt; "no UINT32");
+    };
+    assert_eq!(rt; view.value(), 0x01020304);
+    let Some(ExprOp::Leaf(LeafOp::Constant(view))) = operator(&[0x54, 2]) else {
+        panic!(rt; "no ONES");
+    };
+    assert_eq!(rt; view.constant, Constant::Ones);
+    let Some(ExprOp::Unary(view)) = operator(&[0x17, 2]) else {
+        panic!(rt; "no NOT");
+    };
+    assert_eq!(rt; view.operator, Unary::Not);
+    let Some(ExprOp::Binary(view)) = operator(&[0x3b, 2]) else {
+        panic!(rt; "no SUBTRACT");
+    };
+    assert_eq!(rt; view.operator, Binary::Subtract);
+    let Some(this) = operator(&[0x58, 2]) else {
+        panic!(rt; "no THIS");
+    };
+    assert_eq!(rt;
+        (this.op().code, is_operator(THIS), is_listed(THIS)),
+        (THIS, true, true)
+    );
+    assert_eq!(rt;
+        (operands(MODULO), operands(BITWISE_NOT), operands(FORM)),
+        (Some(2), Some(1), None)
+    );
+    assert_eq!(rt;
+        (is_operator(0x41), is_listed(0x41), is_listed(FORM)),
+        (false, false, true)
+    );
+    // a count of two, and bytes for one
+    let cut = op_at(&[0x14, 8, 1, 0, 2, 0, 5, 0], 0).expect(&rt, "an opcode");
+    assert_eq!(rt; (least_len(cut), is_short(cut)), (10, true));
 }
 
 #[test]

@@ -12,13 +12,13 @@ use Rattle.ifr_scopes.specs.declared.guard_place.GuardPlace.{GuardPlace}
 use Rattle.ifr_scopes.proofs.ViewLemmas.{some_there, contains_found}
 use Rattle.ifr_scopes.proofs.PathLemmas.{Keeps, keeps}
 
-pub around : (bytes : List ℕ) (place : ℕ) (kept : List GuardPlace) → Spells bytes (tree_of bytes) → has_node bytes place ≡ true → kept ≡ kept_guards bytes (node_in bytes place) → Keeps bytes kept (guards_of_node (node_in bytes place))
+pub around : (bytes : List ℕ) (place : ℕ) (kept : List GuardPlace) → Spells bytes (tree_of bytes) → has_node bytes place ≡ true → kept ≡ kept_guards (node_in bytes place) → Keeps bytes kept (guards_of_node (node_in bytes place))
 unfolding node_in
 around bytes place kept s there e =
     let found = some_there (node_at (nodes_of bytes) place) there in
     let same = ap or_empty found.1 in
     let keeps_its = keeps bytes found.0 s (contains_found (nodes_of bytes) place found.0 found.1) in
-    subst (λ (l : List GuardPlace). Keeps bytes l (guards_of_node (node_in bytes place))) (sym e) (subst (λ (n : Placed). Keeps bytes (kept_guards bytes n) (guards_of_node n)) (sym same) keeps_its)
+    subst (λ (l : List GuardPlace). Keeps bytes l (guards_of_node (node_in bytes place))) (sym e) (subst (λ (n : Placed). Keeps bytes (kept_guards n) (guards_of_node n)) (sym same) keeps_its)
 
 -- ---- what a walk meets
 

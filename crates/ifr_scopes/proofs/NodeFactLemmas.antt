@@ -1,11 +1,13 @@
 -- What the nodes of a checked package have: all their fields, and guards their condition.
-use Rattle.std.proofs.Common.{◌≡◌, ℕ, ◌+◌, ◌≤◌, Bool, true, false, eqb, List, [], ◌∷◌, ◌++◌, length, refl, sym, ap, subst, ◌∙◌, arith, inl, inr}
+use Rattle.std.proofs.Common.{◌≡◌, ℕ, ◌+◌, ◌≤◌, Bool, true, false, eqb, Some, List, [], ◌∷◌, ◌++◌, length, refl, sym, ap, subst, ◌∙◌, arith, inl, inr}
 use Rattle.std.specs.Prelude.{◌||◌, ◌&&◌, not, Contains}
 use Rattle.std.proofs.lemmas.Bool.{cases_Bool, eqb-true, eq-eqb, ltb-false, false≢true}
 use Rattle.hii_bytes.specs.declared.cause.Cause.{Cause}
 use Rattle.hii_bytes.specs.declared.cause.Cause.TheVariants.{NotFormSet, OpOutside, OpSize, ExprShape}
+use Rattle.ifr_opcodes.specs.declared.codes.TheConstants.{FORM_SET, FORM, VARSTORE, SUPPRESS_IF, CHECKBOX, EQ_ID_VAL}
 use Rattle.ifr_opcodes.specs.Opcode.{number, has_scope}
-use Rattle.ifr_opcodes.specs.Fields.{row_length, least_length, is_operator}
+use Rattle.ifr_opcodes.specs.Fields.{row_length, least_length, is_short}
+use Rattle.ifr_opcodes.specs.Operators.{is_operator, operands}
 use Rattle.ifr_opcodes.specs.Forest.{Forest, none, node, Placed, as_ancestor, nodes_at, nodes, below}
 use Rattle.ifr_opcodes.specs.Reading.{tree_of}
 use Rattle.ifr_scopes.specs.Guards.{is_guard}
@@ -51,7 +53,8 @@ pub record HasCondition (bytes : List ℕ) (guard : Placed) : Type 0 where
   pub first : guard.children ≡ node op children rest
   pub operator : is_operator (number op) ≡ true
   pub unscoped : has_scope op ≡ false
-  pub sized : least_length op ≤ length op
+  pub sized : is_short op ≡ false
+  pub takes_none : operands (number op) ≡ Some 0
   pub within : Contains (nodes_of bytes) (record { place = guard.place + length guard.op; op = op; path = guard.path ++ as_ancestor guard ∷ []; children = children })
 
 begins : (f : Forest) → lacks_expression (first_number f) ≡ false → (op : List ℕ) × (children : Forest) × (rest : Forest) × (f ≡ node op children rest)
@@ -59,10 +62,33 @@ begins none lacks = absurd (false≢true (sym lacks))
 begins (node op children rest) lacks = (op, children, rest, refl)
 
 -- A known number that is wanted is an operator's, and an operator that is known has no Scope.
-is_wanted : (lacks operator scope : Bool) → not lacks && not operator ≡ false → lacks || (operator && scope) ≡ false → (operator ≡ true) × (scope ≡ false)
+is_wanted : (lacks operator scope : Bool) → not lacks && not operator ≡ false → lacks || (operator && scope) ≡ false → (operator ≡ true) × (scope ≡ false) × (lacks ≡ false)
 is_wanted true operator scope wanted known = absurd (false≢true (sym known))
-is_wanted false true scope wanted known = (refl, known)
+is_wanted false true scope wanted known = (refl, known, refl)
 is_wanted false false scope wanted known = absurd (false≢true (sym wanted))
+
+-- the operator that is known has no operands
+known_operator : (code : ℕ) → lacks_row (row code) ≡ false → is_operator code ≡ true → operands code ≡ Some 0
+unfolding operands
+known_operator code known h = elim (cases_Bool (eqb code FORM_SET)) [
+  | inl e ↦ absurd (false≢true (ap is_operator (sym (eqb-true code FORM_SET e)) ∙ h))
+  | inr a ↦ elim (cases_Bool (eqb code FORM)) [
+    | inl e ↦ absurd (false≢true (ap is_operator (sym (eqb-true code FORM e)) ∙ h))
+    | inr b ↦ elim (cases_Bool (eqb code VARSTORE)) [
+      | inl e ↦ absurd (false≢true (ap is_operator (sym (eqb-true code VARSTORE e)) ∙ h))
+      | inr d ↦ elim (cases_Bool (eqb code SUPPRESS_IF)) [
+        | inl e ↦ absurd (false≢true (ap is_operator (sym (eqb-true code SUPPRESS_IF e)) ∙ h))
+        | inr f ↦ elim (cases_Bool (eqb code CHECKBOX)) [
+          | inl e ↦ absurd (false≢true (ap is_operator (sym (eqb-true code CHECKBOX e)) ∙ h))
+          | inr g ↦ elim (cases_Bool (eqb code EQ_ID_VAL)) [
+            | inl e ↦ ap operands (eqb-true code EQ_ID_VAL e)
+            | inr i ↦ let bad : true ≡ false = rw (a, b, d, f, g, i) at known in absurd (false≢true (sym bad))
+          ]
+        ]
+      ]
+    ]
+  ]
+]
 
 guarded : (guard shaped : Bool) → guard ≡ true → guard && shaped ≡ false → shaped ≡ false
 guarded true shaped is e = e
@@ -84,7 +110,8 @@ has_condition bytes n checked within is =
       first = first.3;
       operator = wanted.0;
       unscoped = wanted.1;
-      sized = long_enough bytes child checked there;
+      sized = no_fault bytes child OpSize checked there;
+      takes_none = known_operator (number op) wanted.2 wanted.0;
       within = there;
     }
 

@@ -1,4 +1,4 @@
--- The ancestors of a node are nodes of the package.
+-- The guards of a node are kept.
 use Rattle.std.proofs.Common.{◌≡◌, ℕ, zero, suc, ◌+◌, ◌<◌, ◌≤◌, Bool, true, false, eqb, Option, Some, None, List, [], ◌∷◌, ◌++◌, length, map, get_or, refl, sym, ap, ◌∙◌, subst, inl, inr, arith}
 use Rattle.std.specs.Prelude.{Contains, ◌&&◌, filter, option_map}
 use Rattle.std.specs.List.{AllByRecursion}
@@ -7,80 +7,61 @@ use Rattle.std.proofs.lemmas.List.Elements.{All-from_recursion, Contains-get_or,
 use Rattle.ifr_opcodes.specs.Opcode.{number}
 use Rattle.ifr_opcodes.specs.Forest.{Forest, none, node, flat, Ancestor, Placed, as_ancestor, nodes_at, below, Spells}
 use Rattle.ifr_opcodes.specs.Reading.{tree_of}
-use Rattle.ifr_scopes.specs.Guards.{is_guard, guards, guards_among}
+use Rattle.ifr_scopes.specs.Guards.{is_guard, node_within, nodes_on, guards, guards_among}
 use Rattle.ifr_scopes.specs.Index.{is_indexed, indexed_at, or_none, guards_of_indexed}
 use Rattle.ifr_scopes.specs.Kept.{IsKept, AreKept, kept_guard, kept_guards, kept_at}
-use Rattle.ifr_scopes.specs.Nodes.{nodes_of, is_statement, statements}
-use Rattle.ifr_scopes.specs.Checked.{IsAt, IsNodeOf, AreNodesOf, node_in, has_guard}
+use Rattle.ifr_scopes.specs.Nodes.{nodes_of, is_statement, statements, this_of}
+use Rattle.ifr_scopes.specs.Checked.{IsNodeOf, AreNodesOf, node_in}
 use Rattle.ifr_scopes.specs.declared.guard_place.GuardPlace.{GuardPlace}
+use Rattle.ifr_scopes.proofs.ScopeLemmas.{IsScopeOf, Nest, path_nests}
 use Rattle.ifr_scopes.proofs.ViewLemmas.{is_at, node_in_place, further, below_within, contains_found}
 use Rattle.ifr_scopes.proofs.PlaceLemmas.{Within, above, is_found, nodes_within}
 
--- an ancestor is one of these nodes
-abbrev pub IsOf : List Placed → Ancestor → Type 0
-IsOf ns a = (m : Placed) × Contains ns m × (as_ancestor m ≡ a)
+-- one of these nodes, from what it is around others
+node_of_scope : (ns : List Placed) (around : List Ancestor) (a : Ancestor) → IsScopeOf ns around a → Contains ns (node_within around a)
+node_of_scope ns around a s =
+    subst (λ (b : Ancestor). Contains ns (node_within around b)) s.is (subst (λ (path : List Ancestor). Contains ns (node_within path (as_ancestor s.node))) s.path s.within)
 
-all_of-push : (ns : List Placed) (path : List Ancestor) (a : Ancestor) → AllByRecursion (IsOf ns) path → IsOf ns a → AllByRecursion (IsOf ns) (path ++ a ∷ [])
-all_of-push ns [] a all last = (last, tt)
-all_of-push ns (b ∷ path) a all last = (all.0, all_of-push ns path a all.1 last)
+is_kept : (bytes : List ℕ) (n : Placed) → Spells bytes (tree_of bytes) → Contains (nodes_of bytes) n → is_guard (number n.op) ≡ true → IsKept bytes (kept_guard n)
+is_kept bytes n s within guards =
+    let at = is_at bytes n s within in
+    record {
+      stands = rw (at.there, at.opcode) guards;
+      within = ap this_of (sym (node_in_place bytes n s within));
+    }
 
--- each node's path has nodes alone, where the forest's path has
-path_of : (ns : List Placed) (f : Forest) (at : ℕ) (path : List Ancestor) → AllByRecursion (IsOf ns) path → ((m : Placed) → Contains (nodes_at at path f) m → Contains ns m)
-    → (n : Placed) → Contains (nodes_at at path f) n → AllByRecursion (IsOf ns) n.path
-path_of ns none at path all within n (k, lt, e) = absurd (omega arith)
-path_of ns (node op children rest) at path all within n (zero, lt, e) = subst (λ (p : Placed). AllByRecursion (IsOf ns) p.path) e all
-path_of ns (node op children rest) at path all within n (suc k, lt, e) =
-    let behind = at + length (flat (node op children none)) in
-    let here : Placed = record { place = at; op = op; path = path; children = children } in
-    let entered = path ++ as_ancestor here ∷ [] in
-    let its = nodes_at (at + length op) entered children in
-    let after = nodes_at behind path rest in
-    elim (Contains-append_cases its after n (k, omega arith, e)) [
-      | inl w ↦ path_of ns children (at + length op) entered (all_of-push ns path (as_ancestor here) all (here, within here (0, omega arith, refl), refl)) (λ m v. within m (further here (its ++ after) m (Contains-append_left its after m v))) n w
-      | inr w ↦ path_of ns rest behind path all (λ m v. within m (further here (its ++ after) m (Contains-append_right its after m v))) n w
-    ]
-
-pub path_is_of : (bytes : List ℕ) (n : Placed) → Contains (nodes_of bytes) n → AllByRecursion (IsOf (nodes_of bytes)) n.path
-path_is_of bytes n within = path_of (nodes_of bytes) (tree_of bytes) 4 [] tt (λ m v. v) n within
-
--- ---- the guards among them
-
-its_place : (bytes : List ℕ) (a : Ancestor) → Spells bytes (tree_of bytes) → IsOf (nodes_of bytes) a → as_ancestor (node_in bytes a.place) ≡ a
-its_place bytes a s (m, within, is) = ap (λ (b : Ancestor). as_ancestor (node_in bytes b.place)) (sym is) ∙ ap as_ancestor (node_in_place bytes m s within) ∙ is
-
-is_there : (bytes : List ℕ) (a : Ancestor) → Spells bytes (tree_of bytes) → IsOf (nodes_of bytes) a → is_guard (number a.op) ≡ true → has_guard bytes a.place ≡ true
-is_there bytes a s (m, within, is) guards =
-    let at : IsAt bytes a.place a.op = subst (λ (b : Ancestor). IsAt bytes b.place b.op) is (is_at bytes m s within) in
-    rw (at.there, at.opcode) guards
-
-are_kept : (bytes : List ℕ) (path : List Ancestor) → Spells bytes (tree_of bytes) → AllByRecursion (IsOf (nodes_of bytes)) path
-    → AllByRecursion (IsKept bytes) (map (kept_guard bytes) (guards_among path))
-are_kept bytes [] s all = tt
-are_kept bytes (a ∷ path) s all = elim (cases_Bool (is_guard (number a.op))) [
-  | inl guards ↦ rw guards (record { stands = is_there bytes a s all.0 guards; within = refl }, are_kept bytes path s all.1)
-  | inr other ↦ rw other (are_kept bytes path s all.1)
+are_kept : (bytes : List ℕ) (around path : List Ancestor) → Spells bytes (tree_of bytes) → Nest (nodes_of bytes) around path
+    → AllByRecursion (IsKept bytes) (map kept_guard (guards_among (nodes_on around path)))
+are_kept bytes around [] s nest = tt
+are_kept bytes around (a ∷ path) s nest = elim (cases_Bool (is_guard (number a.op))) [
+  | inl guards ↦ rw guards (is_kept bytes (node_within around a) s (node_of_scope (nodes_of bytes) around a nest.0) guards, are_kept bytes (around ++ a ∷ []) path s nest.1)
+  | inr other ↦ rw other (are_kept bytes (around ++ a ∷ []) path s nest.1)
 ]
 
 -- the guards at the places of these
-abbrev pub guards_again : List ℕ → List GuardPlace → List Ancestor
-guards_again bytes kept = map (λ guard. as_ancestor (node_in bytes guard.place)) kept
+abbrev pub guards_again : List ℕ → List GuardPlace → List Placed
+guards_again bytes kept = map (λ guard. node_in bytes guard.place) kept
 
-again : (bytes : List ℕ) (path : List Ancestor) → Spells bytes (tree_of bytes) → AllByRecursion (IsOf (nodes_of bytes)) path → guards_again bytes (map (kept_guard bytes) (guards_among path)) ≡ guards_among path
-again bytes [] s all = refl
-again bytes (a ∷ path) s all = elim (cases_Bool (is_guard (number a.op))) [
-  | inl guards ↦ rw guards (ap (λ (b : Ancestor). b ∷ guards_again bytes (map (kept_guard bytes) (guards_among path))) (its_place bytes a s all.0) ∙ ap (λ (l : List Ancestor). a ∷ l) (again bytes path s all.1))
-  | inr other ↦ rw other (again bytes path s all.1)
-]
+again : (bytes : List ℕ) (around path : List Ancestor) → Spells bytes (tree_of bytes) → Nest (nodes_of bytes) around path
+    → guards_again bytes (map kept_guard (guards_among (nodes_on around path))) ≡ guards_among (nodes_on around path)
+again bytes around [] s nest = refl
+again bytes around (a ∷ path) s nest =
+    let others = nodes_on (around ++ a ∷ []) path in
+    elim (cases_Bool (is_guard (number a.op))) [
+      | inl guards ↦ rw guards (ap (λ (n : Placed). n ∷ guards_again bytes (map kept_guard (guards_among others))) (node_in_place bytes (node_within around a) s (node_of_scope (nodes_of bytes) around a nest.0))
+          ∙ ap (λ (l : List Placed). node_within around a ∷ l) (again bytes (around ++ a ∷ []) path s nest.1))
+      | inr other ↦ rw other (again bytes (around ++ a ∷ []) path s nest.1)
+    ]
 
 -- Guards of the package are kept, and stand for these.
-pub record Keeps (bytes : List ℕ) (kept : List GuardPlace) (its : List Ancestor) : Type 0 where
+pub record Keeps (bytes : List ℕ) (kept : List GuardPlace) (its : List Placed) : Type 0 where
   pub guards : AreKept bytes kept
   pub again : guards_again bytes kept ≡ its
 
-pub keeps : (bytes : List ℕ) (n : Placed) → Spells bytes (tree_of bytes) → Contains (nodes_of bytes) n → Keeps bytes (kept_guards bytes n) (guards n)
+pub keeps : (bytes : List ℕ) (n : Placed) → Spells bytes (tree_of bytes) → Contains (nodes_of bytes) n → Keeps bytes (kept_guards n) (guards n)
 keeps bytes n s within =
-    let all = path_is_of bytes n within in
-    record { guards = All-from_recursion (λ guard. IsKept bytes guard) (kept_guards bytes n) (are_kept bytes n.path s all); again = again bytes n.path s all }
+    let nest = path_nests bytes n within in
+    record { guards = All-from_recursion (λ guard. IsKept bytes guard) (kept_guards n) (are_kept bytes [] n.path s nest); again = again bytes [] n.path s nest }
 
 -- ---- what the index has at a place
 
@@ -91,20 +72,20 @@ find_within (m ∷ ns) place n e = elim (cases_Bool (is_indexed m && eqb m.place
   | inr later ↦ further m ns n (find_within ns place n (sym (cond-false (is_indexed m && eqb m.place place) (Some m) (indexed_at ns place) later) ∙ e))
 ]
 
-pub kept_some : (bytes : List ℕ) (place : ℕ) (kept : List GuardPlace) → Spells bytes (tree_of bytes) → Some kept ≡ kept_at bytes (nodes_of bytes) place → Keeps bytes kept (guards_of_indexed (nodes_of bytes) place)
+pub kept_some : (bytes : List ℕ) (place : ℕ) (kept : List GuardPlace) → Spells bytes (tree_of bytes) → Some kept ≡ kept_at (nodes_of bytes) place → Keeps bytes kept (guards_of_indexed (nodes_of bytes) place)
 kept_some bytes place kept s e = go (indexed_at (nodes_of bytes) place) refl e
   where
-    go : (o : Option Placed) → indexed_at (nodes_of bytes) place ≡ o → Some kept ≡ option_map (kept_guards bytes) o → Keeps bytes kept (guards_of_indexed (nodes_of bytes) place)
+    go : (o : Option Placed) → indexed_at (nodes_of bytes) place ≡ o → Some kept ≡ option_map kept_guards o → Keeps bytes kept (guards_of_indexed (nodes_of bytes) place)
     go None is e = absurd cc
     go (Some n) is e =
-        let same : kept ≡ kept_guards bytes n = cc in
+        let same : kept ≡ kept_guards n = cc in
         let its : guards n ≡ guards_of_indexed (nodes_of bytes) place = sym (ap (λ (o : Option Placed). or_none (option_map guards o)) is) in
         subst (Keeps bytes kept) its (subst (λ (l : List GuardPlace). Keeps bytes l (guards n)) (sym same) (keeps bytes n s (find_within (nodes_of bytes) place n is)))
 
-pub kept_none : (bytes : List ℕ) (place : ℕ) → None ≡ kept_at bytes (nodes_of bytes) place → guards_of_indexed (nodes_of bytes) place ≡ []
+pub kept_none : (bytes : List ℕ) (place : ℕ) → None ≡ kept_at (nodes_of bytes) place → guards_of_indexed (nodes_of bytes) place ≡ []
 kept_none bytes place e = go (indexed_at (nodes_of bytes) place) e
   where
-    go : (o : Option Placed) → None ≡ option_map (kept_guards bytes) o → or_none (option_map guards o) ≡ []
+    go : (o : Option Placed) → None ≡ option_map kept_guards o → or_none (option_map guards o) ≡ []
     go None e = refl
     go (Some n) e = absurd cc
 

@@ -1,5 +1,5 @@
 -- The guards of a node (UEFI 2.8, 33.3.8.3, EFI_IFR_SUPPRESS_IF, EFI_IFR_GRAY_OUT_IF and EFI_IFR_DISABLE_IF).
-use Rattle.std.specs.Prelude.{ℕ, Bool, ◌==◌, ◌||◌, List, filter}
+use Rattle.std.specs.Prelude.{ℕ, Bool, ◌==◌, ◌||◌, List, [], ◌∷◌, ◌++◌, filter}
 use Rattle.ifr_opcodes.specs.declared.codes.TheConstants.{SUPPRESS_IF, GRAY_OUT_IF, DISABLE_IF}
 use Rattle.ifr_opcodes.specs.Opcode.{number}
 use Rattle.ifr_opcodes.specs.Forest.{Ancestor, Placed}
@@ -8,10 +8,23 @@ use Rattle.ifr_opcodes.specs.Forest.{Ancestor, Placed}
 abbrev pub is_guard : ℕ → Bool
 is_guard code = code == SUPPRESS_IF || code == GRAY_OUT_IF || code == DISABLE_IF
 
--- those among ancestors
-abbrev pub guards_among : List Ancestor → List Ancestor
-guards_among path = filter (λ a. is_guard (number a.op)) path
+-- what stands around others as a node, with its own ancestors
+abbrev pub node_within : List Ancestor → Ancestor → Placed
+node_within around a = record { place = a.place; op = a.op; path = around; children = a.children }
 
--- those on a node's path, the outermost first
-abbrev pub guards : Placed → List Ancestor
-guards n = guards_among n.path
+-- the nodes on a path, of which each stands around the next, and these around the first
+abbrev pub nodes_on : List Ancestor → List Ancestor → List Placed
+nodes_on around [] = []
+nodes_on around (a ∷ path) = node_within around a ∷ nodes_on (around ++ a ∷ []) path
+
+-- the nodes around a node, the outermost first
+abbrev pub ancestors : Placed → List Placed
+ancestors n = nodes_on [] n.path
+
+-- those of some nodes that are guards
+abbrev pub guards_among : List Placed → List Placed
+guards_among ns = filter (λ n. is_guard (number n.op)) ns
+
+-- the guards around a node, the outermost first
+abbrev pub guards : Placed → List Placed
+guards n = guards_among (ancestors n)

@@ -1,7 +1,7 @@
 -- Which guards cover a form or a statement, looked up by its place.
 use Rattle.std.specs.Prelude.{ℕ, Bool, ◌==◌, ◌&&◌, ◌||◌, Option, Some, None, option_map, List, []}
 use Rattle.std.specs.List.{find}
-use Rattle.ifr_opcodes.specs.Forest.{Ancestor, Placed}
+use Rattle.ifr_opcodes.specs.Forest.{Placed}
 use Rattle.ifr_scopes.specs.Guards.{guards}
 use Rattle.ifr_scopes.specs.Nodes.{is_form, is_statement}
 
@@ -13,9 +13,9 @@ abbrev pub indexed_at : List Placed → ℕ → Option Placed
 indexed_at ns place = find (λ n. is_indexed n && (n.place == place)) ns
 
 -- the guards of the form or statement at a place, the outermost first; none at any other place
-abbrev pub or_none : Option (List Ancestor) → List Ancestor
+abbrev pub or_none : Option (List Placed) → List Placed
 or_none None = []
 or_none (Some its) = its
 
-abbrev pub guards_of_indexed : List Placed → ℕ → List Ancestor
+abbrev pub guards_of_indexed : List Placed → ℕ → List Placed
 guards_of_indexed ns place = or_none (option_map guards (indexed_at ns place))

@@ -1,23 +1,23 @@
 -- Guards as they are kept: each as its place and the question in whose scope it stands.
 use Rattle.std.specs.Prelude.{◌≡◌, ℕ, true, All, Option, option_map, List, map}
 use Rattle.std.proofs.Props.{props}
-use Rattle.ifr_opcodes.specs.Forest.{Ancestor, Placed}
+use Rattle.ifr_opcodes.specs.Forest.{Placed}
 use Rattle.ifr_scopes.specs.Checked.{node_in, has_guard}
 use Rattle.ifr_scopes.specs.Guards.{guards}
 use Rattle.ifr_scopes.specs.Index.{indexed_at}
 use Rattle.ifr_scopes.specs.Nodes.{this_of}
 use Rattle.ifr_scopes.specs.declared.guard_place.GuardPlace.{GuardPlace}
 
-abbrev pub kept_guard : List ℕ → Ancestor → GuardPlace
-kept_guard bytes guard = record { place = guard.place; this = this_of (node_in bytes guard.place) }
+abbrev pub kept_guard : Placed → GuardPlace
+kept_guard guard = record { place = guard.place; this = this_of guard }
 
--- those on a node's path, the outermost first
-abbrev pub kept_guards : List ℕ → Placed → List GuardPlace
-kept_guards bytes n = map (kept_guard bytes) (guards n)
+-- the guards of a node, the outermost first
+abbrev pub kept_guards : Placed → List GuardPlace
+kept_guards n = map kept_guard (guards n)
 
 -- those of the form or statement at a place
-abbrev pub kept_at : List ℕ → List Placed → ℕ → Option (List GuardPlace)
-kept_at bytes ns place = option_map (kept_guards bytes) (indexed_at ns place)
+abbrev pub kept_at : List Placed → ℕ → Option (List GuardPlace)
+kept_at ns place = option_map kept_guards (indexed_at ns place)
 
 -- A guard stands at the place in the package, and in the scope of this question.
 pub record IsKept (bytes : List ℕ) (guard : GuardPlace) : Type 0 where

@@ -1,6 +1,6 @@
 -- What the iterators over a package have before them.
 use Rattle.std.specs.Prelude.{ℕ, List, drop, filter, map}
-use Rattle.ifr_opcodes.specs.Forest.{Ancestor, Placed, as_ancestor}
+use Rattle.ifr_opcodes.specs.Forest.{Placed}
 use Rattle.ifr_scopes.specs.Checked.{node_in}
 use Rattle.ifr_opcodes.specs.Opcode.{number}
 use Rattle.ifr_scopes.specs.Guards.{is_guard}
@@ -20,8 +20,8 @@ use Rattle.ifr_scopes.specs.declared.statement.Statement.{Statement}
 use Rattle.ifr_scopes.specs.declared.statement.Statements.{Statements}
 
 -- a guard, a form and a statement as nodes
-abbrev pub guard_node : Guard → Ancestor
-guard_node guard = as_ancestor (node_of guard.node)
+abbrev pub guard_node : Guard → Placed
+guard_node guard = node_of guard.node
 
 abbrev pub form_node : Form → Placed
 form_node form = node_of form.node
@@ -39,11 +39,11 @@ form_package form = form.node.ifr.now
 abbrev pub statement_package : Statement → List ℕ
 statement_package statement = statement.node.ifr.now
 
-abbrev pub guards_left : GuardsAt → List Ancestor
-guards_left it = map (λ guard. as_ancestor (node_in it.ifr.now guard.place)) it.kept.now
+abbrev pub guards_left : GuardsAt → List Placed
+guards_left it = map (λ guard. node_in it.ifr.now guard.place) it.kept.now
 
-abbrev pub guards_of_left : GuardsOf → List Ancestor
-guards_of_left it = map (λ guard. as_ancestor (node_in it.ifr.now guard.place)) (drop it.next it.kept.items)
+abbrev pub guards_of_left : GuardsOf → List Placed
+guards_of_left it = map (λ guard. node_in it.ifr.now guard.place) (drop it.next it.kept.items)
 
 abbrev pub forms_left : FormViews → List Placed
 forms_left it = filter is_form (nodes_left it.nodes)
@@ -56,9 +56,6 @@ form_set_node form_set = node_of form_set.node
 
 abbrev pub store_node : Varstore → Placed
 store_node store = node_of store.node
-
-abbrev pub guard_placed : Guard → Placed
-guard_placed guard = node_of guard.node
 
 abbrev pub stores_left : Varstores → List Placed
 stores_left it = filter is_store (nodes_left it.nodes)

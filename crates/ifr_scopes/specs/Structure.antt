@@ -1,11 +1,12 @@
 -- What is wrong with a node, as its opcode, its ancestors and its first child tell (own rule).
-use Rattle.std.specs.Prelude.{◌≡◌, ◌⊎◌, ℕ, ◌+◌, Bool, true, false, ◌==◌, ◌||◌, ◌&&◌, nat_lt, not, Option, Some, None, List, [], ◌∷◌, length}
+use Rattle.std.specs.Prelude.{◌≡◌, ◌⊎◌, ℕ, ◌+◌, Bool, true, false, ◌==◌, ◌||◌, ◌&&◌, not, Option, Some, None, List, [], ◌∷◌, length}
 use Rattle.std.specs.List.{list_any}
 use Rattle.hii_bytes.specs.Faults.{IsFaultOf, first_cause}
 use Rattle.hii_bytes.specs.declared.cause.Cause.{Cause}
 use Rattle.hii_bytes.specs.declared.cause.Cause.TheVariants.{NotFormSet, AfterFormSet, OpOutside, OpSize, Misplaced, ScopeBit, ExprShape}
 use Rattle.ifr_opcodes.specs.Opcode.{number, has_scope}
-use Rattle.ifr_opcodes.specs.Fields.{least_length, is_operator}
+use Rattle.ifr_opcodes.specs.Fields.{is_short}
+use Rattle.ifr_opcodes.specs.Operators.{is_operator}
 use Rattle.ifr_opcodes.specs.Forest.{Forest, none, node, Placed}
 use Rattle.ifr_opcodes.specs.declared.codes.TheConstants.{FORM_SET}
 use Rattle.ifr_scopes.specs.Guards.{is_guard}
@@ -18,9 +19,6 @@ use Rattle.ifr_scopes.specs.declared.table.Class.TheVariants.{OfQuestion}
 -- The number is not known, or it is an operator with Scope, whose operands are not known.
 abbrev pub is_outside : List ℕ → Bool
 is_outside op = lacks_row (row (number op)) || (is_operator (number op) && has_scope op)
-
-abbrev pub is_short : List ℕ → Bool
-is_short op = nat_lt (length op) (least_length op)
 
 abbrev pub differs : Scope → Bool → Bool
 differs Always scope = not scope

@@ -2,7 +2,7 @@
 
 ghost use Rattle.std.specs.Prelude.{◌≡◌, ◌∷◌, List, IfOk, IfErr, filter, map};
 ghost use Rattle.hii_bytes.specs.Faults.{Refuses};
-ghost use Rattle.ifr_opcodes.specs.Forest.{Placed, as_ancestor};
+ghost use Rattle.ifr_opcodes.specs.Forest.{Placed};
 ghost use Rattle.ifr_opcodes.specs.Opcode.{number};
 ghost use Rattle.ifr_scopes.specs.Accepted.{IsAccepted, IsPackageFault};
 ghost use Rattle.ifr_scopes.specs.Checked.{node_in};
@@ -50,7 +50,7 @@ impl<'a> Model for Forms<'a> {
 
     ghost view = { λ s. s.ifr.now };
 
-    ghost invariant = { λ s. IsAccepted s.ifr.now × ((place : ℕ) → option_map (λ v. v.items) (get nat_cmp s.index place) ≡ kept_at s.ifr.now (nodes_of s.ifr.now) place) };
+    ghost invariant = { λ s. IsAccepted s.ifr.now × ((place : ℕ) → option_map (λ v. v.items) (get nat_cmp s.index place) ≡ kept_at (nodes_of s.ifr.now) place) };
 }
 
 impl<'a> Forms<'a> {
@@ -126,7 +126,7 @@ impl<'a> Forms<'a> {
     // These guards as the index keeps them.
     fn kept_at(&self, place: u32) -> &[GuardPlace]
         ensures guards { AreKept self.now result.now }
-        ensures again { map (λ guard. as_ancestor (node_in self.now guard.place)) result.now ≡ guards_of_indexed (nodes_of self.now) place }
+        ensures again { map (λ guard. node_in self.now guard.place) result.now ≡ guards_of_indexed (nodes_of self.now) place }
     {
         match self.index.get(&place) {
             Some(guards) => guards.as_slice(),
@@ -148,6 +148,10 @@ impl<'a> Forms<'a> {
 
 // RULE is not among the opcodes of an accepted package.
 impl<'a> Rules<'a> for Forms<'a> {
+    ghost use Rattle.std.specs.Prelude.{[]};
+
+    ghost rules = { λ _. [] };
+
     fn rule(&self, _id: u8, _place: u32) -> Option<Expr<'a>> {
         None
     }

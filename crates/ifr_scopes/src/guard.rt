@@ -24,7 +24,8 @@ pub struct Guard<'a> {
 impl<'a> Guard<'a> {
     ghost use Rattle.ifr_opcodes.specs.Forest.{as_ancestor};
     ghost use Rattle.ifr_opcodes.specs.Ops.{bytes_of};
-    ghost use Rattle.ifr_expr.specs.Trees.{tree_in};
+    ghost use Rattle.std.specs.Prelude.{◌+◌, length};
+    ghost use Rattle.ifr_expr.specs.Reading.{tree_in};
     ghost use Rattle.ifr_expr.specs.Expressions.{tree_of};
 
     /// Its place, in bytes from the package's header.
@@ -51,10 +52,11 @@ impl<'a> Guard<'a> {
 
     /// Its condition: the expression with which its scope begins.
     pub fn condition(self) -> Expr<'a>
-        ensures { tree_of result ≡ tree_in (node_of self.entry.node).children }
+        ensures { tree_of result ≡ tree_in ((node_of self.entry.node).place + length (node_of self.entry.node).op) (node_of self.entry.node).children }
     {
-        let place = self.node.op.place + self.node.op.len() as u32;
-        Expr::read(node_at(self.node.ifr, place).op()).unwrap()
+        let from = self.node.op.place + self.node.op.len() as u32;
+        let to = from + node_at(self.node.ifr, from).op().len() as u32;
+        Expr::check(self.node.ifr, from as usize, to as usize).unwrap()
     }
 }
 
@@ -66,11 +68,11 @@ pub struct GuardViews<'a> {
 
 impl<'a> Iterator for GuardViews<'a> {
     ghost use Rattle.std.specs.Iterator.{YieldsFirstBy, item_count};
-    ghost use Rattle.ifr_scopes.specs.Lists.{guard_placed, all_guards_left};
+    ghost use Rattle.ifr_scopes.specs.Lists.{guard_node, all_guards_left};
 
     type Item = Guard<'a>;
 
-    ghost next_gives = { YieldsFirstBy guard_placed all_guards_left };
+    ghost next_gives = { YieldsFirstBy guard_node all_guards_left };
 
     ghost remaining = { item_count all_guards_left };
 

@@ -4,7 +4,7 @@ ghost use Rattle.std.specs.Prelude.{◌≡◌, ◌≤◌, ◌∷◌, ◌++◌, [
 ghost use Rattle.ifr_opcodes.specs.Forest.{Ancestor, as_ancestor};
 ghost use Rattle.ifr_opcodes.specs.Reading.{ancestor_at};
 ghost use Rattle.ifr_scopes.specs.Checked.{IsChecked};
-ghost use Rattle.ifr_scopes.specs.Guards.{is_guard as is_guard_spec, guards_among as guards_among_spec};
+ghost use Rattle.ifr_scopes.specs.Guards.{is_guard as is_guard_spec, guards_among as guards_among_spec, nodes_on};
 ghost use Rattle.ifr_scopes.specs.Kept.{kept_guard};
 ghost use Rattle.ifr_scopes.specs.Nodes.{this_among as this_among_spec};
 ghost use Rattle.ifr_scopes.specs.Scopes.{AreScopes};
@@ -53,7 +53,7 @@ pub(crate) fn guards_among(ifr: &[u8], places: &[u32]) -> ArrayVec<GuardPlace, 6
     requires room { length places.now ≤ 64 }
     requires checked { IsChecked ifr.now }
     requires scopes { AreScopes ifr.now places.now }
-    ensures { result.items ≡ map (kept_guard ifr.now) (guards_among_spec (map (ancestor_at ifr.now) places.now)) }
+    ensures { result.items ≡ map kept_guard (guards_among_spec (nodes_on [] (map (ancestor_at ifr.now) places.now))) }
 {
     let mut guards = ArrayVec::new();
     let mut this = 0;

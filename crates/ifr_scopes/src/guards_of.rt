@@ -56,7 +56,7 @@ impl<'a> GuardsOf<'a> {
 fn guards_around(ifr: &[u8], place: u32) -> ArrayVec<GuardPlace, 64>
     requires checked { IsChecked ifr.now }
     requires there { has_node ifr.now place ≡ true }
-    ensures { result.items ≡ kept_guards ifr.now (node_in ifr.now place) }
+    ensures { result.items ≡ kept_guards (node_in ifr.now place) }
 {
     let mut nodes = ScopedNodes::over(ifr);
     while let Some(met) = nodes.step() {

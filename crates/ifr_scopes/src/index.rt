@@ -27,7 +27,7 @@ fn is_indexed(code: u8) -> bool
 /// The index of a checked package.
 pub(crate) fn index_of(alloc: Global, ifr: &[u8]) -> Result<Index, AllocError>
     requires { IsChecked ifr.now }
-    ensures { IfOk result (λ index. (place : ℕ) → option_map (λ v. v.items) (get nat_cmp index place) ≡ kept_at ifr.now (nodes_of ifr.now) place) }
+    ensures { IfOk result (λ index. (place : ℕ) → option_map (λ v. v.items) (get nat_cmp index place) ≡ kept_at (nodes_of ifr.now) place) }
 {
     let mut index = BTreeMap::new(alloc);
     let mut nodes = ScopedNodes::over(ifr);

@@ -31,8 +31,5 @@ pub use forms::Forms;
 pub use guard::{Guard, GuardViews};
 pub use guards_at::GuardsAt;
 pub use guards_of::GuardsOf;
-pub use node::Node;
-pub use nodes::Nodes;
 pub use statement::{Statement, Statements};
 pub use varstore::{Varstore, Varstores};
-pub use walk::{Visit, Walk};

@@ -63,7 +63,7 @@ impl<'a> ScopedNodes<'a> {
     /// The guards around the node that was met last, the outermost first.
     pub(crate) fn guards(&self, met: &ScopedNode) -> ArrayVec<GuardPlace, 64>
         requires { IsAround self.now met.now }
-        ensures { result.items ≡ kept_guards self.now.walk.bytes.now (node_of met.now.node) }
+        ensures { result.items ≡ kept_guards (node_of met.now.node) }
     {
         guards_among(self.walk.bytes(), self.walk.around(met.depth))
     }

@@ -9,7 +9,6 @@ ghost use Rattle.ifr_opcodes.specs.Ops.{bytes_of};
 ghost use Rattle.ifr_opcodes.specs.Forest.{Spells, Forest};
 ghost use Rattle.ifr_opcodes.specs.Reading.{tree_of, mark_at, ancestor_at};
 ghost use Rattle.ifr_scopes.specs.Guards.{is_guard as is_guard_spec};
-ghost use Rattle.ifr_opcodes.specs.Fields.{is_operator as is_operator_spec};
 ghost use Rattle.ifr_scopes.specs.Nodes.{nodes_of};
 ghost use Rattle.ifr_scopes.specs.Table as table;
 ghost use Rattle.ifr_scopes.specs.Structure as structure;
@@ -20,7 +19,9 @@ use crate::guards::is_guard;
 use crate::table::{Class, Row, Scope};
 use crate::walk::Walk;
 use hii_bytes::{Cause, Fault};
-use ifr_opcodes::{CHECKBOX, EQ_ID_VAL, FORM, FORM_SET, Op, SUPPRESS_IF, VARSTORE, least_len};
+use ifr_opcodes::{
+    CHECKBOX, EQ_ID_VAL, FORM, FORM_SET, Op, SUPPRESS_IF, VARSTORE, is_operator, is_short,
+};
 
 fn row(code: u8) -> Option<Row>
     ensures { result ≡ table.row code }
@@ -47,22 +48,10 @@ fn admits(class: Class, code: u8) -> bool
     }
 }
 
-fn is_operator(code: u8) -> bool
-    ensures { result ≡ is_operator_spec code }
-{
-    code == EQ_ID_VAL
-}
-
 fn is_outside(op: Op) -> bool
     ensures { result ≡ structure.is_outside (bytes_of op.entry) }
 {
     row(op.code).is_none() || (is_operator(op.code) && op.scope)
-}
-
-fn is_short(op: Op) -> bool
-    ensures { result ≡ structure.is_short (bytes_of op.entry) }
-{
-    op.len() < least_len(op)
 }
 
 fn has_wrong_scope(op: Op) -> bool

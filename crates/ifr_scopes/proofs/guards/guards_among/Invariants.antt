@@ -1,13 +1,13 @@
-use Rattle.std.proofs.Common.{◌≡◌, ◌≤◌, ◌++◌, length, map, take, drop}
+use Rattle.std.proofs.Common.{◌≡◌, ◌≤◌, ◌++◌, [], length, map, take, drop}
 use Rattle.ifr_opcodes.specs.Reading.{ancestor_at}
-use Rattle.ifr_scopes.specs.Guards.{guards_among}
+use Rattle.ifr_scopes.specs.Guards.{guards_among, nodes_on}
 use Rattle.ifr_scopes.specs.Kept.{kept_guard}
 use Rattle.ifr_scopes.specs.Nodes.{this_among}
 use Rattle.ifr_scopes.proofs.guards.guards_among.Given as goal
 
 abbrev pub invariant-loop-place : goal.invariant-loop-place
 invariant-loop-place l = record {
-  found : l.guards.items ++ map (kept_guard l.ifr) (guards_among (map (ancestor_at l.ifr) (drop l.place-index l.places))) ≡ map (kept_guard l.ifr) (guards_among (map (ancestor_at l.ifr) l.places));
+  found : l.guards.items ++ map kept_guard (guards_among (nodes_on (map (ancestor_at l.ifr) (take l.place-index l.places)) (map (ancestor_at l.ifr) (drop l.place-index l.places)))) ≡ map kept_guard (guards_among (nodes_on [] (map (ancestor_at l.ifr) l.places)));
   few : length l.guards.items ≤ l.place-index;
   within : l.this ≡ this_among (map (ancestor_at l.ifr) (take l.place-index l.places));
 }

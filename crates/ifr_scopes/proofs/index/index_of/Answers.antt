@@ -17,7 +17,7 @@ loop-met-init c =
         low = 4;
         rise = subst (Rise (λ (n : Placed). n.place) 4) (sym c.over-nodes.ensures.all) (rising (nodes_of bytes) 4 (4 + length (flat f)) (nodes_within f 4 [] c.requires.spelled.are_nodes));
         free = λ place above. search rules;
-        same = λ place. rw c.new-index.ensures.empty (ap (λ (l : List Placed). kept_at bytes l place) c.over-nodes.ensures.all);
+        same = λ place. rw c.new-index.ensures.empty (ap (λ (l : List Placed). kept_at l place) c.over-nodes.ensures.all);
       };
       kept = c.over-nodes.ensures.kept;
     }

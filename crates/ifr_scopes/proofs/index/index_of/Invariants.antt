@@ -10,7 +10,7 @@ use Rattle.ifr_scopes.proofs.index.index_of.Given as goal
 
 abbrev pub invariant-loop-met : goal.invariant-loop-met
 invariant-loop-met l = record {
-  filled : Indexes l.ifr (kept_at l.ifr (nodes_of l.ifr)) (λ place. option_map (λ v. v.items) (get nat_cmp l.index place)) (left l.nodes.walk);
+  filled : Indexes (kept_at (nodes_of l.ifr)) (λ place. option_map (λ v. v.items) (get nat_cmp l.index place)) (left l.nodes.walk);
   kept : l.nodes.walk.bytes.now ≡ l.ifr;
 }
 

@@ -1,6 +1,5 @@
 use Rattle.std.proofs.Common.{◌≡◌, map, ap, subst, ◌∙◌}
 use Rattle.std.specs.Prelude.{option_map}
-use Rattle.ifr_opcodes.specs.Forest.{as_ancestor}
 use Rattle.ifr_scopes.specs.Checked.{node_in}
 use Rattle.ifr_scopes.specs.Index.{guards_of_indexed}
 use Rattle.ifr_scopes.specs.Kept.{AreKept}
@@ -20,4 +19,4 @@ returns-in-Some-clause-again c =
     let inside = c.self.inside in
     let found = ap (option_map (λ v. v.items)) c.in-Some.ensures.value ∙ c.self.invariant.1 c.args.place in
     let kept = kept_some inside.ifr.now c.args.place c.in-Some.guards.now.items c.self.invariant.0.checked.spelled found in
-    rw c.as_slice.ensures (subst (λ b. map (λ guard. as_ancestor (node_in b guard.place)) c.in-Some.guards.now.items ≡ guards_of_indexed (nodes_of b) c.args.place) c.self.view_is kept.again)
+    rw c.as_slice.ensures (subst (λ b. map (λ guard. node_in b guard.place) c.in-Some.guards.now.items ≡ guards_of_indexed (nodes_of b) c.args.place) c.self.view_is kept.again)

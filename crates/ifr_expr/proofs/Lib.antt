@@ -1,0 +1,12 @@
+pub mod OpcodeSteps
+pub mod TreeLemmas
+pub mod CountLemmas
+pub mod ShapeLemmas
+pub mod CheckLemmas
+pub mod StackLemmas
+pub mod ValueLemmas
+pub mod RuleLemmas
+pub mod EvaluationLemmas
+pub mod NodeLemmas
+pub mod FlatLemmas
+pub mod WorkedValues

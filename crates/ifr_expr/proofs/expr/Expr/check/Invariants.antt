@@ -1,0 +1,15 @@
+use Rattle.std.proofs.Common.{◌≤◌, length, IfOk}
+use Rattle.ifr_expr.specs.Checked.{marks}
+use Rattle.ifr_expr.specs.OpcodesLeft.{opcodes_left}
+use Rattle.ifr_expr.specs.Reading.{opcodes_of}
+use Rattle.ifr_expr.proofs.CheckLemmas.{Stands}
+use Rattle.ifr_expr.proofs.expr.Expr.check.Given as goal
+
+abbrev pub invariant-loop-op : goal.invariant-loop-op
+invariant-loop-op l = record {
+  stands : Stands l.place (opcodes_of l.place l.bytes) (marks l.place l.bytes) (opcodes_left l.ops) l.values;
+  few : IfOk l.values (λ n. n ≤ 64);
+}
+
+abbrev pub decreases-loop-op : goal.decreases-loop-op
+decreases-loop-op l = length (opcodes_left l.ops)

@@ -1,0 +1,67 @@
+//! What the questions of a caller answer, with its rules.
+
+ghost use Rattle.std.specs.Prelude.{◌≡◌};
+ghost use Rattle.ifr_expr.specs.Expressions.{tree_of};
+ghost use Rattle.ifr_expr.specs.Meaning as meaning;
+ghost use Rattle.ifr_expr.specs.Meaning.{answered};
+ghost use Rattle.ifr_expr.specs.Views.{value_of};
+
+use crate::evaluation::{World, evaluate};
+use crate::expr::Expr;
+use crate::rules::Rules;
+use crate::value::{Answers, Operand, Value};
+use std::marker::PhantomData;
+
+/// Answers and rules, which outlive it.
+#[derive(Clone, Copy)]
+struct Given<'s, 'a, A, R> {
+    answers: &'s A,
+    rules: &'s R,
+    list: PhantomData<&'a [u8]>,
+}
+
+// What the question of an id answers; id 0 has no answer.
+fn answer<'v, A: Answers<'v>>(answers: &A, question: u16) -> Value<'v>
+    ensures { value_of result ≡ answered (A.answers answers.now) question }
+{
+    if question == 0 {
+        return Value::Undefined;
+    }
+    answers.answer(question)
+}
+
+impl<'s, 'a, A: Answers<'a>, R: Rules<'a>> World for Given<'s, 'a, A, R> {
+    ghost answers = { λ given. A.answers given.answers.now };
+
+    ghost rules = { λ given. R.rules given.rules.now };
+
+    fn answer(&self, question: u16) -> Value<'_> {
+        let value: Value<'a> = answer(self.answers, question);
+        value
+    }
+
+    fn rule(&self, id: u8, place: u32) -> Option<Expr<'_>> {
+        let rule: Option<Expr<'a>> = self.rules.rule(id, place);
+        rule
+    }
+}
+
+/// The value of an expression.
+pub(crate) fn value<'a, A: Answers<'a>, R: Rules<'a>>(
+    expr: Expr<'a>,
+    answers: &A,
+    rules: &R,
+    this: u16,
+) -> Value<'a>
+    ensures { value_of result ≡ meaning.value (R.rules rules.now) (A.answers answers.now) this (tree_of expr.entry) }
+{
+    let given = Given {
+        answers,
+        rules,
+        list: PhantomData,
+    };
+    match evaluate(&given, expr, this) {
+        Operand::Made(outcome) => outcome.value(),
+        Operand::Answer(question) => answer(answers, question),
+    }
+}

@@ -1,0 +1,19 @@
+//! Laws of the definitions of expressions.
+
+ghost use Rattle.std.specs.Prelude.{◌≡◌, ℕ, List};
+ghost use Rattle.ifr_opcodes.specs.Forest.{Mark};
+ghost use Rattle.ifr_expr.specs.Meaning.{Rule, AreOrdered, rule_values, value, named};
+ghost use Rattle.ifr_expr.specs.Trees.{Tree, Means};
+ghost use Rattle.ifr_expr.specs.Values.{Value};
+ghost use Rattle.std.specs.Prelude.{Some};
+
+/// Opcodes mean one tree at most.
+pub fn one_tree()
+    ensures { (marks : List Mark) (t u : Tree) → Means marks t → Means marks u → t ≡ u }
+{}
+
+/// A reference to a rule has the value of the rule's expression over all rules, in no question.
+pub fn a_reference_has_the_value_of_its_rule()
+    ensures { (rules : List Rule) (answers : ℕ → Value) (id place : ℕ) (r : Rule) → AreOrdered rules → named rules id place ≡ Some r
+        → rule_values rules answers id place ≡ value rules answers 0 r.tree }
+{}

@@ -1,0 +1,64 @@
+//! The opcodes of an expression.
+
+ghost use Rattle.std.specs.Prelude.{◌+◌, ◌<◌, ◌^◌, length};
+ghost use Rattle.ifr_expr.specs.Reading.{AreOpcodes};
+ghost use Rattle.ifr_expr.specs.Checked.{AreOpcodes-prop};
+
+use ifr_opcodes::{END, Op, split_opcode};
+
+/// The opcodes that are left up to the first END.
+#[derive(Clone, Copy, Debug)]
+pub struct Opcodes<'a> {
+    rest: &'a [u8],
+    place: u32,
+    pub ghost opcodes: { AreOpcodes rest.now } by { AreOpcodes-prop rest.now },
+    pub ghost small: { place + length rest.now < 2 ^ 32 },
+}
+
+impl<'a> Opcodes<'a> {
+    ghost use Rattle.std.specs.Prelude.{◌≡◌};
+    ghost use Rattle.std.specs.Iterator.{YieldsFirstBy};
+    ghost use Rattle.ifr_opcodes.specs.Ops.{op_of};
+    ghost use Rattle.ifr_expr.specs.Checked.{marks};
+    ghost use Rattle.ifr_expr.specs.OpcodesLeft.{opcodes_left};
+
+    /// Those of these bytes, which begin at this place.
+    pub(crate) fn over(bytes: &'a [u8], place: u32) -> Opcodes<'a>
+        requires opcodes { AreOpcodes bytes.now }
+        requires small { place + length bytes.now < 2 ^ 32 }
+        ensures { opcodes_left result ≡ marks place bytes.entry.now }
+    {
+        Opcodes { rest: bytes, place }
+    }
+
+    // Goes to the next.
+    fn step(&mut self) -> Option<Op<'a>>
+        ensures { YieldsFirstBy op_of opcodes_left self.old result self.new }
+    {
+        let Some((op, rest)) = split_opcode(self.rest, self.place) else {
+            return None;
+        };
+        if op.code == END {
+            return None;
+        }
+        self.place += op.len() as u32;
+        self.rest = rest;
+        Some(op)
+    }
+}
+
+impl<'a> Iterator for Opcodes<'a> {
+    ghost use Rattle.std.specs.Iterator.{YieldsFirstBy, item_count};
+    ghost use Rattle.ifr_opcodes.specs.Ops.{op_of};
+    ghost use Rattle.ifr_expr.specs.OpcodesLeft.{opcodes_left};
+
+    type Item = Op<'a>;
+
+    ghost next_gives = { YieldsFirstBy op_of opcodes_left };
+
+    ghost remaining = { item_count opcodes_left };
+
+    fn next(&mut self) -> Option<Op<'a>> {
+        self.step()
+    }
+}

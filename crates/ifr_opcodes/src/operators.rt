@@ -1,0 +1,167 @@
+//! The operators of expressions by how many operands they take.
+
+ghost use Rattle.std.specs.Prelude.{◌≡◌, Some, true};
+ghost use Rattle.ifr_opcodes.specs.Operators.{operands as operands_of, is_operator as is_operator_spec, constants, is_among};
+ghost use Rattle.ifr_opcodes.specs.Codes.{constant_code, unary_code, binary_code};
+
+use crate::codes::{
+    ADD, AND, BITWISE_AND, BITWISE_NOT, BITWISE_OR, DIVIDE, EQ_ID_ID, EQ_ID_VAL, EQ_ID_VAL_LIST,
+    EQUAL, FALSE, GREATER_EQUAL, GREATER_THAN, LESS_EQUAL, LESS_THAN, MODULO, MULTIPLY, NOT,
+    NOT_EQUAL, ONE, ONES, OR, QUESTION_REF1, RULE_REF, SHIFT_LEFT, SHIFT_RIGHT, SUBTRACT, THIS,
+    TRUE, UINT8, UINT16, UINT32, UINT64, UNDEFINED, ZERO,
+};
+
+/// How many operands the operator of a number takes, if it is one.
+#[tactic(auto, unfolding(crate::specs::Operators::operands))]
+pub fn operands(code: u8) -> Option<usize>
+    ensures { result ≡ operands_of code }
+{
+    match code {
+        EQ_ID_VAL
+        | EQ_ID_ID
+        | EQ_ID_VAL_LIST
+        | RULE_REF
+        | QUESTION_REF1
+        | UINT8
+        | UINT16
+        | UINT32
+        | UINT64
+        | TRUE
+        | FALSE
+        | ZERO
+        | ONE
+        | ONES
+        | UNDEFINED
+        | THIS => Some(0),
+        NOT | BITWISE_NOT => Some(1),
+        AND
+        | OR
+        | EQUAL
+        | NOT_EQUAL
+        | GREATER_THAN
+        | GREATER_EQUAL
+        | LESS_THAN
+        | LESS_EQUAL
+        | BITWISE_AND
+        | BITWISE_OR
+        | SHIFT_LEFT
+        | SHIFT_RIGHT
+        | ADD
+        | SUBTRACT
+        | MULTIPLY
+        | DIVIDE
+        | MODULO => Some(2),
+        _ => None,
+    }
+}
+
+/// Whether this is the number of an operator.
+pub fn is_operator(code: u8) -> bool
+    ensures { result ≡ is_operator_spec code }
+{
+    operands(code).is_some()
+}
+
+/// An operator whose value stands in its number (UEFI 2.8, 33.3.8.3, EFI_IFR_TRUE and the like).
+#[derive(Clone, Copy, Debug, PartialEq, Eq)]
+pub enum Constant {
+    True,
+    False,
+    Zero,
+    One,
+    /// All bits set.
+    Ones,
+    Undefined,
+}
+
+/// An operator that takes one operand.
+#[derive(Clone, Copy, Debug, PartialEq, Eq)]
+pub enum Unary {
+    Not,
+    BitwiseNot,
+}
+
+/// An operator that takes two operands.
+#[derive(Clone, Copy, Debug, PartialEq, Eq)]
+pub enum Binary {
+    And,
+    Or,
+    Equal,
+    NotEqual,
+    GreaterThan,
+    GreaterEqual,
+    LessThan,
+    LessEqual,
+    BitwiseAnd,
+    BitwiseOr,
+    ShiftLeft,
+    ShiftRight,
+    Add,
+    Subtract,
+    Multiply,
+    Divide,
+    Modulo,
+}
+
+impl Constant {
+    // The constant of a number.
+    pub(crate) fn of(code: u8) -> Constant
+        requires { is_among code constants ≡ true }
+        ensures { constant_code result ≡ code }
+    {
+        match code {
+            TRUE => Constant::True,
+            FALSE => Constant::False,
+            ZERO => Constant::Zero,
+            ONE => Constant::One,
+            ONES => Constant::Ones,
+            UNDEFINED => Constant::Undefined,
+            _ => unreachable!(),
+        }
+    }
+}
+
+impl Unary {
+    // The operator of a number that takes one operand.
+    #[tactic(auto, unfolding(crate::specs::Operators::operands))]
+    pub(crate) fn of(code: u8) -> Unary
+        requires { operands_of code ≡ Some 1 }
+        ensures { unary_code result ≡ code }
+    {
+        match code {
+            NOT => Unary::Not,
+            BITWISE_NOT => Unary::BitwiseNot,
+            _ => unreachable!(),
+        }
+    }
+}
+
+impl Binary {
+    // The operator of a number that takes two operands.
+    #[tactic(auto, unfolding(crate::specs::Operators::operands))]
+    pub(crate) fn of(code: u8) -> Binary
+        requires { operands_of code ≡ Some 2 }
+        ensures { binary_code result ≡ code }
+    {
+        match code {
+            AND => Binary::And,
+            OR => Binary::Or,
+            EQUAL => Binary::Equal,
+            NOT_EQUAL => Binary::NotEqual,
+            GREATER_THAN => Binary::GreaterThan,
+            GREATER_EQUAL => Binary::GreaterEqual,
+            LESS_THAN => Binary::LessThan,
+            LESS_EQUAL => Binary::LessEqual,
+            BITWISE_AND => Binary::BitwiseAnd,
+            BITWISE_OR => Binary::BitwiseOr,
+            SHIFT_LEFT => Binary::ShiftLeft,
+            SHIFT_RIGHT => Binary::ShiftRight,
+            ADD => Binary::Add,
+            SUBTRACT => Binary::Subtract,
+            MULTIPLY => Binary::Multiply,
+            DIVIDE => Binary::Divide,
+            MODULO => Binary::Modulo,
+            _ => unreachable!(),
+        }
+    }
+}
