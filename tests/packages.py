@@ -42,6 +42,33 @@ def eq_id_val(question, value):
     return bytes([0x12, 0x06]) + u16(question) + u16(value)
 
 
+def operator(code, fields=b""):
+    """An operator of an expression (UEFI 2.8, 33.3.8.3)."""
+    return bytes([code, 2 + len(fields)]) + fields
+
+
+def uint8(n):
+    return operator(0x42, bytes([n]))
+
+
+def rule_ref(number):
+    return operator(0x3F, bytes([number]))
+
+
+def expression(first, *others):
+    """An expression of these operators: the first has Scope where there are more."""
+    return bytes([first[0], first[1] | 0x80]) + first[2:] + b"".join(others) + END if others else first
+
+
+def suppressed(condition, *statements):
+    """Statements that are hidden while a condition holds."""
+    return suppress_if() + condition + b"".join(statements) + END
+
+
+def rule(number, value):
+    return bytes([0x18, 0x83, number]) + value + END
+
+
 def base(size=2):
     """What stands before the first statement, up to place 57: the form set, a store of so many bytes and a form."""
     return form_set() + varstore(1, size) + form(1)

@@ -1,5 +1,5 @@
 -- Setting a question to a value.
-use Rattle.std.proofs.Common.{◌≡◌, ℕ, ℤ, List, length, Option, Some, None, Ok, refl, sym, subst}
+use Rattle.std.proofs.Common.{◌≡◌, ℕ, ℤ, List, length, Option, Some, None, Ok, Err, refl, sym, ap, subst}
 use Rattle.ifr_opcodes.specs.Forest.{Placed}
 use Rattle.ifr_opcodes.specs.Reading.{tree_of}
 use Rattle.ifr_scopes.specs.Accepted.{IsAccepted}
@@ -11,6 +11,7 @@ use Rattle.hii_varstore.specs.Stores.{shape_of}
 use Rattle.hii_questions.specs.Checks.{range_of}
 use Rattle.hii_questions.specs.Fields.{field_of, question_with}
 use Rattle.hii_questions.specs.Inputs.{whole, fits}
+use Rattle.hii_questions.specs.declared.denial.DenialKind.{DenialKind}
 use Rattle.hii_questions.specs.declared.input.Field.{Field}
 use Rattle.hii_questions.proofs.LawLemmas.{finds_questions, found_fits}
 use Rattle.guard_policy.specs.Policy.{fixed, unless}
@@ -39,3 +40,26 @@ sets_field s asked id value n new browsable laid same found free fit field =
     let within = found_fits ns (layout_in s.ifr) id n (range_of new) browsable.questions there field in
     let changes = none_of (fixed ns s.working n) free in
     (subst (λ shape. HasRange shape new.store new.offset (length new.bytes)) (sym laid) within, rw (there, changes, fit, field) refl)
+
+some_of : (o : Option Denial) (denial : Denial) → unless o ≡ Err denial → o ≡ Some denial
+some_of None denial e = absurd cc
+some_of (Some other) denial e = let same : other ≡ denial = cc in ap (λ (d : Denial). Some d) same
+
+-- a question that is fixed
+pub sets_fixed : (s : State) (asked : List ℕ) (id : ℕ) (value : ℤ) (n : Placed) (denial : Denial) → asked ≡ s.ifr
+    → question_with (nodes_of asked) id ≡ Some n → unless (fixed (nodes_of s.ifr) s.working n) ≡ Err denial → Sets s id value (Err denial)
+sets_fixed s asked id value n denial same found why =
+    let ns = nodes_of s.ifr in
+    let there : question_with ns id ≡ Some n = subst (λ bytes. question_with (nodes_of bytes) id ≡ Some n) same found in
+    let denies = some_of (fixed ns s.working n) denial why in
+    rw (there, denies) refl
+
+-- a question that is not fixed and does not take the value
+pub sets_nothing : (s : State) (asked : List ℕ) (id : ℕ) (value : ℤ) (n : Placed) (why : DenialKind) → asked ≡ s.ifr
+    → question_with (nodes_of asked) id ≡ Some n → unless (fixed (nodes_of s.ifr) s.working n) ≡ Ok tt
+    → fits n.op (whole value) ≡ Err why → Sets s id value (Err record { kind = why; place = n.place; message = 0 })
+sets_nothing s asked id value n why same found free misfit =
+    let ns = nodes_of s.ifr in
+    let there : question_with ns id ≡ Some n = subst (λ bytes. question_with (nodes_of bytes) id ≡ Some n) same found in
+    let changes = none_of (fixed ns s.working n) free in
+    rw (there, changes, misfit) refl

@@ -1,6 +1,6 @@
 -- What a guard, a flag or a missing store forbids (UEFI 2.8, 33.2.5.10 Forms Processing; 33.3.8.3, EFI_IFR_SUPPRESS_IF: what
 -- stands in its scope is hidden while its condition holds; which opcode is named is an own rule).
-use Rattle.std.specs.Prelude.{ℕ, ◌+◌, Bool, ◌==◌, ◌&&◌, if◌then◌else◌, Option, Some, None, Result, Ok, Err, List, [], length}
+use Rattle.std.specs.Prelude.{ℕ, ◌+◌, Bool, ◌==◌, ◌&&◌, if◌then◌else◌, Option, Some, None, Result, Ok, Err, List, length}
 use Rattle.std.specs.List.{find}
 use Rattle.ifr_opcodes.specs.declared.codes.TheConstants.{SUPPRESS_IF}
 use Rattle.ifr_opcodes.specs.Opcode.{number}
@@ -11,6 +11,7 @@ use Rattle.ifr_expr.specs.Meaning.{Rule, value}
 use Rattle.ifr_expr.specs.Reading.{tree_in}
 use Rattle.ifr_scopes.specs.Guards.{guards}
 use Rattle.ifr_scopes.specs.Nodes.{this_of}
+use Rattle.ifr_scopes.specs.Rules.{rules_among}
 use Rattle.hii_varstore.specs.Stores.{StoreMap}
 use Rattle.hii_questions.specs.Answers.{answers}
 use Rattle.hii_questions.specs.Fields.{Field, field_of}
@@ -29,10 +30,10 @@ abbrev pub suppressed_by : Option Placed → Option Denial
 suppressed_by None = None
 suppressed_by (Some guard) = Some record { kind = SuppressIf; place = guard.place; message = 0 }
 
--- A node is hidden by the outermost of its guards that suppresses, over what the questions of a package answer from stores.
--- There are no rules.
+-- A node is hidden by the outermost of its guards that suppresses, over the rules of a package and what its questions answer
+-- from stores.
 abbrev pub hidden : List Placed → StoreMap → Placed → Option Denial
-hidden ns stores n = suppressed_by (find (suppresses [] (answers ns stores)) (guards n))
+hidden ns stores n = suppressed_by (find (suppresses (rules_among ns) (answers ns stores)) (guards n))
 
 -- A question without a field is outside of the stores.
 abbrev pub outside : Option Field → ℕ → Option Denial

@@ -1,6 +1,6 @@
 //! What a policy decides.
 
-ghost use Rattle.std.specs.Prelude.{◌≡◌, ◌==◌, ◌&&◌, ℕ, [], option_map};
+ghost use Rattle.std.specs.Prelude.{◌≡◌, ◌==◌, ◌&&◌, ℕ, option_map};
 ghost use Rattle.std.specs.List.{find};
 ghost use Rattle.ifr_opcodes.specs.Fields.{is_read_only};
 ghost use Rattle.ifr_opcodes.specs.Ops.{bytes_of};
@@ -10,6 +10,7 @@ ghost use Rattle.ifr_scopes.specs.Lists.{guard_node, guards_left, form_node, sta
 ghost use Rattle.ifr_scopes.specs.Checked.{IsNodeOf};
 ghost use Rattle.ifr_scopes.specs.Accepted.{IsAccepted};
 ghost use Rattle.ifr_scopes.specs.Nodes.{nodes_of};
+ghost use Rattle.ifr_scopes.specs.Rules.{rules_of};
 ghost use Rattle.hii_questions.specs.Answers.{answers};
 ghost use Rattle.guard_policy.specs.Policy as spec;
 
@@ -23,7 +24,7 @@ use ifr_scopes::{Form, Forms, Guard, GuardsAt, Statement};
 
 // Whether a guard is a SUPPRESS_IF whose condition holds.
 fn suppresses<'a, A: Answers<'a>>(guard: Guard<'a>, answers: &A, forms: &Forms<'a>) -> bool
-    ensures { result ≡ spec.suppresses [] (A.answers answers.now) (guard_node guard.entry) }
+    ensures { result ≡ spec.suppresses (rules_of forms.now) (A.answers answers.now) (guard_node guard.entry) }
 {
     guard.op().code == SUPPRESS_IF && guard.condition().holds(answers, forms, guard.this())
 }
@@ -34,7 +35,7 @@ fn first_suppressing<'s, 'a, A: Answers<'a>>(
     answers: &A,
     forms: &Forms<'a>,
 ) -> Option<Guard<'a>>
-    ensures { option_map guard_node result ≡ find (spec.suppresses [] (A.answers answers.now)) (guards_left guards.entry) }
+    ensures { option_map guard_node result ≡ find (spec.suppresses (rules_of forms.now) (A.answers answers.now)) (guards_left guards.entry) }
 {
     let mut guards = guards;
     while let Some(guard) = guards.next() {
@@ -92,7 +93,7 @@ impl<'a, 's> Policy<'a, 's> {
     // The outermost guard of the form or statement at a place that suppresses it.
     fn unless_hidden(&self, place: u32, stores: &Stores) -> Result<(), Denial>
         ensures accepted { IsAccepted self.now.forms.now }
-        ensures decided { result ≡ spec.unless (spec.suppressed_by (find (spec.suppresses [] (answers (nodes_of self.now.forms.now) stores.now)) (guards_of_indexed (nodes_of self.now.forms.now) place))) }
+        ensures decided { result ≡ spec.unless (spec.suppressed_by (find (spec.suppresses (rules_of self.now.forms.now) (answers (nodes_of self.now.forms.now) stores.now)) (guards_of_indexed (nodes_of self.now.forms.now) place))) }
     {
         // The package is accepted: each guard has its condition.
         self.forms.bytes();

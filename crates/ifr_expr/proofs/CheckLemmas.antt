@@ -235,6 +235,12 @@ checked at bytes small h d =
 pub means_node : (at : ℕ) (bytes : List ℕ) → Done at (opcodes_of at bytes) (to_end at (opcodes_in bytes)) (Ok 1) → Means (opcodes_of at bytes) (tree at bytes)
 means_node at bytes d = rw d.same (one_value (opcodes_of at bytes) d.told).0
 
+-- it has no fault
+pub sound_node : (at : ℕ) (bytes : List ℕ) → Done at (opcodes_of at bytes) (to_end at (opcodes_in bytes)) (Ok 1) → HasNone (IsExpressionFault at (opcodes_of at bytes))
+sound_node at bytes d = λ cause place fault.
+    let one = one_value (opcodes_of at bytes) d.told in
+    elim fault [ inl f ↦ d.none cause place f | inr f ↦ no_shape at (opcodes_of at bytes) (tree_of_opcodes (opcodes_of at bytes)) one.0 one.1 cause place f.1 ]
+
 -- several values are left
 pub several : (at : ℕ) (bytes : List ℕ) (start : List Mark) (count : ℕ) → Done at (opcodes_of at bytes) start (Ok count) → (count ≡ 1 → ⊥) → IsShapeFault at (opcodes_of at bytes) ExprShape at
 several at bytes start count d other = go d.told.trees d.told.spell d.told.long

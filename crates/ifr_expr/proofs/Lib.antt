@@ -9,4 +9,5 @@ pub mod RuleLemmas
 pub mod EvaluationLemmas
 pub mod NodeLemmas
 pub mod FlatLemmas
+pub mod LengthLemmas
 pub mod WorkedValues

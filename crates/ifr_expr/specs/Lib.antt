@@ -11,4 +11,6 @@ pub mod OpcodesLeft
 pub mod Expressions
 pub mod Named
 pub mod Supports
+pub mod References
+pub mod ReferencesLeft
 pub mod Flat

@@ -6,6 +6,7 @@ use crate::counting::{cause_of, counted};
 use crate::given;
 use crate::opcodes::Opcodes;
 use crate::operators::Operators;
+use crate::references::RuleReferences;
 use crate::rules::Rules;
 use crate::support::Support;
 use crate::value::{Answers, Value};
@@ -27,8 +28,10 @@ impl<'a> Expr<'a> {
     ghost use Rattle.ifr_expr.specs.Faults.{IsOpcodeFault, IsExpressionFault};
     ghost use Rattle.ifr_expr.specs.Meaning.{value, support};
     ghost use Rattle.ifr_expr.specs.Reading.{IsExpressionNode, opcodes_of};
+    ghost use Rattle.ifr_expr.specs.References.{references};
+    ghost use Rattle.ifr_expr.specs.ReferencesLeft.{references_left};
     ghost use Rattle.ifr_expr.specs.Supports.{ids_left};
-    ghost use Rattle.ifr_expr.specs.Trees.{Tree, Means, need};
+    ghost use Rattle.ifr_expr.specs.Trees.{Tree, Means, need, post};
     ghost use Rattle.ifr_expr.specs.Values.{holds};
     ghost use Rattle.ifr_expr.specs.Views.{value_of};
 
@@ -42,6 +45,7 @@ impl<'a> Expr<'a> {
         requires node { IsExpressionNode (slice_range ifr.now from to) }
         ensures read { IfOk result (λ expr. Means (opcodes_of from (slice_range ifr.entry.now from to)) (tree_of expr)) }
         ensures range { IfOk result (λ expr. (expr.place ≡ from) × (end_of expr ≡ to)) }
+        ensures sound { IfOk result (λ _. HasNone (IsExpressionFault from (opcodes_of from (slice_range ifr.entry.now from to)))) }
         ensures refused { IfErr result (IsLeast (IsExpressionFault from (opcodes_of from (slice_range ifr.entry.now from to)))) }
         ensures accepted { HasNone (IsExpressionFault from (opcodes_of from (slice_range ifr.entry.now from to))) → IsOk result }
         ensures meant { (tree : Tree) → Means (opcodes_of from (slice_range ifr.entry.now from to)) tree → need tree ≤ 64
@@ -73,6 +77,27 @@ impl<'a> Expr<'a> {
     {
         Operators {
             ops: Opcodes::over(self.bytes, self.place),
+        }
+    }
+
+    /// How many opcodes it has; an END is none of them.
+    pub fn len(self) -> usize
+        ensures { result ≡ length (post (tree_of self.entry)) }
+    {
+        let mut count = 0;
+        let mut ops = self.operators();
+        while let Some(_op) = ops.next() {
+            count += 1;
+        }
+        count
+    }
+
+    /// Its references to rules, by place.
+    pub fn references(self) -> RuleReferences<'a>
+        ensures { references_left result ≡ references (tree_of self.entry) }
+    {
+        RuleReferences {
+            ops: self.operators(),
         }
     }
 

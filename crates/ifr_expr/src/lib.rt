@@ -10,6 +10,7 @@ pub mod laws;
 mod opcodes;
 mod operations;
 mod operators;
+mod references;
 mod rules;
 mod support;
 #[cfg(test)]
@@ -17,6 +18,7 @@ mod tests;
 mod value;
 
 pub use expr::Expr;
+pub use references::{RuleReference, RuleReferences};
 pub use rules::Rules;
 pub use support::Support;
 pub use value::{Answers, Value};

@@ -5,7 +5,7 @@ use Rattle.std.specs.List.{before_first}
 use Rattle.hii_bytes.specs.declared.cause.Cause.{Cause}
 use Rattle.hii_bytes.specs.declared.cause.Cause.TheVariants.{OpOutside, OpSize}
 use Rattle.hii_bytes.specs.Numbers.{number_in}
-use Rattle.ifr_opcodes.specs.declared.codes.TheConstants.{FORM, CHECKBOX, SUPPRESS_IF, FORM_SET, EQ_ID_VAL, EQ_ID_ID, EQ_ID_VAL_LIST, VARSTORE, RULE_REF, QUESTION_REF1, UINT8, UINT16, UINT32}
+use Rattle.ifr_opcodes.specs.declared.codes.TheConstants.{FORM, CHECKBOX, SUPPRESS_IF, FORM_SET, EQ_ID_VAL, EQ_ID_ID, EQ_ID_VAL_LIST, VARSTORE, RULE, RULE_REF, QUESTION_REF1, UINT8, UINT16, UINT32}
 use Rattle.ifr_opcodes.specs.Opcode.{number}
 use Rattle.ifr_opcodes.specs.Forest.{Mark}
 use Rattle.ifr_opcodes.specs.Operators.{is_among, is_operator, uints}
@@ -74,6 +74,10 @@ is_read_only op = not (bit_and (question_flags op) 1 == 0)
 abbrev pub checkbox_flags : List ℕ → ℕ
 checkbox_flags op = number_in op 13 1
 
+-- EFI_IFR_RULE
+abbrev pub rule_id : List ℕ → ℕ
+rule_id op = number_in op 2 1
+
 -- EFI_IFR_EQ_ID_VAL
 abbrev pub eq_id_val_question : List ℕ → ℕ
 eq_id_val_question op = number_in op 2 2
@@ -135,7 +139,8 @@ row_length code op =
     else (if code == FORM then 6
     else (if code == VARSTORE then 23 + length (varstore_name op)
     else (if code == CHECKBOX then 14
-    else operator_length code op)))
+    else (if code == RULE then 3
+    else operator_length code op))))
 
 -- a longer opcode is accepted, and the rest ignored (own rule)
 abbrev pub least_length : List ℕ → ℕ
@@ -147,7 +152,7 @@ is_short op = nat_lt (length op) (least_length op)
 
 -- whether an opcode of this number is known (own rule)
 abbrev pub is_listed : ℕ → Bool
-is_listed code = code == FORM_SET || code == FORM || code == VARSTORE || code == SUPPRESS_IF || code == CHECKBOX || is_operator code
+is_listed code = code == FORM_SET || code == FORM || code == VARSTORE || code == SUPPRESS_IF || code == CHECKBOX || code == RULE || is_operator code
 
 -- An opcode is not of the wanted numbers, or has not all its fields.
 abbrev pub IsMisread : (ℕ → Bool) → Mark → Cause → ℕ → Type 0

@@ -30,6 +30,9 @@ pub const OR: u8 = 0x16;
 /// EFI_IFR_NOT_OP.
 pub const NOT: u8 = 0x17;
 
+/// EFI_IFR_RULE_OP.
+pub const RULE: u8 = 0x18;
+
 /// EFI_IFR_GRAY_OUT_IF_OP.
 pub const GRAY_OUT_IF: u8 = 0x19;
 

@@ -12,6 +12,7 @@ mod operators;
 mod questions;
 mod references;
 mod rows;
+mod rules;
 mod split;
 mod stores;
 #[cfg(test)]
@@ -21,8 +22,8 @@ pub use codes::{
     ADD, AND, BITWISE_AND, BITWISE_NOT, BITWISE_OR, CHECKBOX, DISABLE_IF, DIVIDE, END, EQ_ID_ID,
     EQ_ID_VAL, EQ_ID_VAL_LIST, EQUAL, FALSE, FORM, FORM_SET, GRAY_OUT_IF, GREATER_EQUAL,
     GREATER_THAN, LESS_EQUAL, LESS_THAN, MODULO, MULTIPLY, NOT, NOT_EQUAL, ONE, ONES, OR,
-    QUESTION_REF1, RULE_REF, SHIFT_LEFT, SHIFT_RIGHT, SUBTRACT, SUPPRESS_IF, THIS, TRUE, UINT8,
-    UINT16, UINT32, UINT64, UNDEFINED, VARSTORE, ZERO,
+    QUESTION_REF1, RULE, RULE_REF, SHIFT_LEFT, SHIFT_RIGHT, SUBTRACT, SUPPRESS_IF, THIS, TRUE,
+    UINT8, UINT16, UINT32, UINT64, UNDEFINED, VARSTORE, ZERO,
 };
 pub use eq_id_id::EqIdIdOp;
 pub use eq_id_val::EqIdValOp;
@@ -34,5 +35,6 @@ pub use operators::{Binary, Constant, Unary, is_operator, operands};
 pub use questions::{CheckboxOp, QuestionOp, StatementOp};
 pub use references::{QuestionRefOp, RuleRefOp};
 pub use rows::{is_listed, is_short, least_len};
+pub use rules::RuleOp;
 pub use split::{op_at, split_opcode};
 pub use stores::VarstoreOp;

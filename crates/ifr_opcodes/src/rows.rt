@@ -5,7 +5,7 @@ ghost use Rattle.ifr_opcodes.specs.Fields as fields;
 ghost use Rattle.ifr_opcodes.specs.Ops.{bytes_of};
 
 use crate::codes::{
-    CHECKBOX, EQ_ID_ID, EQ_ID_VAL, EQ_ID_VAL_LIST, FORM, FORM_SET, QUESTION_REF1, RULE_REF,
+    CHECKBOX, EQ_ID_ID, EQ_ID_VAL, EQ_ID_VAL_LIST, FORM, FORM_SET, QUESTION_REF1, RULE, RULE_REF,
     SUPPRESS_IF, UINT8, UINT16, UINT32, UINT64, VARSTORE,
 };
 use crate::op::Op;
@@ -21,6 +21,7 @@ pub fn least_len(op: Op) -> usize
         FORM => 6,
         VARSTORE => 23 + before_nul(op.bytes_from(22)).len(),
         CHECKBOX => 14,
+        RULE => 3,
         _ => operator_len(op),
     }
 }
@@ -66,7 +67,7 @@ pub fn is_listed(code: u8) -> bool
     ensures { result ≡ fields.is_listed code }
 {
     match code {
-        FORM_SET | FORM | VARSTORE | SUPPRESS_IF | CHECKBOX => true,
+        FORM_SET | FORM | VARSTORE | SUPPRESS_IF | CHECKBOX | RULE => true,
         _ => is_operator(code),
     }
 }

@@ -131,6 +131,16 @@ fn checkbox(rt: HostRuntime) {
 }
 
 #[test]
+fn rule(rt: HostRuntime) {
+    let op = op_at(&[0x18, 0x83, 7], 0).expect(&rt, "an opcode");
+    let rule = RuleOp::read(op).expect(&rt, "a rule");
+    assert_eq!(rt;
+        (rule.id(), is_listed(RULE), is_operator(RULE)),
+        (7, true, false)
+    );
+}
+
+#[test]
 fn refusals(rt: HostRuntime) {
     let place = |cause, place| Some(Fault { cause, place });
     assert_eq!(rt; op_at(&PACKAGE, 81).err(), place(Cause::OpLength, 81));

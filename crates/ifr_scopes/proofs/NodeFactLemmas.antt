@@ -1,20 +1,22 @@
--- What the nodes of a checked package have: all their fields, and guards their condition.
+-- What the nodes of a checked package have: all their fields, and an expression where they want one.
 use Rattle.std.proofs.Common.{◌≡◌, ℕ, ◌+◌, ◌≤◌, Bool, true, false, eqb, Some, List, [], ◌∷◌, ◌++◌, length, refl, sym, ap, subst, ◌∙◌, arith, inl, inr}
-use Rattle.std.specs.Prelude.{◌||◌, ◌&&◌, not, Contains}
-use Rattle.std.proofs.lemmas.Bool.{cases_Bool, eqb-true, eq-eqb, ltb-false, false≢true}
+use Rattle.std.specs.Prelude.{◌&&◌, not, Contains}
+use Rattle.std.proofs.lemmas.Bool.{cases_Bool, eqb-true, eq-eqb, ltb-false, false≢true, and_from}
+use Rattle.hii_bytes.specs.Faults.{HasNone}
 use Rattle.hii_bytes.specs.declared.cause.Cause.{Cause}
 use Rattle.hii_bytes.specs.declared.cause.Cause.TheVariants.{NotFormSet, OpOutside, OpSize, ExprShape}
-use Rattle.ifr_opcodes.specs.declared.codes.TheConstants.{FORM_SET, FORM, VARSTORE, SUPPRESS_IF, CHECKBOX, EQ_ID_VAL}
-use Rattle.ifr_opcodes.specs.Opcode.{number, has_scope}
-use Rattle.ifr_opcodes.specs.Fields.{row_length, least_length, is_short}
-use Rattle.ifr_opcodes.specs.Operators.{is_operator, operands}
-use Rattle.ifr_opcodes.specs.Forest.{Forest, none, node, Placed, as_ancestor, nodes_at, nodes, below}
+use Rattle.ifr_opcodes.specs.Opcode.{number}
+use Rattle.ifr_opcodes.specs.Fields.{row_length, least_length, is_listed}
+use Rattle.ifr_opcodes.specs.Operators.{is_operator}
+use Rattle.ifr_opcodes.specs.Forest.{Forest, none, node, mark, Placed, as_ancestor, nodes_at, nodes, below}
 use Rattle.ifr_opcodes.specs.Reading.{tree_of}
-use Rattle.ifr_scopes.specs.Guards.{is_guard}
-use Rattle.ifr_scopes.specs.Table.{row, lacks_row}
+use Rattle.ifr_expr.specs.Faults.{IsExpressionFault}
+use Rattle.ifr_expr.specs.Trees.{expression}
+use Rattle.ifr_scopes.specs.Table.{wants_expression}
 use Rattle.ifr_scopes.specs.Nodes.{nodes_of, is_form_set}
-use Rattle.ifr_scopes.specs.Structure.{has_fault, first_number, lacks_expression}
+use Rattle.ifr_scopes.specs.Structure.{has_fault, first_number, lacks_expression, parent, begins_scope, is_condition}
 use Rattle.ifr_scopes.specs.Checked.{IsChecked, IsAt, node_in}
+use Rattle.ifr_scopes.proofs.ExpressionLemmas.{innermost-push}
 use Rattle.ifr_scopes.proofs.ViewLemmas.{node_there, below_within}
 
 -- the node of a view is one of the package
@@ -25,7 +27,7 @@ is_node bytes place op checked at =
 
 pub no_fault : (bytes : List ℕ) (n : Placed) (cause : Cause) → IsChecked bytes → Contains (nodes_of bytes) n → has_fault n cause ≡ false
 no_fault bytes n cause checked within = elim (cases_Bool (has_fault n cause)) [
-  | inl bad ↦ absurd (checked.sound cause n.place (inr (n, within, refl, bad)))
+  | inl bad ↦ absurd (checked.sound cause n.place (inr (inl (n, within, refl, bad))))
   | inr good ↦ good
 ]
 
@@ -44,74 +46,51 @@ has_fields bytes place op code checked at is =
     let long : least_length op ≤ length op = subst (λ (l : List ℕ). least_length l ≤ length l) at.opcode (long_enough bytes (node_in bytes place) checked (is_node bytes place op checked at)) in
     record { coded = coded; sized = subst (λ (k : ℕ). row_length k op ≤ length op) coded long }
 
--- ---- a guard begins with an operator
+-- ---- what wants an expression begins with one
 
-pub record HasCondition (bytes : List ℕ) (guard : Placed) : Type 0 where
+-- It begins with an operator, whose expression has no fault.
+pub record HasCondition (bytes : List ℕ) (n : Placed) : Type 0 where
   pub op : List ℕ
   pub children : Forest
   pub rest : Forest
-  pub first : guard.children ≡ node op children rest
+  pub first : n.children ≡ node op children rest
   pub operator : is_operator (number op) ≡ true
-  pub unscoped : has_scope op ≡ false
-  pub sized : is_short op ≡ false
-  pub takes_none : operands (number op) ≡ Some 0
-  pub within : Contains (nodes_of bytes) (record { place = guard.place + length guard.op; op = op; path = guard.path ++ as_ancestor guard ∷ []; children = children })
+  pub sound : HasNone (IsExpressionFault (n.place + length n.op) (expression (n.place + length n.op) op children))
+  pub within : Contains (nodes_of bytes) (record { place = n.place + length n.op; op = op; path = n.path ++ as_ancestor n ∷ []; children = children })
 
 begins : (f : Forest) → lacks_expression (first_number f) ≡ false → (op : List ℕ) × (children : Forest) × (rest : Forest) × (f ≡ node op children rest)
 begins none lacks = absurd (false≢true (sym lacks))
 begins (node op children rest) lacks = (op, children, rest, refl)
 
--- A known number that is wanted is an operator's, and an operator that is known has no Scope.
-is_wanted : (lacks operator scope : Bool) → not lacks && not operator ≡ false → lacks || (operator && scope) ≡ false → (operator ≡ true) × (scope ≡ false) × (lacks ≡ false)
-is_wanted true operator scope wanted known = absurd (false≢true (sym known))
-is_wanted false true scope wanted known = (refl, known, refl)
-is_wanted false false scope wanted known = absurd (false≢true (sym wanted))
-
--- the operator that is known has no operands
-known_operator : (code : ℕ) → lacks_row (row code) ≡ false → is_operator code ≡ true → operands code ≡ Some 0
-unfolding operands
-known_operator code known h = elim (cases_Bool (eqb code FORM_SET)) [
-  | inl e ↦ absurd (false≢true (ap is_operator (sym (eqb-true code FORM_SET e)) ∙ h))
-  | inr a ↦ elim (cases_Bool (eqb code FORM)) [
-    | inl e ↦ absurd (false≢true (ap is_operator (sym (eqb-true code FORM e)) ∙ h))
-    | inr b ↦ elim (cases_Bool (eqb code VARSTORE)) [
-      | inl e ↦ absurd (false≢true (ap is_operator (sym (eqb-true code VARSTORE e)) ∙ h))
-      | inr d ↦ elim (cases_Bool (eqb code SUPPRESS_IF)) [
-        | inl e ↦ absurd (false≢true (ap is_operator (sym (eqb-true code SUPPRESS_IF e)) ∙ h))
-        | inr f ↦ elim (cases_Bool (eqb code CHECKBOX)) [
-          | inl e ↦ absurd (false≢true (ap is_operator (sym (eqb-true code CHECKBOX e)) ∙ h))
-          | inr g ↦ elim (cases_Bool (eqb code EQ_ID_VAL)) [
-            | inl e ↦ ap operands (eqb-true code EQ_ID_VAL e)
-            | inr i ↦ let bad : true ≡ false = rw (a, b, d, f, g, i) at known in absurd (false≢true (sym bad))
-          ]
-        ]
-      ]
-    ]
-  ]
-]
+-- a known number where an expression is wanted is an operator's
+is_wanted : (known operator : Bool) → known && not operator ≡ false → not known ≡ false → operator ≡ true
+is_wanted true true lacks listed = refl
+is_wanted true false lacks listed = absurd (false≢true (sym lacks))
+is_wanted false operator lacks listed = absurd (false≢true (sym listed))
 
 guarded : (guard shaped : Bool) → guard ≡ true → guard && shaped ≡ false → shaped ≡ false
 guarded true shaped is e = e
 guarded false shaped is e = absurd (false≢true is)
 
-pub has_condition : (bytes : List ℕ) (n : Placed) → IsChecked bytes → Contains (nodes_of bytes) n → is_guard (number n.op) ≡ true → HasCondition bytes n
-has_condition bytes n checked within is =
-    let lacks : lacks_expression (first_number n.children) ≡ false = guarded (is_guard (number n.op)) _ is (no_fault bytes n ExprShape checked within) in
+pub has_condition : (bytes : List ℕ) (n : Placed) → IsChecked bytes → Contains (nodes_of bytes) n → wants_expression (number n.op) ≡ true → HasCondition bytes n
+has_condition bytes n checked within wants =
+    let lacks : lacks_expression (first_number n.children) ≡ false = guarded (wants_expression (number n.op)) _ wants (no_fault bytes n ExprShape checked within) in
     let first = begins n.children lacks in
     let op = first.0 in
-    let child : Placed = record { place = n.place + length n.op; op = op; path = n.path ++ as_ancestor n ∷ []; children = first.1 } in
-    let below_it : Contains (below n) child = subst (λ (f : Forest). Contains (nodes_at (n.place + length n.op) (n.path ++ as_ancestor n ∷ []) f) child) (sym first.3) (0, omega arith, refl) in
+    let from : ℕ = n.place + length n.op in
+    let child : Placed = record { place = from; op = op; path = n.path ++ as_ancestor n ∷ []; children = first.1 } in
+    let below_it : Contains (below n) child = subst (λ (f : Forest). Contains (nodes_at from (n.path ++ as_ancestor n ∷ []) f) child) (sym first.3) (0, omega arith, refl) in
     let there : Contains (nodes_of bytes) child = below_within (tree_of bytes) 4 [] n child within below_it in
-    let wanted = is_wanted (lacks_row (row (number op))) (is_operator (number op)) (has_scope op) (ap (λ (f : Forest). lacks_expression (first_number f)) (sym first.3) ∙ lacks) (no_fault bytes child OpOutside checked there) in
+    let operator : is_operator (number op) ≡ true = is_wanted (is_listed (number op)) (is_operator (number op)) (ap (λ (f : Forest). lacks_expression (first_number f)) (sym first.3) ∙ lacks) (no_fault bytes child OpOutside checked there) in
+    let around : parent child ≡ Some (mark n) = innermost-push n.path (as_ancestor n) in
+    let begins_it : is_condition child ≡ true = ap (begins_scope from) around ∙ and_from _ _ wants (eq-eqb from from refl) in
     record {
       op = op;
       children = first.1;
       rest = first.2;
       first = first.3;
-      operator = wanted.0;
-      unscoped = wanted.1;
-      sized = no_fault bytes child OpSize checked there;
-      takes_none = known_operator (number op) wanted.2 wanted.0;
+      operator = operator;
+      sound = λ cause place fault. checked.sound cause place (inr (inr (child, there, and_from _ _ begins_it operator, fault)));
       within = there;
     }
 

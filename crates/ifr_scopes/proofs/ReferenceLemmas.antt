@@ -1,21 +1,25 @@
--- The first id that comes again has the least fault.
-use Rattle.std.proofs.Common.{◌≡◌, ℕ, zero, suc, ◌+◌, ◌<◌, ◌≤◌, Bool, true, false, Option, Some, None, List, [], ◌∷◌, ◌++◌, length, refl, sym, ap, ◌∙◌, arith, inl, inr, lit≤}
+-- The first node that has a fault beside those before it has the least fault.
+use Rattle.std.proofs.Common.{◌≡◌, ℕ, zero, suc, ◌+◌, ◌<◌, ◌≤◌, ◌⊎◌, Bool, ltb, true, false, Option, Some, None, List, [], ◌∷◌, ◌++◌, length, refl, sym, ap, ◌∙◌, arith, inl, inr, lit≤}
 use Rattle.std.specs.Prelude.{◌&&◌, not, ◌==◌, Contains, filter}
 use Rattle.std.specs.List.{list_any}
 use Rattle.std.proofs.Math.Bool.{and-false}
-use Rattle.std.proofs.lemmas.Bool.{cases_Bool, false≢true, true≢false}
+use Rattle.std.proofs.lemmas.Bool.{cases_Bool, ltb-true, ltb-false, false≢true, true≢false}
 use Rattle.hii_bytes.specs.Cause.{number_of}
 use Rattle.hii_bytes.specs.Faults.{IsLeast, HasNone, AreAll, first_fault, Rise}
 use Rattle.hii_bytes.specs.declared.cause.Cause.{Cause}
-use Rattle.hii_bytes.specs.declared.cause.Cause.TheVariants.{DuplicateForm, DuplicateQuestion, NoForm}
+use Rattle.hii_bytes.specs.declared.cause.Cause.TheVariants.{DuplicateForm, DuplicateQuestion, NoForm, RuleTooLarge}
 use Rattle.hii_bytes.specs.declared.cause.Fault.{Fault}
 use Rattle.hii_bytes.proofs.FirstFaultLemmas.{first_among, none_among}
 use Rattle.ifr_opcodes.specs.Fields.{question_id}
 use Rattle.ifr_opcodes.specs.Forest.{Forest, flat, Placed, nodes, AreNodes}
 use Rattle.ifr_scopes.specs.Nodes.{is_form, is_question}
-use Rattle.ifr_scopes.specs.References.{Ranked, ranked, repeats, repeat_causes, IsReferenceFault}
-use Rattle.ifr_scopes.specs.MetIds.{AreOf}
-use Rattle.ifr_scopes.specs.declared.references.MetIds.{MetIds}
+use Rattle.ifr_scopes.specs.References.{Ranked, ranked, has_fault, causes, IsReferenceFault}
+use Rattle.ifr_scopes.specs.Met.{AreOf}
+use Rattle.ifr_scopes.specs.Rules.{is_rule}
+use Rattle.ifr_scopes.specs.KeptRules.{AreKept, kept_at}
+use Rattle.ifr_scopes.specs.declared.references.Met.{Met}
+use Rattle.ifr_scopes.specs.declared.rules.RuleTable.{RuleTable}
+use Rattle.ifr_scopes.proofs.KeptRuleLemmas.{no_rule}
 use Rattle.ifr_scopes.proofs.PlaceLemmas.{Within, nodes_within}
 
 abbrev place_of : Ranked → ℕ
@@ -23,21 +27,23 @@ place_of r = r.node.place
 
 -- the first fault among nodes that have others before them
 abbrev pub first_repeat : List Placed → List Placed → Option Fault
-first_repeat before ns = first_fault place_of repeats repeat_causes (ranked before ns)
+first_repeat before ns = first_fault place_of has_fault causes (ranked before ns)
 
--- Some nodes were met, and their ids are known: the first fault of all nodes is that of those which are left.
-pub record HasMet (all left : List Placed) (ids : MetIds) : Type 0 where
+-- Some nodes were met, and their ids and rules are known: the first fault of all nodes is that of those which are left.
+pub record HasMet (bytes : List ℕ) (all left : List Placed) (met : Met) : Type 0 where
   pub before : List Placed
-  pub known : AreOf before ids
+  pub split : before ++ left ≡ all
+  pub known : AreOf bytes before met
   pub same : first_repeat before left ≡ first_repeat [] all
 
-among : (r : Ranked) (d : Cause) → repeats r d ≡ true → Contains repeat_causes d
+among : (r : Ranked) (d : Cause) → has_fault r d ≡ true → Contains causes d
 among r DuplicateForm h = (0, omega arith, refl)
 among r DuplicateQuestion h = (1, omega arith, refl)
+among r RuleTooLarge h = (2, omega arith, refl)
 among r _ h = absurd (false≢true h)
 
-all_causes : AreAll repeats repeat_causes
-all_causes = record { rise = (lit≤ tt, (lit≤ tt, tt)); all = among }
+all_causes : AreAll has_fault causes
+all_causes = record { rise = (lit≤ tt, (lit≤ tt, (lit≤ tt, tt))); all = among }
 
 rising : (before ns : List Placed) (low high : ℕ) → Within low high ns → Rise place_of low (ranked before ns)
 rising before [] low high w = tt
@@ -48,16 +54,17 @@ above before [] low high r w (k, lt, e) = absurd (omega arith)
 above before (n ∷ ns) low high r w (zero, lt, e) = omega (arith, w.0, ap place_of e)
 above before (n ∷ ns) low high r w (suc k, lt, e) = omega (arith, w.0, above (before ++ n ∷ []) ns (n.place + 1) high r w.1 (k, omega arith, e))
 
--- the first node repeats nothing
-first_repeats : (n : Placed) (d : Cause) → repeats (record { before = []; node = n }) d ≡ true → ⊥
-first_repeats n DuplicateForm h = false≢true (sym (and-false (is_form n)) ∙ h)
-first_repeats n DuplicateQuestion h = false≢true (sym (ap (λ (b : Bool). is_question n && b) (and-false (not (question_id n.op == 0))) ∙ and-false (is_question n)) ∙ h)
-first_repeats n _ h = false≢true h
+-- the first node has no id of a node before it
+first_fault_of : (n : Placed) (d : Cause) → has_fault (record { before = []; node = n }) d ≡ true → d ≡ RuleTooLarge
+first_fault_of n DuplicateForm h = absurd (false≢true (sym (and-false (is_form n)) ∙ h))
+first_fault_of n DuplicateQuestion h = absurd (false≢true (sym (ap (λ (b : Bool). is_question n && b) (and-false (not (question_id n.op == 0))) ∙ and-false (is_question n)) ∙ h))
+first_fault_of n RuleTooLarge h = refl
+first_fault_of n _ h = absurd (false≢true h)
 
-later : (ns : List Placed) (low high : ℕ) (r : Ranked) (d : Cause) → Within low high ns → Contains (ranked [] ns) r → repeats r d ≡ true → low < r.node.place
+later : (ns : List Placed) (low high : ℕ) (r : Ranked) (d : Cause) → Within low high ns → Contains (ranked [] ns) r → has_fault r d ≡ true → (low < r.node.place) ⊎ ((low ≤ r.node.place) × (d ≡ RuleTooLarge))
 later [] low high r d w (k, lt, e) h = absurd (omega arith)
-later (n ∷ ns) low high r d w (zero, lt, e) h = absurd (first_repeats n d (ap (λ (q : Ranked). repeats q d) e ∙ h))
-later (n ∷ ns) low high r d w (suc k, lt, e) h = omega (arith, w.0, above (n ∷ []) ns (n.place + 1) high r w.1 (k, omega arith, e))
+later (n ∷ ns) low high r d w (zero, lt, e) h = inr (omega (arith, w.0, ap place_of e), first_fault_of n d (ap (λ (q : Ranked). has_fault q d) e ∙ h))
+later (n ∷ ns) low high r d w (suc k, lt, e) h = inl (omega (arith, w.0, above (n ∷ []) ns (n.place + 1) high r w.1 (k, omega arith, e)))
 
 no_forms : (ns : List Placed) → list_any is_form ns ≡ false → filter is_form ns ≡ []
 no_forms [] e = refl
@@ -72,17 +79,27 @@ no_form_is_least f a e = record {
   told = inl (no_forms (nodes f) e, refl, refl);
   least = λ d p other. elim other [
     | inl h ↦ inr (sym h.2, omega (arith, ap number_of h.1))
-    | inr h ↦ inl (omega (arith, h.2, later (nodes f) 4 (4 + length (flat f)) h.0 d (nodes_within f 4 [] a) h.1 h.3))
+    | inr h ↦ elim (later (nodes f) 4 (4 + length (flat f)) h.0 d (nodes_within f 4 [] a) h.1 h.3) [
+      | inl behind ↦ inl (omega (arith, h.2, behind))
+      | inr there ↦ elim (cases_Bool (ltb 4 p)) [
+        | inl less ↦ inl (ltb-true 4 p less)
+        | inr past ↦ inr (omega (arith, h.2, there.0, ltb-false 4 p past), omega (arith, ap number_of there.1))
+      ]
+    ]
   ];
 }
 
 pub refused_among : (f : Forest) (fault : Fault) → AreNodes f → list_any is_form (nodes f) ≡ true → first_repeat [] (nodes f) ≡ Some fault → IsLeast (IsReferenceFault (nodes f)) fault
 refused_among f fault a some e =
-    let l = first_among place_of repeats repeat_causes 4 (ranked [] (nodes f)) fault all_causes (rising [] (nodes f) 4 (4 + length (flat f)) (nodes_within f 4 [] a)) e in
+    let l = first_among place_of has_fault causes 4 (ranked [] (nodes f)) fault all_causes (rising [] (nodes f) 4 (4 + length (flat f)) (nodes_within f 4 [] a)) e in
     record { told = inr l.told; least = λ d p other. elim other [ inl h ↦ absurd (some_form (nodes f) some h.0) | inr h ↦ l.least d p h ] }
 
 pub sound_among : (ns : List Placed) → list_any is_form ns ≡ true → first_repeat [] ns ≡ None → HasNone (IsReferenceFault ns)
 sound_among ns some e = λ d p other. elim other [
   | inl h ↦ some_form ns some h.0
-  | inr h ↦ none_among place_of repeats repeat_causes (ranked [] ns) all_causes e d p h
+  | inr h ↦ none_among place_of has_fault causes (ranked [] ns) all_causes e d p h
 ]
+
+-- the rules stay where the next node is none
+pub kept_on : (before : List Placed) (n : Placed) (table : RuleTable) → is_rule n ≡ false → AreKept before table → AreKept (before ++ n ∷ []) table
+kept_on before n table other kept key = kept key ∙ ap (λ (l : List Placed). kept_at l key) (sym (no_rule before n other))

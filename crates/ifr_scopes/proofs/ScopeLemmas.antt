@@ -1,7 +1,7 @@
 -- An ancestor of a node is a node whose own path is the part of the path before it.
 use Rattle.std.proofs.Common.{◌≡◌, ℕ, zero, suc, ◌+◌, ◌<◌, true, false, Option, Some, None, List, [], ◌∷◌, ◌++◌, length, map, take, get_or, refl, sym, ap, ◌∙◌, subst, inl, inr, arith, append_assoc}
 use Rattle.std.specs.Prelude.{Contains}
-use Rattle.std.specs.List.{last_or}
+use Rattle.std.specs.List.{AllByRecursion, last_or}
 use Rattle.std.proofs.lemmas.List.{append-nil}
 use Rattle.std.proofs.lemmas.List.Elements.{All-tail, Contains-get_or, Contains-append_cases, Contains-append_left, Contains-append_right, filter-append}
 use Rattle.ifr_opcodes.specs.Opcode.{number}
@@ -53,6 +53,17 @@ nests ns (node op children rest) at path nest within n (suc k, lt, e) =
 
 pub path_nests : (bytes : List ℕ) (n : Placed) → Contains (nodes_of bytes) n → Nest (nodes_of bytes) [] n.path
 path_nests bytes n within = nests (nodes_of bytes) (tree_of bytes) 4 [] tt (λ m v. v) n within
+
+-- an ancestor is one of these nodes
+abbrev pub IsOf : List Placed → Ancestor → Type 0
+IsOf ns a = (m : Placed) × Contains ns m × (as_ancestor m ≡ a)
+
+nested : (ns : List Placed) (around path : List Ancestor) → Nest ns around path → AllByRecursion (IsOf ns) path
+nested ns around [] nest = tt
+nested ns around (a ∷ path) nest = ((nest.0.node, nest.0.within, nest.0.is), nested ns (around ++ a ∷ []) path nest.1)
+
+pub path_is_of : (bytes : List ℕ) (n : Placed) → Contains (nodes_of bytes) n → AllByRecursion (IsOf (nodes_of bytes)) n.path
+path_is_of bytes n within = nested (nodes_of bytes) [] n.path (path_nests bytes n within)
 
 -- one in the middle of a path
 nest_inner : (ns : List Placed) (outer before after : List Ancestor) (a : Ancestor) → Nest ns outer (before ++ a ∷ after) → IsScopeOf ns (outer ++ before) a

@@ -8,8 +8,8 @@ use Rattle.ifr_scopes.specs.References.{IsReferenceFault}
 use Rattle.ifr_scopes.specs.Checked.{IsChecked}
 use Rattle.ifr_scopes.specs.Nodes.{nodes_of}
 
--- The faults of the framing, of each node by itself, and of nodes among each other: each part has some only where those
--- before it have none.
+-- The faults of the framing, of each node by itself or an expression, and of nodes among each other: each part has some only
+-- where those before it have none.
 abbrev pub IsPackageFault : List ℕ → Cause → ℕ → Type 0
 IsPackageFault bytes = Then (IsFramingFault bytes) (Then (IsStructureFault (nodes_of bytes)) (IsReferenceFault (nodes_of bytes)))
 

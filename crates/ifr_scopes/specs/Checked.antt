@@ -10,7 +10,7 @@ use Rattle.ifr_scopes.specs.Guards.{is_guard}
 use Rattle.ifr_scopes.specs.Nodes.{nodes_of}
 use Rattle.ifr_scopes.specs.Structure.{IsStructureFault}
 
--- The package spells a forest, and no node of it has a fault by itself.
+-- The package spells a forest, and no node of it has a fault by itself, nor an expression.
 pub record IsChecked (bytes : List ℕ) : Type 0 where
   pub header : 4 ≤ length bytes
   pub small : length bytes < 2 ^ 32

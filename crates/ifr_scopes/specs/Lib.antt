@@ -10,8 +10,11 @@ pub mod Checked
 pub mod Views
 pub mod Index
 pub mod Kept
+pub mod Rules
+pub mod KeptRules
+pub mod RuleNodes
 pub mod Scopes
 pub mod Around
 pub mod Lists
 pub mod Accepted
-pub mod MetIds
+pub mod Met

@@ -1,15 +1,19 @@
 -- The nodes of a package by what they are (UEFI 2.8, 33.3.8.3 Opcode Reference).
-use Rattle.std.specs.Prelude.{ℕ, Bool, ◌==◌, Option, Some, None, List, filter}
+use Rattle.std.specs.Prelude.{ℕ, ◌+◌, Bool, ◌==◌, Option, Some, None, List, length, filter}
 use Rattle.std.specs.List.{last_or}
 use Rattle.ifr_opcodes.specs.Fields.{question_id}
 use Rattle.ifr_opcodes.specs.Opcode.{number}
-use Rattle.ifr_opcodes.specs.Forest.{Ancestor, Placed, nodes, below}
+use Rattle.ifr_opcodes.specs.Forest.{node, none, flat, Ancestor, Placed, nodes, below}
 use Rattle.ifr_opcodes.specs.Reading.{tree_of}
 use Rattle.ifr_opcodes.specs.declared.codes.TheConstants.{FORM_SET, FORM, CHECKBOX, VARSTORE}
 
 -- the nodes of the forest that a package spells, by place
 abbrev pub nodes_of : List ℕ → List Placed
 nodes_of bytes = nodes (tree_of bytes)
+
+-- where a node ends, in bytes from the package's header: behind the END of its scope, or its opcode where it has none
+abbrev pub end_of : Placed → ℕ
+end_of n = n.place + length (flat (node n.op n.children none))
 
 abbrev pub is_form_set : Placed → Bool
 is_form_set n = number n.op == FORM_SET

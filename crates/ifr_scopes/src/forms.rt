@@ -20,7 +20,9 @@ use crate::guard_place::GuardPlace;
 use crate::guards_at::GuardsAt;
 use crate::index::{Index, index_of};
 use crate::nodes::Nodes;
+use crate::places::node_at;
 use crate::references::check_references;
+use crate::rules::{RuleTable, expression_of};
 use crate::scoped_nodes::ScopedNodes;
 use crate::statement::Statements;
 use crate::structure::check_structure;
@@ -35,6 +37,7 @@ use std::marker::Model;
 #[derive(Drop)]
 pub struct Forms<'a> {
     ifr: &'a [u8],
+    rules: RuleTable,
     index: Index,
 }
 
@@ -44,18 +47,20 @@ impl<'a> Model for Forms<'a> {
     ghost use Rattle.std.specs.Ordering.{nat_cmp};
     ghost use Rattle.ifr_scopes.specs.Accepted.{IsAccepted};
     ghost use Rattle.ifr_scopes.specs.Kept.{kept_at};
+    ghost use Rattle.ifr_scopes.specs.KeptRules.{AreKept};
     ghost use Rattle.ifr_scopes.specs.Nodes.{nodes_of};
 
     ghost Value = { List ℕ };
 
     ghost view = { λ s. s.ifr.now };
 
-    ghost invariant = { λ s. IsAccepted s.ifr.now × ((place : ℕ) → option_map (λ v. v.items) (get nat_cmp s.index place) ≡ kept_at (nodes_of s.ifr.now) place) };
+    ghost invariant = { λ s. IsAccepted s.ifr.now × ((place : ℕ) → option_map (λ v. v.items) (get nat_cmp s.index place) ≡ kept_at (nodes_of s.ifr.now) place) × AreKept (nodes_of s.ifr.now) s.rules };
 }
 
 impl<'a> Forms<'a> {
-    /// The form set of a package, or the least fault: of the framing (20 to 23), of a node by itself (24 to 31), of nodes
-    /// among each other (32, 33, 39). Places are in bytes from the package's header. Want of memory is OutOfMemory.
+    /// The form set of a package, or the least fault: of the framing (20 to 23), of a node by itself or an expression (24
+    /// to 31), of nodes among each other (32, 33, 39, 40). Places are in bytes from the package's header. Want of memory is
+    /// OutOfMemory.
     pub fn read(alloc: Global, source: Package<'a>) -> Result<Forms<'a>, Fault>
         ensures read { IfOk result (λ forms. forms ≡ source.entry.bytes.now) }
         ensures accepted { IfOk result IsAccepted }
@@ -64,9 +69,9 @@ impl<'a> Forms<'a> {
         let ifr = source.bytes;
         check_framing(ifr)?;
         check_structure(ifr)?;
-        check_references(alloc, ifr)?;
+        let rules = check_references(alloc, ifr)?;
         match index_of(alloc, ifr) {
-            Ok(index) => Ok(Forms { ifr, index }),
+            Ok(index) => Ok(Forms { ifr, rules, index }),
             Err(_) => Err(Fault::out_of_memory()),
         }
     }
@@ -146,13 +151,15 @@ impl<'a> Forms<'a> {
     }
 }
 
-// RULE is not among the opcodes of an accepted package.
 impl<'a> Rules<'a> for Forms<'a> {
-    ghost use Rattle.std.specs.Prelude.{[]};
+    ghost use Rattle.ifr_scopes.specs.Rules.{rules_of};
 
-    ghost rules = { λ _. [] };
+    ghost rules = { λ forms. rules_of forms };
 
-    fn rule(&self, _id: u8, _place: u32) -> Option<Expr<'a>> {
-        None
+    fn rule(&self, id: u8, place: u32) -> Option<Expr<'a>> {
+        let Some(rule) = self.rules.named(id, place) else {
+            return None;
+        };
+        Some(expression_of(node_at(self.ifr, rule.place)))
     }
 }

@@ -6,8 +6,8 @@ ghost use Rattle.ifr_scopes.specs.Guards.{is_guard};
 ghost use Rattle.ifr_scopes.specs.Nodes.{this_of};
 ghost use Rattle.ifr_scopes.specs.Views.{node_of};
 
+use crate::ends::end_of;
 use crate::node::Node;
-use crate::places::node_at;
 use crate::scoped_nodes::ScopedNodes;
 use ifr_expr::Expr;
 use ifr_opcodes::Op;
@@ -55,8 +55,8 @@ impl<'a> Guard<'a> {
         ensures { tree_of result ≡ tree_in ((node_of self.entry.node).place + length (node_of self.entry.node).op) (node_of self.entry.node).children }
     {
         let from = self.node.op.place + self.node.op.len() as u32;
-        let to = from + node_at(self.node.ifr, from).op().len() as u32;
-        Expr::check(self.node.ifr, from as usize, to as usize).unwrap()
+        let to = end_of(self.node.ifr, from);
+        Expr::check(self.node.ifr, from as usize, to).unwrap()
     }
 }
 

@@ -1,7 +1,9 @@
 //! The nodes of a forms package: its framing, and walks over them (UEFI 2.8, 33.3.8 Forms Package).
 #![tactic(auto)]
 
+mod ends;
 mod form;
+mod form_end;
 mod form_set;
 mod forms;
 mod framing;
@@ -16,6 +18,7 @@ mod node;
 mod nodes;
 mod places;
 mod references;
+mod rules;
 mod scoped_nodes;
 mod statement;
 mod structure;

@@ -5,7 +5,8 @@ ghost use Rattle.ifr_scopes.specs.Checked.{IsChecked, IsChecked-prop, IsAt, IsAt
 
 use crate::guards::is_guard;
 use ifr_opcodes::{
-    CHECKBOX, FORM, FORM_SET, FormOp, FormSetOp, Op, QuestionOp, StatementOp, VARSTORE, VarstoreOp,
+    CHECKBOX, FORM, FORM_SET, FormOp, FormSetOp, Op, QuestionOp, RULE, RuleOp, StatementOp,
+    VARSTORE, VarstoreOp,
 };
 
 /// A node of a package whose nodes were checked.
@@ -23,6 +24,7 @@ impl<'a> Node<'a> {
     ghost use Rattle.ifr_opcodes.specs.Opcode.{number};
     ghost use Rattle.ifr_scopes.specs.Guards.{is_guard as is_guard_number};
     ghost use Rattle.ifr_scopes.specs.Nodes as nodes;
+    ghost use Rattle.ifr_scopes.specs.Rules as rules;
     ghost use Rattle.ifr_scopes.specs.Views.{node_of};
 
     /// Its opcode.
@@ -72,6 +74,12 @@ impl<'a> Node<'a> {
         is_guard(self.op.code)
     }
 
+    pub fn is_rule(self) -> bool
+        ensures { result ≡ rules.is_rule (node_of self.entry) }
+    {
+        self.op.code == RULE
+    }
+
     /// The opcode of the form set.
     pub fn form_set(self) -> FormSetOp<'a>
         requires { nodes.is_form_set (node_of self) ≡ true }
@@ -88,6 +96,15 @@ impl<'a> Node<'a> {
         ensures bytes { bytes_of result.op ≡ (node_of self.entry).op }
     {
         FormOp { op: self.op }
+    }
+
+    /// The opcode of a rule.
+    pub fn rule(self) -> RuleOp<'a>
+        requires { rules.is_rule (node_of self) ≡ true }
+        ensures place { result.op.place ≡ (node_of self.entry).place }
+        ensures bytes { bytes_of result.op ≡ (node_of self.entry).op }
+    {
+        RuleOp { op: self.op }
     }
 
     /// The opcode of a store.

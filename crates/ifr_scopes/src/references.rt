@@ -1,35 +1,105 @@
-//! Forms and questions by their ids: whether one is named twice, and whether there is a form at all.
+//! Forms, questions and rules by their ids: whether one is named twice, whether there is a form at all, and how large the
+//! rules are.
 
-ghost use Rattle.std.specs.Prelude.{◌≡◌, Ok, None, List, [], ◌∷◌, ◌++◌, IfOk, OnOk, IfErr};
-ghost use Rattle.std.specs.List.{list_any};
+ghost use Rattle.std.specs.Prelude.{◌≡◌, ℕ, Ok, Some, None, true, false, option_map, List, [], ◌∷◌, ◌++◌, IfOk, OnOk, IfErr, IfSome};
+ghost use Rattle.std.specs.List.{list_any, last_or};
 ghost use Rattle.hii_bytes.specs.Faults.{HasNone, Refuses, first_cause};
 ghost use Rattle.ifr_opcodes.specs.Forest.{Placed};
 ghost use Rattle.ifr_scopes.specs.Checked.{IsChecked};
 ghost use Rattle.ifr_scopes.specs.Nodes.{nodes_of, is_form};
-ghost use Rattle.ifr_scopes.specs.References.{IsReferenceFault, repeats, repeat_causes};
+ghost use Rattle.ifr_scopes.specs.References.{IsReferenceFault, has_fault, causes};
+ghost use Rattle.ifr_scopes.specs.KeptRules.{AreKept};
 
+use crate::form_end::FormEnd;
 use crate::framing::HEADER;
 use crate::node::Node;
 use crate::nodes::Nodes;
+use crate::rules::{RuleTable, expression_of};
+use crate::scoped_nodes::{ScopedNode, ScopedNodes};
 use hii_bytes::{Cause, Fault};
 use std::alloc::{AllocError, Global};
 use std::collections::BTreeSet;
 
-/// The ids of the forms and of the questions that were met.
+/// What was met of a package: the ids of its forms and of its questions, its rules, and the form in which the last of
+/// these stands.
 #[derive(Drop)]
-struct MetIds {
+struct Met {
     forms: BTreeSet<u16>,
     questions: BTreeSet<u16>,
+    rules: RuleTable,
+    form: Option<FormEnd>,
 }
 
-impl MetIds {
+impl Met {
     ghost use Rattle.ifr_scopes.specs.Views.{node_of};
-    ghost use Rattle.ifr_scopes.specs.MetIds.{AreOf};
+    ghost use Rattle.ifr_scopes.specs.Met.{AreOf};
+    ghost use Rattle.ifr_scopes.specs.Around.{IsAround};
+    ghost use Rattle.ifr_scopes.specs.Checked.{node_in, has_node};
+    ghost use Rattle.ifr_scopes.specs.Nodes as ends;
+    ghost use Rattle.ifr_scopes.specs.Rules.{is_rule, form_end, forms_among};
 
-    /// Meets the next node, and tells whether its id was met before.
-    fn meet(&mut self, node: Node) -> Result<Option<Cause>, AllocError>
-        ensures told { IfOk result (λ cause. (before : List Placed) → AreOf before self.old → cause ≡ first_cause repeats record { before = before; node = node_of node.entry } repeat_causes) }
-        ensures met { result ≡ Ok None → (before : List Placed) → AreOf before self.old → AreOf (before ++ node_of node.entry ∷ []) self.new }
+    /// Nothing.
+    fn new(alloc: Global) -> Met
+        ensures { (bytes : List ℕ) → AreOf bytes [] result }
+    {
+        Met {
+            forms: BTreeSet::new(alloc),
+            questions: BTreeSet::new(alloc),
+            rules: RuleTable::new(alloc),
+            form: None,
+        }
+    }
+
+    /// Where the form at a place ends.
+    fn form_end(&mut self, ifr: &[u8], place: u32) -> u32
+        requires checked { IsChecked ifr.now }
+        requires there { has_node ifr.now place ≡ true }
+        requires known { IfSome self.old.form (λ form. form.ends ≡ ends.end_of (node_in ifr.now form.place)) }
+        ensures end { result ≡ ends.end_of (node_in ifr.entry.now place) }
+        ensures known { IfSome self.new.form (λ form. form.ends ≡ ends.end_of (node_in ifr.entry.now form.place)) }
+        ensures stays { (self.new.forms ≡ self.old.forms) × (self.new.questions ≡ self.old.questions) × (self.new.rules ≡ self.old.rules) }
+    {
+        let form = FormEnd::at(ifr, place, self.form);
+        self.form = Some(form);
+        form.ends
+    }
+
+    /// Meets the next node, and tells its fault beside those before it.
+    fn meet(&mut self, nodes: &ScopedNodes, next: &ScopedNode) -> Result<Option<Cause>, AllocError>
+        requires around { IsAround nodes.now next.now }
+        requires known { IfSome self.old.form (λ form. form.ends ≡ ends.end_of (node_in next.now.node.ifr.now form.place)) }
+        ensures told { IfOk result (λ cause. (before rest : List Placed) → before ++ node_of next.now.node ∷ rest ≡ nodes_of next.now.node.ifr.now → AreOf next.now.node.ifr.now before self.old → cause ≡ first_cause has_fault record { before = before; node = node_of next.now.node } causes) }
+        ensures met { result ≡ Ok None → (before rest : List Placed) → before ++ node_of next.now.node ∷ rest ≡ nodes_of next.now.node.ifr.now → AreOf next.now.node.ifr.now before self.old → AreOf next.now.node.ifr.now (before ++ node_of next.now.node ∷ []) self.new }
+    {
+        if !next.node.is_rule() {
+            return self.meet_other(next.node);
+        }
+        // each rule of a checked package stands in a form
+        let form = nodes.form(next).unwrap();
+        self.meet_rule(next.node, form)
+    }
+
+    /// Meets the next node, a rule in the form at a place, and tells whether it is too large.
+    fn meet_rule(&mut self, rule: Node, form: u32) -> Result<Option<Cause>, AllocError>
+        requires rule { is_rule (node_of rule) ≡ true }
+        requires form { Some form ≡ option_map (λ a. a.place) (last_or None (forms_among (node_of rule).path)) }
+        requires known { IfSome self.old.form (λ form. form.ends ≡ ends.end_of (node_in rule.ifr.now form.place)) }
+        ensures told { IfOk result (λ cause. (before rest : List Placed) → before ++ node_of rule.entry ∷ rest ≡ nodes_of rule.entry.ifr.now → AreOf rule.entry.ifr.now before self.old → cause ≡ first_cause has_fault record { before = before; node = node_of rule.entry } causes) }
+        ensures met { result ≡ Ok None → (before rest : List Placed) → before ++ node_of rule.entry ∷ rest ≡ nodes_of rule.entry.ifr.now → AreOf rule.entry.ifr.now before self.old → AreOf rule.entry.ifr.now (before ++ node_of rule.entry ∷ []) self.new }
+    {
+        let form_ends = self.form_end(rule.ifr, form);
+        let Some(size) = self.rules.size_of(expression_of(rule)) else {
+            return Ok(Some(Cause::RuleTooLarge));
+        };
+        self.rules.add(rule, form_ends, size)?;
+        Ok(None)
+    }
+
+    /// Meets the next node, which is no rule, and tells whether its id was met before.
+    fn meet_other(&mut self, node: Node) -> Result<Option<Cause>, AllocError>
+        requires other { is_rule (node_of node) ≡ false }
+        ensures told { IfOk result (λ cause. (bytes : List ℕ) (before : List Placed) → AreOf bytes before self.old → cause ≡ first_cause has_fault record { before = before; node = node_of node.entry } causes) }
+        ensures met { result ≡ Ok None → (bytes : List ℕ) (before : List Placed) → AreOf bytes before self.old → AreOf bytes (before ++ node_of node.entry ∷ []) self.new }
     {
         if node.is_form() {
             if !self.forms.insert(node.form().id())? {
@@ -59,11 +129,13 @@ fn has_form(ifr: &[u8]) -> bool
     false
 }
 
-/// Refuses a package without a form by NoForm at 4, and a form or a question whose id one before it has by DuplicateForm
-/// or DuplicateQuestion at the later one; a question may have the id 0 again (own rule). Want of memory is OutOfMemory.
-pub(crate) fn check_references(alloc: Global, ifr: &[u8]) -> Result<(), Fault>
+/// The rules of a package. A package without a form is refused by NoForm at 4, and a form or a question whose id one
+/// before it has by DuplicateForm or DuplicateQuestion at the later one; a question may have the id 0 again (own rule). A
+/// rule of a depth above 16 or a weight above 4,096 is refused by RuleTooLarge. Want of memory is OutOfMemory.
+pub(crate) fn check_references(alloc: Global, ifr: &[u8]) -> Result<RuleTable, Fault>
     requires { IsChecked ifr.now }
     ensures sound { OnOk result (HasNone (IsReferenceFault (nodes_of ifr.now))) }
+    ensures kept { IfOk result (AreKept (nodes_of ifr.now)) }
     ensures refused { IfErr result (Refuses (IsReferenceFault (nodes_of ifr.now))) }
 {
     if !has_form(ifr) {
@@ -72,17 +144,14 @@ pub(crate) fn check_references(alloc: Global, ifr: &[u8]) -> Result<(), Fault>
             place: HEADER as u64,
         });
     }
-    let mut met = MetIds {
-        forms: BTreeSet::new(alloc),
-        questions: BTreeSet::new(alloc),
-    };
-    let mut nodes = Nodes::over(ifr);
-    while let Some(node) = nodes.step() {
-        match met.meet(node) {
+    let mut met = Met::new(alloc);
+    let mut nodes = ScopedNodes::over(ifr);
+    while let Some(next) = nodes.step() {
+        match met.meet(&nodes, &next) {
             Ok(None) => {}
-            Ok(Some(cause)) => return Err(node.op().fault(cause)),
+            Ok(Some(cause)) => return Err(next.node.op().fault(cause)),
             Err(AllocError) => return Err(Fault::out_of_memory()),
         }
     }
-    Ok(())
+    Ok(met.rules)
 }

@@ -5,6 +5,7 @@ ghost use Rattle.ifr_scopes.specs.Checked.{IsChecked, IsChecked-prop, AreNodesOf
 ghost use Rattle.ifr_scopes.specs.Nodes.{nodes_of, this_of};
 ghost use Rattle.ifr_scopes.specs.Visits.{left};
 
+use crate::form_end::form_among;
 use crate::guard_place::GuardPlace;
 use crate::guards::{guards_among, this_among};
 use crate::node::Node;
@@ -29,6 +30,9 @@ pub struct ScopedNodes<'a> {
 impl<'a> ScopedNodes<'a> {
     ghost use Rattle.ifr_scopes.specs.Around.{IsAround};
     ghost use Rattle.ifr_scopes.specs.Kept.{kept_guards};
+    ghost use Rattle.std.specs.Prelude.{None, option_map};
+    ghost use Rattle.std.specs.List.{last_or};
+    ghost use Rattle.ifr_scopes.specs.Rules.{forms_among};
     ghost use Rattle.ifr_scopes.specs.Views.{node_of};
 
     /// All nodes of a package.
@@ -74,5 +78,13 @@ impl<'a> ScopedNodes<'a> {
         ensures { result ≡ this_of (node_of met.now.node) }
     {
         this_among(self.walk.bytes(), self.walk.around(met.depth))
+    }
+
+    /// The place of the innermost form around the node that was met last, if there is one.
+    pub(crate) fn form(&self, met: &ScopedNode) -> Option<u32>
+        requires { IsAround self.now met.now }
+        ensures { result ≡ option_map (λ a. a.place) (last_or None (forms_among (node_of met.now.node).path)) }
+    {
+        form_among(self.walk.bytes(), self.walk.around(met.depth))
     }
 }

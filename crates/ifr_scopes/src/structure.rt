@@ -1,26 +1,27 @@
 //! Each node by itself: whether its opcode is known, has its fields and the Scope that it wants, and whether it may stand
-//! where it stands.
+//! where it stands; and the expressions.
 
-ghost use Rattle.std.specs.Prelude.{◌≡◌, ◌≤◌, ◌<◌, ◌^◌, ◌==◌, ◌+◌, ◌&&◌, ◌||◌, not, length, map, All, OnOk, IfErr};
-ghost use Rattle.std.specs.List.{list_any};
+ghost use Rattle.std.specs.Prelude.{◌≡◌, ◌≤◌, ◌<◌, ◌^◌, length, map, option_map, All, OnOk, IfErr};
 ghost use Rattle.hii_bytes.specs.Faults.{IsLeast, HasNone, first_cause};
-ghost use Rattle.ifr_opcodes.specs.Opcode.{IsWhole, number, has_scope};
-ghost use Rattle.ifr_opcodes.specs.Ops.{bytes_of};
+ghost use Rattle.ifr_opcodes.specs.Opcode.{IsWhole, has_scope};
+ghost use Rattle.ifr_opcodes.specs.Ops.{bytes_of, op_of};
 ghost use Rattle.ifr_opcodes.specs.Forest.{Spells, Forest};
 ghost use Rattle.ifr_opcodes.specs.Reading.{tree_of, mark_at, ancestor_at};
-ghost use Rattle.ifr_scopes.specs.Guards.{is_guard as is_guard_spec};
 ghost use Rattle.ifr_scopes.specs.Nodes.{nodes_of};
 ghost use Rattle.ifr_scopes.specs.Table as table;
 ghost use Rattle.ifr_scopes.specs.Structure as structure;
 ghost use Rattle.ifr_scopes.specs.Structure.{IsStructureFault, least_cause};
 
+use crate::ends::end_of;
 use crate::framing::HEADER;
 use crate::guards::is_guard;
 use crate::table::{Class, Row, Scope};
 use crate::walk::Walk;
 use hii_bytes::{Cause, Fault};
+use ifr_expr::Expr;
 use ifr_opcodes::{
-    CHECKBOX, EQ_ID_VAL, FORM, FORM_SET, Op, SUPPRESS_IF, VARSTORE, is_operator, is_short,
+    CHECKBOX, FORM, FORM_SET, Op, RULE, SUPPRESS_IF, VARSTORE, is_listed, is_operator, is_short,
+    op_at,
 };
 
 fn row(code: u8) -> Option<Row>
@@ -32,7 +33,8 @@ fn row(code: u8) -> Option<Row>
         VARSTORE => (Scope::Never, Class::OfQuestion),
         SUPPRESS_IF => (Scope::Always, Class::OfQuestion),
         CHECKBOX => (Scope::Sometimes, Class::OfQuestion),
-        EQ_ID_VAL => (Scope::Never, Class::OfQuestion),
+        RULE => (Scope::Always, Class::OfQuestion),
+        _ if is_operator(code) => (Scope::Outermost, Class::OfExpression),
         _ => return None,
     };
     Some(Row { scope, class })
@@ -43,25 +45,28 @@ fn admits(class: Class, code: u8) -> bool
 {
     match class {
         Class::OfFormSet => code == FORM || code == VARSTORE || code == SUPPRESS_IF,
-        Class::OfForm => code == CHECKBOX || code == SUPPRESS_IF,
+        Class::OfForm => code == CHECKBOX || code == SUPPRESS_IF || code == RULE,
         Class::OfQuestion => false,
+        Class::OfExpression => is_operator(code),
     }
 }
 
-fn is_outside(op: Op) -> bool
-    ensures { result ≡ structure.is_outside (bytes_of op.entry) }
+// Whether an opcode of this number begins with an expression.
+fn wants_expression(code: u8) -> bool
+    ensures { result ≡ table.wants_expression code }
 {
-    row(op.code).is_none() || (is_operator(op.code) && op.scope)
+    is_guard(code) || code == RULE
 }
 
-fn has_wrong_scope(op: Op) -> bool
-    ensures { result ≡ structure.has_wrong_scope (table.row op.entry.code) (has_scope (bytes_of op.entry)) }
+fn has_wrong_scope(op: Op, operand: bool) -> bool
+    ensures { result ≡ structure.has_wrong_scope (table.row op.entry.code) operand (has_scope (bytes_of op.entry)) }
 {
     match row(op.code) {
         Some(row) => match row.scope {
             Scope::Always => !op.scope,
             Scope::Sometimes => false,
             Scope::Never => op.scope,
+            Scope::Outermost => operand && op.scope,
         },
         None => false,
     }
@@ -91,26 +96,52 @@ fn class_around(bytes: &[u8], places: &[u32]) -> Class
     found
 }
 
-// Whether a place is right behind the opcode of a guard at one of these places.
-fn is_condition(bytes: &[u8], at: u32, places: &[u32]) -> bool
+// The opcode of the innermost of the nodes at these places.
+fn innermost<'a>(bytes: &'a [u8], places: &[u32]) -> Option<Op<'a>>
     requires { All (λ place. IsWhole (mark_at bytes.now place).op) places.now }
-    ensures { result ≡ list_any (λ a. is_guard_spec (number a.op) && (at == a.place + length a.op)) (map (ancestor_at bytes.now) places.now) }
+    ensures { option_map op_of result ≡ structure.innermost (map (ancestor_at bytes.entry.now) places.now) }
 {
-    for place in places {
-        let op = &bytes[*place as usize..];
-        let end = *place as usize + (op[1] & 0x7f) as usize;
-        if is_guard(op[0]) && at as usize == end {
-            return true;
-        }
+    match places.last() {
+        Some(place) => op_at(bytes, *place).ok(),
+        None => None,
     }
-    false
+}
+
+// Whether what stands at a place, in the scope of an opcode, is the expression with which that begins.
+fn begins_scope(place: u32, parent: Option<Op>) -> bool
+    ensures { result ≡ structure.begins_scope place (option_map op_of parent.entry) }
+{
+    match parent {
+        Some(parent) => {
+            wants_expression(parent.code) && place as usize == parent.place as usize + parent.len()
+        }
+        None => false,
+    }
+}
+
+fn is_operator_scope(parent: Option<Op>) -> bool
+    ensures { result ≡ structure.is_operator_scope (option_map op_of parent.entry) }
+{
+    match parent {
+        Some(parent) => is_operator(parent.code),
+        None => false,
+    }
+}
+
+// Whether an expression stands at a node, by its opcode and the places around it.
+fn is_expression(bytes: &[u8], op: Op, around: &[u32]) -> bool
+    requires { All (λ place. IsWhole (mark_at bytes.now place).op) around.now }
+    ensures { (children : Forest) → result
+        ≡ structure.is_expression record { place = op.entry.place; op = bytes_of op.entry; path = map (ancestor_at bytes.now) around.now; children = children } }
+{
+    begins_scope(op.place, innermost(bytes, around)) && is_operator(op.code)
 }
 
 fn lacks_expression(first: Option<u8>) -> bool
     ensures { result ≡ structure.lacks_expression first }
 {
     match first {
-        Some(code) => row(code).is_some() && !is_operator(code),
+        Some(code) => is_listed(code) && !is_operator(code),
         None => true,
     }
 }
@@ -122,6 +153,7 @@ fn cause_of(bytes: &[u8], op: Op, around: &[u32], first: Option<u8>) -> Option<C
         result ≡ least_cause record { place = op.entry.place; op = bytes_of op.entry; path = map (ancestor_at bytes.now) around.now; children = children } }
 {
     let is_root = around.is_empty();
+    let parent = innermost(bytes, around);
     let is_first = op.place == HEADER as u32;
     if is_first && op.code != FORM_SET {
         return Some(Cause::NotFormSet);
@@ -129,29 +161,29 @@ fn cause_of(bytes: &[u8], op: Op, around: &[u32], first: Option<u8>) -> Option<C
     if is_root && !is_first {
         return Some(Cause::AfterFormSet);
     }
-    if is_outside(op) {
+    if !is_listed(op.code) {
         return Some(Cause::OpOutside);
     }
     if is_short(op) {
         return Some(Cause::OpSize);
     }
     if !is_root
-        && !is_condition(bytes, op.place, around)
+        && !begins_scope(op.place, parent)
         && !admits(class_around(bytes, around), op.code)
     {
         return Some(Cause::Misplaced);
     }
-    if has_wrong_scope(op) {
+    if has_wrong_scope(op, is_operator_scope(parent)) {
         return Some(Cause::ScopeBit);
     }
-    if is_guard(op.code) && lacks_expression(first) {
+    if wants_expression(op.code) && lacks_expression(first) {
         return Some(Cause::ExprShape);
     }
     None
 }
 
-/// Refuses a package by the least fault of a node by itself: the opcode's number, its length, where it stands, its Scope,
-/// and the expression that a guard begins with.
+/// Refuses a package by the least fault of a node by itself, which are the opcode's number, its length, where it stands,
+/// its Scope, and that an expression stands where one is wanted; or of the opcodes of an expression and their order.
 pub(crate) fn check_structure(bytes: &[u8]) -> Result<(), Fault>
     requires header { 4 ≤ length bytes.now }
     requires small { length bytes.now < 2 ^ 32 }
@@ -170,6 +202,10 @@ pub(crate) fn check_structure(bytes: &[u8]) -> Result<(), Fault>
         let around = walk.around(visit.depth);
         if let Some(cause) = cause_of(bytes, visit.op, around, walk.first_child(&visit)) {
             return Err(visit.op.fault(cause));
+        }
+        if is_expression(bytes, visit.op, around) {
+            let place = visit.op.place;
+            Expr::check(bytes, place as usize, end_of(bytes, place))?;
         }
     }
     Ok(())

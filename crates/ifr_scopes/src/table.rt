@@ -6,6 +6,8 @@ pub enum Scope {
     Always,
     Sometimes,
     Never,
+    /// Only where it is the first of an expression.
+    Outermost,
 }
 
 /// What may stand in a scope.
@@ -14,6 +16,7 @@ pub enum Class {
     OfFormSet,
     OfForm,
     OfQuestion,
+    OfExpression,
 }
 
 /// A row of the table of opcodes.

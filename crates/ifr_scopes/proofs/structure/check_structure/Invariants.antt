@@ -1,11 +1,11 @@
 use Rattle.std.proofs.Common.{◌≡◌, length}
 use Rattle.ifr_scopes.specs.Nodes.{nodes_of}
 use Rattle.ifr_scopes.specs.Visits.{left}
-use Rattle.ifr_scopes.proofs.StructureLemmas.{first_of}
+use Rattle.ifr_scopes.proofs.StructureLemmas.{Stands}
 use Rattle.ifr_scopes.proofs.structure.check_structure.Given as goal
 
 abbrev pub invariant-loop-visit : goal.invariant-loop-visit
-invariant-loop-visit l = record { same : first_of (left l.walk) ≡ first_of (nodes_of l.bytes); kept : l.walk.bytes.now ≡ l.bytes }
+invariant-loop-visit l = record { stands : Stands (nodes_of l.bytes) (left l.walk); kept : l.walk.bytes.now ≡ l.bytes }
 
 abbrev pub decreases-loop-visit : goal.decreases-loop-visit
 decreases-loop-visit l = length (left l.walk)

@@ -7,7 +7,7 @@ use Rattle.ifr_expr.specs.Checked.{marks}
 use Rattle.ifr_expr.specs.OpcodesLeft.{opcodes_left}
 use Rattle.ifr_expr.specs.Faults.{IsExpressionFault}
 use Rattle.ifr_expr.specs.Reading.{opcodes_of}
-use Rattle.ifr_expr.proofs.CheckLemmas.{Done, are_opcodes, at_start, goes_on_counting, cause_told, done, checked, means_node, several, least_all, least_opcode, not_meant, not_clear}
+use Rattle.ifr_expr.proofs.CheckLemmas.{Done, are_opcodes, at_start, goes_on_counting, cause_told, done, checked, means_node, sound_node, several, least_all, least_opcode, not_meant, not_clear}
 use Rattle.ifr_expr.proofs.expr.Expr.check.Goals as goal
 use Rattle.ifr_expr.proofs.expr.Expr.check.Goals.{In-Some-cause_of, In-Ok, In-Err, In-Ok-eq1}
 
@@ -58,6 +58,10 @@ invariant_of-result c =
 pub returns-in-Ok-eq1-clause-read : goal.returns-in-Ok-eq1-clause-read
 returns-in-Ok-eq1-clause-read c =
     means_node c.args.from (slice_range c.args.ifr.now c.args.from c.args.to) (ended (goal.at.returns-in-Ok-eq1-clause-read c).In-Ok-eq1)
+
+pub returns-in-Ok-eq1-clause-sound : goal.returns-in-Ok-eq1-clause-sound
+returns-in-Ok-eq1-clause-sound c =
+    sound_node c.args.from (slice_range c.args.ifr.now c.args.from c.args.to) (ended (goal.at.returns-in-Ok-eq1-clause-sound c).In-Ok-eq1)
 
 -- several are left
 many : (c : In-Ok) → IsLeast (IsExpressionFault c.args.from (opcodes_of c.args.from (slice_range c.args.ifr.now c.args.from c.args.to))) (record { cause = ExprShape; place = c.args.from })

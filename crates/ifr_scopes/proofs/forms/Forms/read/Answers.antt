@@ -24,12 +24,12 @@ returns-in_err-check_structure-clause-refused c =
     rw (p.1, p.2) (inr (then_second (IsFramingFault bytes) (Then (IsStructureFault (nodes_of bytes)) (IsReferenceFault (nodes_of bytes))) _ framed
     (then_first (IsStructureFault (nodes_of bytes)) (IsReferenceFault (nodes_of bytes)) _ c.in_err-check_structure.ensures.refused)))
 
-pub returns-in_err-check_references-clause-refused : goal.returns-in_err-check_references-clause-refused
-returns-in_err-check_references-clause-refused c =
+pub returns-in_err-rules-clause-refused : goal.returns-in_err-rules-clause-refused
+returns-in_err-rules-clause-refused c =
     let bytes = c.args.source.bytes.now in
     let framed = none_where_spelled bytes (tree_of bytes) c.in_ok-check_framing.ensures.spelled in
-    let p = err_from_is_err_and c.from_residual-in_err-check_references.result c.from_residual-in_err-check_references.ensures.1 in
-    rw (p.1, p.2) (elim c.in_err-check_references.ensures.refused [
+    let p = err_from_is_err_and c.from_residual-in_err-rules.result c.from_residual-in_err-rules.ensures.1 in
+    rw (p.1, p.2) (elim c.in_err-rules.ensures.refused [
       | inl memory ↦ inl memory
       | inr least ↦ inr (then_second (IsFramingFault bytes) (Then (IsStructureFault (nodes_of bytes)) (IsReferenceFault (nodes_of bytes))) _ framed
           (then_second (IsStructureFault (nodes_of bytes)) (IsReferenceFault (nodes_of bytes)) _ c.in_ok-check_structure.ensures.sound least))

@@ -1,0 +1,288 @@
+-- The faults of an expression, and those of its nodes.
+use Rattle.std.proofs.Common.{◌≡◌, ◌⊎◌, ℕ, zero, suc, ◌+◌, ◌-◌, ◌<◌, ◌≤◌, Bool, true, false, eqb, cond, Option, Some, None, List, [], ◌∷◌, ◌++◌, length, take, drop, slice_range, refl, sym, ap, subst, ◌∙◌, arith, inl, inr, lit≤, length-append}
+use Rattle.std.specs.Prelude.{Contains, ◌==◌, ◌&&◌, not, option_map}
+use Rattle.std.specs.List.{last_or}
+use Rattle.std.proofs.lemmas.Bool.{cases_Bool, eq-eqb, ne_eqb, false≢true, and_from, and_left, or_right, not_from_true, not_from_false, cond-false}
+use Rattle.std.proofs.lemmas.List.{length-drop, take_at}
+use Rattle.hii_bytes.specs.Cause.{number_of}
+use Rattle.hii_bytes.specs.declared.cause.Cause.{Cause}
+use Rattle.hii_bytes.specs.declared.cause.Cause.TheVariants.{NotFormSet, AfterFormSet, OpOutside, OpSize, Misplaced, ScopeBit, ExprShape, ExprDepth}
+use Rattle.ifr_opcodes.specs.declared.codes.TheConstants.{FORM_SET, FORM, VARSTORE, SUPPRESS_IF, GRAY_OUT_IF, DISABLE_IF, CHECKBOX, RULE}
+use Rattle.ifr_opcodes.specs.Opcode.{number, has_scope}
+use Rattle.ifr_opcodes.specs.Fields.{is_listed}
+use Rattle.ifr_opcodes.specs.Forest.{Forest, none, node, flat, AreNodes, Spells, Mark, mark, Ancestor, Placed, as_ancestor, nodes}
+use Rattle.ifr_opcodes.specs.Operators.{is_operator, operands}
+use Rattle.ifr_opcodes.proofs.ForestLemmas.{takes}
+use Rattle.ifr_expr.specs.Checked.{IsSized, AreSized}
+use Rattle.ifr_expr.specs.Faults as expr
+use Rattle.ifr_expr.specs.Faults.{IsOpcodeFault, IsShapeFault, IsExpressionFault, StandsBehind}
+use Rattle.ifr_expr.specs.Trees.{Tree, Means, need, siblings, expression}
+use Rattle.ifr_expr.specs.Reading.{IsExpressionNode, opcodes_of}
+use Rattle.ifr_expr.proofs.NodeLemmas.{is_expression_node, opcodes_are}
+use Rattle.ifr_expr.proofs.ShapeLemmas.{no_shape}
+use Rattle.ifr_scopes.specs.Guards.{is_guard}
+use Rattle.ifr_scopes.specs.Nodes.{end_of}
+use Rattle.ifr_scopes.specs.Structure.{has_fault, innermost, parent, is_condition, is_operand, is_root, has_wrong_scope, IsNodeFault}
+use Rattle.ifr_scopes.specs.Table.{row, wants_expression, class_of, class_around, admits}
+use Rattle.ifr_scopes.specs.declared.table.Row.{Row}
+use Rattle.ifr_scopes.specs.declared.table.Class.{Class}
+use Rattle.ifr_scopes.specs.declared.table.Class.TheVariants.{OfQuestion, OfExpression}
+use Rattle.ifr_scopes.specs.declared.table.Scope.TheVariants.{Outermost}
+use Rattle.ifr_scopes.proofs.BehindLemmas.{siblings_inside, is_node_of}
+use Rattle.ifr_scopes.proofs.PlaceLemmas.{node_stands}
+use Rattle.ifr_scopes.proofs.ViewLemmas.{further, below_within}
+
+-- ---- where the faults of an expression are told
+
+marks_inside : (at : ℕ) (op : List ℕ) (children : Forest) → AreNodes (node op children none) → (m : Mark) → Contains (expression at op children) m → (at ≤ m.place) × (m.place < at + length (flat (node op children none)))
+marks_inside at op children h m (zero, lt, e) =
+    let long : 2 ≤ length op = h.0.whole.long in
+    let here : at ≡ m.place = ap (λ (x : Mark). x.place) e in
+    (omega (arith, here), omega (arith, here, long, (takes op children none h).0))
+marks_inside at op children h m (suc k, lt, e) =
+    let i = siblings_inside children (at + length op) m h.1.0 (k, omega arith, e) in
+    (omega (arith, i.0), omega (arith, i.1, (takes op children none h).0))
+
+stands_among : (marks : List Mark) (trees : List Tree) (op : Mark) → StandsBehind marks trees op → Contains marks op
+stands_among marks trees op s = subst (λ (l : List Mark). Contains l op) (sym s.split) (go s.before)
+  where
+    go : (before : List Mark) → Contains (before ++ op ∷ s.behind) op
+    go [] = (0, omega arith, refl)
+    go (m ∷ before) = further m (before ++ op ∷ s.behind) op (go before)
+
+-- at one of its opcodes, or at the expression
+shape_there : (at : ℕ) (marks : List Mark) (cause : Cause) (place : ℕ) → IsShapeFault at marks cause place → (place ≡ at) ⊎ ((m : Mark) × Contains marks m × (place ≡ m.place))
+shape_there at marks ExprShape place f = elim f [
+  | inl (trees, op, s, few, e) ↦ inr (op, stands_among marks trees op s, e)
+  | inr (trees, s, several, e) ↦ inl e
+]
+shape_there at marks ExprDepth place (trees, op, s, many, zero_wanted, e) = inr (op, stands_among marks trees op s, e)
+shape_there at marks _ place f = absurd f
+
+pub fault_inside : (at : ℕ) (op : List ℕ) (children : Forest) → AreNodes (node op children none) → (cause : Cause) (place : ℕ) → IsExpressionFault at (expression at op children) cause place
+    → (at ≤ place) × (place < at + length (flat (node op children none)))
+fault_inside at op children h cause place f =
+    let all = expression at op children in
+    let first = marks_inside at op children h (record { place = at; op = op }) (0, omega arith, refl) in
+    elim f [
+      | inl (m, within, here, there) ↦ subst (λ (p : ℕ). (at ≤ p) × (p < at + length (flat (node op children none)))) here (marks_inside at op children h m within)
+      | inr (clear, shape) ↦
+          elim (shape_there at all cause place shape) [
+            | inl e ↦ subst (λ (p : ℕ). (at ≤ p) × (p < at + length (flat (node op children none)))) (sym e) first
+            | inr (m, within, e) ↦ subst (λ (p : ℕ). (at ≤ p) × (p < at + length (flat (node op children none)))) (sym e) (marks_inside at op children h m within)
+          ]
+    ]
+
+-- what is told of the order of the opcodes has the greatest numbers
+pub shape_late : (at : ℕ) (marks : List Mark) (cause : Cause) (place : ℕ) → IsShapeFault at marks cause place → 30 ≤ number_of cause
+shape_late at marks ExprShape place f = lit≤ tt
+shape_late at marks ExprDepth place f = lit≤ tt
+shape_late at marks _ place f = absurd f
+
+pub node_early : (n : Placed) (cause : Cause) → has_fault n cause ≡ true → number_of cause ≤ 30
+node_early n NotFormSet h = lit≤ tt
+node_early n AfterFormSet h = lit≤ tt
+node_early n OpOutside h = lit≤ tt
+node_early n OpSize h = lit≤ tt
+node_early n Misplaced h = lit≤ tt
+node_early n ScopeBit h = lit≤ tt
+node_early n ExprShape h = lit≤ tt
+node_early n _ h = absurd (false≢true h)
+
+-- ---- operators in the table
+
+pub second : (a b : Bool) → (a && b) ≡ true → b ≡ true
+second true b e = e
+second false b e = absurd (false≢true e)
+
+pub first : (a b : Bool) → (a && b) ≡ true → a ≡ true
+first true b e = refl
+first false b e = e
+
+-- the number of a node that is no operator
+other_number : (code other : ℕ) → is_operator other ≡ false → is_operator code ≡ true → eqb code other ≡ false
+other_number code other plain operator = ne_eqb code other (λ e. false≢true (sym plain ∙ ap is_operator (sym e) ∙ operator))
+
+no_form_set : is_operator FORM_SET ≡ false
+unfolding operands
+no_form_set = refl
+
+no_form : is_operator FORM ≡ false
+unfolding operands
+no_form = refl
+
+no_store : is_operator VARSTORE ≡ false
+unfolding operands
+no_store = refl
+
+no_rule : is_operator RULE ≡ false
+unfolding operands
+no_rule = refl
+
+no_checkbox : is_operator CHECKBOX ≡ false
+unfolding operands
+no_checkbox = refl
+
+no_suppress : is_operator SUPPRESS_IF ≡ false
+unfolding operands
+no_suppress = refl
+
+no_gray_out : is_operator GRAY_OUT_IF ≡ false
+unfolding operands
+no_gray_out = refl
+
+no_disable : is_operator DISABLE_IF ≡ false
+unfolding operands
+no_disable = refl
+
+operator_row : (code : ℕ) → is_operator code ≡ true → row code ≡ Some (record { scope = Outermost; class = OfExpression })
+operator_row code operator =
+    rw (other_number code FORM_SET no_form_set operator, other_number code FORM no_form operator, other_number code VARSTORE no_store operator, other_number code SUPPRESS_IF no_suppress operator, other_number code CHECKBOX no_checkbox operator, other_number code RULE no_rule operator, operator) refl
+
+-- what begins with an expression is no operator
+pub wants_no_operator : (code : ℕ) → is_operator code ≡ true → wants_expression code ≡ false
+wants_no_operator code operator = rw (other_number code SUPPRESS_IF no_suppress operator, other_number code GRAY_OUT_IF no_gray_out operator, other_number code DISABLE_IF no_disable operator, other_number code RULE no_rule operator) refl
+
+-- an operator is known
+listed : (code : ℕ) → is_operator code ≡ true → is_listed code ≡ true
+listed code operator = or_right _ (is_operator code) operator
+
+-- ---- the parent
+
+last-push : {X : Type 0} (found : Option X) (xs : List X) (x : X) → last_or found (xs ++ x ∷ []) ≡ Some x
+last-push found [] x = refl
+last-push found (y ∷ xs) x = last-push (Some y) xs x
+
+pub innermost-push : (path : List Ancestor) (a : Ancestor) → innermost (path ++ a ∷ []) ≡ Some (record { place = a.place; op = a.op })
+innermost-push path a = ap (λ (found : Option Ancestor). option_map (λ (b : Ancestor). record { place = b.place; op = b.op }) found) (last-push None path a)
+
+class-push : (found : Class) (path : List Ancestor) (a : Ancestor) → is_guard (number a.op) ≡ false → class_around found (path ++ a ∷ []) ≡ class_of (row (number a.op))
+class-push found [] a other = cond-false (is_guard (number a.op)) _ _ other
+class-push found (b ∷ path) a other = class-push (cond (is_guard (number b.op)) found (class_of (row (number b.op)))) path a other
+
+-- A node stands in the scope of an operator.
+pub record IsIn (n parent : Placed) : Type 0 where
+  pub path : n.path ≡ parent.path ++ as_ancestor parent ∷ []
+  pub operator : is_operator (number parent.op) ≡ true
+
+its_parent : (n p : Placed) → IsIn n p → parent n ≡ Some (mark p)
+its_parent n p i = ap innermost i.path ∙ innermost-push p.path (as_ancestor p)
+
+in_is_operand : (n p : Placed) → IsIn n p → is_operand n ≡ true
+in_is_operand n p i = rw (its_parent n p i) i.operator
+
+pub in_is_no_condition : (n p : Placed) → IsIn n p → is_condition n ≡ false
+in_is_no_condition n p i = rw (its_parent n p i) (and_left _ _ (wants_no_operator (number p.op) i.operator))
+
+in_is_no_root : (n p : Placed) → IsIn n p → is_root n ≡ false
+in_is_no_root n p i = ne_eqb (length n.path) 0 (λ e. omega (arith, e, ap length i.path, length-append p.path (as_ancestor p ∷ [])))
+
+guards_no_operator : (code : ℕ) → is_operator code ≡ true → is_guard code ≡ false
+guards_no_operator code operator = rw (other_number code SUPPRESS_IF no_suppress operator, other_number code GRAY_OUT_IF no_gray_out operator, other_number code DISABLE_IF no_disable operator) refl
+
+in_class : (n p : Placed) → IsIn n p → class_around OfQuestion n.path ≡ OfExpression
+in_class n p i =
+    ap (class_around OfQuestion) i.path ∙ class-push OfQuestion p.path (as_ancestor p) (guards_no_operator (number p.op) i.operator) ∙ ap class_of (operator_row (number p.op) i.operator)
+
+-- ---- what is wrong with an opcode by itself, as a node and as an opcode of an expression
+
+-- the expression's own opcode
+pub own_fault : (n : Placed) (cause : Cause) → is_operator (number n.op) ≡ true → expr.has_fault n.place (mark n) cause ≡ true → has_fault n cause ≡ true
+own_fault n OpOutside operator h = h
+own_fault n OpSize operator h = h
+own_fault n Misplaced operator h = absurd (false≢true (sym (not_from_true (is_operator (number n.op)) operator) ∙ h))
+own_fault n ScopeBit operator h = absurd (false≢true (sym (not_from_true (n.place == n.place) (eq-eqb n.place n.place refl)) ∙ second (has_scope n.op) _ h))
+own_fault n _ operator h = absurd (false≢true h)
+
+-- an opcode in the expression's scope, whose fault has no greater number there
+pub inner_fault : (n p : Placed) (cause : Cause) → IsIn n p → p.place < n.place → 4 < n.place → has_fault n cause ≡ true → (other : Cause) × (expr.has_fault p.place (mark n) other ≡ true) × (number_of other ≤ number_of cause)
+inner_fault n p NotFormSet i less some h = absurd (false≢true (sym (ne_eqb n.place 4 (λ e. omega arith)) ∙ first _ _ h))
+inner_fault n p AfterFormSet i less some h = absurd (false≢true (sym (in_is_no_root n p i) ∙ first _ _ h))
+inner_fault n p OpOutside i less some h = (OpOutside, h, lit≤ tt)
+inner_fault n p OpSize i less some h = (OpSize, h, lit≤ tt)
+inner_fault n p Misplaced i less some h =
+    let refused : not (admits (class_around OfQuestion n.path) (number n.op)) ≡ true = second _ _ (second _ _ h) in
+    (Misplaced, ap (λ (c : Class). not (admits c (number n.op))) (sym (in_class n p i)) ∙ refused, lit≤ tt)
+inner_fault n p ScopeBit i less some h = elim (cases_Bool (is_operator (number n.op))) [
+  | inl operator ↦
+      let scoped : has_scope n.op ≡ true = second (is_operand n) _ (ap (λ (r : Option Row). has_wrong_scope r (is_operand n) (has_scope n.op)) (sym (operator_row (number n.op) operator)) ∙ h) in
+      (ScopeBit, and_from _ _ scoped (not_from_false _ (ne_eqb n.place p.place (λ e. omega arith))), lit≤ tt)
+  | inr other ↦ (Misplaced, not_from_false _ other, lit≤ tt)
+]
+inner_fault n p ExprShape i less some h = elim (cases_Bool (is_operator (number n.op))) [
+  | inl operator ↦ absurd (false≢true (sym (wants_no_operator (number n.op) operator) ∙ first _ _ h))
+  | inr other ↦ (Misplaced, not_from_false _ other, lit≤ tt)
+]
+inner_fault n p _ i less some h = absurd (false≢true h)
+
+-- an operator that opens a scope inside of the expression's own
+scope_fault : (n p : Placed) → IsIn n p → is_operator (number n.op) ≡ true → has_scope n.op ≡ true → has_fault n ScopeBit ≡ true
+scope_fault n p i operator scoped =
+    ap (λ (r : Option Row). has_wrong_scope r (is_operand n) (has_scope n.op)) (operator_row (number n.op) operator) ∙ and_from (is_operand n) (has_scope n.op) (in_is_operand n p i) scoped
+
+-- ---- an expression that was read
+
+-- The expression at a node means a tree within the bound, of operators that have all their fields.
+pub record IsRead (n : Placed) : Type 0 where
+  pub tree : Tree
+  pub means : Means (expression n.place n.op n.children) tree
+  pub within : need tree ≤ 64
+  pub sized : AreSized (expression n.place n.op n.children)
+
+is_sized : (marks : List Mark) (m : Mark) → AreSized marks → Contains marks m → IsSized m
+is_sized [] m all (k, lt, e) = absurd (omega arith)
+is_sized (x ∷ marks) m all (zero, lt, e) = subst IsSized e all.0
+is_sized (x ∷ marks) m all (suc k, lt, e) = is_sized marks m all.1 (k, omega arith, e)
+
+-- What is wrong with it is the Scope of a node in its own.
+pub read_fault : (f : Forest) (n : Placed) (cause : Cause) (place : ℕ) → Contains (nodes f) n → IsRead n → IsExpressionFault n.place (expression n.place n.op n.children) cause place → IsNodeFault (nodes f) cause place
+read_fault f n cause place within r (inr (clear, shape)) = absurd (no_shape n.place (expression n.place n.op n.children) r.tree r.means r.within cause place shape)
+read_fault f n cause place within r (inl (m, (zero, lt, e), here, there)) = absurd (own cause (ap (λ (x : Mark). expr.has_fault n.place x cause) e ∙ there))
+  where
+    operator : is_operator (number n.op) ≡ true
+    operator = r.sized.0.operator
+
+    own : (cause : Cause) → expr.has_fault n.place (mark n) cause ≡ true → ⊥
+    own OpOutside h = false≢true (sym (not_from_true _ (listed (number n.op) operator)) ∙ h)
+    own OpSize h = false≢true (sym r.sized.0.sized ∙ h)
+    own Misplaced h = false≢true (sym (not_from_true _ operator) ∙ h)
+    own ScopeBit h = false≢true (sym (not_from_true (n.place == n.place) (eq-eqb n.place n.place refl)) ∙ second (has_scope n.op) _ h)
+    own _ h = false≢true h
+read_fault f n cause place within r (inl (m, (suc k, lt, e), here, there)) = inner cause there
+  where
+    sized : IsSized m
+    sized = is_sized (siblings (n.place + length n.op) n.children) m r.sized.1 (k, omega arith, e)
+
+    inner : (cause : Cause) → expr.has_fault n.place m cause ≡ true → IsNodeFault (nodes f) cause place
+    inner OpOutside h = absurd (false≢true (sym (not_from_true _ (listed (number m.op) sized.operator)) ∙ h))
+    inner OpSize h = absurd (false≢true (sym sized.sized ∙ h))
+    inner Misplaced h = absurd (false≢true (sym (not_from_true _ sized.operator) ∙ h))
+    inner ScopeBit h =
+        let found = is_node_of n.children (n.place + length n.op) (n.path ++ as_ancestor n ∷ []) m (k, omega arith, e) in
+        let i : IsIn found.0 n = record { path = found.3; operator = r.sized.0.operator } in
+        let operator : is_operator (number found.0.op) ≡ true = ap (λ (x : Mark). is_operator (number x.op)) found.2 ∙ sized.operator in
+        let scoped : has_scope found.0.op ≡ true = ap (λ (x : Mark). has_scope x.op) found.2 ∙ first (has_scope m.op) _ h in
+        (found.0, below_within f 4 [] n found.0 within found.1, ap (λ (x : Mark). x.place) found.2 ∙ here, scope_fault found.0 n i operator scoped)
+    inner _ h = absurd (false≢true h)
+
+-- ---- the bytes of an expression
+
+pub record StandsFrom (bytes : List ℕ) (n : Placed) (from to : ℕ) : Type 0 where
+  pub ordered : from ≤ to
+  pub within : to ≤ length bytes
+  pub opcodes : opcodes_of from (slice_range bytes from to) ≡ expression n.place n.op n.children
+  pub is_node : IsExpressionNode (slice_range bytes from to)
+
+pub stands_from : (bytes : List ℕ) (f : Forest) (n : Placed) (from to : ℕ) → Spells bytes f → Contains (nodes f) n → is_operator (number n.op) ≡ true → from ≡ n.place → to ≡ end_of n → StandsFrom bytes n from to
+stands_from bytes f n from to s within operator begins ends =
+    let its = flat (node n.op n.children none) in
+    let stood = node_stands bytes f n s within in
+    let gap : end_of n - n.place ≡ length its = omega arith in
+    let there : slice_range bytes n.place (end_of n) ≡ its = ap (λ (k : ℕ). take k (drop n.place bytes)) gap ∙ ap (take (length its)) stood.1 ∙ take_at its stood.0 (length its) refl in
+    let long : 2 ≤ length n.op = stood.2.0.whole.long in
+    rw (begins, ends) (record {
+      ordered = omega arith;
+      within = omega (arith, long, (takes n.op n.children none stood.2).0, ap length stood.1, length-drop n.place bytes, length-append its stood.0);
+      opcodes = opcodes_are n.place (slice_range bytes n.place (end_of n)) n.op n.children stood.2 there;
+      is_node = is_expression_node (slice_range bytes n.place (end_of n)) n.op n.children stood.2 there operator;
+    })

@@ -1,0 +1,13 @@
+use Rattle.std.proofs.Common.{sym, ◌∙◌}
+use Rattle.ifr_scopes.specs.Views.{node_of}
+use Rattle.ifr_scopes.proofs.MetRuleLemmas.{some_form}
+use Rattle.ifr_scopes.proofs.NodeFactLemmas.{is_node}
+use Rattle.ifr_scopes.proofs.references.Met.meet.Goals as goal
+
+pub unwrap-form-requires : goal.unwrap-form-requires
+unwrap-form-requires c =
+    let view = c.args.next.now.node in
+    some_form view.ifr.now (node_of view) c.form.result view.checked (is_node view.ifr.now view.op.place _ view.checked view.stands) (sym c.is_rule.ensures ∙ c.if-not-is_rule.false) c.form.ensures
+
+pub returns-then-not-is_rule-clause-met : goal.returns-then-not-is_rule-clause-met
+returns-then-not-is_rule-clause-met c = λ ok before rest split known. c.meet_other.ensures.met ok c.args.next.now.node.ifr.now before known

@@ -1,0 +1,45 @@
+use Rattle.std.proofs.Common.{◌≡◌, ℕ, ◌+◌, ◌-◌, List, length, sym, ap, subst, arith}
+use Rattle.ifr_expr.specs.Expressions.{tree_of}
+use Rattle.ifr_expr.proofs.NodeLemmas.{is_expression_node}
+use Rattle.ifr_scopes.specs.Nodes.{end_of}
+use Rattle.ifr_scopes.specs.Rules.{expression_place}
+use Rattle.ifr_scopes.specs.Views.{node_of}
+use Rattle.ifr_scopes.proofs.RuleExpressionLemmas.{Holds, holds, none_there, is_its_tree}
+use Rattle.ifr_scopes.proofs.NodeFactLemmas.{is_node}
+use Rattle.ifr_scopes.proofs.rules.expression_of.Goals as goal
+use Rattle.ifr_scopes.proofs.rules.expression_of.Goals.{After-end_of-to}
+
+-- the expression stands there
+its : (c : After-end_of-to) → Holds c.args.rule.ifr.now (node_of c.args.rule) (c.args.rule.op.place + c.len.result) (c.end_of-to.result - 2)
+its c =
+    let view = c.args.rule in
+    let bytes = view.ifr.now in
+    let n = node_of view in
+    let from : expression_place n ≡ view.op.place + c.len.result = omega (arith, view.stands.placed, ap (λ (l : List ℕ). length l) view.stands.opcode, c.len.ensures) in
+    let to : end_of n - 2 ≡ c.end_of-to.result - 2 = ap (λ (k : ℕ). k - 2) (sym c.end_of-to.ensures) in
+    subst (λ (k : ℕ). Holds bytes n k (c.end_of-to.result - 2)) from (subst (Holds bytes n (expression_place n)) to (holds bytes n view.checked (is_node bytes view.op.place _ view.checked view.stands) c.requires))
+
+pub check-requires-clause-ordered : goal.check-requires-clause-ordered
+check-requires-clause-ordered c = (its (goal.at.check-requires-clause-ordered c).After-end_of-to).ordered
+
+pub check-requires-clause-within : goal.check-requires-clause-within
+check-requires-clause-within c = let h = its (goal.at.check-requires-clause-within c).After-end_of-to in omega (arith, h.ends, h.within)
+
+pub check-requires-clause-node : goal.check-requires-clause-node
+check-requires-clause-node c =
+    let h = its (goal.at.check-requires-clause-node c).After-end_of-to in
+    is_expression_node _ h.op h.inner h.are_nodes h.bytes_there h.operator
+
+pub unwrap-requires : goal.unwrap-requires
+unwrap-requires c =
+    let h = its (goal.at.unwrap-requires c).After-end_of-to in
+    c.check.ensures.accepted (none_there c.args.rule.ifr.now (node_of c.args.rule) _ _ h)
+
+pub returns-clause-tree : goal.returns-clause-tree
+returns-clause-tree c =
+    let h = its (goal.at.returns-clause-tree c).After-end_of-to in
+    let read = rw c.unwrap.ensures at c.check.ensures.read in
+    is_its_tree c.args.rule.ifr.now (node_of c.args.rule) _ _ h (tree_of c.unwrap.result) read
+
+pub check-requires-clause-small : goal.check-requires-clause-small
+check-requires-clause-small c = let h = its (goal.at.check-requires-clause-small c).After-end_of-to in omega (arith, h.ends, h.within, c.args.rule.checked.small)
