@@ -7,6 +7,14 @@ END_PACKAGE = bytes([4, 0, 0, 0xDF])
 FORM_SET_GUID = bytes([0x22]) * 16
 VARSTORE_GUID = bytes([0x33]) * 16
 
+# The kinds of the values of options and defaults (UEFI 2.8, 33.3.8.3, EFI_IFR_ONE_OF_OPTION).
+NUMBER_1, NUMBER_2, NUMBER_4, NUMBER_8, BOOLEAN, STRING_ID, OTHER, BUFFER = 0, 1, 2, 3, 4, 7, 8, 0x0B
+WIDTHS = {NUMBER_1: 1, NUMBER_2: 2, NUMBER_4: 4, NUMBER_8: 8, BOOLEAN: 1, STRING_ID: 2}
+
+# How a numeric question shows its value, and the flags of an ordered list (EFI_IFR_NUMERIC, EFI_IFR_ORDERED_LIST).
+SIGNED, UNSIGNED, HEXADECIMAL = 0x00, 0x10, 0x20
+UNIQUE_SET, NO_EMPTY_SET = 1, 2
+
 
 def u16(n):
     return n.to_bytes(2, "little")
@@ -16,22 +24,130 @@ def u32(n):
     return n.to_bytes(4, "little")
 
 
+def little(n, width):
+    return n.to_bytes(width, "little", signed=n < 0)
+
+
+def opcode(code, fields=b"", length=None):
+    """An opcode with its fields. Its header tells its length, or the one that is given."""
+    return bytes([code, 2 + len(fields) if length is None else length]) + fields
+
+
+def scoped(op, *children):
+    """An opcode with Scope, and what stands in its scope."""
+    return bytes([op[0], op[1] | 0x80]) + op[2:] + b"".join(children) + END
+
+
 def form_set():
     return bytes([0x0E, 0x97]) + FORM_SET_GUID + u16(1) + u16(0) + bytes([0])
 
 
 def varstore(store, size):
     """A buffer store whose name is `V`."""
-    return bytes([0x24, 0x18]) + VARSTORE_GUID + u16(store) + u16(size) + b"V\0"
+    return opcode(0x24, VARSTORE_GUID + u16(store) + u16(size) + b"V\0")
+
+
+def varstore_efi(store, size):
+    """A buffer store with the attributes of a variable, whose name is `V`."""
+    return opcode(0x26, u16(store) + VARSTORE_GUID + u32(7) + u16(size) + b"V\0")
+
+
+def varstore_name_value(store):
+    return opcode(0x25, u16(store) + VARSTORE_GUID)
+
+
+def default_store(name, default):
+    return opcode(0x5C, u16(name) + u16(default))
 
 
 def form(number, title=2):
     return bytes([0x01, 0x86]) + u16(number) + u16(title)
 
 
-def checkbox(question, offset, store=1, flags=0):
-    """A checkbox whose prompt is the string of its question's id and two."""
-    return bytes([0x06, 0x0E]) + u16(question + 2) + u16(0) + u16(question) + u16(store) + u16(offset) + bytes([flags, 0])
+def statement(code, prompt, fields):
+    """A statement that is no question."""
+    return opcode(code, u16(prompt) + u16(0) + fields)
+
+
+def subtitle(prompt):
+    return statement(0x02, prompt, bytes([0]))
+
+
+def text_statement(prompt, second):
+    return statement(0x03, prompt, u16(second))
+
+
+def reset_button(prompt, default=0):
+    return statement(0x0D, prompt, u16(default))
+
+
+def question(code, number, offset, fields, store=1, flags=0):
+    """A question whose prompt is the string of its id and two."""
+    return statement(code, number + 2, u16(number) + u16(store) + u16(offset) + bytes([flags]) + fields)
+
+
+def checkbox(number, offset, store=1, flags=0):
+    return question(0x06, number, offset, bytes([0]), store, flags)
+
+
+def bounds(display, width, least, most):
+    """Flags with a display and a width in bytes, a minimum, a maximum and a step of 4."""
+    flags = display | {1: 0, 2: 1, 4: 2, 8: 3}[width]
+    return bytes([flags]) + little(least, width) + little(most, width) + little(4, width)
+
+
+def numeric(number, offset, display, width, least, most, **header):
+    """A number of so many bytes, within bounds."""
+    return question(0x07, number, offset, bounds(display, width, least, most), **header)
+
+
+def one_of(number, offset, width=1, **header):
+    """A choice, whose options stand in its scope. It has bounds that none of them meets."""
+    return question(0x05, number, offset, bounds(UNSIGNED, width, 0, 0), **header)
+
+
+def ordered_list(number, offset, most, flags=0, **header):
+    """A list of at most so many of the options in its scope."""
+    return question(0x23, number, offset, bytes([most, flags]), **header)
+
+
+def option(text, value, kind=NUMBER_1, flags=0):
+    return opcode(0x09, u16(text) + bytes([flags, kind]) + little(value, WIDTHS[kind]))
+
+
+def string_question(number, offset, least, most, **header):
+    """A text of so many characters at least and at most."""
+    return question(0x1C, number, offset, bytes([least, most, 0]), **header)
+
+
+def password(number, offset, least, most, **header):
+    return question(0x08, number, offset, u16(least) + u16(most), **header)
+
+
+def date(number, store=0, flags=0):
+    return question(0x1A, number, 0, bytes([0]), store, flags)
+
+
+def time(number, store=0):
+    return question(0x1B, number, 0, bytes([0]), store)
+
+
+def action(number):
+    return question(0x0C, number, 0, b"", 0)
+
+
+def ref(number, fields):
+    """A reference, whose fields behind those of a question begin with the id of its form."""
+    return question(0x0F, number, 0, fields, 0)
+
+
+def default(number, kind, value=b""):
+    return opcode(0x5B, u16(number) + bytes([kind]) + value)
+
+
+def value(says):
+    """The VALUE of a default, which an expression says."""
+    return scoped(opcode(0x5A), says)
 
 
 def suppress_if():
@@ -39,12 +155,12 @@ def suppress_if():
 
 
 def eq_id_val(question, value):
-    return bytes([0x12, 0x06]) + u16(question) + u16(value)
+    return opcode(0x12, u16(question) + u16(value))
 
 
 def operator(code, fields=b""):
     """An operator of an expression (UEFI 2.8, 33.3.8.3)."""
-    return bytes([code, 2 + len(fields)]) + fields
+    return opcode(code, fields)
 
 
 def uint8(n):
@@ -55,18 +171,22 @@ def rule_ref(number):
     return operator(0x3F, bytes([number]))
 
 
+def question_ref(number):
+    return operator(0x40, u16(number))
+
+
 def expression(first, *others):
     """An expression of these operators: the first has Scope where there are more."""
-    return bytes([first[0], first[1] | 0x80]) + first[2:] + b"".join(others) + END if others else first
+    return scoped(first, *others) if others else first
 
 
 def suppressed(condition, *statements):
     """Statements that are hidden while a condition holds."""
-    return suppress_if() + condition + b"".join(statements) + END
+    return scoped(suppress_if(), condition, *statements)
 
 
 def rule(number, value):
-    return bytes([0x18, 0x83, number]) + value + END
+    return scoped(opcode(0x18, bytes([number])), value)
 
 
 def base(size=2):

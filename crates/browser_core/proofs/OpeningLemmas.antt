@@ -71,8 +71,8 @@ accepted_no_fault ifr a =
 
 browsable_no_fault : (ifr : List ℕ) → IsBrowsable ifr → HasNone (IsFormSetFault ifr)
 browsable_no_fault ifr b =
-    then_none (IsPackageFault ifr) (Then (IsStoreFault (nodes_of ifr)) (IsQuestionFault (nodes_of ifr) (layout_in ifr))) (accepted_no_fault ifr b.accepted)
-    (then_none (IsStoreFault (nodes_of ifr)) (IsQuestionFault (nodes_of ifr) (layout_in ifr)) b.stores b.questions)
+    then_none (IsPackageFault ifr) (Then (IsStoreFault (nodes_of ifr)) (IsQuestionFault (nodes_of ifr))) (accepted_no_fault ifr b.accepted)
+    (then_none (IsStoreFault (nodes_of ifr)) (IsQuestionFault (nodes_of ifr)) b.stores b.questions)
 
 -- its forms package of the number is found, these are its bytes, and its string packages say this
 pub record IsFound (list : List ℕ) (n : ℕ) (ifr : List ℕ) : Type 0 where
@@ -139,20 +139,20 @@ refuses_form_set list n stores ifr fault f r =
 
 pub refuses_package : (list : List ℕ) (n : ℕ) (stores ifr : List ℕ) (fault : Fault) → IsFound list n ifr → Refuses (IsPackageFault ifr) fault → Refuses (IsOpenFault list n stores) fault
 refuses_package list n stores ifr fault f r =
-    refuses_form_set list n stores ifr fault f (refuses_first (IsPackageFault ifr) (Then (IsStoreFault (nodes_of ifr)) (IsQuestionFault (nodes_of ifr) (layout_in ifr))) fault r)
+    refuses_form_set list n stores ifr fault f (refuses_first (IsPackageFault ifr) (Then (IsStoreFault (nodes_of ifr)) (IsQuestionFault (nodes_of ifr))) fault r)
 
 pub refuses_stores : (list : List ℕ) (n : ℕ) (stores ifr : List ℕ) (fault : Fault) → IsFound list n ifr → IsAccepted ifr → Refuses (IsStoreFault (nodes_of ifr)) fault → Refuses (IsOpenFault list n stores) fault
 refuses_stores list n stores ifr fault f a r =
     refuses_form_set list n stores ifr fault f
-    (refuses_second (IsPackageFault ifr) (Then (IsStoreFault (nodes_of ifr)) (IsQuestionFault (nodes_of ifr) (layout_in ifr))) fault (accepted_no_fault ifr a)
-    (refuses_first (IsStoreFault (nodes_of ifr)) (IsQuestionFault (nodes_of ifr) (layout_in ifr)) fault r))
+    (refuses_second (IsPackageFault ifr) (Then (IsStoreFault (nodes_of ifr)) (IsQuestionFault (nodes_of ifr))) fault (accepted_no_fault ifr a)
+    (refuses_first (IsStoreFault (nodes_of ifr)) (IsQuestionFault (nodes_of ifr)) fault r))
 
 pub refuses_questions : (list : List ℕ) (n : ℕ) (stores ifr : List ℕ) (shape : Shape) (fault : Fault) → IsFound list n ifr → IsAccepted ifr
-    → HasNone (IsStoreFault (nodes_of ifr)) → shape ≡ layout_in ifr → Refuses (IsQuestionFault (nodes_of ifr) shape) fault → Refuses (IsOpenFault list n stores) fault
+    → HasNone (IsStoreFault (nodes_of ifr)) → shape ≡ layout_in ifr → Refuses (IsQuestionFault (nodes_of ifr)) fault → Refuses (IsOpenFault list n stores) fault
 refuses_questions list n stores ifr shape fault f a sound laid r =
     refuses_form_set list n stores ifr fault f
-    (refuses_second (IsPackageFault ifr) (Then (IsStoreFault (nodes_of ifr)) (IsQuestionFault (nodes_of ifr) (layout_in ifr))) fault (accepted_no_fault ifr a)
-    (refuses_second (IsStoreFault (nodes_of ifr)) (IsQuestionFault (nodes_of ifr) (layout_in ifr)) fault sound (subst (λ shape. Refuses (IsQuestionFault (nodes_of ifr) shape) fault) laid r)))
+    (refuses_second (IsPackageFault ifr) (Then (IsStoreFault (nodes_of ifr)) (IsQuestionFault (nodes_of ifr))) fault (accepted_no_fault ifr a)
+    (refuses_second (IsStoreFault (nodes_of ifr)) (IsQuestionFault (nodes_of ifr)) fault sound r))
 
 as_memory : (fault : Fault) → IsNoMemory fault → fault ≡ out_of_memory
 as_memory fault (cause, place) = let whole : ◌≡◌ {A = Fault} record { cause = fault.cause; place = fault.place } out_of_memory = cc in whole
@@ -162,11 +162,11 @@ image_refuses IsFault fault (inl memory) = inl (as_memory fault memory)
 image_refuses IsFault fault (inr least) = inr least
 
 -- a package that can be browsed, of its parts
-pub browsable : (ifr : List ℕ) (shape : Shape) → IsAccepted ifr → HasNone (IsStoreFault (nodes_of ifr)) → shape ≡ layout_in ifr → HasNone (IsQuestionFault (nodes_of ifr) shape) → IsBrowsable ifr
+pub browsable : (ifr : List ℕ) (shape : Shape) → IsAccepted ifr → HasNone (IsStoreFault (nodes_of ifr)) → shape ≡ layout_in ifr → HasNone (IsQuestionFault (nodes_of ifr)) → IsBrowsable ifr
 browsable ifr shape a sound laid questions = record {
   accepted = a;
   stores = sound;
-  questions = subst (λ shape. HasNone (IsQuestionFault (nodes_of ifr) shape)) laid questions;
+  questions = questions;
 }
 
 pub refuses_image : (list : List ℕ) (n : ℕ) (stores ifr : List ℕ) (shape : Shape) (fault : Fault) → IsFound list n ifr → IsBrowsable ifr

@@ -9,6 +9,7 @@ use Rattle.ifr_expr.specs.Meaning.{leaf_value}
 use Rattle.ifr_expr.specs.Reading.{trees_of, tree_of_opcodes}
 use Rattle.unicode_width.proofs.Computing.{unicode_width}
 use Rattle.sibt_strings.specs.Units.{chars_of_units}
+use Rattle.ifr_scopes.specs.Kinds.{is_question_number, is_statement_number, is_store_number}
 use Rattle.hii_languages.specs.Languages.{Spoken}
 use Rattle.hii_varstore.specs.Image.{image_of}
 use Rattle.hii_varstore.specs.Stores.{StoreMap, with_bytes}
@@ -58,7 +59,7 @@ one_checkbox = (75 ∷ 0 ∷ 0 ∷ 2 ∷ []) ++ before ++ checkbox 1 0 ++ end ++
 
 a_checkbox_is_set : (outcome_of (started one_checkbox (0 ∷ 0 ∷ [])) (codes "page\nset 1 1\nsubmit\n")).text
     ≡ codes "FORM 1 #2\n  1 *     1 #3                       [ ]\nOK\nOK 1\nCHANGED 1\n"
-unfolding cut levels tree_of number_in with_bytes digits unicode_width
+unfolding cut levels tree_of number_in with_bytes digits unicode_width is_question_number is_statement_number is_store_number
 a_checkbox_is_set = refl
 
 -- the image that is written then
@@ -66,7 +67,7 @@ abbrev set_image : List ℕ
 set_image = codes "HVS2" ++ replicate 16 0x22 ++ (1 ∷ 0 ∷ 1 ∷ 0 ∷ 2 ∷ 0 ∷ 1 ∷ 0 ∷ [])
 
 a_set_checkbox_is_submitted : image_of (outcome_of (started one_checkbox (0 ∷ 0 ∷ [])) (codes "page\nset 1 1\nsubmit\n")).state.committed ≡ set_image
-unfolding cut levels tree_of number_in with_bytes digits unicode_width image_of
+unfolding cut levels tree_of number_in with_bytes digits unicode_width image_of is_question_number is_statement_number is_store_number
 a_set_checkbox_is_submitted = refl
 
 -- ---- the prompt of a checkbox in two languages
@@ -80,7 +81,7 @@ in_english = record (started one_checkbox (0 ∷ 0 ∷ [])) { spoken = speaking 
 
 a_prompt_is_shown : (outcome_of in_english (codes "page\nlang DE-at\npage\n")).text
     ≡ codes "FORM 1 #2\n  1 *     1 A                        [ ]\nOK\nFORM 1 #2\n  1 *     1 B                        [ ]\n"
-unfolding cut levels tree_of number_in with_bytes digits unicode_width chars_of_units
+unfolding cut levels tree_of number_in with_bytes digits unicode_width chars_of_units is_question_number is_statement_number is_store_number
 a_prompt_is_shown = refl
 
 -- ---- a checkbox is hidden while another one is set
@@ -90,7 +91,7 @@ two_checkboxes = (99 ∷ 0 ∷ 0 ∷ 2 ∷ []) ++ before ++ suppress_if ++ equal
 
 a_hidden_checkbox_is_denied : (outcome_of (started two_checkboxes (0 ∷ 1 ∷ [])) (codes "page\nset 1 1\nset 2 0\npage\n")).text
     ≡ codes "FORM 1 #2\n  1 *     2 #4                       [x]\nDENIED suppressif at 00000039\nOK\nFORM 1 #2\n  1 *     1 #3                       [ ]\n  2 *     2 #4                       [ ]\n"
-unfolding cut levels tree_of number_in with_bytes digits unicode_width operands trees_of tree_of_opcodes leaf_value
+unfolding cut levels tree_of number_in with_bytes digits unicode_width operands trees_of tree_of_opcodes leaf_value is_question_number is_statement_number is_store_number
 a_hidden_checkbox_is_denied = refl
 
 -- ---- a checkbox that hides itself
@@ -99,9 +100,9 @@ abbrev hiding_itself : List ℕ
 hiding_itself = (85 ∷ 0 ∷ 0 ∷ 2 ∷ []) ++ before ++ suppress_if ++ equal_to 1 1 ++ checkbox 1 0 ++ end ++ end ++ end
 
 an_unset_one_is_seen : (outcome_of (started hiding_itself (0 ∷ 0 ∷ [])) (codes "page\n")).text ≡ codes "FORM 1 #2\n  1 *     1 #3                       [ ]\n"
-unfolding cut levels tree_of number_in with_bytes digits unicode_width operands trees_of tree_of_opcodes leaf_value
+unfolding cut levels tree_of number_in with_bytes digits unicode_width operands trees_of tree_of_opcodes leaf_value is_question_number is_statement_number is_store_number
 an_unset_one_is_seen = refl
 
 a_set_one_is_not_seen : (outcome_of (started hiding_itself (1 ∷ 0 ∷ [])) (codes "page\n")).text ≡ codes "FORM 1 #2\n"
-unfolding cut levels tree_of number_in with_bytes digits unicode_width operands trees_of tree_of_opcodes leaf_value
+unfolding cut levels tree_of number_in with_bytes digits unicode_width operands trees_of tree_of_opcodes leaf_value is_question_number is_statement_number is_store_number
 a_set_one_is_not_seen = refl

@@ -1,10 +1,10 @@
 -- What commands leave as it is.
-use Rattle.std.specs.Prelude.{◌≡◌, ◌⊎◌, ℕ, ◌+◌, ◌<◌, ◌≤◌, Some, List, [], ◌∷◌}
+use Rattle.std.specs.Prelude.{◌≡◌, ◌⊎◌, ℕ, ◌+◌, ◌<◌, ◌≤◌, Option, Some, None, List, [], ◌∷◌}
 use Rattle.ifr_opcodes.specs.Forest.{Placed}
 use Rattle.ifr_scopes.specs.Nodes.{nodes_of}
 use Rattle.hii_varstore.specs.Stores.{byte_of}
 use Rattle.hii_questions.specs.Fields.{Field, field_of, question_with}
-use Rattle.hii_commands.specs.Orders.{Order, SetValue}
+use Rattle.hii_commands.specs.Orders.{Order, SetValue, OrderElements, SetText}
 use Rattle.browser_core.specs.State.{State}
 use Rattle.browser_core.specs.Step.{step}
 use Rattle.browser_core.specs.declared.reply.Reply.TheVariants.{Accepted}
@@ -14,12 +14,18 @@ abbrev pub state_with : State → List Order → State
 state_with s [] = s
 state_with s (order ∷ orders) = state_with (step s order).state orders
 
+-- the id of the question that a command sets, if it sets one
+abbrev pub id_set : Order → Option ℕ
+id_set (SetValue id value) = Some id
+id_set (OrderElements id numbers) = Some id
+id_set (SetText id text) = Some id
+id_set order = None
+
 -- The command sets the question of an id, whose field has this byte of a store, and is carried out.
 abbrev pub SetsByte : State → Order → ℕ → ℕ → Type 0
-SetsByte s (SetValue id value) store at =
-    (n : Placed) × (field : Field) × (question_with (nodes_of s.ifr) id ≡ Some n) × (field_of n.op ≡ Some field)
-    × (store ≡ field.store) × (field.offset ≤ at) × (at < field.offset + field.width) × ((step s (SetValue id value)).reply ≡ Accepted)
-SetsByte s _ store at = ⊥
+SetsByte s order store at =
+    (id : ℕ) × (n : Placed) × (field : Field) × (id_set order ≡ Some id) × (question_with (nodes_of s.ifr) id ≡ Some n) × (field_of (nodes_of s.ifr) n ≡ Some field)
+    × (store ≡ field.store) × (field.offset ≤ at) × (at < field.offset + field.width) × ((step s order).reply ≡ Accepted)
 
 -- one of some commands does so
 abbrev pub SomeSetsByte : State → List Order → ℕ → ℕ → Type 0

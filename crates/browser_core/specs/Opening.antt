@@ -46,7 +46,7 @@ IsSourceFault list n = Then (IsListFault list) (IsFormsFault list n)
 
 -- the faults of a forms package, then of its stores, then of its questions
 abbrev pub IsFormSetFault : List ℕ → Cause → ℕ → Type 0
-IsFormSetFault ifr = Then (IsPackageFault ifr) (Then (IsStoreFault (nodes_of ifr)) (IsQuestionFault (nodes_of ifr) (layout_in ifr)))
+IsFormSetFault ifr = Then (IsPackageFault ifr) (Then (IsStoreFault (nodes_of ifr)) (IsQuestionFault (nodes_of ifr)))
 
 -- the faults of a forms package, then of the image of its stores
 abbrev pub IsBrowsingFault : List ℕ → List ℕ → Cause → ℕ → Type 0
@@ -61,7 +61,7 @@ IsOpenFault list n image = Then (IsSourceFault list n) (Then (IsTextFault list) 
 pub record IsBrowsable (ifr : List ℕ) : Type 0 where
   pub accepted : IsAccepted ifr
   pub stores : HasNone (IsStoreFault (nodes_of ifr))
-  pub questions : HasNone (IsQuestionFault (nodes_of ifr) (layout_in ifr))
+  pub questions : HasNone (IsQuestionFault (nodes_of ifr))
 
 -- The list spells packages, among them a forms package of the number, which can be browsed; its string packages say texts,
 -- of which those for the language are shown; the image spells its stores, with which a session begins, at the first form.

@@ -9,13 +9,14 @@ use Rattle.ifr_scopes.specs.Nodes.{nodes_of, is_question}
 use Rattle.hii_languages.specs.Languages.{chosen}
 use Rattle.hii_varstore.specs.Stores.{StoreMap, field_of as bytes_of_field, with_bytes}
 use Rattle.hii_questions.specs.Fields.{Field, field_of, question_with}
-use Rattle.hii_questions.specs.Inputs.{Offer, whole, fits}
+use Rattle.hii_questions.specs.Inputs.{Offer, whole, listed, utf8}
+use Rattle.hii_questions.specs.Fits.{fits}
 use Rattle.hii_questions.specs.declared.denial.DenialKind.{DenialKind}
 use Rattle.hii_questions.specs.declared.denial.DenialKind.TheVariants.{NoQuestion}
 use Rattle.guard_policy.specs.Policy.{fixed}
 use Rattle.guard_policy.specs.declared.denial.Denial.{Denial}
 use Rattle.form_page.specs.Pages.{page_text}
-use Rattle.hii_commands.specs.Orders.{Order, ShowPage, SetValue, ChooseLanguage, SubmitChanges, DiscardChanges}
+use Rattle.hii_commands.specs.Orders.{Order, ShowPage, SetValue, OrderElements, SetText, ChooseLanguage, SubmitChanges, DiscardChanges}
 use Rattle.hii_commands.specs.Meaning.{cause_of}
 use Rattle.hii_commands.specs.Reading.{reading_of}
 use Rattle.hii_commands.specs.declared.command.BadLine.{BadLine}
@@ -50,7 +51,7 @@ page_at s (Some form) = page_text (texts s) (nodes_of s.ifr) s.working form
 abbrev pub show_page : State → Outcome
 show_page s = accepted s (page_at s (node_at (nodes_of s.ifr) s.form))
 
--- ---- set: the question is there, it is not fixed, and it takes the value
+-- ---- set, order and text: the question is there, it is not fixed, and it takes the value
 
 -- the stores with new bytes in a field
 abbrev pub with_field : StoreMap → Option Field → List ℕ → StoreMap
@@ -59,11 +60,11 @@ with_field stores (Some field) bytes = with_bytes stores field.store field.offse
 
 abbrev pub set_fitting : State → Placed → Result (List ℕ) DenialKind → Outcome
 set_fitting s q (Err kind) = denied s record { kind = kind; place = q.place; message = 0 }
-set_fitting s q (Ok bytes) = accepted (record s { working = with_field s.working (field_of q.op) bytes }) ok_text
+set_fitting s q (Ok bytes) = accepted (record s { working = with_field s.working (field_of (nodes_of s.ifr) q) bytes }) ok_text
 
 abbrev pub set_unless : State → Placed → Offer → Option Denial → Outcome
 set_unless s q offer (Some denial) = denied s denial
-set_unless s q offer None = set_fitting s q (fits q.op offer)
+set_unless s q offer None = set_fitting s q (fits (nodes_of s.ifr) q offer)
 
 abbrev pub set_question : State → Option Placed → Offer → Outcome
 set_question s None offer = denied s record { kind = NoQuestion; place = 0; message = 0 }
@@ -82,7 +83,7 @@ are_same _ _ = true
 
 -- the field of a question holds other bytes than when it was last submitted
 abbrev pub is_other : State → Placed → Bool
-is_other s n = not (are_same (field_bytes s.committed (field_of n.op)) (field_bytes s.working (field_of n.op)))
+is_other s n = not (are_same (field_bytes s.committed (field_of (nodes_of s.ifr) n)) (field_bytes s.working (field_of (nodes_of s.ifr) n)))
 
 -- the questions whose fields hold other bytes than when they were last submitted, by place
 abbrev pub is_changed : State → Placed → Bool
@@ -99,6 +100,8 @@ submitted s = accepted (record s { committed = s.working }) (count_text (length 
 abbrev pub step : State → Order → Outcome
 step s ShowPage = show_page s
 step s (SetValue id value) = set_question s (question_with (nodes_of s.ifr) id) (whole value)
+step s (OrderElements id numbers) = set_question s (question_with (nodes_of s.ifr) id) (listed numbers)
+step s (SetText id text) = set_question s (question_with (nodes_of s.ifr) id) (utf8 text)
 step s (ChooseLanguage language) = accepted (record s { language = chosen s.spoken language }) ok_text
 step s SubmitChanges = submitted s
 step s DiscardChanges = accepted (record s { working = s.committed }) ok_text

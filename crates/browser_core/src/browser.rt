@@ -9,13 +9,14 @@ ghost use Rattle.ifr_opcodes.specs.Forest.{Placed};
 ghost use Rattle.ifr_scopes.specs.Checked.{IsNodeOf};
 ghost use Rattle.ifr_scopes.specs.Lists.{form_node};
 ghost use Rattle.ifr_scopes.specs.Nodes.{nodes_of, is_form};
-ghost use Rattle.hii_commands.specs.Meaning.{order_of};
+ghost use Rattle.hii_commands.specs.Meaning.{order_of, HasList};
 ghost use Rattle.hii_varstore.specs.Stores.{shape_of};
-ghost use Rattle.hii_questions.specs.Fields.{field_of};
-ghost use Rattle.hii_questions.specs.Views.{question_node};
+ghost use Rattle.hii_questions.specs.Fields.{question_with};
+ghost use Rattle.hii_questions.specs.Offers.{offer_of};
+ghost use Rattle.hii_questions.specs.Views.{question_view};
 ghost use Rattle.browser_core.specs.State.{State};
-ghost use Rattle.browser_core.specs.Step.{step, show_page, changed, are_same, field_bytes, submitted};
-ghost use Rattle.browser_core.specs.Standing.{Sets, LiesIn};
+ghost use Rattle.browser_core.specs.Step.{step, set_question, show_page, changed, are_same, field_bytes, submitted};
+ghost use Rattle.browser_core.specs.Standing.{Sets, LiesIn, IsOffered};
 ghost use Rattle.browser_core.specs.Opening.{Opens, IsOpenFault, IsSourceFault};
 
 use crate::reply::Reply;
@@ -113,6 +114,7 @@ impl<'a> Core<'a> {
         command: Command<'_>,
         out: &mut Watched<W>,
     ) -> Reply
+        requires { HasList command }
         ensures state { self.new ≡ (step self.old (order_of command.entry)).state }
         ensures text { Writes (pen_of W.contents out.old) (pen_of W.contents out.new) (step self.old (order_of command.entry)).text }
         ensures reply { result ≡ (step self.old (order_of command.entry)).reply }
@@ -122,7 +124,9 @@ impl<'a> Core<'a> {
                 self.put_page(out);
                 Reply::Accepted
             }
-            Command::Set { question, value } => self.set(question, value, out),
+            Command::Set { question, value } => self.set(question, Input::Number(value), out),
+            Command::Order { question, list } => self.set(question, Input::List(list), out),
+            Command::Text { question, text } => self.set(question, Input::Utf8(text), out),
             Command::Lang(language) => {
                 self.language = self.languages.choose(language);
                 out.put(b"OK\n");
@@ -157,12 +161,13 @@ impl<'a> Core<'a> {
     }
 
     // Sets the question of an id to a value, or writes why it is denied.
-    fn set<W: Write>(&mut self, id: u16, value: i128, out: &mut Watched<W>) -> Reply
-        ensures state { self.new ≡ (step self.old (order_of (Command.Set id value))).state }
-        ensures text { Writes (pen_of W.contents out.old) (pen_of W.contents out.new) (step self.old (order_of (Command.Set id value))).text }
-        ensures reply { result ≡ (step self.old (order_of (Command.Set id value))).reply }
+    fn set<W: Write>(&mut self, id: u16, input: Input<'_>, out: &mut Watched<W>) -> Reply
+        requires { IsOffered input }
+        ensures state { self.new ≡ (set_question self.old (question_with (nodes_of self.old.ifr) id) (offer_of input.entry)).state }
+        ensures text { Writes (pen_of W.contents out.old) (pen_of W.contents out.new) (set_question self.old (question_with (nodes_of self.old.ifr) id) (offer_of input.entry)).text }
+        ensures reply { result ≡ (set_question self.old (question_with (nodes_of self.old.ifr) id) (offer_of input.entry)).reply }
     {
-        match self.new_field(id, value) {
+        match self.new_field(id, input) {
             Ok(field) => {
                 field.put(&mut self.working);
                 out.put(b"OK\n");
@@ -176,8 +181,9 @@ impl<'a> Core<'a> {
     }
 
     // The new bytes with which the question of an id has a value, where it may be changed and takes it.
-    fn new_field(&self, id: u16, value: i128) -> Result<Field, Denial>
-        ensures { Sets self.now id value result }
+    fn new_field<'i>(&self, id: u16, input: Input<'i>) -> Result<Field<'i>, Denial>
+        requires { IsOffered input }
+        ensures { Sets self.now id (offer_of input.entry) result }
     {
         let Some(question) = self.questions.find(id) else {
             return Err(Denial {
@@ -188,7 +194,7 @@ impl<'a> Core<'a> {
         };
         let policy = Policy::new(&self.forms, &self.questions);
         policy.changeable(question.statement(), &self.working)?;
-        match check_value(question, Input::Number(value)) {
+        match check_value(question, input) {
             Ok(field) => Ok(field),
             Err(denied) => Err(Denial {
                 kind: denied.kind,
@@ -256,15 +262,12 @@ fn first_form<'a>(forms: &Forms<'a>) -> Form<'a>
 
 // The bytes of the field of a question, if it has one.
 fn bytes_in<'s>(stores: &'s Stores, question: Question<'_>) -> Option<&'s [u8]>
-    requires { LiesIn (shape_of stores.now) (question_node question) }
-    ensures { option_copied result ≡ field_bytes stores.now (field_of (question_node question.entry).op) }
+    requires { LiesIn (shape_of stores.now) (question_view question) }
+    ensures { option_copied result ≡ field_bytes stores.now (question_view question.entry).field }
 {
-    let op = question.op();
-    if op.store() == 0 {
-        return None;
-    }
-    let bytes = stores.bytes(op.store())?;
-    Some(part(bytes, usize::from(op.offset()), 1))
+    let field = question.field()?;
+    let bytes = stores.bytes(field.store)?;
+    Some(part(bytes, usize::from(field.offset), field.width))
 }
 
 // The bytes from an offset on, of a width.
@@ -277,9 +280,9 @@ fn part(bytes: &[u8], offset: usize, width: usize) -> &[u8]
 
 // Whether the field of a question has other bytes in these stores.
 fn differs(question: Question<'_>, committed: &Stores, working: &Stores) -> bool
-    requires committed { LiesIn (shape_of committed.now) (question_node question) }
-    requires working { LiesIn (shape_of working.now) (question_node question) }
-    ensures { result ≡ not (are_same (field_bytes committed.now (field_of (question_node question.entry).op)) (field_bytes working.now (field_of (question_node question.entry).op))) }
+    requires committed { LiesIn (shape_of committed.now) (question_view question) }
+    requires working { LiesIn (shape_of working.now) (question_view question) }
+    ensures { result ≡ not (are_same (field_bytes committed.now (question_view question.entry).field) (field_bytes working.now (question_view question.entry).field)) }
 {
     match (bytes_in(committed, question), bytes_in(working, question)) {
         (Some(old), Some(new)) => old != new,

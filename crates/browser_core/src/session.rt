@@ -4,7 +4,7 @@ ghost use Rattle.std.specs.Prelude.{◌≡◌, ℕ, List, true, Err, IfOk, IfErr
 ghost use Rattle.std.specs.Io.KnownBytes.{Appends};
 ghost use Rattle.hii_bytes.specs.Faults.{Refuses, out_of_memory};
 ghost use Rattle.hii_bytes.specs.Watching.{pen_of, inner_of, has_failed, Tells};
-ghost use Rattle.hii_commands.specs.Meaning.{order_of};
+ghost use Rattle.hii_commands.specs.Meaning.{order_of, HasList};
 ghost use Rattle.browser_core.specs.State.{State};
 ghost use Rattle.browser_core.specs.Step.{step};
 ghost use Rattle.browser_core.specs.Opening.{Opens, IsOpenFault};
@@ -76,6 +76,7 @@ impl<'a> Session<'a> {
         command: Command<'_>,
         out: &mut Watched<W>,
     ) -> Result<Reply, WriteFault>
+        requires { HasList command }
         ensures state { self.new ≡ (step self.old (order_of command.entry)).state }
         ensures text { Tells (pen_of W.contents out.old) (pen_of W.contents out.new) result (step self.old (order_of command.entry)).text }
         ensures reply { IfOk result (λ reply. reply ≡ (step self.old (order_of command.entry)).reply) }

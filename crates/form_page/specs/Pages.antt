@@ -1,16 +1,16 @@
 -- The page of a form: its title and a row for each of its statements that is not hidden (UEFI 2.8, 33.2.5.2 Forms; how a row
 -- looks is an own rule).
-use Rattle.std.specs.Prelude.{ℕ, ◌+◌, Bool, if◌then◌else◌, Option, Some, None, is_some, is_none, List, [], ◌∷◌, ◌++◌, filter, codes, decimal}
+use Rattle.std.specs.Prelude.{ℕ, ◌+◌, Bool, ◌==◌, ◌||◌, if◌then◌else◌, Option, Some, None, is_some, is_none, List, [], ◌∷◌, ◌++◌, filter, codes, decimal}
 use Rattle.std.specs.List.{flat_map}
 use Rattle.hii_bytes.specs.Texts.{right_aligned}
 use Rattle.ifr_opcodes.specs.Forest.{Placed}
 use Rattle.ifr_opcodes.specs.Fields.{form_id, form_title, statement_prompt, question_id}
-use Rattle.ifr_expr.specs.Values.{Value, boolean}
+use Rattle.ifr_opcodes.specs.Opcode.{number}
+use Rattle.ifr_opcodes.specs.declared.codes.TheConstants.{SUBTITLE, TEXT}
 use Rattle.ifr_scopes.specs.Nodes.{statements, is_question}
 use Rattle.hii_varstore.specs.Stores.{StoreMap}
-use Rattle.hii_questions.specs.Answers.{value_of_field}
-use Rattle.hii_questions.specs.Fields.{field_of}
 use Rattle.guard_policy.specs.Policy.{hidden, fixed}
+use Rattle.form_page.specs.RowValues.{value_shown}
 use Rattle.form_page.specs.Texts.{utf8, in_columns}
 
 -- a row: its number, its mark, the id of its question, its prompt and its value
@@ -21,30 +21,23 @@ pub record Row : Type 0 where
   pub prompt : List ℕ
   pub value : List ℕ
 
--- what may be changed is marked by a star, what is fixed by an exclamation mark
-abbrev pub mark_of : Bool → ℕ
-mark_of is_fixed = if is_fixed then 33 else 42
+-- A subtitle and a text have a space as their mark. What may be changed is marked by a star, what is fixed by an exclamation
+-- mark.
+abbrev pub mark_of : List ℕ → Bool → ℕ
+mark_of op is_fixed = if number op == SUBTITLE || number op == TEXT then 32 else if is_fixed then 33 else 42
 
--- a checkbox shows an x where it is true and a space where it is false, and nothing where it has no field
-abbrev pub shown_value : Value → List ℕ
-shown_value (boolean b) = (if b then 120 else 32) ∷ []
-shown_value _ = []
-
--- the id and the value of a statement that is a question
+-- the id of a statement that is a question
 abbrev pub id_of : Placed → Option ℕ
 id_of n = if is_question n then Some (question_id n.op) else None
-
-abbrev pub value_of : StoreMap → Placed → List ℕ
-value_of stores n = if is_question n then shown_value (value_of_field stores (field_of n.op)) else []
 
 -- the row of a statement, with the texts as the characters that are shown of each string id
 abbrev pub row_of : (ℕ → List ℕ) → List Placed → StoreMap → ℕ → Placed → Row
 row_of texts ns stores number n = record {
   number = number;
-  mark = mark_of (is_some (fixed ns stores n));
+  mark = mark_of n.op (is_some (fixed ns stores n));
   question = id_of n;
   prompt = texts (statement_prompt n.op);
-  value = value_of stores n;
+  value = value_shown texts ns stores n;
 }
 
 abbrev pub rows_from : (ℕ → List ℕ) → List Placed → StoreMap → ℕ → List Placed → List Row

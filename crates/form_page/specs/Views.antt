@@ -8,24 +8,11 @@ use Rattle.guard_policy.specs.Policy.{hidden}
 use Rattle.guard_policy.specs.Views.{bytes_of}
 use Rattle.form_page.specs.Pages.{rows_from}
 use Rattle.form_page.specs.Pages as pages
-use Rattle.form_page.specs.declared.row.RowValue.{RowValue}
-use Rattle.form_page.specs.declared.row.RowValue.TheVariants.{Empty, Checkbox}
-use Rattle.form_page.specs.declared.row.RowValueChars.{RowValueChars}
+use Rattle.form_page.specs.RowViews.{value_text}
 use Rattle.form_page.specs.declared.row.Row.{Row}
 use Rattle.form_page.specs.declared.page.Rows.{Rows}
 
--- the characters of a value
-abbrev pub value_text : RowValue → List ℕ
-value_text Empty = []
-value_text (Checkbox b) = (if b then 120 else 32) ∷ []
-
-abbrev pub option_list : Option ℕ → List ℕ
-option_list None = []
-option_list (Some c) = c ∷ []
-
-abbrev pub value_chars_left : RowValueChars → List ℕ
-value_chars_left it = option_list it.left
-
+-- a row with the characters of its texts
 abbrev pub row_seen : Row → pages.Row
 row_seen row = record { number = row.number; mark = row.mark; question = row.question; prompt = text_of row.prompt; value = value_text row.value }
 

@@ -1,13 +1,22 @@
 //! The page of a form: its title and a row for each statement that is seen (UEFI 2.8, 33.2.5.2 Forms).
 #![tactic(auto)]
 
+mod ascii;
+mod choice;
+mod hex_digits;
 mod page;
 mod print;
 mod row;
+mod row_value;
 mod shown;
 mod statement_row;
+mod statement_value;
 #[cfg(test)]
 mod tests;
+mod value_chars;
 
+pub use choice::Elements;
 pub use page::{Page, Rows};
-pub use row::{Row, RowValue, RowValueChars};
+pub use row::Row;
+pub use row_value::{Hexadecimal, RowValue};
+pub use value_chars::RowValueChars;

@@ -93,13 +93,13 @@ impl<'a, 's> Iterator for Rows<'a, 's> {
     ghost use Rattle.std.specs.Iterator.{YieldsFirstBy, item_count};
     ghost use Rattle.form_page.specs.Views.{row_seen, rows_left};
 
-    type Item = Row<'a>;
+    type Item = Row<'a, 's>;
 
     ghost next_gives = { YieldsFirstBy row_seen rows_left };
 
     ghost remaining = { item_count rows_left };
 
-    fn next(&mut self) -> Option<Row<'a>> {
+    fn next(&mut self) -> Option<Row<'a, 's>> {
         let page = self.page;
         while let Some(statement) = self.statements.next() {
             if page.policy.listed(statement, page.stores).is_ok() {

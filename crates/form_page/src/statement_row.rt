@@ -1,56 +1,56 @@
 //! The rows of statements.
 
 ghost use Rattle.std.specs.Prelude.{◌≡◌};
+ghost use Rattle.ifr_opcodes.specs.Ops.{bytes_of as op_bytes};
 ghost use Rattle.ifr_scopes.specs.Checked.{IsNodeOf};
-ghost use Rattle.ifr_scopes.specs.Lists.{statement_node};
+ghost use Rattle.ifr_scopes.specs.Lists.{statement_node, kind_op};
 ghost use Rattle.ifr_scopes.specs.Nodes.{nodes_of};
 ghost use Rattle.hii_languages.specs.Shown.{shown_text};
 ghost use Rattle.hii_languages.specs.Views.{choice_of};
 ghost use Rattle.guard_policy.specs.Views.{bytes_of};
 ghost use Rattle.form_page.specs.Pages as pages;
-ghost use Rattle.form_page.specs.Views.{row_seen, value_text};
+ghost use Rattle.form_page.specs.Views.{row_seen};
 
 use crate::page::Page;
-use crate::row::{Row, RowValue};
-use hii_questions::{Question, read_value};
-use hii_varstore::Stores;
-use ifr_scopes::Statement;
+use crate::row::Row;
+use crate::statement_value::statement_value;
+use ifr_scopes::{Statement, StatementKind};
 
 // The id of the question that a statement is.
 fn id_of(statement: Statement<'_>) -> Option<u16>
     ensures { result ≡ pages.id_of (statement_node statement.entry) }
 {
-    let question = Question::of(statement)?;
-    Some(question.op().id())
+    let question = statement.question()?;
+    Some(question.id())
 }
 
-// What is shown of the value of the question that a statement is.
-fn value_of(statement: Statement<'_>, stores: &Stores) -> RowValue
-    ensures { value_text result ≡ pages.value_of stores.now (statement_node statement.entry) }
+// The mark of a statement of a kind.
+fn mark_of(kind: StatementKind<'_>, is_fixed: bool) -> u8
+    ensures { result ≡ pages.mark_of (op_bytes (kind_op kind.entry)) is_fixed }
 {
-    match Question::of(statement) {
-        Some(question) => RowValue::of(read_value(question, stores)),
-        None => RowValue::Empty,
+    match kind {
+        StatementKind::Subtitle(_) => b' ',
+        StatementKind::Text(_) => b' ',
+        _ if is_fixed => b'!',
+        _ => b'*',
     }
 }
 
-fn mark_of(is_fixed: bool) -> u8
-    ensures { result ≡ pages.mark_of is_fixed }
-{
-    if is_fixed { b'!' } else { b'*' }
-}
-
 /// The row of a statement on a page.
-pub(crate) fn row_of<'a>(page: Page<'a, '_>, number: u32, statement: Statement<'a>) -> Row<'a>
+pub(crate) fn row_of<'a, 's>(
+    page: Page<'a, 's>,
+    number: u32,
+    statement: Statement<'a>,
+) -> Row<'a, 's>
     requires { IsNodeOf (bytes_of page.policy) (statement_node statement) }
     ensures { row_seen result ≡ pages.row_of (shown_text page.entry.languages.now (choice_of page.entry.choice)) (nodes_of (bytes_of page.entry.policy)) page.entry.stores.now number (statement_node statement.entry) }
 {
     let is_fixed = page.policy.changeable(statement, page.stores).is_err();
     Row {
         number,
-        mark: mark_of(is_fixed),
+        mark: mark_of(statement.kind(), is_fixed),
         question: id_of(statement),
         prompt: page.languages.text(page.choice, statement.op().prompt()),
-        value: value_of(statement, page.stores),
+        value: statement_value(page, statement),
     }
 }

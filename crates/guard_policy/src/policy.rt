@@ -1,26 +1,26 @@
 //! What a policy decides.
 
-ghost use Rattle.std.specs.Prelude.{◌≡◌, ◌==◌, ◌&&◌, ℕ, option_map};
+ghost use Rattle.std.specs.Prelude.{◌≡◌, ◌==◌, ◌&&◌, ℕ, if◌then◌else◌, Some, None, option_map};
 ghost use Rattle.std.specs.List.{find};
-ghost use Rattle.ifr_opcodes.specs.Fields.{is_read_only};
-ghost use Rattle.ifr_opcodes.specs.Ops.{bytes_of};
-ghost use Rattle.ifr_scopes.specs.Guards.{guards};
 ghost use Rattle.ifr_scopes.specs.Index.{guards_of_indexed};
 ghost use Rattle.ifr_scopes.specs.Lists.{guard_node, guards_left, form_node, statement_node};
+ghost use Rattle.ifr_scopes.specs.Parts.{option_node};
 ghost use Rattle.ifr_scopes.specs.Checked.{IsNodeOf};
 ghost use Rattle.ifr_scopes.specs.Accepted.{IsAccepted};
-ghost use Rattle.ifr_scopes.specs.Nodes.{nodes_of};
+ghost use Rattle.ifr_scopes.specs.Nodes.{nodes_of, is_question};
 ghost use Rattle.ifr_scopes.specs.Rules.{rules_of};
 ghost use Rattle.hii_questions.specs.Answers.{answers};
+ghost use Rattle.hii_questions.specs.Fields.{asked};
+ghost use Rattle.hii_questions.specs.Views.{question_view};
 ghost use Rattle.guard_policy.specs.Policy as spec;
 
 use crate::denial::Denial;
-use hii_questions::{DenialKind, Over, Questions};
+use hii_questions::{DenialKind, Question, Questions};
 use hii_varstore::Stores;
 use ifr_expr::Answers;
-use ifr_opcodes::{QuestionOp, SUPPRESS_IF};
+use ifr_opcodes::SUPPRESS_IF;
 use ifr_scopes::laws::{guards_of_a_form_are_found, guards_of_a_statement_are_found};
-use ifr_scopes::{Form, Forms, Guard, GuardsAt, Statement};
+use ifr_scopes::{Form, Forms, Guard, GuardsAt, OptionView, Statement, StatementKind};
 
 // Whether a guard is a SUPPRESS_IF whose condition holds.
 fn suppresses<'a, A: Answers<'a>>(guard: Guard<'a>, answers: &A, forms: &Forms<'a>) -> bool
@@ -46,21 +46,30 @@ fn first_suppressing<'s, 'a, A: Answers<'a>>(
     None
 }
 
-// Whether a question's own opcode forbids a change.
-fn fixed_itself(statement: Statement<'_>) -> Result<(), Denial>
-    ensures { result ≡ spec.unless (spec.fixed_itself (statement_node statement.entry)) }
+// Whether a question lacks what it needs to be changed: a reference a form to which it leads, another a field.
+fn is_outside(question: Question<'_>) -> bool
+    ensures { result ≡ spec.is_outside (question_view question.entry) }
 {
-    let op = statement.question();
-    let kind = if op.is_read_only() {
+    match question.statement().kind() {
+        StatementKind::Ref(reference) => reference.target().is_none(),
+        _ => question.field().is_none(),
+    }
+}
+
+// Whether a question forbids a change by itself.
+fn fixed_question(question: Question<'_>) -> Result<(), Denial>
+    ensures { result ≡ spec.unless (spec.fixed_question (question_view question.entry)) }
+{
+    let kind = if question.op().is_read_only() {
         DenialKind::ReadOnly
-    } else if op.store() == 0 {
+    } else if is_outside(question) {
         DenialKind::Outside
     } else {
         return Ok(());
     };
     Err(Denial {
         kind,
-        place: statement.place(),
+        place: question.place(),
         message: 0,
     })
 }
@@ -119,6 +128,14 @@ impl<'a, 's> Policy<'a, 's> {
         self.unless_hidden(statement.place(), stores)
     }
 
+    /// Whether an option of a question is shown: not where a SUPPRESS_IF around it holds. The denial names the outermost such.
+    pub fn option_listed(&self, option: OptionView<'a>, stores: &Stores) -> Result<(), Denial>
+        requires { IsNodeOf self.now.forms.now (option_node option) }
+        ensures { result ≡ spec.unless (spec.hidden (nodes_of self.now.forms.now) stores.now (option_node option.entry)) }
+    {
+        self.unless_hidden(option.place(), stores)
+    }
+
     /// Whether a form is opened: not where a SUPPRESS_IF around it holds. The denial names the outermost such.
     pub fn opens(&self, form: Form<'a>, stores: &Stores) -> Result<(), Denial>
         requires { IsNodeOf self.now.forms.now (form_node form) }
@@ -128,13 +145,35 @@ impl<'a, 's> Policy<'a, 's> {
         self.unless_hidden(form.place(), stores)
     }
 
-    /// Whether a question may be changed: not where it is not seen, has the flag READ_ONLY, or has no field in a store.
-    /// The denial names the first of these that is so.
+    /// The question that a statement is, if it is one.
+    pub fn question(&self, statement: Statement<'a>) -> Option<Question<'a>>
+        requires { IsNodeOf self.now.forms.now (statement_node statement) }
+        ensures { option_map question_view result ≡ (if is_question (statement_node statement.entry) then Some (asked (nodes_of self.now.forms.now) (statement_node statement.entry)) else None) }
+    {
+        // The package is accepted: each node is the one at its place.
+        self.forms.bytes();
+        self.questions.at(statement.place())
+    }
+
+    // Whether a statement forbids a change by itself.
+    fn fixed_itself(&self, statement: Statement<'a>) -> Result<(), Denial>
+        requires { IsNodeOf self.now.forms.now (statement_node statement) }
+        ensures { result ≡ spec.unless (spec.fixed_itself (nodes_of self.now.forms.now) (statement_node statement.entry)) }
+    {
+        match self.question(statement) {
+            Some(question) => fixed_question(question),
+            None => Ok(()),
+        }
+    }
+
+    /// Whether a statement may be changed: not where it is not seen, has the flag READ_ONLY as a question, or is a question
+    /// without a field in a store, or a reference that leads to no form of this form set. The denial names the first of these
+    /// that is so.
     pub fn changeable(&self, statement: Statement<'a>, stores: &Stores) -> Result<(), Denial>
         requires { IsNodeOf self.now.forms.now (statement_node statement) }
         ensures { result ≡ spec.unless (spec.fixed (nodes_of self.now.forms.now) stores.now (statement_node statement.entry)) }
     {
         self.listed(statement, stores)?;
-        fixed_itself(statement)
+        self.fixed_itself(statement)
     }
 }

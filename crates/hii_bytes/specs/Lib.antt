@@ -1,4 +1,7 @@
 pub mod Numbers
+pub mod Digits
+pub mod NumberList
+pub mod NumbersLeft
 pub mod Cause
 pub mod Faults
 pub mod Watching

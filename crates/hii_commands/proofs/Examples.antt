@@ -1,7 +1,7 @@
 -- Worked values of the definitions.
 use Rattle.std.proofs.Common.{◌≡◌, pos, negsuc, [], ◌∷◌, Some, None, Ok, Err, codes, refl}
 use Rattle.hii_commands.specs.declared.command.BadLine.TheVariants.{BadCommand}
-use Rattle.hii_commands.specs.Orders.{ShowPage, SetValue, ChooseLanguage}
+use Rattle.hii_commands.specs.Orders.{ShowPage, SetValue, OrderElements, SetText, ChooseLanguage}
 use Rattle.hii_commands.specs.Reading.{order_in, reading_of}
 use Rattle.hii_commands.specs.Script.{lines_of, whole_lines}
 
@@ -34,6 +34,36 @@ two_spaces = refl
 
 space_behind : order_in (codes "page ") ≡ None
 space_behind = refl
+
+elements : order_in (codes "order 7 3,0,00018446744073709551") ≡ Some (OrderElements 7 (3 ∷ 0 ∷ 18446744073709551 ∷ []))
+elements = refl
+
+no_elements : order_in (codes "order 7") ≡ Some (OrderElements 7 [])
+no_elements = refl
+
+space_behind_order : order_in (codes "order 7 ") ≡ None
+space_behind_order = refl
+
+comma_behind_order : order_in (codes "order 7 1,") ≡ None
+comma_behind_order = refl
+
+empty_element : order_in (codes "order 7 1,,2") ≡ None
+empty_element = refl
+
+too_large_element : order_in (codes "order 7 18446744073709551616") ≡ None
+too_large_element = refl
+
+empty_text : order_in (codes "text 1") ≡ Some (SetText 1 [])
+empty_text = refl
+
+space_behind_text : order_in (codes "text 1 ") ≡ Some (SetText 1 [])
+space_behind_text = refl
+
+text_from_a_space : order_in (codes "text 1  x ") ≡ Some (SetText 1 (codes " x "))
+text_from_a_space = refl
+
+two_spaces_before_text : order_in (codes "text  1 x") ≡ None
+two_spaces_before_text = refl
 
 language : order_in (codes "lang en-US") ≡ Some (ChooseLanguage (codes "en-US"))
 language = refl

@@ -1,14 +1,19 @@
 -- The order that a text asks for, and the one that is found in it.
-use Rattle.std.proofs.Common.{◌≡◌, ◌==◌, ◌&&◌, ◌≤◌, ℕ, ℤ, pos, neg_ℤ, ◌^◌, ◌<◌, Bool, true, false, List, [], ◌∷◌, ◌++◌, length, nat_le, drop, Option, Some, None, codes, option_map, refl, sym, ap, ◌∙◌, arith, inl, inr, subst}
+use Rattle.std.proofs.Common.{◌≡◌, ◌==◌, ◌&&◌, ◌≤◌, ℕ, ℤ, pos, neg_ℤ, ◌^◌, ◌<◌, Bool, true, false, List, [], ◌∷◌, ◌++◌, length, nat_le, drop, Option, Some, None, codes, option_map, refl, sym, ap, ◌∙◌, arith, inl, inr, subst, append-nil}
 use Rattle.std.specs.Char.{digit_value}
 use Rattle.std.specs.List.{list_all}
 use Rattle.std.specs.Str.{bytes_eq}
 use Rattle.std.specs.Str.Parse.{AllDigits}
 use Rattle.std.proofs.lemmas.Bool.{and_parts, and_from, cases_Bool, cond-true, cond-false, eqb-true, leb-true, le-leb}
 use Rattle.std.proofs.lemmas.Slice.Eq.{bytes_eq-Decides}
-use Rattle.hii_commands.specs.Orders.{Order, ShowPage, SetValue, ChooseLanguage, SubmitChanges, DiscardChanges, Asks, IsValue, IsLanguage, is_language_byte}
-use Rattle.hii_commands.specs.Reading.{number_below, question_in, value_in, begins_with, cut_word, set_order, set_in, lang_in, plain_in, words_in, order_in}
-use Rattle.hii_commands.proofs.WordLemmas.{cut_word-spaced, cut_word-together, together, begins, number_below-from, number_below-is, Lacks-digits}
+use Rattle.hii_bytes.specs.Digits.{number_below}
+use Rattle.hii_bytes.specs.NumberList.{IsNumberList, is_number_list, numbers_of}
+use Rattle.hii_bytes.proofs.DigitLemmas.{number_below-from, number_below-is}
+use Rattle.hii_bytes.proofs.NumberListLemmas.{numbers_of-is, list-from, list-is}
+use Rattle.hii_commands.specs.Script.{Lacks}
+use Rattle.hii_commands.specs.Orders.{Order, ShowPage, SetValue, OrderElements, SetText, ChooseLanguage, SubmitChanges, DiscardChanges, Asks, IsValue, IsLanguage, list_word, is_language_byte}
+use Rattle.hii_commands.specs.Reading.{question_in, value_in, begins_with, cut_word, question_order, list_in, set_in, elements_in, text_in, lang_in, plain_in, words_in, order_in}
+use Rattle.hii_commands.proofs.WordLemmas.{cut_word-alone, cut_word-spaced, cut_word-together, together, begins, Lacks-digits}
 
 -- ---- values
 
@@ -88,6 +93,36 @@ lang_asks text rest order whole e = elim (cases_Bool (is_language rest)) [
   | inr other ↦ let none : ◌≡◌ {A = Option Order} None (Some order) = sym (cond-false (is_language rest) (Some (ChooseLanguage rest)) None other) ∙ e in (cc)
 ]
 
+-- ---- lists
+
+-- what stands behind a word where a list follows it
+abbrev word_after : List ℕ → Option (List ℕ)
+word_after [] = None
+word_after (b ∷ list) = Some (b ∷ list)
+
+list-cut : (question list : List ℕ) → Lacks 32 question → cut_word (question ++ list_word list) ≡ (question, word_after list)
+list-cut question [] h = ap cut_word (append-nil question) ∙ cut_word-alone question h
+list-cut question (b ∷ list) h = cut_word-spaced question (b ∷ list) h
+
+list-found : (list numbers : List ℕ) → IsNumberList list numbers → list_in (word_after list) ≡ Some numbers
+list-found [] numbers h = ap Some (numbers_of-is [] numbers h)
+list-found (b ∷ list) numbers h =
+    cond-true (is_number_list (b ∷ list)) (Some (numbers_of (b ∷ list))) None (list-from (b ∷ list) numbers h) ∙ ap Some (numbers_of-is (b ∷ list) numbers h)
+
+-- the list that is read stands behind the word
+list-is_behind : (question numbers : List ℕ) (rest : Option (List ℕ)) → list_in rest ≡ Some numbers
+    → (list : List ℕ) × IsNumberList list numbers × (together (question, rest) ≡ question ++ list_word list)
+list-is_behind question numbers None e =
+    let same : [] ≡ numbers = cc in ([], subst (IsNumberList []) same ([], refl, tt), sym (append-nil question))
+list-is_behind question numbers (Some []) e = cc
+list-is_behind question numbers (Some (b ∷ list)) e = elim (cases_Bool (is_number_list (b ∷ list))) [
+  | inl is ↦
+      let some : Some (numbers_of (b ∷ list)) ≡ Some numbers = sym (cond-true (is_number_list (b ∷ list)) (Some (numbers_of (b ∷ list))) None is) ∙ e in
+      let same : numbers_of (b ∷ list) ≡ numbers = cc in
+      (b ∷ list, subst (IsNumberList (b ∷ list)) same (list-is (b ∷ list) is), refl)
+  | inr other ↦ let none : ◌≡◌ {A = Option (List ℕ)} None (Some numbers) = sym (cond-false (is_number_list (b ∷ list)) (Some (numbers_of (b ∷ list))) None other) ∙ e in (cc)
+]
+
 -- ---- orders
 
 pub found : (text : List ℕ) (order : Order) → Asks text order → order_in text ≡ Some order
@@ -98,20 +133,54 @@ found text DiscardChanges e = ap order_in e
 found text (SetValue q z) (question, value, e, is_question, is_value) =
     ap order_in e
     ∙ ap set_in (cut_word-spaced question value (Lacks-digits question is_question.digits.1))
-    ∙ ap (λ o. set_order o (value_in value)) (number_below-from 65536 10 5 question q is_question)
+    ∙ ap (λ o. question_order SetValue o (value_in value)) (number_below-from 65536 10 5 question q is_question)
     ∙ ap (option_map (SetValue q)) (value-from value z is_value)
+found text (OrderElements q numbers) (question, list, e, is_question, is_list) =
+    ap order_in e
+    ∙ ap elements_in (list-cut question list (Lacks-digits question is_question.digits.1))
+    ∙ ap (λ o. question_order OrderElements o (list_in (word_after list))) (number_below-from 65536 10 5 question q is_question)
+    ∙ ap (option_map (OrderElements q)) (list-found list numbers is_list)
+found text (SetText q rest) (question, is_question, inl e) =
+    ap order_in e
+    ∙ ap text_in (cut_word-spaced question rest (Lacks-digits question is_question.digits.1))
+    ∙ ap (λ o. question_order SetText o (Some rest)) (number_below-from 65536 10 5 question q is_question)
+found text (SetText q rest) (question, is_question, inr (e, none)) =
+    ap order_in e
+    ∙ ap text_in (cut_word-alone question (Lacks-digits question is_question.digits.1))
+    ∙ ap (λ o. question_order SetText o (Some [])) (number_below-from 65536 10 5 question q is_question)
+    ∙ ap (λ r. Some (SetText q r)) (sym none)
 
-set_order-is : (o : Option ℕ) (p : Option ℤ) (order : Order) → set_order o p ≡ Some order → (q : ℕ) × (z : ℤ) × (o ≡ Some q) × (p ≡ Some z) × (order ≡ SetValue q z)
-set_order-is None p order e = cc
-set_order-is (Some q) None order e = cc
-set_order-is (Some q) (Some z) order e = let same : SetValue q z ≡ order = cc in (q, z, refl, refl, sym same)
+question_order-is : {X : Type 0} (make : ℕ → X → Order) (o : Option ℕ) (p : Option X) (order : Order) → question_order make o p ≡ Some order
+    → (q : ℕ) × (x : X) × (o ≡ Some q) × (p ≡ Some x) × (order ≡ make q x)
+question_order-is make None p order e = cc
+question_order-is make (Some q) None order e = cc
+question_order-is make (Some q) (Some x) order e = let same : make q x ≡ order = cc in (q, x, refl, refl, sym same)
 
 set_asks : (text rest : List ℕ) (order : Order) (words : List ℕ × Option (List ℕ)) → text ≡ codes "set" ++ 32 ∷ rest → cut_word rest ≡ words → set_in words ≡ Some order → Asks text order
 set_asks text rest order (question, None) whole cut e = cc
 set_asks text rest order (question, Some value) whole cut e =
-    let s = set_order-is (question_in question) (value_in value) order e in
+    let s = question_order-is SetValue (question_in question) (value_in value) order e in
     let parts : rest ≡ question ++ 32 ∷ value = sym (cut_word-together rest) ∙ ap together cut in
     subst (Asks text) (sym s.4) (question, value, whole ∙ ap (λ r. codes "set " ++ r) parts, number_below-is 65536 10 5 question s.0 s.2, value-is value s.1 s.3)
+
+elements_ask : (text rest : List ℕ) (order : Order) (words : List ℕ × Option (List ℕ)) → text ≡ codes "order" ++ 32 ∷ rest → cut_word rest ≡ words → elements_in words ≡ Some order → Asks text order
+elements_ask text rest order (question, list) whole cut e =
+    let s = question_order-is OrderElements (question_in question) (list_in list) order e in
+    let l = list-is_behind question s.1 list s.3 in
+    let parts : rest ≡ question ++ list_word l.0 = sym (cut_word-together rest) ∙ ap together cut ∙ l.2 in
+    subst (Asks text) (sym s.4) (question, l.0, whole ∙ ap (λ r. codes "order " ++ r) parts, number_below-is 65536 10 5 question s.0 s.2, l.1)
+
+text_asks : (text rest : List ℕ) (order : Order) (words : List ℕ × Option (List ℕ)) → text ≡ codes "text" ++ 32 ∷ rest → cut_word rest ≡ words → text_in words ≡ Some order → Asks text order
+text_asks text rest order (question, None) whole cut e =
+    let s = question_order-is SetText (question_in question) (Some []) order e in
+    let none : [] ≡ s.1 = cc s.3 in
+    let parts : rest ≡ question = sym (cut_word-together rest) ∙ ap together cut in
+    subst (Asks text) (sym s.4) (question, number_below-is 65536 10 5 question s.0 s.2, inr (whole ∙ ap (λ r. codes "text " ++ r) parts, sym none))
+text_asks text rest order (question, Some new) whole cut e =
+    let s = question_order-is SetText (question_in question) (Some new) order e in
+    let same : new ≡ s.1 = cc s.3 in
+    let parts : rest ≡ question ++ 32 ∷ s.1 = sym (cut_word-together rest) ∙ ap together cut ∙ ap (λ n. question ++ 32 ∷ n) same in
+    subst (Asks text) (sym s.4) (question, number_below-is 65536 10 5 question s.0 s.2, inl (whole ∙ ap (λ r. codes "text " ++ r) parts))
 
 plain_asks : (word : List ℕ) (order : Order) → plain_in word ≡ Some order → Asks word order
 plain_asks word order e = elim (cases_Bool (bytes_eq word (codes "page"))) [
@@ -132,21 +201,31 @@ plain_asks word order e = elim (cases_Bool (bytes_eq word (codes "page"))) [
       ]
 ]
 
+-- a first word and the rest behind its space
+spaced : (text word rest first : List ℕ) → cut_word text ≡ (word, Some rest) → bytes_eq word first ≡ true → text ≡ first ++ 32 ∷ rest
+spaced text word rest first cut is = sym (cut_word-together text) ∙ ap together cut ∙ ap (λ w. w ++ 32 ∷ rest) ((bytes_eq-Decides word first).0 is)
+
 words_ask : (text : List ℕ) (order : Order) (words : List ℕ × Option (List ℕ)) → cut_word text ≡ words → words_in words ≡ Some order → Asks text order
 words_ask text order (word, None) cut e =
     let whole : text ≡ word = sym (cut_word-together text) ∙ ap together cut in
     subst (λ t. Asks t order) (sym whole) (plain_asks word order e)
 words_ask text order (word, Some rest) cut e = elim (cases_Bool (bytes_eq word (codes "set"))) [
-  | inl is ↦
-      let whole : text ≡ codes "set" ++ 32 ∷ rest = sym (cut_word-together text) ∙ ap together cut ∙ ap (λ w. w ++ 32 ∷ rest) ((bytes_eq-Decides word (codes "set")).0 is) in
-      set_asks text rest order (cut_word rest) whole refl (sym (cond-true (bytes_eq word (codes "set")) _ _ is) ∙ e)
+  | inl is ↦ set_asks text rest order (cut_word rest) (spaced text word rest (codes "set") cut is) refl (sym (cond-true (bytes_eq word (codes "set")) _ _ is) ∙ e)
   | inr a ↦
       let e' = sym (cond-false (bytes_eq word (codes "set")) _ _ a) ∙ e in
-      elim (cases_Bool (bytes_eq word (codes "lang"))) [
-        | inl is ↦
-            let whole : text ≡ codes "lang" ++ 32 ∷ rest = sym (cut_word-together text) ∙ ap together cut ∙ ap (λ w. w ++ 32 ∷ rest) ((bytes_eq-Decides word (codes "lang")).0 is) in
-            lang_asks text rest order whole (sym (cond-true (bytes_eq word (codes "lang")) _ _ is) ∙ e')
-        | inr b ↦ let none : ◌≡◌ {A = Option Order} None (Some order) = sym (cond-false (bytes_eq word (codes "lang")) _ _ b) ∙ e' in (cc)
+      elim (cases_Bool (bytes_eq word (codes "order"))) [
+        | inl is ↦ elements_ask text rest order (cut_word rest) (spaced text word rest (codes "order") cut is) refl (sym (cond-true (bytes_eq word (codes "order")) _ _ is) ∙ e')
+        | inr b ↦
+            let e'' = sym (cond-false (bytes_eq word (codes "order")) _ _ b) ∙ e' in
+            elim (cases_Bool (bytes_eq word (codes "text"))) [
+              | inl is ↦ text_asks text rest order (cut_word rest) (spaced text word rest (codes "text") cut is) refl (sym (cond-true (bytes_eq word (codes "text")) _ _ is) ∙ e'')
+              | inr c ↦
+                  let e''' = sym (cond-false (bytes_eq word (codes "text")) _ _ c) ∙ e'' in
+                  elim (cases_Bool (bytes_eq word (codes "lang"))) [
+                    | inl is ↦ lang_asks text rest order (spaced text word rest (codes "lang") cut is) (sym (cond-true (bytes_eq word (codes "lang")) _ _ is) ∙ e''')
+                    | inr d ↦ let none : ◌≡◌ {A = Option Order} None (Some order) = sym (cond-false (bytes_eq word (codes "lang")) _ _ d) ∙ e''' in (cc)
+                  ]
+            ]
       ]
 ]
 

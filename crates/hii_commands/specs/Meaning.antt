@@ -1,22 +1,35 @@
 -- What a line means (own rule).
-use Rattle.std.specs.Prelude.{ℕ, ◌<◌, ◌≤◌, List, length}
+use Rattle.std.specs.Prelude.{ℕ, ◌<◌, ◌≤◌, ⊤, List, length}
+use Rattle.hii_bytes.specs.NumberList.{IsList, numbers_of}
 use Rattle.hii_bytes.specs.declared.cause.Cause.{Cause}
 use Rattle.hii_bytes.specs.declared.cause.Cause.TheVariants as cause
 use Rattle.hii_commands.specs.declared.limits.TheConstants.{LINE_LIMIT}
 use Rattle.hii_commands.specs.declared.command.Command.{Command}
-use Rattle.hii_commands.specs.declared.command.Command.TheVariants.{Page, Set, Lang, Submit, Discard}
+use Rattle.hii_commands.specs.declared.command.Command.TheVariants.{Page, Set, Order as OrderCommand, Text, Lang, Submit, Discard}
 use Rattle.hii_commands.specs.declared.command.BadLine.{BadLine}
 use Rattle.hii_commands.specs.declared.command.BadLine.TheVariants.{BadCommand, LineTooLong}
 use Rattle.hii_commands.specs.Line.{without_return}
-use Rattle.hii_commands.specs.Orders.{Order, ShowPage, SetValue, ChooseLanguage, SubmitChanges, DiscardChanges, Asks}
+use Rattle.hii_commands.specs.Orders.{Order, ShowPage, SetValue, OrderElements, SetText, ChooseLanguage, SubmitChanges, DiscardChanges, Asks}
 
 -- what a command asks for
 abbrev pub order_of : Command → Order
 order_of Page = ShowPage
 order_of (Set q z) = SetValue q z
+order_of (OrderCommand q list) = OrderElements q (numbers_of list.now)
+order_of (Text q text) = SetText q text.now
 order_of (Lang language) = ChooseLanguage language.now
 order_of Submit = SubmitChanges
 order_of Discard = DiscardChanges
+
+-- The list that a command has is a list of numbers.
+abbrev pub HasList : Command → Type 0
+HasList Page = ⊤
+HasList (Set q z) = ⊤
+HasList (OrderCommand q list) = IsList list.now
+HasList (Text q text) = ⊤
+HasList (Lang language) = ⊤
+HasList Submit = ⊤
+HasList Discard = ⊤
 
 -- the cause by which a line is refused
 abbrev pub cause_of : BadLine → Cause

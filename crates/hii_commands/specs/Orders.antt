@@ -1,24 +1,19 @@
 -- The forms of a script's commands (own rule).
-use Rattle.std.specs.Prelude.{◌≡◌, ◌⊎◌, ◌==◌, ◌||◌, ℕ, ℤ, pos, neg_ℤ, ◌^◌, ◌<◌, ◌≤◌, Bool, true, List, ◌++◌, length, codes}
+use Rattle.std.specs.Prelude.{◌≡◌, ◌⊎◌, ◌==◌, ◌||◌, ℕ, ℤ, pos, neg_ℤ, ◌^◌, ◌≤◌, Bool, true, List, [], ◌∷◌, ◌++◌, length, codes}
 use Rattle.std.specs.Char.{is_ascii_alphanumeric}
 use Rattle.std.specs.List.{list_all}
-use Rattle.std.specs.Str.Parse.{IsNumeral, digits_value}
+use Rattle.hii_bytes.specs.Digits.{IsNumber}
+use Rattle.hii_bytes.specs.NumberList.{IsNumberList}
 
 -- what a command asks for, without where its bytes lie
 pub data Order : Type 0 where
   ShowPage : Order
   SetValue : ℕ → ℤ → Order
+  OrderElements : ℕ → List ℕ → Order
+  SetText : ℕ → List ℕ → Order
   ChooseLanguage : List ℕ → Order
   SubmitChanges : Order
   DiscardChanges : Order
-
--- One digit or more of a radix, `most` at most, that write this number, which is below a limit. A letter counts in
--- either case.
-pub record IsNumber (radix most limit : ℕ) (text : List ℕ) (n : ℕ) : Type 0 where
-  pub digits : IsNumeral radix text
-  pub few : length text ≤ most
-  pub value : digits_value radix text ≡ n
-  pub small : n < limit
 
 -- a question's id: 1 to 5 decimal digits, at most 65535
 abbrev pub IsQuestion : List ℕ → ℕ → Type 0
@@ -31,6 +26,11 @@ IsValue text z = (digits : List ℕ) × (n : ℕ) ×
     ⊎ ((text ≡ codes "-" ++ digits) × IsNumber 10 20 (2 ^ 64) digits n × (z ≡ neg_ℤ (pos n)))
     ⊎ ((text ≡ codes "0x" ++ digits) × IsNumber 16 16 (2 ^ 64) digits n × (z ≡ pos n)))
 
+-- a list behind its space, and nothing for the empty list
+abbrev pub list_word : List ℕ → List ℕ
+list_word [] = []
+list_word (b ∷ list) = codes " " ++ b ∷ list
+
 -- a letter, a digit or a hyphen, as ASCII has them
 abbrev pub is_language_byte : ℕ → Bool
 is_language_byte byte = is_ascii_alphanumeric byte || byte == 45
@@ -41,11 +41,16 @@ pub record IsLanguage (text : List ℕ) : Type 0 where
   pub few : length text ≤ 63
   pub each : list_all is_language_byte text ≡ true
 
--- The text has the form of the command that asks for this: its words, with one space between them.
+-- The text has the form of the command that asks for this: its words, with one space between them. The new text of a
+-- question is all that stands after one space, or empty.
 abbrev pub Asks : List ℕ → Order → Type 0
 Asks text ShowPage = text ≡ codes "page"
 Asks text (SetValue q z) =
     (question value : List ℕ) × (text ≡ codes "set " ++ (question ++ (codes " " ++ value))) × IsQuestion question q × IsValue value z
+Asks text (OrderElements q numbers) =
+    (question list : List ℕ) × (text ≡ codes "order " ++ (question ++ list_word list)) × IsQuestion question q × IsNumberList list numbers
+Asks text (SetText q rest) = (question : List ℕ) × IsQuestion question q
+    × ((text ≡ codes "text " ++ (question ++ (codes " " ++ rest))) ⊎ ((text ≡ codes "text " ++ question) × (rest ≡ [])))
 Asks text (ChooseLanguage language) = (text ≡ codes "lang " ++ language) × IsLanguage language
 Asks text SubmitChanges = text ≡ codes "submit"
 Asks text DiscardChanges = text ≡ codes "discard"

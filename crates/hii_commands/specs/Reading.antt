@@ -1,21 +1,15 @@
 -- What a line means, as a function of the line (own rule). Laws say that it is the relation.
 use Rattle.std.specs.Prelude.{ℕ, ℤ, pos, neg_ℤ, ◌^◌, ◌==◌, ◌&&◌, nat_lt, nat_le, if◌then◌else◌, Bool, List, [], ◌∷◌, length, take, drop, codes, Option, Some, None, Result, Err, option_map}
-use Rattle.std.specs.Char.{is_digit}
 use Rattle.std.specs.List.{list_all}
-use Rattle.std.specs.Option.{ok_or}
+use Rattle.std.specs.Option.{ok_or, unwrap_or}
 use Rattle.std.specs.Str.{bytes_eq}
-use Rattle.std.specs.Str.Parse.{digits_value}
+use Rattle.hii_bytes.specs.Digits.{number_below}
+use Rattle.hii_bytes.specs.NumberList.{is_number_list, numbers_of}
 use Rattle.hii_commands.specs.declared.limits.TheConstants.{LINE_LIMIT}
 use Rattle.hii_commands.specs.declared.command.BadLine.{BadLine}
 use Rattle.hii_commands.specs.declared.command.BadLine.TheVariants.{BadCommand, LineTooLong}
 use Rattle.hii_commands.specs.Line.{without_return}
-use Rattle.hii_commands.specs.Orders.{Order, ShowPage, SetValue, ChooseLanguage, SubmitChanges, DiscardChanges, is_language_byte}
-
--- the number of the text as in `IsNumber`, where it is one
-abbrev pub number_below : ℕ → ℕ → ℕ → List ℕ → Option ℕ
-number_below limit radix most text =
-    if nat_lt 0 (length text) && (list_all (λ byte. is_digit byte radix) text && (nat_le (length text) most && nat_lt (digits_value radix text) limit))
-    then Some (digits_value radix text) else None
+use Rattle.hii_commands.specs.Orders.{Order, ShowPage, SetValue, OrderElements, SetText, ChooseLanguage, SubmitChanges, DiscardChanges, is_language_byte}
 
 abbrev pub question_in : List ℕ → Option ℕ
 question_in text = number_below 65536 10 5 text
@@ -35,14 +29,29 @@ abbrev pub cut_word : List ℕ → List ℕ × Option (List ℕ)
 cut_word [] = ([], None)
 cut_word (b ∷ text) = if b == 32 then ([], Some text) else (b ∷ (cut_word text).0, (cut_word text).1)
 
-abbrev pub set_order : Option ℕ → Option ℤ → Option Order
-set_order None z = None
-set_order (Some q) z = option_map (SetValue q) z
+-- the order on a question and a value, where both are there
+abbrev pub question_order : {X : Type 0} → (ℕ → X → Order) → Option ℕ → Option X → Option Order
+question_order order None value = None
+question_order order (Some q) value = option_map (order q) value
 
 -- the order of `set` over the words behind it
 abbrev pub set_in : List ℕ × Option (List ℕ) → Option Order
 set_in (question, None) = None
-set_in (question, Some value) = set_order (question_in question) (value_in value)
+set_in (question, Some value) = question_order SetValue (question_in question) (value_in value)
+
+-- the numbers of the list behind a word: none where no space follows it
+abbrev pub list_in : Option (List ℕ) → Option (List ℕ)
+list_in None = Some []
+list_in (Some []) = None
+list_in (Some (b ∷ list)) = if is_number_list (b ∷ list) then Some (numbers_of (b ∷ list)) else None
+
+-- the order of `order` over the word behind it and the rest
+abbrev pub elements_in : List ℕ × Option (List ℕ) → Option Order
+elements_in (question, list) = question_order OrderElements (question_in question) (list_in list)
+
+-- the order of `text` over the word behind it and the rest, which is empty where no space follows
+abbrev pub text_in : List ℕ × Option (List ℕ) → Option Order
+text_in (question, rest) = question_order SetText (question_in question) (Some (unwrap_or rest []))
 
 -- the order of `lang` over what stands behind it
 abbrev pub lang_in : List ℕ → Option Order
@@ -62,6 +71,8 @@ abbrev pub words_in : List ℕ × Option (List ℕ) → Option Order
 words_in (word, None) = plain_in word
 words_in (word, Some rest) =
     if bytes_eq word (codes "set") then set_in (cut_word rest)
+    else if bytes_eq word (codes "order") then elements_in (cut_word rest)
+    else if bytes_eq word (codes "text") then text_in (cut_word rest)
     else if bytes_eq word (codes "lang") then lang_in rest
     else None
 

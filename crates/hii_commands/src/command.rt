@@ -1,18 +1,17 @@
 //! What a line asks for.
 
-ghost use Rattle.std.specs.Prelude.{◌≡◌, ◌⊎◌, ◌<◌, ◌≤◌, ◌^◌, ◌==◌, ℤ, pos, Some, None, Ok, Err, MatchOption, MatchResult, SomeIff, length, option_map};
+ghost use Rattle.std.specs.Prelude.{◌≡◌, ◌⊎◌, ◌<◌, ◌≤◌, ◌^◌, ◌==◌, ℤ, pos, Some, None, Ok, Err, MatchResult, IfOk, IfSome, option_map};
 ghost use Rattle.std.specs.List.{list_all};
-ghost use Rattle.std.specs.Char.{is_digit};
 ghost use Rattle.std.specs.Str.{bytes_eq};
 ghost use Rattle.hii_commands.specs.Line.{without_return};
 ghost use Rattle.hii_commands.specs.Orders as orders;
-ghost use Rattle.hii_commands.specs.Meaning.{Means, IsRefused, order_of, cause_of};
-ghost use Rattle.hii_commands.specs.Reading.{order_in, reading_of, set_in, lang_in, plain_in, value_in, question_in, number_below, cut_word};
+ghost use Rattle.hii_bytes.specs.Digits.{number_below};
+ghost use Rattle.hii_bytes.specs.NumberList.{IsList, numbers_of};
+ghost use Rattle.hii_commands.specs.Meaning.{Means, IsRefused, HasList, order_of, cause_of};
+ghost use Rattle.hii_commands.specs.Reading.{order_in, reading_of, set_in, elements_in, text_in, list_in, lang_in, plain_in, value_in, question_in, cut_word};
 
-use crate::bytes::first_place;
 use crate::limits::LINE_LIMIT;
-use hii_bytes::Cause;
-use std::str;
+use hii_bytes::{Cause, first_place, is_number_list, number_of_digits};
 
 /// One command of a script.
 #[derive(Clone, Copy, Debug, PartialEq, Eq)]
@@ -21,6 +20,11 @@ pub enum Command<'a> {
     Page,
     /// `set Q V`: the value of a question. The magnitude is below 2^64.
     Set { question: u16, value: i128 },
+    /// `order Q list`, or `order Q` for the empty list: the elements of a question. The list is decimal numbers below
+    /// 2^64 with a comma between, as `NumberList` takes it.
+    Order { question: u16, list: &'a [u8] },
+    /// `text Q rest`, or `text Q` for the empty text: the text of a question, all bytes after one space.
+    Text { question: u16, text: &'a [u8] },
     /// `lang L`: the language of the texts that follow, 1 to 63 ASCII letters, digits and hyphens.
     Lang(&'a [u8]),
     /// `submit`: the working stores become the committed ones.
@@ -52,6 +56,7 @@ impl BadLine {
 /// line is no command.
 pub fn read_line(line: &[u8]) -> Result<Command<'_>, BadLine>
     ensures means { MatchResult result (λ command. Means line.now (order_of command)) (IsRefused line.now) }
+    ensures list { IfOk result HasList }
     // The same as a function of the line.
     ensures reads { MatchResult result (λ command. reading_of line.now ≡ Ok (order_of command)) (λ bad. reading_of line.now ≡ Err bad) }
 {
@@ -76,13 +81,18 @@ fn drop_return(line: &[u8]) -> &[u8]
 }
 
 fn command_in(text: &[u8]) -> Option<Command<'_>>
-    ensures { option_map order_of result ≡ order_in text.now }
+    ensures order { option_map order_of result ≡ order_in text.now }
+    ensures list { IfSome result HasList }
 {
     match split_word(text) {
         (word, None) => plain_command(word),
         (word, Some(rest)) => {
             if is_word(word, b"set") {
                 set_command(rest)
+            } else if is_word(word, b"order") {
+                order_command(rest)
+            } else if is_word(word, b"text") {
+                text_command(rest)
             } else if is_word(word, b"lang") {
                 lang_command(rest)
             } else {
@@ -109,7 +119,8 @@ fn split_word(text: &[u8]) -> (&[u8], Option<&[u8]>)
 }
 
 fn plain_command(word: &[u8]) -> Option<Command<'_>>
-    ensures { option_map order_of result ≡ plain_in word.now }
+    ensures order { option_map order_of result ≡ plain_in word.now }
+    ensures list { IfSome result HasList }
 {
     if is_word(word, b"page") {
         Some(Command::Page)
@@ -123,7 +134,8 @@ fn plain_command(word: &[u8]) -> Option<Command<'_>>
 }
 
 fn set_command(rest: &[u8]) -> Option<Command<'_>>
-    ensures { option_map order_of result ≡ set_in (cut_word rest.now) }
+    ensures order { option_map order_of result ≡ set_in (cut_word rest.now) }
+    ensures list { IfSome result HasList }
 {
     let (question, value) = split_word(rest);
     let question = question_of(question)?;
@@ -131,11 +143,46 @@ fn set_command(rest: &[u8]) -> Option<Command<'_>>
     Some(Command::Set { question, value })
 }
 
+fn order_command(rest: &[u8]) -> Option<Command<'_>>
+    ensures order { option_map order_of result ≡ elements_in (cut_word rest.now) }
+    ensures list { IfSome result HasList }
+{
+    let (question, list) = split_word(rest);
+    let question = question_of(question)?;
+    let list = list_of(list)?;
+    Some(Command::Order { question, list })
+}
+
+// The list behind a word: the empty one where no space follows it.
+fn list_of(rest: Option<&[u8]>) -> Option<&[u8]>
+    ensures numbers { option_map (λ list. numbers_of list.now) result ≡ list_in (option_map (λ text. text.now) rest.entry) }
+    ensures list { IfSome result (λ list. IsList list.now) }
+{
+    match rest {
+        Some(list) if !list.is_empty() && is_number_list(list) => Some(list),
+        Some(_) => None,
+        None => Some(&[]),
+    }
+}
+
+fn text_command(rest: &[u8]) -> Option<Command<'_>>
+    ensures order { option_map order_of result ≡ text_in (cut_word rest.now) }
+    ensures list { IfSome result HasList }
+{
+    let (question, text) = split_word(rest);
+    let question = question_of(question)?;
+    Some(Command::Text {
+        question,
+        text: text.unwrap_or(&[]),
+    })
+}
+
 // The most bytes of a language.
 const LANGUAGE_LIMIT: usize = 63;
 
 fn lang_command(rest: &[u8]) -> Option<Command<'_>>
-    ensures { option_map order_of result ≡ lang_in rest.now }
+    ensures order { option_map order_of result ≡ lang_in rest.now }
+    ensures list { IfSome result HasList }
 {
     if 1 <= rest.len() && rest.len() <= LANGUAGE_LIMIT && are_language_bytes(rest) {
         Some(Command::Lang(rest))
@@ -174,25 +221,4 @@ fn value_of(text: &[u8]) -> Option<i128>
         return number_of_digits(digits, 16, 16).map(i128::from);
     }
     number_of_digits(text, 10, 20).map(i128::from)
-}
-
-// The number below 2^64 that one to `most` digits of a radix write.
-fn number_of_digits(text: &[u8], radix: u32, most: usize) -> Option<u64>
-    requires { (radix ≡ 10) ⊎ (radix ≡ 16) }
-    ensures { result ≡ number_below (2 ^ 64) radix most text.now }
-{
-    if text.len() > most || !are_digits(text, radix) {
-        return None;
-    }
-    match str::from_utf8(text) {
-        Ok(digits) => u64::from_str_radix(digits, radix).ok(),
-        Err(_) => None,
-    }
-}
-
-fn are_digits(text: &[u8], radix: u32) -> bool
-    requires { (radix ≡ 10) ⊎ (radix ≡ 16) }
-    ensures { result ≡ list_all (λ byte. is_digit byte radix) text.now }
-{
-    text.iter().all(|byte| char::from(*byte).is_digit(radix))
 }

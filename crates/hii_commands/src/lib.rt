@@ -1,7 +1,6 @@
 //! The lines of a script and the commands that they are.
 #![tactic(auto)]
 
-mod bytes;
 mod command;
 pub mod laws;
 mod limits;

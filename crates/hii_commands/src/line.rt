@@ -5,10 +5,9 @@ ghost use Rattle.std.specs.List.{position, before_first};
 ghost use Rattle.hii_commands.specs.Script.{ends_line};
 ghost use Rattle.hii_commands.specs.Line.{held_of};
 
-use crate::bytes::first_place;
 use crate::command::BadLine;
 use crate::limits::LINE_LIMIT;
-use hii_bytes::{Cause, Fault};
+use hii_bytes::{Cause, Fault, first_place};
 use std::alloc::Global;
 use std::marker::Model;
 

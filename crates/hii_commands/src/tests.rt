@@ -28,6 +28,47 @@ fn commands_of_lines(rt: HostRuntime) {
 }
 
 #[test]
+fn lists_and_texts(rt: HostRuntime) {
+    for (line, list) in [
+        (b"order 7".as_slice(), Some(b"".as_slice())),
+        (b"order 7\r".as_slice(), Some(b"".as_slice())),
+        (b"order 00007 2,0,2".as_slice(), Some(b"2,0,2".as_slice())),
+        (b"order 7 ".as_slice(), None),
+        (b"order 7 1,".as_slice(), None),
+        (b"order 7 1, 2".as_slice(), None),
+        (b"order 7 1 2".as_slice(), None),
+        (b"order  7 1".as_slice(), None),
+        (b"order 65536 1".as_slice(), None),
+        (b"order".as_slice(), None),
+        (b"order ".as_slice(), None),
+    ] {
+        let wanted = list
+            .map(|list| Command::Order { question: 7, list })
+            .ok_or(BadLine::BadCommand);
+        assert_eq!(rt; read_line(line), wanted);
+    }
+    for (line, text) in [
+        (b"text 1".as_slice(), Some(b"".as_slice())),
+        (b"text 1 ".as_slice(), Some(b"".as_slice())),
+        (b"text 1 a  b ".as_slice(), Some(b"a  b ".as_slice())),
+        (b"text 1  x".as_slice(), Some(b" x".as_slice())),
+        (
+            b"text 00001 \0\t\xff\r\r".as_slice(),
+            Some(b"\0\t\xff\r".as_slice()),
+        ),
+        (b"text  1 x".as_slice(), None),
+        (b"text 1\t".as_slice(), None),
+        (b"text".as_slice(), None),
+        (b"text ".as_slice(), None),
+    ] {
+        let wanted = text
+            .map(|text| Command::Text { question: 1, text })
+            .ok_or(BadLine::BadCommand);
+        assert_eq!(rt; read_line(line), wanted);
+    }
+}
+
+#[test]
 fn lines_in_pieces(rt: HostRuntime) -> Result<(), Fail> {
     let mut buffer = LineBuffer::new(rt.alloc())?;
     let fed = buffer.feed(b"pa");

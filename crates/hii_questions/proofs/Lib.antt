@@ -1,3 +1,10 @@
+pub mod ItemLemmas
+pub mod ListLemmas
+pub mod FaultLemmas
 pub mod QuestionLemmas
-pub mod FieldLemmas
+pub mod PartLemmas
+pub mod RefusalLemmas
+pub mod SpellLemmas
+pub mod KeptLemmas
+pub mod ApartLemmas
 pub mod LawLemmas

@@ -1,6 +1,6 @@
 -- The questions of a package by their ids.
-use Rattle.std.proofs.Common.{◌≡◌, ℕ, ◌+◌, ◌<◌, Bool, true, false, eqb, ltb, cond, Option, Some, None, List, [], ◌∷◌, ◌++◌, map, take, length, get_or, refl, sym, ap, ◌∙◌, arith, inl, inr}
-use Rattle.std.specs.Prelude.{◌&&◌, ◌==◌, option_map, is_some, filter}
+use Rattle.std.proofs.Common.{◌≡◌, ℕ, ◌+◌, ◌<◌, Bool, true, false, eqb, ltb, cond, Option, Some, None, List, [], ◌∷◌, ◌++◌, map, take, length, get_or, refl, sym, ap, ◌∙◌, arith, inl, inr, append_assoc}
+use Rattle.std.specs.Prelude.{◌&&◌, ◌||◌, ◌==◌, option_map, is_some, filter}
 use Rattle.std.specs.List.{find}
 use Rattle.std.specs.Option.{option_or}
 use Rattle.std.specs.Ordering.{nat_cmp, is_eq}
@@ -10,9 +10,12 @@ use Rattle.std.proofs.lemmas.List.Folds.{find-append}
 use Rattle.std.proofs.lemmas.Bool.{cases_Bool, eqb-true, ne_eqb, ltb-true, cond-false, true≢false}
 use Rattle.ifr_opcodes.specs.Fields.{question_id}
 use Rattle.ifr_opcodes.specs.Forest.{Placed}
-use Rattle.ifr_scopes.specs.Nodes.{is_question}
-use Rattle.hii_questions.specs.Fields.{question_with}
-use Rattle.hii_questions.specs.Views.{question_node, first_with}
+use Rattle.ifr_scopes.specs.Kinds.{is_statement_number}
+use Rattle.ifr_scopes.specs.Nodes.{is_question, is_statement}
+use Rattle.hii_varstore.specs.Layout.{Shape}
+use Rattle.hii_questions.specs.Fields.{Asked, asked_at, question_with}
+use Rattle.hii_questions.specs.Tables.{first_by, first_with}
+use Rattle.hii_questions.specs.Views.{question_view}
 use Rattle.hii_questions.specs.declared.question.Question.{Question}
 
 -- what is found among those that pass a first test
@@ -23,19 +26,30 @@ found_among p q (x ∷ xs) = elim (cases_Bool (p x)) [
   | inr other ↦ rw other (found_among p q xs)
 ]
 
+-- what is found among things that are seen
+found_mapped : {X Y : Type 0} (f : X → Y) (p : Y → Bool) (xs : List X) → find p (map f xs) ≡ option_map f (find (λ x. p (f x)) xs)
+found_mapped f p [] = refl
+found_mapped f p (x ∷ xs) = elim (cases_Bool (p (f x))) [
+  | inl here ↦ rw here refl
+  | inr other ↦ rw other (found_mapped f p xs)
+]
+
 -- the first question of an id that is not 0 is the question of this id
-pub first_is_with : (ns : List Placed) (id : ℕ) → eqb id 0 ≡ false → first_with (filter is_question ns) id ≡ question_with ns id
-first_is_with ns id some = found_among is_question (λ n. question_id n.op == id) ns ∙ sym (cond-false (eqb id 0) None _ some)
+pub first_is_with : (shape : Shape) (ns : List Placed) (id : ℕ) → eqb id 0 ≡ false
+    → first_with (map (asked_at shape) (filter is_question ns)) id ≡ option_map (asked_at shape) (question_with ns id)
+first_is_with shape ns id some =
+    found_mapped (asked_at shape) (λ (q : Asked). question_id q.node.op == id) (filter is_question ns)
+    ∙ ap (option_map (asked_at shape)) (found_among is_question (λ n. question_id n.op == id) ns ∙ sym (cond-false (eqb id 0) None _ some))
 
 -- one more question
-found_push : (ns : List Placed) (n : Placed) (id : ℕ) → first_with (ns ++ n ∷ []) id ≡ option_or (first_with ns id) (cond (eqb (question_id n.op) id) (Some n) None)
-found_push ns n id = find-append (λ (m : Placed). eqb (question_id m.op) id) ns (n ∷ [])
+found_push : (by : Asked → ℕ) (ns : List Asked) (n : Asked) (id : ℕ) → first_by by (ns ++ n ∷ []) id ≡ option_or (first_by by ns id) (cond (eqb (by n) id) (Some n) None)
+found_push by ns n id = find-append (λ (m : Asked). eqb (by m) id) ns (n ∷ [])
 
-pushed : (qs : List Question) (i : ℕ) (q : Question) (id : ℕ) → q ≡ get_or qs i q → i < length qs → first_with (map question_node (take (i + 1) qs)) id
-    ≡ option_or (first_with (map question_node (take i qs)) id) (cond (eqb (question_id (question_node q).op) id) (Some (question_node q)) None)
-pushed qs i q id is within =
-    ap (λ (l : List Question). first_with (map question_node l) id) (take_more qs i q within ∙ ap (λ (x : Question). take i qs ++ x ∷ []) (sym is))
-    ∙ ap (λ (l : List Placed). first_with l id) (map-append question_node (take i qs) (q ∷ [])) ∙ found_push (map question_node (take i qs)) (question_node q) id
+pushed : (by : Asked → ℕ) (qs : List Question) (i : ℕ) (q : Question) (id : ℕ) → q ≡ get_or qs i q → i < length qs → first_by by (map question_view (take (i + 1) qs)) id
+    ≡ option_or (first_by by (map question_view (take i qs)) id) (cond (eqb (by (question_view q)) id) (Some (question_view q)) None)
+pushed by qs i q id is within =
+    ap (λ (l : List Question). first_by by (map question_view l) id) (take_more qs i q within ∙ ap (λ (x : Question). take i qs ++ x ∷ []) (sym is))
+    ∙ ap (λ (l : List Asked). first_by by l id) (map-append question_view (take i qs) (q ∷ [])) ∙ found_push by (map question_view (take i qs)) (question_view q) id
 
 is_eq-nat_cmp : (a b : ℕ) → is_eq (nat_cmp a b) ≡ eqb a b
 is_eq-nat_cmp a b =
@@ -44,56 +58,96 @@ is_eq-nat_cmp a b =
       | inr greater ↦ rw greater (elim (cases_Bool (eqb a b)) [ inl same ↦ rw same refl | inr other ↦ rw other refl ])
     ]
 
-or_none : (o : Option Placed) → o ≡ option_or o None
+or_none : (o : Option Asked) → o ≡ option_or o None
 or_none None = refl
 or_none (Some n) = refl
 
 -- an id that is found stays the first one's
-stays : (o : Option Placed) (b : Bool) (n : Placed) → (b ≡ true → is_some o ≡ true) → o ≡ option_or o (cond b (Some n) None)
+stays : (o : Option Asked) (b : Bool) (n : Asked) → (b ≡ true → is_some o ≡ true) → o ≡ option_or o (cond b (Some n) None)
 stays None true n there = absurd (true≢false (sym (there refl)))
 stays None false n there = refl
 stays (Some m) b n there = refl
 
-mapped : (o : Option Question) → is_some (option_map question_node o) ≡ is_some o
+mapped : (o : Option Question) → is_some (option_map question_view o) ≡ is_some o
 mapped None = refl
 mapped (Some q) = refl
 
-none_mapped : (o : Option Question) → is_some o ≡ false → option_map question_node o ≡ None
+none_mapped : (o : Option Question) → is_some o ≡ false → option_map question_view o ≡ None
 none_mapped None none = refl
 none_mapped (Some q) none = absurd (true≢false none)
 
 -- the next question, and its id as the index asks for it
-pub record IsNext (qs : List Question) (i : ℕ) (q : Question) (key : ℕ) : Type 0 where
+pub record IsNext (by : Asked → ℕ) (qs : List Question) (i : ℕ) (q : Question) (key : ℕ) : Type 0 where
   pub is : q ≡ get_or qs i q
   pub within : i < length qs
-  pub key_is : key ≡ question_id (question_node q).op
+  pub key_is : key ≡ by (question_view q)
 
 -- the questions so far are in the index
-abbrev pub AreIn : List Question → ℕ → BTreeMap ℕ Question → Type 0
-AreIn qs i m = (id : ℕ) → option_map question_node (get nat_cmp m id) ≡ first_with (map question_node (take i qs)) id
+abbrev pub AreIn : (Asked → ℕ) → List Question → ℕ → BTreeMap ℕ Question → Type 0
+AreIn by qs i m = (id : ℕ) → option_map question_view (get nat_cmp m id) ≡ first_by by (map question_view (take i qs)) id
 
 -- the index after a question whose id was met
-pub index_kept : (qs : List Question) (i : ℕ) (q : Question) (key : ℕ) (m : BTreeMap ℕ Question) → IsNext qs i q key → AreIn qs i m → is_some (get nat_cmp m key) ≡ true → AreIn qs (i + 1) m
-index_kept qs i q key m next indexed met id =
-    let n = question_node q in
-    let there : eqb (question_id n.op) id ≡ true → is_some (first_with (map question_node (take i qs)) id) ≡ true =
-    λ same. ap is_some (sym (indexed id)) ∙ mapped (get nat_cmp m id) ∙ ap (λ (k : ℕ). is_some (get nat_cmp m k)) (sym (next.key_is ∙ eqb-true (question_id n.op) id same)) ∙ met in
-    indexed id ∙ stays (first_with (map question_node (take i qs)) id) (eqb (question_id n.op) id) n there ∙ sym (pushed qs i q id next.is next.within)
+pub index_kept : (by : Asked → ℕ) (qs : List Question) (i : ℕ) (q : Question) (key : ℕ) (m : BTreeMap ℕ Question) → IsNext by qs i q key → AreIn by qs i m → is_some (get nat_cmp m key) ≡ true → AreIn by qs (i + 1) m
+index_kept by qs i q key m next indexed met id =
+    let n = question_view q in
+    let there : eqb (by n) id ≡ true → is_some (first_by by (map question_view (take i qs)) id) ≡ true =
+    λ same. ap is_some (sym (indexed id)) ∙ mapped (get nat_cmp m id) ∙ ap (λ (k : ℕ). is_some (get nat_cmp m k)) (sym (next.key_is ∙ eqb-true (by n) id same)) ∙ met in
+    indexed id ∙ stays (first_by by (map question_view (take i qs)) id) (eqb (by n) id) n there ∙ sym (pushed by qs i q id next.is next.within)
 
 -- what the index tells after a question whose id was not met
-told_more : (a b : ℕ) (q : Question) (old : Option Question) (found : Option Placed) → option_map question_node old ≡ found → (a ≡ b → found ≡ None)
-    → option_map question_node (cond (eqb a b) (Some q) old) ≡ option_or found (cond (eqb a b) (Some (question_node q)) None)
+told_more : (a b : ℕ) (q : Question) (old : Option Question) (found : Option Asked) → option_map question_view old ≡ found → (a ≡ b → found ≡ None)
+    → option_map question_view (cond (eqb a b) (Some q) old) ≡ option_or found (cond (eqb a b) (Some (question_view q)) None)
 told_more a b q old found same new = elim (cases_Bool (eqb a b)) [
   | inl here ↦ rw (here, new (eqb-true a b here)) refl
   | inr other ↦ rw other (same ∙ or_none found)
 ]
 
-pub index_more : (qs : List Question) (i : ℕ) (q : Question) (key : ℕ) (m n : BTreeMap ℕ Question) → IsNext qs i q key → AreIn qs i m → is_some (get nat_cmp m key) ≡ false → Updates nat_cmp m n key (Some q)
-    → AreIn qs (i + 1) n
-index_more qs i q key m n next indexed unmet updates id =
+pub index_more : (by : Asked → ℕ) (qs : List Question) (i : ℕ) (q : Question) (key : ℕ) (m n : BTreeMap ℕ Question) → IsNext by qs i q key → AreIn by qs i m → is_some (get nat_cmp m key) ≡ false → Updates nat_cmp m n key (Some q)
+    → AreIn by qs (i + 1) n
+index_more by qs i q key m n next indexed unmet updates id =
     let now = updates.0 id ∙ ap (λ t. cond t (Some q) (get nat_cmp m id)) (is_eq-nat_cmp key id) in
-    let new : key ≡ id → first_with (map question_node (take i qs)) id ≡ None =
-    λ e. ap (first_with (map question_node (take i qs))) (sym e) ∙ sym (indexed key) ∙ none_mapped (get nat_cmp m key) unmet in
-    let told = told_more key id q (get nat_cmp m id) (first_with (map question_node (take i qs)) id) (indexed id) new in
-    let named = ap (λ (k : ℕ). option_or (first_with (map question_node (take i qs)) id) (cond (eqb k id) (Some (question_node q)) None)) next.key_is in
-    ap (option_map question_node) now ∙ told ∙ named ∙ sym (pushed qs i q id next.is next.within)
+    let new : key ≡ id → first_by by (map question_view (take i qs)) id ≡ None =
+    λ e. ap (first_by by (map question_view (take i qs))) (sym e) ∙ sym (indexed key) ∙ none_mapped (get nat_cmp m key) unmet in
+    let told = told_more key id q (get nat_cmp m id) (first_by by (map question_view (take i qs)) id) (indexed id) new in
+    let named = ap (λ (k : ℕ). option_or (first_by by (map question_view (take i qs)) id) (cond (eqb k id) (Some (question_view q)) None)) next.key_is in
+    ap (option_map question_view) now ∙ told ∙ named ∙ sym (pushed by qs i q id next.is next.within)
+
+-- What passes a second test passes a first.
+filter_twice : (p q : Placed → Bool) (ns : List Placed) → ((n : Placed) → q n ≡ true → p n ≡ true) → filter q (filter p ns) ≡ filter q ns
+filter_twice p q [] stronger = refl
+filter_twice p q (n ∷ ns) stronger = elim (cases_Bool (q n)) [
+  | inl here ↦ let first = stronger n here in rw (first, here) (ap (λ (l : List Placed). n ∷ l) (filter_twice p q ns stronger))
+  | inr other ↦ elim (cases_Bool (p n)) [
+    | inl first ↦ rw (first, other) (filter_twice p q ns stronger)
+    | inr none ↦ rw (none, other) (filter_twice p q ns stronger)
+  ]
+]
+
+or_true : (b : Bool) → b || true ≡ true
+or_true true = refl
+or_true false = refl
+
+-- a question is a statement
+pub question_is_statement : (n : Placed) → is_question n ≡ true → is_statement n ≡ true
+unfolding is_statement_number
+question_is_statement n is = rw is (or_true _)
+
+pub among_statements : (ns : List Placed) → filter is_question (filter is_statement ns) ≡ filter is_question ns
+among_statements ns = filter_twice is_statement is_question ns question_is_statement
+
+-- one more statement that is a question, or is none
+pub push_question : (shape : Shape) (qs : List Question) (q : Question) (n : Placed) (left rest : List Placed) (all : List Asked)
+    → Some (question_view q) ≡ cond (is_question n) (Some (asked_at shape n)) None → left ≡ n ∷ rest
+    → map question_view qs ++ map (asked_at shape) (filter is_question left) ≡ all
+    → map question_view (qs ++ q ∷ []) ++ map (asked_at shape) (filter is_question rest) ≡ all
+push_question shape qs q n left rest all seen steps was = elim (cases_Bool (is_question n)) [
+  | inl is ↦
+      let told : Some (question_view q) ≡ Some (asked_at shape n) = seen ∙ rw is refl in
+      let same : question_view q ≡ asked_at shape n = cc in
+      let first : map (asked_at shape) (filter is_question left) ≡ question_view q ∷ map (asked_at shape) (filter is_question rest) =
+      ap (λ (l : List Placed). map (asked_at shape) (filter is_question l)) steps ∙ rw is (ap (λ (a : Asked). a ∷ map (asked_at shape) (filter is_question rest)) (sym same)) in
+      ap (λ (l : List Asked). l ++ map (asked_at shape) (filter is_question rest)) (map-append question_view qs (q ∷ []))
+      ∙ append_assoc (map question_view qs) (question_view q ∷ []) (map (asked_at shape) (filter is_question rest))
+      ∙ ap (λ (l : List Asked). map question_view qs ++ l) (sym first) ∙ was
+  | inr other ↦ let none : Some (question_view q) ≡ None = seen ∙ rw other refl in absurd (cc)
+]

@@ -1,7 +1,7 @@
 -- How denials are named (own rule).
 use Rattle.std.specs.Prelude.{ℕ, List, codes}
 use Rattle.hii_questions.specs.declared.denial.DenialKind.{DenialKind}
-use Rattle.hii_questions.specs.declared.denial.DenialKind.TheVariants.{SuppressIf, ReadOnly, Outside, Kind, Range, NoQuestion}
+use Rattle.hii_questions.specs.declared.denial.DenialKind.TheVariants.{SuppressIf, ReadOnly, Outside, Kind, Range, NoOption, Length, Repeat, EmptySet, BadText, NoQuestion}
 
 abbrev pub kind_name : DenialKind → List ℕ
 kind_name SuppressIf = codes "suppressif"
@@ -9,4 +9,9 @@ kind_name ReadOnly = codes "readonly"
 kind_name Outside = codes "outside"
 kind_name Kind = codes "kind"
 kind_name Range = codes "range"
+kind_name NoOption = codes "nooption"
+kind_name Length = codes "length"
+kind_name Repeat = codes "repeat"
+kind_name EmptySet = codes "emptyset"
+kind_name BadText = codes "badtext"
 kind_name NoQuestion = codes "noquestion"

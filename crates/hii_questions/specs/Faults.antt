@@ -1,15 +1,29 @@
--- Questions whose store is not there, or does not hold their field (own rule).
-use Rattle.std.specs.Prelude.{ℕ, ◌+◌, Bool, false, ◌==◌, ◌&&◌, nat_lt, not, Option, Some, None, is_none, List, [], ◌∷◌}
+-- Questions whose store is not there, or does not hold their field, and options whose values do not suit (own rule).
+use Rattle.std.specs.Prelude.{ℕ, ◌+◌, ◌^◌, Bool, false, ◌==◌, ◌&&◌, nat_lt, nat_le, not, Option, Some, None, List, [], ◌∷◌, map, filter}
+use Rattle.std.specs.List.{list_any, flat_map}
 use Rattle.hii_bytes.specs.Faults.{IsFaultOf}
 use Rattle.hii_bytes.specs.declared.cause.Cause.{Cause}
-use Rattle.hii_bytes.specs.declared.cause.Cause.TheVariants.{UnknownVarstore, FieldOutside}
+use Rattle.hii_bytes.specs.declared.cause.Cause.TheVariants.{UnknownVarstore, FieldOutside, OptionRange, MixedOptions}
 use Rattle.ifr_opcodes.specs.Forest.{Placed}
-use Rattle.ifr_opcodes.specs.Fields.{question_store}
-use Rattle.ifr_scopes.specs.Nodes.{is_question}
+use Rattle.ifr_opcodes.specs.Fields.{question_store, one_of_width, option_kind, option_value}
+use Rattle.ifr_opcodes.specs.Opcode.{number}
+use Rattle.ifr_opcodes.specs.declared.codes.TheConstants.{ONE_OF, ORDERED_LIST}
+use Rattle.ifr_scopes.specs.Nodes.{is_store, options}
+use Rattle.ifr_scopes.specs.Stores.{store_id}
 use Rattle.hii_varstore.specs.Layout.{Shape, size_of}
-use Rattle.hii_questions.specs.Fields.{Field, field_of}
+use Rattle.hii_varstore.specs.StoreNodes.{layout_of}
+use Rattle.hii_questions.specs.Fields.{Field, Asked, questions}
+use Rattle.hii_questions.specs.Types.{first_kind}
 
--- the field reaches past the end of its store
+-- a store of any kind has the id
+abbrev pub is_known : List Placed → ℕ → Bool
+is_known ns id = list_any (λ s. store_id s.op == id) (filter is_store ns)
+
+-- The question names a store, and no known one.
+abbrev pub lacks_store : (ℕ → Bool) → Placed → Bool
+lacks_store known q = not (question_store q.op == 0) && not (known (question_store q.op))
+
+-- The field reaches past the end of its store.
 abbrev pub is_past : Field → Option ℕ → Bool
 is_past field None = false
 is_past field (Some size) = nat_lt size (field.offset + field.width)
@@ -18,15 +32,49 @@ abbrev pub is_outside : Shape → Option Field → Bool
 is_outside shape None = false
 is_outside shape (Some field) = is_past field (size_of shape field.store)
 
--- the rows of the table of faults
-abbrev pub has_fault : Shape → Placed → Cause → Bool
-has_fault shape n UnknownVarstore = is_question n && (not (question_store n.op == 0) && is_none (size_of shape (question_store n.op)))
-has_fault shape n FieldOutside = is_question n && is_outside shape (field_of n.op)
-has_fault shape n _ = false
+-- The value of an option of a ONE_OF is no number of the question's width.
+abbrev pub is_too_large : Placed → Placed → Bool
+is_too_large q o = number q.op == ONE_OF && nat_le (256 ^ one_of_width q.op) (option_value o.op)
 
-abbrev pub IsQuestionFault : List Placed → Shape → Cause → ℕ → Type 0
-IsQuestionFault ns shape = IsFaultOf (λ (n : Placed). n.place) (has_fault shape) ns
+-- An option of an ORDERED_LIST is of another kind than the first.
+abbrev pub differs : Option ℕ → ℕ → Bool
+differs None kind = false
+differs (Some first) kind = not (kind == first)
+
+abbrev pub is_mixed : Placed → Placed → Bool
+is_mixed q o = number q.op == ORDERED_LIST && differs (first_kind (options q)) (option_kind o.op)
+
+-- the rows of the table of faults: of a question, over the ids and the sizes of stores, and of an option of it
+abbrev pub has_field_fault : Shape → (ℕ → Bool) → Asked → Cause → Bool
+has_field_fault shape known q UnknownVarstore = lacks_store known q.node
+has_field_fault shape known q FieldOutside = is_outside shape q.field
+has_field_fault shape known q _ = false
+
+abbrev pub has_option_fault : Placed → Placed → Cause → Bool
+has_option_fault q o OptionRange = is_too_large q o
+has_option_fault q o MixedOptions = is_mixed q o
+has_option_fault q o _ = false
+
+-- a question, or an option of one
+pub data Part : Type 0 where
+  itself : (q : Asked) → Part
+  option : (q : Asked) (o : Placed) → Part
+
+abbrev pub place_of : Part → ℕ
+place_of (itself q) = q.node.place
+place_of (option q o) = o.place
+
+abbrev pub has_fault : Shape → (ℕ → Bool) → Part → Cause → Bool
+has_fault shape known (itself q) cause = has_field_fault shape known q cause
+has_fault shape known (option q o) cause = has_option_fault q.node o cause
+
+-- a question and its options, by place
+abbrev pub parts_of : Asked → List Part
+parts_of q = itself q ∷ map (option q) (options q.node)
+
+abbrev pub IsQuestionFault : List Placed → Cause → ℕ → Type 0
+IsQuestionFault ns = IsFaultOf place_of (has_fault (layout_of ns) (is_known ns)) (flat_map parts_of (questions ns))
 
 -- the causes by their numbers
 abbrev pub causes : List Cause
-causes = UnknownVarstore ∷ FieldOutside ∷ []
+causes = UnknownVarstore ∷ FieldOutside ∷ OptionRange ∷ MixedOptions ∷ []

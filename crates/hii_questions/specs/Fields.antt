@@ -1,10 +1,14 @@
 -- Questions, and the fields that hold their values: bytes of a store (UEFI 2.8, 33.2.5.4 Questions and 33.2.5.6 Storage;
--- which field a question has is read off its opcode, 33.3.8.2 EFI_IFR_QUESTION_HEADER).
-use Rattle.std.specs.Prelude.{ℕ, ◌==◌, ◌&&◌, if◌then◌else◌, Option, Some, None, List}
+-- where the field is stands in the question's opcode, 33.3.8.2.2 EFI_IFR_QUESTION_HEADER).
+use Rattle.std.specs.Prelude.{ℕ, ◌==◌, ◌&&◌, if◌then◌else◌, Option, Some, None, option_map, List, map, filter}
 use Rattle.std.specs.List.{find}
 use Rattle.ifr_opcodes.specs.Forest.{Placed}
 use Rattle.ifr_opcodes.specs.Fields.{question_id, question_store, question_offset}
 use Rattle.ifr_scopes.specs.Nodes.{is_question}
+use Rattle.hii_varstore.specs.Layout.{Shape, size_of}
+use Rattle.hii_varstore.specs.StoreNodes.{layout_of}
+use Rattle.hii_questions.specs.FieldTypes.{size_of_type}
+use Rattle.hii_questions.specs.Types.{type_of}
 
 -- bytes of a store
 pub record Field : Type 0 where
@@ -12,9 +16,37 @@ pub record Field : Type 0 where
   pub offset : ℕ
   pub width : ℕ
 
--- A checkbox has a byte of its store, at its offset. Store id 0 is no store.
-abbrev pub field_of : List ℕ → Option Field
-field_of op = if question_store op == 0 then None else Some record { store = question_store op; offset = question_offset op; width = 1 }
+-- how many bytes the field of a question has, if it may have one
+abbrev pub width_of : Placed → Option ℕ
+width_of n = option_map size_of_type (type_of n)
+
+-- A field has a width, and lies in a store of bytes. Store id 0 is no store.
+abbrev pub field_in : ℕ → ℕ → Option ℕ → Option ℕ → Option Field
+field_in store offset (Some size) (Some width) = if store == 0 then None else Some record { store = store; offset = offset; width = width }
+field_in store offset _ _ = None
+
+-- the field of a question, where these are the stores
+abbrev pub field_at : Shape → Placed → Option Field
+field_at shape n = field_in (question_store n.op) (question_offset n.op) (size_of shape (question_store n.op)) (width_of n)
+
+-- the field of a question among all nodes
+abbrev pub field_of : List Placed → Placed → Option Field
+field_of ns n = field_at (layout_of ns) n
+
+-- a question with its field
+pub record Asked : Type 0 where
+  pub node : Placed
+  pub field : Option Field
+
+abbrev pub asked_at : Shape → Placed → Asked
+asked_at shape n = record { node = n; field = field_at shape n }
+
+abbrev pub asked : List Placed → Placed → Asked
+asked ns n = asked_at (layout_of ns) n
+
+-- the questions among all nodes, by place
+abbrev pub questions : List Placed → List Asked
+questions ns = map (asked ns) (filter is_question ns)
 
 -- the question of an id, which is not 0
 abbrev pub question_with : List Placed → ℕ → Option Placed

@@ -1,22 +1,125 @@
 -- What a question takes as its value, and which bytes of its field this gives (own rule).
-use Rattle.std.specs.Prelude.{ℕ, ◌==◌, if◌then◌else◌, ℤ, pos, negsuc, Option, Some, None, Result, Ok, Err, List, [], ◌∷◌}
-use Rattle.hii_questions.specs.Fields.{Field, field_of}
+use Rattle.std.specs.Prelude.{ℕ, ◌-◌, ◌*◌, ◌/◌, ◌^◌, ◌==◌, Bool, true, false, ◌||◌, ◌&&◌, nat_lt, nat_le, not, if◌then◌else◌, ℤ, pos, negsuc, ◌-ℤ◌, int_lt, suc, Option, Some, None, Result, Ok, Err, List, [], ◌∷◌, ◌++◌, length, chars}
+use Rattle.std.specs.List.{list_any}
+use Rattle.std.specs.Str.{is_utf8}
+use Rattle.byteorder.specs.Endian.{little_number, little_bytes}
+use Rattle.hii_questions.specs.FieldTypes.{FieldType, checkbox, numeric, one_of, text, ordered_list, size_of_type}
+use Rattle.hii_questions.specs.Items.{items_in, spelled, filled}
 use Rattle.hii_questions.specs.declared.denial.DenialKind.{DenialKind}
-use Rattle.hii_questions.specs.declared.denial.DenialKind.TheVariants.{Kind, Range}
+use Rattle.hii_questions.specs.declared.denial.DenialKind.TheVariants.{Kind, Range, NoOption, Length, Repeat, EmptySet, BadText}
 
--- a value that is offered: a number
+-- a value that is offered
 pub data Offer : Type 0 where
+  -- a number
   whole : (n : ℤ) → Offer
+  -- the bits of a number
+  raw : (bits : ℕ) → Offer
+  -- a text in UTF-8
+  utf8 : (bytes : List ℕ) → Offer
+  -- a text in units of two bytes
+  units : (bytes : List ℕ) → Offer
+  -- a list of numbers
+  listed : (ns : List ℕ) → Offer
+  -- a list as it stands in a field
+  elements : (bytes : List ℕ) → Offer
+  -- the bytes of a whole field
+  field : (bytes : List ℕ) → Offer
 
--- A checkbox takes 0 and 1.
-abbrev pub checkbox_bytes : ℤ → Result (List ℕ) DenialKind
-checkbox_bytes (pos n) = if n == 0 then Ok (0 ∷ []) else if n == 1 then Ok (1 ∷ []) else Err Range
-checkbox_bytes (negsuc n) = Err Range
+-- the bytes of a field are read as what the field holds
+abbrev pub field_as : FieldType → List ℕ → Offer
+field_as checkbox bytes = raw (little_number 1 bytes)
+field_as (numeric signed width minimum maximum) bytes = raw (little_number width bytes)
+field_as (one_of width values) bytes = raw (little_number width bytes)
+field_as (text minimum maximum) bytes = units bytes
+field_as (ordered_list width most unique some values) bytes = elements bytes
 
-abbrev pub fits_field : Option Field → Offer → Result (List ℕ) DenialKind
-fits_field None offer = Err Kind
-fits_field (Some field) (whole n) = checkbox_bytes n
+abbrev pub read_as : FieldType → Offer → Offer
+read_as t (field bytes) = field_as t bytes
+read_as t offer = offer
 
--- the new bytes of the field of a question with this opcode; a question without a field takes nothing
-abbrev pub fits : List ℕ → Offer → Result (List ℕ) DenialKind
-fits op offer = fits_field (field_of op) offer
+-- A checkbox takes the numbers 0 and 1.
+abbrev pub checkbox_number : ℤ → Result (List ℕ) DenialKind
+checkbox_number (pos n) = if n == 0 then Ok (0 ∷ []) else if n == 1 then Ok (1 ∷ []) else Err Range
+checkbox_number (negsuc n) = Err Range
+
+abbrev pub checkbox_bits : ℕ → Result (List ℕ) DenialKind
+checkbox_bits bits = Ok ((if bits == 0 then 0 else 1) ∷ [])
+
+-- the number that the bits of `width` bytes are: with a sign their two's complement
+abbrev pub shown : Bool → ℕ → ℕ → ℤ
+shown signed width bits = if signed && nat_le (256 ^ width / 2) bits then pos bits -ℤ pos (256 ^ width) else pos bits
+
+-- the bits of `width` bytes that are a number, where there are some
+abbrev pub bits_of : Bool → ℕ → ℤ → Option ℕ
+bits_of signed width (pos n) = if nat_lt n (if signed then 256 ^ width / 2 else 256 ^ width) then Some n else None
+bits_of signed width (negsuc n) = if signed && nat_lt n (256 ^ width / 2) then Some (256 ^ width - suc n) else None
+
+abbrev pub fitting_bits : ℕ → ℕ → Option ℕ
+fitting_bits width bits = if nat_lt bits (256 ^ width) then Some bits else None
+
+-- A numeric question takes what is in its bounds; all three numbers are read alike.
+abbrev pub numeric_bytes : Bool → ℕ → ℕ → ℕ → Option ℕ → Result (List ℕ) DenialKind
+numeric_bytes signed width minimum maximum None = Err Range
+numeric_bytes signed width minimum maximum (Some bits) =
+    if int_lt (shown signed width bits) (shown signed width minimum) || int_lt (shown signed width maximum) (shown signed width bits)
+    then Err Range else Ok (little_bytes width bits)
+
+-- whether an option has a value
+abbrev pub is_offered : List ℕ → ℕ → Bool
+is_offered values n = list_any (λ value. value == n) values
+
+-- the value of an option that a number is; no option has a negative value
+abbrev pub offered : List ℕ → ℤ → Option ℕ
+offered values (pos n) = if is_offered values n then Some n else None
+offered values (negsuc n) = None
+
+abbrev pub chosen_bytes : ℕ → Option ℕ → Result (List ℕ) DenialKind
+chosen_bytes width None = Err NoOption
+chosen_bytes width (Some value) = Ok (little_bytes width value)
+
+-- Characters are counted as units.
+abbrev pub text_bytes : ℕ → ℕ → List ℕ → Result (List ℕ) DenialKind
+text_bytes minimum maximum us =
+    if nat_lt (length us) minimum || nat_lt maximum (length us) then Err Length else Ok (filled (2 * maximum) (spelled 2 us))
+
+-- a character that is no unit of a text, or ends it
+abbrev pub is_bad_character : ℕ → Bool
+is_bad_character c = c == 0 || nat_lt 0xffff c
+
+abbrev pub is_text : List ℕ → Bool
+is_text bytes = is_utf8 bytes && not (list_any is_bad_character (chars bytes))
+
+-- Each element is the value of an option, and none comes twice where that is forbidden.
+abbrev pub element_denial : List ℕ → Bool → List ℕ → List ℕ → Option DenialKind
+element_denial values unique before [] = None
+element_denial values unique before (n ∷ ns) =
+    if n == 0 || not (is_offered values n) then Some NoOption
+    else if unique && list_any (λ earlier. earlier == n) before then Some Repeat
+    else element_denial values unique (before ++ n ∷ []) ns
+
+abbrev pub list_denial : ℕ → Bool → Bool → List ℕ → List ℕ → Option DenialKind
+list_denial most unique some values ns =
+    if nat_lt most (length ns) then Some Length
+    else if some && (length ns == 0) then Some EmptySet
+    else element_denial values unique [] ns
+
+abbrev pub bytes_unless : Option DenialKind → List ℕ → Result (List ℕ) DenialKind
+bytes_unless None bytes = Ok bytes
+bytes_unless (Some denial) bytes = Err denial
+
+abbrev pub list_bytes : ℕ → ℕ → Bool → Bool → List ℕ → List ℕ → Result (List ℕ) DenialKind
+list_bytes width most unique some values ns = bytes_unless (list_denial most unique some values ns) (filled (most * width) (spelled width ns))
+
+-- what a field of a type takes, and the new bytes
+abbrev pub fits_type : FieldType → Offer → Result (List ℕ) DenialKind
+fits_type checkbox (whole n) = checkbox_number n
+fits_type checkbox (raw bits) = checkbox_bits bits
+fits_type (numeric signed width minimum maximum) (whole n) = numeric_bytes signed width minimum maximum (bits_of signed width n)
+fits_type (numeric signed width minimum maximum) (raw bits) = numeric_bytes signed width minimum maximum (fitting_bits width bits)
+fits_type (one_of width values) (whole n) = chosen_bytes width (offered values n)
+fits_type (one_of width values) (raw bits) = chosen_bytes width (offered values (pos bits))
+fits_type (text minimum maximum) (utf8 bytes) = if is_text bytes then text_bytes minimum maximum (chars bytes) else Err BadText
+fits_type (text minimum maximum) (units bytes) = text_bytes minimum maximum (items_in 2 bytes)
+fits_type (ordered_list width most unique some values) (listed ns) = list_bytes width most unique some values ns
+fits_type (ordered_list width most unique some values) (elements bytes) = list_bytes width most unique some values (items_in width bytes)
+fits_type t offer = Err Kind

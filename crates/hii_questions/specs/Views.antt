@@ -6,18 +6,14 @@ use Rattle.std.specs.Ordering.{nat_cmp}
 use Rattle.ifr_opcodes.specs.Fields.{question_id}
 use Rattle.ifr_opcodes.specs.Forest.{Placed}
 use Rattle.ifr_scopes.specs.Lists.{statement_node}
-use Rattle.ifr_scopes.specs.Nodes.{nodes_of, is_question}
+use Rattle.hii_questions.specs.Fields.{Asked}
+use Rattle.hii_questions.specs.Ranges.{range_in}
 use Rattle.hii_questions.specs.declared.question.Question.{Question}
 
 -- a question as a node
 abbrev pub question_node : Question → Placed
 question_node question = statement_node question.statement
 
--- the first of some questions with an id
-abbrev pub first_with : List Placed → ℕ → Option Placed
-first_with questions id = find (λ n. question_id n.op == id) questions
-
--- These are the questions of a package by place, and the first of each id.
-pub record AreQuestions (ifr : List ℕ) (by_place : List Question) (by_id : BTreeMap ℕ Question) : Type 0 where
-  pub placed : map question_node by_place ≡ filter is_question (nodes_of ifr)
-  pub found : (id : ℕ) → option_map question_node (get nat_cmp by_id id) ≡ first_with (filter is_question (nodes_of ifr)) id
+-- a question as a node with its field
+abbrev pub question_view : Question → Asked
+question_view question = record { node = question_node question; field = option_map range_in question.field }

@@ -1,44 +1,96 @@
-//! Whether the stores hold the fields of all questions.
+//! Whether the stores hold the fields of all questions, and the options of lists suit.
 
-ghost use Rattle.std.specs.Prelude.{◌≡◌, OnOk, IfErr};
-ghost use Rattle.hii_bytes.specs.Faults.{IsLeast, HasNone, first_cause};
-ghost use Rattle.ifr_scopes.specs.Accepted.{IsAccepted};
-ghost use Rattle.ifr_scopes.specs.Nodes.{nodes_of};
-ghost use Rattle.hii_questions.specs.Faults.{IsQuestionFault, has_fault, causes};
-ghost use Rattle.hii_questions.specs.Views.{question_node};
+ghost use Rattle.std.specs.Prelude.{◌≡◌, map};
+ghost use Rattle.std.specs.BTreeSet.{contains};
+ghost use Rattle.std.specs.List.{flat_map};
+ghost use Rattle.std.specs.Ordering.{nat_cmp};
+ghost use Rattle.hii_bytes.specs.Faults.{first_cause};
+ghost use Rattle.ifr_scopes.specs.Nodes.{options};
+ghost use Rattle.ifr_scopes.specs.Parts.{option_node};
+ghost use Rattle.hii_questions.specs.Faults.{parts_of, has_field_fault, has_option_fault, causes};
+ghost use Rattle.hii_questions.specs.FaultTells.{TellsFault, first_part_fault, first_option_fault};
+ghost use Rattle.hii_questions.specs.Views.{question_node, question_view};
 
+use crate::elements::first_kind;
+use crate::numbers::fitting_bits;
 use crate::question::Question;
 use hii_bytes::{Cause, Fault};
 use hii_varstore::Layout;
-use ifr_scopes::Forms;
+use ifr_scopes::{OptionView, StatementKind};
+use std::collections::BTreeSet;
 
-// What is wrong with the field of a question.
-fn fault_of(question: Question<'_>, layout: &Layout<'_>) -> Option<Cause>
-    ensures { result ≡ first_cause (has_fault layout.now) (question_node question.entry) causes }
+// What is wrong with the store or the field of a question.
+fn field_fault(question: Question<'_>, layout: &Layout<'_>, ids: &BTreeSet<u16>) -> Option<Cause>
+    ensures { result ≡ first_cause (has_field_fault layout.now (λ id. contains nat_cmp ids.now id)) (question_view question.entry) causes }
 {
-    let op = question.op();
-    if op.store() == 0 {
-        return None;
+    let store = question.op.store();
+    if store != 0 && !ids.contains(&store) {
+        return Some(Cause::UnknownVarstore);
     }
-    match layout.size(op.store()) {
-        None => Some(Cause::UnknownVarstore),
-        Some(size) if size <= op.offset() => Some(Cause::FieldOutside),
-        Some(_) => None,
+    let field = question.field?;
+    let size = usize::from(layout.size(field.store)?);
+    let offset = usize::from(field.offset);
+    if size < offset || size - offset < field.width {
+        return Some(Cause::FieldOutside);
+    }
+    None
+}
+
+// What is wrong with an option of a question.
+fn option_fault(question: Question<'_>, option: OptionView<'_>) -> Option<Cause>
+    ensures { result ≡ first_cause (has_option_fault (question_node question.entry)) (option_node option.entry) causes }
+{
+    let option = option.op();
+    match question.statement.kind() {
+        StatementKind::OneOf(one_of) if fitting_bits(one_of.width(), option.value()).is_none() => {
+            Some(Cause::OptionRange)
+        }
+        StatementKind::OrderedList(_) => match first_kind(question.statement) {
+            Some(first) if first != option.kind() => Some(Cause::MixedOptions),
+            _ => None,
+        },
+        _ => None,
     }
 }
 
-/// Refuses a question whose store is not there by UnknownVarstore, one whose field reaches past its store's end by
-/// FieldOutside, each at its place (own rule).
-pub(crate) fn check_fields(forms: &Forms<'_>, layout: &Layout<'_>) -> Result<(), Fault>
-    requires { IsAccepted forms.now }
-    ensures sound { OnOk result (HasNone (IsQuestionFault (nodes_of forms.now) layout.now)) }
-    ensures refused { IfErr result (IsLeast (IsQuestionFault (nodes_of forms.now) layout.now)) }
+// Refuses the first option of a question with a fault.
+fn check_options(question: Question<'_>) -> Result<(), Fault>
+    ensures { TellsFault (first_option_fault (question_node question.entry) (options (question_node question.entry))) result }
 {
-    for statement in forms.statements() {
-        let question = Question { statement };
-        if let Some(cause) = fault_of(question, layout) {
-            return Err(question.op().op.fault(cause));
+    for option in question.statement.options() {
+        if let Some(cause) = option_fault(question, option) {
+            return Err(option.op().op.fault(cause));
         }
+    }
+    Ok(())
+}
+
+// Refuses a question with a fault, and then its first option with one.
+fn check_question(
+    question: Question<'_>,
+    layout: &Layout<'_>,
+    ids: &BTreeSet<u16>,
+) -> Result<(), Fault>
+    ensures { TellsFault (first_part_fault layout.now (λ id. contains nat_cmp ids.now id) (parts_of (question_view question.entry))) result }
+{
+    match field_fault(question, layout, ids) {
+        Some(cause) => Err(question.op.op.fault(cause)),
+        None => check_options(question),
+    }
+}
+
+/// Refuses the first question or option with a fault: a question whose store is not there by UnknownVarstore, one whose
+/// field reaches past its store's end by FieldOutside, an option of a ONE_OF that is no number of its width by OptionRange,
+/// one of an ORDERED_LIST of another kind than the first by MixedOptions, each at its place (own rule).
+pub(crate) fn check_questions(
+    questions: &[Question<'_>],
+    layout: &Layout<'_>,
+    ids: &BTreeSet<u16>,
+) -> Result<(), Fault>
+    ensures { TellsFault (first_part_fault layout.now (λ id. contains nat_cmp ids.now id) (flat_map parts_of (map question_view questions.now))) result }
+{
+    for question in questions {
+        check_question(*question, layout, ids)?;
     }
     Ok(())
 }

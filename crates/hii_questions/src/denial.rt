@@ -16,6 +16,16 @@ pub enum DenialKind {
     Kind,
     /// The value is not among those that the question takes.
     Range,
+    /// No option of the question has the value.
+    NoOption,
+    /// The text or list is too short or too long.
+    Length,
+    /// A value comes twice in a list that is a set.
+    Repeat,
+    /// The list is empty and must not be.
+    EmptySet,
+    /// The text is not UTF-8, or has a character that is no unit of UCS-2, or U+0000.
+    BadText,
     /// No question has the id.
     NoQuestion,
 }
@@ -31,6 +41,11 @@ impl DenialKind {
             DenialKind::Outside => "outside",
             DenialKind::Kind => "kind",
             DenialKind::Range => "range",
+            DenialKind::NoOption => "nooption",
+            DenialKind::Length => "length",
+            DenialKind::Repeat => "repeat",
+            DenialKind::EmptySet => "emptyset",
+            DenialKind::BadText => "badtext",
             DenialKind::NoQuestion => "noquestion",
         }
     }

@@ -1,64 +1,48 @@
-//! What questions take as their values.
+//! What is offered to a question as its value.
 
-ghost use Rattle.std.specs.Prelude.{◌≡◌, length};
-ghost use Rattle.hii_varstore.specs.Layout.{HasRange};
-ghost use Rattle.hii_varstore.specs.Stores.{shape_of, with_bytes};
-ghost use Rattle.hii_questions.specs.Checks.{Checks, offer_of};
-ghost use Rattle.hii_questions.specs.Views.{question_node};
+ghost use Rattle.std.specs.Prelude.{◌≡◌, ◌≤◌, length};
+ghost use Rattle.hii_questions.specs.Inputs.{read_as};
+ghost use Rattle.hii_questions.specs.Offers.{offer_of, HasField, HasList};
+ghost use Rattle.hii_questions.specs.TypeViews.{type_in};
 
-use crate::denial::{DenialKind, ValueDenial};
-use crate::question::Question;
-use hii_varstore::Stores;
+use crate::field_type::FieldType;
+use crate::numbers::number_of;
 
 /// A value that is offered to a question.
 #[derive(Clone, Copy, Debug)]
-pub enum Input {
+pub enum Input<'i> {
+    /// A number.
     Number(i128),
+    /// The bits of a number.
+    Raw(u64),
+    /// A text in UTF-8, or bytes that may be one.
+    Utf8(&'i [u8]),
+    /// A text in units of two bytes, the lowest first.
+    Units(&'i [u8]),
+    /// A list of numbers, as `hii_bytes::is_number_list` tells.
+    List(&'i [u8]),
+    /// A list as it stands in a field.
+    Elements(&'i [u8]),
+    /// The bytes of a whole field.
+    Field(&'i [u8]),
 }
 
-/// New bytes for the field of a question (UEFI 2.8, 33.2.5.6 Storage).
-#[derive(Clone, Copy, Debug)]
-pub struct Field {
-    /// The id of the store.
-    pub store: u16,
-    /// The offset of the field in the store, in bytes.
-    pub offset: u16,
-    /// The new bytes, as many as the field has.
-    pub bytes: [u8; 1],
-}
-
-impl Field {
-    /// Writes the new bytes into the store.
-    pub fn put(self, stores: &mut Stores)
-        requires { HasRange (shape_of stores.old) self.store self.offset (length self.bytes) }
-        ensures written { stores.new ≡ with_bytes stores.old self.store self.offset self.bytes }
-        ensures shape { shape_of stores.new ≡ shape_of stores.old }
+impl<'i> Input<'i> {
+    /// The bytes of a field as what the field holds.
+    pub(crate) fn read_as(self, field_type: FieldType<'_>) -> Input<'i>
+        requires { HasField (type_in field_type) self }
+        ensures value { offer_of result ≡ read_as (type_in field_type.entry) (offer_of self.entry) }
+        ensures list { HasList self.entry → HasList result }
     {
-        stores.put(self.store, usize::from(self.offset), &self.bytes);
+        let Input::Field(bytes) = self else {
+            return self;
+        };
+        match field_type {
+            FieldType::Checkbox => Input::Raw(number_of(bytes, 1)),
+            FieldType::Numeric(numeric) => Input::Raw(number_of(bytes, numeric.width)),
+            FieldType::OneOf(one_of) => Input::Raw(number_of(bytes, one_of.width)),
+            FieldType::Text(_) => Input::Units(bytes),
+            FieldType::OrderedList(_) => Input::Elements(bytes),
+        }
     }
-}
-
-/// The new bytes of a question's field, where the question takes the value. A question without a field takes none
-/// (`Kind`), a checkbox takes 0 and 1 (`Range` for others). The denial's place is the question's.
-pub fn check_value(question: Question<'_>, input: Input) -> Result<Field, ValueDenial>
-    ensures { Checks (question_node question.entry) (offer_of input) result }
-{
-    let op = question.op();
-    let denied = |kind| ValueDenial {
-        kind,
-        place: question.place(),
-    };
-    if op.store() == 0 {
-        return Err(denied(DenialKind::Kind));
-    }
-    let byte = match input {
-        Input::Number(0) => 0,
-        Input::Number(1) => 1,
-        Input::Number(_) => return Err(denied(DenialKind::Range)),
-    };
-    Ok(Field {
-        store: op.store(),
-        offset: op.offset(),
-        bytes: [byte],
-    })
 }

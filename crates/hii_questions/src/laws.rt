@@ -1,6 +1,6 @@
 //! Laws of the definitions that the contracts cite.
 
-ghost use Rattle.hii_questions.specs.Laws.{HoldsFields, FindsQuestions, ReadsBack, LeavesOthers};
+ghost use Rattle.hii_questions.specs.Laws.{HoldsFields, FindsQuestions, ReadsBack, FillsFields, LeavesOthers};
 
 /// Where no question has a fault, each field lies in its store.
 pub fn fields_lie_in_their_stores()
@@ -12,9 +12,15 @@ pub fn questions_of_ids_are_questions()
     ensures { FindsQuestions }
 {}
 
-/// A question that takes a number answers, once the bytes are put, whether the number is not 0.
-pub fn a_taken_number_is_read_back()
+/// What a question takes it answers, once the bytes are put: a number as its two's complement, a text as its units, a list
+/// filled with zeros.
+pub fn a_taken_value_is_read_back()
     ensures { ReadsBack }
+{}
+
+/// What a question takes are as many bytes as its field has.
+pub fn taken_bytes_fill_the_field()
+    ensures { FillsFields }
 {}
 
 /// A write leaves the value of a field that it does not meet.

@@ -2,19 +2,39 @@
 #![tactic(auto)]
 
 mod check;
+mod choices;
+mod content;
 mod denial;
+mod elements;
+mod field;
+mod field_range;
+mod field_type;
+mod fitting;
 mod input;
+mod items;
 pub mod laws;
+mod lists;
+mod locate;
+mod numbers;
 mod over;
 mod question;
 mod questions;
+mod reading;
+mod stored_items;
+mod tables;
 #[cfg(test)]
 mod tests;
+mod texts;
 mod value;
 
 pub use denial::{DenialKind, ValueDenial};
-pub use input::{Field, Input, check_value};
+pub use elements::element_width;
+pub use field::Field;
+pub use field_range::FieldRange;
+pub use input::Input;
+pub use numbers::shown;
 pub use over::Over;
 pub use question::Question;
 pub use questions::{AllQuestions, Questions};
-pub use value::read_value;
+pub use stored_items::StoredItems;
+pub use value::{check_value, read_value};

@@ -1,27 +1,47 @@
 //! One question.
 
+ghost use Rattle.std.specs.Prelude.{◌≡◌, true};
+ghost use Rattle.ifr_opcodes.specs.Forest.{mark};
+ghost use Rattle.ifr_opcodes.specs.Ops.{op_of};
+ghost use Rattle.ifr_scopes.specs.Lists.{statement_node};
+ghost use Rattle.ifr_scopes.specs.Nodes.{is_question};
+ghost use Rattle.hii_questions.specs.Ranges.{HasWidth, HasWidth-prop};
+
+use crate::field_range::FieldRange;
+use crate::locate::field_in;
+use hii_varstore::Layout;
 use ifr_opcodes::QuestionOp;
 use ifr_scopes::Statement;
 
-/// A question (UEFI 2.8, 33.2.5.4 Questions).
+/// A question (UEFI 2.8, 33.2.5.4 Questions), and where its field lies.
 #[derive(Clone, Copy, Debug)]
 pub struct Question<'a> {
     pub(crate) statement: Statement<'a>,
+    pub(crate) op: QuestionOp<'a>,
+    pub(crate) field: Option<FieldRange>,
+    pub ghost same: { op_of op.op ≡ mark (statement_node statement) },
+    pub ghost asks: { is_question (statement_node statement) ≡ true },
+    pub ghost wide: { HasWidth (statement_node statement) field } by { HasWidth-prop (statement_node statement) field },
 }
 
 impl<'a> Question<'a> {
-    ghost use Rattle.std.specs.Prelude.{◌≡◌, if◌then◌else◌, Some, None, option_map};
+    ghost use Rattle.std.specs.Prelude.{if◌then◌else◌, Some, None, option_map};
     ghost use Rattle.ifr_opcodes.specs.Fields.{question_id};
     ghost use Rattle.ifr_opcodes.specs.Ops.{bytes_of};
-    ghost use Rattle.ifr_scopes.specs.Lists.{statement_node};
-    ghost use Rattle.ifr_scopes.specs.Nodes.{is_question};
-    ghost use Rattle.hii_questions.specs.Views.{question_node};
+    ghost use Rattle.hii_questions.specs.Fields.{asked_at};
+    ghost use Rattle.hii_questions.specs.Ranges.{range_in};
+    ghost use Rattle.hii_questions.specs.Views.{question_node, question_view};
 
-    /// The question that a statement is.
-    pub fn of(statement: Statement<'a>) -> Option<Question<'a>>
-        ensures { option_map question_node result ≡ (if is_question (statement_node statement.entry) then Some (statement_node statement.entry) else None) }
+    /// The question that a statement is, with its field in the stores of a layout.
+    pub(crate) fn of(statement: Statement<'a>, layout: &Layout<'_>) -> Option<Question<'a>>
+        ensures { option_map question_view result ≡ (if is_question (statement_node statement.entry) then Some (asked_at layout.now (statement_node statement.entry)) else None) }
     {
-        Some(Question { statement })
+        let op = statement.question()?;
+        Some(Question {
+            statement,
+            op,
+            field: field_in(statement, op, layout),
+        })
     }
 
     /// The statement that it is.
@@ -35,7 +55,7 @@ impl<'a> Question<'a> {
     pub fn id(self) -> u16
         ensures { result ≡ question_id (question_node self.entry).op }
     {
-        self.op().id()
+        self.op.id()
     }
 
     /// Its place, in bytes from the package's header.
@@ -50,6 +70,13 @@ impl<'a> Question<'a> {
         ensures place { result.op.place ≡ (question_node self.entry).place }
         ensures bytes { bytes_of result.op ≡ (question_node self.entry).op }
     {
-        self.statement.question()
+        self.op
+    }
+
+    /// Where its field lies, if it has one.
+    pub fn field(self) -> Option<FieldRange>
+        ensures { option_map range_in result ≡ (question_view self.entry).field }
+    {
+        self.field
     }
 }

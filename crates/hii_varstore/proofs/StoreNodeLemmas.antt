@@ -1,23 +1,24 @@
 -- The stores that a form set declares: their places rise, and the first that repeats an id has the least fault.
-use Rattle.std.proofs.Common.{◌≡◌, ℕ, ◌+◌, ◌^◌, ◌<◌, ◌≤◌, Bool, true, false, eqb, nat_eq, length, Option, Some, None, List, [], ◌∷◌, ◌++◌, append_assoc, map, refl, sym, ap, subst, ◌∙◌, arith, inl, inr, lit≤}
+use Rattle.std.proofs.Common.{◌≡◌, ◌⊎◌, ℕ, ◌+◌, ◌^◌, ◌<◌, ◌≤◌, Bool, true, false, eqb, nat_eq, length, Option, option_map, Some, None, List, [], ◌∷◌, ◌++◌, append_assoc, map, refl, sym, ap, subst, ◌∙◌, arith, inl, inr, lit≤}
 use Rattle.std.specs.Prelude.{Contains, filter}
-use Rattle.std.specs.List.{AllByRecursion, IsDistinct, list_any}
+use Rattle.std.specs.List.{AllByRecursion, IsDistinct, list_any, filter_map, cons_option}
 use Rattle.std.specs.BTreeSet.{BTreeSet}
 use Rattle.std.proofs.lemmas.Bool.{cases_Bool, ne_eqb, false≢true}
+use Rattle.std.proofs.lemmas.Option.{none-some, same_Some}
 use Rattle.std.proofs.lemmas.List.{map-append, append-nil}
-use Rattle.std.proofs.lemmas.List.Elements.{All-tail}
+use Rattle.std.proofs.lemmas.List.Elements.{All-tail, filter_map-append}
 use Rattle.hii_bytes.specs.Faults.{IsLeast, HasNone, AreAll, first_fault, Rise}
 use Rattle.hii_bytes.specs.declared.cause.Cause.{Cause}
 use Rattle.hii_bytes.specs.declared.cause.Cause.TheVariants.{DuplicateVarstore}
 use Rattle.hii_bytes.specs.declared.cause.Fault.{Fault}
 use Rattle.hii_bytes.proofs.FirstFaultLemmas.{first_among, none_among}
-use Rattle.ifr_opcodes.specs.Fields.{varstore_id}
 use Rattle.ifr_opcodes.specs.Opcode.{is_end, IsWhole}
 use Rattle.ifr_opcodes.specs.Forest.{Ancestor, Placed}
 use Rattle.ifr_scopes.specs.Checked.{IsAt, AreAt, node_in}
 use Rattle.ifr_scopes.specs.Lists.{stores_left}
 use Rattle.ifr_scopes.specs.Nodes.{is_store}
 use Rattle.ifr_scopes.specs.References.{Ranked, ranked}
+use Rattle.ifr_scopes.specs.Stores.{store_id, store_size}
 use Rattle.ifr_scopes.specs.Views.{nodes_left}
 use Rattle.ifr_scopes.specs.Visits.{left}
 use Rattle.ifr_scopes.specs.Walking.{scan}
@@ -103,7 +104,7 @@ pub record HasMet (all left : List Placed) (ids : BTreeSet ℕ) (buffers : List 
   pub before : List Placed
   pub parts : all ≡ before ++ left
   pub known : AreIdsOf before ids
-  pub built : buffers ≡ map declared_buffer before
+  pub built : buffers ≡ filter_map declared_buffer before
   pub sound : AreBuffers buffers
   pub same : first_repeat before left ≡ first_repeat [] all
 
@@ -120,43 +121,80 @@ apart_push (y ∷ ys) x apart other =
       | inr here ↦ (AllByRecursion-push (λ z. nat_eq y z ≡ false) ys x apart.0 here, apart_push ys x apart.1 (rw here at other))
     ]
 
-ids_known : (ns : List Placed) (id : ℕ) → list_any (λ n. eqb (varstore_id n.op) id) ns ≡ list_any (λ y. eqb y id) (map (λ (b : Buffer). b.id) (map declared_buffer ns))
-ids_known [] id = refl
-ids_known (n ∷ ns) id = rw (ids_known ns id) refl
+cases_size : (o : Option ℕ) → (o ≡ None) ⊎ ((size : ℕ) × (o ≡ Some size))
+cases_size None = inl refl
+cases_size (Some size) = inr (size, refl)
 
-not_taken : (ns : List Placed) (id : ℕ) → is_taken id ns ≡ false → list_any (λ y. eqb y id) (0 ∷ map (λ (b : Buffer). b.id) (map declared_buffer ns)) ≡ false
+id_of_buffer : (id : ℕ) (size : Option ℕ) (b : Buffer) → option_map (λ s. record { id = id; size = s }) size ≡ Some b → id ≡ b.id
+id_of_buffer id None b is = absurd (none-some b is)
+id_of_buffer id (Some s) b is = ap (λ (c : Buffer). c.id) (same_Some _ b is)
+
+-- an id that no store has is that of no buffer store
+not_known : (ns : List Placed) (id : ℕ) → list_any (λ n. eqb (store_id n.op) id) ns ≡ false → list_any (λ y. eqb y id) (map (λ (b : Buffer). b.id) (filter_map declared_buffer ns)) ≡ false
+not_known [] id h = refl
+not_known (n ∷ ns) id h =
+    elim (cases_Bool (eqb (store_id n.op) id)) [
+      | inl same ↦ absurd (false≢true (sym (rw same at h)))
+      | inr other ↦
+          let rest = not_known ns id (rw other at h) in
+          elim (cases_size (store_size n.op)) [
+            | inl none ↦ rw none rest
+            | inr size ↦ rw (size.1, other) rest
+          ]
+    ]
+
+not_taken : (ns : List Placed) (id : ℕ) → is_taken id ns ≡ false → list_any (λ y. eqb y id) (0 ∷ map (λ (b : Buffer). b.id) (filter_map declared_buffer ns)) ≡ false
 not_taken ns id h = elim (cases_Bool (eqb id 0)) [
   | inl zero_id ↦ absurd (false≢true (sym (rw zero_id at h)))
   | inr other ↦
       let here : eqb 0 id ≡ false = ne_eqb 0 id (λ e. false≢true (sym other ∙ ap (λ k. eqb k 0) (sym e))) in
-      rw here (sym (ids_known ns id) ∙ rw other at h)
+      rw here (not_known ns id (rw other at h))
 ]
 
-pub met_more : (all left : List Placed) (n : Placed) (ids more : BTreeSet ℕ) (buffers : List Buffer) (b : Buffer) → (met : HasMet all (n ∷ left) ids buffers)
-    → b ≡ declared_buffer n → (b.id < 2 ^ 16) × (b.size < 2 ^ 16) → is_taken b.id met.before ≡ false → AreIdsOf (met.before ++ n ∷ []) more → HasMet all left more (buffers ++ b ∷ [])
-met_more all left n ids more buffers b met is fits free known =
-    let its : is_taken (varstore_id n.op) met.before ≡ false = rw is at free in
-    let ids_apart : IsDistinct nat_eq ((0 ∷ map (λ (c : Buffer). c.id) buffers) ++ b.id ∷ []) = apart_push (0 ∷ map (λ (c : Buffer). c.id) buffers) b.id met.sound.apart
-    (ap (λ (bs : List Buffer). list_any (λ y. eqb y b.id) (0 ∷ map (λ (c : Buffer). c.id) bs)) met.built ∙ not_taken met.before b.id free) in
+-- one more buffer store, with an id that no store before it has
+buffers_more : (before : List Placed) (buffers : List Buffer) (b : Buffer) → AreBuffers buffers → buffers ≡ filter_map declared_buffer before
+    → (b.id < 2 ^ 16) × (b.size < 2 ^ 16) → is_taken b.id before ≡ false → AreBuffers (buffers ++ b ∷ [])
+buffers_more before buffers b sound built fits free =
+    let other = ap (λ (bs : List Buffer). list_any (λ y. eqb y b.id) (0 ∷ map (λ (c : Buffer). c.id) bs)) built ∙ not_taken before b.id free in
+    let ids_apart = apart_push (0 ∷ map (λ (c : Buffer). c.id) buffers) b.id sound.apart other in
     record {
-      before = met.before ++ n ∷ [];
-      parts = met.parts ∙ sym (append_assoc met.before (n ∷ []) left);
-      known = known;
-      built = ap (λ (bs : List Buffer). bs ++ b ∷ []) met.built ∙ ap (λ (c : Buffer). map declared_buffer met.before ++ c ∷ []) is ∙ sym (map-append declared_buffer met.before (n ∷ []));
-      sound = record {
-        fit = AllByRecursion-push (λ (c : Buffer). (c.id < 2 ^ 16) × (c.size < 2 ^ 16)) buffers b met.sound.fit fits;
-        apart = subst (λ (xs : List ℕ). IsDistinct nat_eq (0 ∷ xs)) (sym (map-append (λ (c : Buffer). c.id) buffers (b ∷ []))) ids_apart;
-      };
-      same = rw its at met.same;
+      fit = AllByRecursion-push (λ (c : Buffer). (c.id < 2 ^ 16) × (c.size < 2 ^ 16)) buffers b sound.fit fits;
+      apart = subst (λ (xs : List ℕ). IsDistinct nat_eq (0 ∷ xs)) (sym (map-append (λ (c : Buffer). c.id) buffers (b ∷ []))) ids_apart;
     }
 
-pub met_all : (all left : List Placed) (ids : BTreeSet ℕ) (buffers : List Buffer) → HasMet all left ids buffers → left ≡ [] → (buffers ≡ map declared_buffer all) × (first_repeat [] all ≡ None)
+-- one more store, with the buffers that there are then
+met_next : (all left : List Placed) (n : Placed) (ids more : BTreeSet ℕ) (buffers next : List Buffer) → (met : HasMet all (n ∷ left) ids buffers)
+    → next ≡ buffers ++ cons_option (declared_buffer n) [] → AreBuffers next → is_taken (store_id n.op) met.before ≡ false → AreIdsOf (met.before ++ n ∷ []) more → HasMet all left more next
+met_next all left n ids more buffers next met grown sound free known = record {
+  before = met.before ++ n ∷ [];
+  parts = met.parts ∙ sym (append_assoc met.before (n ∷ []) left);
+  known = known;
+  built = grown ∙ ap (λ (bs : List Buffer). bs ++ cons_option (declared_buffer n) []) met.built ∙ sym (filter_map-append declared_buffer met.before (n ∷ []));
+  sound = sound;
+  same = rw free at met.same;
+}
+
+-- a buffer store more
+pub met_more : (all left : List Placed) (n : Placed) (ids more : BTreeSet ℕ) (buffers : List Buffer) (b : Buffer) → (met : HasMet all (n ∷ left) ids buffers)
+    → declared_buffer n ≡ Some b → (b.id < 2 ^ 16) × (b.size < 2 ^ 16) → is_taken (store_id n.op) met.before ≡ false → AreIdsOf (met.before ++ n ∷ []) more → HasMet all left more (buffers ++ b ∷ [])
+met_more all left n ids more buffers b met is fits free known =
+    let its : store_id n.op ≡ b.id = id_of_buffer (store_id n.op) (store_size n.op) b is in
+    met_next all left n ids more buffers (buffers ++ b ∷ []) met (ap (λ (o : Option Buffer). buffers ++ cons_option o []) (sym is))
+    (buffers_more met.before buffers b met.sound met.built fits (rw its at free)) free known
+
+-- a store more that is no buffer store
+pub met_no_buffer : (all left : List Placed) (n : Placed) (ids more : BTreeSet ℕ) (buffers : List Buffer) → (met : HasMet all (n ∷ left) ids buffers)
+    → declared_buffer n ≡ None → is_taken (store_id n.op) met.before ≡ false → AreIdsOf (met.before ++ n ∷ []) more → HasMet all left more buffers
+met_no_buffer all left n ids more buffers met is free known =
+    met_next all left n ids more buffers buffers met (sym (append-nil buffers) ∙ ap (λ (o : Option Buffer). buffers ++ cons_option o []) (sym is)) met.sound free known
+
+pub met_all : (all left : List Placed) (ids : BTreeSet ℕ) (buffers : List Buffer) → HasMet all left ids buffers → left ≡ [] → (buffers ≡ filter_map declared_buffer all) × (first_repeat [] all ≡ None)
 met_all all left ids buffers met e =
     let whole : all ≡ met.before = met.parts ∙ ap (λ (ns : List Placed). met.before ++ ns) e ∙ append-nil met.before in
-    (met.built ∙ ap (map declared_buffer) (sym whole), sym met.same ∙ ap (first_repeat met.before) e)
+    (met.built ∙ ap (filter_map declared_buffer) (sym whole), sym met.same ∙ ap (first_repeat met.before) e)
 
 -- a store that repeats an id is the first fault
-pub met_again : (all left : List Placed) (n : Placed) (ids : BTreeSet ℕ) (buffers : List Buffer) → (met : HasMet all (n ∷ left) ids buffers) → is_taken (varstore_id n.op) met.before ≡ true
+pub met_again : (all left : List Placed) (n : Placed) (ids : BTreeSet ℕ) (buffers : List Buffer) → (met : HasMet all (n ∷ left) ids buffers) → is_taken (store_id n.op) met.before ≡ true
     → first_repeat [] all ≡ Some record { cause = DuplicateVarstore; place = n.place }
 met_again all left n ids buffers met taken = sym (rw taken at met.same)
 

@@ -1,4 +1,4 @@
--- Which buffer stores a form set has (UEFI 2.8, 33.3.8 Forms Package, EFI_IFR_VARSTORE).
+-- Which buffer stores a form set has (UEFI 2.8, 33.3.8.3, EFI_IFR_VARSTORE and EFI_IFR_VARSTORE_EFI).
 use Rattle.std.specs.Prelude.{ℕ, ◌+◌, ◌≤◌, ◌==◌, List, Option, option_map, IsSomeAnd}
 use Rattle.std.specs.List.{find}
 use Rattle.hii_varstore.specs.declared.buffer.Buffer.{Buffer}

@@ -6,8 +6,8 @@ use Rattle.std.specs.BTreeMap.{BTreeMap, get}
 use Rattle.hii_varstore.specs.declared.buffer.Buffer.{Buffer}
 use Rattle.hii_varstore.specs.Stores.{Store, buffer_of}
 
--- Ids and sizes have two bytes; no two stores have the same id, and none has the id 0 (UEFI 2.8, 33.3.8 Forms Package,
--- EFI_IFR_VARSTORE).
+-- Ids and sizes have two bytes; no two stores have the same id, and none has the id 0 (UEFI 2.8, 33.3.8.3,
+-- EFI_IFR_VARSTORE and EFI_IFR_VARSTORE_EFI).
 pub record AreBuffers (buffers : List Buffer) : Type 0 where
   pub fit : AllByRecursion (λ b. (b.id < 2 ^ 16) × (b.size < 2 ^ 16)) buffers
   pub apart : IsDistinct nat_eq (0 ∷ map (λ b. b.id) buffers)

@@ -28,15 +28,20 @@ fn one_store(alloc: Global) -> Result<Layout<'static>, Fail> {
     Ok(Layout::new(alloc, guid, buffers)?)
 }
 
-// A form set with two stores and a form.
-const PACKAGE: [u8; 84] = [
-    84, 0, 0, 2, // the package's header
+// A form set with stores of all kinds, one inside a guard, and a form.
+const PACKAGE: [u8; 138] = [
+    138, 0, 0, 2, // the package's header
     0x0e, 0x97, 0x22, 0x22, 0x22, 0x22, 0x22, 0x22, 0x22, 0x22, 0x22, 0x22, 0x22, 0x22, 0x22, 0x22,
     0x22, 0x22, 1, 0, 2, 0, 0, // FORM_SET, at 4
-    0x24, 24, 1, 2, 3, 4, 5, 6, 7, 8, 9, 10, 11, 12, 13, 14, 15, 16, 1, 0, 2, 0, b'A', 0, // a store of the id 1 and 2 bytes, at 27
-    0x24, 23, 1, 2, 3, 4, 5, 6, 7, 8, 9, 10, 11, 12, 13, 14, 15, 16, 7, 0, 3, 0, 0, // a store of the id 7 and 3 bytes, at 51
-    0x01, 0x86, 1, 0, 1, 0, // a form, at 74
-    0x29, 2, 0x29, 2, // at 80, 82
+    0x24, 24, 1, 2, 3, 4, 5, 6, 7, 8, 9, 10, 11, 12, 13, 14, 15, 16, 1, 0, 2, 0, b'A', 0, // VARSTORE of the id 1 and 2 bytes, at 27
+    0x25, 20, 5, 0, 1, 2, 3, 4, 5, 6, 7, 8, 9, 10, 11, 12, 13, 14, 15, 16, // VARSTORE_NAME_VALUE of the id 5, at 51
+    0x0a, 0x82, 0x46, 2, // SUPPRESS_IF of TRUE, at 71
+    0x26, 28, 7, 0, 1, 2, 3, 4, 5, 6, 7, 8, 9, 10, 11, 12, 13, 14, 15, 16, 3, 0, 0, 0, 3, 0, b'B',
+    0, // VARSTORE_EFI of the id 7 and 3 bytes, at 75
+    0x29, 2, // at 103
+    0x24, 23, 1, 2, 3, 4, 5, 6, 7, 8, 9, 10, 11, 12, 13, 14, 15, 16, 9, 0, 1, 0, 0, // VARSTORE of the id 9 and 1 byte, at 105
+    0x01, 0x86, 1, 0, 1, 0, // FORM, at 128
+    0x29, 2, 0x29, 2, // at 134, 136
 ];
 
 /// Takes that many bytes, and then fails.
@@ -79,7 +84,7 @@ fn an_image_is_read_and_written(rt: HostRuntime) -> Result<(), Fail> {
     Ok(())
 }
 
-fn declared(alloc: Global, bytes: &[u8; 84]) -> Result<Layout<'_>, Fault> {
+fn declared(alloc: Global, bytes: &[u8; 138]) -> Result<Layout<'_>, Fault> {
     let source = Package {
         place: 0,
         kind: FORMS,
@@ -96,17 +101,74 @@ fn a_layout_is_read(rt: HostRuntime) -> Result<(), Fail> {
     assert_eq!(rt; layout.guid().bytes(), GUID.as_slice());
     assert_eq!(rt;
         layout.buffers(),
-        [Buffer { id: 1, size: 2 }, Buffer { id: 7, size: 3 }].as_slice()
+        [
+            Buffer { id: 1, size: 2 },
+            Buffer { id: 7, size: 3 },
+            Buffer { id: 9, size: 1 }
+        ]
+        .as_slice()
     );
-    for id in [0, 1] {
+    assert_eq!(rt;
+        (layout.size(1), layout.size(5), layout.size(7)),
+        (Some(2), None, Some(3))
+    );
+    Ok(())
+}
+
+#[test]
+fn ids_of_stores_of_all_kinds(rt: HostRuntime) -> Result<(), Fail> {
+    let alloc = rt.alloc();
+    // where the id of a store stands, the id that it gets, and the place of the store that is refused
+    for (at, id, place) in [
+        (45, 0, 27),
+        (53, 0, 51),
+        (77, 0, 75),
+        (123, 0, 105),
+        (53, 1, 51),
+        (77, 1, 75),
+        (77, 5, 75),
+        (123, 1, 105),
+        (123, 5, 105),
+        (123, 7, 105),
+        (45, 5, 51),
+        (53, 7, 75),
+    ] {
         let mut repeated = PACKAGE;
-        repeated[69] = id;
+        if let Some(byte) = repeated.get_mut(at) {
+            *byte = id;
+        }
         let fault = declared(alloc, &repeated).err();
         assert_eq!(rt;
             fault.map(|fault| (fault.cause, fault.place)),
-            Some((Cause::DuplicateVarstore, 51))
+            Some((Cause::DuplicateVarstore, place))
         );
     }
+    Ok(())
+}
+
+#[test]
+fn an_image_has_the_buffer_stores_alone(rt: HostRuntime) -> Result<(), Fail> {
+    let alloc = rt.alloc();
+    let layout = declared(alloc, &PACKAGE)?;
+    let rest = b"\x03\x00\x01\x00\x02\x00ab\x07\x00\x03\x00cde\x09\x00\x01\x00f";
+    let mut image = Vec::from_slice(alloc, &HEAD[..20])?;
+    image.extend_from_slice(rest)?;
+    let stores = Stores::read(alloc, &layout, &image)?;
+    assert!(rt;
+        stores.bytes(1) == Some(b"ab".as_slice())
+            && stores.bytes(7) == Some(b"cde".as_slice())
+            && stores.bytes(9) == Some(b"f".as_slice())
+    );
+    assert!(rt; stores.bytes(5).is_none());
+    let mut out = Watched::new(Vec::new(alloc));
+    stores.image_into(&mut out)?;
+    assert_eq!(rt; out.into_inner().as_slice(), image.as_slice());
+    image[20] = 4;
+    let fault = Stores::read(alloc, &layout, &image).err();
+    assert_eq!(rt;
+        fault.map(|fault| (fault.cause, fault.place)),
+        Some((Cause::StoreCount, 20))
+    );
     Ok(())
 }
 

@@ -1,6 +1,6 @@
 -- The bytes of an expression's node, and its opcodes.
 use Rattle.std.proofs.Common.{◌≡◌, ℕ, zero, suc, Bool, true, false, Some, List, [], ◌∷◌, ◌++◌, length, take, drop, refl, sym, ap, subst, ◌∙◌, arith, inl, inr}
-use Rattle.std.specs.Prelude.{◌==◌, ◌&&◌, ◌||◌, not}
+use Rattle.std.specs.Prelude.{◌==◌, ◌&&◌, not}
 use Rattle.std.specs.List.{concat}
 use Rattle.std.proofs.lemmas.List.{append-nil, take_at, drop_at}
 use Rattle.std.proofs.lemmas.Bool.{cases_Bool, false≢true, eq-eqb}
@@ -9,10 +9,11 @@ use Rattle.hii_bytes.specs.declared.cause.Cause.{Cause}
 use Rattle.hii_bytes.specs.declared.cause.Cause.TheVariants.{OpOutside, OpSize, Misplaced, ScopeBit}
 use Rattle.ifr_opcodes.specs.Opcode.{number, has_scope, stated_length, end}
 use Rattle.ifr_opcodes.specs.Operators.{is_operator, operands}
-use Rattle.ifr_opcodes.specs.Fields.{is_short, is_listed}
+use Rattle.ifr_opcodes.specs.Fields.{is_short}
 use Rattle.ifr_opcodes.specs.Forest.{Forest, none, node, opcodes, flat, AreNodes, Mark}
 use Rattle.ifr_opcodes.specs.Reading.{opcodes_in, inside, levels}
 use Rattle.ifr_opcodes.proofs.OpcodeLemmas.{AllWhole, stated_at}
+use Rattle.ifr_opcodes.proofs.RowLemmas.{operator_inside}
 use Rattle.ifr_opcodes.proofs.ForestLemmas.{opcodes_scoped, opcodes_plain, all_whole, opcodes_in_spelled, children_again}
 use Rattle.ifr_expr.specs.Faults.{has_fault, IsOpcodeFault}
 use Rattle.ifr_expr.specs.Reading.{front, children, IsExpressionNode, opcodes_of}
@@ -81,13 +82,6 @@ opcodes_are at bytes op inner h e =
 pub lone : (at : ℕ) (op : List ℕ) → operands (number op) ≡ Some 0 → Means (expression at op none) (leaf (record { place = at; op = op }))
 lone at op h = record { spelled = refl; fitting = h }
 
-or_true : (a b : Bool) → b ≡ true → (a || b) ≡ true
-or_true true b e = refl
-or_true false b e = e
-
-listed : (code : ℕ) → is_operator code ≡ true → is_listed code ≡ true
-listed code h = or_true _ (is_operator code) h
-
 not_true : (b : Bool) → b ≡ true → not b ≡ false
 not_true true e = refl
 not_true false e = absurd (false≢true e)
@@ -98,7 +92,7 @@ and_not false true e = refl
 and_not a false e = absurd (false≢true e)
 
 clear_alone : (at : ℕ) (op : List ℕ) (cause : Cause) → is_operator (number op) ≡ true → is_short op ≡ false → has_fault at (record { place = at; op = op }) cause ≡ false
-clear_alone at op OpOutside known sized = not_true (is_listed (number op)) (listed (number op) known)
+clear_alone at op OpOutside known sized = operator_inside op known
 clear_alone at op OpSize known sized = sized
 clear_alone at op Misplaced known sized = not_true (is_operator (number op)) known
 clear_alone at op ScopeBit known sized = and_not (has_scope op) (at == at) (eq-eqb at at refl)

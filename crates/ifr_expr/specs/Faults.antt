@@ -5,15 +5,15 @@ use Rattle.hii_bytes.specs.declared.cause.Cause.{Cause}
 use Rattle.hii_bytes.specs.declared.cause.Cause.TheVariants.{OpOutside, OpSize, Misplaced, ScopeBit, ExprShape, ExprDepth}
 use Rattle.ifr_opcodes.specs.Opcode.{number, has_scope}
 use Rattle.ifr_opcodes.specs.Operators.{is_operator}
-use Rattle.ifr_opcodes.specs.Fields.{is_listed, is_short}
+use Rattle.ifr_opcodes.specs.Fields.{is_outside, is_short}
 use Rattle.ifr_opcodes.specs.Forest.{Mark}
 use Rattle.ifr_expr.specs.Counting.{Spell, wanted}
 use Rattle.ifr_expr.specs.Trees.{Tree}
 
--- An opcode of an expression that stands at a place is not known, lacks bytes of its fields, is no operator's, or opens a
--- scope inside of the expression's own.
+-- An opcode of an expression that stands at a place is not known or left out, lacks bytes of its fields, is no operator's,
+-- or opens a scope inside of the expression's own.
 abbrev pub has_fault : ℕ → Mark → Cause → Bool
-has_fault at op OpOutside = not (is_listed (number op.op))
+has_fault at op OpOutside = is_outside op.op
 has_fault at op OpSize = is_short op.op
 has_fault at op Misplaced = not (is_operator (number op.op))
 has_fault at op ScopeBit = has_scope op.op && not (op.place == at)

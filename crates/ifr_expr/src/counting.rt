@@ -7,7 +7,7 @@ ghost use Rattle.ifr_expr.specs.Counting as counting;
 ghost use Rattle.ifr_expr.specs.Faults.{has_fault, causes};
 
 use hii_bytes::{Cause, Fault};
-use ifr_opcodes::{Op, is_listed, is_operator, is_short, operands};
+use ifr_opcodes::{Op, is_operator, is_outside, is_short, operands};
 
 /// So many values there are at once, at most.
 pub(crate) const MAX_VALUES: usize = 64;
@@ -16,7 +16,7 @@ pub(crate) const MAX_VALUES: usize = 64;
 pub(crate) fn cause_of(op: Op, at: u32) -> Option<Cause>
     ensures { result ≡ first_cause (has_fault at) (op_of op.entry) causes }
 {
-    if !is_listed(op.code) {
+    if is_outside(op) {
         return Some(Cause::OpOutside);
     }
     if is_short(op) {

@@ -252,6 +252,11 @@ const SHORT_NUMBER: [u8; 8] = [0x53, 0x82, 0x42, 2, 0x3a, 2, 0x29, 2];
 
 const UNKNOWN_INSIDE: [u8; 8] = [0x53, 0x82, 0x64, 2, 0x3a, 2, 0x29, 2];
 
+const DEFAULT_INSIDE: [u8; 11] = [0x53, 0x82, 0x5b, 5, 1, 0, 0x0c, 0x3a, 2, 0x29, 2];
+
+// A default whose kind is not defined is left out.
+const LEFT_OUT_INSIDE: [u8; 11] = [0x53, 0x82, 0x5b, 5, 1, 0, 0x0d, 0x3a, 2, 0x29, 2];
+
 const FORM_INSIDE: [u8; 10] = [0x53, 0x82, 1, 6, 1, 0, 1, 0, 0x29, 2];
 
 const SHORT_LIST: [u8; 8] = [0x14, 8, 1, 0, 2, 0, 5, 0];
@@ -269,6 +274,8 @@ fn refusals(rt: HostRuntime) {
     assert_eq!(rt; check(&TWO_VALUES).err(), fault(Cause::ExprShape, 0));
     assert_eq!(rt; check(&SHORT_NUMBER).err(), fault(Cause::OpSize, 2));
     assert_eq!(rt; check(&UNKNOWN_INSIDE).err(), fault(Cause::OpOutside, 2));
+    assert_eq!(rt; check(&DEFAULT_INSIDE).err(), fault(Cause::Misplaced, 2));
+    assert_eq!(rt; check(&LEFT_OUT_INSIDE).err(), fault(Cause::OpOutside, 2));
     assert_eq!(rt; check(&FORM_INSIDE).err(), fault(Cause::Misplaced, 2));
     assert_eq!(rt; check(&SHORT_LIST).err(), fault(Cause::OpSize, 0));
 }

@@ -1,8 +1,9 @@
 -- Fields of an opcode are numbers of the bytes behind its header.
 use Rattle.std.proofs.Common.{◌≡◌, ℕ, ◌+◌, ◌-◌, ◌≤◌, min, Bool, true, false, cond, ltb, Some, None, List, ◌∷◌, length, get_or, take, drop, refl, sym, ap, ◌∙◌, arith, add-zero}
+use Rattle.std.specs.Prelude.{slice_range}
 use Rattle.std.specs.List.{position, position_or_len, before_first}
 use Rattle.std.proofs.Math.Seq.{take-length}
-use Rattle.std.proofs.lemmas.List.{get_or-drop, take_min}
+use Rattle.std.proofs.lemmas.List.{drop-drop, get_or-drop, take_min}
 use Rattle.std.proofs.lemmas.Bool.{ltb-false}
 use Rattle.hii_bytes.specs.Numbers.{number_in}
 use Rattle.hii_bytes.proofs.NumberLemmas.{number_in-drop}
@@ -12,6 +13,14 @@ pub number_behind : (code sized : ℕ) (body : List ℕ) (at width : ℕ) → 2 
 number_behind code sized body at width two =
     let same : 2 + (at - 2) ≡ at = omega arith in
     number_in-drop (code ∷ sized ∷ body) 2 (at - 2) width ∙ ap (λ k. number_in (code ∷ sized ∷ body) k width) same
+
+pub range_behind : (code sized : ℕ) (body : List ℕ) (at n : ℕ) → 2 ≤ at → slice_range body (at - 2) (at - 2 + n) ≡ slice_range (code ∷ sized ∷ body) at (at + n)
+range_behind code sized body at n two =
+    let same : 2 + (at - 2) ≡ at = omega arith in
+    let front : at - 2 + n - (at - 2) ≡ n = omega arith in
+    let back : at + n - at ≡ n = omega arith in
+    let whole = code ∷ sized ∷ body in
+    rw (front, back) (ap (take n) (drop-drop (at - 2) 2 whole ∙ ap (λ k. drop k whole) same))
 
 pub number_of_byte : (bytes : List ℕ) (at : ℕ) → get_or bytes at 0 ≡ number_in bytes at 1
 unfolding number_in

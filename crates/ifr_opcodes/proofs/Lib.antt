@@ -3,3 +3,4 @@ pub mod ForestLemmas
 pub mod FieldLemmas
 pub mod OperatorLemmas
 pub mod OperandLemmas
+pub mod RowLemmas

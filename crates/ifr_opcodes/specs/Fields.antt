@@ -1,14 +1,13 @@
 -- The fields of opcodes: numbers with the lowest byte first, at offsets in bytes from the opcode's first
 -- (UEFI 2.8, 33.3.8.3 Opcode Reference, under the name of each).
-use Rattle.std.specs.Prelude.{◌≡◌, ℕ, ◌+◌, ◌*◌, ◌<◌, Bool, false, not, ◌==◌, ◌||◌, nat_lt, if◌then◌else◌, List, [], ◌∷◌, length, drop, slice_range, bit_and}
-use Rattle.std.specs.List.{before_first}
-use Rattle.hii_bytes.specs.declared.cause.Cause.{Cause}
-use Rattle.hii_bytes.specs.declared.cause.Cause.TheVariants.{OpOutside, OpSize}
+use Rattle.std.specs.Prelude.{ℕ, List, slice_range}
 use Rattle.hii_bytes.specs.Numbers.{number_in}
-use Rattle.ifr_opcodes.specs.declared.codes.TheConstants.{FORM, CHECKBOX, SUPPRESS_IF, FORM_SET, EQ_ID_VAL, EQ_ID_ID, EQ_ID_VAL_LIST, VARSTORE, RULE, RULE_REF, QUESTION_REF1, UINT8, UINT16, UINT32}
-use Rattle.ifr_opcodes.specs.Opcode.{number}
-use Rattle.ifr_opcodes.specs.Forest.{Mark}
-use Rattle.ifr_opcodes.specs.Operators.{is_among, is_operator, uints}
+pub use Rattle.ifr_opcodes.specs.Kinds.{kind_width, width_of_flags, display_of_flags}
+pub use Rattle.ifr_opcodes.specs.StoreFields.{is_nul, varstore_guid, varstore_id, varstore_size, varstore_name, varstore_efi_id, varstore_efi_guid, varstore_efi_attributes, varstore_efi_size, varstore_efi_name, name_value_id, name_value_guid, defaultstore_name, defaultstore_id}
+pub use Rattle.ifr_opcodes.specs.QuestionFields.{has_flag, number_where, statement_prompt, statement_help, subtitle_flags, text_second, reset_default, question_id, question_store, question_offset, question_flags, is_read_only, checkbox_flags, is_default_checkbox, is_manufacturing_checkbox, numeric_flags, numeric_width, display, numeric_minimum, numeric_maximum, numeric_step, one_of_flags, one_of_width, string_minimum, string_maximum, string_flags, password_minimum, password_maximum, ordered_list_containers, ordered_list_flags, is_unique_set, has_no_empty_set, date_flags, time_flags, action_text, ref_form_id, ref_question_id, ref_form_set, ref_device_path, ref_target}
+pub use Rattle.ifr_opcodes.specs.OptionFields.{option_text, option_flags, option_kind, option_value, is_default_option, is_manufacturing_option, default_id, default_kind, default_value}
+pub use Rattle.ifr_opcodes.specs.ExpressionFields.{eq_id_val_question, eq_id_val_value, eq_id_id_first, eq_id_id_second, eq_id_val_list_question, eq_id_val_list_count, pairs, eq_id_val_list_values, question_ref_question, rule_ref_rule, uint_width, uint_value}
+pub use Rattle.ifr_opcodes.specs.Rows.{row_length, least_length, is_short, listed, is_listed, is_left_out, is_outside, is_row, IsMisread, IsShort}
 
 -- EFI_IFR_FORM_SET
 abbrev pub form_set_guid : List ℕ → List ℕ
@@ -30,137 +29,21 @@ form_id op = number_in op 2 2
 abbrev pub form_title : List ℕ → ℕ
 form_title op = number_in op 4 2
 
--- EFI_IFR_VARSTORE; its name ends with a NUL
-abbrev pub varstore_guid : List ℕ → List ℕ
-varstore_guid op = slice_range op 2 18
-
-abbrev pub varstore_id : List ℕ → ℕ
-varstore_id op = number_in op 18 2
-
-abbrev pub varstore_size : List ℕ → ℕ
-varstore_size op = number_in op 20 2
-
-abbrev pub is_nul : ℕ → Bool
-is_nul byte = byte == 0
-
-abbrev pub varstore_name : List ℕ → List ℕ
-varstore_name op = before_first is_nul (drop 22 op)
-
--- what every statement has (33.3.8.2.3 EFI_IFR_STATEMENT_HEADER)
-abbrev pub statement_prompt : List ℕ → ℕ
-statement_prompt op = number_in op 2 2
-
-abbrev pub statement_help : List ℕ → ℕ
-statement_help op = number_in op 4 2
-
--- what every question has behind that (33.3.8.2.2 EFI_IFR_QUESTION_HEADER)
-abbrev pub question_id : List ℕ → ℕ
-question_id op = number_in op 6 2
-
-abbrev pub question_store : List ℕ → ℕ
-question_store op = number_in op 8 2
-
-abbrev pub question_offset : List ℕ → ℕ
-question_offset op = number_in op 10 2
-
-abbrev pub question_flags : List ℕ → ℕ
-question_flags op = number_in op 12 1
-
--- EFI_IFR_FLAG_READ_ONLY
-abbrev pub is_read_only : List ℕ → Bool
-is_read_only op = not (bit_and (question_flags op) 1 == 0)
-
--- EFI_IFR_CHECKBOX
-abbrev pub checkbox_flags : List ℕ → ℕ
-checkbox_flags op = number_in op 13 1
-
 -- EFI_IFR_RULE
 abbrev pub rule_id : List ℕ → ℕ
 rule_id op = number_in op 2 1
 
--- EFI_IFR_EQ_ID_VAL
-abbrev pub eq_id_val_question : List ℕ → ℕ
-eq_id_val_question op = number_in op 2 2
+-- EFI_IFR_INCONSISTENT_IF
+abbrev pub inconsistent_error : List ℕ → ℕ
+inconsistent_error op = number_in op 2 2
 
-abbrev pub eq_id_val_value : List ℕ → ℕ
-eq_id_val_value op = number_in op 4 2
+-- EFI_IFR_NO_SUBMIT_IF
+abbrev pub no_submit_error : List ℕ → ℕ
+no_submit_error op = number_in op 2 2
 
--- EFI_IFR_EQ_ID_ID
-abbrev pub eq_id_id_first : List ℕ → ℕ
-eq_id_id_first op = number_in op 2 2
+-- EFI_IFR_WARNING_IF
+abbrev pub warning_text : List ℕ → ℕ
+warning_text op = number_in op 2 2
 
-abbrev pub eq_id_id_second : List ℕ → ℕ
-eq_id_id_second op = number_in op 4 2
-
--- EFI_IFR_EQ_ID_VAL_LIST; its list is numbers of two bytes each
-abbrev pub eq_id_val_list_question : List ℕ → ℕ
-eq_id_val_list_question op = number_in op 2 2
-
-abbrev pub eq_id_val_list_count : List ℕ → ℕ
-eq_id_val_list_count op = number_in op 4 2
-
-abbrev pub pairs : List ℕ → List ℕ
-pairs (low ∷ high ∷ rest) = (low + 256 * high) ∷ pairs rest
-pairs _ = []
-
-abbrev pub eq_id_val_list_values : List ℕ → List ℕ
-eq_id_val_list_values op = pairs (slice_range op 6 (6 + 2 * eq_id_val_list_count op))
-
--- EFI_IFR_QUESTION_REF1
-abbrev pub question_ref_question : List ℕ → ℕ
-question_ref_question op = number_in op 2 2
-
--- EFI_IFR_RULE_REF
-abbrev pub rule_ref_rule : List ℕ → ℕ
-rule_ref_rule op = number_in op 2 1
-
--- EFI_IFR_UINT8, EFI_IFR_UINT16, EFI_IFR_UINT32 and EFI_IFR_UINT64
-abbrev pub uint_width : ℕ → ℕ
-uint_width code = if code == UINT8 then 1 else (if code == UINT16 then 2 else (if code == UINT32 then 4 else 8))
-
-abbrev pub uint_value : List ℕ → ℕ
-uint_value op = number_in op 2 (uint_width (number op))
-
--- how many bytes the fields of an operator of this number take, with the two in front of them
-unfoldable pub operator_length : ℕ → List ℕ → ℕ
-operator_length code op =
-    if code == EQ_ID_VAL then 6
-    else (if code == EQ_ID_ID then 6
-    else (if code == EQ_ID_VAL_LIST then (if nat_lt (length op) 6 then 6 else 6 + 2 * eq_id_val_list_count op)
-    else (if code == QUESTION_REF1 then 4
-    else (if code == RULE_REF then 3
-    else (if is_among code uints then 2 + uint_width code
-    else 2)))))
-
--- how many bytes the fields of an opcode of this number take, with the two in front of them
-abbrev pub row_length : ℕ → List ℕ → ℕ
-row_length code op =
-    if code == FORM_SET then 23
-    else (if code == FORM then 6
-    else (if code == VARSTORE then 23 + length (varstore_name op)
-    else (if code == CHECKBOX then 14
-    else (if code == RULE then 3
-    else operator_length code op))))
-
--- a longer opcode is accepted, and the rest ignored (own rule)
-abbrev pub least_length : List ℕ → ℕ
-least_length op = row_length (number op) op
-
--- It has not all its fields.
-abbrev pub is_short : List ℕ → Bool
-is_short op = nat_lt (length op) (least_length op)
-
--- whether an opcode of this number is known (own rule)
-abbrev pub is_listed : ℕ → Bool
-is_listed code = code == FORM_SET || code == FORM || code == VARSTORE || code == SUPPRESS_IF || code == CHECKBOX || code == RULE || is_operator code
-
--- An opcode is not of the wanted numbers, or has not all its fields.
-abbrev pub IsMisread : (ℕ → Bool) → Mark → Cause → ℕ → Type 0
-IsMisread wanted op OpOutside place = (place ≡ op.place) × (wanted (number op.op) ≡ false)
-IsMisread wanted op OpSize place = (place ≡ op.place) × (length op.op < least_length op.op)
-IsMisread wanted op _ place = ⊥
-
--- An opcode has not this many bytes.
-abbrev pub IsShort : ℕ → Mark → Cause → ℕ → Type 0
-IsShort least op OpSize place = (place ≡ op.place) × (length op.op < least)
-IsShort least op _ place = ⊥
+abbrev pub warning_timeout : List ℕ → ℕ
+warning_timeout op = number_in op 4 1

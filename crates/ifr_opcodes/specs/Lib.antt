@@ -4,5 +4,11 @@ pub mod Reading
 pub mod Ops
 pub mod Operators
 pub mod Codes
+pub mod Kinds
+pub mod StoreFields
+pub mod QuestionFields
+pub mod OptionFields
+pub mod ExpressionFields
+pub mod Rows
 pub mod Fields
 pub mod Views

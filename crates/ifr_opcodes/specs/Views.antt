@@ -11,9 +11,9 @@ use Rattle.ifr_opcodes.specs.declared.expressions.LeafOp.TheVariants as leaf
 use Rattle.ifr_opcodes.specs.declared.eq_id_val_list.ListValues.{ListValues}
 use Rattle.ifr_opcodes.specs.declared.op.Op.{Op}
 
--- An opcode of a wanted number with all its fields is read as itself, any other is refused.
-abbrev pub Reads : {View : Type 0} → (ℕ → Bool) → (View → Op) → Op → Result View Fault → Type 0
-Reads wanted op_in op (Ok view) = (op_of (op_in view) ≡ op_of op) × (wanted op.code ≡ true) × (least_length (bytes_of op) ≤ length (bytes_of op))
+-- A wanted opcode with all its fields is read as itself, any other is refused.
+abbrev pub Reads : {View : Type 0} → (List ℕ → Bool) → (View → Op) → Op → Result View Fault → Type 0
+Reads wanted op_in op (Ok view) = (op_of (op_in view) ≡ op_of op) × (wanted (bytes_of op) ≡ true) × (least_length (bytes_of op) ≤ length (bytes_of op))
 Reads wanted op_in op (Err fault) = IsLeast (IsMisread wanted (op_of op)) fault
 
 -- An opcode of this many bytes at least is read as itself, a shorter one is refused.

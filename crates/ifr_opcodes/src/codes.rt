@@ -3,14 +3,53 @@
 /// EFI_IFR_FORM_OP.
 pub const FORM: u8 = 0x01;
 
+/// EFI_IFR_SUBTITLE_OP.
+pub const SUBTITLE: u8 = 0x02;
+
+/// EFI_IFR_TEXT_OP.
+pub const TEXT: u8 = 0x03;
+
+/// EFI_IFR_IMAGE_OP.
+pub const IMAGE: u8 = 0x04;
+
+/// EFI_IFR_ONE_OF_OP.
+pub const ONE_OF: u8 = 0x05;
+
 /// EFI_IFR_CHECKBOX_OP.
 pub const CHECKBOX: u8 = 0x06;
+
+/// EFI_IFR_NUMERIC_OP.
+pub const NUMERIC: u8 = 0x07;
+
+/// EFI_IFR_PASSWORD_OP.
+pub const PASSWORD: u8 = 0x08;
+
+/// EFI_IFR_ONE_OF_OPTION_OP.
+pub const ONE_OF_OPTION: u8 = 0x09;
 
 /// EFI_IFR_SUPPRESS_IF_OP.
 pub const SUPPRESS_IF: u8 = 0x0a;
 
+/// EFI_IFR_LOCKED_OP.
+pub const LOCKED: u8 = 0x0b;
+
+/// EFI_IFR_ACTION_OP.
+pub const ACTION: u8 = 0x0c;
+
+/// EFI_IFR_RESET_BUTTON_OP.
+pub const RESET_BUTTON: u8 = 0x0d;
+
 /// EFI_IFR_FORM_SET_OP.
 pub const FORM_SET: u8 = 0x0e;
+
+/// EFI_IFR_REF_OP.
+pub const REF: u8 = 0x0f;
+
+/// EFI_IFR_NO_SUBMIT_IF_OP.
+pub const NO_SUBMIT_IF: u8 = 0x10;
+
+/// EFI_IFR_INCONSISTENT_IF_OP.
+pub const INCONSISTENT_IF: u8 = 0x11;
 
 /// EFI_IFR_EQ_ID_VAL_OP.
 pub const EQ_ID_VAL: u8 = 0x12;
@@ -36,11 +75,35 @@ pub const RULE: u8 = 0x18;
 /// EFI_IFR_GRAY_OUT_IF_OP.
 pub const GRAY_OUT_IF: u8 = 0x19;
 
+/// EFI_IFR_DATE_OP.
+pub const DATE: u8 = 0x1a;
+
+/// EFI_IFR_TIME_OP.
+pub const TIME: u8 = 0x1b;
+
+/// EFI_IFR_STRING_OP.
+pub const STRING: u8 = 0x1c;
+
+/// EFI_IFR_REFRESH_OP.
+pub const REFRESH: u8 = 0x1d;
+
 /// EFI_IFR_DISABLE_IF_OP.
 pub const DISABLE_IF: u8 = 0x1e;
 
+/// EFI_IFR_ANIMATION_OP.
+pub const ANIMATION: u8 = 0x1f;
+
+/// EFI_IFR_ORDERED_LIST_OP.
+pub const ORDERED_LIST: u8 = 0x23;
+
 /// EFI_IFR_VARSTORE_OP.
 pub const VARSTORE: u8 = 0x24;
+
+/// EFI_IFR_VARSTORE_NAME_VALUE_OP.
+pub const VARSTORE_NAME_VALUE: u8 = 0x25;
+
+/// EFI_IFR_VARSTORE_EFI_OP.
+pub const VARSTORE_EFI: u8 = 0x26;
 
 /// EFI_IFR_END_OP.
 pub const END: u8 = 0x29;
@@ -131,3 +194,24 @@ pub const UNDEFINED: u8 = 0x55;
 
 /// EFI_IFR_THIS_OP.
 pub const THIS: u8 = 0x58;
+
+/// EFI_IFR_VALUE_OP.
+pub const VALUE: u8 = 0x5a;
+
+/// EFI_IFR_DEFAULT_OP.
+pub const DEFAULT: u8 = 0x5b;
+
+/// EFI_IFR_DEFAULTSTORE_OP.
+pub const DEFAULTSTORE: u8 = 0x5c;
+
+/// EFI_IFR_GUID_OP.
+pub const GUID: u8 = 0x5f;
+
+/// EFI_IFR_MODAL_TAG_OP.
+pub const MODAL_TAG: u8 = 0x61;
+
+/// EFI_IFR_REFRESH_ID_OP.
+pub const REFRESH_ID: u8 = 0x62;
+
+/// EFI_IFR_WARNING_IF_OP.
+pub const WARNING_IF: u8 = 0x63;

@@ -35,6 +35,7 @@ pub enum ExprOp<'a> {
 
 impl<'a> ExprOp<'a> {
     ghost use Rattle.std.specs.Prelude.{Some};
+    ghost use Rattle.ifr_opcodes.specs.Opcode.{number};
     ghost use Rattle.ifr_opcodes.specs.Operators.{is_operator, operands};
     ghost use Rattle.ifr_opcodes.specs.Fields.{least_length};
     ghost use Rattle.ifr_opcodes.specs.Ops.{op_of};
@@ -43,7 +44,7 @@ impl<'a> ExprOp<'a> {
     /// An opcode that is no operator is refused by OpOutside, one that is shorter than its fields by OpSize, each at its
     /// place.
     pub fn read(op: Op<'a>) -> Result<ExprOp<'a>, Fault>
-        ensures { Reads is_operator operator op.entry result }
+        ensures { Reads (λ op. is_operator (number op)) operator op.entry result }
     {
         let Some(count) = operands(op.code) else {
             return Err(op.fault(Cause::OpOutside));
@@ -63,7 +64,6 @@ impl<'a> ExprOp<'a> {
     }
 
     // The view of an operator that takes no operands.
-    #[tactic(auto, unfolding(crate::specs::Fields::operator_length))]
     fn without_operands(op: Op<'a>) -> ExprOp<'a>
         requires leaf { operands op.code ≡ Some 0 }
         requires sized { least_length (bytes_of op) ≤ length (bytes_of op) }
@@ -108,7 +108,7 @@ impl<'a> LeafOp<'a> {
     ghost use Rattle.ifr_opcodes.specs.Views.{leaf_operator};
 
     // The view of an operator that takes no operands and is no reference to a rule.
-    #[tactic(auto, unfolding(crate::specs::Operators::operands, crate::specs::Fields::operator_length))]
+    #[tactic(auto, unfolding(crate::specs::Operators::operands))]
     fn of(op: Op<'a>) -> LeafOp<'a>
         requires leaf { operands op.code ≡ Some 0 }
         requires other { op.code ≢ RULE_REF }

@@ -1,6 +1,6 @@
 //! Form sets and forms.
 
-ghost use Rattle.std.specs.Prelude.{◌≡◌, ◌==◌, ◌≤◌, length};
+ghost use Rattle.std.specs.Prelude.{◌≡◌, ◌≤◌, length};
 ghost use Rattle.ifr_opcodes.specs.declared.codes.TheConstants.{FORM, FORM_SET};
 ghost use Rattle.ifr_opcodes.specs.Ops.{bytes_of, op_of};
 
@@ -18,13 +18,14 @@ pub struct FormSetOp<'a> {
 
 impl<'a> FormSetOp<'a> {
     ghost use Rattle.ifr_opcodes.specs.Fields.{form_set_guid, form_set_title, form_set_help, form_set_flags};
+    ghost use Rattle.ifr_opcodes.specs.Rows.{is_row};
     ghost use Rattle.ifr_opcodes.specs.Views.{Reads};
 
     /// Another opcode is refused by OpOutside, one of less than 23 bytes by OpSize, each at its place.
     pub fn read(op: Op<'a>) -> Result<FormSetOp<'a>, Fault>
-        ensures { Reads (λ code. code == FORM_SET) (λ view. view.op) op.entry result }
+        ensures { Reads (is_row FORM_SET) (λ view. view.op) op.entry result }
     {
-        op.check_row(FORM_SET, 23)?;
+        op.check_row(FORM_SET)?;
         Ok(FormSetOp { op })
     }
 
@@ -32,7 +33,7 @@ impl<'a> FormSetOp<'a> {
     pub fn guid(self) -> Guid<'a>
         ensures { result.bytes.now ≡ form_set_guid (bytes_of self.entry.op) }
     {
-        Guid::at(self.op.body, 0).unwrap()
+        self.op.guid_at(2)
     }
 
     /// The string id of the title.
@@ -67,13 +68,14 @@ pub struct FormOp<'a> {
 
 impl<'a> FormOp<'a> {
     ghost use Rattle.ifr_opcodes.specs.Fields.{form_id, form_title};
+    ghost use Rattle.ifr_opcodes.specs.Rows.{is_row};
     ghost use Rattle.ifr_opcodes.specs.Views.{Reads};
 
     /// Another opcode is refused by OpOutside, one of less than 6 bytes by OpSize, each at its place.
     pub fn read(op: Op<'a>) -> Result<FormOp<'a>, Fault>
-        ensures { Reads (λ code. code == FORM) (λ view. view.op) op.entry result }
+        ensures { Reads (is_row FORM) (λ view. view.op) op.entry result }
     {
-        op.check_row(FORM, 6)?;
+        op.check_row(FORM)?;
         Ok(FormOp { op })
     }
 

@@ -2,8 +2,9 @@
 
 ghost use Rattle.ifr_opcodes.specs.Opcode.{spelled, IsWhole, IsWhole-prop};
 
+use crate::rows::{is_left_out, least_len};
 use crate::split::rest_from;
-use hii_bytes::{Cause, Fault, number_at, u16_at};
+use hii_bytes::{Cause, Fault, Guid, number_at, u16_at, u32_at};
 
 /// A whole opcode of a forms package (UEFI 2.8, 33.3.8.2.1 EFI_IFR_OP_HEADER).
 #[derive(Clone, Copy, Debug)]
@@ -20,10 +21,11 @@ pub struct Op<'a> {
 }
 
 impl<'a> Op<'a> {
-    ghost use Rattle.std.specs.Prelude.{◌≡◌, ◌==◌, ◌+◌, ◌<◌, ◌≤◌, ◌⊎◌, ℕ, true, length, drop, OnOk, IfErr, IsOk};
+    ghost use Rattle.std.specs.Prelude.{◌≡◌, ◌==◌, ◌+◌, ◌<◌, ◌≤◌, ◌⊎◌, ℕ, true, length, drop, slice_range, OnOk, IfErr, IsOk};
     ghost use Rattle.hii_bytes.specs.Faults.{IsLeast};
     ghost use Rattle.hii_bytes.specs.Numbers.{number_in};
-    ghost use Rattle.ifr_opcodes.specs.Fields.{row_length, IsMisread, IsShort};
+    ghost use Rattle.ifr_opcodes.specs.Fields.{number_where};
+    ghost use Rattle.ifr_opcodes.specs.Rows.{row_length, is_row, IsMisread, IsShort};
     ghost use Rattle.ifr_opcodes.specs.Ops.{bytes_of, op_of};
 
     /// How many bytes it has, from 2 to 127.
@@ -49,6 +51,36 @@ impl<'a> Op<'a> {
         ensures { result ≡ number_in (bytes_of self.entry) at 2 }
     {
         u16_at(self.body, at - 2).unwrap()
+    }
+
+    /// The same where the opcode has these bytes.
+    pub(crate) fn u16_where(self, at: usize) -> Option<u16>
+        requires behind_header { 2 ≤ at }
+        requires small { at < 128 }
+        ensures { result ≡ number_where (bytes_of self.entry) at 2 }
+    {
+        if self.len() < at + 2 {
+            return None;
+        }
+        Some(self.u16_at(at))
+    }
+
+    /// The four bytes at an offset from the opcode's first byte.
+    pub(crate) fn u32_at(self, at: usize) -> u32
+        requires behind_header { 2 ≤ at }
+        requires within { at + 4 ≤ length (bytes_of self) }
+        ensures { result ≡ number_in (bytes_of self.entry) at 4 }
+    {
+        u32_at(self.body, at - 2).unwrap()
+    }
+
+    /// The GUID at an offset from the opcode's first byte.
+    pub(crate) fn guid_at(self, at: usize) -> Guid<'a>
+        requires behind_header { 2 ≤ at }
+        requires within { at + 16 ≤ length (bytes_of self) }
+        ensures { result.bytes.now ≡ slice_range (bytes_of self.entry) at (at + 16) }
+    {
+        Guid::at(self.body, at - 2).unwrap()
     }
 
     /// The number in 1, 2, 4 or 8 bytes at an offset from the opcode's first byte.
@@ -79,16 +111,16 @@ impl<'a> Op<'a> {
         }
     }
 
-    /// Refuses an opcode of another number by OpOutside, and one of less than these bytes by OpSize.
-    pub(crate) fn check_row(self, code: u8, least: usize) -> Result<(), Fault>
-        requires { least ≡ row_length code (bytes_of self) }
-        ensures read { OnOk result ((self.entry.code ≡ code) × (least ≤ length (bytes_of self.entry))) }
-        ensures refused { IfErr result (IsLeast (IsMisread (λ number. number == code) (op_of self.entry))) }
+    /// Refuses an opcode of another number, or one that is left out, by OpOutside, and one that lacks bytes of its fields
+    /// by OpSize.
+    pub(crate) fn check_row(self, code: u8) -> Result<(), Fault>
+        ensures read { OnOk result ((self.entry.code ≡ code) × (is_row code (bytes_of self.entry) ≡ true) × (row_length code (bytes_of self.entry) ≤ length (bytes_of self.entry))) }
+        ensures refused { IfErr result (IsLeast (IsMisread (is_row code) (op_of self.entry))) }
     {
-        if self.code != code {
+        if self.code != code || is_left_out(self) {
             return Err(self.fault(Cause::OpOutside));
         }
-        self.check_length(least)
+        self.check_length(least_len(self))
     }
 
     /// Refuses an opcode of less than these bytes by OpSize.

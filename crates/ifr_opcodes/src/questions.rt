@@ -1,6 +1,6 @@
 //! Statements and questions.
 
-ghost use Rattle.std.specs.Prelude.{◌≡◌, ◌==◌, ◌≤◌, length};
+ghost use Rattle.std.specs.Prelude.{◌≡◌, ◌≤◌, length};
 ghost use Rattle.ifr_opcodes.specs.declared.codes.TheConstants.{CHECKBOX};
 ghost use Rattle.ifr_opcodes.specs.Ops.{bytes_of, op_of};
 
@@ -10,6 +10,12 @@ use hii_bytes::Fault;
 
 /// The flag of a question that may not be changed (UEFI 2.8, 33.3.8.2.2, EFI_IFR_FLAG_READ_ONLY).
 const READ_ONLY: u8 = 0x01;
+
+/// The flag of a checkbox whose default is true (UEFI 2.8, 33.3.8.3, EFI_IFR_CHECKBOX_DEFAULT).
+const CHECKBOX_DEFAULT: u8 = 0x01;
+
+/// The flag of a checkbox whose default of manufacturing is true (UEFI 2.8, 33.3.8.3, EFI_IFR_CHECKBOX_DEFAULT_MFG).
+const CHECKBOX_DEFAULT_MFG: u8 = 0x02;
 
 /// What the opcodes of all statements have (UEFI 2.8, 33.3.8.2.3 EFI_IFR_STATEMENT_HEADER).
 #[derive(Clone, Copy, Debug)]
@@ -116,14 +122,15 @@ pub struct CheckboxOp<'a> {
 }
 
 impl<'a> CheckboxOp<'a> {
-    ghost use Rattle.ifr_opcodes.specs.Fields.{checkbox_flags};
+    ghost use Rattle.ifr_opcodes.specs.Fields.{checkbox_flags, is_default_checkbox, is_manufacturing_checkbox};
+    ghost use Rattle.ifr_opcodes.specs.Rows.{is_row};
     ghost use Rattle.ifr_opcodes.specs.Views.{Reads};
 
     /// Another opcode is refused by OpOutside, one of less than 14 bytes by OpSize, each at its place.
     pub fn read(op: Op<'a>) -> Result<CheckboxOp<'a>, Fault>
-        ensures { Reads (λ code. code == CHECKBOX) (λ view. view.op) op.entry result }
+        ensures { Reads (is_row CHECKBOX) (λ view. view.op) op.entry result }
     {
-        op.check_row(CHECKBOX, 14)?;
+        op.check_row(CHECKBOX)?;
         Ok(CheckboxOp { op })
     }
 
@@ -139,5 +146,19 @@ impl<'a> CheckboxOp<'a> {
         ensures { result ≡ checkbox_flags (bytes_of self.entry.op) }
     {
         self.op.u8_at(13)
+    }
+
+    /// Whether its default is true.
+    pub fn is_default(self) -> bool
+        ensures { result ≡ is_default_checkbox (bytes_of self.entry.op) }
+    {
+        self.flags() & CHECKBOX_DEFAULT != 0
+    }
+
+    /// Whether its default of manufacturing is true.
+    pub fn is_manufacturing_default(self) -> bool
+        ensures { result ≡ is_manufacturing_checkbox (bytes_of self.entry.op) }
+    {
+        self.flags() & CHECKBOX_DEFAULT_MFG != 0
     }
 }

@@ -1,6 +1,6 @@
 //! Rules.
 
-ghost use Rattle.std.specs.Prelude.{◌≡◌, ◌==◌, ◌≤◌, length};
+ghost use Rattle.std.specs.Prelude.{◌≡◌, ◌≤◌, length};
 ghost use Rattle.ifr_opcodes.specs.declared.codes.TheConstants.{RULE};
 ghost use Rattle.ifr_opcodes.specs.Ops.{bytes_of, op_of};
 
@@ -18,13 +18,14 @@ pub struct RuleOp<'a> {
 
 impl<'a> RuleOp<'a> {
     ghost use Rattle.ifr_opcodes.specs.Fields.{rule_id};
+    ghost use Rattle.ifr_opcodes.specs.Rows.{is_row};
     ghost use Rattle.ifr_opcodes.specs.Views.{Reads};
 
     /// Another opcode is refused by OpOutside, one of less than 3 bytes by OpSize, each at its place.
     pub fn read(op: Op<'a>) -> Result<RuleOp<'a>, Fault>
-        ensures { Reads (λ code. code == RULE) (λ view. view.op) op.entry result }
+        ensures { Reads (is_row RULE) (λ view. view.op) op.entry result }
     {
-        op.check_row(RULE, 3)?;
+        op.check_row(RULE)?;
         Ok(RuleOp { op })
     }
 

@@ -1,6 +1,6 @@
 //! The stores that a form set names.
 
-ghost use Rattle.std.specs.Prelude.{◌≡◌, ◌==◌, ◌≤◌, ◌+◌, length};
+ghost use Rattle.std.specs.Prelude.{◌≡◌, ◌≤◌, ◌+◌, length};
 ghost use Rattle.std.specs.List.{position, before_first};
 ghost use Rattle.ifr_opcodes.specs.declared.codes.TheConstants.{VARSTORE};
 ghost use Rattle.ifr_opcodes.specs.Fields.{is_nul, varstore_name};
@@ -37,14 +37,14 @@ pub struct VarstoreOp<'a> {
 
 impl<'a> VarstoreOp<'a> {
     ghost use Rattle.ifr_opcodes.specs.Fields.{varstore_guid, varstore_id, varstore_size};
+    ghost use Rattle.ifr_opcodes.specs.Rows.{is_row};
     ghost use Rattle.ifr_opcodes.specs.Views.{Reads};
 
     /// Another opcode is refused by OpOutside, one without a NUL from offset 22 on by OpSize, each at its place.
     pub fn read(op: Op<'a>) -> Result<VarstoreOp<'a>, Fault>
-        ensures { Reads (λ code. code == VARSTORE) (λ view. view.op) op.entry result }
+        ensures { Reads (is_row VARSTORE) (λ view. view.op) op.entry result }
     {
-        let name = before_nul(op.bytes_from(22));
-        op.check_row(VARSTORE, 23 + name.len())?;
+        op.check_row(VARSTORE)?;
         Ok(VarstoreOp { op })
     }
 
@@ -52,7 +52,7 @@ impl<'a> VarstoreOp<'a> {
     pub fn guid(self) -> Guid<'a>
         ensures { result.bytes.now ≡ varstore_guid (bytes_of self.entry.op) }
     {
-        Guid::at(self.op.body, 0).unwrap()
+        self.op.guid_at(2)
     }
 
     /// The id by which questions name the store.

@@ -1,6 +1,7 @@
 -- The expression with which a node begins stands right behind the node's opcode.
-use Rattle.std.proofs.Common.{◌≡◌, ℕ, ◌+◌, ◌<◌, ◌≤◌, true, Result, IsOk, List, [], ◌∷◌, ◌++◌, length, slice_range, sym, ap, ◌∙◌, subst, arith, length-append}
+use Rattle.std.proofs.Common.{◌≡◌, ℕ, ◌+◌, ◌<◌, ◌≤◌, true, Option, Some, None, Result, IsOk, List, [], ◌∷◌, ◌++◌, length, slice_range, sym, ap, ◌∙◌, subst, arith, length-append}
 use Rattle.std.specs.Prelude.{Contains}
+use Rattle.std.proofs.lemmas.Bool.{cond-true}
 use Rattle.std.proofs.lemmas.List.{length-drop}
 use Rattle.hii_bytes.specs.Faults.{HasNone}
 use Rattle.hii_bytes.specs.declared.cause.Fault.{Fault}
@@ -13,12 +14,13 @@ use Rattle.ifr_expr.specs.Reading.{opcodes_of, tree_of_opcodes, tree_in}
 use Rattle.ifr_expr.specs.Faults.{IsExpressionFault}
 use Rattle.ifr_expr.proofs.TreeLemmas.{is_tree_of}
 use Rattle.ifr_scopes.specs.Nodes.{nodes_of, end_of}
-use Rattle.ifr_scopes.specs.Table.{wants_expression}
+use Rattle.ifr_scopes.specs.Table.{wants_expression, wants_value}
+use Rattle.ifr_scopes.specs.Conditions.{expression_tree, value_in, value_tree}
 use Rattle.ifr_scopes.specs.Checked.{IsChecked, IsAt, node_in, has_node}
 use Rattle.ifr_scopes.proofs.ExpressionLemmas.{StandsFrom, stands_from}
 use Rattle.ifr_scopes.proofs.PlaceLemmas.{node_stands}
 use Rattle.ifr_scopes.proofs.ViewLemmas.{is_at, node_in_place}
-use Rattle.ifr_scopes.proofs.NodeFactLemmas.{HasCondition, has_condition, is_node}
+use Rattle.ifr_scopes.proofs.NodeFactLemmas.{HasCondition, has_condition, HasValue, has_value, is_node}
 
 -- A node stands at a place, whose expression has no fault and is that with which another begins.
 pub record Begins (bytes : List ℕ) (outer : Placed) (from : ℕ) : Type 0 where
@@ -67,3 +69,27 @@ is_read bytes outer from b result accepted = accepted (subst (λ (l : List Mark)
 pub is_its_tree : (bytes : List ℕ) (outer : Placed) (from : ℕ) (b : Begins bytes outer from) (tree : Tree) → Means (opcodes_of from (slice_range bytes from (end_of (node_in bytes from)))) tree → tree ≡ tree_in (outer.place + length outer.op) outer.children
 is_its_tree bytes outer from b tree means =
     sym (is_tree_of (opcodes_of from (slice_range bytes from (end_of (node_in bytes from)))) tree means) ∙ ap tree_of_opcodes b.stands.opcodes ∙ sym b.tree
+
+-- ---- the VALUE with which a node begins
+
+-- It stands behind the node's opcode, and its expression is the node's value.
+pub record StandsValue (bytes : List ℕ) (n : Placed) (from : ℕ) : Type 0 where
+  pub there : has_node bytes from ≡ true
+  pub inside : from < length bytes
+  pub wants : wants_expression (number (node_in bytes from).op) ≡ true
+  pub tree : Some (expression_tree (node_in bytes from)) ≡ value_tree n
+
+value_there : (bytes : List ℕ) (n : Placed) → IsChecked bytes → (wants : wants_value n.op ≡ true) → HasValue bytes n → StandsValue bytes n (n.place + length n.op)
+value_there bytes n checked wants h =
+    let from : ℕ = n.place + length n.op in
+    let child : Placed = record { place = from; op = h.op; path = n.path ++ as_ancestor n ∷ []; children = h.children } in
+    let same : node_in bytes from ≡ child = node_in_place bytes child checked.spelled h.within in
+    record {
+      there = (is_at bytes child checked.spelled h.within).there;
+      inside = place_below bytes child checked h.within;
+      wants = ap (λ (m : Placed). wants_expression (number m.op)) same ∙ ap wants_expression h.is_value;
+      tree = ap (λ (m : Placed). Some (expression_tree m)) same ∙ sym (ap (value_in from) h.first) ∙ sym (cond-true (wants_value n.op) (value_in from n.children) None wants);
+    }
+
+pub value_at : (bytes : List ℕ) (n : Placed) (from : ℕ) → IsChecked bytes → Contains (nodes_of bytes) n → wants_value n.op ≡ true → n.place + length n.op ≡ from → StandsValue bytes n from
+value_at bytes n from checked within wants here = subst (StandsValue bytes n) here (value_there bytes n checked wants (has_value bytes n checked within wants))

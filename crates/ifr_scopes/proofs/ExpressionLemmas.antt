@@ -1,17 +1,17 @@
 -- The faults of an expression, and those of its nodes.
 use Rattle.std.proofs.Common.{◌≡◌, ◌⊎◌, ℕ, zero, suc, ◌+◌, ◌-◌, ◌<◌, ◌≤◌, Bool, true, false, eqb, cond, Option, Some, None, List, [], ◌∷◌, ◌++◌, length, take, drop, slice_range, refl, sym, ap, subst, ◌∙◌, arith, inl, inr, lit≤, length-append}
-use Rattle.std.specs.Prelude.{Contains, ◌==◌, ◌&&◌, not, option_map}
+use Rattle.std.specs.Prelude.{Contains, ◌==◌, ◌&&◌, ◌||◌, not, option_map}
 use Rattle.std.specs.List.{last_or}
-use Rattle.std.proofs.lemmas.Bool.{cases_Bool, eq-eqb, ne_eqb, false≢true, and_from, and_left, or_right, not_from_true, not_from_false, cond-false}
+use Rattle.std.proofs.Math.Bool.{and-false}
+use Rattle.std.proofs.lemmas.Bool.{cases_Bool, eq-eqb, ne_eqb, false≢true, and_from, and_left, or_left, or_from, not_from_true, not_from_false, cond-false}
 use Rattle.std.proofs.lemmas.List.{length-drop, take_at}
 use Rattle.hii_bytes.specs.Cause.{number_of}
 use Rattle.hii_bytes.specs.declared.cause.Cause.{Cause}
 use Rattle.hii_bytes.specs.declared.cause.Cause.TheVariants.{NotFormSet, AfterFormSet, OpOutside, OpSize, Misplaced, ScopeBit, ExprShape, ExprDepth}
-use Rattle.ifr_opcodes.specs.declared.codes.TheConstants.{FORM_SET, FORM, VARSTORE, SUPPRESS_IF, GRAY_OUT_IF, DISABLE_IF, CHECKBOX, RULE}
 use Rattle.ifr_opcodes.specs.Opcode.{number, has_scope}
-use Rattle.ifr_opcodes.specs.Fields.{is_listed}
+use Rattle.ifr_opcodes.specs.Fields.{is_outside}
 use Rattle.ifr_opcodes.specs.Forest.{Forest, none, node, flat, AreNodes, Spells, Mark, mark, Ancestor, Placed, as_ancestor, nodes}
-use Rattle.ifr_opcodes.specs.Operators.{is_operator, operands}
+use Rattle.ifr_opcodes.specs.Operators.{is_operator}
 use Rattle.ifr_opcodes.proofs.ForestLemmas.{takes}
 use Rattle.ifr_expr.specs.Checked.{IsSized, AreSized}
 use Rattle.ifr_expr.specs.Faults as expr
@@ -22,14 +22,16 @@ use Rattle.ifr_expr.proofs.NodeLemmas.{is_expression_node, opcodes_are}
 use Rattle.ifr_expr.proofs.ShapeLemmas.{no_shape}
 use Rattle.ifr_scopes.specs.Guards.{is_guard}
 use Rattle.ifr_scopes.specs.Nodes.{end_of}
-use Rattle.ifr_scopes.specs.Structure.{has_fault, innermost, parent, is_condition, is_operand, is_root, has_wrong_scope, IsNodeFault}
-use Rattle.ifr_scopes.specs.Table.{row, wants_expression, class_of, class_around, admits}
+use Rattle.ifr_scopes.specs.Structure.{has_fault, innermost, parent, is_condition, is_operand, is_root, has_wrong_scope, guards_options, IsNodeFault}
+use Rattle.ifr_scopes.specs.Table.{row, class_of, guarded, class_around, admits, is_within_question}
 use Rattle.ifr_scopes.specs.declared.table.Row.{Row}
 use Rattle.ifr_scopes.specs.declared.table.Class.{Class}
-use Rattle.ifr_scopes.specs.declared.table.Class.TheVariants.{OfQuestion, OfExpression}
+use Rattle.ifr_scopes.specs.declared.table.Class.TheVariants.{OfNothing, OfExpression}
 use Rattle.ifr_scopes.specs.declared.table.Scope.TheVariants.{Outermost}
 use Rattle.ifr_scopes.proofs.BehindLemmas.{siblings_inside, is_node_of}
 use Rattle.ifr_scopes.proofs.PlaceLemmas.{node_stands}
+use Rattle.ifr_opcodes.proofs.RowLemmas.{operator_inside}
+use Rattle.ifr_scopes.proofs.TableLemmas.{operator_row, guards_no_operator, wants_no_operator, wants_no_value}
 use Rattle.ifr_scopes.proofs.ViewLemmas.{further, below_within}
 
 -- ---- where the faults of an expression are told
@@ -99,54 +101,6 @@ pub first : (a b : Bool) → (a && b) ≡ true → a ≡ true
 first true b e = refl
 first false b e = e
 
--- the number of a node that is no operator
-other_number : (code other : ℕ) → is_operator other ≡ false → is_operator code ≡ true → eqb code other ≡ false
-other_number code other plain operator = ne_eqb code other (λ e. false≢true (sym plain ∙ ap is_operator (sym e) ∙ operator))
-
-no_form_set : is_operator FORM_SET ≡ false
-unfolding operands
-no_form_set = refl
-
-no_form : is_operator FORM ≡ false
-unfolding operands
-no_form = refl
-
-no_store : is_operator VARSTORE ≡ false
-unfolding operands
-no_store = refl
-
-no_rule : is_operator RULE ≡ false
-unfolding operands
-no_rule = refl
-
-no_checkbox : is_operator CHECKBOX ≡ false
-unfolding operands
-no_checkbox = refl
-
-no_suppress : is_operator SUPPRESS_IF ≡ false
-unfolding operands
-no_suppress = refl
-
-no_gray_out : is_operator GRAY_OUT_IF ≡ false
-unfolding operands
-no_gray_out = refl
-
-no_disable : is_operator DISABLE_IF ≡ false
-unfolding operands
-no_disable = refl
-
-operator_row : (code : ℕ) → is_operator code ≡ true → row code ≡ Some (record { scope = Outermost; class = OfExpression })
-operator_row code operator =
-    rw (other_number code FORM_SET no_form_set operator, other_number code FORM no_form operator, other_number code VARSTORE no_store operator, other_number code SUPPRESS_IF no_suppress operator, other_number code CHECKBOX no_checkbox operator, other_number code RULE no_rule operator, operator) refl
-
--- what begins with an expression is no operator
-pub wants_no_operator : (code : ℕ) → is_operator code ≡ true → wants_expression code ≡ false
-wants_no_operator code operator = rw (other_number code SUPPRESS_IF no_suppress operator, other_number code GRAY_OUT_IF no_gray_out operator, other_number code DISABLE_IF no_disable operator, other_number code RULE no_rule operator) refl
-
--- an operator is known
-listed : (code : ℕ) → is_operator code ≡ true → is_listed code ≡ true
-listed code operator = or_right _ (is_operator code) operator
-
 -- ---- the parent
 
 last-push : {X : Type 0} (found : Option X) (xs : List X) (x : X) → last_or found (xs ++ x ∷ []) ≡ Some x
@@ -158,7 +112,7 @@ innermost-push path a = ap (λ (found : Option Ancestor). option_map (λ (b : An
 
 class-push : (found : Class) (path : List Ancestor) (a : Ancestor) → is_guard (number a.op) ≡ false → class_around found (path ++ a ∷ []) ≡ class_of (row (number a.op))
 class-push found [] a other = cond-false (is_guard (number a.op)) _ _ other
-class-push found (b ∷ path) a other = class-push (cond (is_guard (number b.op)) found (class_of (row (number b.op)))) path a other
+class-push found (b ∷ path) a other = class-push (cond (is_guard (number b.op)) (guarded found) (class_of (row (number b.op)))) path a other
 
 -- A node stands in the scope of an operator.
 pub record IsIn (n parent : Placed) : Type 0 where
@@ -177,18 +131,15 @@ in_is_no_condition n p i = rw (its_parent n p i) (and_left _ _ (wants_no_operato
 in_is_no_root : (n p : Placed) → IsIn n p → is_root n ≡ false
 in_is_no_root n p i = ne_eqb (length n.path) 0 (λ e. omega (arith, e, ap length i.path, length-append p.path (as_ancestor p ∷ [])))
 
-guards_no_operator : (code : ℕ) → is_operator code ≡ true → is_guard code ≡ false
-guards_no_operator code operator = rw (other_number code SUPPRESS_IF no_suppress operator, other_number code GRAY_OUT_IF no_gray_out operator, other_number code DISABLE_IF no_disable operator) refl
-
-in_class : (n p : Placed) → IsIn n p → class_around OfQuestion n.path ≡ OfExpression
+in_class : (n p : Placed) → IsIn n p → class_around OfNothing n.path ≡ OfExpression
 in_class n p i =
-    ap (class_around OfQuestion) i.path ∙ class-push OfQuestion p.path (as_ancestor p) (guards_no_operator (number p.op) i.operator) ∙ ap class_of (operator_row (number p.op) i.operator)
+    ap (class_around OfNothing) i.path ∙ class-push OfNothing p.path (as_ancestor p) (guards_no_operator (number p.op) i.operator) ∙ ap class_of (operator_row (number p.op) i.operator)
 
 -- ---- what is wrong with an opcode by itself, as a node and as an opcode of an expression
 
 -- the expression's own opcode
 pub own_fault : (n : Placed) (cause : Cause) → is_operator (number n.op) ≡ true → expr.has_fault n.place (mark n) cause ≡ true → has_fault n cause ≡ true
-own_fault n OpOutside operator h = h
+own_fault n OpOutside operator h = or_left _ _ h
 own_fault n OpSize operator h = h
 own_fault n Misplaced operator h = absurd (false≢true (sym (not_from_true (is_operator (number n.op)) operator) ∙ h))
 own_fault n ScopeBit operator h = absurd (false≢true (sym (not_from_true (n.place == n.place) (eq-eqb n.place n.place refl)) ∙ second (has_scope n.op) _ h))
@@ -198,19 +149,24 @@ own_fault n _ operator h = absurd (false≢true h)
 pub inner_fault : (n p : Placed) (cause : Cause) → IsIn n p → p.place < n.place → 4 < n.place → has_fault n cause ≡ true → (other : Cause) × (expr.has_fault p.place (mark n) other ≡ true) × (number_of other ≤ number_of cause)
 inner_fault n p NotFormSet i less some h = absurd (false≢true (sym (ne_eqb n.place 4 (λ e. omega arith)) ∙ first _ _ h))
 inner_fault n p AfterFormSet i less some h = absurd (false≢true (sym (in_is_no_root n p i) ∙ first _ _ h))
-inner_fault n p OpOutside i less some h = (OpOutside, h, lit≤ tt)
+inner_fault n p OpOutside i less some h =
+    let none : guards_options n ≡ false = ap (λ (c : Class). is_guard (number n.op) && is_within_question c) (in_class n p i) ∙ and-false (is_guard (number n.op)) in
+    elim (cases_Bool (is_outside n.op)) [
+      | inl e ↦ (OpOutside, e, lit≤ tt)
+      | inr e ↦ absurd (false≢true (sym (or_from _ _ e none) ∙ h))
+    ]
 inner_fault n p OpSize i less some h = (OpSize, h, lit≤ tt)
 inner_fault n p Misplaced i less some h =
-    let refused : not (admits (class_around OfQuestion n.path) (number n.op)) ≡ true = second _ _ (second _ _ h) in
+    let refused : not (admits (class_around OfNothing n.path) (number n.op)) ≡ true = second _ _ (second _ _ h) in
     (Misplaced, ap (λ (c : Class). not (admits c (number n.op))) (sym (in_class n p i)) ∙ refused, lit≤ tt)
 inner_fault n p ScopeBit i less some h = elim (cases_Bool (is_operator (number n.op))) [
   | inl operator ↦
-      let scoped : has_scope n.op ≡ true = second (is_operand n) _ (ap (λ (r : Option Row). has_wrong_scope r (is_operand n) (has_scope n.op)) (sym (operator_row (number n.op) operator)) ∙ h) in
+      let scoped : has_scope n.op ≡ true = second (is_operand n) _ (ap (λ (r : Option Row). has_wrong_scope r (is_operand n) n.op) (sym (operator_row (number n.op) operator)) ∙ h) in
       (ScopeBit, and_from _ _ scoped (not_from_false _ (ne_eqb n.place p.place (λ e. omega arith))), lit≤ tt)
   | inr other ↦ (Misplaced, not_from_false _ other, lit≤ tt)
 ]
 inner_fault n p ExprShape i less some h = elim (cases_Bool (is_operator (number n.op))) [
-  | inl operator ↦ absurd (false≢true (sym (wants_no_operator (number n.op) operator) ∙ first _ _ h))
+  | inl operator ↦ absurd (false≢true (sym (or_from _ _ (and_left _ _ (wants_no_operator (number n.op) operator)) (and_left _ _ (wants_no_value n.op operator))) ∙ h))
   | inr other ↦ (Misplaced, not_from_false _ other, lit≤ tt)
 ]
 inner_fault n p _ i less some h = absurd (false≢true h)
@@ -218,7 +174,7 @@ inner_fault n p _ i less some h = absurd (false≢true h)
 -- an operator that opens a scope inside of the expression's own
 scope_fault : (n p : Placed) → IsIn n p → is_operator (number n.op) ≡ true → has_scope n.op ≡ true → has_fault n ScopeBit ≡ true
 scope_fault n p i operator scoped =
-    ap (λ (r : Option Row). has_wrong_scope r (is_operand n) (has_scope n.op)) (operator_row (number n.op) operator) ∙ and_from (is_operand n) (has_scope n.op) (in_is_operand n p i) scoped
+    ap (λ (r : Option Row). has_wrong_scope r (is_operand n) n.op) (operator_row (number n.op) operator) ∙ and_from (is_operand n) (has_scope n.op) (in_is_operand n p i) scoped
 
 -- ---- an expression that was read
 
@@ -243,7 +199,7 @@ read_fault f n cause place within r (inl (m, (zero, lt, e), here, there)) = absu
     operator = r.sized.0.operator
 
     own : (cause : Cause) → expr.has_fault n.place (mark n) cause ≡ true → ⊥
-    own OpOutside h = false≢true (sym (not_from_true _ (listed (number n.op) operator)) ∙ h)
+    own OpOutside h = false≢true (sym (operator_inside n.op operator) ∙ h)
     own OpSize h = false≢true (sym r.sized.0.sized ∙ h)
     own Misplaced h = false≢true (sym (not_from_true _ operator) ∙ h)
     own ScopeBit h = false≢true (sym (not_from_true (n.place == n.place) (eq-eqb n.place n.place refl)) ∙ second (has_scope n.op) _ h)
@@ -254,7 +210,7 @@ read_fault f n cause place within r (inl (m, (suc k, lt, e), here, there)) = inn
     sized = is_sized (siblings (n.place + length n.op) n.children) m r.sized.1 (k, omega arith, e)
 
     inner : (cause : Cause) → expr.has_fault n.place m cause ≡ true → IsNodeFault (nodes f) cause place
-    inner OpOutside h = absurd (false≢true (sym (not_from_true _ (listed (number m.op) sized.operator)) ∙ h))
+    inner OpOutside h = absurd (false≢true (sym (operator_inside m.op sized.operator) ∙ h))
     inner OpSize h = absurd (false≢true (sym sized.sized ∙ h))
     inner Misplaced h = absurd (false≢true (sym (not_from_true _ sized.operator) ∙ h))
     inner ScopeBit h =

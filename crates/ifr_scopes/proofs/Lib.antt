@@ -5,6 +5,7 @@ pub mod PlaceLemmas
 pub mod WalkLemmas
 pub mod FirstLemmas
 pub mod StructureLemmas
+pub mod TableLemmas
 pub mod EndLemmas
 pub mod InnermostLemmas
 pub mod BehindLemmas
@@ -15,6 +16,7 @@ pub mod ConditionLemmas
 pub mod IndexLemmas
 pub mod PathLemmas
 pub mod RuleFacts
+pub mod QuestionFacts
 pub mod RuleExpressionLemmas
 pub mod NamedLemmas
 pub mod SizeLemmas

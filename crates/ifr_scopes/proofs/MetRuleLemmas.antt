@@ -5,12 +5,13 @@ use Rattle.std.specs.List.{AllByRecursion, last_or, list_any}
 use Rattle.std.proofs.lemmas.Bool.{cases_Bool, eqb-true}
 use Rattle.hii_bytes.specs.Faults.{first_cause}
 use Rattle.hii_bytes.specs.declared.cause.Cause.TheVariants.{RuleTooLarge}
-use Rattle.ifr_opcodes.specs.declared.codes.TheConstants.{FORM, RULE}
+use Rattle.ifr_opcodes.specs.declared.codes.TheConstants.{FORM, REF, RULE}
 use Rattle.ifr_opcodes.specs.Opcode.{number}
 use Rattle.ifr_opcodes.specs.Forest.{Ancestor, Placed}
 use Rattle.ifr_opcodes.specs.Reading.{tree_of}
 use Rattle.ifr_scopes.specs.Checked.{IsChecked, node_in, has_node}
-use Rattle.ifr_scopes.specs.Nodes.{nodes_of, is_form, is_question, is_question_number, end_of}
+use Rattle.ifr_scopes.specs.Nodes.{nodes_of, is_form, is_question, is_reference, end_of}
+use Rattle.ifr_scopes.specs.Kinds.{is_question_number}
 use Rattle.ifr_scopes.specs.References.{has_fault, causes, has_form_id, has_question_id}
 use Rattle.ifr_scopes.specs.Rules.{is_rule, as_rule, forms_among, form_end, end_or_0, rules_among, size, is_too_large, fitting_size, scope_end}
 use Rattle.ifr_scopes.specs.declared.rules.RuleSize.{RuleSize}
@@ -64,8 +65,15 @@ form_around bytes n place checked within e =
 no_form : (n : Placed) → is_rule n ≡ true → is_form n ≡ false
 no_form n is = ap (λ (k : ℕ). eqb k FORM) (eqb-true (number n.op) RULE is)
 
+no_question_rule : is_question_number RULE ≡ false
+unfolding is_question_number
+no_question_rule = refl
+
 no_question : (n : Placed) → is_rule n ≡ true → is_question n ≡ false
-no_question n is = ap is_question_number (eqb-true (number n.op) RULE is)
+no_question n is = ap is_question_number (eqb-true (number n.op) RULE is) ∙ no_question_rule
+
+no_reference : (n : Placed) → is_rule n ≡ true → is_reference n ≡ false
+no_reference n is = ap (λ (k : ℕ). eqb k REF) (eqb-true (number n.op) RULE is)
 
 large : (s : RuleSize) → None ≡ fitting_size s → is_too_large s ≡ true
 large s e = go (is_too_large s) e
@@ -81,11 +89,11 @@ fitting s t e = go (is_too_large s) e
     go true e = absurd cc
     go false e = (refl, cc)
 
-pub told_large : (before : List Placed) (n : Placed) → is_rule n ≡ true → None ≡ fitting_size (size (rules_among before) (as_rule n)) → Some RuleTooLarge ≡ first_cause has_fault (record { before = before; node = n }) causes
-told_large before n is e = rw (no_form n is, no_question n is, is, large (size (rules_among before) (as_rule n)) e) refl
+pub told_large : (ns before : List Placed) (n : Placed) → is_rule n ≡ true → None ≡ fitting_size (size (rules_among before) (as_rule n)) → Some RuleTooLarge ≡ first_cause (has_fault ns) (record { before = before; node = n }) causes
+told_large ns before n is e = rw (no_form n is, no_question n is, no_reference n is, is, large (size (rules_among before) (as_rule n)) e) refl
 
-pub told_none : (before : List Placed) (n : Placed) (s : RuleSize) → is_rule n ≡ true → Some s ≡ fitting_size (size (rules_among before) (as_rule n)) → None ≡ first_cause has_fault (record { before = before; node = n }) causes
-told_none before n s is e = rw (no_form n is, no_question n is, is, (fitting (size (rules_among before) (as_rule n)) s e).0) refl
+pub told_none : (ns before : List Placed) (n : Placed) (s : RuleSize) → is_rule n ≡ true → Some s ≡ fitting_size (size (rules_among before) (as_rule n)) → None ≡ first_cause (has_fault ns) (record { before = before; node = n }) causes
+told_none ns before n s is e = rw (no_form n is, no_question n is, no_reference n is, is, (fitting (size (rules_among before) (as_rule n)) s e).0) refl
 
 pub its_size : (before : List Placed) (n : Placed) (s : RuleSize) → Some s ≡ fitting_size (size (rules_among before) (as_rule n)) → s ≡ size (rules_among before) (as_rule n)
 its_size before n s e = (fitting (size (rules_among before) (as_rule n)) s e).1

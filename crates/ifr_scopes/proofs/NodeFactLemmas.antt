@@ -1,22 +1,29 @@
 -- What the nodes of a checked package have: all their fields, and an expression where they want one.
-use Rattle.std.proofs.Common.{◌≡◌, ℕ, ◌+◌, ◌≤◌, Bool, true, false, eqb, Some, List, [], ◌∷◌, ◌++◌, length, refl, sym, ap, subst, ◌∙◌, arith, inl, inr}
-use Rattle.std.specs.Prelude.{◌&&◌, not, Contains}
-use Rattle.std.proofs.lemmas.Bool.{cases_Bool, eqb-true, eq-eqb, ltb-false, false≢true, and_from}
+use Rattle.std.proofs.Common.{◌≡◌, ℕ, ◌+◌, ◌*◌, ◌≤◌, Bool, true, false, cond, eqb, ltb, leb, Some, List, [], ◌∷◌, ◌++◌, length, refl, sym, ap, subst, ◌∙◌, arith, inl, inr}
+use Rattle.std.specs.Prelude.{◌&&◌, ◌||◌, not, Contains}
+use Rattle.std.specs.List.{list_all}
+use Rattle.std.proofs.lemmas.Bool.{cases_Bool, eqb-true, eq-eqb, ltb-true, ltb-false, leb-true, le-leb, false≢true, and_from, or_parts}
 use Rattle.hii_bytes.specs.Faults.{HasNone}
 use Rattle.hii_bytes.specs.declared.cause.Cause.{Cause}
 use Rattle.hii_bytes.specs.declared.cause.Cause.TheVariants.{NotFormSet, OpOutside, OpSize, ExprShape}
-use Rattle.ifr_opcodes.specs.Opcode.{number}
-use Rattle.ifr_opcodes.specs.Fields.{row_length, least_length, is_listed}
-use Rattle.ifr_opcodes.specs.Operators.{is_operator}
+use Rattle.ifr_opcodes.specs.Opcode.{number, has_scope}
+use Rattle.ifr_opcodes.specs.Fields.{row_length, least_length, is_listed, is_left_out, option_kind, default_kind, numeric_width}
+use Rattle.ifr_opcodes.specs.Operators.{is_operator, is_among}
+use Rattle.ifr_opcodes.specs.declared.codes.TheConstants.{GUID, VARSTORE_EFI, ONE_OF_OPTION, DEFAULT, VALUE}
+use Rattle.ifr_opcodes.specs.declared.kinds.TheConstants.{TYPE_BOOLEAN, TYPE_REF}
+use Rattle.ifr_scopes.specs.Kinds.{plain_statements, questions_without_options, questions_with_options, is_question_number, is_statement_number}
 use Rattle.ifr_opcodes.specs.Forest.{Forest, none, node, mark, Placed, as_ancestor, nodes_at, nodes, below}
 use Rattle.ifr_opcodes.specs.Reading.{tree_of}
 use Rattle.ifr_expr.specs.Faults.{IsExpressionFault}
 use Rattle.ifr_expr.specs.Trees.{expression}
-use Rattle.ifr_scopes.specs.Table.{wants_expression}
+use Rattle.ifr_scopes.specs.Table.{wants_expression, wants_value}
 use Rattle.ifr_scopes.specs.Nodes.{nodes_of, is_form_set}
-use Rattle.ifr_scopes.specs.Structure.{has_fault, first_number, lacks_expression, parent, begins_scope, is_condition}
+use Rattle.ifr_scopes.specs.Structure.{has_fault, first_number, lacks_expression, lacks_value, parent, begins_scope, is_condition}
 use Rattle.ifr_scopes.specs.Checked.{IsChecked, IsAt, node_in}
+use Rattle.ifr_scopes.specs.Views.{node_of}
+use Rattle.ifr_scopes.specs.declared.node.Node.{Node}
 use Rattle.ifr_scopes.proofs.ExpressionLemmas.{innermost-push}
+use Rattle.ifr_scopes.proofs.TableLemmas.{of_each}
 use Rattle.ifr_scopes.proofs.ViewLemmas.{node_there, below_within}
 
 -- the node of a view is one of the package
@@ -46,6 +53,74 @@ has_fields bytes place op code checked at is =
     let long : least_length op ≤ length op = subst (λ (l : List ℕ). least_length l ≤ length l) at.opcode (long_enough bytes (node_in bytes place) checked (is_node bytes place op checked at)) in
     record { coded = coded; sized = subst (λ (k : ℕ). row_length k op ≤ length op) coded long }
 
+-- so has that of a view, as an opcode of the code
+pub view_sized : (view : Node) (op : List ℕ) → op ≡ (node_of view).op → least_length op ≤ length op
+view_sized view op same =
+    subst (λ (l : List ℕ). least_length l ≤ length l) (sym same) (long_enough view.ifr.now (node_of view) view.checked (is_node view.ifr.now view.op.place _ view.checked view.stands))
+
+-- where a byte tells how long the rest is, both are there
+pub past_front : (front rest len : ℕ) → cond (ltb len front) front (front + rest) ≤ len → front + rest ≤ len
+past_front front rest len le = elim (cases_Bool (ltb len front)) [
+  | inl short ↦ absurd (omega (arith, ltb-true len front short, rw short at le))
+  | inr long ↦ rw long at le
+]
+
+asked : (guard shaped : Bool) → guard ≡ true → guard && shaped ≡ false → shaped ≡ false
+asked true shaped is e = e
+asked false shaped is e = absurd (false≢true is)
+
+-- it is not left out
+kept : (bytes : List ℕ) (place : ℕ) (op : List ℕ) → IsChecked bytes → IsAt bytes place op → is_left_out op ≡ false
+kept bytes place op checked at =
+    ap is_left_out (sym at.opcode) ∙ (or_parts _ _ (or_parts _ _ (no_fault bytes (node_in bytes place) OpOutside checked (is_node bytes place op checked at))).0).1
+
+-- an option's value is a number or a Boolean, and a default's kind is defined
+pub option_numeric : (bytes : List ℕ) (place : ℕ) (op : List ℕ) → IsChecked bytes → IsAt bytes place op → eqb (number (node_in bytes place).op) ONE_OF_OPTION ≡ true → option_kind op ≤ TYPE_BOOLEAN
+option_numeric bytes place op checked at is =
+    let has = has_fields bytes place op ONE_OF_OPTION checked at is in
+    let long : 6 ≤ length op = omega (arith, past_front 6 _ _ has.sized) in
+    let inside = subst (λ (k : ℕ). cond (eqb k GUID) (has_scope op) (cond (eqb k VARSTORE_EFI) (eqb (length op) 24) (cond (eqb k ONE_OF_OPTION) (leb 6 (length op) && ltb TYPE_BOOLEAN (option_kind op)) (cond (eqb k DEFAULT) (leb 5 (length op) && ltb TYPE_REF (default_kind op)) false))) ≡ false) has.coded (kept bytes place op checked at) in
+    ltb-false TYPE_BOOLEAN (option_kind op) (asked (leb 6 (length op)) _ (le-leb 6 (length op) long) inside)
+
+pub default_known : (bytes : List ℕ) (place : ℕ) (op : List ℕ) → IsChecked bytes → IsAt bytes place op → eqb (number (node_in bytes place).op) DEFAULT ≡ true → default_kind op ≤ TYPE_REF
+default_known bytes place op checked at is =
+    let has = has_fields bytes place op DEFAULT checked at is in
+    let long : 5 ≤ length op = omega (arith, past_front 5 _ _ has.sized) in
+    let inside = subst (λ (k : ℕ). cond (eqb k GUID) (has_scope op) (cond (eqb k VARSTORE_EFI) (eqb (length op) 24) (cond (eqb k ONE_OF_OPTION) (leb 6 (length op) && ltb TYPE_BOOLEAN (option_kind op)) (cond (eqb k DEFAULT) (leb 5 (length op) && ltb TYPE_REF (default_kind op)) false))) ≡ false) has.coded (kept bytes place op checked at) in
+    ltb-false TYPE_REF (default_kind op) (asked (leb 5 (length op)) _ (le-leb 5 (length op) long) inside)
+
+-- the rows of statements and questions are long enough for what they share
+numeric_long : (op : List ℕ) → leb 13 (cond (ltb (length op) 14) 14 (14 + 3 * numeric_width op)) ≡ true
+numeric_long op = elim (cases_Bool (ltb (length op) 14)) [ inl short ↦ rw short refl | inr long ↦ rw long (le-leb 13 (14 + 3 * numeric_width op) (omega arith)) ]
+
+question_row : (op : List ℕ) (code : ℕ) → is_question_number code ≡ true → 13 ≤ row_length code op
+unfolding is_question_number
+question_row op code is = leb-true 13 (row_length code op) (elim (cases_Bool (is_among code questions_without_options)) [
+  | inl without ↦ of_each (λ c. leb 13 (row_length c op)) questions_without_options code (rw (numeric_long op) refl) without
+  | inr other ↦ of_each (λ c. leb 13 (row_length c op)) questions_with_options code (rw (numeric_long op) refl) (ap (λ (b : Bool). b || is_among code questions_with_options) (sym other) ∙ is)
+])
+
+statement_row : (op : List ℕ) (code : ℕ) → is_statement_number code ≡ true → 6 ≤ row_length code op
+unfolding is_statement_number is_question_number
+statement_row op code is = elim (cases_Bool (is_among code plain_statements)) [
+  | inl plain ↦ leb-true 6 (row_length code op) (of_each (λ c. leb 6 (row_length c op)) plain_statements code refl plain)
+  | inr other ↦ omega (arith, question_row op code (ap (λ (b : Bool). b || is_question_number code) (sym other) ∙ is))
+]
+
+pub question_long : (bytes : List ℕ) (place : ℕ) (op : List ℕ) → IsChecked bytes → IsAt bytes place op → is_question_number (number (node_in bytes place).op) ≡ true → 13 ≤ length op
+question_long bytes place op checked at is =
+    let n = node_in bytes place in
+    let row = question_row n.op (number n.op) is in
+    let long = long_enough bytes n checked (is_node bytes place op checked at) in
+    omega (arith, row, long, ap (λ (l : List ℕ). length l) at.opcode)
+
+pub statement_long : (bytes : List ℕ) (place : ℕ) (op : List ℕ) → IsChecked bytes → IsAt bytes place op → is_statement_number (number (node_in bytes place).op) ≡ true → 6 ≤ length op
+statement_long bytes place op checked at is =
+    let n = node_in bytes place in
+    let row = statement_row n.op (number n.op) is in
+    let long = long_enough bytes n checked (is_node bytes place op checked at) in
+    omega (arith, row, long, ap (λ (l : List ℕ). length l) at.opcode)
+
 -- ---- what wants an expression begins with one
 
 -- It begins with an operator, whose expression has no fault.
@@ -68,20 +143,16 @@ is_wanted true true lacks listed = refl
 is_wanted true false lacks listed = absurd (false≢true (sym lacks))
 is_wanted false operator lacks listed = absurd (false≢true (sym listed))
 
-guarded : (guard shaped : Bool) → guard ≡ true → guard && shaped ≡ false → shaped ≡ false
-guarded true shaped is e = e
-guarded false shaped is e = absurd (false≢true is)
-
 pub has_condition : (bytes : List ℕ) (n : Placed) → IsChecked bytes → Contains (nodes_of bytes) n → wants_expression (number n.op) ≡ true → HasCondition bytes n
 has_condition bytes n checked within wants =
-    let lacks : lacks_expression (first_number n.children) ≡ false = guarded (wants_expression (number n.op)) _ wants (no_fault bytes n ExprShape checked within) in
+    let lacks : lacks_expression (first_number n.children) ≡ false = asked (wants_expression (number n.op)) _ wants (or_parts _ _ (no_fault bytes n ExprShape checked within)).0 in
     let first = begins n.children lacks in
     let op = first.0 in
     let from : ℕ = n.place + length n.op in
     let child : Placed = record { place = from; op = op; path = n.path ++ as_ancestor n ∷ []; children = first.1 } in
     let below_it : Contains (below n) child = subst (λ (f : Forest). Contains (nodes_at from (n.path ++ as_ancestor n ∷ []) f) child) (sym first.3) (0, omega arith, refl) in
     let there : Contains (nodes_of bytes) child = below_within (tree_of bytes) 4 [] n child within below_it in
-    let operator : is_operator (number op) ≡ true = is_wanted (is_listed (number op)) (is_operator (number op)) (ap (λ (f : Forest). lacks_expression (first_number f)) (sym first.3) ∙ lacks) (no_fault bytes child OpOutside checked there) in
+    let operator : is_operator (number op) ≡ true = is_wanted (is_listed (number op)) (is_operator (number op)) (ap (λ (f : Forest). lacks_expression (first_number f)) (sym first.3) ∙ lacks) (or_parts _ _ (or_parts _ _ (no_fault bytes child OpOutside checked there)).0).0 in
     let around : parent child ≡ Some (mark n) = innermost-push n.path (as_ancestor n) in
     let begins_it : is_condition child ≡ true = ap (begins_scope from) around ∙ and_from _ _ wants (eq-eqb from from refl) in
     record {
@@ -91,6 +162,38 @@ has_condition bytes n checked within wants =
       first = first.3;
       operator = operator;
       sound = λ cause place fault. checked.sound cause place (inr (inr (child, there, and_from _ _ begins_it operator, fault)));
+      within = there;
+    }
+
+-- ---- what wants a VALUE begins with one
+
+pub record HasValue (bytes : List ℕ) (n : Placed) : Type 0 where
+  pub op : List ℕ
+  pub children : Forest
+  pub rest : Forest
+  pub first : n.children ≡ node op children rest
+  pub is_value : number op ≡ VALUE
+  pub within : Contains (nodes_of bytes) (record { place = n.place + length n.op; op = op; path = n.path ++ as_ancestor n ∷ []; children = children })
+
+begins_value : (f : Forest) → lacks_value (first_number f) ≡ false → (op : List ℕ) × (children : Forest) × (rest : Forest) × (f ≡ node op children rest)
+begins_value none lacks = absurd (false≢true (sym lacks))
+begins_value (node op children rest) lacks = (op, children, rest, refl)
+
+pub has_value : (bytes : List ℕ) (n : Placed) → IsChecked bytes → Contains (nodes_of bytes) n → wants_value n.op ≡ true → HasValue bytes n
+has_value bytes n checked within wants =
+    let lacks : lacks_value (first_number n.children) ≡ false = asked (wants_value n.op) (lacks_value (first_number n.children)) wants (or_parts (wants_expression (number n.op) && lacks_expression (first_number n.children)) (wants_value n.op && lacks_value (first_number n.children)) (no_fault bytes n ExprShape checked within)).1 in
+    let first = begins_value n.children lacks in
+    let op = first.0 in
+    let from : ℕ = n.place + length n.op in
+    let child : Placed = record { place = from; op = op; path = n.path ++ as_ancestor n ∷ []; children = first.1 } in
+    let below_it : Contains (below n) child = subst (λ (f : Forest). Contains (nodes_at from (n.path ++ as_ancestor n ∷ []) f) child) (sym first.3) (0, omega arith, refl) in
+    let there : Contains (nodes_of bytes) child = below_within (tree_of bytes) 4 [] n child within below_it in
+    record {
+      op = op;
+      children = first.1;
+      rest = first.2;
+      first = first.3;
+      is_value = eqb-true (number op) VALUE (is_wanted (is_listed (number op)) (eqb (number op) VALUE) (ap (λ (f : Forest). lacks_value (first_number f)) (sym first.3) ∙ lacks) (or_parts _ _ (or_parts _ _ (no_fault bytes child OpOutside checked there)).0).0);
       within = there;
     }
 

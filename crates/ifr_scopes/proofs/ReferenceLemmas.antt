@@ -26,24 +26,25 @@ abbrev place_of : Ranked → ℕ
 place_of r = r.node.place
 
 -- the first fault among nodes that have others before them
-abbrev pub first_repeat : List Placed → List Placed → Option Fault
-first_repeat before ns = first_fault place_of has_fault causes (ranked before ns)
+abbrev pub first_repeat : List Placed → List Placed → List Placed → Option Fault
+first_repeat all before ns = first_fault place_of (has_fault all) causes (ranked before ns)
 
 -- Some nodes were met, and their ids and rules are known: the first fault of all nodes is that of those which are left.
 pub record HasMet (bytes : List ℕ) (all left : List Placed) (met : Met) : Type 0 where
   pub before : List Placed
   pub split : before ++ left ≡ all
   pub known : AreOf bytes before met
-  pub same : first_repeat before left ≡ first_repeat [] all
+  pub same : first_repeat all before left ≡ first_repeat all [] all
 
-among : (r : Ranked) (d : Cause) → has_fault r d ≡ true → Contains causes d
-among r DuplicateForm h = (0, omega arith, refl)
-among r DuplicateQuestion h = (1, omega arith, refl)
-among r RuleTooLarge h = (2, omega arith, refl)
-among r _ h = absurd (false≢true h)
+among : (ns : List Placed) (r : Ranked) (d : Cause) → has_fault ns r d ≡ true → Contains causes d
+among ns r DuplicateForm h = (0, omega arith, refl)
+among ns r DuplicateQuestion h = (1, omega arith, refl)
+among ns r NoForm h = (2, omega arith, refl)
+among ns r RuleTooLarge h = (3, omega arith, refl)
+among ns r _ h = absurd (false≢true h)
 
-all_causes : AreAll has_fault causes
-all_causes = record { rise = (lit≤ tt, (lit≤ tt, (lit≤ tt, tt))); all = among }
+all_causes : (ns : List Placed) → AreAll (has_fault ns) causes
+all_causes ns = record { rise = (lit≤ tt, (lit≤ tt, (lit≤ tt, (lit≤ tt, tt)))); all = among ns }
 
 rising : (before ns : List Placed) (low high : ℕ) → Within low high ns → Rise place_of low (ranked before ns)
 rising before [] low high w = tt
@@ -55,16 +56,17 @@ above before (n ∷ ns) low high r w (zero, lt, e) = omega (arith, w.0, ap place
 above before (n ∷ ns) low high r w (suc k, lt, e) = omega (arith, w.0, above (before ++ n ∷ []) ns (n.place + 1) high r w.1 (k, omega arith, e))
 
 -- the first node has no id of a node before it
-first_fault_of : (n : Placed) (d : Cause) → has_fault (record { before = []; node = n }) d ≡ true → d ≡ RuleTooLarge
-first_fault_of n DuplicateForm h = absurd (false≢true (sym (and-false (is_form n)) ∙ h))
-first_fault_of n DuplicateQuestion h = absurd (false≢true (sym (ap (λ (b : Bool). is_question n && b) (and-false (not (question_id n.op == 0))) ∙ and-false (is_question n)) ∙ h))
-first_fault_of n RuleTooLarge h = refl
-first_fault_of n _ h = absurd (false≢true h)
+first_fault_of : (ns : List Placed) (n : Placed) (d : Cause) → has_fault ns (record { before = []; node = n }) d ≡ true → number_of NoForm ≤ number_of d
+first_fault_of ns n DuplicateForm h = absurd (false≢true (sym (and-false (is_form n)) ∙ h))
+first_fault_of ns n DuplicateQuestion h = absurd (false≢true (sym (ap (λ (b : Bool). is_question n && b) (and-false (not (question_id n.op == 0))) ∙ and-false (is_question n)) ∙ h))
+first_fault_of ns n NoForm h = lit≤ tt
+first_fault_of ns n RuleTooLarge h = lit≤ tt
+first_fault_of ns n _ h = absurd (false≢true h)
 
-later : (ns : List Placed) (low high : ℕ) (r : Ranked) (d : Cause) → Within low high ns → Contains (ranked [] ns) r → has_fault r d ≡ true → (low < r.node.place) ⊎ ((low ≤ r.node.place) × (d ≡ RuleTooLarge))
-later [] low high r d w (k, lt, e) h = absurd (omega arith)
-later (n ∷ ns) low high r d w (zero, lt, e) h = inr (omega (arith, w.0, ap place_of e), first_fault_of n d (ap (λ (q : Ranked). has_fault q d) e ∙ h))
-later (n ∷ ns) low high r d w (suc k, lt, e) h = inl (omega (arith, w.0, above (n ∷ []) ns (n.place + 1) high r w.1 (k, omega arith, e)))
+later : (all ns : List Placed) (low high : ℕ) (r : Ranked) (d : Cause) → Within low high ns → Contains (ranked [] ns) r → has_fault all r d ≡ true → (low < r.node.place) ⊎ ((low ≤ r.node.place) × (number_of NoForm ≤ number_of d))
+later all [] low high r d w (k, lt, e) h = absurd (omega arith)
+later all (n ∷ ns) low high r d w (zero, lt, e) h = inr (omega (arith, w.0, ap place_of e), first_fault_of all n d (ap (λ (q : Ranked). has_fault all q d) e ∙ h))
+later all (n ∷ ns) low high r d w (suc k, lt, e) h = inl (omega (arith, w.0, above (n ∷ []) ns (n.place + 1) high r w.1 (k, omega arith, e)))
 
 no_forms : (ns : List Placed) → list_any is_form ns ≡ false → filter is_form ns ≡ []
 no_forms [] e = refl
@@ -79,25 +81,25 @@ no_form_is_least f a e = record {
   told = inl (no_forms (nodes f) e, refl, refl);
   least = λ d p other. elim other [
     | inl h ↦ inr (sym h.2, omega (arith, ap number_of h.1))
-    | inr h ↦ elim (later (nodes f) 4 (4 + length (flat f)) h.0 d (nodes_within f 4 [] a) h.1 h.3) [
+    | inr h ↦ elim (later (nodes f) (nodes f) 4 (4 + length (flat f)) h.0 d (nodes_within f 4 [] a) h.1 h.3) [
       | inl behind ↦ inl (omega (arith, h.2, behind))
       | inr there ↦ elim (cases_Bool (ltb 4 p)) [
         | inl less ↦ inl (ltb-true 4 p less)
-        | inr past ↦ inr (omega (arith, h.2, there.0, ltb-false 4 p past), omega (arith, ap number_of there.1))
+        | inr past ↦ inr (omega (arith, h.2, there.0, ltb-false 4 p past), there.1)
       ]
     ]
   ];
 }
 
-pub refused_among : (f : Forest) (fault : Fault) → AreNodes f → list_any is_form (nodes f) ≡ true → first_repeat [] (nodes f) ≡ Some fault → IsLeast (IsReferenceFault (nodes f)) fault
+pub refused_among : (f : Forest) (fault : Fault) → AreNodes f → list_any is_form (nodes f) ≡ true → first_repeat (nodes f) [] (nodes f) ≡ Some fault → IsLeast (IsReferenceFault (nodes f)) fault
 refused_among f fault a some e =
-    let l = first_among place_of has_fault causes 4 (ranked [] (nodes f)) fault all_causes (rising [] (nodes f) 4 (4 + length (flat f)) (nodes_within f 4 [] a)) e in
+    let l = first_among place_of (has_fault (nodes f)) causes 4 (ranked [] (nodes f)) fault (all_causes (nodes f)) (rising [] (nodes f) 4 (4 + length (flat f)) (nodes_within f 4 [] a)) e in
     record { told = inr l.told; least = λ d p other. elim other [ inl h ↦ absurd (some_form (nodes f) some h.0) | inr h ↦ l.least d p h ] }
 
-pub sound_among : (ns : List Placed) → list_any is_form ns ≡ true → first_repeat [] ns ≡ None → HasNone (IsReferenceFault ns)
+pub sound_among : (ns : List Placed) → list_any is_form ns ≡ true → first_repeat ns [] ns ≡ None → HasNone (IsReferenceFault ns)
 sound_among ns some e = λ d p other. elim other [
   | inl h ↦ some_form ns some h.0
-  | inr h ↦ none_among place_of has_fault causes (ranked [] ns) all_causes e d p h
+  | inr h ↦ none_among place_of (has_fault ns) causes (ranked [] ns) (all_causes ns) e d p h
 ]
 
 -- the rules stay where the next node is none

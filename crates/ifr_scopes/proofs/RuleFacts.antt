@@ -2,11 +2,11 @@
 -- stands in one form and in no rule.
 use Rattle.std.proofs.Common.{◌≡◌, ◌⊎◌, ℕ, zero, suc, ◌+◌, ◌≤◌, Bool, true, false, cond, eqb, Option, Some, None, List, [], ◌∷◌, ◌++◌, length, refl, sym, ap, ◌∙◌, subst, arith, inl, inr}
 use Rattle.std.specs.Prelude.{Contains, ◌&&◌, ◌==◌, not, filter}
-use Rattle.std.proofs.lemmas.Bool.{cases_Bool, eqb-true, eq-eqb, ne_eqb, cond-true, cond-false, false≢true, true≢false}
+use Rattle.std.proofs.lemmas.Bool.{cases_Bool, eqb-true, eq-eqb, ne_eqb, cond-true, cond-false, false≢true, true≢false, and_right, or_from}
 use Rattle.std.proofs.lemmas.List.{append-nil, length-append}
 use Rattle.std.proofs.lemmas.List.Elements.{filter-append, Contains-append_right}
 use Rattle.hii_bytes.specs.declared.cause.Cause.TheVariants.{NotFormSet, AfterFormSet, Misplaced}
-use Rattle.ifr_opcodes.specs.declared.codes.TheConstants.{FORM_SET, FORM, VARSTORE, SUPPRESS_IF, CHECKBOX, RULE}
+use Rattle.ifr_opcodes.specs.declared.codes.TheConstants.{FORM_SET, FORM, SUBTITLE, VALUE, RULE}
 use Rattle.ifr_opcodes.specs.Opcode.{number}
 use Rattle.ifr_opcodes.specs.Operators.{is_operator, operands}
 use Rattle.ifr_opcodes.specs.Forest.{Forest, none, node, flat, Ancestor, Placed, as_ancestor, nodes_at, node_at, AreNodes}
@@ -17,69 +17,16 @@ use Rattle.ifr_scopes.specs.Guards.{is_guard}
 use Rattle.ifr_scopes.specs.Nodes.{nodes_of}
 use Rattle.ifr_scopes.specs.Rules.{is_rule, forms_among}
 use Rattle.ifr_scopes.specs.RuleNodes.{IsRuleNode}
-use Rattle.ifr_scopes.specs.Structure.{innermost, begins_scope, is_condition, is_root}
-use Rattle.ifr_scopes.specs.Table.{row, class_of, class_around, admits, wants_expression}
-use Rattle.ifr_scopes.specs.declared.table.Row.{Row}
+use Rattle.ifr_scopes.specs.Structure.{innermost, parent, begins_scope, begins_with_value, is_condition, is_wanted, is_root}
+use Rattle.ifr_scopes.specs.Table.{row, class_of, guarded, class_around, admits, wants_expression, wants_value}
 use Rattle.ifr_scopes.specs.declared.table.Class.{Class}
-use Rattle.ifr_scopes.specs.declared.table.Class.TheVariants.{OfFormSet, OfForm, OfQuestion, OfExpression}
-use Rattle.ifr_scopes.specs.declared.table.Scope.TheVariants.{Always, Sometimes, Never, Outermost}
+use Rattle.ifr_scopes.specs.declared.table.Class.TheVariants.{OfFormSet, OfForm, OfNothing}
 use Rattle.ifr_scopes.proofs.ExpressionLemmas.{first, second, innermost-push}
-use Rattle.ifr_scopes.proofs.NodeFactLemmas.{no_fault, has_condition}
+use Rattle.ifr_scopes.proofs.NodeFactLemmas.{no_fault, has_condition, has_value}
+use Rattle.ifr_scopes.proofs.TableLemmas.{of_form_set, of_form, holds_form_set, holds_form, holds_rule, holds_subtitle, guarded_form_set, guarded_form, no_operators}
 use Rattle.ifr_scopes.proofs.PlaceLemmas.{is_found, node_stands}
 use Rattle.ifr_scopes.proofs.ScopeLemmas.{ancestor_node}
 use Rattle.ifr_scopes.proofs.ViewLemmas.{contains_found, further, below_within}
-
--- ---- the table
-
-of_form_set : (code : ℕ) → class_of (row code) ≡ OfFormSet → code ≡ FORM_SET
-of_form_set code e = eqb-true code FORM_SET (go (eqb code FORM_SET) (eqb code FORM) (eqb code VARSTORE) (eqb code SUPPRESS_IF) (eqb code CHECKBOX) (eqb code RULE) (is_operator code) e)
-  where
-    go : (a b c d f g h : Bool) → class_of (cond {A = Option Row} a (Some (record { scope = Always; class = OfFormSet })) (cond {A = Option Row} b (Some (record { scope = Always; class = OfForm })) (cond {A = Option Row} c (Some (record { scope = Never; class = OfQuestion })) (cond {A = Option Row} d (Some (record { scope = Always; class = OfQuestion }))
-        (cond {A = Option Row} f (Some (record { scope = Sometimes; class = OfQuestion })) (cond {A = Option Row} g (Some (record { scope = Always; class = OfQuestion })) (cond {A = Option Row} h (Some (record { scope = Outermost; class = OfExpression })) None))))))) ≡ OfFormSet → a ≡ true
-    go true b c d f g h e = refl
-    go false true c d f g h e = absurd cc
-    go false false true d f g h e = absurd cc
-    go false false false true f g h e = absurd cc
-    go false false false false true g h e = absurd cc
-    go false false false false false true h e = absurd cc
-    go false false false false false false true e = absurd cc
-    go false false false false false false false e = absurd cc
-
-of_form : (code : ℕ) → class_of (row code) ≡ OfForm → code ≡ FORM
-of_form code e = eqb-true code FORM (go (eqb code FORM_SET) (eqb code FORM) (eqb code VARSTORE) (eqb code SUPPRESS_IF) (eqb code CHECKBOX) (eqb code RULE) (is_operator code) e)
-  where
-    go : (a b c d f g h : Bool) → class_of (cond {A = Option Row} a (Some (record { scope = Always; class = OfFormSet })) (cond {A = Option Row} b (Some (record { scope = Always; class = OfForm })) (cond {A = Option Row} c (Some (record { scope = Never; class = OfQuestion })) (cond {A = Option Row} d (Some (record { scope = Always; class = OfQuestion }))
-        (cond {A = Option Row} f (Some (record { scope = Sometimes; class = OfQuestion })) (cond {A = Option Row} g (Some (record { scope = Always; class = OfQuestion })) (cond {A = Option Row} h (Some (record { scope = Outermost; class = OfExpression })) None))))))) ≡ OfForm → b ≡ true
-    go true b c d f g h e = absurd cc
-    go false true c d f g h e = refl
-    go false false true d f g h e = absurd cc
-    go false false false true f g h e = absurd cc
-    go false false false false true g h e = absurd cc
-    go false false false false false true h e = absurd cc
-    go false false false false false false true e = absurd cc
-    go false false false false false false false e = absurd cc
-
-no_operator : (is_operator FORM_SET ≡ false) × (is_operator FORM ≡ false) × (is_operator RULE ≡ false)
-unfolding operands
-no_operator = (refl, refl, refl)
-
-holds_form_set : (c : Class) → admits c FORM_SET ≡ true → ⊥
-holds_form_set OfFormSet e = false≢true e
-holds_form_set OfForm e = false≢true e
-holds_form_set OfQuestion e = false≢true e
-holds_form_set OfExpression e = false≢true (sym no_operator.0 ∙ e)
-
-holds_form : (c : Class) → admits c FORM ≡ true → c ≡ OfFormSet
-holds_form OfFormSet e = refl
-holds_form OfForm e = absurd (false≢true e)
-holds_form OfQuestion e = absurd (false≢true e)
-holds_form OfExpression e = absurd (false≢true (sym no_operator.1 ∙ e))
-
-holds_rule : (c : Class) → admits c RULE ≡ true → c ≡ OfForm
-holds_rule OfFormSet e = absurd (false≢true e)
-holds_rule OfForm e = refl
-holds_rule OfQuestion e = absurd (false≢true e)
-holds_rule OfExpression e = absurd (false≢true (sym no_operator.2 ∙ e))
 
 -- ---- the node around a node
 
@@ -91,12 +38,12 @@ split_last (b ∷ path) = elim (split_last path) [
 ]
 
 -- Around a node stands another.
-record IsAround (bytes : List ℕ) (n : Placed) : Type 0 where
-  outer : Placed
-  within : Contains (nodes_of bytes) outer
-  path : n.path ≡ outer.path ++ as_ancestor outer ∷ []
+pub record IsAround (bytes : List ℕ) (n : Placed) : Type 0 where
+  pub outer : Placed
+  pub within : Contains (nodes_of bytes) outer
+  pub path : n.path ≡ outer.path ++ as_ancestor outer ∷ []
 
-around_it : (bytes : List ℕ) (n : Placed) → IsChecked bytes → Contains (nodes_of bytes) n → (n.path ≡ []) ⊎ IsAround bytes n
+pub around_it : (bytes : List ℕ) (n : Placed) → IsChecked bytes → Contains (nodes_of bytes) n → (n.path ≡ []) ⊎ IsAround bytes n
 around_it bytes n checked within = elim (split_last n.path) [
   | inl bare ↦ inl bare
   | inr (before, a, e) ↦
@@ -108,13 +55,13 @@ around_it bytes n checked within = elim (split_last n.path) [
       })
 ]
 
-class-guard : (found : Class) (path : List Ancestor) (a : Ancestor) → is_guard (number a.op) ≡ true → class_around found (path ++ a ∷ []) ≡ class_around found path
+pub class-guard : (found : Class) (path : List Ancestor) (a : Ancestor) → is_guard (number a.op) ≡ true → class_around found (path ++ a ∷ []) ≡ guarded (class_around found path)
 class-guard found [] a is = cond-true (is_guard (number a.op)) _ _ is
-class-guard found (b ∷ path) a is = class-guard (cond (is_guard (number b.op)) found (class_of (row (number b.op)))) path a is
+class-guard found (b ∷ path) a is = class-guard (cond (is_guard (number b.op)) (guarded found) (class_of (row (number b.op)))) path a is
 
-class-other : (found : Class) (path : List Ancestor) (a : Ancestor) → is_guard (number a.op) ≡ false → class_around found (path ++ a ∷ []) ≡ class_of (row (number a.op))
+pub class-other : (found : Class) (path : List Ancestor) (a : Ancestor) → is_guard (number a.op) ≡ false → class_around found (path ++ a ∷ []) ≡ class_of (row (number a.op))
 class-other found [] a other = cond-false (is_guard (number a.op)) _ _ other
-class-other found (b ∷ path) a other = class-other (cond (is_guard (number b.op)) found (class_of (row (number b.op)))) path a other
+class-other found (b ∷ path) a other = class-other (cond (is_guard (number b.op)) (guarded found) (class_of (row (number b.op)))) path a other
 
 -- ---- where a node may stand
 
@@ -124,27 +71,47 @@ one_place bytes n m checked v w e =
     cc
 
 -- what begins the scope of a node that wants an expression is an operator
-no_condition : (bytes : List ℕ) (n : Placed) → IsChecked bytes → Contains (nodes_of bytes) n → is_operator (number n.op) ≡ false → is_condition n ≡ false
-no_condition bytes n checked within other = elim (cases_Bool (is_condition n)) [
-  | inr e ↦ e
-  | inl is ↦ absurd (elim (around_it bytes n checked within) [
-    | inl bare ↦ false≢true (ap (λ (l : List Ancestor). begins_scope n.place (innermost l)) (sym bare) ∙ is)
-    | inr r ↦
-        let m = r.outer in
-        let begins : wants_expression (number m.op) && (n.place == m.place + length m.op) ≡ true = ap (begins_scope n.place) (sym (ap innermost r.path ∙ innermost-push m.path (as_ancestor m))) ∙ is in
-        let h = has_condition bytes m checked r.within (first _ _ begins) in
-        let child : Placed = record { place = m.place + length m.op; op = h.op; path = m.path ++ as_ancestor m ∷ []; children = h.children } in
-        let same : n ≡ child = one_place bytes n child checked within h.within (eqb-true n.place (m.place + length m.op) (second _ _ begins)) in
-        false≢true (sym other ∙ ap (λ (p : Placed). is_operator (number p.op)) same ∙ h.operator)
-  ])
+pub is_operator_there : (bytes : List ℕ) (n : Placed) → IsChecked bytes → Contains (nodes_of bytes) n → is_condition n ≡ true → is_operator (number n.op) ≡ true
+is_operator_there bytes n checked within is = elim (around_it bytes n checked within) [
+  | inl bare ↦ absurd (false≢true (ap (λ (l : List Ancestor). begins_scope n.place (innermost l)) (sym bare) ∙ is))
+  | inr r ↦
+      let m = r.outer in
+      let begins : wants_expression (number m.op) && (n.place == m.place + length m.op) ≡ true = ap (begins_scope n.place) (sym (ap innermost r.path ∙ innermost-push m.path (as_ancestor m))) ∙ is in
+      let h = has_condition bytes m checked r.within (first _ _ begins) in
+      let child : Placed = record { place = m.place + length m.op; op = h.op; path = m.path ++ as_ancestor m ∷ []; children = h.children } in
+      let same : n ≡ child = one_place bytes n child checked within h.within (eqb-true n.place (m.place + length m.op) (second _ _ begins)) in
+      ap (λ (p : Placed). is_operator (number p.op)) same ∙ h.operator
 ]
 
-placed : (root condition held : Bool) → root ≡ false → condition ≡ false → not root && (not condition && not held) ≡ false → held ≡ true
-placed root condition true r c e = refl
-placed root condition false r c e = let bad : true ≡ false = rw (r, c) at e in absurd (true≢false bad)
+-- and of one that wants a VALUE, a VALUE
+pub is_value_there : (bytes : List ℕ) (n : Placed) → IsChecked bytes → Contains (nodes_of bytes) n → begins_with_value n.place (parent n) ≡ true → number n.op ≡ VALUE
+is_value_there bytes n checked within is = elim (around_it bytes n checked within) [
+  | inl bare ↦ absurd (false≢true (ap (λ (l : List Ancestor). begins_with_value n.place (innermost l)) (sym bare) ∙ is))
+  | inr r ↦
+      let m = r.outer in
+      let begins : wants_value m.op && (n.place == m.place + length m.op) ≡ true = ap (begins_with_value n.place) (sym (ap innermost r.path ∙ innermost-push m.path (as_ancestor m))) ∙ is in
+      let h = has_value bytes m checked r.within (first _ _ begins) in
+      let child : Placed = record { place = m.place + length m.op; op = h.op; path = m.path ++ as_ancestor m ∷ []; children = h.children } in
+      let same : n ≡ child = one_place bytes n child checked within h.within (eqb-true n.place (m.place + length m.op) (second _ _ begins)) in
+      ap (λ (p : Placed). number p.op) same ∙ h.is_value
+]
+
+-- what is neither is not wanted
+pub not_wanted : (bytes : List ℕ) (n : Placed) → IsChecked bytes → Contains (nodes_of bytes) n → is_operator (number n.op) ≡ false → eqb (number n.op) VALUE ≡ false → is_wanted n ≡ false
+not_wanted bytes n checked within other plain = elim (cases_Bool (is_condition n)) [
+  | inl is ↦ absurd (false≢true (sym other ∙ is_operator_there bytes n checked within is))
+  | inr no_condition ↦ elim (cases_Bool (begins_with_value n.place (parent n))) [
+    | inl is ↦ absurd (false≢true (sym plain ∙ eq-eqb (number n.op) VALUE (is_value_there bytes n checked within is)))
+    | inr no_value ↦ or_from _ _ no_condition no_value
+  ]
+]
+
+placed : (root wanted held : Bool) → root ≡ false → wanted ≡ false → not root && (not wanted && not held) ≡ false → held ≡ true
+placed root wanted true r c e = refl
+placed root wanted false r c e = let bad : true ≡ false = rw (r, c) at e in absurd (true≢false bad)
 
 -- the form set alone is in no scope
-no_root : (bytes : List ℕ) (n : Placed) → IsChecked bytes → Contains (nodes_of bytes) n → eqb (number n.op) FORM_SET ≡ false → is_root n ≡ false
+pub no_root : (bytes : List ℕ) (n : Placed) → IsChecked bytes → Contains (nodes_of bytes) n → eqb (number n.op) FORM_SET ≡ false → is_root n ≡ false
 no_root bytes n checked within other = elim (cases_Bool (is_root n)) [
   | inr e ↦ e
   | inl root ↦ elim (cases_Bool (n.place == 4)) [
@@ -153,8 +120,13 @@ no_root bytes n checked within other = elim (cases_Bool (is_root n)) [
   ]
 ]
 
-held : (bytes : List ℕ) (n : Placed) → IsChecked bytes → Contains (nodes_of bytes) n → is_operator (number n.op) ≡ false → is_root n ≡ false → admits (class_around OfQuestion n.path) (number n.op) ≡ true
-held bytes n checked within other root = placed (is_root n) (is_condition n) _ root (no_condition bytes n checked within other) (no_fault bytes n Misplaced checked within)
+pub held : (bytes : List ℕ) (n : Placed) → IsChecked bytes → Contains (nodes_of bytes) n → is_wanted n ≡ false → is_root n ≡ false → admits (class_around OfNothing n.path) (number n.op) ≡ true
+held bytes n checked within other root = placed (is_root n) (is_wanted n) _ root other (no_fault bytes n Misplaced checked within)
+
+-- a node of this number is held where it stands
+held_as : (bytes : List ℕ) (n : Placed) (code : ℕ) → IsChecked bytes → Contains (nodes_of bytes) n → number n.op ≡ code → is_operator code ≡ false → eqb code VALUE ≡ false → is_root n ≡ false → admits (class_around OfNothing n.path) code ≡ true
+held_as bytes n code checked within is other plain root =
+    ap (admits (class_around OfNothing n.path)) (sym is) ∙ held bytes n checked within (not_wanted bytes n checked within (ap is_operator is ∙ other) (ap (λ (k : ℕ). eqb k VALUE) is ∙ plain)) root
 
 -- ---- the forms and rules on a path
 
@@ -199,7 +171,7 @@ past path before a forms e form rule h = record {
 }
 
 -- in a form set and its guards there is no form
-in_form_set : (bytes : List ℕ) (k : ℕ) (n : Placed) → IsChecked bytes → Contains (nodes_of bytes) n → length n.path ≤ k → class_around OfQuestion n.path ≡ OfFormSet → HasForms n.path []
+in_form_set : (bytes : List ℕ) (k : ℕ) (n : Placed) → IsChecked bytes → Contains (nodes_of bytes) n → length n.path ≤ k → class_around OfNothing n.path ≡ OfFormSet → HasForms n.path []
 in_form_set bytes zero n checked within le e = elim (around_it bytes n checked within) [
   | inl bare ↦ subst (λ (l : List Ancestor). HasForms l []) (sym bare) has_none
   | inr r ↦ absurd (nothing_around n.path r.outer.path (as_ancestor r.outer) le r.path)
@@ -211,52 +183,63 @@ in_form_set bytes (suc k) n checked within le e = elim (around_it bytes n checke
       let a = as_ancestor m in
       elim (cases_Bool (is_guard (number m.op))) [
         | inl guards ↦
-            let inner = in_form_set bytes k m checked r.within (shorter k n.path m.path a le r.path) (sym (ap (class_around OfQuestion) r.path ∙ class-guard OfQuestion m.path a guards) ∙ e) in
+            let inner = in_form_set bytes k m checked r.within (shorter k n.path m.path a le r.path) (guarded_form_set _ (sym (ap (class_around OfNothing) r.path ∙ class-guard OfNothing m.path a guards) ∙ e)) in
             past n.path m.path a [] r.path (guard_other (number m.op) FORM guards refl) (guard_other (number m.op) RULE guards refl) inner
         | inr other ↦
-            let set : number m.op ≡ FORM_SET = of_form_set (number m.op) (sym (ap (class_around OfQuestion) r.path ∙ class-other OfQuestion m.path a other) ∙ e) in
+            let set : number m.op ≡ FORM_SET = of_form_set (number m.op) (sym (ap (class_around OfNothing) r.path ∙ class-other OfNothing m.path a other) ∙ e) in
             let bare : m.path ≡ [] = elim (around_it bytes m checked r.within) [
               | inl alone ↦ alone
               | inr s ↦
                   let root : is_root m ≡ false = ne_eqb (length m.path) 0 (λ z. omega (arith, z, ap (λ (l : List Ancestor). length l) s.path, length-append s.outer.path (as_ancestor s.outer ∷ []))) in
-                  let h = held bytes m checked r.within (ap is_operator set ∙ no_operator.0) root in
-                  absurd (holds_form_set (class_around OfQuestion m.path) (ap (admits (class_around OfQuestion m.path)) (sym set) ∙ h))
+                  absurd (holds_form_set (class_around OfNothing m.path) (held_as bytes m FORM_SET checked r.within set no_operators.0 refl root))
             ] in
             past n.path m.path a [] r.path (number_other (number m.op) FORM_SET FORM set refl) (number_other (number m.op) FORM_SET RULE set refl) (subst (λ (l : List Ancestor). HasForms l []) (sym bare) has_none)
       ]
 ]
 
 -- in a form and its guards there is this form
-in_form : (bytes : List ℕ) (k : ℕ) (n : Placed) → IsChecked bytes → Contains (nodes_of bytes) n → length n.path ≤ k → class_around OfQuestion n.path ≡ OfForm → (form : Ancestor) × HasForms n.path (form ∷ [])
+in_form : (bytes : List ℕ) (k : ℕ) (n : Placed) → IsChecked bytes → Contains (nodes_of bytes) n → length n.path ≤ k → class_around OfNothing n.path ≡ OfForm → (form : Ancestor) × HasForms n.path (form ∷ [])
 in_form bytes zero n checked within le e = elim (around_it bytes n checked within) [
-  | inl bare ↦ let bad : OfQuestion ≡ OfForm = ap (class_around OfQuestion) (sym bare) ∙ e in absurd cc
+  | inl bare ↦ let bad : OfNothing ≡ OfForm = ap (class_around OfNothing) (sym bare) ∙ e in absurd cc
   | inr r ↦ absurd (nothing_around n.path r.outer.path (as_ancestor r.outer) le r.path)
 ]
 in_form bytes (suc k) n checked within le e = elim (around_it bytes n checked within) [
-  | inl bare ↦ let bad : OfQuestion ≡ OfForm = ap (class_around OfQuestion) (sym bare) ∙ e in absurd cc
+  | inl bare ↦ let bad : OfNothing ≡ OfForm = ap (class_around OfNothing) (sym bare) ∙ e in absurd cc
   | inr r ↦
       let m = r.outer in
       let a = as_ancestor m in
       elim (cases_Bool (is_guard (number m.op))) [
         | inl guards ↦
-            let inner = in_form bytes k m checked r.within (shorter k n.path m.path a le r.path) (sym (ap (class_around OfQuestion) r.path ∙ class-guard OfQuestion m.path a guards) ∙ e) in
+            let inner = in_form bytes k m checked r.within (shorter k n.path m.path a le r.path) (guarded_form _ (sym (ap (class_around OfNothing) r.path ∙ class-guard OfNothing m.path a guards) ∙ e)) in
             (inner.0, past n.path m.path a (inner.0 ∷ []) r.path (guard_other (number m.op) FORM guards refl) (guard_other (number m.op) RULE guards refl) inner.1)
-        | inr other ↦
-            let form : number m.op ≡ FORM = of_form (number m.op) (sym (ap (class_around OfQuestion) r.path ∙ class-other OfQuestion m.path a other) ∙ e) in
-            let root = no_root bytes m checked r.within (number_other (number m.op) FORM FORM_SET form refl) in
-            let h = held bytes m checked r.within (ap is_operator form ∙ no_operator.1) root in
-            let set : class_around OfQuestion m.path ≡ OfFormSet = holds_form (class_around OfQuestion m.path) (ap (admits (class_around OfQuestion m.path)) (sym form) ∙ h) in
-            let inner = in_form_set bytes (length m.path) m checked r.within (omega arith) set in (
-              a,
-              record {
-                forms_are = ap forms_among r.path ∙ form_comes m.path a (eq-eqb (number m.op) FORM form) inner.forms_are;
-                no_rules = ap rules_on r.path ∙ rule_stays m.path a (number_other (number m.op) FORM RULE form refl) ∙ inner.no_rules;
-              },
-            )
+        | inr other ↦ elim (of_form (number m.op) (sym (ap (class_around OfNothing) r.path ∙ class-other OfNothing m.path a other) ∙ e)) [
+          | inl form ↦
+              let root = no_root bytes m checked r.within (number_other (number m.op) FORM FORM_SET form refl) in
+              let set : class_around OfNothing m.path ≡ OfFormSet = holds_form (class_around OfNothing m.path) (held_as bytes m FORM checked r.within form no_operators.1 refl root) in
+              let inner = in_form_set bytes (length m.path) m checked r.within (omega arith) set in (
+                a,
+                record {
+                  forms_are = ap forms_among r.path ∙ form_comes m.path a (eq-eqb (number m.op) FORM form) inner.forms_are;
+                  no_rules = ap rules_on r.path ∙ rule_stays m.path a (number_other (number m.op) FORM RULE form refl) ∙ inner.no_rules;
+                },
+              )
+          | inr subtitle ↦
+              let root = no_root bytes m checked r.within (number_other (number m.op) SUBTITLE FORM_SET subtitle refl) in
+              let class : class_around OfNothing m.path ≡ OfForm = holds_subtitle (class_around OfNothing m.path) (held_as bytes m SUBTITLE checked r.within subtitle no_operators.3 refl root) in
+              let inner = in_form bytes k m checked r.within (shorter k n.path m.path a le r.path) class in
+              (inner.0, past n.path m.path a (inner.0 ∷ []) r.path (number_other (number m.op) SUBTITLE FORM subtitle refl) (number_other (number m.op) SUBTITLE RULE subtitle refl) inner.1)
+        ]
       ]
 ]
 
 -- ---- what stands in a rule
+
+of_rule : class_of (row RULE) ≡ OfNothing
+unfolding row operands
+of_rule = refl
+
+wants_of_rule : wants_expression RULE ≡ true
+wants_of_rule = refl
 
 -- beside the expression there is nothing
 nothing_beside : (bytes : List ℕ) (n : Placed) (op : List ℕ) (inner rest : Forest) → IsChecked bytes → Contains (nodes_of bytes) n → is_rule n ≡ true → n.children ≡ node op inner rest → rest ≡ none
@@ -277,25 +260,22 @@ nothing_beside bytes n op inner (node next its more) checked within is e =
     let size = takes op inner (node next its more) nodes_are in
     let long : 2 ≤ length op = nodes_are.0.whole.long in
     let root : is_root m ≡ false = ne_eqb (length entered) 0 (λ z. omega (arith, z, length-append n.path (a ∷ []))) in
-    let no_start : is_condition m ≡ false =
-    ap (begins_scope behind) (innermost-push n.path a) ∙ and_second (wants_expression (number n.op)) _ (ne_eqb behind from (λ z. omega (arith, z, size.0, long))) in
+    let later : eqb behind from ≡ false = ne_eqb behind from (λ z. omega (arith, z, size.0, long)) in
+    let no_start : is_wanted m ≡ false = or_from _ _
+    (ap (begins_scope behind) (innermost-push n.path a) ∙ and_right (wants_expression (number n.op)) _ later)
+    (ap (begins_with_value behind) (innermost-push n.path a) ∙ and_right (wants_value n.op) _ later) in
     let plain : is_guard (number n.op) ≡ false = ap is_guard rule in
-    let class : class_around OfQuestion entered ≡ OfQuestion = class-other OfQuestion n.path a plain ∙ ap (λ (k : ℕ). class_of (row k)) rule in
-    let h = placed (is_root m) (is_condition m) _ root no_start (no_fault bytes m Misplaced checked there) in
+    let class : class_around OfNothing entered ≡ OfNothing = class-other OfNothing n.path a plain ∙ ap (λ (k : ℕ). class_of (row k)) rule ∙ of_rule in
+    let h = placed (is_root m) (is_wanted m) _ root no_start (no_fault bytes m Misplaced checked there) in
     absurd (false≢true (ap (λ (c : Class). admits c (number next)) (sym class) ∙ h))
-  where
-    and_second : (a b : Bool) → b ≡ false → a && b ≡ false
-    and_second true b e = e
-    and_second false b e = refl
 
 pub rule_fact : (bytes : List ℕ) (n : Placed) → IsChecked bytes → Contains (nodes_of bytes) n → is_rule n ≡ true → IsRuleNode n
 rule_fact bytes n checked within is =
     let rule : number n.op ≡ RULE = eqb-true (number n.op) RULE is in
     let root = no_root bytes n checked within (number_other (number n.op) RULE FORM_SET rule refl) in
-    let h = held bytes n checked within (ap is_operator rule ∙ no_operator.2) root in
-    let class : class_around OfQuestion n.path ≡ OfForm = holds_rule (class_around OfQuestion n.path) (ap (admits (class_around OfQuestion n.path)) (sym rule) ∙ h) in
+    let class : class_around OfNothing n.path ≡ OfForm = holds_rule (class_around OfNothing n.path) (held_as bytes n RULE checked within rule no_operators.2 refl root) in
     let forms = in_form bytes (length n.path) n checked within (omega arith) class in
-    let its = has_condition bytes n checked within (ap wants_expression rule) in
+    let its = has_condition bytes n checked within (ap wants_expression rule ∙ wants_of_rule) in
     record {
       op = its.op;
       inner = its.children;

@@ -15,7 +15,7 @@ kept_guard guard = record { place = guard.place; this = this_of guard }
 abbrev pub kept_guards : Placed → List GuardPlace
 kept_guards n = map kept_guard (guards n)
 
--- those of the form or statement at a place
+-- those of the form, statement or option at a place
 abbrev pub kept_at : List Placed → ℕ → Option (List GuardPlace)
 kept_at ns place = option_map kept_guards (indexed_at ns place)
 

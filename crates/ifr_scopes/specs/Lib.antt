@@ -2,9 +2,12 @@ pub mod Framing
 pub mod Walking
 pub mod Visits
 pub mod Guards
+pub mod Kinds
+pub mod Stores
 pub mod Nodes
 pub mod Table
 pub mod Structure
+pub mod Conditions
 pub mod References
 pub mod Checked
 pub mod Views
@@ -16,5 +19,6 @@ pub mod RuleNodes
 pub mod Scopes
 pub mod Around
 pub mod Lists
+pub mod Parts
 pub mod Accepted
 pub mod Met

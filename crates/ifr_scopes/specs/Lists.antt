@@ -1,6 +1,7 @@
 -- What the iterators over a package have before them.
 use Rattle.std.specs.Prelude.{ℕ, List, drop, filter, map}
 use Rattle.ifr_opcodes.specs.Forest.{Placed}
+use Rattle.ifr_opcodes.specs.declared.op.Op.{Op}
 use Rattle.ifr_scopes.specs.Checked.{node_in}
 use Rattle.ifr_opcodes.specs.Opcode.{number}
 use Rattle.ifr_scopes.specs.Guards.{is_guard}
@@ -16,7 +17,11 @@ use Rattle.ifr_scopes.specs.declared.guards_at.GuardsAt.{GuardsAt}
 use Rattle.ifr_scopes.specs.declared.guards_of.GuardsOf.{GuardsOf}
 use Rattle.ifr_scopes.specs.declared.form.Form.{Form}
 use Rattle.ifr_scopes.specs.declared.form.FormViews.{FormViews}
+use Rattle.ifr_scopes.specs.declared.varstore.StoreOp.{StoreOp}
+use Rattle.ifr_scopes.specs.declared.varstore.StoreOp.TheVariants as store
 use Rattle.ifr_scopes.specs.declared.statement.Statement.{Statement}
+use Rattle.ifr_scopes.specs.declared.statement.StatementKind.{StatementKind}
+use Rattle.ifr_scopes.specs.declared.statement.StatementKind.TheVariants as kind
 use Rattle.ifr_scopes.specs.declared.statement.Statements.{Statements}
 
 -- a guard, a form and a statement as nodes
@@ -56,6 +61,27 @@ form_set_node form_set = node_of form_set.node
 
 abbrev pub store_node : Varstore → Placed
 store_node store = node_of store.node
+
+-- the opcode of a store, and of a statement
+abbrev pub store_op : StoreOp → Op
+store_op (store.Varstore view) = view.op
+store_op (store.VarstoreEfi view) = view.op
+store_op (store.NameValue view) = view.op
+
+abbrev pub kind_op : StatementKind → Op
+kind_op (kind.Subtitle view) = view.op
+kind_op (kind.Text view) = view.op
+kind_op (kind.ResetButton view) = view.op
+kind_op (kind.Checkbox view) = view.op
+kind_op (kind.Numeric view) = view.op
+kind_op (kind.OneOf view) = view.op
+kind_op (kind.String view) = view.op
+kind_op (kind.Password view) = view.op
+kind_op (kind.OrderedList view) = view.op
+kind_op (kind.Date view) = view.op
+kind_op (kind.Time view) = view.op
+kind_op (kind.Action view) = view.op
+kind_op (kind.Ref view) = view.op
 
 abbrev pub stores_left : Varstores → List Placed
 stores_left it = filter is_store (nodes_left it.nodes)

@@ -1,11 +1,12 @@
 -- The nodes of a package by what they are (UEFI 2.8, 33.3.8.3 Opcode Reference).
-use Rattle.std.specs.Prelude.{ℕ, ◌+◌, Bool, ◌==◌, Option, Some, None, List, length, filter}
+use Rattle.std.specs.Prelude.{ℕ, ◌+◌, Bool, ◌==◌, if◌then◌else◌, Option, Some, None, List, [], length, filter}
 use Rattle.std.specs.List.{last_or}
 use Rattle.ifr_opcodes.specs.Fields.{question_id}
 use Rattle.ifr_opcodes.specs.Opcode.{number}
 use Rattle.ifr_opcodes.specs.Forest.{node, none, flat, Ancestor, Placed, nodes, below}
 use Rattle.ifr_opcodes.specs.Reading.{tree_of}
-use Rattle.ifr_opcodes.specs.declared.codes.TheConstants.{FORM_SET, FORM, CHECKBOX, VARSTORE}
+use Rattle.ifr_opcodes.specs.declared.codes.TheConstants.{FORM_SET, FORM, REF, ONE_OF_OPTION, DEFAULT, INCONSISTENT_IF, NO_SUBMIT_IF, WARNING_IF}
+use Rattle.ifr_scopes.specs.Kinds.{is_question_number, is_statement_number, is_store_number}
 
 -- the nodes of the forest that a package spells, by place
 abbrev pub nodes_of : List ℕ → List Placed
@@ -22,22 +23,54 @@ abbrev pub is_form : Placed → Bool
 is_form n = number n.op == FORM
 
 abbrev pub is_store : Placed → Bool
-is_store n = number n.op == VARSTORE
-
--- whether this is the number of a question
-abbrev pub is_question_number : ℕ → Bool
-is_question_number code = code == CHECKBOX
+is_store n = is_store_number (number n.op)
 
 abbrev pub is_question : Placed → Bool
 is_question n = is_question_number (number n.op)
 
--- A statement is a question.
 abbrev pub is_statement : Placed → Bool
-is_statement n = is_question n
+is_statement n = is_statement_number (number n.op)
+
+abbrev pub is_reference : Placed → Bool
+is_reference n = number n.op == REF
+
+abbrev pub is_option : Placed → Bool
+is_option n = number n.op == ONE_OF_OPTION
+
+abbrev pub is_default : Placed → Bool
+is_default n = number n.op == DEFAULT
+
+abbrev pub is_inconsistent : Placed → Bool
+is_inconsistent n = number n.op == INCONSISTENT_IF
+
+abbrev pub is_no_submit : Placed → Bool
+is_no_submit n = number n.op == NO_SUBMIT_IF
+
+abbrev pub is_warning : Placed → Bool
+is_warning n = number n.op == WARNING_IF
 
 -- the statements of a form, by place
 abbrev pub statements : Placed → List Placed
 statements form = filter is_statement (below form)
+
+-- what stands in the scope of a question, by place; a statement that is no question has none of it
+abbrev pub of_question : (Placed → Bool) → Placed → List Placed
+of_question which n = if is_question n then filter which (below n) else []
+
+abbrev pub options : Placed → List Placed
+options n = of_question is_option n
+
+abbrev pub defaults : Placed → List Placed
+defaults n = of_question is_default n
+
+abbrev pub inconsistents : Placed → List Placed
+inconsistents n = of_question is_inconsistent n
+
+abbrev pub no_submits : Placed → List Placed
+no_submits n = of_question is_no_submit n
+
+abbrev pub warnings : Placed → List Placed
+warnings n = of_question is_warning n
 
 -- the questions among ancestors
 abbrev pub questions_among : List Ancestor → List Ancestor

@@ -1,22 +1,23 @@
 -- What is wrong with a node, as its opcode, its ancestors and its first child tell, and with the expression that stands at
 -- it (own rule).
-use Rattle.std.specs.Prelude.{◌≡◌, ◌⊎◌, ℕ, ◌+◌, Bool, true, false, ◌==◌, ◌&&◌, not, Option, Some, None, option_map, List, [], ◌∷◌, length, Contains}
+use Rattle.std.specs.Prelude.{◌≡◌, ◌⊎◌, ℕ, ◌+◌, Bool, true, false, ◌==◌, ◌&&◌, ◌||◌, not, if◌then◌else◌, Option, Some, None, option_map, List, [], ◌∷◌, length, Contains}
 use Rattle.std.specs.List.{last_or}
 use Rattle.hii_bytes.specs.Faults.{IsFaultOf, first_cause}
 use Rattle.hii_bytes.specs.declared.cause.Cause.{Cause}
 use Rattle.hii_bytes.specs.declared.cause.Cause.TheVariants.{NotFormSet, AfterFormSet, OpOutside, OpSize, Misplaced, ScopeBit, ExprShape}
 use Rattle.ifr_opcodes.specs.Opcode.{number, has_scope}
-use Rattle.ifr_opcodes.specs.Fields.{is_listed, is_short}
+use Rattle.ifr_opcodes.specs.Fields.{is_listed, is_outside, is_short}
 use Rattle.ifr_opcodes.specs.Operators.{is_operator}
 use Rattle.ifr_opcodes.specs.Forest.{Forest, none, node, Mark, Ancestor, Placed}
-use Rattle.ifr_opcodes.specs.declared.codes.TheConstants.{FORM_SET}
+use Rattle.ifr_opcodes.specs.declared.codes.TheConstants.{FORM_SET, VALUE}
 use Rattle.ifr_expr.specs.Faults.{IsExpressionFault}
 use Rattle.ifr_expr.specs.Trees.{expression}
-use Rattle.ifr_scopes.specs.Table.{row, wants_expression, admits, class_around}
+use Rattle.ifr_scopes.specs.Guards.{is_guard}
+use Rattle.ifr_scopes.specs.Table.{row, wants_expression, wants_value, admits, class_around, is_within_question}
 use Rattle.ifr_scopes.specs.declared.table.Row.{Row}
 use Rattle.ifr_scopes.specs.declared.table.Scope.{Scope}
-use Rattle.ifr_scopes.specs.declared.table.Scope.TheVariants.{Always, Sometimes, Never, Outermost}
-use Rattle.ifr_scopes.specs.declared.table.Class.TheVariants.{OfQuestion}
+use Rattle.ifr_scopes.specs.declared.table.Scope.TheVariants.{Always, Sometimes, Never, Outermost, WithValue}
+use Rattle.ifr_scopes.specs.declared.table.Class.TheVariants.{OfNothing}
 
 abbrev pub is_root : Placed → Bool
 is_root n = length n.path == 0
@@ -29,14 +30,26 @@ innermost path = option_map (λ a. record { place = a.place; op = a.op }) (last_
 abbrev pub parent : Placed → Option Mark
 parent n = innermost n.path
 
--- whether what stands at a place, in the scope of an opcode, is to be the expression with which that begins: it stands right
--- behind the opcode
+-- whether something stands at a place, in the scope of an opcode, right behind the opcode
+abbrev pub stands_first : ℕ → Mark → Bool
+stands_first place a = place == a.place + length a.op
+
+-- whether what stands at a place, in the scope of an opcode, is to be the expression with which that begins
 abbrev pub begins_scope : ℕ → Option Mark → Bool
 begins_scope place None = false
-begins_scope place (Some a) = wants_expression (number a.op) && (place == a.place + length a.op)
+begins_scope place (Some a) = wants_expression (number a.op) && stands_first place a
 
 abbrev pub is_condition : Placed → Bool
 is_condition n = begins_scope n.place (parent n)
+
+-- or the VALUE with which it begins
+abbrev pub begins_with_value : ℕ → Option Mark → Bool
+begins_with_value place None = false
+begins_with_value place (Some a) = wants_value a.op && stands_first place a
+
+-- whether a node is what the scope around it is to begin with
+abbrev pub is_wanted : Placed → Bool
+is_wanted n = is_condition n || begins_with_value n.place (parent n)
 
 -- whether a scope is that of an operator, in which the other opcodes of its expression stand
 abbrev pub is_operator_scope : Option Mark → Bool
@@ -47,15 +60,16 @@ abbrev pub is_operand : Placed → Bool
 is_operand n = is_operator_scope (parent n)
 
 -- whether it is wrong that an opcode has Scope, or has none, where it stands in the scope of an operator or does not
-abbrev pub differs : Scope → Bool → Bool → Bool
-differs Always operand scope = not scope
-differs Sometimes operand scope = false
-differs Never operand scope = scope
-differs Outermost operand scope = operand && scope
+abbrev pub differs : Scope → Bool → List ℕ → Bool
+differs Always operand op = not (has_scope op)
+differs Sometimes operand op = false
+differs Never operand op = has_scope op
+differs Outermost operand op = operand && has_scope op
+differs WithValue operand op = if wants_value op then not (has_scope op) else has_scope op
 
-abbrev pub has_wrong_scope : Option Row → Bool → Bool → Bool
-has_wrong_scope None operand scope = false
-has_wrong_scope (Some r) operand scope = differs r.scope operand scope
+abbrev pub has_wrong_scope : Option Row → Bool → List ℕ → Bool
+has_wrong_scope None operand op = false
+has_wrong_scope (Some r) operand op = differs r.scope operand op
 
 -- the number of the first opcode of a forest
 abbrev pub first_number : Forest → Option ℕ
@@ -67,15 +81,28 @@ abbrev pub lacks_expression : Option ℕ → Bool
 lacks_expression None = true
 lacks_expression (Some code) = is_listed code && not (is_operator code)
 
+-- Or where a VALUE is.
+abbrev pub lacks_value : Option ℕ → Bool
+lacks_value None = true
+lacks_value (Some code) = is_listed code && not (code == VALUE)
+
+-- An opcode does not begin with what it wants.
+abbrev pub lacks_wanted : List ℕ → Forest → Bool
+lacks_wanted op children = (wants_expression (number op) && lacks_expression (first_number children)) || (wants_value op && lacks_value (first_number children))
+
+-- whether a guard stands in the scope of a question; such guards are not known yet
+abbrev pub guards_options : Placed → Bool
+guards_options n = is_guard (number n.op) && is_within_question (class_around OfNothing n.path)
+
 -- the rows of the table of faults
 abbrev pub has_fault : Placed → Cause → Bool
 has_fault n NotFormSet = (n.place == 4) && not (number n.op == FORM_SET)
 has_fault n AfterFormSet = is_root n && not (n.place == 4)
-has_fault n OpOutside = not (is_listed (number n.op))
+has_fault n OpOutside = is_outside n.op || guards_options n
 has_fault n OpSize = is_short n.op
-has_fault n Misplaced = not (is_root n) && (not (is_condition n) && not (admits (class_around OfQuestion n.path) (number n.op)))
-has_fault n ScopeBit = has_wrong_scope (row (number n.op)) (is_operand n) (has_scope n.op)
-has_fault n ExprShape = wants_expression (number n.op) && lacks_expression (first_number n.children)
+has_fault n Misplaced = not (is_root n) && (not (is_wanted n) && not (admits (class_around OfNothing n.path) (number n.op)))
+has_fault n ScopeBit = has_wrong_scope (row (number n.op)) (is_operand n) n.op
+has_fault n ExprShape = lacks_wanted n.op n.children
 has_fault n _ = false
 
 -- the faults of the nodes, each at its place

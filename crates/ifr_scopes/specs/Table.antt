@@ -1,44 +1,84 @@
 -- The opcodes that are known, with a row for each: whether it opens a scope, and what may stand in that scope (UEFI 2.8,
 -- 33.3.8.3 Opcode Reference; which opcodes are known and what may stand where are own rules).
-use Rattle.std.specs.Prelude.{ℕ, Bool, false, ◌==◌, ◌||◌, if◌then◌else◌, Option, Some, None, List, [], ◌∷◌}
+use Rattle.std.specs.Prelude.{ℕ, nat_le, length, Bool, true, false, ◌==◌, ◌||◌, ◌&&◌, if◌then◌else◌, Option, Some, None, List, [], ◌∷◌, ◌++◌}
+use Rattle.ifr_opcodes.specs.Fields.{default_kind}
 use Rattle.ifr_opcodes.specs.Opcode.{number}
-use Rattle.ifr_opcodes.specs.Operators.{is_operator}
+use Rattle.ifr_opcodes.specs.Operators.{is_among, is_operator}
 use Rattle.ifr_opcodes.specs.Forest.{Ancestor}
-use Rattle.ifr_opcodes.specs.declared.codes.TheConstants.{FORM, CHECKBOX, SUPPRESS_IF, FORM_SET, VARSTORE, RULE}
+use Rattle.ifr_opcodes.specs.declared.codes.TheConstants.{FORM_SET, FORM, SUBTITLE, TEXT, RESET_BUTTON, ONE_OF_OPTION, DEFAULT, DEFAULTSTORE, VALUE, RULE, LOCKED, SUPPRESS_IF, GRAY_OUT_IF, DISABLE_IF}
+use Rattle.ifr_opcodes.specs.declared.kinds.TheConstants.{TYPE_OTHER}
 use Rattle.ifr_scopes.specs.Guards.{is_guard}
+use Rattle.ifr_scopes.specs.Kinds.{questions_without_options, questions_with_options, is_statement_number, stores, is_store_number, conditions, is_condition_number, ignored, is_ignored}
 use Rattle.ifr_scopes.specs.declared.table.Row.{Row}
-use Rattle.ifr_scopes.specs.declared.table.Scope.TheVariants.{Always, Sometimes, Never, Outermost}
+use Rattle.ifr_scopes.specs.declared.table.Scope.{Scope}
+use Rattle.ifr_scopes.specs.declared.table.Scope.TheVariants.{Always, Sometimes, Never, Outermost, WithValue}
 use Rattle.ifr_scopes.specs.declared.table.Class.{Class}
-use Rattle.ifr_scopes.specs.declared.table.Class.TheVariants.{OfFormSet, OfForm, OfQuestion, OfExpression}
+use Rattle.ifr_scopes.specs.declared.table.Class.TheVariants.{OfFormSet, OfForm, OfText, OfQuestion, OfChoice, OfOptions, OfOption, OfExpression, OfNothing}
 
-abbrev pub row : ℕ → Option Row
-row code =
-    if code == FORM_SET then Some record { scope = Always; class = OfFormSet }
-    else if code == FORM then Some record { scope = Always; class = OfForm }
-    else if code == VARSTORE then Some record { scope = Never; class = OfQuestion }
-    else if code == SUPPRESS_IF then Some record { scope = Always; class = OfQuestion }
-    else if code == CHECKBOX then Some record { scope = Sometimes; class = OfQuestion }
-    else if code == RULE then Some record { scope = Always; class = OfQuestion }
-    else if is_operator code then Some record { scope = Outermost; class = OfExpression }
-    else None
+abbrev opens : Scope → Class → Row
+opens scope class = record { scope = scope; class = class }
 
--- whether an opcode of this number begins with an expression: a guard with its condition, a rule with what it says
+-- opcodes with the row that they share
+abbrev pub rows : List (List ℕ × Row)
+rows =
+    (FORM_SET ∷ [], opens Always OfFormSet)
+    ∷ (FORM ∷ [], opens Always OfForm)
+    ∷ (SUBTITLE ∷ [], opens Sometimes OfForm)
+    ∷ (TEXT ∷ RESET_BUTTON ∷ [], opens Sometimes OfText)
+    ∷ (questions_without_options, opens Sometimes OfQuestion)
+    ∷ (questions_with_options, opens Sometimes OfChoice)
+    ∷ (ONE_OF_OPTION ∷ [], opens Sometimes OfOption)
+    ∷ (DEFAULT ∷ [], opens WithValue OfNothing)
+    ∷ (VALUE ∷ RULE ∷ SUPPRESS_IF ∷ GRAY_OUT_IF ∷ DISABLE_IF ∷ conditions, opens Always OfNothing)
+    ∷ (DEFAULTSTORE ∷ LOCKED ∷ stores ++ ignored, opens Never OfNothing)
+    ∷ []
+
+abbrev pub row_in : List (List ℕ × Row) → ℕ → Option Row
+row_in [] code = None
+row_in ((codes, r) ∷ more) code = if is_among code codes then Some r else row_in more code
+
+unfoldable pub row : ℕ → Option Row
+row code = if is_operator code then Some (opens Outermost OfExpression) else row_in rows code
+
+-- whether an opcode of this number begins with an expression: a guard and another condition with what is to hold, a rule and
+-- a value with what they say
 abbrev pub wants_expression : ℕ → Bool
-wants_expression code = is_guard code || code == RULE
+wants_expression code = is_guard code || code == RULE || code == VALUE || is_condition_number code
+
+-- whether an opcode begins with a VALUE: a default whose kind says so
+abbrev pub wants_value : List ℕ → Bool
+wants_value op = number op == DEFAULT && (nat_le 5 (length op) && (default_kind op == TYPE_OTHER))
 
 -- whether an opcode of this number may stand in a scope of this class
 abbrev pub admits : Class → ℕ → Bool
-admits OfFormSet code = code == FORM || code == VARSTORE || code == SUPPRESS_IF
-admits OfForm code = code == CHECKBOX || code == SUPPRESS_IF || code == RULE
-admits OfQuestion code = false
+admits OfFormSet code = code == FORM || code == DEFAULTSTORE || is_store_number code || is_guard code || code == LOCKED || is_ignored code
+admits OfForm code = code == RULE || is_statement_number code || is_guard code || code == LOCKED || is_ignored code
+admits OfText code = code == LOCKED || is_ignored code
+admits OfQuestion code = code == DEFAULT || is_condition_number code || code == LOCKED || is_ignored code
+admits OfChoice code = code == ONE_OF_OPTION || is_guard code || code == DEFAULT || is_condition_number code || code == LOCKED || is_ignored code
+admits OfOptions code = code == ONE_OF_OPTION || is_guard code || code == LOCKED || is_ignored code
+admits OfOption code = is_ignored code
 admits OfExpression code = is_operator code
+admits OfNothing code = false
 
 -- the class of an opcode's scope
 abbrev pub class_of : Option Row → Class
-class_of None = OfQuestion
+class_of None = OfNothing
 class_of (Some r) = r.class
 
--- the class of the innermost of a path that is no guard: a guard covers what may stand around it
+-- what a guard admits behind its condition: what may stand around it; among the options of a question, options alone
+abbrev pub guarded : Class → Class
+guarded OfChoice = OfOptions
+guarded class = class
+
+-- the class of the innermost of a path: a guard covers what may stand around it
 abbrev pub class_around : Class → List Ancestor → Class
 class_around found [] = found
-class_around found (a ∷ path) = class_around (if is_guard (number a.op) then found else class_of (row (number a.op))) path
+class_around found (a ∷ path) = class_around (if is_guard (number a.op) then guarded found else class_of (row (number a.op))) path
+
+-- whether this is what may stand in the scope of a question
+abbrev pub is_within_question : Class → Bool
+is_within_question OfQuestion = true
+is_within_question OfChoice = true
+is_within_question OfOptions = true
+is_within_question class = false

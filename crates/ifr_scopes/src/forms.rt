@@ -139,7 +139,7 @@ impl<'a> Forms<'a> {
         }
     }
 
-    /// The guards of the form or statement at a place, the outermost first; none at any other place.
+    /// The guards of the form, statement or option at a place, the outermost first; none at any other place.
     pub fn guards_at(&self, place: u32) -> GuardsAt<'_, 'a>
         ensures guards { guards_left result ≡ guards_of_indexed (nodes_of self.now) place }
         ensures of_package { result.ifr.now ≡ self.now }

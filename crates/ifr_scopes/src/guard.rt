@@ -6,7 +6,6 @@ ghost use Rattle.ifr_scopes.specs.Guards.{is_guard};
 ghost use Rattle.ifr_scopes.specs.Nodes.{this_of};
 ghost use Rattle.ifr_scopes.specs.Views.{node_of};
 
-use crate::ends::end_of;
 use crate::node::Node;
 use crate::scoped_nodes::ScopedNodes;
 use ifr_expr::Expr;
@@ -24,8 +23,7 @@ pub struct Guard<'a> {
 impl<'a> Guard<'a> {
     ghost use Rattle.ifr_opcodes.specs.Forest.{as_ancestor};
     ghost use Rattle.ifr_opcodes.specs.Ops.{bytes_of};
-    ghost use Rattle.std.specs.Prelude.{◌+◌, length};
-    ghost use Rattle.ifr_expr.specs.Reading.{tree_in};
+    ghost use Rattle.ifr_scopes.specs.Conditions.{expression_tree};
     ghost use Rattle.ifr_expr.specs.Expressions.{tree_of};
 
     /// Its place, in bytes from the package's header.
@@ -52,11 +50,9 @@ impl<'a> Guard<'a> {
 
     /// Its condition: the expression with which its scope begins.
     pub fn condition(self) -> Expr<'a>
-        ensures { tree_of result ≡ tree_in ((node_of self.entry.node).place + length (node_of self.entry.node).op) (node_of self.entry.node).children }
+        ensures { tree_of result ≡ expression_tree (node_of self.entry.node) }
     {
-        let from = self.node.op.place + self.node.op.len() as u32;
-        let to = end_of(self.node.ifr, from);
-        Expr::check(self.node.ifr, from as usize, to).unwrap()
+        self.node.expression()
     }
 }
 

@@ -8,7 +8,7 @@ use crate::guard::Guard;
 use crate::guard_place::GuardPlace;
 use crate::places::node_at;
 
-/// The guards of a form or a statement that are left, the outermost first.
+/// The guards of a form, a statement or an option that are left, the outermost first.
 #[derive(Debug, Drop)]
 pub struct GuardsAt<'s, 'a> {
     pub(crate) ifr: &'a [u8],

@@ -11,7 +11,7 @@ use crate::places::node_at;
 use crate::scoped_nodes::ScopedNodes;
 use arrayvec::ArrayVec;
 
-/// The guards of a form or a statement that are left, the outermost first.
+/// The guards of a form, a statement or an option that are left, the outermost first.
 #[derive(Drop)]
 pub struct GuardsOf<'a> {
     ifr: &'a [u8],

@@ -1,4 +1,4 @@
-//! The guards of forms and statements, by place.
+//! The guards of forms, statements and options, by place.
 
 ghost use Rattle.std.specs.Prelude.{◌≡◌, ◌||◌, ◌==◌, ℕ, option_map, IfOk};
 ghost use Rattle.std.specs.BTreeMap.{get};
@@ -6,22 +6,24 @@ ghost use Rattle.std.specs.Ordering.{nat_cmp};
 ghost use Rattle.ifr_opcodes.specs.declared.codes.TheConstants as codes;
 ghost use Rattle.ifr_scopes.specs.Checked.{IsChecked};
 ghost use Rattle.ifr_scopes.specs.Kept.{kept_at};
+ghost use Rattle.ifr_scopes.specs.Kinds.{is_statement_number};
 ghost use Rattle.ifr_scopes.specs.Nodes.{nodes_of};
 
 use crate::guard_place::GuardPlace;
+use crate::kinds::is_statement;
 use crate::scoped_nodes::ScopedNodes;
-use ifr_opcodes::{CHECKBOX, FORM};
+use ifr_opcodes::{FORM, ONE_OF_OPTION};
 use smallvec::SmallVec;
 use std::alloc::{AllocError, Global};
 use std::collections::BTreeMap;
 
-/// The guards of each form and statement by its place, the outermost first.
+/// The guards of each form, statement and option by its place, the outermost first.
 pub(crate) type Index = BTreeMap<u32, SmallVec<GuardPlace, 4>>;
 
 fn is_indexed(code: u8) -> bool
-    ensures { result ≡ (code == codes.FORM || code == codes.CHECKBOX) }
+    ensures { result ≡ (code == codes.FORM || is_statement_number code || code == codes.ONE_OF_OPTION) }
 {
-    code == FORM || code == CHECKBOX
+    code == FORM || is_statement(code) || code == ONE_OF_OPTION
 }
 
 /// The index of a checked package.

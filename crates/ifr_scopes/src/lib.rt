@@ -1,6 +1,7 @@
 //! The nodes of a forms package: its framing, and walks over them (UEFI 2.8, 33.3.8 Forms Package).
 #![tactic(auto)]
 
+mod default_view;
 mod ends;
 mod form;
 mod form_end;
@@ -13,10 +14,15 @@ mod guards;
 mod guards_at;
 mod guards_of;
 mod index;
+mod kinds;
 pub mod laws;
 mod node;
 mod nodes;
+mod nodes_of;
+mod option_view;
 mod places;
+#[cfg(test)]
+mod question_tests;
 mod references;
 mod rules;
 mod scoped_nodes;
@@ -28,11 +34,13 @@ mod tests;
 mod varstore;
 mod walk;
 
+pub use default_view::{DefaultView, Defaults};
 pub use form::{Form, FormViews};
 pub use form_set::FormSet;
 pub use forms::Forms;
 pub use guard::{Guard, GuardViews};
 pub use guards_at::GuardsAt;
 pub use guards_of::GuardsOf;
-pub use statement::{Statement, Statements};
-pub use varstore::{Varstore, Varstores};
+pub use option_view::{OptionView, Options};
+pub use statement::{Statement, StatementKind, Statements};
+pub use varstore::{StoreOp, Varstore, Varstores};

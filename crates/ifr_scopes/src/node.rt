@@ -3,10 +3,13 @@
 ghost use Rattle.ifr_opcodes.specs.Opcode.{spelled};
 ghost use Rattle.ifr_scopes.specs.Checked.{IsChecked, IsChecked-prop, IsAt, IsAt-prop};
 
+use crate::ends::end_of;
 use crate::guards::is_guard;
+use crate::kinds;
+use ifr_expr::Expr;
 use ifr_opcodes::{
-    CHECKBOX, FORM, FORM_SET, FormOp, FormSetOp, Op, QuestionOp, RULE, RuleOp, StatementOp,
-    VARSTORE, VarstoreOp,
+    DefaultOp, FORM, FORM_SET, FormOp, FormSetOp, Op, OptionOp, QuestionOp, REF, RULE, RefOp,
+    RuleOp, StatementOp,
 };
 
 /// A node of a package whose nodes were checked.
@@ -19,13 +22,17 @@ pub struct Node<'a> {
 }
 
 impl<'a> Node<'a> {
-    ghost use Rattle.std.specs.Prelude.{◌≡◌, ◌==◌, true};
+    ghost use Rattle.std.specs.Prelude.{◌≡◌, ◌==◌, true, None, if◌then◌else◌};
     ghost use Rattle.ifr_opcodes.specs.Ops.{bytes_of};
     ghost use Rattle.ifr_opcodes.specs.Opcode.{number};
     ghost use Rattle.ifr_scopes.specs.Guards.{is_guard as is_guard_number};
     ghost use Rattle.ifr_scopes.specs.Nodes as nodes;
     ghost use Rattle.ifr_scopes.specs.Rules as rules;
     ghost use Rattle.ifr_scopes.specs.Views.{node_of};
+    ghost use Rattle.ifr_opcodes.specs.Fields.{ref_target};
+    ghost use Rattle.ifr_expr.specs.Expressions.{tree_of};
+    ghost use Rattle.ifr_scopes.specs.Conditions.{expression_tree};
+    ghost use Rattle.ifr_scopes.specs.Table.{wants_expression};
 
     /// Its opcode.
     pub fn op(self) -> Op<'a>
@@ -52,19 +59,19 @@ impl<'a> Node<'a> {
     pub fn is_store(self) -> bool
         ensures { result ≡ nodes.is_store (node_of self.entry) }
     {
-        self.op.code == VARSTORE
+        kinds::is_store(self.op.code)
     }
 
     pub fn is_question(self) -> bool
         ensures { result ≡ nodes.is_question (node_of self.entry) }
     {
-        self.op.code == CHECKBOX
+        kinds::is_question(self.op.code)
     }
 
     pub fn is_statement(self) -> bool
         ensures { result ≡ nodes.is_statement (node_of self.entry) }
     {
-        self.is_question()
+        kinds::is_statement(self.op.code)
     }
 
     /// Whether it is a guard: SUPPRESS_IF, GRAY_OUT_IF or DISABLE_IF.
@@ -107,13 +114,43 @@ impl<'a> Node<'a> {
         RuleOp { op: self.op }
     }
 
-    /// The opcode of a store.
-    pub fn store(self) -> VarstoreOp<'a>
-        requires { nodes.is_store (node_of self) ≡ true }
+    /// The opcode of an option.
+    pub fn option(self) -> OptionOp<'a>
+        requires { nodes.is_option (node_of self) ≡ true }
         ensures place { result.op.place ≡ (node_of self.entry).place }
         ensures bytes { bytes_of result.op ≡ (node_of self.entry).op }
     {
-        VarstoreOp { op: self.op }
+        OptionOp { op: self.op }
+    }
+
+    /// The opcode of a default.
+    pub fn default(self) -> DefaultOp<'a>
+        requires { nodes.is_default (node_of self) ≡ true }
+        ensures place { result.op.place ≡ (node_of self.entry).place }
+        ensures bytes { bytes_of result.op ≡ (node_of self.entry).op }
+    {
+        DefaultOp { op: self.op }
+    }
+
+    /// The form to which it leads, where it is a reference to one of this form set.
+    pub fn target(self) -> Option<u16>
+        ensures { result ≡ (if nodes.is_reference (node_of self.entry) then ref_target (node_of self.entry).op else None) }
+    {
+        if self.op.code == REF {
+            RefOp { op: self.op }.target()
+        } else {
+            None
+        }
+    }
+
+    /// The expression with which its scope begins.
+    pub fn expression(self) -> Expr<'a>
+        requires { wants_expression (number (node_of self).op) ≡ true }
+        ensures { tree_of result ≡ expression_tree (node_of self.entry) }
+    {
+        let from = self.op.place + self.op.len() as u32;
+        let to = end_of(self.ifr, from);
+        Expr::check(self.ifr, from as usize, to).unwrap()
     }
 
     /// The opcode of a question, as far as all questions have the same.

@@ -1,13 +1,17 @@
 //! Forms, questions and rules by their ids: whether one is named twice, whether there is a form at all, and how large the
 //! rules are.
 
-ghost use Rattle.std.specs.Prelude.{◌≡◌, ℕ, Ok, Some, None, true, false, option_map, List, [], ◌∷◌, ◌++◌, IfOk, OnOk, IfErr, IfSome};
+ghost use Rattle.std.specs.Prelude.{◌≡◌, ◌==◌, ◌&&◌, not, ℕ, Ok, Some, None, true, false, option_map, List, [], ◌∷◌, ◌++◌, IfOk, OnOk, IfErr, IfSome};
 ghost use Rattle.std.specs.List.{list_any, last_or};
 ghost use Rattle.hii_bytes.specs.Faults.{HasNone, Refuses, first_cause};
 ghost use Rattle.ifr_opcodes.specs.Forest.{Placed};
 ghost use Rattle.ifr_scopes.specs.Checked.{IsChecked};
-ghost use Rattle.ifr_scopes.specs.Nodes.{nodes_of, is_form};
-ghost use Rattle.ifr_scopes.specs.References.{IsReferenceFault, has_fault, causes};
+ghost use Rattle.ifr_scopes.specs.Nodes.{nodes_of, is_form, is_question, is_reference};
+ghost use Rattle.ifr_opcodes.specs.Fields.{form_id, question_id};
+ghost use Rattle.ifr_scopes.specs.Views.{node_of};
+ghost use Rattle.ifr_scopes.specs.References.{IsReferenceFault, has_fault, causes, has_form_id, has_question_id, is_lost as lost_among};
+ghost use Rattle.std.specs.BTreeSet.{contains};
+ghost use Rattle.std.specs.Ordering.{nat_cmp};
 ghost use Rattle.ifr_scopes.specs.KeptRules.{AreKept};
 
 use crate::form_end::FormEnd;
@@ -21,9 +25,10 @@ use std::alloc::{AllocError, Global};
 use std::collections::BTreeSet;
 
 /// What was met of a package: the ids of its forms and of its questions, its rules, and the form in which the last of
-/// these stands.
+/// these stands; beside the ids of all its forms.
 #[derive(Drop)]
 struct Met {
+    all: BTreeSet<u16>,
     forms: BTreeSet<u16>,
     questions: BTreeSet<u16>,
     rules: RuleTable,
@@ -31,18 +36,19 @@ struct Met {
 }
 
 impl Met {
-    ghost use Rattle.ifr_scopes.specs.Views.{node_of};
+    ghost use Rattle.ifr_opcodes.specs.Fields.{ref_target};
     ghost use Rattle.ifr_scopes.specs.Met.{AreOf};
     ghost use Rattle.ifr_scopes.specs.Around.{IsAround};
     ghost use Rattle.ifr_scopes.specs.Checked.{node_in, has_node};
     ghost use Rattle.ifr_scopes.specs.Nodes as ends;
     ghost use Rattle.ifr_scopes.specs.Rules.{is_rule, form_end, forms_among};
 
-    /// Nothing.
-    fn new(alloc: Global) -> Met
-        ensures { (bytes : List ℕ) → AreOf bytes [] result }
+    /// Nothing of a package whose forms have these ids.
+    fn new(alloc: Global, all: BTreeSet<u16>) -> Met
+        ensures { (bytes : List ℕ) → ((id : ℕ) → contains nat_cmp all id ≡ list_any (has_form_id id) (nodes_of bytes)) → AreOf bytes [] result }
     {
         Met {
+            all,
             forms: BTreeSet::new(alloc),
             questions: BTreeSet::new(alloc),
             rules: RuleTable::new(alloc),
@@ -57,7 +63,7 @@ impl Met {
         requires known { IfSome self.old.form (λ form. form.ends ≡ ends.end_of (node_in ifr.now form.place)) }
         ensures end { result ≡ ends.end_of (node_in ifr.entry.now place) }
         ensures known { IfSome self.new.form (λ form. form.ends ≡ ends.end_of (node_in ifr.entry.now form.place)) }
-        ensures stays { (self.new.forms ≡ self.old.forms) × (self.new.questions ≡ self.old.questions) × (self.new.rules ≡ self.old.rules) }
+        ensures stays { (self.new.all ≡ self.old.all) × (self.new.forms ≡ self.old.forms) × (self.new.questions ≡ self.old.questions) × (self.new.rules ≡ self.old.rules) }
     {
         let form = FormEnd::at(ifr, place, self.form);
         self.form = Some(form);
@@ -68,7 +74,7 @@ impl Met {
     fn meet(&mut self, nodes: &ScopedNodes, next: &ScopedNode) -> Result<Option<Cause>, AllocError>
         requires around { IsAround nodes.now next.now }
         requires known { IfSome self.old.form (λ form. form.ends ≡ ends.end_of (node_in next.now.node.ifr.now form.place)) }
-        ensures told { IfOk result (λ cause. (before rest : List Placed) → before ++ node_of next.now.node ∷ rest ≡ nodes_of next.now.node.ifr.now → AreOf next.now.node.ifr.now before self.old → cause ≡ first_cause has_fault record { before = before; node = node_of next.now.node } causes) }
+        ensures told { IfOk result (λ cause. (before rest : List Placed) → before ++ node_of next.now.node ∷ rest ≡ nodes_of next.now.node.ifr.now → AreOf next.now.node.ifr.now before self.old → cause ≡ first_cause (has_fault (nodes_of next.now.node.ifr.now)) record { before = before; node = node_of next.now.node } causes) }
         ensures met { result ≡ Ok None → (before rest : List Placed) → before ++ node_of next.now.node ∷ rest ≡ nodes_of next.now.node.ifr.now → AreOf next.now.node.ifr.now before self.old → AreOf next.now.node.ifr.now (before ++ node_of next.now.node ∷ []) self.new }
     {
         if !next.node.is_rule() {
@@ -84,7 +90,7 @@ impl Met {
         requires rule { is_rule (node_of rule) ≡ true }
         requires form { Some form ≡ option_map (λ a. a.place) (last_or None (forms_among (node_of rule).path)) }
         requires known { IfSome self.old.form (λ form. form.ends ≡ ends.end_of (node_in rule.ifr.now form.place)) }
-        ensures told { IfOk result (λ cause. (before rest : List Placed) → before ++ node_of rule.entry ∷ rest ≡ nodes_of rule.entry.ifr.now → AreOf rule.entry.ifr.now before self.old → cause ≡ first_cause has_fault record { before = before; node = node_of rule.entry } causes) }
+        ensures told { IfOk result (λ cause. (before rest : List Placed) → before ++ node_of rule.entry ∷ rest ≡ nodes_of rule.entry.ifr.now → AreOf rule.entry.ifr.now before self.old → cause ≡ first_cause (has_fault (nodes_of rule.entry.ifr.now)) record { before = before; node = node_of rule.entry } causes) }
         ensures met { result ≡ Ok None → (before rest : List Placed) → before ++ node_of rule.entry ∷ rest ≡ nodes_of rule.entry.ifr.now → AreOf rule.entry.ifr.now before self.old → AreOf rule.entry.ifr.now (before ++ node_of rule.entry ∷ []) self.new }
     {
         let form_ends = self.form_end(rule.ifr, form);
@@ -95,24 +101,77 @@ impl Met {
         Ok(None)
     }
 
-    /// Meets the next node, which is no rule, and tells whether its id was met before.
+    /// Meets the next node, which is no rule, and tells whether its id was met before, or leads to no form.
     fn meet_other(&mut self, node: Node) -> Result<Option<Cause>, AllocError>
         requires other { is_rule (node_of node) ≡ false }
-        ensures told { IfOk result (λ cause. (bytes : List ℕ) (before : List Placed) → AreOf bytes before self.old → cause ≡ first_cause has_fault record { before = before; node = node_of node.entry } causes) }
+        ensures told { IfOk result (λ cause. (bytes : List ℕ) (before : List Placed) → AreOf bytes before self.old → cause ≡ first_cause (has_fault (nodes_of bytes)) record { before = before; node = node_of node.entry } causes) }
         ensures met { result ≡ Ok None → (bytes : List ℕ) (before : List Placed) → AreOf bytes before self.old → AreOf bytes (before ++ node_of node.entry ∷ []) self.new }
     {
-        if node.is_form() {
-            if !self.forms.insert(node.form().id())? {
-                return Ok(Some(Cause::DuplicateForm));
-            }
-        } else if node.is_question() {
-            let id = node.question().id();
-            if !self.questions.insert(id)? && id != 0 {
-                return Ok(Some(Cause::DuplicateQuestion));
-            }
+        if repeats_form(&mut self.forms, node)? {
+            return Ok(Some(Cause::DuplicateForm));
+        }
+        if repeats_question(&mut self.questions, node)? {
+            return Ok(Some(Cause::DuplicateQuestion));
+        }
+        if self.is_lost(node) {
+            return Ok(Some(Cause::NoForm));
         }
         Ok(None)
     }
+
+    /// Whether a question is a reference that leads to no form.
+    fn is_lost(&self, node: Node) -> bool
+        ensures { (ns : List Placed) → ((id : ℕ) → contains nat_cmp self.now.all id ≡ list_any (has_form_id id) ns) →
+            result ≡ (is_reference (node_of node.entry) && lost_among ns (ref_target (node_of node.entry).op)) }
+    {
+        match node.target() {
+            Some(id) => !self.all.contains(&id),
+            None => false,
+        }
+    }
+}
+
+// Whether a node is a form of an id that was met before. If not, the ids are those of the forms to and with this node.
+fn repeats_form(ids: &mut BTreeSet<u16>, node: Node) -> Result<bool, AllocError>
+    ensures { OnOk result ((before : List Placed) → ((id : ℕ) → contains nat_cmp ids.old id ≡ list_any (has_form_id id) before) →
+        (result ≡ Ok (is_form (node_of node.entry) && list_any (has_form_id (form_id (node_of node.entry).op)) before))
+        × (result ≡ Ok false → (id : ℕ) → contains nat_cmp ids.new id ≡ list_any (has_form_id id) (before ++ node_of node.entry ∷ []))) }
+{
+    if node.is_form() {
+        Ok(!ids.insert(node.form().id())?)
+    } else {
+        Ok(false)
+    }
+}
+
+// Whether a node is a question of an id, other than 0, that was met before. If not, the ids are those of the questions to
+// and with this node.
+fn repeats_question(ids: &mut BTreeSet<u16>, node: Node) -> Result<bool, AllocError>
+    ensures { OnOk result ((before : List Placed) → ((id : ℕ) → contains nat_cmp ids.old id ≡ list_any (has_question_id id) before) →
+        (result ≡ Ok (is_question (node_of node.entry) && (not (question_id (node_of node.entry).op == 0) && list_any (has_question_id (question_id (node_of node.entry).op)) before)))
+        × (result ≡ Ok false → (id : ℕ) → contains nat_cmp ids.new id ≡ list_any (has_question_id id) (before ++ node_of node.entry ∷ []))) }
+{
+    if node.is_question() {
+        let id = node.question().id();
+        Ok(!ids.insert(id)? && id != 0)
+    } else {
+        Ok(false)
+    }
+}
+
+// The ids of the forms of a package.
+fn form_ids(alloc: Global, ifr: &[u8]) -> Result<BTreeSet<u16>, AllocError>
+    requires { IsChecked ifr.now }
+    ensures { IfOk result (λ ids. (id : ℕ) → contains nat_cmp ids id ≡ list_any (has_form_id id) (nodes_of ifr.now)) }
+{
+    let mut ids = BTreeSet::new(alloc);
+    let mut nodes = Nodes::over(ifr);
+    while let Some(node) = nodes.step() {
+        if node.is_form() {
+            ids.insert(node.form().id())?;
+        }
+    }
+    Ok(ids)
 }
 
 // Whether a package has a form.
@@ -131,7 +190,8 @@ fn has_form(ifr: &[u8]) -> bool
 
 /// The rules of a package. A package without a form is refused by NoForm at 4, and a form or a question whose id one
 /// before it has by DuplicateForm or DuplicateQuestion at the later one; a question may have the id 0 again (own rule). A
-/// rule of a depth above 16 or a weight above 4,096 is refused by RuleTooLarge. Want of memory is OutOfMemory.
+/// reference that leads to no form is refused by NoForm, a rule of a depth above 16 or a weight above 4,096 by
+/// RuleTooLarge. Want of memory is OutOfMemory.
 pub(crate) fn check_references(alloc: Global, ifr: &[u8]) -> Result<RuleTable, Fault>
     requires { IsChecked ifr.now }
     ensures sound { OnOk result (HasNone (IsReferenceFault (nodes_of ifr.now))) }
@@ -144,7 +204,10 @@ pub(crate) fn check_references(alloc: Global, ifr: &[u8]) -> Result<RuleTable, F
             place: HEADER as u64,
         });
     }
-    let mut met = Met::new(alloc);
+    let Ok(all) = form_ids(alloc, ifr) else {
+        return Err(Fault::out_of_memory());
+    };
+    let mut met = Met::new(alloc, all);
     let mut nodes = ScopedNodes::over(ifr);
     while let Some(next) = nodes.step() {
         match met.meet(&nodes, &next) {

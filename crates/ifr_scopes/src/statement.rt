@@ -1,15 +1,76 @@
 //! Statements.
 
-ghost use Rattle.std.specs.Prelude.{◌≡◌, true};
-ghost use Rattle.ifr_scopes.specs.Nodes.{is_statement};
+ghost use Rattle.std.specs.Prelude.{◌≡◌, true, Some, None, option_map, if◌then◌else◌};
+ghost use Rattle.ifr_opcodes.specs.Forest.{mark};
+ghost use Rattle.ifr_opcodes.specs.Ops.{op_of};
+ghost use Rattle.ifr_scopes.specs.Nodes.{is_statement, is_question, options, defaults};
 ghost use Rattle.ifr_scopes.specs.Views.{node_of};
 
+use crate::default_view::Defaults;
 use crate::guards_of::GuardsOf;
 use crate::node::Node;
 use crate::nodes::Nodes;
-use ifr_opcodes::{QuestionOp, StatementOp};
+use crate::nodes_of::NodesOf;
+use crate::option_view::Options;
+use ifr_opcodes::{
+    ACTION, ActionOp, CHECKBOX, CheckboxOp, DATE, DEFAULT, DateOp, NUMERIC, NumericOp, ONE_OF,
+    ONE_OF_OPTION, ORDERED_LIST, OneOfOp, Op, OrderedListOp, PASSWORD, PasswordOp, QuestionOp, REF,
+    RESET_BUTTON, RefOp, ResetButtonOp, STRING, SUBTITLE, StatementOp, StringOp, SubtitleOp, TEXT,
+    TIME, TextOp, TimeOp,
+};
 
-/// A statement, which is a question (UEFI 2.8, 33.2.5.3 Statements).
+/// The opcode of a statement, by what it is.
+#[derive(Clone, Copy, Debug)]
+pub enum StatementKind<'a> {
+    Subtitle(SubtitleOp<'a>),
+    Text(TextOp<'a>),
+    ResetButton(ResetButtonOp<'a>),
+    Checkbox(CheckboxOp<'a>),
+    Numeric(NumericOp<'a>),
+    OneOf(OneOfOp<'a>),
+    String(StringOp<'a>),
+    Password(PasswordOp<'a>),
+    OrderedList(OrderedListOp<'a>),
+    Date(DateOp<'a>),
+    Time(TimeOp<'a>),
+    Action(ActionOp<'a>),
+    Ref(RefOp<'a>),
+}
+
+impl<'a> StatementKind<'a> {
+    ghost use Rattle.std.specs.Prelude.{◌≤◌, length};
+    ghost use Rattle.ifr_opcodes.specs.Fields.{least_length};
+    ghost use Rattle.ifr_opcodes.specs.Ops.{bytes_of};
+    ghost use Rattle.ifr_scopes.specs.Kinds.{is_statement_number};
+    ghost use Rattle.ifr_scopes.specs.Lists.{kind_op};
+
+    // The view of an opcode that has all its fields.
+    #[tactic(auto, unfolding(crate::specs::Kinds::is_statement_number, crate::specs::Kinds::is_question_number))]
+    fn of(op: Op<'a>) -> StatementKind<'a>
+        requires statement { is_statement_number op.code ≡ true }
+        requires sized { least_length (bytes_of op) ≤ length (bytes_of op) }
+        ensures { kind_op result ≡ op.entry }
+    {
+        match op.code {
+            SUBTITLE => StatementKind::Subtitle(SubtitleOp { op }),
+            TEXT => StatementKind::Text(TextOp { op }),
+            RESET_BUTTON => StatementKind::ResetButton(ResetButtonOp { op }),
+            CHECKBOX => StatementKind::Checkbox(CheckboxOp { op }),
+            NUMERIC => StatementKind::Numeric(NumericOp { op }),
+            ONE_OF => StatementKind::OneOf(OneOfOp { op }),
+            STRING => StatementKind::String(StringOp { op }),
+            PASSWORD => StatementKind::Password(PasswordOp { op }),
+            ORDERED_LIST => StatementKind::OrderedList(OrderedListOp { op }),
+            DATE => StatementKind::Date(DateOp { op }),
+            TIME => StatementKind::Time(TimeOp { op }),
+            ACTION => StatementKind::Action(ActionOp { op }),
+            REF => StatementKind::Ref(RefOp { op }),
+            _ => unreachable!(),
+        }
+    }
+}
+
+/// A statement (UEFI 2.8, 33.2.5.3 Statements), which may be a question (33.2.5.4 Questions).
 #[derive(Clone, Copy, Debug)]
 pub struct Statement<'a> {
     pub(crate) node: Node<'a>,
@@ -19,7 +80,8 @@ pub struct Statement<'a> {
 impl<'a> Statement<'a> {
     ghost use Rattle.ifr_opcodes.specs.Ops.{bytes_of};
     ghost use Rattle.ifr_scopes.specs.Guards.{guards};
-    ghost use Rattle.ifr_scopes.specs.Lists.{guards_of_left, statement_node, statement_package};
+    ghost use Rattle.ifr_scopes.specs.Lists.{guards_of_left, statement_node, statement_package, kind_op};
+    ghost use Rattle.ifr_scopes.specs.Parts.{options_left, defaults_left};
 
     /// Its place, in bytes from the package's header.
     pub fn place(self) -> u32
@@ -44,12 +106,41 @@ impl<'a> Statement<'a> {
         self.node.statement()
     }
 
-    /// Its opcode as that of a question.
-    pub fn question(self) -> QuestionOp<'a>
-        ensures place { result.op.place ≡ (statement_node self.entry).place }
-        ensures bytes { bytes_of result.op ≡ (statement_node self.entry).op }
+    /// Its opcode as that of a question, where it is one.
+    pub fn question(self) -> Option<QuestionOp<'a>>
+        ensures { option_map (λ question. op_of question.op) result ≡ (if is_question (statement_node self.entry) then Some (mark (statement_node self.entry)) else None) }
     {
-        self.node.question()
+        if self.node.is_question() {
+            Some(self.node.question())
+        } else {
+            None
+        }
+    }
+
+    /// Its opcode, by what it is.
+    pub fn kind(self) -> StatementKind<'a>
+        ensures place { (kind_op result).place ≡ (statement_node self.entry).place }
+        ensures bytes { bytes_of (kind_op result) ≡ (statement_node self.entry).op }
+    {
+        StatementKind::of(self.node.op())
+    }
+
+    /// Its options, by place.
+    pub fn options(self) -> Options<'a>
+        ensures { options_left result ≡ options (statement_node self.entry) }
+    {
+        Options {
+            nodes: NodesOf::question(self.node, ONE_OF_OPTION),
+        }
+    }
+
+    /// Its defaults, by place.
+    pub fn defaults(self) -> Defaults<'a>
+        ensures { defaults_left result ≡ defaults (statement_node self.entry) }
+    {
+        Defaults {
+            nodes: NodesOf::question(self.node, DEFAULT),
+        }
     }
 }
 

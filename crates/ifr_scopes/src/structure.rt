@@ -15,83 +15,43 @@ ghost use Rattle.ifr_scopes.specs.Structure.{IsStructureFault, least_cause};
 use crate::ends::end_of;
 use crate::framing::HEADER;
 use crate::guards::is_guard;
-use crate::table::{Class, Row, Scope};
+use crate::table::{
+    Class, Scope, admits, class_of, guarded, is_within_question, row_of, wants_expression,
+    wants_value,
+};
 use crate::walk::Walk;
 use hii_bytes::{Cause, Fault};
 use ifr_expr::Expr;
-use ifr_opcodes::{
-    CHECKBOX, FORM, FORM_SET, Op, RULE, SUPPRESS_IF, VARSTORE, is_listed, is_operator, is_short,
-    op_at,
-};
-
-fn row(code: u8) -> Option<Row>
-    ensures { result ≡ table.row code }
-{
-    let (scope, class) = match code {
-        FORM_SET => (Scope::Always, Class::OfFormSet),
-        FORM => (Scope::Always, Class::OfForm),
-        VARSTORE => (Scope::Never, Class::OfQuestion),
-        SUPPRESS_IF => (Scope::Always, Class::OfQuestion),
-        CHECKBOX => (Scope::Sometimes, Class::OfQuestion),
-        RULE => (Scope::Always, Class::OfQuestion),
-        _ if is_operator(code) => (Scope::Outermost, Class::OfExpression),
-        _ => return None,
-    };
-    Some(Row { scope, class })
-}
-
-fn admits(class: Class, code: u8) -> bool
-    ensures { result ≡ table.admits class code }
-{
-    match class {
-        Class::OfFormSet => code == FORM || code == VARSTORE || code == SUPPRESS_IF,
-        Class::OfForm => code == CHECKBOX || code == SUPPRESS_IF || code == RULE,
-        Class::OfQuestion => false,
-        Class::OfExpression => is_operator(code),
-    }
-}
-
-// Whether an opcode of this number begins with an expression.
-fn wants_expression(code: u8) -> bool
-    ensures { result ≡ table.wants_expression code }
-{
-    is_guard(code) || code == RULE
-}
+use ifr_opcodes::{FORM_SET, Op, VALUE, is_listed, is_operator, is_outside, is_short, op_at};
 
 fn has_wrong_scope(op: Op, operand: bool) -> bool
-    ensures { result ≡ structure.has_wrong_scope (table.row op.entry.code) operand (has_scope (bytes_of op.entry)) }
+    ensures { result ≡ structure.has_wrong_scope (table.row op.entry.code) operand (bytes_of op.entry) }
 {
-    match row(op.code) {
+    match row_of(op.code) {
         Some(row) => match row.scope {
             Scope::Always => !op.scope,
             Scope::Sometimes => false,
             Scope::Never => op.scope,
             Scope::Outermost => operand && op.scope,
+            Scope::WithValue => op.scope != wants_value(op),
         },
         None => false,
     }
 }
 
-fn class_of(code: u8) -> Class
-    ensures { result ≡ table.class_of (table.row code) }
-{
-    match row(code) {
-        Some(row) => row.class,
-        None => Class::OfQuestion,
-    }
-}
-
-// What the innermost of the nodes at these places that is no guard admits in its scope.
+// What may stand in the scope of the innermost of the nodes at these places.
 fn class_around(bytes: &[u8], places: &[u32]) -> Class
     requires { All (λ place. IsWhole (mark_at bytes.now place).op) places.now }
-    ensures { result ≡ table.class_around Class.OfQuestion (map (ancestor_at bytes.now) places.now) }
+    ensures { result ≡ table.class_around Class.OfNothing (map (ancestor_at bytes.now) places.now) }
 {
-    let mut found = Class::OfQuestion;
+    let mut found = Class::OfNothing;
     for place in places {
         let code = bytes[*place as usize];
-        if !is_guard(code) {
-            found = class_of(code);
-        }
+        found = if is_guard(code) {
+            guarded(found)
+        } else {
+            class_of(code)
+        };
     }
     found
 }
@@ -107,14 +67,29 @@ fn innermost<'a>(bytes: &'a [u8], places: &[u32]) -> Option<Op<'a>>
     }
 }
 
-// Whether what stands at a place, in the scope of an opcode, is the expression with which that begins.
+// Whether a place is right behind an opcode.
+fn stands_first(place: u32, op: Op) -> bool
+    ensures { result ≡ structure.stands_first place (op_of op.entry) }
+{
+    place as usize == op.place as usize + op.len()
+}
+
+// Whether what stands at a place, in the scope of an opcode, is to be the expression with which that begins.
 fn begins_scope(place: u32, parent: Option<Op>) -> bool
     ensures { result ≡ structure.begins_scope place (option_map op_of parent.entry) }
 {
     match parent {
-        Some(parent) => {
-            wants_expression(parent.code) && place as usize == parent.place as usize + parent.len()
-        }
+        Some(parent) => wants_expression(parent.code) && stands_first(place, parent),
+        None => false,
+    }
+}
+
+// Whether it is to be the VALUE with which that begins.
+fn begins_with_value(place: u32, parent: Option<Op>) -> bool
+    ensures { result ≡ structure.begins_with_value place (option_map op_of parent.entry) }
+{
+    match parent {
+        Some(parent) => wants_value(parent) && stands_first(place, parent),
         None => false,
     }
 }
@@ -146,6 +121,24 @@ fn lacks_expression(first: Option<u8>) -> bool
     }
 }
 
+fn lacks_value(first: Option<u8>) -> bool
+    ensures { result ≡ structure.lacks_value first }
+{
+    match first {
+        Some(code) => is_listed(code) && code != VALUE,
+        None => true,
+    }
+}
+
+// Whether an opcode, by the number of its first child, does not begin with what it wants.
+fn lacks_wanted(op: Op, first: Option<u8>) -> bool
+    ensures { (children : Forest) → structure.first_number children ≡ first →
+        result ≡ structure.lacks_wanted (bytes_of op.entry) children }
+{
+    (wants_expression(op.code) && lacks_expression(first))
+        || (wants_value(op) && lacks_value(first))
+}
+
 // The least cause for which a node is refused, by its opcode, the places around it and the number of its first child.
 fn cause_of(bytes: &[u8], op: Op, around: &[u32], first: Option<u8>) -> Option<Cause>
     requires { All (λ place. IsWhole (mark_at bytes.now place).op) around.now }
@@ -161,7 +154,8 @@ fn cause_of(bytes: &[u8], op: Op, around: &[u32], first: Option<u8>) -> Option<C
     if is_root && !is_first {
         return Some(Cause::AfterFormSet);
     }
-    if !is_listed(op.code) {
+    let class = class_around(bytes, around);
+    if is_outside(op) || (is_guard(op.code) && is_within_question(class)) {
         return Some(Cause::OpOutside);
     }
     if is_short(op) {
@@ -169,21 +163,23 @@ fn cause_of(bytes: &[u8], op: Op, around: &[u32], first: Option<u8>) -> Option<C
     }
     if !is_root
         && !begins_scope(op.place, parent)
-        && !admits(class_around(bytes, around), op.code)
+        && !begins_with_value(op.place, parent)
+        && !admits(class, op.code)
     {
         return Some(Cause::Misplaced);
     }
     if has_wrong_scope(op, is_operator_scope(parent)) {
         return Some(Cause::ScopeBit);
     }
-    if wants_expression(op.code) && lacks_expression(first) {
+    if lacks_wanted(op, first) {
         return Some(Cause::ExprShape);
     }
     None
 }
 
 /// Refuses a package by the least fault of a node by itself, which are the opcode's number, its length, where it stands,
-/// its Scope, and that an expression stands where one is wanted; or of the opcodes of an expression and their order.
+/// its Scope, and that an expression or a VALUE stands where one is wanted; or of the opcodes of an expression and their
+/// order.
 pub(crate) fn check_structure(bytes: &[u8]) -> Result<(), Fault>
     requires header { 4 ≤ length bytes.now }
     requires small { length bytes.now < 2 ^ 32 }

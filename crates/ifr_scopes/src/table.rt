@@ -1,5 +1,20 @@
 //! What is known of an opcode by its number.
 
+ghost use Rattle.std.specs.Prelude.{◌≡◌};
+ghost use Rattle.ifr_opcodes.specs.Ops.{bytes_of};
+ghost use Rattle.ifr_scopes.specs.Table as table;
+
+use crate::guards::is_guard;
+use crate::kinds::{is_condition, is_ignored, is_statement, is_store};
+use hii_bytes::number_at;
+use ifr_opcodes::{
+    ACTION, ANIMATION, CHECKBOX, DATE, DEFAULT, DEFAULTSTORE, DISABLE_IF, FORM, FORM_SET,
+    GRAY_OUT_IF, GUID, IMAGE, INCONSISTENT_IF, LOCKED, MODAL_TAG, NO_SUBMIT_IF, NUMERIC, ONE_OF,
+    ONE_OF_OPTION, ORDERED_LIST, Op, PASSWORD, REF, REFRESH, REFRESH_ID, RESET_BUTTON, RULE,
+    STRING, SUBTITLE, SUPPRESS_IF, TEXT, TIME, TYPE_OTHER, VALUE, VARSTORE, VARSTORE_EFI,
+    VARSTORE_NAME_VALUE, WARNING_IF, is_operator,
+};
+
 /// Whether an opcode opens a scope.
 #[derive(Clone, Copy, Debug, PartialEq, Eq)]
 pub enum Scope {
@@ -8,6 +23,8 @@ pub enum Scope {
     Never,
     /// Only where it is the first of an expression.
     Outermost,
+    /// Where it has a VALUE, and else not.
+    WithValue,
 }
 
 /// What may stand in a scope.
@@ -15,8 +32,18 @@ pub enum Scope {
 pub enum Class {
     OfFormSet,
     OfForm,
+    /// Of a statement that is no question.
+    OfText,
+    /// Of a question without options.
     OfQuestion,
+    /// Of a question with options.
+    OfChoice,
+    /// Of a guard among options.
+    OfOptions,
+    OfOption,
     OfExpression,
+    /// What the scope begins with, and nothing else.
+    OfNothing,
 }
 
 /// A row of the table of opcodes.
@@ -26,4 +53,131 @@ pub struct Row {
     pub scope: Scope,
     /// What may stand in its scope.
     pub class: Class,
+}
+
+/// The row of an opcode's number.
+#[tactic(auto, unfolding(crate::specs::Table::row))]
+pub(crate) fn row_of(code: u8) -> Option<Row>
+    ensures { result ≡ table.row code }
+{
+    let (scope, class) = match code {
+        _ if is_operator(code) => (Scope::Outermost, Class::OfExpression),
+        FORM_SET => (Scope::Always, Class::OfFormSet),
+        FORM => (Scope::Always, Class::OfForm),
+        SUBTITLE => (Scope::Sometimes, Class::OfForm),
+        TEXT | RESET_BUTTON => (Scope::Sometimes, Class::OfText),
+        CHECKBOX | NUMERIC | STRING | PASSWORD | DATE | TIME | ACTION | REF => {
+            (Scope::Sometimes, Class::OfQuestion)
+        }
+        ONE_OF | ORDERED_LIST => (Scope::Sometimes, Class::OfChoice),
+        ONE_OF_OPTION => (Scope::Sometimes, Class::OfOption),
+        DEFAULT => (Scope::WithValue, Class::OfNothing),
+        VALUE
+        | RULE
+        | SUPPRESS_IF
+        | GRAY_OUT_IF
+        | DISABLE_IF
+        | INCONSISTENT_IF
+        | NO_SUBMIT_IF
+        | WARNING_IF => (Scope::Always, Class::OfNothing),
+        DEFAULTSTORE
+        | LOCKED
+        | VARSTORE
+        | VARSTORE_EFI
+        | VARSTORE_NAME_VALUE
+        | GUID
+        | IMAGE
+        | ANIMATION
+        | REFRESH
+        | REFRESH_ID
+        | MODAL_TAG => (Scope::Never, Class::OfNothing),
+        _ => return None,
+    };
+    Some(Row { scope, class })
+}
+
+/// Whether an opcode of this number may stand in a scope of this class.
+pub(crate) fn admits(class: Class, code: u8) -> bool
+    ensures { result ≡ table.admits class code }
+{
+    match class {
+        Class::OfFormSet => {
+            code == FORM
+                || code == DEFAULTSTORE
+                || is_store(code)
+                || is_guard(code)
+                || code == LOCKED
+                || is_ignored(code)
+        }
+        Class::OfForm => {
+            code == RULE
+                || is_statement(code)
+                || is_guard(code)
+                || code == LOCKED
+                || is_ignored(code)
+        }
+        Class::OfText => code == LOCKED || is_ignored(code),
+        Class::OfQuestion => {
+            code == DEFAULT || is_condition(code) || code == LOCKED || is_ignored(code)
+        }
+        Class::OfChoice => {
+            code == ONE_OF_OPTION
+                || is_guard(code)
+                || code == DEFAULT
+                || is_condition(code)
+                || code == LOCKED
+                || is_ignored(code)
+        }
+        Class::OfOptions => {
+            code == ONE_OF_OPTION || is_guard(code) || code == LOCKED || is_ignored(code)
+        }
+        Class::OfOption => is_ignored(code),
+        Class::OfExpression => is_operator(code),
+        Class::OfNothing => false,
+    }
+}
+
+/// Whether an opcode of this number begins with an expression.
+pub(crate) fn wants_expression(code: u8) -> bool
+    ensures { result ≡ table.wants_expression code }
+{
+    is_guard(code) || code == RULE || code == VALUE || is_condition(code)
+}
+
+/// Whether an opcode begins with a VALUE.
+pub(crate) fn wants_value(op: Op) -> bool
+    ensures { result ≡ table.wants_value (bytes_of op.entry) }
+{
+    // the kind stands behind the header and the default's id
+    op.code == DEFAULT && number_at(op.body, 2, 1) == Some(u64::from(TYPE_OTHER))
+}
+
+/// What may stand in the scope of an opcode.
+pub(crate) fn class_of(code: u8) -> Class
+    ensures { result ≡ table.class_of (table.row code) }
+{
+    match row_of(code) {
+        Some(row) => row.class,
+        None => Class::OfNothing,
+    }
+}
+
+/// What a guard in a scope of this class admits behind its condition.
+pub(crate) fn guarded(class: Class) -> Class
+    ensures { result ≡ table.guarded class }
+{
+    match class {
+        Class::OfChoice => Class::OfOptions,
+        _ => class,
+    }
+}
+
+/// Whether this is what may stand in the scope of a question.
+pub(crate) fn is_within_question(class: Class) -> bool
+    ensures { result ≡ table.is_within_question class }
+{
+    matches!(
+        class,
+        Class::OfQuestion | Class::OfChoice | Class::OfOptions
+    )
 }

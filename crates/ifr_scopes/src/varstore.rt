@@ -6,9 +6,42 @@ ghost use Rattle.ifr_scopes.specs.Views.{node_of};
 
 use crate::node::Node;
 use crate::nodes::Nodes;
-use ifr_opcodes::VarstoreOp;
+use ifr_opcodes::{
+    Op, VARSTORE, VARSTORE_EFI, VARSTORE_NAME_VALUE, VarstoreEfiOp, VarstoreNameValueOp, VarstoreOp,
+};
 
-/// A store of bytes (UEFI 2.8, 33.2.5.6 Storage).
+/// The opcode of a store.
+#[derive(Clone, Copy, Debug)]
+pub enum StoreOp<'a> {
+    Varstore(VarstoreOp<'a>),
+    VarstoreEfi(VarstoreEfiOp<'a>),
+    NameValue(VarstoreNameValueOp<'a>),
+}
+
+impl<'a> StoreOp<'a> {
+    ghost use Rattle.std.specs.Prelude.{◌≤◌, length};
+    ghost use Rattle.ifr_opcodes.specs.Fields.{least_length};
+    ghost use Rattle.ifr_opcodes.specs.Ops.{bytes_of};
+    ghost use Rattle.ifr_scopes.specs.Kinds.{is_store_number};
+    ghost use Rattle.ifr_scopes.specs.Lists.{store_op};
+
+    // The view of an opcode that has all its fields.
+    #[tactic(auto, unfolding(crate::specs::Kinds::is_store_number))]
+    fn of(op: Op<'a>) -> StoreOp<'a>
+        requires store { is_store_number op.code ≡ true }
+        requires sized { least_length (bytes_of op) ≤ length (bytes_of op) }
+        ensures { store_op result ≡ op.entry }
+    {
+        match op.code {
+            VARSTORE => StoreOp::Varstore(VarstoreOp { op }),
+            VARSTORE_EFI => StoreOp::VarstoreEfi(VarstoreEfiOp { op }),
+            VARSTORE_NAME_VALUE => StoreOp::NameValue(VarstoreNameValueOp { op }),
+            _ => unreachable!(),
+        }
+    }
+}
+
+/// A store (UEFI 2.8, 33.2.5.6 Storage).
 #[derive(Clone, Copy, Debug)]
 pub struct Varstore<'a> {
     pub(crate) node: Node<'a>,
@@ -17,7 +50,8 @@ pub struct Varstore<'a> {
 
 impl<'a> Varstore<'a> {
     ghost use Rattle.ifr_opcodes.specs.Ops.{bytes_of};
-    ghost use Rattle.ifr_scopes.specs.Lists.{store_node};
+    ghost use Rattle.ifr_scopes.specs.Lists.{store_node, store_op};
+    ghost use Rattle.ifr_scopes.specs.Stores.{store_id, store_size};
 
     /// Its place, in bytes from the package's header.
     pub fn place(self) -> u32
@@ -27,11 +61,33 @@ impl<'a> Varstore<'a> {
     }
 
     /// Its opcode.
-    pub fn op(self) -> VarstoreOp<'a>
-        ensures place { result.op.place ≡ (store_node self.entry).place }
-        ensures bytes { bytes_of result.op ≡ (store_node self.entry).op }
+    pub fn op(self) -> StoreOp<'a>
+        ensures place { (store_op result).place ≡ (store_node self.entry).place }
+        ensures bytes { bytes_of (store_op result) ≡ (store_node self.entry).op }
     {
-        self.node.store()
+        StoreOp::of(self.node.op())
+    }
+
+    /// The id by which questions name it.
+    pub fn id(self) -> u16
+        ensures { result ≡ store_id (store_node self.entry).op }
+    {
+        match self.op() {
+            StoreOp::Varstore(store) => store.id(),
+            StoreOp::VarstoreEfi(store) => store.id(),
+            StoreOp::NameValue(store) => store.id(),
+        }
+    }
+
+    /// How many bytes it holds; a store of names and values holds none.
+    pub fn size(self) -> Option<u16>
+        ensures { result ≡ store_size (store_node self.entry).op }
+    {
+        match self.op() {
+            StoreOp::Varstore(store) => Some(store.size()),
+            StoreOp::VarstoreEfi(store) => Some(store.size()),
+            StoreOp::NameValue(_) => None,
+        }
     }
 }
 

@@ -1,7 +1,8 @@
 use Rattle.std.proofs.Common.{length}
 use Rattle.hii_bytes.specs.Watching.{pen_of, Stands}
 use Rattle.form_page.specs.Texts.{utf8}
-use Rattle.form_page.specs.Views.{value_text, value_chars_left}
+use Rattle.form_page.specs.CharViews.{value_chars_left}
+use Rattle.form_page.specs.RowViews.{value_text}
 use Rattle.form_page.proofs.row.put_value.Given as goal
 
 -- the characters before those that are left were written

@@ -3,21 +3,21 @@ use Rattle.std.specs.List.{AllByRecursion}
 use Rattle.ifr_scopes.specs.Lists.{form_node}
 use Rattle.hii_languages.specs.Views.{choice_of}
 use Rattle.hii_questions.specs.Lists.{questions_left}
-use Rattle.hii_questions.specs.Views.{question_node}
+use Rattle.hii_questions.specs.Views.{question_view}
 use Rattle.browser_core.specs.State.{State}
 use Rattle.browser_core.specs.Opening.{layout_in}
 use Rattle.browser_core.specs.Standing.{LiesIn}
-use Rattle.browser_core.specs.Step.{is_other, changed}
-use Rattle.browser_core.proofs.ChangeLemmas.{all_questions, counted_start, fields_lie, lies_first, few_changed, count_more, count_same, count_all}
+use Rattle.browser_core.specs.Step.{changed}
+use Rattle.browser_core.proofs.ChangeLemmas.{is_other_field, all_questions, counted_start, fields_lie, lies_first, few_changed, count_more, count_same, count_all}
 use Rattle.browser_core.proofs.browser.Core.count_changed.Goals as goal
 
 pub differs-requires-clause-committed : goal.differs-requires-clause-committed
 differs-requires-clause-committed c =
-    subst (λ shape. LiesIn shape (question_node c.in-Some.question)) (sym c.self.invariant.submitted) (lies_first (layout_in c.self.inside.forms) (questions_left c.loop-question.question-iterator) (questions_left c.next.new.self) (question_node c.in-Some.question) c.loop-question.invariant.lie c.in-Some.ensures.steps).0
+    subst (λ shape. LiesIn shape (question_view c.in-Some.question)) (sym c.self.invariant.submitted) (lies_first (layout_in c.self.inside.forms) (questions_left c.loop-question.question-iterator) (questions_left c.next.new.self) (question_view c.in-Some.question) c.loop-question.invariant.lie c.in-Some.ensures.steps).0
 
 pub differs-requires-clause-working : goal.differs-requires-clause-working
 differs-requires-clause-working c =
-    subst (λ shape. LiesIn shape (question_node c.in-Some.question)) (sym c.self.invariant.laid) (lies_first (layout_in c.self.inside.forms) (questions_left c.loop-question.question-iterator) (questions_left c.next.new.self) (question_node c.in-Some.question) c.loop-question.invariant.lie c.in-Some.ensures.steps).0
+    subst (λ shape. LiesIn shape (question_view c.in-Some.question)) (sym c.self.invariant.laid) (lies_first (layout_in c.self.inside.forms) (questions_left c.loop-question.question-iterator) (questions_left c.next.new.self) (question_view c.in-Some.question) c.loop-question.invariant.lie c.in-Some.ensures.steps).0
 
 pub loop-question-init : goal.loop-question-init
 loop-question-init c =
@@ -34,7 +34,7 @@ loop-question-init c =
 pub overflow_add-count : goal.overflow_add-count
 overflow_add-count c =
     let s : State = record { ifr = c.self.inside.forms; spoken = c.self.inside.languages; language = choice_of c.self.inside.language; committed = c.self.inside.committed; working = c.self.inside.working; form = (form_node c.self.inside.form).place } in
-    let more = count_more (is_other s) (question_node c.in-Some.question) c.differs.result (questions_left c.loop-question.question-iterator) (questions_left c.next.new.self) c.loop-question.count _ c.in-Some.ensures.steps c.differs.ensures c.if-differs.true c.loop-question.invariant.counted in
+    let more = count_more (is_other_field s) (question_view c.in-Some.question) c.differs.result (questions_left c.loop-question.question-iterator) (questions_left c.next.new.self) c.loop-question.count _ c.in-Some.ensures.steps c.differs.ensures c.if-differs.true c.loop-question.invariant.counted in
     let small = few_changed s c.self.invariant.browsable.accepted in
     omega (arith, more, small)
 
@@ -44,8 +44,8 @@ loop-question-preserved-then-differs c =
     record {
       can = search rules;
       ends = search rules;
-      lie = (lies_first (layout_in c.self.inside.forms) (questions_left c.loop-question.question-iterator) (questions_left c.next.new.self) (question_node c.in-Some.question) c.loop-question.invariant.lie c.in-Some.ensures.steps).1;
-      counted = count_more (is_other s) (question_node c.in-Some.question) c.differs.result (questions_left c.loop-question.question-iterator) (questions_left c.next.new.self) c.loop-question.count _ c.in-Some.ensures.steps c.differs.ensures c.if-differs.true c.loop-question.invariant.counted;
+      lie = (lies_first (layout_in c.self.inside.forms) (questions_left c.loop-question.question-iterator) (questions_left c.next.new.self) (question_view c.in-Some.question) c.loop-question.invariant.lie c.in-Some.ensures.steps).1;
+      counted = count_more (is_other_field s) (question_view c.in-Some.question) c.differs.result (questions_left c.loop-question.question-iterator) (questions_left c.next.new.self) c.loop-question.count _ c.in-Some.ensures.steps c.differs.ensures c.if-differs.true c.loop-question.invariant.counted;
     }
 
 pub loop-question-preserved : goal.loop-question-preserved
@@ -54,11 +54,11 @@ loop-question-preserved c =
     record {
       can = search rules;
       ends = search rules;
-      lie = (lies_first (layout_in c.self.inside.forms) (questions_left c.loop-question.question-iterator) (questions_left c.next.new.self) (question_node c.in-Some.question) c.loop-question.invariant.lie c.in-Some.ensures.steps).1;
-      counted = count_same (is_other s) (question_node c.in-Some.question) c.differs.result (questions_left c.loop-question.question-iterator) (questions_left c.next.new.self) c.loop-question.count _ c.in-Some.ensures.steps c.differs.ensures c.if-differs.false c.loop-question.invariant.counted;
+      lie = (lies_first (layout_in c.self.inside.forms) (questions_left c.loop-question.question-iterator) (questions_left c.next.new.self) (question_view c.in-Some.question) c.loop-question.invariant.lie c.in-Some.ensures.steps).1;
+      counted = count_same (is_other_field s) (question_view c.in-Some.question) c.differs.result (questions_left c.loop-question.question-iterator) (questions_left c.next.new.self) c.loop-question.count _ c.in-Some.ensures.steps c.differs.ensures c.if-differs.false c.loop-question.invariant.counted;
     }
 
 pub returns : goal.returns
 returns c =
     let s : State = record { ifr = c.self.inside.forms; spoken = c.self.inside.languages; language = choice_of c.self.inside.language; committed = c.self.inside.committed; working = c.self.inside.working; form = (form_node c.self.inside.form).place } in
-    count_all (is_other s) (questions_left c.loop-question.question-iterator) c.loop-question.count _ c.in-None.ensures.steps.0 c.loop-question.invariant.counted ∙ ap (λ (s : State). length (changed s)) c.self.view_is
+    count_all (is_other_field s) (questions_left c.loop-question.question-iterator) c.loop-question.count _ c.in-None.ensures.steps.0 c.loop-question.invariant.counted ∙ ap (λ (s : State). length (changed s)) c.self.view_is

@@ -7,7 +7,8 @@ use Rattle.hii_questions.specs.Lists.{questions_left}
 use Rattle.browser_core.specs.State.{State}
 use Rattle.browser_core.specs.Opening.{layout_in}
 use Rattle.browser_core.specs.Standing.{LiesIn}
-use Rattle.browser_core.specs.Step.{is_other, changed}
+use Rattle.browser_core.specs.Step.{changed}
+use Rattle.browser_core.proofs.ChangeLemmas.{is_other_field}
 use Rattle.browser_core.proofs.browser.Core.count_changed.Given as goal
 
 -- the changed questions so far, and those that are left, are all
@@ -18,5 +19,5 @@ invariant-loop-question l =
       can : goal.iterator-loop-question.can_next l.question-iterator;
       ends : goal.iterator-loop-question.is_finite l.question-iterator;
       lie : AllByRecursion (LiesIn (layout_in s.ifr)) (questions_left l.question-iterator);
-      counted : l.count + length (filter (is_other s) (questions_left l.question-iterator)) ≡ length (changed s);
+      counted : l.count + length (filter (is_other_field s) (questions_left l.question-iterator)) ≡ length (changed s);
     }

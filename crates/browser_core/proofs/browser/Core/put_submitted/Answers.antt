@@ -4,22 +4,22 @@ use Rattle.hii_bytes.specs.Watching.{pen_of, Writes}
 use Rattle.ifr_scopes.specs.Lists.{form_node}
 use Rattle.hii_languages.specs.Views.{choice_of}
 use Rattle.hii_questions.specs.Lists.{questions_left}
-use Rattle.hii_questions.specs.Views.{question_node}
+use Rattle.hii_questions.specs.Views.{question_view}
 use Rattle.browser_core.specs.State.{State}
 use Rattle.browser_core.specs.Opening.{layout_in}
 use Rattle.browser_core.specs.Standing.{LiesIn}
-use Rattle.browser_core.specs.Step.{is_other, changed, submitted}
-use Rattle.browser_core.proofs.ChangeLemmas.{all_questions, fields_lie, lies_first, told, told_start, told_more, told_same}
+use Rattle.browser_core.specs.Step.{changed, submitted}
+use Rattle.browser_core.proofs.ChangeLemmas.{is_other_field, all_questions, fields_lie, lies_first, told, told_start, told_more, told_same}
 use Rattle.hii_bytes.proofs.WritingLemmas.{Stands-all}
 use Rattle.browser_core.proofs.browser.Core.put_submitted.Goals as goal
 
 pub differs-requires-clause-committed : goal.differs-requires-clause-committed
 differs-requires-clause-committed g c =
-    subst (λ shape. LiesIn shape (question_node c.in-Some.question)) (sym c.self.invariant.submitted) (lies_first (layout_in c.self.inside.forms) (questions_left c.loop-question.question-iterator) (questions_left c.next.new.self) (question_node c.in-Some.question) c.loop-question.invariant.lie c.in-Some.ensures.steps).0
+    subst (λ shape. LiesIn shape (question_view c.in-Some.question)) (sym c.self.invariant.submitted) (lies_first (layout_in c.self.inside.forms) (questions_left c.loop-question.question-iterator) (questions_left c.next.new.self) (question_view c.in-Some.question) c.loop-question.invariant.lie c.in-Some.ensures.steps).0
 
 pub differs-requires-clause-working : goal.differs-requires-clause-working
 differs-requires-clause-working g c =
-    subst (λ shape. LiesIn shape (question_node c.in-Some.question)) (sym c.self.invariant.laid) (lies_first (layout_in c.self.inside.forms) (questions_left c.loop-question.question-iterator) (questions_left c.next.new.self) (question_node c.in-Some.question) c.loop-question.invariant.lie c.in-Some.ensures.steps).0
+    subst (λ shape. LiesIn shape (question_view c.in-Some.question)) (sym c.self.invariant.laid) (lies_first (layout_in c.self.inside.forms) (questions_left c.loop-question.question-iterator) (questions_left c.next.new.self) (question_view c.in-Some.question) c.loop-question.invariant.lie c.in-Some.ensures.steps).0
 
 pub loop-question-init : goal.loop-question-init
 loop-question-init g c =
@@ -39,8 +39,8 @@ loop-question-preserved-then-differs g c =
     record {
       can = search rules;
       ends = search rules;
-      lie = (lies_first (layout_in c.self.inside.forms) (questions_left c.loop-question.question-iterator) (questions_left c.next.new.self) (question_node c.in-Some.question) c.loop-question.invariant.lie c.in-Some.ensures.steps).1;
-      text = told_more {text = (submitted s).text} (is_other s) (question_node c.in-Some.question) c.differs.result (questions_left c.loop-question.question-iterator) (questions_left c.next.new.self) c.id.result c.in-Some.ensures.steps c.differs.ensures c.if-differs.true c.id.ensures c.loop-question.invariant.text c.put_changed.ensures;
+      lie = (lies_first (layout_in c.self.inside.forms) (questions_left c.loop-question.question-iterator) (questions_left c.next.new.self) (question_view c.in-Some.question) c.loop-question.invariant.lie c.in-Some.ensures.steps).1;
+      text = told_more {text = (submitted s).text} (is_other_field s) (question_view c.in-Some.question) c.differs.result (questions_left c.loop-question.question-iterator) (questions_left c.next.new.self) c.id.result c.in-Some.ensures.steps c.differs.ensures c.if-differs.true c.id.ensures c.loop-question.invariant.text c.put_changed.ensures;
     }
 
 pub loop-question-preserved : goal.loop-question-preserved
@@ -49,12 +49,12 @@ loop-question-preserved g c =
     record {
       can = search rules;
       ends = search rules;
-      lie = (lies_first (layout_in c.self.inside.forms) (questions_left c.loop-question.question-iterator) (questions_left c.next.new.self) (question_node c.in-Some.question) c.loop-question.invariant.lie c.in-Some.ensures.steps).1;
-      text = told_same {text = (submitted s).text} (is_other s) (question_node c.in-Some.question) c.differs.result (questions_left c.loop-question.question-iterator) (questions_left c.next.new.self) c.in-Some.ensures.steps c.differs.ensures c.if-differs.false c.loop-question.invariant.text;
+      lie = (lies_first (layout_in c.self.inside.forms) (questions_left c.loop-question.question-iterator) (questions_left c.next.new.self) (question_view c.in-Some.question) c.loop-question.invariant.lie c.in-Some.ensures.steps).1;
+      text = told_same {text = (submitted s).text} (is_other_field s) (question_view c.in-Some.question) c.differs.result (questions_left c.loop-question.question-iterator) (questions_left c.next.new.self) c.in-Some.ensures.steps c.differs.ensures c.if-differs.false c.loop-question.invariant.text;
     }
 
 pub returns : goal.returns
 returns g c =
     let s : State = record { ifr = c.self.inside.forms; spoken = c.self.inside.languages; language = choice_of c.self.inside.language; committed = c.self.inside.committed; working = c.self.inside.working; form = (form_node c.self.inside.form).place } in
     subst (λ (s : State). Writes (pen_of g.W.Write.contents c.args.out.now) (pen_of g.W.Write.contents c.loop-question.out) (submitted s).text) c.self.view_is
-    (Stands-all _ _ (submitted s).text (told (is_other s) (questions_left c.loop-question.question-iterator)) c.loop-question.invariant.text (ap (told (is_other s)) c.in-None.ensures.steps.0))
+    (Stands-all _ _ (submitted s).text (told (is_other_field s) (questions_left c.loop-question.question-iterator)) c.loop-question.invariant.text (ap (told (is_other_field s)) c.in-None.ensures.steps.0))

@@ -6,8 +6,8 @@ use Rattle.hii_questions.specs.Lists.{questions_left}
 use Rattle.browser_core.specs.State.{State}
 use Rattle.browser_core.specs.Opening.{layout_in}
 use Rattle.browser_core.specs.Standing.{LiesIn}
-use Rattle.browser_core.specs.Step.{is_other, submitted}
-use Rattle.browser_core.proofs.ChangeLemmas.{told}
+use Rattle.browser_core.specs.Step.{submitted}
+use Rattle.browser_core.proofs.ChangeLemmas.{is_other_field, told}
 use Rattle.browser_core.proofs.browser.Core.put_submitted.Given as goal
 
 -- the count and the changed questions so far are written, and those that are left stand to be written
@@ -18,5 +18,5 @@ invariant-loop-question g l =
       can : (goal.iterator-loop-question g).can_next l.question-iterator;
       ends : (goal.iterator-loop-question g).is_finite l.question-iterator;
       lie : AllByRecursion (LiesIn (layout_in s.ifr)) (questions_left l.question-iterator);
-      text : Stands (pen_of g.W.Write.contents l.fn.out) (pen_of g.W.Write.contents l.out) (submitted s).text (told (is_other s) (questions_left l.question-iterator));
+      text : Stands (pen_of g.W.Write.contents l.fn.out) (pen_of g.W.Write.contents l.out) (submitted s).text (told (is_other_field s) (questions_left l.question-iterator));
     }

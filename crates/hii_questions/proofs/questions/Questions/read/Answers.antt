@@ -1,7 +1,34 @@
-use Rattle.hii_bytes.proofs.FirstFaultLemmas.{accepted_without}
+use Rattle.std.proofs.Common.{◌≡◌, ℕ, Bool, List, map, sym, ap, ◌∙◌, inr}
+use Rattle.std.specs.BTreeSet.{contains}
+use Rattle.std.specs.List.{flat_map}
+use Rattle.std.specs.Ordering.{nat_cmp}
+use Rattle.std.proofs.lemmas.Result.{err_from_is_err_and}
+use Rattle.hii_bytes.specs.Faults.{IsLeast}
 use Rattle.ifr_scopes.specs.Nodes.{nodes_of}
-use Rattle.hii_questions.specs.Faults.{IsQuestionFault}
+use Rattle.hii_questions.specs.Faults.{IsQuestionFault, parts_of}
+use Rattle.hii_questions.specs.FaultTells.{first_part_fault}
+use Rattle.hii_questions.specs.Views.{question_view}
+use Rattle.hii_questions.specs.declared.question.Question.{Question}
+use Rattle.hii_questions.proofs.RefusalLemmas.{refused_among, sound_among}
 use Rattle.hii_questions.proofs.questions.Questions.read.Goals as goal
 
-pub returns-in_err-check_fields-clause-accepted : goal.returns-in_err-check_fields-clause-accepted
-returns-in_err-check_fields-clause-accepted c = λ none. absurd (accepted_without (IsQuestionFault (nodes_of c.args.forms.now) c.args.layout.now) _ c.in_err-check_fields.ensures.refused none)
+-- the fault that the check tells is the least
+least : (c : goal.After-drop-by_place-in_err-check_questions) → IsLeast (IsQuestionFault (nodes_of c.args.forms.now)) c.in_err-check_questions.field-0.0
+least c =
+    let known : ℕ → Bool = λ id. contains nat_cmp c.in-Ok-store_ids.ids id in
+    refused_among c.args.forms.now c.args.layout.now known (map question_view c.in-Ok.by_place.items) c.in_err-check_questions.field-0.0 c.bytes-ifr.ensures.accepted c.requires c.in-Ok-store_ids.ensures c.in-Ok.ensures.placed
+    (ap (λ (qs : List Question). first_part_fault c.args.layout.now known (flat_map parts_of (map question_view qs))) (sym c.deref.ensures.value) ∙ c.in_err-check_questions.ensures)
+
+pub returns-in_err-check_questions-clause-refused : goal.returns-in_err-check_questions-clause-refused
+returns-in_err-check_questions-clause-refused c =
+    let p = err_from_is_err_and c.from_residual.result c.from_residual.ensures.1 in
+    rw (p.1, p.2) (inr (least c))
+
+pub returns-in_err-check_questions-clause-accepted : goal.returns-in_err-check_questions-clause-accepted
+returns-in_err-check_questions-clause-accepted c = λ none. absurd (none c.in_err-check_questions.field-0.0.cause c.in_err-check_questions.field-0.0.place (least c).told)
+
+pub returns-clause-sound : goal.returns-clause-sound
+returns-clause-sound c =
+    let known : ℕ → Bool = λ id. contains nat_cmp c.in-Ok-store_ids.ids id in
+    sound_among c.args.forms.now c.args.layout.now known (map question_view c.in-Ok.by_place.items) c.requires c.in-Ok-store_ids.ensures c.in-Ok.ensures.placed
+    (ap (λ (qs : List Question). first_part_fault c.args.layout.now known (flat_map parts_of (map question_view qs))) (sym c.deref.ensures.value) ∙ c.in_ok-check_questions.ensures)

@@ -21,28 +21,29 @@ form_end-form_ends-requires-clause-there c =
 its : (c : After-size_of) (before rest : List Placed) → before ++ node_of c.args.rule ∷ rest ≡ nodes_of c.args.rule.ifr.now → AreOf c.args.rule.ifr.now before c.args.self.now
     → c.size_of.result ≡ fitting_size (size (rules_among before) (as_rule (node_of c.args.rule)))
 its c before rest split known =
-    let kept = subst (AreKept before) (sym c.form_end-form_ends.ensures.stays.2) known.rules in
+    let kept = subst (AreKept before) (sym c.form_end-form_ends.ensures.stays.3) known.rules in
     c.size_of.ensures before kept (descend_before c.args.rule.ifr.now before (node_of c.args.rule ∷ rest) c.args.rule.checked split)
     ∙ ap (λ (t : Tree). fitting_size (size_over (rule_sizes (rules_among before)) t)) c.expression_of.ensures.tree
 
 pub returns-in_default-clause-told : goal.returns-in_default-clause-told
 returns-in_default-clause-told c = λ before rest split known.
-    told_large before (node_of c.args.rule) c.requires.rule (sym c.in_default.is ∙ its (goal.at.returns-in_default-clause-told c).After-size_of before rest split known)
+    told_large (nodes_of c.args.rule.ifr.now) before (node_of c.args.rule) c.requires.rule (sym c.in_default.is ∙ its (goal.at.returns-in_default-clause-told c).After-size_of before rest split known)
 
 pub returns-clause-told : goal.returns-clause-told
 returns-clause-told c = λ before rest split known.
-    told_none before (node_of c.args.rule) c.in-Some.size c.requires.rule (sym c.in-Some.is ∙ its (goal.at.returns-clause-told c).After-size_of before rest split known)
+    told_none (nodes_of c.args.rule.ifr.now) before (node_of c.args.rule) c.in-Some.size c.requires.rule (sym c.in-Some.is ∙ its (goal.at.returns-clause-told c).After-size_of before rest split known)
 
 pub returns-clause-met : goal.returns-clause-met
 returns-clause-met c = λ _ before rest split known.
     let view = c.args.rule in
     let n = node_of view in
     let told = sym c.in-Some.is ∙ its (goal.at.returns-clause-met c).After-size_of before rest split known in
-    let kept = subst (AreKept before) (sym c.form_end-form_ends.ensures.stays.2) known.rules in
+    let kept = subst (AreKept before) (sym c.form_end-form_ends.ensures.stays.3) known.rules in
     let around = form_around view.ifr.now n c.args.form view.checked (is_node view.ifr.now view.op.place _ view.checked view.stands) c.requires.form in
     record {
-      forms = λ id. rw c.form_end-form_ends.ensures.stays.0 (known.forms id ∙ sym (no_form_more before n id c.requires.rule));
-      questions = λ id. rw c.form_end-form_ends.ensures.stays.1 (known.questions id ∙ sym (no_question_more before n id c.requires.rule));
+      all = λ id. rw c.form_end-form_ends.ensures.stays.0 (known.all id);
+      forms = λ id. rw c.form_end-form_ends.ensures.stays.1 (known.forms id ∙ sym (no_form_more before n id c.requires.rule));
+      questions = λ id. rw c.form_end-form_ends.ensures.stays.2 (known.questions id ∙ sym (no_question_more before n id c.requires.rule));
       rules = c.in_ok-add.ensures before kept (c.form_end-form_ends.ensures.end ∙ around.ends) (its_size before n c.in-Some.size told);
       form = c.form_end-form_ends.ensures.known;
     }

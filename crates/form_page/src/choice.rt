@@ -1,0 +1,68 @@
+//! Options as a page shows them.
+
+ghost use Rattle.std.specs.Prelude.{◌≡◌, ◌==◌, ◌&&◌, is_none, option_map};
+ghost use Rattle.ifr_opcodes.specs.Fields.{option_value};
+ghost use Rattle.ifr_scopes.specs.Parts.{option_node};
+ghost use Rattle.guard_policy.specs.Policy.{hidden};
+ghost use Rattle.ifr_scopes.specs.Checked.{IsNodeOf, IsNodeOf-prop};
+ghost use Rattle.ifr_scopes.specs.Lists.{statement_node};
+ghost use Rattle.ifr_scopes.specs.Nodes.{nodes_of};
+ghost use Rattle.hii_languages.specs.Shown.{shown_text};
+ghost use Rattle.hii_languages.specs.Views.{choice_of, text_of};
+ghost use Rattle.guard_policy.specs.Views.{bytes_of};
+ghost use Rattle.form_page.specs.RowValues.{choice};
+
+use crate::page::Page;
+use hii_languages::Shown;
+use hii_questions::StoredItems;
+use ifr_scopes::{OptionView, Statement};
+
+// Whether an option has a value and is not hidden.
+fn is_choice<'a>(page: Page<'a, '_>, option: OptionView<'a>, value: u64) -> bool
+    requires { IsNodeOf (bytes_of page.policy) (option_node option) }
+    ensures { result ≡ ((option_value (option_node option.entry).op == value) && is_none (hidden (nodes_of (bytes_of page.entry.policy)) page.entry.stores.now (option_node option.entry))) }
+{
+    option.op().value() == value && page.policy.option_listed(option, page.stores).is_ok()
+}
+
+/// The text of the first option of a question, by place, that has a value and is not hidden.
+pub(crate) fn option_text<'a>(
+    page: Page<'a, '_>,
+    statement: Statement<'a>,
+    value: u64,
+) -> Option<Shown<'a>>
+    requires { IsNodeOf (bytes_of page.policy) (statement_node statement) }
+    ensures { option_map text_of result ≡ choice (shown_text page.entry.languages.now (choice_of page.entry.choice)) (nodes_of (bytes_of page.entry.policy)) page.entry.stores.now (statement_node statement.entry) value }
+{
+    // The package is accepted: its options are nodes of it.
+    page.policy.forms().bytes();
+    let mut options = statement.options();
+    while let Some(option) = options.next() {
+        if is_choice(page, option, value) {
+            return Some(page.languages.text(page.choice, option.op().text()));
+        }
+    }
+    None
+}
+
+/// The elements of a list that are left, each shown as the text of the option of its value.
+#[derive(Clone, Copy)]
+pub struct Elements<'a, 's> {
+    pub(crate) page: Page<'a, 's>,
+    pub(crate) statement: Statement<'a>,
+    pub(crate) items: StoredItems<'s>,
+    pub ghost together: { IsNodeOf (bytes_of page.policy) (statement_node statement) } by { IsNodeOf-prop (bytes_of page.policy) (statement_node statement) },
+}
+
+impl<'a, 's> Elements<'a, 's> {
+    ghost use Rattle.std.specs.Iterator.{YieldsFirstBy};
+    ghost use Rattle.form_page.specs.Elements.{elements_left};
+
+    /// Takes the first element: its text, unless no option of its value is to be seen.
+    pub(crate) fn step(&mut self) -> Option<Option<Shown<'a>>>
+        ensures { YieldsFirstBy (option_map text_of) elements_left self.old result self.new }
+    {
+        let value = self.items.step()?;
+        Some(option_text(self.page, self.statement, value))
+    }
+}

@@ -1,0 +1,156 @@
+//! What the rows of statements show.
+
+ghost use Rattle.std.specs.Prelude.{◌≡◌, ◌%◌, ℕ, List, length};
+ghost use Rattle.ifr_opcodes.specs.Ops.{bytes_of as op_bytes};
+ghost use Rattle.ifr_expr.specs.Values.{text as text_value};
+ghost use Rattle.ifr_expr.specs.Views.{value_of};
+ghost use Rattle.ifr_scopes.specs.Checked.{IsNodeOf};
+ghost use Rattle.ifr_scopes.specs.Lists.{statement_node};
+ghost use Rattle.ifr_scopes.specs.Nodes.{nodes_of};
+ghost use Rattle.hii_languages.specs.Shown.{shown_text};
+ghost use Rattle.hii_languages.specs.Views.{choice_of};
+ghost use Rattle.guard_policy.specs.Views.{bytes_of};
+ghost use Rattle.form_page.specs.RowValues as values;
+ghost use Rattle.form_page.specs.RowViews.{value_text};
+
+use crate::choice::{Elements, option_text};
+use crate::page::Page;
+use crate::row_value::{Hexadecimal, RowValue};
+use hii_questions::{StoredItems, element_width, read_value, shown};
+use ifr_expr::Value;
+use ifr_opcodes::{Display, NumericOp};
+use ifr_scopes::{Statement, StatementKind};
+use sibt_strings::Units;
+
+fn checkbox_value<'a, 's>(value: Value<'_>) -> RowValue<'a, 's>
+    ensures { value_text result ≡ values.checkbox_shown (value_of value.entry) }
+{
+    match value {
+        Value::Boolean(is_checked) => RowValue::Checkbox(is_checked),
+        _ => RowValue::Empty,
+    }
+}
+
+fn numeric_value<'a, 's>(op: NumericOp<'_>, value: Value<'_>) -> RowValue<'a, 's>
+    ensures { value_text result ≡ values.numeric_shown (op_bytes op.entry.op) (value_of value.entry) }
+{
+    let Value::Number(number) = value else {
+        return RowValue::Empty;
+    };
+    let width = op.width();
+    match op.display() {
+        Display::Signed => RowValue::Signed(shown(true, width, number)),
+        Display::Unsigned => RowValue::Unsigned(number),
+        Display::Hexadecimal => RowValue::Hexadecimal(Hexadecimal { number, width }),
+    }
+}
+
+fn one_of_value<'a, 's>(
+    page: Page<'a, 's>,
+    statement: Statement<'a>,
+    value: Value<'_>,
+) -> RowValue<'a, 's>
+    requires { IsNodeOf (bytes_of page.policy) (statement_node statement) }
+    ensures { value_text result ≡ values.one_of_shown (shown_text page.entry.languages.now (choice_of page.entry.choice)) (nodes_of (bytes_of page.entry.policy)) page.entry.stores.now (statement_node statement.entry) (value_of value.entry) }
+{
+    match value {
+        Value::Number(number) => RowValue::OneOf(option_text(page, statement, number)),
+        _ => RowValue::Empty,
+    }
+}
+
+fn list_value<'a, 's>(
+    page: Page<'a, 's>,
+    statement: Statement<'a>,
+    value: Value<'s>,
+) -> RowValue<'a, 's>
+    requires { IsNodeOf (bytes_of page.policy) (statement_node statement) }
+    ensures { value_text result ≡ values.list_shown (shown_text page.entry.languages.now (choice_of page.entry.choice)) (nodes_of (bytes_of page.entry.policy)) page.entry.stores.now (statement_node statement.entry) (value_of value.entry) }
+{
+    let Value::Buffer(bytes) = value else {
+        return RowValue::Empty;
+    };
+    RowValue::OrderedList(Elements {
+        page,
+        statement,
+        items: StoredItems::new(bytes, element_width(statement)),
+    })
+}
+
+fn string_value<'a, 's>(value: Value<'s>) -> RowValue<'a, 's>
+    requires { (units : List ℕ) → value_of value ≡ text_value units → length units % 2 ≡ 0 }
+    ensures { value_text result ≡ values.string_shown (value_of value.entry) }
+{
+    match value {
+        Value::Text(units) => RowValue::String(Units::new(units)),
+        _ => RowValue::Empty,
+    }
+}
+
+fn password_value<'a, 's>(value: Value<'_>) -> RowValue<'a, 's>
+    ensures { value_text result ≡ values.password_shown (value_of value.entry) }
+{
+    match value {
+        Value::Text(units) => RowValue::Password(!units.is_empty()),
+        _ => RowValue::Empty,
+    }
+}
+
+// What is shown of the value of a question.
+fn stored_value<'a, 's>(
+    page: Page<'a, 's>,
+    statement: Statement<'a>,
+    value: Value<'s>,
+) -> RowValue<'a, 's>
+    requires node { IsNodeOf (bytes_of page.policy) (statement_node statement) }
+    requires whole { (units : List ℕ) → value_of value ≡ text_value units → length units % 2 ≡ 0 }
+    ensures { value_text result ≡ values.stored_shown (shown_text page.entry.languages.now (choice_of page.entry.choice)) (nodes_of (bytes_of page.entry.policy)) page.entry.stores.now (statement_node statement.entry) (value_of value.entry) }
+{
+    let kind = statement.kind();
+    if let StatementKind::Checkbox(_) = kind {
+        return checkbox_value(value);
+    }
+    if let StatementKind::Numeric(op) = kind {
+        return numeric_value(op, value);
+    }
+    if let StatementKind::OneOf(_) = kind {
+        return one_of_value(page, statement, value);
+    }
+    if let StatementKind::String(_) = kind {
+        return string_value(value);
+    }
+    if let StatementKind::Password(_) = kind {
+        return password_value(value);
+    }
+    if let StatementKind::OrderedList(_) = kind {
+        return list_value(page, statement, value);
+    }
+    RowValue::Empty
+}
+
+// The same for a statement, of which only a question has a value.
+fn question_value<'a, 's>(page: Page<'a, 's>, statement: Statement<'a>) -> RowValue<'a, 's>
+    requires { IsNodeOf (bytes_of page.policy) (statement_node statement) }
+    ensures { value_text result ≡ values.question_shown (shown_text page.entry.languages.now (choice_of page.entry.choice)) (nodes_of (bytes_of page.entry.policy)) page.entry.stores.now (statement_node statement.entry) }
+{
+    match page.policy.question(statement) {
+        Some(question) => stored_value(page, statement, read_value(question, page.stores)),
+        None => RowValue::Empty,
+    }
+}
+
+/// What the row of a statement shows between its brackets.
+pub(crate) fn statement_value<'a, 's>(
+    page: Page<'a, 's>,
+    statement: Statement<'a>,
+) -> RowValue<'a, 's>
+    requires { IsNodeOf (bytes_of page.policy) (statement_node statement) }
+    ensures { value_text result ≡ values.value_shown (shown_text page.entry.languages.now (choice_of page.entry.choice)) (nodes_of (bytes_of page.entry.policy)) page.entry.stores.now (statement_node statement.entry) }
+{
+    match statement.kind() {
+        StatementKind::Text(op) => RowValue::Text(page.languages.text(page.choice, op.second())),
+        StatementKind::ResetButton(_) => RowValue::ResetButton,
+        StatementKind::Ref(op) => RowValue::Reference(op.target()),
+        _ => question_value(page, statement),
+    }
+}

@@ -1,0 +1,8 @@
+use Rattle.std.proofs.Common.{◌∙◌}
+use Rattle.guard_policy.proofs.QuestionLemmas.{question_there}
+use Rattle.guard_policy.proofs.policy.Policy.question.Goals as goal
+
+pub returns : goal.returns
+returns c =
+    let forms = c.args.self.now.forms.now in
+    c.at.ensures ∙ rw (c.args.self.now.together, c.place.ensures) (question_there forms _ c.bytes.ensures.accepted.checked.spelled c.requires)

@@ -1,0 +1,69 @@
+-- Elements one after the other.
+use Rattle.std.proofs.Common.{◌≡◌, ◌==◌, ℕ, zero, suc, ◌+◌, ◌-◌, ◌<◌, ◌≤◌, Bool, true, false, cond, Option, Some, None, List, [], ◌∷◌, ◌++◌, length, take, sym, ap, ◌∙◌, arith, refl, length-append, append_assoc, add-one}
+use Rattle.std.proofs.Common.{◌&&◌, ◌*◌, leb, ltb, inl, inr, Ok}
+use Rattle.std.proofs.Math.Nat.{mul-le-mul_right}
+use Rattle.std.proofs.lemmas.Bool.{cases_Bool, ne_eqb, leb-true, le-ltb}
+use Rattle.byteorder.specs.Endian.{little_bytes}
+use Rattle.byteorder.specs.Numbers.{length-bytes_low_first}
+use Rattle.hii_questions.specs.Inputs.{is_offered, element_denial, list_denial, bytes_unless, list_bytes, text_bytes}
+use Rattle.hii_questions.specs.Items.{spelled, filled}
+use Rattle.hii_questions.specs.declared.denial.DenialKind.{DenialKind}
+use Rattle.std.proofs.lemmas.List.{take_at}
+use Rattle.std.specs.List.{list_any}
+
+-- what is among the first of some items, and not the very first
+pub among_more : (wanted left item : ℕ) (items rest : List ℕ) → items ≡ item ∷ rest → (left ≡ 0 → ⊥) → (item ≡ wanted → ⊥)
+    → list_any (λ x. x == wanted) (take (left - 1) rest) ≡ list_any (λ x. x == wanted) (take left items)
+among_more wanted zero item items rest is some other = absurd (some refl)
+among_more wanted (suc n) item items rest is some other =
+    let less : suc n - 1 ≡ n = omega arith in
+    let first = ne_eqb item wanted other in
+    rw (is, less, first) refl
+
+-- one more item before the others
+pub before_more : (count item : ℕ) (all items rest : List ℕ) → take count all ++ items ≡ all → items ≡ item ∷ rest → count + length items ≡ length all
+    → take (count + 1) all ≡ take count all ++ item ∷ []
+before_more count item all items rest whole is counted =
+    let e : (take count all ++ item ∷ []) ++ rest ≡ all = append_assoc (take count all) (item ∷ []) rest ∙ ap (λ (l : List ℕ). take count all ++ l) (sym is) ∙ whole in
+    let lengths = ap (length {A = ℕ}) whole in
+    let sum = length-append (take count all) items in
+    let sized : length (take count all ++ item ∷ []) ≡ count + 1 = length-append (take count all) (item ∷ []) ∙ omega (arith, lengths, sum, counted) in
+    ap (take (count + 1)) (sym e) ∙ take_at (take count all ++ item ∷ []) rest (count + 1) sized
+
+-- an element that is fine, and stands before others
+pub element_more : (values : List ℕ) (unique : Bool) (before : List ℕ) (item : ℕ) (rest : List ℕ) → (item ≡ 0 → ⊥) → is_offered values item ≡ true
+    → unique && list_any (λ earlier. earlier == item) before ≡ false
+    → element_denial values unique before (item ∷ rest) ≡ element_denial values unique (before ++ item ∷ []) rest
+element_more values unique before item rest some has new =
+    let is = ne_eqb item 0 some in
+    rw (is, has, new) refl
+
+pub length_spelled : (width : ℕ) (items : List ℕ) → length (spelled width items) ≡ length items * width
+length_spelled width [] = omega arith
+length_spelled width (n ∷ items) =
+    let rest = length_spelled width items in
+    let one = length-bytes_low_first 0 width n in
+    length-append (little_bytes width n) (spelled width items) ∙ omega (arith, rest, one)
+
+-- units that are not too few, and counted up to the most
+pub units_fit : (minimum maximum count : ℕ) (us : List ℕ) → Some count ≡ cond (leb (length us) maximum) (Some (length us)) None → minimum ≤ count
+    → (text_bytes minimum maximum us ≡ Ok (filled (2 * maximum) (spelled 2 us))) × (length (spelled 2 us) ≤ 2 * maximum)
+units_fit minimum maximum count us counted few = elim (cases_Bool (leb (length us) maximum)) [
+  | inl within ↦
+      let told : Some count ≡ Some (length us) = rw within at counted in
+      let is : count ≡ length us = cc in
+      let most : length us ≤ maximum = leb-true (length us) maximum within in
+      let low : ltb (length us) minimum ≡ false = le-ltb (length us) minimum (omega arith) in
+      let high : ltb maximum (length us) ≡ false = le-ltb maximum (length us) most in
+      let sized = length_spelled 2 us in
+      (rw (low, high) refl, omega arith)
+  | inr past ↦ let told = rw past at counted in absurd (cc)
+]
+
+-- elements that an ordered list takes
+pub elements_fit : (width most : ℕ) (unique some : Bool) (values ns : List ℕ) → list_denial most unique some values ns ≡ None → length ns ≤ most
+    → (list_bytes width most unique some values ns ≡ Ok (filled (most * width) (spelled width ns))) × (length (spelled width ns) ≤ most * width)
+elements_fit width most unique some values ns none few =
+    let sized = length_spelled width ns in
+    let wide : length ns * width ≤ most * width = mul-le-mul_right width few in
+    (ap (λ (d : Option DenialKind). bytes_unless d (filled (most * width) (spelled width ns))) none, omega arith)

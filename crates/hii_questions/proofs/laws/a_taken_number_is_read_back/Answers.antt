@@ -1,5 +1,0 @@
-use Rattle.hii_questions.proofs.LawLemmas.{reads_back}
-use Rattle.hii_questions.proofs.laws.a_taken_number_is_read_back.Goals as goal
-
-pub returns : goal.returns
-returns c = reads_back

@@ -1,0 +1,18 @@
+-- What a question takes as its value (own rule).
+use Rattle.std.specs.Prelude.{ℕ, Option, Some, None, Result, Ok, Err, List}
+use Rattle.ifr_opcodes.specs.Forest.{Placed}
+use Rattle.hii_questions.specs.FieldTypes.{FieldType}
+use Rattle.hii_questions.specs.Fields.{Field, field_of}
+use Rattle.hii_questions.specs.Inputs.{Offer, read_as, fits_type}
+use Rattle.hii_questions.specs.Types.{type_of}
+use Rattle.hii_questions.specs.declared.denial.DenialKind.{DenialKind}
+use Rattle.hii_questions.specs.declared.denial.DenialKind.TheVariants.{Kind}
+
+-- A question without a field takes nothing.
+abbrev pub fits_field : Option FieldType → Option Field → Offer → Result (List ℕ) DenialKind
+fits_field (Some t) (Some field) offer = fits_type t (read_as t offer)
+fits_field _ _ offer = Err Kind
+
+-- the new bytes of the whole field of a question among all nodes, or why there are none
+abbrev pub fits : List Placed → Placed → Offer → Result (List ℕ) DenialKind
+fits ns n offer = fits_field (type_of n) (field_of ns n) offer

@@ -1,0 +1,28 @@
+-- The questions of a package as they are kept.
+use Rattle.std.specs.Prelude.{◌≡◌, ℕ, ◌==◌, Option, option_map, List, map}
+use Rattle.std.specs.List.{find}
+use Rattle.std.specs.BTreeMap.{BTreeMap, get}
+use Rattle.std.specs.Ordering.{nat_cmp}
+use Rattle.ifr_opcodes.specs.Fields.{question_id}
+use Rattle.ifr_scopes.specs.Nodes.{nodes_of}
+use Rattle.hii_questions.specs.Fields.{Asked, questions}
+use Rattle.hii_questions.specs.Views.{question_view}
+use Rattle.hii_questions.specs.declared.question.Question.{Question}
+
+-- the first of some questions that has a number
+abbrev pub first_by : (Asked → ℕ) → List Asked → ℕ → Option Asked
+first_by by qs n = find (λ q. by q == n) qs
+
+-- the first of some questions with an id
+abbrev pub first_with : List Asked → ℕ → Option Asked
+first_with qs id = first_by (λ q. question_id q.node.op) qs id
+
+-- the first of some questions at a place
+abbrev pub first_at : List Asked → ℕ → Option Asked
+first_at qs place = first_by (λ q. q.node.place) qs place
+
+-- These are the questions of a package by place, the first of each id and the first at each place.
+pub record AreQuestions (ifr : List ℕ) (by_place : List Question) (by_id at : BTreeMap ℕ Question) : Type 0 where
+  pub placed : map question_view by_place ≡ questions (nodes_of ifr)
+  pub found : (id : ℕ) → option_map question_view (get nat_cmp by_id id) ≡ first_with (questions (nodes_of ifr)) id
+  pub stands : (place : ℕ) → option_map question_view (get nat_cmp at place) ≡ first_at (questions (nodes_of ifr)) place

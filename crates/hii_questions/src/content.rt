@@ -1,0 +1,41 @@
+//! The bytes of a field.
+
+ghost use Rattle.std.specs.Prelude.{◌≡◌, ◌+◌, ◌≤◌, ◌++◌, true, length, take};
+ghost use Rattle.byteorder.specs.Endian.{little_bytes};
+ghost use Rattle.hii_questions.specs.Items.{is_width, filled};
+
+use crate::items::Items;
+
+/// What a field is to hold: items of `width` bytes each, and zeros behind them.
+#[derive(Clone, Copy, Debug)]
+pub(crate) struct Content<'i> {
+    pub(crate) items: Items<'i>,
+    pub(crate) width: usize,
+    pub(crate) ghost wide: { is_width width ≡ true },
+}
+
+impl<'i> Content<'i> {
+    ghost use Rattle.hii_questions.specs.Contents.{content_bytes};
+
+    /// Writes it over all of some bytes.
+    pub(crate) fn write(self, into: &mut [u8])
+        requires { length (content_bytes self) ≤ length into.old }
+        ensures { into.new ≡ filled (length into.old) (content_bytes self.entry) }
+    {
+        let mut end = 0;
+        for item in self.items {
+            write_item(into, end, item, self.width);
+            end += self.width;
+        }
+        into[end..].fill(0);
+    }
+}
+
+// Writes a number of `width` bytes at an offset.
+fn write_item(into: &mut [u8], at: usize, item: u64, width: usize)
+    requires wide { width ≤ 8 }
+    requires within { at + width ≤ length into.old }
+    ensures { take (at + width) into.new ≡ take at into.old ++ little_bytes width item }
+{
+    into[at..at + width].copy_from_slice(&item.to_le_bytes()[..width]);
+}

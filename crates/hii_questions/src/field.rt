@@ -1,0 +1,36 @@
+//! New bytes for fields.
+
+ghost use Rattle.std.specs.Prelude.{◌≡◌, ◌≤◌, length};
+ghost use Rattle.hii_varstore.specs.Layout.{HasRange};
+ghost use Rattle.hii_varstore.specs.Stores.{shape_of, with_bytes};
+ghost use Rattle.hii_questions.specs.Contents.{content_bytes};
+
+use crate::content::Content;
+use hii_varstore::Stores;
+
+/// New bytes for the field of a question (UEFI 2.8, 33.2.5.6 Storage).
+#[derive(Clone, Copy, Debug)]
+pub struct Field<'i> {
+    /// The id of the store.
+    pub store: u16,
+    /// The offset of the field in the store, in bytes.
+    pub offset: u16,
+    /// How many bytes the field has.
+    pub width: usize,
+    pub(crate) content: Content<'i>,
+    pub ghost fits: { length (content_bytes content) ≤ width },
+}
+
+impl<'i> Field<'i> {
+    ghost use Rattle.hii_questions.specs.NewBytes.{new_bytes};
+
+    /// Writes the new bytes into the store.
+    pub fn put(self, stores: &mut Stores)
+        requires { HasRange (shape_of stores.old) self.store self.offset self.width }
+        ensures written { stores.new ≡ with_bytes stores.old self.entry.store self.entry.offset (new_bytes self.entry) }
+        ensures shape { shape_of stores.new ≡ shape_of stores.old }
+    {
+        let bytes = stores.field_mut(self.store, usize::from(self.offset), self.width);
+        self.content.write(bytes);
+    }
+}

@@ -1,0 +1,116 @@
+//! What the fields of questions hold.
+
+ghost use Rattle.std.specs.Prelude.{◌≡◌, true};
+ghost use Rattle.hii_questions.specs.Items.{is_width};
+
+use crate::choices::Choices;
+use crate::elements::element_width;
+use ifr_opcodes::Display;
+use ifr_scopes::{Statement, StatementKind};
+
+/// A number of `width` bytes, signed or not, within bounds (UEFI 2.8, 33.3.8.3, EFI_IFR_NUMERIC).
+#[derive(Clone, Copy, Debug)]
+pub(crate) struct NumericType {
+    pub(crate) signed: bool,
+    pub(crate) width: usize,
+    pub(crate) minimum: u64,
+    pub(crate) maximum: u64,
+    pub(crate) ghost wide: { is_width width ≡ true },
+}
+
+/// A number of `width` bytes, the value of an option (UEFI 2.8, 33.3.8.3, EFI_IFR_ONE_OF).
+#[derive(Clone, Copy, Debug)]
+pub(crate) struct OneOfType<'a> {
+    pub(crate) width: usize,
+    pub(crate) choices: Choices<'a>,
+    pub(crate) ghost wide: { is_width width ≡ true },
+}
+
+/// From `minimum` to `maximum` characters (UEFI 2.8, 33.3.8.3, EFI_IFR_STRING and EFI_IFR_PASSWORD).
+#[derive(Clone, Copy, Debug)]
+pub(crate) struct TextType {
+    pub(crate) minimum: u16,
+    pub(crate) maximum: u16,
+}
+
+/// At most `most` values of options, of `width` bytes each (UEFI 2.8, 33.3.8.3, EFI_IFR_ORDERED_LIST).
+#[derive(Clone, Copy, Debug)]
+pub(crate) struct ListType<'a> {
+    pub(crate) width: usize,
+    pub(crate) most: u8,
+    /// None may come twice.
+    pub(crate) unique: bool,
+    /// One must be there.
+    pub(crate) some: bool,
+    pub(crate) choices: Choices<'a>,
+    pub(crate) ghost wide: { is_width width ≡ true },
+}
+
+/// What a field holds.
+#[derive(Clone, Copy, Debug)]
+pub(crate) enum FieldType<'a> {
+    Checkbox,
+    Numeric(NumericType),
+    OneOf(OneOfType<'a>),
+    Text(TextType),
+    OrderedList(ListType<'a>),
+}
+
+impl<'a> FieldType<'a> {
+    ghost use Rattle.std.specs.Prelude.{option_map};
+    ghost use Rattle.ifr_scopes.specs.Lists.{statement_node};
+    ghost use Rattle.hii_questions.specs.FieldTypes.{size_of_type};
+    ghost use Rattle.hii_questions.specs.TypeViews.{type_in};
+    ghost use Rattle.hii_questions.specs.Types.{type_of};
+
+    /// What the field of a statement holds, if it is a question that may have one.
+    pub(crate) fn of(statement: Statement<'a>) -> Option<FieldType<'a>>
+        ensures { option_map type_in result ≡ type_of (statement_node statement.entry) }
+    {
+        let choices = Choices {
+            question: statement,
+        };
+        match statement.kind() {
+            StatementKind::Checkbox(_) => Some(FieldType::Checkbox),
+            StatementKind::Numeric(numeric) => Some(FieldType::Numeric(NumericType {
+                signed: matches!(numeric.display(), Display::Signed),
+                width: numeric.width(),
+                minimum: numeric.minimum(),
+                maximum: numeric.maximum(),
+            })),
+            StatementKind::OneOf(one_of) => Some(FieldType::OneOf(OneOfType {
+                width: one_of.width(),
+                choices,
+            })),
+            StatementKind::String(text) => Some(FieldType::Text(TextType {
+                minimum: u16::from(text.minimum()),
+                maximum: u16::from(text.maximum()),
+            })),
+            StatementKind::Password(text) => Some(FieldType::Text(TextType {
+                minimum: text.minimum(),
+                maximum: text.maximum(),
+            })),
+            StatementKind::OrderedList(list) => Some(FieldType::OrderedList(ListType {
+                width: element_width(statement),
+                most: list.max_containers(),
+                unique: list.is_unique_set(),
+                some: list.has_no_empty_set(),
+                choices,
+            })),
+            _ => None,
+        }
+    }
+
+    /// How many bytes the field has.
+    pub(crate) fn size(self) -> usize
+        ensures { result ≡ size_of_type (type_in self.entry) }
+    {
+        match self {
+            FieldType::Checkbox => 1,
+            FieldType::Numeric(numeric) => numeric.width,
+            FieldType::OneOf(one_of) => one_of.width,
+            FieldType::Text(text) => 2 * usize::from(text.maximum),
+            FieldType::OrderedList(list) => usize::from(list.most) * list.width,
+        }
+    }
+}

@@ -1,0 +1,62 @@
+//! Lists of values of options.
+
+ghost use Rattle.std.specs.Prelude.{◌≡◌, ◌≤◌, ◌==◌, [], OnOk, length, take};
+ghost use Rattle.std.specs.List.{list_any};
+ghost use Rattle.hii_questions.specs.ChoiceViews.{choice_values};
+ghost use Rattle.hii_questions.specs.Fitting.{Tells};
+ghost use Rattle.hii_questions.specs.Inputs.{list_denial, element_denial};
+ghost use Rattle.hii_questions.specs.ItemsLeft.{items_left};
+
+use crate::denial::DenialKind;
+use crate::field_type::ListType;
+use crate::items::Items;
+use crate::texts::count_within;
+
+/// Refuses a list that an ordered list does not take.
+pub(crate) fn check_list(list: ListType<'_>, items: Items<'_>) -> Result<(), DenialKind>
+    ensures told { Tells (list_denial list.entry.most list.entry.unique list.entry.some (choice_values list.entry.choices) (items_left items.entry)) result }
+    ensures few { OnOk result (length (items_left items.entry) ≤ list.entry.most) }
+{
+    let Some(count) = count_within(items, u16::from(list.most)) else {
+        return Err(DenialKind::Length);
+    };
+    if list.some && count == 0 {
+        return Err(DenialKind::EmptySet);
+    }
+    check_elements(list, items)
+}
+
+// Refuses an element that no option has, or that stands before itself in a list that is a set.
+fn check_elements(list: ListType<'_>, items: Items<'_>) -> Result<(), DenialKind>
+    requires { length (items_left items) ≤ 65535 }
+    ensures { Tells (element_denial (choice_values list.entry.choices) list.entry.unique [] (items_left items.entry)) result }
+{
+    let mut count = 0;
+    for item in items {
+        if item == 0 || !list.choices.offer(item) {
+            return Err(DenialKind::NoOption);
+        }
+        if list.unique && stands_before(items, count, item) {
+            return Err(DenialKind::Repeat);
+        }
+        count += 1;
+    }
+    Ok(())
+}
+
+// Whether one of the first `count` items is this one.
+fn stands_before(items: Items<'_>, count: u16, wanted: u64) -> bool
+    ensures { result ≡ list_any (λ item. item == wanted) (take count (items_left items.entry)) }
+{
+    let mut left = count;
+    for item in items {
+        if left == 0 {
+            return false;
+        }
+        if item == wanted {
+            return true;
+        }
+        left -= 1;
+    }
+    false
+}

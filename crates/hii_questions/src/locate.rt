@@ -1,0 +1,37 @@
+//! Where fields lie.
+
+ghost use Rattle.std.specs.Prelude.{◌≡◌, option_map};
+ghost use Rattle.ifr_opcodes.specs.Forest.{mark};
+ghost use Rattle.ifr_opcodes.specs.Ops.{op_of};
+ghost use Rattle.ifr_scopes.specs.Lists.{statement_node};
+ghost use Rattle.hii_questions.specs.Fields.{field_at};
+ghost use Rattle.hii_questions.specs.Ranges.{range_in, HasWidth};
+
+use crate::field_range::FieldRange;
+use crate::field_type::FieldType;
+use hii_varstore::Layout;
+use ifr_opcodes::QuestionOp;
+use ifr_scopes::Statement;
+
+/// The field of a question in the stores of a layout.
+pub(crate) fn field_in(
+    statement: Statement<'_>,
+    op: QuestionOp<'_>,
+    layout: &Layout<'_>,
+) -> Option<FieldRange>
+    requires { op_of op.op ≡ mark (statement_node statement) }
+    ensures found { option_map range_in result ≡ field_at layout.now (statement_node statement.entry) }
+    ensures wide { HasWidth (statement_node statement.entry) result }
+{
+    let store = op.store();
+    if store == 0 {
+        return None;
+    }
+    layout.size(store)?;
+    let field_type = FieldType::of(statement)?;
+    Some(FieldRange {
+        store,
+        offset: op.offset(),
+        width: field_type.size(),
+    })
+}

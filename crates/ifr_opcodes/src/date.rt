@@ -1,0 +1,46 @@
+//! Questions for a date.
+
+ghost use Rattle.std.specs.Prelude.{◌≡◌, ◌≤◌, length};
+ghost use Rattle.ifr_opcodes.specs.declared.codes.TheConstants.{DATE};
+ghost use Rattle.ifr_opcodes.specs.Ops.{bytes_of, op_of};
+
+use crate::codes::DATE;
+use crate::op::Op;
+use crate::questions::QuestionOp;
+use hii_bytes::Fault;
+
+/// A question for a date (UEFI 2.8, 33.3.8.3, EFI_IFR_DATE).
+#[derive(Clone, Copy, Debug)]
+pub struct DateOp<'a> {
+    pub op: Op<'a>,
+    pub ghost coded: { op.code ≡ DATE },
+    pub ghost sized: { 14 ≤ length (bytes_of op) },
+}
+
+impl<'a> DateOp<'a> {
+    ghost use Rattle.ifr_opcodes.specs.Fields.{date_flags};
+    ghost use Rattle.ifr_opcodes.specs.Rows.{is_row};
+    ghost use Rattle.ifr_opcodes.specs.Views.{Reads};
+
+    /// Another opcode is refused by OpOutside, one of less than 14 bytes by OpSize, each at its place.
+    pub fn read(op: Op<'a>) -> Result<DateOp<'a>, Fault>
+        ensures { Reads (is_row DATE) (λ view. view.op) op.entry result }
+    {
+        op.check_row(DATE)?;
+        Ok(DateOp { op })
+    }
+
+    /// What it has as a question.
+    pub fn question(self) -> QuestionOp<'a>
+        ensures { op_of result.op ≡ op_of self.entry.op }
+    {
+        QuestionOp { op: self.op }
+    }
+
+    /// Its flags.
+    pub fn flags(self) -> u8
+        ensures { result ≡ date_flags (bytes_of self.entry.op) }
+    {
+        self.op.u8_at(13)
+    }
+}

@@ -1,0 +1,100 @@
+-- What stands in the scope of a question of a checked package: no statement, and the question is the innermost around it.
+use Rattle.std.proofs.Common.{◌≡◌, ◌⊎◌, ℕ, zero, suc, ◌+◌, ◌≤◌, Bool, true, false, cond, eqb, Option, Some, None, List, [], ◌∷◌, ◌++◌, append_assoc, length, refl, sym, ap, ◌∙◌, subst, arith, inl, inr, length-append}
+use Rattle.std.specs.Prelude.{Contains, ◌&&◌, ◌||◌, ◌==◌, not, filter}
+use Rattle.std.specs.List.{last_or, AllByRecursion}
+use Rattle.std.proofs.lemmas.Bool.{cases_Bool, eqb-true, eq-eqb, ne_eqb, false≢true, true≢false}
+use Rattle.std.proofs.lemmas.List.{append-nil}
+use Rattle.std.proofs.lemmas.List.Elements.{filter-append}
+use Rattle.ifr_opcodes.specs.declared.codes.TheConstants.{VALUE, FORM_SET}
+use Rattle.ifr_opcodes.specs.Fields.{question_id}
+use Rattle.ifr_opcodes.specs.Opcode.{number}
+use Rattle.ifr_opcodes.specs.Operators.{is_among, is_operator}
+use Rattle.ifr_opcodes.specs.Forest.{Ancestor, Placed, as_ancestor}
+use Rattle.ifr_scopes.specs.Checked.{IsChecked}
+use Rattle.ifr_scopes.specs.Guards.{is_guard}
+use Rattle.ifr_scopes.specs.Kinds.{is_question_number, is_statement_number}
+use Rattle.ifr_scopes.specs.Nodes.{nodes_of, is_question, is_statement, questions_among, id_or_0, this_among, this_of}
+use Rattle.ifr_scopes.specs.Structure.{parent, is_condition, begins_with_value, is_wanted, is_root}
+use Rattle.ifr_scopes.specs.Table.{row, class_of, class_around, admits}
+use Rattle.ifr_scopes.specs.declared.table.Class.{Class}
+use Rattle.ifr_scopes.specs.declared.table.Class.TheVariants.{OfNothing}
+use Rattle.ifr_scopes.proofs.RuleFacts.{IsAround, around_it, class-guard, class-other, is_operator_there, is_value_there, no_root, held}
+use Rattle.ifr_scopes.proofs.TableLemmas.{is_inner, outer, inner_is_not_outer, guarded_inner, other_is_inner, question_is_inner, no_statement, operator_is_inner, value_is_inner, question_is_statement, no_guard}
+
+-- what begins a scope is no statement, nor does one stand in its own
+wanted_is_inner : (bytes : List ℕ) (n : Placed) → IsChecked bytes → Contains (nodes_of bytes) n → is_wanted n ≡ true → is_among (number n.op) outer ≡ false
+wanted_is_inner bytes n checked within is = elim (cases_Bool (is_condition n)) [
+  | inl condition ↦ operator_is_inner (number n.op) (is_operator_there bytes n checked within condition)
+  | inr other ↦
+      let value : begins_with_value n.place (parent n) ≡ true = ap (λ (b : Bool). b || begins_with_value n.place (parent n)) (sym other) ∙ is in
+      ap (λ (k : ℕ). is_among k outer) (is_value_there bytes n checked within value) ∙ value_is_inner
+]
+
+-- a node in such a scope is no statement, nor what one stands in
+node_is_inner : (bytes : List ℕ) (n : Placed) → IsChecked bytes → Contains (nodes_of bytes) n → is_root n ≡ false → is_inner (class_around OfNothing n.path) ≡ true → is_among (number n.op) outer ≡ false
+node_is_inner bytes n checked within root inner = elim (cases_Bool (is_wanted n)) [
+  | inl is ↦ wanted_is_inner bytes n checked within is
+  | inr other ↦ inner_is_not_outer (class_around OfNothing n.path) (number n.op) inner (held bytes n checked within other root)
+]
+
+some_root : (n : Placed) (before after : List Ancestor) (a : Ancestor) → n.path ≡ before ++ a ∷ after → is_root n ≡ false
+some_root n before after a e = ne_eqb (length n.path) 0 (λ z. omega (arith, z, ap (λ (l : List Ancestor). length l) e, length-append before (a ∷ after)))
+
+last_of : (xs ys : List Ancestor) (x y : Ancestor) → xs ++ x ∷ [] ≡ ys ++ y ∷ [] → (xs ≡ ys) × (x ≡ y)
+last_of [] [] x y e = (refl, cc)
+last_of [] (z ∷ ys) x y e = absurd (omega (arith, ap (λ (l : List Ancestor). length l) e, length-append ys (y ∷ [])))
+last_of (z ∷ xs) [] x y e = absurd (omega (arith, ap (λ (l : List Ancestor). length l) e, length-append xs (x ∷ [])))
+last_of (z ∷ xs) (w ∷ ys) x y e =
+    let tails : xs ++ x ∷ [] ≡ ys ++ y ∷ [] = cc e in
+    let heads : z ≡ w = cc e in
+    let inner = last_of xs ys x y tails in
+    (ap (λ (l : List Ancestor). z ∷ l) inner.0 ∙ ap (λ (b : Ancestor). b ∷ ys) heads, inner.1)
+
+split_end : (path : List Ancestor) → (path ≡ []) ⊎ ((before : List Ancestor) × (a : Ancestor) × (path ≡ before ++ a ∷ []))
+split_end [] = inl refl
+split_end (b ∷ path) = elim (split_end path) [
+  | inl bare ↦ inr ([], b, ap (λ (l : List Ancestor). b ∷ l) bare)
+  | inr (before, a, e) ↦ inr (b ∷ before, a, ap (λ (l : List Ancestor). b ∷ l) e)
+]
+
+question_no_guard : (code : ℕ) → is_question_number code ≡ true → is_guard code ≡ false
+question_no_guard code asks = no_guard code (question_is_statement code asks)
+
+-- right inside of a question's
+outermost_class : (q n : Placed) (inside : List Ancestor) → is_question q ≡ true → n.path ≡ q.path ++ as_ancestor q ∷ inside → inside ≡ [] → is_inner (class_around OfNothing n.path) ≡ true
+outermost_class q n inside is e bare =
+    let path : n.path ≡ q.path ++ as_ancestor q ∷ [] = e ∙ ap (λ (l : List Ancestor). q.path ++ as_ancestor q ∷ l) bare in
+    ap (λ (l : List Ancestor). is_inner (class_around OfNothing l)) path ∙ ap is_inner (class-other OfNothing q.path (as_ancestor q) (question_no_guard (number q.op) is)) ∙ question_is_inner (number q.op) is
+
+-- in the scope of a node that is in such a scope
+deeper_class : (bytes : List ℕ) (n m : Placed) → IsChecked bytes → Contains (nodes_of bytes) m → n.path ≡ m.path ++ as_ancestor m ∷ [] → is_root m ≡ false → is_inner (class_around OfNothing m.path) ≡ true → is_inner (class_around OfNothing n.path) ≡ true
+deeper_class bytes n m checked within path root around = elim (cases_Bool (is_guard (number m.op))) [
+  | inl guards ↦ ap (λ (l : List Ancestor). is_inner (class_around OfNothing l)) path ∙ ap is_inner (class-guard OfNothing m.path (as_ancestor m) guards) ∙ guarded_inner (class_around OfNothing m.path) around
+  | inr other ↦ ap (λ (l : List Ancestor). is_inner (class_around OfNothing l)) path ∙ ap is_inner (class-other OfNothing m.path (as_ancestor m) other) ∙ other_is_inner (number m.op) (node_is_inner bytes m checked within root around)
+]
+
+-- the scopes inside of a question's are such scopes
+pub inner_class : (bytes : List ℕ) (k : ℕ) (q n : Placed) (inside : List Ancestor) → IsChecked bytes → Contains (nodes_of bytes) n → is_question q ≡ true → length inside ≤ k
+    → n.path ≡ q.path ++ as_ancestor q ∷ inside → is_inner (class_around OfNothing n.path) ≡ true
+inner_class bytes zero q n inside checked within is le e = elim (split_end inside) [
+  | inl bare ↦ outermost_class q n inside is e bare
+  | inr (before, a, last) ↦ absurd (omega (arith, le, ap (λ (l : List Ancestor). length l) last, length-append before (a ∷ [])))
+]
+inner_class bytes (suc k) q n inside checked within is le e = elim (split_end inside) [
+  | inl bare ↦ outermost_class q n inside is e bare
+  | inr (before, a, last) ↦ elim (around_it bytes n checked within) [
+    | inl bare ↦ absurd (omega (arith, ap (λ (l : List Ancestor). length l) (sym e ∙ bare), length-append q.path (as_ancestor q ∷ inside)))
+    | inr r ↦
+        let m = r.outer in
+        let whole : n.path ≡ (q.path ++ as_ancestor q ∷ before) ++ a ∷ [] = e ∙ ap (λ (l : List Ancestor). q.path ++ as_ancestor q ∷ l) last ∙ sym (append_assoc q.path (as_ancestor q ∷ before) (a ∷ [])) in
+        let same = last_of (q.path ++ as_ancestor q ∷ before) m.path a (as_ancestor m) (sym whole ∙ r.path) in
+        let shorter : length before ≤ k = omega (arith, le, ap (λ (l : List Ancestor). length l) last, length-append before (a ∷ [])) in
+        let around : is_inner (class_around OfNothing m.path) ≡ true = inner_class bytes k q m before checked r.within is shorter (sym same.0) in
+        deeper_class bytes n m checked r.within r.path (some_root m q.path before (as_ancestor q) (sym same.0)) around
+  ]
+]
+
+-- no statement stands in the scope of a question
+pub no_statement_inside : (bytes : List ℕ) (q n : Placed) (inside : List Ancestor) → IsChecked bytes → Contains (nodes_of bytes) n → is_question q ≡ true → n.path ≡ q.path ++ as_ancestor q ∷ inside → is_statement n ≡ false
+no_statement_inside bytes q n inside checked within is e =
+    no_statement (number n.op) (node_is_inner bytes n checked within (some_root n q.path inside (as_ancestor q) e) (inner_class bytes (length inside) q n inside checked within is (omega arith) e))

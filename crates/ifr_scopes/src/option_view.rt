@@ -1,0 +1,71 @@
+//! The options of questions.
+
+ghost use Rattle.std.specs.Prelude.{◌≡◌, true};
+ghost use Rattle.ifr_opcodes.specs.declared.codes.TheConstants.{ONE_OF_OPTION};
+ghost use Rattle.ifr_scopes.specs.Nodes.{is_option};
+ghost use Rattle.ifr_scopes.specs.Views.{node_of};
+
+use crate::guards_of::GuardsOf;
+use crate::node::Node;
+use crate::nodes_of::NodesOf;
+use ifr_opcodes::OptionOp;
+
+/// An option of a question (UEFI 2.8, 33.3.8.3, EFI_IFR_ONE_OF_OPTION).
+#[derive(Clone, Copy, Debug)]
+pub struct OptionView<'a> {
+    pub(crate) node: Node<'a>,
+    pub ghost option: { is_option (node_of node) ≡ true },
+}
+
+impl<'a> OptionView<'a> {
+    ghost use Rattle.ifr_opcodes.specs.Ops.{bytes_of};
+    ghost use Rattle.ifr_scopes.specs.Guards.{guards};
+    ghost use Rattle.ifr_scopes.specs.Lists.{guards_of_left};
+    ghost use Rattle.ifr_scopes.specs.Parts.{option_node, option_package};
+
+    /// Its place, in bytes from the package's header.
+    pub fn place(self) -> u32
+        ensures { result ≡ (option_node self.entry).place }
+    {
+        self.node.op().place
+    }
+
+    /// Its opcode.
+    pub fn op(self) -> OptionOp<'a>
+        ensures place { result.op.place ≡ (option_node self.entry).place }
+        ensures bytes { bytes_of result.op ≡ (option_node self.entry).op }
+    {
+        self.node.option()
+    }
+
+    /// Its guards, the outermost first, found by a walk from the package's start; `Forms::guards_at` looks them up.
+    pub fn guards(self) -> GuardsOf<'a>
+        ensures guards { guards_of_left result ≡ guards (option_node self.entry) }
+        ensures of_package { result.ifr.now ≡ option_package self.entry }
+    {
+        GuardsOf::around(self.node.ifr, self.node.op.place)
+    }
+}
+
+/// The options that are left of a question, by place.
+#[derive(Drop)]
+pub struct Options<'a> {
+    pub(crate) nodes: NodesOf<'a>,
+    pub ghost coded: { nodes.code ≡ ONE_OF_OPTION },
+}
+
+impl<'a> Iterator for Options<'a> {
+    ghost use Rattle.std.specs.Iterator.{YieldsFirstBy, item_count};
+    ghost use Rattle.ifr_scopes.specs.Parts.{option_node, options_left};
+
+    type Item = OptionView<'a>;
+
+    ghost next_gives = { YieldsFirstBy option_node options_left };
+
+    ghost remaining = { item_count options_left };
+
+    fn next(&mut self) -> Option<OptionView<'a>> {
+        let node = self.nodes.step()?;
+        Some(OptionView { node })
+    }
+}

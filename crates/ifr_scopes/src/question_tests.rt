@@ -1,0 +1,213 @@
+ghost use Rattle.std.specs.Prelude.{◌≡◌, ◌≤◌, ◌<◌, ◌^◌, ◌+◌, length};
+
+use super::*;
+use hii_bytes::{Cause, Fault};
+use hii_packages::Package;
+use ifr_expr::{Answers, Value};
+use std::alloc::Global;
+use std::test::*;
+
+// The opcodes of a form set and its form 7, up to the form's own.
+const FRONT: [u8; 33] = [
+    0, 0, 0, 2, // the package's header
+    0x0e, 0x97, 1, 2, 3, 4, 5, 6, 7, 8, 9, 10, 11, 12, 13, 14, 15, 16, 0x21, 0x43, 5, 0, 1, // FORM_SET, at 4
+    0x01, 0x86, 7, 0, 8, 0, // a form, at 27
+];
+
+// A package with these opcodes in its form, from 33 on; and how long it is.
+fn with(opcodes: &[u8]) -> ([u8; 128], usize)
+    requires { length opcodes.now ≤ 64 }
+    ensures { result.1 ≡ 37 + length opcodes.now }
+{
+    let mut bytes = [0u8; 128];
+    let end = 33 + opcodes.len();
+    bytes[..33].copy_from_slice(&FRONT);
+    bytes[33..end].copy_from_slice(opcodes);
+    bytes[end..end + 4].copy_from_slice(&[0x29, 2, 0x29, 2]);
+    (bytes, end + 4)
+}
+
+fn forms_of(alloc: Global, bytes: &[u8]) -> Result<Forms<'_>, Fault>
+    requires header { 4 ≤ length bytes.now }
+    requires small { length bytes.now < 2 ^ 24 }
+{
+    let source = Package {
+        place: 0,
+        kind: hii_packages::FORMS,
+        bytes,
+    };
+    Forms::read(alloc, source)
+}
+
+// The cause and the place by which a form with these opcodes is refused.
+fn refusal(alloc: Global, opcodes: &[u8]) -> Option<(Cause, u64)>
+    requires { length opcodes.now ≤ 64 }
+{
+    let (bytes, len) = with(opcodes);
+    match forms_of(alloc, &bytes[..len]) {
+        Ok(_) => None,
+        Err(fault) => Some((fault.cause, fault.place)),
+    }
+}
+
+// A ONE_OF of the id 1, of bytes, with two options, a default of a number, and one of an expression, 2 + 3.
+const CHOICE: [u8; 63] = [
+    0x05, 0x91, 3, 0, 0, 0, 1, 0, 1, 0, 0, 0, 0, 0x10, 0, 0, 0, // at 33
+    0x09, 7, 5, 0, 0x10, 0, 4, // the option 4, the default, at 50
+    0x09, 7, 6, 0, 0, 0, 5, // the option 5, at 57
+    0x5b, 6, 0, 0, 0, 5, // a default 5 of the class 0, at 64
+    0x5b, 0x85, 1, 0, 8, // a default of the class 1, at 70
+    0x5a, 0x82, // VALUE, at 75
+    0x42, 0x83, 2, 0x42, 3, 3, 0x3a, 2, 0x29, 2, // 2 + 3, at 77
+    0x29, 2, 0x29, 2, // at 87, 89
+    0x29, 2, // at 91
+    0x5f, 3, 9, // a GUID of no effect, at 93
+];
+
+#[test]
+fn opcodes_where_they_may_stand(rt: HostRuntime) {
+    let alloc = rt.alloc();
+    assert_eq!(rt; refusal(alloc, &CHOICE), None);
+    // SUBTITLE with a TEXT in it, RESET_BUTTON
+    let statements = [
+        0x02, 0x87, 3, 0, 0, 0, 0, 0x03, 8, 3, 0, 0, 0, 4, 0, 0x29, 2, 0x0d, 8, 3, 0, 0, 0, 0, 0,
+    ];
+    assert_eq!(rt; refusal(alloc, &statements), None);
+    // a REF to this form, and one that leads out of the form set
+    let references = [
+        0x0f, 15, 3, 0, 0, 0, 2, 0, 0, 0, 0, 0, 0, 7, 0, 0x0f, 13, 3, 0, 0, 0, 3, 0, 0, 0, 0, 0, 0,
+    ];
+    assert_eq!(rt; refusal(alloc, &references), None);
+}
+
+#[test]
+fn opcodes_where_they_may_not_stand(rt: HostRuntime) {
+    let alloc = rt.alloc();
+    let mut lost = [0x0f, 15, 3, 0, 0, 0, 2, 0, 0, 0, 0, 0, 0, 8, 0];
+    assert_eq!(rt; refusal(alloc, &lost), Some((Cause::NoForm, 33)));
+    lost[1] = 14;
+    lost[0] = 0x1b;
+    assert_eq!(rt; refusal(alloc, &lost[..14]), None);
+    // an option, a store and a VALUE in a form
+    assert_eq!(rt;
+        refusal(alloc, &[0x09, 7, 5, 0, 0, 0, 4]),
+        Some((Cause::Misplaced, 33))
+    );
+    assert_eq!(rt;
+        refusal(alloc, &[0x5a, 0x82, 0x46, 2, 0x29, 2]),
+        Some((Cause::Misplaced, 33))
+    );
+    // a SUBTITLE in a TEXT
+    assert_eq!(rt;
+        refusal(
+            alloc,
+            &[
+                0x03, 0x88, 3, 0, 0, 0, 4, 0, 0x02, 7, 3, 0, 0, 0, 0, 0x29, 2
+            ]
+        ),
+        Some((Cause::Misplaced, 41))
+    );
+    // what is ignored has no scope, and a GUID with one is not known
+    assert_eq!(rt;
+        refusal(alloc, &[0x1d, 0x82, 0x29, 2]),
+        Some((Cause::ScopeBit, 33))
+    );
+    assert_eq!(rt;
+        refusal(alloc, &[0x5f, 0x82, 0x29, 2]),
+        Some((Cause::OpOutside, 33))
+    );
+    // LOCKED is not known yet
+    assert_eq!(rt; refusal(alloc, &[0x0b, 2]), Some((Cause::OpOutside, 33)));
+}
+
+#[test]
+fn what_questions_have(rt: HostRuntime) {
+    let alloc = rt.alloc();
+    for (at, byte, refused) in [
+        (55, 7, Some((Cause::OpOutside, 50))), // the option is a text
+        (62, 1, Some((Cause::OpSize, 57))), // an option lacks a byte of its value
+        (74, 9, Some((Cause::ScopeBit, 70))), // a default with a scope has a VALUE
+        (75, 0x47, Some((Cause::ExprShape, 70))), // TRUE in place of VALUE
+        (33, 0x07, Some((Cause::Misplaced, 50))), // a NUMERIC with options
+        (57, 0x1e, Some((Cause::OpOutside, 57))), // DISABLE_IF is not known
+        (68, 0x0d, Some((Cause::OpOutside, 64))), // a default of a kind that is not defined
+    ] {
+        let mut opcodes = CHOICE;
+        opcodes[at - 33] = byte;
+        assert_eq!(rt; refusal(alloc, &opcodes), refused);
+    }
+    // a guard among the options is not known yet
+    let guarded = [
+        0x05, 0x91, 3, 0, 0, 0, 1, 0, 1, 0, 0, 0, 0, 0x10, 0, 0, 0, 0x0a, 0x82, 0x46, 2, 0x29, 2,
+        0x29, 2,
+    ];
+    assert_eq!(rt; refusal(alloc, &guarded), Some((Cause::OpOutside, 50)));
+}
+
+// Questions without answers.
+struct Nobody;
+
+impl<'v> Answers<'v> for Nobody {
+    ghost use Rattle.ifr_expr.specs.Values as spec;
+
+    ghost answers = { λ _ _. spec.undefined };
+
+    fn answer(&self, _question: u16) -> Value<'v> {
+        Value::Undefined
+    }
+}
+
+#[test]
+fn parts_of_a_question(rt: HostRuntime) -> Result<(), Fail> {
+    let (bytes, len) = with(&CHOICE);
+    let forms = forms_of(rt.alloc(), &bytes[..len])?;
+    let statement = forms.statements().next().expect(&rt, "a statement");
+    assert!(rt; matches!(statement.kind(), StatementKind::OneOf(_)));
+    assert_eq!(rt; statement.question().map(|question| question.id()), Some(1));
+    let mut options = statement.options();
+    for (place, value) in [(50, 4), (57, 5)] {
+        let option = options.next().expect(&rt, "an option");
+        assert_eq!(rt; (option.place(), option.op().value()), (place, value));
+        assert!(rt; option.guards().next().is_none());
+        assert!(rt; forms.guards_at(place).next().is_none());
+    }
+    assert!(rt; options.next().is_none());
+    let mut defaults = statement.defaults();
+    let number = defaults.next().expect(&rt, "a default");
+    assert_eq!(rt;
+        (number.place(), number.op().id(), number.value().is_none()),
+        (64, 0, true)
+    );
+    let expression = defaults.next().expect(&rt, "a default");
+    assert_eq!(rt; (expression.place(), expression.op().id()), (70, 1));
+    let value = expression.value().expect(&rt, "an expression");
+    assert!(rt; matches!(value.value(&Nobody, &forms, 0), Value::Number(5)));
+    assert!(rt; defaults.next().is_none());
+    Ok(())
+}
+
+// A form set with stores of all kinds.
+const STORES: [u8; 108] = [
+    108, 0, 0, 2, // the package's header
+    0x0e, 0x97, 1, 2, 3, 4, 5, 6, 7, 8, 9, 10, 11, 12, 13, 14, 15, 16, 0x21, 0x43, 5, 0, 1, // FORM_SET, at 4
+    0x24, 24, 1, 2, 3, 4, 5, 6, 7, 8, 9, 10, 11, 12, 13, 14, 15, 16, 1, 0, 2, 0, b'A', 0, // at 27
+    0x26, 27, 2, 0, 1, 2, 3, 4, 5, 6, 7, 8, 9, 10, 11, 12, 13, 14, 15, 16, 0, 0, 0, 0, 9, 0, 0, // at 51
+    0x25, 20, 3, 0, 1, 2, 3, 4, 5, 6, 7, 8, 9, 10, 11, 12, 13, 14, 15, 16, // at 78
+    0x01, 0x86, 7, 0, 8, 0, // a form, at 98
+    0x29, 2, 0x29, 2, // at 104, 106
+];
+
+#[test]
+fn stores_of_all_kinds(rt: HostRuntime) -> Result<(), Fail> {
+    let forms = forms_of(rt.alloc(), &STORES)?;
+    let mut stores = forms.stores();
+    for (place, id, size) in [(27, 1, Some(2)), (51, 2, Some(9)), (78, 3, None)] {
+        let store = stores.next().expect(&rt, "a store");
+        assert_eq!(rt;
+            (store.place(), store.id(), store.size()),
+            (place, id, size)
+        );
+    }
+    assert!(rt; stores.next().is_none());
+    Ok(())
+}
