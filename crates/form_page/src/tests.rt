@@ -14,6 +14,7 @@ use ifr_scopes::{Form, Forms};
 use std::alloc::Global;
 use std::io;
 use std::io::{ErrorKind, Write};
+use std::process::Abort;
 use std::test::Fail;
 
 const PACKAGE: [u8; 401] = [
@@ -108,6 +109,27 @@ impl Write for Limited {
     }
 }
 
+// The forms package, of which proofs know the length alone.
+fn package() -> &'static [u8]
+    ensures header { 4 ≤ length result.now }
+    ensures small { length result.now < 2 ^ 24 }
+{
+    &PACKAGE
+}
+
+// The string packages, the image and the page, of which proofs know nothing.
+fn string_list() -> &'static [u8] {
+    STRINGS
+}
+
+fn image() -> &'static [u8] {
+    IMAGE
+}
+
+fn page_text() -> &'static [u8] {
+    TEXT
+}
+
 fn forms_of(alloc: Global, bytes: &[u8]) -> Result<Forms<'_>, Fail>
     requires header { 4 ≤ length bytes.now }
     requires small { length bytes.now < 2 ^ 24 }
@@ -129,79 +151,43 @@ fn first_form<'a>(forms: &Forms<'a>) -> Option<Form<'a>>
     forms.forms().next()
 }
 
-#[test]
-fn a_page_has_a_title_and_rows(rt: HostRuntime) -> Result<(), Fail> {
-    let alloc = rt.alloc();
-    let forms = forms_of(alloc, &PACKAGE)?;
-    let layout = Layout::read(alloc, &forms)?;
-    let questions = Questions::read(alloc, &forms, &layout)?;
-    let stores = Stores::read(alloc, &layout, IMAGE)?;
-    let form = first_form(&forms).expect(&rt, "a form");
-    let list = PackageList::read(STRINGS)?;
-    let languages = Languages::read(alloc, &list)?;
-    let choice = languages.choose(b"en");
-    let policy = Policy::new(&forms, &questions);
-    let page = Page::new(form, policy, &stores, &languages, choice);
+fn has_title_and_rows(rt: &impl Abort, page: &Page<'_, '_>) {
     let mut title = page.title().chars();
     for c in ['#', '2'] {
         assert_eq!(rt; title.next(), Some(c));
     }
     assert!(rt; title.next().is_none());
     let mut rows = page.rows();
-    for (number, mark, question) in [(1, b'*', 1), (2, b'!', 4660), (3, b'!', 65535)] {
-        let row = rows.next().expect(&rt, "a row");
+    for (number, mark, question, shown) in [
+        (1, b'*', 1, Some(' ')),
+        (2, b'!', 4660, None),
+        (3, b'!', 65535, Some('x')),
+    ] {
+        let row = rows.next().expect(rt, "a row");
         assert_eq!(rt;
             (row.number, row.mark, row.question),
             (number, mark, Some(question))
         );
         assert!(rt; matches!(row.prompt, Shown::Nothing) == (number == 2));
         let mut chars = row.value.chars();
-        assert_eq!(rt;
-            chars.next(),
-            [Some(' '), None, Some('x')][number as usize - 1]
-        );
+        assert_eq!(rt; chars.next(), shown);
         assert!(rt; chars.next().is_none());
     }
-    Ok(())
 }
 
-#[test]
-fn a_page_is_written(rt: HostRuntime) -> Result<(), Fail> {
-    let alloc = rt.alloc();
-    let forms = forms_of(alloc, &PACKAGE)?;
-    let layout = Layout::read(alloc, &forms)?;
-    let questions = Questions::read(alloc, &forms, &layout)?;
-    let stores = Stores::read(alloc, &layout, IMAGE)?;
-    let form = first_form(&forms).expect(&rt, "a form");
-    let list = PackageList::read(STRINGS)?;
-    let languages = Languages::read(alloc, &list)?;
-    let choice = languages.choose(b"en");
-    let policy = Policy::new(&forms, &questions);
-    let page = Page::new(form, policy, &stores, &languages, choice);
+fn is_written(rt: &impl Abort, alloc: Global, page: &Page<'_, '_>) {
     let mut out = Watched::new(Vec::new(alloc));
     assert_eq!(rt; page.write_page(&mut out), Ok(()));
-    assert_eq!(rt; out.into_inner().as_slice(), TEXT);
+    assert_eq!(rt; out.into_inner().as_slice(), page_text());
     let mut again = Watched::new(Vec::new(alloc));
     page.put_page(&mut again);
     assert!(rt; !again.failed());
-    assert_eq!(rt; again.into_inner().as_slice(), TEXT);
-    Ok(())
+    assert_eq!(rt; again.into_inner().as_slice(), page_text());
 }
 
-#[test]
-fn a_writer_fails_after_each_byte(rt: HostRuntime) -> Result<(), Fail> {
-    let alloc = rt.alloc();
-    let forms = forms_of(alloc, &PACKAGE)?;
-    let layout = Layout::read(alloc, &forms)?;
-    let questions = Questions::read(alloc, &forms, &layout)?;
-    let stores = Stores::read(alloc, &layout, IMAGE)?;
-    let form = first_form(&forms).expect(&rt, "a form");
-    let list = PackageList::read(STRINGS)?;
-    let languages = Languages::read(alloc, &list)?;
-    let choice = languages.choose(b"en");
-    let policy = Policy::new(&forms, &questions);
-    let page = Page::new(form, policy, &stores, &languages, choice);
-    for room in 0..TEXT.len() {
+fn stops_where_a_writer_fails(rt: &impl Abort, alloc: Global, page: &Page<'_, '_>) {
+    let text = page_text();
+    for room in 0..text.len() {
         let mut out = Watched::new(Limited {
             bytes: Vec::new(alloc),
             room,
@@ -210,7 +196,25 @@ fn a_writer_fails_after_each_byte(rt: HostRuntime) -> Result<(), Fail> {
             written: room as u64,
         };
         assert_eq!(rt; page.write_page(&mut out), Err(fault));
-        assert_eq!(rt; out.into_inner().bytes.as_slice(), &TEXT[..room]);
+        assert_eq!(rt; out.into_inner().bytes.as_slice(), &text[..room]);
     }
+}
+
+#[test]
+fn a_page_has_rows_and_is_written(rt: HostRuntime) -> Result<(), Fail> {
+    let alloc = rt.alloc();
+    let forms = forms_of(alloc, package())?;
+    let layout = Layout::read(alloc, &forms)?;
+    let questions = Questions::read(alloc, &forms, &layout)?;
+    let stores = Stores::read(alloc, &layout, image())?;
+    let form = first_form(&forms).expect(&rt, "a form");
+    let list = PackageList::read(string_list())?;
+    let languages = Languages::read(alloc, &list)?;
+    let choice = languages.choose(b"en");
+    let policy = Policy::new(&forms, &questions);
+    let page = Page::new(form, policy, &stores, &languages, choice);
+    has_title_and_rows(&rt, &page);
+    is_written(&rt, alloc, &page);
+    stops_where_a_writer_fails(&rt, alloc, &page);
     Ok(())
 }

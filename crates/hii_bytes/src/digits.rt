@@ -7,7 +7,7 @@ ghost use Rattle.hii_bytes.specs.Digits.{number_below};
 
 use std::str;
 
-/// The number below 2^64 that one to `most` digits of a radix write, if the text is that.
+/// The number below 2^64 that one to `most` digits of the radix 10 or 16 write, if the text is that.
 pub fn number_of_digits(text: &[u8], radix: u32, most: usize) -> Option<u64>
     requires { (radix ≡ 10) ⊎ (radix ≡ 16) }
     ensures { result ≡ number_below (2 ^ 64) radix most text.now }

@@ -1,8 +1,8 @@
 -- The first fault of several parts.
-use Rattle.std.proofs.Common.{◌≡◌, ℕ, ◌+◌, ◌<◌, Bool, Option, Some, None, List, [], ◌∷◌, ◌++◌, map, drop, length, get_or, refl, sym, ap, ◌∙◌, arith}
+use Rattle.std.proofs.Common.{◌≡◌, ℕ, ◌+◌, ◌<◌, Bool, Option, Some, None, List, [], ◌∷◌, ◌++◌, map, drop, length, get_or, refl, sym, ap, ◌∙◌}
 use Rattle.std.specs.List.{flat_map}
 use Rattle.std.proofs.lemmas.List.{drop_more}
-use Rattle.hii_bytes.specs.Faults.{first_cause, fault_or, first_fault}
+use Rattle.hii_bytes.specs.Faults.{first_cause, fault_or}
 use Rattle.hii_bytes.specs.declared.cause.Cause.{Cause}
 use Rattle.hii_bytes.specs.declared.cause.Fault.{Fault}
 use Rattle.hii_varstore.specs.Layout.{Shape}
@@ -10,7 +10,7 @@ use Rattle.std.specs.Prelude.{Result, Ok, Err}
 use Rattle.ifr_opcodes.specs.Forest.{Placed}
 use Rattle.ifr_scopes.specs.Nodes.{options}
 use Rattle.hii_questions.specs.Fields.{Asked}
-use Rattle.hii_questions.specs.Faults.{Part, itself, option, place_of, has_fault, has_field_fault, has_option_fault, causes, parts_of}
+use Rattle.hii_questions.specs.Faults.{Part, option, place_of, has_fault, has_field_fault, has_option_fault, causes, parts_of}
 use Rattle.hii_questions.specs.FaultTells.{first_part_fault, first_option_fault, TellsFault}
 use Rattle.hii_questions.specs.Views.{question_view}
 use Rattle.hii_questions.specs.declared.question.Question.{Question}

@@ -1,10 +1,10 @@
 -- What a field takes is what it then holds.
-use Rattle.std.proofs.Common.{◌≡◌, ℕ, zero, suc, ◌+◌, ◌-◌, ◌*◌, ◌/◌, ◌^◌, ◌<◌, ◌≤◌, ◌||◌, ◌&&◌, ◌==◌, Bool, true, false, eqb, ltb, leb, not, cond, ℤ, pos, negsuc, Option, Some, None, Ok, Err, List, [], ◌∷◌, ◌++◌, length, take, drop, get_or, replicate, refl, sym, ap, ◌∙◌, arith, inl, inr, length-append, chars}
+use Rattle.std.proofs.Common.{◌≡◌, ℕ, zero, suc, ◌+◌, ◌-◌, ◌*◌, ◌/◌, ◌^◌, ◌<◌, ◌≤◌, ◌||◌, ◌&&◌, Bool, true, false, eqb, ltb, not, cond, ℤ, pos, negsuc, Option, Some, None, Ok, Err, List, [], ◌∷◌, length, drop, replicate, refl, sym, ap, ◌∙◌, arith, inl, inr, length-append, chars}
 use Rattle.std.specs.Prelude.{Result, int_lt}
 use Rattle.std.specs.List.{list_any, take_while}
 use Rattle.std.specs.Str.{is_utf8}
 use Rattle.std.proofs.Math.Nat.{one-le-pow, mul-le-mul_right}
-use Rattle.std.proofs.lemmas.Bool.{cases_Bool, ltb-true, ltb-false, eqb-true}
+use Rattle.std.proofs.lemmas.Bool.{cases_Bool, ltb-true, ltb-false}
 use Rattle.std.proofs.lemmas.List.{append-nil, length-replicate, get_or-drop}
 use Rattle.byteorder.specs.Endian.{little_number, little_bytes}
 use Rattle.byteorder.specs.Numbers.{little_number-reads_back, length-bytes_low_first, little_from-lt}
@@ -12,11 +12,11 @@ use Rattle.ifr_expr.specs.Values as values
 use Rattle.ifr_expr.specs.Values.{Value, undefined, boolean, natural, buffer}
 use Rattle.hii_questions.specs.Answers.{value_in}
 use Rattle.hii_questions.specs.FieldTypes.{FieldType, checkbox, numeric, one_of, text, ordered_list, size_of_type}
-use Rattle.hii_questions.specs.Inputs.{Offer, whole, raw, utf8, units, listed, elements, field, fits_type, checkbox_number, bits_of, fitting_bits, numeric_bytes, shown, is_offered, offered, chosen_bytes, text_bytes, is_text, is_bad_character, list_denial, bytes_unless, list_bytes}
-use Rattle.hii_questions.specs.Items.{items_in, is_item, spelled, filled, numbers, numbers_in, bytes_of_items}
-use Rattle.hii_questions.specs.Laws.{complement, choice, truth, taken_as, AreBytes, HasBytes}
+use Rattle.hii_questions.specs.Inputs.{Offer, whole, raw, utf8, units, listed, elements, fits_type, checkbox_number, bits_of, fitting_bits, numeric_bytes, shown, is_offered, offered, chosen_bytes, text_bytes, is_text, is_bad_character, list_denial, bytes_unless, list_bytes}
+use Rattle.hii_questions.specs.Items.{items_in, is_item, spelled, filled, numbers, bytes_of_items}
+use Rattle.hii_questions.specs.Laws.{complement, choice, taken_as, AreBytes, HasBytes}
 use Rattle.hii_questions.specs.declared.denial.DenialKind.{DenialKind}
-use Rattle.hii_questions.specs.declared.denial.DenialKind.TheVariants.{Range, NoOption, Length, BadText, Kind}
+use Rattle.hii_questions.specs.declared.denial.DenialKind.TheVariants.{Range, NoOption, Length, BadText}
 use Rattle.hii_questions.proofs.ItemLemmas.{while_more}
 use Rattle.hii_questions.proofs.ListLemmas.{length_spelled}
 use Rattle.hii_questions.proofs.SpellLemmas.{AreItems, bytes_back}

@@ -1,8 +1,8 @@
 -- Questions and their fields, where no question has a fault.
-use Rattle.std.proofs.Common.{◌≡◌, ℕ, zero, suc, ◌+◌, ◌*◌, ◌^◌, ◌<◌, ◌≤◌, Bool, true, false, eqb, ltb, leb, cond, ◌&&◌, Option, Some, None, Ok, Err, List, [], ◌∷◌, ◌++◌, map, length, get_or, refl, sym, ap, subst, ◌∙◌, arith, inl, inr, option_map}
-use Rattle.std.specs.Prelude.{is_some, is_none, not, IsSomeAnd, Contains, Result, filter}
-use Rattle.std.specs.List.{find, flat_map, list_any}
-use Rattle.std.proofs.lemmas.Bool.{cases_Bool, eqb-true, eq-eqb, ltb-false, leb-false, true≢false, false≢true}
+use Rattle.std.proofs.Common.{◌≡◌, ℕ, zero, suc, ◌+◌, ◌^◌, ◌<◌, ◌≤◌, Bool, true, false, eqb, leb, cond, ◌&&◌, Option, Some, None, Ok, List, [], ◌∷◌, map, length, refl, sym, ap, subst, ◌∙◌, arith, inl, inr, option_map}
+use Rattle.std.specs.Prelude.{is_some, IsSomeAnd, Contains, filter}
+use Rattle.std.specs.List.{find, flat_map}
+use Rattle.std.proofs.lemmas.Bool.{cases_Bool, eqb-true, eq-eqb, ltb-false, leb-false, false≢true}
 use Rattle.std.proofs.lemmas.List.Elements.{Contains-append_left, Contains-append_right}
 use Rattle.hii_bytes.specs.Faults.{HasNone}
 use Rattle.hii_bytes.specs.declared.cause.Cause.TheVariants.{FieldOutside, OptionRange}
@@ -11,22 +11,20 @@ use Rattle.ifr_opcodes.specs.Fields.{question_id, question_store, question_offse
 use Rattle.ifr_opcodes.specs.Forest.{Placed}
 use Rattle.ifr_opcodes.specs.Opcode.{number}
 use Rattle.ifr_opcodes.specs.declared.codes.TheConstants.{CHECKBOX, NUMERIC, ONE_OF, STRING, PASSWORD, ORDERED_LIST}
-use Rattle.ifr_expr.specs.Values.{Value, undefined}
 use Rattle.ifr_scopes.specs.Nodes.{is_question, options}
 use Rattle.ifr_scopes.proofs.ViewLemmas.{further}
-use Rattle.hii_varstore.specs.Layout.{Shape, size_of, HasRange}
+use Rattle.hii_varstore.specs.Layout.{size_of, HasRange}
 use Rattle.hii_varstore.specs.StoreNodes.{layout_of}
 use Rattle.hii_varstore.specs.Stores.{StoreMap, shape_of, with_bytes, field_of as field_bytes}
 use Rattle.hii_varstore.proofs.WriteLemmas.{field_back, field_after}
-use Rattle.hii_questions.specs.Answers.{value_in, value_of_bytes, value_of_field}
-use Rattle.hii_questions.specs.Faults.{IsQuestionFault, Part, itself, option, place_of, has_fault, has_field_fault, has_option_fault, parts_of, is_known, is_past, is_outside, is_too_large}
-use Rattle.hii_questions.specs.Fields.{Field, Asked, asked, asked_at, questions, field_in, field_of, width_of, question_with}
+use Rattle.hii_questions.specs.Answers.{value_of_bytes}
+use Rattle.hii_questions.specs.Faults.{IsQuestionFault, itself, option, has_field_fault, has_option_fault, parts_of, is_known, is_past, is_outside, is_too_large}
+use Rattle.hii_questions.specs.Fields.{Field, Asked, asked, questions, field_in, field_of, width_of, question_with}
 use Rattle.hii_questions.specs.FieldTypes.{FieldType, checkbox, numeric, one_of, text, ordered_list, size_of_type}
-use Rattle.hii_questions.specs.Fits.{fits, fits_field}
-use Rattle.hii_questions.specs.Inputs.{Offer, whole, raw, utf8, units, listed, elements, field, field_as, read_as, fits_type, is_offered}
-use Rattle.hii_questions.specs.Laws.{HoldsFields, FindsQuestions, ReadsBack, LeavesOthers, HasBytes, taken_as, taken_value, FillsFields}
+use Rattle.hii_questions.specs.Fits.{fits_field}
+use Rattle.hii_questions.specs.Inputs.{Offer, units, field, field_as, read_as, is_offered}
+use Rattle.hii_questions.specs.Laws.{HoldsFields, FindsQuestions, ReadsBack, LeavesOthers, HasBytes, taken_value, FillsFields}
 use Rattle.hii_questions.specs.Types.{type_of, option_values}
-use Rattle.hii_questions.specs.declared.denial.DenialKind.{DenialKind}
 use Rattle.hii_questions.proofs.KeptLemmas.{IsSound, kept, wide}
 
 -- what is found is among those that are searched, and passes the test

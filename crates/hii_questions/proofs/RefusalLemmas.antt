@@ -1,6 +1,5 @@
 -- The first fault of the questions is the least, and without one there is none.
-use Rattle.std.proofs.Common.{◌≡◌, ℕ, Bool, Option, Some, None, List, map, sym, ap, ◌∙◌}
-use Rattle.std.specs.Prelude.{filter}
+use Rattle.std.proofs.Common.{◌≡◌, ℕ, Bool, Some, None, List, sym, ap, ◌∙◌}
 use Rattle.std.specs.List.{flat_map}
 use Rattle.hii_bytes.specs.Faults.{IsLeast, HasNone}
 use Rattle.hii_bytes.specs.declared.cause.Fault.{Fault}
@@ -10,7 +9,7 @@ use Rattle.ifr_scopes.specs.Nodes.{nodes_of}
 use Rattle.hii_varstore.specs.Layout.{Shape}
 use Rattle.hii_varstore.specs.StoreNodes.{layout_of}
 use Rattle.hii_questions.specs.Fields.{Asked, questions}
-use Rattle.hii_questions.specs.Faults.{IsQuestionFault, Part, place_of, has_fault, parts_of, causes, is_known}
+use Rattle.hii_questions.specs.Faults.{IsQuestionFault, place_of, has_fault, parts_of, causes, is_known}
 use Rattle.hii_questions.specs.FaultTells.{first_part_fault}
 use Rattle.hii_questions.proofs.PartLemmas.{all_causes, parts_rise}
 

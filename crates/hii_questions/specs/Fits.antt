@@ -1,5 +1,5 @@
 -- What a question takes as its value (own rule).
-use Rattle.std.specs.Prelude.{ℕ, Option, Some, None, Result, Ok, Err, List}
+use Rattle.std.specs.Prelude.{ℕ, Option, Some, Result, Err, List}
 use Rattle.ifr_opcodes.specs.Forest.{Placed}
 use Rattle.hii_questions.specs.FieldTypes.{FieldType}
 use Rattle.hii_questions.specs.Fields.{Field, field_of}

@@ -1,9 +1,9 @@
 -- What a question takes as its value, and which bytes of its field this gives (own rule).
-use Rattle.std.specs.Prelude.{ℕ, ◌-◌, ◌*◌, ◌/◌, ◌^◌, ◌==◌, Bool, true, false, ◌||◌, ◌&&◌, nat_lt, nat_le, not, if◌then◌else◌, ℤ, pos, negsuc, ◌-ℤ◌, int_lt, suc, Option, Some, None, Result, Ok, Err, List, [], ◌∷◌, ◌++◌, length, chars}
+use Rattle.std.specs.Prelude.{ℕ, ◌-◌, ◌*◌, ◌/◌, ◌^◌, ◌==◌, Bool, ◌||◌, ◌&&◌, nat_lt, nat_le, not, if◌then◌else◌, ℤ, pos, negsuc, ◌-ℤ◌, int_lt, suc, Option, Some, None, Result, Ok, Err, List, [], ◌∷◌, ◌++◌, length, chars}
 use Rattle.std.specs.List.{list_any}
 use Rattle.std.specs.Str.{is_utf8}
 use Rattle.byteorder.specs.Endian.{little_number, little_bytes}
-use Rattle.hii_questions.specs.FieldTypes.{FieldType, checkbox, numeric, one_of, text, ordered_list, size_of_type}
+use Rattle.hii_questions.specs.FieldTypes.{FieldType, checkbox, numeric, one_of, text, ordered_list}
 use Rattle.hii_questions.specs.Items.{items_in, spelled, filled}
 use Rattle.hii_questions.specs.declared.denial.DenialKind.{DenialKind}
 use Rattle.hii_questions.specs.declared.denial.DenialKind.TheVariants.{Kind, Range, NoOption, Length, Repeat, EmptySet, BadText}

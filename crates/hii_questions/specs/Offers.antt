@@ -1,5 +1,5 @@
 -- What the inputs of the code stand for.
-use Rattle.std.specs.Prelude.{◌≡◌, ℕ, length, Option, Some, None, ⊤}
+use Rattle.std.specs.Prelude.{◌≡◌, length, Option, Some, ⊤}
 use Rattle.hii_bytes.specs.NumberList.{IsList, numbers_of}
 use Rattle.hii_questions.specs.FieldTypes.{FieldType, size_of_type}
 use Rattle.hii_questions.specs.Fields as fields

@@ -1,7 +1,9 @@
 -- What the types of fields of the code stand for.
-use Rattle.std.specs.Prelude.{ℕ, List}
+use Rattle.std.specs.Prelude.{ℕ}
+use Rattle.ifr_scopes.specs.Lists.{statement_node}
 use Rattle.hii_questions.specs.ChoiceViews.{choice_values}
 use Rattle.hii_questions.specs.FieldTypes as spec
+use Rattle.hii_questions.specs.Types.{element_width}
 use Rattle.hii_questions.specs.declared.field_type.FieldType.{FieldType}
 use Rattle.hii_questions.specs.declared.field_type.FieldType.TheVariants.{Checkbox, Numeric, OneOf, Text, OrderedList}
 use Rattle.hii_questions.specs.declared.field_type.NumericType.{NumericType}
@@ -18,8 +20,12 @@ one_of_in t = spec.one_of t.width (choice_values t.choices)
 abbrev pub text_in : TextType → spec.FieldType
 text_in t = spec.text t.minimum t.maximum
 
+-- how many bytes each value of a list has
+abbrev pub list_width : ListType → ℕ
+list_width t = element_width (statement_node t.choices.question)
+
 abbrev pub list_in : ListType → spec.FieldType
-list_in t = spec.ordered_list t.width t.most t.unique t.some (choice_values t.choices)
+list_in t = spec.ordered_list (list_width t) t.most t.unique t.some (choice_values t.choices)
 
 abbrev pub type_in : FieldType → spec.FieldType
 type_in Checkbox = spec.checkbox

@@ -1,9 +1,5 @@
 -- What the questions of the code stand for.
-use Rattle.std.specs.Prelude.{◌≡◌, ℕ, ◌==◌, Option, option_map, List, map, filter}
-use Rattle.std.specs.List.{find}
-use Rattle.std.specs.BTreeMap.{BTreeMap, get}
-use Rattle.std.specs.Ordering.{nat_cmp}
-use Rattle.ifr_opcodes.specs.Fields.{question_id}
+use Rattle.std.specs.Prelude.{option_map}
 use Rattle.ifr_opcodes.specs.Forest.{Placed}
 use Rattle.ifr_scopes.specs.Lists.{statement_node}
 use Rattle.hii_questions.specs.Fields.{Asked}

@@ -9,6 +9,7 @@ ghost use Rattle.ifr_scopes.specs.Nodes.{options};
 ghost use Rattle.ifr_scopes.specs.Parts.{option_node};
 ghost use Rattle.hii_questions.specs.Faults.{parts_of, has_field_fault, has_option_fault, causes};
 ghost use Rattle.hii_questions.specs.FaultTells.{TellsFault, first_part_fault, first_option_fault};
+ghost use Rattle.hii_questions.specs.Types.{first_kind as first_kind_of};
 ghost use Rattle.hii_questions.specs.Views.{question_node, question_view};
 
 use crate::elements::first_kind;
@@ -36,8 +37,9 @@ fn field_fault(question: Question<'_>, layout: &Layout<'_>, ids: &BTreeSet<u16>)
     None
 }
 
-// What is wrong with an option of a question.
-fn option_fault(question: Question<'_>, option: OptionView<'_>) -> Option<Cause>
+// What is wrong with an option of a question, whose first option is of this kind.
+fn option_fault(question: Question<'_>, first: Option<u8>, option: OptionView<'_>) -> Option<Cause>
+    requires { first ≡ first_kind_of (options (question_node question)) }
     ensures { result ≡ first_cause (has_option_fault (question_node question.entry)) (option_node option.entry) causes }
 {
     let option = option.op();
@@ -45,7 +47,7 @@ fn option_fault(question: Question<'_>, option: OptionView<'_>) -> Option<Cause>
         StatementKind::OneOf(one_of) if fitting_bits(one_of.width(), option.value()).is_none() => {
             Some(Cause::OptionRange)
         }
-        StatementKind::OrderedList(_) => match first_kind(question.statement) {
+        StatementKind::OrderedList(_) => match first {
             Some(first) if first != option.kind() => Some(Cause::MixedOptions),
             _ => None,
         },
@@ -57,8 +59,9 @@ fn option_fault(question: Question<'_>, option: OptionView<'_>) -> Option<Cause>
 fn check_options(question: Question<'_>) -> Result<(), Fault>
     ensures { TellsFault (first_option_fault (question_node question.entry) (options (question_node question.entry))) result }
 {
+    let first = first_kind(question.statement);
     for option in question.statement.options() {
-        if let Some(cause) = option_fault(question, option) {
+        if let Some(cause) = option_fault(question, first, option) {
             return Err(option.op().op.fault(cause));
         }
     }

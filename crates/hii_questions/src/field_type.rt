@@ -33,17 +33,27 @@ pub(crate) struct TextType {
     pub(crate) maximum: u16,
 }
 
-/// At most `most` values of options, of `width` bytes each (UEFI 2.8, 33.3.8.3, EFI_IFR_ORDERED_LIST).
+/// At most `most` values of options (UEFI 2.8, 33.3.8.3, EFI_IFR_ORDERED_LIST).
 #[derive(Clone, Copy, Debug)]
 pub(crate) struct ListType<'a> {
-    pub(crate) width: usize,
     pub(crate) most: u8,
     /// None may come twice.
     pub(crate) unique: bool,
     /// One must be there.
     pub(crate) some: bool,
     pub(crate) choices: Choices<'a>,
-    pub(crate) ghost wide: { is_width width ≡ true },
+}
+
+impl<'a> ListType<'a> {
+    ghost use Rattle.hii_questions.specs.TypeViews.{list_width};
+
+    /// How many bytes each value has.
+    pub(crate) fn width(self) -> usize
+        ensures value { result ≡ list_width self.entry }
+        ensures wide { is_width result ≡ true }
+    {
+        element_width(self.choices.question)
+    }
 }
 
 /// What a field holds.
@@ -91,7 +101,6 @@ impl<'a> FieldType<'a> {
                 maximum: text.maximum(),
             })),
             StatementKind::OrderedList(list) => Some(FieldType::OrderedList(ListType {
-                width: element_width(statement),
                 most: list.max_containers(),
                 unique: list.is_unique_set(),
                 some: list.has_no_empty_set(),
@@ -110,7 +119,7 @@ impl<'a> FieldType<'a> {
             FieldType::Numeric(numeric) => numeric.width,
             FieldType::OneOf(one_of) => one_of.width,
             FieldType::Text(text) => 2 * usize::from(text.maximum),
-            FieldType::OrderedList(list) => usize::from(list.most) * list.width,
+            FieldType::OrderedList(list) => usize::from(list.most) * list.width(),
         }
     }
 }

@@ -10,7 +10,7 @@ ghost use Rattle.hii_questions.specs.ChoiceViews.{choice_values};
 ghost use Rattle.hii_questions.specs.Items.{is_width};
 ghost use Rattle.hii_questions.specs.ItemsLeft.{items_left};
 ghost use Rattle.hii_questions.specs.Offers.{offer_of, HasList};
-ghost use Rattle.hii_questions.specs.TypeViews.{type_in, numeric_in, one_of_in, text_in, list_in};
+ghost use Rattle.hii_questions.specs.TypeViews.{type_in, numeric_in, one_of_in, text_in, list_in, list_width};
 
 use crate::content::Content;
 use crate::denial::DenialKind;
@@ -138,12 +138,12 @@ fn of_length<'i>(text: TextType, units: Items<'i>) -> Result<Content<'i>, Denial
 
 fn list_content<'i>(list: ListType<'_>, input: Input<'i>) -> Result<Content<'i>, DenialKind>
     requires { HasList input }
-    ensures { Gives (list.entry.most * list.entry.width) (fits_type (list_in list.entry) (offer_of input.entry)) result }
+    ensures { Gives (list.entry.most * list_width list.entry) (fits_type (list_in list.entry) (offer_of input.entry)) result }
 {
     match input {
         Input::List(text) => elements(list, Items::List(NumberList::of(text))),
         Input::Elements(bytes) => {
-            let width = list.width;
+            let width = list.width();
             elements(list, Items::Stored(StoredItems { bytes, width }))
         }
         _ => Err(DenialKind::Kind),
@@ -152,11 +152,11 @@ fn list_content<'i>(list: ListType<'_>, input: Input<'i>) -> Result<Content<'i>,
 
 // The elements, where an ordered list takes them.
 fn elements<'i>(list: ListType<'_>, items: Items<'i>) -> Result<Content<'i>, DenialKind>
-    ensures { Gives (list.entry.most * list.entry.width) (list_bytes list.entry.width list.entry.most list.entry.unique list.entry.some (choice_values list.entry.choices) (items_left items.entry)) result }
+    ensures { Gives (list.entry.most * list_width list.entry) (list_bytes (list_width list.entry) list.entry.most list.entry.unique list.entry.some (choice_values list.entry.choices) (items_left items.entry)) result }
 {
     check_list(list, items)?;
     Ok(Content {
         items,
-        width: list.width,
+        width: list.width(),
     })
 }

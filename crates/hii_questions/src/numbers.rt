@@ -50,8 +50,8 @@ pub(crate) fn bits_of(signed: bool, width: usize, number: i128) -> Option<u64>
     Some(number as u64)
 }
 
-#[tactic(auto, using(crate::proofs::ItemLemmas::widths), unfolding(hii_bytes::specs::Numbers::number_in))]
 /// The number in the first `width` bytes.
+#[tactic(auto, using(crate::proofs::ItemLemmas::widths), unfolding(hii_bytes::specs::Numbers::number_in))]
 pub(crate) fn number_of(bytes: &[u8], width: usize) -> u64
     requires wide { is_width width ≡ true }
     requires within { width ≤ length bytes.now }

@@ -5,7 +5,10 @@ ghost use Rattle.hii_varstore.specs.StoreNodes.{layout_of};
 ghost use Rattle.hii_varstore.specs.Stores.{shape_of};
 ghost use Rattle.hii_questions.specs.Faults.{IsQuestionFault};
 
-use crate::{Field, Input, Question, Questions, ValueDenial, check_value, laws, read_value};
+use crate::{
+    Field, Input, Question, Questions, StoredItems, ValueDenial, check_value, element_width, laws,
+    read_value, shown,
+};
 use hii_bytes::{Cause, is_number_list};
 use hii_packages::{FORMS, Package};
 use hii_varstore::{Layout, Stores};
@@ -181,6 +184,24 @@ fn values_are_read(rt: HostRuntime) -> Result<(), Fail> {
     }
     let question = questions.find(8).expect(&rt, "the question 8");
     assert!(rt; matches!(read_value(question, &stores), Value::Number(255)));
+    Ok(())
+}
+
+#[test]
+fn numbers_in_bytes(rt: HostRuntime) -> Result<(), Fail> {
+    let alloc = rt.alloc();
+    let forms = forms_of(alloc, &PACKAGE)?;
+    let questions = Questions::read(alloc, &forms, &Layout::read(alloc, &forms)?)?;
+    for (id, width) in [(7, 1), (9, 2), (11, 1)] {
+        let question = questions.find(id).expect(&rt, "a question");
+        assert_eq!(rt; element_width(question.statement()), width);
+    }
+    assert_eq!(rt; (shown(true, 1, 0x80), shown(false, 1, 0x80)), (-128, 128));
+    let mut items = StoredItems::new(b"\x02\x01\x00\x02\x00\x00\x05\x00", 2);
+    assert_eq!(rt;
+        (items.step(), items.step(), items.step()),
+        (Some(0x102), Some(0x200), None)
+    );
     Ok(())
 }
 

@@ -7,6 +7,7 @@ pub mod StackLemmas
 pub mod ValueLemmas
 pub mod RuleLemmas
 pub mod EvaluationLemmas
+pub mod DependenceLemmas
 pub mod NodeLemmas
 pub mod FlatLemmas
 pub mod LengthLemmas

@@ -4,6 +4,7 @@ pub mod Counting
 pub mod Faults
 pub mod Reading
 pub mod Meaning
+pub mod Dependence
 pub mod Checked
 pub mod Views
 pub mod Stacks

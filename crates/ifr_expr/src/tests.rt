@@ -6,6 +6,7 @@ ghost use Rattle.ifr_expr.specs.Values as spec;
 ghost use Rattle.ifr_expr.specs.Views.{value_of};
 
 use crate::operations::{binary, constant, unary};
+use crate::references::RuleReference;
 use crate::value::Outcome;
 use crate::{Answers, Expr, Rules, Value};
 use hii_bytes::{Cause, Fault};
@@ -304,6 +305,22 @@ fn support(rt: HostRuntime) {
         second: Value::Number(0),
     };
     assert_eq!(rt; expr.holds(&numbers, &NoRules, 0), false);
+}
+
+// The sum of two rules and a number.
+const RULES: [u8; 15] = [
+    0x3f, 0x83, 5, 0x42, 3, 1, 0x3f, 3, 6, 0x3a, 2, 0x3a, 2, 0x29, 2,
+];
+
+#[test]
+fn opcodes_and_references(rt: HostRuntime) {
+    let expr = check(&RULES).expect(&rt, "an expression");
+    assert_eq!(rt; expr.len(), 5);
+    let mut references = expr.references();
+    for (id, place) in [(5, 0), (6, 6)] {
+        assert_eq!(rt; references.next(), Some(RuleReference { id, place }));
+    }
+    assert!(rt; references.next().is_none());
 }
 
 const TOP: u64 = 1 << 63;

@@ -46,7 +46,7 @@ question_flags op = number_in op 12 1
 
 -- EFI_IFR_FLAG_READ_ONLY
 abbrev pub is_read_only : List ℕ → Bool
-is_read_only op = not (bit_and (question_flags op) 1 == 0)
+is_read_only op = has_flag (question_flags op) 0x01
 
 -- EFI_IFR_CHECKBOX
 abbrev pub checkbox_flags : List ℕ → ℕ

@@ -1,4 +1,4 @@
-//! The questions that have numbers.
+//! How wide the numbers of questions are, and how they are shown.
 
 ghost use Rattle.std.specs.Prelude.{◌≡◌, ◌⊎◌};
 ghost use Rattle.ifr_opcodes.specs.Kinds as kinds;

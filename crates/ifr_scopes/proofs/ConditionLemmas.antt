@@ -1,5 +1,5 @@
 -- The expression with which a node begins stands right behind the node's opcode.
-use Rattle.std.proofs.Common.{◌≡◌, ℕ, ◌+◌, ◌<◌, ◌≤◌, true, Option, Some, None, Result, IsOk, List, [], ◌∷◌, ◌++◌, length, slice_range, sym, ap, ◌∙◌, subst, arith, length-append}
+use Rattle.std.proofs.Common.{◌≡◌, ℕ, ◌+◌, ◌<◌, ◌≤◌, true, Some, None, Result, IsOk, List, [], ◌∷◌, ◌++◌, length, slice_range, sym, ap, ◌∙◌, subst, arith, length-append}
 use Rattle.std.specs.Prelude.{Contains}
 use Rattle.std.proofs.lemmas.Bool.{cond-true}
 use Rattle.std.proofs.lemmas.List.{length-drop}

@@ -1,6 +1,6 @@
 -- The faults of an expression, and those of its nodes.
-use Rattle.std.proofs.Common.{◌≡◌, ◌⊎◌, ℕ, zero, suc, ◌+◌, ◌-◌, ◌<◌, ◌≤◌, Bool, true, false, eqb, cond, Option, Some, None, List, [], ◌∷◌, ◌++◌, length, take, drop, slice_range, refl, sym, ap, subst, ◌∙◌, arith, inl, inr, lit≤, length-append}
-use Rattle.std.specs.Prelude.{Contains, ◌==◌, ◌&&◌, ◌||◌, not, option_map}
+use Rattle.std.proofs.Common.{◌≡◌, ◌⊎◌, ℕ, zero, suc, ◌+◌, ◌-◌, ◌<◌, ◌≤◌, Bool, true, false, cond, Option, Some, None, List, [], ◌∷◌, ◌++◌, length, take, drop, slice_range, refl, sym, ap, subst, ◌∙◌, arith, inl, inr, lit≤, length-append}
+use Rattle.std.specs.Prelude.{Contains, ◌==◌, ◌&&◌, not, option_map}
 use Rattle.std.specs.List.{last_or}
 use Rattle.std.proofs.Math.Bool.{and-false}
 use Rattle.std.proofs.lemmas.Bool.{cases_Bool, eq-eqb, ne_eqb, false≢true, and_from, and_left, or_left, or_from, not_from_true, not_from_false, cond-false}
@@ -27,7 +27,6 @@ use Rattle.ifr_scopes.specs.Table.{row, class_of, guarded, class_around, admits,
 use Rattle.ifr_scopes.specs.declared.table.Row.{Row}
 use Rattle.ifr_scopes.specs.declared.table.Class.{Class}
 use Rattle.ifr_scopes.specs.declared.table.Class.TheVariants.{OfNothing, OfExpression}
-use Rattle.ifr_scopes.specs.declared.table.Scope.TheVariants.{Outermost}
 use Rattle.ifr_scopes.proofs.BehindLemmas.{siblings_inside, is_node_of}
 use Rattle.ifr_scopes.proofs.PlaceLemmas.{node_stands}
 use Rattle.ifr_opcodes.proofs.RowLemmas.{operator_inside}

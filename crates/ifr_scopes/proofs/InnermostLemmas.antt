@@ -31,3 +31,15 @@ pub innermost_read : (bytes places : List ℕ) (place : ℕ) (read : Result Op F
 innermost_read bytes places place read found whole e is accepted f =
     let here : IsWhole (mark_at bytes place).op = subst (λ (p : ℕ). IsWhole (mark_at bytes p).op) (get_or_from_slice_get places (length places - 1) place 0 (sym e)) (whole (length places - 1) 0 (slice_get_within places (length places - 1) place (sym e))) in
     ap (λ (o : Option Op). option_map op_of o) f ∙ read_there bytes place read is (accepted here) ∙ sym (innermost_at bytes places place e)
+
+-- the place of the innermost
+pub last_place : (bytes places : List ℕ) → option_map (λ (m : Mark). m.place) (innermost (map (ancestor_at bytes) places)) ≡ slice_get places (length places - 1)
+last_place bytes [] = refl
+last_place bytes (p ∷ places) =
+    let last : length (p ∷ places) - 1 ≡ length places = omega arith in
+    ap (λ (found : Option Ancestor). option_map (λ (m : Mark). m.place) (option_map (λ (a : Ancestor). record { place = a.place; op = a.op }) found)) (last_read (ancestor_at bytes) None p places)
+    ∙ go (slice_get (p ∷ places) (length places)) ∙ ap (slice_get (p ∷ places)) (sym last)
+  where
+    go : (o : Option ℕ) → option_map (λ (m : Mark). m.place) (option_map (λ (a : Ancestor). record { place = a.place; op = a.op }) (option_map (ancestor_at bytes) o)) ≡ o
+    go None = refl
+    go (Some q) = refl

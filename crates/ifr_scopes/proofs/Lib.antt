@@ -17,6 +17,7 @@ pub mod IndexLemmas
 pub mod PathLemmas
 pub mod RuleFacts
 pub mod QuestionFacts
+pub mod ThisLemmas
 pub mod RuleExpressionLemmas
 pub mod NamedLemmas
 pub mod SizeLemmas

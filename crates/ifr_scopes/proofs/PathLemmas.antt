@@ -3,9 +3,9 @@ use Rattle.std.proofs.Common.{◌≡◌, ℕ, zero, suc, ◌+◌, ◌<◌, ◌�
 use Rattle.std.specs.Prelude.{Contains, ◌&&◌, filter, option_map}
 use Rattle.std.specs.List.{AllByRecursion}
 use Rattle.std.proofs.lemmas.Bool.{cases_Bool, eq-eqb, ne_eqb, cond-true, cond-false}
-use Rattle.std.proofs.lemmas.List.Elements.{All-from_recursion, Contains-get_or, Contains-append_cases, Contains-append_left, Contains-append_right}
+use Rattle.std.proofs.lemmas.List.Elements.{All-from_recursion, Contains-get_or}
 use Rattle.ifr_opcodes.specs.Opcode.{number}
-use Rattle.ifr_opcodes.specs.Forest.{Forest, none, node, flat, Ancestor, Placed, as_ancestor, nodes_at, below, Spells}
+use Rattle.ifr_opcodes.specs.Forest.{flat, Ancestor, Placed, as_ancestor, below, Spells}
 use Rattle.ifr_opcodes.specs.Reading.{tree_of}
 use Rattle.ifr_scopes.specs.Guards.{is_guard, node_within, nodes_on, guards, guards_among}
 use Rattle.ifr_scopes.specs.Index.{is_indexed, indexed_at, or_none, guards_of_indexed}
@@ -120,7 +120,7 @@ kept_first : (m : Placed) (xs ns : List Placed) (n : Placed) → (Contains xs n 
 kept_first m xs ns n later (zero, lt, e) = (0, omega arith, e)
 kept_first m xs ns n later (suc k, lt, e) = further m ns n (later (k, omega arith, e))
 
-kept : (is : Placed → Bool) (ns : List Placed) (n : Placed) → Contains (filter is ns) n → Contains ns n
+pub kept : (is : Placed → Bool) (ns : List Placed) (n : Placed) → Contains (filter is ns) n → Contains ns n
 kept is [] n (k, lt, e) = absurd (omega arith)
 kept is (m ∷ ns) n w = elim (cases_Bool (is m)) [
   | inl holds ↦ kept_first m (filter is ns) ns n (kept is ns n) (subst (λ (l : List Placed). Contains l n) (cond-true (is m) (m ∷ filter is ns) (filter is ns) holds) w)

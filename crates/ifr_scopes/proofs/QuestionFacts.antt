@@ -1,24 +1,18 @@
 -- What stands in the scope of a question of a checked package: no statement, and the question is the innermost around it.
-use Rattle.std.proofs.Common.{◌≡◌, ◌⊎◌, ℕ, zero, suc, ◌+◌, ◌≤◌, Bool, true, false, cond, eqb, Option, Some, None, List, [], ◌∷◌, ◌++◌, append_assoc, length, refl, sym, ap, ◌∙◌, subst, arith, inl, inr, length-append}
-use Rattle.std.specs.Prelude.{Contains, ◌&&◌, ◌||◌, ◌==◌, not, filter}
-use Rattle.std.specs.List.{last_or, AllByRecursion}
-use Rattle.std.proofs.lemmas.Bool.{cases_Bool, eqb-true, eq-eqb, ne_eqb, false≢true, true≢false}
-use Rattle.std.proofs.lemmas.List.{append-nil}
-use Rattle.std.proofs.lemmas.List.Elements.{filter-append}
-use Rattle.ifr_opcodes.specs.declared.codes.TheConstants.{VALUE, FORM_SET}
-use Rattle.ifr_opcodes.specs.Fields.{question_id}
+use Rattle.std.proofs.Common.{◌≡◌, ℕ, zero, suc, ◌≤◌, Bool, true, false, List, [], ◌∷◌, ◌++◌, append_assoc, length, refl, sym, ap, ◌∙◌, arith, inl, inr, length-append}
+use Rattle.std.specs.Prelude.{Contains, ◌||◌}
+use Rattle.std.proofs.lemmas.Bool.{cases_Bool, ne_eqb}
 use Rattle.ifr_opcodes.specs.Opcode.{number}
-use Rattle.ifr_opcodes.specs.Operators.{is_among, is_operator}
+use Rattle.ifr_opcodes.specs.Operators.{is_among}
 use Rattle.ifr_opcodes.specs.Forest.{Ancestor, Placed, as_ancestor}
 use Rattle.ifr_scopes.specs.Checked.{IsChecked}
 use Rattle.ifr_scopes.specs.Guards.{is_guard}
-use Rattle.ifr_scopes.specs.Kinds.{is_question_number, is_statement_number}
-use Rattle.ifr_scopes.specs.Nodes.{nodes_of, is_question, is_statement, questions_among, id_or_0, this_among, this_of}
+use Rattle.ifr_scopes.specs.Kinds.{is_question_number}
+use Rattle.ifr_scopes.specs.Nodes.{nodes_of, is_question, is_statement}
 use Rattle.ifr_scopes.specs.Structure.{parent, is_condition, begins_with_value, is_wanted, is_root}
-use Rattle.ifr_scopes.specs.Table.{row, class_of, class_around, admits}
-use Rattle.ifr_scopes.specs.declared.table.Class.{Class}
+use Rattle.ifr_scopes.specs.Table.{class_around}
 use Rattle.ifr_scopes.specs.declared.table.Class.TheVariants.{OfNothing}
-use Rattle.ifr_scopes.proofs.RuleFacts.{IsAround, around_it, class-guard, class-other, is_operator_there, is_value_there, no_root, held}
+use Rattle.ifr_scopes.proofs.RuleFacts.{split_last, around_it, class-guard, class-other, is_operator_there, is_value_there, held}
 use Rattle.ifr_scopes.proofs.TableLemmas.{is_inner, outer, inner_is_not_outer, guarded_inner, other_is_inner, question_is_inner, no_statement, operator_is_inner, value_is_inner, question_is_statement, no_guard}
 
 -- what begins a scope is no statement, nor does one stand in its own
@@ -50,13 +44,6 @@ last_of (z ∷ xs) (w ∷ ys) x y e =
     let inner = last_of xs ys x y tails in
     (ap (λ (l : List Ancestor). z ∷ l) inner.0 ∙ ap (λ (b : Ancestor). b ∷ ys) heads, inner.1)
 
-split_end : (path : List Ancestor) → (path ≡ []) ⊎ ((before : List Ancestor) × (a : Ancestor) × (path ≡ before ++ a ∷ []))
-split_end [] = inl refl
-split_end (b ∷ path) = elim (split_end path) [
-  | inl bare ↦ inr ([], b, ap (λ (l : List Ancestor). b ∷ l) bare)
-  | inr (before, a, e) ↦ inr (b ∷ before, a, ap (λ (l : List Ancestor). b ∷ l) e)
-]
-
 question_no_guard : (code : ℕ) → is_question_number code ≡ true → is_guard code ≡ false
 question_no_guard code asks = no_guard code (question_is_statement code asks)
 
@@ -76,11 +63,11 @@ deeper_class bytes n m checked within path root around = elim (cases_Bool (is_gu
 -- the scopes inside of a question's are such scopes
 pub inner_class : (bytes : List ℕ) (k : ℕ) (q n : Placed) (inside : List Ancestor) → IsChecked bytes → Contains (nodes_of bytes) n → is_question q ≡ true → length inside ≤ k
     → n.path ≡ q.path ++ as_ancestor q ∷ inside → is_inner (class_around OfNothing n.path) ≡ true
-inner_class bytes zero q n inside checked within is le e = elim (split_end inside) [
+inner_class bytes zero q n inside checked within is le e = elim (split_last inside) [
   | inl bare ↦ outermost_class q n inside is e bare
   | inr (before, a, last) ↦ absurd (omega (arith, le, ap (λ (l : List Ancestor). length l) last, length-append before (a ∷ [])))
 ]
-inner_class bytes (suc k) q n inside checked within is le e = elim (split_end inside) [
+inner_class bytes (suc k) q n inside checked within is le e = elim (split_last inside) [
   | inl bare ↦ outermost_class q n inside is e bare
   | inr (before, a, last) ↦ elim (around_it bytes n checked within) [
     | inl bare ↦ absurd (omega (arith, ap (λ (l : List Ancestor). length l) (sym e ∙ bare), length-append q.path (as_ancestor q ∷ inside)))

@@ -1,6 +1,6 @@
 -- What the structure of a checked package says of its rules: each begins with an expression and has nothing beside it, and
 -- stands in one form and in no rule.
-use Rattle.std.proofs.Common.{◌≡◌, ◌⊎◌, ℕ, zero, suc, ◌+◌, ◌≤◌, Bool, true, false, cond, eqb, Option, Some, None, List, [], ◌∷◌, ◌++◌, length, refl, sym, ap, ◌∙◌, subst, arith, inl, inr}
+use Rattle.std.proofs.Common.{◌≡◌, ◌⊎◌, ℕ, zero, suc, ◌+◌, ◌≤◌, Bool, true, false, cond, eqb, Some, List, [], ◌∷◌, ◌++◌, length, refl, sym, ap, ◌∙◌, subst, arith, inl, inr}
 use Rattle.std.specs.Prelude.{Contains, ◌&&◌, ◌==◌, not, filter}
 use Rattle.std.proofs.lemmas.Bool.{cases_Bool, eqb-true, eq-eqb, ne_eqb, cond-true, cond-false, false≢true, true≢false, and_right, or_from}
 use Rattle.std.proofs.lemmas.List.{append-nil, length-append}
@@ -30,7 +30,7 @@ use Rattle.ifr_scopes.proofs.ViewLemmas.{contains_found, further, below_within}
 
 -- ---- the node around a node
 
-split_last : (path : List Ancestor) → (path ≡ []) ⊎ ((before : List Ancestor) × (a : Ancestor) × (path ≡ before ++ a ∷ []))
+pub split_last : (path : List Ancestor) → (path ≡ []) ⊎ ((before : List Ancestor) × (a : Ancestor) × (path ≡ before ++ a ∷ []))
 split_last [] = inl refl
 split_last (b ∷ path) = elim (split_last path) [
   | inl bare ↦ inr ([], b, ap (λ (l : List Ancestor). b ∷ l) bare)

@@ -111,7 +111,7 @@ around_node bytes place op places checked at e = are_scopes bytes places (node_i
 
 -- ---- the innermost question
 
-last_or-push : {X : Type 0} (found : Option X) (xs : List X) (x : X) → last_or found (xs ++ x ∷ []) ≡ Some x
+pub last_or-push : {X : Type 0} (found : Option X) (xs : List X) (x : X) → last_or found (xs ++ x ∷ []) ≡ Some x
 last_or-push found [] x = refl
 last_or-push found (y ∷ xs) x = last_or-push (Some y) xs x
 

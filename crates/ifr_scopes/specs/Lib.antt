@@ -7,6 +7,7 @@ pub mod Stores
 pub mod Nodes
 pub mod Table
 pub mod Structure
+pub mod Locks
 pub mod Conditions
 pub mod References
 pub mod Checked
@@ -19,6 +20,8 @@ pub mod RuleNodes
 pub mod Scopes
 pub mod Around
 pub mod Lists
+pub mod LocksLeft
+pub mod PartsLeft
 pub mod Parts
 pub mod Accepted
 pub mod Met

@@ -1,6 +1,7 @@
 //! The nodes of a forms package: its framing, and walks over them (UEFI 2.8, 33.3.8 Forms Package).
 #![tactic(auto)]
 
+mod condition_view;
 mod default_view;
 mod ends;
 mod form;
@@ -16,6 +17,7 @@ mod guards_of;
 mod index;
 mod kinds;
 pub mod laws;
+mod locks;
 mod node;
 mod nodes;
 mod nodes_of;
@@ -34,6 +36,7 @@ mod tests;
 mod varstore;
 mod walk;
 
+pub use condition_view::{ConditionOp, ConditionView, ConditionViews};
 pub use default_view::{DefaultView, Defaults};
 pub use form::{Form, FormViews};
 pub use form_set::FormSet;
@@ -41,6 +44,7 @@ pub use forms::Forms;
 pub use guard::{Guard, GuardViews};
 pub use guards_at::GuardsAt;
 pub use guards_of::GuardsOf;
+pub use locks::{LockView, Locks};
 pub use option_view::{OptionView, Options};
 pub use statement::{Statement, StatementKind, Statements};
 pub use varstore::{StoreOp, Varstore, Varstores};

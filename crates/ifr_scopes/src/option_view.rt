@@ -6,6 +6,7 @@ ghost use Rattle.ifr_scopes.specs.Nodes.{is_option};
 ghost use Rattle.ifr_scopes.specs.Views.{node_of};
 
 use crate::guards_of::GuardsOf;
+use crate::locks::Locks;
 use crate::node::Node;
 use crate::nodes_of::NodesOf;
 use ifr_opcodes::OptionOp;
@@ -20,6 +21,9 @@ pub struct OptionView<'a> {
 impl<'a> OptionView<'a> {
     ghost use Rattle.ifr_opcodes.specs.Ops.{bytes_of};
     ghost use Rattle.ifr_scopes.specs.Guards.{guards};
+    ghost use Rattle.ifr_scopes.specs.Locks.{locks};
+    ghost use Rattle.ifr_scopes.specs.LocksLeft.{locks_left};
+    ghost use Rattle.ifr_scopes.specs.Nodes.{nodes_of};
     ghost use Rattle.ifr_scopes.specs.Lists.{guards_of_left};
     ghost use Rattle.ifr_scopes.specs.Parts.{option_node, option_package};
 
@@ -44,6 +48,14 @@ impl<'a> OptionView<'a> {
         ensures of_package { result.ifr.now ≡ option_package self.entry }
     {
         GuardsOf::around(self.node.ifr, self.node.op.place)
+    }
+
+    /// The LOCKED that lock it, by what they stand in, the outermost first, then by place; found by walks from the package's
+    /// start.
+    pub fn locks(self) -> Locks<'a>
+        ensures { locks_left result ≡ locks (nodes_of (option_package self.entry)) (option_node self.entry) }
+    {
+        Locks::around(self.node.ifr, self.node.op.place)
     }
 }
 

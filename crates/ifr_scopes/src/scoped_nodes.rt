@@ -32,7 +32,9 @@ impl<'a> ScopedNodes<'a> {
     ghost use Rattle.ifr_scopes.specs.Kept.{kept_guards};
     ghost use Rattle.std.specs.Prelude.{None, option_map};
     ghost use Rattle.std.specs.List.{last_or};
+    ghost use Rattle.ifr_scopes.specs.Locks.{chain};
     ghost use Rattle.ifr_scopes.specs.Rules.{forms_among};
+    ghost use Rattle.ifr_scopes.specs.Structure.{parent};
     ghost use Rattle.ifr_scopes.specs.Views.{node_of};
 
     /// All nodes of a package.
@@ -78,6 +80,27 @@ impl<'a> ScopedNodes<'a> {
         ensures { result ≡ this_of (node_of met.now.node) }
     {
         this_among(self.walk.bytes(), self.walk.around(met.depth))
+    }
+
+    /// The place of what the node stands in that was met last, if it stands in something.
+    pub(crate) fn parent(&self, met: &ScopedNode) -> Option<u32>
+        requires { IsAround self.now met.now }
+        ensures { result ≡ option_map (λ a. a.place) (parent (node_of met.now.node)) }
+    {
+        self.walk.around(met.depth).last().copied()
+    }
+
+    /// The places of what stands around the node that was met last, the outermost first, and its own.
+    pub(crate) fn chain(&self, met: &ScopedNode) -> ArrayVec<u32, 65>
+        requires { IsAround self.now met.now }
+        ensures { result.items ≡ chain (node_of met.now.node) }
+    {
+        let mut chain = ArrayVec::new();
+        chain
+            .try_extend_from_slice(self.walk.around(met.depth))
+            .unwrap();
+        chain.push(met.node.op().place);
+        chain
     }
 
     /// The place of the innermost form around the node that was met last, if there is one.

@@ -3,20 +3,22 @@
 ghost use Rattle.std.specs.Prelude.{◌≡◌, true, Some, None, option_map, if◌then◌else◌};
 ghost use Rattle.ifr_opcodes.specs.Forest.{mark};
 ghost use Rattle.ifr_opcodes.specs.Ops.{op_of};
-ghost use Rattle.ifr_scopes.specs.Nodes.{is_statement, is_question, options, defaults};
+ghost use Rattle.ifr_scopes.specs.Nodes.{is_statement, is_question, options, defaults, inconsistents, no_submits, warnings};
 ghost use Rattle.ifr_scopes.specs.Views.{node_of};
 
+use crate::condition_view::ConditionViews;
 use crate::default_view::Defaults;
 use crate::guards_of::GuardsOf;
+use crate::locks::Locks;
 use crate::node::Node;
 use crate::nodes::Nodes;
 use crate::nodes_of::NodesOf;
 use crate::option_view::Options;
 use ifr_opcodes::{
-    ACTION, ActionOp, CHECKBOX, CheckboxOp, DATE, DEFAULT, DateOp, NUMERIC, NumericOp, ONE_OF,
-    ONE_OF_OPTION, ORDERED_LIST, OneOfOp, Op, OrderedListOp, PASSWORD, PasswordOp, QuestionOp, REF,
-    RESET_BUTTON, RefOp, ResetButtonOp, STRING, SUBTITLE, StatementOp, StringOp, SubtitleOp, TEXT,
-    TIME, TextOp, TimeOp,
+    ACTION, ActionOp, CHECKBOX, CheckboxOp, DATE, DEFAULT, DateOp, INCONSISTENT_IF, NO_SUBMIT_IF,
+    NUMERIC, NumericOp, ONE_OF, ONE_OF_OPTION, ORDERED_LIST, OneOfOp, Op, OrderedListOp, PASSWORD,
+    PasswordOp, QuestionOp, REF, RESET_BUTTON, RefOp, ResetButtonOp, STRING, SUBTITLE, StatementOp,
+    StringOp, SubtitleOp, TEXT, TIME, TextOp, TimeOp, WARNING_IF,
 };
 
 /// The opcode of a statement, by what it is.
@@ -80,8 +82,11 @@ pub struct Statement<'a> {
 impl<'a> Statement<'a> {
     ghost use Rattle.ifr_opcodes.specs.Ops.{bytes_of};
     ghost use Rattle.ifr_scopes.specs.Guards.{guards};
+    ghost use Rattle.ifr_scopes.specs.Locks.{locks};
+    ghost use Rattle.ifr_scopes.specs.LocksLeft.{locks_left};
+    ghost use Rattle.ifr_scopes.specs.Nodes.{nodes_of};
     ghost use Rattle.ifr_scopes.specs.Lists.{guards_of_left, statement_node, statement_package, kind_op};
-    ghost use Rattle.ifr_scopes.specs.Parts.{options_left, defaults_left};
+    ghost use Rattle.ifr_scopes.specs.Parts.{options_left, defaults_left, conditions_left};
 
     /// Its place, in bytes from the package's header.
     pub fn place(self) -> u32
@@ -125,6 +130,14 @@ impl<'a> Statement<'a> {
         StatementKind::of(self.node.op())
     }
 
+    /// The LOCKED that lock it, by what they stand in, the outermost first, then by place; found by walks from the package's
+    /// start.
+    pub fn locks(self) -> Locks<'a>
+        ensures { locks_left result ≡ locks (nodes_of (statement_package self.entry)) (statement_node self.entry) }
+    {
+        Locks::around(self.node.ifr, self.node.op.place)
+    }
+
     /// Its options, by place.
     pub fn options(self) -> Options<'a>
         ensures { options_left result ≡ options (statement_node self.entry) }
@@ -141,6 +154,30 @@ impl<'a> Statement<'a> {
         Defaults {
             nodes: NodesOf::question(self.node, DEFAULT),
         }
+    }
+
+    /// Its conditions that deny a value, by place.
+    #[tactic(auto, unfolding(crate::specs::Kinds::is_condition_number))]
+    pub fn inconsistents(self) -> ConditionViews<'a>
+        ensures { conditions_left result ≡ inconsistents (statement_node self.entry) }
+    {
+        ConditionViews::question(self.node, INCONSISTENT_IF)
+    }
+
+    /// Its conditions that deny a submission, by place.
+    #[tactic(auto, unfolding(crate::specs::Kinds::is_condition_number))]
+    pub fn nosubmits(self) -> ConditionViews<'a>
+        ensures { conditions_left result ≡ no_submits (statement_node self.entry) }
+    {
+        ConditionViews::question(self.node, NO_SUBMIT_IF)
+    }
+
+    /// Its conditions that warn, by place.
+    #[tactic(auto, unfolding(crate::specs::Kinds::is_condition_number))]
+    pub fn warnings(self) -> ConditionViews<'a>
+        ensures { conditions_left result ≡ warnings (statement_node self.entry) }
+    {
+        ConditionViews::question(self.node, WARNING_IF)
     }
 }
 

@@ -157,6 +157,19 @@ const FORMS: [u8; 87] = [
     0x29, 2, 0x29, 2, // at 83, 85
 ];
 
+#[test]
+fn parts_of_a_question(rt: HostRuntime) -> Result<(), Fail> {
+    let forms = forms_of(rt.alloc(), &FORMS)?;
+    let question = forms.statements().next().expect(&rt, "a question");
+    assert!(rt; question.options().next().is_none());
+    assert!(rt; question.defaults().next().is_none());
+    assert!(rt; question.inconsistents().next().is_none());
+    assert!(rt; question.nosubmits().next().is_none());
+    assert!(rt; question.warnings().next().is_none());
+    assert!(rt; question.locks().next().is_none());
+    Ok(())
+}
+
 fn check(alloc: Global, ifr: &[u8]) -> Result<(), Fault>
     requires header { 4 ≤ length ifr.now }
     requires small { length ifr.now < 2 ^ 32 }

@@ -1,9 +1,11 @@
 use Rattle.hii_questions.specs.ChoiceViews.{choice_values}
 use Rattle.hii_questions.specs.ItemsLeft.{items_left}
+use Rattle.hii_questions.specs.TypeViews.{list_width}
 use Rattle.hii_questions.proofs.ListLemmas.{elements_fit}
 use Rattle.hii_questions.proofs.fitting.elements.Goals as goal
 
 pub returns : goal.returns
 returns c =
     let list = c.args.list in
-    elements_fit list.width list.most list.unique list.some (choice_values list.choices) (items_left c.args.items) c.in_ok-check_list.ensures.told c.in_ok-check_list.ensures.few
+    rw c.width.ensures.value
+    (elements_fit (list_width list) list.most list.unique list.some (choice_values list.choices) (items_left c.args.items) c.in_ok-check_list.ensures.told c.in_ok-check_list.ensures.few)

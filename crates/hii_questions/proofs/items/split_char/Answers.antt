@@ -1,4 +1,4 @@
-use Rattle.std.proofs.Common.{◌≡◌, ◌∷◌, ◌++◌, List, ℕ, chars, sym, ap, ◌∙◌}
+use Rattle.std.proofs.Common.{◌∷◌, List, ℕ, chars, sym, ap, ◌∙◌}
 use Rattle.std.proofs.lemmas.Str.{chars_past_char}
 use Rattle.hii_questions.proofs.items.split_char.Goals as goal
 

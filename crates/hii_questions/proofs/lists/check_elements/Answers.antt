@@ -1,4 +1,4 @@
-use Rattle.std.proofs.Common.{◌≡◌, ◌==◌, ◌&&◌, ℕ, ◌+◌, ◌∷◌, [], ◌++◌, false, List, length, take, sym, ap, ◌∙◌, arith, refl, append_assoc}
+use Rattle.std.proofs.Common.{◌≡◌, ◌==◌, ◌&&◌, ℕ, ◌∷◌, [], ◌++◌, false, List, length, take, sym, ap, ◌∙◌, arith, refl, append_assoc}
 use Rattle.std.specs.List.{list_any}
 use Rattle.hii_questions.specs.ChoiceViews.{choice_values}
 use Rattle.hii_questions.specs.Inputs.{element_denial}

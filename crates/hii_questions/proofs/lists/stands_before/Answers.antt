@@ -1,6 +1,4 @@
-use Rattle.std.proofs.Common.{◌≡◌, ◌==◌, ℕ, ◌∷◌, ◌-◌, suc, List, take, sym, ap, ◌∙◌, arith, refl}
-use Rattle.std.proofs.lemmas.Bool.{ne_eqb}
-use Rattle.std.specs.List.{list_any}
+use Rattle.std.proofs.Common.{◌∙◌}
 use Rattle.hii_questions.specs.ItemsLeft.{items_left}
 use Rattle.hii_questions.proofs.ListLemmas.{among_more}
 use Rattle.hii_questions.proofs.lists.stands_before.Goals as goal

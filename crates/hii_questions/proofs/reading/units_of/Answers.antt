@@ -1,5 +1,4 @@
-use Rattle.std.proofs.Common.{◌≡◌, ◌≤◌, ℕ, length, leb, true, sym, arith, subst, Option, Some, ◌∙◌, refl}
-use Rattle.std.specs.Option.{IsSome}
+use Rattle.std.proofs.Common.{◌≡◌, ◌≤◌, length, leb, true, arith, Some, ◌∙◌, refl}
 use Rattle.std.proofs.lemmas.Bool.{le-leb}
 use Rattle.hii_questions.specs.Items.{items_in}
 use Rattle.hii_questions.proofs.ItemLemmas.{items_within}

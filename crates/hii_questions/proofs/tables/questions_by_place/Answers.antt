@@ -1,4 +1,4 @@
-use Rattle.std.proofs.Common.{◌≡◌, ◌++◌, List, ap, ◌∙◌, map}
+use Rattle.std.proofs.Common.{◌++◌, List, ap, ◌∙◌, map}
 use Rattle.std.specs.Prelude.{filter}
 use Rattle.ifr_opcodes.specs.Forest.{Placed}
 use Rattle.ifr_scopes.specs.Lists.{statement_node, statements_left}

@@ -1,4 +1,4 @@
-use Rattle.std.proofs.Common.{◌≡◌, ◌∙◌, sym, ap, inl, inr, refl, Bool, true, false, Some, None, Option, List, ℕ, chars, cond}
+use Rattle.std.proofs.Common.{◌≡◌, ◌∙◌, sym, ap, inl, inr, refl, false, Some, None, List, ℕ, chars, cond}
 use Rattle.std.specs.Str.{IsUtf8, is_utf8}
 use Rattle.std.specs.List.{list_any}
 use Rattle.std.proofs.lemmas.Bool.{cases_Bool}

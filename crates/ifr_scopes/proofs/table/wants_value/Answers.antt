@@ -1,4 +1,4 @@
-use Rattle.std.proofs.Common.{◌≡◌, ℕ, suc, ◌+◌, ◌≤◌, Bool, true, false, eqb, leb, Option, Some, None, List, length, refl, sym, ap, subst, ◌∙◌, arith, inl, inr}
+use Rattle.std.proofs.Common.{◌≡◌, ℕ, suc, ◌≤◌, Bool, eqb, leb, Option, Some, None, length, refl, sym, ap, subst, ◌∙◌, arith, inl, inr}
 use Rattle.std.specs.Prelude.{◌&&◌, nat_eq, SomeIff}
 use Rattle.std.specs.Option.{option_eq}
 use Rattle.std.proofs.lemmas.Bool.{cases_Bool, eq-eqb, le-leb, leb-true}
@@ -6,7 +6,6 @@ use Rattle.ifr_opcodes.specs.declared.codes.TheConstants.{DEFAULT}
 use Rattle.ifr_opcodes.specs.Fields.{default_kind}
 use Rattle.ifr_opcodes.specs.Ops.{bytes_of}
 use Rattle.ifr_opcodes.proofs.FieldLemmas.{number_behind}
-use Rattle.ifr_scopes.specs.Table as table
 use Rattle.ifr_scopes.proofs.table.wants_value.Goals as goal
 
 -- a byte of the body is the wanted one where the opcode has it

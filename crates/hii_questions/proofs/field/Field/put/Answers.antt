@@ -1,4 +1,3 @@
-use Rattle.std.proofs.Common.{◌≡◌}
 use Rattle.hii_varstore.proofs.WriteLemmas.{shape_after}
 use Rattle.hii_questions.proofs.field.Field.put.Goals as goal
 

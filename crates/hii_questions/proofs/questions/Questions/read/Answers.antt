@@ -1,4 +1,4 @@
-use Rattle.std.proofs.Common.{◌≡◌, ℕ, Bool, List, map, sym, ap, ◌∙◌, inr}
+use Rattle.std.proofs.Common.{ℕ, Bool, List, map, sym, ap, ◌∙◌, inr}
 use Rattle.std.specs.BTreeSet.{contains}
 use Rattle.std.specs.List.{flat_map}
 use Rattle.std.specs.Ordering.{nat_cmp}

@@ -1,9 +1,9 @@
-use Rattle.std.proofs.Common.{◌≡◌, ℕ, ◌∷◌, [], List, sym, ap, ◌∙◌, arith, drop, take}
+use Rattle.std.proofs.Common.{ℕ, ◌∷◌, List, sym, ap, ◌∙◌, arith}
 use Rattle.std.proofs.lemmas.List.{take_rest}
 use Rattle.std.proofs.lemmas.Bool.{ne_eqb}
 use Rattle.hii_bytes.specs.Numbers.{number_in}
 use Rattle.hii_questions.specs.Items.{items_in}
-use Rattle.hii_questions.proofs.ItemLemmas.{widths, width_bounds, items_short, items_end, items_more}
+use Rattle.hii_questions.proofs.ItemLemmas.{width_bounds, items_end, items_more}
 use Rattle.hii_questions.proofs.stored_items.StoredItems.step.Goals as goal
 
 pub returns-then-item-eq0 : goal.returns-then-item-eq0

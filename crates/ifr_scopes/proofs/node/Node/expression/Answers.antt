@@ -10,7 +10,7 @@ use Rattle.ifr_scopes.proofs.ExpressionLemmas.{StandsFrom}
 use Rattle.ifr_scopes.proofs.node.Node.expression.Goals as goal
 use Rattle.ifr_scopes.proofs.node.Node.expression.Goals.{After-len, After-end_of-to}
 
--- the expression behind the guard's opcode
+-- the expression behind the node's opcode
 behind : (c : After-len) → Begins c.args.self.ifr.now (node_of c.args.self) (c.args.self.op.place + c.len.result)
 behind c =
     let node = c.args.self in

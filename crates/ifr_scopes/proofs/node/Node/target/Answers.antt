@@ -1,4 +1,4 @@
-use Rattle.std.proofs.Common.{◌≡◌, ℕ, eqb, ap, ◌∙◌}
+use Rattle.std.proofs.Common.{ap, ◌∙◌}
 use Rattle.std.proofs.lemmas.Bool.{eq-eqb}
 use Rattle.ifr_opcodes.specs.declared.codes.TheConstants.{REF}
 use Rattle.ifr_opcodes.specs.Opcode.{number}

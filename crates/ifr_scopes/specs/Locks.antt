@@ -1,0 +1,31 @@
+-- What a LOCKED locks (UEFI 2.8, 33.3.8.3, EFI_IFR_LOCKED: what it stands in; that it locks what stands before it there too, and
+-- which of several comes first, are own rules).
+use Rattle.std.specs.Prelude.{ℕ, Bool, false, ◌==◌, ◌&&◌, Option, Some, None, List, [], ◌∷◌, ◌++◌, filter, map}
+use Rattle.std.specs.List.{flat_map}
+use Rattle.ifr_opcodes.specs.declared.codes.TheConstants.{LOCKED}
+use Rattle.ifr_opcodes.specs.Opcode.{number}
+use Rattle.ifr_opcodes.specs.Forest.{Mark, Placed}
+use Rattle.ifr_scopes.specs.Structure.{parent}
+
+abbrev pub is_locked : Placed → Bool
+is_locked n = number n.op == LOCKED
+
+abbrev pub has_place : ℕ → Option Mark → Bool
+has_place place None = false
+has_place place (Some a) = a.place == place
+
+-- whether a node is a LOCKED that stands directly in the scope of what stands at a place
+abbrev pub locks_scope : ℕ → Placed → Bool
+locks_scope place n = is_locked n && has_place place (parent n)
+
+-- these, by place
+abbrev pub locked_in : List Placed → ℕ → List Placed
+locked_in ns place = filter (locks_scope place) ns
+
+-- the places of what stands around a node, the outermost first, and of the node itself
+abbrev pub chain : Placed → List ℕ
+chain n = map (λ a. a.place) n.path ++ n.place ∷ []
+
+-- the LOCKED that lock a node: by what they stand in, the outermost first, then by place
+abbrev pub locks : List Placed → Placed → List Placed
+locks ns n = flat_map (locked_in ns) (chain n)

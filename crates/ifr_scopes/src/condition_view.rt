@@ -1,0 +1,152 @@
+//! The conditions of questions: of their values, of a submission, and of a warning.
+
+ghost use Rattle.std.specs.Prelude.{◌≡◌, true, All};
+ghost use Rattle.ifr_opcodes.specs.Opcode.{number};
+ghost use Rattle.ifr_scopes.specs.Kinds.{is_condition_number};
+ghost use Rattle.ifr_scopes.specs.Nodes.{of_question, this_of};
+ghost use Rattle.ifr_scopes.specs.PartsLeft.{parts_left, HaveThis, HaveThis-prop};
+ghost use Rattle.ifr_scopes.specs.Views.{node_of};
+
+use crate::node::Node;
+use crate::nodes_of::NodesOf;
+use ifr_expr::Expr;
+use ifr_opcodes::{
+    INCONSISTENT_IF, InconsistentIfOp, NO_SUBMIT_IF, NoSubmitIfOp, Op, WARNING_IF, WarningIfOp,
+};
+
+/// The opcode of a question's condition.
+#[derive(Clone, Copy, Debug)]
+pub enum ConditionOp<'a> {
+    InconsistentIf(InconsistentIfOp<'a>),
+    NoSubmitIf(NoSubmitIfOp<'a>),
+    WarningIf(WarningIfOp<'a>),
+}
+
+impl<'a> ConditionOp<'a> {
+    ghost use Rattle.std.specs.Prelude.{◌≤◌, length};
+    ghost use Rattle.ifr_opcodes.specs.Fields.{least_length};
+    ghost use Rattle.ifr_opcodes.specs.Ops.{bytes_of};
+    ghost use Rattle.ifr_scopes.specs.Conditions.{message};
+    ghost use Rattle.ifr_scopes.specs.Parts.{condition_op};
+
+    // The view of an opcode that has all its fields.
+    #[tactic(auto, unfolding(crate::specs::Kinds::is_condition_number))]
+    fn of(op: Op<'a>) -> ConditionOp<'a>
+        requires condition { is_condition_number op.code ≡ true }
+        requires sized { least_length (bytes_of op) ≤ length (bytes_of op) }
+        ensures { condition_op result ≡ op.entry }
+    {
+        match op.code {
+            INCONSISTENT_IF => ConditionOp::InconsistentIf(InconsistentIfOp { op }),
+            NO_SUBMIT_IF => ConditionOp::NoSubmitIf(NoSubmitIfOp { op }),
+            WARNING_IF => ConditionOp::WarningIf(WarningIfOp { op }),
+            _ => unreachable!(),
+        }
+    }
+
+    /// The string id of the text that it tells where it holds.
+    pub fn message(self) -> u16
+        ensures { result ≡ message (bytes_of (condition_op self.entry)) }
+    {
+        match self {
+            ConditionOp::InconsistentIf(view) => view.error(),
+            ConditionOp::NoSubmitIf(view) => view.error(),
+            ConditionOp::WarningIf(view) => view.text(),
+        }
+    }
+}
+
+/// A condition in the scope of a question (UEFI 2.8, 33.3.8.3, EFI_IFR_INCONSISTENT_IF, EFI_IFR_NO_SUBMIT_IF and
+/// EFI_IFR_WARNING_IF).
+#[derive(Clone, Copy, Debug)]
+pub struct ConditionView<'a> {
+    pub(crate) node: Node<'a>,
+    pub(crate) this: u16,
+    pub ghost condition: { is_condition_number (number (node_of node).op) ≡ true },
+    pub ghost within: { this ≡ this_of (node_of node) },
+}
+
+impl<'a> ConditionView<'a> {
+    ghost use Rattle.ifr_opcodes.specs.Ops.{bytes_of};
+    ghost use Rattle.ifr_expr.specs.Expressions.{tree_of};
+    ghost use Rattle.ifr_scopes.specs.Conditions.{expression_tree};
+    ghost use Rattle.ifr_scopes.specs.Parts.{condition_node, condition_op};
+
+    /// Its place, in bytes from the package's header.
+    pub fn place(self) -> u32
+        ensures { result ≡ (condition_node self.entry).place }
+    {
+        self.node.op().place
+    }
+
+    /// Its opcode.
+    pub fn op(self) -> ConditionOp<'a>
+        ensures place { (condition_op result).place ≡ (condition_node self.entry).place }
+        ensures bytes { bytes_of (condition_op result) ≡ (condition_node self.entry).op }
+    {
+        ConditionOp::of(self.node.op())
+    }
+
+    /// The id of the question in whose scope it stands, or 0.
+    pub fn this(self) -> u16
+        ensures { result ≡ this_of (condition_node self.entry) }
+    {
+        self.this
+    }
+
+    /// What is to hold: the expression with which its scope begins.
+    pub fn condition(self) -> Expr<'a>
+        ensures { tree_of result ≡ expression_tree (condition_node self.entry) }
+    {
+        self.node.expression()
+    }
+}
+
+/// The conditions of one kind that are left of a question, by place.
+#[derive(Drop)]
+pub struct ConditionViews<'a> {
+    nodes: NodesOf<'a>,
+    this: u16,
+    pub ghost coded: { is_condition_number nodes.code ≡ true },
+    pub ghost within: { HaveThis this (parts_left nodes) } by { HaveThis-prop this (parts_left nodes) },
+}
+
+impl<'a> ConditionViews<'a> {
+    ghost use Rattle.std.specs.Prelude.{◌==◌};
+    ghost use Rattle.ifr_scopes.specs.Parts.{conditions_left};
+
+    /// Those of a number in the scope of a node, where it is a question; none of another.
+    pub(crate) fn question(node: Node<'a>, code: u8) -> ConditionViews<'a>
+        requires { is_condition_number code ≡ true }
+        ensures { conditions_left result ≡ of_question (λ n. number n.op == code) (node_of node.entry) }
+    {
+        let this = if node.is_question() {
+            node.question().id()
+        } else {
+            0
+        };
+        ConditionViews {
+            nodes: NodesOf::question(node, code),
+            this,
+        }
+    }
+}
+
+impl<'a> Iterator for ConditionViews<'a> {
+    ghost use Rattle.std.specs.Iterator.{YieldsFirstBy, item_count};
+    ghost use Rattle.ifr_scopes.specs.Parts.{condition_node, conditions_left};
+
+    type Item = ConditionView<'a>;
+
+    ghost next_gives = { YieldsFirstBy condition_node conditions_left };
+
+    ghost remaining = { item_count conditions_left };
+
+    fn next(&mut self) -> Option<ConditionView<'a>> {
+        let node = self.nodes.step()?;
+        Some(ConditionView {
+            node,
+            this: self.this,
+        })
+    }
+}
