@@ -185,6 +185,16 @@ def suppressed(condition, *statements):
     return scoped(suppress_if(), condition, *statements)
 
 
+def grayed_out(condition, *statements):
+    """Statements that may not be changed while a condition holds."""
+    return scoped(opcode(0x19), condition, *statements)
+
+
+def disabled(condition, *statements):
+    """Statements that are not there where a condition holds at opening."""
+    return scoped(opcode(0x1E), condition, *statements)
+
+
 def rule(number, value):
     return scoped(opcode(0x18, bytes([number])), value)
 

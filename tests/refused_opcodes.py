@@ -1,43 +1,5 @@
 """Worked cases of lists that are refused for an opcode: by itself, for where it stands, or beside others."""
-from packages import (
-    BOOLEAN,
-    END,
-    NUMBER_1,
-    NUMBER_2,
-    OTHER,
-    STRING_ID,
-    UNSIGNED,
-    VARSTORE_GUID,
-    action,
-    checkbox,
-    date,
-    default,
-    default_store,
-    form,
-    form_set,
-    list_of,
-    numeric,
-    one_of,
-    opcode,
-    operator,
-    option,
-    ordered_list,
-    password,
-    ref,
-    reset_button,
-    scoped,
-    string_question,
-    subtitle,
-    suppressed,
-    text_statement,
-    time,
-    u16,
-    u32,
-    value,
-    varstore,
-    varstore_efi,
-    varstore_name_value,
-)
+from packages import *
 from worked import of_form, refused
 
 TRUE = operator(0x46)
@@ -72,13 +34,6 @@ def in_form_set(name, opcodes, line):
 
 def wrong_opcodes():
     # What is not known, or left out.
-    for name, op in (("gray_out_if", scoped(opcode(0x19), TRUE)), ("disable_if", scoped(opcode(0x1E), TRUE)), ("locked", opcode(0x0B))):
-        in_form("%s_is_not_known" % name, op, "26 OpOutside at 00000039")
-    for name, op in (("inconsistent_if", opcode(0x11, u16(7))), ("no_submit_if", opcode(0x10, u16(7))),
-                     ("warning_if", opcode(0x63, u16(7) + b"\0"))):
-        in_checkbox("%s_is_not_known" % name, scoped(op, TRUE), "26 OpOutside at 00000047")
-    in_choice("guard_among_options", suppressed(TRUE, option(5, 1)), "26 OpOutside at 0000004a")
-    in_form("locked_as_a_condition", suppressed(opcode(0x0B)), "26 OpOutside at 0000003b")
     in_form("guid_as_a_condition", suppressed(scoped(opcode(0x5F, bytes(16)))), "30 ExprShape at 00000039")
     in_form("guid_with_a_scope", scoped(opcode(0x5F, bytes(16))), "26 OpOutside at 00000039")
     in_form_set("efi_store_of_24_bytes", opcode(0x26, EFI_STORE), "26 OpOutside at 00000033")

@@ -1,51 +1,5 @@
 """Worked cases of statements and questions of all kinds: pages, values that are taken and refused, stores."""
-from packages import (
-    BOOLEAN,
-    END,
-    HEXADECIMAL,
-    NO_EMPTY_SET,
-    NUMBER_2,
-    OTHER,
-    SIGNED,
-    UNIQUE_SET,
-    UNSIGNED,
-    action,
-    checkbox,
-    date,
-    default,
-    default_store,
-    eq_id_val,
-    expression,
-    form,
-    form_set,
-    image,
-    list_of,
-    numeric,
-    older_image,
-    one_of,
-    opcode,
-    operator,
-    option,
-    ordered_list,
-    password,
-    question_ref,
-    ref,
-    reset_button,
-    scoped,
-    string_package,
-    string_question,
-    strings,
-    subtitle,
-    suppressed,
-    text_statement,
-    time,
-    u16,
-    uint8,
-    value,
-    varstore,
-    varstore_efi,
-    varstore_name_value,
-)
+from packages import *
 from worked import TITLE, case, denied, of_form, plain_row, refused, row, talk, with_strings
 
 OK = "OK\n"
@@ -164,7 +118,7 @@ def line_forms():
     talk("lines_that_are_no_lists", listed, b"\0\0", [(line, BAD) for line in lists] + [("order 1 00000000000000000001", OK), page("#5")])
     wrong = ["text", "text ", "text  1 x", "text 1\tx", "text x y", "text 65536 x", "Text 1 x", " text 1 x"]
     talk("lines_that_are_no_texts", of_form(string_question(1, 0, 0, 1)), b"\0\0", [(line, BAD) for line in wrong] + [page("")])
-    later = ["go 1", "back", "press 1", "defaults 0", "why 1", "extract GUID=", "route GUID="]
+    later = ["go 1", "back", "press 1", "defaults 0", "extract GUID=", "route GUID="]
     talk("commands_that_are_not_known", of_form(ref(1, u16(1))), b"\0\0", [(line, BAD) for line in later])
 
 

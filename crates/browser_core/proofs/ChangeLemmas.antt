@@ -23,7 +23,7 @@ use Rattle.hii_questions.proofs.LawLemmas.{holds_fields}
 use Rattle.browser_core.specs.State.{State}
 use Rattle.browser_core.specs.Opening.{IsBrowsable, layout_in}
 use Rattle.browser_core.specs.Standing.{LiesIn}
-use Rattle.browser_core.specs.Step.{are_same, field_bytes, is_other, is_changed, changed, submitted}
+use Rattle.browser_core.specs.Step.{are_same, field_bytes, is_other, is_changed, changed, commit}
 use Rattle.browser_core.specs.Texts.{count_text, changed_text}
 
 -- the bytes of a question's field are in its store
@@ -128,7 +128,7 @@ counted_start s qs all =
     omega (arith, counts)
 
 pub told_start : {a b : Pen} (s : State) (qs : List Asked) (count : ℕ) → count ≡ length (changed s) → qs ≡ questions (nodes_of s.ifr) → Writes a b (count_text count)
-    → Stands a b (submitted s).text (told (is_other_field s) qs)
+    → Stands a b (commit s).text (told (is_other_field s) qs)
 told_start {a} {b} s qs count counts all wrote =
     let texts : flat_map (λ (n : Placed). changed_text (question_id n.op)) (changed s) ≡ told (is_other_field s) qs =
     ap (λ (ns : List Placed). flat_map (λ (n : Placed). changed_text (question_id n.op)) ns) (sym (changed_is s)) ∙ sym (same_texts (filter (is_other_field s) (questions (nodes_of s.ifr)))) ∙ ap (told (is_other_field s)) (sym all) in

@@ -31,6 +31,7 @@ use Rattle.hii_varstore.specs.StoreNodes.{IsStoreFault}
 use Rattle.hii_varstore.specs.Faults.{IsImageFault, IsNoMemory}
 use Rattle.hii_varstore.proofs.FaultLemmas as image
 use Rattle.hii_questions.specs.Faults.{IsQuestionFault}
+use Rattle.guard_policy.specs.World.{removed_at}
 use Rattle.browser_core.specs.State.{State}
 use Rattle.browser_core.specs.Opening.{bytes_or_none, forms_bytes, HasSource, HasTexts, layout_in, IsSourceFault, IsTextFault, IsFormSetFault, IsBrowsingFault, IsOpenFault, IsBrowsable, Opens}
 
@@ -154,7 +155,7 @@ refuses_questions list n stores ifr shape fault f a sound laid r =
     (refuses_second (IsPackageFault ifr) (Then (IsStoreFault (nodes_of ifr)) (IsQuestionFault (nodes_of ifr))) fault (accepted_no_fault ifr a)
     (refuses_second (IsStoreFault (nodes_of ifr)) (IsQuestionFault (nodes_of ifr)) fault sound r))
 
-as_memory : (fault : Fault) → IsNoMemory fault → fault ≡ out_of_memory
+pub as_memory : (fault : Fault) → IsNoMemory fault → fault ≡ out_of_memory
 as_memory fault (cause, place) = let whole : ◌≡◌ {A = Fault} record { cause = fault.cause; place = fault.place } out_of_memory = cc in whole
 
 image_refuses : (IsFault : Cause → ℕ → Type 0) (fault : Fault) → IsNoMemory fault ⊎ IsLeast IsFault fault → Refuses IsFault fault
@@ -180,8 +181,8 @@ refuses_image list n stores ifr shape fault f b laid r =
 pub opened : (list : List ℕ) (n : ℕ) (stores language : List ℕ) (packages : List (List ℕ)) (source : Entry) (start : State) (shape : Shape) (first : Placed) (others : List Placed)
     → Spells list packages → nth_forms packages n ≡ Some source → start.ifr ≡ source.bytes → AreSpoken (string_packages packages) start.spoken → start.language ≡ chosen start.spoken language
     → IsBrowsable start.ifr → shape ≡ layout_in start.ifr → SpellsImage shape stores start.committed
-    → start.working ≡ start.committed → filter is_form (nodes_of start.ifr) ≡ first ∷ others → start.form ≡ first.place → Opens list n stores language start
-opened list n stores language packages source start shape first others s found is says chose b laid spelled same forms place = record {
+    → start.working ≡ start.committed → start.removed ≡ removed_at (nodes_of start.ifr) start.working → filter is_form (nodes_of start.ifr) ≡ first ∷ others → start.form ≡ first.place → Opens list n stores language start
+opened list n stores language packages source start shape first others s found is says chose b laid spelled same removed forms place = record {
   source = source;
   found = (packages, s, found);
   bytes = is;
@@ -190,6 +191,7 @@ opened list n stores language packages source start shape first others s found i
   browsable = b;
   stores = subst (SpellsImage (layout_in start.ifr) stores) (sym same) (subst (λ shape. SpellsImage shape stores start.committed) laid spelled);
   submitted = sym same;
+  removed = removed;
   others = places others;
   forms = ap places forms ∙ ap (λ (p : ℕ). p ∷ places others) (sym place);
 }

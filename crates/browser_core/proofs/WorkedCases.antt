@@ -50,7 +50,7 @@ before = form_set ++ store ++ form
 abbrev started : List ℕ → List ℕ → State
 started ifr bytes =
     let stores : StoreMap = record { guid = replicate 16 0x22; stores = record { id = 1; bytes = bytes } ∷ [] } in
-    record { ifr = ifr; spoken = []; language = None; committed = stores; working = stores; form = 51 }
+    record { ifr = ifr; removed = []; spoken = []; language = None; committed = stores; working = stores; form = 51 }
 
 -- ---- a checkbox is set and submitted
 

@@ -13,6 +13,7 @@ use Rattle.hii_varstore.specs.StoreNodes.{layout_of, IsStoreFault}
 use Rattle.hii_varstore.specs.Image.{SpellsImage}
 use Rattle.hii_varstore.specs.Faults.{IsImageFault}
 use Rattle.hii_questions.specs.Faults.{IsQuestionFault}
+use Rattle.guard_policy.specs.World.{removed_at}
 use Rattle.browser_core.specs.State.{State}
 
 -- the bytes of a package, none where it is not there
@@ -64,7 +65,8 @@ pub record IsBrowsable (ifr : List ℕ) : Type 0 where
   pub questions : HasNone (IsQuestionFault (nodes_of ifr))
 
 -- The list spells packages, among them a forms package of the number, which can be browsed; its string packages say texts,
--- of which those for the language are shown; the image spells its stores, with which a session begins, at the first form.
+-- of which those for the language are shown; the image spells its stores, with which a session begins, at the first form; the
+-- DISABLE_IFs that hold over these stores are removed.
 pub record Opens (list : List ℕ) (n : ℕ) (image language : List ℕ) (start : State) : Type 0 where
   pub source : Entry
   pub found : HasSource list n source
@@ -74,5 +76,6 @@ pub record Opens (list : List ℕ) (n : ℕ) (image language : List ℕ) (start 
   pub browsable : IsBrowsable start.ifr
   pub stores : SpellsImage (layout_in start.ifr) image start.working
   pub submitted : start.committed ≡ start.working
+  pub removed : start.removed ≡ removed_at (nodes_of start.ifr) start.working
   pub others : List ℕ
   pub forms : places (filter is_form (nodes_of start.ifr)) ≡ start.form ∷ others

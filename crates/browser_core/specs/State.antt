@@ -2,18 +2,28 @@
 use Rattle.std.specs.Prelude.{ℕ, Option, List}
 use Rattle.hii_languages.specs.Languages.{Spoken}
 use Rattle.hii_languages.specs.Shown.{shown_text}
+use Rattle.ifr_scopes.specs.Nodes.{nodes_of}
 use Rattle.hii_varstore.specs.Stores.{StoreMap}
+use Rattle.guard_policy.specs.World.{World}
 
--- The bytes of the forms package that is browsed and the texts of the string packages, which stay the same; the number of the
--- string package whose texts are shown; the stores as they were last submitted; the stores that commands read and change;
--- and the place of the current form.
+-- The bytes of the forms package that is browsed, the places of the DISABLE_IFs that were removed from it when it was opened,
+-- and the texts of the string packages, which stay the same; the number of the string package whose texts are shown; the
+-- stores as they were last submitted; the stores that commands read and change; and the place of the current form.
 pub record State : Type 0 where
   pub ifr : List ℕ
+  pub removed : List ℕ
   pub spoken : List Spoken
   pub language : Option ℕ
   pub committed : StoreMap
   pub working : StoreMap
   pub form : ℕ
+
+-- what decisions look at, over some stores, and over those that commands change
+abbrev pub world_with : State → StoreMap → World
+world_with s stores = record { nodes = nodes_of s.ifr; removed = s.removed; stores = stores }
+
+abbrev pub world_of : State → World
+world_of s = world_with s s.working
 
 -- the characters that are shown of a string id
 abbrev pub texts : State → ℕ → List ℕ

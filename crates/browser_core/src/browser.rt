@@ -13,22 +13,24 @@ ghost use Rattle.hii_commands.specs.Meaning.{order_of, HasList};
 ghost use Rattle.hii_varstore.specs.Stores.{shape_of};
 ghost use Rattle.hii_questions.specs.Fields.{question_with};
 ghost use Rattle.hii_questions.specs.Offers.{offer_of};
-ghost use Rattle.hii_questions.specs.Views.{question_view};
+ghost use Rattle.hii_questions.specs.Views.{question_node, question_view};
+ghost use Rattle.guard_policy.specs.Views.{bytes_of};
 ghost use Rattle.browser_core.specs.State.{State};
-ghost use Rattle.browser_core.specs.Step.{step, set_question, show_page, changed, are_same, field_bytes, submitted};
-ghost use Rattle.browser_core.specs.Standing.{Sets, LiesIn, IsOffered};
+ghost use Rattle.browser_core.specs.Step.{step, denied, why_question, set_question, warned_text, show_page, changed, are_same, field_bytes, commit, submitted};
+ghost use Rattle.browser_core.specs.Standing.{Selects, Takes, Sets, LiesIn, IsOffered};
 ghost use Rattle.browser_core.specs.Opening.{Opens, IsOpenFault, IsSourceFault};
 
+use crate::change::{NewValue, value_allowed};
 use crate::reply::Reply;
-use crate::texts::{put_changed, put_count, put_denial};
+use crate::texts::{put_changed, put_count, put_denial, put_warnings};
 use form_page::Page;
-use guard_policy::{Denial, Policy};
+use guard_policy::{Denial, Policy, Removed};
 use hii_bytes::{Fault, Watched};
 use hii_commands::Command;
 use hii_languages::{Choice, Languages};
 use hii_packages::laws::spelled_bytes_have_no_fault;
 use hii_packages::{Package, PackageList};
-use hii_questions::{DenialKind, Field, Input, Question, Questions, check_value};
+use hii_questions::{DenialKind, Input, Question, Questions, check_value};
 use hii_varstore::{Layout, Stores};
 use ifr_scopes::laws::a_node_is_that_of_its_place;
 use ifr_scopes::{Form, Forms};
@@ -43,8 +45,11 @@ pub(crate) struct Core<'a> {
     languages: Languages<'a>,
     language: Choice,
     questions: Questions<'a>,
+    removed: Removed,
     committed: Stores,
     working: Stores,
+    // the working stores, in which a new value is tried
+    trial: Stores,
     form: Form<'a>,
 }
 
@@ -56,9 +61,9 @@ impl<'a> Model for Core<'a> {
 
     ghost Value = { State };
 
-    ghost view = { λ c. record { ifr = c.forms; spoken = c.languages; language = choice_of c.language; committed = c.committed; working = c.working; form = (form_node c.form).place } };
+    ghost view = { λ c. record { ifr = c.forms; removed = c.removed; spoken = c.languages; language = choice_of c.language; committed = c.committed; working = c.working; form = (form_node c.form).place } };
 
-    ghost invariant = { λ c. Stands c.forms c.questions c.committed c.working (form_node c.form) };
+    ghost invariant = { λ c. Stands c.forms c.questions c.committed c.working c.trial (form_node c.form) };
 }
 
 impl<'a> Core<'a> {
@@ -83,6 +88,8 @@ impl<'a> Core<'a> {
         let questions = Questions::read(alloc, &forms, &layout)?;
         let committed = Stores::read(alloc, &layout, stores)?;
         let working = committed.copy(alloc)?;
+        let trial = committed.copy(alloc)?;
+        let removed = Removed::at_open(alloc, &forms, &questions, &working)?;
         let form = first_form(&forms);
         let language = languages.choose(lang);
         Ok(Core {
@@ -90,8 +97,10 @@ impl<'a> Core<'a> {
             languages,
             language,
             questions,
+            removed,
             committed,
             working,
+            trial,
             form,
         })
     }
@@ -127,32 +136,37 @@ impl<'a> Core<'a> {
             Command::Set { question, value } => self.set(question, Input::Number(value), out),
             Command::Order { question, list } => self.set(question, Input::List(list), out),
             Command::Text { question, text } => self.set(question, Input::Utf8(text), out),
+            Command::Why(question) => self.why(question, out),
             Command::Lang(language) => {
                 self.language = self.languages.choose(language);
                 out.put(b"OK\n");
                 Reply::Accepted
             }
-            Command::Submit => {
-                self.put_submitted(out);
-                self.committed.copy_from(&self.working);
-                Reply::Accepted
-            }
+            Command::Submit => self.submit(out),
             Command::Discard => {
                 self.working.copy_from(&self.committed);
+                self.trial.copy_from(&self.committed);
                 out.put(b"OK\n");
                 Reply::Accepted
             }
         }
     }
 
+    // What decides over the form set.
+    fn policy(&self) -> Policy<'a, '_>
+        ensures bytes { bytes_of result ≡ self.now.ifr }
+        ensures removed { result.removed.now ≡ self.now.removed }
+    {
+        Policy::new(&self.forms, &self.questions, &self.removed)
+    }
+
     // Writes the page of the current form.
     fn put_page<W: Write>(&self, out: &mut Watched<W>)
         ensures { Writes (pen_of W.contents out.old) (pen_of W.contents out.new) (show_page self.now).text }
     {
-        let policy = Policy::new(&self.forms, &self.questions);
         let page = Page::new(
             self.form,
-            policy,
+            self.policy(),
             &self.working,
             &self.languages,
             self.language,
@@ -160,30 +174,19 @@ impl<'a> Core<'a> {
         page.put_page(out);
     }
 
-    // Sets the question of an id to a value, or writes why it is denied.
-    fn set<W: Write>(&mut self, id: u16, input: Input<'_>, out: &mut Watched<W>) -> Reply
-        requires { IsOffered input }
-        ensures state { self.new ≡ (set_question self.old (question_with (nodes_of self.old.ifr) id) (offer_of input.entry)).state }
-        ensures text { Writes (pen_of W.contents out.old) (pen_of W.contents out.new) (set_question self.old (question_with (nodes_of self.old.ifr) id) (offer_of input.entry)).text }
-        ensures reply { result ≡ (set_question self.old (question_with (nodes_of self.old.ifr) id) (offer_of input.entry)).reply }
+    // Writes why a command is denied.
+    fn deny<W: Write>(&self, denial: Denial, out: &mut Watched<W>) -> Reply
+        ensures text { Writes (pen_of W.contents out.old) (pen_of W.contents out.new) (denied self.now denial).text }
+        ensures reply { result ≡ Reply.Denied denial }
     {
-        match self.new_field(id, input) {
-            Ok(field) => {
-                field.put(&mut self.working);
-                out.put(b"OK\n");
-                Reply::Accepted
-            }
-            Err(denial) => {
-                put_denial(denial, out);
-                Reply::Denied(denial)
-            }
-        }
+        let message = self.languages.text(self.language, denial.message);
+        put_denial(denial, message.chars(), out);
+        Reply::Denied(denial)
     }
 
-    // The new bytes with which the question of an id has a value, where it may be changed and takes it.
-    fn new_field<'i>(&self, id: u16, input: Input<'i>) -> Result<Field<'i>, Denial>
-        requires { IsOffered input }
-        ensures { Sets self.now id (offer_of input.entry) result }
+    // The question of an id, where it may be changed.
+    fn selected(&self, id: u16) -> Result<Question<'a>, Denial>
+        ensures { Selects self.now id result }
     {
         let Some(question) = self.questions.find(id) else {
             return Err(Denial {
@@ -192,10 +195,50 @@ impl<'a> Core<'a> {
                 message: 0,
             });
         };
-        let policy = Policy::new(&self.forms, &self.questions);
-        policy.changeable(question.statement(), &self.working)?;
+        self.policy()
+            .changeable(question.statement(), &self.working)?;
+        Ok(question)
+    }
+
+    // Writes what forbids a change of the question of an id, if something does.
+    fn why<W: Write>(&self, id: u16, out: &mut Watched<W>) -> Reply
+        ensures text { Writes (pen_of W.contents out.old) (pen_of W.contents out.new) (why_question self.now (question_with (nodes_of self.now.ifr) id)).text }
+        ensures reply { result ≡ (why_question self.now (question_with (nodes_of self.now.ifr) id)).reply }
+    {
+        match self.selected(id) {
+            Ok(_) => {
+                out.put(b"OK\n");
+                Reply::Accepted
+            }
+            Err(denial) => self.deny(denial, out),
+        }
+    }
+
+    // Sets the question of an id to a value and writes of what it warns, or writes why it is denied.
+    fn set<W: Write>(&mut self, id: u16, input: Input<'_>, out: &mut Watched<W>) -> Reply
+        requires { IsOffered input }
+        ensures state { self.new ≡ (set_question self.old (question_with (nodes_of self.old.ifr) id) (offer_of input.entry)).state }
+        ensures text { Writes (pen_of W.contents out.old) (pen_of W.contents out.new) (set_question self.old (question_with (nodes_of self.old.ifr) id) (offer_of input.entry)).text }
+        ensures reply { result ≡ (set_question self.old (question_with (nodes_of self.old.ifr) id) (offer_of input.entry)).reply }
+    {
+        match self.change(id, input) {
+            Ok(question) => {
+                out.put(b"OK\n");
+                self.put_warnings(question, out);
+                Reply::Accepted
+            }
+            Err(denial) => self.deny(denial, out),
+        }
+    }
+
+    // The question of an id with the new bytes with which it has a value, where it may be changed and takes it.
+    fn new_value<'i>(&self, id: u16, input: Input<'i>) -> Result<NewValue<'a, 'i>, Denial>
+        requires { IsOffered input }
+        ensures { Takes self.now id (offer_of input.entry) result }
+    {
+        let question = self.selected(id)?;
         match check_value(question, input) {
-            Ok(field) => Ok(field),
+            Ok(field) => Ok(NewValue { question, field }),
             Err(denied) => Err(Denial {
                 kind: denied.kind,
                 place: denied.place,
@@ -204,9 +247,53 @@ impl<'a> Core<'a> {
         }
     }
 
+    // Gives the question of an id a value, which is tried first, or answers why it may not have it.
+    fn change(&mut self, id: u16, input: Input<'_>) -> Result<Question<'a>, Denial>
+        requires { IsOffered input }
+        ensures { Sets self.old id (offer_of input.entry) self.new result }
+    {
+        let NewValue { question, field } = self.new_value(id, input)?;
+        field.put(&mut self.trial);
+        let policy = Policy::new(&self.forms, &self.questions, &self.removed);
+        match value_allowed(policy, question, &self.working, &self.trial) {
+            Ok(()) => {
+                field.put(&mut self.working);
+                Ok(question)
+            }
+            Err(denial) => {
+                self.trial.copy_from(&self.working);
+                Err(denial)
+            }
+        }
+    }
+
+    // Writes of what a question warns.
+    fn put_warnings<W: Write>(&self, question: Question<'a>, out: &mut Watched<W>)
+        ensures { Writes (pen_of W.contents out.old) (pen_of W.contents out.new) (warned_text self.now self.now.working (question_node question.entry)) }
+    {
+        let warnings = self.policy().warnings(question, &self.working);
+        put_warnings(warnings, &self.languages, self.language, out);
+    }
+
+    // Submits the working stores, or writes why they may not be submitted.
+    fn submit<W: Write>(&mut self, out: &mut Watched<W>) -> Reply
+        ensures state { self.new ≡ (submitted self.old).state }
+        ensures text { Writes (pen_of W.contents out.old) (pen_of W.contents out.new) (submitted self.old).text }
+        ensures reply { result ≡ (submitted self.old).reply }
+    {
+        match self.policy().may_submit(&self.working) {
+            Ok(()) => {
+                self.put_submitted(out);
+                self.committed.copy_from(&self.working);
+                Reply::Accepted
+            }
+            Err(denial) => self.deny(denial, out),
+        }
+    }
+
     // Writes how many questions have other bytes than when they were last submitted, and each of them by place.
     fn put_submitted<W: Write>(&self, out: &mut Watched<W>)
-        ensures { Writes (pen_of W.contents out.old) (pen_of W.contents out.new) (submitted self.now).text }
+        ensures { Writes (pen_of W.contents out.old) (pen_of W.contents out.new) (commit self.now).text }
     {
         put_count(self.count_changed(), out);
         for question in self.questions.all() {

@@ -3,6 +3,7 @@
 #![tactic(auto)]
 
 mod browser;
+mod change;
 pub mod laws;
 mod reply;
 mod script;

@@ -1,10 +1,19 @@
 //! The lines of answers.
 
 ghost use Rattle.hii_bytes.specs.Watching.{pen_of, Writes};
-ghost use Rattle.browser_core.specs.Texts.{count_text, changed_text, place_text, denied_text, cause_text, refused_text, fault_text};
+ghost use Rattle.std.specs.List.{flat_map};
+ghost use Rattle.hii_languages.specs.Shown.{shown_text};
+ghost use Rattle.hii_languages.specs.Views.{chars_left, choice_of};
+ghost use Rattle.guard_policy.specs.Warned.{warnings_left};
+ghost use Rattle.std.specs.Prelude.{◌≡◌};
+ghost use Rattle.browser_core.specs.Texts as texts;
+ghost use Rattle.browser_core.specs.Texts.{count_text, changed_text, place_text, message_text, denied_text, warning_text, warning_line, cause_text, refused_text, fault_text};
 
-use guard_policy::Denial;
+use form_page::put_shown;
+use guard_policy::{Denial, Warning, Warnings};
 use hii_bytes::{Cause, Fault, Watched};
+use hii_languages::{Choice, Languages, ShownChars};
+use hii_questions::DenialKind;
 use std::io::Write;
 
 /// Writes `OK n`.
@@ -35,15 +44,64 @@ fn put_place<W: Write>(place: u64, out: &mut Watched<W>)
     out.put_hex((place % 256) as u8);
 }
 
-/// Writes the line of a denial.
-pub(crate) fn put_denial<W: Write>(denial: Denial, out: &mut Watched<W>)
-    ensures { Writes (pen_of W.contents out.old) (pen_of W.contents out.new) (denied_text denial) }
+// Whether a denial of a kind is told with the text of its opcode.
+fn has_message(kind: DenialKind) -> bool
+    ensures { result ≡ texts.has_message kind }
+{
+    match kind {
+        DenialKind::InconsistentIf => true,
+        DenialKind::NoSubmitIf => true,
+        _ => false,
+    }
+}
+
+// Writes a text behind a space, where a denial of this kind has one.
+fn put_message<W: Write>(kind: DenialKind, message: ShownChars<'_>, out: &mut Watched<W>)
+    ensures { Writes (pen_of W.contents out.old) (pen_of W.contents out.new) (message_text kind (chars_left message.entry)) }
+{
+    if has_message(kind) {
+        out.put(b" ");
+        put_shown(message, out);
+    }
+}
+
+/// Writes the line of a denial, with the characters of its text.
+pub(crate) fn put_denial<W: Write>(denial: Denial, message: ShownChars<'_>, out: &mut Watched<W>)
+    ensures { Writes (pen_of W.contents out.old) (pen_of W.contents out.new) (denied_text (chars_left message.entry) denial) }
 {
     out.put(b"DENIED ");
     out.put(denial.kind.name().as_bytes());
     out.put(b" at ");
     put_place(u64::from(denial.place), out);
+    put_message(denial.kind, message, out);
     out.put(b"\n");
+}
+
+// Writes the line of a warning, with the characters of its text.
+fn put_warning<W: Write>(warning: Warning, message: ShownChars<'_>, out: &mut Watched<W>)
+    ensures { Writes (pen_of W.contents out.old) (pen_of W.contents out.new) (warning_text (chars_left message.entry) warning) }
+{
+    out.put(b"WARNING at ");
+    put_place(u64::from(warning.place), out);
+    out.put(b" ");
+    put_shown(message, out);
+    out.put(b"\n");
+}
+
+/// Writes a line for each warning, with its text in a language.
+pub(crate) fn put_warnings<W: Write>(
+    warnings: Warnings<'_, '_>,
+    languages: &Languages<'_>,
+    language: Choice,
+    out: &mut Watched<W>,
+)
+    ensures { Writes (pen_of W.contents out.old) (pen_of W.contents out.new) (flat_map (warning_line (shown_text languages.now (choice_of language))) (warnings_left warnings.entry)) }
+{
+    let mut warnings = warnings;
+    while let Some(warning) = warnings.next() {
+        let message = languages.text(language, warning.message);
+        put_warning(warning, message.chars(), out);
+    }
 }
 
 fn put_cause<W: Write>(cause: Cause, out: &mut Watched<W>)

@@ -1,7 +1,7 @@
 -- The value of a field that is a text has whole units.
-use Rattle.std.proofs.Common.{◌≡◌, ℕ, ◌+◌, ◌*◌, ◌%◌, ◌≤◌, eqb, cond, true, false, Option, Some, None, List, length, take, sym, ◌∙◌, inl, inr, arith, length-take}
+use Rattle.std.proofs.Common.{◌≡◌, ℕ, ◌*◌, ◌%◌, eqb, Option, Some, None, List, length, sym, ◌∙◌, inl, inr, arith, length-take}
 use Rattle.std.proofs.lemmas.Bool.{cases_Bool, cond-true, cond-false}
-use Rattle.ifr_expr.specs.Values.{Value, text as text_value}
+use Rattle.ifr_expr.specs.Values.{text as text_value}
 use Rattle.ifr_opcodes.specs.Forest.{Placed}
 use Rattle.hii_varstore.specs.Stores.{StoreMap, field_of as field_bytes}
 use Rattle.hii_questions.specs.Answers.{value_in, value_of_bytes, value_of_field}

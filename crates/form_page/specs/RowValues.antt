@@ -1,5 +1,5 @@
 -- What a row shows of a statement, kind by kind (own rule; the kinds are those of UEFI 2.8, 33.3.8.3 Opcode Reference).
-use Rattle.std.specs.Prelude.{ℕ, zero, suc, ◌*◌, ◌/◌, ◌%◌, ◌^◌, true, false, Bool, ◌==◌, ◌&&◌, ◌||◌, if◌then◌else◌, Option, Some, None, option_map, is_none, List, [], ◌∷◌, ◌++◌, map, codes, decimal}
+use Rattle.std.specs.Prelude.{ℕ, zero, suc, ◌*◌, ◌/◌, ◌%◌, ◌^◌, true, false, Bool, ◌==◌, ◌&&◌, if◌then◌else◌, Option, Some, None, option_map, is_none, List, [], ◌∷◌, ◌++◌, map, codes, decimal}
 use Rattle.std.specs.List.{find, flat_map}
 use Rattle.std.specs.Fmt.{digit_glyph, signed_decimal}
 use Rattle.sibt_strings.specs.Units.{chars_of_units}
@@ -11,13 +11,13 @@ use Rattle.ifr_opcodes.specs.Fields.{display, numeric_width, option_text, option
 use Rattle.ifr_opcodes.specs.Forest.{Placed}
 use Rattle.ifr_expr.specs.Values.{Value, boolean, natural, text, buffer}
 use Rattle.ifr_scopes.specs.Nodes.{options, is_question}
-use Rattle.hii_varstore.specs.Stores.{StoreMap}
 use Rattle.hii_questions.specs.Answers.{value_of_field}
 use Rattle.hii_questions.specs.Fields.{field_of}
 use Rattle.hii_questions.specs.Inputs.{shown}
 use Rattle.hii_questions.specs.Items.{items_in}
 use Rattle.hii_questions.specs.Types.{element_width}
 use Rattle.guard_policy.specs.Policy.{hidden}
+use Rattle.guard_policy.specs.World.{World}
 
 -- EFI_IFR_CHECKBOX: an x where it is true, a space where it is false
 abbrev pub checkbox_text : Bool → List ℕ
@@ -44,12 +44,12 @@ numeric_shown op (natural n) = number_text (display op) (numeric_width op) n
 numeric_shown op _ = []
 
 -- the first of some options, by place, that has the value and is not hidden
-abbrev pub option_with : List Placed → StoreMap → List Placed → ℕ → Option Placed
-option_with ns stores its value = find (λ o. (option_value o.op == value) && is_none (hidden ns stores o)) its
+abbrev pub option_with : World → List Placed → ℕ → Option Placed
+option_with w its value = find (λ o. (option_value o.op == value) && is_none (hidden w o)) its
 
 -- the text of that option of a question
-abbrev pub choice : (ℕ → List ℕ) → List Placed → StoreMap → Placed → ℕ → Option (List ℕ)
-choice texts ns stores n value = option_map (λ (o : Placed). texts (option_text o.op)) (option_with ns stores (options n) value)
+abbrev pub choice : (ℕ → List ℕ) → World → Placed → ℕ → Option (List ℕ)
+choice texts w n value = option_map (λ (o : Placed). texts (option_text o.op)) (option_with w (options n) value)
 
 -- where no option is to be seen, a question mark
 abbrev pub choice_text : Option (List ℕ) → List ℕ
@@ -60,9 +60,9 @@ choice_text (Some its) = its
 abbrev pub one_of_text : Option (List ℕ) → List ℕ
 one_of_text its = codes "<" ++ choice_text its ++ codes ">"
 
-abbrev pub one_of_shown : (ℕ → List ℕ) → List Placed → StoreMap → Placed → Value → List ℕ
-one_of_shown texts ns stores n (natural value) = one_of_text (choice texts ns stores n value)
-one_of_shown texts ns stores n _ = []
+abbrev pub one_of_shown : (ℕ → List ℕ) → World → Placed → Value → List ℕ
+one_of_shown texts w n (natural value) = one_of_text (choice texts w n value)
+one_of_shown texts w n _ = []
 
 -- EFI_IFR_ORDERED_LIST: the text of the option of each element, with a comma and a space between
 abbrev pub later_text : List (Option (List ℕ)) → List ℕ
@@ -72,9 +72,9 @@ abbrev pub list_text : List (Option (List ℕ)) → List ℕ
 list_text [] = []
 list_text (its ∷ choices) = choice_text its ++ later_text choices
 
-abbrev pub list_shown : (ℕ → List ℕ) → List Placed → StoreMap → Placed → Value → List ℕ
-list_shown texts ns stores n (buffer bytes) = list_text (map (choice texts ns stores n) (items_in (element_width n) bytes))
-list_shown texts ns stores n _ = []
+abbrev pub list_shown : (ℕ → List ℕ) → World → Placed → Value → List ℕ
+list_shown texts w n (buffer bytes) = list_text (map (choice texts w n) (items_in (element_width n) bytes))
+list_shown texts w n _ = []
 
 -- EFI_IFR_STRING: its characters
 abbrev pub string_shown : Value → List ℕ
@@ -91,14 +91,14 @@ password_shown (text units) = password_text units
 password_shown _ = []
 
 -- what a question of each kind shows of a value; of the value of one without a field, which is undefined, nothing
-abbrev pub stored_shown : (ℕ → List ℕ) → List Placed → StoreMap → Placed → Value → List ℕ
-stored_shown texts ns stores n value =
+abbrev pub stored_shown : (ℕ → List ℕ) → World → Placed → Value → List ℕ
+stored_shown texts w n value =
     if number n.op == CHECKBOX then checkbox_shown value
     else if number n.op == NUMERIC then numeric_shown n.op value
-    else if number n.op == ONE_OF then one_of_shown texts ns stores n value
+    else if number n.op == ONE_OF then one_of_shown texts w n value
     else if number n.op == STRING then string_shown value
     else if number n.op == PASSWORD then password_shown value
-    else if number n.op == ORDERED_LIST then list_shown texts ns stores n value
+    else if number n.op == ORDERED_LIST then list_shown texts w n value
     else []
 
 -- EFI_IFR_REF: the id of the form to which it leads
@@ -107,13 +107,13 @@ reference_text None = codes "->"
 reference_text (Some form) = codes "->" ++ decimal form
 
 -- a statement that is no question has no value
-abbrev pub question_shown : (ℕ → List ℕ) → List Placed → StoreMap → Placed → List ℕ
-question_shown texts ns stores n = if is_question n then stored_shown texts ns stores n (value_of_field stores n (field_of ns n)) else []
+abbrev pub question_shown : (ℕ → List ℕ) → World → Placed → List ℕ
+question_shown texts w n = if is_question n then stored_shown texts w n (value_of_field w.stores n (field_of w.nodes n)) else []
 
 -- what the row of a statement shows between its brackets, with the texts as the characters that are shown of each string id
-abbrev pub value_shown : (ℕ → List ℕ) → List Placed → StoreMap → Placed → List ℕ
-value_shown texts ns stores n =
+abbrev pub value_shown : (ℕ → List ℕ) → World → Placed → List ℕ
+value_shown texts w n =
     if number n.op == TEXT then texts (text_second n.op)
     else if number n.op == RESET_BUTTON then codes "reset"
     else if number n.op == REF then reference_text (ref_target n.op)
-    else question_shown texts ns stores n
+    else question_shown texts w n

@@ -1,5 +1,5 @@
 -- What the values of rows stand for.
-use Rattle.std.specs.Prelude.{ℕ, if◌then◌else◌, Option, Some, None, option_map, List, [], codes, decimal}
+use Rattle.std.specs.Prelude.{ℕ, if◌then◌else◌, option_map, List, [], codes, decimal}
 use Rattle.std.specs.Fmt.{signed_decimal}
 use Rattle.sibt_strings.specs.Units.{chars_of_units}
 use Rattle.sibt_strings.specs.Views.{units_in}

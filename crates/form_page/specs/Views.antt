@@ -1,11 +1,10 @@
 -- What the values of a page stand for.
-use Rattle.std.specs.Prelude.{ℕ, if◌then◌else◌, Option, Some, None, is_none, List, [], ◌∷◌, filter}
+use Rattle.std.specs.Prelude.{is_none, List, filter}
 use Rattle.ifr_scopes.specs.Lists.{statements_left}
-use Rattle.ifr_scopes.specs.Nodes.{nodes_of}
 use Rattle.hii_languages.specs.Shown.{shown_text}
 use Rattle.hii_languages.specs.Views.{choice_of, text_of}
 use Rattle.guard_policy.specs.Policy.{hidden}
-use Rattle.guard_policy.specs.Views.{bytes_of}
+use Rattle.guard_policy.specs.Views.{world}
 use Rattle.form_page.specs.Pages.{rows_from}
 use Rattle.form_page.specs.Pages as pages
 use Rattle.form_page.specs.RowViews.{value_text}
@@ -18,6 +17,5 @@ row_seen row = record { number = row.number; mark = row.mark; question = row.que
 
 abbrev pub rows_left : Rows → List pages.Row
 rows_left it =
-    let ns = nodes_of (bytes_of it.page.policy) in
-    let stores = it.page.stores.now in
-    rows_from (shown_text it.page.languages.now (choice_of it.page.choice)) ns stores it.number (filter (λ n. is_none (hidden ns stores n)) (statements_left it.statements))
+    let w = world it.page.policy it.page.stores.now in
+    rows_from (shown_text it.page.languages.now (choice_of it.page.choice)) w it.number (filter (λ n. is_none (hidden w n)) (statements_left it.statements))

@@ -6,10 +6,9 @@ ghost use Rattle.ifr_scopes.specs.Parts.{option_node};
 ghost use Rattle.guard_policy.specs.Policy.{hidden};
 ghost use Rattle.ifr_scopes.specs.Checked.{IsNodeOf, IsNodeOf-prop};
 ghost use Rattle.ifr_scopes.specs.Lists.{statement_node};
-ghost use Rattle.ifr_scopes.specs.Nodes.{nodes_of};
 ghost use Rattle.hii_languages.specs.Shown.{shown_text};
 ghost use Rattle.hii_languages.specs.Views.{choice_of, text_of};
-ghost use Rattle.guard_policy.specs.Views.{bytes_of};
+ghost use Rattle.guard_policy.specs.Views.{bytes_of, world};
 ghost use Rattle.form_page.specs.RowValues.{choice};
 
 use crate::page::Page;
@@ -20,7 +19,7 @@ use ifr_scopes::{OptionView, Statement};
 // Whether an option has a value and is not hidden.
 fn is_choice<'a>(page: Page<'a, '_>, option: OptionView<'a>, value: u64) -> bool
     requires { IsNodeOf (bytes_of page.policy) (option_node option) }
-    ensures { result ≡ ((option_value (option_node option.entry).op == value) && is_none (hidden (nodes_of (bytes_of page.entry.policy)) page.entry.stores.now (option_node option.entry))) }
+    ensures { result ≡ ((option_value (option_node option.entry).op == value) && is_none (hidden (world page.entry.policy page.entry.stores.now) (option_node option.entry))) }
 {
     option.op().value() == value && page.policy.option_listed(option, page.stores).is_ok()
 }
@@ -32,7 +31,7 @@ pub(crate) fn option_text<'a>(
     value: u64,
 ) -> Option<Shown<'a>>
     requires { IsNodeOf (bytes_of page.policy) (statement_node statement) }
-    ensures { option_map text_of result ≡ choice (shown_text page.entry.languages.now (choice_of page.entry.choice)) (nodes_of (bytes_of page.entry.policy)) page.entry.stores.now (statement_node statement.entry) value }
+    ensures { option_map text_of result ≡ choice (shown_text page.entry.languages.now (choice_of page.entry.choice)) (world page.entry.policy page.entry.stores.now) (statement_node statement.entry) value }
 {
     // The package is accepted: its options are nodes of it.
     page.policy.forms().bytes();

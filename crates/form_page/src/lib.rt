@@ -19,4 +19,5 @@ pub use choice::Elements;
 pub use page::{Page, Rows};
 pub use row::Row;
 pub use row_value::{Hexadecimal, RowValue};
+pub use shown::put_shown;
 pub use value_chars::RowValueChars;

@@ -4,10 +4,9 @@ ghost use Rattle.std.specs.Prelude.{◌≡◌, ◌+◌, ◌<◌, ◌^◌, length
 ghost use Rattle.ifr_opcodes.specs.Fields.{form_title};
 ghost use Rattle.ifr_scopes.specs.Checked.{IsNodeOf, IsNodeOf-prop, AreNodesOf, AreNodesOf-prop};
 ghost use Rattle.ifr_scopes.specs.Lists.{form_node, statements_left};
-ghost use Rattle.ifr_scopes.specs.Nodes.{nodes_of};
 ghost use Rattle.hii_languages.specs.Shown.{shown_text};
 ghost use Rattle.hii_languages.specs.Views.{choice_of, text_of};
-ghost use Rattle.guard_policy.specs.Views.{bytes_of};
+ghost use Rattle.guard_policy.specs.Views.{bytes_of, world};
 ghost use Rattle.form_page.specs.Pages as pages;
 
 use crate::row::Row;
@@ -52,7 +51,7 @@ impl<'a, 's> Page<'a, 's> {
     ) -> Page<'a, 's>
         requires { IsNodeOf (bytes_of policy) (form_node form) }
         ensures form { form_node result.form ≡ form_node form.entry }
-        ensures policy { bytes_of result.policy ≡ bytes_of policy.entry }
+        ensures policy { result.policy ≡ policy.entry }
         ensures stores { result.stores.now ≡ stores.now }
         ensures languages { result.languages.now ≡ languages.now }
         ensures choice { choice_of result.choice ≡ choice_of choice }
@@ -75,7 +74,7 @@ impl<'a, 's> Page<'a, 's> {
 
     /// Its rows: one for each statement of the form that is not hidden.
     pub fn rows(&self) -> Rows<'a, 's>
-        ensures { rows_left result ≡ pages.rows (shown_text self.now.languages.now (choice_of self.now.choice)) (nodes_of (bytes_of self.now.policy)) self.now.stores.now (form_node self.now.form) }
+        ensures { rows_left result ≡ pages.rows (shown_text self.now.languages.now (choice_of self.now.choice)) (world self.now.policy self.now.stores.now) (form_node self.now.form) }
     {
         statements_are_few();
         statements_are_nodes();

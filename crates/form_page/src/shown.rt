@@ -44,8 +44,8 @@ pub(crate) fn put_in_columns<W: Write>(text: ShownChars<'_>, count: usize, out: 
     out.put_spaces(room);
 }
 
-/// Writes a text whole.
-pub(crate) fn put_shown<W: Write>(text: ShownChars<'_>, out: &mut Watched<W>)
+/// Writes a text whole, in UTF-8.
+pub fn put_shown<W: Write>(text: ShownChars<'_>, out: &mut Watched<W>)
     ensures { Writes (pen_of W.contents out.old) (pen_of W.contents out.new) (utf8 (chars_left text.entry)) }
 {
     let mut text = text;

@@ -6,10 +6,9 @@ ghost use Rattle.ifr_expr.specs.Values.{text as text_value};
 ghost use Rattle.ifr_expr.specs.Views.{value_of};
 ghost use Rattle.ifr_scopes.specs.Checked.{IsNodeOf};
 ghost use Rattle.ifr_scopes.specs.Lists.{statement_node};
-ghost use Rattle.ifr_scopes.specs.Nodes.{nodes_of};
 ghost use Rattle.hii_languages.specs.Shown.{shown_text};
 ghost use Rattle.hii_languages.specs.Views.{choice_of};
-ghost use Rattle.guard_policy.specs.Views.{bytes_of};
+ghost use Rattle.guard_policy.specs.Views.{bytes_of, world};
 ghost use Rattle.form_page.specs.RowValues as values;
 ghost use Rattle.form_page.specs.RowViews.{value_text};
 
@@ -51,7 +50,7 @@ fn one_of_value<'a, 's>(
     value: Value<'_>,
 ) -> RowValue<'a, 's>
     requires { IsNodeOf (bytes_of page.policy) (statement_node statement) }
-    ensures { value_text result ≡ values.one_of_shown (shown_text page.entry.languages.now (choice_of page.entry.choice)) (nodes_of (bytes_of page.entry.policy)) page.entry.stores.now (statement_node statement.entry) (value_of value.entry) }
+    ensures { value_text result ≡ values.one_of_shown (shown_text page.entry.languages.now (choice_of page.entry.choice)) (world page.entry.policy page.entry.stores.now) (statement_node statement.entry) (value_of value.entry) }
 {
     match value {
         Value::Number(number) => RowValue::OneOf(option_text(page, statement, number)),
@@ -65,7 +64,7 @@ fn list_value<'a, 's>(
     value: Value<'s>,
 ) -> RowValue<'a, 's>
     requires { IsNodeOf (bytes_of page.policy) (statement_node statement) }
-    ensures { value_text result ≡ values.list_shown (shown_text page.entry.languages.now (choice_of page.entry.choice)) (nodes_of (bytes_of page.entry.policy)) page.entry.stores.now (statement_node statement.entry) (value_of value.entry) }
+    ensures { value_text result ≡ values.list_shown (shown_text page.entry.languages.now (choice_of page.entry.choice)) (world page.entry.policy page.entry.stores.now) (statement_node statement.entry) (value_of value.entry) }
 {
     let Value::Buffer(bytes) = value else {
         return RowValue::Empty;
@@ -104,7 +103,7 @@ fn stored_value<'a, 's>(
 ) -> RowValue<'a, 's>
     requires node { IsNodeOf (bytes_of page.policy) (statement_node statement) }
     requires whole { (units : List ℕ) → value_of value ≡ text_value units → length units % 2 ≡ 0 }
-    ensures { value_text result ≡ values.stored_shown (shown_text page.entry.languages.now (choice_of page.entry.choice)) (nodes_of (bytes_of page.entry.policy)) page.entry.stores.now (statement_node statement.entry) (value_of value.entry) }
+    ensures { value_text result ≡ values.stored_shown (shown_text page.entry.languages.now (choice_of page.entry.choice)) (world page.entry.policy page.entry.stores.now) (statement_node statement.entry) (value_of value.entry) }
 {
     let kind = statement.kind();
     if let StatementKind::Checkbox(_) = kind {
@@ -131,7 +130,7 @@ fn stored_value<'a, 's>(
 // The same for a statement, of which only a question has a value.
 fn question_value<'a, 's>(page: Page<'a, 's>, statement: Statement<'a>) -> RowValue<'a, 's>
     requires { IsNodeOf (bytes_of page.policy) (statement_node statement) }
-    ensures { value_text result ≡ values.question_shown (shown_text page.entry.languages.now (choice_of page.entry.choice)) (nodes_of (bytes_of page.entry.policy)) page.entry.stores.now (statement_node statement.entry) }
+    ensures { value_text result ≡ values.question_shown (shown_text page.entry.languages.now (choice_of page.entry.choice)) (world page.entry.policy page.entry.stores.now) (statement_node statement.entry) }
 {
     match page.policy.question(statement) {
         Some(question) => stored_value(page, statement, read_value(question, page.stores)),
@@ -145,7 +144,7 @@ pub(crate) fn statement_value<'a, 's>(
     statement: Statement<'a>,
 ) -> RowValue<'a, 's>
     requires { IsNodeOf (bytes_of page.policy) (statement_node statement) }
-    ensures { value_text result ≡ values.value_shown (shown_text page.entry.languages.now (choice_of page.entry.choice)) (nodes_of (bytes_of page.entry.policy)) page.entry.stores.now (statement_node statement.entry) }
+    ensures { value_text result ≡ values.value_shown (shown_text page.entry.languages.now (choice_of page.entry.choice)) (world page.entry.policy page.entry.stores.now) (statement_node statement.entry) }
 {
     match statement.kind() {
         StatementKind::Text(op) => RowValue::Text(page.languages.text(page.choice, op.second())),

@@ -3,7 +3,7 @@ ghost use Rattle.ifr_scopes.specs.Checked.{IsNodeOf};
 ghost use Rattle.ifr_scopes.specs.Lists.{form_node};
 
 use crate::Page;
-use guard_policy::Policy;
+use guard_policy::{Policy, Removed};
 use hii_bytes::{Watched, WriteFault};
 use hii_languages::{Languages, Shown};
 use hii_packages::{FORMS, Package, PackageList};
@@ -211,7 +211,8 @@ fn a_page_has_rows_and_is_written(rt: HostRuntime) -> Result<(), Fail> {
     let list = PackageList::read(string_list())?;
     let languages = Languages::read(alloc, &list)?;
     let choice = languages.choose(b"en");
-    let policy = Policy::new(&forms, &questions);
+    let removed = Removed::at_open(alloc, &forms, &questions, &stores)?;
+    let policy = Policy::new(&forms, &questions, &removed);
     let page = Page::new(form, policy, &stores, &languages, choice);
     has_title_and_rows(&rt, &page);
     is_written(&rt, alloc, &page);

@@ -1,44 +1,69 @@
--- What a guard, a flag or a missing store forbids (UEFI 2.8, 33.2.5.10 Forms Processing; 33.3.8.3, EFI_IFR_SUPPRESS_IF: what
--- stands in its scope is hidden while its condition holds; which opcode is named is an own rule).
-use Rattle.std.specs.Prelude.{ℕ, ◌+◌, Bool, ◌==◌, ◌&&◌, if◌then◌else◌, Option, Some, None, is_none, Result, Ok, Err, List, length}
-use Rattle.std.specs.List.{find}
-use Rattle.ifr_opcodes.specs.declared.codes.TheConstants.{SUPPRESS_IF}
+-- What is seen, what may be changed and submitted, and which opcode forbids it (UEFI 2.8, 33.2.5.10 Forms Processing; the opcodes
+-- are those of 33.3.8.3; which of several is named is an own rule).
+use Rattle.std.specs.Prelude.{ℕ, Bool, ◌==◌, ◌&&◌, ◌||◌, not, if◌then◌else◌, Option, Some, None, option_map, is_none, Result, Ok, Err, List, [], ◌∷◌, filter}
+use Rattle.std.specs.List.{find, list_any}
+use Rattle.ifr_opcodes.specs.declared.codes.TheConstants.{SUPPRESS_IF, GRAY_OUT_IF, DISABLE_IF}
 use Rattle.ifr_opcodes.specs.Opcode.{number}
+use Rattle.ifr_opcodes.specs.Operators.{is_among}
 use Rattle.ifr_opcodes.specs.Forest.{Placed}
-use Rattle.ifr_opcodes.specs.Fields.{is_read_only, ref_target}
-use Rattle.ifr_expr.specs.Values.{Value, holds}
-use Rattle.ifr_expr.specs.Meaning.{Rule, value}
-use Rattle.ifr_expr.specs.Reading.{tree_in}
+use Rattle.ifr_opcodes.specs.Fields.{is_read_only, option_value, ref_target}
+use Rattle.ifr_scopes.specs.Conditions.{message}
 use Rattle.ifr_scopes.specs.Guards.{guards}
-use Rattle.ifr_scopes.specs.Nodes.{this_of, is_question, is_reference}
-use Rattle.ifr_scopes.specs.Rules.{rules_among}
-use Rattle.hii_varstore.specs.Stores.{StoreMap}
-use Rattle.hii_questions.specs.Answers.{answers}
+use Rattle.ifr_scopes.specs.Locks.{first_lock}
+use Rattle.ifr_scopes.specs.Nodes.{is_question, is_reference, is_no_submit, options, inconsistents, warnings}
 use Rattle.hii_questions.specs.Fields.{Asked, asked}
 use Rattle.hii_questions.specs.declared.denial.DenialKind.{DenialKind}
-use Rattle.hii_questions.specs.declared.denial.DenialKind.TheVariants.{SuppressIf, ReadOnly, Outside}
+use Rattle.hii_questions.specs.declared.denial.DenialKind.TheVariants.{DisableIf, SuppressIf, GrayOutIf, Locked, ReadOnly, Outside, InconsistentIf, NoSubmitIf}
+use Rattle.guard_policy.specs.World.{World, is_met}
 use Rattle.guard_policy.specs.declared.denial.Denial.{Denial}
-
--- The condition of a guard, the expression with which its scope begins, holds.
-abbrev pub is_met : List Rule → (ℕ → Value) → Placed → Bool
-is_met rules answers guard = holds (value rules answers (this_of guard) (tree_in (guard.place + length guard.op) guard.children))
-
--- a SUPPRESS_IF whose condition holds
-abbrev pub suppresses : List Rule → (ℕ → Value) → Placed → Bool
-suppresses rules answers guard = number guard.op == SUPPRESS_IF && is_met rules answers guard
 
 -- a denial that names a node as what decides, without a text
 abbrev pub denied : DenialKind → Placed → Denial
 denied kind n = record { kind = kind; place = n.place; message = 0 }
 
-abbrev pub suppressed_by : Option Placed → Option Denial
-suppressed_by None = None
-suppressed_by (Some guard) = Some (denied SuppressIf guard)
+-- the same with the text of its opcode
+abbrev pub told : DenialKind → Placed → Denial
+told kind n = record { kind = kind; place = n.place; message = message n.op }
 
--- A node is hidden by the outermost of its guards that suppresses, over the rules of a package and what its questions answer
--- from stores.
-abbrev pub hidden : List Placed → StoreMap → Placed → Option Denial
-hidden ns stores n = suppressed_by (find (suppresses (rules_among ns) (answers ns stores)) (guards n))
+abbrev pub or_else : Option Denial → Option Denial → Option Denial
+or_else None other = other
+or_else (Some denial) other = Some denial
+
+-- ---- hidden
+
+-- A DISABLE_IF that was removed hides what stands in its scope, and a SUPPRESS_IF whose condition holds.
+abbrev pub is_removed : World → Placed → Bool
+is_removed w guard = number guard.op == DISABLE_IF && is_among guard.place w.removed
+
+abbrev pub suppresses : World → Placed → Bool
+suppresses w guard = number guard.op == SUPPRESS_IF && is_met w guard
+
+abbrev pub hides : World → Placed → Bool
+hides w guard = is_removed w guard || suppresses w guard
+
+abbrev pub hiding : Placed → Denial
+hiding guard = denied (if number guard.op == DISABLE_IF then DisableIf else SuppressIf) guard
+
+-- The outermost of guards that hides decides.
+abbrev pub hidden_among : World → List Placed → Option Denial
+hidden_among w gs = option_map hiding (find (hides w) gs)
+
+abbrev pub hidden : World → Placed → Option Denial
+hidden w n = hidden_among w (guards n)
+
+-- ---- fixed
+
+abbrev pub grays_out : World → Placed → Bool
+grays_out w guard = number guard.op == GRAY_OUT_IF && is_met w guard
+
+-- What stands in scopes of guards, and is locked, may not be changed: it is hidden, else the outermost GRAY_OUT_IF that holds
+-- decides, else the LOCKED.
+abbrev pub covered_by : World → List Placed → Option Placed → Option Denial
+covered_by w gs lock = or_else (hidden_among w gs) (or_else (option_map (denied GrayOutIf) (find (grays_out w) gs)) (option_map (denied Locked) lock))
+
+-- Of several LOCKED the one in the outermost scope decides, then the first by place.
+abbrev pub covered : World → Placed → Option Denial
+covered w n = covered_by w (guards n) (first_lock w.nodes n)
 
 -- What may not be changed for want of what it needs (own rule): a reference that leads to no form of this form set, and any
 -- other question without a field, as dates, times and actions are.
@@ -51,17 +76,46 @@ fixed_question q =
     if is_read_only q.node.op then Some (denied ReadOnly q.node)
     else if is_outside q then Some (denied Outside q.node) else None
 
--- A statement that is no question is not fixed by itself.
+-- What is no question is not fixed by itself.
 abbrev pub fixed_itself : List Placed → Placed → Option Denial
 fixed_itself ns n = if is_question n then fixed_question (asked ns n) else None
 
-abbrev pub or_else : Option Denial → Option Denial → Option Denial
-or_else None other = other
-or_else (Some denial) other = Some denial
+-- A node is fixed by what stands around it, else by itself.
+abbrev pub fixed : World → Placed → Option Denial
+fixed w n = or_else (covered w n) (fixed_itself w.nodes n)
 
--- A statement is fixed where it is hidden, else by itself.
-abbrev pub fixed : List Placed → StoreMap → Placed → Option Denial
-fixed ns stores n = or_else (hidden ns stores n) (fixed_itself ns n)
+-- ---- the values of options
+
+-- Where all of some options are fixed, the first by place denies; where there are none, nothing does.
+abbrev pub all_fixed : World → List Placed → Option Denial
+all_fixed w [] = None
+all_fixed w (o ∷ os) = if list_any (λ p. is_none (fixed w p)) (o ∷ os) then None else fixed w o
+
+-- a value of a question's options
+abbrev pub closed : World → Placed → ℕ → Option Denial
+closed w q value = all_fixed w (filter (λ o. option_value o.op == value) (options q))
+
+-- the first of several
+abbrev pub first_closed : World → Placed → List ℕ → Option Denial
+first_closed w q [] = None
+first_closed w q (value ∷ values) = or_else (closed w q value) (first_closed w q values)
+
+-- ---- the conditions of a question, over the stores with its new field
+
+abbrev pub inconsistent : World → Placed → Option Denial
+inconsistent w q = option_map (told InconsistentIf) (find (is_met w) (inconsistents q))
+
+abbrev pub warned : World → Placed → List Placed
+warned w q = filter (is_met w) (warnings q)
+
+-- ---- submission
+
+-- A NO_SUBMIT_IF counts whatever hides its question, but for a DISABLE_IF that was removed.
+abbrev pub denies_submission : World → Placed → Bool
+denies_submission w n = not (list_any (is_removed w) (guards n)) && is_met w n
+
+abbrev pub unsubmitted : World → Option Denial
+unsubmitted w = option_map (told NoSubmitIf) (find (denies_submission w) (filter is_no_submit w.nodes))
 
 -- an answer that names what forbids, if something does
 abbrev pub unless : Option Denial → Result Unit Denial

@@ -1,11 +1,29 @@
-//! Which statements are seen, which questions may be changed, and which opcode forbids it (UEFI 2.8, 33.2.5.10 Forms
-//! Processing).
+//! What is seen, what may be changed and submitted, and which opcode forbids it (UEFI 2.8, 33.2.5.10 Forms Processing).
 #![tactic(auto)]
 
+mod around;
+mod asked;
+mod conditions;
+mod covering;
+mod decision_conditions;
+mod decisions;
 mod denial;
+mod effect;
+pub mod laws;
+mod option_conditions;
 mod policy;
+mod removed;
+mod submission;
+mod support;
+mod support_of;
 #[cfg(test)]
 mod tests;
+mod values;
+mod warnings;
 
 pub use denial::Denial;
 pub use policy::Policy;
+pub use removed::Removed;
+pub use support::Decision;
+pub use support_of::SupportOf;
+pub use warnings::{Warning, Warnings};

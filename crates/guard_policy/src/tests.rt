@@ -1,33 +1,63 @@
-ghost use Rattle.std.specs.Prelude.{◌≤◌, ◌<◌, ◌^◌, length, IfOk, IfSome};
+ghost use Rattle.guard_policy.specs.Views.{bytes_of};
+ghost use Rattle.std.specs.Prelude.{◌≡◌, ◌≤◌, ◌<◌, ◌^◌, length, IfOk, IfSome};
 ghost use Rattle.ifr_scopes.specs.Accepted.{IsAccepted};
 ghost use Rattle.ifr_scopes.specs.Checked.{IsNodeOf};
-ghost use Rattle.ifr_scopes.specs.Lists.{form_node, statement_node};
+ghost use Rattle.ifr_scopes.specs.Lists.{form_node};
+ghost use Rattle.hii_questions.specs.Views.{question_node};
 
-use crate::{Denial, Policy};
+use crate::{Decision, Denial, Policy, Removed, Warning};
 use hii_packages::{FORMS, Package};
 use hii_questions::laws::questions_of_ids_are_questions;
-use hii_questions::{DenialKind, Questions};
+use hii_questions::{DenialKind, Question, Questions};
 use hii_varstore::{Layout, Stores};
 use ifr_scopes::laws::a_node_is_that_of_its_place;
-use ifr_scopes::{Form, Forms, Statement};
+use ifr_scopes::{Form, Forms};
 use std::alloc::Global;
+use std::process::Abort;
 use std::test::Fail;
 
-const PACKAGE: [u8; 137] = [
-    137, 0, 0, 2, // the package's header
+const PACKAGE: [u8; 253] = [
+    253, 0, 0, 2, // the package's header
     0x0e, 0x97, 0x22, 0x22, 0x22, 0x22, 0x22, 0x22, 0x22, 0x22, 0x22, 0x22, 0x22, 0x22, 0x22, 0x22,
     0x22, 0x22, 1, 0, 2, 0, 0, // FORM_SET, at 4
-    0x24, 24, 1, 2, 3, 4, 5, 6, 7, 8, 9, 10, 11, 12, 13, 14, 15, 16, 1, 0, 2, 0, b'A', 0, // a store of the id 1 and 2 bytes, at 27
+    0x24, 0x18, 1, 2, 3, 4, 5, 6, 7, 8, 9, 10, 11, 12, 13, 14, 15, 16, 1, 0, 3, 0, b'A', 0, // a store of the id 1 and 3 bytes, at 27
     0x0a, 0x82, // SUPPRESS_IF, at 51
-    0x12, 6, 7, 0, 1, 0, // the question 7 answers 1, at 53
+    0x12, 0x06, 7, 0, 1, 0, // the question 7 answers 1, at 53
     0x01, 0x86, 1, 0, 1, 0, // a form, at 59
-    0x06, 14, 1, 0, 2, 0, 7, 0, 1, 0, 1, 0, 0, 0, // a checkbox of the id 7, byte 1 of store 1, at 65
-    0x06, 14, 1, 0, 2, 0, 8, 0, 1, 0, 0, 0, 1, 0, // one of the id 8, READ_ONLY, at 79
-    0x06, 14, 1, 0, 2, 0, 9, 0, 0, 0, 0, 0, 0, 0, // one of the id 9, without a field, at 93
-    0x0a, 0x82, // SUPPRESS_IF, at 107
-    0x12, 6, 7, 0, 0, 0, // the question 7 answers 0, at 109
-    0x06, 14, 1, 0, 2, 0, 6, 0, 1, 0, 0, 0, 0, 0, // one of the id 6, byte 0 of store 1, at 115
-    0x29, 2, 0x29, 2, 0x29, 2, 0x29, 2, // at 129, 131, 133, 135
+    0x06, 0x8e, 1, 0, 2, 0, 7, 0, 1, 0, 1, 0, 0, 0, // a checkbox of the id 7, byte 1 of store 1, at 65
+    0x11, 0x84, 4, 0, // INCONSISTENT_IF with the text 4, at 79
+    0x12, 0x06, 5, 0, 2, 0, // the question 5 answers 2, at 83
+    0x29, 0x02, // END, at 89
+    0x10, 0x84, 5, 0, // NO_SUBMIT_IF with the text 5, at 91
+    0x12, 0x06, 5, 0, 2, 0, // the question 5 answers 2, at 95
+    0x29, 0x02, // END, at 101
+    0x63, 0x85, 6, 0, 0, // WARNING_IF with the text 6, at 103
+    0x12, 0x06, 5, 0, 2, 0, // the question 5 answers 2, at 108
+    0x29, 0x02, // END, at 114
+    0x29, 0x02, // END, at 116
+    0x06, 0x0e, 1, 0, 2, 0, 8, 0, 1, 0, 0, 0, 1, 0, // one of the id 8, READ_ONLY, at 118
+    0x06, 0x0e, 1, 0, 2, 0, 9, 0, 0, 0, 0, 0, 0, 0, // one of the id 9, without a field, at 132
+    0x0a, 0x82, // SUPPRESS_IF, at 146
+    0x12, 0x06, 7, 0, 0, 0, // the question 7 answers 0, at 148
+    0x06, 0x0e, 1, 0, 2, 0, 6, 0, 1, 0, 0, 0, 0, 0, // one of the id 6, byte 0 of store 1, at 154
+    0x29, 0x02, // END, at 168
+    0x1e, 0x82, // DISABLE_IF, at 170
+    0x46, 0x02, // TRUE, at 172
+    0x06, 0x0e, 1, 0, 2, 0, 4, 0, 1, 0, 0, 0, 0, 0, // one of the id 4, byte 0 of store 1, at 174
+    0x29, 0x02, // END, at 188
+    0x05, 0x91, 1, 0, 2, 0, 5, 0, 1, 0, 2, 0, 0, 0, 0, 9, 0, // a one-of of the id 5, byte 2 of store 1, at 190
+    0x19, 0x82, // GRAY_OUT_IF, at 207
+    0x46, 0x02, // TRUE, at 209
+    0x09, 0x07, 3, 0, 0, 0, 1, // an option of the value 1, at 211
+    0x29, 0x02, // END, at 218
+    0x09, 0x07, 3, 0, 0, 0, 2, // an option of the value 2, at 220
+    0x29, 0x02, // END, at 227
+    0x06, 0x8e, 1, 0, 2, 0, 3, 0, 1, 0, 0, 0, 0, 0, // a checkbox of the id 3, byte 0 of store 1, at 229
+    0x0b, 0x02, // LOCKED, at 243
+    0x29, 0x02, // END, at 245
+    0x29, 0x02, // END, at 247
+    0x29, 0x02, // END, at 249
+    0x29, 0x02, // END, at 251
 ];
 
 fn forms_of(alloc: Global, bytes: &[u8]) -> Result<Forms<'_>, Fail>
@@ -52,14 +82,13 @@ fn first_form<'a>(forms: &Forms<'a>) -> Option<Form<'a>>
     forms.forms().next()
 }
 
-fn statement_of<'a>(questions: &Questions<'a>, id: u16) -> Option<Statement<'a>>
+fn question_of<'a>(questions: &Questions<'a>, id: u16) -> Option<Question<'a>>
     requires { IsAccepted questions.now.ifr }
-    ensures { IfSome result (λ statement. IsNodeOf questions.now.ifr (statement_node statement)) }
+    ensures { IfSome result (λ question. IsNodeOf questions.now.ifr (question_node question)) }
 {
     a_node_is_that_of_its_place();
     questions_of_ids_are_questions();
-    let question = questions.find(id)?;
-    Some(question.statement())
+    questions.find(id)
 }
 
 fn denial(kind: DenialKind, place: u32) -> Result<(), Denial> {
@@ -70,46 +99,117 @@ fn denial(kind: DenialKind, place: u32) -> Result<(), Denial> {
     })
 }
 
+fn statements_are_denied<'a>(
+    rt: &impl Abort,
+    policy: Policy<'a, '_>,
+    questions: &Questions<'a>,
+    stores: &Stores,
+)
+    requires accepted { IsAccepted questions.now.ifr }
+    requires together { bytes_of policy ≡ questions.now.ifr }
+{
+    for (id, listed, changeable) in [
+        (7, Ok(()), Ok(())),
+        (8, Ok(()), denial(DenialKind::ReadOnly, 118)),
+        (9, Ok(()), denial(DenialKind::Outside, 132)),
+        (
+            6,
+            denial(DenialKind::SuppressIf, 146),
+            denial(DenialKind::SuppressIf, 146),
+        ),
+        (
+            4,
+            denial(DenialKind::DisableIf, 170),
+            denial(DenialKind::DisableIf, 170),
+        ),
+        (3, Ok(()), denial(DenialKind::Locked, 243)),
+    ] {
+        let question = question_of(questions, id).expect(rt, "a question");
+        let statement = question.statement();
+        assert_eq!(rt; policy.listed(statement, stores), listed);
+        assert_eq!(rt; policy.changeable(statement, stores), changeable);
+    }
+}
+
+fn values_are_denied<'a>(
+    rt: &impl Abort,
+    policy: Policy<'a, '_>,
+    questions: &Questions<'a>,
+    stores: &Stores,
+)
+    requires accepted { IsAccepted questions.now.ifr }
+    requires together { bytes_of policy ≡ questions.now.ifr }
+{
+    let choice = question_of(questions, 5).expect(rt, "a question");
+    for (value, open) in [
+        (1, denial(DenialKind::GrayOutIf, 207)),
+        (2, Ok(())),
+        (3, Ok(())),
+    ] {
+        assert_eq!(rt; policy.option_open(choice, value, stores), open);
+    }
+    let question = question_of(questions, 7).expect(rt, "a question");
+    let inconsistent = Denial {
+        kind: DenialKind::InconsistentIf,
+        place: 79,
+        message: 4,
+    };
+    assert_eq!(rt; policy.consistent(question, stores), Err(inconsistent));
+    let unsubmitted = Denial {
+        kind: DenialKind::NoSubmitIf,
+        place: 91,
+        message: 5,
+    };
+    assert_eq!(rt; policy.may_submit(stores), Err(unsubmitted));
+    let mut warnings = policy.warnings(question, stores);
+    let warning = Warning {
+        place: 103,
+        message: 6,
+    };
+    assert_eq!(rt; warnings.next(), Some(warning));
+    assert_eq!(rt; warnings.next(), None);
+}
+
+fn decisions_depend_on_questions<'a>(
+    rt: &impl Abort,
+    policy: Policy<'a, '_>,
+    questions: &Questions<'a>,
+)
+    requires accepted { IsAccepted questions.now.ifr }
+    requires together { bytes_of policy ≡ questions.now.ifr }
+{
+    let question = question_of(questions, 7).expect(rt, "a question");
+    let mut ids = policy.support_of(Decision::Changeable(question.statement()));
+    assert_eq!(rt; (ids.next(), ids.next()), (Some(7), None));
+    let mut ids = policy.support_of(Decision::Consistent(question));
+    assert_eq!(rt; (ids.next(), ids.next()), (Some(5), None));
+    let mut ids = policy.support_of(Decision::MaySubmit);
+    assert_eq!(rt; (ids.next(), ids.next()), (Some(5), None));
+    let choice = question_of(questions, 5).expect(rt, "a question");
+    let mut ids = policy.support_of(Decision::OptionOpen(choice, 1));
+    assert_eq!(rt; (ids.next(), ids.next()), (Some(7), None));
+}
+
 #[test]
 fn denials_name_what_decides(rt: HostRuntime) -> Result<(), Fail> {
     let alloc = rt.alloc();
     let forms = forms_of(alloc, &PACKAGE)?;
     let layout = Layout::read(alloc, &forms)?;
     let questions = Questions::read(alloc, &forms, &layout)?;
-    let stores = Stores::read(alloc, &layout, b"HVS1\x01\x00\x01\x00\x02\x00\x00\x00")?;
-    let policy = Policy::new(&forms, &questions);
+    let stores = Stores::read(alloc, &layout, b"HVS1\x01\x00\x01\x00\x03\x00\x00\x00\x02")?;
+    let removed = Removed::at_open(alloc, &forms, &questions, &stores)?;
+    let policy = Policy::new(&forms, &questions, &removed);
     assert_eq!(rt; policy.forms().bytes(), PACKAGE.as_slice());
+    assert_eq!(rt; (policy.removed(170), policy.removed(146)), (true, false));
     let form = first_form(&forms).expect(&rt, "a form");
     assert_eq!(rt; policy.opens(form, &stores), Ok(()));
-    let hidden = denial(DenialKind::SuppressIf, 107);
-    for (id, listed, changeable) in [
-        (7, Ok(()), Ok(())),
-        (8, Ok(()), denial(DenialKind::ReadOnly, 79)),
-        (9, Ok(()), denial(DenialKind::Outside, 93)),
-        (6, hidden, hidden),
-    ] {
-        let statement = statement_of(&questions, id).expect(&rt, "a question");
-        assert_eq!(rt; policy.listed(statement, &stores), listed);
-        assert_eq!(rt; policy.changeable(statement, &stores), changeable);
-    }
-    Ok(())
-}
-
-#[test]
-fn the_outermost_guard_denies_first(rt: HostRuntime) -> Result<(), Fail> {
-    let alloc = rt.alloc();
-    let forms = forms_of(alloc, &PACKAGE)?;
-    let layout = Layout::read(alloc, &forms)?;
-    let questions = Questions::read(alloc, &forms, &layout)?;
-    let stores = Stores::read(alloc, &layout, b"HVS1\x01\x00\x01\x00\x02\x00\x00\x01")?;
-    let policy = Policy::new(&forms, &questions);
-    let hidden = denial(DenialKind::SuppressIf, 51);
-    let form = first_form(&forms).expect(&rt, "a form");
-    assert_eq!(rt; policy.opens(form, &stores), hidden);
-    for id in [7, 8, 9, 6] {
-        let statement = statement_of(&questions, id).expect(&rt, "a question");
-        assert_eq!(rt; policy.listed(statement, &stores), hidden);
-        assert_eq!(rt; policy.changeable(statement, &stores), hidden);
-    }
+    statements_are_denied(&rt, policy, &questions, &stores);
+    values_are_denied(&rt, policy, &questions, &stores);
+    decisions_depend_on_questions(&rt, policy, &questions);
+    let hiding = Stores::read(alloc, &layout, b"HVS1\x01\x00\x01\x00\x03\x00\x00\x01\x00")?;
+    assert_eq!(rt;
+        policy.opens(form, &hiding),
+        denial(DenialKind::SuppressIf, 51)
+    );
     Ok(())
 }

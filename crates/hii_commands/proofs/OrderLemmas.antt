@@ -11,8 +11,8 @@ use Rattle.hii_bytes.specs.NumberList.{IsNumberList, is_number_list, numbers_of}
 use Rattle.hii_bytes.proofs.DigitLemmas.{number_below-from, number_below-is}
 use Rattle.hii_bytes.proofs.NumberListLemmas.{numbers_of-is, list-from, list-is}
 use Rattle.hii_commands.specs.Script.{Lacks}
-use Rattle.hii_commands.specs.Orders.{Order, ShowPage, SetValue, OrderElements, SetText, ChooseLanguage, SubmitChanges, DiscardChanges, Asks, IsValue, IsLanguage, list_word, is_language_byte}
-use Rattle.hii_commands.specs.Reading.{question_in, value_in, begins_with, cut_word, question_order, list_in, set_in, elements_in, text_in, lang_in, plain_in, words_in, order_in}
+use Rattle.hii_commands.specs.Orders.{Order, ShowPage, SetValue, OrderElements, SetText, AskWhy, ChooseLanguage, SubmitChanges, DiscardChanges, Asks, IsValue, IsLanguage, list_word, is_language_byte}
+use Rattle.hii_commands.specs.Reading.{question_in, value_in, begins_with, cut_word, question_order, list_in, set_in, elements_in, text_in, why_in, lang_in, plain_in, words_in, order_in}
 use Rattle.hii_commands.proofs.WordLemmas.{cut_word-alone, cut_word-spaced, cut_word-together, together, begins, Lacks-digits}
 
 -- ---- values
@@ -50,7 +50,7 @@ value-from text z (digits, n, inr (inr (same, number, is))) =
     ∙ ap Some (sym is)
 
 -- the number under a map
-mapped : (f : ℕ → ℤ) (o : Option ℕ) (z : ℤ) → option_map f o ≡ Some z → (n : ℕ) × (o ≡ Some n) × (z ≡ f n)
+mapped : {X : Type 0} (f : ℕ → X) (o : Option ℕ) (z : X) → option_map f o ≡ Some z → (n : ℕ) × (o ≡ Some n) × (z ≡ f n)
 mapped f None z e = cc
 mapped f (Some n) z e = let same : f n ≡ z = cc in (n, refl, sym same)
 
@@ -129,6 +129,7 @@ pub found : (text : List ℕ) (order : Order) → Asks text order → order_in t
 found text ShowPage e = ap order_in e
 found text SubmitChanges e = ap order_in e
 found text (ChooseLanguage language) (e, is_language) = ap order_in e ∙ language-from language is_language
+found text (AskWhy q) (question, e, is_question) = ap order_in e ∙ ap (option_map AskWhy) (number_below-from 65536 10 5 question q is_question)
 found text DiscardChanges e = ap order_in e
 found text (SetValue q z) (question, value, e, is_question, is_value) =
     ap order_in e
@@ -182,6 +183,11 @@ text_asks text rest order (question, Some new) whole cut e =
     let parts : rest ≡ question ++ 32 ∷ s.1 = sym (cut_word-together rest) ∙ ap together cut ∙ ap (λ n. question ++ 32 ∷ n) same in
     subst (Asks text) (sym s.4) (question, number_below-is 65536 10 5 question s.0 s.2, inl (whole ∙ ap (λ r. codes "text " ++ r) parts))
 
+why_asks : (text rest : List ℕ) (order : Order) → text ≡ codes "why" ++ 32 ∷ rest → why_in rest ≡ Some order → Asks text order
+why_asks text rest order whole e =
+    let s = mapped AskWhy (question_in rest) order e in
+    subst (Asks text) (sym s.2) (rest, whole, number_below-is 65536 10 5 rest s.0 s.1)
+
 plain_asks : (word : List ℕ) (order : Order) → plain_in word ≡ Some order → Asks word order
 plain_asks word order e = elim (cases_Bool (bytes_eq word (codes "page"))) [
   | inl is ↦ let some : Some ShowPage ≡ Some order = sym (cond-true (bytes_eq word (codes "page")) _ _ is) ∙ e in
@@ -223,7 +229,12 @@ words_ask text order (word, Some rest) cut e = elim (cases_Bool (bytes_eq word (
                   let e''' = sym (cond-false (bytes_eq word (codes "text")) _ _ c) ∙ e'' in
                   elim (cases_Bool (bytes_eq word (codes "lang"))) [
                     | inl is ↦ lang_asks text rest order (spaced text word rest (codes "lang") cut is) (sym (cond-true (bytes_eq word (codes "lang")) _ _ is) ∙ e''')
-                    | inr d ↦ let none : ◌≡◌ {A = Option Order} None (Some order) = sym (cond-false (bytes_eq word (codes "lang")) _ _ d) ∙ e''' in (cc)
+                    | inr d ↦
+                        let e4 = sym (cond-false (bytes_eq word (codes "lang")) _ _ d) ∙ e''' in
+                        elim (cases_Bool (bytes_eq word (codes "why"))) [
+                          | inl is ↦ why_asks text rest order (spaced text word rest (codes "why") cut is) (sym (cond-true (bytes_eq word (codes "why")) _ _ is) ∙ e4)
+                          | inr f ↦ let none : ◌≡◌ {A = Option Order} None (Some order) = sym (cond-false (bytes_eq word (codes "why")) _ _ f) ∙ e4 in (cc)
+                        ]
                   ]
             ]
       ]

@@ -5,11 +5,11 @@ use Rattle.hii_bytes.specs.declared.cause.Cause.{Cause}
 use Rattle.hii_bytes.specs.declared.cause.Cause.TheVariants as cause
 use Rattle.hii_commands.specs.declared.limits.TheConstants.{LINE_LIMIT}
 use Rattle.hii_commands.specs.declared.command.Command.{Command}
-use Rattle.hii_commands.specs.declared.command.Command.TheVariants.{Page, Set, Order as OrderCommand, Text, Lang, Submit, Discard}
+use Rattle.hii_commands.specs.declared.command.Command.TheVariants.{Page, Set, Order as OrderCommand, Text, Why, Lang, Submit, Discard}
 use Rattle.hii_commands.specs.declared.command.BadLine.{BadLine}
 use Rattle.hii_commands.specs.declared.command.BadLine.TheVariants.{BadCommand, LineTooLong}
 use Rattle.hii_commands.specs.Line.{without_return}
-use Rattle.hii_commands.specs.Orders.{Order, ShowPage, SetValue, OrderElements, SetText, ChooseLanguage, SubmitChanges, DiscardChanges, Asks}
+use Rattle.hii_commands.specs.Orders.{Order, ShowPage, SetValue, OrderElements, SetText, AskWhy, ChooseLanguage, SubmitChanges, DiscardChanges, Asks}
 
 -- what a command asks for
 abbrev pub order_of : Command → Order
@@ -17,6 +17,7 @@ order_of Page = ShowPage
 order_of (Set q z) = SetValue q z
 order_of (OrderCommand q list) = OrderElements q (numbers_of list.now)
 order_of (Text q text) = SetText q text.now
+order_of (Why q) = AskWhy q
 order_of (Lang language) = ChooseLanguage language.now
 order_of Submit = SubmitChanges
 order_of Discard = DiscardChanges
@@ -27,6 +28,7 @@ HasList Page = ⊤
 HasList (Set q z) = ⊤
 HasList (OrderCommand q list) = IsList list.now
 HasList (Text q text) = ⊤
+HasList (Why q) = ⊤
 HasList (Lang language) = ⊤
 HasList Submit = ⊤
 HasList Discard = ⊤

@@ -11,6 +11,7 @@ pub data Order : Type 0 where
   SetValue : ℕ → ℤ → Order
   OrderElements : ℕ → List ℕ → Order
   SetText : ℕ → List ℕ → Order
+  AskWhy : ℕ → Order
   ChooseLanguage : List ℕ → Order
   SubmitChanges : Order
   DiscardChanges : Order
@@ -51,6 +52,7 @@ Asks text (OrderElements q numbers) =
     (question list : List ℕ) × (text ≡ codes "order " ++ (question ++ list_word list)) × IsQuestion question q × IsNumberList list numbers
 Asks text (SetText q rest) = (question : List ℕ) × IsQuestion question q
     × ((text ≡ codes "text " ++ (question ++ (codes " " ++ rest))) ⊎ ((text ≡ codes "text " ++ question) × (rest ≡ [])))
+Asks text (AskWhy q) = (question : List ℕ) × (text ≡ codes "why " ++ question) × IsQuestion question q
 Asks text (ChooseLanguage language) = (text ≡ codes "lang " ++ language) × IsLanguage language
 Asks text SubmitChanges = text ≡ codes "submit"
 Asks text DiscardChanges = text ≡ codes "discard"

@@ -9,7 +9,7 @@ use Rattle.hii_commands.specs.declared.limits.TheConstants.{LINE_LIMIT}
 use Rattle.hii_commands.specs.declared.command.BadLine.{BadLine}
 use Rattle.hii_commands.specs.declared.command.BadLine.TheVariants.{BadCommand, LineTooLong}
 use Rattle.hii_commands.specs.Line.{without_return}
-use Rattle.hii_commands.specs.Orders.{Order, ShowPage, SetValue, OrderElements, SetText, ChooseLanguage, SubmitChanges, DiscardChanges, is_language_byte}
+use Rattle.hii_commands.specs.Orders.{Order, ShowPage, SetValue, OrderElements, SetText, AskWhy, ChooseLanguage, SubmitChanges, DiscardChanges, is_language_byte}
 
 abbrev pub question_in : List ℕ → Option ℕ
 question_in text = number_below 65536 10 5 text
@@ -53,6 +53,10 @@ elements_in (question, list) = question_order OrderElements (question_in questio
 abbrev pub text_in : List ℕ × Option (List ℕ) → Option Order
 text_in (question, rest) = question_order SetText (question_in question) (Some (unwrap_or rest []))
 
+-- the order of `why` over what stands behind it
+abbrev pub why_in : List ℕ → Option Order
+why_in text = option_map AskWhy (question_in text)
+
 -- the order of `lang` over what stands behind it
 abbrev pub lang_in : List ℕ → Option Order
 lang_in text =
@@ -74,6 +78,7 @@ words_in (word, Some rest) =
     else if bytes_eq word (codes "order") then elements_in (cut_word rest)
     else if bytes_eq word (codes "text") then text_in (cut_word rest)
     else if bytes_eq word (codes "lang") then lang_in rest
+    else if bytes_eq word (codes "why") then why_in rest
     else None
 
 -- what a text without LF and CR asks for

@@ -8,7 +8,7 @@ ghost use Rattle.hii_commands.specs.Orders as orders;
 ghost use Rattle.hii_bytes.specs.Digits.{number_below};
 ghost use Rattle.hii_bytes.specs.NumberList.{IsList, numbers_of};
 ghost use Rattle.hii_commands.specs.Meaning.{Means, IsRefused, HasList, order_of, cause_of};
-ghost use Rattle.hii_commands.specs.Reading.{order_in, reading_of, set_in, elements_in, text_in, list_in, lang_in, plain_in, value_in, question_in, cut_word};
+ghost use Rattle.hii_commands.specs.Reading.{order_in, reading_of, set_in, elements_in, text_in, list_in, why_in, lang_in, plain_in, value_in, question_in, cut_word};
 
 use crate::limits::LINE_LIMIT;
 use hii_bytes::{Cause, first_place, is_number_list, number_of_digits};
@@ -25,6 +25,8 @@ pub enum Command<'a> {
     Order { question: u16, list: &'a [u8] },
     /// `text Q rest`, or `text Q` for the empty text: the text of a question, all bytes after one space.
     Text { question: u16, text: &'a [u8] },
+    /// `why Q`: what forbids a change of a question, if something does.
+    Why(u16),
     /// `lang L`: the language of the texts that follow, 1 to 63 ASCII letters, digits and hyphens.
     Lang(&'a [u8]),
     /// `submit`: the working stores become the committed ones.
@@ -95,6 +97,8 @@ fn command_in(text: &[u8]) -> Option<Command<'_>>
                 text_command(rest)
             } else if is_word(word, b"lang") {
                 lang_command(rest)
+            } else if is_word(word, b"why") {
+                why_command(rest)
             } else {
                 None
             }
@@ -175,6 +179,14 @@ fn text_command(rest: &[u8]) -> Option<Command<'_>>
         question,
         text: text.unwrap_or(&[]),
     })
+}
+
+fn why_command(rest: &[u8]) -> Option<Command<'_>>
+    ensures order { option_map order_of result ≡ why_in rest.now }
+    ensures list { IfSome result HasList }
+{
+    let question = question_of(rest)?;
+    Some(Command::Why(question))
 }
 
 // The most bytes of a language.

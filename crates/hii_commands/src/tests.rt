@@ -6,6 +6,8 @@ fn commands_of_lines(rt: HostRuntime) {
     for (line, wanted) in [
         (b"page\r".as_slice(), Ok(Command::Page)),
         (b"lang -A9".as_slice(), Ok(Command::Lang(b"-A9".as_slice()))),
+        (b"why 00007".as_slice(), Ok(Command::Why(7))),
+        (b"why 7 ".as_slice(), Err(BadLine::BadCommand)),
         (b"set 00007 -0x1".as_slice(), Err(BadLine::BadCommand)),
         (
             b"set 00007 -18446744073709551615".as_slice(),

@@ -1,10 +1,13 @@
 -- How denials are named (own rule).
 use Rattle.std.specs.Prelude.{ℕ, List, codes}
 use Rattle.hii_questions.specs.declared.denial.DenialKind.{DenialKind}
-use Rattle.hii_questions.specs.declared.denial.DenialKind.TheVariants.{SuppressIf, ReadOnly, Outside, Kind, Range, NoOption, Length, Repeat, EmptySet, BadText, NoQuestion}
+use Rattle.hii_questions.specs.declared.denial.DenialKind.TheVariants.{DisableIf, SuppressIf, GrayOutIf, Locked, ReadOnly, Outside, Kind, Range, NoOption, Length, Repeat, EmptySet, BadText, InconsistentIf, NoSubmitIf, NoQuestion}
 
 abbrev pub kind_name : DenialKind → List ℕ
+kind_name DisableIf = codes "disableif"
 kind_name SuppressIf = codes "suppressif"
+kind_name GrayOutIf = codes "grayoutif"
+kind_name Locked = codes "locked"
 kind_name ReadOnly = codes "readonly"
 kind_name Outside = codes "outside"
 kind_name Kind = codes "kind"
@@ -14,4 +17,6 @@ kind_name Length = codes "length"
 kind_name Repeat = codes "repeat"
 kind_name EmptySet = codes "emptyset"
 kind_name BadText = codes "badtext"
+kind_name InconsistentIf = codes "inconsistentif"
+kind_name NoSubmitIf = codes "nosubmitif"
 kind_name NoQuestion = codes "noquestion"

@@ -6,8 +6,14 @@ ghost use Rattle.hii_questions.specs.Denials.{kind_name};
 /// Why a command is denied (own rule).
 #[derive(Clone, Copy, Debug, PartialEq, Eq)]
 pub enum DenialKind {
+    /// A DISABLE_IF around it held when the form set was opened.
+    DisableIf,
     /// A SUPPRESS_IF around it holds.
     SuppressIf,
+    /// A GRAY_OUT_IF around it holds.
+    GrayOutIf,
+    /// A LOCKED stands in its scope or in one around it.
+    Locked,
     /// The question has the flag READ_ONLY.
     ReadOnly,
     /// The question has no field in a store.
@@ -26,6 +32,10 @@ pub enum DenialKind {
     EmptySet,
     /// The text is not UTF-8, or has a character that is no unit of UCS-2, or U+0000.
     BadText,
+    /// An INCONSISTENT_IF of the question holds with the new value.
+    InconsistentIf,
+    /// A NO_SUBMIT_IF holds.
+    NoSubmitIf,
     /// No question has the id.
     NoQuestion,
 }
@@ -36,7 +46,10 @@ impl DenialKind {
         ensures { result.now ≡ kind_name self }
     {
         match self {
+            DenialKind::DisableIf => "disableif",
             DenialKind::SuppressIf => "suppressif",
+            DenialKind::GrayOutIf => "grayoutif",
+            DenialKind::Locked => "locked",
             DenialKind::ReadOnly => "readonly",
             DenialKind::Outside => "outside",
             DenialKind::Kind => "kind",
@@ -46,6 +59,8 @@ impl DenialKind {
             DenialKind::Repeat => "repeat",
             DenialKind::EmptySet => "emptyset",
             DenialKind::BadText => "badtext",
+            DenialKind::InconsistentIf => "inconsistentif",
+            DenialKind::NoSubmitIf => "nosubmitif",
             DenialKind::NoQuestion => "noquestion",
         }
     }

@@ -11,4 +11,5 @@ pub mod DependenceLemmas
 pub mod NodeLemmas
 pub mod FlatLemmas
 pub mod LengthLemmas
+pub mod NameLemmas
 pub mod WorkedValues

@@ -64,11 +64,6 @@ both_false false c = refl
 not_yet : (r : Rule) (id place : ℕ) → place < r.ends → names id place r ≡ false
 not_yet r id place lt = ap (λ (b : Bool). (r.id == id) && (b && nat_lt place r.form_ends)) (lt-leb r.ends place lt) ∙ both_false (r.id == id) (nat_lt place r.form_ends)
 
--- so a tree that stands before that has the value of the earlier rules
-as_before : (r : Rule) (earlier : List Rule) (answers : ℕ → Value) (t : Tree) → Below r.ends (post t) → value_over (rule_values (r ∷ earlier) answers) answers 0 t ≡ value_over (rule_values earlier answers) answers 0 t
-as_before r earlier answers t h =
-    value_same (rule_values (r ∷ earlier) answers) (rule_values earlier answers) answers 0 r.ends t (λ id place lt. skipped r earlier answers id place (not_yet r id place lt)) h
-
 some_same : (x y : Rule) → Some x ≡ Some y → x ≡ y
 some_same x y e = cc
 
@@ -79,19 +74,34 @@ found_below (q ∷ earlier) id place ends r o h e = elim (cases_Bool (names id p
   | inr is ↦ found_below earlier id place ends r o.1.1 h.1 (sym (cond-false (names id place q) (Some q) (named earlier id place) is) ∙ e)
 ]
 
+-- What is told of references by rules, from the latest on: of the first rule that is named what its tree tells, over the rules
+-- before it. A tree asks for the rules at the places of its opcodes alone, so it tells the same over all rules.
+module _ {X : Type 0} (over : (ℕ → ℕ → X) → Tree → X) (told : List Rule → ℕ → ℕ → X)
+    (takes : (r : Rule) (earlier : List Rule) (id place : ℕ) → names id place r ≡ true → told (r ∷ earlier) id place ≡ over (told earlier) r.tree)
+    (skips : (r : Rule) (earlier : List Rule) (id place : ℕ) → names id place r ≡ false → told (r ∷ earlier) id place ≡ told earlier id place)
+    (asks : (f g : ℕ → ℕ → X) (ends : ℕ) (t : Tree) → ((id place : ℕ) → place < ends → f id place ≡ g id place) → Below ends (post t) → over f t ≡ over g t) where
+  -- a tree that stands before the end of the latest rule
+  as_before : (r : Rule) (earlier : List Rule) (t : Tree) → Below r.ends (post t) → over (told (r ∷ earlier)) t ≡ over (told earlier) t
+  as_before r earlier t h = asks (told (r ∷ earlier)) (told earlier) r.ends t (λ id place lt. skips r earlier id place (not_yet r id place lt)) h
+
+  pub found_by : (rules : List Rule) (id place : ℕ) (r : Rule) → AreOrdered rules → named rules id place ≡ Some r → told rules id place ≡ over (told rules) r.tree
+  found_by [] id place r o e = absurd cc
+  found_by (q ∷ earlier) id place r o e = elim (cases_Bool (names id place q)) [
+    | inl is ↦
+        takes q earlier id place is
+        ∙ sym (as_before q earlier q.tree o.0)
+        ∙ ap (λ (x : Rule). over (told (q ∷ earlier)) x.tree) (some_same q r (sym (cond-true (names id place q) (Some q) (named earlier id place) is) ∙ e))
+    | inr is ↦
+        let found : named earlier id place ≡ Some r = sym (cond-false (names id place q) (Some q) (named earlier id place) is) ∙ e in
+        skips q earlier id place is
+        ∙ found_by earlier id place r o.1.1 found
+        ∙ sym (as_before q earlier r.tree (found_below earlier id place q.ends r o.1.1 o.1.0 found))
+  ]
+
 pub found_value : (rules : List Rule) (answers : ℕ → Value) (id place : ℕ) (r : Rule) → AreOrdered rules → named rules id place ≡ Some r → rule_values rules answers id place ≡ value rules answers 0 r.tree
-found_value [] answers id place r o e = absurd cc
-found_value (q ∷ earlier) answers id place r o e = elim (cases_Bool (names id place q)) [
-  | inl is ↦
-      taken q earlier answers id place is
-      ∙ sym (as_before q earlier answers q.tree o.0)
-      ∙ ap (λ (x : Rule). value (q ∷ earlier) answers 0 x.tree) (some_same q r (sym (cond-true (names id place q) (Some q) (named earlier id place) is) ∙ e))
-  | inr is ↦
-      let found : named earlier id place ≡ Some r = sym (cond-false (names id place q) (Some q) (named earlier id place) is) ∙ e in
-      skipped q earlier answers id place is
-      ∙ found_value earlier answers id place r o.1.1 found
-      ∙ sym (as_before q earlier answers r.tree (found_below earlier id place q.ends r o.1.1 o.1.0 found))
-]
+found_value rules answers id place r o e =
+    found_by (λ f t. value_over f answers 0 t) (λ rs. rule_values rs answers) (λ q earlier i at is. taken q earlier answers i at is) (λ q earlier i at is. skipped q earlier answers i at is)
+    (λ f g ends t same h. value_same f g answers 0 ends t same h) rules id place r o e
 
 none_value : (rules : List Rule) (answers : ℕ → Value) (id place : ℕ) → named rules id place ≡ None → rule_values rules answers id place ≡ undefined
 none_value [] answers id place e = no_rules answers id place

@@ -10,12 +10,16 @@ use Rattle.ifr_expr.specs.Meaning.{Rule, answered, names, ids_of}
 use Rattle.ifr_expr.specs.Trees.{Tree, post}
 use Rattle.ifr_expr.specs.Values.{Value}
 
+-- the question in whose scope an opcode stands, if there is one
+abbrev pub own : ℕ → List ℕ
+own this = if this == 0 then [] else this ∷ []
+
 -- the questions on whose answers an opcode depends, by those of the rules of an id for a place, and the question in whose
 -- scope it stands
 abbrev pub ids_behind : (ℕ → ℕ → List ℕ) → ℕ → Mark → List ℕ
 ids_behind rules this op =
     if number op.op == RULE_REF then rules (rule_ref_rule op.op) op.place
-    else if number op.op == THIS then this ∷ []
+    else if number op.op == THIS then own this
     else ids_of op.op
 
 -- those of all opcodes of a tree

@@ -10,7 +10,9 @@ pub mod Views
 pub mod Stacks
 pub mod OpcodesLeft
 pub mod Expressions
+pub mod Names
 pub mod Named
+pub mod NamesLeft
 pub mod Supports
 pub mod References
 pub mod ReferencesLeft

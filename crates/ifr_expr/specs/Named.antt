@@ -1,9 +1,11 @@
--- The questions that one operator names.
-use Rattle.std.specs.Prelude.{ℕ, List, [], ◌∷◌}
-use Rattle.ifr_expr.specs.declared.support.Named.{Named}
-use Rattle.ifr_expr.specs.declared.support.Named.TheVariants.{Nobody, One, Two}
+-- What one operator names.
+use Rattle.std.specs.Prelude.{List, [], ◌∷◌}
+use Rattle.ifr_expr.specs.declared.names.Name.{Name}
+use Rattle.ifr_expr.specs.declared.names.Name.TheVariants.{Question}
+use Rattle.ifr_expr.specs.declared.names.Named.{Named}
+use Rattle.ifr_expr.specs.declared.names.Named.TheVariants.{Nothing, One, Two}
 
-abbrev pub ids_in : Named → List ℕ
-ids_in Nobody = []
-ids_in (One id) = id ∷ []
-ids_in (Two first second) = first ∷ second ∷ []
+abbrev pub names_by : Named → List Name
+names_by Nothing = []
+names_by (One name) = name ∷ []
+names_by (Two first second) = Question first ∷ Question second ∷ []

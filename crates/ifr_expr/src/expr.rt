@@ -4,6 +4,7 @@ ghost use Rattle.ifr_expr.specs.Checked.{IsChecked, IsChecked-prop};
 
 use crate::counting::{cause_of, counted};
 use crate::given;
+use crate::names::Names;
 use crate::opcodes::Opcodes;
 use crate::operators::Operators;
 use crate::references::RuleReferences;
@@ -27,6 +28,8 @@ impl<'a> Expr<'a> {
     ghost use Rattle.ifr_expr.specs.Expressions.{tree_of, end_of, operators_left};
     ghost use Rattle.ifr_expr.specs.Faults.{IsOpcodeFault, IsExpressionFault};
     ghost use Rattle.ifr_expr.specs.Meaning.{value, support};
+    ghost use Rattle.ifr_expr.specs.Names.{names_in};
+    ghost use Rattle.ifr_expr.specs.NamesLeft.{names_left};
     ghost use Rattle.ifr_expr.specs.Reading.{IsExpressionNode, opcodes_of};
     ghost use Rattle.ifr_expr.specs.References.{references};
     ghost use Rattle.ifr_expr.specs.ReferencesLeft.{references_left};
@@ -122,13 +125,22 @@ impl<'a> Expr<'a> {
         }
     }
 
+    /// What its operators name, by place.
+    pub fn names(self) -> Names<'a>
+        ensures { names_left result ≡ names_in (tree_of self.entry) }
+    {
+        Names {
+            ops: self.operators(),
+            second: None,
+        }
+    }
+
     /// The ids of the questions that it names, by place.
     pub fn support(self) -> Support<'a>
         ensures { ids_left result ≡ support (tree_of self.entry) }
     {
         Support {
-            ops: self.operators(),
-            second: None,
+            names: self.names(),
         }
     }
 }

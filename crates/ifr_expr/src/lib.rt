@@ -7,6 +7,7 @@ mod evaluation;
 mod expr;
 mod given;
 pub mod laws;
+mod names;
 mod opcodes;
 mod operations;
 mod operators;
@@ -18,6 +19,7 @@ mod tests;
 mod value;
 
 pub use expr::Expr;
+pub use names::{Name, Names};
 pub use references::{RuleReference, RuleReferences};
 pub use rules::Rules;
 pub use support::Support;

@@ -1,41 +1,11 @@
 //! The questions that an expression names.
 
-ghost use Rattle.std.specs.Prelude.{◌≡◌};
-ghost use Rattle.ifr_opcodes.specs.Ops.{bytes_of};
-ghost use Rattle.ifr_opcodes.specs.Views.{operator};
-ghost use Rattle.ifr_expr.specs.Meaning.{ids_of};
-ghost use Rattle.ifr_expr.specs.Named.{ids_in};
-
-use crate::operators::Operators;
-use ifr_opcodes::{ExprOp, LeafOp};
-
-/// The questions that one operator names.
-#[derive(Clone, Copy, Debug, PartialEq, Eq)]
-enum Named {
-    Nobody,
-    One(u16),
-    Two(u16, u16),
-}
-
-// Those that an operator names, in their order.
-#[tactic(auto, unfolding(crate::specs::Meaning::ids_of))]
-fn questions_of(op: ExprOp) -> Named
-    ensures { ids_in result ≡ ids_of (bytes_of (operator op.entry)) }
-{
-    match op {
-        ExprOp::Leaf(LeafOp::EqIdVal(op)) => Named::One(op.question()),
-        ExprOp::Leaf(LeafOp::EqIdId(op)) => Named::Two(op.first(), op.second()),
-        ExprOp::Leaf(LeafOp::EqIdValList(op)) => Named::One(op.question()),
-        ExprOp::Leaf(LeafOp::QuestionRef(op)) => Named::One(op.question()),
-        _ => Named::Nobody,
-    }
-}
+use crate::names::{Name, Names};
 
 /// The ids of the questions that an expression names, those that are left, by place.
 #[derive(Clone, Debug, Drop)]
 pub struct Support<'a> {
-    pub(crate) ops: Operators<'a>,
-    pub(crate) second: Option<u16>,
+    pub(crate) names: Names<'a>,
 }
 
 impl<'a> Support<'a> {
@@ -46,17 +16,11 @@ impl<'a> Support<'a> {
     fn step(&mut self) -> Option<u16>
         ensures { YieldsFirstBy (λ id. id) ids_left self.old result self.new }
     {
-        if let Some(id) = self.second.take() {
-            return Some(id);
-        }
-        while let Some(op) = self.ops.next() {
-            match questions_of(op) {
-                Named::Nobody => {}
-                Named::One(id) => return Some(id),
-                Named::Two(first, second) => {
-                    self.second = Some(second);
-                    return Some(first);
-                }
+        while let Some(name) = self.names.next() {
+            match name {
+                Name::Question(id) => return Some(id),
+                Name::This => {}
+                Name::Rule(_) => {}
             }
         }
         None

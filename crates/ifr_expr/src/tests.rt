@@ -5,6 +5,7 @@ ghost use Rattle.ifr_expr.specs.Reading.{AreOpcodes, IsExpressionNode};
 ghost use Rattle.ifr_expr.specs.Values as spec;
 ghost use Rattle.ifr_expr.specs.Views.{value_of};
 
+use crate::names::{Name, Names};
 use crate::operations::{binary, constant, unary};
 use crate::references::RuleReference;
 use crate::value::Outcome;
@@ -305,6 +306,27 @@ fn support(rt: HostRuntime) {
         second: Value::Number(0),
     };
     assert_eq!(rt; expr.holds(&numbers, &NoRules, 0), false);
+}
+
+// Two questions that answer the same, a rule and THIS.
+const ALL_NAMES: [u8; 17] = [
+    0x13, 0x86, 1, 0, 2, 0, 0x3f, 3, 5, 0x15, 2, 0x58, 2, 0x15, 2, 0x29, 2,
+];
+
+#[test]
+fn questions_and_rules(rt: HostRuntime) {
+    let expr = check(&ALL_NAMES).expect(&rt, "an expression");
+    let mut names = expr.names();
+    for name in [
+        Name::Question(1),
+        Name::Question(2),
+        Name::Rule(RuleReference { id: 5, place: 6 }),
+        Name::This,
+    ] {
+        assert_eq!(rt; names.next(), Some(name));
+    }
+    assert!(rt; names.next().is_none());
+    assert!(rt; Names::default().next().is_none());
 }
 
 // The sum of two rules and a number.

@@ -3,7 +3,7 @@
 use Rattle.std.specs.Prelude.{◌≡◌, ℕ, ◌+◌, ◌*◌, ◌<◌, Bool, false, not, ◌==◌, ◌||◌, ◌&&◌, nat_lt, nat_le, if◌then◌else◌, List, [], ◌∷◌, length}
 use Rattle.hii_bytes.specs.declared.cause.Cause.{Cause}
 use Rattle.hii_bytes.specs.declared.cause.Cause.TheVariants.{OpOutside, OpSize}
-use Rattle.ifr_opcodes.specs.declared.codes.TheConstants.{FORM, SUBTITLE, TEXT, IMAGE, ONE_OF, CHECKBOX, NUMERIC, PASSWORD, ONE_OF_OPTION, SUPPRESS_IF, ACTION, RESET_BUTTON, FORM_SET, REF, NO_SUBMIT_IF, INCONSISTENT_IF, EQ_ID_VAL, EQ_ID_ID, EQ_ID_VAL_LIST, RULE, DATE, TIME, STRING, REFRESH, ANIMATION, ORDERED_LIST, VARSTORE, VARSTORE_NAME_VALUE, VARSTORE_EFI, RULE_REF, QUESTION_REF1, UINT8, UINT16, UINT32, UINT64, VALUE, DEFAULT, DEFAULTSTORE, GUID, MODAL_TAG, REFRESH_ID, WARNING_IF}
+use Rattle.ifr_opcodes.specs.declared.codes.TheConstants.{FORM, SUBTITLE, TEXT, IMAGE, ONE_OF, CHECKBOX, NUMERIC, PASSWORD, ONE_OF_OPTION, SUPPRESS_IF, LOCKED, ACTION, RESET_BUTTON, FORM_SET, REF, NO_SUBMIT_IF, INCONSISTENT_IF, GRAY_OUT_IF, DISABLE_IF, EQ_ID_VAL, EQ_ID_ID, EQ_ID_VAL_LIST, RULE, DATE, TIME, STRING, REFRESH, ANIMATION, ORDERED_LIST, VARSTORE, VARSTORE_NAME_VALUE, VARSTORE_EFI, RULE_REF, QUESTION_REF1, UINT8, UINT16, UINT32, UINT64, VALUE, DEFAULT, DEFAULTSTORE, GUID, MODAL_TAG, REFRESH_ID, WARNING_IF}
 use Rattle.ifr_opcodes.specs.declared.kinds.TheConstants.{TYPE_BOOLEAN, TYPE_REF}
 use Rattle.ifr_opcodes.specs.Opcode.{number, has_scope}
 use Rattle.ifr_opcodes.specs.Forest.{Mark}
@@ -77,7 +77,8 @@ listed =
     FORM_SET ∷ FORM ∷ SUBTITLE ∷ TEXT ∷ RESET_BUTTON
     ∷ CHECKBOX ∷ NUMERIC ∷ ONE_OF ∷ STRING ∷ PASSWORD ∷ ORDERED_LIST ∷ DATE ∷ TIME ∷ ACTION ∷ REF
     ∷ ONE_OF_OPTION ∷ DEFAULT ∷ VALUE ∷ DEFAULTSTORE ∷ VARSTORE ∷ VARSTORE_EFI ∷ VARSTORE_NAME_VALUE
-    ∷ SUPPRESS_IF ∷ RULE ∷ GUID ∷ IMAGE ∷ ANIMATION ∷ REFRESH ∷ REFRESH_ID ∷ MODAL_TAG ∷ []
+    ∷ SUPPRESS_IF ∷ GRAY_OUT_IF ∷ DISABLE_IF ∷ LOCKED ∷ RULE ∷ INCONSISTENT_IF ∷ NO_SUBMIT_IF ∷ WARNING_IF
+    ∷ GUID ∷ IMAGE ∷ ANIMATION ∷ REFRESH ∷ REFRESH_ID ∷ MODAL_TAG ∷ []
 
 abbrev pub is_listed : ℕ → Bool
 is_listed code = is_among code listed || is_operator code

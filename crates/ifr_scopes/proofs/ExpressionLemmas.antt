@@ -2,14 +2,12 @@
 use Rattle.std.proofs.Common.{◌≡◌, ◌⊎◌, ℕ, zero, suc, ◌+◌, ◌-◌, ◌<◌, ◌≤◌, Bool, true, false, cond, Option, Some, None, List, [], ◌∷◌, ◌++◌, length, take, drop, slice_range, refl, sym, ap, subst, ◌∙◌, arith, inl, inr, lit≤, length-append}
 use Rattle.std.specs.Prelude.{Contains, ◌==◌, ◌&&◌, not, option_map}
 use Rattle.std.specs.List.{last_or}
-use Rattle.std.proofs.Math.Bool.{and-false}
-use Rattle.std.proofs.lemmas.Bool.{cases_Bool, eq-eqb, ne_eqb, false≢true, and_from, and_left, or_left, or_from, not_from_true, not_from_false, cond-false}
+use Rattle.std.proofs.lemmas.Bool.{cases_Bool, eq-eqb, ne_eqb, false≢true, and_from, and_left, or_from, not_from_true, not_from_false, cond-false}
 use Rattle.std.proofs.lemmas.List.{length-drop, take_at}
 use Rattle.hii_bytes.specs.Cause.{number_of}
 use Rattle.hii_bytes.specs.declared.cause.Cause.{Cause}
 use Rattle.hii_bytes.specs.declared.cause.Cause.TheVariants.{NotFormSet, AfterFormSet, OpOutside, OpSize, Misplaced, ScopeBit, ExprShape, ExprDepth}
 use Rattle.ifr_opcodes.specs.Opcode.{number, has_scope}
-use Rattle.ifr_opcodes.specs.Fields.{is_outside}
 use Rattle.ifr_opcodes.specs.Forest.{Forest, none, node, flat, AreNodes, Spells, Mark, mark, Ancestor, Placed, as_ancestor, nodes}
 use Rattle.ifr_opcodes.specs.Operators.{is_operator}
 use Rattle.ifr_opcodes.proofs.ForestLemmas.{takes}
@@ -22,8 +20,8 @@ use Rattle.ifr_expr.proofs.NodeLemmas.{is_expression_node, opcodes_are}
 use Rattle.ifr_expr.proofs.ShapeLemmas.{no_shape}
 use Rattle.ifr_scopes.specs.Guards.{is_guard}
 use Rattle.ifr_scopes.specs.Nodes.{end_of}
-use Rattle.ifr_scopes.specs.Structure.{has_fault, innermost, parent, is_condition, is_operand, is_root, has_wrong_scope, guards_options, IsNodeFault}
-use Rattle.ifr_scopes.specs.Table.{row, class_of, guarded, class_around, admits, is_within_question}
+use Rattle.ifr_scopes.specs.Structure.{has_fault, innermost, parent, is_condition, is_operand, is_root, has_wrong_scope, IsNodeFault}
+use Rattle.ifr_scopes.specs.Table.{row, class_of, guarded, class_around, admits}
 use Rattle.ifr_scopes.specs.declared.table.Row.{Row}
 use Rattle.ifr_scopes.specs.declared.table.Class.{Class}
 use Rattle.ifr_scopes.specs.declared.table.Class.TheVariants.{OfNothing, OfExpression}
@@ -138,7 +136,7 @@ in_class n p i =
 
 -- the expression's own opcode
 pub own_fault : (n : Placed) (cause : Cause) → is_operator (number n.op) ≡ true → expr.has_fault n.place (mark n) cause ≡ true → has_fault n cause ≡ true
-own_fault n OpOutside operator h = or_left _ _ h
+own_fault n OpOutside operator h = h
 own_fault n OpSize operator h = h
 own_fault n Misplaced operator h = absurd (false≢true (sym (not_from_true (is_operator (number n.op)) operator) ∙ h))
 own_fault n ScopeBit operator h = absurd (false≢true (sym (not_from_true (n.place == n.place) (eq-eqb n.place n.place refl)) ∙ second (has_scope n.op) _ h))
@@ -148,12 +146,7 @@ own_fault n _ operator h = absurd (false≢true h)
 pub inner_fault : (n p : Placed) (cause : Cause) → IsIn n p → p.place < n.place → 4 < n.place → has_fault n cause ≡ true → (other : Cause) × (expr.has_fault p.place (mark n) other ≡ true) × (number_of other ≤ number_of cause)
 inner_fault n p NotFormSet i less some h = absurd (false≢true (sym (ne_eqb n.place 4 (λ e. omega arith)) ∙ first _ _ h))
 inner_fault n p AfterFormSet i less some h = absurd (false≢true (sym (in_is_no_root n p i) ∙ first _ _ h))
-inner_fault n p OpOutside i less some h =
-    let none : guards_options n ≡ false = ap (λ (c : Class). is_guard (number n.op) && is_within_question c) (in_class n p i) ∙ and-false (is_guard (number n.op)) in
-    elim (cases_Bool (is_outside n.op)) [
-      | inl e ↦ (OpOutside, e, lit≤ tt)
-      | inr e ↦ absurd (false≢true (sym (or_from _ _ e none) ∙ h))
-    ]
+inner_fault n p OpOutside i less some h = (OpOutside, h, lit≤ tt)
 inner_fault n p OpSize i less some h = (OpSize, h, lit≤ tt)
 inner_fault n p Misplaced i less some h =
     let refused : not (admits (class_around OfNothing n.path) (number n.op)) ≡ true = second _ _ (second _ _ h) in

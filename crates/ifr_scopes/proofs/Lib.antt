@@ -14,6 +14,8 @@ pub mod ViewLemmas
 pub mod NodeFactLemmas
 pub mod ConditionLemmas
 pub mod IndexLemmas
+pub mod LockLemmas
+pub mod KeptLockLemmas
 pub mod PathLemmas
 pub mod RuleFacts
 pub mod QuestionFacts
@@ -25,9 +27,13 @@ pub mod RuleOrderLemmas
 pub mod RulesOrderedLemmas
 pub mod FormLemmas
 pub mod KeptRuleLemmas
+pub mod NamedSizeLemmas
+pub mod FrameLemmas
 pub mod MetRuleLemmas
 pub mod RuleLookupLemmas
 pub mod RuleWorkedValues
 pub mod ReferenceLemmas
 pub mod AroundLemmas
 pub mod ScopeLemmas
+pub mod NoSubmitFacts
+pub mod NoSubmitLemmas

@@ -71,7 +71,7 @@ asked false shaped is e = absurd (false≢true is)
 -- it is not left out
 kept : (bytes : List ℕ) (place : ℕ) (op : List ℕ) → IsChecked bytes → IsAt bytes place op → is_left_out op ≡ false
 kept bytes place op checked at =
-    ap is_left_out (sym at.opcode) ∙ (or_parts _ _ (or_parts _ _ (no_fault bytes (node_in bytes place) OpOutside checked (is_node bytes place op checked at))).0).1
+    ap is_left_out (sym at.opcode) ∙ (or_parts _ _ (no_fault bytes (node_in bytes place) OpOutside checked (is_node bytes place op checked at))).1
 
 -- an option's value is a number or a Boolean, and a default's kind is defined
 pub option_numeric : (bytes : List ℕ) (place : ℕ) (op : List ℕ) → IsChecked bytes → IsAt bytes place op → eqb (number (node_in bytes place).op) ONE_OF_OPTION ≡ true → option_kind op ≤ TYPE_BOOLEAN
@@ -151,7 +151,7 @@ has_condition bytes n checked within wants =
     let child : Placed = record { place = from; op = op; path = n.path ++ as_ancestor n ∷ []; children = first.1 } in
     let below_it : Contains (below n) child = subst (λ (f : Forest). Contains (nodes_at from (n.path ++ as_ancestor n ∷ []) f) child) (sym first.3) (0, omega arith, refl) in
     let there : Contains (nodes_of bytes) child = below_within (tree_of bytes) 4 [] n child within below_it in
-    let operator : is_operator (number op) ≡ true = is_wanted (is_listed (number op)) (is_operator (number op)) (ap (λ (f : Forest). lacks_expression (first_number f)) (sym first.3) ∙ lacks) (or_parts _ _ (or_parts _ _ (no_fault bytes child OpOutside checked there)).0).0 in
+    let operator : is_operator (number op) ≡ true = is_wanted (is_listed (number op)) (is_operator (number op)) (ap (λ (f : Forest). lacks_expression (first_number f)) (sym first.3) ∙ lacks) (or_parts _ _ (no_fault bytes child OpOutside checked there)).0 in
     let around : parent child ≡ Some (mark n) = innermost-push n.path (as_ancestor n) in
     let begins_it : is_condition child ≡ true = ap (begins_scope from) around ∙ and_from _ _ wants (eq-eqb from from refl) in
     record {
@@ -192,7 +192,7 @@ has_value bytes n checked within wants =
       children = first.1;
       rest = first.2;
       first = first.3;
-      is_value = eqb-true (number op) VALUE (is_wanted (is_listed (number op)) (eqb (number op) VALUE) (ap (λ (f : Forest). lacks_value (first_number f)) (sym first.3) ∙ lacks) (or_parts _ _ (or_parts _ _ (no_fault bytes child OpOutside checked there)).0).0);
+      is_value = eqb-true (number op) VALUE (is_wanted (is_listed (number op)) (eqb (number op) VALUE) (ap (λ (f : Forest). lacks_value (first_number f)) (sym first.3) ∙ lacks) (or_parts _ _ (no_fault bytes child OpOutside checked there)).0);
       within = there;
     }
 

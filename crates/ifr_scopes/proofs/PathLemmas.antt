@@ -8,8 +8,9 @@ use Rattle.ifr_opcodes.specs.Opcode.{number}
 use Rattle.ifr_opcodes.specs.Forest.{flat, Ancestor, Placed, as_ancestor, below, Spells}
 use Rattle.ifr_opcodes.specs.Reading.{tree_of}
 use Rattle.ifr_scopes.specs.Guards.{is_guard, node_within, nodes_on, guards, guards_among}
-use Rattle.ifr_scopes.specs.Index.{is_indexed, indexed_at, or_none, guards_of_indexed}
+use Rattle.ifr_scopes.specs.Index.{is_indexed, indexed_at, entry_of, or_none, guards_of_indexed, lock_of_indexed}
 use Rattle.ifr_scopes.specs.Kept.{IsKept, AreKept, kept_guard, kept_guards, kept_at}
+use Rattle.ifr_scopes.specs.Locks.{first_lock}
 use Rattle.ifr_scopes.specs.Nodes.{nodes_of, is_statement, statements, this_of}
 use Rattle.ifr_scopes.specs.Checked.{IsNodeOf, AreNodesOf, node_in}
 use Rattle.ifr_scopes.specs.declared.guard_place.GuardPlace.{GuardPlace}
@@ -75,7 +76,7 @@ find_within (m ∷ ns) place n e = elim (cases_Bool (is_indexed m && eqb m.place
 pub kept_some : (bytes : List ℕ) (place : ℕ) (kept : List GuardPlace) → Spells bytes (tree_of bytes) → Some kept ≡ kept_at (nodes_of bytes) place → Keeps bytes kept (guards_of_indexed (nodes_of bytes) place)
 kept_some bytes place kept s e = go (indexed_at (nodes_of bytes) place) refl e
   where
-    go : (o : Option Placed) → indexed_at (nodes_of bytes) place ≡ o → Some kept ≡ option_map kept_guards o → Keeps bytes kept (guards_of_indexed (nodes_of bytes) place)
+    go : (o : Option Placed) → indexed_at (nodes_of bytes) place ≡ o → Some kept ≡ entry_of (λ m. Some (kept_guards m)) o → Keeps bytes kept (guards_of_indexed (nodes_of bytes) place)
     go None is e = absurd cc
     go (Some n) is e =
         let same : kept ≡ kept_guards n = cc in
@@ -85,11 +86,11 @@ kept_some bytes place kept s e = go (indexed_at (nodes_of bytes) place) refl e
 pub kept_none : (bytes : List ℕ) (place : ℕ) → None ≡ kept_at (nodes_of bytes) place → guards_of_indexed (nodes_of bytes) place ≡ []
 kept_none bytes place e = go (indexed_at (nodes_of bytes) place) e
   where
-    go : (o : Option Placed) → None ≡ option_map kept_guards o → or_none (option_map guards o) ≡ []
+    go : (o : Option Placed) → None ≡ entry_of (λ m. Some (kept_guards m)) o → or_none (option_map guards o) ≡ []
     go None e = refl
     go (Some n) e = absurd cc
 
--- ---- what is looked up at the place of a form or a statement
+-- ---- what is looked up at the place of a form, a statement or an option
 
 and_false : (a b : Bool) → b ≡ false → a && b ≡ false
 and_false true b e = e
@@ -109,10 +110,14 @@ indexed_here (m ∷ ns) low high n (suc k) w lt e is =
     let other : is_indexed m && eqb m.place n.place ≡ false = and_false (is_indexed m) _ (ne_eqb m.place n.place (λ same. omega arith)) in
     cond-false (is_indexed m && eqb m.place n.place) (Some m) (indexed_at ns n.place) other ∙ indexed_here ns (m.place + 1) high n k w.1 (omega arith) e is
 
+own_node : (bytes : List ℕ) (n : Placed) → Spells bytes (tree_of bytes) → Contains (nodes_of bytes) n → is_indexed n ≡ true → indexed_at (nodes_of bytes) n.place ≡ Some n
+own_node bytes n s c is = indexed_here (nodes_of bytes) 4 (4 + length (flat (tree_of bytes))) n c.0 (nodes_within (tree_of bytes) 4 [] s.are_nodes) c.1 c.2 is
+
 pub own_guards : (bytes : List ℕ) (n : Placed) → Spells bytes (tree_of bytes) → Contains (nodes_of bytes) n → is_indexed n ≡ true → guards_of_indexed (nodes_of bytes) n.place ≡ guards n
-own_guards bytes n s c is =
-    ap (λ (o : Option Placed). or_none (option_map guards o))
-    (indexed_here (nodes_of bytes) 4 (4 + length (flat (tree_of bytes))) n c.0 (nodes_within (tree_of bytes) 4 [] s.are_nodes) c.1 c.2 is)
+own_guards bytes n s c is = ap (λ (o : Option Placed). or_none (option_map guards o)) (own_node bytes n s c is)
+
+pub own_lock : (bytes : List ℕ) (n : Placed) → Spells bytes (tree_of bytes) → Contains (nodes_of bytes) n → is_indexed n ≡ true → lock_of_indexed (nodes_of bytes) n.place ≡ first_lock (nodes_of bytes) n
+own_lock bytes n s c is = ap (entry_of (first_lock (nodes_of bytes))) (own_node bytes n s c is)
 
 -- ---- the statements of a form
 

@@ -71,6 +71,9 @@ ancestor_prop a b = hlevel (props, forest_prop)
 placed_prop : (n m : Placed) → IsProp (n ≡ m)
 placed_prop n m = hlevel (props, forest_prop, ancestor_prop)
 
+pub nodes_prop : (ns ms : List Placed) → IsProp (ns ≡ ms)
+nodes_prop ns ms = hlevel (props, forest_prop, ancestor_prop, placed_prop)
+
 -- the node is the one at its place in the package
 abbrev pub IsNodeOf : List ℕ → Placed → Type 0
 IsNodeOf bytes n = node_at (nodes_of bytes) n.place ≡ Some n

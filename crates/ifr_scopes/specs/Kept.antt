@@ -1,10 +1,10 @@
 -- Guards as they are kept: each as its place and the question in whose scope it stands.
-use Rattle.std.specs.Prelude.{◌≡◌, ℕ, true, All, Option, option_map, List, map}
+use Rattle.std.specs.Prelude.{◌≡◌, ℕ, true, All, Option, Some, List, map}
 use Rattle.std.proofs.Props.{props}
 use Rattle.ifr_opcodes.specs.Forest.{Placed}
 use Rattle.ifr_scopes.specs.Checked.{node_in, has_guard}
 use Rattle.ifr_scopes.specs.Guards.{guards}
-use Rattle.ifr_scopes.specs.Index.{indexed_at}
+use Rattle.ifr_scopes.specs.Index.{entry_at}
 use Rattle.ifr_scopes.specs.Nodes.{this_of}
 use Rattle.ifr_scopes.specs.declared.guard_place.GuardPlace.{GuardPlace}
 
@@ -17,7 +17,7 @@ kept_guards n = map kept_guard (guards n)
 
 -- those of the form, statement or option at a place
 abbrev pub kept_at : List Placed → ℕ → Option (List GuardPlace)
-kept_at ns place = option_map kept_guards (indexed_at ns place)
+kept_at ns place = entry_at (λ n. Some (kept_guards n)) ns place
 
 -- A guard stands at the place in the package, and in the scope of this question.
 pub record IsKept (bytes : List ℕ) (guard : GuardPlace) : Type 0 where

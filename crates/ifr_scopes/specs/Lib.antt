@@ -21,7 +21,11 @@ pub mod Scopes
 pub mod Around
 pub mod Lists
 pub mod LocksLeft
+pub mod Frames
+pub mod DependenceLeft
 pub mod PartsLeft
 pub mod Parts
+pub mod KeptNoSubmits
+pub mod NoSubmitsLeft
 pub mod Accepted
 pub mod Met

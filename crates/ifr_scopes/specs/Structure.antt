@@ -12,8 +12,7 @@ use Rattle.ifr_opcodes.specs.Forest.{Forest, none, node, Mark, Ancestor, Placed}
 use Rattle.ifr_opcodes.specs.declared.codes.TheConstants.{FORM_SET, VALUE}
 use Rattle.ifr_expr.specs.Faults.{IsExpressionFault}
 use Rattle.ifr_expr.specs.Trees.{expression}
-use Rattle.ifr_scopes.specs.Guards.{is_guard}
-use Rattle.ifr_scopes.specs.Table.{row, wants_expression, wants_value, admits, class_around, is_within_question}
+use Rattle.ifr_scopes.specs.Table.{row, wants_expression, wants_value, admits, class_around}
 use Rattle.ifr_scopes.specs.declared.table.Row.{Row}
 use Rattle.ifr_scopes.specs.declared.table.Scope.{Scope}
 use Rattle.ifr_scopes.specs.declared.table.Scope.TheVariants.{Always, Sometimes, Never, Outermost, WithValue}
@@ -90,15 +89,11 @@ lacks_value (Some code) = is_listed code && not (code == VALUE)
 abbrev pub lacks_wanted : List ℕ → Forest → Bool
 lacks_wanted op children = (wants_expression (number op) && lacks_expression (first_number children)) || (wants_value op && lacks_value (first_number children))
 
--- whether a guard stands in the scope of a question; such guards are not known yet
-abbrev pub guards_options : Placed → Bool
-guards_options n = is_guard (number n.op) && is_within_question (class_around OfNothing n.path)
-
 -- the rows of the table of faults
 abbrev pub has_fault : Placed → Cause → Bool
 has_fault n NotFormSet = (n.place == 4) && not (number n.op == FORM_SET)
 has_fault n AfterFormSet = is_root n && not (n.place == 4)
-has_fault n OpOutside = is_outside n.op || guards_options n
+has_fault n OpOutside = is_outside n.op
 has_fault n OpSize = is_short n.op
 has_fault n Misplaced = not (is_root n) && (not (is_wanted n) && not (admits (class_around OfNothing n.path) (number n.op)))
 has_fault n ScopeBit = has_wrong_scope (row (number n.op)) (is_operand n) n.op

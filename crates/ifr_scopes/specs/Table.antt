@@ -1,6 +1,6 @@
 -- The opcodes that are known, with a row for each: whether it opens a scope, and what may stand in that scope (UEFI 2.8,
 -- 33.3.8.3 Opcode Reference; which opcodes are known and what may stand where are own rules).
-use Rattle.std.specs.Prelude.{ℕ, nat_le, length, Bool, true, false, ◌==◌, ◌||◌, ◌&&◌, if◌then◌else◌, Option, Some, None, List, [], ◌∷◌, ◌++◌}
+use Rattle.std.specs.Prelude.{ℕ, nat_le, length, Bool, false, ◌==◌, ◌||◌, ◌&&◌, if◌then◌else◌, Option, Some, None, List, [], ◌∷◌, ◌++◌}
 use Rattle.ifr_opcodes.specs.Fields.{default_kind}
 use Rattle.ifr_opcodes.specs.Opcode.{number}
 use Rattle.ifr_opcodes.specs.Operators.{is_among, is_operator}
@@ -75,10 +75,3 @@ guarded class = class
 abbrev pub class_around : Class → List Ancestor → Class
 class_around found [] = found
 class_around found (a ∷ path) = class_around (if is_guard (number a.op) then guarded found else class_of (row (number a.op))) path
-
--- whether this is what may stand in the scope of a question
-abbrev pub is_within_question : Class → Bool
-is_within_question OfQuestion = true
-is_within_question OfChoice = true
-is_within_question OfOptions = true
-is_within_question class = false

@@ -1,16 +1,18 @@
 //! A forms package that was read.
 
-ghost use Rattle.std.specs.Prelude.{◌≡◌, ◌∷◌, List, IfOk, IfErr, filter, map};
+ghost use Rattle.std.specs.Prelude.{◌≡◌, ◌∷◌, List, IfOk, IfErr, filter, map, option_map};
 ghost use Rattle.hii_bytes.specs.Faults.{Refuses};
 ghost use Rattle.ifr_opcodes.specs.Forest.{Placed};
 ghost use Rattle.ifr_opcodes.specs.Opcode.{number};
 ghost use Rattle.ifr_scopes.specs.Accepted.{IsAccepted, IsPackageFault};
 ghost use Rattle.ifr_scopes.specs.Checked.{node_in};
 ghost use Rattle.ifr_scopes.specs.Guards.{is_guard};
-ghost use Rattle.ifr_scopes.specs.Index.{guards_of_indexed};
+ghost use Rattle.ifr_scopes.specs.Index.{guards_of_indexed, lock_of_indexed};
 ghost use Rattle.ifr_scopes.specs.Kept.{AreKept};
 ghost use Rattle.ifr_scopes.specs.Lists.{form_set_node, stores_left, all_guards_left, forms_left, statements_left, guards_left};
-ghost use Rattle.ifr_scopes.specs.Nodes.{nodes_of, is_form, is_store, is_statement};
+ghost use Rattle.ifr_scopes.specs.LocksLeft.{lock_node};
+ghost use Rattle.ifr_scopes.specs.Nodes.{nodes_of, is_form, is_store, is_statement, is_no_submit};
+ghost use Rattle.ifr_scopes.specs.NoSubmitsLeft.{no_submits_left};
 
 use crate::form::FormViews;
 use crate::form_set::FormSet;
@@ -19,6 +21,9 @@ use crate::guard::GuardViews;
 use crate::guard_place::GuardPlace;
 use crate::guards_at::GuardsAt;
 use crate::index::{Index, index_of};
+use crate::lock_index::{LockIndex, locks_of};
+use crate::locks::LockView;
+use crate::no_submits::{NoSubmitPlace, NoSubmits, no_submits_of};
 use crate::nodes::Nodes;
 use crate::places::node_at;
 use crate::references::check_references;
@@ -39,22 +44,26 @@ pub struct Forms<'a> {
     ifr: &'a [u8],
     rules: RuleTable,
     index: Index,
+    locks: LockIndex,
+    no_submits: Vec<NoSubmitPlace>,
 }
 
 impl<'a> Model for Forms<'a> {
-    ghost use Rattle.std.specs.Prelude.{ℕ, List, ◌≡◌, option_map};
+    ghost use Rattle.std.specs.Prelude.{ℕ, List, ◌≡◌, filter, map, option_map};
     ghost use Rattle.std.specs.BTreeMap.{get};
     ghost use Rattle.std.specs.Ordering.{nat_cmp};
     ghost use Rattle.ifr_scopes.specs.Accepted.{IsAccepted};
+    ghost use Rattle.ifr_scopes.specs.Index.{lock_place_at};
     ghost use Rattle.ifr_scopes.specs.Kept.{kept_at};
+    ghost use Rattle.ifr_scopes.specs.KeptNoSubmits.{kept_no_submit};
     ghost use Rattle.ifr_scopes.specs.KeptRules.{AreKept};
-    ghost use Rattle.ifr_scopes.specs.Nodes.{nodes_of};
+    ghost use Rattle.ifr_scopes.specs.Nodes.{nodes_of, is_no_submit};
 
     ghost Value = { List ℕ };
 
     ghost view = { λ s. s.ifr.now };
 
-    ghost invariant = { λ s. IsAccepted s.ifr.now × ((place : ℕ) → option_map (λ v. v.items) (get nat_cmp s.index place) ≡ kept_at (nodes_of s.ifr.now) place) × AreKept (nodes_of s.ifr.now) s.rules };
+    ghost invariant = { λ s. IsAccepted s.ifr.now × ((place : ℕ) → option_map (λ v. v.items) (get nat_cmp s.index place) ≡ kept_at (nodes_of s.ifr.now) place) × AreKept (nodes_of s.ifr.now) s.rules × ((place : ℕ) → get nat_cmp s.locks place ≡ lock_place_at (nodes_of s.ifr.now) place) × (s.no_submits.items ≡ map kept_no_submit (filter is_no_submit (nodes_of s.ifr.now))) };
 }
 
 impl<'a> Forms<'a> {
@@ -70,8 +79,20 @@ impl<'a> Forms<'a> {
         check_framing(ifr)?;
         check_structure(ifr)?;
         let rules = check_references(alloc, ifr)?;
-        match index_of(alloc, ifr) {
-            Ok(index) => Ok(Forms { ifr, rules, index }),
+        let Ok(index) = index_of(alloc, ifr) else {
+            return Err(Fault::out_of_memory());
+        };
+        let Ok(locks) = locks_of(alloc, ifr) else {
+            return Err(Fault::out_of_memory());
+        };
+        match no_submits_of(alloc, ifr) {
+            Ok(no_submits) => Ok(Forms {
+                ifr,
+                rules,
+                index,
+                locks,
+                no_submits,
+            }),
             Err(_) => Err(Fault::out_of_memory()),
         }
     }
@@ -128,6 +149,16 @@ impl<'a> Forms<'a> {
         }
     }
 
+    /// The NO_SUBMIT_IFs of all questions, by place, each with its guards.
+    pub fn nosubmits(&self) -> NoSubmits<'_, 'a>
+        ensures { no_submits_left result ≡ filter is_no_submit (nodes_of self.now) }
+    {
+        NoSubmits {
+            forms: self,
+            kept: &self.no_submits,
+        }
+    }
+
     // These guards as the index keeps them.
     fn kept_at(&self, place: u32) -> &[GuardPlace]
         ensures guards { AreKept self.now result.now }
@@ -148,6 +179,16 @@ impl<'a> Forms<'a> {
             ifr: self.ifr,
             kept: self.kept_at(place),
         }
+    }
+
+    /// The LOCKED that decides for the form, statement or option at a place, if one locks it; none at any other place.
+    pub fn lock_at(&self, place: u32) -> Option<LockView<'a>>
+        ensures { option_map lock_node result ≡ lock_of_indexed (nodes_of self.now) place }
+    {
+        let lock = self.locks.get(&place)?;
+        Some(LockView {
+            node: node_at(self.ifr, *lock),
+        })
     }
 }
 

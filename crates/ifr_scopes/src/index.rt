@@ -20,7 +20,8 @@ use std::collections::BTreeMap;
 /// The guards of each form, statement and option by its place, the outermost first.
 pub(crate) type Index = BTreeMap<u32, SmallVec<GuardPlace, 4>>;
 
-fn is_indexed(code: u8) -> bool
+/// Whether this is the number of a form, a statement or an option.
+pub(crate) fn is_indexed(code: u8) -> bool
     ensures { result ≡ (code == codes.FORM || is_statement_number code || code == codes.ONE_OF_OPTION) }
 {
     code == FORM || is_statement(code) || code == ONE_OF_OPTION

@@ -1,15 +1,16 @@
 //! Laws of the definitions that the contracts cite.
 
-ghost use Rattle.std.specs.Prelude.{◌≡◌, ℕ, ◌+◌, ◌≤◌, ◌<◌, ◌^◌, Some, List, ◌∷◌, ◌++◌, length, slice_index, drop, Contains};
+ghost use Rattle.std.specs.Prelude.{◌≡◌, ℕ, ◌+◌, ◌≤◌, ◌<◌, ◌^◌, true, Some, List, ◌∷◌, ◌++◌, length, slice_index, drop, Contains};
 ghost use Rattle.hii_bytes.specs.Faults.{HasNone};
 ghost use Rattle.hii_bytes.specs.declared.cause.Cause.{Cause};
 ghost use Rattle.ifr_opcodes.specs.Forest.{Forest, none, node, flat, AreNodes, Spells, Ancestor, Placed, as_ancestor, nodes, node_at, places};
 ghost use Rattle.ifr_scopes.specs.Framing.{IsFramingFault};
 ghost use Rattle.ifr_scopes.specs.Checked.{AreNodesOf, IsNodeOf};
 ghost use Rattle.ifr_scopes.specs.Guards.{guards};
-ghost use Rattle.ifr_scopes.specs.Index.{guards_of_indexed};
+ghost use Rattle.ifr_scopes.specs.Index.{is_indexed, guards_of_indexed, lock_of_indexed};
 ghost use Rattle.ifr_scopes.specs.Accepted.{IsAccepted};
 ghost use Rattle.ifr_scopes.specs.Lists.{form_node, form_package, statement_node, statement_package};
+ghost use Rattle.ifr_scopes.specs.Locks.{first_lock};
 ghost use Rattle.ifr_scopes.specs.Nodes.{nodes_of, statements};
 ghost use Rattle.ifr_scopes.specs.declared.form.Form.{Form};
 ghost use Rattle.ifr_scopes.specs.declared.statement.Statement.{Statement};
@@ -60,16 +61,13 @@ pub fn bytes_without_framing_fault_are_spelled(bytes: &[u8])
     }
 }
 
-/// What is looked up at the place of a form of a package are its guards.
-pub fn guards_of_a_form_are_found()
-    ensures { (bytes : List ℕ) (form : Form) → IsAccepted bytes → IsNodeOf bytes (form_node form) →
-        guards_of_indexed (nodes_of bytes) (form_node form).place ≡ guards (form_node form) }
-{}
-
-/// What is looked up at the place of a statement of a package are its guards.
-pub fn guards_of_a_statement_are_found()
-    ensures { (bytes : List ℕ) (statement : Statement) → IsAccepted bytes → IsNodeOf bytes (statement_node statement) →
-        guards_of_indexed (nodes_of bytes) (statement_node statement).place ≡ guards (statement_node statement) }
+/// What is looked up at the place of a form, a statement or an option of a package are its guards, and the LOCKED that decides
+/// for it.
+pub fn guards_and_locks_are_found()
+    ensures guards { (bytes : List ℕ) (n : Placed) → IsAccepted bytes → IsNodeOf bytes n → is_indexed n ≡ true →
+        guards_of_indexed (nodes_of bytes) n.place ≡ guards n }
+    ensures lock { (bytes : List ℕ) (n : Placed) → IsAccepted bytes → IsNodeOf bytes n → is_indexed n ≡ true →
+        lock_of_indexed (nodes_of bytes) n.place ≡ first_lock (nodes_of bytes) n }
 {}
 
 /// A form is one of its package's nodes.

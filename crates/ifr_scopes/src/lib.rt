@@ -3,6 +3,7 @@
 
 mod condition_view;
 mod default_view;
+mod dependence;
 mod ends;
 mod form;
 mod form_end;
@@ -17,7 +18,9 @@ mod guards_of;
 mod index;
 mod kinds;
 pub mod laws;
+mod lock_index;
 mod locks;
+mod no_submits;
 mod node;
 mod nodes;
 mod nodes_of;
@@ -38,6 +41,7 @@ mod walk;
 
 pub use condition_view::{ConditionOp, ConditionView, ConditionViews};
 pub use default_view::{DefaultView, Defaults};
+pub use dependence::Dependence;
 pub use form::{Form, FormViews};
 pub use form_set::FormSet;
 pub use forms::Forms;
@@ -45,6 +49,7 @@ pub use guard::{Guard, GuardViews};
 pub use guards_at::GuardsAt;
 pub use guards_of::GuardsOf;
 pub use locks::{LockView, Locks};
+pub use no_submits::{NoSubmit, NoSubmits};
 pub use option_view::{OptionView, Options};
 pub use statement::{Statement, StatementKind, Statements};
 pub use varstore::{StoreOp, Varstore, Varstores};

@@ -116,8 +116,12 @@ fn opcodes_where_they_may_not_stand(rt: HostRuntime) {
         refusal(alloc, &[0x5f, 0x82, 0x29, 2]),
         Some((Cause::OpOutside, 33))
     );
-    // LOCKED is not known yet
-    assert_eq!(rt; refusal(alloc, &[0x0b, 2]), Some((Cause::OpOutside, 33)));
+    // LOCKED has no scope
+    assert_eq!(rt; refusal(alloc, &[0x0b, 2]), None);
+    assert_eq!(rt;
+        refusal(alloc, &[0x0b, 0x82, 0x29, 2]),
+        Some((Cause::ScopeBit, 33))
+    );
 }
 
 #[test]
@@ -129,19 +133,21 @@ fn what_questions_have(rt: HostRuntime) {
         (74, 9, Some((Cause::ScopeBit, 70))), // a default with a scope has a VALUE
         (75, 0x47, Some((Cause::ExprShape, 70))), // TRUE in place of VALUE
         (33, 0x07, Some((Cause::Misplaced, 50))), // a NUMERIC with options
-        (57, 0x1e, Some((Cause::OpOutside, 57))), // DISABLE_IF is not known
+        (57, 0x1e, Some((Cause::ScopeBit, 57))), // a DISABLE_IF without a scope
         (68, 0x0d, Some((Cause::OpOutside, 64))), // a default of a kind that is not defined
     ] {
         let mut opcodes = CHOICE;
         opcodes[at - 33] = byte;
         assert_eq!(rt; refusal(alloc, &opcodes), refused);
     }
-    // a guard among the options is not known yet
-    let guarded = [
+    // a guard among options, and in a question without options
+    let mut guarded = [
         0x05, 0x91, 3, 0, 0, 0, 1, 0, 1, 0, 0, 0, 0, 0x10, 0, 0, 0, 0x0a, 0x82, 0x46, 2, 0x29, 2,
         0x29, 2,
     ];
-    assert_eq!(rt; refusal(alloc, &guarded), Some((Cause::OpOutside, 50)));
+    assert_eq!(rt; refusal(alloc, &guarded), None);
+    guarded[0] = 0x07;
+    assert_eq!(rt; refusal(alloc, &guarded), Some((Cause::Misplaced, 50)));
 }
 
 // Questions without answers.
@@ -159,7 +165,9 @@ impl<'v> Answers<'v> for Nobody {
 
 #[test]
 fn parts_of_a_question(rt: HostRuntime) -> Result<(), Fail> {
-    let (bytes, len) = with(&CHOICE);
+    let mut opcodes = CHOICE;
+    opcodes[60] = 0x0b; // a LOCKED in place of the GUID, at 93
+    let (bytes, len) = with(&opcodes);
     let forms = forms_of(rt.alloc(), &bytes[..len])?;
     let statement = forms.statements().next().expect(&rt, "a statement");
     assert!(rt; matches!(statement.kind(), StatementKind::OneOf(_)));
@@ -170,7 +178,9 @@ fn parts_of_a_question(rt: HostRuntime) -> Result<(), Fail> {
         assert_eq!(rt; (option.place(), option.op().value()), (place, value));
         assert!(rt; option.guards().next().is_none());
         assert!(rt; forms.guards_at(place).next().is_none());
+        assert_eq!(rt; forms.lock_at(place).map(|lock| lock.place()), Some(93));
     }
+    assert!(rt; forms.lock_at(64).is_none());
     assert!(rt; options.next().is_none());
     let mut defaults = statement.defaults();
     let number = defaults.next().expect(&rt, "a default");
@@ -183,6 +193,30 @@ fn parts_of_a_question(rt: HostRuntime) -> Result<(), Fail> {
     let value = expression.value().expect(&rt, "an expression");
     assert!(rt; matches!(value.value(&Nobody, &forms, 0), Value::Number(5)));
     assert!(rt; defaults.next().is_none());
+    Ok(())
+}
+
+// A CHECKBOX of the id 1 under a guard, with a condition that denies each submission.
+const DENYING: [u8; 30] = [
+    0x0a, 0x82, 0x46, 2, // SUPPRESS_IF with TRUE, at 33
+    0x06, 0x8e, 3, 0, 0, 0, 1, 0, 0, 0, 0, 0, 0, 0, // at 37
+    0x10, 0x84, 9, 0, 0x46, 2, 0x29, 2, // NO_SUBMIT_IF with TRUE, at 51
+    0x29, 2, 0x29, 2, // at 59, 61
+];
+
+#[test]
+fn conditions_of_a_submission(rt: HostRuntime) -> Result<(), Fail> {
+    let (bytes, len) = with(&DENYING);
+    let forms = forms_of(rt.alloc(), &bytes[..len])?;
+    let mut denying = forms.nosubmits();
+    let first = denying.next().expect(&rt, "a condition");
+    let condition = first.condition;
+    assert_eq!(rt; (condition.place(), condition.this()), (51, 1));
+    assert!(rt; condition.condition().holds(&Nobody, &forms, 1));
+    let mut guards = first.guards;
+    assert_eq!(rt; guards.next().map(|guard| guard.place()), Some(33));
+    assert!(rt; guards.next().is_none());
+    assert!(rt; denying.next().is_none());
     Ok(())
 }
 

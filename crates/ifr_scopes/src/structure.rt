@@ -16,8 +16,7 @@ use crate::ends::end_of;
 use crate::framing::HEADER;
 use crate::guards::is_guard;
 use crate::table::{
-    Class, Scope, admits, class_of, guarded, is_within_question, row_of, wants_expression,
-    wants_value,
+    Class, Scope, admits, class_of, guarded, row_of, wants_expression, wants_value,
 };
 use crate::walk::Walk;
 use hii_bytes::{Cause, Fault};
@@ -154,8 +153,7 @@ fn cause_of(bytes: &[u8], op: Op, around: &[u32], first: Option<u8>) -> Option<C
     if is_root && !is_first {
         return Some(Cause::AfterFormSet);
     }
-    let class = class_around(bytes, around);
-    if is_outside(op) || (is_guard(op.code) && is_within_question(class)) {
+    if is_outside(op) {
         return Some(Cause::OpOutside);
     }
     if is_short(op) {
@@ -164,7 +162,7 @@ fn cause_of(bytes: &[u8], op: Op, around: &[u32], first: Option<u8>) -> Option<C
     if !is_root
         && !begins_scope(op.place, parent)
         && !begins_with_value(op.place, parent)
-        && !admits(class, op.code)
+        && !admits(class_around(bytes, around), op.code)
     {
         return Some(Cause::Misplaced);
     }

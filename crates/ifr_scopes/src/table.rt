@@ -171,13 +171,3 @@ pub(crate) fn guarded(class: Class) -> Class
         _ => class,
     }
 }
-
-/// Whether this is what may stand in the scope of a question.
-pub(crate) fn is_within_question(class: Class) -> bool
-    ensures { result ≡ table.is_within_question class }
-{
-    matches!(
-        class,
-        Class::OfQuestion | Class::OfChoice | Class::OfOptions
-    )
-}

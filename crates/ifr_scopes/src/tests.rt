@@ -323,6 +323,30 @@ fn rules_before_and_behind(rt: HostRuntime) -> Result<(), Fail> {
     Ok(())
 }
 
+// A form with a rule over a question, and a guard over the rule and THIS.
+const DEPENDENT: [u8; 61] = [
+    61, 0, 0, 2, // the package's header
+    0x0e, 0x97, 1, 2, 3, 4, 5, 6, 7, 8, 9, 10, 11, 12, 13, 14, 15, 16, 0x21, 0x43, 5, 0, 1, // FORM_SET, at 4
+    0x01, 0x86, 7, 0, 8, 0, // a form, at 27
+    0x18, 0x83, 5, 0x12, 6, 7, 0, 1, 0, 0x29, 2, // the rule 5: the question 7 answers 1, at 33
+    0x0a, 0x82, 0x3f, 0x83, 5, 0x58, 2, 0x15, 2, 0x29, 2, 0x29, 2, // SUPPRESS_IF with RULE_REF 5 and THIS, at 44
+    0x29, 2, 0x29, 2, // at 57, 59
+];
+
+#[test]
+fn questions_behind_rules(rt: HostRuntime) -> Result<(), Fail> {
+    let forms = forms_of(rt.alloc(), &DEPENDENT)?;
+    let condition = forms.guards().next().expect(&rt, "a guard").condition();
+    let mut ids = forms.dependence(condition, 9);
+    assert_eq!(rt;
+        (ids.next(), ids.next(), ids.next()),
+        (Some(7), Some(9), None)
+    );
+    let mut ids = forms.dependence(condition, 0);
+    assert_eq!(rt; (ids.next(), ids.next()), (Some(7), None));
+    Ok(())
+}
+
 // A form with a rule that holds, at 33, and more behind it, from 40 on in steps of 8, each naming the one before; and how
 // long the package is.
 fn chain(more: usize) -> ([u8; 172], usize)

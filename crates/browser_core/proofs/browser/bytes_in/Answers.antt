@@ -1,5 +1,4 @@
-use Rattle.std.proofs.Common.{sym, ap, ◌∙◌}
-use Rattle.hii_varstore.specs.Stores.{bytes_of}
+use Rattle.std.proofs.Common.{sym}
 use Rattle.hii_questions.specs.Ranges.{range_in}
 use Rattle.hii_questions.specs.Views.{question_view}
 use Rattle.browser_core.proofs.ChangeLemmas.{in_store}

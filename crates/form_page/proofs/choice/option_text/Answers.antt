@@ -1,19 +1,18 @@
-use Rattle.std.proofs.Common.{◌≡◌, ◌∙◌, refl, sym, ap, subst, ℕ, List, Option, Some}
-use Rattle.std.specs.Prelude.{option_map, ◌==◌, ◌&&◌, is_none}
+use Rattle.std.proofs.Common.{◌≡◌, ◌∙◌, refl, sym, ap, subst, List, Some}
+use Rattle.std.specs.Prelude.{◌==◌, ◌&&◌, is_none}
 use Rattle.std.proofs.lemmas.Bool.{cond-true, cond-false}
-use Rattle.ifr_opcodes.specs.Fields.{option_text, option_value}
+use Rattle.ifr_opcodes.specs.Fields.{option_value}
 use Rattle.ifr_opcodes.specs.Forest.{Placed}
 use Rattle.ifr_scopes.specs.Accepted.{IsAccepted}
 use Rattle.ifr_scopes.specs.Lists.{statement_node}
-use Rattle.ifr_scopes.specs.Nodes.{nodes_of, options}
+use Rattle.ifr_scopes.specs.Nodes.{options}
 use Rattle.ifr_scopes.specs.Parts.{option_node, options_left}
 use Rattle.hii_languages.specs.Shown.{shown_text}
 use Rattle.hii_languages.specs.Views.{choice_of}
 use Rattle.guard_policy.specs.Policy.{hidden}
-use Rattle.guard_policy.specs.Views.{bytes_of}
+use Rattle.guard_policy.specs.Views.{bytes_of, world}
 use Rattle.form_page.specs.RowValues.{option_with}
-use Rattle.form_page.proofs.OptionLemmas.{options_are_nodes}
-use Rattle.form_page.proofs.StatementLemmas.{first_of, rest_of}
+use Rattle.guard_policy.proofs.OptionLemmas.{options_are_nodes, first_of, rest_of}
 use Rattle.form_page.proofs.choice.option_text.Goals as goal
 
 pub loop-option-init : goal.loop-option-init
@@ -26,22 +25,20 @@ is_choice-requires c = first_of _ _ _ _ c.in-Some.ensures.steps c.loop-option.in
 
 pub returns-then-is_choice : goal.returns-then-is_choice
 returns-then-is_choice c =
-    let ns = nodes_of (bytes_of c.args.page.policy) in
-    let stores = c.args.page.stores.now in
+    let w = world c.args.page.policy c.args.page.stores.now in
     let texts = shown_text c.args.page.languages.now (choice_of c.args.page.choice) in
     let o = option_node c.in-Some.option in
     let value = c.args.value in
-    let rest = option_with ns stores (options_left c.next.new.self) value in
-    let found = cond-true ((option_value o.op == value) && is_none (hidden ns stores o)) (Some o) rest (sym c.is_choice.ensures ∙ c.if-is_choice.true) in
-    let first : option_with ns stores (options (statement_node c.args.statement)) value ≡ Some o =
-    sym c.loop-option.invariant.0 ∙ ap (λ (l : List Placed). option_with ns stores l value) c.in-Some.ensures.steps ∙ found in
+    let rest = option_with w (options_left c.next.new.self) value in
+    let found = cond-true ((option_value o.op == value) && is_none (hidden w o)) (Some o) rest (sym c.is_choice.ensures ∙ c.if-is_choice.true) in
+    let first : option_with w (options (statement_node c.args.statement)) value ≡ Some o =
+    sym c.loop-option.invariant.0 ∙ ap (λ (l : List Placed). option_with w l value) c.in-Some.ensures.steps ∙ found in
     rw (first, c.text-then-is_choice.ensures.characters, c.text.ensures, c.op.ensures.bytes) refl
 
 pub loop-option-preserved : goal.loop-option-preserved
 loop-option-preserved c =
-    let ns = nodes_of (bytes_of c.args.page.policy) in
-    let stores = c.args.page.stores.now in
+    let w = world c.args.page.policy c.args.page.stores.now in
     let o = option_node c.in-Some.option in
     let value = c.args.value in
-    let passed = cond-false ((option_value o.op == value) && is_none (hidden ns stores o)) (Some o) (option_with ns stores (options_left c.next.new.self) value) (sym c.is_choice.ensures ∙ c.if-is_choice.false) in
-    (sym passed ∙ sym (ap (λ (l : List Placed). option_with ns stores l value) c.in-Some.ensures.steps) ∙ c.loop-option.invariant.0, rest_of _ _ _ _ c.in-Some.ensures.steps c.loop-option.invariant.1)
+    let passed = cond-false ((option_value o.op == value) && is_none (hidden w o)) (Some o) (option_with w (options_left c.next.new.self) value) (sym c.is_choice.ensures ∙ c.if-is_choice.false) in
+    (sym passed ∙ sym (ap (λ (l : List Placed). option_with w l value) c.in-Some.ensures.steps) ∙ c.loop-option.invariant.0, rest_of _ _ _ _ c.in-Some.ensures.steps c.loop-option.invariant.1)

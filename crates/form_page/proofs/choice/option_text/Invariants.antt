@@ -1,20 +1,17 @@
 use Rattle.std.proofs.Common.{◌≡◌, length}
-use Rattle.std.specs.Prelude.{option_map}
-use Rattle.ifr_opcodes.specs.Fields.{option_text}
-use Rattle.ifr_opcodes.specs.Forest.{Placed}
 use Rattle.ifr_scopes.specs.Checked.{AreNodesOf}
 use Rattle.ifr_scopes.specs.Lists.{statement_node}
-use Rattle.ifr_scopes.specs.Nodes.{nodes_of, options}
+use Rattle.ifr_scopes.specs.Nodes.{options}
 use Rattle.ifr_scopes.specs.Parts.{options_left}
-use Rattle.guard_policy.specs.Views.{bytes_of}
+use Rattle.guard_policy.specs.Views.{bytes_of, world}
 use Rattle.form_page.specs.RowValues.{option_with}
 use Rattle.form_page.proofs.choice.option_text.Given as goal
 
 -- the options that were met have another value or are hidden
 abbrev pub invariant-loop-option : goal.invariant-loop-option
 invariant-loop-option l =
-    let ns = nodes_of (bytes_of l.page.policy) in
-    (option_with ns l.page.stores.now (options_left l.options) l.value ≡ option_with ns l.page.stores.now (options (statement_node l.statement)) l.value)
+    let w = world l.page.policy l.page.stores.now in
+    (option_with w (options_left l.options) l.value ≡ option_with w (options (statement_node l.statement)) l.value)
     × AreNodesOf (bytes_of l.page.policy) (options_left l.options)
 
 abbrev pub decreases-loop-option : goal.decreases-loop-option

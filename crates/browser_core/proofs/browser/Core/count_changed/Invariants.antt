@@ -14,7 +14,7 @@ use Rattle.browser_core.proofs.browser.Core.count_changed.Given as goal
 -- the changed questions so far, and those that are left, are all
 abbrev pub invariant-loop-question : goal.invariant-loop-question
 invariant-loop-question l =
-    let s : State = record { ifr = l.self-inside.forms; spoken = l.self-inside.languages; language = choice_of l.self-inside.language; committed = l.self-inside.committed; working = l.self-inside.working; form = (form_node l.self-inside.form).place } in
+    let s : State = record { ifr = l.self-inside.forms; removed = l.self-inside.removed; spoken = l.self-inside.languages; language = choice_of l.self-inside.language; committed = l.self-inside.committed; working = l.self-inside.working; form = (form_node l.self-inside.form).place } in
     record {
       can : goal.iterator-loop-question.can_next l.question-iterator;
       ends : goal.iterator-loop-question.is_finite l.question-iterator;

@@ -1,10 +1,10 @@
-use Rattle.std.proofs.Common.{refl, ap, ◌∙◌}
+use Rattle.std.proofs.Common.{refl, sym, ap, ◌∙◌}
 use Rattle.std.proofs.lemmas.Result.{err_from_is_err_and}
 use Rattle.hii_packages.specs.Package.{entry_of}
 use Rattle.ifr_scopes.specs.Lists.{form_node}
 use Rattle.hii_varstore.specs.Stores.{shape_of}
 use Rattle.hii_questions.specs.Survey.{Survey}
-use Rattle.browser_core.proofs.OpeningLemmas.{only_memory, refuses_source, refuses_texts, refuses_package, refuses_stores, refuses_questions, refuses_image, is_found, browsable, opened}
+use Rattle.browser_core.proofs.OpeningLemmas.{as_memory, only_memory, refuses_source, refuses_texts, refuses_package, refuses_stores, refuses_questions, refuses_image, is_found, browsable, opened}
 use Rattle.browser_core.proofs.browser.Core.open.Goals as goal
 
 pub returns-in_err-found-clause-accepted : goal.returns-in_err-found-clause-accepted
@@ -62,6 +62,16 @@ returns-in_err-committed-clause-accepted c =
     let p = err_from_is_err_and c.from_residual-in_err-committed.result c.from_residual-in_err-committed.ensures.1 in
     λ start o. rw (p.1, p.2) (only_memory c.args.list.now c.args.forms c.args.stores.now c.args.lang.now start _ o (refuses_image c.args.list.now c.args.forms c.args.stores.now c.in_ok-forms.forms c.in_ok-layout.layout _ (is_found c.args.list.now c.args.forms c.in_ok-found.found.packages (entry_of c.in_ok-found.found.forms) _ c.in_ok-languages.languages c.in_ok-found.ensures.spelled c.in_ok-found.ensures.found c.in_ok-forms.ensures.read c.in_ok-languages.ensures.read) (browsable c.in_ok-forms.forms c.in_ok-layout.layout c.in_ok-forms.ensures.accepted c.in_ok-layout.ensures.sound c.in_ok-layout.ensures.read c.in_ok-questions.ensures.sound) c.in_ok-layout.ensures.read c.in_err-committed.ensures.refused))
 
+pub returns-in_err-trial-clause-accepted : goal.returns-in_err-trial-clause-accepted
+returns-in_err-trial-clause-accepted c =
+    let p = err_from_is_err_and c.from_residual-in_err-trial.result c.from_residual-in_err-trial.ensures.1 in
+    λ start o. rw (p.1, p.2) (as_memory _ c.in_err-trial.ensures.refused)
+
+pub returns-in_err-removed-clause-accepted : goal.returns-in_err-removed-clause-accepted
+returns-in_err-removed-clause-accepted c =
+    let p = err_from_is_err_and c.from_residual-in_err-removed.result c.from_residual-in_err-removed.ensures.1 in
+    λ start o. rw (p.1, p.2) c.in_err-removed.ensures.refused
+
 pub invariant_of-result : goal.invariant_of-result
 invariant_of-result c =
     let submitted = c.in_ok-committed.ensures.spelled.laid ∙ c.in_ok-layout.ensures.read in
@@ -70,6 +80,7 @@ invariant_of-result c =
       browsable = (browsable c.in_ok-forms.forms c.in_ok-layout.layout c.in_ok-forms.ensures.accepted c.in_ok-layout.ensures.sound c.in_ok-layout.ensures.read c.in_ok-questions.ensures.sound);
       submitted = submitted;
       laid = ap shape_of c.in_ok-working.ensures.same ∙ submitted;
+      same = c.in_ok-trial.ensures.same ∙ sym c.in_ok-working.ensures.same;
       node = c.first_form-form.ensures.node;
     }
 
@@ -78,4 +89,4 @@ returns-clause-opened c =
     opened c.args.list.now c.args.forms c.args.stores.now c.args.lang.now c.in_ok-found.found.packages (entry_of c.in_ok-found.found.forms) _ c.in_ok-layout.layout (form_node c.first_form-form.result) c.first_form-form.ensures.first.0
     c.in_ok-found.ensures.spelled c.in_ok-found.ensures.found c.in_ok-forms.ensures.read c.in_ok-languages.ensures.read c.choose-language.ensures
     (browsable c.in_ok-forms.forms c.in_ok-layout.layout c.in_ok-forms.ensures.accepted c.in_ok-layout.ensures.sound c.in_ok-layout.ensures.read c.in_ok-questions.ensures.sound) c.in_ok-layout.ensures.read
-    c.in_ok-committed.ensures.spelled c.in_ok-working.ensures.same c.first_form-form.ensures.first.1 refl
+    c.in_ok-committed.ensures.spelled c.in_ok-working.ensures.same c.in_ok-removed.ensures.removed c.first_form-form.ensures.first.1 refl

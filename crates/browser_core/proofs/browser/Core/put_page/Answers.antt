@@ -1,4 +1,4 @@
-use Rattle.std.proofs.Common.{subst}
+use Rattle.std.proofs.Common.{subst, sym, ap, ◌∙◌}
 use Rattle.hii_bytes.specs.Watching.{pen_of, Writes}
 use Rattle.ifr_opcodes.specs.Forest.{node_at}
 use Rattle.ifr_scopes.specs.Lists.{form_node}
@@ -8,9 +8,14 @@ use Rattle.browser_core.specs.State.{State}
 use Rattle.browser_core.specs.Step.{page_at}
 use Rattle.browser_core.proofs.browser.Core.put_page.Goals as goal
 
+pub new-page-requires : goal.new-page-requires
+new-page-requires g c = rw (c.policy.ensures.bytes ∙ ap (λ (s : State). s.ifr) (sym c.self.view_is)) c.self.invariant.node
+
 pub returns : goal.returns
 returns g c =
-    let inside : State = record { ifr = c.self.inside.forms; spoken = c.self.inside.languages; language = choice_of c.self.inside.language; committed = c.self.inside.committed; working = c.self.inside.working; form = (form_node c.self.inside.form).place } in
-    let told = rw (c.new-page.ensures.languages, c.new-page.ensures.choice, c.new-page.ensures.policy, c.new-page.ensures.stores, c.new-page.ensures.form, c.new-policy.ensures) at c.put_page.ensures in
+    let inside : State = record { ifr = c.self.inside.forms; removed = c.self.inside.removed; spoken = c.self.inside.languages; language = choice_of c.self.inside.language; committed = c.self.inside.committed; working = c.self.inside.working; form = (form_node c.self.inside.form).place } in
+    let bytes = c.policy.ensures.bytes ∙ ap (λ (s : State). s.ifr) (sym c.self.view_is) in
+    let removed = c.policy.ensures.removed ∙ ap (λ (s : State). s.removed) (sym c.self.view_is) in
+    let told = rw (c.new-page.ensures.languages, c.new-page.ensures.choice, c.new-page.ensures.policy, c.new-page.ensures.stores, c.new-page.ensures.form, bytes, removed) at c.put_page.ensures in
     subst (λ (s : State). Writes (pen_of g.W.Write.contents c.args.out.now) (pen_of g.W.Write.contents c.put_page.new.out) (page_at s (node_at (nodes_of s.ifr) s.form))) c.self.view_is
     (rw c.self.invariant.node told)

@@ -8,7 +8,7 @@ use Rattle.hii_questions.specs.Views.{question_view}
 use Rattle.browser_core.specs.State.{State}
 use Rattle.browser_core.specs.Opening.{layout_in}
 use Rattle.browser_core.specs.Standing.{LiesIn}
-use Rattle.browser_core.specs.Step.{changed, submitted}
+use Rattle.browser_core.specs.Step.{changed, commit}
 use Rattle.browser_core.proofs.ChangeLemmas.{is_other_field, all_questions, fields_lie, lies_first, told, told_start, told_more, told_same}
 use Rattle.hii_bytes.proofs.WritingLemmas.{Stands-all}
 use Rattle.browser_core.proofs.browser.Core.put_submitted.Goals as goal
@@ -23,7 +23,7 @@ differs-requires-clause-working g c =
 
 pub loop-question-init : goal.loop-question-init
 loop-question-init g c =
-    let s : State = record { ifr = c.self.inside.forms; spoken = c.self.inside.languages; language = choice_of c.self.inside.language; committed = c.self.inside.committed; working = c.self.inside.working; form = (form_node c.self.inside.form).place } in
+    let s : State = record { ifr = c.self.inside.forms; removed = c.self.inside.removed; spoken = c.self.inside.languages; language = choice_of c.self.inside.language; committed = c.self.inside.committed; working = c.self.inside.working; form = (form_node c.self.inside.form).place } in
     let all = all_questions c.self.inside.questions.ifr c.self.inside.forms (questions_left c.all-question-items.result) (questions_left c.into_iter-question-iterator.result)
     (ap questions_left c.into_iter-question-iterator.ensures.into_iter_gives) c.all-question-items.ensures c.self.invariant.together in
     record {
@@ -35,26 +35,26 @@ loop-question-init g c =
 
 pub loop-question-preserved-then-differs : goal.loop-question-preserved-then-differs
 loop-question-preserved-then-differs g c =
-    let s : State = record { ifr = c.self.inside.forms; spoken = c.self.inside.languages; language = choice_of c.self.inside.language; committed = c.self.inside.committed; working = c.self.inside.working; form = (form_node c.self.inside.form).place } in
+    let s : State = record { ifr = c.self.inside.forms; removed = c.self.inside.removed; spoken = c.self.inside.languages; language = choice_of c.self.inside.language; committed = c.self.inside.committed; working = c.self.inside.working; form = (form_node c.self.inside.form).place } in
     record {
       can = search rules;
       ends = search rules;
       lie = (lies_first (layout_in c.self.inside.forms) (questions_left c.loop-question.question-iterator) (questions_left c.next.new.self) (question_view c.in-Some.question) c.loop-question.invariant.lie c.in-Some.ensures.steps).1;
-      text = told_more {text = (submitted s).text} (is_other_field s) (question_view c.in-Some.question) c.differs.result (questions_left c.loop-question.question-iterator) (questions_left c.next.new.self) c.id.result c.in-Some.ensures.steps c.differs.ensures c.if-differs.true c.id.ensures c.loop-question.invariant.text c.put_changed.ensures;
+      text = told_more {text = (commit s).text} (is_other_field s) (question_view c.in-Some.question) c.differs.result (questions_left c.loop-question.question-iterator) (questions_left c.next.new.self) c.id.result c.in-Some.ensures.steps c.differs.ensures c.if-differs.true c.id.ensures c.loop-question.invariant.text c.put_changed.ensures;
     }
 
 pub loop-question-preserved : goal.loop-question-preserved
 loop-question-preserved g c =
-    let s : State = record { ifr = c.self.inside.forms; spoken = c.self.inside.languages; language = choice_of c.self.inside.language; committed = c.self.inside.committed; working = c.self.inside.working; form = (form_node c.self.inside.form).place } in
+    let s : State = record { ifr = c.self.inside.forms; removed = c.self.inside.removed; spoken = c.self.inside.languages; language = choice_of c.self.inside.language; committed = c.self.inside.committed; working = c.self.inside.working; form = (form_node c.self.inside.form).place } in
     record {
       can = search rules;
       ends = search rules;
       lie = (lies_first (layout_in c.self.inside.forms) (questions_left c.loop-question.question-iterator) (questions_left c.next.new.self) (question_view c.in-Some.question) c.loop-question.invariant.lie c.in-Some.ensures.steps).1;
-      text = told_same {text = (submitted s).text} (is_other_field s) (question_view c.in-Some.question) c.differs.result (questions_left c.loop-question.question-iterator) (questions_left c.next.new.self) c.in-Some.ensures.steps c.differs.ensures c.if-differs.false c.loop-question.invariant.text;
+      text = told_same {text = (commit s).text} (is_other_field s) (question_view c.in-Some.question) c.differs.result (questions_left c.loop-question.question-iterator) (questions_left c.next.new.self) c.in-Some.ensures.steps c.differs.ensures c.if-differs.false c.loop-question.invariant.text;
     }
 
 pub returns : goal.returns
 returns g c =
-    let s : State = record { ifr = c.self.inside.forms; spoken = c.self.inside.languages; language = choice_of c.self.inside.language; committed = c.self.inside.committed; working = c.self.inside.working; form = (form_node c.self.inside.form).place } in
-    subst (λ (s : State). Writes (pen_of g.W.Write.contents c.args.out.now) (pen_of g.W.Write.contents c.loop-question.out) (submitted s).text) c.self.view_is
-    (Stands-all _ _ (submitted s).text (told (is_other_field s) (questions_left c.loop-question.question-iterator)) c.loop-question.invariant.text (ap (told (is_other_field s)) c.in-None.ensures.steps.0))
+    let s : State = record { ifr = c.self.inside.forms; removed = c.self.inside.removed; spoken = c.self.inside.languages; language = choice_of c.self.inside.language; committed = c.self.inside.committed; working = c.self.inside.working; form = (form_node c.self.inside.form).place } in
+    subst (λ (s : State). Writes (pen_of g.W.Write.contents c.args.out.now) (pen_of g.W.Write.contents c.loop-question.out) (commit s).text) c.self.view_is
+    (Stands-all _ _ (commit s).text (told (is_other_field s) (questions_left c.loop-question.question-iterator)) c.loop-question.invariant.text (ap (told (is_other_field s)) c.in-None.ensures.steps.0))

@@ -6,17 +6,17 @@ use Rattle.hii_questions.specs.Lists.{questions_left}
 use Rattle.browser_core.specs.State.{State}
 use Rattle.browser_core.specs.Opening.{layout_in}
 use Rattle.browser_core.specs.Standing.{LiesIn}
-use Rattle.browser_core.specs.Step.{submitted}
+use Rattle.browser_core.specs.Step.{commit}
 use Rattle.browser_core.proofs.ChangeLemmas.{is_other_field, told}
 use Rattle.browser_core.proofs.browser.Core.put_submitted.Given as goal
 
 -- the count and the changed questions so far are written, and those that are left stand to be written
 abbrev pub invariant-loop-question : goal.invariant-loop-question
 invariant-loop-question g l =
-    let s : State = record { ifr = l.self-inside.forms; spoken = l.self-inside.languages; language = choice_of l.self-inside.language; committed = l.self-inside.committed; working = l.self-inside.working; form = (form_node l.self-inside.form).place } in
+    let s : State = record { ifr = l.self-inside.forms; removed = l.self-inside.removed; spoken = l.self-inside.languages; language = choice_of l.self-inside.language; committed = l.self-inside.committed; working = l.self-inside.working; form = (form_node l.self-inside.form).place } in
     record {
       can : (goal.iterator-loop-question g).can_next l.question-iterator;
       ends : (goal.iterator-loop-question g).is_finite l.question-iterator;
       lie : AllByRecursion (LiesIn (layout_in s.ifr)) (questions_left l.question-iterator);
-      text : Stands (pen_of g.W.Write.contents l.fn.out) (pen_of g.W.Write.contents l.out) (submitted s).text (told (is_other_field s) (questions_left l.question-iterator));
+      text : Stands (pen_of g.W.Write.contents l.fn.out) (pen_of g.W.Write.contents l.out) (commit s).text (told (is_other_field s) (questions_left l.question-iterator));
     }

@@ -5,3 +5,8 @@ pub returns-in_err-core-clause-accepted : goal.returns-in_err-core-clause-accept
 returns-in_err-core-clause-accepted c =
     let p = err_from_is_err_and c.from_residual.result c.from_residual.ensures.1 in
     λ start o. rw (p.1, p.2) (c.in_err-core.ensures.accepted start o)
+
+pub returns-in_err-line-clause-accepted : goal.returns-in_err-line-clause-accepted
+returns-in_err-line-clause-accepted c =
+    let p = err_from_is_err_and c.from_residual-in_err-line.result c.from_residual-in_err-line.ensures.1 in
+    λ start o. rw (p.1, p.2) c.in_err-line.ensures.memory

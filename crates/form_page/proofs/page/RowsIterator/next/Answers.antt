@@ -2,7 +2,6 @@ use Rattle.std.proofs.Common.{◌≡◌, ◌∙◌, ◌+◌, ◌∷◌, true, sy
 use Rattle.std.specs.Prelude.{filter, is_none, is_ok}
 use Rattle.ifr_opcodes.specs.Forest.{Placed}
 use Rattle.ifr_scopes.specs.Lists.{statements_left}
-use Rattle.ifr_scopes.specs.Nodes.{nodes_of}
 use Rattle.hii_languages.specs.Shown.{shown_text}
 use Rattle.hii_languages.specs.Views.{choice_of}
 use Rattle.guard_policy.specs.Policy.{hidden}
@@ -11,9 +10,11 @@ use Rattle.form_page.specs.Pages.{rows_from}
 use Rattle.form_page.specs.Views.{row_seen}
 use Rattle.ifr_scopes.specs.Checked.{IsNodeOf}
 use Rattle.ifr_scopes.specs.Lists.{statement_node}
-use Rattle.guard_policy.specs.Views.{bytes_of}
+use Rattle.guard_policy.specs.Views.{bytes_of, world}
 use Rattle.form_page.specs.declared.page.Page.{Page}
-use Rattle.form_page.proofs.StatementLemmas.{first_of, rest_of, allowed, rows_first}
+use Rattle.guard_policy.proofs.DenialLemmas.{allowed}
+use Rattle.guard_policy.proofs.OptionLemmas.{first_of, rest_of}
+use Rattle.form_page.proofs.StatementLemmas.{rows_first}
 use Rattle.form_page.proofs.page.RowsIterator.next.Goals as goal
 
 pub listed-requires : goal.listed-requires
@@ -41,13 +42,12 @@ pub returns-then-is_ok-clause-steps : goal.returns-then-is_ok-clause-steps
 returns-then-is_ok-clause-steps c =
     let it = c.loop-statement.self in
     let n = statement_node c.in-Some.statement in
-    let ns = nodes_of (bytes_of it.page.policy) in
-    let stores = it.page.stores.now in
+    let w = world it.page.policy it.page.stores.now in
     let texts = shown_text it.page.languages.now (choice_of it.page.choice) in
     let same = c.loop-statement.invariant.0 in
-    let shown : is_none (hidden ns stores n) ≡ true =
-    subst (λ (page : Page). is_none (hidden (nodes_of (bytes_of page.policy)) page.stores.now n) ≡ true) same (sym (allowed _) ∙ sym (ap is_ok c.listed.ensures) ∙ sym c.is_ok.ensures.value ∙ c.if-is_ok.true) in
-    let row : row_seen c.row_of-row.result ≡ pages.row_of texts ns stores it.number n =
-    subst (λ (page : Page). row_seen c.row_of-row.result ≡ pages.row_of (shown_text page.languages.now (choice_of page.choice)) (nodes_of (bytes_of page.policy)) page.stores.now it.number n) same c.row_of-row.ensures in
-    let later = rows_from texts ns stores (it.number + 1) (filter (λ (m : Placed). is_none (hidden ns stores m)) (statements_left c.next.new.self)) in
-    sym c.loop-statement.invariant.1 ∙ rows_first texts ns stores it.number _ _ n c.in-Some.ensures.steps shown ∙ ap (λ (r : pages.Row). r ∷ later) (sym row)
+    let shown : is_none (hidden w n) ≡ true =
+    subst (λ (page : Page). is_none (hidden (world page.policy page.stores.now) n) ≡ true) same (sym (allowed _) ∙ sym (ap is_ok c.listed.ensures) ∙ sym c.is_ok.ensures.value ∙ c.if-is_ok.true) in
+    let row : row_seen c.row_of-row.result ≡ pages.row_of texts w it.number n =
+    subst (λ (page : Page). row_seen c.row_of-row.result ≡ pages.row_of (shown_text page.languages.now (choice_of page.choice)) (world page.policy page.stores.now) it.number n) same c.row_of-row.ensures in
+    let later = rows_from texts w (it.number + 1) (filter (λ (m : Placed). is_none (hidden w m)) (statements_left c.next.new.self)) in
+    sym c.loop-statement.invariant.1 ∙ rows_first texts w it.number _ _ n c.in-Some.ensures.steps shown ∙ ap (λ (r : pages.Row). r ∷ later) (sym row)

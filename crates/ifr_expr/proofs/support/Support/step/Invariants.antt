@@ -1,10 +1,10 @@
-use Rattle.std.proofs.Common.{◌≡◌, None, length}
-use Rattle.ifr_expr.specs.Expressions.{operators_left}
+use Rattle.std.proofs.Common.{◌≡◌, length}
+use Rattle.ifr_expr.specs.NamesLeft.{names_left}
 use Rattle.ifr_expr.specs.Supports.{ids_left}
 use Rattle.ifr_expr.proofs.support.Support.step.Given as goal
 
-abbrev pub invariant-loop-op : goal.invariant-loop-op
-invariant-loop-op l = record { same : ids_left l.self ≡ ids_left l.fn.self; second : l.self.second ≡ None }
+abbrev pub invariant-loop-name : goal.invariant-loop-name
+invariant-loop-name l = ids_left l.self ≡ ids_left l.fn.self
 
-abbrev pub decreases-loop-op : goal.decreases-loop-op
-decreases-loop-op l = length (operators_left l.self.ops)
+abbrev pub decreases-loop-name : goal.decreases-loop-name
+decreases-loop-name l = length (names_left l.self.names)

@@ -1,0 +1,16 @@
+use Rattle.std.proofs.Common.{◌≡◌, length}
+use Rattle.hii_questions.specs.StoredLeft.{stored_left}
+use Rattle.hii_questions.specs.Views.{question_node}
+use Rattle.guard_policy.specs.Policy.{first_closed}
+use Rattle.guard_policy.specs.Views.{world}
+use Rattle.browser_core.proofs.change.elements_open.Given as goal
+
+-- the elements that were met have open options
+abbrev pub invariant-loop-value : goal.invariant-loop-value
+invariant-loop-value l =
+    let w = world l.policy l.working in
+    let q = question_node l.question in
+    first_closed w q (stored_left l.elements) ≡ first_closed w q (stored_left l.fn.elements)
+
+abbrev pub decreases-loop-value : goal.decreases-loop-value
+decreases-loop-value l = length (stored_left l.elements)

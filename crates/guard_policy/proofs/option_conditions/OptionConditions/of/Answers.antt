@@ -1,0 +1,24 @@
+use Rattle.std.proofs.Common.{◌≡◌, ◌∙◌, sym, ap, subst, List}
+use Rattle.std.specs.Prelude.{filter, ◌==◌}
+use Rattle.std.specs.List.{flat_map}
+use Rattle.ifr_opcodes.specs.Fields.{option_value}
+use Rattle.ifr_opcodes.specs.Forest.{Placed}
+use Rattle.ifr_scopes.specs.Checked.{AreNodesOf}
+use Rattle.ifr_scopes.specs.Nodes.{options}
+use Rattle.ifr_scopes.specs.Parts.{options_left}
+use Rattle.hii_questions.specs.Views.{question_node}
+use Rattle.guard_policy.specs.Support.{around}
+use Rattle.guard_policy.proofs.OptionLemmas.{options_are_nodes}
+use Rattle.guard_policy.proofs.option_conditions.OptionConditions.of.Goals as goal
+
+pub invariant_of-result : goal.invariant_of-result
+invariant_of-result c =
+    let q = question_node c.args.question in
+    let all : options_left c.options-options.result ≡ options q = c.options-options.ensures ∙ ap options c.statement.ensures in
+    record { nodes = subst (AreNodesOf c.args.forms.now) (sym all) (options_are_nodes c.args.forms.now q c.bytes.ensures.accepted.checked.spelled c.requires) }
+
+pub returns : goal.returns
+returns c =
+    let q = question_node c.args.question in
+    let all : options_left c.options-options.result ≡ options q = c.options-options.ensures ∙ ap options c.statement.ensures in
+    ap (λ (os : List Placed). flat_map around (filter (λ o. option_value o.op == c.args.value) os)) all

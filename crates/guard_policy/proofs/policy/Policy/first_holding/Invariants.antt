@@ -1,0 +1,16 @@
+use Rattle.std.proofs.Common.{◌≡◌}
+use Rattle.std.specs.List.{find}
+use Rattle.ifr_scopes.specs.Parts.{conditions_left}
+use Rattle.guard_policy.specs.Views.{world}
+use Rattle.guard_policy.specs.World.{is_met}
+use Rattle.guard_policy.proofs.policy.Policy.first_holding.Given as goal
+
+-- the conditions that were met do not hold
+abbrev pub invariant-loop-condition : goal.invariant-loop-condition
+invariant-loop-condition l =
+    let which = is_met (world l.self l.stores) in
+    record {
+      can : goal.iterator-loop-condition.can_next l.conditions;
+      ends : goal.iterator-loop-condition.is_finite l.conditions;
+      same : find which (conditions_left l.conditions) ≡ find which (conditions_left l.fn.conditions);
+    }

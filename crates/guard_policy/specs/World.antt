@@ -1,0 +1,39 @@
+-- What a decision looks at.
+use Rattle.std.specs.Prelude.{ℕ, Bool, ◌==◌, ◌&&◌, List, map, filter}
+use Rattle.ifr_opcodes.specs.declared.codes.TheConstants.{DISABLE_IF}
+use Rattle.ifr_opcodes.specs.Opcode.{number}
+use Rattle.ifr_opcodes.specs.Forest.{Placed}
+use Rattle.ifr_expr.specs.Values.{Value, holds}
+use Rattle.ifr_expr.specs.Meaning.{Rule, value}
+use Rattle.ifr_scopes.specs.Conditions.{expression_tree}
+use Rattle.ifr_scopes.specs.Nodes.{this_of}
+use Rattle.ifr_scopes.specs.Rules.{rules_among}
+use Rattle.hii_varstore.specs.Stores.{StoreMap}
+use Rattle.hii_questions.specs.Answers.{answers}
+
+-- the nodes of the form set, the places of the DISABLE_IFs that were removed when it was opened, and the stores
+pub record World : Type 0 where
+  pub nodes : List Placed
+  pub removed : List ℕ
+  pub stores : StoreMap
+
+-- The condition of a node, the expression with which its scope begins, holds over rules and what questions answer (33.2.5.7
+-- Expressions).
+abbrev pub is_met_by : List Rule → (ℕ → Value) → Placed → Bool
+is_met_by rules answers n = holds (value rules answers (this_of n) (expression_tree n))
+
+-- the same over the nodes of a form set and its stores: whether a question is hidden itself does not matter to its answer (own
+-- rule)
+abbrev pub is_met_over : List Placed → StoreMap → Placed → Bool
+is_met_over ns stores n = is_met_by (rules_among ns) (answers ns stores) n
+
+abbrev pub is_met : World → Placed → Bool
+is_met w n = is_met_over w.nodes w.stores n
+
+-- the places of the DISABLE_IFs whose conditions hold over the stores at opening (33.3.8.3, EFI_IFR_DISABLE_IF: what stands in its
+-- scope is as if it were not there)
+abbrev pub is_disabling : List Placed → StoreMap → Placed → Bool
+is_disabling ns stores n = number n.op == DISABLE_IF && is_met_over ns stores n
+
+abbrev pub removed_at : List Placed → StoreMap → List ℕ
+removed_at ns stores = map (λ n. n.place) (filter (is_disabling ns stores) ns)

@@ -1,0 +1,87 @@
+//! The conditions around forms, statements and options.
+
+ghost use Rattle.std.specs.Prelude.{◌≡◌, true};
+ghost use Rattle.std.specs.Iterator.{YieldsFirstBy};
+ghost use Rattle.ifr_opcodes.specs.Forest.{Placed};
+ghost use Rattle.ifr_scopes.specs.Checked.{IsNodeOf};
+ghost use Rattle.ifr_scopes.specs.Index.{is_indexed};
+ghost use Rattle.ifr_scopes.specs.Lists.{guard_node};
+ghost use Rattle.guard_policy.specs.AskedLeft.{numbered_left, around_left, around_one_left};
+ghost use Rattle.guard_policy.specs.Support.{suppressing, around};
+
+use ifr_opcodes::{GRAY_OUT_IF, SUPPRESS_IF};
+use ifr_scopes::laws::guards_and_locks_are_found;
+use ifr_scopes::{Forms, Guard, GuardsAt};
+
+// The next guard of a number.
+fn next_of<'a>(guards: &mut GuardsAt<'_, 'a>, code: u8) -> Option<Guard<'a>>
+    ensures { YieldsFirstBy guard_node (numbered_left code) guards.old result guards.new }
+{
+    while let Some(guard) = guards.step() {
+        if guard.op().code == code {
+            return Some(guard);
+        }
+    }
+    None
+}
+
+/// The guards around a form, a statement or an option on whose conditions a decision depends, those that are left: the
+/// SUPPRESS_IFs, the outermost first, and then the GRAY_OUT_IFs where it is about a change.
+#[derive(Drop)]
+pub(crate) struct Around<'a, 's> {
+    suppressing: GuardsAt<'s, 'a>,
+    graying_out: Option<GuardsAt<'s, 'a>>,
+}
+
+impl<'a, 's> Around<'a, 's> {
+    /// Those that may hide the form, statement or option at a place.
+    pub(crate) fn hiding(forms: &'s Forms<'a>, place: u32) -> Around<'a, 's>
+        ensures { (n : Placed) → IsNodeOf forms.now n → is_indexed n ≡ true → n.place ≡ place → around_left result ≡ suppressing n }
+    {
+        guards_and_locks_are_found();
+        // The package is accepted.
+        forms.bytes();
+        Around {
+            suppressing: forms.guards_at(place),
+            graying_out: None,
+        }
+    }
+
+    /// Those that may hide it or let it not be changed.
+    pub(crate) fn changing(forms: &'s Forms<'a>, place: u32) -> Around<'a, 's>
+        ensures { (n : Placed) → IsNodeOf forms.now n → is_indexed n ≡ true → n.place ≡ place → around_left result ≡ around n }
+    {
+        guards_and_locks_are_found();
+        // The package is accepted.
+        forms.bytes();
+        let graying_out = forms.guards_at(place);
+        let suppressing = forms.guards_at(place);
+        Around {
+            suppressing,
+            graying_out: Some(graying_out),
+        }
+    }
+
+    /// Goes to the next.
+    pub(crate) fn step(&mut self) -> Option<Guard<'a>>
+        ensures { YieldsFirstBy guard_node around_left self.old result self.new }
+    {
+        if let Some(guard) = next_of(&mut self.suppressing, SUPPRESS_IF) {
+            return Some(guard);
+        }
+        match &mut self.graying_out {
+            Some(guards) => next_of(guards, GRAY_OUT_IF),
+            None => None,
+        }
+    }
+}
+
+/// The next guard around what stands at a place, if there is one.
+pub(crate) fn next_around<'a>(around: &mut Option<Around<'a, '_>>) -> Option<Guard<'a>>
+    ensures { YieldsFirstBy guard_node around_one_left around.old result around.new }
+{
+    match around {
+        Some(around) => around.step(),
+        None => None,
+    }
+}

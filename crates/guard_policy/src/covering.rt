@@ -1,0 +1,92 @@
+//! What guards and LOCKED do to what they stand around.
+
+ghost use Rattle.std.specs.Prelude.{◌≡◌, option_map};
+ghost use Rattle.std.specs.List.{find, list_any};
+ghost use Rattle.ifr_scopes.specs.Index.{guards_of_indexed, lock_of_indexed};
+ghost use Rattle.ifr_scopes.specs.Lists.{guard_node, guards_left};
+ghost use Rattle.ifr_scopes.specs.Nodes.{nodes_of};
+ghost use Rattle.hii_varstore.specs.Stores.{StoreMap};
+ghost use Rattle.guard_policy.specs.Effects.{acts};
+ghost use Rattle.guard_policy.specs.Policy as spec;
+ghost use Rattle.guard_policy.specs.Views.{world};
+ghost use Rattle.guard_policy.specs.World.{is_met};
+
+use crate::conditions::guard_holds;
+use crate::denial::Denial;
+use crate::effect::{Effect, hiding};
+use crate::policy::Policy;
+use hii_questions::DenialKind;
+use hii_varstore::Stores;
+use ifr_opcodes::{DISABLE_IF, GRAY_OUT_IF, SUPPRESS_IF};
+use ifr_scopes::{Guard, GuardsAt};
+
+impl<'a, 's> Policy<'a, 's> {
+    // Whether the condition of a guard holds.
+    fn guard_holds(&self, guard: Guard<'a>, stores: &Stores) -> bool
+        ensures { result ≡ is_met (world self.now stores.now) (guard_node guard.entry) }
+    {
+        guard_holds(guard, self.forms, self.questions, stores)
+    }
+
+    // Whether a guard has an effect.
+    fn acts(&self, effect: Effect, guard: Guard<'a>, stores: &Stores) -> bool
+        ensures { result ≡ acts effect (world self.now stores.now) (guard_node guard.entry) }
+    {
+        match (effect, guard.op().code) {
+            (Effect::Hides, DISABLE_IF) => self.removed(guard.place()),
+            (Effect::Hides, SUPPRESS_IF) => self.guard_holds(guard, stores),
+            (Effect::GraysOut, GRAY_OUT_IF) => self.guard_holds(guard, stores),
+            _ => false,
+        }
+    }
+
+    // The outermost guard with an effect on the form, statement or option at a place.
+    fn first_guard(&self, effect: Effect, place: u32, stores: &Stores) -> Option<Guard<'a>>
+        ensures { option_map guard_node result ≡ find (acts effect (world self.now stores.now)) (guards_of_indexed (nodes_of self.now.forms.now) place) }
+    {
+        let mut guards = self.forms.guards_at(place);
+        while let Some(guard) = guards.next() {
+            if self.acts(effect, guard, stores) {
+                return Some(guard);
+            }
+        }
+        None
+    }
+
+    /// Whether one of some guards was removed.
+    pub(crate) fn is_removed(&self, guards: GuardsAt<'_, 'a>) -> bool
+        ensures { (stores : StoreMap) → result ≡ list_any (spec.is_removed (world self.now stores)) (guards_left guards.entry) }
+    {
+        let mut guards = guards;
+        while let Some(guard) = guards.next() {
+            if guard.op().code == DISABLE_IF && self.removed(guard.place()) {
+                return true;
+            }
+        }
+        false
+    }
+
+    /// What is not hidden of the form, statement or option at a place.
+    pub(crate) fn unless_hidden(&self, place: u32, stores: &Stores) -> Result<(), Denial>
+        ensures { result ≡ spec.unless (spec.hidden_among (world self.now stores.now) (guards_of_indexed (nodes_of self.now.forms.now) place)) }
+    {
+        match self.first_guard(Effect::Hides, place, stores) {
+            Some(guard) => Err(hiding(guard)),
+            None => Ok(()),
+        }
+    }
+
+    /// What around the form, statement or option at a place lets it not be changed.
+    pub(crate) fn unless_covered(&self, place: u32, stores: &Stores) -> Result<(), Denial>
+        ensures { result ≡ spec.unless (spec.covered_by (world self.now stores.now) (guards_of_indexed (nodes_of self.now.forms.now) place) (lock_of_indexed (nodes_of self.now.forms.now) place)) }
+    {
+        self.unless_hidden(place, stores)?;
+        if let Some(guard) = self.first_guard(Effect::GraysOut, place, stores) {
+            return Err(Denial::by(DenialKind::GrayOutIf, guard.place()));
+        }
+        match self.forms.lock_at(place) {
+            Some(lock) => Err(Denial::by(DenialKind::Locked, lock.place())),
+            None => Ok(()),
+        }
+    }
+}

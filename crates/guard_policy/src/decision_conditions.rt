@@ -1,0 +1,79 @@
+//! The conditions of decisions.
+
+ghost use Rattle.std.specs.Prelude.{◌≡◌};
+ghost use Rattle.std.specs.Iterator.{YieldsFirstBy};
+ghost use Rattle.hii_varstore.specs.Stores.{StoreMap};
+ghost use Rattle.guard_policy.specs.AskedLeft.{asked_node, asked_left};
+ghost use Rattle.guard_policy.specs.Support.{conditions, IsSubjectOf};
+ghost use Rattle.guard_policy.specs.Views.{world};
+
+use crate::around::Around;
+use crate::asked::AskedCondition;
+use crate::option_conditions::OptionConditions;
+use crate::policy::Policy;
+use crate::submission::Submission;
+use crate::support::Decision;
+use ifr_scopes::ConditionViews;
+
+/// The conditions of a decision that are left, in the order in which they decide.
+#[derive(Drop)]
+pub(crate) enum DecisionConditions<'a, 's> {
+    /// Those around a form or a statement.
+    Around(Around<'a, 's>),
+    /// Those around the options of a value.
+    Options(OptionConditions<'a, 's>),
+    /// Those of a question.
+    Question(ConditionViews<'a>),
+    /// Those of all questions that deny a submission.
+    Submission(Submission<'a, 's>),
+}
+
+impl<'a, 's> DecisionConditions<'a, 's> {
+    /// Those of a decision of a policy.
+    pub(crate) fn of(policy: Policy<'a, 's>, decision: Decision<'a>) -> DecisionConditions<'a, 's>
+        requires { IsSubjectOf policy.forms.now decision }
+        ensures { (stores : StoreMap) → asked_left result ≡ conditions (world policy.entry stores) decision.entry }
+    {
+        let forms = policy.forms;
+        match decision {
+            Decision::Listed(statement) => {
+                DecisionConditions::Around(Around::hiding(forms, statement.place()))
+            }
+            Decision::Changeable(statement) => {
+                DecisionConditions::Around(Around::changing(forms, statement.place()))
+            }
+            Decision::OptionOpen(question, value) => {
+                DecisionConditions::Options(OptionConditions::of(forms, question, value))
+            }
+            Decision::Opens(form) => {
+                DecisionConditions::Around(Around::hiding(forms, form.place()))
+            }
+            Decision::Consistent(question) => {
+                DecisionConditions::Question(question.statement().inconsistents())
+            }
+            Decision::MaySubmit => DecisionConditions::Submission(Submission {
+                policy,
+                conditions: forms.nosubmits(),
+            }),
+            Decision::Warnings(question) => {
+                DecisionConditions::Question(question.statement().warnings())
+            }
+        }
+    }
+
+    /// Goes to the next.
+    pub(crate) fn step(&mut self) -> Option<AskedCondition<'a>>
+        ensures { YieldsFirstBy asked_node asked_left self.old result self.new }
+    {
+        match self {
+            DecisionConditions::Around(around) => Some(AskedCondition::Guard(around.step()?)),
+            DecisionConditions::Options(options) => Some(AskedCondition::Guard(options.step()?)),
+            DecisionConditions::Question(conditions) => {
+                Some(AskedCondition::Question(conditions.next()?))
+            }
+            DecisionConditions::Submission(submission) => {
+                Some(AskedCondition::Question(submission.step()?))
+            }
+        }
+    }
+}

@@ -1,0 +1,143 @@
+//! What a policy decides of forms, statements and options.
+
+ghost use Rattle.std.specs.Prelude.{◌≡◌};
+ghost use Rattle.ifr_scopes.specs.Checked.{IsNodeOf};
+ghost use Rattle.ifr_scopes.specs.Lists.{form_node, statement_node};
+ghost use Rattle.ifr_scopes.specs.Nodes.{nodes_of};
+ghost use Rattle.ifr_scopes.specs.Parts.{option_node};
+ghost use Rattle.hii_questions.specs.Views.{question_node, question_view};
+ghost use Rattle.guard_policy.specs.Policy as spec;
+ghost use Rattle.guard_policy.specs.Views.{world};
+
+use crate::denial::Denial;
+use crate::policy::Policy;
+use hii_questions::{DenialKind, Question};
+use hii_varstore::Stores;
+use ifr_scopes::laws::guards_and_locks_are_found;
+use ifr_scopes::{Form, OptionView, Statement, StatementKind};
+
+// Whether a question lacks what it needs to be changed: a reference a form to which it leads, another a field.
+fn is_outside(question: Question<'_>) -> bool
+    ensures { result ≡ spec.is_outside (question_view question.entry) }
+{
+    match question.statement().kind() {
+        StatementKind::Ref(reference) => reference.target().is_none(),
+        _ => question.field().is_none(),
+    }
+}
+
+// Whether a question forbids a change by itself.
+fn fixed_question(question: Question<'_>) -> Result<(), Denial>
+    ensures { result ≡ spec.unless (spec.fixed_question (question_view question.entry)) }
+{
+    let kind = if question.op().is_read_only() {
+        DenialKind::ReadOnly
+    } else if is_outside(question) {
+        DenialKind::Outside
+    } else {
+        return Ok(());
+    };
+    Err(Denial::by(kind, question.place()))
+}
+
+impl<'a, 's> Policy<'a, 's> {
+    /// Whether a statement is seen: not where a DISABLE_IF around it was removed or a SUPPRESS_IF around it holds. The denial
+    /// names the outermost such.
+    pub fn listed(&self, statement: Statement<'a>, stores: &Stores) -> Result<(), Denial>
+        requires { IsNodeOf self.now.forms.now (statement_node statement) }
+        ensures { result ≡ spec.unless (spec.hidden (world self.now stores.now) (statement_node statement.entry)) }
+    {
+        guards_and_locks_are_found();
+        // The package is accepted.
+        self.forms.bytes();
+        self.unless_hidden(statement.place(), stores)
+    }
+
+    /// Whether an option of a question is shown, by the same rule.
+    pub fn option_listed(&self, option: OptionView<'a>, stores: &Stores) -> Result<(), Denial>
+        requires { IsNodeOf self.now.forms.now (option_node option) }
+        ensures { result ≡ spec.unless (spec.hidden (world self.now stores.now) (option_node option.entry)) }
+    {
+        guards_and_locks_are_found();
+        // The package is accepted.
+        self.forms.bytes();
+        self.unless_hidden(option.place(), stores)
+    }
+
+    /// Whether a form is opened, by the same rule.
+    pub fn opens(&self, form: Form<'a>, stores: &Stores) -> Result<(), Denial>
+        requires { IsNodeOf self.now.forms.now (form_node form) }
+        ensures { result ≡ spec.unless (spec.hidden (world self.now stores.now) (form_node form.entry)) }
+    {
+        guards_and_locks_are_found();
+        // The package is accepted.
+        self.forms.bytes();
+        self.unless_hidden(form.place(), stores)
+    }
+
+    // Whether an option may be chosen, as far as it goes: not where it is not shown, a GRAY_OUT_IF around it holds or it is
+    // locked.
+    fn option_selectable(&self, option: OptionView<'a>, stores: &Stores) -> Result<(), Denial>
+        requires { IsNodeOf self.now.forms.now (option_node option) }
+        ensures { result ≡ spec.unless (spec.fixed (world self.now stores.now) (option_node option.entry)) }
+    {
+        guards_and_locks_are_found();
+        // The package is accepted.
+        self.forms.bytes();
+        self.unless_covered(option.place(), stores)
+    }
+
+    // Whether a statement forbids a change by itself.
+    fn fixed_itself(&self, statement: Statement<'a>) -> Result<(), Denial>
+        requires { IsNodeOf self.now.forms.now (statement_node statement) }
+        ensures { result ≡ spec.unless (spec.fixed_itself (nodes_of self.now.forms.now) (statement_node statement.entry)) }
+    {
+        match self.question(statement) {
+            Some(question) => fixed_question(question),
+            None => Ok(()),
+        }
+    }
+
+    /// Whether a statement may be changed: not where it is not seen, a GRAY_OUT_IF around it holds, it is locked, it has the flag
+    /// READ_ONLY as a question, or is a question without a field in a store, or a reference that leads to no form of this form
+    /// set. The denial names the first of these that is so.
+    pub fn changeable(&self, statement: Statement<'a>, stores: &Stores) -> Result<(), Denial>
+        requires { IsNodeOf self.now.forms.now (statement_node statement) }
+        ensures { result ≡ spec.unless (spec.fixed (world self.now stores.now) (statement_node statement.entry)) }
+    {
+        guards_and_locks_are_found();
+        // The package is accepted.
+        self.forms.bytes();
+        self.unless_covered(statement.place(), stores)?;
+        self.fixed_itself(statement)
+    }
+
+    /// Whether a question may be given a value of its options: not where all options of this value are fixed. The denial is
+    /// that of the first of them by place.
+    pub fn option_open(
+        &self,
+        question: Question<'a>,
+        value: u64,
+        stores: &Stores,
+    ) -> Result<(), Denial>
+        requires { IsNodeOf self.now.forms.now (question_node question) }
+        ensures { result ≡ spec.unless (spec.closed (world self.now stores.now) (question_node question.entry) value) }
+    {
+        // The package is accepted: the options are nodes of it.
+        self.forms.bytes();
+        let mut first = None;
+        let mut options = question.statement().options();
+        while let Some(option) = options.next() {
+            if option.op().value() == value {
+                match self.option_selectable(option, stores) {
+                    Ok(()) => return Ok(()),
+                    Err(denial) => first = first.or(Some(denial)),
+                }
+            }
+        }
+        match first {
+            Some(denial) => Err(denial),
+            None => Ok(()),
+        }
+    }
+}

@@ -1,0 +1,68 @@
+//! What was removed when the form set was opened.
+
+ghost use Rattle.std.specs.Prelude.{◌≡◌, IfOk, IfErr};
+ghost use Rattle.hii_bytes.specs.Faults.{out_of_memory};
+ghost use Rattle.ifr_opcodes.specs.Operators.{is_among};
+ghost use Rattle.ifr_scopes.specs.Nodes.{nodes_of};
+ghost use Rattle.guard_policy.specs.World.{removed_at};
+
+use crate::conditions::guard_holds;
+use hii_bytes::Fault;
+use hii_questions::Questions;
+use hii_varstore::Stores;
+use ifr_opcodes::DISABLE_IF;
+use ifr_scopes::Forms;
+use std::alloc::Global;
+use std::marker::Model;
+
+/// The DISABLE_IFs whose conditions held when the form set was opened: what stands in their scopes is as if it were not there
+/// (UEFI 2.8, 33.3.8.3, EFI_IFR_DISABLE_IF). They are seen as their places, which rise.
+#[derive(Drop)]
+pub struct Removed {
+    places: Vec<u32>,
+}
+
+impl Model for Removed {
+    ghost use Rattle.std.specs.Prelude.{ℕ, List};
+    ghost use Rattle.hii_bytes.specs.Faults.{Rise};
+
+    ghost Value = { List ℕ };
+
+    ghost view = { λ r. r.places.items };
+
+    ghost invariant = { λ r. Rise (λ (place : ℕ). place) 0 r.places.items };
+}
+
+impl Removed {
+    /// Those of a form set whose stores are these. Want of memory is OutOfMemory.
+    pub fn at_open<'a>(
+        alloc: Global,
+        forms: &Forms<'a>,
+        questions: &Questions<'a>,
+        stores: &Stores,
+    ) -> Result<Removed, Fault>
+        requires { questions.now.ifr ≡ forms.now }
+        ensures removed { IfOk result (λ removed. removed ≡ removed_at (nodes_of forms.now) stores.now) }
+        ensures refused { IfErr result (λ fault. fault ≡ out_of_memory) }
+    {
+        // The package is accepted: the places of its nodes rise.
+        forms.bytes();
+        let mut places = Vec::new(alloc);
+        let mut guards = forms.guards();
+        while let Some(guard) = guards.next() {
+            if guard.op().code == DISABLE_IF && guard_holds(guard, forms, questions, stores) {
+                if places.push(guard.place()).is_err() {
+                    return Err(Fault::out_of_memory());
+                }
+            }
+        }
+        Ok(Removed { places })
+    }
+
+    /// Whether the DISABLE_IF at a place is one of them.
+    pub fn has(&self, place: u32) -> bool
+        ensures { result ≡ is_among place self.now }
+    {
+        self.places.binary_search(&place).is_ok()
+    }
+}

@@ -1,0 +1,81 @@
+//! The questions on which decisions depend.
+
+ghost use Rattle.std.specs.Prelude.{◌≡◌};
+ghost use Rattle.std.specs.Iterator.{YieldsFirstBy};
+ghost use Rattle.ifr_scopes.specs.DependenceLeft.{dependence_left};
+ghost use Rattle.ifr_scopes.specs.Nodes.{nodes_of};
+ghost use Rattle.hii_varstore.specs.Stores.{StoreMap};
+ghost use Rattle.guard_policy.specs.AskedLeft.{asked_node};
+ghost use Rattle.guard_policy.specs.Support.{IsSubjectOf, ids_behind, support};
+ghost use Rattle.guard_policy.specs.SupportLeft.{ids_left, support_left};
+ghost use Rattle.guard_policy.specs.Views.{world};
+
+use crate::asked::AskedCondition;
+use crate::decision_conditions::DecisionConditions;
+use crate::policy::Policy;
+use crate::support::Decision;
+use ifr_scopes::{Dependence, Forms};
+
+/// The ids of the questions on whose answers a decision depends, those that are left: condition by condition.
+#[derive(Drop)]
+pub struct SupportOf<'a, 's> {
+    forms: &'s Forms<'a>,
+    conditions: DecisionConditions<'a, 's>,
+    ids: Option<Dependence<'s, 'a>>,
+}
+
+// The ids of the questions on whose answers a condition depends.
+fn ids_of<'a, 's>(condition: AskedCondition<'a>, forms: &'s Forms<'a>) -> Dependence<'s, 'a>
+    ensures { dependence_left result ≡ ids_behind (nodes_of forms.now) (asked_node condition.entry) }
+{
+    match condition {
+        AskedCondition::Guard(guard) => forms.dependence(guard.condition(), guard.this()),
+        AskedCondition::Question(condition) => {
+            forms.dependence(condition.condition(), condition.this())
+        }
+    }
+}
+
+// The next of the ids behind a condition, if there is one.
+fn next_id(ids: &mut Option<Dependence<'_, '_>>) -> Option<u16>
+    ensures { YieldsFirstBy (λ id. id) ids_left ids.old result ids.new }
+{
+    match ids {
+        Some(ids) => ids.next(),
+        None => None,
+    }
+}
+
+impl<'a, 's> Policy<'a, 's> {
+    /// The ids of the questions on whose answers a decision depends. An id may come more than once. It takes no memory.
+    pub fn support_of(&self, decision: Decision<'a>) -> SupportOf<'a, 's>
+        requires { IsSubjectOf self.now.forms.now decision }
+        ensures { (stores : StoreMap) → support_left result ≡ support (world self.now stores) decision.entry }
+    {
+        SupportOf {
+            forms: self.forms,
+            conditions: DecisionConditions::of(*self, decision),
+            ids: None,
+        }
+    }
+}
+
+impl<'a, 's> Iterator for SupportOf<'a, 's> {
+    ghost use Rattle.std.specs.Iterator.{item_count};
+
+    type Item = u16;
+
+    ghost next_gives = { YieldsFirstBy (λ id. id) support_left };
+
+    ghost remaining = { item_count support_left };
+
+    fn next(&mut self) -> Option<u16> {
+        loop {
+            if let Some(id) = next_id(&mut self.ids) {
+                return Some(id);
+            }
+            let condition = self.conditions.step()?;
+            self.ids = Some(ids_of(condition, self.forms));
+        }
+    }
+}

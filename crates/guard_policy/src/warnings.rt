@@ -1,0 +1,44 @@
+//! Of what questions warn.
+
+use crate::policy::Policy;
+use hii_varstore::Stores;
+use ifr_scopes::{ConditionView, ConditionViews};
+
+/// A WARNING_IF whose condition holds: its place, in bytes from the header of the forms package, and the string id of its text
+/// (UEFI 2.8, 33.3.8.3, EFI_IFR_WARNING_IF).
+#[derive(Clone, Copy, Debug, PartialEq, Eq)]
+pub struct Warning {
+    pub place: u32,
+    pub message: u16,
+}
+
+/// The warnings of a question that are left, by place.
+#[derive(Drop)]
+pub struct Warnings<'a, 's> {
+    pub(crate) policy: Policy<'a, 's>,
+    pub(crate) stores: &'s Stores,
+    pub(crate) conditions: ConditionViews<'a>,
+}
+
+impl<'a, 's> Iterator for Warnings<'a, 's> {
+    ghost use Rattle.std.specs.Iterator.{YieldsFirstBy, item_count};
+    ghost use Rattle.guard_policy.specs.Warned.{warnings_left};
+
+    type Item = Warning;
+
+    ghost next_gives = { YieldsFirstBy (λ warning. warning) warnings_left };
+
+    ghost remaining = { item_count warnings_left };
+
+    fn next(&mut self) -> Option<Warning> {
+        while let Some(condition) = self.conditions.next() {
+            if self.policy.condition_holds(condition, self.stores) {
+                return Some(Warning {
+                    place: condition.place(),
+                    message: condition.op().message(),
+                });
+            }
+        }
+        None
+    }
+}

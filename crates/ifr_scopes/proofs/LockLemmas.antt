@@ -1,0 +1,77 @@
+-- The first LOCKED of each scope are found node by node.
+use Rattle.std.proofs.Common.{◌≡◌, ℕ, ◌+◌, ◌<◌, false, eqb, cond, Option, Some, None, List, [], ◌∷◌, ◌++◌, length, get_or, drop, refl, sym, ap, ◌∙◌, inl, inr, arith}
+use Rattle.std.specs.Prelude.{option_map}
+use Rattle.std.specs.List.{flat_map}
+use Rattle.std.specs.BTreeMap.{BTreeMap, get, Updates}
+use Rattle.std.specs.Option.{option_or}
+use Rattle.std.specs.Ordering.{nat_cmp}
+use Rattle.std.proofs.lemmas.Bool.{cases_Bool, eqb-true}
+use Rattle.std.proofs.lemmas.Bool.Decides.{nat_tests}
+use Rattle.std.proofs.lemmas.List.{at_drop_more}
+use Rattle.ifr_opcodes.specs.Forest.{Placed}
+use Rattle.ifr_scopes.specs.Locks.{locks_scope, locked_in, chain, first, first_place, lock_place, first_some}
+
+-- What was found so far, else the first of those that are left, is the first of all.
+abbrev pub Finds : (ℕ → Option ℕ) → (ℕ → Option ℕ) → List Placed → Type 0
+Finds all found left = (scope : ℕ) → option_or (found scope) (first_place left scope) ≡ all scope
+
+pub past_other : (all found : ℕ → Option ℕ) (n : Placed) (rest : List Placed) → ((scope : ℕ) → locks_scope scope n ≡ false) → Finds all found (n ∷ rest) → Finds all found rest
+past_other all found n rest other f = λ scope. rw (other scope) at (f scope)
+
+-- It locks a scope of which one is found.
+pub past_known : (all found : ℕ → Option ℕ) (n : Placed) (rest : List Placed) (own x : ℕ) → found own ≡ Some x → ((scope : ℕ) → locks_scope scope n ≡ eqb own scope) → Finds all found (n ∷ rest) → Finds all found rest
+past_known all found n rest own x known at_own f = λ scope. elim (cases_Bool (eqb own scope)) [
+  | inl e ↦
+      let same : own ≡ scope = eqb-true own scope e in
+      let is : found scope ≡ Some x = ap found (sym same) ∙ known in
+      rw is (sym (rw is refl) ∙ f scope)
+  | inr e ↦ rw (at_own scope ∙ e) at (f scope)
+]
+
+pub past_new : (all found next : ℕ → Option ℕ) (n : Placed) (rest : List Placed) (own : ℕ) → found own ≡ None → ((scope : ℕ) → locks_scope scope n ≡ eqb own scope)
+    → ((scope : ℕ) → next scope ≡ cond (eqb own scope) (Some n.place) (found scope)) → Finds all found (n ∷ rest) → Finds all next rest
+past_new all found next n rest own free at_own put f = λ scope. elim (cases_Bool (eqb own scope)) [
+  | inl e ↦
+      let same : own ≡ scope = eqb-true own scope e in
+      let none : found scope ≡ None = ap found (sym same) ∙ free in
+      rw (put scope, e) (rw (none, at_own scope ∙ e) at (f scope))
+  | inr e ↦ rw (put scope, e) (rw (at_own scope ∙ e) at (f scope))
+]
+
+or_nothing : (o : Option ℕ) → option_or o None ≡ o
+or_nothing None = refl
+or_nothing (Some x) = refl
+
+pub at_end : (all found : ℕ → Option ℕ) (left : List Placed) → left ≡ [] → Finds all found left → (scope : ℕ) → found scope ≡ all scope
+at_end all found left e f scope = sym (or_nothing (found scope)) ∙ ap (λ (l : List Placed). option_or (found scope) (first_place l scope)) (sym e) ∙ f scope
+
+-- ---- the first along the places of a node
+
+-- none is found at the next place
+pub passed : (found : ℕ → Option ℕ) (places : List ℕ) (i : ℕ) → i < length places → found (get_or places i 0) ≡ None → first_some found (drop (i + 1) places) ≡ first_some found (drop i places)
+passed found places i lt none = sym (at_drop_more (first_some found) places i 0 lt ∙ ap (λ (o : Option ℕ). option_or o (first_some found (drop (i + 1) places))) none)
+
+-- or one is
+pub found_next : (found : ℕ → Option ℕ) (places : List ℕ) (i x : ℕ) → i < length places → found (get_or places i 0) ≡ Some x → first_some found (drop i places) ≡ Some x
+found_next found places i x lt some = at_drop_more (first_some found) places i 0 lt ∙ ap (λ (o : Option ℕ). option_or o (first_some found (drop (i + 1) places))) some
+
+first-append : (xs ys : List Placed) → option_map (λ (n : Placed). n.place) (first (xs ++ ys)) ≡ option_or (option_map (λ (n : Placed). n.place) (first xs)) (option_map (λ (n : Placed). n.place) (first ys))
+first-append [] ys = refl
+first-append (x ∷ xs) ys = refl
+
+first-flat_map : (ns : List Placed) (places : List ℕ) → option_map (λ (n : Placed). n.place) (first (flat_map (locked_in ns) places)) ≡ first_some (first_place ns) places
+first-flat_map ns [] = refl
+first-flat_map ns (place ∷ places) = first-append (locked_in ns place) (flat_map (locked_in ns) places) ∙ ap (option_or (first_place ns place)) (first-flat_map ns places)
+
+same_first : (found all : ℕ → Option ℕ) (places : List ℕ) → ((scope : ℕ) → found scope ≡ all scope) → first_some found places ≡ first_some all places
+same_first found all [] e = refl
+same_first found all (place ∷ places) e = rw (e place, same_first found all places e) refl
+
+-- what is found for the scopes tells for a node
+pub decides : (ns : List Placed) (found : ℕ → Option ℕ) (n : Placed) → ((scope : ℕ) → found scope ≡ first_place ns scope) → first_some found (chain n) ≡ lock_place ns n
+decides ns found n e = same_first found (first_place ns) (chain n) e ∙ sym (first-flat_map ns (chain n))
+
+-- ---- what was put into an index
+
+pub put : (old new : BTreeMap ℕ ℕ) (key value place : ℕ) → Updates nat_cmp old new key (Some value) → get nat_cmp new place ≡ cond (eqb key place) (Some value) (get nat_cmp old place)
+put old new key value place updates = let at = updates.0 place in grind (arith, nat_tests)
