@@ -37,6 +37,16 @@ checkbox id offset = 0x06 ∷ 0x0E ∷ (id + 2) ∷ 0 ∷ 0 ∷ 0 ∷ id ∷ 0 �
 abbrev suppress_if : List ℕ
 suppress_if = 0x0A ∷ 0x82 ∷ []
 
+abbrev gray_out_if : List ℕ
+gray_out_if = 0x19 ∷ 0x82 ∷ []
+
+abbrev locked : List ℕ
+locked = 0x0B ∷ 2 ∷ []
+
+-- with a text
+abbrev no_submit_if : ℕ → List ℕ
+no_submit_if text = 0x10 ∷ 0x84 ∷ text ∷ 0 ∷ []
+
 abbrev equal_to : ℕ → ℕ → List ℕ
 equal_to id value = 0x12 ∷ 0x06 ∷ id ∷ 0 ∷ value ∷ 0 ∷ []
 
@@ -106,3 +116,29 @@ an_unset_one_is_seen = refl
 a_set_one_is_not_seen : (outcome_of (started hiding_itself (1 ∷ 0 ∷ [])) (codes "page\n")).text ≡ codes "FORM 1 #2\n"
 unfolding cut levels tree_of number_in with_bytes digits unicode_width operands trees_of tree_of_opcodes leaf_value is_question_number is_statement_number is_store_number
 a_set_one_is_not_seen = refl
+
+-- ---- a checkbox is hidden before it is grayed out, and locked by what stands behind it
+
+abbrev guarded_twice : List ℕ
+guarded_twice = (111 ∷ 0 ∷ 0 ∷ 2 ∷ []) ++ before ++ gray_out_if ++ equal_to 2 1 ++ suppress_if ++ equal_to 1 1 ++ checkbox 1 0 ++ end ++ end ++ checkbox 2 1 ++ locked ++ end ++ end
+
+what_hides_is_named : (outcome_of (started guarded_twice (1 ∷ 1 ∷ [])) (codes "why 1\n")).text ≡ codes "DENIED suppressif at 00000041\n"
+unfolding cut levels tree_of number_in with_bytes digits unicode_width operands trees_of tree_of_opcodes leaf_value is_question_number is_statement_number is_store_number
+what_hides_is_named = refl
+
+what_grays_out_is_named : (outcome_of (started guarded_twice (0 ∷ 1 ∷ [])) (codes "why 1\n")).text ≡ codes "DENIED grayoutif at 00000039\n"
+unfolding cut levels tree_of number_in with_bytes digits unicode_width operands trees_of tree_of_opcodes leaf_value is_question_number is_statement_number is_store_number
+what_grays_out_is_named = refl
+
+what_locks_is_named : (outcome_of (started guarded_twice (0 ∷ 0 ∷ [])) (codes "why 1\nset 2 1\n")).text ≡ codes "DENIED locked at 00000069\nDENIED locked at 00000069\n"
+unfolding cut levels tree_of number_in with_bytes digits unicode_width operands trees_of tree_of_opcodes leaf_value is_question_number is_statement_number is_store_number
+what_locks_is_named = refl
+
+-- ---- a condition of a hidden checkbox forbids a submission
+
+abbrev forbidding : List ℕ
+forbidding = (99 ∷ 0 ∷ 0 ∷ 2 ∷ []) ++ before ++ suppress_if ++ equal_to 1 0 ++ (0x06 ∷ 0x8E ∷ 3 ∷ 0 ∷ 0 ∷ 0 ∷ 1 ∷ 0 ∷ 1 ∷ 0 ∷ 0 ∷ 0 ∷ 0 ∷ 0 ∷ []) ++ no_submit_if 7 ++ equal_to 1 0 ++ end ++ end ++ end ++ end ++ end
+
+a_hidden_one_forbids : (outcome_of (started forbidding (0 ∷ 0 ∷ [])) (codes "page\nsubmit\n")).text ≡ codes "FORM 1 #2\nDENIED nosubmitif at 0000004f #7\n"
+unfolding cut levels tree_of number_in with_bytes digits unicode_width operands trees_of tree_of_opcodes leaf_value is_question_number is_statement_number is_store_number
+a_hidden_one_forbids = refl
