@@ -1,10 +1,11 @@
 //! Scripts over readers and writers that give and take little, or fail.
 
-use crate::{End, RunFault, Session, laws};
+use crate::{End, Reply, RunFault, Session, laws};
 use hii_bytes::{Cause, Fault, Watched, WriteFault};
 use hii_commands::Command;
 use std::io;
 use std::io::{ErrorKind, Read, Write};
+use std::process::Abort;
 use std::test::Fail;
 
 /// A list with a forms package of one form, which has a checkbox over the first byte of a store of two bytes.
@@ -19,16 +20,29 @@ const LIST: &[u8] = b"\x11\x11\x11\x11\x11\x11\x11\x11\x11\x11\x11\x11\x11\x11\x
 
 const STORES: &[u8] = b"HVS1\x01\0\x01\0\x02\0\0\0";
 
-const SCRIPT: &[u8] = b"page\nset 1 1\nsubmit\n";
+// Scripts and what is answered to them, of which proofs know nothing.
 
-const ANSWERS: &[u8] =
-    b"FORM 1 #2\n  1 *     1 #3                       [ ]\nOK\nOK 1\nCHANGED 1\n";
+fn script_text() -> &'static [u8] {
+    b"page\nset 1 1\nsubmit\n"
+}
 
-const DENIED_SCRIPT: &[u8] = b"set 1 2\nset 2 1\nset 1 1\ndiscard\nsubmit\n";
+fn answers() -> &'static [u8] {
+    b"FORM 1 #2\n  1 *     1 #3                       [ ]\nOK\nOK 1\nCHANGED 1\n"
+}
+
+// The first bytes of the answers.
+fn answered(count: usize) -> &'static [u8] {
+    answers().get(..count).unwrap_or(b"")
+}
+
+fn denied_script() -> &'static [u8] {
+    b"set 1 2\nset 2 1\nset 1 1\ndiscard\nsubmit\n"
+}
 
 // The checkbox stands at 57.
-const DENIED_ANSWERS: &[u8] =
-    b"DENIED range at 00000039\nDENIED noquestion at 00000000\nOK\nOK\nOK 0\n";
+fn denied_answers() -> &'static [u8] {
+    b"DENIED range at 00000039\nDENIED noquestion at 00000000\nOK\nOK\nOK 0\n"
+}
 
 /// Takes so many bytes, at most `step` at a time, and then errs or takes none.
 #[derive(Drop)]
@@ -88,34 +102,56 @@ fn writer_of(rt: &impl AllocGlobal, room: usize, takes_none: bool) -> Watched<Na
     })
 }
 
-/// The store's bytes that commands read and change, and those that were last submitted.
-fn stores<'s>(session: &'s Session<'_>) -> (Option<&'s [u8]>, Option<&'s [u8]>) {
-    (session.working().bytes(1), session.committed().bytes(1))
+/// How a script ends, and the bytes of the store after it: those that commands change, and those that were last submitted.
+#[derive(Drop)]
+struct Ran {
+    end: Result<End, RunFault>,
+    working: [u8; 2],
+    committed: [u8; 2],
 }
 
-fn bytes(
-    first: &'static [u8],
-    second: &'static [u8],
-) -> (Option<&'static [u8]>, Option<&'static [u8]>) {
-    (Some(first), Some(second))
+// The two bytes of a store.
+fn pair(bytes: Option<&[u8]>) -> [u8; 2] {
+    let mut pair = [0xff; 2];
+    if let Some(bytes) = bytes {
+        if bytes.len() == 2 {
+            pair.copy_from_slice(bytes);
+        }
+    }
+    pair
+}
+
+// What a session does that is opened for this script alone. It has no clause, so that no test carries those of `run_script`.
+fn after(
+    rt: &impl AllocGlobal,
+    script: &mut Watched<impl Read>,
+    out: &mut Watched<impl Write>,
+) -> Result<Ran, Fail> {
+    let mut session = open(rt)?;
+    let end = session.run_script(script, out);
+    Ok(Ran {
+        end,
+        working: pair(session.working().bytes(1)),
+        committed: pair(session.committed().bytes(1)),
+    })
 }
 
 #[test]
 fn answers_do_not_depend_on_the_pieces(rt: HostRuntime) -> Result<(), Fail> {
     for step in 1..21 {
-        let mut session = open(&rt)?;
         let mut script = Watched::new(Broken {
-            bytes: SCRIPT,
+            bytes: script_text(),
             left: 100,
             step,
         });
         let mut out = Watched::new(Vec::new(rt.alloc()));
-        assert_eq!(rt; session.run_script(&mut script, &mut out), Ok(End::Done));
+        let ran = after(&rt, &mut script, &mut out)?;
+        assert_eq!(rt; ran.end, Ok(End::Done));
         assert!(rt;
-            out.into_inner().as_slice() == ANSWERS,
+            out.into_inner().as_slice() == answers(),
             "in pieces of {step}"
         );
-        assert_eq!(rt; stores(&session), bytes(b"\x01\0", b"\x01\0"));
+        assert_eq!(rt; (ran.working, ran.committed), ([1, 0], [1, 0]));
     }
     Ok(())
 }
@@ -123,175 +159,175 @@ fn answers_do_not_depend_on_the_pieces(rt: HostRuntime) -> Result<(), Fail> {
 #[test]
 fn what_is_denied_or_discarded_changes_nothing(rt: HostRuntime) -> Result<(), Fail> {
     laws::commands_keep_other_bytes();
-    let mut session = open(&rt)?;
-    let mut script = Watched::new(DENIED_SCRIPT);
+    let mut script = Watched::new(denied_script());
     let mut out = Watched::new(Vec::new(rt.alloc()));
-    assert_eq!(rt; session.run_script(&mut script, &mut out), Ok(End::Done));
-    assert_eq!(rt; out.into_inner().as_slice(), DENIED_ANSWERS);
-    assert_eq!(rt; stores(&session), bytes(b"\0\0", b"\0\0"));
+    let ran = after(&rt, &mut script, &mut out)?;
+    assert_eq!(rt; ran.end, Ok(End::Done));
+    assert_eq!(rt; out.into_inner().as_slice(), denied_answers());
+    assert_eq!(rt; (ran.working, ran.committed), ([0, 0], [0, 0]));
     Ok(())
 }
 
 #[test]
 fn a_writer_may_take_a_byte_at_a_time(rt: HostRuntime) -> Result<(), Fail> {
-    let mut session = open(&rt)?;
-    let mut script = Watched::new(SCRIPT);
+    let mut script = Watched::new(script_text());
     let mut out = Watched::new(Narrow {
         bytes: Vec::new(rt.alloc()),
         room: 1000,
         step: 1,
         takes_none: false,
     });
-    assert_eq!(rt; session.run_script(&mut script, &mut out), Ok(End::Done));
-    assert_eq!(rt; out.into_inner().bytes.as_slice(), ANSWERS);
+    assert_eq!(rt; after(&rt, &mut script, &mut out)?.end, Ok(End::Done));
+    assert_eq!(rt; out.into_inner().bytes.as_slice(), answers());
+    Ok(())
+}
+
+fn stops_at<R: Abort + AllocGlobal>(rt: &R, room: usize, takes_none: bool) -> Result<(), Fail> {
+    let mut script = Watched::new(script_text());
+    let mut out = writer_of(rt, room, takes_none);
+    let ran = after(rt, &mut script, &mut out)?;
+    assert_eq!(rt; ran.end, Err(RunFault::Write));
+    assert!(rt; out.failed());
+    assert!(rt;
+        out.into_inner().bytes.as_slice() == answered(room),
+        "at {room}"
+    );
+    // The page has 51 bytes, and `OK` 3. The command at which the writer fails is carried out.
+    assert_eq!(rt;
+        (ran.working, ran.committed),
+        if room < 51 {
+            ([0, 0], [0, 0])
+        } else if room < 54 {
+            ([1, 0], [0, 0])
+        } else {
+            ([1, 0], [1, 0])
+        }
+    );
     Ok(())
 }
 
 #[test]
 fn a_writer_fails_after_each_byte(rt: HostRuntime) -> Result<(), Fail> {
-    for room in 0..ANSWERS.len() {
+    for room in 0..answers().len() {
         for takes_none in [false, true] {
-            let mut session = open(&rt)?;
-            let mut script = Watched::new(SCRIPT);
-            let mut out = writer_of(&rt, room, takes_none);
-            let ran = session.run_script(&mut script, &mut out);
-            assert_eq!(rt; ran, Err(RunFault::Write));
-            assert!(rt; out.failed());
-            assert!(rt;
-                out.into_inner().bytes.as_slice() == &ANSWERS[..room],
-                "at {room}"
-            );
-            // The page has 51 bytes, and `OK` 3. The command at which the writer fails is carried out.
-            assert_eq!(rt;
-                stores(&session),
-                if room < 51 {
-                    bytes(b"\0\0", b"\0\0")
-                } else if room < 54 {
-                    bytes(b"\x01\0", b"\0\0")
-                } else {
-                    bytes(b"\x01\0", b"\x01\0")
-                }
-            );
+            stops_at(&rt, room, takes_none)?;
         }
     }
+    Ok(())
+}
+
+fn breaks_off<R: Abort + AllocGlobal>(rt: &R, left: usize) -> Result<(), Fail> {
+    let mut script = Watched::new(Broken {
+        bytes: script_text(),
+        left,
+        step: 4,
+    });
+    let mut out = Watched::new(Vec::new(rt.alloc()));
+    let ran = after(rt, &mut script, &mut out)?;
+    assert_eq!(rt; ran.end, Err(RunFault::Read));
+    assert!(rt; script.failed());
+    // The lines end after 5, 13 and 20 bytes.
+    let (written, changed) = if left < 5 {
+        (0, 0)
+    } else if left < 13 {
+        (51, 0)
+    } else {
+        (54, 1)
+    };
+    assert!(rt;
+        out.into_inner().as_slice() == answered(written),
+        "after {left}"
+    );
+    assert_eq!(rt; (ran.working, ran.committed), ([changed, 0], [0, 0]));
     Ok(())
 }
 
 #[test]
 fn a_reader_fails_after_each_byte(rt: HostRuntime) -> Result<(), Fail> {
     for left in 0..20 {
-        let mut session = open(&rt)?;
-        let mut script = Watched::new(Broken {
-            bytes: SCRIPT,
-            left,
-            step: 4,
-        });
-        let mut out = Watched::new(Vec::new(rt.alloc()));
-        assert_eq!(rt;
-            session.run_script(&mut script, &mut out),
-            Err(RunFault::Read)
-        );
-        assert!(rt; script.failed());
-        // The lines end after 5, 13 and 20 bytes.
-        let (written, changed) = if left < 5 {
-            (0, false)
-        } else if left < 13 {
-            (51, false)
-        } else {
-            (54, true)
-        };
-        assert!(rt;
-            out.into_inner().as_slice() == &ANSWERS[..written],
-            "after {left}"
-        );
-        assert_eq!(rt;
-            stores(&session),
-            if changed {
-                bytes(b"\x01\0", b"\0\0")
-            } else {
-                bytes(b"\0\0", b"\0\0")
-            }
-        );
+        breaks_off(&rt, left)?;
     }
     Ok(())
+}
+
+// What three commands answer, each without a clause, so that no test carries more than one of those of `run`.
+
+fn is_set(session: &mut Session<'_>, out: &mut Watched<Narrow>) -> bool {
+    let set = Command::Set {
+        question: 1,
+        value: 1,
+    };
+    session.run(set, out).is_ok()
+}
+
+fn paged(session: &mut Session<'_>, out: &mut Watched<Narrow>) -> Result<Reply, WriteFault> {
+    session.run(Command::Page, out)
+}
+
+fn submitted(session: &mut Session<'_>, out: &mut Watched<Narrow>) -> Result<Reply, WriteFault> {
+    session.run(Command::Submit, out)
 }
 
 #[test]
 fn a_command_tells_how_much_was_written(rt: HostRuntime) -> Result<(), Fail> {
     let mut session = open(&rt)?;
     let mut out = writer_of(&rt, 8, false);
-    let set = Command::Set {
-        question: 1,
-        value: 1,
-    };
-    assert!(rt; session.run(set, &mut out).is_ok());
+    assert!(rt; is_set(&mut session, &mut out));
     assert_eq!(rt;
-        session.run(Command::Page, &mut out),
+        paged(&mut session, &mut out),
         Err(WriteFault { written: 5 })
     );
     assert_eq!(rt;
-        session.run(Command::Submit, &mut out),
+        submitted(&mut session, &mut out),
         Err(WriteFault { written: 0 })
     );
-    assert_eq!(rt; stores(&session), bytes(b"\x01\0", b"\x01\0"));
+    assert_eq!(rt; pair(session.working().bytes(1)), [1, 0]);
+    assert_eq!(rt; pair(session.committed().bytes(1)), [1, 0]);
     Ok(())
+}
+
+// Whether this is answered to a line of so many bytes that ends so.
+fn is_answer(rt: &impl AllocGlobal, count: usize, end: &[u8], answer: &[u8]) -> Result<bool, Fail> {
+    let mut script = vec![in rt.alloc(); b'x'; count]?;
+    script.extend_from_slice(end)?;
+    let mut reader = Watched::new(script.as_slice());
+    let mut out = Watched::new(Vec::new(rt.alloc()));
+    let ran = after(rt, &mut reader, &mut out)?;
+    Ok(ran.end == Ok(End::Done) && out.into_inner().as_slice() == answer)
 }
 
 #[test]
 fn lines_of_the_greatest_length(rt: HostRuntime) -> Result<(), Fail> {
-    for (count, end, answer) in [
-        (
-            4096,
-            b"\n".as_slice(),
-            b"REFUSED 70 BadCommand\n".as_slice(),
-        ),
-        (
-            4095,
-            b"\r\n".as_slice(),
-            b"REFUSED 70 BadCommand\n".as_slice(),
-        ),
-        (
-            4096,
-            b"\r\n".as_slice(),
-            b"REFUSED 71 LineTooLong\n".as_slice(),
-        ),
-        (4097, b"".as_slice(), b"REFUSED 71 LineTooLong\n".as_slice()),
-        (0, b"\n\r\n\r".as_slice(), b"".as_slice()),
-    ] {
-        let mut session = open(&rt)?;
-        let mut script = vec![in rt.alloc(); b'x'; count]?;
-        script.extend_from_slice(end)?;
-        let mut reader = Watched::new(script.as_slice());
-        let mut out = Watched::new(Vec::new(rt.alloc()));
-        assert_eq!(rt; session.run_script(&mut reader, &mut out), Ok(End::Done));
-        assert_eq!(rt; out.into_inner().as_slice(), answer);
-    }
+    let bad = b"REFUSED 70 BadCommand\n";
+    let long = b"REFUSED 71 LineTooLong\n";
+    assert!(rt; is_answer(&rt, 4096, b"\n", bad)?);
+    assert!(rt; is_answer(&rt, 4095, b"\r\n", bad)?);
+    assert!(rt; is_answer(&rt, 4096, b"\r\n", long)?);
+    assert!(rt; is_answer(&rt, 4097, b"", long)?);
+    assert!(rt; is_answer(&rt, 0, b"\n\r\n\r", b"")?);
     Ok(())
+}
+
+// Whether a script of so many empty lines ends so and this is answered to it. No more than 1,048,577 bytes of it are read.
+fn is_end(rt: &impl AllocGlobal, count: usize, end: End, answer: &[u8]) -> Result<bool, Fail> {
+    let script = vec![in rt.alloc(); b'\n'; count]?;
+    let mut reader = Watched::new(script.as_slice());
+    let mut out = Watched::new(Vec::new(rt.alloc()));
+    let ran = after(rt, &mut reader, &mut out)?;
+    let unread = count - count.min(1_048_577);
+    Ok(
+        ran.end == Ok(end)
+            && out.into_inner().as_slice() == answer
+            && reader.into_inner().len() == unread,
+    )
 }
 
 #[test]
 fn scripts_of_the_greatest_length(rt: HostRuntime) -> Result<(), Fail> {
-    for (count, end, answer) in [
-        (1_048_576, End::Done, b"".as_slice()),
-        (
-            1_048_577,
-            End::TooLong,
-            b"REFUSED 72 ScriptTooLong\n".as_slice(),
-        ),
-        (
-            1_048_999,
-            End::TooLong,
-            b"REFUSED 72 ScriptTooLong\n".as_slice(),
-        ),
-    ] {
-        let mut session = open(&rt)?;
-        let script = vec![in rt.alloc(); b'\n'; count]?;
-        let mut reader = Watched::new(script.as_slice());
-        let mut out = Watched::new(Vec::new(rt.alloc()));
-        assert_eq!(rt; session.run_script(&mut reader, &mut out), Ok(end));
-        assert_eq!(rt; out.into_inner().as_slice(), answer);
-        assert_eq!(rt; reader.into_inner().len(), count - count.min(1_048_577));
-    }
+    let long = b"REFUSED 72 ScriptTooLong\n";
+    assert!(rt; is_end(&rt, 1_048_576, End::Done, b"")?);
+    assert!(rt; is_end(&rt, 1_048_577, End::TooLong, long)?);
+    assert!(rt; is_end(&rt, 1_048_999, End::TooLong, long)?);
     Ok(())
 }
 

@@ -1,4 +1,4 @@
-ghost use Rattle.std.specs.Prelude.{◌≤◌, ◌<◌, ◌^◌, length, IfSome};
+ghost use Rattle.std.specs.Prelude.{◌≡◌, ◌≤◌, ◌<◌, ◌^◌, length, IfSome};
 ghost use Rattle.ifr_scopes.specs.Checked.{IsNodeOf};
 ghost use Rattle.ifr_scopes.specs.Lists.{form_node};
 
@@ -200,22 +200,35 @@ fn stops_where_a_writer_fails(rt: &impl Abort, alloc: Global, page: &Page<'_, '_
     }
 }
 
+fn is_shown<'a, R: Abort + AllocGlobal>(
+    rt: &R,
+    forms: &Forms<'a>,
+    layout: &Layout<'a>,
+    questions: &Questions<'a>,
+    languages: &Languages<'a>,
+) -> Result<(), Fail>
+    requires { questions.now.ifr ≡ forms.now }
+{
+    let alloc = rt.alloc();
+    let stores = Stores::read(alloc, layout, image())?;
+    let removed = Removed::at_open(alloc, forms, questions, &stores)?;
+    let policy = Policy::new(forms, questions, &removed);
+    let form = first_form(forms).expect(rt, "a form");
+    let choice = languages.choose(b"en");
+    let page = Page::new(form, policy, &stores, languages, choice);
+    has_title_and_rows(rt, &page);
+    is_written(rt, alloc, &page);
+    stops_where_a_writer_fails(rt, alloc, &page);
+    Ok(())
+}
+
 #[test]
 fn a_page_has_rows_and_is_written(rt: HostRuntime) -> Result<(), Fail> {
     let alloc = rt.alloc();
     let forms = forms_of(alloc, package())?;
     let layout = Layout::read(alloc, &forms)?;
     let questions = Questions::read(alloc, &forms, &layout)?;
-    let stores = Stores::read(alloc, &layout, image())?;
-    let form = first_form(&forms).expect(&rt, "a form");
     let list = PackageList::read(string_list())?;
     let languages = Languages::read(alloc, &list)?;
-    let choice = languages.choose(b"en");
-    let removed = Removed::at_open(alloc, &forms, &questions, &stores)?;
-    let policy = Policy::new(&forms, &questions, &removed);
-    let page = Page::new(form, policy, &stores, &languages, choice);
-    has_title_and_rows(&rt, &page);
-    is_written(&rt, alloc, &page);
-    stops_where_a_writer_fails(&rt, alloc, &page);
-    Ok(())
+    is_shown(&rt, &forms, &layout, &questions, &languages)
 }

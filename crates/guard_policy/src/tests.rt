@@ -60,6 +60,11 @@ const PACKAGE: [u8; 253] = [
     0x29, 0x02, // END, at 251
 ];
 
+// The forms package, of which proofs know the length alone.
+fn package() -> &'static [u8; 253] {
+    &PACKAGE
+}
+
 fn forms_of(alloc: Global, bytes: &[u8]) -> Result<Forms<'_>, Fail>
     requires header { 4 ≤ length bytes.now }
     requires small { length bytes.now < 2 ^ 24 }
@@ -190,26 +195,69 @@ fn decisions_depend_on_questions<'a>(
     assert_eq!(rt; (ids.next(), ids.next()), (Some(7), None));
 }
 
-#[test]
-fn denials_name_what_decides(rt: HostRuntime) -> Result<(), Fail> {
-    let alloc = rt.alloc();
-    let forms = forms_of(alloc, &PACKAGE)?;
-    let layout = Layout::read(alloc, &forms)?;
-    let questions = Questions::read(alloc, &forms, &layout)?;
-    let stores = Stores::read(alloc, &layout, b"HVS1\x01\x00\x01\x00\x03\x00\x00\x00\x02")?;
-    let removed = Removed::at_open(alloc, &forms, &questions, &stores)?;
-    let policy = Policy::new(&forms, &questions, &removed);
-    assert_eq!(rt; policy.forms().bytes(), PACKAGE.as_slice());
+// What a policy decides over stores in which the question 5 is 2 and the others are 0.
+fn policy_decides<'a, R: Abort>(
+    rt: &R,
+    policy: Policy<'a, '_>,
+    questions: &Questions<'a>,
+    stores: &Stores,
+    form: Form<'a>,
+)
+    requires accepted { IsAccepted questions.now.ifr }
+    requires together { bytes_of policy ≡ questions.now.ifr }
+    requires node { IsNodeOf questions.now.ifr (form_node form) }
+{
+    assert_eq!(rt; policy.forms().bytes(), package().as_slice());
     assert_eq!(rt; (policy.removed(170), policy.removed(146)), (true, false));
-    let form = first_form(&forms).expect(&rt, "a form");
-    assert_eq!(rt; policy.opens(form, &stores), Ok(()));
-    statements_are_denied(&rt, policy, &questions, &stores);
-    values_are_denied(&rt, policy, &questions, &stores);
-    decisions_depend_on_questions(&rt, policy, &questions);
-    let hiding = Stores::read(alloc, &layout, b"HVS1\x01\x00\x01\x00\x03\x00\x00\x01\x00")?;
+    assert_eq!(rt; policy.opens(form, stores), Ok(()));
+    statements_are_denied(rt, policy, questions, stores);
+    values_are_denied(rt, policy, questions, stores);
+    decisions_depend_on_questions(rt, policy, questions);
+}
+
+fn form_is_suppressed<'a, R: Abort + AllocGlobal>(
+    rt: &R,
+    policy: Policy<'a, '_>,
+    layout: &Layout<'a>,
+    form: Form<'a>,
+) -> Result<(), Fail>
+    requires { IsNodeOf (bytes_of policy) (form_node form) }
+{
+    let stores = Stores::read(
+        rt.alloc(),
+        layout,
+        b"HVS1\x01\x00\x01\x00\x03\x00\x00\x01\x00",
+    )?;
     assert_eq!(rt;
-        policy.opens(form, &hiding),
+        policy.opens(form, &stores),
         denial(DenialKind::SuppressIf, 51)
     );
     Ok(())
+}
+
+fn is_decided<'a, R: Abort + AllocGlobal>(
+    rt: &R,
+    forms: &Forms<'a>,
+    layout: &Layout<'a>,
+    questions: &Questions<'a>,
+) -> Result<(), Fail>
+    requires accepted { IsAccepted forms.now }
+    requires together { questions.now.ifr ≡ forms.now }
+{
+    let alloc = rt.alloc();
+    let stores = Stores::read(alloc, layout, b"HVS1\x01\x00\x01\x00\x03\x00\x00\x00\x02")?;
+    let removed = Removed::at_open(alloc, forms, questions, &stores)?;
+    let policy = Policy::new(forms, questions, &removed);
+    let form = first_form(forms).expect(rt, "a form");
+    policy_decides(rt, policy, questions, &stores, form);
+    form_is_suppressed(rt, policy, layout, form)
+}
+
+#[test]
+fn denials_name_what_decides(rt: HostRuntime) -> Result<(), Fail> {
+    let alloc = rt.alloc();
+    let forms = forms_of(alloc, package())?;
+    let layout = Layout::read(alloc, &forms)?;
+    let questions = Questions::read(alloc, &forms, &layout)?;
+    is_decided(&rt, &forms, &layout, &questions)
 }

@@ -9,7 +9,7 @@ use crate::{
     Field, Input, Question, Questions, StoredItems, ValueDenial, check_value, element_width, laws,
     read_value, shown,
 };
-use hii_bytes::{Cause, is_number_list};
+use hii_bytes::{Cause, Fault, is_number_list};
 use hii_packages::{FORMS, Package};
 use hii_varstore::{Layout, Stores};
 use ifr_expr::{Answers, Value};
@@ -36,6 +36,25 @@ const PACKAGE: [u8; 187] = [
 
 const IMAGE: &[u8] = b"HVS1\x01\x00\x01\x00\x0a\x00\x02\xff\x01\x00A\x00\x00\x00\x02\x00";
 
+// The forms package, of which proofs know the length alone.
+fn package() -> &'static [u8; 187] {
+    &PACKAGE
+}
+
+// The same with another byte.
+fn changed(at: usize, byte: u8) -> [u8; 187] {
+    let mut package = PACKAGE;
+    if let Some(old) = package.get_mut(at) {
+        *old = byte;
+    }
+    package
+}
+
+// The image, of which proofs know nothing.
+fn image() -> &'static [u8] {
+    IMAGE
+}
+
 fn forms_of(alloc: Global, bytes: &[u8]) -> Result<Forms<'_>, Fail>
     requires header { 4 ≤ length bytes.now }
     requires small { length bytes.now < 2 ^ 24 }
@@ -46,6 +65,11 @@ fn forms_of(alloc: Global, bytes: &[u8]) -> Result<Forms<'_>, Fail>
         bytes,
     };
     Ok(Forms::read(alloc, source)?)
+}
+
+// The questions of a form set. It has no clause, so that no test carries those of `Questions::read`.
+fn questions_of<'a>(alloc: Global, forms: &Forms<'a>) -> Result<Questions<'a>, Fault> {
+    Questions::read(alloc, forms, &Layout::read(alloc, forms)?)
 }
 
 // Checks a value, where it is one that may be asked for.
@@ -96,10 +120,10 @@ fn put_text(
 #[test]
 fn values_are_put(rt: HostRuntime) -> Result<(), Fail> {
     let alloc = rt.alloc();
-    let forms = forms_of(alloc, &PACKAGE)?;
+    let forms = forms_of(alloc, package())?;
     let layout = Layout::read(alloc, &forms)?;
     let questions = Questions::read(alloc, &forms, &layout)?;
-    let mut stores = Stores::read(alloc, &layout, IMAGE)?;
+    let mut stores = Stores::read(alloc, &layout, image())?;
     assert_eq!(rt; put_number(&questions, &mut stores, 8, -2), Ok(()));
     assert_eq!(rt; put_text(&questions, &mut stores, 10, b"\xc3\xa9"), Ok(()));
     assert_eq!(rt;
@@ -112,8 +136,8 @@ fn values_are_put(rt: HostRuntime) -> Result<(), Fail> {
 #[test]
 fn questions_are_read_and_found(rt: HostRuntime) -> Result<(), Fail> {
     let alloc = rt.alloc();
-    let forms = forms_of(alloc, &PACKAGE)?;
-    let questions = Questions::read(alloc, &forms, &Layout::read(alloc, &forms)?)?;
+    let forms = forms_of(alloc, package())?;
+    let questions = questions_of(alloc, &forms)?;
     let mut all = questions.all();
     for (place, id, width) in [
         (57, 7, Some(1)),
@@ -149,14 +173,10 @@ fn faults_are_refused(rt: HostRuntime) -> Result<(), Fail> {
         (165, 4, Cause::MixedOptions, 160),
         (177, 2, Cause::UnknownVarstore, 169),
     ] {
-        let mut package = PACKAGE;
-        package[at] = byte;
+        let package = changed(at, byte);
         let forms = forms_of(alloc, &package)?;
-        let fault = Questions::read(alloc, &forms, &Layout::read(alloc, &forms)?).err();
-        assert_eq!(rt;
-            fault.map(|fault| (fault.cause, fault.place)),
-            Some((cause, place))
-        );
+        let refused = Some(Fault { cause, place });
+        assert_eq!(rt; questions_of(alloc, &forms).err(), refused);
     }
     Ok(())
 }
@@ -169,10 +189,10 @@ fn values_are_read(rt: HostRuntime) -> Result<(), Fail> {
     laws::taken_bytes_fill_the_field();
     laws::a_write_leaves_other_values();
     let alloc = rt.alloc();
-    let forms = forms_of(alloc, &PACKAGE)?;
+    let forms = forms_of(alloc, package())?;
     let layout = Layout::read(alloc, &forms)?;
     let questions = Questions::read(alloc, &forms, &layout)?;
-    let stores = Stores::read(alloc, &layout, IMAGE)?;
+    let stores = Stores::read(alloc, &layout, image())?;
     let over = questions.over(&stores);
     assert!(rt; matches!(over.answer(7), Value::Boolean(true)));
     assert!(rt; matches!(over.answer(8), Value::Number(255)));
@@ -190,8 +210,8 @@ fn values_are_read(rt: HostRuntime) -> Result<(), Fail> {
 #[test]
 fn numbers_in_bytes(rt: HostRuntime) -> Result<(), Fail> {
     let alloc = rt.alloc();
-    let forms = forms_of(alloc, &PACKAGE)?;
-    let questions = Questions::read(alloc, &forms, &Layout::read(alloc, &forms)?)?;
+    let forms = forms_of(alloc, package())?;
+    let questions = questions_of(alloc, &forms)?;
     for (id, width) in [(7, 1), (9, 2), (11, 1)] {
         let question = questions.find(id).expect(&rt, "a question");
         assert_eq!(rt; element_width(question.statement()), width);
@@ -208,8 +228,8 @@ fn numbers_in_bytes(rt: HostRuntime) -> Result<(), Fail> {
 #[test]
 fn values_are_checked_in_their_order(rt: HostRuntime) -> Result<(), Fail> {
     let alloc = rt.alloc();
-    let forms = forms_of(alloc, &PACKAGE)?;
-    let questions = Questions::read(alloc, &forms, &Layout::read(alloc, &forms)?)?;
+    let forms = forms_of(alloc, package())?;
+    let questions = questions_of(alloc, &forms)?;
     for (id, input, wanted) in [
         (7, Input::Number(1), "ok"),
         (7, Input::Number(2), "range"),

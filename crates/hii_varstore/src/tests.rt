@@ -44,6 +44,29 @@ const PACKAGE: [u8; 138] = [
     0x29, 2, 0x29, 2, // at 134, 136
 ];
 
+// The form set, of which proofs know the length alone.
+fn package() -> &'static [u8; 138] {
+    &PACKAGE
+}
+
+// The same with another byte.
+fn changed(at: usize, byte: u8) -> [u8; 138] {
+    let mut package = PACKAGE;
+    if let Some(old) = package.get_mut(at) {
+        *old = byte;
+    }
+    package
+}
+
+// An image of one store, and its front, of which proofs know nothing.
+fn newer() -> &'static [u8] {
+    &IMAGE
+}
+
+fn front() -> &'static [u8] {
+    &IMAGE[..20]
+}
+
 /// Takes that many bytes, and then fails.
 #[derive(Drop)]
 struct Limited {
@@ -67,6 +90,15 @@ impl Write for Limited {
     }
 }
 
+// What is written of the stores of an older image of one store.
+fn anew(alloc: Global, layout: &Layout<'_>, bytes: &[u8]) -> Result<Vec<u8>, Fail> {
+    let mut image = Vec::from_slice(alloc, &OLDER)?;
+    image.extend_from_slice(bytes)?;
+    let mut out = Watched::new(Vec::new(alloc));
+    laws::an_older_image_is_written_anew(alloc, layout, &image, &mut out)??;
+    Ok(out.into_inner())
+}
+
 #[test]
 fn an_image_is_read_and_written(rt: HostRuntime) -> Result<(), Fail> {
     let alloc = rt.alloc();
@@ -76,11 +108,7 @@ fn an_image_is_read_and_written(rt: HostRuntime) -> Result<(), Fail> {
         (Some(2), None, 1)
     );
     assert_eq!(rt; layout.guid().bytes(), GUID.as_slice());
-    let mut image = Vec::from_slice(alloc, &OLDER)?;
-    image.extend_from_slice(&[1, 0])?;
-    let mut out = Watched::new(Vec::new(alloc));
-    laws::an_older_image_is_written_anew(alloc, &layout, &image, &mut out)??;
-    assert_eq!(rt; out.into_inner().as_slice(), IMAGE.as_slice());
+    assert_eq!(rt; anew(alloc, &layout, &[1, 0])?.as_slice(), newer());
     Ok(())
 }
 
@@ -97,7 +125,7 @@ fn declared(alloc: Global, bytes: &[u8; 138]) -> Result<Layout<'_>, Fault> {
 #[test]
 fn a_layout_is_read(rt: HostRuntime) -> Result<(), Fail> {
     let alloc = rt.alloc();
-    let layout = declared(alloc, &PACKAGE)?;
+    let layout = declared(alloc, package())?;
     assert_eq!(rt; layout.guid().bytes(), GUID.as_slice());
     assert_eq!(rt;
         layout.buffers(),
@@ -133,40 +161,63 @@ fn ids_of_stores_of_all_kinds(rt: HostRuntime) -> Result<(), Fail> {
         (45, 5, 51),
         (53, 7, 75),
     ] {
-        let mut repeated = PACKAGE;
-        if let Some(byte) = repeated.get_mut(at) {
-            *byte = id;
-        }
-        let fault = declared(alloc, &repeated).err();
-        assert_eq!(rt;
-            fault.map(|fault| (fault.cause, fault.place)),
-            Some((Cause::DuplicateVarstore, place))
-        );
+        let repeated = changed(at, id);
+        let fault = Fault {
+            cause: Cause::DuplicateVarstore,
+            place,
+        };
+        assert_eq!(rt; declared(alloc, &repeated).err(), Some(fault));
     }
     Ok(())
+}
+
+// How an image is refused. It has no clause, so that no test carries those of `Stores::read`.
+fn refusal(alloc: Global, layout: &Layout<'_>, image: &[u8]) -> Option<(Cause, u64)> {
+    let fault = Stores::read(alloc, layout, image).err()?;
+    Some((fault.cause, fault.place))
+}
+
+// An image of the declared stores.
+fn declared_image(alloc: Global) -> Result<Vec<u8>, Fail> {
+    let mut image = Vec::from_slice(alloc, front())?;
+    image.extend_from_slice(b"\x03\x00\x01\x00\x02\x00ab\x07\x00\x03\x00cde\x09\x00\x01\x00f")?;
+    Ok(image)
+}
+
+// What is written of the stores of an image.
+fn written(alloc: Global, layout: &Layout<'_>, image: &[u8]) -> Result<Vec<u8>, Fail> {
+    let stores = Stores::read(alloc, layout, image)?;
+    let mut out = Watched::new(Vec::new(alloc));
+    stores.image_into(&mut out)?;
+    Ok(out.into_inner())
+}
+
+// Whether the stores of an image have these bytes, and there is no store of the id 5.
+fn are_read(alloc: Global, layout: &Layout<'_>, image: &[u8]) -> Result<bool, Fail> {
+    let stores = Stores::read(alloc, layout, image)?;
+    Ok(
+        stores.bytes(1) == Some(b"ab".as_slice())
+            && stores.bytes(7) == Some(b"cde".as_slice())
+            && stores.bytes(9) == Some(b"f".as_slice())
+            && stores.bytes(5).is_none(),
+    )
 }
 
 #[test]
 fn an_image_has_the_buffer_stores_alone(rt: HostRuntime) -> Result<(), Fail> {
     let alloc = rt.alloc();
-    let layout = declared(alloc, &PACKAGE)?;
-    let rest = b"\x03\x00\x01\x00\x02\x00ab\x07\x00\x03\x00cde\x09\x00\x01\x00f";
-    let mut image = Vec::from_slice(alloc, &HEAD[..20])?;
-    image.extend_from_slice(rest)?;
-    let stores = Stores::read(alloc, &layout, &image)?;
-    assert!(rt;
-        stores.bytes(1) == Some(b"ab".as_slice())
-            && stores.bytes(7) == Some(b"cde".as_slice())
-            && stores.bytes(9) == Some(b"f".as_slice())
-    );
-    assert!(rt; stores.bytes(5).is_none());
-    let mut out = Watched::new(Vec::new(alloc));
-    stores.image_into(&mut out)?;
-    assert_eq!(rt; out.into_inner().as_slice(), image.as_slice());
-    image[20] = 4;
-    let fault = Stores::read(alloc, &layout, &image).err();
+    let layout = declared(alloc, package())?;
+    let mut image = declared_image(alloc)?;
+    assert!(rt; are_read(alloc, &layout, &image)?);
     assert_eq!(rt;
-        fault.map(|fault| (fault.cause, fault.place)),
+        written(alloc, &layout, &image)?.as_slice(),
+        image.as_slice()
+    );
+    if let Some(count) = image.get_mut(20) {
+        *count = 4;
+    }
+    assert_eq!(rt;
+        refusal(alloc, &layout, &image),
         Some((Cause::StoreCount, 20))
     );
     Ok(())
@@ -203,8 +254,9 @@ fn bytes_are_written_and_copied(rt: HostRuntime) -> Result<(), Fail> {
 fn a_writer_fails_after_each_byte(rt: HostRuntime) -> Result<(), Fail> {
     let alloc = rt.alloc();
     let layout = one_store(alloc)?;
-    let stores = Stores::read(alloc, &layout, &IMAGE)?;
-    for room in 0..IMAGE.len() {
+    let image = newer();
+    let stores = Stores::read(alloc, &layout, image)?;
+    for room in 0..image.len() {
         let mut out = Watched::new(Limited {
             bytes: Vec::new(alloc),
             room,
@@ -213,7 +265,7 @@ fn a_writer_fails_after_each_byte(rt: HostRuntime) -> Result<(), Fail> {
             written: room as u64,
         };
         assert_eq!(rt; stores.image_into(&mut out), Err(fault));
-        assert_eq!(rt; out.into_inner().bytes.as_slice(), &IMAGE[..room]);
+        assert_eq!(rt; out.into_inner().bytes.as_slice(), &image[..room]);
     }
     Ok(())
 }
@@ -278,11 +330,7 @@ fn faults_of_an_image(rt: HostRuntime) -> Result<(), Fail> {
     ] {
         let mut image = Vec::from_slice(alloc, head)?;
         image.extend_from_slice(rest)?;
-        let fault = Stores::read(alloc, &layout, &image).err();
-        assert_eq!(rt;
-            fault.map(|fault| (fault.cause, fault.place)),
-            Some((cause, place))
-        );
+        assert_eq!(rt; refusal(alloc, &layout, &image), Some((cause, place)));
     }
     Ok(())
 }

@@ -356,23 +356,27 @@ fn of_two(operator: Binary, left: u64, right: u64) -> Outcome {
 #[test]
 fn arithmetic(rt: HostRuntime) {
     let n = Outcome::Number;
-    assert_eq!(rt; of_two(Binary::Add, MAX, 1), n(0));
-    assert_eq!(rt; of_two(Binary::Add, TOP, TOP), n(0));
-    assert_eq!(rt; of_two(Binary::Subtract, 0, 1), n(MAX));
-    assert_eq!(rt; of_two(Binary::Subtract, 1, TOP), n(TOP + 1));
-    assert_eq!(rt; of_two(Binary::Multiply, TOP, 2), n(0));
-    assert_eq!(rt; of_two(Binary::Multiply, MAX, MAX), n(1));
-    assert_eq!(rt; of_two(Binary::Divide, MAX, TOP), n(1));
-    assert_eq!(rt; of_two(Binary::Divide, MAX, 0), Outcome::Undefined);
-    assert_eq!(rt; of_two(Binary::Modulo, MAX, TOP), n(TOP - 1));
-    assert_eq!(rt; of_two(Binary::Modulo, 0, 0), Outcome::Undefined);
-    assert_eq!(rt; of_two(Binary::ShiftLeft, 1, 63), n(TOP));
-    assert_eq!(rt; of_two(Binary::ShiftLeft, 1, 64), n(0));
-    assert_eq!(rt; of_two(Binary::ShiftLeft, MAX, MAX), n(0));
-    assert_eq!(rt; of_two(Binary::ShiftRight, TOP, 63), n(1));
-    assert_eq!(rt; of_two(Binary::ShiftRight, MAX, 64), n(0));
-    assert_eq!(rt; of_two(Binary::BitwiseAnd, MAX, TOP), n(TOP));
-    assert_eq!(rt; of_two(Binary::BitwiseOr, 1, TOP), n(TOP + 1));
+    for (operator, left, right, outcome) in [
+        (Binary::Add, MAX, 1, n(0)),
+        (Binary::Add, TOP, TOP, n(0)),
+        (Binary::Subtract, 0, 1, n(MAX)),
+        (Binary::Subtract, 1, TOP, n(TOP + 1)),
+        (Binary::Multiply, TOP, 2, n(0)),
+        (Binary::Multiply, MAX, MAX, n(1)),
+        (Binary::Divide, MAX, TOP, n(1)),
+        (Binary::Divide, MAX, 0, Outcome::Undefined),
+        (Binary::Modulo, MAX, TOP, n(TOP - 1)),
+        (Binary::Modulo, 0, 0, Outcome::Undefined),
+        (Binary::ShiftLeft, 1, 63, n(TOP)),
+        (Binary::ShiftLeft, 1, 64, n(0)),
+        (Binary::ShiftLeft, MAX, MAX, n(0)),
+        (Binary::ShiftRight, TOP, 63, n(1)),
+        (Binary::ShiftRight, MAX, 64, n(0)),
+        (Binary::BitwiseAnd, MAX, TOP, n(TOP)),
+        (Binary::BitwiseOr, 1, TOP, n(TOP + 1)),
+    ] {
+        assert_eq!(rt; of_two(operator, left, right), outcome);
+    }
     assert_eq!(rt; unary(Unary::BitwiseNot, Value::Number(0)), n(MAX));
     assert_eq!(rt; unary(Unary::BitwiseNot, Value::Boolean(true)), n(MAX - 1));
     assert_eq!(rt; constant(Constant::Ones), n(MAX));
@@ -380,56 +384,56 @@ fn arithmetic(rt: HostRuntime) {
 
 #[test]
 fn comparisons(rt: HostRuntime) {
-    let b = Outcome::Boolean;
-    assert_eq!(rt; of_two(Binary::GreaterThan, TOP, 1), b(true));
-    assert_eq!(rt; of_two(Binary::GreaterThan, 1, 1), b(false));
-    assert_eq!(rt; of_two(Binary::GreaterEqual, 1, 1), b(true));
-    assert_eq!(rt; of_two(Binary::LessThan, 0, MAX), b(true));
-    assert_eq!(rt; of_two(Binary::LessThan, 1, 1), b(false));
-    assert_eq!(rt; of_two(Binary::LessEqual, 1, 1), b(true));
-    assert_eq!(rt; of_two(Binary::Equal, TOP, TOP), b(true));
-    assert_eq!(rt; of_two(Binary::NotEqual, 0, MAX), b(true));
+    for (operator, left, right, holds) in [
+        (Binary::GreaterThan, TOP, 1, true),
+        (Binary::GreaterThan, 1, 1, false),
+        (Binary::GreaterEqual, 1, 1, true),
+        (Binary::LessThan, 0, MAX, true),
+        (Binary::LessThan, 1, 1, false),
+        (Binary::LessEqual, 1, 1, true),
+        (Binary::Equal, TOP, TOP, true),
+        (Binary::NotEqual, 0, MAX, true),
+    ] {
+        assert_eq!(rt; of_two(operator, left, right), Outcome::Boolean(holds));
+    }
+}
+
+#[test]
+fn comparisons_of_texts(rt: HostRuntime) {
     let text = Value::Text(&[65, 0]);
     let other = Value::Text(&[66, 0]);
     let buffer = Value::Buffer(&[65, 0]);
-    assert_eq!(rt; binary(Binary::Equal, text, other), b(false));
-    assert_eq!(rt; binary(Binary::NotEqual, text, other), b(true));
-    assert_eq!(rt; binary(Binary::Equal, buffer, buffer), b(true));
-    assert_eq!(rt; binary(Binary::NotEqual, text, buffer), Outcome::Undefined);
-    assert_eq!(rt;
-        binary(Binary::Equal, text, Value::Number(0)),
-        Outcome::Undefined
-    );
-    assert_eq!(rt; binary(Binary::LessThan, text, other), Outcome::Undefined);
+    for (operator, left, right, outcome) in [
+        (Binary::Equal, text, other, Outcome::Boolean(false)),
+        (Binary::NotEqual, text, other, Outcome::Boolean(true)),
+        (Binary::Equal, buffer, buffer, Outcome::Boolean(true)),
+        (Binary::NotEqual, text, buffer, Outcome::Undefined),
+        (Binary::Equal, text, Value::Number(0), Outcome::Undefined),
+        (Binary::LessThan, text, other, Outcome::Undefined),
+    ] {
+        assert_eq!(rt; binary(operator, left, right), outcome);
+    }
 }
 
 #[test]
 fn logic(rt: HostRuntime) {
-    let b = Outcome::Boolean;
     let (yes, no) = (Value::Boolean(true), Value::Boolean(false));
-    assert_eq!(rt; binary(Binary::And, yes, no), b(false));
-    assert_eq!(rt; binary(Binary::Or, yes, no), b(true));
-    assert_eq!(rt;
-        binary(Binary::And, yes, Value::Number(1)),
-        Outcome::Undefined
-    );
-    assert_eq!(rt;
-        binary(Binary::And, no, Value::Undefined),
-        Outcome::Undefined
-    );
-    assert_eq!(rt;
-        binary(Binary::Or, yes, Value::Undefined),
-        Outcome::Undefined
-    );
-    assert_eq!(rt; unary(Unary::Not, no), b(true));
-    assert_eq!(rt; unary(Unary::Not, Value::Number(0)), Outcome::Undefined);
-    assert_eq!(rt; unary(Unary::Not, Value::Undefined), Outcome::Undefined);
-    assert_eq!(rt;
-        binary(Binary::Add, yes, Value::Number(1)),
-        Outcome::Number(2)
-    );
-    assert_eq!(rt;
-        binary(Binary::Add, Value::Undefined, yes),
-        Outcome::Undefined
-    );
+    for (operator, left, right, outcome) in [
+        (Binary::And, yes, no, Outcome::Boolean(false)),
+        (Binary::Or, yes, no, Outcome::Boolean(true)),
+        (Binary::And, yes, Value::Number(1), Outcome::Undefined),
+        (Binary::And, no, Value::Undefined, Outcome::Undefined),
+        (Binary::Or, yes, Value::Undefined, Outcome::Undefined),
+        (Binary::Add, yes, Value::Number(1), Outcome::Number(2)),
+        (Binary::Add, Value::Undefined, yes, Outcome::Undefined),
+    ] {
+        assert_eq!(rt; binary(operator, left, right), outcome);
+    }
+    for (value, outcome) in [
+        (no, Outcome::Boolean(true)),
+        (Value::Number(0), Outcome::Undefined),
+        (Value::Undefined, Outcome::Undefined),
+    ] {
+        assert_eq!(rt; unary(Unary::Not, value), outcome);
+    }
 }

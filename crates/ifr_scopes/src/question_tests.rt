@@ -163,25 +163,56 @@ impl<'v> Answers<'v> for Nobody {
     }
 }
 
-#[test]
-fn parts_of_a_question(rt: HostRuntime) -> Result<(), Fail> {
+// CHOICE with a LOCKED in place of the GUID, at 93.
+fn locked_choice() -> ([u8; 128], usize)
+    ensures { result.1 ≡ 100 }
+{
     let mut opcodes = CHOICE;
-    opcodes[60] = 0x0b; // a LOCKED in place of the GUID, at 93
-    let (bytes, len) = with(&opcodes);
+    opcodes[60] = 0x0b;
+    with(&opcodes)
+}
+
+#[test]
+fn a_question(rt: HostRuntime) -> Result<(), Fail> {
+    let (bytes, len) = locked_choice();
     let forms = forms_of(rt.alloc(), &bytes[..len])?;
     let statement = forms.statements().next().expect(&rt, "a statement");
     assert!(rt; matches!(statement.kind(), StatementKind::OneOf(_)));
     assert_eq!(rt; statement.question().map(|question| question.id()), Some(1));
+    Ok(())
+}
+
+#[test]
+fn options(rt: HostRuntime) -> Result<(), Fail> {
+    let (bytes, len) = locked_choice();
+    let forms = forms_of(rt.alloc(), &bytes[..len])?;
+    let statement = forms.statements().next().expect(&rt, "a statement");
     let mut options = statement.options();
     for (place, value) in [(50, 4), (57, 5)] {
         let option = options.next().expect(&rt, "an option");
         assert_eq!(rt; (option.place(), option.op().value()), (place, value));
         assert!(rt; option.guards().next().is_none());
-        assert!(rt; forms.guards_at(place).next().is_none());
-        assert_eq!(rt; forms.lock_at(place).map(|lock| lock.place()), Some(93));
     }
-    assert!(rt; forms.lock_at(64).is_none());
     assert!(rt; options.next().is_none());
+    Ok(())
+}
+
+#[test]
+fn guards_and_locks_at_places(rt: HostRuntime) -> Result<(), Fail> {
+    let (bytes, len) = locked_choice();
+    let forms = forms_of(rt.alloc(), &bytes[..len])?;
+    for (place, lock) in [(50, Some(93)), (57, Some(93)), (64, None)] {
+        assert!(rt; forms.guards_at(place).next().is_none());
+        assert_eq!(rt; forms.lock_at(place).map(|lock| lock.place()), lock);
+    }
+    Ok(())
+}
+
+#[test]
+fn defaults(rt: HostRuntime) -> Result<(), Fail> {
+    let (bytes, len) = locked_choice();
+    let forms = forms_of(rt.alloc(), &bytes[..len])?;
+    let statement = forms.statements().next().expect(&rt, "a statement");
     let mut defaults = statement.defaults();
     let number = defaults.next().expect(&rt, "a default");
     assert_eq!(rt;
@@ -231,9 +262,14 @@ const STORES: [u8; 108] = [
     0x29, 2, 0x29, 2, // at 104, 106
 ];
 
+// It, of which proofs know the length alone.
+fn stores() -> &'static [u8; 108] {
+    &STORES
+}
+
 #[test]
 fn stores_of_all_kinds(rt: HostRuntime) -> Result<(), Fail> {
-    let forms = forms_of(rt.alloc(), &STORES)?;
+    let forms = forms_of(rt.alloc(), stores())?;
     let mut stores = forms.stores();
     for (place, id, size) in [(27, 1, Some(2)), (51, 2, Some(9)), (78, 3, None)] {
         let store = stores.next().expect(&rt, "a store");
