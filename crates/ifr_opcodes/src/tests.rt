@@ -13,42 +13,6 @@ const PACKAGE: [u8; 83] = [
     0x29, 3, // no opcode, at 81
 ];
 
-#[test]
-fn form_set(rt: HostRuntime) {
-    let op = op_at(&PACKAGE, 4).expect(&rt, "an opcode");
-    assert_eq!(rt;
-        (op.place, op.code, op.scope, op.len()),
-        (4, FORM_SET, true, 23)
-    );
-    let view = FormSetOp::read(op).expect(&rt, "a form set");
-    assert_eq!(rt; view.guid().bytes(), &PACKAGE[6..22]);
-    assert_eq!(rt; (view.title(), view.help(), view.flags()), (0x4321, 5, 1));
-}
-
-#[test]
-fn varstore(rt: HostRuntime) {
-    let op = op_at(&PACKAGE, 27).expect(&rt, "an opcode");
-    let view = VarstoreOp::read(op).expect(&rt, "a store");
-    assert_eq!(rt; view.guid().bytes(), &PACKAGE[29..45]);
-    assert_eq!(rt;
-        (view.id(), view.size(), view.name()),
-        (1, 16, b"Ab".as_slice())
-    );
-}
-
-#[test]
-fn form_and_expression(rt: HostRuntime) {
-    let op = op_at(&PACKAGE, 53).expect(&rt, "an opcode");
-    let form = FormOp::read(op).expect(&rt, "a form");
-    assert_eq!(rt; (form.id(), form.title()), (7, 8));
-    let (op, others) = split_opcode(&PACKAGE[59..], 59).expect(&rt, "an opcode");
-    assert_eq!(rt; (op.place, others.len()), (59, 18));
-    let ExprOp::Leaf(LeafOp::EqIdVal(view)) = ExprOp::read(op).expect(&rt, "an operator") else {
-        panic!(rt; "no EQ_ID_VAL");
-    };
-    assert_eq!(rt; (view.question(), view.value()), (11, 0x1234));
-}
-
 // The operator that these bytes are, at place 0.
 fn operator(bytes: &[u8]) -> Option<ExprOp<'_>> {
     let op = op_at(bytes, 0).ok()?;
@@ -56,11 +20,56 @@ fn operator(bytes: &[u8]) -> Option<ExprOp<'_>> {
 }
 
 #[test]
-fn operators(rt: HostRuntime) {
+fn form_set(rt: HostRuntime) -> Result<(), Fail> {
+    let op = op_at(&PACKAGE, 4)?;
+    assert_eq!(rt;
+        (op.place, op.code, op.scope, op.len()),
+        (4, FORM_SET, true, 23)
+    );
+    let view = FormSetOp::read(op)?;
+    assert_eq!(rt; view.guid().bytes(), &PACKAGE[6..22]);
+    assert_eq!(rt; (view.title(), view.help(), view.flags()), (0x4321, 5, 1));
+    Ok(())
+}
+
+#[test]
+fn varstore(rt: HostRuntime) -> Result<(), Fail> {
+    let view = VarstoreOp::read(op_at(&PACKAGE, 27)?)?;
+    assert_eq!(rt; view.guid().bytes(), &PACKAGE[29..45]);
+    assert_eq!(rt;
+        (view.id(), view.size(), view.name()),
+        (1, 16, b"Ab".as_slice())
+    );
+    Ok(())
+}
+
+#[test]
+fn form(rt: HostRuntime) -> Result<(), Fail> {
+    let view = FormOp::read(op_at(&PACKAGE, 53)?)?;
+    assert_eq!(rt; (view.id(), view.title()), (7, 8));
+    Ok(())
+}
+
+#[test]
+fn eq_id_val(rt: HostRuntime) {
+    let (op, others) = split_opcode(&PACKAGE[59..], 59).expect(&rt, "an opcode");
+    assert_eq!(rt; (op.place, others.len()), (59, 18));
+    let Ok(ExprOp::Leaf(LeafOp::EqIdVal(view))) = ExprOp::read(op) else {
+        panic!(rt; "no EQ_ID_VAL");
+    };
+    assert_eq!(rt; (view.question(), view.value()), (11, 0x1234));
+}
+
+#[test]
+fn eq_id_id(rt: HostRuntime) {
     let Some(ExprOp::Leaf(LeafOp::EqIdId(view))) = operator(&[0x13, 6, 1, 2, 3, 4]) else {
         panic!(rt; "no EQ_ID_ID");
     };
     assert_eq!(rt; (view.first(), view.second()), (0x0201, 0x0403));
+}
+
+#[test]
+fn eq_id_val_list(rt: HostRuntime) {
     let list = [0x14, 11, 9, 0, 2, 0, 5, 0, 7, 1, 99];
     let Some(ExprOp::Leaf(LeafOp::EqIdValList(view))) = operator(&list) else {
         panic!(rt; "no EQ_ID_VAL_LIST");
@@ -71,6 +80,10 @@ fn operators(rt: HostRuntime) {
         (values.next(), values.next(), values.next()),
         (Some(5), Some(0x107), None)
     );
+}
+
+#[test]
+fn references(rt: HostRuntime) {
     let Some(ExprOp::Leaf(LeafOp::QuestionRef(view))) = operator(&[0x40, 0x84, 7, 0]) else {
         panic!(rt; "no QUESTION_REF1");
     };
@@ -79,6 +92,10 @@ fn operators(rt: HostRuntime) {
         panic!(rt; "no RULE_REF");
     };
     assert_eq!(rt; view.rule(), 8);
+}
+
+#[test]
+fn constants(rt: HostRuntime) {
     let Some(ExprOp::Leaf(LeafOp::Uint(view))) = operator(&[0x44, 6, 4, 3, 2, 1]) else {
         panic!(rt; "no UINT32");
     };
@@ -87,6 +104,10 @@ fn operators(rt: HostRuntime) {
         panic!(rt; "no ONES");
     };
     assert_eq!(rt; view.constant, Constant::Ones);
+}
+
+#[test]
+fn operators(rt: HostRuntime) {
     let Some(ExprOp::Unary(view)) = operator(&[0x17, 2]) else {
         panic!(rt; "no NOT");
     };
@@ -98,27 +119,29 @@ fn operators(rt: HostRuntime) {
     let Some(this) = operator(&[0x58, 2]) else {
         panic!(rt; "no THIS");
     };
-    assert_eq!(rt;
-        (this.op().code, is_operator(THIS), is_listed(THIS)),
-        (THIS, true, true)
-    );
-    assert_eq!(rt;
-        (operands(MODULO), operands(BITWISE_NOT), operands(FORM)),
-        (Some(2), Some(1), None)
-    );
-    assert_eq!(rt;
-        (is_operator(0x41), is_listed(0x41), is_listed(FORM)),
-        (false, false, true)
-    );
-    // a count of two, and bytes for one
-    let cut = op_at(&[0x14, 8, 1, 0, 2, 0, 5, 0], 0).expect(&rt, "an opcode");
-    assert_eq!(rt; (least_len(cut), is_short(cut)), (10, true));
+    assert_eq!(rt; this.op().code, THIS);
 }
 
 #[test]
-fn checkbox(rt: HostRuntime) {
-    let op = op_at(&PACKAGE, 65).expect(&rt, "an opcode");
-    let checkbox = CheckboxOp::read(op).expect(&rt, "a checkbox");
+fn numbers_of_opcodes(rt: HostRuntime) {
+    for (code, operator, listed, taken) in [
+        (THIS, true, true, Some(0)),
+        (MODULO, true, true, Some(2)),
+        (BITWISE_NOT, true, true, Some(1)),
+        (FORM, false, true, None),
+        (RULE, false, true, None),
+        (0x41, false, false, None),
+    ] {
+        assert_eq!(rt;
+            (is_operator(code), is_listed(code), operands(code)),
+            (operator, listed, taken)
+        );
+    }
+}
+
+#[test]
+fn checkbox(rt: HostRuntime) -> Result<(), Fail> {
+    let checkbox = CheckboxOp::read(op_at(&PACKAGE, 65)?)?;
     assert_eq!(rt;
         (
             checkbox.flags(),
@@ -127,7 +150,12 @@ fn checkbox(rt: HostRuntime) {
         ),
         (2, false, true)
     );
-    let question = checkbox.question();
+    Ok(())
+}
+
+#[test]
+fn question(rt: HostRuntime) -> Result<(), Fail> {
+    let question = QuestionOp::read(op_at(&PACKAGE, 65)?)?;
     assert_eq!(rt;
         (question.id(), question.store(), question.offset()),
         (11, 1, 4)
@@ -135,36 +163,52 @@ fn checkbox(rt: HostRuntime) {
     assert_eq!(rt; (question.flags(), question.is_read_only()), (1, true));
     let statement = question.statement();
     assert_eq!(rt; (statement.prompt(), statement.help()), (2, 3));
+    Ok(())
 }
 
 #[test]
-fn rule(rt: HostRuntime) {
-    let op = op_at(&[0x18, 0x83, 7], 0).expect(&rt, "an opcode");
-    let rule = RuleOp::read(op).expect(&rt, "a rule");
-    assert_eq!(rt;
-        (rule.id(), is_listed(RULE), is_operator(RULE)),
-        (7, true, false)
-    );
+fn rule(rt: HostRuntime) -> Result<(), Fail> {
+    let rule = RuleOp::read(op_at(&[0x18, 0x83, 7], 0)?)?;
+    assert_eq!(rt; rule.id(), 7);
+    Ok(())
 }
 
 #[test]
-fn refusals(rt: HostRuntime) {
-    let place = |cause, place| Some(Fault { cause, place });
-    assert_eq!(rt; op_at(&PACKAGE, 81).err(), place(Cause::OpLength, 81));
-    assert_eq!(rt; op_at(&PACKAGE, 83).err(), place(Cause::OpLength, 83));
-    assert_eq!(rt; op_at(&PACKAGE, 200).err(), place(Cause::OpLength, 200));
-    let end = op_at(&PACKAGE, 79).expect(&rt, "an opcode");
-    assert_eq!(rt; FormOp::read(end).err(), place(Cause::OpOutside, 79));
-    assert_eq!(rt; ExprOp::read(end).err(), place(Cause::OpOutside, 79));
-    assert_eq!(rt; StatementOp::read(end).err(), place(Cause::OpSize, 79));
-    let form = op_at(&PACKAGE, 53).expect(&rt, "an opcode");
-    assert_eq!(rt; QuestionOp::read(form).err(), place(Cause::OpSize, 53));
-    // the name has no NUL
+fn lengths(rt: HostRuntime) {
+    for place in [81, 83, 200] {
+        assert_eq!(rt;
+            op_at(&PACKAGE, place).err(),
+            Some(Fault {
+                cause: Cause::OpLength,
+                place: place as u64
+            })
+        );
+    }
+}
+
+fn fault(cause: Cause, place: u64) -> Option<Fault> {
+    Some(Fault { cause, place })
+}
+
+#[test]
+fn refusals(rt: HostRuntime) -> Result<(), Fail> {
+    let end = op_at(&PACKAGE, 79)?;
+    assert_eq!(rt; FormOp::read(end).err(), fault(Cause::OpOutside, 79));
+    assert_eq!(rt; ExprOp::read(end).err(), fault(Cause::OpOutside, 79));
+    assert_eq!(rt; StatementOp::read(end).err(), fault(Cause::OpSize, 79));
+    let form = op_at(&PACKAGE, 53)?;
+    assert_eq!(rt; QuestionOp::read(form).err(), fault(Cause::OpSize, 53));
+    Ok(())
+}
+
+#[test]
+fn a_name_without_nul(rt: HostRuntime) -> Result<(), Fail> {
     let cut = [
         0x24, 24, 1, 2, 3, 4, 5, 6, 7, 8, 9, 10, 11, 12, 13, 14, 15, 16, 1, 0, 16, 0, 65, 98,
     ];
-    let cut = op_at(&cut, 0).expect(&rt, "an opcode");
-    assert_eq!(rt; VarstoreOp::read(cut).err(), place(Cause::OpSize, 0));
+    let refused = VarstoreOp::read(op_at(&cut, 0)?).err();
+    assert_eq!(rt; refused, fault(Cause::OpSize, 0));
+    Ok(())
 }
 
 // In what follows every statement has the prompt 1 and the help 2, and every question the id 3, the store 4, the offset 5
@@ -177,19 +221,28 @@ const TEXTS: [u8; 23] = [
 ];
 
 #[test]
-fn statements(rt: HostRuntime) {
-    let view = SubtitleOp::read(op_at(&TEXTS, 0).expect(&rt, "an opcode")).expect(&rt, "a view");
+fn subtitle(rt: HostRuntime) -> Result<(), Fail> {
+    let view = SubtitleOp::read(op_at(&TEXTS, 0)?)?;
     let statement = view.statement();
     assert_eq!(rt;
         (statement.prompt(), statement.help(), view.flags()),
         (1, 2, 9)
     );
-    let view = TextOp::read(op_at(&TEXTS, 7).expect(&rt, "an opcode")).expect(&rt, "a view");
+    Ok(())
+}
+
+#[test]
+fn text(rt: HostRuntime) -> Result<(), Fail> {
+    let view = TextOp::read(op_at(&TEXTS, 7)?)?;
     assert_eq!(rt; (view.statement().prompt(), view.second()), (1, 0x1234));
-    let view = ResetButtonOp::read(op_at(&TEXTS, 15).expect(&rt, "an opcode")).expect(
-        &rt, "a view",
-    );
+    Ok(())
+}
+
+#[test]
+fn reset_button(rt: HostRuntime) -> Result<(), Fail> {
+    let view = ResetButtonOp::read(op_at(&TEXTS, 15)?)?;
     assert_eq!(rt; (view.statement().prompt(), view.default_id()), (1, 0x1234));
+    Ok(())
 }
 
 const NUMBER: [u8; 20] = [
@@ -204,8 +257,8 @@ const CHOICE: [u8; 38] = [
 ];
 
 #[test]
-fn numbers(rt: HostRuntime) {
-    let view = NumericOp::read(op_at(&NUMBER, 0).expect(&rt, "an opcode")).expect(&rt, "a view");
+fn numeric(rt: HostRuntime) -> Result<(), Fail> {
+    let view = NumericOp::read(op_at(&NUMBER, 0)?)?;
     assert_eq!(rt;
         (view.question().id(), view.flags(), view.width()),
         (3, 0x21, 2)
@@ -215,17 +268,25 @@ fn numbers(rt: HostRuntime) {
         (0x0201, 0x0403, 0x0605)
     );
     assert_eq!(rt; view.display(), Display::Hexadecimal);
-    let view = NumericOp::read(op_at(&SIGNED, 0).expect(&rt, "an opcode")).expect(&rt, "a view");
+    Ok(())
+}
+
+#[test]
+fn signed_numeric(rt: HostRuntime) -> Result<(), Fail> {
+    let view = NumericOp::read(op_at(&SIGNED, 0)?)?;
     assert_eq!(rt; (view.display(), view.width()), (Display::Signed, 1));
-    assert_eq!(rt;
-        (view.minimum(), view.maximum(), view.step()),
-        (0x80, 0x7f, 1)
-    );
-    let view = OneOfOp::read(op_at(&CHOICE, 0).expect(&rt, "an opcode")).expect(&rt, "a view");
+    assert_eq!(rt; (view.minimum(), view.maximum()), (0x80, 0x7f));
+    Ok(())
+}
+
+#[test]
+fn one_of(rt: HostRuntime) -> Result<(), Fail> {
+    let view = OneOfOp::read(op_at(&CHOICE, 0)?)?;
     assert_eq!(rt;
         (view.question().offset(), view.flags(), view.width()),
         (5, 0x33, 8)
     );
+    Ok(())
 }
 
 const STRINGS: [u8; 62] = [
@@ -238,18 +299,26 @@ const STRINGS: [u8; 62] = [
 const CLOCK: [u8; 14] = [0x1b, 14, 1, 0, 2, 0, 3, 0, 4, 0, 5, 0, 6, 7];
 
 #[test]
-fn texts_lists_and_clocks(rt: HostRuntime) {
-    let view = StringOp::read(op_at(&STRINGS, 0).expect(&rt, "an opcode")).expect(&rt, "a view");
+fn string(rt: HostRuntime) -> Result<(), Fail> {
+    let view = StringOp::read(op_at(&STRINGS, 0)?)?;
     assert_eq!(rt; (view.question().id(), view.flags()), (3, 9));
     assert_eq!(rt; (view.minimum(), view.maximum()), (7, 8));
-    let view = PasswordOp::read(op_at(&STRINGS, 16).expect(&rt, "an opcode")).expect(&rt, "a view");
+    Ok(())
+}
+
+#[test]
+fn password(rt: HostRuntime) -> Result<(), Fail> {
+    let view = PasswordOp::read(op_at(&STRINGS, 16)?)?;
     assert_eq!(rt;
         (view.question().id(), view.minimum(), view.maximum()),
         (3, 0x107, 0x208)
     );
-    let view = OrderedListOp::read(op_at(&STRINGS, 33).expect(&rt, "an opcode")).expect(
-        &rt, "a view",
-    );
+    Ok(())
+}
+
+#[test]
+fn ordered_list(rt: HostRuntime) -> Result<(), Fail> {
+    let view = OrderedListOp::read(op_at(&STRINGS, 33)?)?;
     assert_eq!(rt;
         (view.question().id(), view.max_containers(), view.flags()),
         (3, 7, 2)
@@ -258,16 +327,31 @@ fn texts_lists_and_clocks(rt: HostRuntime) {
         (view.is_unique_set(), view.has_no_empty_set()),
         (false, true)
     );
-    let view = DateOp::read(op_at(&STRINGS, 48).expect(&rt, "an opcode")).expect(&rt, "a view");
-    assert_eq!(rt; (view.question().id(), view.flags()), (3, 7));
-    let view = TimeOp::read(op_at(&CLOCK, 0).expect(&rt, "an opcode")).expect(&rt, "a view");
-    assert_eq!(rt; (view.question().store(), view.flags()), (4, 7));
+    Ok(())
+}
+
+#[test]
+fn clocks(rt: HostRuntime) -> Result<(), Fail> {
+    let date = DateOp::read(op_at(&STRINGS, 48)?)?;
+    assert_eq!(rt; (date.question().id(), date.flags()), (3, 7));
+    let time = TimeOp::read(op_at(&CLOCK, 0)?)?;
+    assert_eq!(rt; (time.question().store(), time.flags()), (4, 7));
+    Ok(())
 }
 
 const ACTIONS: [u8; 28] = [
     0x0c, 13, 1, 0, 2, 0, 3, 0, 4, 0, 5, 0, 6, // ACTION without a text, at 0
     0x0c, 15, 1, 0, 2, 0, 3, 0, 4, 0, 5, 0, 6, 7, 1, // ACTION with one, at 13
 ];
+
+#[test]
+fn actions(rt: HostRuntime) -> Result<(), Fail> {
+    for (place, text) in [(0, None), (13, Some(0x107))] {
+        let view = ActionOp::read(op_at(&ACTIONS, place)?)?;
+        assert_eq!(rt; (view.question().id(), view.text()), (3, text));
+    }
+    Ok(())
+}
 
 const SHORT_REF: [u8; 14] = [0x0f, 14, 1, 0, 2, 0, 3, 0, 4, 0, 5, 0, 6, 7];
 
@@ -281,48 +365,44 @@ const DEVICE: [u8; 35] = [
 ];
 
 #[test]
-fn actions_and_references(rt: HostRuntime) {
-    let view = ActionOp::read(op_at(&ACTIONS, 0).expect(&rt, "an opcode")).expect(&rt, "a view");
-    assert_eq!(rt; (view.question().id(), view.text()), (3, None));
-    let view = ActionOp::read(op_at(&ACTIONS, 13).expect(&rt, "an opcode")).expect(&rt, "a view");
-    assert_eq!(rt; view.text(), Some(0x107));
-    let view = RefOp::read(op_at(&SHORT_REF, 0).expect(&rt, "an opcode")).expect(&rt, "a view");
-    assert_eq!(rt; (view.form_id(), view.target()), (None, None));
-    let view = RefOp::read(op_at(&QUESTION_OF_FORM, 0).expect(&rt, "an opcode")).expect(
-        &rt, "a view",
-    );
-    assert_eq!(rt;
-        (view.form_id(), view.question_id()),
-        (Some(0x107), Some(0x208))
-    );
-    assert_eq!(rt; (view.target(), view.form_set()), (Some(0x107), None));
-    let view = RefOp::read(op_at(&FORM_0, 0).expect(&rt, "an opcode")).expect(&rt, "a view");
-    assert_eq!(rt;
-        (view.form_id(), view.question_id(), view.target()),
-        (Some(0), None, None)
-    );
-    let view = RefOp::read(op_at(&DEVICE, 0).expect(&rt, "an opcode")).expect(&rt, "a view");
+fn targets(rt: HostRuntime) -> Result<(), Fail> {
+    for (bytes, form, question, target) in [
+        (SHORT_REF.as_slice(), None, None, None),
+        (
+            QUESTION_OF_FORM.as_slice(),
+            Some(0x107),
+            Some(0x208),
+            Some(0x107),
+        ),
+        (FORM_0.as_slice(), Some(0), None, None),
+        (DEVICE.as_slice(), Some(0x107), Some(0x208), None),
+    ] {
+        let view = RefOp::read(op_at(bytes, 0)?)?;
+        assert_eq!(rt;
+            (view.form_id(), view.question_id(), view.target()),
+            (form, question, target)
+        );
+    }
+    Ok(())
+}
+
+#[test]
+fn another_form_set(rt: HostRuntime) -> Result<(), Fail> {
+    let view = RefOp::read(op_at(&DEVICE, 0)?)?;
     let guid = view.form_set().expect(&rt, "a GUID");
     assert_eq!(rt; guid.bytes(), &DEVICE[17..33]);
     assert_eq!(rt;
         (view.question().id(), view.device_path()),
         (3, Some(0x309))
     );
-    assert_eq!(rt; view.target(), None);
+    Ok(())
 }
 
 const OPTION: [u8; 8] = [9, 8, 1, 0, 0x10, 1, 0x34, 0x12];
 
-const DEFAULTS: [u8; 25] = [
-    0x5b, 6, 1, 0, 0, 7, // a number, at 0
-    0x5b, 8, 1, 0, 0x0b, 7, 8, 9, // a buffer, at 6
-    0x5b, 0x85, 1, 0, 8, // an expression, at 14
-    0x5c, 6, 1, 0, 2, 0, // DEFAULTSTORE, at 19
-];
-
 #[test]
-fn options_and_defaults(rt: HostRuntime) {
-    let view = OptionOp::read(op_at(&OPTION, 0).expect(&rt, "an opcode")).expect(&rt, "a view");
+fn option(rt: HostRuntime) -> Result<(), Fail> {
+    let view = OptionOp::read(op_at(&OPTION, 0)?)?;
     assert_eq!(rt;
         (view.text(), view.flags(), view.kind()),
         (1, 0x10, TYPE_NUM_SIZE_16)
@@ -335,22 +415,34 @@ fn options_and_defaults(rt: HostRuntime) {
         ),
         (0x1234, true, false)
     );
-    let view = DefaultOp::read(op_at(&DEFAULTS, 0).expect(&rt, "an opcode")).expect(&rt, "a view");
-    assert_eq!(rt;
-        (view.id(), view.kind(), view.value()),
-        (1, TYPE_NUM_SIZE_8, &DEFAULTS[5..6])
-    );
-    let view = DefaultOp::read(op_at(&DEFAULTS, 6).expect(&rt, "an opcode")).expect(&rt, "a view");
-    assert_eq!(rt;
-        (view.kind(), view.value()),
-        (TYPE_BUFFER, &DEFAULTS[11..14])
-    );
-    let view = DefaultOp::read(op_at(&DEFAULTS, 14).expect(&rt, "an opcode")).expect(&rt, "a view");
-    assert_eq!(rt; (view.kind(), view.value().len()), (TYPE_OTHER, 0));
-    let view = DefaultStoreOp::read(op_at(&DEFAULTS, 19).expect(&rt, "an opcode")).expect(
-        &rt, "a view",
-    );
+    Ok(())
+}
+
+const DEFAULTS: [u8; 25] = [
+    0x5b, 6, 1, 0, 0, 7, // a number, at 0
+    0x5b, 8, 1, 0, 0x0b, 7, 8, 9, // a buffer, at 6
+    0x5b, 0x85, 1, 0, 8, // an expression, at 14
+    0x5c, 6, 1, 0, 2, 0, // DEFAULTSTORE, at 19
+];
+
+#[test]
+fn defaults(rt: HostRuntime) -> Result<(), Fail> {
+    for (place, kind, value) in [
+        (0, TYPE_NUM_SIZE_8, &DEFAULTS[5..6]),
+        (6, TYPE_BUFFER, &DEFAULTS[11..14]),
+        (14, TYPE_OTHER, &[]),
+    ] {
+        let view = DefaultOp::read(op_at(&DEFAULTS, place)?)?;
+        assert_eq!(rt; (view.id(), view.kind(), view.value()), (1, kind, value));
+    }
+    Ok(())
+}
+
+#[test]
+fn default_store(rt: HostRuntime) -> Result<(), Fail> {
+    let view = DefaultStoreOp::read(op_at(&DEFAULTS, 19)?)?;
     assert_eq!(rt; (view.name(), view.id()), (1, 2));
+    Ok(())
 }
 
 const STORES: [u8; 49] = [
@@ -360,21 +452,23 @@ const STORES: [u8; 49] = [
 ];
 
 #[test]
-fn stores(rt: HostRuntime) {
-    let view = VarstoreEfiOp::read(op_at(&STORES, 0).expect(&rt, "an opcode")).expect(
-        &rt, "a view",
-    );
+fn varstore_efi(rt: HostRuntime) -> Result<(), Fail> {
+    let view = VarstoreEfiOp::read(op_at(&STORES, 0)?)?;
     assert_eq!(rt; view.guid().bytes(), &STORES[4..20]);
     assert_eq!(rt;
         (view.id(), view.attributes(), view.size()),
         (1, 0x01020304, 16)
     );
     assert_eq!(rt; view.name(), b"Ab".as_slice());
-    let view = VarstoreNameValueOp::read(op_at(&STORES, 29).expect(&rt, "an opcode")).expect(
-        &rt, "a view",
-    );
+    Ok(())
+}
+
+#[test]
+fn varstore_name_value(rt: HostRuntime) -> Result<(), Fail> {
+    let view = VarstoreNameValueOp::read(op_at(&STORES, 29)?)?;
     assert_eq!(rt; view.guid().bytes(), &STORES[33..49]);
     assert_eq!(rt; view.id(), 2);
+    Ok(())
 }
 
 const CONDITIONS: [u8; 13] = [
@@ -384,54 +478,18 @@ const CONDITIONS: [u8; 13] = [
 ];
 
 #[test]
-fn conditions(rt: HostRuntime) {
-    let view = InconsistentIfOp::read(op_at(&CONDITIONS, 0).expect(&rt, "an opcode")).expect(
-        &rt, "a view",
-    );
-    assert_eq!(rt; view.error(), 0x201);
-    let view = NoSubmitIfOp::read(op_at(&CONDITIONS, 4).expect(&rt, "an opcode")).expect(
-        &rt, "a view",
-    );
-    assert_eq!(rt; view.error(), 0x403);
-    let view = WarningIfOp::read(op_at(&CONDITIONS, 8).expect(&rt, "an opcode")).expect(
-        &rt, "a view",
-    );
-    assert_eq!(rt; (view.text(), view.timeout()), (0x605, 7));
+fn conditions(rt: HostRuntime) -> Result<(), Fail> {
+    let inconsistent = InconsistentIfOp::read(op_at(&CONDITIONS, 0)?)?;
+    assert_eq!(rt; inconsistent.error(), 0x201);
+    let no_submit = NoSubmitIfOp::read(op_at(&CONDITIONS, 4)?)?;
+    assert_eq!(rt; no_submit.error(), 0x403);
+    let warning = WarningIfOp::read(op_at(&CONDITIONS, 8)?)?;
+    assert_eq!(rt; (warning.text(), warning.timeout()), (0x605, 7));
+    Ok(())
 }
 
-// How an opcode is refused where one of a number is wanted.
-fn refusal(wanted: u8, op: Op<'_>) -> Option<Fault> {
-    match wanted {
-        FORM_SET => FormSetOp::read(op).err(),
-        FORM => FormOp::read(op).err(),
-        SUBTITLE => SubtitleOp::read(op).err(),
-        TEXT => TextOp::read(op).err(),
-        RESET_BUTTON => ResetButtonOp::read(op).err(),
-        CHECKBOX => CheckboxOp::read(op).err(),
-        NUMERIC => NumericOp::read(op).err(),
-        ONE_OF => OneOfOp::read(op).err(),
-        STRING => StringOp::read(op).err(),
-        PASSWORD => PasswordOp::read(op).err(),
-        ORDERED_LIST => OrderedListOp::read(op).err(),
-        DATE => DateOp::read(op).err(),
-        TIME => TimeOp::read(op).err(),
-        ACTION => ActionOp::read(op).err(),
-        REF => RefOp::read(op).err(),
-        ONE_OF_OPTION => OptionOp::read(op).err(),
-        DEFAULT => DefaultOp::read(op).err(),
-        DEFAULTSTORE => DefaultStoreOp::read(op).err(),
-        VARSTORE => VarstoreOp::read(op).err(),
-        VARSTORE_EFI => VarstoreEfiOp::read(op).err(),
-        VARSTORE_NAME_VALUE => VarstoreNameValueOp::read(op).err(),
-        INCONSISTENT_IF => InconsistentIfOp::read(op).err(),
-        NO_SUBMIT_IF => NoSubmitIfOp::read(op).err(),
-        WARNING_IF => WarningIfOp::read(op).err(),
-        _ => RuleOp::read(op).err(),
-    }
-}
-
-// How an opcode of so many bytes, all 0 behind its header but one, is refused where one of a number is wanted.
-fn cause(wanted: u8, code: u8, len: u8, at: usize, byte: u8) -> Option<Cause> {
+// How an opcode of so many bytes, all 0 behind its header but one, is refused: by OpOutside, by OpSize.
+fn refusal(code: u8, len: u8, at: usize, byte: u8) -> Option<(bool, bool)> {
     let mut bytes = [0; 127];
     bytes[0] = code;
     bytes[1] = len;
@@ -439,7 +497,7 @@ fn cause(wanted: u8, code: u8, len: u8, at: usize, byte: u8) -> Option<Cause> {
         bytes[at] = byte;
     }
     let op = op_at(&bytes, 0).ok()?;
-    Some(refusal(wanted, op)?.cause)
+    Some((is_outside(op), is_short(op)))
 }
 
 // The numbers with the bytes that an opcode has at least whose fields are 0.
@@ -472,49 +530,41 @@ const LEAST: [(u8, u8); 25] = [
 ];
 
 #[test]
-fn edges(rt: HostRuntime) {
+fn least_lengths(rt: HostRuntime) {
     for (code, least) in LEAST {
-        assert_eq!(rt; cause(code, code, least, 0, 0), None);
-        assert_eq!(rt;
-            cause(code, code, least.saturating_sub(1), 0, 0),
-            Some(Cause::OpSize)
-        );
-        assert_eq!(rt; cause(code, END, 2, 0, 0), Some(Cause::OpOutside));
-        assert_eq!(rt; cause(code, LOCKED, 127, 0, 0), Some(Cause::OpOutside));
+        let short = least.saturating_sub(1);
+        assert_eq!(rt; refusal(code, least, 0, 0), Some((false, false)));
+        assert_eq!(rt; refusal(code, short, 0, 0), Some((false, true)));
     }
+    // a count of two, and bytes for one
+    let cut = op_at(&[0x14, 8, 1, 0, 2, 0, 5, 0], 0).expect(&rt, "an opcode");
+    assert_eq!(rt; (least_len(cut), is_short(cut)), (10, true));
 }
 
 #[test]
 fn left_out(rt: HostRuntime) {
-    let (outside, short) = (Some(Cause::OpOutside), Some(Cause::OpSize));
-    // numbers of 8 bytes
-    assert_eq!(rt; cause(NUMERIC, NUMERIC, 37, 13, 3), short);
-    assert_eq!(rt; cause(NUMERIC, NUMERIC, 38, 13, 3), None);
-    // an option's kind is a Boolean at most
-    assert_eq!(rt;
-        cause(ONE_OF_OPTION, ONE_OF_OPTION, 7, 5, TYPE_BOOLEAN),
-        None
-    );
-    assert_eq!(rt;
-        cause(ONE_OF_OPTION, ONE_OF_OPTION, 6, 5, TYPE_TIME),
-        outside
-    );
-    assert_eq!(rt; cause(ONE_OF_OPTION, ONE_OF_OPTION, 5, 5, TYPE_TIME), short);
-    // a default's is that of a reference at most
-    assert_eq!(rt; cause(DEFAULT, DEFAULT, 5, 4, TYPE_REF), None);
-    assert_eq!(rt; cause(DEFAULT, DEFAULT, 5, 4, 0x0d), outside);
-    assert_eq!(rt; cause(DEFAULT, DEFAULT, 4, 4, 0x0d), short);
-    assert_eq!(rt; cause(DEFAULT, DEFAULT, 8, 4, TYPE_DATE), short);
-    // an older store has no name
-    assert_eq!(rt; cause(VARSTORE_EFI, VARSTORE_EFI, 23, 0, 0), short);
-    assert_eq!(rt; cause(VARSTORE_EFI, VARSTORE_EFI, 24, 0, 0), outside);
-    assert_eq!(rt; cause(VARSTORE_EFI, VARSTORE_EFI, 25, 0, 0), short);
-    // a GUID opens no scope
-    let guid = op_at(&[0x5f, 2], 0).expect(&rt, "an opcode");
-    let scoped = op_at(&[0x5f, 0x82], 0).expect(&rt, "an opcode");
-    let read = op_at(&[0x2d, 2], 0).expect(&rt, "an opcode");
-    assert_eq!(rt;
-        (is_outside(guid), is_outside(scoped), is_outside(read)),
-        (false, true, true)
-    );
+    for (code, len, at, byte, refused) in [
+        // numbers of 8 bytes
+        (NUMERIC, 37, 13, 3, (false, true)),
+        (NUMERIC, 38, 13, 3, (false, false)),
+        // an option's kind is a Boolean at most
+        (ONE_OF_OPTION, 7, 5, TYPE_BOOLEAN, (false, false)),
+        (ONE_OF_OPTION, 6, 5, TYPE_TIME, (true, true)),
+        (ONE_OF_OPTION, 5, 5, TYPE_TIME, (false, true)),
+        // a default's is that of a reference at most
+        (DEFAULT, 5, 4, TYPE_REF, (false, false)),
+        (DEFAULT, 5, 4, 0x0d, (true, false)),
+        (DEFAULT, 4, 4, 0x0d, (false, true)),
+        (DEFAULT, 8, 4, TYPE_DATE, (false, true)),
+        // an older store has no name
+        (VARSTORE_EFI, 23, 0, 0, (false, true)),
+        (VARSTORE_EFI, 24, 0, 0, (true, true)),
+        (VARSTORE_EFI, 25, 0, 0, (false, true)),
+        // a GUID opens no scope
+        (GUID, 2, 0, 0, (false, false)),
+        (GUID, 0x82, 0, 0, (true, false)),
+        (0x2d, 2, 0, 0, (true, false)),
+    ] {
+        assert_eq!(rt; refusal(code, len, at, byte), Some(refused));
+    }
 }
