@@ -4,7 +4,7 @@ use Rattle.hii_languages.specs.Languages.{Spoken}
 use Rattle.hii_languages.specs.Shown.{shown_text}
 use Rattle.ifr_scopes.specs.Nodes.{nodes_of}
 use Rattle.hii_varstore.specs.Stores.{StoreMap}
-use Rattle.guard_policy.specs.World.{World}
+use Rattle.guard_policy.specs.World.{World, world_over}
 
 -- The bytes of the forms package that is browsed, the places of the DISABLE_IFs that were removed from it when it was opened,
 -- and the texts of the string packages, which stay the same; the number of the string package whose texts are shown; the
@@ -20,7 +20,7 @@ pub record State : Type 0 where
 
 -- what decisions look at, over some stores, and over those that commands change
 abbrev pub world_with : State → StoreMap → World
-world_with s stores = record { nodes = nodes_of s.ifr; removed = s.removed; stores = stores }
+world_with s stores = world_over (nodes_of s.ifr) s.removed stores
 
 abbrev pub world_of : State → World
 world_of s = world_with s s.working

@@ -19,7 +19,7 @@ use Rattle.hii_questions.specs.declared.denial.DenialKind.{DenialKind}
 use Rattle.hii_questions.specs.declared.denial.DenialKind.TheVariants.{NoQuestion}
 use Rattle.guard_policy.specs.Policy.{or_else, fixed, first_closed, inconsistent, warned, unsubmitted}
 use Rattle.guard_policy.specs.Warned.{warning_of}
-use Rattle.guard_policy.specs.World.{World}
+use Rattle.guard_policy.specs.World.{World, world_over}
 use Rattle.guard_policy.specs.declared.denial.Denial.{Denial}
 use Rattle.form_page.specs.Pages.{page_text}
 use Rattle.hii_commands.specs.Orders.{Order, ShowPage, SetValue, OrderElements, SetText, AskWhy, ChooseLanguage, SubmitChanges, DiscardChanges}
@@ -91,7 +91,7 @@ named_values q _ = []
 
 -- what forbids a value that the question has in new stores
 abbrev pub value_denial : World → StoreMap → Placed → Option Denial
-value_denial w new q = or_else (first_closed w q (named_values q (value_of_field new q (field_of w.nodes q)))) (inconsistent (record w { stores = new }) q)
+value_denial w new q = or_else (first_closed w q (named_values q (value_of_field new q (field_of w.nodes q)))) (inconsistent (world_over w.nodes w.removed new) q)
 
 -- the lines of the warnings of a question, over new stores
 abbrev pub warned_text : State → StoreMap → Placed → List ℕ

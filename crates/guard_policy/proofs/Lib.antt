@@ -6,3 +6,4 @@ pub mod ClosedLemmas
 pub mod IndexedLemmas
 pub mod AskedLemmas
 pub mod SupportLemmas
+pub mod KeptLemmas

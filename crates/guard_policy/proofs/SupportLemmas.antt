@@ -21,8 +21,8 @@ use Rattle.hii_questions.specs.Answers.{answers}
 use Rattle.hii_questions.specs.Views.{question_node}
 use Rattle.hii_questions.specs.declared.denial.DenialKind.TheVariants.{GrayOutIf, Locked, InconsistentIf, NoSubmitIf}
 use Rattle.guard_policy.specs.Policy.{denied, told, or_else, is_removed, hides, hiding, hidden, grays_out, fixed_itself, fixed, all_fixed, inconsistent, unsubmitted}
-use Rattle.guard_policy.specs.Support.{suppressing, graying_out, around, counts, conditions, denial, warning_of, ids_behind, support_over, over, AnswersAgree, until_met, is_by_first}
-use Rattle.guard_policy.specs.World.{World, is_met}
+use Rattle.guard_policy.specs.Support.{suppressing, graying_out, around, counts, conditions, denial, warning_of, ids_behind, support_over, AnswersAgree, until_met, is_by_first}
+use Rattle.guard_policy.specs.World.{World, is_met, is_met_over, otherwise}
 use Rattle.guard_policy.specs.declared.denial.Denial.{Denial}
 use Rattle.guard_policy.specs.declared.support.Decision.{Decision}
 use Rattle.guard_policy.specs.declared.support.Decision.TheVariants.{Listed, Changeable, OptionOpen, Opens, Consistent, MaySubmit, Warnings}
@@ -82,27 +82,37 @@ covered_same (Some denial) h' g g' l e f = ap (λ (o : Option Denial). or_else o
 
 -- ---- conditions over other stores
 
-module _ (w : World) (stores : StoreMap) where
+module _ (ns : List Placed) (removed : List ℕ) (stores others : StoreMap) where
   abbrev Agrees : ℕ → Type 0
-  Agrees id = answered (answers w.nodes w.stores) id ≡ answered (answers w.nodes stores) id
+  Agrees id = answered (answers ns stores) id ≡ answered (answers ns others) id
 
-  -- These conditions hold over other stores as they do over those of the world.
+  -- A condition holds over other stores as it does over these.
+  abbrev HoldsAlike : Placed → Type 0
+  HoldsAlike c = is_met_over ns others c ≡ is_met_over ns stores c
+
+  alike : (c : Placed) → AnswersAgree ns stores others (ids_behind ns c) → HoldsAlike c
+  alike c h = ap holds (sym (depends (rules_among ns) (answers ns stores) (answers ns others) (this_of c) (expression_tree c) h))
+
+  pub all_alike : (cs : List Placed) → AnswersAgree ns stores others (support_over ns cs) → AllByRecursion HoldsAlike cs
+  all_alike [] h = tt
+  all_alike (c ∷ cs) h = (alike c (front Agrees (ids_behind ns c) (support_over ns cs) h), all_alike cs (back Agrees (ids_behind ns c) (support_over ns cs) h))
+
+-- ---- decisions where other conditions hold
+
+module _ (w : World) (stores : StoreMap) (met : Placed → Bool) where
+  abbrev v : World
+  v = otherwise w stores met
+
+  -- These conditions hold as they do in the world.
   abbrev SameAt : Placed → Type 0
-  SameAt c = is_met (over w stores) c ≡ is_met w c
+  SameAt c = met c ≡ is_met w c
 
   abbrev Same : List Placed → Type 0
   Same cs = AllByRecursion SameAt cs
 
-  same_one : (c : Placed) → AnswersAgree w stores (ids_behind w.nodes c) → SameAt c
-  same_one c h = ap holds (sym (depends (rules_among w.nodes) (answers w.nodes w.stores) (answers w.nodes stores) (this_of c) (expression_tree c) h))
-
-  pub all_same : (cs : List Placed) → AnswersAgree w stores (support_over w.nodes cs) → Same cs
-  all_same [] h = tt
-  all_same (c ∷ cs) h = (same_one c (front Agrees (ids_behind w.nodes c) (support_over w.nodes cs) h), all_same cs (back Agrees (ids_behind w.nodes c) (support_over w.nodes cs) h))
-
   -- ---- those up to the first that holds
 
-  first_same : (c : Placed) (cs : List Placed) → Same (until_met w (c ∷ cs)) → is_met (over w stores) c ≡ is_met w c
+  first_same : (c : Placed) (cs : List Placed) → Same (until_met w (c ∷ cs)) → met c ≡ is_met w c
   first_same c cs h = elim (cases_Bool (is_met w c)) [
     | inl met ↦ let these = subst Same (cond-true (is_met w c) (c ∷ []) (c ∷ until_met w cs) met) h in these.0
     | inr past ↦ let these = subst Same (cond-false (is_met w c) (c ∷ []) (c ∷ until_met w cs) past) h in these.0
@@ -138,10 +148,10 @@ module _ (w : World) (stores : StoreMap) where
 
   -- The first of some nodes by a condition, or by what is no condition, stays the first.
   first_stays : (others which : Placed → Bool) (ns : List Placed) → Same (until_met w (filter which ns))
-      → find (λ n. others n || (which n && is_met (over w stores) n)) ns ≡ find (λ n. others n || (which n && is_met w n)) ns
+      → find (λ n. others n || (which n && met n)) ns ≡ find (λ n. others n || (which n && is_met w n)) ns
   first_stays others which [] h = refl
   first_stays others which (n ∷ ns) h =
-      let p : Placed → Bool = λ m. others m || (which m && is_met (over w stores) m) in
+      let p : Placed → Bool = λ m. others m || (which m && met m) in
       let q : Placed → Bool = λ m. others m || (which m && is_met w m) in
       elim (cases_Bool (which n)) [
         | inl is ↦
@@ -150,7 +160,7 @@ module _ (w : World) (stores : StoreMap) where
             find_step p q n ns here (λ past. first_stays others which ns (later_same n (filter which ns) (unmet others which n is past) these))
         | inr other ↦
             let these = subst (λ (l : List Placed). Same (until_met w l)) (cond-false (which n) (n ∷ filter which ns) (filter which ns) other) h in
-            let here : p n ≡ q n = ap (λ (b : Bool). others n || (b && is_met (over w stores) n)) other ∙ sym (ap (λ (b : Bool). others n || (b && is_met w n)) other) in
+            let here : p n ≡ q n = ap (λ (b : Bool). others n || (b && met n)) other ∙ sym (ap (λ (b : Bool). others n || (b && is_met w n)) other) in
             find_step p q n ns here (λ past. first_stays others which ns these)
       ]
 
@@ -167,48 +177,51 @@ module _ (w : World) (stores : StoreMap) where
 
   -- ---- what denies
 
-  hidden_stays : (n : Placed) → Same (until_met w (suppressing n)) → hidden (over w stores) n ≡ hidden w n
+  hidden_stays : (n : Placed) → Same (until_met w (suppressing n)) → hidden v n ≡ hidden w n
   hidden_stays n h = ap (option_map hiding) (first_stays (is_removed w) (λ g. number g.op == SUPPRESS_IF) (guards n) h)
+
+  pub hidden_same : (n : Placed) → Same (suppressing n) → hidden v n ≡ hidden w n
+  hidden_same n h = hidden_stays n (until_same (suppressing n) h)
 
   abbrev grayed_out : World → Placed → Option Denial
   grayed_out its n = option_map (denied GrayOutIf) (find (grays_out its) (guards n))
 
-  grayed_stays : (n : Placed) → Same (until_met w (graying_out n)) → grayed_out (over w stores) n ≡ grayed_out w n
+  grayed_stays : (n : Placed) → Same (until_met w (graying_out n)) → grayed_out v n ≡ grayed_out w n
   grayed_stays n h = ap (option_map (denied GrayOutIf)) (first_stays (λ _. false) (λ g. number g.op == GRAY_OUT_IF) (guards n) h)
 
-  fixed_stays : (n : Placed) → Same (until_met w (around n)) → fixed (over w stores) n ≡ fixed w n
+  fixed_stays : (n : Placed) → Same (until_met w (around n)) → fixed v n ≡ fixed w n
   fixed_stays n h =
       let seen = hidden_stays n (front_same (suppressing n) (graying_out n) h) in
-      let uncovered : hidden w n ≡ None → grayed_out (over w stores) n ≡ grayed_out w n =
+      let uncovered : hidden w n ≡ None → grayed_out v n ≡ grayed_out w n =
       λ none. grayed_stays n (back_same (suppressing n) (graying_out n) (all_unmet (is_removed w) (λ g. number g.op == SUPPRESS_IF) (guards n) (none_found hiding (find (hides w) (guards n)) none)) h) in
       ap (λ (o : Option Denial). or_else o (fixed_itself w.nodes n))
-      (covered_same (hidden w n) (hidden (over w stores) n) (grayed_out w n) (grayed_out (over w stores) n) (option_map (denied Locked) (first_lock w.nodes n)) seen uncovered)
+      (covered_same (hidden w n) (hidden v n) (grayed_out w n) (grayed_out v n) (option_map (denied Locked) (first_lock w.nodes n)) seen uncovered)
 
   abbrev SameFixed : Placed → Type 0
-  SameFixed o = fixed (over w stores) o ≡ fixed w o
+  SameFixed o = fixed v o ≡ fixed w o
 
   each_fixed : (os : List Placed) → Same (flat_map around os) → AllByRecursion SameFixed os
   each_fixed [] h = tt
   each_fixed (o ∷ os) h = (fixed_stays o (until_same (around o) (front SameAt (around o) (flat_map around os) h)), each_fixed os (back SameAt (around o) (flat_map around os) h))
 
-  each_none : (os : List Placed) → AllByRecursion SameFixed os → AllByRecursion (λ o. is_none (fixed (over w stores) o) ≡ is_none (fixed w o)) os
+  each_none : (os : List Placed) → AllByRecursion SameFixed os → AllByRecursion (λ o. is_none (fixed v o) ≡ is_none (fixed w o)) os
   each_none [] h = tt
   each_none (o ∷ os) h = (ap is_none h.0, each_none os h.1)
 
-  all_fixed_same : (os : List Placed) → AllByRecursion SameFixed os → all_fixed (over w stores) os ≡ all_fixed w os
+  all_fixed_same : (os : List Placed) → AllByRecursion SameFixed os → all_fixed v os ≡ all_fixed w os
   all_fixed_same [] h = refl
   all_fixed_same (o ∷ os) h =
-      ap (λ (b : Bool). cond b None (fixed (over w stores) o)) (list_any_same (λ p. is_none (fixed (over w stores) p)) (λ p. is_none (fixed w p)) (o ∷ os) (each_none (o ∷ os) h))
+      ap (λ (b : Bool). cond b None (fixed v o)) (list_any_same (λ p. is_none (fixed v p)) (λ p. is_none (fixed w p)) (o ∷ os) (each_none (o ∷ os) h))
       ∙ ap (λ (d : Option Denial). cond (list_any (λ p. is_none (fixed w p)) (o ∷ os)) None d) h.0
 
-  inconsistent_stays : (q : Placed) → Same (until_met w (inconsistents q)) → inconsistent (over w stores) q ≡ inconsistent w q
+  inconsistent_stays : (q : Placed) → Same (until_met w (inconsistents q)) → inconsistent v q ≡ inconsistent w q
   inconsistent_stays q h =
       ap (option_map (told InconsistentIf)) (first_stays (λ _. false) (λ _. true) (inconsistents q) (subst (λ (l : List Placed). Same (until_met w l)) (sym (filter_all (inconsistents q))) h))
 
-  unsubmitted_stays : Same (until_met w (filter (counts w) (filter is_no_submit w.nodes))) → unsubmitted (over w stores) ≡ unsubmitted w
+  unsubmitted_stays : Same (until_met w (filter (counts w) (filter is_no_submit w.nodes))) → unsubmitted v ≡ unsubmitted w
   unsubmitted_stays h = ap (option_map (told NoSubmitIf)) (first_stays (λ _. false) (counts w) (filter is_no_submit w.nodes) h)
 
-  pub denial_stays : (decision : Decision) → is_by_first decision ≡ true → Same (until_met w (conditions w decision)) → denial (over w stores) decision ≡ denial w decision
+  pub denial_stays : (decision : Decision) → is_by_first decision ≡ true → Same (until_met w (conditions w decision)) → denial v decision ≡ denial w decision
   denial_stays (Listed statement) is h = hidden_stays (statement_node statement) h
   denial_stays (Changeable statement) is h = fixed_stays (statement_node statement) h
   denial_stays (OptionOpen question value) is h = absurd (false≢true is)
@@ -217,7 +230,7 @@ module _ (w : World) (stores : StoreMap) where
   denial_stays MaySubmit is h = unsubmitted_stays h
   denial_stays (Warnings question) is h = absurd (false≢true is)
 
-  pub denial_same : (decision : Decision) → Same (conditions w decision) → denial (over w stores) decision ≡ denial w decision
+  pub denial_same : (decision : Decision) → Same (conditions w decision) → denial v decision ≡ denial w decision
   denial_same (Listed statement) h = denial_stays (Listed statement) refl (until_same (conditions w (Listed statement)) h)
   denial_same (Changeable statement) h = denial_stays (Changeable statement) refl (until_same (conditions w (Changeable statement)) h)
   denial_same (OptionOpen question value) h =
@@ -228,6 +241,6 @@ module _ (w : World) (stores : StoreMap) where
   denial_same MaySubmit h = denial_stays MaySubmit refl (until_same (conditions w MaySubmit) h)
   denial_same (Warnings question) h = refl
 
-  pub warning_same : (decision : Decision) → Same (conditions w decision) → warning_of (over w stores) decision ≡ warning_of w decision
-  warning_same (Warnings question) h = filter_same (is_met (over w stores)) (is_met w) (warnings (question_node question)) h
+  pub warning_same : (decision : Decision) → Same (conditions w decision) → warning_of v decision ≡ warning_of w decision
+  warning_same (Warnings question) h = filter_same (met) (is_met w) (warnings (question_node question)) h
   warning_same _ h = refl

@@ -9,9 +9,9 @@ use Rattle.ifr_scopes.specs.Lists.{guard_node, guards_left}
 use Rattle.ifr_scopes.specs.NoSubmitsLeft.{no_submits_left}
 use Rattle.ifr_scopes.specs.Parts.{condition_node, conditions_left, options_left}
 use Rattle.ifr_scopes.specs.declared.guards_at.GuardsAt.{GuardsAt}
-use Rattle.hii_varstore.specs.Stores.{StoreMap}
 use Rattle.guard_policy.specs.Support.{around, counts}
 use Rattle.guard_policy.specs.Views.{world}
+use Rattle.guard_policy.specs.World.{no_stores}
 use Rattle.guard_policy.specs.declared.around.Around.{Around}
 use Rattle.guard_policy.specs.declared.asked.AskedCondition.{AskedCondition}
 use Rattle.guard_policy.specs.declared.asked.AskedCondition.TheVariants as asked
@@ -49,9 +49,6 @@ abbrev pub around_options_left : OptionConditions → List Placed
 around_options_left it = around_one_left it.around ++ flat_map around (options_of_value it)
 
 -- What was removed does not depend on stores.
-abbrev pub no_stores : StoreMap
-no_stores = record { guid = []; stores = [] }
-
 abbrev pub submission_left : Submission → List Placed
 submission_left it = filter (counts (world it.policy no_stores)) (no_submits_left it.conditions)
 

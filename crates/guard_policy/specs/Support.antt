@@ -1,7 +1,7 @@
 -- On which questions a decision depends (own rule; those of an expression are the ones that it, or a rule behind it, names:
 -- UEFI 2.8, 33.2.5.7 Expressions).
-use Rattle.std.specs.Prelude.{ℕ, Bool, true, false, ◌==◌, ◌++◌, not, if◌then◌else◌, Option, None, List, [], ◌∷◌, filter, ⊤}
-use Rattle.std.specs.List.{flat_map, list_any}
+use Rattle.std.specs.Prelude.{◌≡◌, ℕ, Bool, true, false, ◌==◌, ◌++◌, not, if◌then◌else◌, Option, None, Result, List, [], ◌∷◌, filter, ⊤}
+use Rattle.std.specs.List.{AllByRecursion, flat_map, list_any}
 use Rattle.ifr_opcodes.specs.declared.codes.TheConstants.{SUPPRESS_IF, GRAY_OUT_IF}
 use Rattle.ifr_opcodes.specs.Fields.{option_value}
 use Rattle.ifr_opcodes.specs.Forest.{Placed}
@@ -17,7 +17,7 @@ use Rattle.hii_varstore.specs.Stores.{StoreMap}
 use Rattle.hii_questions.specs.Answers.{answers}
 use Rattle.hii_questions.specs.Views.{question_node}
 use Rattle.guard_policy.specs.World.{World, is_met}
-use Rattle.guard_policy.specs.Policy.{is_removed, hidden, fixed, closed, inconsistent, unsubmitted, warned}
+use Rattle.guard_policy.specs.Policy.{is_removed, hidden, fixed, closed, inconsistent, unsubmitted, warned, unless}
 use Rattle.guard_policy.specs.declared.denial.Denial.{Denial}
 use Rattle.guard_policy.specs.declared.support.Decision.{Decision}
 use Rattle.guard_policy.specs.declared.support.Decision.TheVariants.{Listed, Changeable, OptionOpen, Opens, Consistent, MaySubmit, Warnings}
@@ -82,13 +82,9 @@ support_over ns cs = flat_map (ids_behind ns) cs
 abbrev pub support : World → Decision → List ℕ
 support w decision = support_over w.nodes (conditions w decision)
 
--- a world with other stores
-abbrev pub over : World → StoreMap → World
-over w stores = record { nodes = w.nodes; removed = w.removed; stores = stores }
-
--- other stores give the same answers to these questions
-abbrev pub AnswersAgree : World → StoreMap → List ℕ → Type 0
-AnswersAgree w stores ids = Agree (answers w.nodes w.stores) (answers w.nodes stores) ids
+-- two stores of a form set give the same answers to these questions
+abbrev pub AnswersAgree : List Placed → StoreMap → StoreMap → List ℕ → Type 0
+AnswersAgree ns stores others ids = Agree (answers ns stores) (answers ns others) ids
 
 -- some conditions up to the first that holds, which is the last of them; all where none holds
 abbrev pub until_met : World → List Placed → List Placed
@@ -100,3 +96,12 @@ abbrev pub is_by_first : Decision → Bool
 is_by_first (OptionOpen question value) = false
 is_by_first (Warnings question) = false
 is_by_first _ = true
+
+-- What is kept by place tells of these conditions whether they hold.
+abbrev pub Tells : (ℕ → Bool) → World → List Placed → Type 0
+Tells holding w cs = AllByRecursion (λ c. holding c.place ≡ is_met w c) cs
+
+-- An answer by what is kept is the one over all stores of whose conditions that tells.
+abbrev pub DecidesBy : (ℕ → Bool) → (StoreMap → World) → Decision → Result Unit Denial → Type 0
+DecidesBy holding world decision answer =
+    (stores : StoreMap) → Tells holding (world stores) (conditions (world stores) decision) → answer ≡ unless (denial (world stores) decision)

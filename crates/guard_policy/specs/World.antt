@@ -1,5 +1,5 @@
 -- What a decision looks at.
-use Rattle.std.specs.Prelude.{ℕ, Bool, ◌==◌, ◌&&◌, List, map, filter}
+use Rattle.std.specs.Prelude.{ℕ, Bool, ◌==◌, ◌&&◌, List, [], map, filter}
 use Rattle.ifr_opcodes.specs.declared.codes.TheConstants.{DISABLE_IF}
 use Rattle.ifr_opcodes.specs.Opcode.{number}
 use Rattle.ifr_opcodes.specs.Forest.{Placed}
@@ -11,11 +11,16 @@ use Rattle.ifr_scopes.specs.Rules.{rules_among}
 use Rattle.hii_varstore.specs.Stores.{StoreMap}
 use Rattle.hii_questions.specs.Answers.{answers}
 
--- the nodes of the form set, the places of the DISABLE_IFs that were removed when it was opened, and the stores
+-- the nodes of the form set, the places of the DISABLE_IFs that were removed when it was opened, the stores, and which other
+-- conditions hold
 pub record World : Type 0 where
   pub nodes : List Placed
   pub removed : List ℕ
   pub stores : StoreMap
+  pub met : Placed → Bool
+
+abbrev pub is_met : World → Placed → Bool
+is_met w n = w.met n
 
 -- The condition of a node, the expression with which its scope begins, holds over rules and what questions answer (33.2.5.7
 -- Expressions).
@@ -27,8 +32,16 @@ is_met_by rules answers n = holds (value rules answers (this_of n) (expression_t
 abbrev pub is_met_over : List Placed → StoreMap → Placed → Bool
 is_met_over ns stores n = is_met_by (rules_among ns) (answers ns stores) n
 
-abbrev pub is_met : World → Placed → Bool
-is_met w n = is_met_over w.nodes w.stores n
+-- the world of a form set and its stores
+abbrev pub world_over : List Placed → List ℕ → StoreMap → World
+world_over ns removed stores = record { nodes = ns; removed = removed; stores = stores; met = is_met_over ns stores }
+
+-- a world with other stores, where other conditions hold
+abbrev pub otherwise : World → StoreMap → (Placed → Bool) → World
+otherwise w stores met = record { nodes = w.nodes; removed = w.removed; stores = stores; met = met }
+
+abbrev pub no_stores : StoreMap
+no_stores = record { guid = []; stores = [] }
 
 -- the places of the DISABLE_IFs whose conditions hold over the stores at opening (33.3.8.3, EFI_IFR_DISABLE_IF: what stands in its
 -- scope is as if it were not there)

@@ -5,48 +5,45 @@ ghost use Rattle.std.specs.List.{find, list_any};
 ghost use Rattle.ifr_scopes.specs.Index.{guards_of_indexed, lock_of_indexed};
 ghost use Rattle.ifr_scopes.specs.Lists.{guard_node, guards_left};
 ghost use Rattle.ifr_scopes.specs.Nodes.{nodes_of};
-ghost use Rattle.hii_varstore.specs.Stores.{StoreMap};
 ghost use Rattle.guard_policy.specs.Effects.{acts};
 ghost use Rattle.guard_policy.specs.Policy as spec;
-ghost use Rattle.guard_policy.specs.Views.{world};
-ghost use Rattle.guard_policy.specs.World.{is_met};
+ghost use Rattle.guard_policy.specs.Views.{world, world_by};
+ghost use Rattle.guard_policy.specs.World.{no_stores};
 
-use crate::conditions::guard_holds;
+use crate::asked::AskedCondition;
+use crate::conditions::Verdicts;
 use crate::denial::Denial;
 use crate::effect::{Effect, hiding};
 use crate::policy::Policy;
 use hii_questions::DenialKind;
-use hii_varstore::Stores;
 use ifr_opcodes::{DISABLE_IF, GRAY_OUT_IF, SUPPRESS_IF};
 use ifr_scopes::{Guard, GuardsAt};
 
 impl<'a, 's> Policy<'a, 's> {
-    // Whether the condition of a guard holds.
-    fn guard_holds(&self, guard: Guard<'a>, stores: &Stores) -> bool
-        ensures { result ≡ is_met (world self.now stores.now) (guard_node guard.entry) }
-    {
-        guard_holds(guard, self.forms, self.questions, stores)
-    }
-
     // Whether a guard has an effect.
-    fn acts(&self, effect: Effect, guard: Guard<'a>, stores: &Stores) -> bool
-        ensures { result ≡ acts effect (world self.now stores.now) (guard_node guard.entry) }
+    fn acts<V: Verdicts<'a>>(&self, effect: Effect, guard: Guard<'a>, verdicts: &V) -> bool
+        ensures { result ≡ acts effect (world_by self.now (V.met verdicts.now)) (guard_node guard.entry) }
     {
         match (effect, guard.op().code) {
             (Effect::Hides, DISABLE_IF) => self.removed(guard.place()),
-            (Effect::Hides, SUPPRESS_IF) => self.guard_holds(guard, stores),
-            (Effect::GraysOut, GRAY_OUT_IF) => self.guard_holds(guard, stores),
+            (Effect::Hides, SUPPRESS_IF) => verdicts.is_met(AskedCondition::Guard(guard)),
+            (Effect::GraysOut, GRAY_OUT_IF) => verdicts.is_met(AskedCondition::Guard(guard)),
             _ => false,
         }
     }
 
     // The outermost guard with an effect on the form, statement or option at a place.
-    fn first_guard(&self, effect: Effect, place: u32, stores: &Stores) -> Option<Guard<'a>>
-        ensures { option_map guard_node result ≡ find (acts effect (world self.now stores.now)) (guards_of_indexed (nodes_of self.now.forms.now) place) }
+    fn first_guard<V: Verdicts<'a>>(
+        &self,
+        effect: Effect,
+        place: u32,
+        verdicts: &V,
+    ) -> Option<Guard<'a>>
+        ensures { option_map guard_node result ≡ find (acts effect (world_by self.now (V.met verdicts.now))) (guards_of_indexed (nodes_of self.now.forms.now) place) }
     {
         let mut guards = self.forms.guards_at(place);
         while let Some(guard) = guards.next() {
-            if self.acts(effect, guard, stores) {
+            if self.acts(effect, guard, verdicts) {
                 return Some(guard);
             }
         }
@@ -55,7 +52,7 @@ impl<'a, 's> Policy<'a, 's> {
 
     /// Whether one of some guards was removed.
     pub(crate) fn is_removed(&self, guards: GuardsAt<'_, 'a>) -> bool
-        ensures { (stores : StoreMap) → result ≡ list_any (spec.is_removed (world self.now stores)) (guards_left guards.entry) }
+        ensures { result ≡ list_any (spec.is_removed (world self.now no_stores)) (guards_left guards.entry) }
     {
         let mut guards = guards;
         while let Some(guard) = guards.next() {
@@ -67,21 +64,29 @@ impl<'a, 's> Policy<'a, 's> {
     }
 
     /// What is not hidden of the form, statement or option at a place.
-    pub(crate) fn unless_hidden(&self, place: u32, stores: &Stores) -> Result<(), Denial>
-        ensures { result ≡ spec.unless (spec.hidden_among (world self.now stores.now) (guards_of_indexed (nodes_of self.now.forms.now) place)) }
+    pub(crate) fn unless_hidden<V: Verdicts<'a>>(
+        &self,
+        place: u32,
+        verdicts: &V,
+    ) -> Result<(), Denial>
+        ensures { result ≡ spec.unless (spec.hidden_among (world_by self.now (V.met verdicts.now)) (guards_of_indexed (nodes_of self.now.forms.now) place)) }
     {
-        match self.first_guard(Effect::Hides, place, stores) {
+        match self.first_guard(Effect::Hides, place, verdicts) {
             Some(guard) => Err(hiding(guard)),
             None => Ok(()),
         }
     }
 
     /// What around the form, statement or option at a place lets it not be changed.
-    pub(crate) fn unless_covered(&self, place: u32, stores: &Stores) -> Result<(), Denial>
-        ensures { result ≡ spec.unless (spec.covered_by (world self.now stores.now) (guards_of_indexed (nodes_of self.now.forms.now) place) (lock_of_indexed (nodes_of self.now.forms.now) place)) }
+    pub(crate) fn unless_covered<V: Verdicts<'a>>(
+        &self,
+        place: u32,
+        verdicts: &V,
+    ) -> Result<(), Denial>
+        ensures { result ≡ spec.unless (spec.covered_by (world_by self.now (V.met verdicts.now)) (guards_of_indexed (nodes_of self.now.forms.now) place) (lock_of_indexed (nodes_of self.now.forms.now) place)) }
     {
-        self.unless_hidden(place, stores)?;
-        if let Some(guard) = self.first_guard(Effect::GraysOut, place, stores) {
+        self.unless_hidden(place, verdicts)?;
+        if let Some(guard) = self.first_guard(Effect::GraysOut, place, verdicts) {
             return Err(Denial::by(DenialKind::GrayOutIf, guard.place()));
         }
         match self.forms.lock_at(place) {

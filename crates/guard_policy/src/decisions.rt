@@ -1,14 +1,18 @@
 //! What a policy decides of forms, statements and options.
 
 ghost use Rattle.std.specs.Prelude.{◌≡◌};
+ghost use Rattle.hii_varstore.specs.Stores.{StoreMap};
 ghost use Rattle.ifr_scopes.specs.Checked.{IsNodeOf};
 ghost use Rattle.ifr_scopes.specs.Lists.{form_node, statement_node};
 ghost use Rattle.ifr_scopes.specs.Nodes.{nodes_of};
 ghost use Rattle.ifr_scopes.specs.Parts.{option_node};
 ghost use Rattle.hii_questions.specs.Views.{question_node, question_view};
 ghost use Rattle.guard_policy.specs.Policy as spec;
-ghost use Rattle.guard_policy.specs.Views.{world};
+ghost use Rattle.guard_policy.specs.Support.{DecidesBy, Tells, suppressing};
+ghost use Rattle.guard_policy.specs.Views.{world, world_by};
+ghost use Rattle.guard_policy.specs.declared.support.Decision.TheVariants.{Listed, Changeable, OptionOpen, Opens};
 
+use crate::conditions::{Conditions, Evaluated, Kept, Verdicts};
 use crate::denial::Denial;
 use crate::policy::Policy;
 use hii_questions::{DenialKind, Question};
@@ -41,6 +45,17 @@ fn fixed_question(question: Question<'_>) -> Result<(), Denial>
 }
 
 impl<'a, 's> Policy<'a, 's> {
+    /// Its conditions over some stores.
+    pub(crate) fn over<'p>(&self, stores: &'p Stores) -> Evaluated<'p, 'a, 's>
+        ensures policy { result.policy ≡ self.now }
+        ensures stores { result.stores.now ≡ stores.now }
+    {
+        Evaluated {
+            policy: *self,
+            stores,
+        }
+    }
+
     /// Whether a statement is seen: not where a DISABLE_IF around it was removed or a SUPPRESS_IF around it holds. The denial
     /// names the outermost such.
     pub fn listed(&self, statement: Statement<'a>, stores: &Stores) -> Result<(), Denial>
@@ -50,7 +65,22 @@ impl<'a, 's> Policy<'a, 's> {
         guards_and_locks_are_found();
         // The package is accepted.
         self.forms.bytes();
-        self.unless_hidden(statement.place(), stores)
+        self.unless_hidden(statement.place(), &self.over(stores))
+    }
+
+    /// The same by what is kept of conditions.
+    pub fn listed_by<C: Conditions>(
+        &self,
+        statement: Statement<'a>,
+        conditions: &C,
+    ) -> Result<(), Denial>
+        requires { IsNodeOf self.now.forms.now (statement_node statement) }
+        ensures { DecidesBy (C.holding conditions.now) (world self.now) (Listed statement.entry) result }
+    {
+        guards_and_locks_are_found();
+        // The package is accepted.
+        self.forms.bytes();
+        self.unless_hidden(statement.place(), &Kept { conditions })
     }
 
     /// Whether an option of a question is shown, by the same rule.
@@ -61,7 +91,22 @@ impl<'a, 's> Policy<'a, 's> {
         guards_and_locks_are_found();
         // The package is accepted.
         self.forms.bytes();
-        self.unless_hidden(option.place(), stores)
+        self.unless_hidden(option.place(), &self.over(stores))
+    }
+
+    /// The same by what is kept of conditions.
+    pub fn option_listed_by<C: Conditions>(
+        &self,
+        option: OptionView<'a>,
+        conditions: &C,
+    ) -> Result<(), Denial>
+        requires { IsNodeOf self.now.forms.now (option_node option) }
+        ensures { (stores : StoreMap) → Tells (C.holding conditions.now) (world self.now stores) (suppressing (option_node option.entry)) → result ≡ spec.unless (spec.hidden (world self.now stores) (option_node option.entry)) }
+    {
+        guards_and_locks_are_found();
+        // The package is accepted.
+        self.forms.bytes();
+        self.unless_hidden(option.place(), &Kept { conditions })
     }
 
     /// Whether a form is opened, by the same rule.
@@ -72,19 +117,34 @@ impl<'a, 's> Policy<'a, 's> {
         guards_and_locks_are_found();
         // The package is accepted.
         self.forms.bytes();
-        self.unless_hidden(form.place(), stores)
+        self.unless_hidden(form.place(), &self.over(stores))
     }
 
-    // Whether an option may be chosen, as far as it goes: not where it is not shown, a GRAY_OUT_IF around it holds or it is
-    // locked.
-    fn option_selectable(&self, option: OptionView<'a>, stores: &Stores) -> Result<(), Denial>
-        requires { IsNodeOf self.now.forms.now (option_node option) }
-        ensures { result ≡ spec.unless (spec.fixed (world self.now stores.now) (option_node option.entry)) }
+    /// The same by what is kept of conditions.
+    pub fn opens_by<C: Conditions>(&self, form: Form<'a>, conditions: &C) -> Result<(), Denial>
+        requires { IsNodeOf self.now.forms.now (form_node form) }
+        ensures { DecidesBy (C.holding conditions.now) (world self.now) (Opens form.entry) result }
     {
         guards_and_locks_are_found();
         // The package is accepted.
         self.forms.bytes();
-        self.unless_covered(option.place(), stores)
+        self.unless_hidden(form.place(), &Kept { conditions })
+    }
+
+    // Whether an option may be chosen, as far as it goes: not where it is not shown, a GRAY_OUT_IF around it holds or it is
+    // locked.
+    fn option_selectable<V: Verdicts<'a>>(
+        &self,
+        option: OptionView<'a>,
+        verdicts: &V,
+    ) -> Result<(), Denial>
+        requires { IsNodeOf self.now.forms.now (option_node option) }
+        ensures { result ≡ spec.unless (spec.fixed (world_by self.now (V.met verdicts.now)) (option_node option.entry)) }
+    {
+        guards_and_locks_are_found();
+        // The package is accepted.
+        self.forms.bytes();
+        self.unless_covered(option.place(), verdicts)
     }
 
     // Whether a statement forbids a change by itself.
@@ -98,6 +158,22 @@ impl<'a, 's> Policy<'a, 's> {
         }
     }
 
+    // Whether a statement may be changed, by conditions from anywhere.
+    fn changeable_with<V: Verdicts<'a>>(
+        &self,
+        statement: Statement<'a>,
+        verdicts: &V,
+    ) -> Result<(), Denial>
+        requires { IsNodeOf self.now.forms.now (statement_node statement) }
+        ensures { result ≡ spec.unless (spec.fixed (world_by self.now (V.met verdicts.now)) (statement_node statement.entry)) }
+    {
+        guards_and_locks_are_found();
+        // The package is accepted.
+        self.forms.bytes();
+        self.unless_covered(statement.place(), verdicts)?;
+        self.fixed_itself(statement)
+    }
+
     /// Whether a statement may be changed: not where it is not seen, a GRAY_OUT_IF around it holds, it is locked, it has the flag
     /// READ_ONLY as a question, or is a question without a field in a store, or a reference that leads to no form of this form
     /// set. The denial names the first of these that is so.
@@ -105,11 +181,47 @@ impl<'a, 's> Policy<'a, 's> {
         requires { IsNodeOf self.now.forms.now (statement_node statement) }
         ensures { result ≡ spec.unless (spec.fixed (world self.now stores.now) (statement_node statement.entry)) }
     {
-        guards_and_locks_are_found();
-        // The package is accepted.
+        self.changeable_with(statement, &self.over(stores))
+    }
+
+    /// The same by what is kept of conditions.
+    pub fn changeable_by<C: Conditions>(
+        &self,
+        statement: Statement<'a>,
+        conditions: &C,
+    ) -> Result<(), Denial>
+        requires { IsNodeOf self.now.forms.now (statement_node statement) }
+        ensures { DecidesBy (C.holding conditions.now) (world self.now) (Changeable statement.entry) result }
+    {
+        self.changeable_with(statement, &Kept { conditions })
+    }
+
+    // Whether a question may be given a value of its options, by conditions from anywhere.
+    fn option_open_with<V: Verdicts<'a>>(
+        &self,
+        question: Question<'a>,
+        value: u64,
+        verdicts: &V,
+    ) -> Result<(), Denial>
+        requires { IsNodeOf self.now.forms.now (question_node question) }
+        ensures { result ≡ spec.unless (spec.closed (world_by self.now (V.met verdicts.now)) (question_node question.entry) value) }
+    {
+        // The package is accepted: the options are nodes of it.
         self.forms.bytes();
-        self.unless_covered(statement.place(), stores)?;
-        self.fixed_itself(statement)
+        let mut first = None;
+        let mut options = question.statement().options();
+        while let Some(option) = options.next() {
+            if option.op().value() == value {
+                match self.option_selectable(option, verdicts) {
+                    Ok(()) => return Ok(()),
+                    Err(denial) => first = first.or(Some(denial)),
+                }
+            }
+        }
+        match first {
+            Some(denial) => Err(denial),
+            None => Ok(()),
+        }
     }
 
     /// Whether a question may be given a value of its options: not where all options of this value are fixed. The denial is
@@ -123,21 +235,19 @@ impl<'a, 's> Policy<'a, 's> {
         requires { IsNodeOf self.now.forms.now (question_node question) }
         ensures { result ≡ spec.unless (spec.closed (world self.now stores.now) (question_node question.entry) value) }
     {
-        // The package is accepted: the options are nodes of it.
-        self.forms.bytes();
-        let mut first = None;
-        let mut options = question.statement().options();
-        while let Some(option) = options.next() {
-            if option.op().value() == value {
-                match self.option_selectable(option, stores) {
-                    Ok(()) => return Ok(()),
-                    Err(denial) => first = first.or(Some(denial)),
-                }
-            }
-        }
-        match first {
-            Some(denial) => Err(denial),
-            None => Ok(()),
-        }
+        self.option_open_with(question, value, &self.over(stores))
+    }
+
+    /// The same by what is kept of conditions.
+    pub fn option_open_by<C: Conditions>(
+        &self,
+        question: Question<'a>,
+        value: u64,
+        conditions: &C,
+    ) -> Result<(), Denial>
+        requires { IsNodeOf self.now.forms.now (question_node question) }
+        ensures { DecidesBy (C.holding conditions.now) (world self.now) (OptionOpen question.entry value) result }
+    {
+        self.option_open_with(question, value, &Kept { conditions })
     }
 }

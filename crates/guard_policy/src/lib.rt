@@ -21,6 +21,7 @@ mod tests;
 mod values;
 mod warnings;
 
+pub use conditions::Conditions;
 pub use denial::Denial;
 pub use policy::Policy;
 pub use removed::Removed;

@@ -3,15 +3,16 @@ ghost use Rattle.std.specs.Prelude.{◌≡◌, ◌≤◌, ◌<◌, ◌^◌, leng
 ghost use Rattle.ifr_scopes.specs.Accepted.{IsAccepted};
 ghost use Rattle.ifr_scopes.specs.Checked.{IsNodeOf};
 ghost use Rattle.ifr_scopes.specs.Lists.{form_node};
+ghost use Rattle.ifr_scopes.specs.Parts.{option_node};
 ghost use Rattle.hii_questions.specs.Views.{question_node};
 
-use crate::{Decision, Denial, Policy, Removed, Warning};
+use crate::{Conditions, Decision, Denial, Policy, Removed, Warning};
 use hii_packages::{FORMS, Package};
 use hii_questions::laws::questions_of_ids_are_questions;
 use hii_questions::{DenialKind, Question, Questions};
 use hii_varstore::{Layout, Stores};
 use ifr_scopes::laws::a_node_is_that_of_its_place;
-use ifr_scopes::{Form, Forms};
+use ifr_scopes::{Form, Forms, OptionView};
 use std::alloc::Global;
 use std::process::Abort;
 use std::test::Fail;
@@ -96,6 +97,14 @@ fn question_of<'a>(questions: &Questions<'a>, id: u16) -> Option<Question<'a>>
     questions.find(id)
 }
 
+fn first_option<'a>(questions: &Questions<'a>, question: Question<'a>) -> Option<OptionView<'a>>
+    requires accepted { IsAccepted questions.now.ifr }
+    requires node { IsNodeOf questions.now.ifr (question_node question) }
+    ensures { IfSome result (λ option. IsNodeOf questions.now.ifr (option_node option)) }
+{
+    question.statement().options().next()
+}
+
 fn denial(kind: DenialKind, place: u32) -> Result<(), Denial> {
     Err(Denial {
         kind,
@@ -175,6 +184,55 @@ fn values_are_denied<'a>(
     assert_eq!(rt; warnings.next(), None);
 }
 
+// All conditions hold, or none.
+#[derive(Drop)]
+struct All {
+    hold: bool,
+}
+
+impl Conditions for All {
+    ghost holding = { λ all _. all.hold };
+
+    fn holds(&self, _place: u32) -> bool {
+        self.hold
+    }
+}
+
+fn kept_conditions_decide<'a>(
+    rt: &impl Abort,
+    policy: Policy<'a, '_>,
+    questions: &Questions<'a>,
+    form: Form<'a>,
+)
+    requires accepted { IsAccepted questions.now.ifr }
+    requires together { bytes_of policy ≡ questions.now.ifr }
+    requires node { IsNodeOf questions.now.ifr (form_node form) }
+{
+    let suppressed = denial(DenialKind::SuppressIf, 51);
+    let unsubmitted = Denial {
+        kind: DenialKind::NoSubmitIf,
+        place: 91,
+        message: 5,
+    };
+    for (hold, seen, changeable, submitted) in [
+        (false, Ok(()), denial(DenialKind::ReadOnly, 118), Ok(())),
+        (true, suppressed, suppressed, Err(unsubmitted)),
+    ] {
+        let all = All { hold };
+        assert_eq!(rt; policy.opens_by(form, &all), seen);
+        assert_eq!(rt; policy.may_submit_by(&all), submitted);
+        let statement = question_of(questions, 8)
+            .expect(rt, "a question")
+            .statement();
+        assert_eq!(rt; policy.listed_by(statement, &all), seen);
+        assert_eq!(rt; policy.changeable_by(statement, &all), changeable);
+        let choice = question_of(questions, 5).expect(rt, "a question");
+        assert_eq!(rt; policy.option_open_by(choice, 1, &all), seen);
+        let option = first_option(questions, choice).expect(rt, "an option");
+        assert_eq!(rt; policy.option_listed_by(option, &all), seen);
+    }
+}
+
 fn decisions_depend_on_questions<'a>(
     rt: &impl Abort,
     policy: Policy<'a, '_>,
@@ -212,6 +270,7 @@ fn policy_decides<'a, R: Abort>(
     assert_eq!(rt; policy.opens(form, stores), Ok(()));
     statements_are_denied(rt, policy, questions, stores);
     values_are_denied(rt, policy, questions, stores);
+    kept_conditions_decide(rt, policy, questions, form);
     decisions_depend_on_questions(rt, policy, questions);
 }
 

@@ -2,20 +2,24 @@
 
 ghost use Rattle.std.specs.Prelude.{◌≡◌, map, option_map};
 ghost use Rattle.std.specs.List.{find};
+ghost use Rattle.ifr_scopes.specs.NoSubmitsLeft.{no_submit_node};
 ghost use Rattle.ifr_scopes.specs.Parts.{condition_node, conditions_left};
 ghost use Rattle.hii_questions.specs.Views.{question_node};
 ghost use Rattle.guard_policy.specs.Policy as spec;
-ghost use Rattle.guard_policy.specs.Views.{world};
+ghost use Rattle.guard_policy.specs.Support.{DecidesBy};
+ghost use Rattle.guard_policy.specs.Views.{world, world_by};
 ghost use Rattle.guard_policy.specs.Warned.{warning_of, warnings_left};
 ghost use Rattle.guard_policy.specs.World.{is_met};
+ghost use Rattle.guard_policy.specs.declared.support.Decision.TheVariants.{MaySubmit};
 
-use crate::conditions::condition_holds;
+use crate::asked::AskedCondition;
+use crate::conditions::{Conditions, Kept, Verdicts, condition_holds};
 use crate::denial::Denial;
 use crate::policy::Policy;
 use crate::warnings::Warnings;
 use hii_questions::{DenialKind, Question};
 use hii_varstore::Stores;
-use ifr_scopes::{ConditionView, ConditionViews};
+use ifr_scopes::{ConditionView, ConditionViews, NoSubmit};
 
 impl<'a, 's> Policy<'a, 's> {
     /// Whether a condition of a question holds.
@@ -53,19 +57,41 @@ impl<'a, 's> Policy<'a, 's> {
         }
     }
 
+    // Whether a condition denies a submission: it holds, and no DISABLE_IF around it was removed.
+    fn denies<V: Verdicts<'a>>(&self, nosubmit: NoSubmit<'_, 'a>, verdicts: &V) -> bool
+        ensures { result ≡ spec.denies_submission (world_by self.now (V.met verdicts.now)) (no_submit_node nosubmit.entry) }
+    {
+        let condition = AskedCondition::Question(nosubmit.condition);
+        !self.is_removed(nosubmit.guards) && verdicts.is_met(condition)
+    }
+
+    // Whether stores may be submitted, by conditions from anywhere.
+    fn may_submit_with<V: Verdicts<'a>>(&self, verdicts: &V) -> Result<(), Denial>
+        ensures { result ≡ spec.unless (spec.unsubmitted (world_by self.now (V.met verdicts.now))) }
+    {
+        let mut conditions = self.forms.nosubmits();
+        while let Some(nosubmit) = conditions.next() {
+            let condition = nosubmit.condition;
+            if self.denies(nosubmit, verdicts) {
+                return Err(Denial::telling(DenialKind::NoSubmitIf, condition));
+            }
+        }
+        Ok(())
+    }
+
     /// Whether the stores may be submitted: no NO_SUBMIT_IF holds, but those in the scope of a removed DISABLE_IF. The denial
     /// names the first by place, and its text.
     pub fn may_submit(&self, stores: &Stores) -> Result<(), Denial>
         ensures { result ≡ spec.unless (spec.unsubmitted (world self.now stores.now)) }
     {
-        let mut conditions = self.forms.nosubmits();
-        while let Some(nosubmit) = conditions.next() {
-            let condition = nosubmit.condition;
-            if !self.is_removed(nosubmit.guards) && self.condition_holds(condition, stores) {
-                return Err(Denial::telling(DenialKind::NoSubmitIf, condition));
-            }
-        }
-        Ok(())
+        self.may_submit_with(&self.over(stores))
+    }
+
+    /// The same by what is kept of conditions.
+    pub fn may_submit_by<C: Conditions>(&self, conditions: &C) -> Result<(), Denial>
+        ensures { DecidesBy (C.holding conditions.now) (world self.now) MaySubmit result }
+    {
+        self.may_submit_with(&Kept { conditions })
     }
 
     /// Of what a question warns over these stores: the WARNING_IFs of it that hold, by place.

@@ -13,4 +13,4 @@ returns c =
     let forms = c.args.self.now.forms.now in
     let n = statement_node c.args.statement in
     let found = c.guards_and_locks_are_found.ensures.guards forms n c.bytes.ensures.accepted c.requires (of_statement n c.args.statement.statement) in
-    c.unless_hidden.ensures ∙ ap (λ (gs : List Placed). unless (hidden_among (world c.args.self.now c.args.stores.now) gs)) (ap (guards_of_indexed (nodes_of forms)) c.place.ensures ∙ found)
+    (rw (c.over.ensures.policy, c.over.ensures.stores) at c.unless_hidden.ensures) ∙ ap (λ (gs : List Placed). unless (hidden_among (world c.args.self.now c.args.stores.now) gs)) (ap (guards_of_indexed (nodes_of forms)) c.place.ensures ∙ found)

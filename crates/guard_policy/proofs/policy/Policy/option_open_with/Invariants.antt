@@ -5,17 +5,17 @@ use Rattle.ifr_scopes.specs.Checked.{AreNodesOf}
 use Rattle.ifr_scopes.specs.Parts.{options_left}
 use Rattle.hii_questions.specs.Views.{question_node}
 use Rattle.guard_policy.specs.Policy.{closed}
-use Rattle.guard_policy.specs.Views.{world}
+use Rattle.guard_policy.specs.Views.{world_by}
 use Rattle.guard_policy.proofs.ClosedLemmas.{standing}
-use Rattle.guard_policy.proofs.policy.Policy.option_open.Given as goal
+use Rattle.guard_policy.proofs.policy.Policy.option_open_with.Given as goal
 
 -- the options of the value that were met are all fixed, the first of them by what is held
 abbrev pub invariant-loop-option : goal.invariant-loop-option
-invariant-loop-option l =
-    let w = world l.self l.stores in
+invariant-loop-option g l =
+    let w = world_by l.self (g.V.Verdicts.met l.verdicts) in
     record {
-      can : goal.iterator-loop-option.can_next l.options;
-      ends : goal.iterator-loop-option.is_finite l.options;
+      can : (goal.iterator-loop-option g).can_next l.options;
+      ends : (goal.iterator-loop-option g).is_finite l.options;
       nodes : AreNodesOf l.self.forms.now (options_left l.options);
       same : standing w l.first (filter (λ o. option_value o.op == l.value) (options_left l.options)) ≡ closed w (question_node l.question) l.value;
     }
