@@ -3,6 +3,7 @@ use hii_bytes::{Cause, Fault};
 use hii_packages::PackageList;
 use sibt_strings::Units;
 use std::alloc::{AllocError, Global};
+use std::process::Abort;
 use std::test::Fail;
 
 // Adds a string package of this length, with a language and blocks.
@@ -43,138 +44,181 @@ const FRENCH: &[u8] = b"\x14F\0\0\0\x22\x01\x14\0\0\0";
 // The ids 1 to 4 are nothing, E, nothing and U+D800, U+FFF1 and a tab.
 const ENGLISH: &[u8] = b"\x22\x01\x14E\0\0\0\x22\x01\x14\0\xd8\xf1\xff\t\0\0\0\0";
 
-#[test]
-fn languages_of_a_list(rt: HostRuntime) -> Result<(), Fail> {
-    let list = list_of(
-        rt.alloc(),
-        &[(b"fr".as_slice(), FRENCH), (b"en-US".as_slice(), ENGLISH)],
-    )?;
-    let list = PackageList::read(list.as_slice())?;
-    let languages = Languages::read(rt.alloc(), &list)?;
-    let cases = [
-        (b"fr".as_slice(), 0),
-        (b"FR-ca", 0),
-        (b"en-US", 1),
-        (b"EN-us", 1),
-        (b"en", 1),
-        (b"en-GB-oed", 1),
-        (b"en_US", 0),
-        (b"de", 0),
-        (b"", 0),
-        (b"-", 0),
-    ];
+// The languages of a list.
+fn languages_of<'a>(alloc: Global, list: &'a [u8]) -> Result<Languages<'a>, Fault> {
+    Languages::read(alloc, &PackageList::read(list)?)
+}
+
+// Each language chooses the package of its number.
+fn packages_are_chosen<R: Abort + AllocGlobal>(
+    rt: &R,
+    packages: &[(&[u8], &[u8])],
+    cases: &[(&[u8], Option<usize>)],
+) -> Result<(), Fail> {
+    let list = list_of(rt.alloc(), packages)?;
+    let languages = languages_of(rt.alloc(), list.as_slice())?;
     for (language, number) in cases {
         let chosen = languages.choose(language);
-        assert_eq!(rt;
-            chosen,
-            Choice {
-                number: Some(number)
-            },
-            "at {language:?}"
-        );
+        assert!(rt; chosen.number == *number, "at {language:?}");
     }
     Ok(())
 }
 
+static FRENCH_AND_ENGLISH: [(&[u8], &[u8]); 2] = [(b"fr", FRENCH), (b"en-US", ENGLISH)];
+
+static CHOICES: [(&[u8], Option<usize>); 10] = [
+    (b"fr", Some(0)),
+    (b"FR-ca", Some(0)),
+    (b"en-US", Some(1)),
+    (b"EN-us", Some(1)),
+    (b"en", Some(1)),
+    (b"en-GB-oed", Some(1)),
+    (b"en_US", Some(0)),
+    (b"de", Some(0)),
+    (b"", Some(0)),
+    (b"-", Some(0)),
+];
+
+#[test]
+fn languages_of_a_list(rt: HostRuntime) -> Result<(), Fail> {
+    packages_are_chosen(&rt, &FRENCH_AND_ENGLISH, &CHOICES)
+}
+
+static LIKE_ENGLISH: [(&[u8], &[u8]); 4] = [
+    (b"en-GB", b"\0"),
+    (b"en", b"\0"),
+    (b"-x", b"\0"),
+    (b"", b"\0"),
+];
+
 // Equality comes before the primary subtag, and two empty primary subtags are equal.
+static CHOICES_BY_SUBTAG: [(&[u8], Option<usize>); 5] = [
+    (b"en", Some(1)),
+    (b"en-US", Some(0)),
+    (b"", Some(3)),
+    (b"-", Some(2)),
+    (b"-X", Some(2)),
+];
+
 #[test]
 fn subtags(rt: HostRuntime) -> Result<(), Fail> {
-    let empty = b"\0".as_slice();
-    let packages = [
-        (b"en-GB".as_slice(), empty),
-        (b"en".as_slice(), empty),
-        (b"-x".as_slice(), empty),
-        (b"".as_slice(), empty),
-    ];
-    let list = list_of(rt.alloc(), &packages)?;
-    let list = PackageList::read(list.as_slice())?;
-    let languages = Languages::read(rt.alloc(), &list)?;
-    let cases = [
-        (b"en".as_slice(), 1),
-        (b"en-US", 0),
-        (b"", 3),
-        (b"-", 2),
-        (b"-X", 2),
-    ];
-    for (language, number) in cases {
-        let chosen = languages.choose(language);
-        assert_eq!(rt;
-            chosen,
-            Choice {
-                number: Some(number)
-            },
-            "at {language:?}"
-        );
+    packages_are_chosen(&rt, &LIKE_ENGLISH, &CHOICES_BY_SUBTAG)
+}
+
+#[test]
+fn choice_of_no_package(rt: HostRuntime) -> Result<(), Fail> {
+    packages_are_chosen(&rt, &[], &[(b"en", None)])
+}
+
+// Whether this text of the list is shown, or where there is none the id.
+fn is_shown(shown: Shown<'_>, id: u16, text: Option<&[u8]>) -> bool {
+    match (shown, text) {
+        (Shown::Units(units), Some(text)) => units.bytes == text,
+        (Shown::Missing(missing), None) => missing == id,
+        _ => false,
     }
-    let none = list_of(rt.alloc(), &[])?;
-    let none = PackageList::read(none.as_slice())?;
-    let languages = Languages::read(rt.alloc(), &none)?;
-    let chosen = languages.choose(b"en");
-    assert_eq!(rt; chosen, Choice { number: None });
-    assert_eq!(rt; languages.text(chosen, 0), Shown::Nothing);
-    assert_eq!(rt; languages.text(chosen, 1), Shown::Missing(1));
+}
+
+// These ids have these texts, or none, in a choice.
+fn choice_shows(
+    rt: &impl Abort,
+    languages: &Languages<'_>,
+    choice: Choice,
+    texts: &[(u16, Option<&[u8]>)],
+) {
+    assert!(rt; languages.text(choice, 0) == Shown::Nothing);
+    for (id, text) in texts {
+        let shown = languages.text(choice, *id);
+        assert!(rt; is_shown(shown, *id, *text), "at {id}");
+    }
+}
+
+// The same of the choice for a language.
+fn texts_are_shown<R: Abort + AllocGlobal>(
+    rt: &R,
+    packages: &[(&[u8], &[u8])],
+    language: &[u8],
+    texts: &[(u16, Option<&[u8]>)],
+) -> Result<(), Fail> {
+    let list = list_of(rt.alloc(), packages)?;
+    let languages = languages_of(rt.alloc(), list.as_slice())?;
+    choice_shows(rt, &languages, languages.choose(language), texts);
     Ok(())
 }
+
+static FRENCH_TEXTS: [(u16, Option<&[u8]>); 2] = [(2, None), (4, None)];
+
+#[test]
+fn texts_of_the_first_package(rt: HostRuntime) -> Result<(), Fail> {
+    texts_are_shown(&rt, &FRENCH_AND_ENGLISH, b"fr", &FRENCH_TEXTS)
+}
+
+static ENGLISH_TEXTS: [(u16, Option<&[u8]>); 4] = [
+    (1, Some(b"F\0")),
+    (2, Some(b"E\0")),
+    (3, Some(b"")),
+    (65535, None),
+];
 
 #[test]
 fn texts_of_a_choice(rt: HostRuntime) -> Result<(), Fail> {
-    let list = list_of(
-        rt.alloc(),
-        &[(b"fr".as_slice(), FRENCH), (b"en-US".as_slice(), ENGLISH)],
-    )?;
-    let list = PackageList::read(list.as_slice())?;
-    let languages = Languages::read(rt.alloc(), &list)?;
-    let french = languages.choose(b"fr");
-    let english = languages.choose(b"en");
-    let text = |bytes| Shown::Units(Units::new(bytes));
-    assert_eq!(rt; languages.text(english, 0), Shown::Nothing);
-    assert_eq!(rt; languages.text(english, 1), text(b"F\0"));
-    assert_eq!(rt; languages.text(english, 2), text(b"E\0"));
-    assert_eq!(rt; languages.text(french, 2), Shown::Missing(2));
-    assert_eq!(rt; languages.text(english, 3), text(b""));
-    assert_eq!(rt; languages.text(french, 4), Shown::Missing(4));
-    assert_eq!(rt; languages.text(english, 65535), Shown::Missing(65535));
-    Ok(())
+    texts_are_shown(&rt, &FRENCH_AND_ENGLISH, b"en", &ENGLISH_TEXTS)
+}
+
+#[test]
+fn texts_of_no_package(rt: HostRuntime) -> Result<(), Fail> {
+    texts_are_shown(&rt, &[], b"en", &[(1, None)])
+}
+
+fn has_characters(rt: &impl Abort, shown: Shown<'_>, wanted: &[char]) {
+    let mut chars = shown.chars();
+    for c in wanted {
+        assert!(rt; chars.next() == Some(*c));
+    }
+    assert!(rt; chars.next().is_none());
+    assert!(rt; chars.next().is_none());
 }
 
 #[test]
 fn characters(rt: HostRuntime) {
-    assert_eq!(rt; Shown::Nothing.chars().next(), None);
     let units = Units::new(b"\0\xd8\xf1\xff\t\0");
-    let mut chars = Shown::Units(units).chars();
-    for c in ['\u{fffd}', ' '] {
-        assert_eq!(rt; chars.next(), Some(c));
-    }
-    assert_eq!(rt; chars.next(), None);
-    let mut chars = Shown::Missing(65535).chars();
-    for c in ['#', '6', '5', '5', '3', '5'] {
-        assert_eq!(rt; chars.next(), Some(c));
-    }
-    assert_eq!(rt; chars.next(), None);
-    assert_eq!(rt; chars.next(), None);
+    has_characters(&rt, Shown::Nothing, &[]);
+    has_characters(&rt, Shown::Units(units), &['\u{fffd}', ' ']);
+    has_characters(&rt, Shown::Missing(65535), &['#', '6', '5', '5', '3', '5']);
 }
 
+fn fault_of(alloc: Global, packages: &[(&[u8], &[u8])]) -> Result<Option<Fault>, Fail> {
+    let list = list_of(alloc, packages)?;
+    let list = PackageList::read(list.as_slice())?;
+    laws::packages_without_fault_speak(&list);
+    Ok(Languages::read(alloc, &list).err())
+}
+
+const SOUND: (&[u8], &[u8]) = (b"fr", FRENCH);
+
+const CUT: (&[u8], &[u8]) = (b"en", b"\x14A\0");
+
+const UNKNOWN: (&[u8], &[u8]) = (b"de", b"\x10\0");
+
 // The fault of the first package that has one is told, wherever the others have theirs.
+static FAULTS: [(&[(&[u8], &[u8])], Option<(Cause, u64)>); 4] = [
+    (&[SOUND, SOUND], None),
+    (&[SOUND, CUT], Some((Cause::StringText, 134))),
+    (&[CUT, UNKNOWN], Some((Cause::StringText, 69))),
+    (&[UNKNOWN, CUT], Some((Cause::StringBlock, 69))),
+];
+
 #[test]
 fn faults(rt: HostRuntime) -> Result<(), Fail> {
-    let sound = (b"fr".as_slice(), FRENCH);
-    let cut = (b"en".as_slice(), b"\x14A\0".as_slice());
-    let unknown = (b"de".as_slice(), b"\x10\0".as_slice());
-    let cases = [
-        ([sound, sound], None),
-        ([sound, cut], Some((Cause::StringText, 134))),
-        ([cut, unknown], Some((Cause::StringText, 69))),
-        ([unknown, cut], Some((Cause::StringBlock, 69))),
-    ];
-    for (packages, fault) in cases {
-        let list = list_of(rt.alloc(), &packages)?;
-        let list = PackageList::read(list.as_slice())?;
-        let told = Languages::read(rt.alloc(), &list).err();
-        let wanted = fault.map(|(cause, place)| Fault { cause, place });
-        assert_eq!(rt; told, wanted);
-        laws::packages_without_fault_speak(&list);
+    for (packages, wanted) in &FAULTS {
+        let fault = fault_of(rt.alloc(), packages)?;
+        assert!(rt; fault.map(|fault| (fault.cause, fault.place)) == *wanted);
     }
+    Ok(())
+}
+
+#[test]
+fn laws_are_called() {
     laws::packages_say_one_thing();
     laws::packages_that_speak_have_no_fault();
-    Ok(())
 }

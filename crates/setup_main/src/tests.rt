@@ -2,8 +2,10 @@
 
 use crate::read_whole::{FILE_LIMIT, ReadError, read_whole};
 use crate::serve::{Ended, Given, serve};
+use std::alloc::Global;
 use std::io;
 use std::io::{ErrorKind, Read};
+use std::process::Abort;
 use std::test::Fail;
 
 /// A list with a forms package of one form, which has a checkbox over the first byte of a store of two bytes.
@@ -18,19 +20,28 @@ const LIST: &[u8] = b"\x11\x11\x11\x11\x11\x11\x11\x11\x11\x11\x11\x11\x11\x11\x
 
 const STORES: &[u8] = b"HVS1\x01\0\x01\0\x02\0\0\0";
 
-const SCRIPT: &[u8] = b"page\nset 1 1\nsubmit\n";
+// A script, what is answered to it and the image that it leaves, of which proofs know nothing.
 
-const ANSWERS: &[u8] =
-    b"FORM 1 #2\n  1 *     1 #3                       [ ]\nOK\nOK 1\nCHANGED 1\n";
+fn script() -> &'static [u8] {
+    b"page\nset 1 1\nsubmit\n"
+}
 
-const IMAGE: &[u8] = b"HVS2\"\"\"\"\"\"\"\"\"\"\"\"\"\"\"\"\x01\0\x01\0\x02\0\x01\0";
+fn answers() -> &'static [u8] {
+    b"FORM 1 #2\n  1 *     1 #3                       [ ]\nOK\nOK 1\nCHANGED 1\n"
+}
 
-const GIVEN: Given<'static> = Given {
-    list: LIST,
-    forms: 1,
-    stores: STORES,
-    lang: b"en-US",
-};
+fn image() -> &'static [u8] {
+    b"HVS2\"\"\"\"\"\"\"\"\"\"\"\"\"\"\"\"\x01\0\x01\0\x02\0\x01\0"
+}
+
+fn given() -> Given<'static> {
+    Given {
+        list: LIST,
+        forms: 1,
+        stores: STORES,
+        lang: b"en-US",
+    }
+}
 
 /// Gives so many zero bytes, and then errs.
 #[derive(Drop)]
@@ -50,109 +61,137 @@ impl Read for Broken {
     }
 }
 
-#[test]
-fn a_run_leaves_answers_and_an_image(rt: HostRuntime) -> Result<(), Fail> {
-    for (given, script, ended, answered, written) in [
-        (GIVEN, SCRIPT, Ended::Done, ANSWERS, IMAGE),
-        (
-            GIVEN,
-            b"".as_slice(),
-            Ended::Done,
-            b"".as_slice(),
-            b"HVS2\"\"\"\"\"\"\"\"\"\"\"\"\"\"\"\"\x01\0\x01\0\x02\0\0\0".as_slice(),
-        ),
-        (
-            Given { list: b"", ..GIVEN },
-            SCRIPT,
-            Ended::Refused,
-            b"REFUSED 1 ListShort at 00000000\n".as_slice(),
-            b"".as_slice(),
-        ),
-    ] {
-        let mut answers = Vec::new(rt.alloc());
-        let mut out = Vec::new(rt.alloc());
-        let mut reader = script;
-        assert_eq!(rt;
-            serve(rt.alloc(), given, &mut reader, &mut answers, &mut out),
-            ended
-        );
-        assert_eq!(rt; answers.as_slice(), answered);
-        assert_eq!(rt; out.as_slice(), written);
-    }
-    Ok(())
-}
-
-#[test]
-fn writers_may_be_too_short(rt: HostRuntime) -> Result<(), Fail> {
-    for room in 0..ANSWERS.len() {
-        let mut answers = [0u8; 100];
-        let mut out = Vec::new(rt.alloc());
-        let mut reader = SCRIPT;
-        let ended = serve(
-            rt.alloc(),
-            GIVEN,
-            &mut reader,
-            &mut &mut answers[..room],
-            &mut out,
-        );
-        assert_eq!(rt; ended, Ended::WriteAnswers);
-        assert!(rt; answers[..room] == ANSWERS[..room], "at {room}");
-        assert!(rt; out.is_empty());
-    }
-    for room in 0..IMAGE.len() {
-        let mut answers = Vec::new(rt.alloc());
-        let mut out = [0u8; 100];
-        let mut reader = SCRIPT;
-        let ended = serve(
-            rt.alloc(),
-            GIVEN,
-            &mut reader,
-            &mut answers,
-            &mut &mut out[..room],
-        );
-        assert_eq!(rt; ended, Ended::WriteOut);
-        assert_eq!(rt; answers.as_slice(), ANSWERS);
-        assert!(rt; out[..room] == IMAGE[..room], "at {room}");
-    }
-    Ok(())
-}
-
-#[test]
-fn a_script_may_fail_or_be_too_long(rt: HostRuntime) -> Result<(), Fail> {
+// A run ends so, with these answers and this image, where its writers take all.
+fn leaves<R: Abort + AllocGlobal>(
+    rt: &R,
+    given: Given<'_>,
+    script: &mut impl Read,
+    ended: Ended,
+    answered: &[u8],
+    written: &[u8],
+) {
     let mut answers = Vec::new(rt.alloc());
     let mut out = Vec::new(rt.alloc());
+    assert!(rt; serve(rt.alloc(), given, script, &mut answers, &mut out) == ended);
+    assert!(rt; answers.as_slice() == answered);
+    assert!(rt; out.as_slice() == written);
+}
+
+#[test]
+fn a_run_leaves_answers_and_an_image(rt: HostRuntime) {
+    let mut reader = script();
+    leaves(&rt, given(), &mut reader, Ended::Done, answers(), image());
+}
+
+#[test]
+fn an_empty_script_leaves_the_image(rt: HostRuntime) {
+    let mut reader = b"".as_slice();
+    let written = b"HVS2\"\"\"\"\"\"\"\"\"\"\"\"\"\"\"\"\x01\0\x01\0\x02\0\0\0";
+    leaves(&rt, given(), &mut reader, Ended::Done, b"", written);
+}
+
+#[test]
+fn a_refused_list_leaves_no_image(rt: HostRuntime) {
+    let mut reader = script();
+    let refused = Given {
+        list: b"",
+        ..given()
+    };
+    let answered = b"REFUSED 1 ListShort at 00000000\n";
+    leaves(&rt, refused, &mut reader, Ended::Refused, answered, b"");
+}
+
+#[test]
+fn a_script_may_fail(rt: HostRuntime) {
     let mut broken = Broken { left: 0 };
-    let ended = serve(rt.alloc(), GIVEN, &mut broken, &mut answers, &mut out);
-    assert_eq!(rt; ended, Ended::ReadScript);
-    assert!(rt; answers.is_empty());
+    leaves(&rt, given(), &mut broken, Ended::ReadScript, b"", b"");
+}
+
+#[test]
+fn a_script_may_be_too_long(rt: HostRuntime) -> Result<(), Fail> {
     let long = vec![in rt.alloc(); b'\n'; 1_048_577]?;
     let mut reader = long.as_slice();
-    let ended = serve(rt.alloc(), GIVEN, &mut reader, &mut answers, &mut out);
-    assert_eq!(rt; ended, Ended::Refused);
-    assert_eq!(rt;
-        answers.as_slice(),
-        b"REFUSED 72 ScriptTooLong\n".as_slice()
+    let answered = b"REFUSED 72 ScriptTooLong\n";
+    leaves(&rt, given(), &mut reader, Ended::Refused, answered, b"");
+    Ok(())
+}
+
+// A run stops at a writer of answers that has only so much room.
+fn answers_stop_at<R: Abort + AllocGlobal>(rt: &R, room: usize) -> Result<(), Fail> {
+    let mut taken = vec![in rt.alloc(); 0u8; room]?;
+    let mut out = Vec::new(rt.alloc());
+    let mut reader = script();
+    let ended = serve(
+        rt.alloc(),
+        given(),
+        &mut reader,
+        &mut taken.as_mut_slice(),
+        &mut out,
+    );
+    assert!(rt; ended == Ended::WriteAnswers);
+    assert!(rt;
+        Some(taken.as_slice()) == answers().get(..room),
+        "at {room}"
     );
     assert!(rt; out.is_empty());
     Ok(())
 }
 
 #[test]
+fn writers_of_answers_may_be_too_short(rt: HostRuntime) -> Result<(), Fail> {
+    for room in 0..answers().len() {
+        answers_stop_at(&rt, room)?;
+    }
+    Ok(())
+}
+
+// A run stops at a writer of images that has only so much room.
+fn image_stops_at<R: Abort + AllocGlobal>(rt: &R, room: usize) -> Result<(), Fail> {
+    let mut answered = Vec::new(rt.alloc());
+    let mut taken = vec![in rt.alloc(); 0u8; room]?;
+    let mut reader = script();
+    let ended = serve(
+        rt.alloc(),
+        given(),
+        &mut reader,
+        &mut answered,
+        &mut taken.as_mut_slice(),
+    );
+    assert!(rt; ended == Ended::WriteOut);
+    assert!(rt; answered.as_slice() == answers());
+    assert!(rt; Some(taken.as_slice()) == image().get(..room), "at {room}");
+    Ok(())
+}
+
+#[test]
+fn writers_of_images_may_be_too_short(rt: HostRuntime) -> Result<(), Fail> {
+    for room in 0..image().len() {
+        image_stops_at(&rt, room)?;
+    }
+    Ok(())
+}
+
+// How many bytes are read of a file of so many bytes.
+fn read_of(alloc: Global, length: usize) -> Result<Result<usize, ReadError>, Fail> {
+    let bytes = vec![in alloc; b'x'; length]?;
+    let mut reader = bytes.as_slice();
+    Ok(match read_whole(alloc, &mut reader) {
+        Ok(whole) => Ok(whole.len()),
+        Err(error) => Err(error),
+    })
+}
+
+#[test]
 fn files_of_the_greatest_length(rt: HostRuntime) -> Result<(), Fail> {
     let limit = FILE_LIMIT as usize;
-    let bytes = vec![in rt.alloc(); b'x'; limit + 1]?;
-    let mut reader = bytes.get(..limit).unwrap_or(b"");
-    let whole = read_whole(rt.alloc(), &mut reader);
-    assert_eq!(rt; whole.map(|bytes| bytes.len()).ok(), Some(limit));
-    let mut reader = bytes.as_slice();
-    assert_eq!(rt;
-        read_whole(rt.alloc(), &mut reader).err(),
-        Some(ReadError::TooLong)
-    );
-    let mut broken = Broken { left: 10 };
-    assert_eq!(rt;
-        read_whole(rt.alloc(), &mut broken).err(),
-        Some(ReadError::Fault)
-    );
+    assert!(rt; read_of(rt.alloc(), limit)? == Ok(limit));
+    assert!(rt; read_of(rt.alloc(), limit + 1)? == Err(ReadError::TooLong));
     Ok(())
+}
+
+#[test]
+fn a_file_may_fail(rt: HostRuntime) {
+    let mut broken = Broken { left: 10 };
+    let error = read_whole(rt.alloc(), &mut broken).err();
+    assert!(rt; error == Some(ReadError::Fault));
 }
