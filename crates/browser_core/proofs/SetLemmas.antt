@@ -15,7 +15,6 @@ use Rattle.hii_questions.specs.Fields.{Asked, asked, field_of, question_with}
 use Rattle.hii_questions.specs.Fits.{fits}
 use Rattle.hii_questions.specs.Inputs.{Offer}
 use Rattle.hii_questions.specs.NewBytes.{new_bytes}
-use Rattle.hii_questions.specs.declared.denial.DenialKind.{DenialKind}
 use Rattle.hii_questions.specs.declared.field.Field.{Field}
 use Rattle.hii_questions.proofs.LawLemmas.{finds_questions, found_fits}
 use Rattle.hii_questions.specs.Views.{question_node, question_view}
@@ -78,10 +77,6 @@ pub takes : (s : State) (id : ℕ) (offer : Offer) (q : Asked) (new : Field) →
 takes s id offer q new browsable laid is free fit field =
     let within = found_fits (nodes_of s.ifr) id q.node (range_of new) browsable.questions is.named field in
     (subst (λ (shape : Shape). HasRange shape new.store new.offset new.width) (sym laid) within, rw (is.named, free, fit, field) refl)
-
-pub takes_nothing : (s : State) (id : ℕ) (offer : Offer) (q : Asked) (why : DenialKind) → IsQuestionOf s.ifr id q → fixed (world_of s) q.node ≡ None
-    → fits (nodes_of s.ifr) q.node offer ≡ Err why → set_question s (question_with (nodes_of s.ifr) id) offer ≡ denied s record { kind = why; place = q.node.place; message = 0 }
-takes_nothing s id offer q why is free misfit = rw (is.named, free, misfit) refl
 
 -- ---- whether it may have the value
 

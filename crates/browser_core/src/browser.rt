@@ -164,12 +164,16 @@ impl<'a> Core<'a> {
     fn put_page<W: Write>(&self, out: &mut Watched<W>)
         ensures { Writes (pen_of W.contents out.old) (pen_of W.contents out.new) (show_page self.now).text }
     {
+        let policy = self.policy();
+        let conditions = policy.over(&self.working);
         let page = Page::new(
             self.form,
-            self.policy(),
+            policy,
+            &self.questions,
             &self.working,
             &self.languages,
             self.language,
+            &conditions,
         );
         page.put_page(out);
     }

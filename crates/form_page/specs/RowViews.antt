@@ -5,13 +5,14 @@ use Rattle.sibt_strings.specs.Units.{chars_of_units}
 use Rattle.sibt_strings.specs.Views.{units_in}
 use Rattle.ifr_opcodes.specs.declared.numbers.Display.TheVariants as display
 use Rattle.hii_languages.specs.Views.{text_of}
+use Rattle.guard_policy.specs.declared.conditions.Conditions.{Ghosts}
 use Rattle.form_page.specs.Elements.{elements_left}
 use Rattle.form_page.specs.RowValues.{checkbox_text, number_text, one_of_text, list_text, reference_text}
 use Rattle.form_page.specs.declared.row_value.RowValue.{RowValue}
 use Rattle.form_page.specs.declared.row_value.RowValue.TheVariants as value
 
 -- the characters of a value
-abbrev pub value_text : RowValue → List ℕ
+abbrev pub value_text : {C : Type 0} {g : Ghosts C} → RowValue C g → List ℕ
 value_text value.Empty = []
 value_text (value.Checkbox b) = checkbox_text b
 value_text (value.Unsigned n) = decimal n

@@ -11,22 +11,25 @@ ghost use Rattle.hii_languages.specs.Views.{choice_of, text_of};
 ghost use Rattle.guard_policy.specs.Views.{bytes_of, world};
 ghost use Rattle.form_page.specs.RowValues.{choice};
 
+use crate::decisions::is_option_listed;
 use crate::page::Page;
+use guard_policy::Conditions;
 use hii_languages::Shown;
 use hii_questions::StoredItems;
 use ifr_scopes::{OptionView, Statement};
+use std::alloc::AllocError;
 
 // Whether an option has a value and is not hidden.
-fn is_choice<'a>(page: Page<'a, '_>, option: OptionView<'a>, value: u64) -> bool
+fn is_choice<'a, C: Conditions>(page: Page<'a, '_, C>, option: OptionView<'a>, value: u64) -> bool
     requires { IsNodeOf (bytes_of page.policy) (option_node option) }
     ensures { result ≡ ((option_value (option_node option.entry).op == value) && is_none (hidden (world page.entry.policy page.entry.stores.now) (option_node option.entry))) }
 {
-    option.op().value() == value && page.policy.option_listed(option, page.stores).is_ok()
+    option.op().value() == value && is_option_listed(page, option)
 }
 
 /// The text of the first option of a question, by place, that has a value and is not hidden.
-pub(crate) fn option_text<'a>(
-    page: Page<'a, '_>,
+pub(crate) fn option_text<'a, C: Conditions>(
+    page: Page<'a, '_, C>,
     statement: Statement<'a>,
     value: u64,
 ) -> Option<Shown<'a>>
@@ -45,15 +48,28 @@ pub(crate) fn option_text<'a>(
 }
 
 /// The elements of a list that are left, each shown as the text of the option of its value.
-#[derive(Clone, Copy)]
-pub struct Elements<'a, 's> {
-    pub(crate) page: Page<'a, 's>,
+pub struct Elements<'a, 's, C: Conditions> {
+    pub(crate) page: Page<'a, 's, C>,
     pub(crate) statement: Statement<'a>,
     pub(crate) items: StoredItems<'s>,
     pub ghost together: { IsNodeOf (bytes_of page.policy) (statement_node statement) } by { IsNodeOf-prop (bytes_of page.policy) (statement_node statement) },
 }
 
-impl<'a, 's> Elements<'a, 's> {
+impl<'a, 's, C: Conditions> Copy for Elements<'a, 's, C> {}
+
+impl<'a, 's, C: Conditions> Clone for Elements<'a, 's, C> {
+    ghost use Rattle.std.specs.Prelude.{⊤};
+
+    ghost is_clone = { λ elements clone. clone ≡ elements };
+
+    ghost is_infallible = { λ _. ⊤ };
+
+    fn clone(&self) -> Result<Elements<'a, 's, C>, AllocError> {
+        Ok(*self)
+    }
+}
+
+impl<'a, 's, C: Conditions> Elements<'a, 's, C> {
     ghost use Rattle.std.specs.Iterator.{YieldsFirstBy};
     ghost use Rattle.form_page.specs.Elements.{elements_left};
 

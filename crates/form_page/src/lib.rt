@@ -3,6 +3,7 @@
 
 mod ascii;
 mod choice;
+mod decisions;
 mod hex_digits;
 mod page;
 mod print;

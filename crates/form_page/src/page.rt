@@ -6,50 +6,76 @@ ghost use Rattle.ifr_scopes.specs.Checked.{IsNodeOf, IsNodeOf-prop, AreNodesOf, 
 ghost use Rattle.ifr_scopes.specs.Lists.{form_node, statements_left};
 ghost use Rattle.hii_languages.specs.Shown.{shown_text};
 ghost use Rattle.hii_languages.specs.Views.{choice_of, text_of};
+ghost use Rattle.guard_policy.specs.Support.{TellsAll, TellsAll-prop};
 ghost use Rattle.guard_policy.specs.Views.{bytes_of, world};
 ghost use Rattle.form_page.specs.Pages as pages;
 
+use crate::decisions::is_listed;
 use crate::row::Row;
 use crate::statement_row::row_of;
-use guard_policy::Policy;
+use guard_policy::{Conditions, Policy};
 use hii_languages::{Choice, Languages, Shown};
+use hii_questions::Questions;
 use hii_varstore::Stores;
 use ifr_scopes::laws::{statements_are_few, statements_are_nodes};
 use ifr_scopes::{Form, Statements};
+use std::alloc::AllocError;
 
-/// The page of a form over some stores (UEFI 2.8, 33.2.5.2 Forms).
-#[derive(Clone, Copy)]
-pub struct Page<'a, 's> {
+/// The page of a form over some stores (UEFI 2.8, 33.2.5.2 Forms), by what is kept of conditions.
+pub struct Page<'a, 's, C: Conditions> {
     pub(crate) form: Form<'a>,
     pub(crate) policy: Policy<'a, 's>,
+    pub(crate) questions: &'s Questions<'a>,
     pub(crate) stores: &'s Stores,
     pub(crate) languages: &'s Languages<'a>,
     pub(crate) choice: Choice,
+    pub(crate) conditions: &'s C,
     pub ghost together: { IsNodeOf (bytes_of policy) (form_node form) } by { IsNodeOf-prop (bytes_of policy) (form_node form) },
+    pub ghost own: { questions.now.ifr ≡ bytes_of policy },
+    pub ghost told: { TellsAll (C.holding conditions.now) (world policy stores.now) } by { TellsAll-prop (C.holding conditions.now) (world policy stores.now) },
+}
+
+impl<'a, 's, C: Conditions> Copy for Page<'a, 's, C> {}
+
+impl<'a, 's, C: Conditions> Clone for Page<'a, 's, C> {
+    ghost use Rattle.std.specs.Prelude.{⊤};
+
+    ghost is_clone = { λ page clone. clone ≡ page };
+
+    ghost is_infallible = { λ _. ⊤ };
+
+    fn clone(&self) -> Result<Page<'a, 's, C>, AllocError> {
+        Ok(*self)
+    }
 }
 
 /// The rows that are left of a page.
 #[derive(Drop)]
-pub struct Rows<'a, 's> {
-    page: Page<'a, 's>,
+pub struct Rows<'a, 's, C: Conditions> {
+    page: Page<'a, 's, C>,
     statements: Statements<'a>,
     number: u32,
     pub ghost together: { AreNodesOf (bytes_of page.policy) (statements_left statements) } by { AreNodesOf-prop (bytes_of page.policy) (statements_left statements) },
     pub ghost few: { number + length (statements_left statements) < 2 ^ 32 },
 }
 
-impl<'a, 's> Page<'a, 's> {
+impl<'a, 's, C: Conditions> Page<'a, 's, C> {
     ghost use Rattle.form_page.specs.Views.{rows_left};
 
-    /// The page of a form of the policy's package, with texts in the chosen language.
+    /// The page of a form of the policy's package, with texts in the chosen language. The questions are those of this package, and
+    /// what is kept of its conditions tells whether they hold over the stores.
     pub fn new(
         form: Form<'a>,
         policy: Policy<'a, 's>,
+        questions: &'s Questions<'a>,
         stores: &'s Stores,
         languages: &'s Languages<'a>,
         choice: Choice,
-    ) -> Page<'a, 's>
-        requires { IsNodeOf (bytes_of policy) (form_node form) }
+        conditions: &'s C,
+    ) -> Page<'a, 's, C>
+        requires node { IsNodeOf (bytes_of policy) (form_node form) }
+        requires own { questions.now.ifr ≡ bytes_of policy }
+        requires told { TellsAll (C.holding conditions.now) (world policy stores.now) }
         ensures form { form_node result.form ≡ form_node form.entry }
         ensures policy { result.policy ≡ policy.entry }
         ensures stores { result.stores.now ≡ stores.now }
@@ -59,9 +85,11 @@ impl<'a, 's> Page<'a, 's> {
         Page {
             form,
             policy,
+            questions,
             stores,
             languages,
             choice,
+            conditions,
         }
     }
 
@@ -73,7 +101,7 @@ impl<'a, 's> Page<'a, 's> {
     }
 
     /// Its rows: one for each statement of the form that is not hidden.
-    pub fn rows(&self) -> Rows<'a, 's>
+    pub fn rows(&self) -> Rows<'a, 's, C>
         ensures { rows_left result ≡ pages.rows (shown_text self.now.languages.now (choice_of self.now.choice)) (world self.now.policy self.now.stores.now) (form_node self.now.form) }
     {
         statements_are_few();
@@ -88,20 +116,20 @@ impl<'a, 's> Page<'a, 's> {
     }
 }
 
-impl<'a, 's> Iterator for Rows<'a, 's> {
+impl<'a, 's, C: Conditions> Iterator for Rows<'a, 's, C> {
     ghost use Rattle.std.specs.Iterator.{YieldsFirstBy, item_count};
     ghost use Rattle.form_page.specs.Views.{row_seen, rows_left};
 
-    type Item = Row<'a, 's>;
+    type Item = Row<'a, 's, C>;
 
     ghost next_gives = { YieldsFirstBy row_seen rows_left };
 
     ghost remaining = { item_count rows_left };
 
-    fn next(&mut self) -> Option<Row<'a, 's>> {
+    fn next(&mut self) -> Option<Row<'a, 's, C>> {
         let page = self.page;
         while let Some(statement) = self.statements.next() {
-            if page.policy.listed(statement, page.stores).is_ok() {
+            if is_listed(page, statement) {
                 let row = row_of(page, self.number, statement);
                 self.number += 1;
                 return Some(row);

@@ -13,10 +13,11 @@ ghost use Rattle.form_page.specs.Views.{rows_left};
 use crate::page::{Page, Rows};
 use crate::row::put_row;
 use crate::shown::put_shown;
+use guard_policy::Conditions;
 use hii_bytes::{Watched, WriteFault};
 use std::io::Write;
 
-fn put_rows<W: Write>(rows: Rows<'_, '_>, out: &mut Watched<W>)
+fn put_rows<C: Conditions, W: Write>(rows: Rows<'_, '_, C>, out: &mut Watched<W>)
     ensures { Writes (pen_of W.contents out.old) (pen_of W.contents out.new) (flat_map pages.row_text (rows_left rows.entry)) }
 {
     let mut rows = rows;
@@ -25,7 +26,7 @@ fn put_rows<W: Write>(rows: Rows<'_, '_>, out: &mut Watched<W>)
     }
 }
 
-impl<'a, 's> Page<'a, 's> {
+impl<'a, 's, C: Conditions> Page<'a, 's, C> {
     /// Writes the page: a line with the form's id and title, and a line for each row. A writer's fault is answered with the
     /// bytes that were written before it.
     pub fn write_page<W: Write>(&self, out: &mut Watched<W>) -> Result<(), WriteFault>

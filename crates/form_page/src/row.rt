@@ -9,13 +9,14 @@ ghost use Rattle.form_page.specs.Views.{row_seen};
 
 use crate::row_value::RowValue;
 use crate::shown::put_in_columns;
+use guard_policy::Conditions;
 use hii_bytes::Watched;
 use hii_languages::Shown;
 use std::io::Write;
 
 /// A row of a page.
-#[derive(Clone, Copy)]
-pub struct Row<'a, 's> {
+#[derive_where(Clone, Copy)]
+pub struct Row<'a, 's, C: Conditions> {
     /// Its number on the page, from 1.
     pub number: u32,
     /// A space for a subtitle and a text, else a star where the statement may be changed, an exclamation mark where not.
@@ -23,10 +24,10 @@ pub struct Row<'a, 's> {
     /// The id of its question, if the statement is one.
     pub question: Option<u16>,
     pub prompt: Shown<'a>,
-    pub value: RowValue<'a, 's>,
+    pub value: RowValue<'a, 's, C>,
 }
 
-fn put_value<W: Write>(value: RowValue<'_, '_>, out: &mut Watched<W>)
+fn put_value<C: Conditions, W: Write>(value: RowValue<'_, '_, C>, out: &mut Watched<W>)
     ensures { Writes (pen_of W.contents out.old) (pen_of W.contents out.new) (utf8 (value_text value.entry)) }
 {
     let mut text = value.chars();
@@ -45,7 +46,7 @@ fn put_id<W: Write>(question: Option<u16>, out: &mut Watched<W>)
 }
 
 /// Writes a row.
-pub(crate) fn put_row<W: Write>(row: Row<'_, '_>, out: &mut Watched<W>)
+pub(crate) fn put_row<C: Conditions, W: Write>(row: Row<'_, '_, C>, out: &mut Watched<W>)
     ensures { Writes (pen_of W.contents out.old) (pen_of W.contents out.new) (row_text (row_seen row.entry)) }
 {
     out.put_decimal_right(3, u64::from(row.number));

@@ -6,12 +6,13 @@ use crate::ascii::Ascii;
 use crate::choice::Elements;
 use crate::hex_digits::HexDigits;
 use crate::value_chars::{Behind, RowValueChars};
+use guard_policy::Conditions;
 use hii_languages::Shown;
 use sibt_strings::Units;
 
 /// What a row shows of a statement, by its kind.
-#[derive(Clone, Copy)]
-pub enum RowValue<'a, 's> {
+#[derive_where(Clone, Copy)]
+pub enum RowValue<'a, 's, C: Conditions> {
     /// There is nothing to show.
     Empty,
     /// Whether a checkbox is checked.
@@ -25,7 +26,7 @@ pub enum RowValue<'a, 's> {
     /// The text of the option that is chosen, if one is to be seen.
     OneOf(Option<Shown<'a>>),
     /// The elements of a list.
-    OrderedList(Elements<'a, 's>),
+    OrderedList(Elements<'a, 's, C>),
     /// A text of a store.
     String(Units<'s>),
     /// Whether there is a password.
@@ -46,12 +47,12 @@ pub struct Hexadecimal {
     pub ghost within: { width ≤ 8 },
 }
 
-impl<'a, 's> RowValue<'a, 's> {
+impl<'a, 's, C: Conditions> RowValue<'a, 's, C> {
     ghost use Rattle.form_page.specs.RowViews.{value_text};
     ghost use Rattle.form_page.specs.CharViews.{value_chars_left};
 
     /// Its characters, which stand between the brackets of the row.
-    pub fn chars(self) -> RowValueChars<'a, 's>
+    pub fn chars(self) -> RowValueChars<'a, 's, C>
         ensures { value_chars_left result ≡ value_text self.entry }
     {
         if let RowValue::Checkbox(is_checked) = self {

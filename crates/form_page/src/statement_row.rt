@@ -10,9 +10,11 @@ ghost use Rattle.guard_policy.specs.Views.{bytes_of, world};
 ghost use Rattle.form_page.specs.Pages as pages;
 ghost use Rattle.form_page.specs.Views.{row_seen};
 
+use crate::decisions::is_fixed;
 use crate::page::Page;
 use crate::row::Row;
 use crate::statement_value::statement_value;
+use guard_policy::Conditions;
 use ifr_scopes::{Statement, StatementKind};
 
 // The id of the question that a statement is.
@@ -36,18 +38,17 @@ fn mark_of(kind: StatementKind<'_>, is_fixed: bool) -> u8
 }
 
 /// The row of a statement on a page.
-pub(crate) fn row_of<'a, 's>(
-    page: Page<'a, 's>,
+pub(crate) fn row_of<'a, 's, C: Conditions>(
+    page: Page<'a, 's, C>,
     number: u32,
     statement: Statement<'a>,
-) -> Row<'a, 's>
+) -> Row<'a, 's, C>
     requires { IsNodeOf (bytes_of page.policy) (statement_node statement) }
     ensures { row_seen result ≡ pages.row_of (shown_text page.entry.languages.now (choice_of page.entry.choice)) (world page.entry.policy page.entry.stores.now) number (statement_node statement.entry) }
 {
-    let is_fixed = page.policy.changeable(statement, page.stores).is_err();
     Row {
         number,
-        mark: mark_of(statement.kind(), is_fixed),
+        mark: mark_of(statement.kind(), is_fixed(page, statement)),
         question: id_of(statement),
         prompt: page.languages.text(page.choice, statement.op().prompt()),
         value: statement_value(page, statement),

@@ -1,11 +1,14 @@
 //! What the rows of statements show.
 
-ghost use Rattle.std.specs.Prelude.{◌≡◌, ◌%◌, ℕ, List, length};
+ghost use Rattle.std.specs.Prelude.{◌≡◌, ◌%◌, ℕ, if◌then◌else◌, Some, None, option_map, List, length};
 ghost use Rattle.ifr_opcodes.specs.Ops.{bytes_of as op_bytes};
 ghost use Rattle.ifr_expr.specs.Values.{text as text_value};
 ghost use Rattle.ifr_expr.specs.Views.{value_of};
 ghost use Rattle.ifr_scopes.specs.Checked.{IsNodeOf};
 ghost use Rattle.ifr_scopes.specs.Lists.{statement_node};
+ghost use Rattle.ifr_scopes.specs.Nodes.{nodes_of, is_question};
+ghost use Rattle.hii_questions.specs.Fields.{asked};
+ghost use Rattle.hii_questions.specs.Views.{question_view};
 ghost use Rattle.hii_languages.specs.Shown.{shown_text};
 ghost use Rattle.hii_languages.specs.Views.{choice_of};
 ghost use Rattle.guard_policy.specs.Views.{bytes_of, world};
@@ -15,13 +18,14 @@ ghost use Rattle.form_page.specs.RowViews.{value_text};
 use crate::choice::{Elements, option_text};
 use crate::page::Page;
 use crate::row_value::{Hexadecimal, RowValue};
-use hii_questions::{StoredItems, element_width, read_value, shown};
+use guard_policy::Conditions;
+use hii_questions::{Question, StoredItems, element_width, read_value, shown};
 use ifr_expr::Value;
 use ifr_opcodes::{Display, NumericOp};
 use ifr_scopes::{Statement, StatementKind};
 use sibt_strings::Units;
 
-fn checkbox_value<'a, 's>(value: Value<'_>) -> RowValue<'a, 's>
+fn checkbox_value<'a, 's, C: Conditions>(value: Value<'_>) -> RowValue<'a, 's, C>
     ensures { value_text result ≡ values.checkbox_shown (value_of value.entry) }
 {
     match value {
@@ -30,7 +34,7 @@ fn checkbox_value<'a, 's>(value: Value<'_>) -> RowValue<'a, 's>
     }
 }
 
-fn numeric_value<'a, 's>(op: NumericOp<'_>, value: Value<'_>) -> RowValue<'a, 's>
+fn numeric_value<'a, 's, C: Conditions>(op: NumericOp<'_>, value: Value<'_>) -> RowValue<'a, 's, C>
     ensures { value_text result ≡ values.numeric_shown (op_bytes op.entry.op) (value_of value.entry) }
 {
     let Value::Number(number) = value else {
@@ -44,11 +48,11 @@ fn numeric_value<'a, 's>(op: NumericOp<'_>, value: Value<'_>) -> RowValue<'a, 's
     }
 }
 
-fn one_of_value<'a, 's>(
-    page: Page<'a, 's>,
+fn one_of_value<'a, 's, C: Conditions>(
+    page: Page<'a, 's, C>,
     statement: Statement<'a>,
     value: Value<'_>,
-) -> RowValue<'a, 's>
+) -> RowValue<'a, 's, C>
     requires { IsNodeOf (bytes_of page.policy) (statement_node statement) }
     ensures { value_text result ≡ values.one_of_shown (shown_text page.entry.languages.now (choice_of page.entry.choice)) (world page.entry.policy page.entry.stores.now) (statement_node statement.entry) (value_of value.entry) }
 {
@@ -58,11 +62,11 @@ fn one_of_value<'a, 's>(
     }
 }
 
-fn list_value<'a, 's>(
-    page: Page<'a, 's>,
+fn list_value<'a, 's, C: Conditions>(
+    page: Page<'a, 's, C>,
     statement: Statement<'a>,
     value: Value<'s>,
-) -> RowValue<'a, 's>
+) -> RowValue<'a, 's, C>
     requires { IsNodeOf (bytes_of page.policy) (statement_node statement) }
     ensures { value_text result ≡ values.list_shown (shown_text page.entry.languages.now (choice_of page.entry.choice)) (world page.entry.policy page.entry.stores.now) (statement_node statement.entry) (value_of value.entry) }
 {
@@ -76,7 +80,7 @@ fn list_value<'a, 's>(
     })
 }
 
-fn string_value<'a, 's>(value: Value<'s>) -> RowValue<'a, 's>
+fn string_value<'a, 's, C: Conditions>(value: Value<'s>) -> RowValue<'a, 's, C>
     requires { (units : List ℕ) → value_of value ≡ text_value units → length units % 2 ≡ 0 }
     ensures { value_text result ≡ values.string_shown (value_of value.entry) }
 {
@@ -86,7 +90,7 @@ fn string_value<'a, 's>(value: Value<'s>) -> RowValue<'a, 's>
     }
 }
 
-fn password_value<'a, 's>(value: Value<'_>) -> RowValue<'a, 's>
+fn password_value<'a, 's, C: Conditions>(value: Value<'_>) -> RowValue<'a, 's, C>
     ensures { value_text result ≡ values.password_shown (value_of value.entry) }
 {
     match value {
@@ -96,11 +100,11 @@ fn password_value<'a, 's>(value: Value<'_>) -> RowValue<'a, 's>
 }
 
 // What is shown of the value of a question.
-fn stored_value<'a, 's>(
-    page: Page<'a, 's>,
+fn stored_value<'a, 's, C: Conditions>(
+    page: Page<'a, 's, C>,
     statement: Statement<'a>,
     value: Value<'s>,
-) -> RowValue<'a, 's>
+) -> RowValue<'a, 's, C>
     requires node { IsNodeOf (bytes_of page.policy) (statement_node statement) }
     requires whole { (units : List ℕ) → value_of value ≡ text_value units → length units % 2 ≡ 0 }
     ensures { value_text result ≡ values.stored_shown (shown_text page.entry.languages.now (choice_of page.entry.choice)) (world page.entry.policy page.entry.stores.now) (statement_node statement.entry) (value_of value.entry) }
@@ -127,22 +131,38 @@ fn stored_value<'a, 's>(
     RowValue::Empty
 }
 
+// The question that a statement is, if it is one.
+fn question_of<'a, C: Conditions>(
+    page: Page<'a, '_, C>,
+    statement: Statement<'a>,
+) -> Option<Question<'a>>
+    requires { IsNodeOf (bytes_of page.policy) (statement_node statement) }
+    ensures { option_map question_view result ≡ (if is_question (statement_node statement.entry) then Some (asked (nodes_of (bytes_of page.entry.policy)) (statement_node statement.entry)) else None) }
+{
+    // The package is accepted: each node is the one at its place.
+    page.policy.forms().bytes();
+    page.questions.at(statement.place())
+}
+
 // The same for a statement, of which only a question has a value.
-fn question_value<'a, 's>(page: Page<'a, 's>, statement: Statement<'a>) -> RowValue<'a, 's>
+fn question_value<'a, 's, C: Conditions>(
+    page: Page<'a, 's, C>,
+    statement: Statement<'a>,
+) -> RowValue<'a, 's, C>
     requires { IsNodeOf (bytes_of page.policy) (statement_node statement) }
     ensures { value_text result ≡ values.question_shown (shown_text page.entry.languages.now (choice_of page.entry.choice)) (world page.entry.policy page.entry.stores.now) (statement_node statement.entry) }
 {
-    match page.policy.question(statement) {
+    match question_of(page, statement) {
         Some(question) => stored_value(page, statement, read_value(question, page.stores)),
         None => RowValue::Empty,
     }
 }
 
 /// What the row of a statement shows between its brackets.
-pub(crate) fn statement_value<'a, 's>(
-    page: Page<'a, 's>,
+pub(crate) fn statement_value<'a, 's, C: Conditions>(
+    page: Page<'a, 's, C>,
     statement: Statement<'a>,
-) -> RowValue<'a, 's>
+) -> RowValue<'a, 's, C>
     requires { IsNodeOf (bytes_of page.policy) (statement_node statement) }
     ensures { value_text result ≡ values.value_shown (shown_text page.entry.languages.now (choice_of page.entry.choice)) (world page.entry.policy page.entry.stores.now) (statement_node statement.entry) }
 {

@@ -1,9 +1,10 @@
 ghost use Rattle.std.specs.Prelude.{◌≡◌, ◌≤◌, ◌<◌, ◌^◌, length, IfSome};
 ghost use Rattle.ifr_scopes.specs.Checked.{IsNodeOf};
 ghost use Rattle.ifr_scopes.specs.Lists.{form_node};
+ghost use Rattle.guard_policy.specs.Views.{bytes_of};
 
 use crate::Page;
-use guard_policy::{Policy, Removed};
+use guard_policy::{Conditions, Policy, Removed};
 use hii_bytes::{Watched, WriteFault};
 use hii_languages::{Languages, Shown};
 use hii_packages::{FORMS, Package, PackageList};
@@ -151,7 +152,7 @@ fn first_form<'a>(forms: &Forms<'a>) -> Option<Form<'a>>
     forms.forms().next()
 }
 
-fn has_title_and_rows(rt: &impl Abort, page: &Page<'_, '_>) {
+fn has_title_and_rows<C: Conditions>(rt: &impl Abort, page: &Page<'_, '_, C>) {
     let mut title = page.title().chars();
     for c in ['#', '2'] {
         assert_eq!(rt; title.next(), Some(c));
@@ -175,7 +176,7 @@ fn has_title_and_rows(rt: &impl Abort, page: &Page<'_, '_>) {
     }
 }
 
-fn is_written(rt: &impl Abort, alloc: Global, page: &Page<'_, '_>) {
+fn is_written<C: Conditions>(rt: &impl Abort, alloc: Global, page: &Page<'_, '_, C>) {
     let mut out = Watched::new(Vec::new(alloc));
     assert_eq!(rt; page.write_page(&mut out), Ok(()));
     assert_eq!(rt; out.into_inner().as_slice(), page_text());
@@ -185,7 +186,11 @@ fn is_written(rt: &impl Abort, alloc: Global, page: &Page<'_, '_>) {
     assert_eq!(rt; again.into_inner().as_slice(), page_text());
 }
 
-fn stops_where_a_writer_fails(rt: &impl Abort, alloc: Global, page: &Page<'_, '_>) {
+fn stops_where_a_writer_fails<C: Conditions>(
+    rt: &impl Abort,
+    alloc: Global,
+    page: &Page<'_, '_, C>,
+) {
     let text = page_text();
     for room in 0..text.len() {
         let mut out = Watched::new(Limited {
@@ -198,6 +203,33 @@ fn stops_where_a_writer_fails(rt: &impl Abort, alloc: Global, page: &Page<'_, '_
         assert_eq!(rt; page.write_page(&mut out), Err(fault));
         assert_eq!(rt; out.into_inner().bytes.as_slice(), &text[..room]);
     }
+}
+
+fn page_is_shown<'a, R: Abort + AllocGlobal>(
+    rt: &R,
+    form: Form<'a>,
+    policy: Policy<'a, '_>,
+    questions: &Questions<'a>,
+    stores: &Stores,
+    languages: &Languages<'a>,
+)
+    requires node { IsNodeOf (bytes_of policy) (form_node form) }
+    requires own { questions.now.ifr ≡ bytes_of policy }
+{
+    let conditions = policy.over(stores);
+    let choice = languages.choose(b"en");
+    let page = Page::new(
+        form,
+        policy,
+        questions,
+        stores,
+        languages,
+        choice,
+        &conditions,
+    );
+    has_title_and_rows(rt, &page);
+    is_written(rt, rt.alloc(), &page);
+    stops_where_a_writer_fails(rt, rt.alloc(), &page);
 }
 
 fn is_shown<'a, R: Abort + AllocGlobal>(
@@ -214,11 +246,7 @@ fn is_shown<'a, R: Abort + AllocGlobal>(
     let removed = Removed::at_open(alloc, forms, questions, &stores)?;
     let policy = Policy::new(forms, questions, &removed);
     let form = first_form(forms).expect(rt, "a form");
-    let choice = languages.choose(b"en");
-    let page = Page::new(form, policy, &stores, languages, choice);
-    has_title_and_rows(rt, &page);
-    is_written(rt, alloc, &page);
-    stops_where_a_writer_fails(rt, alloc, &page);
+    page_is_shown(rt, form, policy, questions, &stores, languages);
     Ok(())
 }
 

@@ -15,27 +15,28 @@ use crate::ascii::Ascii;
 use crate::choice::Elements;
 use crate::hex_digits::HexDigits;
 use crate::row_value::Hexadecimal;
+use guard_policy::Conditions;
 use hii_languages::{Shown, ShownChars};
 use sibt_strings::{UnitChars, Units};
 
 /// What stands behind a text of the list.
-#[derive(Clone, Copy)]
-pub(crate) enum Behind<'a, 's> {
+#[derive_where(Clone, Copy)]
+pub(crate) enum Behind<'a, 's, C: Conditions> {
     Nothing,
     Bracket,
     /// Elements of a list, each behind a comma and a space.
-    Elements(Elements<'a, 's>),
+    Elements(Elements<'a, 's, C>),
 }
 
 /// The characters that are left of a row's value.
 #[derive(Drop)]
-pub struct RowValueChars<'a, 's> {
+pub struct RowValueChars<'a, 's, C: Conditions> {
     // The parts, one after the other.
     ascii: Ascii,
     hex: HexDigits,
     shown: ShownChars<'a>,
     units: UnitChars<'s>,
-    behind: Behind<'a, 's>,
+    behind: Behind<'a, 's, C>,
 }
 
 // The text of an option behind some characters, or a question mark behind others.
@@ -55,9 +56,13 @@ fn choice_parts<'a>(
     }
 }
 
-impl<'a, 's> RowValueChars<'a, 's> {
+impl<'a, 's, C: Conditions> RowValueChars<'a, 's, C> {
     // These characters, the text of an option, and what stands behind it.
-    fn new(ascii: Ascii, shown: ShownChars<'a>, behind: Behind<'a, 's>) -> RowValueChars<'a, 's>
+    fn new(
+        ascii: Ascii,
+        shown: ShownChars<'a>,
+        behind: Behind<'a, 's, C>,
+    ) -> RowValueChars<'a, 's, C>
         ensures { value_chars_left result ≡ ascii_left ascii ++ (chars_left shown.entry ++ behind_text behind.entry) }
     {
         RowValueChars {
@@ -73,14 +78,14 @@ impl<'a, 's> RowValueChars<'a, 's> {
     }
 
     /// These characters.
-    pub(crate) fn ascii(ascii: Ascii) -> RowValueChars<'a, 's>
+    pub(crate) fn ascii(ascii: Ascii) -> RowValueChars<'a, 's, C>
         ensures { value_chars_left result ≡ ascii_left ascii }
     {
         RowValueChars::new(ascii, Shown::Nothing.chars(), Behind::Nothing)
     }
 
     /// The hexadecimal digits of a number.
-    pub(crate) fn hexadecimal(number: Hexadecimal) -> RowValueChars<'a, 's>
+    pub(crate) fn hexadecimal(number: Hexadecimal) -> RowValueChars<'a, 's, C>
         ensures { value_chars_left result ≡ number_text AsHexadecimal number.width number.number }
     {
         RowValueChars {
@@ -96,14 +101,14 @@ impl<'a, 's> RowValueChars<'a, 's> {
     }
 
     /// A text of the list.
-    pub(crate) fn shown(text: Shown<'a>) -> RowValueChars<'a, 's>
+    pub(crate) fn shown(text: Shown<'a>) -> RowValueChars<'a, 's, C>
         ensures { value_chars_left result ≡ text_of text.entry }
     {
         RowValueChars::new(Ascii::empty(), text.chars(), Behind::Nothing)
     }
 
     /// A text of a store.
-    pub(crate) fn units(units: Units<'s>) -> RowValueChars<'a, 's>
+    pub(crate) fn units(units: Units<'s>) -> RowValueChars<'a, 's, C>
         ensures { value_chars_left result ≡ chars_of_units (units_in units.entry) }
     {
         RowValueChars {
@@ -119,7 +124,7 @@ impl<'a, 's> RowValueChars<'a, 's> {
     }
 
     /// The text of the option that is chosen, between angle brackets.
-    pub(crate) fn one_of(option: Option<Shown<'a>>) -> RowValueChars<'a, 's>
+    pub(crate) fn one_of(option: Option<Shown<'a>>) -> RowValueChars<'a, 's, C>
         ensures { value_chars_left result ≡ one_of_text (option_map text_of option.entry) }
     {
         let (front, text) = choice_parts(option, b"<", b"<?");
@@ -127,7 +132,7 @@ impl<'a, 's> RowValueChars<'a, 's> {
     }
 
     /// The texts of elements, with a comma and a space between.
-    pub(crate) fn list(elements: Elements<'a, 's>) -> RowValueChars<'a, 's>
+    pub(crate) fn list(elements: Elements<'a, 's, C>) -> RowValueChars<'a, 's, C>
         ensures { value_chars_left result ≡ list_text (elements_left elements.entry) }
     {
         let mut elements = elements;
@@ -177,7 +182,7 @@ impl<'a, 's> RowValueChars<'a, 's> {
     }
 }
 
-impl<'a, 's> Iterator for RowValueChars<'a, 's> {
+impl<'a, 's, C: Conditions> Iterator for RowValueChars<'a, 's, C> {
     ghost use Rattle.std.specs.Iterator.{item_count};
 
     type Item = char;

@@ -7,3 +7,4 @@ pub mod IndexedLemmas
 pub mod AskedLemmas
 pub mod SupportLemmas
 pub mod KeptLemmas
+pub mod ToldLemmas

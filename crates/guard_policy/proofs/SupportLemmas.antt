@@ -29,7 +29,7 @@ use Rattle.guard_policy.specs.declared.support.Decision.TheVariants.{Listed, Cha
 
 -- ---- lists, under tests that agree on their elements
 
-front : {X : Type 0} (P : X → Type 0) (xs ys : List X) → AllByRecursion P (xs ++ ys) → AllByRecursion P xs
+pub front : {X : Type 0} (P : X → Type 0) (xs ys : List X) → AllByRecursion P (xs ++ ys) → AllByRecursion P xs
 front P [] ys h = tt
 front P (x ∷ xs) ys h = (h.0, front P xs ys h.1)
 

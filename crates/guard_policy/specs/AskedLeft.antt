@@ -5,25 +5,18 @@ use Rattle.ifr_opcodes.specs.declared.codes.TheConstants.{SUPPRESS_IF, GRAY_OUT_
 use Rattle.ifr_opcodes.specs.Fields.{option_value}
 use Rattle.ifr_opcodes.specs.Forest.{Placed}
 use Rattle.ifr_opcodes.specs.Opcode.{number}
-use Rattle.ifr_scopes.specs.Lists.{guard_node, guards_left}
+use Rattle.ifr_scopes.specs.Lists.{guards_left}
 use Rattle.ifr_scopes.specs.NoSubmitsLeft.{no_submits_left}
-use Rattle.ifr_scopes.specs.Parts.{condition_node, conditions_left, options_left}
+use Rattle.ifr_scopes.specs.Parts.{conditions_left, options_left}
 use Rattle.ifr_scopes.specs.declared.guards_at.GuardsAt.{GuardsAt}
 use Rattle.guard_policy.specs.Support.{around, counts}
 use Rattle.guard_policy.specs.Views.{world}
 use Rattle.guard_policy.specs.World.{no_stores}
 use Rattle.guard_policy.specs.declared.around.Around.{Around}
-use Rattle.guard_policy.specs.declared.asked.AskedCondition.{AskedCondition}
-use Rattle.guard_policy.specs.declared.asked.AskedCondition.TheVariants as asked
 use Rattle.guard_policy.specs.declared.decision_conditions.DecisionConditions.{DecisionConditions}
 use Rattle.guard_policy.specs.declared.decision_conditions.DecisionConditions.TheVariants as kind
 use Rattle.guard_policy.specs.declared.option_conditions.OptionConditions.{OptionConditions}
 use Rattle.guard_policy.specs.declared.submission.Submission.{Submission}
-
--- a condition as the node whose it is
-abbrev pub asked_node : AskedCondition → Placed
-asked_node (asked.Guard guard) = guard_node guard
-asked_node (asked.Question condition) = condition_node condition
 
 -- the guards of a number
 abbrev pub numbered_left : ℕ → GuardsAt → List Placed

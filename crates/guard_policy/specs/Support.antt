@@ -1,7 +1,8 @@
 -- On which questions a decision depends (own rule; those of an expression are the ones that it, or a rule behind it, names:
 -- UEFI 2.8, 33.2.5.7 Expressions).
-use Rattle.std.specs.Prelude.{◌≡◌, ℕ, Bool, true, false, ◌==◌, ◌++◌, not, if◌then◌else◌, Option, None, Result, List, [], ◌∷◌, filter, ⊤}
-use Rattle.std.specs.List.{AllByRecursion, flat_map, list_any}
+use Rattle.std.specs.Prelude.{◌≡◌, ℕ, Bool, true, false, ◌==◌, ◌||◌, ◌++◌, not, if◌then◌else◌, Option, Some, None, Result, List, [], ◌∷◌, filter, ⊤}
+use Rattle.std.proofs.Props.{props}
+use Rattle.std.specs.List.{AllByRecursion, AllByRecursion-prop, flat_map, list_any}
 use Rattle.ifr_opcodes.specs.declared.codes.TheConstants.{SUPPRESS_IF, GRAY_OUT_IF}
 use Rattle.ifr_opcodes.specs.Fields.{option_value}
 use Rattle.ifr_opcodes.specs.Forest.{Placed}
@@ -10,6 +11,7 @@ use Rattle.ifr_expr.specs.Dependence.{dependence, Agree}
 use Rattle.ifr_scopes.specs.Checked.{IsNodeOf}
 use Rattle.ifr_scopes.specs.Conditions.{expression_tree}
 use Rattle.ifr_scopes.specs.Guards.{guards}
+use Rattle.ifr_scopes.specs.Index.{conditional_at}
 use Rattle.ifr_scopes.specs.Lists.{form_node, statement_node}
 use Rattle.ifr_scopes.specs.Nodes.{is_no_submit, options, inconsistents, warnings, this_of}
 use Rattle.ifr_scopes.specs.Rules.{rules_among}
@@ -82,6 +84,14 @@ support_over ns cs = flat_map (ids_behind ns) cs
 abbrev pub support : World → Decision → List ℕ
 support w decision = support_over w.nodes (conditions w decision)
 
+-- those on whose answers the condition at a place depends; none where no condition stands
+abbrev pub ids_behind_one : List Placed → Option Placed → List ℕ
+ids_behind_one ns None = []
+ids_behind_one ns (Some c) = ids_behind ns c
+
+abbrev pub support_at : List Placed → ℕ → List ℕ
+support_at ns place = ids_behind_one ns (conditional_at ns place)
+
 -- two stores of a form set give the same answers to these questions
 abbrev pub AnswersAgree : List Placed → StoreMap → StoreMap → List ℕ → Type 0
 AnswersAgree ns stores others ids = Agree (answers ns stores) (answers ns others) ids
@@ -100,6 +110,23 @@ is_by_first _ = true
 -- What is kept by place tells of these conditions whether they hold.
 abbrev pub Tells : (ℕ → Bool) → World → List Placed → Type 0
 Tells holding w cs = AllByRecursion (λ c. holding c.place ≡ is_met w c) cs
+
+-- the conditions that may be kept: those of SUPPRESS_IF, GRAY_OUT_IF and NO_SUBMIT_IF
+abbrev pub is_kept : Placed → Bool
+is_kept n = number n.op == SUPPRESS_IF || number n.op == GRAY_OUT_IF || is_no_submit n
+
+-- What is kept by place tells of all of them.
+abbrev pub TellsAll : (ℕ → Bool) → World → Type 0
+TellsAll holding w = Tells holding w (filter is_kept w.nodes)
+
+pub TellsAll-prop : (holding : ℕ → Bool) (w : World) → IsProp (TellsAll holding w)
+TellsAll-prop holding w = AllByRecursion-prop (λ (c : Placed). holding c.place ≡ is_met w c) (λ c. hlevel props) (filter is_kept w.nodes)
+
+-- It is a question only of what may be kept: not so of the consistency of a value, and of warnings.
+abbrev pub is_by_kept : Decision → Bool
+is_by_kept (Consistent question) = false
+is_by_kept (Warnings question) = false
+is_by_kept _ = true
 
 -- An answer by what is kept is the one over all stores of whose conditions that tells.
 abbrev pub DecidesBy : (ℕ → Bool) → (StoreMap → World) → Decision → Result Unit Denial → Type 0

@@ -1,10 +1,11 @@
--- What the iterator over the questions on which a decision depends has before it.
+-- What the iterators over the questions on which decisions and conditions depend have before them.
 use Rattle.std.specs.Prelude.{ℕ, Option, Some, None, List, [], ◌++◌}
 use Rattle.ifr_scopes.specs.DependenceLeft.{dependence_left}
 use Rattle.ifr_scopes.specs.Nodes.{nodes_of}
 use Rattle.ifr_scopes.specs.declared.dependence.Dependence.{Dependence}
 use Rattle.guard_policy.specs.AskedLeft.{asked_left}
 use Rattle.guard_policy.specs.Support.{support_over}
+use Rattle.guard_policy.specs.declared.support_of.SupportAt.{SupportAt}
 use Rattle.guard_policy.specs.declared.support_of.SupportOf.{SupportOf}
 
 -- those of the condition at which it stands
@@ -15,3 +16,7 @@ ids_left (Some it) = dependence_left it
 -- and of the conditions behind it
 abbrev pub support_left : SupportOf → List ℕ
 support_left it = ids_left it.ids ++ support_over (nodes_of it.forms.now) (asked_left it.conditions)
+
+-- those of one condition
+abbrev pub support_at_left : SupportAt → List ℕ
+support_at_left it = ids_left it.ids

@@ -1,16 +1,14 @@
 //! Whether conditions hold.
 
 ghost use Rattle.std.specs.Prelude.{◌≡◌};
-ghost use Rattle.ifr_scopes.specs.Lists.{guard_node};
+ghost use Rattle.ifr_scopes.specs.AnyConditions.{any_condition_node};
 ghost use Rattle.ifr_scopes.specs.Nodes.{nodes_of};
-ghost use Rattle.ifr_scopes.specs.Parts.{condition_node};
 ghost use Rattle.guard_policy.specs.World.{is_met_over};
 
-use crate::asked::AskedCondition;
 use crate::policy::Policy;
 use hii_questions::Questions;
 use hii_varstore::Stores;
-use ifr_scopes::{ConditionView, Forms, Guard};
+use ifr_scopes::{AnyCondition, Forms};
 
 /// What is kept of conditions, by their places.
 pub trait Conditions {
@@ -29,18 +27,18 @@ pub trait Conditions {
 pub(crate) trait Verdicts<'a> {
     ghost use Rattle.std.specs.Prelude.{◌≡◌, Bool};
     ghost use Rattle.ifr_opcodes.specs.Forest.{Placed};
-    ghost use Rattle.guard_policy.specs.AskedLeft.{asked_node};
+    ghost use Rattle.ifr_scopes.specs.AnyConditions.{any_condition_node};
 
     ghost met: { Self → Placed → Bool };
 
     /// Whether a condition holds.
-    fn is_met(&self, condition: AskedCondition<'a>) -> bool
-        ensures { result ≡ met self.now (asked_node condition.entry) };
+    fn is_met(&self, condition: AnyCondition<'a>) -> bool
+        ensures { result ≡ met self.now (any_condition_node condition.entry) };
 }
 
-/// Conditions over some stores.
+/// The conditions of a form set over some stores: each is evaluated whenever it is asked.
 #[derive(Drop)]
-pub(crate) struct Evaluated<'p, 'a, 's> {
+pub struct Evaluated<'p, 'a, 's> {
     pub(crate) policy: Policy<'a, 's>,
     pub(crate) stores: &'p Stores,
 }
@@ -51,13 +49,22 @@ impl<'p, 'a, 's> Verdicts<'a> for Evaluated<'p, 'a, 's> {
 
     ghost met = { λ it n. is_met (world it.policy it.stores.now) n };
 
-    fn is_met(&self, condition: AskedCondition<'a>) -> bool {
+    fn is_met(&self, condition: AnyCondition<'a>) -> bool {
         let policy = self.policy;
-        match condition {
-            AskedCondition::Guard(guard) => {
-                guard_holds(guard, policy.forms, policy.questions, self.stores)
-            }
-            AskedCondition::Question(condition) => policy.condition_holds(condition, self.stores),
+        condition_holds(condition, policy.forms, policy.questions, self.stores)
+    }
+}
+
+impl<'p, 'a, 's> Conditions for Evaluated<'p, 'a, 's> {
+    ghost use Rattle.guard_policy.specs.Views.{world};
+    ghost use Rattle.guard_policy.specs.World.{is_met_at};
+
+    ghost holding = { λ it place. is_met_at (world it.policy it.stores.now) place };
+
+    fn holds(&self, place: u32) -> bool {
+        match self.policy.forms.condition_at(place) {
+            Some(condition) => self.is_met(condition),
+            None => false,
         }
     }
 }
@@ -71,37 +78,23 @@ pub(crate) struct Kept<'p, C> {
 impl<'p, 'a, C: Conditions> Verdicts<'a> for Kept<'p, C> {
     ghost met = { λ it n. C.holding it.conditions.now n.place };
 
-    fn is_met(&self, condition: AskedCondition<'a>) -> bool {
+    fn is_met(&self, condition: AnyCondition<'a>) -> bool {
         match condition {
-            AskedCondition::Guard(guard) => self.conditions.holds(guard.place()),
-            AskedCondition::Question(condition) => self.conditions.holds(condition.place()),
+            AnyCondition::Guard(guard) => self.conditions.holds(guard.place()),
+            AnyCondition::Question(condition) => self.conditions.holds(condition.place()),
         }
     }
 }
 
-/// Whether the condition of a guard holds over some stores.
-pub(crate) fn guard_holds<'a>(
-    guard: Guard<'a>,
-    forms: &Forms<'a>,
-    questions: &Questions<'a>,
-    stores: &Stores,
-) -> bool
-    requires { questions.now.ifr ≡ forms.now }
-    ensures { result ≡ is_met_over (nodes_of forms.now) stores.now (guard_node guard.entry) }
-{
-    let answers = questions.over(stores);
-    guard.condition().holds(&answers, forms, guard.this())
-}
-
-/// Whether a condition of a question holds over some stores.
+/// Whether a condition holds over some stores.
 pub(crate) fn condition_holds<'a>(
-    condition: ConditionView<'a>,
+    condition: AnyCondition<'a>,
     forms: &Forms<'a>,
     questions: &Questions<'a>,
     stores: &Stores,
 ) -> bool
     requires { questions.now.ifr ≡ forms.now }
-    ensures { result ≡ is_met_over (nodes_of forms.now) stores.now (condition_node condition.entry) }
+    ensures { result ≡ is_met_over (nodes_of forms.now) stores.now (any_condition_node condition.entry) }
 {
     let answers = questions.over(stores);
     let expression = condition.condition();

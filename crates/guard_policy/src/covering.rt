@@ -10,14 +10,13 @@ ghost use Rattle.guard_policy.specs.Policy as spec;
 ghost use Rattle.guard_policy.specs.Views.{world, world_by};
 ghost use Rattle.guard_policy.specs.World.{no_stores};
 
-use crate::asked::AskedCondition;
 use crate::conditions::Verdicts;
 use crate::denial::Denial;
 use crate::effect::{Effect, hiding};
 use crate::policy::Policy;
 use hii_questions::DenialKind;
 use ifr_opcodes::{DISABLE_IF, GRAY_OUT_IF, SUPPRESS_IF};
-use ifr_scopes::{Guard, GuardsAt};
+use ifr_scopes::{AnyCondition, Guard, GuardsAt};
 
 impl<'a, 's> Policy<'a, 's> {
     // Whether a guard has an effect.
@@ -26,8 +25,8 @@ impl<'a, 's> Policy<'a, 's> {
     {
         match (effect, guard.op().code) {
             (Effect::Hides, DISABLE_IF) => self.removed(guard.place()),
-            (Effect::Hides, SUPPRESS_IF) => verdicts.is_met(AskedCondition::Guard(guard)),
-            (Effect::GraysOut, GRAY_OUT_IF) => verdicts.is_met(AskedCondition::Guard(guard)),
+            (Effect::Hides, SUPPRESS_IF) => verdicts.is_met(AnyCondition::Guard(guard)),
+            (Effect::GraysOut, GRAY_OUT_IF) => verdicts.is_met(AnyCondition::Guard(guard)),
             _ => false,
         }
     }

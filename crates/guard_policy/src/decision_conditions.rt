@@ -3,17 +3,17 @@
 ghost use Rattle.std.specs.Prelude.{◌≡◌};
 ghost use Rattle.std.specs.Iterator.{YieldsFirstBy};
 ghost use Rattle.hii_varstore.specs.Stores.{StoreMap};
-ghost use Rattle.guard_policy.specs.AskedLeft.{asked_node, asked_left};
+ghost use Rattle.ifr_scopes.specs.AnyConditions.{any_condition_node};
+ghost use Rattle.guard_policy.specs.AskedLeft.{asked_left};
 ghost use Rattle.guard_policy.specs.Support.{conditions, IsSubjectOf};
 ghost use Rattle.guard_policy.specs.Views.{world};
 
 use crate::around::Around;
-use crate::asked::AskedCondition;
 use crate::option_conditions::OptionConditions;
 use crate::policy::Policy;
 use crate::submission::Submission;
 use crate::support::Decision;
-use ifr_scopes::ConditionViews;
+use ifr_scopes::{AnyCondition, ConditionViews};
 
 /// The conditions of a decision that are left, in the order in which they decide.
 #[derive(Drop)]
@@ -62,17 +62,17 @@ impl<'a, 's> DecisionConditions<'a, 's> {
     }
 
     /// Goes to the next.
-    pub(crate) fn step(&mut self) -> Option<AskedCondition<'a>>
-        ensures { YieldsFirstBy asked_node asked_left self.old result self.new }
+    pub(crate) fn step(&mut self) -> Option<AnyCondition<'a>>
+        ensures { YieldsFirstBy any_condition_node asked_left self.old result self.new }
     {
         match self {
-            DecisionConditions::Around(around) => Some(AskedCondition::Guard(around.step()?)),
-            DecisionConditions::Options(options) => Some(AskedCondition::Guard(options.step()?)),
+            DecisionConditions::Around(around) => Some(AnyCondition::Guard(around.step()?)),
+            DecisionConditions::Options(options) => Some(AnyCondition::Guard(options.step()?)),
             DecisionConditions::Question(conditions) => {
-                Some(AskedCondition::Question(conditions.next()?))
+                Some(AnyCondition::Question(conditions.next()?))
             }
             DecisionConditions::Submission(submission) => {
-                Some(AskedCondition::Question(submission.step()?))
+                Some(AnyCondition::Question(submission.step()?))
             }
         }
     }

@@ -8,8 +8,9 @@ ghost use Rattle.ifr_scopes.specs.Nodes.{nodes_of};
 ghost use Rattle.ifr_scopes.specs.Parts.{option_node};
 ghost use Rattle.hii_questions.specs.Views.{question_node, question_view};
 ghost use Rattle.guard_policy.specs.Policy as spec;
-ghost use Rattle.guard_policy.specs.Support.{DecidesBy, Tells, suppressing};
+ghost use Rattle.guard_policy.specs.Support.{DecidesBy, Tells, TellsAll, suppressing};
 ghost use Rattle.guard_policy.specs.Views.{world, world_by};
+ghost use Rattle.guard_policy.specs.World.{is_met_at};
 ghost use Rattle.guard_policy.specs.declared.support.Decision.TheVariants.{Listed, Changeable, OptionOpen, Opens};
 
 use crate::conditions::{Conditions, Evaluated, Kept, Verdicts};
@@ -45,11 +46,14 @@ fn fixed_question(question: Question<'_>) -> Result<(), Denial>
 }
 
 impl<'a, 's> Policy<'a, 's> {
-    /// Its conditions over some stores.
-    pub(crate) fn over<'p>(&self, stores: &'p Stores) -> Evaluated<'p, 'a, 's>
+    /// Its conditions over some stores, by which each call that ends in `_by` answers as the call without over these stores.
+    pub fn over<'p>(&self, stores: &'p Stores) -> Evaluated<'p, 'a, 's>
         ensures policy { result.policy ≡ self.now }
         ensures stores { result.stores.now ≡ stores.now }
+        ensures tells { TellsAll (is_met_at (world self.now stores.now)) (world self.now stores.now) }
     {
+        // The package is accepted.
+        self.forms.bytes();
         Evaluated {
             policy: *self,
             stores,

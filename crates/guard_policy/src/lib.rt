@@ -2,7 +2,6 @@
 #![tactic(auto)]
 
 mod around;
-mod asked;
 mod conditions;
 mod covering;
 mod decision_conditions;
@@ -21,10 +20,10 @@ mod tests;
 mod values;
 mod warnings;
 
-pub use conditions::Conditions;
+pub use conditions::{Conditions, Evaluated};
 pub use denial::Denial;
 pub use policy::Policy;
 pub use removed::Removed;
 pub use support::Decision;
-pub use support_of::SupportOf;
+pub use support_of::{SupportAt, SupportOf};
 pub use warnings::{Warning, Warnings};

@@ -6,12 +6,12 @@ ghost use Rattle.ifr_opcodes.specs.Operators.{is_among};
 ghost use Rattle.ifr_scopes.specs.Nodes.{nodes_of};
 ghost use Rattle.guard_policy.specs.World.{removed_at};
 
-use crate::conditions::guard_holds;
+use crate::conditions::condition_holds;
 use hii_bytes::Fault;
 use hii_questions::Questions;
 use hii_varstore::Stores;
 use ifr_opcodes::DISABLE_IF;
-use ifr_scopes::Forms;
+use ifr_scopes::{AnyCondition, Forms};
 use std::alloc::Global;
 use std::marker::Model;
 
@@ -50,7 +50,9 @@ impl Removed {
         let mut places = Vec::new(alloc);
         let mut guards = forms.guards();
         while let Some(guard) = guards.next() {
-            if guard.op().code == DISABLE_IF && guard_holds(guard, forms, questions, stores) {
+            if guard.op().code == DISABLE_IF
+                && condition_holds(AnyCondition::Guard(guard), forms, questions, stores)
+            {
                 if places.push(guard.place()).is_err() {
                     return Err(Fault::out_of_memory());
                 }

@@ -2,19 +2,18 @@
 
 ghost use Rattle.std.specs.Prelude.{◌≡◌};
 ghost use Rattle.std.specs.Iterator.{YieldsFirstBy};
+ghost use Rattle.ifr_scopes.specs.AnyConditions.{any_condition_node};
 ghost use Rattle.ifr_scopes.specs.DependenceLeft.{dependence_left};
 ghost use Rattle.ifr_scopes.specs.Nodes.{nodes_of};
 ghost use Rattle.hii_varstore.specs.Stores.{StoreMap};
-ghost use Rattle.guard_policy.specs.AskedLeft.{asked_node};
-ghost use Rattle.guard_policy.specs.Support.{IsSubjectOf, ids_behind, support};
-ghost use Rattle.guard_policy.specs.SupportLeft.{ids_left, support_left};
+ghost use Rattle.guard_policy.specs.Support.{IsSubjectOf, ids_behind, support, support_at};
+ghost use Rattle.guard_policy.specs.SupportLeft.{ids_left, support_at_left, support_left};
 ghost use Rattle.guard_policy.specs.Views.{world};
 
-use crate::asked::AskedCondition;
 use crate::decision_conditions::DecisionConditions;
 use crate::policy::Policy;
 use crate::support::Decision;
-use ifr_scopes::{Dependence, Forms};
+use ifr_scopes::{AnyCondition, Dependence, Forms};
 
 /// The ids of the questions on whose answers a decision depends, those that are left: condition by condition.
 #[derive(Drop)]
@@ -24,16 +23,17 @@ pub struct SupportOf<'a, 's> {
     ids: Option<Dependence<'s, 'a>>,
 }
 
+/// The ids of the questions on whose answers one condition depends, those that are left.
+#[derive(Drop)]
+pub struct SupportAt<'a, 's> {
+    ids: Option<Dependence<'s, 'a>>,
+}
+
 // The ids of the questions on whose answers a condition depends.
-fn ids_of<'a, 's>(condition: AskedCondition<'a>, forms: &'s Forms<'a>) -> Dependence<'s, 'a>
-    ensures { dependence_left result ≡ ids_behind (nodes_of forms.now) (asked_node condition.entry) }
+fn ids_of<'a, 's>(condition: AnyCondition<'a>, forms: &'s Forms<'a>) -> Dependence<'s, 'a>
+    ensures { dependence_left result ≡ ids_behind (nodes_of forms.now) (any_condition_node condition.entry) }
 {
-    match condition {
-        AskedCondition::Guard(guard) => forms.dependence(guard.condition(), guard.this()),
-        AskedCondition::Question(condition) => {
-            forms.dependence(condition.condition(), condition.this())
-        }
-    }
+    forms.dependence(condition.condition(), condition.this())
 }
 
 // The next of the ids behind a condition, if there is one.
@@ -57,6 +57,33 @@ impl<'a, 's> Policy<'a, 's> {
             conditions: DecisionConditions::of(*self, decision),
             ids: None,
         }
+    }
+
+    /// The ids of the questions on whose answers the condition of the opcode at a place depends, in bytes from the header of
+    /// the forms package; none where no condition stands. An id may come more than once. It takes no memory.
+    pub fn support_at(&self, place: u32) -> SupportAt<'a, 's>
+        ensures { support_at_left result ≡ support_at (nodes_of self.now.forms.now) place }
+    {
+        match self.forms.condition_at(place) {
+            Some(condition) => SupportAt {
+                ids: Some(ids_of(condition, self.forms)),
+            },
+            None => SupportAt { ids: None },
+        }
+    }
+}
+
+impl<'a, 's> Iterator for SupportAt<'a, 's> {
+    ghost use Rattle.std.specs.Iterator.{item_count};
+
+    type Item = u16;
+
+    ghost next_gives = { YieldsFirstBy (λ id. id) support_at_left };
+
+    ghost remaining = { item_count support_at_left };
+
+    fn next(&mut self) -> Option<u16> {
+        next_id(&mut self.ids)
     }
 }
 

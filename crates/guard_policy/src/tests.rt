@@ -253,6 +253,16 @@ fn decisions_depend_on_questions<'a>(
     assert_eq!(rt; (ids.next(), ids.next()), (Some(7), None));
 }
 
+fn conditions_are_found<'a>(rt: &impl Abort, policy: Policy<'a, '_>, stores: &Stores) {
+    let conditions = policy.over(stores);
+    for (place, holds) in [(51, false), (91, true), (146, true), (65, false)] {
+        assert_eq!(rt; conditions.holds(place), holds);
+    }
+    for (place, question) in [(51, Some(7)), (91, Some(5)), (170, None), (65, None)] {
+        assert_eq!(rt; policy.support_at(place).next(), question);
+    }
+}
+
 // What a policy decides over stores in which the question 5 is 2 and the others are 0.
 fn policy_decides<'a, R: Abort>(
     rt: &R,
@@ -272,6 +282,7 @@ fn policy_decides<'a, R: Abort>(
     values_are_denied(rt, policy, questions, stores);
     kept_conditions_decide(rt, policy, questions, form);
     decisions_depend_on_questions(rt, policy, questions);
+    conditions_are_found(rt, policy, stores);
 }
 
 fn form_is_suppressed<'a, R: Abort + AllocGlobal>(

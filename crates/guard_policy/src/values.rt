@@ -12,21 +12,25 @@ ghost use Rattle.guard_policy.specs.Warned.{warning_of, warnings_left};
 ghost use Rattle.guard_policy.specs.World.{is_met};
 ghost use Rattle.guard_policy.specs.declared.support.Decision.TheVariants.{MaySubmit};
 
-use crate::asked::AskedCondition;
 use crate::conditions::{Conditions, Kept, Verdicts, condition_holds};
 use crate::denial::Denial;
 use crate::policy::Policy;
 use crate::warnings::Warnings;
 use hii_questions::{DenialKind, Question};
 use hii_varstore::Stores;
-use ifr_scopes::{ConditionView, ConditionViews, NoSubmit};
+use ifr_scopes::{AnyCondition, ConditionView, ConditionViews, NoSubmit};
 
 impl<'a, 's> Policy<'a, 's> {
     /// Whether a condition of a question holds.
     pub(crate) fn condition_holds(&self, condition: ConditionView<'a>, stores: &Stores) -> bool
         ensures { result ≡ is_met (world self.now stores.now) (condition_node condition.entry) }
     {
-        condition_holds(condition, self.forms, self.questions, stores)
+        condition_holds(
+            AnyCondition::Question(condition),
+            self.forms,
+            self.questions,
+            stores,
+        )
     }
 
     // The first of some conditions that holds.
@@ -61,7 +65,7 @@ impl<'a, 's> Policy<'a, 's> {
     fn denies<V: Verdicts<'a>>(&self, nosubmit: NoSubmit<'_, 'a>, verdicts: &V) -> bool
         ensures { result ≡ spec.denies_submission (world_by self.now (V.met verdicts.now)) (no_submit_node nosubmit.entry) }
     {
-        let condition = AskedCondition::Question(nosubmit.condition);
+        let condition = AnyCondition::Question(nosubmit.condition);
         !self.is_removed(nosubmit.guards) && verdicts.is_met(condition)
     }
 

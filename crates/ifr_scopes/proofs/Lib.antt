@@ -17,6 +17,7 @@ pub mod IndexLemmas
 pub mod LockLemmas
 pub mod KeptLockLemmas
 pub mod PathLemmas
+pub mod ConditionAtLemmas
 pub mod RuleFacts
 pub mod QuestionFacts
 pub mod ThisLemmas

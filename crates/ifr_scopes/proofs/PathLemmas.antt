@@ -2,13 +2,13 @@
 use Rattle.std.proofs.Common.{◌≡◌, ℕ, zero, suc, ◌+◌, ◌<◌, ◌≤◌, Bool, true, false, eqb, Option, Some, None, List, [], ◌∷◌, ◌++◌, length, map, get_or, refl, sym, ap, ◌∙◌, subst, inl, inr, arith}
 use Rattle.std.specs.Prelude.{Contains, ◌&&◌, filter, option_map}
 use Rattle.std.specs.List.{AllByRecursion}
-use Rattle.std.proofs.lemmas.Bool.{cases_Bool, eq-eqb, ne_eqb, cond-true, cond-false}
+use Rattle.std.proofs.lemmas.Bool.{cases_Bool, eq-eqb, eqb-true, ne_eqb, cond-true, cond-false, and_parts}
 use Rattle.std.proofs.lemmas.List.Elements.{All-from_recursion, Contains-get_or}
 use Rattle.ifr_opcodes.specs.Opcode.{number}
 use Rattle.ifr_opcodes.specs.Forest.{flat, Ancestor, Placed, as_ancestor, below, Spells}
 use Rattle.ifr_opcodes.specs.Reading.{tree_of}
 use Rattle.ifr_scopes.specs.Guards.{is_guard, node_within, nodes_on, guards, guards_among}
-use Rattle.ifr_scopes.specs.Index.{is_indexed, indexed_at, entry_of, or_none, guards_of_indexed, lock_of_indexed}
+use Rattle.ifr_scopes.specs.Index.{is_indexed, kind_at, indexed_at, entry_of, or_none, guards_of_indexed, lock_of_indexed}
 use Rattle.ifr_scopes.specs.Kept.{IsKept, AreKept, kept_guard, kept_guards, kept_at}
 use Rattle.ifr_scopes.specs.Locks.{first_lock}
 use Rattle.ifr_scopes.specs.Nodes.{nodes_of, is_statement, statements, this_of}
@@ -66,11 +66,22 @@ keeps bytes n s within =
 
 -- ---- what the index has at a place
 
-find_within : (ns : List Placed) (place : ℕ) (n : Placed) → indexed_at ns place ≡ Some n → Contains ns n
-find_within [] place n e = absurd cc
-find_within (m ∷ ns) place n e = elim (cases_Bool (is_indexed m && eqb m.place place)) [
-  | inl here ↦ let same : m ≡ n = cc (sym (cond-true (is_indexed m && eqb m.place place) (Some m) (indexed_at ns place) here) ∙ e) in (0, omega arith, same)
-  | inr later ↦ further m ns n (find_within ns place n (sym (cond-false (is_indexed m && eqb m.place place) (Some m) (indexed_at ns place) later) ∙ e))
+-- One of these nodes is of the kind, and stands at the place.
+pub record IsKindAt (is : Placed → Bool) (ns : List Placed) (place : ℕ) (n : Placed) : Type 0 where
+  pub within : Contains ns n
+  pub holds : is n ≡ true
+  pub placed : n.place ≡ place
+
+pub find_within : (is : Placed → Bool) (ns : List Placed) (place : ℕ) (n : Placed) → kind_at is ns place ≡ Some n → IsKindAt is ns place n
+find_within is [] place n e = absurd cc
+find_within is (m ∷ ns) place n e = elim (cases_Bool (is m && eqb m.place place)) [
+  | inl here ↦
+      let same : m ≡ n = cc (sym (cond-true (is m && eqb m.place place) (Some m) (kind_at is ns place) here) ∙ e) in
+      let both = and_parts (is m) (eqb m.place place) here in
+      record { within = (0, omega arith, same); holds = ap is (sym same) ∙ both.0; placed = ap (λ (p : Placed). p.place) (sym same) ∙ eqb-true m.place place both.1 }
+  | inr later ↦
+      let its = find_within is ns place n (sym (cond-false (is m && eqb m.place place) (Some m) (kind_at is ns place) later) ∙ e) in
+      record { within = further m ns n its.within; holds = its.holds; placed = its.placed }
 ]
 
 pub kept_some : (bytes : List ℕ) (place : ℕ) (kept : List GuardPlace) → Spells bytes (tree_of bytes) → Some kept ≡ kept_at (nodes_of bytes) place → Keeps bytes kept (guards_of_indexed (nodes_of bytes) place)
@@ -81,7 +92,7 @@ kept_some bytes place kept s e = go (indexed_at (nodes_of bytes) place) refl e
     go (Some n) is e =
         let same : kept ≡ kept_guards n = cc in
         let its : guards n ≡ guards_of_indexed (nodes_of bytes) place = sym (ap (λ (o : Option Placed). or_none (option_map guards o)) is) in
-        subst (Keeps bytes kept) its (subst (λ (l : List GuardPlace). Keeps bytes l (guards n)) (sym same) (keeps bytes n s (find_within (nodes_of bytes) place n is)))
+        subst (Keeps bytes kept) its (subst (λ (l : List GuardPlace). Keeps bytes l (guards n)) (sym same) (keeps bytes n s (find_within is_indexed (nodes_of bytes) place n is).within))
 
 pub kept_none : (bytes : List ℕ) (place : ℕ) → None ≡ kept_at (nodes_of bytes) place → guards_of_indexed (nodes_of bytes) place ≡ []
 kept_none bytes place e = go (indexed_at (nodes_of bytes) place) e

@@ -25,6 +25,7 @@ pub mod Frames
 pub mod DependenceLeft
 pub mod PartsLeft
 pub mod Parts
+pub mod AnyConditions
 pub mod KeptNoSubmits
 pub mod NoSubmitsLeft
 pub mod Accepted

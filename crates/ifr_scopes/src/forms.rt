@@ -5,19 +5,23 @@ ghost use Rattle.hii_bytes.specs.Faults.{Refuses};
 ghost use Rattle.ifr_opcodes.specs.Forest.{Placed};
 ghost use Rattle.ifr_opcodes.specs.Opcode.{number};
 ghost use Rattle.ifr_scopes.specs.Accepted.{IsAccepted, IsPackageFault};
+ghost use Rattle.ifr_scopes.specs.AnyConditions.{any_condition_node};
 ghost use Rattle.ifr_scopes.specs.Checked.{node_in};
 ghost use Rattle.ifr_scopes.specs.Guards.{is_guard};
-ghost use Rattle.ifr_scopes.specs.Index.{guards_of_indexed, lock_of_indexed};
+ghost use Rattle.ifr_scopes.specs.Index.{conditional_at, guards_of_indexed, lock_of_indexed};
 ghost use Rattle.ifr_scopes.specs.Kept.{AreKept};
 ghost use Rattle.ifr_scopes.specs.Lists.{form_set_node, stores_left, all_guards_left, forms_left, statements_left, guards_left};
 ghost use Rattle.ifr_scopes.specs.LocksLeft.{lock_node};
 ghost use Rattle.ifr_scopes.specs.Nodes.{nodes_of, is_form, is_store, is_statement, is_no_submit};
 ghost use Rattle.ifr_scopes.specs.NoSubmitsLeft.{no_submits_left};
 
+use crate::any_condition::AnyCondition;
+use crate::condition_index::{ConditionIndex, conditions_of};
+use crate::condition_view::ConditionView;
 use crate::form::FormViews;
 use crate::form_set::FormSet;
 use crate::framing::check_framing;
-use crate::guard::GuardViews;
+use crate::guard::{Guard, GuardViews};
 use crate::guard_place::GuardPlace;
 use crate::guards_at::GuardsAt;
 use crate::index::{Index, index_of};
@@ -46,6 +50,7 @@ pub struct Forms<'a> {
     index: Index,
     locks: LockIndex,
     no_submits: Vec<NoSubmitPlace>,
+    conditions: ConditionIndex,
 }
 
 impl<'a> Model for Forms<'a> {
@@ -53,7 +58,7 @@ impl<'a> Model for Forms<'a> {
     ghost use Rattle.std.specs.BTreeMap.{get};
     ghost use Rattle.std.specs.Ordering.{nat_cmp};
     ghost use Rattle.ifr_scopes.specs.Accepted.{IsAccepted};
-    ghost use Rattle.ifr_scopes.specs.Index.{lock_place_at};
+    ghost use Rattle.ifr_scopes.specs.Index.{lock_place_at, this_at};
     ghost use Rattle.ifr_scopes.specs.Kept.{kept_at};
     ghost use Rattle.ifr_scopes.specs.KeptNoSubmits.{kept_no_submit};
     ghost use Rattle.ifr_scopes.specs.KeptRules.{AreKept};
@@ -63,7 +68,7 @@ impl<'a> Model for Forms<'a> {
 
     ghost view = { λ s. s.ifr.now };
 
-    ghost invariant = { λ s. IsAccepted s.ifr.now × ((place : ℕ) → option_map (λ v. v.items) (get nat_cmp s.index place) ≡ kept_at (nodes_of s.ifr.now) place) × AreKept (nodes_of s.ifr.now) s.rules × ((place : ℕ) → get nat_cmp s.locks place ≡ lock_place_at (nodes_of s.ifr.now) place) × (s.no_submits.items ≡ map kept_no_submit (filter is_no_submit (nodes_of s.ifr.now))) };
+    ghost invariant = { λ s. IsAccepted s.ifr.now × ((place : ℕ) → option_map (λ v. v.items) (get nat_cmp s.index place) ≡ kept_at (nodes_of s.ifr.now) place) × AreKept (nodes_of s.ifr.now) s.rules × ((place : ℕ) → get nat_cmp s.locks place ≡ lock_place_at (nodes_of s.ifr.now) place) × (s.no_submits.items ≡ map kept_no_submit (filter is_no_submit (nodes_of s.ifr.now))) × ((place : ℕ) → get nat_cmp s.conditions place ≡ this_at (nodes_of s.ifr.now) place) };
 }
 
 impl<'a> Forms<'a> {
@@ -85,13 +90,17 @@ impl<'a> Forms<'a> {
         let Ok(locks) = locks_of(alloc, ifr) else {
             return Err(Fault::out_of_memory());
         };
-        match no_submits_of(alloc, ifr) {
-            Ok(no_submits) => Ok(Forms {
+        let Ok(no_submits) = no_submits_of(alloc, ifr) else {
+            return Err(Fault::out_of_memory());
+        };
+        match conditions_of(alloc, ifr) {
+            Ok(conditions) => Ok(Forms {
                 ifr,
                 rules,
                 index,
                 locks,
                 no_submits,
+                conditions,
             }),
             Err(_) => Err(Fault::out_of_memory()),
         }
@@ -189,6 +198,19 @@ impl<'a> Forms<'a> {
         Some(LockView {
             node: node_at(self.ifr, *lock),
         })
+    }
+
+    /// The condition of the opcode at a place, in bytes from the package's header, if it has one.
+    pub fn condition_at(&self, place: u32) -> Option<AnyCondition<'a>>
+        ensures { option_map any_condition_node result ≡ conditional_at (nodes_of self.now) place }
+    {
+        let this = *self.conditions.get(&place)?;
+        let node = node_at(self.ifr, place);
+        if node.is_guard() {
+            Some(AnyCondition::Guard(Guard { node, this }))
+        } else {
+            Some(AnyCondition::Question(ConditionView { node, this }))
+        }
     }
 }
 

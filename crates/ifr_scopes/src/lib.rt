@@ -1,6 +1,8 @@
 //! The nodes of a forms package: its framing, and walks over them (UEFI 2.8, 33.3.8 Forms Package).
 #![tactic(auto)]
 
+mod any_condition;
+mod condition_index;
 mod condition_view;
 mod default_view;
 mod dependence;
@@ -39,6 +41,7 @@ mod tests;
 mod varstore;
 mod walk;
 
+pub use any_condition::AnyCondition;
 pub use condition_view::{ConditionOp, ConditionView, ConditionViews};
 pub use default_view::{DefaultView, Defaults};
 pub use dependence::Dependence;

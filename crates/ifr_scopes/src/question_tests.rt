@@ -251,6 +251,39 @@ fn conditions_of_a_submission(rt: HostRuntime) -> Result<(), Fail> {
     Ok(())
 }
 
+#[test]
+fn condition_of_a_guard(rt: HostRuntime) -> Result<(), Fail> {
+    let (bytes, len) = with(&DENYING);
+    let forms = forms_of(rt.alloc(), &bytes[..len])?;
+    let condition = forms.condition_at(33).expect(&rt, "a condition");
+    assert!(rt; matches!(condition, AnyCondition::Guard(_)));
+    assert_eq!(rt; (condition.place(), condition.this()), (33, 0));
+    assert!(rt; condition.condition().holds(&Nobody, &forms, 0));
+    Ok(())
+}
+
+#[test]
+fn condition_of_a_question(rt: HostRuntime) -> Result<(), Fail> {
+    let (bytes, len) = with(&DENYING);
+    let forms = forms_of(rt.alloc(), &bytes[..len])?;
+    let condition = forms.condition_at(51).expect(&rt, "a condition");
+    assert!(rt; matches!(condition, AnyCondition::Question(_)));
+    assert_eq!(rt; (condition.place(), condition.this()), (51, 1));
+    assert!(rt; condition.condition().holds(&Nobody, &forms, 1));
+    Ok(())
+}
+
+#[test]
+fn places_without_a_condition(rt: HostRuntime) -> Result<(), Fail> {
+    let (bytes, len) = with(&DENYING);
+    let forms = forms_of(rt.alloc(), &bytes[..len])?;
+    // the question, the middle of its opcode, and a place behind the package
+    for place in [37, 38, 128] {
+        assert!(rt; forms.condition_at(place).is_none());
+    }
+    Ok(())
+}
+
 // A form set with stores of all kinds.
 const STORES: [u8; 108] = [
     108, 0, 0, 2, // the package's header

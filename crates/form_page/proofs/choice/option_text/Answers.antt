@@ -16,15 +16,15 @@ use Rattle.guard_policy.proofs.OptionLemmas.{options_are_nodes, first_of, rest_o
 use Rattle.form_page.proofs.choice.option_text.Goals as goal
 
 pub loop-option-init : goal.loop-option-init
-loop-option-init c =
+loop-option-init g c =
     let accepted = subst IsAccepted c.forms.ensures c.bytes.ensures.accepted in
     rw c.options-options.ensures (refl, options_are_nodes (bytes_of c.args.page.policy) (statement_node c.args.statement) accepted.checked.spelled c.requires)
 
 pub is_choice-requires : goal.is_choice-requires
-is_choice-requires c = first_of _ _ _ _ c.in-Some.ensures.steps c.loop-option.invariant.1
+is_choice-requires g c = first_of _ _ _ _ c.in-Some.ensures.steps c.loop-option.invariant.1
 
 pub returns-then-is_choice : goal.returns-then-is_choice
-returns-then-is_choice c =
+returns-then-is_choice g c =
     let w = world c.args.page.policy c.args.page.stores.now in
     let texts = shown_text c.args.page.languages.now (choice_of c.args.page.choice) in
     let o = option_node c.in-Some.option in
@@ -36,7 +36,7 @@ returns-then-is_choice c =
     rw (first, c.text-then-is_choice.ensures.characters, c.text.ensures, c.op.ensures.bytes) refl
 
 pub loop-option-preserved : goal.loop-option-preserved
-loop-option-preserved c =
+loop-option-preserved g c =
     let w = world c.args.page.policy c.args.page.stores.now in
     let o = option_node c.in-Some.option in
     let value = c.args.value in

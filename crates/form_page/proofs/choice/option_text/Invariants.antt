@@ -9,10 +9,10 @@ use Rattle.form_page.proofs.choice.option_text.Given as goal
 
 -- the options that were met have another value or are hidden
 abbrev pub invariant-loop-option : goal.invariant-loop-option
-invariant-loop-option l =
+invariant-loop-option g l =
     let w = world l.page.policy l.page.stores.now in
     (option_with w (options_left l.options) l.value ≡ option_with w (options (statement_node l.statement)) l.value)
     × AreNodesOf (bytes_of l.page.policy) (options_left l.options)
 
 abbrev pub decreases-loop-option : goal.decreases-loop-option
-decreases-loop-option l = length (options_left l.options)
+decreases-loop-option g l = length (options_left l.options)

@@ -14,11 +14,11 @@ use Rattle.form_page.proofs.WholeTexts.{whole_texts}
 use Rattle.form_page.proofs.statement_value.question_value.Goals as goal
 
 pub stored_value-requires-clause-whole : goal.stored_value-requires-clause-whole
-stored_value-requires-clause-whole c = λ units e.
+stored_value-requires-clause-whole g c = λ units e.
     whole_texts c.args.page.stores.now (question_node c.in-Some.question) (question_view c.in-Some.question).field units (sym c.read_value.ensures ∙ e)
 
 pub returns-in-Some : goal.returns-in-Some
-returns-in-Some c =
+returns-in-Some g c =
     let ns = nodes_of (bytes_of c.args.page.policy) in
     let n = statement_node c.args.statement in
     let stores = c.args.page.stores.now in

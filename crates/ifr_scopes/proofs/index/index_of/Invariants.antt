@@ -2,6 +2,7 @@ use Rattle.std.proofs.Common.{◌≡◌, Some, length}
 use Rattle.std.specs.Prelude.{option_map}
 use Rattle.std.specs.BTreeMap.{get}
 use Rattle.std.specs.Ordering.{nat_cmp}
+use Rattle.ifr_scopes.specs.Index.{is_indexed}
 use Rattle.ifr_scopes.specs.Kept.{kept_guards, kept_at}
 use Rattle.ifr_scopes.specs.Nodes.{nodes_of}
 use Rattle.ifr_scopes.specs.Visits.{left}
@@ -10,7 +11,7 @@ use Rattle.ifr_scopes.proofs.index.index_of.Given as goal
 
 abbrev pub invariant-loop-met : goal.invariant-loop-met
 invariant-loop-met l = record {
-  filled : Indexes (λ n. Some (kept_guards n)) (kept_at (nodes_of l.ifr)) (λ place. option_map (λ v. v.items) (get nat_cmp l.index place)) (left l.nodes.walk);
+  filled : Indexes is_indexed (λ n. Some (kept_guards n)) (kept_at (nodes_of l.ifr)) (λ place. option_map (λ v. v.items) (get nat_cmp l.index place)) (left l.nodes.walk);
   kept : l.nodes.walk.bytes.now ≡ l.ifr;
 }
 

@@ -1,5 +1,5 @@
 use Rattle.std.proofs.Common.{◌≡◌, ◌∙◌, ◌+◌, ◌∷◌, true, sym, ap, subst, length, arith}
-use Rattle.std.specs.Prelude.{filter, is_none, is_ok}
+use Rattle.std.specs.Prelude.{filter, is_none}
 use Rattle.ifr_opcodes.specs.Forest.{Placed}
 use Rattle.ifr_scopes.specs.Lists.{statements_left}
 use Rattle.hii_languages.specs.Shown.{shown_text}
@@ -12,42 +12,41 @@ use Rattle.ifr_scopes.specs.Checked.{IsNodeOf}
 use Rattle.ifr_scopes.specs.Lists.{statement_node}
 use Rattle.guard_policy.specs.Views.{bytes_of, world}
 use Rattle.form_page.specs.declared.page.Page.{Page}
-use Rattle.guard_policy.proofs.DenialLemmas.{allowed}
 use Rattle.guard_policy.proofs.OptionLemmas.{first_of, rest_of}
 use Rattle.form_page.proofs.StatementLemmas.{rows_first}
 use Rattle.form_page.proofs.page.RowsIterator.next.Goals as goal
 
-pub listed-requires : goal.listed-requires
-listed-requires c = subst (λ (page : Page). IsNodeOf (bytes_of page.policy) (statement_node c.in-Some.statement)) (sym c.loop-statement.invariant.0) (first_of _ _ _ _ c.in-Some.ensures.steps c.loop-statement.self.together)
+pub is_listed-requires : goal.is_listed-requires
+is_listed-requires g c = subst (λ (page : Page _ _). IsNodeOf (bytes_of page.policy) (statement_node c.in-Some.statement)) (sym c.loop-statement.invariant.0) (first_of _ _ _ _ c.in-Some.ensures.steps c.loop-statement.self.together)
 
 pub row_of-row-requires : goal.row_of-row-requires
-row_of-row-requires c = subst (λ (page : Page). IsNodeOf (bytes_of page.policy) (statement_node c.in-Some.statement)) (sym c.loop-statement.invariant.0) (first_of _ _ _ _ c.in-Some.ensures.steps c.loop-statement.self.together)
+row_of-row-requires g c = subst (λ (page : Page _ _). IsNodeOf (bytes_of page.policy) (statement_node c.in-Some.statement)) (sym c.loop-statement.invariant.0) (first_of _ _ _ _ c.in-Some.ensures.steps c.loop-statement.self.together)
 
 pub overflow_add-self : goal.overflow_add-self
-overflow_add-self c = omega (arith, c.loop-statement.self.few, ap length c.in-Some.ensures.steps)
+overflow_add-self g c = omega (arith, c.loop-statement.self.few, ap length c.in-Some.ensures.steps)
 
 pub invariant_of-self : goal.invariant_of-self
-invariant_of-self c = record {
+invariant_of-self g c = record {
   together = rest_of _ _ _ _ c.in-Some.ensures.steps c.loop-statement.self.together;
   few = omega (arith, c.loop-statement.self.few, ap length c.in-Some.ensures.steps);
 }
 
-pub invariant_of-self-else-is_ok : goal.invariant_of-self-else-is_ok
-invariant_of-self-else-is_ok c = record {
+pub invariant_of-self-else-is_listed : goal.invariant_of-self-else-is_listed
+invariant_of-self-else-is_listed g c = record {
   together = rest_of _ _ _ _ c.in-Some.ensures.steps c.loop-statement.self.together;
   few = omega (arith, c.loop-statement.self.few, ap length c.in-Some.ensures.steps);
 }
 
-pub returns-then-is_ok-clause-steps : goal.returns-then-is_ok-clause-steps
-returns-then-is_ok-clause-steps c =
+pub returns-then-is_listed-clause-steps : goal.returns-then-is_listed-clause-steps
+returns-then-is_listed-clause-steps g c =
     let it = c.loop-statement.self in
     let n = statement_node c.in-Some.statement in
     let w = world it.page.policy it.page.stores.now in
     let texts = shown_text it.page.languages.now (choice_of it.page.choice) in
     let same = c.loop-statement.invariant.0 in
     let shown : is_none (hidden w n) ≡ true =
-    subst (λ (page : Page). is_none (hidden (world page.policy page.stores.now) n) ≡ true) same (sym (allowed _) ∙ sym (ap is_ok c.listed.ensures) ∙ sym c.is_ok.ensures.value ∙ c.if-is_ok.true) in
+    subst (λ (page : Page _ _). is_none (hidden (world page.policy page.stores.now) n) ≡ true) same (sym c.is_listed.ensures ∙ c.if-is_listed.true) in
     let row : row_seen c.row_of-row.result ≡ pages.row_of texts w it.number n =
-    subst (λ (page : Page). row_seen c.row_of-row.result ≡ pages.row_of (shown_text page.languages.now (choice_of page.choice)) (world page.policy page.stores.now) it.number n) same c.row_of-row.ensures in
+    subst (λ (page : Page _ _). row_seen c.row_of-row.result ≡ pages.row_of (shown_text page.languages.now (choice_of page.choice)) (world page.policy page.stores.now) it.number n) same c.row_of-row.ensures in
     let later = rows_from texts w (it.number + 1) (filter (λ (m : Placed). is_none (hidden w m)) (statements_left c.next.new.self)) in
     sym c.loop-statement.invariant.1 ∙ rows_first texts w it.number _ _ n c.in-Some.ensures.steps shown ∙ ap (λ (r : pages.Row). r ∷ later) (sym row)

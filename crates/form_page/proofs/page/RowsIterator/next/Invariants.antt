@@ -5,7 +5,7 @@ use Rattle.form_page.proofs.page.RowsIterator.next.Given as goal
 
 -- the statements that were passed are hidden
 abbrev pub invariant-loop-statement : goal.invariant-loop-statement
-invariant-loop-statement l = (l.page ≡ l.self.page) × (rows_left l.self ≡ rows_left l.fn.self)
+invariant-loop-statement g l = (l.page ≡ l.self.page) × (rows_left l.self ≡ rows_left l.fn.self)
 
 abbrev pub decreases-loop-statement : goal.decreases-loop-statement
-decreases-loop-statement l = length (statements_left l.self.statements)
+decreases-loop-statement g l = length (statements_left l.self.statements)

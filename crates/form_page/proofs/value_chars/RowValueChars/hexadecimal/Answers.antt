@@ -6,4 +6,4 @@ use Rattle.form_page.proofs.value_chars.RowValueChars.hexadecimal.Goals as goal
 
 pub returns : goal.returns
 unfolding chars_of_units
-returns c = digits_alone _ _ _ _ c.chars.ensures (c.chars-2.ensures ∙ ap chars_of_units c.new.ensures) ∙ ap (λ (front : List ℕ). front ++ hex_digits (2 * c.args.number.width) c.args.number.number) c.of.ensures
+returns g c = digits_alone _ _ _ _ c.chars.ensures (c.chars-2.ensures ∙ ap chars_of_units c.new.ensures) ∙ ap (λ (front : List ℕ). front ++ hex_digits (2 * c.args.number.width) c.args.number.number) c.of.ensures

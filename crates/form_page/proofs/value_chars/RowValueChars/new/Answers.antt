@@ -5,4 +5,4 @@ use Rattle.form_page.proofs.value_chars.RowValueChars.new.Goals as goal
 
 pub returns : goal.returns
 unfolding chars_of_units
-returns c = without_units _ _ _ _ (c.chars.ensures ∙ ap chars_of_units c.new.ensures)
+returns g c = without_units _ _ _ _ (c.chars.ensures ∙ ap chars_of_units c.new.ensures)

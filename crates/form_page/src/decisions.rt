@@ -1,0 +1,53 @@
+//! What a page decides, by what is kept of conditions.
+
+ghost use Rattle.std.specs.Prelude.{◌≡◌, is_none, is_some};
+ghost use Rattle.ifr_scopes.specs.Checked.{IsNodeOf};
+ghost use Rattle.ifr_scopes.specs.Lists.{statement_node};
+ghost use Rattle.ifr_scopes.specs.Parts.{option_node};
+ghost use Rattle.guard_policy.specs.Policy.{hidden, fixed};
+ghost use Rattle.guard_policy.specs.Views.{bytes_of, world};
+
+use crate::page::Page;
+use guard_policy::Conditions;
+use guard_policy::laws::what_is_kept_tells;
+use ifr_scopes::{OptionView, Statement};
+
+/// Whether a statement is seen.
+pub(crate) fn is_listed<'a, C: Conditions>(page: Page<'a, '_, C>, statement: Statement<'a>) -> bool
+    requires { IsNodeOf (bytes_of page.policy) (statement_node statement) }
+    ensures { result ≡ is_none (hidden (world page.entry.policy page.entry.stores.now) (statement_node statement.entry)) }
+{
+    what_is_kept_tells();
+    // The package is accepted.
+    page.policy.forms().bytes();
+    page.policy.listed_by(statement, page.conditions).is_ok()
+}
+
+/// Whether a statement may not be changed.
+pub(crate) fn is_fixed<'a, C: Conditions>(page: Page<'a, '_, C>, statement: Statement<'a>) -> bool
+    requires { IsNodeOf (bytes_of page.policy) (statement_node statement) }
+    ensures { result ≡ is_some (fixed (world page.entry.policy page.entry.stores.now) (statement_node statement.entry)) }
+{
+    what_is_kept_tells();
+    // The package is accepted.
+    page.policy.forms().bytes();
+    page.policy
+        .changeable_by(statement, page.conditions)
+        .is_err()
+}
+
+/// Whether an option is seen.
+pub(crate) fn is_option_listed<'a, C: Conditions>(
+    page: Page<'a, '_, C>,
+    option: OptionView<'a>,
+) -> bool
+    requires { IsNodeOf (bytes_of page.policy) (option_node option) }
+    ensures { result ≡ is_none (hidden (world page.entry.policy page.entry.stores.now) (option_node option.entry)) }
+{
+    what_is_kept_tells();
+    // The package is accepted.
+    page.policy.forms().bytes();
+    page.policy
+        .option_listed_by(option, page.conditions)
+        .is_ok()
+}
