@@ -1,5 +1,5 @@
 -- What a run leaves, by how it ended.
-use Rattle.std.proofs.Common.{◌≡◌, ◌≢◌, ◌⊎◌, ℕ, List, Option, None, Some, IfSome, Result, Ok, Err, refl, ap, ◌∙◌, subst, inl, inr}
+use Rattle.std.proofs.Common.{◌≡◌, ◌≢◌, ◌⊎◌, ℕ, List, Option, None, Some, IfSome, refl, ap, subst, inl, inr}
 use Rattle.std.proofs.lemmas.Option.{IfSome_then}
 use Rattle.std.specs.Io.KnownBytes.{Appends}
 use Rattle.hii_bytes.specs.declared.cause.Cause.TheVariants.{OutOfMemory}
@@ -9,9 +9,7 @@ use Rattle.hii_bytes.specs.Watching.{Pen}
 use Rattle.browser_core.specs.Opening.{IsOpenFault}
 use Rattle.hii_varstore.specs.Image.{image_of}
 use Rattle.browser_core.specs.State.{State}
-use Rattle.browser_core.specs.Run.{outcome_of, Finishes, BreaksOff, Overflows, Runs}
-use Rattle.browser_core.specs.declared.reply.RunFault.{RunFault}
-use Rattle.browser_core.specs.declared.reply.RunFault.TheVariants.{Read, Write}
+use Rattle.browser_core.specs.Run.{outcome_of, Finishes}
 use Rattle.browser_core.specs.declared.reply.End.{End}
 use Rattle.browser_core.specs.declared.reply.End.TheVariants as end
 use Rattle.browser_core.proofs.RunLemmas.{finishes_known}
@@ -49,20 +47,6 @@ refused_serves given before WriteAnswers fault answered why told = (
 )
 refused_serves given before WriteOut fault answered why told = absurd told
 refused_serves given before NoMemory fault answered why told = (refl, told.1)
-
--- ---- what a script left, by how it ended
-
-pub finishes_at : (start now : State) (pen new : Pen) (reader left : Option (List ℕ)) (result : Result End RunFault) (ended wanted : End)
-    → result ≡ Ok ended → ended ≡ wanted → Runs start pen reader result now new left → Finishes start pen reader wanted now new left
-finishes_at start now pen new reader left result ended wanted is same runs = subst (λ r. Runs start pen reader r now new left) (is ∙ ap Ok same) runs
-
-pub breaks_at : (start now : State) (pen new : Pen) (reader left : Option (List ℕ)) (result : Result End RunFault) (fault : RunFault)
-    → result ≡ Err fault → fault ≡ Read → Runs start pen reader result now new left → BreaksOff start pen reader now new left
-breaks_at start now pen new reader left result fault is same runs = subst (λ r. Runs start pen reader r now new left) (is ∙ ap Err same) runs
-
-pub overflows_at : (start now : State) (pen new : Pen) (reader left : Option (List ℕ)) (result : Result End RunFault) (fault : RunFault)
-    → result ≡ Err fault → fault ≡ Write → Runs start pen reader result now new left → Overflows start pen reader now new left
-overflows_at start now pen new reader left result fault is same runs = subst (λ r. Runs start pen reader r now new left) (is ∙ ap Err same) runs
 
 -- ---- a known script
 

@@ -2,7 +2,8 @@
 
 ghost use Rattle.std.specs.Prelude.{◌≡◌, IfSome, true};
 ghost use Rattle.hii_bytes.specs.Watching.{pen_of, inner_of, has_failed};
-ghost use Rattle.setup_main.specs.Serving.{Serves, ServesAll, IsTold};
+ghost use Rattle.setup_main.specs.Serving.{Starts, Serves, ServesAll, IsTold};
+ghost use Rattle.setup_main.specs.declared.serve.Given.{Given};
 
 use browser_core::{End, RunFault, Session, put_refusal, put_refusal_at};
 use hii_bytes::{Cause, Fault, Watched};
@@ -75,18 +76,27 @@ pub fn serve_watched<R: Read, A: Write, O: Write>(
     ensures answers { result ≡ Ended.WriteAnswers → has_failed answers.new ≡ true }
     ensures writes { result ≡ Ended.WriteOut → has_failed out.new ≡ true }
 {
-    let mut session = match Session::open(
-        alloc,
-        given.list,
-        given.forms,
-        given.stores,
-        given.lang,
-    ) {
-        Ok(session) => session,
-        Err(fault) => return refuse(fault, answers),
-    };
-    let ran = session.run_script(script, answers);
-    match ran {
+    match Session::open(alloc, given.list, given.forms, given.stores, given.lang) {
+        Ok(mut session) => run(&mut session, script, answers, out),
+        Err(fault) => refuse(fault, answers),
+    }
+}
+
+// Runs the script over a session that was opened, and writes the image that it leaves.
+fn run<R: Read, A: Write, O: Write>(
+    session: &mut Session<'_>,
+    script: &mut Watched<R>,
+    answers: &mut Watched<A>,
+    out: &mut Watched<O>,
+) -> Ended
+    ensures serves { (given : Given) → Starts given session.old → Serves given
+        record { script = R.remaining (inner_of script.old); answers = pen_of A.contents answers.old; out = pen_of O.contents out.old } result
+        record { script = R.remaining (inner_of script.new); answers = pen_of A.contents answers.new; out = pen_of O.contents out.new } }
+    ensures reads { result ≡ Ended.ReadScript → has_failed script.new ≡ true }
+    ensures answers { result ≡ Ended.WriteAnswers → has_failed answers.new ≡ true }
+    ensures writes { result ≡ Ended.WriteOut → has_failed out.new ≡ true }
+{
+    match session.run_script(script, answers) {
         Ok(End::Done) => match session.committed().image_into(out) {
             Ok(()) => Ended::Done,
             Err(_) => Ended::WriteOut,
