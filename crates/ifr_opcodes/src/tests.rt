@@ -2,7 +2,7 @@ use super::*;
 use hii_bytes::{Cause, Fault};
 use std::test::*;
 
-const PACKAGE: [u8; 83] = [
+static PACKAGE: [u8; 83] = [
     83, 0, 0, 2, // the package's header
     0x0e, 0x97, 1, 2, 3, 4, 5, 6, 7, 8, 9, 10, 11, 12, 13, 14, 15, 16, 0x21, 0x43, 5, 0, 1, // FORM_SET, at 4
     0x24, 26, 1, 2, 3, 4, 5, 6, 7, 8, 9, 10, 11, 12, 13, 14, 15, 16, 1, 0, 16, 0, 65, 98, 0, 9, // VARSTORE, at 27
@@ -122,20 +122,21 @@ fn operators(rt: HostRuntime) {
     assert_eq!(rt; this.op().code, THIS);
 }
 
+// Numbers, whether they are operators, whether they are known, and how many operands they take.
+static NUMBERS: [(u8, bool, bool, Option<usize>); 6] = [
+    (THIS, true, true, Some(0)),
+    (MODULO, true, true, Some(2)),
+    (BITWISE_NOT, true, true, Some(1)),
+    (FORM, false, true, None),
+    (RULE, false, true, None),
+    (0x41, false, false, None),
+];
+
 #[test]
 fn numbers_of_opcodes(rt: HostRuntime) {
-    for (code, operator, listed, taken) in [
-        (THIS, true, true, Some(0)),
-        (MODULO, true, true, Some(2)),
-        (BITWISE_NOT, true, true, Some(1)),
-        (FORM, false, true, None),
-        (RULE, false, true, None),
-        (0x41, false, false, None),
-    ] {
-        assert_eq!(rt;
-            (is_operator(code), is_listed(code), operands(code)),
-            (operator, listed, taken)
-        );
+    for (code, operator, listed, taken) in &NUMBERS {
+        let said = (is_operator(*code), is_listed(*code), operands(*code));
+        assert!(rt; said == (*operator, *listed, *taken), "at {code}");
     }
 }
 
@@ -214,7 +215,7 @@ fn a_name_without_nul(rt: HostRuntime) -> Result<(), Fail> {
 // In what follows every statement has the prompt 1 and the help 2, and every question the id 3, the store 4, the offset 5
 // and the flags 6.
 
-const TEXTS: [u8; 23] = [
+static TEXTS: [u8; 23] = [
     0x02, 7, 1, 0, 2, 0, 9, // SUBTITLE, at 0
     0x03, 8, 1, 0, 2, 0, 0x34, 0x12, // TEXT, at 7
     0x0d, 8, 1, 0, 2, 0, 0x34, 0x12, // RESET_BUTTON, at 15
@@ -245,13 +246,13 @@ fn reset_button(rt: HostRuntime) -> Result<(), Fail> {
     Ok(())
 }
 
-const NUMBER: [u8; 20] = [
+static NUMBER: [u8; 20] = [
     7, 20, 1, 0, 2, 0, 3, 0, 4, 0, 5, 0, 6, 0x21, 1, 2, 3, 4, 5, 6,
 ];
 
-const SIGNED: [u8; 17] = [7, 17, 1, 0, 2, 0, 3, 0, 4, 0, 5, 0, 6, 0x00, 0x80, 0x7f, 1];
+static SIGNED: [u8; 17] = [7, 17, 1, 0, 2, 0, 3, 0, 4, 0, 5, 0, 6, 0x00, 0x80, 0x7f, 1];
 
-const CHOICE: [u8; 38] = [
+static CHOICE: [u8; 38] = [
     5, 0xa6, 1, 0, 2, 0, 3, 0, 4, 0, 5, 0, 6, 0x33, 0, 0, 0, 0, 0, 0, 0, 0, 0, 0, 0, 0, 0, 0, 0, 0,
     0, 0, 0, 0, 0, 0, 0, 0,
 ];
@@ -289,14 +290,14 @@ fn one_of(rt: HostRuntime) -> Result<(), Fail> {
     Ok(())
 }
 
-const STRINGS: [u8; 62] = [
+static STRINGS: [u8; 62] = [
     0x1c, 16, 1, 0, 2, 0, 3, 0, 4, 0, 5, 0, 6, 7, 8, 9, // STRING, at 0
     0x08, 17, 1, 0, 2, 0, 3, 0, 4, 0, 5, 0, 6, 7, 1, 8, 2, // PASSWORD, at 16
     0x23, 15, 1, 0, 2, 0, 3, 0, 4, 0, 5, 0, 6, 7, 2, // ORDERED_LIST, at 33
     0x1a, 14, 1, 0, 2, 0, 3, 0, 4, 0, 5, 0, 6, 7, // DATE, at 48
 ];
 
-const CLOCK: [u8; 14] = [0x1b, 14, 1, 0, 2, 0, 3, 0, 4, 0, 5, 0, 6, 7];
+static CLOCK: [u8; 14] = [0x1b, 14, 1, 0, 2, 0, 3, 0, 4, 0, 5, 0, 6, 7];
 
 #[test]
 fn string(rt: HostRuntime) -> Result<(), Fail> {
@@ -339,7 +340,7 @@ fn clocks(rt: HostRuntime) -> Result<(), Fail> {
     Ok(())
 }
 
-const ACTIONS: [u8; 28] = [
+static ACTIONS: [u8; 28] = [
     0x0c, 13, 1, 0, 2, 0, 3, 0, 4, 0, 5, 0, 6, // ACTION without a text, at 0
     0x0c, 15, 1, 0, 2, 0, 3, 0, 4, 0, 5, 0, 6, 7, 1, // ACTION with one, at 13
 ];
@@ -353,13 +354,13 @@ fn actions(rt: HostRuntime) -> Result<(), Fail> {
     Ok(())
 }
 
-const SHORT_REF: [u8; 14] = [0x0f, 14, 1, 0, 2, 0, 3, 0, 4, 0, 5, 0, 6, 7];
+static SHORT_REF: [u8; 14] = [0x0f, 14, 1, 0, 2, 0, 3, 0, 4, 0, 5, 0, 6, 7];
 
-const QUESTION_OF_FORM: [u8; 17] = [0x0f, 17, 1, 0, 2, 0, 3, 0, 4, 0, 5, 0, 6, 7, 1, 8, 2];
+static QUESTION_OF_FORM: [u8; 17] = [0x0f, 17, 1, 0, 2, 0, 3, 0, 4, 0, 5, 0, 6, 7, 1, 8, 2];
 
-const FORM_0: [u8; 15] = [0x0f, 15, 1, 0, 2, 0, 3, 0, 4, 0, 5, 0, 6, 0, 0];
+static FORM_0: [u8; 15] = [0x0f, 15, 1, 0, 2, 0, 3, 0, 4, 0, 5, 0, 6, 0, 0];
 
-const DEVICE: [u8; 35] = [
+static DEVICE: [u8; 35] = [
     0x0f, 35, 1, 0, 2, 0, 3, 0, 4, 0, 5, 0, 6, 7, 1, 8, 2, 1, 2, 3, 4, 5, 6, 7, 8, 9, 10, 11, 12,
     13, 14, 15, 16, 9, 3,
 ];
@@ -398,7 +399,7 @@ fn another_form_set(rt: HostRuntime) -> Result<(), Fail> {
     Ok(())
 }
 
-const OPTION: [u8; 8] = [9, 8, 1, 0, 0x10, 1, 0x34, 0x12];
+static OPTION: [u8; 8] = [9, 8, 1, 0, 0x10, 1, 0x34, 0x12];
 
 #[test]
 fn option(rt: HostRuntime) -> Result<(), Fail> {
@@ -418,7 +419,7 @@ fn option(rt: HostRuntime) -> Result<(), Fail> {
     Ok(())
 }
 
-const DEFAULTS: [u8; 25] = [
+static DEFAULTS: [u8; 25] = [
     0x5b, 6, 1, 0, 0, 7, // a number, at 0
     0x5b, 8, 1, 0, 0x0b, 7, 8, 9, // a buffer, at 6
     0x5b, 0x85, 1, 0, 8, // an expression, at 14
@@ -445,7 +446,7 @@ fn default_store(rt: HostRuntime) -> Result<(), Fail> {
     Ok(())
 }
 
-const STORES: [u8; 49] = [
+static STORES: [u8; 49] = [
     0x26, 29, 1, 0, 1, 2, 3, 4, 5, 6, 7, 8, 9, 10, 11, 12, 13, 14, 15, 16, 4, 3, 2, 1, 16, 0, 65,
     98, 0, // VARSTORE_EFI, at 0
     0x25, 20, 2, 0, 1, 2, 3, 4, 5, 6, 7, 8, 9, 10, 11, 12, 13, 14, 15, 16, // VARSTORE_NAME_VALUE, at 29
@@ -471,7 +472,7 @@ fn varstore_name_value(rt: HostRuntime) -> Result<(), Fail> {
     Ok(())
 }
 
-const CONDITIONS: [u8; 13] = [
+static CONDITIONS: [u8; 13] = [
     0x11, 0x84, 1, 2, // INCONSISTENT_IF, at 0
     0x10, 0x84, 3, 4, // NO_SUBMIT_IF, at 4
     0x63, 0x85, 5, 6, 7, // WARNING_IF, at 8
@@ -501,7 +502,7 @@ fn refusal(code: u8, len: u8, at: usize, byte: u8) -> Option<(bool, bool)> {
 }
 
 // The numbers with the bytes that an opcode has at least whose fields are 0.
-const LEAST: [(u8, u8); 25] = [
+static LEAST: [(u8, u8); 25] = [
     (FORM_SET, 23),
     (FORM, 6),
     (SUBTITLE, 7),
@@ -531,40 +532,52 @@ const LEAST: [(u8, u8); 25] = [
 
 #[test]
 fn least_lengths(rt: HostRuntime) {
-    for (code, least) in LEAST {
+    for (code, least) in &LEAST {
         let short = least.saturating_sub(1);
-        assert_eq!(rt; refusal(code, least, 0, 0), Some((false, false)));
-        assert_eq!(rt; refusal(code, short, 0, 0), Some((false, true)));
+        assert!(rt;
+            refusal(*code, *least, 0, 0) == Some((false, false)),
+            "at {code}"
+        );
+        assert!(rt;
+            refusal(*code, short, 0, 0) == Some((false, true)),
+            "at {code}"
+        );
     }
     // a count of two, and bytes for one
     let cut = op_at(&[0x14, 8, 1, 0, 2, 0, 5, 0], 0).expect(&rt, "an opcode");
     assert_eq!(rt; (least_len(cut), is_short(cut)), (10, true));
 }
 
+// Numbers with how many bytes their opcodes have, a byte at a place, and by what they are refused.
+static LEFT_OUT: [(u8, u8, usize, u8, (bool, bool)); 15] = [
+    // numbers of 8 bytes
+    (NUMERIC, 37, 13, 3, (false, true)),
+    (NUMERIC, 38, 13, 3, (false, false)),
+    // an option's kind is a Boolean at most
+    (ONE_OF_OPTION, 7, 5, TYPE_BOOLEAN, (false, false)),
+    (ONE_OF_OPTION, 6, 5, TYPE_TIME, (true, true)),
+    (ONE_OF_OPTION, 5, 5, TYPE_TIME, (false, true)),
+    // a default's is that of a reference at most
+    (DEFAULT, 5, 4, TYPE_REF, (false, false)),
+    (DEFAULT, 5, 4, 0x0d, (true, false)),
+    (DEFAULT, 4, 4, 0x0d, (false, true)),
+    (DEFAULT, 8, 4, TYPE_DATE, (false, true)),
+    // an older store has no name
+    (VARSTORE_EFI, 23, 0, 0, (false, true)),
+    (VARSTORE_EFI, 24, 0, 0, (true, true)),
+    (VARSTORE_EFI, 25, 0, 0, (false, true)),
+    // a GUID opens no scope
+    (GUID, 2, 0, 0, (false, false)),
+    (GUID, 0x82, 0, 0, (true, false)),
+    (0x2d, 2, 0, 0, (true, false)),
+];
+
 #[test]
 fn left_out(rt: HostRuntime) {
-    for (code, len, at, byte, refused) in [
-        // numbers of 8 bytes
-        (NUMERIC, 37, 13, 3, (false, true)),
-        (NUMERIC, 38, 13, 3, (false, false)),
-        // an option's kind is a Boolean at most
-        (ONE_OF_OPTION, 7, 5, TYPE_BOOLEAN, (false, false)),
-        (ONE_OF_OPTION, 6, 5, TYPE_TIME, (true, true)),
-        (ONE_OF_OPTION, 5, 5, TYPE_TIME, (false, true)),
-        // a default's is that of a reference at most
-        (DEFAULT, 5, 4, TYPE_REF, (false, false)),
-        (DEFAULT, 5, 4, 0x0d, (true, false)),
-        (DEFAULT, 4, 4, 0x0d, (false, true)),
-        (DEFAULT, 8, 4, TYPE_DATE, (false, true)),
-        // an older store has no name
-        (VARSTORE_EFI, 23, 0, 0, (false, true)),
-        (VARSTORE_EFI, 24, 0, 0, (true, true)),
-        (VARSTORE_EFI, 25, 0, 0, (false, true)),
-        // a GUID opens no scope
-        (GUID, 2, 0, 0, (false, false)),
-        (GUID, 0x82, 0, 0, (true, false)),
-        (0x2d, 2, 0, 0, (true, false)),
-    ] {
-        assert_eq!(rt; refusal(code, len, at, byte), Some(refused));
+    for (code, len, at, byte, refused) in &LEFT_OUT {
+        assert!(rt;
+            refusal(*code, *len, *at, *byte) == Some(*refused),
+            "at {code} of {len}"
+        );
     }
 }
