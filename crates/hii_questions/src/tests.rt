@@ -6,7 +6,7 @@ ghost use Rattle.hii_varstore.specs.Stores.{shape_of};
 ghost use Rattle.hii_questions.specs.Faults.{IsQuestionFault};
 
 use crate::{
-    Field, Input, Question, Questions, StoredItems, ValueDenial, check_value, element_width, laws,
+    Input, Question, Questions, StoredItems, ValueDenial, check_value, element_width, laws,
     read_value, shown,
 };
 use hii_bytes::{Cause, Fault, is_number_list};
@@ -34,25 +34,23 @@ const PACKAGE: [u8; 187] = [
     0x29, 2, 0x29, 2, // at 183, 185
 ];
 
-const IMAGE: &[u8] = b"HVS1\x01\x00\x01\x00\x0a\x00\x02\xff\x01\x00A\x00\x00\x00\x02\x00";
-
 // The forms package, of which proofs know the length alone.
 fn package() -> &'static [u8; 187] {
     &PACKAGE
 }
 
 // The same with another byte.
-fn changed(at: usize, byte: u8) -> [u8; 187] {
+fn changed(at: usize, byte: u8) -> [u8; 187]
+    requires { at < 187 }
+{
     let mut package = PACKAGE;
-    if let Some(old) = package.get_mut(at) {
-        *old = byte;
-    }
+    package[at] = byte;
     package
 }
 
 // The image, of which proofs know nothing.
 fn image() -> &'static [u8] {
-    IMAGE
+    b"HVS1\x01\x00\x01\x00\x0a\x00\x02\xff\x01\x00A\x00\x00\x00\x02\x00"
 }
 
 fn forms_of(alloc: Global, bytes: &[u8]) -> Result<Forms<'_>, Fail>
@@ -72,15 +70,19 @@ fn questions_of<'a>(alloc: Global, forms: &Forms<'a>) -> Result<Questions<'a>, F
     Questions::read(alloc, forms, &Layout::read(alloc, forms)?)
 }
 
-// Checks a value, where it is one that may be asked for.
-fn checked<'i>(question: Question<'_>, input: Input<'i>) -> Option<Result<Field<'i>, ValueDenial>> {
-    match input {
-        Input::List(text) if !is_number_list(text) => None,
+// What is told of a value, where it is one that may be asked for.
+fn told(question: Question<'_>, input: Input<'_>) -> &'static str {
+    let checked = match input {
+        Input::List(text) if !is_number_list(text) => return "not asked",
         Input::Field(bytes) => match question.field() {
-            Some(field) if bytes.len() != field.width => None,
-            _ => Some(check_value(question, input)),
+            Some(field) if bytes.len() != field.width => return "not asked",
+            _ => check_value(question, input),
         },
-        _ => Some(check_value(question, input)),
+        _ => check_value(question, input),
+    };
+    match checked {
+        Ok(_) => "ok",
+        Err(denial) => denial.kind.name(),
     }
 }
 
@@ -126,10 +128,8 @@ fn values_are_put(rt: HostRuntime) -> Result<(), Fail> {
     let mut stores = Stores::read(alloc, &layout, image())?;
     assert_eq!(rt; put_number(&questions, &mut stores, 8, -2), Ok(()));
     assert_eq!(rt; put_text(&questions, &mut stores, 10, b"\xc3\xa9"), Ok(()));
-    assert_eq!(rt;
-        stores.bytes(1),
-        Some(b"\x02\xfe\x01\x00\xe9\x00\x00\x00\x02\x00".as_slice())
-    );
+    let put = b"\x02\xfe\x01\x00\xe9\x00\x00\x00\x02\x00".as_slice();
+    assert_eq!(rt; stores.bytes(1), Some(put));
     Ok(())
 }
 
@@ -218,10 +218,8 @@ fn numbers_in_bytes(rt: HostRuntime) -> Result<(), Fail> {
     }
     assert_eq!(rt; (shown(true, 1, 0x80), shown(false, 1, 0x80)), (-128, 128));
     let mut items = StoredItems::new(b"\x02\x01\x00\x02\x00\x00\x05\x00", 2);
-    assert_eq!(rt;
-        (items.step(), items.step(), items.step()),
-        (Some(0x102), Some(0x200), None)
-    );
+    assert_eq!(rt; (items.step(), items.step()), (Some(0x102), Some(0x200)));
+    assert!(rt; items.step().is_none());
     Ok(())
 }
 
@@ -230,6 +228,7 @@ fn values_are_checked_in_their_order(rt: HostRuntime) -> Result<(), Fail> {
     let alloc = rt.alloc();
     let forms = forms_of(alloc, package())?;
     let questions = questions_of(alloc, &forms)?;
+    let outside = b"\xf0\x9f\x98\x80\xf0\x9f\x98\x80\xf0\x9f\x98\x80";
     for (id, input, wanted) in [
         (7, Input::Number(1), "ok"),
         (7, Input::Number(2), "range"),
@@ -247,11 +246,7 @@ fn values_are_checked_in_their_order(rt: HostRuntime) -> Result<(), Fail> {
         (10, Input::Utf8(b"\xc3\xa9"), "ok"),
         (10, Input::Utf8(b"abc"), "length"),
         (10, Input::Utf8(b""), "length"),
-        (
-            10,
-            Input::Utf8(b"\xf0\x9f\x98\x80\xf0\x9f\x98\x80\xf0\x9f\x98\x80"),
-            "badtext",
-        ),
+        (10, Input::Utf8(outside), "badtext"),
         (10, Input::Utf8(b"\x80"), "badtext"),
         (10, Input::Units(b"\x00\xd8"), "ok"),
         (10, Input::Field(b"a\x00\x00\x00"), "ok"),
@@ -265,12 +260,7 @@ fn values_are_checked_in_their_order(rt: HostRuntime) -> Result<(), Fail> {
         (12, Input::Number(1), "kind"),
     ] {
         let question = questions.find(id).expect(&rt, "a question");
-        let told = match checked(question, input) {
-            Some(Ok(_)) => "ok",
-            Some(Err(denial)) => denial.kind.name(),
-            None => "not asked",
-        };
-        assert_eq!(rt; told, wanted);
+        assert_eq!(rt; told(question, input), wanted);
     }
     Ok(())
 }

@@ -1,4 +1,4 @@
-ghost use Rattle.std.specs.Prelude.{◌≡◌, ◌<◌, ◌==◌, [], true, if◌then◌else◌, length};
+ghost use Rattle.std.specs.Prelude.{◌≡◌, ◌==◌, [], true, if◌then◌else◌};
 ghost use Rattle.ifr_opcodes.specs.Reading.{opcodes_in};
 ghost use Rattle.ifr_expr.specs.Flat.{are_children as are_children_spec};
 ghost use Rattle.ifr_expr.specs.Reading.{AreOpcodes, IsExpressionNode};
@@ -32,11 +32,6 @@ impl<'v> Answers<'v> for Known<'v> {
         }
     }
 }
-
-const NOTHING: Known<'static> = Known {
-    first: Value::Undefined,
-    second: Value::Undefined,
-};
 
 #[derive(Clone, Copy)]
 struct NoRules;
@@ -84,14 +79,10 @@ fn is_flat(bytes: &[u8]) -> bool
 }
 
 // The expression that these bytes are, at place 0; TooDeep where they are none whose children have no scope.
-fn check(bytes: &[u8]) -> Result<Expr<'_>, Fault>
-    requires { length bytes.now < 1000 }
-{
-    if !is_flat(bytes) {
-        return Err(Fault {
-            cause: Cause::TooDeep,
-            place: 0,
-        });
+fn check(bytes: &[u8]) -> Result<Expr<'_>, Fault> {
+    if bytes.len() > 999 || !is_flat(bytes) {
+        let (cause, place) = (Cause::TooDeep, 0);
+        return Err(Fault { cause, place });
     }
     Expr::check(bytes, 0, bytes.len())
 }
@@ -117,226 +108,156 @@ fn without_lifetime(value: Value) -> Seen {
     }
 }
 
-// The value of the expression that these bytes are, where nothing is answered.
-fn value(bytes: &[u8]) -> Seen
-    requires { length bytes.now < 1000 }
-{
+// The value of the expression that these bytes are, in the question `this`, where the questions 1 and 2 answer this.
+fn value_over(bytes: &[u8], first: Value, second: Value, this: u16) -> Seen {
     match check(bytes) {
-        Ok(expr) => without_lifetime(expr.value(&NOTHING, &NoRules, 0)),
+        Ok(expr) => without_lifetime(expr.value(&Known { first, second }, &NoRules, this)),
         Err(_) => Seen::Refused,
     }
 }
 
-const QUOTIENT: [u8; 10] = [0x42, 0x83, 7, 0x42, 3, 3, 0x3d, 2, 0x29, 2];
+// The same where nothing is answered, in no question.
+fn value(bytes: &[u8]) -> Seen {
+    value_over(bytes, Value::Undefined, Value::Undefined, 0)
+}
 
-const REMAINDER: [u8; 10] = [0x42, 0x83, 7, 0x42, 3, 3, 0x3e, 2, 0x29, 2];
-
-const BY_0: [u8; 10] = [0x42, 0x83, 7, 0x42, 3, 0, 0x3d, 2, 0x29, 2];
-
-const FAR_LEFT: [u8; 9] = [0x53, 0x82, 0x42, 3, 0x40, 0x38, 2, 0x29, 2];
-
-const SUM_OF_ONES: [u8; 8] = [0x54, 0x82, 0x53, 2, 0x3a, 2, 0x29, 2];
-
-const TRUE_IS_1: [u8; 8] = [0x46, 0x82, 0x53, 2, 0x2f, 2, 0x29, 2];
-
-const AND_OF_NUMBER: [u8; 8] = [0x53, 0x82, 0x47, 2, 0x15, 2, 0x29, 2];
-
-const NONE_OF_NONE: [u8; 6] = [0x14, 6, 1, 0, 0, 0];
-
-const THIS: [u8; 2] = [0x58, 2];
-
-const DIFFERENCE: [u8; 14] = [
-    0x42, 0x83, 8, 0x42, 3, 9, 0x3b, 2, 0x54, 2, 0x2f, 2, 0x29, 2,
+static NUMBERS: [(&[u8], u64); 5] = [
+    (&[0x42, 0x83, 7, 0x42, 3, 3, 0x3d, 2, 0x29, 2], 2), // 7 / 3
+    (&[0x42, 0x83, 7, 0x42, 3, 3, 0x3e, 2, 0x29, 2], 1), // 7 modulo 3
+    (&[0x53, 0x82, 0x42, 3, 0x40, 0x38, 2, 0x29, 2], 0), // 1 << 64
+    (&[0x54, 0x82, 0x53, 2, 0x3a, 2, 0x29, 2], 0), // all ones, and 1 more
+    (&[0x45, 10, 8, 7, 6, 5, 4, 3, 2, 1], 0x0102030405060708), // a number of 8 bytes
 ];
 
-const NOT_OF_UNKNOWN: [u8; 10] = [0x12, 0x86, 9, 0, 0, 0, 0x17, 2, 0x29, 2];
+static UNDEFINED: [&[u8]; 3] = [
+    &[0x42, 0x83, 7, 0x42, 3, 0, 0x3d, 2, 0x29, 2], // 7 / 0
+    &[0x53, 0x82, 0x47, 2, 0x15, 2, 0x29, 2], // AND of a number
+    &[0x12, 0x86, 9, 0, 0, 0, 0x17, 2, 0x29, 2], // NOT of what is not known
+];
 
-const WIDE: [u8; 10] = [0x45, 10, 8, 7, 6, 5, 4, 3, 2, 1];
+const NONE_OF_NONE: &[u8] = &[0x14, 6, 1, 0, 0, 0];
+
+const THIS: &[u8] = &[0x58, 2];
 
 #[test]
 fn worked_values(rt: HostRuntime) {
-    assert_eq!(rt; value(&QUOTIENT), Seen::Number(2));
-    assert_eq!(rt; value(&REMAINDER), Seen::Number(1));
-    assert_eq!(rt; value(&BY_0), Seen::Undefined);
-    assert_eq!(rt; value(&FAR_LEFT), Seen::Number(0));
-    assert_eq!(rt; value(&SUM_OF_ONES), Seen::Number(0));
-    assert_eq!(rt; value(&TRUE_IS_1), Seen::Boolean(true));
-    assert_eq!(rt; value(&AND_OF_NUMBER), Seen::Undefined);
-    assert_eq!(rt; value(&NONE_OF_NONE), Seen::Undefined);
-    assert_eq!(rt; value(&THIS), Seen::Undefined);
-    assert_eq!(rt; value(&DIFFERENCE), Seen::Boolean(true));
-    assert_eq!(rt; value(&NOT_OF_UNKNOWN), Seen::Undefined);
-    assert_eq!(rt; value(&WIDE), Seen::Number(0x0102030405060708));
-}
-
-const ONE_OF_TWO: [u8; 10] = [0x14, 10, 1, 0, 2, 0, 5, 0, 7, 1];
-
-const SAME_ANSWERS: [u8; 6] = [0x13, 6, 1, 0, 2, 0];
-
-const EQUAL_ANSWERS: [u8; 12] = [0x40, 0x84, 1, 0, 0x40, 4, 2, 0, 0x2f, 2, 0x29, 2];
-
-const ANSWER: [u8; 4] = [0x40, 4, 1, 0];
-
-// The value of the expression that these bytes are, in question 2, where the questions 1 and 2 answer this.
-fn value_over(bytes: &[u8], first: Value, second: Value) -> Seen
-    requires { length bytes.now < 1000 }
-{
-    match check(bytes) {
-        Ok(expr) => without_lifetime(expr.value(&Known { first, second }, &NoRules, 2)),
-        Err(_) => Seen::Refused,
+    for (bytes, number) in &NUMBERS {
+        assert_eq!(rt; value(bytes), Seen::Number(*number));
     }
+    for bytes in &UNDEFINED {
+        assert_eq!(rt; value(bytes), Seen::Undefined);
+    }
+    assert_eq!(rt; value(NONE_OF_NONE), Seen::Undefined);
+    assert_eq!(rt; value(THIS), Seen::Undefined);
+    let true_is_1 = [0x46, 0x82, 0x53, 2, 0x2f, 2, 0x29, 2];
+    assert_eq!(rt; value(&true_is_1), Seen::Boolean(true));
+    let difference = [
+        0x42, 0x83, 8, 0x42, 3, 9, 0x3b, 2, 0x54, 2, 0x2f, 2, 0x29, 2,
+    ];
+    assert_eq!(rt; value(&difference), Seen::Boolean(true));
 }
 
 #[test]
 fn answers(rt: HostRuntime) {
-    let text = Value::Text(&[65, 0]);
-    let buffer = Value::Buffer(&[65, 0]);
-    assert_eq!(rt;
-        value_over(&ONE_OF_TWO, Value::Number(0x107), text),
-        Seen::Boolean(true)
-    );
-    assert_eq!(rt;
-        value_over(&ONE_OF_TWO, Value::Boolean(true), text),
-        Seen::Boolean(false)
-    );
-    assert_eq!(rt;
-        value_over(&NONE_OF_NONE, Value::Boolean(true), text),
-        Seen::Boolean(false)
-    );
-    assert_eq!(rt; value_over(&NONE_OF_NONE, text, text), Seen::Undefined);
-    assert_eq!(rt;
-        value_over(&SAME_ANSWERS, Value::Number(1), Value::Boolean(true)),
-        Seen::Boolean(true)
-    );
-    assert_eq!(rt; value_over(&SAME_ANSWERS, text, text), Seen::Undefined);
-    assert_eq!(rt; value_over(&EQUAL_ANSWERS, text, text), Seen::Boolean(true));
-    assert_eq!(rt; value_over(&EQUAL_ANSWERS, text, buffer), Seen::Undefined);
-    assert_eq!(rt; value_over(&ANSWER, buffer, text), Seen::Buffer);
-    assert_eq!(rt; value_over(&THIS, buffer, text), Seen::Text);
+    let one_of_two: &[u8] = &[0x14, 10, 1, 0, 2, 0, 5, 0, 7, 1];
+    let same: &[u8] = &[0x13, 6, 1, 0, 2, 0];
+    let equal: &[u8] = &[0x40, 0x84, 1, 0, 0x40, 4, 2, 0, 0x2f, 2, 0x29, 2];
+    let answer: &[u8] = &[0x40, 4, 1, 0];
+    let (text, buffer) = (Value::Text(&[65, 0]), Value::Buffer(&[65, 0]));
+    let (truth, number) = (Value::Boolean(true), Value::Number(1));
+    for (bytes, first, second, seen) in [
+        (one_of_two, Value::Number(0x107), text, Seen::Boolean(true)),
+        (one_of_two, truth, text, Seen::Boolean(false)),
+        (NONE_OF_NONE, truth, text, Seen::Boolean(false)),
+        (NONE_OF_NONE, text, text, Seen::Undefined),
+        (same, number, truth, Seen::Boolean(true)),
+        (same, text, text, Seen::Undefined),
+        (equal, text, text, Seen::Boolean(true)),
+        (equal, text, buffer, Seen::Undefined),
+        (answer, buffer, text, Seen::Buffer),
+        (THIS, buffer, text, Seen::Text),
+    ] {
+        assert_eq!(rt; value_over(bytes, first, second, 2), seen);
+    }
 }
 
-const FULL: [u8; 256] = [
-    0x52, 0x82, 0x52, 0x02, 0x52, 0x02, 0x52, 0x02, 0x52, 0x02, 0x52, 0x02, 0x52, 0x02, 0x52, 0x02,
-    0x52, 0x02, 0x52, 0x02, 0x52, 0x02, 0x52, 0x02, 0x52, 0x02, 0x52, 0x02, 0x52, 0x02, 0x52, 0x02,
-    0x52, 0x02, 0x52, 0x02, 0x52, 0x02, 0x52, 0x02, 0x52, 0x02, 0x52, 0x02, 0x52, 0x02, 0x52, 0x02,
-    0x52, 0x02, 0x52, 0x02, 0x52, 0x02, 0x52, 0x02, 0x52, 0x02, 0x52, 0x02, 0x52, 0x02, 0x52, 0x02,
-    0x52, 0x02, 0x52, 0x02, 0x52, 0x02, 0x52, 0x02, 0x52, 0x02, 0x52, 0x02, 0x52, 0x02, 0x52, 0x02,
-    0x52, 0x02, 0x52, 0x02, 0x52, 0x02, 0x52, 0x02, 0x52, 0x02, 0x52, 0x02, 0x52, 0x02, 0x52, 0x02,
-    0x52, 0x02, 0x52, 0x02, 0x52, 0x02, 0x52, 0x02, 0x52, 0x02, 0x52, 0x02, 0x52, 0x02, 0x52, 0x02,
-    0x52, 0x02, 0x52, 0x02, 0x52, 0x02, 0x52, 0x02, 0x52, 0x02, 0x52, 0x02, 0x52, 0x02, 0x52, 0x02,
-    0x35, 0x02, 0x35, 0x02, 0x35, 0x02, 0x35, 0x02, 0x35, 0x02, 0x35, 0x02, 0x35, 0x02, 0x35, 0x02,
-    0x35, 0x02, 0x35, 0x02, 0x35, 0x02, 0x35, 0x02, 0x35, 0x02, 0x35, 0x02, 0x35, 0x02, 0x35, 0x02,
-    0x35, 0x02, 0x35, 0x02, 0x35, 0x02, 0x35, 0x02, 0x35, 0x02, 0x35, 0x02, 0x35, 0x02, 0x35, 0x02,
-    0x35, 0x02, 0x35, 0x02, 0x35, 0x02, 0x35, 0x02, 0x35, 0x02, 0x35, 0x02, 0x35, 0x02, 0x35, 0x02,
-    0x35, 0x02, 0x35, 0x02, 0x35, 0x02, 0x35, 0x02, 0x35, 0x02, 0x35, 0x02, 0x35, 0x02, 0x35, 0x02,
-    0x35, 0x02, 0x35, 0x02, 0x35, 0x02, 0x35, 0x02, 0x35, 0x02, 0x35, 0x02, 0x35, 0x02, 0x35, 0x02,
-    0x35, 0x02, 0x35, 0x02, 0x35, 0x02, 0x35, 0x02, 0x35, 0x02, 0x35, 0x02, 0x35, 0x02, 0x35, 0x02,
-    0x35, 0x02, 0x35, 0x02, 0x35, 0x02, 0x35, 0x02, 0x35, 0x02, 0x35, 0x02, 0x35, 0x02, 0x29, 0x02,
-];
-
-const TOO_FULL: [u8; 132] = [
-    0x52, 0x82, 0x52, 0x02, 0x52, 0x02, 0x52, 0x02, 0x52, 0x02, 0x52, 0x02, 0x52, 0x02, 0x52, 0x02,
-    0x52, 0x02, 0x52, 0x02, 0x52, 0x02, 0x52, 0x02, 0x52, 0x02, 0x52, 0x02, 0x52, 0x02, 0x52, 0x02,
-    0x52, 0x02, 0x52, 0x02, 0x52, 0x02, 0x52, 0x02, 0x52, 0x02, 0x52, 0x02, 0x52, 0x02, 0x52, 0x02,
-    0x52, 0x02, 0x52, 0x02, 0x52, 0x02, 0x52, 0x02, 0x52, 0x02, 0x52, 0x02, 0x52, 0x02, 0x52, 0x02,
-    0x52, 0x02, 0x52, 0x02, 0x52, 0x02, 0x52, 0x02, 0x52, 0x02, 0x52, 0x02, 0x52, 0x02, 0x52, 0x02,
-    0x52, 0x02, 0x52, 0x02, 0x52, 0x02, 0x52, 0x02, 0x52, 0x02, 0x52, 0x02, 0x52, 0x02, 0x52, 0x02,
-    0x52, 0x02, 0x52, 0x02, 0x52, 0x02, 0x52, 0x02, 0x52, 0x02, 0x52, 0x02, 0x52, 0x02, 0x52, 0x02,
-    0x52, 0x02, 0x52, 0x02, 0x52, 0x02, 0x52, 0x02, 0x52, 0x02, 0x52, 0x02, 0x52, 0x02, 0x52, 0x02,
-    0x52, 0x02, 0x29, 0x02,
-];
-
-const FIRST_TAKES_TWO: [u8; 6] = [0x15, 0x82, 0x47, 2, 0x29, 2];
-
-const TWO_VALUES: [u8; 7] = [0x42, 0x83, 1, 0x47, 2, 0x29, 2];
-
-const SHORT_NUMBER: [u8; 8] = [0x53, 0x82, 0x42, 2, 0x3a, 2, 0x29, 2];
-
-const UNKNOWN_INSIDE: [u8; 8] = [0x53, 0x82, 0x64, 2, 0x3a, 2, 0x29, 2];
-
-const DEFAULT_INSIDE: [u8; 11] = [0x53, 0x82, 0x5b, 5, 1, 0, 0x0c, 0x3a, 2, 0x29, 2];
-
-// A default whose kind is not defined is left out.
-const LEFT_OUT_INSIDE: [u8; 11] = [0x53, 0x82, 0x5b, 5, 1, 0, 0x0d, 0x3a, 2, 0x29, 2];
-
-const FORM_INSIDE: [u8; 10] = [0x53, 0x82, 1, 6, 1, 0, 1, 0, 0x29, 2];
-
-const SHORT_LIST: [u8; 8] = [0x14, 8, 1, 0, 2, 0, 5, 0];
-
-fn fault(cause: Cause, place: u64) -> Option<Fault> {
-    Some(Fault { cause, place })
+// So many opcodes ZERO, of which the first opens a scope, then BITWISE_AND, and an END as the last.
+fn zeros(count: usize) -> [u8; 256] {
+    let mut bytes = [2u8; 256];
+    for opcode in 0..127 {
+        bytes[2 * opcode] = if opcode < count { 0x52 } else { 0x35 };
+    }
+    bytes[1] = 0x82;
+    bytes[254] = 0x29;
+    bytes
 }
 
 #[test]
 fn refusals(rt: HostRuntime) {
-    assert_eq!(rt; check(&FULL).err(), None);
-    assert_eq!(rt; value(&FULL), Seen::Number(0));
-    assert_eq!(rt; check(&TOO_FULL).err(), fault(Cause::ExprDepth, 128));
-    assert_eq!(rt; check(&FIRST_TAKES_TWO).err(), fault(Cause::ExprShape, 0));
-    assert_eq!(rt; check(&TWO_VALUES).err(), fault(Cause::ExprShape, 0));
-    assert_eq!(rt; check(&SHORT_NUMBER).err(), fault(Cause::OpSize, 2));
-    assert_eq!(rt; check(&UNKNOWN_INSIDE).err(), fault(Cause::OpOutside, 2));
-    assert_eq!(rt; check(&DEFAULT_INSIDE).err(), fault(Cause::Misplaced, 2));
-    assert_eq!(rt; check(&LEFT_OUT_INSIDE).err(), fault(Cause::OpOutside, 2));
-    assert_eq!(rt; check(&FORM_INSIDE).err(), fault(Cause::Misplaced, 2));
-    assert_eq!(rt; check(&SHORT_LIST).err(), fault(Cause::OpSize, 0));
+    let (full, too_full) = (zeros(64), zeros(65));
+    assert_eq!(rt; check(&full).err(), None);
+    assert_eq!(rt; value(&full), Seen::Number(0));
+    let first_takes_two: &[u8] = &[0x15, 0x82, 0x47, 2, 0x29, 2];
+    let two_values: &[u8] = &[0x42, 0x83, 1, 0x47, 2, 0x29, 2];
+    let short_number: &[u8] = &[0x53, 0x82, 0x42, 2, 0x3a, 2, 0x29, 2];
+    let unknown: &[u8] = &[0x53, 0x82, 0x64, 2, 0x3a, 2, 0x29, 2];
+    let default: &[u8] = &[0x53, 0x82, 0x5b, 5, 1, 0, 0x0c, 0x3a, 2, 0x29, 2];
+    // a default whose kind is not defined is left out
+    let left_out: &[u8] = &[0x53, 0x82, 0x5b, 5, 1, 0, 0x0d, 0x3a, 2, 0x29, 2];
+    let form: &[u8] = &[0x53, 0x82, 1, 6, 1, 0, 1, 0, 0x29, 2];
+    let short_list: &[u8] = &[0x14, 8, 1, 0, 2, 0, 5, 0];
+    for (bytes, cause, place) in [
+        (too_full.as_slice(), Cause::ExprDepth, 128),
+        (first_takes_two, Cause::ExprShape, 0),
+        (two_values, Cause::ExprShape, 0),
+        (short_number, Cause::OpSize, 2),
+        (unknown, Cause::OpOutside, 2),
+        (default, Cause::Misplaced, 2),
+        (left_out, Cause::OpOutside, 2),
+        (form, Cause::Misplaced, 2),
+        (short_list, Cause::OpSize, 0),
+    ] {
+        assert_eq!(rt; check(bytes).err(), Some(Fault { cause, place }));
+    }
 }
-
-const NAMES: [u8; 32] = [
-    0x12, 0x86, 9, 0, 0, 0, 0x13, 6, 1, 0, 2, 0, 0x15, 2, 0x14, 6, 7, 0, 0, 0, 0x15, 2, 0x40, 4, 8,
-    0, 0x15, 2, 0x17, 2, 0x29, 2,
-];
 
 #[test]
 fn support(rt: HostRuntime) {
-    let Ok(expr) = check(&NAMES) else {
-        return;
-    };
+    let bytes = [
+        0x12, 0x86, 9, 0, 0, 0, 0x13, 6, 1, 0, 2, 0, 0x15, 2, 0x14, 6, 7, 0, 0, 0, 0x15, 2, 0x40,
+        4, 8, 0, 0x15, 2, 0x17, 2, 0x29, 2,
+    ];
+    let expr = check(&bytes).expect(&rt, "an expression");
     let mut ids = expr.support();
-    assert_eq!(rt;
-        (ids.next(), ids.next(), ids.next()),
-        (Some(9), Some(1), Some(2))
-    );
-    assert_eq!(rt;
-        (ids.next(), ids.next(), ids.next()),
-        (Some(7), Some(8), None)
-    );
-    let numbers = Known {
-        first: Value::Number(1),
-        second: Value::Number(0),
-    };
-    assert_eq!(rt; expr.holds(&numbers, &NoRules, 0), false);
-}
-
-// Two questions that answer the same, a rule and THIS.
-const ALL_NAMES: [u8; 17] = [
-    0x13, 0x86, 1, 0, 2, 0, 0x3f, 3, 5, 0x15, 2, 0x58, 2, 0x15, 2, 0x29, 2,
-];
-
-#[test]
-fn questions_and_rules(rt: HostRuntime) {
-    let expr = check(&ALL_NAMES).expect(&rt, "an expression");
-    let mut names = expr.names();
-    for name in [
-        Name::Question(1),
-        Name::Question(2),
-        Name::Rule(RuleReference { id: 5, place: 6 }),
-        Name::This,
-    ] {
-        assert_eq!(rt; names.next(), Some(name));
+    for id in [Some(9), Some(1), Some(2), Some(7), Some(8), None] {
+        assert_eq!(rt; ids.next(), id);
     }
-    assert!(rt; names.next().is_none());
-    assert!(rt; Names::default().next().is_none());
+    let (first, second) = (Value::Number(1), Value::Number(0));
+    assert_eq!(rt; expr.holds(&Known { first, second }, &NoRules, 0), false);
 }
 
-// The sum of two rules and a number.
-const RULES: [u8; 15] = [
-    0x3f, 0x83, 5, 0x42, 3, 1, 0x3f, 3, 6, 0x3a, 2, 0x3a, 2, 0x29, 2,
-];
-
 #[test]
-fn opcodes_and_references(rt: HostRuntime) {
-    let expr = check(&RULES).expect(&rt, "an expression");
+fn names_and_references(rt: HostRuntime) {
+    // two questions that answer the same, a rule and THIS
+    let bytes = [
+        0x13, 0x86, 1, 0, 2, 0, 0x3f, 3, 5, 0x15, 2, 0x58, 2, 0x15, 2, 0x29, 2,
+    ];
+    let mut names = check(&bytes).expect(&rt, "an expression").names();
+    for name in [
+        Some(Name::Question(1)),
+        Some(Name::Question(2)),
+        Some(Name::Rule(RuleReference { id: 5, place: 6 })),
+        Some(Name::This),
+        None,
+    ] {
+        assert_eq!(rt; names.next(), name);
+    }
+    assert!(rt; Names::default().next().is_none());
+    // the sum of two rules and a number
+    let bytes = [
+        0x3f, 0x83, 5, 0x42, 3, 1, 0x3f, 3, 6, 0x3a, 2, 0x3a, 2, 0x29, 2,
+    ];
+    let expr = check(&bytes).expect(&rt, "an expression");
     assert_eq!(rt; expr.len(), 5);
     let mut references = expr.references();
     for (id, place) in [(5, 0), (6, 6)] {
@@ -349,13 +270,9 @@ const TOP: u64 = 1 << 63;
 
 const MAX: u64 = u64::MAX;
 
-fn of_two(operator: Binary, left: u64, right: u64) -> Outcome {
-    binary(operator, Value::Number(left), Value::Number(right))
-}
-
 #[test]
-fn arithmetic(rt: HostRuntime) {
-    let n = Outcome::Number;
+fn operators_of_two_numbers(rt: HostRuntime) {
+    let (n, holds) = (Outcome::Number, Outcome::Boolean);
     for (operator, left, right, outcome) in [
         (Binary::Add, MAX, 1, n(0)),
         (Binary::Add, TOP, TOP, n(0)),
@@ -374,8 +291,17 @@ fn arithmetic(rt: HostRuntime) {
         (Binary::ShiftRight, MAX, 64, n(0)),
         (Binary::BitwiseAnd, MAX, TOP, n(TOP)),
         (Binary::BitwiseOr, 1, TOP, n(TOP + 1)),
+        (Binary::GreaterThan, TOP, 1, holds(true)),
+        (Binary::GreaterThan, 1, 1, holds(false)),
+        (Binary::GreaterEqual, 1, 1, holds(true)),
+        (Binary::LessThan, 0, MAX, holds(true)),
+        (Binary::LessThan, 1, 1, holds(false)),
+        (Binary::LessEqual, 1, 1, holds(true)),
+        (Binary::Equal, TOP, TOP, holds(true)),
+        (Binary::NotEqual, 0, MAX, holds(true)),
     ] {
-        assert_eq!(rt; of_two(operator, left, right), outcome);
+        let (left, right) = (Value::Number(left), Value::Number(right));
+        assert_eq!(rt; binary(operator, left, right), outcome);
     }
     assert_eq!(rt; unary(Unary::BitwiseNot, Value::Number(0)), n(MAX));
     assert_eq!(rt; unary(Unary::BitwiseNot, Value::Boolean(true)), n(MAX - 1));
@@ -383,26 +309,10 @@ fn arithmetic(rt: HostRuntime) {
 }
 
 #[test]
-fn comparisons(rt: HostRuntime) {
-    for (operator, left, right, holds) in [
-        (Binary::GreaterThan, TOP, 1, true),
-        (Binary::GreaterThan, 1, 1, false),
-        (Binary::GreaterEqual, 1, 1, true),
-        (Binary::LessThan, 0, MAX, true),
-        (Binary::LessThan, 1, 1, false),
-        (Binary::LessEqual, 1, 1, true),
-        (Binary::Equal, TOP, TOP, true),
-        (Binary::NotEqual, 0, MAX, true),
-    ] {
-        assert_eq!(rt; of_two(operator, left, right), Outcome::Boolean(holds));
-    }
-}
-
-#[test]
-fn comparisons_of_texts(rt: HostRuntime) {
-    let text = Value::Text(&[65, 0]);
-    let other = Value::Text(&[66, 0]);
+fn operands_that_are_no_numbers(rt: HostRuntime) {
+    let (text, other) = (Value::Text(&[65, 0]), Value::Text(&[66, 0]));
     let buffer = Value::Buffer(&[65, 0]);
+    let (yes, no) = (Value::Boolean(true), Value::Boolean(false));
     for (operator, left, right, outcome) in [
         (Binary::Equal, text, other, Outcome::Boolean(false)),
         (Binary::NotEqual, text, other, Outcome::Boolean(true)),
@@ -410,15 +320,6 @@ fn comparisons_of_texts(rt: HostRuntime) {
         (Binary::NotEqual, text, buffer, Outcome::Undefined),
         (Binary::Equal, text, Value::Number(0), Outcome::Undefined),
         (Binary::LessThan, text, other, Outcome::Undefined),
-    ] {
-        assert_eq!(rt; binary(operator, left, right), outcome);
-    }
-}
-
-#[test]
-fn logic(rt: HostRuntime) {
-    let (yes, no) = (Value::Boolean(true), Value::Boolean(false));
-    for (operator, left, right, outcome) in [
         (Binary::And, yes, no, Outcome::Boolean(false)),
         (Binary::Or, yes, no, Outcome::Boolean(true)),
         (Binary::And, yes, Value::Number(1), Outcome::Undefined),

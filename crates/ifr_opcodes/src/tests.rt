@@ -20,70 +20,43 @@ fn operator(bytes: &[u8]) -> Option<ExprOp<'_>> {
 }
 
 #[test]
-fn form_set(rt: HostRuntime) -> Result<(), Fail> {
+fn form_set_and_form(rt: HostRuntime) -> Result<(), Fail> {
     let op = op_at(&PACKAGE, 4)?;
-    assert_eq!(rt;
-        (op.place, op.code, op.scope, op.len()),
-        (4, FORM_SET, true, 23)
-    );
+    assert_eq!(rt; (op.place, op.code), (4, FORM_SET));
+    assert_eq!(rt; (op.scope, op.len()), (true, 23));
     let view = FormSetOp::read(op)?;
     assert_eq!(rt; view.guid().bytes(), &PACKAGE[6..22]);
     assert_eq!(rt; (view.title(), view.help(), view.flags()), (0x4321, 5, 1));
+    let form = FormOp::read(op_at(&PACKAGE, 53)?)?;
+    assert_eq!(rt; (form.id(), form.title()), (7, 8));
     Ok(())
 }
 
 #[test]
-fn varstore(rt: HostRuntime) -> Result<(), Fail> {
-    let view = VarstoreOp::read(op_at(&PACKAGE, 27)?)?;
-    assert_eq!(rt; view.guid().bytes(), &PACKAGE[29..45]);
-    assert_eq!(rt;
-        (view.id(), view.size(), view.name()),
-        (1, 16, b"Ab".as_slice())
-    );
-    Ok(())
-}
-
-#[test]
-fn form(rt: HostRuntime) -> Result<(), Fail> {
-    let view = FormOp::read(op_at(&PACKAGE, 53)?)?;
-    assert_eq!(rt; (view.id(), view.title()), (7, 8));
-    Ok(())
-}
-
-#[test]
-fn eq_id_val(rt: HostRuntime) {
+fn values_of_questions(rt: HostRuntime) {
     let (op, others) = split_opcode(&PACKAGE[59..], 59).expect(&rt, "an opcode");
     assert_eq!(rt; (op.place, others.len()), (59, 18));
     let Ok(ExprOp::Leaf(LeafOp::EqIdVal(view))) = ExprOp::read(op) else {
         panic!(rt; "no EQ_ID_VAL");
     };
     assert_eq!(rt; (view.question(), view.value()), (11, 0x1234));
-}
-
-#[test]
-fn eq_id_id(rt: HostRuntime) {
-    let Some(ExprOp::Leaf(LeafOp::EqIdId(view))) = operator(&[0x13, 6, 1, 2, 3, 4]) else {
-        panic!(rt; "no EQ_ID_ID");
-    };
-    assert_eq!(rt; (view.first(), view.second()), (0x0201, 0x0403));
-}
-
-#[test]
-fn eq_id_val_list(rt: HostRuntime) {
     let list = [0x14, 11, 9, 0, 2, 0, 5, 0, 7, 1, 99];
     let Some(ExprOp::Leaf(LeafOp::EqIdValList(view))) = operator(&list) else {
         panic!(rt; "no EQ_ID_VAL_LIST");
     };
-    let mut values = view.values();
     assert_eq!(rt; (view.question(), view.count()), (9, 2));
-    assert_eq!(rt;
-        (values.next(), values.next(), values.next()),
-        (Some(5), Some(0x107), None)
-    );
+    let mut values = view.values();
+    for value in [Some(5), Some(0x107), None] {
+        assert_eq!(rt; values.next(), value);
+    }
 }
 
 #[test]
-fn references(rt: HostRuntime) {
+fn names_of_questions_and_rules(rt: HostRuntime) {
+    let Some(ExprOp::Leaf(LeafOp::EqIdId(view))) = operator(&[0x13, 6, 1, 2, 3, 4]) else {
+        panic!(rt; "no EQ_ID_ID");
+    };
+    assert_eq!(rt; (view.first(), view.second()), (0x0201, 0x0403));
     let Some(ExprOp::Leaf(LeafOp::QuestionRef(view))) = operator(&[0x40, 0x84, 7, 0]) else {
         panic!(rt; "no QUESTION_REF1");
     };
@@ -95,7 +68,7 @@ fn references(rt: HostRuntime) {
 }
 
 #[test]
-fn constants(rt: HostRuntime) {
+fn constants_and_operators(rt: HostRuntime) {
     let Some(ExprOp::Leaf(LeafOp::Uint(view))) = operator(&[0x44, 6, 4, 3, 2, 1]) else {
         panic!(rt; "no UINT32");
     };
@@ -104,21 +77,11 @@ fn constants(rt: HostRuntime) {
         panic!(rt; "no ONES");
     };
     assert_eq!(rt; view.constant, Constant::Ones);
-}
-
-#[test]
-fn operators(rt: HostRuntime) {
-    let Some(ExprOp::Unary(view)) = operator(&[0x17, 2]) else {
-        panic!(rt; "no NOT");
-    };
-    assert_eq!(rt; view.operator, Unary::Not);
-    let Some(ExprOp::Binary(view)) = operator(&[0x3b, 2]) else {
-        panic!(rt; "no SUBTRACT");
-    };
-    assert_eq!(rt; view.operator, Binary::Subtract);
-    let Some(this) = operator(&[0x58, 2]) else {
-        panic!(rt; "no THIS");
-    };
+    let not = operator(&[0x17, 2]);
+    assert!(rt; matches!(not, Some(ExprOp::Unary(view)) if view.operator == Unary::Not));
+    let less = operator(&[0x3b, 2]);
+    assert!(rt; matches!(less, Some(ExprOp::Binary(view)) if view.operator == Binary::Subtract));
+    let this = operator(&[0x58, 2]).expect(&rt, "THIS");
     assert_eq!(rt; this.op().code, THIS);
 }
 
@@ -143,48 +106,15 @@ fn numbers_of_opcodes(rt: HostRuntime) {
 #[test]
 fn checkbox(rt: HostRuntime) -> Result<(), Fail> {
     let checkbox = CheckboxOp::read(op_at(&PACKAGE, 65)?)?;
-    assert_eq!(rt;
-        (
-            checkbox.flags(),
-            checkbox.is_default(),
-            checkbox.is_manufacturing_default()
-        ),
-        (2, false, true)
-    );
-    Ok(())
-}
-
-#[test]
-fn question(rt: HostRuntime) -> Result<(), Fail> {
+    assert_eq!(rt; (checkbox.flags(), checkbox.is_default()), (2, false));
+    assert!(rt; checkbox.is_manufacturing_default());
     let question = QuestionOp::read(op_at(&PACKAGE, 65)?)?;
-    assert_eq!(rt;
-        (question.id(), question.store(), question.offset()),
-        (11, 1, 4)
-    );
-    assert_eq!(rt; (question.flags(), question.is_read_only()), (1, true));
+    assert_eq!(rt; (question.id(), question.store()), (11, 1));
+    assert_eq!(rt; (question.offset(), question.flags()), (4, 1));
+    assert!(rt; question.is_read_only());
     let statement = question.statement();
     assert_eq!(rt; (statement.prompt(), statement.help()), (2, 3));
     Ok(())
-}
-
-#[test]
-fn rule(rt: HostRuntime) -> Result<(), Fail> {
-    let rule = RuleOp::read(op_at(&[0x18, 0x83, 7], 0)?)?;
-    assert_eq!(rt; rule.id(), 7);
-    Ok(())
-}
-
-#[test]
-fn lengths(rt: HostRuntime) {
-    for place in [81, 83, 200] {
-        assert_eq!(rt;
-            op_at(&PACKAGE, place).err(),
-            Some(Fault {
-                cause: Cause::OpLength,
-                place: place as u64
-            })
-        );
-    }
 }
 
 fn fault(cause: Cause, place: u64) -> Option<Fault> {
@@ -193,22 +123,22 @@ fn fault(cause: Cause, place: u64) -> Option<Fault> {
 
 #[test]
 fn refusals(rt: HostRuntime) -> Result<(), Fail> {
+    for place in [81, 83, 200] {
+        let refused = op_at(&PACKAGE, place).err();
+        assert_eq!(rt; refused, fault(Cause::OpLength, place as u64));
+    }
     let end = op_at(&PACKAGE, 79)?;
     assert_eq!(rt; FormOp::read(end).err(), fault(Cause::OpOutside, 79));
     assert_eq!(rt; ExprOp::read(end).err(), fault(Cause::OpOutside, 79));
     assert_eq!(rt; StatementOp::read(end).err(), fault(Cause::OpSize, 79));
     let form = op_at(&PACKAGE, 53)?;
     assert_eq!(rt; QuestionOp::read(form).err(), fault(Cause::OpSize, 53));
-    Ok(())
-}
-
-#[test]
-fn a_name_without_nul(rt: HostRuntime) -> Result<(), Fail> {
+    // a store's name without a NUL
     let cut = [
         0x24, 24, 1, 2, 3, 4, 5, 6, 7, 8, 9, 10, 11, 12, 13, 14, 15, 16, 1, 0, 16, 0, 65, 98,
     ];
-    let refused = VarstoreOp::read(op_at(&cut, 0)?).err();
-    assert_eq!(rt; refused, fault(Cause::OpSize, 0));
+    let store = op_at(&cut, 0)?;
+    assert_eq!(rt; VarstoreOp::read(store).err(), fault(Cause::OpSize, 0));
     Ok(())
 }
 
@@ -222,121 +152,71 @@ static TEXTS: [u8; 23] = [
 ];
 
 #[test]
-fn subtitle(rt: HostRuntime) -> Result<(), Fail> {
-    let view = SubtitleOp::read(op_at(&TEXTS, 0)?)?;
-    let statement = view.statement();
-    assert_eq!(rt;
-        (statement.prompt(), statement.help(), view.flags()),
-        (1, 2, 9)
-    );
+fn texts(rt: HostRuntime) -> Result<(), Fail> {
+    let subtitle = SubtitleOp::read(op_at(&TEXTS, 0)?)?;
+    let statement = subtitle.statement();
+    assert_eq!(rt; (statement.prompt(), statement.help()), (1, 2));
+    assert_eq!(rt; subtitle.flags(), 9);
+    let text = TextOp::read(op_at(&TEXTS, 7)?)?;
+    assert_eq!(rt; (text.statement().prompt(), text.second()), (1, 0x1234));
+    let button = ResetButtonOp::read(op_at(&TEXTS, 15)?)?;
+    assert_eq!(rt; button.statement().prompt(), 1);
+    assert_eq!(rt; button.default_id(), 0x1234);
     Ok(())
 }
 
-#[test]
-fn text(rt: HostRuntime) -> Result<(), Fail> {
-    let view = TextOp::read(op_at(&TEXTS, 7)?)?;
-    assert_eq!(rt; (view.statement().prompt(), view.second()), (1, 0x1234));
-    Ok(())
-}
-
-#[test]
-fn reset_button(rt: HostRuntime) -> Result<(), Fail> {
-    let view = ResetButtonOp::read(op_at(&TEXTS, 15)?)?;
-    assert_eq!(rt; (view.statement().prompt(), view.default_id()), (1, 0x1234));
-    Ok(())
-}
-
-static NUMBER: [u8; 20] = [
-    7, 20, 1, 0, 2, 0, 3, 0, 4, 0, 5, 0, 6, 0x21, 1, 2, 3, 4, 5, 6,
-];
-
-static SIGNED: [u8; 17] = [7, 17, 1, 0, 2, 0, 3, 0, 4, 0, 5, 0, 6, 0x00, 0x80, 0x7f, 1];
-
-static CHOICE: [u8; 38] = [
+static NUMERICS: [u8; 75] = [
+    7, 20, 1, 0, 2, 0, 3, 0, 4, 0, 5, 0, 6, 0x21, 1, 2, 3, 4, 5, 6, // hexadecimal, of two bytes, at 0
+    7, 17, 1, 0, 2, 0, 3, 0, 4, 0, 5, 0, 6, 0x00, 0x80, 0x7f, 1, // signed, of a byte, at 20
     5, 0xa6, 1, 0, 2, 0, 3, 0, 4, 0, 5, 0, 6, 0x33, 0, 0, 0, 0, 0, 0, 0, 0, 0, 0, 0, 0, 0, 0, 0, 0,
-    0, 0, 0, 0, 0, 0, 0, 0,
+    0, 0, 0, 0, 0, 0, 0, 0, // ONE_OF, of eight bytes, at 37
 ];
 
 #[test]
 fn numeric(rt: HostRuntime) -> Result<(), Fail> {
-    let view = NumericOp::read(op_at(&NUMBER, 0)?)?;
-    assert_eq!(rt;
-        (view.question().id(), view.flags(), view.width()),
-        (3, 0x21, 2)
-    );
-    assert_eq!(rt;
-        (view.minimum(), view.maximum(), view.step()),
-        (0x0201, 0x0403, 0x0605)
-    );
+    let view = NumericOp::read(op_at(&NUMERICS, 0)?)?;
+    assert_eq!(rt; (view.question().id(), view.flags()), (3, 0x21));
+    assert_eq!(rt; (view.minimum(), view.maximum()), (0x0201, 0x0403));
+    assert_eq!(rt; (view.step(), view.width()), (0x0605, 2));
     assert_eq!(rt; view.display(), Display::Hexadecimal);
-    Ok(())
-}
-
-#[test]
-fn signed_numeric(rt: HostRuntime) -> Result<(), Fail> {
-    let view = NumericOp::read(op_at(&SIGNED, 0)?)?;
+    let view = NumericOp::read(op_at(&NUMERICS, 20)?)?;
     assert_eq!(rt; (view.display(), view.width()), (Display::Signed, 1));
     assert_eq!(rt; (view.minimum(), view.maximum()), (0x80, 0x7f));
     Ok(())
 }
 
-#[test]
-fn one_of(rt: HostRuntime) -> Result<(), Fail> {
-    let view = OneOfOp::read(op_at(&CHOICE, 0)?)?;
-    assert_eq!(rt;
-        (view.question().offset(), view.flags(), view.width()),
-        (5, 0x33, 8)
-    );
-    Ok(())
-}
-
-static STRINGS: [u8; 62] = [
+static STRINGS: [u8; 76] = [
     0x1c, 16, 1, 0, 2, 0, 3, 0, 4, 0, 5, 0, 6, 7, 8, 9, // STRING, at 0
     0x08, 17, 1, 0, 2, 0, 3, 0, 4, 0, 5, 0, 6, 7, 1, 8, 2, // PASSWORD, at 16
     0x23, 15, 1, 0, 2, 0, 3, 0, 4, 0, 5, 0, 6, 7, 2, // ORDERED_LIST, at 33
     0x1a, 14, 1, 0, 2, 0, 3, 0, 4, 0, 5, 0, 6, 7, // DATE, at 48
+    0x1b, 14, 1, 0, 2, 0, 3, 0, 4, 0, 5, 0, 6, 7, // TIME, at 62
 ];
 
-static CLOCK: [u8; 14] = [0x1b, 14, 1, 0, 2, 0, 3, 0, 4, 0, 5, 0, 6, 7];
-
 #[test]
-fn string(rt: HostRuntime) -> Result<(), Fail> {
-    let view = StringOp::read(op_at(&STRINGS, 0)?)?;
-    assert_eq!(rt; (view.question().id(), view.flags()), (3, 9));
-    assert_eq!(rt; (view.minimum(), view.maximum()), (7, 8));
-    Ok(())
-}
-
-#[test]
-fn password(rt: HostRuntime) -> Result<(), Fail> {
-    let view = PasswordOp::read(op_at(&STRINGS, 16)?)?;
-    assert_eq!(rt;
-        (view.question().id(), view.minimum(), view.maximum()),
-        (3, 0x107, 0x208)
-    );
-    Ok(())
-}
-
-#[test]
-fn ordered_list(rt: HostRuntime) -> Result<(), Fail> {
-    let view = OrderedListOp::read(op_at(&STRINGS, 33)?)?;
-    assert_eq!(rt;
-        (view.question().id(), view.max_containers(), view.flags()),
-        (3, 7, 2)
-    );
-    assert_eq!(rt;
-        (view.is_unique_set(), view.has_no_empty_set()),
-        (false, true)
-    );
-    Ok(())
-}
-
-#[test]
-fn clocks(rt: HostRuntime) -> Result<(), Fail> {
+fn strings_and_clocks(rt: HostRuntime) -> Result<(), Fail> {
+    let string = StringOp::read(op_at(&STRINGS, 0)?)?;
+    assert_eq!(rt; (string.question().id(), string.flags()), (3, 9));
+    assert_eq!(rt; (string.minimum(), string.maximum()), (7, 8));
+    let password = PasswordOp::read(op_at(&STRINGS, 16)?)?;
+    assert_eq!(rt; password.question().id(), 3);
+    assert_eq!(rt; (password.minimum(), password.maximum()), (0x107, 0x208));
     let date = DateOp::read(op_at(&STRINGS, 48)?)?;
     assert_eq!(rt; (date.question().id(), date.flags()), (3, 7));
-    let time = TimeOp::read(op_at(&CLOCK, 0)?)?;
+    let time = TimeOp::read(op_at(&STRINGS, 62)?)?;
     assert_eq!(rt; (time.question().store(), time.flags()), (4, 7));
+    Ok(())
+}
+
+#[test]
+fn choices(rt: HostRuntime) -> Result<(), Fail> {
+    let one = OneOfOp::read(op_at(&NUMERICS, 37)?)?;
+    assert_eq!(rt; (one.question().offset(), one.flags()), (5, 0x33));
+    assert_eq!(rt; one.width(), 8);
+    let list = OrderedListOp::read(op_at(&STRINGS, 33)?)?;
+    assert_eq!(rt; (list.question().id(), list.flags()), (3, 2));
+    assert_eq!(rt; (list.max_containers(), list.is_unique_set()), (7, false));
+    assert!(rt; list.has_no_empty_set());
     Ok(())
 }
 
@@ -354,80 +234,48 @@ fn actions(rt: HostRuntime) -> Result<(), Fail> {
     Ok(())
 }
 
-static SHORT_REF: [u8; 14] = [0x0f, 14, 1, 0, 2, 0, 3, 0, 4, 0, 5, 0, 6, 7];
-
-static QUESTION_OF_FORM: [u8; 17] = [0x0f, 17, 1, 0, 2, 0, 3, 0, 4, 0, 5, 0, 6, 7, 1, 8, 2];
-
-static FORM_0: [u8; 15] = [0x0f, 15, 1, 0, 2, 0, 3, 0, 4, 0, 5, 0, 6, 0, 0];
-
-static DEVICE: [u8; 35] = [
+static REFS: [u8; 81] = [
+    0x0f, 14, 1, 0, 2, 0, 3, 0, 4, 0, 5, 0, 6, 7, // too short for a form, at 0
+    0x0f, 17, 1, 0, 2, 0, 3, 0, 4, 0, 5, 0, 6, 7, 1, 8, 2, // a question of a form, at 14
+    0x0f, 15, 1, 0, 2, 0, 3, 0, 4, 0, 5, 0, 6, 0, 0, // the form 0, at 31
     0x0f, 35, 1, 0, 2, 0, 3, 0, 4, 0, 5, 0, 6, 7, 1, 8, 2, 1, 2, 3, 4, 5, 6, 7, 8, 9, 10, 11, 12,
-    13, 14, 15, 16, 9, 3,
+    13, 14, 15, 16, 9, 3, // another form set's, of a device, at 46
 ];
 
 #[test]
 fn targets(rt: HostRuntime) -> Result<(), Fail> {
-    for (bytes, form, question, target) in [
-        (SHORT_REF.as_slice(), None, None, None),
-        (
-            QUESTION_OF_FORM.as_slice(),
-            Some(0x107),
-            Some(0x208),
-            Some(0x107),
-        ),
-        (FORM_0.as_slice(), Some(0), None, None),
-        (DEVICE.as_slice(), Some(0x107), Some(0x208), None),
+    for (place, form, question, target) in [
+        (0, None, None, None),
+        (14, Some(0x107), Some(0x208), Some(0x107)),
+        (31, Some(0), None, None),
+        (46, Some(0x107), Some(0x208), None),
     ] {
-        let view = RefOp::read(op_at(bytes, 0)?)?;
-        assert_eq!(rt;
-            (view.form_id(), view.question_id(), view.target()),
-            (form, question, target)
-        );
+        let view = RefOp::read(op_at(&REFS, place)?)?;
+        assert_eq!(rt; (view.form_id(), view.target()), (form, target));
+        assert_eq!(rt; view.question_id(), question);
     }
-    Ok(())
-}
-
-#[test]
-fn another_form_set(rt: HostRuntime) -> Result<(), Fail> {
-    let view = RefOp::read(op_at(&DEVICE, 0)?)?;
+    let view = RefOp::read(op_at(&REFS, 46)?)?;
     let guid = view.form_set().expect(&rt, "a GUID");
-    assert_eq!(rt; guid.bytes(), &DEVICE[17..33]);
-    assert_eq!(rt;
-        (view.question().id(), view.device_path()),
-        (3, Some(0x309))
-    );
+    assert_eq!(rt; guid.bytes(), &REFS[63..79]);
+    assert_eq!(rt; view.question().id(), 3);
+    assert_eq!(rt; view.device_path(), Some(0x309));
     Ok(())
 }
 
-static OPTION: [u8; 8] = [9, 8, 1, 0, 0x10, 1, 0x34, 0x12];
-
-#[test]
-fn option(rt: HostRuntime) -> Result<(), Fail> {
-    let view = OptionOp::read(op_at(&OPTION, 0)?)?;
-    assert_eq!(rt;
-        (view.text(), view.flags(), view.kind()),
-        (1, 0x10, TYPE_NUM_SIZE_16)
-    );
-    assert_eq!(rt;
-        (
-            view.value(),
-            view.is_default(),
-            view.is_manufacturing_default()
-        ),
-        (0x1234, true, false)
-    );
-    Ok(())
-}
-
-static DEFAULTS: [u8; 25] = [
+static DEFAULTS: [u8; 33] = [
     0x5b, 6, 1, 0, 0, 7, // a number, at 0
     0x5b, 8, 1, 0, 0x0b, 7, 8, 9, // a buffer, at 6
     0x5b, 0x85, 1, 0, 8, // an expression, at 14
     0x5c, 6, 1, 0, 2, 0, // DEFAULTSTORE, at 19
+    9, 8, 1, 0, 0x10, 1, 0x34, 0x12, // ONE_OF_OPTION, at 25
 ];
 
 #[test]
-fn defaults(rt: HostRuntime) -> Result<(), Fail> {
+fn option_and_defaults(rt: HostRuntime) -> Result<(), Fail> {
+    let view = OptionOp::read(op_at(&DEFAULTS, 25)?)?;
+    assert_eq!(rt; (view.text(), view.flags()), (1, 0x10));
+    assert_eq!(rt; (view.kind(), view.value()), (TYPE_NUM_SIZE_16, 0x1234));
+    assert!(rt; view.is_default() && !view.is_manufacturing_default());
     for (place, kind, value) in [
         (0, TYPE_NUM_SIZE_8, &DEFAULTS[5..6]),
         (6, TYPE_BUFFER, &DEFAULTS[11..14]),
@@ -436,13 +284,8 @@ fn defaults(rt: HostRuntime) -> Result<(), Fail> {
         let view = DefaultOp::read(op_at(&DEFAULTS, place)?)?;
         assert_eq!(rt; (view.id(), view.kind(), view.value()), (1, kind, value));
     }
-    Ok(())
-}
-
-#[test]
-fn default_store(rt: HostRuntime) -> Result<(), Fail> {
-    let view = DefaultStoreOp::read(op_at(&DEFAULTS, 19)?)?;
-    assert_eq!(rt; (view.name(), view.id()), (1, 2));
+    let store = DefaultStoreOp::read(op_at(&DEFAULTS, 19)?)?;
+    assert_eq!(rt; (store.name(), store.id()), (1, 2));
     Ok(())
 }
 
@@ -453,29 +296,26 @@ static STORES: [u8; 49] = [
 ];
 
 #[test]
-fn varstore_efi(rt: HostRuntime) -> Result<(), Fail> {
-    let view = VarstoreEfiOp::read(op_at(&STORES, 0)?)?;
-    assert_eq!(rt; view.guid().bytes(), &STORES[4..20]);
-    assert_eq!(rt;
-        (view.id(), view.attributes(), view.size()),
-        (1, 0x01020304, 16)
-    );
-    assert_eq!(rt; view.name(), b"Ab".as_slice());
+fn stores(rt: HostRuntime) -> Result<(), Fail> {
+    let buffer = VarstoreOp::read(op_at(&PACKAGE, 27)?)?;
+    assert_eq!(rt; buffer.guid().bytes(), &PACKAGE[29..45]);
+    assert_eq!(rt; (buffer.id(), buffer.size()), (1, 16));
+    assert_eq!(rt; buffer.name(), b"Ab".as_slice());
+    let efi = VarstoreEfiOp::read(op_at(&STORES, 0)?)?;
+    assert_eq!(rt; efi.guid().bytes(), &STORES[4..20]);
+    assert_eq!(rt; (efi.id(), efi.attributes()), (1, 0x01020304));
+    assert_eq!(rt; (efi.size(), efi.name()), (16, b"Ab".as_slice()));
+    let pairs = VarstoreNameValueOp::read(op_at(&STORES, 29)?)?;
+    assert_eq!(rt; pairs.guid().bytes(), &STORES[33..49]);
+    assert_eq!(rt; pairs.id(), 2);
     Ok(())
 }
 
-#[test]
-fn varstore_name_value(rt: HostRuntime) -> Result<(), Fail> {
-    let view = VarstoreNameValueOp::read(op_at(&STORES, 29)?)?;
-    assert_eq!(rt; view.guid().bytes(), &STORES[33..49]);
-    assert_eq!(rt; view.id(), 2);
-    Ok(())
-}
-
-static CONDITIONS: [u8; 13] = [
+static CONDITIONS: [u8; 16] = [
     0x11, 0x84, 1, 2, // INCONSISTENT_IF, at 0
     0x10, 0x84, 3, 4, // NO_SUBMIT_IF, at 4
     0x63, 0x85, 5, 6, 7, // WARNING_IF, at 8
+    0x18, 0x83, 7, // RULE, at 13
 ];
 
 #[test]
@@ -486,6 +326,8 @@ fn conditions(rt: HostRuntime) -> Result<(), Fail> {
     assert_eq!(rt; no_submit.error(), 0x403);
     let warning = WarningIfOp::read(op_at(&CONDITIONS, 8)?)?;
     assert_eq!(rt; (warning.text(), warning.timeout()), (0x605, 7));
+    let rule = RuleOp::read(op_at(&CONDITIONS, 13)?)?;
+    assert_eq!(rt; rule.id(), 7);
     Ok(())
 }
 
@@ -533,15 +375,10 @@ static LEAST: [(u8, u8); 25] = [
 #[test]
 fn least_lengths(rt: HostRuntime) {
     for (code, least) in &LEAST {
-        let short = least.saturating_sub(1);
-        assert!(rt;
-            refusal(*code, *least, 0, 0) == Some((false, false)),
-            "at {code}"
-        );
-        assert!(rt;
-            refusal(*code, short, 0, 0) == Some((false, true)),
-            "at {code}"
-        );
+        let whole = refusal(*code, *least, 0, 0);
+        assert!(rt; whole == Some((false, false)), "at {code}");
+        let short = refusal(*code, least.saturating_sub(1), 0, 0);
+        assert!(rt; short == Some((false, true)), "at {code}");
     }
     // a count of two, and bytes for one
     let cut = op_at(&[0x14, 8, 1, 0, 2, 0, 5, 0], 0).expect(&rt, "an opcode");
@@ -575,9 +412,7 @@ static LEFT_OUT: [(u8, u8, usize, u8, (bool, bool)); 15] = [
 #[test]
 fn left_out(rt: HostRuntime) {
     for (code, len, at, byte, refused) in &LEFT_OUT {
-        assert!(rt;
-            refusal(*code, *len, *at, *byte) == Some(*refused),
-            "at {code} of {len}"
-        );
+        let said = refusal(*code, *len, *at, *byte);
+        assert!(rt; said == Some(*refused), "at {code} of {len}");
     }
 }

@@ -1,53 +1,19 @@
-ghost use Rattle.std.specs.Prelude.{◌≡◌, ◌≤◌, ◌<◌, ◌^◌, ◌+◌, length};
+ghost use Rattle.std.specs.Prelude.{◌≡◌, ◌≤◌, length};
 
 use super::*;
-use hii_bytes::{Cause, Fault};
-use hii_packages::Package;
-use ifr_expr::{Answers, Value};
+use crate::tests::{Nobody, forms_of, opaque, with};
+use hii_bytes::Cause;
+use ifr_expr::Value;
 use std::alloc::Global;
 use std::test::*;
-
-// The opcodes of a form set and its form 7, up to the form's own.
-const FRONT: [u8; 33] = [
-    0, 0, 0, 2, // the package's header
-    0x0e, 0x97, 1, 2, 3, 4, 5, 6, 7, 8, 9, 10, 11, 12, 13, 14, 15, 16, 0x21, 0x43, 5, 0, 1, // FORM_SET, at 4
-    0x01, 0x86, 7, 0, 8, 0, // a form, at 27
-];
-
-// A package with these opcodes in its form, from 33 on; and how long it is.
-fn with(opcodes: &[u8]) -> ([u8; 128], usize)
-    requires { length opcodes.now ≤ 64 }
-    ensures { result.1 ≡ 37 + length opcodes.now }
-{
-    let mut bytes = [0u8; 128];
-    let end = 33 + opcodes.len();
-    bytes[..33].copy_from_slice(&FRONT);
-    bytes[33..end].copy_from_slice(opcodes);
-    bytes[end..end + 4].copy_from_slice(&[0x29, 2, 0x29, 2]);
-    (bytes, end + 4)
-}
-
-fn forms_of(alloc: Global, bytes: &[u8]) -> Result<Forms<'_>, Fault>
-    requires header { 4 ≤ length bytes.now }
-    requires small { length bytes.now < 2 ^ 24 }
-{
-    let source = Package {
-        place: 0,
-        kind: hii_packages::FORMS,
-        bytes,
-    };
-    Forms::read(alloc, source)
-}
 
 // The cause and the place by which a form with these opcodes is refused.
 fn refusal(alloc: Global, opcodes: &[u8]) -> Option<(Cause, u64)>
     requires { length opcodes.now ≤ 64 }
 {
     let (bytes, len) = with(opcodes);
-    match forms_of(alloc, &bytes[..len]) {
-        Ok(_) => None,
-        Err(fault) => Some((fault.cause, fault.place)),
-    }
+    let fault = forms_of(alloc, &bytes[..len]).err()?;
+    Some((fault.cause, fault.place))
 }
 
 // A ONE_OF of the id 1, of bytes, with two options, a default of a number, and one of an expression, 2 + 3.
@@ -80,6 +46,14 @@ fn opcodes_where_they_may_stand(rt: HostRuntime) {
     assert_eq!(rt; refusal(alloc, &references), None);
 }
 
+static REFUSED: [(&[u8], Cause); 5] = [
+    (&[0x09, 7, 5, 0, 0, 0, 4], Cause::Misplaced), // an option in a form
+    (&[0x5a, 0x82, 0x46, 2, 0x29, 2], Cause::Misplaced), // a VALUE in a form
+    (&[0x1d, 0x82, 0x29, 2], Cause::ScopeBit), // what is ignored has no scope
+    (&[0x5f, 0x82, 0x29, 2], Cause::OpOutside), // a GUID with a scope is not known
+    (&[0x0b, 0x82, 0x29, 2], Cause::ScopeBit), // LOCKED has no scope
+];
+
 #[test]
 fn opcodes_where_they_may_not_stand(rt: HostRuntime) {
     let alloc = rt.alloc();
@@ -88,40 +62,16 @@ fn opcodes_where_they_may_not_stand(rt: HostRuntime) {
     lost[1] = 14;
     lost[0] = 0x1b;
     assert_eq!(rt; refusal(alloc, &lost[..14]), None);
-    // an option, a store and a VALUE in a form
-    assert_eq!(rt;
-        refusal(alloc, &[0x09, 7, 5, 0, 0, 0, 4]),
-        Some((Cause::Misplaced, 33))
-    );
-    assert_eq!(rt;
-        refusal(alloc, &[0x5a, 0x82, 0x46, 2, 0x29, 2]),
-        Some((Cause::Misplaced, 33))
-    );
-    // a SUBTITLE in a TEXT
-    assert_eq!(rt;
-        refusal(
-            alloc,
-            &[
-                0x03, 0x88, 3, 0, 0, 0, 4, 0, 0x02, 7, 3, 0, 0, 0, 0, 0x29, 2
-            ]
-        ),
-        Some((Cause::Misplaced, 41))
-    );
-    // what is ignored has no scope, and a GUID with one is not known
-    assert_eq!(rt;
-        refusal(alloc, &[0x1d, 0x82, 0x29, 2]),
-        Some((Cause::ScopeBit, 33))
-    );
-    assert_eq!(rt;
-        refusal(alloc, &[0x5f, 0x82, 0x29, 2]),
-        Some((Cause::OpOutside, 33))
-    );
-    // LOCKED has no scope
+    let subtitle_in_text = [
+        0x03, 0x88, 3, 0, 0, 0, 4, 0, 0x02, 7, 3, 0, 0, 0, 0, 0x29, 2,
+    ];
+    let refused = refusal(alloc, &subtitle_in_text);
+    assert_eq!(rt; refused, Some((Cause::Misplaced, 41)));
     assert_eq!(rt; refusal(alloc, &[0x0b, 2]), None);
-    assert_eq!(rt;
-        refusal(alloc, &[0x0b, 0x82, 0x29, 2]),
-        Some((Cause::ScopeBit, 33))
-    );
+    for (opcodes, cause) in &REFUSED {
+        assert!(rt; opcodes.len() <= 64);
+        assert_eq!(rt; refusal(alloc, opcodes), Some((*cause, 33)));
+    }
 }
 
 #[test]
@@ -150,19 +100,6 @@ fn what_questions_have(rt: HostRuntime) {
     assert_eq!(rt; refusal(alloc, &guarded), Some((Cause::Misplaced, 50)));
 }
 
-// Questions without answers.
-struct Nobody;
-
-impl<'v> Answers<'v> for Nobody {
-    ghost use Rattle.ifr_expr.specs.Values as spec;
-
-    ghost answers = { λ _ _. spec.undefined };
-
-    fn answer(&self, _question: u16) -> Value<'v> {
-        Value::Undefined
-    }
-}
-
 // CHOICE with a LOCKED in place of the GUID, at 93.
 fn locked_choice() -> ([u8; 128], usize)
     ensures { result.1 ≡ 100 }
@@ -173,20 +110,12 @@ fn locked_choice() -> ([u8; 128], usize)
 }
 
 #[test]
-fn a_question(rt: HostRuntime) -> Result<(), Fail> {
+fn question_and_options(rt: HostRuntime) -> Result<(), Fail> {
     let (bytes, len) = locked_choice();
     let forms = forms_of(rt.alloc(), &bytes[..len])?;
     let statement = forms.statements().next().expect(&rt, "a statement");
     assert!(rt; matches!(statement.kind(), StatementKind::OneOf(_)));
     assert_eq!(rt; statement.question().map(|question| question.id()), Some(1));
-    Ok(())
-}
-
-#[test]
-fn options(rt: HostRuntime) -> Result<(), Fail> {
-    let (bytes, len) = locked_choice();
-    let forms = forms_of(rt.alloc(), &bytes[..len])?;
-    let statement = forms.statements().next().expect(&rt, "a statement");
     let mut options = statement.options();
     for (place, value) in [(50, 4), (57, 5)] {
         let option = options.next().expect(&rt, "an option");
@@ -215,10 +144,8 @@ fn defaults(rt: HostRuntime) -> Result<(), Fail> {
     let statement = forms.statements().next().expect(&rt, "a statement");
     let mut defaults = statement.defaults();
     let number = defaults.next().expect(&rt, "a default");
-    assert_eq!(rt;
-        (number.place(), number.op().id(), number.value().is_none()),
-        (64, 0, true)
-    );
+    assert_eq!(rt; (number.place(), number.op().id()), (64, 0));
+    assert!(rt; number.value().is_none());
     let expression = defaults.next().expect(&rt, "a default");
     assert_eq!(rt; (expression.place(), expression.op().id()), (70, 1));
     let value = expression.value().expect(&rt, "an expression");
@@ -252,31 +179,15 @@ fn conditions_of_a_submission(rt: HostRuntime) -> Result<(), Fail> {
 }
 
 #[test]
-fn condition_of_a_guard(rt: HostRuntime) -> Result<(), Fail> {
+fn conditions_at_places(rt: HostRuntime) -> Result<(), Fail> {
     let (bytes, len) = with(&DENYING);
     let forms = forms_of(rt.alloc(), &bytes[..len])?;
-    let condition = forms.condition_at(33).expect(&rt, "a condition");
-    assert!(rt; matches!(condition, AnyCondition::Guard(_)));
-    assert_eq!(rt; (condition.place(), condition.this()), (33, 0));
-    assert!(rt; condition.condition().holds(&Nobody, &forms, 0));
-    Ok(())
-}
-
-#[test]
-fn condition_of_a_question(rt: HostRuntime) -> Result<(), Fail> {
-    let (bytes, len) = with(&DENYING);
-    let forms = forms_of(rt.alloc(), &bytes[..len])?;
-    let condition = forms.condition_at(51).expect(&rt, "a condition");
-    assert!(rt; matches!(condition, AnyCondition::Question(_)));
-    assert_eq!(rt; (condition.place(), condition.this()), (51, 1));
-    assert!(rt; condition.condition().holds(&Nobody, &forms, 1));
-    Ok(())
-}
-
-#[test]
-fn places_without_a_condition(rt: HostRuntime) -> Result<(), Fail> {
-    let (bytes, len) = with(&DENYING);
-    let forms = forms_of(rt.alloc(), &bytes[..len])?;
+    for (place, this, guard) in [(33, 0, true), (51, 1, false)] {
+        let condition = forms.condition_at(place).expect(&rt, "a condition");
+        assert_eq!(rt; matches!(condition, AnyCondition::Guard(_)), guard);
+        assert_eq!(rt; (condition.place(), condition.this()), (place, this));
+        assert!(rt; condition.condition().holds(&Nobody, &forms, this));
+    }
     // the question, the middle of its opcode, and a place behind the package
     for place in [37, 38, 128] {
         assert!(rt; forms.condition_at(place).is_none());
@@ -295,21 +206,14 @@ const STORES: [u8; 108] = [
     0x29, 2, 0x29, 2, // at 104, 106
 ];
 
-// It, of which proofs know the length alone.
-fn stores() -> &'static [u8; 108] {
-    &STORES
-}
-
 #[test]
 fn stores_of_all_kinds(rt: HostRuntime) -> Result<(), Fail> {
-    let forms = forms_of(rt.alloc(), stores())?;
+    let forms = forms_of(rt.alloc(), opaque(&STORES))?;
     let mut stores = forms.stores();
     for (place, id, size) in [(27, 1, Some(2)), (51, 2, Some(9)), (78, 3, None)] {
         let store = stores.next().expect(&rt, "a store");
-        assert_eq!(rt;
-            (store.place(), store.id(), store.size()),
-            (place, id, size)
-        );
+        assert_eq!(rt; (store.place(), store.id()), (place, id));
+        assert_eq!(rt; store.size(), size);
     }
     assert!(rt; stores.next().is_none());
     Ok(())

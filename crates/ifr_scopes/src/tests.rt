@@ -42,19 +42,12 @@ fn faults(rt: HostRuntime) {
     assert_eq!(rt; framing(&PACKAGE[..4]), Ok(()));
     assert_eq!(rt; framing(&PACKAGE[..5]), fault(Cause::OpLength, 4));
     assert_eq!(rt; framing(&PACKAGE[..22]), fault(Cause::ScopeOpen, 22));
-    assert_eq!(rt;
-        framing(&[0, 0, 0, 0, 0x46, 2, 0x29, 2]),
-        fault(Cause::EndExtra, 6)
-    );
+    let two_ends = [0, 0, 0, 0, 0x46, 2, 0x29, 2];
+    assert_eq!(rt; framing(&two_ends), fault(Cause::EndExtra, 6));
     // an END with Scope is no whole opcode, also where no scope is open
-    assert_eq!(rt;
-        framing(&[0, 0, 0, 0, 0x29, 0x82]),
-        fault(Cause::OpLength, 4)
-    );
-}
-
-#[test]
-fn scopes_in_scopes(rt: HostRuntime) {
+    let scoped_end = [0, 0, 0, 0, 0x29, 0x82];
+    assert_eq!(rt; framing(&scoped_end), fault(Cause::OpLength, 4));
+    // 65 scopes in each other
     let mut deep = [0x46u8; 134];
     for scope in 0..65 {
         deep[5 + 2 * scope] = 0x82;
@@ -96,22 +89,52 @@ fn guards(rt: HostRuntime) {
     assert_eq!(rt; walk.around(question.depth), [4, 6, 10].as_slice());
 }
 
-// A form set whose form is under a guard.
-const GUARDED: [u8; 47] = [
-    47, 0, 0, 2, // the package's header
+// The opcodes of a form set and its form 7, up to the form's own.
+const FRONT: [u8; 33] = [
+    0, 0, 0, 2, // the package's header
     0x0e, 0x97, 1, 2, 3, 4, 5, 6, 7, 8, 9, 10, 11, 12, 13, 14, 15, 16, 0x21, 0x43, 5, 0, 1, // FORM_SET, at 4
-    0x0a, 0x82, // SUPPRESS_IF, at 27
-    0x12, 6, 7, 0, 1, 0, // the question 7 answers 1, at 29
-    0x01, 0x86, 7, 0, 8, 0, // a form, at 35
-    0x29, 2, 0x29, 2, 0x29, 2, // at 41, 43, 45
+    0x01, 0x86, 7, 0, 8, 0, // a form, at 27
 ];
 
+// A package with these opcodes in its form, from 33 on; and how long it is.
+pub(crate) fn with(opcodes: &[u8]) -> ([u8; 128], usize)
+    requires { length opcodes.now ≤ 64 }
+    ensures { result.1 ≡ 37 + length opcodes.now }
+{
+    let mut bytes = [0u8; 128];
+    let end = 33 + opcodes.len();
+    bytes[..33].copy_from_slice(&FRONT);
+    bytes[33..end].copy_from_slice(opcodes);
+    bytes[end..end + 4].copy_from_slice(&[0x29, 2, 0x29, 2]);
+    (bytes, end + 4)
+}
+
+// A package with a form under a SUPPRESS_IF, at 27, of which this is the condition, from 29 on; and how long it is.
+fn guarded(condition: &[u8]) -> ([u8; 256], usize)
+    requires { length condition.now ≤ 160 }
+    ensures { result.1 ≡ 41 + length condition.now }
+{
+    let mut bytes = [0u8; 256];
+    let end = 29 + condition.len();
+    bytes[..27].copy_from_slice(&FRONT[..27]);
+    bytes[27..29].copy_from_slice(&[0x0a, 0x82]);
+    bytes[29..end].copy_from_slice(condition);
+    bytes[end..end + 6].copy_from_slice(&FRONT[27..]);
+    bytes[end + 6..end + 12].copy_from_slice(&[0x29, 2, 0x29, 2, 0x29, 2]);
+    (bytes, end + 12)
+}
+
+// The question 7 answers 1, without and with an opcode behind it, which negates that.
+const ANSWERED: [u8; 6] = [0x12, 6, 7, 0, 1, 0];
+
+const NEGATED: [u8; 10] = [0x12, 0x86, 7, 0, 1, 0, 0x17, 2, 0x29, 2];
+
 // The same bytes, of which proofs know the length alone.
-fn opaque<const N: usize>(bytes: &'static [u8; N]) -> &'static [u8; N] {
+pub(crate) fn opaque<const N: usize>(bytes: &'static [u8; N]) -> &'static [u8; N] {
     bytes
 }
 
-fn forms_of(alloc: Global, bytes: &[u8]) -> Result<Forms<'_>, Fault>
+pub(crate) fn forms_of(alloc: Global, bytes: &[u8]) -> Result<Forms<'_>, Fault>
     requires header { 4 ≤ length bytes.now }
     requires small { length bytes.now < 2 ^ 24 }
 {
@@ -125,7 +148,8 @@ fn forms_of(alloc: Global, bytes: &[u8]) -> Result<Forms<'_>, Fault>
 
 #[test]
 fn guards_in_no_question(rt: HostRuntime) -> Result<(), Fail> {
-    let forms = forms_of(rt.alloc(), opaque(&GUARDED))?;
+    let (bytes, len) = guarded(&ANSWERED);
+    let forms = forms_of(rt.alloc(), &bytes[..len])?;
     let form = forms.forms().next().expect(&rt, "a form");
     for guard in [
         forms.guards().next(),
@@ -141,21 +165,10 @@ fn guards_in_no_question(rt: HostRuntime) -> Result<(), Fail> {
     Ok(())
 }
 
-// The same with an opcode behind the question's.
-const NEGATED: [u8; 51] = [
-    51, 0, 0, 2, // the package's header
-    0x0e, 0x97, 1, 2, 3, 4, 5, 6, 7, 8, 9, 10, 11, 12, 13, 14, 15, 16, 0x21, 0x43, 5, 0, 1, // FORM_SET, at 4
-    0x0a, 0x82, // SUPPRESS_IF, at 27
-    0x12, 0x86, 7, 0, 1, 0, // the question 7 answers 1, at 29
-    0x17, 2, // not, at 35
-    0x29, 2, // at 37
-    0x01, 0x86, 7, 0, 8, 0, // a form, at 39
-    0x29, 2, 0x29, 2, 0x29, 2, // at 45, 47, 49
-];
-
 #[test]
 fn condition_with_scope(rt: HostRuntime) -> Result<(), Fail> {
-    let forms = forms_of(rt.alloc(), opaque(&NEGATED))?;
+    let (bytes, len) = guarded(&NEGATED);
+    let forms = forms_of(rt.alloc(), &bytes[..len])?;
     let guard = forms.guards().next().expect(&rt, "a guard");
     assert_eq!(rt; guard.condition().support().next(), Some(7));
     Ok(())
@@ -178,12 +191,9 @@ const FORMS: [u8; 87] = [
 fn parts_of_a_question(rt: HostRuntime) -> Result<(), Fail> {
     let forms = forms_of(rt.alloc(), opaque(&FORMS))?;
     let question = forms.statements().next().expect(&rt, "a question");
-    assert!(rt; question.options().next().is_none());
-    assert!(rt; question.defaults().next().is_none());
-    assert!(rt; question.inconsistents().next().is_none());
-    assert!(rt; question.nosubmits().next().is_none());
-    assert!(rt; question.warnings().next().is_none());
-    assert!(rt; question.locks().next().is_none());
+    assert!(rt; question.options().next().is_none() && question.defaults().next().is_none());
+    assert!(rt; question.inconsistents().next().is_none() && question.nosubmits().next().is_none());
+    assert!(rt; question.warnings().next().is_none() && question.locks().next().is_none());
     Ok(())
 }
 
@@ -197,130 +207,73 @@ fn check(alloc: Global, ifr: &[u8]) -> Result<(), Fault>
     Ok(())
 }
 
-// The guarded form under another condition.
-fn under(condition: [u8; 6]) -> [u8; 47] {
-    let mut package = GUARDED;
-    for at in 0..6 {
-        package[29 + at] = condition[at];
-    }
-    package
+// How a package with a form under this condition is refused.
+fn condition(alloc: Global, condition: &[u8]) -> Result<(), Fault>
+    requires { length condition.now ≤ 160 }
+{
+    let (bytes, len) = guarded(condition);
+    check(alloc, &bytes[..len])
 }
 
 #[test]
 fn expressions(rt: HostRuntime) {
     let alloc = rt.alloc();
-    assert_eq!(rt; check(alloc, opaque(&GUARDED)), Ok(()));
-    assert_eq!(rt; check(alloc, opaque(&NEGATED)), Ok(()));
-    // TRUE, and NOT in its scope
-    assert_eq!(rt;
-        check(alloc, &under([0x46, 0x82, 0x17, 2, 0x29, 2])),
-        Ok(())
-    );
-    // AND stands first, where there is no value
-    assert_eq!(rt;
-        check(alloc, &under([0x15, 0x82, 0x47, 2, 0x29, 2])),
-        fault(Cause::ExprShape, 29)
-    );
-    // two values are left
-    assert_eq!(rt;
-        check(alloc, &under([0x46, 0x82, 0x46, 2, 0x29, 2])),
-        fault(Cause::ExprShape, 29)
-    );
-    // a short opcode behind them is told in place of that
-    assert_eq!(rt;
-        check(alloc, &under([0x46, 0x82, 0x12, 2, 0x29, 2])),
-        fault(Cause::OpSize, 31)
-    );
-    // an opcode that is not known, and a second expression
-    assert_eq!(rt;
-        check(alloc, &under([0x46, 0x82, 0x64, 2, 0x29, 2])),
-        fault(Cause::OpOutside, 31)
-    );
-    assert_eq!(rt;
-        check(alloc, &under([0x46, 2, 0x46, 2, 0x46, 2])),
-        fault(Cause::Misplaced, 31)
-    );
-    // another opcode in its place, and one that is not known
-    assert_eq!(rt;
-        check(alloc, &under([0x06, 6, 7, 0, 8, 0])),
-        fault(Cause::ExprShape, 27)
-    );
-    assert_eq!(rt;
-        check(alloc, &under([0x64, 6, 7, 0, 8, 0])),
-        fault(Cause::OpOutside, 29)
-    );
-}
-
-// The same where an opcode of the condition has Scope.
-const SCOPED: [u8; 49] = [
-    49, 0, 0, 2, // the package's header
-    0x0e, 0x97, 1, 2, 3, 4, 5, 6, 7, 8, 9, 10, 11, 12, 13, 14, 15, 16, 0x21, 0x43, 5, 0, 1, // FORM_SET, at 4
-    0x0a, 0x82, // SUPPRESS_IF, at 27
-    0x46, 0x82, // TRUE, at 29
-    0x17, 0x82, // NOT, at 31
-    0x29, 2, 0x29, 2, // at 33, 35
-    0x01, 0x86, 7, 0, 8, 0, // a form, at 37
-    0x29, 2, 0x29, 2, 0x29, 2, // at 43, 45, 47
-];
-
-#[test]
-fn operand_with_scope(rt: HostRuntime) {
-    assert_eq!(rt;
-        check(rt.alloc(), opaque(&SCOPED)),
-        fault(Cause::ScopeBit, 31)
-    );
-}
-
-#[test]
-fn many_values(rt: HostRuntime) {
-    let alloc = rt.alloc();
-    // a form set, SUPPRESS_IF, and 65 opcodes in its scope, of which the first opens one
-    let mut deep = [2u8; 165];
-    for at in 0..29 {
-        deep[at] = GUARDED[at];
+    assert_eq!(rt; condition(alloc, &ANSWERED), Ok(()));
+    assert_eq!(rt; condition(alloc, &NEGATED), Ok(()));
+    let not_true = [0x46, 0x82, 0x17, 2, 0x29, 2];
+    assert_eq!(rt; condition(alloc, &not_true), Ok(()));
+    let operand_with_scope = [0x46, 0x82, 0x17, 0x82, 0x29, 2, 0x29, 2];
+    let refused = condition(alloc, &operand_with_scope);
+    assert_eq!(rt; refused, fault(Cause::ScopeBit, 31));
+    for (opcodes, cause, place) in [
+        ([0x15, 0x82, 0x47, 2, 0x29, 2], Cause::ExprShape, 29), // AND stands first, where there is no value
+        ([0x46, 0x82, 0x46, 2, 0x29, 2], Cause::ExprShape, 29), // two values are left
+        ([0x46, 0x82, 0x12, 2, 0x29, 2], Cause::OpSize, 31), // a short opcode behind is told in place of that
+        ([0x46, 0x82, 0x64, 2, 0x29, 2], Cause::OpOutside, 31), // an opcode that is not known
+        ([0x46, 2, 0x46, 2, 0x46, 2], Cause::Misplaced, 31), // a second expression
+        ([0x06, 6, 7, 0, 8, 0], Cause::ExprShape, 27), // another opcode in its place
+        ([0x64, 6, 7, 0, 8, 0], Cause::OpOutside, 29), // one that is not known
+    ] {
+        assert_eq!(rt; condition(alloc, &opcodes), fault(cause, place));
     }
+    // 65 values, of which the first opens a scope
+    let mut deep = [2u8; 132];
     for value in 0..65 {
-        deep[29 + 2 * value] = 0x46;
+        deep[2 * value] = 0x46;
     }
-    deep[30] = 0x82;
-    for end in 0..3 {
-        deep[159 + 2 * end] = 0x29;
-    }
-    assert_eq!(rt; check(alloc, &deep), fault(Cause::ExprDepth, 157));
+    deep[1] = 0x82;
+    deep[130] = 0x29;
+    let refused = condition(alloc, &deep);
+    assert_eq!(rt; refused, fault(Cause::ExprDepth, 157));
 }
 
 #[test]
 fn references(rt: HostRuntime) {
     let alloc = rt.alloc();
     assert_eq!(rt; check(alloc, opaque(&FORMS)), Ok(()));
-    let mut same_question = FORMS;
-    same_question[53] = 3;
-    assert_eq!(rt;
-        check(alloc, &same_question),
-        fault(Cause::DuplicateQuestion, 61)
-    );
-    let mut same_form = FORMS;
-    same_form[79] = 7;
-    assert_eq!(rt; check(alloc, &same_form), fault(Cause::DuplicateForm, 77));
+    for (at, byte, cause, place) in [
+        (53, 3, Cause::DuplicateQuestion, 61),
+        (79, 7, Cause::DuplicateForm, 77),
+    ] {
+        let mut package = FORMS;
+        package[at] = byte;
+        assert_eq!(rt; check(alloc, &package), fault(cause, place));
+    }
     let mut no_form = FORMS;
     no_form[27] = 0x29;
     no_form[28] = 2;
     assert_eq!(rt; check(alloc, &no_form[..29]), fault(Cause::NoForm, 4));
 }
 
-// A form with a rule, and a guard with a reference to it on each side.
-const RULED: [u8; 58] = [
-    58, 0, 0, 2, // the package's header
-    0x0e, 0x97, 1, 2, 3, 4, 5, 6, 7, 8, 9, 10, 11, 12, 13, 14, 15, 16, 0x21, 0x43, 5, 0, 1, // FORM_SET, at 4
-    0x01, 0x86, 7, 0, 8, 0, // a form, at 27
+// A rule, and a guard with a reference to it on each side.
+const RULED: [u8; 21] = [
     0x0a, 0x82, 0x3f, 3, 5, 0x29, 2, // SUPPRESS_IF with RULE_REF 5, at 33
     0x18, 0x83, 5, 0x46, 2, 0x29, 2, // the rule 5: TRUE, at 40
     0x0a, 0x82, 0x3f, 3, 5, 0x29, 2, // SUPPRESS_IF with RULE_REF 5, at 47
-    0x29, 2, 0x29, 2, // at 54, 56
 ];
 
 // Questions without answers.
-struct Nobody;
+pub(crate) struct Nobody;
 
 impl<'v> Answers<'v> for Nobody {
     ghost use Rattle.ifr_expr.specs.Values as spec;
@@ -334,7 +287,8 @@ impl<'v> Answers<'v> for Nobody {
 
 #[test]
 fn rules_before_and_behind(rt: HostRuntime) -> Result<(), Fail> {
-    let forms = forms_of(rt.alloc(), opaque(&RULED))?;
+    let (bytes, len) = with(&RULED);
+    let forms = forms_of(rt.alloc(), &bytes[..len])?;
     let mut guards = forms.guards();
     let before = guards.next().expect(&rt, "a guard").condition();
     let behind = guards.next().expect(&rt, "a guard").condition();
@@ -343,38 +297,32 @@ fn rules_before_and_behind(rt: HostRuntime) -> Result<(), Fail> {
     Ok(())
 }
 
-// A form with a rule over a question, and a guard over the rule and THIS.
-const DEPENDENT: [u8; 61] = [
-    61, 0, 0, 2, // the package's header
-    0x0e, 0x97, 1, 2, 3, 4, 5, 6, 7, 8, 9, 10, 11, 12, 13, 14, 15, 16, 0x21, 0x43, 5, 0, 1, // FORM_SET, at 4
-    0x01, 0x86, 7, 0, 8, 0, // a form, at 27
+// A rule over a question, and a guard over the rule and THIS.
+const DEPENDENT: [u8; 24] = [
     0x18, 0x83, 5, 0x12, 6, 7, 0, 1, 0, 0x29, 2, // the rule 5: the question 7 answers 1, at 33
     0x0a, 0x82, 0x3f, 0x83, 5, 0x58, 2, 0x15, 2, 0x29, 2, 0x29, 2, // SUPPRESS_IF with RULE_REF 5 and THIS, at 44
-    0x29, 2, 0x29, 2, // at 57, 59
 ];
 
 #[test]
 fn questions_behind_rules(rt: HostRuntime) -> Result<(), Fail> {
-    let forms = forms_of(rt.alloc(), opaque(&DEPENDENT))?;
+    let (bytes, len) = with(&DEPENDENT);
+    let forms = forms_of(rt.alloc(), &bytes[..len])?;
     let condition = forms.guards().next().expect(&rt, "a guard").condition();
     let mut ids = forms.dependence(condition, 9);
-    assert_eq!(rt;
-        (ids.next(), ids.next(), ids.next()),
-        (Some(7), Some(9), None)
-    );
+    assert_eq!(rt; (ids.next(), ids.next()), (Some(7), Some(9)));
+    assert!(rt; ids.next().is_none());
     let mut ids = forms.dependence(condition, 0);
     assert_eq!(rt; (ids.next(), ids.next()), (Some(7), None));
     Ok(())
 }
 
-// A form with a rule that holds, at 33, and more behind it, from 40 on in steps of 8, each naming the one before; and how
-// long the package is.
-fn chain(more: usize) -> ([u8; 172], usize)
+// How a form is refused with a rule that holds, at 33, and more behind it, from 40 on in steps of 8, each naming the one
+// before.
+fn chain(alloc: Global, more: usize) -> Result<(), Fault>
     requires { more ≤ 16 }
-    ensures { result.1 ≡ 44 + 8 * more }
 {
     let mut bytes = [0u8; 172];
-    bytes[..33].copy_from_slice(&RULED[..33]);
+    bytes[..33].copy_from_slice(&FRONT);
     bytes[33..40].copy_from_slice(&[0x18, 0x83, 0, 0x46, 2, 0x29, 2]);
     for id in 0..more {
         let at = 40 + 8 * id;
@@ -382,17 +330,12 @@ fn chain(more: usize) -> ([u8; 172], usize)
     }
     let end = 40 + 8 * more;
     bytes[end..end + 4].copy_from_slice(&[0x29, 2, 0x29, 2]);
-    (bytes, end + 4)
+    check(alloc, &bytes[..end + 4])
 }
 
 #[test]
 fn deep_rules(rt: HostRuntime) {
     let alloc = rt.alloc();
-    let (bytes, len) = chain(15);
-    assert_eq!(rt; check(alloc, &bytes[..len]), Ok(()));
-    let (bytes, len) = chain(16);
-    assert_eq!(rt;
-        check(alloc, &bytes[..len]),
-        fault(Cause::RuleTooLarge, 160)
-    );
+    assert_eq!(rt; chain(alloc, 15), Ok(()));
+    assert_eq!(rt; chain(alloc, 16), fault(Cause::RuleTooLarge, 160));
 }

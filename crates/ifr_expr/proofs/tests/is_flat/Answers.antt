@@ -1,4 +1,4 @@
-use Rattle.std.proofs.Common.{true, false, length, sym, ◌∙◌}
+use Rattle.std.proofs.Common.{sym, ◌∙◌}
 use Rattle.std.proofs.lemmas.Bool.{true≢false}
 use Rattle.ifr_opcodes.specs.Ops.{bytes_of}
 use Rattle.ifr_opcodes.proofs.OpcodeLemmas.{has_scope_spelled}
