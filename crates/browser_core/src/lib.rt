@@ -8,8 +8,6 @@ pub mod laws;
 mod reply;
 mod script;
 mod session;
-#[cfg(test)]
-mod tests;
 mod texts;
 
 pub use reply::{End, Reply, RunFault};

@@ -12,8 +12,6 @@ mod row_value;
 mod shown;
 mod statement_row;
 mod statement_value;
-#[cfg(test)]
-mod tests;
 mod value_chars;
 
 pub use choice::Elements;

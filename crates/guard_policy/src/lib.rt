@@ -15,8 +15,6 @@ mod removed;
 mod submission;
 mod support;
 mod support_of;
-#[cfg(test)]
-mod tests;
 mod values;
 mod warnings;
 

@@ -22,8 +22,6 @@ mod questions;
 mod reading;
 mod stored_items;
 mod tables;
-#[cfg(test)]
-mod tests;
 mod texts;
 mod value;
 

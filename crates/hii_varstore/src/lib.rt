@@ -9,8 +9,6 @@ mod layout;
 mod store;
 mod stores;
 mod table;
-#[cfg(test)]
-mod tests;
 mod varstores;
 
 pub use buffer::Buffer;

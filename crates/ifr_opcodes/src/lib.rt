@@ -32,8 +32,6 @@ mod split;
 mod stores;
 mod string;
 mod subtitle;
-#[cfg(test)]
-mod tests;
 mod text;
 mod time;
 mod varstore_efi;

@@ -28,16 +28,12 @@ mod nodes;
 mod nodes_of;
 mod option_view;
 mod places;
-#[cfg(test)]
-mod question_tests;
 mod references;
 mod rules;
 mod scoped_nodes;
 mod statement;
 mod structure;
 mod table;
-#[cfg(test)]
-mod tests;
 mod varstore;
 mod walk;
 

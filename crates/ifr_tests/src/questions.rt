@@ -1,0 +1,219 @@
+ghost use Rattle.std.specs.Prelude.{◌≡◌, ◌≤◌, length};
+
+use crate::scopes::{Nobody, forms_of, opaque, refusal, with};
+use hii_bytes::Cause;
+use ifr_expr::Value;
+use ifr_scopes::{AnyCondition, StatementKind};
+use std::alloc::Global;
+use std::test::*;
+
+// The cause and the place by which a form with these opcodes is refused.
+fn form(alloc: Global, opcodes: &[u8]) -> Option<(Cause, u64)>
+    requires { length opcodes.now ≤ 64 }
+{
+    let (bytes, len) = with(opcodes);
+    refusal(alloc, &bytes[..len])
+}
+
+// A ONE_OF of the id 1, of bytes, with two options, a default of a number, and one of an expression, 2 + 3.
+const CHOICE: [u8; 63] = [
+    0x05, 0x91, 3, 0, 0, 0, 1, 0, 1, 0, 0, 0, 0, 0x10, 0, 0, 0, // at 33
+    0x09, 7, 5, 0, 0x10, 0, 4, // the option 4, the default, at 50
+    0x09, 7, 6, 0, 0, 0, 5, // the option 5, at 57
+    0x5b, 6, 0, 0, 0, 5, // a default 5 of the class 0, at 64
+    0x5b, 0x85, 1, 0, 8, // a default of the class 1, at 70
+    0x5a, 0x82, // VALUE, at 75
+    0x42, 0x83, 2, 0x42, 3, 3, 0x3a, 2, 0x29, 2, // 2 + 3, at 77
+    0x29, 2, 0x29, 2, // at 87, 89
+    0x29, 2, // at 91
+    0x5f, 3, 9, // a GUID of no effect, at 93
+];
+
+#[test]
+fn opcodes_where_they_may_stand(rt: HostRuntime) {
+    let alloc = rt.alloc();
+    assert_eq!(rt; form(alloc, &CHOICE), None);
+    // SUBTITLE with a TEXT in it, RESET_BUTTON
+    let statements = [
+        0x02, 0x87, 3, 0, 0, 0, 0, 0x03, 8, 3, 0, 0, 0, 4, 0, 0x29, 2, 0x0d, 8, 3, 0, 0, 0, 0, 0,
+    ];
+    assert_eq!(rt; form(alloc, &statements), None);
+    // a REF to this form, and one that leads out of the form set
+    let references = [
+        0x0f, 15, 3, 0, 0, 0, 2, 0, 0, 0, 0, 0, 0, 7, 0, 0x0f, 13, 3, 0, 0, 0, 3, 0, 0, 0, 0, 0, 0,
+    ];
+    assert_eq!(rt; form(alloc, &references), None);
+}
+
+static REFUSED: [(&[u8], Cause); 5] = [
+    (&[0x09, 7, 5, 0, 0, 0, 4], Cause::Misplaced), // an option in a form
+    (&[0x5a, 0x82, 0x46, 2, 0x29, 2], Cause::Misplaced), // a VALUE in a form
+    (&[0x1d, 0x82, 0x29, 2], Cause::ScopeBit), // what is ignored has no scope
+    (&[0x5f, 0x82, 0x29, 2], Cause::OpOutside), // a GUID with a scope is not known
+    (&[0x0b, 0x82, 0x29, 2], Cause::ScopeBit), // LOCKED has no scope
+];
+
+#[test]
+fn opcodes_where_they_may_not_stand(rt: HostRuntime) {
+    let alloc = rt.alloc();
+    let mut lost = [0x0f, 15, 3, 0, 0, 0, 2, 0, 0, 0, 0, 0, 0, 8, 0];
+    assert_eq!(rt; form(alloc, &lost), Some((Cause::NoForm, 33)));
+    lost[1] = 14;
+    lost[0] = 0x1b;
+    assert_eq!(rt; form(alloc, &lost[..14]), None);
+    let subtitle_in_text = [
+        0x03, 0x88, 3, 0, 0, 0, 4, 0, 0x02, 7, 3, 0, 0, 0, 0, 0x29, 2,
+    ];
+    let refused = form(alloc, &subtitle_in_text);
+    assert_eq!(rt; refused, Some((Cause::Misplaced, 41)));
+    assert_eq!(rt; form(alloc, &[0x0b, 2]), None);
+    for (opcodes, cause) in &REFUSED {
+        assert!(rt; opcodes.len() <= 64);
+        assert_eq!(rt; form(alloc, opcodes), Some((*cause, 33)));
+    }
+}
+
+#[test]
+fn what_questions_have(rt: HostRuntime) {
+    let alloc = rt.alloc();
+    for (at, byte, refused) in [
+        (55, 7, Some((Cause::OpOutside, 50))), // the option is a text
+        (62, 1, Some((Cause::OpSize, 57))), // an option lacks a byte of its value
+        (74, 9, Some((Cause::ScopeBit, 70))), // a default with a scope has a VALUE
+        (75, 0x47, Some((Cause::ExprShape, 70))), // TRUE in place of VALUE
+        (33, 0x07, Some((Cause::Misplaced, 50))), // a NUMERIC with options
+        (57, 0x1e, Some((Cause::ScopeBit, 57))), // a DISABLE_IF without a scope
+        (68, 0x0d, Some((Cause::OpOutside, 64))), // a default of a kind that is not defined
+    ] {
+        let mut opcodes = CHOICE;
+        opcodes[at - 33] = byte;
+        assert_eq!(rt; form(alloc, &opcodes), refused);
+    }
+    // a guard among options, and in a question without options
+    let mut guarded = [
+        0x05, 0x91, 3, 0, 0, 0, 1, 0, 1, 0, 0, 0, 0, 0x10, 0, 0, 0, 0x0a, 0x82, 0x46, 2, 0x29, 2,
+        0x29, 2,
+    ];
+    assert_eq!(rt; form(alloc, &guarded), None);
+    guarded[0] = 0x07;
+    assert_eq!(rt; form(alloc, &guarded), Some((Cause::Misplaced, 50)));
+}
+
+// CHOICE with a LOCKED in place of the GUID, at 93.
+fn locked_choice() -> ([u8; 128], usize)
+    ensures { result.1 ≡ 100 }
+{
+    let mut opcodes = CHOICE;
+    opcodes[60] = 0x0b;
+    with(&opcodes)
+}
+
+#[test]
+fn question_and_options(rt: HostRuntime) -> Result<(), Fail> {
+    let (bytes, len) = locked_choice();
+    let forms = forms_of(rt.alloc(), &bytes[..len])?;
+    let statement = forms.statements().next().expect(&rt, "a statement");
+    assert!(rt; matches!(statement.kind(), StatementKind::OneOf(_)));
+    assert_eq!(rt; statement.question().map(|question| question.id()), Some(1));
+    let mut options = statement.options();
+    for (place, value) in [(50, 4), (57, 5)] {
+        let option = options.next().expect(&rt, "an option");
+        assert_eq!(rt; (option.place(), option.op().value()), (place, value));
+        assert!(rt; option.guards().next().is_none());
+    }
+    assert!(rt; options.next().is_none());
+    Ok(())
+}
+
+#[test]
+fn guards_and_locks_at_places(rt: HostRuntime) -> Result<(), Fail> {
+    let (bytes, len) = locked_choice();
+    let forms = forms_of(rt.alloc(), &bytes[..len])?;
+    for (place, lock) in [(50, Some(93)), (57, Some(93)), (64, None)] {
+        assert!(rt; forms.guards_at(place).next().is_none());
+        assert_eq!(rt; forms.lock_at(place).map(|lock| lock.place()), lock);
+    }
+    Ok(())
+}
+
+#[test]
+fn defaults(rt: HostRuntime) -> Result<(), Fail> {
+    let (bytes, len) = locked_choice();
+    let forms = forms_of(rt.alloc(), &bytes[..len])?;
+    let statement = forms.statements().next().expect(&rt, "a statement");
+    let mut defaults = statement.defaults();
+    let number = defaults.next().expect(&rt, "a default");
+    assert_eq!(rt; (number.place(), number.op().id()), (64, 0));
+    assert!(rt; number.value().is_none());
+    let expression = defaults.next().expect(&rt, "a default");
+    assert_eq!(rt; (expression.place(), expression.op().id()), (70, 1));
+    let value = expression.value().expect(&rt, "an expression");
+    assert!(rt; matches!(value.value(&Nobody, &forms, 0), Value::Number(5)));
+    assert!(rt; defaults.next().is_none());
+    Ok(())
+}
+
+// A CHECKBOX of the id 1 under a guard, with a condition that denies each submission.
+const DENYING: [u8; 30] = [
+    0x0a, 0x82, 0x46, 2, // SUPPRESS_IF with TRUE, at 33
+    0x06, 0x8e, 3, 0, 0, 0, 1, 0, 0, 0, 0, 0, 0, 0, // at 37
+    0x10, 0x84, 9, 0, 0x46, 2, 0x29, 2, // NO_SUBMIT_IF with TRUE, at 51
+    0x29, 2, 0x29, 2, // at 59, 61
+];
+
+#[test]
+fn conditions_of_a_submission(rt: HostRuntime) -> Result<(), Fail> {
+    let (bytes, len) = with(&DENYING);
+    let forms = forms_of(rt.alloc(), &bytes[..len])?;
+    let mut denying = forms.nosubmits();
+    let first = denying.next().expect(&rt, "a condition");
+    let condition = first.condition;
+    assert_eq!(rt; (condition.place(), condition.this()), (51, 1));
+    assert!(rt; condition.condition().holds(&Nobody, &forms, 1));
+    let mut guards = first.guards;
+    assert_eq!(rt; guards.next().map(|guard| guard.place()), Some(33));
+    assert!(rt; guards.next().is_none());
+    assert!(rt; denying.next().is_none());
+    Ok(())
+}
+
+#[test]
+fn conditions_at_places(rt: HostRuntime) -> Result<(), Fail> {
+    let (bytes, len) = with(&DENYING);
+    let forms = forms_of(rt.alloc(), &bytes[..len])?;
+    for (place, this, guard) in [(33, 0, true), (51, 1, false)] {
+        let condition = forms.condition_at(place).expect(&rt, "a condition");
+        assert_eq!(rt; matches!(condition, AnyCondition::Guard(_)), guard);
+        assert_eq!(rt; (condition.place(), condition.this()), (place, this));
+        assert!(rt; condition.condition().holds(&Nobody, &forms, this));
+    }
+    // the question, the middle of its opcode, and a place behind the package
+    for place in [37, 38, 128] {
+        assert!(rt; forms.condition_at(place).is_none());
+    }
+    Ok(())
+}
+
+// A form set with stores of all kinds.
+const STORES: [u8; 108] = [
+    108, 0, 0, 2, // the package's header
+    0x0e, 0x97, 1, 2, 3, 4, 5, 6, 7, 8, 9, 10, 11, 12, 13, 14, 15, 16, 0x21, 0x43, 5, 0, 1, // FORM_SET, at 4
+    0x24, 24, 1, 2, 3, 4, 5, 6, 7, 8, 9, 10, 11, 12, 13, 14, 15, 16, 1, 0, 2, 0, b'A', 0, // at 27
+    0x26, 27, 2, 0, 1, 2, 3, 4, 5, 6, 7, 8, 9, 10, 11, 12, 13, 14, 15, 16, 0, 0, 0, 0, 9, 0, 0, // at 51
+    0x25, 20, 3, 0, 1, 2, 3, 4, 5, 6, 7, 8, 9, 10, 11, 12, 13, 14, 15, 16, // at 78
+    0x01, 0x86, 7, 0, 8, 0, // a form, at 98
+    0x29, 2, 0x29, 2, // at 104, 106
+];
+
+#[test]
+fn stores_of_all_kinds(rt: HostRuntime) -> Result<(), Fail> {
+    let forms = forms_of(rt.alloc(), opaque(&STORES))?;
+    let mut stores = forms.stores();
+    for (place, id, size) in [(27, 1, Some(2)), (51, 2, Some(9)), (78, 3, None)] {
+        let store = stores.next().expect(&rt, "a store");
+        assert_eq!(rt; (store.place(), store.id()), (place, id));
+        assert_eq!(rt; store.size(), size);
+    }
+    assert!(rt; stores.next().is_none());
+    Ok(())
+}

@@ -1,0 +1,285 @@
+ghost use Rattle.std.specs.Prelude.{◌≡◌, ◌≤◌, ◌<◌, ◌^◌, ◌+◌, length};
+
+use hii_bytes::{Cause, Fault};
+use hii_packages::{FORMS, Package};
+use ifr_expr::{Answers, Value};
+use ifr_scopes::Forms;
+use std::alloc::Global;
+use std::test::*;
+
+// The opcodes of a form set and its form 7, up to the form's own.
+const FRONT: [u8; 33] = [
+    0, 0, 0, 2, // the package's header
+    0x0e, 0x97, 1, 2, 3, 4, 5, 6, 7, 8, 9, 10, 11, 12, 13, 14, 15, 16, 0x21, 0x43, 5, 0, 1, // FORM_SET, at 4
+    0x01, 0x86, 7, 0, 8, 0, // a form, at 27
+];
+
+// A package with these opcodes in its form, from 33 on; and how long it is.
+pub(crate) fn with(opcodes: &[u8]) -> ([u8; 128], usize)
+    requires { length opcodes.now ≤ 64 }
+    ensures { result.1 ≡ 37 + length opcodes.now }
+{
+    let mut bytes = [0u8; 128];
+    let end = 33 + opcodes.len();
+    bytes[..33].copy_from_slice(&FRONT);
+    bytes[33..end].copy_from_slice(opcodes);
+    bytes[end..end + 4].copy_from_slice(&[0x29, 2, 0x29, 2]);
+    (bytes, end + 4)
+}
+
+// A package with a form under a SUPPRESS_IF, at 27, of which this is the condition, from 29 on; and how long it is.
+fn guarded(condition: &[u8]) -> ([u8; 256], usize)
+    requires { length condition.now ≤ 160 }
+    ensures { result.1 ≡ 41 + length condition.now }
+{
+    let mut bytes = [0u8; 256];
+    let end = 29 + condition.len();
+    bytes[..27].copy_from_slice(&FRONT[..27]);
+    bytes[27..29].copy_from_slice(&[0x0a, 0x82]);
+    bytes[29..end].copy_from_slice(condition);
+    bytes[end..end + 6].copy_from_slice(&FRONT[27..]);
+    bytes[end + 6..end + 12].copy_from_slice(&[0x29, 2, 0x29, 2, 0x29, 2]);
+    (bytes, end + 12)
+}
+
+// The question 7 answers 1, without and with an opcode behind it, which negates that.
+const ANSWERED: [u8; 6] = [0x12, 6, 7, 0, 1, 0];
+
+const NEGATED: [u8; 10] = [0x12, 0x86, 7, 0, 1, 0, 0x17, 2, 0x29, 2];
+
+// The same bytes, of which proofs know the length alone.
+pub(crate) fn opaque<const N: usize>(bytes: &'static [u8; N]) -> &'static [u8; N] {
+    bytes
+}
+
+pub(crate) fn forms_of(alloc: Global, bytes: &[u8]) -> Result<Forms<'_>, Fault>
+    requires header { 4 ≤ length bytes.now }
+    requires small { length bytes.now < 2 ^ 24 }
+{
+    let source = Package {
+        place: 0,
+        kind: FORMS,
+        bytes,
+    };
+    Forms::read(alloc, source)
+}
+
+#[test]
+fn guards_in_no_question(rt: HostRuntime) -> Result<(), Fail> {
+    let (bytes, len) = guarded(&ANSWERED);
+    let forms = forms_of(rt.alloc(), &bytes[..len])?;
+    let form = forms.forms().next().expect(&rt, "a form");
+    for guard in [
+        forms.guards().next(),
+        forms.guards_at(form.place()).next(),
+        form.guards().next(),
+    ] {
+        let guard = guard.expect(&rt, "a guard");
+        assert_eq!(rt; (guard.place(), guard.this()), (27, 0));
+        assert_eq!(rt; guard.op().code, 0x0a);
+        assert_eq!(rt; guard.condition().support().next(), Some(7));
+    }
+    assert!(rt; forms.guards_at(27).next().is_none());
+    Ok(())
+}
+
+#[test]
+fn condition_with_scope(rt: HostRuntime) -> Result<(), Fail> {
+    let (bytes, len) = guarded(&NEGATED);
+    let forms = forms_of(rt.alloc(), &bytes[..len])?;
+    let guard = forms.guards().next().expect(&rt, "a guard");
+    assert_eq!(rt; guard.condition().support().next(), Some(7));
+    Ok(())
+}
+
+// A form set with two forms and three questions.
+const PACKAGE: [u8; 87] = [
+    87, 0, 0, 2, // the package's header
+    0x0e, 0x97, 1, 2, 3, 4, 5, 6, 7, 8, 9, 10, 11, 12, 13, 14, 15, 16, 0x21, 0x43, 5, 0, 1, // FORM_SET, at 4
+    0x01, 0x86, 7, 0, 8, 0, // a form, at 27
+    0x06, 14, 2, 0, 3, 0, 0, 0, 1, 0, 4, 0, 1, 2, // a question of the id 0, at 33
+    0x06, 14, 2, 0, 3, 0, 0, 0, 1, 0, 5, 0, 1, 2, // another, at 47
+    0x06, 14, 2, 0, 3, 0, 3, 0, 1, 0, 6, 0, 1, 2, // a question of the id 3, at 61
+    0x29, 2, // at 75
+    0x01, 0x86, 9, 0, 8, 0, // a form, at 77
+    0x29, 2, 0x29, 2, // at 83, 85
+];
+
+#[test]
+fn parts_of_a_question(rt: HostRuntime) -> Result<(), Fail> {
+    let forms = forms_of(rt.alloc(), opaque(&PACKAGE))?;
+    let question = forms.statements().next().expect(&rt, "a question");
+    assert!(rt; question.options().next().is_none() && question.defaults().next().is_none());
+    assert!(rt; question.inconsistents().next().is_none() && question.nosubmits().next().is_none());
+    assert!(rt; question.warnings().next().is_none() && question.locks().next().is_none());
+    Ok(())
+}
+
+fn fault(cause: Cause, place: u64) -> Option<(Cause, u64)> {
+    Some((cause, place))
+}
+
+// The cause and the place by which a package is refused.
+pub(crate) fn refusal(alloc: Global, bytes: &[u8]) -> Option<(Cause, u64)>
+    requires header { 4 ≤ length bytes.now }
+    requires small { length bytes.now < 2 ^ 24 }
+{
+    let fault = forms_of(alloc, bytes).err()?;
+    Some((fault.cause, fault.place))
+}
+
+#[test]
+fn framing(rt: HostRuntime) {
+    let alloc = rt.alloc();
+    assert_eq!(rt; refusal(alloc, opaque(&PACKAGE)), None);
+    for (len, cause, place) in [
+        (4, Cause::NotFormSet, 4), // nothing
+        (5, Cause::OpLength, 4), // half of an opcode
+        (85, Cause::ScopeOpen, 85), // a scope without its END
+    ] {
+        assert_eq!(rt; refusal(alloc, &PACKAGE[..len]), fault(cause, place));
+    }
+    let two_ends = [0, 0, 0, 0, 0x46, 2, 0x29, 2];
+    assert_eq!(rt; refusal(alloc, &two_ends), fault(Cause::EndExtra, 6));
+    // an END with Scope is no whole opcode, also where no scope is open
+    let scoped_end = [0, 0, 0, 0, 0x29, 0x82];
+    assert_eq!(rt; refusal(alloc, &scoped_end), fault(Cause::OpLength, 4));
+    // 65 scopes in each other
+    let mut deep = [0x46u8; 134];
+    for scope in 0..65 {
+        deep[5 + 2 * scope] = 0x82;
+    }
+    assert_eq!(rt; refusal(alloc, &deep), fault(Cause::TooDeep, 132));
+}
+
+// How a package with a form under this condition is refused.
+fn condition(alloc: Global, condition: &[u8]) -> Option<(Cause, u64)>
+    requires { length condition.now ≤ 160 }
+{
+    let (bytes, len) = guarded(condition);
+    refusal(alloc, &bytes[..len])
+}
+
+#[test]
+fn expressions(rt: HostRuntime) {
+    let alloc = rt.alloc();
+    assert_eq!(rt; condition(alloc, &ANSWERED), None);
+    assert_eq!(rt; condition(alloc, &NEGATED), None);
+    let not_true = [0x46, 0x82, 0x17, 2, 0x29, 2];
+    assert_eq!(rt; condition(alloc, &not_true), None);
+    let operand_with_scope = [0x46, 0x82, 0x17, 0x82, 0x29, 2, 0x29, 2];
+    let refused = condition(alloc, &operand_with_scope);
+    assert_eq!(rt; refused, fault(Cause::ScopeBit, 31));
+    for (opcodes, cause, place) in [
+        ([0x15, 0x82, 0x47, 2, 0x29, 2], Cause::ExprShape, 29), // AND stands first, where there is no value
+        ([0x46, 0x82, 0x46, 2, 0x29, 2], Cause::ExprShape, 29), // two values are left
+        ([0x46, 0x82, 0x12, 2, 0x29, 2], Cause::OpSize, 31), // a short opcode behind is told in place of that
+        ([0x46, 0x82, 0x64, 2, 0x29, 2], Cause::OpOutside, 31), // an opcode that is not known
+        ([0x46, 2, 0x46, 2, 0x46, 2], Cause::Misplaced, 31), // a second expression
+        ([0x06, 6, 7, 0, 8, 0], Cause::ExprShape, 27), // another opcode in its place
+        ([0x64, 6, 7, 0, 8, 0], Cause::OpOutside, 29), // one that is not known
+    ] {
+        assert_eq!(rt; condition(alloc, &opcodes), fault(cause, place));
+    }
+    // 65 values, of which the first opens a scope
+    let mut deep = [2u8; 132];
+    for value in 0..65 {
+        deep[2 * value] = 0x46;
+    }
+    deep[1] = 0x82;
+    deep[130] = 0x29;
+    let refused = condition(alloc, &deep);
+    assert_eq!(rt; refused, fault(Cause::ExprDepth, 157));
+}
+
+#[test]
+fn references(rt: HostRuntime) {
+    let alloc = rt.alloc();
+    for (at, byte, cause, place) in [
+        (53, 3, Cause::DuplicateQuestion, 61),
+        (79, 7, Cause::DuplicateForm, 77),
+    ] {
+        let mut package = PACKAGE;
+        package[at] = byte;
+        assert_eq!(rt; refusal(alloc, &package), fault(cause, place));
+    }
+    let mut no_form = PACKAGE;
+    no_form[27] = 0x29;
+    no_form[28] = 2;
+    assert_eq!(rt; refusal(alloc, &no_form[..29]), fault(Cause::NoForm, 4));
+}
+
+// A rule, and a guard with a reference to it on each side.
+const RULED: [u8; 21] = [
+    0x0a, 0x82, 0x3f, 3, 5, 0x29, 2, // SUPPRESS_IF with RULE_REF 5, at 33
+    0x18, 0x83, 5, 0x46, 2, 0x29, 2, // the rule 5: TRUE, at 40
+    0x0a, 0x82, 0x3f, 3, 5, 0x29, 2, // SUPPRESS_IF with RULE_REF 5, at 47
+];
+
+// Questions without answers.
+pub(crate) struct Nobody;
+
+impl<'v> Answers<'v> for Nobody {
+    ghost use Rattle.ifr_expr.specs.Values as spec;
+
+    ghost answers = { λ _ _. spec.undefined };
+
+    fn answer(&self, _question: u16) -> Value<'v> {
+        Value::Undefined
+    }
+}
+
+#[test]
+fn rules_before_and_behind(rt: HostRuntime) -> Result<(), Fail> {
+    let (bytes, len) = with(&RULED);
+    let forms = forms_of(rt.alloc(), &bytes[..len])?;
+    let mut guards = forms.guards();
+    let before = guards.next().expect(&rt, "a guard").condition();
+    let behind = guards.next().expect(&rt, "a guard").condition();
+    assert!(rt; matches!(before.value(&Nobody, &forms, 0), Value::Undefined));
+    assert!(rt; behind.holds(&Nobody, &forms, 0));
+    Ok(())
+}
+
+// A rule over a question, and a guard over the rule and THIS.
+const DEPENDENT: [u8; 24] = [
+    0x18, 0x83, 5, 0x12, 6, 7, 0, 1, 0, 0x29, 2, // the rule 5: the question 7 answers 1, at 33
+    0x0a, 0x82, 0x3f, 0x83, 5, 0x58, 2, 0x15, 2, 0x29, 2, 0x29, 2, // SUPPRESS_IF with RULE_REF 5 and THIS, at 44
+];
+
+#[test]
+fn questions_behind_rules(rt: HostRuntime) -> Result<(), Fail> {
+    let (bytes, len) = with(&DEPENDENT);
+    let forms = forms_of(rt.alloc(), &bytes[..len])?;
+    let condition = forms.guards().next().expect(&rt, "a guard").condition();
+    let mut ids = forms.dependence(condition, 9);
+    assert_eq!(rt; (ids.next(), ids.next()), (Some(7), Some(9)));
+    assert!(rt; ids.next().is_none());
+    let mut ids = forms.dependence(condition, 0);
+    assert_eq!(rt; (ids.next(), ids.next()), (Some(7), None));
+    Ok(())
+}
+
+// How a form is refused with a rule that holds, at 33, and more behind it, from 40 on in steps of 8, each naming the one
+// before.
+fn chain(alloc: Global, more: usize) -> Option<(Cause, u64)>
+    requires { more ≤ 16 }
+{
+    let mut bytes = [0u8; 172];
+    bytes[..33].copy_from_slice(&FRONT);
+    bytes[33..40].copy_from_slice(&[0x18, 0x83, 0, 0x46, 2, 0x29, 2]);
+    for id in 0..more {
+        let at = 40 + 8 * id;
+        bytes[at..at + 8].copy_from_slice(&[0x18, 0x83, id as u8 + 1, 0x3f, 3, id as u8, 0x29, 2]);
+    }
+    let end = 40 + 8 * more;
+    bytes[end..end + 4].copy_from_slice(&[0x29, 2, 0x29, 2]);
+    refusal(alloc, &bytes[..end + 4])
+}
+
+#[test]
+fn deep_rules(rt: HostRuntime) {
+    let alloc = rt.alloc();
+    assert_eq!(rt; chain(alloc, 15), None);
+    assert_eq!(rt; chain(alloc, 16), fault(Cause::RuleTooLarge, 160));
+}

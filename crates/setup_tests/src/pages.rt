@@ -1,0 +1,241 @@
+ghost use Rattle.std.specs.Prelude.{◌≡◌, ◌≤◌, ◌<◌, ◌^◌, length};
+ghost use Rattle.ifr_scopes.specs.Checked.{IsNodeOf};
+ghost use Rattle.ifr_scopes.specs.Lists.{form_node};
+ghost use Rattle.guard_policy.specs.Views.{bytes_of};
+
+use crate::forms::{first_form, forms_of};
+use form_page::Page;
+use guard_policy::{Conditions, Policy, Removed};
+use hii_bytes::{Watched, WriteFault};
+use hii_languages::{Languages, Shown};
+use hii_packages::PackageList;
+use hii_questions::Questions;
+use hii_varstore::{Layout, Stores};
+use ifr_scopes::{Form, Forms};
+use std::alloc::Global;
+use std::io;
+use std::io::{ErrorKind, Write};
+use std::process::Abort;
+use std::test::Fail;
+
+const PACKAGE: [u8; 401] = [
+    145, 1, 0, 2, // the package's header
+    0x0e, 151, 34, 34, 34, 34, 34, 34, 34, 34, 34, 34, 34, 34, 34, 34, 34, 34, 1, 0, 2, 0, 0, // FORM_SET, at 4
+    0x24, 24, 1, 2, 3, 4, 5, 6, 7, 8, 9, 10, 11, 12, 13, 14, 15, 16, 1, 0, 24, 0, 65, 0, // a store of the id 1 and 24 bytes, at 27
+    0x01, 134, 1, 0, 2, 0, // a form with the title 2, at 51
+    0x06, 14, 3, 0, 0, 0, 1, 0, 1, 0, 0, 0, 0, 0, // a checkbox of the id 1, byte 0, at 57
+    0x0a, 130, // SUPPRESS_IF, at 71
+    0x12, 6, 1, 0, 0, 0, // the question 1 answers 0, at 73
+    0x06, 14, 4, 0, 0, 0, 2, 0, 1, 0, 0, 0, 0, 0, // a checkbox of the id 2, at 79
+    0x29, 2, // END, at 93
+    0x06, 14, 0, 0, 0, 0, 52, 18, 0, 0, 0, 0, 0, 0, // one of the id 4660, without a prompt and a field, at 95
+    0x06, 14, 255, 0, 0, 0, 255, 255, 1, 0, 1, 0, 1, 0, // one of the id 65535, READ_ONLY, byte 1, at 109
+    0x07, 17, 3, 0, 0, 0, 3, 0, 1, 0, 2, 0, 0, 0, 0, 0, 0, // a number of the id 3, signed, byte 2, at 123
+    0x07, 20, 3, 0, 0, 0, 4, 0, 1, 0, 3, 0, 0, 33, 0, 0, 0, 0, 0, 0, // one of the id 4, in hexadecimal, bytes 3 and 4, at 140
+    0x07, 17, 3, 0, 0, 0, 0, 0, 1, 0, 2, 0, 0, 16, 0, 0, 0, // one of the id 0, unsigned, byte 2, at 160
+    0x05, 145, 3, 0, 0, 0, 5, 0, 1, 0, 5, 0, 0, 0, 0, 0, 0, // a choice of the id 5, byte 5, at 177
+    0x09, 7, 4, 0, 0, 0, 7, // its option 7, at 194
+    0x09, 7, 3, 0, 0, 0, 7, // and another, at 201
+    0x29, 2, // END, at 208
+    0x05, 145, 3, 0, 0, 0, 6, 0, 1, 0, 2, 0, 0, 0, 0, 0, 0, // one of the id 6, byte 2, at 210
+    0x09, 7, 3, 0, 0, 0, 7, // its option 7, at 227
+    0x29, 2, // END, at 234
+    0x23, 143, 3, 0, 0, 0, 7, 0, 1, 0, 6, 0, 0, 4, 0, // a list of the id 7, 4 elements of 2 bytes from byte 6, at 236
+    0x09, 8, 3, 0, 0, 1, 1, 0, // its option 1, at 251
+    0x09, 8, 0, 0, 0, 1, 2, 0, // its option 2, at 259
+    0x29, 2, // END, at 267
+    0x1c, 16, 3, 0, 0, 0, 8, 0, 1, 0, 14, 0, 0, 0, 3, 0, // a text of the id 8, 3 units from byte 14, at 269
+    0x08, 17, 3, 0, 0, 0, 9, 0, 1, 0, 14, 0, 0, 0, 0, 3, 0, // a password of the id 9, at the same bytes, at 285
+    0x08, 17, 3, 0, 0, 0, 10, 0, 1, 0, 20, 0, 0, 0, 0, 2, 0, // one of the id 10, which is empty, at byte 20, at 302
+    0x0f, 15, 3, 0, 0, 0, 11, 0, 0, 0, 0, 0, 0, 1, 0, // a reference of the id 11 to form 1, at 319
+    0x0f, 13, 3, 0, 0, 0, 12, 0, 0, 0, 0, 0, 0, // one of the id 12 to no form, at 334
+    0x1a, 14, 3, 0, 0, 0, 13, 0, 1, 0, 0, 0, 0, 0, // a date of the id 13, at 347
+    0x0c, 13, 3, 0, 0, 0, 14, 0, 0, 0, 0, 0, 0, // an action of the id 14, at 361
+    0x02, 7, 3, 0, 0, 0, 0, // a subtitle, at 374
+    0x03, 8, 3, 0, 0, 0, 3, 0, // a text with the second text 3, at 381
+    0x0d, 8, 3, 0, 0, 0, 0, 0, // a reset button, at 389
+    0x29, 2, 41, 2, // END, at 397
+];
+
+/// A list with a string package, in which the string 3 is `Box`.
+const STRINGS: &[u8] = b"\x11\x11\x11\x11\x11\x11\x11\x11\x11\x11\x11\x11\x11\x11\x11\x11\x55\0\0\0\
+\x3d\0\0\x04\x2f\0\0\0\x31\0\0\0\0\0\0\0\0\0\0\0\0\0\0\0\0\0\0\0\0\0\0\0\0\0\0\0\0\0\0\0\0\0\0\0\x01\0\
+en\0\x22\x02\x14B\0o\0x\0\0\0\0\
+\x04\0\0\xdf";
+
+const IMAGE: &[u8] =
+    b"HVS1\x01\x00\x01\x00\x18\x00\x00\x01\x80\x0f\xa0\x07\x02\x00\x01\x00\x09\x00\x00\x00\x68\x00\x01\x00\x00\x00\x00\x00\x00\x00";
+
+const TEXT: &[u8] = b"FORM 1 #2\n  \
+1 *     1 Box                      [ ]\n  \
+2 !  4660                          []\n  \
+3 ! 65535 #255                     [x]\n  \
+4 *     3 Box                      [-128]\n  \
+5 *     4 Box                      [0xa00f]\n  \
+6 *     0 Box                      [128]\n  \
+7 *     5 Box                      [<#4>]\n  \
+8 *     6 Box                      [<?>]\n  \
+9 *     7 Box                      [, Box, ?]\n \
+10 *     8 Box                      [h ]\n \
+11 *     9 Box                      [****]\n \
+12 *    10 Box                      []\n \
+13 *    11 Box                      [->1]\n \
+14 !    12 Box                      [->]\n \
+15 !    13 Box                      []\n \
+16 !    14 Box                      []\n \
+17       - Box                      []\n \
+18       - Box                      [Box]\n \
+19 *     - Box                      [reset]\n";
+
+/// Takes that many bytes, and then fails.
+#[derive(Drop)]
+struct Limited {
+    bytes: Vec<u8>,
+    room: usize,
+}
+
+impl Write for Limited {
+    fn write(&mut self, buf: &[u8]) -> io::Result<usize> {
+        let n = buf.len().min(self.room);
+        if n == 0 && !buf.is_empty() {
+            return Err(io::Error::from(ErrorKind::Other));
+        }
+        self.bytes.extend_from_slice(&buf[..n])?;
+        self.room -= n;
+        Ok(n)
+    }
+
+    fn flush(&mut self) -> io::Result<()> {
+        Ok(())
+    }
+}
+
+// The forms package, of which proofs know the length alone.
+fn package() -> &'static [u8]
+    ensures header { 4 ≤ length result.now }
+    ensures small { length result.now < 2 ^ 24 }
+{
+    &PACKAGE
+}
+
+// The string packages, the image and the page, of which proofs know nothing.
+fn string_list() -> &'static [u8] {
+    STRINGS
+}
+
+fn image() -> &'static [u8] {
+    IMAGE
+}
+
+fn page_text() -> &'static [u8] {
+    TEXT
+}
+
+fn has_title_and_rows<C: Conditions>(rt: &impl Abort, page: &Page<'_, '_, C>) {
+    let mut title = page.title().chars();
+    for c in ['#', '2'] {
+        assert_eq!(rt; title.next(), Some(c));
+    }
+    assert!(rt; title.next().is_none());
+    let mut rows = page.rows();
+    for (number, mark, question, shown) in [
+        (1, b'*', 1, Some(' ')),
+        (2, b'!', 4660, None),
+        (3, b'!', 65535, Some('x')),
+    ] {
+        let row = rows.next().expect(rt, "a row");
+        assert_eq!(rt;
+            (row.number, row.mark, row.question),
+            (number, mark, Some(question))
+        );
+        assert!(rt; matches!(row.prompt, Shown::Nothing) == (number == 2));
+        let mut chars = row.value.chars();
+        assert_eq!(rt; chars.next(), shown);
+        assert!(rt; chars.next().is_none());
+    }
+}
+
+fn is_written<C: Conditions>(rt: &impl Abort, alloc: Global, page: &Page<'_, '_, C>) {
+    let mut out = Watched::new(Vec::new(alloc));
+    assert_eq!(rt; page.write_page(&mut out), Ok(()));
+    assert_eq!(rt; out.into_inner().as_slice(), page_text());
+    let mut again = Watched::new(Vec::new(alloc));
+    page.put_page(&mut again);
+    assert!(rt; !again.failed());
+    assert_eq!(rt; again.into_inner().as_slice(), page_text());
+}
+
+fn stops_where_a_writer_fails<C: Conditions>(
+    rt: &impl Abort,
+    alloc: Global,
+    page: &Page<'_, '_, C>,
+) {
+    let text = page_text();
+    for room in 0..text.len() {
+        let mut out = Watched::new(Limited {
+            bytes: Vec::new(alloc),
+            room,
+        });
+        let fault = WriteFault {
+            written: room as u64,
+        };
+        assert_eq!(rt; page.write_page(&mut out), Err(fault));
+        assert_eq!(rt; out.into_inner().bytes.as_slice(), &text[..room]);
+    }
+}
+
+fn page_is_shown<'a, R: Abort + AllocGlobal>(
+    rt: &R,
+    form: Form<'a>,
+    policy: Policy<'a, '_>,
+    questions: &Questions<'a>,
+    stores: &Stores,
+    languages: &Languages<'a>,
+)
+    requires node { IsNodeOf (bytes_of policy) (form_node form) }
+    requires own { questions.now.ifr ≡ bytes_of policy }
+{
+    let conditions = policy.over(stores);
+    let choice = languages.choose(b"en");
+    let page = Page::new(
+        form,
+        policy,
+        questions,
+        stores,
+        languages,
+        choice,
+        &conditions,
+    );
+    has_title_and_rows(rt, &page);
+    is_written(rt, rt.alloc(), &page);
+    stops_where_a_writer_fails(rt, rt.alloc(), &page);
+}
+
+fn is_shown<'a, R: Abort + AllocGlobal>(
+    rt: &R,
+    forms: &Forms<'a>,
+    layout: &Layout<'a>,
+    questions: &Questions<'a>,
+    languages: &Languages<'a>,
+) -> Result<(), Fail>
+    requires { questions.now.ifr ≡ forms.now }
+{
+    let alloc = rt.alloc();
+    let stores = Stores::read(alloc, layout, image())?;
+    let removed = Removed::at_open(alloc, forms, questions, &stores)?;
+    let policy = Policy::new(forms, questions, &removed);
+    let form = first_form(forms).expect(rt, "a form");
+    page_is_shown(rt, form, policy, questions, &stores, languages);
+    Ok(())
+}
+
+#[test]
+fn a_page_has_rows_and_is_written(rt: HostRuntime) -> Result<(), Fail> {
+    let alloc = rt.alloc();
+    let forms = forms_of(alloc, package())?;
+    let layout = Layout::read(alloc, &forms)?;
+    let questions = Questions::read(alloc, &forms, &layout)?;
+    let list = PackageList::read(string_list())?;
+    let languages = Languages::read(alloc, &list)?;
+    is_shown(&rt, &forms, &layout, &questions, &languages)
+}

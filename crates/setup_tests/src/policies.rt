@@ -1,0 +1,311 @@
+ghost use Rattle.guard_policy.specs.Views.{bytes_of};
+ghost use Rattle.std.specs.Prelude.{◌≡◌, IfSome};
+ghost use Rattle.ifr_scopes.specs.Accepted.{IsAccepted};
+ghost use Rattle.ifr_scopes.specs.Checked.{IsNodeOf};
+ghost use Rattle.ifr_scopes.specs.Lists.{form_node};
+ghost use Rattle.ifr_scopes.specs.Parts.{option_node};
+ghost use Rattle.hii_questions.specs.Views.{question_node};
+
+use crate::forms::{first_form, forms_of};
+use guard_policy::{Conditions, Decision, Denial, Policy, Removed, Warning};
+use hii_questions::laws::questions_of_ids_are_questions;
+use hii_questions::{DenialKind, Question, Questions};
+use hii_varstore::{Layout, Stores};
+use ifr_scopes::laws::a_node_is_that_of_its_place;
+use ifr_scopes::{Form, Forms, OptionView};
+use std::alloc::Global;
+use std::process::Abort;
+use std::test::Fail;
+
+const PACKAGE: [u8; 253] = [
+    253, 0, 0, 2, // the package's header
+    0x0e, 0x97, 0x22, 0x22, 0x22, 0x22, 0x22, 0x22, 0x22, 0x22, 0x22, 0x22, 0x22, 0x22, 0x22, 0x22,
+    0x22, 0x22, 1, 0, 2, 0, 0, // FORM_SET, at 4
+    0x24, 0x18, 1, 2, 3, 4, 5, 6, 7, 8, 9, 10, 11, 12, 13, 14, 15, 16, 1, 0, 3, 0, b'A', 0, // a store of the id 1 and 3 bytes, at 27
+    0x0a, 0x82, // SUPPRESS_IF, at 51
+    0x12, 0x06, 7, 0, 1, 0, // the question 7 answers 1, at 53
+    0x01, 0x86, 1, 0, 1, 0, // a form, at 59
+    0x06, 0x8e, 1, 0, 2, 0, 7, 0, 1, 0, 1, 0, 0, 0, // a checkbox of the id 7, byte 1 of store 1, at 65
+    0x11, 0x84, 4, 0, // INCONSISTENT_IF with the text 4, at 79
+    0x12, 0x06, 5, 0, 2, 0, // the question 5 answers 2, at 83
+    0x29, 0x02, // END, at 89
+    0x10, 0x84, 5, 0, // NO_SUBMIT_IF with the text 5, at 91
+    0x12, 0x06, 5, 0, 2, 0, // the question 5 answers 2, at 95
+    0x29, 0x02, // END, at 101
+    0x63, 0x85, 6, 0, 0, // WARNING_IF with the text 6, at 103
+    0x12, 0x06, 5, 0, 2, 0, // the question 5 answers 2, at 108
+    0x29, 0x02, // END, at 114
+    0x29, 0x02, // END, at 116
+    0x06, 0x0e, 1, 0, 2, 0, 8, 0, 1, 0, 0, 0, 1, 0, // one of the id 8, READ_ONLY, at 118
+    0x06, 0x0e, 1, 0, 2, 0, 9, 0, 0, 0, 0, 0, 0, 0, // one of the id 9, without a field, at 132
+    0x0a, 0x82, // SUPPRESS_IF, at 146
+    0x12, 0x06, 7, 0, 0, 0, // the question 7 answers 0, at 148
+    0x06, 0x0e, 1, 0, 2, 0, 6, 0, 1, 0, 0, 0, 0, 0, // one of the id 6, byte 0 of store 1, at 154
+    0x29, 0x02, // END, at 168
+    0x1e, 0x82, // DISABLE_IF, at 170
+    0x46, 0x02, // TRUE, at 172
+    0x06, 0x0e, 1, 0, 2, 0, 4, 0, 1, 0, 0, 0, 0, 0, // one of the id 4, byte 0 of store 1, at 174
+    0x29, 0x02, // END, at 188
+    0x05, 0x91, 1, 0, 2, 0, 5, 0, 1, 0, 2, 0, 0, 0, 0, 9, 0, // a one-of of the id 5, byte 2 of store 1, at 190
+    0x19, 0x82, // GRAY_OUT_IF, at 207
+    0x46, 0x02, // TRUE, at 209
+    0x09, 0x07, 3, 0, 0, 0, 1, // an option of the value 1, at 211
+    0x29, 0x02, // END, at 218
+    0x09, 0x07, 3, 0, 0, 0, 2, // an option of the value 2, at 220
+    0x29, 0x02, // END, at 227
+    0x06, 0x8e, 1, 0, 2, 0, 3, 0, 1, 0, 0, 0, 0, 0, // a checkbox of the id 3, byte 0 of store 1, at 229
+    0x0b, 0x02, // LOCKED, at 243
+    0x29, 0x02, // END, at 245
+    0x29, 0x02, // END, at 247
+    0x29, 0x02, // END, at 249
+    0x29, 0x02, // END, at 251
+];
+
+// The forms package, of which proofs know the length alone.
+fn package() -> &'static [u8; 253] {
+    &PACKAGE
+}
+
+fn question_of<'a>(questions: &Questions<'a>, id: u16) -> Option<Question<'a>>
+    requires { IsAccepted questions.now.ifr }
+    ensures { IfSome result (λ question. IsNodeOf questions.now.ifr (question_node question)) }
+{
+    a_node_is_that_of_its_place();
+    questions_of_ids_are_questions();
+    questions.find(id)
+}
+
+fn first_option<'a>(questions: &Questions<'a>, question: Question<'a>) -> Option<OptionView<'a>>
+    requires accepted { IsAccepted questions.now.ifr }
+    requires node { IsNodeOf questions.now.ifr (question_node question) }
+    ensures { IfSome result (λ option. IsNodeOf questions.now.ifr (option_node option)) }
+{
+    question.statement().options().next()
+}
+
+fn denial(kind: DenialKind, place: u32) -> Result<(), Denial> {
+    Err(Denial {
+        kind,
+        place,
+        message: 0,
+    })
+}
+
+fn statements_are_denied<'a>(
+    rt: &impl Abort,
+    policy: Policy<'a, '_>,
+    questions: &Questions<'a>,
+    stores: &Stores,
+)
+    requires accepted { IsAccepted questions.now.ifr }
+    requires together { bytes_of policy ≡ questions.now.ifr }
+{
+    for (id, listed, changeable) in [
+        (7, Ok(()), Ok(())),
+        (8, Ok(()), denial(DenialKind::ReadOnly, 118)),
+        (9, Ok(()), denial(DenialKind::Outside, 132)),
+        (
+            6,
+            denial(DenialKind::SuppressIf, 146),
+            denial(DenialKind::SuppressIf, 146),
+        ),
+        (
+            4,
+            denial(DenialKind::DisableIf, 170),
+            denial(DenialKind::DisableIf, 170),
+        ),
+        (3, Ok(()), denial(DenialKind::Locked, 243)),
+    ] {
+        let question = question_of(questions, id).expect(rt, "a question");
+        let statement = question.statement();
+        assert_eq!(rt; policy.listed(statement, stores), listed);
+        assert_eq!(rt; policy.changeable(statement, stores), changeable);
+    }
+}
+
+fn values_are_denied<'a>(
+    rt: &impl Abort,
+    policy: Policy<'a, '_>,
+    questions: &Questions<'a>,
+    stores: &Stores,
+)
+    requires accepted { IsAccepted questions.now.ifr }
+    requires together { bytes_of policy ≡ questions.now.ifr }
+{
+    let choice = question_of(questions, 5).expect(rt, "a question");
+    for (value, open) in [
+        (1, denial(DenialKind::GrayOutIf, 207)),
+        (2, Ok(())),
+        (3, Ok(())),
+    ] {
+        assert_eq!(rt; policy.option_open(choice, value, stores), open);
+    }
+    let question = question_of(questions, 7).expect(rt, "a question");
+    let inconsistent = Denial {
+        kind: DenialKind::InconsistentIf,
+        place: 79,
+        message: 4,
+    };
+    assert_eq!(rt; policy.consistent(question, stores), Err(inconsistent));
+    let unsubmitted = Denial {
+        kind: DenialKind::NoSubmitIf,
+        place: 91,
+        message: 5,
+    };
+    assert_eq!(rt; policy.may_submit(stores), Err(unsubmitted));
+    let mut warnings = policy.warnings(question, stores);
+    let warning = Warning {
+        place: 103,
+        message: 6,
+    };
+    assert_eq!(rt; warnings.next(), Some(warning));
+    assert_eq!(rt; warnings.next(), None);
+}
+
+// All conditions hold, or none.
+#[derive(Drop)]
+struct All {
+    hold: bool,
+}
+
+impl Conditions for All {
+    ghost holding = { λ all _. all.hold };
+
+    fn holds(&self, _place: u32) -> bool {
+        self.hold
+    }
+}
+
+fn kept_conditions_decide<'a>(
+    rt: &impl Abort,
+    policy: Policy<'a, '_>,
+    questions: &Questions<'a>,
+    form: Form<'a>,
+)
+    requires accepted { IsAccepted questions.now.ifr }
+    requires together { bytes_of policy ≡ questions.now.ifr }
+    requires node { IsNodeOf questions.now.ifr (form_node form) }
+{
+    let suppressed = denial(DenialKind::SuppressIf, 51);
+    let unsubmitted = Denial {
+        kind: DenialKind::NoSubmitIf,
+        place: 91,
+        message: 5,
+    };
+    for (hold, seen, changeable, submitted) in [
+        (false, Ok(()), denial(DenialKind::ReadOnly, 118), Ok(())),
+        (true, suppressed, suppressed, Err(unsubmitted)),
+    ] {
+        let all = All { hold };
+        assert_eq!(rt; policy.opens_by(form, &all), seen);
+        assert_eq!(rt; policy.may_submit_by(&all), submitted);
+        let statement = question_of(questions, 8)
+            .expect(rt, "a question")
+            .statement();
+        assert_eq!(rt; policy.listed_by(statement, &all), seen);
+        assert_eq!(rt; policy.changeable_by(statement, &all), changeable);
+        let choice = question_of(questions, 5).expect(rt, "a question");
+        assert_eq!(rt; policy.option_open_by(choice, 1, &all), seen);
+        let option = first_option(questions, choice).expect(rt, "an option");
+        assert_eq!(rt; policy.option_listed_by(option, &all), seen);
+    }
+}
+
+fn decisions_depend_on_questions<'a>(
+    rt: &impl Abort,
+    policy: Policy<'a, '_>,
+    questions: &Questions<'a>,
+)
+    requires accepted { IsAccepted questions.now.ifr }
+    requires together { bytes_of policy ≡ questions.now.ifr }
+{
+    let question = question_of(questions, 7).expect(rt, "a question");
+    let mut ids = policy.support_of(Decision::Changeable(question.statement()));
+    assert_eq!(rt; (ids.next(), ids.next()), (Some(7), None));
+    let mut ids = policy.support_of(Decision::Consistent(question));
+    assert_eq!(rt; (ids.next(), ids.next()), (Some(5), None));
+    let mut ids = policy.support_of(Decision::MaySubmit);
+    assert_eq!(rt; (ids.next(), ids.next()), (Some(5), None));
+    let choice = question_of(questions, 5).expect(rt, "a question");
+    let mut ids = policy.support_of(Decision::OptionOpen(choice, 1));
+    assert_eq!(rt; (ids.next(), ids.next()), (Some(7), None));
+}
+
+fn conditions_are_found<'a>(rt: &impl Abort, policy: Policy<'a, '_>, stores: &Stores) {
+    let conditions = policy.over(stores);
+    for (place, holds) in [(51, false), (91, true), (146, true), (65, false)] {
+        assert_eq!(rt; conditions.holds(place), holds);
+    }
+    for (place, question) in [(51, Some(7)), (91, Some(5)), (170, None), (65, None)] {
+        assert_eq!(rt; policy.support_at(place).next(), question);
+    }
+}
+
+// What a policy decides over stores in which the question 5 is 2 and the others are 0.
+fn policy_decides<'a, R: Abort>(
+    rt: &R,
+    policy: Policy<'a, '_>,
+    questions: &Questions<'a>,
+    stores: &Stores,
+    form: Form<'a>,
+)
+    requires accepted { IsAccepted questions.now.ifr }
+    requires together { bytes_of policy ≡ questions.now.ifr }
+    requires node { IsNodeOf questions.now.ifr (form_node form) }
+{
+    assert_eq!(rt; policy.forms().bytes(), package().as_slice());
+    assert_eq!(rt; (policy.removed(170), policy.removed(146)), (true, false));
+    assert_eq!(rt; policy.opens(form, stores), Ok(()));
+    statements_are_denied(rt, policy, questions, stores);
+    values_are_denied(rt, policy, questions, stores);
+    kept_conditions_decide(rt, policy, questions, form);
+    decisions_depend_on_questions(rt, policy, questions);
+    conditions_are_found(rt, policy, stores);
+}
+
+fn form_is_suppressed<'a, R: Abort + AllocGlobal>(
+    rt: &R,
+    policy: Policy<'a, '_>,
+    layout: &Layout<'a>,
+    form: Form<'a>,
+) -> Result<(), Fail>
+    requires { IsNodeOf (bytes_of policy) (form_node form) }
+{
+    let stores = Stores::read(
+        rt.alloc(),
+        layout,
+        b"HVS1\x01\x00\x01\x00\x03\x00\x00\x01\x00",
+    )?;
+    assert_eq!(rt;
+        policy.opens(form, &stores),
+        denial(DenialKind::SuppressIf, 51)
+    );
+    Ok(())
+}
+
+fn is_decided<'a, R: Abort + AllocGlobal>(
+    rt: &R,
+    forms: &Forms<'a>,
+    layout: &Layout<'a>,
+    questions: &Questions<'a>,
+) -> Result<(), Fail>
+    requires accepted { IsAccepted forms.now }
+    requires together { questions.now.ifr ≡ forms.now }
+{
+    let alloc = rt.alloc();
+    let stores = Stores::read(alloc, layout, b"HVS1\x01\x00\x01\x00\x03\x00\x00\x00\x02")?;
+    let removed = Removed::at_open(alloc, forms, questions, &stores)?;
+    let policy = Policy::new(forms, questions, &removed);
+    let form = first_form(forms).expect(rt, "a form");
+    policy_decides(rt, policy, questions, &stores, form);
+    form_is_suppressed(rt, policy, layout, form)
+}
+
+#[test]
+fn denials_name_what_decides(rt: HostRuntime) -> Result<(), Fail> {
+    let alloc = rt.alloc();
+    let forms = forms_of(alloc, package())?;
+    let layout = Layout::read(alloc, &forms)?;
+    let questions = Questions::read(alloc, &forms, &layout)?;
+    is_decided(&rt, &forms, &layout, &questions)
+}

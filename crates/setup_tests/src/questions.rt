@@ -1,0 +1,254 @@
+ghost use Rattle.std.specs.Prelude.{◌≡◌, ◌<◌};
+ghost use Rattle.hii_bytes.specs.Faults.{HasNone};
+ghost use Rattle.ifr_scopes.specs.Nodes.{nodes_of};
+ghost use Rattle.hii_varstore.specs.StoreNodes.{layout_of};
+ghost use Rattle.hii_varstore.specs.Stores.{shape_of};
+ghost use Rattle.hii_questions.specs.Faults.{IsQuestionFault};
+
+use crate::forms::forms_of;
+use hii_bytes::{Cause, Fault, is_number_list};
+use hii_questions::{
+    Input, Question, Questions, StoredItems, ValueDenial, check_value, element_width, laws,
+    read_value, shown,
+};
+use hii_varstore::{Layout, Stores};
+use ifr_expr::{Answers, Value};
+use ifr_scopes::Forms;
+use std::alloc::Global;
+use std::test::Fail;
+
+const PACKAGE: [u8; 187] = [
+    187, 0, 0, 2, // the package's header
+    0x0e, 0x97, 0x22, 0x22, 0x22, 0x22, 0x22, 0x22, 0x22, 0x22, 0x22, 0x22, 0x22, 0x22, 0x22, 0x22,
+    0x22, 0x22, 1, 0, 2, 0, 0, // FORM_SET, at 4
+    0x24, 24, 1, 2, 3, 4, 5, 6, 7, 8, 9, 10, 11, 12, 13, 14, 15, 16, 1, 0, 10, 0, b'A', 0, // a store of the id 1 and 10 bytes, at 27
+    0x01, 0x86, 1, 0, 1, 0, // a form, at 51
+    0x06, 14, 1, 0, 2, 0, 7, 0, 1, 0, 0, 0, 0, 0, // a checkbox, byte 0, at 57
+    0x07, 17, 1, 0, 2, 0, 8, 0, 1, 0, 1, 0, 0, 0, 0x80, 0x7e, 1, // a signed number, byte 1, at 71
+    0x05, 0x91, 1, 0, 2, 0, 9, 0, 1, 0, 2, 0, 0, 0x10, 0, 0, 0, // one of two options, byte 2, at 88
+    0x09, 8, 5, 0, 0, 1, 1, 0, 0x09, 7, 6, 0, 0, 0, 2, 0x29, 2, // at 105, 113, 120
+    0x1c, 16, 1, 0, 2, 0, 10, 0, 1, 0, 4, 0, 0, 1, 2, 0, // a text of one or two characters, bytes 4 to 7, at 122
+    0x23, 0x8f, 1, 0, 2, 0, 11, 0, 1, 0, 8, 0, 0, 2, 3, // a list of two options that is a set and not empty, bytes 8 and 9, at 138
+    0x09, 7, 5, 0, 0, 0, 1, 0x09, 7, 6, 0, 0, 0, 2, 0x29, 2, // at 153, 160, 167
+    0x1a, 14, 1, 0, 2, 0, 12, 0, 1, 0, 0, 0, 0, 0, // a date, at 169
+    0x29, 2, 0x29, 2, // at 183, 185
+];
+
+// The forms package, of which proofs know the length alone.
+fn package() -> &'static [u8; 187] {
+    &PACKAGE
+}
+
+// The same with another byte.
+fn changed(at: usize, byte: u8) -> [u8; 187]
+    requires { at < 187 }
+{
+    let mut package = PACKAGE;
+    package[at] = byte;
+    package
+}
+
+// The image, of which proofs know nothing.
+fn image() -> &'static [u8] {
+    b"HVS1\x01\x00\x01\x00\x0a\x00\x02\xff\x01\x00A\x00\x00\x00\x02\x00"
+}
+
+// The questions of a form set. It has no clause, so that no test carries those of `Questions::read`.
+fn questions_of<'a>(alloc: Global, forms: &Forms<'a>) -> Result<Questions<'a>, Fault> {
+    Questions::read(alloc, forms, &Layout::read(alloc, forms)?)
+}
+
+// What is told of a value, where it is one that may be asked for.
+fn told(question: Question<'_>, input: Input<'_>) -> &'static str {
+    let checked = match input {
+        Input::List(text) if !is_number_list(text) => return "not asked",
+        Input::Field(bytes) => match question.field() {
+            Some(field) if bytes.len() != field.width => return "not asked",
+            _ => check_value(question, input),
+        },
+        _ => check_value(question, input),
+    };
+    match checked {
+        Ok(_) => "ok",
+        Err(denial) => denial.kind.name(),
+    }
+}
+
+// Gives the question of an id a number, where there is one.
+fn put_number(
+    questions: &Questions<'_>,
+    stores: &mut Stores,
+    id: u16,
+    number: i128,
+) -> Result<(), ValueDenial>
+    requires sound { HasNone (IsQuestionFault (nodes_of questions.now.ifr)) }
+    requires laid { shape_of stores.old ≡ layout_of (nodes_of questions.now.ifr) }
+    ensures { shape_of stores.new ≡ shape_of stores.old }
+{
+    if let Some(question) = questions.find(id) {
+        check_value(question, Input::Number(number))?.put(stores);
+    }
+    Ok(())
+}
+
+// Gives the question of an id a text, where there is one.
+fn put_text(
+    questions: &Questions<'_>,
+    stores: &mut Stores,
+    id: u16,
+    text: &[u8],
+) -> Result<(), ValueDenial>
+    requires sound { HasNone (IsQuestionFault (nodes_of questions.now.ifr)) }
+    requires laid { shape_of stores.old ≡ layout_of (nodes_of questions.now.ifr) }
+{
+    if let Some(question) = questions.find(id) {
+        check_value(question, Input::Utf8(text))?.put(stores);
+    }
+    Ok(())
+}
+
+#[test]
+fn values_are_put(rt: HostRuntime) -> Result<(), Fail> {
+    let alloc = rt.alloc();
+    let forms = forms_of(alloc, package())?;
+    let layout = Layout::read(alloc, &forms)?;
+    let questions = Questions::read(alloc, &forms, &layout)?;
+    let mut stores = Stores::read(alloc, &layout, image())?;
+    assert_eq!(rt; put_number(&questions, &mut stores, 8, -2), Ok(()));
+    assert_eq!(rt; put_text(&questions, &mut stores, 10, b"\xc3\xa9"), Ok(()));
+    let put = b"\x02\xfe\x01\x00\xe9\x00\x00\x00\x02\x00".as_slice();
+    assert_eq!(rt; stores.bytes(1), Some(put));
+    Ok(())
+}
+
+#[test]
+fn questions_are_read_and_found(rt: HostRuntime) -> Result<(), Fail> {
+    let alloc = rt.alloc();
+    let forms = forms_of(alloc, package())?;
+    let questions = questions_of(alloc, &forms)?;
+    let mut all = questions.all();
+    for (place, id, width) in [
+        (57, 7, Some(1)),
+        (71, 8, Some(1)),
+        (88, 9, Some(1)),
+        (122, 10, Some(4)),
+        (138, 11, Some(2)),
+        (169, 12, None),
+    ] {
+        let question = all.next().expect(&rt, "a question");
+        assert_eq!(rt; (question.place(), question.id()), (place, id));
+        assert_eq!(rt; question.op().id(), id);
+        assert_eq!(rt; question.field().map(|field| field.width), width);
+        assert_eq!(rt; question.statement().place(), place);
+        assert_eq!(rt; questions.at(place).map(|question| question.id()), Some(id));
+    }
+    assert!(rt; all.next().is_none());
+    assert!(rt; questions.at(51).is_none());
+    for (id, place) in [(7, Some(57)), (12, Some(169)), (0, None), (13, None)] {
+        assert_eq!(rt; questions.find(id).map(|question| question.place()), place);
+    }
+    Ok(())
+}
+
+#[test]
+fn faults_are_refused(rt: HostRuntime) -> Result<(), Fail> {
+    let alloc = rt.alloc();
+    for (at, byte, cause, place) in [
+        (65, 2, Cause::UnknownVarstore, 57),
+        (67, 10, Cause::FieldOutside, 57),
+        (132, 7, Cause::FieldOutside, 122),
+        (112, 1, Cause::OptionRange, 105),
+        (165, 4, Cause::MixedOptions, 160),
+        (177, 2, Cause::UnknownVarstore, 169),
+    ] {
+        let package = changed(at, byte);
+        let forms = forms_of(alloc, &package)?;
+        let refused = Some(Fault { cause, place });
+        assert_eq!(rt; questions_of(alloc, &forms).err(), refused);
+    }
+    Ok(())
+}
+
+#[test]
+fn values_are_read(rt: HostRuntime) -> Result<(), Fail> {
+    laws::fields_lie_in_their_stores();
+    laws::questions_of_ids_are_questions();
+    laws::a_taken_value_is_read_back();
+    laws::taken_bytes_fill_the_field();
+    laws::a_write_leaves_other_values();
+    let alloc = rt.alloc();
+    let forms = forms_of(alloc, package())?;
+    let layout = Layout::read(alloc, &forms)?;
+    let questions = Questions::read(alloc, &forms, &layout)?;
+    let stores = Stores::read(alloc, &layout, image())?;
+    let over = questions.over(&stores);
+    assert!(rt; matches!(over.answer(7), Value::Boolean(true)));
+    assert!(rt; matches!(over.answer(8), Value::Number(255)));
+    assert!(rt; matches!(over.answer(9), Value::Number(1)));
+    assert!(rt; matches!(over.answer(10), Value::Text(b"A\x00")));
+    assert!(rt; matches!(over.answer(11), Value::Buffer(b"\x02\x00")));
+    for id in [0, 12, 13] {
+        assert!(rt; matches!(over.answer(id), Value::Undefined));
+    }
+    let question = questions.find(8).expect(&rt, "the question 8");
+    assert!(rt; matches!(read_value(question, &stores), Value::Number(255)));
+    Ok(())
+}
+
+#[test]
+fn numbers_in_bytes(rt: HostRuntime) -> Result<(), Fail> {
+    let alloc = rt.alloc();
+    let forms = forms_of(alloc, package())?;
+    let questions = questions_of(alloc, &forms)?;
+    for (id, width) in [(7, 1), (9, 2), (11, 1)] {
+        let question = questions.find(id).expect(&rt, "a question");
+        assert_eq!(rt; element_width(question.statement()), width);
+    }
+    assert_eq!(rt; (shown(true, 1, 0x80), shown(false, 1, 0x80)), (-128, 128));
+    let mut items = StoredItems::new(b"\x02\x01\x00\x02\x00\x00\x05\x00", 2);
+    assert_eq!(rt; (items.step(), items.step()), (Some(0x102), Some(0x200)));
+    assert!(rt; items.step().is_none());
+    Ok(())
+}
+
+#[test]
+fn values_are_checked_in_their_order(rt: HostRuntime) -> Result<(), Fail> {
+    let alloc = rt.alloc();
+    let forms = forms_of(alloc, package())?;
+    let questions = questions_of(alloc, &forms)?;
+    let outside = b"\xf0\x9f\x98\x80\xf0\x9f\x98\x80\xf0\x9f\x98\x80";
+    for (id, input, wanted) in [
+        (7, Input::Number(1), "ok"),
+        (7, Input::Number(2), "range"),
+        (7, Input::Raw(2), "ok"),
+        (7, Input::Utf8(b"x"), "kind"),
+        (8, Input::Number(-128), "ok"),
+        (8, Input::Number(127), "range"),
+        (8, Input::Number(128), "range"),
+        (8, Input::Raw(256), "range"),
+        (8, Input::Field(b"\x7f"), "range"),
+        (9, Input::Number(2), "ok"),
+        (9, Input::Number(3), "nooption"),
+        (9, Input::Number(-1), "nooption"),
+        (9, Input::List(b"1"), "kind"),
+        (10, Input::Utf8(b"\xc3\xa9"), "ok"),
+        (10, Input::Utf8(b"abc"), "length"),
+        (10, Input::Utf8(b""), "length"),
+        (10, Input::Utf8(outside), "badtext"),
+        (10, Input::Utf8(b"\x80"), "badtext"),
+        (10, Input::Units(b"\x00\xd8"), "ok"),
+        (10, Input::Field(b"a\x00\x00\x00"), "ok"),
+        (11, Input::List(b"1,1"), "repeat"),
+        (11, Input::List(b""), "emptyset"),
+        (11, Input::List(b"1,2,1"), "length"),
+        (11, Input::List(b"1,0"), "nooption"),
+        (11, Input::List(b"2,1"), "ok"),
+        (11, Input::Elements(b"\x02\x00\x03"), "ok"),
+        (11, Input::Raw(1), "kind"),
+        (12, Input::Number(1), "kind"),
+    ] {
+        let question = questions.find(id).expect(&rt, "a question");
+        assert_eq!(rt; told(question, input), wanted);
+    }
+    Ok(())
+}

@@ -1,0 +1,334 @@
+ghost use Rattle.std.specs.Prelude.{◌≤◌, ◌<◌, ◌^◌, length};
+
+use crate::forms::forms_of;
+use hii_bytes::{Cause, Fault, Watched, WriteFault};
+use hii_varstore::{Buffer, Layout, Stores, laws};
+use std::alloc::Global;
+use std::io;
+use std::io::{ErrorKind, Write};
+use std::test::Fail;
+
+static GUID: [u8; 16] = [0x22; 16];
+
+static OLDER: [u8; 10] = [0x48, 0x56, 0x53, 0x31, 1, 0, 1, 0, 2, 0];
+
+static HEAD: [u8; 22] = [
+    0x48, 0x56, 0x53, 0x32, 0x22, 0x22, 0x22, 0x22, 0x22, 0x22, 0x22, 0x22, 0x22, 0x22, 0x22, 0x22,
+    0x22, 0x22, 0x22, 0x22, 1, 0,
+];
+
+static IMAGE: [u8; 28] = [
+    0x48, 0x56, 0x53, 0x32, 0x22, 0x22, 0x22, 0x22, 0x22, 0x22, 0x22, 0x22, 0x22, 0x22, 0x22, 0x22,
+    0x22, 0x22, 0x22, 0x22, 1, 0, 1, 0, 2, 0, 1, 0,
+];
+
+// A form set with one store, and a form.
+const ONE_STORE: [u8; 61] = [
+    61, 0, 0, 2, // the package's header
+    0x0e, 0x97, 0x22, 0x22, 0x22, 0x22, 0x22, 0x22, 0x22, 0x22, 0x22, 0x22, 0x22, 0x22, 0x22, 0x22,
+    0x22, 0x22, 1, 0, 2, 0, 0, // FORM_SET, at 4
+    0x24, 24, 1, 2, 3, 4, 5, 6, 7, 8, 9, 10, 11, 12, 13, 14, 15, 16, 1, 0, 2, 0, b'A', 0, // VARSTORE of the id 1 and 2 bytes, at 27
+    0x01, 0x86, 1, 0, 1, 0, // FORM, at 51
+    0x29, 2, 0x29, 2, // at 57, 59
+];
+
+// A form set with stores of all kinds, one inside a guard, and a form.
+const PACKAGE: [u8; 138] = [
+    138, 0, 0, 2, // the package's header
+    0x0e, 0x97, 0x22, 0x22, 0x22, 0x22, 0x22, 0x22, 0x22, 0x22, 0x22, 0x22, 0x22, 0x22, 0x22, 0x22,
+    0x22, 0x22, 1, 0, 2, 0, 0, // FORM_SET, at 4
+    0x24, 24, 1, 2, 3, 4, 5, 6, 7, 8, 9, 10, 11, 12, 13, 14, 15, 16, 1, 0, 2, 0, b'A', 0, // VARSTORE of the id 1 and 2 bytes, at 27
+    0x25, 20, 5, 0, 1, 2, 3, 4, 5, 6, 7, 8, 9, 10, 11, 12, 13, 14, 15, 16, // VARSTORE_NAME_VALUE of the id 5, at 51
+    0x0a, 0x82, 0x46, 2, // SUPPRESS_IF of TRUE, at 71
+    0x26, 28, 7, 0, 1, 2, 3, 4, 5, 6, 7, 8, 9, 10, 11, 12, 13, 14, 15, 16, 3, 0, 0, 0, 3, 0, b'B',
+    0, // VARSTORE_EFI of the id 7 and 3 bytes, at 75
+    0x29, 2, // at 103
+    0x24, 23, 1, 2, 3, 4, 5, 6, 7, 8, 9, 10, 11, 12, 13, 14, 15, 16, 9, 0, 1, 0, 0, // VARSTORE of the id 9 and 1 byte, at 105
+    0x01, 0x86, 1, 0, 1, 0, // FORM, at 128
+    0x29, 2, 0x29, 2, // at 134, 136
+];
+
+// The form sets, of which proofs know the length alone.
+fn package() -> &'static [u8; 138] {
+    &PACKAGE
+}
+
+fn one_store() -> &'static [u8; 61] {
+    &ONE_STORE
+}
+
+// The same with another byte.
+fn changed(at: usize, byte: u8) -> [u8; 138] {
+    let mut package = PACKAGE;
+    if let Some(old) = package.get_mut(at) {
+        *old = byte;
+    }
+    package
+}
+
+// An image of one store, and its front, of which proofs know nothing.
+fn newer() -> &'static [u8] {
+    &IMAGE
+}
+
+fn front() -> &'static [u8] {
+    &IMAGE[..20]
+}
+
+/// Takes that many bytes, and then fails.
+#[derive(Drop)]
+struct Limited {
+    bytes: Vec<u8>,
+    room: usize,
+}
+
+impl Write for Limited {
+    fn write(&mut self, buf: &[u8]) -> io::Result<usize> {
+        let n = buf.len().min(self.room);
+        if n == 0 && !buf.is_empty() {
+            return Err(io::Error::from(ErrorKind::Other));
+        }
+        self.bytes.extend_from_slice(&buf[..n])?;
+        self.room -= n;
+        Ok(n)
+    }
+
+    fn flush(&mut self) -> io::Result<()> {
+        Ok(())
+    }
+}
+
+// What is written of the stores of an older image of one store.
+fn anew(alloc: Global, layout: &Layout<'_>, bytes: &[u8]) -> Result<Vec<u8>, Fail> {
+    let mut image = Vec::from_slice(alloc, &OLDER)?;
+    image.extend_from_slice(bytes)?;
+    let mut out = Watched::new(Vec::new(alloc));
+    laws::an_older_image_is_written_anew(alloc, layout, &image, &mut out)??;
+    Ok(out.into_inner())
+}
+
+#[test]
+fn an_image_is_read_and_written(rt: HostRuntime) -> Result<(), Fail> {
+    let alloc = rt.alloc();
+    let layout = declared(alloc, one_store())?;
+    assert_eq!(rt;
+        (layout.size(1), layout.size(2), layout.buffers().len()),
+        (Some(2), None, 1)
+    );
+    assert_eq!(rt; layout.guid().bytes(), GUID.as_slice());
+    assert_eq!(rt; anew(alloc, &layout, &[1, 0])?.as_slice(), newer());
+    Ok(())
+}
+
+// The stores that a form set declares.
+fn declared(alloc: Global, bytes: &[u8]) -> Result<Layout<'_>, Fault>
+    requires header { 4 ≤ length bytes.now }
+    requires small { length bytes.now < 2 ^ 24 }
+{
+    let forms = forms_of(alloc, bytes)?;
+    Layout::read(alloc, &forms)
+}
+
+#[test]
+fn a_layout_is_read(rt: HostRuntime) -> Result<(), Fail> {
+    let alloc = rt.alloc();
+    let layout = declared(alloc, package())?;
+    assert_eq!(rt; layout.guid().bytes(), GUID.as_slice());
+    assert_eq!(rt;
+        layout.buffers(),
+        [
+            Buffer { id: 1, size: 2 },
+            Buffer { id: 7, size: 3 },
+            Buffer { id: 9, size: 1 }
+        ]
+        .as_slice()
+    );
+    assert_eq!(rt;
+        (layout.size(1), layout.size(5), layout.size(7)),
+        (Some(2), None, Some(3))
+    );
+    Ok(())
+}
+
+#[test]
+fn ids_of_stores_of_all_kinds(rt: HostRuntime) -> Result<(), Fail> {
+    let alloc = rt.alloc();
+    // where the id of a store stands, the id that it gets, and the place of the store that is refused
+    for (at, id, place) in [
+        (45, 0, 27),
+        (53, 0, 51),
+        (77, 0, 75),
+        (123, 0, 105),
+        (53, 1, 51),
+        (77, 1, 75),
+        (77, 5, 75),
+        (123, 1, 105),
+        (123, 5, 105),
+        (123, 7, 105),
+        (45, 5, 51),
+        (53, 7, 75),
+    ] {
+        let repeated = changed(at, id);
+        let fault = Fault {
+            cause: Cause::DuplicateVarstore,
+            place,
+        };
+        assert_eq!(rt; declared(alloc, &repeated).err(), Some(fault));
+    }
+    Ok(())
+}
+
+// How an image is refused. It has no clause, so that no test carries those of `Stores::read`.
+fn refusal(alloc: Global, layout: &Layout<'_>, image: &[u8]) -> Option<(Cause, u64)> {
+    let fault = Stores::read(alloc, layout, image).err()?;
+    Some((fault.cause, fault.place))
+}
+
+// An image of the declared stores.
+fn declared_image(alloc: Global) -> Result<Vec<u8>, Fail> {
+    let mut image = Vec::from_slice(alloc, front())?;
+    image.extend_from_slice(b"\x03\x00\x01\x00\x02\x00ab\x07\x00\x03\x00cde\x09\x00\x01\x00f")?;
+    Ok(image)
+}
+
+// What is written of the stores of an image.
+fn written(alloc: Global, layout: &Layout<'_>, image: &[u8]) -> Result<Vec<u8>, Fail> {
+    let stores = Stores::read(alloc, layout, image)?;
+    let mut out = Watched::new(Vec::new(alloc));
+    stores.image_into(&mut out)?;
+    Ok(out.into_inner())
+}
+
+// Whether the stores of an image have these bytes, and there is no store of the id 5.
+fn are_read(alloc: Global, layout: &Layout<'_>, image: &[u8]) -> Result<bool, Fail> {
+    let stores = Stores::read(alloc, layout, image)?;
+    Ok(
+        stores.bytes(1) == Some(b"ab".as_slice())
+            && stores.bytes(7) == Some(b"cde".as_slice())
+            && stores.bytes(9) == Some(b"f".as_slice())
+            && stores.bytes(5).is_none(),
+    )
+}
+
+#[test]
+fn an_image_has_the_buffer_stores_alone(rt: HostRuntime) -> Result<(), Fail> {
+    let alloc = rt.alloc();
+    let layout = declared(alloc, package())?;
+    let mut image = declared_image(alloc)?;
+    assert!(rt; are_read(alloc, &layout, &image)?);
+    assert_eq!(rt;
+        written(alloc, &layout, &image)?.as_slice(),
+        image.as_slice()
+    );
+    if let Some(count) = image.get_mut(20) {
+        *count = 4;
+    }
+    assert_eq!(rt;
+        refusal(alloc, &layout, &image),
+        Some((Cause::StoreCount, 20))
+    );
+    Ok(())
+}
+
+#[test]
+fn bytes_are_written_and_copied(rt: HostRuntime) -> Result<(), Fail> {
+    let alloc = rt.alloc();
+    let layout = declared(alloc, package())?;
+    let mut stores = Stores::read(alloc, &layout, &declared_image(alloc)?)?;
+    let committed = stores.copy(alloc)?;
+    laws::a_write_keeps_the_shape();
+    assert!(rt; layout.size(7) == Some(3));
+    stores.put(7, 1, b"x");
+    stores.field_mut(7, 2, 1)[0] = b'y';
+    assert!(rt;
+        stores.bytes(7) == Some(b"cxy".as_slice()) && stores.bytes(1) == Some(b"ab".as_slice())
+    );
+    stores.copy_from(&committed);
+    assert_eq!(rt; stores.bytes(7), Some(b"cde".as_slice()));
+    Ok(())
+}
+
+#[test]
+fn a_writer_fails_after_each_byte(rt: HostRuntime) -> Result<(), Fail> {
+    let alloc = rt.alloc();
+    let layout = declared(alloc, one_store())?;
+    let image = newer();
+    let stores = Stores::read(alloc, &layout, image)?;
+    for room in 0..image.len() {
+        let mut out = Watched::new(Limited {
+            bytes: Vec::new(alloc),
+            room,
+        });
+        let fault = WriteFault {
+            written: room as u64,
+        };
+        assert_eq!(rt; stores.image_into(&mut out), Err(fault));
+        assert_eq!(rt; out.into_inner().bytes.as_slice(), &image[..room]);
+    }
+    Ok(())
+}
+
+#[test]
+fn faults_of_an_image(rt: HostRuntime) -> Result<(), Fail> {
+    let alloc = rt.alloc();
+    let layout = declared(alloc, one_store())?;
+    for (head, rest, cause, place) in [
+        (
+            OLDER.as_slice(),
+            b"\x00\x00\x00".as_slice(),
+            Cause::StoreTrailing,
+            12,
+        ),
+        (OLDER.as_slice(), b"\x00".as_slice(), Cause::StoreShort, 10),
+        (
+            &OLDER[..8],
+            b"\x03\x00\x00\x00".as_slice(),
+            Cause::StoreSize,
+            8,
+        ),
+        (
+            &OLDER[..6],
+            b"\x02\x00\x02\x00\x00\x00".as_slice(),
+            Cause::StoreId,
+            6,
+        ),
+        (
+            &OLDER[..3],
+            b"9\x01\x00\x01\x00\x02\x00\x00\x00".as_slice(),
+            Cause::StoreMagic,
+            0,
+        ),
+        (b"HV9".as_slice(), b"".as_slice(), Cause::StoreShort, 0),
+        (
+            &HEAD[..4],
+            b"\x23\x22\x22\x22\x22\x22\x22\x22\x22\x22\x22\x22\x22\x22\x22\x22".as_slice(),
+            Cause::StoreFormSet,
+            4,
+        ),
+        (&HEAD[..19], b"".as_slice(), Cause::StoreShort, 4),
+        (&HEAD[..20], b"\x02\x00".as_slice(), Cause::StoreCount, 20),
+        (
+            HEAD.as_slice(),
+            b"\x01\x00\x03\x00\x01\x00".as_slice(),
+            Cause::StoreSize,
+            24,
+        ),
+        (
+            HEAD.as_slice(),
+            b"\x01\x00\x02\x00\x01".as_slice(),
+            Cause::StoreShort,
+            26,
+        ),
+        (
+            HEAD.as_slice(),
+            b"\x01\x00\x02\x00\x01\x00\x00".as_slice(),
+            Cause::StoreTrailing,
+            28,
+        ),
+    ] {
+        let mut image = Vec::from_slice(alloc, head)?;
+        image.extend_from_slice(rest)?;
+        assert_eq!(rt; refusal(alloc, &layout, &image), Some((cause, place)));
+    }
+    Ok(())
+}
