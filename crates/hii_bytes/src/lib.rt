@@ -9,8 +9,6 @@ mod guid;
 pub mod laws;
 mod number_list;
 mod numbers;
-#[cfg(test)]
-mod tests;
 mod watched;
 mod writing;
 

@@ -5,8 +5,6 @@ mod command;
 pub mod laws;
 mod limits;
 mod line;
-#[cfg(test)]
-mod tests;
 
 pub use command::{BadLine, Command, read_line};
 pub use limits::{LINE_LIMIT, SCRIPT_LIMIT};

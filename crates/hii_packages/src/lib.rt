@@ -5,8 +5,6 @@ pub mod laws;
 mod list;
 mod package;
 mod packages;
-#[cfg(test)]
-mod tests;
 
 pub use list::PackageList;
 pub use package::{DEVICE_PATH, END, FORMS, Package, STRINGS};

@@ -1,7 +1,4 @@
 //! Worked cases over stores, questions, decisions, pages and sessions, by public calls alone.
-//!
-//! They stand in a crate of their own, as a package's `tests` do in Cargo: they put several crates together, and a crate with tests
-//! of its own would be proved once more for them.
 #![tactic(auto)]
 
 #[cfg(test)]

@@ -10,8 +10,6 @@ pub mod laws;
 mod place;
 mod strings;
 mod table;
-#[cfg(test)]
-mod tests;
 mod units;
 
 pub use strings::Strings;
