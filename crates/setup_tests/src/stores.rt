@@ -57,7 +57,7 @@ fn one_store() -> &'static [u8; 61] {
     &ONE_STORE
 }
 
-// The same with another byte.
+// The form set of stores of all kinds with another byte.
 fn changed(at: usize, byte: u8) -> [u8; 138] {
     let mut package = PACKAGE;
     if let Some(old) = package.get_mut(at) {
