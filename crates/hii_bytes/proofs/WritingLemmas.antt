@@ -1,6 +1,6 @@
 -- Texts written one after the other.
-use Rattle.std.proofs.Common.{◌≡◌, ℕ, ◌+◌, ◌<◌, ◌≤◌, Bool, true, false, List, [], ◌++◌, length, take, drop, refl, sym, ap, ◌∙◌, subst, arith, length-append, inl, inr, ◌⊎◌, append-nil, append_assoc, add-zero, take-append-drop}
-use Rattle.std.proofs.lemmas.List.{take-append-le, length-take}
+use Rattle.std.proofs.Common.{◌≡◌, ℕ, ◌+◌, ◌<◌, ◌≤◌, Bool, true, false, List, [], ◌++◌, length, take, drop, refl, sym, ap, ◌∙◌, subst, arith, length-append, inl, inr, ◌⊎◌, append-nil, append_assoc, add-zero, take-append-drop, replicate}
+use Rattle.std.proofs.lemmas.List.{take-append-le, length-take, replicate-append-replicate}
 use Rattle.std.proofs.Math.Seq.{take-append-add, take-length}
 use Rattle.std.proofs.KnownBytes.{Appends-trans, Appends-nil, Appends-kept}
 use Rattle.std.specs.Io.KnownBytes.{Appends, Keeps}
@@ -100,6 +100,10 @@ unfolding writes_trans
 writes_past {a} {b} {c} {s} {t} u p q sound e =
     let past : length s ≤ p.part + q.part = omega (arith, p.whole sound) in
     subst (λ u. (w : Writes a c u) × (length s ≤ w.part)) (sym e) (writes_trans p q, past)
+
+-- spaces behind spaces
+pub spaces_more : {a b c : Pen} (n m : ℕ) → Writes a b (replicate n 32) → Writes b c (replicate m 32) → Writes a c (replicate (n + m) 32)
+spaces_more {a} {b} {c} n m p q = subst (Writes a c) (replicate-append-replicate n m 32) (writes_trans p q)
 
 -- what was written whole stands at the end of the known bytes
 pub appended_whole : {a b : Pen} {s : List ℕ} → Writes a b s → b.broken ≡ false → Appends a.known b.known s

@@ -33,6 +33,7 @@ impl<W: Write> Watched<W> {
     }
 }
 
+// Spaces that are written at once.
 const SPACES: [u8; 24] = [b' '; 24];
 
 impl<W: Write> Watched<W> {
@@ -46,7 +47,6 @@ impl<W: Write> Watched<W> {
 
     /// Writes the number in decimal digits, after as many spaces as make it this wide.
     pub fn put_decimal_right(&mut self, width: usize, n: u64)
-        requires { width ≤ 24 }
         ensures { Writes (pen_of W.contents self.old) (pen_of W.contents self.new) (right_aligned width (decimal n)) }
     {
         let mut buffer = Buffer::new();
@@ -57,10 +57,14 @@ impl<W: Write> Watched<W> {
 
     /// Writes that many spaces.
     pub fn put_spaces(&mut self, count: usize)
-        requires { count ≤ 24 }
         ensures { Writes (pen_of W.contents self.old) (pen_of W.contents self.new) (replicate count 32) }
     {
-        self.put(&SPACES[..count]);
+        let mut left = count;
+        while left > 0 {
+            let some = left.min(SPACES.len());
+            self.put(&SPACES[..some]);
+            left -= some;
+        }
     }
 
     /// Writes the byte in two lower-case hex digits.
