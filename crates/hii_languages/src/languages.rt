@@ -6,7 +6,7 @@ ghost use Rattle.hii_bytes.specs.Faults.{Refuses, out_of_memory};
 ghost use Rattle.sibt_strings.specs.Strings.{Speaks, IsStringFaultIn};
 ghost use Rattle.sibt_strings.specs.Views.{units_in};
 ghost use Rattle.hii_languages.specs.Languages.{Spoken, string_packages, AreSpoken, IsStringsFault, primary_subtag, first_package, chosen};
-ghost use Rattle.hii_languages.specs.Shown.{shown, shown_text, text_in_package};
+ghost use Rattle.hii_languages.specs.Shown.{shown, shown_text, text_in_package, text_under};
 ghost use Rattle.hii_languages.specs.Views.{choice_of, seen, text_of};
 
 use crate::choice::Choice;
@@ -95,11 +95,20 @@ impl<'a> Languages<'a> {
     pub fn choose(&self, language: &[u8]) -> Choice
         ensures { choice_of result ≡ chosen self.now language.now }
     {
-        let number = self
-            .with_language(language)
-            .or(self.with_primary_subtag(language))
-            .or(self.first());
-        Choice { number }
+        Choice {
+            number: self.number_for(language),
+        }
+    }
+
+    // The number of the string package that is chosen for a language. It is looked for by primary subtag only where no
+    // language is equal.
+    fn number_for(&self, language: &[u8]) -> Option<usize>
+        ensures { result ≡ chosen self.now language.now }
+    {
+        match self.with_language(language) {
+            Some(number) => Some(number),
+            None => self.with_primary_subtag(language).or(self.first()),
+        }
     }
 
     // The first string package of a language.
@@ -130,6 +139,16 @@ impl<'a> Languages<'a> {
         }
     }
 
+    // The text of a string id in the string package of a number. The first one is asked only where that has none.
+    fn text_for(&self, number: Option<usize>, id: u16) -> Option<Units<'a>>
+        ensures { option_map units_in result ≡ text_under self.now number id }
+    {
+        match self.text_in(number, id) {
+            Some(units) => Some(units),
+            None => self.text_in(Some(0), id),
+        }
+    }
+
     // The text of a string id in the string package of a number.
     fn text_in(&self, number: Option<usize>, id: u16) -> Option<Units<'a>>
         ensures { option_map units_in result ≡ text_in_package self.now number id }
@@ -146,10 +165,7 @@ impl<'a> Languages<'a> {
         if id == 0 {
             return Shown::Nothing;
         }
-        match self
-            .text_in(choice.number, id)
-            .or(self.text_in(Some(0), id))
-        {
+        match self.text_for(choice.number, id) {
             Some(units) => Shown::Units(units),
             None => Shown::Missing(id),
         }
