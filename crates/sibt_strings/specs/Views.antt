@@ -36,6 +36,11 @@ front_seen (front.Whole block rest) = spec.Whole (block_seen block) rest.now
 front_seen front.CutText = spec.CutText
 front_seen front.BadBlock = spec.BadBlock
 
+-- what stands at the front, or a bad block where that was not found
+abbrev pub front_or_bad : Option Front → spec.Front
+front_or_bad None = spec.BadBlock
+front_or_bad (Some found) = front_seen found
+
 -- the bytes end with the rest
 pub record EndsWith (bytes rest : List ℕ) : Type 0 where
   pub front : List ℕ

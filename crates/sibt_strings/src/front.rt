@@ -2,7 +2,7 @@
 
 ghost use Rattle.std.specs.Prelude.{◌≡◌, ◌+◌, ◌<◌, ◌≤◌, ◌%◌, length, IfSome, MatchOption, option_map};
 ghost use Rattle.sibt_strings.specs.Blocks.{text_in, texts_in, front_of, texts_block, extension_block, Stops};
-ghost use Rattle.sibt_strings.specs.Views.{units_in, front_seen, EndsWith, LiesIn, LeavesLess, SplitsInto};
+ghost use Rattle.sibt_strings.specs.Views.{units_in, front_seen, front_or_bad, EndsWith, LiesIn, LeavesLess, SplitsInto};
 
 use crate::block::{Block, Texts};
 use crate::block_types::{
@@ -62,70 +62,52 @@ fn texts_front(count: u16, bytes: &[u8]) -> Front<'_>
     }
 }
 
-// An extension of a length in bytes, whose own header takes so many.
-fn extension_front(header: usize, size: usize, bytes: &[u8]) -> Front<'_>
+// An extension of a length in bytes, whose own header takes so many; none where the length is below that or past the bytes.
+fn extension_front(header: usize, size: usize, bytes: &[u8]) -> Option<Front<'_>>
     requires { 0 < header }
-    ensures front { front_seen result ≡ extension_block header size bytes.now }
-    ensures inside { LiesIn result bytes.now }
-    ensures shorter { LeavesLess result (length bytes.now) }
+    ensures front { front_or_bad result ≡ extension_block header size bytes.now }
+    ensures inside { IfSome result (λ front. LiesIn front bytes.now) }
+    ensures shorter { IfSome result (λ front. LeavesLess front (length bytes.now)) }
 {
     if size < header || bytes.len() < size {
-        return Front::BadBlock;
+        return None;
     }
-    Front::Whole(Block::Extension, &bytes[size..])
+    Some(Front::Whole(Block::Extension, &bytes[size..]))
+}
+
+// What stands at the front of the bytes of blocks; none where that is no known block or its fields are cut.
+#[tactic(auto, unfolding(crate::specs::Blocks::front_of))]
+fn known_front(bytes: &[u8]) -> Option<Front<'_>>
+    ensures front { front_or_bad result ≡ front_of bytes.now }
+    ensures inside { IfSome result (λ front. LiesIn front bytes.now) }
+    ensures shorter { IfSome result (λ front. LeavesLess front (length bytes.now)) }
+{
+    let [block_type, body @ ..] = bytes else {
+        return None;
+    };
+    match *block_type {
+        END => Some(Front::End),
+        STRING_UCS2 => Some(texts_front(1, body)),
+        STRING_UCS2_FONT => Some(texts_front(1, body.get(1..)?)),
+        STRINGS_UCS2 => Some(texts_front(u16_at(body, 0)?, &body[2..])),
+        STRINGS_UCS2_FONT => Some(texts_front(u16_at(body, 1)?, &body[3..])),
+        DUPLICATE => Some(Front::Whole(Block::Duplicate(u16_at(body, 0)?), &body[2..])),
+        SKIP2 => Some(Front::Whole(Block::Skip(u16_at(body, 0)?), &body[2..])),
+        SKIP1 => Some(Front::Whole(Block::Skip(u16::from(*body.first()?)), &body[1..])),
+        EXT1 => extension_front(3, usize::from(*body.get(1)?), bytes),
+        EXT2 => extension_front(4, usize::from(u16_at(body, 1)?), bytes),
+        EXT4 => extension_front(6, u32_at(body, 1)? as usize, bytes),
+        _ => None,
+    }
 }
 
 /// What stands at the front of the bytes of blocks.
-#[tactic(auto, unfolding(crate::specs::Blocks::front_of))]
 pub(crate) fn front_at(bytes: &[u8]) -> Front<'_>
     ensures front { front_seen result ≡ front_of bytes.now }
     ensures inside { LiesIn result bytes.now }
     ensures shorter { LeavesLess result (length bytes.now) }
 {
-    let [block_type, body @ ..] = bytes else {
-        return Front::BadBlock;
-    };
-    match *block_type {
-        END => Front::End,
-        STRING_UCS2 => texts_front(1, body),
-        STRING_UCS2_FONT => match body {
-            [_, text @ ..] => texts_front(1, text),
-            [] => Front::BadBlock,
-        },
-        STRINGS_UCS2 => match u16_at(body, 0) {
-            Some(count) => texts_front(count, &body[2..]),
-            None => Front::BadBlock,
-        },
-        STRINGS_UCS2_FONT => match u16_at(body, 1) {
-            Some(count) => texts_front(count, &body[3..]),
-            None => Front::BadBlock,
-        },
-        DUPLICATE => match u16_at(body, 0) {
-            Some(id) => Front::Whole(Block::Duplicate(id), &body[2..]),
-            None => Front::BadBlock,
-        },
-        SKIP2 => match u16_at(body, 0) {
-            Some(count) => Front::Whole(Block::Skip(count), &body[2..]),
-            None => Front::BadBlock,
-        },
-        SKIP1 => match body {
-            [count, rest @ ..] => Front::Whole(Block::Skip(u16::from(*count)), rest),
-            [] => Front::BadBlock,
-        },
-        EXT1 => match body {
-            [_, size, ..] => extension_front(3, usize::from(*size), bytes),
-            _ => Front::BadBlock,
-        },
-        EXT2 => match u16_at(body, 1) {
-            Some(size) => extension_front(4, usize::from(size), bytes),
-            None => Front::BadBlock,
-        },
-        EXT4 => match u32_at(body, 1) {
-            Some(size) => extension_front(6, size as usize, bytes),
-            None => Front::BadBlock,
-        },
-        _ => Front::BadBlock,
-    }
+    known_front(bytes).unwrap_or(Front::BadBlock)
 }
 
 /// The whole block at the front of the bytes, if one stands there, and the bytes behind it.
