@@ -3,3 +3,4 @@ pub mod Script
 pub mod Orders
 pub mod Meaning
 pub mod Reading
+pub mod Numbers

@@ -2,9 +2,15 @@
 
 ghost use Rattle.std.specs.Prelude.{◌≡◌, ◌↔◌, ◌++◌, ℕ, List, Some};
 ghost use Rattle.std.specs.List.{concat};
+ghost use Rattle.hii_commands.specs.Numbers.{HaveLimits};
 ghost use Rattle.hii_commands.specs.Orders.{Order, Asks};
 ghost use Rattle.hii_commands.specs.Reading.{order_in};
 ghost use Rattle.hii_commands.specs.Script.{AreLines, cut_lines, cut_pieces, joined};
+
+/// Lines and scripts have their limits (own rule).
+pub fn lines_and_scripts_have_their_limits()
+    ensures { HaveLimits }
+{}
 
 /// A text asks for one order at most.
 pub fn one_order_is_asked()

@@ -3,10 +3,16 @@
 ghost use Rattle.std.specs.Prelude.{◌≡◌, ◌↔◌, ℕ, List, IsSome};
 ghost use Rattle.std.specs.List.{AllByRecursion};
 ghost use Rattle.hii_bytes.specs.Faults.{HasNone};
+ghost use Rattle.hii_packages.specs.Numbers.{HaveNumbers};
 ghost use Rattle.hii_packages.specs.Packages.{Spells, LiesIn, entries, nth_forms};
 ghost use Rattle.hii_packages.specs.Faults.{IsListFault, IsFormsFault};
 
 use crate::list::PackageList;
+
+/// The kinds of packages have the numbers of the standard (UEFI 2.8, 33.3.1 Package Lists and Package Headers).
+pub fn packages_have_the_numbers_of_the_standard()
+    ensures { HaveNumbers }
+{}
 
 /// Bytes spell one list of packages at most.
 pub fn one_list_is_spelled()

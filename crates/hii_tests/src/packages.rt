@@ -37,5 +37,6 @@ fn faults_of_a_list(rt: HostRuntime) {
             Some((cause, place))
         );
     }
+    laws::packages_have_the_numbers_of_the_standard();
     laws::one_list_is_spelled();
 }

@@ -242,6 +242,7 @@ fn fault_of_a_short_package(rt: HostRuntime) -> Result<(), Fail> {
 
 #[test]
 fn laws_are_called() {
+    laws::blocks_have_the_numbers_of_the_standard();
     laws::a_package_says_one_thing();
     laws::packages_that_speak_have_no_fault();
 }

@@ -3,3 +3,4 @@ pub mod Strings
 pub mod Units
 pub mod Views
 pub mod Table
+pub mod Numbers

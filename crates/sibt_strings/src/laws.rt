@@ -2,10 +2,16 @@
 
 ghost use Rattle.std.specs.Prelude.{◌≡◌, ℕ, List};
 ghost use Rattle.hii_bytes.specs.Faults.{HasNone};
+ghost use Rattle.sibt_strings.specs.Numbers.{HaveNumbers};
 ghost use Rattle.sibt_strings.specs.Strings.{Spoken, Speaks, IsStringFaultIn};
 
 use crate::strings::Strings;
 use hii_packages::Package;
+
+/// The blocks have the numbers of the standard (UEFI 2.8, 33.3.6.2 String Information).
+pub fn blocks_have_the_numbers_of_the_standard()
+    ensures { HaveNumbers }
+{}
 
 /// A string package says one thing at most.
 pub fn a_package_says_one_thing()
