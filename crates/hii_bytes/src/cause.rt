@@ -140,13 +140,17 @@ pub struct Fault {
 impl Fault {
     ghost use Rattle.hii_bytes.specs.Faults.{out_of_memory};
 
-    /// The fault that memory is wanting. It has no place.
+    /// The fault of this cause at a place in bytes.
+    pub fn at(cause: Cause, place: u64) -> Fault
+        ensures { result ≡ record { cause = cause; place = place } }
+    {
+        Fault { cause, place }
+    }
+
+    /// The fault that memory is wanting, at the place 0.
     pub fn out_of_memory() -> Fault
         ensures { result ≡ out_of_memory }
     {
-        Fault {
-            cause: Cause::OutOfMemory,
-            place: 0,
-        }
+        Fault::at(Cause::OutOfMemory, 0)
     }
 }

@@ -2,12 +2,13 @@
 
 ghost use Rattle.std.specs.Prelude.{◌≡◌, ◌≤◌, ◌<◌, ◌+◌, ℕ, List, [], ◌++◌, true, false, length, IfOk, IfErr, MatchOption, MatchResult};
 ghost use Rattle.std.specs.List.{position, before_first};
+ghost use Rattle.hii_bytes.specs.Faults.{out_of_memory};
 ghost use Rattle.hii_commands.specs.Script.{ends_line};
 ghost use Rattle.hii_commands.specs.Line.{held_of};
 
 use crate::command::BadLine;
 use crate::limits::LINE_LIMIT;
-use hii_bytes::{Cause, Fault, first_place};
+use hii_bytes::{Fault, first_place};
 use std::alloc::Global;
 use std::marker::Model;
 
@@ -41,14 +42,11 @@ impl LineBuffer {
     /// An empty buffer, with all the memory that it ever takes. Refuses by OutOfMemory at place 0.
     pub fn new(alloc: Global) -> Result<LineBuffer, Fault>
         ensures empty { IfOk result (λ buffer. buffer ≡ held_of []) }
-        ensures memory { IfErr result (λ fault. fault ≡ record { cause = Cause.OutOfMemory; place = 0 }) }
+        ensures memory { IfErr result (λ fault. fault ≡ out_of_memory) }
     {
         match Vec::with_capacity(alloc, LINE_LIMIT) {
             Ok(bytes) => Ok(LineBuffer { bytes, more: false }),
-            Err(_) => Err(Fault {
-                cause: Cause::OutOfMemory,
-                place: 0,
-            }),
+            Err(_) => Err(Fault::out_of_memory()),
         }
     }
 

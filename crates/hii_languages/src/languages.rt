@@ -11,7 +11,7 @@ ghost use Rattle.hii_languages.specs.Views.{choice_of, seen, text_of};
 
 use crate::choice::Choice;
 use crate::shown::Shown;
-use hii_bytes::Fault;
+use hii_bytes::{Fault, first_place};
 use hii_packages::{Package, PackageList, STRINGS};
 use sibt_strings::{StringTable, Strings, Units};
 use std::alloc::{AllocError, Global};
@@ -32,18 +32,11 @@ impl<'a> Model for Languages<'a> {
     ghost view = { λ s. s.tables.items };
 }
 
-// The place of a language's first hyphen.
-fn hyphen_of(language: &[u8]) -> Option<usize>
-    ensures { result ≡ position (λ byte. byte == 45) language.now }
-{
-    language.iter().position(|byte| *byte == b'-')
-}
-
 // The part of a language before its first hyphen, or all of it.
 fn primary_subtag_of(language: &[u8]) -> &[u8]
     ensures { result.now ≡ primary_subtag language.now }
 {
-    match hyphen_of(language) {
+    match first_place(language, b'-') {
         Some(hyphen) => &language[..hyphen],
         None => language,
     }

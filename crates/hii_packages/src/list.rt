@@ -1,6 +1,6 @@
 //! A list of packages, read from its bytes.
 
-ghost use Rattle.std.specs.Prelude.{◌≡◌, ◌+◌, ◌^◌, ◌<◌, ◌≤◌, ℕ, List, length, IfOk, IfErr, IsOk, Some, None, Err};
+ghost use Rattle.std.specs.Prelude.{◌≡◌, ◌+◌, ◌^◌, ◌<◌, ◌≤◌, ℕ, List, length, IfOk, IfErr, IsOk, Some, None};
 ghost use Rattle.hii_bytes.specs.Faults.{IsLeast};
 ghost use Rattle.hii_packages.specs.Packages.{Spells, entries, nth_forms, device_path_of};
 ghost use Rattle.hii_packages.specs.Package.{entry_of};
@@ -38,11 +38,11 @@ impl<'a> PackageList<'a> {
         ensures accepted { (packages : List (List ℕ)) → Spells list.now packages → IsOk result }
     {
         if list.len() < 20 {
-            return fault_at(Cause::ListShort, 0);
+            return Err(Fault::at(Cause::ListShort, 0));
         }
         let size = u32_at(list, 16).unwrap() as usize;
         if size < 20 || list.len() < size {
-            return fault_at(Cause::ListLength, 16);
+            return Err(Fault::at(Cause::ListLength, 16));
         }
         let end = end_place(list, size)?;
         Ok(PackageList {
@@ -66,10 +66,7 @@ impl<'a> PackageList<'a> {
         // Of the bytes that spell these packages it is the least fault.
         ensures refused { IfErr result (λ fault. (list : List ℕ) → Spells list self.now → IsLeast (IsFormsFault list n) fault) }
     {
-        let missing = Fault {
-            cause: Cause::NoForms,
-            place: 0,
-        };
+        let missing = Fault::at(Cause::NoForms, 0);
         if n == 0 {
             return Err(missing);
         }
@@ -110,29 +107,20 @@ fn end_place(list: &[u8], size: usize) -> Result<usize, Fault>
     let mut place = 20;
     while place < size {
         if size - place < 4 {
-            return fault_at(Cause::PackageLength, place);
+            return Err(Fault::at(Cause::PackageLength, place as u64));
         }
         let length = u24_at(list, place).unwrap() as usize;
         let kind = list[place + 3];
         if length < 4 || size - place < length || (kind == END && length != 4) {
-            return fault_at(Cause::PackageLength, place);
+            return Err(Fault::at(Cause::PackageLength, place as u64));
         }
         if kind == END {
             if place + 4 < size {
-                return fault_at(Cause::AfterEnd, place + 4);
+                return Err(Fault::at(Cause::AfterEnd, place as u64 + 4));
             }
             return Ok(place);
         }
         place += length;
     }
-    fault_at(Cause::NoEnd, place)
-}
-
-fn fault_at<T>(cause: Cause, place: usize) -> Result<T, Fault>
-    ensures { result ≡ Err record { cause = cause; place = place } }
-{
-    Err(Fault {
-        cause,
-        place: place as u64,
-    })
+    Err(Fault::at(Cause::NoEnd, place as u64))
 }

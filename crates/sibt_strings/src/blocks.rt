@@ -22,18 +22,8 @@ pub(crate) fn check_blocks(blocks: &[u8]) -> Result<(), Fault>
         match front_at(rest) {
             Front::End => return Ok(()),
             Front::Whole(_, behind) => rest = behind,
-            Front::CutText => {
-                return Err(Fault {
-                    cause: Cause::StringText,
-                    place,
-                });
-            }
-            Front::BadBlock => {
-                return Err(Fault {
-                    cause: Cause::StringBlock,
-                    place,
-                });
-            }
+            Front::CutText => return Err(Fault::at(Cause::StringText, place)),
+            Front::BadBlock => return Err(Fault::at(Cause::StringBlock, place)),
         }
     }
 }

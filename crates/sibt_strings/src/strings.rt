@@ -37,10 +37,7 @@ fn fault_in<T>(source: Package<'_>, cause: Cause, at: u64) -> Result<T, Fault>
     requires { source.place + at < 2 ^ 64 }
     ensures { result ≡ Err record { cause = cause; place = source.entry.place + at } }
 {
-    Err(Fault {
-        cause,
-        place: source.place + at,
-    })
+    Err(Fault::at(cause, source.place + at))
 }
 
 impl<'a> Strings<'a> {
@@ -64,18 +61,19 @@ impl<'a> Strings<'a> {
         }
         let block_bytes = &bytes[offset..];
         let language = language_at(&bytes[46..offset]);
+        let bad_language = Fault::at(Cause::LanguageText, source.place + 46);
         match check_blocks(block_bytes) {
             Ok(()) => match language {
                 Some(language) => Ok(Strings {
                     language,
                     block_bytes,
                 }),
-                None => fault_in(source, Cause::LanguageText, 46),
+                None => Err(bad_language),
             },
             Err(fault) => {
                 let at = offset as u64 + fault.place;
                 if language.is_none() && 46 < at {
-                    return fault_in(source, Cause::LanguageText, 46);
+                    return Err(bad_language);
                 }
                 fault_in(source, fault.cause, at)
             }

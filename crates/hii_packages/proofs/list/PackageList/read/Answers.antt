@@ -12,7 +12,7 @@ returns-then-size-lt20-clause-refused c =
     let told : c.unwrap-size.result ≡ list_length c.args.list.now = grind (arith, common_steps) in
     let wrong : (list_length c.args.list.now < 20) ⊎ (length c.args.list.now < list_length c.args.list.now) =
     elim c.then-size-lt20.either [ inl low ↦ inl (omega (arith, told)) | inr high ↦ inr (omega (arith, told, high.1)) ] in
-    rw c.fault_at-then-size-lt20.ensures (least_length c.args.list.now (omega arith) wrong)
+    rw c.at-then-size-lt20.ensures (least_length c.args.list.now (omega arith) wrong)
 
 pub returns-in_err-end-clause-refused : goal.returns-in_err-end-clause-refused
 returns-in_err-end-clause-refused c =

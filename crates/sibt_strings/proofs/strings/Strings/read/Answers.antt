@@ -15,7 +15,7 @@ returns-then-at-gt46-clause-refused c =
     let fixed : HasFixedPart bytes = record { long = omega arith; low = omega (arith, told); high = omega (arith, told) } in
     let blocks = take_rest bytes c.unwrap-offset.result ∙ ap (λ k. drop k bytes) told in
     let none = none_mapped _ _ (language_of bytes) (c.language_at-language.ensures ∙ ap (λ k. language_in (take (k - 46) (drop 46 bytes))) told) c.if-is_none.ensures in
-    rw c.fault_in-then-at-gt46.ensures (least_language bytes c.args.source.place fixed none
+    rw c.at-bad_language.ensures (least_language bytes c.args.source.place fixed none
     (later_than bytes c.in-Err.fault.cause c.in-Err.fault.place (bad_at _ _ _ _ blocks c.in-Err.ensures.bad) (omega (arith, told))))
 
 pub returns-in-Some-clause-spoken : goal.returns-in-Some-clause-spoken
@@ -41,7 +41,7 @@ returns-in-None-clause-refused c =
     let blocks = take_rest bytes c.unwrap-offset.result ∙ ap (λ k. drop k bytes) told in
     let none = sym (ap (λ k. language_in (take (k - 46) (drop 46 bytes))) told) ∙ sym c.in-None.ensures in
     let b = c.in-Ok.ensures.whole in
-    rw c.fault_in-in-None.ensures (least_language bytes c.args.source.place fixed none
+    rw c.at-bad_language.ensures (least_language bytes c.args.source.place fixed none
     (λ cause place f. absurd (no_block_fault bytes b.0 (subst (λ x. AreBlocks x b.0) blocks b.1) cause place f)))
 
 pub returns-else-is_none-clause-refused : goal.returns-else-is_none-clause-refused
