@@ -1,4 +1,4 @@
-//! Numbers in bytes, the lowest byte first.
+//! Numbers in bytes, the lowest byte first (UEFI 2.8, 1.8.1 Data Structure Descriptions).
 
 ghost use Rattle.std.specs.Prelude.{◌≡◌, ◌+◌, ◌<◌, ◌≤◌, ◌⊎◌, length, SomeIff, IfSome, ◌^◌};
 ghost use Rattle.hii_bytes.specs.Numbers.{number_in};

@@ -16,6 +16,7 @@ pub struct Watched<T> {
 }
 
 impl<T> Watched<T> {
+    /// Watches a reader or writer, as one that has not failed and has taken no bytes.
     pub fn new(inner: T) -> Watched<T>
         ensures inner { inner_of result ≡ inner }
         ensures sound { has_failed result ≡ false }

@@ -38,7 +38,9 @@ pub enum Command<'a> {
 /// Why a line is no command.
 #[derive(Clone, Copy, Debug, PartialEq, Eq)]
 pub enum BadLine {
+    /// It has the form of no command.
     BadCommand,
+    /// It has more than 4,096 bytes.
     LineTooLong,
 }
 
@@ -54,8 +56,9 @@ impl BadLine {
     }
 }
 
-/// The command that a line without its LF is. One CR at its end belongs to its length and not to the command. An empty
-/// line is no command.
+/// The command that a line without its LF is (own rule). One CR at its end belongs to its length and not to the command.
+/// Refuses by LineTooLong a line of more than 4,096 bytes, the CR counted, and by BadCommand one that is no command, as
+/// the empty line.
 pub fn read_line(line: &[u8]) -> Result<Command<'_>, BadLine>
     ensures means { MatchResult result (λ command. Means line.now (order_of command)) (IsRefused line.now) }
     ensures list { IfOk result HasList }

@@ -88,7 +88,8 @@ impl LineBuffer {
         }
     }
 
-    /// The bytes that came since `new` or `clear`, without the LF, or that they are too many.
+    /// The bytes that came since `new` or `clear`, without the LF, or LineTooLong where they are more than 4,096, a CR
+    /// counted.
     pub fn line(&self) -> Result<&[u8], BadLine>
         ensures { (line : List ℕ) → self.now ≡ held_of line
             → MatchResult result (λ s. (length line ≤ LINE_LIMIT) × (s.now ≡ line)) (λ e. (LINE_LIMIT < length line) × (e ≡ BadLine.LineTooLong)) }

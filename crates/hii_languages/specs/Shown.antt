@@ -1,4 +1,5 @@
--- What is shown of a string id (own rule).
+-- What is shown of a string id (own rule, as is that the first package's text stands in for the chosen one's; ids and
+-- texts are those of UEFI 2.8, 33.3.6 String Package).
 use Rattle.std.specs.Prelude.{ℕ, ◌==◌, if◌then◌else◌, List, [], ◌∷◌, Option, None, Some, option_and_then, slice_get, decimal}
 use Rattle.std.specs.Option.{option_or}
 use Rattle.sibt_strings.specs.Strings.{text_at}

@@ -132,6 +132,13 @@ impl<'a> Languages<'a> {
         }
     }
 
+    // The text of a string id in the string package of a number.
+    fn text_in(&self, number: Option<usize>, id: u16) -> Option<Units<'a>>
+        ensures { option_map units_in result ≡ text_in_package self.now number id }
+    {
+        self.tables.get(number?)?.text(id)
+    }
+
     // The text of a string id in the string package of a number. The first one is asked only where that has none.
     fn text_for(&self, number: Option<usize>, id: u16) -> Option<Units<'a>>
         ensures { option_map units_in result ≡ text_under self.now number id }
@@ -140,13 +147,6 @@ impl<'a> Languages<'a> {
             Some(units) => Some(units),
             None => self.text_in(Some(0), id),
         }
-    }
-
-    // The text of a string id in the string package of a number.
-    fn text_in(&self, number: Option<usize>, id: u16) -> Option<Units<'a>>
-        ensures { option_map units_in result ≡ text_in_package self.now number id }
-    {
-        self.tables.get(number?)?.text(id)
     }
 
     /// What is shown of a string id: nothing of the id 0; else the text of the chosen string package, else that of the

@@ -1,4 +1,5 @@
-//! The texts of a list in its languages (UEFI 2.8, 33.2.6 Strings).
+//! The texts of a list in its languages (UEFI 2.8, 33.3.6 String Package). Which string package is chosen, and what is shown
+//! where it has no text, are own rules.
 #![tactic(auto)]
 
 mod choice;

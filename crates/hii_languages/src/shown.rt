@@ -6,7 +6,7 @@ use arrayvec::ArrayVec;
 use itoa::Buffer;
 use sibt_strings::{UnitChars, Units};
 
-/// What is shown of a string id (UEFI 2.8, 33.2.6 Strings).
+/// What is shown of a string id (own rule; ids and texts are those of UEFI 2.8, 33.3.6 String Package).
 #[derive(Clone, Copy, Debug, PartialEq, Eq)]
 pub enum Shown<'a> {
     /// The string id 0.

@@ -29,8 +29,11 @@ impl<'a> Model for PackageList<'a> {
 }
 
 impl<'a> PackageList<'a> {
-    /// The packages that the bytes spell (UEFI 2.8, 33.3.1), or the least fault. Bytes behind the list's own length
-    /// are not looked at (own rule).
+    /// The packages that the bytes spell (UEFI 2.8, 33.3.1), or the least fault, at its place in bytes from the first one:
+    /// ListShort at 0 where there are fewer than 20, ListLength at 16 where the list's own length is below 20 or above
+    /// their number, PackageLength at a package whose header is cut or whose length is below 4, passes the list's or is not
+    /// 4 at the end package, NoEnd at the list's end where no end package came, AfterEnd behind an end package that comes
+    /// before it. Bytes behind the list's own length are not looked at (own rule).
     pub fn read(list: &'a [u8]) -> Result<PackageList<'a>, Fault>
         ensures spelled { IfOk result (λ packages. Spells list.now packages) }
         ensures refused { IfErr result (IsLeast (IsListFault list.now)) }
@@ -50,7 +53,7 @@ impl<'a> PackageList<'a> {
         })
     }
 
-    /// The packages in order, without the end package.
+    /// The packages in order, without the end package. Their places are in bytes from the list's first byte.
     pub fn packages(&self) -> Packages<'a>
         ensures all { result ≡ entries self.now }
         ensures few { length result < 2 ^ 62 }
@@ -58,7 +61,8 @@ impl<'a> PackageList<'a> {
         Packages::from(self.body, 20)
     }
 
-    /// The forms package of a number (UEFI 2.8, 33.3.8 Forms Package), counted from 1 in the order of the list.
+    /// The forms package of a number (UEFI 2.8, 33.3.8 Forms Package), counted from 1 in the order of the list, or
+    /// NoForms at the place 0 where none has it, as none has the number 0.
     pub fn forms(&self, n: usize) -> Result<Package<'a>, Fault>
         ensures found { IfOk result (λ found. nth_forms self.now n ≡ Some (entry_of found)) }
         ensures missing { IfErr result (λ fault. (nth_forms self.now n ≡ None)

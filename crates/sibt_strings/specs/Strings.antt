@@ -61,7 +61,7 @@ pub record Speaks (bytes : List ℕ) (spoken : Spoken) : Type 0 where
   pub are : AreBlocks (blocks_of bytes) whole_blocks
   pub texts : spoken.texts ≡ texts_of whole_blocks
 
--- The rows of the table of faults, with places in bytes from the package's front.
+-- The rows of the table of faults (own rule), with places in bytes from the package's front.
 abbrev pub IsStringFault : List ℕ → Cause → ℕ → Type 0
 IsStringFault bytes StringHeader place = (place ≡ 0) × ((length bytes < 46) ⊎ (info_offset bytes < 46) ⊎ (length bytes < info_offset bytes))
 IsStringFault bytes StringBlock place = HasFixedPart bytes × (at : ℕ) × StandsAt (blocks_of bytes) BadBlock at × (place ≡ info_offset bytes + at)

@@ -1,4 +1,4 @@
--- Where the texts of string ids stand.
+-- Where the texts of string ids stand (own rule; the ids and texts are those of UEFI 2.8, 33.3.6.2 String Information).
 use Rattle.std.specs.Prelude.{◌≡◌, ℕ, ◌+◌, ◌<◌, ◌≤◌, ◌^◌, ◌==◌, if◌then◌else◌, List, [], ◌∷◌, length, drop, Option, None, Some, option_map}
 use Rattle.sibt_strings.specs.Blocks.{Block, text_in}
 use Rattle.sibt_strings.specs.Strings.{text_at, with_block}

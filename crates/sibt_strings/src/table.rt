@@ -122,7 +122,8 @@ fn places_of_texts(alloc: Global, blocks: &[u8]) -> Result<Vec<TextPlace>, Alloc
 }
 
 impl<'a> StringTable<'a> {
-    /// A table of the texts of a package. It takes 8 bytes for each string id that has a text.
+    /// A table of the texts of a package. It takes 8 bytes for each string id that has a text; where this memory is
+    /// refused the error is AllocError.
     pub fn read(alloc: Global, strings: Strings<'a>) -> Result<StringTable<'a>, AllocError>
         ensures { IfOk result (λ table. table ≡ strings.entry) }
     {

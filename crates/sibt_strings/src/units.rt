@@ -15,7 +15,7 @@ impl<'a> Units<'a> {
     ghost use Rattle.sibt_strings.specs.Units.{chars_of_units};
     ghost use Rattle.sibt_strings.specs.Views.{units_in, chars_left};
 
-    /// The units that the bytes are.
+    /// The units that the bytes are, of which there is an even number.
     pub fn new(bytes: &'a [u8]) -> Units<'a>
         requires { length bytes.now % 2 ≡ 0 }
         ensures { units_in result ≡ bytes.entry.now }
