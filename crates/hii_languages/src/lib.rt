@@ -6,8 +6,6 @@ mod choice;
 mod languages;
 pub mod laws;
 mod shown;
-#[cfg(test)]
-mod tests;
 
 pub use choice::Choice;
 pub use languages::Languages;

@@ -1,8 +1,10 @@
-//! Worked cases over numbers, packages, strings and commands, by public calls alone.
+//! Worked cases over numbers, packages, strings, languages and commands, by public calls alone.
 #![tactic(auto)]
 
 #[cfg(test)]
 mod commands;
+#[cfg(test)]
+mod languages;
 #[cfg(test)]
 mod numbers;
 #[cfg(test)]

@@ -29,14 +29,12 @@ fn packages_of_a_list(rt: HostRuntime) -> Result<(), Fail> {
 }
 
 #[test]
-fn faults_of_a_list(rt: HostRuntime) {
-    for (size, cause, place) in [(19, Cause::ListShort, 0), (44, Cause::ListLength, 16)] {
-        let fault = PackageList::read(&LIST[..size]).err();
-        assert_eq!(rt;
-            fault.map(|fault| (fault.cause, fault.place)),
-            Some((cause, place))
-        );
-    }
+fn fault_of_a_list(rt: HostRuntime) {
+    let fault = PackageList::read(&LIST[..44]).err();
+    assert_eq!(rt;
+        fault.map(|fault| (fault.cause, fault.place)),
+        Some((Cause::ListLength, 16))
+    );
     laws::packages_have_the_numbers_of_the_standard();
     laws::one_list_is_spelled();
 }

@@ -16,23 +16,16 @@ fn list_of(alloc: Global, package: &[u8]) -> Result<Vec<u8>, AllocError> {
     Ok(list)
 }
 
-// A list of one string package, of this length, with the language en-US and these bytes behind the fixed part and the
-// language, whose blocks begin at an offset.
-fn list_with(alloc: Global, offset: u8, behind: &[u8]) -> Result<Vec<u8>, AllocError> {
-    let length = u16::try_from(behind.len()).unwrap_or(0).wrapping_add(46);
+// A list of one string package of these blocks, in the language en-US.
+fn list_of_blocks(alloc: Global, blocks: &[u8]) -> Result<Vec<u8>, AllocError> {
+    let length = u16::try_from(blocks.len()).unwrap_or(0).wrapping_add(52);
     let mut package = Vec::new(alloc);
     package.extend_from_slice(&length.to_le_bytes())?;
-    package.extend_from_slice(&[0, 4, 46, 0, 0, 0, offset, 0, 0, 0])?;
+    package.extend_from_slice(&[0, 4, 46, 0, 0, 0, 52, 0, 0, 0])?;
     package.extend_from_slice(&[0; 34])?;
-    package.extend_from_slice(behind)?;
+    package.extend_from_slice(b"en-US\0")?;
+    package.extend_from_slice(blocks)?;
     list_of(alloc, package.as_slice())
-}
-
-fn list_of_blocks(alloc: Global, blocks: &[u8]) -> Result<Vec<u8>, AllocError> {
-    let mut behind = Vec::new(alloc);
-    behind.extend_from_slice(b"en-US\0")?;
-    behind.extend_from_slice(blocks)?;
-    list_with(alloc, 52, behind.as_slice())
 }
 
 // The first package of a list.
@@ -88,33 +81,6 @@ fn blocks_have<R: Abort + AllocGlobal>(
     Ok(())
 }
 
-// Skipped ids and duplicates: the first names an id with a text, the second its own successor.
-const BLOCKS: [u8; 23] = [
-    0x14, 0x41, 0, 0, 0, // id 1
-    0x22, 3, // ids 2 to 4
-    0x14, 0, 0xd8, 0xf1, 0xff, 0x42, 0, 0, 0, // id 5
-    0x20, 1, 0, // id 6
-    0x20, 9, 0, // id 7
-    0,
-];
-
-static TEXTS: [(u16, Option<&[u8]>); 9] = [
-    (0, None),
-    (1, Some(b"A\0")),
-    (2, None),
-    (3, None),
-    (4, None),
-    (5, Some(b"\0\xd8\xf1\xff\x42\0")),
-    (6, Some(b"A\0")),
-    (7, None),
-    (8, None),
-];
-
-#[test]
-fn texts_by_id(rt: HostRuntime) -> Result<(), Fail> {
-    blocks_have(&rt, &BLOCKS, &TEXTS)
-}
-
 const EACH_FORM: [u8; 58] = [
     0x15, 7, 0x42, 0, 0, 0, // id 1, with a font
     0x16, 2, 0, 0x43, 0, 0, 0, 0, 0, // ids 2 and 3
@@ -150,93 +116,11 @@ fn each_form_of_block(rt: HostRuntime) -> Result<(), Fail> {
     blocks_have(&rt, &EACH_FORM, &TEXTS_OF_EACH_FORM)
 }
 
-// The last ids that have a name: a skip leads to 65,534, and two of four texts have an id above 65,535.
-const LAST_IDS: [u8; 28] = [
-    0x21, 0xfd, 0xff, 0x16, 4, 0, 0x41, 0, 0, 0, 0x42, 0, 0, 0, 0x43, 0, 0, 0, 0x44, 0, 0, 0, 0x14,
-    0x45, 0, 0, 0, 0,
-];
-
-static TEXTS_OF_LAST_IDS: [(u16, Option<&[u8]>); 5] = [
-    (0, None),
-    (1, None),
-    (65533, None),
-    (65534, Some(b"A\0")),
-    (65535, Some(b"B\0")),
-];
-
 #[test]
-fn ids_without_name(rt: HostRuntime) -> Result<(), Fail> {
-    blocks_have(&rt, &LAST_IDS, &TEXTS_OF_LAST_IDS)
-}
-
-// Blocks, and the cause and the place of their fault.
-static FAULTS_OF_BLOCKS: [(&[u8], Cause, u64); 18] = [
-    (b"\x10", Cause::StringBlock, 72),
-    (b"\x14A\0\0\0", Cause::StringBlock, 77),
-    (b"\x14A\0", Cause::StringText, 72),
-    (b"\x14", Cause::StringText, 72),
-    (b"\x14A\0\0\0\x14A\0\0", Cause::StringText, 77),
-    (b"\x16\x02\0A\0\0\0B\0", Cause::StringText, 72),
-    (b"\x15", Cause::StringBlock, 72),
-    (b"\x15\x07", Cause::StringText, 72),
-    (b"\x16\x02", Cause::StringBlock, 72),
-    (b"\x17\0\x02", Cause::StringBlock, 72),
-    (b"\x20\0", Cause::StringBlock, 72),
-    (b"\x21\0", Cause::StringBlock, 72),
-    (b"\x22", Cause::StringBlock, 72),
-    (b"\x30\0\x02", Cause::StringBlock, 72),
-    (b"\x30\0\x05\0", Cause::StringBlock, 72),
-    (b"\x31\0\x03\0", Cause::StringBlock, 72),
-    (b"\x32\0\x05\0\0\0", Cause::StringBlock, 72),
-    (b"", Cause::StringBlock, 72),
-];
-
-#[test]
-fn faults_of_blocks(rt: HostRuntime) -> Result<(), Fail> {
-    for (blocks, cause, place) in &FAULTS_OF_BLOCKS {
-        let list = list_of_blocks(rt.alloc(), blocks)?;
-        let fault = fault_of(&rt, list.as_slice())?;
-        assert!(rt; fault == Some((*cause, *place)), "at {blocks:?}");
-    }
-    Ok(())
-}
-
-// The offset of the blocks, the bytes behind the fixed part, and their fault.
-static FAULTS_OF_HEADERS: [(u8, &[u8], Option<(Cause, u64)>); 11] = [
-    (52, b"en-US\0\0", None),
-    (51, b"en-US\0\0", Some((Cause::LanguageText, 66))),
-    (52, b"en\x7fUS\0\0", Some((Cause::LanguageText, 66))),
-    (52, b"en\0\x7fUS\0", None),
-    (52, b"\0\xff\xff\xff\xff\xff\0", None),
-    (45, b"\0\0", Some((Cause::StringHeader, 20))),
-    (49, b"\0\0", Some((Cause::StringHeader, 20))),
-    // the blocks begin where the language should, and a fault of theirs is told first
-    (46, b"\0", Some((Cause::LanguageText, 66))),
-    (46, b"\x10", Some((Cause::StringBlock, 66))),
-    (46, b"\x14", Some((Cause::StringText, 66))),
-    (47, b"\0", Some((Cause::StringBlock, 67))),
-];
-
-#[test]
-fn faults_of_headers(rt: HostRuntime) -> Result<(), Fail> {
-    for (offset, behind, wanted) in &FAULTS_OF_HEADERS {
-        let list = list_with(rt.alloc(), *offset, behind)?;
-        let fault = fault_of(&rt, list.as_slice())?;
-        assert!(rt; fault == *wanted, "at {offset}, {behind:?}");
-    }
-    Ok(())
-}
-
-const SHORT: [u8; 45] = [
-    45, 0, 0, 4, 0, 0, 0, 0, 0, 0, 0, 0, 0, 0, 0, 0, 0, 0, 0, 0, 0, 0, 0, 0, 0, 0, 0, 0, 0, 0, 0,
-    0, 0, 0, 0, 0, 0, 0, 0, 0, 0, 0, 0, 0, 0,
-];
-
-#[test]
-fn fault_of_a_short_package(rt: HostRuntime) -> Result<(), Fail> {
-    let list = list_of(rt.alloc(), &SHORT)?;
+fn faults_of_a_package(rt: HostRuntime) -> Result<(), Fail> {
+    let list = list_of_blocks(rt.alloc(), b"\x14A\0\0\0\x14A\0\0")?;
     let fault = fault_of(&rt, list.as_slice())?;
-    assert!(rt; fault == Some((Cause::StringHeader, 20)));
+    assert!(rt; fault == Some((Cause::StringText, 77)));
     Ok(())
 }
 
@@ -245,33 +129,6 @@ fn laws_are_called() {
     laws::blocks_have_the_numbers_of_the_standard();
     laws::a_package_says_one_thing();
     laws::packages_that_speak_have_no_fault();
-}
-
-// Units, and the character that is shown of each.
-static CHARACTERS: [([u8; 2], Option<char>); 16] = [
-    ([0x41, 0], Some('A')),
-    ([0x1f, 0], Some(' ')),
-    ([0x20, 0], Some(' ')),
-    ([0x7e, 0], Some('~')),
-    ([0x7f, 0], Some(' ')),
-    ([0x9f, 0], Some(' ')),
-    ([0xa0, 0], Some('\u{a0}')),
-    ([0xff, 0xd7], Some('\u{d7ff}')),
-    ([0x00, 0xd8], Some('\u{fffd}')),
-    ([0xff, 0xdf], Some('\u{fffd}')),
-    ([0x00, 0xe0], Some('\u{e000}')),
-    ([0xef, 0xff], Some('\u{ffef}')),
-    ([0xf0, 0xff], None),
-    ([0xf2, 0xff], None),
-    ([0xf3, 0xff], Some('\u{fff3}')),
-    ([0xff, 0xff], Some('\u{ffff}')),
-];
-
-#[test]
-fn characters_of_units(rt: HostRuntime) {
-    for (bytes, shown) in &CHARACTERS {
-        assert!(rt; Units::new(bytes).chars().next() == *shown, "at {bytes:?}");
-    }
 }
 
 // A pair of surrogates is two characters, and what is not shown is passed over.
