@@ -4,4 +4,5 @@ pub mod ImageLemmas
 pub mod FaultLemmas
 pub mod WriteLemmas
 pub mod LawLemmas
+pub mod SpellLemmas
 pub mod StoreNodeLemmas

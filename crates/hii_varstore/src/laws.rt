@@ -30,6 +30,11 @@ pub fn spelled_images_have_no_fault()
     ensures { (shape : Shape) (image : List ℕ) (m : StoreMap) → SpellsImage shape image m → HasNone (IsImageFault shape image) }
 {}
 
+/// An image that has no fault spells stores.
+pub fn images_without_fault_are_spelled()
+    ensures { (shape : Shape) (image : List ℕ) → HasNone (IsImageFault shape image) → (m : StoreMap) × SpellsImage shape image m }
+{}
+
 /// What is read of an image in the older form is written in the form with the GUID, as the same stores.
 pub fn an_older_image_is_written_anew<W: Write>(
     alloc: Global,
