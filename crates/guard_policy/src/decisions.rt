@@ -87,18 +87,7 @@ impl<'a, 's> Policy<'a, 's> {
         self.unless_hidden(statement.place(), &Kept { conditions })
     }
 
-    /// Whether an option of a question is shown, by the same rule.
-    pub fn option_listed(&self, option: OptionView<'a>, stores: &Stores) -> Result<(), Denial>
-        requires { IsNodeOf self.now.forms.now (option_node option) }
-        ensures { result ≡ spec.unless (spec.hidden (world self.now stores.now) (option_node option.entry)) }
-    {
-        guards_and_locks_are_found();
-        // The package is accepted.
-        self.forms.bytes();
-        self.unless_hidden(option.place(), &self.over(stores))
-    }
-
-    /// The same by what is kept of conditions.
+    /// Whether an option of a question is shown, by the same rule and by what is kept of conditions.
     pub fn option_listed_by<C: Conditions>(
         &self,
         option: OptionView<'a>,

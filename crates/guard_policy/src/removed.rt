@@ -62,7 +62,7 @@ impl Removed {
     }
 
     /// Whether the DISABLE_IF at a place is one of them.
-    pub fn has(&self, place: u32) -> bool
+    pub(crate) fn has(&self, place: u32) -> bool
         ensures { result ≡ is_among place self.now }
     {
         self.places.binary_search(&place).is_ok()

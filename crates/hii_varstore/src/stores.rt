@@ -3,7 +3,7 @@
 ghost use Rattle.std.specs.Prelude.{◌≡◌, ◌⊎◌, IfOk, IfErr, length, map, option_copied, Some};
 ghost use Rattle.hii_bytes.specs.Faults.{IsLeast};
 ghost use Rattle.hii_bytes.specs.Watching.{pen_of, Writes, Tells};
-ghost use Rattle.hii_varstore.specs.Stores.{StoreMap, buffer_of, shape_of, bytes_of, field_of, with_bytes};
+ghost use Rattle.hii_varstore.specs.Stores.{StoreMap, buffer_of, shape_of, bytes_of, field_of};
 ghost use Rattle.hii_varstore.specs.Layout.{HasRange};
 ghost use Rattle.hii_varstore.specs.Lending.{LendsField};
 ghost use Rattle.std.specs.Borrow.{sem};
@@ -102,16 +102,6 @@ impl Stores {
         store.range_mut(offset, width)
     }
 
-    /// Writes bytes into the store of an id, from an offset in bytes on.
-    pub fn put(&mut self, id: u16, offset: usize, bytes: &[u8])
-        requires { HasRange (shape_of self.old) id offset (length bytes.now) }
-        ensures written { self.new ≡ with_bytes self.old id offset bytes.now }
-        ensures shape { shape_of self.new ≡ shape_of self.old }
-    {
-        self.field_mut(id, offset, bytes.len())
-            .copy_from_slice(bytes);
-    }
-
     /// Takes over the bytes of other stores of the same layout.
     pub fn copy_from(&mut self, other: &Stores)
         requires { shape_of self.old ≡ shape_of other.now }
@@ -135,8 +125,8 @@ impl Stores {
         Ok(())
     }
 
-    /// Writes the image of the stores as one of several texts: a fault of the writer is asked of the writer.
-    pub fn put_image<W: Write>(&self, out: &mut Watched<W>)
+    // Writes the image of the stores: a fault of the writer is asked of the writer.
+    fn put_image<W: Write>(&self, out: &mut Watched<W>)
         ensures { Writes (pen_of W.contents out.old) (pen_of W.contents out.new) (image_of self.now) }
     {
         out.put(&MARK);

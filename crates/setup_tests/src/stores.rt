@@ -237,9 +237,9 @@ fn bytes_are_written_and_copied(rt: HostRuntime) -> Result<(), Fail> {
     let mut stores = Stores::read(alloc, &layout, &declared_image(alloc)?)?;
     let committed = stores.copy(alloc)?;
     laws::a_write_keeps_the_shape();
+    laws::images_without_fault_are_spelled();
     assert!(rt; layout.size(7) == Some(3));
-    stores.put(7, 1, b"x");
-    stores.field_mut(7, 2, 1)[0] = b'y';
+    stores.field_mut(7, 1, 2).copy_from_slice(b"xy");
     assert!(rt;
         stores.bytes(7) == Some(b"cxy".as_slice()) && stores.bytes(1) == Some(b"ab".as_slice())
     );
