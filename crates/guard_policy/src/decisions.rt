@@ -60,8 +60,8 @@ impl<'a, 's> Policy<'a, 's> {
         }
     }
 
-    /// Whether a statement is seen: not where a DISABLE_IF around it was removed or a SUPPRESS_IF around it holds. The denial
-    /// names the outermost such.
+    /// Whether a statement of the package is seen: not where a DISABLE_IF around it was removed or a SUPPRESS_IF around it
+    /// holds. The denial, of the kind DisableIf or SuppressIf, names the outermost such.
     pub fn listed(&self, statement: Statement<'a>, stores: &Stores) -> Result<(), Denial>
         requires { IsNodeOf self.now.forms.now (statement_node statement) }
         ensures { result ≡ spec.unless (spec.hidden (world self.now stores.now) (statement_node statement.entry)) }
@@ -167,9 +167,10 @@ impl<'a, 's> Policy<'a, 's> {
         self.fixed_itself(statement)
     }
 
-    /// Whether a statement may be changed: not where it is not seen, a GRAY_OUT_IF around it holds, it is locked, it has the flag
-    /// READ_ONLY as a question, or is a question without a field in a store, or a reference that leads to no form of this form
-    /// set. The denial names the first of these that is so.
+    /// Whether a statement of the package may be changed: not where it is not seen, a GRAY_OUT_IF around it holds (GrayOutIf), it
+    /// is locked (Locked), it has the flag READ_ONLY as a question (ReadOnly), or is a question without a field in a store, or a
+    /// reference that leads to no form of this form set (Outside). The denial names the first of these that is so: the guard or
+    /// the LOCKED, the outermost of several, or the question itself.
     pub fn changeable(&self, statement: Statement<'a>, stores: &Stores) -> Result<(), Denial>
         requires { IsNodeOf self.now.forms.now (statement_node statement) }
         ensures { result ≡ spec.unless (spec.fixed (world self.now stores.now) (statement_node statement.entry)) }
@@ -217,8 +218,8 @@ impl<'a, 's> Policy<'a, 's> {
         }
     }
 
-    /// Whether a question may be given a value of its options: not where all options of this value are fixed. The denial is
-    /// that of the first of them by place.
+    /// Whether a question of the package may be given a value of its options: not where all options of this value are fixed. The
+    /// denial is that of the first of them by place. Where no option has the value, nothing denies it.
     pub fn option_open(
         &self,
         question: Question<'a>,

@@ -47,14 +47,15 @@ impl<'a, 's> Policy<'a, 's> {
         self.forms
     }
 
-    /// Whether the DISABLE_IF at a place was removed when the form set was opened, with all that stands in its scope.
+    /// Whether the DISABLE_IF at a place, in bytes from the header of the forms package, was removed when the form set was
+    /// opened, with all that stands in its scope.
     pub fn removed(self, place: u32) -> bool
         ensures { result ≡ is_among place self.entry.removed.now }
     {
         self.removed.has(place)
     }
 
-    /// The question that a statement is, if it is one.
+    /// The question that a statement of the package is, if it is one.
     pub fn question(&self, statement: Statement<'a>) -> Option<Question<'a>>
         requires { IsNodeOf self.now.forms.now (statement_node statement) }
         ensures { option_map question_view result ≡ (if is_question (statement_node statement.entry) then Some (asked (nodes_of self.now.forms.now) (statement_node statement.entry)) else None) }

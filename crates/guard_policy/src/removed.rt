@@ -16,7 +16,8 @@ use std::alloc::Global;
 use std::marker::Model;
 
 /// The DISABLE_IFs whose conditions held when the form set was opened: what stands in their scopes is as if it were not there
-/// (UEFI 2.8, 33.3.8.3, EFI_IFR_DISABLE_IF). They are seen as their places, which rise.
+/// (UEFI 2.8, 33.3.8.3, EFI_IFR_DISABLE_IF). They are seen as their places, which rise, in bytes
+/// from the header of the forms package.
 #[derive(Drop)]
 pub struct Removed {
     places: Vec<u32>,
@@ -34,7 +35,8 @@ impl Model for Removed {
 }
 
 impl Removed {
-    /// Those of a form set whose stores are these. Want of memory is OutOfMemory.
+    /// Those of a form set whose stores are these. Want of memory is OutOfMemory (60) at 0, and there is no other fault. The
+    /// questions are those of the same package.
     pub fn at_open<'a>(
         alloc: Global,
         forms: &Forms<'a>,

@@ -50,8 +50,8 @@ impl<'a, 's> Policy<'a, 's> {
         None
     }
 
-    /// Whether the value of a question is consistent: no INCONSISTENT_IF of it holds over these stores. The denial names the first by
-    /// place, and its text.
+    /// Whether the value of a question is consistent: no INCONSISTENT_IF of it holds over these stores. The denial, of the kind
+    /// InconsistentIf, names the first by place, and its text.
     pub fn consistent(&self, question: Question<'a>, stores: &Stores) -> Result<(), Denial>
         ensures { result ≡ spec.unless (spec.inconsistent (world self.now stores.now) (question_node question.entry)) }
     {
@@ -83,8 +83,8 @@ impl<'a, 's> Policy<'a, 's> {
         Ok(())
     }
 
-    /// Whether the stores may be submitted: no NO_SUBMIT_IF holds, but those in the scope of a removed DISABLE_IF. The denial
-    /// names the first by place, and its text.
+    /// Whether the stores may be submitted: no NO_SUBMIT_IF holds, but those in the scope of a removed DISABLE_IF. The denial, of
+    /// the kind NoSubmitIf, names the first by place, and its text.
     pub fn may_submit(&self, stores: &Stores) -> Result<(), Denial>
         ensures { result ≡ spec.unless (spec.unsubmitted (world self.now stores.now)) }
     {

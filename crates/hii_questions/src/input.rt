@@ -17,13 +17,16 @@ pub enum Input<'i> {
     Raw(u64),
     /// A text in UTF-8, or bytes that may be one.
     Utf8(&'i [u8]),
-    /// A text in units of two bytes, the lowest first.
+    /// A text in units of two bytes each, the lowest first. The first unit that is 0 ends it.
     Units(&'i [u8]),
     /// A list of numbers, as `hii_bytes::is_number_list` tells.
     List(&'i [u8]),
-    /// A list as it stands in a field.
+    /// A list as it stands in a field: elements of as many bytes each as `element_width` says, the lowest first. The first
+    /// element that is 0 ends the list, and a part of an element at the end is left off. There may be any number of bytes:
+    /// a list of more elements than the question holds is denied by its length.
     Elements(&'i [u8]),
-    /// The bytes of a whole field.
+    /// The bytes of a whole field in its order, as many as the field has. They are read as what the field holds: a number of
+    /// all of them, the lowest byte first; a text in units of two bytes, or a list in elements, up to the first that is 0.
     Field(&'i [u8]),
 }
 

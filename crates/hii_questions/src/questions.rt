@@ -45,10 +45,11 @@ impl<'a> Model for Questions<'a> {
 }
 
 impl<'a> Questions<'a> {
-    /// The questions of a form set, or the least fault of their fields and options: a store that is not there (35), a field
-    /// that reaches past the end of its store (36), an option's value that is too large (37), options of several kinds in a
-    /// list (38). Places are in bytes from the package's header. Want of memory is OutOfMemory. The layout is that of the
-    /// form set.
+    /// The questions of a form set, or the least fault of their fields and options (own rule): a store that is not there,
+    /// UnknownVarstore (35), or a field that reaches past the end of its store, FieldOutside (36), each at the question; the
+    /// value of an option of a ONE_OF that is no number of its width, OptionRange (37), or an option of an ORDERED_LIST of
+    /// another kind than the first, MixedOptions (38), each at the option. Places are in bytes from the package's header. Want of memory is
+    /// OutOfMemory (60) at 0. The layout is that of the form set.
     pub fn read(
         alloc: Global,
         forms: &Forms<'a>,

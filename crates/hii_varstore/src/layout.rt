@@ -36,8 +36,8 @@ impl<'a> Layout<'a> {
     /// The layout that a form set declares: its buffer stores, which are those of EFI_IFR_VARSTORE and EFI_IFR_VARSTORE_EFI,
     /// by place, whatever stands around them. A store of names and values holds no bytes and is not in the layout.
     /// Refuses the first store by place, of any of the three kinds, that has the id 0 or the id of a store before it, by
-    /// DuplicateVarstore at its place in bytes from the package's header (UEFI 2.8, 33.3.8.3, EFI_IFR_VARSTORE,
-    /// EFI_IFR_VARSTORE_EFI and EFI_IFR_VARSTORE_NAME_VALUE). Want of memory is OutOfMemory.
+    /// DuplicateVarstore (34) at its place in bytes from the package's header (UEFI 2.8, 33.3.8.3, EFI_IFR_VARSTORE,
+    /// EFI_IFR_VARSTORE_EFI and EFI_IFR_VARSTORE_NAME_VALUE). Want of memory is OutOfMemory (60) at 0.
     pub fn read(alloc: Global, forms: &Forms<'a>) -> Result<Layout<'a>, Fault>
         ensures read { IfOk result (λ layout. layout ≡ layout_of (nodes_of forms.now)) }
         ensures sound { IfOk result (λ layout. HasNone (IsStoreFault (nodes_of forms.now))) }

@@ -20,7 +20,8 @@ use std::alloc::{AllocError, Global};
 use std::io::Write;
 use std::marker::Model;
 
-/// The bytes of the buffer stores of a form set, and the form set's GUID.
+/// The bytes of the buffer stores of a form set, by the ids of the stores (UEFI 2.8, 33.2.5.6 Storage), and the form set's
+/// GUID. The image in which they are kept is an own rule.
 #[derive(Debug, Drop)]
 pub struct Stores {
     guid: [u8; 16],
@@ -41,9 +42,11 @@ impl Model for Stores {
 }
 
 impl Stores {
-    /// The stores of a layout that an image spells in either of its forms. Refuses the image by its first field that is
-    /// cut short, or has other bytes than the layout wants, or by the bytes left over; the place is the offset in bytes
-    /// in the image. A refused growth is `OutOfMemory` at 0.
+    /// The stores of a layout that an image spells in either of its forms (own rule). Refuses the image by its first field that
+    /// is not as the layout wants it, at the field's offset in bytes from the front of the image: by StoreShort (54) where the
+    /// image ends inside of the field, else by StoreMagic (50) for another mark, StoreFormSet (56) for the GUID of another form
+    /// set, StoreCount (51) for another number of stores, StoreId (52) for another id, or StoreSize (53) for another size.
+    /// Bytes left over are StoreTrailing (55) at the first of them. A refused growth is OutOfMemory (60) at 0.
     pub fn read(alloc: Global, layout: &Layout<'_>, image: &[u8]) -> Result<Stores, Fault>
         ensures spelled { IfOk result (SpellsImage layout.now image.now) }
         ensures refused { IfErr result (λ fault. IsNoMemory fault ⊎ IsLeast (IsImageFault layout.now image.now) fault) }
@@ -64,7 +67,7 @@ impl Stores {
         })
     }
 
-    /// A second set of the same stores, or `OutOfMemory` where a growth is refused.
+    /// A second set of the same stores, or OutOfMemory (60) at 0 where a growth is refused.
     pub fn copy(&self, alloc: Global) -> Result<Stores, Fault>
         ensures same { IfOk result (λ stores. stores ≡ self.now) }
         ensures refused { IfErr result IsNoMemory }
