@@ -1,8 +1,10 @@
 //! What guards and LOCKED do to what they stand around.
 
-ghost use Rattle.std.specs.Prelude.{◌≡◌, option_map};
+ghost use Rattle.std.specs.Prelude.{◌≡◌, true, option_map};
 ghost use Rattle.std.specs.List.{find, list_any};
-ghost use Rattle.ifr_scopes.specs.Index.{guards_of_indexed, lock_of_indexed};
+ghost use Rattle.ifr_opcodes.specs.Forest.{Placed};
+ghost use Rattle.ifr_scopes.specs.Checked.{IsNodeOf};
+ghost use Rattle.ifr_scopes.specs.Index.{guards_of_indexed, is_indexed, lock_of_indexed};
 ghost use Rattle.ifr_scopes.specs.Lists.{guard_node, guards_left};
 ghost use Rattle.ifr_scopes.specs.Nodes.{nodes_of};
 ghost use Rattle.guard_policy.specs.Effects.{acts};
@@ -16,6 +18,7 @@ use crate::effect::{Effect, hiding};
 use crate::policy::Policy;
 use hii_questions::DenialKind;
 use ifr_opcodes::{DISABLE_IF, GRAY_OUT_IF, SUPPRESS_IF};
+use ifr_scopes::laws::guards_and_locks_are_found;
 use ifr_scopes::{AnyCondition, Guard, GuardsAt};
 
 impl<'a, 's> Policy<'a, 's> {
@@ -62,12 +65,8 @@ impl<'a, 's> Policy<'a, 's> {
         false
     }
 
-    /// What is not hidden of the form, statement or option at a place.
-    pub(crate) fn unless_hidden<V: Verdicts<'a>>(
-        &self,
-        place: u32,
-        verdicts: &V,
-    ) -> Result<(), Denial>
+    // What is not hidden of the form, statement or option at a place.
+    fn unless_hidden<V: Verdicts<'a>>(&self, place: u32, verdicts: &V) -> Result<(), Denial>
         ensures { result ≡ spec.unless (spec.hidden_among (world_by self.now (V.met verdicts.now)) (guards_of_indexed (nodes_of self.now.forms.now) place)) }
     {
         match self.first_guard(Effect::Hides, place, verdicts) {
@@ -76,12 +75,8 @@ impl<'a, 's> Policy<'a, 's> {
         }
     }
 
-    /// What around the form, statement or option at a place lets it not be changed.
-    pub(crate) fn unless_covered<V: Verdicts<'a>>(
-        &self,
-        place: u32,
-        verdicts: &V,
-    ) -> Result<(), Denial>
+    // What around the form, statement or option at a place lets it not be changed.
+    fn unless_covered<V: Verdicts<'a>>(&self, place: u32, verdicts: &V) -> Result<(), Denial>
         ensures { result ≡ spec.unless (spec.covered_by (world_by self.now (V.met verdicts.now)) (guards_of_indexed (nodes_of self.now.forms.now) place) (lock_of_indexed (nodes_of self.now.forms.now) place)) }
     {
         self.unless_hidden(place, verdicts)?;
@@ -92,5 +87,29 @@ impl<'a, 's> Policy<'a, 's> {
             Some(lock) => Err(Denial::by(DenialKind::Locked, lock.place())),
             None => Ok(()),
         }
+    }
+
+    /// Whether the form, statement or option at a place is seen.
+    pub(crate) fn seen_at<V: Verdicts<'a>>(&self, place: u32, verdicts: &V) -> Result<(), Denial>
+        ensures { (n : Placed) → IsNodeOf self.now.forms.now n → is_indexed n ≡ true → n.place ≡ place → result ≡ spec.unless (spec.hidden (world_by self.now (V.met verdicts.now)) n) }
+    {
+        guards_and_locks_are_found();
+        // The package is accepted.
+        self.forms.bytes();
+        self.unless_hidden(place, verdicts)
+    }
+
+    /// Whether nothing around the form, statement or option at a place lets it not be changed.
+    pub(crate) fn uncovered_at<V: Verdicts<'a>>(
+        &self,
+        place: u32,
+        verdicts: &V,
+    ) -> Result<(), Denial>
+        ensures { (n : Placed) → IsNodeOf self.now.forms.now n → is_indexed n ≡ true → n.place ≡ place → result ≡ spec.unless (spec.covered (world_by self.now (V.met verdicts.now)) n) }
+    {
+        guards_and_locks_are_found();
+        // The package is accepted.
+        self.forms.bytes();
+        self.unless_covered(place, verdicts)
     }
 }

@@ -18,7 +18,6 @@ use crate::denial::Denial;
 use crate::policy::Policy;
 use hii_questions::{DenialKind, Question};
 use hii_varstore::Stores;
-use ifr_scopes::laws::guards_and_locks_are_found;
 use ifr_scopes::{Form, OptionView, Statement, StatementKind};
 
 // Whether a question lacks what it needs to be changed: a reference a form to which it leads, another a field.
@@ -66,10 +65,7 @@ impl<'a, 's> Policy<'a, 's> {
         requires { IsNodeOf self.now.forms.now (statement_node statement) }
         ensures { result ≡ spec.unless (spec.hidden (world self.now stores.now) (statement_node statement.entry)) }
     {
-        guards_and_locks_are_found();
-        // The package is accepted.
-        self.forms.bytes();
-        self.unless_hidden(statement.place(), &self.over(stores))
+        self.seen_at(statement.place(), &self.over(stores))
     }
 
     /// The same by what is kept of conditions.
@@ -81,10 +77,7 @@ impl<'a, 's> Policy<'a, 's> {
         requires { IsNodeOf self.now.forms.now (statement_node statement) }
         ensures { DecidesBy (C.holding conditions.now) (world self.now) (Listed statement.entry) result }
     {
-        guards_and_locks_are_found();
-        // The package is accepted.
-        self.forms.bytes();
-        self.unless_hidden(statement.place(), &Kept { conditions })
+        self.seen_at(statement.place(), &Kept { conditions })
     }
 
     /// Whether an option of a question is shown, by the same rule and by what is kept of conditions.
@@ -96,10 +89,7 @@ impl<'a, 's> Policy<'a, 's> {
         requires { IsNodeOf self.now.forms.now (option_node option) }
         ensures { (stores : StoreMap) → Tells (C.holding conditions.now) (world self.now stores) (suppressing (option_node option.entry)) → result ≡ spec.unless (spec.hidden (world self.now stores) (option_node option.entry)) }
     {
-        guards_and_locks_are_found();
-        // The package is accepted.
-        self.forms.bytes();
-        self.unless_hidden(option.place(), &Kept { conditions })
+        self.seen_at(option.place(), &Kept { conditions })
     }
 
     /// Whether a form is opened, by the same rule.
@@ -107,10 +97,7 @@ impl<'a, 's> Policy<'a, 's> {
         requires { IsNodeOf self.now.forms.now (form_node form) }
         ensures { result ≡ spec.unless (spec.hidden (world self.now stores.now) (form_node form.entry)) }
     {
-        guards_and_locks_are_found();
-        // The package is accepted.
-        self.forms.bytes();
-        self.unless_hidden(form.place(), &self.over(stores))
+        self.seen_at(form.place(), &self.over(stores))
     }
 
     /// The same by what is kept of conditions.
@@ -118,10 +105,7 @@ impl<'a, 's> Policy<'a, 's> {
         requires { IsNodeOf self.now.forms.now (form_node form) }
         ensures { DecidesBy (C.holding conditions.now) (world self.now) (Opens form.entry) result }
     {
-        guards_and_locks_are_found();
-        // The package is accepted.
-        self.forms.bytes();
-        self.unless_hidden(form.place(), &Kept { conditions })
+        self.seen_at(form.place(), &Kept { conditions })
     }
 
     // Whether an option may be chosen, as far as it goes: not where it is not shown, a GRAY_OUT_IF around it holds or it is
@@ -134,10 +118,7 @@ impl<'a, 's> Policy<'a, 's> {
         requires { IsNodeOf self.now.forms.now (option_node option) }
         ensures { result ≡ spec.unless (spec.fixed (world_by self.now (V.met verdicts.now)) (option_node option.entry)) }
     {
-        guards_and_locks_are_found();
-        // The package is accepted.
-        self.forms.bytes();
-        self.unless_covered(option.place(), verdicts)
+        self.uncovered_at(option.place(), verdicts)
     }
 
     // Whether a statement forbids a change by itself.
@@ -160,10 +141,7 @@ impl<'a, 's> Policy<'a, 's> {
         requires { IsNodeOf self.now.forms.now (statement_node statement) }
         ensures { result ≡ spec.unless (spec.fixed (world_by self.now (V.met verdicts.now)) (statement_node statement.entry)) }
     {
-        guards_and_locks_are_found();
-        // The package is accepted.
-        self.forms.bytes();
-        self.unless_covered(statement.place(), verdicts)?;
+        self.uncovered_at(statement.place(), verdicts)?;
         self.fixed_itself(statement)
     }
 

@@ -1,16 +1,9 @@
-use Rattle.std.proofs.Common.{ap, ◌∙◌, List}
-use Rattle.ifr_opcodes.specs.Forest.{Placed}
-use Rattle.ifr_scopes.specs.Index.{guards_of_indexed}
+use Rattle.std.proofs.Common.{sym}
 use Rattle.ifr_scopes.specs.Lists.{statement_node}
-use Rattle.ifr_scopes.specs.Nodes.{nodes_of}
-use Rattle.guard_policy.specs.Policy.{hidden_among, unless}
-use Rattle.guard_policy.specs.Views.{world}
 use Rattle.guard_policy.proofs.IndexedLemmas.{of_statement}
 use Rattle.guard_policy.proofs.policy.Policy.listed.Goals as goal
 
 pub returns : goal.returns
 returns c =
-    let forms = c.args.self.now.forms.now in
     let n = statement_node c.args.statement in
-    let found = c.guards_and_locks_are_found.ensures.guards forms n c.bytes.ensures.accepted c.requires (of_statement n c.args.statement.statement) in
-    (rw (c.over.ensures.policy, c.over.ensures.stores) at c.unless_hidden.ensures) ∙ ap (λ (gs : List Placed). unless (hidden_among (world c.args.self.now c.args.stores.now) gs)) (ap (guards_of_indexed (nodes_of forms)) c.place.ensures ∙ found)
+    rw (c.over.ensures.policy, c.over.ensures.stores) at (c.seen_at.ensures n c.requires (of_statement n c.args.statement.statement) (sym c.place.ensures))

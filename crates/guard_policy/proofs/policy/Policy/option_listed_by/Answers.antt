@@ -1,10 +1,8 @@
-use Rattle.std.proofs.Common.{ap, ◌∙◌, List}
+use Rattle.std.proofs.Common.{ap, sym, ◌∙◌}
 use Rattle.ifr_opcodes.specs.Forest.{Placed}
-use Rattle.ifr_scopes.specs.Index.{guards_of_indexed}
 use Rattle.ifr_scopes.specs.Parts.{option_node}
-use Rattle.ifr_scopes.specs.Nodes.{nodes_of}
-use Rattle.guard_policy.specs.Policy.{hidden_among, unless}
-use Rattle.guard_policy.specs.Views.{world, world_by}
+use Rattle.guard_policy.specs.Policy.{unless}
+use Rattle.guard_policy.specs.Views.{world}
 use Rattle.guard_policy.specs.World.{no_stores}
 use Rattle.guard_policy.proofs.IndexedLemmas.{of_option}
 use Rattle.guard_policy.proofs.SupportLemmas.{hidden_same}
@@ -12,11 +10,8 @@ use Rattle.guard_policy.proofs.policy.Policy.option_listed_by.Goals as goal
 
 pub returns : goal.returns
 returns g c =
-    let forms = c.args.self.now.forms.now in
     let n = option_node c.args.option in
-    let found = c.guards_and_locks_are_found.ensures.guards forms n c.bytes.ensures.accepted c.requires (of_option n c.args.option.option) in
     let holding = g.C.Conditions.holding c.args.conditions.now in
-    let by = world_by c.args.self.now (λ (m : Placed). holding m.place) in
     λ stores told.
-    c.unless_hidden.ensures ∙ ap (λ (gs : List Placed). unless (hidden_among by gs)) (ap (guards_of_indexed (nodes_of forms)) c.place.ensures ∙ found)
+    c.seen_at.ensures n c.requires (of_option n c.args.option.option) (sym c.place.ensures)
     ∙ ap unless (hidden_same (world c.args.self.now stores) no_stores (λ (m : Placed). holding m.place) n told)
