@@ -1,5 +1,5 @@
 -- Which bytes open a session, and with which faults they do not.
-use Rattle.std.proofs.Common.{◌≡◌, ◌⊎◌, ℕ, List, ◌∷◌, ◌++◌, Option, Some, true, length, drop, refl, sym, ap, subst, ◌∙◌, arith, length-append, inl, inr}
+use Rattle.std.proofs.Common.{◌≡◌, ℕ, List, ◌∷◌, ◌++◌, Option, Some, true, length, drop, refl, sym, ap, subst, ◌∙◌, arith, length-append, inl, inr}
 use Rattle.std.specs.List.{concat}
 use Rattle.std.specs.Prelude.{filter}
 use Rattle.std.specs.Option.{IsSome}
@@ -28,7 +28,7 @@ use Rattle.ifr_scopes.proofs.RunLemmas.{none_where_spelled}
 use Rattle.hii_varstore.specs.Layout.{Shape}
 use Rattle.hii_varstore.specs.Image.{SpellsImage}
 use Rattle.hii_varstore.specs.StoreNodes.{IsStoreFault}
-use Rattle.hii_varstore.specs.Faults.{IsImageFault, IsNoMemory}
+use Rattle.hii_varstore.specs.Faults.{IsImageFault}
 use Rattle.hii_varstore.proofs.FaultLemmas as image
 use Rattle.hii_questions.specs.Faults.{IsQuestionFault}
 use Rattle.guard_policy.specs.World.{removed_at}
@@ -155,13 +155,6 @@ refuses_questions list n stores ifr shape fault f a sound laid r =
     (refuses_second (IsPackageFault ifr) (Then (IsStoreFault (nodes_of ifr)) (IsQuestionFault (nodes_of ifr))) fault (accepted_no_fault ifr a)
     (refuses_second (IsStoreFault (nodes_of ifr)) (IsQuestionFault (nodes_of ifr)) fault sound r))
 
-pub as_memory : (fault : Fault) → IsNoMemory fault → fault ≡ out_of_memory
-as_memory fault (cause, place) = let whole : ◌≡◌ {A = Fault} record { cause = fault.cause; place = fault.place } out_of_memory = cc in whole
-
-image_refuses : (IsFault : Cause → ℕ → Type 0) (fault : Fault) → IsNoMemory fault ⊎ IsLeast IsFault fault → Refuses IsFault fault
-image_refuses IsFault fault (inl memory) = inl (as_memory fault memory)
-image_refuses IsFault fault (inr least) = inr least
-
 -- a package that can be browsed, of its parts
 pub browsable : (ifr : List ℕ) (shape : Shape) → IsAccepted ifr → HasNone (IsStoreFault (nodes_of ifr)) → shape ≡ layout_in ifr → HasNone (IsQuestionFault (nodes_of ifr)) → IsBrowsable ifr
 browsable ifr shape a sound laid questions = record {
@@ -171,11 +164,11 @@ browsable ifr shape a sound laid questions = record {
 }
 
 pub refuses_image : (list : List ℕ) (n : ℕ) (stores ifr : List ℕ) (shape : Shape) (fault : Fault) → IsFound list n ifr → IsBrowsable ifr
-    → shape ≡ layout_in ifr → IsNoMemory fault ⊎ IsLeast (IsImageFault shape stores) fault → Refuses (IsOpenFault list n stores) fault
+    → shape ≡ layout_in ifr → Refuses (IsImageFault shape stores) fault → Refuses (IsOpenFault list n stores) fault
 refuses_image list n stores ifr shape fault f b laid r =
     refuses_later list n stores ifr fault f
     (refuses_second (IsFormSetFault ifr) (IsImageFault (layout_in ifr) stores) fault (browsable_no_fault ifr b)
-    (subst (λ shape. Refuses (IsImageFault shape stores) fault) laid (image_refuses (IsImageFault shape stores) fault r)))
+    (subst (λ shape. Refuses (IsImageFault shape stores) fault) laid r))
 
 -- what the bytes open
 pub opened : (list : List ℕ) (n : ℕ) (stores language : List ℕ) (packages : List (List ℕ)) (source : Entry) (start : State) (shape : Shape) (first : Placed) (others : List Placed)

@@ -7,12 +7,12 @@ use Rattle.hii_bytes.specs.declared.cause.Cause.{Cause}
 use Rattle.hii_bytes.specs.declared.cause.Cause.TheVariants.{StoreMagic, StoreCount, StoreId, StoreSize, StoreFormSet}
 use Rattle.hii_bytes.specs.declared.cause.Fault.{Fault}
 use Rattle.hii_bytes.specs.Cause.{number_of}
-use Rattle.hii_bytes.specs.Faults.{IsLeast, HasNone}
+use Rattle.hii_bytes.specs.Faults.{IsLeast, HasNone, Refuses, out_of_memory}
 use Rattle.hii_varstore.specs.declared.buffer.Buffer.{Buffer}
 use Rattle.hii_varstore.specs.Layout.{Shape}
 use Rattle.hii_varstore.specs.Stores.{Store, StoreMap, shape_of, buffer_of}
 use Rattle.hii_varstore.specs.Image.{store_image, stores_image, image_of, older_image_of, SpellsImage}
-use Rattle.hii_varstore.specs.Faults.{Part, Told, Any, width_of, IsMet, IsWrong, IsPartFault, store_parts, stores_parts, head_parts, image_parts, older_image_parts, IsOlder, IsImageFault, IsNoMemory}
+use Rattle.hii_varstore.specs.Faults.{Part, Told, Any, width_of, IsMet, IsWrong, IsPartFault, store_parts, stores_parts, head_parts, image_parts, older_image_parts, IsOlder, IsImageFault}
 use Rattle.hii_varstore.specs.Reading.{Reads, IsFaultOf, ReadsHead}
 
 -- a part that is wrong is not met
@@ -124,18 +124,18 @@ head_fault guid image shape fault same wrong =
     inr (wrong.0, rw same at told)
 
 -- a fault of the stores is one of the image
-pub stores_fault : (guid image : List ℕ) (shape : Shape) (bs : List Buffer) (place : ℕ) (fault : Fault) → guid ≡ shape.guid → bs ≡ shape.buffers → ReadsHead guid image place → (IsNoMemory fault ⊎ IsPartFault place (stores_parts bs) (drop place image) fault.cause fault.place) → IsNoMemory fault ⊎ IsImageFault shape image fault.cause fault.place
+pub stores_fault : (guid image : List ℕ) (shape : Shape) (bs : List Buffer) (place : ℕ) (fault : Fault) → guid ≡ shape.guid → bs ≡ shape.buffers → ReadsHead guid image place → ((fault ≡ out_of_memory) ⊎ IsPartFault place (stores_parts bs) (drop place image) fault.cause fault.place) → (fault ≡ out_of_memory) ⊎ IsImageFault shape image fault.cause fault.place
 stores_fault guid image shape bs place fault same_guid same head (inl none) = inl none
 stores_fault guid image shape bs place fault same_guid same head (inr wrong) =
     let told = behind_head guid image bs place fault.cause fault.place head wrong in
     inr (rw (same_guid, same) at told)
 
-pub least_of : (shape : Shape) (image : List ℕ) (fault : Fault) → (IsNoMemory fault ⊎ IsImageFault shape image fault.cause fault.place) → IsNoMemory fault ⊎ IsLeast (IsImageFault shape image) fault
+pub least_of : (shape : Shape) (image : List ℕ) (fault : Fault) → ((fault ≡ out_of_memory) ⊎ IsImageFault shape image fault.cause fault.place) → Refuses (IsImageFault shape image) fault
 least_of shape image fault (inl none) = inl none
 least_of shape image fault (inr told) = inr (least_fault shape image fault told)
 
 -- where the image spells stores, only want of memory is left
-pub no_memory_left : (shape : Shape) (image : List ℕ) (fault : Fault) (m : StoreMap) → SpellsImage shape image m → (IsNoMemory fault ⊎ IsImageFault shape image fault.cause fault.place) → IsNoMemory fault
+pub no_memory_left : (shape : Shape) (image : List ℕ) (fault : Fault) (m : StoreMap) → SpellsImage shape image m → ((fault ≡ out_of_memory) ⊎ IsImageFault shape image fault.cause fault.place) → fault ≡ out_of_memory
 no_memory_left shape image fault m s (inl none) = none
 no_memory_left shape image fault m s (inr told) = absurd (no_fault shape image m s fault.cause fault.place told)
 

@@ -3,8 +3,7 @@ use Rattle.std.specs.Prelude.{◌≡◌, ◌≢◌, ◌⊎◌, ℕ, ◌+◌, ◌
 use Rattle.std.specs.List.{flat_map}
 use Rattle.std.specs.Int.{to_le_bytes, w16}
 use Rattle.hii_bytes.specs.declared.cause.Cause.{Cause}
-use Rattle.hii_bytes.specs.declared.cause.Cause.TheVariants.{StoreMagic, StoreCount, StoreId, StoreSize, StoreShort, StoreTrailing, StoreFormSet, OutOfMemory}
-use Rattle.hii_bytes.specs.declared.cause.Fault.{Fault}
+use Rattle.hii_bytes.specs.declared.cause.Cause.TheVariants.{StoreMagic, StoreCount, StoreId, StoreSize, StoreShort, StoreTrailing, StoreFormSet}
 use Rattle.hii_varstore.specs.declared.buffer.Buffer.{Buffer}
 use Rattle.hii_varstore.specs.Layout.{Shape}
 
@@ -70,7 +69,3 @@ abbrev pub IsImageFault : Shape → List ℕ → Cause → ℕ → Type 0
 IsImageFault shape image cause place =
     (IsOlder image × IsPartFault 0 (older_image_parts shape) image cause place)
     ⊎ ((IsOlder image → ⊥) × IsPartFault 0 (image_parts shape) image cause place)
-
--- a growth was refused
-abbrev pub IsNoMemory : Fault → Type 0
-IsNoMemory fault = (fault.cause ≡ OutOfMemory) × (fault.place ≡ 0)

@@ -2,14 +2,15 @@
 
 ghost use Rattle.std.specs.Prelude.{◌≡◌, ◌⊎◌, ◌+◌, ◌^◌, ◌<◌, ◌≤◌, [], ◌∷◌, ◌++◌, IfOk, IfErr, OnOk, length, drop};
 ghost use Rattle.std.specs.Int.{to_le_bytes, w16};
+ghost use Rattle.hii_bytes.specs.Faults.{out_of_memory};
 ghost use Rattle.hii_bytes.specs.Watching.{pen_of, Writes};
 ghost use Rattle.hii_varstore.specs.Table.{AreStores};
 ghost use Rattle.hii_varstore.specs.Image.{store_image, stores_image};
-ghost use Rattle.hii_varstore.specs.Faults.{Told, Any, IsPartFault, IsOlder, IsNoMemory, head_parts, store_parts, stores_parts};
+ghost use Rattle.hii_varstore.specs.Faults.{Told, Any, IsPartFault, IsOlder, head_parts, store_parts, stores_parts};
 ghost use Rattle.hii_varstore.specs.Reading.{Reads, IsFaultOf, ReadsHead};
 
 use crate::buffer::Buffer;
-use crate::fault::{fault_at, no_memory};
+use crate::fault::fault_at;
 use crate::store::Store;
 use crate::table::Table;
 use hii_bytes::{Cause, Fault, Watched};
@@ -83,7 +84,7 @@ pub(crate) fn read_stores(
     ensures read { IfOk result (λ stores. Reads (stores_parts table.now) (stores_image stores.items) image.now
         place (length image.now)) }
     ensures held { IfOk result (λ stores. AreStores table.now stores.items) }
-    ensures wrong { IfErr result (λ fault. IsNoMemory fault
+    ensures wrong { IfErr result (λ fault. (fault ≡ out_of_memory)
         ⊎ IsPartFault place (stores_parts table.now) (drop place image.now) fault.cause fault.place) }
 {
     let buffers = table.buffers();
@@ -93,7 +94,7 @@ pub(crate) fn read_stores(
     for buffer in buffers {
         let found = store_at(image, end, *buffer)?;
         if push_store(alloc, &mut stores, buffer.id, found).is_err() {
-            return no_memory();
+            return Err(Fault::out_of_memory());
         }
         end += 4 + found.len();
     }

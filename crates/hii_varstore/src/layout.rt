@@ -1,15 +1,13 @@
 //! Which buffer stores a form set has.
 
 ghost use Rattle.std.specs.Prelude.{◌≡◌, IfOk, IfErr};
-ghost use Rattle.hii_bytes.specs.Faults.{HasNone, Refuses};
+ghost use Rattle.hii_bytes.specs.Faults.{HasNone, Refuses, out_of_memory};
 ghost use Rattle.ifr_scopes.specs.Nodes.{nodes_of};
 ghost use Rattle.hii_varstore.specs.Layout.{size_of};
-ghost use Rattle.hii_varstore.specs.Faults.{IsNoMemory};
 ghost use Rattle.hii_varstore.specs.StoreNodes.{layout_of, IsStoreFault};
 ghost use Rattle.hii_varstore.specs.Table.{AreBuffers};
 
 use crate::buffer::Buffer;
-use crate::fault::no_memory;
 use crate::table::Table;
 use crate::varstores::read_buffers;
 use hii_bytes::{Fault, Guid};
@@ -56,10 +54,10 @@ impl<'a> Layout<'a> {
     ) -> Result<Layout<'a>, Fault>
         requires { AreBuffers buffers.items }
         ensures made { IfOk result (λ layout. layout ≡ record { guid = guid.entry.bytes.now; buffers = buffers.items }) }
-        ensures refused { IfErr result IsNoMemory }
+        ensures refused { IfErr result (λ fault. fault ≡ out_of_memory) }
     {
         let Ok(table) = Table::new(alloc, buffers) else {
-            return no_memory();
+            return Err(Fault::out_of_memory());
         };
         Ok(Layout { guid, table })
     }

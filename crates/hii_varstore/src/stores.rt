@@ -1,16 +1,15 @@
 //! What the buffer stores of a form set hold.
 
-ghost use Rattle.std.specs.Prelude.{◌≡◌, ◌⊎◌, IfOk, IfErr, length, map, option_copied, Some};
-ghost use Rattle.hii_bytes.specs.Faults.{IsLeast};
+ghost use Rattle.std.specs.Prelude.{◌≡◌, IfOk, IfErr, length, map, option_copied, Some};
+ghost use Rattle.hii_bytes.specs.Faults.{Refuses, out_of_memory};
 ghost use Rattle.hii_bytes.specs.Watching.{pen_of, Writes, Tells};
 ghost use Rattle.hii_varstore.specs.Stores.{StoreMap, buffer_of, shape_of, bytes_of, field_of};
 ghost use Rattle.hii_varstore.specs.Layout.{HasRange};
 ghost use Rattle.hii_varstore.specs.Lending.{LendsField};
 ghost use Rattle.std.specs.Borrow.{sem};
 ghost use Rattle.hii_varstore.specs.Image.{image_of, SpellsImage};
-ghost use Rattle.hii_varstore.specs.Faults.{IsImageFault, IsNoMemory};
+ghost use Rattle.hii_varstore.specs.Faults.{IsImageFault};
 
-use crate::fault::no_memory;
 use crate::image::{MARK, put_stores, read_head, read_stores};
 use crate::layout::Layout;
 use crate::store::Store;
@@ -49,14 +48,14 @@ impl Stores {
     /// Bytes left over are StoreTrailing (55) at the first of them. A refused growth is OutOfMemory (60) at 0.
     pub fn read(alloc: Global, layout: &Layout<'_>, image: &[u8]) -> Result<Stores, Fault>
         ensures spelled { IfOk result (SpellsImage layout.now image.now) }
-        ensures refused { IfErr result (λ fault. IsNoMemory fault ⊎ IsLeast (IsImageFault layout.now image.now) fault) }
+        ensures refused { IfErr result (Refuses (IsImageFault layout.now image.now)) }
         // Where the image spells stores, nothing but want of memory refuses it.
-        ensures accepted { (stores : StoreMap) → SpellsImage layout.now image.now stores → IfErr result IsNoMemory }
+        ensures accepted { (stores : StoreMap) → SpellsImage layout.now image.now stores → IfErr result (λ fault. fault ≡ out_of_memory) }
     {
         let place = read_head(layout.guid().bytes(), image)?;
         let stores = read_stores(alloc, layout.table(), image, place)?;
         let Ok(table) = layout.table().copy(alloc) else {
-            return no_memory();
+            return Err(Fault::out_of_memory());
         };
         let mut guid = [0; 16];
         guid.copy_from_slice(layout.guid().bytes());
@@ -70,13 +69,13 @@ impl Stores {
     /// A second set of the same stores, or OutOfMemory (60) at 0 where a growth is refused.
     pub fn copy(&self, alloc: Global) -> Result<Stores, Fault>
         ensures same { IfOk result (λ stores. stores ≡ self.now) }
-        ensures refused { IfErr result IsNoMemory }
+        ensures refused { IfErr result (λ fault. fault ≡ out_of_memory) }
     {
         let Ok(table) = self.table.copy(alloc) else {
-            return no_memory();
+            return Err(Fault::out_of_memory());
         };
         let Ok(stores) = copies(alloc, &self.stores) else {
-            return no_memory();
+            return Err(Fault::out_of_memory());
         };
         Ok(Stores {
             guid: self.guid,

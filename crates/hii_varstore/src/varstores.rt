@@ -10,7 +10,7 @@ ghost use Rattle.hii_varstore.specs.StoreNodes.{declared_buffer, is_taken, IsRep
 ghost use Rattle.hii_varstore.specs.Table.{AreBuffers};
 
 use crate::buffer::Buffer;
-use crate::fault::{fault_at, no_memory};
+use crate::fault::fault_at;
 use hii_bytes::{Cause, Fault};
 use ifr_scopes::{Varstore, Varstores};
 use std::alloc::{AllocError, Global};
@@ -50,11 +50,11 @@ pub(crate) fn read_buffers(alloc: Global, stores: Varstores<'_>) -> Result<Vec<B
         match meets_again(&mut ids, store.id()) {
             Ok(false) => {}
             Ok(true) => return fault_at(Cause::DuplicateVarstore, store.place() as usize),
-            Err(AllocError) => return no_memory(),
+            Err(AllocError) => return Err(Fault::out_of_memory()),
         }
         if let Some(buffer) = read_buffer(store) {
             if buffers.push(buffer).is_err() {
-                return no_memory();
+                return Err(Fault::out_of_memory());
             }
         }
     }

@@ -4,7 +4,7 @@ use Rattle.hii_packages.specs.Package.{entry_of}
 use Rattle.ifr_scopes.specs.Lists.{form_node}
 use Rattle.hii_varstore.specs.Stores.{shape_of}
 use Rattle.hii_questions.specs.Survey.{Survey}
-use Rattle.browser_core.proofs.OpeningLemmas.{as_memory, only_memory, refuses_source, refuses_texts, refuses_package, refuses_stores, refuses_questions, refuses_image, is_found, browsable, opened}
+use Rattle.browser_core.proofs.OpeningLemmas.{only_memory, refuses_source, refuses_texts, refuses_package, refuses_stores, refuses_questions, refuses_image, is_found, browsable, opened}
 use Rattle.browser_core.proofs.browser.Core.open.Goals as goal
 
 pub returns-in_err-found-clause-accepted : goal.returns-in_err-found-clause-accepted
@@ -65,7 +65,7 @@ returns-in_err-committed-clause-accepted c =
 pub returns-in_err-trial-clause-accepted : goal.returns-in_err-trial-clause-accepted
 returns-in_err-trial-clause-accepted c =
     let p = err_from_is_err_and c.from_residual-in_err-trial.result c.from_residual-in_err-trial.ensures.1 in
-    λ start o. rw (p.1, p.2) (as_memory _ c.in_err-trial.ensures.refused)
+    λ start o. rw (p.1, p.2) c.in_err-trial.ensures.refused
 
 pub returns-in_err-removed-clause-accepted : goal.returns-in_err-removed-clause-accepted
 returns-in_err-removed-clause-accepted c =
