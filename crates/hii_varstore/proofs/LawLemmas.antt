@@ -48,3 +48,9 @@ one_map_of m n image laid (inr p) (inr q) = same_map m n laid (ap (drop 4) (sym 
 
 pub one_map : (shape : Shape) (image : List ℕ) (m n : StoreMap) → SpellsImage shape image m → SpellsImage shape image n → m ≡ n
 one_map shape image m n p q = one_map_of m n image (p.laid ∙ sym q.laid) p.form q.form
+
+-- what an older image spells are its stores
+pub written_anew : (m read : StoreMap) → SpellsImage (shape_of m) (older_image_of m) read → image_of read ≡ image_of m
+written_anew m read spelled =
+    let own : SpellsImage (shape_of m) (older_image_of m) m = record { form = inr refl; laid = refl } in
+    ap image_of (one_map (shape_of m) (older_image_of m) read m spelled own)

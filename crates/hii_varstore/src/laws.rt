@@ -1,18 +1,11 @@
 //! Laws of the definitions that the contracts cite.
 
-ghost use Rattle.std.specs.Prelude.{◌≡◌, ◌⊎◌, ◌+◌, ◌≤◌, ◌<◌, ◌++◌, ◌∷◌, [], ℕ, List, Some, IfOk, length, option_map, if◌then◌else◌, ◌==◌, replicate};
+ghost use Rattle.std.specs.Prelude.{◌≡◌, ◌⊎◌, ◌+◌, ◌≤◌, ◌<◌, ◌++◌, ℕ, List, Some, length, option_map, if◌then◌else◌, ◌==◌};
 ghost use Rattle.hii_bytes.specs.Faults.{HasNone};
-ghost use Rattle.hii_bytes.specs.Watching.{pen_of, Tells};
 ghost use Rattle.hii_varstore.specs.Layout.{Shape, size_of, HasRange};
 ghost use Rattle.hii_varstore.specs.Stores.{StoreMap, shape_of, bytes_of, byte_of, field_of, overwritten, with_bytes};
 ghost use Rattle.hii_varstore.specs.Image.{image_of, older_image_of, SpellsImage};
 ghost use Rattle.hii_varstore.specs.Faults.{IsImageFault};
-
-use crate::layout::Layout;
-use crate::stores::Stores;
-use hii_bytes::{Fault, Watched, WriteFault};
-use std::alloc::Global;
-use std::io::Write;
 
 /// An image spells one map of stores at most.
 pub fn one_map_is_spelled()
@@ -35,20 +28,10 @@ pub fn images_without_fault_are_spelled()
     ensures { (shape : Shape) (image : List ℕ) → HasNone (IsImageFault shape image) → (m : StoreMap) × SpellsImage shape image m }
 {}
 
-/// What is read of an image in the older form is written in the form with the GUID, as the same stores.
-pub fn an_older_image_is_written_anew<W: Write>(
-    alloc: Global,
-    layout: &Layout<'_>,
-    image: &[u8],
-    out: &mut Watched<W>,
-) -> Result<Result<(), WriteFault>, Fault>
-    ensures { (m : StoreMap) → shape_of m ≡ layout.now → image.now ≡ older_image_of m
-        → IfOk result (λ told. Tells (pen_of W.contents out.old) (pen_of W.contents out.new) told (image_of m)) }
-{
-    one_map_is_spelled();
-    let stores = Stores::read(alloc, layout, image)?;
-    Ok(stores.image_into(out))
-}
+/// The stores that an image in the older form spells are written in the form with the GUID, as the image of the same stores.
+pub fn an_older_image_is_written_anew()
+    ensures { (m read : StoreMap) → SpellsImage (shape_of m) (older_image_of m) read → image_of read ≡ image_of m }
+{}
 
 /// The size of a store is the number of its bytes.
 pub fn sizes_are_those_of_the_bytes()
@@ -88,10 +71,4 @@ pub fn a_write_keeps_the_shape()
 pub fn two_writes_are_one()
     ensures { (m : StoreMap) (id offset : ℕ) (front rest : List ℕ)
         → with_bytes (with_bytes m id offset front) id (offset + length front) rest ≡ with_bytes m id offset (front ++ rest) }
-{}
-
-/// The image of one store: the mark, the GUID, and one store of the id 1 with the bytes 01 00.
-pub fn an_image_in_bytes()
-    ensures { image_of record { guid = replicate 16 0x22; stores = record { id = 1; bytes = 1 ∷ 0 ∷ [] } ∷ [] }
-        ≡ 0x48 ∷ 0x56 ∷ 0x53 ∷ 0x32 ∷ (replicate 16 0x22 ++ (1 ∷ 0 ∷ 1 ∷ 0 ∷ 2 ∷ 0 ∷ 1 ∷ 0 ∷ [])) }
 {}

@@ -102,8 +102,9 @@ impl Write for Limited {
 fn anew(alloc: Global, layout: &Layout<'_>, bytes: &[u8]) -> Result<Vec<u8>, Fail> {
     let mut image = Vec::from_slice(alloc, &OLDER)?;
     image.extend_from_slice(bytes)?;
+    let stores = Stores::read(alloc, layout, &image)?;
     let mut out = Watched::new(Vec::new(alloc));
-    laws::an_older_image_is_written_anew(alloc, layout, &image, &mut out)??;
+    stores.image_into(&mut out)?;
     Ok(out.into_inner())
 }
 
