@@ -1,6 +1,7 @@
 pub mod Texts
 pub mod RowValues
 pub mod Pieces
+pub mod PageViews
 pub mod Elements
 pub mod CharViews
 pub mod RowViews

@@ -1,11 +1,10 @@
 -- What the values of a page stand for.
 use Rattle.std.specs.Prelude.{is_none, List, filter}
 use Rattle.ifr_scopes.specs.Lists.{statements_left}
-use Rattle.hii_languages.specs.Shown.{shown_text}
-use Rattle.hii_languages.specs.Views.{choice_of, text_of}
+use Rattle.hii_languages.specs.Views.{text_of}
 use Rattle.guard_policy.specs.Policy.{hidden}
-use Rattle.guard_policy.specs.Views.{world}
 use Rattle.guard_policy.specs.declared.conditions.Conditions.{Ghosts}
+use Rattle.form_page.specs.PageViews.{texts_of, world_of}
 use Rattle.form_page.specs.Pages.{rows_from}
 use Rattle.form_page.specs.Pages as pages
 use Rattle.form_page.specs.RowViews.{value_text}
@@ -18,5 +17,5 @@ row_seen row = record { number = row.number; mark = row.mark; question = row.que
 
 abbrev pub rows_left : {C : Type 0} {g : Ghosts C} → Rows C g → List pages.Row
 rows_left it =
-    let w = world it.page.policy it.page.stores.now in
-    rows_from (shown_text it.page.languages.now (choice_of it.page.choice)) w it.number (filter (λ n. is_none (hidden w n)) (statements_left it.statements))
+    let w = world_of it.page in
+    rows_from (texts_of it.page) w it.number (filter (λ n. is_none (hidden w n)) (statements_left it.statements))

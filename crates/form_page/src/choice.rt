@@ -6,9 +6,9 @@ ghost use Rattle.ifr_scopes.specs.Parts.{option_node};
 ghost use Rattle.guard_policy.specs.Policy.{hidden};
 ghost use Rattle.ifr_scopes.specs.Checked.{IsNodeOf, IsNodeOf-prop};
 ghost use Rattle.ifr_scopes.specs.Lists.{statement_node};
-ghost use Rattle.hii_languages.specs.Shown.{shown_text};
-ghost use Rattle.hii_languages.specs.Views.{choice_of, text_of};
-ghost use Rattle.guard_policy.specs.Views.{bytes_of, world};
+ghost use Rattle.hii_languages.specs.Views.{text_of};
+ghost use Rattle.guard_policy.specs.Views.{bytes_of};
+ghost use Rattle.form_page.specs.PageViews.{texts_of, world_of};
 ghost use Rattle.form_page.specs.RowValues.{choice};
 
 use crate::decisions::is_option_listed;
@@ -22,7 +22,7 @@ use std::alloc::AllocError;
 // Whether an option has a value and is not hidden.
 fn is_choice<'a, C: Conditions>(page: Page<'a, '_, C>, option: OptionView<'a>, value: u64) -> bool
     requires { IsNodeOf (bytes_of page.policy) (option_node option) }
-    ensures { result ≡ ((option_value (option_node option.entry).op == value) && is_none (hidden (world page.entry.policy page.entry.stores.now) (option_node option.entry))) }
+    ensures { result ≡ ((option_value (option_node option.entry).op == value) && is_none (hidden (world_of page.entry) (option_node option.entry))) }
 {
     option.op().value() == value && is_option_listed(page, option)
 }
@@ -34,7 +34,7 @@ pub(crate) fn option_text<'a, C: Conditions>(
     value: u64,
 ) -> Option<Shown<'a>>
     requires { IsNodeOf (bytes_of page.policy) (statement_node statement) }
-    ensures { option_map text_of result ≡ choice (shown_text page.entry.languages.now (choice_of page.entry.choice)) (world page.entry.policy page.entry.stores.now) (statement_node statement.entry) value }
+    ensures { option_map text_of result ≡ choice (texts_of page.entry) (world_of page.entry) (statement_node statement.entry) value }
 {
     // The package is accepted: its options are nodes of it.
     page.policy.forms().bytes();

@@ -5,7 +5,8 @@ ghost use Rattle.ifr_scopes.specs.Checked.{IsNodeOf};
 ghost use Rattle.ifr_scopes.specs.Lists.{statement_node};
 ghost use Rattle.ifr_scopes.specs.Parts.{option_node};
 ghost use Rattle.guard_policy.specs.Policy.{hidden, fixed};
-ghost use Rattle.guard_policy.specs.Views.{bytes_of, world};
+ghost use Rattle.guard_policy.specs.Views.{bytes_of};
+ghost use Rattle.form_page.specs.PageViews.{world_of};
 
 use crate::page::Page;
 use guard_policy::Conditions;
@@ -15,7 +16,7 @@ use ifr_scopes::{OptionView, Statement};
 /// Whether a statement is seen.
 pub(crate) fn is_listed<'a, C: Conditions>(page: Page<'a, '_, C>, statement: Statement<'a>) -> bool
     requires { IsNodeOf (bytes_of page.policy) (statement_node statement) }
-    ensures { result ≡ is_none (hidden (world page.entry.policy page.entry.stores.now) (statement_node statement.entry)) }
+    ensures { result ≡ is_none (hidden (world_of page.entry) (statement_node statement.entry)) }
 {
     what_is_kept_tells();
     // The package is accepted.
@@ -26,7 +27,7 @@ pub(crate) fn is_listed<'a, C: Conditions>(page: Page<'a, '_, C>, statement: Sta
 /// Whether a statement may not be changed.
 pub(crate) fn is_fixed<'a, C: Conditions>(page: Page<'a, '_, C>, statement: Statement<'a>) -> bool
     requires { IsNodeOf (bytes_of page.policy) (statement_node statement) }
-    ensures { result ≡ is_some (fixed (world page.entry.policy page.entry.stores.now) (statement_node statement.entry)) }
+    ensures { result ≡ is_some (fixed (world_of page.entry) (statement_node statement.entry)) }
 {
     what_is_kept_tells();
     // The package is accepted.
@@ -42,7 +43,7 @@ pub(crate) fn is_option_listed<'a, C: Conditions>(
     option: OptionView<'a>,
 ) -> bool
     requires { IsNodeOf (bytes_of page.policy) (option_node option) }
-    ensures { result ≡ is_none (hidden (world page.entry.policy page.entry.stores.now) (option_node option.entry)) }
+    ensures { result ≡ is_none (hidden (world_of page.entry) (option_node option.entry)) }
 {
     what_is_kept_tells();
     // The package is accepted.

@@ -4,7 +4,6 @@ ghost use Rattle.std.specs.Prelude.{◌≡◌, ◌+◌, ◌<◌, ◌^◌, length
 ghost use Rattle.ifr_opcodes.specs.Fields.{form_title};
 ghost use Rattle.ifr_scopes.specs.Checked.{IsNodeOf, IsNodeOf-prop, AreNodesOf, AreNodesOf-prop};
 ghost use Rattle.ifr_scopes.specs.Lists.{form_node, statements_left};
-ghost use Rattle.hii_languages.specs.Shown.{shown_text};
 ghost use Rattle.hii_languages.specs.Views.{choice_of, text_of};
 ghost use Rattle.guard_policy.specs.Support.{TellsAll, TellsAll-prop};
 ghost use Rattle.guard_policy.specs.Views.{bytes_of, world};
@@ -60,6 +59,7 @@ pub struct Rows<'a, 's, C: Conditions> {
 }
 
 impl<'a, 's, C: Conditions> Page<'a, 's, C> {
+    ghost use Rattle.form_page.specs.PageViews.{texts_of, world_of};
     ghost use Rattle.form_page.specs.Views.{rows_left};
 
     /// The page of a form of the policy's package, with texts in the chosen language. The questions are those of this package, and
@@ -95,14 +95,14 @@ impl<'a, 's, C: Conditions> Page<'a, 's, C> {
 
     /// The title of the form.
     pub fn title(&self) -> Shown<'a>
-        ensures { text_of result ≡ shown_text self.now.languages.now (choice_of self.now.choice) (form_title (form_node self.now.form).op) }
+        ensures { text_of result ≡ texts_of self.now (form_title (form_node self.now.form).op) }
     {
         self.languages.text(self.choice, self.form.op().title())
     }
 
     /// Its rows: one for each statement of the form that is not hidden.
     pub fn rows(&self) -> Rows<'a, 's, C>
-        ensures { rows_left result ≡ pages.rows (shown_text self.now.languages.now (choice_of self.now.choice)) (world self.now.policy self.now.stores.now) (form_node self.now.form) }
+        ensures { rows_left result ≡ pages.rows (texts_of self.now) (world_of self.now) (form_node self.now.form) }
     {
         statements_are_few();
         statements_are_nodes();

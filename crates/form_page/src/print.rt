@@ -4,9 +4,7 @@ ghost use Rattle.std.specs.Prelude.{◌≡◌};
 ghost use Rattle.std.specs.List.{flat_map};
 ghost use Rattle.hii_bytes.specs.Watching.{pen_of, Writes, Tells};
 ghost use Rattle.ifr_scopes.specs.Lists.{form_node};
-ghost use Rattle.hii_languages.specs.Shown.{shown_text};
-ghost use Rattle.hii_languages.specs.Views.{choice_of};
-ghost use Rattle.guard_policy.specs.Views.{world};
+ghost use Rattle.form_page.specs.PageViews.{texts_of, world_of};
 ghost use Rattle.form_page.specs.Pages as pages;
 ghost use Rattle.form_page.specs.Views.{rows_left};
 
@@ -30,7 +28,7 @@ impl<'a, 's, C: Conditions> Page<'a, 's, C> {
     /// Writes the page: a line with the form's id and title, and a line for each row. A writer's fault is answered with the
     /// bytes that were written before it.
     pub fn write_page<W: Write>(&self, out: &mut Watched<W>) -> Result<(), WriteFault>
-        ensures { Tells (pen_of W.contents out.old) (pen_of W.contents out.new) result (pages.page_text (shown_text self.now.languages.now (choice_of self.now.choice)) (world self.now.policy self.now.stores.now) (form_node self.now.form)) }
+        ensures { Tells (pen_of W.contents out.old) (pen_of W.contents out.new) result (pages.page_text (texts_of self.now) (world_of self.now) (form_node self.now.form)) }
     {
         out.restart();
         self.put_page(out);
@@ -44,7 +42,7 @@ impl<'a, 's, C: Conditions> Page<'a, 's, C> {
 
     /// Writes the page as one of several texts: a fault of the writer is asked of the writer.
     pub fn put_page<W: Write>(&self, out: &mut Watched<W>)
-        ensures { Writes (pen_of W.contents out.old) (pen_of W.contents out.new) (pages.page_text (shown_text self.now.languages.now (choice_of self.now.choice)) (world self.now.policy self.now.stores.now) (form_node self.now.form)) }
+        ensures { Writes (pen_of W.contents out.old) (pen_of W.contents out.new) (pages.page_text (texts_of self.now) (world_of self.now) (form_node self.now.form)) }
     {
         out.put(b"FORM ");
         out.put_decimal(u64::from(self.form.op().id()));

@@ -14,7 +14,7 @@ use hii_bytes::Watched;
 use hii_languages::Shown;
 use std::io::Write;
 
-/// A row of a page.
+/// A row of a page, for one statement (own rule).
 #[derive_where(Clone, Copy)]
 pub struct Row<'a, 's, C: Conditions> {
     /// Its number on the page, from 1.
@@ -23,7 +23,9 @@ pub struct Row<'a, 's, C: Conditions> {
     pub mark: u8,
     /// The id of its question, if the statement is one.
     pub question: Option<u16>,
+    /// Its prompt, whole: only its line is cut, to 24 columns.
     pub prompt: Shown<'a>,
+    /// What stands between its brackets.
     pub value: RowValue<'a, 's, C>,
 }
 

@@ -33,6 +33,7 @@ pub enum RowValue<'a, 's, C: Conditions> {
     Password(bool),
     /// The id of the form to which a reference leads, if it leads to one.
     Reference(Option<u16>),
+    /// The word `reset`, where the statement is a RESET_BUTTON.
     ResetButton,
     /// A text of the list.
     Text(Shown<'a>),

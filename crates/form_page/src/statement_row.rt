@@ -4,9 +4,8 @@ ghost use Rattle.std.specs.Prelude.{◌≡◌};
 ghost use Rattle.ifr_opcodes.specs.Ops.{bytes_of as op_bytes};
 ghost use Rattle.ifr_scopes.specs.Checked.{IsNodeOf};
 ghost use Rattle.ifr_scopes.specs.Lists.{statement_node, kind_op};
-ghost use Rattle.hii_languages.specs.Shown.{shown_text};
-ghost use Rattle.hii_languages.specs.Views.{choice_of};
-ghost use Rattle.guard_policy.specs.Views.{bytes_of, world};
+ghost use Rattle.guard_policy.specs.Views.{bytes_of};
+ghost use Rattle.form_page.specs.PageViews.{texts_of, world_of};
 ghost use Rattle.form_page.specs.Pages as pages;
 ghost use Rattle.form_page.specs.Views.{row_seen};
 
@@ -44,7 +43,7 @@ pub(crate) fn row_of<'a, 's, C: Conditions>(
     statement: Statement<'a>,
 ) -> Row<'a, 's, C>
     requires { IsNodeOf (bytes_of page.policy) (statement_node statement) }
-    ensures { row_seen result ≡ pages.row_of (shown_text page.entry.languages.now (choice_of page.entry.choice)) (world page.entry.policy page.entry.stores.now) number (statement_node statement.entry) }
+    ensures { row_seen result ≡ pages.row_of (texts_of page.entry) (world_of page.entry) number (statement_node statement.entry) }
 {
     Row {
         number,

@@ -9,9 +9,8 @@ ghost use Rattle.ifr_scopes.specs.Lists.{statement_node};
 ghost use Rattle.ifr_scopes.specs.Nodes.{nodes_of, is_question};
 ghost use Rattle.hii_questions.specs.Fields.{asked};
 ghost use Rattle.hii_questions.specs.Views.{question_view};
-ghost use Rattle.hii_languages.specs.Shown.{shown_text};
-ghost use Rattle.hii_languages.specs.Views.{choice_of};
-ghost use Rattle.guard_policy.specs.Views.{bytes_of, world};
+ghost use Rattle.guard_policy.specs.Views.{bytes_of};
+ghost use Rattle.form_page.specs.PageViews.{texts_of, world_of};
 ghost use Rattle.form_page.specs.RowValues as values;
 ghost use Rattle.form_page.specs.RowViews.{value_text};
 
@@ -54,7 +53,7 @@ fn one_of_value<'a, 's, C: Conditions>(
     value: Value<'_>,
 ) -> RowValue<'a, 's, C>
     requires { IsNodeOf (bytes_of page.policy) (statement_node statement) }
-    ensures { value_text result ≡ values.one_of_shown (shown_text page.entry.languages.now (choice_of page.entry.choice)) (world page.entry.policy page.entry.stores.now) (statement_node statement.entry) (value_of value.entry) }
+    ensures { value_text result ≡ values.one_of_shown (texts_of page.entry) (world_of page.entry) (statement_node statement.entry) (value_of value.entry) }
 {
     match value {
         Value::Number(number) => RowValue::OneOf(option_text(page, statement, number)),
@@ -68,7 +67,7 @@ fn list_value<'a, 's, C: Conditions>(
     value: Value<'s>,
 ) -> RowValue<'a, 's, C>
     requires { IsNodeOf (bytes_of page.policy) (statement_node statement) }
-    ensures { value_text result ≡ values.list_shown (shown_text page.entry.languages.now (choice_of page.entry.choice)) (world page.entry.policy page.entry.stores.now) (statement_node statement.entry) (value_of value.entry) }
+    ensures { value_text result ≡ values.list_shown (texts_of page.entry) (world_of page.entry) (statement_node statement.entry) (value_of value.entry) }
 {
     let Value::Buffer(bytes) = value else {
         return RowValue::Empty;
@@ -107,7 +106,7 @@ fn stored_value<'a, 's, C: Conditions>(
 ) -> RowValue<'a, 's, C>
     requires node { IsNodeOf (bytes_of page.policy) (statement_node statement) }
     requires whole { (units : List ℕ) → value_of value ≡ text_value units → length units % 2 ≡ 0 }
-    ensures { value_text result ≡ values.stored_shown (shown_text page.entry.languages.now (choice_of page.entry.choice)) (world page.entry.policy page.entry.stores.now) (statement_node statement.entry) (value_of value.entry) }
+    ensures { value_text result ≡ values.stored_shown (texts_of page.entry) (world_of page.entry) (statement_node statement.entry) (value_of value.entry) }
 {
     let kind = statement.kind();
     if let StatementKind::Checkbox(_) = kind {
@@ -150,7 +149,7 @@ fn question_value<'a, 's, C: Conditions>(
     statement: Statement<'a>,
 ) -> RowValue<'a, 's, C>
     requires { IsNodeOf (bytes_of page.policy) (statement_node statement) }
-    ensures { value_text result ≡ values.question_shown (shown_text page.entry.languages.now (choice_of page.entry.choice)) (world page.entry.policy page.entry.stores.now) (statement_node statement.entry) }
+    ensures { value_text result ≡ values.question_shown (texts_of page.entry) (world_of page.entry) (statement_node statement.entry) }
 {
     match question_of(page, statement) {
         Some(question) => stored_value(page, statement, read_value(question, page.stores)),
@@ -164,7 +163,7 @@ pub(crate) fn statement_value<'a, 's, C: Conditions>(
     statement: Statement<'a>,
 ) -> RowValue<'a, 's, C>
     requires { IsNodeOf (bytes_of page.policy) (statement_node statement) }
-    ensures { value_text result ≡ values.value_shown (shown_text page.entry.languages.now (choice_of page.entry.choice)) (world page.entry.policy page.entry.stores.now) (statement_node statement.entry) }
+    ensures { value_text result ≡ values.value_shown (texts_of page.entry) (world_of page.entry) (statement_node statement.entry) }
 {
     match statement.kind() {
         StatementKind::Text(op) => RowValue::Text(page.languages.text(page.choice, op.second())),

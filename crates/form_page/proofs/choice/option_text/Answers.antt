@@ -7,10 +7,9 @@ use Rattle.ifr_scopes.specs.Accepted.{IsAccepted}
 use Rattle.ifr_scopes.specs.Lists.{statement_node}
 use Rattle.ifr_scopes.specs.Nodes.{options}
 use Rattle.ifr_scopes.specs.Parts.{option_node, options_left}
-use Rattle.hii_languages.specs.Shown.{shown_text}
-use Rattle.hii_languages.specs.Views.{choice_of}
 use Rattle.guard_policy.specs.Policy.{hidden}
-use Rattle.guard_policy.specs.Views.{bytes_of, world}
+use Rattle.guard_policy.specs.Views.{bytes_of}
+use Rattle.form_page.specs.PageViews.{texts_of, world_of}
 use Rattle.form_page.specs.RowValues.{option_with}
 use Rattle.guard_policy.proofs.OptionLemmas.{options_are_nodes, first_of, rest_of}
 use Rattle.form_page.proofs.choice.option_text.Goals as goal
@@ -25,8 +24,8 @@ is_choice-requires g c = first_of _ _ _ _ c.in-Some.ensures.steps c.loop-option.
 
 pub returns-then-is_choice : goal.returns-then-is_choice
 returns-then-is_choice g c =
-    let w = world c.args.page.policy c.args.page.stores.now in
-    let texts = shown_text c.args.page.languages.now (choice_of c.args.page.choice) in
+    let w = world_of c.args.page in
+    let texts = texts_of c.args.page in
     let o = option_node c.in-Some.option in
     let value = c.args.value in
     let rest = option_with w (options_left c.next.new.self) value in
@@ -37,7 +36,7 @@ returns-then-is_choice g c =
 
 pub loop-option-preserved : goal.loop-option-preserved
 loop-option-preserved g c =
-    let w = world c.args.page.policy c.args.page.stores.now in
+    let w = world_of c.args.page in
     let o = option_node c.in-Some.option in
     let value = c.args.value in
     let passed = cond-false ((option_value o.op == value) && is_none (hidden w o)) (Some o) (option_with w (options_left c.next.new.self) value) (sym c.is_choice.ensures ∙ c.if-is_choice.false) in

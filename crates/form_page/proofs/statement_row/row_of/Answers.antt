@@ -1,8 +1,7 @@
 use Rattle.std.proofs.Common.{◌∙◌, refl, ap, List, ℕ}
 use Rattle.ifr_opcodes.specs.Fields.{statement_prompt}
 use Rattle.ifr_scopes.specs.Lists.{statement_node}
-use Rattle.hii_languages.specs.Shown.{shown_text}
-use Rattle.hii_languages.specs.Views.{choice_of}
+use Rattle.form_page.specs.PageViews.{texts_of}
 use Rattle.form_page.specs.Pages.{mark_of}
 use Rattle.form_page.proofs.statement_row.row_of.Goals as goal
 
@@ -10,5 +9,5 @@ pub returns : goal.returns
 returns g c =
     let n = statement_node c.args.statement in
     let mark = c.mark_of.ensures ∙ ap (λ (op : List ℕ). mark_of op c.is_fixed.result) c.kind.ensures.bytes ∙ ap (mark_of n.op) c.is_fixed.ensures in
-    let prompt = c.text.ensures.characters ∙ ap (shown_text c.args.page.languages.now (choice_of c.args.page.choice)) (c.prompt.ensures ∙ ap statement_prompt c.op.ensures.bytes) in
+    let prompt = c.text.ensures.characters ∙ ap (texts_of c.args.page) (c.prompt.ensures ∙ ap statement_prompt c.op.ensures.bytes) in
     rw (mark, c.id_of.ensures, prompt, c.statement_value.ensures) refl

@@ -2,12 +2,11 @@ use Rattle.std.proofs.Common.{◌∙◌, sym, ap}
 use Rattle.std.proofs.lemmas.Bool.{cond-true}
 use Rattle.ifr_scopes.specs.Lists.{statement_node}
 use Rattle.ifr_scopes.specs.Nodes.{nodes_of, is_question}
-use Rattle.hii_languages.specs.Shown.{shown_text}
-use Rattle.hii_languages.specs.Views.{choice_of}
 use Rattle.hii_questions.specs.Answers.{value_of_field}
 use Rattle.hii_questions.specs.Fields.{Asked}
 use Rattle.hii_questions.specs.Views.{question_node, question_view}
-use Rattle.guard_policy.specs.Views.{bytes_of, world}
+use Rattle.guard_policy.specs.Views.{bytes_of}
+use Rattle.form_page.specs.PageViews.{texts_of, world_of}
 use Rattle.form_page.specs.RowValues.{stored_shown}
 use Rattle.form_page.proofs.StatementLemmas.{asked_is}
 use Rattle.form_page.proofs.WholeTexts.{whole_texts}
@@ -24,5 +23,5 @@ returns-in-Some g c =
     let stores = c.args.page.stores.now in
     let is = asked_is ns n (question_view c.in-Some.question) c.in-Some.ensures in
     let value = c.read_value.ensures ∙ ap (λ (q : Asked). value_of_field stores q.node q.field) is.1 in
-    c.stored_value.ensures ∙ ap (stored_shown (shown_text c.args.page.languages.now (choice_of c.args.page.choice)) (world c.args.page.policy stores) n) value
+    c.stored_value.ensures ∙ ap (stored_shown (texts_of c.args.page) (world_of c.args.page) n) value
     ∙ sym (cond-true (is_question n) _ _ is.0)

@@ -2,15 +2,14 @@ use Rattle.std.proofs.Common.{◌≡◌, ◌∙◌, ◌+◌, ◌∷◌, true, sy
 use Rattle.std.specs.Prelude.{filter, is_none}
 use Rattle.ifr_opcodes.specs.Forest.{Placed}
 use Rattle.ifr_scopes.specs.Lists.{statements_left}
-use Rattle.hii_languages.specs.Shown.{shown_text}
-use Rattle.hii_languages.specs.Views.{choice_of}
 use Rattle.guard_policy.specs.Policy.{hidden}
 use Rattle.form_page.specs.Pages as pages
 use Rattle.form_page.specs.Pages.{rows_from}
 use Rattle.form_page.specs.Views.{row_seen}
 use Rattle.ifr_scopes.specs.Checked.{IsNodeOf}
 use Rattle.ifr_scopes.specs.Lists.{statement_node}
-use Rattle.guard_policy.specs.Views.{bytes_of, world}
+use Rattle.guard_policy.specs.Views.{bytes_of}
+use Rattle.form_page.specs.PageViews.{texts_of, world_of}
 use Rattle.form_page.specs.declared.page.Page.{Page}
 use Rattle.guard_policy.proofs.OptionLemmas.{first_of, rest_of}
 use Rattle.form_page.proofs.StatementLemmas.{rows_first}
@@ -41,12 +40,12 @@ pub returns-then-is_listed-clause-steps : goal.returns-then-is_listed-clause-ste
 returns-then-is_listed-clause-steps g c =
     let it = c.loop-statement.self in
     let n = statement_node c.in-Some.statement in
-    let w = world it.page.policy it.page.stores.now in
-    let texts = shown_text it.page.languages.now (choice_of it.page.choice) in
+    let w = world_of it.page in
+    let texts = texts_of it.page in
     let same = c.loop-statement.invariant.0 in
     let shown : is_none (hidden w n) ≡ true =
-    subst (λ (page : Page _ _). is_none (hidden (world page.policy page.stores.now) n) ≡ true) same (sym c.is_listed.ensures ∙ c.if-is_listed.true) in
+    subst (λ (page : Page _ _). is_none (hidden (world_of page) n) ≡ true) same (sym c.is_listed.ensures ∙ c.if-is_listed.true) in
     let row : row_seen c.row_of-row.result ≡ pages.row_of texts w it.number n =
-    subst (λ (page : Page _ _). row_seen c.row_of-row.result ≡ pages.row_of (shown_text page.languages.now (choice_of page.choice)) (world page.policy page.stores.now) it.number n) same c.row_of-row.ensures in
+    subst (λ (page : Page _ _). row_seen c.row_of-row.result ≡ pages.row_of (texts_of page) (world_of page) it.number n) same c.row_of-row.ensures in
     let later = rows_from texts w (it.number + 1) (filter (λ (m : Placed). is_none (hidden w m)) (statements_left c.next.new.self)) in
     sym c.loop-statement.invariant.1 ∙ rows_first texts w it.number _ _ n c.in-Some.ensures.steps shown ∙ ap (λ (r : pages.Row). r ∷ later) (sym row)
