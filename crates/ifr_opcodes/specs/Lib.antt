@@ -5,6 +5,7 @@ pub mod Ops
 pub mod Operators
 pub mod Codes
 pub mod Kinds
+pub mod Standard
 pub mod StoreFields
 pub mod QuestionFields
 pub mod OptionFields

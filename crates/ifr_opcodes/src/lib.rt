@@ -13,6 +13,7 @@ mod expressions;
 mod forms;
 mod inconsistent_if;
 mod kinds;
+pub mod laws;
 mod no_submit_if;
 mod numbers;
 mod numeric;
