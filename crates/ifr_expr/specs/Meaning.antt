@@ -60,7 +60,7 @@ value rules answers this tree = value_over (rule_values rules answers) answers t
 abbrev pub named : List Rule → ℕ → ℕ → Option Rule
 named rules id place = find (names id place) rules
 
--- Each rule's expression stands before its end, and the rules behind it in the list end before it begins.
+-- Each rule's expression stands before its end, and no rule behind it in the list ends later.
 abbrev pub AreOrdered : List Rule → Type 0
 AreOrdered [] = ⊤
 AreOrdered (r ∷ earlier) = AllByRecursion (λ op. op.place < r.ends) (post r.tree) × (AllByRecursion (λ q. q.ends ≤ r.ends) earlier × AreOrdered earlier)

@@ -1,4 +1,5 @@
--- What the opcodes of an expression name: questions by their ids, the one in whose scope it stands, and rules.
+-- What the opcodes of an expression name: questions by their ids, the one in whose scope it stands, and rules (UEFI 2.8,
+-- 33.3.8.3 Opcode Reference, under the name of each).
 use Rattle.std.specs.Prelude.{◌==◌, if◌then◌else◌, List, [], ◌∷◌, map}
 use Rattle.std.specs.List.{flat_map}
 use Rattle.ifr_opcodes.specs.declared.codes.TheConstants.{RULE_REF, THIS}

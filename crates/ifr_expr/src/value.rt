@@ -5,10 +5,13 @@
 pub enum Value<'v> {
     /// No value: the question has no answer, or the operands do not suit the operator.
     Undefined,
+    /// True or false.
     Boolean(bool),
+    /// A number of 64 bits, without a sign.
     Number(u64),
     /// Units of two bytes each, the lower byte first.
     Text(&'v [u8]),
+    /// Bytes.
     Buffer(&'v [u8]),
 }
 

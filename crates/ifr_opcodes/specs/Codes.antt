@@ -1,4 +1,4 @@
--- The numbers of the operators that have no fields.
+-- The numbers of the operators that have no fields (UEFI 2.8, 33.3.8.3 Opcode Reference, under the name of each).
 use Rattle.std.specs.Prelude.{ℕ}
 use Rattle.ifr_opcodes.specs.declared.codes.TheConstants as code
 use Rattle.ifr_opcodes.specs.declared.operators.Constant.{Constant}

@@ -91,12 +91,19 @@ impl<'a> ExprOp<'a> {
 /// An operator that takes no operands and is no reference to a rule.
 #[derive(Clone, Copy, Debug)]
 pub enum LeafOp<'a> {
+    /// EQ_ID_VAL: whether a question's answer is a number.
     EqIdVal(EqIdValOp<'a>),
+    /// EQ_ID_ID: whether two questions have the same answer.
     EqIdId(EqIdIdOp<'a>),
+    /// EQ_ID_VAL_LIST: whether a question's answer is among numbers.
     EqIdValList(EqIdValListOp<'a>),
+    /// QUESTION_REF1: a question's answer.
     QuestionRef(QuestionRefOp<'a>),
+    /// UINT8, UINT16, UINT32 or UINT64: a number.
     Uint(UintOp<'a>),
+    /// TRUE, FALSE, ZERO, ONE, ONES or UNDEFINED: a value that stands in the opcode's number.
     Constant(ConstantOp<'a>),
+    /// THIS: the answer of the question in whose scope it stands.
     This(ThisOp<'a>),
 }
 

@@ -65,41 +65,65 @@ pub fn is_operator(code: u8) -> bool
 /// An operator whose value stands in its number (UEFI 2.8, 33.3.8.3, EFI_IFR_TRUE and the like).
 #[derive(Clone, Copy, Debug, PartialEq, Eq)]
 pub enum Constant {
+    /// The Boolean true.
     True,
+    /// The Boolean false.
     False,
+    /// The number 0.
     Zero,
+    /// The number 1.
     One,
     /// All bits set.
     Ones,
+    /// No value.
     Undefined,
 }
 
 /// An operator that takes one operand.
 #[derive(Clone, Copy, Debug, PartialEq, Eq)]
 pub enum Unary {
+    /// The other Boolean.
     Not,
+    /// The number with all 64 bits turned.
     BitwiseNot,
 }
 
 /// An operator that takes two operands.
 #[derive(Clone, Copy, Debug, PartialEq, Eq)]
 pub enum Binary {
+    /// Whether both Booleans are true.
     And,
+    /// Whether one of two Booleans is true.
     Or,
+    /// Whether two values are equal.
     Equal,
+    /// Whether two values differ.
     NotEqual,
+    /// Whether the left number is greater.
     GreaterThan,
+    /// Whether the left number is greater or equal.
     GreaterEqual,
+    /// Whether the left number is less.
     LessThan,
+    /// Whether the left number is less or equal.
     LessEqual,
+    /// The bits that both numbers have.
     BitwiseAnd,
+    /// The bits that one of two numbers has.
     BitwiseOr,
+    /// The left number's bits moved to the higher ones, by as many places as the right one says.
     ShiftLeft,
+    /// The left number's bits moved to the lower ones, by as many places as the right one says.
     ShiftRight,
+    /// The sum.
     Add,
+    /// The left number less the right one.
     Subtract,
+    /// The product.
     Multiply,
+    /// The quotient.
     Divide,
+    /// The rest of a division.
     Modulo,
 }
 
