@@ -48,16 +48,6 @@ fn not(value: Value<'_>) -> Outcome
     }
 }
 
-fn inverted(outcome: Outcome) -> Outcome
-    ensures { outcome_value result ≡ spec.negated (outcome_value outcome) }
-{
-    match outcome {
-        Outcome::Boolean(b) => Outcome::Boolean(!b),
-        Outcome::Number(_) => Outcome::Undefined,
-        Outcome::Undefined => Outcome::Undefined,
-    }
-}
-
 fn bitwise_not(value: Value<'_>) -> Outcome
     ensures { outcome_value result ≡ spec.on_numbers (λ x y. spec.natural (2 ^ 64 - 1 - x)) (value_of value.entry) (value_of value.entry) }
 {
@@ -185,7 +175,7 @@ pub(crate) fn binary(operator: Binary, left: Value<'_>, right: Value<'_>) -> Out
         Binary::And => both(left, right),
         Binary::Or => either(left, right),
         Binary::Equal => equal(left, right),
-        Binary::NotEqual => inverted(equal(left, right)),
+        Binary::NotEqual => not(equal(left, right).value()),
         Binary::GreaterThan => on_numbers(Binary::GreaterThan, left, right),
         Binary::GreaterEqual => on_numbers(Binary::GreaterEqual, left, right),
         Binary::LessThan => on_numbers(Binary::LessThan, left, right),

@@ -30,12 +30,6 @@ pub const TYPE_STRING: u8 = 0x07;
 /// EFI_IFR_TYPE_OTHER, the value of an expression.
 pub const TYPE_OTHER: u8 = 0x08;
 
-/// EFI_IFR_TYPE_UNDEFINED.
-pub const TYPE_UNDEFINED: u8 = 0x09;
-
-/// EFI_IFR_TYPE_ACTION.
-pub const TYPE_ACTION: u8 = 0x0a;
-
 /// EFI_IFR_TYPE_BUFFER, all the bytes to the opcode's end.
 pub const TYPE_BUFFER: u8 = 0x0b;
 
