@@ -9,7 +9,8 @@ use Rattle.ifr_expr.specs.Meaning.{leaf_value}
 use Rattle.ifr_expr.specs.Reading.{trees_of, tree_of_opcodes}
 use Rattle.unicode_width.proofs.Computing.{unicode_width}
 use Rattle.sibt_strings.specs.Units.{chars_of_units}
-use Rattle.ifr_scopes.specs.Kinds.{is_question_number, is_statement_number, is_store_number}
+use Rattle.ifr_opcodes.specs.Statements.{is_question_number, is_statement_number}
+use Rattle.ifr_scopes.specs.Kinds.{is_store_number}
 use Rattle.hii_languages.specs.Languages.{Spoken}
 use Rattle.hii_varstore.specs.Image.{image_of}
 use Rattle.hii_varstore.specs.Stores.{StoreMap, with_bytes}

@@ -7,7 +7,7 @@ use Rattle.std.proofs.lemmas.Bool.{eqb-true}
 use Rattle.ifr_opcodes.specs.declared.codes.TheConstants.{ONE_OF_OPTION}
 use Rattle.ifr_opcodes.specs.Forest.{Placed}
 use Rattle.ifr_opcodes.specs.Opcode.{number}
-use Rattle.ifr_scopes.specs.Kinds.{is_question_number}
+use Rattle.ifr_opcodes.specs.Statements.{is_question_number}
 use Rattle.ifr_scopes.specs.Nodes.{is_option, is_question}
 use Rattle.guard_policy.specs.Policy.{covered, fixed, all_fixed}
 use Rattle.guard_policy.specs.World.{World}

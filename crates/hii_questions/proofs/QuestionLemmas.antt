@@ -10,7 +10,7 @@ use Rattle.std.proofs.lemmas.List.Folds.{find-append}
 use Rattle.std.proofs.lemmas.Bool.{cases_Bool, eqb-true, ne_eqb, ltb-true, cond-false, true≢false}
 use Rattle.ifr_opcodes.specs.Fields.{question_id}
 use Rattle.ifr_opcodes.specs.Forest.{Placed}
-use Rattle.ifr_scopes.specs.Kinds.{is_statement_number}
+use Rattle.ifr_opcodes.specs.Statements.{is_statement_number}
 use Rattle.ifr_scopes.specs.Nodes.{is_question, is_statement}
 use Rattle.hii_varstore.specs.Layout.{Shape}
 use Rattle.hii_questions.specs.Fields.{Asked, asked_at, question_with}

@@ -9,7 +9,6 @@ pub mod RuleLemmas
 pub mod EvaluationLemmas
 pub mod DependenceLemmas
 pub mod NodeLemmas
-pub mod FlatLemmas
 pub mod LengthLemmas
 pub mod NameLemmas
 pub mod WorkedValues

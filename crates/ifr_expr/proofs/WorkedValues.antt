@@ -56,6 +56,26 @@ one_and_false : alone (both 21 (plain 83) (plain 71)) ≡ undefined
 unfolding leaf_value number_value binary_value constant_value
 one_and_false = refl
 
+-- a number of 8 bytes, the lowest first
+abbrev wide : List ℕ → Tree
+wide digits = leaf (at_place 0 (69 ∷ 10 ∷ digits))
+
+eight_bytes : alone (wide (8 ∷ 7 ∷ 6 ∷ 5 ∷ 4 ∷ 3 ∷ 2 ∷ 1 ∷ [])) ≡ natural 0x0102030405060708
+unfolding leaf_value number_in
+eight_bytes = refl
+
+-- 2 ^ 63
+abbrev top : Tree
+top = wide (0 ∷ 0 ∷ 0 ∷ 0 ∷ 0 ∷ 0 ∷ 0 ∷ 128 ∷ [])
+
+one_less_top : alone (both 59 (byte 1) top) ≡ natural 0x8000000000000001
+unfolding leaf_value number_value binary_value number_in
+one_less_top = refl
+
+top_times_two : alone (both 60 top (byte 2)) ≡ natural 0
+unfolding leaf_value number_value binary_value number_in
+top_times_two = refl
+
 this_of_no_question : (answers : ℕ → Value) → value [] answers 0 (plain 88) ≡ undefined
 unfolding leaf_value
 this_of_no_question answers = refl
@@ -63,6 +83,14 @@ this_of_no_question answers = refl
 not_of_an_unknown_question : holds (alone (one (at_place 0 (23 ∷ 2 ∷ [])) (leaf (at_place 0 (18 ∷ 134 ∷ 9 ∷ 0 ∷ 0 ∷ 0 ∷ []))))) ≡ false
 unfolding leaf_value unary_value number_in
 not_of_an_unknown_question = refl
+
+not_of_no_answer : alone (one (at_place 0 (23 ∷ 2 ∷ [])) (leaf (at_place 0 (18 ∷ 134 ∷ 9 ∷ 0 ∷ 0 ∷ 0 ∷ [])))) ≡ undefined
+unfolding leaf_value unary_value number_in
+not_of_no_answer = refl
+
+no_answer_among_no_numbers : alone (leaf (at_place 0 (20 ∷ 6 ∷ 1 ∷ 0 ∷ 0 ∷ 0 ∷ []))) ≡ undefined
+unfolding leaf_value number_in
+no_answer_among_no_numbers = refl
 
 abbrev yes_to_all : ℕ → Value
 yes_to_all id = boolean true

@@ -16,4 +16,3 @@ pub mod NamesLeft
 pub mod Supports
 pub mod References
 pub mod ReferencesLeft
-pub mod Flat

@@ -22,7 +22,7 @@ pub struct Expr<'a> {
 }
 
 impl<'a> Expr<'a> {
-    ghost use Rattle.std.specs.Prelude.{◌≡◌, ◌≤◌, ◌<◌, ◌^◌, IfOk, IfErr, IsOk, length, slice_range};
+    ghost use Rattle.std.specs.Prelude.{◌≡◌, ◌≤◌, IfOk, IfErr, IsOk, length, slice_range};
     ghost use Rattle.hii_bytes.specs.Faults.{IsLeast, HasNone};
     ghost use Rattle.ifr_expr.specs.Checked.{marks};
     ghost use Rattle.ifr_expr.specs.Expressions.{tree_of, end_of, operators_left};
@@ -41,10 +41,9 @@ impl<'a> Expr<'a> {
     /// The expression that stands at a range of a package, in bytes from its header: the node of an operator. It is refused
     /// by the least fault: of its opcodes, each by itself (26 to 29, and places in bytes from the package's header), or
     /// where these have none of their number and order (30, 31).
-    pub fn check(ifr: &'a [u8], from: usize, to: usize) -> Result<Expr<'a>, Fault>
+    pub fn check(ifr: &'a [u8], from: u32, to: u32) -> Result<Expr<'a>, Fault>
         requires ordered { from ≤ to }
         requires within { to ≤ length ifr.now }
-        requires small { to < 2 ^ 32 }
         requires node { IsExpressionNode (slice_range ifr.now from to) }
         ensures read { IfOk result (λ expr. Means (opcodes_of from (slice_range ifr.entry.now from to)) (tree_of expr)) }
         ensures range { IfOk result (λ expr. (expr.place ≡ from) × (end_of expr ≡ to)) }
@@ -54,21 +53,20 @@ impl<'a> Expr<'a> {
         ensures meant { (tree : Tree) → Means (opcodes_of from (slice_range ifr.entry.now from to)) tree → need tree ≤ 64
             → HasNone (IsOpcodeFault from (opcodes_of from (slice_range ifr.entry.now from to))) → IsOk result }
     {
-        let bytes = &ifr[from..to];
-        let place = from as u32;
+        let bytes = &ifr[from as usize..to as usize];
         let mut values = Ok(0);
-        let mut ops = Opcodes::over(bytes, place);
+        let mut ops = Opcodes::over(bytes, from);
         while let Some(op) = ops.next() {
-            if let Some(cause) = cause_of(op, place) {
+            if let Some(cause) = cause_of(op, from) {
                 return Err(op.fault(cause));
             }
             values = counted(values, op);
         }
         match values {
-            Ok(1) => Ok(Expr { bytes, place }),
+            Ok(1) => Ok(Expr { bytes, place: from }),
             Ok(_) => Err(Fault {
                 cause: Cause::ExprShape,
-                place: u64::from(place),
+                place: u64::from(from),
             }),
             Err(fault) => Err(fault),
         }

@@ -14,8 +14,6 @@ mod operators;
 mod references;
 mod rules;
 mod support;
-#[cfg(test)]
-mod tests;
 mod value;
 
 pub use expr::Expr;

@@ -4,3 +4,4 @@ pub mod FieldLemmas
 pub mod OperatorLemmas
 pub mod OperandLemmas
 pub mod RowLemmas
+pub mod StatementLemmas

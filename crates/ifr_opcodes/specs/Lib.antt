@@ -3,9 +3,10 @@ pub mod Forest
 pub mod Reading
 pub mod Ops
 pub mod Operators
+pub mod Statements
 pub mod Codes
-pub mod Kinds
 pub mod Standard
+pub mod Kinds
 pub mod StoreFields
 pub mod QuestionFields
 pub mod OptionFields

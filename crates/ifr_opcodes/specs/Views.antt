@@ -2,7 +2,7 @@
 use Rattle.std.specs.Prelude.{◌≡◌, ℕ, ◌≤◌, Bool, true, List, length, Result, Ok, Err}
 use Rattle.hii_bytes.specs.declared.cause.Fault.{Fault}
 use Rattle.hii_bytes.specs.Faults.{IsLeast}
-use Rattle.ifr_opcodes.specs.Fields.{least_length, pairs, IsMisread, IsShort}
+use Rattle.ifr_opcodes.specs.Fields.{least_length, pairs, IsMisread}
 use Rattle.ifr_opcodes.specs.Ops.{bytes_of, op_of}
 use Rattle.ifr_opcodes.specs.declared.expressions.ExprOp.{ExprOp}
 use Rattle.ifr_opcodes.specs.declared.expressions.ExprOp.TheVariants.{Leaf, RuleRef, Unary, Binary}
@@ -15,11 +15,6 @@ use Rattle.ifr_opcodes.specs.declared.op.Op.{Op}
 abbrev pub Reads : {View : Type 0} → (List ℕ → Bool) → (View → Op) → Op → Result View Fault → Type 0
 Reads wanted op_in op (Ok view) = (op_of (op_in view) ≡ op_of op) × (wanted (bytes_of op) ≡ true) × (least_length (bytes_of op) ≤ length (bytes_of op))
 Reads wanted op_in op (Err fault) = IsLeast (IsMisread wanted (op_of op)) fault
-
--- An opcode of this many bytes at least is read as itself, a shorter one is refused.
-abbrev pub ReadsLong : {View : Type 0} → ℕ → (View → Op) → Op → Result View Fault → Type 0
-ReadsLong least op_in op (Ok view) = (op_of (op_in view) ≡ op_of op) × (least ≤ length (bytes_of op))
-ReadsLong least op_in op (Err fault) = IsLeast (IsShort least (op_of op)) fault
 
 -- the opcode of an operator
 abbrev pub leaf_operator : LeafOp → Op

@@ -33,6 +33,7 @@ impl<'a> NumericOp<'a> {
     }
 
     /// What it has as a question.
+    #[tactic(auto, unfolding(crate::specs::Statements::is_question_number))]
     pub fn question(self) -> QuestionOp<'a>
         ensures { op_of result.op ≡ op_of self.entry.op }
     {

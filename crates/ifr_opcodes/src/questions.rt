@@ -1,12 +1,16 @@
 //! Statements and questions.
 
-ghost use Rattle.std.specs.Prelude.{◌≡◌, ◌≤◌, length};
+ghost use Rattle.std.specs.Prelude.{◌≡◌, ◌≤◌, length, true};
 ghost use Rattle.ifr_opcodes.specs.declared.codes.TheConstants.{CHECKBOX};
+ghost use Rattle.ifr_opcodes.specs.Opcode.{number};
 ghost use Rattle.ifr_opcodes.specs.Ops.{bytes_of, op_of};
+ghost use Rattle.ifr_opcodes.specs.Statements.{is_question_number, is_statement_number};
 
 use crate::codes::CHECKBOX;
 use crate::op::Op;
-use hii_bytes::Fault;
+use crate::rows::least_len;
+use crate::statements::{is_question, is_statement};
+use hii_bytes::{Cause, Fault};
 
 /// The flag of a question that may not be changed (UEFI 2.8, 33.3.8.2.2, EFI_IFR_FLAG_READ_ONLY).
 const READ_ONLY: u8 = 0x01;
@@ -21,18 +25,24 @@ const CHECKBOX_DEFAULT_MFG: u8 = 0x02;
 #[derive(Clone, Copy, Debug)]
 pub struct StatementOp<'a> {
     pub op: Op<'a>,
+    pub ghost coded: { is_statement_number op.code ≡ true },
     pub ghost sized: { 6 ≤ length (bytes_of op) },
 }
 
 impl<'a> StatementOp<'a> {
     ghost use Rattle.ifr_opcodes.specs.Fields.{statement_prompt, statement_help};
-    ghost use Rattle.ifr_opcodes.specs.Views.{ReadsLong};
+    ghost use Rattle.ifr_opcodes.specs.Views.{Reads};
 
-    /// An opcode of less than 6 bytes is refused by OpSize at its place.
+    /// An opcode that is no statement is refused by OpOutside, one that is shorter than its fields by OpSize, each at its
+    /// place.
+    #[tactic(auto, using(crate::proofs::StatementLemmas::statement_row))]
     pub fn read(op: Op<'a>) -> Result<StatementOp<'a>, Fault>
-        ensures { ReadsLong 6 (λ view. view.op) op.entry result }
+        ensures { Reads (λ op. is_statement_number (number op)) (λ view. view.op) op.entry result }
     {
-        op.check_length(6)?;
+        if !is_statement(op.code) {
+            return Err(op.fault(Cause::OpOutside));
+        }
+        op.check_length(least_len(op))?;
         Ok(StatementOp { op })
     }
 
@@ -55,22 +65,29 @@ impl<'a> StatementOp<'a> {
 #[derive(Clone, Copy, Debug)]
 pub struct QuestionOp<'a> {
     pub op: Op<'a>,
+    pub ghost coded: { is_question_number op.code ≡ true },
     pub ghost sized: { 13 ≤ length (bytes_of op) },
 }
 
 impl<'a> QuestionOp<'a> {
     ghost use Rattle.ifr_opcodes.specs.Fields.{question_id, question_store, question_offset, question_flags, is_read_only};
-    ghost use Rattle.ifr_opcodes.specs.Views.{ReadsLong};
+    ghost use Rattle.ifr_opcodes.specs.Views.{Reads};
 
-    /// An opcode of less than 13 bytes is refused by OpSize at its place.
+    /// An opcode that is no question is refused by OpOutside, one that is shorter than its fields by OpSize, each at its
+    /// place.
+    #[tactic(auto, using(crate::proofs::StatementLemmas::question_row))]
     pub fn read(op: Op<'a>) -> Result<QuestionOp<'a>, Fault>
-        ensures { ReadsLong 13 (λ view. view.op) op.entry result }
+        ensures { Reads (λ op. is_question_number (number op)) (λ view. view.op) op.entry result }
     {
-        op.check_length(13)?;
+        if !is_question(op.code) {
+            return Err(op.fault(Cause::OpOutside));
+        }
+        op.check_length(least_len(op))?;
         Ok(QuestionOp { op })
     }
 
     /// What it has as a statement.
+    #[tactic(auto, using(crate::proofs::StatementLemmas::question_is_statement))]
     pub fn statement(self) -> StatementOp<'a>
         ensures { op_of result.op ≡ op_of self.entry.op }
     {
@@ -135,6 +152,7 @@ impl<'a> CheckboxOp<'a> {
     }
 
     /// What it has as a question.
+    #[tactic(auto, unfolding(crate::specs::Statements::is_question_number))]
     pub fn question(self) -> QuestionOp<'a>
         ensures { op_of result.op ≡ op_of self.entry.op }
     {

@@ -19,8 +19,8 @@ use crate::op::Op;
 use crate::operators::is_operator;
 use crate::stores::before_nul;
 
-/// How many bytes an opcode has at least: those of its fields and the two in front of them (UEFI 2.8, 33.3.8.3).
-pub fn least_len(op: Op) -> usize
+// How many bytes an opcode has at least: those of its fields and the two in front of them (UEFI 2.8, 33.3.8.3).
+pub(crate) fn least_len(op: Op) -> usize
     ensures { result ≡ rows.least_length (bytes_of op.entry) }
 {
     match op.code {

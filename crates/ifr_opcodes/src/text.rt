@@ -31,6 +31,7 @@ impl<'a> TextOp<'a> {
     }
 
     /// What it has as a statement.
+    #[tactic(auto, unfolding(crate::specs::Statements::is_statement_number))]
     pub fn statement(self) -> StatementOp<'a>
         ensures { op_of result.op ≡ op_of self.entry.op }
     {

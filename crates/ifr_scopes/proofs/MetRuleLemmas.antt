@@ -11,7 +11,7 @@ use Rattle.ifr_opcodes.specs.Forest.{Ancestor, Placed}
 use Rattle.ifr_opcodes.specs.Reading.{tree_of}
 use Rattle.ifr_scopes.specs.Checked.{IsChecked, node_in, has_node}
 use Rattle.ifr_scopes.specs.Nodes.{nodes_of, is_form, is_question, is_reference, end_of}
-use Rattle.ifr_scopes.specs.Kinds.{is_question_number}
+use Rattle.ifr_opcodes.specs.Statements.{is_question_number}
 use Rattle.ifr_scopes.specs.References.{has_fault, causes, has_form_id, has_question_id}
 use Rattle.ifr_scopes.specs.Rules.{is_rule, as_rule, forms_among, form_end, end_or_0, rules_among, size, is_too_large, fitting_size, scope_end}
 use Rattle.ifr_scopes.specs.declared.rules.RuleSize.{RuleSize}

@@ -13,7 +13,8 @@ use Rattle.ifr_scopes.specs.Checked.{IsChecked}
 use Rattle.ifr_scopes.specs.Guards.{is_guard, node_within, nodes_on, guards, guards_among}
 use Rattle.ifr_scopes.specs.Index.{is_indexed, guards_of_indexed}
 use Rattle.ifr_scopes.specs.KeptNoSubmits.{parent_place}
-use Rattle.ifr_scopes.specs.Kinds.{is_question_number, is_statement_number, is_store_number, is_condition_number, is_ignored}
+use Rattle.ifr_opcodes.specs.Statements.{is_question_number, is_statement_number}
+use Rattle.ifr_scopes.specs.Kinds.{is_store_number, is_condition_number, is_ignored}
 use Rattle.ifr_scopes.specs.Nodes.{nodes_of, is_form, is_question, is_statement, is_no_submit}
 use Rattle.ifr_scopes.specs.Structure.{innermost, is_root, is_wanted}
 use Rattle.ifr_scopes.specs.Table.{row, class_of, guarded, class_around, admits}
@@ -22,7 +23,8 @@ use Rattle.ifr_scopes.specs.declared.table.Class.TheVariants.{OfFormSet, OfForm,
 use Rattle.ifr_scopes.proofs.ExpressionLemmas.{innermost-push}
 use Rattle.ifr_scopes.proofs.PathLemmas.{own_guards}
 use Rattle.ifr_scopes.proofs.RuleFacts.{around_it, class-guard, class-other, held, no_root, not_wanted}
-use Rattle.ifr_scopes.proofs.TableLemmas.{class_fact, guards_no_operator, no_guard, question_is_statement}
+use Rattle.ifr_scopes.proofs.TableLemmas.{class_fact, guards_no_operator, no_guard}
+use Rattle.ifr_opcodes.proofs.StatementLemmas.{question_is_statement}
 
 -- ---- the scopes in which one may stand
 

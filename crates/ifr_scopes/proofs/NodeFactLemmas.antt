@@ -1,16 +1,16 @@
 -- What the nodes of a checked package have: all their fields, and an expression where they want one.
-use Rattle.std.proofs.Common.{◌≡◌, ℕ, ◌+◌, ◌*◌, ◌≤◌, Bool, true, false, cond, eqb, ltb, leb, Some, List, [], ◌∷◌, ◌++◌, length, refl, sym, ap, subst, ◌∙◌, arith, inl, inr}
-use Rattle.std.specs.Prelude.{◌&&◌, ◌||◌, not, Contains}
-use Rattle.std.proofs.lemmas.Bool.{cases_Bool, eqb-true, eq-eqb, ltb-true, ltb-false, leb-true, le-leb, false≢true, and_from, or_parts}
+use Rattle.std.proofs.Common.{◌≡◌, ℕ, ◌+◌, ◌≤◌, Bool, true, false, cond, eqb, ltb, leb, Some, List, [], ◌∷◌, ◌++◌, length, refl, sym, ap, subst, ◌∙◌, arith, inl, inr}
+use Rattle.std.specs.Prelude.{◌&&◌, not, Contains}
+use Rattle.std.proofs.lemmas.Bool.{cases_Bool, eqb-true, eq-eqb, ltb-true, ltb-false, le-leb, false≢true, and_from, or_parts}
 use Rattle.hii_bytes.specs.Faults.{HasNone}
 use Rattle.hii_bytes.specs.declared.cause.Cause.{Cause}
 use Rattle.hii_bytes.specs.declared.cause.Cause.TheVariants.{NotFormSet, OpOutside, OpSize, ExprShape}
 use Rattle.ifr_opcodes.specs.Opcode.{number, has_scope}
-use Rattle.ifr_opcodes.specs.Fields.{row_length, least_length, is_listed, is_left_out, option_kind, default_kind, numeric_width}
-use Rattle.ifr_opcodes.specs.Operators.{is_operator, is_among}
+use Rattle.ifr_opcodes.specs.Fields.{row_length, least_length, is_listed, is_left_out, option_kind, default_kind}
+use Rattle.ifr_opcodes.specs.Operators.{is_operator}
 use Rattle.ifr_opcodes.specs.declared.codes.TheConstants.{GUID, VARSTORE_EFI, ONE_OF_OPTION, DEFAULT, VALUE}
 use Rattle.ifr_opcodes.specs.declared.kinds.TheConstants.{TYPE_BOOLEAN, TYPE_REF}
-use Rattle.ifr_scopes.specs.Kinds.{plain_statements, questions_without_options, questions_with_options, is_question_number, is_statement_number}
+use Rattle.ifr_opcodes.specs.Statements.{is_question_number, is_statement_number}
 use Rattle.ifr_opcodes.specs.Forest.{Forest, none, node, mark, Placed, as_ancestor, nodes_at, nodes, below}
 use Rattle.ifr_opcodes.specs.Reading.{tree_of}
 use Rattle.ifr_expr.specs.Faults.{IsExpressionFault}
@@ -22,7 +22,7 @@ use Rattle.ifr_scopes.specs.Checked.{IsChecked, IsAt, node_in}
 use Rattle.ifr_scopes.specs.Views.{node_of}
 use Rattle.ifr_scopes.specs.declared.node.Node.{Node}
 use Rattle.ifr_scopes.proofs.ExpressionLemmas.{innermost-push}
-use Rattle.ifr_scopes.proofs.TableLemmas.{of_each}
+use Rattle.ifr_opcodes.proofs.StatementLemmas.{question_row, statement_row}
 use Rattle.ifr_scopes.proofs.ViewLemmas.{node_there, below_within}
 
 -- the node of a view is one of the package
@@ -88,24 +88,7 @@ default_known bytes place op checked at is =
     let inside = subst (λ (k : ℕ). cond (eqb k GUID) (has_scope op) (cond (eqb k VARSTORE_EFI) (eqb (length op) 24) (cond (eqb k ONE_OF_OPTION) (leb 6 (length op) && ltb TYPE_BOOLEAN (option_kind op)) (cond (eqb k DEFAULT) (leb 5 (length op) && ltb TYPE_REF (default_kind op)) false))) ≡ false) has.coded (kept bytes place op checked at) in
     ltb-false TYPE_REF (default_kind op) (asked (leb 5 (length op)) _ (le-leb 5 (length op) long) inside)
 
--- the rows of statements and questions are long enough for what they share
-numeric_long : (op : List ℕ) → leb 13 (cond (ltb (length op) 14) 14 (14 + 3 * numeric_width op)) ≡ true
-numeric_long op = elim (cases_Bool (ltb (length op) 14)) [ inl short ↦ rw short refl | inr long ↦ rw long (le-leb 13 (14 + 3 * numeric_width op) (omega arith)) ]
-
-question_row : (op : List ℕ) (code : ℕ) → is_question_number code ≡ true → 13 ≤ row_length code op
-unfolding is_question_number
-question_row op code is = leb-true 13 (row_length code op) (elim (cases_Bool (is_among code questions_without_options)) [
-  | inl without ↦ of_each (λ c. leb 13 (row_length c op)) questions_without_options code (rw (numeric_long op) refl) without
-  | inr other ↦ of_each (λ c. leb 13 (row_length c op)) questions_with_options code (rw (numeric_long op) refl) (ap (λ (b : Bool). b || is_among code questions_with_options) (sym other) ∙ is)
-])
-
-statement_row : (op : List ℕ) (code : ℕ) → is_statement_number code ≡ true → 6 ≤ row_length code op
-unfolding is_statement_number is_question_number
-statement_row op code is = elim (cases_Bool (is_among code plain_statements)) [
-  | inl plain ↦ leb-true 6 (row_length code op) (of_each (λ c. leb 6 (row_length c op)) plain_statements code refl plain)
-  | inr other ↦ omega (arith, question_row op code (ap (λ (b : Bool). b || is_question_number code) (sym other) ∙ is))
-]
-
+-- a question has the bytes of its header, and a statement
 pub question_long : (bytes : List ℕ) (place : ℕ) (op : List ℕ) → IsChecked bytes → IsAt bytes place op → is_question_number (number (node_in bytes place).op) ≡ true → 13 ≤ length op
 question_long bytes place op checked at is =
     let n = node_in bytes place in

@@ -7,13 +7,14 @@ use Rattle.ifr_opcodes.specs.Operators.{is_among}
 use Rattle.ifr_opcodes.specs.Forest.{Ancestor, Placed, as_ancestor}
 use Rattle.ifr_scopes.specs.Checked.{IsChecked}
 use Rattle.ifr_scopes.specs.Guards.{is_guard}
-use Rattle.ifr_scopes.specs.Kinds.{is_question_number}
+use Rattle.ifr_opcodes.specs.Statements.{is_question_number}
 use Rattle.ifr_scopes.specs.Nodes.{nodes_of, is_question, is_statement}
 use Rattle.ifr_scopes.specs.Structure.{parent, is_condition, begins_with_value, is_wanted, is_root}
 use Rattle.ifr_scopes.specs.Table.{class_around}
 use Rattle.ifr_scopes.specs.declared.table.Class.TheVariants.{OfNothing}
 use Rattle.ifr_scopes.proofs.RuleFacts.{split_last, around_it, class-guard, class-other, is_operator_there, is_value_there, held}
-use Rattle.ifr_scopes.proofs.TableLemmas.{is_inner, outer, inner_is_not_outer, guarded_inner, other_is_inner, question_is_inner, no_statement, operator_is_inner, value_is_inner, question_is_statement, no_guard}
+use Rattle.ifr_scopes.proofs.TableLemmas.{is_inner, outer, inner_is_not_outer, guarded_inner, other_is_inner, question_is_inner, no_statement, operator_is_inner, value_is_inner, no_guard}
+use Rattle.ifr_opcodes.proofs.StatementLemmas.{question_is_statement}
 
 -- what begins a scope is no statement, nor does one stand in its own
 wanted_is_inner : (bytes : List ℕ) (n : Placed) → IsChecked bytes → Contains (nodes_of bytes) n → is_wanted n ≡ true → is_among (number n.op) outer ≡ false

@@ -16,7 +16,7 @@ use Rattle.ifr_scopes.specs.Nodes.{is_form, is_question}
 use Rattle.ifr_scopes.specs.References.{Ranked, ranked, has_fault, causes, IsReferenceFault}
 use Rattle.ifr_scopes.specs.Met.{AreOf}
 use Rattle.ifr_scopes.specs.Rules.{is_rule}
-use Rattle.ifr_scopes.specs.KeptRules.{AreKept, kept_at}
+use Rattle.ifr_scopes.specs.KeptRules.{AreKeptRules, kept_at}
 use Rattle.ifr_scopes.specs.declared.references.Met.{Met}
 use Rattle.ifr_scopes.specs.declared.rules.RuleTable.{RuleTable}
 use Rattle.ifr_scopes.proofs.KeptRuleLemmas.{no_rule}
@@ -103,5 +103,5 @@ sound_among ns some e = λ d p other. elim other [
 ]
 
 -- the rules stay where the next node is none
-pub kept_on : (before : List Placed) (n : Placed) (table : RuleTable) → is_rule n ≡ false → AreKept before table → AreKept (before ++ n ∷ []) table
+pub kept_on : (before : List Placed) (n : Placed) (table : RuleTable) → is_rule n ≡ false → AreKeptRules before table → AreKeptRules (before ++ n ∷ []) table
 kept_on before n table other kept key = kept key ∙ ap (λ (l : List Placed). kept_at l key) (sym (no_rule before n other))

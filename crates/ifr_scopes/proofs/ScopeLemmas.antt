@@ -9,7 +9,7 @@ use Rattle.ifr_opcodes.specs.Fields.{question_id}
 use Rattle.ifr_opcodes.specs.Forest.{Forest, none, node, flat, Mark, mark, Ancestor, Placed, as_ancestor, nodes_at, Spells}
 use Rattle.ifr_opcodes.specs.Ops.{bytes_of}
 use Rattle.ifr_opcodes.specs.Reading.{tree_of, ancestor_at}
-use Rattle.ifr_scopes.specs.Kinds.{is_question_number}
+use Rattle.ifr_opcodes.specs.Statements.{is_question_number}
 use Rattle.ifr_scopes.specs.Nodes.{nodes_of, questions_among, id_or_0, this_among}
 use Rattle.ifr_scopes.specs.Checked.{IsChecked, IsAt, IsNodeOf, AreNodesOf, node_in}
 use Rattle.ifr_scopes.specs.Scopes.{IsScope, AreScopes}

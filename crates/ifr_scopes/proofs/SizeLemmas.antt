@@ -11,7 +11,7 @@ use Rattle.ifr_expr.specs.Trees.{Tree, post}
 use Rattle.ifr_expr.specs.declared.references.RuleReference.{RuleReference}
 use Rattle.ifr_scopes.specs.Rules.{as_rule, rule_nodes, rules_among, rule_sizes, greatest, size_over, fitting_size}
 use Rattle.ifr_scopes.specs.RuleNodes.{Descend}
-use Rattle.ifr_scopes.specs.KeptRules.{AreKept, kept_named}
+use Rattle.ifr_scopes.specs.KeptRules.{AreKeptRules, kept_named}
 use Rattle.ifr_scopes.specs.declared.rules.KeptRule.{KeptRule}
 use Rattle.ifr_scopes.specs.declared.rules.RuleSize.{RuleSize}
 use Rattle.ifr_scopes.specs.declared.rules.RuleTable.{RuleTable}
@@ -38,11 +38,11 @@ weights ns rs = sum (map (λ r. (rule_sizes (rules_among ns) r.id r.place).weigh
 
 -- A table knows what references before these add to the size of an expression.
 pub record Measures (table : RuleTable) (tree : Tree) (left : List RuleReference) (depth weight : ℕ) : Type 0 where
-  pub deep : (ns : List Placed) → AreKept ns table → Descend (rule_nodes ns) → max depth (depths ns left) ≡ depths ns (references tree)
-  pub heavy : (ns : List Placed) → AreKept ns table → Descend (rule_nodes ns) → weight + weights ns left ≡ length (post tree) + weights ns (references tree)
+  pub deep : (ns : List Placed) → AreKeptRules ns table → Descend (rule_nodes ns) → max depth (depths ns left) ≡ depths ns (references tree)
+  pub heavy : (ns : List Placed) → AreKeptRules ns table → Descend (rule_nodes ns) → weight + weights ns left ≡ length (post tree) + weights ns (references tree)
 
 pub measured : (table : RuleTable) (tree : Tree) (old left : List RuleReference) (r : RuleReference) (depth weight : ℕ) (found : Option KeptRule) → old ≡ r ∷ left
-    → ((ns : List Placed) → AreKept ns table → Descend (rule_nodes ns) → found ≡ kept_named (rule_nodes ns) r.id r.place)
+    → ((ns : List Placed) → AreKeptRules ns table → Descend (rule_nodes ns) → found ≡ kept_named (rule_nodes ns) r.id r.place)
     → Measures table tree old depth weight → Measures table tree left (max depth (size_of found).depth) (weight + (size_of found).weight)
 measured table tree old left r depth weight found split told m = record {
   deep = λ ns kept descend.
@@ -69,22 +69,22 @@ fits s d w = rw (le-ltb 16 s.depth d, le-ltb 4096 s.weight w) refl
 
 -- an expression that is too heavy already is so with what is left
 pub too_heavy : (table : RuleTable) (tree : Tree) (left : List RuleReference) (depth weight : ℕ) → Measures table tree left depth weight → 4096 < weight
-    → (ns : List Placed) → AreKept ns table → Descend (rule_nodes ns) → None ≡ fitting_size (size_over (rule_sizes (rules_among ns)) tree)
+    → (ns : List Placed) → AreKeptRules ns table → Descend (rule_nodes ns) → None ≡ fitting_size (size_over (rule_sizes (rules_among ns)) tree)
 too_heavy table tree left depth weight m h ns kept descend = too_large (size_over (rule_sizes (rules_among ns)) tree) (inr (omega (arith, h, m.heavy ns kept descend)))
 
 pub at_end : (table : RuleTable) (tree : Tree) (left : List RuleReference) (depth weight : ℕ) → left ≡ [] → Measures table tree left depth weight
-    → (ns : List Placed) → AreKept ns table → Descend (rule_nodes ns) → (depth ≡ depths ns (references tree)) × (weight ≡ length (post tree) + weights ns (references tree))
+    → (ns : List Placed) → AreKeptRules ns table → Descend (rule_nodes ns) → (depth ≡ depths ns (references tree)) × (weight ≡ length (post tree) + weights ns (references tree))
 at_end table tree left depth weight e m ns kept descend =
     (omega (arith, m.deep ns kept descend, ap (depths ns) e), omega (arith, m.heavy ns kept descend, ap (weights ns) e))
 
 pub too_deep_or_heavy : (table : RuleTable) (tree : Tree) (left : List RuleReference) (depth weight : ℕ) → left ≡ [] → Measures table tree left depth weight → (16 ≤ depth) ⊎ (4096 < weight)
-    → (ns : List Placed) → AreKept ns table → Descend (rule_nodes ns) → None ≡ fitting_size (size_over (rule_sizes (rules_among ns)) tree)
+    → (ns : List Placed) → AreKeptRules ns table → Descend (rule_nodes ns) → None ≡ fitting_size (size_over (rule_sizes (rules_among ns)) tree)
 too_deep_or_heavy table tree left depth weight e m h ns kept descend =
     let is = at_end table tree left depth weight e m ns kept descend in
     too_large (size_over (rule_sizes (rules_among ns)) tree) (elim h [ inl d ↦ inl (omega (arith, d, is.0)) | inr w ↦ inr (omega (arith, w, is.1)) ])
 
 pub all_fits : (table : RuleTable) (tree : Tree) (left : List RuleReference) (depth weight : ℕ) → left ≡ [] → Measures table tree left depth weight → depth < 16 → weight ≤ 4096
-    → (ns : List Placed) → AreKept ns table → Descend (rule_nodes ns) → Some (record { depth = depth + 1; weight = weight }) ≡ fitting_size (size_over (rule_sizes (rules_among ns)) tree)
+    → (ns : List Placed) → AreKeptRules ns table → Descend (rule_nodes ns) → Some (record { depth = depth + 1; weight = weight }) ≡ fitting_size (size_over (rule_sizes (rules_among ns)) tree)
 all_fits table tree left depth weight e m d w ns kept descend =
     let is = at_end table tree left depth weight e m ns kept descend in
     let deep : depth + 1 ≡ 1 + depths ns (references tree) = omega (arith, is.0) in

@@ -1,13 +1,15 @@
 -- What the table of opcodes says of a number, told once over its rows.
 use Rattle.std.proofs.Common.{◌≡◌, ◌⊎◌, ℕ, Bool, true, false, eqb, Option, Some, None, List, [], ◌∷◌, ◌++◌, refl, sym, ap, subst, ◌∙◌, inl, inr}
-use Rattle.std.specs.Prelude.{◌&&◌, ◌||◌, ◌==◌, not}
+use Rattle.std.specs.Prelude.{◌||◌, ◌==◌, not}
 use Rattle.std.specs.List.{list_all}
 use Rattle.std.proofs.lemmas.Bool.{cases_Bool, cond-true, cond-false, eqb-true, ne_eqb, false≢true}
 use Rattle.ifr_opcodes.specs.declared.codes.TheConstants.{FORM_SET, FORM, SUBTITLE, DEFAULT, VALUE, RULE, SUPPRESS_IF, GRAY_OUT_IF, DISABLE_IF}
 use Rattle.ifr_opcodes.specs.Opcode.{number}
 use Rattle.ifr_opcodes.specs.Operators.{is_among, is_operator, operands}
+use Rattle.ifr_opcodes.proofs.StatementLemmas.{and_first, and_second, of_each}
 use Rattle.ifr_scopes.specs.Guards.{is_guard}
-use Rattle.ifr_scopes.specs.Kinds.{plain_statements, questions_without_options, questions_with_options, is_question_number, is_statement_number, is_store_number, conditions, is_condition_number, is_ignored}
+use Rattle.ifr_opcodes.specs.Statements.{plain_statements, questions_without_options, questions_with_options, is_question_number, is_statement_number}
+use Rattle.ifr_scopes.specs.Kinds.{is_store_number, conditions, is_condition_number, is_ignored}
 use Rattle.ifr_scopes.specs.Table.{rows, row_in, row, wants_expression, wants_value, class_of, guarded, admits}
 use Rattle.ifr_scopes.specs.declared.table.Row.{Row}
 use Rattle.ifr_scopes.specs.declared.table.Class.{Class}
@@ -15,22 +17,6 @@ use Rattle.ifr_scopes.specs.declared.table.Class.TheVariants.{OfFormSet, OfForm,
 use Rattle.ifr_scopes.specs.declared.table.Scope.TheVariants.{Outermost}
 
 -- ---- numbers among others
-
-and_first : (a b : Bool) → a && b ≡ true → a ≡ true
-and_first true b e = refl
-and_first false b e = absurd (false≢true e)
-
-and_second : (a b : Bool) → a && b ≡ true → b ≡ true
-and_second true b e = e
-and_second false b e = absurd (false≢true e)
-
--- what holds of each of some numbers holds of one among them
-pub of_each : (holds : ℕ → Bool) (codes : List ℕ) (code : ℕ) → list_all holds codes ≡ true → is_among code codes ≡ true → holds code ≡ true
-of_each holds [] code all e = absurd (false≢true e)
-of_each holds (c ∷ codes) code all e = elim (cases_Bool (eqb c code)) [
-  | inl here ↦ ap holds (sym (eqb-true c code here)) ∙ and_first (holds c) _ all
-  | inr other ↦ of_each holds codes code (and_second (holds c) _ all) (sym (ap (λ (b : Bool). b || is_among code codes) other) ∙ e)
-]
 
 -- a number with what none of some numbers has is not among them
 pub none_among : (has : ℕ → Bool) (codes : List ℕ) (code : ℕ) → list_all (λ c. not (has c)) codes ≡ true → has code ≡ true → is_among code codes ≡ false
@@ -281,14 +267,6 @@ operator_is_inner code operator = none_among is_operator outer code apart_outer 
 
 pub value_is_inner : is_among VALUE outer ≡ false
 value_is_inner = refl
-
--- a question is a statement
-pub question_is_statement : (code : ℕ) → is_question_number code ≡ true → is_statement_number code ≡ true
-unfolding is_statement_number
-question_is_statement code is = elim (cases_Bool (is_among code plain_statements)) [
-  | inl plain ↦ ap (λ (b : Bool). b || is_question_number code) plain
-  | inr other ↦ ap (λ (b : Bool). b || is_question_number code) other ∙ is
-]
 
 -- nor is a guard one
 pub no_guard : (code : ℕ) → is_statement_number code ≡ true → is_guard code ≡ false

@@ -10,7 +10,7 @@ use Rattle.ifr_opcodes.specs.Opcode.{number}
 use Rattle.ifr_opcodes.specs.Forest.{Forest, none, node, flat, Ancestor, Placed, as_ancestor, nodes_at, below}
 use Rattle.ifr_opcodes.specs.Reading.{tree_of}
 use Rattle.ifr_scopes.specs.Checked.{IsChecked, IsNodeOf}
-use Rattle.ifr_scopes.specs.Kinds.{is_question_number}
+use Rattle.ifr_opcodes.specs.Statements.{is_question_number}
 use Rattle.ifr_scopes.specs.Nodes.{nodes_of, is_question, of_question, questions_among, id_or_0, this_of}
 use Rattle.ifr_scopes.specs.PartsLeft.{HaveThis}
 use Rattle.ifr_scopes.specs.Views.{node_of}
@@ -19,7 +19,7 @@ use Rattle.ifr_scopes.proofs.PathLemmas.{kept}
 use Rattle.ifr_scopes.proofs.PlaceLemmas.{is_found}
 use Rattle.ifr_scopes.proofs.QuestionFacts.{no_statement_inside}
 use Rattle.ifr_scopes.proofs.ScopeLemmas.{ancestor_node, last_or-push}
-use Rattle.ifr_scopes.proofs.TableLemmas.{question_is_statement}
+use Rattle.ifr_opcodes.proofs.StatementLemmas.{question_is_statement}
 use Rattle.ifr_scopes.proofs.ViewLemmas.{below_within, contains_found}
 
 -- the path of a node goes on from that of the forest in which it stands

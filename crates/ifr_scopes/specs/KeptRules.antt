@@ -31,5 +31,5 @@ kept_at [] key = None
 kept_at (n ∷ earlier) key = if has_key key n then Some (kept_rule earlier n) else kept_at earlier key
 
 -- A table has the rules among nodes.
-abbrev pub AreKept : List Placed → RuleTable → Type 0
-AreKept ns table = (key : ℕ × ℕ) → get key_cmp table.rules key ≡ kept_at (rule_nodes ns) key
+abbrev pub AreKeptRules : List Placed → RuleTable → Type 0
+AreKeptRules ns table = (key : ℕ × ℕ) → get key_cmp table.rules key ≡ kept_at (rule_nodes ns) key

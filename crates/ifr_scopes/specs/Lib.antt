@@ -29,4 +29,5 @@ pub mod AnyConditions
 pub mod KeptNoSubmits
 pub mod NoSubmitsLeft
 pub mod Accepted
+pub mod ReadForms
 pub mod Met

@@ -1,5 +1,5 @@
--- What a LOCKED locks (UEFI 2.8, 33.3.8.3, EFI_IFR_LOCKED: what it stands in; that it locks what stands before it there too, and
--- which of several comes first, are own rules).
+-- What a LOCKED locks (own rule; the opcode is UEFI 2.8, 33.3.8.3, EFI_IFR_LOCKED): the node in whose scope it directly stands,
+-- and all inside of that. Of several the one decides that stands in the outermost, then the first by place.
 use Rattle.std.specs.Prelude.{ℕ, Bool, false, ◌==◌, ◌&&◌, Option, Some, None, List, [], ◌∷◌, ◌++◌, filter, map, option_map}
 use Rattle.std.specs.List.{flat_map}
 use Rattle.std.specs.Option.{option_or}

@@ -1,13 +1,17 @@
 -- What was met of the nodes of a package.
-use Rattle.std.specs.Prelude.{◌≡◌, ℕ, List, IfSome}
+use Rattle.std.specs.Prelude.{◌≡◌, ℕ, Option, List, [], ◌∷◌, ◌++◌, IfSome}
 use Rattle.std.specs.List.{list_any}
 use Rattle.std.specs.Ordering.{nat_cmp}
 use Rattle.std.specs.BTreeSet.{contains}
+use Rattle.hii_bytes.specs.Faults.{first_cause}
+use Rattle.hii_bytes.specs.declared.cause.Cause.{Cause}
 use Rattle.ifr_opcodes.specs.Forest.{Placed}
 use Rattle.ifr_scopes.specs.Checked.{node_in}
 use Rattle.ifr_scopes.specs.Nodes.{nodes_of, end_of}
-use Rattle.ifr_scopes.specs.KeptRules.{AreKept}
-use Rattle.ifr_scopes.specs.References.{has_form_id, has_question_id}
+use Rattle.ifr_scopes.specs.KeptRules.{AreKeptRules}
+use Rattle.ifr_scopes.specs.References.{has_form_id, has_question_id, has_fault, causes}
+use Rattle.ifr_scopes.specs.Views.{node_of}
+use Rattle.ifr_scopes.specs.declared.node.Node.{Node}
 use Rattle.ifr_scopes.specs.declared.references.Met.{Met}
 
 -- The ids are those of the forms and of the questions among some nodes, and the rules are theirs; all ids are those of the
@@ -16,5 +20,22 @@ pub record AreOf (bytes : List ℕ) (ns : List Placed) (met : Met) : Type 0 wher
   pub all : (id : ℕ) → contains nat_cmp met.all id ≡ list_any (has_form_id id) (nodes_of bytes)
   pub forms : (id : ℕ) → contains nat_cmp met.forms id ≡ list_any (has_form_id id) ns
   pub questions : (id : ℕ) → contains nat_cmp met.questions id ≡ list_any (has_question_id id) ns
-  pub rules : AreKept ns met.rules
+  pub rules : AreKeptRules ns met.rules
   pub form : IfSome met.form (λ form. form.ends ≡ end_of (node_in bytes form.place))
+
+-- Where these nodes were met, this is the least fault of the next beside them, if it has one.
+abbrev pub Tells : List ℕ → List Placed → Placed → Met → Option Cause → Type 0
+Tells bytes before n met cause = AreOf bytes before met → cause ≡ first_cause (has_fault (nodes_of bytes)) record { before = before; node = n } causes
+
+-- Where these nodes were met, the next was met with them.
+abbrev pub Meets : List ℕ → List Placed → Placed → Met → Met → Type 0
+Meets bytes before n old new = AreOf bytes before old → AreOf bytes (before ++ n ∷ []) new
+
+-- the same of a node of a package and the nodes that stand before it there
+abbrev pub TellsNext : Node → Met → Option Cause → Type 0
+TellsNext node met cause =
+    (before rest : List Placed) → before ++ node_of node ∷ rest ≡ nodes_of node.ifr.now → Tells node.ifr.now before (node_of node) met cause
+
+abbrev pub MeetsNext : Node → Met → Met → Type 0
+MeetsNext node old new =
+    (before rest : List Placed) → before ++ node_of node ∷ rest ≡ nodes_of node.ifr.now → Meets node.ifr.now before (node_of node) old new

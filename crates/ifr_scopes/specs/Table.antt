@@ -8,7 +8,8 @@ use Rattle.ifr_opcodes.specs.Forest.{Ancestor}
 use Rattle.ifr_opcodes.specs.declared.codes.TheConstants.{FORM_SET, FORM, SUBTITLE, TEXT, RESET_BUTTON, ONE_OF_OPTION, DEFAULT, DEFAULTSTORE, VALUE, RULE, LOCKED, SUPPRESS_IF, GRAY_OUT_IF, DISABLE_IF}
 use Rattle.ifr_opcodes.specs.declared.kinds.TheConstants.{TYPE_OTHER}
 use Rattle.ifr_scopes.specs.Guards.{is_guard}
-use Rattle.ifr_scopes.specs.Kinds.{questions_without_options, questions_with_options, is_statement_number, stores, is_store_number, conditions, is_condition_number, ignored, is_ignored}
+use Rattle.ifr_opcodes.specs.Statements.{questions_without_options, questions_with_options, is_statement_number}
+use Rattle.ifr_scopes.specs.Kinds.{stores, is_store_number, conditions, is_condition_number, ignored, is_ignored}
 use Rattle.ifr_scopes.specs.declared.table.Row.{Row}
 use Rattle.ifr_scopes.specs.declared.table.Scope.{Scope}
 use Rattle.ifr_scopes.specs.declared.table.Scope.TheVariants.{Always, Sometimes, Never, Outermost, WithValue}

@@ -17,8 +17,11 @@ use ifr_opcodes::{
 /// The opcode of a question's condition.
 #[derive(Clone, Copy, Debug)]
 pub enum ConditionOp<'a> {
+    /// INCONSISTENT_IF, which denies a value.
     InconsistentIf(InconsistentIfOp<'a>),
+    /// NO_SUBMIT_IF, which denies a submission.
     NoSubmitIf(NoSubmitIfOp<'a>),
+    /// WARNING_IF, which warns.
     WarningIf(WarningIfOp<'a>),
 }
 

@@ -10,7 +10,17 @@ use ifr_opcodes::{END, op_at, split_opcode};
 
 /// Where the node at a place of a package ends: behind the END of its scope, or behind its opcode where it has none.
 /// Both are in bytes from the package's header.
-pub(crate) fn end_of(bytes: &[u8], place: u32) -> usize
+pub(crate) fn end_of(bytes: &[u8], place: u32) -> u32
+    requires small { length bytes.now < 2 ^ 32 }
+    requires spelled { Spells bytes.now (tree_of bytes.now) }
+    requires there { has_node bytes.now place ≡ true }
+    ensures { result ≡ nodes.end_of (node_in bytes.now place) }
+{
+    end_index(bytes, place) as u32
+}
+
+// The same as an index into the package's bytes.
+fn end_index(bytes: &[u8], place: u32) -> usize
     requires small { length bytes.now < 2 ^ 32 }
     requires spelled { Spells bytes.now (tree_of bytes.now) }
     requires there { has_node bytes.now place ≡ true }

@@ -49,7 +49,7 @@ impl FormEnd {
         }
         FormEnd {
             place,
-            ends: end_of(ifr, place) as u32,
+            ends: end_of(ifr, place),
         }
     }
 }

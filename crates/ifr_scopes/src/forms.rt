@@ -54,21 +54,16 @@ pub struct Forms<'a> {
 }
 
 impl<'a> Model for Forms<'a> {
-    ghost use Rattle.std.specs.Prelude.{ℕ, List, ◌≡◌, filter, map, option_map};
+    ghost use Rattle.std.specs.Prelude.{ℕ, List, option_map};
     ghost use Rattle.std.specs.BTreeMap.{get};
     ghost use Rattle.std.specs.Ordering.{nat_cmp};
-    ghost use Rattle.ifr_scopes.specs.Accepted.{IsAccepted};
-    ghost use Rattle.ifr_scopes.specs.Index.{lock_place_at, this_at};
-    ghost use Rattle.ifr_scopes.specs.Kept.{kept_at};
-    ghost use Rattle.ifr_scopes.specs.KeptNoSubmits.{kept_no_submit};
-    ghost use Rattle.ifr_scopes.specs.KeptRules.{AreKept};
-    ghost use Rattle.ifr_scopes.specs.Nodes.{nodes_of, is_no_submit};
+    ghost use Rattle.ifr_scopes.specs.ReadForms.{IsReadAs};
 
     ghost Value = { List ℕ };
 
     ghost view = { λ s. s.ifr.now };
 
-    ghost invariant = { λ s. IsAccepted s.ifr.now × ((place : ℕ) → option_map (λ v. v.items) (get nat_cmp s.index place) ≡ kept_at (nodes_of s.ifr.now) place) × AreKept (nodes_of s.ifr.now) s.rules × ((place : ℕ) → get nat_cmp s.locks place ≡ lock_place_at (nodes_of s.ifr.now) place) × (s.no_submits.items ≡ map kept_no_submit (filter is_no_submit (nodes_of s.ifr.now))) × ((place : ℕ) → get nat_cmp s.conditions place ≡ this_at (nodes_of s.ifr.now) place) };
+    ghost invariant = { λ s. IsReadAs s.ifr.now (λ place. option_map (λ v. v.items) (get nat_cmp s.index place)) s.rules (λ place. get nat_cmp s.locks place) s.no_submits.items (λ place. get nat_cmp s.conditions place) };
 }
 
 impl<'a> Forms<'a> {

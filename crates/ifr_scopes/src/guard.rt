@@ -11,7 +11,7 @@ use crate::scoped_nodes::ScopedNodes;
 use ifr_expr::Expr;
 use ifr_opcodes::Op;
 
-/// A guard: what stands in its scope is hidden while its condition holds (UEFI 2.8, 33.3.8.3, EFI_IFR_SUPPRESS_IF).
+/// A guard: a SUPPRESS_IF, GRAY_OUT_IF or DISABLE_IF (UEFI 2.8, 33.3.8.3, under the name of each).
 #[derive(Clone, Copy, Debug)]
 pub struct Guard<'a> {
     pub(crate) node: Node<'a>,

@@ -6,13 +6,12 @@ ghost use Rattle.std.specs.Ordering.{nat_cmp};
 ghost use Rattle.ifr_opcodes.specs.declared.codes.TheConstants as codes;
 ghost use Rattle.ifr_scopes.specs.Checked.{IsChecked};
 ghost use Rattle.ifr_scopes.specs.Kept.{kept_at};
-ghost use Rattle.ifr_scopes.specs.Kinds.{is_statement_number};
+ghost use Rattle.ifr_opcodes.specs.Statements.{is_statement_number};
 ghost use Rattle.ifr_scopes.specs.Nodes.{nodes_of};
 
 use crate::guard_place::GuardPlace;
-use crate::kinds::is_statement;
 use crate::scoped_nodes::ScopedNodes;
-use ifr_opcodes::{FORM, ONE_OF_OPTION};
+use ifr_opcodes::{FORM, ONE_OF_OPTION, is_statement};
 use smallvec::SmallVec;
 use std::alloc::{AllocError, Global};
 use std::collections::BTreeMap;

@@ -1,33 +1,12 @@
-//! Opcodes by what they are.
+//! Stores, conditions of questions, and opcodes of no effect, by their numbers.
 
 ghost use Rattle.std.specs.Prelude.{◌≡◌};
 ghost use Rattle.ifr_scopes.specs.Kinds as kinds;
 
 use ifr_opcodes::{
-    ACTION, ANIMATION, CHECKBOX, DATE, GUID, IMAGE, INCONSISTENT_IF, MODAL_TAG, NO_SUBMIT_IF,
-    NUMERIC, ONE_OF, ORDERED_LIST, PASSWORD, REF, REFRESH, REFRESH_ID, RESET_BUTTON, STRING,
-    SUBTITLE, TEXT, TIME, VARSTORE, VARSTORE_EFI, VARSTORE_NAME_VALUE, WARNING_IF,
+    ANIMATION, GUID, IMAGE, INCONSISTENT_IF, MODAL_TAG, NO_SUBMIT_IF, REFRESH, REFRESH_ID,
+    VARSTORE, VARSTORE_EFI, VARSTORE_NAME_VALUE, WARNING_IF,
 };
-
-/// Whether this is the number of a question.
-#[tactic(auto, unfolding(crate::specs::Kinds::is_question_number))]
-pub(crate) fn is_question(code: u8) -> bool
-    ensures { result ≡ kinds.is_question_number code }
-{
-    match code {
-        CHECKBOX | NUMERIC | STRING | PASSWORD | DATE | TIME | ACTION | REF => true,
-        ONE_OF | ORDERED_LIST => true,
-        _ => false,
-    }
-}
-
-/// Whether this is the number of a statement.
-#[tactic(auto, unfolding(crate::specs::Kinds::is_statement_number))]
-pub(crate) fn is_statement(code: u8) -> bool
-    ensures { result ≡ kinds.is_statement_number code }
-{
-    code == SUBTITLE || code == TEXT || code == RESET_BUTTON || is_question(code)
-}
 
 /// Whether this is the number of a store.
 #[tactic(auto, unfolding(crate::specs::Kinds::is_store_number))]

@@ -1,9 +1,9 @@
 //! Laws of the definitions that the contracts cite.
 
-ghost use Rattle.std.specs.Prelude.{◌≡◌, ℕ, ◌+◌, ◌≤◌, ◌<◌, ◌^◌, true, Some, List, ◌∷◌, ◌++◌, length, slice_index, drop, Contains};
+ghost use Rattle.std.specs.Prelude.{◌≡◌, ℕ, ◌+◌, ◌≤◌, ◌<◌, ◌^◌, true, List, ◌∷◌, ◌++◌, length, slice_index, drop, Contains};
 ghost use Rattle.hii_bytes.specs.Faults.{HasNone};
 ghost use Rattle.hii_bytes.specs.declared.cause.Cause.{Cause};
-ghost use Rattle.ifr_opcodes.specs.Forest.{Forest, none, node, flat, AreNodes, Spells, Ancestor, Placed, as_ancestor, nodes, node_at, places};
+ghost use Rattle.ifr_opcodes.specs.Forest.{Forest, none, node, flat, AreNodes, Spells, Ancestor, Placed, as_ancestor, nodes, places};
 ghost use Rattle.ifr_scopes.specs.Framing.{IsFramingFault};
 ghost use Rattle.ifr_scopes.specs.Checked.{AreNodesOf, IsNodeOf};
 ghost use Rattle.ifr_scopes.specs.Guards.{guards};
@@ -26,11 +26,6 @@ pub fn one_forest_is_spelled()
 pub fn places_rise()
     ensures { (bytes : List ℕ) (f : Forest) (i j : ℕ) → Spells bytes f → i < j → j < length (nodes f)
         → slice_index (places (nodes f)) i < slice_index (places (nodes f)) j }
-{}
-
-/// A node of a package is the one that is found at its place.
-pub fn a_node_is_found_at_its_place()
-    ensures { (bytes : List ℕ) (f : Forest) (n : Placed) → Spells bytes f → Contains (nodes f) n → node_at (nodes f) n.place ≡ Some n }
 {}
 
 /// The bytes at the place of a node are those of its opcode and of the nodes below it.

@@ -10,7 +10,8 @@ use crate::scoped_nodes::ScopedNodes;
 use arrayvec::ArrayVec;
 use ifr_opcodes::{LOCKED, Op};
 
-/// What locks the node in whose scope it stands, and all inside of it (UEFI 2.8, 33.3.8.3, EFI_IFR_LOCKED).
+/// A LOCKED (UEFI 2.8, 33.3.8.3, EFI_IFR_LOCKED). It locks the node in whose scope it stands, and all inside of it (own
+/// rule).
 #[derive(Clone, Copy, Debug)]
 pub struct LockView<'a> {
     pub(crate) node: Node<'a>,

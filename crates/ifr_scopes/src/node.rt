@@ -9,7 +9,7 @@ use crate::kinds;
 use ifr_expr::Expr;
 use ifr_opcodes::{
     DefaultOp, FORM, FORM_SET, FormOp, FormSetOp, Op, OptionOp, QuestionOp, REF, RULE, RefOp,
-    RuleOp, StatementOp,
+    RuleOp, StatementOp, is_question, is_statement,
 };
 
 /// A node of a package whose nodes were checked.
@@ -65,13 +65,13 @@ impl<'a> Node<'a> {
     pub fn is_question(self) -> bool
         ensures { result ≡ nodes.is_question (node_of self.entry) }
     {
-        kinds::is_question(self.op.code)
+        is_question(self.op.code)
     }
 
     pub fn is_statement(self) -> bool
         ensures { result ≡ nodes.is_statement (node_of self.entry) }
     {
-        kinds::is_statement(self.op.code)
+        is_statement(self.op.code)
     }
 
     /// Whether it is a guard: SUPPRESS_IF, GRAY_OUT_IF or DISABLE_IF.
@@ -150,7 +150,7 @@ impl<'a> Node<'a> {
     {
         let from = self.op.place + self.op.len() as u32;
         let to = end_of(self.ifr, from);
-        Expr::check(self.ifr, from as usize, to).unwrap()
+        Expr::check(self.ifr, from, to).unwrap()
     }
 
     /// The opcode of a question, as far as all questions have the same.

@@ -12,7 +12,7 @@ ghost use Rattle.ifr_scopes.specs.Views.{node_of};
 ghost use Rattle.ifr_scopes.specs.References.{IsReferenceFault, has_fault, causes, has_form_id, has_question_id, is_lost as lost_among};
 ghost use Rattle.std.specs.BTreeSet.{contains};
 ghost use Rattle.std.specs.Ordering.{nat_cmp};
-ghost use Rattle.ifr_scopes.specs.KeptRules.{AreKept};
+ghost use Rattle.ifr_scopes.specs.KeptRules.{AreKeptRules};
 
 use crate::form_end::FormEnd;
 use crate::framing::HEADER;
@@ -37,7 +37,7 @@ struct Met {
 
 impl Met {
     ghost use Rattle.ifr_opcodes.specs.Fields.{ref_target};
-    ghost use Rattle.ifr_scopes.specs.Met.{AreOf};
+    ghost use Rattle.ifr_scopes.specs.Met.{AreOf, Tells, Meets, TellsNext, MeetsNext};
     ghost use Rattle.ifr_scopes.specs.Around.{IsAround};
     ghost use Rattle.ifr_scopes.specs.Checked.{node_in, has_node};
     ghost use Rattle.ifr_scopes.specs.Nodes as ends;
@@ -74,8 +74,8 @@ impl Met {
     fn meet(&mut self, nodes: &ScopedNodes, next: &ScopedNode) -> Result<Option<Cause>, AllocError>
         requires around { IsAround nodes.now next.now }
         requires known { IfSome self.old.form (λ form. form.ends ≡ ends.end_of (node_in next.now.node.ifr.now form.place)) }
-        ensures told { IfOk result (λ cause. (before rest : List Placed) → before ++ node_of next.now.node ∷ rest ≡ nodes_of next.now.node.ifr.now → AreOf next.now.node.ifr.now before self.old → cause ≡ first_cause (has_fault (nodes_of next.now.node.ifr.now)) record { before = before; node = node_of next.now.node } causes) }
-        ensures met { result ≡ Ok None → (before rest : List Placed) → before ++ node_of next.now.node ∷ rest ≡ nodes_of next.now.node.ifr.now → AreOf next.now.node.ifr.now before self.old → AreOf next.now.node.ifr.now (before ++ node_of next.now.node ∷ []) self.new }
+        ensures told { IfOk result (TellsNext next.now.node self.old) }
+        ensures met { result ≡ Ok None → MeetsNext next.now.node self.old self.new }
     {
         if !next.node.is_rule() {
             return self.meet_other(next.node);
@@ -90,8 +90,8 @@ impl Met {
         requires rule { is_rule (node_of rule) ≡ true }
         requires form { Some form ≡ option_map (λ a. a.place) (last_or None (forms_among (node_of rule).path)) }
         requires known { IfSome self.old.form (λ form. form.ends ≡ ends.end_of (node_in rule.ifr.now form.place)) }
-        ensures told { IfOk result (λ cause. (before rest : List Placed) → before ++ node_of rule.entry ∷ rest ≡ nodes_of rule.entry.ifr.now → AreOf rule.entry.ifr.now before self.old → cause ≡ first_cause (has_fault (nodes_of rule.entry.ifr.now)) record { before = before; node = node_of rule.entry } causes) }
-        ensures met { result ≡ Ok None → (before rest : List Placed) → before ++ node_of rule.entry ∷ rest ≡ nodes_of rule.entry.ifr.now → AreOf rule.entry.ifr.now before self.old → AreOf rule.entry.ifr.now (before ++ node_of rule.entry ∷ []) self.new }
+        ensures told { IfOk result (TellsNext rule.entry self.old) }
+        ensures met { result ≡ Ok None → MeetsNext rule.entry self.old self.new }
     {
         let form_ends = self.form_end(rule.ifr, form);
         let Some(size) = self.rules.size_of(expression_of(rule)) else {
@@ -104,8 +104,8 @@ impl Met {
     /// Meets the next node, which is no rule, and tells whether its id was met before, or leads to no form.
     fn meet_other(&mut self, node: Node) -> Result<Option<Cause>, AllocError>
         requires other { is_rule (node_of node) ≡ false }
-        ensures told { IfOk result (λ cause. (bytes : List ℕ) (before : List Placed) → AreOf bytes before self.old → cause ≡ first_cause (has_fault (nodes_of bytes)) record { before = before; node = node_of node.entry } causes) }
-        ensures met { result ≡ Ok None → (bytes : List ℕ) (before : List Placed) → AreOf bytes before self.old → AreOf bytes (before ++ node_of node.entry ∷ []) self.new }
+        ensures told { IfOk result (λ cause. (bytes : List ℕ) (before : List Placed) → Tells bytes before (node_of node.entry) self.old cause) }
+        ensures met { result ≡ Ok None → (bytes : List ℕ) (before : List Placed) → Meets bytes before (node_of node.entry) self.old self.new }
     {
         if repeats_form(&mut self.forms, node)? {
             return Ok(Some(Cause::DuplicateForm));
@@ -195,7 +195,7 @@ fn has_form(ifr: &[u8]) -> bool
 pub(crate) fn check_references(alloc: Global, ifr: &[u8]) -> Result<RuleTable, Fault>
     requires { IsChecked ifr.now }
     ensures sound { OnOk result (HasNone (IsReferenceFault (nodes_of ifr.now))) }
-    ensures kept { IfOk result (AreKept (nodes_of ifr.now)) }
+    ensures kept { IfOk result (AreKeptRules (nodes_of ifr.now)) }
     ensures refused { IfErr result (Refuses (IsReferenceFault (nodes_of ifr.now))) }
 {
     if !has_form(ifr) {

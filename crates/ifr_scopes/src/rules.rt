@@ -4,7 +4,7 @@ ghost use Rattle.std.specs.Prelude.{◌≡◌, ◌∷◌, ◌++◌, ◌≤◌, t
 ghost use Rattle.ifr_opcodes.specs.Forest.{Placed};
 ghost use Rattle.ifr_expr.specs.Expressions as expr;
 ghost use Rattle.ifr_scopes.specs.Nodes as ends;
-ghost use Rattle.ifr_scopes.specs.KeptRules.{AreKept, kept_named};
+ghost use Rattle.ifr_scopes.specs.KeptRules.{AreKeptRules, kept_named};
 ghost use Rattle.ifr_scopes.specs.Rules as rules;
 ghost use Rattle.ifr_scopes.specs.Rules.{is_rule, as_rule, form_end, rule_nodes, rules_among, rule_sizes, size_over, fitting_size};
 ghost use Rattle.ifr_scopes.specs.RuleNodes.{Descend};
@@ -52,16 +52,16 @@ pub(crate) fn expression_of(rule: Node<'_>) -> Expr<'_>
     ensures tree { expr.tree_of result ≡ (as_rule (node_of rule.entry)).tree }
     ensures within { expr.end_of result ≤ ends.end_of (node_of rule.entry) }
 {
-    let from = rule.op.place as usize + rule.op.len();
     // the END of the rule's scope has two bytes
     let to = end_of(rule.ifr, rule.op.place) - 2;
+    let from = rule.op.place + rule.op.len() as u32;
     Expr::check(rule.ifr, from, to).unwrap()
 }
 
 impl RuleTable {
     /// No rules.
     pub(crate) fn new(alloc: Global) -> RuleTable
-        ensures { AreKept [] result }
+        ensures { AreKeptRules [] result }
     {
         RuleTable {
             rules: BTreeMap::new(alloc),
@@ -70,7 +70,7 @@ impl RuleTable {
 
     /// The rule that a reference to an id at a place names, if there is one.
     pub(crate) fn named(&self, id: u8, place: u32) -> Option<KeptRule>
-        ensures { (ns : List Placed) → AreKept ns self.now → Descend (rule_nodes ns) → result ≡ kept_named (rule_nodes ns) id place }
+        ensures { (ns : List Placed) → AreKeptRules ns self.now → Descend (rule_nodes ns) → result ≡ kept_named (rule_nodes ns) id place }
     {
         let mut those = self.rules.range((id, 0)..=(id, place));
         let Some((_, last)) = those.next_back() else {
@@ -85,7 +85,7 @@ impl RuleTable {
 
     /// The size of a rule with this expression, if it is not too large.
     pub(crate) fn size_of(&self, expression: Expr) -> Option<RuleSize>
-        ensures { (ns : List Placed) → AreKept ns self.now → Descend (rule_nodes ns) → result ≡ fitting_size (size_over (rule_sizes (rules_among ns)) (expr.tree_of expression.entry)) }
+        ensures { (ns : List Placed) → AreKeptRules ns self.now → Descend (rule_nodes ns) → result ≡ fitting_size (size_over (rule_sizes (rules_among ns)) (expr.tree_of expression.entry)) }
     {
         let mut depth = 0;
         let mut weight = expression.len();
@@ -116,11 +116,11 @@ impl RuleTable {
         size: RuleSize,
     ) -> Result<(), AllocError>
         requires { is_rule (node_of rule) ≡ true }
-        ensures { OnOk result ((before : List Placed) → AreKept before self.old → form_ends ≡ form_end (node_of rule.entry).path → size ≡ rules.size (rules_among before) (as_rule (node_of rule.entry))
-            → AreKept (before ++ node_of rule.entry ∷ []) self.new) }
+        ensures { OnOk result ((before : List Placed) → AreKeptRules before self.old → form_ends ≡ form_end (node_of rule.entry).path → size ≡ rules.size (rules_among before) (as_rule (node_of rule.entry))
+            → AreKeptRules (before ++ node_of rule.entry ∷ []) self.new) }
     {
         let place = rule.op.place;
-        let key = (rule.rule().id(), end_of(rule.ifr, place) as u32);
+        let key = (rule.rule().id(), end_of(rule.ifr, place));
         let kept = KeptRule {
             place,
             form_ends,

@@ -24,18 +24,31 @@ use ifr_opcodes::{
 /// The opcode of a statement, by what it is.
 #[derive(Clone, Copy, Debug)]
 pub enum StatementKind<'a> {
+    /// SUBTITLE, a heading.
     Subtitle(SubtitleOp<'a>),
+    /// TEXT, two texts.
     Text(TextOp<'a>),
+    /// RESET_BUTTON, which sets defaults.
     ResetButton(ResetButtonOp<'a>),
+    /// CHECKBOX, a question with two answers.
     Checkbox(CheckboxOp<'a>),
+    /// NUMERIC, a question for a number.
     Numeric(NumericOp<'a>),
+    /// ONE_OF, a question for one of its options.
     OneOf(OneOfOp<'a>),
+    /// STRING, a question for a text.
     String(StringOp<'a>),
+    /// PASSWORD, a question for a password.
     Password(PasswordOp<'a>),
+    /// ORDERED_LIST, a question for some of its options in order.
     OrderedList(OrderedListOp<'a>),
+    /// DATE, a question for a date.
     Date(DateOp<'a>),
+    /// TIME, a question for a time of day.
     Time(TimeOp<'a>),
+    /// ACTION, a question whose choice calls the driver.
     Action(ActionOp<'a>),
+    /// REF, a question that leads to a form.
     Ref(RefOp<'a>),
 }
 
@@ -43,11 +56,11 @@ impl<'a> StatementKind<'a> {
     ghost use Rattle.std.specs.Prelude.{◌≤◌, length};
     ghost use Rattle.ifr_opcodes.specs.Fields.{least_length};
     ghost use Rattle.ifr_opcodes.specs.Ops.{bytes_of};
-    ghost use Rattle.ifr_scopes.specs.Kinds.{is_statement_number};
+    ghost use Rattle.ifr_opcodes.specs.Statements.{is_statement_number};
     ghost use Rattle.ifr_scopes.specs.Lists.{kind_op};
 
     // The view of an opcode that has all its fields.
-    #[tactic(auto, unfolding(crate::specs::Kinds::is_statement_number, crate::specs::Kinds::is_question_number))]
+    #[tactic(auto, unfolding(ifr_opcodes::specs::Statements::is_statement_number, ifr_opcodes::specs::Statements::is_question_number))]
     fn of(op: Op<'a>) -> StatementKind<'a>
         requires statement { is_statement_number op.code ≡ true }
         requires sized { least_length (bytes_of op) ≤ length (bytes_of op) }

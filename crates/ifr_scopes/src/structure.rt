@@ -199,7 +199,7 @@ pub(crate) fn check_structure(bytes: &[u8]) -> Result<(), Fault>
         }
         if is_expression(bytes, visit.op, around) {
             let place = visit.op.place;
-            Expr::check(bytes, place as usize, end_of(bytes, place))?;
+            Expr::check(bytes, place, end_of(bytes, place))?;
         }
     }
     Ok(())

@@ -5,14 +5,14 @@ ghost use Rattle.ifr_opcodes.specs.Ops.{bytes_of};
 ghost use Rattle.ifr_scopes.specs.Table as table;
 
 use crate::guards::is_guard;
-use crate::kinds::{is_condition, is_ignored, is_statement, is_store};
+use crate::kinds::{is_condition, is_ignored, is_store};
 use hii_bytes::number_at;
 use ifr_opcodes::{
     ACTION, ANIMATION, CHECKBOX, DATE, DEFAULT, DEFAULTSTORE, DISABLE_IF, FORM, FORM_SET,
     GRAY_OUT_IF, GUID, IMAGE, INCONSISTENT_IF, LOCKED, MODAL_TAG, NO_SUBMIT_IF, NUMERIC, ONE_OF,
     ONE_OF_OPTION, ORDERED_LIST, Op, PASSWORD, REF, REFRESH, REFRESH_ID, RESET_BUTTON, RULE,
     STRING, SUBTITLE, SUPPRESS_IF, TEXT, TIME, TYPE_OTHER, VALUE, VARSTORE, VARSTORE_EFI,
-    VARSTORE_NAME_VALUE, WARNING_IF, is_operator,
+    VARSTORE_NAME_VALUE, WARNING_IF, is_operator, is_statement,
 };
 
 /// Whether an opcode opens a scope.

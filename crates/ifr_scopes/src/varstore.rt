@@ -13,8 +13,11 @@ use ifr_opcodes::{
 /// The opcode of a store.
 #[derive(Clone, Copy, Debug)]
 pub enum StoreOp<'a> {
+    /// VARSTORE, a buffer of bytes.
     Varstore(VarstoreOp<'a>),
+    /// VARSTORE_EFI, a buffer of bytes in a variable.
     VarstoreEfi(VarstoreEfiOp<'a>),
+    /// VARSTORE_NAME_VALUE, texts by names.
     NameValue(VarstoreNameValueOp<'a>),
 }
 

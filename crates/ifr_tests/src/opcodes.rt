@@ -1,4 +1,7 @@
 use hii_bytes::{Cause, Fault};
+use ifr_opcodes::laws::{
+    kinds_of_values_have_the_numbers_of_the_standard, opcodes_have_the_numbers_of_the_standard,
+};
 use ifr_opcodes::*;
 use std::test::*;
 
@@ -85,22 +88,13 @@ fn constants_and_operators(rt: HostRuntime) {
     assert_eq!(rt; this.op().code, THIS);
 }
 
-// Numbers, whether they are operators, whether they are known, and how many operands they take.
-static NUMBERS: [(u8, bool, bool, Option<usize>); 6] = [
-    (THIS, true, true, Some(0)),
-    (MODULO, true, true, Some(2)),
-    (BITWISE_NOT, true, true, Some(1)),
-    (FORM, false, true, None),
-    (RULE, false, true, None),
-    (0x41, false, false, None),
-];
-
 #[test]
 fn numbers_of_opcodes(rt: HostRuntime) {
-    for (code, operator, listed, taken) in &NUMBERS {
-        let said = (is_operator(*code), is_listed(*code), operands(*code));
-        assert!(rt; said == (*operator, *listed, *taken), "at {code}");
-    }
+    opcodes_have_the_numbers_of_the_standard();
+    kinds_of_values_have_the_numbers_of_the_standard();
+    assert_eq!(rt; (operands(MODULO), operands(FORM)), (Some(2), None));
+    assert!(rt; is_operator(THIS) && is_listed(FORM) && !is_operator(FORM));
+    assert!(rt; is_statement(TEXT) && is_question(CHECKBOX) && !is_question(TEXT));
 }
 
 #[test]
@@ -130,9 +124,17 @@ fn refusals(rt: HostRuntime) -> Result<(), Fail> {
     let end = op_at(&PACKAGE, 79)?;
     assert_eq!(rt; FormOp::read(end).err(), fault(Cause::OpOutside, 79));
     assert_eq!(rt; ExprOp::read(end).err(), fault(Cause::OpOutside, 79));
-    assert_eq!(rt; StatementOp::read(end).err(), fault(Cause::OpSize, 79));
-    let form = op_at(&PACKAGE, 53)?;
-    assert_eq!(rt; QuestionOp::read(form).err(), fault(Cause::OpSize, 53));
+    assert_eq!(rt; StatementOp::read(end).err(), fault(Cause::OpOutside, 79));
+    assert!(rt; is_outside(end));
+    let subtitle = op_at(&[0x02, 6, 1, 0, 2, 0], 0)?;
+    assert_eq!(rt; StatementOp::read(subtitle).err(), fault(Cause::OpSize, 0));
+    assert_eq!(rt;
+        QuestionOp::read(subtitle).err(),
+        fault(Cause::OpOutside, 0)
+    );
+    let checkbox = op_at(&[0x06, 13, 2, 0, 3, 0, 11, 0, 1, 0, 4, 0, 1], 0)?;
+    assert_eq!(rt; QuestionOp::read(checkbox).err(), fault(Cause::OpSize, 0));
+    assert!(rt; is_short(checkbox) && !is_outside(checkbox));
     // a store's name without a NUL
     let cut = [
         0x24, 24, 1, 2, 3, 4, 5, 6, 7, 8, 9, 10, 11, 12, 13, 14, 15, 16, 1, 0, 16, 0, 65, 98,
@@ -329,90 +331,4 @@ fn conditions(rt: HostRuntime) -> Result<(), Fail> {
     let rule = RuleOp::read(op_at(&CONDITIONS, 13)?)?;
     assert_eq!(rt; rule.id(), 7);
     Ok(())
-}
-
-// How an opcode of so many bytes, all 0 behind its header but one, is refused: by OpOutside, by OpSize.
-fn refusal(code: u8, len: u8, at: usize, byte: u8) -> Option<(bool, bool)> {
-    let mut bytes = [0; 127];
-    bytes[0] = code;
-    bytes[1] = len;
-    if at > 1 && at < bytes.len() {
-        bytes[at] = byte;
-    }
-    let op = op_at(&bytes, 0).ok()?;
-    Some((is_outside(op), is_short(op)))
-}
-
-// The numbers with the bytes that an opcode has at least whose fields are 0.
-static LEAST: [(u8, u8); 25] = [
-    (FORM_SET, 23),
-    (FORM, 6),
-    (SUBTITLE, 7),
-    (TEXT, 8),
-    (RESET_BUTTON, 8),
-    (CHECKBOX, 14),
-    (NUMERIC, 17),
-    (ONE_OF, 17),
-    (STRING, 16),
-    (PASSWORD, 17),
-    (ORDERED_LIST, 15),
-    (DATE, 14),
-    (TIME, 14),
-    (ACTION, 13),
-    (REF, 13),
-    (ONE_OF_OPTION, 7),
-    (DEFAULT, 6),
-    (DEFAULTSTORE, 6),
-    (VARSTORE, 23),
-    (VARSTORE_EFI, 27),
-    (VARSTORE_NAME_VALUE, 20),
-    (INCONSISTENT_IF, 4),
-    (NO_SUBMIT_IF, 4),
-    (WARNING_IF, 5),
-    (RULE, 3),
-];
-
-#[test]
-fn least_lengths(rt: HostRuntime) {
-    for (code, least) in &LEAST {
-        let whole = refusal(*code, *least, 0, 0);
-        assert!(rt; whole == Some((false, false)), "at {code}");
-        let short = refusal(*code, least.saturating_sub(1), 0, 0);
-        assert!(rt; short == Some((false, true)), "at {code}");
-    }
-    // a count of two, and bytes for one
-    let cut = op_at(&[0x14, 8, 1, 0, 2, 0, 5, 0], 0).expect(&rt, "an opcode");
-    assert_eq!(rt; (least_len(cut), is_short(cut)), (10, true));
-}
-
-// Numbers with how many bytes their opcodes have, a byte at a place, and by what they are refused.
-static LEFT_OUT: [(u8, u8, usize, u8, (bool, bool)); 15] = [
-    // numbers of 8 bytes
-    (NUMERIC, 37, 13, 3, (false, true)),
-    (NUMERIC, 38, 13, 3, (false, false)),
-    // an option's kind is a Boolean at most
-    (ONE_OF_OPTION, 7, 5, TYPE_BOOLEAN, (false, false)),
-    (ONE_OF_OPTION, 6, 5, TYPE_TIME, (true, true)),
-    (ONE_OF_OPTION, 5, 5, TYPE_TIME, (false, true)),
-    // a default's is that of a reference at most
-    (DEFAULT, 5, 4, TYPE_REF, (false, false)),
-    (DEFAULT, 5, 4, 0x0d, (true, false)),
-    (DEFAULT, 4, 4, 0x0d, (false, true)),
-    (DEFAULT, 8, 4, TYPE_DATE, (false, true)),
-    // an older store has no name
-    (VARSTORE_EFI, 23, 0, 0, (false, true)),
-    (VARSTORE_EFI, 24, 0, 0, (true, true)),
-    (VARSTORE_EFI, 25, 0, 0, (false, true)),
-    // a GUID opens no scope
-    (GUID, 2, 0, 0, (false, false)),
-    (GUID, 0x82, 0, 0, (true, false)),
-    (0x2d, 2, 0, 0, (true, false)),
-];
-
-#[test]
-fn left_out(rt: HostRuntime) {
-    for (code, len, at, byte, refused) in &LEFT_OUT {
-        let said = refusal(*code, *len, *at, *byte);
-        assert!(rt; said == Some(*refused), "at {code} of {len}");
-    }
 }

@@ -129,6 +129,8 @@ fn question_and_options(rt: HostRuntime) -> Result<(), Fail> {
 fn guards_and_locks_at_places(rt: HostRuntime) -> Result<(), Fail> {
     let (bytes, len) = locked_choice();
     let forms = forms_of(rt.alloc(), &bytes[..len])?;
+    let statement = forms.statements().next().expect(&rt, "a statement");
+    assert_eq!(rt; statement.locks().next().map(|lock| lock.place()), Some(93));
     for (place, lock) in [(50, Some(93)), (57, Some(93)), (64, None)] {
         assert!(rt; forms.guards_at(place).next().is_none());
         assert_eq!(rt; forms.lock_at(place).map(|lock| lock.place()), lock);
@@ -165,6 +167,14 @@ const DENYING: [u8; 30] = [
 fn conditions_of_a_submission(rt: HostRuntime) -> Result<(), Fail> {
     let (bytes, len) = with(&DENYING);
     let forms = forms_of(rt.alloc(), &bytes[..len])?;
+    let statement = forms.statements().next().expect(&rt, "a statement");
+    assert_eq!(rt;
+        statement.nosubmits().next().map(|denying| denying.place()),
+        Some(51)
+    );
+    assert!(rt;
+        statement.inconsistents().next().is_none() && statement.warnings().next().is_none()
+    );
     let mut denying = forms.nosubmits();
     let first = denying.next().expect(&rt, "a condition");
     let condition = first.condition;

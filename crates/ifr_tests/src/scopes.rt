@@ -28,11 +28,11 @@ pub(crate) fn with(opcodes: &[u8]) -> ([u8; 128], usize)
 }
 
 // A package with a form under a SUPPRESS_IF, at 27, of which this is the condition, from 29 on; and how long it is.
-fn guarded(condition: &[u8]) -> ([u8; 256], usize)
-    requires { length condition.now ≤ 160 }
+pub(crate) fn guarded(condition: &[u8]) -> ([u8; 320], usize)
+    requires { length condition.now ≤ 256 }
     ensures { result.1 ≡ 41 + length condition.now }
 {
-    let mut bytes = [0u8; 256];
+    let mut bytes = [0u8; 320];
     let end = 29 + condition.len();
     bytes[..27].copy_from_slice(&FRONT[..27]);
     bytes[27..29].copy_from_slice(&[0x0a, 0x82]);
@@ -83,15 +83,6 @@ fn guards_in_no_question(rt: HostRuntime) -> Result<(), Fail> {
     Ok(())
 }
 
-#[test]
-fn condition_with_scope(rt: HostRuntime) -> Result<(), Fail> {
-    let (bytes, len) = guarded(&NEGATED);
-    let forms = forms_of(rt.alloc(), &bytes[..len])?;
-    let guard = forms.guards().next().expect(&rt, "a guard");
-    assert_eq!(rt; guard.condition().support().next(), Some(7));
-    Ok(())
-}
-
 // A form set with two forms and three questions.
 const PACKAGE: [u8; 87] = [
     87, 0, 0, 2, // the package's header
@@ -104,16 +95,6 @@ const PACKAGE: [u8; 87] = [
     0x01, 0x86, 9, 0, 8, 0, // a form, at 77
     0x29, 2, 0x29, 2, // at 83, 85
 ];
-
-#[test]
-fn parts_of_a_question(rt: HostRuntime) -> Result<(), Fail> {
-    let forms = forms_of(rt.alloc(), opaque(&PACKAGE))?;
-    let question = forms.statements().next().expect(&rt, "a question");
-    assert!(rt; question.options().next().is_none() && question.defaults().next().is_none());
-    assert!(rt; question.inconsistents().next().is_none() && question.nosubmits().next().is_none());
-    assert!(rt; question.warnings().next().is_none() && question.locks().next().is_none());
-    Ok(())
-}
 
 fn fault(cause: Cause, place: u64) -> Option<(Cause, u64)> {
     Some((cause, place))
@@ -153,8 +134,8 @@ fn framing(rt: HostRuntime) {
 }
 
 // How a package with a form under this condition is refused.
-fn condition(alloc: Global, condition: &[u8]) -> Option<(Cause, u64)>
-    requires { length condition.now ≤ 160 }
+pub(crate) fn condition(alloc: Global, condition: &[u8]) -> Option<(Cause, u64)>
+    requires { length condition.now ≤ 256 }
 {
     let (bytes, len) = guarded(condition);
     refusal(alloc, &bytes[..len])
@@ -181,15 +162,6 @@ fn expressions(rt: HostRuntime) {
     ] {
         assert_eq!(rt; condition(alloc, &opcodes), fault(cause, place));
     }
-    // 65 values, of which the first opens a scope
-    let mut deep = [2u8; 132];
-    for value in 0..65 {
-        deep[2 * value] = 0x46;
-    }
-    deep[1] = 0x82;
-    deep[130] = 0x29;
-    let refused = condition(alloc, &deep);
-    assert_eq!(rt; refused, fault(Cause::ExprDepth, 157));
 }
 
 #[test]
@@ -258,28 +230,4 @@ fn questions_behind_rules(rt: HostRuntime) -> Result<(), Fail> {
     let mut ids = forms.dependence(condition, 0);
     assert_eq!(rt; (ids.next(), ids.next()), (Some(7), None));
     Ok(())
-}
-
-// How a form is refused with a rule that holds, at 33, and more behind it, from 40 on in steps of 8, each naming the one
-// before.
-fn chain(alloc: Global, more: usize) -> Option<(Cause, u64)>
-    requires { more ≤ 16 }
-{
-    let mut bytes = [0u8; 172];
-    bytes[..33].copy_from_slice(&FRONT);
-    bytes[33..40].copy_from_slice(&[0x18, 0x83, 0, 0x46, 2, 0x29, 2]);
-    for id in 0..more {
-        let at = 40 + 8 * id;
-        bytes[at..at + 8].copy_from_slice(&[0x18, 0x83, id as u8 + 1, 0x3f, 3, id as u8, 0x29, 2]);
-    }
-    let end = 40 + 8 * more;
-    bytes[end..end + 4].copy_from_slice(&[0x29, 2, 0x29, 2]);
-    refusal(alloc, &bytes[..end + 4])
-}
-
-#[test]
-fn deep_rules(rt: HostRuntime) {
-    let alloc = rt.alloc();
-    assert_eq!(rt; chain(alloc, 15), None);
-    assert_eq!(rt; chain(alloc, 16), fault(Cause::RuleTooLarge, 160));
 }

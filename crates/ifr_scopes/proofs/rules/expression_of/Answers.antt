@@ -7,10 +7,10 @@ use Rattle.ifr_scopes.specs.Views.{node_of}
 use Rattle.ifr_scopes.proofs.RuleExpressionLemmas.{Holds, holds, none_there, is_its_tree}
 use Rattle.ifr_scopes.proofs.NodeFactLemmas.{is_node}
 use Rattle.ifr_scopes.proofs.rules.expression_of.Goals as goal
-use Rattle.ifr_scopes.proofs.rules.expression_of.Goals.{After-end_of-to}
+use Rattle.ifr_scopes.proofs.rules.expression_of.Goals.{After-len}
 
 -- the expression stands there
-its : (c : After-end_of-to) → Holds c.args.rule.ifr.now (node_of c.args.rule) (c.args.rule.op.place + c.len.result) (c.end_of-to.result - 2)
+its : (c : After-len) → Holds c.args.rule.ifr.now (node_of c.args.rule) (c.args.rule.op.place + c.len.result) (c.end_of-to.result - 2)
 its c =
     let view = c.args.rule in
     let bytes = view.ifr.now in
@@ -19,27 +19,27 @@ its c =
     let to : end_of n - 2 ≡ c.end_of-to.result - 2 = ap (λ (k : ℕ). k - 2) (sym c.end_of-to.ensures) in
     subst (λ (k : ℕ). Holds bytes n k (c.end_of-to.result - 2)) from (subst (Holds bytes n (expression_place n)) to (holds bytes n view.checked (is_node bytes view.op.place _ view.checked view.stands) c.requires))
 
+pub overflow_add-from : goal.overflow_add-from
+overflow_add-from c = let h = its (goal.at.overflow_add-from c).After-len in omega (arith, h.ordered, h.ends, h.within, c.args.rule.checked.small)
+
 pub check-requires-clause-ordered : goal.check-requires-clause-ordered
-check-requires-clause-ordered c = (its (goal.at.check-requires-clause-ordered c).After-end_of-to).ordered
+check-requires-clause-ordered c = (its (goal.at.check-requires-clause-ordered c).After-len).ordered
 
 pub check-requires-clause-within : goal.check-requires-clause-within
-check-requires-clause-within c = let h = its (goal.at.check-requires-clause-within c).After-end_of-to in omega (arith, h.ends, h.within)
+check-requires-clause-within c = let h = its (goal.at.check-requires-clause-within c).After-len in omega (arith, h.ends, h.within)
 
 pub check-requires-clause-node : goal.check-requires-clause-node
 check-requires-clause-node c =
-    let h = its (goal.at.check-requires-clause-node c).After-end_of-to in
+    let h = its (goal.at.check-requires-clause-node c).After-len in
     is_expression_node _ h.op h.inner h.are_nodes h.bytes_there h.operator
 
 pub unwrap-requires : goal.unwrap-requires
 unwrap-requires c =
-    let h = its (goal.at.unwrap-requires c).After-end_of-to in
+    let h = its (goal.at.unwrap-requires c).After-len in
     c.check.ensures.accepted (none_there c.args.rule.ifr.now (node_of c.args.rule) _ _ h)
 
 pub returns-clause-tree : goal.returns-clause-tree
 returns-clause-tree c =
-    let h = its (goal.at.returns-clause-tree c).After-end_of-to in
+    let h = its (goal.at.returns-clause-tree c).After-len in
     let read = rw c.unwrap.ensures at c.check.ensures.read in
     is_its_tree c.args.rule.ifr.now (node_of c.args.rule) _ _ h (tree_of c.unwrap.result) read
-
-pub check-requires-clause-small : goal.check-requires-clause-small
-check-requires-clause-small c = let h = its (goal.at.check-requires-clause-small c).After-end_of-to in omega (arith, h.ends, h.within, c.args.rule.checked.small)

@@ -52,11 +52,6 @@ check-requires-clause-within c =
     let m = met (goal.at.check-requires-clause-within c).After-cause_of in
     (stood (goal.at.check-requires-clause-within c).After-end_of m (asked (goal.at.check-requires-clause-within c).After-is_expression m)).within
 
-pub check-requires-clause-small : goal.check-requires-clause-small
-check-requires-clause-small c =
-    let m = met (goal.at.check-requires-clause-small c).After-cause_of in
-    omega (arith, (stood (goal.at.check-requires-clause-small c).After-end_of m (asked (goal.at.check-requires-clause-small c).After-is_expression m)).within, c.requires.small)
-
 pub check-requires-clause-node : goal.check-requires-clause-node
 check-requires-clause-node c =
     let m = met (goal.at.check-requires-clause-node c).After-cause_of in

@@ -7,7 +7,7 @@ use Rattle.ifr_expr.proofs.expr.Expr.check.Given as goal
 
 abbrev pub invariant-loop-op : goal.invariant-loop-op
 invariant-loop-op l = record {
-  stands : Stands l.place (opcodes_of l.place l.bytes) (marks l.place l.bytes) (opcodes_left l.ops) l.values;
+  stands : Stands l.from (opcodes_of l.from l.bytes) (marks l.from l.bytes) (opcodes_left l.ops) l.values;
   few : IfOk l.values (λ n. n ≤ 64);
 }
 

@@ -3,4 +3,4 @@ use Rattle.ifr_scopes.specs.Accepted.{IsAccepted}
 use Rattle.ifr_scopes.proofs.forms.Forms.bytes.Goals as goal
 
 pub returns-clause-accepted : goal.returns-clause-accepted
-returns-clause-accepted c = subst IsAccepted c.self.view_is c.self.invariant.0
+returns-clause-accepted c = subst IsAccepted c.self.view_is c.self.invariant.accepted

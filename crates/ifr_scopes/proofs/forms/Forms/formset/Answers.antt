@@ -9,12 +9,12 @@ is_there None P h none = absurd (none h)
 is_there (Some x) P h none = refl
 
 pub unwrap-node-requires : goal.unwrap-node-requires
-unwrap-node-requires c = is_there c.step.result _ c.step.ensures.none (λ none. some_nodes c.self.inside.ifr.now c.self.invariant.0.checked (sym c.over.ensures.all ∙ none.0))
+unwrap-node-requires c = is_there c.step.result _ c.step.ensures.none (λ none. some_nodes c.self.inside.ifr.now c.self.invariant.accepted.checked (sym c.over.ensures.all ∙ none.0))
 
 pub invariant_of-result : goal.invariant_of-result
 invariant_of-result c =
     let met = rw c.unwrap-node.ensures at c.step.ensures.some in
-    record { form_set = first_is_form_set c.self.inside.ifr.now _ _ c.self.invariant.0.checked (sym c.over.ensures.all ∙ met.0) }
+    record { form_set = first_is_form_set c.self.inside.ifr.now _ _ c.self.invariant.accepted.checked (sym c.over.ensures.all ∙ met.0) }
 
 pub returns : goal.returns
 returns c =

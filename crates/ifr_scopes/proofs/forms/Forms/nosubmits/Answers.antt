@@ -7,11 +7,11 @@ use Rattle.ifr_scopes.proofs.forms.Forms.nosubmits.Goals as goal
 pub invariant_of-result : goal.invariant_of-result
 invariant_of-result c =
     let its = c.deref.result.now in
-    let kept = keeps c.self.inside.ifr.now its c.self.invariant.0.checked.spelled (c.deref.ensures.value ∙ c.self.invariant.4) in
+    let kept = keeps c.self.inside.ifr.now its c.self.invariant.accepted.checked.spelled (c.deref.ensures.value ∙ c.self.invariant.no_submits) in
     record { conditions = subst (λ (bytes : List ℕ). AreKeptNoSubmits bytes its) c.self.view_is kept.conditions }
 
 pub returns : goal.returns
 returns c =
     let its = c.deref.result.now in
-    let kept = keeps c.self.inside.ifr.now its c.self.invariant.0.checked.spelled (c.deref.ensures.value ∙ c.self.invariant.4) in
+    let kept = keeps c.self.inside.ifr.now its c.self.invariant.accepted.checked.spelled (c.deref.ensures.value ∙ c.self.invariant.no_submits) in
     subst (λ (bytes : List ℕ). kept_again bytes its ≡ filter is_no_submit (nodes_of bytes)) c.self.view_is kept.again

@@ -13,22 +13,22 @@ use Rattle.ifr_scopes.proofs.forms.FormsRules.rule.Goals as goal
 use Rattle.ifr_scopes.proofs.forms.FormsRules.rule.Goals.{In-Some}
 
 pub returns-in_default-clause-ordered : goal.returns-in_default-clause-ordered
-returns-in_default-clause-ordered c = subst (λ (b : List ℕ). AreOrdered (rules_of b)) c.self.view_is (are_ordered c.self.inside.ifr.now c.self.invariant.0.checked)
+returns-in_default-clause-ordered c = subst (λ (b : List ℕ). AreOrdered (rules_of b)) c.self.view_is (are_ordered c.self.inside.ifr.now c.self.invariant.accepted.checked)
 
 pub returns-clause-ordered : goal.returns-clause-ordered
-returns-clause-ordered c = subst (λ (b : List ℕ). AreOrdered (rules_of b)) c.self.view_is (are_ordered c.self.inside.ifr.now c.self.invariant.0.checked)
+returns-clause-ordered c = subst (λ (b : List ℕ). AreOrdered (rules_of b)) c.self.view_is (are_ordered c.self.inside.ifr.now c.self.invariant.accepted.checked)
 
 pub returns-in_default-clause-named : goal.returns-in_default-clause-named
 returns-in_default-clause-named c =
     let bytes = c.self.inside.ifr.now in
-    let told = sym c.in_default.is ∙ c.named.ensures (nodes_of bytes) c.self.invariant.2 (descend_of bytes c.self.invariant.0.checked) in
+    let told = sym c.in_default.is ∙ c.named.ensures (nodes_of bytes) c.self.invariant.rules (descend_of bytes c.self.invariant.accepted.checked) in
     sym (ap (option_map (λ (r : Rule). r.tree)) (ap (λ (b : List ℕ). named (rules_of b) c.args.id c.args.place) (sym c.self.view_is) ∙ no_rule_named (rule_nodes (nodes_of bytes)) c.args.id c.args.place told))
 
 -- the rule that was found
 its : (c : In-Some) → IsFoundRule c.self.inside.ifr.now c.args.id c.args.place c.in-Some.rule
 its c =
     let bytes = c.self.inside.ifr.now in
-    found_rule bytes c.args.id c.args.place c.in-Some.rule c.self.invariant.0.checked (sym c.in-Some.is ∙ c.named.ensures (nodes_of bytes) c.self.invariant.2 (descend_of bytes c.self.invariant.0.checked))
+    found_rule bytes c.args.id c.args.place c.in-Some.rule c.self.invariant.accepted.checked (sym c.in-Some.is ∙ c.named.ensures (nodes_of bytes) c.self.invariant.rules (descend_of bytes c.self.invariant.accepted.checked))
 
 pub node_at-requires-clause-there : goal.node_at-requires-clause-there
 node_at-requires-clause-there c = (its (goal.at.node_at-requires-clause-there c).In-Some).there

@@ -32,11 +32,6 @@ check-requires-clause-ordered c = let b = behind (goal.at.check-requires-clause-
 pub check-requires-clause-within : goal.check-requires-clause-within
 check-requires-clause-within c = let b = behind (goal.at.check-requires-clause-within c).After-len in (ended (goal.at.check-requires-clause-within c).After-end_of-to b).within
 
-pub check-requires-clause-small : goal.check-requires-clause-small
-check-requires-clause-small c =
-    let b = behind (goal.at.check-requires-clause-small c).After-len in
-    omega (arith, (ended (goal.at.check-requires-clause-small c).After-end_of-to b).within, c.args.self.checked.small)
-
 pub check-requires-clause-node : goal.check-requires-clause-node
 check-requires-clause-node c = let b = behind (goal.at.check-requires-clause-node c).After-len in (ended (goal.at.check-requires-clause-node c).After-end_of-to b).is_node
 

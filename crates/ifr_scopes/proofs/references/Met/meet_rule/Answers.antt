@@ -1,7 +1,7 @@
 use Rattle.std.proofs.Common.{◌≡◌, List, ◌∷◌, ◌++◌, sym, ap, ◌∙◌, subst}
 use Rattle.ifr_opcodes.specs.Forest.{Placed}
 use Rattle.ifr_expr.specs.Trees.{Tree}
-use Rattle.ifr_scopes.specs.KeptRules.{AreKept}
+use Rattle.ifr_scopes.specs.KeptRules.{AreKeptRules}
 use Rattle.ifr_scopes.specs.Met.{AreOf}
 use Rattle.ifr_scopes.specs.Nodes.{nodes_of}
 use Rattle.ifr_scopes.specs.Rules.{rule_sizes, rules_among, size, size_over, as_rule, fitting_size}
@@ -21,7 +21,7 @@ form_end-form_ends-requires-clause-there c =
 its : (c : After-size_of) (before rest : List Placed) → before ++ node_of c.args.rule ∷ rest ≡ nodes_of c.args.rule.ifr.now → AreOf c.args.rule.ifr.now before c.args.self.now
     → c.size_of.result ≡ fitting_size (size (rules_among before) (as_rule (node_of c.args.rule)))
 its c before rest split known =
-    let kept = subst (AreKept before) (sym c.form_end-form_ends.ensures.stays.3) known.rules in
+    let kept = subst (AreKeptRules before) (sym c.form_end-form_ends.ensures.stays.3) known.rules in
     c.size_of.ensures before kept (descend_before c.args.rule.ifr.now before (node_of c.args.rule ∷ rest) c.args.rule.checked split)
     ∙ ap (λ (t : Tree). fitting_size (size_over (rule_sizes (rules_among before)) t)) c.expression_of.ensures.tree
 
@@ -38,7 +38,7 @@ returns-clause-met c = λ _ before rest split known.
     let view = c.args.rule in
     let n = node_of view in
     let told = sym c.in-Some.is ∙ its (goal.at.returns-clause-met c).After-size_of before rest split known in
-    let kept = subst (AreKept before) (sym c.form_end-form_ends.ensures.stays.3) known.rules in
+    let kept = subst (AreKeptRules before) (sym c.form_end-form_ends.ensures.stays.3) known.rules in
     let around = form_around view.ifr.now n c.args.form view.checked (is_node view.ifr.now view.op.place _ view.checked view.stands) c.requires.form in
     record {
       all = λ id. rw c.form_end-form_ends.ensures.stays.0 (known.all id);

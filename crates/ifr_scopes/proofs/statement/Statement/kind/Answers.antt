@@ -1,6 +1,6 @@
 use Rattle.std.proofs.Common.{ℕ, List, ap, ◌∙◌}
 use Rattle.ifr_opcodes.specs.Opcode.{number}
-use Rattle.ifr_scopes.specs.Kinds.{is_statement_number}
+use Rattle.ifr_opcodes.specs.Statements.{is_statement_number}
 use Rattle.ifr_scopes.proofs.NodeFactLemmas.{view_sized}
 use Rattle.ifr_scopes.proofs.statement.Statement.kind.Goals as goal
 

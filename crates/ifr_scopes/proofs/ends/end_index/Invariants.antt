@@ -2,7 +2,7 @@ use Rattle.std.proofs.Common.{◌-◌, length}
 use Rattle.ifr_scopes.specs.Checked.{node_in}
 use Rattle.ifr_scopes.specs.Nodes.{end_of}
 use Rattle.ifr_scopes.proofs.EndLemmas.{Ends}
-use Rattle.ifr_scopes.proofs.ends.end_of.Given as goal
+use Rattle.ifr_scopes.proofs.ends.end_index.Given as goal
 
 abbrev pub invariant-loop-depth : goal.invariant-loop-depth
 invariant-loop-depth l = Ends l.bytes l.end l.depth (end_of (node_in l.bytes l.place))
