@@ -25,3 +25,12 @@ first_within p (n ∷ ns) x rest e = elim (cases_Bool (p n)) [
   | inl passes ↦ let same : n ≡ x = cc (rw passes at e) in (0, omega arith, same)
   | inr fails ↦ further n ns x (first_within p ns x rest (rw fails at e))
 ]
+
+-- what is not empty has a first
+some_first : (xs : List Placed) → (xs ≡ [] → ⊥) → (x : Placed) × (rest : List Placed) × (xs ≡ x ∷ rest)
+some_first [] some = absurd (some refl)
+some_first (x ∷ rest) some = (x, rest, refl)
+
+-- the first form of an accepted package, and the others
+pub first_of : (ifr : List ℕ) → IsAccepted ifr → (first : Placed) × (others : List Placed) × (filter is_form (nodes_of ifr) ≡ first ∷ others)
+first_of ifr accepted = some_first (filter is_form (nodes_of ifr)) (some_form ifr accepted)

@@ -45,7 +45,7 @@ stops_end : (rest : List ℕ) → stops (end_package ++ rest) ≡ true
 stops_end rest = let size = size_of_end rest in grind (arith, nat_tests)
 
 -- the packages that a list spells are those that are cut off behind its header
-spelled_pieces : (list : List ℕ) (packages : List (List ℕ)) → Spells list packages → pieces_of (drop 20 list) ≡ packages
+pub spelled_pieces : (list : List ℕ) (packages : List (List ℕ)) → Spells list packages → pieces_of (drop 20 list) ≡ packages
 spelled_pieces list packages s =
     ap pieces_of s.whole
     ∙ pieces-concat (length (concat packages ++ (end_package ++ s.rest))) packages (end_package ++ s.rest) s.each (stops_end s.rest) (omega (arith, length-append (concat packages) (end_package ++ s.rest)))
@@ -91,7 +91,7 @@ no_text_fault : (list : List ℕ) (spoken : List Spoken) → HasTexts list spoke
 no_text_fault list spoken (packages, s, says) =
     subst (λ ps. HasNone (IsStringsFault (string_packages ps))) (sym (spelled_pieces list packages s)) (spoken_sound (string_packages packages) spoken says)
 
-opens_no_fault : (list : List ℕ) (n : ℕ) (stores language : List ℕ) (start : State) → Opens list n stores language start → HasNone (IsOpenFault list n stores)
+pub opens_no_fault : (list : List ℕ) (n : ℕ) (stores language : List ℕ) (start : State) → Opens list n stores language start → HasNone (IsOpenFault list n stores)
 opens_no_fault list n stores language start o =
     let is : start.ifr ≡ forms_bytes list n = o.bytes ∙ sym (source_bytes list n o.source o.found) in
     then_none (IsSourceFault list n) (Then (IsTextFault list) (IsBrowsingFault (forms_bytes list n) stores)) (no_source_fault list n o.source o.found)

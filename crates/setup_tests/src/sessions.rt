@@ -159,6 +159,8 @@ fn answers_do_not_depend_on_the_pieces(rt: HostRuntime) -> Result<(), Fail> {
 #[test]
 fn what_is_denied_or_discarded_changes_nothing(rt: HostRuntime) -> Result<(), Fail> {
     laws::commands_keep_other_bytes();
+    laws::bytes_that_open_have_no_fault();
+    laws::bytes_without_fault_open(LIST, 1, STORES, b"en-US");
     let mut script = Watched::new(denied_script());
     let mut out = Watched::new(Vec::new(rt.alloc()));
     let ran = after(&rt, &mut script, &mut out)?;
