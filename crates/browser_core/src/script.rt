@@ -1,6 +1,6 @@
 //! The lines of a script, one after the other.
 
-ghost use Rattle.std.specs.Prelude.{◌≡◌, ◌↔◌, ◌++◌, ℕ, List, [], IsTrue, true, false, Err};
+ghost use Rattle.std.specs.Prelude.{◌≡◌, ◌↔◌, ◌++◌, ℕ, List, [], IsTrue, IfOk, true, false, Err};
 ghost use Rattle.hii_bytes.specs.Watching.{Pen, pen_of, inner_of, has_failed, Writes};
 ghost use Rattle.hii_commands.specs.Line.{held_of, without_return};
 ghost use Rattle.hii_commands.specs.Script.{whole_lines};
@@ -32,6 +32,7 @@ pub(crate) fn run_all<R: Read, W: Write>(
         core.new (pen_of W.contents out.new) (R.remaining (inner_of script.new)) }
     ensures reads { result ≡ Err RunFault.Read → has_failed script.new ≡ true }
     ensures writes { result ≡ Err RunFault.Write → has_failed out.new ≡ true }
+    ensures sound { IfOk result (λ end. has_failed script.new ≡ false) }
 {
     if out.failed() {
         return Err(RunFault::Write);

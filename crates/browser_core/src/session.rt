@@ -1,6 +1,6 @@
 //! A session over a package list and the image of its stores.
 
-ghost use Rattle.std.specs.Prelude.{◌≡◌, ℕ, List, true, Err, IfOk, IfErr, IfSome};
+ghost use Rattle.std.specs.Prelude.{◌≡◌, ℕ, List, true, false, Err, IfOk, IfErr, IfSome};
 ghost use Rattle.std.specs.Io.KnownBytes.{Appends};
 ghost use Rattle.hii_bytes.specs.Faults.{Refuses, out_of_memory};
 ghost use Rattle.hii_bytes.specs.Watching.{pen_of, inner_of, has_failed, Tells};
@@ -107,6 +107,7 @@ impl<'a> Session<'a> {
             self.new (pen_of W.contents out.new) (R.remaining (inner_of script.new)) }
         ensures reads { result ≡ Err RunFault.Read → has_failed script.new ≡ true }
         ensures writes { result ≡ Err RunFault.Write → has_failed out.new ≡ true }
+        ensures sound { IfOk result (λ end. has_failed script.new ≡ false) }
     {
         run_all(&mut self.core, &mut self.line, script, out)
     }

@@ -1,7 +1,6 @@
 -- What a run leaves, by how it ended.
-use Rattle.std.proofs.Common.{◌≡◌, ◌≢◌, ◌⊎◌, ℕ, List, Option, None, Some, IfSome, refl, ap, subst, inl, inr}
+use Rattle.std.proofs.Common.{◌≡◌, ◌≢◌, ◌⊎◌, ℕ, List, Option, None, Some, IfSome, refl, sym, ap, subst, inl, inr}
 use Rattle.std.proofs.lemmas.Option.{IfSome_then}
-use Rattle.std.specs.Io.KnownBytes.{Appends}
 use Rattle.hii_bytes.specs.declared.cause.Cause.TheVariants.{OutOfMemory}
 use Rattle.hii_bytes.specs.declared.cause.Fault.{Fault}
 use Rattle.hii_bytes.specs.Faults.{Refuses}
@@ -16,7 +15,7 @@ use Rattle.browser_core.proofs.RunLemmas.{finishes_known}
 use Rattle.setup_main.specs.declared.serve.Given.{Given}
 use Rattle.setup_main.specs.declared.serve.Ended.{Ended}
 use Rattle.setup_main.specs.declared.serve.Ended.TheVariants.{Done, Refused, ReadScript, WriteAnswers, WriteOut, NoMemory}
-use Rattle.setup_main.specs.Serving.{Starts, IsRefusedBy, RunsAll, IsRefused, ServesAll, Ends, Finished, Serves, IsTold}
+use Rattle.setup_main.specs.Serving.{Starts, IsRefusedBy, IsWritten, RunsAll, IsRefused, ServesAll, Ends, Finished, Serves, StartsAndEnds, EndsAs, IsTold}
 
 -- ---- a refused opening
 
@@ -56,7 +55,7 @@ runs_all : (given : Given) (start now : State) (ended : End) (answers answered :
 runs_all given start now ended answers answered None left starts finishes = tt
 runs_all given start now ended answers answered (Some script) left starts finishes =
     let known = finishes_known start now answers answered ended (Some script) left finishes in
-    (record { start = start; starts = starts; ends = known.0; text = known.2 }, known.1)
+    (record { start = start; starts = starts; ends = known.0; text = (known.2, finishes.sound) }, known.1)
 
 of_finished : (given : Given) (before after : Ends) (ended : End) (run : Finished given before ended after)
     → IfSome before.script (λ script. (all : RunsAll given script ended before.answers after.answers) × (run.now ≡ (outcome_of all.start script).state))
@@ -67,10 +66,10 @@ always None P each = tt
 always (Some bytes) P each = each bytes
 
 pub done_known : (given : Given) (before after : Ends) (run : Finished given before end.Done after)
-    → Appends before.out.known after.out.known (image_of run.now.committed)
+    → IsWritten before.out after.out (image_of run.now.committed)
     → IfSome before.script (λ script. ServesAll given script before.answers before.out Done after.answers after.out)
 done_known given before after run image = IfSome_then before.script (of_finished given before after end.Done run)
-    (λ script all. (all.0, subst (λ (s : State). Appends before.out.known after.out.known (image_of s.committed)) all.1 image))
+    (λ script all. (all.0, subst (λ (s : State). IsWritten before.out after.out (image_of s.committed)) all.1 image))
 
 pub refused_known : (given : Given) (before after : Ends) → after.out ≡ before.out → IsRefused given before.answers after.answers ⊎ Finished given before end.TooLong after
     → IfSome before.script (λ script. ServesAll given script before.answers before.out Refused after.answers after.out)
@@ -87,3 +86,23 @@ serves_known given before after ReadScript h = always before.script _ (λ script
 serves_known given before after WriteAnswers h = always before.script _ (λ script. tt)
 serves_known given before after WriteOut h = always before.script _ (λ script. tt)
 serves_known given before after NoMemory h = always before.script _ (λ script. h)
+
+-- ---- how a run ends
+
+starts_and_ends : (given : Given) (before after : Ends) (ended : End) → Finished given before ended after → StartsAndEnds given before.script ended
+starts_and_ends given before after ended run = (
+  run.start,
+  run.starts,
+  IfSome_then before.script (finishes_known run.start run.now before.answers after.answers ended before.script after.script run.finishes) (λ script known. sym known.0),
+)
+
+pub ends_as : (given : Given) (before after : Ends) (ended : Ended) → Serves given before ended after → EndsAs given before.script ended
+ends_as given before after Done h = starts_and_ends given before after end.Done h.0
+ends_as given before after Refused h = elim h.1 [
+  | inl refused ↦ inl (refused.fault, refused.least)
+  | inr run ↦ inr (starts_and_ends given before after end.TooLong run)
+]
+ends_as given before after ReadScript h = (h.1, h.3)
+ends_as given before after WriteAnswers h = tt
+ends_as given before after WriteOut h = starts_and_ends given before after end.Done h.0
+ends_as given before after NoMemory h = tt

@@ -81,7 +81,7 @@ fn file<R: Files + Print + Eprint + AllocGlobal>(
     what: &str,
 ) -> Result<Vec<u8>, u8> {
     let mut file = match fs::open(rt, path) {
-        Ok(file) => file,
+        Ok(file) => Watched::new(file),
         Err(_) => return Err(fault(rt, what)),
     };
     match read_whole::read_whole(rt.alloc(), &mut file) {

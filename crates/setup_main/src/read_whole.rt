@@ -1,6 +1,7 @@
 //! Files of a limited length.
 
-ghost use Rattle.std.specs.Prelude.{◌≡◌, ◌≤◌, ◌<◌, IfSome, IfOk, length, MatchResult};
+ghost use Rattle.std.specs.Prelude.{◌≡◌, ◌≤◌, ◌<◌, true, false, IfSome, IfOk, Err, length, MatchResult};
+ghost use Rattle.hii_bytes.specs.Watching.{inner_of, has_failed};
 
 use hii_bytes::Watched;
 use std::alloc::Global;
@@ -20,15 +21,17 @@ pub enum ReadError {
 /// The most bytes that a file may have.
 pub const FILE_LIMIT: u64 = 16_777_216;
 
-/// All bytes that the reader has, up to the limit.
-pub fn read_whole<R: Read>(alloc: Global, reader: &mut R) -> Result<Vec<u8>, ReadError>
-    ensures whole { IfSome (R.remaining reader.old) (λ all. MatchResult result
+/// All bytes that the reader has, at most 16,777,216. More are refused by `TooLong`; a fault of the reader and want of memory are told
+/// apart by whether it has failed.
+pub fn read_whole<R: Read>(alloc: Global, reader: &mut Watched<R>) -> Result<Vec<u8>, ReadError>
+    ensures whole { IfSome (R.remaining (inner_of reader.old)) (λ all. MatchResult result
         (λ bytes. (bytes.items ≡ all) × (length all ≤ FILE_LIMIT)) (λ e. e ≡ ReadError.TooLong → FILE_LIMIT < length all)) }
     ensures limit { IfOk result (λ bytes. length bytes.items ≤ FILE_LIMIT) }
+    ensures fault { result ≡ Err ReadError.Fault → has_failed reader.new ≡ true }
+    ensures memory { result ≡ Err ReadError.NoMemory → has_failed reader.new ≡ false }
 {
-    let mut reader = Watched::new(reader);
     let mut bytes = Vec::new(alloc);
-    let read = (&mut reader).take(FILE_LIMIT + 1).read_to_end(&mut bytes);
+    let read = (&mut *reader).take(FILE_LIMIT + 1).read_to_end(&mut bytes);
     match read {
         Ok(_) => {
             if bytes.len() as u64 > FILE_LIMIT {

@@ -1,8 +1,8 @@
 //! A session over files that are read, apart from the system.
 
-ghost use Rattle.std.specs.Prelude.{◌≡◌, IfSome, true};
+ghost use Rattle.std.specs.Prelude.{◌≡◌, IfSome, true, false};
 ghost use Rattle.hii_bytes.specs.Watching.{pen_of, inner_of, has_failed};
-ghost use Rattle.setup_main.specs.Serving.{Starts, Serves, ServesAll, IsTold};
+ghost use Rattle.setup_main.specs.Serving.{Starts, Serves, ServesAll, EndsAs, IsTold};
 ghost use Rattle.setup_main.specs.declared.serve.Given.{Given};
 
 use browser_core::{End, RunFault, Session, put_refusal, put_refusal_at};
@@ -47,7 +47,9 @@ pub fn serve<R: Read, A: Write, O: Write>(
     script: &mut R,
     answers: &mut A,
     out: &mut O,
-) -> Ended {
+) -> Ended
+    ensures { EndsAs given.entry (R.remaining script.old) result }
+{
     serve_watched(
         alloc,
         given,
@@ -75,6 +77,7 @@ pub fn serve_watched<R: Read, A: Write, O: Write>(
     ensures reads { result ≡ Ended.ReadScript → has_failed script.new ≡ true }
     ensures answers { result ≡ Ended.WriteAnswers → has_failed answers.new ≡ true }
     ensures writes { result ≡ Ended.WriteOut → has_failed out.new ≡ true }
+    ensures sound { result ≡ Ended.Done → has_failed script.new ≡ false }
 {
     match Session::open(alloc, given.list, given.forms, given.stores, given.lang) {
         Ok(mut session) => run(&mut session, script, answers, out),
@@ -95,6 +98,7 @@ fn run<R: Read, A: Write, O: Write>(
     ensures reads { result ≡ Ended.ReadScript → has_failed script.new ≡ true }
     ensures answers { result ≡ Ended.WriteAnswers → has_failed answers.new ≡ true }
     ensures writes { result ≡ Ended.WriteOut → has_failed out.new ≡ true }
+    ensures sound { result ≡ Ended.Done → has_failed script.new ≡ false }
 {
     match session.run_script(script, answers) {
         Ok(End::Done) => match session.committed().image_into(out) {

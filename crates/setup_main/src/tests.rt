@@ -2,6 +2,7 @@
 
 use crate::read_whole::{FILE_LIMIT, ReadError, read_whole};
 use crate::serve::{Ended, Given, serve};
+use hii_bytes::Watched;
 use std::alloc::Global;
 use std::io;
 use std::io::{ErrorKind, Read};
@@ -174,7 +175,7 @@ fn writers_of_images_may_be_too_short(rt: HostRuntime) -> Result<(), Fail> {
 // How many bytes are read of a file of so many bytes.
 fn read_of(alloc: Global, length: usize) -> Result<Result<usize, ReadError>, Fail> {
     let bytes = vec![in alloc; b'x'; length]?;
-    let mut reader = bytes.as_slice();
+    let mut reader = Watched::new(bytes.as_slice());
     Ok(match read_whole(alloc, &mut reader) {
         Ok(whole) => Ok(whole.len()),
         Err(error) => Err(error),
@@ -191,7 +192,7 @@ fn files_of_the_greatest_length(rt: HostRuntime) -> Result<(), Fail> {
 
 #[test]
 fn a_file_may_fail(rt: HostRuntime) {
-    let mut broken = Broken { left: 10 };
+    let mut broken = Watched::new(Broken { left: 10 });
     let error = read_whole(rt.alloc(), &mut broken).err();
     assert!(rt; error == Some(ReadError::Fault));
 }

@@ -9,7 +9,7 @@ returns-in-Ok-clause-serves g c = λ given starts. (
     now = c.run_script.new.self;
     finishes = rw c.in-Ok-Done.field-0-is at c.in-Ok-Done.ensures.run;
   },
-  rw c.committed.ensures at c.in-Ok.ensures.0,
+  rw c.committed.ensures at c.in-Ok.ensures,
 )
 
 pub returns-in-Err-clause-serves : goal.returns-in-Err-clause-serves
