@@ -1,8 +1,7 @@
 -- The faults of an expression, and those of its nodes.
-use Rattle.std.proofs.Common.{◌≡◌, ◌⊎◌, ℕ, zero, suc, ◌+◌, ◌-◌, ◌<◌, ◌≤◌, Bool, true, false, cond, Option, Some, None, List, [], ◌∷◌, ◌++◌, length, take, drop, slice_range, refl, sym, ap, subst, ◌∙◌, arith, inl, inr, lit≤, length-append}
+use Rattle.std.proofs.Common.{◌≡◌, ◌⊎◌, ℕ, zero, suc, ◌+◌, ◌-◌, ◌<◌, ◌≤◌, Bool, true, false, Option, Some, None, List, [], ◌∷◌, ◌++◌, length, take, drop, slice_range, refl, sym, ap, subst, ◌∙◌, arith, inl, inr, lit≤, length-append}
 use Rattle.std.specs.Prelude.{Contains, ◌==◌, ◌&&◌, not, option_map}
-use Rattle.std.specs.List.{last_or}
-use Rattle.std.proofs.lemmas.Bool.{cases_Bool, eq-eqb, ne_eqb, false≢true, and_from, and_left, or_from, not_from_true, not_from_false, cond-false}
+use Rattle.std.proofs.lemmas.Bool.{cases_Bool, eq-eqb, ne_eqb, false≢true, and_from, and_left, or_from, not_from_true, not_from_false}
 use Rattle.std.proofs.lemmas.List.{length-drop, take_at}
 use Rattle.hii_bytes.specs.Cause.{number_of}
 use Rattle.hii_bytes.specs.declared.cause.Cause.{Cause}
@@ -18,14 +17,15 @@ use Rattle.ifr_expr.specs.Trees.{Tree, Means, need, siblings, expression}
 use Rattle.ifr_expr.specs.Reading.{IsExpressionNode, opcodes_of}
 use Rattle.ifr_expr.proofs.NodeLemmas.{is_expression_node, opcodes_are}
 use Rattle.ifr_expr.proofs.ShapeLemmas.{no_shape}
-use Rattle.ifr_scopes.specs.Guards.{is_guard}
 use Rattle.ifr_scopes.specs.Nodes.{end_of}
 use Rattle.ifr_scopes.specs.Structure.{has_fault, innermost, parent, is_condition, is_operand, is_root, has_wrong_scope, IsNodeFault}
-use Rattle.ifr_scopes.specs.Table.{row, class_of, guarded, class_around, admits}
+use Rattle.ifr_scopes.specs.Table.{class_of, class_around, admits}
 use Rattle.ifr_scopes.specs.declared.table.Row.{Row}
 use Rattle.ifr_scopes.specs.declared.table.Class.{Class}
-use Rattle.ifr_scopes.specs.declared.table.Class.TheVariants.{OfNothing, OfExpression}
+use Rattle.ifr_scopes.specs.declared.table.Class.TheVariants.{OfExpression}
 use Rattle.ifr_scopes.proofs.BehindLemmas.{siblings_inside, is_node_of}
+use Rattle.ifr_scopes.proofs.ClassLemmas.{class-other}
+use Rattle.ifr_scopes.proofs.InnermostLemmas.{last_or-push}
 use Rattle.ifr_scopes.proofs.PlaceLemmas.{node_stands}
 use Rattle.ifr_opcodes.proofs.RowLemmas.{operator_inside}
 use Rattle.ifr_scopes.proofs.TableLemmas.{operator_row, guards_no_operator, wants_no_operator, wants_no_value}
@@ -100,16 +100,8 @@ first false b e = e
 
 -- ---- the parent
 
-last-push : {X : Type 0} (found : Option X) (xs : List X) (x : X) → last_or found (xs ++ x ∷ []) ≡ Some x
-last-push found [] x = refl
-last-push found (y ∷ xs) x = last-push (Some y) xs x
-
 pub innermost-push : (path : List Ancestor) (a : Ancestor) → innermost (path ++ a ∷ []) ≡ Some (record { place = a.place; op = a.op })
-innermost-push path a = ap (λ (found : Option Ancestor). option_map (λ (b : Ancestor). record { place = b.place; op = b.op }) found) (last-push None path a)
-
-class-push : (found : Class) (path : List Ancestor) (a : Ancestor) → is_guard (number a.op) ≡ false → class_around found (path ++ a ∷ []) ≡ class_of (row (number a.op))
-class-push found [] a other = cond-false (is_guard (number a.op)) _ _ other
-class-push found (b ∷ path) a other = class-push (cond (is_guard (number b.op)) (guarded found) (class_of (row (number b.op)))) path a other
+innermost-push path a = ap (λ (found : Option Ancestor). option_map (λ (b : Ancestor). record { place = b.place; op = b.op }) found) (last_or-push None path a)
 
 -- A node stands in the scope of an operator.
 pub record IsIn (n parent : Placed) : Type 0 where
@@ -128,9 +120,9 @@ in_is_no_condition n p i = rw (its_parent n p i) (and_left _ _ (wants_no_operato
 in_is_no_root : (n p : Placed) → IsIn n p → is_root n ≡ false
 in_is_no_root n p i = ne_eqb (length n.path) 0 (λ e. omega (arith, e, ap length i.path, length-append p.path (as_ancestor p ∷ [])))
 
-in_class : (n p : Placed) → IsIn n p → class_around OfNothing n.path ≡ OfExpression
+in_class : (n p : Placed) → IsIn n p → class_around n.path ≡ OfExpression
 in_class n p i =
-    ap (class_around OfNothing) i.path ∙ class-push OfNothing p.path (as_ancestor p) (guards_no_operator (number p.op) i.operator) ∙ ap class_of (operator_row (number p.op) i.operator)
+    ap class_around i.path ∙ class-other p.path (as_ancestor p) (guards_no_operator (number p.op) i.operator) ∙ ap class_of (operator_row (number p.op) i.operator)
 
 -- ---- what is wrong with an opcode by itself, as a node and as an opcode of an expression
 
@@ -149,7 +141,7 @@ inner_fault n p AfterFormSet i less some h = absurd (false≢true (sym (in_is_no
 inner_fault n p OpOutside i less some h = (OpOutside, h, lit≤ tt)
 inner_fault n p OpSize i less some h = (OpSize, h, lit≤ tt)
 inner_fault n p Misplaced i less some h =
-    let refused : not (admits (class_around OfNothing n.path) (number n.op)) ≡ true = second _ _ (second _ _ h) in
+    let refused : not (admits (class_around n.path) (number n.op)) ≡ true = second _ _ (second _ _ h) in
     (Misplaced, ap (λ (c : Class). not (admits c (number n.op))) (sym (in_class n p i)) ∙ refused, lit≤ tt)
 inner_fault n p ScopeBit i less some h = elim (cases_Bool (is_operator (number n.op))) [
   | inl operator ↦

@@ -1,5 +1,5 @@
 -- The innermost of a path, by the last of the places on it.
-use Rattle.std.proofs.Common.{◌≡◌, ℕ, ◌-◌, All, rules, Option, Some, None, Result, Ok, Err, IsOk, List, [], ◌∷◌, length, map, refl, sym, ap, ◌∙◌, subst, arith}
+use Rattle.std.proofs.Common.{◌≡◌, ℕ, ◌-◌, All, rules, Option, Some, None, Result, Ok, Err, IsOk, List, [], ◌∷◌, ◌++◌, length, map, refl, sym, ap, ◌∙◌, subst, arith}
 use Rattle.std.specs.Prelude.{IfOk, option_map}
 use Rattle.std.specs.List.{last_or, slice_get}
 use Rattle.std.specs.Result.{result_ok}
@@ -15,6 +15,10 @@ use Rattle.ifr_scopes.specs.Structure.{innermost}
 last_read : {X Y : Type 0} (f : X → Y) (found : Option Y) (x : X) (xs : List X) → last_or found (map f (x ∷ xs)) ≡ option_map f (slice_get (x ∷ xs) (length xs))
 last_read f found x [] = refl
 last_read f found x (y ∷ xs) = last_read f (Some (f x)) y xs
+
+pub last_or-push : {X : Type 0} (found : Option X) (xs : List X) (x : X) → last_or found (xs ++ x ∷ []) ≡ Some x
+last_or-push found [] x = refl
+last_or-push found (y ∷ xs) x = last_or-push (Some y) xs x
 
 innermost_at : (bytes places : List ℕ) (place : ℕ) → Some place ≡ slice_get places (length places - 1) → innermost (map (ancestor_at bytes) places) ≡ Some (mark_at bytes place)
 innermost_at bytes [] place e = absurd cc

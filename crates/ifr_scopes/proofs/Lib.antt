@@ -6,6 +6,8 @@ pub mod WalkLemmas
 pub mod FirstLemmas
 pub mod StructureLemmas
 pub mod TableLemmas
+pub mod ClassLemmas
+pub mod ClassWorkedValues
 pub mod EndLemmas
 pub mod InnermostLemmas
 pub mod BehindLemmas

@@ -22,7 +22,8 @@ use Rattle.ifr_scopes.specs.declared.table.Class.{Class}
 use Rattle.ifr_scopes.specs.declared.table.Class.TheVariants.{OfFormSet, OfForm, OfText, OfQuestion, OfChoice, OfOptions, OfOption, OfExpression, OfNothing}
 use Rattle.ifr_scopes.proofs.ExpressionLemmas.{innermost-push}
 use Rattle.ifr_scopes.proofs.PathLemmas.{own_guards}
-use Rattle.ifr_scopes.proofs.RuleFacts.{around_it, class-guard, class-other, held, no_root, not_wanted}
+use Rattle.ifr_scopes.proofs.ClassLemmas.{class-guard, class-other}
+use Rattle.ifr_scopes.proofs.RuleFacts.{around_it, held, no_root, not_wanted}
 use Rattle.ifr_scopes.proofs.TableLemmas.{class_fact, guards_no_operator, no_guard}
 use Rattle.ifr_opcodes.proofs.StatementLemmas.{question_is_statement}
 
@@ -84,13 +85,13 @@ no_operator : is_operator NO_SUBMIT_IF ≡ false
 unfolding operands
 no_operator = refl
 
-class_there : (bytes : List ℕ) (n : Placed) → IsChecked bytes → Contains (nodes_of bytes) n → number n.op ≡ NO_SUBMIT_IF → is_of_question (class_around OfNothing n.path) ≡ true
+class_there : (bytes : List ℕ) (n : Placed) → IsChecked bytes → Contains (nodes_of bytes) n → number n.op ≡ NO_SUBMIT_IF → is_of_question (class_around n.path) ≡ true
 class_there bytes n checked within code =
     let root : is_root n ≡ false = no_root bytes n checked within (ap (λ (k : ℕ). eqb k FORM_SET) code) in
     let other : is_wanted n ≡ false = not_wanted bytes n checked within (ap is_operator code ∙ no_operator) (ap (λ (k : ℕ). eqb k VALUE) code) in
-    holds_no_submit (class_around OfNothing n.path) (ap (admits (class_around OfNothing n.path)) (sym code) ∙ held bytes n checked within other root)
+    holds_no_submit (class_around n.path) (ap (admits (class_around n.path)) (sym code) ∙ held bytes n checked within other root)
 
-no_guard_there : (bytes : List ℕ) (g : Placed) → IsChecked bytes → Contains (nodes_of bytes) g → is_guard (number g.op) ≡ true → class_around OfNothing g.path ≡ OfQuestion → ⊥
+no_guard_there : (bytes : List ℕ) (g : Placed) → IsChecked bytes → Contains (nodes_of bytes) g → is_guard (number g.op) ≡ true → class_around g.path ≡ OfQuestion → ⊥
 no_guard_there bytes g checked within guards class =
     let plain : is_operator (number g.op) ≡ false = elim (cases_Bool (is_operator (number g.op))) [
       | inl operator ↦ absurd (false≢true (sym (guards_no_operator (number g.op) operator) ∙ guards))
@@ -109,17 +110,17 @@ record HasQuestion (bytes : List ℕ) (n : Placed) : Type 0 where
 
 has_question : (bytes : List ℕ) (n : Placed) → IsChecked bytes → Contains (nodes_of bytes) n → number n.op ≡ NO_SUBMIT_IF → HasQuestion bytes n
 has_question bytes n checked within code = elim (around_it bytes n checked within) [
-  | inl bare ↦ absurd (false≢true (ap (λ (l : List Ancestor). is_of_question (class_around OfNothing l)) (sym bare) ∙ class_there bytes n checked within code))
+  | inl bare ↦ absurd (false≢true (ap (λ (l : List Ancestor). is_of_question (class_around l)) (sym bare) ∙ class_there bytes n checked within code))
   | inr r ↦
       let m = r.outer in
       let a = as_ancestor m in
       let there = class_there bytes n checked within code in
       elim (cases_Bool (is_guard (number m.op))) [
         | inl guards ↦
-            let class : class_around OfNothing n.path ≡ guarded (class_around OfNothing m.path) = ap (class_around OfNothing) r.path ∙ class-guard OfNothing m.path a guards in
-            absurd (no_guard_there bytes m checked r.within guards (guarded_question (class_around OfNothing m.path) (ap is_of_question (sym class) ∙ there)))
+            let class : class_around n.path ≡ guarded (class_around m.path) = ap class_around r.path ∙ class-guard m.path a guards in
+            absurd (no_guard_there bytes m checked r.within guards (guarded_question (class_around m.path) (ap is_of_question (sym class) ∙ there)))
         | inr other ↦
-            let class : class_around OfNothing n.path ≡ class_of (row (number m.op)) = ap (class_around OfNothing) r.path ∙ class-other OfNothing m.path a other in
+            let class : class_around n.path ≡ class_of (row (number m.op)) = ap class_around r.path ∙ class-other m.path a other in
             record { question = m; within = r.within; asks = question_class (number m.op) (ap is_of_question (sym class) ∙ there); path = r.path }
       ]
 ]

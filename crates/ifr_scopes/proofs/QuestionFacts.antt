@@ -11,8 +11,8 @@ use Rattle.ifr_opcodes.specs.Statements.{is_question_number}
 use Rattle.ifr_scopes.specs.Nodes.{nodes_of, is_question, is_statement}
 use Rattle.ifr_scopes.specs.Structure.{parent, is_condition, begins_with_value, is_wanted, is_root}
 use Rattle.ifr_scopes.specs.Table.{class_around}
-use Rattle.ifr_scopes.specs.declared.table.Class.TheVariants.{OfNothing}
-use Rattle.ifr_scopes.proofs.RuleFacts.{split_last, around_it, class-guard, class-other, is_operator_there, is_value_there, held}
+use Rattle.ifr_scopes.proofs.ClassLemmas.{class-guard, class-other}
+use Rattle.ifr_scopes.proofs.RuleFacts.{split_last, around_it, is_operator_there, is_value_there, held}
 use Rattle.ifr_scopes.proofs.TableLemmas.{is_inner, outer, inner_is_not_outer, guarded_inner, other_is_inner, question_is_inner, no_statement, operator_is_inner, value_is_inner, no_guard}
 use Rattle.ifr_opcodes.proofs.StatementLemmas.{question_is_statement}
 
@@ -26,10 +26,10 @@ wanted_is_inner bytes n checked within is = elim (cases_Bool (is_condition n)) [
 ]
 
 -- a node in such a scope is no statement, nor what one stands in
-node_is_inner : (bytes : List ℕ) (n : Placed) → IsChecked bytes → Contains (nodes_of bytes) n → is_root n ≡ false → is_inner (class_around OfNothing n.path) ≡ true → is_among (number n.op) outer ≡ false
+node_is_inner : (bytes : List ℕ) (n : Placed) → IsChecked bytes → Contains (nodes_of bytes) n → is_root n ≡ false → is_inner (class_around n.path) ≡ true → is_among (number n.op) outer ≡ false
 node_is_inner bytes n checked within root inner = elim (cases_Bool (is_wanted n)) [
   | inl is ↦ wanted_is_inner bytes n checked within is
-  | inr other ↦ inner_is_not_outer (class_around OfNothing n.path) (number n.op) inner (held bytes n checked within other root)
+  | inr other ↦ inner_is_not_outer (class_around n.path) (number n.op) inner (held bytes n checked within other root)
 ]
 
 some_root : (n : Placed) (before after : List Ancestor) (a : Ancestor) → n.path ≡ before ++ a ∷ after → is_root n ≡ false
@@ -49,21 +49,21 @@ question_no_guard : (code : ℕ) → is_question_number code ≡ true → is_gua
 question_no_guard code asks = no_guard code (question_is_statement code asks)
 
 -- right inside of a question's
-outermost_class : (q n : Placed) (inside : List Ancestor) → is_question q ≡ true → n.path ≡ q.path ++ as_ancestor q ∷ inside → inside ≡ [] → is_inner (class_around OfNothing n.path) ≡ true
+outermost_class : (q n : Placed) (inside : List Ancestor) → is_question q ≡ true → n.path ≡ q.path ++ as_ancestor q ∷ inside → inside ≡ [] → is_inner (class_around n.path) ≡ true
 outermost_class q n inside is e bare =
     let path : n.path ≡ q.path ++ as_ancestor q ∷ [] = e ∙ ap (λ (l : List Ancestor). q.path ++ as_ancestor q ∷ l) bare in
-    ap (λ (l : List Ancestor). is_inner (class_around OfNothing l)) path ∙ ap is_inner (class-other OfNothing q.path (as_ancestor q) (question_no_guard (number q.op) is)) ∙ question_is_inner (number q.op) is
+    ap (λ (l : List Ancestor). is_inner (class_around l)) path ∙ ap is_inner (class-other q.path (as_ancestor q) (question_no_guard (number q.op) is)) ∙ question_is_inner (number q.op) is
 
 -- in the scope of a node that is in such a scope
-deeper_class : (bytes : List ℕ) (n m : Placed) → IsChecked bytes → Contains (nodes_of bytes) m → n.path ≡ m.path ++ as_ancestor m ∷ [] → is_root m ≡ false → is_inner (class_around OfNothing m.path) ≡ true → is_inner (class_around OfNothing n.path) ≡ true
+deeper_class : (bytes : List ℕ) (n m : Placed) → IsChecked bytes → Contains (nodes_of bytes) m → n.path ≡ m.path ++ as_ancestor m ∷ [] → is_root m ≡ false → is_inner (class_around m.path) ≡ true → is_inner (class_around n.path) ≡ true
 deeper_class bytes n m checked within path root around = elim (cases_Bool (is_guard (number m.op))) [
-  | inl guards ↦ ap (λ (l : List Ancestor). is_inner (class_around OfNothing l)) path ∙ ap is_inner (class-guard OfNothing m.path (as_ancestor m) guards) ∙ guarded_inner (class_around OfNothing m.path) around
-  | inr other ↦ ap (λ (l : List Ancestor). is_inner (class_around OfNothing l)) path ∙ ap is_inner (class-other OfNothing m.path (as_ancestor m) other) ∙ other_is_inner (number m.op) (node_is_inner bytes m checked within root around)
+  | inl guards ↦ ap (λ (l : List Ancestor). is_inner (class_around l)) path ∙ ap is_inner (class-guard m.path (as_ancestor m) guards) ∙ guarded_inner (class_around m.path) around
+  | inr other ↦ ap (λ (l : List Ancestor). is_inner (class_around l)) path ∙ ap is_inner (class-other m.path (as_ancestor m) other) ∙ other_is_inner (number m.op) (node_is_inner bytes m checked within root around)
 ]
 
 -- the scopes inside of a question's are such scopes
 pub inner_class : (bytes : List ℕ) (k : ℕ) (q n : Placed) (inside : List Ancestor) → IsChecked bytes → Contains (nodes_of bytes) n → is_question q ≡ true → length inside ≤ k
-    → n.path ≡ q.path ++ as_ancestor q ∷ inside → is_inner (class_around OfNothing n.path) ≡ true
+    → n.path ≡ q.path ++ as_ancestor q ∷ inside → is_inner (class_around n.path) ≡ true
 inner_class bytes zero q n inside checked within is le e = elim (split_last inside) [
   | inl bare ↦ outermost_class q n inside is e bare
   | inr (before, a, last) ↦ absurd (omega (arith, le, ap (λ (l : List Ancestor). length l) last, length-append before (a ∷ [])))
@@ -77,7 +77,7 @@ inner_class bytes (suc k) q n inside checked within is le e = elim (split_last i
         let whole : n.path ≡ (q.path ++ as_ancestor q ∷ before) ++ a ∷ [] = e ∙ ap (λ (l : List Ancestor). q.path ++ as_ancestor q ∷ l) last ∙ sym (append_assoc q.path (as_ancestor q ∷ before) (a ∷ [])) in
         let same = last_of (q.path ++ as_ancestor q ∷ before) m.path a (as_ancestor m) (sym whole ∙ r.path) in
         let shorter : length before ≤ k = omega (arith, le, ap (λ (l : List Ancestor). length l) last, length-append before (a ∷ [])) in
-        let around : is_inner (class_around OfNothing m.path) ≡ true = inner_class bytes k q m before checked r.within is shorter (sym same.0) in
+        let around : is_inner (class_around m.path) ≡ true = inner_class bytes k q m before checked r.within is shorter (sym same.0) in
         deeper_class bytes n m checked r.within r.path (some_root m q.path before (as_ancestor q) (sym same.0)) around
   ]
 ]

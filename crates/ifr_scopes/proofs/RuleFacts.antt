@@ -1,8 +1,8 @@
 -- What the structure of a checked package says of its rules: each begins with an expression and has nothing beside it, and
 -- stands in one form and in no rule.
-use Rattle.std.proofs.Common.{◌≡◌, ◌⊎◌, ℕ, zero, suc, ◌+◌, ◌≤◌, Bool, true, false, cond, eqb, Some, List, [], ◌∷◌, ◌++◌, length, refl, sym, ap, ◌∙◌, subst, arith, inl, inr}
+use Rattle.std.proofs.Common.{◌≡◌, ◌⊎◌, ℕ, zero, suc, ◌+◌, ◌≤◌, Bool, true, false, eqb, Some, List, [], ◌∷◌, ◌++◌, length, refl, sym, ap, ◌∙◌, subst, arith, inl, inr}
 use Rattle.std.specs.Prelude.{Contains, ◌&&◌, ◌==◌, not, filter}
-use Rattle.std.proofs.lemmas.Bool.{cases_Bool, eqb-true, eq-eqb, ne_eqb, cond-true, cond-false, false≢true, true≢false, and_right, or_from}
+use Rattle.std.proofs.lemmas.Bool.{cases_Bool, eqb-true, eq-eqb, ne_eqb, false≢true, true≢false, and_right, or_from}
 use Rattle.std.proofs.lemmas.List.{append-nil, length-append}
 use Rattle.std.proofs.lemmas.List.Elements.{filter-append, Contains-append_right}
 use Rattle.hii_bytes.specs.declared.cause.Cause.TheVariants.{NotFormSet, AfterFormSet, Misplaced}
@@ -18,9 +18,10 @@ use Rattle.ifr_scopes.specs.Nodes.{nodes_of}
 use Rattle.ifr_scopes.specs.Rules.{is_rule, forms_among}
 use Rattle.ifr_scopes.specs.RuleNodes.{IsRuleNode}
 use Rattle.ifr_scopes.specs.Structure.{innermost, parent, begins_scope, begins_with_value, is_condition, is_wanted, is_root}
-use Rattle.ifr_scopes.specs.Table.{row, class_of, guarded, class_around, admits, wants_expression, wants_value}
+use Rattle.ifr_scopes.specs.Table.{row, class_of, class_around, admits, wants_expression, wants_value}
 use Rattle.ifr_scopes.specs.declared.table.Class.{Class}
 use Rattle.ifr_scopes.specs.declared.table.Class.TheVariants.{OfFormSet, OfForm, OfNothing}
+use Rattle.ifr_scopes.proofs.ClassLemmas.{class-guard, class-other}
 use Rattle.ifr_scopes.proofs.ExpressionLemmas.{first, second, innermost-push}
 use Rattle.ifr_scopes.proofs.NodeFactLemmas.{no_fault, has_condition, has_value}
 use Rattle.ifr_scopes.proofs.TableLemmas.{of_form_set, of_form, holds_form_set, holds_form, holds_rule, holds_subtitle, guarded_form_set, guarded_form, no_operators}
@@ -54,14 +55,6 @@ around_it bytes n checked within = elim (split_last n.path) [
         path = e ∙ ap (λ (l : List Ancestor). l ++ a ∷ []) (sym m.3) ∙ ap (λ (b : Ancestor). m.0.path ++ b ∷ []) (sym m.2);
       })
 ]
-
-pub class-guard : (found : Class) (path : List Ancestor) (a : Ancestor) → is_guard (number a.op) ≡ true → class_around found (path ++ a ∷ []) ≡ guarded (class_around found path)
-class-guard found [] a is = cond-true (is_guard (number a.op)) _ _ is
-class-guard found (b ∷ path) a is = class-guard (cond (is_guard (number b.op)) (guarded found) (class_of (row (number b.op)))) path a is
-
-pub class-other : (found : Class) (path : List Ancestor) (a : Ancestor) → is_guard (number a.op) ≡ false → class_around found (path ++ a ∷ []) ≡ class_of (row (number a.op))
-class-other found [] a other = cond-false (is_guard (number a.op)) _ _ other
-class-other found (b ∷ path) a other = class-other (cond (is_guard (number b.op)) (guarded found) (class_of (row (number b.op)))) path a other
 
 -- ---- where a node may stand
 
@@ -120,13 +113,13 @@ no_root bytes n checked within other = elim (cases_Bool (is_root n)) [
   ]
 ]
 
-pub held : (bytes : List ℕ) (n : Placed) → IsChecked bytes → Contains (nodes_of bytes) n → is_wanted n ≡ false → is_root n ≡ false → admits (class_around OfNothing n.path) (number n.op) ≡ true
+pub held : (bytes : List ℕ) (n : Placed) → IsChecked bytes → Contains (nodes_of bytes) n → is_wanted n ≡ false → is_root n ≡ false → admits (class_around n.path) (number n.op) ≡ true
 held bytes n checked within other root = placed (is_root n) (is_wanted n) _ root other (no_fault bytes n Misplaced checked within)
 
 -- a node of this number is held where it stands
-held_as : (bytes : List ℕ) (n : Placed) (code : ℕ) → IsChecked bytes → Contains (nodes_of bytes) n → number n.op ≡ code → is_operator code ≡ false → eqb code VALUE ≡ false → is_root n ≡ false → admits (class_around OfNothing n.path) code ≡ true
+held_as : (bytes : List ℕ) (n : Placed) (code : ℕ) → IsChecked bytes → Contains (nodes_of bytes) n → number n.op ≡ code → is_operator code ≡ false → eqb code VALUE ≡ false → is_root n ≡ false → admits (class_around n.path) code ≡ true
 held_as bytes n code checked within is other plain root =
-    ap (admits (class_around OfNothing n.path)) (sym is) ∙ held bytes n checked within (not_wanted bytes n checked within (ap is_operator is ∙ other) (ap (λ (k : ℕ). eqb k VALUE) is ∙ plain)) root
+    ap (admits (class_around n.path)) (sym is) ∙ held bytes n checked within (not_wanted bytes n checked within (ap is_operator is ∙ other) (ap (λ (k : ℕ). eqb k VALUE) is ∙ plain)) root
 
 -- ---- the forms and rules on a path
 
@@ -171,7 +164,7 @@ past path before a forms e form rule h = record {
 }
 
 -- in a form set and its guards there is no form
-in_form_set : (bytes : List ℕ) (k : ℕ) (n : Placed) → IsChecked bytes → Contains (nodes_of bytes) n → length n.path ≤ k → class_around OfNothing n.path ≡ OfFormSet → HasForms n.path []
+in_form_set : (bytes : List ℕ) (k : ℕ) (n : Placed) → IsChecked bytes → Contains (nodes_of bytes) n → length n.path ≤ k → class_around n.path ≡ OfFormSet → HasForms n.path []
 in_form_set bytes zero n checked within le e = elim (around_it bytes n checked within) [
   | inl bare ↦ subst (λ (l : List Ancestor). HasForms l []) (sym bare) has_none
   | inr r ↦ absurd (nothing_around n.path r.outer.path (as_ancestor r.outer) le r.path)
@@ -183,39 +176,39 @@ in_form_set bytes (suc k) n checked within le e = elim (around_it bytes n checke
       let a = as_ancestor m in
       elim (cases_Bool (is_guard (number m.op))) [
         | inl guards ↦
-            let inner = in_form_set bytes k m checked r.within (shorter k n.path m.path a le r.path) (guarded_form_set _ (sym (ap (class_around OfNothing) r.path ∙ class-guard OfNothing m.path a guards) ∙ e)) in
+            let inner = in_form_set bytes k m checked r.within (shorter k n.path m.path a le r.path) (guarded_form_set _ (sym (ap class_around r.path ∙ class-guard m.path a guards) ∙ e)) in
             past n.path m.path a [] r.path (guard_other (number m.op) FORM guards refl) (guard_other (number m.op) RULE guards refl) inner
         | inr other ↦
-            let set : number m.op ≡ FORM_SET = of_form_set (number m.op) (sym (ap (class_around OfNothing) r.path ∙ class-other OfNothing m.path a other) ∙ e) in
+            let set : number m.op ≡ FORM_SET = of_form_set (number m.op) (sym (ap class_around r.path ∙ class-other m.path a other) ∙ e) in
             let bare : m.path ≡ [] = elim (around_it bytes m checked r.within) [
               | inl alone ↦ alone
               | inr s ↦
                   let root : is_root m ≡ false = ne_eqb (length m.path) 0 (λ z. omega (arith, z, ap (λ (l : List Ancestor). length l) s.path, length-append s.outer.path (as_ancestor s.outer ∷ []))) in
-                  absurd (holds_form_set (class_around OfNothing m.path) (held_as bytes m FORM_SET checked r.within set no_operators.0 refl root))
+                  absurd (holds_form_set (class_around m.path) (held_as bytes m FORM_SET checked r.within set no_operators.0 refl root))
             ] in
             past n.path m.path a [] r.path (number_other (number m.op) FORM_SET FORM set refl) (number_other (number m.op) FORM_SET RULE set refl) (subst (λ (l : List Ancestor). HasForms l []) (sym bare) has_none)
       ]
 ]
 
 -- in a form and its guards there is this form
-in_form : (bytes : List ℕ) (k : ℕ) (n : Placed) → IsChecked bytes → Contains (nodes_of bytes) n → length n.path ≤ k → class_around OfNothing n.path ≡ OfForm → (form : Ancestor) × HasForms n.path (form ∷ [])
+in_form : (bytes : List ℕ) (k : ℕ) (n : Placed) → IsChecked bytes → Contains (nodes_of bytes) n → length n.path ≤ k → class_around n.path ≡ OfForm → (form : Ancestor) × HasForms n.path (form ∷ [])
 in_form bytes zero n checked within le e = elim (around_it bytes n checked within) [
-  | inl bare ↦ let bad : OfNothing ≡ OfForm = ap (class_around OfNothing) (sym bare) ∙ e in absurd cc
+  | inl bare ↦ let bad : OfNothing ≡ OfForm = ap class_around (sym bare) ∙ e in absurd cc
   | inr r ↦ absurd (nothing_around n.path r.outer.path (as_ancestor r.outer) le r.path)
 ]
 in_form bytes (suc k) n checked within le e = elim (around_it bytes n checked within) [
-  | inl bare ↦ let bad : OfNothing ≡ OfForm = ap (class_around OfNothing) (sym bare) ∙ e in absurd cc
+  | inl bare ↦ let bad : OfNothing ≡ OfForm = ap class_around (sym bare) ∙ e in absurd cc
   | inr r ↦
       let m = r.outer in
       let a = as_ancestor m in
       elim (cases_Bool (is_guard (number m.op))) [
         | inl guards ↦
-            let inner = in_form bytes k m checked r.within (shorter k n.path m.path a le r.path) (guarded_form _ (sym (ap (class_around OfNothing) r.path ∙ class-guard OfNothing m.path a guards) ∙ e)) in
+            let inner = in_form bytes k m checked r.within (shorter k n.path m.path a le r.path) (guarded_form _ (sym (ap class_around r.path ∙ class-guard m.path a guards) ∙ e)) in
             (inner.0, past n.path m.path a (inner.0 ∷ []) r.path (guard_other (number m.op) FORM guards refl) (guard_other (number m.op) RULE guards refl) inner.1)
-        | inr other ↦ elim (of_form (number m.op) (sym (ap (class_around OfNothing) r.path ∙ class-other OfNothing m.path a other) ∙ e)) [
+        | inr other ↦ elim (of_form (number m.op) (sym (ap class_around r.path ∙ class-other m.path a other) ∙ e)) [
           | inl form ↦
               let root = no_root bytes m checked r.within (number_other (number m.op) FORM FORM_SET form refl) in
-              let set : class_around OfNothing m.path ≡ OfFormSet = holds_form (class_around OfNothing m.path) (held_as bytes m FORM checked r.within form no_operators.1 refl root) in
+              let set : class_around m.path ≡ OfFormSet = holds_form (class_around m.path) (held_as bytes m FORM checked r.within form no_operators.1 refl root) in
               let inner = in_form_set bytes (length m.path) m checked r.within (omega arith) set in (
                 a,
                 record {
@@ -225,7 +218,7 @@ in_form bytes (suc k) n checked within le e = elim (around_it bytes n checked wi
               )
           | inr subtitle ↦
               let root = no_root bytes m checked r.within (number_other (number m.op) SUBTITLE FORM_SET subtitle refl) in
-              let class : class_around OfNothing m.path ≡ OfForm = holds_subtitle (class_around OfNothing m.path) (held_as bytes m SUBTITLE checked r.within subtitle no_operators.3 refl root) in
+              let class : class_around m.path ≡ OfForm = holds_subtitle (class_around m.path) (held_as bytes m SUBTITLE checked r.within subtitle no_operators.3 refl root) in
               let inner = in_form bytes k m checked r.within (shorter k n.path m.path a le r.path) class in
               (inner.0, past n.path m.path a (inner.0 ∷ []) r.path (number_other (number m.op) SUBTITLE FORM subtitle refl) (number_other (number m.op) SUBTITLE RULE subtitle refl) inner.1)
         ]
@@ -265,7 +258,7 @@ nothing_beside bytes n op inner (node next its more) checked within is e =
     (ap (begins_scope behind) (innermost-push n.path a) ∙ and_right (wants_expression (number n.op)) _ later)
     (ap (begins_with_value behind) (innermost-push n.path a) ∙ and_right (wants_value n.op) _ later) in
     let plain : is_guard (number n.op) ≡ false = ap is_guard rule in
-    let class : class_around OfNothing entered ≡ OfNothing = class-other OfNothing n.path a plain ∙ ap (λ (k : ℕ). class_of (row k)) rule ∙ of_rule in
+    let class : class_around entered ≡ OfNothing = class-other n.path a plain ∙ ap (λ (k : ℕ). class_of (row k)) rule ∙ of_rule in
     let h = placed (is_root m) (is_wanted m) _ root no_start (no_fault bytes m Misplaced checked there) in
     absurd (false≢true (ap (λ (c : Class). admits c (number next)) (sym class) ∙ h))
 
@@ -273,7 +266,7 @@ pub rule_fact : (bytes : List ℕ) (n : Placed) → IsChecked bytes → Contains
 rule_fact bytes n checked within is =
     let rule : number n.op ≡ RULE = eqb-true (number n.op) RULE is in
     let root = no_root bytes n checked within (number_other (number n.op) RULE FORM_SET rule refl) in
-    let class : class_around OfNothing n.path ≡ OfForm = holds_rule (class_around OfNothing n.path) (held_as bytes n RULE checked within rule no_operators.2 refl root) in
+    let class : class_around n.path ≡ OfForm = holds_rule (class_around n.path) (held_as bytes n RULE checked within rule no_operators.2 refl root) in
     let forms = in_form bytes (length n.path) n checked within (omega arith) class in
     let its = has_condition bytes n checked within (ap wants_expression rule ∙ wants_of_rule) in
     record {

@@ -1,5 +1,5 @@
 -- An ancestor of a node is a node whose own path is the part of the path before it.
-use Rattle.std.proofs.Common.{◌≡◌, ℕ, zero, suc, ◌+◌, ◌<◌, true, false, Option, Some, None, List, [], ◌∷◌, ◌++◌, length, map, take, get_or, refl, sym, ap, ◌∙◌, subst, inl, inr, arith, append_assoc}
+use Rattle.std.proofs.Common.{◌≡◌, ℕ, zero, suc, ◌+◌, ◌<◌, true, false, None, List, [], ◌∷◌, ◌++◌, length, map, take, get_or, refl, sym, ap, ◌∙◌, subst, inl, inr, arith, append_assoc}
 use Rattle.std.specs.Prelude.{Contains}
 use Rattle.std.specs.List.{AllByRecursion, last_or}
 use Rattle.std.proofs.lemmas.List.{append-nil}
@@ -15,6 +15,7 @@ use Rattle.ifr_scopes.specs.Checked.{IsChecked, IsAt, IsNodeOf, AreNodesOf, node
 use Rattle.ifr_scopes.specs.Scopes.{IsScope, AreScopes}
 use Rattle.ifr_scopes.specs.Visits.{view}
 use Rattle.ifr_scopes.specs.declared.walk.Visit.{Visit}
+use Rattle.ifr_scopes.proofs.InnermostLemmas.{last_or-push}
 use Rattle.ifr_scopes.proofs.NodeFactLemmas.{is_node}
 use Rattle.ifr_scopes.proofs.PlaceLemmas.{is_found}
 use Rattle.ifr_scopes.proofs.ViewLemmas.{is_at, node_in_place, further, contains_found}
@@ -110,10 +111,6 @@ pub around_node : (bytes : List ℕ) (place : ℕ) (op places : List ℕ) → Is
 around_node bytes place op places checked at e = are_scopes bytes places (node_in bytes place) checked.spelled (is_node bytes place op checked at) e
 
 -- ---- the innermost question
-
-pub last_or-push : {X : Type 0} (found : Option X) (xs : List X) (x : X) → last_or found (xs ++ x ∷ []) ≡ Some x
-last_or-push found [] x = refl
-last_or-push found (y ∷ xs) x = last_or-push (Some y) xs x
 
 pub this-question : (path : List Ancestor) (a : Ancestor) → is_question_number (number a.op) ≡ true → this_among (path ++ a ∷ []) ≡ question_id a.op
 this-question path a is =

@@ -18,7 +18,8 @@ use Rattle.ifr_scopes.specs.declared.node.Node.{Node}
 use Rattle.ifr_scopes.proofs.PathLemmas.{kept}
 use Rattle.ifr_scopes.proofs.PlaceLemmas.{is_found}
 use Rattle.ifr_scopes.proofs.QuestionFacts.{no_statement_inside}
-use Rattle.ifr_scopes.proofs.ScopeLemmas.{ancestor_node, last_or-push}
+use Rattle.ifr_scopes.proofs.InnermostLemmas.{last_or-push}
+use Rattle.ifr_scopes.proofs.ScopeLemmas.{ancestor_node}
 use Rattle.ifr_opcodes.proofs.StatementLemmas.{question_is_statement}
 use Rattle.ifr_scopes.proofs.ViewLemmas.{below_within, contains_found}
 

@@ -16,7 +16,6 @@ use Rattle.ifr_scopes.specs.Table.{row, wants_expression, wants_value, admits, c
 use Rattle.ifr_scopes.specs.declared.table.Row.{Row}
 use Rattle.ifr_scopes.specs.declared.table.Scope.{Scope}
 use Rattle.ifr_scopes.specs.declared.table.Scope.TheVariants.{Always, Sometimes, Never, Outermost, WithValue}
-use Rattle.ifr_scopes.specs.declared.table.Class.TheVariants.{OfNothing}
 
 abbrev pub is_root : Placed → Bool
 is_root n = length n.path == 0
@@ -95,7 +94,7 @@ has_fault n NotFormSet = (n.place == 4) && not (number n.op == FORM_SET)
 has_fault n AfterFormSet = is_root n && not (n.place == 4)
 has_fault n OpOutside = is_outside n.op
 has_fault n OpSize = is_short n.op
-has_fault n Misplaced = not (is_root n) && (not (is_wanted n) && not (admits (class_around OfNothing n.path) (number n.op)))
+has_fault n Misplaced = not (is_root n) && (not (is_wanted n) && not (admits (class_around n.path) (number n.op)))
 has_fault n ScopeBit = has_wrong_scope (row (number n.op)) (is_operand n) n.op
 has_fault n ExprShape = lacks_wanted n.op n.children
 has_fault n _ = false

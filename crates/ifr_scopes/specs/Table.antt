@@ -1,6 +1,7 @@
 -- The opcodes that are known, with a row for each: whether it opens a scope, and what may stand in that scope (UEFI 2.8,
 -- 33.3.8.3 Opcode Reference; which opcodes are known and what may stand where are own rules).
-use Rattle.std.specs.Prelude.{ℕ, nat_le, length, Bool, false, ◌==◌, ◌||◌, ◌&&◌, if◌then◌else◌, Option, Some, None, List, [], ◌∷◌, ◌++◌}
+use Rattle.std.specs.Prelude.{ℕ, nat_le, length, Bool, false, not, ◌==◌, ◌||◌, ◌&&◌, if◌then◌else◌, Option, Some, None, List, [], ◌∷◌, ◌++◌, filter}
+use Rattle.std.specs.List.{last_or}
 use Rattle.ifr_opcodes.specs.Fields.{default_kind}
 use Rattle.ifr_opcodes.specs.Opcode.{number}
 use Rattle.ifr_opcodes.specs.Operators.{is_among, is_operator}
@@ -62,7 +63,7 @@ admits OfOption code = is_ignored code
 admits OfExpression code = is_operator code
 admits OfNothing code = false
 
--- the class of an opcode's scope
+-- the class of the scope of an opcode with this row
 abbrev pub class_of : Option Row → Class
 class_of None = OfNothing
 class_of (Some r) = r.class
@@ -72,7 +73,23 @@ abbrev pub guarded : Class → Class
 guarded OfChoice = OfOptions
 guarded class = class
 
--- the class of the innermost of a path: a guard covers what may stand around it
-abbrev pub class_around : Class → List Ancestor → Class
-class_around found [] = found
-class_around found (a ∷ path) = class_around (if is_guard (number a.op) then guarded found else class_of (row (number a.op))) path
+-- those of a path that are no guards
+abbrev pub others_among : List Ancestor → List Ancestor
+others_among path = filter (λ a. not (is_guard (number a.op))) path
+
+-- what may stand in the scope of an opcode that is no guard, and nothing where there is none
+abbrev pub class_in : Option Ancestor → Class
+class_in None = OfNothing
+class_in (Some a) = class_of (row (number a.op))
+
+-- whether a scope is that of a guard
+abbrev pub is_guard_scope : Option Ancestor → Bool
+is_guard_scope None = false
+is_guard_scope (Some a) = is_guard (number a.op)
+
+-- What may stand in the innermost scope of a path: a guard covers what may stand around it, so this is what the innermost
+-- opcode that is no guard admits, or, where the scope is a guard's, what that opcode admits in a guard.
+abbrev pub class_around : List Ancestor → Class
+class_around path =
+    let class = class_in (last_or None (others_among path)) in
+    if is_guard_scope (last_or None path) then guarded class else class

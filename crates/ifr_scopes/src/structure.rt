@@ -39,9 +39,10 @@ fn has_wrong_scope(op: Op, operand: bool) -> bool
 }
 
 // What may stand in the scope of the innermost of the nodes at these places.
+#[tactic(auto, using(crate::proofs::ClassLemmas::class_next))]
 fn class_around(bytes: &[u8], places: &[u32]) -> Class
     requires { All (λ place. IsWhole (mark_at bytes.now place).op) places.now }
-    ensures { result ≡ table.class_around Class.OfNothing (map (ancestor_at bytes.now) places.now) }
+    ensures { result ≡ table.class_around (map (ancestor_at bytes.now) places.now) }
 {
     let mut found = Class::OfNothing;
     for place in places {
