@@ -7,7 +7,7 @@ use Rattle.ifr_opcodes.specs.Reading.{tree_of}
 use Rattle.ifr_scopes.specs.Checked.{IsChecked}
 use Rattle.ifr_scopes.specs.Nodes.{nodes_of, is_question}
 use Rattle.ifr_scopes.proofs.QuestionFacts.{no_statement_inside}
-use Rattle.ifr_scopes.proofs.ThisLemmas.{path_inside}
+use Rattle.ifr_scopes.proofs.ScopeLemmas.{path_inside}
 use Rattle.ifr_scopes.proofs.ViewLemmas.{below_within, further}
 use Rattle.hii_questions.proofs.QuestionLemmas.{question_is_statement}
 

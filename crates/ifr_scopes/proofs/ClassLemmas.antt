@@ -26,10 +26,12 @@ guarded_twice OfOption = refl
 guarded_twice OfExpression = refl
 guarded_twice OfNothing = refl
 
+-- so what it covers is the same, whether it stands in a guard or not
 covered : (in_guard : Bool) (c : Class) → guarded (cond in_guard (guarded c) c) ≡ guarded c
 covered true c = guarded_twice c
 covered false c = refl
 
+-- in a guard stands what that covers
 pub class-guard : (path : List Ancestor) (a : Ancestor) → is_guard (number a.op) ≡ true → class_around (path ++ a ∷ []) ≡ guarded (class_around path)
 class-guard path a is =
     let same : others_among (path ++ a ∷ []) ≡ others_among path = filter-append (λ (b : Ancestor). not (is_guard (number b.op))) path (a ∷ []) ∙ rw is (append-nil (others_among path)) in
@@ -37,6 +39,7 @@ class-guard path a is =
     cond-true (is_guard_scope (last_or None (path ++ a ∷ []))) _ _ last ∙ ap (λ (l : List Ancestor). guarded (class_in (last_or None l))) same
     ∙ sym (covered (is_guard_scope (last_or None path)) (class_in (last_or None (others_among path))))
 
+-- and in another opcode what that admits
 pub class-other : (path : List Ancestor) (a : Ancestor) → is_guard (number a.op) ≡ false → class_around (path ++ a ∷ []) ≡ class_of (row (number a.op))
 class-other path a other =
     let more : others_among (path ++ a ∷ []) ≡ others_among path ++ a ∷ [] = filter-append (λ (b : Ancestor). not (is_guard (number b.op))) path (a ∷ []) ∙ rw other refl in

@@ -1,6 +1,6 @@
 -- The faults of an expression, and those of its nodes.
-use Rattle.std.proofs.Common.{◌≡◌, ◌⊎◌, ℕ, zero, suc, ◌+◌, ◌-◌, ◌<◌, ◌≤◌, Bool, true, false, Option, Some, None, List, [], ◌∷◌, ◌++◌, length, take, drop, slice_range, refl, sym, ap, subst, ◌∙◌, arith, inl, inr, lit≤, length-append}
-use Rattle.std.specs.Prelude.{Contains, ◌==◌, ◌&&◌, not, option_map}
+use Rattle.std.proofs.Common.{◌≡◌, ◌⊎◌, ℕ, zero, suc, ◌+◌, ◌-◌, ◌<◌, ◌≤◌, true, false, Option, Some, None, List, [], ◌∷◌, ◌++◌, length, take, drop, slice_range, refl, sym, ap, subst, ◌∙◌, arith, inl, inr, lit≤, length-append}
+use Rattle.std.specs.Prelude.{Contains, ◌==◌, not, option_map}
 use Rattle.std.proofs.lemmas.Bool.{cases_Bool, eq-eqb, ne_eqb, false≢true, and_from, and_left, or_from, not_from_true, not_from_false}
 use Rattle.std.proofs.lemmas.List.{length-drop, take_at}
 use Rattle.hii_bytes.specs.Cause.{number_of}
@@ -12,7 +12,7 @@ use Rattle.ifr_opcodes.specs.Operators.{is_operator}
 use Rattle.ifr_opcodes.proofs.ForestLemmas.{takes}
 use Rattle.ifr_expr.specs.Checked.{IsSized, AreSized}
 use Rattle.ifr_expr.specs.Faults as expr
-use Rattle.ifr_expr.specs.Faults.{IsOpcodeFault, IsShapeFault, IsExpressionFault, StandsBehind}
+use Rattle.ifr_expr.specs.Faults.{IsShapeFault, IsExpressionFault, StandsBehind}
 use Rattle.ifr_expr.specs.Trees.{Tree, Means, need, siblings, expression}
 use Rattle.ifr_expr.specs.Reading.{IsExpressionNode, opcodes_of}
 use Rattle.ifr_expr.proofs.NodeLemmas.{is_expression_node, opcodes_are}
@@ -28,6 +28,7 @@ use Rattle.ifr_scopes.proofs.ClassLemmas.{class-other}
 use Rattle.ifr_scopes.proofs.InnermostLemmas.{last_or-push}
 use Rattle.ifr_scopes.proofs.PlaceLemmas.{node_stands}
 use Rattle.ifr_opcodes.proofs.RowLemmas.{operator_inside}
+use Rattle.ifr_opcodes.proofs.StatementLemmas.{and_first, and_second}
 use Rattle.ifr_scopes.proofs.TableLemmas.{operator_row, guards_no_operator, wants_no_operator, wants_no_value}
 use Rattle.ifr_scopes.proofs.ViewLemmas.{further, below_within}
 
@@ -88,16 +89,6 @@ node_early n ScopeBit h = lit≤ tt
 node_early n ExprShape h = lit≤ tt
 node_early n _ h = absurd (false≢true h)
 
--- ---- operators in the table
-
-pub second : (a b : Bool) → (a && b) ≡ true → b ≡ true
-second true b e = e
-second false b e = absurd (false≢true e)
-
-pub first : (a b : Bool) → (a && b) ≡ true → a ≡ true
-first true b e = refl
-first false b e = e
-
 -- ---- the parent
 
 pub innermost-push : (path : List Ancestor) (a : Ancestor) → innermost (path ++ a ∷ []) ≡ Some (record { place = a.place; op = a.op })
@@ -131,21 +122,21 @@ pub own_fault : (n : Placed) (cause : Cause) → is_operator (number n.op) ≡ t
 own_fault n OpOutside operator h = h
 own_fault n OpSize operator h = h
 own_fault n Misplaced operator h = absurd (false≢true (sym (not_from_true (is_operator (number n.op)) operator) ∙ h))
-own_fault n ScopeBit operator h = absurd (false≢true (sym (not_from_true (n.place == n.place) (eq-eqb n.place n.place refl)) ∙ second (has_scope n.op) _ h))
+own_fault n ScopeBit operator h = absurd (false≢true (sym (not_from_true (n.place == n.place) (eq-eqb n.place n.place refl)) ∙ and_second (has_scope n.op) _ h))
 own_fault n _ operator h = absurd (false≢true h)
 
 -- an opcode in the expression's scope, whose fault has no greater number there
 pub inner_fault : (n p : Placed) (cause : Cause) → IsIn n p → p.place < n.place → 4 < n.place → has_fault n cause ≡ true → (other : Cause) × (expr.has_fault p.place (mark n) other ≡ true) × (number_of other ≤ number_of cause)
-inner_fault n p NotFormSet i less some h = absurd (false≢true (sym (ne_eqb n.place 4 (λ e. omega arith)) ∙ first _ _ h))
-inner_fault n p AfterFormSet i less some h = absurd (false≢true (sym (in_is_no_root n p i) ∙ first _ _ h))
+inner_fault n p NotFormSet i less some h = absurd (false≢true (sym (ne_eqb n.place 4 (λ e. omega arith)) ∙ and_first _ _ h))
+inner_fault n p AfterFormSet i less some h = absurd (false≢true (sym (in_is_no_root n p i) ∙ and_first _ _ h))
 inner_fault n p OpOutside i less some h = (OpOutside, h, lit≤ tt)
 inner_fault n p OpSize i less some h = (OpSize, h, lit≤ tt)
 inner_fault n p Misplaced i less some h =
-    let refused : not (admits (class_around n.path) (number n.op)) ≡ true = second _ _ (second _ _ h) in
+    let refused : not (admits (class_around n.path) (number n.op)) ≡ true = and_second _ _ (and_second _ _ h) in
     (Misplaced, ap (λ (c : Class). not (admits c (number n.op))) (sym (in_class n p i)) ∙ refused, lit≤ tt)
 inner_fault n p ScopeBit i less some h = elim (cases_Bool (is_operator (number n.op))) [
   | inl operator ↦
-      let scoped : has_scope n.op ≡ true = second (is_operand n) _ (ap (λ (r : Option Row). has_wrong_scope r (is_operand n) n.op) (sym (operator_row (number n.op) operator)) ∙ h) in
+      let scoped : has_scope n.op ≡ true = and_second (is_operand n) _ (ap (λ (r : Option Row). has_wrong_scope r (is_operand n) n.op) (sym (operator_row (number n.op) operator)) ∙ h) in
       (ScopeBit, and_from _ _ scoped (not_from_false _ (ne_eqb n.place p.place (λ e. omega arith))), lit≤ tt)
   | inr other ↦ (Misplaced, not_from_false _ other, lit≤ tt)
 ]
@@ -186,7 +177,7 @@ read_fault f n cause place within r (inl (m, (zero, lt, e), here, there)) = absu
     own OpOutside h = false≢true (sym (operator_inside n.op operator) ∙ h)
     own OpSize h = false≢true (sym r.sized.0.sized ∙ h)
     own Misplaced h = false≢true (sym (not_from_true _ operator) ∙ h)
-    own ScopeBit h = false≢true (sym (not_from_true (n.place == n.place) (eq-eqb n.place n.place refl)) ∙ second (has_scope n.op) _ h)
+    own ScopeBit h = false≢true (sym (not_from_true (n.place == n.place) (eq-eqb n.place n.place refl)) ∙ and_second (has_scope n.op) _ h)
     own _ h = false≢true h
 read_fault f n cause place within r (inl (m, (suc k, lt, e), here, there)) = inner cause there
   where
@@ -201,7 +192,7 @@ read_fault f n cause place within r (inl (m, (suc k, lt, e), here, there)) = inn
         let found = is_node_of n.children (n.place + length n.op) (n.path ++ as_ancestor n ∷ []) m (k, omega arith, e) in
         let i : IsIn found.0 n = record { path = found.3; operator = r.sized.0.operator } in
         let operator : is_operator (number found.0.op) ≡ true = ap (λ (x : Mark). is_operator (number x.op)) found.2 ∙ sized.operator in
-        let scoped : has_scope found.0.op ≡ true = ap (λ (x : Mark). has_scope x.op) found.2 ∙ first (has_scope m.op) _ h in
+        let scoped : has_scope found.0.op ≡ true = ap (λ (x : Mark). has_scope x.op) found.2 ∙ and_first (has_scope m.op) _ h in
         (found.0, below_within f 4 [] n found.0 within found.1, ap (λ (x : Mark). x.place) found.2 ∙ here, scope_fault found.0 n i operator scoped)
     inner _ h = absurd (false≢true h)
 

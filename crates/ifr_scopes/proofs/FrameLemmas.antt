@@ -1,8 +1,8 @@
 -- The questions on which an expression depends, name by name, over the expressions whose rules are gone into.
-use Rattle.std.proofs.Common.{◌≡◌, ◌↔◌, ℕ, ◌+◌, ◌*◌, ◌<◌, ◌≤◌, max, Bool, true, false, cond, eqb, Option, Some, None, IsSome, List, [], ◌∷◌, ◌++◌, append_assoc, length, map, reverse, refl, sym, ap, ◌∙◌, subst, arith, inl, inr}
+use Rattle.std.proofs.Common.{◌≡◌, ℕ, ◌+◌, ◌*◌, ◌<◌, ◌≤◌, max, Bool, true, false, cond, eqb, Option, Some, None, List, [], ◌∷◌, ◌++◌, append_assoc, length, map, reverse, refl, sym, ap, ◌∙◌, subst, arith, inl, inr}
 use Rattle.std.specs.Prelude.{sum, option_map}
 use Rattle.std.specs.List.{flat_map}
-use Rattle.std.proofs.lemmas.Bool.{cases_Bool, false≢true}
+use Rattle.std.proofs.lemmas.Bool.{cases_Bool}
 use Rattle.std.proofs.lemmas.Grind.{flat_map-append}
 use Rattle.std.proofs.lemmas.List.{append-nil, reverse-append, length-append, length-reverse}
 use Rattle.std.proofs.lemmas.List.Sums.{sum_by-cons}
@@ -139,27 +139,8 @@ turns_of_names rules (op ∷ ops) = elim (cases_Bool (eqb (number op.op) RULE_RE
 pub on_top : (old below : List Frame) (frame : Frame) → old ≡ below ++ frame ∷ [] → reverse old ≡ frame ∷ reverse below
 on_top old below frame e = ap reverse e ∙ reverse-append below (frame ∷ [])
 
-pub none_there : (frames : List Frame) → (IsSome {T = Frame} None ↔ (0 < length frames)) → frames ≡ []
-none_there [] h = refl
-none_there (frame ∷ frames) h = absurd (false≢true (h.1 (omega arith)))
-
 abbrev pub ids : List Rule → List Frame → List ℕ
 ids rules frames = flat_map (frame_ids rules) (reverse frames)
-
--- A frame that is at its end goes away.
-pub record Leaves (rules : List Rule) (old below : List Frame) : Type 0 where
-  pub same : ids rules old ≡ ids rules below
-  pub room : HaveRoom rules (reverse below)
-  pub fewer : turns rules (reverse below) < turns rules (reverse old)
-
-pub leaves : (rules : List Rule) (old below : List Frame) (frame : Frame) → old ≡ below ++ frame ∷ [] → names_left frame.names ≡ [] → HaveRoom rules (reverse old) → Leaves rules old below
-leaves rules old below frame e ends room =
-    let top = on_top old below frame e in
-    record {
-      same = ap (flat_map (frame_ids rules)) top ∙ ap (λ (ns : List Name). flat_map (ids_by rules frame.this) ns ++ ids rules below) ends;
-      room = (subst (HaveRoom rules) top room).1;
-      fewer = omega (arith, ap (turns rules) top);
-    }
 
 -- A frame goes on to its next name.
 pub record GoesOn (rules : List Rule) (old below new : List Frame) (this : ℕ) (n : Name) : Type 0 where
@@ -186,10 +167,6 @@ goes_on rules old below new frame next n e f this steps room =
       within = omega (arith, have.0, deep, long);
       fewer = omega (arith, ap (turns rules) top, ap (turns rules) after, ap (turns_among rules) steps);
     }
-
--- there is room for a frame that was taken away
-pub fits_again : (rules : List Rule) (old below : List Frame) (frame : Frame) → old ≡ below ++ frame ∷ [] → HaveRoom rules (reverse old) → length below < 17
-fits_again rules old below frame e room = let have = subst (HaveRoom rules) (on_top old below frame e) room in omega (arith, have.0, length-reverse below)
 
 -- ---- rules that are gone into
 

@@ -2,7 +2,7 @@
 use Rattle.std.proofs.Common.{◌≡◌, ℕ, ◌+◌, ◌≤◌, Bool, true, false, eqb, cond, Option, Some, None, List, [], ◌∷◌, length, refl, sym, ap, ◌∙◌, subst, inl, inr, arith}
 use Rattle.std.specs.Prelude.{◌&&◌}
 use Rattle.std.specs.Option.{option_or}
-use Rattle.std.proofs.lemmas.Bool.{cases_Bool, eqb-true, ne_eqb, cond-true, cond-false}
+use Rattle.std.proofs.lemmas.Bool.{cases_Bool, eqb-true, ne_eqb, cond-true, cond-false, and_from, and_right}
 use Rattle.hii_bytes.specs.Faults.{Rise}
 use Rattle.ifr_opcodes.specs.Forest.{Placed, Spells, flat}
 use Rattle.ifr_opcodes.specs.Reading.{tree_of}
@@ -24,13 +24,6 @@ passed is n rest place e = rw e refl
 here : (is : Placed → Bool) (n : Placed) (rest : List Placed) (place : ℕ) → is n && eqb n.place place ≡ true → kind_at is (n ∷ rest) place ≡ Some n
 here is n rest place e = rw e refl
 
-and_both : (a b : Bool) → a ≡ true → b ≡ true → a && b ≡ true
-and_both a b p q = rw (p, q) refl
-
-and_second : (a b : Bool) → b ≡ false → a && b ≡ false
-and_second true b q = q
-and_second false b q = refl
-
 or_nothing : {X : Type 0} (o : Option X) → option_or o None ≡ o
 or_nothing None = refl
 or_nothing (Some x) = refl
@@ -41,7 +34,7 @@ behind is low place [] less r = refl
 behind is low place (n ∷ ns) less r =
     let above : low ≤ n.place = r.0 in
     let other : eqb n.place place ≡ false = ne_eqb n.place place (λ e. omega arith) in
-    passed is n ns place (and_second (is n) (eqb n.place place) other) ∙ behind is (n.place + 1) place ns (omega arith) r.1
+    passed is n ns place (and_right (is n) (eqb n.place place) other) ∙ behind is (n.place + 1) place ns (omega arith) r.1
 
 -- at the start all nodes of a package are left, and nothing is in the index
 pub at_start : {X : Type 0} (is : Placed → Bool) (entry : Placed → Option X) (all found : ℕ → Option X) (bytes : List ℕ) (left : List Placed) → Spells bytes (tree_of bytes) → left ≡ nodes_of bytes
@@ -77,11 +70,11 @@ past_one is entry all found next n rest of_kind put i = record {
         let there : n.place ≡ place = eqb-true n.place place at in
         let low : i.low ≤ n.place = i.rise.0 in
         let none = i.free place (omega arith) in
-        let found_here : option_or (found place) (entry_of entry (kind_at is (n ∷ rest) place)) ≡ entry n = rw (none, here is n rest place (and_both (is n) (eqb n.place place) of_kind at)) refl in
+        let found_here : option_or (found place) (entry_of entry (kind_at is (n ∷ rest) place)) ≡ entry n = rw (none, here is n rest place (and_from (is n) (eqb n.place place) of_kind at)) refl in
         let later : entry_of entry (kind_at is rest place) ≡ None = ap (entry_of entry) (behind is (n.place + 1) place rest (omega arith) i.rise.1) in
         rw (put place ∙ cond-true (eqb n.place place) _ _ at, later) (or_nothing (entry n) ∙ sym found_here ∙ i.same place)
     | inr other ↦
-        rw (put place ∙ cond-false (eqb n.place place) _ _ other) (ap (λ (o : Option Placed). option_or (found place) (entry_of entry o)) (sym (passed is n rest place (and_second (is n) (eqb n.place place) other))) ∙ i.same place)
+        rw (put place ∙ cond-false (eqb n.place place) _ _ other) (ap (λ (o : Option Placed). option_or (found place) (entry_of entry o)) (sym (passed is n rest place (and_right (is n) (eqb n.place place) other))) ∙ i.same place)
   ];
 }
 
@@ -103,7 +96,3 @@ past_nothing is entry all found n rest nothing i = elim (cases_Bool (is n)) [
   ]) i
   | inr plain ↦ past_other is entry all found n rest plain i
 ]
-
--- at the end all is in the index
-pub at_end : {X : Type 0} (is : Placed → Bool) (entry : Placed → Option X) (all found : ℕ → Option X) (left : List Placed) → left ≡ [] → Indexes is entry all found left → (place : ℕ) → found place ≡ all place
-at_end is entry all found left e i place = sym (or_nothing (found place)) ∙ ap (λ (l : List Placed). option_or (found place) (entry_of entry (kind_at is l place))) (sym e) ∙ i.same place

@@ -1,49 +1,18 @@
 -- The first LOCKED of each scope are found node by node.
-use Rattle.std.proofs.Common.{◌≡◌, ℕ, ◌+◌, ◌<◌, false, eqb, cond, Option, Some, None, List, [], ◌∷◌, ◌++◌, length, get_or, drop, refl, sym, ap, ◌∙◌, inl, inr, arith}
+use Rattle.std.proofs.Common.{◌≡◌, ℕ, ◌+◌, ◌<◌, eqb, cond, Option, Some, None, List, [], ◌∷◌, ◌++◌, length, get_or, drop, refl, sym, ap, ◌∙◌, arith}
 use Rattle.std.specs.Prelude.{option_map}
 use Rattle.std.specs.List.{flat_map}
 use Rattle.std.specs.BTreeMap.{BTreeMap, get, Updates}
 use Rattle.std.specs.Option.{option_or}
 use Rattle.std.specs.Ordering.{nat_cmp}
-use Rattle.std.proofs.lemmas.Bool.{cases_Bool, eqb-true}
 use Rattle.std.proofs.lemmas.Bool.Decides.{nat_tests}
 use Rattle.std.proofs.lemmas.List.{at_drop_more}
 use Rattle.ifr_opcodes.specs.Forest.{Placed}
-use Rattle.ifr_scopes.specs.Locks.{locks_scope, locked_in, chain, first, first_place, lock_place, first_some}
+use Rattle.ifr_scopes.specs.Locks.{locked_in, chain, first, first_place, lock_place, first_some}
 
 -- What was found so far, else the first of those that are left, is the first of all.
 abbrev pub Finds : (ℕ → Option ℕ) → (ℕ → Option ℕ) → List Placed → Type 0
 Finds all found left = (scope : ℕ) → option_or (found scope) (first_place left scope) ≡ all scope
-
-pub past_other : (all found : ℕ → Option ℕ) (n : Placed) (rest : List Placed) → ((scope : ℕ) → locks_scope scope n ≡ false) → Finds all found (n ∷ rest) → Finds all found rest
-past_other all found n rest other f = λ scope. rw (other scope) at (f scope)
-
--- It locks a scope of which one is found.
-pub past_known : (all found : ℕ → Option ℕ) (n : Placed) (rest : List Placed) (own x : ℕ) → found own ≡ Some x → ((scope : ℕ) → locks_scope scope n ≡ eqb own scope) → Finds all found (n ∷ rest) → Finds all found rest
-past_known all found n rest own x known at_own f = λ scope. elim (cases_Bool (eqb own scope)) [
-  | inl e ↦
-      let same : own ≡ scope = eqb-true own scope e in
-      let is : found scope ≡ Some x = ap found (sym same) ∙ known in
-      rw is (sym (rw is refl) ∙ f scope)
-  | inr e ↦ rw (at_own scope ∙ e) at (f scope)
-]
-
-pub past_new : (all found next : ℕ → Option ℕ) (n : Placed) (rest : List Placed) (own : ℕ) → found own ≡ None → ((scope : ℕ) → locks_scope scope n ≡ eqb own scope)
-    → ((scope : ℕ) → next scope ≡ cond (eqb own scope) (Some n.place) (found scope)) → Finds all found (n ∷ rest) → Finds all next rest
-past_new all found next n rest own free at_own put f = λ scope. elim (cases_Bool (eqb own scope)) [
-  | inl e ↦
-      let same : own ≡ scope = eqb-true own scope e in
-      let none : found scope ≡ None = ap found (sym same) ∙ free in
-      rw (put scope, e) (rw (none, at_own scope ∙ e) at (f scope))
-  | inr e ↦ rw (put scope, e) (rw (at_own scope ∙ e) at (f scope))
-]
-
-or_nothing : (o : Option ℕ) → option_or o None ≡ o
-or_nothing None = refl
-or_nothing (Some x) = refl
-
-pub at_end : (all found : ℕ → Option ℕ) (left : List Placed) → left ≡ [] → Finds all found left → (scope : ℕ) → found scope ≡ all scope
-at_end all found left e f scope = sym (or_nothing (found scope)) ∙ ap (λ (l : List Placed). option_or (found scope) (first_place l scope)) (sym e) ∙ f scope
 
 -- ---- the first along the places of a node
 

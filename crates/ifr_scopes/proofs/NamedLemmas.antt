@@ -1,9 +1,9 @@
 -- The rule that a reference names is the last in the table of its id that ends before it, if its form goes on there.
-use Rattle.std.proofs.Common.{◌≡◌, ◌⊎◌, ℕ, zero, suc, ◌<◌, ◌≤◌, Bool, true, false, cond, eqb, ltb, leb, Option, Some, None, List, [], ◌∷◌, refl, sym, ap, ◌∙◌, subst, arith, inl, inr}
-use Rattle.std.specs.Prelude.{◌&&◌, Contains, IsSome}
+use Rattle.std.proofs.Common.{◌≡◌, ◌⊎◌, ℕ, zero, suc, ◌<◌, ◌≤◌, true, false, cond, eqb, ltb, leb, Option, Some, None, List, [], ◌∷◌, refl, sym, ap, ◌∙◌, subst, arith, inl, inr}
+use Rattle.std.specs.Prelude.{Contains, IsSome}
 use Rattle.std.specs.List.{AllByRecursion}
 use Rattle.std.specs.Ordering.{nat_cmp, is_gt, is_lt}
-use Rattle.std.proofs.lemmas.Bool.{cases_Bool, eqb-true, eq-eqb, ltb-true, ltb-false, le-ltb, leb-true, le-leb, true≢false, false≢true}
+use Rattle.std.proofs.lemmas.Bool.{cases_Bool, eqb-true, eq-eqb, ltb-true, ltb-false, le-ltb, leb-true, le-leb, true≢false, and_from}
 use Rattle.ifr_opcodes.specs.Fields.{rule_id}
 use Rattle.ifr_opcodes.specs.Forest.{Placed}
 use Rattle.ifr_expr.specs.Meaning.{names}
@@ -12,6 +12,7 @@ use Rattle.ifr_scopes.specs.Rules.{as_rule, form_end}
 use Rattle.ifr_scopes.specs.RuleNodes.{Descend}
 use Rattle.ifr_scopes.specs.KeptRules.{kept_rule, kept_named, kept_at, has_key, key_cmp}
 use Rattle.ifr_scopes.specs.declared.rules.KeptRule.{KeptRule}
+use Rattle.ifr_opcodes.proofs.StatementLemmas.{and_first, and_second}
 use Rattle.ifr_scopes.proofs.ViewLemmas.{further}
 
 -- ---- the order of the keys
@@ -63,17 +64,6 @@ each P [] x all (k, lt, e) = absurd (omega arith)
 each P (y ∷ xs) x all (zero, lt, e) = subst P e all.0
 each P (y ∷ xs) x all (suc k, lt, e) = each P xs x all.1 (k, omega arith, e)
 
-and_left : (a b : Bool) → a && b ≡ true → a ≡ true
-and_left true b e = refl
-and_left false b e = absurd (false≢true e)
-
-and_right : (a b : Bool) → a && b ≡ true → b ≡ true
-and_right true b e = e
-and_right false b e = absurd (false≢true e)
-
-and_all : (a b : Bool) → a ≡ true → b ≡ true → a && b ≡ true
-and_all a b e f = rw (e, f) refl
-
 -- what it means that a rule is named
 pub record IsNamed (id place : ℕ) (n : Placed) : Type 0 where
   pub same : rule_id n.op ≡ id
@@ -82,11 +72,11 @@ pub record IsNamed (id place : ℕ) (n : Placed) : Type 0 where
 
 pub is_named : (id place : ℕ) (n : Placed) → names id place (as_rule n) ≡ true → IsNamed id place n
 is_named id place n e =
-    let rest = and_right (eqb (rule_id n.op) id) _ e in
+    let rest = and_second (eqb (rule_id n.op) id) _ e in
     record {
-      same = eqb-true (rule_id n.op) id (and_left (eqb (rule_id n.op) id) _ e);
-      ends = leb-true (end_of n) place (and_left (leb (end_of n) place) (ltb place (form_end n.path)) rest);
-      goes_on = ltb-true place (form_end n.path) (and_right (leb (end_of n) place) (ltb place (form_end n.path)) rest);
+      same = eqb-true (rule_id n.op) id (and_first (eqb (rule_id n.op) id) _ e);
+      ends = leb-true (end_of n) place (and_first (leb (end_of n) place) (ltb place (form_end n.path)) rest);
+      goes_on = ltb-true place (form_end n.path) (and_second (leb (end_of n) place) (ltb place (form_end n.path)) rest);
     }
 
 -- ---- rules in the table
@@ -102,7 +92,7 @@ none_named (n ∷ earlier) id place none = elim (cases_Bool (names id place (as_
 pub some_kept : (ns : List Placed) (n : Placed) → Contains ns n → kept_at ns (rule_id n.op, end_of n) ≡ None → ⊥
 some_kept [] n (k, lt, e) none = absurd (omega arith)
 some_kept (m ∷ ns) n (zero, lt, e) none =
-    let own : has_key (rule_id n.op, end_of n) m ≡ true = and_all _ _ (eq-eqb (rule_id m.op) (rule_id n.op) (ap (λ (p : Placed). rule_id p.op) e)) (eq-eqb (end_of m) (end_of n) (ap end_of e)) in
+    let own : has_key (rule_id n.op, end_of n) m ≡ true = and_from _ _ (eq-eqb (rule_id m.op) (rule_id n.op) (ap (λ (p : Placed). rule_id p.op) e)) (eq-eqb (end_of m) (end_of n) (ap end_of e)) in
     let bad : Some (kept_rule ns m) ≡ None = rw own at none in absurd cc
 some_kept (m ∷ ns) n (suc k, lt, e) none = elim (cases_Bool (has_key (rule_id n.op, end_of n) m)) [
   | inl h ↦ let bad : Some (kept_rule ns m) ≡ None = rw h at none in absurd cc
@@ -118,7 +108,7 @@ pub record IsKeptOf (ns : List Placed) (key : ℕ × ℕ) : Type 0 where
 pub kept_of : (ns : List Placed) (key : ℕ × ℕ) (v : KeptRule) → kept_at ns key ≡ Some v → IsKeptOf ns key
 kept_of [] key v e = absurd cc
 kept_of (m ∷ ns) key v e = elim (cases_Bool (has_key key m)) [
-  | inl h ↦ record { node = m; within = (0, omega arith, refl); ends = eqb-true (end_of m) key.1 (and_right (eqb (rule_id m.op) key.0) (eqb (end_of m) key.1) h) }
+  | inl h ↦ record { node = m; within = (0, omega arith, refl); ends = eqb-true (end_of m) key.1 (and_second (eqb (rule_id m.op) key.0) (eqb (end_of m) key.1) h) }
   | inr h ↦ let k = kept_of ns key v (rw h at e) in record { node = k.node; within = further m ns k.node k.within; ends = k.ends }
 ]
 
@@ -129,8 +119,8 @@ found_named [] id place key v d e same ends last = absurd cc
 found_named (n ∷ earlier) id place key v d e same ends last = elim (cases_Bool (has_key key n)) [
   | inl h ↦
       let is : kept_rule earlier n ≡ v = cc (sym (rw h at e)) in
-      let own : eqb (rule_id n.op) id ≡ true = eq-eqb (rule_id n.op) id (eqb-true (rule_id n.op) key.0 (and_left (eqb (rule_id n.op) key.0) (eqb (end_of n) key.1) h) ∙ same) in
-      let end : end_of n ≡ key.1 = eqb-true (end_of n) key.1 (and_right (eqb (rule_id n.op) key.0) (eqb (end_of n) key.1) h) in
+      let own : eqb (rule_id n.op) id ≡ true = eq-eqb (rule_id n.op) id (eqb-true (rule_id n.op) key.0 (and_first (eqb (rule_id n.op) key.0) (eqb (end_of n) key.1) h) ∙ same) in
+      let end : end_of n ≡ key.1 = eqb-true (end_of n) key.1 (and_second (eqb (rule_id n.op) key.0) (eqb (end_of n) key.1) h) in
       let passed : leb (end_of n) place ≡ true = le-leb (end_of n) place (omega arith) in
       subst (λ (w : KeptRule). kept_named (n ∷ earlier) id place ≡ cond (ltb place w.form_ends) (Some w) None) is
       (rw (own, passed) (elim (cases_Bool (ltb place (form_end n.path))) [

@@ -1,5 +1,5 @@
 -- NO_SUBMIT_IFs are kept, and found again.
-use Rattle.std.proofs.Common.{◌≡◌, ℕ, true, false, List, [], ◌∷◌, ◌++◌, append_assoc, map, refl, sym, ap, ◌∙◌, subst, inl, inr, arith}
+use Rattle.std.proofs.Common.{◌≡◌, ℕ, true, List, [], ◌∷◌, map, refl, sym, ap, ◌∙◌, subst, inl, inr, arith}
 use Rattle.std.specs.Prelude.{Contains, filter}
 use Rattle.std.specs.List.{AllByRecursion}
 use Rattle.std.proofs.lemmas.Bool.{cases_Bool, eqb-true}
@@ -22,14 +22,6 @@ use Rattle.ifr_scopes.proofs.ViewLemmas.{contains_found, further, is_at, node_in
 
 abbrev pub all_kept : List Placed → List NoSubmitPlace
 all_kept ns = map kept_no_submit (filter is_no_submit ns)
-
--- past a NO_SUBMIT_IF that is kept
-pub past_kept : (before : List NoSubmitPlace) (n : Placed) (rest : List Placed) → is_no_submit n ≡ true → (before ++ kept_no_submit n ∷ []) ++ all_kept rest ≡ before ++ all_kept (n ∷ rest)
-past_kept before n rest is = rw is (append_assoc before (kept_no_submit n ∷ []) (all_kept rest))
-
--- and past another node
-pub past_other : (before : List NoSubmitPlace) (n : Placed) (rest : List Placed) → is_no_submit n ≡ false → before ++ all_kept rest ≡ before ++ all_kept (n ∷ rest)
-past_other before n rest other = rw other refl
 
 -- ---- those of a package
 

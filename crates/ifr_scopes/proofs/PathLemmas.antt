@@ -2,7 +2,7 @@
 use Rattle.std.proofs.Common.{◌≡◌, ℕ, zero, suc, ◌+◌, ◌<◌, ◌≤◌, Bool, true, false, eqb, Option, Some, None, List, [], ◌∷◌, ◌++◌, length, map, get_or, refl, sym, ap, ◌∙◌, subst, inl, inr, arith}
 use Rattle.std.specs.Prelude.{Contains, ◌&&◌, filter, option_map}
 use Rattle.std.specs.List.{AllByRecursion}
-use Rattle.std.proofs.lemmas.Bool.{cases_Bool, eq-eqb, eqb-true, ne_eqb, cond-true, cond-false, and_parts}
+use Rattle.std.proofs.lemmas.Bool.{cases_Bool, eq-eqb, eqb-true, ne_eqb, cond-true, cond-false, and_parts, and_from, and_right}
 use Rattle.std.proofs.lemmas.List.Elements.{All-from_recursion, Contains-get_or}
 use Rattle.ifr_opcodes.specs.Opcode.{number}
 use Rattle.ifr_opcodes.specs.Forest.{flat, Ancestor, Placed, as_ancestor, below, Spells}
@@ -94,31 +94,17 @@ kept_some bytes place kept s e = go (indexed_at (nodes_of bytes) place) refl e
         let its : guards n ≡ guards_of_indexed (nodes_of bytes) place = sym (ap (λ (o : Option Placed). or_none (option_map guards o)) is) in
         subst (Keeps bytes kept) its (subst (λ (l : List GuardPlace). Keeps bytes l (guards n)) (sym same) (keeps bytes n s (find_within is_indexed (nodes_of bytes) place n is).within))
 
-pub kept_none : (bytes : List ℕ) (place : ℕ) → None ≡ kept_at (nodes_of bytes) place → guards_of_indexed (nodes_of bytes) place ≡ []
-kept_none bytes place e = go (indexed_at (nodes_of bytes) place) e
-  where
-    go : (o : Option Placed) → None ≡ entry_of (λ m. Some (kept_guards m)) o → or_none (option_map guards o) ≡ []
-    go None e = refl
-    go (Some n) e = absurd cc
-
 -- ---- what is looked up at the place of a form, a statement or an option
-
-and_false : (a b : Bool) → b ≡ false → a && b ≡ false
-and_false true b e = e
-and_false false b e = refl
-
-and_true : (a b : Bool) → a ≡ true → b ≡ true → a && b ≡ true
-and_true a b p q = rw (p, q) refl
 
 indexed_here : (ns : List Placed) (low high : ℕ) (n : Placed) (k : ℕ) → Within low high ns → k < length ns → get_or ns k n ≡ n → is_indexed n ≡ true → indexed_at ns n.place ≡ Some n
 indexed_here [] low high n k w lt e is = absurd (omega arith)
 indexed_here (m ∷ ns) low high n zero w lt e is =
     let same : m ≡ n = e in
-    let here : is_indexed m && eqb m.place n.place ≡ true = and_true _ _ (ap is_indexed same ∙ is) (eq-eqb m.place n.place (ap (λ (p : Placed). p.place) same)) in
+    let here : is_indexed m && eqb m.place n.place ≡ true = and_from _ _ (ap is_indexed same ∙ is) (eq-eqb m.place n.place (ap (λ (p : Placed). p.place) same)) in
     cond-true (is_indexed m && eqb m.place n.place) (Some m) (indexed_at ns n.place) here ∙ ap (λ (p : Placed). Some p) same
 indexed_here (m ∷ ns) low high n (suc k) w lt e is =
     let later : m.place + 1 ≤ n.place = above ns (m.place + 1) high n k w.1 (omega arith) e in
-    let other : is_indexed m && eqb m.place n.place ≡ false = and_false (is_indexed m) _ (ne_eqb m.place n.place (λ same. omega arith)) in
+    let other : is_indexed m && eqb m.place n.place ≡ false = and_right (is_indexed m) _ (ne_eqb m.place n.place (λ same. omega arith)) in
     cond-false (is_indexed m && eqb m.place n.place) (Some m) (indexed_at ns n.place) other ∙ indexed_here ns (m.place + 1) high n k w.1 (omega arith) e is
 
 own_node : (bytes : List ℕ) (n : Placed) → Spells bytes (tree_of bytes) → Contains (nodes_of bytes) n → is_indexed n ≡ true → indexed_at (nodes_of bytes) n.place ≡ Some n

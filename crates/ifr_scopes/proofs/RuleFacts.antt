@@ -12,6 +12,7 @@ use Rattle.ifr_opcodes.specs.Operators.{is_operator, operands}
 use Rattle.ifr_opcodes.specs.Forest.{Forest, none, node, flat, Ancestor, Placed, as_ancestor, nodes_at, node_at, AreNodes}
 use Rattle.ifr_opcodes.specs.Reading.{tree_of}
 use Rattle.ifr_opcodes.proofs.ForestLemmas.{takes}
+use Rattle.ifr_opcodes.proofs.StatementLemmas.{and_first, and_second}
 use Rattle.ifr_scopes.specs.Checked.{IsChecked}
 use Rattle.ifr_scopes.specs.Guards.{is_guard}
 use Rattle.ifr_scopes.specs.Nodes.{nodes_of}
@@ -22,7 +23,7 @@ use Rattle.ifr_scopes.specs.Table.{row, class_of, class_around, admits, wants_ex
 use Rattle.ifr_scopes.specs.declared.table.Class.{Class}
 use Rattle.ifr_scopes.specs.declared.table.Class.TheVariants.{OfFormSet, OfForm, OfNothing}
 use Rattle.ifr_scopes.proofs.ClassLemmas.{class-guard, class-other}
-use Rattle.ifr_scopes.proofs.ExpressionLemmas.{first, second, innermost-push}
+use Rattle.ifr_scopes.proofs.ExpressionLemmas.{innermost-push}
 use Rattle.ifr_scopes.proofs.NodeFactLemmas.{no_fault, has_condition, has_value}
 use Rattle.ifr_scopes.proofs.TableLemmas.{of_form_set, of_form, holds_form_set, holds_form, holds_rule, holds_subtitle, guarded_form_set, guarded_form, no_operators}
 use Rattle.ifr_scopes.proofs.PlaceLemmas.{is_found, node_stands}
@@ -70,9 +71,9 @@ is_operator_there bytes n checked within is = elim (around_it bytes n checked wi
   | inr r ↦
       let m = r.outer in
       let begins : wants_expression (number m.op) && (n.place == m.place + length m.op) ≡ true = ap (begins_scope n.place) (sym (ap innermost r.path ∙ innermost-push m.path (as_ancestor m))) ∙ is in
-      let h = has_condition bytes m checked r.within (first _ _ begins) in
+      let h = has_condition bytes m checked r.within (and_first _ _ begins) in
       let child : Placed = record { place = m.place + length m.op; op = h.op; path = m.path ++ as_ancestor m ∷ []; children = h.children } in
-      let same : n ≡ child = one_place bytes n child checked within h.within (eqb-true n.place (m.place + length m.op) (second _ _ begins)) in
+      let same : n ≡ child = one_place bytes n child checked within h.within (eqb-true n.place (m.place + length m.op) (and_second _ _ begins)) in
       ap (λ (p : Placed). is_operator (number p.op)) same ∙ h.operator
 ]
 
@@ -83,9 +84,9 @@ is_value_there bytes n checked within is = elim (around_it bytes n checked withi
   | inr r ↦
       let m = r.outer in
       let begins : wants_value m.op && (n.place == m.place + length m.op) ≡ true = ap (begins_with_value n.place) (sym (ap innermost r.path ∙ innermost-push m.path (as_ancestor m))) ∙ is in
-      let h = has_value bytes m checked r.within (first _ _ begins) in
+      let h = has_value bytes m checked r.within (and_first _ _ begins) in
       let child : Placed = record { place = m.place + length m.op; op = h.op; path = m.path ++ as_ancestor m ∷ []; children = h.children } in
-      let same : n ≡ child = one_place bytes n child checked within h.within (eqb-true n.place (m.place + length m.op) (second _ _ begins)) in
+      let same : n ≡ child = one_place bytes n child checked within h.within (eqb-true n.place (m.place + length m.op) (and_second _ _ begins)) in
       ap (λ (p : Placed). number p.op) same ∙ h.is_value
 ]
 
@@ -123,7 +124,8 @@ held_as bytes n code checked within is other plain root =
 
 -- ---- the forms and rules on a path
 
-abbrev rules_on : List Ancestor → List Ancestor
+-- the rules among ancestors
+abbrev pub rules_on : List Ancestor → List Ancestor
 rules_on path = filter (λ a. number a.op == RULE) path
 
 -- one more of another number is no form and no rule

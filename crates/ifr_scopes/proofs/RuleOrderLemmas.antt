@@ -14,7 +14,8 @@ use Rattle.ifr_scopes.specs.Checked.{IsChecked}
 use Rattle.ifr_scopes.specs.Nodes.{nodes_of, end_of}
 use Rattle.ifr_scopes.specs.Rules.{is_rule, forms_among, end_or_0, form_end, rule_nodes, scope_end}
 use Rattle.ifr_scopes.specs.RuleNodes.{IsRuleNode, Descend}
-use Rattle.ifr_scopes.proofs.RuleFacts.{rule_fact}
+use Rattle.ifr_scopes.proofs.RuleFacts.{rules_on, rule_fact}
+use Rattle.ifr_scopes.proofs.ScopeLemmas.{path_inside}
 use Rattle.ifr_scopes.proofs.ViewLemmas.{further}
 
 -- ---- numbers that rise along a list
@@ -37,19 +38,7 @@ same_rises : (f : Placed → ℕ) (ns : List Placed) (low at : ℕ) → low ≤ 
 same_rises f [] low at le all = le
 same_rises f (n ∷ ns) low at le all = (omega (arith, all.0), same_rises f ns (f n) at (omega (arith, all.0)) all.1)
 
--- ---- the paths of nodes
-
-path_goes_on : (f : Forest) (at : ℕ) (path : List Ancestor) (n : Placed) → Contains (nodes_at at path f) n → (more : List Ancestor) × (n.path ≡ path ++ more)
-path_goes_on none at path n (k, lt, e) = absurd (omega arith)
-path_goes_on (node op children rest) at path n (zero, lt, e) = ([], sym (ap (λ (p : Placed). p.path) e) ∙ sym (append-nil path))
-path_goes_on (node op children rest) at path n (suc k, lt, e) =
-    let here : Ancestor = record { place = at; op = op; children = children } in
-    let its = nodes_at (at + length op) (path ++ here ∷ []) children in
-    let after = nodes_at (at + length (flat (node op children none))) path rest in
-    elim (Contains-append_cases its after n (k, omega arith, e)) [
-      | inl w ↦ let m = path_goes_on children (at + length op) (path ++ here ∷ []) n w in (here ∷ m.0, m.1 ∙ append_assoc path (here ∷ []) m.0)
-      | inr w ↦ path_goes_on rest (at + length (flat (node op children none))) path n w
-    ]
+-- ---- the rules of some nodes
 
 none_left : (ns : List Placed) → ((n : Placed) → Contains ns n → is_rule n ≡ true → ⊥) → filter is_rule ns ≡ []
 none_left [] never = refl
@@ -87,13 +76,10 @@ parts at path op children rest are =
 
 -- ---- their ends
 
-abbrev rules_on : List Ancestor → List Ancestor
-rules_on path = filter (λ a. number a.op == RULE) path
-
 -- below a rule there is none
 below_none : (at : ℕ) (path : List Ancestor) (a : Ancestor) (f : Forest) → eqb (number a.op) RULE ≡ true → AreRules (nodes_at at (path ++ a ∷ []) f) → filter is_rule (nodes_at at (path ++ a ∷ []) f) ≡ []
 below_none at path a f rule are = none_left (nodes_at at (path ++ a ∷ []) f) (λ n w is.
-    let more = path_goes_on f at (path ++ a ∷ []) n w in
+    let more = path_inside f at (path ++ a ∷ []) n w in
     let all : rules_on (path ++ (a ∷ more.0)) ≡ [] = ap rules_on (sym (more.1 ∙ append_assoc path (a ∷ []) more.0)) ∙ (are n w is).outermost in
     let split : rules_on path ++ a ∷ rules_on more.0 ≡ [] = ap (λ (l : List Ancestor). rules_on path ++ l) (rw rule refl) ∙ sym (filter-append (λ (b : Ancestor). number b.op == RULE) path (a ∷ more.0)) ∙ all in
     omega (arith, ap (λ (l : List Ancestor). length l) split, length-append (rules_on path) (a ∷ rules_on more.0)))
@@ -135,7 +121,7 @@ only xs a b e = cc
 in_form : (f : Forest) (at : ℕ) (path : List Ancestor) (form : Ancestor) → forms_among path ≡ form ∷ [] → AreRules (nodes_at at path f) → AllByRecursion (λ n. its_end n ≡ scope_end form) (filter is_rule (nodes_at at path f))
 in_form f at path form one are = all_left (λ n. its_end n ≡ scope_end form) (nodes_at at path f) (λ n w is.
     let fact = are n w is in
-    let more = path_goes_on f at path n w in
+    let more = path_inside f at path n w in
     let split : form ∷ forms_among more.0 ≡ fact.form ∷ [] =
     ap (λ (l : List Ancestor). l ++ forms_among more.0) (sym one) ∙ sym (filter-append (λ (b : Ancestor). number b.op == FORM) path more.0) ∙ ap forms_among (sym more.1) ∙ fact.forms in
     ap (λ (l : List Ancestor). end_or_0 (last_or None l)) fact.forms ∙ ap scope_end (sym (only (forms_among more.0) form fact.form split)))

@@ -110,6 +110,21 @@ are_scopes bytes places n s within e = λ i lt.
 pub around_node : (bytes : List ℕ) (place : ℕ) (op places : List ℕ) → IsChecked bytes → IsAt bytes place op → (node_in bytes place).path ≡ map (ancestor_at bytes) places → AreScopes bytes places
 around_node bytes place op places checked at e = are_scopes bytes places (node_in bytes place) checked.spelled (is_node bytes place op checked at) e
 
+-- the path of a node goes on from that of the forest in which it stands
+pub path_inside : (f : Forest) (at : ℕ) (path : List Ancestor) (m : Placed) → Contains (nodes_at at path f) m → (inside : List Ancestor) × (m.path ≡ path ++ inside)
+path_inside none at path m (k, lt, e) = absurd (omega arith)
+path_inside (node op children rest) at path m (zero, lt, e) = ([], ap (λ (p : Placed). p.path) (sym e) ∙ sym (append-nil path))
+path_inside (node op children rest) at path m (suc k, lt, e) =
+    let here : Ancestor = record { place = at; op = op; children = children } in
+    let past = at + length (flat (node op children none)) in
+    let its = nodes_at (at + length op) (path ++ here ∷ []) children in
+    elim (Contains-append_cases its (nodes_at past path rest) m (k, omega arith, e)) [
+      | inl in_its ↦
+          let deeper = path_inside children (at + length op) (path ++ here ∷ []) m in_its in
+          (here ∷ deeper.0, deeper.1 ∙ append_assoc path (here ∷ []) deeper.0)
+      | inr after ↦ path_inside rest past path m after
+    ]
+
 -- ---- the innermost question
 
 pub this-question : (path : List Ancestor) (a : Ancestor) → is_question_number (number a.op) ≡ true → this_among (path ++ a ∷ []) ≡ question_id a.op

@@ -1,15 +1,15 @@
 -- The size of a rule, reference by reference.
-use Rattle.std.proofs.Common.{◌≡◌, ℕ, ◌+◌, ◌<◌, ◌≤◌, max, eqb, ltb, Option, Some, None, List, [], ◌∷◌, length, map, refl, sym, ap, ◌∙◌, arith, inl, inr, ◌⊎◌}
+use Rattle.std.proofs.Common.{◌≡◌, ℕ, ◌+◌, max, eqb, ltb, Option, Some, None, List, [], ◌∷◌, length, map, refl, sym, ap, ◌∙◌, arith, inl, inr}
 use Rattle.std.specs.Prelude.{sum}
 use Rattle.std.specs.Ordering.{ord_max, nat_cmp}
 use Rattle.std.proofs.lemmas.List.Sums.{sum_by-cons}
-use Rattle.std.proofs.lemmas.Bool.{cases_Bool, ltb-true, ltb-false, le-ltb}
+use Rattle.std.proofs.lemmas.Bool.{cases_Bool, ltb-true, ltb-false}
 use Rattle.ifr_opcodes.specs.Forest.{Placed}
 use Rattle.ifr_expr.specs.Meaning.{names}
 use Rattle.ifr_expr.specs.References.{references}
 use Rattle.ifr_expr.specs.Trees.{Tree, post}
 use Rattle.ifr_expr.specs.declared.references.RuleReference.{RuleReference}
-use Rattle.ifr_scopes.specs.Rules.{as_rule, rule_nodes, rules_among, rule_sizes, greatest, size_over, fitting_size}
+use Rattle.ifr_scopes.specs.Rules.{as_rule, rule_nodes, rules_among, rule_sizes, greatest}
 use Rattle.ifr_scopes.specs.RuleNodes.{Descend}
 use Rattle.ifr_scopes.specs.KeptRules.{AreKeptRules, kept_named}
 use Rattle.ifr_scopes.specs.declared.rules.KeptRule.{KeptRule}
@@ -54,43 +54,6 @@ measured table tree old left r depth weight found split told m = record {
       let before = m.heavy ns kept descend in
       omega (arith, before, ap (weights ns) split, ap (λ (s : RuleSize). s.weight) its, sum_by-cons (λ (x : ℕ). x) (rule_sizes (rules_among ns) r.id r.place).weight (map (λ q. (rule_sizes (rules_among ns) q.id q.place).weight) left));
 }
-
-too_large : (s : RuleSize) → (16 < s.depth) ⊎ (4096 < s.weight) → None ≡ fitting_size s
-too_large s h = elim (cases_Bool (ltb 16 s.depth)) [
-  | inl deep ↦ rw deep refl
-  | inr shallow ↦ elim (cases_Bool (ltb 4096 s.weight)) [
-    | inl heavy ↦ rw (shallow, heavy) refl
-    | inr light ↦ absurd (elim h [ inl d ↦ omega (arith, d, ltb-false 16 s.depth shallow) | inr w ↦ omega (arith, w, ltb-false 4096 s.weight light) ])
-  ]
-]
-
-fits : (s : RuleSize) → s.depth ≤ 16 → s.weight ≤ 4096 → Some s ≡ fitting_size s
-fits s d w = rw (le-ltb 16 s.depth d, le-ltb 4096 s.weight w) refl
-
--- an expression that is too heavy already is so with what is left
-pub too_heavy : (table : RuleTable) (tree : Tree) (left : List RuleReference) (depth weight : ℕ) → Measures table tree left depth weight → 4096 < weight
-    → (ns : List Placed) → AreKeptRules ns table → Descend (rule_nodes ns) → None ≡ fitting_size (size_over (rule_sizes (rules_among ns)) tree)
-too_heavy table tree left depth weight m h ns kept descend = too_large (size_over (rule_sizes (rules_among ns)) tree) (inr (omega (arith, h, m.heavy ns kept descend)))
-
-pub at_end : (table : RuleTable) (tree : Tree) (left : List RuleReference) (depth weight : ℕ) → left ≡ [] → Measures table tree left depth weight
-    → (ns : List Placed) → AreKeptRules ns table → Descend (rule_nodes ns) → (depth ≡ depths ns (references tree)) × (weight ≡ length (post tree) + weights ns (references tree))
-at_end table tree left depth weight e m ns kept descend =
-    (omega (arith, m.deep ns kept descend, ap (depths ns) e), omega (arith, m.heavy ns kept descend, ap (weights ns) e))
-
-pub too_deep_or_heavy : (table : RuleTable) (tree : Tree) (left : List RuleReference) (depth weight : ℕ) → left ≡ [] → Measures table tree left depth weight → (16 ≤ depth) ⊎ (4096 < weight)
-    → (ns : List Placed) → AreKeptRules ns table → Descend (rule_nodes ns) → None ≡ fitting_size (size_over (rule_sizes (rules_among ns)) tree)
-too_deep_or_heavy table tree left depth weight e m h ns kept descend =
-    let is = at_end table tree left depth weight e m ns kept descend in
-    too_large (size_over (rule_sizes (rules_among ns)) tree) (elim h [ inl d ↦ inl (omega (arith, d, is.0)) | inr w ↦ inr (omega (arith, w, is.1)) ])
-
-pub all_fits : (table : RuleTable) (tree : Tree) (left : List RuleReference) (depth weight : ℕ) → left ≡ [] → Measures table tree left depth weight → depth < 16 → weight ≤ 4096
-    → (ns : List Placed) → AreKeptRules ns table → Descend (rule_nodes ns) → Some (record { depth = depth + 1; weight = weight }) ≡ fitting_size (size_over (rule_sizes (rules_among ns)) tree)
-all_fits table tree left depth weight e m d w ns kept descend =
-    let is = at_end table tree left depth weight e m ns kept descend in
-    let deep : depth + 1 ≡ 1 + depths ns (references tree) = omega (arith, is.0) in
-    let s : RuleSize = record { depth = depth + 1; weight = weight } in
-    let same : s ≡ size_over (rule_sizes (rules_among ns)) tree = ap (λ (k : ℕ). record { depth = k; weight = weight }) deep ∙ ap (λ (k : ℕ). record { depth = 1 + depths ns (references tree); weight = k }) is.1 in
-    fits s (omega arith) w ∙ ap fitting_size same
 
 pub greater : (a b : ℕ) → ord_max nat_cmp a b ≡ max a b
 greater a b = elim (cases_Bool (ltb b a)) [

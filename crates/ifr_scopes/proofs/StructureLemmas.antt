@@ -29,8 +29,9 @@ use Rattle.ifr_scopes.specs.Visits.{Meets, left}
 use Rattle.ifr_scopes.specs.declared.walk.Visit.{Visit}
 use Rattle.ifr_scopes.specs.declared.walk.Walk.{Walk}
 use Rattle.ifr_opcodes.proofs.ForestLemmas.{takes}
+use Rattle.ifr_opcodes.proofs.StatementLemmas.{and_first, and_second}
 use Rattle.ifr_scopes.proofs.BehindLemmas.{Inside, are_inside, below_or_behind, at_or_in, siblings_inside}
-use Rattle.ifr_scopes.proofs.ExpressionLemmas.{IsIn, IsRead, StandsFrom, stands_from, fault_inside, shape_late, node_early, own_fault, inner_fault, in_is_no_condition, read_fault, first as first_of_both, second}
+use Rattle.ifr_scopes.proofs.ExpressionLemmas.{IsIn, IsRead, StandsFrom, stands_from, fault_inside, shape_late, node_early, own_fault, inner_fault, in_is_no_condition, read_fault}
 use Rattle.ifr_scopes.proofs.PlaceLemmas.{Within, nodes_within}
 use Rattle.ifr_scopes.proofs.ViewLemmas.{further, is_at, node_in_place}
 
@@ -142,7 +143,7 @@ at_or_behind a b le = elim (cases_Bool (eqb a b)) [
 ]
 
 operates : (n : Placed) → is_expression n ≡ true → is_operator (number n.op) ≡ true
-operates n is = second (is_condition n) _ is
+operates n is = and_second (is_condition n) _ is
 
 -- the first node that has a fault has the least
 pub refused_node : (f : Forest) (left : List Placed) (n : Placed) (cause : Cause) → AreNodes f → Stands (nodes f) (n ∷ left) → least_cause n ≡ Some cause → IsLeast (IsStructureFault (nodes f)) (record { cause = cause; place = n.place })
@@ -246,7 +247,7 @@ refused_expression f left n fault a s clear is l = least_of_left f left n fault 
         let inner = fault_inside m.place m.op m.children j.are_nodes d p h in
         elim b.1 [
           | inl less ↦ inl (omega (arith, less, inner.0))
-          | inr (is_in, among) ↦ absurd (false≢true (sym (in_is_no_condition m n is_in) ∙ first_of_both (is_condition m) _ is_one))
+          | inr (is_in, among) ↦ absurd (false≢true (sym (in_is_no_condition m n is_in) ∙ and_first (is_condition m) _ is_one))
         ]
 
 some_bytes : (f : Forest) → nodes f ≡ [] → flat f ≡ []

@@ -42,16 +42,13 @@ found_row holds ((codes, r) ∷ more) all code found e = elim (cases_Bool (is_am
   | inr other ↦ found_row holds more (and_second _ _ all) code found (sym (cond-false (is_among code codes) (Some r) (row_in more code) other) ∙ e)
 ]
 
-operator_row_is : (code : ℕ) → is_operator code ≡ true → row code ≡ Some (record { scope = Outermost; class = OfExpression })
+pub operator_row : (code : ℕ) → is_operator code ≡ true → row code ≡ Some (record { scope = Outermost; class = OfExpression })
 unfolding row
-operator_row_is code operator = cond-true (is_operator code) _ _ operator
+operator_row code operator = cond-true (is_operator code) _ _ operator
 
 other_row : (code : ℕ) → is_operator code ≡ false → row code ≡ row_in rows code
 unfolding row
 other_row code other = cond-false (is_operator code) _ _ other
-
-pub operator_row : (code : ℕ) → is_operator code ≡ true → row code ≡ Some (record { scope = Outermost; class = OfExpression })
-operator_row code operator = operator_row_is code operator
 
 -- what holds of each number of the table and the class of its scope holds of any number
 pub class_fact : (holds : ℕ → Class → Bool) → ((code : ℕ) → holds code OfExpression ≡ true) → ((code : ℕ) → holds code OfNothing ≡ true)

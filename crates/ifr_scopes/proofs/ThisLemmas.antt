@@ -1,13 +1,12 @@
 -- What stands in the scope of a question has this question as the innermost around it.
-use Rattle.std.proofs.Common.{◌≡◌, ℕ, zero, suc, ◌+◌, Bool, true, Option, None, List, [], ◌∷◌, ◌++◌, length, get_or, refl, sym, ap, subst, ◌∙◌, arith, inl, inr, append_assoc}
+use Rattle.std.proofs.Common.{◌≡◌, ℕ, ◌+◌, Bool, true, Option, None, List, [], ◌∷◌, ◌++◌, length, get_or, refl, sym, ap, subst, ◌∙◌, arith, inl, inr, append_assoc}
 use Rattle.std.specs.Prelude.{Contains, filter, Some, MatchOption}
 use Rattle.std.specs.List.{last_or}
 use Rattle.std.proofs.lemmas.Bool.{cases_Bool, false≢true}
-use Rattle.std.proofs.lemmas.List.{append-nil}
-use Rattle.std.proofs.lemmas.List.Elements.{All-tail, Contains-append_cases, Contains-get_or, filter-append}
+use Rattle.std.proofs.lemmas.List.Elements.{All-tail, Contains-get_or, filter-append}
 use Rattle.ifr_opcodes.specs.Fields.{question_id}
 use Rattle.ifr_opcodes.specs.Opcode.{number}
-use Rattle.ifr_opcodes.specs.Forest.{Forest, none, node, flat, Ancestor, Placed, as_ancestor, nodes_at, below}
+use Rattle.ifr_opcodes.specs.Forest.{Ancestor, Placed, as_ancestor, below}
 use Rattle.ifr_opcodes.specs.Reading.{tree_of}
 use Rattle.ifr_scopes.specs.Checked.{IsChecked, IsNodeOf}
 use Rattle.ifr_opcodes.specs.Statements.{is_question_number}
@@ -19,24 +18,9 @@ use Rattle.ifr_scopes.proofs.PathLemmas.{kept}
 use Rattle.ifr_scopes.proofs.PlaceLemmas.{is_found}
 use Rattle.ifr_scopes.proofs.QuestionFacts.{no_statement_inside}
 use Rattle.ifr_scopes.proofs.InnermostLemmas.{last_or-push}
-use Rattle.ifr_scopes.proofs.ScopeLemmas.{ancestor_node}
+use Rattle.ifr_scopes.proofs.ScopeLemmas.{ancestor_node, path_inside}
 use Rattle.ifr_opcodes.proofs.StatementLemmas.{question_is_statement}
 use Rattle.ifr_scopes.proofs.ViewLemmas.{below_within, contains_found}
-
--- the path of a node goes on from that of the forest in which it stands
-pub path_inside : (f : Forest) (at : ℕ) (path : List Ancestor) (m : Placed) → Contains (nodes_at at path f) m → (inside : List Ancestor) × (m.path ≡ path ++ inside)
-path_inside none at path m (k, lt, e) = absurd (omega arith)
-path_inside (node op children rest) at path m (zero, lt, e) = ([], ap (λ (p : Placed). p.path) (sym e) ∙ sym (append-nil path))
-path_inside (node op children rest) at path m (suc k, lt, e) =
-    let here : Ancestor = record { place = at; op = op; children = children } in
-    let past = at + length (flat (node op children none)) in
-    let its = nodes_at (at + length op) (path ++ here ∷ []) children in
-    elim (Contains-append_cases its (nodes_at past path rest) m (k, omega arith, e)) [
-      | inl in_its ↦
-          let deeper = path_inside children (at + length op) (path ++ here ∷ []) m in_its in
-          (here ∷ deeper.0, deeper.1 ∙ append_assoc path (here ∷ []) deeper.0)
-      | inr after ↦ path_inside rest past path m after
-    ]
 
 -- no question among what stands between a question and a node in its scope
 silent : (bytes : List ℕ) (q n : Placed) (before after : List Ancestor) → IsChecked bytes → IsNodeOf bytes n → is_question q ≡ true
