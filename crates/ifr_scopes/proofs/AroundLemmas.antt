@@ -1,4 +1,4 @@
--- The guards around one node, found by a walk.
+-- The guards that are kept for one node are those around it.
 use Rattle.std.proofs.Common.{◌≡◌, ℕ, true, List, sym, ap, subst}
 use Rattle.ifr_opcodes.specs.Forest.{Placed, node_at, Spells}
 use Rattle.ifr_opcodes.specs.Reading.{tree_of}

@@ -16,6 +16,7 @@ last_read : {X Y : Type 0} (f : X → Y) (found : Option Y) (x : X) (xs : List X
 last_read f found x [] = refl
 last_read f found x (y ∷ xs) = last_read f (Some (f x)) y xs
 
+-- the last is the one that was put at the end
 pub last_or-push : {X : Type 0} (found : Option X) (xs : List X) (x : X) → last_or found (xs ++ x ∷ []) ≡ Some x
 last_or-push found [] x = refl
 last_or-push found (y ∷ xs) x = last_or-push (Some y) xs x

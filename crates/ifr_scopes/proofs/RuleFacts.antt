@@ -192,7 +192,7 @@ in_form_set bytes (suc k) n checked within le e = elim (around_it bytes n checke
       ]
 ]
 
--- in a form and its guards there is this form
+-- in a form, and in the subtitles and guards in it, there is this form
 in_form : (bytes : List ℕ) (k : ℕ) (n : Placed) → IsChecked bytes → Contains (nodes_of bytes) n → length n.path ≤ k → class_around n.path ≡ OfForm → (form : Ancestor) × HasForms n.path (form ∷ [])
 in_form bytes zero n checked within le e = elim (around_it bytes n checked within) [
   | inl bare ↦ let bad : OfNothing ≡ OfForm = ap class_around (sym bare) ∙ e in absurd cc
