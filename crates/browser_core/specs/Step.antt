@@ -52,7 +52,7 @@ refused s cause = record { state = s; text = refused_text cause; reply = Refused
 
 abbrev pub page_at : State → Option Placed → List ℕ
 page_at s None = []
-page_at s (Some form) = page_text (texts s) (world_of s) form
+page_at s (Some form) = page_text (texts s) (world_of s) s.working form
 
 abbrev pub show_page : State → Outcome
 show_page s = accepted s (page_at s (node_at (nodes_of s.ifr) s.form))

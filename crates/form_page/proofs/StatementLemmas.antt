@@ -4,6 +4,7 @@ use Rattle.std.specs.Prelude.{is_none, filter, if◌then◌else◌}
 use Rattle.std.proofs.lemmas.Bool.{cond-true, cond-false, cases_Bool}
 use Rattle.ifr_opcodes.specs.Forest.{Placed}
 use Rattle.ifr_scopes.specs.Nodes.{is_question}
+use Rattle.hii_varstore.specs.Stores.{StoreMap}
 use Rattle.hii_questions.specs.Fields.{Asked, asked}
 use Rattle.guard_policy.specs.Policy.{hidden}
 use Rattle.guard_policy.specs.World.{World}
@@ -20,8 +21,8 @@ abbrev seen : World → List Placed → List Placed
 seen w its = filter (λ n. is_none (hidden w n)) its
 
 -- the row of the first statement, where it is not hidden
-pub rows_first : (texts : ℕ → List ℕ) (w : World) (number : ℕ) (left rest : List Placed) (n : Placed) → left ≡ n ∷ rest → is_none (hidden w n) ≡ true
-    → rows_from texts w number (seen w left) ≡ row_of texts w number n ∷ rows_from texts w (number + 1) (seen w rest)
-rows_first texts w number left rest n e shown =
-    ap (λ (l : List Placed). rows_from texts w number (seen w l)) e
-    ∙ ap (rows_from texts w number) (cond-true (is_none (hidden w n)) (n ∷ seen w rest) (seen w rest) shown)
+pub rows_first : (texts : ℕ → List ℕ) (w : World) (stores : StoreMap) (number : ℕ) (left rest : List Placed) (n : Placed) → left ≡ n ∷ rest → is_none (hidden w n) ≡ true
+    → rows_from texts w stores number (seen w left) ≡ row_of texts w stores number n ∷ rows_from texts w stores (number + 1) (seen w rest)
+rows_first texts w stores number left rest n e shown =
+    ap (λ (l : List Placed). rows_from texts w stores number (seen w l)) e
+    ∙ ap (rows_from texts w stores number) (cond-true (is_none (hidden w n)) (n ∷ seen w rest) (seen w rest) shown)

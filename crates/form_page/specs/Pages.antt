@@ -8,6 +8,7 @@ use Rattle.ifr_opcodes.specs.Fields.{form_id, form_title, statement_prompt, ques
 use Rattle.ifr_opcodes.specs.Opcode.{number}
 use Rattle.ifr_opcodes.specs.declared.codes.TheConstants.{SUBTITLE, TEXT}
 use Rattle.ifr_scopes.specs.Nodes.{statements, is_question}
+use Rattle.hii_varstore.specs.Stores.{StoreMap}
 use Rattle.guard_policy.specs.Policy.{hidden, fixed}
 use Rattle.guard_policy.specs.World.{World}
 use Rattle.form_page.specs.RowValues.{value_shown}
@@ -30,23 +31,23 @@ mark_of op is_fixed = if number op == SUBTITLE || number op == TEXT then 32 else
 abbrev pub id_of : Placed → Option ℕ
 id_of n = if is_question n then Some (question_id n.op) else None
 
--- the row of a statement, with the texts as the characters that are shown of each string id
-abbrev pub row_of : (ℕ → List ℕ) → World → ℕ → Placed → Row
-row_of texts w number n = record {
+-- the row of a statement over some stores, with the texts as the characters that are shown of each string id
+abbrev pub row_of : (ℕ → List ℕ) → World → StoreMap → ℕ → Placed → Row
+row_of texts w stores number n = record {
   number = number;
   mark = mark_of n.op (is_some (fixed w n));
   question = id_of n;
   prompt = texts (statement_prompt n.op);
-  value = value_shown texts w n;
+  value = value_shown texts w stores n;
 }
 
-abbrev pub rows_from : (ℕ → List ℕ) → World → ℕ → List Placed → List Row
-rows_from texts w number [] = []
-rows_from texts w number (n ∷ rest) = row_of texts w number n ∷ rows_from texts w (number + 1) rest
+abbrev pub rows_from : (ℕ → List ℕ) → World → StoreMap → ℕ → List Placed → List Row
+rows_from texts w stores number [] = []
+rows_from texts w stores number (n ∷ rest) = row_of texts w stores number n ∷ rows_from texts w stores (number + 1) rest
 
 -- the rows of a form, numbered from 1
-abbrev pub rows : (ℕ → List ℕ) → World → Placed → List Row
-rows texts w form = rows_from texts w 1 (filter (λ n. is_none (hidden w n)) (statements form))
+abbrev pub rows : (ℕ → List ℕ) → World → StoreMap → Placed → List Row
+rows texts w stores form = rows_from texts w stores 1 (filter (λ n. is_none (hidden w n)) (statements form))
 
 -- a question's id in five columns, or that there is none
 abbrev pub id_text : Option ℕ → List ℕ
@@ -62,5 +63,5 @@ abbrev pub title_text : (ℕ → List ℕ) → Placed → List ℕ
 title_text texts form = codes "FORM " ++ decimal (form_id form.op) ++ codes " " ++ utf8 (texts (form_title form.op)) ++ codes "\n"
 
 -- the bytes of a page
-abbrev pub page_text : (ℕ → List ℕ) → World → Placed → List ℕ
-page_text texts w form = title_text texts form ++ flat_map row_text (rows texts w form)
+abbrev pub page_text : (ℕ → List ℕ) → World → StoreMap → Placed → List ℕ
+page_text texts w stores form = title_text texts form ++ flat_map row_text (rows texts w stores form)

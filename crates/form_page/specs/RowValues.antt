@@ -11,6 +11,7 @@ use Rattle.ifr_opcodes.specs.Fields.{display, numeric_width, option_text, option
 use Rattle.ifr_opcodes.specs.Forest.{Placed}
 use Rattle.ifr_expr.specs.Values.{Value, boolean, natural, text, buffer}
 use Rattle.ifr_scopes.specs.Nodes.{options, is_question}
+use Rattle.hii_varstore.specs.Stores.{StoreMap}
 use Rattle.hii_questions.specs.Answers.{value_of_field}
 use Rattle.hii_questions.specs.Fields.{field_of}
 use Rattle.hii_questions.specs.Inputs.{shown}
@@ -106,14 +107,14 @@ abbrev pub reference_text : Option ℕ → List ℕ
 reference_text None = codes "->"
 reference_text (Some form) = codes "->" ++ decimal form
 
--- a statement that is no question has no value
-abbrev pub question_shown : (ℕ → List ℕ) → World → Placed → List ℕ
-question_shown texts w n = if is_question n then stored_shown texts w n (value_of_field w.stores n (field_of w.nodes n)) else []
+-- what a question shows of its value in some stores; a statement that is no question has none
+abbrev pub question_shown : (ℕ → List ℕ) → World → StoreMap → Placed → List ℕ
+question_shown texts w stores n = if is_question n then stored_shown texts w n (value_of_field stores n (field_of w.nodes n)) else []
 
 -- what the row of a statement shows between its brackets, with the texts as the characters that are shown of each string id
-abbrev pub value_shown : (ℕ → List ℕ) → World → Placed → List ℕ
-value_shown texts w n =
+abbrev pub value_shown : (ℕ → List ℕ) → World → StoreMap → Placed → List ℕ
+value_shown texts w stores n =
     if number n.op == TEXT then texts (text_second n.op)
     else if number n.op == RESET_BUTTON then codes "reset"
     else if number n.op == REF then reference_text (ref_target n.op)
-    else question_shown texts w n
+    else question_shown texts w stores n

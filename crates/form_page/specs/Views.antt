@@ -18,4 +18,4 @@ row_seen row = record { number = row.number; mark = row.mark; question = row.que
 abbrev pub rows_left : {C : Type 0} {g : Ghosts C} → Rows C g → List pages.Row
 rows_left it =
     let w = world_of it.page in
-    rows_from (texts_of it.page) w it.number (filter (λ n. is_none (hidden w n)) (statements_left it.statements))
+    rows_from (texts_of it.page) w it.page.stores.now it.number (filter (λ n. is_none (hidden w n)) (statements_left it.statements))

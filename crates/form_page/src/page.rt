@@ -102,7 +102,7 @@ impl<'a, 's, C: Conditions> Page<'a, 's, C> {
 
     /// Its rows: one for each statement of the form that is not hidden.
     pub fn rows(&self) -> Rows<'a, 's, C>
-        ensures { rows_left result ≡ pages.rows (texts_of self.now) (world_of self.now) (form_node self.now.form) }
+        ensures { rows_left result ≡ pages.rows (texts_of self.now) (world_of self.now) self.now.stores.now (form_node self.now.form) }
     {
         statements_are_few();
         statements_are_nodes();

@@ -28,7 +28,7 @@ impl<'a, 's, C: Conditions> Page<'a, 's, C> {
     /// Writes the page: a line with the form's id and title, and a line for each row. A writer's fault is answered with the
     /// bytes that were written before it.
     pub fn write_page<W: Write>(&self, out: &mut Watched<W>) -> Result<(), WriteFault>
-        ensures { Tells (pen_of W.contents out.old) (pen_of W.contents out.new) result (pages.page_text (texts_of self.now) (world_of self.now) (form_node self.now.form)) }
+        ensures { Tells (pen_of W.contents out.old) (pen_of W.contents out.new) result (pages.page_text (texts_of self.now) (world_of self.now) self.now.stores.now (form_node self.now.form)) }
     {
         out.restart();
         self.put_page(out);
@@ -42,7 +42,7 @@ impl<'a, 's, C: Conditions> Page<'a, 's, C> {
 
     /// Writes the page as one of several texts: a fault of the writer is asked of the writer.
     pub fn put_page<W: Write>(&self, out: &mut Watched<W>)
-        ensures { Writes (pen_of W.contents out.old) (pen_of W.contents out.new) (pages.page_text (texts_of self.now) (world_of self.now) (form_node self.now.form)) }
+        ensures { Writes (pen_of W.contents out.old) (pen_of W.contents out.new) (pages.page_text (texts_of self.now) (world_of self.now) self.now.stores.now (form_node self.now.form)) }
     {
         out.put(b"FORM ");
         out.put_decimal(u64::from(self.form.op().id()));

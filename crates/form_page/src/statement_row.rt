@@ -43,7 +43,7 @@ pub(crate) fn row_of<'a, 's, C: Conditions>(
     statement: Statement<'a>,
 ) -> Row<'a, 's, C>
     requires { IsNodeOf (bytes_of page.policy) (statement_node statement) }
-    ensures { row_seen result ≡ pages.row_of (texts_of page.entry) (world_of page.entry) number (statement_node statement.entry) }
+    ensures { row_seen result ≡ pages.row_of (texts_of page.entry) (world_of page.entry) page.entry.stores.now number (statement_node statement.entry) }
 {
     Row {
         number,

@@ -149,7 +149,7 @@ fn question_value<'a, 's, C: Conditions>(
     statement: Statement<'a>,
 ) -> RowValue<'a, 's, C>
     requires { IsNodeOf (bytes_of page.policy) (statement_node statement) }
-    ensures { value_text result ≡ values.question_shown (texts_of page.entry) (world_of page.entry) (statement_node statement.entry) }
+    ensures { value_text result ≡ values.question_shown (texts_of page.entry) (world_of page.entry) page.entry.stores.now (statement_node statement.entry) }
 {
     match question_of(page, statement) {
         Some(question) => stored_value(page, statement, read_value(question, page.stores)),
@@ -163,7 +163,7 @@ pub(crate) fn statement_value<'a, 's, C: Conditions>(
     statement: Statement<'a>,
 ) -> RowValue<'a, 's, C>
     requires { IsNodeOf (bytes_of page.policy) (statement_node statement) }
-    ensures { value_text result ≡ values.value_shown (texts_of page.entry) (world_of page.entry) (statement_node statement.entry) }
+    ensures { value_text result ≡ values.value_shown (texts_of page.entry) (world_of page.entry) page.entry.stores.now (statement_node statement.entry) }
 {
     match statement.kind() {
         StatementKind::Text(op) => RowValue::Text(page.languages.text(page.choice, op.second())),

@@ -4,7 +4,6 @@ use Rattle.ifr_opcodes.specs.Forest.{Placed}
 use Rattle.guard_policy.specs.Policy.{unless}
 use Rattle.guard_policy.specs.Support.{DecidesBy, denial}
 use Rattle.guard_policy.specs.Views.{world, world_by}
-use Rattle.guard_policy.specs.World.{no_stores}
 use Rattle.guard_policy.specs.declared.denial.Denial.{Denial}
 use Rattle.guard_policy.specs.declared.policy.Policy.{Policy}
 use Rattle.guard_policy.specs.declared.support.Decision.{Decision}
@@ -12,4 +11,4 @@ use Rattle.guard_policy.proofs.SupportLemmas.{denial_same}
 
 pub decided : (policy : Policy) (holding : ℕ → Bool) (decision : Decision) (answer : Result Unit Denial)
     → answer ≡ unless (denial (world_by policy (λ (n : Placed). holding n.place)) decision) → DecidesBy holding (world policy) decision answer
-decided policy holding decision answer e = λ stores told. e ∙ ap unless (denial_same (world policy stores) no_stores (λ (n : Placed). holding n.place) decision told)
+decided policy holding decision answer e = λ stores told. e ∙ ap unless (denial_same (world policy stores) (λ (n : Placed). holding n.place) decision told)

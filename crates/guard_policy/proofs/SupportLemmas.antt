@@ -99,9 +99,9 @@ module _ (ns : List Placed) (removed : List ℕ) (stores others : StoreMap) wher
 
 -- ---- decisions where other conditions hold
 
-module _ (w : World) (stores : StoreMap) (met : Placed → Bool) where
+module _ (w : World) (met : Placed → Bool) where
   abbrev v : World
-  v = otherwise w stores met
+  v = otherwise w met
 
   -- These conditions hold as they do in the world.
   abbrev SameAt : Placed → Type 0
@@ -178,7 +178,7 @@ module _ (w : World) (stores : StoreMap) (met : Placed → Bool) where
   -- ---- what denies
 
   hidden_stays : (n : Placed) → Same (until_met w (suppressing n)) → hidden v n ≡ hidden w n
-  hidden_stays n h = ap (option_map hiding) (first_stays (is_removed w) (λ g. number g.op == SUPPRESS_IF) (guards n) h)
+  hidden_stays n h = ap (option_map hiding) (first_stays (is_removed w.removed) (λ g. number g.op == SUPPRESS_IF) (guards n) h)
 
   pub hidden_same : (n : Placed) → Same (suppressing n) → hidden v n ≡ hidden w n
   hidden_same n h = hidden_stays n (until_same (suppressing n) h)
@@ -193,7 +193,7 @@ module _ (w : World) (stores : StoreMap) (met : Placed → Bool) where
   fixed_stays n h =
       let seen = hidden_stays n (front_same (suppressing n) (graying_out n) h) in
       let uncovered : hidden w n ≡ None → grayed_out v n ≡ grayed_out w n =
-      λ none. grayed_stays n (back_same (suppressing n) (graying_out n) (all_unmet (is_removed w) (λ g. number g.op == SUPPRESS_IF) (guards n) (none_found hiding (find (hides w) (guards n)) none)) h) in
+      λ none. grayed_stays n (back_same (suppressing n) (graying_out n) (all_unmet (is_removed w.removed) (λ g. number g.op == SUPPRESS_IF) (guards n) (none_found hiding (find (hides w) (guards n)) none)) h) in
       ap (λ (o : Option Denial). or_else o (fixed_itself w.nodes n))
       (covered_same (hidden w n) (hidden v n) (grayed_out w n) (grayed_out v n) (option_map (denied Locked) (first_lock w.nodes n)) seen uncovered)
 
@@ -218,8 +218,8 @@ module _ (w : World) (stores : StoreMap) (met : Placed → Bool) where
   inconsistent_stays q h =
       ap (option_map (told InconsistentIf)) (first_stays (λ _. false) (λ _. true) (inconsistents q) (subst (λ (l : List Placed). Same (until_met w l)) (sym (filter_all (inconsistents q))) h))
 
-  unsubmitted_stays : Same (until_met w (filter (counts w) (filter is_no_submit w.nodes))) → unsubmitted v ≡ unsubmitted w
-  unsubmitted_stays h = ap (option_map (told NoSubmitIf)) (first_stays (λ _. false) (counts w) (filter is_no_submit w.nodes) h)
+  unsubmitted_stays : Same (until_met w (filter (counts w.removed) (filter is_no_submit w.nodes))) → unsubmitted v ≡ unsubmitted w
+  unsubmitted_stays h = ap (option_map (told NoSubmitIf)) (first_stays (λ _. false) (counts w.removed) (filter is_no_submit w.nodes) h)
 
   pub denial_stays : (decision : Decision) → is_by_first decision ≡ true → Same (until_met w (conditions w decision)) → denial v decision ≡ denial w decision
   denial_stays (Listed statement) is h = hidden_stays (statement_node statement) h

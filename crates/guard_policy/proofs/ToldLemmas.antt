@@ -120,9 +120,9 @@ module _ (bytes removed : List ℕ) (stores : StoreMap) (holding : ℕ → Bool)
   suppressing_told : TellsAll holding w → (n : Placed) → IsNodeOf bytes n → Tells holding w (suppressing n)
   suppressing_told all n is = front IsTold (suppressing n) (graying_out n) (around_told all n is)
 
-  submission_told : TellsAll holding w → Tells holding w (filter (counts w) (filter is_no_submit w.nodes))
+  submission_told : TellsAll holding w → Tells holding w (filter (counts w.removed) (filter is_no_submit w.nodes))
   submission_told all =
-      turned IsTold IsTold (counts w) (λ c e h. h) (filter is_no_submit w.nodes)
+      turned IsTold IsTold (counts w.removed) (λ c e h. h) (filter is_no_submit w.nodes)
       (turned (λ c. is_kept c ≡ true → IsTold c) IsTold is_no_submit (λ c e h. h (no_submit_kept c e)) w.nodes (unfiltered IsTold is_kept w.nodes all))
 
   pub decision_told : TellsAll holding w → (decision : Decision) → IsSubjectOf bytes decision → is_by_kept decision ≡ true → Tells holding w (conditions w decision)

@@ -10,8 +10,6 @@ use Rattle.ifr_scopes.specs.NoSubmitsLeft.{no_submits_left}
 use Rattle.ifr_scopes.specs.Parts.{conditions_left, options_left}
 use Rattle.ifr_scopes.specs.declared.guards_at.GuardsAt.{GuardsAt}
 use Rattle.guard_policy.specs.Support.{around, counts}
-use Rattle.guard_policy.specs.Views.{world}
-use Rattle.guard_policy.specs.World.{no_stores}
 use Rattle.guard_policy.specs.declared.around.Around.{Around}
 use Rattle.guard_policy.specs.declared.decision_conditions.DecisionConditions.{DecisionConditions}
 use Rattle.guard_policy.specs.declared.decision_conditions.DecisionConditions.TheVariants as kind
@@ -41,9 +39,9 @@ options_of_value it = filter (λ o. option_value o.op == it.value) (options_left
 abbrev pub around_options_left : OptionConditions → List Placed
 around_options_left it = around_one_left it.around ++ flat_map around (options_of_value it)
 
--- What was removed does not depend on stores.
+-- those that no removed DISABLE_IF hides
 abbrev pub submission_left : Submission → List Placed
-submission_left it = filter (counts (world it.policy no_stores)) (no_submits_left it.conditions)
+submission_left it = filter (counts it.policy.removed.now) (no_submits_left it.conditions)
 
 -- the conditions of a decision
 abbrev pub asked_left : DecisionConditions → List Placed

@@ -32,14 +32,14 @@ or_else (Some denial) other = Some denial
 -- ---- hidden
 
 -- A DISABLE_IF that was removed hides what stands in its scope, and a SUPPRESS_IF whose condition holds.
-abbrev pub is_removed : World → Placed → Bool
-is_removed w guard = number guard.op == DISABLE_IF && is_among guard.place w.removed
+abbrev pub is_removed : List ℕ → Placed → Bool
+is_removed removed guard = number guard.op == DISABLE_IF && is_among guard.place removed
 
 abbrev pub suppresses : World → Placed → Bool
 suppresses w guard = number guard.op == SUPPRESS_IF && is_met w guard
 
 abbrev pub hides : World → Placed → Bool
-hides w guard = is_removed w guard || suppresses w guard
+hides w guard = is_removed w.removed guard || suppresses w guard
 
 abbrev pub hiding : Placed → Denial
 hiding guard = denied (if number guard.op == DISABLE_IF then DisableIf else SuppressIf) guard
@@ -112,7 +112,7 @@ warned w q = filter (is_met w) (warnings q)
 
 -- A NO_SUBMIT_IF counts whatever hides its question, but for a DISABLE_IF that was removed.
 abbrev pub denies_submission : World → Placed → Bool
-denies_submission w n = not (list_any (is_removed w) (guards n)) && is_met w n
+denies_submission w n = not (list_any (is_removed w.removed) (guards n)) && is_met w n
 
 abbrev pub unsubmitted : World → Option Denial
 unsubmitted w = option_map (told NoSubmitIf) (find (denies_submission w) (filter is_no_submit w.nodes))

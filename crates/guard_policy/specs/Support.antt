@@ -35,8 +35,8 @@ abbrev pub around : Placed → List Placed
 around n = suppressing n ++ graying_out n
 
 -- no removed DISABLE_IF hides it
-abbrev pub counts : World → Placed → Bool
-counts w n = not (list_any (is_removed w) (guards n))
+abbrev pub counts : List ℕ → Placed → Bool
+counts removed n = not (list_any (is_removed removed) (guards n))
 
 -- the conditions of a decision, in the order in which they decide
 abbrev pub conditions : World → Decision → List Placed
@@ -45,7 +45,7 @@ conditions w (Changeable statement) = around (statement_node statement)
 conditions w (OptionOpen question value) = flat_map around (filter (λ o. option_value o.op == value) (options (question_node question)))
 conditions w (Opens form) = suppressing (form_node form)
 conditions w (Consistent question) = inconsistents (question_node question)
-conditions w MaySubmit = filter (counts w) (filter is_no_submit w.nodes)
+conditions w MaySubmit = filter (counts w.removed) (filter is_no_submit w.nodes)
 conditions w (Warnings question) = warnings (question_node question)
 
 -- What is decided of, and is looked up in the package, is a node of it.

@@ -3,7 +3,7 @@ use Rattle.std.specs.Prelude.{ℕ, Bool, List}
 use Rattle.ifr_opcodes.specs.Forest.{Placed}
 use Rattle.ifr_scopes.specs.Nodes.{nodes_of}
 use Rattle.hii_varstore.specs.Stores.{StoreMap}
-use Rattle.guard_policy.specs.World.{World, world_over, otherwise, no_stores}
+use Rattle.guard_policy.specs.World.{World, world_over}
 use Rattle.guard_policy.specs.declared.policy.Policy.{Policy}
 
 -- the bytes of the package
@@ -14,6 +14,6 @@ bytes_of policy = policy.forms.now
 abbrev pub world : Policy → StoreMap → World
 world policy stores = world_over (nodes_of policy.forms.now) policy.removed.now stores
 
--- the same without stores, where these conditions hold
+-- the same, where these conditions hold
 abbrev pub world_by : Policy → (Placed → Bool) → World
-world_by policy met = otherwise (world policy no_stores) no_stores met
+world_by policy met = record { nodes = nodes_of policy.forms.now; removed = policy.removed.now; met = met }

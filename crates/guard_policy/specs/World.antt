@@ -1,5 +1,5 @@
 -- What a decision looks at.
-use Rattle.std.specs.Prelude.{ℕ, Bool, false, ◌==◌, ◌&&◌, Option, Some, None, List, [], map, filter}
+use Rattle.std.specs.Prelude.{ℕ, Bool, false, ◌==◌, ◌&&◌, Option, Some, None, List, map, filter}
 use Rattle.ifr_opcodes.specs.declared.codes.TheConstants.{DISABLE_IF}
 use Rattle.ifr_opcodes.specs.Opcode.{number}
 use Rattle.ifr_opcodes.specs.Forest.{Placed}
@@ -12,12 +12,10 @@ use Rattle.ifr_scopes.specs.Rules.{rules_among}
 use Rattle.hii_varstore.specs.Stores.{StoreMap}
 use Rattle.hii_questions.specs.Answers.{answers}
 
--- the nodes of the form set, the places of the DISABLE_IFs that were removed when it was opened, the stores, and which other
--- conditions hold
+-- the nodes of the form set, the places of the DISABLE_IFs that were removed when it was opened, and which other conditions hold
 pub record World : Type 0 where
   pub nodes : List Placed
   pub removed : List ℕ
-  pub stores : StoreMap
   pub met : Placed → Bool
 
 abbrev pub is_met : World → Placed → Bool
@@ -35,7 +33,7 @@ is_met_over ns stores n = is_met_by (rules_among ns) (answers ns stores) n
 
 -- the world of a form set and its stores
 abbrev pub world_over : List Placed → List ℕ → StoreMap → World
-world_over ns removed stores = record { nodes = ns; removed = removed; stores = stores; met = is_met_over ns stores }
+world_over ns removed stores = record { nodes = ns; removed = removed; met = is_met_over ns stores }
 
 -- whether the condition at a place holds; not so where none stands
 abbrev pub is_met_if : World → Option Placed → Bool
@@ -45,12 +43,9 @@ is_met_if w (Some n) = is_met w n
 abbrev pub is_met_at : World → ℕ → Bool
 is_met_at w place = is_met_if w (conditional_at w.nodes place)
 
--- a world with other stores, where other conditions hold
-abbrev pub otherwise : World → StoreMap → (Placed → Bool) → World
-otherwise w stores met = record { nodes = w.nodes; removed = w.removed; stores = stores; met = met }
-
-abbrev pub no_stores : StoreMap
-no_stores = record { guid = []; stores = [] }
+-- a world where other conditions hold
+abbrev pub otherwise : World → (Placed → Bool) → World
+otherwise w met = record { nodes = w.nodes; removed = w.removed; met = met }
 
 -- the places of the DISABLE_IFs whose conditions hold over the stores at opening (33.3.8.3, EFI_IFR_DISABLE_IF: what stands in its
 -- scope is as if it were not there)

@@ -9,8 +9,7 @@ ghost use Rattle.ifr_scopes.specs.Lists.{guard_node, guards_left};
 ghost use Rattle.ifr_scopes.specs.Nodes.{nodes_of};
 ghost use Rattle.guard_policy.specs.Effects.{acts};
 ghost use Rattle.guard_policy.specs.Policy as spec;
-ghost use Rattle.guard_policy.specs.Views.{world, world_by};
-ghost use Rattle.guard_policy.specs.World.{no_stores};
+ghost use Rattle.guard_policy.specs.Views.{world_by};
 
 use crate::conditions::Verdicts;
 use crate::denial::Denial;
@@ -54,7 +53,7 @@ impl<'a, 's> Policy<'a, 's> {
 
     /// Whether one of some guards was removed.
     pub(crate) fn is_removed(&self, guards: GuardsAt<'_, 'a>) -> bool
-        ensures { result ≡ list_any (spec.is_removed (world self.now no_stores)) (guards_left guards.entry) }
+        ensures { result ≡ list_any (spec.is_removed self.now.removed.now) (guards_left guards.entry) }
     {
         let mut guards = guards;
         while let Some(guard) = guards.next() {

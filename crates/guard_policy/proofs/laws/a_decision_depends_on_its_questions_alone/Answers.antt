@@ -6,9 +6,9 @@ use Rattle.guard_policy.proofs.laws.a_decision_depends_on_its_questions_alone.Go
 pub returns-clause-denied : goal.returns-clause-denied
 returns-clause-denied c = λ ns removed stores others decision agree.
     let w = world_over ns removed stores in
-    denial_same w others (is_met_over ns others) decision (all_alike ns removed stores others (conditions w decision) agree)
+    denial_same w (is_met_over ns others) decision (all_alike ns removed stores others (conditions w decision) agree)
 
 pub returns-clause-warned : goal.returns-clause-warned
 returns-clause-warned c = λ ns removed stores others decision agree.
     let w = world_over ns removed stores in
-    warning_same w others (is_met_over ns others) decision (all_alike ns removed stores others (conditions w decision) agree)
+    warning_same w (is_met_over ns others) decision (all_alike ns removed stores others (conditions w decision) agree)

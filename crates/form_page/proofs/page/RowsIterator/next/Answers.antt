@@ -41,11 +41,12 @@ returns-then-is_listed-clause-steps g c =
     let it = c.loop-statement.self in
     let n = statement_node c.in-Some.statement in
     let w = world_of it.page in
+    let stores = it.page.stores.now in
     let texts = texts_of it.page in
     let same = c.loop-statement.invariant.0 in
     let shown : is_none (hidden w n) ≡ true =
     subst (λ (page : Page _ _). is_none (hidden (world_of page) n) ≡ true) same (sym c.is_listed.ensures ∙ c.if-is_listed.true) in
-    let row : row_seen c.row_of-row.result ≡ pages.row_of texts w it.number n =
-    subst (λ (page : Page _ _). row_seen c.row_of-row.result ≡ pages.row_of (texts_of page) (world_of page) it.number n) same c.row_of-row.ensures in
-    let later = rows_from texts w (it.number + 1) (filter (λ (m : Placed). is_none (hidden w m)) (statements_left c.next.new.self)) in
-    sym c.loop-statement.invariant.1 ∙ rows_first texts w it.number _ _ n c.in-Some.ensures.steps shown ∙ ap (λ (r : pages.Row). r ∷ later) (sym row)
+    let row : row_seen c.row_of-row.result ≡ pages.row_of texts w stores it.number n =
+    subst (λ (page : Page _ _). row_seen c.row_of-row.result ≡ pages.row_of (texts_of page) (world_of page) page.stores.now it.number n) same c.row_of-row.ensures in
+    let later = rows_from texts w stores (it.number + 1) (filter (λ (m : Placed). is_none (hidden w m)) (statements_left c.next.new.self)) in
+    sym c.loop-statement.invariant.1 ∙ rows_first texts w stores it.number _ _ n c.in-Some.ensures.steps shown ∙ ap (λ (r : pages.Row). r ∷ later) (sym row)

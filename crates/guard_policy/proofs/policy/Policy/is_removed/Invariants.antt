@@ -2,14 +2,12 @@ use Rattle.std.proofs.Common.{◌≡◌}
 use Rattle.std.specs.List.{list_any}
 use Rattle.ifr_scopes.specs.Lists.{guards_left}
 use Rattle.guard_policy.specs.Policy.{is_removed}
-use Rattle.guard_policy.specs.Views.{world}
-use Rattle.guard_policy.specs.World.{no_stores}
 use Rattle.guard_policy.proofs.policy.Policy.is_removed.Given as goal
 
 -- the guards that were met were not removed
 abbrev pub invariant-loop-guard : goal.invariant-loop-guard
 invariant-loop-guard l =
-    let which = is_removed (world l.self no_stores) in
+    let which = is_removed l.self.removed.now in
     record {
       can : goal.iterator-loop-guard.can_next l.guards;
       ends : goal.iterator-loop-guard.is_finite l.guards;

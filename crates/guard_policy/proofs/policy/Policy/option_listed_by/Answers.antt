@@ -3,7 +3,6 @@ use Rattle.ifr_opcodes.specs.Forest.{Placed}
 use Rattle.ifr_scopes.specs.Parts.{option_node}
 use Rattle.guard_policy.specs.Policy.{unless}
 use Rattle.guard_policy.specs.Views.{world}
-use Rattle.guard_policy.specs.World.{no_stores}
 use Rattle.guard_policy.proofs.IndexedLemmas.{of_option}
 use Rattle.guard_policy.proofs.SupportLemmas.{hidden_same}
 use Rattle.guard_policy.proofs.policy.Policy.option_listed_by.Goals as goal
@@ -14,4 +13,4 @@ returns g c =
     let holding = g.C.Conditions.holding c.args.conditions.now in
     λ stores told.
     c.seen_at.ensures n c.requires (of_option n c.args.option.option) (sym c.place.ensures)
-    ∙ ap unless (hidden_same (world c.args.self.now stores) no_stores (λ (m : Placed). holding m.place) n told)
+    ∙ ap unless (hidden_same (world c.args.self.now stores) (λ (m : Placed). holding m.place) n told)
