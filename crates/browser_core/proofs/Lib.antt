@@ -5,4 +5,6 @@ pub mod WithoutFaultLemmas
 pub mod SetLemmas
 pub mod ChangeLemmas
 pub mod LawLemmas
+pub mod DecidingLemmas
+pub mod SealedLemmas
 pub mod WorkedCases

@@ -14,6 +14,11 @@ abbrev pub state_with : State → List Order → State
 state_with s [] = s
 state_with s (order ∷ orders) = state_with (step s order).state orders
 
+-- the texts of some commands, one for each
+abbrev pub answers_to : State → List Order → List (List ℕ)
+answers_to s [] = []
+answers_to s (order ∷ orders) = (step s order).text ∷ answers_to (step s order).state orders
+
 -- the id of the question that a command sets, if it sets one
 abbrev pub id_set : Order → Option ℕ
 id_set (SetValue id value) = Some id

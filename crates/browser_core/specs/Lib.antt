@@ -5,3 +5,4 @@ pub mod Run
 pub mod Opening
 pub mod Standing
 pub mod Laws
+pub mod Sealed

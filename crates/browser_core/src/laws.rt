@@ -4,6 +4,7 @@ ghost use Rattle.std.specs.Prelude.{ℕ, List};
 ghost use Rattle.hii_bytes.specs.Faults.{HasNone};
 ghost use Rattle.browser_core.specs.Laws.{KeepsOtherBytes};
 ghost use Rattle.browser_core.specs.Opening.{Opens, IsOpenFault};
+ghost use Rattle.browser_core.specs.Sealed.{DecidingHasAll, DecidingHasNoOthers, SealedQuestionsAnswerAlike, SessionsAreLaid};
 ghost use Rattle.browser_core.specs.State.{State};
 
 use hii_languages::laws::packages_without_fault_speak;
@@ -35,4 +36,14 @@ pub fn bytes_without_fault_open(list: &[u8], forms: usize, image: &[u8], languag
 /// What commands change are bytes in fields of questions that they set: any other byte stays as it was submitted.
 pub fn commands_keep_other_bytes()
     ensures { KeepsOtherBytes }
+{}
+
+/// Two sessions over one form set whose stores hold the same bytes in a sealed set of questions answer all commands on these
+/// alike, and hold the same there afterwards. The stores of each session are those that its package declares; what seals a
+/// set are just the conditions of the decisions on changes of its questions.
+pub fn sealed_questions_answer_alike()
+    ensures alike { SealedQuestionsAnswerAlike }
+    ensures laid { SessionsAreLaid }
+    ensures all { DecidingHasAll }
+    ensures others { DecidingHasNoOthers }
 {}

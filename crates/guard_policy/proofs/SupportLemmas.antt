@@ -3,6 +3,7 @@ use Rattle.std.proofs.Common.{◌≡◌, ℕ, ◌==◌, ◌&&◌, ◌||◌, Bool
 use Rattle.std.specs.Prelude.{option_map}
 use Rattle.std.specs.List.{AllByRecursion, flat_map, list_any}
 use Rattle.std.proofs.lemmas.Bool.{cases_Bool, cond-true, cond-false, false≢true}
+use Rattle.std.proofs.lemmas.List.Elements.{All-filter, All-from_recursion, recursion_from_All}
 use Rattle.ifr_opcodes.specs.declared.codes.TheConstants.{SUPPRESS_IF, GRAY_OUT_IF}
 use Rattle.ifr_opcodes.specs.Fields.{option_value}
 use Rattle.ifr_opcodes.specs.Forest.{Placed}
@@ -20,7 +21,7 @@ use Rattle.hii_varstore.specs.Stores.{StoreMap}
 use Rattle.hii_questions.specs.Answers.{answers}
 use Rattle.hii_questions.specs.Views.{question_node}
 use Rattle.hii_questions.specs.declared.denial.DenialKind.TheVariants.{GrayOutIf, Locked, InconsistentIf, NoSubmitIf}
-use Rattle.guard_policy.specs.Policy.{denied, told, or_else, is_removed, hides, hiding, hidden, grays_out, fixed_itself, fixed, all_fixed, inconsistent, unsubmitted}
+use Rattle.guard_policy.specs.Policy.{denied, told, or_else, is_removed, hides, hiding, hidden, grays_out, fixed_itself, fixed, all_fixed, closed, inconsistent, unsubmitted, warned}
 use Rattle.guard_policy.specs.Support.{suppressing, graying_out, around, counts, conditions, denial, warning_of, ids_behind, support_over, AnswersAgree, until_met, is_by_first}
 use Rattle.guard_policy.specs.World.{World, is_met, is_met_over, otherwise}
 use Rattle.guard_policy.specs.declared.denial.Denial.{Denial}
@@ -33,7 +34,7 @@ pub front : {X : Type 0} (P : X → Type 0) (xs ys : List X) → AllByRecursion 
 front P [] ys h = tt
 front P (x ∷ xs) ys h = (h.0, front P xs ys h.1)
 
-back : {X : Type 0} (P : X → Type 0) (xs ys : List X) → AllByRecursion P (xs ++ ys) → AllByRecursion P ys
+pub back : {X : Type 0} (P : X → Type 0) (xs ys : List X) → AllByRecursion P (xs ++ ys) → AllByRecursion P ys
 back P [] ys h = h
 back P (x ∷ xs) ys h = back P xs ys h.1
 
@@ -51,6 +52,9 @@ find_same p q (x ∷ xs) h = ap (λ (b : Bool). cond b (Some x) (find p xs)) h.0
 filter_same : (p q : Placed → Bool) (xs : List Placed) → AllByRecursion (λ x. p x ≡ q x) xs → filter p xs ≡ filter q xs
 filter_same p q [] h = refl
 filter_same p q (x ∷ xs) h = ap (λ (b : Bool). cond b (x ∷ filter p xs) (filter p xs)) h.0 ∙ ap (λ (l : List Placed). cond (q x) (x ∷ l) l) (filter_same p q xs h.1)
+
+kept : {X : Type 0} (P : X → Type 0) (p : X → Bool) (xs : List X) → AllByRecursion P xs → AllByRecursion P (filter p xs)
+kept P p xs h = recursion_from_All P (filter p xs) (All-filter p P xs (All-from_recursion P xs h))
 
 list_any_same : (p q : Placed → Bool) (xs : List Placed) → AllByRecursion (λ x. p x ≡ q x) xs → list_any p xs ≡ list_any q xs
 list_any_same p q [] h = refl
@@ -197,12 +201,15 @@ module _ (w : World) (met : Placed → Bool) where
       ap (λ (o : Option Denial). or_else o (fixed_itself w.nodes n))
       (covered_same (hidden w n) (hidden v n) (grayed_out w n) (grayed_out v n) (option_map (denied Locked) (first_lock w.nodes n)) seen uncovered)
 
+  pub fixed_same : (n : Placed) → Same (around n) → fixed v n ≡ fixed w n
+  fixed_same n h = fixed_stays n (until_same (around n) h)
+
   abbrev SameFixed : Placed → Type 0
   SameFixed o = fixed v o ≡ fixed w o
 
   each_fixed : (os : List Placed) → Same (flat_map around os) → AllByRecursion SameFixed os
   each_fixed [] h = tt
-  each_fixed (o ∷ os) h = (fixed_stays o (until_same (around o) (front SameAt (around o) (flat_map around os) h)), each_fixed os (back SameAt (around o) (flat_map around os) h))
+  each_fixed (o ∷ os) h = (fixed_same o (front SameAt (around o) (flat_map around os) h), each_fixed os (back SameAt (around o) (flat_map around os) h))
 
   each_none : (os : List Placed) → AllByRecursion SameFixed os → AllByRecursion (λ o. is_none (fixed v o) ≡ is_none (fixed w o)) os
   each_none [] h = tt
@@ -214,9 +221,18 @@ module _ (w : World) (met : Placed → Bool) where
       ap (λ (b : Bool). cond b None (fixed v o)) (list_any_same (λ p. is_none (fixed v p)) (λ p. is_none (fixed w p)) (o ∷ os) (each_none (o ∷ os) h))
       ∙ ap (λ (d : Option Denial). cond (list_any (λ p. is_none (fixed w p)) (o ∷ os)) None d) h.0
 
+  -- a value of a question, by the conditions around all of its options
+  pub closed_same : (q : Placed) (value : ℕ) → Same (flat_map around (options q)) → closed v q value ≡ closed w q value
+  closed_same q value h =
+      let of_value : Placed → Bool = λ o. option_value o.op == value in
+      all_fixed_same (filter of_value (options q)) (kept SameFixed of_value (options q) (each_fixed (options q) h))
+
   inconsistent_stays : (q : Placed) → Same (until_met w (inconsistents q)) → inconsistent v q ≡ inconsistent w q
   inconsistent_stays q h =
       ap (option_map (told InconsistentIf)) (first_stays (λ _. false) (λ _. true) (inconsistents q) (subst (λ (l : List Placed). Same (until_met w l)) (sym (filter_all (inconsistents q))) h))
+
+  pub inconsistent_same : (q : Placed) → Same (inconsistents q) → inconsistent v q ≡ inconsistent w q
+  inconsistent_same q h = inconsistent_stays q (until_same (inconsistents q) h)
 
   unsubmitted_stays : Same (until_met w (filter (counts w.removed) (filter is_no_submit w.nodes))) → unsubmitted v ≡ unsubmitted w
   unsubmitted_stays h = ap (option_map (told NoSubmitIf)) (first_stays (λ _. false) (counts w.removed) (filter is_no_submit w.nodes) h)
@@ -232,15 +248,18 @@ module _ (w : World) (met : Placed → Bool) where
 
   pub denial_same : (decision : Decision) → Same (conditions w decision) → denial v decision ≡ denial w decision
   denial_same (Listed statement) h = denial_stays (Listed statement) refl (until_same (conditions w (Listed statement)) h)
-  denial_same (Changeable statement) h = denial_stays (Changeable statement) refl (until_same (conditions w (Changeable statement)) h)
+  denial_same (Changeable statement) h = fixed_same (statement_node statement) h
   denial_same (OptionOpen question value) h =
       let os = filter (λ o. option_value o.op == value) (options (question_node question)) in
       all_fixed_same os (each_fixed os h)
   denial_same (Opens form) h = denial_stays (Opens form) refl (until_same (conditions w (Opens form)) h)
-  denial_same (Consistent question) h = denial_stays (Consistent question) refl (until_same (conditions w (Consistent question)) h)
+  denial_same (Consistent question) h = inconsistent_same (question_node question) h
   denial_same MaySubmit h = denial_stays MaySubmit refl (until_same (conditions w MaySubmit) h)
   denial_same (Warnings question) h = refl
 
+  pub warned_same : (q : Placed) → Same (warnings q) → warned v q ≡ warned w q
+  warned_same q h = filter_same met (is_met w) (warnings q) h
+
   pub warning_same : (decision : Decision) → Same (conditions w decision) → warning_of v decision ≡ warning_of w decision
-  warning_same (Warnings question) h = filter_same (met) (is_met w) (warnings (question_node question)) h
+  warning_same (Warnings question) h = warned_same (question_node question) h
   warning_same _ h = refl
