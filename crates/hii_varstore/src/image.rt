@@ -10,7 +10,6 @@ ghost use Rattle.hii_varstore.specs.Faults.{Told, Any, IsPartFault, IsOlder, hea
 ghost use Rattle.hii_varstore.specs.Reading.{Reads, IsFaultOf, ReadsHead};
 
 use crate::buffer::Buffer;
-use crate::fault::fault_at;
 use crate::store::Store;
 use crate::table::Table;
 use hii_bytes::{Cause, Fault, Watched};
@@ -30,10 +29,10 @@ fn told_at(image: &[u8], place: usize, wanted: &[u8], other: Cause) -> Result<us
 {
     let rest = &image[place..];
     if rest.len() < wanted.len() {
-        return fault_at(Cause::StoreShort, place);
+        return Err(Fault::at(Cause::StoreShort, place as u64));
     }
     if &rest[..wanted.len()] != wanted {
-        return fault_at(other, place);
+        return Err(Fault::at(other, place as u64));
     }
     Ok(place + wanted.len())
 }
@@ -56,7 +55,7 @@ fn any_at(image: &[u8], place: usize, width: usize) -> Result<&[u8], Fault>
 {
     let rest = &image[place..];
     if rest.len() < width {
-        return fault_at(Cause::StoreShort, place);
+        return Err(Fault::at(Cause::StoreShort, place as u64));
     }
     Ok(&rest[..width])
 }
@@ -99,7 +98,7 @@ pub(crate) fn read_stores(
         end += 4 + found.len();
     }
     if end < image.len() {
-        return fault_at(Cause::StoreTrailing, end);
+        return Err(Fault::at(Cause::StoreTrailing, end as u64));
     }
     Ok(stores)
 }

@@ -2,7 +2,6 @@
 #![tactic(auto)]
 
 mod buffer;
-mod fault;
 mod image;
 pub mod laws;
 mod layout;

@@ -10,7 +10,6 @@ ghost use Rattle.hii_varstore.specs.StoreNodes.{declared_buffer, is_taken, IsRep
 ghost use Rattle.hii_varstore.specs.Table.{AreBuffers};
 
 use crate::buffer::Buffer;
-use crate::fault::fault_at;
 use hii_bytes::{Cause, Fault};
 use ifr_scopes::{Varstore, Varstores};
 use std::alloc::{AllocError, Global};
@@ -49,7 +48,7 @@ pub(crate) fn read_buffers(alloc: Global, stores: Varstores<'_>) -> Result<Vec<B
     for store in stores {
         match meets_again(&mut ids, store.id()) {
             Ok(false) => {}
-            Ok(true) => return fault_at(Cause::DuplicateVarstore, store.place() as usize),
+            Ok(true) => return Err(Fault::at(Cause::DuplicateVarstore, u64::from(store.place()))),
             Err(AllocError) => return Err(Fault::out_of_memory()),
         }
         if let Some(buffer) = read_buffer(store) {

@@ -45,7 +45,7 @@ returns-then-end-image-clause-wrong c =
     let all : take c.loop-buffer.buffer-index bs ≡ bs = take_all c.loop-buffer.buffer-index bs (omega arith) in
     let read = rw all at c.loop-buffer.invariant.read in
     let wrong = left_over _ _ c.args.image.now c.args.place c.loop-buffer.end read (omega arith) in
-    rw c.fault_at.ensures (inr (rw c.buffers-buffers.ensures.value at wrong))
+    rw c.at.ensures (inr (rw c.buffers-buffers.ensures.value at wrong))
 
 pub returns-clause-read : goal.returns-clause-read
 returns-clause-read c =

@@ -8,7 +8,7 @@ returns-then-ne-clause-wrong c =
     let image = c.args.image.now in
     let place = c.args.place in
     let other = rw (take_rest image place) at c.if-ne.ensures in
-    rw c.fault_at-then-ne.ensures (λ later. inl (inr (refl, omega (arith, length-drop place image), other_bytes _ _ other), refl))
+    rw c.at-then-ne.ensures (λ later. inl (inr (refl, omega (arith, length-drop place image), other_bytes _ _ other), refl))
 
 pub returns-clause-read : goal.returns-clause-read
 returns-clause-read c =

@@ -20,7 +20,7 @@ returns-in-Ok-true-clause-refused c =
     let met = subst (λ (ns : List Placed). HasMet (stores_left c.args.stores) ns c.loop-store.ids c.loop-store.buffers.items) c.in-Some.ensures.steps c.loop-store.invariant.met in
     let taken : is_taken (store_id n.op) met.before ≡ true = ap (λ id. is_taken id met.before) (sym c.id.ensures) ∙ sym (c.in-Ok-true.ensures.told met.before met.known) ∙ c.in-Ok-true.field-0-test in
     let first = refused_among c.args.stores _ (met_again _ _ n _ _ met taken) in
-    rw (c.fault_at.ensures, c.place.ensures) (inr first)
+    rw (c.at.ensures, c.from.ensures, c.place.ensures) (inr first)
 
 pub loop-store-preserved-else-is_err : goal.loop-store-preserved-else-is_err
 loop-store-preserved-else-is_err c =
