@@ -4,7 +4,8 @@ use Rattle.std.specs.Prelude.{Result, int_lt}
 use Rattle.std.specs.List.{list_any, take_while}
 use Rattle.std.specs.Str.{is_utf8}
 use Rattle.std.proofs.Math.Nat.{one-le-pow, mul-le-mul_right}
-use Rattle.std.proofs.lemmas.Bool.{cases_Bool, ltb-true, ltb-false}
+use Rattle.std.proofs.lemmas.Bool.{cases_Bool, and_parts, or_parts, not-true, ltb-true, ltb-false}
+use Rattle.std.proofs.lemmas.Option.{cond_some}
 use Rattle.std.proofs.lemmas.List.{append-nil, length-replicate, get_or-drop}
 use Rattle.byteorder.specs.Endian.{little_number, little_bytes}
 use Rattle.byteorder.specs.Numbers.{little_number-reads_back, length-bytes_low_first, little_from-lt}
@@ -26,16 +27,13 @@ abbrev pub IsSound : FieldType → Type 0
 IsSound (one_of width vs) = (v : ℕ) → is_offered vs v ≡ true → v < 256 ^ width
 IsSound t = Unit {0}
 
-abbrev Keeps : FieldType → Offer → List ℕ → Type 0
-Keeps t offer bytes = (value_in t bytes ≡ taken_as t offer) × (length bytes ≡ size_of_type t)
-
 abbrev taken : List ℕ → Result (List ℕ) DenialKind
 taken bytes = Ok bytes
 
 same_bytes : (a b : List ℕ) → taken a ≡ taken b → a ≡ b
 same_bytes a b e = cc
 
-checkbox_kept : (n : ℤ) (bytes : List ℕ) → checkbox_number n ≡ Ok bytes → Keeps checkbox (whole n) bytes
+checkbox_kept : (n : ℤ) (bytes : List ℕ) → checkbox_number n ≡ Ok bytes → (value_in checkbox bytes ≡ taken_as checkbox (whole n)) × (length bytes ≡ 1)
 checkbox_kept (pos n) bytes e = elim (cases_Bool (eqb n 0)) [
   | inl off ↦
       let is : 0 ∷ [] ≡ bytes = same_bytes (0 ∷ []) bytes (sym (rw off refl) ∙ e) in
@@ -49,7 +47,7 @@ checkbox_kept (pos n) bytes e = elim (cases_Bool (eqb n 0)) [
 ]
 checkbox_kept (negsuc n) bytes e = absurd (cc)
 
-bits_kept : (bits : ℕ) (bytes : List ℕ) → fits_type checkbox (raw bits) ≡ Ok bytes → Keeps checkbox (raw bits) bytes
+bits_kept : (bits : ℕ) (bytes : List ℕ) → fits_type checkbox (raw bits) ≡ Ok bytes → (value_in checkbox bytes ≡ taken_as checkbox (raw bits)) × (length bytes ≡ 1)
 bits_kept bits bytes e =
     let is : cond (eqb bits 0) 0 1 ∷ [] ≡ bytes = same_bytes (cond (eqb bits 0) 0 1 ∷ []) bytes e in
     (ap (value_in checkbox) (sym is) ∙ elim (cases_Bool (eqb bits 0)) [ inl off ↦ rw off refl | inr on ↦ rw on refl ], ap (length {A = ℕ}) (sym is))
@@ -62,27 +60,19 @@ pow_some : (w : ℕ) → 0 < 256 ^ w
 pow_some w = let h = one-le-pow w 256 (omega arith) in omega arith
 
 fitting_is : (w bits b : ℕ) → fitting_bits w bits ≡ Some b → (b ≡ bits) × (b < 256 ^ w)
-fitting_is w bits b e = elim (cases_Bool (ltb bits (256 ^ w))) [
-  | inl less ↦ let told : Some bits ≡ Some b = sym (rw less refl) ∙ e in let is : b ≡ bits = cc in (is, omega (arith, is, ltb-true bits (256 ^ w) less))
-  | inr past ↦ let none : None ≡ Some b = sym (rw past refl) ∙ e in absurd (cc)
-]
+fitting_is w bits b e =
+    let is = cond_some (ltb bits (256 ^ w)) bits b e in
+    (sym is.1, omega (arith, is.1, ltb-true bits (256 ^ w) is.0))
 
 bits_are : (signed : Bool) (w : ℕ) (n : ℤ) (b : ℕ) → bits_of signed w n ≡ Some b → (b ≡ complement w n) × (b < 256 ^ w)
-bits_are signed w (pos n) b e = elim (cases_Bool (ltb n (cond signed (256 ^ w / 2) (256 ^ w)))) [
-  | inl less ↦
-      let told : Some n ≡ Some b = sym (rw less refl) ∙ e in
-      let is : b ≡ n = cc in
-      let most : cond signed (256 ^ w / 2) (256 ^ w) ≤ 256 ^ w = elim signed as (λ s. cond s (256 ^ w / 2) (256 ^ w) ≤ 256 ^ w) [ true ↦ omega arith | false ↦ omega arith ] in
-      (is, omega (arith, is, most, ltb-true n (cond signed (256 ^ w / 2) (256 ^ w)) less))
-  | inr past ↦ let none : None ≡ Some b = sym (rw past refl) ∙ e in absurd (cc)
-]
-bits_are signed w (negsuc n) b e = elim (cases_Bool (signed && ltb n (256 ^ w / 2))) [
-  | inl less ↦
-      let told : Some (256 ^ w - suc n) ≡ Some b = sym (rw less refl) ∙ e in
-      let is : b ≡ 256 ^ w - suc n = cc in
-      (is, omega (arith, is, pow_some w))
-  | inr past ↦ let none : None ≡ Some b = sym (rw past refl) ∙ e in absurd (cc)
-]
+bits_are signed w (pos n) b e =
+    let most = cond signed (256 ^ w / 2) (256 ^ w) in
+    let is = cond_some (ltb n most) n b e in
+    let below : most ≤ 256 ^ w = elim signed as (λ s. cond s (256 ^ w / 2) (256 ^ w) ≤ 256 ^ w) [ true ↦ omega arith | false ↦ omega arith ] in
+    (sym is.1, omega (arith, is.1, below, ltb-true n most is.0))
+bits_are signed w (negsuc n) b e =
+    let is = cond_some (signed && ltb n (256 ^ w / 2)) (256 ^ w - suc n) b e in
+    (sym is.1, omega (arith, is.1, pow_some w))
 
 numeric_are : (signed : Bool) (w mn mx : ℕ) (o : Option ℕ) (bytes : List ℕ) → numeric_bytes signed w mn mx o ≡ Ok bytes → (b : ℕ) × (o ≡ Some b) × (bytes ≡ little_bytes w b)
 numeric_are signed w mn mx None bytes e = absurd (cc)
@@ -92,9 +82,8 @@ numeric_are signed w mn mx (Some b) bytes e = elim (cases_Bool (int_lt (shown si
 ]
 
 -- the bytes of a number
-number_kept : (w b n : ℕ) (bytes : List ℕ) → bytes ≡ little_bytes w b → b ≡ n → b < 256 ^ w → (natural (little_number w bytes) ≡ natural n) × (length bytes ≡ w)
-number_kept w b n bytes is same less =
-    (ap (λ (l : List ℕ). natural (little_number w l)) is ∙ ap natural (number_back w b less ∙ same), ap (length {A = ℕ}) is ∙ length-bytes_low_first 0 w b)
+number_kept : (w b n : ℕ) (bytes : List ℕ) → bytes ≡ little_bytes w b → b ≡ n → b < 256 ^ w → natural (little_number w bytes) ≡ natural n
+number_kept w b n bytes is same less = ap (λ (l : List ℕ). natural (little_number w l)) is ∙ ap natural (number_back w b less ∙ same)
 
 chosen_are : (w : ℕ) (vs : List ℕ) (z : ℤ) (bytes : List ℕ) → chosen_bytes w (offered vs z) ≡ Ok bytes → (v : ℕ) × (z ≡ pos v) × (is_offered vs v ≡ true) × (bytes ≡ little_bytes w v)
 chosen_are w vs (pos v) bytes e = elim (cases_Bool (is_offered vs v)) [
@@ -113,21 +102,14 @@ text_are : (mn mx : ℕ) (us bytes : List ℕ) → text_bytes mn mx us ≡ Ok by
 text_are mn mx us bytes e = elim (cases_Bool (ltb (length us) mn || ltb mx (length us))) [
   | inl out ↦ let none : ◌≡◌ {A = Result (List ℕ) DenialKind} (Err Length) (Ok bytes) = sym (rw out refl) ∙ e in absurd (cc)
   | inr within ↦
-      let parts = neither (ltb (length us) mn) (ltb mx (length us)) within in
+      let parts = or_parts (ltb (length us) mn) (ltb mx (length us)) within in
       (sym (same_bytes (filled (2 * mx) (spelled 2 us)) bytes (sym (rw within refl) ∙ e)), ltb-false mx (length us) parts.1)
 ]
-  where
-    neither : (a b : Bool) → a || b ≡ false → (a ≡ false) × (b ≡ false)
-    neither true b e = absurd (cc)
-    neither false b e = (refl, e)
 
-text_kept : (mn mx : ℕ) (us bytes : List ℕ) → AreItems 2 us → text_bytes mn mx us ≡ Ok bytes → (value_in (text mn mx) bytes ≡ values.text (spelled 2 us)) × (length bytes ≡ 2 * mx)
+text_kept : (mn mx : ℕ) (us bytes : List ℕ) → AreItems 2 us → text_bytes mn mx us ≡ Ok bytes → value_in (text mn mx) bytes ≡ values.text (spelled 2 us)
 text_kept mn mx us bytes items e =
     let are = text_are mn mx us bytes e in
-    let sized = length_spelled 2 us in (
-      ap (λ (l : List ℕ). values.text (bytes_of_items 2 l)) are.0 ∙ ap values.text (bytes_back 2 (2 * mx) us (omega arith) items),
-      ap (length {A = ℕ}) are.0 ∙ filled_length (2 * mx) (spelled 2 us) (omega (arith, sized, are.1)),
-    )
+    ap (λ (l : List ℕ). values.text (bytes_of_items 2 l)) are.0 ∙ ap values.text (bytes_back 2 (2 * mx) us (omega arith) items)
 
 -- characters that are units
 fine_items : (cs : List ℕ) → list_any is_bad_character cs ≡ false → AreItems 2 cs
@@ -156,18 +138,14 @@ stored_items (suc n) w bytes are =
           rw more ((λ z. let bad : eqb 0 0 ≡ false = ap (λ (k : ℕ). eqb k 0) (sym z) ∙ some in absurd (cc)), little_from-lt 0 w bytes are, stored_items n w (drop w bytes) later)
     ]
 
-utf8_kept : (mn mx : ℕ) (given bytes : List ℕ) → fits_type (text mn mx) (utf8 given) ≡ Ok bytes → Keeps (text mn mx) (utf8 given) bytes
+utf8_kept : (mn mx : ℕ) (given bytes : List ℕ) → fits_type (text mn mx) (utf8 given) ≡ Ok bytes → value_in (text mn mx) bytes ≡ taken_as (text mn mx) (utf8 given)
 utf8_kept mn mx given bytes e = elim (cases_Bool (is_text given)) [
   | inl is ↦
       let told : text_bytes mn mx (chars given) ≡ Ok bytes = sym (rw is refl) ∙ e in
-      text_kept mn mx (chars given) bytes (fine_items (chars given) (fine (is_utf8 given) (list_any is_bad_character (chars given)) is)) told
+      let bad = list_any is_bad_character (chars given) in
+      text_kept mn mx (chars given) bytes (fine_items (chars given) (not-true bad (and_parts (is_utf8 given) (not bad) is).1)) told
   | inr other ↦ let none : ◌≡◌ {A = Result (List ℕ) DenialKind} (Err BadText) (Ok bytes) = sym (rw other refl) ∙ e in absurd (cc)
 ]
-  where
-    fine : (a b : Bool) → a && not b ≡ true → b ≡ false
-    fine true true e = absurd (cc)
-    fine true false e = refl
-    fine false b e = absurd (cc)
 
 list_are : (w most : ℕ) (unique some : Bool) (vs ns bytes : List ℕ) → list_bytes w most unique some vs ns ≡ Ok bytes → (bytes ≡ filled (most * w) (spelled w ns)) × (length ns ≤ most)
 list_are w most unique some vs ns bytes e = elim (cases_Bool (ltb most (length ns))) [
@@ -188,29 +166,28 @@ list_kept w most unique some vs ns bytes e =
     (ap buffer are.0, ap (length {A = ℕ}) are.0 ∙ filled_length (most * w) (spelled w ns) (omega (arith, sized, wide)))
 
 numeric_kept : (signed : Bool) (w mn mx : ℕ) (o : Option ℕ) (n : ℕ) (bytes : List ℕ) → ((b : ℕ) → o ≡ Some b → (b ≡ n) × (b < 256 ^ w)) → numeric_bytes signed w mn mx o ≡ Ok bytes
-    → (natural (little_number w bytes) ≡ natural n) × (length bytes ≡ w)
+    → natural (little_number w bytes) ≡ natural n
 numeric_kept signed w mn mx o n bytes those e =
     let are = numeric_are signed w mn mx o bytes e in
     let its = those are.0 are.1 in
     number_kept w are.0 n bytes are.2 its.0 its.1
 
-one_of_kept : (w : ℕ) (vs : List ℕ) (z : ℤ) (bytes : List ℕ) → IsSound (one_of w vs) → chosen_bytes w (offered vs z) ≡ Ok bytes → (natural (little_number w bytes) ≡ choice z) × (length bytes ≡ w)
+one_of_kept : (w : ℕ) (vs : List ℕ) (z : ℤ) (bytes : List ℕ) → IsSound (one_of w vs) → chosen_bytes w (offered vs z) ≡ Ok bytes → natural (little_number w bytes) ≡ choice z
 one_of_kept w vs z bytes sound e =
     let are = chosen_are w vs z bytes e in
-    let kept = number_kept w are.0 are.0 bytes are.3 refl (sound are.0 are.2) in
-    (kept.0 ∙ ap choice (sym are.1), kept.1)
+    number_kept w are.0 are.0 bytes are.3 refl (sound are.0 are.2) ∙ ap choice (sym are.1)
 
-pub kept : (t : FieldType) (offer : Offer) (bytes : List ℕ) → IsSound t → HasBytes offer → fits_type t offer ≡ Ok bytes → Keeps t offer bytes
-kept checkbox (whole n) bytes sound given e = checkbox_kept n bytes e
-kept checkbox (raw bits) bytes sound given e = bits_kept bits bytes e
+pub kept : (t : FieldType) (offer : Offer) (bytes : List ℕ) → IsSound t → HasBytes offer → fits_type t offer ≡ Ok bytes → value_in t bytes ≡ taken_as t offer
+kept checkbox (whole n) bytes sound given e = (checkbox_kept n bytes e).0
+kept checkbox (raw bits) bytes sound given e = (bits_kept bits bytes e).0
 kept (numeric signed w mn mx) (whole n) bytes sound given e = numeric_kept signed w mn mx (bits_of signed w n) (complement w n) bytes (λ b. bits_are signed w n b) e
 kept (numeric signed w mn mx) (raw bits) bytes sound given e = numeric_kept signed w mn mx (fitting_bits w bits) bits bytes (λ b. fitting_is w bits b) e
 kept (one_of w vs) (whole n) bytes sound given e = one_of_kept w vs n bytes sound e
 kept (one_of w vs) (raw bits) bytes sound given e = one_of_kept w vs (pos bits) bytes sound e
 kept (text mn mx) (utf8 given) bytes sound are e = utf8_kept mn mx given bytes e
 kept (text mn mx) (units given) bytes sound are e = text_kept mn mx (items_in 2 given) bytes (stored_items (length given / 2) 2 given are) e
-kept (ordered_list w most unique some vs) (listed ns) bytes sound given e = list_kept w most unique some vs ns bytes e
-kept (ordered_list w most unique some vs) (elements given) bytes sound are e = list_kept w most unique some vs (items_in w given) bytes e
+kept (ordered_list w most unique some vs) (listed ns) bytes sound given e = (list_kept w most unique some vs ns bytes e).0
+kept (ordered_list w most unique some vs) (elements given) bytes sound are e = (list_kept w most unique some vs (items_in w given) bytes e).0
 kept t offer bytes sound given e = absurd (cc)
 
 -- ---- how many bytes a field takes

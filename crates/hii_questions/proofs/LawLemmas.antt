@@ -2,7 +2,7 @@
 use Rattle.std.proofs.Common.{◌≡◌, ℕ, zero, suc, ◌+◌, ◌^◌, ◌<◌, ◌≤◌, Bool, true, false, eqb, leb, cond, ◌&&◌, Option, Some, None, Ok, List, [], ◌∷◌, map, length, refl, sym, ap, subst, ◌∙◌, arith, inl, inr, option_map}
 use Rattle.std.specs.Prelude.{is_some, IsSomeAnd, Contains, filter}
 use Rattle.std.specs.List.{find, flat_map}
-use Rattle.std.proofs.lemmas.Bool.{cases_Bool, eqb-true, eq-eqb, ltb-false, leb-false, false≢true}
+use Rattle.std.proofs.lemmas.Bool.{cases_Bool, and_parts, eqb-true, eq-eqb, ltb-false, leb-false, false_from_ne_true, false≢true}
 use Rattle.std.proofs.lemmas.List.Elements.{Contains-append_left, Contains-append_right}
 use Rattle.hii_bytes.specs.Faults.{HasNone}
 use Rattle.hii_bytes.specs.declared.cause.Cause.TheVariants.{FieldOutside, OptionRange}
@@ -36,16 +36,12 @@ found p (y ∷ xs) x e = go (p y) refl (found p xs x) e
     go true h later e = let same : y ≡ x = cc in ((0, omega arith, same), ap p (sym same) ∙ h)
     go false h later e = let there = later e in (further y xs x there.0, there.1)
 
-both : (a b : Bool) → a && b ≡ true → (a ≡ true) × (b ≡ true)
-both true b e = (refl, e)
-both false b e = absurd (false≢true e)
-
 pub finds_questions : FindsQuestions
 finds_questions ns id n e = elim (cases_Bool (eqb id 0)) [
   | inl zero_id ↦ let none = rw zero_id at e in absurd (cc)
   | inr some ↦
       let there = found (λ (m : Placed). is_question m && eqb (question_id m.op) id) ns n (rw some at e) in
-      let passes = both (is_question n) (eqb (question_id n.op) id) there.1 in
+      let passes = and_parts (is_question n) (eqb (question_id n.op) id) there.1 in
       (there.0, passes.0, eqb-true (question_id n.op) id passes.1)
 ]
 
@@ -67,22 +63,18 @@ gathered f [] x y (k, lt, e) within = absurd (omega arith)
 gathered f (z ∷ xs) x y (zero, lt, e) within = Contains-append_left (f z) (flat_map f xs) y (subst (λ w. Contains (f w) y) (sym e) within)
 gathered f (z ∷ xs) x y (suc k, lt, e) within = Contains-append_right (f z) (flat_map f xs) y (gathered f xs x y (k, omega arith, e) within)
 
-no_fault : (b : Bool) → (b ≡ true → ⊥) → b ≡ false
-no_fault true none = absurd (none refl)
-no_fault false none = refl
-
 -- a question is among the questions
 asked_there : (ns : List Placed) (n : Placed) → Contains ns n → is_question n ≡ true → Contains (questions ns) (asked ns n)
 asked_there ns n within is = mapped (asked ns) (filter is_question ns) n (passing is_question ns n within is)
 
 field_sound : (ns : List Placed) (n : Placed) (cause : Cause) → HasNone (IsQuestionFault ns) → Contains ns n → is_question n ≡ true → has_field_fault (layout_of ns) (is_known ns) (asked ns n) cause ≡ false
 field_sound ns n cause none within is =
-    no_fault (has_field_fault (layout_of ns) (is_known ns) (asked ns n) cause) (λ bad.
+    false_from_ne_true (has_field_fault (layout_of ns) (is_known ns) (asked ns n) cause) (λ bad.
     none cause n.place (itself (asked ns n), gathered parts_of (questions ns) (asked ns n) (itself (asked ns n)) (asked_there ns n within is) (0, omega arith, refl), refl, bad))
 
 option_sound : (ns : List Placed) (n o : Placed) (cause : Cause) → HasNone (IsQuestionFault ns) → Contains ns n → is_question n ≡ true → Contains (options n) o → has_option_fault n o cause ≡ false
 option_sound ns n o cause none within is there =
-    no_fault (has_option_fault n o cause) (λ bad.
+    false_from_ne_true (has_option_fault n o cause) (λ bad.
     let part = option (asked ns n) o in
     none cause o.place (part, gathered parts_of (questions ns) (asked ns n) part (asked_there ns n within is) (further (itself (asked ns n)) (map (option (asked ns n)) (options n)) part (mapped (option (asked ns n)) (options n) o there)), refl, bad))
 
@@ -192,15 +184,15 @@ offer_kept t offer h = tt
 value_back : (o : Option FieldType) (f : Field) (offer : Offer) (bytes : List ℕ) (m : StoreMap) → SoundWith o → option_map size_of_type o ≡ Some f.width → HasBytes offer
     → fits_field o (Some f) offer ≡ Ok bytes → HasRange (shape_of m) f.store f.offset f.width
     → value_of_bytes o (field_bytes (with_bytes m f.store f.offset bytes) f.store f.offset f.width) ≡ taken_value o offer
-value_back None f offer bytes m sound wide given e range = absurd (cc)
-value_back (Some t) f offer bytes m sound wide given e range =
-    let keeps = kept t (read_as t offer) bytes sound (offer_kept t offer given) e in
+value_back None f offer bytes m sound same given e range = absurd (cc)
+value_back (Some t) f offer bytes m sound same given e range =
+    let size = wide t (read_as t offer) bytes e in
     let width : size_of_type t ≡ f.width = cc in
-    let sized : f.width ≡ length bytes = sym width ∙ sym keeps.1 in
+    let sized : f.width ≡ length bytes = sym width ∙ sym size in
     let back = field_back m f.store f.offset bytes (subst (λ (w : ℕ). HasRange (shape_of m) f.store f.offset w) sized range) in
     let there : field_bytes (with_bytes m f.store f.offset bytes) f.store f.offset f.width ≡ Some bytes = rw sized back in
-    let whole_there : eqb (length bytes) (size_of_type t) ≡ true = eq-eqb (length bytes) (size_of_type t) keeps.1 in
-    ap (value_of_bytes (Some t)) there ∙ rw whole_there keeps.0
+    let whole_there : eqb (length bytes) (size_of_type t) ≡ true = eq-eqb (length bytes) (size_of_type t) size in
+    ap (value_of_bytes (Some t)) there ∙ rw whole_there (kept t (read_as t offer) bytes sound (offer_kept t offer given) e)
 
 pub reads_back : ReadsBack
 reads_back m ns n f offer bytes none within is e given fit range =

@@ -3,6 +3,7 @@ pub mod ListLemmas
 pub mod FaultLemmas
 pub mod QuestionLemmas
 pub mod PartLemmas
+pub mod PlaceLemmas
 pub mod RefusalLemmas
 pub mod SpellLemmas
 pub mod KeptLemmas

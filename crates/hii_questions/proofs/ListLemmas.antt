@@ -1,8 +1,9 @@
 -- Elements one after the other.
 use Rattle.std.proofs.Common.{◌≡◌, ◌==◌, ℕ, zero, suc, ◌+◌, ◌-◌, ◌≤◌, Bool, true, false, cond, Option, Some, None, List, [], ◌∷◌, ◌++◌, length, take, sym, ap, ◌∙◌, arith, refl, length-append, append_assoc}
-use Rattle.std.proofs.Common.{◌&&◌, ◌*◌, leb, ltb, inl, inr, Ok}
+use Rattle.std.proofs.Common.{◌&&◌, ◌*◌, leb, ltb, Ok}
 use Rattle.std.proofs.Math.Nat.{mul-le-mul_right}
-use Rattle.std.proofs.lemmas.Bool.{cases_Bool, ne_eqb, leb-true, le-ltb}
+use Rattle.std.proofs.lemmas.Bool.{ne_eqb, leb-true, le-ltb}
+use Rattle.std.proofs.lemmas.Option.{cond_some}
 use Rattle.byteorder.specs.Endian.{little_bytes}
 use Rattle.byteorder.specs.Numbers.{length-bytes_low_first}
 use Rattle.hii_questions.specs.Inputs.{is_offered, element_denial, list_denial, bytes_unless, list_bytes, text_bytes}
@@ -48,17 +49,13 @@ length_spelled width (n ∷ items) =
 -- units that are not too few, and counted up to the most
 pub units_fit : (minimum maximum count : ℕ) (us : List ℕ) → Some count ≡ cond (leb (length us) maximum) (Some (length us)) None → minimum ≤ count
     → (text_bytes minimum maximum us ≡ Ok (filled (2 * maximum) (spelled 2 us))) × (length (spelled 2 us) ≤ 2 * maximum)
-units_fit minimum maximum count us counted few = elim (cases_Bool (leb (length us) maximum)) [
-  | inl within ↦
-      let told : Some count ≡ Some (length us) = rw within at counted in
-      let is : count ≡ length us = cc in
-      let most : length us ≤ maximum = leb-true (length us) maximum within in
-      let low : ltb (length us) minimum ≡ false = le-ltb (length us) minimum (omega arith) in
-      let high : ltb maximum (length us) ≡ false = le-ltb maximum (length us) most in
-      let sized = length_spelled 2 us in
-      (rw (low, high) refl, omega arith)
-  | inr past ↦ let told = rw past at counted in absurd (cc)
-]
+units_fit minimum maximum count us counted few =
+    let is = cond_some (leb (length us) maximum) (length us) count (sym counted) in
+    let most : length us ≤ maximum = leb-true (length us) maximum is.0 in
+    let low : ltb (length us) minimum ≡ false = le-ltb (length us) minimum (omega (arith, is.1)) in
+    let high : ltb maximum (length us) ≡ false = le-ltb maximum (length us) most in
+    let sized = length_spelled 2 us in
+    (rw (low, high) refl, omega arith)
 
 -- elements that an ordered list takes
 pub elements_fit : (width most : ℕ) (unique some : Bool) (values ns : List ℕ) → list_denial most unique some values ns ≡ None → length ns ≤ most

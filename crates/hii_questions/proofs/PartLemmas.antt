@@ -1,10 +1,10 @@
 -- The questions of a package and their options stand one after the other.
-use Rattle.std.proofs.Common.{◌≡◌, ℕ, zero, suc, ◌+◌, ◌≤◌, Bool, true, false, List, [], ◌∷◌, ◌++◌, map, length, refl, sym, ap, subst, ◌∙◌, arith, lit≤, inl, inr}
+use Rattle.std.proofs.Common.{◌≡◌, ℕ, ◌+◌, ◌≤◌, Bool, true, false, List, [], ◌∷◌, ◌++◌, map, length, refl, sym, ap, subst, ◌∙◌, arith, lit≤, inl, inr}
 use Rattle.std.specs.Prelude.{Contains, filter}
 use Rattle.std.specs.List.{flat_map}
 use Rattle.std.proofs.lemmas.Bool.{cases_Bool, false≢true}
 use Rattle.std.proofs.lemmas.Grind.{flat_map-append}
-use Rattle.std.proofs.lemmas.List.Elements.{filter-append}
+use Rattle.std.proofs.lemmas.List.Elements.{filter-append, Contains-append_left, Contains-append_right}
 use Rattle.hii_bytes.specs.Faults.{AreAll, Rise}
 use Rattle.hii_bytes.specs.declared.cause.Cause.{Cause}
 use Rattle.hii_bytes.specs.declared.cause.Cause.TheVariants.{UnknownVarstore, FieldOutside, OptionRange, MixedOptions}
@@ -14,6 +14,7 @@ use Rattle.ifr_opcodes.proofs.ForestLemmas.{takes}
 use Rattle.ifr_scopes.specs.Accepted.{IsAccepted}
 use Rattle.ifr_scopes.specs.Nodes.{nodes_of, is_question, is_option, options}
 use Rattle.ifr_scopes.proofs.PlaceLemmas.{Within, nodes_within}
+use Rattle.ifr_scopes.proofs.ViewLemmas.{further}
 use Rattle.hii_questions.proofs.ApartLemmas.{no_question_below}
 use Rattle.hii_varstore.specs.Layout.{Shape}
 use Rattle.hii_questions.specs.Fields.{Asked, asked_at}
@@ -49,7 +50,7 @@ heads_question n ns is =
 heads_other : (n : Placed) (ns : List Placed) → is_question n ≡ false → heads (n ∷ ns) ≡ heads ns
 heads_other n ns other = rw other refl
 
-lower : (ns : List Placed) (low high low' high' : ℕ) → Within low high ns → low' ≤ low → high ≤ high' → Within low' high' ns
+pub lower : (ns : List Placed) (low high low' high' : ℕ) → Within low high ns → low' ≤ low → high ≤ high' → Within low' high' ns
 lower [] low high low' high' w l h = omega arith
 lower (n ∷ ns) low high low' high' w l h = (omega (arith, w.0), lower ns (n.place + 1) high (n.place + 1) high' w.1 (omega arith) h)
 
@@ -57,7 +58,7 @@ both_within : (xs ys : List Placed) (low mid high : ℕ) → Within low mid xs �
 both_within [] ys low mid high u v = lower ys mid high low high v u (omega arith)
 both_within (x ∷ xs) ys low mid high u v = (u.0, both_within xs ys (x.place + 1) mid high u.1 v)
 
-some_within : (p : Placed → Bool) (ns : List Placed) (low high : ℕ) → Within low high ns → Within low high (filter p ns)
+pub some_within : (p : Placed → Bool) (ns : List Placed) (low high : ℕ) → Within low high ns → Within low high (filter p ns)
 some_within p [] low high w = w
 some_within p (n ∷ ns) low high w = elim (cases_Bool (p n)) [
   | inl here ↦ rw here (w.0, some_within p ns (n.place + 1) high w.1)
@@ -67,15 +68,6 @@ some_within p (n ∷ ns) low high w = elim (cases_Bool (p n)) [
 -- no question stands in the scope of another
 abbrev AreApart : List Placed → Type 0
 AreApart ns = (q : Placed) → Contains ns q → is_question q ≡ true → filter is_question (below q) ≡ []
-
-in_front : (xs ys : List Placed) (q : Placed) → Contains xs q → Contains (xs ++ ys) q
-in_front [] ys q (k, lt, e) = absurd (omega arith)
-in_front (x ∷ xs) ys q (zero, lt, e) = (zero, omega arith, e)
-in_front (x ∷ xs) ys q (suc k, lt, e) = let h = in_front xs ys q (k, omega arith, e) in (suc h.0, omega (arith, h.1), h.2)
-
-behind : (xs ys : List Placed) (q : Placed) → Contains ys q → Contains (xs ++ ys) q
-behind [] ys q h = h
-behind (x ∷ xs) ys q h = let k = behind xs ys q h in (suc k.0, omega (arith, k.1), k.2)
 
 heads_within : (f : Forest) (at : ℕ) (path : List Ancestor) → AreNodes f → AreApart (nodes_at at path f) → Within at (at + length (flat f)) (heads (nodes_at at path f))
 heads_within none at path h apart = omega arith
@@ -88,7 +80,7 @@ heads_within (node op children rest) at path h apart =
     let inner = nodes_at (at + length op) (path ++ record { place = at; op = op; children = children } ∷ []) children in
     let after = nodes_at past path rest in
     let later : Within past high (heads after) =
-    lower (heads after) past (past + length (flat rest)) past high (heads_within rest past path h.1.1 (λ q k is. apart q (behind (n ∷ inner) after q k) is)) (omega arith) (omega (arith, size.1)) in
+    lower (heads after) past (past + length (flat rest)) past high (heads_within rest past path h.1.1 (λ q k is. apart q (Contains-append_right (n ∷ inner) after q k) is)) (omega arith) (omega (arith, size.1)) in
     elim (cases_Bool (is_question n)) [
       | inl is ↦
           let bare : filter is_question inner ≡ [] = apart n (0, omega arith, refl) is in
@@ -102,7 +94,7 @@ heads_within (node op children rest) at path h apart =
       | inr other ↦
           let own : Within at past (heads inner) =
           lower (heads inner) (at + length op) (at + length op + length (flat children)) at past
-          (heads_within children (at + length op) (path ++ record { place = at; op = op; children = children } ∷ []) h.1.0 (λ q k is. apart q (in_front (n ∷ inner) after q (behind (n ∷ []) inner q k)) is)) (omega arith) (omega (arith, size.0)) in
+          (heads_within children (at + length op) (path ++ record { place = at; op = op; children = children } ∷ []) h.1.0 (λ q k is. apart q (Contains-append_left (n ∷ inner) after q (further n inner q k)) is)) (omega arith) (omega (arith, size.0)) in
           let whole : heads (n ∷ (inner ++ after)) ≡ heads inner ++ heads after = heads_other n (inner ++ after) other ∙ heads_append inner after in
           subst (Within at high) (sym whole) (both_within (heads inner) (heads after) at past high own later)
     ]

@@ -15,7 +15,7 @@ ghost use Rattle.hii_questions.specs.Views.{question_view};
 use crate::check::check_questions;
 use crate::over::Over;
 use crate::question::Question;
-use crate::tables::{store_ids, tables};
+use crate::tables::{questions_by_id, questions_by_place, store_ids};
 use hii_bytes::Fault;
 use hii_varstore::{Layout, Stores};
 use ifr_scopes::Forms;
@@ -23,13 +23,12 @@ use std::alloc::Global;
 use std::collections::BTreeMap;
 use std::marker::Model;
 
-/// The questions of a form set by place, found by their ids and places. They are seen as the package.
+/// The questions of a form set by place, which are found by their places and by their ids. They are seen as the package.
 #[derive(Drop)]
 pub struct Questions<'a> {
     ifr: &'a [u8],
     by_place: Vec<Question<'a>>,
     by_id: BTreeMap<u16, Question<'a>>,
-    at_places: BTreeMap<u32, Question<'a>>,
 }
 
 impl<'a> Model for Questions<'a> {
@@ -41,7 +40,7 @@ impl<'a> Model for Questions<'a> {
 
     ghost view = { λ s. record { ifr = s.ifr.now } };
 
-    ghost invariant = { λ s. AreQuestions s.ifr.now s.by_place.items s.by_id s.at_places };
+    ghost invariant = { λ s. AreQuestions s.ifr.now s.by_place.items s.by_id };
 }
 
 impl<'a> Questions<'a> {
@@ -62,7 +61,10 @@ impl<'a> Questions<'a> {
         ensures accepted { HasNone (IsQuestionFault (nodes_of forms.now)) → IfErr result (λ fault. fault ≡ out_of_memory) }
     {
         let ifr = forms.bytes();
-        let Ok((by_place, by_id, at_places)) = tables(alloc, forms, layout) else {
+        let Ok(by_place) = questions_by_place(alloc, forms, layout) else {
+            return Err(Fault::out_of_memory());
+        };
+        let Ok(by_id) = questions_by_id(alloc, &by_place) else {
             return Err(Fault::out_of_memory());
         };
         let Ok(ids) = store_ids(alloc, forms) else {
@@ -73,7 +75,6 @@ impl<'a> Questions<'a> {
             ifr,
             by_place,
             by_id,
-            at_places,
         })
     }
 
@@ -91,7 +92,13 @@ impl<'a> Questions<'a> {
     pub fn at(&self, place: u32) -> Option<Question<'a>>
         ensures { option_map question_view result ≡ first_at (questions (nodes_of self.now.ifr)) place }
     {
-        self.at_places.get(&place).copied()
+        match self
+            .by_place
+            .binary_search_by_key(&place, |question| question.place())
+        {
+            Ok(at) => Some(self.by_place[at]),
+            Err(_) => None,
+        }
     }
 
     /// All questions, by place.

@@ -1,14 +1,14 @@
 //! The questions of a form set as they are kept.
 
-ghost use Rattle.std.specs.Prelude.{◌≡◌, ℕ, IfOk, map, option_map, filter};
+ghost use Rattle.std.specs.Prelude.{◌≡◌, ℕ, IfOk, map, option_map};
 ghost use Rattle.std.specs.BTreeMap.{get};
 ghost use Rattle.std.specs.BTreeSet.{contains};
 ghost use Rattle.std.specs.Ordering.{nat_cmp};
-ghost use Rattle.ifr_scopes.specs.Nodes.{nodes_of, is_question};
+ghost use Rattle.ifr_scopes.specs.Nodes.{nodes_of};
 ghost use Rattle.hii_varstore.specs.StoreNodes.{layout_of};
 ghost use Rattle.hii_questions.specs.Faults.{is_known};
-ghost use Rattle.hii_questions.specs.Fields.{asked_at};
-ghost use Rattle.hii_questions.specs.Tables.{first_with, first_at, AreQuestions};
+ghost use Rattle.hii_questions.specs.Fields.{questions};
+ghost use Rattle.hii_questions.specs.Tables.{first_with};
 ghost use Rattle.hii_questions.specs.Views.{question_view};
 
 use crate::question::Question;
@@ -17,33 +17,14 @@ use ifr_scopes::Forms;
 use std::alloc::{AllocError, Global};
 use std::collections::{BTreeMap, BTreeSet};
 
-type Tables<'a> = (
-    Vec<Question<'a>>,
-    BTreeMap<u16, Question<'a>>,
-    BTreeMap<u32, Question<'a>>,
-);
-
-/// The questions of a form set by place, the first of each id, and the one at each place.
-pub(crate) fn tables<'a>(
-    alloc: Global,
-    forms: &Forms<'a>,
-    layout: &Layout<'_>,
-) -> Result<Tables<'a>, AllocError>
-    requires { layout.now ≡ layout_of (nodes_of forms.now) }
-    ensures { IfOk result (λ tables. AreQuestions forms.now tables.0.items tables.1 tables.2) }
-{
-    let by_place = questions_by_place(alloc, forms, layout)?;
-    let by_id = questions_by_id(alloc, &by_place)?;
-    let at_places = questions_at_places(alloc, &by_place)?;
-    Ok((by_place, by_id, at_places))
-}
-
-fn questions_by_place<'a>(
+/// The questions of a form set by place.
+pub(crate) fn questions_by_place<'a>(
     alloc: Global,
     forms: &Forms<'a>,
     layout: &Layout<'_>,
 ) -> Result<Vec<Question<'a>>, AllocError>
-    ensures { IfOk result (λ questions. map question_view questions.items ≡ map (asked_at layout.now) (filter is_question (nodes_of forms.now))) }
+    requires { layout.now ≡ layout_of (nodes_of forms.now) }
+    ensures { IfOk result (λ by_place. map question_view by_place.items ≡ questions (nodes_of forms.now)) }
 {
     let mut questions = Vec::new(alloc);
     for statement in forms.statements() {
@@ -54,8 +35,8 @@ fn questions_by_place<'a>(
     Ok(questions)
 }
 
-// The first question of each id.
-fn questions_by_id<'a>(
+/// The first question of each id.
+pub(crate) fn questions_by_id<'a>(
     alloc: Global,
     questions: &[Question<'a>],
 ) -> Result<BTreeMap<u16, Question<'a>>, AllocError>
@@ -66,23 +47,6 @@ fn questions_by_id<'a>(
         let id = question.id();
         if !index.contains_key(&id) {
             index.insert(id, *question)?;
-        }
-    }
-    Ok(index)
-}
-
-// The question at each place.
-fn questions_at_places<'a>(
-    alloc: Global,
-    questions: &[Question<'a>],
-) -> Result<BTreeMap<u32, Question<'a>>, AllocError>
-    ensures { IfOk result (λ index. (place : ℕ) → option_map question_view (get nat_cmp index place) ≡ first_at (map question_view questions.now) place) }
-{
-    let mut index = BTreeMap::new(alloc);
-    for question in questions {
-        let place = question.place();
-        if !index.contains_key(&place) {
-            index.insert(place, *question)?;
         }
     }
     Ok(index)

@@ -102,7 +102,7 @@ pub no_fault : (shape : Shape) (image : List ℕ) (m : StoreMap) → SpellsImage
 no_fault shape image m spelled = subst (λ (s : Shape). HasNone (IsImageFault s image)) spelled.laid (no_fault_of m image spelled.form)
 
 -- a fault behind the head is one of the image
-pub behind_head : (guid image : List ℕ) (bs : List Buffer) (place : ℕ) (c : Cause) (p : ℕ) → ReadsHead guid image place → IsPartFault place (stores_parts bs) (drop place image) c p → IsImageFault record { guid = guid; buffers = bs } image c p
+behind_head : (guid image : List ℕ) (bs : List Buffer) (place : ℕ) (c : Cause) (p : ℕ) → ReadsHead guid image place → IsPartFault place (stores_parts bs) (drop place image) c p → IsImageFault record { guid = guid; buffers = bs } image c p
 behind_head guid image bs place c p (inl h) fault = inl (h.0, h.1.passed (stores_parts bs) c p fault)
 behind_head guid image bs place c p (inr h) fault = inr (h.0, h.1.passed (stores_parts bs) c p fault)
 
@@ -112,7 +112,7 @@ whole_image image head ss place first rest =
     first ∙ ap (λ t. head ++ t) (rest ∙ ap (λ t. stores_image ss ++ t) none ∙ append-nil (stores_image ss))
 
 -- an image that is read to its end spells the stores
-pub spelled : (guid image : List ℕ) (bs : List Buffer) (ss : List Store) (place : ℕ) → ReadsHead guid image place → Reads (stores_parts bs) (stores_image ss) image place (length image) → (image ≡ image_of record { guid = guid; stores = ss }) ⊎ (image ≡ older_image_of record { guid = guid; stores = ss })
+spelled : (guid image : List ℕ) (bs : List Buffer) (ss : List Store) (place : ℕ) → ReadsHead guid image place → Reads (stores_parts bs) (stores_image ss) image place (length image) → (image ≡ image_of record { guid = guid; stores = ss }) ⊎ (image ≡ older_image_of record { guid = guid; stores = ss })
 unfolding image_of older_image_of
 spelled guid image bs ss place (inl h) rest = inr (whole_image image (codes "HVS1") ss place h.1.stand rest.stand)
 spelled guid image bs ss place (inr h) rest = inl (whole_image image (codes "HVS2" ++ guid) ss place h.1.stand rest.stand ∙ append_assoc (codes "HVS2") guid (stores_image ss))

@@ -1,8 +1,9 @@
 -- The parts of an image.
-use Rattle.std.proofs.Common.{◌≡◌, ◌≢◌, ℕ, ◌+◌, ◌<◌, ◌≤◌, Bool, true, false, not, eqb, List, [], ◌∷◌, ◌++◌, length, map, take, drop, get_or, refl, sym, ap, subst, ◌∙◌, arith, inr, append_assoc, take-append-drop}
+use Rattle.std.proofs.Common.{◌≡◌, ◌≢◌, ℕ, ◌+◌, ◌<◌, ◌≤◌, true, false, not, eqb, List, [], ◌∷◌, ◌++◌, length, map, take, drop, get_or, refl, sym, ap, subst, ◌∙◌, arith, inr, append_assoc, take-append-drop}
 use Rattle.std.specs.List.{flat_map}
 use Rattle.std.specs.Cmp.Lexicographic.{pointwise}
 use Rattle.std.specs.Int.{to_le_bytes, w16}
+use Rattle.std.proofs.lemmas.Bool.{not-false}
 use Rattle.std.proofs.lemmas.List.Concat.{flat_map-append}
 use Rattle.std.proofs.lemmas.List.{flat_map_more, map_push, drop-drop, length-drop, append-nil, drop_more, take_more}
 use Rattle.std.proofs.lemmas.Slice.Eq.{bytes_eq-Decides}
@@ -15,18 +16,14 @@ use Rattle.hii_varstore.specs.Image.{store_image}
 use Rattle.hii_varstore.specs.Reading.{Reads, IsFaultOf}
 use Rattle.hii_varstore.specs.Faults.{Part, Told, Any, width_of, IsMet, IsPartFault, store_parts}
 
-not_false : (b : Bool) → false ≡ not b → b ≡ true
-not_false true told = refl
-not_false false told = cc
-
 pub same_bytes : (xs ys : List ℕ) → false ≡ not (pointwise eqb xs ys) → xs ≡ ys
-same_bytes xs ys told = (bytes_eq-Decides xs ys).0 (not_false (pointwise eqb xs ys) told)
+same_bytes xs ys told = (bytes_eq-Decides xs ys).0 (not-false (pointwise eqb xs ys) (sym told))
 
 pub other_bytes : (xs ys : List ℕ) → true ≡ not (pointwise eqb xs ys) → xs ≢ ys
 other_bytes xs ys told same = let e = (bytes_eq-Decides xs ys).1 same in let bad : true ≡ false = told ∙ ap not e in cc
 
 -- Where one part stands, and the later ones have a fault, all have it.
-pub behind : (part : Part) (later : List Part) (image : List ℕ) (place end : ℕ) (cause : Cause) (at : ℕ) → IsMet part (drop place image) → end ≡ place + width_of part → IsPartFault end later (drop end image) cause at → IsPartFault place (part ∷ later) (drop place image) cause at
+behind : (part : Part) (later : List Part) (image : List ℕ) (place end : ℕ) (cause : Cause) (at : ℕ) → IsMet part (drop place image) → end ≡ place + width_of part → IsPartFault end later (drop end image) cause at → IsPartFault place (part ∷ later) (drop place image) cause at
 behind part later image place end cause at met width fault =
     inr (met, rw (drop-drop (width_of part) place image, ← width) fault)
 
@@ -78,7 +75,7 @@ laid_more bs i d ss found within size laid =
     rw (map_push buffer_of ss store, take_more bs i d within, laid, size) refl
 
 -- the parts of all stores, cut at one
-pub parts_at : (bs : List Buffer) (i : ℕ) (d : Buffer) → i < length bs → flat_map store_parts (take i bs) ++ (store_parts (get_or bs i d) ++ flat_map store_parts (drop (i + 1) bs)) ≡ flat_map store_parts bs
+parts_at : (bs : List Buffer) (i : ℕ) (d : Buffer) → i < length bs → flat_map store_parts (take i bs) ++ (store_parts (get_or bs i d) ++ flat_map store_parts (drop (i + 1) bs)) ≡ flat_map store_parts bs
 parts_at bs i d within =
     let rest : flat_map store_parts (drop i bs) ≡ store_parts (get_or bs i d) ++ flat_map store_parts (drop (i + 1) bs) = ap (flat_map store_parts) (drop_more bs i d within) in
     rw (← rest) (sym (flat_map-append store_parts (take i bs) (drop i bs)) ∙ ap (flat_map store_parts) (take-append-drop i bs))
@@ -97,6 +94,6 @@ pub left_over : (parts : List Part) (xs image : List ℕ) (place end : ℕ) → 
 left_over parts xs image place end before some =
     rw append-nil at (before.passed [] StoreTrailing end (refl, refl, omega (arith, length-drop end image)))
 
--- the text of one more store
+-- the bytes of one more store
 pub text_more : (ss : List Store) (i : ℕ) (d : Store) (count : List ℕ) → i < length ss → count ++ flat_map store_image (take i ss) ++ store_image (get_or ss i d) ≡ count ++ flat_map store_image (take (i + 1) ss)
 text_more ss i d count within = rw (take_more ss i d within) (flat_map_more store_image count (take i ss) (get_or ss i d))

@@ -61,7 +61,7 @@ unwritten (s ∷ ss) id offset new apart =
     rw (other, unwritten ss id offset new apart.1) refl
 
 -- a write to the store at its place
-pub written : (ss : List Store) (id i offset : ℕ) (new : List ℕ) (d : Store) → IsDistinct nat_eq (map (λ (b : Buffer). b.id) (map buffer_of ss)) → IsAt (map buffer_of ss) id i → set ss i (store_with (get_or ss i d) offset new) ≡ map (λ (s : Store). cond (eqb s.id id) (store_with s offset new) s) ss
+written : (ss : List Store) (id i offset : ℕ) (new : List ℕ) (d : Store) → IsDistinct nat_eq (map (λ (b : Buffer). b.id) (map buffer_of ss)) → IsAt (map buffer_of ss) id i → set ss i (store_with (get_or ss i d) offset new) ≡ map (λ (s : Store). cond (eqb s.id id) (store_with s offset new) s) ss
 unfolding IsDistinct
 written [] id i offset new d apart h = absurd h
 written (s ∷ ss) id zero offset new d apart h =

@@ -4,7 +4,7 @@ use Rattle.std.specs.List.{AllByRecursion, IsDistinct, list_any, position_from}
 use Rattle.std.specs.Option.{option_or}
 use Rattle.std.specs.Ordering.{nat_cmp, is_eq}
 use Rattle.std.specs.BTreeMap.{BTreeMap, get, Updates}
-use Rattle.std.proofs.lemmas.List.{take_more, length-map}
+use Rattle.std.proofs.lemmas.List.{take_more, length-map, length-take-le}
 use Rattle.std.proofs.lemmas.Map.Steps.{length-le_from_distinct_below}
 use Rattle.std.proofs.lemmas.Bool.{cases_Bool, eqb-true, ne_eqb, ltb-true}
 use Rattle.hii_varstore.specs.declared.buffer.Buffer.{Buffer}
@@ -60,14 +60,14 @@ few_buffers bs sound =
 pub few_of : (bs whole_bs : List Buffer) → bs ≡ whole_bs → AreBuffers whole_bs → length bs < 2 ^ 16
 few_of bs whole_bs same sound = omega (arith, few_buffers whole_bs sound, ap length same)
 
-is_eq-nat_cmp : (a b : ℕ) → is_eq (nat_cmp a b) ≡ eqb a b
+pub is_eq-nat_cmp : (a b : ℕ) → is_eq (nat_cmp a b) ≡ eqb a b
 is_eq-nat_cmp a b =
     elim (cases_Bool (ltb a b)) [
       | inl less ↦ let other = ne_eqb a b (λ e. omega (arith, ltb-true a b less, e)) in rw (less, other) refl
       | inr greater ↦ rw greater (elim (cases_Bool (eqb a b)) [ inl same ↦ rw same refl | inr other ↦ rw other refl ])
     ]
 
-option_or-none : (o : Option ℕ) → o ≡ option_or o None
+pub option_or-none : {X : Type 0} (o : Option X) → o ≡ option_or o None
 option_or-none None = refl
 option_or-none (Some x) = refl
 
@@ -79,11 +79,6 @@ told_more a b x old found same new =
       | inr other ↦ rw (other, same) (option_or-none found)
     ]
 
-length-take-at : (bs : List Buffer) (i : ℕ) → i < length bs → length (take i bs) ≡ i
-length-take-at [] i within = absurd (omega arith)
-length-take-at (b ∷ bs) zero within = refl
-length-take-at (b ∷ bs) (suc i) within = let rest = length-take-at bs i (omega arith) in rw rest refl
-
 -- one more store in the index
 pub index_more : (bs : List Buffer) (i : ℕ) (d : Buffer) (m n : BTreeMap ℕ ℕ) → AreBuffers bs → i < length bs → ((id : ℕ) → get nat_cmp m id ≡ place_of (take i bs) id) → Updates nat_cmp m n (get_or bs i d).id (Some i) → (id : ℕ) → get nat_cmp n id ≡ place_of (take (i + 1) bs) id
 unfolding IsDistinct
@@ -91,7 +86,7 @@ index_more bs i d m n sound within indexed updates id =
     let b = get_or bs i d in
     let first = take i bs in
     let none : place_of first b.id ≡ None = place_before 0 bs i d sound.apart.1 within in
-    let here : 0 + length first ≡ i = omega (arith, length-take-at bs i within) in
+    let here : 0 + length first ≡ i = omega (arith, length-take-le i bs (omega arith)) in
     let now = updates.0 id ∙ ap (λ t. cond t (Some i) (get nat_cmp m id)) (is_eq-nat_cmp b.id id) in
     let told = told_more b.id id i (get nat_cmp m id) (place_of first id) (indexed id) (λ e. rw e at none) in
     let pushed = place_from-push 0 first b id ∙ ap (λ k. option_or (place_of first id) (cond (eqb b.id id) (Some k) None)) here in

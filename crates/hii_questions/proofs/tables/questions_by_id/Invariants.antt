@@ -1,8 +1,6 @@
-use Rattle.ifr_opcodes.specs.Fields.{question_id}
-use Rattle.hii_questions.specs.Fields.{Asked}
 use Rattle.hii_questions.proofs.QuestionLemmas.{AreIn}
 use Rattle.hii_questions.proofs.tables.questions_by_id.Given as goal
 
 -- the questions so far are in the index
 abbrev pub invariant-loop-question : goal.invariant-loop-question
-invariant-loop-question l = AreIn (λ (q : Asked). question_id q.node.op) l.questions l.question-index l.index
+invariant-loop-question l = AreIn l.questions l.question-index l.index

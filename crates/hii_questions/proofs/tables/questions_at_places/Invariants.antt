@@ -1,7 +1,0 @@
-use Rattle.hii_questions.specs.Fields.{Asked}
-use Rattle.hii_questions.proofs.QuestionLemmas.{AreIn}
-use Rattle.hii_questions.proofs.tables.questions_at_places.Given as goal
-
--- the questions so far are in the index
-abbrev pub invariant-loop-question : goal.invariant-loop-question
-invariant-loop-question l = AreIn (λ (q : Asked). q.node.place) l.questions l.question-index l.index
