@@ -1,5 +1,5 @@
 -- What bytes without a fault open.
-use Rattle.std.proofs.Common.{◌≡◌, ℕ, ◌≤◌, ◌<◌, ◌^◌, List, ◌∷◌, Some, length, refl, sym, ap, subst, inl, inr}
+use Rattle.std.proofs.Common.{◌≡◌, ℕ, ◌≤◌, ◌<◌, ◌^◌, List, Some, length, refl, sym, subst, inl, inr}
 use Rattle.hii_bytes.specs.declared.cause.Cause.{Cause}
 use Rattle.hii_bytes.specs.Faults.{HasNone, Then}
 use Rattle.hii_packages.specs.Packages.{Entry, Spells, nth_forms}
@@ -19,7 +19,7 @@ use Rattle.hii_varstore.specs.Faults.{IsImageFault}
 use Rattle.hii_questions.specs.Faults.{IsQuestionFault}
 use Rattle.guard_policy.specs.World.{removed_at}
 use Rattle.browser_core.specs.State.{State}
-use Rattle.browser_core.specs.Opening.{HasSource, layout_in, IsSourceFault, IsTextFault, IsFormSetFault, IsBrowsingFault, IsOpenFault, IsBrowsable, Opens}
+use Rattle.browser_core.specs.Opening.{layout_in, IsSourceFault, IsTextFault, IsFormSetFault, IsBrowsingFault, IsOpenFault, IsBrowsable, Opens}
 use Rattle.browser_core.proofs.FormLemmas.{first_of}
 use Rattle.browser_core.proofs.OpeningLemmas.{source_bytes, spelled_pieces, opened}
 

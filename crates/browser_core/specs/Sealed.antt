@@ -51,7 +51,7 @@ DecidingHasNoOthers = (w : World) (question : Question) (c : Placed) → Contain
 abbrev pub HoldAlike : List Placed → List ℕ → StoreMap → StoreMap → Type 0
 HoldAlike ns ids a b = (id : ℕ) (q : Placed) → Contains ids id → question_with ns id ≡ Some q → field_bytes a (field_of ns q) ≡ field_bytes b (field_of ns q)
 
--- Two sessions over one form set, from which the same was removed and which shows the same texts, hold the same in the
+-- Two sessions over one form set, from which the same was removed and which show the same texts, hold the same in the
 -- fields of these questions, as they were last submitted and as commands read them.
 pub record AreAlike (ids : List ℕ) (s t : State) : Type 0 where
   pub ifr : s.ifr ≡ t.ifr

@@ -1,4 +1,4 @@
-use Rattle.std.proofs.Common.{◌≡◌, ◌⊎◌, refl, inl, inr, ◌+◌, ◌-◌, ◌≤◌, ◌<◌, ◌∙◌, min, length, arith, sym, rules}
+use Rattle.std.proofs.Common.{◌≡◌, refl, inl, inr, ◌+◌, ◌-◌, ◌≤◌, ◌<◌, ◌∙◌, min, length, arith, sym, rules}
 use Rattle.hii_commands.specs.declared.limits.TheConstants.{SCRIPT_LIMIT}
 use Rattle.browser_core.proofs.RunLemmas.{overflows_at_once, reads_none, consumes_none, reads_within, reads_more, breaks_off, finishes, overflows_last, overflows_piece, finishes_past, overflows_past}
 use Rattle.browser_core.proofs.script.run_all.Goals as goal
