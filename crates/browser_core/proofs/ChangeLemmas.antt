@@ -1,10 +1,12 @@
 -- Questions whose fields hold other bytes than when they were last submitted.
-use Rattle.std.proofs.Common.{◌≡◌, ℕ, suc, map, ◌+◌, ◌^◌, ◌<◌, ◌≤◌, Bool, true, false, cond, Some, List, [], ◌∷◌, ◌++◌, length, drop, inl, inr, refl, sym, ap, subst, ◌∙◌, arith, append_assoc, length-drop}
-use Rattle.std.specs.Prelude.{not, ◌&&◌, Contains, filter}
+use Rattle.std.proofs.Common.{Bor, ◌≡◌, ℕ, suc, map, ◌+◌, ◌^◌, ◌<◌, ◌≤◌, Bool, true, false, cond, Option, Some, None, option_map, List, [], ◌∷◌, ◌++◌, length, drop, inl, inr, refl, sym, ap, subst, ◌∙◌, arith, append_assoc, length-drop}
+use Rattle.std.specs.Prelude.{not, ◌&&◌, Contains, filter, slice_range, option_copied, IsSomeAnd, MatchOption}
 use Rattle.std.specs.List.{AllByRecursion, flat_map}
-use Rattle.std.proofs.lemmas.Bool.{cases_Bool}
+use Rattle.std.proofs.lemmas.Bool.{cases_Bool, eqb-false}
+use Rattle.std.proofs.lemmas.List.Edits.{length-between}
 use Rattle.hii_bytes.specs.Faults.{HasNone}
-use Rattle.hii_bytes.specs.Watching.{Pen, Writes, Stands}
+use Rattle.hii_bytes.specs.Watching.{Pen, Writes}
+use Rattle.hii_bytes.specs.code.Writing.{Stands}
 use Rattle.hii_bytes.proofs.WritingLemmas.{writes_trans}
 use Rattle.ifr_opcodes.specs.Fields.{question_id}
 use Rattle.ifr_opcodes.specs.Forest.{Placed, flat}
@@ -14,7 +16,8 @@ use Rattle.ifr_scopes.specs.Nodes.{nodes_of, is_question}
 use Rattle.ifr_scopes.proofs.PlaceLemmas.{Within, nodes_within}
 use Rattle.ifr_scopes.proofs.ViewLemmas.{further}
 use Rattle.hii_varstore.specs.Layout.{Shape}
-use Rattle.hii_varstore.specs.Stores.{StoreMap, shape_of, bytes_of}
+use Rattle.hii_varstore.specs.Stores.{StoreMap, shape_of, bytes_of, bytes_of_field}
+use Rattle.hii_varstore.specs.code.Ranges.{IsCut}
 use Rattle.hii_varstore.proofs.WriteLemmas.{sizes}
 use Rattle.hii_varstore.specs.StoreNodes.{layout_of}
 use Rattle.hii_questions.specs.Fields.{Field, Asked, asked, questions}
@@ -22,13 +25,26 @@ use Rattle.hii_questions.specs.Faults.{IsQuestionFault}
 use Rattle.hii_questions.proofs.LawLemmas.{holds_fields}
 use Rattle.browser_core.specs.State.{State}
 use Rattle.browser_core.specs.Opening.{IsBrowsable, layout_in}
-use Rattle.browser_core.specs.Standing.{LiesIn}
-use Rattle.browser_core.specs.Step.{are_same, field_bytes, is_other, is_changed, changed, commit}
+use Rattle.browser_core.specs.code.Standing.{LiesIn}
+use Rattle.browser_core.specs.Step.{are_same_bytes, field_bytes, is_other, is_changed, changed, commit}
 use Rattle.browser_core.specs.Texts.{count_text, changed_text}
 
+-- no byte of a range that lies in the bytes is cut off
+uncut : (bytes : Option (List ℕ)) (offset width : ℕ) → IsSomeAnd (option_map length bytes) (λ size. offset + width ≤ size)
+    → IsCut width (option_map (λ (bs : List ℕ). slice_range bs offset (offset + width)) bytes) → ⊥
+uncut None offset width range cut = absurd range
+uncut (Some bs) offset width range cut = eqb-false _ _ cut (length-between bs offset (offset + width) range ∙ omega arith)
+
 -- the bytes of a question's field are in its store
-pub in_store : (m : StoreMap) (q : Asked) (field : Field) (bytes : List ℕ) → LiesIn (shape_of m) q → q.field ≡ Some field → bytes_of m field.store ≡ Some bytes → field.offset + field.width ≤ length bytes
-in_store m q field bytes lies has stored = let range = lies field has in rw (sizes m field.store, stored) at range
+pub in_store : (m : StoreMap) (q : Asked) (field : Field) → LiesIn (shape_of m) q → q.field ≡ Some field → IsCut field.width (bytes_of_field m field.store field.offset field.width) → ⊥
+in_store m q field lies has = uncut (bytes_of m field.store) field.offset field.width (rw (sizes m field.store) at (lies field has))
+
+-- what is found of the field of a question are its bytes
+pub whole_field : (m : StoreMap) (q : Asked) (field : Field) (offset : ℕ) (found : Option (Bor (List ℕ))) → LiesIn (shape_of m) q → q.field ≡ Some field → offset ≡ field.offset
+    → MatchOption found (IsCut field.width (bytes_of_field m field.store offset field.width)) (λ bytes. (bytes_of_field m field.store offset field.width ≡ Some bytes.now) × (length bytes.now ≡ field.width))
+    → option_copied found ≡ field_bytes m q.field
+whole_field m q field offset None lies has same told = absurd (in_store m q field lies has (rw same at told))
+whole_field m q field offset (Some bytes) lies has same told = rw has (sym (rw same at told.0))
 
 -- ---- all questions
 
@@ -53,7 +69,7 @@ lies_first shape qs left q all e = subst (AllByRecursion (LiesIn shape)) e all
 
 -- the field of a question holds other bytes than when it was last submitted
 abbrev pub is_other_field : State → Asked → Bool
-is_other_field s q = not (are_same (field_bytes s.committed q.field) (field_bytes s.working q.field))
+is_other_field s q = not (are_same_bytes (field_bytes s.committed q.field) (field_bytes s.working q.field))
 
 pick : (b : Bool) (q : Asked) (qs : List Asked) (ns : List Placed) → map (λ q. q.node) qs ≡ ns → map (λ q. q.node) (cond b (q ∷ qs) qs) ≡ cond b (q.node ∷ ns) ns
 pick true q qs ns e = ap (λ (l : List Placed). q.node ∷ l) e

@@ -9,13 +9,13 @@ use Rattle.ifr_opcodes.specs.Forest.{Placed}
 use Rattle.ifr_scopes.specs.Nodes.{options, inconsistents, warnings}
 use Rattle.ifr_scopes.proofs.PathLemmas.{kept}
 use Rattle.ifr_scopes.proofs.ViewLemmas.{further}
-use Rattle.hii_questions.specs.Views.{question_node}
+use Rattle.hii_questions.specs.code.Views.{question_node}
 use Rattle.hii_questions.specs.declared.question.Question.{Question}
-use Rattle.guard_policy.specs.Support.{around, conditions}
+use Rattle.guard_policy.specs.laws.Support.{around, conditions}
 use Rattle.guard_policy.specs.World.{World}
 use Rattle.guard_policy.specs.declared.support.Decision.{Decision}
 use Rattle.guard_policy.specs.declared.support.Decision.TheVariants.{Listed, Changeable, OptionOpen, Opens, Consistent, MaySubmit, Warnings}
-use Rattle.browser_core.specs.Sealed.{deciding, IsOfChange, DecidingHasAll, DecidingHasNoOthers}
+use Rattle.browser_core.specs.laws.Sealed.{deciding, IsOfChange, DecidingHasAll, DecidingHasNoOthers}
 
 -- ---- lists
 

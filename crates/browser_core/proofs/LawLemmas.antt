@@ -3,7 +3,8 @@ use Rattle.std.proofs.Common.{◌≡◌, ℕ, ◌+◌, ◌<◌, ◌≤◌, Optio
 use Rattle.std.proofs.lemmas.Bool.{cases_lt}
 use Rattle.ifr_opcodes.specs.Forest.{Placed}
 use Rattle.ifr_scopes.specs.Nodes.{nodes_of}
-use Rattle.hii_varstore.specs.Stores.{StoreMap, byte_of}
+use Rattle.hii_varstore.specs.Stores.{StoreMap}
+use Rattle.hii_varstore.specs.laws.Bytes.{byte_of}
 use Rattle.hii_varstore.proofs.WriteLemmas.{byte_after}
 use Rattle.hii_questions.specs.Fields.{Field, field_of, question_with}
 use Rattle.hii_questions.specs.Fits.{fits}
@@ -16,7 +17,7 @@ use Rattle.hii_commands.specs.Orders.{Order, ShowPage, SetValue, OrderElements, 
 use Rattle.browser_core.specs.State.{State, world_of}
 use Rattle.browser_core.specs.Step.{Outcome, step, told_why, question_denial, set_question, set_unless_fixed, set_unless_forbidden, set_fitting, value_denial, with_field, submit_unless}
 use Rattle.browser_core.specs.declared.reply.Reply.TheVariants.{Accepted}
-use Rattle.browser_core.specs.Laws.{id_set, SetsByte, KeepsOtherBytes}
+use Rattle.browser_core.specs.laws.Bytes.{id_set, SetsByte, KeepsOtherBytes}
 
 -- ---- one command
 

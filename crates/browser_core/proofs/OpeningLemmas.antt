@@ -9,7 +9,7 @@ use Rattle.hii_bytes.specs.declared.cause.Fault.{Fault}
 use Rattle.hii_bytes.specs.Faults.{HasNone, IsLeast, Refuses, Then, out_of_memory}
 use Rattle.hii_bytes.specs.Numbers.{number_in}
 use Rattle.hii_bytes.proofs.FaultLemmas.{then_first, then_second, then_none}
-use Rattle.hii_packages.specs.Packages.{Entry, Spells, nth_forms, pieces_of, stops, end_package}
+use Rattle.hii_packages.specs.Packages.{Entry, SpellsPackages, nth_forms, pieces_of, stops, end_package}
 use Rattle.hii_packages.specs.Faults.{IsListFault, IsFormsFault}
 use Rattle.hii_packages.proofs.PackageLemmas.{pieces-concat}
 use Rattle.hii_packages.proofs.SpellLemmas.{end_from_spells}
@@ -45,7 +45,7 @@ stops_end : (rest : List ℕ) → stops (end_package ++ rest) ≡ true
 stops_end rest = let size = size_of_end rest in grind (arith, nat_tests)
 
 -- the packages that a list spells are those that are cut off behind its header
-pub spelled_pieces : (list : List ℕ) (packages : List (List ℕ)) → Spells list packages → pieces_of (drop 20 list) ≡ packages
+pub spelled_pieces : (list : List ℕ) (packages : List (List ℕ)) → SpellsPackages list packages → pieces_of (drop 20 list) ≡ packages
 spelled_pieces list packages s =
     ap pieces_of s.whole
     ∙ pieces-concat (length (concat packages ++ (end_package ++ s.rest))) packages (end_package ++ s.rest) s.each (stops_end s.rest) (omega (arith, length-append (concat packages) (end_package ++ s.rest)))
@@ -75,7 +75,7 @@ browsable_no_fault ifr b =
     then_none (IsPackageFault ifr) (Then (IsStoreFault (nodes_of ifr)) (IsQuestionFault (nodes_of ifr))) (accepted_no_fault ifr b.accepted)
     (then_none (IsStoreFault (nodes_of ifr)) (IsQuestionFault (nodes_of ifr)) b.stores b.questions)
 
--- its forms package of the number is found, these are its bytes, and its string packages say this
+-- the list's forms package of the number is found, these are its bytes, and the list's string packages say this
 pub record IsFound (list : List ℕ) (n : ℕ) (ifr : List ℕ) : Type 0 where
   pub source : Entry
   pub found : HasSource list n source
@@ -83,7 +83,7 @@ pub record IsFound (list : List ℕ) (n : ℕ) (ifr : List ℕ) : Type 0 where
   pub spoken : List Spoken
   pub texts : HasTexts list spoken
 
-pub is_found : (list : List ℕ) (n : ℕ) (packages : List (List ℕ)) (source : Entry) (ifr : List ℕ) (spoken : List Spoken) → Spells list packages → nth_forms packages n ≡ Some source → ifr ≡ source.bytes
+pub is_found : (list : List ℕ) (n : ℕ) (packages : List (List ℕ)) (source : Entry) (ifr : List ℕ) (spoken : List Spoken) → SpellsPackages list packages → nth_forms packages n ≡ Some source → ifr ≡ source.bytes
     → AreSpoken (string_packages packages) spoken → IsFound list n ifr
 is_found list n packages source ifr spoken s found is says = record { source = source; found = (packages, s, found); is = is; spoken = spoken; texts = (packages, s, says) }
 
@@ -100,7 +100,7 @@ opens_no_fault list n stores language start o =
     (then_none (IsFormSetFault start.ifr) (IsImageFault (layout_in start.ifr) stores) (browsable_no_fault start.ifr o.browsable)
     (image.no_fault (layout_in start.ifr) stores start.working o.stores))))
 
--- what is refused where the bytes open a session is want of memory
+-- where the bytes open a session, the only fault is out of memory
 pub only_memory : (list : List ℕ) (n : ℕ) (stores language : List ℕ) (start : State) (fault : Fault) → Opens list n stores language start → Refuses (IsOpenFault list n stores) fault → fault ≡ out_of_memory
 only_memory list n stores language start fault o (inl memory) = memory
 only_memory list n stores language start fault o (inr least) = absurd (opens_no_fault list n stores language start o fault.cause fault.place least.told)
@@ -119,15 +119,15 @@ refuses_second First Second fault none (inr least) = inr (then_second First Seco
 pub refuses_source : (list : List ℕ) (n : ℕ) (stores : List ℕ) (fault : Fault) → IsLeast (IsSourceFault list n) fault → Refuses (IsOpenFault list n stores) fault
 refuses_source list n stores fault least = refuses_first (IsSourceFault list n) _ fault (inr least)
 
--- its string packages refuse
-pub refuses_texts : (list : List ℕ) (n : ℕ) (stores : List ℕ) (packages : List (List ℕ)) (source : Entry) (fault : Fault) → Spells list packages → nth_forms packages n ≡ Some source
+-- the list's string packages refuse
+pub refuses_texts : (list : List ℕ) (n : ℕ) (stores : List ℕ) (packages : List (List ℕ)) (source : Entry) (fault : Fault) → SpellsPackages list packages → nth_forms packages n ≡ Some source
     → Refuses (IsStringsFault (string_packages packages)) fault → Refuses (IsOpenFault list n stores) fault
 refuses_texts list n stores packages source fault s found r =
     refuses_second (IsSourceFault list n) (Then (IsTextFault list) (IsBrowsingFault (forms_bytes list n) stores)) fault (no_source_fault list n source (packages, s, found))
     (refuses_first (IsTextFault list) (IsBrowsingFault (forms_bytes list n) stores) fault
     (subst (λ ps. Refuses (IsStringsFault (string_packages ps)) fault) (sym (spelled_pieces list packages s)) r))
 
--- its forms package refuses, or the image
+-- the list's forms package refuses, or the image
 refuses_later : (list : List ℕ) (n : ℕ) (stores ifr : List ℕ) (fault : Fault) → IsFound list n ifr → Refuses (IsBrowsingFault ifr stores) fault → Refuses (IsOpenFault list n stores) fault
 refuses_later list n stores ifr fault f r =
     refuses_second (IsSourceFault list n) (Then (IsTextFault list) (IsBrowsingFault (forms_bytes list n) stores)) fault (no_source_fault list n f.source f.found)
@@ -172,7 +172,7 @@ refuses_image list n stores ifr shape fault f b laid r =
 
 -- what the bytes open
 pub opened : (list : List ℕ) (n : ℕ) (stores language : List ℕ) (packages : List (List ℕ)) (source : Entry) (start : State) (shape : Shape) (first : Placed) (others : List Placed)
-    → Spells list packages → nth_forms packages n ≡ Some source → start.ifr ≡ source.bytes → AreSpoken (string_packages packages) start.spoken → start.language ≡ chosen start.spoken language
+    → SpellsPackages list packages → nth_forms packages n ≡ Some source → start.ifr ≡ source.bytes → AreSpoken (string_packages packages) start.spoken → start.language ≡ chosen start.spoken language
     → IsBrowsable start.ifr → shape ≡ layout_in start.ifr → SpellsImage shape stores start.committed
     → start.working ≡ start.committed → start.removed ≡ removed_at (nodes_of start.ifr) start.working → filter is_form (nodes_of start.ifr) ≡ first ∷ others → start.form ≡ first.place → Opens list n stores language start
 opened list n stores language packages source start shape first others s found is says chose b laid spelled same removed forms place = record {

@@ -7,8 +7,10 @@ use Rattle.std.proofs.KnownBytes.{Consumes-nil, Consumes-trans, Consumes-kept}
 use Rattle.std.specs.Io.KnownBytes.{Consumes, Appends, IsAtEnd, Keeps}
 use Rattle.hii_bytes.specs.Watching.{Pen, Writes}
 use Rattle.hii_bytes.proofs.WritingLemmas.{writes_trans, writes_past, writes_nil, appended_whole}
-use Rattle.hii_commands.specs.Script.{whole_lines, rest_of, last_line, lines_of, lines_run, IsWithinLine}
-use Rattle.hii_commands.specs.Line.{Held, held_of, without_return}
+use Rattle.hii_commands.specs.Script.{whole_lines, rest_of, last_line, lines_of, lines_run}
+use Rattle.hii_commands.specs.laws.Lines.{IsWithinLine}
+use Rattle.hii_commands.specs.code.Held.{Held, held_of}
+use Rattle.hii_commands.specs.Line.{without_return}
 use Rattle.hii_commands.specs.Orders.{Order}
 use Rattle.hii_commands.specs.Reading.{reading_of}
 use Rattle.hii_commands.specs.declared.command.BadLine.{BadLine}
@@ -21,7 +23,8 @@ use Rattle.browser_core.specs.Step.{accepted, refused, step_reading, step_text, 
 use Rattle.browser_core.specs.declared.reply.RunFault.{RunFault}
 use Rattle.browser_core.specs.declared.reply.End.{End}
 use Rattle.browser_core.specs.declared.reply.End.TheVariants.{Done, TooLong}
-use Rattle.browser_core.specs.Run.{state_after, text_of, Stands, Stops, StopsAtLimit, Runs, Finishes, BreaksOff, Overflows, ScriptOutcome, outcome_of, too_long_text}
+use Rattle.browser_core.specs.Run.{state_after, text_of, StopsAtLine, StopsAtLimit, Runs, Finishes, BreaksOff, Overflows, ScriptOutcome, outcome_of, too_long_text}
+use Rattle.browser_core.specs.code.Reading.{Stands}
 
 -- ---- one line
 
@@ -106,7 +109,7 @@ stands_line start now stepped pen mid new bytes p after within state text next t
 pub stops_line : (start now stepped : State) (pen mid new : Pen) (lines later : List (List ℕ)) (line : List ℕ)
     → now ≡ state_after start lines → Writes pen mid (text_of start lines) → mid.broken ≡ false
     → stepped ≡ (step_line now line).state → Writes mid new (step_line now line).text
-    → new.broken ≡ true → Stops start pen ((lines ++ line ∷ []) ++ later) stepped new
+    → new.broken ≡ true → StopsAtLine start pen ((lines ++ line ∷ []) ++ later) stepped new
 stops_line start now stepped pen mid new lines later line state text was_sound next told broken =
     let past = writes_past (text_of start (lines ++ line ∷ [])) text told was_sound (text_of-push start now lines line state) in
     record {
@@ -121,15 +124,15 @@ stops_line start now stepped pen mid new lines later line state text was_sound n
       broken = broken;
     }
 
--- the same, with more bytes behind the line
+-- the writer fails at a line that a piece ends, with more bytes behind the line
 pub stops_piece : (start now stepped : State) (pen mid new : Pen) (bytes p more all : List ℕ) → IsWithinLine p
     → now ≡ state_after start (whole_lines bytes) → Writes pen mid (text_of start (whole_lines bytes)) → mid.broken ≡ false
     → stepped ≡ (step_line now (rest_of bytes ++ p)).state → Writes mid new (step_line now (rest_of bytes ++ p)).text → new.broken ≡ true
-    → all ≡ (bytes ++ (p ++ 10 ∷ [])) ++ more → Stops start pen (whole_lines all) stepped new
+    → all ≡ (bytes ++ (p ++ 10 ∷ [])) ++ more → StopsAtLine start pen (whole_lines all) stepped new
 stops_piece start now stepped pen mid new bytes p more all within state text was_sound next told broken e =
     let whole : whole_lines (bytes ++ (p ++ 10 ∷ [])) ≡ whole_lines bytes ++ (rest_of bytes ++ p) ∷ [] = ap (λ (c : List (List ℕ) × List ℕ). c.0) (cut-ended bytes p within) in
     let later = whole_lines-front (bytes ++ (p ++ 10 ∷ [])) more in
-    subst (λ l. Stops start pen l stepped new) (sym (ap whole_lines e ∙ later.1 ∙ ap (λ l. l ++ later.0) whole))
+    subst (λ l. StopsAtLine start pen l stepped new) (sym (ap whole_lines e ∙ later.1 ∙ ap (λ l. l ++ later.0) whole))
     (stops_line start now stepped pen mid new (whole_lines bytes) later.0 (rest_of bytes ++ p) state text was_sound next told broken)
 
 -- ---- the whole script
@@ -169,7 +172,7 @@ text_of-last_line : (s : State) (rest : List ℕ) → text_of s (last_line rest)
 text_of-last_line s [] = refl
 text_of-last_line s (b ∷ rest) = append-nil _
 
-stops_later : (start now : State) (pen new : Pen) (lines more : List (List ℕ)) → Stops start pen lines now new → Stops start pen (lines ++ more) now new
+stops_later : (start now : State) (pen new : Pen) (lines more : List (List ℕ)) → StopsAtLine start pen lines now new → StopsAtLine start pen (lines ++ more) now new
 stops_later start now pen new lines more h = record {
   before = h.before;
   last = h.last;
@@ -185,10 +188,10 @@ stops_later start now pen new lines more h = record {
 -- the writer fails at the last line, which is not empty
 stops_last : (start now stepped : State) (pen mid new : Pen) (bytes rest : List ℕ)
     → now ≡ state_after start (whole_lines bytes) → Writes pen mid (text_of start (whole_lines bytes)) → mid.broken ≡ false
-    → stepped ≡ (step_line now rest).state → Writes mid new (step_line now rest).text → new.broken ≡ true → Stops start pen (whole_lines bytes ++ last_line rest) stepped new
+    → stepped ≡ (step_line now rest).state → Writes mid new (step_line now rest).text → new.broken ≡ true → StopsAtLine start pen (whole_lines bytes ++ last_line rest) stepped new
 stops_last start now stepped pen mid new bytes [] state text was_sound next told broken = let some : told.part < 0 = told.short was_sound broken in absurd (omega arith)
 stops_last start now stepped pen mid new bytes (b ∷ rest) state text was_sound next told broken =
-    subst (λ l. Stops start pen l stepped new) (append-nil (whole_lines bytes ++ (b ∷ rest) ∷ []))
+    subst (λ l. StopsAtLine start pen l stepped new) (append-nil (whole_lines bytes ++ (b ∷ rest) ∷ []))
     (stops_line start now stepped pen mid new (whole_lines bytes) [] (b ∷ rest) state text was_sound next told broken)
 
 -- the writer failed before the first byte
@@ -254,7 +257,7 @@ overflows_last start now stepped pen mid new reader left bytes line consumed few
   bytes = bytes;
   consumed = consumed;
   few = omega arith;
-  stops = inl (subst (λ l. Stops start pen l stepped new) (sym (lines_run_within bytes few)) (stops_last start now stepped pen mid new bytes (rest_of bytes) stands.state stands.text stands.sound next told broken));
+  stops = inl (subst (λ l. StopsAtLine start pen l stepped new) (sym (lines_run_within bytes few)) (stops_last start now stepped pen mid new bytes (rest_of bytes) stands.state stands.text stands.sound next told broken));
 }
 
 -- the part of a read that stands within the limit
@@ -312,20 +315,20 @@ reads_more start now stepped pen mid new reader left after count n part buf line
 
 pub overflows_piece : (start now stepped : State) (pen mid new : Pen) (reader left after : Option (List ℕ)) (count n part : ℕ) (buf : List ℕ) (line : Held)
     → (h : Reads start pen reader count now line mid left) → count ≤ SCRIPT_LIMIT → n ≤ length buf → count + n ≤ SCRIPT_LIMIT + 1 → part ≡ min n (SCRIPT_LIMIT - count) → Consumes left after (take n buf)
-    → Stops start pen (whole_lines (h.bytes ++ take part buf)) stepped new → Overflows start pen reader stepped new after
+    → StopsAtLine start pen (whole_lines (h.bytes ++ take part buf)) stepped new → Overflows start pen reader stepped new after
 overflows_piece start now stepped pen mid new reader left after count n part buf line h within room few least consumed stops =
     let all = h.bytes ++ take n buf in
     let counted : length all ≡ count + n = omega (arith, length-append h.bytes (take n buf), length-take n buf, h.counted) in
     let same : part ≡ min n (SCRIPT_LIMIT - length h.bytes) = omega (arith, h.counted, least) in
     let size : length h.bytes ≤ SCRIPT_LIMIT = omega (arith, h.counted) in
-    let at_limit : Stops start pen (whole_lines (take SCRIPT_LIMIT all)) stepped new = subst (λ b. Stops start pen (whole_lines b) stepped new) (ap (λ k. h.bytes ++ take k buf) same ∙ sym (read_more n SCRIPT_LIMIT h.bytes buf size)) stops in
+    let at_limit : StopsAtLine start pen (whole_lines (take SCRIPT_LIMIT all)) stepped new = subst (λ b. StopsAtLine start pen (whole_lines b) stepped new) (ap (λ k. h.bytes ++ take k buf) same ∙ sym (read_more n SCRIPT_LIMIT h.bytes buf size)) stops in
     record {
       bytes = all;
       consumed = Consumes-trans reader left after h.bytes (take n buf) h.consumed consumed;
       few = omega (arith, counted);
       stops = inl (elim (cases_lt SCRIPT_LIMIT (length all)) [
-        | inl past ↦ subst (λ l. Stops start pen l stepped new) (sym (lines_run_past all past)) at_limit
-        | inr below ↦ subst (λ l. Stops start pen l stepped new) (ap (λ b. whole_lines b ++ last_line (rest_of all)) (take_all SCRIPT_LIMIT all below) ∙ sym (lines_run_within all below))
+        | inl past ↦ subst (λ l. StopsAtLine start pen l stepped new) (sym (lines_run_past all past)) at_limit
+        | inr below ↦ subst (λ l. StopsAtLine start pen l stepped new) (ap (λ b. whole_lines b ++ last_line (rest_of all)) (take_all SCRIPT_LIMIT all below) ∙ sym (lines_run_within all below))
             (stops_later start stepped pen new (whole_lines (take SCRIPT_LIMIT all)) (last_line (rest_of all)) at_limit)
       ]);
     }

@@ -18,15 +18,15 @@ use Rattle.hii_questions.specs.Inputs.{Offer, whole, listed, utf8}
 use Rattle.hii_questions.specs.Types.{type_of}
 use Rattle.hii_questions.specs.declared.denial.DenialKind.{DenialKind}
 use Rattle.guard_policy.specs.Policy.{or_else, fixed, closed, first_closed, inconsistent, warned, unsubmitted}
-use Rattle.guard_policy.specs.Support.{around, support_over}
+use Rattle.guard_policy.specs.laws.Support.{around, support_over}
 use Rattle.guard_policy.specs.Warned.{warning_of}
 use Rattle.guard_policy.specs.World.{World, is_met_over, world_over}
 use Rattle.guard_policy.specs.declared.denial.Denial.{Denial}
 use Rattle.guard_policy.proofs.SupportLemmas.{front, back, all_alike, fixed_same, closed_same, inconsistent_same, warned_same}
 use Rattle.hii_commands.specs.Orders.{Order, ShowPage, SetValue, OrderElements, SetText, AskWhy, ChooseLanguage, SubmitChanges, DiscardChanges}
-use Rattle.browser_core.specs.Laws.{state_with, answers_to}
+use Rattle.browser_core.specs.laws.Bytes.{state_with, answers_to}
 use Rattle.browser_core.specs.Opening.{layout_in}
-use Rattle.browser_core.specs.Sealed.{deciding, IsSealed, HoldAlike, AreAlike, IsLaid, SessionsAreLaid, IsOn, SealedQuestionsAnswerAlike}
+use Rattle.browser_core.specs.laws.Sealed.{deciding, IsSealed, HoldAlike, AreAlike, IsLaid, SessionsAreLaid, IsOn, SealedQuestionsAnswerAlike}
 use Rattle.browser_core.specs.State.{State, world_with, world_of, texts}
 use Rattle.browser_core.specs.Step.{Outcome, step, denied, no_question, told_why, question_denial, why_question, set_question, set_unless_fixed, set_fitting, set_stores, set_unless_forbidden, value_denial, named_values, with_field, field_bytes, submit_unless}
 use Rattle.browser_core.specs.Texts.{ok_text, warning_line}
@@ -65,7 +65,7 @@ written_alike true (Some xs) (Some ys) offset at width new lengths e =
     ap (λ (l : List ℕ). Some l) (range_alike xs ys new offset at width same alike)
 written_alike false (Some xs) (Some ys) offset at width new lengths e = e
 
--- the same of a field in two maps of stores of one shape
+-- where two maps of stores of one shape hold the same in a field, they do so after the same was written into both
 field_alike : (a b : StoreMap) (f g : Field) (new : List ℕ) → shape_of a ≡ shape_of b → field_bytes a (Some g) ≡ field_bytes b (Some g)
     → field_bytes (with_field a (Some f) new) (Some g) ≡ field_bytes (with_field b (Some f) new) (Some g)
 field_alike a b f g new shapes e =
@@ -142,7 +142,7 @@ module _ (ns : List Placed) (ids : List ℕ) (a b : StoreMap) (alike : HoldAlike
 
 module _ (s : State) (ids : List ℕ) (committed working : StoreMap) (form : ℕ) (sealed : IsSealed (nodes_of s.ifr) ids) (shapes : shape_of s.working ≡ shape_of working)
     (submitted : HoldAlike (nodes_of s.ifr) ids s.committed committed) (read : HoldAlike (nodes_of s.ifr) ids s.working working) where
-  -- the same session over other stores
+  -- a session like this one over other stores
   abbrev beside : State
   beside = record s { committed = committed; working = working; form = form }
 

@@ -4,29 +4,31 @@ use Rattle.std.specs.Prelude.{option_map}
 use Rattle.ifr_opcodes.specs.Forest.{Placed}
 use Rattle.ifr_opcodes.specs.Reading.{tree_of}
 use Rattle.ifr_scopes.specs.Accepted.{IsAccepted}
-use Rattle.ifr_scopes.specs.Checked.{IsNodeOf}
+use Rattle.ifr_scopes.specs.code.Checked.{IsNodeOf}
 use Rattle.ifr_scopes.specs.Nodes.{nodes_of}
 use Rattle.ifr_scopes.proofs.PlaceLemmas.{is_found}
-use Rattle.hii_varstore.specs.Layout.{Shape, HasRange}
+use Rattle.hii_varstore.specs.Layout.{Shape}
+use Rattle.hii_varstore.specs.code.Ranges.{HasRange}
 use Rattle.hii_varstore.specs.Stores.{StoreMap, shape_of, with_bytes}
-use Rattle.hii_questions.specs.Checks.{range_of}
+use Rattle.hii_questions.specs.code.Checks.{range_of}
 use Rattle.hii_questions.specs.Fields as fields
 use Rattle.hii_questions.specs.Fields.{Asked, asked, field_of, question_with}
 use Rattle.hii_questions.specs.Fits.{fits}
 use Rattle.hii_questions.specs.Inputs.{Offer}
-use Rattle.hii_questions.specs.NewBytes.{new_bytes}
+use Rattle.hii_questions.specs.code.NewBytes.{new_bytes}
 use Rattle.hii_questions.specs.declared.field.Field.{Field}
 use Rattle.hii_questions.proofs.LawLemmas.{finds_questions, found_fits}
-use Rattle.hii_questions.specs.Views.{question_node, question_view}
+use Rattle.hii_questions.specs.code.Views.{question_node, question_view}
 use Rattle.hii_questions.specs.declared.question.Question.{Question}
-use Rattle.guard_policy.specs.Policy.{fixed, unsubmitted, unless}
+use Rattle.guard_policy.specs.Policy.{fixed, unsubmitted}
+use Rattle.guard_policy.specs.code.Answers.{unless}
 use Rattle.guard_policy.proofs.DenialLemmas.{none_of, some_of}
 use Rattle.guard_policy.specs.declared.denial.Denial.{Denial}
 use Rattle.browser_core.specs.State.{State, world_of}
 use Rattle.browser_core.specs.Step.{accepted, denied, no_question, question_denial, value_denial, warned_text, set_stores, set_question, commit, submitted}
 use Rattle.browser_core.specs.Texts.{ok_text}
 use Rattle.browser_core.specs.Opening.{IsBrowsable, layout_in}
-use Rattle.browser_core.specs.Standing.{IsQuestionOf, Selects}
+use Rattle.browser_core.specs.code.Standing.{IsQuestionOf, Selects}
 
 -- the question of an id is a node of the package
 pub question_is_node : (ifr asked : List ℕ) (id : ℕ) (n : Placed) → IsAccepted ifr → asked ≡ ifr → question_with (nodes_of asked) id ≡ Some n → IsNodeOf ifr n

@@ -2,7 +2,7 @@
 use Rattle.std.proofs.Common.{◌≡◌, ℕ, ◌≤◌, ◌<◌, ◌^◌, List, Some, length, refl, sym, subst, inl, inr}
 use Rattle.hii_bytes.specs.declared.cause.Cause.{Cause}
 use Rattle.hii_bytes.specs.Faults.{HasNone, Then}
-use Rattle.hii_packages.specs.Packages.{Entry, Spells, nth_forms}
+use Rattle.hii_packages.specs.Packages.{Entry, SpellsPackages, nth_forms}
 use Rattle.hii_languages.specs.Languages.{Spoken, string_packages, AreSpoken, IsStringsFault, chosen}
 use Rattle.ifr_opcodes.specs.Forest as forest
 use Rattle.ifr_opcodes.proofs.ForestLemmas.{is_tree_of}
@@ -33,7 +33,7 @@ none_second First Second none c p fault = none c p (inr (none_first First Second
 
 -- ---- a forms package
 
-accepted_without : (ifr : List ℕ) → 4 ≤ length ifr → length ifr < 2 ^ 32 → (HasNone (IsFramingFault ifr) → (f : forest.Forest) × forest.Spells ifr f)
+accepted_without : (ifr : List ℕ) → 4 ≤ length ifr → length ifr < 2 ^ 32 → (HasNone (IsFramingFault ifr) → (f : forest.Forest) × forest.SpellsForest ifr f)
     → HasNone (IsPackageFault ifr) → IsAccepted ifr
 accepted_without ifr header small frames none =
     let nodes = none_second (IsFramingFault ifr) (Then (IsStructureFault (nodes_of ifr)) (IsReferenceFault (nodes_of ifr))) none in
@@ -42,7 +42,7 @@ accepted_without ifr header small frames none =
       checked = record {
         header = header;
         small = small;
-        spelled = subst (forest.Spells ifr) (sym (is_tree_of ifr spelled.0 spelled.1)) spelled.1;
+        spelled = subst (forest.SpellsForest ifr) (sym (is_tree_of ifr spelled.0 spelled.1)) spelled.1;
         sound = none_first (IsStructureFault (nodes_of ifr)) (IsReferenceFault (nodes_of ifr)) nodes;
       };
       referred = none_second (IsStructureFault (nodes_of ifr)) (IsReferenceFault (nodes_of ifr)) nodes;
@@ -65,7 +65,7 @@ pub record Unfaulted (list : List ℕ) (n : ℕ) (image : List ℕ) (packages : 
   pub browsable : IsBrowsable source.bytes
   pub stores : (m : StoreMap) × SpellsImage (layout_in source.bytes) image m
 
-unfaulted : (list : List ℕ) (n : ℕ) (image : List ℕ) (packages : List (List ℕ)) (source : Entry) → Spells list packages → nth_forms packages n ≡ Some source
+unfaulted : (list : List ℕ) (n : ℕ) (image : List ℕ) (packages : List (List ℕ)) (source : Entry) → SpellsPackages list packages → nth_forms packages n ≡ Some source
     → (HasNone (IsStringsFault (string_packages packages)) → (spoken : List Spoken) × AreSpoken (string_packages packages) spoken)
     → (HasNone (IsPackageFault source.bytes) → IsAccepted source.bytes)
     → (HasNone (IsImageFault (layout_in source.bytes) image) → (m : StoreMap) × SpellsImage (layout_in source.bytes) image m)
@@ -80,7 +80,7 @@ unfaulted list n image packages source spells is speak accepts images none =
       stores = images (none_second (IsFormSetFault source.bytes) (IsImageFault (layout_in source.bytes) image) browsing);
     }
 
-starts : (list : List ℕ) (n : ℕ) (image language : List ℕ) (packages : List (List ℕ)) (source : Entry) → Spells list packages → nth_forms packages n ≡ Some source
+starts : (list : List ℕ) (n : ℕ) (image language : List ℕ) (packages : List (List ℕ)) (source : Entry) → SpellsPackages list packages → nth_forms packages n ≡ Some source
     → Unfaulted list n image packages source → (start : State) × Opens list n image language start
 starts list n image language packages source spells is u =
     let ifr = source.bytes in
@@ -96,10 +96,10 @@ starts list n image language packages source spells is u =
     } in
     (start, opened list n image language packages source start (layout_in ifr) first.0 first.1 spells is refl u.texts.1 refl u.browsable refl u.stores.1 refl refl first.2 refl)
 
-pub opens_without_fault : (list : List ℕ) (n : ℕ) (image language : List ℕ) (packages : List (List ℕ)) (source : Entry) → Spells list packages → nth_forms packages n ≡ Some source
+pub opens_without_fault : (list : List ℕ) (n : ℕ) (image language : List ℕ) (packages : List (List ℕ)) (source : Entry) → SpellsPackages list packages → nth_forms packages n ≡ Some source
     → 4 ≤ length source.bytes → length source.bytes < 2 ^ 32
     → (HasNone (IsStringsFault (string_packages packages)) → (spoken : List Spoken) × AreSpoken (string_packages packages) spoken)
-    → (HasNone (IsFramingFault source.bytes) → (f : forest.Forest) × forest.Spells source.bytes f)
+    → (HasNone (IsFramingFault source.bytes) → (f : forest.Forest) × forest.SpellsForest source.bytes f)
     → ((shape : Shape) (image : List ℕ) → HasNone (IsImageFault shape image) → (m : StoreMap) × SpellsImage shape image m)
     → HasNone (IsOpenFault list n image) → (start : State) × Opens list n image language start
 opens_without_fault list n image language packages source spells is header small speak frames images none =

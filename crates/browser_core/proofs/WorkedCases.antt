@@ -19,7 +19,7 @@ use Rattle.browser_core.specs.Run.{outcome_of}
 
 -- ---- opcodes
 
--- a form set with the GUID of sixteen bytes 22
+-- a form set with the GUID of sixteen bytes 0x22
 abbrev form_set : List ℕ
 form_set = (0x0E ∷ 0x97 ∷ replicate 16 0x22) ++ (1 ∷ 0 ∷ 0 ∷ 0 ∷ 0 ∷ [])
 

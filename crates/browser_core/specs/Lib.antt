@@ -3,6 +3,5 @@ pub mod Texts
 pub mod Step
 pub mod Run
 pub mod Opening
-pub mod Standing
-pub mod Laws
-pub mod Sealed
+pub mod code
+pub mod laws

@@ -2,7 +2,7 @@
 use Rattle.std.specs.Prelude.{◌≡◌, ℕ, List, [], ◌∷◌, drop, filter, Option, Some, None}
 use Rattle.hii_bytes.specs.Faults.{HasNone, Then}
 use Rattle.hii_bytes.specs.declared.cause.Cause.{Cause}
-use Rattle.hii_packages.specs.Packages.{Entry, Spells, pieces_of, nth_forms}
+use Rattle.hii_packages.specs.Packages.{Entry, SpellsPackages, pieces_of, nth_forms}
 use Rattle.hii_packages.specs.Faults.{IsListFault, IsFormsFault}
 use Rattle.hii_languages.specs.Languages.{Spoken, string_packages, AreSpoken, IsStringsFault, chosen}
 use Rattle.ifr_opcodes.specs.Forest.{places}
@@ -27,11 +27,14 @@ forms_bytes list n = bytes_or_none (nth_forms (pieces_of (drop 20 list)) n)
 
 -- The list spells packages, and this is its forms package of the number.
 abbrev pub HasSource : List ℕ → ℕ → Entry → Type 0
-HasSource list n source = (packages : List (List ℕ)) × Spells list packages × (nth_forms packages n ≡ Some source)
+HasSource list n source =
+    (packages : List (List ℕ)) × SpellsPackages list packages × (nth_forms packages n ≡ Some source)
 
 -- The list spells packages, and its string packages say this.
 abbrev pub HasTexts : List ℕ → List Spoken → Type 0
-HasTexts list spoken = (packages : List (List ℕ)) × Spells list packages × AreSpoken (string_packages packages) spoken
+HasTexts list spoken =
+    (packages : List (List ℕ)) × SpellsPackages list packages
+    × AreSpoken (string_packages packages) spoken
 
 -- the faults of the string packages of a list, in their order
 abbrev pub IsTextFault : List ℕ → Cause → ℕ → Type 0
@@ -47,7 +50,8 @@ IsSourceFault list n = Then (IsListFault list) (IsFormsFault list n)
 
 -- the faults of a forms package, then of its stores, then of its questions
 abbrev pub IsFormSetFault : List ℕ → Cause → ℕ → Type 0
-IsFormSetFault ifr = Then (IsPackageFault ifr) (Then (IsStoreFault (nodes_of ifr)) (IsQuestionFault (nodes_of ifr)))
+IsFormSetFault ifr =
+    Then (IsPackageFault ifr) (Then (IsStoreFault (nodes_of ifr)) (IsQuestionFault (nodes_of ifr)))
 
 -- the faults of a forms package, then of the image of its stores
 abbrev pub IsBrowsingFault : List ℕ → List ℕ → Cause → ℕ → Type 0
@@ -56,7 +60,9 @@ IsBrowsingFault ifr image = Then (IsFormSetFault ifr) (IsImageFault (layout_in i
 -- The faults of a session's bytes: of the list, then of its string packages, then of the forms package of the number, then
 -- of the image of its stores.
 abbrev pub IsOpenFault : List ℕ → ℕ → List ℕ → Cause → ℕ → Type 0
-IsOpenFault list n image = Then (IsSourceFault list n) (Then (IsTextFault list) (IsBrowsingFault (forms_bytes list n) image))
+IsOpenFault list n image =
+    Then (IsSourceFault list n)
+    (Then (IsTextFault list) (IsBrowsingFault (forms_bytes list n) image))
 
 -- A package is accepted, and so are its stores and its questions.
 pub record IsBrowsable (ifr : List ℕ) : Type 0 where

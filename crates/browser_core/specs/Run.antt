@@ -4,8 +4,7 @@ use Rattle.std.specs.Io.KnownBytes.{Appends, Consumes, IsAtEnd}
 use Rattle.hii_bytes.specs.Watching.{Pen, Writes}
 use Rattle.hii_bytes.specs.declared.cause.Cause.TheVariants.{ScriptTooLong}
 use Rattle.hii_commands.specs.declared.limits.TheConstants.{SCRIPT_LIMIT}
-use Rattle.hii_commands.specs.Script.{whole_lines, rest_of, is_too_long, lines_run}
-use Rattle.hii_commands.specs.Line.{Held, held_of}
+use Rattle.hii_commands.specs.Script.{whole_lines, is_too_long, lines_run}
 use Rattle.browser_core.specs.State.{State}
 use Rattle.browser_core.specs.Step.{step_line}
 use Rattle.browser_core.specs.Texts.{refused_text}
@@ -42,7 +41,8 @@ outcome_of s script = record {
 }
 
 -- Some lines were carried out up to one at which the writer failed. All texts before that one's were written whole.
-pub record Stops (start : State) (pen : Pen) (lines : List (List ℕ)) (now : State) (new : Pen) : Type 0 where
+pub record StopsAtLine (start : State) (pen : Pen) (lines : List (List ℕ)) (now : State)
+    (new : Pen) : Type 0 where
   pub before : List (List ℕ)
   pub last : List (List ℕ)
   pub later : List (List ℕ)
@@ -54,21 +54,16 @@ pub record Stops (start : State) (pen : Pen) (lines : List (List ℕ)) (now : St
   pub broken : new.broken ≡ true
 
 -- All lines were carried out, and the writer failed at the answer that the script is too long.
-pub record StopsAtLimit (start : State) (pen : Pen) (lines : List (List ℕ)) (now : State) (new : Pen) : Type 0 where
+pub record StopsAtLimit (start : State) (pen : Pen) (lines : List (List ℕ)) (now : State)
+    (new : Pen) : Type 0 where
   pub state : now ≡ state_after start lines
   pub text : Writes pen new (text_of start lines ++ too_long_text)
   pub all_before : length (text_of start lines) ≤ text.part
   pub broken : new.broken ≡ true
 
--- The lines whose LF has come are carried out, and what stands after the last LF is held.
-pub record Stands (start : State) (pen : Pen) (bytes : List ℕ) (now : State) (line : Held) (new : Pen) : Type 0 where
-  pub state : now ≡ state_after start (whole_lines bytes)
-  pub text : Writes pen new (text_of start (whole_lines bytes))
-  pub line_is : line ≡ held_of (rest_of bytes)
-  pub sound : new.broken ≡ false
-
 -- The script was read to its end, or to the byte past the limit.
-pub record Finishes (start : State) (pen : Pen) (reader : Option (List ℕ)) (end : End) (now : State) (new : Pen) (left : Option (List ℕ)) : Type 0 where
+pub record Finishes (start : State) (pen : Pen) (reader : Option (List ℕ)) (end : End) (now : State)
+    (new : Pen) (left : Option (List ℕ)) : Type 0 where
   pub script : List ℕ
   pub consumed : Consumes reader left script
   pub few : length script ≤ SCRIPT_LIMIT + 1
@@ -79,7 +74,8 @@ pub record Finishes (start : State) (pen : Pen) (reader : Option (List ℕ)) (en
   pub sound : new.broken ≡ false
 
 -- The reader failed after these bytes. The lines that they end were carried out.
-pub record BreaksOff (start : State) (pen : Pen) (reader : Option (List ℕ)) (now : State) (new : Pen) (left : Option (List ℕ)) : Type 0 where
+pub record BreaksOff (start : State) (pen : Pen) (reader : Option (List ℕ)) (now : State)
+    (new : Pen) (left : Option (List ℕ)) : Type 0 where
   pub bytes : List ℕ
   pub consumed : Consumes reader left bytes
   pub few : length bytes ≤ SCRIPT_LIMIT
@@ -88,13 +84,16 @@ pub record BreaksOff (start : State) (pen : Pen) (reader : Option (List ℕ)) (n
   pub sound : new.broken ≡ false
 
 -- The writer failed after these bytes were read, at one of the lines that stand in them, or at the answer that they are too many.
-pub record Overflows (start : State) (pen : Pen) (reader : Option (List ℕ)) (now : State) (new : Pen) (left : Option (List ℕ)) : Type 0 where
+pub record Overflows (start : State) (pen : Pen) (reader : Option (List ℕ)) (now : State)
+    (new : Pen) (left : Option (List ℕ)) : Type 0 where
   pub bytes : List ℕ
   pub consumed : Consumes reader left bytes
   pub few : length bytes ≤ SCRIPT_LIMIT + 1
-  pub stops : Stops start pen (lines_run bytes) now new ⊎ ((SCRIPT_LIMIT < length bytes) × StopsAtLimit start pen (lines_run bytes) now new)
+  pub stops : StopsAtLine start pen (lines_run bytes) now new
+      ⊎ ((SCRIPT_LIMIT < length bytes) × StopsAtLimit start pen (lines_run bytes) now new)
 
-abbrev pub Runs : State → Pen → Option (List ℕ) → Result End RunFault → State → Pen → Option (List ℕ) → Type 0
+abbrev pub Runs : State → Pen → Option (List ℕ) → Result End RunFault → State → Pen
+    → Option (List ℕ) → Type 0
 Runs start pen reader (Ok end) now new left = Finishes start pen reader end now new left
 Runs start pen reader (Err Read) now new left = BreaksOff start pen reader now new left
 Runs start pen reader (Err Write) now new left = Overflows start pen reader now new left

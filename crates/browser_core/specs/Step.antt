@@ -8,7 +8,7 @@ use Rattle.ifr_opcodes.specs.Fields.{question_id}
 use Rattle.ifr_expr.specs.Values.{Value, natural, buffer}
 use Rattle.ifr_scopes.specs.Nodes.{nodes_of, is_question}
 use Rattle.hii_languages.specs.Languages.{chosen}
-use Rattle.hii_varstore.specs.Stores.{StoreMap, field_of as bytes_of_field, with_bytes}
+use Rattle.hii_varstore.specs.Stores.{StoreMap, bytes_of_field, with_bytes}
 use Rattle.hii_questions.specs.Answers.{value_of_field}
 use Rattle.hii_questions.specs.Fields.{Field, field_of, question_with}
 use Rattle.hii_questions.specs.Inputs.{Offer, whole, listed, utf8}
@@ -43,7 +43,8 @@ accepted s text = record { state = s; text = text; reply = Accepted }
 
 -- A denied command and a refused line change nothing.
 abbrev pub denied : State → Denial → Outcome
-denied s denial = record { state = s; text = denied_text (texts s denial.message) denial; reply = Denied denial }
+denied s denial =
+    record { state = s; text = denied_text (texts s denial.message) denial; reply = Denied denial }
 
 abbrev pub refused : State → Cause → Outcome
 refused s cause = record { state = s; text = refused_text cause; reply = Refused cause }
@@ -91,22 +92,27 @@ named_values q _ = []
 
 -- what forbids a value that the question has in new stores
 abbrev pub value_denial : World → StoreMap → Placed → Option Denial
-value_denial w new q = or_else (first_closed w q (named_values q (value_of_field new q (field_of w.nodes q)))) (inconsistent (world_over w.nodes w.removed new) q)
+value_denial w new q =
+    or_else (first_closed w q (named_values q (value_of_field new q (field_of w.nodes q))))
+    (inconsistent (world_over w.nodes w.removed new) q)
 
 -- the lines of the warnings of a question, over new stores
 abbrev pub warned_text : State → StoreMap → Placed → List ℕ
-warned_text s new q = flat_map (warning_line (texts s)) (map warning_of (warned (world_with s new) q))
+warned_text s new q =
+    flat_map (warning_line (texts s)) (map warning_of (warned (world_with s new) q))
 
 abbrev pub set_unless_forbidden : State → StoreMap → Placed → Option Denial → Outcome
 set_unless_forbidden s new q (Some denial) = denied s denial
-set_unless_forbidden s new q None = accepted (record s { working = new }) (ok_text ++ warned_text s new q)
+set_unless_forbidden s new q None =
+    accepted (record s { working = new }) (ok_text ++ warned_text s new q)
 
 abbrev pub set_stores : State → StoreMap → Placed → Outcome
 set_stores s new q = set_unless_forbidden s new q (value_denial (world_of s) new q)
 
 abbrev pub set_fitting : State → Placed → Result (List ℕ) DenialKind → Outcome
 set_fitting s q (Err kind) = denied s record { kind = kind; place = q.place; message = 0 }
-set_fitting s q (Ok bytes) = set_stores s (with_field s.working (field_of (nodes_of s.ifr) q) bytes) q
+set_fitting s q (Ok bytes) =
+    set_stores s (with_field s.working (field_of (nodes_of s.ifr) q) bytes) q
 
 abbrev pub set_unless_fixed : State → Placed → Offer → Option Denial → Outcome
 set_unless_fixed s q offer (Some denial) = denied s denial
@@ -123,13 +129,15 @@ abbrev pub field_bytes : StoreMap → Option Field → Option (List ℕ)
 field_bytes stores None = None
 field_bytes stores (Some field) = bytes_of_field stores field.store field.offset field.width
 
-abbrev pub are_same : Option (List ℕ) → Option (List ℕ) → Bool
-are_same (Some xs) (Some ys) = pointwise nat_eq xs ys
-are_same _ _ = true
+abbrev pub are_same_bytes : Option (List ℕ) → Option (List ℕ) → Bool
+are_same_bytes (Some xs) (Some ys) = pointwise nat_eq xs ys
+are_same_bytes _ _ = true
 
 -- the field of a question holds other bytes than when it was last submitted
 abbrev pub is_other : State → Placed → Bool
-is_other s n = not (are_same (field_bytes s.committed (field_of (nodes_of s.ifr) n)) (field_bytes s.working (field_of (nodes_of s.ifr) n)))
+is_other s n =
+    not (are_same_bytes (field_bytes s.committed (field_of (nodes_of s.ifr) n))
+    (field_bytes s.working (field_of (nodes_of s.ifr) n)))
 
 -- the questions whose fields hold other bytes than when they were last submitted, by place
 abbrev pub is_changed : State → Placed → Bool
@@ -139,7 +147,10 @@ abbrev pub changed : State → List Placed
 changed s = filter (is_changed s) (nodes_of s.ifr)
 
 abbrev pub commit : State → Outcome
-commit s = accepted (record s { committed = s.working }) (count_text (length (changed s)) ++ flat_map (λ n. changed_text (question_id n.op)) (changed s))
+commit s =
+    accepted (record s { committed = s.working })
+    (count_text (length (changed s))
+    ++ flat_map (λ n. changed_text (question_id n.op)) (changed s))
 
 abbrev pub submit_unless : State → Option Denial → Outcome
 submit_unless s (Some denial) = denied s denial
@@ -153,10 +164,12 @@ submitted s = submit_unless s (unsubmitted (world_of s))
 abbrev pub step : State → Order → Outcome
 step s ShowPage = show_page s
 step s (SetValue id value) = set_question s (question_with (nodes_of s.ifr) id) (whole value)
-step s (OrderElements id numbers) = set_question s (question_with (nodes_of s.ifr) id) (listed numbers)
+step s (OrderElements id numbers) =
+    set_question s (question_with (nodes_of s.ifr) id) (listed numbers)
 step s (SetText id text) = set_question s (question_with (nodes_of s.ifr) id) (utf8 text)
 step s (AskWhy id) = why_question s (question_with (nodes_of s.ifr) id)
-step s (ChooseLanguage language) = accepted (record s { language = chosen s.spoken language }) ok_text
+step s (ChooseLanguage language) =
+    accepted (record s { language = chosen s.spoken language }) ok_text
 step s SubmitChanges = submitted s
 step s DiscardChanges = accepted (record s { working = s.committed }) ok_text
 

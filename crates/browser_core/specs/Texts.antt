@@ -1,12 +1,11 @@
 -- The lines of answers (own rule).
-use Rattle.std.specs.Prelude.{ℕ, ◌/◌, ◌%◌, Bool, true, false, if◌then◌else◌, List, [], ◌++◌, codes, decimal}
+use Rattle.std.specs.Prelude.{ℕ, ◌/◌, ◌%◌, if◌then◌else◌, List, [], ◌++◌, codes, decimal}
 use Rattle.hii_bytes.specs.Texts.{hex_of}
 use Rattle.hii_bytes.specs.Cause.{number_of, name_of}
 use Rattle.hii_bytes.specs.declared.cause.Cause.{Cause}
 use Rattle.hii_bytes.specs.declared.cause.Fault.{Fault}
-use Rattle.hii_questions.specs.Denials.{kind_name}
+use Rattle.hii_questions.specs.Denials.{kind_name, has_text}
 use Rattle.hii_questions.specs.declared.denial.DenialKind.{DenialKind}
-use Rattle.hii_questions.specs.declared.denial.DenialKind.TheVariants.{InconsistentIf, NoSubmitIf}
 use Rattle.guard_policy.specs.declared.denial.Denial.{Denial}
 use Rattle.guard_policy.specs.declared.warnings.Warning.{Warning}
 use Rattle.form_page.specs.Texts.{utf8}
@@ -22,26 +21,25 @@ changed_text id = codes "CHANGED " ++ decimal id ++ codes "\n"
 
 -- a place in eight hex digits
 abbrev pub place_text : ℕ → List ℕ
-place_text place = hex_of (place / 0x1000000 % 256) ++ hex_of (place / 0x10000 % 256) ++ hex_of (place / 0x100 % 256) ++ hex_of (place % 256)
-
--- whether a denial of a kind is told with the text of its opcode
-abbrev pub has_message : DenialKind → Bool
-has_message InconsistentIf = true
-has_message NoSubmitIf = true
-has_message _ = false
+place_text place =
+    hex_of (place / 0x1000000 % 256) ++ hex_of (place / 0x10000 % 256)
+    ++ hex_of (place / 0x100 % 256) ++ hex_of (place % 256)
 
 abbrev pub message_text : DenialKind → List ℕ → List ℕ
-message_text kind message = if has_message kind then codes " " ++ utf8 message else []
+message_text kind message = if has_text kind then codes " " ++ utf8 message else []
 
 -- the line of a denial, by the characters that are shown of its text
 abbrev pub denied_text : List ℕ → Denial → List ℕ
-denied_text message denial = codes "DENIED " ++ kind_name denial.kind ++ codes " at " ++ place_text denial.place ++ message_text denial.kind message ++ codes "\n"
+denied_text message denial =
+    codes "DENIED " ++ kind_name denial.kind ++ codes " at " ++ place_text denial.place
+    ++ message_text denial.kind message ++ codes "\n"
 
--- that of a warning
+-- the line of a warning
 abbrev pub warning_text : List ℕ → Warning → List ℕ
-warning_text message warning = codes "WARNING at " ++ place_text warning.place ++ codes " " ++ utf8 message ++ codes "\n"
+warning_text message warning =
+    codes "WARNING at " ++ place_text warning.place ++ codes " " ++ utf8 message ++ codes "\n"
 
--- the same, by the characters that are shown of each string id
+-- the line of a warning, by the characters that are shown of each string id
 abbrev pub warning_line : (ℕ → List ℕ) → Warning → List ℕ
 warning_line texts warning = warning_text (texts warning.message) warning
 

@@ -1,23 +1,23 @@
 //! A form set that is browsed, and what commands do to it.
 
-ghost use Rattle.std.specs.Prelude.{◌≡◌, ◌≤◌, ◌+◌, ◌∷◌, not, List, filter, length, IfOk, IfErr, option_copied, slice_range};
+ghost use Rattle.std.specs.Prelude.{◌≡◌, ◌∷◌, not, List, filter, length, IfOk, IfErr, option_copied};
 ghost use Rattle.hii_bytes.specs.Faults.{Refuses, IsLeast, out_of_memory};
-ghost use Rattle.hii_bytes.specs.Watching.{pen_of, Writes};
-ghost use Rattle.hii_packages.specs.Package.{entry_of};
-ghost use Rattle.hii_packages.specs.Packages.{Spells, nth_forms};
+ghost use Rattle.hii_bytes.specs.Watching.{Puts, Writes};
+ghost use Rattle.hii_packages.specs.code.Package.{entry_of};
+ghost use Rattle.hii_packages.specs.Packages.{SpellsPackages, nth_forms};
 ghost use Rattle.ifr_opcodes.specs.Forest.{Placed};
-ghost use Rattle.ifr_scopes.specs.Checked.{IsNodeOf};
-ghost use Rattle.ifr_scopes.specs.Lists.{form_node};
+ghost use Rattle.ifr_scopes.specs.code.Checked.{IsNodeOf};
+ghost use Rattle.ifr_scopes.specs.code.Lists.{form_node};
 ghost use Rattle.ifr_scopes.specs.Nodes.{nodes_of, is_form};
 ghost use Rattle.hii_commands.specs.Meaning.{order_of, HasList};
 ghost use Rattle.hii_varstore.specs.Stores.{shape_of};
 ghost use Rattle.hii_questions.specs.Fields.{question_with};
-ghost use Rattle.hii_questions.specs.Offers.{offer_of};
-ghost use Rattle.hii_questions.specs.Views.{question_node, question_view};
-ghost use Rattle.guard_policy.specs.Views.{bytes_of};
+ghost use Rattle.hii_questions.specs.code.Offers.{offer_of};
+ghost use Rattle.hii_questions.specs.code.Views.{question_node, question_view};
+ghost use Rattle.guard_policy.specs.code.Views.{bytes_of};
 ghost use Rattle.browser_core.specs.State.{State};
-ghost use Rattle.browser_core.specs.Step.{step, denied, why_question, set_question, warned_text, show_page, changed, are_same, field_bytes, commit, submitted};
-ghost use Rattle.browser_core.specs.Standing.{Selects, Takes, Sets, LiesIn, IsOffered};
+ghost use Rattle.browser_core.specs.Step.{step, denied, why_question, set_question, warned_text, show_page, changed, are_same_bytes, field_bytes, commit, submitted};
+ghost use Rattle.browser_core.specs.code.Standing.{Selects, Takes, Sets, LiesIn, IsOffered};
 ghost use Rattle.browser_core.specs.Opening.{Opens, IsOpenFault, IsSourceFault};
 
 use crate::change::{NewValue, value_allowed};
@@ -54,16 +54,25 @@ pub(crate) struct Core<'a> {
 }
 
 impl<'a> Model for Core<'a> {
-    ghost use Rattle.hii_languages.specs.Views.{choice_of};
-    ghost use Rattle.ifr_scopes.specs.Lists.{form_node};
+    ghost use Rattle.hii_languages.specs.code.Views.{choice_of};
+    ghost use Rattle.ifr_scopes.specs.code.Lists.{form_node};
     ghost use Rattle.browser_core.specs.State.{State};
-    ghost use Rattle.browser_core.specs.Standing.{Stands};
+    ghost use Rattle.browser_core.specs.code.Standing.{Stands};
 
     ghost Value = { State };
 
-    ghost view = { λ c. record { ifr = c.forms; removed = c.removed; spoken = c.languages; language = choice_of c.language; committed = c.committed; working = c.working; form = (form_node c.form).place } };
+    ghost view = { λ c. record {
+      ifr = c.forms;
+      removed = c.removed;
+      spoken = c.languages;
+      language = choice_of c.language;
+      committed = c.committed;
+      working = c.working;
+      form = (form_node c.form).place;
+    } };
 
-    ghost invariant = { λ c. Stands c.forms c.questions c.committed c.working c.trial (form_node c.form) };
+    ghost invariant = { λ c. Stands c.forms c.questions c.committed c.working c.trial
+        (form_node c.form) };
 }
 
 impl<'a> Core<'a> {
@@ -78,8 +87,9 @@ impl<'a> Core<'a> {
     ) -> Result<Core<'a>, Fault>
         ensures opened { IfOk result (Opens list.entry.now forms stores.now lang.now) }
         ensures refused { IfErr result (Refuses (IsOpenFault list.entry.now forms stores.now)) }
-        // Where the bytes open a session, nothing but want of memory refuses it.
-        ensures accepted { (start : State) → Opens list.entry.now forms stores.now lang.now start → IfErr result (λ fault. fault ≡ out_of_memory) }
+        // Where the bytes open a session, nothing but an allocation that fails refuses it.
+        ensures accepted { (start : State) → Opens list.entry.now forms stores.now lang.now start
+            → IfErr result (λ fault. fault ≡ out_of_memory) }
     {
         let found = find_source(list, forms)?;
         let languages = Languages::read(alloc, &found.packages)?;
@@ -125,7 +135,8 @@ impl<'a> Core<'a> {
     ) -> Reply
         requires { HasList command }
         ensures state { self.new ≡ (step self.old (order_of command.entry)).state }
-        ensures text { Writes (pen_of W.contents out.old) (pen_of W.contents out.new) (step self.old (order_of command.entry)).text }
+        ensures text { Puts W.contents out.old out.new
+            (step self.old (order_of command.entry)).text }
         ensures reply { result ≡ (step self.old (order_of command.entry)).reply }
     {
         match command {
@@ -162,7 +173,7 @@ impl<'a> Core<'a> {
 
     // Writes the page of the current form.
     fn put_page<W: Write>(&self, out: &mut Watched<W>)
-        ensures { Writes (pen_of W.contents out.old) (pen_of W.contents out.new) (show_page self.now).text }
+        ensures { Puts W.contents out.old out.new (show_page self.now).text }
     {
         let policy = self.policy();
         let conditions = policy.over(&self.working);
@@ -180,7 +191,7 @@ impl<'a> Core<'a> {
 
     // Writes why a command is denied.
     fn deny<W: Write>(&self, denial: Denial, out: &mut Watched<W>) -> Reply
-        ensures text { Writes (pen_of W.contents out.old) (pen_of W.contents out.new) (denied self.now denial).text }
+        ensures text { Puts W.contents out.old out.new (denied self.now denial).text }
         ensures reply { result ≡ Reply.Denied denial }
     {
         let message = self.languages.text(self.language, denial.message);
@@ -193,11 +204,7 @@ impl<'a> Core<'a> {
         ensures { Selects self.now id result }
     {
         let Some(question) = self.questions.find(id) else {
-            return Err(Denial {
-                kind: DenialKind::NoQuestion,
-                place: 0,
-                message: 0,
-            });
+            return Err(Denial::by(DenialKind::NoQuestion, 0));
         };
         self.policy()
             .changeable(question.statement(), &self.working)?;
@@ -206,8 +213,10 @@ impl<'a> Core<'a> {
 
     // Writes what forbids a change of the question of an id, if something does.
     fn why<W: Write>(&self, id: u16, out: &mut Watched<W>) -> Reply
-        ensures text { Writes (pen_of W.contents out.old) (pen_of W.contents out.new) (why_question self.now (question_with (nodes_of self.now.ifr) id)).text }
-        ensures reply { result ≡ (why_question self.now (question_with (nodes_of self.now.ifr) id)).reply }
+        ensures text { Puts W.contents out.old out.new
+            (why_question self.now (question_with (nodes_of self.now.ifr) id)).text }
+        ensures reply { result
+            ≡ (why_question self.now (question_with (nodes_of self.now.ifr) id)).reply }
     {
         match self.selected(id) {
             Ok(_) => {
@@ -221,9 +230,15 @@ impl<'a> Core<'a> {
     // Sets the question of an id to a value and writes of what it warns, or writes why it is denied.
     fn set<W: Write>(&mut self, id: u16, input: Input<'_>, out: &mut Watched<W>) -> Reply
         requires { IsOffered input }
-        ensures state { self.new ≡ (set_question self.old (question_with (nodes_of self.old.ifr) id) (offer_of input.entry)).state }
-        ensures text { Writes (pen_of W.contents out.old) (pen_of W.contents out.new) (set_question self.old (question_with (nodes_of self.old.ifr) id) (offer_of input.entry)).text }
-        ensures reply { result ≡ (set_question self.old (question_with (nodes_of self.old.ifr) id) (offer_of input.entry)).reply }
+        ensures state { self.new
+            ≡ (set_question self.old (question_with (nodes_of self.old.ifr) id)
+            (offer_of input.entry)).state }
+        ensures text { Puts W.contents out.old out.new
+            (set_question self.old (question_with (nodes_of self.old.ifr) id)
+            (offer_of input.entry)).text }
+        ensures reply { result
+            ≡ (set_question self.old (question_with (nodes_of self.old.ifr) id)
+            (offer_of input.entry)).reply }
     {
         match self.change(id, input) {
             Ok(question) => {
@@ -241,14 +256,8 @@ impl<'a> Core<'a> {
         ensures { Takes self.now id (offer_of input.entry) result }
     {
         let question = self.selected(id)?;
-        match check_value(question, input) {
-            Ok(field) => Ok(NewValue { question, field }),
-            Err(denied) => Err(Denial {
-                kind: denied.kind,
-                place: denied.place,
-                message: 0,
-            }),
-        }
+        let field = check_value(question, input)?;
+        Ok(NewValue { question, field })
     }
 
     // Gives the question of an id a value, which is tried first, or answers why it may not have it.
@@ -273,7 +282,8 @@ impl<'a> Core<'a> {
 
     // Writes of what a question warns.
     fn put_warnings<W: Write>(&self, question: Question<'a>, out: &mut Watched<W>)
-        ensures { Writes (pen_of W.contents out.old) (pen_of W.contents out.new) (warned_text self.now self.now.working (question_node question.entry)) }
+        ensures { Puts W.contents out.old out.new
+            (warned_text self.now self.now.working (question_node question.entry)) }
     {
         let warnings = self.policy().warnings(question, &self.working);
         put_warnings(warnings, &self.languages, self.language, out);
@@ -282,7 +292,7 @@ impl<'a> Core<'a> {
     // Submits the working stores, or writes why they may not be submitted.
     fn submit<W: Write>(&mut self, out: &mut Watched<W>) -> Reply
         ensures state { self.new ≡ (submitted self.old).state }
-        ensures text { Writes (pen_of W.contents out.old) (pen_of W.contents out.new) (submitted self.old).text }
+        ensures text { Puts W.contents out.old out.new (submitted self.old).text }
         ensures reply { result ≡ (submitted self.old).reply }
     {
         match self.policy().may_submit(&self.working) {
@@ -297,7 +307,7 @@ impl<'a> Core<'a> {
 
     // Writes how many questions have other bytes than when they were last submitted, and each of them by place.
     fn put_submitted<W: Write>(&self, out: &mut Watched<W>)
-        ensures { Writes (pen_of W.contents out.old) (pen_of W.contents out.new) (commit self.now).text }
+        ensures { Puts W.contents out.old out.new (commit self.now).text }
     {
         put_count(self.count_changed(), out);
         for question in self.questions.all() {
@@ -330,8 +340,9 @@ struct Source<'a> {
 
 // The packages that a list spells, with the forms package of a number.
 fn find_source(list: &[u8], number: usize) -> Result<Source<'_>, Fault>
-    ensures spelled { IfOk result (λ source. Spells list.now source.packages) }
-    ensures found { IfOk result (λ source. nth_forms source.packages number ≡ Some (entry_of source.forms)) }
+    ensures spelled { IfOk result (λ source. SpellsPackages list.now source.packages) }
+    ensures found { IfOk result (λ source. nth_forms source.packages number
+        ≡ Some (entry_of source.forms)) }
     ensures refused { IfErr result (IsLeast (IsSourceFault list.now number)) }
 {
     let packages = PackageList::read(list)?;
@@ -342,7 +353,8 @@ fn find_source(list: &[u8], number: usize) -> Result<Source<'_>, Fault>
 
 // The first form, by place.
 fn first_form<'a>(forms: &Forms<'a>) -> Form<'a>
-    ensures first { (others : List Placed) × (filter is_form (nodes_of forms.now) ≡ form_node result ∷ others) }
+    ensures first { (others : List Placed)
+        × (filter is_form (nodes_of forms.now) ≡ form_node result ∷ others) }
     ensures node { IsNodeOf forms.now (form_node result) }
 {
     // The package is accepted: it has a form.
@@ -357,23 +369,16 @@ fn bytes_in<'s>(stores: &'s Stores, question: Question<'_>) -> Option<&'s [u8]>
     ensures { option_copied result ≡ field_bytes stores.now (question_view question.entry).field }
 {
     let field = question.field()?;
-    let bytes = stores.bytes(field.store)?;
-    Some(part(bytes, usize::from(field.offset), field.width))
-}
-
-// The bytes from an offset on, of a width.
-fn part(bytes: &[u8], offset: usize, width: usize) -> &[u8]
-    requires { offset + width ≤ length bytes.now }
-    ensures { result.now ≡ slice_range bytes.now offset (offset + width) }
-{
-    &bytes[offset..offset + width]
+    stores.field(field.store, usize::from(field.offset), field.width)
 }
 
 // Whether the field of a question has other bytes in these stores.
 fn differs(question: Question<'_>, committed: &Stores, working: &Stores) -> bool
     requires committed { LiesIn (shape_of committed.now) (question_view question) }
     requires working { LiesIn (shape_of working.now) (question_view question) }
-    ensures { result ≡ not (are_same (field_bytes committed.now (question_view question.entry).field) (field_bytes working.now (question_view question.entry).field)) }
+    ensures { result
+        ≡ not (are_same_bytes (field_bytes committed.now (question_view question.entry).field)
+        (field_bytes working.now (question_view question.entry).field)) }
 {
     match (bytes_in(committed, question), bytes_in(working, question)) {
         (Some(old), Some(new)) => old != new,

@@ -1,15 +1,16 @@
 //! New values of questions.
 
 ghost use Rattle.std.specs.Prelude.{◌≡◌, Some};
-ghost use Rattle.ifr_expr.specs.Views.{value_of};
-ghost use Rattle.ifr_scopes.specs.Checked.{IsNodeOf};
+ghost use Rattle.ifr_expr.specs.code.Views.{value_of};
+ghost use Rattle.ifr_scopes.specs.code.Checked.{IsNodeOf};
 ghost use Rattle.ifr_scopes.specs.Nodes.{nodes_of};
 ghost use Rattle.hii_questions.specs.Answers.{value_of_field};
 ghost use Rattle.hii_questions.specs.Fields.{field_of};
-ghost use Rattle.hii_questions.specs.StoredLeft.{stored_left};
-ghost use Rattle.hii_questions.specs.Views.{question_node, question_view};
-ghost use Rattle.guard_policy.specs.Policy.{first_closed, unless};
-ghost use Rattle.guard_policy.specs.Views.{bytes_of, world};
+ghost use Rattle.hii_questions.specs.code.StoredLeft.{stored_left};
+ghost use Rattle.hii_questions.specs.code.Views.{question_node, question_view};
+ghost use Rattle.guard_policy.specs.Policy.{first_closed};
+ghost use Rattle.guard_policy.specs.code.Answers.{unless};
+ghost use Rattle.guard_policy.specs.code.Views.{bytes_of, world};
 ghost use Rattle.browser_core.specs.Step.{named_values, value_denial};
 
 use guard_policy::{Denial, Policy};
@@ -33,8 +34,11 @@ pub(crate) fn value_allowed<'a>(
     new: &Stores,
 ) -> Result<(), Denial>
     requires node { IsNodeOf (bytes_of policy) (question_node question) }
-    requires own { (question_view question).field ≡ field_of (nodes_of (bytes_of policy)) (question_node question) }
-    ensures { result ≡ unless (value_denial (world policy.entry working.now) new.now (question_node question.entry)) }
+    requires own { (question_view question).field
+        ≡ field_of (nodes_of (bytes_of policy)) (question_node question) }
+    ensures { result
+        ≡ unless (value_denial (world policy.entry working.now) new.now
+        (question_node question.entry)) }
 {
     options_open(policy, question, read_value(question, new), working)?;
     policy.consistent(question, new)
@@ -48,7 +52,9 @@ fn options_open<'a>(
     working: &Stores,
 ) -> Result<(), Denial>
     requires { IsNodeOf (bytes_of policy) (question_node question) }
-    ensures { result ≡ unless (first_closed (world policy.entry working.now) (question_node question.entry) (named_values (question_node question.entry) (value_of value.entry))) }
+    ensures { result
+        ≡ unless (first_closed (world policy.entry working.now) (question_node question.entry)
+        (named_values (question_node question.entry) (value_of value.entry))) }
 {
     match value {
         Value::Number(value) => policy.option_open(question, value, working),
@@ -68,7 +74,9 @@ fn elements_open<'a>(
     working: &Stores,
 ) -> Result<(), Denial>
     requires { IsNodeOf (bytes_of policy) (question_node question) }
-    ensures { result ≡ unless (first_closed (world policy.entry working.now) (question_node question.entry) (stored_left elements.entry)) }
+    ensures { result
+        ≡ unless (first_closed (world policy.entry working.now) (question_node question.entry)
+        (stored_left elements.entry)) }
 {
     let mut elements = elements;
     while let Some(value) = elements.step() {

@@ -6,7 +6,7 @@ use hii_bytes::Cause;
 /// How a command was answered.
 #[derive(Clone, Copy, Debug, PartialEq, Eq)]
 pub enum Reply {
-    /// It was carried out.
+    /// The command was carried out.
     Accepted,
     /// A guard, a flag or a rule of values forbids it. It changed nothing.
     Denied(Denial),
@@ -19,7 +19,7 @@ pub enum Reply {
 pub enum End {
     /// All of its lines were run.
     Done,
-    /// It has more bytes than are run.
+    /// The script has more bytes than are run.
     TooLong,
 }
 

@@ -1,18 +1,19 @@
 //! The lines of a script, one after the other.
 
-ghost use Rattle.std.specs.Prelude.{◌≡◌, ◌↔◌, ◌++◌, ℕ, List, [], IsTrue, IfOk, true, false, Err};
-ghost use Rattle.hii_bytes.specs.Watching.{Pen, pen_of, inner_of, has_failed, Writes};
-ghost use Rattle.hii_commands.specs.Line.{held_of, without_return};
+ghost use Rattle.std.specs.Prelude.{◌≡◌, ◌++◌, ℕ, List, IfOk, true, false, Err};
+ghost use Rattle.hii_bytes.specs.Watching.{Pen, pen_of, inner_of, has_failed, Puts};
+ghost use Rattle.hii_commands.specs.code.Held.{held_of};
 ghost use Rattle.hii_commands.specs.Script.{whole_lines};
 ghost use Rattle.browser_core.specs.State.{State};
 ghost use Rattle.browser_core.specs.Step.{step_line};
-ghost use Rattle.browser_core.specs.Run.{Runs, Stands, Stops};
+ghost use Rattle.browser_core.specs.Run.{Runs, StopsAtLine};
+ghost use Rattle.browser_core.specs.code.Reading.{Stands};
 
 use crate::browser::Core;
 use crate::reply::{End, RunFault};
 use crate::texts::put_refusal;
 use hii_bytes::{Cause, Watched};
-use hii_commands::{LineBuffer, SCRIPT_LIMIT, read_line};
+use hii_commands::{LineBuffer, SCRIPT_LIMIT, is_blank, read_line};
 use std::io::{Read, Write};
 
 // The most bytes that a script may have.
@@ -28,7 +29,8 @@ pub(crate) fn run_all<R: Read, W: Write>(
     script: &mut Watched<R>,
     out: &mut Watched<W>,
 ) -> Result<End, RunFault>
-    ensures run { Runs core.old (pen_of W.contents out.old) (R.remaining (inner_of script.old)) result
+    ensures run { Runs core.old (pen_of W.contents out.old)
+        (R.remaining (inner_of script.old)) result
         core.new (pen_of W.contents out.new) (R.remaining (inner_of script.new)) }
     ensures reads { result ≡ Err RunFault.Read → has_failed script.new ≡ true }
     ensures writes { result ≡ Err RunFault.Write → has_failed out.new ≡ true }
@@ -77,10 +79,15 @@ fn run_piece<W: Write>(
     piece: &[u8],
     out: &mut Watched<W>,
 )
-    ensures stands { (start : State) (pen : Pen) (bytes : List ℕ) → Stands start pen bytes core.old line.old (pen_of W.contents out.old)
-        → has_failed out.new ≡ false → Stands start pen (bytes ++ piece.now) core.new line.new (pen_of W.contents out.new) }
-    ensures stops { (start : State) (pen : Pen) (bytes : List ℕ) → Stands start pen bytes core.old line.old (pen_of W.contents out.old)
-        → has_failed out.new ≡ true → Stops start pen (whole_lines (bytes ++ piece.now)) core.new (pen_of W.contents out.new) }
+    ensures stands { (start : State) (pen : Pen) (bytes : List ℕ)
+        → Stands start pen bytes core.old line.old (pen_of W.contents out.old)
+        → has_failed out.new ≡ false
+        → Stands start pen (bytes ++ piece.now) core.new line.new (pen_of W.contents out.new) }
+    ensures stops { (start : State) (pen : Pen) (bytes : List ℕ)
+        → Stands start pen bytes core.old line.old (pen_of W.contents out.old)
+        → has_failed out.new ≡ true
+        → StopsAtLine start pen (whole_lines (bytes ++ piece.now)) core.new
+        (pen_of W.contents out.new) }
 {
     let mut rest = piece;
     while !rest.is_empty() {
@@ -98,9 +105,10 @@ fn run_piece<W: Write>(
 
 // Runs the line that is held.
 fn run_line<W: Write>(core: &mut Core<'_>, line: &LineBuffer, out: &mut Watched<W>)
-    ensures state { (bytes : List ℕ) → line.now ≡ held_of bytes → core.new ≡ (step_line core.old bytes).state }
+    ensures state { (bytes : List ℕ) → line.now ≡ held_of bytes
+        → core.new ≡ (step_line core.old bytes).state }
     ensures text { (bytes : List ℕ) → line.now ≡ held_of bytes
-        → Writes (pen_of W.contents out.old) (pen_of W.contents out.new) (step_line core.old bytes).text }
+        → Puts W.contents out.old out.new (step_line core.old bytes).text }
 {
     match line.line() {
         Ok(bytes) => run_bytes(core, bytes, out),
@@ -108,10 +116,10 @@ fn run_line<W: Write>(core: &mut Core<'_>, line: &LineBuffer, out: &mut Watched<
     }
 }
 
-// Runs a line, of which nothing is done where it is empty or a CR alone.
+// Runs a line, of which nothing is done where it is blank.
 fn run_bytes<W: Write>(core: &mut Core<'_>, line: &[u8], out: &mut Watched<W>)
     ensures state { core.new ≡ (step_line core.old line.now).state }
-    ensures text { Writes (pen_of W.contents out.old) (pen_of W.contents out.new) (step_line core.old line.now).text }
+    ensures text { Puts W.contents out.old out.new (step_line core.old line.now).text }
 {
     if is_blank(line) {
         return;
@@ -122,11 +130,4 @@ fn run_bytes<W: Write>(core: &mut Core<'_>, line: &[u8], out: &mut Watched<W>)
         }
         Err(bad) => put_refusal(bad.cause(), out),
     }
-}
-
-// Whether the line is empty, or a CR alone.
-fn is_blank(line: &[u8]) -> bool
-    ensures { IsTrue result ↔ (without_return line.now ≡ []) }
-{
-    matches!(line, [] | [b'\r'])
 }

@@ -48,8 +48,9 @@ impl<'a> Session<'a> {
     ) -> Result<Session<'a>, Fault>
         ensures opened { IfOk result (Opens list.entry.now forms stores.now lang.now) }
         ensures refused { IfErr result (Refuses (IsOpenFault list.entry.now forms stores.now)) }
-        // Where the bytes open a session, nothing but want of memory refuses it.
-        ensures accepted { (start : State) → Opens list.entry.now forms stores.now lang.now start → IfErr result (λ fault. fault ≡ out_of_memory) }
+        // Where the bytes open a session, nothing but an allocation that fails refuses it.
+        ensures accepted { (start : State) → Opens list.entry.now forms stores.now lang.now start
+            → IfErr result (λ fault. fault ≡ out_of_memory) }
     {
         let core = Core::open(alloc, list, forms, stores, lang)?;
         let line = LineBuffer::new(alloc)?;
@@ -78,8 +79,10 @@ impl<'a> Session<'a> {
     ) -> Result<Reply, WriteFault>
         requires { HasList command }
         ensures state { self.new ≡ (step self.old (order_of command.entry)).state }
-        ensures text { Tells (pen_of W.contents out.old) (pen_of W.contents out.new) result (step self.old (order_of command.entry)).text }
-        ensures reply { IfOk result (λ reply. reply ≡ (step self.old (order_of command.entry)).reply) }
+        ensures text { Tells (pen_of W.contents out.old) (pen_of W.contents out.new) result
+            (step self.old (order_of command.entry)).text }
+        ensures reply { IfOk result (λ reply. reply
+            ≡ (step self.old (order_of command.entry)).reply) }
     {
         out.restart();
         let reply = self.core.carry_out(command, out);
@@ -101,9 +104,11 @@ impl<'a> Session<'a> {
         // The whole run, where the script's bytes are known.
         ensures whole { IfSome (R.remaining (inner_of script.old)) (λ bytes. IfOk result (λ end.
             (end ≡ (outcome_of self.old bytes).end) × (self.new ≡ (outcome_of self.old bytes).state)
-            × Appends (W.contents (inner_of out.old)) (W.contents (inner_of out.new)) (outcome_of self.old bytes).text)) }
+            × Appends (W.contents (inner_of out.old)) (W.contents (inner_of out.new))
+            (outcome_of self.old bytes).text)) }
         // At any reader and writer, and at their faults.
-        ensures run { Runs self.old (pen_of W.contents out.old) (R.remaining (inner_of script.old)) result
+        ensures run { Runs self.old (pen_of W.contents out.old)
+            (R.remaining (inner_of script.old)) result
             self.new (pen_of W.contents out.new) (R.remaining (inner_of script.new)) }
         ensures reads { result ≡ Err RunFault.Read → has_failed script.new ≡ true }
         ensures writes { result ≡ Err RunFault.Write → has_failed out.new ≡ true }

@@ -1,12 +1,10 @@
 //! The lines of answers.
 
-ghost use Rattle.hii_bytes.specs.Watching.{pen_of, Writes};
+ghost use Rattle.hii_bytes.specs.Watching.{Puts, Writes};
 ghost use Rattle.std.specs.List.{flat_map};
 ghost use Rattle.hii_languages.specs.Shown.{shown_text};
-ghost use Rattle.hii_languages.specs.Views.{chars_left, choice_of};
-ghost use Rattle.guard_policy.specs.Warned.{warnings_left};
-ghost use Rattle.std.specs.Prelude.{◌≡◌};
-ghost use Rattle.browser_core.specs.Texts as texts;
+ghost use Rattle.hii_languages.specs.code.Views.{chars_left, choice_of};
+ghost use Rattle.guard_policy.specs.code.WarningsLeft.{warnings_left};
 ghost use Rattle.browser_core.specs.Texts.{count_text, changed_text, place_text, message_text, denied_text, warning_text, warning_line, cause_text, refused_text, fault_text};
 
 use form_page::put_shown;
@@ -18,7 +16,7 @@ use std::io::Write;
 
 /// Writes `OK n`.
 pub(crate) fn put_count<W: Write>(n: u64, out: &mut Watched<W>)
-    ensures { Writes (pen_of W.contents out.old) (pen_of W.contents out.new) (count_text n) }
+    ensures { Puts W.contents out.old out.new (count_text n) }
 {
     out.put(b"OK ");
     out.put_decimal(n);
@@ -27,7 +25,7 @@ pub(crate) fn put_count<W: Write>(n: u64, out: &mut Watched<W>)
 
 /// Writes `CHANGED q`.
 pub(crate) fn put_changed<W: Write>(question: u16, out: &mut Watched<W>)
-    ensures { Writes (pen_of W.contents out.old) (pen_of W.contents out.new) (changed_text question) }
+    ensures { Puts W.contents out.old out.new (changed_text question) }
 {
     out.put(b"CHANGED ");
     out.put_decimal(u64::from(question));
@@ -36,7 +34,7 @@ pub(crate) fn put_changed<W: Write>(question: u16, out: &mut Watched<W>)
 
 // Writes the lowest 32 bits of a place in eight hex digits.
 fn put_place<W: Write>(place: u64, out: &mut Watched<W>)
-    ensures { Writes (pen_of W.contents out.old) (pen_of W.contents out.new) (place_text place) }
+    ensures { Puts W.contents out.old out.new (place_text place) }
 {
     out.put_hex((place / 0x100_0000 % 256) as u8);
     out.put_hex((place / 0x1_0000 % 256) as u8);
@@ -44,22 +42,11 @@ fn put_place<W: Write>(place: u64, out: &mut Watched<W>)
     out.put_hex((place % 256) as u8);
 }
 
-// Whether a denial of a kind is told with the text of its opcode.
-fn has_message(kind: DenialKind) -> bool
-    ensures { result ≡ texts.has_message kind }
-{
-    match kind {
-        DenialKind::InconsistentIf => true,
-        DenialKind::NoSubmitIf => true,
-        _ => false,
-    }
-}
-
 // Writes a text behind a space, where a denial of this kind has one.
 fn put_message<W: Write>(kind: DenialKind, message: ShownChars<'_>, out: &mut Watched<W>)
-    ensures { Writes (pen_of W.contents out.old) (pen_of W.contents out.new) (message_text kind (chars_left message.entry)) }
+    ensures { Puts W.contents out.old out.new (message_text kind (chars_left message.entry)) }
 {
-    if has_message(kind) {
+    if kind.has_text() {
         out.put(b" ");
         put_shown(message, out);
     }
@@ -67,7 +54,7 @@ fn put_message<W: Write>(kind: DenialKind, message: ShownChars<'_>, out: &mut Wa
 
 /// Writes the line of a denial, with the characters of its text.
 pub(crate) fn put_denial<W: Write>(denial: Denial, message: ShownChars<'_>, out: &mut Watched<W>)
-    ensures { Writes (pen_of W.contents out.old) (pen_of W.contents out.new) (denied_text (chars_left message.entry) denial) }
+    ensures { Puts W.contents out.old out.new (denied_text (chars_left message.entry) denial) }
 {
     out.put(b"DENIED ");
     out.put(denial.kind.name().as_bytes());
@@ -79,7 +66,7 @@ pub(crate) fn put_denial<W: Write>(denial: Denial, message: ShownChars<'_>, out:
 
 // Writes the line of a warning, with the characters of its text.
 fn put_warning<W: Write>(warning: Warning, message: ShownChars<'_>, out: &mut Watched<W>)
-    ensures { Writes (pen_of W.contents out.old) (pen_of W.contents out.new) (warning_text (chars_left message.entry) warning) }
+    ensures { Puts W.contents out.old out.new (warning_text (chars_left message.entry) warning) }
 {
     out.put(b"WARNING at ");
     put_place(u64::from(warning.place), out);
@@ -95,7 +82,9 @@ pub(crate) fn put_warnings<W: Write>(
     language: Choice,
     out: &mut Watched<W>,
 )
-    ensures { Writes (pen_of W.contents out.old) (pen_of W.contents out.new) (flat_map (warning_line (shown_text languages.now (choice_of language))) (warnings_left warnings.entry)) }
+    ensures { Puts W.contents out.old out.new
+        (flat_map (warning_line (shown_text languages.now (choice_of language)))
+        (warnings_left warnings.entry)) }
 {
     let mut warnings = warnings;
     while let Some(warning) = warnings.next() {
@@ -105,7 +94,7 @@ pub(crate) fn put_warnings<W: Write>(
 }
 
 fn put_cause<W: Write>(cause: Cause, out: &mut Watched<W>)
-    ensures { Writes (pen_of W.contents out.old) (pen_of W.contents out.new) (cause_text cause) }
+    ensures { Puts W.contents out.old out.new (cause_text cause) }
 {
     out.put(b"REFUSED ");
     out.put_decimal(u64::from(cause.number()));
@@ -115,7 +104,7 @@ fn put_cause<W: Write>(cause: Cause, out: &mut Watched<W>)
 
 /// Writes the line of a cause without a place.
 pub fn put_refusal<W: Write>(cause: Cause, out: &mut Watched<W>)
-    ensures { Writes (pen_of W.contents out.old) (pen_of W.contents out.new) (refused_text cause) }
+    ensures { Puts W.contents out.old out.new (refused_text cause) }
 {
     put_cause(cause, out);
     out.put(b"\n");
@@ -123,7 +112,7 @@ pub fn put_refusal<W: Write>(cause: Cause, out: &mut Watched<W>)
 
 /// Writes the line of a cause at its place, of which it tells the lowest 32 bits.
 pub fn put_refusal_at<W: Write>(fault: Fault, out: &mut Watched<W>)
-    ensures { Writes (pen_of W.contents out.old) (pen_of W.contents out.new) (fault_text fault) }
+    ensures { Puts W.contents out.old out.new (fault_text fault) }
 {
     put_cause(fault.cause, out);
     out.put(b" at ");

@@ -2,7 +2,8 @@
 use Rattle.std.proofs.Common.{◌≡◌, ℕ, ◌-◌, ◌≤◌, leb, List, ◌∷◌, ◌++◌, append_assoc, sym, ap, ◌∙◌, arith}
 use Rattle.std.specs.Prelude.{encode_utf8}
 use Rattle.std.proofs.lemmas.Bool.{cond-true, le-leb}
-use Rattle.hii_bytes.specs.Watching.{Pen, Writes, Stands}
+use Rattle.hii_bytes.specs.Watching.{Pen, Writes}
+use Rattle.hii_bytes.specs.code.Writing.{Stands}
 use Rattle.hii_bytes.proofs.WritingLemmas.{writes_trans}
 use Rattle.form_page.specs.Texts.{columns, width, utf8, cut_to}
 

@@ -3,8 +3,8 @@ use Rattle.std.proofs.Common.{◌≡◌, ℕ, ◌*◌, ◌%◌, eqb, Option, Som
 use Rattle.std.proofs.lemmas.Bool.{cases_Bool, cond-true, cond-false}
 use Rattle.ifr_expr.specs.Values.{text as text_value}
 use Rattle.ifr_opcodes.specs.Forest.{Placed}
-use Rattle.hii_varstore.specs.Stores.{StoreMap, field_of as field_bytes}
-use Rattle.hii_questions.specs.Answers.{value_in, value_of_bytes, value_of_field}
+use Rattle.hii_varstore.specs.Stores.{StoreMap, bytes_of_field as field_bytes}
+use Rattle.hii_questions.specs.Answers.{answer_in, value_of_bytes, value_of_field}
 use Rattle.hii_questions.specs.FieldTypes.{FieldType, checkbox, numeric, one_of, text, ordered_list, size_of_type}
 use Rattle.hii_questions.specs.Fields.{Field}
 use Rattle.hii_questions.specs.Items.{items_in, bytes_of_items}
@@ -17,7 +17,7 @@ whole bytes =
     let taken = length-take (length (items_in 2 bytes) * 2) bytes in
     omega (arith, within, taken)
 
-whole_in : (t : FieldType) (bytes units : List ℕ) → value_in t bytes ≡ text_value units → length units % 2 ≡ 0
+whole_in : (t : FieldType) (bytes units : List ℕ) → answer_in t bytes ≡ text_value units → length units % 2 ≡ 0
 whole_in checkbox bytes units e = absurd cc
 whole_in (numeric signed width minimum maximum) bytes units e = absurd cc
 whole_in (one_of width values) bytes units e = absurd cc
@@ -29,7 +29,7 @@ whole_of None b units e = absurd cc
 whole_of (Some t) None units e = absurd cc
 whole_of (Some t) (Some bytes) units e = elim (cases_Bool (eqb (length bytes) (size_of_type t))) [
   | inl fits ↦ whole_in t bytes units (sym (cond-true (eqb (length bytes) (size_of_type t)) _ _ fits) ∙ e)
-  | inr cut ↦ let none = sym (cond-false (eqb (length bytes) (size_of_type t)) (value_in t bytes) _ cut) ∙ e in absurd cc
+  | inr cut ↦ let none = sym (cond-false (eqb (length bytes) (size_of_type t)) (answer_in t bytes) _ cut) ∙ e in absurd cc
 ]
 
 pub whole_texts : (stores : StoreMap) (n : Placed) (field : Option Field) (units : List ℕ) → value_of_field stores n field ≡ text_value units → length units % 2 ≡ 0

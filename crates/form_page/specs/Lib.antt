@@ -1,9 +1,4 @@
 pub mod Texts
 pub mod RowValues
-pub mod Pieces
-pub mod PageViews
-pub mod Elements
-pub mod CharViews
-pub mod RowViews
 pub mod Pages
-pub mod Views
+pub mod code

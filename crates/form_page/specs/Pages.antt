@@ -25,7 +25,8 @@ pub record Row : Type 0 where
 -- A subtitle and a text have a space as their mark. What may be changed is marked by a star, what is fixed by an exclamation
 -- mark.
 abbrev pub mark_of : List ℕ → Bool → ℕ
-mark_of op is_fixed = if number op == SUBTITLE || number op == TEXT then 32 else if is_fixed then 33 else 42
+mark_of op is_fixed =
+    if number op == SUBTITLE || number op == TEXT then 32 else if is_fixed then 33 else 42
 
 -- the id of a statement that is a question
 abbrev pub id_of : Placed → Option ℕ
@@ -43,11 +44,13 @@ row_of texts w stores number n = record {
 
 abbrev pub rows_from : (ℕ → List ℕ) → World → StoreMap → ℕ → List Placed → List Row
 rows_from texts w stores number [] = []
-rows_from texts w stores number (n ∷ rest) = row_of texts w stores number n ∷ rows_from texts w stores (number + 1) rest
+rows_from texts w stores number (n ∷ rest) =
+    row_of texts w stores number n ∷ rows_from texts w stores (number + 1) rest
 
 -- the rows of a form, numbered from 1
-abbrev pub rows : (ℕ → List ℕ) → World → StoreMap → Placed → List Row
-rows texts w stores form = rows_from texts w stores 1 (filter (λ n. is_none (hidden w n)) (statements form))
+abbrev pub rows_of_form : (ℕ → List ℕ) → World → StoreMap → Placed → List Row
+rows_of_form texts w stores form =
+    rows_from texts w stores 1 (filter (λ n. is_none (hidden w n)) (statements form))
 
 -- a question's id in five columns, or that there is none
 abbrev pub id_text : Option ℕ → List ℕ
@@ -56,12 +59,16 @@ id_text (Some id) = right_aligned 5 (decimal id)
 
 abbrev pub row_text : Row → List ℕ
 row_text row =
-    right_aligned 3 (decimal row.number) ++ codes " " ++ (row.mark ∷ []) ++ codes " " ++ id_text row.question ++ codes " "
+    right_aligned 3 (decimal row.number) ++ codes " " ++ (row.mark ∷ []) ++ codes " "
+    ++ id_text row.question ++ codes " "
     ++ in_columns 24 row.prompt ++ codes " [" ++ utf8 row.value ++ codes "]\n"
 
 abbrev pub title_text : (ℕ → List ℕ) → Placed → List ℕ
-title_text texts form = codes "FORM " ++ decimal (form_id form.op) ++ codes " " ++ utf8 (texts (form_title form.op)) ++ codes "\n"
+title_text texts form =
+    codes "FORM " ++ decimal (form_id form.op) ++ codes " " ++ utf8 (texts (form_title form.op))
+    ++ codes "\n"
 
 -- the bytes of a page
 abbrev pub page_text : (ℕ → List ℕ) → World → StoreMap → Placed → List ℕ
-page_text texts w stores form = title_text texts form ++ flat_map row_text (rows texts w stores form)
+page_text texts w stores form =
+    title_text texts form ++ flat_map row_text (rows_of_form texts w stores form)

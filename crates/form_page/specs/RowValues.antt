@@ -14,7 +14,7 @@ use Rattle.ifr_scopes.specs.Nodes.{options, is_question}
 use Rattle.hii_varstore.specs.Stores.{StoreMap}
 use Rattle.hii_questions.specs.Answers.{value_of_field}
 use Rattle.hii_questions.specs.Fields.{field_of}
-use Rattle.hii_questions.specs.Inputs.{shown}
+use Rattle.hii_questions.specs.Inputs.{number_of_bits}
 use Rattle.hii_questions.specs.Items.{items_in}
 use Rattle.hii_questions.specs.Types.{element_width}
 use Rattle.guard_policy.specs.Policy.{hidden}
@@ -36,7 +36,7 @@ hex_digits (suc count) n = digit_glyph false (n / 16 ^ count % 16) ∷ hex_digit
 -- EFI_IFR_NUMERIC: in decimal, with a sign where its `width` bytes are shown as two's complement, or two hexadecimal digits
 -- for each byte
 abbrev pub number_text : Display → ℕ → ℕ → List ℕ
-number_text Signed width n = signed_decimal (shown true width n)
+number_text Signed width n = signed_decimal (number_of_bits true width n)
 number_text Unsigned width n = decimal n
 number_text Hexadecimal width n = codes "0x" ++ hex_digits (2 * width) n
 
@@ -50,7 +50,8 @@ option_with w its value = find (λ o. (option_value o.op == value) && is_none (h
 
 -- the text of that option of a question
 abbrev pub choice : (ℕ → List ℕ) → World → Placed → ℕ → Option (List ℕ)
-choice texts w n value = option_map (λ (o : Placed). texts (option_text o.op)) (option_with w (options n) value)
+choice texts w n value =
+    option_map (λ (o : Placed). texts (option_text o.op)) (option_with w (options n) value)
 
 -- where no option is to be seen, a question mark
 abbrev pub choice_text : Option (List ℕ) → List ℕ
@@ -74,7 +75,8 @@ list_text [] = []
 list_text (its ∷ choices) = choice_text its ++ later_text choices
 
 abbrev pub list_shown : (ℕ → List ℕ) → World → Placed → Value → List ℕ
-list_shown texts w n (buffer bytes) = list_text (map (choice texts w n) (items_in (element_width n) bytes))
+list_shown texts w n (buffer bytes) =
+    list_text (map (choice texts w n) (items_in (element_width n) bytes))
 list_shown texts w n _ = []
 
 -- EFI_IFR_STRING: its characters
@@ -109,7 +111,9 @@ reference_text (Some form) = codes "->" ++ decimal form
 
 -- what a question shows of its value in some stores; a statement that is no question has none
 abbrev pub question_shown : (ℕ → List ℕ) → World → StoreMap → Placed → List ℕ
-question_shown texts w stores n = if is_question n then stored_shown texts w n (value_of_field stores n (field_of w.nodes n)) else []
+question_shown texts w stores n =
+    if is_question n then stored_shown texts w n (value_of_field stores n (field_of w.nodes n))
+    else []
 
 -- what the row of a statement shows between its brackets, with the texts as the characters that are shown of each string id
 abbrev pub value_shown : (ℕ → List ℕ) → World → StoreMap → Placed → List ℕ

@@ -1,16 +1,15 @@
 //! What a page decides, by what is kept of conditions.
 
 ghost use Rattle.std.specs.Prelude.{◌≡◌, is_none, is_some};
-ghost use Rattle.ifr_scopes.specs.Checked.{IsNodeOf};
-ghost use Rattle.ifr_scopes.specs.Lists.{statement_node};
-ghost use Rattle.ifr_scopes.specs.Parts.{option_node};
+ghost use Rattle.ifr_scopes.specs.code.Checked.{IsNodeOf};
+ghost use Rattle.ifr_scopes.specs.code.Lists.{statement_node};
+ghost use Rattle.ifr_scopes.specs.code.Parts.{option_node};
 ghost use Rattle.guard_policy.specs.Policy.{hidden, fixed};
-ghost use Rattle.guard_policy.specs.Views.{bytes_of};
-ghost use Rattle.form_page.specs.PageViews.{world_of};
+ghost use Rattle.guard_policy.specs.code.Views.{bytes_of};
+ghost use Rattle.form_page.specs.code.PageViews.{world_of};
 
 use crate::page::Page;
 use guard_policy::Conditions;
-use guard_policy::laws::what_is_kept_tells;
 use ifr_scopes::{OptionView, Statement};
 
 /// Whether a statement is seen.
@@ -18,9 +17,6 @@ pub(crate) fn is_listed<'a, C: Conditions>(page: Page<'a, '_, C>, statement: Sta
     requires { IsNodeOf (bytes_of page.policy) (statement_node statement) }
     ensures { result ≡ is_none (hidden (world_of page.entry) (statement_node statement.entry)) }
 {
-    what_is_kept_tells();
-    // The package is accepted.
-    page.policy.forms().bytes();
     page.policy.listed_by(statement, page.conditions).is_ok()
 }
 
@@ -29,9 +25,6 @@ pub(crate) fn is_fixed<'a, C: Conditions>(page: Page<'a, '_, C>, statement: Stat
     requires { IsNodeOf (bytes_of page.policy) (statement_node statement) }
     ensures { result ≡ is_some (fixed (world_of page.entry) (statement_node statement.entry)) }
 {
-    what_is_kept_tells();
-    // The package is accepted.
-    page.policy.forms().bytes();
     page.policy
         .changeable_by(statement, page.conditions)
         .is_err()
@@ -45,9 +38,6 @@ pub(crate) fn is_option_listed<'a, C: Conditions>(
     requires { IsNodeOf (bytes_of page.policy) (option_node option) }
     ensures { result ≡ is_none (hidden (world_of page.entry) (option_node option.entry)) }
 {
-    what_is_kept_tells();
-    // The package is accepted.
-    page.policy.forms().bytes();
     page.policy
         .option_listed_by(option, page.conditions)
         .is_ok()

@@ -12,7 +12,7 @@ pub(crate) struct HexDigits {
 
 impl HexDigits {
     ghost use Rattle.std.specs.Iterator.{YieldsFirstBy};
-    ghost use Rattle.form_page.specs.Pieces.{digits_left};
+    ghost use Rattle.form_page.specs.code.Pieces.{digits_left};
 
     /// Takes the first digit that is left.
     #[tactic(auto, using(crate::proofs::PieceLemmas::first_digit))]

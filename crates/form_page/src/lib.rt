@@ -1,10 +1,10 @@
 //! The page of a form: its title and a row for each statement that is seen (UEFI 2.8, 33.2.5.2 Forms).
 #![tactic(auto)]
 
-mod ascii;
-mod choice;
+mod ascii_text;
 mod decisions;
 mod hex_digits;
+mod option_texts;
 mod page;
 mod print;
 mod row;
@@ -14,7 +14,7 @@ mod statement_row;
 mod statement_value;
 mod value_chars;
 
-pub use choice::Elements;
+pub use option_texts::Elements;
 pub use page::{Page, Rows};
 pub use row::Row;
 pub use row_value::{Hexadecimal, RowValue};

@@ -2,11 +2,11 @@
 
 ghost use Rattle.std.specs.Prelude.{◌≡◌, ◌+◌, ◌<◌, ◌^◌, length};
 ghost use Rattle.ifr_opcodes.specs.Fields.{form_title};
-ghost use Rattle.ifr_scopes.specs.Checked.{IsNodeOf, IsNodeOf-prop, AreNodesOf, AreNodesOf-prop};
-ghost use Rattle.ifr_scopes.specs.Lists.{form_node, statements_left};
-ghost use Rattle.hii_languages.specs.Views.{choice_of, text_of};
-ghost use Rattle.guard_policy.specs.Support.{TellsAll, TellsAll-prop};
-ghost use Rattle.guard_policy.specs.Views.{bytes_of, world};
+ghost use Rattle.ifr_scopes.specs.code.Checked.{IsNodeOf, IsNodeOf-prop, AreNodesOf, AreNodesOf-prop};
+ghost use Rattle.ifr_scopes.specs.code.Lists.{form_node, statements_left};
+ghost use Rattle.hii_languages.specs.code.Views.{choice_of, text_of};
+ghost use Rattle.guard_policy.specs.code.KeptConditions.{TellsAll, TellsAll-prop};
+ghost use Rattle.guard_policy.specs.code.Views.{bytes_of, world};
 ghost use Rattle.form_page.specs.Pages as pages;
 
 use crate::decisions::is_listed;
@@ -59,8 +59,8 @@ pub struct Rows<'a, 's, C: Conditions> {
 }
 
 impl<'a, 's, C: Conditions> Page<'a, 's, C> {
-    ghost use Rattle.form_page.specs.PageViews.{texts_of, world_of};
-    ghost use Rattle.form_page.specs.Views.{rows_left};
+    ghost use Rattle.form_page.specs.code.PageViews.{texts_of, world_of};
+    ghost use Rattle.form_page.specs.code.Views.{rows_left};
 
     /// The page of a form of the policy's package, with texts in the chosen language. The questions are those of this package, and
     /// what is kept of its conditions tells whether they hold over the stores.
@@ -100,14 +100,13 @@ impl<'a, 's, C: Conditions> Page<'a, 's, C> {
         self.languages.text(self.choice, self.form.op().title())
     }
 
-    /// Its rows: one for each statement of the form that is not hidden.
+    /// The rows of the page: one for each statement of the form that is not hidden.
     pub fn rows(&self) -> Rows<'a, 's, C>
-        ensures { rows_left result ≡ pages.rows (texts_of self.now) (world_of self.now) self.now.stores.now (form_node self.now.form) }
+        ensures { rows_left result ≡ pages.rows_of_form (texts_of self.now)
+            (world_of self.now) self.now.stores.now (form_node self.now.form) }
     {
         statements_are_few();
         statements_are_nodes();
-        // The package is accepted.
-        self.policy.forms().bytes();
         Rows {
             page: *self,
             statements: self.form.statements(),
@@ -118,7 +117,7 @@ impl<'a, 's, C: Conditions> Page<'a, 's, C> {
 
 impl<'a, 's, C: Conditions> Iterator for Rows<'a, 's, C> {
     ghost use Rattle.std.specs.Iterator.{YieldsFirstBy, item_count};
-    ghost use Rattle.form_page.specs.Views.{row_seen, rows_left};
+    ghost use Rattle.form_page.specs.code.Views.{row_seen, rows_left};
 
     type Item = Row<'a, 's, C>;
 

@@ -2,11 +2,11 @@
 
 ghost use Rattle.std.specs.Prelude.{◌≡◌};
 ghost use Rattle.std.specs.List.{flat_map};
-ghost use Rattle.hii_bytes.specs.Watching.{pen_of, Writes, Tells};
-ghost use Rattle.ifr_scopes.specs.Lists.{form_node};
-ghost use Rattle.form_page.specs.PageViews.{texts_of, world_of};
+ghost use Rattle.hii_bytes.specs.Watching.{pen_of, Puts, Writes, Tells};
+ghost use Rattle.ifr_scopes.specs.code.Lists.{form_node};
+ghost use Rattle.form_page.specs.code.PageViews.{texts_of, world_of};
 ghost use Rattle.form_page.specs.Pages as pages;
-ghost use Rattle.form_page.specs.Views.{rows_left};
+ghost use Rattle.form_page.specs.code.Views.{rows_left};
 
 use crate::page::{Page, Rows};
 use crate::row::put_row;
@@ -16,7 +16,7 @@ use hii_bytes::{Watched, WriteFault};
 use std::io::Write;
 
 fn put_rows<C: Conditions, W: Write>(rows: Rows<'_, '_, C>, out: &mut Watched<W>)
-    ensures { Writes (pen_of W.contents out.old) (pen_of W.contents out.new) (flat_map pages.row_text (rows_left rows.entry)) }
+    ensures { Puts W.contents out.old out.new (flat_map pages.row_text (rows_left rows.entry)) }
 {
     let mut rows = rows;
     while let Some(row) = rows.next() {
@@ -28,7 +28,9 @@ impl<'a, 's, C: Conditions> Page<'a, 's, C> {
     /// Writes the page: a line with the form's id and title, and a line for each row. A writer's fault is answered with the
     /// bytes that were written before it.
     pub fn write_page<W: Write>(&self, out: &mut Watched<W>) -> Result<(), WriteFault>
-        ensures { Tells (pen_of W.contents out.old) (pen_of W.contents out.new) result (pages.page_text (texts_of self.now) (world_of self.now) self.now.stores.now (form_node self.now.form)) }
+        ensures { Tells (pen_of W.contents out.old) (pen_of W.contents out.new) result
+            (pages.page_text (texts_of self.now) (world_of self.now) self.now.stores.now
+            (form_node self.now.form)) }
     {
         out.restart();
         self.put_page(out);
@@ -42,7 +44,9 @@ impl<'a, 's, C: Conditions> Page<'a, 's, C> {
 
     /// Writes the page as one of several texts: a fault of the writer is asked of the writer.
     pub fn put_page<W: Write>(&self, out: &mut Watched<W>)
-        ensures { Writes (pen_of W.contents out.old) (pen_of W.contents out.new) (pages.page_text (texts_of self.now) (world_of self.now) self.now.stores.now (form_node self.now.form)) }
+        ensures { Puts W.contents out.old out.new
+            (pages.page_text (texts_of self.now) (world_of self.now) self.now.stores.now
+            (form_node self.now.form)) }
     {
         out.put(b"FORM ");
         out.put_decimal(u64::from(self.form.op().id()));

@@ -1,11 +1,11 @@
 //! Rows of a page.
 
 ghost use Rattle.std.specs.Prelude.{◌≡◌};
-ghost use Rattle.hii_bytes.specs.Watching.{pen_of, Writes};
+ghost use Rattle.hii_bytes.specs.Watching.{Puts, Writes};
 ghost use Rattle.form_page.specs.Texts.{utf8};
 ghost use Rattle.form_page.specs.Pages.{id_text, row_text};
-ghost use Rattle.form_page.specs.RowViews.{value_text};
-ghost use Rattle.form_page.specs.Views.{row_seen};
+ghost use Rattle.form_page.specs.code.RowViews.{value_text};
+ghost use Rattle.form_page.specs.code.Views.{row_seen};
 
 use crate::row_value::RowValue;
 use crate::shown::put_in_columns;
@@ -17,20 +17,20 @@ use std::io::Write;
 /// A row of a page, for one statement (own rule).
 #[derive_where(Clone, Copy)]
 pub struct Row<'a, 's, C: Conditions> {
-    /// Its number on the page, from 1.
+    /// The number of the row on the page, from 1.
     pub number: u32,
     /// A space for a subtitle and a text, else a star where the statement may be changed, an exclamation mark where not.
     pub mark: u8,
     /// The id of its question, if the statement is one.
     pub question: Option<u16>,
-    /// Its prompt, whole: only its line is cut, to 24 columns.
+    /// The prompt of the statement, whole: only the line of the row has it cut, to 24 columns.
     pub prompt: Shown<'a>,
     /// What stands between its brackets.
     pub value: RowValue<'a, 's, C>,
 }
 
 fn put_value<C: Conditions, W: Write>(value: RowValue<'_, '_, C>, out: &mut Watched<W>)
-    ensures { Writes (pen_of W.contents out.old) (pen_of W.contents out.new) (utf8 (value_text value.entry)) }
+    ensures { Puts W.contents out.old out.new (utf8 (value_text value.entry)) }
 {
     let mut text = value.chars();
     while let Some(c) = text.next() {
@@ -39,7 +39,7 @@ fn put_value<C: Conditions, W: Write>(value: RowValue<'_, '_, C>, out: &mut Watc
 }
 
 fn put_id<W: Write>(question: Option<u16>, out: &mut Watched<W>)
-    ensures { Writes (pen_of W.contents out.old) (pen_of W.contents out.new) (id_text question) }
+    ensures { Puts W.contents out.old out.new (id_text question) }
 {
     match question {
         Some(id) => out.put_decimal_right(5, u64::from(id)),
@@ -49,7 +49,7 @@ fn put_id<W: Write>(question: Option<u16>, out: &mut Watched<W>)
 
 /// Writes a row.
 pub(crate) fn put_row<C: Conditions, W: Write>(row: Row<'_, '_, C>, out: &mut Watched<W>)
-    ensures { Writes (pen_of W.contents out.old) (pen_of W.contents out.new) (row_text (row_seen row.entry)) }
+    ensures { Puts W.contents out.old out.new (row_text (row_seen row.entry)) }
 {
     out.put_decimal_right(3, u64::from(row.number));
     out.put(b" ");

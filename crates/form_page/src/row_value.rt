@@ -2,9 +2,9 @@
 
 ghost use Rattle.std.specs.Prelude.{◌≡◌, ◌≤◌};
 
-use crate::ascii::Ascii;
-use crate::choice::Elements;
+use crate::ascii_text::Ascii;
 use crate::hex_digits::HexDigits;
+use crate::option_texts::Elements;
 use crate::value_chars::{Behind, RowValueChars};
 use guard_policy::Conditions;
 use hii_languages::Shown;
@@ -49,10 +49,10 @@ pub struct Hexadecimal {
 }
 
 impl<'a, 's, C: Conditions> RowValue<'a, 's, C> {
-    ghost use Rattle.form_page.specs.RowViews.{value_text};
-    ghost use Rattle.form_page.specs.CharViews.{value_chars_left};
+    ghost use Rattle.form_page.specs.code.RowViews.{value_text};
+    ghost use Rattle.form_page.specs.code.CharViews.{value_chars_left};
 
-    /// Its characters, which stand between the brackets of the row.
+    /// The characters of the value, which stand between the brackets of the row.
     pub fn chars(self) -> RowValueChars<'a, 's, C>
         ensures { value_chars_left result ≡ value_text self.entry }
     {

@@ -1,13 +1,13 @@
 //! The rows of statements.
 
 ghost use Rattle.std.specs.Prelude.{◌≡◌};
-ghost use Rattle.ifr_opcodes.specs.Ops.{bytes_of as op_bytes};
-ghost use Rattle.ifr_scopes.specs.Checked.{IsNodeOf};
-ghost use Rattle.ifr_scopes.specs.Lists.{statement_node, kind_op};
-ghost use Rattle.guard_policy.specs.Views.{bytes_of};
-ghost use Rattle.form_page.specs.PageViews.{texts_of, world_of};
+ghost use Rattle.ifr_opcodes.specs.code.Ops.{bytes_of as op_bytes};
+ghost use Rattle.ifr_scopes.specs.code.Checked.{IsNodeOf};
+ghost use Rattle.ifr_scopes.specs.code.Lists.{statement_node, kind_op};
+ghost use Rattle.guard_policy.specs.code.Views.{bytes_of};
+ghost use Rattle.form_page.specs.code.PageViews.{texts_of, world_of};
 ghost use Rattle.form_page.specs.Pages as pages;
-ghost use Rattle.form_page.specs.Views.{row_seen};
+ghost use Rattle.form_page.specs.code.Views.{row_seen};
 
 use crate::decisions::is_fixed;
 use crate::page::Page;
@@ -43,7 +43,8 @@ pub(crate) fn row_of<'a, 's, C: Conditions>(
     statement: Statement<'a>,
 ) -> Row<'a, 's, C>
     requires { IsNodeOf (bytes_of page.policy) (statement_node statement) }
-    ensures { row_seen result ≡ pages.row_of (texts_of page.entry) (world_of page.entry) page.entry.stores.now number (statement_node statement.entry) }
+    ensures { row_seen result ≡ pages.row_of (texts_of page.entry)
+        (world_of page.entry) page.entry.stores.now number (statement_node statement.entry) }
 {
     Row {
         number,

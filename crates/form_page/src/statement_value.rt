@@ -1,20 +1,20 @@
 //! What the rows of statements show.
 
 ghost use Rattle.std.specs.Prelude.{◌≡◌, ◌%◌, ℕ, if◌then◌else◌, Some, None, option_map, List, length};
-ghost use Rattle.ifr_opcodes.specs.Ops.{bytes_of as op_bytes};
+ghost use Rattle.ifr_opcodes.specs.code.Ops.{bytes_of as op_bytes};
 ghost use Rattle.ifr_expr.specs.Values.{text as text_value};
-ghost use Rattle.ifr_expr.specs.Views.{value_of};
-ghost use Rattle.ifr_scopes.specs.Checked.{IsNodeOf};
-ghost use Rattle.ifr_scopes.specs.Lists.{statement_node};
+ghost use Rattle.ifr_expr.specs.code.Views.{value_of};
+ghost use Rattle.ifr_scopes.specs.code.Checked.{IsNodeOf};
+ghost use Rattle.ifr_scopes.specs.code.Lists.{statement_node};
 ghost use Rattle.ifr_scopes.specs.Nodes.{nodes_of, is_question};
 ghost use Rattle.hii_questions.specs.Fields.{asked};
-ghost use Rattle.hii_questions.specs.Views.{question_view};
-ghost use Rattle.guard_policy.specs.Views.{bytes_of};
-ghost use Rattle.form_page.specs.PageViews.{texts_of, world_of};
+ghost use Rattle.hii_questions.specs.code.Views.{question_view};
+ghost use Rattle.guard_policy.specs.code.Views.{bytes_of};
+ghost use Rattle.form_page.specs.code.PageViews.{texts_of, world_of};
 ghost use Rattle.form_page.specs.RowValues as values;
-ghost use Rattle.form_page.specs.RowViews.{value_text};
+ghost use Rattle.form_page.specs.code.RowViews.{value_text};
 
-use crate::choice::{Elements, option_text};
+use crate::option_texts::{Elements, option_text};
 use crate::page::Page;
 use crate::row_value::{Hexadecimal, RowValue};
 use guard_policy::Conditions;
@@ -34,7 +34,8 @@ fn checkbox_value<'a, 's, C: Conditions>(value: Value<'_>) -> RowValue<'a, 's, C
 }
 
 fn numeric_value<'a, 's, C: Conditions>(op: NumericOp<'_>, value: Value<'_>) -> RowValue<'a, 's, C>
-    ensures { value_text result ≡ values.numeric_shown (op_bytes op.entry.op) (value_of value.entry) }
+    ensures { value_text result ≡ values.numeric_shown (op_bytes op.entry.op)
+        (value_of value.entry) }
 {
     let Value::Number(number) = value else {
         return RowValue::Empty;
@@ -53,7 +54,8 @@ fn one_of_value<'a, 's, C: Conditions>(
     value: Value<'_>,
 ) -> RowValue<'a, 's, C>
     requires { IsNodeOf (bytes_of page.policy) (statement_node statement) }
-    ensures { value_text result ≡ values.one_of_shown (texts_of page.entry) (world_of page.entry) (statement_node statement.entry) (value_of value.entry) }
+    ensures { value_text result ≡ values.one_of_shown (texts_of page.entry) (world_of page.entry)
+        (statement_node statement.entry) (value_of value.entry) }
 {
     match value {
         Value::Number(number) => RowValue::OneOf(option_text(page, statement, number)),
@@ -67,7 +69,8 @@ fn list_value<'a, 's, C: Conditions>(
     value: Value<'s>,
 ) -> RowValue<'a, 's, C>
     requires { IsNodeOf (bytes_of page.policy) (statement_node statement) }
-    ensures { value_text result ≡ values.list_shown (texts_of page.entry) (world_of page.entry) (statement_node statement.entry) (value_of value.entry) }
+    ensures { value_text result ≡ values.list_shown (texts_of page.entry) (world_of page.entry)
+        (statement_node statement.entry) (value_of value.entry) }
 {
     let Value::Buffer(bytes) = value else {
         return RowValue::Empty;
@@ -106,7 +109,8 @@ fn stored_value<'a, 's, C: Conditions>(
 ) -> RowValue<'a, 's, C>
     requires node { IsNodeOf (bytes_of page.policy) (statement_node statement) }
     requires whole { (units : List ℕ) → value_of value ≡ text_value units → length units % 2 ≡ 0 }
-    ensures { value_text result ≡ values.stored_shown (texts_of page.entry) (world_of page.entry) (statement_node statement.entry) (value_of value.entry) }
+    ensures { value_text result ≡ values.stored_shown (texts_of page.entry) (world_of page.entry)
+        (statement_node statement.entry) (value_of value.entry) }
 {
     let kind = statement.kind();
     if let StatementKind::Checkbox(_) = kind {
@@ -136,20 +140,22 @@ fn question_of<'a, C: Conditions>(
     statement: Statement<'a>,
 ) -> Option<Question<'a>>
     requires { IsNodeOf (bytes_of page.policy) (statement_node statement) }
-    ensures { option_map question_view result ≡ (if is_question (statement_node statement.entry) then Some (asked (nodes_of (bytes_of page.entry.policy)) (statement_node statement.entry)) else None) }
+    ensures { option_map question_view result
+        ≡ (if is_question (statement_node statement.entry)
+        then Some (asked (nodes_of (bytes_of page.entry.policy)) (statement_node statement.entry))
+        else None) }
 {
-    // The package is accepted: each node is the one at its place.
-    page.policy.forms().bytes();
     page.questions.at(statement.place())
 }
 
-// The same for a statement, of which only a question has a value.
+// What the row of a statement shows of its value, which only a question has.
 fn question_value<'a, 's, C: Conditions>(
     page: Page<'a, 's, C>,
     statement: Statement<'a>,
 ) -> RowValue<'a, 's, C>
     requires { IsNodeOf (bytes_of page.policy) (statement_node statement) }
-    ensures { value_text result ≡ values.question_shown (texts_of page.entry) (world_of page.entry) page.entry.stores.now (statement_node statement.entry) }
+    ensures { value_text result ≡ values.question_shown (texts_of page.entry)
+        (world_of page.entry) page.entry.stores.now (statement_node statement.entry) }
 {
     match question_of(page, statement) {
         Some(question) => stored_value(page, statement, read_value(question, page.stores)),
@@ -163,7 +169,8 @@ pub(crate) fn statement_value<'a, 's, C: Conditions>(
     statement: Statement<'a>,
 ) -> RowValue<'a, 's, C>
     requires { IsNodeOf (bytes_of page.policy) (statement_node statement) }
-    ensures { value_text result ≡ values.value_shown (texts_of page.entry) (world_of page.entry) page.entry.stores.now (statement_node statement.entry) }
+    ensures { value_text result ≡ values.value_shown (texts_of page.entry)
+        (world_of page.entry) page.entry.stores.now (statement_node statement.entry) }
 {
     match statement.kind() {
         StatementKind::Text(op) => RowValue::Text(page.languages.text(page.choice, op.second())),

@@ -3,17 +3,17 @@
 ghost use Rattle.std.specs.Prelude.{◌≡◌, ◌≤◌, ◌++◌, [], length, codes, option_map};
 ghost use Rattle.ifr_opcodes.specs.declared.numbers.Display.TheVariants.{Hexadecimal as AsHexadecimal};
 ghost use Rattle.std.specs.Iterator.{YieldsFirstBy};
-ghost use Rattle.hii_languages.specs.Views.{text_of, chars_left};
+ghost use Rattle.hii_languages.specs.code.Views.{text_of, chars_left};
 ghost use Rattle.sibt_strings.specs.Units.{chars_of_units};
-ghost use Rattle.sibt_strings.specs.Views.{units_in};
-ghost use Rattle.form_page.specs.CharViews.{behind_text, texts_left, value_chars_left};
-ghost use Rattle.form_page.specs.Elements.{elements_left};
-ghost use Rattle.form_page.specs.Pieces.{ascii_left};
+ghost use Rattle.sibt_strings.specs.code.Views.{units_in};
+ghost use Rattle.form_page.specs.code.CharViews.{behind_text, texts_left, value_chars_left};
+ghost use Rattle.form_page.specs.code.Elements.{elements_left};
+ghost use Rattle.form_page.specs.code.Pieces.{ascii_left};
 ghost use Rattle.form_page.specs.RowValues.{number_text, one_of_text, list_text, choice_text};
 
-use crate::ascii::Ascii;
-use crate::choice::Elements;
+use crate::ascii_text::Ascii;
 use crate::hex_digits::HexDigits;
+use crate::option_texts::Elements;
 use crate::row_value::Hexadecimal;
 use guard_policy::Conditions;
 use hii_languages::{Shown, ShownChars};
@@ -48,7 +48,8 @@ fn choice_parts<'a>(
     requires shown { length front.now ≤ 40 }
     requires missing { length marked.now ≤ 40 }
     requires mark { marked.now ≡ front.now ++ codes "?" }
-    ensures { ascii_left result.0 ++ chars_left result.1 ≡ front.now ++ choice_text (option_map text_of choice.entry) }
+    ensures { ascii_left result.0 ++ chars_left result.1 ≡ front.now
+        ++ choice_text (option_map text_of choice.entry) }
 {
     match choice {
         Some(text) => (Ascii::of(front), text.chars()),
@@ -63,7 +64,8 @@ impl<'a, 's, C: Conditions> RowValueChars<'a, 's, C> {
         shown: ShownChars<'a>,
         behind: Behind<'a, 's, C>,
     ) -> RowValueChars<'a, 's, C>
-        ensures { value_chars_left result ≡ ascii_left ascii ++ (chars_left shown.entry ++ behind_text behind.entry) }
+        ensures { value_chars_left result ≡ ascii_left ascii
+            ++ (chars_left shown.entry ++ behind_text behind.entry) }
     {
         RowValueChars {
             ascii,

@@ -1,7 +1,8 @@
 -- What answers tell of denials.
 use Rattle.std.proofs.Common.{◌≡◌, Option, Some, None, Ok, Err, refl, ap}
 use Rattle.std.specs.Prelude.{is_some, is_none, is_ok, is_err}
-use Rattle.guard_policy.specs.Policy.{or_else, unless}
+use Rattle.guard_policy.specs.Policy.{or_else}
+use Rattle.guard_policy.specs.code.Answers.{unless}
 use Rattle.guard_policy.specs.declared.denial.Denial.{Denial}
 
 pub allowed : (denial : Option Denial) → is_ok (unless denial) ≡ is_none denial

@@ -3,7 +3,7 @@ use Rattle.std.proofs.Common.{◌≡◌, ℕ, true, refl, inl, inr}
 use Rattle.std.proofs.lemmas.Bool.{cases_Bool}
 use Rattle.ifr_opcodes.specs.Forest.{Placed}
 use Rattle.ifr_scopes.specs.Guards.{guards}
-use Rattle.ifr_scopes.specs.Index.{is_indexed, guards_of_indexed, lock_of_indexed}
+use Rattle.ifr_scopes.specs.code.Index.{is_indexed, guards_of_indexed, lock_of_indexed}
 use Rattle.ifr_scopes.specs.Locks.{first_lock}
 use Rattle.ifr_scopes.specs.Nodes.{is_form, is_statement, is_option}
 use Rattle.guard_policy.specs.Policy.{covered_by, covered}

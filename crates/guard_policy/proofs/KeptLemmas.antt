@@ -1,9 +1,10 @@
 -- Decisions by what is kept of conditions.
 use Rattle.std.proofs.Common.{◌≡◌, ℕ, Bool, Result, ap, ◌∙◌}
 use Rattle.ifr_opcodes.specs.Forest.{Placed}
-use Rattle.guard_policy.specs.Policy.{unless}
-use Rattle.guard_policy.specs.Support.{DecidesBy, denial}
-use Rattle.guard_policy.specs.Views.{world, world_by}
+use Rattle.guard_policy.specs.code.Answers.{unless}
+use Rattle.guard_policy.specs.code.KeptConditions.{DecidesBy}
+use Rattle.guard_policy.specs.laws.Support.{denial}
+use Rattle.guard_policy.specs.code.Views.{world, world_by}
 use Rattle.guard_policy.specs.declared.denial.Denial.{Denial}
 use Rattle.guard_policy.specs.declared.policy.Policy.{Policy}
 use Rattle.guard_policy.specs.declared.support.Decision.{Decision}

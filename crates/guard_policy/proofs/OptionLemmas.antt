@@ -3,9 +3,9 @@ use Rattle.std.proofs.Common.{◌≡◌, ℕ, suc, List, [], ◌∷◌, get_or, 
 use Rattle.std.specs.Prelude.{Contains, filter}
 use Rattle.std.proofs.lemmas.Bool.{cases_Bool, cond-true, cond-false}
 use Rattle.std.proofs.lemmas.List.Elements.{Contains-get_or}
-use Rattle.ifr_opcodes.specs.Forest.{Placed, below, Spells}
+use Rattle.ifr_opcodes.specs.Forest.{Placed, below, SpellsForest}
 use Rattle.ifr_opcodes.specs.Reading.{tree_of}
-use Rattle.ifr_scopes.specs.Checked.{IsNodeOf, AreNodesOf}
+use Rattle.ifr_scopes.specs.code.Checked.{IsNodeOf, AreNodesOf}
 use Rattle.ifr_scopes.specs.Nodes.{nodes_of, is_option, is_question, options}
 use Rattle.ifr_scopes.proofs.PathLemmas.{kept}
 use Rattle.ifr_scopes.proofs.PlaceLemmas.{is_found}
@@ -17,7 +17,7 @@ options_within q n w = elim (cases_Bool (is_question q)) [
   | inr none ↦ let nowhere = subst (λ (l : List Placed). Contains l n) (cond-false (is_question q) (filter is_option (below q)) [] none) w in absurd (omega (arith, nowhere.1))
 ]
 
-pub options_are_nodes : (bytes : List ℕ) (q : Placed) → Spells bytes (tree_of bytes) → IsNodeOf bytes q → AreNodesOf bytes (options q)
+pub options_are_nodes : (bytes : List ℕ) (q : Placed) → SpellsForest bytes (tree_of bytes) → IsNodeOf bytes q → AreNodesOf bytes (options q)
 options_are_nodes bytes q s is = λ i d lt.
     let within = below_within (tree_of bytes) 4 [] q (get_or (options q) i d) (contains_found (nodes_of bytes) q.place q is) (options_within q _ (Contains-get_or (options q) i d lt)) in
     is_found bytes (tree_of bytes) (get_or (options q) i d) s within

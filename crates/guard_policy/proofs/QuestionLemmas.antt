@@ -2,14 +2,14 @@
 use Rattle.std.proofs.Common.{◌≡◌, ℕ, zero, suc, eqb, true, false, Some, None, List, [], ◌∷◌, map, refl, sym, ap, ◌∙◌, inl, inr, arith}
 use Rattle.std.specs.Prelude.{Contains, if◌then◌else◌, filter}
 use Rattle.std.proofs.lemmas.Bool.{cases_Bool, eq-eqb, eqb-true, cond-true, cond-false}
-use Rattle.ifr_opcodes.specs.Forest.{Placed, node_at, Spells}
+use Rattle.ifr_opcodes.specs.Forest.{Placed, node_at, SpellsForest}
 use Rattle.ifr_opcodes.specs.Reading.{tree_of}
-use Rattle.ifr_scopes.specs.Checked.{IsNodeOf}
+use Rattle.ifr_scopes.specs.code.Checked.{IsNodeOf}
 use Rattle.ifr_scopes.specs.Nodes.{nodes_of, is_question}
 use Rattle.ifr_scopes.proofs.PlaceLemmas.{is_found}
 use Rattle.ifr_scopes.proofs.ViewLemmas.{contains_found, further}
 use Rattle.hii_questions.specs.Fields.{Asked, asked, questions}
-use Rattle.hii_questions.specs.Tables.{first_at}
+use Rattle.hii_questions.specs.code.Tables.{first_at}
 
 -- each of these nodes is the one that is found at its place among all
 abbrev AreFound : List Placed → List Placed → Type 0
@@ -61,7 +61,7 @@ not_found ns (m ∷ l) n each is at =
     ]
 
 -- the question at the place of a node is the node, if it is one
-pub question_there : (bytes : List ℕ) (n : Placed) → Spells bytes (tree_of bytes) → IsNodeOf bytes n
+pub question_there : (bytes : List ℕ) (n : Placed) → SpellsForest bytes (tree_of bytes) → IsNodeOf bytes n
     → first_at (questions (nodes_of bytes)) n.place ≡ (if is_question n then Some (asked (nodes_of bytes) n) else None)
 question_there bytes n s at =
     let ns = nodes_of bytes in

@@ -13,17 +13,18 @@ use Rattle.ifr_expr.specs.Values.{holds}
 use Rattle.ifr_expr.proofs.DependenceLemmas.{depends}
 use Rattle.ifr_scopes.specs.Conditions.{expression_tree}
 use Rattle.ifr_scopes.specs.Guards.{guards}
-use Rattle.ifr_scopes.specs.Lists.{form_node, statement_node}
+use Rattle.ifr_scopes.specs.code.Lists.{form_node, statement_node}
 use Rattle.ifr_scopes.specs.Locks.{first_lock}
 use Rattle.ifr_scopes.specs.Nodes.{is_no_submit, options, inconsistents, warnings, this_of}
 use Rattle.ifr_scopes.specs.Rules.{rules_among}
 use Rattle.hii_varstore.specs.Stores.{StoreMap}
 use Rattle.hii_questions.specs.Answers.{answers}
-use Rattle.hii_questions.specs.Views.{question_node}
+use Rattle.hii_questions.specs.code.Views.{question_node}
 use Rattle.hii_questions.specs.declared.denial.DenialKind.TheVariants.{GrayOutIf, Locked, InconsistentIf, NoSubmitIf}
-use Rattle.guard_policy.specs.Policy.{denied, told, or_else, is_removed, hides, hiding, hidden, grays_out, fixed_itself, fixed, all_fixed, closed, inconsistent, unsubmitted, warned}
-use Rattle.guard_policy.specs.Support.{suppressing, graying_out, around, counts, conditions, denial, warning_of, ids_behind, support_over, AnswersAgree, until_met, is_by_first}
-use Rattle.guard_policy.specs.World.{World, is_met, is_met_over, otherwise}
+use Rattle.guard_policy.specs.Policy.{denied_by, told, or_else, is_removed, hides, hiding, hidden, grays_out, fixed_itself, fixed, all_fixed, closed, inconsistent, unsubmitted, warned}
+use Rattle.guard_policy.specs.laws.Support.{suppressing, graying_out, around, counts, conditions, denial, warning_of, ids_behind, support_over, AnswersAgree, until_met, is_by_first}
+use Rattle.guard_policy.specs.World.{World, is_met, is_met_over}
+use Rattle.guard_policy.specs.code.Worlds.{otherwise}
 use Rattle.guard_policy.specs.declared.denial.Denial.{Denial}
 use Rattle.guard_policy.specs.declared.support.Decision.{Decision}
 use Rattle.guard_policy.specs.declared.support.Decision.TheVariants.{Listed, Changeable, OptionOpen, Opens, Consistent, MaySubmit, Warnings}
@@ -188,10 +189,10 @@ module _ (w : World) (met : Placed → Bool) where
   hidden_same n h = hidden_stays n (until_same (suppressing n) h)
 
   abbrev grayed_out : World → Placed → Option Denial
-  grayed_out its n = option_map (denied GrayOutIf) (find (grays_out its) (guards n))
+  grayed_out its n = option_map (denied_by GrayOutIf) (find (grays_out its) (guards n))
 
   grayed_stays : (n : Placed) → Same (until_met w (graying_out n)) → grayed_out v n ≡ grayed_out w n
-  grayed_stays n h = ap (option_map (denied GrayOutIf)) (first_stays (λ _. false) (λ g. number g.op == GRAY_OUT_IF) (guards n) h)
+  grayed_stays n h = ap (option_map (denied_by GrayOutIf)) (first_stays (λ _. false) (λ g. number g.op == GRAY_OUT_IF) (guards n) h)
 
   fixed_stays : (n : Placed) → Same (until_met w (around n)) → fixed v n ≡ fixed w n
   fixed_stays n h =
@@ -199,7 +200,7 @@ module _ (w : World) (met : Placed → Bool) where
       let uncovered : hidden w n ≡ None → grayed_out v n ≡ grayed_out w n =
       λ none. grayed_stays n (back_same (suppressing n) (graying_out n) (all_unmet (is_removed w.removed) (λ g. number g.op == SUPPRESS_IF) (guards n) (none_found hiding (find (hides w) (guards n)) none)) h) in
       ap (λ (o : Option Denial). or_else o (fixed_itself w.nodes n))
-      (covered_same (hidden w n) (hidden v n) (grayed_out w n) (grayed_out v n) (option_map (denied Locked) (first_lock w.nodes n)) seen uncovered)
+      (covered_same (hidden w n) (hidden v n) (grayed_out w n) (grayed_out v n) (option_map (denied_by Locked) (first_lock w.nodes n)) seen uncovered)
 
   pub fixed_same : (n : Placed) → Same (around n) → fixed v n ≡ fixed w n
   fixed_same n h = fixed_stays n (until_same (around n) h)

@@ -11,18 +11,20 @@ use Rattle.ifr_opcodes.specs.Forest.{Ancestor, Placed, node_at}
 use Rattle.ifr_opcodes.specs.Opcode.{number}
 use Rattle.ifr_opcodes.specs.Reading.{tree_of}
 use Rattle.ifr_scopes.specs.Accepted.{IsAccepted}
-use Rattle.ifr_scopes.specs.Checked.{IsNodeOf, or_empty}
+use Rattle.ifr_scopes.specs.code.Checked.{IsNodeOf, or_empty}
 use Rattle.ifr_scopes.specs.Guards.{is_guard, nodes_on, ancestors, guards}
-use Rattle.ifr_scopes.specs.Index.{is_conditional, kind_at}
+use Rattle.ifr_scopes.specs.code.Index.{is_conditional, kind_at}
 use Rattle.ifr_scopes.specs.Kinds.{is_condition_number}
-use Rattle.ifr_scopes.specs.Lists.{form_node, statement_node}
+use Rattle.ifr_scopes.specs.code.Lists.{form_node, statement_node}
 use Rattle.ifr_scopes.specs.Nodes.{nodes_of, is_no_submit, options}
 use Rattle.ifr_scopes.proofs.PlaceLemmas.{is_found}
 use Rattle.ifr_scopes.proofs.ScopeLemmas.{ancestor_node}
 use Rattle.hii_varstore.specs.Stores.{StoreMap}
-use Rattle.hii_questions.specs.Views.{question_node}
-use Rattle.guard_policy.specs.Support.{IsSubjectOf, Tells, TellsAll, around, conditions, counts, graying_out, is_by_kept, is_kept, suppressing}
-use Rattle.guard_policy.specs.World.{World, is_met, is_met_at, is_met_if, world_over}
+use Rattle.hii_questions.specs.code.Views.{question_node}
+use Rattle.guard_policy.specs.laws.Support.{IsSubjectOf, around, conditions, counts, graying_out, suppressing}
+use Rattle.guard_policy.specs.code.KeptConditions.{Tells, TellsAll, is_by_kept, is_kept}
+use Rattle.guard_policy.specs.World.{World, is_met, world_over}
+use Rattle.guard_policy.specs.code.Worlds.{is_met_at, is_met_if}
 use Rattle.guard_policy.specs.declared.support.Decision.{Decision}
 use Rattle.guard_policy.specs.declared.support.Decision.TheVariants.{Listed, Changeable, OptionOpen, Opens, Consistent, MaySubmit, Warnings}
 use Rattle.guard_policy.proofs.OptionLemmas.{options_are_nodes}

@@ -1,6 +1,6 @@
 -- What is seen, what may be changed and submitted, and which opcode forbids it (UEFI 2.8, 33.2.5.10 Forms Processing; the opcodes
 -- are those of 33.3.8.3; which of several is named is an own rule).
-use Rattle.std.specs.Prelude.{ℕ, Bool, ◌==◌, ◌&&◌, ◌||◌, not, if◌then◌else◌, Option, Some, None, option_map, is_none, Result, Ok, Err, List, [], ◌∷◌, filter}
+use Rattle.std.specs.Prelude.{ℕ, Bool, ◌==◌, ◌&&◌, ◌||◌, not, if◌then◌else◌, Option, Some, None, option_map, is_none, List, [], ◌∷◌, filter}
 use Rattle.std.specs.List.{find, list_any}
 use Rattle.ifr_opcodes.specs.declared.codes.TheConstants.{SUPPRESS_IF, GRAY_OUT_IF, DISABLE_IF}
 use Rattle.ifr_opcodes.specs.Opcode.{number}
@@ -18,10 +18,10 @@ use Rattle.guard_policy.specs.World.{World, is_met}
 use Rattle.guard_policy.specs.declared.denial.Denial.{Denial}
 
 -- a denial that names a node as what decides, without a text
-abbrev pub denied : DenialKind → Placed → Denial
-denied kind n = record { kind = kind; place = n.place; message = 0 }
+abbrev pub denied_by : DenialKind → Placed → Denial
+denied_by kind n = record { kind = kind; place = n.place; message = 0 }
 
--- the same with the text of its opcode
+-- a denial that names a node as what decides, with the text of its opcode
 abbrev pub told : DenialKind → Placed → Denial
 told kind n = record { kind = kind; place = n.place; message = message n.op }
 
@@ -42,7 +42,7 @@ abbrev pub hides : World → Placed → Bool
 hides w guard = is_removed w.removed guard || suppresses w guard
 
 abbrev pub hiding : Placed → Denial
-hiding guard = denied (if number guard.op == DISABLE_IF then DisableIf else SuppressIf) guard
+hiding guard = denied_by (if number guard.op == DISABLE_IF then DisableIf else SuppressIf) guard
 
 -- The outermost of guards that hides decides.
 abbrev pub hidden_among : World → List Placed → Option Denial
@@ -59,22 +59,25 @@ grays_out w guard = number guard.op == GRAY_OUT_IF && is_met w guard
 -- What stands in scopes of guards, and is locked, may not be changed: it is hidden, else the outermost GRAY_OUT_IF that holds
 -- decides, else the LOCKED.
 abbrev pub covered_by : World → List Placed → Option Placed → Option Denial
-covered_by w gs lock = or_else (hidden_among w gs) (or_else (option_map (denied GrayOutIf) (find (grays_out w) gs)) (option_map (denied Locked) lock))
+covered_by w gs lock =
+    or_else (hidden_among w gs)
+    (or_else (option_map (denied_by GrayOutIf) (find (grays_out w) gs))
+    (option_map (denied_by Locked) lock))
 
 -- Of several LOCKED the one in the outermost scope decides, then the first by place.
 abbrev pub covered : World → Placed → Option Denial
 covered w n = covered_by w (guards n) (first_lock w.nodes n)
 
--- What may not be changed for want of what it needs (own rule): a reference that leads to no form of this form set, and any
+-- What may not be changed, as it lacks what it needs (own rule): a reference that leads to no form of this form set, and any
 -- other question without a field, as dates, times and actions are.
-abbrev pub is_outside : Asked → Bool
-is_outside q = if is_reference q.node then is_none (ref_target q.node.op) else is_none q.field
+abbrev pub is_never_changed : Asked → Bool
+is_never_changed q = if is_reference q.node then is_none (ref_target q.node.op) else is_none q.field
 
 -- A question with the flag READ_ONLY is fixed by itself (33.3.8.2.2, EFI_IFR_FLAG_READ_ONLY), else one that is outside.
 abbrev pub fixed_question : Asked → Option Denial
 fixed_question q =
-    if is_read_only q.node.op then Some (denied ReadOnly q.node)
-    else if is_outside q then Some (denied Outside q.node) else None
+    if is_read_only q.node.op then Some (denied_by ReadOnly q.node)
+    else if is_never_changed q then Some (denied_by Outside q.node) else None
 
 -- What is no question is not fixed by itself.
 abbrev pub fixed_itself : List Placed → Placed → Option Denial
@@ -115,9 +118,5 @@ abbrev pub denies_submission : World → Placed → Bool
 denies_submission w n = not (list_any (is_removed w.removed) (guards n)) && is_met w n
 
 abbrev pub unsubmitted : World → Option Denial
-unsubmitted w = option_map (told NoSubmitIf) (find (denies_submission w) (filter is_no_submit w.nodes))
-
--- an answer that names what forbids, if something does
-abbrev pub unless : Option Denial → Result Unit Denial
-unless None = Ok tt
-unless (Some denial) = Err denial
+unsubmitted w =
+    option_map (told NoSubmitIf) (find (denies_submission w) (filter is_no_submit w.nodes))

@@ -1,12 +1,11 @@
 -- What a decision looks at.
-use Rattle.std.specs.Prelude.{ℕ, Bool, false, ◌==◌, ◌&&◌, Option, Some, None, List, map, filter}
+use Rattle.std.specs.Prelude.{ℕ, Bool, ◌==◌, ◌&&◌, List, map, filter}
 use Rattle.ifr_opcodes.specs.declared.codes.TheConstants.{DISABLE_IF}
 use Rattle.ifr_opcodes.specs.Opcode.{number}
 use Rattle.ifr_opcodes.specs.Forest.{Placed}
 use Rattle.ifr_expr.specs.Values.{Value, holds}
 use Rattle.ifr_expr.specs.Meaning.{Rule, value}
 use Rattle.ifr_scopes.specs.Conditions.{expression_tree}
-use Rattle.ifr_scopes.specs.Index.{conditional_at}
 use Rattle.ifr_scopes.specs.Nodes.{this_of}
 use Rattle.ifr_scopes.specs.Rules.{rules_among}
 use Rattle.hii_varstore.specs.Stores.{StoreMap}
@@ -26,26 +25,14 @@ is_met w n = w.met n
 abbrev pub is_met_by : List Rule → (ℕ → Value) → Placed → Bool
 is_met_by rules answers n = holds (value rules answers (this_of n) (expression_tree n))
 
--- the same over the nodes of a form set and its stores: whether a question is hidden itself does not matter to its answer (own
--- rule)
+-- The condition of a node holds over the nodes of a form set and its stores: whether a question is hidden itself does not
+-- matter to its answer (own rule).
 abbrev pub is_met_over : List Placed → StoreMap → Placed → Bool
 is_met_over ns stores n = is_met_by (rules_among ns) (answers ns stores) n
 
 -- the world of a form set and its stores
 abbrev pub world_over : List Placed → List ℕ → StoreMap → World
 world_over ns removed stores = record { nodes = ns; removed = removed; met = is_met_over ns stores }
-
--- whether the condition at a place holds; not so where none stands
-abbrev pub is_met_if : World → Option Placed → Bool
-is_met_if w None = false
-is_met_if w (Some n) = is_met w n
-
-abbrev pub is_met_at : World → ℕ → Bool
-is_met_at w place = is_met_if w (conditional_at w.nodes place)
-
--- a world where other conditions hold
-abbrev pub otherwise : World → (Placed → Bool) → World
-otherwise w met = record { nodes = w.nodes; removed = w.removed; met = met }
 
 -- the places of the DISABLE_IFs whose conditions hold over the stores at opening (33.3.8.3, EFI_IFR_DISABLE_IF: what stands in its
 -- scope is as if it were not there)

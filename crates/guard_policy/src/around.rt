@@ -3,14 +3,13 @@
 ghost use Rattle.std.specs.Prelude.{◌≡◌, true};
 ghost use Rattle.std.specs.Iterator.{YieldsFirstBy};
 ghost use Rattle.ifr_opcodes.specs.Forest.{Placed};
-ghost use Rattle.ifr_scopes.specs.Checked.{IsNodeOf};
-ghost use Rattle.ifr_scopes.specs.Index.{is_indexed};
-ghost use Rattle.ifr_scopes.specs.Lists.{guard_node};
-ghost use Rattle.guard_policy.specs.AskedLeft.{numbered_left, around_left, around_one_left};
-ghost use Rattle.guard_policy.specs.Support.{suppressing, around};
+ghost use Rattle.ifr_scopes.specs.code.Checked.{IsNodeOf};
+ghost use Rattle.ifr_scopes.specs.code.Index.{is_indexed};
+ghost use Rattle.ifr_scopes.specs.code.Lists.{guard_node};
+ghost use Rattle.guard_policy.specs.code.AskedLeft.{numbered_left, around_left, around_one_left};
+ghost use Rattle.guard_policy.specs.laws.Support.{suppressing, around};
 
 use ifr_opcodes::{GRAY_OUT_IF, SUPPRESS_IF};
-use ifr_scopes::laws::guards_and_locks_are_found;
 use ifr_scopes::{Forms, Guard, GuardsAt};
 
 // The next guard of a number.
@@ -34,11 +33,11 @@ pub(crate) struct Around<'a, 's> {
 }
 
 impl<'a, 's> Around<'a, 's> {
-    /// Those that may hide the form, statement or option at a place.
+    /// The guards that may hide the form, statement or option at a place.
     pub(crate) fn hiding(forms: &'s Forms<'a>, place: u32) -> Around<'a, 's>
-        ensures { (n : Placed) → IsNodeOf forms.now n → is_indexed n ≡ true → n.place ≡ place → around_left result ≡ suppressing n }
+        ensures { (n : Placed) → IsNodeOf forms.now n → is_indexed n ≡ true → n.place ≡ place
+            → around_left result ≡ suppressing n }
     {
-        guards_and_locks_are_found();
         // The package is accepted.
         forms.bytes();
         Around {
@@ -47,11 +46,11 @@ impl<'a, 's> Around<'a, 's> {
         }
     }
 
-    /// Those that may hide it or let it not be changed.
+    /// The guards that may hide the form, statement or option at a place or let it not be changed.
     pub(crate) fn changing(forms: &'s Forms<'a>, place: u32) -> Around<'a, 's>
-        ensures { (n : Placed) → IsNodeOf forms.now n → is_indexed n ≡ true → n.place ≡ place → around_left result ≡ around n }
+        ensures { (n : Placed) → IsNodeOf forms.now n → is_indexed n ≡ true → n.place ≡ place
+            → around_left result ≡ around n }
     {
-        guards_and_locks_are_found();
         // The package is accepted.
         forms.bytes();
         let graying_out = forms.guards_at(place);

@@ -1,7 +1,7 @@
 //! Whether conditions hold.
 
 ghost use Rattle.std.specs.Prelude.{◌≡◌};
-ghost use Rattle.ifr_scopes.specs.AnyConditions.{any_condition_node};
+ghost use Rattle.ifr_scopes.specs.code.AnyConditions.{any_condition_node};
 ghost use Rattle.ifr_scopes.specs.Nodes.{nodes_of};
 ghost use Rattle.guard_policy.specs.World.{is_met_over};
 
@@ -27,7 +27,7 @@ pub trait Conditions {
 pub(crate) trait Verdicts<'a> {
     ghost use Rattle.std.specs.Prelude.{◌≡◌, Bool};
     ghost use Rattle.ifr_opcodes.specs.Forest.{Placed};
-    ghost use Rattle.ifr_scopes.specs.AnyConditions.{any_condition_node};
+    ghost use Rattle.ifr_scopes.specs.code.AnyConditions.{any_condition_node};
 
     ghost met: { Self → Placed → Bool };
 
@@ -44,7 +44,7 @@ pub struct Evaluated<'p, 'a, 's> {
 }
 
 impl<'p, 'a, 's> Verdicts<'a> for Evaluated<'p, 'a, 's> {
-    ghost use Rattle.guard_policy.specs.Views.{world};
+    ghost use Rattle.guard_policy.specs.code.Views.{world};
     ghost use Rattle.guard_policy.specs.World.{is_met};
 
     ghost met = { λ it n. is_met (world it.policy it.stores.now) n };
@@ -56,8 +56,8 @@ impl<'p, 'a, 's> Verdicts<'a> for Evaluated<'p, 'a, 's> {
 }
 
 impl<'p, 'a, 's> Conditions for Evaluated<'p, 'a, 's> {
-    ghost use Rattle.guard_policy.specs.Views.{world};
-    ghost use Rattle.guard_policy.specs.World.{is_met_at};
+    ghost use Rattle.guard_policy.specs.code.Views.{world};
+    ghost use Rattle.guard_policy.specs.code.Worlds.{is_met_at};
 
     ghost holding = { λ it place. is_met_at (world it.policy it.stores.now) place };
 
@@ -94,7 +94,8 @@ pub(crate) fn condition_holds<'a>(
     stores: &Stores,
 ) -> bool
     requires { questions.now.ifr ≡ forms.now }
-    ensures { result ≡ is_met_over (nodes_of forms.now) stores.now (any_condition_node condition.entry) }
+    ensures { result ≡ is_met_over (nodes_of forms.now) stores.now
+        (any_condition_node condition.entry) }
 {
     let answers = questions.over(stores);
     let expression = condition.condition();

@@ -3,13 +3,14 @@
 ghost use Rattle.std.specs.Prelude.{◌≡◌, true, option_map};
 ghost use Rattle.std.specs.List.{find, list_any};
 ghost use Rattle.ifr_opcodes.specs.Forest.{Placed};
-ghost use Rattle.ifr_scopes.specs.Checked.{IsNodeOf};
-ghost use Rattle.ifr_scopes.specs.Index.{guards_of_indexed, is_indexed, lock_of_indexed};
-ghost use Rattle.ifr_scopes.specs.Lists.{guard_node, guards_left};
+ghost use Rattle.ifr_scopes.specs.code.Checked.{IsNodeOf};
+ghost use Rattle.ifr_scopes.specs.code.Index.{guards_of_indexed, is_indexed, lock_of_indexed};
+ghost use Rattle.ifr_scopes.specs.code.Lists.{guard_node, guards_left};
 ghost use Rattle.ifr_scopes.specs.Nodes.{nodes_of};
-ghost use Rattle.guard_policy.specs.Effects.{acts};
+ghost use Rattle.guard_policy.specs.code.Effects.{acts};
 ghost use Rattle.guard_policy.specs.Policy as spec;
-ghost use Rattle.guard_policy.specs.Views.{world_by};
+ghost use Rattle.guard_policy.specs.code.Answers as denying;
+ghost use Rattle.guard_policy.specs.code.Views.{world_by};
 
 use crate::conditions::Verdicts;
 use crate::denial::Denial;
@@ -17,13 +18,13 @@ use crate::effect::{Effect, hiding};
 use crate::policy::Policy;
 use hii_questions::DenialKind;
 use ifr_opcodes::{DISABLE_IF, GRAY_OUT_IF, SUPPRESS_IF};
-use ifr_scopes::laws::guards_and_locks_are_found;
 use ifr_scopes::{AnyCondition, Guard, GuardsAt};
 
 impl<'a, 's> Policy<'a, 's> {
     // Whether a guard has an effect.
     fn acts<V: Verdicts<'a>>(&self, effect: Effect, guard: Guard<'a>, verdicts: &V) -> bool
-        ensures { result ≡ acts effect (world_by self.now (V.met verdicts.now)) (guard_node guard.entry) }
+        ensures { result ≡ acts effect (world_by self.now (V.met verdicts.now))
+            (guard_node guard.entry) }
     {
         match (effect, guard.op().code) {
             (Effect::Hides, DISABLE_IF) => self.removed(guard.place()),
@@ -40,7 +41,9 @@ impl<'a, 's> Policy<'a, 's> {
         place: u32,
         verdicts: &V,
     ) -> Option<Guard<'a>>
-        ensures { option_map guard_node result ≡ find (acts effect (world_by self.now (V.met verdicts.now))) (guards_of_indexed (nodes_of self.now.forms.now) place) }
+        ensures { option_map guard_node result
+            ≡ find (acts effect (world_by self.now (V.met verdicts.now)))
+            (guards_of_indexed (nodes_of self.now.forms.now) place) }
     {
         let mut guards = self.forms.guards_at(place);
         while let Some(guard) = guards.next() {
@@ -53,7 +56,8 @@ impl<'a, 's> Policy<'a, 's> {
 
     /// Whether one of some guards was removed.
     pub(crate) fn is_removed(&self, guards: GuardsAt<'_, 'a>) -> bool
-        ensures { result ≡ list_any (spec.is_removed self.now.removed.now) (guards_left guards.entry) }
+        ensures { result ≡ list_any (spec.is_removed self.now.removed.now)
+            (guards_left guards.entry) }
     {
         let mut guards = guards;
         while let Some(guard) = guards.next() {
@@ -66,7 +70,9 @@ impl<'a, 's> Policy<'a, 's> {
 
     // What is not hidden of the form, statement or option at a place.
     fn unless_hidden<V: Verdicts<'a>>(&self, place: u32, verdicts: &V) -> Result<(), Denial>
-        ensures { result ≡ spec.unless (spec.hidden_among (world_by self.now (V.met verdicts.now)) (guards_of_indexed (nodes_of self.now.forms.now) place)) }
+        ensures { result ≡ denying.unless
+            (spec.hidden_among (world_by self.now (V.met verdicts.now))
+            (guards_of_indexed (nodes_of self.now.forms.now) place)) }
     {
         match self.first_guard(Effect::Hides, place, verdicts) {
             Some(guard) => Err(hiding(guard)),
@@ -76,7 +82,10 @@ impl<'a, 's> Policy<'a, 's> {
 
     // What around the form, statement or option at a place lets it not be changed.
     fn unless_covered<V: Verdicts<'a>>(&self, place: u32, verdicts: &V) -> Result<(), Denial>
-        ensures { result ≡ spec.unless (spec.covered_by (world_by self.now (V.met verdicts.now)) (guards_of_indexed (nodes_of self.now.forms.now) place) (lock_of_indexed (nodes_of self.now.forms.now) place)) }
+        ensures { result ≡ denying.unless
+            (spec.covered_by (world_by self.now (V.met verdicts.now))
+            (guards_of_indexed (nodes_of self.now.forms.now) place)
+            (lock_of_indexed (nodes_of self.now.forms.now) place)) }
     {
         self.unless_hidden(place, verdicts)?;
         if let Some(guard) = self.first_guard(Effect::GraysOut, place, verdicts) {
@@ -90,11 +99,10 @@ impl<'a, 's> Policy<'a, 's> {
 
     /// Whether the form, statement or option at a place is seen.
     pub(crate) fn seen_at<V: Verdicts<'a>>(&self, place: u32, verdicts: &V) -> Result<(), Denial>
-        ensures { (n : Placed) → IsNodeOf self.now.forms.now n → is_indexed n ≡ true → n.place ≡ place → result ≡ spec.unless (spec.hidden (world_by self.now (V.met verdicts.now)) n) }
+        ensures { (n : Placed) → IsNodeOf self.now.forms.now n → is_indexed n ≡ true
+            → n.place ≡ place → result
+            ≡ denying.unless (spec.hidden (world_by self.now (V.met verdicts.now)) n) }
     {
-        guards_and_locks_are_found();
-        // The package is accepted.
-        self.forms.bytes();
         self.unless_hidden(place, verdicts)
     }
 
@@ -104,11 +112,10 @@ impl<'a, 's> Policy<'a, 's> {
         place: u32,
         verdicts: &V,
     ) -> Result<(), Denial>
-        ensures { (n : Placed) → IsNodeOf self.now.forms.now n → is_indexed n ≡ true → n.place ≡ place → result ≡ spec.unless (spec.covered (world_by self.now (V.met verdicts.now)) n) }
+        ensures { (n : Placed) → IsNodeOf self.now.forms.now n → is_indexed n ≡ true
+            → n.place ≡ place → result
+            ≡ denying.unless (spec.covered (world_by self.now (V.met verdicts.now)) n) }
     {
-        guards_and_locks_are_found();
-        // The package is accepted.
-        self.forms.bytes();
         self.unless_covered(place, verdicts)
     }
 }

@@ -3,10 +3,10 @@
 ghost use Rattle.std.specs.Prelude.{◌≡◌};
 ghost use Rattle.std.specs.Iterator.{YieldsFirstBy};
 ghost use Rattle.hii_varstore.specs.Stores.{StoreMap};
-ghost use Rattle.ifr_scopes.specs.AnyConditions.{any_condition_node};
-ghost use Rattle.guard_policy.specs.AskedLeft.{asked_left};
-ghost use Rattle.guard_policy.specs.Support.{conditions, IsSubjectOf};
-ghost use Rattle.guard_policy.specs.Views.{world};
+ghost use Rattle.ifr_scopes.specs.code.AnyConditions.{any_condition_node};
+ghost use Rattle.guard_policy.specs.code.AskedLeft.{asked_left};
+ghost use Rattle.guard_policy.specs.laws.Support.{conditions, IsSubjectOf};
+ghost use Rattle.guard_policy.specs.code.Views.{world};
 
 use crate::around::Around;
 use crate::option_conditions::OptionConditions;
@@ -18,21 +18,22 @@ use ifr_scopes::{AnyCondition, ConditionViews};
 /// The conditions of a decision that are left, in the order in which they decide.
 #[derive(Drop)]
 pub(crate) enum DecisionConditions<'a, 's> {
-    /// Those around a form or a statement.
+    /// The conditions around a form or a statement.
     Around(Around<'a, 's>),
-    /// Those around the options of a value.
+    /// The conditions around the options of a value.
     Options(OptionConditions<'a, 's>),
-    /// Those of a question.
+    /// The conditions of a question.
     Question(ConditionViews<'a>),
-    /// Those of all questions that deny a submission.
+    /// The conditions of all questions that deny a submission.
     Submission(Submission<'a, 's>),
 }
 
 impl<'a, 's> DecisionConditions<'a, 's> {
-    /// Those of a decision of a policy.
+    /// The conditions of a decision of a policy.
     pub(crate) fn of(policy: Policy<'a, 's>, decision: Decision<'a>) -> DecisionConditions<'a, 's>
         requires { IsSubjectOf policy.forms.now decision }
-        ensures { (stores : StoreMap) → asked_left result ≡ conditions (world policy.entry stores) decision.entry }
+        ensures { (stores : StoreMap) → asked_left result
+            ≡ conditions (world policy.entry stores) decision.entry }
     {
         let forms = policy.forms;
         match decision {

@@ -2,15 +2,17 @@
 
 ghost use Rattle.std.specs.Prelude.{◌≡◌};
 ghost use Rattle.hii_varstore.specs.Stores.{StoreMap};
-ghost use Rattle.ifr_scopes.specs.Checked.{IsNodeOf};
-ghost use Rattle.ifr_scopes.specs.Lists.{form_node, statement_node};
+ghost use Rattle.ifr_scopes.specs.code.Checked.{IsNodeOf};
+ghost use Rattle.ifr_scopes.specs.code.Lists.{form_node, statement_node};
 ghost use Rattle.ifr_scopes.specs.Nodes.{nodes_of};
-ghost use Rattle.ifr_scopes.specs.Parts.{option_node};
-ghost use Rattle.hii_questions.specs.Views.{question_node, question_view};
+ghost use Rattle.ifr_scopes.specs.code.Parts.{option_node};
+ghost use Rattle.hii_questions.specs.code.Views.{question_node, question_view};
 ghost use Rattle.guard_policy.specs.Policy as spec;
-ghost use Rattle.guard_policy.specs.Support.{DecidesBy, Tells, TellsAll, suppressing};
-ghost use Rattle.guard_policy.specs.Views.{world, world_by};
-ghost use Rattle.guard_policy.specs.World.{is_met_at};
+ghost use Rattle.guard_policy.specs.code.Answers as denying;
+ghost use Rattle.guard_policy.specs.code.KeptConditions.{DecidesBy, Tells, TellsAll};
+ghost use Rattle.guard_policy.specs.laws.Support.{suppressing};
+ghost use Rattle.guard_policy.specs.code.Views.{world, world_by};
+ghost use Rattle.guard_policy.specs.code.Worlds.{is_met_at};
 ghost use Rattle.guard_policy.specs.declared.support.Decision.TheVariants.{Listed, Changeable, OptionOpen, Opens};
 
 use crate::conditions::{Conditions, Evaluated, Kept, Verdicts};
@@ -22,7 +24,7 @@ use ifr_scopes::{Form, OptionView, Statement, StatementKind};
 
 // Whether a question lacks what it needs to be changed: a reference a form to which it leads, another a field.
 fn is_outside(question: Question<'_>) -> bool
-    ensures { result ≡ spec.is_outside (question_view question.entry) }
+    ensures { result ≡ spec.is_never_changed (question_view question.entry) }
 {
     match question.statement().kind() {
         StatementKind::Ref(reference) => reference.target().is_none(),
@@ -32,7 +34,7 @@ fn is_outside(question: Question<'_>) -> bool
 
 // Whether a question forbids a change by itself.
 fn fixed_question(question: Question<'_>) -> Result<(), Denial>
-    ensures { result ≡ spec.unless (spec.fixed_question (question_view question.entry)) }
+    ensures { result ≡ denying.unless (spec.fixed_question (question_view question.entry)) }
 {
     let kind = if question.op().is_read_only() {
         DenialKind::ReadOnly
@@ -45,14 +47,14 @@ fn fixed_question(question: Question<'_>) -> Result<(), Denial>
 }
 
 impl<'a, 's> Policy<'a, 's> {
-    /// Its conditions over some stores, by which each call that ends in `_by` answers as the call without over these stores.
+    /// The conditions of the form set over some stores, by which each call that ends in `_by` answers as the call without over
+    /// these stores.
     pub fn over<'p>(&self, stores: &'p Stores) -> Evaluated<'p, 'a, 's>
         ensures policy { result.policy ≡ self.now }
         ensures stores { result.stores.now ≡ stores.now }
-        ensures tells { TellsAll (is_met_at (world self.now stores.now)) (world self.now stores.now) }
+        ensures tells { TellsAll (is_met_at (world self.now stores.now))
+            (world self.now stores.now) }
     {
-        // The package is accepted.
-        self.forms.bytes();
         Evaluated {
             policy: *self,
             stores,
@@ -63,44 +65,51 @@ impl<'a, 's> Policy<'a, 's> {
     /// holds. The denial, of the kind DisableIf or SuppressIf, names the outermost such.
     pub fn listed(&self, statement: Statement<'a>, stores: &Stores) -> Result<(), Denial>
         requires { IsNodeOf self.now.forms.now (statement_node statement) }
-        ensures { result ≡ spec.unless (spec.hidden (world self.now stores.now) (statement_node statement.entry)) }
+        ensures { result ≡ denying.unless
+            (spec.hidden (world self.now stores.now) (statement_node statement.entry)) }
     {
         self.seen_at(statement.place(), &self.over(stores))
     }
 
-    /// The same by what is kept of conditions.
+    /// Whether a statement of the package is seen, by what is kept of conditions.
     pub fn listed_by<C: Conditions>(
         &self,
         statement: Statement<'a>,
         conditions: &C,
     ) -> Result<(), Denial>
         requires { IsNodeOf self.now.forms.now (statement_node statement) }
-        ensures { DecidesBy (C.holding conditions.now) (world self.now) (Listed statement.entry) result }
+        ensures { DecidesBy (C.holding conditions.now) (world self.now)
+            (Listed statement.entry) result }
     {
         self.seen_at(statement.place(), &Kept { conditions })
     }
 
-    /// Whether an option of a question is shown, by the same rule and by what is kept of conditions.
+    /// Whether an option of a question is shown, by the rule of `listed` and by what is kept of conditions.
     pub fn option_listed_by<C: Conditions>(
         &self,
         option: OptionView<'a>,
         conditions: &C,
     ) -> Result<(), Denial>
         requires { IsNodeOf self.now.forms.now (option_node option) }
-        ensures { (stores : StoreMap) → Tells (C.holding conditions.now) (world self.now stores) (suppressing (option_node option.entry)) → result ≡ spec.unless (spec.hidden (world self.now stores) (option_node option.entry)) }
+        ensures { (stores : StoreMap)
+            → Tells (C.holding conditions.now) (world self.now stores)
+            (suppressing (option_node option.entry))
+            → result ≡ denying.unless
+            (spec.hidden (world self.now stores) (option_node option.entry)) }
     {
         self.seen_at(option.place(), &Kept { conditions })
     }
 
-    /// Whether a form is opened, by the same rule.
+    /// Whether a form is opened, by the rule of `listed`.
     pub fn opens(&self, form: Form<'a>, stores: &Stores) -> Result<(), Denial>
         requires { IsNodeOf self.now.forms.now (form_node form) }
-        ensures { result ≡ spec.unless (spec.hidden (world self.now stores.now) (form_node form.entry)) }
+        ensures { result ≡ denying.unless
+            (spec.hidden (world self.now stores.now) (form_node form.entry)) }
     {
         self.seen_at(form.place(), &self.over(stores))
     }
 
-    /// The same by what is kept of conditions.
+    /// Whether a form is opened, by what is kept of conditions.
     pub fn opens_by<C: Conditions>(&self, form: Form<'a>, conditions: &C) -> Result<(), Denial>
         requires { IsNodeOf self.now.forms.now (form_node form) }
         ensures { DecidesBy (C.holding conditions.now) (world self.now) (Opens form.entry) result }
@@ -116,7 +125,8 @@ impl<'a, 's> Policy<'a, 's> {
         verdicts: &V,
     ) -> Result<(), Denial>
         requires { IsNodeOf self.now.forms.now (option_node option) }
-        ensures { result ≡ spec.unless (spec.fixed (world_by self.now (V.met verdicts.now)) (option_node option.entry)) }
+        ensures { result ≡ denying.unless
+            (spec.fixed (world_by self.now (V.met verdicts.now)) (option_node option.entry)) }
     {
         self.uncovered_at(option.place(), verdicts)
     }
@@ -124,7 +134,8 @@ impl<'a, 's> Policy<'a, 's> {
     // Whether a statement forbids a change by itself.
     fn fixed_itself(&self, statement: Statement<'a>) -> Result<(), Denial>
         requires { IsNodeOf self.now.forms.now (statement_node statement) }
-        ensures { result ≡ spec.unless (spec.fixed_itself (nodes_of self.now.forms.now) (statement_node statement.entry)) }
+        ensures { result ≡ denying.unless
+            (spec.fixed_itself (nodes_of self.now.forms.now) (statement_node statement.entry)) }
     {
         match self.question(statement) {
             Some(question) => fixed_question(question),
@@ -139,7 +150,8 @@ impl<'a, 's> Policy<'a, 's> {
         verdicts: &V,
     ) -> Result<(), Denial>
         requires { IsNodeOf self.now.forms.now (statement_node statement) }
-        ensures { result ≡ spec.unless (spec.fixed (world_by self.now (V.met verdicts.now)) (statement_node statement.entry)) }
+        ensures { result ≡ denying.unless
+            (spec.fixed (world_by self.now (V.met verdicts.now)) (statement_node statement.entry)) }
     {
         self.uncovered_at(statement.place(), verdicts)?;
         self.fixed_itself(statement)
@@ -151,19 +163,21 @@ impl<'a, 's> Policy<'a, 's> {
     /// the LOCKED, the outermost of several, or the question itself.
     pub fn changeable(&self, statement: Statement<'a>, stores: &Stores) -> Result<(), Denial>
         requires { IsNodeOf self.now.forms.now (statement_node statement) }
-        ensures { result ≡ spec.unless (spec.fixed (world self.now stores.now) (statement_node statement.entry)) }
+        ensures { result ≡ denying.unless
+            (spec.fixed (world self.now stores.now) (statement_node statement.entry)) }
     {
         self.changeable_with(statement, &self.over(stores))
     }
 
-    /// The same by what is kept of conditions.
+    /// Whether a statement of the package may be changed, by what is kept of conditions.
     pub fn changeable_by<C: Conditions>(
         &self,
         statement: Statement<'a>,
         conditions: &C,
     ) -> Result<(), Denial>
         requires { IsNodeOf self.now.forms.now (statement_node statement) }
-        ensures { DecidesBy (C.holding conditions.now) (world self.now) (Changeable statement.entry) result }
+        ensures { DecidesBy (C.holding conditions.now) (world self.now)
+            (Changeable statement.entry) result }
     {
         self.changeable_with(statement, &Kept { conditions })
     }
@@ -176,10 +190,10 @@ impl<'a, 's> Policy<'a, 's> {
         verdicts: &V,
     ) -> Result<(), Denial>
         requires { IsNodeOf self.now.forms.now (question_node question) }
-        ensures { result ≡ spec.unless (spec.closed (world_by self.now (V.met verdicts.now)) (question_node question.entry) value) }
+        ensures { result ≡ denying.unless
+            (spec.closed (world_by self.now (V.met verdicts.now))
+            (question_node question.entry) value) }
     {
-        // The package is accepted: the options are nodes of it.
-        self.forms.bytes();
         let mut first = None;
         let mut options = question.statement().options();
         while let Some(option) = options.next() {
@@ -205,12 +219,13 @@ impl<'a, 's> Policy<'a, 's> {
         stores: &Stores,
     ) -> Result<(), Denial>
         requires { IsNodeOf self.now.forms.now (question_node question) }
-        ensures { result ≡ spec.unless (spec.closed (world self.now stores.now) (question_node question.entry) value) }
+        ensures { result ≡ denying.unless
+            (spec.closed (world self.now stores.now) (question_node question.entry) value) }
     {
         self.option_open_with(question, value, &self.over(stores))
     }
 
-    /// The same by what is kept of conditions.
+    /// Whether a question of the package may be given a value of its options, by what is kept of conditions.
     pub fn option_open_by<C: Conditions>(
         &self,
         question: Question<'a>,
@@ -218,7 +233,8 @@ impl<'a, 's> Policy<'a, 's> {
         conditions: &C,
     ) -> Result<(), Denial>
         requires { IsNodeOf self.now.forms.now (question_node question) }
-        ensures { DecidesBy (C.holding conditions.now) (world self.now) (OptionOpen question.entry value) result }
+        ensures { DecidesBy (C.holding conditions.now) (world self.now)
+            (OptionOpen question.entry value) result }
     {
         self.option_open_with(question, value, &Kept { conditions })
     }

@@ -1,7 +1,7 @@
 //! What guards do to what stands in their scopes.
 
 ghost use Rattle.std.specs.Prelude.{◌≡◌};
-ghost use Rattle.ifr_scopes.specs.Lists.{guard_node};
+ghost use Rattle.ifr_scopes.specs.code.Lists.{guard_node};
 ghost use Rattle.guard_policy.specs.Policy.{hiding};
 
 use crate::denial::Denial;

@@ -1,7 +1,7 @@
 //! The conditions around the options of questions.
 
-ghost use Rattle.ifr_scopes.specs.Checked.{AreNodesOf, AreNodesOf-prop};
-ghost use Rattle.ifr_scopes.specs.Parts.{options_left};
+ghost use Rattle.ifr_scopes.specs.code.Checked.{AreNodesOf, AreNodesOf-prop};
+ghost use Rattle.ifr_scopes.specs.code.Parts.{options_left};
 
 use crate::around::{Around, next_around};
 use hii_questions::Question;
@@ -23,22 +23,25 @@ impl<'a, 's> OptionConditions<'a, 's> {
     ghost use Rattle.std.specs.Iterator.{YieldsFirstBy};
     ghost use Rattle.std.specs.List.{flat_map};
     ghost use Rattle.ifr_opcodes.specs.Fields.{option_value};
-    ghost use Rattle.ifr_scopes.specs.Checked.{IsNodeOf};
-    ghost use Rattle.ifr_scopes.specs.Lists.{guard_node};
+    ghost use Rattle.ifr_scopes.specs.code.Checked.{IsNodeOf};
+    ghost use Rattle.ifr_scopes.specs.code.Lists.{guard_node};
     ghost use Rattle.ifr_scopes.specs.Nodes.{options};
-    ghost use Rattle.ifr_scopes.specs.Parts.{option_node};
-    ghost use Rattle.hii_questions.specs.Views.{question_node};
-    ghost use Rattle.guard_policy.specs.AskedLeft.{options_of_value, around_options_left};
-    ghost use Rattle.guard_policy.specs.Support.{around};
+    ghost use Rattle.ifr_scopes.specs.code.Parts.{option_node};
+    ghost use Rattle.hii_questions.specs.code.Views.{question_node};
+    ghost use Rattle.guard_policy.specs.code.AskedLeft.{options_of_value, around_options_left};
+    ghost use Rattle.guard_policy.specs.laws.Support.{around};
 
-    /// Those around the options of a question that have this value.
+    /// The conditions around the options of a question that have this value.
     pub(crate) fn of(
         forms: &'s Forms<'a>,
         question: Question<'a>,
         value: u64,
     ) -> OptionConditions<'a, 's>
         requires { IsNodeOf forms.now (question_node question) }
-        ensures { around_options_left result ≡ flat_map around (filter (λ o. option_value o.op == value) (options (question_node question.entry))) }
+        ensures { around_options_left result
+            ≡ flat_map around
+            (filter (λ o. option_value o.op == value)
+            (options (question_node question.entry))) }
     {
         // The package is accepted: the options are nodes of it.
         forms.bytes();
@@ -54,8 +57,10 @@ impl<'a, 's> OptionConditions<'a, 's> {
     // Goes to the next option of the value.
     fn next_option(&mut self) -> Option<OptionView<'a>>
         ensures steps { YieldsFirstBy option_node options_of_value self.old result self.new }
-        ensures of_package { IfSome result (λ option. IsNodeOf self.old.forms.now (option_node option)) }
-        ensures stays { (self.new.forms ≡ self.old.forms) × (self.new.value ≡ self.old.value) × (self.new.around ≡ self.old.around) }
+        ensures of_package { IfSome result
+            (λ option. IsNodeOf self.old.forms.now (option_node option)) }
+        ensures stays { (self.new.forms ≡ self.old.forms) × (self.new.value ≡ self.old.value)
+            × (self.new.around ≡ self.old.around) }
     {
         while let Some(option) = self.options.next() {
             if option.op().value() == self.value {

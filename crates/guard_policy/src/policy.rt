@@ -2,11 +2,13 @@
 
 ghost use Rattle.std.specs.Prelude.{◌≡◌, if◌then◌else◌, Some, None, option_map};
 ghost use Rattle.ifr_opcodes.specs.Operators.{is_among};
-ghost use Rattle.ifr_scopes.specs.Checked.{IsNodeOf};
-ghost use Rattle.ifr_scopes.specs.Lists.{statement_node};
+ghost use Rattle.ifr_scopes.specs.Accepted.{IsAccepted};
+ghost use Rattle.ifr_scopes.specs.code.Checked.{IsAccepted-prop};
+ghost use Rattle.ifr_scopes.specs.code.Checked.{IsNodeOf};
+ghost use Rattle.ifr_scopes.specs.code.Lists.{statement_node};
 ghost use Rattle.ifr_scopes.specs.Nodes.{nodes_of, is_question};
 ghost use Rattle.hii_questions.specs.Fields.{asked};
-ghost use Rattle.hii_questions.specs.Views.{question_view};
+ghost use Rattle.hii_questions.specs.code.Views.{question_view};
 
 use crate::removed::Removed;
 use hii_questions::{Question, Questions};
@@ -20,6 +22,7 @@ pub struct Policy<'a, 's> {
     pub(crate) questions: &'s Questions<'a>,
     pub(crate) removed: &'s Removed,
     pub ghost together: { questions.now.ifr ≡ forms.now },
+    pub ghost accepted: { IsAccepted forms.now } by { IsAccepted-prop forms.now },
 }
 
 impl<'a, 's> Policy<'a, 's> {
@@ -33,6 +36,8 @@ impl<'a, 's> Policy<'a, 's> {
         ensures forms { result.forms.now ≡ forms.now }
         ensures removed { result.removed.now ≡ removed.now }
     {
+        // The package is accepted.
+        forms.bytes();
         Policy {
             forms,
             questions,
@@ -58,10 +63,11 @@ impl<'a, 's> Policy<'a, 's> {
     /// The question that a statement of the package is, if it is one.
     pub fn question(&self, statement: Statement<'a>) -> Option<Question<'a>>
         requires { IsNodeOf self.now.forms.now (statement_node statement) }
-        ensures { option_map question_view result ≡ (if is_question (statement_node statement.entry) then Some (asked (nodes_of self.now.forms.now) (statement_node statement.entry)) else None) }
+        ensures { option_map question_view result
+            ≡ (if is_question (statement_node statement.entry)
+            then Some (asked (nodes_of self.now.forms.now) (statement_node statement.entry))
+            else None) }
     {
-        // The package is accepted: each node is the one at its place.
-        self.forms.bytes();
         self.questions.at(statement.place())
     }
 }

@@ -25,7 +25,7 @@ pub struct Removed {
 
 impl Model for Removed {
     ghost use Rattle.std.specs.Prelude.{ℕ, List};
-    ghost use Rattle.hii_bytes.specs.Faults.{Rise};
+    ghost use Rattle.hii_bytes.specs.code.FirstFaults.{Rise};
 
     ghost Value = { List ℕ };
 
@@ -35,8 +35,8 @@ impl Model for Removed {
 }
 
 impl Removed {
-    /// Those of a form set whose stores are these. Want of memory is OutOfMemory (60) at 0, and there is no other fault. The
-    /// questions are those of the same package.
+    /// What is removed of a form set whose stores are these. Where an allocation fails the fault is OutOfMemory (60) at 0, and
+    /// there is no other fault. The questions are those of the same package.
     pub fn at_open<'a>(
         alloc: Global,
         forms: &Forms<'a>,
@@ -44,7 +44,8 @@ impl Removed {
         stores: &Stores,
     ) -> Result<Removed, Fault>
         requires { questions.now.ifr ≡ forms.now }
-        ensures removed { IfOk result (λ removed. removed ≡ removed_at (nodes_of forms.now) stores.now) }
+        ensures removed { IfOk result (λ removed. removed
+            ≡ removed_at (nodes_of forms.now) stores.now) }
         ensures refused { IfErr result (λ fault. fault ≡ out_of_memory) }
     {
         // The package is accepted: the places of its nodes rise.
@@ -55,9 +56,7 @@ impl Removed {
             if guard.op().code == DISABLE_IF
                 && condition_holds(AnyCondition::Guard(guard), forms, questions, stores)
             {
-                if places.push(guard.place()).is_err() {
-                    return Err(Fault::out_of_memory());
-                }
+                places.push(guard.place())?;
             }
         }
         Ok(Removed { places })

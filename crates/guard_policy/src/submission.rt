@@ -1,8 +1,8 @@
 //! The conditions of a submission.
 
 ghost use Rattle.std.specs.Iterator.{YieldsFirstBy};
-ghost use Rattle.ifr_scopes.specs.Parts.{condition_node};
-ghost use Rattle.guard_policy.specs.AskedLeft.{submission_left};
+ghost use Rattle.ifr_scopes.specs.code.Parts.{condition_node};
+ghost use Rattle.guard_policy.specs.code.AskedLeft.{submission_left};
 
 use crate::policy::Policy;
 use ifr_scopes::{ConditionView, NoSubmits};

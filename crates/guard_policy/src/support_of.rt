@@ -2,13 +2,13 @@
 
 ghost use Rattle.std.specs.Prelude.{◌≡◌};
 ghost use Rattle.std.specs.Iterator.{YieldsFirstBy};
-ghost use Rattle.ifr_scopes.specs.AnyConditions.{any_condition_node};
-ghost use Rattle.ifr_scopes.specs.DependenceLeft.{dependence_left};
+ghost use Rattle.ifr_scopes.specs.code.AnyConditions.{any_condition_node};
+ghost use Rattle.ifr_scopes.specs.code.DependenceLeft.{dependence_left};
 ghost use Rattle.ifr_scopes.specs.Nodes.{nodes_of};
 ghost use Rattle.hii_varstore.specs.Stores.{StoreMap};
-ghost use Rattle.guard_policy.specs.Support.{IsSubjectOf, ids_behind, support, support_at};
-ghost use Rattle.guard_policy.specs.SupportLeft.{ids_left, support_at_left, support_left};
-ghost use Rattle.guard_policy.specs.Views.{world};
+ghost use Rattle.guard_policy.specs.laws.Support.{IsSubjectOf, ids_behind, support, support_at};
+ghost use Rattle.guard_policy.specs.code.SupportLeft.{ids_left, support_at_left, support_left};
+ghost use Rattle.guard_policy.specs.code.Views.{world};
 
 use crate::decision_conditions::DecisionConditions;
 use crate::policy::Policy;
@@ -31,7 +31,8 @@ pub struct SupportAt<'a, 's> {
 
 // The ids of the questions on whose answers a condition depends.
 fn ids_of<'a, 's>(condition: AnyCondition<'a>, forms: &'s Forms<'a>) -> Dependence<'s, 'a>
-    ensures { dependence_left result ≡ ids_behind (nodes_of forms.now) (any_condition_node condition.entry) }
+    ensures { dependence_left result
+        ≡ ids_behind (nodes_of forms.now) (any_condition_node condition.entry) }
 {
     forms.dependence(condition.condition(), condition.this())
 }
@@ -50,7 +51,8 @@ impl<'a, 's> Policy<'a, 's> {
     /// The ids of the questions on whose answers a decision depends. An id may come more than once. It takes no memory.
     pub fn support_of(&self, decision: Decision<'a>) -> SupportOf<'a, 's>
         requires { IsSubjectOf self.now.forms.now decision }
-        ensures { (stores : StoreMap) → support_left result ≡ support (world self.now stores) decision.entry }
+        ensures { (stores : StoreMap) → support_left result
+            ≡ support (world self.now stores) decision.entry }
     {
         SupportOf {
             forms: self.forms,

@@ -2,13 +2,15 @@
 
 ghost use Rattle.std.specs.Prelude.{◌≡◌, map, option_map};
 ghost use Rattle.std.specs.List.{find};
-ghost use Rattle.ifr_scopes.specs.NoSubmitsLeft.{no_submit_node};
-ghost use Rattle.ifr_scopes.specs.Parts.{condition_node, conditions_left};
-ghost use Rattle.hii_questions.specs.Views.{question_node};
+ghost use Rattle.ifr_scopes.specs.code.NoSubmitsLeft.{no_submit_node};
+ghost use Rattle.ifr_scopes.specs.code.Parts.{condition_node, conditions_left};
+ghost use Rattle.hii_questions.specs.code.Views.{question_node};
 ghost use Rattle.guard_policy.specs.Policy as spec;
-ghost use Rattle.guard_policy.specs.Support.{DecidesBy};
-ghost use Rattle.guard_policy.specs.Views.{world, world_by};
-ghost use Rattle.guard_policy.specs.Warned.{warning_of, warnings_left};
+ghost use Rattle.guard_policy.specs.code.Answers as denying;
+ghost use Rattle.guard_policy.specs.code.KeptConditions.{DecidesBy};
+ghost use Rattle.guard_policy.specs.code.Views.{world, world_by};
+ghost use Rattle.guard_policy.specs.Warned.{warning_of};
+ghost use Rattle.guard_policy.specs.code.WarningsLeft.{warnings_left};
 ghost use Rattle.guard_policy.specs.World.{is_met};
 ghost use Rattle.guard_policy.specs.declared.support.Decision.TheVariants.{MaySubmit};
 
@@ -39,7 +41,8 @@ impl<'a, 's> Policy<'a, 's> {
         conditions: ConditionViews<'a>,
         stores: &Stores,
     ) -> Option<ConditionView<'a>>
-        ensures { option_map condition_node result ≡ find (is_met (world self.now stores.now)) (conditions_left conditions.entry) }
+        ensures { option_map condition_node result
+            ≡ find (is_met (world self.now stores.now)) (conditions_left conditions.entry) }
     {
         let mut conditions = conditions;
         while let Some(condition) = conditions.next() {
@@ -53,7 +56,8 @@ impl<'a, 's> Policy<'a, 's> {
     /// Whether the value of a question is consistent: no INCONSISTENT_IF of it holds over these stores. The denial, of the kind
     /// InconsistentIf, names the first by place, and its text.
     pub fn consistent(&self, question: Question<'a>, stores: &Stores) -> Result<(), Denial>
-        ensures { result ≡ spec.unless (spec.inconsistent (world self.now stores.now) (question_node question.entry)) }
+        ensures { result ≡ denying.unless
+            (spec.inconsistent (world self.now stores.now) (question_node question.entry)) }
     {
         match self.first_holding(question.statement().inconsistents(), stores) {
             Some(condition) => Err(Denial::telling(DenialKind::InconsistentIf, condition)),
@@ -63,7 +67,8 @@ impl<'a, 's> Policy<'a, 's> {
 
     // Whether a condition denies a submission: it holds, and no DISABLE_IF around it was removed.
     fn denies<V: Verdicts<'a>>(&self, nosubmit: NoSubmit<'_, 'a>, verdicts: &V) -> bool
-        ensures { result ≡ spec.denies_submission (world_by self.now (V.met verdicts.now)) (no_submit_node nosubmit.entry) }
+        ensures { result ≡ spec.denies_submission (world_by self.now (V.met verdicts.now))
+            (no_submit_node nosubmit.entry) }
     {
         let condition = AnyCondition::Question(nosubmit.condition);
         !self.is_removed(nosubmit.guards) && verdicts.is_met(condition)
@@ -71,7 +76,8 @@ impl<'a, 's> Policy<'a, 's> {
 
     // Whether stores may be submitted, by conditions from anywhere.
     fn may_submit_with<V: Verdicts<'a>>(&self, verdicts: &V) -> Result<(), Denial>
-        ensures { result ≡ spec.unless (spec.unsubmitted (world_by self.now (V.met verdicts.now))) }
+        ensures { result ≡ denying.unless
+            (spec.unsubmitted (world_by self.now (V.met verdicts.now))) }
     {
         let mut conditions = self.forms.nosubmits();
         while let Some(nosubmit) = conditions.next() {
@@ -86,12 +92,12 @@ impl<'a, 's> Policy<'a, 's> {
     /// Whether the stores may be submitted: no NO_SUBMIT_IF holds, but those in the scope of a removed DISABLE_IF. The denial, of
     /// the kind NoSubmitIf, names the first by place, and its text.
     pub fn may_submit(&self, stores: &Stores) -> Result<(), Denial>
-        ensures { result ≡ spec.unless (spec.unsubmitted (world self.now stores.now)) }
+        ensures { result ≡ denying.unless (spec.unsubmitted (world self.now stores.now)) }
     {
         self.may_submit_with(&self.over(stores))
     }
 
-    /// The same by what is kept of conditions.
+    /// Whether the stores may be submitted, by what is kept of conditions.
     pub fn may_submit_by<C: Conditions>(&self, conditions: &C) -> Result<(), Denial>
         ensures { DecidesBy (C.holding conditions.now) (world self.now) MaySubmit result }
     {
@@ -100,7 +106,9 @@ impl<'a, 's> Policy<'a, 's> {
 
     /// Of what a question warns over these stores: the WARNING_IFs of it that hold, by place.
     pub fn warnings(&self, question: Question<'a>, stores: &'s Stores) -> Warnings<'a, 's>
-        ensures { warnings_left result ≡ map warning_of (spec.warned (world self.now stores.now) (question_node question.entry)) }
+        ensures { warnings_left result
+            ≡ map warning_of (spec.warned (world self.now stores.now)
+            (question_node question.entry)) }
     {
         Warnings {
             policy: *self,

@@ -22,7 +22,7 @@ pub struct Warnings<'a, 's> {
 
 impl<'a, 's> Iterator for Warnings<'a, 's> {
     ghost use Rattle.std.specs.Iterator.{YieldsFirstBy, item_count};
-    ghost use Rattle.guard_policy.specs.Warned.{warnings_left};
+    ghost use Rattle.guard_policy.specs.code.WarningsLeft.{warnings_left};
 
     type Item = Warning;
 

@@ -3,7 +3,8 @@ use Rattle.std.proofs.Common.{◌≡◌, ◌⊎◌, ℕ, zero, suc, ◌+◌, ◌
 use Rattle.std.specs.Prelude.{Contains}
 use Rattle.std.proofs.lemmas.Bool.{cond-true, cond-false, cases_Bool, false≢true}
 use Rattle.hii_bytes.specs.Cause.{number_of}
-use Rattle.hii_bytes.specs.Faults.{IsLeast, HasNone, IsFaultOf, first_cause, fault_or, first_fault, Rise, AreAll}
+use Rattle.hii_bytes.specs.Faults.{IsLeast, HasNone, IsFaultOf}
+use Rattle.hii_bytes.specs.code.FirstFaults.{first_cause, fault_or, first_fault, Rise, AreAll}
 use Rattle.hii_bytes.specs.declared.cause.Cause.{Cause}
 use Rattle.hii_bytes.specs.declared.cause.Fault.{Fault}
 

@@ -4,7 +4,8 @@ use Rattle.std.proofs.lemmas.List.{take-append-le, length-take, replicate-append
 use Rattle.std.proofs.Math.Seq.{take-append-add, take-length}
 use Rattle.std.proofs.KnownBytes.{Appends-trans, Appends-nil, Appends-kept}
 use Rattle.std.specs.Io.KnownBytes.{Appends, Keeps}
-use Rattle.hii_bytes.specs.Watching.{Pen, Writes, Stands, saturating_sum}
+use Rattle.hii_bytes.specs.Watching.{Pen, Writes, saturating_sum}
+use Rattle.hii_bytes.specs.code.Writing.{Stands}
 
 either_way : (b : Bool) → (b ≡ true) ⊎ (b ≡ false)
 either_way true = inl refl

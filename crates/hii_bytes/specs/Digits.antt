@@ -15,5 +15,7 @@ pub record IsNumber (radix most limit : ℕ) (text : List ℕ) (n : ℕ) : Type 
 -- the number of the text as in `IsNumber`, where it is one
 abbrev pub number_below : ℕ → ℕ → ℕ → List ℕ → Option ℕ
 number_below limit radix most text =
-    if nat_lt 0 (length text) && (list_all (λ byte. is_digit byte radix) text && (nat_le (length text) most && nat_lt (digits_value radix text) limit))
+    if nat_lt 0 (length text)
+    && (list_all (λ byte. is_digit byte radix) text
+    && (nat_le (length text) most && nat_lt (digits_value radix text) limit))
     then Some (digits_value radix text) else None

@@ -10,7 +10,9 @@ IsElement text n = IsNumber 10 20 (2 ^ 64) text n
 
 -- The text is these numbers with a comma between. No numbers are the empty text.
 abbrev pub IsNumberList : List ℕ → List ℕ → Type 0
-IsNumberList text numbers = (elements : List (List ℕ)) × (text ≡ join_with_byte 44 elements) × AllZip IsElement elements numbers
+IsNumberList text numbers =
+    (elements : List (List ℕ)) × (text ≡ join_with_byte 44 elements)
+    × AllZip IsElement elements numbers
 
 -- the parts of a text between its commas, none of the empty text
 abbrev pub elements_of : List ℕ → List (List ℕ)

@@ -1,5 +1,5 @@
 -- What a watched reader or writer shows (own rule).
-use Rattle.std.specs.Prelude.{◌≡◌, ℕ, ◌<◌, ◌≤◌, ◌+◌, ◌-◌, ◌^◌, min, Bool, true, false, List, ◌++◌, length, take, Option, Result, Ok, Err}
+use Rattle.std.specs.Prelude.{◌≡◌, ℕ, ◌<◌, ◌≤◌, ◌+◌, ◌-◌, ◌^◌, min, Bool, true, false, List, length, take, Option, Result, Ok, Err}
 use Rattle.std.specs.Io.KnownBytes.{Appends}
 use Rattle.hii_bytes.specs.declared.watched.Watched.{Watched}
 use Rattle.hii_bytes.specs.declared.writing.WriteFault.{WriteFault}
@@ -11,10 +11,6 @@ inner_of w = w.inner
 -- whether a read or a write was a fault
 abbrev pub has_failed : {T : Type 0} → Watched T → Bool
 has_failed w = w.is_failed
-
--- how many bytes the writes since the last `restart` took, at most 2^64 - 1
-abbrev pub taken_of : {T : Type 0} → Watched T → ℕ
-taken_of w = w.taken
 
 -- a number below 2^64 after adding b, or 2^64 - 1 where that is more
 abbrev pub saturating_sum : ℕ → ℕ → ℕ
@@ -40,11 +36,9 @@ pub record Writes (old new : Pen) (text : List ℕ) : Type 0 where
   pub whole : new.broken ≡ false → part ≡ length text
   pub short : old.broken ≡ false → new.broken ≡ true → part < length text
 
--- a text of which the front is written, and the rest still stands to be written
-pub record Stands (old new : Pen) (text rest : List ℕ) : Type 0 where
-  pub front : List ℕ
-  pub parts : text ≡ front ++ rest
-  pub written : Writes old new front
+-- A text was put into a watched writer, of which `contents` says what it holds.
+abbrev pub Puts : {T : Type 0} → (T → Option (List ℕ)) → Watched T → Watched T → List ℕ → Type 0
+Puts contents old new text = Writes (pen_of contents old) (pen_of contents new) text
 
 -- The first bytes of a text were written, as many as the fault says, and the writer has failed.
 pub record StopsWithin (old new : Pen) (fault : WriteFault) (text : List ℕ) : Type 0 where

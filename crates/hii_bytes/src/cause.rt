@@ -3,6 +3,7 @@
 ghost use Rattle.std.specs.Prelude.{◌≡◌};
 ghost use Rattle.hii_bytes.specs.Cause.{number_of, name_of};
 
+use std::alloc::{AllocError, AllocFailed};
 use std::fmt;
 use thiserror::Error;
 
@@ -27,9 +28,9 @@ pub enum Cause {
     StringBlock = 8,
     /// A text of a block of strings without a zero unit.
     StringText = 9,
-    /// A language without a NUL, or with a byte above 7E before it.
+    /// A language without a NUL, or with a byte above 0x7E before it.
     LanguageText = 10,
-    /// An opcode whose length byte is wanting, is below 2 or passes the package, or an END that is not of two bytes.
+    /// An opcode whose length byte is missing, is below 2 or passes the package, or an END that is not of two bytes.
     OpLength = 20,
     /// An END where no scope is open.
     EndExtra = 21,
@@ -49,7 +50,7 @@ pub enum Cause {
     Misplaced = 28,
     /// An opcode that opens no scope where it must, or opens one where it may not.
     ScopeBit = 29,
-    /// An expression that is wanting or begins with no operator, has too few operands or leaves several values.
+    /// An expression that is missing or begins with no operator, has too few operands or leaves several values.
     ExprShape = 30,
     /// An operator that gives a 65th value.
     ExprDepth = 31,
@@ -65,7 +66,7 @@ pub enum Cause {
     FieldOutside = 36,
     /// An option's value that is too large for its question.
     OptionRange = 37,
-    /// An option of an ordered list with another kind than the first one.
+    /// An option of an ordered list with another Type than the first one.
     MixedOptions = 38,
     /// No form at all, or a reference to one that is not there.
     NoForm = 39,
@@ -85,7 +86,7 @@ pub enum Cause {
     StoreTrailing = 55,
     /// An image with another form set's GUID.
     StoreFormSet = 56,
-    /// Memory is wanting.
+    /// Out of memory: an allocation fails.
     OutOfMemory = 60,
     /// A line that is no command.
     BadCommand = 70,
@@ -177,7 +178,7 @@ impl fmt::Display for Cause {
 
 /// The least fault of refused bytes: the cause, and its place in bytes. Places of a package list and of its string
 /// packages count from the list's first byte, those of a forms package from the first byte of its header, those of an
-/// image from its first byte. Want of memory has no place: there it is 0.
+/// image from its first byte. Out of memory has no place: there it is 0.
 #[derive(Clone, Copy, Debug, PartialEq, Eq, Error)]
 #[error("{cause} at {place:08x}")]
 pub struct Fault {
@@ -195,10 +196,30 @@ impl Fault {
         Fault { cause, place }
     }
 
-    /// The fault that memory is wanting, at the place 0.
+    /// Out of memory, at the place 0.
     pub fn out_of_memory() -> Fault
         ensures { result ≡ out_of_memory }
     {
         Fault::at(Cause::OutOfMemory, 0)
+    }
+}
+
+impl From<AllocError> for Fault {
+    ghost use Rattle.hii_bytes.specs.Faults.{out_of_memory};
+
+    ghost from_gives = { λ _ fault. fault ≡ out_of_memory };
+
+    fn from(_failed: AllocError) -> Fault {
+        Fault::out_of_memory()
+    }
+}
+
+impl<T: Drop> From<AllocFailed<T>> for Fault {
+    ghost use Rattle.hii_bytes.specs.Faults.{out_of_memory};
+
+    ghost from_gives = { λ _ fault. fault ≡ out_of_memory };
+
+    fn from(_failed: AllocFailed<T>) -> Fault {
+        Fault::out_of_memory()
     }
 }

@@ -8,7 +8,7 @@ pub fn one_list_of_numbers_is_written()
     ensures { (text numbers : List ℕ) → IsNumberList text numbers → numbers_of text ≡ numbers }
 {}
 
-/// The test `is_number_list` finds just the texts that are lists of numbers.
+/// The test `is_number_list` finds exactly the texts that are lists of numbers.
 pub fn lists_of_numbers_are_found()
     ensures { (text : List ℕ) → IsList text ↔ (is_number_list text ≡ true) }
 {}

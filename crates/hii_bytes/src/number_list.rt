@@ -19,7 +19,7 @@ pub struct NumberList<'a> {
 }
 
 impl<'a> NumberList<'a> {
-    ghost use Rattle.hii_bytes.specs.NumbersLeft.{numbers_left};
+    ghost use Rattle.hii_bytes.specs.code.NumbersLeft.{numbers_left};
 
     /// The numbers of a text that is a list of numbers.
     #[tactic(auto, using(crate::proofs::NumberListLemmas::listed))]
@@ -33,7 +33,7 @@ impl<'a> NumberList<'a> {
 
 impl<'a> Iterator for NumberList<'a> {
     ghost use Rattle.std.specs.Iterator.{YieldsFirst, item_count};
-    ghost use Rattle.hii_bytes.specs.NumbersLeft.{numbers_left};
+    ghost use Rattle.hii_bytes.specs.code.NumbersLeft.{numbers_left};
 
     type Item = u64;
 
@@ -75,7 +75,7 @@ fn value_of(element: &[u8]) -> u64
 /// 2^64.
 pub fn is_number_list(text: &[u8]) -> bool
     ensures list { Decides result (lists.IsList text.now) }
-    // The same as a function of the text.
+    // The answer is the function `is_number_list` of the text.
     ensures test { result ≡ lists.is_number_list text.now }
 {
     text.is_empty() || text.split(|byte| *byte == b',').all(is_element)

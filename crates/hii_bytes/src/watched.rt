@@ -2,7 +2,8 @@
 ghost use Rattle.std.specs.Prelude.{◌≡◌, ◌≤◌, ◌<◌, ℕ, IsErr, OnErr, IfOk, OnOk, true, false, length, is_err};
 ghost use Rattle.std.specs.Io.{ReadsAtMost, WritesAtMost};
 ghost use Rattle.std.specs.Io.KnownBytes.{ReadConsumes, WriteAppends, Keeps};
-ghost use Rattle.hii_bytes.specs.Watching.{inner_of, has_failed, taken_of, saturating_sum};
+ghost use Rattle.hii_bytes.specs.Watching.{inner_of, has_failed, saturating_sum};
+ghost use Rattle.hii_bytes.specs.code.Writing.{taken_of};
 
 use std::io::{Error, ErrorKind, Read, Result, Write};
 
@@ -65,7 +66,8 @@ impl<R: Read> Read for Watched<R> {
 
     fn read(&mut self, buf: &mut [u8]) -> Result<usize>
         ensures bound { ReadsAtMost result buf.new }
-        ensures bytes { ReadConsumes (R.remaining (inner_of self.old)) (R.remaining (inner_of self.new)) result buf.new }
+        ensures bytes { ReadConsumes (R.remaining (inner_of self.old))
+            (R.remaining (inner_of self.new)) result buf.new }
         ensures fault { has_failed self.new ≡ is_err result }
         ensures stays { has_failed self.old ≡ true → IsErr result }
     {
@@ -83,8 +85,10 @@ impl<W: Write> Write for Watched<W> {
 
     fn write(&mut self, buf: &[u8]) -> Result<usize>
         ensures bound { WritesAtMost result buf.now }
-        ensures bytes { WriteAppends (W.contents (inner_of self.old)) (W.contents (inner_of self.new)) result buf.now }
-        ensures counted { IfOk result (λ n. taken_of self.new ≡ saturating_sum (taken_of self.old) n) }
+        ensures bytes { WriteAppends (W.contents (inner_of self.old))
+            (W.contents (inner_of self.new)) result buf.now }
+        ensures counted { IfOk result (λ n. taken_of self.new
+            ≡ saturating_sum (taken_of self.old) n) }
         ensures not_counted { OnErr result (taken_of self.new ≡ taken_of self.old) }
         ensures err { OnErr result (has_failed self.new ≡ true) }
         ensures none { IfOk result (λ n. n ≡ 0 → 0 < length buf.now → has_failed self.new ≡ true) }

@@ -2,7 +2,7 @@
 
 ghost use Rattle.std.specs.Prelude.{◌≡◌, ◌≤◌, ◌<◌, ℕ, false, length, decimal, replicate, encode_utf8};
 ghost use Rattle.std.specs.Fmt.{digit_glyph};
-ghost use Rattle.hii_bytes.specs.Watching.{pen_of, Writes};
+ghost use Rattle.hii_bytes.specs.Watching.{Puts, Writes};
 ghost use Rattle.hii_bytes.specs.Texts.{right_aligned, hex_of};
 
 use crate::watched::Watched;
@@ -20,7 +20,7 @@ pub struct WriteFault {
 impl<W: Write> Watched<W> {
     /// Writes all of the bytes, unless the writer fails. At a writer that failed before nothing is written.
     pub fn put(&mut self, bytes: &[u8])
-        ensures { Writes (pen_of W.contents self.old) (pen_of W.contents self.new) bytes.now }
+        ensures { Puts W.contents self.old self.new bytes.now }
     {
         let mut rest = bytes;
         while !rest.is_empty() {
@@ -39,7 +39,7 @@ const SPACES: [u8; 24] = [b' '; 24];
 impl<W: Write> Watched<W> {
     /// Writes the number in decimal digits.
     pub fn put_decimal(&mut self, n: u64)
-        ensures { Writes (pen_of W.contents self.old) (pen_of W.contents self.new) (decimal n) }
+        ensures { Puts W.contents self.old self.new (decimal n) }
     {
         let mut buffer = Buffer::new();
         self.put(buffer.format(n).as_bytes());
@@ -47,7 +47,7 @@ impl<W: Write> Watched<W> {
 
     /// Writes the number in decimal digits, after as many spaces as make it this wide.
     pub fn put_decimal_right(&mut self, width: usize, n: u64)
-        ensures { Writes (pen_of W.contents self.old) (pen_of W.contents self.new) (right_aligned width (decimal n)) }
+        ensures { Puts W.contents self.old self.new (right_aligned width (decimal n)) }
     {
         let mut buffer = Buffer::new();
         let digits = buffer.format(n).as_bytes();
@@ -57,7 +57,7 @@ impl<W: Write> Watched<W> {
 
     /// Writes that many spaces.
     pub fn put_spaces(&mut self, count: usize)
-        ensures { Writes (pen_of W.contents self.old) (pen_of W.contents self.new) (replicate count 32) }
+        ensures { Puts W.contents self.old self.new (replicate count 32) }
     {
         let mut left = count;
         while left > 0 {
@@ -69,14 +69,14 @@ impl<W: Write> Watched<W> {
 
     /// Writes the byte in two lower-case hex digits.
     pub fn put_hex(&mut self, byte: u8)
-        ensures { Writes (pen_of W.contents self.old) (pen_of W.contents self.new) (hex_of byte) }
+        ensures { Puts W.contents self.old self.new (hex_of byte) }
     {
         self.put(&[hex_digit(byte / 16), hex_digit(byte % 16)]);
     }
 
     /// Writes the character in UTF-8.
     pub fn put_char(&mut self, c: char)
-        ensures { Writes (pen_of W.contents self.old) (pen_of W.contents self.new) (encode_utf8 c) }
+        ensures { Puts W.contents self.old self.new (encode_utf8 c) }
     {
         let mut bytes = [0u8; 4];
         self.put(c.encode_utf8(&mut bytes).as_bytes());

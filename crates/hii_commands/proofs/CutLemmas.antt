@@ -1,10 +1,10 @@
--- The bytes up to the first of a kind.
+-- The bytes up to the first that is a given one.
 use Rattle.std.proofs.Common.{◌≡◌, ◌==◌, ℕ, Bool, false, suc, ◌+◌, ◌<◌, List, [], ◌∷◌, ◌++◌, length, take, drop, get_or, Option, Some, None, sym, ap, ◌∙◌, arith, inl, inr, append_assoc}
 use Rattle.std.proofs.lemmas.Bool.{eqb-true, eqb-false, cond-true, cond-false, cases_lt, lt-ltb, le-ltb}
 use Rattle.std.proofs.lemmas.List.{take_all, length-take, get_or-take}
 use Rattle.std.proofs.lemmas.List.Sums.{split_at_first, fails_before_first, passes_at_first}
 use Rattle.std.specs.List.{position, before_first, position_or_len}
-use Rattle.hii_commands.specs.Script.{Lacks}
+use Rattle.hii_commands.specs.laws.Lines.{Lacks}
 
 Lacks-from_each : (byte : ℕ) (p : List ℕ) → ((k : ℕ) → k < length p → (get_or p k 0 == byte) ≡ false) → Lacks byte p
 Lacks-from_each byte [] h = tt
@@ -27,7 +27,7 @@ piece_whole byte piece e =
       | inr all ↦ take_all at piece all
     ]
 
--- the bytes before the first of a kind, that byte, and the bytes after it
+-- the bytes before the first such byte, that byte, and the bytes after it
 pub piece_at : (byte : ℕ) (piece : List ℕ) (i : ℕ) → position (λ b. b == byte) piece ≡ Some i →
     (i < length piece) × (before_first (λ b. b == byte) piece ≡ take i piece) × (piece ≡ (before_first (λ b. b == byte) piece ++ byte ∷ []) ++ drop (i + 1) piece)
 piece_at byte piece i e =

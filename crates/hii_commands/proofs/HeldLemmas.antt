@@ -3,7 +3,7 @@ use Rattle.std.proofs.Common.{◌≡◌, ℕ, ◌+◌, ◌-◌, ◌<◌, ◌≤�
 use Rattle.std.proofs.lemmas.List.{take-append-le, length-take, nil_from_length, take_all}
 use Rattle.std.proofs.lemmas.Bool.{cases_lt, lt-ltb, le-ltb}
 use Rattle.std.proofs.Math.Seq.{take-append-add}
-use Rattle.hii_commands.specs.Line.{Held}
+use Rattle.hii_commands.specs.code.Held.{Held}
 
 -- what is held of a line, with any limit
 abbrev pub held_at : ℕ → List ℕ → Held

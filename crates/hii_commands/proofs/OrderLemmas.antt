@@ -10,8 +10,9 @@ use Rattle.hii_bytes.specs.Digits.{number_below}
 use Rattle.hii_bytes.specs.NumberList.{IsNumberList, is_number_list, numbers_of}
 use Rattle.hii_bytes.proofs.DigitLemmas.{number_below-from, number_below-is}
 use Rattle.hii_bytes.proofs.NumberListLemmas.{numbers_of-is, list-from, list-is}
-use Rattle.hii_commands.specs.Script.{Lacks}
-use Rattle.hii_commands.specs.Orders.{Order, ShowPage, SetValue, OrderElements, SetText, AskWhy, ChooseLanguage, SubmitChanges, DiscardChanges, Asks, IsValue, IsLanguage, list_word, is_language_byte}
+use Rattle.hii_commands.specs.laws.Lines.{Lacks}
+use Rattle.hii_commands.specs.Orders.{Order, ShowPage, SetValue, OrderElements, SetText, AskWhy, ChooseLanguage, SubmitChanges, DiscardChanges, is_language_byte}
+use Rattle.hii_commands.specs.laws.Asking.{Asks, IsValue, IsLanguage, list_word}
 use Rattle.hii_commands.specs.Reading.{question_in, value_in, begins_with, cut_word, question_order, list_in, set_in, elements_in, text_in, why_in, lang_in, plain_in, words_in, order_in}
 use Rattle.hii_commands.proofs.WordLemmas.{cut_word-alone, cut_word-spaced, cut_word-together, together, begins, Lacks-digits}
 

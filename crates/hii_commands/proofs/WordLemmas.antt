@@ -6,7 +6,7 @@ use Rattle.std.specs.Str.Parse.{AllDigits}
 use Rattle.std.proofs.lemmas.Bool.{cases_Bool, cond-true, cond-false, eqb-true, ne_eqb}
 use Rattle.std.proofs.lemmas.List.{take-append-drop}
 use Rattle.std.proofs.lemmas.Slice.Eq.{bytes_eq-Decides}
-use Rattle.hii_commands.specs.Script.{Lacks}
+use Rattle.hii_commands.specs.laws.Lines.{Lacks}
 use Rattle.hii_commands.specs.Reading.{begins_with, cut_word}
 use Rattle.hii_commands.proofs.CutLemmas.{Lacks-before_first, piece_whole, piece_at}
 

@@ -3,4 +3,5 @@ pub mod Script
 pub mod Orders
 pub mod Meaning
 pub mod Reading
-pub mod Numbers
+pub mod code
+pub mod laws

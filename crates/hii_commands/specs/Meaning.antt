@@ -1,15 +1,13 @@
 -- What a line means (own rule).
-use Rattle.std.specs.Prelude.{ℕ, ◌<◌, ◌≤◌, ⊤, List, length}
+use Rattle.std.specs.Prelude.{⊤}
 use Rattle.hii_bytes.specs.NumberList.{IsList, numbers_of}
 use Rattle.hii_bytes.specs.declared.cause.Cause.{Cause}
 use Rattle.hii_bytes.specs.declared.cause.Cause.TheVariants as cause
-use Rattle.hii_commands.specs.declared.limits.TheConstants.{LINE_LIMIT}
 use Rattle.hii_commands.specs.declared.command.Command.{Command}
 use Rattle.hii_commands.specs.declared.command.Command.TheVariants.{Page, Set, Order as OrderCommand, Text, Why, Lang, Submit, Discard}
 use Rattle.hii_commands.specs.declared.command.BadLine.{BadLine}
 use Rattle.hii_commands.specs.declared.command.BadLine.TheVariants.{BadCommand, LineTooLong}
-use Rattle.hii_commands.specs.Line.{without_return}
-use Rattle.hii_commands.specs.Orders.{Order, ShowPage, SetValue, OrderElements, SetText, AskWhy, ChooseLanguage, SubmitChanges, DiscardChanges, Asks}
+use Rattle.hii_commands.specs.Orders.{Order, ShowPage, SetValue, OrderElements, SetText, AskWhy, ChooseLanguage, SubmitChanges, DiscardChanges}
 
 -- what a command asks for
 abbrev pub order_of : Command → Order
@@ -37,12 +35,3 @@ HasList Discard = ⊤
 abbrev pub cause_of : BadLine → Cause
 cause_of BadCommand = cause.BadCommand
 cause_of LineTooLong = cause.LineTooLong
-
--- The line, without its LF, is not too long, and without the CR at its end it asks for this.
-abbrev pub Means : List ℕ → Order → Type 0
-Means line order = (length line ≤ LINE_LIMIT) × Asks (without_return line) order
-
--- why the line means no order
-abbrev pub IsRefused : List ℕ → BadLine → Type 0
-IsRefused line LineTooLong = LINE_LIMIT < length line
-IsRefused line BadCommand = (length line ≤ LINE_LIMIT) × ((order : Order) → Asks (without_return line) order → ⊥)

@@ -1,9 +1,6 @@
 -- The forms of a script's commands (own rule).
-use Rattle.std.specs.Prelude.{◌≡◌, ◌⊎◌, ◌==◌, ◌||◌, ℕ, ℤ, pos, neg_ℤ, ◌^◌, ◌≤◌, Bool, true, List, [], ◌∷◌, ◌++◌, length, codes}
+use Rattle.std.specs.Prelude.{◌==◌, ◌||◌, ℕ, ℤ, Bool, List}
 use Rattle.std.specs.Char.{is_ascii_alphanumeric}
-use Rattle.std.specs.List.{list_all}
-use Rattle.hii_bytes.specs.Digits.{IsNumber}
-use Rattle.hii_bytes.specs.NumberList.{IsNumberList}
 
 -- what a command asks for, without where its bytes lie
 pub data Order : Type 0 where
@@ -16,43 +13,6 @@ pub data Order : Type 0 where
   SubmitChanges : Order
   DiscardChanges : Order
 
--- a question's id: 1 to 5 decimal digits, at most 65535
-abbrev pub IsQuestion : List ℕ → ℕ → Type 0
-IsQuestion text q = IsNumber 10 5 65536 text q
-
--- a value: 1 to 20 decimal digits, or a minus and as many, or `0x` and 1 to 16 hex digits; the magnitude is below 2^64
-abbrev pub IsValue : List ℕ → ℤ → Type 0
-IsValue text z = (digits : List ℕ) × (n : ℕ) ×
-    (((text ≡ digits) × IsNumber 10 20 (2 ^ 64) digits n × (z ≡ pos n))
-    ⊎ ((text ≡ codes "-" ++ digits) × IsNumber 10 20 (2 ^ 64) digits n × (z ≡ neg_ℤ (pos n)))
-    ⊎ ((text ≡ codes "0x" ++ digits) × IsNumber 16 16 (2 ^ 64) digits n × (z ≡ pos n)))
-
--- a list behind its space, and nothing for the empty list
-abbrev pub list_word : List ℕ → List ℕ
-list_word [] = []
-list_word (b ∷ list) = codes " " ++ b ∷ list
-
 -- a letter, a digit or a hyphen, as ASCII has them
 abbrev pub is_language_byte : ℕ → Bool
 is_language_byte byte = is_ascii_alphanumeric byte || byte == 45
-
--- 1 to 63 letters, digits and hyphens
-pub record IsLanguage (text : List ℕ) : Type 0 where
-  pub some : 1 ≤ length text
-  pub few : length text ≤ 63
-  pub each : list_all is_language_byte text ≡ true
-
--- The text has the form of the command that asks for this: its words, with one space between them. The new text of a
--- question is all that stands after one space, or empty.
-abbrev pub Asks : List ℕ → Order → Type 0
-Asks text ShowPage = text ≡ codes "page"
-Asks text (SetValue q z) =
-    (question value : List ℕ) × (text ≡ codes "set " ++ (question ++ (codes " " ++ value))) × IsQuestion question q × IsValue value z
-Asks text (OrderElements q numbers) =
-    (question list : List ℕ) × (text ≡ codes "order " ++ (question ++ list_word list)) × IsQuestion question q × IsNumberList list numbers
-Asks text (SetText q rest) = (question : List ℕ) × IsQuestion question q
-    × ((text ≡ codes "text " ++ (question ++ (codes " " ++ rest))) ⊎ ((text ≡ codes "text " ++ question) × (rest ≡ [])))
-Asks text (AskWhy q) = (question : List ℕ) × (text ≡ codes "why " ++ question) × IsQuestion question q
-Asks text (ChooseLanguage language) = (text ≡ codes "lang " ++ language) × IsLanguage language
-Asks text SubmitChanges = text ≡ codes "submit"
-Asks text DiscardChanges = text ≡ codes "discard"

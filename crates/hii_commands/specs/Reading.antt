@@ -20,14 +20,17 @@ begins_with text word = bytes_eq (take (length word) text) word
 
 abbrev pub value_in : List ℕ → Option ℤ
 value_in text =
-    if begins_with text (codes "-") then option_map (λ n. neg_ℤ (pos n)) (number_below (2 ^ 64) 10 20 (drop 1 text))
-    else if begins_with text (codes "0x") then option_map pos (number_below (2 ^ 64) 16 16 (drop 2 text))
+    if begins_with text (codes "-")
+    then option_map (λ n. neg_ℤ (pos n)) (number_below (2 ^ 64) 10 20 (drop 1 text))
+    else if begins_with text (codes "0x")
+    then option_map pos (number_below (2 ^ 64) 16 16 (drop 2 text))
     else option_map pos (number_below (2 ^ 64) 10 20 text)
 
 -- the bytes before the first space, and those after it where there is one
 abbrev pub cut_word : List ℕ → List ℕ × Option (List ℕ)
 cut_word [] = ([], None)
-cut_word (b ∷ text) = if b == 32 then ([], Some text) else (b ∷ (cut_word text).0, (cut_word text).1)
+cut_word (b ∷ text) =
+    if b == 32 then ([], Some text) else (b ∷ (cut_word text).0, (cut_word text).1)
 
 -- the order on a question and a value, where both are there
 abbrev pub question_order : {X : Type 0} → (ℕ → X → Order) → Option ℕ → Option X → Option Order
@@ -60,7 +63,8 @@ why_in text = option_map AskWhy (question_in text)
 -- the order of `lang` over what stands behind it
 abbrev pub lang_in : List ℕ → Option Order
 lang_in text =
-    if nat_le 1 (length text) && (nat_le (length text) 63 && list_all is_language_byte text) then Some (ChooseLanguage text) else None
+    if nat_le 1 (length text) && (nat_le (length text) 63 && list_all is_language_byte text)
+    then Some (ChooseLanguage text) else None
 
 -- the order of a word that stands alone
 abbrev pub plain_in : List ℕ → Option Order
@@ -87,4 +91,6 @@ order_in text = words_in (cut_word text)
 
 -- what a line without its LF is read as
 abbrev pub reading_of : List ℕ → Result Order BadLine
-reading_of line = if nat_lt LINE_LIMIT (length line) then Err LineTooLong else ok_or (order_in (without_return line)) BadCommand
+reading_of line =
+    if nat_lt LINE_LIMIT (length line) then Err LineTooLong
+    else ok_or (order_in (without_return line)) BadCommand

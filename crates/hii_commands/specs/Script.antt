@@ -1,6 +1,5 @@
 -- The lines of a script (own rule).
-use Rattle.std.specs.Prelude.{◌≡◌, ◌≢◌, ℕ, ◌==◌, nat_lt, Bool, List, [], ◌∷◌, ◌++◌, length, take, map, if◌then◌else◌}
-use Rattle.std.specs.List.{AllByRecursion, concat}
+use Rattle.std.specs.Prelude.{ℕ, ◌==◌, nat_lt, Bool, List, [], ◌∷◌, ◌++◌, length, take, if◌then◌else◌}
 use Rattle.hii_commands.specs.declared.limits.TheConstants.{SCRIPT_LIMIT}
 
 -- whether the byte ends a line
@@ -15,7 +14,9 @@ in_front b (line ∷ lines, rest) = ((b ∷ line) ∷ lines, rest)
 -- the lines whose LF stands in the bytes, without it, and what stands after the last LF
 abbrev pub cut_lines : List ℕ → List (List ℕ) × List ℕ
 cut_lines [] = ([], [])
-cut_lines (b ∷ bytes) = if ends_line b then ([] ∷ (cut_lines bytes).0, (cut_lines bytes).1) else in_front b (cut_lines bytes)
+cut_lines (b ∷ bytes) =
+    if ends_line b then ([] ∷ (cut_lines bytes).0, (cut_lines bytes).1)
+    else in_front b (cut_lines bytes)
 
 abbrev pub whole_lines : List ℕ → List (List ℕ)
 whole_lines bytes = (cut_lines bytes).0
@@ -38,28 +39,5 @@ is_too_long script = nat_lt SCRIPT_LIMIT (length script)
 
 -- the lines of a script that are run: of one that is too long those whose LF is among the first bytes
 abbrev pub lines_run : List ℕ → List (List ℕ)
-lines_run script = if is_too_long script then whole_lines (take SCRIPT_LIMIT script) else lines_of script
-
--- none of the bytes is this one
-abbrev pub Lacks : ℕ → List ℕ → Type 0
-Lacks byte bytes = AllByRecursion (λ b. b ≢ byte) bytes
-
--- no byte ends a line
-abbrev pub IsWithinLine : List ℕ → Type 0
-IsWithinLine bytes = Lacks 10 bytes
-
--- The bytes are these lines, each with an LF behind it, and a rest without one.
-pub record AreLines (bytes : List ℕ) (lines : List (List ℕ)) (rest : List ℕ) : Type 0 where
-  pub each : AllByRecursion IsWithinLine lines
-  pub last : IsWithinLine rest
-  pub whole : bytes ≡ concat (map (λ line. line ++ 10 ∷ []) lines) ++ rest
-
--- what two pieces are cut into, of which the second goes on where the first ends
-abbrev pub joined : List (List ℕ) × List ℕ → List (List ℕ) × List ℕ → List (List ℕ) × List ℕ
-joined (lines, rest) ([], last) = (lines, rest ++ last)
-joined (lines, rest) (line ∷ others, last) = (lines ++ (rest ++ line) ∷ others, last)
-
--- what pieces are cut into, each by itself and then joined
-abbrev pub cut_pieces : List (List ℕ) → List (List ℕ) × List ℕ
-cut_pieces [] = ([], [])
-cut_pieces (piece ∷ pieces) = joined (cut_lines piece) (cut_pieces pieces)
+lines_run script =
+    if is_too_long script then whole_lines (take SCRIPT_LIMIT script) else lines_of script

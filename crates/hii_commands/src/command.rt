@@ -1,13 +1,14 @@
 //! What a line asks for.
 
-ghost use Rattle.std.specs.Prelude.{◌≡◌, ◌⊎◌, ◌<◌, ◌≤◌, ◌^◌, ◌==◌, ℤ, pos, Some, None, Ok, Err, MatchResult, IfOk, IfSome, option_map};
+ghost use Rattle.std.specs.Prelude.{◌≡◌, ◌↔◌, ◌⊎◌, ◌<◌, ◌≤◌, ◌^◌, ◌==◌, ℤ, pos, [], Some, None, Ok, Err, IsTrue, MatchResult, IfOk, IfSome, option_map};
 ghost use Rattle.std.specs.List.{list_all};
 ghost use Rattle.std.specs.Str.{bytes_eq};
 ghost use Rattle.hii_commands.specs.Line.{without_return};
 ghost use Rattle.hii_commands.specs.Orders as orders;
 ghost use Rattle.hii_bytes.specs.Digits.{number_below};
 ghost use Rattle.hii_bytes.specs.NumberList.{IsList, numbers_of};
-ghost use Rattle.hii_commands.specs.Meaning.{Means, IsRefused, HasList, order_of, cause_of};
+ghost use Rattle.hii_commands.specs.laws.Asking.{Means, IsRefused};
+ghost use Rattle.hii_commands.specs.Meaning.{HasList, order_of, cause_of};
 ghost use Rattle.hii_commands.specs.Reading.{order_in, reading_of, set_in, elements_in, text_in, list_in, why_in, lang_in, plain_in, value_in, question_in, cut_word};
 
 use crate::limits::LINE_LIMIT;
@@ -38,9 +39,9 @@ pub enum Command<'a> {
 /// Why a line is no command.
 #[derive(Clone, Copy, Debug, PartialEq, Eq)]
 pub enum BadLine {
-    /// It has the form of no command.
+    /// The line has the form of no command.
     BadCommand,
-    /// It has more than 4,096 bytes.
+    /// The line has more than 4,096 bytes.
     LineTooLong,
 }
 
@@ -60,10 +61,12 @@ impl BadLine {
 /// Refuses by LineTooLong a line of more than 4,096 bytes, the CR counted, and by BadCommand one that is no command, as
 /// the empty line.
 pub fn read_line(line: &[u8]) -> Result<Command<'_>, BadLine>
-    ensures means { MatchResult result (λ command. Means line.now (order_of command)) (IsRefused line.now) }
+    ensures means { MatchResult result (λ command. Means line.now (order_of command))
+        (IsRefused line.now) }
     ensures list { IfOk result HasList }
-    // The same as a function of the line.
-    ensures reads { MatchResult result (λ command. reading_of line.now ≡ Ok (order_of command)) (λ bad. reading_of line.now ≡ Err bad) }
+    // The answer is the function `reading_of` of the line.
+    ensures reads { MatchResult result (λ command. reading_of line.now ≡ Ok (order_of command))
+        (λ bad. reading_of line.now ≡ Err bad) }
 {
     if line.len() > LINE_LIMIT {
         return Err(BadLine::LineTooLong);
@@ -74,6 +77,14 @@ pub fn read_line(line: &[u8]) -> Result<Command<'_>, BadLine>
     }
 }
 
+/// Whether the line is empty or a CR alone (own rule): a script passes over it, and as a command it is refused.
+pub fn is_blank(line: &[u8]) -> bool
+    ensures { IsTrue result ↔ (without_return line.now ≡ []) }
+{
+    drop_return(line).is_empty()
+}
+
+// The line without the CR at its end, where there is one.
 fn drop_return(line: &[u8]) -> &[u8]
     ensures { result.now ≡ without_return line.now }
 {
@@ -162,7 +173,8 @@ fn order_command(rest: &[u8]) -> Option<Command<'_>>
 
 // The list behind a word: the empty one where no space follows it.
 fn list_of(rest: Option<&[u8]>) -> Option<&[u8]>
-    ensures numbers { option_map (λ list. numbers_of list.now) result ≡ list_in (option_map (λ text. text.now) rest.entry) }
+    ensures numbers { option_map (λ list. numbers_of list.now) result
+        ≡ list_in (option_map (λ text. text.now) rest.entry) }
     ensures list { IfSome result (λ list. IsList list.now) }
 {
     match rest {

@@ -6,6 +6,6 @@ pub mod laws;
 mod limits;
 mod line;
 
-pub use command::{BadLine, Command, read_line};
+pub use command::{BadLine, Command, is_blank, read_line};
 pub use limits::{LINE_LIMIT, SCRIPT_LIMIT};
 pub use line::{Fed, LineBuffer};

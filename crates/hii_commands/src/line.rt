@@ -4,7 +4,7 @@ ghost use Rattle.std.specs.Prelude.{◌≡◌, ◌≤◌, ◌<◌, ◌+◌, ℕ,
 ghost use Rattle.std.specs.List.{position, before_first};
 ghost use Rattle.hii_bytes.specs.Faults.{out_of_memory};
 ghost use Rattle.hii_commands.specs.Script.{ends_line};
-ghost use Rattle.hii_commands.specs.Line.{held_of};
+ghost use Rattle.hii_commands.specs.code.Held.{held_of};
 
 use crate::command::BadLine;
 use crate::limits::LINE_LIMIT;
@@ -29,7 +29,7 @@ pub struct LineBuffer {
 impl Model for LineBuffer {
     ghost use Rattle.std.specs.Prelude.{◌≡◌, ◌≤◌, vec_len, vec_capacity, true};
     ghost use Rattle.hii_commands.specs.declared.limits.TheConstants.{LINE_LIMIT};
-    ghost use Rattle.hii_commands.specs.Line.{Held};
+    ghost use Rattle.hii_commands.specs.code.Held.{Held};
 
     ghost Value = { Held };
 
@@ -44,10 +44,10 @@ impl LineBuffer {
         ensures empty { IfOk result (λ buffer. buffer ≡ held_of []) }
         ensures memory { IfErr result (λ fault. fault ≡ out_of_memory) }
     {
-        match Vec::with_capacity(alloc, LINE_LIMIT) {
-            Ok(bytes) => Ok(LineBuffer { bytes, more: false }),
-            Err(_) => Err(Fault::out_of_memory()),
-        }
+        Ok(LineBuffer {
+            bytes: Vec::with_capacity(alloc, LINE_LIMIT)?,
+            more: false,
+        })
     }
 
     /// Takes the piece up to and with its first LF, or all of it.
@@ -77,7 +77,8 @@ impl LineBuffer {
     }
 
     fn append(&mut self, part: &[u8])
-        ensures { (line : List ℕ) → self.old ≡ held_of line → self.new ≡ held_of (line ++ part.now) }
+        ensures { (line : List ℕ) → self.old ≡ held_of line
+            → self.new ≡ held_of (line ++ part.now) }
     {
         let room = LINE_LIMIT - self.bytes.len();
         if part.len() <= room {
@@ -92,7 +93,8 @@ impl LineBuffer {
     /// counted.
     pub fn line(&self) -> Result<&[u8], BadLine>
         ensures { (line : List ℕ) → self.now ≡ held_of line
-            → MatchResult result (λ s. (length line ≤ LINE_LIMIT) × (s.now ≡ line)) (λ e. (LINE_LIMIT < length line) × (e ≡ BadLine.LineTooLong)) }
+            → MatchResult result (λ s. (length line ≤ LINE_LIMIT) × (s.now ≡ line))
+            (λ e. (LINE_LIMIT < length line) × (e ≡ BadLine.LineTooLong)) }
     {
         if self.more {
             Err(BadLine::LineTooLong)

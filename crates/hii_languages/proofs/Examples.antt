@@ -35,6 +35,6 @@ text_characters : (shown_text spoken (Some 1) 1 ≡ codes "E") × (shown_text sp
 unfolding spoken chars_of_units
 text_characters = (refl, refl, refl)
 
--- the packages of kind 4
+-- the packages of Type 4
 packages : string_packages ((4 ∷ 0 ∷ 0 ∷ 2 ∷ []) ∷ (5 ∷ 0 ∷ 0 ∷ 4 ∷ 7 ∷ []) ∷ []) ≡ record { place = 24; kind = 4; bytes = 5 ∷ 0 ∷ 0 ∷ 4 ∷ 7 ∷ [] } ∷ []
 packages = refl

@@ -18,7 +18,8 @@ string_packages packages = filter (λ e. e.kind == STRINGS) (entries packages)
 -- The faults of string packages, one part for each, in order: those of a package count only where the ones before it have none.
 abbrev pub IsStringsFault : List Entry → Cause → ℕ → Type 0
 IsStringsFault [] cause place = ⊥
-IsStringsFault (e ∷ es) cause place = Then (IsStringFaultIn e.bytes e.place) (IsStringsFault es) cause place
+IsStringsFault (e ∷ es) cause place =
+    Then (IsStringFaultIn e.bytes e.place) (IsStringsFault es) cause place
 
 -- Each string package says this.
 abbrev pub AreSpoken : List Entry → List Spoken → Type 0
@@ -41,5 +42,7 @@ first_package (s ∷ ss) = Some 0
 abbrev pub chosen : List Spoken → List ℕ → Option ℕ
 chosen spoken language =
     option_or (position (λ s. str_eq_ignore_ascii_case s.language language) spoken)
-    (option_or (position (λ s. str_eq_ignore_ascii_case (primary_subtag s.language) (primary_subtag language)) spoken)
+    (option_or
+    (position (λ s. str_eq_ignore_ascii_case (primary_subtag s.language)
+    (primary_subtag language)) spoken)
     (first_package spoken))

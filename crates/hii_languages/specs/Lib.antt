@@ -1,3 +1,3 @@
 pub mod Languages
 pub mod Shown
-pub mod Views
+pub mod code

@@ -4,17 +4,17 @@ ghost use Rattle.std.specs.Prelude.{◌≡◌, ◌==◌, List, IfOk, IfErr, opti
 ghost use Rattle.std.specs.Str.{str_eq_ignore_ascii_case};
 ghost use Rattle.hii_bytes.specs.Faults.{Refuses, out_of_memory};
 ghost use Rattle.sibt_strings.specs.Strings.{Speaks, IsStringFaultIn};
-ghost use Rattle.sibt_strings.specs.Views.{units_in};
+ghost use Rattle.sibt_strings.specs.code.Views.{units_in};
 ghost use Rattle.hii_languages.specs.Languages.{Spoken, string_packages, AreSpoken, IsStringsFault, primary_subtag, first_package, chosen};
 ghost use Rattle.hii_languages.specs.Shown.{shown, shown_text, text_in_package, text_under};
-ghost use Rattle.hii_languages.specs.Views.{choice_of, seen, text_of};
+ghost use Rattle.hii_languages.specs.code.Views.{choice_of, seen, text_of};
 
 use crate::choice::Choice;
 use crate::shown::Shown;
 use hii_bytes::{Fault, first_place};
 use hii_packages::{Package, PackageList, STRINGS};
 use sibt_strings::{StringTable, Strings, Units};
-use std::alloc::{AllocError, Global};
+use std::alloc::Global;
 use std::marker::Model;
 
 /// The string packages of a list, seen as what each says, in order.
@@ -52,31 +52,29 @@ fn is_same(language: &[u8], other: &[u8]) -> bool
 // The table of a string package.
 fn table_of<'a>(alloc: Global, source: Package<'a>) -> Result<StringTable<'a>, Fault>
     ensures read { IfOk result (Speaks source.entry.bytes.now) }
-    ensures refused { IfErr result (Refuses (IsStringFaultIn source.entry.bytes.now source.entry.place)) }
+    ensures refused { IfErr result
+        (Refuses (IsStringFaultIn source.entry.bytes.now source.entry.place)) }
 {
     let strings = Strings::read(source)?;
-    match StringTable::read(alloc, strings) {
-        Ok(table) => Ok(table),
-        Err(AllocError) => Err(Fault::out_of_memory()),
-    }
+    Ok(StringTable::read(alloc, strings)?)
 }
 
 impl<'a> Languages<'a> {
     /// The string packages of a list, or the least fault of the first that has one: StringHeader, LanguageText,
-    /// StringBlock or StringText, at its place in bytes from the list's front. OutOfMemory where a growth was refused.
+    /// StringBlock or StringText, at its place in bytes from the list's front. OutOfMemory (60) at 0 where an
+    /// allocation fails.
     pub fn read(alloc: Global, list: &PackageList<'a>) -> Result<Languages<'a>, Fault>
         ensures read { IfOk result (AreSpoken (string_packages list.now)) }
         ensures refused { IfErr result (Refuses (IsStringsFault (string_packages list.now))) }
-        // Where each string package says something they are read, unless memory is wanting.
-        ensures accepted { (spoken : List Spoken) → AreSpoken (string_packages list.now) spoken → IfErr result (λ fault. fault ≡ out_of_memory) }
+        // Where each string package says something they are read, unless an allocation fails.
+        ensures accepted { (spoken : List Spoken) → AreSpoken (string_packages list.now) spoken
+            → IfErr result (λ fault. fault ≡ out_of_memory) }
     {
         let mut tables = Vec::new(alloc);
         for source in list.packages() {
             if source.kind == STRINGS {
                 let table = table_of(alloc, source)?;
-                if tables.push(table).is_err() {
-                    return Err(Fault::out_of_memory());
-                }
+                tables.push(table)?;
             }
         }
         Ok(Languages { tables })
@@ -106,7 +104,8 @@ impl<'a> Languages<'a> {
 
     // The first string package of a language.
     fn with_language(&self, language: &[u8]) -> Option<usize>
-        ensures { result ≡ position (λ s. str_eq_ignore_ascii_case s.language language.now) self.now }
+        ensures { result
+            ≡ position (λ s. str_eq_ignore_ascii_case s.language language.now) self.now }
     {
         self.tables
             .iter()
@@ -115,7 +114,9 @@ impl<'a> Languages<'a> {
 
     // The first string package of a language with the same primary subtag.
     fn with_primary_subtag(&self, language: &[u8]) -> Option<usize>
-        ensures { result ≡ position (λ s. str_eq_ignore_ascii_case (primary_subtag s.language) (primary_subtag language.now)) self.now }
+        ensures { result
+            ≡ position (λ s. str_eq_ignore_ascii_case (primary_subtag s.language)
+            (primary_subtag language.now)) self.now }
     {
         let primary = primary_subtag_of(language);
         self.tables.iter().position(|table| is_same(primary_subtag_of(table.language()), primary))

@@ -10,17 +10,20 @@ use sibt_strings::Strings;
 
 /// String packages say one thing at most.
 pub fn packages_say_one_thing()
-    ensures { (es : List Entry) (spoken other : List Spoken) → AreSpoken es spoken → AreSpoken es other → spoken ≡ other }
+    ensures { (es : List Entry) (spoken other : List Spoken) → AreSpoken es spoken
+        → AreSpoken es other → spoken ≡ other }
 {}
 
 /// String packages that say something have no fault.
 pub fn packages_that_speak_have_no_fault()
-    ensures { (es : List Entry) (spoken : List Spoken) → AreSpoken es spoken → HasNone (IsStringsFault es) }
+    ensures { (es : List Entry) (spoken : List Spoken) → AreSpoken es spoken
+        → HasNone (IsStringsFault es) }
 {}
 
 /// String packages of a list that have no fault say something.
 pub fn packages_without_fault_speak(list: &PackageList<'_>)
-    ensures { HasNone (IsStringsFault (string_packages list.now)) → (spoken : List Spoken) × AreSpoken (string_packages list.now) spoken }
+    ensures { HasNone (IsStringsFault (string_packages list.now)) → (spoken : List Spoken)
+        × AreSpoken (string_packages list.now) spoken }
 {
     for source in list.packages() {
         if source.kind == STRINGS {

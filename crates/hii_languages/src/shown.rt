@@ -30,9 +30,9 @@ fn missing_text(id: u16) -> ArrayVec<u8, 6>
 }
 
 impl<'a> Shown<'a> {
-    ghost use Rattle.hii_languages.specs.Views.{text_of, chars_left};
+    ghost use Rattle.hii_languages.specs.code.Views.{text_of, chars_left};
 
-    /// Its characters.
+    /// The characters of the text.
     pub fn chars(self) -> ShownChars<'a>
         ensures { chars_left result ≡ text_of self.entry }
     {
@@ -55,8 +55,8 @@ pub struct ShownChars<'a> {
 
 impl<'a> ShownChars<'a> {
     ghost use Rattle.sibt_strings.specs.Units.{chars_of_units};
-    ghost use Rattle.sibt_strings.specs.Views.{units_in};
-    ghost use Rattle.hii_languages.specs.Views.{chars_left};
+    ghost use Rattle.sibt_strings.specs.code.Views.{units_in};
+    ghost use Rattle.hii_languages.specs.code.Views.{chars_left};
 
     fn new(missing: ArrayVec<u8, 6>, units: Units<'a>) -> ShownChars<'a>
         ensures { chars_left result ≡ missing.items ++ chars_of_units (units_in units.entry) }
@@ -71,7 +71,7 @@ impl<'a> ShownChars<'a> {
 
 impl<'a> Iterator for ShownChars<'a> {
     ghost use Rattle.std.specs.Iterator.{YieldsFirstBy, item_count};
-    ghost use Rattle.hii_languages.specs.Views.{chars_left};
+    ghost use Rattle.hii_languages.specs.code.Views.{chars_left};
 
     type Item = char;
 

@@ -1,7 +1,7 @@
 -- Worked values of the definitions.
 use Rattle.std.proofs.Common.{◌≡◌, ℕ, List, [], ◌∷◌, ◌++◌, replicate, Some, None, refl, lit≤}
 use Rattle.hii_bytes.specs.Numbers.{number_in}
-use Rattle.hii_packages.specs.Packages.{Spells, pieces, pieces_of, nth_forms, device_path_of}
+use Rattle.hii_packages.specs.Packages.{SpellsPackages, pieces, pieces_of, nth_forms, device_path_of}
 use Rattle.hii_packages.specs.Faults.{list_length}
 
 -- a list of the end package alone
@@ -12,7 +12,7 @@ empty_length : list_length empty_list ≡ 24
 unfolding number_in empty_list
 empty_length = refl
 
-empty_spelled : Spells empty_list []
+empty_spelled : SpellsPackages empty_list []
 unfolding number_in empty_list
 empty_spelled = record { each = tt; rest = []; whole = refl; list_length = refl }
 
@@ -23,7 +23,7 @@ forms_package = 6 ∷ 0 ∷ 0 ∷ 2 ∷ 0x29 ∷ 2 ∷ []
 forms_list : List ℕ
 forms_list = replicate 16 0 ++ (30 ∷ 0 ∷ 0 ∷ 0 ∷ []) ++ forms_package ++ (4 ∷ 0 ∷ 0 ∷ 0xDF ∷ 99 ∷ [])
 
-forms_spelled : Spells forms_list (forms_package ∷ [])
+forms_spelled : SpellsPackages forms_list (forms_package ∷ [])
 unfolding number_in forms_list forms_package
 forms_spelled = record { each = (record { header = lit≤ tt; sized = refl; kind = λ e. cc }, tt); rest = 99 ∷ []; whole = refl; list_length = refl }
 

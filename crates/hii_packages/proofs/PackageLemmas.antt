@@ -5,7 +5,8 @@ use Rattle.std.proofs.lemmas.List.{append-nil, nil_from_length, take_at, drop_at
 use Rattle.std.proofs.lemmas.Bool.Decides.{nat_tests}
 use Rattle.hii_bytes.specs.Numbers.{number_in}
 use Rattle.hii_bytes.proofs.NumberLemmas.{number_in-append, number_in-nil}
-use Rattle.hii_packages.specs.Packages.{Entry, IsPackage, pieces, pieces_of, stops, placed, ArePackages}
+use Rattle.hii_packages.specs.Packages.{Entry, IsPackage, pieces, pieces_of, stops, placed}
+use Rattle.hii_packages.specs.code.Ends.{ArePackages}
 
 -- a package at the front tells its length
 pub number_in-package : (p tail : List ℕ) → IsPackage p → number_in (p ++ tail) 0 3 ≡ length p

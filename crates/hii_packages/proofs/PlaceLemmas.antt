@@ -7,7 +7,8 @@ use Rattle.hii_bytes.specs.declared.cause.Fault.{Fault}
 use Rattle.hii_bytes.specs.Cause.{number_of}
 use Rattle.hii_bytes.specs.Faults.{IsLeast, HasNone}
 use Rattle.hii_packages.specs.declared.package.TheConstants.{END}
-use Rattle.hii_packages.specs.Faults.{list_length, size_at, kind_at, IsWhole, IsAfter, Begins, IsBadLength, IsListFault, HasHeader, EndsAt}
+use Rattle.hii_packages.specs.Faults.{list_length, size_at, kind_at, IsWholePackage, IsAfter, Begins, IsBadLength, IsListFault, HasHeader}
+use Rattle.hii_packages.specs.code.Ends.{EndsAt}
 
 -- as many packages end at one place
 after_same : (list : List ℕ) (n p q : ℕ) → IsAfter list n p → IsAfter list n q → p ≡ q
@@ -17,7 +18,7 @@ after_same list (suc n) p q (b, hb, _, eb) (c, hc, _, ec) =
     eb ∙ ap (λ x. x + size_at list x) same ∙ sym ec
 
 -- where more packages follow, a whole one stands before them
-after_less : (list : List ℕ) (m n p q : ℕ) → m < n → IsAfter list m p → IsAfter list n q → IsWhole list p × (p + size_at list p ≤ q)
+after_less : (list : List ℕ) (m n p q : ℕ) → m < n → IsAfter list m p → IsAfter list n q → IsWholePackage list p × (p + size_at list p ≤ q)
 after_less list m zero p q lt hp hq = absurd (omega arith)
 after_less list m (suc n) p q lt hp (b, hb, whole, e) =
     elim (cases_lt m n) [
@@ -25,11 +26,11 @@ after_less list m (suc n) p q lt hp (b, hb, whole, e) =
       | inr above ↦ (
           let count : m ≡ n = omega arith in
           let same : p ≡ b = after_same list n p b (subst (λ k. IsAfter list k p) count hp) hb in
-          (subst (IsWhole list) (sym same) whole, omega (arith, same, e, ap (size_at list) same)))
+          (subst (IsWholePackage list) (sym same) whole, omega (arith, same, e, ap (size_at list) same)))
     ]
 
 -- of two places where packages begin the first has a whole package up to the second
-pub begins_less : (list : List ℕ) (p q : ℕ) → Begins list p → Begins list q → p < q → IsWhole list p × (p + size_at list p ≤ q)
+pub begins_less : (list : List ℕ) (p q : ℕ) → Begins list p → Begins list q → p < q → IsWholePackage list p × (p + size_at list p ≤ q)
 begins_less list p q (m, hp) (n, hq) lt =
     elim (cases_lt m n) [
       | inl below ↦ after_less list m n p q below hp hq
@@ -47,18 +48,18 @@ begins_from list p (suc n, (b, hb, whole, e)) = omega (arith, begins_from list b
 -- behind a whole package the next begins
 pub begins_next : (list : List ℕ) (place size : ℕ) → Begins list place → size ≡ size_at list place → 4 ≤ size → place + size ≤ list_length list → kind_at list place ≢ END → Begins list (place + size)
 begins_next list place size b told header inside kind =
-    let whole : IsWhole list place = record { header = omega arith; inside = omega arith; kind = kind } in
+    let whole : IsWholePackage list place = record { header = omega arith; inside = omega arith; kind = kind } in
     (suc b.0, (place, b.1, whole, ap (λ k. place + k) told))
 
 -- the place where the whole packages stop, and what is wrong there
 record Stop (list : List ℕ) (cause : Cause) (place : ℕ) (stop : ℕ) : Type 0 where
   begins : Begins list stop
-  no_more : IsWhole list stop → ⊥
+  no_more : IsWholePackage list stop → ⊥
   why : ((cause ≡ PackageLength) × (place ≡ stop) × (stop < list_length list) × IsBadLength list stop)
       ⊎ ((cause ≡ NoEnd) × (place ≡ stop) × (stop ≡ list_length list))
       ⊎ ((cause ≡ AfterEnd) × (place ≡ stop + 4) × (kind_at list stop ≡ END) × (size_at list stop ≡ 4) × (stop + 4 < list_length list))
 
-bad_not_whole : (list : List ℕ) (place : ℕ) → IsBadLength list place → IsWhole list place → ⊥
+bad_not_whole : (list : List ℕ) (place : ℕ) → IsBadLength list place → IsWholePackage list place → ⊥
 bad_not_whole list place (inl cut) w = omega (arith, cut, w.inside, w.header)
 bad_not_whole list place (inr (inl low)) w = omega (arith, low, w.header)
 bad_not_whole list place (inr (inr (inl high))) w = omega (arith, high, w.inside)
@@ -74,7 +75,7 @@ stop_of list AfterEnd place h (_, end, begins, kind, size, at, last) =
 stop_of list _ place h f = absurd f
 
 -- the whole packages stop at one place
-same_stop : (list : List ℕ) (p q : ℕ) → Begins list p → Begins list q → (IsWhole list p → ⊥) → (IsWhole list q → ⊥) → p ≡ q
+same_stop : (list : List ℕ) (p q : ℕ) → Begins list p → Begins list q → (IsWholePackage list p → ⊥) → (IsWholePackage list q → ⊥) → p ≡ q
 same_stop list p q hp hq np nq =
     elim (cases_lt p q) [
       | inl below ↦ absurd (np (begins_less list p q hp hq below).0)

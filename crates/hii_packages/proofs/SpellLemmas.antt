@@ -9,8 +9,11 @@ use Rattle.std.proofs.lemmas.Bool.Decides.{nat_tests}
 use Rattle.hii_bytes.specs.Numbers.{number_in}
 use Rattle.hii_bytes.proofs.NumberLemmas.{number_in-append, number_in-drop}
 use Rattle.hii_packages.specs.declared.package.TheConstants.{END}
-use Rattle.hii_packages.specs.Packages.{IsPackage, Spells, LiesIn, placed, entries, pieces, pieces_of, stops, end_package, ArePackages}
-use Rattle.hii_packages.specs.Faults.{list_length, size_at, kind_at, IsWhole, IsAfter, Begins, EndsAt}
+use Rattle.hii_packages.specs.Packages.{IsPackage, SpellsPackages, placed, entries, pieces, pieces_of, stops, end_package}
+use Rattle.hii_packages.specs.laws.Places.{LiesIn}
+use Rattle.hii_packages.specs.code.Ends.{ArePackages}
+use Rattle.hii_packages.specs.Faults.{list_length, size_at, kind_at, IsWholePackage, IsAfter, Begins}
+use Rattle.hii_packages.specs.code.Ends.{EndsAt}
 use Rattle.hii_packages.proofs.PackageLemmas.{pieces-concat, pieces_of-concat, number_in-package}
 use Rattle.hii_packages.proofs.PlaceLemmas.{begins_from}
 
@@ -23,7 +26,7 @@ size_from : (list : List ℕ) (place : ℕ) → number_in (drop place list) 0 3 
 size_from list place = number_in-drop list place 0 3 ∙ ap (λ x. number_in list x 3) (add-zero place)
 
 -- the bytes of a whole package at a place are a package
-package_at : (list : List ℕ) (place : ℕ) → list_length list ≤ length list → IsWhole list place → IsPackage (take (size_at list place) (drop place list))
+package_at : (list : List ℕ) (place : ℕ) → list_length list ≤ length list → IsWholePackage list place → IsPackage (take (size_at list place) (drop place list))
 package_at list place inside w =
     let size = size_at list place in
     let rest = drop place list in
@@ -76,19 +79,19 @@ end_at : (list : List ℕ) (place : ℕ) → ((i : ℕ) → get_or list i 0 < 25
 end_at list place bytes inside kind size = at_from_reads 0 list end_package place inside (end_cell list place bytes kind size)
 
 -- a list whose packages end where it ends spells the packages up to there
-pub spells_from_end : (list : List ℕ) (end : ℕ) → ((i : ℕ) → get_or list i 0 < 256) → EndsAt list end → ArePackages (slice_range list 20 end) × Spells list (pieces_of (slice_range list 20 end))
+pub spells_from_end : (list : List ℕ) (end : ℕ) → ((i : ℕ) → get_or list i 0 < 256) → EndsAt list end → ArePackages (slice_range list 20 end) × SpellsPackages list (pieces_of (slice_range list 20 end))
 spells_from_end list end bytes e =
     let r = cut_at list e.begins.0 end e.inside e.begins.1 in
     let from = begins_from list end e.begins in
     let cut : pieces_of (slice_range list 20 end) ≡ r.0 = ap pieces_of r.2 ∙ pieces_of-concat r.0 r.1 in
     let stand : length (slice_range list 20 end) ≡ end - 20 = length-take-le (end - 20) (drop 20 list) (omega (arith, length-drop 20 list, e.last, e.inside)) in
-    let spelled : Spells list r.0 = record {
+    let spelled : SpellsPackages list r.0 = record {
       each = r.1;
       rest = drop (end + 4) list;
       whole = drop_split list 20 end from ∙ ap (λ x. x ++ drop end list) r.2 ∙ ap (λ x. concat r.0 ++ x) (end_at list end bytes (omega (arith, e.last, e.inside)) e.kind e.size);
       list_length = omega (arith, e.last, stand, ap length r.2, from);
     } in
-    ((r.0, r.1, r.2), subst (Spells list) (sym cut) spelled)
+    ((r.0, r.1, r.2), subst (SpellsPackages list) (sym cut) spelled)
 
 -- where packages stand from a place on, as many whole ones follow
 after_packages : (list tail : List ℕ) (ps : List (List ℕ)) (n place : ℕ) → AllByRecursion IsPackage ps → drop place list ≡ concat ps ++ tail → IsAfter list n place → place + length (concat ps) ≤ list_length list → Begins list (place + length (concat ps))
@@ -98,7 +101,7 @@ after_packages list tail (p ∷ ps) n place each stand after inside =
     let size : size_at list place ≡ length p = sym (size_from list place) ∙ ap (λ b. number_in b 0 3) front ∙ number_in-package p (concat ps ++ tail) each.0 in
     let kind : kind_at list place ≡ get_or p 3 0 = sym (get_or-drop place list 3 0) ∙ ap (λ b. get_or b 3 0) front ∙ get_or_append_left p (concat ps ++ tail) 0 3 (omega (arith, each.0.header)) in
     let both = length-append p (concat ps) in
-    let whole : IsWhole list place = record { header = omega (arith, size, each.0.header); inside = omega (arith, size, both, inside); kind = λ e. each.0.kind (sym kind ∙ e) } in
+    let whole : IsWholePackage list place = record { header = omega (arith, size, each.0.header); inside = omega (arith, size, both, inside); kind = λ e. each.0.kind (sym kind ∙ e) } in
     let next : drop (place + length p) list ≡ concat ps ++ tail = sym (drop-drop (length p) place list) ∙ ap (drop (length p)) front ∙ drop_at p (concat ps ++ tail) (length p) refl in
     let rest = after_packages list tail ps (suc n) (place + length p) each.1 next (place, after, whole, ap (λ k. place + k) (sym size)) (omega (arith, both, inside)) in
     subst (Begins list) (omega (arith, both)) rest
@@ -111,7 +114,7 @@ stops_end : (rest : List ℕ) → stops (end_package ++ rest) ≡ true
 stops_end rest = let size = size_of_end rest in grind (arith, nat_tests)
 
 -- a list that spells packages ends where it says
-pub end_from_spells : (list : List ℕ) (ps : List (List ℕ)) → Spells list ps → EndsAt list (20 + length (concat ps))
+pub end_from_spells : (list : List ℕ) (ps : List (List ℕ)) → SpellsPackages list ps → EndsAt list (20 + length (concat ps))
 end_from_spells list ps s =
     let tail = end_package ++ s.rest in
     let long : length list - 20 ≡ length (concat ps) + (4 + length s.rest) = omega (arith, length-drop 20 list, ap length s.whole, length-append (concat ps) tail) in
@@ -126,7 +129,7 @@ end_from_spells list ps s =
     }
 
 -- a list spells one list of packages at most
-pub one_spelled : (list : List ℕ) (ps qs : List (List ℕ)) → Spells list ps → Spells list qs → ps ≡ qs
+pub one_spelled : (list : List ℕ) (ps qs : List (List ℕ)) → SpellsPackages list ps → SpellsPackages list qs → ps ≡ qs
 one_spelled list ps qs s t =
     let n = length (concat ps) + length (concat qs) in
     sym (pieces-concat n ps _ s.each (stops_end s.rest) (omega arith)) ∙ ap (pieces n) (sym s.whole ∙ t.whole) ∙ pieces-concat n qs _ t.each (stops_end t.rest) (omega arith)
@@ -142,5 +145,5 @@ placed_lie list tail (p ∷ ps) place stand =
     ((ap (λ n. take n (drop place list)) size ∙ here, refl), placed_lie list tail ps (place + length p) next)
 
 -- the packages that a list spells lie at their places
-pub spelled_lie : (list : List ℕ) (ps : List (List ℕ)) → Spells list ps → AllByRecursion (LiesIn list) (entries ps)
+pub spelled_lie : (list : List ℕ) (ps : List (List ℕ)) → SpellsPackages list ps → AllByRecursion (LiesIn list) (entries ps)
 spelled_lie list ps s = placed_lie list (end_package ++ s.rest) ps 20 s.whole

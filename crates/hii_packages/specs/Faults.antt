@@ -5,7 +5,7 @@ use Rattle.hii_bytes.specs.declared.cause.Cause.{Cause}
 use Rattle.hii_bytes.specs.declared.cause.Cause.TheVariants.{ListShort, ListLength, PackageLength, NoEnd, AfterEnd, NoForms}
 use Rattle.hii_bytes.specs.Numbers.{number_in}
 use Rattle.hii_packages.specs.declared.package.TheConstants.{END}
-use Rattle.hii_packages.specs.Packages.{Spells, nth_forms}
+use Rattle.hii_packages.specs.Packages.{SpellsPackages, nth_forms}
 
 -- the length of the list that its header tells
 abbrev pub list_length : List ℕ → ℕ
@@ -21,12 +21,12 @@ pub record HasHeader (list : List ℕ) : Type 0 where
 abbrev pub size_at : List ℕ → ℕ → ℕ
 size_at list place = number_in list place 3
 
--- the kind that a package's header tells
+-- the Type that a package's header tells
 abbrev pub kind_at : List ℕ → ℕ → ℕ
 kind_at list place = slice_index list (place + 3)
 
 -- A whole package that is not the end package stands at this place.
-pub record IsWhole (list : List ℕ) (place : ℕ) : Type 0 where
+pub record IsWholePackage (list : List ℕ) (place : ℕ) : Type 0 where
   pub header : 4 ≤ size_at list place
   pub inside : place + size_at list place ≤ list_length list
   pub kind : kind_at list place ≢ END
@@ -34,7 +34,9 @@ pub record IsWhole (list : List ℕ) (place : ℕ) : Type 0 where
 -- the place after the header of the list and this many whole packages
 abbrev pub IsAfter : List ℕ → ℕ → ℕ → Type 0
 IsAfter list zero place = place ≡ 20
-IsAfter list (suc n) place = (before : ℕ) × IsAfter list n before × IsWhole list before × (place ≡ before + size_at list before)
+IsAfter list (suc n) place =
+    (before : ℕ) × IsAfter list n before × IsWholePackage list before
+    × (place ≡ before + size_at list before)
 
 -- a package begins at this place, or nothing follows
 abbrev pub Begins : List ℕ → ℕ → Type 0
@@ -43,29 +45,27 @@ Begins list place = (n : ℕ) × IsAfter list n place
 -- The header is cut, or it tells a length that is too small, too large or wrong for the end package.
 abbrev pub IsBadLength : List ℕ → ℕ → Type 0
 IsBadLength list place =
-    (list_length list < place + 4) ⊎ (size_at list place < 4) ⊎ (list_length list < place + size_at list place)
+    (list_length list < place + 4) ⊎ (size_at list place < 4)
+    ⊎ (list_length list < place + size_at list place)
     ⊎ ((kind_at list place ≡ END) × (size_at list place ≢ 4))
 
 -- Fewer bytes than a header; a length of the list that is too small or too large; behind a right header a package of
 -- a bad length, no end package, or bytes after the end package.
 abbrev pub IsListFault : List ℕ → Cause → ℕ → Type 0
 IsListFault list ListShort place = (place ≡ 0) × (length list < 20)
-IsListFault list ListLength place = (place ≡ 16) × (20 ≤ length list) × ((list_length list < 20) ⊎ (length list < list_length list))
-IsListFault list PackageLength place = HasHeader list × Begins list place × (place < list_length list) × IsBadLength list place
+IsListFault list ListLength place =
+    (place ≡ 16) × (20 ≤ length list) × ((list_length list < 20) ⊎ (length list < list_length list))
+IsListFault list PackageLength place =
+    HasHeader list × Begins list place × (place < list_length list) × IsBadLength list place
 IsListFault list NoEnd place = HasHeader list × Begins list place × (place ≡ list_length list)
 IsListFault list AfterEnd place =
-    HasHeader list × (end : ℕ) × Begins list end × (kind_at list end ≡ END) × (size_at list end ≡ 4) × (place ≡ end + 4) × (place < list_length list)
+    HasHeader list × (end : ℕ) × Begins list end × (kind_at list end ≡ END) × (size_at list end ≡ 4)
+    × (place ≡ end + 4) × (place < list_length list)
 IsListFault list _ place = ⊥
 
 -- The packages that the list spells have no forms package of this number.
 abbrev pub IsFormsFault : List ℕ → ℕ → Cause → ℕ → Type 0
-IsFormsFault list n NoForms place = (place ≡ 0) × (packages : List (List ℕ)) × Spells list packages × (nth_forms packages n ≡ None)
+IsFormsFault list n NoForms place =
+    (place ≡ 0) × (packages : List (List ℕ)) × SpellsPackages list packages
+    × (nth_forms packages n ≡ None)
 IsFormsFault list n _ place = ⊥
-
--- the end package stands at this place, and the list ends behind it
-pub record EndsAt (list : List ℕ) (end : ℕ) : Type 0 where
-  pub begins : Begins list end
-  pub kind : kind_at list end ≡ END
-  pub size : size_at list end ≡ 4
-  pub last : end + 4 ≡ list_length list
-  pub inside : list_length list ≤ length list

@@ -2,9 +2,10 @@
 
 ghost use Rattle.std.specs.Prelude.{◌≡◌, ◌+◌, ◌^◌, ◌<◌, ◌≤◌, ℕ, List, length, IfOk, IfErr, IsOk, Some, None};
 ghost use Rattle.hii_bytes.specs.Faults.{IsLeast};
-ghost use Rattle.hii_packages.specs.Packages.{Spells, entries, nth_forms, device_path_of};
-ghost use Rattle.hii_packages.specs.Package.{entry_of};
-ghost use Rattle.hii_packages.specs.Faults.{list_length, IsListFault, IsFormsFault, HasHeader, EndsAt};
+ghost use Rattle.hii_packages.specs.Packages.{SpellsPackages, entries, nth_forms, device_path_of};
+ghost use Rattle.hii_packages.specs.code.Package.{entry_of};
+ghost use Rattle.hii_packages.specs.Faults.{list_length, IsListFault, IsFormsFault, HasHeader};
+ghost use Rattle.hii_packages.specs.code.Ends.{EndsAt};
 
 use crate::package::{DEVICE_PATH, END, FORMS, Package};
 use crate::packages::Packages;
@@ -19,7 +20,8 @@ pub struct PackageList<'a> {
 
 impl<'a> Model for PackageList<'a> {
     ghost use Rattle.std.specs.Prelude.{ℕ, List, ◌+◌, ◌<◌, ◌^◌, length};
-    ghost use Rattle.hii_packages.specs.Packages.{pieces_of, ArePackages};
+    ghost use Rattle.hii_packages.specs.Packages.{pieces_of};
+    ghost use Rattle.hii_packages.specs.code.Ends.{ArePackages};
 
     ghost Value = { List (List ℕ) };
 
@@ -35,10 +37,11 @@ impl<'a> PackageList<'a> {
     /// 4 at the end package, NoEnd at the list's end where no end package came, AfterEnd behind an end package that comes
     /// before it. Bytes behind the list's own length are not looked at (own rule).
     pub fn read(list: &'a [u8]) -> Result<PackageList<'a>, Fault>
-        ensures spelled { IfOk result (λ packages. Spells list.now packages) }
+        ensures spelled { IfOk result (λ packages. SpellsPackages list.now packages) }
         ensures refused { IfErr result (IsLeast (IsListFault list.now)) }
         // Where the bytes spell packages, they are read.
-        ensures accepted { (packages : List (List ℕ)) → Spells list.now packages → IsOk result }
+        ensures accepted { (packages : List (List ℕ)) → SpellsPackages list.now packages
+            → IsOk result }
     {
         if list.len() < 20 {
             return Err(Fault::at(Cause::ListShort, 0));
@@ -68,7 +71,8 @@ impl<'a> PackageList<'a> {
         ensures missing { IfErr result (λ fault. (nth_forms self.now n ≡ None)
             × (fault ≡ record { cause = Cause.NoForms; place = 0 })) }
         // Of the bytes that spell these packages it is the least fault.
-        ensures refused { IfErr result (λ fault. (list : List ℕ) → Spells list self.now → IsLeast (IsFormsFault list n) fault) }
+        ensures refused { IfErr result (λ fault. (list : List ℕ) → SpellsPackages list self.now
+            → IsLeast (IsFormsFault list n) fault) }
     {
         let missing = Fault::at(Cause::NoForms, 0);
         if n == 0 {

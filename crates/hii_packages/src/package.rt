@@ -2,19 +2,19 @@
 
 ghost use Rattle.std.specs.Prelude.{◌+◌, ◌<◌, ◌≤◌, ◌^◌, length};
 
-/// The kind of a forms package.
+/// The Type of a forms package.
 pub const FORMS: u8 = 0x02;
 
-/// The kind of a string package.
+/// The Type of a string package.
 pub const STRINGS: u8 = 0x04;
 
-/// The kind of a package that tells a device path.
+/// The Type of a package that tells a device path.
 pub const DEVICE_PATH: u8 = 0x08;
 
-/// The kind of the package that ends a list.
+/// The Type of the package that ends a list.
 pub const END: u8 = 0xDF;
 
-/// A package of a list (UEFI 2.8, 33.3.1): its place in bytes from the list's front, its kind, and all of its bytes
+/// A package of a list (UEFI 2.8, 33.3.1): its place in bytes from the list's front, its Type, and all of its bytes
 /// with the header of four. A package has less than 2^24 bytes.
 #[derive(Clone, Copy, Debug)]
 pub struct Package<'a> {

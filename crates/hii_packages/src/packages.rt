@@ -1,7 +1,8 @@
 //! The packages of a list, one after the other.
 
 ghost use Rattle.std.specs.Prelude.{◌≡◌, ◌+◌, ◌<◌, ◌^◌, ◌++◌, ◌∷◌, length};
-ghost use Rattle.hii_packages.specs.Packages.{IsPackage, ArePackages, placed, pieces_of};
+ghost use Rattle.hii_packages.specs.Packages.{IsPackage, placed, pieces_of};
+ghost use Rattle.hii_packages.specs.code.Ends.{ArePackages};
 
 use crate::package::Package;
 use hii_bytes::u24_at;
@@ -16,7 +17,8 @@ pub struct Packages<'a> {
 
 impl<'a> Model for Packages<'a> {
     ghost use Rattle.std.specs.Prelude.{List, ◌+◌, ◌<◌, ◌^◌, length};
-    ghost use Rattle.hii_packages.specs.Packages.{Entry, placed, pieces_of, ArePackages};
+    ghost use Rattle.hii_packages.specs.Packages.{Entry, placed, pieces_of};
+    ghost use Rattle.hii_packages.specs.code.Ends.{ArePackages};
 
     ghost Value = { List Entry };
 
@@ -52,7 +54,7 @@ fn split_first(rest: &[u8]) -> (&[u8], &[u8])
 
 impl<'a> Iterator for Packages<'a> {
     ghost use Rattle.std.specs.Iterator.{YieldsFirstBy, item_count};
-    ghost use Rattle.hii_packages.specs.Package.{entry_of};
+    ghost use Rattle.hii_packages.specs.code.Package.{entry_of};
 
     type Item = Package<'a>;
 

@@ -4,22 +4,23 @@ use Rattle.std.specs.Prelude.{Result}
 use Rattle.std.specs.List.{flat_map}
 use Rattle.std.specs.Option.{option_or}
 use Rattle.std.proofs.lemmas.List.{drop_more}
-use Rattle.hii_bytes.specs.Faults.{first_cause, fault_or}
+use Rattle.hii_bytes.specs.code.FirstFaults.{first_cause, fault_or}
 use Rattle.hii_bytes.specs.declared.cause.Cause.{Cause}
 use Rattle.hii_bytes.specs.declared.cause.Fault.{Fault}
 use Rattle.hii_varstore.specs.Layout.{Shape}
 use Rattle.ifr_opcodes.specs.Forest.{Placed}
 use Rattle.ifr_scopes.specs.Nodes.{options}
 use Rattle.hii_questions.specs.Fields.{Asked}
-use Rattle.hii_questions.specs.Faults.{Part, option, place_of, has_fault, has_field_fault, has_option_fault, causes, parts_of}
-use Rattle.hii_questions.specs.FaultTells.{first_part_fault, first_option_fault, TellsFault}
-use Rattle.hii_questions.specs.Views.{question_view}
+use Rattle.hii_questions.specs.Faults.{QuestionPart, option, place_of, has_question_fault, has_field_fault, has_option_fault, parts_of}
+use Rattle.hii_questions.specs.code.Causes.{question_causes}
+use Rattle.hii_questions.specs.code.FaultTells.{first_part_fault, first_option_fault, TellsFault}
+use Rattle.hii_questions.specs.code.Views.{question_view}
 use Rattle.hii_questions.specs.declared.question.Question.{Question}
 
 -- the first fault of some parts and of others behind them
-first_both : (shape : Shape) (known : ℕ → Bool) (ps qs : List Part) → first_part_fault shape known (ps ++ qs) ≡ option_or (first_part_fault shape known ps) (first_part_fault shape known qs)
+first_both : (shape : Shape) (known : ℕ → Bool) (ps qs : List QuestionPart) → first_part_fault shape known (ps ++ qs) ≡ option_or (first_part_fault shape known ps) (first_part_fault shape known qs)
 first_both shape known [] qs = refl
-first_both shape known (p ∷ ps) qs = ap (fault_or (first_cause (has_fault shape known) p causes) (place_of p)) (first_both shape known ps qs) ∙ go (first_cause (has_fault shape known) p causes)
+first_both shape known (p ∷ ps) qs = ap (fault_or (first_cause (has_question_fault shape known) p question_causes) (place_of p)) (first_both shape known ps qs) ∙ go (first_cause (has_question_fault shape known) p question_causes)
   where
     go : (c : Option Cause) → fault_or c (place_of p) (option_or (first_part_fault shape known ps) (first_part_fault shape known qs)) ≡ option_or (fault_or c (place_of p) (first_part_fault shape known ps)) (first_part_fault shape known qs)
     go None = refl
@@ -43,10 +44,10 @@ first_here shape known qs i q f within is e =
 -- the first fault of the options of a question as parts
 options_same : (shape : Shape) (known : ℕ → Bool) (q : Asked) (os : List Placed) → first_part_fault shape known (map (option q) os) ≡ first_option_fault q.node os
 options_same shape known q [] = refl
-options_same shape known q (o ∷ os) = ap (fault_or (first_cause (has_option_fault q.node) o causes) o.place) (options_same shape known q os)
+options_same shape known q (o ∷ os) = ap (fault_or (first_cause (has_option_fault q.node) o question_causes) o.place) (options_same shape known q os)
 
 -- a question without a fault of its own, and its options
-pub question_told : (shape : Shape) (known : ℕ → Bool) (q : Asked) (r : Result (Unit {0}) Fault) → None ≡ first_cause (has_field_fault shape known) q causes
+pub question_told : (shape : Shape) (known : ℕ → Bool) (q : Asked) (r : Result (Unit {0}) Fault) → None ≡ first_cause (has_field_fault shape known) q question_causes
     → TellsFault (first_option_fault q.node (options q.node)) r → TellsFault (first_part_fault shape known (parts_of q)) r
 question_told shape known q r own told =
     let rest = first_part_fault shape known (map (option q) (options q.node)) in

@@ -5,7 +5,8 @@ use Rattle.std.proofs.lemmas.Nat.{div-mul-add, div_below}
 use Rattle.std.proofs.lemmas.Bool.{cases_Bool, eqb-true}
 use Rattle.std.specs.List.{take_while, prefix_len}
 use Rattle.byteorder.specs.Endian.{little_number}
-use Rattle.hii_questions.specs.Items.{numbers, numbers_in, is_item, items_in, is_width}
+use Rattle.hii_questions.specs.Items.{numbers, numbers_in, is_item, items_in}
+use Rattle.hii_questions.specs.code.Widths.{is_width}
 
 -- a width is one of four numbers
 pub widths : (w : ℕ) → is_width w ≡ true → (w ≡ 1) ⊎ (w ≡ 2) ⊎ (w ≡ 4) ⊎ (w ≡ 8)

@@ -11,11 +11,11 @@ use Rattle.byteorder.specs.Endian.{little_number, little_bytes}
 use Rattle.byteorder.specs.Numbers.{little_number-reads_back, length-bytes_low_first, little_from-lt}
 use Rattle.ifr_expr.specs.Values as values
 use Rattle.ifr_expr.specs.Values.{Value, undefined, boolean, natural, buffer}
-use Rattle.hii_questions.specs.Answers.{value_in}
+use Rattle.hii_questions.specs.Answers.{answer_in}
 use Rattle.hii_questions.specs.FieldTypes.{FieldType, checkbox, numeric, one_of, text, ordered_list, size_of_type}
-use Rattle.hii_questions.specs.Inputs.{Offer, whole, raw, utf8, units, listed, elements, fits_type, checkbox_number, bits_of, fitting_bits, numeric_bytes, shown, is_offered, offered, chosen_bytes, text_bytes, is_text, is_bad_character, list_denial, bytes_unless, list_bytes}
+use Rattle.hii_questions.specs.Inputs.{Offer, whole, raw, utf8, units, listed, elements, fits_type, checkbox_number, bits_of, fitting_bits, numeric_bytes, number_of_bits, is_offered, offered, chosen_bytes, text_bytes, is_text, is_bad_character, list_denial, bytes_unless, list_bytes}
 use Rattle.hii_questions.specs.Items.{items_in, is_item, spelled, filled, numbers, bytes_of_items}
-use Rattle.hii_questions.specs.Laws.{complement, choice, taken_as, AreBytes, HasBytes}
+use Rattle.hii_questions.specs.laws.Fields.{complement, choice, taken_as, AreBytes, HasBytes}
 use Rattle.hii_questions.specs.declared.denial.DenialKind.{DenialKind}
 use Rattle.hii_questions.specs.declared.denial.DenialKind.TheVariants.{Range, NoOption, Length, BadText}
 use Rattle.hii_questions.proofs.ItemLemmas.{while_more}
@@ -33,24 +33,24 @@ taken bytes = Ok bytes
 same_bytes : (a b : List ℕ) → taken a ≡ taken b → a ≡ b
 same_bytes a b e = cc
 
-checkbox_kept : (n : ℤ) (bytes : List ℕ) → checkbox_number n ≡ Ok bytes → (value_in checkbox bytes ≡ taken_as checkbox (whole n)) × (length bytes ≡ 1)
+checkbox_kept : (n : ℤ) (bytes : List ℕ) → checkbox_number n ≡ Ok bytes → (answer_in checkbox bytes ≡ taken_as checkbox (whole n)) × (length bytes ≡ 1)
 checkbox_kept (pos n) bytes e = elim (cases_Bool (eqb n 0)) [
   | inl off ↦
       let is : 0 ∷ [] ≡ bytes = same_bytes (0 ∷ []) bytes (sym (rw off refl) ∙ e) in
-      (ap (value_in checkbox) (sym is) ∙ rw off refl, ap (length {A = ℕ}) (sym is))
+      (ap (answer_in checkbox) (sym is) ∙ rw off refl, ap (length {A = ℕ}) (sym is))
   | inr some ↦ elim (cases_Bool (eqb n 1)) [
     | inl on ↦
         let is : 1 ∷ [] ≡ bytes = same_bytes (1 ∷ []) bytes (sym (rw (some, on) refl) ∙ e) in
-        (ap (value_in checkbox) (sym is) ∙ rw some refl, ap (length {A = ℕ}) (sym is))
+        (ap (answer_in checkbox) (sym is) ∙ rw some refl, ap (length {A = ℕ}) (sym is))
     | inr more ↦ let none = rw (some, more) at e in absurd (cc)
   ]
 ]
 checkbox_kept (negsuc n) bytes e = absurd (cc)
 
-bits_kept : (bits : ℕ) (bytes : List ℕ) → fits_type checkbox (raw bits) ≡ Ok bytes → (value_in checkbox bytes ≡ taken_as checkbox (raw bits)) × (length bytes ≡ 1)
+bits_kept : (bits : ℕ) (bytes : List ℕ) → fits_type checkbox (raw bits) ≡ Ok bytes → (answer_in checkbox bytes ≡ taken_as checkbox (raw bits)) × (length bytes ≡ 1)
 bits_kept bits bytes e =
     let is : cond (eqb bits 0) 0 1 ∷ [] ≡ bytes = same_bytes (cond (eqb bits 0) 0 1 ∷ []) bytes e in
-    (ap (value_in checkbox) (sym is) ∙ elim (cases_Bool (eqb bits 0)) [ inl off ↦ rw off refl | inr on ↦ rw on refl ], ap (length {A = ℕ}) (sym is))
+    (ap (answer_in checkbox) (sym is) ∙ elim (cases_Bool (eqb bits 0)) [ inl off ↦ rw off refl | inr on ↦ rw on refl ], ap (length {A = ℕ}) (sym is))
 
 -- a number in its bytes
 number_back : (w b : ℕ) → b < 256 ^ w → little_number w (little_bytes w b) ≡ b
@@ -76,7 +76,7 @@ bits_are signed w (negsuc n) b e =
 
 numeric_are : (signed : Bool) (w mn mx : ℕ) (o : Option ℕ) (bytes : List ℕ) → numeric_bytes signed w mn mx o ≡ Ok bytes → (b : ℕ) × (o ≡ Some b) × (bytes ≡ little_bytes w b)
 numeric_are signed w mn mx None bytes e = absurd (cc)
-numeric_are signed w mn mx (Some b) bytes e = elim (cases_Bool (int_lt (shown signed w b) (shown signed w mn) || int_lt (shown signed w mx) (shown signed w b))) [
+numeric_are signed w mn mx (Some b) bytes e = elim (cases_Bool (int_lt (number_of_bits signed w b) (number_of_bits signed w mn) || int_lt (number_of_bits signed w mx) (number_of_bits signed w b))) [
   | inl out ↦ let none : ◌≡◌ {A = Result (List ℕ) DenialKind} (Err Range) (Ok bytes) = sym (rw out refl) ∙ e in absurd (cc)
   | inr within ↦ (b, refl, sym (same_bytes (little_bytes w b) bytes (sym (rw within refl) ∙ e)))
 ]
@@ -106,7 +106,7 @@ text_are mn mx us bytes e = elim (cases_Bool (ltb (length us) mn || ltb mx (leng
       (sym (same_bytes (filled (2 * mx) (spelled 2 us)) bytes (sym (rw within refl) ∙ e)), ltb-false mx (length us) parts.1)
 ]
 
-text_kept : (mn mx : ℕ) (us bytes : List ℕ) → AreItems 2 us → text_bytes mn mx us ≡ Ok bytes → value_in (text mn mx) bytes ≡ values.text (spelled 2 us)
+text_kept : (mn mx : ℕ) (us bytes : List ℕ) → AreItems 2 us → text_bytes mn mx us ≡ Ok bytes → answer_in (text mn mx) bytes ≡ values.text (spelled 2 us)
 text_kept mn mx us bytes items e =
     let are = text_are mn mx us bytes e in
     ap (λ (l : List ℕ). values.text (bytes_of_items 2 l)) are.0 ∙ ap values.text (bytes_back 2 (2 * mx) us (omega arith) items)
@@ -138,7 +138,7 @@ stored_items (suc n) w bytes are =
           rw more ((λ z. let bad : eqb 0 0 ≡ false = ap (λ (k : ℕ). eqb k 0) (sym z) ∙ some in absurd (cc)), little_from-lt 0 w bytes are, stored_items n w (drop w bytes) later)
     ]
 
-utf8_kept : (mn mx : ℕ) (given bytes : List ℕ) → fits_type (text mn mx) (utf8 given) ≡ Ok bytes → value_in (text mn mx) bytes ≡ taken_as (text mn mx) (utf8 given)
+utf8_kept : (mn mx : ℕ) (given bytes : List ℕ) → fits_type (text mn mx) (utf8 given) ≡ Ok bytes → answer_in (text mn mx) bytes ≡ taken_as (text mn mx) (utf8 given)
 utf8_kept mn mx given bytes e = elim (cases_Bool (is_text given)) [
   | inl is ↦
       let told : text_bytes mn mx (chars given) ≡ Ok bytes = sym (rw is refl) ∙ e in
@@ -158,7 +158,7 @@ list_are w most unique some vs ns bytes e = elim (cases_Bool (ltb most (length n
     go (Some k) e = absurd (cc)
 
 list_kept : (w most : ℕ) (unique some : Bool) (vs ns bytes : List ℕ) → list_bytes w most unique some vs ns ≡ Ok bytes
-    → (value_in (ordered_list w most unique some vs) bytes ≡ buffer (filled (most * w) (spelled w ns))) × (length bytes ≡ most * w)
+    → (answer_in (ordered_list w most unique some vs) bytes ≡ buffer (filled (most * w) (spelled w ns))) × (length bytes ≡ most * w)
 list_kept w most unique some vs ns bytes e =
     let are = list_are w most unique some vs ns bytes e in
     let sized = length_spelled w ns in
@@ -177,7 +177,7 @@ one_of_kept w vs z bytes sound e =
     let are = chosen_are w vs z bytes e in
     number_kept w are.0 are.0 bytes are.3 refl (sound are.0 are.2) ∙ ap choice (sym are.1)
 
-pub kept : (t : FieldType) (offer : Offer) (bytes : List ℕ) → IsSound t → HasBytes offer → fits_type t offer ≡ Ok bytes → value_in t bytes ≡ taken_as t offer
+pub kept : (t : FieldType) (offer : Offer) (bytes : List ℕ) → IsSound t → HasBytes offer → fits_type t offer ≡ Ok bytes → answer_in t bytes ≡ taken_as t offer
 kept checkbox (whole n) bytes sound given e = (checkbox_kept n bytes e).0
 kept checkbox (raw bits) bytes sound given e = (bits_kept bits bytes e).0
 kept (numeric signed w mn mx) (whole n) bytes sound given e = numeric_kept signed w mn mx (bits_of signed w n) (complement w n) bytes (λ b. bits_are signed w n b) e

@@ -13,17 +13,18 @@ use Rattle.ifr_opcodes.specs.Opcode.{number}
 use Rattle.ifr_opcodes.specs.declared.codes.TheConstants.{CHECKBOX, NUMERIC, ONE_OF, STRING, PASSWORD, ORDERED_LIST}
 use Rattle.ifr_scopes.specs.Nodes.{is_question, options}
 use Rattle.ifr_scopes.proofs.ViewLemmas.{further}
-use Rattle.hii_varstore.specs.Layout.{size_of, HasRange}
+use Rattle.hii_varstore.specs.Layout.{size_of}
+use Rattle.hii_varstore.specs.code.Ranges.{HasRange}
 use Rattle.hii_varstore.specs.StoreNodes.{layout_of}
-use Rattle.hii_varstore.specs.Stores.{StoreMap, shape_of, with_bytes, field_of as field_bytes}
+use Rattle.hii_varstore.specs.Stores.{StoreMap, shape_of, with_bytes, bytes_of_field as field_bytes}
 use Rattle.hii_varstore.proofs.WriteLemmas.{field_back, field_after}
 use Rattle.hii_questions.specs.Answers.{value_of_bytes}
-use Rattle.hii_questions.specs.Faults.{IsQuestionFault, itself, option, has_field_fault, has_option_fault, parts_of, is_known, is_past, is_outside, is_too_large}
-use Rattle.hii_questions.specs.Fields.{Field, Asked, asked, questions, field_in, field_of, width_of, question_with}
+use Rattle.hii_questions.specs.Faults.{IsQuestionFault, itself, option, has_field_fault, has_option_fault, parts_of, is_known, is_past, is_field_outside, is_option_too_large}
+use Rattle.hii_questions.specs.Fields.{Field, Asked, asked, questions, field_in, field_of, field_width, question_with}
 use Rattle.hii_questions.specs.FieldTypes.{FieldType, checkbox, numeric, one_of, text, ordered_list, size_of_type}
 use Rattle.hii_questions.specs.Fits.{fits_field}
 use Rattle.hii_questions.specs.Inputs.{Offer, units, field, field_as, read_as, is_offered}
-use Rattle.hii_questions.specs.Laws.{HoldsFields, FindsQuestions, ReadsBack, LeavesOthers, HasBytes, taken_value, FillsFields}
+use Rattle.hii_questions.specs.laws.Fields.{HoldsFields, FindsQuestions, ReadsBack, LeavesOthers, HasBytes, taken_value, FillsFields}
 use Rattle.hii_questions.specs.Types.{type_of, option_values}
 use Rattle.hii_questions.proofs.KeptLemmas.{IsSound, kept, wide}
 
@@ -98,16 +99,16 @@ in_range (Some s) f there within = ltb-false s (f.offset + f.width) within
 pub holds_fields : HoldsFields
 holds_fields ns n f none within is e =
     let shape = layout_of ns in
-    let at = located (question_store n.op) (question_offset n.op) (size_of shape (question_store n.op)) (width_of n) f e in
-    let inside : is_outside shape (field_of ns n) ≡ false = field_sound ns n FieldOutside none within is in
-    let past : is_past f (size_of shape f.store) ≡ false = ap (is_outside shape) (sym e) ∙ inside in
+    let at = located (question_store n.op) (question_offset n.op) (size_of shape (question_store n.op)) (field_width n) f e in
+    let inside : is_field_outside shape (field_of ns n) ≡ false = field_sound ns n FieldOutside none within is in
+    let past : is_past f (size_of shape f.store) ≡ false = ap (is_field_outside shape) (sym e) ∙ inside in
     in_range (size_of shape f.store) f (ap (λ (id : ℕ). is_some (size_of shape id)) at.0 ∙ at.2) past
 
 -- the new bytes of the question of an id lie in its store
 pub found_fits : (ns : List Placed) (id : ℕ) (n : Placed) (f : Field) → HasNone (IsQuestionFault ns) → question_with ns id ≡ Some n → field_of ns n ≡ Some f → HasRange (layout_of ns) f.store f.offset f.width
 found_fits ns id n f none e is = let there = finds_questions ns id n e in holds_fields ns n f none there.0 there.1 is
 
--- the same of a question that is found by its id
+-- the field of a question that is found by its id lies in its store
 pub range_found : (ns : List Placed) (id : ℕ) (q : Asked) (f : Field) → HasNone (IsQuestionFault ns) → Some q ≡ option_map (asked ns) (question_with ns id) → q.field ≡ Some f
     → HasRange (layout_of ns) f.store f.offset f.width
 range_found ns id q f none e is = go (question_with ns id) refl e
@@ -137,7 +138,7 @@ values_fit : (ns : List Placed) (n : Placed) → HasNone (IsQuestionFault ns) �
     → (v : ℕ) → is_offered (option_values (options n)) v ≡ true → v < 256 ^ one_of_width n.op
 values_fit ns n none within is code v offers =
     let o = with_value (options n) v offers in
-    let sound : is_too_large n o.0 ≡ false = option_sound ns n o.0 OptionRange none within is o.1 in
+    let sound : is_option_too_large n o.0 ≡ false = option_sound ns n o.0 OptionRange none within is o.1 in
     let less : leb (256 ^ one_of_width n.op) (option_value o.0.op) ≡ false = sym (rw code refl) ∙ sound in
     omega (arith, o.2, leb-false (256 ^ one_of_width n.op) (option_value o.0.op) less)
 
@@ -196,7 +197,7 @@ value_back (Some t) f offer bytes m sound same given e range =
 
 pub reads_back : ReadsBack
 reads_back m ns n f offer bytes none within is e given fit range =
-    let at = located (question_store n.op) (question_offset n.op) (size_of (layout_of ns) (question_store n.op)) (width_of n) f e in
+    let at = located (question_store n.op) (question_offset n.op) (size_of (layout_of ns) (question_store n.op)) (field_width n) f e in
     value_back (type_of n) f offer bytes m (type_sound ns n none within is) at.1 given (ap (λ (o : Option Field). fits_field (type_of n) o offer) (sym e) ∙ fit) range
 
 -- what a question takes are as many bytes as its field has
@@ -206,5 +207,5 @@ wide_with (Some t) f offer bytes width e = let same : size_of_type t ≡ f.width
 
 pub fits_wide : FillsFields
 fits_wide ns n offer f bytes e fit =
-    let at = located (question_store n.op) (question_offset n.op) (size_of (layout_of ns) (question_store n.op)) (width_of n) f e in
+    let at = located (question_store n.op) (question_offset n.op) (size_of (layout_of ns) (question_store n.op)) (field_width n) f e in
     wide_with (type_of n) f offer bytes at.1 (ap (λ (o : Option Field). fits_field (type_of n) o offer) (sym e) ∙ fit)

@@ -5,7 +5,7 @@ use Rattle.std.specs.List.{flat_map}
 use Rattle.std.proofs.lemmas.Bool.{cases_Bool, false≢true}
 use Rattle.std.proofs.lemmas.Grind.{flat_map-append}
 use Rattle.std.proofs.lemmas.List.Elements.{filter-append, Contains-append_left, Contains-append_right}
-use Rattle.hii_bytes.specs.Faults.{AreAll, Rise}
+use Rattle.hii_bytes.specs.code.FirstFaults.{AreAll, Rise}
 use Rattle.hii_bytes.specs.declared.cause.Cause.{Cause}
 use Rattle.hii_bytes.specs.declared.cause.Cause.TheVariants.{UnknownVarstore, FieldOutside, OptionRange, MixedOptions}
 use Rattle.ifr_opcodes.specs.Forest.{Forest, none, node, flat, AreNodes, Ancestor, Placed, nodes_at, below}
@@ -18,9 +18,10 @@ use Rattle.ifr_scopes.proofs.ViewLemmas.{further}
 use Rattle.hii_questions.proofs.ApartLemmas.{no_question_below}
 use Rattle.hii_varstore.specs.Layout.{Shape}
 use Rattle.hii_questions.specs.Fields.{Asked, asked_at}
-use Rattle.hii_questions.specs.Faults.{Part, itself, option, place_of, has_fault, parts_of, causes}
+use Rattle.hii_questions.specs.Faults.{QuestionPart, itself, option, place_of, has_question_fault, parts_of}
+use Rattle.hii_questions.specs.code.Causes.{question_causes}
 
-among : (shape : Shape) (known : ℕ → Bool) (p : Part) (cause : Cause) → has_fault shape known p cause ≡ true → Contains causes cause
+among : (shape : Shape) (known : ℕ → Bool) (p : QuestionPart) (cause : Cause) → has_question_fault shape known p cause ≡ true → Contains question_causes cause
 among shape known p UnknownVarstore h = (0, omega arith, refl)
 among shape known p FieldOutside h = (1, omega arith, refl)
 among shape known p OptionRange h = (2, omega arith, refl)
@@ -28,7 +29,7 @@ among shape known p MixedOptions h = (3, omega arith, refl)
 among shape known (itself q) _ h = absurd (false≢true h)
 among shape known (option q o) _ h = absurd (false≢true h)
 
-pub all_causes : (shape : Shape) (known : ℕ → Bool) → AreAll (has_fault shape known) causes
+pub all_causes : (shape : Shape) (known : ℕ → Bool) → AreAll (has_question_fault shape known) question_causes
 all_causes shape known = record { rise = (lit≤ tt, (lit≤ tt, (lit≤ tt, (lit≤ tt, tt)))); all = among shape known }
 
 -- a question and its options
@@ -99,7 +100,7 @@ heads_within (node op children rest) at path h apart =
           subst (Within at high) (sym whole) (both_within (heads inner) (heads after) at past high own later)
     ]
 
-rise_options : (q : Asked) (os more : List Placed) (ps : List Part) (low high : ℕ) → Within low high (os ++ more) → ((l : ℕ) → Within l high more → Rise place_of l ps) → Rise place_of low (map (option q) os ++ ps)
+rise_options : (q : Asked) (os more : List Placed) (ps : List QuestionPart) (low high : ℕ) → Within low high (os ++ more) → ((l : ℕ) → Within l high more → Rise place_of l ps) → Rise place_of low (map (option q) os ++ ps)
 rise_options q [] more ps low high w rest = rest low w
 rise_options q (o ∷ os) more ps low high w rest = (w.0, rise_options q os more ps (o.place + 1) high w.1 rest)
 

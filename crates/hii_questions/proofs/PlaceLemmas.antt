@@ -8,7 +8,7 @@ use Rattle.std.specs.Ordering.{nat_cmp, ordering_index}
 use Rattle.std.proofs.lemmas.Bool.{cases_lt, eq-eqb, ne_eqb}
 use Rattle.std.proofs.lemmas.Bool.Decides.{nat_tests}
 use Rattle.std.proofs.lemmas.Cmp.{ranked}
-use Rattle.hii_bytes.specs.Faults.{Rise}
+use Rattle.hii_bytes.specs.code.FirstFaults.{Rise}
 use Rattle.ifr_opcodes.specs.Forest.{Placed, flat}
 use Rattle.ifr_opcodes.specs.Reading.{tree_of}
 use Rattle.ifr_scopes.specs.Accepted.{IsAccepted}
@@ -17,8 +17,8 @@ use Rattle.ifr_scopes.proofs.PlaceLemmas.{Within, nodes_within}
 use Rattle.hii_varstore.specs.Layout.{Shape}
 use Rattle.hii_varstore.specs.StoreNodes.{layout_of}
 use Rattle.hii_questions.specs.Fields.{Asked, asked_at, questions}
-use Rattle.hii_questions.specs.Tables.{first_at, AreQuestions}
-use Rattle.hii_questions.specs.Views.{question_node, question_view}
+use Rattle.hii_questions.specs.code.Tables.{first_at, AreQuestions}
+use Rattle.hii_questions.specs.code.Views.{question_node, question_view}
 use Rattle.hii_questions.specs.declared.question.Question.{Question}
 use Rattle.hii_questions.proofs.PartLemmas.{lower, some_within}
 use Rattle.hii_questions.proofs.QuestionLemmas.{found_mapped}

@@ -15,8 +15,8 @@ use Rattle.ifr_scopes.specs.Nodes.{is_question, is_statement}
 use Rattle.hii_varstore.specs.Layout.{Shape}
 use Rattle.hii_varstore.proofs.TableLemmas.{is_eq-nat_cmp, option_or-none}
 use Rattle.hii_questions.specs.Fields.{Asked, asked_at, question_with}
-use Rattle.hii_questions.specs.Tables.{first_with}
-use Rattle.hii_questions.specs.Views.{question_node, question_view}
+use Rattle.hii_questions.specs.code.Tables.{first_with}
+use Rattle.hii_questions.specs.code.Views.{question_node, question_view}
 use Rattle.hii_questions.specs.declared.question.Question.{Question}
 
 abbrev id_of : Question → ℕ

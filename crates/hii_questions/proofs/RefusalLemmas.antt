@@ -9,8 +9,9 @@ use Rattle.ifr_scopes.specs.Nodes.{nodes_of}
 use Rattle.hii_varstore.specs.Layout.{Shape}
 use Rattle.hii_varstore.specs.StoreNodes.{layout_of}
 use Rattle.hii_questions.specs.Fields.{Asked, questions}
-use Rattle.hii_questions.specs.Faults.{IsQuestionFault, place_of, has_fault, parts_of, causes, is_known}
-use Rattle.hii_questions.specs.FaultTells.{first_part_fault}
+use Rattle.hii_questions.specs.Faults.{IsQuestionFault, place_of, has_question_fault, parts_of, is_known}
+use Rattle.hii_questions.specs.code.Causes.{question_causes}
+use Rattle.hii_questions.specs.code.FaultTells.{first_part_fault}
 use Rattle.hii_questions.proofs.PartLemmas.{all_causes, parts_rise}
 
 -- the faults as they are told of a package
@@ -27,7 +28,7 @@ pub refused_among : (bytes : List ℕ) (shape : Shape) (known : ℕ → Bool) (q
     → IsLeast (IsQuestionFault (nodes_of bytes)) fault
 refused_among bytes shape known qs fault accepted laid same all e =
     let ns = nodes_of bytes in
-    first_among place_of (has_fault (layout_of ns) (is_known ns)) causes 4 (flat_map parts_of (questions ns)) fault (all_causes (layout_of ns) (is_known ns)) (parts_rise bytes (layout_of ns) accepted)
+    first_among place_of (has_question_fault (layout_of ns) (is_known ns)) question_causes 4 (flat_map parts_of (questions ns)) fault (all_causes (layout_of ns) (is_known ns)) (parts_rise bytes (layout_of ns) accepted)
     (sym (told bytes shape known qs laid same all) ∙ e)
 
 pub sound_among : (bytes : List ℕ) (shape : Shape) (known : ℕ → Bool) (qs : List Asked) → shape ≡ layout_of (nodes_of bytes)
@@ -35,4 +36,4 @@ pub sound_among : (bytes : List ℕ) (shape : Shape) (known : ℕ → Bool) (qs 
     → HasNone (IsQuestionFault (nodes_of bytes))
 sound_among bytes shape known qs laid same all e =
     let ns = nodes_of bytes in
-    none_among place_of (has_fault (layout_of ns) (is_known ns)) causes (flat_map parts_of (questions ns)) (all_causes (layout_of ns) (is_known ns)) (sym (told bytes shape known qs laid same all) ∙ e)
+    none_among place_of (has_question_fault (layout_of ns) (is_known ns)) question_causes (flat_map parts_of (questions ns)) (all_causes (layout_of ns) (is_known ns)) (sym (told bytes shape known qs laid same all) ∙ e)

@@ -5,7 +5,7 @@ use Rattle.byteorder.specs.Endian.{little_number}
 use Rattle.ifr_opcodes.specs.Forest.{Placed}
 use Rattle.ifr_expr.specs.Values as values
 use Rattle.ifr_expr.specs.Values.{Value, undefined, boolean, natural, buffer}
-use Rattle.hii_varstore.specs.Stores.{StoreMap, field_of as field_bytes}
+use Rattle.hii_varstore.specs.Stores.{StoreMap, bytes_of_field as field_bytes}
 use Rattle.hii_questions.specs.FieldTypes.{FieldType, checkbox, numeric, one_of, text, ordered_list, size_of_type}
 use Rattle.hii_questions.specs.Fields.{Field, field_of, question_with}
 use Rattle.hii_questions.specs.Items.{bytes_of_items}
@@ -13,22 +13,24 @@ use Rattle.hii_questions.specs.Types.{type_of}
 
 -- A checkbox is true where its byte is not 0. A number has no sign, whatever is shown. A text ends at its first zero unit. A
 -- list is the whole field.
-abbrev pub value_in : FieldType → List ℕ → Value
-value_in checkbox bytes = boolean (not (slice_index bytes 0 == 0))
-value_in (numeric signed width minimum maximum) bytes = natural (little_number width bytes)
-value_in (one_of width values) bytes = natural (little_number width bytes)
-value_in (text minimum maximum) bytes = values.text (bytes_of_items 2 bytes)
-value_in (ordered_list width most unique some values) bytes = buffer bytes
+abbrev pub answer_in : FieldType → List ℕ → Value
+answer_in checkbox bytes = boolean (not (slice_index bytes 0 == 0))
+answer_in (numeric signed width minimum maximum) bytes = natural (little_number width bytes)
+answer_in (one_of width values) bytes = natural (little_number width bytes)
+answer_in (text minimum maximum) bytes = values.text (bytes_of_items 2 bytes)
+answer_in (ordered_list width most unique some values) bytes = buffer bytes
 
 -- A store that does not hold the whole field gives no value.
 abbrev pub value_of_bytes : Option FieldType → Option (List ℕ) → Value
-value_of_bytes (Some t) (Some bytes) = if length bytes == size_of_type t then value_in t bytes else undefined
+value_of_bytes (Some t) (Some bytes) =
+    if length bytes == size_of_type t then answer_in t bytes else undefined
 value_of_bytes _ _ = undefined
 
 -- the value of a question whose field is this, if it has one
 abbrev pub value_of_field : StoreMap → Placed → Option Field → Value
 value_of_field stores n None = undefined
-value_of_field stores n (Some field) = value_of_bytes (type_of n) (field_bytes stores field.store field.offset field.width)
+value_of_field stores n (Some field) =
+    value_of_bytes (type_of n) (field_bytes stores field.store field.offset field.width)
 
 abbrev pub answer_of : List Placed → StoreMap → Option Placed → Value
 answer_of ns stores None = undefined

@@ -1,5 +1,5 @@
--- How denials are named (own rule).
-use Rattle.std.specs.Prelude.{ℕ, List, codes}
+-- How denials are named, and which are told with a text (own rule).
+use Rattle.std.specs.Prelude.{ℕ, Bool, true, false, List, codes}
 use Rattle.hii_questions.specs.declared.denial.DenialKind.{DenialKind}
 use Rattle.hii_questions.specs.declared.denial.DenialKind.TheVariants.{DisableIf, SuppressIf, GrayOutIf, Locked, ReadOnly, Outside, Kind, Range, NoOption, Length, Repeat, EmptySet, BadText, InconsistentIf, NoSubmitIf, NoQuestion}
 
@@ -20,3 +20,9 @@ kind_name BadText = codes "badtext"
 kind_name InconsistentIf = codes "inconsistentif"
 kind_name NoSubmitIf = codes "nosubmitif"
 kind_name NoQuestion = codes "noquestion"
+
+-- whether a denial of a kind is told with the text of the opcode that decides
+abbrev pub has_text : DenialKind → Bool
+has_text InconsistentIf = true
+has_text NoSubmitIf = true
+has_text _ = false

@@ -1,5 +1,5 @@
 -- Questions whose store is not there, or does not hold their field, and options whose values do not suit (own rule).
-use Rattle.std.specs.Prelude.{ℕ, ◌+◌, ◌^◌, Bool, false, ◌==◌, ◌&&◌, nat_lt, nat_le, not, Option, Some, None, List, [], ◌∷◌, map, filter}
+use Rattle.std.specs.Prelude.{ℕ, ◌+◌, ◌^◌, Bool, false, ◌==◌, ◌&&◌, nat_lt, nat_le, not, Option, Some, None, List, ◌∷◌, map, filter}
 use Rattle.std.specs.List.{list_any, flat_map}
 use Rattle.hii_bytes.specs.Faults.{IsFaultOf}
 use Rattle.hii_bytes.specs.declared.cause.Cause.{Cause}
@@ -28,53 +28,53 @@ abbrev pub is_past : Field → Option ℕ → Bool
 is_past field None = false
 is_past field (Some size) = nat_lt size (field.offset + field.width)
 
-abbrev pub is_outside : Shape → Option Field → Bool
-is_outside shape None = false
-is_outside shape (Some field) = is_past field (size_of shape field.store)
+abbrev pub is_field_outside : Shape → Option Field → Bool
+is_field_outside shape None = false
+is_field_outside shape (Some field) = is_past field (size_of shape field.store)
 
 -- The value of an option of a ONE_OF is no number of the question's width.
-abbrev pub is_too_large : Placed → Placed → Bool
-is_too_large q o = number q.op == ONE_OF && nat_le (256 ^ one_of_width q.op) (option_value o.op)
+abbrev pub is_option_too_large : Placed → Placed → Bool
+is_option_too_large q o =
+    number q.op == ONE_OF && nat_le (256 ^ one_of_width q.op) (option_value o.op)
 
--- An option of an ORDERED_LIST is of another kind than the first.
-abbrev pub differs : Option ℕ → ℕ → Bool
-differs None kind = false
-differs (Some first) kind = not (kind == first)
+-- An option of an ORDERED_LIST is of another Type than the first.
+abbrev pub is_of_another_type : Option ℕ → ℕ → Bool
+is_of_another_type None kind = false
+is_of_another_type (Some first) kind = not (kind == first)
 
 abbrev pub is_mixed : Placed → Placed → Bool
-is_mixed q o = number q.op == ORDERED_LIST && differs (first_kind (options q)) (option_kind o.op)
+is_mixed q o =
+    number q.op == ORDERED_LIST && is_of_another_type (first_kind (options q)) (option_kind o.op)
 
 -- the rows of the table of faults: of a question, over the ids and the sizes of stores, and of an option of it
 abbrev pub has_field_fault : Shape → (ℕ → Bool) → Asked → Cause → Bool
 has_field_fault shape known q UnknownVarstore = lacks_store known q.node
-has_field_fault shape known q FieldOutside = is_outside shape q.field
+has_field_fault shape known q FieldOutside = is_field_outside shape q.field
 has_field_fault shape known q _ = false
 
 abbrev pub has_option_fault : Placed → Placed → Cause → Bool
-has_option_fault q o OptionRange = is_too_large q o
+has_option_fault q o OptionRange = is_option_too_large q o
 has_option_fault q o MixedOptions = is_mixed q o
 has_option_fault q o _ = false
 
 -- a question, or an option of one
-pub data Part : Type 0 where
-  itself : (q : Asked) → Part
-  option : (q : Asked) (o : Placed) → Part
+pub data QuestionPart : Type 0 where
+  itself : (q : Asked) → QuestionPart
+  option : (q : Asked) (o : Placed) → QuestionPart
 
-abbrev pub place_of : Part → ℕ
+abbrev pub place_of : QuestionPart → ℕ
 place_of (itself q) = q.node.place
 place_of (option q o) = o.place
 
-abbrev pub has_fault : Shape → (ℕ → Bool) → Part → Cause → Bool
-has_fault shape known (itself q) cause = has_field_fault shape known q cause
-has_fault shape known (option q o) cause = has_option_fault q.node o cause
+abbrev pub has_question_fault : Shape → (ℕ → Bool) → QuestionPart → Cause → Bool
+has_question_fault shape known (itself q) cause = has_field_fault shape known q cause
+has_question_fault shape known (option q o) cause = has_option_fault q.node o cause
 
 -- a question and its options, by place
-abbrev pub parts_of : Asked → List Part
+abbrev pub parts_of : Asked → List QuestionPart
 parts_of q = itself q ∷ map (option q) (options q.node)
 
 abbrev pub IsQuestionFault : List Placed → Cause → ℕ → Type 0
-IsQuestionFault ns = IsFaultOf place_of (has_fault (layout_of ns) (is_known ns)) (flat_map parts_of (questions ns))
-
--- the causes by their numbers
-abbrev pub causes : List Cause
-causes = UnknownVarstore ∷ FieldOutside ∷ OptionRange ∷ MixedOptions ∷ []
+IsQuestionFault ns =
+    IsFaultOf place_of (has_question_fault (layout_of ns) (is_known ns))
+    (flat_map parts_of (questions ns))

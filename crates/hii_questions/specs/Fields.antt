@@ -17,17 +17,20 @@ pub record Field : Type 0 where
   pub width : ℕ
 
 -- how many bytes the field of a question has, if it may have one
-abbrev pub width_of : Placed → Option ℕ
-width_of n = option_map size_of_type (type_of n)
+abbrev pub field_width : Placed → Option ℕ
+field_width n = option_map size_of_type (type_of n)
 
 -- A field has a width, and lies in a store of bytes. Store id 0 is no store.
 abbrev pub field_in : ℕ → ℕ → Option ℕ → Option ℕ → Option Field
-field_in store offset (Some size) (Some width) = if store == 0 then None else Some record { store = store; offset = offset; width = width }
+field_in store offset (Some size) (Some width) =
+    if store == 0 then None else Some record { store = store; offset = offset; width = width }
 field_in store offset _ _ = None
 
 -- the field of a question, where these are the stores
 abbrev pub field_at : Shape → Placed → Option Field
-field_at shape n = field_in (question_store n.op) (question_offset n.op) (size_of shape (question_store n.op)) (width_of n)
+field_at shape n =
+    field_in (question_store n.op) (question_offset n.op) (size_of shape (question_store n.op))
+    (field_width n)
 
 -- the field of a question among all nodes
 abbrev pub field_of : List Placed → Placed → Option Field
@@ -50,4 +53,5 @@ questions ns = map (asked ns) (filter is_question ns)
 
 -- the question of an id, which is not 0
 abbrev pub question_with : List Placed → ℕ → Option Placed
-question_with ns id = if id == 0 then None else find (λ n. is_question n && (question_id n.op == id)) ns
+question_with ns id =
+    if id == 0 then None else find (λ n. is_question n && (question_id n.op == id)) ns

@@ -46,13 +46,16 @@ abbrev pub checkbox_bits : ℕ → Result (List ℕ) DenialKind
 checkbox_bits bits = Ok ((if bits == 0 then 0 else 1) ∷ [])
 
 -- the number that the bits of `width` bytes are: with a sign their two's complement
-abbrev pub shown : Bool → ℕ → ℕ → ℤ
-shown signed width bits = if signed && nat_le (256 ^ width / 2) bits then pos bits -ℤ pos (256 ^ width) else pos bits
+abbrev pub number_of_bits : Bool → ℕ → ℕ → ℤ
+number_of_bits signed width bits =
+    if signed && nat_le (256 ^ width / 2) bits then pos bits -ℤ pos (256 ^ width) else pos bits
 
 -- the bits of `width` bytes that are a number, where there are some
 abbrev pub bits_of : Bool → ℕ → ℤ → Option ℕ
-bits_of signed width (pos n) = if nat_lt n (if signed then 256 ^ width / 2 else 256 ^ width) then Some n else None
-bits_of signed width (negsuc n) = if signed && nat_lt n (256 ^ width / 2) then Some (256 ^ width - suc n) else None
+bits_of signed width (pos n) =
+    if nat_lt n (if signed then 256 ^ width / 2 else 256 ^ width) then Some n else None
+bits_of signed width (negsuc n) =
+    if signed && nat_lt n (256 ^ width / 2) then Some (256 ^ width - suc n) else None
 
 abbrev pub fitting_bits : ℕ → ℕ → Option ℕ
 fitting_bits width bits = if nat_lt bits (256 ^ width) then Some bits else None
@@ -61,7 +64,8 @@ fitting_bits width bits = if nat_lt bits (256 ^ width) then Some bits else None
 abbrev pub numeric_bytes : Bool → ℕ → ℕ → ℕ → Option ℕ → Result (List ℕ) DenialKind
 numeric_bytes signed width minimum maximum None = Err Range
 numeric_bytes signed width minimum maximum (Some bits) =
-    if int_lt (shown signed width bits) (shown signed width minimum) || int_lt (shown signed width maximum) (shown signed width bits)
+    if int_lt (number_of_bits signed width bits) (number_of_bits signed width minimum)
+    || int_lt (number_of_bits signed width maximum) (number_of_bits signed width bits)
     then Err Range else Ok (little_bytes width bits)
 
 -- whether an option has a value
@@ -80,7 +84,8 @@ chosen_bytes width (Some value) = Ok (little_bytes width value)
 -- Characters are counted as units.
 abbrev pub text_bytes : ℕ → ℕ → List ℕ → Result (List ℕ) DenialKind
 text_bytes minimum maximum us =
-    if nat_lt (length us) minimum || nat_lt maximum (length us) then Err Length else Ok (filled (2 * maximum) (spelled 2 us))
+    if nat_lt (length us) minimum || nat_lt maximum (length us) then Err Length
+    else Ok (filled (2 * maximum) (spelled 2 us))
 
 -- a character that is no unit of a text, or ends it
 abbrev pub is_bad_character : ℕ → Bool
@@ -108,18 +113,24 @@ bytes_unless None bytes = Ok bytes
 bytes_unless (Some denial) bytes = Err denial
 
 abbrev pub list_bytes : ℕ → ℕ → Bool → Bool → List ℕ → List ℕ → Result (List ℕ) DenialKind
-list_bytes width most unique some values ns = bytes_unless (list_denial most unique some values ns) (filled (most * width) (spelled width ns))
+list_bytes width most unique some values ns =
+    bytes_unless (list_denial most unique some values ns) (filled (most * width) (spelled width ns))
 
 -- what a field of a type takes, and the new bytes
 abbrev pub fits_type : FieldType → Offer → Result (List ℕ) DenialKind
 fits_type checkbox (whole n) = checkbox_number n
 fits_type checkbox (raw bits) = checkbox_bits bits
-fits_type (numeric signed width minimum maximum) (whole n) = numeric_bytes signed width minimum maximum (bits_of signed width n)
-fits_type (numeric signed width minimum maximum) (raw bits) = numeric_bytes signed width minimum maximum (fitting_bits width bits)
+fits_type (numeric signed width minimum maximum) (whole n) =
+    numeric_bytes signed width minimum maximum (bits_of signed width n)
+fits_type (numeric signed width minimum maximum) (raw bits) =
+    numeric_bytes signed width minimum maximum (fitting_bits width bits)
 fits_type (one_of width values) (whole n) = chosen_bytes width (offered values n)
 fits_type (one_of width values) (raw bits) = chosen_bytes width (offered values (pos bits))
-fits_type (text minimum maximum) (utf8 bytes) = if is_text bytes then text_bytes minimum maximum (chars bytes) else Err BadText
+fits_type (text minimum maximum) (utf8 bytes) =
+    if is_text bytes then text_bytes minimum maximum (chars bytes) else Err BadText
 fits_type (text minimum maximum) (units bytes) = text_bytes minimum maximum (items_in 2 bytes)
-fits_type (ordered_list width most unique some values) (listed ns) = list_bytes width most unique some values ns
-fits_type (ordered_list width most unique some values) (elements bytes) = list_bytes width most unique some values (items_in width bytes)
+fits_type (ordered_list width most unique some values) (listed ns) =
+    list_bytes width most unique some values ns
+fits_type (ordered_list width most unique some values) (elements bytes) =
+    list_bytes width most unique some values (items_in width bytes)
 fits_type t offer = Err Kind

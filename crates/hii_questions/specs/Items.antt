@@ -1,6 +1,6 @@
 -- Fields of several items: numbers of some bytes each, the lowest byte first, and zeros behind them (UEFI 2.8, 33.3.8.3,
 -- EFI_IFR_STRING and EFI_IFR_ORDERED_LIST; that the first zero ends them is an own rule).
-use Rattle.std.specs.Prelude.{ℕ, zero, suc, ◌-◌, ◌*◌, ◌/◌, Bool, ◌==◌, ◌||◌, not, List, [], ◌∷◌, ◌++◌, length, take, drop, replicate}
+use Rattle.std.specs.Prelude.{ℕ, zero, suc, ◌-◌, ◌*◌, ◌/◌, Bool, ◌==◌, not, List, [], ◌∷◌, ◌++◌, length, take, drop, replicate}
 use Rattle.std.specs.List.{flat_map, take_while}
 use Rattle.byteorder.specs.Endian.{little_number, little_bytes}
 
@@ -31,7 +31,3 @@ spelled width items = flat_map (little_bytes width) items
 -- bytes with zeros behind them, `size` in all
 abbrev pub filled : ℕ → List ℕ → List ℕ
 filled size bytes = bytes ++ replicate (size - length bytes) 0
-
--- how many bytes a number or an item may have
-abbrev pub is_width : ℕ → Bool
-is_width width = width == 1 || width == 2 || width == 4 || width == 8

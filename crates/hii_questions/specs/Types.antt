@@ -17,7 +17,7 @@ is_signed Hexadecimal = false
 abbrev pub option_values : List Placed → List ℕ
 option_values opts = map (λ (o : Placed). option_value o.op) opts
 
--- the kind of the first option, by place
+-- the Type of the first option, by place
 abbrev pub first_kind : List Placed → Option ℕ
 first_kind [] = None
 first_kind (o ∷ opts) = Some (option_kind o.op)
@@ -34,9 +34,13 @@ element_width n = width_of_kind (first_kind (options n))
 abbrev pub type_of : Placed → Option FieldType
 type_of n =
     if number n.op == CHECKBOX then Some checkbox
-    else if number n.op == NUMERIC then Some (numeric (is_signed (display n.op)) (numeric_width n.op) (numeric_minimum n.op) (numeric_maximum n.op))
+    else if number n.op == NUMERIC
+    then Some (numeric (is_signed (display n.op)) (numeric_width n.op) (numeric_minimum n.op)
+    (numeric_maximum n.op))
     else if number n.op == ONE_OF then Some (one_of (one_of_width n.op) (option_values (options n)))
     else if number n.op == STRING then Some (text (string_minimum n.op) (string_maximum n.op))
     else if number n.op == PASSWORD then Some (text (password_minimum n.op) (password_maximum n.op))
-    else if number n.op == ORDERED_LIST then Some (ordered_list (element_width n) (ordered_list_containers n.op) (is_unique_set n.op) (has_no_empty_set n.op) (option_values (options n)))
+    else if number n.op == ORDERED_LIST
+    then Some (ordered_list (element_width n) (ordered_list_containers n.op) (is_unique_set n.op)
+    (has_no_empty_set n.op) (option_values (options n)))
     else None

@@ -4,13 +4,14 @@ ghost use Rattle.std.specs.Prelude.{◌≡◌, map};
 ghost use Rattle.std.specs.BTreeSet.{contains};
 ghost use Rattle.std.specs.List.{flat_map};
 ghost use Rattle.std.specs.Ordering.{nat_cmp};
-ghost use Rattle.hii_bytes.specs.Faults.{first_cause};
+ghost use Rattle.hii_bytes.specs.code.FirstFaults.{first_cause};
 ghost use Rattle.ifr_scopes.specs.Nodes.{options};
-ghost use Rattle.ifr_scopes.specs.Parts.{option_node};
-ghost use Rattle.hii_questions.specs.Faults.{parts_of, has_field_fault, has_option_fault, causes};
-ghost use Rattle.hii_questions.specs.FaultTells.{TellsFault, first_part_fault, first_option_fault};
+ghost use Rattle.ifr_scopes.specs.code.Parts.{option_node};
+ghost use Rattle.hii_questions.specs.Faults.{parts_of, has_field_fault, has_option_fault};
+ghost use Rattle.hii_questions.specs.code.Causes.{question_causes};
+ghost use Rattle.hii_questions.specs.code.FaultTells.{TellsFault, first_part_fault, first_option_fault};
 ghost use Rattle.hii_questions.specs.Types.{first_kind as first_kind_of};
-ghost use Rattle.hii_questions.specs.Views.{question_node, question_view};
+ghost use Rattle.hii_questions.specs.code.Views.{question_node, question_view};
 
 use crate::elements::first_kind;
 use crate::numbers::fitting_bits;
@@ -22,7 +23,8 @@ use std::collections::BTreeSet;
 
 // What is wrong with the store or the field of a question.
 fn field_fault(question: Question<'_>, layout: &Layout<'_>, ids: &BTreeSet<u16>) -> Option<Cause>
-    ensures { result ≡ first_cause (has_field_fault layout.now (λ id. contains nat_cmp ids.now id)) (question_view question.entry) causes }
+    ensures { result ≡ first_cause (has_field_fault layout.now (λ id. contains nat_cmp ids.now id))
+        (question_view question.entry) question_causes }
 {
     let store = question.op.store();
     if store != 0 && !ids.contains(&store) {
@@ -37,10 +39,11 @@ fn field_fault(question: Question<'_>, layout: &Layout<'_>, ids: &BTreeSet<u16>)
     None
 }
 
-// What is wrong with an option of a question, whose first option is of this kind.
+// What is wrong with an option of a question, whose first option is of this Type.
 fn option_fault(question: Question<'_>, first: Option<u8>, option: OptionView<'_>) -> Option<Cause>
     requires { first ≡ first_kind_of (options (question_node question)) }
-    ensures { result ≡ first_cause (has_option_fault (question_node question.entry)) (option_node option.entry) causes }
+    ensures { result ≡ first_cause (has_option_fault (question_node question.entry))
+        (option_node option.entry) question_causes }
 {
     let option = option.op();
     match question.statement.kind() {
@@ -57,7 +60,8 @@ fn option_fault(question: Question<'_>, first: Option<u8>, option: OptionView<'_
 
 // Refuses the first option of a question with a fault.
 fn check_options(question: Question<'_>) -> Result<(), Fault>
-    ensures { TellsFault (first_option_fault (question_node question.entry) (options (question_node question.entry))) result }
+    ensures { TellsFault (first_option_fault (question_node question.entry)
+        (options (question_node question.entry))) result }
 {
     let first = first_kind(question.statement);
     for option in question.statement.options() {
@@ -74,7 +78,8 @@ fn check_question(
     layout: &Layout<'_>,
     ids: &BTreeSet<u16>,
 ) -> Result<(), Fault>
-    ensures { TellsFault (first_part_fault layout.now (λ id. contains nat_cmp ids.now id) (parts_of (question_view question.entry))) result }
+    ensures { TellsFault (first_part_fault layout.now (λ id. contains nat_cmp ids.now id)
+        (parts_of (question_view question.entry))) result }
 {
     match field_fault(question, layout, ids) {
         Some(cause) => Err(question.op.op.fault(cause)),
@@ -84,13 +89,14 @@ fn check_question(
 
 /// Refuses the first question or option with a fault: a question whose store is not there by UnknownVarstore, one whose
 /// field reaches past its store's end by FieldOutside, an option of a ONE_OF that is no number of its width by OptionRange,
-/// one of an ORDERED_LIST of another kind than the first by MixedOptions, each at its place (own rule).
+/// one of an ORDERED_LIST of another Type than the first by MixedOptions, each at its place (own rule).
 pub(crate) fn check_questions(
     questions: &[Question<'_>],
     layout: &Layout<'_>,
     ids: &BTreeSet<u16>,
 ) -> Result<(), Fault>
-    ensures { TellsFault (first_part_fault layout.now (λ id. contains nat_cmp ids.now id) (flat_map parts_of (map question_view questions.now))) result }
+    ensures { TellsFault (first_part_fault layout.now (λ id. contains nat_cmp ids.now id)
+        (flat_map parts_of (map question_view questions.now))) result }
 {
     for question in questions {
         check_question(*question, layout, ids)?;

@@ -2,7 +2,7 @@
 
 ghost use Rattle.std.specs.Prelude.{◌≡◌};
 ghost use Rattle.hii_questions.specs.Inputs.{is_offered, offered};
-ghost use Rattle.hii_questions.specs.ChoiceViews.{choice_values};
+ghost use Rattle.hii_questions.specs.code.ChoiceViews.{choice_values};
 
 use ifr_scopes::Statement;
 

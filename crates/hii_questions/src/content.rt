@@ -2,7 +2,8 @@
 
 ghost use Rattle.std.specs.Prelude.{◌≡◌, ◌+◌, ◌≤◌, ◌++◌, true, length, take};
 ghost use Rattle.byteorder.specs.Endian.{little_bytes};
-ghost use Rattle.hii_questions.specs.Items.{is_width, filled};
+ghost use Rattle.hii_questions.specs.code.Widths.{is_width};
+ghost use Rattle.hii_questions.specs.Items.{filled};
 
 use crate::items::Items;
 
@@ -15,7 +16,7 @@ pub(crate) struct Content<'i> {
 }
 
 impl<'i> Content<'i> {
-    ghost use Rattle.hii_questions.specs.Contents.{content_bytes};
+    ghost use Rattle.hii_questions.specs.code.Contents.{content_bytes};
 
     /// Writes it over all of some bytes.
     pub(crate) fn write(self, into: &mut [u8])

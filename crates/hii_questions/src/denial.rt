@@ -1,7 +1,7 @@
 //! Why a command is denied.
 
 ghost use Rattle.std.specs.Prelude.{◌≡◌};
-ghost use Rattle.hii_questions.specs.Denials.{kind_name};
+ghost use Rattle.hii_questions.specs.Denials.{kind_name, has_text};
 
 /// Why a command is denied (own rule).
 #[derive(Clone, Copy, Debug, PartialEq, Eq)]
@@ -18,7 +18,7 @@ pub enum DenialKind {
     ReadOnly,
     /// The question has no field in a store.
     Outside,
-    /// The question takes no value of this kind.
+    /// The question takes no input of this kind: a number, a text or a list.
     Kind,
     /// The value is not among those that the question takes.
     Range,
@@ -64,6 +64,13 @@ impl DenialKind {
             DenialKind::NoQuestion => "noquestion",
         }
     }
+
+    /// Whether a denial of this kind is told with the text of the opcode that decides.
+    pub fn has_text(self) -> bool
+        ensures { result ≡ has_text self }
+    {
+        matches!(self, DenialKind::InconsistentIf | DenialKind::NoSubmitIf)
+    }
 }
 
 /// Why a question does not take a value: the kind, and the question's place in bytes from the header of the forms package.
@@ -71,4 +78,13 @@ impl DenialKind {
 pub struct ValueDenial {
     pub kind: DenialKind,
     pub place: u32,
+}
+
+impl ValueDenial {
+    /// The denial of this kind at a question's place.
+    pub(crate) fn by(kind: DenialKind, place: u32) -> ValueDenial
+        ensures { result ≡ record { kind = kind; place = place } }
+    {
+        ValueDenial { kind, place }
+    }
 }

@@ -2,15 +2,15 @@
 
 ghost use Rattle.std.specs.Prelude.{◌≡◌, ◌≤◌, true, IfSome};
 ghost use Rattle.ifr_opcodes.specs.declared.kinds.TheConstants.{TYPE_BOOLEAN};
-ghost use Rattle.ifr_scopes.specs.Lists.{statement_node};
+ghost use Rattle.ifr_scopes.specs.code.Lists.{statement_node};
 ghost use Rattle.ifr_scopes.specs.Nodes.{options};
-ghost use Rattle.hii_questions.specs.Items.{is_width};
+ghost use Rattle.hii_questions.specs.code.Widths.{is_width};
 ghost use Rattle.hii_questions.specs.Types as types;
 
 use ifr_opcodes::{TYPE_NUM_SIZE_16, TYPE_NUM_SIZE_32, TYPE_NUM_SIZE_64};
 use ifr_scopes::Statement;
 
-/// The kind of the first option.
+/// The Type of the first option.
 pub(crate) fn first_kind(statement: Statement<'_>) -> Option<u8>
     ensures first { result ≡ types.first_kind (options (statement_node statement.entry)) }
     ensures numeric { IfSome result (λ kind. kind ≤ TYPE_BOOLEAN) }

@@ -1,9 +1,9 @@
 //! New bytes for fields.
 
 ghost use Rattle.std.specs.Prelude.{◌≡◌, ◌≤◌, length};
-ghost use Rattle.hii_varstore.specs.Layout.{HasRange};
+ghost use Rattle.hii_varstore.specs.code.Ranges.{HasRange};
 ghost use Rattle.hii_varstore.specs.Stores.{shape_of, with_bytes};
-ghost use Rattle.hii_questions.specs.Contents.{content_bytes};
+ghost use Rattle.hii_questions.specs.code.Contents.{content_bytes};
 
 use crate::content::Content;
 use hii_varstore::Stores;
@@ -22,12 +22,13 @@ pub struct Field<'i> {
 }
 
 impl<'i> Field<'i> {
-    ghost use Rattle.hii_questions.specs.NewBytes.{new_bytes};
+    ghost use Rattle.hii_questions.specs.code.NewBytes.{new_bytes};
 
     /// Writes the new bytes into the store.
     pub fn put(self, stores: &mut Stores)
         requires { HasRange (shape_of stores.old) self.store self.offset self.width }
-        ensures written { stores.new ≡ with_bytes stores.old self.entry.store self.entry.offset (new_bytes self.entry) }
+        ensures written { stores.new
+            ≡ with_bytes stores.old self.entry.store self.entry.offset (new_bytes self.entry) }
         ensures shape { shape_of stores.new ≡ shape_of stores.old }
     {
         let bytes = stores.field_mut(self.store, usize::from(self.offset), self.width);

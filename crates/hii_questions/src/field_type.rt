@@ -1,7 +1,7 @@
 //! What the fields of questions hold.
 
 ghost use Rattle.std.specs.Prelude.{◌≡◌, true};
-ghost use Rattle.hii_questions.specs.Items.{is_width};
+ghost use Rattle.hii_questions.specs.code.Widths.{is_width};
 
 use crate::choices::Choices;
 use crate::elements::element_width;
@@ -45,7 +45,7 @@ pub(crate) struct ListType<'a> {
 }
 
 impl<'a> ListType<'a> {
-    ghost use Rattle.hii_questions.specs.TypeViews.{list_width};
+    ghost use Rattle.hii_questions.specs.code.TypeViews.{list_width};
 
     /// How many bytes each value has.
     pub(crate) fn width(self) -> usize
@@ -68,9 +68,9 @@ pub(crate) enum FieldType<'a> {
 
 impl<'a> FieldType<'a> {
     ghost use Rattle.std.specs.Prelude.{option_map};
-    ghost use Rattle.ifr_scopes.specs.Lists.{statement_node};
+    ghost use Rattle.ifr_scopes.specs.code.Lists.{statement_node};
     ghost use Rattle.hii_questions.specs.FieldTypes.{size_of_type};
-    ghost use Rattle.hii_questions.specs.TypeViews.{type_in};
+    ghost use Rattle.hii_questions.specs.code.TypeViews.{type_in};
     ghost use Rattle.hii_questions.specs.Types.{type_of};
 
     /// What the field of a statement holds, if it is a question that may have one.

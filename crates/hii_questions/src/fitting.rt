@@ -2,15 +2,15 @@
 
 ghost use Rattle.std.specs.Prelude.{◌≡◌, ◌*◌, true};
 ghost use Rattle.byteorder.specs.Endian.{little_bytes};
-ghost use Rattle.hii_questions.specs.Contents.{content_bytes};
-ghost use Rattle.hii_questions.specs.Fitting.{Gives};
+ghost use Rattle.hii_questions.specs.code.Contents.{content_bytes};
+ghost use Rattle.hii_questions.specs.code.Fitting.{Gives};
 ghost use Rattle.hii_questions.specs.FieldTypes.{checkbox, size_of_type};
 ghost use Rattle.hii_questions.specs.Inputs.{fits_type, numeric_bytes, offered, chosen_bytes, text_bytes, list_bytes};
-ghost use Rattle.hii_questions.specs.ChoiceViews.{choice_values};
-ghost use Rattle.hii_questions.specs.Items.{is_width};
-ghost use Rattle.hii_questions.specs.ItemsLeft.{items_left};
-ghost use Rattle.hii_questions.specs.Offers.{offer_of, HasList};
-ghost use Rattle.hii_questions.specs.TypeViews.{type_in, numeric_in, one_of_in, text_in, list_in, list_width};
+ghost use Rattle.hii_questions.specs.code.ChoiceViews.{choice_values};
+ghost use Rattle.hii_questions.specs.code.Widths.{is_width};
+ghost use Rattle.hii_questions.specs.code.ItemsLeft.{items_left};
+ghost use Rattle.hii_questions.specs.code.Offers.{offer_of, HasList};
+ghost use Rattle.hii_questions.specs.code.TypeViews.{type_in, numeric_in, one_of_in, text_in, list_in, list_width};
 
 use crate::content::Content;
 use crate::denial::DenialKind;
@@ -29,7 +29,8 @@ pub(crate) fn content_of<'i>(
     input: Input<'i>,
 ) -> Result<Content<'i>, DenialKind>
     requires { HasList input }
-    ensures { Gives (size_of_type (type_in field_type.entry)) (fits_type (type_in field_type.entry) (offer_of input.entry)) result }
+    ensures { Gives (size_of_type (type_in field_type.entry))
+        (fits_type (type_in field_type.entry) (offer_of input.entry)) result }
 {
     match field_type {
         FieldType::Checkbox => checkbox_content(input),
@@ -76,7 +77,8 @@ fn numeric_content(numeric: NumericType, input: Input<'_>) -> Result<Content<'_>
 
 // The number of these bits, where there are some, and it is within the bounds.
 fn within_bounds<'i>(numeric: NumericType, bits: Option<u64>) -> Result<Content<'i>, DenialKind>
-    ensures { Gives numeric.width (numeric_bytes numeric.signed numeric.width numeric.minimum numeric.maximum bits) result }
+    ensures { Gives numeric.width
+        (numeric_bytes numeric.signed numeric.width numeric.minimum numeric.maximum bits) result }
 {
     let Some(bits) = bits else {
         return Err(DenialKind::Range);
@@ -91,7 +93,8 @@ fn within_bounds<'i>(numeric: NumericType, bits: Option<u64>) -> Result<Content<
 }
 
 fn one_of_content<'i>(one_of: OneOfType<'_>, input: Input<'i>) -> Result<Content<'i>, DenialKind>
-    ensures { Gives one_of.entry.width (fits_type (one_of_in one_of.entry) (offer_of input.entry)) result }
+    ensures { Gives one_of.entry.width
+        (fits_type (one_of_in one_of.entry) (offer_of input.entry)) result }
 {
     match input {
         Input::Number(number) => chosen(one_of, number),
@@ -102,7 +105,9 @@ fn one_of_content<'i>(one_of: OneOfType<'_>, input: Input<'i>) -> Result<Content
 
 // The number, where an option has it as its value.
 fn chosen<'i>(one_of: OneOfType<'_>, number: i128) -> Result<Content<'i>, DenialKind>
-    ensures { Gives one_of.entry.width (chosen_bytes one_of.entry.width (offered (choice_values one_of.entry.choices) number)) result }
+    ensures { Gives one_of.entry.width
+        (chosen_bytes one_of.entry.width (offered (choice_values one_of.entry.choices) number))
+        result }
 {
     match one_of.choices.value(number) {
         Some(value) => Ok(number_content(value, one_of.width)),
@@ -125,7 +130,8 @@ fn text_content(text: TextType, input: Input<'_>) -> Result<Content<'_>, DenialK
 
 // The units, where they are neither too few nor too many.
 fn of_length<'i>(text: TextType, units: Items<'i>) -> Result<Content<'i>, DenialKind>
-    ensures { Gives (2 * text.maximum) (text_bytes text.minimum text.maximum (items_left units.entry)) result }
+    ensures { Gives (2 * text.maximum)
+        (text_bytes text.minimum text.maximum (items_left units.entry)) result }
 {
     match count_within(units, text.maximum) {
         Some(count) if text.minimum <= count => Ok(Content {
@@ -138,7 +144,8 @@ fn of_length<'i>(text: TextType, units: Items<'i>) -> Result<Content<'i>, Denial
 
 fn list_content<'i>(list: ListType<'_>, input: Input<'i>) -> Result<Content<'i>, DenialKind>
     requires { HasList input }
-    ensures { Gives (list.entry.most * list_width list.entry) (fits_type (list_in list.entry) (offer_of input.entry)) result }
+    ensures { Gives (list.entry.most * list_width list.entry)
+        (fits_type (list_in list.entry) (offer_of input.entry)) result }
 {
     match input {
         Input::List(text) => elements(list, Items::List(NumberList::of(text))),
@@ -152,7 +159,9 @@ fn list_content<'i>(list: ListType<'_>, input: Input<'i>) -> Result<Content<'i>,
 
 // The elements, where an ordered list takes them.
 fn elements<'i>(list: ListType<'_>, items: Items<'i>) -> Result<Content<'i>, DenialKind>
-    ensures { Gives (list.entry.most * list_width list.entry) (list_bytes (list_width list.entry) list.entry.most list.entry.unique list.entry.some (choice_values list.entry.choices) (items_left items.entry)) result }
+    ensures { Gives (list.entry.most * list_width list.entry)
+        (list_bytes (list_width list.entry) list.entry.most list.entry.unique list.entry.some
+        (choice_values list.entry.choices) (items_left items.entry)) result }
 {
     check_list(list, items)?;
     Ok(Content {

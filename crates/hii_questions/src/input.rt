@@ -2,8 +2,8 @@
 
 ghost use Rattle.std.specs.Prelude.{◌≡◌, ◌≤◌, length};
 ghost use Rattle.hii_questions.specs.Inputs.{read_as};
-ghost use Rattle.hii_questions.specs.Offers.{offer_of, HasField, HasList};
-ghost use Rattle.hii_questions.specs.TypeViews.{type_in};
+ghost use Rattle.hii_questions.specs.code.Offers.{offer_of, HasField, HasList};
+ghost use Rattle.hii_questions.specs.code.TypeViews.{type_in};
 
 use crate::field_type::FieldType;
 use crate::numbers::number_of;

@@ -20,7 +20,8 @@ pub(crate) enum Items<'i> {
 
 // The first character of a text, and the others.
 fn split_char(text: &str) -> Option<(u64, &str)>
-    ensures { MatchOption result (chars text.now ≡ []) (λ split. chars text.now ≡ split.0 ∷ chars split.1.now) }
+    ensures { MatchOption result (chars text.now ≡ [])
+        (λ split. chars text.now ≡ split.0 ∷ chars split.1.now) }
 {
     let mut left = text.chars();
     let first = left.next()?;
@@ -29,7 +30,7 @@ fn split_char(text: &str) -> Option<(u64, &str)>
 
 impl<'i> Iterator for Items<'i> {
     ghost use Rattle.std.specs.Iterator.{YieldsFirst, item_count};
-    ghost use Rattle.hii_questions.specs.ItemsLeft.{items_left};
+    ghost use Rattle.hii_questions.specs.code.ItemsLeft.{items_left};
 
     type Item = u64;
 

@@ -1,6 +1,6 @@
 //! Laws of the definitions that the contracts cite.
 
-ghost use Rattle.hii_questions.specs.Laws.{HoldsFields, FindsQuestions, ReadsBack, FillsFields, LeavesOthers};
+ghost use Rattle.hii_questions.specs.laws.Fields.{HoldsFields, FindsQuestions, ReadsBack, FillsFields, LeavesOthers};
 
 /// Where no question has a fault, each field lies in its store.
 pub fn fields_lie_in_their_stores()

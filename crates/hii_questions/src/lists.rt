@@ -2,10 +2,10 @@
 
 ghost use Rattle.std.specs.Prelude.{◌≡◌, ◌≤◌, ◌==◌, [], OnOk, length, take};
 ghost use Rattle.std.specs.List.{list_any};
-ghost use Rattle.hii_questions.specs.ChoiceViews.{choice_values};
-ghost use Rattle.hii_questions.specs.Fitting.{Tells};
+ghost use Rattle.hii_questions.specs.code.ChoiceViews.{choice_values};
+ghost use Rattle.hii_questions.specs.code.Fitting.{Tells};
 ghost use Rattle.hii_questions.specs.Inputs.{list_denial, element_denial};
-ghost use Rattle.hii_questions.specs.ItemsLeft.{items_left};
+ghost use Rattle.hii_questions.specs.code.ItemsLeft.{items_left};
 
 use crate::denial::DenialKind;
 use crate::field_type::ListType;
@@ -14,7 +14,8 @@ use crate::texts::count_within;
 
 /// Refuses a list that an ordered list does not take.
 pub(crate) fn check_list(list: ListType<'_>, items: Items<'_>) -> Result<(), DenialKind>
-    ensures told { Tells (list_denial list.entry.most list.entry.unique list.entry.some (choice_values list.entry.choices) (items_left items.entry)) result }
+    ensures told { Tells (list_denial list.entry.most list.entry.unique list.entry.some
+        (choice_values list.entry.choices) (items_left items.entry)) result }
     ensures few { OnOk result (length (items_left items.entry) ≤ list.entry.most) }
 {
     let Some(count) = count_within(items, u16::from(list.most)) else {
@@ -29,7 +30,8 @@ pub(crate) fn check_list(list: ListType<'_>, items: Items<'_>) -> Result<(), Den
 // Refuses an element that no option has, or that stands before itself in a list that is a set.
 fn check_elements(list: ListType<'_>, items: Items<'_>) -> Result<(), DenialKind>
     requires { length (items_left items) ≤ 65535 }
-    ensures { Tells (element_denial (choice_values list.entry.choices) list.entry.unique [] (items_left items.entry)) result }
+    ensures { Tells (element_denial (choice_values list.entry.choices) list.entry.unique []
+        (items_left items.entry)) result }
 {
     let mut count = 0;
     for item in items {

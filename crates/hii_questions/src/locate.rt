@@ -1,11 +1,11 @@
 //! Where fields lie.
 
 ghost use Rattle.std.specs.Prelude.{◌≡◌, option_map};
-ghost use Rattle.ifr_opcodes.specs.Forest.{mark};
-ghost use Rattle.ifr_opcodes.specs.Ops.{op_of};
-ghost use Rattle.ifr_scopes.specs.Lists.{statement_node};
+ghost use Rattle.ifr_opcodes.specs.code.Marks.{mark};
+ghost use Rattle.ifr_opcodes.specs.code.Ops.{op_of};
+ghost use Rattle.ifr_scopes.specs.code.Lists.{statement_node};
 ghost use Rattle.hii_questions.specs.Fields.{field_at};
-ghost use Rattle.hii_questions.specs.Ranges.{range_in, HasWidth};
+ghost use Rattle.hii_questions.specs.code.Ranges.{range_in, HasWidth};
 
 use crate::field_range::FieldRange;
 use crate::field_type::FieldType;
@@ -20,7 +20,8 @@ pub(crate) fn field_in(
     layout: &Layout<'_>,
 ) -> Option<FieldRange>
     requires { op_of op.op ≡ mark (statement_node statement) }
-    ensures found { option_map range_in result ≡ field_at layout.now (statement_node statement.entry) }
+    ensures found { option_map range_in result
+        ≡ field_at layout.now (statement_node statement.entry) }
     ensures wide { HasWidth (statement_node statement.entry) result }
 {
     let store = op.store();

@@ -2,8 +2,8 @@
 
 ghost use Rattle.std.specs.Prelude.{◌≡◌, ◌≤◌, ◌*◌, ◌/◌, ◌^◌, true, pos, length};
 ghost use Rattle.byteorder.specs.Endian.{little_number};
-ghost use Rattle.hii_questions.specs.Inputs.{shown, bits_of, fitting_bits};
-ghost use Rattle.hii_questions.specs.Items.{is_width};
+ghost use Rattle.hii_questions.specs.Inputs.{number_of_bits, bits_of, fitting_bits};
+ghost use Rattle.hii_questions.specs.code.Widths.{is_width};
 
 use hii_bytes::number_at;
 
@@ -20,7 +20,7 @@ fn half(width: usize) -> i128
 /// The number that the bits of `width` bytes are, with a sign that of their two's complement. The width is 1, 2, 4 or 8.
 pub fn shown(signed: bool, width: usize, bits: u64) -> i128
     requires { is_width width ≡ true }
-    ensures { result ≡ shown signed width bits }
+    ensures { result ≡ number_of_bits signed width bits }
 {
     let number = i128::from(bits);
     let half = half(width);

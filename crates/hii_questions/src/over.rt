@@ -13,7 +13,7 @@ pub struct Over<'s, 'a> {
 }
 
 impl<'s, 'a> Answers<'s> for Over<'s, 'a> {
-    ghost use Rattle.hii_questions.specs.Over.{answers_over};
+    ghost use Rattle.hii_questions.specs.code.Over.{answers_over};
 
     ghost answers = { answers_over };
 

@@ -1,11 +1,11 @@
 //! One question.
 
 ghost use Rattle.std.specs.Prelude.{◌≡◌, true};
-ghost use Rattle.ifr_opcodes.specs.Forest.{mark};
-ghost use Rattle.ifr_opcodes.specs.Ops.{op_of};
-ghost use Rattle.ifr_scopes.specs.Lists.{statement_node};
+ghost use Rattle.ifr_opcodes.specs.code.Marks.{mark};
+ghost use Rattle.ifr_opcodes.specs.code.Ops.{op_of};
+ghost use Rattle.ifr_scopes.specs.code.Lists.{statement_node};
 ghost use Rattle.ifr_scopes.specs.Nodes.{is_question};
-ghost use Rattle.hii_questions.specs.Ranges.{HasWidth, HasWidth-prop};
+ghost use Rattle.hii_questions.specs.code.Ranges.{HasWidth, HasWidth-prop};
 
 use crate::field_range::FieldRange;
 use crate::locate::field_in;
@@ -27,14 +27,16 @@ pub struct Question<'a> {
 impl<'a> Question<'a> {
     ghost use Rattle.std.specs.Prelude.{if◌then◌else◌, Some, None, option_map};
     ghost use Rattle.ifr_opcodes.specs.Fields.{question_id};
-    ghost use Rattle.ifr_opcodes.specs.Ops.{bytes_of};
+    ghost use Rattle.ifr_opcodes.specs.code.Ops.{bytes_of};
     ghost use Rattle.hii_questions.specs.Fields.{asked_at};
-    ghost use Rattle.hii_questions.specs.Ranges.{range_in};
-    ghost use Rattle.hii_questions.specs.Views.{question_node, question_view};
+    ghost use Rattle.hii_questions.specs.code.Ranges.{range_in};
+    ghost use Rattle.hii_questions.specs.code.Views.{question_node, question_view};
 
     /// The question that a statement is, with its field in the stores of a layout.
     pub(crate) fn of(statement: Statement<'a>, layout: &Layout<'_>) -> Option<Question<'a>>
-        ensures { option_map question_view result ≡ (if is_question (statement_node statement.entry) then Some (asked_at layout.now (statement_node statement.entry)) else None) }
+        ensures { option_map question_view result
+            ≡ (if is_question (statement_node statement.entry)
+            then Some (asked_at layout.now (statement_node statement.entry)) else None) }
     {
         let op = statement.question()?;
         Some(Question {
@@ -51,21 +53,21 @@ impl<'a> Question<'a> {
         self.statement
     }
 
-    /// Its id, or 0.
+    /// The id of the question, or 0.
     pub fn id(self) -> u16
         ensures { result ≡ question_id (question_node self.entry).op }
     {
         self.op.id()
     }
 
-    /// Its place, in bytes from the package's header.
+    /// The place of the question, in bytes from the package's header.
     pub fn place(self) -> u32
         ensures { result ≡ (question_node self.entry).place }
     {
         self.statement.place()
     }
 
-    /// Its opcode.
+    /// The opcode of the question.
     pub fn op(self) -> QuestionOp<'a>
         ensures place { result.op.place ≡ (question_node self.entry).place }
         ensures bytes { bytes_of result.op ≡ (question_node self.entry).op }

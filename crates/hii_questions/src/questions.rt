@@ -7,10 +7,10 @@ ghost use Rattle.hii_varstore.specs.StoreNodes.{layout_of};
 ghost use Rattle.hii_questions.specs.Answers.{answers};
 ghost use Rattle.hii_questions.specs.Faults.{IsQuestionFault};
 ghost use Rattle.hii_questions.specs.Fields.{questions, asked, question_with};
-ghost use Rattle.hii_questions.specs.Lists.{questions_left};
-ghost use Rattle.hii_questions.specs.Over.{answers_over};
-ghost use Rattle.hii_questions.specs.Tables.{first_at};
-ghost use Rattle.hii_questions.specs.Views.{question_view};
+ghost use Rattle.hii_questions.specs.code.Lists.{questions_left};
+ghost use Rattle.hii_questions.specs.code.Over.{answers_over};
+ghost use Rattle.hii_questions.specs.code.Tables.{first_at};
+ghost use Rattle.hii_questions.specs.code.Views.{question_view};
 
 use crate::check::check_questions;
 use crate::over::Over;
@@ -32,11 +32,11 @@ pub struct Questions<'a> {
 }
 
 impl<'a> Model for Questions<'a> {
-    ghost use Rattle.hii_questions.specs.Survey.{Survey};
+    ghost use Rattle.hii_questions.specs.code.Survey.{Survey};
 
     ghost Value = { Survey };
 
-    ghost use Rattle.hii_questions.specs.Tables.{AreQuestions};
+    ghost use Rattle.hii_questions.specs.code.Tables.{AreQuestions};
 
     ghost view = { λ s. record { ifr = s.ifr.now } };
 
@@ -47,8 +47,8 @@ impl<'a> Questions<'a> {
     /// The questions of a form set, or the least fault of their fields and options (own rule): a store that is not there,
     /// UnknownVarstore (35), or a field that reaches past the end of its store, FieldOutside (36), each at the question; the
     /// value of an option of a ONE_OF that is no number of its width, OptionRange (37), or an option of an ORDERED_LIST of
-    /// another kind than the first, MixedOptions (38), each at the option. Places are in bytes from the package's header. Want of memory is
-    /// OutOfMemory (60) at 0. The layout is that of the form set.
+    /// another Type than the first, MixedOptions (38), each at the option. Places are in bytes from the package's header.
+    /// Where an allocation fails the fault is OutOfMemory (60) at 0. The layout is that of the form set.
     pub fn read(
         alloc: Global,
         forms: &Forms<'a>,
@@ -58,18 +58,13 @@ impl<'a> Questions<'a> {
         ensures read { IfOk result (λ questions. questions ≡ record { ifr = forms.now }) }
         ensures sound { IfOk result (λ questions. HasNone (IsQuestionFault (nodes_of forms.now))) }
         ensures refused { IfErr result (Refuses (IsQuestionFault (nodes_of forms.now))) }
-        ensures accepted { HasNone (IsQuestionFault (nodes_of forms.now)) → IfErr result (λ fault. fault ≡ out_of_memory) }
+        ensures accepted { HasNone (IsQuestionFault (nodes_of forms.now))
+            → IfErr result (λ fault. fault ≡ out_of_memory) }
     {
         let ifr = forms.bytes();
-        let Ok(by_place) = questions_by_place(alloc, forms, layout) else {
-            return Err(Fault::out_of_memory());
-        };
-        let Ok(by_id) = questions_by_id(alloc, &by_place) else {
-            return Err(Fault::out_of_memory());
-        };
-        let Ok(ids) = store_ids(alloc, forms) else {
-            return Err(Fault::out_of_memory());
-        };
+        let by_place = questions_by_place(alloc, forms, layout)?;
+        let by_id = questions_by_id(alloc, &by_place)?;
+        let ids = store_ids(alloc, forms)?;
         check_questions(&by_place, layout, &ids)?;
         Ok(Questions {
             ifr,
@@ -80,7 +75,9 @@ impl<'a> Questions<'a> {
 
     /// The question of an id; there is none of the id 0.
     pub fn find(&self, id: u16) -> Option<Question<'a>>
-        ensures { option_map question_view result ≡ option_map (asked (nodes_of self.now.ifr)) (question_with (nodes_of self.now.ifr) id) }
+        ensures { option_map question_view result
+            ≡ option_map (asked (nodes_of self.now.ifr))
+            (question_with (nodes_of self.now.ifr) id) }
     {
         if id == 0 {
             return None;
@@ -90,7 +87,8 @@ impl<'a> Questions<'a> {
 
     /// The question at a place, in bytes from the package's header.
     pub fn at(&self, place: u32) -> Option<Question<'a>>
-        ensures { option_map question_view result ≡ first_at (questions (nodes_of self.now.ifr)) place }
+        ensures { option_map question_view result
+            ≡ first_at (questions (nodes_of self.now.ifr)) place }
     {
         match self
             .by_place
@@ -129,8 +127,8 @@ pub struct AllQuestions<'q, 'a> {
 
 impl<'q, 'a> Iterator for AllQuestions<'q, 'a> {
     ghost use Rattle.std.specs.Iterator.{YieldsFirstBy, item_count};
-    ghost use Rattle.hii_questions.specs.Views.{question_view};
-    ghost use Rattle.hii_questions.specs.Lists.{questions_left};
+    ghost use Rattle.hii_questions.specs.code.Views.{question_view};
+    ghost use Rattle.hii_questions.specs.code.Lists.{questions_left};
 
     type Item = Question<'a>;
 

@@ -1,11 +1,11 @@
 //! The values of fields.
 
 ghost use Rattle.std.specs.Prelude.{◌≡◌, ◌*◌, length};
-ghost use Rattle.ifr_expr.specs.Views.{value_of};
-ghost use Rattle.hii_questions.specs.Answers.{value_in};
+ghost use Rattle.ifr_expr.specs.code.Views.{value_of};
+ghost use Rattle.hii_questions.specs.Answers.{answer_in};
 ghost use Rattle.hii_questions.specs.FieldTypes.{size_of_type};
 ghost use Rattle.hii_questions.specs.Items.{bytes_of_items};
-ghost use Rattle.hii_questions.specs.TypeViews.{type_in};
+ghost use Rattle.hii_questions.specs.code.TypeViews.{type_in};
 
 use crate::field_type::FieldType;
 use crate::items::Items;
@@ -17,7 +17,7 @@ use ifr_expr::Value;
 /// The value that the bytes of a field are.
 pub(crate) fn value_in<'s>(field_type: FieldType<'_>, bytes: &'s [u8]) -> Value<'s>
     requires { length bytes.now ≡ size_of_type (type_in field_type) }
-    ensures { value_of result ≡ value_in (type_in field_type.entry) bytes.now }
+    ensures { value_of result ≡ answer_in (type_in field_type.entry) bytes.now }
 {
     match field_type {
         FieldType::Checkbox => Value::Boolean(bytes[0] != 0),

@@ -1,7 +1,7 @@
 //! Items that stand in bytes.
 
 ghost use Rattle.std.specs.Prelude.{◌≡◌, true};
-ghost use Rattle.hii_questions.specs.Items.{is_width};
+ghost use Rattle.hii_questions.specs.code.Widths.{is_width};
 
 use hii_bytes::number_at;
 
@@ -16,7 +16,7 @@ pub struct StoredItems<'i> {
 impl<'i> StoredItems<'i> {
     ghost use Rattle.std.specs.Iterator.{YieldsFirst};
     ghost use Rattle.hii_questions.specs.Items.{items_in};
-    ghost use Rattle.hii_questions.specs.StoredLeft.{stored_left};
+    ghost use Rattle.hii_questions.specs.code.StoredLeft.{stored_left};
 
     /// The items at the front of some bytes, of 1, 2, 4 or 8 bytes each.
     pub fn new(bytes: &'i [u8], width: usize) -> StoredItems<'i>

@@ -8,8 +8,8 @@ ghost use Rattle.ifr_scopes.specs.Nodes.{nodes_of};
 ghost use Rattle.hii_varstore.specs.StoreNodes.{layout_of};
 ghost use Rattle.hii_questions.specs.Faults.{is_known};
 ghost use Rattle.hii_questions.specs.Fields.{questions};
-ghost use Rattle.hii_questions.specs.Tables.{first_with};
-ghost use Rattle.hii_questions.specs.Views.{question_view};
+ghost use Rattle.hii_questions.specs.code.Tables.{first_with};
+ghost use Rattle.hii_questions.specs.code.Views.{question_view};
 
 use crate::question::Question;
 use hii_varstore::Layout;
@@ -24,7 +24,8 @@ pub(crate) fn questions_by_place<'a>(
     layout: &Layout<'_>,
 ) -> Result<Vec<Question<'a>>, AllocError>
     requires { layout.now ≡ layout_of (nodes_of forms.now) }
-    ensures { IfOk result (λ by_place. map question_view by_place.items ≡ questions (nodes_of forms.now)) }
+    ensures { IfOk result (λ by_place. map question_view by_place.items
+        ≡ questions (nodes_of forms.now)) }
 {
     let mut questions = Vec::new(alloc);
     for statement in forms.statements() {
@@ -40,7 +41,9 @@ pub(crate) fn questions_by_id<'a>(
     alloc: Global,
     questions: &[Question<'a>],
 ) -> Result<BTreeMap<u16, Question<'a>>, AllocError>
-    ensures { IfOk result (λ index. (id : ℕ) → option_map question_view (get nat_cmp index id) ≡ first_with (map question_view questions.now) id) }
+    ensures { IfOk result (λ index. (id : ℕ)
+        → option_map question_view (get nat_cmp index id)
+        ≡ first_with (map question_view questions.now) id) }
 {
     let mut index = BTreeMap::new(alloc);
     for question in questions {
@@ -54,7 +57,8 @@ pub(crate) fn questions_by_id<'a>(
 
 /// The ids of all stores.
 pub(crate) fn store_ids(alloc: Global, forms: &Forms<'_>) -> Result<BTreeSet<u16>, AllocError>
-    ensures { IfOk result (λ ids. (id : ℕ) → contains nat_cmp ids id ≡ is_known (nodes_of forms.now) id) }
+    ensures { IfOk result (λ ids. (id : ℕ)
+        → contains nat_cmp ids id ≡ is_known (nodes_of forms.now) id) }
 {
     let mut ids = BTreeSet::new(alloc);
     for store in forms.stores() {

@@ -12,18 +12,18 @@ use Rattle.hii_varstore.specs.declared.buffer.Buffer.{Buffer}
 use Rattle.hii_varstore.specs.Layout.{Shape}
 use Rattle.hii_varstore.specs.Stores.{Store, StoreMap, shape_of, buffer_of}
 use Rattle.hii_varstore.specs.Image.{store_image, stores_image, image_of, older_image_of, SpellsImage}
-use Rattle.hii_varstore.specs.Faults.{Part, Told, Any, width_of, IsMet, IsWrong, IsPartFault, store_parts, stores_parts, head_parts, image_parts, older_image_parts, IsOlder, IsImageFault}
-use Rattle.hii_varstore.specs.Reading.{Reads, IsFaultOf, ReadsHead}
+use Rattle.hii_varstore.specs.Faults.{ImagePart, Told, Any, part_width, IsMet, IsWrong, IsPartFault, store_parts, stores_parts, head_parts, image_parts, older_image_parts, IsOlder, IsImageFault}
+use Rattle.hii_varstore.specs.code.Reading.{Reads, IsFaultOf, ReadsHead}
 
 -- a part that is wrong is not met
-wrong_or_met : (part : Part) (bytes : List ℕ) (cause : Cause) → IsWrong part bytes cause → IsMet part bytes → ⊥
+wrong_or_met : (part : ImagePart) (bytes : List ℕ) (cause : Cause) → IsWrong part bytes cause → IsMet part bytes → ⊥
 wrong_or_met (Told wanted other) bytes cause (inl (e, short)) met = omega (arith, short, ap length met, length-take (length wanted) bytes)
 wrong_or_met (Told wanted other) bytes cause (inr (e, long, differs)) met = differs met
 wrong_or_met (Any width) bytes cause (inl (e, short)) met = omega (arith, short, met)
 wrong_or_met (Any width) bytes cause (inr h) met = h
 
 -- a part is wrong in one way
-one_wrong : (part : Part) (bytes : List ℕ) (c d : Cause) → IsWrong part bytes c → IsWrong part bytes d → c ≡ d
+one_wrong : (part : ImagePart) (bytes : List ℕ) (c d : Cause) → IsWrong part bytes c → IsWrong part bytes d → c ≡ d
 one_wrong part bytes c d (inl p) (inl q) = p.0 ∙ sym q.0
 one_wrong (Told wanted other) bytes c d (inl p) (inr q) = absurd (omega (arith, p.1, q.1))
 one_wrong (Told wanted other) bytes c d (inr p) (inl q) = absurd (omega (arith, q.1, p.1))
@@ -33,12 +33,12 @@ one_wrong (Any width) bytes c d (inr p) (inl q) = absurd p
 one_wrong (Any width) bytes c d (inr p) (inr q) = absurd p
 
 -- parts have one fault at most
-one_part_fault : (at : ℕ) (parts : List Part) (bytes : List ℕ) (c d : Cause) (p q : ℕ) → IsPartFault at parts bytes c p → IsPartFault at parts bytes d q → (c ≡ d) × (p ≡ q)
+one_part_fault : (at : ℕ) (parts : List ImagePart) (bytes : List ℕ) (c d : Cause) (p q : ℕ) → IsPartFault at parts bytes c p → IsPartFault at parts bytes d q → (c ≡ d) × (p ≡ q)
 one_part_fault at [] bytes c d p q f g = (f.0 ∙ sym g.0, f.1 ∙ sym g.1)
 one_part_fault at (part ∷ parts) bytes c d p q (inl f) (inl g) = (one_wrong part bytes c d f.0 g.0, f.1 ∙ sym g.1)
 one_part_fault at (part ∷ parts) bytes c d p q (inl f) (inr g) = absurd (wrong_or_met part bytes c f.0 g.0)
 one_part_fault at (part ∷ parts) bytes c d p q (inr f) (inl g) = absurd (wrong_or_met part bytes d g.0 f.0)
-one_part_fault at (part ∷ parts) bytes c d p q (inr f) (inr g) = one_part_fault (at + width_of part) parts (drop (width_of part) bytes) c d p q f.1 g.1
+one_part_fault at (part ∷ parts) bytes c d p q (inr f) (inr g) = one_part_fault (at + part_width part) parts (drop (part_width part) bytes) c d p q f.1 g.1
 
 one_image_fault : (shape : Shape) (image : List ℕ) (c d : Cause) (p q : ℕ) → IsImageFault shape image c p → IsImageFault shape image d q → (c ≡ d) × (p ≡ q)
 one_image_fault shape image c d p q (inl f) (inl g) = one_part_fault 0 (older_image_parts shape) image c d p q f.1 g.1
@@ -54,11 +54,11 @@ least_fault shape image fault told = record {
 }
 
 -- a part that stands at the front has no fault
-met_told : (at : ℕ) (wanted rest : List ℕ) (other : Cause) (parts : List Part) (c : Cause) (p : ℕ) → IsPartFault at (Told wanted other ∷ parts) (wanted ++ rest) c p → IsPartFault (at + length wanted) parts rest c p
+met_told : (at : ℕ) (wanted rest : List ℕ) (other : Cause) (parts : List ImagePart) (c : Cause) (p : ℕ) → IsPartFault at (Told wanted other ∷ parts) (wanted ++ rest) c p → IsPartFault (at + length wanted) parts rest c p
 met_told at wanted rest other parts c p (inl f) = absurd (wrong_or_met (Told wanted other) (wanted ++ rest) c f.0 (take_at wanted rest (length wanted) refl))
 met_told at wanted rest other parts c p (inr f) = rw (drop_at wanted rest (length wanted) refl) at f.1
 
-met_any : (at width : ℕ) (bytes rest : List ℕ) (parts : List Part) (c : Cause) (p : ℕ) → length bytes ≡ width → IsPartFault at (Any width ∷ parts) (bytes ++ rest) c p → IsPartFault (at + width) parts rest c p
+met_any : (at width : ℕ) (bytes rest : List ℕ) (parts : List ImagePart) (c : Cause) (p : ℕ) → length bytes ≡ width → IsPartFault at (Any width ∷ parts) (bytes ++ rest) c p → IsPartFault (at + width) parts rest c p
 met_any at width bytes rest parts c p size (inl f) = absurd (wrong_or_met (Any width) (bytes ++ rest) c f.0 (omega (arith, size, length-append bytes rest)))
 met_any at width bytes rest parts c p size (inr f) = rw (drop_at bytes rest width size) at f.1
 
@@ -134,7 +134,7 @@ pub least_of : (shape : Shape) (image : List ℕ) (fault : Fault) → ((fault �
 least_of shape image fault (inl none) = inl none
 least_of shape image fault (inr told) = inr (least_fault shape image fault told)
 
--- where the image spells stores, only want of memory is left
+-- where the image spells stores, the only fault left is out of memory
 pub no_memory_left : (shape : Shape) (image : List ℕ) (fault : Fault) (m : StoreMap) → SpellsImage shape image m → ((fault ≡ out_of_memory) ⊎ IsImageFault shape image fault.cause fault.place) → fault ≡ out_of_memory
 no_memory_left shape image fault m s (inl none) = none
 no_memory_left shape image fault m s (inr told) = absurd (no_fault shape image m s fault.cause fault.place told)

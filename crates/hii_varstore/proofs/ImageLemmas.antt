@@ -13,8 +13,8 @@ use Rattle.hii_bytes.specs.declared.cause.Fault.{Fault}
 use Rattle.hii_varstore.specs.declared.buffer.Buffer.{Buffer}
 use Rattle.hii_varstore.specs.Stores.{Store, buffer_of}
 use Rattle.hii_varstore.specs.Image.{store_image}
-use Rattle.hii_varstore.specs.Reading.{Reads, IsFaultOf}
-use Rattle.hii_varstore.specs.Faults.{Part, Told, Any, width_of, IsMet, IsPartFault, store_parts}
+use Rattle.hii_varstore.specs.code.Reading.{Reads, IsFaultOf}
+use Rattle.hii_varstore.specs.Faults.{ImagePart, Told, Any, part_width, IsMet, IsPartFault, store_parts}
 
 pub same_bytes : (xs ys : List ℕ) → false ≡ not (pointwise eqb xs ys) → xs ≡ ys
 same_bytes xs ys told = (bytes_eq-Decides xs ys).0 (not-false (pointwise eqb xs ys) (sym told))
@@ -23,9 +23,9 @@ pub other_bytes : (xs ys : List ℕ) → true ≡ not (pointwise eqb xs ys) → 
 other_bytes xs ys told same = let e = (bytes_eq-Decides xs ys).1 same in let bad : true ≡ false = told ∙ ap not e in cc
 
 -- Where one part stands, and the later ones have a fault, all have it.
-behind : (part : Part) (later : List Part) (image : List ℕ) (place end : ℕ) (cause : Cause) (at : ℕ) → IsMet part (drop place image) → end ≡ place + width_of part → IsPartFault end later (drop end image) cause at → IsPartFault place (part ∷ later) (drop place image) cause at
+behind : (part : ImagePart) (later : List ImagePart) (image : List ℕ) (place end : ℕ) (cause : Cause) (at : ℕ) → IsMet part (drop place image) → end ≡ place + part_width part → IsPartFault end later (drop end image) cause at → IsPartFault place (part ∷ later) (drop place image) cause at
 behind part later image place end cause at met width fault =
-    inr (met, rw (drop-drop (width_of part) place image, ← width) fault)
+    inr (met, rw (drop-drop (part_width part) place image, ← width) fault)
 
 -- bytes that are told stand at a place
 pub reads_told : (image wanted : List ℕ) (place : ℕ) (other : Cause) → place + length wanted ≤ length image → take (length wanted) (drop place image) ≡ wanted → Reads (Told wanted other ∷ []) wanted image place (place + length wanted)
@@ -36,7 +36,7 @@ reads_told image wanted place other within met = record {
 }
 
 -- some parts, and then others
-pub reads_both : {ps qs : List Part} {xs ys image : List ℕ} {a b c : ℕ} → Reads ps xs image a b → Reads qs ys image b c → Reads (ps ++ qs) (xs ++ ys) image a c
+pub reads_both : {ps qs : List ImagePart} {xs ys image : List ℕ} {a b c : ℕ} → Reads ps xs image a b → Reads qs ys image b c → Reads (ps ++ qs) (xs ++ ys) image a c
 reads_both {ps} {qs} {xs} {ys} {image} {a} {b} {c} p q = record {
   within = q.within;
   stand = p.stand ∙ ap (λ t. xs ++ t) q.stand ∙ sym (append_assoc xs ys (drop c image));
@@ -44,7 +44,7 @@ reads_both {ps} {qs} {xs} {ys} {image} {a} {b} {c} p q = record {
 }
 
 -- a fault behind some parts
-pub fault_behind : {ps : List Part} {xs image : List ℕ} {a b : ℕ} (qs : List Part) (fault : Fault) → Reads ps xs image a b → IsFaultOf qs image b fault → IsFaultOf (ps ++ qs) image a fault
+pub fault_behind : {ps : List ImagePart} {xs image : List ℕ} {a b : ℕ} (qs : List ImagePart) (fault : Fault) → Reads ps xs image a b → IsFaultOf qs image b fault → IsFaultOf (ps ++ qs) image a fault
 fault_behind {ps} {xs} {image} {a} {b} qs fault p wrong later =
     rw (append_assoc ps qs later) (p.passed (qs ++ later) fault.cause fault.place (wrong later))
 
@@ -59,7 +59,7 @@ store_reads b bytes image place middle start e f size p q r =
     rw size (subst (Reads (store_parts b) (to_le_bytes w16 b.id ++ (to_le_bytes w16 b.size ++ bytes)) image place) end (reads_both p (reads_both q r)))
 
 -- what is read with one more store
-pub stores_more : (bs : List Buffer) (i : ℕ) (d : Buffer) (ss : List Store) (found image front : List ℕ) (first : Part) (place end : ℕ) → i < length bs → Reads (first ∷ flat_map store_parts (take i bs)) (front ++ flat_map store_image ss) image place end → Reads (store_parts (get_or bs i d)) (store_image record { id = (get_or bs i d).id; bytes = found }) image end (end + 4 + (get_or bs i d).size) → Reads (first ∷ flat_map store_parts (take (i + 1) bs)) (front ++ flat_map store_image (ss ++ record { id = (get_or bs i d).id; bytes = found } ∷ [])) image place (end + 4 + (get_or bs i d).size)
+pub stores_more : (bs : List Buffer) (i : ℕ) (d : Buffer) (ss : List Store) (found image front : List ℕ) (first : ImagePart) (place end : ℕ) → i < length bs → Reads (first ∷ flat_map store_parts (take i bs)) (front ++ flat_map store_image ss) image place end → Reads (store_parts (get_or bs i d)) (store_image record { id = (get_or bs i d).id; bytes = found }) image end (end + 4 + (get_or bs i d).size) → Reads (first ∷ flat_map store_parts (take (i + 1) bs)) (front ++ flat_map store_image (ss ++ record { id = (get_or bs i d).id; bytes = found } ∷ [])) image place (end + 4 + (get_or bs i d).size)
 stores_more bs i d ss found image front first place end within before next =
     let b = get_or bs i d in
     let store : Store = record { id = b.id; bytes = found } in
@@ -81,16 +81,16 @@ parts_at bs i d within =
     rw (← rest) (sym (flat_map-append store_parts (take i bs) (drop i bs)) ∙ ap (flat_map store_parts) (take-append-drop i bs))
 
 -- a fault of one store is one of all
-pub stores_fault : (bs : List Buffer) (i : ℕ) (d : Buffer) (first : Part) (xs image : List ℕ) (place end : ℕ) (fault : Fault) → i < length bs → Reads (first ∷ flat_map store_parts (take i bs)) xs image place end → IsFaultOf (store_parts (get_or bs i d)) image end fault → IsPartFault place (first ∷ flat_map store_parts bs) (drop place image) fault.cause fault.place
+pub stores_fault : (bs : List Buffer) (i : ℕ) (d : Buffer) (first : ImagePart) (xs image : List ℕ) (place end : ℕ) (fault : Fault) → i < length bs → Reads (first ∷ flat_map store_parts (take i bs)) xs image place end → IsFaultOf (store_parts (get_or bs i d)) image end fault → IsPartFault place (first ∷ flat_map store_parts bs) (drop place image) fault.cause fault.place
 stores_fault bs i d first xs image place end fault within before wrong =
     let b = get_or bs i d in
     let done = flat_map store_parts (take i bs) in
     let later = flat_map store_parts (drop (i + 1) bs) in
     let all : done ++ store_parts b ++ later ≡ flat_map store_parts bs = append_assoc done (store_parts b) later ∙ parts_at bs i d within in
-    subst (λ (ps : List Part). IsPartFault place (first ∷ ps) (drop place image) fault.cause fault.place) all (fault_behind (store_parts b) fault before wrong later)
+    subst (λ (ps : List ImagePart). IsPartFault place (first ∷ ps) (drop place image) fault.cause fault.place) all (fault_behind (store_parts b) fault before wrong later)
 
 -- bytes behind all parts
-pub left_over : (parts : List Part) (xs image : List ℕ) (place end : ℕ) → Reads parts xs image place end → end < length image → IsPartFault place parts (drop place image) StoreTrailing end
+pub left_over : (parts : List ImagePart) (xs image : List ℕ) (place end : ℕ) → Reads parts xs image place end → end < length image → IsPartFault place parts (drop place image) StoreTrailing end
 left_over parts xs image place end before some =
     rw append-nil at (before.passed [] StoreTrailing end (refl, refl, omega (arith, length-drop end image)))
 

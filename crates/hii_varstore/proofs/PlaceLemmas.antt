@@ -5,7 +5,7 @@ use Rattle.std.specs.Option.{IsSomeAnd, IsSome}
 use Rattle.std.proofs.lemmas.Bool.{cases_Bool, eqb-true, eqb-false, ne_eqb}
 use Rattle.hii_varstore.specs.declared.buffer.Buffer.{Buffer}
 use Rattle.hii_varstore.specs.Stores.{Store, buffer_of, overwritten, store_with, with_bytes}
-use Rattle.hii_varstore.specs.Table.{AreStores, place_of}
+use Rattle.hii_varstore.specs.code.Table.{AreStores, place_of}
 use Rattle.hii_varstore.proofs.TableLemmas.{few_of}
 use Rattle.std.proofs.lemmas.List.{get_or-map, length-map, places}
 

@@ -13,7 +13,7 @@ use Rattle.hii_varstore.specs.declared.buffer.Buffer.{Buffer}
 use Rattle.hii_varstore.specs.Layout.{Shape}
 use Rattle.hii_varstore.specs.Stores.{Store, StoreMap, buffer_of}
 use Rattle.hii_varstore.specs.Image.{store_image, stores_image, image_of, older_image_of, SpellsImage}
-use Rattle.hii_varstore.specs.Faults.{Part, Told, Any, width_of, IsMet, IsWrong, IsPartFault, store_parts, stores_parts, IsImageFault}
+use Rattle.hii_varstore.specs.Faults.{ImagePart, Told, Any, part_width, IsMet, IsWrong, IsPartFault, store_parts, stores_parts, IsImageFault}
 
 -- bytes are the same, or they are not
 same_or_other : (xs ys : List ℕ) → (xs ≡ ys) ⊎ (xs ≡ ys → ⊥)
@@ -23,7 +23,7 @@ same_or_other xs ys = elim (cases_Bool (pointwise eqb xs ys)) [
 ]
 
 -- a part that is not wrong is met
-met_unless_wrong : (part : Part) (bytes : List ℕ) → ((cause : Cause) → IsWrong part bytes cause → ⊥) → IsMet part bytes
+met_unless_wrong : (part : ImagePart) (bytes : List ℕ) → ((cause : Cause) → IsWrong part bytes cause → ⊥) → IsMet part bytes
 met_unless_wrong (Told wanted other) bytes right = elim (cases_lt (length bytes) (length wanted)) [
   | inl short ↦ absurd (right StoreShort (inl (refl, short)))
   | inr long ↦ elim (same_or_other (take (length wanted) bytes) wanted) [ inl same ↦ same | inr differs ↦ absurd (right other (inr (refl, long, differs))) ]
@@ -34,7 +34,7 @@ met_unless_wrong (Any width) bytes right = elim (cases_lt (length bytes) width) 
 ]
 
 -- Where parts have no fault, the first is met and the others have none behind it.
-first_met : (at : ℕ) (part : Part) (parts : List Part) (bytes : List ℕ) → HasNone (IsPartFault at (part ∷ parts) bytes) → IsMet part bytes × HasNone (IsPartFault (at + width_of part) parts (drop (width_of part) bytes))
+first_met : (at : ℕ) (part : ImagePart) (parts : List ImagePart) (bytes : List ℕ) → HasNone (IsPartFault at (part ∷ parts) bytes) → IsMet part bytes × HasNone (IsPartFault (at + part_width part) parts (drop (part_width part) bytes))
 first_met at part parts bytes none =
     let met : IsMet part bytes = met_unless_wrong part bytes (λ cause wrong. none cause at (inl (wrong, refl))) in
     (met, λ cause place fault. none cause place (inr (met, fault)))

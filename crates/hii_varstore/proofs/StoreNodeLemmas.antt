@@ -7,25 +7,27 @@ use Rattle.std.proofs.lemmas.Bool.{cases_Bool, ne_eqb, false≢true}
 use Rattle.std.proofs.lemmas.Option.{none-some, same_Some}
 use Rattle.std.proofs.lemmas.List.{map-append, append-nil}
 use Rattle.std.proofs.lemmas.List.Elements.{All-tail, filter_map-append}
-use Rattle.hii_bytes.specs.Faults.{IsLeast, HasNone, AreAll, first_fault, Rise}
+use Rattle.hii_bytes.specs.Faults.{IsLeast, HasNone}
+use Rattle.hii_bytes.specs.code.FirstFaults.{AreAll, first_fault, Rise}
 use Rattle.hii_bytes.specs.declared.cause.Cause.{Cause}
 use Rattle.hii_bytes.specs.declared.cause.Cause.TheVariants.{DuplicateVarstore}
 use Rattle.hii_bytes.specs.declared.cause.Fault.{Fault}
 use Rattle.hii_bytes.proofs.FirstFaultLemmas.{first_among, none_among}
 use Rattle.ifr_opcodes.specs.Opcode.{is_end, IsWhole}
 use Rattle.ifr_opcodes.specs.Forest.{Ancestor, Placed}
-use Rattle.ifr_scopes.specs.Checked.{IsAt, AreAt, node_in}
-use Rattle.ifr_scopes.specs.Lists.{stores_left}
+use Rattle.ifr_scopes.specs.code.Checked.{IsAt, AreAt, node_in}
+use Rattle.ifr_scopes.specs.code.Lists.{stores_left}
 use Rattle.ifr_scopes.specs.Nodes.{is_store}
 use Rattle.ifr_scopes.specs.References.{Ranked, ranked}
 use Rattle.ifr_scopes.specs.Stores.{store_id, store_size}
-use Rattle.ifr_scopes.specs.Views.{nodes_left}
-use Rattle.ifr_scopes.specs.Visits.{left}
-use Rattle.ifr_scopes.specs.Walking.{scan}
+use Rattle.ifr_scopes.specs.code.Views.{nodes_left}
+use Rattle.ifr_scopes.specs.code.Visits.{left}
+use Rattle.ifr_scopes.specs.code.Walking.{scan}
 use Rattle.ifr_scopes.specs.declared.varstore.Varstores.{Varstores}
 use Rattle.hii_varstore.specs.declared.buffer.Buffer.{Buffer}
-use Rattle.hii_varstore.specs.StoreNodes.{declared_buffer, is_taken, repeats_store, IsRepeatedStore, AreIdsOf}
-use Rattle.hii_varstore.specs.Table.{AreBuffers}
+use Rattle.hii_varstore.specs.StoreNodes.{declared_buffer, is_taken, repeats_store, IsRepeatedStore}
+use Rattle.hii_varstore.specs.code.Ids.{AreIdsOf}
+use Rattle.hii_varstore.specs.code.Table.{AreBuffers}
 
 -- ---- places rise
 

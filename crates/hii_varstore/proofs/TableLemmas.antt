@@ -8,7 +8,7 @@ use Rattle.std.proofs.lemmas.List.{take_more, length-map, length-take-le}
 use Rattle.std.proofs.lemmas.Map.Steps.{length-le_from_distinct_below}
 use Rattle.std.proofs.lemmas.Bool.{cases_Bool, eqb-true, ne_eqb, ltb-true}
 use Rattle.hii_varstore.specs.declared.buffer.Buffer.{Buffer}
-use Rattle.hii_varstore.specs.Table.{AreBuffers, place_of}
+use Rattle.hii_varstore.specs.code.Table.{AreBuffers, place_of}
 
 -- the place of the store of an id, counted from `start`
 abbrev place_from : ℕ → List Buffer → ℕ → Option ℕ

@@ -5,8 +5,10 @@ use Rattle.std.specs.Option.{IsSomeAnd, option_and_then}
 use Rattle.std.proofs.lemmas.List.{places, same_lists}
 use Rattle.std.proofs.lemmas.Option.{slice_get-get_or, slice_get_past}
 use Rattle.std.proofs.lemmas.Bool.{cases_Bool, cases_lt, eqb-true, eq-eqb, ne_eqb, eqb-false}
-use Rattle.hii_varstore.specs.Stores.{Store, StoreMap, buffer_of, shape_of, bytes_of, byte_of, field_of, overwritten, store_with, with_bytes}
-use Rattle.hii_varstore.specs.Layout.{size_of, HasRange}
+use Rattle.hii_varstore.specs.Stores.{Store, StoreMap, buffer_of, shape_of, bytes_of, bytes_of_field, overwritten, store_with, with_bytes}
+use Rattle.hii_varstore.specs.laws.Bytes.{byte_of}
+use Rattle.hii_varstore.specs.Layout.{size_of}
+use Rattle.hii_varstore.specs.code.Ranges.{HasRange}
 use Rattle.hii_varstore.specs.declared.buffer.Buffer.{Buffer}
 use Rattle.hii_varstore.proofs.PlaceLemmas.{length-overwritten}
 
@@ -67,7 +69,7 @@ range_in (Some bytes) id offset other at width new outside =
       | inr apart ↦ rw apart refl
     ]
 
-pub field_after : (m : StoreMap) (id offset other at width : ℕ) (new : List ℕ) → (other ≡ id → (at + width ≤ offset) ⊎ (offset + length new ≤ at)) → field_of (with_bytes m id offset new) other at width ≡ field_of m other at width
+pub field_after : (m : StoreMap) (id offset other at width : ℕ) (new : List ℕ) → (other ≡ id → (at + width ≤ offset) ⊎ (offset + length new ≤ at)) → bytes_of_field (with_bytes m id offset new) other at width ≡ bytes_of_field m other at width
 field_after m id offset other at width new outside = rw (bytes_after m id offset other new) (range_in (bytes_of m other) id offset other at width new outside)
 
 -- the size of a store is the number of its bytes
@@ -86,7 +88,7 @@ back_in : (o : Option (List ℕ)) (id offset : ℕ) (new : List ℕ) → IsSomeA
 back_in None id offset new range = absurd range
 back_in (Some bytes) id offset new range = rw (eq-eqb id id refl) (ap Some (range_back bytes new offset range))
 
-pub field_back : (m : StoreMap) (id offset : ℕ) (new : List ℕ) → HasRange (shape_of m) id offset (length new) → field_of (with_bytes m id offset new) id offset (length new) ≡ Some new
+pub field_back : (m : StoreMap) (id offset : ℕ) (new : List ℕ) → HasRange (shape_of m) id offset (length new) → bytes_of_field (with_bytes m id offset new) id offset (length new) ≡ Some new
 field_back m id offset new range = rw (bytes_after m id offset id new) (back_in (bytes_of m id) id offset new (rw (sizes m id) at range))
 
 -- a write keeps ids and sizes

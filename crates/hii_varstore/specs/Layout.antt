@@ -1,5 +1,5 @@
 -- Which buffer stores a form set has (UEFI 2.8, 33.3.8.3, EFI_IFR_VARSTORE and EFI_IFR_VARSTORE_EFI).
-use Rattle.std.specs.Prelude.{ℕ, ◌+◌, ◌≤◌, ◌==◌, List, Option, option_map, IsSomeAnd}
+use Rattle.std.specs.Prelude.{ℕ, ◌==◌, List, Option, option_map}
 use Rattle.std.specs.List.{find}
 use Rattle.hii_varstore.specs.declared.buffer.Buffer.{Buffer}
 
@@ -11,7 +11,3 @@ pub record Shape : Type 0 where
 -- how many bytes the store of an id holds
 abbrev pub size_of : Shape → ℕ → Option ℕ
 size_of shape id = option_map (λ b. b.size) (find (λ b. b.id == id) shape.buffers)
-
--- the store of an id has this range of bytes
-abbrev pub HasRange : Shape → ℕ → ℕ → ℕ → Type 0
-HasRange shape id offset width = IsSomeAnd (size_of shape id) (λ size. offset + width ≤ size)

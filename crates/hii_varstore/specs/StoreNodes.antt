@@ -1,9 +1,7 @@
 -- The stores that a form set declares (UEFI 2.8, 33.3.8.3, EFI_IFR_VARSTORE, EFI_IFR_VARSTORE_EFI and
 -- EFI_IFR_VARSTORE_NAME_VALUE).
-use Rattle.std.specs.Prelude.{◌≡◌, ℕ, Bool, false, ◌==◌, ◌||◌, List, [], ◌∷◌, filter, Option, option_map}
+use Rattle.std.specs.Prelude.{ℕ, Bool, false, ◌==◌, ◌||◌, List, [], ◌∷◌, filter, Option, option_map}
 use Rattle.std.specs.List.{filter_map, list_any}
-use Rattle.std.specs.Ordering.{nat_cmp}
-use Rattle.std.specs.BTreeSet.{BTreeSet, contains}
 use Rattle.hii_bytes.specs.Faults.{IsFaultOf}
 use Rattle.hii_bytes.specs.declared.cause.Cause.{Cause}
 use Rattle.hii_bytes.specs.declared.cause.Cause.TheVariants.{DuplicateVarstore}
@@ -21,11 +19,13 @@ guid_of (form_set ∷ ns) = form_set_guid form_set.op
 
 -- the buffer store that a store is; a store of names and values, which holds no bytes, is none
 abbrev pub declared_buffer : Placed → Option Buffer
-declared_buffer n = option_map (λ size. record { id = store_id n.op; size = size }) (store_size n.op)
+declared_buffer n =
+    option_map (λ size. record { id = store_id n.op; size = size }) (store_size n.op)
 
 -- the GUID of the form set, which is the first node, and the buffer stores by place
 abbrev pub layout_of : List Placed → Shape
-layout_of ns = record { guid = guid_of ns; buffers = filter_map declared_buffer (filter is_store ns) }
+layout_of ns =
+    record { guid = guid_of ns; buffers = filter_map declared_buffer (filter is_store ns) }
 
 -- the id is 0, or one of these stores, of any kind, has it
 abbrev pub is_taken : ℕ → List Placed → Bool
@@ -42,7 +42,3 @@ IsRepeatedStore stores = IsFaultOf (λ (r : Ranked). r.node.place) repeats_store
 
 abbrev pub IsStoreFault : List Placed → Cause → ℕ → Type 0
 IsStoreFault ns = IsRepeatedStore (filter is_store ns)
-
--- these are the ids of some stores
-abbrev pub AreIdsOf : List Placed → BTreeSet ℕ → Type 0
-AreIdsOf stores ids = (id : ℕ) → contains nat_cmp ids id ≡ list_any (λ n. store_id n.op == id) stores

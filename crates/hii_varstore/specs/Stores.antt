@@ -1,5 +1,5 @@
 -- What the buffer stores of a form set hold: a finite map from the ids of the stores to their bytes (own rule).
-use Rattle.std.specs.Prelude.{ℕ, ◌+◌, ◌==◌, if◌then◌else◌, List, ◌++◌, length, map, take, drop, slice_range, slice_get, Option, option_map, option_and_then}
+use Rattle.std.specs.Prelude.{ℕ, ◌+◌, ◌==◌, if◌then◌else◌, List, ◌++◌, length, map, take, drop, slice_range, Option, option_map}
 use Rattle.std.specs.List.{find}
 use Rattle.hii_varstore.specs.declared.buffer.Buffer.{Buffer}
 use Rattle.hii_varstore.specs.Layout.{Shape}
@@ -26,16 +26,14 @@ abbrev pub bytes_of : StoreMap → ℕ → Option (List ℕ)
 bytes_of m id = option_map (λ s. s.bytes) (find (λ s. s.id == id) m.stores)
 
 -- the bytes of a range of the store of an id
-abbrev pub field_of : StoreMap → ℕ → ℕ → ℕ → Option (List ℕ)
-field_of m id offset width = option_map (λ bytes. slice_range bytes offset (offset + width)) (bytes_of m id)
-
--- one byte of the store of an id
-abbrev pub byte_of : StoreMap → ℕ → ℕ → Option ℕ
-byte_of m id at = option_and_then (λ bytes. slice_get bytes at) (bytes_of m id)
+abbrev pub bytes_of_field : StoreMap → ℕ → ℕ → ℕ → Option (List ℕ)
+bytes_of_field m id offset width =
+    option_map (λ bytes. slice_range bytes offset (offset + width)) (bytes_of m id)
 
 -- bytes, with new ones in place of those from an offset on, as far as the bytes reach
 abbrev pub overwritten : List ℕ → ℕ → List ℕ → List ℕ
-overwritten old offset new = take (length old) (take offset old ++ (new ++ drop (offset + length new) old))
+overwritten old offset new =
+    take (length old) (take offset old ++ (new ++ drop (offset + length new) old))
 
 abbrev pub store_with : Store → ℕ → List ℕ → Store
 store_with s offset new = record { id = s.id; bytes = overwritten s.bytes offset new }
@@ -43,4 +41,8 @@ store_with s offset new = record { id = s.id; bytes = overwritten s.bytes offset
 -- the stores, with new bytes in the store of an id from an offset on
 unfoldable pub with_bytes : StoreMap → ℕ → ℕ → List ℕ → StoreMap
 with_bytes m id offset new =
-    record { guid = m.guid; stores = map (λ (s : Store). if s.id == id then store_with s offset new else s) m.stores }
+    record {
+      guid = m.guid;
+      stores = map (λ (s : Store). if s.id == id then store_with s offset new
+          else s) m.stores;
+    }

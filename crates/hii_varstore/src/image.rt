@@ -3,11 +3,11 @@
 ghost use Rattle.std.specs.Prelude.{◌≡◌, ◌⊎◌, ◌+◌, ◌^◌, ◌<◌, ◌≤◌, [], ◌∷◌, ◌++◌, IfOk, IfErr, OnOk, length, drop};
 ghost use Rattle.std.specs.Int.{to_le_bytes, w16};
 ghost use Rattle.hii_bytes.specs.Faults.{out_of_memory};
-ghost use Rattle.hii_bytes.specs.Watching.{pen_of, Writes};
-ghost use Rattle.hii_varstore.specs.Table.{AreStores};
+ghost use Rattle.hii_bytes.specs.Watching.{Puts, Writes};
+ghost use Rattle.hii_varstore.specs.code.Table.{AreStores};
 ghost use Rattle.hii_varstore.specs.Image.{store_image, stores_image};
 ghost use Rattle.hii_varstore.specs.Faults.{Told, Any, IsPartFault, IsOlder, head_parts, store_parts, stores_parts};
-ghost use Rattle.hii_varstore.specs.Reading.{Reads, IsFaultOf, ReadsHead};
+ghost use Rattle.hii_varstore.specs.code.Reading.{Reads, IsFaultOf, ReadsHead};
 
 use crate::buffer::Buffer;
 use crate::store::Store;
@@ -24,7 +24,8 @@ const OLDER_MARK: [u8; 4] = *b"HVS1";
 fn told_at(image: &[u8], place: usize, wanted: &[u8], other: Cause) -> Result<usize, Fault>
     requires { place ≤ length image.now }
     ensures read { IfOk result (Reads (Told wanted.now other ∷ []) wanted.now image.now place) }
-    ensures end { IfOk result (λ end. (end ≡ place + length wanted.now) × (end ≤ length image.now)) }
+    ensures end { IfOk result (λ end. (end ≡ place + length wanted.now)
+        × (end ≤ length image.now)) }
     ensures wrong { IfErr result (IsFaultOf (Told wanted.now other ∷ []) image.now place) }
 {
     let rest = &image[place..];
@@ -40,9 +41,12 @@ fn told_at(image: &[u8], place: usize, wanted: &[u8], other: Cause) -> Result<us
 // The place behind a number that is told.
 fn number_at(image: &[u8], place: usize, number: u16, other: Cause) -> Result<usize, Fault>
     requires { place ≤ length image.now }
-    ensures read { IfOk result (Reads (Told (to_le_bytes w16 number) other ∷ []) (to_le_bytes w16 number) image.now place) }
+    ensures read { IfOk result
+        (Reads (Told (to_le_bytes w16 number) other ∷ [])
+        (to_le_bytes w16 number) image.now place) }
     ensures end { IfOk result (λ end. (end ≡ place + 2) × (end ≤ length image.now)) }
-    ensures wrong { IfErr result (IsFaultOf (Told (to_le_bytes w16 number) other ∷ []) image.now place) }
+    ensures wrong { IfErr result
+        (IsFaultOf (Told (to_le_bytes w16 number) other ∷ []) image.now place) }
 {
     told_at(image, place, &number.to_le_bytes(), other)
 }
@@ -50,7 +54,9 @@ fn number_at(image: &[u8], place: usize, number: u16, other: Cause) -> Result<us
 // The bytes of a width.
 fn any_at(image: &[u8], place: usize, width: usize) -> Result<&[u8], Fault>
     requires { place ≤ length image.now }
-    ensures read { IfOk result (λ bytes. Reads (Any width ∷ []) bytes.now image.now place (place + width) × (length bytes.now ≡ width)) }
+    ensures read { IfOk result
+        (λ bytes. Reads (Any width ∷ []) bytes.now image.now place (place + width)
+        × (length bytes.now ≡ width)) }
     ensures wrong { IfErr result (IsFaultOf (Any width ∷ []) image.now place) }
 {
     let rest = &image[place..];
@@ -63,7 +69,9 @@ fn any_at(image: &[u8], place: usize, width: usize) -> Result<&[u8], Fault>
 // The bytes of a store, behind its id and its size.
 fn store_at(image: &[u8], place: usize, buffer: Buffer) -> Result<&[u8], Fault>
     requires { place ≤ length image.now }
-    ensures read { IfOk result (λ bytes. Reads (store_parts buffer) (store_image record { id = buffer.id; bytes = bytes.now }) image.now
+    ensures read { IfOk result
+        (λ bytes. Reads (store_parts buffer)
+        (store_image record { id = buffer.id; bytes = bytes.now }) image.now
         place (place + 4 + buffer.size) × (length bytes.now ≡ buffer.size)) }
     ensures wrong { IfErr result (IsFaultOf (store_parts buffer) image.now place) }
 {
@@ -80,11 +88,13 @@ pub(crate) fn read_stores(
     place: usize,
 ) -> Result<Vec<Store>, Fault>
     requires { place ≤ length image.now }
-    ensures read { IfOk result (λ stores. Reads (stores_parts table.now) (stores_image stores.items) image.now
+    ensures read { IfOk result
+        (λ stores. Reads (stores_parts table.now) (stores_image stores.items) image.now
         place (length image.now)) }
     ensures held { IfOk result (λ stores. AreStores table.now stores.items) }
     ensures wrong { IfErr result (λ fault. (fault ≡ out_of_memory)
-        ⊎ IsPartFault place (stores_parts table.now) (drop place image.now) fault.cause fault.place) }
+        ⊎ IsPartFault place (stores_parts table.now)
+        (drop place image.now) fault.cause fault.place) }
 {
     let buffers = table.buffers();
     let count = buffers.len() as u16;
@@ -92,9 +102,7 @@ pub(crate) fn read_stores(
     let mut stores = Vec::new(alloc);
     for buffer in buffers {
         let found = store_at(image, end, *buffer)?;
-        if push_store(alloc, &mut stores, buffer.id, found).is_err() {
-            return Err(Fault::out_of_memory());
-        }
+        push_store(alloc, &mut stores, buffer.id, found)?;
         end += 4 + found.len();
     }
     if end < image.len() {
@@ -110,7 +118,8 @@ fn push_store(
     bytes: &[u8],
 ) -> Result<(), AllocError>
     requires { length bytes.now < 2 ^ 16 }
-    ensures { OnOk result (stores.new.items ≡ stores.old.items ++ record { id = id; bytes = bytes.now } ∷ []) }
+    ensures { OnOk result (stores.new.items ≡ stores.old.items
+        ++ record { id = id; bytes = bytes.now } ∷ []) }
 {
     let store = Store::new(alloc, id, bytes)?;
     stores.push(store)?;
@@ -121,7 +130,8 @@ fn push_store(
 pub(crate) fn read_head(guid: &[u8], image: &[u8]) -> Result<usize, Fault>
     ensures read { IfOk result (ReadsHead guid.now image.now) }
     ensures end { IfOk result (λ end. end ≤ length image.now) }
-    ensures wrong { IfErr result (λ fault. (IsOlder image.now → ⊥) × IsFaultOf (head_parts guid.now) image.now 0 fault) }
+    ensures wrong { IfErr result (λ fault. (IsOlder image.now → ⊥)
+        × IsFaultOf (head_parts guid.now) image.now 0 fault) }
 {
     if image.starts_with(&OLDER_MARK) {
         return Ok(OLDER_MARK.len());
@@ -132,7 +142,7 @@ pub(crate) fn read_head(guid: &[u8], image: &[u8]) -> Result<usize, Fault>
 
 // Writes the id, the size and the bytes of a store.
 fn put_store<W: Write>(store: &Store, out: &mut Watched<W>)
-    ensures { Writes (pen_of W.contents out.old) (pen_of W.contents out.new) (store_image store.now) }
+    ensures { Puts W.contents out.old out.new (store_image store.now) }
 {
     let bytes = store.bytes();
     let size = bytes.len() as u16;
@@ -144,7 +154,7 @@ fn put_store<W: Write>(store: &Store, out: &mut Watched<W>)
 /// Writes how many stores there are, and each by place.
 pub(crate) fn put_stores<W: Write>(stores: &[Store], out: &mut Watched<W>)
     requires { length stores.now < 2 ^ 16 }
-    ensures { Writes (pen_of W.contents out.old) (pen_of W.contents out.new) (stores_image stores.now) }
+    ensures { Puts W.contents out.old out.new (stores_image stores.now) }
 {
     let count = stores.len() as u16;
     out.put(&count.to_le_bytes());

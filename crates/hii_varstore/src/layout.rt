@@ -5,7 +5,7 @@ ghost use Rattle.hii_bytes.specs.Faults.{HasNone, Refuses, out_of_memory};
 ghost use Rattle.ifr_scopes.specs.Nodes.{nodes_of};
 ghost use Rattle.hii_varstore.specs.Layout.{size_of};
 ghost use Rattle.hii_varstore.specs.StoreNodes.{layout_of, IsStoreFault};
-ghost use Rattle.hii_varstore.specs.Table.{AreBuffers};
+ghost use Rattle.hii_varstore.specs.code.Table.{AreBuffers};
 
 use crate::buffer::Buffer;
 use crate::table::Table;
@@ -35,7 +35,7 @@ impl<'a> Layout<'a> {
     /// by place, whatever stands around them. A store of names and values holds no bytes and is not in the layout.
     /// Refuses the first store by place, of any of the three kinds, that has the id 0 or the id of a store before it, by
     /// DuplicateVarstore (34) at its place in bytes from the package's header (UEFI 2.8, 33.3.8.3, EFI_IFR_VARSTORE,
-    /// EFI_IFR_VARSTORE_EFI and EFI_IFR_VARSTORE_NAME_VALUE). Want of memory is OutOfMemory (60) at 0.
+    /// EFI_IFR_VARSTORE_EFI and EFI_IFR_VARSTORE_NAME_VALUE). Where an allocation fails the fault is OutOfMemory (60) at 0.
     pub fn read(alloc: Global, forms: &Forms<'a>) -> Result<Layout<'a>, Fault>
         ensures read { IfOk result (λ layout. layout ≡ layout_of (nodes_of forms.now)) }
         ensures sound { IfOk result (λ layout. HasNone (IsStoreFault (nodes_of forms.now))) }
@@ -53,13 +53,14 @@ impl<'a> Layout<'a> {
         buffers: Vec<Buffer>,
     ) -> Result<Layout<'a>, Fault>
         requires { AreBuffers buffers.items }
-        ensures made { IfOk result (λ layout. layout ≡ record { guid = guid.entry.bytes.now; buffers = buffers.items }) }
+        ensures made { IfOk result (λ layout. layout
+            ≡ record { guid = guid.entry.bytes.now; buffers = buffers.items }) }
         ensures refused { IfErr result (λ fault. fault ≡ out_of_memory) }
     {
-        let Ok(table) = Table::new(alloc, buffers) else {
-            return Err(Fault::out_of_memory());
-        };
-        Ok(Layout { guid, table })
+        Ok(Layout {
+            guid,
+            table: Table::new(alloc, buffers)?,
+        })
     }
 
     /// The form set's GUID.

@@ -3,7 +3,7 @@
 ghost use Rattle.std.specs.Prelude.{◌≡◌, ◌+◌, ◌<◌, ◌≤◌, ◌^◌, IfOk, length, slice_range};
 ghost use Rattle.std.specs.Borrow.{sem};
 ghost use Rattle.hii_varstore.specs.Stores.{buffer_of};
-ghost use Rattle.hii_varstore.specs.Lending.{LendsRange};
+ghost use Rattle.hii_varstore.specs.code.Lending.{LendsRange};
 
 use std::alloc::{AllocError, Global};
 use std::marker::Model;

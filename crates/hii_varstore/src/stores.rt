@@ -1,11 +1,12 @@
 //! What the buffer stores of a form set hold.
 
-ghost use Rattle.std.specs.Prelude.{◌≡◌, IfOk, IfErr, length, map, option_copied, Some};
+ghost use Rattle.std.specs.Prelude.{◌≡◌, IfOk, IfErr, MatchOption, length, map, option_copied, Some};
 ghost use Rattle.hii_bytes.specs.Faults.{Refuses, out_of_memory};
-ghost use Rattle.hii_bytes.specs.Watching.{pen_of, Writes, Tells};
-ghost use Rattle.hii_varstore.specs.Stores.{StoreMap, buffer_of, shape_of, bytes_of, field_of};
-ghost use Rattle.hii_varstore.specs.Layout.{HasRange};
-ghost use Rattle.hii_varstore.specs.Lending.{LendsField};
+ghost use Rattle.hii_bytes.specs.Watching.{pen_of, Puts, Writes, Tells};
+ghost use Rattle.hii_varstore.specs.Stores.{StoreMap, buffer_of, shape_of, bytes_of, bytes_of_field};
+ghost use Rattle.hii_varstore.specs.code.Ranges.{IsCut};
+ghost use Rattle.hii_varstore.specs.code.Ranges.{HasRange};
+ghost use Rattle.hii_varstore.specs.code.Lending.{LendsField};
 ghost use Rattle.std.specs.Borrow.{sem};
 ghost use Rattle.hii_varstore.specs.Image.{image_of, SpellsImage};
 ghost use Rattle.hii_varstore.specs.Faults.{IsImageFault};
@@ -33,7 +34,7 @@ impl Model for Stores {
 
     ghost Value = { StoreMap };
 
-    ghost use Rattle.hii_varstore.specs.Table.{AreStores};
+    ghost use Rattle.hii_varstore.specs.code.Table.{AreStores};
 
     ghost view = { λ s. record { guid = s.guid; stores = s.stores.items } };
 
@@ -45,18 +46,18 @@ impl Stores {
     /// is not as the layout wants it, at the field's offset in bytes from the front of the image: by StoreShort (54) where the
     /// image ends inside of the field, else by StoreMagic (50) for another mark, StoreFormSet (56) for the GUID of another form
     /// set, StoreCount (51) for another number of stores, StoreId (52) for another id, or StoreSize (53) for another size.
-    /// Bytes left over are StoreTrailing (55) at the first of them. A refused growth is OutOfMemory (60) at 0.
+    /// Bytes left over are StoreTrailing (55) at the first of them. Where an allocation fails the fault is OutOfMemory
+    /// (60) at 0.
     pub fn read(alloc: Global, layout: &Layout<'_>, image: &[u8]) -> Result<Stores, Fault>
         ensures spelled { IfOk result (SpellsImage layout.now image.now) }
         ensures refused { IfErr result (Refuses (IsImageFault layout.now image.now)) }
-        // Where the image spells stores, nothing but want of memory refuses it.
-        ensures accepted { (stores : StoreMap) → SpellsImage layout.now image.now stores → IfErr result (λ fault. fault ≡ out_of_memory) }
+        // Where the image spells stores, nothing but an allocation that fails refuses it.
+        ensures accepted { (stores : StoreMap) → SpellsImage layout.now image.now stores
+            → IfErr result (λ fault. fault ≡ out_of_memory) }
     {
         let place = read_head(layout.guid().bytes(), image)?;
         let stores = read_stores(alloc, layout.table(), image, place)?;
-        let Ok(table) = layout.table().copy(alloc) else {
-            return Err(Fault::out_of_memory());
-        };
+        let table = layout.table().copy(alloc)?;
         let mut guid = [0; 16];
         guid.copy_from_slice(layout.guid().bytes());
         Ok(Stores {
@@ -66,21 +67,15 @@ impl Stores {
         })
     }
 
-    /// A second set of the same stores, or OutOfMemory (60) at 0 where a growth is refused.
+    /// A second set of the same stores, or OutOfMemory (60) at 0 where an allocation fails.
     pub fn copy(&self, alloc: Global) -> Result<Stores, Fault>
         ensures same { IfOk result (λ stores. stores ≡ self.now) }
         ensures refused { IfErr result (λ fault. fault ≡ out_of_memory) }
     {
-        let Ok(table) = self.table.copy(alloc) else {
-            return Err(Fault::out_of_memory());
-        };
-        let Ok(stores) = copies(alloc, &self.stores) else {
-            return Err(Fault::out_of_memory());
-        };
         Ok(Stores {
             guid: self.guid,
-            table,
-            stores,
+            table: self.table.copy(alloc)?,
+            stores: copies(alloc, &self.stores)?,
         })
     }
 
@@ -92,11 +87,21 @@ impl Stores {
         Some(self.stores[place].bytes())
     }
 
+    /// The `width` bytes of the store of an id from an offset in bytes on, if the store holds all of them.
+    pub fn field(&self, id: u16, offset: usize, width: usize) -> Option<&[u8]>
+        ensures { MatchOption result (IsCut width (bytes_of_field self.now id offset width))
+            (λ bytes. (bytes_of_field self.now id offset width ≡ Some bytes.now)
+            × (length bytes.now ≡ width)) }
+    {
+        let rest = self.bytes(id)?.get(offset..).unwrap_or(&[]);
+        rest.get(..width)
+    }
+
     /// The `width` bytes of the store of an id from an offset in bytes on, to be written.
     pub fn field_mut(&mut self, id: u16, offset: usize, width: usize) -> &mut [u8]
         requires { HasRange (shape_of self.old) id offset width }
         ensures* lends { sem 𝓛 (LendsField self.entry id offset result) }
-        ensures value { field_of self.old id offset width ≡ Some result.now }
+        ensures value { bytes_of_field self.old id offset width ≡ Some result.now }
         ensures size { length result.now ≡ width }
     {
         let place = self.table.find(id).unwrap();
@@ -115,7 +120,8 @@ impl Stores {
     /// Writes the image of the stores. At a writer's fault the front of the image is written, as many bytes as the fault
     /// says.
     pub fn image_into<W: Write>(&self, out: &mut Watched<W>) -> Result<(), WriteFault>
-        ensures { Tells (pen_of W.contents out.old) (pen_of W.contents out.new) result (image_of self.now) }
+        ensures { Tells (pen_of W.contents out.old) (pen_of W.contents out.new) result
+            (image_of self.now) }
     {
         out.restart();
         self.put_image(out);
@@ -129,7 +135,7 @@ impl Stores {
 
     // Writes the image of the stores: a fault of the writer is asked of the writer.
     fn put_image<W: Write>(&self, out: &mut Watched<W>)
-        ensures { Writes (pen_of W.contents out.old) (pen_of W.contents out.new) (image_of self.now) }
+        ensures { Puts W.contents out.old out.new (image_of self.now) }
     {
         out.put(&MARK);
         out.put(&self.guid);

@@ -1,7 +1,7 @@
 //! The buffer stores by place, found by their ids.
 
 ghost use Rattle.std.specs.Prelude.{◌≡◌, IfOk};
-ghost use Rattle.hii_varstore.specs.Table.{AreBuffers, place_of};
+ghost use Rattle.hii_varstore.specs.code.Table.{AreBuffers, place_of};
 
 use crate::buffer::Buffer;
 use std::alloc::{AllocError, Global};
@@ -21,7 +21,7 @@ impl Model for Table {
 
     ghost Value = { List Buffer };
 
-    ghost use Rattle.hii_varstore.specs.Table.{IsTable};
+    ghost use Rattle.hii_varstore.specs.code.Table.{IsTable};
 
     ghost view = { λ t. t.buffers.items };
 

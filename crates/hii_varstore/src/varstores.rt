@@ -4,10 +4,11 @@ ghost use Rattle.std.specs.Prelude.{◌≡◌, Ok, false, List, [], ◌∷◌, �
 ghost use Rattle.std.specs.List.{filter_map};
 ghost use Rattle.hii_bytes.specs.Faults.{HasNone, Refuses};
 ghost use Rattle.ifr_opcodes.specs.Forest.{Placed};
-ghost use Rattle.ifr_scopes.specs.Lists.{store_node, stores_left};
+ghost use Rattle.ifr_scopes.specs.code.Lists.{store_node, stores_left};
 ghost use Rattle.ifr_scopes.specs.Stores.{store_id};
-ghost use Rattle.hii_varstore.specs.StoreNodes.{declared_buffer, is_taken, IsRepeatedStore, AreIdsOf};
-ghost use Rattle.hii_varstore.specs.Table.{AreBuffers};
+ghost use Rattle.hii_varstore.specs.StoreNodes.{declared_buffer, is_taken, IsRepeatedStore};
+ghost use Rattle.hii_varstore.specs.code.Ids.{AreIdsOf};
+ghost use Rattle.hii_varstore.specs.code.Table.{AreBuffers};
 
 use crate::buffer::Buffer;
 use hii_bytes::{Cause, Fault};
@@ -17,8 +18,10 @@ use std::collections::BTreeSet;
 
 // Meets the id of the next store, and tells whether it is 0 or was met before.
 fn meets_again(ids: &mut BTreeSet<u16>, id: u16) -> Result<bool, AllocError>
-    ensures told { IfOk result (λ taken. (before : List Placed) → AreIdsOf before ids.old → taken ≡ is_taken id before) }
-    ensures met { result ≡ Ok false → (before : List Placed) (n : Placed) → store_id n.op ≡ id → AreIdsOf before ids.old → AreIdsOf (before ++ n ∷ []) ids.new }
+    ensures told { IfOk result (λ taken. (before : List Placed) → AreIdsOf before ids.old
+        → taken ≡ is_taken id before) }
+    ensures met { result ≡ Ok false → (before : List Placed) (n : Placed) → store_id n.op ≡ id
+        → AreIdsOf before ids.old → AreIdsOf (before ++ n ∷ []) ids.new }
 {
     if id == 0 {
         return Ok(true);
@@ -36,9 +39,10 @@ fn read_buffer(store: Varstore<'_>) -> Option<Buffer>
 }
 
 /// The buffer stores that are declared, or DuplicateVarstore at the place of the first store of any kind that has the id 0
-/// or the id of one before it. Want of memory is OutOfMemory.
+/// or the id of one before it. Where an allocation fails the fault is OutOfMemory.
 pub(crate) fn read_buffers(alloc: Global, stores: Varstores<'_>) -> Result<Vec<Buffer>, Fault>
-    ensures read { IfOk result (λ buffers. buffers.items ≡ filter_map declared_buffer (stores_left stores.entry)) }
+    ensures read { IfOk result (λ buffers. buffers.items
+        ≡ filter_map declared_buffer (stores_left stores.entry)) }
     ensures apart { IfOk result (λ buffers. AreBuffers buffers.items) }
     ensures sound { IfOk result (λ buffers. HasNone (IsRepeatedStore (stores_left stores.entry))) }
     ensures refused { IfErr result (Refuses (IsRepeatedStore (stores_left stores.entry))) }
@@ -46,15 +50,12 @@ pub(crate) fn read_buffers(alloc: Global, stores: Varstores<'_>) -> Result<Vec<B
     let mut ids = BTreeSet::new(alloc);
     let mut buffers = Vec::new(alloc);
     for store in stores {
-        match meets_again(&mut ids, store.id()) {
-            Ok(false) => {}
-            Ok(true) => return Err(Fault::at(Cause::DuplicateVarstore, u64::from(store.place()))),
-            Err(AllocError) => return Err(Fault::out_of_memory()),
+        let is_taken = meets_again(&mut ids, store.id())?;
+        if is_taken {
+            return Err(Fault::at(Cause::DuplicateVarstore, u64::from(store.place())));
         }
         if let Some(buffer) = read_buffer(store) {
-            if buffers.push(buffer).is_err() {
-                return Err(Fault::out_of_memory());
-            }
+            buffers.push(buffer)?;
         }
     }
     Ok(buffers)

@@ -4,7 +4,8 @@ use Rattle.std.specs.Prelude.{Contains, not, ⊤}
 use Rattle.std.specs.List.{concat}
 use Rattle.std.proofs.lemmas.List.{append-nil}
 use Rattle.std.proofs.lemmas.Bool.{cases_Bool, false≢true, true≢false, ne_eqb}
-use Rattle.hii_bytes.specs.Faults.{IsLeast, HasNone, AreAll, Rise, first_cause, fault_or, first_fault}
+use Rattle.hii_bytes.specs.Faults.{IsLeast, HasNone}
+use Rattle.hii_bytes.specs.code.FirstFaults.{AreAll, Rise, first_cause, fault_or, first_fault}
 use Rattle.hii_bytes.specs.declared.cause.Cause.{Cause}
 use Rattle.hii_bytes.specs.declared.cause.Cause.TheVariants.{OpOutside, OpSize, Misplaced, ScopeBit, ExprShape}
 use Rattle.hii_bytes.specs.declared.cause.Fault.{Fault}
@@ -16,10 +17,13 @@ use Rattle.ifr_opcodes.specs.Operators.{is_operator}
 use Rattle.ifr_opcodes.specs.Forest.{Forest, none, node, opcodes, flat, AreNodes, Mark}
 use Rattle.ifr_opcodes.specs.Reading.{opcodes_in}
 use Rattle.ifr_opcodes.proofs.ForestLemmas.{opcodes_scoped, opcodes_plain, all_whole, opcodes_in_spelled, takes as takes_bytes}
-use Rattle.ifr_expr.specs.Checked.{IsSized, AreSized, tree, IsChecked}
-use Rattle.ifr_expr.specs.Counting.{counted, counted_all, Spell}
-use Rattle.ifr_expr.specs.Faults.{has_fault, causes, IsOpcodeFault, IsShapeFault, IsExpressionFault}
-use Rattle.ifr_expr.specs.Reading.{front, children, IsExpressionNode, AreOpcodes, opcodes_of, to_end, tree_of_opcodes}
+use Rattle.ifr_expr.specs.code.Checked.{IsSized, AreSized, tree, IsChecked}
+use Rattle.ifr_expr.specs.code.Counting.{counted, counted_all}
+use Rattle.ifr_expr.specs.Counting.{Spell}
+use Rattle.ifr_expr.specs.Faults.{has_opcode_fault, IsOpcodeFault, IsShapeFault, IsExpressionFault}
+use Rattle.ifr_expr.specs.code.Counting.{opcode_causes}
+use Rattle.ifr_expr.specs.code.Bytes.{front, children, IsExpressionNode, AreOpcodes, opcodes_of, to_end}
+use Rattle.ifr_expr.specs.Reading.{tree_of_opcodes}
 use Rattle.ifr_expr.specs.Trees.{Tree, post, need, Means, siblings, expression}
 use Rattle.ifr_expr.proofs.CountLemmas.{count_step, count_none, count-append}
 use Rattle.ifr_expr.proofs.TreeLemmas.{is_tree_of}
@@ -27,10 +31,10 @@ use Rattle.ifr_expr.proofs.ShapeLemmas.{Grown, Says, says_all, least_shape, no_s
 
 -- ---- the opcodes that are met, and those of the node
 
--- They are the same up to the first that opens a scope inside of the expression's own.
+-- Both are the same opcodes up to the first that opens a scope inside of the expression's own.
 abbrev pub Agree : ℕ → List Mark → List Mark → Type 0
 Agree at [] [] = ⊤
-Agree at (x ∷ xs) (y ∷ ys) = (x ≡ y) × (has_fault at x ScopeBit ≡ false → Agree at xs ys)
+Agree at (x ∷ xs) (y ∷ ys) = (x ≡ y) × (has_opcode_fault at x ScopeBit ≡ false → Agree at xs ys)
 Agree at [] (y ∷ ys) = ⊥
 Agree at (x ∷ xs) [] = ⊥
 
@@ -63,7 +67,7 @@ agree_siblings start at (node op c rest) more h lt ends = elim (cases_Bool (has_
       (refl, λ unscoped. agree_siblings start (at + length op) rest more h.1.1 (omega arith) ends)
 ]
   where
-    scoped : has_scope op ≡ true → has_fault start (record { place = at; op = op }) ScopeBit ≡ false → ⊥
+    scoped : has_scope op ≡ true → has_opcode_fault start (record { place = at; op = op }) ScopeBit ≡ false → ⊥
     scoped s unscoped = true≢false (sym (rw (s, ne_eqb at start (λ same. omega arith)) refl) ∙ unscoped)
 
 spelled_opcodes : (bytes : List ℕ) → IsExpressionNode bytes → opcodes_in bytes ≡ opcodes (node (front bytes) (children bytes) none)
@@ -88,7 +92,7 @@ agree_node at op c h = elim (cases_Bool (has_scope op)) [
 agree_all : (at : ℕ) (bytes : List ℕ) → IsExpressionNode bytes → Agree at (to_end at (opcodes_in bytes)) (opcodes_of at bytes)
 agree_all at bytes h = rw (spelled_opcodes bytes h) (agree_node at (front bytes) (children bytes) h.are_nodes)
 
-advance : (at : ℕ) (op : Mark) (left behind : List Mark) → Agree at (op ∷ left) behind → (rest : List Mark) × (behind ≡ op ∷ rest) × (has_fault at op ScopeBit ≡ false → Agree at left rest)
+advance : (at : ℕ) (op : Mark) (left behind : List Mark) → Agree at (op ∷ left) behind → (rest : List Mark) × (behind ≡ op ∷ rest) × (has_opcode_fault at op ScopeBit ≡ false → Agree at left rest)
 advance at op left [] a = absurd a
 advance at op left (y ∷ rest) a = (rest, ap (λ (m : Mark). m ∷ rest) (sym a.0), a.1)
 
@@ -98,14 +102,14 @@ nothing_behind at (y ∷ rest) a = absurd a
 
 -- ---- each opcode by itself
 
-among : (at : ℕ) (op : Mark) (d : Cause) → has_fault at op d ≡ true → Contains causes d
+among : (at : ℕ) (op : Mark) (d : Cause) → has_opcode_fault at op d ≡ true → Contains opcode_causes d
 among at op OpOutside h = (0, omega arith, refl)
 among at op OpSize h = (1, omega arith, refl)
 among at op Misplaced h = (2, omega arith, refl)
 among at op ScopeBit h = (3, omega arith, refl)
 among at op _ h = absurd (false≢true h)
 
-all_causes : (at : ℕ) → AreAll (has_fault at) causes
+all_causes : (at : ℕ) → AreAll (has_opcode_fault at) opcode_causes
 all_causes at = record { rise = (lit≤ tt, (lit≤ tt, (lit≤ tt, (lit≤ tt, tt)))); all = among at }
 
 abbrev place_of : Mark → ℕ
@@ -120,7 +124,7 @@ rise_all : (at : ℕ) (bytes : List ℕ) → IsExpressionNode bytes → Rise pla
 rise_all at bytes h = (omega arith, rise_siblings (at + 1) (at + length (front bytes)) (children bytes) h.are_nodes.1.0 (omega (arith, h.are_nodes.0.whole.long)))
 
 abbrev pub first_of : ℕ → List Mark → Option Fault
-first_of at marks = first_fault place_of (has_fault at) causes marks
+first_of at marks = first_fault place_of (has_opcode_fault at) opcode_causes marks
 
 no_cause : (a b c d : Bool) → cond {A = Option Cause} a (Some OpOutside) (cond b (Some OpSize) (cond c (Some Misplaced) (cond d (Some ScopeBit) None))) ≡ None → (b ≡ false) × (c ≡ false) × (d ≡ false)
 no_cause true b c d e = absurd cc
@@ -133,9 +137,9 @@ not_false : (b : Bool) → not b ≡ false → b ≡ true
 not_false true e = refl
 not_false false e = absurd (true≢false e)
 
-sound : (at : ℕ) (op : Mark) → first_cause (has_fault at) op causes ≡ None → IsSized op × (has_fault at op ScopeBit ≡ false)
+sound : (at : ℕ) (op : Mark) → first_cause (has_opcode_fault at) op opcode_causes ≡ None → IsSized op × (has_opcode_fault at op ScopeBit ≡ false)
 sound at op e =
-    let all = no_cause (has_fault at op OpOutside) (has_fault at op OpSize) (has_fault at op Misplaced) (has_fault at op ScopeBit) e in
+    let all = no_cause (has_opcode_fault at op OpOutside) (has_opcode_fault at op OpSize) (has_opcode_fault at op Misplaced) (has_opcode_fault at op ScopeBit) e in
     (record { operator = not_false (is_operator (number op.op)) all.1; sized = all.0 }, all.2)
 
 -- ---- where checking stands
@@ -167,7 +171,7 @@ more_sized : (xs : List Mark) (op : Mark) → AreSized xs → IsSized op → Are
 more_sized [] op h k = (k, tt)
 more_sized (x ∷ xs) op h k = (h.0, more_sized xs op h.1 k)
 
-pub goes_on_counting : (at : ℕ) (all start left more : List Mark) (values next : Result ℕ Fault) (op : Mark) → Stands at all start left values → left ≡ op ∷ more → first_cause (has_fault at) op causes ≡ None → next ≡ counted values op → Stands at all start more next
+pub goes_on_counting : (at : ℕ) (all start left more : List Mark) (values next : Result ℕ Fault) (op : Mark) → Stands at all start left values → left ≡ op ∷ more → first_cause (has_opcode_fault at) op opcode_causes ≡ None → next ≡ counted values op → Stands at all start more next
 goes_on_counting at all start left more values next op s e clear is =
     let a = advance at op more s.behind (subst (λ (l : List Mark). Agree at l s.behind) e s.agrees) in
     let ok = sound at op clear in
@@ -183,10 +187,10 @@ goes_on_counting at all start left more values next op s e clear is =
     }
 
 pub cause_told : (at : ℕ) (bytes : List ℕ) (start left more : List Mark) (values : Result ℕ Fault) (op : Mark) (cause : Cause) → IsExpressionNode bytes → Stands at (opcodes_of at bytes) start left values → left ≡ op ∷ more
-    → first_cause (has_fault at) op causes ≡ Some cause → IsLeast (IsOpcodeFault at (opcodes_of at bytes)) (record { cause = cause; place = op.place })
+    → first_cause (has_opcode_fault at) op opcode_causes ≡ Some cause → IsLeast (IsOpcodeFault at (opcodes_of at bytes)) (record { cause = cause; place = op.place })
 cause_told at bytes start left more values op cause h s e some =
     let a = advance at op more s.behind (subst (λ (l : List Mark). Agree at l s.behind) e s.agrees) in
-    first_among place_of (has_fault at) causes at (opcodes_of at bytes) (record { cause = cause; place = op.place }) (all_causes at) (rise_all at bytes h)
+    first_among place_of (has_opcode_fault at) opcode_causes at (opcodes_of at bytes) (record { cause = cause; place = op.place }) (all_causes at) (rise_all at bytes h)
     (s.clean ∙ ap (first_of at) a.1 ∙ ap (λ (c : Option Cause). fault_or c op.place (first_of at a.0)) some)
 
 -- All opcodes were met, and none has a fault by itself.
@@ -202,7 +206,7 @@ done at all start left values s e =
     let is : all ≡ s.before = s.split ∙ ap (λ (l : List Mark). s.before ++ l) behind ∙ append-nil s.before in
     record {
       same = s.met_so ∙ ap (λ (l : List Mark). s.before ++ l) e ∙ append-nil s.before ∙ sym is;
-      none = none_among place_of (has_fault at) causes all (all_causes at) (s.clean ∙ ap (first_of at) behind);
+      none = none_among place_of (has_opcode_fault at) opcode_causes all (all_causes at) (s.clean ∙ ap (first_of at) behind);
       told = subst (λ (l : List Mark). Says at l values) (sym is) (subst (Says at s.before) s.counts (says_all at s.before s.sized));
       sized = subst AreSized (sym is) s.sized;
     }

@@ -6,7 +6,8 @@ use Rattle.hii_bytes.specs.declared.cause.Cause.TheVariants.{ExprShape, ExprDept
 use Rattle.hii_bytes.specs.declared.cause.Fault.{Fault}
 use Rattle.ifr_opcodes.specs.Forest.{Mark}
 use Rattle.ifr_expr.specs.Trees.{Tree, leaf, one, two, post, takes, need, IsFitting, Means}
-use Rattle.ifr_expr.specs.Counting.{or_zero, wanted, after, counted, counted_all, posts, AreFitting, needs, Spell}
+use Rattle.ifr_expr.specs.Counting.{or_zero, wanted, posts, AreFitting, needs, Spell}
+use Rattle.ifr_expr.specs.code.Counting.{after, counted, counted_all}
 use Rattle.ifr_expr.proofs.TreeLemmas.{some_need}
 
 abbrev pub ok : ℕ → Result ℕ Fault

@@ -3,7 +3,7 @@ use Rattle.std.proofs.Common.{◌≡◌, ℕ, ◌+◌, ◌-◌, ◌≤◌, Optio
 use Rattle.std.specs.Prelude.{option_to_list}
 use Rattle.ifr_opcodes.specs.Opcode.{number}
 use Rattle.ifr_opcodes.specs.Forest.{Mark}
-use Rattle.ifr_expr.specs.Stacks.{operand_value, last_first, with_unary, with_binary}
+use Rattle.ifr_expr.specs.code.Stacks.{operand_value, last_first, with_unary, with_binary}
 use Rattle.ifr_expr.specs.Values.{Value}
 use Rattle.ifr_expr.specs.declared.value.Operand.{Operand}
 use Rattle.ifr_expr.proofs.StackLemmas.{last_pushed}

@@ -4,8 +4,8 @@ use Rattle.std.specs.Prelude.{◌==◌}
 use Rattle.ifr_opcodes.specs.Opcode.{stated_length, is_end}
 use Rattle.ifr_opcodes.specs.Forest.{Mark}
 use Rattle.ifr_opcodes.specs.Reading.{cut, opcodes_in}
-use Rattle.ifr_expr.specs.Reading.{to_end}
-use Rattle.ifr_expr.specs.Checked.{marks}
+use Rattle.ifr_expr.specs.code.Bytes.{to_end}
+use Rattle.ifr_expr.specs.code.Checked.{marks}
 
 few_cut : (n : ℕ) (bytes : List ℕ) → length (cut n bytes) ≤ n
 unfolding cut

@@ -7,18 +7,18 @@ use Rattle.ifr_opcodes.specs.declared.codes.TheConstants.{RULE_REF, THIS}
 use Rattle.ifr_opcodes.specs.Forest.{Mark}
 use Rattle.ifr_opcodes.specs.Opcode.{number}
 use Rattle.ifr_opcodes.specs.Reading.{cut}
-use Rattle.ifr_expr.specs.Checked.{marks}
-use Rattle.ifr_expr.specs.Meaning.{ids_of, ids_named}
-use Rattle.ifr_expr.specs.Names.{names_of, names_among}
-use Rattle.ifr_expr.specs.Reading.{to_end, AreOpcodes}
-use Rattle.ifr_expr.specs.Supports.{id_of}
+use Rattle.ifr_expr.specs.code.Checked.{marks}
+use Rattle.ifr_expr.specs.laws.Support.{ids_of, ids_named}
+use Rattle.ifr_expr.specs.code.Names.{names_of, names_among}
+use Rattle.ifr_expr.specs.code.Bytes.{to_end, AreOpcodes}
+use Rattle.ifr_expr.specs.code.Supports.{id_of}
 use Rattle.ifr_expr.specs.declared.names.Name.TheVariants.{Question}
 
 ids_back : (ids : List ℕ) → flat_map id_of (map Question ids) ≡ ids
 ids_back [] = refl
 ids_back (id ∷ ids) = ap (λ (l : List ℕ). id ∷ l) (ids_back ids)
 
--- those of one opcode
+-- the ids of one opcode
 of_one : (op : Mark) → flat_map id_of (names_of op) ≡ ids_of op.op
 unfolding ids_of
 of_one op = elim (cases_Bool (eqb (number op.op) RULE_REF)) [

@@ -11,12 +11,13 @@ use Rattle.ifr_opcodes.specs.Opcode.{number, has_scope, stated_length, end}
 use Rattle.ifr_opcodes.specs.Operators.{is_operator, operands}
 use Rattle.ifr_opcodes.specs.Fields.{is_short}
 use Rattle.ifr_opcodes.specs.Forest.{Forest, none, node, opcodes, flat, AreNodes, Mark}
-use Rattle.ifr_opcodes.specs.Reading.{opcodes_in, inside, levels}
+use Rattle.ifr_opcodes.specs.Reading.{opcodes_in, levels}
+use Rattle.ifr_opcodes.specs.code.Marks.{inside}
 use Rattle.ifr_opcodes.proofs.OpcodeLemmas.{AllWhole, stated_at}
 use Rattle.ifr_opcodes.proofs.RowLemmas.{operator_inside}
 use Rattle.ifr_opcodes.proofs.ForestLemmas.{opcodes_scoped, opcodes_plain, all_whole, opcodes_in_spelled, children_again}
-use Rattle.ifr_expr.specs.Faults.{has_fault, IsOpcodeFault}
-use Rattle.ifr_expr.specs.Reading.{front, children, IsExpressionNode, opcodes_of}
+use Rattle.ifr_expr.specs.Faults.{has_opcode_fault, IsOpcodeFault}
+use Rattle.ifr_expr.specs.code.Bytes.{front, children, IsExpressionNode, opcodes_of}
 use Rattle.ifr_expr.specs.Trees.{leaf, Means, expression}
 
 behind_whole : (op : List ℕ) (ops : List (List ℕ)) → AllWhole (op ∷ ops) → AllWhole ops
@@ -91,7 +92,7 @@ and_not true true e = refl
 and_not false true e = refl
 and_not a false e = absurd (false≢true e)
 
-clear_alone : (at : ℕ) (op : List ℕ) (cause : Cause) → is_operator (number op) ≡ true → is_short op ≡ false → has_fault at (record { place = at; op = op }) cause ≡ false
+clear_alone : (at : ℕ) (op : List ℕ) (cause : Cause) → is_operator (number op) ≡ true → is_short op ≡ false → has_opcode_fault at (record { place = at; op = op }) cause ≡ false
 clear_alone at op OpOutside known sized = operator_inside op known
 clear_alone at op OpSize known sized = sized
 clear_alone at op Misplaced known sized = not_true (is_operator (number op)) known
@@ -99,5 +100,5 @@ clear_alone at op ScopeBit known sized = and_not (has_scope op) (at == at) (eq-e
 clear_alone at op _ known sized = refl
 
 pub no_fault_alone : (at : ℕ) (op : List ℕ) → is_operator (number op) ≡ true → is_short op ≡ false → HasNone (IsOpcodeFault at (expression at op none))
-no_fault_alone at op known sized cause place (m, (zero, lt, same), here, there) = false≢true (sym (clear_alone at op cause known sized) ∙ ap (λ (x : Mark). has_fault at x cause) same ∙ there)
+no_fault_alone at op known sized cause place (m, (zero, lt, same), here, there) = false≢true (sym (clear_alone at op cause known sized) ∙ ap (λ (x : Mark). has_opcode_fault at x cause) same ∙ there)
 no_fault_alone at op known sized cause place (m, (suc k, lt, same), here, there) = omega arith

@@ -7,7 +7,7 @@ use Rattle.ifr_opcodes.specs.Opcode.{number, IsWhole}
 use Rattle.ifr_opcodes.specs.Reading.{opcodes_in}
 use Rattle.ifr_opcodes.proofs.OpcodeLemmas.{split_unique}
 use Rattle.ifr_opcodes.proofs.ForestLemmas.{opcodes_in_spelled}
-use Rattle.ifr_expr.specs.Reading.{AreOpcodes, to_end}
+use Rattle.ifr_expr.specs.code.Bytes.{AreOpcodes, to_end}
 
 cut_list : (ops : List (List ℕ)) (bytes op others : List ℕ) → AllByRecursion IsWhole ops → concat ops ≡ bytes → IsWhole op → bytes ≡ op ++ others → (ops ≡ op ∷ opcodes_in others) × AreOpcodes others
 cut_list [] bytes op others all joined whole e = absurd (omega (arith, ap (λ (l : List ℕ). length l) (joined ∙ e), length-append op others, whole.long))

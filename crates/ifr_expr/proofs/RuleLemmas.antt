@@ -7,9 +7,10 @@ use Rattle.ifr_opcodes.specs.declared.codes.TheConstants.{RULE_REF}
 use Rattle.ifr_opcodes.specs.Opcode.{number}
 use Rattle.ifr_opcodes.specs.Fields.{rule_ref_rule}
 use Rattle.ifr_opcodes.specs.Forest.{Mark}
-use Rattle.ifr_expr.specs.Checked.{IsChecked, marks, tree}
+use Rattle.ifr_expr.specs.code.Checked.{IsChecked, marks, tree}
 use Rattle.ifr_expr.proofs.ValueLemmas.{all_inside}
-use Rattle.ifr_expr.specs.Meaning.{leaf_value, value_over, Rule, names, rule_values, value, named, AreOrdered}
+use Rattle.ifr_expr.specs.Meaning.{leaf_value, value_over, Rule, names, rule_values, value}
+use Rattle.ifr_expr.specs.code.Rules.{named, AreOrdered}
 use Rattle.ifr_expr.specs.Trees.{Tree, leaf, one, two, post}
 use Rattle.ifr_expr.specs.Values.{Value, undefined, unary_value, binary_value}
 

@@ -11,9 +11,10 @@ use Rattle.hii_bytes.specs.Cause.{number_of}
 use Rattle.ifr_opcodes.specs.Opcode.{number}
 use Rattle.ifr_opcodes.specs.Forest.{Mark}
 use Rattle.ifr_opcodes.proofs.OperatorLemmas.{takes_few}
-use Rattle.ifr_expr.specs.Checked.{IsSized, AreSized}
+use Rattle.ifr_expr.specs.code.Checked.{IsSized, AreSized}
 use Rattle.ifr_expr.specs.Trees.{Tree, leaf, one, two, takes, need, Means}
-use Rattle.ifr_expr.specs.Counting.{or_zero, wanted, after, counted_all, Spell}
+use Rattle.ifr_expr.specs.Counting.{or_zero, wanted, Spell}
+use Rattle.ifr_expr.specs.code.Counting.{after, counted_all}
 use Rattle.ifr_expr.specs.Faults.{StandsBehind, IsShapeFault}
 use Rattle.ifr_expr.proofs.CountLemmas.{ok, count_step, count_none, count_stays, count-append, after_few, after_many, after_some, spelled_count, meant, few_trees, with_leaf, with_one, with_two, last_off}
 

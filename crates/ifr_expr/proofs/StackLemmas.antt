@@ -2,7 +2,7 @@
 use Rattle.std.proofs.Common.{◌≡◌, ℕ, ◌+◌, Option, Some, List, [], ◌∷◌, ◌++◌, length, map, sym, ap, ◌∙◌, arith, length-append}
 use Rattle.std.specs.Prelude.{reverse, option_to_list}
 use Rattle.std.proofs.lemmas.List.{map-append, reverse-append}
-use Rattle.ifr_expr.specs.Stacks.{operand_value, last_first, with_unary, with_binary}
+use Rattle.ifr_expr.specs.code.Stacks.{operand_value, last_first, with_unary, with_binary}
 use Rattle.ifr_expr.specs.Values.{Value, unary_value, binary_value}
 use Rattle.ifr_expr.specs.declared.value.Operand.{Operand}
 

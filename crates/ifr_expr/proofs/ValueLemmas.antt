@@ -7,11 +7,12 @@ use Rattle.hii_bytes.specs.declared.cause.Fault.{Fault}
 use Rattle.ifr_opcodes.specs.Opcode.{number, is_end, IsWhole}
 use Rattle.ifr_opcodes.specs.Forest.{Mark}
 use Rattle.ifr_opcodes.specs.Reading.{opcodes_in}
-use Rattle.ifr_expr.specs.Checked.{IsChecked, marks, tree}
-use Rattle.ifr_expr.specs.Counting.{or_zero, wanted, after, counted_all}
+use Rattle.ifr_expr.specs.code.Checked.{IsChecked, marks, tree}
+use Rattle.ifr_expr.specs.Counting.{or_zero, wanted}
+use Rattle.ifr_expr.specs.code.Counting.{after, counted_all}
 use Rattle.ifr_expr.specs.Meaning.{leaf_value, value_over}
-use Rattle.ifr_expr.specs.Reading.{AreOpcodes, to_end}
-use Rattle.ifr_expr.specs.Stacks.{with_unary, with_binary}
+use Rattle.ifr_expr.specs.code.Bytes.{AreOpcodes, to_end}
+use Rattle.ifr_expr.specs.code.Stacks.{with_unary, with_binary}
 use Rattle.ifr_expr.specs.Trees.{Tree, leaf, one, two, post, takes, IsFitting}
 use Rattle.ifr_expr.specs.Values.{Value}
 use Rattle.ifr_expr.proofs.CountLemmas.{ok, count_step, count_none, count_stays, after_few, after_many, after_some, spelled_count, meant}

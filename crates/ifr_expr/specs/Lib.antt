@@ -4,15 +4,6 @@ pub mod Counting
 pub mod Faults
 pub mod Reading
 pub mod Meaning
-pub mod Dependence
-pub mod Checked
-pub mod Views
-pub mod Stacks
-pub mod OpcodesLeft
-pub mod Expressions
-pub mod Names
-pub mod Named
-pub mod NamesLeft
-pub mod Supports
 pub mod References
-pub mod ReferencesLeft
+pub mod code
+pub mod laws

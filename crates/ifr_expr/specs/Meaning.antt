@@ -1,12 +1,11 @@
 -- The value of an expression (UEFI 2.8, 33.2.5.7 Expressions; how rules are found is an own rule).
-use Rattle.std.specs.Prelude.{ℕ, ◌<◌, ◌≤◌, Bool, ◌==◌, ◌&&◌, nat_le, nat_lt, if◌then◌else◌, Option, List, [], ◌∷◌, ◌++◌, ⊤}
-use Rattle.std.specs.List.{find, AllByRecursion}
+use Rattle.std.specs.Prelude.{ℕ, Bool, ◌==◌, ◌&&◌, nat_le, nat_lt, if◌then◌else◌, List, [], ◌∷◌}
 use Rattle.ifr_opcodes.specs.declared.codes.TheConstants.{EQ_ID_VAL, EQ_ID_ID, EQ_ID_VAL_LIST, QUESTION_REF1, RULE_REF, THIS}
 use Rattle.ifr_opcodes.specs.Opcode.{number}
 use Rattle.ifr_opcodes.specs.Fields.{eq_id_val_question, eq_id_val_value, eq_id_id_first, eq_id_id_second, eq_id_val_list_question, eq_id_val_list_values, question_ref_question, rule_ref_rule, uint_value}
 use Rattle.ifr_opcodes.specs.Forest.{Mark}
 use Rattle.ifr_opcodes.specs.Operators.{is_among, uints}
-use Rattle.ifr_expr.specs.Trees.{Tree, leaf, one, two, post}
+use Rattle.ifr_expr.specs.Trees.{Tree, leaf, one, two}
 use Rattle.ifr_expr.specs.Values.{Value, undefined, natural, are_same, is_one_of, constant_value, unary_value, binary_value}
 
 -- what the question of an id answers; id 0 has no answer
@@ -17,9 +16,13 @@ answered answers id = if id == 0 then undefined else answers id
 -- the question in whose scope it stands, 0 for none
 unfoldable pub leaf_value : (ℕ → ℕ → Value) → (ℕ → Value) → ℕ → Mark → Value
 leaf_value rules answers this op =
-    if number op.op == EQ_ID_VAL then are_same (answered answers (eq_id_val_question op.op)) (natural (eq_id_val_value op.op))
-    else (if number op.op == EQ_ID_ID then are_same (answered answers (eq_id_id_first op.op)) (answered answers (eq_id_id_second op.op))
-    else (if number op.op == EQ_ID_VAL_LIST then is_one_of (answered answers (eq_id_val_list_question op.op)) (eq_id_val_list_values op.op)
+    if number op.op == EQ_ID_VAL
+    then are_same (answered answers (eq_id_val_question op.op)) (natural (eq_id_val_value op.op))
+    else (if number op.op == EQ_ID_ID
+    then are_same (answered answers (eq_id_id_first op.op))
+    (answered answers (eq_id_id_second op.op))
+    else (if number op.op == EQ_ID_VAL_LIST
+    then is_one_of (answered answers (eq_id_val_list_question op.op)) (eq_id_val_list_values op.op)
     else (if number op.op == QUESTION_REF1 then answered answers (question_ref_question op.op)
     else (if number op.op == RULE_REF then rules (rule_ref_rule op.op) op.place
     else (if number op.op == THIS then answered answers this
@@ -29,8 +32,11 @@ leaf_value rules answers this op =
 -- the value of a tree
 abbrev pub value_over : (ℕ → ℕ → Value) → (ℕ → Value) → ℕ → Tree → Value
 value_over rules answers this (leaf op) = leaf_value rules answers this op
-value_over rules answers this (one op operand) = unary_value (number op.op) (value_over rules answers this operand)
-value_over rules answers this (two op left right) = binary_value (number op.op) (value_over rules answers this left) (value_over rules answers this right)
+value_over rules answers this (one op operand) =
+    unary_value (number op.op) (value_over rules answers this operand)
+value_over rules answers this (two op left right) =
+    binary_value (number op.op) (value_over rules answers this left)
+    (value_over rules answers this right)
 
 -- A rule: its id, where its scope ends and where that of its form does, in bytes from the package's header, and its
 -- expression.
@@ -55,29 +61,3 @@ rule_values (r ∷ earlier) answers id place =
 -- the value of a tree, over rules of which the latest stands first
 abbrev pub value : List Rule → (ℕ → Value) → ℕ → Tree → Value
 value rules answers this tree = value_over (rule_values rules answers) answers this tree
-
--- the rule that a reference names
-abbrev pub named : List Rule → ℕ → ℕ → Option Rule
-named rules id place = find (names id place) rules
-
--- Each rule's expression stands before its end, and no rule behind it in the list ends later.
-abbrev pub AreOrdered : List Rule → Type 0
-AreOrdered [] = ⊤
-AreOrdered (r ∷ earlier) = AllByRecursion (λ op. op.place < r.ends) (post r.tree) × (AllByRecursion (λ q. q.ends ≤ r.ends) earlier × AreOrdered earlier)
-
--- the questions that an opcode names
-unfoldable pub ids_of : List ℕ → List ℕ
-ids_of op =
-    if number op == EQ_ID_VAL then eq_id_val_question op ∷ []
-    else (if number op == EQ_ID_ID then eq_id_id_first op ∷ eq_id_id_second op ∷ []
-    else (if number op == EQ_ID_VAL_LIST then eq_id_val_list_question op ∷ []
-    else (if number op == QUESTION_REF1 then question_ref_question op ∷ []
-    else [])))
-
--- the questions that opcodes name, by place
-abbrev pub ids_named : List Mark → List ℕ
-ids_named [] = []
-ids_named (op ∷ ops) = ids_of op.op ++ ids_named ops
-
-abbrev pub support : Tree → List ℕ
-support tree = ids_named (post tree)

@@ -40,7 +40,8 @@ pub record Means (marks : List Mark) (tree : Tree) : Type 0 where
 -- the opcodes of sibling nodes, of which the first stands at a place
 abbrev pub siblings : ℕ → Forest → List Mark
 siblings at none = []
-siblings at (node op children rest) = record { place = at; op = op } ∷ siblings (at + length (flat (node op children none))) rest
+siblings at (node op children rest) =
+    record { place = at; op = op } ∷ siblings (at + length (flat (node op children none))) rest
 
 -- the opcodes of an expression that stands at a place: its own, and then its children's
 abbrev pub expression : ℕ → List ℕ → Forest → List Mark

@@ -1,10 +1,11 @@
 //! Each opcode of an expression by itself, and how many values there are behind it.
 
 ghost use Rattle.std.specs.Prelude.{◌≡◌, ◌≤◌, IfOk};
-ghost use Rattle.hii_bytes.specs.Faults.{first_cause};
-ghost use Rattle.ifr_opcodes.specs.Ops.{op_of};
-ghost use Rattle.ifr_expr.specs.Counting as counting;
-ghost use Rattle.ifr_expr.specs.Faults.{has_fault, causes};
+ghost use Rattle.hii_bytes.specs.code.FirstFaults.{first_cause};
+ghost use Rattle.ifr_opcodes.specs.code.Ops.{op_of};
+ghost use Rattle.ifr_expr.specs.code.Counting as counting;
+ghost use Rattle.ifr_expr.specs.Faults.{has_opcode_fault};
+ghost use Rattle.ifr_expr.specs.code.Counting.{opcode_causes};
 
 use hii_bytes::{Cause, Fault};
 use ifr_opcodes::{Op, is_operator, is_outside, is_short, operands};
@@ -14,7 +15,7 @@ pub(crate) const MAX_VALUES: usize = 64;
 
 // The least cause for which an opcode of the expression at a place is refused by itself.
 pub(crate) fn cause_of(op: Op, at: u32) -> Option<Cause>
-    ensures { result ≡ first_cause (has_fault at) (op_of op.entry) causes }
+    ensures { result ≡ first_cause (has_opcode_fault at) (op_of op.entry) opcode_causes }
 {
     if is_outside(op) {
         return Some(Cause::OpOutside);
@@ -46,7 +47,7 @@ fn after(count: usize, op: Op) -> Result<usize, Fault>
     Ok(count - wanted + 1)
 }
 
-// The same where the first fault stays.
+// How many values there are behind an opcode, where the first fault before it stays.
 pub(crate) fn counted(count: Result<usize, Fault>, op: Op) -> Result<usize, Fault>
     requires { IfOk count (λ n. n ≤ 64) }
     ensures count { result ≡ counting.counted count (op_of op.entry) }

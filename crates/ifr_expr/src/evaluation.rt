@@ -1,14 +1,15 @@
 //! The values of expressions.
 
 ghost use Rattle.std.specs.Prelude.{◌≡◌, ◌≤◌, ◌<◌, ◌+◌, ℕ, List, length, option_map, IfSome};
-ghost use Rattle.ifr_opcodes.specs.Codes.{unary_code, binary_code};
-ghost use Rattle.ifr_opcodes.specs.Ops.{op_of};
-ghost use Rattle.ifr_opcodes.specs.Views.{leaf_operator, values_left};
+ghost use Rattle.ifr_opcodes.specs.code.Codes.{unary_code, binary_code};
+ghost use Rattle.ifr_opcodes.specs.code.Ops.{op_of};
+ghost use Rattle.ifr_opcodes.specs.code.Views.{leaf_operator, values_left};
 ghost use Rattle.ifr_expr.specs.Meaning as meaning;
-ghost use Rattle.ifr_expr.specs.Stacks.{operand_value, last_first, with_unary, with_binary};
+ghost use Rattle.ifr_expr.specs.code.Rules as ordering;
+ghost use Rattle.ifr_expr.specs.code.Stacks.{operand_value, last_first, with_unary, with_binary};
 ghost use Rattle.ifr_expr.specs.Values as spec;
-ghost use Rattle.ifr_expr.specs.Views.{value_of, outcome_value};
-ghost use Rattle.ifr_expr.specs.Expressions.{tree_of, end_of};
+ghost use Rattle.ifr_expr.specs.code.Views.{value_of, outcome_value};
+ghost use Rattle.ifr_expr.specs.code.Expressions.{tree_of, end_of};
 
 use crate::expr::Expr;
 use crate::operations::{as_number, binary, constant, same, unary};
@@ -31,14 +32,16 @@ pub(crate) trait World {
 
     /// The expression of the rule that a reference names.
     fn rule(&self, id: u8, place: u32) -> Option<Expr<'_>>
-        ensures ordered { meaning.AreOrdered (rules self.now) }
-        ensures named { option_map tree_of result ≡ option_map (λ r. r.tree) (meaning.named (rules self.now) id place) }
+        ensures ordered { ordering.AreOrdered (rules self.now) }
+        ensures named { option_map tree_of result
+            ≡ option_map (λ r. r.tree) (ordering.named (rules self.now) id place) }
         ensures before { IfSome result (λ expr. end_of expr ≤ place) };
 }
 
 // Whether an answer is one of some numbers.
 fn one_of(answer: Value<'_>, mut numbers: ListValues<'_>) -> Outcome
-    ensures { outcome_value result ≡ spec.is_one_of (value_of answer.entry) (values_left numbers.entry) }
+    ensures { outcome_value result ≡ spec.is_one_of (value_of answer.entry)
+        (values_left numbers.entry) }
 {
     let Some(wanted) = as_number(answer) else {
         return Outcome::Undefined;
@@ -54,7 +57,9 @@ fn one_of(answer: Value<'_>, mut numbers: ListValues<'_>) -> Outcome
 // The value of an operator that takes no operands and is no reference to a rule.
 #[tactic(auto, unfolding(crate::specs::Meaning::leaf_value))]
 fn leaf<W: World>(world: &W, op: LeafOp<'_>, this: u16) -> Operand
-    ensures { (rules : ℕ → ℕ → spec.Value) → operand_value (W.answers world.now) result ≡ meaning.leaf_value rules (W.answers world.now) this (op_of (leaf_operator op.entry)) }
+    ensures { (rules : ℕ → ℕ → spec.Value)
+        → operand_value (W.answers world.now) result
+        ≡ meaning.leaf_value rules (W.answers world.now) this (op_of (leaf_operator op.entry)) }
 {
     match op {
         LeafOp::EqIdVal(op) => Operand::Made(same(
@@ -89,7 +94,8 @@ fn resolve<W: World>(world: &W, operand: Operand) -> Value<'_>
 fn apply_unary<W: World>(world: &W, operator: Unary, stack: &mut Stack)
     requires some { 0 < length stack.old.items }
     requires fits { length stack.old.items ≤ 64 }
-    ensures values { last_first (W.answers world.now) stack.new.items ≡ with_unary (unary_code operator) (last_first (W.answers world.now) stack.old.items) }
+    ensures values { last_first (W.answers world.now) stack.new.items
+        ≡ with_unary (unary_code operator) (last_first (W.answers world.now) stack.old.items) }
     ensures len { length stack.new.items ≡ length stack.old.items }
 {
     let operand = stack.pop().unwrap();
@@ -100,7 +106,8 @@ fn apply_unary<W: World>(world: &W, operator: Unary, stack: &mut Stack)
 fn apply_binary<W: World>(world: &W, operator: Binary, stack: &mut Stack)
     requires some { 1 < length stack.old.items }
     requires fits { length stack.old.items ≤ 64 }
-    ensures values { last_first (W.answers world.now) stack.new.items ≡ with_binary (binary_code operator) (last_first (W.answers world.now) stack.old.items) }
+    ensures values { last_first (W.answers world.now) stack.new.items
+        ≡ with_binary (binary_code operator) (last_first (W.answers world.now) stack.old.items) }
     ensures len { length stack.new.items + 1 ≡ length stack.old.items }
 {
     let right = stack.pop().unwrap();
@@ -111,7 +118,8 @@ fn apply_binary<W: World>(world: &W, operator: Binary, stack: &mut Stack)
 
 /// The value of an expression.
 pub(crate) fn evaluate<W: World>(world: &W, expr: Expr<'_>, this: u16) -> Operand
-    ensures { operand_value (W.answers world.now) result ≡ meaning.value (W.rules world.now) (W.answers world.now) this (tree_of expr.entry) }
+    ensures { operand_value (W.answers world.now) result
+        ≡ meaning.value (W.rules world.now) (W.answers world.now) this (tree_of expr.entry) }
 {
     let mut stack = Stack::new();
     let mut ops = expr.operators();

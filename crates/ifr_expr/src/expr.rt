@@ -1,6 +1,6 @@
 //! Expressions.
 
-ghost use Rattle.ifr_expr.specs.Checked.{IsChecked, IsChecked-prop};
+ghost use Rattle.ifr_expr.specs.code.Checked.{IsChecked, IsChecked-prop};
 
 use crate::counting::{cause_of, counted};
 use crate::given;
@@ -24,19 +24,20 @@ pub struct Expr<'a> {
 impl<'a> Expr<'a> {
     ghost use Rattle.std.specs.Prelude.{◌≡◌, ◌≤◌, IfOk, IfErr, IsOk, length, slice_range};
     ghost use Rattle.hii_bytes.specs.Faults.{IsLeast, HasNone};
-    ghost use Rattle.ifr_expr.specs.Checked.{marks};
-    ghost use Rattle.ifr_expr.specs.Expressions.{tree_of, end_of, operators_left};
+    ghost use Rattle.ifr_expr.specs.code.Checked.{marks};
+    ghost use Rattle.ifr_expr.specs.code.Expressions.{tree_of, end_of, operators_left};
     ghost use Rattle.ifr_expr.specs.Faults.{IsOpcodeFault, IsExpressionFault};
-    ghost use Rattle.ifr_expr.specs.Meaning.{value, support};
-    ghost use Rattle.ifr_expr.specs.Names.{names_in};
-    ghost use Rattle.ifr_expr.specs.NamesLeft.{names_left};
-    ghost use Rattle.ifr_expr.specs.Reading.{IsExpressionNode, opcodes_of};
+    ghost use Rattle.ifr_expr.specs.Meaning.{value};
+    ghost use Rattle.ifr_expr.specs.laws.Support.{support};
+    ghost use Rattle.ifr_expr.specs.code.Names.{names_in};
+    ghost use Rattle.ifr_expr.specs.code.NamesLeft.{names_left};
+    ghost use Rattle.ifr_expr.specs.code.Bytes.{IsExpressionNode, opcodes_of};
     ghost use Rattle.ifr_expr.specs.References.{references};
-    ghost use Rattle.ifr_expr.specs.ReferencesLeft.{references_left};
-    ghost use Rattle.ifr_expr.specs.Supports.{ids_left};
+    ghost use Rattle.ifr_expr.specs.code.ReferencesLeft.{references_left};
+    ghost use Rattle.ifr_expr.specs.code.Supports.{ids_left};
     ghost use Rattle.ifr_expr.specs.Trees.{Tree, Means, need, post};
     ghost use Rattle.ifr_expr.specs.Values.{holds};
-    ghost use Rattle.ifr_expr.specs.Views.{value_of};
+    ghost use Rattle.ifr_expr.specs.code.Views.{value_of};
 
     /// The expression that stands at a range of a package, in bytes from its header: the node of an operator. It is refused
     /// by the least fault: of its opcodes, each by itself (26 to 29, and places in bytes from the package's header), or
@@ -45,13 +46,22 @@ impl<'a> Expr<'a> {
         requires ordered { from ≤ to }
         requires within { to ≤ length ifr.now }
         requires node { IsExpressionNode (slice_range ifr.now from to) }
-        ensures read { IfOk result (λ expr. Means (opcodes_of from (slice_range ifr.entry.now from to)) (tree_of expr)) }
+        ensures read { IfOk result
+            (λ expr. Means (opcodes_of from (slice_range ifr.entry.now from to)) (tree_of expr)) }
         ensures range { IfOk result (λ expr. (expr.place ≡ from) × (end_of expr ≡ to)) }
-        ensures sound { IfOk result (λ _. HasNone (IsExpressionFault from (opcodes_of from (slice_range ifr.entry.now from to)))) }
-        ensures refused { IfErr result (IsLeast (IsExpressionFault from (opcodes_of from (slice_range ifr.entry.now from to)))) }
-        ensures accepted { HasNone (IsExpressionFault from (opcodes_of from (slice_range ifr.entry.now from to))) → IsOk result }
-        ensures meant { (tree : Tree) → Means (opcodes_of from (slice_range ifr.entry.now from to)) tree → need tree ≤ 64
-            → HasNone (IsOpcodeFault from (opcodes_of from (slice_range ifr.entry.now from to))) → IsOk result }
+        ensures sound { IfOk result
+            (λ _. HasNone (IsExpressionFault from
+            (opcodes_of from (slice_range ifr.entry.now from to)))) }
+        ensures refused { IfErr result
+            (IsLeast (IsExpressionFault from
+            (opcodes_of from (slice_range ifr.entry.now from to)))) }
+        ensures accepted { HasNone
+            (IsExpressionFault from (opcodes_of from (slice_range ifr.entry.now from to)))
+            → IsOk result }
+        ensures meant { (tree : Tree)
+            → Means (opcodes_of from (slice_range ifr.entry.now from to)) tree → need tree ≤ 64
+            → HasNone (IsOpcodeFault from (opcodes_of from (slice_range ifr.entry.now from to)))
+            → IsOk result }
     {
         let bytes = &ifr[from as usize..to as usize];
         let mut values = Ok(0);
@@ -64,15 +74,12 @@ impl<'a> Expr<'a> {
         }
         match values {
             Ok(1) => Ok(Expr { bytes, place: from }),
-            Ok(_) => Err(Fault {
-                cause: Cause::ExprShape,
-                place: u64::from(from),
-            }),
+            Ok(_) => Err(Fault::at(Cause::ExprShape, u64::from(from))),
             Err(fault) => Err(fault),
         }
     }
 
-    // Its operators, by place.
+    // The operators of the expression, by place.
     pub(crate) fn operators(self) -> Operators<'a>
         ensures { operators_left result ≡ marks self.entry.place self.entry.bytes.now }
     {
@@ -93,7 +100,7 @@ impl<'a> Expr<'a> {
         count
     }
 
-    /// Its references to rules, by place.
+    /// The references of the expression to rules, by place.
     pub fn references(self) -> RuleReferences<'a>
         ensures { references_left result ≡ references (tree_of self.entry) }
     {
@@ -102,17 +109,19 @@ impl<'a> Expr<'a> {
         }
     }
 
-    /// Its value, over what the questions answer, the rules, and the id of the question in whose scope it stands, 0 for
-    /// none.
+    /// The value of the expression, over what the questions answer, the rules, and the id of the question in whose scope
+    /// it stands, 0 for none.
     pub fn value<A: Answers<'a>, R: Rules<'a>>(self, answers: &A, rules: &R, this: u16) -> Value<'a>
-        ensures { value_of result ≡ value (R.rules rules.now) (A.answers answers.now) this (tree_of self.entry) }
+        ensures { value_of result ≡ value (R.rules rules.now) (A.answers answers.now) this
+            (tree_of self.entry) }
     {
         given::value(self, answers, rules, this)
     }
 
     /// Whether it holds as a condition: its value is true, or a number other than 0.
     pub fn holds<A: Answers<'a>, R: Rules<'a>>(self, answers: &A, rules: &R, this: u16) -> bool
-        ensures { result ≡ holds (value (R.rules rules.now) (A.answers answers.now) this (tree_of self.entry)) }
+        ensures { result
+            ≡ holds (value (R.rules rules.now) (A.answers answers.now) this (tree_of self.entry)) }
     {
         match self.value(answers, rules, this) {
             Value::Boolean(holds) => holds,

@@ -1,10 +1,10 @@
 //! What the questions of a caller answer, with its rules.
 
 ghost use Rattle.std.specs.Prelude.{◌≡◌};
-ghost use Rattle.ifr_expr.specs.Expressions.{tree_of};
+ghost use Rattle.ifr_expr.specs.code.Expressions.{tree_of};
 ghost use Rattle.ifr_expr.specs.Meaning as meaning;
 ghost use Rattle.ifr_expr.specs.Meaning.{answered};
-ghost use Rattle.ifr_expr.specs.Views.{value_of};
+ghost use Rattle.ifr_expr.specs.code.Views.{value_of};
 
 use crate::evaluation::{World, evaluate};
 use crate::expr::Expr;
@@ -53,7 +53,8 @@ pub(crate) fn value<'a, A: Answers<'a>, R: Rules<'a>>(
     rules: &R,
     this: u16,
 ) -> Value<'a>
-    ensures { value_of result ≡ meaning.value (R.rules rules.now) (A.answers answers.now) this (tree_of expr.entry) }
+    ensures { value_of result ≡ meaning.value (R.rules rules.now) (A.answers answers.now) this
+        (tree_of expr.entry) }
 {
     let given = Given {
         answers,

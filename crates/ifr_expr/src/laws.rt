@@ -2,8 +2,9 @@
 
 ghost use Rattle.std.specs.Prelude.{◌≡◌, ℕ, List};
 ghost use Rattle.ifr_opcodes.specs.Forest.{Mark};
-ghost use Rattle.ifr_expr.specs.Dependence.{Agree, dependence};
-ghost use Rattle.ifr_expr.specs.Meaning.{Rule, AreOrdered, rule_values, value, named};
+ghost use Rattle.ifr_expr.specs.laws.Dependence.{Agree, dependence};
+ghost use Rattle.ifr_expr.specs.Meaning.{Rule, rule_values, value};
+ghost use Rattle.ifr_expr.specs.code.Rules.{AreOrdered, named};
 ghost use Rattle.ifr_expr.specs.Trees.{Tree, Means};
 ghost use Rattle.ifr_expr.specs.Values.{Value};
 ghost use Rattle.std.specs.Prelude.{Some};
@@ -15,12 +16,14 @@ pub fn one_tree()
 
 /// A reference to a rule has the value of the rule's expression over all rules, in no question.
 pub fn a_reference_has_the_value_of_its_rule()
-    ensures { (rules : List Rule) (answers : ℕ → Value) (id place : ℕ) (r : Rule) → AreOrdered rules → named rules id place ≡ Some r
+    ensures { (rules : List Rule) (answers : ℕ → Value) (id place : ℕ) (r : Rule) → AreOrdered rules
+        → named rules id place ≡ Some r
         → rule_values rules answers id place ≡ value rules answers 0 r.tree }
 {}
 
 /// The value of an expression depends on the answers of the questions alone that it or a rule behind it names.
 pub fn a_value_depends_on_its_questions_alone()
-    ensures { (rules : List Rule) (a b : ℕ → Value) (this : ℕ) (tree : Tree) → Agree a b (dependence rules this tree)
+    ensures { (rules : List Rule) (a b : ℕ → Value) (this : ℕ) (tree : Tree)
+        → Agree a b (dependence rules this tree)
         → value rules a this tree ≡ value rules b this tree }
 {}

@@ -1,10 +1,10 @@
 //! What the operators of an expression name.
 
 ghost use Rattle.std.specs.Prelude.{◌≡◌};
-ghost use Rattle.ifr_opcodes.specs.Ops.{op_of};
-ghost use Rattle.ifr_opcodes.specs.Views.{operator};
-ghost use Rattle.ifr_expr.specs.Named.{names_by};
-ghost use Rattle.ifr_expr.specs.Names.{names_of};
+ghost use Rattle.ifr_opcodes.specs.code.Ops.{op_of};
+ghost use Rattle.ifr_opcodes.specs.code.Views.{operator};
+ghost use Rattle.ifr_expr.specs.code.Named.{names_by};
+ghost use Rattle.ifr_expr.specs.code.Names.{names_of};
 
 use crate::opcodes::Opcodes;
 use crate::operators::Operators;
@@ -31,7 +31,7 @@ enum Named {
 }
 
 // What an operator names, in its order.
-#[tactic(auto, unfolding(crate::specs::Meaning::ids_of))]
+#[tactic(auto, unfolding(crate::specs::laws::Support::ids_of))]
 fn named_by(op: ExprOp) -> Named
     ensures { names_by result ≡ names_of (op_of (operator op.entry)) }
 {
@@ -58,7 +58,7 @@ pub struct Names<'a> {
 
 impl<'a> Names<'a> {
     ghost use Rattle.std.specs.Iterator.{YieldsFirstBy};
-    ghost use Rattle.ifr_expr.specs.NamesLeft.{names_left};
+    ghost use Rattle.ifr_expr.specs.code.NamesLeft.{names_left};
 
     // Goes to the next.
     fn step(&mut self) -> Option<Name>
@@ -83,7 +83,7 @@ impl<'a> Names<'a> {
 
 impl<'a> Default for Names<'a> {
     ghost use Rattle.std.specs.Prelude.{◌≡◌, []};
-    ghost use Rattle.ifr_expr.specs.NamesLeft.{names_left};
+    ghost use Rattle.ifr_expr.specs.code.NamesLeft.{names_left};
 
     ghost is_default = { λ it. names_left it ≡ [] };
 
@@ -99,7 +99,7 @@ impl<'a> Default for Names<'a> {
 
 impl<'a> Iterator for Names<'a> {
     ghost use Rattle.std.specs.Iterator.{YieldsFirstBy, item_count};
-    ghost use Rattle.ifr_expr.specs.NamesLeft.{names_left};
+    ghost use Rattle.ifr_expr.specs.code.NamesLeft.{names_left};
 
     type Item = Name;
 

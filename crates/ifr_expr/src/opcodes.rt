@@ -1,8 +1,8 @@
 //! The opcodes of an expression.
 
 ghost use Rattle.std.specs.Prelude.{◌+◌, ◌<◌, ◌^◌, length};
-ghost use Rattle.ifr_expr.specs.Reading.{AreOpcodes};
-ghost use Rattle.ifr_expr.specs.Checked.{AreOpcodes-prop};
+ghost use Rattle.ifr_expr.specs.code.Bytes.{AreOpcodes};
+ghost use Rattle.ifr_expr.specs.code.Checked.{AreOpcodes-prop};
 
 use ifr_opcodes::{END, Op, split_opcode};
 
@@ -18,11 +18,11 @@ pub struct Opcodes<'a> {
 impl<'a> Opcodes<'a> {
     ghost use Rattle.std.specs.Prelude.{◌≡◌};
     ghost use Rattle.std.specs.Iterator.{YieldsFirstBy};
-    ghost use Rattle.ifr_opcodes.specs.Ops.{op_of};
-    ghost use Rattle.ifr_expr.specs.Checked.{marks};
-    ghost use Rattle.ifr_expr.specs.OpcodesLeft.{opcodes_left};
+    ghost use Rattle.ifr_opcodes.specs.code.Ops.{op_of};
+    ghost use Rattle.ifr_expr.specs.code.Checked.{marks};
+    ghost use Rattle.ifr_expr.specs.code.OpcodesLeft.{opcodes_left};
 
-    /// Those of these bytes, which begin at this place.
+    /// The opcodes of these bytes, which begin at this place.
     pub(crate) fn over(bytes: &'a [u8], place: u32) -> Opcodes<'a>
         requires opcodes { AreOpcodes bytes.now }
         requires small { place + length bytes.now < 2 ^ 32 }
@@ -49,8 +49,8 @@ impl<'a> Opcodes<'a> {
 
 impl<'a> Iterator for Opcodes<'a> {
     ghost use Rattle.std.specs.Iterator.{YieldsFirstBy, item_count};
-    ghost use Rattle.ifr_opcodes.specs.Ops.{op_of};
-    ghost use Rattle.ifr_expr.specs.OpcodesLeft.{opcodes_left};
+    ghost use Rattle.ifr_opcodes.specs.code.Ops.{op_of};
+    ghost use Rattle.ifr_expr.specs.code.OpcodesLeft.{opcodes_left};
 
     type Item = Op<'a>;
 

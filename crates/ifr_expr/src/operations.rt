@@ -1,9 +1,9 @@
 //! What operators make of values.
 
 ghost use Rattle.std.specs.Prelude.{◌≡◌, ◌-◌, ◌*◌, ◌/◌, ◌%◌, ◌^◌, ◌&&◌, ◌||◌, nat_lt, if◌then◌else◌};
-ghost use Rattle.ifr_opcodes.specs.Codes.{constant_code, unary_code, binary_code};
+ghost use Rattle.ifr_opcodes.specs.code.Codes.{constant_code, unary_code, binary_code};
 ghost use Rattle.ifr_expr.specs.Values as spec;
-ghost use Rattle.ifr_expr.specs.Views.{value_of, outcome_value, number_or};
+ghost use Rattle.ifr_expr.specs.code.Views.{value_of, outcome_value, number_or};
 
 use crate::value::{Outcome, Value};
 use ifr_opcodes::{Binary, Constant, Unary};
@@ -49,7 +49,8 @@ fn not(value: Value<'_>) -> Outcome
 }
 
 fn bitwise_not(value: Value<'_>) -> Outcome
-    ensures { outcome_value result ≡ spec.on_numbers (λ x y. spec.natural (2 ^ 64 - 1 - x)) (value_of value.entry) (value_of value.entry) }
+    ensures { outcome_value result ≡ spec.on_numbers (λ x y. spec.natural (2 ^ 64 - 1 - x))
+        (value_of value.entry) (value_of value.entry) }
 {
     match as_number(value) {
         Some(n) => Outcome::Number(u64::MAX - n),
@@ -69,7 +70,8 @@ pub(crate) fn unary(operator: Unary, value: Value<'_>) -> Outcome
 }
 
 fn both(left: Value<'_>, right: Value<'_>) -> Outcome
-    ensures { outcome_value result ≡ spec.on_booleans (λ a b. a && b) (value_of left.entry) (value_of right.entry) }
+    ensures { outcome_value result ≡ spec.on_booleans (λ a b. a && b) (value_of left.entry)
+        (value_of right.entry) }
 {
     match (left, right) {
         (Value::Boolean(a), Value::Boolean(b)) => Outcome::Boolean(a && b),
@@ -78,7 +80,8 @@ fn both(left: Value<'_>, right: Value<'_>) -> Outcome
 }
 
 fn either(left: Value<'_>, right: Value<'_>) -> Outcome
-    ensures { outcome_value result ≡ spec.on_booleans (λ a b. a || b) (value_of left.entry) (value_of right.entry) }
+    ensures { outcome_value result ≡ spec.on_booleans (λ a b. a || b) (value_of left.entry)
+        (value_of right.entry) }
 {
     match (left, right) {
         (Value::Boolean(a), Value::Boolean(b)) => Outcome::Boolean(a || b),
@@ -158,7 +161,8 @@ fn of_numbers(operator: Binary, x: u64, y: u64) -> Outcome
 
 // The value of an operator over two operands that are to be numbers.
 fn on_numbers(operator: Binary, left: Value<'_>, right: Value<'_>) -> Outcome
-    ensures { outcome_value result ≡ spec.on_numbers (spec.number_value (binary_code operator)) (value_of left.entry) (value_of right.entry) }
+    ensures { outcome_value result ≡ spec.on_numbers (spec.number_value (binary_code operator))
+        (value_of left.entry) (value_of right.entry) }
 {
     match (as_number(left), as_number(right)) {
         (Some(x), Some(y)) => of_numbers(operator, x, y),
@@ -169,7 +173,8 @@ fn on_numbers(operator: Binary, left: Value<'_>, right: Value<'_>) -> Outcome
 /// The value of an operator with two operands.
 #[tactic(auto, unfolding(crate::specs::Values::binary_value))]
 pub(crate) fn binary(operator: Binary, left: Value<'_>, right: Value<'_>) -> Outcome
-    ensures { outcome_value result ≡ spec.binary_value (binary_code operator) (value_of left.entry) (value_of right.entry) }
+    ensures { outcome_value result ≡ spec.binary_value (binary_code operator) (value_of left.entry)
+        (value_of right.entry) }
 {
     match operator {
         Binary::And => both(left, right),

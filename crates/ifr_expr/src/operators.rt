@@ -1,7 +1,7 @@
 //! The operators of an expression that was checked.
 
-ghost use Rattle.ifr_expr.specs.Checked.{AreSized, AreSized-prop};
-ghost use Rattle.ifr_expr.specs.OpcodesLeft.{opcodes_left};
+ghost use Rattle.ifr_expr.specs.code.Checked.{AreSized, AreSized-prop};
+ghost use Rattle.ifr_expr.specs.code.OpcodesLeft.{opcodes_left};
 
 use crate::opcodes::Opcodes;
 use ifr_opcodes::ExprOp;
@@ -15,14 +15,15 @@ pub struct Operators<'a> {
 
 impl<'a> Operators<'a> {
     ghost use Rattle.std.specs.Prelude.{◌≡◌, IfNone, IfSome, [], ◌∷◌};
-    ghost use Rattle.ifr_opcodes.specs.Ops.{op_of};
-    ghost use Rattle.ifr_opcodes.specs.Views.{operator};
+    ghost use Rattle.ifr_opcodes.specs.code.Ops.{op_of};
+    ghost use Rattle.ifr_opcodes.specs.code.Views.{operator};
     ghost use Rattle.std.specs.Iterator.{YieldsFirstBy};
-    ghost use Rattle.ifr_expr.specs.Expressions.{operators_left};
+    ghost use Rattle.ifr_expr.specs.code.Expressions.{operators_left};
 
     // Goes to the next.
     fn step(&mut self) -> Option<ExprOp<'a>>
-        ensures { YieldsFirstBy (λ view. op_of (operator view)) operators_left self.old result self.new }
+        ensures { YieldsFirstBy (λ view. op_of (operator view)) operators_left self.old
+            result self.new }
     {
         let Some(op) = self.ops.next() else {
             return None;
@@ -33,9 +34,9 @@ impl<'a> Operators<'a> {
 
 impl<'a> Iterator for Operators<'a> {
     ghost use Rattle.std.specs.Iterator.{YieldsFirstBy, item_count};
-    ghost use Rattle.ifr_opcodes.specs.Ops.{op_of};
-    ghost use Rattle.ifr_opcodes.specs.Views.{operator};
-    ghost use Rattle.ifr_expr.specs.Expressions.{operators_left};
+    ghost use Rattle.ifr_opcodes.specs.code.Ops.{op_of};
+    ghost use Rattle.ifr_opcodes.specs.code.Views.{operator};
+    ghost use Rattle.ifr_expr.specs.code.Expressions.{operators_left};
 
     type Item = ExprOp<'a>;
 

@@ -1,9 +1,10 @@
 //! The rules that an expression names.
 
 ghost use Rattle.std.specs.Prelude.{◌≡◌};
-ghost use Rattle.ifr_opcodes.specs.Ops.{op_of};
-ghost use Rattle.ifr_opcodes.specs.Views.{operator};
-ghost use Rattle.ifr_expr.specs.References.{as_list, references_of};
+ghost use Rattle.ifr_opcodes.specs.code.Ops.{op_of};
+ghost use Rattle.ifr_opcodes.specs.code.Views.{operator};
+ghost use Rattle.ifr_expr.specs.code.ReferencesLeft.{as_list};
+ghost use Rattle.ifr_expr.specs.References.{references_of};
 
 use crate::operators::Operators;
 use ifr_opcodes::ExprOp;
@@ -38,7 +39,7 @@ pub struct RuleReferences<'a> {
 
 impl<'a> RuleReferences<'a> {
     ghost use Rattle.std.specs.Iterator.{YieldsFirstBy};
-    ghost use Rattle.ifr_expr.specs.ReferencesLeft.{references_left};
+    ghost use Rattle.ifr_expr.specs.code.ReferencesLeft.{references_left};
 
     // Goes to the next.
     fn step(&mut self) -> Option<RuleReference>
@@ -55,7 +56,7 @@ impl<'a> RuleReferences<'a> {
 
 impl<'a> Iterator for RuleReferences<'a> {
     ghost use Rattle.std.specs.Iterator.{YieldsFirstBy, item_count};
-    ghost use Rattle.ifr_expr.specs.ReferencesLeft.{references_left};
+    ghost use Rattle.ifr_expr.specs.code.ReferencesLeft.{references_left};
 
     type Item = RuleReference;
 

@@ -5,8 +5,9 @@ use crate::expr::Expr;
 /// What the rules of a form set say (UEFI 2.8, 33.3.8.3, EFI_IFR_RULE).
 pub trait Rules<'a> {
     ghost use Rattle.std.specs.Prelude.{◌≡◌, ◌≤◌, List, option_map, IfSome};
-    ghost use Rattle.ifr_expr.specs.Meaning.{Rule, AreOrdered, named};
-    ghost use Rattle.ifr_expr.specs.Expressions.{tree_of, end_of};
+    ghost use Rattle.ifr_expr.specs.Meaning.{Rule};
+    ghost use Rattle.ifr_expr.specs.code.Rules.{AreOrdered, named};
+    ghost use Rattle.ifr_expr.specs.code.Expressions.{tree_of, end_of};
 
     /// The rules, the latest by place first.
     ghost rules: { Self → List Rule };
@@ -15,6 +16,7 @@ pub trait Rules<'a> {
     /// place.
     fn rule(&self, id: u8, place: u32) -> Option<Expr<'a>>
         ensures ordered { AreOrdered (rules self.now) }
-        ensures named { option_map tree_of result ≡ option_map (λ r. r.tree) (named (rules self.now) id place) }
+        ensures named { option_map tree_of result
+            ≡ option_map (λ r. r.tree) (named (rules self.now) id place) }
         ensures before { IfSome result (λ expr. end_of expr ≤ place) };
 }

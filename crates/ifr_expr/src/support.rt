@@ -10,7 +10,7 @@ pub struct Support<'a> {
 
 impl<'a> Support<'a> {
     ghost use Rattle.std.specs.Iterator.{YieldsFirstBy};
-    ghost use Rattle.ifr_expr.specs.Supports.{ids_left};
+    ghost use Rattle.ifr_expr.specs.code.Supports.{ids_left};
 
     // Goes to the next.
     fn step(&mut self) -> Option<u16>
@@ -29,7 +29,7 @@ impl<'a> Support<'a> {
 
 impl<'a> Iterator for Support<'a> {
     ghost use Rattle.std.specs.Iterator.{YieldsFirstBy, item_count};
-    ghost use Rattle.ifr_expr.specs.Supports.{ids_left};
+    ghost use Rattle.ifr_expr.specs.code.Supports.{ids_left};
 
     type Item = u16;
 

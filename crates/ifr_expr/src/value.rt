@@ -25,9 +25,9 @@ pub(crate) enum Outcome {
 
 impl Outcome {
     ghost use Rattle.std.specs.Prelude.{◌≡◌};
-    ghost use Rattle.ifr_expr.specs.Views.{value_of, outcome_value};
+    ghost use Rattle.ifr_expr.specs.code.Views.{value_of, outcome_value};
 
-    // It as a value.
+    // What was made, as a value.
     pub(crate) fn value<'v>(self) -> Value<'v>
         ensures { value_of result ≡ outcome_value self }
     {
@@ -57,7 +57,7 @@ impl Default for Operand {
 pub trait Answers<'v> {
     ghost use Rattle.std.specs.Prelude.{◌≡◌, ℕ};
     ghost use Rattle.ifr_expr.specs.Values as spec;
-    ghost use Rattle.ifr_expr.specs.Views.{value_of};
+    ghost use Rattle.ifr_expr.specs.code.Views.{value_of};
 
     /// The answer to each question id.
     ghost answers: { Self → ℕ → spec.Value };

@@ -5,8 +5,8 @@ use Rattle.std.proofs.lemmas.List.{append-nil, length-append}
 use Rattle.std.proofs.lemmas.Bool.{ne_eqb, cases_Bool}
 use Rattle.ifr_opcodes.specs.declared.codes.TheConstants.{END}
 use Rattle.ifr_opcodes.specs.Opcode.{number, has_scope, end}
-use Rattle.ifr_opcodes.specs.Forest.{Forest, none, node, opcodes, flat, AreNodes, Spells}
-use Rattle.ifr_opcodes.specs.Reading.{opcodes_in, first, levels, tree_of}
+use Rattle.ifr_opcodes.specs.Forest.{Forest, none, node, opcodes, flat, AreNodes, SpellsForest}
+use Rattle.ifr_opcodes.specs.Reading.{opcodes_in, first_forest, levels, tree_of}
 use Rattle.ifr_opcodes.proofs.OpcodeLemmas.{AllWhole, AllWhole-append, concat-append, cut-concat, end_whole}
 
 -- ---- the opcodes of a node
@@ -68,7 +68,7 @@ unfolding levels
 levels_plain op ops n e = rw (ne_eqb (number op) END n, e) refl
 
 pub levels_scoped : (op : List ℕ) (ops : List (List ℕ)) → number op ≢ END → has_scope op ≡ true
-    → levels (op ∷ ops) ≡ (node op (levels ops).0 (first (levels ops).1), drop 1 (levels ops).1)
+    → levels (op ∷ ops) ≡ (node op (levels ops).0 (first_forest (levels ops).1), drop 1 (levels ops).1)
 unfolding levels
 levels_scoped op ops n e = rw (ne_eqb (number op) END n, e) refl
 
@@ -84,7 +84,7 @@ levels-opcodes (node op children rest) more h =
           ∙ ap (λ (c : Forest). (c, graft rest (levels more).0 ∷ (levels more).1)) (graft-none children) in
           ap levels (opcodes_scoped op children rest more e)
           ∙ levels_scoped op (opcodes children ++ (end ∷ (opcodes rest ++ more))) h.0.no_end e
-          ∙ ap (λ (p : Forest × List Forest). (node op p.0 (first p.1), drop 1 p.1)) inner
+          ∙ ap (λ (p : Forest × List Forest). (node op p.0 (first_forest p.1), drop 1 p.1)) inner
       | inr e ↦
           ap levels (opcodes_plain op children rest more e)
           ∙ levels_plain op (opcodes rest ++ more) h.0.no_end e
@@ -100,7 +100,7 @@ pub opcodes_in_spelled : (bytes : List ℕ) (ops : List (List ℕ)) → AllWhole
 opcodes_in_spelled bytes ops w e = ap opcodes_in e ∙ cut-concat (length (concat ops)) ops w (omega arith)
 
 -- A package spells one forest at most.
-pub is_tree_of : (bytes : List ℕ) (f : Forest) → Spells bytes f → tree_of bytes ≡ f
+pub is_tree_of : (bytes : List ℕ) (f : Forest) → SpellsForest bytes f → tree_of bytes ≡ f
 unfolding tree_of levels
 is_tree_of bytes f s =
     ap (λ (ops : List (List ℕ)). (levels ops).0) (opcodes_in_spelled (drop 4 bytes) (opcodes f) (all_whole f s.are_nodes) s.spelled ∙ sym (append-nil (opcodes f)))

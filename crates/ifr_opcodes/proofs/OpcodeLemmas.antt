@@ -3,7 +3,8 @@ use Rattle.std.proofs.Common.{◌≡◌, ℕ, zero, suc, ◌+◌, ◌<◌, ◌�
 use Rattle.std.specs.List.{concat, AllByRecursion}
 use Rattle.std.proofs.lemmas.List.{take_at, drop_at, get_or_append_left, length-append}
 use Rattle.std.proofs.lemmas.Bool.{ne_eqb, le-leb, lt-leb}
-use Rattle.ifr_opcodes.specs.Opcode.{stated_length, has_scope, end, spelled, IsWhole}
+use Rattle.ifr_opcodes.specs.Opcode.{stated_length, has_scope, end, IsWhole}
+use Rattle.ifr_opcodes.specs.code.Props.{spelled}
 use Rattle.ifr_opcodes.specs.Reading.{cut}
 
 abbrev pub AllWhole : List (List ℕ) → Type 0

@@ -13,9 +13,9 @@ use Rattle.ifr_opcodes.specs.declared.operators.Unary.{Unary}
 use Rattle.ifr_opcodes.specs.declared.operators.Unary.TheVariants as unary
 use Rattle.ifr_opcodes.specs.declared.operators.Binary.{Binary}
 use Rattle.ifr_opcodes.specs.declared.operators.Binary.TheVariants as binary
-use Rattle.ifr_opcodes.specs.Codes.{constant_code, unary_code, binary_code}
+use Rattle.ifr_opcodes.specs.code.Codes.{constant_code, unary_code, binary_code}
 use Rattle.ifr_opcodes.specs.Operators.{operands, is_among, uints}
-use Rattle.ifr_opcodes.specs.Views.{leaf_operator}
+use Rattle.ifr_opcodes.specs.code.Views.{leaf_operator}
 
 constant_takes : (c : Constant) → operands (constant_code c) ≡ Some 0
 unfolding operands

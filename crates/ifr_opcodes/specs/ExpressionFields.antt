@@ -42,7 +42,8 @@ rule_ref_rule op = number_in op 2 1
 
 -- EFI_IFR_UINT8, EFI_IFR_UINT16, EFI_IFR_UINT32 and EFI_IFR_UINT64
 abbrev pub uint_width : ℕ → ℕ
-uint_width code = if code == UINT8 then 1 else (if code == UINT16 then 2 else (if code == UINT32 then 4 else 8))
+uint_width code =
+    if code == UINT8 then 1 else (if code == UINT16 then 2 else (if code == UINT32 then 4 else 8))
 
 abbrev pub uint_value : List ℕ → ℕ
 uint_value op = number_in op 2 (uint_width (number op))

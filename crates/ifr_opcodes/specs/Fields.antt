@@ -42,8 +42,8 @@ abbrev pub no_submit_error : List ℕ → ℕ
 no_submit_error op = number_in op 2 2
 
 -- EFI_IFR_WARNING_IF
-abbrev pub warning_text : List ℕ → ℕ
-warning_text op = number_in op 2 2
+abbrev pub warning_message : List ℕ → ℕ
+warning_message op = number_in op 2 2
 
 abbrev pub warning_timeout : List ℕ → ℕ
 warning_timeout op = number_in op 4 1

@@ -13,7 +13,8 @@ pub data Forest : Type 0 where
 -- each node's opcode, then, where it has Scope, those of its children and an END
 abbrev pub opcodes : Forest → List (List ℕ)
 opcodes none = []
-opcodes (node op children rest) = op ∷ ((if has_scope op then opcodes children ++ end ∷ [] else []) ++ opcodes rest)
+opcodes (node op children rest) =
+    op ∷ ((if has_scope op then opcodes children ++ end ∷ [] else []) ++ opcodes rest)
 
 abbrev pub flat : Forest → List ℕ
 flat f = concat (opcodes f)
@@ -34,7 +35,7 @@ AreNodes none = ⊤
 AreNodes (node op children rest) = IsNode op children × (AreNodes children × AreNodes rest)
 
 -- A package's bytes behind its header are those of a forest with at most 64 open scopes (the bound is an own rule).
-pub record Spells (bytes : List ℕ) (f : Forest) : Type 0 where
+pub record SpellsForest (bytes : List ℕ) (f : Forest) : Type 0 where
   pub spelled : drop 4 bytes ≡ flat f
   pub are_nodes : AreNodes f
   pub within : height f ≤ 64
@@ -57,9 +58,6 @@ pub record Placed : Type 0 where
   pub path : List Ancestor
   pub children : Forest
 
-abbrev pub mark : Placed → Mark
-mark n = record { place = n.place; op = n.op }
-
 -- it as what is around its children
 abbrev pub as_ancestor : Placed → Ancestor
 as_ancestor n = record { place = n.place; op = n.op; children = n.children }
@@ -69,7 +67,8 @@ abbrev pub nodes_at : ℕ → List Ancestor → Forest → List Placed
 nodes_at at path none = []
 nodes_at at path (node op children rest) =
     record { place = at; op = op; path = path; children = children }
-    ∷ (nodes_at (at + length op) (path ++ record { place = at; op = op; children = children } ∷ []) children
+    ∷ (nodes_at (at + length op) (path ++ record { place = at; op = op; children = children }
+    ∷ []) children
     ++ nodes_at (at + length (flat (node op children none))) path rest)
 
 -- the nodes of a package

@@ -1,11 +1,11 @@
--- The kinds of values, and the flags that tell the width of numbers and how they are shown.
+-- The Types of values, and the flags that tell the width of numbers and how they are shown.
 use Rattle.std.specs.Prelude.{ℕ, ◌==◌, if◌then◌else◌, bit_and}
 use Rattle.ifr_opcodes.specs.declared.kinds.TheConstants.{TYPE_NUM_SIZE_8, TYPE_NUM_SIZE_16, TYPE_NUM_SIZE_32, TYPE_NUM_SIZE_64, TYPE_BOOLEAN, TYPE_TIME, TYPE_DATE, TYPE_STRING}
 use Rattle.ifr_opcodes.specs.declared.numbers.Display.{Display}
 use Rattle.ifr_opcodes.specs.declared.numbers.Display.TheVariants.{Signed, Unsigned, Hexadecimal}
 
--- how many bytes a value of a kind takes (33.3.8.3, EFI_IFR_ONE_OF_OPTION); a buffer's are all to the opcode's end, and
--- of the kinds behind it none are asked for (own rule)
+-- how many bytes a value of a Type takes (33.3.8.3, EFI_IFR_ONE_OF_OPTION); a buffer's are all to the opcode's end, and
+-- of the Types behind it none are asked for (own rule)
 abbrev pub kind_width : ℕ → ℕ
 kind_width kind =
     if kind == TYPE_NUM_SIZE_8 then 1
@@ -26,7 +26,7 @@ width_of_flags flags =
     else (if bit_and flags 3 == 2 then 4
     else 8))
 
--- how the number of a question is shown, by its flags (33.3.8.3, EFI_IFR_DISPLAY); 30 is unsigned (own rule)
+-- how the number of a question is shown, by its flags (33.3.8.3, EFI_IFR_DISPLAY); 0x30 is unsigned (own rule)
 abbrev pub display_of_flags : ℕ → Display
 display_of_flags flags =
     if bit_and flags 0x30 == 0x00 then Signed

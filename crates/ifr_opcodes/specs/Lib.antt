@@ -1,11 +1,8 @@
 pub mod Opcode
 pub mod Forest
 pub mod Reading
-pub mod Ops
 pub mod Operators
 pub mod Statements
-pub mod Codes
-pub mod Standard
 pub mod Kinds
 pub mod StoreFields
 pub mod QuestionFields
@@ -13,4 +10,5 @@ pub mod OptionFields
 pub mod ExpressionFields
 pub mod Rows
 pub mod Fields
-pub mod Views
+pub mod code
+pub mod laws

@@ -1,7 +1,6 @@
 -- An opcode is its bytes: its number, a byte with the length in the low seven bits and Scope in the top one, its fields
 -- (UEFI 2.8, 33.3.8.2.1 EFI_IFR_OP_HEADER).
-use Rattle.std.specs.Prelude.{◌≡◌, ℕ, ◌+◌, ◌≤◌, ◌%◌, Bool, nat_le, ◌==◌, if◌then◌else◌, List, [], ◌∷◌, length, slice_index}
-use Rattle.std.proofs.Props.{props}
+use Rattle.std.specs.Prelude.{◌≡◌, ℕ, ◌≤◌, ◌%◌, Bool, nat_le, ◌==◌, List, [], ◌∷◌, length, slice_index}
 use Rattle.ifr_opcodes.specs.declared.codes.TheConstants.{END}
 
 abbrev pub number : List ℕ → ℕ
@@ -26,10 +25,3 @@ pub record IsWhole (op : List ℕ) : Type 0 where
   pub long : 2 ≤ length op
   pub sized : length op ≡ stated_length op
   pub ends : number op ≡ END → op ≡ end
-
-pub IsWhole-prop : (op : List ℕ) → IsProp (IsWhole op)
-IsWhole-prop op = hlevel props
-
--- the bytes of an opcode of this number, that opens a scope or not, with these bytes behind its header
-abbrev pub spelled : ℕ → Bool → List ℕ → List ℕ
-spelled code scope body = code ∷ ((if scope then 128 else 0) + (2 + length body)) ∷ body

@@ -4,28 +4,30 @@ use Rattle.std.specs.Prelude.{ℕ, Bool, ◌==◌, if◌then◌else◌, Option, 
 use Rattle.std.specs.List.{list_any}
 use Rattle.ifr_opcodes.specs.declared.codes.TheConstants.{EQ_ID_VAL, EQ_ID_ID, EQ_ID_VAL_LIST, AND, OR, NOT, EQUAL, NOT_EQUAL, GREATER_THAN, GREATER_EQUAL, LESS_THAN, LESS_EQUAL, BITWISE_AND, BITWISE_OR, BITWISE_NOT, SHIFT_LEFT, SHIFT_RIGHT, ADD, SUBTRACT, MULTIPLY, DIVIDE, MODULO, RULE_REF, QUESTION_REF1, UINT8, UINT16, UINT32, UINT64, TRUE, FALSE, ZERO, ONE, ONES, UNDEFINED, THIS}
 
--- those that are their own value
+-- the operators that are their own value
 abbrev pub constants : List ℕ
 constants = TRUE ∷ FALSE ∷ ZERO ∷ ONE ∷ ONES ∷ UNDEFINED ∷ []
 
--- those that hold a number
+-- the operators that hold a number
 abbrev pub uints : List ℕ
 uints = UINT8 ∷ UINT16 ∷ UINT32 ∷ UINT64 ∷ []
 
--- those that take none
+-- the operators that take no operand
 abbrev pub without_operands : List ℕ
 without_operands =
-    EQ_ID_VAL ∷ EQ_ID_ID ∷ EQ_ID_VAL_LIST ∷ RULE_REF ∷ QUESTION_REF1 ∷ UINT8 ∷ UINT16 ∷ UINT32 ∷ UINT64 ∷ THIS ∷ constants
+    EQ_ID_VAL ∷ EQ_ID_ID ∷ EQ_ID_VAL_LIST ∷ RULE_REF ∷ QUESTION_REF1 ∷ UINT8 ∷ UINT16 ∷ UINT32
+    ∷ UINT64 ∷ THIS ∷ constants
 
--- those that take one
+-- the operators that take one operand
 abbrev pub with_one_operand : List ℕ
 with_one_operand = NOT ∷ BITWISE_NOT ∷ []
 
--- those that take two, of which the left one stands first
+-- the operators that take two operands, of which the left one stands first
 abbrev pub with_two_operands : List ℕ
 with_two_operands =
     AND ∷ OR ∷ EQUAL ∷ NOT_EQUAL ∷ GREATER_THAN ∷ GREATER_EQUAL ∷ LESS_THAN ∷ LESS_EQUAL
-    ∷ BITWISE_AND ∷ BITWISE_OR ∷ SHIFT_LEFT ∷ SHIFT_RIGHT ∷ ADD ∷ SUBTRACT ∷ MULTIPLY ∷ DIVIDE ∷ MODULO ∷ []
+    ∷ BITWISE_AND ∷ BITWISE_OR ∷ SHIFT_LEFT ∷ SHIFT_RIGHT ∷ ADD ∷ SUBTRACT ∷ MULTIPLY ∷ DIVIDE
+    ∷ MODULO ∷ []
 
 abbrev pub is_among : ℕ → List ℕ → Bool
 is_among code codes = list_any (λ n. n == code) codes

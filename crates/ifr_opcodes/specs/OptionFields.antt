@@ -5,7 +5,7 @@ use Rattle.ifr_opcodes.specs.Kinds.{kind_width}
 use Rattle.ifr_opcodes.specs.QuestionFields.{has_flag}
 use Rattle.ifr_opcodes.specs.declared.kinds.TheConstants.{TYPE_BUFFER}
 
--- EFI_IFR_ONE_OF_OPTION; its kind tells how many bytes its value has
+-- EFI_IFR_ONE_OF_OPTION; its Type tells how many bytes its value has
 abbrev pub option_text : List ℕ → ℕ
 option_text op = number_in op 2 2
 
@@ -26,7 +26,7 @@ is_default_option op = has_flag (option_flags op) 0x10
 abbrev pub is_manufacturing_option : List ℕ → Bool
 is_manufacturing_option op = has_flag (option_flags op) 0x20
 
--- EFI_IFR_DEFAULT; its kind tells how many bytes its value has
+-- EFI_IFR_DEFAULT; its Type tells how many bytes its value has
 abbrev pub default_id : List ℕ → ℕ
 default_id op = number_in op 2 2
 
@@ -34,4 +34,6 @@ abbrev pub default_kind : List ℕ → ℕ
 default_kind op = number_in op 4 1
 
 abbrev pub default_value : List ℕ → List ℕ
-default_value op = if default_kind op == TYPE_BUFFER then drop 5 op else take (kind_width (default_kind op)) (drop 5 op)
+default_value op =
+    if default_kind op == TYPE_BUFFER then drop 5 op
+    else take (kind_width (default_kind op)) (drop 5 op)

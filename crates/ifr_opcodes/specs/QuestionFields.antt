@@ -10,7 +10,8 @@ has_flag flags flag = not (bit_and flags flag == 0)
 
 -- the number of a field that only longer opcodes have
 abbrev pub number_where : List ℕ → ℕ → ℕ → Option ℕ
-number_where op at width = if nat_le (at + width) (length op) then Some (number_in op at width) else None
+number_where op at width =
+    if nat_le (at + width) (length op) then Some (number_in op at width) else None
 
 -- what every statement has (33.3.8.2.3 EFI_IFR_STATEMENT_HEADER)
 abbrev pub statement_prompt : List ℕ → ℕ

@@ -57,17 +57,21 @@ abbrev pub row_length : ℕ → List ℕ → ℕ
 row_length code op =
     if code == VARSTORE then 23 + length (varstore_name op)
     else (if code == VARSTORE_EFI then 27 + length (varstore_efi_name op)
-    else (if code == NUMERIC || code == ONE_OF then (if nat_lt (length op) 14 then 14 else 14 + 3 * numeric_width op)
-    else (if code == ONE_OF_OPTION then (if nat_lt (length op) 6 then 6 else 6 + kind_width (option_kind op))
-    else (if code == DEFAULT then (if nat_lt (length op) 5 then 5 else 5 + kind_width (default_kind op))
-    else (if code == EQ_ID_VAL_LIST then (if nat_lt (length op) 6 then 6 else 6 + 2 * eq_id_val_list_count op)
+    else (if code == NUMERIC || code == ONE_OF
+    then (if nat_lt (length op) 14 then 14 else 14 + 3 * numeric_width op)
+    else (if code == ONE_OF_OPTION
+    then (if nat_lt (length op) 6 then 6 else 6 + kind_width (option_kind op))
+    else (if code == DEFAULT then (if nat_lt (length op) 5 then 5
+    else 5 + kind_width (default_kind op))
+    else (if code == EQ_ID_VAL_LIST
+    then (if nat_lt (length op) 6 then 6 else 6 + 2 * eq_id_val_list_count op)
     else bytes_in fixed_rows code)))))
 
 -- a longer opcode is accepted, and the rest ignored (own rule)
 abbrev pub least_length : List ℕ → ℕ
 least_length op = row_length (number op) op
 
--- It has not all its fields.
+-- The opcode has not all its fields.
 abbrev pub is_short : List ℕ → Bool
 is_short op = nat_lt (length op) (least_length op)
 
@@ -77,19 +81,21 @@ listed =
     FORM_SET ∷ FORM ∷ SUBTITLE ∷ TEXT ∷ RESET_BUTTON
     ∷ CHECKBOX ∷ NUMERIC ∷ ONE_OF ∷ STRING ∷ PASSWORD ∷ ORDERED_LIST ∷ DATE ∷ TIME ∷ ACTION ∷ REF
     ∷ ONE_OF_OPTION ∷ DEFAULT ∷ VALUE ∷ DEFAULTSTORE ∷ VARSTORE ∷ VARSTORE_EFI ∷ VARSTORE_NAME_VALUE
-    ∷ SUPPRESS_IF ∷ GRAY_OUT_IF ∷ DISABLE_IF ∷ LOCKED ∷ RULE ∷ INCONSISTENT_IF ∷ NO_SUBMIT_IF ∷ WARNING_IF
+    ∷ SUPPRESS_IF ∷ GRAY_OUT_IF ∷ DISABLE_IF ∷ LOCKED ∷ RULE ∷ INCONSISTENT_IF
+    ∷ NO_SUBMIT_IF ∷ WARNING_IF
     ∷ GUID ∷ IMAGE ∷ ANIMATION ∷ REFRESH ∷ REFRESH_ID ∷ MODAL_TAG ∷ []
 
 abbrev pub is_listed : ℕ → Bool
 is_listed code = is_among code listed || is_operator code
 
 -- an opcode of a known number that is refused all the same: a GUID with Scope, the EFI_IFR_VARSTORE_EFI of older editions,
--- an option whose kind is neither a number nor a Boolean, a default whose kind is not defined (own rule)
+-- an option whose Type is neither a number nor a Boolean, a default whose Type is not defined (own rule)
 abbrev pub is_left_out : List ℕ → Bool
 is_left_out op =
     if number op == GUID then has_scope op
     else (if number op == VARSTORE_EFI then length op == 24
-    else (if number op == ONE_OF_OPTION then nat_le 6 (length op) && nat_lt TYPE_BOOLEAN (option_kind op)
+    else (if number op == ONE_OF_OPTION then nat_le 6 (length op)
+    && nat_lt TYPE_BOOLEAN (option_kind op)
     else (if number op == DEFAULT then nat_le 5 (length op) && nat_lt TYPE_REF (default_kind op)
     else false)))
 

@@ -16,7 +16,8 @@ questions_with_options = ONE_OF ∷ ORDERED_LIST ∷ []
 
 -- whether this is the number of a question
 unfoldable pub is_question_number : ℕ → Bool
-is_question_number code = is_among code questions_without_options || is_among code questions_with_options
+is_question_number code =
+    is_among code questions_without_options || is_among code questions_with_options
 
 -- whether this is the number of a statement
 unfoldable pub is_statement_number : ℕ → Bool

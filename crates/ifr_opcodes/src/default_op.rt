@@ -5,7 +5,7 @@ ghost use Rattle.ifr_opcodes.specs.declared.codes.TheConstants.{DEFAULT};
 ghost use Rattle.ifr_opcodes.specs.declared.kinds.TheConstants.{TYPE_REF};
 ghost use Rattle.ifr_opcodes.specs.Kinds.{kind_width as width_of_kind};
 ghost use Rattle.ifr_opcodes.specs.Fields.{default_kind};
-ghost use Rattle.ifr_opcodes.specs.Ops.{bytes_of, op_of};
+ghost use Rattle.ifr_opcodes.specs.code.Ops.{bytes_of, op_of};
 
 use crate::codes::DEFAULT;
 use crate::kinds::{TYPE_BUFFER, kind_width};
@@ -24,9 +24,9 @@ pub struct DefaultOp<'a> {
 impl<'a> DefaultOp<'a> {
     ghost use Rattle.ifr_opcodes.specs.Fields.{default_id, default_value};
     ghost use Rattle.ifr_opcodes.specs.Rows.{is_row};
-    ghost use Rattle.ifr_opcodes.specs.Views.{Reads};
+    ghost use Rattle.ifr_opcodes.specs.code.Views.{Reads};
 
-    /// Another opcode, and one whose kind is not defined, is refused by OpOutside, one that lacks its kind or bytes of its
+    /// Another opcode, and one whose Type is not defined, is refused by OpOutside, one that lacks its Type or bytes of its
     /// value by OpSize, each at its place.
     pub fn read(op: Op<'a>) -> Result<DefaultOp<'a>, Fault>
         ensures { Reads (is_row DEFAULT) (λ view. view.op) op.entry result }
@@ -42,7 +42,7 @@ impl<'a> DefaultOp<'a> {
         self.op.u16_at(2)
     }
 
-    /// The kind of its value.
+    /// The Type of the value.
     pub fn kind(self) -> u8
         ensures { result ≡ default_kind (bytes_of self.entry.op) }
     {

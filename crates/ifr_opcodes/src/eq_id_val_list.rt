@@ -3,7 +3,7 @@
 ghost use Rattle.std.specs.Prelude.{◌≡◌, ◌+◌, ◌*◌, ◌≤◌, length};
 ghost use Rattle.ifr_opcodes.specs.declared.codes.TheConstants.{EQ_ID_VAL_LIST};
 ghost use Rattle.ifr_opcodes.specs.Fields.{eq_id_val_list_count};
-ghost use Rattle.ifr_opcodes.specs.Ops.{bytes_of};
+ghost use Rattle.ifr_opcodes.specs.code.Ops.{bytes_of};
 
 use crate::op::Op;
 
@@ -18,7 +18,7 @@ pub struct EqIdValListOp<'a> {
 
 impl<'a> EqIdValListOp<'a> {
     ghost use Rattle.ifr_opcodes.specs.Fields.{eq_id_val_list_question, eq_id_val_list_values};
-    ghost use Rattle.ifr_opcodes.specs.Views.{values_left};
+    ghost use Rattle.ifr_opcodes.specs.code.Views.{values_left};
 
     /// The question's id.
     pub fn question(self) -> u16
@@ -53,7 +53,7 @@ pub struct ListValues<'a> {
 
 impl<'a> Iterator for ListValues<'a> {
     ghost use Rattle.std.specs.Iterator.{YieldsFirstBy, item_count};
-    ghost use Rattle.ifr_opcodes.specs.Views.{values_left};
+    ghost use Rattle.ifr_opcodes.specs.code.Views.{values_left};
 
     type Item = u16;
 

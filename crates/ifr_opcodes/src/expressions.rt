@@ -2,10 +2,10 @@
 
 ghost use Rattle.std.specs.Prelude.{◌≡◌, ◌+◌, ◌≤◌, length, true};
 ghost use Rattle.ifr_opcodes.specs.declared.codes.TheConstants.{RULE_REF, THIS};
-ghost use Rattle.ifr_opcodes.specs.Codes.{constant_code, unary_code, binary_code};
+ghost use Rattle.ifr_opcodes.specs.code.Codes.{constant_code, unary_code, binary_code};
 ghost use Rattle.ifr_opcodes.specs.Fields.{uint_width};
 ghost use Rattle.ifr_opcodes.specs.Operators.{is_among, uints};
-ghost use Rattle.ifr_opcodes.specs.Ops.{bytes_of};
+ghost use Rattle.ifr_opcodes.specs.code.Ops.{bytes_of};
 
 use crate::codes::{
     EQ_ID_ID, EQ_ID_VAL, EQ_ID_VAL_LIST, QUESTION_REF1, RULE_REF, THIS, UINT8, UINT16, UINT32,
@@ -38,8 +38,8 @@ impl<'a> ExprOp<'a> {
     ghost use Rattle.ifr_opcodes.specs.Opcode.{number};
     ghost use Rattle.ifr_opcodes.specs.Operators.{is_operator, operands};
     ghost use Rattle.ifr_opcodes.specs.Fields.{least_length};
-    ghost use Rattle.ifr_opcodes.specs.Ops.{op_of};
-    ghost use Rattle.ifr_opcodes.specs.Views.{Reads, operator, leaf_operator};
+    ghost use Rattle.ifr_opcodes.specs.code.Ops.{op_of};
+    ghost use Rattle.ifr_opcodes.specs.code.Views.{Reads, operator, leaf_operator};
 
     /// An opcode that is no operator is refused by OpOutside, one that is shorter than its fields by OpSize, each at its
     /// place.
@@ -75,7 +75,7 @@ impl<'a> ExprOp<'a> {
         ExprOp::Leaf(LeafOp::of(op))
     }
 
-    /// Its opcode.
+    /// The opcode of the operator.
     pub fn op(self) -> Op<'a>
         ensures { op_of result ≡ op_of (operator self.entry) }
     {
@@ -111,8 +111,8 @@ impl<'a> LeafOp<'a> {
     ghost use Rattle.std.specs.Prelude.{Some, ◌≢◌};
     ghost use Rattle.ifr_opcodes.specs.Operators.{operands};
     ghost use Rattle.ifr_opcodes.specs.Fields.{least_length};
-    ghost use Rattle.ifr_opcodes.specs.Ops.{op_of};
-    ghost use Rattle.ifr_opcodes.specs.Views.{leaf_operator};
+    ghost use Rattle.ifr_opcodes.specs.code.Ops.{op_of};
+    ghost use Rattle.ifr_opcodes.specs.code.Views.{leaf_operator};
 
     // The view of an operator that takes no operands and is no reference to a rule.
     #[tactic(auto, unfolding(crate::specs::Operators::operands))]
@@ -139,7 +139,7 @@ impl<'a> LeafOp<'a> {
         }
     }
 
-    /// Its opcode.
+    /// The opcode of the operator.
     pub fn op(self) -> Op<'a>
         ensures { op_of result ≡ op_of (leaf_operator self.entry) }
     {

@@ -2,7 +2,7 @@
 
 ghost use Rattle.std.specs.Prelude.{◌≡◌, ◌≤◌, length};
 ghost use Rattle.ifr_opcodes.specs.declared.codes.TheConstants.{FORM, FORM_SET};
-ghost use Rattle.ifr_opcodes.specs.Ops.{bytes_of, op_of};
+ghost use Rattle.ifr_opcodes.specs.code.Ops.{bytes_of, op_of};
 
 use crate::codes::{FORM, FORM_SET};
 use crate::op::Op;
@@ -19,7 +19,7 @@ pub struct FormSetOp<'a> {
 impl<'a> FormSetOp<'a> {
     ghost use Rattle.ifr_opcodes.specs.Fields.{form_set_guid, form_set_title, form_set_help, form_set_flags};
     ghost use Rattle.ifr_opcodes.specs.Rows.{is_row};
-    ghost use Rattle.ifr_opcodes.specs.Views.{Reads};
+    ghost use Rattle.ifr_opcodes.specs.code.Views.{Reads};
 
     /// Another opcode is refused by OpOutside, one of less than 23 bytes by OpSize, each at its place.
     pub fn read(op: Op<'a>) -> Result<FormSetOp<'a>, Fault>
@@ -50,7 +50,7 @@ impl<'a> FormSetOp<'a> {
         self.op.u16_at(20)
     }
 
-    /// Its flags, which tell how many class GUIDs follow.
+    /// The flags of the form set, which tell how many class GUIDs follow.
     pub fn flags(self) -> u8
         ensures { result ≡ form_set_flags (bytes_of self.entry.op) }
     {
@@ -69,7 +69,7 @@ pub struct FormOp<'a> {
 impl<'a> FormOp<'a> {
     ghost use Rattle.ifr_opcodes.specs.Fields.{form_id, form_title};
     ghost use Rattle.ifr_opcodes.specs.Rows.{is_row};
-    ghost use Rattle.ifr_opcodes.specs.Views.{Reads};
+    ghost use Rattle.ifr_opcodes.specs.code.Views.{Reads};
 
     /// Another opcode is refused by OpOutside, one of less than 6 bytes by OpSize, each at its place.
     pub fn read(op: Op<'a>) -> Result<FormOp<'a>, Fault>

@@ -1,4 +1,4 @@
-//! The kinds of values, of options and defaults (UEFI 2.8, 33.3.8.3, EFI_IFR_ONE_OF_OPTION).
+//! The Types of values, of options and defaults (UEFI 2.8, 33.3.8.3, EFI_IFR_ONE_OF_OPTION).
 
 ghost use Rattle.std.specs.Prelude.{◌≡◌};
 ghost use Rattle.ifr_opcodes.specs.Kinds.{kind_width as width_of_kind};
@@ -36,7 +36,7 @@ pub const TYPE_BUFFER: u8 = 0x0b;
 /// EFI_IFR_TYPE_REF.
 pub const TYPE_REF: u8 = 0x0c;
 
-// How many bytes a value of a kind takes; of a buffer, which takes the rest of its opcode, and from TYPE_OTHER on, 0.
+// How many bytes a value of a Type takes; of a buffer, which takes the rest of its opcode, and from TYPE_OTHER on, 0.
 pub(crate) fn kind_width(kind: u8) -> usize
     ensures { result ≡ width_of_kind kind }
 {

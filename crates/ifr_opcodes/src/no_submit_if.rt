@@ -2,7 +2,7 @@
 
 ghost use Rattle.std.specs.Prelude.{◌≡◌, ◌≤◌, length};
 ghost use Rattle.ifr_opcodes.specs.declared.codes.TheConstants.{NO_SUBMIT_IF};
-ghost use Rattle.ifr_opcodes.specs.Ops.{bytes_of, op_of};
+ghost use Rattle.ifr_opcodes.specs.code.Ops.{bytes_of, op_of};
 
 use crate::codes::NO_SUBMIT_IF;
 use crate::op::Op;
@@ -19,7 +19,7 @@ pub struct NoSubmitIfOp<'a> {
 impl<'a> NoSubmitIfOp<'a> {
     ghost use Rattle.ifr_opcodes.specs.Fields.{no_submit_error};
     ghost use Rattle.ifr_opcodes.specs.Rows.{is_row};
-    ghost use Rattle.ifr_opcodes.specs.Views.{Reads};
+    ghost use Rattle.ifr_opcodes.specs.code.Views.{Reads};
 
     /// Another opcode is refused by OpOutside, one of less than 4 bytes by OpSize, each at its place.
     pub fn read(op: Op<'a>) -> Result<NoSubmitIfOp<'a>, Fault>

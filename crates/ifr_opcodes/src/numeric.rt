@@ -3,7 +3,7 @@
 ghost use Rattle.std.specs.Prelude.{◌≡◌, ◌≤◌, ◌+◌, ◌*◌, length};
 ghost use Rattle.ifr_opcodes.specs.declared.codes.TheConstants.{NUMERIC};
 ghost use Rattle.ifr_opcodes.specs.Fields.{numeric_width};
-ghost use Rattle.ifr_opcodes.specs.Ops.{bytes_of, op_of};
+ghost use Rattle.ifr_opcodes.specs.code.Ops.{bytes_of, op_of};
 
 use crate::codes::NUMERIC;
 use crate::numbers::{Display, display_of_flags, width_of_flags};
@@ -22,7 +22,7 @@ pub struct NumericOp<'a> {
 impl<'a> NumericOp<'a> {
     ghost use Rattle.ifr_opcodes.specs.Fields.{display, numeric_flags, numeric_minimum, numeric_maximum, numeric_step};
     ghost use Rattle.ifr_opcodes.specs.Rows.{is_row};
-    ghost use Rattle.ifr_opcodes.specs.Views.{Reads};
+    ghost use Rattle.ifr_opcodes.specs.code.Views.{Reads};
 
     /// Another opcode is refused by OpOutside, one that lacks bytes of its three numbers by OpSize, each at its place.
     pub fn read(op: Op<'a>) -> Result<NumericOp<'a>, Fault>
@@ -40,7 +40,7 @@ impl<'a> NumericOp<'a> {
         QuestionOp { op: self.op }
     }
 
-    /// Its flags, which tell how many bytes each of its numbers has, and how they are shown.
+    /// The flags of the NUMERIC, which tell how many bytes each of its numbers has, and how they are shown.
     pub fn flags(self) -> u8
         ensures { result ≡ numeric_flags (bytes_of self.entry.op) }
     {

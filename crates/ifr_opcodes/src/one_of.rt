@@ -3,7 +3,7 @@
 ghost use Rattle.std.specs.Prelude.{◌≡◌, ◌≤◌, ◌+◌, ◌*◌, length};
 ghost use Rattle.ifr_opcodes.specs.declared.codes.TheConstants.{ONE_OF};
 ghost use Rattle.ifr_opcodes.specs.Fields.{one_of_width};
-ghost use Rattle.ifr_opcodes.specs.Ops.{bytes_of, op_of};
+ghost use Rattle.ifr_opcodes.specs.code.Ops.{bytes_of, op_of};
 
 use crate::codes::ONE_OF;
 use crate::numbers::width_of_flags;
@@ -22,7 +22,7 @@ pub struct OneOfOp<'a> {
 impl<'a> OneOfOp<'a> {
     ghost use Rattle.ifr_opcodes.specs.Fields.{one_of_flags};
     ghost use Rattle.ifr_opcodes.specs.Rows.{is_row};
-    ghost use Rattle.ifr_opcodes.specs.Views.{Reads};
+    ghost use Rattle.ifr_opcodes.specs.code.Views.{Reads};
 
     /// Another opcode is refused by OpOutside, one that lacks bytes of its three numbers by OpSize, each at its place.
     pub fn read(op: Op<'a>) -> Result<OneOfOp<'a>, Fault>
@@ -40,7 +40,7 @@ impl<'a> OneOfOp<'a> {
         QuestionOp { op: self.op }
     }
 
-    /// Its flags, which tell how many bytes its value has.
+    /// The flags of the ONE_OF, which tell how many bytes its value has.
     pub fn flags(self) -> u8
         ensures { result ≡ one_of_flags (bytes_of self.entry.op) }
     {

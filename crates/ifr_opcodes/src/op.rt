@@ -1,6 +1,7 @@
 //! One opcode.
 
-ghost use Rattle.ifr_opcodes.specs.Opcode.{spelled, IsWhole, IsWhole-prop};
+ghost use Rattle.ifr_opcodes.specs.code.Props.{spelled, IsWhole-prop};
+ghost use Rattle.ifr_opcodes.specs.Opcode.{IsWhole};
 
 use crate::rows::{is_left_out, least_len};
 use crate::split::rest_from;
@@ -11,7 +12,7 @@ use hii_bytes::{Cause, Fault, Guid, number_at, u16_at, u32_at};
 pub struct Op<'a> {
     /// Where it begins, in bytes from the package's header.
     pub place: u32,
-    /// Its number.
+    /// The number of the opcode.
     pub code: u8,
     /// Whether it opens a scope.
     pub scope: bool,
@@ -26,7 +27,7 @@ impl<'a> Op<'a> {
     ghost use Rattle.hii_bytes.specs.Numbers.{number_in};
     ghost use Rattle.ifr_opcodes.specs.Fields.{number_where};
     ghost use Rattle.ifr_opcodes.specs.Rows.{row_length, is_row, IsMisread, IsShort};
-    ghost use Rattle.ifr_opcodes.specs.Ops.{bytes_of, op_of};
+    ghost use Rattle.ifr_opcodes.specs.code.Ops.{bytes_of, op_of};
 
     /// How many bytes it has, from 2 to 127.
     pub fn len(self) -> usize
@@ -53,7 +54,7 @@ impl<'a> Op<'a> {
         u16_at(self.body, at - 2).unwrap()
     }
 
-    /// The same where the opcode has these bytes.
+    /// The two bytes at an offset from the opcode's first byte, where the opcode has them.
     pub(crate) fn u16_where(self, at: usize) -> Option<u16>
         requires behind_header { 2 ≤ at }
         requires small { at < 128 }
@@ -101,20 +102,19 @@ impl<'a> Op<'a> {
         rest_from(self.body, at - 2)
     }
 
-    /// A fault at its place.
+    /// A fault at the opcode's place.
     pub fn fault(self, cause: Cause) -> Fault
         ensures { result ≡ record { cause = cause; place = self.entry.place } }
     {
-        Fault {
-            cause,
-            place: u64::from(self.place),
-        }
+        Fault::at(cause, u64::from(self.place))
     }
 
     /// Refuses an opcode of another number, or one that is left out, by OpOutside, and one that lacks bytes of its fields
     /// by OpSize.
     pub(crate) fn check_row(self, code: u8) -> Result<(), Fault>
-        ensures read { OnOk result ((self.entry.code ≡ code) × (is_row code (bytes_of self.entry) ≡ true) × (row_length code (bytes_of self.entry) ≤ length (bytes_of self.entry))) }
+        ensures read { OnOk result ((self.entry.code ≡ code)
+            × (is_row code (bytes_of self.entry) ≡ true)
+            × (row_length code (bytes_of self.entry) ≤ length (bytes_of self.entry))) }
         ensures refused { IfErr result (IsLeast (IsMisread (is_row code) (op_of self.entry))) }
     {
         if self.code != code || is_left_out(self) {

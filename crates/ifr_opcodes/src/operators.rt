@@ -2,7 +2,7 @@
 
 ghost use Rattle.std.specs.Prelude.{◌≡◌, Some, true};
 ghost use Rattle.ifr_opcodes.specs.Operators.{operands as operands_of, is_operator as is_operator_spec, constants, is_among};
-ghost use Rattle.ifr_opcodes.specs.Codes.{constant_code, unary_code, binary_code};
+ghost use Rattle.ifr_opcodes.specs.code.Codes.{constant_code, unary_code, binary_code};
 
 use crate::codes::{
     ADD, AND, BITWISE_AND, BITWISE_NOT, BITWISE_OR, DIVIDE, EQ_ID_ID, EQ_ID_VAL, EQ_ID_VAL_LIST,

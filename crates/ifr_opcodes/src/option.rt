@@ -5,7 +5,7 @@ ghost use Rattle.ifr_opcodes.specs.declared.codes.TheConstants.{ONE_OF_OPTION};
 ghost use Rattle.ifr_opcodes.specs.declared.kinds.TheConstants.{TYPE_BOOLEAN};
 ghost use Rattle.ifr_opcodes.specs.Kinds.{kind_width as width_of_kind};
 ghost use Rattle.ifr_opcodes.specs.Fields.{option_kind};
-ghost use Rattle.ifr_opcodes.specs.Ops.{bytes_of, op_of};
+ghost use Rattle.ifr_opcodes.specs.code.Ops.{bytes_of, op_of};
 
 use crate::codes::ONE_OF_OPTION;
 use crate::kinds::kind_width;
@@ -30,10 +30,10 @@ pub struct OptionOp<'a> {
 impl<'a> OptionOp<'a> {
     ghost use Rattle.ifr_opcodes.specs.Fields.{option_text, option_flags, option_value, is_default_option, is_manufacturing_option};
     ghost use Rattle.ifr_opcodes.specs.Rows.{is_row};
-    ghost use Rattle.ifr_opcodes.specs.Views.{Reads};
+    ghost use Rattle.ifr_opcodes.specs.code.Views.{Reads};
 
-    /// Another opcode, and one whose kind is neither a number nor a Boolean, is refused by OpOutside, one that lacks its
-    /// kind or bytes of its value by OpSize, each at its place.
+    /// Another opcode, and one whose Type is neither a number nor a Boolean, is refused by OpOutside, one that lacks its
+    /// Type or bytes of its value by OpSize, each at its place.
     pub fn read(op: Op<'a>) -> Result<OptionOp<'a>, Fault>
         ensures { Reads (is_row ONE_OF_OPTION) (λ view. view.op) op.entry result }
     {
@@ -48,21 +48,21 @@ impl<'a> OptionOp<'a> {
         self.op.u16_at(2)
     }
 
-    /// Its flags.
+    /// The flags of the option.
     pub fn flags(self) -> u8
         ensures { result ≡ option_flags (bytes_of self.entry.op) }
     {
         self.op.u8_at(4)
     }
 
-    /// The kind of its value, a number or a Boolean.
+    /// The Type of the value, a number or a Boolean.
     pub fn kind(self) -> u8
         ensures { result ≡ option_kind (bytes_of self.entry.op) }
     {
         self.op.u8_at(5)
     }
 
-    /// Its value.
+    /// The value of the option.
     pub fn value(self) -> u64
         ensures { result ≡ option_value (bytes_of self.entry.op) }
     {

@@ -2,7 +2,7 @@
 
 ghost use Rattle.std.specs.Prelude.{◌≡◌, ◌≤◌, length};
 ghost use Rattle.ifr_opcodes.specs.declared.codes.TheConstants.{ORDERED_LIST};
-ghost use Rattle.ifr_opcodes.specs.Ops.{bytes_of, op_of};
+ghost use Rattle.ifr_opcodes.specs.code.Ops.{bytes_of, op_of};
 
 use crate::codes::ORDERED_LIST;
 use crate::op::Op;
@@ -26,7 +26,7 @@ pub struct OrderedListOp<'a> {
 impl<'a> OrderedListOp<'a> {
     ghost use Rattle.ifr_opcodes.specs.Fields.{ordered_list_containers, ordered_list_flags, is_unique_set, has_no_empty_set};
     ghost use Rattle.ifr_opcodes.specs.Rows.{is_row};
-    ghost use Rattle.ifr_opcodes.specs.Views.{Reads};
+    ghost use Rattle.ifr_opcodes.specs.code.Views.{Reads};
 
     /// Another opcode is refused by OpOutside, one of less than 15 bytes by OpSize, each at its place.
     pub fn read(op: Op<'a>) -> Result<OrderedListOp<'a>, Fault>
@@ -51,7 +51,7 @@ impl<'a> OrderedListOp<'a> {
         self.op.u8_at(13)
     }
 
-    /// Its flags.
+    /// The flags of the ORDERED_LIST.
     pub fn flags(self) -> u8
         ensures { result ≡ ordered_list_flags (bytes_of self.entry.op) }
     {

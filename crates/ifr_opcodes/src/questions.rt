@@ -3,7 +3,7 @@
 ghost use Rattle.std.specs.Prelude.{◌≡◌, ◌≤◌, length, true};
 ghost use Rattle.ifr_opcodes.specs.declared.codes.TheConstants.{CHECKBOX};
 ghost use Rattle.ifr_opcodes.specs.Opcode.{number};
-ghost use Rattle.ifr_opcodes.specs.Ops.{bytes_of, op_of};
+ghost use Rattle.ifr_opcodes.specs.code.Ops.{bytes_of, op_of};
 ghost use Rattle.ifr_opcodes.specs.Statements.{is_question_number, is_statement_number};
 
 use crate::codes::CHECKBOX;
@@ -31,7 +31,7 @@ pub struct StatementOp<'a> {
 
 impl<'a> StatementOp<'a> {
     ghost use Rattle.ifr_opcodes.specs.Fields.{statement_prompt, statement_help};
-    ghost use Rattle.ifr_opcodes.specs.Views.{Reads};
+    ghost use Rattle.ifr_opcodes.specs.code.Views.{Reads};
 
     /// An opcode that is no statement is refused by OpOutside, one that is shorter than its fields by OpSize, each at its
     /// place.
@@ -71,7 +71,7 @@ pub struct QuestionOp<'a> {
 
 impl<'a> QuestionOp<'a> {
     ghost use Rattle.ifr_opcodes.specs.Fields.{question_id, question_store, question_offset, question_flags, is_read_only};
-    ghost use Rattle.ifr_opcodes.specs.Views.{Reads};
+    ghost use Rattle.ifr_opcodes.specs.code.Views.{Reads};
 
     /// An opcode that is no question is refused by OpOutside, one that is shorter than its fields by OpSize, each at its
     /// place.
@@ -141,7 +141,7 @@ pub struct CheckboxOp<'a> {
 impl<'a> CheckboxOp<'a> {
     ghost use Rattle.ifr_opcodes.specs.Fields.{checkbox_flags, is_default_checkbox, is_manufacturing_checkbox};
     ghost use Rattle.ifr_opcodes.specs.Rows.{is_row};
-    ghost use Rattle.ifr_opcodes.specs.Views.{Reads};
+    ghost use Rattle.ifr_opcodes.specs.code.Views.{Reads};
 
     /// Another opcode is refused by OpOutside, one of less than 14 bytes by OpSize, each at its place.
     pub fn read(op: Op<'a>) -> Result<CheckboxOp<'a>, Fault>

@@ -2,7 +2,7 @@
 
 ghost use Rattle.std.specs.Prelude.{◌≡◌, ◌≤◌, length, option_map};
 ghost use Rattle.ifr_opcodes.specs.declared.codes.TheConstants.{REF};
-ghost use Rattle.ifr_opcodes.specs.Ops.{bytes_of, op_of};
+ghost use Rattle.ifr_opcodes.specs.code.Ops.{bytes_of, op_of};
 
 use crate::codes::REF;
 use crate::op::Op;
@@ -20,7 +20,7 @@ pub struct RefOp<'a> {
 impl<'a> RefOp<'a> {
     ghost use Rattle.ifr_opcodes.specs.Fields.{ref_form_id, ref_question_id, ref_form_set, ref_device_path, ref_target};
     ghost use Rattle.ifr_opcodes.specs.Rows.{is_row};
-    ghost use Rattle.ifr_opcodes.specs.Views.{Reads};
+    ghost use Rattle.ifr_opcodes.specs.code.Views.{Reads};
 
     /// Another opcode is refused by OpOutside, one of less than 13 bytes by OpSize, each at its place.
     pub fn read(op: Op<'a>) -> Result<RefOp<'a>, Fault>
@@ -54,7 +54,8 @@ impl<'a> RefOp<'a> {
 
     /// What names the form set, in opcodes of 33 bytes and more.
     pub fn form_set(self) -> Option<Guid<'a>>
-        ensures { option_map (λ guid. guid.bytes.now) result ≡ ref_form_set (bytes_of self.entry.op) }
+        ensures { option_map (λ guid. guid.bytes.now) result
+            ≡ ref_form_set (bytes_of self.entry.op) }
     {
         if self.op.len() < 33 {
             return None;

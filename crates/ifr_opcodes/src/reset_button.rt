@@ -2,7 +2,7 @@
 
 ghost use Rattle.std.specs.Prelude.{◌≡◌, ◌≤◌, length};
 ghost use Rattle.ifr_opcodes.specs.declared.codes.TheConstants.{RESET_BUTTON};
-ghost use Rattle.ifr_opcodes.specs.Ops.{bytes_of, op_of};
+ghost use Rattle.ifr_opcodes.specs.code.Ops.{bytes_of, op_of};
 
 use crate::codes::RESET_BUTTON;
 use crate::op::Op;
@@ -20,7 +20,7 @@ pub struct ResetButtonOp<'a> {
 impl<'a> ResetButtonOp<'a> {
     ghost use Rattle.ifr_opcodes.specs.Fields.{reset_default};
     ghost use Rattle.ifr_opcodes.specs.Rows.{is_row};
-    ghost use Rattle.ifr_opcodes.specs.Views.{Reads};
+    ghost use Rattle.ifr_opcodes.specs.code.Views.{Reads};
 
     /// Another opcode is refused by OpOutside, one of less than 8 bytes by OpSize, each at its place.
     pub fn read(op: Op<'a>) -> Result<ResetButtonOp<'a>, Fault>

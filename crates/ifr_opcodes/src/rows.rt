@@ -4,7 +4,7 @@ ghost use Rattle.std.specs.Prelude.{◌≡◌, ◌+◌, ◌*◌, nat_lt, if◌th
 ghost use Rattle.ifr_opcodes.specs.Rows as rows;
 ghost use Rattle.ifr_opcodes.specs.Kinds.{kind_width as width_of_kind};
 ghost use Rattle.ifr_opcodes.specs.Fields as fields;
-ghost use Rattle.ifr_opcodes.specs.Ops.{bytes_of};
+ghost use Rattle.ifr_opcodes.specs.code.Ops.{bytes_of};
 
 use crate::codes::{
     ACTION, ANIMATION, CHECKBOX, DATE, DEFAULT, DEFAULTSTORE, DISABLE_IF, EQ_ID_ID, EQ_ID_VAL,
@@ -35,7 +35,7 @@ pub(crate) fn least_len(op: Op) -> usize
     }
 }
 
-// The same for an opcode whose fields always take as many bytes.
+// The least length of an opcode whose fields always take as many bytes.
 fn fixed_len(code: u8) -> usize
     ensures { result ≡ rows.bytes_in rows.fixed_rows code }
 {
@@ -71,9 +71,10 @@ fn fixed_len(code: u8) -> usize
     }
 }
 
-// The same for a question of numbers, whose flags tell how many bytes each has.
+// The least length of a question of numbers, whose flags tell how many bytes each has.
 fn numeric_len(op: Op) -> usize
-    ensures { result ≡ (if nat_lt (length (bytes_of op.entry)) 14 then 14 else 14 + 3 * fields.numeric_width (bytes_of op.entry)) }
+    ensures { result ≡ (if nat_lt (length (bytes_of op.entry)) 14 then 14
+        else 14 + 3 * fields.numeric_width (bytes_of op.entry)) }
 {
     if op.len() < 14 {
         return 14;
@@ -81,9 +82,10 @@ fn numeric_len(op: Op) -> usize
     14 + 3 * width_of_flags(op.u8_at(13))
 }
 
-// The same for an option, whose kind tells how many bytes its value has.
+// The least length of an option, whose Type tells how many bytes its value has.
 fn option_len(op: Op) -> usize
-    ensures { result ≡ (if nat_lt (length (bytes_of op.entry)) 6 then 6 else 6 + width_of_kind (fields.option_kind (bytes_of op.entry))) }
+    ensures { result ≡ (if nat_lt (length (bytes_of op.entry)) 6 then 6
+        else 6 + width_of_kind (fields.option_kind (bytes_of op.entry))) }
 {
     if op.len() < 6 {
         return 6;
@@ -91,9 +93,10 @@ fn option_len(op: Op) -> usize
     6 + kind_width(op.u8_at(5))
 }
 
-// The same for a default, whose kind tells how many bytes its value has.
+// The least length of a default, whose Type tells how many bytes its value has.
 fn default_len(op: Op) -> usize
-    ensures { result ≡ (if nat_lt (length (bytes_of op.entry)) 5 then 5 else 5 + width_of_kind (fields.default_kind (bytes_of op.entry))) }
+    ensures { result ≡ (if nat_lt (length (bytes_of op.entry)) 5 then 5
+        else 5 + width_of_kind (fields.default_kind (bytes_of op.entry))) }
 {
     if op.len() < 5 {
         return 5;
@@ -101,9 +104,10 @@ fn default_len(op: Op) -> usize
     5 + kind_width(op.u8_at(4))
 }
 
-// The same for EQ_ID_VAL_LIST, whose values stand behind their count.
+// The least length of an EQ_ID_VAL_LIST, whose values stand behind their count.
 fn list_len(op: Op) -> usize
-    ensures { result ≡ (if nat_lt (length (bytes_of op.entry)) 6 then 6 else 6 + 2 * fields.eq_id_val_list_count (bytes_of op.entry)) }
+    ensures { result ≡ (if nat_lt (length (bytes_of op.entry)) 6 then 6
+        else 6 + 2 * fields.eq_id_val_list_count (bytes_of op.entry)) }
 {
     if op.len() < 6 {
         return 6;
@@ -136,7 +140,7 @@ pub fn is_listed(code: u8) -> bool
 }
 
 /// Whether an opcode of a known number is refused all the same: a GUID with Scope, a VARSTORE_EFI of 24 bytes, an option
-/// whose kind is neither a number nor a Boolean, a default whose kind is not defined.
+/// whose Type is neither a number nor a Boolean, a default whose Type is not defined.
 pub(crate) fn is_left_out(op: Op) -> bool
     ensures { result ≡ rows.is_left_out (bytes_of op.entry) }
 {

@@ -3,8 +3,8 @@
 ghost use Rattle.std.specs.Prelude.{◌≡◌, ℕ, List, ◌++◌, drop, IfOk, IfErr, IsOk, MatchOption};
 ghost use Rattle.hii_bytes.specs.Faults.{IsLeast};
 ghost use Rattle.ifr_opcodes.specs.Opcode.{IsWhole};
-ghost use Rattle.ifr_opcodes.specs.Reading.{mark_at, IsOpFault};
-ghost use Rattle.ifr_opcodes.specs.Ops.{bytes_of, op_of};
+ghost use Rattle.ifr_opcodes.specs.code.Marks.{mark_at, IsOpFault};
+ghost use Rattle.ifr_opcodes.specs.code.Ops.{bytes_of, op_of};
 
 use crate::codes::END;
 use crate::op::Op;
@@ -56,9 +56,6 @@ pub fn op_at(bytes: &[u8], place: u32) -> Result<Op<'_>, Fault>
 {
     match split_opcode(rest_from(bytes, place), place) {
         Some((op, _)) => Ok(op),
-        None => Err(Fault {
-            cause: Cause::OpLength,
-            place: u64::from(place),
-        }),
+        None => Err(Fault::at(Cause::OpLength, u64::from(place))),
     }
 }

@@ -4,7 +4,7 @@ ghost use Rattle.std.specs.Prelude.{◌≡◌, ◌≤◌, ◌+◌, length};
 ghost use Rattle.std.specs.List.{position, before_first};
 ghost use Rattle.ifr_opcodes.specs.declared.codes.TheConstants.{VARSTORE};
 ghost use Rattle.ifr_opcodes.specs.Fields.{is_nul, varstore_name};
-ghost use Rattle.ifr_opcodes.specs.Ops.{bytes_of, op_of};
+ghost use Rattle.ifr_opcodes.specs.code.Ops.{bytes_of, op_of};
 
 use crate::codes::VARSTORE;
 use crate::op::Op;
@@ -38,7 +38,7 @@ pub struct VarstoreOp<'a> {
 impl<'a> VarstoreOp<'a> {
     ghost use Rattle.ifr_opcodes.specs.Fields.{varstore_guid, varstore_id, varstore_size};
     ghost use Rattle.ifr_opcodes.specs.Rows.{is_row};
-    ghost use Rattle.ifr_opcodes.specs.Views.{Reads};
+    ghost use Rattle.ifr_opcodes.specs.code.Views.{Reads};
 
     /// Another opcode is refused by OpOutside, one without a NUL from offset 22 on by OpSize, each at its place.
     pub fn read(op: Op<'a>) -> Result<VarstoreOp<'a>, Fault>

@@ -2,7 +2,7 @@
 
 ghost use Rattle.std.specs.Prelude.{◌≡◌, ◌≤◌, length};
 ghost use Rattle.ifr_opcodes.specs.declared.codes.TheConstants.{STRING};
-ghost use Rattle.ifr_opcodes.specs.Ops.{bytes_of, op_of};
+ghost use Rattle.ifr_opcodes.specs.code.Ops.{bytes_of, op_of};
 
 use crate::codes::STRING;
 use crate::op::Op;
@@ -20,7 +20,7 @@ pub struct StringOp<'a> {
 impl<'a> StringOp<'a> {
     ghost use Rattle.ifr_opcodes.specs.Fields.{string_minimum, string_maximum, string_flags};
     ghost use Rattle.ifr_opcodes.specs.Rows.{is_row};
-    ghost use Rattle.ifr_opcodes.specs.Views.{Reads};
+    ghost use Rattle.ifr_opcodes.specs.code.Views.{Reads};
 
     /// Another opcode is refused by OpOutside, one of less than 16 bytes by OpSize, each at its place.
     pub fn read(op: Op<'a>) -> Result<StringOp<'a>, Fault>
@@ -52,7 +52,7 @@ impl<'a> StringOp<'a> {
         self.op.u8_at(14)
     }
 
-    /// Its flags.
+    /// The flags of the STRING.
     pub fn flags(self) -> u8
         ensures { result ≡ string_flags (bytes_of self.entry.op) }
     {

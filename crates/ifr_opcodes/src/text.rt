@@ -2,7 +2,7 @@
 
 ghost use Rattle.std.specs.Prelude.{◌≡◌, ◌≤◌, length};
 ghost use Rattle.ifr_opcodes.specs.declared.codes.TheConstants.{TEXT};
-ghost use Rattle.ifr_opcodes.specs.Ops.{bytes_of, op_of};
+ghost use Rattle.ifr_opcodes.specs.code.Ops.{bytes_of, op_of};
 
 use crate::codes::TEXT;
 use crate::op::Op;
@@ -20,7 +20,7 @@ pub struct TextOp<'a> {
 impl<'a> TextOp<'a> {
     ghost use Rattle.ifr_opcodes.specs.Fields.{text_second};
     ghost use Rattle.ifr_opcodes.specs.Rows.{is_row};
-    ghost use Rattle.ifr_opcodes.specs.Views.{Reads};
+    ghost use Rattle.ifr_opcodes.specs.code.Views.{Reads};
 
     /// Another opcode is refused by OpOutside, one of less than 8 bytes by OpSize, each at its place.
     pub fn read(op: Op<'a>) -> Result<TextOp<'a>, Fault>

@@ -2,7 +2,7 @@
 
 ghost use Rattle.std.specs.Prelude.{◌≡◌, ◌≤◌, length};
 ghost use Rattle.ifr_opcodes.specs.declared.codes.TheConstants.{TIME};
-ghost use Rattle.ifr_opcodes.specs.Ops.{bytes_of, op_of};
+ghost use Rattle.ifr_opcodes.specs.code.Ops.{bytes_of, op_of};
 
 use crate::codes::TIME;
 use crate::op::Op;
@@ -20,7 +20,7 @@ pub struct TimeOp<'a> {
 impl<'a> TimeOp<'a> {
     ghost use Rattle.ifr_opcodes.specs.Fields.{time_flags};
     ghost use Rattle.ifr_opcodes.specs.Rows.{is_row};
-    ghost use Rattle.ifr_opcodes.specs.Views.{Reads};
+    ghost use Rattle.ifr_opcodes.specs.code.Views.{Reads};
 
     /// Another opcode is refused by OpOutside, one of less than 14 bytes by OpSize, each at its place.
     pub fn read(op: Op<'a>) -> Result<TimeOp<'a>, Fault>
@@ -38,7 +38,7 @@ impl<'a> TimeOp<'a> {
         QuestionOp { op: self.op }
     }
 
-    /// Its flags.
+    /// The flags of the TIME.
     pub fn flags(self) -> u8
         ensures { result ≡ time_flags (bytes_of self.entry.op) }
     {

@@ -3,7 +3,7 @@
 ghost use Rattle.std.specs.Prelude.{◌≡◌, ◌≤◌, ◌+◌, length};
 ghost use Rattle.ifr_opcodes.specs.declared.codes.TheConstants.{VARSTORE_EFI};
 ghost use Rattle.ifr_opcodes.specs.Fields.{varstore_efi_name};
-ghost use Rattle.ifr_opcodes.specs.Ops.{bytes_of, op_of};
+ghost use Rattle.ifr_opcodes.specs.code.Ops.{bytes_of, op_of};
 
 use crate::codes::VARSTORE_EFI;
 use crate::op::Op;
@@ -21,7 +21,7 @@ pub struct VarstoreEfiOp<'a> {
 impl<'a> VarstoreEfiOp<'a> {
     ghost use Rattle.ifr_opcodes.specs.Fields.{varstore_efi_id, varstore_efi_guid, varstore_efi_attributes, varstore_efi_size};
     ghost use Rattle.ifr_opcodes.specs.Rows.{is_row};
-    ghost use Rattle.ifr_opcodes.specs.Views.{Reads};
+    ghost use Rattle.ifr_opcodes.specs.code.Views.{Reads};
 
     /// Another opcode, and one of 24 bytes, is refused by OpOutside, one without a NUL from offset 26 on by OpSize, each at
     /// its place.

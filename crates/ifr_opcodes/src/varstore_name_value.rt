@@ -2,7 +2,7 @@
 
 ghost use Rattle.std.specs.Prelude.{◌≡◌, ◌≤◌, length};
 ghost use Rattle.ifr_opcodes.specs.declared.codes.TheConstants.{VARSTORE_NAME_VALUE};
-ghost use Rattle.ifr_opcodes.specs.Ops.{bytes_of, op_of};
+ghost use Rattle.ifr_opcodes.specs.code.Ops.{bytes_of, op_of};
 
 use crate::codes::VARSTORE_NAME_VALUE;
 use crate::op::Op;
@@ -19,7 +19,7 @@ pub struct VarstoreNameValueOp<'a> {
 impl<'a> VarstoreNameValueOp<'a> {
     ghost use Rattle.ifr_opcodes.specs.Fields.{name_value_id, name_value_guid};
     ghost use Rattle.ifr_opcodes.specs.Rows.{is_row};
-    ghost use Rattle.ifr_opcodes.specs.Views.{Reads};
+    ghost use Rattle.ifr_opcodes.specs.code.Views.{Reads};
 
     /// Another opcode is refused by OpOutside, one of less than 20 bytes by OpSize, each at its place.
     pub fn read(op: Op<'a>) -> Result<VarstoreNameValueOp<'a>, Fault>

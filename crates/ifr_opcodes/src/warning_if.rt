@@ -2,7 +2,7 @@
 
 ghost use Rattle.std.specs.Prelude.{◌≡◌, ◌≤◌, length};
 ghost use Rattle.ifr_opcodes.specs.declared.codes.TheConstants.{WARNING_IF};
-ghost use Rattle.ifr_opcodes.specs.Ops.{bytes_of, op_of};
+ghost use Rattle.ifr_opcodes.specs.code.Ops.{bytes_of, op_of};
 
 use crate::codes::WARNING_IF;
 use crate::op::Op;
@@ -17,9 +17,9 @@ pub struct WarningIfOp<'a> {
 }
 
 impl<'a> WarningIfOp<'a> {
-    ghost use Rattle.ifr_opcodes.specs.Fields.{warning_text, warning_timeout};
+    ghost use Rattle.ifr_opcodes.specs.Fields.{warning_message, warning_timeout};
     ghost use Rattle.ifr_opcodes.specs.Rows.{is_row};
-    ghost use Rattle.ifr_opcodes.specs.Views.{Reads};
+    ghost use Rattle.ifr_opcodes.specs.code.Views.{Reads};
 
     /// Another opcode is refused by OpOutside, one of less than 5 bytes by OpSize, each at its place.
     pub fn read(op: Op<'a>) -> Result<WarningIfOp<'a>, Fault>
@@ -31,7 +31,7 @@ impl<'a> WarningIfOp<'a> {
 
     /// The string id of the text.
     pub fn text(self) -> u16
-        ensures { result ≡ warning_text (bytes_of self.entry.op) }
+        ensures { result ≡ warning_message (bytes_of self.entry.op) }
     {
         self.op.u16_at(2)
     }

@@ -4,7 +4,8 @@ use Rattle.std.specs.Prelude.{Contains}
 use Rattle.std.proofs.lemmas.Bool.{cases_Bool}
 use Rattle.std.proofs.lemmas.List.Elements.{Contains-append_cases, Contains-append_right}
 use Rattle.ifr_opcodes.specs.Opcode.{has_scope}
-use Rattle.ifr_opcodes.specs.Forest.{Forest, none, node, flat, AreNodes, Mark, mark, Ancestor, Placed, as_ancestor, nodes_at, below}
+use Rattle.ifr_opcodes.specs.Forest.{Forest, none, node, flat, AreNodes, Mark, Ancestor, Placed, as_ancestor, nodes_at, below}
+use Rattle.ifr_opcodes.specs.code.Marks.{mark}
 use Rattle.ifr_opcodes.proofs.ForestLemmas.{takes}
 use Rattle.ifr_expr.specs.Trees.{siblings}
 use Rattle.ifr_scopes.specs.Nodes.{end_of}

@@ -7,7 +7,7 @@ use Rattle.std.proofs.lemmas.List.{append-nil, map-append, length-take, get_or-t
 use Rattle.std.proofs.lemmas.List.Elements.{filter-append}
 use Rattle.ifr_opcodes.specs.Opcode.{number, stated_length, IsWhole}
 use Rattle.ifr_opcodes.specs.Forest.{Ancestor}
-use Rattle.ifr_opcodes.specs.Reading.{mark_at, ancestor_at}
+use Rattle.ifr_opcodes.specs.code.Marks.{mark_at, ancestor_at}
 use Rattle.ifr_scopes.specs.Guards.{is_guard}
 use Rattle.ifr_scopes.specs.Table.{row, class_of, guarded, others_among, class_in, is_guard_scope, class_around}
 use Rattle.ifr_scopes.specs.declared.table.Class.{Class}

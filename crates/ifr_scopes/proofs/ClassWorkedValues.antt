@@ -6,7 +6,7 @@ use Rattle.ifr_opcodes.specs.Forest.{none, Ancestor}
 use Rattle.ifr_opcodes.specs.Operators.{operands}
 use Rattle.ifr_opcodes.specs.Statements.{is_question_number, is_statement_number}
 use Rattle.ifr_scopes.specs.Kinds.{is_store_number, is_condition_number, is_ignored}
-use Rattle.ifr_scopes.specs.Structure.{has_fault}
+use Rattle.ifr_scopes.specs.Structure.{has_structure_fault}
 use Rattle.ifr_scopes.specs.Table.{row}
 
 -- an opcode of this number with Scope
@@ -15,7 +15,7 @@ scope code = record { place = 4; op = code ∷ 130 ∷ []; children = none }
 
 -- whether an opcode is refused in the scope of the innermost of these, behind what that scope begins with
 abbrev is_misplaced : List ℕ → ℕ → Bool
-is_misplaced codes code = has_fault (record { place = 100; op = code ∷ 2 ∷ []; path = map scope codes; children = none }) Misplaced
+is_misplaced codes code = has_structure_fault (record { place = 100; op = code ∷ 2 ∷ []; path = map scope codes; children = none }) Misplaced
 
 abbrev one_of : List ℕ
 one_of = FORM_SET ∷ FORM ∷ ONE_OF ∷ []

@@ -1,12 +1,12 @@
 -- The node with a condition that is looked up at a place is the one there.
 use Rattle.std.proofs.Common.{◌≡◌, ℕ, Bool, true, false, Option, Some, None, List, refl, sym, ap, ◌∙◌, subst}
 use Rattle.std.specs.Prelude.{◌||◌, option_map}
-use Rattle.ifr_opcodes.specs.Forest.{Placed, Spells}
+use Rattle.ifr_opcodes.specs.Forest.{Placed, SpellsForest}
 use Rattle.ifr_opcodes.specs.Opcode.{number}
 use Rattle.ifr_opcodes.specs.Reading.{tree_of}
-use Rattle.ifr_scopes.specs.Checked.{node_in, has_node}
+use Rattle.ifr_scopes.specs.code.Checked.{node_in, has_node}
 use Rattle.ifr_scopes.specs.Guards.{is_guard}
-use Rattle.ifr_scopes.specs.Index.{is_conditional, conditional_at, this_at, entry_of}
+use Rattle.ifr_scopes.specs.code.Index.{is_conditional, conditional_at, this_at, entry_of}
 use Rattle.ifr_scopes.specs.Kinds.{is_condition_number}
 use Rattle.ifr_scopes.specs.Nodes.{nodes_of, this_of}
 use Rattle.ifr_scopes.proofs.PathLemmas.{find_within}
@@ -24,7 +24,7 @@ pub record IsConditional (bytes : List ℕ) (place this : ℕ) : Type 0 where
   pub within : this ≡ this_of (node_in bytes place)
   pub is : conditional_at (nodes_of bytes) place ≡ Some (node_in bytes place)
 
-pub conditional_some : (bytes : List ℕ) (place this : ℕ) → Spells bytes (tree_of bytes) → Some this ≡ this_at (nodes_of bytes) place → IsConditional bytes place this
+pub conditional_some : (bytes : List ℕ) (place this : ℕ) → SpellsForest bytes (tree_of bytes) → Some this ≡ this_at (nodes_of bytes) place → IsConditional bytes place this
 conditional_some bytes place this s e = go (conditional_at (nodes_of bytes) place) refl e
   where
     go : (found : Option Placed) → conditional_at (nodes_of bytes) place ≡ found → Some this ≡ option_map this_of found → IsConditional bytes place this

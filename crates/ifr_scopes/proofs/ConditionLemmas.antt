@@ -10,13 +10,15 @@ use Rattle.ifr_opcodes.specs.Forest.{none, node, flat, Mark, Placed, as_ancestor
 use Rattle.ifr_opcodes.specs.Reading.{tree_of}
 use Rattle.ifr_opcodes.proofs.ForestLemmas.{takes}
 use Rattle.ifr_expr.specs.Trees.{Tree, Means, expression}
-use Rattle.ifr_expr.specs.Reading.{opcodes_of, tree_of_opcodes, tree_in}
+use Rattle.ifr_expr.specs.code.Bytes.{opcodes_of}
+use Rattle.ifr_expr.specs.Reading.{tree_of_opcodes, tree_in}
 use Rattle.ifr_expr.specs.Faults.{IsExpressionFault}
 use Rattle.ifr_expr.proofs.TreeLemmas.{is_tree_of}
 use Rattle.ifr_scopes.specs.Nodes.{nodes_of, end_of}
 use Rattle.ifr_scopes.specs.Table.{wants_expression, wants_value}
-use Rattle.ifr_scopes.specs.Conditions.{expression_tree, value_in, value_tree}
-use Rattle.ifr_scopes.specs.Checked.{IsChecked, IsAt, node_in, has_node}
+use Rattle.ifr_scopes.specs.Conditions.{expression_tree, tree_of_value, value_tree}
+use Rattle.ifr_scopes.specs.Checked.{IsChecked}
+use Rattle.ifr_scopes.specs.code.Checked.{IsAt, node_in, has_node}
 use Rattle.ifr_scopes.proofs.ExpressionLemmas.{StandsFrom, stands_from}
 use Rattle.ifr_scopes.proofs.PlaceLemmas.{node_stands}
 use Rattle.ifr_scopes.proofs.ViewLemmas.{is_at, node_in_place}
@@ -65,14 +67,14 @@ pub is_read : {X : Type 0} (bytes : List ℕ) (outer : Placed) (from : ℕ) (b :
     → (HasNone (IsExpressionFault from (opcodes_of from (slice_range bytes from (end_of (node_in bytes from))))) → IsOk result) → IsOk result
 is_read bytes outer from b result accepted = accepted (subst (λ (l : List Mark). HasNone (IsExpressionFault from l)) (sym b.stands.opcodes) b.sound)
 
--- its tree is that of the outer node's scope
+-- the tree of the expression is that of the outer node's scope
 pub is_its_tree : (bytes : List ℕ) (outer : Placed) (from : ℕ) (b : Begins bytes outer from) (tree : Tree) → Means (opcodes_of from (slice_range bytes from (end_of (node_in bytes from)))) tree → tree ≡ tree_in (outer.place + length outer.op) outer.children
 is_its_tree bytes outer from b tree means =
     sym (is_tree_of (opcodes_of from (slice_range bytes from (end_of (node_in bytes from)))) tree means) ∙ ap tree_of_opcodes b.stands.opcodes ∙ sym b.tree
 
 -- ---- the VALUE with which a node begins
 
--- It stands behind the node's opcode, and its expression is the node's value.
+-- A VALUE stands behind the node's opcode, and its expression is the node's value.
 pub record StandsValue (bytes : List ℕ) (n : Placed) (from : ℕ) : Type 0 where
   pub there : has_node bytes from ≡ true
   pub inside : from < length bytes
@@ -88,7 +90,7 @@ value_there bytes n checked wants h =
       there = (is_at bytes child checked.spelled h.within).there;
       inside = place_below bytes child checked h.within;
       wants = ap (λ (m : Placed). wants_expression (number m.op)) same ∙ ap wants_expression h.is_value;
-      tree = ap (λ (m : Placed). Some (expression_tree m)) same ∙ sym (ap (value_in from) h.first) ∙ sym (cond-true (wants_value n.op) (value_in from n.children) None wants);
+      tree = ap (λ (m : Placed). Some (expression_tree m)) same ∙ sym (ap (tree_of_value from) h.first) ∙ sym (cond-true (wants_value n.op) (tree_of_value from n.children) None wants);
     }
 
 pub value_at : (bytes : List ℕ) (n : Placed) (from : ℕ) → IsChecked bytes → Contains (nodes_of bytes) n → wants_value n.op ≡ true → n.place + length n.op ≡ from → StandsValue bytes n from

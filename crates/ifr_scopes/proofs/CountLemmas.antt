@@ -6,7 +6,7 @@ use Rattle.std.proofs.lemmas.Bool.{ne_eqb, lt-ltb, ltb-true, cases_Bool, cases_e
 use Rattle.ifr_opcodes.specs.declared.codes.TheConstants.{END}
 use Rattle.ifr_opcodes.specs.Opcode.{number, has_scope, end, is_end, IsWhole}
 use Rattle.ifr_opcodes.specs.Forest.{Forest, none, node, opcodes, height, AreNodes}
-use Rattle.ifr_opcodes.specs.Reading.{first, levels}
+use Rattle.ifr_opcodes.specs.Reading.{first_forest, levels}
 use Rattle.ifr_opcodes.proofs.OpcodeLemmas.{AllWhole}
 use Rattle.ifr_opcodes.proofs.ForestLemmas.{opcodes_scoped, opcodes_plain, levels_end, levels_plain, levels_scoped}
 
@@ -111,7 +111,7 @@ at_scope d op ops n s e =
     go false b h = absurd cc
 
 nested : (d : ℕ) (op : List ℕ) (ops : List (List ℕ)) (f : Forest) (fs : List Forest) → IsWhole op → number op ≢ END → has_scope op ≡ true
-    → IsLevels (suc d) ops f fs → IsLevels d (op ∷ ops) (node op f (first fs)) (drop 1 fs)
+    → IsLevels (suc d) ops f fs → IsLevels d (op ∷ ops) (node op f (first_forest fs)) (drop 1 fs)
 nested d op ops f [] w n s h = let bad : 0 ≡ suc d = h.count in absurd (omega arith)
 nested d op ops f (g ∷ fs) w n s h =
     let high : max (height f + 1) (height g) + d ≤ 64 = omega (arith, h.inner_within, h.outer_within.0) in

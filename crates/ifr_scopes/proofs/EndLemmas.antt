@@ -6,14 +6,16 @@ use Rattle.std.proofs.lemmas.Bool.{cases_Bool, ne_eqb, eq-eqb, cond-true, cond-f
 use Rattle.ifr_opcodes.specs.declared.codes.TheConstants.{END}
 use Rattle.ifr_opcodes.specs.declared.op.Op.{Op}
 use Rattle.ifr_opcodes.specs.Opcode.{number, has_scope, end, is_end, IsWhole}
-use Rattle.ifr_opcodes.specs.Forest.{Forest, none, node, opcodes, flat, AreNodes, Spells, Mark, Placed, mark}
-use Rattle.ifr_opcodes.specs.Ops.{bytes_of, op_of}
-use Rattle.ifr_opcodes.specs.Reading.{opcodes_in, tree_of, mark_at}
+use Rattle.ifr_opcodes.specs.Forest.{Forest, none, node, opcodes, flat, AreNodes, SpellsForest, Mark, Placed}
+use Rattle.ifr_opcodes.specs.code.Marks.{mark}
+use Rattle.ifr_opcodes.specs.code.Ops.{bytes_of, op_of}
+use Rattle.ifr_opcodes.specs.Reading.{opcodes_in, tree_of}
+use Rattle.ifr_opcodes.specs.code.Marks.{mark_at}
 use Rattle.ifr_opcodes.proofs.OpcodeLemmas.{AllWhole, concat-append, has_scope_spelled}
 use Rattle.ifr_opcodes.proofs.ForestLemmas.{opcodes_scoped, opcodes_plain, size_scoped, size_plain, opcodes_in_spelled}
-use Rattle.ifr_expr.specs.Reading.{AreOpcodes}
+use Rattle.ifr_expr.specs.code.Bytes.{AreOpcodes}
 use Rattle.ifr_expr.proofs.OpcodeSteps.{cut_off}
-use Rattle.ifr_scopes.specs.Checked.{or_empty, node_in, has_node}
+use Rattle.ifr_scopes.specs.code.Checked.{or_empty, node_in, has_node}
 use Rattle.ifr_scopes.specs.Nodes.{nodes_of, end_of}
 use Rattle.ifr_scopes.proofs.PlaceLemmas.{StandsAt, stands_at, found_place}
 use Rattle.ifr_scopes.proofs.ViewLemmas.{some_there}
@@ -82,7 +84,7 @@ pub record Ends (bytes : List ℕ) (at depth to : ℕ) : Type 0 where
   pub there : at + up_to_end depth (opcodes_in (drop at bytes)) ≡ to
 
 -- the node at a place
-pub stands_there : (bytes : List ℕ) (place : ℕ) → Spells bytes (tree_of bytes) → has_node bytes place ≡ true → StandsAt bytes (node_in bytes place) × ((node_in bytes place).place ≡ place)
+pub stands_there : (bytes : List ℕ) (place : ℕ) → SpellsForest bytes (tree_of bytes) → has_node bytes place ≡ true → StandsAt bytes (node_in bytes place) × ((node_in bytes place).place ≡ place)
 unfolding node_in
 stands_there bytes place s there =
     let found = some_there _ there in
@@ -136,7 +138,7 @@ place_within bytes n s = elim (cases_Bool (has_scope n.op)) [
         omega (arith, long, ap length (s.spelled ∙ ap concat all), length-drop n.place bytes, length-append n.op (concat others))
 
 -- and so does its end
-pub end_within : (bytes : List ℕ) (place : ℕ) → Spells bytes (tree_of bytes) → has_node bytes place ≡ true → end_of (node_in bytes place) ≤ length bytes
+pub end_within : (bytes : List ℕ) (place : ℕ) → SpellsForest bytes (tree_of bytes) → has_node bytes place ≡ true → end_of (node_in bytes place) ≤ length bytes
 end_within bytes place s there =
     let n = node_in bytes place in
     let stood = (stands_there bytes place s there).0 in
@@ -144,7 +146,7 @@ end_within bytes place s there =
     let all = ap (λ (l : List ℕ). length l) (stood.spelled ∙ concat-append its stood.behind) in
     omega (arith, all, place_within bytes n stood, length-drop n.place bytes, length-append (concat its) (concat stood.behind))
 
-pub ends_first : (bytes : List ℕ) (place : ℕ) (first : Op) → Spells bytes (tree_of bytes) → has_node bytes place ≡ true → op_of first ≡ mark_at bytes place
+pub ends_first : (bytes : List ℕ) (place : ℕ) (first : Op) → SpellsForest bytes (tree_of bytes) → has_node bytes place ≡ true → op_of first ≡ mark_at bytes place
     → Ends bytes (place + length (bytes_of first)) (cond first.scope 1 0) (end_of (node_in bytes place))
 ends_first bytes place first s there e =
     let n = node_in bytes place in

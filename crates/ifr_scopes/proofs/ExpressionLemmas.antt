@@ -7,18 +7,19 @@ use Rattle.hii_bytes.specs.Cause.{number_of}
 use Rattle.hii_bytes.specs.declared.cause.Cause.{Cause}
 use Rattle.hii_bytes.specs.declared.cause.Cause.TheVariants.{NotFormSet, AfterFormSet, OpOutside, OpSize, Misplaced, ScopeBit, ExprShape, ExprDepth}
 use Rattle.ifr_opcodes.specs.Opcode.{number, has_scope}
-use Rattle.ifr_opcodes.specs.Forest.{Forest, none, node, flat, AreNodes, Spells, Mark, mark, Ancestor, Placed, as_ancestor, nodes}
+use Rattle.ifr_opcodes.specs.Forest.{Forest, none, node, flat, AreNodes, SpellsForest, Mark, Ancestor, Placed, as_ancestor, nodes}
+use Rattle.ifr_opcodes.specs.code.Marks.{mark}
 use Rattle.ifr_opcodes.specs.Operators.{is_operator}
 use Rattle.ifr_opcodes.proofs.ForestLemmas.{takes}
-use Rattle.ifr_expr.specs.Checked.{IsSized, AreSized}
+use Rattle.ifr_expr.specs.code.Checked.{IsSized, AreSized}
 use Rattle.ifr_expr.specs.Faults as expr
 use Rattle.ifr_expr.specs.Faults.{IsShapeFault, IsExpressionFault, StandsBehind}
 use Rattle.ifr_expr.specs.Trees.{Tree, Means, need, siblings, expression}
-use Rattle.ifr_expr.specs.Reading.{IsExpressionNode, opcodes_of}
+use Rattle.ifr_expr.specs.code.Bytes.{IsExpressionNode, opcodes_of}
 use Rattle.ifr_expr.proofs.NodeLemmas.{is_expression_node, opcodes_are}
 use Rattle.ifr_expr.proofs.ShapeLemmas.{no_shape}
 use Rattle.ifr_scopes.specs.Nodes.{end_of}
-use Rattle.ifr_scopes.specs.Structure.{has_fault, innermost, parent, is_condition, is_operand, is_root, has_wrong_scope, IsNodeFault}
+use Rattle.ifr_scopes.specs.Structure.{has_structure_fault, innermost, parent, is_condition, is_operand, is_root, has_wrong_scope, IsNodeFault}
 use Rattle.ifr_scopes.specs.Table.{class_of, class_around, admits}
 use Rattle.ifr_scopes.specs.declared.table.Row.{Row}
 use Rattle.ifr_scopes.specs.declared.table.Class.{Class}
@@ -79,7 +80,7 @@ shape_late at marks ExprShape place f = lit≤ tt
 shape_late at marks ExprDepth place f = lit≤ tt
 shape_late at marks _ place f = absurd f
 
-pub node_early : (n : Placed) (cause : Cause) → has_fault n cause ≡ true → number_of cause ≤ 30
+pub node_early : (n : Placed) (cause : Cause) → has_structure_fault n cause ≡ true → number_of cause ≤ 30
 node_early n NotFormSet h = lit≤ tt
 node_early n AfterFormSet h = lit≤ tt
 node_early n OpOutside h = lit≤ tt
@@ -118,7 +119,7 @@ in_class n p i =
 -- ---- what is wrong with an opcode by itself, as a node and as an opcode of an expression
 
 -- the expression's own opcode
-pub own_fault : (n : Placed) (cause : Cause) → is_operator (number n.op) ≡ true → expr.has_fault n.place (mark n) cause ≡ true → has_fault n cause ≡ true
+pub own_fault : (n : Placed) (cause : Cause) → is_operator (number n.op) ≡ true → expr.has_opcode_fault n.place (mark n) cause ≡ true → has_structure_fault n cause ≡ true
 own_fault n OpOutside operator h = h
 own_fault n OpSize operator h = h
 own_fault n Misplaced operator h = absurd (false≢true (sym (not_from_true (is_operator (number n.op)) operator) ∙ h))
@@ -126,7 +127,7 @@ own_fault n ScopeBit operator h = absurd (false≢true (sym (not_from_true (n.pl
 own_fault n _ operator h = absurd (false≢true h)
 
 -- an opcode in the expression's scope, whose fault has no greater number there
-pub inner_fault : (n p : Placed) (cause : Cause) → IsIn n p → p.place < n.place → 4 < n.place → has_fault n cause ≡ true → (other : Cause) × (expr.has_fault p.place (mark n) other ≡ true) × (number_of other ≤ number_of cause)
+pub inner_fault : (n p : Placed) (cause : Cause) → IsIn n p → p.place < n.place → 4 < n.place → has_structure_fault n cause ≡ true → (other : Cause) × (expr.has_opcode_fault p.place (mark n) other ≡ true) × (number_of other ≤ number_of cause)
 inner_fault n p NotFormSet i less some h = absurd (false≢true (sym (ne_eqb n.place 4 (λ e. omega arith)) ∙ and_first _ _ h))
 inner_fault n p AfterFormSet i less some h = absurd (false≢true (sym (in_is_no_root n p i) ∙ and_first _ _ h))
 inner_fault n p OpOutside i less some h = (OpOutside, h, lit≤ tt)
@@ -147,7 +148,7 @@ inner_fault n p ExprShape i less some h = elim (cases_Bool (is_operator (number 
 inner_fault n p _ i less some h = absurd (false≢true h)
 
 -- an operator that opens a scope inside of the expression's own
-scope_fault : (n p : Placed) → IsIn n p → is_operator (number n.op) ≡ true → has_scope n.op ≡ true → has_fault n ScopeBit ≡ true
+scope_fault : (n p : Placed) → IsIn n p → is_operator (number n.op) ≡ true → has_scope n.op ≡ true → has_structure_fault n ScopeBit ≡ true
 scope_fault n p i operator scoped =
     ap (λ (r : Option Row). has_wrong_scope r (is_operand n) n.op) (operator_row (number n.op) operator) ∙ and_from (is_operand n) (has_scope n.op) (in_is_operand n p i) scoped
 
@@ -168,12 +169,12 @@ is_sized (x ∷ marks) m all (suc k, lt, e) = is_sized marks m all.1 (k, omega a
 -- What is wrong with it is the Scope of a node in its own.
 pub read_fault : (f : Forest) (n : Placed) (cause : Cause) (place : ℕ) → Contains (nodes f) n → IsRead n → IsExpressionFault n.place (expression n.place n.op n.children) cause place → IsNodeFault (nodes f) cause place
 read_fault f n cause place within r (inr (clear, shape)) = absurd (no_shape n.place (expression n.place n.op n.children) r.tree r.means r.within cause place shape)
-read_fault f n cause place within r (inl (m, (zero, lt, e), here, there)) = absurd (own cause (ap (λ (x : Mark). expr.has_fault n.place x cause) e ∙ there))
+read_fault f n cause place within r (inl (m, (zero, lt, e), here, there)) = absurd (own cause (ap (λ (x : Mark). expr.has_opcode_fault n.place x cause) e ∙ there))
   where
     operator : is_operator (number n.op) ≡ true
     operator = r.sized.0.operator
 
-    own : (cause : Cause) → expr.has_fault n.place (mark n) cause ≡ true → ⊥
+    own : (cause : Cause) → expr.has_opcode_fault n.place (mark n) cause ≡ true → ⊥
     own OpOutside h = false≢true (sym (operator_inside n.op operator) ∙ h)
     own OpSize h = false≢true (sym r.sized.0.sized ∙ h)
     own Misplaced h = false≢true (sym (not_from_true _ operator) ∙ h)
@@ -184,7 +185,7 @@ read_fault f n cause place within r (inl (m, (suc k, lt, e), here, there)) = inn
     sized : IsSized m
     sized = is_sized (siblings (n.place + length n.op) n.children) m r.sized.1 (k, omega arith, e)
 
-    inner : (cause : Cause) → expr.has_fault n.place m cause ≡ true → IsNodeFault (nodes f) cause place
+    inner : (cause : Cause) → expr.has_opcode_fault n.place m cause ≡ true → IsNodeFault (nodes f) cause place
     inner OpOutside h = absurd (false≢true (sym (operator_inside m.op sized.operator) ∙ h))
     inner OpSize h = absurd (false≢true (sym sized.sized ∙ h))
     inner Misplaced h = absurd (false≢true (sym (not_from_true _ sized.operator) ∙ h))
@@ -204,7 +205,7 @@ pub record StandsFrom (bytes : List ℕ) (n : Placed) (from to : ℕ) : Type 0 w
   pub opcodes : opcodes_of from (slice_range bytes from to) ≡ expression n.place n.op n.children
   pub is_node : IsExpressionNode (slice_range bytes from to)
 
-pub stands_from : (bytes : List ℕ) (f : Forest) (n : Placed) (from to : ℕ) → Spells bytes f → Contains (nodes f) n → is_operator (number n.op) ≡ true → from ≡ n.place → to ≡ end_of n → StandsFrom bytes n from to
+pub stands_from : (bytes : List ℕ) (f : Forest) (n : Placed) (from to : ℕ) → SpellsForest bytes f → Contains (nodes f) n → is_operator (number n.op) ≡ true → from ≡ n.place → to ≡ end_of n → StandsFrom bytes n from to
 stands_from bytes f n from to s within operator begins ends =
     let its = flat (node n.op n.children none) in
     let stood = node_stands bytes f n s within in

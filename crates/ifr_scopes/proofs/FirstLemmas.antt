@@ -3,8 +3,9 @@ use Rattle.std.proofs.Common.{◌≡◌, ℕ, Bool, cond, true, false, Some, Non
 use Rattle.std.specs.List.{concat}
 use Rattle.ifr_opcodes.specs.Opcode.{number, has_scope, is_end, IsWhole}
 use Rattle.ifr_opcodes.specs.Forest.{Forest, none, node}
-use Rattle.ifr_opcodes.specs.Reading.{first, inside, opcodes_in, levels}
-use Rattle.ifr_scopes.specs.Walking.{IsWalking}
+use Rattle.ifr_opcodes.specs.Reading.{first_forest, opcodes_in, levels}
+use Rattle.ifr_opcodes.specs.code.Marks.{inside}
+use Rattle.ifr_scopes.specs.code.Walking.{IsWalking}
 use Rattle.ifr_scopes.specs.Structure.{first_number}
 use Rattle.ifr_opcodes.proofs.OpcodeLemmas.{AllWhole}
 use Rattle.ifr_scopes.proofs.WalkLemmas.{stepped}
@@ -14,7 +15,7 @@ first_level : (op : List ℕ) (ops : List (List ℕ)) → first_number (levels (
 unfolding levels
 first_level op ops = go (is_end op) (has_scope op)
   where
-    go : (b s : Bool) → first_number (cond {A = Forest × List Forest} b (none, (levels ops).0 ∷ (levels ops).1) (cond s (node op (levels ops).0 (first (levels ops).1), drop 1 (levels ops).1) (node op none (levels ops).0, (levels ops).1))).0 ≡ cond b None (Some (number op))
+    go : (b s : Bool) → first_number (cond {A = Forest × List Forest} b (none, (levels ops).0 ∷ (levels ops).1) (cond s (node op (levels ops).0 (first_forest (levels ops).1), drop 1 (levels ops).1) (node op none (levels ops).0, (levels ops).1))).0 ≡ cond b None (Some (number op))
     go true s = refl
     go false true = refl
     go false false = refl

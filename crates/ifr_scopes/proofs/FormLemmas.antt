@@ -8,7 +8,7 @@ use Rattle.ifr_opcodes.specs.Opcode.{number}
 use Rattle.ifr_opcodes.specs.Forest.{Ancestor}
 use Rattle.ifr_scopes.specs.Rules.{forms_among}
 
--- its place, or that of one before
+-- the place of the innermost form, or of one before
 abbrev pub innermost : Option ℕ → List Ancestor → Option ℕ
 innermost found [] = found
 innermost found (a ∷ path) = innermost (if number a.op == FORM then Some a.place else found) path

@@ -3,10 +3,10 @@ use Rattle.std.proofs.Common.{◌≡◌, ℕ, ◌+◌, ◌≤◌, Bool, true, fa
 use Rattle.std.specs.Prelude.{◌&&◌}
 use Rattle.std.specs.Option.{option_or}
 use Rattle.std.proofs.lemmas.Bool.{cases_Bool, eqb-true, ne_eqb, cond-true, cond-false, and_from, and_right}
-use Rattle.hii_bytes.specs.Faults.{Rise}
-use Rattle.ifr_opcodes.specs.Forest.{Placed, Spells, flat}
+use Rattle.hii_bytes.specs.code.FirstFaults.{Rise}
+use Rattle.ifr_opcodes.specs.Forest.{Placed, SpellsForest, flat}
 use Rattle.ifr_opcodes.specs.Reading.{tree_of}
-use Rattle.ifr_scopes.specs.Index.{kind_at, entry_of}
+use Rattle.ifr_scopes.specs.code.Index.{kind_at, entry_of}
 use Rattle.ifr_scopes.specs.Nodes.{nodes_of}
 use Rattle.ifr_scopes.proofs.PlaceLemmas.{nodes_within}
 use Rattle.ifr_scopes.proofs.StructureLemmas.{rising}
@@ -37,7 +37,7 @@ behind is low place (n ∷ ns) less r =
     passed is n ns place (and_right (is n) (eqb n.place place) other) ∙ behind is (n.place + 1) place ns (omega arith) r.1
 
 -- at the start all nodes of a package are left, and nothing is in the index
-pub at_start : {X : Type 0} (is : Placed → Bool) (entry : Placed → Option X) (all found : ℕ → Option X) (bytes : List ℕ) (left : List Placed) → Spells bytes (tree_of bytes) → left ≡ nodes_of bytes
+pub at_start : {X : Type 0} (is : Placed → Bool) (entry : Placed → Option X) (all found : ℕ → Option X) (bytes : List ℕ) (left : List Placed) → SpellsForest bytes (tree_of bytes) → left ≡ nodes_of bytes
     → ((place : ℕ) → found place ≡ None) → ((place : ℕ) → entry_of entry (kind_at is (nodes_of bytes) place) ≡ all place) → Indexes is entry all found left
 at_start is entry all found bytes left s e empty told = record {
   low = 4;

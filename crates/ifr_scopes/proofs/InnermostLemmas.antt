@@ -7,8 +7,8 @@ use Rattle.std.proofs.lemmas.Option.{slice_get_within, get_or_from_slice_get}
 use Rattle.hii_bytes.specs.declared.cause.Fault.{Fault}
 use Rattle.ifr_opcodes.specs.Forest.{Mark, Ancestor}
 use Rattle.ifr_opcodes.specs.Opcode.{IsWhole}
-use Rattle.ifr_opcodes.specs.Ops.{op_of}
-use Rattle.ifr_opcodes.specs.Reading.{mark_at, ancestor_at}
+use Rattle.ifr_opcodes.specs.code.Ops.{op_of}
+use Rattle.ifr_opcodes.specs.code.Marks.{mark_at, ancestor_at}
 use Rattle.ifr_opcodes.specs.declared.op.Op.{Op}
 use Rattle.ifr_scopes.specs.Structure.{innermost}
 

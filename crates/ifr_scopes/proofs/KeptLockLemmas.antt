@@ -3,11 +3,12 @@ use Rattle.std.proofs.Common.{◌≡◌, ℕ, Bool, true, Option, Some, None, Li
 use Rattle.std.specs.Prelude.{Contains, option_map, filter}
 use Rattle.std.specs.List.{flat_map}
 use Rattle.std.proofs.lemmas.Bool.{cases_Bool, cond-true, cond-false, and_parts}
-use Rattle.ifr_opcodes.specs.Forest.{Placed, Spells}
+use Rattle.ifr_opcodes.specs.Forest.{Placed, SpellsForest}
 use Rattle.ifr_opcodes.specs.Reading.{tree_of}
-use Rattle.ifr_scopes.specs.Checked.{node_in, has_node}
-use Rattle.ifr_scopes.specs.Index.{indexed_at, entry_of, lock_of_indexed, lock_place_at}
-use Rattle.ifr_scopes.specs.Locks.{is_locked, locks_scope, locked_in, chain, first, first_lock, lock_place}
+use Rattle.ifr_scopes.specs.code.Checked.{node_in, has_node}
+use Rattle.ifr_scopes.specs.code.Index.{indexed_at, entry_of, lock_of_indexed, lock_place_at}
+use Rattle.ifr_scopes.specs.Locks.{is_locked, locks_scope, locked_in, chain, first_of_nodes, first_lock}
+use Rattle.ifr_scopes.specs.code.LockIndex.{lock_place}
 use Rattle.ifr_scopes.specs.Nodes.{nodes_of}
 use Rattle.ifr_scopes.proofs.ViewLemmas.{further, node_in_place, is_at}
 
@@ -16,23 +17,23 @@ record IsLockOf (ns : List Placed) (lock : Placed) : Type 0 where
   within : Contains ns lock
   locked : is_locked lock ≡ true
 
-first-filter : (is : Placed → Bool) (ns : List Placed) (lock : Placed) → first (filter is ns) ≡ Some lock → Contains ns lock × (is lock ≡ true)
+first-filter : (is : Placed → Bool) (ns : List Placed) (lock : Placed) → first_of_nodes (filter is ns) ≡ Some lock → Contains ns lock × (is lock ≡ true)
 first-filter is [] lock e = absurd cc
 first-filter is (n ∷ ns) lock e = elim (cases_Bool (is n)) [
   | inl here ↦
-      let same : n ≡ lock = cc (sym (ap first (cond-true (is n) (n ∷ filter is ns) (filter is ns) here)) ∙ e) in
+      let same : n ≡ lock = cc (sym (ap first_of_nodes (cond-true (is n) (n ∷ filter is ns) (filter is ns) here)) ∙ e) in
       ((0, omega arith, same), ap is (sym same) ∙ here)
   | inr later ↦
-      let its = first-filter is ns lock (sym (ap first (cond-false (is n) (n ∷ filter is ns) (filter is ns) later)) ∙ e) in
+      let its = first-filter is ns lock (sym (ap first_of_nodes (cond-false (is n) (n ∷ filter is ns) (filter is ns) later)) ∙ e) in
       (further n ns lock its.0, its.1)
 ]
 
-first_along : (ns : List Placed) (places : List ℕ) (lock : Placed) → first (flat_map (locked_in ns) places) ≡ Some lock → IsLockOf ns lock
+first_along : (ns : List Placed) (places : List ℕ) (lock : Placed) → first_of_nodes (flat_map (locked_in ns) places) ≡ Some lock → IsLockOf ns lock
 first_along ns [] lock e = absurd cc
 first_along ns (place ∷ places) lock e = go (locked_in ns place) (first-filter (locks_scope place) ns lock) (first_along ns places lock) e
   where
-    go : (its : List Placed) → (first its ≡ Some lock → Contains ns lock × (locks_scope place lock ≡ true)) → (first (flat_map (locked_in ns) places) ≡ Some lock → IsLockOf ns lock)
-        → first (its ++ flat_map (locked_in ns) places) ≡ Some lock → IsLockOf ns lock
+    go : (its : List Placed) → (first_of_nodes its ≡ Some lock → Contains ns lock × (locks_scope place lock ≡ true)) → (first_of_nodes (flat_map (locked_in ns) places) ≡ Some lock → IsLockOf ns lock)
+        → first_of_nodes (its ++ flat_map (locked_in ns) places) ≡ Some lock → IsLockOf ns lock
     go [] here later e = later e
     go (m ∷ ms) here later e = let is = here e in record { within = is.0; locked = (and_parts _ _ is.1).0 }
 
@@ -50,7 +51,7 @@ pub record IsLock (bytes : List ℕ) (place lock : ℕ) : Type 0 where
   pub locked : is_locked (node_in bytes lock) ≡ true
   pub is : lock_of_indexed (nodes_of bytes) place ≡ Some (node_in bytes lock)
 
-pub lock_some : (bytes : List ℕ) (place lock : ℕ) → Spells bytes (tree_of bytes) → Some lock ≡ lock_place_at (nodes_of bytes) place → IsLock bytes place lock
+pub lock_some : (bytes : List ℕ) (place lock : ℕ) → SpellsForest bytes (tree_of bytes) → Some lock ≡ lock_place_at (nodes_of bytes) place → IsLock bytes place lock
 lock_some bytes place lock s e = go (lock_of_indexed (nodes_of bytes) place) refl (e ∙ place_of (nodes_of bytes) (indexed_at (nodes_of bytes) place))
   where
     go : (found : Option Placed) → lock_of_indexed (nodes_of bytes) place ≡ found → Some lock ≡ option_map (λ (l : Placed). l.place) found → IsLock bytes place lock

@@ -8,7 +8,8 @@ use Rattle.std.specs.Ordering.{nat_cmp}
 use Rattle.std.proofs.lemmas.Bool.Decides.{nat_tests}
 use Rattle.std.proofs.lemmas.List.{at_drop_more}
 use Rattle.ifr_opcodes.specs.Forest.{Placed}
-use Rattle.ifr_scopes.specs.Locks.{locked_in, chain, first, first_place, lock_place, first_some}
+use Rattle.ifr_scopes.specs.Locks.{locked_in, chain, first_of_nodes}
+use Rattle.ifr_scopes.specs.code.LockIndex.{first_place, lock_place, first_some}
 
 -- What was found so far, else the first of those that are left, is the first of all.
 abbrev pub Finds : (ℕ → Option ℕ) → (ℕ → Option ℕ) → List Placed → Type 0
@@ -24,11 +25,11 @@ passed found places i lt none = sym (at_drop_more (first_some found) places i 0 
 pub found_next : (found : ℕ → Option ℕ) (places : List ℕ) (i x : ℕ) → i < length places → found (get_or places i 0) ≡ Some x → first_some found (drop i places) ≡ Some x
 found_next found places i x lt some = at_drop_more (first_some found) places i 0 lt ∙ ap (λ (o : Option ℕ). option_or o (first_some found (drop (i + 1) places))) some
 
-first-append : (xs ys : List Placed) → option_map (λ (n : Placed). n.place) (first (xs ++ ys)) ≡ option_or (option_map (λ (n : Placed). n.place) (first xs)) (option_map (λ (n : Placed). n.place) (first ys))
+first-append : (xs ys : List Placed) → option_map (λ (n : Placed). n.place) (first_of_nodes (xs ++ ys)) ≡ option_or (option_map (λ (n : Placed). n.place) (first_of_nodes xs)) (option_map (λ (n : Placed). n.place) (first_of_nodes ys))
 first-append [] ys = refl
 first-append (x ∷ xs) ys = refl
 
-first-flat_map : (ns : List Placed) (places : List ℕ) → option_map (λ (n : Placed). n.place) (first (flat_map (locked_in ns) places)) ≡ first_some (first_place ns) places
+first-flat_map : (ns : List Placed) (places : List ℕ) → option_map (λ (n : Placed). n.place) (first_of_nodes (flat_map (locked_in ns) places)) ≡ first_some (first_place ns) places
 first-flat_map ns [] = refl
 first-flat_map ns (place ∷ places) = first-append (locked_in ns place) (flat_map (locked_in ns) places) ∙ ap (option_or (first_place ns place)) (first-flat_map ns places)
 

@@ -3,17 +3,20 @@ use Rattle.std.proofs.Common.{◌≡◌, ℕ, Bool, true, false, cond, eqb, Opti
 use Rattle.std.specs.Prelude.{Contains, option_map, is_some, IsSome, ◌||◌}
 use Rattle.std.specs.List.{AllByRecursion, last_or, list_any}
 use Rattle.std.proofs.lemmas.Bool.{cases_Bool, eqb-true}
-use Rattle.hii_bytes.specs.Faults.{first_cause}
+use Rattle.hii_bytes.specs.code.FirstFaults.{first_cause}
 use Rattle.hii_bytes.specs.declared.cause.Cause.TheVariants.{RuleTooLarge}
 use Rattle.ifr_opcodes.specs.declared.codes.TheConstants.{FORM, REF, RULE}
 use Rattle.ifr_opcodes.specs.Opcode.{number}
 use Rattle.ifr_opcodes.specs.Forest.{Ancestor, Placed}
 use Rattle.ifr_opcodes.specs.Reading.{tree_of}
-use Rattle.ifr_scopes.specs.Checked.{IsChecked, node_in, has_node}
+use Rattle.ifr_scopes.specs.Checked.{IsChecked}
+use Rattle.ifr_scopes.specs.code.Checked.{node_in, has_node}
 use Rattle.ifr_scopes.specs.Nodes.{nodes_of, is_form, is_question, is_reference, end_of}
 use Rattle.ifr_opcodes.specs.Statements.{is_question_number}
-use Rattle.ifr_scopes.specs.References.{has_fault, causes, has_form_id, has_question_id}
-use Rattle.ifr_scopes.specs.Rules.{is_rule, as_rule, forms_among, form_end, end_or_0, rules_among, size, is_too_large, fitting_size, scope_end}
+use Rattle.ifr_scopes.specs.References.{has_reference_fault, has_form_id, has_question_id}
+use Rattle.ifr_scopes.specs.code.Causes.{reference_causes}
+use Rattle.ifr_scopes.specs.Rules.{is_rule, as_rule, forms_among, form_end, end_or_0, rules_among, size, is_rule_too_large, scope_end}
+use Rattle.ifr_scopes.specs.code.Rules.{fitting_size}
 use Rattle.ifr_scopes.specs.declared.rules.RuleSize.{RuleSize}
 use Rattle.ifr_scopes.proofs.ScopeLemmas.{IsOf, path_is_of}
 use Rattle.ifr_scopes.proofs.RuleFacts.{rule_fact}
@@ -75,24 +78,24 @@ no_question n is = ap is_question_number (eqb-true (number n.op) RULE is) ∙ no
 no_reference : (n : Placed) → is_rule n ≡ true → is_reference n ≡ false
 no_reference n is = ap (λ (k : ℕ). eqb k REF) (eqb-true (number n.op) RULE is)
 
-large : (s : RuleSize) → None ≡ fitting_size s → is_too_large s ≡ true
-large s e = go (is_too_large s) e
+large : (s : RuleSize) → None ≡ fitting_size s → is_rule_too_large s ≡ true
+large s e = go (is_rule_too_large s) e
   where
     go : (b : Bool) → None ≡ cond b None (Some s) → b ≡ true
     go true e = refl
     go false e = absurd cc
 
-fitting : (s t : RuleSize) → Some t ≡ fitting_size s → (is_too_large s ≡ false) × (t ≡ s)
-fitting s t e = go (is_too_large s) e
+fitting : (s t : RuleSize) → Some t ≡ fitting_size s → (is_rule_too_large s ≡ false) × (t ≡ s)
+fitting s t e = go (is_rule_too_large s) e
   where
     go : (b : Bool) → Some t ≡ cond b None (Some s) → (b ≡ false) × (t ≡ s)
     go true e = absurd cc
     go false e = (refl, cc)
 
-pub told_large : (ns before : List Placed) (n : Placed) → is_rule n ≡ true → None ≡ fitting_size (size (rules_among before) (as_rule n)) → Some RuleTooLarge ≡ first_cause (has_fault ns) (record { before = before; node = n }) causes
+pub told_large : (ns before : List Placed) (n : Placed) → is_rule n ≡ true → None ≡ fitting_size (size (rules_among before) (as_rule n)) → Some RuleTooLarge ≡ first_cause (has_reference_fault ns) (record { before = before; node = n }) reference_causes
 told_large ns before n is e = rw (no_form n is, no_question n is, no_reference n is, is, large (size (rules_among before) (as_rule n)) e) refl
 
-pub told_none : (ns before : List Placed) (n : Placed) (s : RuleSize) → is_rule n ≡ true → Some s ≡ fitting_size (size (rules_among before) (as_rule n)) → None ≡ first_cause (has_fault ns) (record { before = before; node = n }) causes
+pub told_none : (ns before : List Placed) (n : Placed) (s : RuleSize) → is_rule n ≡ true → Some s ≡ fitting_size (size (rules_among before) (as_rule n)) → None ≡ first_cause (has_reference_fault ns) (record { before = before; node = n }) reference_causes
 told_none ns before n s is e = rw (no_form n is, no_question n is, no_reference n is, is, (fitting (size (rules_among before) (as_rule n)) s e).0) refl
 
 pub its_size : (before : List Placed) (n : Placed) (s : RuleSize) → Some s ≡ fitting_size (size (rules_among before) (as_rule n)) → s ≡ size (rules_among before) (as_rule n)

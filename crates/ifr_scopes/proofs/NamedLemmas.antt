@@ -9,8 +9,8 @@ use Rattle.ifr_opcodes.specs.Forest.{Placed}
 use Rattle.ifr_expr.specs.Meaning.{names}
 use Rattle.ifr_scopes.specs.Nodes.{end_of}
 use Rattle.ifr_scopes.specs.Rules.{as_rule, form_end}
-use Rattle.ifr_scopes.specs.RuleNodes.{Descend}
-use Rattle.ifr_scopes.specs.KeptRules.{kept_rule, kept_named, kept_at, has_key, key_cmp}
+use Rattle.ifr_scopes.specs.code.RuleNodes.{Descend}
+use Rattle.ifr_scopes.specs.code.KeptRules.{kept_rule, kept_named, kept_at, has_key, key_cmp}
 use Rattle.ifr_scopes.specs.declared.rules.KeptRule.{KeptRule}
 use Rattle.ifr_opcodes.proofs.StatementLemmas.{and_first, and_second}
 use Rattle.ifr_scopes.proofs.ViewLemmas.{further}

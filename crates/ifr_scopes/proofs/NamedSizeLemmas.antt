@@ -8,7 +8,8 @@ use Rattle.ifr_opcodes.specs.declared.codes.TheConstants.{RULE_REF}
 use Rattle.ifr_opcodes.specs.Fields.{rule_ref_rule}
 use Rattle.ifr_opcodes.specs.Forest.{Mark, Placed}
 use Rattle.ifr_opcodes.specs.Opcode.{number}
-use Rattle.ifr_expr.specs.Meaning.{Rule, AreOrdered, names, named}
+use Rattle.ifr_expr.specs.Meaning.{Rule, names}
+use Rattle.ifr_expr.specs.code.Rules.{AreOrdered, named}
 use Rattle.ifr_expr.specs.References.{references, references_among}
 use Rattle.ifr_expr.specs.Trees.{Tree, post}
 use Rattle.ifr_expr.specs.declared.references.RuleReference.{RuleReference}
@@ -16,7 +17,8 @@ use Rattle.ifr_expr.proofs.RuleLemmas.{Below, found_by}
 use Rattle.ifr_scopes.specs.Accepted.{IsAccepted}
 use Rattle.ifr_scopes.specs.Nodes.{nodes_of}
 use Rattle.ifr_scopes.specs.References.{Ranked, ranked}
-use Rattle.ifr_scopes.specs.Rules.{is_rule, as_rule, rules_among, rules_of, rule_sizes, size, size_over, greatest}
+use Rattle.ifr_scopes.specs.Rules.{is_rule, as_rule, rules_among, rule_sizes, size, size_over, greatest}
+use Rattle.ifr_scopes.specs.code.Rules.{rules_of}
 use Rattle.ifr_scopes.specs.declared.rules.RuleSize.{RuleSize}
 use Rattle.ifr_scopes.proofs.KeptRuleLemmas.{one_rule, no_rule}
 use Rattle.ifr_scopes.proofs.ViewLemmas.{further}

@@ -6,12 +6,13 @@ use Rattle.std.proofs.lemmas.Bool.{cases_Bool, eqb-true}
 use Rattle.std.proofs.lemmas.List.Elements.{All-from_recursion, All-head}
 use Rattle.ifr_opcodes.specs.declared.codes.TheConstants.{NO_SUBMIT_IF}
 use Rattle.ifr_opcodes.specs.Opcode.{number}
-use Rattle.ifr_opcodes.specs.Forest.{Placed, Spells, node_at}
+use Rattle.ifr_opcodes.specs.Forest.{Placed, SpellsForest, node_at}
 use Rattle.ifr_opcodes.specs.Reading.{tree_of}
-use Rattle.ifr_scopes.specs.Checked.{IsChecked, has_node, node_in, or_empty}
+use Rattle.ifr_scopes.specs.Checked.{IsChecked}
+use Rattle.ifr_scopes.specs.code.Checked.{has_node, node_in, or_empty}
 use Rattle.ifr_scopes.specs.Guards.{guards}
-use Rattle.ifr_scopes.specs.Index.{guards_of_indexed}
-use Rattle.ifr_scopes.specs.KeptNoSubmits.{parent_place, kept_no_submit, IsKeptNoSubmit, AreKeptNoSubmits}
+use Rattle.ifr_scopes.specs.code.Index.{guards_of_indexed}
+use Rattle.ifr_scopes.specs.code.KeptNoSubmits.{parent_place, kept_no_submit, IsKeptNoSubmit, AreKeptNoSubmits}
 use Rattle.ifr_scopes.specs.Kinds.{is_condition_number}
 use Rattle.ifr_scopes.specs.Nodes.{nodes_of, is_no_submit, this_of}
 use Rattle.ifr_scopes.specs.declared.no_submits.NoSubmitPlace.{NoSubmitPlace}
@@ -25,7 +26,7 @@ all_kept ns = map kept_no_submit (filter is_no_submit ns)
 
 -- ---- those of a package
 
-is_kept : (bytes : List ℕ) (n : Placed) → Spells bytes (tree_of bytes) → Contains (nodes_of bytes) n → is_no_submit n ≡ true → IsKeptNoSubmit bytes (kept_no_submit n)
+is_kept : (bytes : List ℕ) (n : Placed) → SpellsForest bytes (tree_of bytes) → Contains (nodes_of bytes) n → is_no_submit n ≡ true → IsKeptNoSubmit bytes (kept_no_submit n)
 is_kept bytes n s within is =
     let at = is_at bytes n s within in
     let same : node_in bytes n.place ≡ n = node_in_place bytes n s within in
@@ -36,7 +37,7 @@ is_kept bytes n s within is =
       within = ap this_of (sym same);
     }
 
-are_kept : (bytes : List ℕ) (ns : List Placed) → Spells bytes (tree_of bytes) → ((n : Placed) → Contains ns n → Contains (nodes_of bytes) n) → AllByRecursion (IsKeptNoSubmit bytes) (all_kept ns)
+are_kept : (bytes : List ℕ) (ns : List Placed) → SpellsForest bytes (tree_of bytes) → ((n : Placed) → Contains ns n → Contains (nodes_of bytes) n) → AllByRecursion (IsKeptNoSubmit bytes) (all_kept ns)
 are_kept bytes [] s within = tt
 are_kept bytes (n ∷ ns) s within =
     let later = are_kept bytes ns s (λ m w. within m (further n ns m w)) in
@@ -49,7 +50,7 @@ are_kept bytes (n ∷ ns) s within =
 abbrev pub kept_again : List ℕ → List NoSubmitPlace → List Placed
 kept_again bytes kept = map (λ one. node_in bytes one.place) kept
 
-again : (bytes : List ℕ) (ns : List Placed) → Spells bytes (tree_of bytes) → ((n : Placed) → Contains ns n → Contains (nodes_of bytes) n) → kept_again bytes (all_kept ns) ≡ filter is_no_submit ns
+again : (bytes : List ℕ) (ns : List Placed) → SpellsForest bytes (tree_of bytes) → ((n : Placed) → Contains ns n → Contains (nodes_of bytes) n) → kept_again bytes (all_kept ns) ≡ filter is_no_submit ns
 again bytes [] s within = refl
 again bytes (n ∷ ns) s within =
     let later = again bytes ns s (λ m w. within m (further n ns m w)) in
@@ -58,12 +59,12 @@ again bytes (n ∷ ns) s within =
       | inr other ↦ rw other later
     ]
 
--- They are kept, and stand for their nodes.
+-- The NO_SUBMIT_IFs are kept, and stand for their nodes.
 pub record Keeps (bytes : List ℕ) (kept : List NoSubmitPlace) : Type 0 where
   pub conditions : AreKeptNoSubmits bytes kept
   pub again : kept_again bytes kept ≡ filter is_no_submit (nodes_of bytes)
 
-pub keeps : (bytes : List ℕ) (kept : List NoSubmitPlace) → Spells bytes (tree_of bytes) → kept ≡ all_kept (nodes_of bytes) → Keeps bytes kept
+pub keeps : (bytes : List ℕ) (kept : List NoSubmitPlace) → SpellsForest bytes (tree_of bytes) → kept ≡ all_kept (nodes_of bytes) → Keeps bytes kept
 keeps bytes kept s e =
     subst (Keeps bytes) (sym e)
     (record {

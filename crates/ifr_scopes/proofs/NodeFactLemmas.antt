@@ -11,15 +11,17 @@ use Rattle.ifr_opcodes.specs.Operators.{is_operator}
 use Rattle.ifr_opcodes.specs.declared.codes.TheConstants.{GUID, VARSTORE_EFI, ONE_OF_OPTION, DEFAULT, VALUE}
 use Rattle.ifr_opcodes.specs.declared.kinds.TheConstants.{TYPE_BOOLEAN, TYPE_REF}
 use Rattle.ifr_opcodes.specs.Statements.{is_question_number, is_statement_number}
-use Rattle.ifr_opcodes.specs.Forest.{Forest, none, node, mark, Placed, as_ancestor, nodes_at, nodes, below}
+use Rattle.ifr_opcodes.specs.Forest.{Forest, none, node, Placed, as_ancestor, nodes_at, nodes, below}
+use Rattle.ifr_opcodes.specs.code.Marks.{mark}
 use Rattle.ifr_opcodes.specs.Reading.{tree_of}
 use Rattle.ifr_expr.specs.Faults.{IsExpressionFault}
 use Rattle.ifr_expr.specs.Trees.{expression}
 use Rattle.ifr_scopes.specs.Table.{wants_expression, wants_value}
 use Rattle.ifr_scopes.specs.Nodes.{nodes_of, is_form_set}
-use Rattle.ifr_scopes.specs.Structure.{has_fault, first_number, lacks_expression, lacks_value, parent, begins_scope, is_condition}
-use Rattle.ifr_scopes.specs.Checked.{IsChecked, IsAt, node_in}
-use Rattle.ifr_scopes.specs.Views.{node_of}
+use Rattle.ifr_scopes.specs.Structure.{has_structure_fault, first_number, lacks_expression, lacks_value, parent, begins_scope, is_condition}
+use Rattle.ifr_scopes.specs.Checked.{IsChecked}
+use Rattle.ifr_scopes.specs.code.Checked.{IsAt, node_in}
+use Rattle.ifr_scopes.specs.code.Views.{node_of}
 use Rattle.ifr_scopes.specs.declared.node.Node.{Node}
 use Rattle.ifr_scopes.proofs.ExpressionLemmas.{innermost-push}
 use Rattle.ifr_opcodes.proofs.StatementLemmas.{question_row, statement_row}
@@ -31,8 +33,8 @@ is_node bytes place op checked at =
     let there = node_there bytes place op checked.spelled at in
     subst (λ (n : Placed). Contains (nodes_of bytes) n) (sym there.3) there.2
 
-pub no_fault : (bytes : List ℕ) (n : Placed) (cause : Cause) → IsChecked bytes → Contains (nodes_of bytes) n → has_fault n cause ≡ false
-no_fault bytes n cause checked within = elim (cases_Bool (has_fault n cause)) [
+pub no_fault : (bytes : List ℕ) (n : Placed) (cause : Cause) → IsChecked bytes → Contains (nodes_of bytes) n → has_structure_fault n cause ≡ false
+no_fault bytes n cause checked within = elim (cases_Bool (has_structure_fault n cause)) [
   | inl bad ↦ absurd (checked.sound cause n.place (inr (inl (n, within, refl, bad))))
   | inr good ↦ good
 ]
@@ -73,7 +75,7 @@ kept : (bytes : List ℕ) (place : ℕ) (op : List ℕ) → IsChecked bytes → 
 kept bytes place op checked at =
     ap is_left_out (sym at.opcode) ∙ (or_parts _ _ (no_fault bytes (node_in bytes place) OpOutside checked (is_node bytes place op checked at))).1
 
--- an option's value is a number or a Boolean, and a default's kind is defined
+-- an option's value is a number or a Boolean, and a default's Type is defined
 pub option_numeric : (bytes : List ℕ) (place : ℕ) (op : List ℕ) → IsChecked bytes → IsAt bytes place op → eqb (number (node_in bytes place).op) ONE_OF_OPTION ≡ true → option_kind op ≤ TYPE_BOOLEAN
 option_numeric bytes place op checked at is =
     let has = has_fields bytes place op ONE_OF_OPTION checked at is in
@@ -105,7 +107,7 @@ statement_long bytes place op checked at is =
 
 -- ---- what wants an expression begins with one
 
--- It begins with an operator, whose expression has no fault.
+-- The scope begins with an operator, whose expression has no fault.
 pub record HasCondition (bytes : List ℕ) (n : Placed) : Type 0 where
   pub op : List ℕ
   pub children : Forest

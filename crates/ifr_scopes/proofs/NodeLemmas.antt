@@ -5,12 +5,14 @@ use Rattle.std.proofs.lemmas.List.{append-nil, take_at, length-append, map-appen
 use Rattle.std.proofs.lemmas.Bool.{ne_eqb, lt-ltb, ltb-true, cases_Bool, cond_both}
 use Rattle.ifr_opcodes.specs.declared.codes.TheConstants.{END}
 use Rattle.ifr_opcodes.specs.Opcode.{number, has_scope, end, is_end}
-use Rattle.ifr_opcodes.specs.Forest.{Forest, none, node, opcodes, flat, height, AreNodes, Spells, Mark, Ancestor, Placed, mark, nodes_at, nodes}
-use Rattle.ifr_opcodes.specs.Reading.{opcodes_in, levels, inside}
+use Rattle.ifr_opcodes.specs.Forest.{Forest, none, node, opcodes, flat, height, AreNodes, SpellsForest, Mark, Ancestor, Placed, nodes_at, nodes}
+use Rattle.ifr_opcodes.specs.code.Marks.{mark}
+use Rattle.ifr_opcodes.specs.Reading.{opcodes_in, levels}
+use Rattle.ifr_opcodes.specs.code.Marks.{inside}
 use Rattle.ifr_opcodes.proofs.OpcodeLemmas.{AllWhole}
 use Rattle.ifr_opcodes.proofs.ForestLemmas.{all_whole, opcodes_scoped, opcodes_plain, opcodes_in_spelled, children_again, size_scoped, size_plain}
-use Rattle.ifr_scopes.specs.Walking.{scan, is_shallow}
-use Rattle.ifr_scopes.specs.Visits.{under}
+use Rattle.ifr_scopes.specs.code.Walking.{scan, is_shallow}
+use Rattle.ifr_scopes.specs.code.Visits.{under}
 
 -- the END of the scope around all ends a walk
 pub scan_out : (at : ℕ) (ops : List (List ℕ)) → scan at [] (end ∷ ops) ≡ []
@@ -72,7 +74,7 @@ scan-opcodes (node op children rest) at path more h =
     ]
 
 -- a walk from the start meets all nodes
-pub scan_all : (bytes : List ℕ) (f : Forest) → Spells bytes f → scan 4 [] (opcodes_in (drop 4 bytes)) ≡ nodes f
+pub scan_all : (bytes : List ℕ) (f : Forest) → SpellsForest bytes f → scan 4 [] (opcodes_in (drop 4 bytes)) ≡ nodes f
 unfolding scan
 scan_all bytes f s =
     ap (scan 4 []) (opcodes_in_spelled (drop 4 bytes) (opcodes f) (all_whole f s.are_nodes) s.spelled ∙ sym (append-nil (opcodes f)))

@@ -5,14 +5,14 @@ use Rattle.std.specs.List.{AllByRecursion}
 use Rattle.std.proofs.lemmas.Bool.{cases_Bool, eq-eqb, eqb-true, ne_eqb, cond-true, cond-false, and_parts, and_from, and_right}
 use Rattle.std.proofs.lemmas.List.Elements.{All-from_recursion, Contains-get_or}
 use Rattle.ifr_opcodes.specs.Opcode.{number}
-use Rattle.ifr_opcodes.specs.Forest.{flat, Ancestor, Placed, as_ancestor, below, Spells}
+use Rattle.ifr_opcodes.specs.Forest.{flat, Ancestor, Placed, as_ancestor, below, SpellsForest}
 use Rattle.ifr_opcodes.specs.Reading.{tree_of}
 use Rattle.ifr_scopes.specs.Guards.{is_guard, node_within, nodes_on, guards, guards_among}
-use Rattle.ifr_scopes.specs.Index.{is_indexed, kind_at, indexed_at, entry_of, or_none, guards_of_indexed, lock_of_indexed}
-use Rattle.ifr_scopes.specs.Kept.{IsKept, AreKept, kept_guard, kept_guards, kept_at}
+use Rattle.ifr_scopes.specs.code.Index.{is_indexed, kind_at, indexed_at, entry_of, or_none, guards_of_indexed, lock_of_indexed}
+use Rattle.ifr_scopes.specs.code.Kept.{IsKept, AreKept, kept_guard, kept_guards, kept_at}
 use Rattle.ifr_scopes.specs.Locks.{first_lock}
 use Rattle.ifr_scopes.specs.Nodes.{nodes_of, is_statement, statements, this_of}
-use Rattle.ifr_scopes.specs.Checked.{IsNodeOf, AreNodesOf, node_in}
+use Rattle.ifr_scopes.specs.code.Checked.{IsNodeOf, AreNodesOf, node_in}
 use Rattle.ifr_scopes.specs.declared.guard_place.GuardPlace.{GuardPlace}
 use Rattle.ifr_scopes.proofs.ScopeLemmas.{IsScopeOf, Nest, path_nests}
 use Rattle.ifr_scopes.proofs.ViewLemmas.{is_at, node_in_place, further, below_within, contains_found}
@@ -23,7 +23,7 @@ node_of_scope : (ns : List Placed) (around : List Ancestor) (a : Ancestor) → I
 node_of_scope ns around a s =
     subst (λ (b : Ancestor). Contains ns (node_within around b)) s.is (subst (λ (path : List Ancestor). Contains ns (node_within path (as_ancestor s.node))) s.path s.within)
 
-is_kept : (bytes : List ℕ) (n : Placed) → Spells bytes (tree_of bytes) → Contains (nodes_of bytes) n → is_guard (number n.op) ≡ true → IsKept bytes (kept_guard n)
+is_kept : (bytes : List ℕ) (n : Placed) → SpellsForest bytes (tree_of bytes) → Contains (nodes_of bytes) n → is_guard (number n.op) ≡ true → IsKept bytes (kept_guard n)
 is_kept bytes n s within guards =
     let at = is_at bytes n s within in
     record {
@@ -31,7 +31,7 @@ is_kept bytes n s within guards =
       within = ap this_of (sym (node_in_place bytes n s within));
     }
 
-are_kept : (bytes : List ℕ) (around path : List Ancestor) → Spells bytes (tree_of bytes) → Nest (nodes_of bytes) around path
+are_kept : (bytes : List ℕ) (around path : List Ancestor) → SpellsForest bytes (tree_of bytes) → Nest (nodes_of bytes) around path
     → AllByRecursion (IsKept bytes) (map kept_guard (guards_among (nodes_on around path)))
 are_kept bytes around [] s nest = tt
 are_kept bytes around (a ∷ path) s nest = elim (cases_Bool (is_guard (number a.op))) [
@@ -43,7 +43,7 @@ are_kept bytes around (a ∷ path) s nest = elim (cases_Bool (is_guard (number a
 abbrev pub guards_again : List ℕ → List GuardPlace → List Placed
 guards_again bytes kept = map (λ guard. node_in bytes guard.place) kept
 
-again : (bytes : List ℕ) (around path : List Ancestor) → Spells bytes (tree_of bytes) → Nest (nodes_of bytes) around path
+again : (bytes : List ℕ) (around path : List Ancestor) → SpellsForest bytes (tree_of bytes) → Nest (nodes_of bytes) around path
     → guards_again bytes (map kept_guard (guards_among (nodes_on around path))) ≡ guards_among (nodes_on around path)
 again bytes around [] s nest = refl
 again bytes around (a ∷ path) s nest =
@@ -59,7 +59,7 @@ pub record Keeps (bytes : List ℕ) (kept : List GuardPlace) (its : List Placed)
   pub guards : AreKept bytes kept
   pub again : guards_again bytes kept ≡ its
 
-pub keeps : (bytes : List ℕ) (n : Placed) → Spells bytes (tree_of bytes) → Contains (nodes_of bytes) n → Keeps bytes (kept_guards n) (guards n)
+pub keeps : (bytes : List ℕ) (n : Placed) → SpellsForest bytes (tree_of bytes) → Contains (nodes_of bytes) n → Keeps bytes (kept_guards n) (guards n)
 keeps bytes n s within =
     let nest = path_nests bytes n within in
     record { guards = All-from_recursion (λ guard. IsKept bytes guard) (kept_guards n) (are_kept bytes [] n.path s nest); again = again bytes [] n.path s nest }
@@ -84,7 +84,7 @@ find_within is (m ∷ ns) place n e = elim (cases_Bool (is m && eqb m.place plac
       record { within = further m ns n its.within; holds = its.holds; placed = its.placed }
 ]
 
-pub kept_some : (bytes : List ℕ) (place : ℕ) (kept : List GuardPlace) → Spells bytes (tree_of bytes) → Some kept ≡ kept_at (nodes_of bytes) place → Keeps bytes kept (guards_of_indexed (nodes_of bytes) place)
+pub kept_some : (bytes : List ℕ) (place : ℕ) (kept : List GuardPlace) → SpellsForest bytes (tree_of bytes) → Some kept ≡ kept_at (nodes_of bytes) place → Keeps bytes kept (guards_of_indexed (nodes_of bytes) place)
 kept_some bytes place kept s e = go (indexed_at (nodes_of bytes) place) refl e
   where
     go : (o : Option Placed) → indexed_at (nodes_of bytes) place ≡ o → Some kept ≡ entry_of (λ m. Some (kept_guards m)) o → Keeps bytes kept (guards_of_indexed (nodes_of bytes) place)
@@ -107,13 +107,13 @@ indexed_here (m ∷ ns) low high n (suc k) w lt e is =
     let other : is_indexed m && eqb m.place n.place ≡ false = and_right (is_indexed m) _ (ne_eqb m.place n.place (λ same. omega arith)) in
     cond-false (is_indexed m && eqb m.place n.place) (Some m) (indexed_at ns n.place) other ∙ indexed_here ns (m.place + 1) high n k w.1 (omega arith) e is
 
-own_node : (bytes : List ℕ) (n : Placed) → Spells bytes (tree_of bytes) → Contains (nodes_of bytes) n → is_indexed n ≡ true → indexed_at (nodes_of bytes) n.place ≡ Some n
+own_node : (bytes : List ℕ) (n : Placed) → SpellsForest bytes (tree_of bytes) → Contains (nodes_of bytes) n → is_indexed n ≡ true → indexed_at (nodes_of bytes) n.place ≡ Some n
 own_node bytes n s c is = indexed_here (nodes_of bytes) 4 (4 + length (flat (tree_of bytes))) n c.0 (nodes_within (tree_of bytes) 4 [] s.are_nodes) c.1 c.2 is
 
-pub own_guards : (bytes : List ℕ) (n : Placed) → Spells bytes (tree_of bytes) → Contains (nodes_of bytes) n → is_indexed n ≡ true → guards_of_indexed (nodes_of bytes) n.place ≡ guards n
+pub own_guards : (bytes : List ℕ) (n : Placed) → SpellsForest bytes (tree_of bytes) → Contains (nodes_of bytes) n → is_indexed n ≡ true → guards_of_indexed (nodes_of bytes) n.place ≡ guards n
 own_guards bytes n s c is = ap (λ (o : Option Placed). or_none (option_map guards o)) (own_node bytes n s c is)
 
-pub own_lock : (bytes : List ℕ) (n : Placed) → Spells bytes (tree_of bytes) → Contains (nodes_of bytes) n → is_indexed n ≡ true → lock_of_indexed (nodes_of bytes) n.place ≡ first_lock (nodes_of bytes) n
+pub own_lock : (bytes : List ℕ) (n : Placed) → SpellsForest bytes (tree_of bytes) → Contains (nodes_of bytes) n → is_indexed n ≡ true → lock_of_indexed (nodes_of bytes) n.place ≡ first_lock (nodes_of bytes) n
 own_lock bytes n s c is = ap (entry_of (first_lock (nodes_of bytes))) (own_node bytes n s c is)
 
 -- ---- the statements of a form
@@ -129,7 +129,7 @@ kept is (m ∷ ns) n w = elim (cases_Bool (is m)) [
   | inr fails ↦ further m ns n (kept is ns n (subst (λ (l : List Placed). Contains l n) (cond-false (is m) (m ∷ filter is ns) (filter is ns) fails) w))
 ]
 
-pub statements_of : (bytes : List ℕ) (form : Placed) → Spells bytes (tree_of bytes) → IsNodeOf bytes form → AreNodesOf bytes (statements form)
+pub statements_of : (bytes : List ℕ) (form : Placed) → SpellsForest bytes (tree_of bytes) → IsNodeOf bytes form → AreNodesOf bytes (statements form)
 statements_of bytes form s is = λ i d lt.
     let within = below_within (tree_of bytes) 4 [] form (get_or (statements form) i d) (contains_found (nodes_of bytes) form.place form is) (kept is_statement (below form) _ (Contains-get_or (statements form) i d lt)) in
     is_found bytes (tree_of bytes) (get_or (statements form) i d) s within

@@ -5,7 +5,7 @@ use Rattle.std.specs.Prelude.{Contains, filter}
 use Rattle.std.proofs.lemmas.List.{append-nil, length-append, length-drop, drop-drop, drop_at}
 use Rattle.std.proofs.lemmas.Bool.{eq-eqb, eqb-true, ne_eqb, cases_Bool}
 use Rattle.ifr_opcodes.specs.Opcode.{has_scope, end}
-use Rattle.ifr_opcodes.specs.Forest.{Forest, none, node, opcodes, flat, height, AreNodes, Spells, Ancestor, Placed, as_ancestor, nodes_at, nodes, below, node_at, places}
+use Rattle.ifr_opcodes.specs.Forest.{Forest, none, node, opcodes, flat, height, AreNodes, SpellsForest, Ancestor, Placed, as_ancestor, nodes_at, nodes, below, node_at, places}
 use Rattle.ifr_scopes.specs.Nodes.{is_statement, statements}
 use Rattle.ifr_opcodes.proofs.OpcodeLemmas.{AllWhole, AllWhole-back, concat-append}
 use Rattle.ifr_opcodes.proofs.ForestLemmas.{all_whole, opcodes_scoped, takes}
@@ -62,11 +62,11 @@ rise (m ∷ ns) low high (suc i) zero w lt le = absurd (omega arith)
 rise (m ∷ ns) low high (suc i) (suc j) w lt le = rise ns (m.place + 1) high i j w.1 (omega arith) (omega arith)
 
 -- The places of a package's nodes rise.
-pub places_rise : (bytes : List ℕ) (f : Forest) (i j : ℕ) → Spells bytes f → i < j → j < length (nodes f) → get_or (places (nodes f)) i 0 < get_or (places (nodes f)) j 0
+pub places_rise : (bytes : List ℕ) (f : Forest) (i j : ℕ) → SpellsForest bytes f → i < j → j < length (nodes f) → get_or (places (nodes f)) i 0 < get_or (places (nodes f)) j 0
 places_rise bytes f i j s lt le = rise (nodes f) 4 (4 + length (flat f)) i j (nodes_within f 4 [] s.are_nodes) lt le
 
 -- A node is found at its place.
-pub is_found : (bytes : List ℕ) (f : Forest) (n : Placed) → Spells bytes f → Contains (nodes f) n → node_at (nodes f) n.place ≡ Some n
+pub is_found : (bytes : List ℕ) (f : Forest) (n : Placed) → SpellsForest bytes f → Contains (nodes f) n → node_at (nodes f) n.place ≡ Some n
 is_found bytes f n s c = found_here (nodes f) 4 (4 + length (flat f)) n c.0 (nodes_within f 4 [] s.are_nodes) c.1 c.2
 
 pub found_place : (ns : List Placed) (place : ℕ) (n : Placed) → node_at ns place ≡ Some n → n.place ≡ place
@@ -183,7 +183,7 @@ pub record StandsAt (bytes : List ℕ) (n : Placed) : Type 0 where
   pub are_nodes : AreNodes (node n.op n.children none)
   pub within : height (node n.op n.children none) ≤ 64
 
-pub stands_at : (bytes : List ℕ) (f : Forest) (place : ℕ) (n : Placed) → Spells bytes f → node_at (nodes f) place ≡ Some n → StandsAt bytes n
+pub stands_at : (bytes : List ℕ) (f : Forest) (place : ℕ) (n : Placed) → SpellsForest bytes f → node_at (nodes f) place ≡ Some n → StandsAt bytes n
 stands_at bytes f place n s e =
     let i = stands_in f 4 place [] n s.are_nodes e in
     let those = opcodes (node n.op n.children none) ++ i.behind in
@@ -196,8 +196,8 @@ stands_at bytes f place n s e =
       within = omega (arith, i.lower, s.within);
     }
 
--- the same for a node, in its bytes
-pub node_stands : (bytes : List ℕ) (f : Forest) (n : Placed) → Spells bytes f → Contains (nodes f) n
+-- where a node stands, in its bytes
+pub node_stands : (bytes : List ℕ) (f : Forest) (n : Placed) → SpellsForest bytes f → Contains (nodes f) n
     → (more : List ℕ) × (drop n.place bytes ≡ flat (node n.op n.children none) ++ more) × AreNodes (node n.op n.children none)
 node_stands bytes f n s c =
     let i = stands_at bytes f n.place n s (is_found bytes f n s c) in
@@ -216,7 +216,7 @@ fewer is (n ∷ ns) = elim (cases_Bool (is n)) [
   | inr e ↦ rw e (omega (arith, fewer is ns))
 ]
 
-pub few_statements : (bytes : List ℕ) (f : Forest) (n : Placed) → Spells bytes f → Contains (nodes f) n → length (statements n) + 2 ≤ length bytes
+pub few_statements : (bytes : List ℕ) (f : Forest) (n : Placed) → SpellsForest bytes f → Contains (nodes f) n → length (statements n) + 2 ≤ length bytes
 few_statements bytes f n s c =
     let stood = node_stands bytes f n s c in
     let h = stood.2 in

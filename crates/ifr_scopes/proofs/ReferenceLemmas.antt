@@ -5,7 +5,8 @@ use Rattle.std.specs.List.{list_any}
 use Rattle.std.proofs.Math.Bool.{and-false}
 use Rattle.std.proofs.lemmas.Bool.{cases_Bool, ltb-true, ltb-false, false≢true, true≢false}
 use Rattle.hii_bytes.specs.Cause.{number_of}
-use Rattle.hii_bytes.specs.Faults.{IsLeast, HasNone, AreAll, first_fault, Rise}
+use Rattle.hii_bytes.specs.Faults.{IsLeast, HasNone}
+use Rattle.hii_bytes.specs.code.FirstFaults.{AreAll, first_fault, Rise}
 use Rattle.hii_bytes.specs.declared.cause.Cause.{Cause}
 use Rattle.hii_bytes.specs.declared.cause.Cause.TheVariants.{DuplicateForm, DuplicateQuestion, NoForm, RuleTooLarge}
 use Rattle.hii_bytes.specs.declared.cause.Fault.{Fault}
@@ -13,10 +14,11 @@ use Rattle.hii_bytes.proofs.FirstFaultLemmas.{first_among, none_among}
 use Rattle.ifr_opcodes.specs.Fields.{question_id}
 use Rattle.ifr_opcodes.specs.Forest.{Forest, flat, Placed, nodes, AreNodes}
 use Rattle.ifr_scopes.specs.Nodes.{is_form, is_question}
-use Rattle.ifr_scopes.specs.References.{Ranked, ranked, has_fault, causes, IsReferenceFault}
-use Rattle.ifr_scopes.specs.Met.{AreOf}
+use Rattle.ifr_scopes.specs.References.{Ranked, ranked, has_reference_fault, IsReferenceFault}
+use Rattle.ifr_scopes.specs.code.Causes.{reference_causes}
+use Rattle.ifr_scopes.specs.code.Met.{AreOf}
 use Rattle.ifr_scopes.specs.Rules.{is_rule}
-use Rattle.ifr_scopes.specs.KeptRules.{AreKeptRules, kept_at}
+use Rattle.ifr_scopes.specs.code.KeptRules.{AreKeptRules, kept_at}
 use Rattle.ifr_scopes.specs.declared.references.Met.{Met}
 use Rattle.ifr_scopes.specs.declared.rules.RuleTable.{RuleTable}
 use Rattle.ifr_scopes.proofs.KeptRuleLemmas.{no_rule}
@@ -27,7 +29,7 @@ place_of r = r.node.place
 
 -- the first fault among nodes that have others before them
 abbrev pub first_repeat : List Placed → List Placed → List Placed → Option Fault
-first_repeat all before ns = first_fault place_of (has_fault all) causes (ranked before ns)
+first_repeat all before ns = first_fault place_of (has_reference_fault all) reference_causes (ranked before ns)
 
 -- Some nodes were met, and their ids and rules are known: the first fault of all nodes is that of those which are left.
 pub record HasMet (bytes : List ℕ) (all left : List Placed) (met : Met) : Type 0 where
@@ -36,14 +38,14 @@ pub record HasMet (bytes : List ℕ) (all left : List Placed) (met : Met) : Type
   pub known : AreOf bytes before met
   pub same : first_repeat all before left ≡ first_repeat all [] all
 
-among : (ns : List Placed) (r : Ranked) (d : Cause) → has_fault ns r d ≡ true → Contains causes d
+among : (ns : List Placed) (r : Ranked) (d : Cause) → has_reference_fault ns r d ≡ true → Contains reference_causes d
 among ns r DuplicateForm h = (0, omega arith, refl)
 among ns r DuplicateQuestion h = (1, omega arith, refl)
 among ns r NoForm h = (2, omega arith, refl)
 among ns r RuleTooLarge h = (3, omega arith, refl)
 among ns r _ h = absurd (false≢true h)
 
-all_causes : (ns : List Placed) → AreAll (has_fault ns) causes
+all_causes : (ns : List Placed) → AreAll (has_reference_fault ns) reference_causes
 all_causes ns = record { rise = (lit≤ tt, (lit≤ tt, (lit≤ tt, (lit≤ tt, tt)))); all = among ns }
 
 rising : (before ns : List Placed) (low high : ℕ) → Within low high ns → Rise place_of low (ranked before ns)
@@ -56,16 +58,16 @@ above before (n ∷ ns) low high r w (zero, lt, e) = omega (arith, w.0, ap place
 above before (n ∷ ns) low high r w (suc k, lt, e) = omega (arith, w.0, above (before ++ n ∷ []) ns (n.place + 1) high r w.1 (k, omega arith, e))
 
 -- the first node has no id of a node before it
-first_fault_of : (ns : List Placed) (n : Placed) (d : Cause) → has_fault ns (record { before = []; node = n }) d ≡ true → number_of NoForm ≤ number_of d
+first_fault_of : (ns : List Placed) (n : Placed) (d : Cause) → has_reference_fault ns (record { before = []; node = n }) d ≡ true → number_of NoForm ≤ number_of d
 first_fault_of ns n DuplicateForm h = absurd (false≢true (sym (and-false (is_form n)) ∙ h))
 first_fault_of ns n DuplicateQuestion h = absurd (false≢true (sym (ap (λ (b : Bool). is_question n && b) (and-false (not (question_id n.op == 0))) ∙ and-false (is_question n)) ∙ h))
 first_fault_of ns n NoForm h = lit≤ tt
 first_fault_of ns n RuleTooLarge h = lit≤ tt
 first_fault_of ns n _ h = absurd (false≢true h)
 
-later : (all ns : List Placed) (low high : ℕ) (r : Ranked) (d : Cause) → Within low high ns → Contains (ranked [] ns) r → has_fault all r d ≡ true → (low < r.node.place) ⊎ ((low ≤ r.node.place) × (number_of NoForm ≤ number_of d))
+later : (all ns : List Placed) (low high : ℕ) (r : Ranked) (d : Cause) → Within low high ns → Contains (ranked [] ns) r → has_reference_fault all r d ≡ true → (low < r.node.place) ⊎ ((low ≤ r.node.place) × (number_of NoForm ≤ number_of d))
 later all [] low high r d w (k, lt, e) h = absurd (omega arith)
-later all (n ∷ ns) low high r d w (zero, lt, e) h = inr (omega (arith, w.0, ap place_of e), first_fault_of all n d (ap (λ (q : Ranked). has_fault all q d) e ∙ h))
+later all (n ∷ ns) low high r d w (zero, lt, e) h = inr (omega (arith, w.0, ap place_of e), first_fault_of all n d (ap (λ (q : Ranked). has_reference_fault all q d) e ∙ h))
 later all (n ∷ ns) low high r d w (suc k, lt, e) h = inl (omega (arith, w.0, above (n ∷ []) ns (n.place + 1) high r w.1 (k, omega arith, e)))
 
 no_forms : (ns : List Placed) → list_any is_form ns ≡ false → filter is_form ns ≡ []
@@ -93,13 +95,13 @@ no_form_is_least f a e = record {
 
 pub refused_among : (f : Forest) (fault : Fault) → AreNodes f → list_any is_form (nodes f) ≡ true → first_repeat (nodes f) [] (nodes f) ≡ Some fault → IsLeast (IsReferenceFault (nodes f)) fault
 refused_among f fault a some e =
-    let l = first_among place_of (has_fault (nodes f)) causes 4 (ranked [] (nodes f)) fault (all_causes (nodes f)) (rising [] (nodes f) 4 (4 + length (flat f)) (nodes_within f 4 [] a)) e in
+    let l = first_among place_of (has_reference_fault (nodes f)) reference_causes 4 (ranked [] (nodes f)) fault (all_causes (nodes f)) (rising [] (nodes f) 4 (4 + length (flat f)) (nodes_within f 4 [] a)) e in
     record { told = inr l.told; least = λ d p other. elim other [ inl h ↦ absurd (some_form (nodes f) some h.0) | inr h ↦ l.least d p h ] }
 
 pub sound_among : (ns : List Placed) → list_any is_form ns ≡ true → first_repeat ns [] ns ≡ None → HasNone (IsReferenceFault ns)
 sound_among ns some e = λ d p other. elim other [
   | inl h ↦ some_form ns some h.0
-  | inr h ↦ none_among place_of (has_fault ns) causes (ranked [] ns) (all_causes ns) e d p h
+  | inr h ↦ none_among place_of (has_reference_fault ns) reference_causes (ranked [] ns) (all_causes ns) e d p h
 ]
 
 -- the rules stay where the next node is none

@@ -12,7 +12,8 @@ use Rattle.ifr_opcodes.specs.Reading.{tree_of}
 use Rattle.ifr_opcodes.proofs.OpcodeLemmas.{concat-append}
 use Rattle.ifr_opcodes.proofs.ForestLemmas.{opcodes_scoped}
 use Rattle.ifr_expr.specs.Faults.{IsExpressionFault}
-use Rattle.ifr_expr.specs.Reading.{opcodes_of, tree_of_opcodes, tree_in}
+use Rattle.ifr_expr.specs.code.Bytes.{opcodes_of}
+use Rattle.ifr_expr.specs.Reading.{tree_of_opcodes, tree_in}
 use Rattle.ifr_expr.specs.Trees.{Tree, Means, expression}
 use Rattle.ifr_expr.proofs.NodeLemmas.{opcodes_are}
 use Rattle.ifr_expr.proofs.TreeLemmas.{is_tree_of}

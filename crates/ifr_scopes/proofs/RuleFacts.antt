@@ -17,7 +17,7 @@ use Rattle.ifr_scopes.specs.Checked.{IsChecked}
 use Rattle.ifr_scopes.specs.Guards.{is_guard}
 use Rattle.ifr_scopes.specs.Nodes.{nodes_of}
 use Rattle.ifr_scopes.specs.Rules.{is_rule, forms_among}
-use Rattle.ifr_scopes.specs.RuleNodes.{IsRuleNode}
+use Rattle.ifr_scopes.specs.code.RuleNodes.{IsRuleNode}
 use Rattle.ifr_scopes.specs.Structure.{innermost, parent, begins_scope, begins_with_value, is_condition, is_wanted, is_root}
 use Rattle.ifr_scopes.specs.Table.{row, class_of, class_around, admits, wants_expression, wants_value}
 use Rattle.ifr_scopes.specs.declared.table.Class.{Class}

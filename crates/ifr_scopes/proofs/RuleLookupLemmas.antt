@@ -4,11 +4,14 @@ use Rattle.std.specs.Prelude.{Contains, is_some}
 use Rattle.std.proofs.lemmas.Bool.{cases_Bool}
 use Rattle.ifr_opcodes.specs.Forest.{Placed}
 use Rattle.ifr_opcodes.specs.Reading.{tree_of}
-use Rattle.ifr_expr.specs.Meaning.{names, named}
-use Rattle.ifr_scopes.specs.Checked.{IsChecked, node_in, has_node}
-use Rattle.ifr_scopes.specs.KeptRules.{kept_rule, kept_named}
+use Rattle.ifr_expr.specs.Meaning.{names}
+use Rattle.ifr_expr.specs.code.Rules.{named}
+use Rattle.ifr_scopes.specs.Checked.{IsChecked}
+use Rattle.ifr_scopes.specs.code.Checked.{node_in, has_node}
+use Rattle.ifr_scopes.specs.code.KeptRules.{kept_rule, kept_named}
 use Rattle.ifr_scopes.specs.Nodes.{nodes_of, end_of}
-use Rattle.ifr_scopes.specs.Rules.{is_rule, as_rule, rule_nodes, rules_of}
+use Rattle.ifr_scopes.specs.Rules.{is_rule, as_rule, rule_nodes}
+use Rattle.ifr_scopes.specs.code.Rules.{rules_of}
 use Rattle.ifr_scopes.specs.declared.rules.KeptRule.{KeptRule}
 use Rattle.ifr_scopes.proofs.NamedLemmas.{is_named}
 use Rattle.ifr_scopes.proofs.PlaceLemmas.{is_found}

@@ -13,7 +13,7 @@ use Rattle.ifr_opcodes.proofs.ForestLemmas.{takes}
 use Rattle.ifr_scopes.specs.Checked.{IsChecked}
 use Rattle.ifr_scopes.specs.Nodes.{nodes_of, end_of}
 use Rattle.ifr_scopes.specs.Rules.{is_rule, forms_among, end_or_0, form_end, rule_nodes, scope_end}
-use Rattle.ifr_scopes.specs.RuleNodes.{IsRuleNode, Descend}
+use Rattle.ifr_scopes.specs.code.RuleNodes.{IsRuleNode, Descend}
 use Rattle.ifr_scopes.proofs.RuleFacts.{rules_on, rule_fact}
 use Rattle.ifr_scopes.proofs.ScopeLemmas.{path_inside}
 use Rattle.ifr_scopes.proofs.ViewLemmas.{further}

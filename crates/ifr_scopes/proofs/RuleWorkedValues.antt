@@ -1,9 +1,10 @@
 -- Sizes of rules and rules that are named, worked out by hand.
 use Rattle.std.proofs.Common.{◌≡◌, ℕ, zero, suc, ◌+◌, ◌*◌, true, false, Some, None, List, [], ◌∷◌, refl}
 use Rattle.hii_bytes.specs.Numbers.{number_in}
-use Rattle.ifr_expr.specs.Meaning.{Rule, named}
+use Rattle.ifr_expr.specs.Meaning.{Rule}
+use Rattle.ifr_expr.specs.code.Rules.{named}
 use Rattle.ifr_expr.specs.Trees.{Tree, leaf, two}
-use Rattle.ifr_scopes.specs.Rules.{rule_sizes, size, is_too_large}
+use Rattle.ifr_scopes.specs.Rules.{rule_sizes, size, is_rule_too_large}
 
 -- a reference to the rule 1 at a place, an opcode that holds, and two operands of AND
 abbrev reference : ℕ → Tree
@@ -23,11 +24,11 @@ abbrev chain : ℕ → List Rule
 chain zero = rule 0 (truth 3) ∷ []
 chain (suc n) = rule (10 * suc n) (reference (10 * suc n + 3)) ∷ chain n
 
-sixteenth : is_too_large (size (chain 14) (rule 150 (reference 153))) ≡ false
+sixteenth : is_rule_too_large (size (chain 14) (rule 150 (reference 153))) ≡ false
 unfolding rule_sizes number_in
 sixteenth = refl
 
-seventeenth : is_too_large (size (chain 15) (rule 160 (reference 163))) ≡ true
+seventeenth : is_rule_too_large (size (chain 15) (rule 160 (reference 163))) ≡ true
 unfolding rule_sizes number_in
 seventeenth = refl
 

@@ -5,14 +5,16 @@ use Rattle.std.proofs.lemmas.List.{length-take}
 use Rattle.std.specs.List.{AllByRecursion}
 use Rattle.ifr_opcodes.specs.Forest.{Forest, none, node, flat, AreNodes, Mark, Placed}
 use Rattle.ifr_opcodes.proofs.ForestLemmas.{takes}
-use Rattle.ifr_expr.specs.Meaning.{Rule, AreOrdered}
+use Rattle.ifr_expr.specs.Meaning.{Rule}
+use Rattle.ifr_expr.specs.code.Rules.{AreOrdered}
 use Rattle.ifr_expr.specs.Reading.{over, trees_of, first_tree, tree_of_opcodes}
 use Rattle.ifr_expr.specs.Trees.{Tree, leaf, one, two, post, siblings, expression}
 use Rattle.ifr_expr.specs.Trees as trees
 use Rattle.ifr_scopes.specs.Checked.{IsChecked}
 use Rattle.ifr_scopes.specs.Nodes.{nodes_of, end_of}
-use Rattle.ifr_scopes.specs.Rules.{is_rule, as_rule, rule_nodes, rules_of, expression_place, form_end}
-use Rattle.ifr_scopes.specs.RuleNodes.{Descend}
+use Rattle.ifr_scopes.specs.Rules.{is_rule, as_rule, rule_nodes, expression_place, form_end}
+use Rattle.ifr_scopes.specs.code.Rules.{rules_of}
+use Rattle.ifr_scopes.specs.code.RuleNodes.{Descend}
 use Rattle.ifr_scopes.proofs.RuleExpressionLemmas.{holds}
 use Rattle.ifr_scopes.proofs.RuleOrderLemmas.{descend_of, rule_there}
 use Rattle.ifr_scopes.proofs.ViewLemmas.{further}

@@ -10,7 +10,7 @@ use Rattle.hii_bytes.specs.declared.cause.Cause.{Cause}
 use Rattle.hii_bytes.specs.declared.cause.Cause.TheVariants.{OpLength, EndExtra, ScopeOpen, TooDeep}
 use Rattle.ifr_opcodes.specs.declared.codes.TheConstants.{END}
 use Rattle.ifr_opcodes.specs.Opcode.{number, has_scope, end, IsWhole}
-use Rattle.ifr_opcodes.specs.Forest.{Forest, opcodes, flat, height, AreNodes, Spells}
+use Rattle.ifr_opcodes.specs.Forest.{Forest, opcodes, flat, height, AreNodes, SpellsForest}
 use Rattle.ifr_opcodes.specs.Reading.{opcodes_in, levels, tree_of}
 use Rattle.ifr_scopes.specs.Framing.{IsRun, BeginsWith, IsLongest, Stops, IsFramingFault}
 use Rattle.ifr_opcodes.proofs.OpcodeLemmas.{AllWhole, AllWhole-append, AllWhole-front, concat-append, split_unique, longer_goes_on, one_cut, end_whole}
@@ -145,7 +145,7 @@ a_scope bytes rest TooDeep h k = refl
 a_scope bytes rest _ h k = absurd k
 
 -- where nothing is left no other cause stops a run
-nothing_left : (bytes rest : List ℕ) (cause : Cause) → rest ≡ [] → Stops bytes cause rest → (cause ≡ ScopeOpen) × ((f : Forest) → Spells bytes f → ⊥)
+nothing_left : (bytes rest : List ℕ) (cause : Cause) → rest ≡ [] → Stops bytes cause rest → (cause ≡ ScopeOpen) × ((f : Forest) → SpellsForest bytes f → ⊥)
 nothing_left bytes rest OpLength e k = absurd (k.0 e)
 nothing_left bytes rest EndExtra e k = absurd (some_front end k.0 end_whole (sym e ∙ k.1))
 nothing_left bytes rest ScopeOpen e k = (refl, k.1)
@@ -171,14 +171,14 @@ is_least bytes cause place f = record {
   least = λ c p g. let same = one_fault bytes cause c place p f g in inr (same.0, let n : number_of cause ≡ number_of c = ap number_of same.1 in omega arith);
 }
 
-forest_run : (bytes : List ℕ) (f : Forest) → Spells bytes f → BeginsWith bytes (opcodes f) []
+forest_run : (bytes : List ℕ) (f : Forest) → SpellsForest bytes f → BeginsWith bytes (opcodes f) []
 forest_run bytes f s = record {
   run = record { forest = f; more = []; goes_on = sym (append-nil (opcodes f)); are_nodes = s.are_nodes; within = s.within };
   spelled = s.spelled ∙ sym (append-nil (flat f));
 }
 
 -- the longest run is all of a package that spells a forest
-all_run : (bytes : List ℕ) (f : Forest) (ops : List (List ℕ)) (rest : List ℕ) → Spells bytes f → IsLongest bytes ops rest → (rest ≡ []) × (concat ops ≡ flat f)
+all_run : (bytes : List ℕ) (f : Forest) (ops : List (List ℕ)) (rest : List ℕ) → SpellsForest bytes f → IsLongest bytes ops rest → (rest ≡ []) × (concat ops ≡ flat f)
 all_run bytes f ops rest s l =
     let le = l.longest (opcodes f) [] (forest_run bytes f s) in
     let same : concat ops ++ rest ≡ flat f = sym l.begins.spelled ∙ s.spelled in
@@ -186,19 +186,19 @@ all_run bytes f ops rest s l =
     (nothing, sym (append-nil (concat ops)) ∙ ap (λ (x : List ℕ). concat ops ++ x) (sym nothing) ∙ same)
 
 -- A package that spells a forest has none.
-pub none_where_spelled : (bytes : List ℕ) (f : Forest) → Spells bytes f → HasNone (IsFramingFault bytes)
+pub none_where_spelled : (bytes : List ℕ) (f : Forest) → SpellsForest bytes f → HasNone (IsFramingFault bytes)
 none_where_spelled bytes f s cause place g =
     (nothing_left bytes g.rest cause (all_run bytes f g.ops g.rest s g.longest).0 g.stops).1 f s
 
 -- nothing is left, and no scope is open
-pub is_spelled : (bytes rest : List ℕ) (depth : ℕ) → Stands bytes rest depth → rest ≡ [] → depth ≡ 0 → Spells bytes (tree_of bytes)
+pub is_spelled : (bytes rest : List ℕ) (depth : ℕ) → Stands bytes rest depth → rest ≡ [] → depth ≡ 0 → SpellsForest bytes (tree_of bytes)
 unfolding tree_of
 is_spelled bytes rest depth s nothing closed =
     let all : drop 4 bytes ≡ concat s.ops = s.spelled ∙ ap (λ (l : List ℕ). concat s.ops ++ l) nothing ∙ append-nil (concat s.ops) in
     let h = one_level s.ops s.whole (s.level ∙ ap sure closed) in
     let cut_so : opcodes_in (drop 4 bytes) ≡ s.ops = opcodes_in_spelled (drop 4 bytes) s.ops s.whole all in
-    let made : Spells bytes (levels s.ops).0 = record { spelled = all ∙ ap concat (sym h.0); are_nodes = h.1; within = h.2 } in
-    subst (λ (ops : List (List ℕ)). Spells bytes (levels ops).0) (sym cut_so) made
+    let made : SpellsForest bytes (levels s.ops).0 = record { spelled = all ∙ ap concat (sym h.0); are_nodes = h.1; within = h.2 } in
+    subst (λ (ops : List (List ℕ)). SpellsForest bytes (levels ops).0) (sym cut_so) made
 
 -- one opcode further
 pub further : (bytes rest more op : List ℕ) (depth next : ℕ) → Stands bytes rest depth → IsWhole op → rest ≡ op ++ more → step depth op ≡ Some next → Stands bytes more next
@@ -255,7 +255,7 @@ still_open bytes rest depth s le nothing deep =
     } in
     least_here bytes rest depth (length bytes) ScopeOpen s le (omega (arith, ap length nothing)) stop (nothing, unspelled stop)
   where
-    unspelled : IsStopped rest depth → (f : Forest) → Spells bytes f → ⊥
+    unspelled : IsStopped rest depth → (f : Forest) → SpellsForest bytes f → ⊥
     unspelled stop f sp =
         let all = all_run bytes f s.ops rest sp (is_longest bytes rest depth s stop) in
         let same : s.ops ≡ opcodes f = one_cut s.ops (opcodes f) s.whole (all_whole f sp.are_nodes) all.1 in

@@ -6,14 +6,17 @@ use Rattle.std.proofs.lemmas.List.{append-nil}
 use Rattle.std.proofs.lemmas.List.Elements.{All-tail, Contains-get_or, Contains-append_cases, Contains-append_left, Contains-append_right, filter-append}
 use Rattle.ifr_opcodes.specs.Opcode.{number}
 use Rattle.ifr_opcodes.specs.Fields.{question_id}
-use Rattle.ifr_opcodes.specs.Forest.{Forest, none, node, flat, Mark, mark, Ancestor, Placed, as_ancestor, nodes_at, Spells}
-use Rattle.ifr_opcodes.specs.Ops.{bytes_of}
-use Rattle.ifr_opcodes.specs.Reading.{tree_of, ancestor_at}
+use Rattle.ifr_opcodes.specs.Forest.{Forest, none, node, flat, Mark, Ancestor, Placed, as_ancestor, nodes_at, SpellsForest}
+use Rattle.ifr_opcodes.specs.code.Marks.{mark}
+use Rattle.ifr_opcodes.specs.code.Ops.{bytes_of}
+use Rattle.ifr_opcodes.specs.Reading.{tree_of}
+use Rattle.ifr_opcodes.specs.code.Marks.{ancestor_at}
 use Rattle.ifr_opcodes.specs.Statements.{is_question_number}
 use Rattle.ifr_scopes.specs.Nodes.{nodes_of, questions_among, id_or_0, this_among}
-use Rattle.ifr_scopes.specs.Checked.{IsChecked, IsAt, IsNodeOf, AreNodesOf, node_in}
-use Rattle.ifr_scopes.specs.Scopes.{IsScope, AreScopes}
-use Rattle.ifr_scopes.specs.Visits.{view}
+use Rattle.ifr_scopes.specs.Checked.{IsChecked}
+use Rattle.ifr_scopes.specs.code.Checked.{IsAt, IsNodeOf, AreNodesOf, node_in}
+use Rattle.ifr_scopes.specs.code.Scopes.{IsScope, AreScopes}
+use Rattle.ifr_scopes.specs.code.Visits.{view}
 use Rattle.ifr_scopes.specs.declared.walk.Visit.{Visit}
 use Rattle.ifr_scopes.proofs.InnermostLemmas.{last_or-push}
 use Rattle.ifr_scopes.proofs.NodeFactLemmas.{is_node}
@@ -72,7 +75,7 @@ nest_inner : (ns : List Placed) (outer before after : List Ancestor) (a : Ancest
 nest_inner ns outer [] after a nest = subst (λ (l : List Ancestor). IsScopeOf ns l a) (sym (append-nil outer)) nest.0
 nest_inner ns outer (b ∷ before) after a nest = subst (λ (l : List Ancestor). IsScopeOf ns l a) (append_assoc outer (b ∷ []) before) (nest_inner ns (outer ++ b ∷ []) before after a nest.1)
 
-pub ancestor_node : (bytes : List ℕ) (n : Placed) (before after : List Ancestor) (a : Ancestor) → Spells bytes (tree_of bytes) → IsNodeOf bytes n → n.path ≡ before ++ a ∷ after
+pub ancestor_node : (bytes : List ℕ) (n : Placed) (before after : List Ancestor) (a : Ancestor) → SpellsForest bytes (tree_of bytes) → IsNodeOf bytes n → n.path ≡ before ++ a ∷ after
     → (m : Placed) × IsNodeOf bytes m × (as_ancestor m ≡ a) × (m.path ≡ before)
 ancestor_node bytes n before after a s is e =
     let nest = subst (Nest (nodes_of bytes) []) e (path_nests bytes n (contains_found (nodes_of bytes) n.place n is)) in
@@ -89,7 +92,7 @@ nest_at ns bytes before (p ∷ places) (suc i) lt nest =
     (nest_at ns bytes (before ++ ancestor_at bytes p ∷ []) places i (omega arith) nest.1)
 
 -- such a node stands at its place in the package
-stands_so : (bytes before : List ℕ) (place : ℕ) → Spells bytes (tree_of bytes) → IsScopeOf (nodes_of bytes) (map (ancestor_at bytes) before) (ancestor_at bytes place) → IsScope bytes before place
+stands_so : (bytes before : List ℕ) (place : ℕ) → SpellsForest bytes (tree_of bytes) → IsScopeOf (nodes_of bytes) (map (ancestor_at bytes) before) (ancestor_at bytes place) → IsScope bytes before place
 stands_so bytes before place s scope =
     let n = scope.node in
     let here : n.place ≡ place = ap (λ (a : Ancestor). a.place) scope.is in
@@ -102,11 +105,11 @@ stands_so bytes before place s scope =
     }
 
 -- the places on a node's path
-pub are_scopes : (bytes places : List ℕ) (n : Placed) → Spells bytes (tree_of bytes) → Contains (nodes_of bytes) n → n.path ≡ map (ancestor_at bytes) places → AreScopes bytes places
+pub are_scopes : (bytes places : List ℕ) (n : Placed) → SpellsForest bytes (tree_of bytes) → Contains (nodes_of bytes) n → n.path ≡ map (ancestor_at bytes) places → AreScopes bytes places
 are_scopes bytes places n s within e = λ i lt.
     stands_so bytes (take i places) (get_or places i 0) s (nest_at (nodes_of bytes) bytes [] places i lt (subst (Nest (nodes_of bytes) []) e (path_nests bytes n within)))
 
--- the same for those around the node of a view
+-- the places around the node of a view are scopes
 pub around_node : (bytes : List ℕ) (place : ℕ) (op places : List ℕ) → IsChecked bytes → IsAt bytes place op → (node_in bytes place).path ≡ map (ancestor_at bytes) places → AreScopes bytes places
 around_node bytes place op places checked at e = are_scopes bytes places (node_in bytes place) checked.spelled (is_node bytes place op checked at) e
 
@@ -139,7 +142,7 @@ this-other path a other =
 
 -- ---- what a walk over the package meets
 
-pub all_nodes : (bytes : List ℕ) → Spells bytes (tree_of bytes) → AreNodesOf bytes (nodes_of bytes)
+pub all_nodes : (bytes : List ℕ) → SpellsForest bytes (tree_of bytes) → AreNodesOf bytes (nodes_of bytes)
 all_nodes bytes s = λ i d lt. is_found bytes (tree_of bytes) (get_or (nodes_of bytes) i d) s (Contains-get_or (nodes_of bytes) i d lt)
 
 -- The node that is met next is one of the package, and so are those after it.
@@ -149,7 +152,7 @@ pub record IsMet (bytes : List ℕ) (visit : Visit) (n : Placed) (rest : List Pl
   pub within : Contains (nodes_of bytes) n
   pub others : AreNodesOf bytes rest
 
-pub is_met : (bytes : List ℕ) (visit : Visit) (n : Placed) (all rest : List Placed) → Spells bytes (tree_of bytes) → AreNodesOf bytes all → all ≡ n ∷ rest → view visit ≡ mark n → IsMet bytes visit n rest
+pub is_met : (bytes : List ℕ) (visit : Visit) (n : Placed) (all rest : List Placed) → SpellsForest bytes (tree_of bytes) → AreNodesOf bytes all → all ≡ n ∷ rest → view visit ≡ mark n → IsMet bytes visit n rest
 is_met bytes visit n all rest s are e shown =
     let each = subst (AreNodesOf bytes) e are in
     let within = contains_found (nodes_of bytes) n.place n (each 0 n (omega arith)) in

@@ -10,8 +10,8 @@ use Rattle.ifr_expr.specs.References.{references}
 use Rattle.ifr_expr.specs.Trees.{Tree, post}
 use Rattle.ifr_expr.specs.declared.references.RuleReference.{RuleReference}
 use Rattle.ifr_scopes.specs.Rules.{as_rule, rule_nodes, rules_among, rule_sizes, greatest}
-use Rattle.ifr_scopes.specs.RuleNodes.{Descend}
-use Rattle.ifr_scopes.specs.KeptRules.{AreKeptRules, kept_named}
+use Rattle.ifr_scopes.specs.code.RuleNodes.{Descend}
+use Rattle.ifr_scopes.specs.code.KeptRules.{AreKeptRules, kept_named}
 use Rattle.ifr_scopes.specs.declared.rules.KeptRule.{KeptRule}
 use Rattle.ifr_scopes.specs.declared.rules.RuleSize.{RuleSize}
 use Rattle.ifr_scopes.specs.declared.rules.RuleTable.{RuleTable}

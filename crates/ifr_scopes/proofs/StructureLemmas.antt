@@ -5,27 +5,31 @@ use Rattle.std.proofs.lemmas.Bool.{cases_Bool, false≢true, eqb-true, eqb-false
 use Rattle.std.proofs.lemmas.List.{append-nil, length-drop}
 use Rattle.std.proofs.lemmas.List.Elements.{Contains-append_cases, Contains-append_right, Contains-push_cases}
 use Rattle.hii_bytes.specs.Cause.{number_of}
-use Rattle.hii_bytes.specs.Faults.{IsLeast, HasNone, AreAll, first_fault, fault_or, Rise}
+use Rattle.hii_bytes.specs.Faults.{IsLeast, HasNone}
+use Rattle.hii_bytes.specs.code.FirstFaults.{AreAll, first_fault, fault_or, Rise}
 use Rattle.hii_bytes.specs.declared.cause.Cause.{Cause}
 use Rattle.hii_bytes.specs.declared.cause.Cause.TheVariants.{NotFormSet, AfterFormSet, OpOutside, OpSize, Misplaced, ScopeBit, ExprShape}
 use Rattle.hii_bytes.specs.declared.cause.Fault.{Fault}
 use Rattle.hii_bytes.proofs.FirstFaultLemmas.{first_among, none_among}
-use Rattle.ifr_opcodes.specs.Forest.{Forest, none, node, flat, Mark, mark, Ancestor, Placed, as_ancestor, nodes, AreNodes, Spells}
+use Rattle.ifr_opcodes.specs.Forest.{Forest, none, node, flat, Mark, Ancestor, Placed, as_ancestor, nodes, AreNodes, SpellsForest}
+use Rattle.ifr_opcodes.specs.code.Marks.{mark}
 use Rattle.ifr_opcodes.specs.Opcode.{number, has_scope}
 use Rattle.ifr_opcodes.specs.Operators.{is_operator}
-use Rattle.ifr_opcodes.specs.Ops.{bytes_of}
-use Rattle.ifr_opcodes.specs.Reading.{tree_of, ancestor_at, inside, opcodes_in}
-use Rattle.ifr_expr.specs.Checked.{AreSized}
-use Rattle.ifr_expr.specs.Expressions.{tree_of as tree_of_expr}
+use Rattle.ifr_opcodes.specs.code.Ops.{bytes_of}
+use Rattle.ifr_opcodes.specs.Reading.{tree_of, opcodes_in}
+use Rattle.ifr_opcodes.specs.code.Marks.{ancestor_at, inside}
+use Rattle.ifr_expr.specs.code.Checked.{AreSized}
+use Rattle.ifr_expr.specs.code.Expressions.{tree_of as tree_of_expr}
 use Rattle.ifr_expr.specs.Faults as expr
 use Rattle.ifr_expr.specs.Faults.{IsExpressionFault}
-use Rattle.ifr_expr.specs.Reading.{opcodes_of}
+use Rattle.ifr_expr.specs.code.Bytes.{opcodes_of}
 use Rattle.ifr_expr.specs.Trees.{Means, siblings, expression}
 use Rattle.ifr_expr.specs.declared.expr.Expr.{Expr}
-use Rattle.ifr_scopes.specs.Checked.{node_in, has_node}
+use Rattle.ifr_scopes.specs.code.Checked.{node_in, has_node}
 use Rattle.ifr_scopes.specs.Nodes.{nodes_of, end_of}
-use Rattle.ifr_scopes.specs.Structure.{has_fault, causes, least_cause, is_condition, is_expression, IsNodeFault, IsFaultOfExpression, IsStructureFault}
-use Rattle.ifr_scopes.specs.Visits.{Meets, left}
+use Rattle.ifr_scopes.specs.Structure.{has_structure_fault, is_condition, is_expression, IsNodeFault, IsFaultOfExpression, IsStructureFault}
+use Rattle.ifr_scopes.specs.code.Causes.{structure_causes, least_cause}
+use Rattle.ifr_scopes.specs.code.Visits.{Meets, left}
 use Rattle.ifr_scopes.specs.declared.walk.Visit.{Visit}
 use Rattle.ifr_scopes.specs.declared.walk.Walk.{Walk}
 use Rattle.ifr_opcodes.proofs.ForestLemmas.{takes}
@@ -37,10 +41,10 @@ use Rattle.ifr_scopes.proofs.ViewLemmas.{further, is_at, node_in_place}
 
 -- the first fault among nodes
 abbrev pub first_of : List Placed → Option Fault
-first_of ns = first_fault (λ (n : Placed). n.place) has_fault causes ns
+first_of ns = first_fault (λ (n : Placed). n.place) has_structure_fault structure_causes ns
 
 -- a cause that a node has is one of the seven
-among : (n : Placed) (d : Cause) → has_fault n d ≡ true → Contains causes d
+among : (n : Placed) (d : Cause) → has_structure_fault n d ≡ true → Contains structure_causes d
 among n NotFormSet h = (0, omega arith, refl)
 among n AfterFormSet h = (1, omega arith, refl)
 among n OpOutside h = (2, omega arith, refl)
@@ -50,7 +54,7 @@ among n ScopeBit h = (5, omega arith, refl)
 among n ExprShape h = (6, omega arith, refl)
 among n _ h = absurd (false≢true h)
 
-all_causes : AreAll has_fault causes
+all_causes : AreAll has_structure_fault structure_causes
 all_causes = record { rise = (lit≤ tt, (lit≤ tt, (lit≤ tt, (lit≤ tt, (lit≤ tt, (lit≤ tt, (lit≤ tt, tt))))))); all = among }
 
 pub rising : (ns : List Placed) (low high : ℕ) → Within low high ns → Rise (λ (n : Placed). n.place) low ns
@@ -106,7 +110,7 @@ goes_on f left n s clear read = record {
 }
   where
     alone : HasNone (IsNodeFault (n ∷ []))
-    alone = none_among (λ (m : Placed). m.place) has_fault causes (n ∷ []) all_causes (ap (λ (o : Option Cause). fault_or o n.place None) clear)
+    alone = none_among (λ (m : Placed). m.place) has_structure_fault structure_causes (n ∷ []) all_causes (ap (λ (o : Option Cause). fault_or o n.place None) clear)
 
     own : (d : Cause) (p : ℕ) → is_expression n ≡ true → IsExpressionFault n.place (expression n.place n.op n.children) d p → IsNodeFault (nodes f) d p
     own d p is fault = read_fault f n d p (is_left (nodes f) left n n s (0, omega arith, refl)) (read is) fault
@@ -156,7 +160,7 @@ refused_node f left n cause a s e = least_of_left f left n fault s (inr (inl tol
     rise = left_rise f (n ∷ left) a s
 
     first : IsLeast (IsNodeFault (n ∷ left)) fault
-    first = first_among (λ (m : Placed). m.place) has_fault causes rise.0 (n ∷ left) fault all_causes rise.1 (ap (λ (o : Option Cause). fault_or o n.place (first_of left)) e)
+    first = first_among (λ (m : Placed). m.place) has_structure_fault structure_causes rise.0 (n ∷ left) fault all_causes rise.1 (ap (λ (o : Option Cause). fault_or o n.place (first_of left)) e)
 
     told : IsNodeFault (nodes f) cause n.place
     told = let t = first.told in (t.0, is_left (nodes f) left n t.0 s t.1, t.2, t.3)
@@ -167,7 +171,7 @@ refused_node f left n cause a s e = least_of_left f left n fault s (inr (inl tol
     here : (d : Cause) (p : ℕ) → is_expression n ≡ true → IsExpressionFault n.place (expression n.place n.op n.children) d p → IsNotAbove fault d p
     here d p is (inl (m, (zero, lt, same), at, there)) =
         let place : n.place ≡ p = ap (λ (x : Mark). x.place) same ∙ at in
-        first.least d p (n, (0, omega arith, refl), place, own_fault n d (operates n is) (ap (λ (x : Mark). expr.has_fault n.place x d) same ∙ there))
+        first.least d p (n, (0, omega arith, refl), place, own_fault n d (operates n is) (ap (λ (x : Mark). expr.has_opcode_fault n.place x d) same ∙ there))
     here d p is (inl (m, (suc k, lt, same), at, there)) =
         let i = are_inside f 4 [] n a (is_left (nodes f) left n n s (0, omega arith, refl)) in
         let long : 2 ≤ length n.op = i.are_nodes.0.whole.long in
@@ -229,7 +233,7 @@ refused_expression f left n fault a s clear is l = least_of_left f left n fault 
         )
 
     of_nodes : (d : Cause) (p : ℕ) → IsNodeFault (n ∷ left) d p → IsNotAbove fault d p
-    of_nodes d p (m, (zero, lt, same), at, there) = absurd (none_among (λ (x : Placed). x.place) has_fault causes (n ∷ []) all_causes (ap (λ (o : Option Cause). fault_or o n.place None) clear) d p (m, (0, omega arith, same), at, there))
+    of_nodes d p (m, (zero, lt, same), at, there) = absurd (none_among (λ (x : Placed). x.place) has_structure_fault structure_causes (n ∷ []) all_causes (ap (λ (o : Option Cause). fault_or o n.place None) clear) d p (m, (0, omega arith, same), at, there))
     of_nodes d p (m, (suc k, lt, same), at, there) =
         let b = later m (k, omega arith, same) in
         elim b.1 [
@@ -255,7 +259,7 @@ some_bytes none e = refl
 some_bytes (node op children rest) e = absurd (omega (arith, ap (λ (l : List Placed). length l) e))
 
 -- where no node is left there is no fault
-pub sound_all : (bytes : List ℕ) (f : Forest) (left : List Placed) → Spells bytes f → 4 < length bytes → Stands (nodes f) left → left ≡ [] → HasNone (IsStructureFault (nodes f))
+pub sound_all : (bytes : List ℕ) (f : Forest) (left : List Placed) → SpellsForest bytes f → 4 < length bytes → Stands (nodes f) left → left ≡ [] → HasNone (IsStructureFault (nodes f))
 sound_all bytes f left s some stands e = none
   where
     is : nodes f ≡ stands.before
@@ -273,7 +277,7 @@ no_nodes : (f : Forest) → AreNodes f → length (flat f) ≡ 0 → nodes f ≡
 no_nodes none a e = refl
 no_nodes (node op children rest) a e = let long : 2 ≤ length op = a.0.whole.long in absurd (omega (arith, takes op children rest a, e))
 
-pub empty_is_least : (bytes : List ℕ) (f : Forest) → Spells bytes f → length bytes ≡ 4 → IsLeast (IsStructureFault (nodes f)) (record { cause = NotFormSet; place = 4 })
+pub empty_is_least : (bytes : List ℕ) (f : Forest) → SpellsForest bytes f → length bytes ≡ 4 → IsLeast (IsStructureFault (nodes f)) (record { cause = NotFormSet; place = 4 })
 empty_is_least bytes f s e =
     let none_left : nodes f ≡ [] = no_nodes f s.are_nodes (omega (arith, length-drop 4 bytes, ap (λ (l : List ℕ). length l) s.spelled)) in
     record {
@@ -313,11 +317,11 @@ is_met old new visit m bytes around kept a s =
 pub met_place : (bytes around : List ℕ) (visit : Visit) (new : Walk) (m : IsMet bytes around visit new) → visit.op.place ≡ m.node.place
 met_place bytes around visit new m = ap (λ (n : Placed). n.place) m.seen
 
-pub met_there : (bytes around : List ℕ) (visit : Visit) (new : Walk) → IsMet bytes around visit new → Spells bytes (tree_of bytes) → has_node bytes visit.op.place ≡ true
+pub met_there : (bytes around : List ℕ) (visit : Visit) (new : Walk) → IsMet bytes around visit new → SpellsForest bytes (tree_of bytes) → has_node bytes visit.op.place ≡ true
 met_there bytes around visit new m s = rw (met_place bytes around visit new m) (is_at bytes m.node s m.within).there
 
 -- where its expression stands
-pub met_from : (bytes around : List ℕ) (visit : Visit) (new : Walk) (m : IsMet bytes around visit new) (to : ℕ) → Spells bytes (tree_of bytes) → is_expression m.node ≡ true → to ≡ end_of (node_in bytes visit.op.place) → StandsFrom bytes m.node visit.op.place to
+pub met_from : (bytes around : List ℕ) (visit : Visit) (new : Walk) (m : IsMet bytes around visit new) (to : ℕ) → SpellsForest bytes (tree_of bytes) → is_expression m.node ≡ true → to ≡ end_of (node_in bytes visit.op.place) → StandsFrom bytes m.node visit.op.place to
 met_from bytes around visit new m to s is ends =
     let here = met_place bytes around visit new m in
     stands_from bytes (tree_of bytes) m.node visit.op.place to s m.within (operates m.node is) here (ends ∙ ap (λ (p : ℕ). end_of (node_in bytes p)) here ∙ ap end_of (node_in_place bytes m.node s m.within))
@@ -332,7 +336,7 @@ was_read bytes n from to expr s means = record {
 }
 
 -- or refused
-pub was_refused : (bytes around : List ℕ) (visit : Visit) (new : Walk) (m : IsMet bytes around visit new) (to : ℕ) (fault : Fault) → Spells bytes (tree_of bytes) → least_cause m.node ≡ None → is_expression m.node ≡ true → StandsFrom bytes m.node visit.op.place to
+pub was_refused : (bytes around : List ℕ) (visit : Visit) (new : Walk) (m : IsMet bytes around visit new) (to : ℕ) (fault : Fault) → SpellsForest bytes (tree_of bytes) → least_cause m.node ≡ None → is_expression m.node ≡ true → StandsFrom bytes m.node visit.op.place to
     → IsLeast (IsExpressionFault visit.op.place (opcodes_of visit.op.place (slice_range bytes visit.op.place to))) fault → IsLeast (IsStructureFault (nodes_of bytes)) fault
 was_refused bytes around visit new m to fault s clear is stood l =
     let here = met_place bytes around visit new m in

@@ -10,7 +10,7 @@ use Rattle.ifr_opcodes.proofs.StatementLemmas.{and_first, and_second, of_each}
 use Rattle.ifr_scopes.specs.Guards.{is_guard}
 use Rattle.ifr_opcodes.specs.Statements.{plain_statements, questions_without_options, questions_with_options, is_question_number, is_statement_number}
 use Rattle.ifr_scopes.specs.Kinds.{is_store_number, conditions, is_condition_number, is_ignored}
-use Rattle.ifr_scopes.specs.Table.{rows, row_in, row, wants_expression, wants_value, class_of, guarded, admits}
+use Rattle.ifr_scopes.specs.Table.{scope_rows, row_in, row, wants_expression, wants_value, class_of, guarded, admits}
 use Rattle.ifr_scopes.specs.declared.table.Row.{Row}
 use Rattle.ifr_scopes.specs.declared.table.Class.{Class}
 use Rattle.ifr_scopes.specs.declared.table.Class.TheVariants.{OfFormSet, OfForm, OfText, OfQuestion, OfChoice, OfOptions, OfOption, OfExpression, OfNothing}
@@ -46,18 +46,18 @@ pub operator_row : (code : ℕ) → is_operator code ≡ true → row code ≡ S
 unfolding row
 operator_row code operator = cond-true (is_operator code) _ _ operator
 
-other_row : (code : ℕ) → is_operator code ≡ false → row code ≡ row_in rows code
+other_row : (code : ℕ) → is_operator code ≡ false → row code ≡ row_in scope_rows code
 unfolding row
 other_row code other = cond-false (is_operator code) _ _ other
 
 -- what holds of each number of the table and the class of its scope holds of any number
 pub class_fact : (holds : ℕ → Class → Bool) → ((code : ℕ) → holds code OfExpression ≡ true) → ((code : ℕ) → holds code OfNothing ≡ true)
-    → list_all (λ e. list_all (λ c. holds c e.1.class) e.0) rows ≡ true → (code : ℕ) → holds code (class_of (row code)) ≡ true
+    → list_all (λ e. list_all (λ c. holds c e.1.class) e.0) scope_rows ≡ true → (code : ℕ) → holds code (class_of (row code)) ≡ true
 class_fact holds of_expression of_nothing all code = elim (cases_Bool (is_operator code)) [
   | inl operator ↦ ap (λ (o : Option Row). holds code (class_of o)) (operator_row code operator) ∙ of_expression code
-  | inr other ↦ elim (cases_Row (row_in rows code)) [
+  | inr other ↦ elim (cases_Row (row_in scope_rows code)) [
     | inl missing ↦ ap (λ (o : Option Row). holds code (class_of o)) (other_row code other ∙ missing) ∙ of_nothing code
-    | inr (r, found) ↦ ap (λ (o : Option Row). holds code (class_of o)) (other_row code other ∙ found) ∙ found_row holds rows all code r found
+    | inr (r, found) ↦ ap (λ (o : Option Row). holds code (class_of o)) (other_row code other ∙ found) ∙ found_row holds scope_rows all code r found
   ]
 ]
 

@@ -8,11 +8,12 @@ use Rattle.ifr_opcodes.specs.Fields.{question_id}
 use Rattle.ifr_opcodes.specs.Opcode.{number}
 use Rattle.ifr_opcodes.specs.Forest.{Ancestor, Placed, as_ancestor, below}
 use Rattle.ifr_opcodes.specs.Reading.{tree_of}
-use Rattle.ifr_scopes.specs.Checked.{IsChecked, IsNodeOf}
+use Rattle.ifr_scopes.specs.Checked.{IsChecked}
+use Rattle.ifr_scopes.specs.code.Checked.{IsNodeOf}
 use Rattle.ifr_opcodes.specs.Statements.{is_question_number}
 use Rattle.ifr_scopes.specs.Nodes.{nodes_of, is_question, of_question, questions_among, id_or_0, this_of}
-use Rattle.ifr_scopes.specs.PartsLeft.{HaveThis}
-use Rattle.ifr_scopes.specs.Views.{node_of}
+use Rattle.ifr_scopes.specs.code.PartsLeft.{HaveThis}
+use Rattle.ifr_scopes.specs.code.Views.{node_of}
 use Rattle.ifr_scopes.specs.declared.node.Node.{Node}
 use Rattle.ifr_scopes.proofs.PathLemmas.{kept}
 use Rattle.ifr_scopes.proofs.PlaceLemmas.{is_found}
@@ -48,7 +49,7 @@ this_below bytes q n checked within is inner =
     ∙ rw is (ap (λ (l : List Ancestor). questions_among q.path ++ as_ancestor q ∷ l) none) in
     ap (λ (l : List Ancestor). id_or_0 (last_or None l)) split ∙ ap id_or_0 (last_or-push None (questions_among q.path) (as_ancestor q))
 
--- those of the nodes in a question's scope that pass a test
+-- the nodes in a question's scope that pass a test have its id
 pub have_this : (bytes : List ℕ) (q : Placed) (which : Placed → Bool) (this : ℕ) → IsChecked bytes → Contains (nodes_of bytes) q → (is_question q ≡ true → this ≡ question_id q.op) → HaveThis this (of_question which q)
 have_this bytes q which this checked within named = elim (cases_Bool (is_question q)) [
   | inl is ↦ rw is (λ i d lt.

@@ -3,12 +3,14 @@ use Rattle.std.proofs.Common.{◌≡◌, eqb, ℕ, zero, suc, ◌+◌, true, Opt
 use Rattle.std.specs.Prelude.{Contains, is_some}
 use Rattle.std.proofs.lemmas.List.Elements.{Contains-append_cases, Contains-append_left, Contains-append_right, Contains-get_or}
 use Rattle.std.proofs.lemmas.Bool.{cases_Bool, cond-true, cond-false}
-use Rattle.ifr_opcodes.specs.Forest.{Forest, none, node, flat, Mark, mark, Ancestor, Placed, as_ancestor, nodes_at, below, node_at, Spells}
+use Rattle.ifr_opcodes.specs.Forest.{Forest, none, node, flat, Mark, Ancestor, Placed, as_ancestor, nodes_at, below, node_at, SpellsForest}
+use Rattle.ifr_opcodes.specs.code.Marks.{mark}
 use Rattle.ifr_opcodes.specs.Opcode.{IsWhole}
-use Rattle.ifr_opcodes.specs.Reading.{tree_of, mark_at}
+use Rattle.ifr_opcodes.specs.Reading.{tree_of}
+use Rattle.ifr_opcodes.specs.code.Marks.{mark_at}
 use Rattle.ifr_scopes.specs.Nodes.{nodes_of}
-use Rattle.ifr_scopes.specs.Checked.{IsAt, AreAt, or_empty, node_in, has_node}
-use Rattle.ifr_scopes.specs.Visits.{under}
+use Rattle.ifr_scopes.specs.code.Checked.{IsAt, AreAt, or_empty, node_in, has_node}
+use Rattle.ifr_scopes.specs.code.Visits.{under}
 use Rattle.ifr_scopes.proofs.PlaceLemmas.{is_found, found_place, stands_at}
 use Rattle.ifr_scopes.proofs.WalkLemmas.{whole_there, marked_node}
 
@@ -16,11 +18,11 @@ pub further : {X : Type 0} (x : X) (xs : List X) (m : X) → Contains xs m → C
 further x xs m (k, lt, e) = (suc k, omega arith, e)
 
 -- the node that is found at its place
-pub node_in_place : (bytes : List ℕ) (n : Placed) → Spells bytes (tree_of bytes) → Contains (nodes_of bytes) n → node_in bytes n.place ≡ n
+pub node_in_place : (bytes : List ℕ) (n : Placed) → SpellsForest bytes (tree_of bytes) → Contains (nodes_of bytes) n → node_in bytes n.place ≡ n
 unfolding node_in
 node_in_place bytes n s within = ap or_empty (is_found bytes (tree_of bytes) n s within)
 
-pub is_at : (bytes : List ℕ) (n : Placed) → Spells bytes (tree_of bytes) → Contains (nodes_of bytes) n → IsAt bytes n.place n.op
+pub is_at : (bytes : List ℕ) (n : Placed) → SpellsForest bytes (tree_of bytes) → Contains (nodes_of bytes) n → IsAt bytes n.place n.op
 is_at bytes n s within =
     let same = node_in_place bytes n s within in
     record { there = ap is_some (is_found bytes (tree_of bytes) n s within); placed = ap (λ (p : Placed). p.place) same; opcode = ap (λ (p : Placed). p.op) same }
@@ -37,7 +39,7 @@ some_there None e = absurd (cc)
 some_there (Some n) e = (n, refl)
 
 -- the node where one stands
-pub node_there : (bytes : List ℕ) (place : ℕ) (op : List ℕ) → Spells bytes (tree_of bytes) → IsAt bytes place op
+pub node_there : (bytes : List ℕ) (place : ℕ) (op : List ℕ) → SpellsForest bytes (tree_of bytes) → IsAt bytes place op
     → (n : Placed) × (node_at (nodes_of bytes) place ≡ Some n) × Contains (nodes_of bytes) n × (node_in bytes place ≡ n)
 unfolding node_in
 node_there bytes place op s at =
@@ -63,12 +65,12 @@ below_within (node op children rest) at path n m (suc k, lt, e) inner =
     ])
 
 -- nodes of the package, each found at its place
-pub all_found : (bytes : List ℕ) (ns : List Placed) → Spells bytes (tree_of bytes) → ((n : Placed) → Contains ns n → Contains (nodes_of bytes) n) → map (λ n. node_in bytes n.place) ns ≡ ns
+pub all_found : (bytes : List ℕ) (ns : List Placed) → SpellsForest bytes (tree_of bytes) → ((n : Placed) → Contains ns n → Contains (nodes_of bytes) n) → map (λ n. node_in bytes n.place) ns ≡ ns
 all_found bytes [] s within = refl
 all_found bytes (n ∷ ns) s within =
     ap (λ (p : Placed). p ∷ map (λ n. node_in bytes n.place) ns) (node_in_place bytes n s (within n (0, omega arith, refl))) ∙ ap (λ (l : List Placed). n ∷ l) (all_found bytes ns s (λ m w. within m (further n ns m w)))
 
-pub are_at : (bytes : List ℕ) (ns : List Placed) → Spells bytes (tree_of bytes) → ((n : Placed) → Contains ns n → Contains (nodes_of bytes) n) → AreAt bytes ns
+pub are_at : (bytes : List ℕ) (ns : List Placed) → SpellsForest bytes (tree_of bytes) → ((n : Placed) → Contains ns n → Contains (nodes_of bytes) n) → AreAt bytes ns
 are_at bytes ns s within = λ i d lt. is_at bytes (get_or ns i d) s (within (get_or ns i d) (Contains-get_or ns i d lt))
 
 -- ---- the nodes of a walk inside of a node
@@ -78,24 +80,24 @@ contains_under path [] n (k, lt, e) = absurd (omega arith)
 contains_under path (m ∷ ns) n (zero, lt, e) = (0, omega arith, ap (under path) e)
 contains_under path (m ∷ ns) n (suc k, lt, e) = further (under path m) (map (under path) ns) (under path n) (contains_under path ns n (k, omega arith, e))
 
-pub all_under : (bytes : List ℕ) (path : List Ancestor) (ns : List Placed) → Spells bytes (tree_of bytes) → ((n : Placed) → Contains (map (under path) ns) n → Contains (nodes_of bytes) n)
+pub all_under : (bytes : List ℕ) (path : List Ancestor) (ns : List Placed) → SpellsForest bytes (tree_of bytes) → ((n : Placed) → Contains (map (under path) ns) n → Contains (nodes_of bytes) n)
     → map (λ n. node_in bytes n.place) ns ≡ map (under path) ns
 all_under bytes path [] s within = refl
 all_under bytes path (n ∷ ns) s within =
     ap (λ (p : Placed). p ∷ map (λ n. node_in bytes n.place) ns) (node_in_place bytes (under path n) s (within (under path n) (0, omega arith, refl)))
     ∙ ap (λ (l : List Placed). under path n ∷ l) (all_under bytes path ns s (λ m w. within m (further (under path n) (map (under path) ns) m w)))
 
-pub are_under : (bytes : List ℕ) (path : List Ancestor) (ns : List Placed) → Spells bytes (tree_of bytes) → ((n : Placed) → Contains (map (under path) ns) n → Contains (nodes_of bytes) n) → AreAt bytes ns
+pub are_under : (bytes : List ℕ) (path : List Ancestor) (ns : List Placed) → SpellsForest bytes (tree_of bytes) → ((n : Placed) → Contains (map (under path) ns) n → Contains (nodes_of bytes) n) → AreAt bytes ns
 are_under bytes path ns s within = λ i d lt.
     let n = get_or ns i d in
     is_at bytes (under path n) s (within (under path n) (contains_under path ns n (Contains-get_or ns i d lt)))
 
 -- ---- the opcode at a place where a node stands
 
-pub stands_whole : (bytes : List ℕ) (place : ℕ) → Spells bytes (tree_of bytes) → has_node bytes place ≡ true → IsWhole (mark_at bytes place).op
+pub stands_whole : (bytes : List ℕ) (place : ℕ) → SpellsForest bytes (tree_of bytes) → has_node bytes place ≡ true → IsWhole (mark_at bytes place).op
 stands_whole bytes place s there = let found = some_there (node_at (nodes_of bytes) place) there in whole_there bytes place found.0 s found.1
 
-pub stands_so : (bytes : List ℕ) (place at : ℕ) (op : List ℕ) → Spells bytes (tree_of bytes) → has_node bytes place ≡ true → record { place = at; op = op } ≡ mark_at bytes place → IsAt bytes at op
+pub stands_so : (bytes : List ℕ) (place at : ℕ) (op : List ℕ) → SpellsForest bytes (tree_of bytes) → has_node bytes place ≡ true → record { place = at; op = op } ≡ mark_at bytes place → IsAt bytes at op
 stands_so bytes place at op s there e =
     let found = some_there (node_at (nodes_of bytes) place) there in
     let within = contains_found (nodes_of bytes) place found.0 found.1 in

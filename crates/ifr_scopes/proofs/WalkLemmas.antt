@@ -6,12 +6,14 @@ use Rattle.std.proofs.lemmas.List.Elements.{All-take, All-push}
 use Rattle.std.proofs.lemmas.Bool.{eq-eqb, ne_eqb, cases_Bool}
 use Rattle.ifr_opcodes.specs.declared.codes.TheConstants.{END}
 use Rattle.ifr_opcodes.specs.Opcode.{number, stated_length, has_scope, end, IsWhole}
-use Rattle.ifr_opcodes.specs.Forest.{Forest, none, node, opcodes, height, Mark, Ancestor, Placed, Spells, mark, as_ancestor, nodes_at, nodes, node_at, below}
-use Rattle.ifr_opcodes.specs.Reading.{inside, opcodes_in, levels, tree_of, mark_at, ancestor_at}
+use Rattle.ifr_opcodes.specs.Forest.{Forest, none, node, opcodes, height, Mark, Ancestor, Placed, SpellsForest, as_ancestor, nodes_at, nodes, node_at, below}
+use Rattle.ifr_opcodes.specs.code.Marks.{mark}
+use Rattle.ifr_opcodes.specs.code.Marks.{inside, mark_at, ancestor_at}
+use Rattle.ifr_opcodes.specs.Reading.{opcodes_in, levels, tree_of}
 use Rattle.ifr_opcodes.proofs.OpcodeLemmas.{AllWhole, split_unique, stated_at}
 use Rattle.ifr_opcodes.proofs.ForestLemmas.{all_whole, opcodes_in_spelled, opcodes_scoped}
-use Rattle.ifr_scopes.specs.Visits.{under}
-use Rattle.ifr_scopes.specs.Walking.{scan, is_shallow, nodes_left, IsWalking}
+use Rattle.ifr_scopes.specs.code.Visits.{under}
+use Rattle.ifr_scopes.specs.code.Walking.{scan, is_shallow, nodes_left, IsWalking}
 use Rattle.ifr_scopes.proofs.NodeLemmas.{scan_out, scan_scoped, scan_plain, scan_all, scan_inside, scan_short, nodes_at-under, shallow_out, shallow_none, shallow_end, shallow_plain, shallow-opcodes, at_scope}
 use Rattle.ifr_scopes.proofs.PlaceLemmas.{StandsAt, stands_at, found_place}
 
@@ -165,7 +167,7 @@ begins bytes at ops small within e w shallow =
     }
 
 -- a walk from the start
-pub at_first : (bytes : List ℕ) → 4 ≤ length bytes → length bytes < 2 ^ 32 → Spells bytes (tree_of bytes) → IsWalking bytes 4 [] × (nodes_left bytes 4 [] ≡ nodes (tree_of bytes))
+pub at_first : (bytes : List ℕ) → 4 ≤ length bytes → length bytes < 2 ^ 32 → SpellsForest bytes (tree_of bytes) → IsWalking bytes 4 [] × (nodes_left bytes 4 [] ≡ nodes (tree_of bytes))
 at_first bytes header small s =
     let f = tree_of bytes in
     let shallow : is_shallow 0 (opcodes f) ≡ true = ap (is_shallow 0) (sym (append-nil (opcodes f))) ∙ shallow-opcodes f 0 [] s.are_nodes (omega (arith, s.within)) ∙ shallow_none 0 in
@@ -235,7 +237,7 @@ inside_node bytes n small s =
     ]
 
 -- a walk inside of the node at a place
-pub at_inside : (bytes : List ℕ) (place start : ℕ) (n : Placed) → length bytes < 2 ^ 32 → Spells bytes (tree_of bytes) → node_at (nodes (tree_of bytes)) place ≡ Some n → start ≡ inner_start bytes (mark_at bytes place)
+pub at_inside : (bytes : List ℕ) (place start : ℕ) (n : Placed) → length bytes < 2 ^ 32 → SpellsForest bytes (tree_of bytes) → node_at (nodes (tree_of bytes)) place ≡ Some n → start ≡ inner_start bytes (mark_at bytes place)
     → IsWalking bytes start [] × (below n ≡ map (under (n.path ++ as_ancestor n ∷ [])) (nodes_left bytes start []))
 at_inside bytes place start n small spells e is =
     let s = stands_at bytes (tree_of bytes) place n spells e in
@@ -243,7 +245,7 @@ at_inside bytes place start n small spells e is =
     subst (IsInside bytes n) (ap (inner_start bytes) (sym there) ∙ sym is) (inside_node bytes n small s)
 
 -- the opcode at a place where a node is found
-pub whole_there : (bytes : List ℕ) (place : ℕ) (n : Placed) → Spells bytes (tree_of bytes) → node_at (nodes (tree_of bytes)) place ≡ Some n → IsWhole (mark_at bytes place).op
+pub whole_there : (bytes : List ℕ) (place : ℕ) (n : Placed) → SpellsForest bytes (tree_of bytes) → node_at (nodes (tree_of bytes)) place ≡ Some n → IsWhole (mark_at bytes place).op
 whole_there bytes place n spells e =
     let s = stands_at bytes (tree_of bytes) place n spells e in
     let there : mark_at bytes place ≡ mark n = ap (mark_at bytes) (sym (found_place (nodes (tree_of bytes)) place n e)) ∙ marked_node bytes n s in

@@ -11,7 +11,9 @@ use Rattle.ifr_scopes.specs.Nodes.{nodes_of}
 -- The faults of the framing, of each node by itself or an expression, and of nodes among each other: each part has some only
 -- where those before it have none.
 abbrev pub IsPackageFault : List ℕ → Cause → ℕ → Type 0
-IsPackageFault bytes = Then (IsFramingFault bytes) (Then (IsStructureFault (nodes_of bytes)) (IsReferenceFault (nodes_of bytes)))
+IsPackageFault bytes =
+    Then (IsFramingFault bytes)
+    (Then (IsStructureFault (nodes_of bytes)) (IsReferenceFault (nodes_of bytes)))
 
 -- The package spells a forest whose nodes have no fault.
 pub record IsAccepted (bytes : List ℕ) : Type 0 where

@@ -2,7 +2,7 @@
 -- of each).
 use Rattle.std.specs.Prelude.{ℕ, ◌+◌, ◌==◌, if◌then◌else◌, Option, Some, None, List, length}
 use Rattle.ifr_opcodes.specs.declared.codes.TheConstants.{INCONSISTENT_IF, NO_SUBMIT_IF}
-use Rattle.ifr_opcodes.specs.Fields.{inconsistent_error, no_submit_error, warning_text}
+use Rattle.ifr_opcodes.specs.Fields.{inconsistent_error, no_submit_error, warning_message}
 use Rattle.ifr_opcodes.specs.Opcode.{number}
 use Rattle.ifr_opcodes.specs.Forest.{Forest, none, node, Placed}
 use Rattle.ifr_expr.specs.Reading.{tree_in}
@@ -13,18 +13,18 @@ use Rattle.ifr_scopes.specs.Table.{wants_value}
 abbrev pub expression_tree : Placed → Tree
 expression_tree n = tree_in (n.place + length n.op) n.children
 
--- that of the VALUE with which a scope begins, whose first opcode stands at a place
-abbrev pub value_in : ℕ → Forest → Option Tree
-value_in place none = None
-value_in place (node op children rest) = Some (tree_in (place + length op) children)
+-- the tree of the VALUE with which a scope begins, whose first opcode stands at a place
+abbrev pub tree_of_value : ℕ → Forest → Option Tree
+tree_of_value place none = None
+tree_of_value place (node op children rest) = Some (tree_in (place + length op) children)
 
 -- the tree of a default that is the value of an expression
 abbrev pub value_tree : Placed → Option Tree
-value_tree n = if wants_value n.op then value_in (n.place + length n.op) n.children else None
+value_tree n = if wants_value n.op then tree_of_value (n.place + length n.op) n.children else None
 
 -- the string id of the text that a question's condition tells where it holds: why it denies, or of what it warns
 abbrev pub message : List ℕ → ℕ
 message op =
     if number op == INCONSISTENT_IF then inconsistent_error op
     else if number op == NO_SUBMIT_IF then no_submit_error op
-    else warning_text op
+    else warning_message op

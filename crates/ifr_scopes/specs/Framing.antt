@@ -4,7 +4,7 @@ use Rattle.std.specs.List.{concat}
 use Rattle.hii_bytes.specs.declared.cause.Cause.{Cause}
 use Rattle.hii_bytes.specs.declared.cause.Cause.TheVariants.{OpLength, EndExtra, ScopeOpen, TooDeep}
 use Rattle.ifr_opcodes.specs.Opcode.{has_scope, end, IsWhole}
-use Rattle.ifr_opcodes.specs.Forest.{Forest, opcodes, height, AreNodes, Spells}
+use Rattle.ifr_opcodes.specs.Forest.{Forest, opcodes, height, AreNodes, SpellsForest}
 
 -- Some forest of at most 64 open scopes begins with these opcodes.
 pub record IsRun (ops : List (List ℕ)) : Type 0 where
@@ -19,21 +19,24 @@ pub record BeginsWith (bytes : List ℕ) (ops : List (List ℕ)) (rest : List �
   pub run : IsRun ops
   pub spelled : drop 4 bytes ≡ concat ops ++ rest
 
--- It is the longest run with which the package begins.
+-- This run is the longest with which the package begins.
 pub record IsLongest (bytes : List ℕ) (ops : List (List ℕ)) (rest : List ℕ) : Type 0 where
   pub begins : BeginsWith bytes ops rest
-  pub longest : (others : List (List ℕ)) (left : List ℕ) → BeginsWith bytes others left → length (concat others) ≤ length (concat ops)
+  pub longest : (others : List (List ℕ)) (left : List ℕ) → BeginsWith bytes others left
+      → length (concat others) ≤ length (concat ops)
 
 -- why the longest run is not all of the package
 abbrev pub Stops : List ℕ → Cause → List ℕ → Type 0
 -- the rest does not begin with a whole opcode
-Stops bytes OpLength rest = (rest ≡ [] → ⊥) × ((op more : List ℕ) → IsWhole op → rest ≡ op ++ more → ⊥)
+Stops bytes OpLength rest =
+    (rest ≡ [] → ⊥) × ((op more : List ℕ) → IsWhole op → rest ≡ op ++ more → ⊥)
 -- or with an END where no scope is open
 Stops bytes EndExtra rest = (more : List ℕ) × (rest ≡ end ++ more)
 -- or there is none, and a scope is open
-Stops bytes ScopeOpen rest = (rest ≡ []) × ((f : Forest) → Spells bytes f → ⊥)
+Stops bytes ScopeOpen rest = (rest ≡ []) × ((f : Forest) → SpellsForest bytes f → ⊥)
 -- or it begins with an opcode that opens a 65th scope
-Stops bytes TooDeep rest = (op more : List ℕ) × IsWhole op × (has_scope op ≡ true) × (rest ≡ op ++ more)
+Stops bytes TooDeep rest =
+    (op more : List ℕ) × IsWhole op × (has_scope op ≡ true) × (rest ≡ op ++ more)
 Stops bytes _ rest = ⊥
 
 -- A package's framing is wrong for this cause, at the end of the longest run.

@@ -21,7 +21,7 @@ nodes_on around (a ∷ path) = node_within around a ∷ nodes_on (around ++ a �
 abbrev pub ancestors : Placed → List Placed
 ancestors n = nodes_on [] n.path
 
--- those of some nodes that are guards
+-- the guards among some nodes
 abbrev pub guards_among : List Placed → List Placed
 guards_among ns = filter (λ n. is_guard (number n.op)) ns
 

@@ -7,7 +7,7 @@ use Rattle.hii_bytes.specs.declared.cause.Cause.TheVariants.{DuplicateForm, Dupl
 use Rattle.ifr_opcodes.specs.Fields.{form_id, question_id, ref_target}
 use Rattle.ifr_opcodes.specs.Forest.{Placed}
 use Rattle.ifr_scopes.specs.Nodes.{is_form, is_question, is_reference}
-use Rattle.ifr_scopes.specs.Rules.{is_rule, as_rule, rules_among, size, is_too_large}
+use Rattle.ifr_scopes.specs.Rules.{is_rule, as_rule, rules_among, size, is_rule_too_large}
 
 -- a node, with the nodes before it
 pub record Ranked : Type 0 where
@@ -32,20 +32,21 @@ is_lost ns (Some id) = not (list_any (has_form_id id) ns)
 
 -- A form has the id of a form before it; a question has the id, other than 0, of a question before it; a reference leads to
 -- a form that is not among all nodes; a rule is too large over the rules before it.
-abbrev pub has_fault : List Placed → Ranked → Cause → Bool
-has_fault ns r DuplicateForm = is_form r.node && list_any (has_form_id (form_id r.node.op)) r.before
-has_fault ns r DuplicateQuestion = is_question r.node && (not (question_id r.node.op == 0) && list_any (has_question_id (question_id r.node.op)) r.before)
-has_fault ns r NoForm = is_reference r.node && is_lost ns (ref_target r.node.op)
-has_fault ns r RuleTooLarge = is_rule r.node && is_too_large (size (rules_among r.before) (as_rule r.node))
-has_fault ns r _ = false
-
--- the causes by their numbers
-abbrev pub causes : List Cause
-causes = DuplicateForm ∷ DuplicateQuestion ∷ NoForm ∷ RuleTooLarge ∷ []
+abbrev pub has_reference_fault : List Placed → Ranked → Cause → Bool
+has_reference_fault ns r DuplicateForm =
+    is_form r.node && list_any (has_form_id (form_id r.node.op)) r.before
+has_reference_fault ns r DuplicateQuestion =
+    is_question r.node && (not (question_id r.node.op == 0)
+    && list_any (has_question_id (question_id r.node.op)) r.before)
+has_reference_fault ns r NoForm = is_reference r.node && is_lost ns (ref_target r.node.op)
+has_reference_fault ns r RuleTooLarge =
+    is_rule r.node && is_rule_too_large (size (rules_among r.before) (as_rule r.node))
+has_reference_fault ns r _ = false
 
 abbrev pub IsRankedFault : List Placed → Cause → ℕ → Type 0
-IsRankedFault ns = IsFaultOf (λ (r : Ranked). r.node.place) (has_fault ns) (ranked [] ns)
+IsRankedFault ns = IsFaultOf (λ (r : Ranked). r.node.place) (has_reference_fault ns) (ranked [] ns)
 
 -- There is no form, or a node has a fault beside those before it, or beside the forms.
 abbrev pub IsReferenceFault : List Placed → Cause → ℕ → Type 0
-IsReferenceFault ns cause place = ((filter is_form ns ≡ []) × (cause ≡ NoForm) × (place ≡ 4)) ⊎ IsRankedFault ns cause place
+IsReferenceFault ns cause place =
+    ((filter is_form ns ≡ []) × (cause ≡ NoForm) × (place ≡ 4)) ⊎ IsRankedFault ns cause place

@@ -9,7 +9,7 @@ use Rattle.ifr_expr.specs.Meaning.{Rule, names}
 use Rattle.ifr_expr.specs.Reading.{tree_in}
 use Rattle.ifr_expr.specs.References.{references}
 use Rattle.ifr_expr.specs.Trees.{Tree, post}
-use Rattle.ifr_scopes.specs.Nodes.{nodes_of, end_of}
+use Rattle.ifr_scopes.specs.Nodes.{end_of}
 use Rattle.ifr_scopes.specs.declared.rules.RuleSize.{RuleSize}
 
 abbrev pub is_rule : Placed → Bool
@@ -36,7 +36,13 @@ abbrev pub expression_place : Placed → ℕ
 expression_place n = n.place + length n.op
 
 abbrev pub as_rule : Placed → Rule
-as_rule n = record { id = rule_id n.op; ends = end_of n; form_ends = form_end n.path; tree = tree_in (expression_place n) n.children }
+as_rule n =
+    record {
+      id = rule_id n.op;
+      ends = end_of n;
+      form_ends = form_end n.path;
+      tree = tree_in (expression_place n) n.children;
+    }
 
 -- the rules among nodes, the latest first
 abbrev pub rule_nodes : List Placed → List Placed
@@ -44,9 +50,6 @@ rule_nodes ns = reverse (filter is_rule ns)
 
 abbrev pub rules_among : List Placed → List Rule
 rules_among ns = map as_rule (rule_nodes ns)
-
-abbrev pub rules_of : List ℕ → List Rule
-rules_of bytes = rules_among (nodes_of bytes)
 
 abbrev pub greatest : List ℕ → ℕ
 greatest [] = 0
@@ -72,8 +75,5 @@ abbrev pub size : List Rule → Rule → RuleSize
 size earlier r = size_over (rule_sizes earlier) r.tree
 
 -- at most 16 rules name one another, and have at most 4,096 opcodes
-abbrev pub is_too_large : RuleSize → Bool
-is_too_large s = nat_lt 16 s.depth || nat_lt 4096 s.weight
-
-abbrev pub fitting_size : RuleSize → Option RuleSize
-fitting_size s = if is_too_large s then None else Some s
+abbrev pub is_rule_too_large : RuleSize → Bool
+is_rule_too_large s = nat_lt 16 s.depth || nat_lt 4096 s.weight

@@ -1,8 +1,8 @@
 -- What is wrong with a node, as its opcode, its ancestors and its first child tell, and with the expression that stands at
 -- it (own rule).
-use Rattle.std.specs.Prelude.{◌≡◌, ◌⊎◌, ℕ, ◌+◌, Bool, true, false, ◌==◌, ◌&&◌, ◌||◌, not, if◌then◌else◌, Option, Some, None, option_map, List, [], ◌∷◌, length, Contains}
+use Rattle.std.specs.Prelude.{◌≡◌, ◌⊎◌, ℕ, ◌+◌, Bool, true, false, ◌==◌, ◌&&◌, ◌||◌, not, if◌then◌else◌, Option, Some, None, option_map, List, [], length, Contains}
 use Rattle.std.specs.List.{last_or}
-use Rattle.hii_bytes.specs.Faults.{IsFaultOf, first_cause}
+use Rattle.hii_bytes.specs.Faults.{IsFaultOf}
 use Rattle.hii_bytes.specs.declared.cause.Cause.{Cause}
 use Rattle.hii_bytes.specs.declared.cause.Cause.TheVariants.{NotFormSet, AfterFormSet, OpOutside, OpSize, Misplaced, ScopeBit, ExprShape}
 use Rattle.ifr_opcodes.specs.Opcode.{number, has_scope}
@@ -58,16 +58,16 @@ abbrev pub is_operand : Placed → Bool
 is_operand n = is_operator_scope (parent n)
 
 -- whether it is wrong that an opcode has Scope, or has none, where it stands in the scope of an operator or does not
-abbrev pub differs : Scope → Bool → List ℕ → Bool
-differs Always operand op = not (has_scope op)
-differs Sometimes operand op = false
-differs Never operand op = has_scope op
-differs Outermost operand op = operand && has_scope op
-differs WithValue operand op = if wants_value op then not (has_scope op) else has_scope op
+abbrev pub is_wrong_scope : Scope → Bool → List ℕ → Bool
+is_wrong_scope Always operand op = not (has_scope op)
+is_wrong_scope Sometimes operand op = false
+is_wrong_scope Never operand op = has_scope op
+is_wrong_scope Outermost operand op = operand && has_scope op
+is_wrong_scope WithValue operand op = if wants_value op then not (has_scope op) else has_scope op
 
 abbrev pub has_wrong_scope : Option Row → Bool → List ℕ → Bool
 has_wrong_scope None operand op = false
-has_wrong_scope (Some r) operand op = differs r.scope operand op
+has_wrong_scope (Some r) operand op = is_wrong_scope r.scope operand op
 
 -- the number of the first opcode of a forest
 abbrev pub first_number : Forest → Option ℕ
@@ -86,22 +86,25 @@ lacks_value (Some code) = is_listed code && not (code == VALUE)
 
 -- An opcode does not begin with what it wants.
 abbrev pub lacks_wanted : List ℕ → Forest → Bool
-lacks_wanted op children = (wants_expression (number op) && lacks_expression (first_number children)) || (wants_value op && lacks_value (first_number children))
+lacks_wanted op children =
+    (wants_expression (number op) && lacks_expression (first_number children))
+    || (wants_value op && lacks_value (first_number children))
 
 -- the rows of the table of faults
-abbrev pub has_fault : Placed → Cause → Bool
-has_fault n NotFormSet = (n.place == 4) && not (number n.op == FORM_SET)
-has_fault n AfterFormSet = is_root n && not (n.place == 4)
-has_fault n OpOutside = is_outside n.op
-has_fault n OpSize = is_short n.op
-has_fault n Misplaced = not (is_root n) && (not (is_wanted n) && not (admits (class_around n.path) (number n.op)))
-has_fault n ScopeBit = has_wrong_scope (row (number n.op)) (is_operand n) n.op
-has_fault n ExprShape = lacks_wanted n.op n.children
-has_fault n _ = false
+abbrev pub has_structure_fault : Placed → Cause → Bool
+has_structure_fault n NotFormSet = (n.place == 4) && not (number n.op == FORM_SET)
+has_structure_fault n AfterFormSet = is_root n && not (n.place == 4)
+has_structure_fault n OpOutside = is_outside n.op
+has_structure_fault n OpSize = is_short n.op
+has_structure_fault n Misplaced =
+    not (is_root n) && (not (is_wanted n) && not (admits (class_around n.path) (number n.op)))
+has_structure_fault n ScopeBit = has_wrong_scope (row (number n.op)) (is_operand n) n.op
+has_structure_fault n ExprShape = lacks_wanted n.op n.children
+has_structure_fault n _ = false
 
 -- the faults of the nodes, each at its place
 abbrev pub IsNodeFault : List Placed → Cause → ℕ → Type 0
-IsNodeFault ns = IsFaultOf (λ (n : Placed). n.place) has_fault ns
+IsNodeFault ns = IsFaultOf (λ (n : Placed). n.place) has_structure_fault ns
 
 -- whether an expression stands at a node
 abbrev pub is_expression : Placed → Bool
@@ -110,16 +113,11 @@ is_expression n = is_condition n && is_operator (number n.op)
 -- the faults of the expressions
 abbrev pub IsFaultOfExpression : List Placed → Cause → ℕ → Type 0
 IsFaultOfExpression ns cause place =
-    (n : Placed) × Contains ns n × (is_expression n ≡ true) × IsExpressionFault n.place (expression n.place n.op n.children) cause place
+    (n : Placed) × Contains ns n × (is_expression n ≡ true)
+    × IsExpressionFault n.place (expression n.place n.op n.children) cause place
 
 -- There is no opcode at all, or a node has a fault, or an expression.
 abbrev pub IsStructureFault : List Placed → Cause → ℕ → Type 0
 IsStructureFault ns cause place =
-    ((ns ≡ []) × (cause ≡ NotFormSet) × (place ≡ 4)) ⊎ (IsNodeFault ns cause place ⊎ IsFaultOfExpression ns cause place)
-
--- the causes by their numbers, and the first of them that a node has
-abbrev pub causes : List Cause
-causes = NotFormSet ∷ AfterFormSet ∷ OpOutside ∷ OpSize ∷ Misplaced ∷ ScopeBit ∷ ExprShape ∷ []
-
-abbrev pub least_cause : Placed → Option Cause
-least_cause n = first_cause has_fault n causes
+    ((ns ≡ []) × (cause ≡ NotFormSet) × (place ≡ 4))
+    ⊎ (IsNodeFault ns cause place ⊎ IsFaultOfExpression ns cause place)

@@ -21,8 +21,8 @@ abbrev opens : Scope → Class → Row
 opens scope class = record { scope = scope; class = class }
 
 -- opcodes with the row that they share
-abbrev pub rows : List (List ℕ × Row)
-rows =
+abbrev pub scope_rows : List (List ℕ × Row)
+scope_rows =
     (FORM_SET ∷ [], opens Always OfFormSet)
     ∷ (FORM ∷ [], opens Always OfForm)
     ∷ (SUBTITLE ∷ [], opens Sometimes OfForm)
@@ -40,24 +40,30 @@ row_in [] code = None
 row_in ((codes, r) ∷ more) code = if is_among code codes then Some r else row_in more code
 
 unfoldable pub row : ℕ → Option Row
-row code = if is_operator code then Some (opens Outermost OfExpression) else row_in rows code
+row code = if is_operator code then Some (opens Outermost OfExpression) else row_in scope_rows code
 
 -- whether an opcode of this number begins with an expression: a guard and another condition with what is to hold, a rule and
 -- a value with what they say
 abbrev pub wants_expression : ℕ → Bool
 wants_expression code = is_guard code || code == RULE || code == VALUE || is_condition_number code
 
--- whether an opcode begins with a VALUE: a default whose kind says so
+-- whether an opcode begins with a VALUE: a default whose Type says so
 abbrev pub wants_value : List ℕ → Bool
 wants_value op = number op == DEFAULT && (nat_le 5 (length op) && (default_kind op == TYPE_OTHER))
 
 -- whether an opcode of this number may stand in a scope of this class
 abbrev pub admits : Class → ℕ → Bool
-admits OfFormSet code = code == FORM || code == DEFAULTSTORE || is_store_number code || is_guard code || code == LOCKED || is_ignored code
-admits OfForm code = code == RULE || is_statement_number code || is_guard code || code == LOCKED || is_ignored code
+admits OfFormSet code =
+    code == FORM || code == DEFAULTSTORE || is_store_number code || is_guard code || code == LOCKED
+    || is_ignored code
+admits OfForm code =
+    code == RULE || is_statement_number code || is_guard code || code == LOCKED || is_ignored code
 admits OfText code = code == LOCKED || is_ignored code
-admits OfQuestion code = code == DEFAULT || is_condition_number code || code == LOCKED || is_ignored code
-admits OfChoice code = code == ONE_OF_OPTION || is_guard code || code == DEFAULT || is_condition_number code || code == LOCKED || is_ignored code
+admits OfQuestion code =
+    code == DEFAULT || is_condition_number code || code == LOCKED || is_ignored code
+admits OfChoice code =
+    code == ONE_OF_OPTION || is_guard code || code == DEFAULT || is_condition_number code
+    || code == LOCKED || is_ignored code
 admits OfOptions code = code == ONE_OF_OPTION || is_guard code || code == LOCKED || is_ignored code
 admits OfOption code = is_ignored code
 admits OfExpression code = is_operator code
@@ -73,7 +79,7 @@ abbrev pub guarded : Class → Class
 guarded OfChoice = OfOptions
 guarded class = class
 
--- those of a path that are no guards
+-- what stands on a path and is no guard
 abbrev pub others_among : List Ancestor → List Ancestor
 others_among path = filter (λ a. not (is_guard (number a.op))) path
 

@@ -1,8 +1,8 @@
 //! Conditions, be they of guards or of questions.
 
 ghost use Rattle.std.specs.Prelude.{◌≡◌};
-ghost use Rattle.ifr_expr.specs.Expressions.{tree_of};
-ghost use Rattle.ifr_scopes.specs.AnyConditions.{any_condition_node};
+ghost use Rattle.ifr_expr.specs.code.Expressions.{tree_of};
+ghost use Rattle.ifr_scopes.specs.code.AnyConditions.{any_condition_node};
 ghost use Rattle.ifr_scopes.specs.Conditions.{expression_tree};
 ghost use Rattle.ifr_scopes.specs.Nodes.{this_of};
 
@@ -13,9 +13,9 @@ use ifr_expr::Expr;
 /// A condition of a package: that of a guard, or one of a question (UEFI 2.8, 33.3.8.3).
 #[derive(Clone, Copy, Debug)]
 pub enum AnyCondition<'a> {
-    /// That of a guard.
+    /// The condition of a guard.
     Guard(Guard<'a>),
-    /// One of a question.
+    /// A condition of a question.
     Question(ConditionView<'a>),
 }
 

@@ -5,7 +5,7 @@ ghost use Rattle.std.specs.BTreeMap.{get};
 ghost use Rattle.std.specs.Ordering.{nat_cmp};
 ghost use Rattle.ifr_scopes.specs.Checked.{IsChecked};
 ghost use Rattle.ifr_scopes.specs.Guards.{is_guard as is_guard_number};
-ghost use Rattle.ifr_scopes.specs.Index.{this_at};
+ghost use Rattle.ifr_scopes.specs.code.Index.{this_at};
 ghost use Rattle.ifr_scopes.specs.Kinds.{is_condition_number};
 ghost use Rattle.ifr_scopes.specs.Nodes.{nodes_of};
 
@@ -28,7 +28,8 @@ fn is_conditional(code: u8) -> bool
 /// The index of a checked package.
 pub(crate) fn conditions_of(alloc: Global, ifr: &[u8]) -> Result<ConditionIndex, AllocError>
     requires { IsChecked ifr.now }
-    ensures { IfOk result (λ index. (place : ℕ) → get nat_cmp index place ≡ this_at (nodes_of ifr.now) place) }
+    ensures { IfOk result (λ index. (place : ℕ)
+        → get nat_cmp index place ≡ this_at (nodes_of ifr.now) place) }
 {
     let mut index = BTreeMap::new(alloc);
     let mut nodes = ScopedNodes::over(ifr);

@@ -4,8 +4,8 @@ ghost use Rattle.std.specs.Prelude.{◌≡◌, true, All};
 ghost use Rattle.ifr_opcodes.specs.Opcode.{number};
 ghost use Rattle.ifr_scopes.specs.Kinds.{is_condition_number};
 ghost use Rattle.ifr_scopes.specs.Nodes.{of_question, this_of};
-ghost use Rattle.ifr_scopes.specs.PartsLeft.{parts_left, HaveThis, HaveThis-prop};
-ghost use Rattle.ifr_scopes.specs.Views.{node_of};
+ghost use Rattle.ifr_scopes.specs.code.PartsLeft.{parts_left, HaveThis, HaveThis-prop};
+ghost use Rattle.ifr_scopes.specs.code.Views.{node_of};
 
 use crate::node::Node;
 use crate::nodes_of::NodesOf;
@@ -28,9 +28,9 @@ pub enum ConditionOp<'a> {
 impl<'a> ConditionOp<'a> {
     ghost use Rattle.std.specs.Prelude.{◌≤◌, length};
     ghost use Rattle.ifr_opcodes.specs.Fields.{least_length};
-    ghost use Rattle.ifr_opcodes.specs.Ops.{bytes_of};
+    ghost use Rattle.ifr_opcodes.specs.code.Ops.{bytes_of};
     ghost use Rattle.ifr_scopes.specs.Conditions.{message};
-    ghost use Rattle.ifr_scopes.specs.Parts.{condition_op};
+    ghost use Rattle.ifr_scopes.specs.code.Parts.{condition_op};
 
     // The view of an opcode that has all its fields.
     #[tactic(auto, unfolding(crate::specs::Kinds::is_condition_number))]
@@ -70,19 +70,19 @@ pub struct ConditionView<'a> {
 }
 
 impl<'a> ConditionView<'a> {
-    ghost use Rattle.ifr_opcodes.specs.Ops.{bytes_of};
-    ghost use Rattle.ifr_expr.specs.Expressions.{tree_of};
+    ghost use Rattle.ifr_opcodes.specs.code.Ops.{bytes_of};
+    ghost use Rattle.ifr_expr.specs.code.Expressions.{tree_of};
     ghost use Rattle.ifr_scopes.specs.Conditions.{expression_tree};
-    ghost use Rattle.ifr_scopes.specs.Parts.{condition_node, condition_op};
+    ghost use Rattle.ifr_scopes.specs.code.Parts.{condition_node, condition_op};
 
-    /// Its place, in bytes from the package's header.
+    /// The place of the condition, in bytes from the package's header.
     pub fn place(self) -> u32
         ensures { result ≡ (condition_node self.entry).place }
     {
         self.node.op().place
     }
 
-    /// Its opcode.
+    /// The opcode of the condition.
     pub fn op(self) -> ConditionOp<'a>
         ensures place { (condition_op result).place ≡ (condition_node self.entry).place }
         ensures bytes { bytes_of (condition_op result) ≡ (condition_node self.entry).op }
@@ -116,12 +116,13 @@ pub struct ConditionViews<'a> {
 
 impl<'a> ConditionViews<'a> {
     ghost use Rattle.std.specs.Prelude.{◌==◌};
-    ghost use Rattle.ifr_scopes.specs.Parts.{conditions_left};
+    ghost use Rattle.ifr_scopes.specs.code.Parts.{conditions_left};
 
-    /// Those of a number in the scope of a node, where it is a question; none of another.
+    /// The conditions of a number in the scope of a node, where it is a question; none of another.
     pub(crate) fn question(node: Node<'a>, code: u8) -> ConditionViews<'a>
         requires { is_condition_number code ≡ true }
-        ensures { conditions_left result ≡ of_question (λ n. number n.op == code) (node_of node.entry) }
+        ensures { conditions_left result
+            ≡ of_question (λ n. number n.op == code) (node_of node.entry) }
     {
         let this = if node.is_question() {
             node.question().id()
@@ -137,7 +138,7 @@ impl<'a> ConditionViews<'a> {
 
 impl<'a> Iterator for ConditionViews<'a> {
     ghost use Rattle.std.specs.Iterator.{YieldsFirstBy, item_count};
-    ghost use Rattle.ifr_scopes.specs.Parts.{condition_node, conditions_left};
+    ghost use Rattle.ifr_scopes.specs.code.Parts.{condition_node, conditions_left};
 
     type Item = ConditionView<'a>;
 

@@ -3,7 +3,7 @@
 ghost use Rattle.std.specs.Prelude.{◌≡◌, true, option_map};
 ghost use Rattle.ifr_opcodes.specs.declared.codes.TheConstants.{DEFAULT};
 ghost use Rattle.ifr_scopes.specs.Nodes.{is_default};
-ghost use Rattle.ifr_scopes.specs.Views.{node_of};
+ghost use Rattle.ifr_scopes.specs.code.Views.{node_of};
 
 use crate::node::Node;
 use crate::nodes_of::NodesOf;
@@ -20,19 +20,19 @@ pub struct DefaultView<'a> {
 }
 
 impl<'a> DefaultView<'a> {
-    ghost use Rattle.ifr_opcodes.specs.Ops.{bytes_of};
-    ghost use Rattle.ifr_expr.specs.Expressions.{tree_of};
+    ghost use Rattle.ifr_opcodes.specs.code.Ops.{bytes_of};
+    ghost use Rattle.ifr_expr.specs.code.Expressions.{tree_of};
     ghost use Rattle.ifr_scopes.specs.Conditions.{value_tree};
-    ghost use Rattle.ifr_scopes.specs.Parts.{default_node};
+    ghost use Rattle.ifr_scopes.specs.code.Parts.{default_node};
 
-    /// Its place, in bytes from the package's header.
+    /// The place of the default, in bytes from the package's header.
     pub fn place(self) -> u32
         ensures { result ≡ (default_node self.entry).place }
     {
         self.node.op().place
     }
 
-    /// Its opcode.
+    /// The opcode of the default.
     pub fn op(self) -> DefaultOp<'a>
         ensures place { result.op.place ≡ (default_node self.entry).place }
         ensures bytes { bytes_of result.op ≡ (default_node self.entry).op }
@@ -40,7 +40,7 @@ impl<'a> DefaultView<'a> {
         self.node.default()
     }
 
-    /// The expression whose value it is, where its kind says no other.
+    /// The expression whose value it is, where its Type says no other.
     pub fn value(self) -> Option<Expr<'a>>
         ensures { option_map tree_of result ≡ value_tree (default_node self.entry) }
     {
@@ -62,7 +62,7 @@ pub struct Defaults<'a> {
 
 impl<'a> Iterator for Defaults<'a> {
     ghost use Rattle.std.specs.Iterator.{YieldsFirstBy, item_count};
-    ghost use Rattle.ifr_scopes.specs.Parts.{default_node, defaults_left};
+    ghost use Rattle.ifr_scopes.specs.code.Parts.{default_node, defaults_left};
 
     type Item = DefaultView<'a>;
 

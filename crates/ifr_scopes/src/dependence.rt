@@ -1,8 +1,8 @@
 //! The questions on whose answers an expression depends.
 
 ghost use Rattle.std.specs.Prelude.{reverse};
-ghost use Rattle.ifr_scopes.specs.Frames.{HaveRoom, HaveRoom-prop};
-ghost use Rattle.ifr_scopes.specs.Rules.{rules_of};
+ghost use Rattle.ifr_scopes.specs.code.Frames.{HaveRoom, HaveRoom-prop};
+ghost use Rattle.ifr_scopes.specs.code.Rules.{rules_of};
 
 use crate::forms::Forms;
 use arrayvec::ArrayVec;
@@ -26,14 +26,15 @@ pub struct Dependence<'s, 'a> {
 
 impl<'a> Forms<'a> {
     ghost use Rattle.std.specs.Prelude.{◌≡◌};
-    ghost use Rattle.ifr_expr.specs.Dependence.{dependence};
-    ghost use Rattle.ifr_expr.specs.Expressions.{tree_of};
-    ghost use Rattle.ifr_scopes.specs.DependenceLeft.{dependence_left};
+    ghost use Rattle.ifr_expr.specs.laws.Dependence.{dependence};
+    ghost use Rattle.ifr_expr.specs.code.Expressions.{tree_of};
+    ghost use Rattle.ifr_scopes.specs.code.DependenceLeft.{dependence_left};
 
     /// The questions on whose answers an expression depends that stands in the scope of the question of an id, or of 0 for
     /// none. It takes no memory.
     pub fn dependence(&self, expr: Expr<'a>, this: u16) -> Dependence<'_, 'a>
-        ensures { dependence_left result ≡ dependence (rules_of self.now) this (tree_of expr.entry) }
+        ensures { dependence_left result
+            ≡ dependence (rules_of self.now) this (tree_of expr.entry) }
     {
         // The package is accepted, so that no rule is too deep.
         self.bytes();
@@ -51,7 +52,7 @@ impl<'a> Forms<'a> {
 
 impl<'s, 'a> Dependence<'s, 'a> {
     ghost use Rattle.std.specs.Iterator.{YieldsFirstBy};
-    ghost use Rattle.ifr_scopes.specs.DependenceLeft.{dependence_left};
+    ghost use Rattle.ifr_scopes.specs.code.DependenceLeft.{dependence_left};
 
     // Goes to the next.
     fn step(&mut self) -> Option<u16>
@@ -86,7 +87,7 @@ impl<'s, 'a> Dependence<'s, 'a> {
 
 impl<'s, 'a> Iterator for Dependence<'s, 'a> {
     ghost use Rattle.std.specs.Iterator.{YieldsFirstBy, item_count};
-    ghost use Rattle.ifr_scopes.specs.DependenceLeft.{dependence_left};
+    ghost use Rattle.ifr_scopes.specs.code.DependenceLeft.{dependence_left};
 
     type Item = u16;
 

@@ -1,9 +1,9 @@
 //! Where nodes end.
 
 ghost use Rattle.std.specs.Prelude.{◌≡◌, ◌<◌, ◌^◌, true, length};
-ghost use Rattle.ifr_opcodes.specs.Forest.{Spells};
+ghost use Rattle.ifr_opcodes.specs.Forest.{SpellsForest};
 ghost use Rattle.ifr_opcodes.specs.Reading.{tree_of};
-ghost use Rattle.ifr_scopes.specs.Checked.{has_node, node_in};
+ghost use Rattle.ifr_scopes.specs.code.Checked.{has_node, node_in};
 ghost use Rattle.ifr_scopes.specs.Nodes as nodes;
 
 use ifr_opcodes::{END, op_at, split_opcode};
@@ -12,17 +12,17 @@ use ifr_opcodes::{END, op_at, split_opcode};
 /// Both are in bytes from the package's header.
 pub(crate) fn end_of(bytes: &[u8], place: u32) -> u32
     requires small { length bytes.now < 2 ^ 32 }
-    requires spelled { Spells bytes.now (tree_of bytes.now) }
+    requires spelled { SpellsForest bytes.now (tree_of bytes.now) }
     requires there { has_node bytes.now place ≡ true }
     ensures { result ≡ nodes.end_of (node_in bytes.now place) }
 {
     end_index(bytes, place) as u32
 }
 
-// The same as an index into the package's bytes.
+// Where the node at a place ends, as an index into the package's bytes.
 fn end_index(bytes: &[u8], place: u32) -> usize
     requires small { length bytes.now < 2 ^ 32 }
-    requires spelled { Spells bytes.now (tree_of bytes.now) }
+    requires spelled { SpellsForest bytes.now (tree_of bytes.now) }
     requires there { has_node bytes.now place ≡ true }
     ensures { result ≡ nodes.end_of (node_in bytes.now place) }
 {

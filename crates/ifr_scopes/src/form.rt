@@ -2,7 +2,7 @@
 
 ghost use Rattle.std.specs.Prelude.{◌≡◌, true};
 ghost use Rattle.ifr_scopes.specs.Nodes.{is_form};
-ghost use Rattle.ifr_scopes.specs.Views.{node_of};
+ghost use Rattle.ifr_scopes.specs.code.Views.{node_of};
 
 use crate::guards_of::GuardsOf;
 use crate::node::Node;
@@ -18,19 +18,20 @@ pub struct Form<'a> {
 }
 
 impl<'a> Form<'a> {
-    ghost use Rattle.ifr_opcodes.specs.Ops.{bytes_of};
+    ghost use Rattle.ifr_opcodes.specs.code.Ops.{bytes_of};
     ghost use Rattle.ifr_scopes.specs.Nodes.{statements};
     ghost use Rattle.ifr_scopes.specs.Guards.{guards};
-    ghost use Rattle.ifr_scopes.specs.Lists.{guards_of_left, form_node, form_package, statements_left};
+    ghost use Rattle.ifr_scopes.specs.code.Lists.{guards_of_left, form_node, form_package, statements_left};
 
-    /// Its place, in bytes from the package's header.
+    /// The place of the form, in bytes from the package's header.
     pub fn place(self) -> u32
         ensures { result ≡ (form_node self.entry).place }
     {
         self.node.op().place
     }
 
-    /// Its guards, the outermost first, found by a walk from the package's start; `Forms::guards_at` looks them up.
+    /// The guards of the form, the outermost first, found by a walk from the package's start; `Forms::guards_at` looks them
+    /// up.
     pub fn guards(self) -> GuardsOf<'a>
         ensures guards { guards_of_left result ≡ guards (form_node self.entry) }
         ensures of_package { result.ifr.now ≡ form_package self.entry }
@@ -38,7 +39,7 @@ impl<'a> Form<'a> {
         GuardsOf::around(self.node.ifr, self.node.op.place)
     }
 
-    /// Its opcode.
+    /// The opcode of the form.
     pub fn op(self) -> FormOp<'a>
         ensures place { result.op.place ≡ (form_node self.entry).place }
         ensures bytes { bytes_of result.op ≡ (form_node self.entry).op }
@@ -46,7 +47,7 @@ impl<'a> Form<'a> {
         self.node.form()
     }
 
-    /// Its statements, by place.
+    /// The statements of the form, by place.
     pub fn statements(self) -> Statements<'a>
         ensures { statements_left result ≡ statements (form_node self.entry) }
     {
@@ -64,7 +65,7 @@ pub struct FormViews<'a> {
 
 impl<'a> Iterator for FormViews<'a> {
     ghost use Rattle.std.specs.Iterator.{YieldsFirstBy, item_count};
-    ghost use Rattle.ifr_scopes.specs.Lists.{form_node, forms_left};
+    ghost use Rattle.ifr_scopes.specs.code.Lists.{form_node, forms_left};
 
     type Item = Form<'a>;
 

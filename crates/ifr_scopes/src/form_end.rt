@@ -4,8 +4,9 @@ ghost use Rattle.std.specs.Prelude.{◌≡◌, true, map, option_map, All, IfSom
 ghost use Rattle.std.specs.List.{last_or};
 ghost use Rattle.std.specs.Prelude.{None};
 ghost use Rattle.ifr_opcodes.specs.Opcode.{IsWhole};
-ghost use Rattle.ifr_opcodes.specs.Reading.{mark_at, ancestor_at};
-ghost use Rattle.ifr_scopes.specs.Checked.{IsChecked, has_node, node_in};
+ghost use Rattle.ifr_opcodes.specs.code.Marks.{mark_at, ancestor_at};
+ghost use Rattle.ifr_scopes.specs.Checked.{IsChecked};
+ghost use Rattle.ifr_scopes.specs.code.Checked.{has_node, node_in};
 ghost use Rattle.ifr_scopes.specs.Nodes as ends;
 ghost use Rattle.ifr_scopes.specs.Rules.{forms_among};
 
@@ -15,7 +16,8 @@ use ifr_opcodes::FORM;
 /// The place of the innermost form among the nodes at these places, if there is one.
 pub(crate) fn form_among(bytes: &[u8], places: &[u32]) -> Option<u32>
     requires { All (λ place. IsWhole (mark_at bytes.now place).op) places.now }
-    ensures { result ≡ option_map (λ a. a.place) (last_or None (forms_among (map (ancestor_at bytes.now) places.now))) }
+    ensures { result ≡ option_map (λ a. a.place)
+        (last_or None (forms_among (map (ancestor_at bytes.now) places.now))) }
 {
     let mut found = None;
     for place in places {
@@ -34,11 +36,12 @@ pub(crate) struct FormEnd {
 }
 
 impl FormEnd {
-    /// That of the form at a place, which may be the one that is known.
+    /// The end of the form at a place, which may be the one that is known.
     pub(crate) fn at(ifr: &[u8], place: u32, known: Option<FormEnd>) -> FormEnd
         requires checked { IsChecked ifr.now }
         requires there { has_node ifr.now place ≡ true }
-        requires known { IfSome known (λ form. form.ends ≡ ends.end_of (node_in ifr.now form.place)) }
+        requires known { IfSome known (λ form. form.ends
+            ≡ ends.end_of (node_in ifr.now form.place)) }
         ensures place { result.place ≡ place }
         ensures ends { result.ends ≡ ends.end_of (node_in ifr.entry.now place) }
     {

@@ -2,7 +2,7 @@
 
 ghost use Rattle.std.specs.Prelude.{◌≡◌, true};
 ghost use Rattle.ifr_scopes.specs.Nodes.{is_form_set};
-ghost use Rattle.ifr_scopes.specs.Views.{node_of};
+ghost use Rattle.ifr_scopes.specs.code.Views.{node_of};
 
 use crate::node::Node;
 use ifr_opcodes::FormSetOp;
@@ -15,17 +15,17 @@ pub struct FormSet<'a> {
 }
 
 impl<'a> FormSet<'a> {
-    ghost use Rattle.ifr_opcodes.specs.Ops.{bytes_of};
-    ghost use Rattle.ifr_scopes.specs.Lists.{form_set_node};
+    ghost use Rattle.ifr_opcodes.specs.code.Ops.{bytes_of};
+    ghost use Rattle.ifr_scopes.specs.code.Lists.{form_set_node};
 
-    /// Its place, in bytes from the package's header.
+    /// The place of the form set, in bytes from the package's header.
     pub fn place(self) -> u32
         ensures { result ≡ (form_set_node self.entry).place }
     {
         self.node.op().place
     }
 
-    /// Its opcode.
+    /// The opcode of the form set.
     pub fn op(self) -> FormSetOp<'a>
         ensures place { result.op.place ≡ (form_set_node self.entry).place }
         ensures bytes { bytes_of result.op ≡ (form_set_node self.entry).op }

@@ -5,15 +5,15 @@ ghost use Rattle.hii_bytes.specs.Faults.{Refuses};
 ghost use Rattle.ifr_opcodes.specs.Forest.{Placed};
 ghost use Rattle.ifr_opcodes.specs.Opcode.{number};
 ghost use Rattle.ifr_scopes.specs.Accepted.{IsAccepted, IsPackageFault};
-ghost use Rattle.ifr_scopes.specs.AnyConditions.{any_condition_node};
-ghost use Rattle.ifr_scopes.specs.Checked.{node_in};
+ghost use Rattle.ifr_scopes.specs.code.AnyConditions.{any_condition_node};
+ghost use Rattle.ifr_scopes.specs.code.Checked.{node_in};
 ghost use Rattle.ifr_scopes.specs.Guards.{is_guard};
-ghost use Rattle.ifr_scopes.specs.Index.{conditional_at, guards_of_indexed, lock_of_indexed};
-ghost use Rattle.ifr_scopes.specs.Kept.{AreKept};
-ghost use Rattle.ifr_scopes.specs.Lists.{form_set_node, stores_left, all_guards_left, forms_left, statements_left, guards_left};
-ghost use Rattle.ifr_scopes.specs.LocksLeft.{lock_node};
+ghost use Rattle.ifr_scopes.specs.code.Index.{conditional_at, guards_of_indexed, lock_of_indexed};
+ghost use Rattle.ifr_scopes.specs.code.Kept.{AreKept};
+ghost use Rattle.ifr_scopes.specs.code.Lists.{form_set_node, stores_left, all_guards_left, forms_left, statements_left, guards_left};
+ghost use Rattle.ifr_scopes.specs.code.LocksLeft.{lock_node};
 ghost use Rattle.ifr_scopes.specs.Nodes.{nodes_of, is_form, is_store, is_statement, is_no_submit};
-ghost use Rattle.ifr_scopes.specs.NoSubmitsLeft.{no_submits_left};
+ghost use Rattle.ifr_scopes.specs.code.NoSubmitsLeft.{no_submits_left};
 
 use crate::any_condition::AnyCondition;
 use crate::condition_index::{ConditionIndex, conditions_of};
@@ -57,19 +57,22 @@ impl<'a> Model for Forms<'a> {
     ghost use Rattle.std.specs.Prelude.{ℕ, List, option_map};
     ghost use Rattle.std.specs.BTreeMap.{get};
     ghost use Rattle.std.specs.Ordering.{nat_cmp};
-    ghost use Rattle.ifr_scopes.specs.ReadForms.{IsReadAs};
+    ghost use Rattle.ifr_scopes.specs.code.ReadForms.{IsReadAs};
 
     ghost Value = { List ℕ };
 
     ghost view = { λ s. s.ifr.now };
 
-    ghost invariant = { λ s. IsReadAs s.ifr.now (λ place. option_map (λ v. v.items) (get nat_cmp s.index place)) s.rules (λ place. get nat_cmp s.locks place) s.no_submits.items (λ place. get nat_cmp s.conditions place) };
+    ghost invariant = { λ s. IsReadAs s.ifr.now
+        (λ place. option_map (λ v. v.items) (get nat_cmp s.index place)) s.rules
+        (λ place. get nat_cmp s.locks place) s.no_submits.items
+        (λ place. get nat_cmp s.conditions place) };
 }
 
 impl<'a> Forms<'a> {
     /// The form set of a package, or the least fault: of the framing (20 to 23), of a node by itself or an expression (24
-    /// to 31), of nodes among each other (32, 33, 39, 40). Places are in bytes from the package's header. Want of memory is
-    /// OutOfMemory.
+    /// to 31), of nodes among each other (32, 33, 39, 40). Places are in bytes from the package's header. Where an
+    /// allocation fails the fault is OutOfMemory (60) at 0.
     pub fn read(alloc: Global, source: Package<'a>) -> Result<Forms<'a>, Fault>
         ensures read { IfOk result (λ forms. forms ≡ source.entry.bytes.now) }
         ensures accepted { IfOk result IsAccepted }
@@ -79,26 +82,18 @@ impl<'a> Forms<'a> {
         check_framing(ifr)?;
         check_structure(ifr)?;
         let rules = check_references(alloc, ifr)?;
-        let Ok(index) = index_of(alloc, ifr) else {
-            return Err(Fault::out_of_memory());
-        };
-        let Ok(locks) = locks_of(alloc, ifr) else {
-            return Err(Fault::out_of_memory());
-        };
-        let Ok(no_submits) = no_submits_of(alloc, ifr) else {
-            return Err(Fault::out_of_memory());
-        };
-        match conditions_of(alloc, ifr) {
-            Ok(conditions) => Ok(Forms {
-                ifr,
-                rules,
-                index,
-                locks,
-                no_submits,
-                conditions,
-            }),
-            Err(_) => Err(Fault::out_of_memory()),
-        }
+        let index = index_of(alloc, ifr)?;
+        let locks = locks_of(alloc, ifr)?;
+        let no_submits = no_submits_of(alloc, ifr)?;
+        let conditions = conditions_of(alloc, ifr)?;
+        Ok(Forms {
+            ifr,
+            rules,
+            index,
+            locks,
+            no_submits,
+            conditions,
+        })
     }
 
     /// The bytes of the package, which is accepted.
@@ -128,7 +123,8 @@ impl<'a> Forms<'a> {
 
     /// All guards, by place.
     pub fn guards(&self) -> GuardViews<'a>
-        ensures { all_guards_left result ≡ filter (λ n. is_guard (number n.op)) (nodes_of self.now) }
+        ensures { all_guards_left result
+            ≡ filter (λ n. is_guard (number n.op)) (nodes_of self.now) }
     {
         GuardViews {
             nodes: ScopedNodes::over(self.ifr),
@@ -163,10 +159,11 @@ impl<'a> Forms<'a> {
         }
     }
 
-    // These guards as the index keeps them.
+    // The guards of the form, statement or option at a place, as the index keeps them.
     fn kept_at(&self, place: u32) -> &[GuardPlace]
         ensures guards { AreKept self.now result.now }
-        ensures again { map (λ guard. node_in self.now guard.place) result.now ≡ guards_of_indexed (nodes_of self.now) place }
+        ensures again { map (λ guard. node_in self.now guard.place) result.now
+            ≡ guards_of_indexed (nodes_of self.now) place }
     {
         match self.index.get(&place) {
             Some(guards) => guards.as_slice(),
@@ -210,7 +207,7 @@ impl<'a> Forms<'a> {
 }
 
 impl<'a> Rules<'a> for Forms<'a> {
-    ghost use Rattle.ifr_scopes.specs.Rules.{rules_of};
+    ghost use Rattle.ifr_scopes.specs.code.Rules.{rules_of};
 
     ghost rules = { λ forms. rules_of forms };
 

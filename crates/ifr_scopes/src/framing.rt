@@ -2,7 +2,7 @@
 
 ghost use Rattle.std.specs.Prelude.{◌≤◌, ◌<◌, ◌^◌, length, IfErr, OnOk};
 ghost use Rattle.hii_bytes.specs.Faults.{IsLeast};
-ghost use Rattle.ifr_opcodes.specs.Forest.{Spells};
+ghost use Rattle.ifr_opcodes.specs.Forest.{SpellsForest};
 ghost use Rattle.ifr_opcodes.specs.Reading.{tree_of};
 ghost use Rattle.ifr_scopes.specs.Framing.{IsFramingFault};
 
@@ -20,7 +20,7 @@ const MAX_DEPTH: usize = 64;
 pub(crate) fn check_framing(bytes: &[u8]) -> Result<(), Fault>
     requires header { 4 ≤ length bytes.now }
     requires small { length bytes.now < 2 ^ 32 }
-    ensures spelled { OnOk result (Spells bytes.now (tree_of bytes.now)) }
+    ensures spelled { OnOk result (SpellsForest bytes.now (tree_of bytes.now)) }
     ensures refused { IfErr result (IsLeast (IsFramingFault bytes.now)) }
 {
     let mut rest = &bytes[HEADER..];
@@ -28,10 +28,7 @@ pub(crate) fn check_framing(bytes: &[u8]) -> Result<(), Fault>
     while !rest.is_empty() {
         let place = (bytes.len() - rest.len()) as u32;
         let Some((op, others)) = split_opcode(rest, place) else {
-            return Err(Fault {
-                cause: Cause::OpLength,
-                place: u64::from(place),
-            });
+            return Err(Fault::at(Cause::OpLength, u64::from(place)));
         };
         if op.code == END {
             if depth == 0 {
@@ -47,10 +44,7 @@ pub(crate) fn check_framing(bytes: &[u8]) -> Result<(), Fault>
         rest = others;
     }
     if depth != 0 {
-        return Err(Fault {
-            cause: Cause::ScopeOpen,
-            place: bytes.len() as u64,
-        });
+        return Err(Fault::at(Cause::ScopeOpen, bytes.len() as u64));
     }
     Ok(())
 }

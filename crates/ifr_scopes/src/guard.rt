@@ -4,7 +4,7 @@ ghost use Rattle.std.specs.Prelude.{◌≡◌, true};
 ghost use Rattle.ifr_opcodes.specs.Opcode.{number};
 ghost use Rattle.ifr_scopes.specs.Guards.{is_guard};
 ghost use Rattle.ifr_scopes.specs.Nodes.{this_of};
-ghost use Rattle.ifr_scopes.specs.Views.{node_of};
+ghost use Rattle.ifr_scopes.specs.code.Views.{node_of};
 
 use crate::node::Node;
 use crate::scoped_nodes::ScopedNodes;
@@ -22,18 +22,18 @@ pub struct Guard<'a> {
 
 impl<'a> Guard<'a> {
     ghost use Rattle.ifr_opcodes.specs.Forest.{as_ancestor};
-    ghost use Rattle.ifr_opcodes.specs.Ops.{bytes_of};
+    ghost use Rattle.ifr_opcodes.specs.code.Ops.{bytes_of};
     ghost use Rattle.ifr_scopes.specs.Conditions.{expression_tree};
-    ghost use Rattle.ifr_expr.specs.Expressions.{tree_of};
+    ghost use Rattle.ifr_expr.specs.code.Expressions.{tree_of};
 
-    /// Its place, in bytes from the package's header.
+    /// The place of the guard, in bytes from the package's header.
     pub fn place(self) -> u32
         ensures { result ≡ (node_of self.entry.node).place }
     {
         self.node.op().place
     }
 
-    /// Its opcode.
+    /// The opcode of the guard.
     pub fn op(self) -> Op<'a>
         ensures place { result.place ≡ (node_of self.entry.node).place }
         ensures bytes { bytes_of result ≡ (node_of self.entry.node).op }
@@ -48,7 +48,7 @@ impl<'a> Guard<'a> {
         self.this
     }
 
-    /// Its condition: the expression with which its scope begins.
+    /// The condition of the guard: the expression with which its scope begins.
     pub fn condition(self) -> Expr<'a>
         ensures { tree_of result ≡ expression_tree (node_of self.entry.node) }
     {
@@ -64,7 +64,7 @@ pub struct GuardViews<'a> {
 
 impl<'a> Iterator for GuardViews<'a> {
     ghost use Rattle.std.specs.Iterator.{YieldsFirstBy, item_count};
-    ghost use Rattle.ifr_scopes.specs.Lists.{guard_node, all_guards_left};
+    ghost use Rattle.ifr_scopes.specs.code.Lists.{guard_node, all_guards_left};
 
     type Item = Guard<'a>;
 

@@ -1,3 +1,5 @@
+//! Where guards stand, as the index keeps them.
+
 /// Where a guard stands, in bytes from the package's header, and the id of the question in whose scope it stands, or 0.
 #[derive(Clone, Copy, Debug, Default)]
 pub struct GuardPlace {

@@ -2,13 +2,13 @@
 
 ghost use Rattle.std.specs.Prelude.{◌≡◌, ◌≤◌, ◌∷◌, ◌++◌, [], List, length, map};
 ghost use Rattle.ifr_opcodes.specs.Forest.{Ancestor, as_ancestor};
-ghost use Rattle.ifr_opcodes.specs.Reading.{ancestor_at};
+ghost use Rattle.ifr_opcodes.specs.code.Marks.{ancestor_at};
 ghost use Rattle.ifr_scopes.specs.Checked.{IsChecked};
 ghost use Rattle.ifr_scopes.specs.Guards.{is_guard as is_guard_spec, guards_among as guards_among_spec, nodes_on};
-ghost use Rattle.ifr_scopes.specs.Kept.{kept_guard};
+ghost use Rattle.ifr_scopes.specs.code.Kept.{kept_guard};
 ghost use Rattle.ifr_scopes.specs.Nodes.{this_among as this_among_spec};
-ghost use Rattle.ifr_scopes.specs.Scopes.{AreScopes};
-ghost use Rattle.ifr_scopes.specs.Views.{node_of};
+ghost use Rattle.ifr_scopes.specs.code.Scopes.{AreScopes};
+ghost use Rattle.ifr_scopes.specs.code.Views.{node_of};
 
 use crate::guard_place::GuardPlace;
 use crate::node::Node;
@@ -25,7 +25,8 @@ pub(crate) fn is_guard(code: u8) -> bool
 
 // The id of the innermost question, where a node's scope is entered and this is the one around it.
 fn this_within(node: Node<'_>, this: u16) -> u16
-    ensures { (path : List Ancestor) → this_among_spec path ≡ this → this_among_spec (path ++ as_ancestor (node_of node.entry) ∷ []) ≡ result }
+    ensures { (path : List Ancestor) → this_among_spec path ≡ this
+        → this_among_spec (path ++ as_ancestor (node_of node.entry) ∷ []) ≡ result }
 {
     if node.is_question() {
         node.question().id()
@@ -53,7 +54,8 @@ pub(crate) fn guards_among(ifr: &[u8], places: &[u32]) -> ArrayVec<GuardPlace, 6
     requires room { length places.now ≤ 64 }
     requires checked { IsChecked ifr.now }
     requires scopes { AreScopes ifr.now places.now }
-    ensures { result.items ≡ map kept_guard (guards_among_spec (nodes_on [] (map (ancestor_at ifr.now) places.now))) }
+    ensures { result.items ≡ map kept_guard
+        (guards_among_spec (nodes_on [] (map (ancestor_at ifr.now) places.now))) }
 {
     let mut guards = ArrayVec::new();
     let mut this = 0;

@@ -1,8 +1,9 @@
 //! The guards at places that were kept.
 
 ghost use Rattle.std.specs.Prelude.{◌≡◌, IfSome};
-ghost use Rattle.ifr_scopes.specs.Checked.{IsChecked, IsChecked-prop};
-ghost use Rattle.ifr_scopes.specs.Kept.{AreKept, AreKept-prop};
+ghost use Rattle.ifr_scopes.specs.Checked.{IsChecked};
+ghost use Rattle.ifr_scopes.specs.code.Checked.{IsChecked-prop};
+ghost use Rattle.ifr_scopes.specs.code.Kept.{AreKept, AreKept-prop};
 
 use crate::guard::Guard;
 use crate::guard_place::GuardPlace;
@@ -19,7 +20,7 @@ pub struct GuardsAt<'s, 'a> {
 
 impl<'s, 'a> GuardsAt<'s, 'a> {
     ghost use Rattle.std.specs.Iterator.{YieldsFirstBy};
-    ghost use Rattle.ifr_scopes.specs.Lists.{guard_node, guard_package, guards_left};
+    ghost use Rattle.ifr_scopes.specs.code.Lists.{guard_node, guard_package, guards_left};
 
     /// Goes to the next guard, as `next` does: one of the same package.
     pub fn step(&mut self) -> Option<Guard<'a>>
@@ -39,7 +40,7 @@ impl<'s, 'a> GuardsAt<'s, 'a> {
 
 impl<'s, 'a> Iterator for GuardsAt<'s, 'a> {
     ghost use Rattle.std.specs.Iterator.{YieldsFirstBy, item_count};
-    ghost use Rattle.ifr_scopes.specs.Lists.{guard_node, guards_left};
+    ghost use Rattle.ifr_scopes.specs.code.Lists.{guard_node, guards_left};
 
     type Item = Guard<'a>;
 

@@ -1,9 +1,10 @@
 //! The guards around one node, found by a walk.
 
 ghost use Rattle.std.specs.Prelude.{◌≡◌, true, IfSome};
-ghost use Rattle.ifr_scopes.specs.Checked.{IsChecked, IsChecked-prop, has_node, node_in};
+ghost use Rattle.ifr_scopes.specs.Checked.{IsChecked};
+ghost use Rattle.ifr_scopes.specs.code.Checked.{IsChecked-prop, has_node, node_in};
 ghost use Rattle.ifr_scopes.specs.Guards.{guards as guards_of_node};
-ghost use Rattle.ifr_scopes.specs.Kept.{AreKept, AreKept-prop, kept_guards};
+ghost use Rattle.ifr_scopes.specs.code.Kept.{AreKept, AreKept-prop, kept_guards};
 
 use crate::guard::Guard;
 use crate::guard_place::GuardPlace;
@@ -24,9 +25,9 @@ pub struct GuardsOf<'a> {
 impl<'a> GuardsOf<'a> {
     ghost use Rattle.std.specs.Iterator.{YieldsFirstBy};
     ghost use Rattle.ifr_opcodes.specs.Forest.{Ancestor};
-    ghost use Rattle.ifr_scopes.specs.Lists.{guard_node, guard_package, guards_of_left};
+    ghost use Rattle.ifr_scopes.specs.code.Lists.{guard_node, guard_package, guards_of_left};
 
-    /// Those of the node at a place of a checked package.
+    /// The guards of the node at a place of a checked package.
     pub(crate) fn around(ifr: &'a [u8], place: u32) -> GuardsOf<'a>
         requires checked { IsChecked ifr.now }
         requires there { has_node ifr.now place ≡ true }
@@ -69,7 +70,7 @@ fn guards_around(ifr: &[u8], place: u32) -> ArrayVec<GuardPlace, 64>
 
 impl<'a> Iterator for GuardsOf<'a> {
     ghost use Rattle.std.specs.Iterator.{YieldsFirstBy, item_count};
-    ghost use Rattle.ifr_scopes.specs.Lists.{guard_node, guards_of_left};
+    ghost use Rattle.ifr_scopes.specs.code.Lists.{guard_node, guards_of_left};
 
     type Item = Guard<'a>;
 

@@ -5,7 +5,7 @@ ghost use Rattle.std.specs.BTreeMap.{get};
 ghost use Rattle.std.specs.Ordering.{nat_cmp};
 ghost use Rattle.ifr_opcodes.specs.declared.codes.TheConstants as codes;
 ghost use Rattle.ifr_scopes.specs.Checked.{IsChecked};
-ghost use Rattle.ifr_scopes.specs.Kept.{kept_at};
+ghost use Rattle.ifr_scopes.specs.code.Kept.{kept_at};
 ghost use Rattle.ifr_opcodes.specs.Statements.{is_statement_number};
 ghost use Rattle.ifr_scopes.specs.Nodes.{nodes_of};
 
@@ -21,7 +21,8 @@ pub(crate) type Index = BTreeMap<u32, SmallVec<GuardPlace, 4>>;
 
 /// Whether this is the number of a form, a statement or an option.
 pub(crate) fn is_indexed(code: u8) -> bool
-    ensures { result ≡ (code == codes.FORM || is_statement_number code || code == codes.ONE_OF_OPTION) }
+    ensures { result ≡ (code == codes.FORM || is_statement_number code
+        || code == codes.ONE_OF_OPTION) }
 {
     code == FORM || is_statement(code) || code == ONE_OF_OPTION
 }
@@ -29,7 +30,8 @@ pub(crate) fn is_indexed(code: u8) -> bool
 /// The index of a checked package.
 pub(crate) fn index_of(alloc: Global, ifr: &[u8]) -> Result<Index, AllocError>
     requires { IsChecked ifr.now }
-    ensures { IfOk result (λ index. (place : ℕ) → option_map (λ v. v.items) (get nat_cmp index place) ≡ kept_at (nodes_of ifr.now) place) }
+    ensures { IfOk result (λ index. (place : ℕ)
+        → option_map (λ v. v.items) (get nat_cmp index place) ≡ kept_at (nodes_of ifr.now) place) }
 {
     let mut index = BTreeMap::new(alloc);
     let mut nodes = ScopedNodes::over(ifr);

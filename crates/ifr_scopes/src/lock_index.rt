@@ -4,8 +4,8 @@ ghost use Rattle.std.specs.Prelude.{◌≡◌, ℕ, IfOk};
 ghost use Rattle.std.specs.BTreeMap.{get};
 ghost use Rattle.std.specs.Ordering.{nat_cmp};
 ghost use Rattle.ifr_scopes.specs.Checked.{IsChecked};
-ghost use Rattle.ifr_scopes.specs.Index.{lock_place_at};
-ghost use Rattle.ifr_scopes.specs.Locks.{first_place, first_some};
+ghost use Rattle.ifr_scopes.specs.code.Index.{lock_place_at};
+ghost use Rattle.ifr_scopes.specs.code.LockIndex.{first_place, first_some};
 ghost use Rattle.ifr_scopes.specs.Nodes.{nodes_of};
 
 use crate::index::is_indexed;
@@ -20,7 +20,8 @@ pub(crate) type LockIndex = BTreeMap<u32, u32>;
 // The place of the first LOCKED directly in each scope that has one, by the place of what the scope is of.
 fn first_locks(alloc: Global, ifr: &[u8]) -> Result<BTreeMap<u32, u32>, AllocError>
     requires { IsChecked ifr.now }
-    ensures { IfOk result (λ locks. (scope : ℕ) → get nat_cmp locks scope ≡ first_place (nodes_of ifr.now) scope) }
+    ensures { IfOk result (λ locks. (scope : ℕ)
+        → get nat_cmp locks scope ≡ first_place (nodes_of ifr.now) scope) }
 {
     let mut locks = BTreeMap::new(alloc);
     let mut nodes = ScopedNodes::over(ifr);
@@ -52,7 +53,8 @@ fn first_along(found: &BTreeMap<u32, u32>, places: &[u32]) -> Option<u32>
 /// The index of a checked package.
 pub(crate) fn locks_of(alloc: Global, ifr: &[u8]) -> Result<LockIndex, AllocError>
     requires { IsChecked ifr.now }
-    ensures { IfOk result (λ locks. (place : ℕ) → get nat_cmp locks place ≡ lock_place_at (nodes_of ifr.now) place) }
+    ensures { IfOk result (λ locks. (place : ℕ)
+        → get nat_cmp locks place ≡ lock_place_at (nodes_of ifr.now) place) }
 {
     let found = first_locks(alloc, ifr)?;
     let mut locks = BTreeMap::new(alloc);

@@ -1,9 +1,10 @@
 //! The LOCKED of nodes, found by walks from the package's start.
 
 ghost use Rattle.std.specs.Prelude.{◌≡◌, true};
-ghost use Rattle.ifr_scopes.specs.Checked.{IsChecked, IsChecked-prop, has_node, node_in};
+ghost use Rattle.ifr_scopes.specs.Checked.{IsChecked};
+ghost use Rattle.ifr_scopes.specs.code.Checked.{IsChecked-prop, has_node, node_in};
 ghost use Rattle.ifr_scopes.specs.Locks.{is_locked, chain as chain_spec};
-ghost use Rattle.ifr_scopes.specs.Views.{node_of};
+ghost use Rattle.ifr_scopes.specs.code.Views.{node_of};
 
 use crate::node::Node;
 use crate::scoped_nodes::ScopedNodes;
@@ -19,17 +20,17 @@ pub struct LockView<'a> {
 }
 
 impl<'a> LockView<'a> {
-    ghost use Rattle.ifr_opcodes.specs.Ops.{bytes_of};
-    ghost use Rattle.ifr_scopes.specs.LocksLeft.{lock_node};
+    ghost use Rattle.ifr_opcodes.specs.code.Ops.{bytes_of};
+    ghost use Rattle.ifr_scopes.specs.code.LocksLeft.{lock_node};
 
-    /// Its place, in bytes from the package's header.
+    /// The place of the LOCKED, in bytes from the package's header.
     pub fn place(self) -> u32
         ensures { result ≡ (lock_node self.entry).place }
     {
         self.node.op().place
     }
 
-    /// Its opcode.
+    /// The opcode of the LOCKED.
     pub fn op(self) -> Op<'a>
         ensures place { result.place ≡ (lock_node self.entry).place }
         ensures bytes { bytes_of result ≡ (lock_node self.entry).op }
@@ -53,11 +54,11 @@ pub struct Locks<'a> {
 impl<'a> Locks<'a> {
     ghost use Rattle.std.specs.Prelude.{◌∷◌, [], IfNone, IfSome, filter};
     ghost use Rattle.ifr_scopes.specs.Locks.{locks, locks_scope};
-    ghost use Rattle.ifr_scopes.specs.LocksLeft.{lock_node, locks_left};
+    ghost use Rattle.ifr_scopes.specs.code.LocksLeft.{lock_node, locks_left};
     ghost use Rattle.ifr_scopes.specs.Nodes.{nodes_of};
-    ghost use Rattle.ifr_scopes.specs.Visits.{left};
+    ghost use Rattle.ifr_scopes.specs.code.Visits.{left};
 
-    /// Those of the node at a place of a checked package.
+    /// The LOCKED of the node at a place of a checked package.
     pub(crate) fn around(ifr: &'a [u8], place: u32) -> Locks<'a>
         requires checked { IsChecked ifr.now }
         requires there { has_node ifr.now place ≡ true }
@@ -74,9 +75,12 @@ impl<'a> Locks<'a> {
 
     // Goes to the next LOCKED of the scope that is looked through.
     fn step_in(&mut self, scope: u32) -> Option<LockView<'a>>
-        ensures none { IfNone result ((filter (locks_scope scope) (left self.old.nodes.walk) ≡ []) × (left self.new.nodes.walk ≡ [])) }
-        ensures some { IfSome result (λ lock. filter (locks_scope scope) (left self.old.nodes.walk) ≡ lock_node lock ∷ filter (locks_scope scope) (left self.new.nodes.walk)) }
-        ensures stays { (self.new.ifr ≡ self.old.ifr) × (self.new.chain ≡ self.old.chain) × (self.new.next ≡ self.old.next) × (self.new.scope ≡ self.old.scope) }
+        ensures none { IfNone result ((filter (locks_scope scope) (left self.old.nodes.walk) ≡ [])
+            × (left self.new.nodes.walk ≡ [])) }
+        ensures some { IfSome result (λ lock. filter (locks_scope scope) (left self.old.nodes.walk)
+            ≡ lock_node lock ∷ filter (locks_scope scope) (left self.new.nodes.walk)) }
+        ensures stays { (self.new.ifr ≡ self.old.ifr) × (self.new.chain ≡ self.old.chain)
+            × (self.new.next ≡ self.old.next) × (self.new.scope ≡ self.old.scope) }
     {
         while let Some(met) = self.nodes.step() {
             let op = met.node.op();
@@ -105,7 +109,7 @@ fn chain_of(ifr: &[u8], place: u32) -> ArrayVec<u32, 65>
 
 impl<'a> Iterator for Locks<'a> {
     ghost use Rattle.std.specs.Iterator.{YieldsFirstBy, item_count};
-    ghost use Rattle.ifr_scopes.specs.LocksLeft.{lock_node, locks_left};
+    ghost use Rattle.ifr_scopes.specs.code.LocksLeft.{lock_node, locks_left};
 
     type Item = LockView<'a>;
 

@@ -1,12 +1,13 @@
 //! The conditions that deny a submission, of all questions.
 
 ghost use Rattle.std.specs.Prelude.{◌≡◌, IfOk, filter, map};
-ghost use Rattle.ifr_scopes.specs.Checked.{IsChecked, nodes_prop};
+ghost use Rattle.ifr_scopes.specs.Checked.{IsChecked};
+ghost use Rattle.ifr_scopes.specs.code.Checked.{nodes_prop};
 ghost use Rattle.ifr_scopes.specs.Guards.{guards as guards_of_node};
-ghost use Rattle.ifr_scopes.specs.KeptNoSubmits.{kept_no_submit, AreKeptNoSubmits, AreKeptNoSubmits-prop};
-ghost use Rattle.ifr_scopes.specs.Lists.{guards_left};
+ghost use Rattle.ifr_scopes.specs.code.KeptNoSubmits.{kept_no_submit, AreKeptNoSubmits, AreKeptNoSubmits-prop};
+ghost use Rattle.ifr_scopes.specs.code.Lists.{guards_left};
 ghost use Rattle.ifr_scopes.specs.Nodes.{nodes_of, is_no_submit};
-ghost use Rattle.ifr_scopes.specs.Parts.{condition_node};
+ghost use Rattle.ifr_scopes.specs.code.Parts.{condition_node};
 
 use crate::condition_view::ConditionView;
 use crate::forms::Forms;
@@ -27,7 +28,8 @@ pub struct NoSubmitPlace {
 /// The NO_SUBMIT_IFs of a checked package, by place.
 pub(crate) fn no_submits_of(alloc: Global, ifr: &[u8]) -> Result<Vec<NoSubmitPlace>, AllocError>
     requires { IsChecked ifr.now }
-    ensures { IfOk result (λ kept. kept.items ≡ map kept_no_submit (filter is_no_submit (nodes_of ifr.now))) }
+    ensures { IfOk result (λ kept. kept.items
+        ≡ map kept_no_submit (filter is_no_submit (nodes_of ifr.now))) }
 {
     let mut kept = Vec::new(alloc);
     let mut nodes = ScopedNodes::over(ifr);
@@ -64,7 +66,7 @@ pub struct NoSubmits<'s, 'a> {
 
 impl<'s, 'a> Iterator for NoSubmits<'s, 'a> {
     ghost use Rattle.std.specs.Iterator.{YieldsFirstBy, item_count};
-    ghost use Rattle.ifr_scopes.specs.NoSubmitsLeft.{no_submit_node, no_submits_left};
+    ghost use Rattle.ifr_scopes.specs.code.NoSubmitsLeft.{no_submit_node, no_submits_left};
 
     type Item = NoSubmit<'s, 'a>;
 

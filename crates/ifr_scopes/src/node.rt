@@ -1,7 +1,8 @@
 //! One node of a checked package.
 
-ghost use Rattle.ifr_opcodes.specs.Opcode.{spelled};
-ghost use Rattle.ifr_scopes.specs.Checked.{IsChecked, IsChecked-prop, IsAt, IsAt-prop};
+ghost use Rattle.ifr_opcodes.specs.code.Props.{spelled};
+ghost use Rattle.ifr_scopes.specs.Checked.{IsChecked};
+ghost use Rattle.ifr_scopes.specs.code.Checked.{IsChecked-prop, IsAt, IsAt-prop};
 
 use crate::ends::end_of;
 use crate::guards::is_guard;
@@ -23,18 +24,18 @@ pub struct Node<'a> {
 
 impl<'a> Node<'a> {
     ghost use Rattle.std.specs.Prelude.{◌≡◌, ◌==◌, true, None, if◌then◌else◌};
-    ghost use Rattle.ifr_opcodes.specs.Ops.{bytes_of};
+    ghost use Rattle.ifr_opcodes.specs.code.Ops.{bytes_of};
     ghost use Rattle.ifr_opcodes.specs.Opcode.{number};
     ghost use Rattle.ifr_scopes.specs.Guards.{is_guard as is_guard_number};
     ghost use Rattle.ifr_scopes.specs.Nodes as nodes;
     ghost use Rattle.ifr_scopes.specs.Rules as rules;
-    ghost use Rattle.ifr_scopes.specs.Views.{node_of};
+    ghost use Rattle.ifr_scopes.specs.code.Views.{node_of};
     ghost use Rattle.ifr_opcodes.specs.Fields.{ref_target};
-    ghost use Rattle.ifr_expr.specs.Expressions.{tree_of};
+    ghost use Rattle.ifr_expr.specs.code.Expressions.{tree_of};
     ghost use Rattle.ifr_scopes.specs.Conditions.{expression_tree};
     ghost use Rattle.ifr_scopes.specs.Table.{wants_expression};
 
-    /// Its opcode.
+    /// The opcode of the node.
     pub fn op(self) -> Op<'a>
         ensures place { result.place ≡ (node_of self.entry).place }
         ensures bytes { bytes_of result ≡ (node_of self.entry).op }
@@ -134,7 +135,8 @@ impl<'a> Node<'a> {
 
     /// The form to which it leads, where it is a reference to one of this form set.
     pub fn target(self) -> Option<u16>
-        ensures { result ≡ (if nodes.is_reference (node_of self.entry) then ref_target (node_of self.entry).op else None) }
+        ensures { result ≡ (if nodes.is_reference (node_of self.entry)
+            then ref_target (node_of self.entry).op else None) }
     {
         if self.op.code == REF {
             RefOp { op: self.op }.target()

@@ -3,8 +3,9 @@
 ghost use Rattle.std.specs.Prelude.{◌≡◌, ◌∷◌, [], IfNone, IfSome};
 ghost use Rattle.ifr_opcodes.specs.Forest.{below};
 ghost use Rattle.ifr_scopes.specs.Nodes.{nodes_of};
-ghost use Rattle.ifr_scopes.specs.Checked.{IsChecked, IsChecked-prop, AreAt, AreAt-prop};
-ghost use Rattle.ifr_scopes.specs.Visits.{left};
+ghost use Rattle.ifr_scopes.specs.Checked.{IsChecked};
+ghost use Rattle.ifr_scopes.specs.code.Checked.{IsChecked-prop, AreAt, AreAt-prop};
+ghost use Rattle.ifr_scopes.specs.code.Visits.{left};
 
 use crate::node::Node;
 use crate::walk::Walk;
@@ -18,7 +19,7 @@ pub struct Nodes<'a> {
 }
 
 impl<'a> Nodes<'a> {
-    ghost use Rattle.ifr_scopes.specs.Views.{node_of, nodes_left};
+    ghost use Rattle.ifr_scopes.specs.code.Views.{node_of, nodes_left};
 
     /// All nodes of a package.
     pub(crate) fn over(ifr: &'a [u8]) -> Nodes<'a>
@@ -43,7 +44,9 @@ impl<'a> Nodes<'a> {
     /// Goes to the next node.
     pub(crate) fn step(&mut self) -> Option<Node<'a>>
         ensures none { IfNone result ((nodes_left self.old ≡ []) × (nodes_left self.new ≡ [])) }
-        ensures some { IfSome result (λ node. (nodes_left self.old ≡ node_of node ∷ nodes_left self.new) × (node.ifr.now ≡ self.old.walk.bytes.now)) }
+        ensures some { IfSome result
+            (λ node. (nodes_left self.old ≡ node_of node ∷ nodes_left self.new)
+            × (node.ifr.now ≡ self.old.walk.bytes.now)) }
         ensures kept { self.new.walk.bytes.now ≡ self.old.walk.bytes.now }
     {
         match self.walk.step() {

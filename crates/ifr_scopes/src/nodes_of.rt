@@ -3,7 +3,7 @@
 ghost use Rattle.std.specs.Prelude.{◌≡◌, ◌==◌, IfSome};
 ghost use Rattle.ifr_opcodes.specs.Opcode.{number};
 ghost use Rattle.ifr_scopes.specs.Nodes.{of_question};
-ghost use Rattle.ifr_scopes.specs.Views.{node_of};
+ghost use Rattle.ifr_scopes.specs.code.Views.{node_of};
 
 use crate::node::Node;
 use crate::nodes::Nodes;
@@ -18,11 +18,12 @@ pub struct NodesOf<'a> {
 
 impl<'a> NodesOf<'a> {
     ghost use Rattle.std.specs.Iterator.{YieldsFirstBy};
-    ghost use Rattle.ifr_scopes.specs.Parts.{parts_left};
+    ghost use Rattle.ifr_scopes.specs.code.PartsLeft.{parts_left};
 
-    /// Those of a node, where it is a question; none of another.
+    /// The nodes of a number in the scope of a node, where it is a question; none of another.
     pub(crate) fn question(node: Node<'a>, code: u8) -> NodesOf<'a>
-        ensures left { parts_left result ≡ of_question (λ n. number n.op == code) (node_of node.entry) }
+        ensures left { parts_left result
+            ≡ of_question (λ n. number n.op == code) (node_of node.entry) }
         ensures coded { result.code ≡ code }
     {
         NodesOf {

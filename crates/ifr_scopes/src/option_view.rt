@@ -3,7 +3,7 @@
 ghost use Rattle.std.specs.Prelude.{◌≡◌, true};
 ghost use Rattle.ifr_opcodes.specs.declared.codes.TheConstants.{ONE_OF_OPTION};
 ghost use Rattle.ifr_scopes.specs.Nodes.{is_option};
-ghost use Rattle.ifr_scopes.specs.Views.{node_of};
+ghost use Rattle.ifr_scopes.specs.code.Views.{node_of};
 
 use crate::guards_of::GuardsOf;
 use crate::locks::Locks;
@@ -19,22 +19,22 @@ pub struct OptionView<'a> {
 }
 
 impl<'a> OptionView<'a> {
-    ghost use Rattle.ifr_opcodes.specs.Ops.{bytes_of};
+    ghost use Rattle.ifr_opcodes.specs.code.Ops.{bytes_of};
     ghost use Rattle.ifr_scopes.specs.Guards.{guards};
     ghost use Rattle.ifr_scopes.specs.Locks.{locks};
-    ghost use Rattle.ifr_scopes.specs.LocksLeft.{locks_left};
+    ghost use Rattle.ifr_scopes.specs.code.LocksLeft.{locks_left};
     ghost use Rattle.ifr_scopes.specs.Nodes.{nodes_of};
-    ghost use Rattle.ifr_scopes.specs.Lists.{guards_of_left};
-    ghost use Rattle.ifr_scopes.specs.Parts.{option_node, option_package};
+    ghost use Rattle.ifr_scopes.specs.code.Lists.{guards_of_left};
+    ghost use Rattle.ifr_scopes.specs.code.Parts.{option_node, option_package};
 
-    /// Its place, in bytes from the package's header.
+    /// The place of the option, in bytes from the package's header.
     pub fn place(self) -> u32
         ensures { result ≡ (option_node self.entry).place }
     {
         self.node.op().place
     }
 
-    /// Its opcode.
+    /// The opcode of the option.
     pub fn op(self) -> OptionOp<'a>
         ensures place { result.op.place ≡ (option_node self.entry).place }
         ensures bytes { bytes_of result.op ≡ (option_node self.entry).op }
@@ -42,7 +42,8 @@ impl<'a> OptionView<'a> {
         self.node.option()
     }
 
-    /// Its guards, the outermost first, found by a walk from the package's start; `Forms::guards_at` looks them up.
+    /// The guards of the option, the outermost first, found by a walk from the package's start; `Forms::guards_at` looks them
+    /// up.
     pub fn guards(self) -> GuardsOf<'a>
         ensures guards { guards_of_left result ≡ guards (option_node self.entry) }
         ensures of_package { result.ifr.now ≡ option_package self.entry }
@@ -53,7 +54,8 @@ impl<'a> OptionView<'a> {
     /// The LOCKED that lock it, by what they stand in, the outermost first, then by place; found by walks from the package's
     /// start.
     pub fn locks(self) -> Locks<'a>
-        ensures { locks_left result ≡ locks (nodes_of (option_package self.entry)) (option_node self.entry) }
+        ensures { locks_left result
+            ≡ locks (nodes_of (option_package self.entry)) (option_node self.entry) }
     {
         Locks::around(self.node.ifr, self.node.op.place)
     }
@@ -68,7 +70,7 @@ pub struct Options<'a> {
 
 impl<'a> Iterator for Options<'a> {
     ghost use Rattle.std.specs.Iterator.{YieldsFirstBy, item_count};
-    ghost use Rattle.ifr_scopes.specs.Parts.{option_node, options_left};
+    ghost use Rattle.ifr_scopes.specs.code.Parts.{option_node, options_left};
 
     type Item = OptionView<'a>;
 

@@ -1,8 +1,9 @@
 //! Nodes at places that were kept.
 
 ghost use Rattle.std.specs.Prelude.{◌≡◌, true};
-ghost use Rattle.ifr_scopes.specs.Checked.{IsChecked, has_node, node_in};
-ghost use Rattle.ifr_scopes.specs.Views.{node_of};
+ghost use Rattle.ifr_scopes.specs.Checked.{IsChecked};
+ghost use Rattle.ifr_scopes.specs.code.Checked.{has_node, node_in};
+ghost use Rattle.ifr_scopes.specs.code.Views.{node_of};
 
 use crate::node::Node;
 use ifr_opcodes::op_at;

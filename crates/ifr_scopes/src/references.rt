@@ -3,16 +3,18 @@
 
 ghost use Rattle.std.specs.Prelude.{◌≡◌, ◌==◌, ◌&&◌, not, ℕ, Ok, Some, None, true, false, option_map, List, [], ◌∷◌, ◌++◌, IfOk, OnOk, IfErr, IfSome};
 ghost use Rattle.std.specs.List.{list_any, last_or};
-ghost use Rattle.hii_bytes.specs.Faults.{HasNone, Refuses, first_cause};
+ghost use Rattle.hii_bytes.specs.Faults.{HasNone, Refuses};
+ghost use Rattle.hii_bytes.specs.code.FirstFaults.{first_cause};
 ghost use Rattle.ifr_opcodes.specs.Forest.{Placed};
 ghost use Rattle.ifr_scopes.specs.Checked.{IsChecked};
 ghost use Rattle.ifr_scopes.specs.Nodes.{nodes_of, is_form, is_question, is_reference};
 ghost use Rattle.ifr_opcodes.specs.Fields.{form_id, question_id};
-ghost use Rattle.ifr_scopes.specs.Views.{node_of};
-ghost use Rattle.ifr_scopes.specs.References.{IsReferenceFault, has_fault, causes, has_form_id, has_question_id, is_lost as lost_among};
+ghost use Rattle.ifr_scopes.specs.code.Views.{node_of};
+ghost use Rattle.ifr_scopes.specs.References.{IsReferenceFault, has_reference_fault, has_form_id, has_question_id, is_lost as lost_among};
+ghost use Rattle.ifr_scopes.specs.code.Causes.{reference_causes};
 ghost use Rattle.std.specs.BTreeSet.{contains};
 ghost use Rattle.std.specs.Ordering.{nat_cmp};
-ghost use Rattle.ifr_scopes.specs.KeptRules.{AreKeptRules};
+ghost use Rattle.ifr_scopes.specs.code.KeptRules.{AreKeptRules};
 
 use crate::form_end::FormEnd;
 use crate::framing::HEADER;
@@ -37,15 +39,17 @@ struct Met {
 
 impl Met {
     ghost use Rattle.ifr_opcodes.specs.Fields.{ref_target};
-    ghost use Rattle.ifr_scopes.specs.Met.{AreOf, Tells, Meets, TellsNext, MeetsNext};
-    ghost use Rattle.ifr_scopes.specs.Around.{IsAround};
-    ghost use Rattle.ifr_scopes.specs.Checked.{node_in, has_node};
+    ghost use Rattle.ifr_scopes.specs.code.Met.{AreOf, Tells, Meets, TellsNext, MeetsNext};
+    ghost use Rattle.ifr_scopes.specs.code.Around.{IsAround};
+    ghost use Rattle.ifr_scopes.specs.code.Checked.{node_in, has_node};
     ghost use Rattle.ifr_scopes.specs.Nodes as ends;
     ghost use Rattle.ifr_scopes.specs.Rules.{is_rule, form_end, forms_among};
 
     /// Nothing of a package whose forms have these ids.
     fn new(alloc: Global, all: BTreeSet<u16>) -> Met
-        ensures { (bytes : List ℕ) → ((id : ℕ) → contains nat_cmp all id ≡ list_any (has_form_id id) (nodes_of bytes)) → AreOf bytes [] result }
+        ensures { (bytes : List ℕ)
+            → ((id : ℕ) → contains nat_cmp all id ≡ list_any (has_form_id id) (nodes_of bytes))
+            → AreOf bytes [] result }
     {
         Met {
             all,
@@ -60,10 +64,13 @@ impl Met {
     fn form_end(&mut self, ifr: &[u8], place: u32) -> u32
         requires checked { IsChecked ifr.now }
         requires there { has_node ifr.now place ≡ true }
-        requires known { IfSome self.old.form (λ form. form.ends ≡ ends.end_of (node_in ifr.now form.place)) }
+        requires known { IfSome self.old.form
+            (λ form. form.ends ≡ ends.end_of (node_in ifr.now form.place)) }
         ensures end { result ≡ ends.end_of (node_in ifr.entry.now place) }
-        ensures known { IfSome self.new.form (λ form. form.ends ≡ ends.end_of (node_in ifr.entry.now form.place)) }
-        ensures stays { (self.new.all ≡ self.old.all) × (self.new.forms ≡ self.old.forms) × (self.new.questions ≡ self.old.questions) × (self.new.rules ≡ self.old.rules) }
+        ensures known { IfSome self.new.form
+            (λ form. form.ends ≡ ends.end_of (node_in ifr.entry.now form.place)) }
+        ensures stays { (self.new.all ≡ self.old.all) × (self.new.forms ≡ self.old.forms)
+            × (self.new.questions ≡ self.old.questions) × (self.new.rules ≡ self.old.rules) }
     {
         let form = FormEnd::at(ifr, place, self.form);
         self.form = Some(form);
@@ -73,7 +80,8 @@ impl Met {
     /// Meets the next node, and tells its fault beside those before it.
     fn meet(&mut self, nodes: &ScopedNodes, next: &ScopedNode) -> Result<Option<Cause>, AllocError>
         requires around { IsAround nodes.now next.now }
-        requires known { IfSome self.old.form (λ form. form.ends ≡ ends.end_of (node_in next.now.node.ifr.now form.place)) }
+        requires known { IfSome self.old.form
+            (λ form. form.ends ≡ ends.end_of (node_in next.now.node.ifr.now form.place)) }
         ensures told { IfOk result (TellsNext next.now.node self.old) }
         ensures met { result ≡ Ok None → MeetsNext next.now.node self.old self.new }
     {
@@ -88,8 +96,10 @@ impl Met {
     /// Meets the next node, a rule in the form at a place, and tells whether it is too large.
     fn meet_rule(&mut self, rule: Node, form: u32) -> Result<Option<Cause>, AllocError>
         requires rule { is_rule (node_of rule) ≡ true }
-        requires form { Some form ≡ option_map (λ a. a.place) (last_or None (forms_among (node_of rule).path)) }
-        requires known { IfSome self.old.form (λ form. form.ends ≡ ends.end_of (node_in rule.ifr.now form.place)) }
+        requires form { Some form ≡ option_map (λ a. a.place)
+            (last_or None (forms_among (node_of rule).path)) }
+        requires known { IfSome self.old.form
+            (λ form. form.ends ≡ ends.end_of (node_in rule.ifr.now form.place)) }
         ensures told { IfOk result (TellsNext rule.entry self.old) }
         ensures met { result ≡ Ok None → MeetsNext rule.entry self.old self.new }
     {
@@ -104,8 +114,10 @@ impl Met {
     /// Meets the next node, which is no rule, and tells whether its id was met before, or leads to no form.
     fn meet_other(&mut self, node: Node) -> Result<Option<Cause>, AllocError>
         requires other { is_rule (node_of node) ≡ false }
-        ensures told { IfOk result (λ cause. (bytes : List ℕ) (before : List Placed) → Tells bytes before (node_of node.entry) self.old cause) }
-        ensures met { result ≡ Ok None → (bytes : List ℕ) (before : List Placed) → Meets bytes before (node_of node.entry) self.old self.new }
+        ensures told { IfOk result (λ cause. (bytes : List ℕ) (before : List Placed)
+            → Tells bytes before (node_of node.entry) self.old cause) }
+        ensures met { result ≡ Ok None → (bytes : List ℕ) (before : List Placed)
+            → Meets bytes before (node_of node.entry) self.old self.new }
     {
         if repeats_form(&mut self.forms, node)? {
             return Ok(Some(Cause::DuplicateForm));
@@ -121,8 +133,10 @@ impl Met {
 
     /// Whether a question is a reference that leads to no form.
     fn is_lost(&self, node: Node) -> bool
-        ensures { (ns : List Placed) → ((id : ℕ) → contains nat_cmp self.now.all id ≡ list_any (has_form_id id) ns) →
-            result ≡ (is_reference (node_of node.entry) && lost_among ns (ref_target (node_of node.entry).op)) }
+        ensures { (ns : List Placed)
+            → ((id : ℕ) → contains nat_cmp self.now.all id ≡ list_any (has_form_id id) ns) →
+            result ≡ (is_reference (node_of node.entry)
+            && lost_among ns (ref_target (node_of node.entry).op)) }
     {
         match node.target() {
             Some(id) => !self.all.contains(&id),
@@ -133,9 +147,12 @@ impl Met {
 
 // Whether a node is a form of an id that was met before. If not, the ids are those of the forms to and with this node.
 fn repeats_form(ids: &mut BTreeSet<u16>, node: Node) -> Result<bool, AllocError>
-    ensures { OnOk result ((before : List Placed) → ((id : ℕ) → contains nat_cmp ids.old id ≡ list_any (has_form_id id) before) →
-        (result ≡ Ok (is_form (node_of node.entry) && list_any (has_form_id (form_id (node_of node.entry).op)) before))
-        × (result ≡ Ok false → (id : ℕ) → contains nat_cmp ids.new id ≡ list_any (has_form_id id) (before ++ node_of node.entry ∷ []))) }
+    ensures { OnOk result ((before : List Placed)
+        → ((id : ℕ) → contains nat_cmp ids.old id ≡ list_any (has_form_id id) before) →
+        (result ≡ Ok (is_form (node_of node.entry)
+        && list_any (has_form_id (form_id (node_of node.entry).op)) before))
+        × (result ≡ Ok false → (id : ℕ) → contains nat_cmp ids.new id
+        ≡ list_any (has_form_id id) (before ++ node_of node.entry ∷ []))) }
 {
     if node.is_form() {
         Ok(!ids.insert(node.form().id())?)
@@ -147,9 +164,13 @@ fn repeats_form(ids: &mut BTreeSet<u16>, node: Node) -> Result<bool, AllocError>
 // Whether a node is a question of an id, other than 0, that was met before. If not, the ids are those of the questions to
 // and with this node.
 fn repeats_question(ids: &mut BTreeSet<u16>, node: Node) -> Result<bool, AllocError>
-    ensures { OnOk result ((before : List Placed) → ((id : ℕ) → contains nat_cmp ids.old id ≡ list_any (has_question_id id) before) →
-        (result ≡ Ok (is_question (node_of node.entry) && (not (question_id (node_of node.entry).op == 0) && list_any (has_question_id (question_id (node_of node.entry).op)) before)))
-        × (result ≡ Ok false → (id : ℕ) → contains nat_cmp ids.new id ≡ list_any (has_question_id id) (before ++ node_of node.entry ∷ []))) }
+    ensures { OnOk result ((before : List Placed)
+        → ((id : ℕ) → contains nat_cmp ids.old id ≡ list_any (has_question_id id) before) →
+        (result ≡ Ok (is_question (node_of node.entry)
+        && (not (question_id (node_of node.entry).op == 0)
+        && list_any (has_question_id (question_id (node_of node.entry).op)) before)))
+        × (result ≡ Ok false → (id : ℕ) → contains nat_cmp ids.new id
+        ≡ list_any (has_question_id id) (before ++ node_of node.entry ∷ []))) }
 {
     if node.is_question() {
         let id = node.question().id();
@@ -162,7 +183,8 @@ fn repeats_question(ids: &mut BTreeSet<u16>, node: Node) -> Result<bool, AllocEr
 // The ids of the forms of a package.
 fn form_ids(alloc: Global, ifr: &[u8]) -> Result<BTreeSet<u16>, AllocError>
     requires { IsChecked ifr.now }
-    ensures { IfOk result (λ ids. (id : ℕ) → contains nat_cmp ids id ≡ list_any (has_form_id id) (nodes_of ifr.now)) }
+    ensures { IfOk result (λ ids. (id : ℕ)
+        → contains nat_cmp ids id ≡ list_any (has_form_id id) (nodes_of ifr.now)) }
 {
     let mut ids = BTreeSet::new(alloc);
     let mut nodes = Nodes::over(ifr);
@@ -191,7 +213,7 @@ fn has_form(ifr: &[u8]) -> bool
 /// The rules of a package. A package without a form is refused by NoForm at 4, and a form or a question whose id one
 /// before it has by DuplicateForm or DuplicateQuestion at the later one; a question may have the id 0 again (own rule). A
 /// reference that leads to no form is refused by NoForm, a rule of a depth above 16 or a weight above 4,096 by
-/// RuleTooLarge. Want of memory is OutOfMemory.
+/// RuleTooLarge. Where an allocation fails the fault is OutOfMemory.
 pub(crate) fn check_references(alloc: Global, ifr: &[u8]) -> Result<RuleTable, Fault>
     requires { IsChecked ifr.now }
     ensures sound { OnOk result (HasNone (IsReferenceFault (nodes_of ifr.now))) }
@@ -199,21 +221,14 @@ pub(crate) fn check_references(alloc: Global, ifr: &[u8]) -> Result<RuleTable, F
     ensures refused { IfErr result (Refuses (IsReferenceFault (nodes_of ifr.now))) }
 {
     if !has_form(ifr) {
-        return Err(Fault {
-            cause: Cause::NoForm,
-            place: HEADER as u64,
-        });
+        return Err(Fault::at(Cause::NoForm, HEADER as u64));
     }
-    let Ok(all) = form_ids(alloc, ifr) else {
-        return Err(Fault::out_of_memory());
-    };
+    let all = form_ids(alloc, ifr)?;
     let mut met = Met::new(alloc, all);
     let mut nodes = ScopedNodes::over(ifr);
     while let Some(next) = nodes.step() {
-        match met.meet(&nodes, &next) {
-            Ok(None) => {}
-            Ok(Some(cause)) => return Err(next.node.op().fault(cause)),
-            Err(AllocError) => return Err(Fault::out_of_memory()),
+        if let Some(cause) = met.meet(&nodes, &next)? {
+            return Err(next.node.op().fault(cause));
         }
     }
     Ok(met.rules)

@@ -2,13 +2,14 @@
 
 ghost use Rattle.std.specs.Prelude.{◌≡◌, ◌∷◌, ◌++◌, ◌≤◌, true, List, [], OnOk};
 ghost use Rattle.ifr_opcodes.specs.Forest.{Placed};
-ghost use Rattle.ifr_expr.specs.Expressions as expr;
+ghost use Rattle.ifr_expr.specs.code.Expressions as expr;
 ghost use Rattle.ifr_scopes.specs.Nodes as ends;
-ghost use Rattle.ifr_scopes.specs.KeptRules.{AreKeptRules, kept_named};
+ghost use Rattle.ifr_scopes.specs.code.KeptRules.{AreKeptRules, kept_named};
 ghost use Rattle.ifr_scopes.specs.Rules as rules;
-ghost use Rattle.ifr_scopes.specs.Rules.{is_rule, as_rule, form_end, rule_nodes, rules_among, rule_sizes, size_over, fitting_size};
-ghost use Rattle.ifr_scopes.specs.RuleNodes.{Descend};
-ghost use Rattle.ifr_scopes.specs.Views.{node_of};
+ghost use Rattle.ifr_scopes.specs.Rules.{is_rule, as_rule, form_end, rule_nodes, rules_among, rule_sizes, size_over};
+ghost use Rattle.ifr_scopes.specs.code.Rules.{fitting_size};
+ghost use Rattle.ifr_scopes.specs.code.RuleNodes.{Descend};
+ghost use Rattle.ifr_scopes.specs.code.Views.{node_of};
 
 use crate::ends::end_of;
 use crate::node::Node;
@@ -70,7 +71,8 @@ impl RuleTable {
 
     /// The rule that a reference to an id at a place names, if there is one.
     pub(crate) fn named(&self, id: u8, place: u32) -> Option<KeptRule>
-        ensures { (ns : List Placed) → AreKeptRules ns self.now → Descend (rule_nodes ns) → result ≡ kept_named (rule_nodes ns) id place }
+        ensures { (ns : List Placed) → AreKeptRules ns self.now → Descend (rule_nodes ns)
+            → result ≡ kept_named (rule_nodes ns) id place }
     {
         let mut those = self.rules.range((id, 0)..=(id, place));
         let Some((_, last)) = those.next_back() else {
@@ -85,7 +87,9 @@ impl RuleTable {
 
     /// The size of a rule with this expression, if it is not too large.
     pub(crate) fn size_of(&self, expression: Expr) -> Option<RuleSize>
-        ensures { (ns : List Placed) → AreKeptRules ns self.now → Descend (rule_nodes ns) → result ≡ fitting_size (size_over (rule_sizes (rules_among ns)) (expr.tree_of expression.entry)) }
+        ensures { (ns : List Placed) → AreKeptRules ns self.now → Descend (rule_nodes ns)
+            → result ≡ fitting_size
+            (size_over (rule_sizes (rules_among ns)) (expr.tree_of expression.entry)) }
     {
         let mut depth = 0;
         let mut weight = expression.len();
@@ -116,7 +120,9 @@ impl RuleTable {
         size: RuleSize,
     ) -> Result<(), AllocError>
         requires { is_rule (node_of rule) ≡ true }
-        ensures { OnOk result ((before : List Placed) → AreKeptRules before self.old → form_ends ≡ form_end (node_of rule.entry).path → size ≡ rules.size (rules_among before) (as_rule (node_of rule.entry))
+        ensures { OnOk result ((before : List Placed) → AreKeptRules before self.old
+            → form_ends ≡ form_end (node_of rule.entry).path
+            → size ≡ rules.size (rules_among before) (as_rule (node_of rule.entry))
             → AreKeptRules (before ++ node_of rule.entry ∷ []) self.new) }
     {
         let place = rule.op.place;

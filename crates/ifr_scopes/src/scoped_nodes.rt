@@ -1,9 +1,10 @@
 //! The nodes of a checked package, each with the scopes around it.
 
 ghost use Rattle.std.specs.Prelude.{◌≡◌, ◌∷◌, [], IfNone, IfSome};
-ghost use Rattle.ifr_scopes.specs.Checked.{IsChecked, IsChecked-prop, AreNodesOf, AreNodesOf-prop};
+ghost use Rattle.ifr_scopes.specs.Checked.{IsChecked};
+ghost use Rattle.ifr_scopes.specs.code.Checked.{IsChecked-prop, AreNodesOf, AreNodesOf-prop};
 ghost use Rattle.ifr_scopes.specs.Nodes.{nodes_of, this_of};
-ghost use Rattle.ifr_scopes.specs.Visits.{left};
+ghost use Rattle.ifr_scopes.specs.code.Visits.{left};
 
 use crate::form_end::form_among;
 use crate::guard_place::GuardPlace;
@@ -28,14 +29,14 @@ pub struct ScopedNodes<'a> {
 }
 
 impl<'a> ScopedNodes<'a> {
-    ghost use Rattle.ifr_scopes.specs.Around.{IsAround};
-    ghost use Rattle.ifr_scopes.specs.Kept.{kept_guards};
+    ghost use Rattle.ifr_scopes.specs.code.Around.{IsAround};
+    ghost use Rattle.ifr_scopes.specs.code.Kept.{kept_guards};
     ghost use Rattle.std.specs.Prelude.{None, option_map};
     ghost use Rattle.std.specs.List.{last_or};
     ghost use Rattle.ifr_scopes.specs.Locks.{chain};
     ghost use Rattle.ifr_scopes.specs.Rules.{forms_among};
     ghost use Rattle.ifr_scopes.specs.Structure.{parent};
-    ghost use Rattle.ifr_scopes.specs.Views.{node_of};
+    ghost use Rattle.ifr_scopes.specs.code.Views.{node_of};
 
     /// All nodes of a package.
     pub(crate) fn over(ifr: &'a [u8]) -> ScopedNodes<'a>
@@ -51,7 +52,9 @@ impl<'a> ScopedNodes<'a> {
     /// Goes to the next node.
     pub(crate) fn step(&mut self) -> Option<ScopedNode<'a>>
         ensures none { IfNone result ((left self.old.walk ≡ []) × (left self.new.walk ≡ [])) }
-        ensures some { IfSome result (λ met. (left self.old.walk ≡ node_of met.node ∷ left self.new.walk) × IsAround self.new met) }
+        ensures some { IfSome result
+            (λ met. (left self.old.walk ≡ node_of met.node ∷ left self.new.walk)
+            × IsAround self.new met) }
         ensures kept { self.new.walk.bytes.now ≡ self.old.walk.bytes.now }
     {
         match self.walk.step() {
@@ -106,7 +109,8 @@ impl<'a> ScopedNodes<'a> {
     /// The place of the innermost form around the node that was met last, if there is one.
     pub(crate) fn form(&self, met: &ScopedNode) -> Option<u32>
         requires { IsAround self.now met.now }
-        ensures { result ≡ option_map (λ a. a.place) (last_or None (forms_among (node_of met.now.node).path)) }
+        ensures { result ≡ option_map (λ a. a.place)
+            (last_or None (forms_among (node_of met.now.node).path)) }
     {
         form_among(self.walk.bytes(), self.walk.around(met.depth))
     }

@@ -1,10 +1,10 @@
 //! Statements.
 
 ghost use Rattle.std.specs.Prelude.{◌≡◌, true, Some, None, option_map, if◌then◌else◌};
-ghost use Rattle.ifr_opcodes.specs.Forest.{mark};
-ghost use Rattle.ifr_opcodes.specs.Ops.{op_of};
+ghost use Rattle.ifr_opcodes.specs.code.Marks.{mark};
+ghost use Rattle.ifr_opcodes.specs.code.Ops.{op_of};
 ghost use Rattle.ifr_scopes.specs.Nodes.{is_statement, is_question, options, defaults, inconsistents, no_submits, warnings};
-ghost use Rattle.ifr_scopes.specs.Views.{node_of};
+ghost use Rattle.ifr_scopes.specs.code.Views.{node_of};
 
 use crate::condition_view::ConditionViews;
 use crate::default_view::Defaults;
@@ -55,9 +55,9 @@ pub enum StatementKind<'a> {
 impl<'a> StatementKind<'a> {
     ghost use Rattle.std.specs.Prelude.{◌≤◌, length};
     ghost use Rattle.ifr_opcodes.specs.Fields.{least_length};
-    ghost use Rattle.ifr_opcodes.specs.Ops.{bytes_of};
+    ghost use Rattle.ifr_opcodes.specs.code.Ops.{bytes_of};
     ghost use Rattle.ifr_opcodes.specs.Statements.{is_statement_number};
-    ghost use Rattle.ifr_scopes.specs.Lists.{kind_op};
+    ghost use Rattle.ifr_scopes.specs.code.Lists.{kind_op};
 
     // The view of an opcode that has all its fields.
     #[tactic(auto, unfolding(ifr_opcodes::specs::Statements::is_statement_number, ifr_opcodes::specs::Statements::is_question_number))]
@@ -93,22 +93,23 @@ pub struct Statement<'a> {
 }
 
 impl<'a> Statement<'a> {
-    ghost use Rattle.ifr_opcodes.specs.Ops.{bytes_of};
+    ghost use Rattle.ifr_opcodes.specs.code.Ops.{bytes_of};
     ghost use Rattle.ifr_scopes.specs.Guards.{guards};
     ghost use Rattle.ifr_scopes.specs.Locks.{locks};
-    ghost use Rattle.ifr_scopes.specs.LocksLeft.{locks_left};
+    ghost use Rattle.ifr_scopes.specs.code.LocksLeft.{locks_left};
     ghost use Rattle.ifr_scopes.specs.Nodes.{nodes_of};
-    ghost use Rattle.ifr_scopes.specs.Lists.{guards_of_left, statement_node, statement_package, kind_op};
-    ghost use Rattle.ifr_scopes.specs.Parts.{options_left, defaults_left, conditions_left};
+    ghost use Rattle.ifr_scopes.specs.code.Lists.{guards_of_left, statement_node, statement_package, kind_op};
+    ghost use Rattle.ifr_scopes.specs.code.Parts.{options_left, defaults_left, conditions_left};
 
-    /// Its place, in bytes from the package's header.
+    /// The place of the statement, in bytes from the package's header.
     pub fn place(self) -> u32
         ensures { result ≡ (statement_node self.entry).place }
     {
         self.node.op().place
     }
 
-    /// Its guards, the outermost first, found by a walk from the package's start; `Forms::guards_at` looks them up.
+    /// The guards of the statement, the outermost first, found by a walk from the package's start; `Forms::guards_at` looks them
+    /// up.
     pub fn guards(self) -> GuardsOf<'a>
         ensures guards { guards_of_left result ≡ guards (statement_node self.entry) }
         ensures of_package { result.ifr.now ≡ statement_package self.entry }
@@ -116,7 +117,7 @@ impl<'a> Statement<'a> {
         GuardsOf::around(self.node.ifr, self.node.op.place)
     }
 
-    /// Its opcode.
+    /// The opcode of the statement.
     pub fn op(self) -> StatementOp<'a>
         ensures place { result.op.place ≡ (statement_node self.entry).place }
         ensures bytes { bytes_of result.op ≡ (statement_node self.entry).op }
@@ -124,9 +125,11 @@ impl<'a> Statement<'a> {
         self.node.statement()
     }
 
-    /// Its opcode as that of a question, where it is one.
+    /// The opcode of the statement as that of a question, where it is one.
     pub fn question(self) -> Option<QuestionOp<'a>>
-        ensures { option_map (λ question. op_of question.op) result ≡ (if is_question (statement_node self.entry) then Some (mark (statement_node self.entry)) else None) }
+        ensures { option_map (λ question. op_of question.op) result
+            ≡ (if is_question (statement_node self.entry)
+            then Some (mark (statement_node self.entry)) else None) }
     {
         if self.node.is_question() {
             Some(self.node.question())
@@ -135,7 +138,7 @@ impl<'a> Statement<'a> {
         }
     }
 
-    /// Its opcode, by what it is.
+    /// The opcode of the statement, by what it is.
     pub fn kind(self) -> StatementKind<'a>
         ensures place { (kind_op result).place ≡ (statement_node self.entry).place }
         ensures bytes { bytes_of (kind_op result) ≡ (statement_node self.entry).op }
@@ -146,12 +149,13 @@ impl<'a> Statement<'a> {
     /// The LOCKED that lock it, by what they stand in, the outermost first, then by place; found by walks from the package's
     /// start.
     pub fn locks(self) -> Locks<'a>
-        ensures { locks_left result ≡ locks (nodes_of (statement_package self.entry)) (statement_node self.entry) }
+        ensures { locks_left result
+            ≡ locks (nodes_of (statement_package self.entry)) (statement_node self.entry) }
     {
         Locks::around(self.node.ifr, self.node.op.place)
     }
 
-    /// Its options, by place.
+    /// The options of the statement, by place.
     pub fn options(self) -> Options<'a>
         ensures { options_left result ≡ options (statement_node self.entry) }
     {
@@ -160,7 +164,7 @@ impl<'a> Statement<'a> {
         }
     }
 
-    /// Its defaults, by place.
+    /// The defaults of the statement, by place.
     pub fn defaults(self) -> Defaults<'a>
         ensures { defaults_left result ≡ defaults (statement_node self.entry) }
     {
@@ -169,7 +173,7 @@ impl<'a> Statement<'a> {
         }
     }
 
-    /// Its conditions that deny a value, by place.
+    /// The conditions that deny the statement a value, by place.
     #[tactic(auto, unfolding(crate::specs::Kinds::is_condition_number))]
     pub fn inconsistents(self) -> ConditionViews<'a>
         ensures { conditions_left result ≡ inconsistents (statement_node self.entry) }
@@ -177,7 +181,7 @@ impl<'a> Statement<'a> {
         ConditionViews::question(self.node, INCONSISTENT_IF)
     }
 
-    /// Its conditions that deny a submission, by place.
+    /// The conditions of the statement that deny a submission, by place.
     #[tactic(auto, unfolding(crate::specs::Kinds::is_condition_number))]
     pub fn nosubmits(self) -> ConditionViews<'a>
         ensures { conditions_left result ≡ no_submits (statement_node self.entry) }
@@ -185,7 +189,7 @@ impl<'a> Statement<'a> {
         ConditionViews::question(self.node, NO_SUBMIT_IF)
     }
 
-    /// Its conditions that warn, by place.
+    /// The conditions of the statement that warn, by place.
     #[tactic(auto, unfolding(crate::specs::Kinds::is_condition_number))]
     pub fn warnings(self) -> ConditionViews<'a>
         ensures { conditions_left result ≡ warnings (statement_node self.entry) }
@@ -202,7 +206,7 @@ pub struct Statements<'a> {
 
 impl<'a> Iterator for Statements<'a> {
     ghost use Rattle.std.specs.Iterator.{YieldsFirstBy, item_count};
-    ghost use Rattle.ifr_scopes.specs.Lists.{statement_node, statements_left};
+    ghost use Rattle.ifr_scopes.specs.code.Lists.{statement_node, statements_left};
 
     type Item = Statement<'a>;
 

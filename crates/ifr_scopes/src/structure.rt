@@ -2,15 +2,18 @@
 //! where it stands; and the expressions.
 
 ghost use Rattle.std.specs.Prelude.{◌≡◌, ◌≤◌, ◌<◌, ◌^◌, length, map, option_map, All, OnOk, IfErr};
-ghost use Rattle.hii_bytes.specs.Faults.{IsLeast, HasNone, first_cause};
+ghost use Rattle.hii_bytes.specs.Faults.{IsLeast, HasNone};
+ghost use Rattle.hii_bytes.specs.code.FirstFaults.{first_cause};
 ghost use Rattle.ifr_opcodes.specs.Opcode.{IsWhole, has_scope};
-ghost use Rattle.ifr_opcodes.specs.Ops.{bytes_of, op_of};
-ghost use Rattle.ifr_opcodes.specs.Forest.{Spells, Forest};
-ghost use Rattle.ifr_opcodes.specs.Reading.{tree_of, mark_at, ancestor_at};
+ghost use Rattle.ifr_opcodes.specs.code.Ops.{bytes_of, op_of};
+ghost use Rattle.ifr_opcodes.specs.Forest.{SpellsForest, Forest};
+ghost use Rattle.ifr_opcodes.specs.Reading.{tree_of};
+ghost use Rattle.ifr_opcodes.specs.code.Marks.{mark_at, ancestor_at};
 ghost use Rattle.ifr_scopes.specs.Nodes.{nodes_of};
 ghost use Rattle.ifr_scopes.specs.Table as table;
 ghost use Rattle.ifr_scopes.specs.Structure as structure;
-ghost use Rattle.ifr_scopes.specs.Structure.{IsStructureFault, least_cause};
+ghost use Rattle.ifr_scopes.specs.Structure.{IsStructureFault};
+ghost use Rattle.ifr_scopes.specs.code.Causes.{least_cause};
 
 use crate::ends::end_of;
 use crate::framing::HEADER;
@@ -24,7 +27,8 @@ use ifr_expr::Expr;
 use ifr_opcodes::{FORM_SET, Op, VALUE, is_listed, is_operator, is_outside, is_short, op_at};
 
 fn has_wrong_scope(op: Op, operand: bool) -> bool
-    ensures { result ≡ structure.has_wrong_scope (table.row op.entry.code) operand (bytes_of op.entry) }
+    ensures { result ≡ structure.has_wrong_scope (table.row op.entry.code) operand
+        (bytes_of op.entry) }
 {
     match row_of(op.code) {
         Some(row) => match row.scope {
@@ -59,7 +63,8 @@ fn class_around(bytes: &[u8], places: &[u32]) -> Class
 // The opcode of the innermost of the nodes at these places.
 fn innermost<'a>(bytes: &'a [u8], places: &[u32]) -> Option<Op<'a>>
     requires { All (λ place. IsWhole (mark_at bytes.now place).op) places.now }
-    ensures { option_map op_of result ≡ structure.innermost (map (ancestor_at bytes.entry.now) places.now) }
+    ensures { option_map op_of result
+        ≡ structure.innermost (map (ancestor_at bytes.entry.now) places.now) }
 {
     match places.last() {
         Some(place) => op_at(bytes, *place).ok(),
@@ -107,7 +112,12 @@ fn is_operator_scope(parent: Option<Op>) -> bool
 fn is_expression(bytes: &[u8], op: Op, around: &[u32]) -> bool
     requires { All (λ place. IsWhole (mark_at bytes.now place).op) around.now }
     ensures { (children : Forest) → result
-        ≡ structure.is_expression record { place = op.entry.place; op = bytes_of op.entry; path = map (ancestor_at bytes.now) around.now; children = children } }
+        ≡ structure.is_expression record {
+          place = op.entry.place;
+          op = bytes_of op.entry;
+          path = map (ancestor_at bytes.now) around.now;
+          children = children;
+        } }
 {
     begins_scope(op.place, innermost(bytes, around)) && is_operator(op.code)
 }
@@ -143,7 +153,12 @@ fn lacks_wanted(op: Op, first: Option<u8>) -> bool
 fn cause_of(bytes: &[u8], op: Op, around: &[u32], first: Option<u8>) -> Option<Cause>
     requires { All (λ place. IsWhole (mark_at bytes.now place).op) around.now }
     ensures { (children : Forest) → structure.first_number children ≡ first →
-        result ≡ least_cause record { place = op.entry.place; op = bytes_of op.entry; path = map (ancestor_at bytes.now) around.now; children = children } }
+        result ≡ least_cause record {
+          place = op.entry.place;
+          op = bytes_of op.entry;
+          path = map (ancestor_at bytes.now) around.now;
+          children = children;
+        } }
 {
     let is_root = around.is_empty();
     let parent = innermost(bytes, around);
@@ -182,15 +197,12 @@ fn cause_of(bytes: &[u8], op: Op, around: &[u32], first: Option<u8>) -> Option<C
 pub(crate) fn check_structure(bytes: &[u8]) -> Result<(), Fault>
     requires header { 4 ≤ length bytes.now }
     requires small { length bytes.now < 2 ^ 32 }
-    requires spelled { Spells bytes.now (tree_of bytes.now) }
+    requires spelled { SpellsForest bytes.now (tree_of bytes.now) }
     ensures sound { OnOk result (HasNone (IsStructureFault (nodes_of bytes.now))) }
     ensures refused { IfErr result (IsLeast (IsStructureFault (nodes_of bytes.now))) }
 {
     if bytes.len() == HEADER {
-        return Err(Fault {
-            cause: Cause::NotFormSet,
-            place: HEADER as u64,
-        });
+        return Err(Fault::at(Cause::NotFormSet, HEADER as u64));
     }
     let mut walk = Walk::over(bytes);
     while let Some(visit) = walk.step() {

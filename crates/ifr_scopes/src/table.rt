@@ -1,7 +1,7 @@
 //! What is known of an opcode by its number.
 
 ghost use Rattle.std.specs.Prelude.{◌≡◌};
-ghost use Rattle.ifr_opcodes.specs.Ops.{bytes_of};
+ghost use Rattle.ifr_opcodes.specs.code.Ops.{bytes_of};
 ghost use Rattle.ifr_scopes.specs.Table as table;
 
 use crate::guards::is_guard;
@@ -148,7 +148,7 @@ pub(crate) fn wants_expression(code: u8) -> bool
 pub(crate) fn wants_value(op: Op) -> bool
     ensures { result ≡ table.wants_value (bytes_of op.entry) }
 {
-    // the kind stands behind the header and the default's id
+    // the Type stands behind the header and the default's id
     op.code == DEFAULT && number_at(op.body, 2, 1) == Some(u64::from(TYPE_OTHER))
 }
 

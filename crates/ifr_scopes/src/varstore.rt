@@ -2,7 +2,7 @@
 
 ghost use Rattle.std.specs.Prelude.{◌≡◌, true};
 ghost use Rattle.ifr_scopes.specs.Nodes.{is_store};
-ghost use Rattle.ifr_scopes.specs.Views.{node_of};
+ghost use Rattle.ifr_scopes.specs.code.Views.{node_of};
 
 use crate::node::Node;
 use crate::nodes::Nodes;
@@ -24,9 +24,9 @@ pub enum StoreOp<'a> {
 impl<'a> StoreOp<'a> {
     ghost use Rattle.std.specs.Prelude.{◌≤◌, length};
     ghost use Rattle.ifr_opcodes.specs.Fields.{least_length};
-    ghost use Rattle.ifr_opcodes.specs.Ops.{bytes_of};
+    ghost use Rattle.ifr_opcodes.specs.code.Ops.{bytes_of};
     ghost use Rattle.ifr_scopes.specs.Kinds.{is_store_number};
-    ghost use Rattle.ifr_scopes.specs.Lists.{store_op};
+    ghost use Rattle.ifr_scopes.specs.code.Lists.{store_op};
 
     // The view of an opcode that has all its fields.
     #[tactic(auto, unfolding(crate::specs::Kinds::is_store_number))]
@@ -52,18 +52,18 @@ pub struct Varstore<'a> {
 }
 
 impl<'a> Varstore<'a> {
-    ghost use Rattle.ifr_opcodes.specs.Ops.{bytes_of};
-    ghost use Rattle.ifr_scopes.specs.Lists.{store_node, store_op};
+    ghost use Rattle.ifr_opcodes.specs.code.Ops.{bytes_of};
+    ghost use Rattle.ifr_scopes.specs.code.Lists.{store_node, store_op};
     ghost use Rattle.ifr_scopes.specs.Stores.{store_id, store_size};
 
-    /// Its place, in bytes from the package's header.
+    /// The place of the store, in bytes from the package's header.
     pub fn place(self) -> u32
         ensures { result ≡ (store_node self.entry).place }
     {
         self.node.op().place
     }
 
-    /// Its opcode.
+    /// The opcode of the store.
     pub fn op(self) -> StoreOp<'a>
         ensures place { (store_op result).place ≡ (store_node self.entry).place }
         ensures bytes { bytes_of (store_op result) ≡ (store_node self.entry).op }
@@ -102,7 +102,7 @@ pub struct Varstores<'a> {
 
 impl<'a> Iterator for Varstores<'a> {
     ghost use Rattle.std.specs.Iterator.{YieldsFirstBy, item_count};
-    ghost use Rattle.ifr_scopes.specs.Lists.{store_node, stores_left};
+    ghost use Rattle.ifr_scopes.specs.code.Lists.{store_node, stores_left};
 
     type Item = Varstore<'a>;
 

@@ -1,10 +1,12 @@
 //! A way through the nodes of a package.
 
 ghost use Rattle.std.specs.Prelude.{◌≡◌, ◌≤◌, ◌<◌, ◌^◌, ◌+◌, ◌++◌, ◌∷◌, ℕ, List, [], Some, length, map, if◌then◌else◌, IfNone, IfSome, IsSome};
-ghost use Rattle.ifr_opcodes.specs.Forest.{Placed, Spells, mark, as_ancestor, nodes, node_at, below};
+ghost use Rattle.ifr_opcodes.specs.Forest.{Placed, SpellsForest, as_ancestor, nodes, node_at, below};
+ghost use Rattle.ifr_opcodes.specs.code.Marks.{mark};
 ghost use Rattle.ifr_opcodes.specs.Opcode.{has_scope, IsWhole};
-ghost use Rattle.ifr_opcodes.specs.Reading.{tree_of, mark_at};
-ghost use Rattle.ifr_scopes.specs.Walking.{IsWalking, IsWalking-prop};
+ghost use Rattle.ifr_opcodes.specs.Reading.{tree_of};
+ghost use Rattle.ifr_opcodes.specs.code.Marks.{mark_at};
+ghost use Rattle.ifr_scopes.specs.code.Walking.{IsWalking, IsWalking-prop};
 
 use crate::framing::HEADER;
 use arrayvec::ArrayVec;
@@ -13,7 +15,7 @@ use ifr_opcodes::{END, Op, op_at, split_opcode};
 /// A node that a walk meets.
 #[derive(Clone, Copy, Debug)]
 pub struct Visit<'a> {
-    /// Its opcode.
+    /// The opcode of the node.
     pub op: Op<'a>,
     /// How many scopes are around it, of those that the walk enters.
     pub depth: usize,
@@ -31,7 +33,8 @@ pub struct Walk<'a> {
 /// Where the nodes inside of a node's scope begin, or the package's end, where it has none.
 fn inner_start(bytes: &[u8], place: u32) -> usize
     requires { IsWhole (mark_at bytes.now place).op }
-    ensures { result ≡ (if has_scope (mark_at bytes.now place).op then place + length (mark_at bytes.now place).op else length bytes.now) }
+    ensures { result ≡ (if has_scope (mark_at bytes.now place).op
+        then place + length (mark_at bytes.now place).op else length bytes.now) }
 {
     match op_at(bytes, place) {
         Ok(op) if op.scope => place as usize + op.len(),
@@ -40,13 +43,13 @@ fn inner_start(bytes: &[u8], place: u32) -> usize
 }
 
 impl<'a> Walk<'a> {
-    ghost use Rattle.ifr_scopes.specs.Visits.{left, sights, under, Meets};
+    ghost use Rattle.ifr_scopes.specs.code.Visits.{left, sights, under, Meets};
 
     /// All nodes of a package.
     pub fn over(bytes: &'a [u8]) -> Walk<'a>
         requires header { 4 ≤ length bytes.now }
         requires small { length bytes.now < 2 ^ 32 }
-        requires spelled { Spells bytes.now (tree_of bytes.now) }
+        requires spelled { SpellsForest bytes.now (tree_of bytes.now) }
         ensures nodes { left result ≡ nodes (tree_of bytes.now) }
         ensures few { length (left result) < 2 ^ 32 }
         ensures kept { result.bytes.now ≡ bytes.now }
@@ -61,10 +64,12 @@ impl<'a> Walk<'a> {
     /// The nodes inside of the scope of the node at a place.
     pub fn inside(bytes: &'a [u8], place: u32) -> Walk<'a>
         requires small { length bytes.now < 2 ^ 32 }
-        requires spelled { Spells bytes.now (tree_of bytes.now) }
+        requires spelled { SpellsForest bytes.now (tree_of bytes.now) }
         requires there { IsSome (node_at (nodes (tree_of bytes.now)) place) }
-        ensures nodes { (n : Placed) → node_at (nodes (tree_of bytes.now)) place ≡ Some n → below n ≡ map (under (n.path ++ as_ancestor n ∷ [])) (left result) }
-        ensures sights { (n : Placed) → node_at (nodes (tree_of bytes.now)) place ≡ Some n → sights result ≡ map mark (below n) }
+        ensures nodes { (n : Placed) → node_at (nodes (tree_of bytes.now)) place ≡ Some n
+            → below n ≡ map (under (n.path ++ as_ancestor n ∷ [])) (left result) }
+        ensures sights { (n : Placed) → node_at (nodes (tree_of bytes.now)) place ≡ Some n
+            → sights result ≡ map mark (below n) }
         ensures few { length (left result) < 2 ^ 32 }
         ensures kept { result.bytes.now ≡ bytes.now }
     {
@@ -112,13 +117,15 @@ impl<'a> Walk<'a> {
 impl<'a> Walk<'a> {
     ghost use Rattle.std.specs.Prelude.{take};
     ghost use Rattle.std.specs.Prelude.{All, drop};
-    ghost use Rattle.ifr_opcodes.specs.Ops.{bytes_of};
-    ghost use Rattle.ifr_opcodes.specs.Reading.{inside, opcodes_in};
+    ghost use Rattle.ifr_opcodes.specs.code.Ops.{bytes_of};
+    ghost use Rattle.ifr_opcodes.specs.code.Marks.{inside};
+    ghost use Rattle.ifr_opcodes.specs.Reading.{opcodes_in};
     ghost use Rattle.ifr_scopes.specs.Structure.{first_number};
 
     /// The number of the first child of the node that the walk met last.
     pub(crate) fn first_child(&self, visit: &Visit) -> Option<u8>
-        ensures { result ≡ first_number (inside (bytes_of visit.now.op) (opcodes_in (drop self.now.at self.now.bytes.now))) }
+        ensures { result ≡ first_number
+            (inside (bytes_of visit.now.op) (opcodes_in (drop self.now.at self.now.bytes.now))) }
     {
         if !visit.op.scope {
             return None;
@@ -142,7 +149,7 @@ impl<'a> Walk<'a> {
 
 impl<'a> Iterator for Walk<'a> {
     ghost use Rattle.std.specs.Iterator.{YieldsFirstBy, item_count};
-    ghost use Rattle.ifr_scopes.specs.Visits.{view, sights};
+    ghost use Rattle.ifr_scopes.specs.code.Visits.{view, sights};
 
     type Item = Visit<'a>;
 

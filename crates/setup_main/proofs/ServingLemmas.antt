@@ -15,7 +15,8 @@ use Rattle.browser_core.proofs.RunLemmas.{finishes_known}
 use Rattle.setup_main.specs.declared.serve.Given.{Given}
 use Rattle.setup_main.specs.declared.serve.Ended.{Ended}
 use Rattle.setup_main.specs.declared.serve.Ended.TheVariants.{Done, Refused, ReadScript, WriteAnswers, WriteOut, NoMemory}
-use Rattle.setup_main.specs.Serving.{Starts, IsRefusedBy, IsWritten, RunsAll, IsRefused, ServesAll, Ends, Finished, Serves, StartsAndEnds, EndsAs, IsTold}
+use Rattle.setup_main.specs.Serving.{Starts, IsRefusedBy, IsWritten, RunsAll, IsRefused, ServesAll, Ends, Finished, Serves}
+use Rattle.setup_main.specs.code.Endings.{StartsAndEnds, EndsAs, IsTold}
 
 -- ---- a refused opening
 

@@ -1,5 +1,5 @@
 -- What a run of the program leaves, by how it ended (own rule).
-use Rattle.std.specs.Prelude.{◌≡◌, ◌≢◌, ◌⊎◌, ℕ, true, List, Option, IfSome, false}
+use Rattle.std.specs.Prelude.{◌≡◌, ◌⊎◌, ℕ, true, List, Option, false}
 use Rattle.std.specs.Io.KnownBytes.{Appends}
 use Rattle.hii_bytes.specs.declared.cause.Cause.TheVariants.{OutOfMemory}
 use Rattle.hii_bytes.specs.declared.cause.Fault.{Fault}
@@ -32,7 +32,8 @@ IsWritten old new text = Appends old.known new.known text × (new.broken ≡ fal
 -- ---- a script of known bytes
 
 -- A session over what is given runs this script to an end, and its answers are written.
-pub record RunsAll (given : Given) (script : List ℕ) (end : End) (answers answered : Pen) : Type 0 where
+pub record RunsAll (given : Given) (script : List ℕ) (end : End)
+    (answers answered : Pen) : Type 0 where
   pub start : State
   pub starts : Starts given start
   pub ends : end ≡ (outcome_of start script).end
@@ -48,9 +49,11 @@ pub record IsRefused (given : Given) (answers answered : Pen) : Type 0 where
 -- last submitted, and is written only after a whole script.
 abbrev pub ServesAll : Given → List ℕ → Pen → Pen → Ended → Pen → Pen → Type 0
 ServesAll given script answers out Done answered written =
-    (run : RunsAll given script end.Done answers answered) × IsWritten out written (image_of (outcome_of run.start script).state.committed)
+    (run : RunsAll given script end.Done answers answered)
+    × IsWritten out written (image_of (outcome_of run.start script).state.committed)
 ServesAll given script answers out Refused answered written =
-    (written ≡ out) × (IsRefused given answers answered ⊎ RunsAll given script end.TooLong answers answered)
+    (written ≡ out) × (IsRefused given answers answered
+    ⊎ RunsAll given script end.TooLong answers answered)
 ServesAll given script answers out NoMemory answered written =
     (written ≡ out) × IsWritten answers answered (refused_text OutOfMemory)
 ServesAll given script answers out _ answered written = Unit {0}
@@ -70,49 +73,31 @@ pub record Finished (given : Given) (before : Ends) (end : End) (after : Ends) :
   pub now : State
   pub finishes : Finishes start before.answers before.script end now after.answers after.script
 
--- What is given is refused or finds no memory, and the answers fail at the line that tells it.
+-- What is given is refused or an allocation fails, and the answers fail at the line that tells it.
 pub record FailsAtOnce (given : Given) (before after : Ends) : Type 0 where
   pub text : List ℕ
-  pub line : ((fault : Fault) × IsRefusedBy given fault × (text ≡ fault_text fault)) ⊎ (text ≡ refused_text OutOfMemory)
+  pub line : ((fault : Fault) × IsRefusedBy given fault × (text ≡ fault_text fault))
+      ⊎ (text ≡ refused_text OutOfMemory)
   pub writes : Writes before.answers after.answers text
   pub broken : after.answers.broken ≡ true
 
 abbrev pub Serves : Given → Ends → Ended → Ends → Type 0
 Serves given before Done after =
-    (run : Finished given before end.Done after) × IsWritten before.out after.out (image_of run.now.committed)
+    (run : Finished given before end.Done after)
+    × IsWritten before.out after.out (image_of run.now.committed)
 Serves given before Refused after =
-    (after.out ≡ before.out) × (IsRefused given before.answers after.answers ⊎ Finished given before end.TooLong after)
+    (after.out ≡ before.out) × (IsRefused given before.answers after.answers
+    ⊎ Finished given before end.TooLong after)
 Serves given before ReadScript after =
-    (after.out ≡ before.out) × (start now : State) × Starts given start × BreaksOff start before.answers before.script now after.answers after.script
+    (after.out ≡ before.out) × (start now : State) × Starts given start
+    × BreaksOff start before.answers before.script now after.answers after.script
 Serves given before WriteAnswers after =
     (after.out ≡ before.out)
     × (FailsAtOnce given before after
-    ⊎ ((start now : State) × Starts given start × Overflows start before.answers before.script now after.answers after.script))
+    ⊎ ((start now : State) × Starts given start
+    × Overflows start before.answers before.script now after.answers after.script))
 Serves given before WriteOut after =
-    (run : Finished given before end.Done after) × (fault : WriteFault) × StopsWithin before.out after.out fault (image_of run.now.committed)
+    (run : Finished given before end.Done after) × (fault : WriteFault)
+    × StopsWithin before.out after.out fault (image_of run.now.committed)
 Serves given before NoMemory after =
     (after.out ≡ before.out) × IsWritten before.answers after.answers (refused_text OutOfMemory)
-
--- ---- how a run ends, whatever its readers and writers keep
-
--- A session over what is given begins, and where the bytes of its script are known, they end so.
-abbrev pub StartsAndEnds : Given → Option (List ℕ) → End → Type 0
-StartsAndEnds given script end = (start : State) × Starts given start × IfSome script (λ bytes. (outcome_of start bytes).end ≡ end)
-
-abbrev pub EndsAs : Given → Option (List ℕ) → Ended → Type 0
-EndsAs given script Done = StartsAndEnds given script end.Done
-EndsAs given script Refused = ((fault : Fault) × IsRefusedBy given fault) ⊎ StartsAndEnds given script end.TooLong
-EndsAs given script ReadScript = (start : State) × Starts given start
-EndsAs given script WriteAnswers = Unit {0}
-EndsAs given script WriteOut = StartsAndEnds given script end.Done
-EndsAs given script NoMemory = Unit {0}
-
--- ---- a fault alone
-
--- A fault is told: want of memory without a place, any other at its place.
-abbrev pub IsTold : Fault → Pen → Ended → Pen → Type 0
-IsTold fault old Refused new = (fault.cause ≢ OutOfMemory) × IsWritten old new (fault_text fault)
-IsTold fault old NoMemory new = (fault.cause ≡ OutOfMemory) × IsWritten old new (refused_text OutOfMemory)
-IsTold fault old WriteAnswers new =
-    (((fault.cause ≢ OutOfMemory) × Writes old new (fault_text fault)) ⊎ Writes old new (refused_text OutOfMemory)) × (new.broken ≡ true)
-IsTold fault old _ new = ⊥

@@ -10,9 +10,9 @@ use std::io::Read;
 /// Why a file was not read.
 #[derive(Clone, Copy, Debug, PartialEq, Eq)]
 pub enum ReadError {
-    /// It has more bytes than the limit.
+    /// The file has more bytes than the limit.
     TooLong,
-    /// A growth was refused.
+    /// An allocation failed.
     NoMemory,
     /// A read was a fault.
     Fault,
@@ -21,11 +21,12 @@ pub enum ReadError {
 /// The most bytes that a file may have.
 pub const FILE_LIMIT: u64 = 16_777_216;
 
-/// All bytes that the reader has, at most 16,777,216. More are refused by `TooLong`; a fault of the reader and want of memory are told
-/// apart by whether it has failed.
+/// All bytes that the reader has, at most 16,777,216. More are refused by `TooLong`; a fault of the reader and an allocation
+/// that fails are told apart by whether the reader has failed.
 pub fn read_whole<R: Read>(alloc: Global, reader: &mut Watched<R>) -> Result<Vec<u8>, ReadError>
     ensures whole { IfSome (R.remaining (inner_of reader.old)) (λ all. MatchResult result
-        (λ bytes. (bytes.items ≡ all) × (length all ≤ FILE_LIMIT)) (λ e. e ≡ ReadError.TooLong → FILE_LIMIT < length all)) }
+        (λ bytes. (bytes.items ≡ all) × (length all ≤ FILE_LIMIT)) (λ e. e ≡ ReadError.TooLong
+        → FILE_LIMIT < length all)) }
     ensures limit { IfOk result (λ bytes. length bytes.items ≤ FILE_LIMIT) }
     ensures fault { result ≡ Err ReadError.Fault → has_failed reader.new ≡ true }
     ensures memory { result ≡ Err ReadError.NoMemory → has_failed reader.new ≡ false }

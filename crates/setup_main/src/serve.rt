@@ -2,7 +2,8 @@
 
 ghost use Rattle.std.specs.Prelude.{◌≡◌, IfSome, true, false};
 ghost use Rattle.hii_bytes.specs.Watching.{pen_of, inner_of, has_failed};
-ghost use Rattle.setup_main.specs.Serving.{Starts, Serves, ServesAll, EndsAs, IsTold};
+ghost use Rattle.setup_main.specs.Serving.{Starts, Serves, ServesAll};
+ghost use Rattle.setup_main.specs.code.Endings.{EndsAs, IsTold};
 ghost use Rattle.setup_main.specs.declared.serve.Given.{Given};
 
 use browser_core::{End, RunFault, Session, put_refusal, put_refusal_at};
@@ -36,7 +37,7 @@ pub enum Ended {
     WriteAnswers,
     /// The image could not be written.
     WriteOut,
-    /// A growth was refused.
+    /// An allocation failed.
     NoMemory,
 }
 
@@ -59,7 +60,7 @@ pub fn serve<R: Read, A: Write, O: Write>(
     )
 }
 
-/// The same, over readers and writers that are watched.
+/// Opens the session, runs the script, and writes the image that it leaves, over readers and writers that are watched.
 pub fn serve_watched<R: Read, A: Write, O: Write>(
     alloc: Global,
     given: Given<'_>,
@@ -69,11 +70,20 @@ pub fn serve_watched<R: Read, A: Write, O: Write>(
 ) -> Ended
     // Where the script's bytes are known.
     ensures whole { IfSome (R.remaining (inner_of script.old)) (λ bytes. ServesAll given.entry bytes
-        (pen_of A.contents answers.old) (pen_of O.contents out.old) result (pen_of A.contents answers.new) (pen_of O.contents out.new)) }
+        (pen_of A.contents answers.old) (pen_of O.contents out.old) result
+        (pen_of A.contents answers.new) (pen_of O.contents out.new)) }
     // At any reader and writers, and at their faults.
     ensures serves { Serves given.entry
-        record { script = R.remaining (inner_of script.old); answers = pen_of A.contents answers.old; out = pen_of O.contents out.old } result
-        record { script = R.remaining (inner_of script.new); answers = pen_of A.contents answers.new; out = pen_of O.contents out.new } }
+        record {
+          script = R.remaining (inner_of script.old);
+          answers = pen_of A.contents answers.old;
+          out = pen_of O.contents out.old;
+        } result
+        record {
+          script = R.remaining (inner_of script.new);
+          answers = pen_of A.contents answers.new;
+          out = pen_of O.contents out.new;
+        } }
     ensures reads { result ≡ Ended.ReadScript → has_failed script.new ≡ true }
     ensures answers { result ≡ Ended.WriteAnswers → has_failed answers.new ≡ true }
     ensures writes { result ≡ Ended.WriteOut → has_failed out.new ≡ true }
@@ -93,8 +103,16 @@ fn run<R: Read, A: Write, O: Write>(
     out: &mut Watched<O>,
 ) -> Ended
     ensures serves { (given : Given) → Starts given session.old → Serves given
-        record { script = R.remaining (inner_of script.old); answers = pen_of A.contents answers.old; out = pen_of O.contents out.old } result
-        record { script = R.remaining (inner_of script.new); answers = pen_of A.contents answers.new; out = pen_of O.contents out.new } }
+        record {
+          script = R.remaining (inner_of script.old);
+          answers = pen_of A.contents answers.old;
+          out = pen_of O.contents out.old;
+        } result
+        record {
+          script = R.remaining (inner_of script.new);
+          answers = pen_of A.contents answers.new;
+          out = pen_of O.contents out.new;
+        } }
     ensures reads { result ≡ Ended.ReadScript → has_failed script.new ≡ true }
     ensures answers { result ≡ Ended.WriteAnswers → has_failed answers.new ≡ true }
     ensures writes { result ≡ Ended.WriteOut → has_failed out.new ≡ true }

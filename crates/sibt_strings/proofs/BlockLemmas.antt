@@ -1,7 +1,8 @@
 -- Where blocks lead to.
 use Rattle.std.proofs.Common.{◌≡◌, ℕ, zero, suc, ◌+◌, ◌<◌, ◌≤◌, List, [], ◌∷◌, ◌++◌, length, Option, None, Some, refl, ap, sym, ◌∙◌, subst, arith, length-append}
-use Rattle.sibt_strings.specs.Blocks.{Block, End, Whole, front_of, Stops, Leads, AreBlocks}
-use Rattle.sibt_strings.specs.Views.{blocks_in, blocks_from, HoldsBlocks}
+use Rattle.sibt_strings.specs.Blocks.{Block, End, Whole, front_of, Leads, AreBlocks}
+use Rattle.sibt_strings.specs.code.Ends.{Stops}
+use Rattle.sibt_strings.specs.code.Views.{blocks_in, blocks_from, HoldsBlocks}
 
 -- the bytes of a language behind these
 abbrev pub language_behind : List ℕ → Option (List ℕ) → Option (List ℕ)

@@ -1,7 +1,7 @@
 -- What stands at the end of bytes.
 use Rattle.std.proofs.Common.{◌≡◌, ℕ, ◌-◌, List, [], ◌++◌, length, take, drop, refl, ap, sym, ◌∙◌, arith, append_assoc, length-append, take-append-drop}
 use Rattle.std.proofs.lemmas.List.{drop_at, take_rest}
-use Rattle.sibt_strings.specs.Views.{EndsWith, HasTextsIn, LiesIn}
+use Rattle.sibt_strings.specs.code.Views.{EndsWith, HasTextsIn, LiesIn}
 use Rattle.sibt_strings.specs.declared.block.Block.{Block}
 use Rattle.sibt_strings.specs.declared.block.Block.TheVariants as block
 use Rattle.sibt_strings.specs.declared.front.Front.{Front}

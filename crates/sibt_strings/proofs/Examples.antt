@@ -1,7 +1,7 @@
 -- Worked values of the definitions.
 use Rattle.std.proofs.Common.{◌≡◌, ℕ, List, [], ◌∷◌, ◌++◌, replicate, Option, Some, None, refl, lit≤}
 use Rattle.hii_bytes.specs.Numbers.{number_in}
-use Rattle.sibt_strings.specs.Blocks.{Texts, Duplicate, Skip, Extension, End, Whole, CutText, BadBlock, text_in, texts_in, front_of}
+use Rattle.sibt_strings.specs.Blocks.{Texts, Duplicate, Skip, Extension, End, Whole, CutText, BadBlock, cut_text, texts_in, front_of}
 use Rattle.sibt_strings.specs.Strings.{Speaks, text_at, texts_of}
 use Rattle.sibt_strings.specs.Units.{chars_of_units}
 
@@ -20,7 +20,7 @@ bytes : List ℕ
 bytes = (75 ∷ 0 ∷ 0 ∷ 4 ∷ 46 ∷ 0 ∷ 0 ∷ 0 ∷ 52 ∷ 0 ∷ 0 ∷ 0 ∷ []) ++ replicate 34 0 ++ (0x65 ∷ 0x6E ∷ 0x2D ∷ 0x55 ∷ 0x53 ∷ 0 ∷ []) ++ blocks
 
 says : Speaks bytes (record { language = 0x65 ∷ 0x6E ∷ 0x2D ∷ 0x55 ∷ 0x53 ∷ []; texts = texts })
-unfolding number_in text_in texts_in front_of bytes blocks texts
+unfolding number_in cut_text texts_in front_of bytes blocks texts
 says = record {
   fixed = record { long = lit≤ tt; low = lit≤ tt; high = lit≤ tt };
   language = refl;
@@ -56,5 +56,5 @@ fronts : (front_of (0x14 ∷ []) ≡ CutText) × (front_of (0x14 ∷ 1 ∷ 0 ∷
     × (front_of (0x16 ∷ 2 ∷ 0 ∷ 1 ∷ 0 ∷ 0 ∷ 0 ∷ 0 ∷ 0 ∷ 7 ∷ []) ≡ Whole (Texts ((1 ∷ 0 ∷ []) ∷ [] ∷ [])) (7 ∷ []))
     × (front_of (0x30 ∷ 0 ∷ 4 ∷ 9 ∷ 7 ∷ []) ≡ Whole Extension (7 ∷ [])) × (front_of (0x30 ∷ 0 ∷ 2 ∷ []) ≡ BadBlock)
     × (front_of (0x10 ∷ []) ≡ BadBlock) × (front_of [] ≡ BadBlock) × (front_of (0 ∷ 7 ∷ []) ≡ End)
-unfolding front_of texts_in text_in number_in
+unfolding front_of texts_in cut_text number_in
 fronts = (refl, refl, refl, refl, refl, refl, refl, refl, refl, refl)

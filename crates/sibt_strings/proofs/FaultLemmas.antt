@@ -6,7 +6,8 @@ use Rattle.hii_bytes.specs.declared.cause.Cause.{Cause}
 use Rattle.hii_bytes.specs.declared.cause.Cause.TheVariants.{StringHeader, StringBlock, StringText, LanguageText}
 use Rattle.hii_bytes.specs.Cause.{number_of}
 use Rattle.hii_bytes.specs.Faults.{IsLeast, HasNone}
-use Rattle.sibt_strings.specs.Blocks.{Block, Front, End, CutText, BadBlock, front_of, Stops, AreBlocks, StandsAt}
+use Rattle.sibt_strings.specs.Blocks.{Block, Front, End, CutText, BadBlock, front_of, AreBlocks, StandsAt}
+use Rattle.sibt_strings.specs.code.Ends.{Stops}
 use Rattle.sibt_strings.specs.Strings.{Spoken, Speaks, texts_of, HasFixedPart, IsStringFault, IsStringFaultIn, info_offset, blocks_of, language_of}
 use Rattle.sibt_strings.proofs.BlockLemmas.{one_stop, one_reading}
 

@@ -3,9 +3,10 @@ use Rattle.std.proofs.Common.{◌≡◌, ℕ, zero, suc, ◌+◌, ◌<◌, ◌�
 use Rattle.std.specs.List.{slice_get}
 use Rattle.std.specs.Option.{unwrap_or}
 use Rattle.std.proofs.lemmas.List.{append-nil, length-map, length-replicate}
-use Rattle.sibt_strings.specs.Blocks.{Block, Texts, Duplicate, Skip, Extension, Whole, front_of, Stops, AreBlocks}
+use Rattle.sibt_strings.specs.Blocks.{Block, Texts, Duplicate, Skip, Extension, Whole, front_of, AreBlocks}
+use Rattle.sibt_strings.specs.code.Ends.{Stops}
 use Rattle.sibt_strings.specs.Strings.{text_at, with_block, with_blocks, texts_of}
-use Rattle.sibt_strings.specs.Views.{count_of, TellsOf}
+use Rattle.sibt_strings.specs.code.Views.{count_of, TellsOf}
 use Rattle.sibt_strings.specs.declared.entry.Entry.{Entry}
 use Rattle.sibt_strings.specs.declared.entry.Entry.TheVariants as entry
 use Rattle.sibt_strings.proofs.BlockLemmas.{blocks_behind, blocks_none}

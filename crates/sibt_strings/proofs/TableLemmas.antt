@@ -8,10 +8,11 @@ use Rattle.std.proofs.lemmas.List.{append-nil, drop_all, length-map, map-append,
 use Rattle.std.proofs.lemmas.List.Sorted.{IsNonDecreasingBy-from_default}
 use Rattle.std.proofs.lemmas.Bool.{false≢true, cases_eq, cases_lt, cond-true, cond-false}
 use Rattle.std.proofs.lemmas.Bool.Decides.{nat_tests}
-use Rattle.sibt_strings.specs.Blocks.{Block, Duplicate, Skip, Whole, text_in, texts_in, front_of, Stops, AreBlocks}
+use Rattle.sibt_strings.specs.Blocks.{Block, Duplicate, Skip, Whole, cut_text, texts_in, front_of, AreBlocks}
+use Rattle.sibt_strings.specs.code.Ends.{Stops}
 use Rattle.sibt_strings.specs.Strings.{text_at, texts_of, with_block, with_blocks}
-use Rattle.sibt_strings.specs.Views.{EndsWith, count_of, whole_texts}
-use Rattle.sibt_strings.specs.Table.{place_of, text_of_place, Rises, IsTable, Adds}
+use Rattle.sibt_strings.specs.code.Views.{EndsWith, count_of, whole_texts}
+use Rattle.sibt_strings.specs.code.Table.{place_of, text_of_place, Rises, IsTable, Adds}
 use Rattle.sibt_strings.specs.declared.place.TextPlace.{TextPlace}
 use Rattle.sibt_strings.proofs.BlockLemmas.{blocks_none}
 use Rattle.sibt_strings.proofs.EndLemmas.{ends_place, ends_trans}
@@ -167,8 +168,8 @@ place_not_found low high places id at r within parted =
 
 -- no texts stand in no bytes
 text_past : (bytes : List ℕ) (place : ℕ) → length bytes ≤ place → text_of_place bytes (Some place) ≡ None
-unfolding text_in
-text_past bytes place past = ap (λ b. option_map (λ t. t.0) (text_in b)) (drop_all place bytes past)
+unfolding cut_text
+text_past bytes place past = ap (λ b. option_map (λ t. t.0) (cut_text b)) (drop_all place bytes past)
 
 -- an id whose place is past all bytes has no text
 pub table_past : (bytes : List ℕ) (texts : List OptionText) (places : List TextPlace) (id place : ℕ) → IsTable bytes texts places → id < 2 ^ 16 →
@@ -229,7 +230,7 @@ same_later {x} {l} {m} e f = same_some l m (sym e ∙ f)
 -- where texts are left, one stands at the front of the rest
 pub added_split : {blocks : List ℕ} {next count : ℕ} {bytes : List ℕ} {old : List TextPlace} {n : ℕ} {rest : List ℕ} {new : List TextPlace}
     (a : Added blocks next count bytes old n rest new) → n < count →
-    (t : List ℕ × List ℕ) × (ts : List (List ℕ) × List ℕ) × (text_in rest ≡ Some t) × (texts_in (count - (n + 1)) t.1 ≡ Some ts) × (a.later ≡ (t.0 ∷ ts.0, ts.1))
+    (t : List ℕ × List ℕ) × (ts : List (List ℕ) × List ℕ) × (cut_text rest ≡ Some t) × (texts_in (count - (n + 1)) t.1 ≡ Some ts) × (a.later ≡ (t.0 ∷ ts.0, ts.1))
 added_split {count = count} {n = n} {rest = rest} a lt =
     let s = texts_split (count - (n + 1)) rest (ap is_some (one_less count n rest a.later lt a.whole)) in
     (s.0, s.1, s.2, s.3, same_later (one_less count n rest a.later lt a.whole) s.4)
@@ -237,14 +238,14 @@ added_split {count = count} {n = n} {rest = rest} a lt =
 -- the place of one text more
 pub added_more : {blocks : List ℕ} {next count : ℕ} {bytes : List ℕ} {old : List TextPlace} {n : ℕ} {rest : List ℕ} {new : List TextPlace}
     (a : Added blocks next count bytes old n rest new) → n < count → (p : TextPlace) (text behind : List ℕ) →
-    text_in rest ≡ Some (text, behind) → EndsWith rest behind → p.id ≡ next + n → p.place ≡ length blocks - length rest →
+    cut_text rest ≡ Some (text, behind) → EndsWith rest behind → p.id ≡ next + n → p.place ≡ length blocks - length rest →
     Added blocks next count bytes old (n + 1) behind (new ++ p ∷ [])
 added_more {blocks} {next} {count} {bytes} {old} {n} {rest} {new} a lt p text behind found inside id place =
     let s = added_split a lt in
     let same : s.0 ≡ (text, behind) = same_some _ _ (sym s.2 ∙ found) in
     let more : map Some (a.seen ++ text ∷ []) ≡ map Some a.seen ++ Some text ∷ [] = map_push Some a.seen text in
     let here : text_of_place blocks (Some p.place) ≡ Some text =
-    ap (λ k. option_map (λ t. t.0) (text_in (drop k blocks))) place ∙ ap (λ b. option_map (λ t. t.0) (text_in b)) (ends_place a.inside) ∙ ap (option_map (λ t. t.0)) found in
+    ap (λ k. option_map (λ t. t.0) (cut_text (drop k blocks))) place ∙ ap (λ b. option_map (λ t. t.0) (cut_text b)) (ends_place a.inside) ∙ ap (option_map (λ t. t.0)) found in
     record {
       seen = a.seen ++ text ∷ [];
       size = omega (arith, length-append a.seen (text ∷ []), a.size);

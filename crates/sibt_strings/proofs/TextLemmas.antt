@@ -4,8 +4,8 @@ use Rattle.std.specs.Option.{option_map, is_some}
 use Rattle.std.specs.List.{slice_get}
 use Rattle.std.proofs.lemmas.Bool.{false≢true}
 use Rattle.std.proofs.lemmas.List.{append-nil, take_at}
-use Rattle.sibt_strings.specs.Blocks.{text_in, texts_in}
-use Rattle.sibt_strings.specs.Views.{whole_texts}
+use Rattle.sibt_strings.specs.Blocks.{cut_text, texts_in}
+use Rattle.sibt_strings.specs.code.Views.{whole_texts}
 
 -- a text with these bytes in front
 abbrev pub behind_front : List ℕ → Option (List ℕ × List ℕ) → Option (List ℕ × List ℕ)
@@ -17,21 +17,21 @@ pub record IsRest (bytes rest : List ℕ) : Type 0 where
   pub front : List ℕ
   pub parts : bytes ≡ front ++ rest
   pub even : length front % 2 ≡ 0
-  pub text : behind_front front (text_in rest) ≡ text_in bytes
+  pub text : behind_front front (cut_text rest) ≡ cut_text bytes
 
 -- a unit that is not zero goes to the front
 pub rest_more : (bytes rest : List ℕ) → IsRest bytes rest → 2 ≤ length rest → ((get_or rest 0 0 == 0) && (get_or rest 1 0 == 0)) ≡ false → IsRest bytes (drop 2 rest)
-unfolding text_in
+unfolding cut_text
 rest_more bytes [] r two some = absurd (omega arith)
 rest_more bytes (low ∷ []) r two some = absurd (omega arith)
 rest_more bytes (low ∷ high ∷ rest) r two some = record {
   front = r.front ++ low ∷ high ∷ [];
   parts = r.parts ∙ sym (append_assoc r.front (low ∷ high ∷ []) rest);
   even = omega (arith, r.even, length-append r.front (low ∷ high ∷ []));
-  text = joined (text_in rest) ∙ sym (ap (behind_front r.front) here) ∙ r.text;
+  text = joined (cut_text rest) ∙ sym (ap (behind_front r.front) here) ∙ r.text;
 }
   where
-    here : text_in (low ∷ high ∷ rest) ≡ option_map (λ t. (low ∷ high ∷ t.0, t.1)) (text_in rest)
+    here : cut_text (low ∷ high ∷ rest) ≡ option_map (λ t. (low ∷ high ∷ t.0, t.1)) (cut_text rest)
     here = rw some refl
 
     joined : (t : Option (List ℕ × List ℕ)) → behind_front (r.front ++ low ∷ high ∷ []) t ≡ behind_front r.front (option_map (λ t. (low ∷ high ∷ t.0, t.1)) t)
@@ -39,20 +39,20 @@ rest_more bytes (low ∷ high ∷ rest) r two some = record {
     joined (Some t) = ap (λ x. Some (x, t.1)) (append_assoc r.front (low ∷ high ∷ []) t.0)
 
 -- the zero unit ends the text
-pub rest_found : (bytes rest : List ℕ) (r : IsRest bytes rest) → 2 ≤ length rest → get_or rest 0 0 ≡ 0 → get_or rest 1 0 ≡ 0 → text_in bytes ≡ Some (r.front, drop 2 rest)
-unfolding text_in
+pub rest_found : (bytes rest : List ℕ) (r : IsRest bytes rest) → 2 ≤ length rest → get_or rest 0 0 ≡ 0 → get_or rest 1 0 ≡ 0 → cut_text bytes ≡ Some (r.front, drop 2 rest)
+unfolding cut_text
 rest_found bytes [] r two low_zero high_zero = absurd (omega arith)
 rest_found bytes (low ∷ []) r two low_zero high_zero = absurd (omega arith)
 rest_found bytes (low ∷ high ∷ rest) r two low_zero high_zero =
-    let here : text_in (low ∷ high ∷ rest) ≡ Some ([], rest) = rw (low_zero, high_zero) refl in
+    let here : cut_text (low ∷ high ∷ rest) ≡ Some ([], rest) = rw (low_zero, high_zero) refl in
     sym r.text ∙ ap (behind_front r.front) here ∙ ap (λ front. Some (front, rest)) (append-nil r.front)
 
 -- no zero unit stands in less than two bytes
-pub rest_none : (bytes rest : List ℕ) → IsRest bytes rest → length rest < 2 → text_in bytes ≡ None
-unfolding text_in
+pub rest_none : (bytes rest : List ℕ) → IsRest bytes rest → length rest < 2 → cut_text bytes ≡ None
+unfolding cut_text
 rest_none bytes rest r short = sym r.text ∙ ap (behind_front r.front) (none rest short)
   where
-    none : (xs : List ℕ) → length xs < 2 → text_in xs ≡ None
+    none : (xs : List ℕ) → length xs < 2 → cut_text xs ≡ None
     none [] lt = refl
     none (x ∷ []) lt = refl
     none (x ∷ y ∷ xs) lt = absurd (omega arith)
@@ -68,7 +68,7 @@ abbrev pub rest_of_texts : ℕ → List ℕ → Option (List ℕ)
 rest_of_texts n bytes = option_map (λ t. t.1) (texts_in n bytes)
 
 -- behind the first text stand the others
-pub rest_of_texts-found : (n m : ℕ) (bytes text rest : List ℕ) → n ≡ suc m → text_in bytes ≡ Some (text, rest) → rest_of_texts n bytes ≡ rest_of_texts m rest
+pub rest_of_texts-found : (n m : ℕ) (bytes text rest : List ℕ) → n ≡ suc m → cut_text bytes ≡ Some (text, rest) → rest_of_texts n bytes ≡ rest_of_texts m rest
 unfolding texts_in
 rest_of_texts-found n m bytes text rest count e = ap (λ k. rest_of_texts k bytes) count ∙ rw e (go (texts_in m rest))
   where
@@ -76,7 +76,7 @@ rest_of_texts-found n m bytes text rest count e = ap (λ k. rest_of_texts k byte
     go None = refl
     go (Some t) = refl
 
-pub rest_of_texts-none : (n m : ℕ) (bytes : List ℕ) → n ≡ suc m → text_in bytes ≡ None → rest_of_texts n bytes ≡ None
+pub rest_of_texts-none : (n m : ℕ) (bytes : List ℕ) → n ≡ suc m → cut_text bytes ≡ None → rest_of_texts n bytes ≡ None
 unfolding texts_in
 rest_of_texts-none n m bytes count e = ap (λ k. rest_of_texts k bytes) count ∙ rw e refl
 
@@ -88,22 +88,22 @@ pub cases_option : {A : Type 0} (o : Option A) → (o ≡ None) ⊎ ((x : A) × 
 cases_option None = inl refl
 cases_option (Some x) = inr (x, refl)
 
-texts_none : (n : ℕ) (bytes : List ℕ) → text_in bytes ≡ None → texts_in (suc n) bytes ≡ None
+texts_none : (n : ℕ) (bytes : List ℕ) → cut_text bytes ≡ None → texts_in (suc n) bytes ≡ None
 unfolding texts_in
 texts_none n bytes e = rw e refl
 
-texts_cons : (n : ℕ) (bytes : List ℕ) (t : List ℕ × List ℕ) (ts : List (List ℕ) × List ℕ) → text_in bytes ≡ Some t → texts_in n t.1 ≡ Some ts → texts_in (suc n) bytes ≡ Some (t.0 ∷ ts.0, ts.1)
+texts_cons : (n : ℕ) (bytes : List ℕ) (t : List ℕ × List ℕ) (ts : List (List ℕ) × List ℕ) → cut_text bytes ≡ Some t → texts_in n t.1 ≡ Some ts → texts_in (suc n) bytes ≡ Some (t.0 ∷ ts.0, ts.1)
 unfolding texts_in
 texts_cons n bytes t ts e f = rw (e, f) refl
 
-texts_cons_none : (n : ℕ) (bytes : List ℕ) (t : List ℕ × List ℕ) → text_in bytes ≡ Some t → texts_in n t.1 ≡ None → texts_in (suc n) bytes ≡ None
+texts_cons_none : (n : ℕ) (bytes : List ℕ) (t : List ℕ × List ℕ) → cut_text bytes ≡ Some t → texts_in n t.1 ≡ None → texts_in (suc n) bytes ≡ None
 unfolding texts_in
 texts_cons_none n bytes t e f = rw (e, f) refl
 
 -- the first of several whole texts, and the others
 pub texts_split : (n : ℕ) (bytes : List ℕ) → is_some (texts_in (suc n) bytes) ≡ true →
-    (t : List ℕ × List ℕ) × (ts : List (List ℕ) × List ℕ) × (text_in bytes ≡ Some t) × (texts_in n t.1 ≡ Some ts) × (texts_in (suc n) bytes ≡ Some (t.0 ∷ ts.0, ts.1))
-texts_split n bytes whole = elim (cases_option (text_in bytes)) [
+    (t : List ℕ × List ℕ) × (ts : List (List ℕ) × List ℕ) × (cut_text bytes ≡ Some t) × (texts_in n t.1 ≡ Some ts) × (texts_in (suc n) bytes ≡ Some (t.0 ∷ ts.0, ts.1))
+texts_split n bytes whole = elim (cases_option (cut_text bytes)) [
   | inl none ↦ absurd (false≢true (sym (ap is_some (texts_none n bytes none)) ∙ whole))
   | inr t ↦ elim (cases_option (texts_in n t.0.1)) [
     | inl none ↦ absurd (false≢true (sym (ap is_some (texts_cons_none n bytes t.0 t.1 none)) ∙ whole))
@@ -113,7 +113,7 @@ texts_split n bytes whole = elim (cases_option (text_in bytes)) [
 
 -- one of several whole texts
 nth_text_found : (n i : ℕ) (bytes : List ℕ) → i < n → is_some (texts_in n bytes) ≡ true →
-    (rest : List ℕ) × (text : List ℕ × List ℕ) × (rest_of_texts i bytes ≡ Some rest) × (text_in rest ≡ Some text) × (slice_get (whole_texts (texts_in n bytes)) i ≡ Some text.0)
+    (rest : List ℕ) × (text : List ℕ × List ℕ) × (rest_of_texts i bytes ≡ Some rest) × (cut_text rest ≡ Some text) × (slice_get (whole_texts (texts_in n bytes)) i ≡ Some text.0)
 nth_text_found zero i bytes lt whole = absurd (omega arith)
 nth_text_found (suc n) zero bytes lt whole =
     let s = texts_split n bytes whole in
@@ -131,13 +131,13 @@ nth_text_found (suc n) (suc i) bytes lt whole =
 pub nth_rest : (n i : ℕ) (bytes : List ℕ) → i < n → is_some (texts_in n bytes) ≡ true → is_some (rest_of_texts i bytes) ≡ true
 nth_rest n i bytes lt whole = ap is_some (nth_text_found n i bytes lt whole).2
 
--- the same by what was read
+-- one of several whole texts, by what was read
 pub nth_text_read : (n i : ℕ) (bytes rest : List ℕ) → i < n → is_some (texts_in n bytes) ≡ true → rest_of_texts i bytes ≡ Some rest →
-    (text : List ℕ × List ℕ) × (text_in rest ≡ Some text) × (slice_get (whole_texts (texts_in n bytes)) i ≡ Some text.0)
+    (text : List ℕ × List ℕ) × (cut_text rest ≡ Some text) × (slice_get (whole_texts (texts_in n bytes)) i ≡ Some text.0)
 nth_text_read n i bytes rest lt whole read =
     let f = nth_text_found n i bytes lt whole in
     let same : f.0 ≡ rest = cc in
-    (f.1, subst (λ r. text_in r ≡ Some f.1) same f.3, f.4)
+    (f.1, subst (λ r. cut_text r ≡ Some f.1) same f.3, f.4)
 
 -- whole texts are as many as they are counted
 pub length-whole_texts : (n : ℕ) (bytes : List ℕ) → is_some (texts_in n bytes) ≡ true → length (whole_texts (texts_in n bytes)) ≡ n

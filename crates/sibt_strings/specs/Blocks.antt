@@ -4,16 +4,18 @@ use Rattle.hii_bytes.specs.Numbers.{number_in}
 use Rattle.sibt_strings.specs.declared.block_types.TheConstants.{END, STRING_UCS2, STRING_UCS2_FONT, STRINGS_UCS2, STRINGS_UCS2_FONT, DUPLICATE, SKIP2, SKIP1, EXT1, EXT2, EXT4}
 
 -- the bytes of a text up to its zero unit, and the bytes behind that unit; a unit has two bytes
-unfoldable pub text_in : List ℕ → Option (List ℕ × List ℕ)
-text_in [] = None
-text_in (low ∷ []) = None
-text_in (low ∷ high ∷ rest) =
-    if (low == 0) && (high == 0) then Some ([], rest) else option_map (λ t. (low ∷ high ∷ t.0, t.1)) (text_in rest)
+unfoldable pub cut_text : List ℕ → Option (List ℕ × List ℕ)
+cut_text [] = None
+cut_text (low ∷ []) = None
+cut_text (low ∷ high ∷ rest) =
+    if (low == 0) && (high == 0) then Some ([], rest)
+    else option_map (λ t. (low ∷ high ∷ t.0, t.1)) (cut_text rest)
 
 -- this many texts, one after the other, and the bytes behind them
 unfoldable pub texts_in : ℕ → List ℕ → Option (List (List ℕ) × List ℕ)
 texts_in zero bytes = Some ([], bytes)
-texts_in (suc n) bytes = option_and_then (λ t. option_map (λ ts. (t.0 ∷ ts.0, ts.1)) (texts_in n t.1)) (text_in bytes)
+texts_in (suc n) bytes =
+    option_and_then (λ t. option_map (λ ts. (t.0 ∷ ts.0, ts.1)) (texts_in n t.1)) (cut_text bytes)
 
 -- What a block says of the string ids that follow: their texts, that one has the text of another, that so many have none, nothing.
 pub data Block : Type 0 where
@@ -42,7 +44,8 @@ with_fields n body front = if nat_lt (length body) n then BadBlock else front
 -- An extension of this length, whose own header takes so many bytes. The length counts from the block's first byte (own rule).
 abbrev pub extension_block : ℕ → ℕ → List ℕ → Front
 extension_block header size bytes =
-    if nat_lt size header then BadBlock else if nat_lt (length bytes) size then BadBlock else Whole Extension (drop size bytes)
+    if nat_lt size header then BadBlock else if nat_lt (length bytes) size then BadBlock
+    else Whole Extension (drop size bytes)
 
 -- the table of blocks, by the number in the first byte (33.3.6.2, Block Types)
 unfoldable pub front_of : List ℕ → Front
@@ -50,28 +53,29 @@ front_of [] = BadBlock
 front_of (kind ∷ body) =
     if kind == END then End
     else if kind == STRING_UCS2 then texts_block (texts_in 1 body)
-    else if kind == STRING_UCS2_FONT then with_fields 1 body (texts_block (texts_in 1 (drop 1 body)))
-    else if kind == STRINGS_UCS2 then with_fields 2 body (texts_block (texts_in (number_in body 0 2) (drop 2 body)))
-    else if kind == STRINGS_UCS2_FONT then with_fields 3 body (texts_block (texts_in (number_in body 1 2) (drop 3 body)))
-    else if kind == DUPLICATE then with_fields 2 body (Whole (Duplicate (number_in body 0 2)) (drop 2 body))
+    else if kind == STRING_UCS2_FONT
+    then with_fields 1 body (texts_block (texts_in 1 (drop 1 body)))
+    else if kind == STRINGS_UCS2
+    then with_fields 2 body (texts_block (texts_in (number_in body 0 2) (drop 2 body)))
+    else if kind == STRINGS_UCS2_FONT
+    then with_fields 3 body (texts_block (texts_in (number_in body 1 2) (drop 3 body)))
+    else if kind == DUPLICATE
+    then with_fields 2 body (Whole (Duplicate (number_in body 0 2)) (drop 2 body))
     else if kind == SKIP2 then with_fields 2 body (Whole (Skip (number_in body 0 2)) (drop 2 body))
     else if kind == SKIP1 then with_fields 1 body (Whole (Skip (slice_index body 0)) (drop 1 body))
-    else if kind == EXT1 then with_fields 2 body (extension_block 3 (slice_index body 1) (kind ∷ body))
-    else if kind == EXT2 then with_fields 3 body (extension_block 4 (number_in body 1 2) (kind ∷ body))
-    else if kind == EXT4 then with_fields 5 body (extension_block 6 (number_in body 1 4) (kind ∷ body))
+    else if kind == EXT1 then with_fields 2 body
+    (extension_block 3 (slice_index body 1) (kind ∷ body))
+    else if kind == EXT2 then with_fields 3 body
+    (extension_block 4 (number_in body 1 2) (kind ∷ body))
+    else if kind == EXT4 then with_fields 5 body
+    (extension_block 6 (number_in body 1 4) (kind ∷ body))
     else BadBlock
-
--- no whole block
-abbrev pub Stops : Front → Type 0
-Stops End = Unit {0}
-Stops (Whole block behind) = ⊥
-Stops CutText = Unit {0}
-Stops BadBlock = Unit {0}
 
 -- These blocks stand one after the other at the front of the bytes, and the rest behind them.
 abbrev pub Leads : List ℕ → List Block → List ℕ → Type 0
 Leads bytes [] rest = rest ≡ bytes
-Leads bytes (block ∷ blocks) rest = (behind : List ℕ) × (front_of bytes ≡ Whole block behind) × Leads behind blocks rest
+Leads bytes (block ∷ blocks) rest =
+    (behind : List ℕ) × (front_of bytes ≡ Whole block behind) × Leads behind blocks rest
 
 -- the bytes are these blocks and an end block; bytes behind it are ignored (own rule)
 abbrev pub AreBlocks : List ℕ → List Block → Type 0
@@ -80,4 +84,5 @@ AreBlocks bytes blocks = (rest : List ℕ) × Leads bytes blocks rest × (front_
 -- behind whole blocks this stands at this place
 abbrev pub StandsAt : List ℕ → Front → ℕ → Type 0
 StandsAt bytes front place =
-    (blocks : List Block) × (rest : List ℕ) × Leads bytes blocks rest × (front_of rest ≡ front) × (place + length rest ≡ length bytes)
+    (blocks : List Block) × (rest : List ℕ) × Leads bytes blocks rest × (front_of rest ≡ front)
+    × (place + length rest ≡ length bytes)

@@ -1,6 +1,5 @@
 pub mod Blocks
 pub mod Strings
 pub mod Units
-pub mod Views
-pub mod Table
-pub mod Numbers
+pub mod code
+pub mod laws

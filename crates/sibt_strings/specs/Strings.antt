@@ -34,7 +34,8 @@ texts_of blocks = with_blocks [] blocks
 abbrev pub language_in : List ℕ → Option (List ℕ)
 language_in [] = None
 language_in (byte ∷ bytes) =
-    if byte == 0 then Some [] else if nat_lt 0x7E byte then None else option_map (λ more. byte ∷ more) (language_in bytes)
+    if byte == 0 then Some [] else if nat_lt 0x7E byte then None
+    else option_map (λ more. byte ∷ more) (language_in bytes)
 
 -- where the blocks begin, in bytes from the package's front
 abbrev pub info_offset : List ℕ → ℕ
@@ -63,12 +64,20 @@ pub record Speaks (bytes : List ℕ) (spoken : Spoken) : Type 0 where
 
 -- The rows of the table of faults (own rule), with places in bytes from the package's front.
 abbrev pub IsStringFault : List ℕ → Cause → ℕ → Type 0
-IsStringFault bytes StringHeader place = (place ≡ 0) × ((length bytes < 46) ⊎ (info_offset bytes < 46) ⊎ (length bytes < info_offset bytes))
-IsStringFault bytes StringBlock place = HasFixedPart bytes × (at : ℕ) × StandsAt (blocks_of bytes) BadBlock at × (place ≡ info_offset bytes + at)
-IsStringFault bytes StringText place = HasFixedPart bytes × (at : ℕ) × StandsAt (blocks_of bytes) CutText at × (place ≡ info_offset bytes + at)
-IsStringFault bytes LanguageText place = HasFixedPart bytes × (place ≡ 46) × (language_of bytes ≡ None)
+IsStringFault bytes StringHeader place =
+    (place ≡ 0) × ((length bytes < 46) ⊎ (info_offset bytes < 46)
+    ⊎ (length bytes < info_offset bytes))
+IsStringFault bytes StringBlock place =
+    HasFixedPart bytes × (at : ℕ) × StandsAt (blocks_of bytes) BadBlock at
+    × (place ≡ info_offset bytes + at)
+IsStringFault bytes StringText place =
+    HasFixedPart bytes × (at : ℕ) × StandsAt (blocks_of bytes) CutText at
+    × (place ≡ info_offset bytes + at)
+IsStringFault bytes LanguageText place =
+    HasFixedPart bytes × (place ≡ 46) × (language_of bytes ≡ None)
 IsStringFault bytes _ place = ⊥
 
--- the same of a package that stands at this place of a list, with places in the list
+-- the faults of a package that stands at this place of a list, with places in the list
 abbrev pub IsStringFaultIn : List ℕ → ℕ → Cause → ℕ → Type 0
-IsStringFaultIn bytes start cause place = (at : ℕ) × IsStringFault bytes cause at × (place ≡ start + at)
+IsStringFaultIn bytes start cause place =
+    (at : ℕ) × IsStringFault bytes cause at × (place ≡ start + at)

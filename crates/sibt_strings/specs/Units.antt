@@ -1,7 +1,7 @@
 -- The characters that are shown of a text (own rule; the units are those of UEFI 2.8, 33.2.6 Strings).
 use Rattle.std.specs.Prelude.{ℕ, ◌+◌, ◌*◌, nat_lt, if◌then◌else◌, List, [], ◌∷◌, ◌++◌}
 
--- A unit of a surrogate shows as U+FFFD, a control as a space, FFF0 to FFF2 as nothing, any other as its character.
+-- A unit of a surrogate shows as U+FFFD, a control as a space, 0xFFF0 to 0xFFF2 as nothing, any other as its character.
 abbrev pub shown_unit : ℕ → List ℕ
 shown_unit unit =
     if nat_lt unit 0x20 then 0x20 ∷ []

@@ -4,7 +4,7 @@ ghost use Rattle.std.specs.Prelude.{◌≡◌, ◌⊎◌, List, IfErr, OnOk, opt
 ghost use Rattle.hii_bytes.specs.declared.cause.Cause.TheVariants.{StringBlock, StringText};
 ghost use Rattle.sibt_strings.specs.Blocks.{BadBlock, CutText, StandsAt};
 ghost use Rattle.sibt_strings.specs.Strings.{language_in};
-ghost use Rattle.sibt_strings.specs.Views.{HoldsBlocks};
+ghost use Rattle.sibt_strings.specs.code.Views.{HoldsBlocks};
 
 use crate::front::{Front, front_at};
 use hii_bytes::{Cause, Fault};

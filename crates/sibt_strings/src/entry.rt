@@ -17,12 +17,13 @@ pub(crate) enum Entry<'a> {
     Nothing,
 }
 
-ghost use Rattle.sibt_strings.specs.Views.{units_in, whole_texts, block_seen, count_of, TellsOf};
+ghost use Rattle.sibt_strings.specs.code.Views.{units_in, whole_texts, block_seen, count_of, TellsOf};
 
 // One of several texts, counted from 0.
 fn nth_text(texts: Texts<'_>, n: u16) -> Units<'_>
     requires { n < texts.count }
-    ensures { slice_get (whole_texts (spec.texts_in texts.entry.count texts.entry.bytes.now)) n ≡ Some (units_in result) }
+    ensures { slice_get (whole_texts (spec.texts_in texts.entry.count texts.entry.bytes.now)) n
+        ≡ Some (units_in result) }
 {
     let rest = skip_texts(n, texts.bytes).unwrap();
     split_text(rest).unwrap().0
@@ -43,7 +44,8 @@ pub(crate) fn count_in(block: Block<'_>) -> u16
 // What a block tells of a string id, the nth of its own, counted from 0.
 fn entry_in(block: Block<'_>, n: u16, id: u16) -> Entry<'_>
     requires { n < count_of (block_seen block) }
-    ensures { (before : List (Option (List ℕ))) → length before + n + 1 ≡ id → TellsOf (with_block before (block_seen block.entry)) id result }
+    ensures { (before : List (Option (List ℕ))) → length before + n + 1 ≡ id
+        → TellsOf (with_block before (block_seen block.entry)) id result }
 {
     match block {
         Block::Texts(texts) => Entry::Text(nth_text(texts, n)),
@@ -61,7 +63,8 @@ fn entry_in(block: Block<'_>, n: u16, id: u16) -> Entry<'_>
 
 /// What the blocks tell of a string id.
 pub(crate) fn entry_at(blocks: &[u8], id: u16) -> Entry<'_>
-    ensures { (whole : List spec.Block) → spec.AreBlocks blocks.now whole → TellsOf (texts_of whole) id result }
+    ensures { (whole : List spec.Block) → spec.AreBlocks blocks.now whole
+        → TellsOf (texts_of whole) id result }
 {
     if id == 0 {
         return Entry::Nothing;

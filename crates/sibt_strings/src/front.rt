@@ -1,8 +1,9 @@
 //! The block at the front of the bytes of blocks.
 
 ghost use Rattle.std.specs.Prelude.{◌≡◌, ◌+◌, ◌<◌, ◌≤◌, ◌%◌, length, IfSome, MatchOption, option_map};
-ghost use Rattle.sibt_strings.specs.Blocks.{text_in, texts_in, front_of, texts_block, extension_block, Stops};
-ghost use Rattle.sibt_strings.specs.Views.{units_in, front_seen, front_or_bad, EndsWith, LiesIn, LeavesLess, SplitsInto};
+ghost use Rattle.sibt_strings.specs.Blocks.{cut_text, texts_in, front_of, texts_block, extension_block};
+ghost use Rattle.sibt_strings.specs.code.Ends.{Stops};
+ghost use Rattle.sibt_strings.specs.code.Views.{units_in, front_seen, front_or_bad, EndsWith, LiesIn, LeavesLess, SplitsInto};
 
 use crate::block::{Block, Texts};
 use crate::block_types::{
@@ -24,7 +25,7 @@ pub(crate) enum Front<'a> {
 
 /// The units of a text without its zero unit, and the bytes behind that unit.
 pub(crate) fn split_text(bytes: &[u8]) -> Option<(Units<'_>, &[u8])>
-    ensures text { option_map (λ t. (units_in t.0, t.1.now)) result ≡ text_in bytes.now }
+    ensures text { option_map (λ t. (units_in t.0, t.1.now)) result ≡ cut_text bytes.now }
     ensures rest { IfSome result (λ t. EndsWith bytes.now t.1.now) }
 {
     let mut rest = bytes;
@@ -39,7 +40,8 @@ pub(crate) fn split_text(bytes: &[u8]) -> Option<(Units<'_>, &[u8])>
 
 /// The bytes behind so many texts.
 pub(crate) fn skip_texts(count: u16, bytes: &[u8]) -> Option<&[u8]>
-    ensures behind { option_map (λ rest. rest.now) result ≡ option_map (λ t. t.1) (texts_in count bytes.now) }
+    ensures behind { option_map (λ rest. rest.now) result
+        ≡ option_map (λ t. t.1) (texts_in count bytes.now) }
     ensures rest { IfSome result (λ rest. EndsWith bytes.now rest.now) }
 {
     let mut rest = bytes;
@@ -112,7 +114,8 @@ pub(crate) fn front_at(bytes: &[u8]) -> Front<'_>
 
 /// The whole block at the front of the bytes, if one stands there, and the bytes behind it.
 pub(crate) fn split_block(bytes: &[u8]) -> Option<(Block<'_>, &[u8])>
-    ensures { MatchOption result (Stops (front_of bytes.now)) (λ b. SplitsInto bytes.now b.0 b.1.now) }
+    ensures { MatchOption result (Stops (front_of bytes.now))
+        (λ b. SplitsInto bytes.now b.0 b.1.now) }
 {
     match front_at(bytes) {
         Front::Whole(block, rest) => Some((block, rest)),

@@ -2,7 +2,7 @@
 
 ghost use Rattle.std.specs.Prelude.{◌≡◌, ℕ, List};
 ghost use Rattle.hii_bytes.specs.Faults.{HasNone};
-ghost use Rattle.sibt_strings.specs.Numbers.{HaveNumbers};
+ghost use Rattle.sibt_strings.specs.laws.Numbers.{HaveNumbers};
 ghost use Rattle.sibt_strings.specs.Strings.{Spoken, Speaks, IsStringFaultIn};
 
 use crate::strings::Strings;
@@ -15,17 +15,20 @@ pub fn blocks_have_the_numbers_of_the_standard()
 
 /// A string package says one thing at most.
 pub fn a_package_says_one_thing()
-    ensures { (bytes : List ℕ) (spoken other : Spoken) → Speaks bytes spoken → Speaks bytes other → spoken ≡ other }
+    ensures { (bytes : List ℕ) (spoken other : Spoken) → Speaks bytes spoken → Speaks bytes other
+        → spoken ≡ other }
 {}
 
 /// A string package that says something has no fault.
 pub fn packages_that_speak_have_no_fault()
-    ensures { (bytes : List ℕ) (spoken : Spoken) (place : ℕ) → Speaks bytes spoken → HasNone (IsStringFaultIn bytes place) }
+    ensures { (bytes : List ℕ) (spoken : Spoken) (place : ℕ) → Speaks bytes spoken
+        → HasNone (IsStringFaultIn bytes place) }
 {}
 
 /// A package without a fault says something.
 pub fn packages_without_fault_speak(source: Package<'_>)
-    ensures { HasNone (IsStringFaultIn source.entry.bytes.now source.entry.place) → (spoken : Spoken) × Speaks source.entry.bytes.now spoken }
+    ensures { HasNone (IsStringFaultIn source.entry.bytes.now source.entry.place)
+        → (spoken : Spoken) × Speaks source.entry.bytes.now spoken }
 {
     match Strings::read(source) {
         Ok(_strings) => {}

@@ -3,7 +3,7 @@
 ghost use Rattle.std.specs.Prelude.{◌≡◌, ◌+◌, ◌<◌, ◌^◌, length, Err, IfOk, IfErr, IsOk, option_map};
 ghost use Rattle.hii_bytes.specs.Faults.{IsLeast};
 ghost use Rattle.sibt_strings.specs.Strings.{Spoken, Speaks, IsStringFaultIn, text_at};
-ghost use Rattle.sibt_strings.specs.Views.{units_in};
+ghost use Rattle.sibt_strings.specs.code.Views.{units_in};
 
 use crate::blocks::{check_blocks, language_at};
 use crate::entry::{Entry, entry_at};
@@ -25,7 +25,7 @@ impl<'a> Model for Strings<'a> {
 
     ghost Value = { Spoken };
 
-    ghost use Rattle.sibt_strings.specs.Views.{spoken_in, HoldsBlocks};
+    ghost use Rattle.sibt_strings.specs.code.Views.{spoken_in, HoldsBlocks};
 
     ghost view = { λ s. spoken_in s.language.now s.block_bytes.now };
 
@@ -43,11 +43,12 @@ fn fault_in<T>(source: Package<'_>, cause: Cause, at: u64) -> Result<T, Fault>
 impl<'a> Strings<'a> {
     /// The strings of a string package (UEFI 2.8, 33.3.6 String Package), or its least fault, at its place in bytes from
     /// the list's front: StringHeader where the fixed part is cut or the blocks do not begin behind it in the package,
-    /// LanguageText where the language has no NUL or a byte above 7E before it, StringBlock at a block that is unknown
+    /// LanguageText where the language has no NUL or a byte above 0x7E before it, StringBlock at a block that is unknown
     /// or cut and where the end block is missing, StringText at a block with a text without a zero unit.
     pub fn read(source: Package<'a>) -> Result<Strings<'a>, Fault>
         ensures spoken { IfOk result (Speaks source.entry.bytes.now) }
-        ensures refused { IfErr result (IsLeast (IsStringFaultIn source.entry.bytes.now source.entry.place)) }
+        ensures refused { IfErr result
+            (IsLeast (IsStringFaultIn source.entry.bytes.now source.entry.place)) }
         // What says something is read.
         ensures accepted { (spoken : Spoken) → Speaks source.entry.bytes.now spoken → IsOk result }
     {

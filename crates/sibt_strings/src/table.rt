@@ -3,8 +3,8 @@
 ghost use Rattle.std.specs.Prelude.{◌≡◌, ◌<◌, ◌^◌, ℕ, List, length, IfOk, OnOk, option_map};
 ghost use Rattle.sibt_strings.specs.Blocks as spec;
 ghost use Rattle.sibt_strings.specs.Strings.{text_at, texts_of};
-ghost use Rattle.sibt_strings.specs.Views.{units_in, block_seen, EndsWith, HasTextsIn};
-ghost use Rattle.sibt_strings.specs.Table.{place_of, Rises, IsTable, Adds};
+ghost use Rattle.sibt_strings.specs.code.Views.{units_in, block_seen, EndsWith, HasTextsIn};
+ghost use Rattle.sibt_strings.specs.code.Table.{place_of, Rises, IsTable, Adds};
 
 use crate::block::{Block, Texts};
 use crate::entry::count_in;
@@ -20,7 +20,7 @@ use std::marker::Model;
 pub struct StringTable<'a> {
     language: &'a [u8],
     block_bytes: &'a [u8],
-    // One for each id that has a text, in the order of the ids.
+    // The place of each text, in the order of the ids that have one.
     places: Vec<TextPlace>,
 }
 
@@ -30,12 +30,13 @@ impl<'a> Model for StringTable<'a> {
 
     ghost Value = { Spoken };
 
-    ghost use Rattle.sibt_strings.specs.Views.{blocks_in, spoken_in};
-    ghost use Rattle.sibt_strings.specs.Table.{IsTable};
+    ghost use Rattle.sibt_strings.specs.code.Views.{blocks_in, spoken_in};
+    ghost use Rattle.sibt_strings.specs.code.Table.{IsTable};
 
     ghost view = { λ s. spoken_in s.language.now s.block_bytes.now };
 
-    ghost invariant = { λ s. IsTable s.block_bytes.now (texts_of (blocks_in (length s.block_bytes.now) s.block_bytes.now)) s.places.items };
+    ghost invariant = { λ s. IsTable s.block_bytes.now
+        (texts_of (blocks_in (length s.block_bytes.now) s.block_bytes.now)) s.places.items };
 }
 
 // The place of an id's text.
@@ -57,7 +58,8 @@ fn add_texts(
 ) -> Result<(), AllocError>
     requires small { length blocks.now < 2 ^ 24 }
     requires inside { EndsWith blocks.now texts.bytes.now }
-    ensures { OnOk result (Adds blocks.now next (block_seen (Block.Texts texts.entry)) places.old.items places.new.items) }
+    ensures { OnOk result (Adds blocks.now next
+        (block_seen (Block.Texts texts.entry)) places.old.items places.new.items) }
 {
     let mut rest = texts.bytes;
     for i in 0..texts.count {
@@ -74,7 +76,8 @@ fn add_texts(
 
 // Adds the place of a duplicate's text for the next id, if the id that it names has one so far.
 fn add_duplicate(places: &mut Vec<TextPlace>, next: u16, other: u16) -> Result<(), AllocError>
-    ensures { OnOk result ((bytes : List ℕ) → Adds bytes next (spec.Duplicate other) places.old.items places.new.items) }
+    ensures { OnOk result ((bytes : List ℕ)
+        → Adds bytes next (spec.Duplicate other) places.old.items places.new.items) }
 {
     if let Some(place) = place_at(places, other) {
         places.push(TextPlace { id: next, place })?;
@@ -91,7 +94,8 @@ fn add_block(
 ) -> Result<(), AllocError>
     requires small { length blocks.now < 2 ^ 24 }
     requires inside { HasTextsIn block blocks.now }
-    ensures { OnOk result (Adds blocks.now next (block_seen block.entry) places.old.items places.new.items) }
+    ensures { OnOk result (Adds blocks.now next
+        (block_seen block.entry) places.old.items places.new.items) }
 {
     match block {
         Block::Texts(texts) => add_texts(places, blocks, next, texts)?,
@@ -105,7 +109,8 @@ fn add_block(
 // The places of the texts of whole blocks.
 fn places_of_texts(alloc: Global, blocks: &[u8]) -> Result<Vec<TextPlace>, AllocError>
     requires { length blocks.now < 2 ^ 24 }
-    ensures { IfOk result (λ places. (whole : List spec.Block) → spec.AreBlocks blocks.now whole → IsTable blocks.now (texts_of whole) places.items) }
+    ensures { IfOk result (λ places. (whole : List spec.Block) → spec.AreBlocks blocks.now whole
+        → IsTable blocks.now (texts_of whole) places.items) }
 {
     let mut places = Vec::new(alloc);
     let mut rest = blocks;
@@ -122,8 +127,8 @@ fn places_of_texts(alloc: Global, blocks: &[u8]) -> Result<Vec<TextPlace>, Alloc
 }
 
 impl<'a> StringTable<'a> {
-    /// A table of the texts of a package. It takes 8 bytes for each string id that has a text; where this memory is
-    /// refused the error is AllocError.
+    /// A table of the texts of a package. It takes 8 bytes for each string id that has a text; where an allocation fails
+    /// the error is AllocError.
     pub fn read(alloc: Global, strings: Strings<'a>) -> Result<StringTable<'a>, AllocError>
         ensures { IfOk result (λ table. table ≡ strings.entry) }
     {

@@ -13,7 +13,7 @@ pub struct Units<'a> {
 
 impl<'a> Units<'a> {
     ghost use Rattle.sibt_strings.specs.Units.{chars_of_units};
-    ghost use Rattle.sibt_strings.specs.Views.{units_in, chars_left};
+    ghost use Rattle.sibt_strings.specs.code.Views.{units_in, chars_left};
 
     /// The units that the bytes are, of which there is an even number.
     pub fn new(bytes: &'a [u8]) -> Units<'a>
@@ -24,7 +24,7 @@ impl<'a> Units<'a> {
     }
 
     /// The characters that are shown of the text (own rule): a unit of a surrogate as U+FFFD, a control as a space,
-    /// FFF0 to FFF2 as nothing, any other unit as its character.
+    /// 0xFFF0 to 0xFFF2 as nothing, any other unit as its character.
     pub fn chars(self) -> UnitChars<'a>
         ensures { chars_left result ≡ chars_of_units (units_in self.entry) }
     {
@@ -51,7 +51,7 @@ fn char_of(unit: u16) -> Option<char>
 
 impl<'a> Iterator for UnitChars<'a> {
     ghost use Rattle.std.specs.Iterator.{YieldsFirstBy, item_count};
-    ghost use Rattle.sibt_strings.specs.Views.{chars_left};
+    ghost use Rattle.sibt_strings.specs.code.Views.{chars_left};
 
     type Item = char;
 

@@ -1,5 +1,5 @@
 use Rattle.std.proofs.Common.{sym, ◌∙◌}
-use Rattle.ifr_scopes.specs.Lists.{form_node, forms_left}
+use Rattle.ifr_scopes.specs.code.Lists.{form_node, forms_left}
 use Rattle.ifr_scopes.specs.Nodes.{nodes_of, is_form}
 use Rattle.browser_core.proofs.FormLemmas.{yields_some, some_form, first_within}
 use Rattle.browser_core.proofs.browser.first_form.Goals as goal

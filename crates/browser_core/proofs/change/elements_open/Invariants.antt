@@ -1,8 +1,8 @@
 use Rattle.std.proofs.Common.{◌≡◌, length}
-use Rattle.hii_questions.specs.StoredLeft.{stored_left}
-use Rattle.hii_questions.specs.Views.{question_node}
+use Rattle.hii_questions.specs.code.StoredLeft.{stored_left}
+use Rattle.hii_questions.specs.code.Views.{question_node}
 use Rattle.guard_policy.specs.Policy.{first_closed}
-use Rattle.guard_policy.specs.Views.{world}
+use Rattle.guard_policy.specs.code.Views.{world}
 use Rattle.browser_core.proofs.change.elements_open.Given as goal
 
 -- the elements that were met have open options

@@ -1,5 +1,5 @@
 use Rattle.std.proofs.Common.{arith}
-use Rattle.hii_packages.specs.Package.{entry_of}
+use Rattle.hii_packages.specs.code.Package.{entry_of}
 use Rattle.browser_core.proofs.WithoutFaultLemmas.{opens_without_fault}
 use Rattle.browser_core.proofs.laws.bytes_without_fault_open.Goals as goal
 

@@ -4,7 +4,7 @@ use Rattle.std.specs.List.{before_first}
 use Rattle.hii_bytes.specs.Watching.{pen_of}
 use Rattle.hii_commands.specs.Script.{ends_line, rest_of}
 use Rattle.hii_commands.proofs.ScriptLemmas.{fed_rest, fed_line, IsWithinLine-before_first}
-use Rattle.browser_core.specs.Run.{Stands}
+use Rattle.browser_core.specs.code.Reading.{Stands}
 use Rattle.browser_core.proofs.RunLemmas.{stands_within, stands_line, stops_piece}
 use Rattle.browser_core.proofs.script.run_piece.Goals as goal
 

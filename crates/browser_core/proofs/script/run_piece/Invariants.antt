@@ -1,7 +1,7 @@
 use Rattle.std.proofs.Common.{◌≡◌, ◌++◌, List, ℕ, length}
 use Rattle.hii_bytes.specs.Watching.{Pen, pen_of}
 use Rattle.browser_core.specs.State.{State}
-use Rattle.browser_core.specs.Run.{Stands}
+use Rattle.browser_core.specs.code.Reading.{Stands}
 use Rattle.browser_core.proofs.script.run_piece.Given as goal
 
 -- the lines that end before the rest are carried out

@@ -2,5 +2,5 @@ use Rattle.std.proofs.Common.{sym, ◌∙◌}
 use Rattle.hii_bytes.proofs.WritingLemmas.{◌⨾◌}
 use Rattle.browser_core.proofs.texts.put_message.Goals as goal
 
-pub returns-then-has_message : goal.returns-then-has_message
-returns-then-has_message g c = rw (sym c.has_message.ensures ∙ c.if-has_message.true) (c.put.ensures ⨾ c.put_shown.ensures)
+pub returns-then-has_text : goal.returns-then-has_text
+returns-then-has_text g c = rw (sym c.has_text.ensures ∙ c.if-has_text.true) (c.put.ensures ⨾ c.put_shown.ensures)

@@ -1,8 +1,9 @@
 use Rattle.std.specs.List.{flat_map}
-use Rattle.hii_bytes.specs.Watching.{pen_of, Stands}
+use Rattle.hii_bytes.specs.Watching.{pen_of}
+use Rattle.hii_bytes.specs.code.Writing.{Stands}
 use Rattle.hii_languages.specs.Shown.{shown_text}
-use Rattle.hii_languages.specs.Views.{choice_of}
-use Rattle.guard_policy.specs.Warned.{warnings_left}
+use Rattle.hii_languages.specs.code.Views.{choice_of}
+use Rattle.guard_policy.specs.code.WarningsLeft.{warnings_left}
 use Rattle.browser_core.specs.Texts.{warning_line}
 use Rattle.browser_core.proofs.texts.put_warnings.Given as goal
 

@@ -1,8 +1,9 @@
 use Rattle.std.proofs.Common.{length}
 use Rattle.std.specs.List.{flat_map}
-use Rattle.hii_bytes.specs.Watching.{pen_of, Stands}
+use Rattle.hii_bytes.specs.Watching.{pen_of}
+use Rattle.hii_bytes.specs.code.Writing.{Stands}
 use Rattle.form_page.specs.Pages.{row_text}
-use Rattle.form_page.specs.Views.{rows_left}
+use Rattle.form_page.specs.code.Views.{rows_left}
 use Rattle.form_page.proofs.print.put_rows.Given as goal
 
 -- the rows before those that are left were written

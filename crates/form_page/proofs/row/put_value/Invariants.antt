@@ -1,8 +1,9 @@
 use Rattle.std.proofs.Common.{length}
-use Rattle.hii_bytes.specs.Watching.{pen_of, Stands}
+use Rattle.hii_bytes.specs.Watching.{pen_of}
+use Rattle.hii_bytes.specs.code.Writing.{Stands}
 use Rattle.form_page.specs.Texts.{utf8}
-use Rattle.form_page.specs.CharViews.{value_chars_left}
-use Rattle.form_page.specs.RowViews.{value_text}
+use Rattle.form_page.specs.code.CharViews.{value_chars_left}
+use Rattle.form_page.specs.code.RowViews.{value_text}
 use Rattle.form_page.proofs.row.put_value.Given as goal
 
 -- the characters before those that are left were written

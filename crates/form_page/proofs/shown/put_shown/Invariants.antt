@@ -1,7 +1,8 @@
 use Rattle.std.proofs.Common.{length}
-use Rattle.hii_bytes.specs.Watching.{pen_of, Stands}
+use Rattle.hii_bytes.specs.Watching.{pen_of}
+use Rattle.hii_bytes.specs.code.Writing.{Stands}
 use Rattle.form_page.specs.Texts.{utf8}
-use Rattle.hii_languages.specs.Views.{chars_left}
+use Rattle.hii_languages.specs.code.Views.{chars_left}
 use Rattle.form_page.proofs.shown.put_shown.Given as goal
 
 -- the characters before those that are left were written

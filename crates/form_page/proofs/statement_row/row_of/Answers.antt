@@ -1,7 +1,7 @@
 use Rattle.std.proofs.Common.{◌∙◌, refl, ap, List, ℕ}
 use Rattle.ifr_opcodes.specs.Fields.{statement_prompt}
-use Rattle.ifr_scopes.specs.Lists.{statement_node}
-use Rattle.form_page.specs.PageViews.{texts_of}
+use Rattle.ifr_scopes.specs.code.Lists.{statement_node}
+use Rattle.form_page.specs.code.PageViews.{texts_of}
 use Rattle.form_page.specs.Pages.{mark_of}
 use Rattle.form_page.proofs.statement_row.row_of.Goals as goal
 

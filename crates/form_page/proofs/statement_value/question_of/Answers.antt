@@ -1,9 +1,8 @@
 use Rattle.std.proofs.Common.{◌∙◌}
-use Rattle.guard_policy.specs.Views.{bytes_of}
+use Rattle.guard_policy.specs.code.Views.{bytes_of}
 use Rattle.guard_policy.proofs.QuestionLemmas.{question_there}
 use Rattle.form_page.proofs.statement_value.question_of.Goals as goal
 
 pub returns : goal.returns
 returns g c =
-    let accepted = rw c.forms.ensures at c.bytes.ensures.accepted in
-    c.at.ensures ∙ rw (c.args.page.own, c.place.ensures) (question_there (bytes_of c.args.page.policy) _ accepted.checked.spelled c.requires)
+    c.at.ensures ∙ rw (c.args.page.own, c.place.ensures) (question_there (bytes_of c.args.page.policy) _ c.args.page.policy.accepted.checked.spelled c.requires)

@@ -1,12 +1,12 @@
 use Rattle.std.proofs.Common.{◌∙◌, sym, ap}
 use Rattle.std.proofs.lemmas.Bool.{cond-true}
-use Rattle.ifr_scopes.specs.Lists.{statement_node}
+use Rattle.ifr_scopes.specs.code.Lists.{statement_node}
 use Rattle.ifr_scopes.specs.Nodes.{nodes_of, is_question}
 use Rattle.hii_questions.specs.Answers.{value_of_field}
 use Rattle.hii_questions.specs.Fields.{Asked}
-use Rattle.hii_questions.specs.Views.{question_node, question_view}
-use Rattle.guard_policy.specs.Views.{bytes_of}
-use Rattle.form_page.specs.PageViews.{texts_of, world_of}
+use Rattle.hii_questions.specs.code.Views.{question_node, question_view}
+use Rattle.guard_policy.specs.code.Views.{bytes_of}
+use Rattle.form_page.specs.code.PageViews.{texts_of, world_of}
 use Rattle.form_page.specs.RowValues.{stored_shown}
 use Rattle.form_page.proofs.StatementLemmas.{asked_is}
 use Rattle.form_page.proofs.WholeTexts.{whole_texts}

@@ -1,6 +1,6 @@
 use Rattle.std.proofs.Common.{◌≡◌, length}
-use Rattle.ifr_scopes.specs.Lists.{guards_left}
-use Rattle.guard_policy.specs.AskedLeft.{numbered_left}
+use Rattle.ifr_scopes.specs.code.Lists.{guards_left}
+use Rattle.guard_policy.specs.code.AskedLeft.{numbered_left}
 use Rattle.guard_policy.proofs.around.next_of.Given as goal
 
 -- the guards that were passed have other numbers

@@ -1,4 +1,4 @@
-use Rattle.guard_policy.specs.Support.{conditions}
+use Rattle.guard_policy.specs.laws.Support.{conditions}
 use Rattle.guard_policy.specs.World.{is_met_over, world_over}
 use Rattle.guard_policy.proofs.SupportLemmas.{all_alike, denial_same, warning_same}
 use Rattle.guard_policy.proofs.laws.a_decision_depends_on_its_questions_alone.Goals as goal

@@ -1,5 +1,5 @@
 use Rattle.std.proofs.Common.{◌∙◌}
-use Rattle.guard_policy.specs.Support.{conditions, until_met}
+use Rattle.guard_policy.specs.laws.Support.{conditions, until_met}
 use Rattle.guard_policy.specs.World.{is_met_over, world_over}
 use Rattle.guard_policy.proofs.SupportLemmas.{all_alike, denial_stays}
 use Rattle.guard_policy.proofs.laws.a_denial_depends_on_what_decides.Goals as goal

@@ -1,7 +1,7 @@
 use Rattle.std.proofs.Common.{◌≡◌, true, arith}
 use Rattle.std.proofs.lemmas.Bool.Decides.{nat_tests}
 use Rattle.hii_bytes.proofs.FirstFaultLemmas.{accepted_without}
-use Rattle.hii_packages.specs.Package.{entry_of}
+use Rattle.hii_packages.specs.code.Package.{entry_of}
 use Rattle.hii_packages.specs.Packages.{entries}
 use Rattle.hii_languages.proofs.SpokenLemmas.{is_strings, read_more, read_fault}
 use Rattle.hii_languages.proofs.laws.packages_without_fault_speak.Goals as goal

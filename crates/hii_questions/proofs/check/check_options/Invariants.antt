@@ -1,8 +1,8 @@
 use Rattle.std.proofs.Common.{◌≡◌}
 use Rattle.ifr_scopes.specs.Nodes.{options}
-use Rattle.ifr_scopes.specs.Parts.{options_left}
-use Rattle.hii_questions.specs.FaultTells.{first_option_fault}
-use Rattle.hii_questions.specs.Views.{question_node}
+use Rattle.ifr_scopes.specs.code.Parts.{options_left}
+use Rattle.hii_questions.specs.code.FaultTells.{first_option_fault}
+use Rattle.hii_questions.specs.code.Views.{question_node}
 use Rattle.hii_questions.proofs.check.check_options.Given as goal
 
 -- the first fault of the options that are left is that of all

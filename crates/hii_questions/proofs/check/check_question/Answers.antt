@@ -1,7 +1,7 @@
 use Rattle.std.proofs.Common.{ℕ, Bool}
 use Rattle.std.specs.BTreeSet.{contains}
 use Rattle.std.specs.Ordering.{nat_cmp}
-use Rattle.hii_questions.specs.Views.{question_view}
+use Rattle.hii_questions.specs.code.Views.{question_view}
 use Rattle.hii_questions.proofs.FaultLemmas.{question_told}
 use Rattle.hii_questions.proofs.check.check_question.Goals as goal
 

@@ -3,8 +3,8 @@ use Rattle.std.specs.BTreeSet.{contains}
 use Rattle.std.specs.List.{flat_map}
 use Rattle.std.specs.Ordering.{nat_cmp}
 use Rattle.hii_questions.specs.Faults.{parts_of}
-use Rattle.hii_questions.specs.FaultTells.{first_part_fault}
-use Rattle.hii_questions.specs.Views.{question_view}
+use Rattle.hii_questions.specs.code.FaultTells.{first_part_fault}
+use Rattle.hii_questions.specs.code.Views.{question_view}
 use Rattle.hii_questions.proofs.check.check_questions.Given as goal
 
 -- the first fault of the questions that are left is that of all

@@ -1,6 +1,6 @@
-use Rattle.hii_questions.specs.ChoiceViews.{choice_values}
-use Rattle.hii_questions.specs.ItemsLeft.{items_left}
-use Rattle.hii_questions.specs.TypeViews.{list_width}
+use Rattle.hii_questions.specs.code.ChoiceViews.{choice_values}
+use Rattle.hii_questions.specs.code.ItemsLeft.{items_left}
+use Rattle.hii_questions.specs.code.TypeViews.{list_width}
 use Rattle.hii_questions.proofs.ListLemmas.{elements_fit}
 use Rattle.hii_questions.proofs.fitting.elements.Goals as goal
 

@@ -1,4 +1,4 @@
-use Rattle.hii_questions.specs.ItemsLeft.{items_left}
+use Rattle.hii_questions.specs.code.ItemsLeft.{items_left}
 use Rattle.hii_questions.proofs.ListLemmas.{units_fit}
 use Rattle.hii_questions.proofs.fitting.of_length.Goals as goal
 

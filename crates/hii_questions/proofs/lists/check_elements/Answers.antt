@@ -1,8 +1,8 @@
 use Rattle.std.proofs.Common.{◌≡◌, ◌==◌, ◌&&◌, ℕ, ◌∷◌, [], ◌++◌, false, List, length, take, sym, ap, ◌∙◌, arith, refl, append_assoc}
 use Rattle.std.specs.List.{list_any}
-use Rattle.hii_questions.specs.ChoiceViews.{choice_values}
+use Rattle.hii_questions.specs.code.ChoiceViews.{choice_values}
 use Rattle.hii_questions.specs.Inputs.{element_denial}
-use Rattle.hii_questions.specs.ItemsLeft.{items_left}
+use Rattle.hii_questions.specs.code.ItemsLeft.{items_left}
 use Rattle.hii_questions.proofs.ListLemmas.{before_more, element_more}
 use Rattle.hii_questions.proofs.lists.check_elements.Goals as goal
 use Rattle.hii_questions.proofs.lists.check_elements.Goals.{else-list-via-then-list+else-stands_before, else-list-via-else-list}

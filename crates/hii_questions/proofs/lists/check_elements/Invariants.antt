@@ -1,7 +1,7 @@
 use Rattle.std.proofs.Common.{◌≡◌, ◌+◌, [], ◌++◌, length, take}
-use Rattle.hii_questions.specs.ChoiceViews.{choice_values}
+use Rattle.hii_questions.specs.code.ChoiceViews.{choice_values}
 use Rattle.hii_questions.specs.Inputs.{element_denial}
-use Rattle.hii_questions.specs.ItemsLeft.{items_left}
+use Rattle.hii_questions.specs.code.ItemsLeft.{items_left}
 use Rattle.hii_questions.proofs.lists.check_elements.Given as goal
 
 -- the elements so far are fine, and with those that are left are all

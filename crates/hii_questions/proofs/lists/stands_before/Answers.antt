@@ -1,5 +1,5 @@
 use Rattle.std.proofs.Common.{◌∙◌}
-use Rattle.hii_questions.specs.ItemsLeft.{items_left}
+use Rattle.hii_questions.specs.code.ItemsLeft.{items_left}
 use Rattle.hii_questions.proofs.ListLemmas.{among_more}
 use Rattle.hii_questions.proofs.lists.stands_before.Goals as goal
 

@@ -1,10 +1,10 @@
 use Rattle.std.proofs.Common.{◌++◌, List, ap, ◌∙◌, map}
 use Rattle.std.specs.Prelude.{filter}
 use Rattle.ifr_opcodes.specs.Forest.{Placed}
-use Rattle.ifr_scopes.specs.Lists.{statement_node, statements_left}
+use Rattle.ifr_scopes.specs.code.Lists.{statement_node, statements_left}
 use Rattle.ifr_scopes.specs.Nodes.{nodes_of, is_question}
 use Rattle.hii_questions.specs.Fields.{asked_at}
-use Rattle.hii_questions.specs.Views.{question_view}
+use Rattle.hii_questions.specs.code.Views.{question_view}
 use Rattle.hii_questions.specs.declared.question.Question.{Question}
 use Rattle.hii_questions.proofs.QuestionLemmas.{among_statements, push_question}
 use Rattle.hii_questions.proofs.tables.questions_by_place.Goals as goal

@@ -1,9 +1,9 @@
 use Rattle.std.proofs.Common.{◌≡◌, ◌++◌, map}
 use Rattle.std.specs.Prelude.{filter}
-use Rattle.ifr_scopes.specs.Lists.{statements_left}
+use Rattle.ifr_scopes.specs.code.Lists.{statements_left}
 use Rattle.ifr_scopes.specs.Nodes.{nodes_of, is_question}
 use Rattle.hii_questions.specs.Fields.{asked_at}
-use Rattle.hii_questions.specs.Views.{question_view}
+use Rattle.hii_questions.specs.code.Views.{question_view}
 use Rattle.hii_questions.proofs.tables.questions_by_place.Given as goal
 
 -- the questions so far, and those that are left, are all

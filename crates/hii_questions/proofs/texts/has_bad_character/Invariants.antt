@@ -1,7 +1,7 @@
 use Rattle.std.proofs.Common.{◌≡◌}
 use Rattle.std.specs.List.{list_any}
 use Rattle.hii_questions.specs.Inputs.{is_bad_character}
-use Rattle.hii_questions.specs.ItemsLeft.{items_left}
+use Rattle.hii_questions.specs.code.ItemsLeft.{items_left}
 use Rattle.hii_questions.proofs.texts.has_bad_character.Given as goal
 
 abbrev pub invariant-loop-item : goal.invariant-loop-item

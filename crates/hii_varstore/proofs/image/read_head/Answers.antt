@@ -2,7 +2,7 @@ use Rattle.std.proofs.Common.{◌∷◌, [], take, codes, inr}
 use Rattle.std.proofs.lemmas.Result.{err_from_is_err_and, IfOk-weaker, IfErr-weaker}
 use Rattle.hii_bytes.specs.declared.cause.Cause.TheVariants.{StoreFormSet}
 use Rattle.hii_varstore.specs.Faults.{Told, IsOlder, head_parts}
-use Rattle.hii_varstore.specs.Reading.{Reads, ReadsHead, IsFaultOf}
+use Rattle.hii_varstore.specs.code.Reading.{Reads, ReadsHead, IsFaultOf}
 use Rattle.hii_varstore.proofs.ImageLemmas.{reads_both, fault_behind, not_older}
 use Rattle.hii_varstore.proofs.image.read_head.Goals as goal
 

@@ -5,7 +5,7 @@ use Rattle.hii_bytes.specs.declared.cause.Cause.TheVariants.{StoreCount}
 use Rattle.hii_varstore.specs.Stores.{buffer_of}
 use Rattle.hii_varstore.specs.Image.{store_image}
 use Rattle.hii_varstore.specs.Faults.{Told, store_parts}
-use Rattle.hii_varstore.specs.Reading.{Reads}
+use Rattle.hii_varstore.specs.code.Reading.{Reads}
 use Rattle.hii_varstore.proofs.image.read_stores.Given as goal
 
 -- the count and the stores so far are read

@@ -4,7 +4,7 @@ use Rattle.std.proofs.lemmas.Result.{err_from_is_err_and, IfErr-weaker, IfOk-wea
 use Rattle.hii_bytes.specs.declared.cause.Cause.TheVariants.{StoreSize}
 use Rattle.hii_varstore.specs.Faults.{Told, Any, store_parts}
 use Rattle.hii_varstore.specs.Image.{store_image}
-use Rattle.hii_varstore.specs.Reading.{Reads, IsFaultOf}
+use Rattle.hii_varstore.specs.code.Reading.{Reads, IsFaultOf}
 use Rattle.hii_varstore.proofs.ImageLemmas.{reads_both, fault_behind, store_reads}
 use Rattle.hii_varstore.proofs.image.store_at.Goals as goal
 

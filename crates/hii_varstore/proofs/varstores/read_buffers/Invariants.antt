@@ -1,4 +1,4 @@
-use Rattle.ifr_scopes.specs.Lists.{stores_left}
+use Rattle.ifr_scopes.specs.code.Lists.{stores_left}
 use Rattle.hii_varstore.proofs.StoreNodeLemmas.{HasMet}
 use Rattle.hii_varstore.proofs.varstores.read_buffers.Given as goal
 

@@ -1,11 +1,11 @@
 use Rattle.std.proofs.Common.{◌≡◌, ◌<◌, lit<, ◌∷◌, length, sym, ◌∙◌, arith}
-use Rattle.ifr_opcodes.specs.Codes.{unary_code, binary_code}
+use Rattle.ifr_opcodes.specs.code.Codes.{unary_code, binary_code}
 use Rattle.ifr_opcodes.specs.Fields.{rule_ref_rule}
 use Rattle.ifr_opcodes.specs.Forest.{Mark}
-use Rattle.ifr_opcodes.specs.Ops.{op_of}
-use Rattle.ifr_opcodes.specs.Views.{leaf_operator}
+use Rattle.ifr_opcodes.specs.code.Ops.{op_of}
+use Rattle.ifr_opcodes.specs.code.Views.{leaf_operator}
 use Rattle.ifr_opcodes.proofs.OperandLemmas.{leaf_takes, rule_ref_takes, unary_op_takes, binary_op_takes}
-use Rattle.ifr_expr.specs.Expressions.{tree_of, operators_left}
+use Rattle.ifr_expr.specs.code.Expressions.{tree_of, operators_left}
 use Rattle.ifr_expr.specs.Meaning.{rule_values}
 use Rattle.ifr_expr.proofs.EvaluationLemmas.{pushed_one, unary_applied, binary_applied, last_value}
 use Rattle.ifr_expr.proofs.RuleLemmas.{rule_given, rule_missing, reference_value}

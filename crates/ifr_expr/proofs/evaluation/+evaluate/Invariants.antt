@@ -1,7 +1,7 @@
 use Rattle.std.proofs.Common.{◌≤◌, length}
-use Rattle.ifr_expr.specs.Expressions.{tree_of, end_of, operators_left}
+use Rattle.ifr_expr.specs.code.Expressions.{tree_of, end_of, operators_left}
 use Rattle.ifr_expr.specs.Meaning.{leaf_value, rule_values, value}
-use Rattle.ifr_expr.specs.Stacks.{last_first}
+use Rattle.ifr_expr.specs.code.Stacks.{last_first}
 use Rattle.ifr_expr.proofs.ValueLemmas.{Leads}
 use Rattle.ifr_expr.proofs.evaluation.+evaluate.Given as goal
 

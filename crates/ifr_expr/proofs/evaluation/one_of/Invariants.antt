@@ -1,6 +1,6 @@
 use Rattle.std.proofs.Common.{◌≡◌, ◌==◌, length}
 use Rattle.std.specs.List.{list_any}
-use Rattle.ifr_opcodes.specs.Views.{values_left}
+use Rattle.ifr_opcodes.specs.code.Views.{values_left}
 use Rattle.ifr_expr.proofs.evaluation.one_of.Given as goal
 
 abbrev pub invariant-loop-number : goal.invariant-loop-number

@@ -1,6 +1,6 @@
 use Rattle.std.proofs.Common.{◌≡◌, ℕ, List, ◌++◌, drop, sym, rules, ◌∙◌, take-append-drop}
 use Rattle.ifr_opcodes.specs.Opcode.{stated_length, IsWhole}
-use Rattle.ifr_opcodes.specs.Reading.{mark_at}
+use Rattle.ifr_opcodes.specs.code.Marks.{mark_at}
 use Rattle.ifr_opcodes.proofs.split.op_at.Goals as goal
 
 none_there : (bytes rest : List ℕ) (at : ℕ) → rest ≡ drop at bytes → ((op more : List ℕ) → IsWhole op → rest ≡ op ++ more → ⊥) → IsWhole (mark_at bytes at).op → ⊥

@@ -1,7 +1,7 @@
 use Rattle.std.proofs.Common.{Some, rules}
 use Rattle.std.specs.BTreeMap.{get}
 use Rattle.std.specs.Ordering.{nat_cmp}
-use Rattle.ifr_scopes.specs.Index.{is_conditional, conditional_at, this_at}
+use Rattle.ifr_scopes.specs.code.Index.{is_conditional, conditional_at, this_at}
 use Rattle.ifr_scopes.specs.Nodes.{nodes_of, this_of}
 use Rattle.ifr_scopes.proofs.ConditionAtLemmas.{kept_this}
 use Rattle.ifr_scopes.proofs.IndexLemmas.{at_start}

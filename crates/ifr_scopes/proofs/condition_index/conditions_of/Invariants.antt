@@ -1,9 +1,9 @@
 use Rattle.std.proofs.Common.{◌≡◌, Some, length}
 use Rattle.std.specs.BTreeMap.{get}
 use Rattle.std.specs.Ordering.{nat_cmp}
-use Rattle.ifr_scopes.specs.Index.{is_conditional, this_at}
+use Rattle.ifr_scopes.specs.code.Index.{is_conditional, this_at}
 use Rattle.ifr_scopes.specs.Nodes.{nodes_of, this_of}
-use Rattle.ifr_scopes.specs.Visits.{left}
+use Rattle.ifr_scopes.specs.code.Visits.{left}
 use Rattle.ifr_scopes.proofs.IndexLemmas.{Indexes}
 use Rattle.ifr_scopes.proofs.condition_index.conditions_of.Given as goal
 

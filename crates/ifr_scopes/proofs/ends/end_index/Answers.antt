@@ -1,8 +1,8 @@
 use Rattle.std.proofs.Common.{◌≡◌, ◌+◌, ℕ, Bool, true, false, cond, length, refl, sym, ap, subst, ◌∙◌, arith}
 use Rattle.std.proofs.lemmas.List.{take_rest}
-use Rattle.ifr_opcodes.specs.Ops.{bytes_of}
+use Rattle.ifr_opcodes.specs.code.Ops.{bytes_of}
 use Rattle.ifr_opcodes.proofs.OpcodeLemmas.{has_scope_spelled}
-use Rattle.ifr_scopes.specs.Checked.{node_in}
+use Rattle.ifr_scopes.specs.code.Checked.{node_in}
 use Rattle.ifr_scopes.specs.Nodes.{end_of}
 use Rattle.ifr_scopes.proofs.EndLemmas.{Ends, ends_first, ends_past_end, ends_past_scoped, ends_past_plain, ends_at, ends_missing}
 use Rattle.ifr_scopes.proofs.ViewLemmas.{stands_whole}

@@ -1,5 +1,5 @@
 use Rattle.std.proofs.Common.{◌-◌, length}
-use Rattle.ifr_scopes.specs.Checked.{node_in}
+use Rattle.ifr_scopes.specs.code.Checked.{node_in}
 use Rattle.ifr_scopes.specs.Nodes.{end_of}
 use Rattle.ifr_scopes.proofs.EndLemmas.{Ends}
 use Rattle.ifr_scopes.proofs.ends.end_index.Given as goal

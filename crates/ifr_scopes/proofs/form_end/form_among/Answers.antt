@@ -1,6 +1,6 @@
 use Rattle.std.proofs.Common.{ℕ, List, map, ap, sym, ◌∙◌, arith}
 use Rattle.std.proofs.lemmas.List.{drop_all}
-use Rattle.ifr_opcodes.specs.Reading.{ancestor_at}
+use Rattle.ifr_opcodes.specs.code.Marks.{ancestor_at}
 use Rattle.ifr_scopes.proofs.FormLemmas.{innermost, innermost_form}
 use Rattle.ifr_scopes.proofs.form_end.form_among.Goals as goal
 

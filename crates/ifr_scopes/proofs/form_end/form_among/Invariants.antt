@@ -1,5 +1,5 @@
 use Rattle.std.proofs.Common.{◌≡◌, None, map, drop}
-use Rattle.ifr_opcodes.specs.Reading.{ancestor_at}
+use Rattle.ifr_opcodes.specs.code.Marks.{ancestor_at}
 use Rattle.ifr_scopes.proofs.FormLemmas.{innermost}
 use Rattle.ifr_scopes.proofs.form_end.form_among.Given as goal
 

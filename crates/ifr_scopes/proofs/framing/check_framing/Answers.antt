@@ -1,7 +1,7 @@
 use Rattle.std.proofs.Common.{rules, ℕ, List, ◌++◌, ◌+◌, ◌≤◌, sym, ap, ◌∙◌, subst, length, ◌≡◌, arith}
 use Rattle.std.proofs.lemmas.List.{nil_from_length, length-append}
 use Rattle.std.proofs.lemmas.Bool.{eqb-true, eqb-false}
-use Rattle.ifr_opcodes.specs.Ops.{bytes_of}
+use Rattle.ifr_opcodes.specs.code.Ops.{bytes_of}
 use Rattle.ifr_opcodes.proofs.OpcodeLemmas.{has_scope_spelled}
 use Rattle.ifr_scopes.proofs.RunLemmas.{Stands, at_start, no_opcode, extra_end, too_deep, still_open, past_end, past_scope, past_plain, is_spelled}
 use Rattle.ifr_scopes.proofs.framing.check_framing.Goals as goal
@@ -15,7 +15,7 @@ loop-rest-init c = record { stands = at_start c.args.bytes.now; fits = omega ari
 pub returns-in_default-clause-refused : goal.returns-in_default-clause-refused
 returns-in_default-clause-refused c =
     let i = c.loop-rest.invariant in
-    no_opcode _ _ _ c.from.result i.stands i.within c.from.ensures (λ e. eqb-false _ _ (sym c.is_empty.ensures ∙ c.loop-rest-test.true) (ap length e)) c.in_default.ensures
+    rw c.at.ensures (no_opcode _ _ _ c.from.result i.stands i.within c.from.ensures (λ e. eqb-false _ _ (sym c.is_empty.ensures ∙ c.loop-rest-test.true) (ap length e)) c.in_default.ensures)
 
 pub returns-then-depth-eq0-clause-refused : goal.returns-then-depth-eq0-clause-refused
 returns-then-depth-eq0-clause-refused c =
@@ -53,7 +53,7 @@ loop-rest-preserved c =
 pub returns-then-depth-ne0-clause-refused : goal.returns-then-depth-ne0-clause-refused
 returns-then-depth-ne0-clause-refused c =
     let i = c.loop-rest.invariant in
-    still_open _ _ _ i.stands i.within (nil_from_length _ (eqb-true _ _ (sym c.is_empty.ensures ∙ c.loop-rest-test.false))) c.if-depth-ne0.true
+    rw c.at-then-depth-ne0.ensures (still_open _ _ _ i.stands i.within (nil_from_length _ (eqb-true _ _ (sym c.is_empty.ensures ∙ c.loop-rest-test.false))) c.if-depth-ne0.true)
 
 pub returns-clause-spelled : goal.returns-clause-spelled
 returns-clause-spelled c =

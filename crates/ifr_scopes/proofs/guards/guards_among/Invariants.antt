@@ -1,7 +1,7 @@
 use Rattle.std.proofs.Common.{◌≡◌, ◌≤◌, ◌++◌, [], length, map, take, drop}
-use Rattle.ifr_opcodes.specs.Reading.{ancestor_at}
+use Rattle.ifr_opcodes.specs.code.Marks.{ancestor_at}
 use Rattle.ifr_scopes.specs.Guards.{guards_among, nodes_on}
-use Rattle.ifr_scopes.specs.Kept.{kept_guard}
+use Rattle.ifr_scopes.specs.code.Kept.{kept_guard}
 use Rattle.ifr_scopes.specs.Nodes.{this_among}
 use Rattle.ifr_scopes.proofs.guards.guards_among.Given as goal
 

@@ -1,5 +1,5 @@
 use Rattle.std.proofs.Common.{◌≡◌, map, take}
-use Rattle.ifr_opcodes.specs.Reading.{ancestor_at}
+use Rattle.ifr_opcodes.specs.code.Marks.{ancestor_at}
 use Rattle.ifr_scopes.specs.Nodes.{this_among}
 use Rattle.ifr_scopes.proofs.guards.this_among.Given as goal
 

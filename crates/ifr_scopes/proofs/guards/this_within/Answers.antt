@@ -1,7 +1,7 @@
 use Rattle.std.proofs.Common.{sym, ap, ◌∙◌}
 use Rattle.ifr_opcodes.specs.Fields.{question_id}
 use Rattle.ifr_opcodes.specs.Forest.{as_ancestor}
-use Rattle.ifr_scopes.specs.Views.{node_of}
+use Rattle.ifr_scopes.specs.code.Views.{node_of}
 use Rattle.ifr_scopes.proofs.ScopeLemmas.{this-question, this-other}
 use Rattle.ifr_scopes.proofs.guards.this_within.Goals as goal
 

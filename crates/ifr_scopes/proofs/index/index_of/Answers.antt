@@ -2,8 +2,8 @@ use Rattle.std.proofs.Common.{Some, rules, refl}
 use Rattle.std.specs.Prelude.{option_map}
 use Rattle.std.specs.BTreeMap.{get}
 use Rattle.std.specs.Ordering.{nat_cmp}
-use Rattle.ifr_scopes.specs.Index.{is_indexed}
-use Rattle.ifr_scopes.specs.Kept.{kept_guards, kept_at}
+use Rattle.ifr_scopes.specs.code.Index.{is_indexed}
+use Rattle.ifr_scopes.specs.code.Kept.{kept_guards, kept_at}
 use Rattle.ifr_scopes.specs.Nodes.{nodes_of}
 use Rattle.ifr_scopes.proofs.IndexLemmas.{at_start}
 use Rattle.ifr_scopes.proofs.index.index_of.Goals as goal

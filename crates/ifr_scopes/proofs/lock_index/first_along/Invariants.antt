@@ -1,7 +1,7 @@
 use Rattle.std.proofs.Common.{◌≡◌, drop}
 use Rattle.std.specs.BTreeMap.{get}
 use Rattle.std.specs.Ordering.{nat_cmp}
-use Rattle.ifr_scopes.specs.Locks.{first_some}
+use Rattle.ifr_scopes.specs.code.LockIndex.{first_some}
 use Rattle.ifr_scopes.proofs.lock_index.first_along.Given as goal
 
 -- nothing was found at the places before

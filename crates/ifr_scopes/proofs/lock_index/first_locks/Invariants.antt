@@ -1,9 +1,9 @@
 use Rattle.std.proofs.Common.{◌≡◌, length}
 use Rattle.std.specs.BTreeMap.{get}
 use Rattle.std.specs.Ordering.{nat_cmp}
-use Rattle.ifr_scopes.specs.Locks.{first_place}
+use Rattle.ifr_scopes.specs.code.LockIndex.{first_place}
 use Rattle.ifr_scopes.specs.Nodes.{nodes_of}
-use Rattle.ifr_scopes.specs.Visits.{left}
+use Rattle.ifr_scopes.specs.code.Visits.{left}
 use Rattle.ifr_scopes.proofs.LockLemmas.{Finds}
 use Rattle.ifr_scopes.proofs.lock_index.first_locks.Given as goal
 

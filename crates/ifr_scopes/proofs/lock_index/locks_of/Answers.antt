@@ -1,11 +1,11 @@
 use Rattle.std.proofs.Common.{◌≡◌, ℕ, true, eqb, cond, Some, None, rules, refl, sym, ap, ◌∙◌, subst}
 use Rattle.std.specs.BTreeMap.{get}
 use Rattle.std.specs.Ordering.{nat_cmp}
-use Rattle.ifr_scopes.specs.Index.{is_indexed, lock_place_at}
-use Rattle.ifr_scopes.specs.Locks.{lock_place, first_some}
+use Rattle.ifr_scopes.specs.code.Index.{is_indexed, lock_place_at}
+use Rattle.ifr_scopes.specs.code.LockIndex.{lock_place, first_some}
 use Rattle.ifr_scopes.specs.Nodes.{nodes_of}
-use Rattle.ifr_scopes.specs.Views.{node_of}
-use Rattle.ifr_scopes.specs.Visits.{left}
+use Rattle.ifr_scopes.specs.code.Views.{node_of}
+use Rattle.ifr_scopes.specs.code.Visits.{left}
 use Rattle.ifr_scopes.proofs.IndexLemmas.{Indexes, at_start, past_kept, past_nothing}
 use Rattle.ifr_scopes.proofs.LockLemmas.{decides, put}
 use Rattle.ifr_scopes.proofs.lock_index.locks_of.Goals as goal

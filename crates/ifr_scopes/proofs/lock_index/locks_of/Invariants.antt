@@ -1,10 +1,10 @@
 use Rattle.std.proofs.Common.{◌≡◌, length}
 use Rattle.std.specs.BTreeMap.{get}
 use Rattle.std.specs.Ordering.{nat_cmp}
-use Rattle.ifr_scopes.specs.Index.{is_indexed, lock_place_at}
-use Rattle.ifr_scopes.specs.Locks.{lock_place}
+use Rattle.ifr_scopes.specs.code.Index.{is_indexed, lock_place_at}
+use Rattle.ifr_scopes.specs.code.LockIndex.{lock_place}
 use Rattle.ifr_scopes.specs.Nodes.{nodes_of}
-use Rattle.ifr_scopes.specs.Visits.{left}
+use Rattle.ifr_scopes.specs.code.Visits.{left}
 use Rattle.ifr_scopes.proofs.IndexLemmas.{Indexes}
 use Rattle.ifr_scopes.proofs.lock_index.locks_of.Given as goal
 

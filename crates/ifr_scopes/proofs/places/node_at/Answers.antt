@@ -1,6 +1,6 @@
 use Rattle.std.proofs.Common.{ap}
 use Rattle.ifr_opcodes.specs.Forest.{Mark}
-use Rattle.ifr_scopes.specs.Checked.{node_in}
+use Rattle.ifr_scopes.specs.code.Checked.{node_in}
 use Rattle.ifr_scopes.proofs.ViewLemmas.{stands_whole, stands_so}
 use Rattle.ifr_scopes.proofs.places.node_at.Goals as goal
 

@@ -1,27 +1,28 @@
 use Rattle.std.proofs.Common.{◌≡◌, ℕ, List, [], ◌∷◌, ◌++◌, append_assoc, Option, Some, Ok, sym, ap, ◌∙◌, subst, inr}
 use Rattle.hii_bytes.specs.declared.cause.Cause.{Cause}
 use Rattle.hii_bytes.specs.declared.cause.Fault.{Fault}
-use Rattle.hii_bytes.specs.Faults.{fault_or, first_cause}
+use Rattle.hii_bytes.specs.code.FirstFaults.{fault_or, first_cause}
 use Rattle.ifr_opcodes.specs.Forest.{Placed}
 use Rattle.ifr_opcodes.specs.Reading.{tree_of}
-use Rattle.ifr_scopes.specs.Met.{AreOf}
+use Rattle.ifr_scopes.specs.code.Met.{AreOf}
 use Rattle.ifr_scopes.specs.Nodes.{nodes_of}
-use Rattle.ifr_scopes.specs.References.{has_fault, causes}
-use Rattle.ifr_scopes.specs.Views.{node_of}
-use Rattle.ifr_scopes.specs.Visits.{left}
+use Rattle.ifr_scopes.specs.References.{has_reference_fault}
+use Rattle.ifr_scopes.specs.code.Causes.{reference_causes}
+use Rattle.ifr_scopes.specs.code.Views.{node_of}
+use Rattle.ifr_scopes.specs.code.Visits.{left}
 use Rattle.ifr_scopes.proofs.ReferenceLemmas.{first_repeat, no_form_is_least, refused_among, sound_among}
 use Rattle.ifr_scopes.proofs.references.check_references.Goals as goal
 use Rattle.ifr_scopes.proofs.references.check_references.Goals.{After-meet}
 
 pub returns-then-not-has_form-clause-refused : goal.returns-then-not-has_form-clause-refused
-returns-then-not-has_form-clause-refused c = inr (no_form_is_least (tree_of c.args.ifr.now) c.requires.spelled.are_nodes (sym c.has_form.ensures ∙ c.if-not-has_form.true))
+returns-then-not-has_form-clause-refused c = rw c.at.ensures (inr (no_form_is_least (tree_of c.args.ifr.now) c.requires.spelled.are_nodes (sym c.has_form.ensures ∙ c.if-not-has_form.true)))
 
 pub loop-next-init : goal.loop-next-init
 loop-next-init c = record {
   has_met = record {
     before = [];
     split = c.over-nodes.ensures.all;
-    known = c.new-met.ensures c.args.ifr.now c.in-Ok.ensures;
+    known = c.new-met.ensures c.args.ifr.now c.in_ok-all.ensures;
     same = ap (first_repeat (nodes_of c.args.ifr.now) []) c.over-nodes.ensures.all;
   };
   kept = c.over-nodes.ensures.kept;
@@ -46,32 +47,32 @@ loop-next-preserved c =
     let node = node_of c.in-Some.next.node in
     let rest = left c.step.new.self.walk in
     let its = split a ∙ ap nodes_of (sym (of_package a)) in
-    let told = c.in-Ok-None.ensures.told so_far.before rest its (known a) ∙ ap (λ (b : List ℕ). first_cause (has_fault (nodes_of b)) (record { before = so_far.before; node = node }) causes) (of_package a) in
-    let after = c.meet.ensures.met (c.in-Ok-None.is ∙ ap Ok c.in-Ok-None.field-0-is) so_far.before rest its (known a) in
+    let told = c.in_ok-cause.ensures.told so_far.before rest its (known a) ∙ ap (λ (b : List ℕ). first_cause (has_reference_fault (nodes_of b)) (record { before = so_far.before; node = node }) reference_causes) (of_package a) in
+    let after = c.meet.ensures.met (c.in_ok-cause.was ∙ ap Ok c.in_default-2.is) so_far.before rest its (known a) in
     record {
       has_met = record {
         before = so_far.before ++ node ∷ [];
         split = append_assoc so_far.before (node ∷ []) rest ∙ split a;
         known = subst (λ (b : List ℕ). AreOf b (so_far.before ++ node ∷ []) c.meet.new.self) (of_package a) after;
-        same = ap (λ (o : Option Cause). fault_or o node.place (first_repeat (nodes_of c.args.ifr.now) (so_far.before ++ node ∷ []) rest)) (sym c.in-Ok-None.field-0-is ∙ told) ∙ ap (first_repeat (nodes_of c.args.ifr.now) so_far.before) (sym c.in-Some.ensures.some.0) ∙ so_far.same;
+        same = ap (λ (o : Option Cause). fault_or o node.place (first_repeat (nodes_of c.args.ifr.now) (so_far.before ++ node ∷ []) rest)) (sym c.in_default-2.is ∙ told) ∙ ap (first_repeat (nodes_of c.args.ifr.now) so_far.before) (sym c.in-Some.ensures.some.0) ∙ so_far.same;
       };
       kept = c.step.ensures.kept ∙ c.loop-next.invariant.kept;
     }
 
-pub returns-in-Ok-Some-clause-refused : goal.returns-in-Ok-Some-clause-refused
-returns-in-Ok-Some-clause-refused c =
-    let a = (goal.at.returns-in-Ok-Some-clause-refused c).After-meet in
+pub returns-in-Some-2-clause-refused : goal.returns-in-Some-2-clause-refused
+returns-in-Some-2-clause-refused c =
+    let a = (goal.at.returns-in-Some-2-clause-refused c).After-meet in
     let so_far = c.loop-next.invariant.has_met in
     let node = node_of c.in-Some.next.node in
     let rest = left c.step.new.self.walk in
-    let fault : ℕ → Fault = λ place. record { cause = c.in-Ok-Some.cause; place = place } in
-    let told = c.in-Ok-Some.ensures.told so_far.before rest (split a ∙ ap nodes_of (sym (of_package a))) (known a) ∙ ap (λ (b : List ℕ). first_cause (has_fault (nodes_of b)) (record { before = so_far.before; node = node }) causes) (of_package a) in
+    let fault : ℕ → Fault = λ place. record { cause = c.in-Some-2.cause; place = place } in
+    let told = c.in_ok-cause.ensures.told so_far.before rest (split a ∙ ap nodes_of (sym (of_package a))) (known a) ∙ ap (λ (b : List ℕ). first_cause (has_reference_fault (nodes_of b)) (record { before = so_far.before; node = node }) reference_causes) (of_package a) in
     inr (refused_among (tree_of c.args.ifr.now) _ c.requires.spelled.are_nodes (sym c.has_form.ensures ∙ c.if-not-has_form.false)
     (sym so_far.same ∙ ap (first_repeat (nodes_of c.args.ifr.now) so_far.before) c.in-Some.ensures.some.0
-    ∙ ap (λ (o : Option Cause). fault_or o node.place (first_repeat (nodes_of c.args.ifr.now) (so_far.before ++ node ∷ []) rest)) (sym told ∙ c.in-Ok-Some.field-0-is)
+    ∙ ap (λ (o : Option Cause). fault_or o node.place (first_repeat (nodes_of c.args.ifr.now) (so_far.before ++ node ∷ []) rest)) (sym told ∙ c.in-Some-2.is)
     ∙ ap (λ (p : ℕ). Some (fault p)) (sym c.op.ensures.place) ∙ ap (λ (f : Fault). Some f) (sym c.fault.ensures)))
 
 pub returns-clause-sound : goal.returns-clause-sound
 returns-clause-sound c =
     let so_far = c.loop-next.invariant.has_met in
-    sound_among (nodes_of c.args.ifr.now) (sym c.has_form.ensures ∙ c.if-not-has_form.false) (sym so_far.same ∙ ap (first_repeat (nodes_of c.args.ifr.now) so_far.before) c.in_default-step.ensures.none.0)
+    sound_among (nodes_of c.args.ifr.now) (sym c.has_form.ensures ∙ c.if-not-has_form.false) (sym so_far.same ∙ ap (first_repeat (nodes_of c.args.ifr.now) so_far.before) c.in_default.ensures.none.0)

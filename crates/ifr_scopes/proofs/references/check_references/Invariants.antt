@@ -1,6 +1,6 @@
 use Rattle.std.proofs.Common.{◌≡◌, length}
 use Rattle.ifr_scopes.specs.Nodes.{nodes_of}
-use Rattle.ifr_scopes.specs.Visits.{left}
+use Rattle.ifr_scopes.specs.code.Visits.{left}
 use Rattle.ifr_scopes.proofs.ReferenceLemmas.{HasMet}
 use Rattle.ifr_scopes.proofs.references.check_references.Given as goal
 

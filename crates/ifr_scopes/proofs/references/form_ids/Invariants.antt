@@ -5,7 +5,7 @@ use Rattle.std.specs.BTreeSet.{contains}
 use Rattle.std.specs.Ordering.{nat_cmp}
 use Rattle.ifr_scopes.specs.Nodes.{nodes_of}
 use Rattle.ifr_scopes.specs.References.{has_form_id}
-use Rattle.ifr_scopes.specs.Views.{nodes_left}
+use Rattle.ifr_scopes.specs.code.Views.{nodes_left}
 use Rattle.ifr_scopes.proofs.references.form_ids.Given as goal
 
 -- the ids that were met and those that are left are all

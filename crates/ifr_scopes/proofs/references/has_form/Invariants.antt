@@ -1,7 +1,7 @@
 use Rattle.std.proofs.Common.{◌≡◌, length}
 use Rattle.std.specs.List.{list_any}
 use Rattle.ifr_scopes.specs.Nodes.{nodes_of, is_form}
-use Rattle.ifr_scopes.specs.Views.{nodes_left}
+use Rattle.ifr_scopes.specs.code.Views.{nodes_left}
 use Rattle.ifr_scopes.proofs.references.has_form.Given as goal
 
 abbrev pub invariant-loop-node : goal.invariant-loop-node

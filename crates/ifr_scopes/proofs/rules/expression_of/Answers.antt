@@ -1,9 +1,9 @@
 use Rattle.std.proofs.Common.{◌≡◌, ℕ, ◌+◌, ◌-◌, List, length, sym, ap, subst, arith}
-use Rattle.ifr_expr.specs.Expressions.{tree_of}
+use Rattle.ifr_expr.specs.code.Expressions.{tree_of}
 use Rattle.ifr_expr.proofs.NodeLemmas.{is_expression_node}
 use Rattle.ifr_scopes.specs.Nodes.{end_of}
 use Rattle.ifr_scopes.specs.Rules.{expression_place}
-use Rattle.ifr_scopes.specs.Views.{node_of}
+use Rattle.ifr_scopes.specs.code.Views.{node_of}
 use Rattle.ifr_scopes.proofs.RuleExpressionLemmas.{Holds, holds, none_there, is_its_tree}
 use Rattle.ifr_scopes.proofs.NodeFactLemmas.{is_node}
 use Rattle.ifr_scopes.proofs.rules.expression_of.Goals as goal

@@ -5,15 +5,16 @@ use Rattle.hii_bytes.specs.Faults.{IsLeast}
 use Rattle.hii_bytes.specs.declared.cause.Fault.{Fault}
 use Rattle.ifr_opcodes.specs.Reading.{tree_of}
 use Rattle.ifr_scopes.specs.Nodes.{nodes_of}
-use Rattle.ifr_scopes.specs.Structure.{first_number, least_cause, is_expression, IsStructureFault}
-use Rattle.ifr_scopes.specs.Visits.{left}
+use Rattle.ifr_scopes.specs.Structure.{first_number, is_expression, IsStructureFault}
+use Rattle.ifr_scopes.specs.code.Causes.{least_cause}
+use Rattle.ifr_scopes.specs.code.Visits.{left}
 use Rattle.ifr_scopes.proofs.ExpressionLemmas.{StandsFrom}
 use Rattle.ifr_scopes.proofs.StructureLemmas.{IsMet, at_start, goes_on, refused_node, sound_all, empty_is_least, is_met, met_place, met_there, met_from, was_read, was_refused}
 use Rattle.ifr_scopes.proofs.structure.check_structure.Goals as goal
 use Rattle.ifr_scopes.proofs.structure.check_structure.Goals.{After-cause_of, After-is_expression, After-end_of}
 
 pub returns-then-bytes-eq-HEADER-clause-refused : goal.returns-then-bytes-eq-HEADER-clause-refused
-returns-then-bytes-eq-HEADER-clause-refused c = empty_is_least c.args.bytes.now (tree_of c.args.bytes.now) c.requires.spelled c.if-bytes-eq-HEADER.true
+returns-then-bytes-eq-HEADER-clause-refused c = rw c.at.ensures (empty_is_least c.args.bytes.now (tree_of c.args.bytes.now) c.requires.spelled c.if-bytes-eq-HEADER.true)
 
 -- the node that was met
 met : (c : After-cause_of) → IsMet c.args.bytes.now c.around-around.result.now c.in-Some.visit c.step.new.self

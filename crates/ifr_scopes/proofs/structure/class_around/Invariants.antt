@@ -1,5 +1,5 @@
 use Rattle.std.proofs.Common.{◌≡◌, map, take}
-use Rattle.ifr_opcodes.specs.Reading.{ancestor_at}
+use Rattle.ifr_opcodes.specs.code.Marks.{ancestor_at}
 use Rattle.ifr_scopes.specs.Table.{class_around}
 use Rattle.ifr_scopes.proofs.structure.class_around.Given as goal
 

@@ -4,7 +4,7 @@ use Rattle.std.specs.Option.{option_eq}
 use Rattle.std.proofs.lemmas.Bool.{cases_Bool, eq-eqb, le-leb, leb-true}
 use Rattle.ifr_opcodes.specs.declared.codes.TheConstants.{DEFAULT}
 use Rattle.ifr_opcodes.specs.Fields.{default_kind}
-use Rattle.ifr_opcodes.specs.Ops.{bytes_of}
+use Rattle.ifr_opcodes.specs.code.Ops.{bytes_of}
 use Rattle.ifr_opcodes.proofs.FieldLemmas.{number_behind}
 use Rattle.ifr_scopes.proofs.table.wants_value.Goals as goal
 

@@ -1,5 +1,5 @@
 use Rattle.std.proofs.Common.{sym, ap, ◌∙◌}
-use Rattle.sibt_strings.specs.Views.{block_seen, count_of}
+use Rattle.sibt_strings.specs.code.Views.{block_seen, count_of}
 use Rattle.sibt_strings.proofs.TextLemmas.{length-whole_texts}
 use Rattle.sibt_strings.proofs.entry.count_in.Goals as goal
 

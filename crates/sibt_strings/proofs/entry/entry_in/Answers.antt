@@ -1,6 +1,6 @@
 use Rattle.std.proofs.Common.{sym, ap, subst, arith}
 use Rattle.sibt_strings.specs.Strings.{with_block}
-use Rattle.sibt_strings.specs.Views.{block_seen, count_of, TellsOf}
+use Rattle.sibt_strings.specs.code.Views.{block_seen, count_of, TellsOf}
 use Rattle.sibt_strings.specs.declared.entry.Entry.TheVariants as entry
 use Rattle.sibt_strings.proofs.TextLemmas.{length-whole_texts}
 use Rattle.sibt_strings.proofs.IdLemmas.{told_text, told_duplicate, told_later, told_skip}

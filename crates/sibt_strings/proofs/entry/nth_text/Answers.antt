@@ -1,6 +1,6 @@
 use Rattle.std.proofs.Common.{refl, sym, ap, ◌∙◌, ◌≡◌, Option, None, Some, List, ℕ}
 use Rattle.std.specs.Option.{is_some, option_map}
-use Rattle.sibt_strings.specs.Views.{units_in}
+use Rattle.sibt_strings.specs.code.Views.{units_in}
 use Rattle.sibt_strings.proofs.TextLemmas.{nth_rest, nth_text_read, rest_of_texts, some_of_map, same_some}
 use Rattle.sibt_strings.proofs.entry.nth_text.Goals as goal
 

@@ -1,6 +1,6 @@
 use Rattle.std.proofs.Common.{◌≡◌, ◌-◌, length, take, drop, arith, subst}
 use Rattle.std.proofs.lemmas.Grind.{common_steps}
-use Rattle.sibt_strings.specs.Views.{LiesIn}
+use Rattle.sibt_strings.specs.code.Views.{LiesIn}
 use Rattle.sibt_strings.proofs.EndLemmas.{ends_range, ends_trans, lies_behind}
 use Rattle.sibt_strings.proofs.front.known_front.Goals as goal
 

@@ -1,5 +1,5 @@
 use Rattle.std.proofs.Common.{◌≡◌, ◌-◌}
-use Rattle.sibt_strings.specs.Views.{EndsWith}
+use Rattle.sibt_strings.specs.code.Views.{EndsWith}
 use Rattle.sibt_strings.proofs.TextLemmas.{rest_of_texts}
 use Rattle.sibt_strings.proofs.front.skip_texts.Given as goal
 

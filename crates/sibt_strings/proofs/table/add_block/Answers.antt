@@ -1,7 +1,7 @@
 use Rattle.std.proofs.Common.{sym, subst}
 use Rattle.sibt_strings.specs.Strings.{with_block}
-use Rattle.sibt_strings.specs.Table.{IsTable}
-use Rattle.sibt_strings.specs.Views.{block_seen}
+use Rattle.sibt_strings.specs.code.Table.{IsTable}
+use Rattle.sibt_strings.specs.code.Views.{block_seen}
 use Rattle.sibt_strings.proofs.TableLemmas.{table_skip}
 use Rattle.sibt_strings.proofs.table.add_block.Goals as goal
 

@@ -1,5 +1,5 @@
 use Rattle.std.proofs.Common.{◌≡◌, ◌+◌, None, Some, Option, ℕ, length, sym, subst, arith}
-use Rattle.sibt_strings.specs.Table.{place_of, Rises}
+use Rattle.sibt_strings.specs.code.Table.{place_of, Rises}
 use Rattle.sibt_strings.proofs.TableLemmas.{table_duplicate, table_no_duplicate}
 use Rattle.sibt_strings.proofs.table.add_duplicate.Goals as goal
 

@@ -1,7 +1,7 @@
 use Rattle.std.proofs.Common.{◌≡◌, ◌-◌, Some, length, ap, sym, ◌∙◌, refl, arith}
 use Rattle.std.specs.Option.{option_map, is_some}
-use Rattle.sibt_strings.specs.Blocks.{text_in}
-use Rattle.sibt_strings.specs.Views.{units_in}
+use Rattle.sibt_strings.specs.Blocks.{cut_text}
+use Rattle.sibt_strings.specs.code.Views.{units_in}
 use Rattle.sibt_strings.proofs.TextLemmas.{some_of_map}
 use Rattle.sibt_strings.proofs.TableLemmas.{added_start, added_split, added_more, added_all, added_full}
 use Rattle.sibt_strings.proofs.table.add_texts.Goals as goal
@@ -19,7 +19,7 @@ unwrap-requires c =
 
 pub loop-i-preserved : goal.loop-i-preserved
 loop-i-preserved c =
-    let found : text_in c.loop-i.rest.now ≡ Some (units_in c.unwrap.result.0, c.unwrap.result.1.now) =
+    let found : cut_text c.loop-i.rest.now ≡ Some (units_in c.unwrap.result.0, c.unwrap.result.1.now) =
     sym c.split_text.ensures.text ∙ ap (option_map (λ t. (units_in t.0, t.1.now))) c.unwrap.ensures in
     let inside = rw c.unwrap.ensures at c.split_text.ensures.rest in
     rw c.in_ok-push.ensures.items

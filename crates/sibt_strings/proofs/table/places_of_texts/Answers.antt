@@ -1,5 +1,5 @@
 use Rattle.std.proofs.Common.{arith}
-use Rattle.sibt_strings.specs.Views.{block_seen}
+use Rattle.sibt_strings.specs.code.Views.{block_seen}
 use Rattle.sibt_strings.proofs.EndLemmas.{ends_all, ends_trans, texts_behind}
 use Rattle.sibt_strings.proofs.TableLemmas.{tabled_start, tabled_behind, tabled_full, tabled_end}
 use Rattle.sibt_strings.proofs.table.places_of_texts.Goals as goal

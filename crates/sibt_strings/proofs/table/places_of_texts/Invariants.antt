@@ -1,6 +1,6 @@
 use Rattle.std.proofs.Common.{List, length}
 use Rattle.sibt_strings.specs.Blocks.{Block, AreBlocks}
-use Rattle.sibt_strings.specs.Views.{EndsWith}
+use Rattle.sibt_strings.specs.code.Views.{EndsWith}
 use Rattle.sibt_strings.proofs.TableLemmas.{Tabled}
 use Rattle.sibt_strings.proofs.table.places_of_texts.Given as goal
 

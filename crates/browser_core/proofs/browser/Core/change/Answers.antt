@@ -1,9 +1,9 @@
 use Rattle.std.proofs.Common.{◌≡◌, sym, ap, ◌∙◌, ◌++◌}
-use Rattle.ifr_scopes.specs.Lists.{form_node}
-use Rattle.hii_languages.specs.Views.{choice_of}
+use Rattle.ifr_scopes.specs.code.Lists.{form_node}
+use Rattle.hii_languages.specs.code.Views.{choice_of}
 use Rattle.hii_varstore.specs.Stores.{StoreMap, with_bytes}
-use Rattle.hii_questions.specs.NewBytes.{new_bytes}
-use Rattle.hii_questions.specs.Views.{question_node}
+use Rattle.hii_questions.specs.code.NewBytes.{new_bytes}
+use Rattle.hii_questions.specs.code.Views.{question_node}
 use Rattle.browser_core.specs.State.{State}
 use Rattle.browser_core.specs.Step.{accepted, warned_text}
 use Rattle.browser_core.specs.Texts.{ok_text}

@@ -1,12 +1,12 @@
 use Rattle.std.proofs.Common.{rules, sym, ap, subst, ◌∙◌, arith, length}
 use Rattle.std.specs.List.{AllByRecursion}
-use Rattle.ifr_scopes.specs.Lists.{form_node}
-use Rattle.hii_languages.specs.Views.{choice_of}
-use Rattle.hii_questions.specs.Lists.{questions_left}
-use Rattle.hii_questions.specs.Views.{question_view}
+use Rattle.ifr_scopes.specs.code.Lists.{form_node}
+use Rattle.hii_languages.specs.code.Views.{choice_of}
+use Rattle.hii_questions.specs.code.Lists.{questions_left}
+use Rattle.hii_questions.specs.code.Views.{question_view}
 use Rattle.browser_core.specs.State.{State}
 use Rattle.browser_core.specs.Opening.{layout_in}
-use Rattle.browser_core.specs.Standing.{LiesIn}
+use Rattle.browser_core.specs.code.Standing.{LiesIn}
 use Rattle.browser_core.specs.Step.{changed}
 use Rattle.browser_core.proofs.ChangeLemmas.{is_other_field, all_questions, counted_start, fields_lie, lies_first, few_changed, count_more, count_same, count_all}
 use Rattle.browser_core.proofs.browser.Core.count_changed.Goals as goal

@@ -1,9 +1,9 @@
 use Rattle.std.proofs.Common.{refl, sym, ap, ◌∙◌}
 use Rattle.std.proofs.lemmas.Result.{err_from_is_err_and}
-use Rattle.hii_packages.specs.Package.{entry_of}
-use Rattle.ifr_scopes.specs.Lists.{form_node}
+use Rattle.hii_packages.specs.code.Package.{entry_of}
+use Rattle.ifr_scopes.specs.code.Lists.{form_node}
 use Rattle.hii_varstore.specs.Stores.{shape_of}
-use Rattle.hii_questions.specs.Survey.{Survey}
+use Rattle.hii_questions.specs.code.Survey.{Survey}
 use Rattle.browser_core.proofs.OpeningLemmas.{only_memory, refuses_source, refuses_texts, refuses_package, refuses_stores, refuses_questions, refuses_image, is_found, browsable, opened}
 use Rattle.browser_core.proofs.browser.Core.open.Goals as goal
 

@@ -1,9 +1,9 @@
 use Rattle.std.proofs.Common.{subst, sym, ap, ◌∙◌}
 use Rattle.hii_bytes.specs.Watching.{pen_of, Writes}
 use Rattle.ifr_opcodes.specs.Forest.{node_at}
-use Rattle.ifr_scopes.specs.Lists.{form_node}
+use Rattle.ifr_scopes.specs.code.Lists.{form_node}
 use Rattle.ifr_scopes.specs.Nodes.{nodes_of}
-use Rattle.hii_languages.specs.Views.{choice_of}
+use Rattle.hii_languages.specs.code.Views.{choice_of}
 use Rattle.browser_core.specs.State.{State}
 use Rattle.browser_core.specs.Step.{page_at}
 use Rattle.browser_core.proofs.browser.Core.put_page.Goals as goal

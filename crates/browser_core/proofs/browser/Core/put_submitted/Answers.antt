@@ -1,13 +1,13 @@
 use Rattle.std.proofs.Common.{rules, sym, ap, subst, ◌∙◌, length}
 use Rattle.std.specs.List.{AllByRecursion}
 use Rattle.hii_bytes.specs.Watching.{pen_of, Writes}
-use Rattle.ifr_scopes.specs.Lists.{form_node}
-use Rattle.hii_languages.specs.Views.{choice_of}
-use Rattle.hii_questions.specs.Lists.{questions_left}
-use Rattle.hii_questions.specs.Views.{question_view}
+use Rattle.ifr_scopes.specs.code.Lists.{form_node}
+use Rattle.hii_languages.specs.code.Views.{choice_of}
+use Rattle.hii_questions.specs.code.Lists.{questions_left}
+use Rattle.hii_questions.specs.code.Views.{question_view}
 use Rattle.browser_core.specs.State.{State}
 use Rattle.browser_core.specs.Opening.{layout_in}
-use Rattle.browser_core.specs.Standing.{LiesIn}
+use Rattle.browser_core.specs.code.Standing.{LiesIn}
 use Rattle.browser_core.specs.Step.{changed, commit}
 use Rattle.browser_core.proofs.ChangeLemmas.{is_other_field, all_questions, fields_lie, lies_first, told, told_start, told_more, told_same}
 use Rattle.hii_bytes.proofs.WritingLemmas.{Stands-all}

@@ -1,11 +1,12 @@
 use Rattle.std.specs.List.{AllByRecursion}
-use Rattle.hii_bytes.specs.Watching.{pen_of, Stands}
-use Rattle.ifr_scopes.specs.Lists.{form_node}
-use Rattle.hii_languages.specs.Views.{choice_of}
-use Rattle.hii_questions.specs.Lists.{questions_left}
+use Rattle.hii_bytes.specs.Watching.{pen_of}
+use Rattle.hii_bytes.specs.code.Writing.{Stands}
+use Rattle.ifr_scopes.specs.code.Lists.{form_node}
+use Rattle.hii_languages.specs.code.Views.{choice_of}
+use Rattle.hii_questions.specs.code.Lists.{questions_left}
 use Rattle.browser_core.specs.State.{State}
 use Rattle.browser_core.specs.Opening.{layout_in}
-use Rattle.browser_core.specs.Standing.{LiesIn}
+use Rattle.browser_core.specs.code.Standing.{LiesIn}
 use Rattle.browser_core.specs.Step.{commit}
 use Rattle.browser_core.proofs.ChangeLemmas.{is_other_field, told}
 use Rattle.browser_core.proofs.browser.Core.put_submitted.Given as goal

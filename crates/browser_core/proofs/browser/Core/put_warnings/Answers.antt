@@ -1,8 +1,8 @@
 use Rattle.std.proofs.Common.{subst, sym, ap, ◌∙◌}
 use Rattle.hii_bytes.specs.Watching.{pen_of, Writes}
-use Rattle.ifr_scopes.specs.Lists.{form_node}
-use Rattle.hii_languages.specs.Views.{choice_of}
-use Rattle.hii_questions.specs.Views.{question_node}
+use Rattle.ifr_scopes.specs.code.Lists.{form_node}
+use Rattle.hii_languages.specs.code.Views.{choice_of}
+use Rattle.hii_questions.specs.code.Views.{question_node}
 use Rattle.browser_core.specs.State.{State}
 use Rattle.browser_core.specs.Step.{warned_text}
 use Rattle.browser_core.proofs.browser.Core.put_warnings.Goals as goal

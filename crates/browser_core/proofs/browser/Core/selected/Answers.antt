@@ -1,10 +1,10 @@
 use Rattle.std.proofs.Common.{Ok, Err, sym, ap, subst, ◌∙◌}
 use Rattle.std.proofs.lemmas.Result.{err_from_is_err_and}
-use Rattle.ifr_scopes.specs.Lists.{form_node}
-use Rattle.hii_languages.specs.Views.{choice_of}
-use Rattle.hii_questions.specs.Views.{question_view}
+use Rattle.ifr_scopes.specs.code.Lists.{form_node}
+use Rattle.hii_languages.specs.code.Views.{choice_of}
+use Rattle.hii_questions.specs.code.Views.{question_view}
 use Rattle.browser_core.specs.State.{State}
-use Rattle.browser_core.specs.Standing.{Selects}
+use Rattle.browser_core.specs.code.Standing.{Selects}
 use Rattle.browser_core.proofs.SetLemmas.{is_question_of, selects, selects_nothing}
 use Rattle.browser_core.proofs.browser.Core.selected.Goals as goal
 

@@ -1,9 +1,10 @@
 use Rattle.std.proofs.Common.{◌≡◌, Ok, Err, sym, ap, subst, ◌∙◌}
 use Rattle.hii_bytes.specs.Watching.{pen_of, Writes}
-use Rattle.ifr_scopes.specs.Lists.{form_node}
-use Rattle.hii_languages.specs.Views.{choice_of}
+use Rattle.ifr_scopes.specs.code.Lists.{form_node}
+use Rattle.hii_languages.specs.code.Views.{choice_of}
 use Rattle.hii_varstore.specs.Stores.{StoreMap}
-use Rattle.guard_policy.specs.Policy.{unsubmitted, unless}
+use Rattle.guard_policy.specs.Policy.{unsubmitted}
+use Rattle.guard_policy.specs.code.Answers.{unless}
 use Rattle.browser_core.specs.State.{State, world_of}
 use Rattle.browser_core.specs.Step.{Outcome, commit}
 use Rattle.browser_core.proofs.SetLemmas.{submits, submits_nothing}

@@ -1,15 +1,15 @@
 use Rattle.std.proofs.Common.{◌≡◌, ◌∙◌, ◌+◌, ◌∷◌, true, sym, ap, subst, length, arith}
 use Rattle.std.specs.Prelude.{filter, is_none}
 use Rattle.ifr_opcodes.specs.Forest.{Placed}
-use Rattle.ifr_scopes.specs.Lists.{statements_left}
+use Rattle.ifr_scopes.specs.code.Lists.{statements_left}
 use Rattle.guard_policy.specs.Policy.{hidden}
 use Rattle.form_page.specs.Pages as pages
 use Rattle.form_page.specs.Pages.{rows_from}
-use Rattle.form_page.specs.Views.{row_seen}
-use Rattle.ifr_scopes.specs.Checked.{IsNodeOf}
-use Rattle.ifr_scopes.specs.Lists.{statement_node}
-use Rattle.guard_policy.specs.Views.{bytes_of}
-use Rattle.form_page.specs.PageViews.{texts_of, world_of}
+use Rattle.form_page.specs.code.Views.{row_seen}
+use Rattle.ifr_scopes.specs.code.Checked.{IsNodeOf}
+use Rattle.ifr_scopes.specs.code.Lists.{statement_node}
+use Rattle.guard_policy.specs.code.Views.{bytes_of}
+use Rattle.form_page.specs.code.PageViews.{texts_of, world_of}
 use Rattle.form_page.specs.declared.page.Page.{Page}
 use Rattle.guard_policy.proofs.OptionLemmas.{first_of, rest_of}
 use Rattle.form_page.proofs.StatementLemmas.{rows_first}

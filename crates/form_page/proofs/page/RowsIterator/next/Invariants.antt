@@ -1,6 +1,6 @@
 use Rattle.std.proofs.Common.{◌≡◌, length}
-use Rattle.ifr_scopes.specs.Lists.{statements_left}
-use Rattle.form_page.specs.Views.{rows_left}
+use Rattle.ifr_scopes.specs.code.Lists.{statements_left}
+use Rattle.form_page.specs.code.Views.{rows_left}
 use Rattle.form_page.proofs.page.RowsIterator.next.Given as goal
 
 -- the statements that were passed are hidden

@@ -1,5 +1,5 @@
 use Rattle.std.proofs.Common.{◌∙◌, sym, ap, List, ℕ, ◌∷◌}
-use Rattle.form_page.specs.CharViews.{behind_text}
+use Rattle.form_page.specs.code.CharViews.{behind_text}
 use Rattle.form_page.specs.RowValues.{later_text}
 use Rattle.form_page.proofs.PieceLemmas.{next_element}
 use Rattle.form_page.proofs.value_chars.RowValueChars.step_behind.Goals as goal

@@ -1,11 +1,13 @@
 use Rattle.std.proofs.Common.{ap, sym, ◌∙◌}
-use Rattle.ifr_scopes.specs.Index.{guards_of_indexed}
+use Rattle.ifr_scopes.specs.code.Index.{guards_of_indexed}
 use Rattle.ifr_scopes.specs.Nodes.{nodes_of}
+use Rattle.ifr_scopes.proofs.PathLemmas.{own_guards}
+use Rattle.ifr_scopes.proofs.ViewLemmas.{contains_found}
 use Rattle.guard_policy.proofs.AskedLemmas.{suppressing_there}
 use Rattle.guard_policy.proofs.around.Around.hiding.Goals as goal
 
 pub returns : goal.returns
 returns c = λ n node is at.
     let forms = c.args.forms.now in
-    let law = c.guards_and_locks_are_found.ensures.guards forms n c.bytes.ensures.accepted node is in
+    let law = own_guards forms n c.bytes.ensures.accepted.checked.spelled (contains_found (nodes_of forms) n.place n node) is in
     suppressing_there n _ (c.guards_at.ensures.guards ∙ ap (guards_of_indexed (nodes_of forms)) (sym at) ∙ law)

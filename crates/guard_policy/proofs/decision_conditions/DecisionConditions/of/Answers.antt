@@ -1,8 +1,8 @@
 use Rattle.std.proofs.Common.{ap, sym, subst, ◌∙◌}
-use Rattle.ifr_scopes.specs.Checked.{IsNodeOf}
-use Rattle.ifr_scopes.specs.Lists.{form_node, statement_node}
-use Rattle.guard_policy.specs.Support.{conditions, IsSubjectOf}
-use Rattle.guard_policy.specs.Views.{world}
+use Rattle.ifr_scopes.specs.code.Checked.{IsNodeOf}
+use Rattle.ifr_scopes.specs.code.Lists.{form_node, statement_node}
+use Rattle.guard_policy.specs.laws.Support.{conditions, IsSubjectOf}
+use Rattle.guard_policy.specs.code.Views.{world}
 use Rattle.guard_policy.proofs.IndexedLemmas.{of_form, of_statement}
 use Rattle.guard_policy.proofs.decision_conditions.DecisionConditions.of.Goals as goal
 

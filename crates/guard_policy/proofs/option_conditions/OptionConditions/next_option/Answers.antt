@@ -1,5 +1,5 @@
 use Rattle.std.proofs.Common.{sym}
-use Rattle.ifr_scopes.specs.Parts.{options_left}
+use Rattle.ifr_scopes.specs.code.Parts.{options_left}
 use Rattle.guard_policy.proofs.AskedLemmas.{later_nodes}
 use Rattle.guard_policy.proofs.OptionLemmas.{first_of}
 use Rattle.guard_policy.proofs.option_conditions.OptionConditions.next_option.Goals as goal

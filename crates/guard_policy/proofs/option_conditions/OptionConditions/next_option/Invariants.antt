@@ -1,6 +1,6 @@
 use Rattle.std.proofs.Common.{◌≡◌, length}
-use Rattle.ifr_scopes.specs.Parts.{options_left}
-use Rattle.guard_policy.specs.AskedLeft.{options_of_value}
+use Rattle.ifr_scopes.specs.code.Parts.{options_left}
+use Rattle.guard_policy.specs.code.AskedLeft.{options_of_value}
 use Rattle.guard_policy.proofs.option_conditions.OptionConditions.next_option.Given as goal
 
 -- the options that were passed have other values

@@ -3,11 +3,11 @@ use Rattle.std.specs.Prelude.{filter, ◌==◌}
 use Rattle.std.specs.List.{flat_map}
 use Rattle.ifr_opcodes.specs.Fields.{option_value}
 use Rattle.ifr_opcodes.specs.Forest.{Placed}
-use Rattle.ifr_scopes.specs.Checked.{AreNodesOf}
+use Rattle.ifr_scopes.specs.code.Checked.{AreNodesOf}
 use Rattle.ifr_scopes.specs.Nodes.{options}
-use Rattle.ifr_scopes.specs.Parts.{options_left}
-use Rattle.hii_questions.specs.Views.{question_node}
-use Rattle.guard_policy.specs.Support.{around}
+use Rattle.ifr_scopes.specs.code.Parts.{options_left}
+use Rattle.hii_questions.specs.code.Views.{question_node}
+use Rattle.guard_policy.specs.laws.Support.{around}
 use Rattle.guard_policy.proofs.OptionLemmas.{options_are_nodes}
 use Rattle.guard_policy.proofs.option_conditions.OptionConditions.of.Goals as goal
 

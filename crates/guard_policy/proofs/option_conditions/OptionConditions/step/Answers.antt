@@ -1,9 +1,9 @@
 use Rattle.std.proofs.Common.{sym, ◌∙◌}
-use Rattle.ifr_scopes.specs.Checked.{IsNodeOf}
-use Rattle.ifr_scopes.specs.Parts.{option_node}
+use Rattle.ifr_scopes.specs.code.Checked.{IsNodeOf}
+use Rattle.ifr_scopes.specs.code.Parts.{option_node}
 use Rattle.guard_policy.proofs.AskedLemmas.{next_piece}
 use Rattle.guard_policy.proofs.IndexedLemmas.{of_option}
-use Rattle.guard_policy.specs.Support.{around}
+use Rattle.guard_policy.specs.laws.Support.{around}
 use Rattle.guard_policy.proofs.option_conditions.OptionConditions.step.Goals as goal
 
 pub loop-guard-preserved : goal.loop-guard-preserved

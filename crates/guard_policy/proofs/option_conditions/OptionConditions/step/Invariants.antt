@@ -1,5 +1,5 @@
 use Rattle.std.proofs.Common.{◌≡◌, length}
-use Rattle.guard_policy.specs.AskedLeft.{options_of_value, around_options_left}
+use Rattle.guard_policy.specs.code.AskedLeft.{options_of_value, around_options_left}
 use Rattle.guard_policy.proofs.option_conditions.OptionConditions.step.Given as goal
 
 -- no guard was passed over

@@ -1,9 +1,9 @@
 use Rattle.std.proofs.Common.{sym, ◌∙◌}
 use Rattle.std.proofs.lemmas.Result.{err_from_is_err_and}
-use Rattle.ifr_scopes.specs.Lists.{statement_node}
+use Rattle.ifr_scopes.specs.code.Lists.{statement_node}
 use Rattle.ifr_scopes.specs.Nodes.{nodes_of}
 use Rattle.guard_policy.specs.Policy.{covered, fixed_itself}
-use Rattle.guard_policy.specs.Views.{world_by}
+use Rattle.guard_policy.specs.code.Views.{world_by}
 use Rattle.guard_policy.proofs.DenialLemmas.{first_allows, first_denies}
 use Rattle.guard_policy.proofs.IndexedLemmas.{of_statement}
 use Rattle.guard_policy.proofs.policy.Policy.changeable_with.Goals as goal

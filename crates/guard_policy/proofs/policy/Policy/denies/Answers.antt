@@ -1,9 +1,9 @@
 use Rattle.std.proofs.Common.{◌≡◌, ◌&&◌, not, Bool, true, false, sym, ap, ◌∙◌}
 use Rattle.std.specs.List.{list_any}
 use Rattle.ifr_scopes.specs.Guards.{guards}
-use Rattle.ifr_scopes.specs.NoSubmitsLeft.{no_submit_node}
+use Rattle.ifr_scopes.specs.code.NoSubmitsLeft.{no_submit_node}
 use Rattle.guard_policy.specs.Policy.{is_removed}
-use Rattle.guard_policy.specs.Views.{world_by}
+use Rattle.guard_policy.specs.code.Views.{world_by}
 use Rattle.guard_policy.proofs.policy.Policy.denies.Goals as goal
 
 pub returns-then-not-is_removed : goal.returns-then-not-is_removed

@@ -1,10 +1,10 @@
 use Rattle.std.proofs.Common.{◌≡◌}
 use Rattle.std.specs.List.{find}
-use Rattle.ifr_scopes.specs.Index.{guards_of_indexed}
-use Rattle.ifr_scopes.specs.Lists.{guards_left}
+use Rattle.ifr_scopes.specs.code.Index.{guards_of_indexed}
+use Rattle.ifr_scopes.specs.code.Lists.{guards_left}
 use Rattle.ifr_scopes.specs.Nodes.{nodes_of}
-use Rattle.guard_policy.specs.Effects.{acts}
-use Rattle.guard_policy.specs.Views.{world_by}
+use Rattle.guard_policy.specs.code.Effects.{acts}
+use Rattle.guard_policy.specs.code.Views.{world_by}
 use Rattle.guard_policy.proofs.policy.Policy.first_guard.Given as goal
 
 -- the guards that were met have no effect

@@ -1,7 +1,7 @@
 use Rattle.std.proofs.Common.{◌≡◌}
 use Rattle.std.specs.List.{find}
-use Rattle.ifr_scopes.specs.Parts.{conditions_left}
-use Rattle.guard_policy.specs.Views.{world}
+use Rattle.ifr_scopes.specs.code.Parts.{conditions_left}
+use Rattle.guard_policy.specs.code.Views.{world}
 use Rattle.guard_policy.specs.World.{is_met}
 use Rattle.guard_policy.proofs.policy.Policy.first_holding.Given as goal
 

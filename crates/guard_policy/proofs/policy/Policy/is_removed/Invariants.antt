@@ -1,6 +1,6 @@
 use Rattle.std.proofs.Common.{◌≡◌}
 use Rattle.std.specs.List.{list_any}
-use Rattle.ifr_scopes.specs.Lists.{guards_left}
+use Rattle.ifr_scopes.specs.code.Lists.{guards_left}
 use Rattle.guard_policy.specs.Policy.{is_removed}
 use Rattle.guard_policy.proofs.policy.Policy.is_removed.Given as goal
 

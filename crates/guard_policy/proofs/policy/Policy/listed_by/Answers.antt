@@ -1,5 +1,5 @@
 use Rattle.std.proofs.Common.{sym}
-use Rattle.ifr_scopes.specs.Lists.{statement_node}
+use Rattle.ifr_scopes.specs.code.Lists.{statement_node}
 use Rattle.guard_policy.specs.declared.support.Decision.TheVariants.{Listed}
 use Rattle.guard_policy.proofs.IndexedLemmas.{of_statement}
 use Rattle.guard_policy.proofs.KeptLemmas.{decided}

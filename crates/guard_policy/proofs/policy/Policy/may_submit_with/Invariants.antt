@@ -2,9 +2,9 @@ use Rattle.std.proofs.Common.{◌≡◌}
 use Rattle.std.specs.Prelude.{filter}
 use Rattle.std.specs.List.{find}
 use Rattle.ifr_scopes.specs.Nodes.{nodes_of, is_no_submit}
-use Rattle.ifr_scopes.specs.NoSubmitsLeft.{no_submits_left}
+use Rattle.ifr_scopes.specs.code.NoSubmitsLeft.{no_submits_left}
 use Rattle.guard_policy.specs.Policy.{denies_submission}
-use Rattle.guard_policy.specs.Views.{world_by}
+use Rattle.guard_policy.specs.code.Views.{world_by}
 use Rattle.guard_policy.proofs.policy.Policy.may_submit_with.Given as goal
 
 -- the conditions that were met deny nothing

@@ -1,5 +1,5 @@
 use Rattle.std.proofs.Common.{sym}
-use Rattle.ifr_scopes.specs.Lists.{form_node}
+use Rattle.ifr_scopes.specs.code.Lists.{form_node}
 use Rattle.guard_policy.proofs.IndexedLemmas.{of_form}
 use Rattle.guard_policy.proofs.policy.Policy.opens.Goals as goal
 

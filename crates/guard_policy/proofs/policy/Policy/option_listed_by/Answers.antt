@@ -1,8 +1,8 @@
 use Rattle.std.proofs.Common.{ap, sym, ◌∙◌}
 use Rattle.ifr_opcodes.specs.Forest.{Placed}
-use Rattle.ifr_scopes.specs.Parts.{option_node}
-use Rattle.guard_policy.specs.Policy.{unless}
-use Rattle.guard_policy.specs.Views.{world}
+use Rattle.ifr_scopes.specs.code.Parts.{option_node}
+use Rattle.guard_policy.specs.code.Answers.{unless}
+use Rattle.guard_policy.specs.code.Views.{world}
 use Rattle.guard_policy.proofs.IndexedLemmas.{of_option}
 use Rattle.guard_policy.proofs.SupportLemmas.{hidden_same}
 use Rattle.guard_policy.proofs.policy.Policy.option_listed_by.Goals as goal

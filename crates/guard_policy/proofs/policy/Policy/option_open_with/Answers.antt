@@ -3,12 +3,13 @@ use Rattle.std.specs.Prelude.{filter, ◌==◌}
 use Rattle.std.proofs.lemmas.Bool.{cond-true, cond-false, eq-eqb, ne_eqb}
 use Rattle.ifr_opcodes.specs.Fields.{option_value}
 use Rattle.ifr_opcodes.specs.Forest.{Placed}
-use Rattle.ifr_scopes.specs.Checked.{AreNodesOf}
+use Rattle.ifr_scopes.specs.code.Checked.{AreNodesOf}
 use Rattle.ifr_scopes.specs.Nodes.{options}
-use Rattle.ifr_scopes.specs.Parts.{option_node, options_left}
-use Rattle.hii_questions.specs.Views.{question_node}
-use Rattle.guard_policy.specs.Policy.{all_fixed, fixed, unless}
-use Rattle.guard_policy.specs.Views.{world_by}
+use Rattle.ifr_scopes.specs.code.Parts.{option_node, options_left}
+use Rattle.hii_questions.specs.code.Views.{question_node}
+use Rattle.guard_policy.specs.Policy.{all_fixed, fixed}
+use Rattle.guard_policy.specs.code.Answers.{unless}
+use Rattle.guard_policy.specs.code.Views.{world_by}
 use Rattle.guard_policy.proofs.ClosedLemmas.{standing, open_one, fixed_one}
 use Rattle.guard_policy.proofs.DenialLemmas.{none_of, some_of}
 use Rattle.guard_policy.proofs.OptionLemmas.{options_are_nodes, first_of, rest_of}
@@ -22,7 +23,7 @@ loop-option-init g c =
     record {
       can = search rules;
       ends = search rules;
-      nodes = subst (AreNodesOf c.args.self.now.forms.now) (sym all) (options_are_nodes c.args.self.now.forms.now q c.bytes.ensures.accepted.checked.spelled c.requires);
+      nodes = subst (AreNodesOf c.args.self.now.forms.now) (sym all) (options_are_nodes c.args.self.now.forms.now q c.args.self.now.accepted.checked.spelled c.requires);
       same = ap (λ (os : List Placed). all_fixed w (filter (λ o. option_value o.op == c.args.value) os)) all;
     }
 

@@ -1,11 +1,11 @@
 use Rattle.std.proofs.Common.{◌≡◌}
 use Rattle.std.specs.Prelude.{filter, ◌==◌}
 use Rattle.ifr_opcodes.specs.Fields.{option_value}
-use Rattle.ifr_scopes.specs.Checked.{AreNodesOf}
-use Rattle.ifr_scopes.specs.Parts.{options_left}
-use Rattle.hii_questions.specs.Views.{question_node}
+use Rattle.ifr_scopes.specs.code.Checked.{AreNodesOf}
+use Rattle.ifr_scopes.specs.code.Parts.{options_left}
+use Rattle.hii_questions.specs.code.Views.{question_node}
 use Rattle.guard_policy.specs.Policy.{closed}
-use Rattle.guard_policy.specs.Views.{world_by}
+use Rattle.guard_policy.specs.code.Views.{world_by}
 use Rattle.guard_policy.proofs.ClosedLemmas.{standing}
 use Rattle.guard_policy.proofs.policy.Policy.option_open_with.Given as goal
 

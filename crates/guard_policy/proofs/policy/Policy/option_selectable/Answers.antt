@@ -1,7 +1,7 @@
 use Rattle.std.proofs.Common.{ap, sym, ◌∙◌}
-use Rattle.ifr_scopes.specs.Parts.{option_node}
-use Rattle.guard_policy.specs.Policy.{unless}
-use Rattle.guard_policy.specs.Views.{world_by}
+use Rattle.ifr_scopes.specs.code.Parts.{option_node}
+use Rattle.guard_policy.specs.code.Answers.{unless}
+use Rattle.guard_policy.specs.code.Views.{world_by}
 use Rattle.guard_policy.proofs.ClosedLemmas.{option_fixed}
 use Rattle.guard_policy.proofs.IndexedLemmas.{of_option}
 use Rattle.guard_policy.proofs.policy.Policy.option_selectable.Goals as goal

@@ -1,6 +1,6 @@
 use Rattle.std.proofs.Common.{ap}
 use Rattle.ifr_scopes.specs.Nodes.{nodes_of}
-use Rattle.guard_policy.specs.Support.{support_over}
+use Rattle.guard_policy.specs.laws.Support.{support_over}
 use Rattle.guard_policy.proofs.policy.Policy.support_of.Goals as goal
 
 pub returns : goal.returns

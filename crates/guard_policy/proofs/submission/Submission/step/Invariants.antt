@@ -1,6 +1,6 @@
 use Rattle.std.proofs.Common.{◌≡◌, length}
-use Rattle.ifr_scopes.specs.NoSubmitsLeft.{no_submits_left}
-use Rattle.guard_policy.specs.AskedLeft.{submission_left}
+use Rattle.ifr_scopes.specs.code.NoSubmitsLeft.{no_submits_left}
+use Rattle.guard_policy.specs.code.AskedLeft.{submission_left}
 use Rattle.guard_policy.proofs.submission.Submission.step.Given as goal
 
 -- the conditions that were passed are in the scope of what was removed

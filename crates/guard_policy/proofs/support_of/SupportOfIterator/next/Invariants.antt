@@ -1,6 +1,6 @@
 use Rattle.std.proofs.Common.{◌≡◌, length}
-use Rattle.guard_policy.specs.AskedLeft.{asked_left}
-use Rattle.guard_policy.specs.SupportLeft.{support_left}
+use Rattle.guard_policy.specs.code.AskedLeft.{asked_left}
+use Rattle.guard_policy.specs.code.SupportLeft.{support_left}
 use Rattle.guard_policy.proofs.support_of.SupportOfIterator.next.Given as goal
 
 -- no id was passed over

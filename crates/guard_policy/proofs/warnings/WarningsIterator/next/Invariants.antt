@@ -1,6 +1,6 @@
 use Rattle.std.proofs.Common.{◌≡◌, length}
-use Rattle.ifr_scopes.specs.Parts.{conditions_left}
-use Rattle.guard_policy.specs.Warned.{warnings_left}
+use Rattle.ifr_scopes.specs.code.Parts.{conditions_left}
+use Rattle.guard_policy.specs.code.WarningsLeft.{warnings_left}
 use Rattle.guard_policy.proofs.warnings.WarningsIterator.next.Given as goal
 
 -- the conditions that were passed do not hold

@@ -1,7 +1,8 @@
 use Rattle.std.proofs.Common.{◌≡◌, ◌<◌, true, false, length, subst, sym, rules, inl, inr}
 use Rattle.std.proofs.lemmas.List.{take_rest, nil_from_length}
 use Rattle.std.proofs.lemmas.Bool.{cases_Bool}
-use Rattle.hii_bytes.specs.Watching.{pen_of, Stands, has_failed}
+use Rattle.hii_bytes.specs.Watching.{pen_of, has_failed}
+use Rattle.hii_bytes.specs.code.Writing.{Stands}
 use Rattle.hii_bytes.proofs.WritingLemmas.{Stands-start, Stands-more, Stands-end, Stands-all, Writes-none, Writes-erred, Writes-taken}
 use Rattle.hii_bytes.proofs.watched.Watched.put.Goals as goal
 

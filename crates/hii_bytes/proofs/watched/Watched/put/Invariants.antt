@@ -1,5 +1,6 @@
 use Rattle.std.proofs.Common.{length}
-use Rattle.hii_bytes.specs.Watching.{pen_of, Stands}
+use Rattle.hii_bytes.specs.Watching.{pen_of}
+use Rattle.hii_bytes.specs.code.Writing.{Stands}
 use Rattle.hii_bytes.proofs.watched.Watched.put.Given as goal
 
 -- the bytes before the rest are written

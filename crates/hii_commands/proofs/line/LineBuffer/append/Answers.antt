@@ -1,5 +1,5 @@
 use Rattle.std.proofs.Common.{◌≡◌, ◌+◌, ◌-◌, ◌≤◌, ◌<◌, ◌∙◌, length, arith, ap}
-use Rattle.hii_commands.specs.Line.{Held}
+use Rattle.hii_commands.specs.code.Held.{Held}
 use Rattle.hii_commands.proofs.HeldLemmas.{held_whole, held_front}
 use Rattle.hii_commands.proofs.line.LineBuffer.append.Goals as goal
 

@@ -1,7 +1,7 @@
 use Rattle.std.proofs.Common.{◌∙◌, ap, sym, length, refl}
 use Rattle.std.proofs.lemmas.Bool.{ltb-true, ltb-false}
 use Rattle.std.proofs.lemmas.List.{take_all}
-use Rattle.hii_commands.specs.Line.{Held}
+use Rattle.hii_commands.specs.code.Held.{Held}
 use Rattle.hii_commands.proofs.line.LineBuffer.line.Goals as goal
 
 pub returns-then-self : goal.returns-then-self

@@ -3,7 +3,7 @@ use Rattle.std.proofs.lemmas.Bool.Decides.{nat_tests}
 use Rattle.std.proofs.lemmas.Grind.{common_steps}
 use Rattle.std.proofs.lemmas.Result.{err_from_is_err_and}
 use Rattle.hii_bytes.proofs.FirstFaultLemmas.{accepted_without}
-use Rattle.hii_packages.specs.Package.{entry_of}
+use Rattle.hii_packages.specs.code.Package.{entry_of}
 use Rattle.hii_packages.specs.Packages.{entries}
 use Rattle.hii_languages.proofs.SpokenLemmas.{is_strings, read_more, read_fault, spoken_sound}
 use Rattle.hii_languages.proofs.languages.Languages.read.Goals as goal
@@ -30,8 +30,8 @@ returns-in_err-table-clause-accepted c = λ spoken are.
       | inr least ↦ absurd (accepted_without _ _ (read_fault (entries c.args.list.now) c.loop-source.tables.items (entry_of c.in-Some.source) _ _ r strings least) (spoken_sound _ spoken are))
     ])
 
-pub loop-source-preserved-else-is_err : goal.loop-source-preserved-else-is_err
-loop-source-preserved-else-is_err c =
+pub loop-source-preserved-in-Continue-branch-2 : goal.loop-source-preserved-in-Continue-branch-2
+loop-source-preserved-in-Continue-branch-2 c =
     let r = rw c.in-Some.ensures.steps at c.loop-source.invariant in
     let strings : is_strings (entry_of c.in-Some.source) ≡ true = grind (arith, nat_tests) in
     let pushed : c.push.new.self.items ≡ c.loop-source.tables.items ++ c.in_ok-table.table ∷ [] = grind (arith, common_steps) in

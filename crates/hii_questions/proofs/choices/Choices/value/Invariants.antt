@@ -1,6 +1,6 @@
 use Rattle.std.proofs.Common.{◌≡◌}
-use Rattle.ifr_scopes.specs.Parts.{options_left}
-use Rattle.hii_questions.specs.ChoiceViews.{choice_values}
+use Rattle.ifr_scopes.specs.code.Parts.{options_left}
+use Rattle.hii_questions.specs.code.ChoiceViews.{choice_values}
 use Rattle.hii_questions.specs.Inputs.{offered}
 use Rattle.hii_questions.specs.Types.{option_values}
 use Rattle.hii_questions.proofs.choices.Choices.value.Given as goal

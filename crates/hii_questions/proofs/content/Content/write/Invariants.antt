@@ -1,7 +1,7 @@
 use Rattle.std.proofs.Common.{◌≡◌, ◌+◌, ◌≤◌, ◌++◌, length, take}
-use Rattle.hii_questions.specs.Contents.{content_bytes}
+use Rattle.hii_questions.specs.code.Contents.{content_bytes}
 use Rattle.hii_questions.specs.Items.{spelled}
-use Rattle.hii_questions.specs.ItemsLeft.{items_left}
+use Rattle.hii_questions.specs.code.ItemsLeft.{items_left}
 use Rattle.hii_questions.proofs.content.Content.write.Given as goal
 
 -- the bytes so far, and those of the items that are left, are all

@@ -4,9 +4,9 @@ use Rattle.std.specs.Ordering.{nat_cmp}
 use Rattle.std.proofs.lemmas.List.Sorted.{answers_always}
 use Rattle.ifr_scopes.specs.Nodes.{nodes_of}
 use Rattle.hii_questions.specs.Fields.{questions}
-use Rattle.hii_questions.specs.Survey.{Survey}
-use Rattle.hii_questions.specs.Tables.{first_at}
-use Rattle.hii_questions.specs.Views.{question_node, question_view}
+use Rattle.hii_questions.specs.code.Survey.{Survey}
+use Rattle.hii_questions.specs.code.Tables.{first_at}
+use Rattle.hii_questions.specs.code.Views.{question_node, question_view}
 use Rattle.hii_questions.specs.declared.question.Question.{Question}
 use Rattle.hii_questions.proofs.PlaceLemmas.{found_at, none_at}
 use Rattle.hii_questions.proofs.questions.Questions.at.Goals as goal

@@ -3,8 +3,8 @@ use Rattle.std.proofs.lemmas.Bool.{ne_eqb}
 use Rattle.ifr_scopes.specs.Nodes.{nodes_of}
 use Rattle.hii_varstore.specs.StoreNodes.{layout_of}
 use Rattle.hii_questions.specs.Fields.{asked, question_with}
-use Rattle.hii_questions.specs.Survey.{Survey}
-use Rattle.hii_questions.specs.Views.{question_view}
+use Rattle.hii_questions.specs.code.Survey.{Survey}
+use Rattle.hii_questions.specs.code.Views.{question_view}
 use Rattle.hii_questions.proofs.QuestionLemmas.{first_is_with}
 use Rattle.hii_questions.proofs.questions.Questions.find.Goals as goal
 

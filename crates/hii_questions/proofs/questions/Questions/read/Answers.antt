@@ -6,9 +6,9 @@ use Rattle.std.proofs.lemmas.Result.{err_from_is_err_and}
 use Rattle.hii_bytes.specs.Faults.{IsLeast}
 use Rattle.ifr_scopes.specs.Nodes.{nodes_of}
 use Rattle.hii_questions.specs.Faults.{IsQuestionFault, parts_of}
-use Rattle.hii_questions.specs.FaultTells.{first_part_fault}
-use Rattle.hii_questions.specs.Tables.{first_with}
-use Rattle.hii_questions.specs.Views.{question_view}
+use Rattle.hii_questions.specs.code.FaultTells.{first_part_fault}
+use Rattle.hii_questions.specs.code.Tables.{first_with}
+use Rattle.hii_questions.specs.code.Views.{question_view}
 use Rattle.hii_questions.specs.declared.question.Question.{Question}
 use Rattle.hii_questions.proofs.PlaceLemmas.{questions_rise}
 use Rattle.hii_questions.proofs.RefusalLemmas.{refused_among, sound_among}
@@ -17,13 +17,13 @@ use Rattle.hii_questions.proofs.questions.Questions.read.Goals as goal
 -- the fault that the check tells is the least
 least : (c : goal.After-drop-by_place-in_err-check_questions) → IsLeast (IsQuestionFault (nodes_of c.args.forms.now)) c.in_err-check_questions.field-0.0
 least c =
-    let known : ℕ → Bool = λ id. contains nat_cmp c.in-Ok-store_ids.ids id in
-    refused_among c.args.forms.now c.args.layout.now known (map question_view c.in-Ok.by_place.items) c.in_err-check_questions.field-0.0 c.bytes-ifr.ensures.accepted c.requires c.in-Ok-store_ids.ensures c.in-Ok.ensures
+    let known : ℕ → Bool = λ id. contains nat_cmp c.in_ok-ids.ids id in
+    refused_among c.args.forms.now c.args.layout.now known (map question_view c.in_ok-by_place.by_place.items) c.in_err-check_questions.field-0.0 c.bytes-ifr.ensures.accepted c.requires c.in_ok-ids.ensures c.in_ok-by_place.ensures
     (ap (λ (qs : List Question). first_part_fault c.args.layout.now known (flat_map parts_of (map question_view qs))) (sym c.deref-2.ensures.value) ∙ c.in_err-check_questions.ensures)
 
 pub returns-in_err-check_questions-clause-refused : goal.returns-in_err-check_questions-clause-refused
 returns-in_err-check_questions-clause-refused c =
-    let p = err_from_is_err_and c.from_residual.result c.from_residual.ensures.1 in
+    let p = err_from_is_err_and c.from_residual-in_err-check_questions.result c.from_residual-in_err-check_questions.ensures.1 in
     rw (p.1, p.2) (inr (least c))
 
 pub returns-in_err-check_questions-clause-accepted : goal.returns-in_err-check_questions-clause-accepted
@@ -31,15 +31,15 @@ returns-in_err-check_questions-clause-accepted c = λ none. absurd (none c.in_er
 
 pub invariant_of-result : goal.invariant_of-result
 invariant_of-result c =
-    let placed = c.in-Ok.ensures in
+    let placed = c.in_ok-by_place.ensures in
     rw c.bytes-ifr.ensures.bytes record {
       placed = placed;
-      rise = questions_rise c.args.forms.now c.in-Ok.by_place.items c.bytes-ifr.ensures.accepted placed;
-      found = λ id. c.in-Ok-questions_by_id.ensures id ∙ ap (λ (qs : List Question). first_with (map question_view qs) id) c.deref.ensures.value ∙ ap (λ qs. first_with qs id) placed;
+      rise = questions_rise c.args.forms.now c.in_ok-by_place.by_place.items c.bytes-ifr.ensures.accepted placed;
+      found = λ id. c.in_ok-by_id.ensures id ∙ ap (λ (qs : List Question). first_with (map question_view qs) id) c.deref.ensures.value ∙ ap (λ qs. first_with qs id) placed;
     }
 
 pub returns-clause-sound : goal.returns-clause-sound
 returns-clause-sound c =
-    let known : ℕ → Bool = λ id. contains nat_cmp c.in-Ok-store_ids.ids id in
-    sound_among c.args.forms.now c.args.layout.now known (map question_view c.in-Ok.by_place.items) c.requires c.in-Ok-store_ids.ensures c.in-Ok.ensures
+    let known : ℕ → Bool = λ id. contains nat_cmp c.in_ok-ids.ids id in
+    sound_among c.args.forms.now c.args.layout.now known (map question_view c.in_ok-by_place.by_place.items) c.requires c.in_ok-ids.ensures c.in_ok-by_place.ensures
     (ap (λ (qs : List Question). first_part_fault c.args.layout.now known (flat_map parts_of (map question_view qs))) (sym c.deref-2.ensures.value) ∙ c.in_ok-check_questions.ensures)

@@ -1,6 +1,6 @@
 use Rattle.std.proofs.Common.{◌≡◌, ◌+◌, ℕ, List, length, map, option_map, slice_range, Some, refl, ap, sym, ◌∙◌, arith}
 use Rattle.std.proofs.lemmas.List.Edits.{length-between}
-use Rattle.hii_varstore.specs.Stores.{buffer_of, field_of, with_bytes}
+use Rattle.hii_varstore.specs.Stores.{buffer_of, bytes_of_field, with_bytes}
 use Rattle.hii_varstore.proofs.PlaceLemmas.{store_at, place_within, found_bytes, range_is_some, range_within, kept_laid, put_is}
 use Rattle.hii_varstore.proofs.stores.Stores.field_mut.Goals as goal
 
@@ -32,7 +32,7 @@ returns c =
     let found = rw (← c.index_mut-store.ensures.value) at (found_bytes ss c.args.id c.unwrap-place.result store here) in
     let put = λ (w : List ℕ). put_is c.self.inside.guid c.self.inside.table ss c.args.id c.unwrap-place.result c.args.offset w store c.self.invariant here c.index_mut-store.ensures.value in
     let range = λ (bytes : List ℕ). slice_range bytes c.args.offset (c.args.offset + c.args.width) in
-    let value : field_of c.args.self.now c.args.id c.args.offset c.args.width ≡ Some c.range_mut.result.now = rw (← c.self.view_is, c.range_mut.ensures.value) (ap (option_map range) found) in
+    let value : bytes_of_field c.args.self.now c.args.id c.args.offset c.args.width ≡ Some c.range_mut.result.now = rw (← c.self.view_is, c.range_mut.ensures.value) (ap (option_map range) found) in
     let inside = rw (← c.index_mut-store.ensures.value) at (range_within ss c.args.id c.args.offset c.args.width c.unwrap-place.result store here (rw (← c.self.view_is) at c.requires)) in
     let size : length c.range_mut.result.now ≡ c.args.width = rw c.range_mut.ensures.value (length-between store.bytes c.args.offset (c.args.offset + c.args.width) inside ∙ omega arith) in
     ((refl, λ w. put w ∙ ap (λ m. with_bytes m c.args.id c.args.offset w) c.self.view_is), record { lends = tt; value = value; size = size })

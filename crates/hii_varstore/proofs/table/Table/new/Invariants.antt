@@ -1,7 +1,7 @@
 use Rattle.std.proofs.Common.{◌≡◌, ℕ, take}
 use Rattle.std.specs.Ordering.{nat_cmp}
 use Rattle.std.specs.BTreeMap.{get}
-use Rattle.hii_varstore.specs.Table.{place_of}
+use Rattle.hii_varstore.specs.code.Table.{place_of}
 use Rattle.hii_varstore.proofs.table.Table.new.Given as goal
 
 -- the stores so far are in the index

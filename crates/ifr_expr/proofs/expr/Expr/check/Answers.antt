@@ -2,11 +2,11 @@ use Rattle.std.proofs.Common.{◌≡◌, ◌+◌, ◌<◌, ◌^◌, Ok, Err, len
 use Rattle.std.proofs.lemmas.List.{length-drop, length-take}
 use Rattle.hii_bytes.specs.Faults.{IsLeast}
 use Rattle.hii_bytes.specs.declared.cause.Cause.TheVariants.{ExprShape}
-use Rattle.ifr_opcodes.specs.Ops.{op_of}
-use Rattle.ifr_expr.specs.Checked.{marks}
-use Rattle.ifr_expr.specs.OpcodesLeft.{opcodes_left}
+use Rattle.ifr_opcodes.specs.code.Ops.{op_of}
+use Rattle.ifr_expr.specs.code.Checked.{marks}
+use Rattle.ifr_expr.specs.code.OpcodesLeft.{opcodes_left}
 use Rattle.ifr_expr.specs.Faults.{IsExpressionFault}
-use Rattle.ifr_expr.specs.Reading.{opcodes_of}
+use Rattle.ifr_expr.specs.code.Bytes.{opcodes_of}
 use Rattle.ifr_expr.proofs.CheckLemmas.{Done, are_opcodes, at_start, goes_on_counting, cause_told, done, checked, means_node, sound_node, several, least_all, least_opcode, not_meant, not_clear}
 use Rattle.ifr_expr.proofs.expr.Expr.check.Goals as goal
 use Rattle.ifr_expr.proofs.expr.Expr.check.Goals.{In-Some-cause_of, In-Ok, In-Err, In-Ok-eq1}
@@ -71,7 +71,7 @@ many c =
     least_all c.args.from (opcodes_of c.args.from bytes) _ d.none (several c.args.from bytes (marks c.args.from bytes) c.in-Ok.field-0 d (λ one. omega arith))
 
 pub returns-in-Ok-clause-refused : goal.returns-in-Ok-clause-refused
-returns-in-Ok-clause-refused c = rw c.from.ensures (many (goal.at.returns-in-Ok-clause-refused c).In-Ok)
+returns-in-Ok-clause-refused c = rw (c.at.ensures, c.from.ensures) (many (goal.at.returns-in-Ok-clause-refused c).In-Ok)
 
 pub returns-in-Ok-clause-accepted : goal.returns-in-Ok-clause-accepted
 returns-in-Ok-clause-accepted c = λ clear. absurd (not_clear c.args.from _ _ (many (goal.at.returns-in-Ok-clause-accepted c).In-Ok) clear)

@@ -1,7 +1,7 @@
 use Rattle.std.proofs.Common.{◌≤◌, length, IfOk}
-use Rattle.ifr_expr.specs.Checked.{marks}
-use Rattle.ifr_expr.specs.OpcodesLeft.{opcodes_left}
-use Rattle.ifr_expr.specs.Reading.{opcodes_of}
+use Rattle.ifr_expr.specs.code.Checked.{marks}
+use Rattle.ifr_expr.specs.code.OpcodesLeft.{opcodes_left}
+use Rattle.ifr_expr.specs.code.Bytes.{opcodes_of}
 use Rattle.ifr_expr.proofs.CheckLemmas.{Stands}
 use Rattle.ifr_expr.proofs.expr.Expr.check.Given as goal
 

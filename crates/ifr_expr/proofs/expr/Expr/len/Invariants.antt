@@ -1,6 +1,6 @@
 use Rattle.std.proofs.Common.{◌≡◌, ◌+◌, length}
-use Rattle.ifr_expr.specs.Checked.{marks}
-use Rattle.ifr_expr.specs.Expressions.{operators_left}
+use Rattle.ifr_expr.specs.code.Checked.{marks}
+use Rattle.ifr_expr.specs.code.Expressions.{operators_left}
 use Rattle.ifr_expr.proofs.expr.Expr.len.Given as goal
 
 abbrev pub invariant-loop-op : goal.invariant-loop-op

@@ -1,7 +1,7 @@
 use Rattle.std.proofs.Common.{ap, ◌∙◌}
 use Rattle.std.specs.List.{flat_map}
-use Rattle.ifr_expr.specs.Expressions.{tree_of}
-use Rattle.ifr_expr.specs.Supports.{id_of}
+use Rattle.ifr_expr.specs.code.Expressions.{tree_of}
+use Rattle.ifr_expr.specs.code.Supports.{id_of}
 use Rattle.ifr_expr.specs.Trees.{post}
 use Rattle.ifr_expr.proofs.NameLemmas.{ids_among}
 use Rattle.ifr_expr.proofs.expr.Expr.support.Goals as goal

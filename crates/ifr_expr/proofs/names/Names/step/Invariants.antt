@@ -1,6 +1,6 @@
 use Rattle.std.proofs.Common.{◌≡◌, None, length}
-use Rattle.ifr_expr.specs.Expressions.{operators_left}
-use Rattle.ifr_expr.specs.NamesLeft.{names_left}
+use Rattle.ifr_expr.specs.code.Expressions.{operators_left}
+use Rattle.ifr_expr.specs.code.NamesLeft.{names_left}
 use Rattle.ifr_expr.proofs.names.Names.step.Given as goal
 
 abbrev pub invariant-loop-op : goal.invariant-loop-op

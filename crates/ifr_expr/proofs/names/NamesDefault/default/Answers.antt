@@ -1,6 +1,6 @@
 use Rattle.std.proofs.Common.{sym, ap, subst, ◌∙◌}
-use Rattle.ifr_expr.specs.Checked.{AreSized}
-use Rattle.ifr_expr.specs.Names.{names_among}
+use Rattle.ifr_expr.specs.code.Checked.{AreSized}
+use Rattle.ifr_expr.specs.code.Names.{names_among}
 use Rattle.ifr_expr.proofs.NameLemmas.{no_opcodes, no_marks}
 use Rattle.ifr_expr.proofs.names.NamesDefault.default.Goals as goal
 

@@ -1,5 +1,5 @@
 use Rattle.std.proofs.Common.{ℕ, List, length, ap, arith, length-append}
-use Rattle.ifr_opcodes.specs.Ops.{bytes_of}
+use Rattle.ifr_opcodes.specs.code.Ops.{bytes_of}
 use Rattle.ifr_expr.proofs.OpcodeSteps.{cut_off, none_left, ends_there, goes_on}
 use Rattle.ifr_expr.proofs.opcodes.Opcodes.step.Goals as goal
 

@@ -1,6 +1,6 @@
 use Rattle.std.proofs.Common.{◌≡◌, length}
-use Rattle.ifr_expr.specs.Expressions.{operators_left}
-use Rattle.ifr_expr.specs.ReferencesLeft.{references_left}
+use Rattle.ifr_expr.specs.code.Expressions.{operators_left}
+use Rattle.ifr_expr.specs.code.ReferencesLeft.{references_left}
 use Rattle.ifr_expr.proofs.references.RuleReferences.step.Given as goal
 
 abbrev pub invariant-loop-op : goal.invariant-loop-op

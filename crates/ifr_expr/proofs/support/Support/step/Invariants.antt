@@ -1,6 +1,6 @@
 use Rattle.std.proofs.Common.{◌≡◌, length}
-use Rattle.ifr_expr.specs.NamesLeft.{names_left}
-use Rattle.ifr_expr.specs.Supports.{ids_left}
+use Rattle.ifr_expr.specs.code.NamesLeft.{names_left}
+use Rattle.ifr_expr.specs.code.Supports.{ids_left}
 use Rattle.ifr_expr.proofs.support.Support.step.Given as goal
 
 abbrev pub invariant-loop-name : goal.invariant-loop-name

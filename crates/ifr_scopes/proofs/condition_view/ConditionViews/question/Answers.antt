@@ -4,8 +4,8 @@ use Rattle.ifr_opcodes.specs.Fields.{question_id}
 use Rattle.ifr_opcodes.specs.Opcode.{number}
 use Rattle.ifr_scopes.specs.Kinds.{is_condition_number}
 use Rattle.ifr_scopes.specs.Nodes.{is_question}
-use Rattle.ifr_scopes.specs.PartsLeft.{HaveThis}
-use Rattle.ifr_scopes.specs.Views.{node_of}
+use Rattle.ifr_scopes.specs.code.PartsLeft.{HaveThis}
+use Rattle.ifr_scopes.specs.code.Views.{node_of}
 use Rattle.ifr_scopes.proofs.NodeFactLemmas.{is_node}
 use Rattle.ifr_scopes.proofs.ThisLemmas.{have_this}
 use Rattle.ifr_scopes.proofs.condition_view.ConditionViews.question.Goals as goal

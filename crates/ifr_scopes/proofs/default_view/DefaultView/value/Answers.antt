@@ -1,10 +1,10 @@
 use Rattle.std.proofs.Common.{◌≡◌, ℕ, ◌+◌, true, Some, List, length, sym, ap, ◌∙◌, arith}
 use Rattle.ifr_opcodes.specs.Opcode.{number}
 use Rattle.ifr_opcodes.specs.Forest.{Placed}
-use Rattle.ifr_opcodes.specs.Ops.{bytes_of}
+use Rattle.ifr_opcodes.specs.code.Ops.{bytes_of}
 use Rattle.ifr_scopes.specs.Conditions.{expression_tree}
 use Rattle.ifr_scopes.specs.Table.{wants_expression, wants_value}
-use Rattle.ifr_scopes.specs.Views.{node_of}
+use Rattle.ifr_scopes.specs.code.Views.{node_of}
 use Rattle.ifr_scopes.proofs.ConditionLemmas.{StandsValue, value_at}
 use Rattle.ifr_scopes.proofs.NodeFactLemmas.{is_node}
 use Rattle.ifr_scopes.proofs.default_view.DefaultView.value.Goals as goal

@@ -1,11 +1,11 @@
 use Rattle.std.proofs.Common.{◌≡◌, ℕ, ◌<◌, List, [], ◌∷◌, ◌++◌, reverse, refl, sym, ap, ◌∙◌, arith}
-use Rattle.ifr_expr.specs.Expressions.{tree_of}
-use Rattle.ifr_expr.specs.Names.{names_in}
-use Rattle.ifr_expr.specs.NamesLeft.{names_left}
+use Rattle.ifr_expr.specs.code.Expressions.{tree_of}
+use Rattle.ifr_expr.specs.code.Names.{names_in}
+use Rattle.ifr_expr.specs.code.NamesLeft.{names_left}
 use Rattle.ifr_expr.specs.declared.expr.Expr.{Expr}
 use Rattle.ifr_expr.specs.declared.names.Name.TheVariants.{Rule}
 use Rattle.ifr_expr.specs.declared.names.Names.{Names}
-use Rattle.ifr_scopes.specs.Rules.{rules_of}
+use Rattle.ifr_scopes.specs.code.Rules.{rules_of}
 use Rattle.ifr_scopes.specs.declared.dependence.Frame.{Frame}
 use Rattle.ifr_scopes.proofs.FrameLemmas.{ids, turns, GoesOn, goes_on, IsNamed, is_named, passed_over, fits_on, Enters, enters}
 use Rattle.ifr_scopes.proofs.dependence.Dependence.step.Goals as goal

@@ -1,8 +1,8 @@
 use Rattle.std.proofs.Common.{ap, sym, ◌∙◌, List, ℕ, Some}
 use Rattle.ifr_opcodes.specs.Forest.{Placed}
-use Rattle.ifr_scopes.specs.Index.{is_conditional, conditional_at}
+use Rattle.ifr_scopes.specs.code.Index.{is_conditional, conditional_at}
 use Rattle.ifr_scopes.specs.Nodes.{nodes_of, this_of}
-use Rattle.ifr_scopes.specs.Views.{node_of}
+use Rattle.ifr_scopes.specs.code.Views.{node_of}
 use Rattle.ifr_scopes.proofs.ConditionAtLemmas.{conditional_some, of_question}
 use Rattle.ifr_scopes.proofs.forms.Forms.condition_at.Goals as goal
 

@@ -1,6 +1,6 @@
 use Rattle.std.proofs.Common.{Option, Some, None, IfNone, IsSome, refl, sym, ap, ◌∙◌}
 use Rattle.ifr_scopes.specs.Nodes.{nodes_of}
-use Rattle.ifr_scopes.specs.Views.{nodes_left}
+use Rattle.ifr_scopes.specs.code.Views.{nodes_left}
 use Rattle.ifr_scopes.proofs.NodeFactLemmas.{first_is_form_set, some_nodes}
 use Rattle.ifr_scopes.proofs.forms.Forms.formset.Goals as goal
 

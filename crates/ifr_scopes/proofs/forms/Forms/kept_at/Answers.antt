@@ -1,8 +1,8 @@
 use Rattle.std.proofs.Common.{◌≡◌, map, ap, subst, ◌∙◌}
 use Rattle.std.specs.Prelude.{option_map}
-use Rattle.ifr_scopes.specs.Checked.{node_in}
-use Rattle.ifr_scopes.specs.Index.{guards_of_indexed}
-use Rattle.ifr_scopes.specs.Kept.{AreKept}
+use Rattle.ifr_scopes.specs.code.Checked.{node_in}
+use Rattle.ifr_scopes.specs.code.Index.{guards_of_indexed}
+use Rattle.ifr_scopes.specs.code.Kept.{AreKept}
 use Rattle.ifr_scopes.specs.Nodes.{nodes_of}
 use Rattle.ifr_scopes.proofs.PathLemmas.{kept_some}
 use Rattle.ifr_scopes.proofs.forms.Forms.kept_at.Goals as goal

@@ -1,6 +1,6 @@
 use Rattle.std.proofs.Common.{ap, sym, ◌∙◌, List, ℕ, Some}
 use Rattle.ifr_opcodes.specs.Forest.{Placed}
-use Rattle.ifr_scopes.specs.Index.{lock_of_indexed}
+use Rattle.ifr_scopes.specs.code.Index.{lock_of_indexed}
 use Rattle.ifr_scopes.specs.Locks.{is_locked}
 use Rattle.ifr_scopes.specs.Nodes.{nodes_of}
 use Rattle.ifr_scopes.proofs.KeptLockLemmas.{lock_some}

@@ -1,5 +1,5 @@
 use Rattle.std.proofs.Common.{◌≡◌, ℕ, List, filter, subst, ◌∙◌}
-use Rattle.ifr_scopes.specs.KeptNoSubmits.{AreKeptNoSubmits}
+use Rattle.ifr_scopes.specs.code.KeptNoSubmits.{AreKeptNoSubmits}
 use Rattle.ifr_scopes.specs.Nodes.{nodes_of, is_no_submit}
 use Rattle.ifr_scopes.proofs.NoSubmitLemmas.{kept_again, keeps}
 use Rattle.ifr_scopes.proofs.forms.Forms.nosubmits.Goals as goal

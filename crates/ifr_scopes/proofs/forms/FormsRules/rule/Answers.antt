@@ -1,11 +1,13 @@
 use Rattle.std.proofs.Common.{◌≡◌, ℕ, Some, List, sym, ap, ◌∙◌, subst, arith}
 use Rattle.std.specs.Prelude.{option_map}
 use Rattle.ifr_opcodes.specs.Forest.{Placed}
-use Rattle.ifr_expr.specs.Expressions.{tree_of}
-use Rattle.ifr_expr.specs.Meaning.{Rule, AreOrdered, named}
+use Rattle.ifr_expr.specs.code.Expressions.{tree_of}
+use Rattle.ifr_expr.specs.Meaning.{Rule}
+use Rattle.ifr_expr.specs.code.Rules.{AreOrdered, named}
 use Rattle.ifr_expr.specs.Trees.{Tree}
 use Rattle.ifr_scopes.specs.Nodes.{nodes_of, end_of}
-use Rattle.ifr_scopes.specs.Rules.{is_rule, as_rule, rule_nodes, rules_of}
+use Rattle.ifr_scopes.specs.Rules.{is_rule, as_rule, rule_nodes}
+use Rattle.ifr_scopes.specs.code.Rules.{rules_of}
 use Rattle.ifr_scopes.proofs.RuleLookupLemmas.{IsFoundRule, found_rule, no_rule_named}
 use Rattle.ifr_scopes.proofs.RuleOrderLemmas.{descend_of}
 use Rattle.ifr_scopes.proofs.RulesOrderedLemmas.{are_ordered}

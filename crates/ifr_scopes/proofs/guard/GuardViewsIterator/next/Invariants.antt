@@ -1,6 +1,6 @@
 use Rattle.std.proofs.Common.{◌≡◌, length}
-use Rattle.ifr_scopes.specs.Lists.{all_guards_left}
-use Rattle.ifr_scopes.specs.Visits.{left}
+use Rattle.ifr_scopes.specs.code.Lists.{all_guards_left}
+use Rattle.ifr_scopes.specs.code.Visits.{left}
 use Rattle.ifr_scopes.proofs.guard.GuardViewsIterator.next.Given as goal
 
 abbrev pub invariant-loop-met : goal.invariant-loop-met

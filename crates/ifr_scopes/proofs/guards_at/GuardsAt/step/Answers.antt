@@ -1,6 +1,6 @@
 use Rattle.std.proofs.Common.{subst}
 use Rattle.std.proofs.lemmas.List.Elements.{All-tail}
-use Rattle.ifr_scopes.specs.Kept.{IsKept, AreKept}
+use Rattle.ifr_scopes.specs.code.Kept.{IsKept, AreKept}
 use Rattle.ifr_scopes.proofs.guards_at.GuardsAt.step.Goals as goal
 
 pub invariant_of-self : goal.invariant_of-self

@@ -1,10 +1,10 @@
 use Rattle.std.proofs.Common.{◌≡◌, length}
 use Rattle.std.specs.Prelude.{filter}
 use Rattle.ifr_scopes.specs.Locks.{locks_scope}
-use Rattle.ifr_scopes.specs.Visits.{left}
+use Rattle.ifr_scopes.specs.code.Visits.{left}
 use Rattle.ifr_scopes.proofs.locks.Locks.step_in.Given as goal
 
--- those that were met are none of the scope
+-- the nodes that were met are none of the scope
 abbrev pub invariant-loop-met : goal.invariant-loop-met
 invariant-loop-met l = record {
   coming : filter (locks_scope l.scope) (left l.self.nodes.walk) ≡ filter (locks_scope l.scope) (left l.fn.self.nodes.walk);

@@ -1,5 +1,5 @@
 use Rattle.std.proofs.Common.{◌≡◌, ◌-◌, length}
-use Rattle.ifr_scopes.specs.LocksLeft.{locks_left}
+use Rattle.ifr_scopes.specs.code.LocksLeft.{locks_left}
 use Rattle.ifr_scopes.proofs.locks.LocksIterator.next.Given as goal
 
 -- no LOCKED was passed over

@@ -1,10 +1,10 @@
 use Rattle.std.proofs.Common.{ℕ, List, sym, ap, ◌∙◌}
 use Rattle.std.proofs.lemmas.List.Elements.{All-rest}
-use Rattle.ifr_scopes.specs.Checked.{node_in}
+use Rattle.ifr_scopes.specs.code.Checked.{node_in}
 use Rattle.ifr_scopes.specs.Guards.{guards}
-use Rattle.ifr_scopes.specs.KeptNoSubmits.{IsKeptNoSubmit}
+use Rattle.ifr_scopes.specs.code.KeptNoSubmits.{IsKeptNoSubmit}
 use Rattle.ifr_scopes.specs.Nodes.{is_no_submit, this_of}
-use Rattle.ifr_scopes.specs.Views.{node_of}
+use Rattle.ifr_scopes.specs.code.Views.{node_of}
 use Rattle.ifr_scopes.proofs.NoSubmitLemmas.{first_kept, is_condition, guards_kept}
 use Rattle.ifr_scopes.proofs.no_submits.NoSubmitsIterator.next.Goals as goal
 

@@ -1,10 +1,10 @@
 use Rattle.std.proofs.Common.{ℕ, ◌+◌, IsOk, slice_range, sym, ap, subst, arith}
 use Rattle.hii_bytes.specs.Faults.{HasNone}
-use Rattle.ifr_expr.specs.Expressions.{tree_of}
+use Rattle.ifr_expr.specs.code.Expressions.{tree_of}
 use Rattle.ifr_expr.specs.Faults.{IsExpressionFault}
-use Rattle.ifr_expr.specs.Reading.{opcodes_of}
+use Rattle.ifr_expr.specs.code.Bytes.{opcodes_of}
 use Rattle.ifr_expr.specs.Trees.{Means}
-use Rattle.ifr_scopes.specs.Views.{node_of}
+use Rattle.ifr_scopes.specs.code.Views.{node_of}
 use Rattle.ifr_scopes.proofs.ConditionLemmas.{Begins, begins_at, is_read, is_its_tree}
 use Rattle.ifr_scopes.proofs.ExpressionLemmas.{StandsFrom}
 use Rattle.ifr_scopes.proofs.node.Node.expression.Goals as goal

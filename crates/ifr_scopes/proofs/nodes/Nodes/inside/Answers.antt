@@ -2,8 +2,9 @@ use Rattle.std.proofs.Common.{◌∷◌, [], ◌++◌, map, sym, ap, ◌∙◌, 
 use Rattle.std.specs.Prelude.{Contains}
 use Rattle.ifr_opcodes.specs.Forest.{as_ancestor, below}
 use Rattle.ifr_opcodes.specs.Reading.{tree_of}
-use Rattle.ifr_scopes.specs.Checked.{IsChecked, AreAt, node_in}
-use Rattle.ifr_scopes.specs.Visits.{left}
+use Rattle.ifr_scopes.specs.Checked.{IsChecked}
+use Rattle.ifr_scopes.specs.code.Checked.{AreAt, node_in}
+use Rattle.ifr_scopes.specs.code.Visits.{left}
 use Rattle.ifr_scopes.proofs.ViewLemmas.{node_there, all_under, are_under, below_within}
 use Rattle.ifr_scopes.proofs.nodes.Nodes.inside.Goals as goal
 

@@ -1,8 +1,9 @@
 use Rattle.std.proofs.Common.{List, map, sym, ap, ◌∙◌, subst}
 use Rattle.ifr_opcodes.specs.Forest.{Placed}
-use Rattle.ifr_scopes.specs.Checked.{IsChecked, AreAt, node_in}
+use Rattle.ifr_scopes.specs.Checked.{IsChecked}
+use Rattle.ifr_scopes.specs.code.Checked.{AreAt, node_in}
 use Rattle.ifr_scopes.specs.Nodes.{nodes_of}
-use Rattle.ifr_scopes.specs.Visits.{left}
+use Rattle.ifr_scopes.specs.code.Visits.{left}
 use Rattle.ifr_scopes.proofs.ViewLemmas.{all_found, are_at}
 use Rattle.ifr_scopes.proofs.nodes.Nodes.over.Goals as goal
 

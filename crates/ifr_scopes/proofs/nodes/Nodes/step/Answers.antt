@@ -1,7 +1,8 @@
 use Rattle.std.proofs.Common.{◌≡◌, ℕ, [], List, Option, Some, None, IfNone, IfSome, sym, subst, arith}
 use Rattle.std.proofs.lemmas.List.Elements.{All-tail}
-use Rattle.ifr_scopes.specs.Checked.{IsChecked, IsAt, AreAt}
-use Rattle.ifr_scopes.specs.Visits.{left, Meets}
+use Rattle.ifr_scopes.specs.Checked.{IsChecked}
+use Rattle.ifr_scopes.specs.code.Checked.{IsAt, AreAt}
+use Rattle.ifr_scopes.specs.code.Visits.{left, Meets}
 use Rattle.ifr_scopes.specs.declared.walk.Visit.{Visit}
 use Rattle.ifr_scopes.specs.declared.walk.Walk.{Walk}
 use Rattle.ifr_scopes.proofs.nodes.Nodes.step.Goals as goal

@@ -1,6 +1,6 @@
 use Rattle.std.proofs.Common.{◌≡◌, true, length}
-use Rattle.ifr_scopes.specs.Parts.{parts_left}
-use Rattle.ifr_scopes.specs.Views.{nodes_left}
+use Rattle.ifr_scopes.specs.code.PartsLeft.{parts_left}
+use Rattle.ifr_scopes.specs.code.Views.{nodes_left}
 use Rattle.ifr_scopes.proofs.nodes_of.NodesOf.step.Given as goal
 
 abbrev pub invariant-loop-node : goal.invariant-loop-node

@@ -1,5 +1,5 @@
 use Rattle.std.proofs.Common.{sym, ◌∙◌}
-use Rattle.ifr_scopes.specs.Views.{node_of}
+use Rattle.ifr_scopes.specs.code.Views.{node_of}
 use Rattle.ifr_scopes.proofs.MetRuleLemmas.{some_form}
 use Rattle.ifr_scopes.proofs.NodeFactLemmas.{is_node}
 use Rattle.ifr_scopes.proofs.references.Met.meet.Goals as goal

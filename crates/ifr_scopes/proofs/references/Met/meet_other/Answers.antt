@@ -1,5 +1,5 @@
 use Rattle.std.proofs.Common.{Ok, ap}
-use Rattle.ifr_scopes.specs.Views.{node_of}
+use Rattle.ifr_scopes.specs.code.Views.{node_of}
 use Rattle.ifr_scopes.proofs.ReferenceLemmas.{kept_on}
 use Rattle.ifr_scopes.proofs.references.Met.meet_other.Goals as goal
 

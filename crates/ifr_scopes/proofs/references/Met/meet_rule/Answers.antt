@@ -1,11 +1,12 @@
 use Rattle.std.proofs.Common.{◌≡◌, List, ◌∷◌, ◌++◌, sym, ap, ◌∙◌, subst}
 use Rattle.ifr_opcodes.specs.Forest.{Placed}
 use Rattle.ifr_expr.specs.Trees.{Tree}
-use Rattle.ifr_scopes.specs.KeptRules.{AreKeptRules}
-use Rattle.ifr_scopes.specs.Met.{AreOf}
+use Rattle.ifr_scopes.specs.code.KeptRules.{AreKeptRules}
+use Rattle.ifr_scopes.specs.code.Met.{AreOf}
 use Rattle.ifr_scopes.specs.Nodes.{nodes_of}
-use Rattle.ifr_scopes.specs.Rules.{rule_sizes, rules_among, size, size_over, as_rule, fitting_size}
-use Rattle.ifr_scopes.specs.Views.{node_of}
+use Rattle.ifr_scopes.specs.Rules.{rule_sizes, rules_among, size, size_over, as_rule}
+use Rattle.ifr_scopes.specs.code.Rules.{fitting_size}
+use Rattle.ifr_scopes.specs.code.Views.{node_of}
 use Rattle.ifr_scopes.proofs.MetRuleLemmas.{form_around, told_large, told_none, its_size, no_form_more, no_question_more}
 use Rattle.ifr_scopes.proofs.NodeFactLemmas.{is_node}
 use Rattle.ifr_scopes.proofs.RuleOrderLemmas.{descend_before}

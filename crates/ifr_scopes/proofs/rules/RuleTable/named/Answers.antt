@@ -1,7 +1,7 @@
 use Rattle.std.proofs.Common.{ltb, sym, ◌∙◌}
 use Rattle.std.specs.BTreeMap.{get}
 use Rattle.std.proofs.lemmas.Bool.{le-ltb, lt-ltb, cond-true, cond-false}
-use Rattle.ifr_scopes.specs.KeptRules.{key_cmp}
+use Rattle.ifr_scopes.specs.code.KeptRules.{key_cmp}
 use Rattle.ifr_scopes.specs.Rules.{rule_nodes}
 use Rattle.ifr_scopes.proofs.NamedLemmas.{named_last, named_nowhere}
 use Rattle.ifr_scopes.proofs.rules.RuleTable.named.Goals as goal

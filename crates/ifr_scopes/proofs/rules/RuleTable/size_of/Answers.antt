@@ -1,6 +1,6 @@
 use Rattle.std.proofs.Common.{◌≡◌, ℕ, ◌+◌, Option, Some, None, sym, ◌∙◌, subst, arith, max}
-use Rattle.ifr_expr.specs.Expressions.{tree_of}
-use Rattle.ifr_expr.specs.ReferencesLeft.{references_left}
+use Rattle.ifr_expr.specs.code.Expressions.{tree_of}
+use Rattle.ifr_expr.specs.code.ReferencesLeft.{references_left}
 use Rattle.ifr_scopes.specs.declared.rules.KeptRule.{KeptRule}
 use Rattle.ifr_scopes.proofs.SizeLemmas.{Measures, measured, greater}
 use Rattle.ifr_scopes.proofs.rules.RuleTable.size_of.Goals as goal

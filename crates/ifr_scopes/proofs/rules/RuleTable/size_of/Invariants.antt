@@ -1,6 +1,6 @@
 use Rattle.std.proofs.Common.{length}
-use Rattle.ifr_expr.specs.Expressions.{tree_of}
-use Rattle.ifr_expr.specs.ReferencesLeft.{references_left}
+use Rattle.ifr_expr.specs.code.Expressions.{tree_of}
+use Rattle.ifr_expr.specs.code.ReferencesLeft.{references_left}
 use Rattle.ifr_scopes.proofs.SizeLemmas.{Measures}
 use Rattle.ifr_scopes.proofs.rules.RuleTable.size_of.Given as goal
 

@@ -1,7 +1,7 @@
 use Rattle.std.proofs.Common.{◌≡◌, rules, ℕ, List, [], ◌∷◌, ◌++◌, map, take, refl, sym, ap, ◌∙◌}
 use Rattle.ifr_opcodes.specs.Forest.{Ancestor}
-use Rattle.ifr_opcodes.specs.Reading.{ancestor_at}
-use Rattle.ifr_scopes.specs.Views.{node_of}
+use Rattle.ifr_opcodes.specs.code.Marks.{ancestor_at}
+use Rattle.ifr_scopes.specs.code.Views.{node_of}
 use Rattle.ifr_scopes.proofs.scoped_nodes.ScopedNodes.chain.Goals as goal
 
 places_again : (bytes places : List ℕ) → map (λ (a : Ancestor). a.place) (map (ancestor_at bytes) places) ≡ places

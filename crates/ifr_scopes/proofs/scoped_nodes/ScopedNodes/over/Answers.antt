@@ -1,6 +1,7 @@
 use Rattle.std.proofs.Common.{sym, subst}
-use Rattle.ifr_scopes.specs.Checked.{IsChecked, AreNodesOf}
-use Rattle.ifr_scopes.specs.Visits.{left}
+use Rattle.ifr_scopes.specs.Checked.{IsChecked}
+use Rattle.ifr_scopes.specs.code.Checked.{AreNodesOf}
+use Rattle.ifr_scopes.specs.code.Visits.{left}
 use Rattle.ifr_scopes.proofs.ScopeLemmas.{all_nodes}
 use Rattle.ifr_scopes.proofs.scoped_nodes.ScopedNodes.over.Goals as goal
 

@@ -1,9 +1,10 @@
 use Rattle.std.proofs.Common.{◌≡◌, ℕ, [], ◌∷◌, List, Option, Some, None, IfNone, IfSome, sym, ap, ◌∙◌, subst, arith}
 use Rattle.std.proofs.lemmas.List.Elements.{All-tail}
 use Rattle.ifr_opcodes.specs.Forest.{Placed}
-use Rattle.ifr_opcodes.specs.Ops.{bytes_of}
-use Rattle.ifr_scopes.specs.Checked.{IsChecked, IsAt, IsNodeOf, AreNodesOf, node_in}
-use Rattle.ifr_scopes.specs.Visits.{left, Meets}
+use Rattle.ifr_opcodes.specs.code.Ops.{bytes_of}
+use Rattle.ifr_scopes.specs.Checked.{IsChecked}
+use Rattle.ifr_scopes.specs.code.Checked.{IsAt, IsNodeOf, AreNodesOf, node_in}
+use Rattle.ifr_scopes.specs.code.Visits.{left, Meets}
 use Rattle.ifr_scopes.specs.declared.walk.Visit.{Visit}
 use Rattle.ifr_scopes.specs.declared.walk.Walk.{Walk}
 use Rattle.ifr_scopes.proofs.ScopeLemmas.{is_met}

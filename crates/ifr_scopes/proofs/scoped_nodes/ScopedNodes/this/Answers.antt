@@ -1,6 +1,6 @@
 use Rattle.std.proofs.Common.{sym, ◌∙◌, ap, subst, map, take}
-use Rattle.ifr_opcodes.specs.Reading.{ancestor_at}
-use Rattle.ifr_scopes.specs.Scopes.{AreScopes}
+use Rattle.ifr_opcodes.specs.code.Marks.{ancestor_at}
+use Rattle.ifr_scopes.specs.code.Scopes.{AreScopes}
 use Rattle.ifr_scopes.proofs.ScopeLemmas.{around_node}
 use Rattle.ifr_scopes.proofs.scoped_nodes.ScopedNodes.this.Goals as goal
 

@@ -2,7 +2,7 @@ use Rattle.std.proofs.Common.{sym, ◌∙◌}
 use Rattle.std.proofs.lemmas.List.{take_rest}
 use Rattle.std.proofs.lemmas.Bool.{cond-true, cond-false, eq-eqb, ne_eqb}
 use Rattle.ifr_opcodes.specs.declared.codes.TheConstants.{END}
-use Rattle.ifr_opcodes.specs.Ops.{bytes_of}
+use Rattle.ifr_opcodes.specs.code.Ops.{bytes_of}
 use Rattle.ifr_opcodes.proofs.OpcodeLemmas.{has_scope_spelled}
 use Rattle.ifr_scopes.proofs.FirstLemmas.{first_inside, first_missing}
 use Rattle.ifr_scopes.proofs.walk.Walk.first_child.Goals as goal

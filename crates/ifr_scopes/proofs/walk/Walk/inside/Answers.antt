@@ -1,7 +1,8 @@
 use Rattle.std.proofs.Common.{◌∷◌, ◌++◌, [], map, ap, sym, ◌∙◌}
-use Rattle.ifr_opcodes.specs.Forest.{mark, as_ancestor}
-use Rattle.ifr_scopes.specs.Visits.{under}
-use Rattle.ifr_scopes.specs.Walking.{nodes_left}
+use Rattle.ifr_opcodes.specs.code.Marks.{mark}
+use Rattle.ifr_opcodes.specs.Forest.{as_ancestor}
+use Rattle.ifr_scopes.specs.code.Visits.{under}
+use Rattle.ifr_scopes.specs.code.Walking.{nodes_left}
 use Rattle.ifr_scopes.proofs.NodeLemmas.{marks_under}
 use Rattle.ifr_scopes.proofs.WalkLemmas.{at_inside, whole_there, some_node, few_left}
 use Rattle.ifr_scopes.proofs.walk.Walk.inside.Goals as goal

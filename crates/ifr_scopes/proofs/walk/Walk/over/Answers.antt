@@ -1,5 +1,5 @@
 use Rattle.std.proofs.Common.{ap, ◌∙◌}
-use Rattle.ifr_scopes.specs.Walking.{nodes_left}
+use Rattle.ifr_scopes.specs.code.Walking.{nodes_left}
 use Rattle.ifr_scopes.proofs.WalkLemmas.{at_first, few_left}
 use Rattle.ifr_scopes.proofs.walk.Walk.over.Goals as goal
 

@@ -1,9 +1,9 @@
 use Rattle.std.proofs.Common.{◌+◌, ◌∷◌, ◌++◌, [], refl, ap, sym, subst, ◌∙◌, map, take, arith}
 use Rattle.std.proofs.lemmas.List.{take_rest, append-nil}
 use Rattle.std.proofs.lemmas.Bool.{eqb-true, eqb-false}
-use Rattle.ifr_opcodes.specs.Ops.{bytes_of}
-use Rattle.ifr_opcodes.specs.Reading.{ancestor_at}
-use Rattle.ifr_scopes.specs.Walking.{nodes_left, IsWalking}
+use Rattle.ifr_opcodes.specs.code.Ops.{bytes_of}
+use Rattle.ifr_opcodes.specs.code.Marks.{ancestor_at}
+use Rattle.ifr_scopes.specs.code.Walking.{nodes_left, IsWalking}
 use Rattle.ifr_opcodes.proofs.OpcodeLemmas.{has_scope_spelled}
 use Rattle.ifr_scopes.proofs.WalkLemmas.{past_end, at_out, at_scoped, at_plain, at_last, node_here, path_kept}
 use Rattle.ifr_scopes.proofs.walk.Walk.step.Goals as goal

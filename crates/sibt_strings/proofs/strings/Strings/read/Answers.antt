@@ -3,7 +3,7 @@ use Rattle.std.proofs.lemmas.Grind.{common_steps}
 use Rattle.std.proofs.lemmas.List.{take_rest}
 use Rattle.sibt_strings.specs.Blocks.{AreBlocks}
 use Rattle.sibt_strings.specs.Strings.{HasFixedPart, info_offset, language_of, language_in}
-use Rattle.sibt_strings.specs.Views.{blocks_in}
+use Rattle.sibt_strings.specs.code.Views.{blocks_in}
 use Rattle.sibt_strings.proofs.BlockLemmas.{held_are}
 use Rattle.sibt_strings.proofs.FaultLemmas.{least_block, least_language, no_block_fault, none_mapped, some_mapped, bad_at, later_than, block_fault_of}
 use Rattle.sibt_strings.proofs.strings.Strings.read.Goals as goal

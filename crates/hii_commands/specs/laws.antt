@@ -1,0 +1,4 @@
+-- What the laws of the crate say, and the words that they alone need.
+pub mod Asking
+pub mod Limits
+pub mod Lines

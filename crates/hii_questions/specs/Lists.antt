@@ -1,8 +1,0 @@
--- What the iterator over questions has before it.
-use Rattle.std.specs.Prelude.{List, map}
-use Rattle.hii_questions.specs.Fields.{Asked}
-use Rattle.hii_questions.specs.Views.{question_view}
-use Rattle.hii_questions.specs.declared.questions.AllQuestions.{AllQuestions}
-
-abbrev pub questions_left : AllQuestions → List Asked
-questions_left it = map question_view it.questions.now

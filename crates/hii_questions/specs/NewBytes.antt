@@ -1,9 +1,0 @@
--- The new bytes of a `Field` of the code.
-use Rattle.std.specs.Prelude.{ℕ, List}
-use Rattle.hii_questions.specs.Contents.{content_bytes}
-use Rattle.hii_questions.specs.Items.{filled}
-use Rattle.hii_questions.specs.declared.field.Field.{Field}
-
--- as many bytes as the field has
-abbrev pub new_bytes : Field → List ℕ
-new_bytes field = filled field.width (content_bytes field.content)

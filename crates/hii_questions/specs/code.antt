@@ -1,0 +1,19 @@
+-- How structs, iterators and tables of the code are seen. No module outside of this folder and of laws cites one of it.
+pub mod Causes
+pub mod Checks
+pub mod ChoiceViews
+pub mod Contents
+pub mod FaultTells
+pub mod Fitting
+pub mod ItemsLeft
+pub mod Lists
+pub mod NewBytes
+pub mod Offers
+pub mod Over
+pub mod Ranges
+pub mod StoredLeft
+pub mod Survey
+pub mod Tables
+pub mod TypeViews
+pub mod Views
+pub mod Widths

@@ -1,0 +1,22 @@
+-- What the check of a value tells.
+use Rattle.std.specs.Prelude.{◌≡◌, Some, Result, Ok, Err}
+use Rattle.hii_questions.specs.Fields as fields
+use Rattle.hii_questions.specs.Fields.{Asked}
+use Rattle.hii_questions.specs.Fits.{fits_field}
+use Rattle.hii_questions.specs.Inputs.{Offer}
+use Rattle.hii_questions.specs.code.NewBytes.{new_bytes}
+use Rattle.hii_questions.specs.Types.{type_of}
+use Rattle.hii_questions.specs.declared.denial.ValueDenial.{ValueDenial}
+use Rattle.hii_questions.specs.declared.field.Field.{Field}
+
+-- the bytes of a store that are to be new
+abbrev pub range_of : Field → fields.Field
+range_of new = record { store = new.store; offset = new.offset; width = new.width }
+
+-- New bytes for the question's field where they are those of the value, or at the question's place why there are none.
+abbrev pub Checks : Asked → Offer → Result Field ValueDenial → Type 0
+Checks q offer (Ok new) =
+    (fits_field (type_of q.node) q.field offer ≡ Ok (new_bytes new))
+    × (q.field ≡ Some (range_of new))
+Checks q offer (Err denial) =
+    (fits_field (type_of q.node) q.field offer ≡ Err denial.kind) × (denial.place ≡ q.node.place)

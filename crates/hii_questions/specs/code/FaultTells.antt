@@ -1,0 +1,21 @@
+-- What the checks of questions tell.
+use Rattle.std.specs.Prelude.{◌≡◌, ℕ, Bool, Option, Some, None, Result, Ok, Err, List}
+use Rattle.hii_bytes.specs.code.FirstFaults.{first_fault}
+use Rattle.hii_bytes.specs.declared.cause.Fault.{Fault}
+use Rattle.ifr_opcodes.specs.Forest.{Placed}
+use Rattle.hii_varstore.specs.Layout.{Shape}
+use Rattle.hii_questions.specs.Faults.{QuestionPart, place_of, has_question_fault, has_option_fault}
+use Rattle.hii_questions.specs.code.Causes.{question_causes}
+
+-- the first fault, if there is one
+abbrev pub TellsFault : Option Fault → Result (Unit {0}) Fault → Type 0
+TellsFault fault (Ok done) = fault ≡ None
+TellsFault fault (Err told) = fault ≡ Some told
+
+abbrev pub first_part_fault : Shape → (ℕ → Bool) → List QuestionPart → Option Fault
+first_part_fault shape known ps =
+    first_fault place_of (has_question_fault shape known) question_causes ps
+
+abbrev pub first_option_fault : Placed → List Placed → Option Fault
+first_option_fault q os =
+    first_fault (λ (o : Placed). o.place) (has_option_fault q) question_causes os

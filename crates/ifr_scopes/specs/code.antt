@@ -1,0 +1,25 @@
+-- How structs, iterators and tables of the code are seen. No module outside of this folder and of laws cites one of it.
+pub mod AnyConditions
+pub mod Around
+pub mod Causes
+pub mod Checked
+pub mod DependenceLeft
+pub mod Frames
+pub mod Index
+pub mod Kept
+pub mod KeptNoSubmits
+pub mod KeptRules
+pub mod Lists
+pub mod LockIndex
+pub mod LocksLeft
+pub mod Met
+pub mod NoSubmitsLeft
+pub mod Parts
+pub mod PartsLeft
+pub mod ReadForms
+pub mod RuleNodes
+pub mod Rules
+pub mod Scopes
+pub mod Views
+pub mod Visits
+pub mod Walking

@@ -1,0 +1,34 @@
+-- Guards as they are kept: each as its place and the question in whose scope it stands.
+use Rattle.std.specs.Prelude.{◌≡◌, ℕ, true, All, Option, Some, List, map}
+use Rattle.std.proofs.Props.{props}
+use Rattle.ifr_opcodes.specs.Forest.{Placed}
+use Rattle.ifr_scopes.specs.code.Checked.{node_in, has_guard}
+use Rattle.ifr_scopes.specs.Guards.{guards}
+use Rattle.ifr_scopes.specs.code.Index.{entry_at}
+use Rattle.ifr_scopes.specs.Nodes.{this_of}
+use Rattle.ifr_scopes.specs.declared.guard_place.GuardPlace.{GuardPlace}
+
+abbrev pub kept_guard : Placed → GuardPlace
+kept_guard guard = record { place = guard.place; this = this_of guard }
+
+-- the guards of a node, the outermost first
+abbrev pub kept_guards : Placed → List GuardPlace
+kept_guards n = map kept_guard (guards n)
+
+-- the guards of the form, statement or option at a place
+abbrev pub kept_at : List Placed → ℕ → Option (List GuardPlace)
+kept_at ns place = entry_at (λ n. Some (kept_guards n)) ns place
+
+-- A guard stands at the place in the package, and in the scope of this question.
+pub record IsKept (bytes : List ℕ) (guard : GuardPlace) : Type 0 where
+  pub stands : has_guard bytes guard.place ≡ true
+  pub within : guard.this ≡ this_of (node_in bytes guard.place)
+
+pub IsKept-prop : (bytes : List ℕ) (guard : GuardPlace) → IsProp (IsKept bytes guard)
+IsKept-prop bytes guard = hlevel props
+
+abbrev pub AreKept : List ℕ → List GuardPlace → Type 0
+AreKept bytes guards = All (λ guard. IsKept bytes guard) guards
+
+pub AreKept-prop : (bytes : List ℕ) (guards : List GuardPlace) → IsProp (AreKept bytes guards)
+AreKept-prop bytes guards = hlevel (props, IsKept-prop)

@@ -1,0 +1,90 @@
+-- What the iterators over a package have before them.
+use Rattle.std.specs.Prelude.{ℕ, List, drop, filter, map}
+use Rattle.ifr_opcodes.specs.Forest.{Placed}
+use Rattle.ifr_opcodes.specs.declared.op.Op.{Op}
+use Rattle.ifr_scopes.specs.code.Checked.{node_in}
+use Rattle.ifr_opcodes.specs.Opcode.{number}
+use Rattle.ifr_scopes.specs.Guards.{is_guard}
+use Rattle.ifr_scopes.specs.Nodes.{is_form, is_store, is_statement}
+use Rattle.ifr_scopes.specs.code.Views.{node_of, nodes_left}
+use Rattle.ifr_scopes.specs.code.Visits.{left}
+use Rattle.ifr_scopes.specs.declared.guard.Guard.{Guard}
+use Rattle.ifr_scopes.specs.declared.guard.GuardViews.{GuardViews}
+use Rattle.ifr_scopes.specs.declared.form_set.FormSet.{FormSet}
+use Rattle.ifr_scopes.specs.declared.varstore.Varstore.{Varstore}
+use Rattle.ifr_scopes.specs.declared.varstore.Varstores.{Varstores}
+use Rattle.ifr_scopes.specs.declared.guards_at.GuardsAt.{GuardsAt}
+use Rattle.ifr_scopes.specs.declared.guards_of.GuardsOf.{GuardsOf}
+use Rattle.ifr_scopes.specs.declared.form.Form.{Form}
+use Rattle.ifr_scopes.specs.declared.form.FormViews.{FormViews}
+use Rattle.ifr_scopes.specs.declared.varstore.StoreOp.{StoreOp}
+use Rattle.ifr_scopes.specs.declared.varstore.StoreOp.TheVariants as store
+use Rattle.ifr_scopes.specs.declared.statement.Statement.{Statement}
+use Rattle.ifr_scopes.specs.declared.statement.StatementKind.{StatementKind}
+use Rattle.ifr_scopes.specs.declared.statement.StatementKind.TheVariants as kind
+use Rattle.ifr_scopes.specs.declared.statement.Statements.{Statements}
+
+-- a guard, a form and a statement as nodes
+abbrev pub guard_node : Guard → Placed
+guard_node guard = node_of guard.node
+
+abbrev pub form_node : Form → Placed
+form_node form = node_of form.node
+
+abbrev pub statement_node : Statement → Placed
+statement_node statement = node_of statement.node
+
+-- the bytes of the package of a guard, of a form and of a statement
+abbrev pub guard_package : Guard → List ℕ
+guard_package guard = guard.node.ifr.now
+
+abbrev pub form_package : Form → List ℕ
+form_package form = form.node.ifr.now
+
+abbrev pub statement_package : Statement → List ℕ
+statement_package statement = statement.node.ifr.now
+
+abbrev pub guards_left : GuardsAt → List Placed
+guards_left it = map (λ guard. node_in it.ifr.now guard.place) it.kept.now
+
+abbrev pub guards_of_left : GuardsOf → List Placed
+guards_of_left it = map (λ guard. node_in it.ifr.now guard.place) (drop it.next it.kept.items)
+
+abbrev pub forms_left : FormViews → List Placed
+forms_left it = filter is_form (nodes_left it.nodes)
+
+abbrev pub statements_left : Statements → List Placed
+statements_left it = filter is_statement (nodes_left it.nodes)
+
+abbrev pub form_set_node : FormSet → Placed
+form_set_node form_set = node_of form_set.node
+
+abbrev pub store_node : Varstore → Placed
+store_node store = node_of store.node
+
+-- the opcode of a store, and of a statement
+abbrev pub store_op : StoreOp → Op
+store_op (store.Varstore view) = view.op
+store_op (store.VarstoreEfi view) = view.op
+store_op (store.NameValue view) = view.op
+
+abbrev pub kind_op : StatementKind → Op
+kind_op (kind.Subtitle view) = view.op
+kind_op (kind.Text view) = view.op
+kind_op (kind.ResetButton view) = view.op
+kind_op (kind.Checkbox view) = view.op
+kind_op (kind.Numeric view) = view.op
+kind_op (kind.OneOf view) = view.op
+kind_op (kind.String view) = view.op
+kind_op (kind.Password view) = view.op
+kind_op (kind.OrderedList view) = view.op
+kind_op (kind.Date view) = view.op
+kind_op (kind.Time view) = view.op
+kind_op (kind.Action view) = view.op
+kind_op (kind.Ref view) = view.op
+
+abbrev pub stores_left : Varstores → List Placed
+stores_left it = filter is_store (nodes_left it.nodes)
+
+abbrev pub all_guards_left : GuardViews → List Placed
+all_guards_left it = filter (λ n. is_guard (number n.op)) (left it.nodes.walk)

@@ -1,0 +1,13 @@
+-- What the iterator over the NO_SUBMIT_IFs of all questions has before it.
+use Rattle.std.specs.Prelude.{List, map}
+use Rattle.ifr_opcodes.specs.Forest.{Placed}
+use Rattle.ifr_scopes.specs.code.Checked.{node_in}
+use Rattle.ifr_scopes.specs.code.Parts.{condition_node}
+use Rattle.ifr_scopes.specs.declared.no_submits.NoSubmit.{NoSubmit}
+use Rattle.ifr_scopes.specs.declared.no_submits.NoSubmits.{NoSubmits}
+
+abbrev pub no_submit_node : NoSubmit → Placed
+no_submit_node no_submit = condition_node no_submit.condition
+
+abbrev pub no_submits_left : NoSubmits → List Placed
+no_submits_left it = map (λ kept. node_in it.forms.now kept.place) it.kept.now

@@ -1,0 +1,41 @@
+-- What the iterators over a question's scope have before them.
+use Rattle.std.specs.Prelude.{ℕ, List}
+use Rattle.ifr_opcodes.specs.declared.op.Op.{Op}
+use Rattle.ifr_opcodes.specs.Forest.{Placed}
+use Rattle.ifr_scopes.specs.code.Views.{node_of}
+use Rattle.ifr_scopes.specs.declared.condition_view.ConditionOp.{ConditionOp}
+use Rattle.ifr_scopes.specs.declared.condition_view.ConditionOp.TheVariants as condition
+use Rattle.ifr_scopes.specs.declared.condition_view.ConditionView.{ConditionView}
+use Rattle.ifr_scopes.specs.declared.condition_view.ConditionViews.{ConditionViews}
+pub use Rattle.ifr_scopes.specs.code.PartsLeft.{parts_left}
+use Rattle.ifr_scopes.specs.declared.option_view.OptionView.{OptionView}
+use Rattle.ifr_scopes.specs.declared.option_view.Options.{Options}
+use Rattle.ifr_scopes.specs.declared.default_view.DefaultView.{DefaultView}
+use Rattle.ifr_scopes.specs.declared.default_view.Defaults.{Defaults}
+
+abbrev pub option_node : OptionView → Placed
+option_node option = node_of option.node
+
+abbrev pub option_package : OptionView → List ℕ
+option_package option = option.node.ifr.now
+
+abbrev pub options_left : Options → List Placed
+options_left it = parts_left it.nodes
+
+abbrev pub default_node : DefaultView → Placed
+default_node default = node_of default.node
+
+abbrev pub defaults_left : Defaults → List Placed
+defaults_left it = parts_left it.nodes
+
+-- the opcode of a condition
+abbrev pub condition_op : ConditionOp → Op
+condition_op (condition.InconsistentIf view) = view.op
+condition_op (condition.NoSubmitIf view) = view.op
+condition_op (condition.WarningIf view) = view.op
+
+abbrev pub condition_node : ConditionView → Placed
+condition_node condition = node_of condition.node
+
+abbrev pub conditions_left : ConditionViews → List Placed
+conditions_left it = parts_left it.nodes
