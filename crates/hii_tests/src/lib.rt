@@ -6,6 +6,8 @@ mod commands;
 #[cfg(test)]
 mod languages;
 #[cfg(test)]
+mod lists;
+#[cfg(test)]
 mod numbers;
 #[cfg(test)]
 mod packages;

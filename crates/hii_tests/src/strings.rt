@@ -1,3 +1,4 @@
+use crate::lists::{add_strings, list_of};
 use hii_bytes::{Cause, Fault};
 use hii_packages::{Package, PackageList};
 use sibt_strings::{StringTable, Strings, Units, laws};
@@ -5,26 +6,10 @@ use std::alloc::{AllocError, Global};
 use std::process::Abort;
 use std::test::Fail;
 
-// A list of one string package.
-fn list_of(alloc: Global, package: &[u8]) -> Result<Vec<u8>, AllocError> {
-    let length = u32::try_from(package.len()).unwrap_or(0).wrapping_add(24);
-    let mut list = Vec::new(alloc);
-    list.extend_from_slice(&[0x11; 16])?;
-    list.extend_from_slice(&length.to_le_bytes())?;
-    list.extend_from_slice(package)?;
-    list.extend_from_slice(&[4, 0, 0, 0xdf])?;
-    Ok(list)
-}
-
 // A list of one string package of these blocks, in the language en-US.
 fn list_of_blocks(alloc: Global, blocks: &[u8]) -> Result<Vec<u8>, AllocError> {
-    let length = u16::try_from(blocks.len()).unwrap_or(0).wrapping_add(52);
     let mut package = Vec::new(alloc);
-    package.extend_from_slice(&length.to_le_bytes())?;
-    package.extend_from_slice(&[0, 4, 46, 0, 0, 0, 52, 0, 0, 0])?;
-    package.extend_from_slice(&[0; 34])?;
-    package.extend_from_slice(b"en-US\0")?;
-    package.extend_from_slice(blocks)?;
+    add_strings(&mut package, b"en-US", blocks)?;
     list_of(alloc, package.as_slice())
 }
 

@@ -1,6 +1,6 @@
 ghost use Rattle.std.specs.Prelude.{◌≤◌, ◌==◌, if◌then◌else◌, length};
 
-use crate::scopes::{condition, forms_of, guarded};
+use crate::packages::{condition, forms_of, guarded};
 use hii_bytes::Cause;
 use ifr_expr::{Answers, Name, Names, RuleReference, Value};
 use std::alloc::Global;
@@ -15,7 +15,7 @@ struct Known<'v> {
 
 impl<'v> Answers<'v> for Known<'v> {
     ghost use Rattle.ifr_expr.specs.Values as spec;
-    ghost use Rattle.ifr_expr.specs.Views.{value_of};
+    ghost use Rattle.ifr_expr.specs.code.Views.{value_of};
 
     ghost answers = { λ known id. if id == 1 then value_of known.first else (if id == 2 then value_of known.second else spec.undefined) };
 

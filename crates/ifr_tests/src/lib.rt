@@ -6,6 +6,8 @@ mod conditions;
 #[cfg(test)]
 mod opcodes;
 #[cfg(test)]
+mod packages;
+#[cfg(test)]
 mod questions;
 #[cfg(test)]
 mod scopes;

@@ -1,3 +1,4 @@
+use crate::packages::FRONT;
 use hii_bytes::{Cause, Fault};
 use ifr_opcodes::laws::{
     kinds_of_values_have_the_numbers_of_the_standard, opcodes_have_the_numbers_of_the_standard,
@@ -5,15 +6,12 @@ use ifr_opcodes::laws::{
 use ifr_opcodes::*;
 use std::test::*;
 
-static PACKAGE: [u8; 83] = [
-    83, 0, 0, 2, // the package's header
-    0x0e, 0x97, 1, 2, 3, 4, 5, 6, 7, 8, 9, 10, 11, 12, 13, 14, 15, 16, 0x21, 0x43, 5, 0, 1, // FORM_SET, at 4
-    0x24, 26, 1, 2, 3, 4, 5, 6, 7, 8, 9, 10, 11, 12, 13, 14, 15, 16, 1, 0, 16, 0, 65, 98, 0, 9, // VARSTORE, at 27
-    0x01, 0x86, 7, 0, 8, 0, // FORM, at 53
-    0x12, 6, 11, 0, 0x34, 0x12, // EQ_ID_VAL, at 59
-    0x06, 14, 2, 0, 3, 0, 11, 0, 1, 0, 4, 0, 1, 2, // CHECKBOX, at 65
-    0x29, 2, // END, at 79
-    0x29, 3, // no opcode, at 81
+static OPCODES: [u8; 50] = [
+    0x24, 26, 1, 2, 3, 4, 5, 6, 7, 8, 9, 10, 11, 12, 13, 14, 15, 16, 1, 0, 16, 0, 65, 98, 0, 9, // VARSTORE, at 0
+    0x12, 6, 11, 0, 0x34, 0x12, // EQ_ID_VAL, at 26
+    0x06, 14, 2, 0, 3, 0, 11, 0, 1, 0, 4, 0, 1, 2, // CHECKBOX, at 32
+    0x29, 2, // END, at 46
+    0x29, 3, // no opcode, at 48
 ];
 
 // The operator that these bytes are, at place 0.
@@ -24,21 +22,21 @@ fn operator(bytes: &[u8]) -> Option<ExprOp<'_>> {
 
 #[test]
 fn form_set_and_form(rt: HostRuntime) -> Result<(), Fail> {
-    let op = op_at(&PACKAGE, 4)?;
+    let op = op_at(&FRONT, 4)?;
     assert_eq!(rt; (op.place, op.code), (4, FORM_SET));
     assert_eq!(rt; (op.scope, op.len()), (true, 23));
     let view = FormSetOp::read(op)?;
-    assert_eq!(rt; view.guid().bytes(), &PACKAGE[6..22]);
+    assert_eq!(rt; view.guid().bytes(), &FRONT[6..22]);
     assert_eq!(rt; (view.title(), view.help(), view.flags()), (0x4321, 5, 1));
-    let form = FormOp::read(op_at(&PACKAGE, 53)?)?;
+    let form = FormOp::read(op_at(&FRONT, 27)?)?;
     assert_eq!(rt; (form.id(), form.title()), (7, 8));
     Ok(())
 }
 
 #[test]
 fn values_of_questions(rt: HostRuntime) {
-    let (op, others) = split_opcode(&PACKAGE[59..], 59).expect(&rt, "an opcode");
-    assert_eq!(rt; (op.place, others.len()), (59, 18));
+    let (op, others) = split_opcode(&OPCODES[26..], 26).expect(&rt, "an opcode");
+    assert_eq!(rt; (op.place, others.len()), (26, 18));
     let Ok(ExprOp::Leaf(LeafOp::EqIdVal(view))) = ExprOp::read(op) else {
         panic!(rt; "no EQ_ID_VAL");
     };
@@ -99,10 +97,10 @@ fn numbers_of_opcodes(rt: HostRuntime) {
 
 #[test]
 fn checkbox(rt: HostRuntime) -> Result<(), Fail> {
-    let checkbox = CheckboxOp::read(op_at(&PACKAGE, 65)?)?;
+    let checkbox = CheckboxOp::read(op_at(&OPCODES, 32)?)?;
     assert_eq!(rt; (checkbox.flags(), checkbox.is_default()), (2, false));
     assert!(rt; checkbox.is_manufacturing_default());
-    let question = QuestionOp::read(op_at(&PACKAGE, 65)?)?;
+    let question = QuestionOp::read(op_at(&OPCODES, 32)?)?;
     assert_eq!(rt; (question.id(), question.store()), (11, 1));
     assert_eq!(rt; (question.offset(), question.flags()), (4, 1));
     assert!(rt; question.is_read_only());
@@ -117,14 +115,14 @@ fn fault(cause: Cause, place: u64) -> Option<Fault> {
 
 #[test]
 fn refusals(rt: HostRuntime) -> Result<(), Fail> {
-    for place in [81, 83, 200] {
-        let refused = op_at(&PACKAGE, place).err();
+    for place in [48, 50, 200] {
+        let refused = op_at(&OPCODES, place).err();
         assert_eq!(rt; refused, fault(Cause::OpLength, place as u64));
     }
-    let end = op_at(&PACKAGE, 79)?;
-    assert_eq!(rt; FormOp::read(end).err(), fault(Cause::OpOutside, 79));
-    assert_eq!(rt; ExprOp::read(end).err(), fault(Cause::OpOutside, 79));
-    assert_eq!(rt; StatementOp::read(end).err(), fault(Cause::OpOutside, 79));
+    let end = op_at(&OPCODES, 46)?;
+    assert_eq!(rt; FormOp::read(end).err(), fault(Cause::OpOutside, 46));
+    assert_eq!(rt; ExprOp::read(end).err(), fault(Cause::OpOutside, 46));
+    assert_eq!(rt; StatementOp::read(end).err(), fault(Cause::OpOutside, 46));
     assert!(rt; is_outside(end));
     let subtitle = op_at(&[0x02, 6, 1, 0, 2, 0], 0)?;
     assert_eq!(rt; StatementOp::read(subtitle).err(), fault(Cause::OpSize, 0));
@@ -299,8 +297,8 @@ static STORES: [u8; 49] = [
 
 #[test]
 fn stores(rt: HostRuntime) -> Result<(), Fail> {
-    let buffer = VarstoreOp::read(op_at(&PACKAGE, 27)?)?;
-    assert_eq!(rt; buffer.guid().bytes(), &PACKAGE[29..45]);
+    let buffer = VarstoreOp::read(op_at(&OPCODES, 0)?)?;
+    assert_eq!(rt; buffer.guid().bytes(), &OPCODES[2..18]);
     assert_eq!(rt; (buffer.id(), buffer.size()), (1, 16));
     assert_eq!(rt; buffer.name(), b"Ab".as_slice());
     let efi = VarstoreEfiOp::read(op_at(&STORES, 0)?)?;

@@ -1,6 +1,7 @@
 ghost use Rattle.std.specs.Prelude.{◌≡◌, ◌≤◌, length};
 
-use crate::scopes::{Nobody, forms_of, opaque, refusal, with};
+use crate::packages::{forms_of, in_front, refusal, with};
+use crate::scopes::Nobody;
 use hii_bytes::Cause;
 use ifr_expr::Value;
 use ifr_scopes::{AnyCondition, StatementKind};
@@ -204,20 +205,17 @@ fn conditions_at_places(rt: HostRuntime) -> Result<(), Fail> {
     Ok(())
 }
 
-// A form set with stores of all kinds.
-const STORES: [u8; 108] = [
-    108, 0, 0, 2, // the package's header
-    0x0e, 0x97, 1, 2, 3, 4, 5, 6, 7, 8, 9, 10, 11, 12, 13, 14, 15, 16, 0x21, 0x43, 5, 0, 1, // FORM_SET, at 4
+// Stores of all kinds.
+const STORES: [u8; 71] = [
     0x24, 24, 1, 2, 3, 4, 5, 6, 7, 8, 9, 10, 11, 12, 13, 14, 15, 16, 1, 0, 2, 0, b'A', 0, // at 27
     0x26, 27, 2, 0, 1, 2, 3, 4, 5, 6, 7, 8, 9, 10, 11, 12, 13, 14, 15, 16, 0, 0, 0, 0, 9, 0, 0, // at 51
     0x25, 20, 3, 0, 1, 2, 3, 4, 5, 6, 7, 8, 9, 10, 11, 12, 13, 14, 15, 16, // at 78
-    0x01, 0x86, 7, 0, 8, 0, // a form, at 98
-    0x29, 2, 0x29, 2, // at 104, 106
 ];
 
 #[test]
 fn stores_of_all_kinds(rt: HostRuntime) -> Result<(), Fail> {
-    let forms = forms_of(rt.alloc(), opaque(&STORES))?;
+    let (bytes, len) = in_front(&STORES);
+    let forms = forms_of(rt.alloc(), &bytes[..len])?;
     let mut stores = forms.stores();
     for (place, id, size) in [(27, 1, Some(2)), (51, 2, Some(9)), (78, 3, None)] {
         let store = stores.next().expect(&rt, "a store");

@@ -1,68 +1,12 @@
-ghost use Rattle.std.specs.Prelude.{◌≡◌, ◌≤◌, ◌<◌, ◌^◌, ◌+◌, length};
-
-use hii_bytes::{Cause, Fault};
-use hii_packages::{FORMS, Package};
+use crate::packages::{condition, forms_of, guarded, refusal, with};
+use hii_bytes::Cause;
 use ifr_expr::{Answers, Value};
-use ifr_scopes::Forms;
-use std::alloc::Global;
 use std::test::*;
-
-// The opcodes of a form set and its form 7, up to the form's own.
-const FRONT: [u8; 33] = [
-    0, 0, 0, 2, // the package's header
-    0x0e, 0x97, 1, 2, 3, 4, 5, 6, 7, 8, 9, 10, 11, 12, 13, 14, 15, 16, 0x21, 0x43, 5, 0, 1, // FORM_SET, at 4
-    0x01, 0x86, 7, 0, 8, 0, // a form, at 27
-];
-
-// A package with these opcodes in its form, from 33 on; and how long it is.
-pub(crate) fn with(opcodes: &[u8]) -> ([u8; 128], usize)
-    requires { length opcodes.now ≤ 64 }
-    ensures { result.1 ≡ 37 + length opcodes.now }
-{
-    let mut bytes = [0u8; 128];
-    let end = 33 + opcodes.len();
-    bytes[..33].copy_from_slice(&FRONT);
-    bytes[33..end].copy_from_slice(opcodes);
-    bytes[end..end + 4].copy_from_slice(&[0x29, 2, 0x29, 2]);
-    (bytes, end + 4)
-}
-
-// A package with a form under a SUPPRESS_IF, at 27, of which this is the condition, from 29 on; and how long it is.
-pub(crate) fn guarded(condition: &[u8]) -> ([u8; 320], usize)
-    requires { length condition.now ≤ 256 }
-    ensures { result.1 ≡ 41 + length condition.now }
-{
-    let mut bytes = [0u8; 320];
-    let end = 29 + condition.len();
-    bytes[..27].copy_from_slice(&FRONT[..27]);
-    bytes[27..29].copy_from_slice(&[0x0a, 0x82]);
-    bytes[29..end].copy_from_slice(condition);
-    bytes[end..end + 6].copy_from_slice(&FRONT[27..]);
-    bytes[end + 6..end + 12].copy_from_slice(&[0x29, 2, 0x29, 2, 0x29, 2]);
-    (bytes, end + 12)
-}
 
 // The question 7 answers 1, without and with an opcode behind it, which negates that.
 const ANSWERED: [u8; 6] = [0x12, 6, 7, 0, 1, 0];
 
 const NEGATED: [u8; 10] = [0x12, 0x86, 7, 0, 1, 0, 0x17, 2, 0x29, 2];
-
-// The same bytes, of which proofs know the length alone.
-pub(crate) fn opaque<const N: usize>(bytes: &'static [u8; N]) -> &'static [u8; N] {
-    bytes
-}
-
-pub(crate) fn forms_of(alloc: Global, bytes: &[u8]) -> Result<Forms<'_>, Fault>
-    requires header { 4 ≤ length bytes.now }
-    requires small { length bytes.now < 2 ^ 24 }
-{
-    let source = Package {
-        place: 0,
-        kind: FORMS,
-        bytes,
-    };
-    Forms::read(alloc, source)
-}
 
 #[test]
 fn guards_in_no_question(rt: HostRuntime) -> Result<(), Fail> {
@@ -83,42 +27,30 @@ fn guards_in_no_question(rt: HostRuntime) -> Result<(), Fail> {
     Ok(())
 }
 
-// A form set with two forms and three questions.
-const PACKAGE: [u8; 87] = [
-    87, 0, 0, 2, // the package's header
-    0x0e, 0x97, 1, 2, 3, 4, 5, 6, 7, 8, 9, 10, 11, 12, 13, 14, 15, 16, 0x21, 0x43, 5, 0, 1, // FORM_SET, at 4
-    0x01, 0x86, 7, 0, 8, 0, // a form, at 27
+// Three questions and a second form.
+const QUESTIONS: [u8; 50] = [
     0x06, 14, 2, 0, 3, 0, 0, 0, 1, 0, 4, 0, 1, 2, // a question of the id 0, at 33
     0x06, 14, 2, 0, 3, 0, 0, 0, 1, 0, 5, 0, 1, 2, // another, at 47
     0x06, 14, 2, 0, 3, 0, 3, 0, 1, 0, 6, 0, 1, 2, // a question of the id 3, at 61
     0x29, 2, // at 75
     0x01, 0x86, 9, 0, 8, 0, // a form, at 77
-    0x29, 2, 0x29, 2, // at 83, 85
 ];
 
 fn fault(cause: Cause, place: u64) -> Option<(Cause, u64)> {
     Some((cause, place))
 }
 
-// The cause and the place by which a package is refused.
-pub(crate) fn refusal(alloc: Global, bytes: &[u8]) -> Option<(Cause, u64)>
-    requires header { 4 ≤ length bytes.now }
-    requires small { length bytes.now < 2 ^ 24 }
-{
-    let fault = forms_of(alloc, bytes).err()?;
-    Some((fault.cause, fault.place))
-}
-
 #[test]
 fn framing(rt: HostRuntime) {
     let alloc = rt.alloc();
-    assert_eq!(rt; refusal(alloc, opaque(&PACKAGE)), None);
+    let (bytes, len) = with(&QUESTIONS);
+    assert_eq!(rt; refusal(alloc, &bytes[..len]), None);
     for (len, cause, place) in [
         (4, Cause::NotFormSet, 4), // nothing
         (5, Cause::OpLength, 4), // half of an opcode
         (85, Cause::ScopeOpen, 85), // a scope without its END
     ] {
-        assert_eq!(rt; refusal(alloc, &PACKAGE[..len]), fault(cause, place));
+        assert_eq!(rt; refusal(alloc, &bytes[..len]), fault(cause, place));
     }
     let two_ends = [0, 0, 0, 0, 0x46, 2, 0x29, 2];
     assert_eq!(rt; refusal(alloc, &two_ends), fault(Cause::EndExtra, 6));
@@ -131,14 +63,6 @@ fn framing(rt: HostRuntime) {
         deep[5 + 2 * scope] = 0x82;
     }
     assert_eq!(rt; refusal(alloc, &deep), fault(Cause::TooDeep, 132));
-}
-
-// How a package with a form under this condition is refused.
-pub(crate) fn condition(alloc: Global, condition: &[u8]) -> Option<(Cause, u64)>
-    requires { length condition.now ≤ 256 }
-{
-    let (bytes, len) = guarded(condition);
-    refusal(alloc, &bytes[..len])
 }
 
 #[test]
@@ -171,11 +95,12 @@ fn references(rt: HostRuntime) {
         (53, 3, Cause::DuplicateQuestion, 61),
         (79, 7, Cause::DuplicateForm, 77),
     ] {
-        let mut package = PACKAGE;
-        package[at] = byte;
-        assert_eq!(rt; refusal(alloc, &package), fault(cause, place));
+        let mut opcodes = QUESTIONS;
+        opcodes[at - 33] = byte;
+        let (bytes, len) = with(&opcodes);
+        assert_eq!(rt; refusal(alloc, &bytes[..len]), fault(cause, place));
     }
-    let mut no_form = PACKAGE;
+    let (mut no_form, _) = with(&QUESTIONS);
     no_form[27] = 0x29;
     no_form[28] = 2;
     assert_eq!(rt; refusal(alloc, &no_form[..29]), fault(Cause::NoForm, 4));

@@ -1,15 +1,36 @@
-//! The form sets of the cases.
+//! The forms packages of the cases.
 
-ghost use Rattle.std.specs.Prelude.{◌≤◌, ◌<◌, ◌^◌, length, IfOk, IfSome};
+ghost use Rattle.std.specs.Prelude.{◌≡◌, ◌≤◌, ◌<◌, ◌^◌, ◌+◌, length, IfOk, IfSome};
 ghost use Rattle.ifr_scopes.specs.Accepted.{IsAccepted};
-ghost use Rattle.ifr_scopes.specs.Checked.{IsNodeOf};
-ghost use Rattle.ifr_scopes.specs.Lists.{form_node};
+ghost use Rattle.ifr_scopes.specs.code.Checked.{IsNodeOf};
+ghost use Rattle.ifr_scopes.specs.code.Lists.{form_node};
 
 use hii_bytes::Fault;
 use hii_packages::{FORMS, Package};
 use ifr_scopes::laws::a_node_is_that_of_its_place;
 use ifr_scopes::{Form, Forms};
 use std::alloc::Global;
+
+// A package's header, a form set, and a store of the id 1, without its size.
+const FRONT: [u8; 51] = [
+    0, 0, 0, 2, // the package's header
+    0x0e, 0x97, 0x22, 0x22, 0x22, 0x22, 0x22, 0x22, 0x22, 0x22, 0x22, 0x22, 0x22, 0x22, 0x22, 0x22,
+    0x22, 0x22, 1, 0, 2, 0, 0, // FORM_SET, at 4
+    0x24, 24, 1, 2, 3, 4, 5, 6, 7, 8, 9, 10, 11, 12, 13, 14, 15, 16, 1, 0, 0, 0, b'A', 0, // VARSTORE, at 27
+];
+
+// A forms package with a store of the id 1 and so many bytes, and these opcodes behind it, from 51 on; and how long it is.
+pub(crate) fn package_of(size: u8, opcodes: &[u8]) -> ([u8; 512], usize)
+    requires { length opcodes.now ≤ 400 }
+    ensures { result.1 ≡ 51 + length opcodes.now }
+{
+    let mut bytes = [0u8; 512];
+    let end = 51 + opcodes.len();
+    bytes[..51].copy_from_slice(&FRONT);
+    bytes[47] = size;
+    bytes[51..end].copy_from_slice(opcodes);
+    (bytes, end)
+}
 
 // The form set of a forms package.
 pub(crate) fn forms_of(alloc: Global, bytes: &[u8]) -> Result<Forms<'_>, Fault>

@@ -4,6 +4,8 @@
 #[cfg(test)]
 mod forms;
 #[cfg(test)]
+mod images;
+#[cfg(test)]
 mod pages;
 #[cfg(test)]
 mod policies;
@@ -13,3 +15,5 @@ mod questions;
 mod sessions;
 #[cfg(test)]
 mod stores;
+#[cfg(test)]
+mod writers;

@@ -1,9 +1,11 @@
-ghost use Rattle.std.specs.Prelude.{◌≡◌, ◌≤◌, ◌<◌, ◌^◌, length};
-ghost use Rattle.ifr_scopes.specs.Checked.{IsNodeOf};
-ghost use Rattle.ifr_scopes.specs.Lists.{form_node};
-ghost use Rattle.guard_policy.specs.Views.{bytes_of};
+ghost use Rattle.std.specs.Prelude.{◌≡◌};
+ghost use Rattle.ifr_scopes.specs.code.Checked.{IsNodeOf};
+ghost use Rattle.ifr_scopes.specs.code.Lists.{form_node};
+ghost use Rattle.guard_policy.specs.code.Views.{bytes_of};
 
-use crate::forms::{first_form, forms_of};
+use crate::forms::{first_form, forms_of, package_of};
+use crate::images::image_of;
+use crate::writers::Limited;
 use form_page::Page;
 use guard_policy::{Conditions, Policy, Removed};
 use hii_bytes::{Watched, WriteFault};
@@ -13,15 +15,11 @@ use hii_questions::Questions;
 use hii_varstore::{Layout, Stores};
 use ifr_scopes::{Form, Forms};
 use std::alloc::Global;
-use std::io;
-use std::io::{ErrorKind, Write};
 use std::process::Abort;
 use std::test::Fail;
 
-const PACKAGE: [u8; 401] = [
-    145, 1, 0, 2, // the package's header
-    0x0e, 151, 34, 34, 34, 34, 34, 34, 34, 34, 34, 34, 34, 34, 34, 34, 34, 34, 1, 0, 2, 0, 0, // FORM_SET, at 4
-    0x24, 24, 1, 2, 3, 4, 5, 6, 7, 8, 9, 10, 11, 12, 13, 14, 15, 16, 1, 0, 24, 0, 65, 0, // a store of the id 1 and 24 bytes, at 27
+// A form, over a store of 24 bytes.
+const FORM: [u8; 350] = [
     0x01, 134, 1, 0, 2, 0, // a form with the title 2, at 51
     0x06, 14, 3, 0, 0, 0, 1, 0, 1, 0, 0, 0, 0, 0, // a checkbox of the id 1, byte 0, at 57
     0x0a, 130, // SUPPRESS_IF, at 71
@@ -63,8 +61,8 @@ const STRINGS: &[u8] = b"\x11\x11\x11\x11\x11\x11\x11\x11\x11\x11\x11\x11\x11\x1
 en\0\x22\x02\x14B\0o\0x\0\0\0\0\
 \x04\0\0\xdf";
 
-const IMAGE: &[u8] =
-    b"HVS1\x01\x00\x01\x00\x18\x00\x00\x01\x80\x0f\xa0\x07\x02\x00\x01\x00\x09\x00\x00\x00\x68\x00\x01\x00\x00\x00\x00\x00\x00\x00";
+const FIELDS: &[u8] =
+    b"\x00\x01\x80\x0f\xa0\x07\x02\x00\x01\x00\x09\x00\x00\x00\x68\x00\x01\x00\x00\x00\x00\x00\x00\x00";
 
 const TEXT: &[u8] = b"FORM 1 #2\n  \
 1 *     1 Box                      [ ]\n  \
@@ -87,44 +85,16 @@ const TEXT: &[u8] = b"FORM 1 #2\n  \
 18       - Box                      [Box]\n \
 19 *     - Box                      [reset]\n";
 
-/// Takes that many bytes, and then fails.
-#[derive(Drop)]
-struct Limited {
-    bytes: Vec<u8>,
-    room: usize,
-}
-
-impl Write for Limited {
-    fn write(&mut self, buf: &[u8]) -> io::Result<usize> {
-        let n = buf.len().min(self.room);
-        if n == 0 && !buf.is_empty() {
-            return Err(io::Error::from(ErrorKind::Other));
-        }
-        self.bytes.extend_from_slice(&buf[..n])?;
-        self.room -= n;
-        Ok(n)
-    }
-
-    fn flush(&mut self) -> io::Result<()> {
-        Ok(())
-    }
-}
-
-// The forms package, of which proofs know the length alone.
-fn package() -> &'static [u8]
-    ensures header { 4 ≤ length result.now }
-    ensures small { length result.now < 2 ^ 24 }
+// The forms package; and how long it is.
+fn package() -> ([u8; 512], usize)
+    ensures { result.1 ≡ 401 }
 {
-    &PACKAGE
+    package_of(24, &FORM)
 }
 
-// The string packages, the image and the page, of which proofs know nothing.
+// The string packages and the page, of which proofs know nothing.
 fn string_list() -> &'static [u8] {
     STRINGS
-}
-
-fn image() -> &'static [u8] {
-    IMAGE
 }
 
 fn page_text() -> &'static [u8] {
@@ -221,7 +191,8 @@ fn is_shown<'a, R: Abort + AllocGlobal>(
     requires { questions.now.ifr ≡ forms.now }
 {
     let alloc = rt.alloc();
-    let stores = Stores::read(alloc, layout, image())?;
+    let image = image_of(alloc, FIELDS)?;
+    let stores = Stores::read(alloc, layout, &image)?;
     let removed = Removed::at_open(alloc, forms, questions, &stores)?;
     let policy = Policy::new(forms, questions, &removed);
     let form = first_form(forms).expect(rt, "a form");
@@ -232,7 +203,8 @@ fn is_shown<'a, R: Abort + AllocGlobal>(
 #[test]
 fn a_page_has_rows_and_is_written(rt: HostRuntime) -> Result<(), Fail> {
     let alloc = rt.alloc();
-    let forms = forms_of(alloc, package())?;
+    let (bytes, len) = package();
+    let forms = forms_of(alloc, &bytes[..len])?;
     let layout = Layout::read(alloc, &forms)?;
     let questions = Questions::read(alloc, &forms, &layout)?;
     let list = PackageList::read(string_list())?;

@@ -1,12 +1,13 @@
-ghost use Rattle.guard_policy.specs.Views.{bytes_of};
+ghost use Rattle.guard_policy.specs.code.Views.{bytes_of};
 ghost use Rattle.std.specs.Prelude.{◌≡◌, IfSome};
 ghost use Rattle.ifr_scopes.specs.Accepted.{IsAccepted};
-ghost use Rattle.ifr_scopes.specs.Checked.{IsNodeOf};
-ghost use Rattle.ifr_scopes.specs.Lists.{form_node};
-ghost use Rattle.ifr_scopes.specs.Parts.{option_node};
-ghost use Rattle.hii_questions.specs.Views.{question_node};
+ghost use Rattle.ifr_scopes.specs.code.Checked.{IsNodeOf};
+ghost use Rattle.ifr_scopes.specs.code.Lists.{form_node};
+ghost use Rattle.ifr_scopes.specs.code.Parts.{option_node};
+ghost use Rattle.hii_questions.specs.code.Views.{question_node};
 
-use crate::forms::{first_form, forms_of};
+use crate::forms::{first_form, forms_of, package_of};
+use crate::images::image_of;
 use guard_policy::{Conditions, Decision, Denial, Policy, Removed, Warning};
 use hii_questions::laws::questions_of_ids_are_questions;
 use hii_questions::{DenialKind, Question, Questions};
@@ -17,11 +18,8 @@ use std::alloc::Global;
 use std::process::Abort;
 use std::test::Fail;
 
-const PACKAGE: [u8; 253] = [
-    253, 0, 0, 2, // the package's header
-    0x0e, 0x97, 0x22, 0x22, 0x22, 0x22, 0x22, 0x22, 0x22, 0x22, 0x22, 0x22, 0x22, 0x22, 0x22, 0x22,
-    0x22, 0x22, 1, 0, 2, 0, 0, // FORM_SET, at 4
-    0x24, 0x18, 1, 2, 3, 4, 5, 6, 7, 8, 9, 10, 11, 12, 13, 14, 15, 16, 1, 0, 3, 0, b'A', 0, // a store of the id 1 and 3 bytes, at 27
+// A form under a guard, over a store of 3 bytes.
+const FORM: [u8; 202] = [
     0x0a, 0x82, // SUPPRESS_IF, at 51
     0x12, 0x06, 7, 0, 1, 0, // the question 7 answers 1, at 53
     0x01, 0x86, 1, 0, 1, 0, // a form, at 59
@@ -61,9 +59,11 @@ const PACKAGE: [u8; 253] = [
     0x29, 0x02, // END, at 251
 ];
 
-// The forms package, of which proofs know the length alone.
-fn package() -> &'static [u8; 253] {
-    &PACKAGE
+// The forms package; and how long it is.
+fn package() -> ([u8; 512], usize)
+    ensures { result.1 ≡ 253 }
+{
+    package_of(3, &FORM)
 }
 
 fn question_of<'a>(questions: &Questions<'a>, id: u16) -> Option<Question<'a>>
@@ -253,7 +253,8 @@ fn policy_decides<'a, R: Abort>(
     requires together { bytes_of policy ≡ questions.now.ifr }
     requires node { IsNodeOf questions.now.ifr (form_node form) }
 {
-    assert_eq!(rt; policy.forms().bytes(), package().as_slice());
+    let (bytes, len) = package();
+    assert_eq!(rt; policy.forms().bytes(), &bytes[..len]);
     assert_eq!(rt; (policy.removed(170), policy.removed(146)), (true, false));
     assert_eq!(rt; policy.opens(form, stores), Ok(()));
     statements_are_denied(rt, policy, questions, stores);
@@ -271,11 +272,8 @@ fn form_is_suppressed<'a, R: Abort + AllocGlobal>(
 ) -> Result<(), Fail>
     requires { IsNodeOf (bytes_of policy) (form_node form) }
 {
-    let stores = Stores::read(
-        rt.alloc(),
-        layout,
-        b"HVS1\x01\x00\x01\x00\x03\x00\x00\x01\x00",
-    )?;
+    let image = image_of(rt.alloc(), &[0, 1, 0])?;
+    let stores = Stores::read(rt.alloc(), layout, &image)?;
     assert_eq!(rt;
         policy.opens(form, &stores),
         denial(DenialKind::SuppressIf, 51)
@@ -293,7 +291,8 @@ fn is_decided<'a, R: Abort + AllocGlobal>(
     requires together { questions.now.ifr ≡ forms.now }
 {
     let alloc = rt.alloc();
-    let stores = Stores::read(alloc, layout, b"HVS1\x01\x00\x01\x00\x03\x00\x00\x00\x02")?;
+    let image = image_of(alloc, &[0, 0, 2])?;
+    let stores = Stores::read(alloc, layout, &image)?;
     let removed = Removed::at_open(alloc, forms, questions, &stores)?;
     let policy = Policy::new(forms, questions, &removed);
     let form = first_form(forms).expect(rt, "a form");
@@ -304,7 +303,8 @@ fn is_decided<'a, R: Abort + AllocGlobal>(
 #[test]
 fn denials_name_what_decides(rt: HostRuntime) -> Result<(), Fail> {
     let alloc = rt.alloc();
-    let forms = forms_of(alloc, package())?;
+    let (bytes, len) = package();
+    let forms = forms_of(alloc, &bytes[..len])?;
     let layout = Layout::read(alloc, &forms)?;
     let questions = Questions::read(alloc, &forms, &layout)?;
     is_decided(&rt, &forms, &layout, &questions)

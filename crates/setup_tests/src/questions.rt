@@ -1,11 +1,12 @@
-ghost use Rattle.std.specs.Prelude.{◌≡◌, ◌<◌};
+ghost use Rattle.std.specs.Prelude.{◌≡◌};
 ghost use Rattle.hii_bytes.specs.Faults.{HasNone};
 ghost use Rattle.ifr_scopes.specs.Nodes.{nodes_of};
 ghost use Rattle.hii_varstore.specs.StoreNodes.{layout_of};
 ghost use Rattle.hii_varstore.specs.Stores.{shape_of};
 ghost use Rattle.hii_questions.specs.Faults.{IsQuestionFault};
 
-use crate::forms::forms_of;
+use crate::forms::{forms_of, package_of};
+use crate::images::image_of;
 use hii_bytes::{Cause, Fault, is_number_list};
 use hii_questions::{
     Input, Question, Questions, StoredItems, ValueDenial, check_value, element_width, laws,
@@ -17,11 +18,8 @@ use ifr_scopes::Forms;
 use std::alloc::Global;
 use std::test::Fail;
 
-const PACKAGE: [u8; 187] = [
-    187, 0, 0, 2, // the package's header
-    0x0e, 0x97, 0x22, 0x22, 0x22, 0x22, 0x22, 0x22, 0x22, 0x22, 0x22, 0x22, 0x22, 0x22, 0x22, 0x22,
-    0x22, 0x22, 1, 0, 2, 0, 0, // FORM_SET, at 4
-    0x24, 24, 1, 2, 3, 4, 5, 6, 7, 8, 9, 10, 11, 12, 13, 14, 15, 16, 1, 0, 10, 0, b'A', 0, // a store of the id 1 and 10 bytes, at 27
+// A form, over a store of 10 bytes.
+const FORM: [u8; 136] = [
     0x01, 0x86, 1, 0, 1, 0, // a form, at 51
     0x06, 14, 1, 0, 2, 0, 7, 0, 1, 0, 0, 0, 0, 0, // a checkbox, byte 0, at 57
     0x07, 17, 1, 0, 2, 0, 8, 0, 1, 0, 1, 0, 0, 0, 0x80, 0x7e, 1, // a signed number, byte 1, at 71
@@ -34,24 +32,14 @@ const PACKAGE: [u8; 187] = [
     0x29, 2, 0x29, 2, // at 183, 185
 ];
 
-// The forms package, of which proofs know the length alone.
-fn package() -> &'static [u8; 187] {
-    &PACKAGE
-}
-
-// The same with another byte.
-fn changed(at: usize, byte: u8) -> [u8; 187]
-    requires { at < 187 }
+// The forms package; and how long it is.
+fn package() -> ([u8; 512], usize)
+    ensures { result.1 ≡ 187 }
 {
-    let mut package = PACKAGE;
-    package[at] = byte;
-    package
+    package_of(10, &FORM)
 }
 
-// The image, of which proofs know nothing.
-fn image() -> &'static [u8] {
-    b"HVS1\x01\x00\x01\x00\x0a\x00\x02\xff\x01\x00A\x00\x00\x00\x02\x00"
-}
+const FIELDS: &[u8] = b"\x02\xff\x01\x00A\x00\x00\x00\x02\x00";
 
 // The questions of a form set. It has no clause, so that no test carries those of `Questions::read`.
 fn questions_of<'a>(alloc: Global, forms: &Forms<'a>) -> Result<Questions<'a>, Fault> {
@@ -110,10 +98,11 @@ fn put_text(
 #[test]
 fn values_are_put(rt: HostRuntime) -> Result<(), Fail> {
     let alloc = rt.alloc();
-    let forms = forms_of(alloc, package())?;
+    let (bytes, len) = package();
+    let forms = forms_of(alloc, &bytes[..len])?;
     let layout = Layout::read(alloc, &forms)?;
     let questions = Questions::read(alloc, &forms, &layout)?;
-    let mut stores = Stores::read(alloc, &layout, image())?;
+    let mut stores = Stores::read(alloc, &layout, &image_of(alloc, FIELDS)?)?;
     assert_eq!(rt; put_number(&questions, &mut stores, 8, -2), Ok(()));
     assert_eq!(rt; put_text(&questions, &mut stores, 10, b"\xc3\xa9"), Ok(()));
     let put = b"\x02\xfe\x01\x00\xe9\x00\x00\x00\x02\x00".as_slice();
@@ -124,7 +113,8 @@ fn values_are_put(rt: HostRuntime) -> Result<(), Fail> {
 #[test]
 fn questions_are_read_and_found(rt: HostRuntime) -> Result<(), Fail> {
     let alloc = rt.alloc();
-    let forms = forms_of(alloc, package())?;
+    let (bytes, len) = package();
+    let forms = forms_of(alloc, &bytes[..len])?;
     let questions = questions_of(alloc, &forms)?;
     let mut all = questions.all();
     for (place, id, width) in [
@@ -161,8 +151,9 @@ fn faults_are_refused(rt: HostRuntime) -> Result<(), Fail> {
         (165, 4, Cause::MixedOptions, 160),
         (177, 2, Cause::UnknownVarstore, 169),
     ] {
-        let package = changed(at, byte);
-        let forms = forms_of(alloc, &package)?;
+        let (mut bytes, len) = package();
+        bytes[at] = byte;
+        let forms = forms_of(alloc, &bytes[..len])?;
         let refused = Some(Fault { cause, place });
         assert_eq!(rt; questions_of(alloc, &forms).err(), refused);
     }
@@ -177,10 +168,11 @@ fn values_are_read(rt: HostRuntime) -> Result<(), Fail> {
     laws::taken_bytes_fill_the_field();
     laws::a_write_leaves_other_values();
     let alloc = rt.alloc();
-    let forms = forms_of(alloc, package())?;
+    let (bytes, len) = package();
+    let forms = forms_of(alloc, &bytes[..len])?;
     let layout = Layout::read(alloc, &forms)?;
     let questions = Questions::read(alloc, &forms, &layout)?;
-    let stores = Stores::read(alloc, &layout, image())?;
+    let stores = Stores::read(alloc, &layout, &image_of(alloc, FIELDS)?)?;
     let over = questions.over(&stores);
     assert!(rt; matches!(over.answer(7), Value::Boolean(true)));
     assert!(rt; matches!(over.answer(8), Value::Number(255)));
@@ -198,7 +190,8 @@ fn values_are_read(rt: HostRuntime) -> Result<(), Fail> {
 #[test]
 fn numbers_in_bytes(rt: HostRuntime) -> Result<(), Fail> {
     let alloc = rt.alloc();
-    let forms = forms_of(alloc, package())?;
+    let (bytes, len) = package();
+    let forms = forms_of(alloc, &bytes[..len])?;
     let questions = questions_of(alloc, &forms)?;
     for (id, width) in [(7, 1), (9, 2), (11, 1)] {
         let question = questions.find(id).expect(&rt, "a question");
@@ -214,7 +207,8 @@ fn numbers_in_bytes(rt: HostRuntime) -> Result<(), Fail> {
 #[test]
 fn values_are_checked_in_their_order(rt: HostRuntime) -> Result<(), Fail> {
     let alloc = rt.alloc();
-    let forms = forms_of(alloc, package())?;
+    let (bytes, len) = package();
+    let forms = forms_of(alloc, &bytes[..len])?;
     let questions = questions_of(alloc, &forms)?;
     let outside = b"\xf0\x9f\x98\x80\xf0\x9f\x98\x80\xf0\x9f\x98\x80";
     for (id, input, wanted) in [

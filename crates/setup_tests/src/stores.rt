@@ -1,43 +1,31 @@
-ghost use Rattle.std.specs.Prelude.{◌≤◌, ◌<◌, ◌^◌, length};
+ghost use Rattle.std.specs.Prelude.{◌≡◌, ◌≤◌, ◌<◌, ◌^◌, length};
 
-use crate::forms::forms_of;
+use crate::forms::{forms_of, package_of};
+use crate::images::image_of;
+use crate::writers::Limited;
 use hii_bytes::{Cause, Fault, Watched, WriteFault};
 use hii_varstore::{Buffer, Layout, Stores, laws};
 use std::alloc::Global;
-use std::io;
-use std::io::{ErrorKind, Write};
 use std::test::Fail;
 
 static GUID: [u8; 16] = [0x22; 16];
 
-static OLDER: [u8; 10] = [0x48, 0x56, 0x53, 0x31, 1, 0, 1, 0, 2, 0];
-
-static HEAD: [u8; 22] = [
-    0x48, 0x56, 0x53, 0x32, 0x22, 0x22, 0x22, 0x22, 0x22, 0x22, 0x22, 0x22, 0x22, 0x22, 0x22, 0x22,
-    0x22, 0x22, 0x22, 0x22, 1, 0,
-];
-
+// An image of one store, of the id 1 and 2 bytes; and the front of one of the older form, up to these.
 static IMAGE: [u8; 28] = [
     0x48, 0x56, 0x53, 0x32, 0x22, 0x22, 0x22, 0x22, 0x22, 0x22, 0x22, 0x22, 0x22, 0x22, 0x22, 0x22,
     0x22, 0x22, 0x22, 0x22, 1, 0, 1, 0, 2, 0, 1, 0,
 ];
 
-// A form set with one store, and a form.
-const ONE_STORE: [u8; 61] = [
-    61, 0, 0, 2, // the package's header
-    0x0e, 0x97, 0x22, 0x22, 0x22, 0x22, 0x22, 0x22, 0x22, 0x22, 0x22, 0x22, 0x22, 0x22, 0x22, 0x22,
-    0x22, 0x22, 1, 0, 2, 0, 0, // FORM_SET, at 4
-    0x24, 24, 1, 2, 3, 4, 5, 6, 7, 8, 9, 10, 11, 12, 13, 14, 15, 16, 1, 0, 2, 0, b'A', 0, // VARSTORE of the id 1 and 2 bytes, at 27
+static OLDER: [u8; 10] = [0x48, 0x56, 0x53, 0x31, 1, 0, 1, 0, 2, 0];
+
+// A form behind one store of 2 bytes, and its END and that of the form set.
+const FORM: [u8; 10] = [
     0x01, 0x86, 1, 0, 1, 0, // FORM, at 51
     0x29, 2, 0x29, 2, // at 57, 59
 ];
 
-// A form set with stores of all kinds, one inside a guard, and a form.
-const PACKAGE: [u8; 138] = [
-    138, 0, 0, 2, // the package's header
-    0x0e, 0x97, 0x22, 0x22, 0x22, 0x22, 0x22, 0x22, 0x22, 0x22, 0x22, 0x22, 0x22, 0x22, 0x22, 0x22,
-    0x22, 0x22, 1, 0, 2, 0, 0, // FORM_SET, at 4
-    0x24, 24, 1, 2, 3, 4, 5, 6, 7, 8, 9, 10, 11, 12, 13, 14, 15, 16, 1, 0, 2, 0, b'A', 0, // VARSTORE of the id 1 and 2 bytes, at 27
+// Behind that store, stores of all kinds, one inside a guard, and a form.
+const STORES: [u8; 87] = [
     0x25, 20, 5, 0, 1, 2, 3, 4, 5, 6, 7, 8, 9, 10, 11, 12, 13, 14, 15, 16, // VARSTORE_NAME_VALUE of the id 5, at 51
     0x0a, 0x82, 0x46, 2, // SUPPRESS_IF of TRUE, at 71
     0x26, 28, 7, 0, 1, 2, 3, 4, 5, 6, 7, 8, 9, 10, 11, 12, 13, 14, 15, 16, 3, 0, 0, 0, 3, 0, b'B',
@@ -48,22 +36,28 @@ const PACKAGE: [u8; 138] = [
     0x29, 2, 0x29, 2, // at 134, 136
 ];
 
-// The form sets, of which proofs know the length alone.
-fn package() -> &'static [u8; 138] {
-    &PACKAGE
+// The forms packages; and how long they are.
+fn package() -> ([u8; 512], usize)
+    ensures { result.1 ≡ 138 }
+{
+    package_of(2, &STORES)
 }
 
-fn one_store() -> &'static [u8; 61] {
-    &ONE_STORE
+fn one_store() -> ([u8; 512], usize)
+    ensures { result.1 ≡ 61 }
+{
+    package_of(2, &FORM)
 }
 
-// The form set of stores of all kinds with another byte.
-fn changed(at: usize, byte: u8) -> [u8; 138] {
-    let mut package = PACKAGE;
-    if let Some(old) = package.get_mut(at) {
+// That of stores of all kinds with another byte; and how long it is.
+fn changed(at: usize, byte: u8) -> ([u8; 512], usize)
+    ensures { result.1 ≡ 138 }
+{
+    let (mut bytes, len) = package();
+    if let Some(old) = bytes.get_mut(at) {
         *old = byte;
     }
-    package
+    (bytes, len)
 }
 
 // An image of one store, and its front, of which proofs know nothing.
@@ -75,49 +69,18 @@ fn front() -> &'static [u8] {
     &IMAGE[..20]
 }
 
-/// Takes that many bytes, and then fails.
-#[derive(Drop)]
-struct Limited {
-    bytes: Vec<u8>,
-    room: usize,
-}
-
-impl Write for Limited {
-    fn write(&mut self, buf: &[u8]) -> io::Result<usize> {
-        let n = buf.len().min(self.room);
-        if n == 0 && !buf.is_empty() {
-            return Err(io::Error::from(ErrorKind::Other));
-        }
-        self.bytes.extend_from_slice(&buf[..n])?;
-        self.room -= n;
-        Ok(n)
-    }
-
-    fn flush(&mut self) -> io::Result<()> {
-        Ok(())
-    }
-}
-
-// What is written of the stores of an older image of one store.
-fn anew(alloc: Global, layout: &Layout<'_>, bytes: &[u8]) -> Result<Vec<u8>, Fail> {
-    let mut image = Vec::from_slice(alloc, &OLDER)?;
-    image.extend_from_slice(bytes)?;
-    let stores = Stores::read(alloc, layout, &image)?;
-    let mut out = Watched::new(Vec::new(alloc));
-    stores.image_into(&mut out)?;
-    Ok(out.into_inner())
-}
-
 #[test]
 fn an_image_is_read_and_written(rt: HostRuntime) -> Result<(), Fail> {
     let alloc = rt.alloc();
-    let layout = declared(alloc, one_store())?;
+    let (bytes, len) = one_store();
+    let layout = declared(alloc, &bytes[..len])?;
     assert_eq!(rt;
         (layout.size(1), layout.size(2), layout.buffers().len()),
         (Some(2), None, 1)
     );
     assert_eq!(rt; layout.guid().bytes(), GUID.as_slice());
-    assert_eq!(rt; anew(alloc, &layout, &[1, 0])?.as_slice(), newer());
+    let older = image_of(alloc, &[1, 0])?;
+    assert_eq!(rt; written(alloc, &layout, &older)?.as_slice(), newer());
     Ok(())
 }
 
@@ -133,7 +96,8 @@ fn declared(alloc: Global, bytes: &[u8]) -> Result<Layout<'_>, Fault>
 #[test]
 fn a_layout_is_read(rt: HostRuntime) -> Result<(), Fail> {
     let alloc = rt.alloc();
-    let layout = declared(alloc, package())?;
+    let (bytes, len) = package();
+    let layout = declared(alloc, &bytes[..len])?;
     assert_eq!(rt; layout.guid().bytes(), GUID.as_slice());
     assert_eq!(rt;
         layout.buffers(),
@@ -169,12 +133,12 @@ fn ids_of_stores_of_all_kinds(rt: HostRuntime) -> Result<(), Fail> {
         (45, 5, 51),
         (53, 7, 75),
     ] {
-        let repeated = changed(at, id);
+        let (repeated, len) = changed(at, id);
         let fault = Fault {
             cause: Cause::DuplicateVarstore,
             place,
         };
-        assert_eq!(rt; declared(alloc, &repeated).err(), Some(fault));
+        assert_eq!(rt; declared(alloc, &repeated[..len]).err(), Some(fault));
     }
     Ok(())
 }
@@ -214,7 +178,8 @@ fn are_read(alloc: Global, layout: &Layout<'_>, image: &[u8]) -> Result<bool, Fa
 #[test]
 fn an_image_has_the_buffer_stores_alone(rt: HostRuntime) -> Result<(), Fail> {
     let alloc = rt.alloc();
-    let layout = declared(alloc, package())?;
+    let (bytes, len) = package();
+    let layout = declared(alloc, &bytes[..len])?;
     let mut image = declared_image(alloc)?;
     assert!(rt; are_read(alloc, &layout, &image)?);
     assert_eq!(rt;
@@ -234,7 +199,8 @@ fn an_image_has_the_buffer_stores_alone(rt: HostRuntime) -> Result<(), Fail> {
 #[test]
 fn bytes_are_written_and_copied(rt: HostRuntime) -> Result<(), Fail> {
     let alloc = rt.alloc();
-    let layout = declared(alloc, package())?;
+    let (bytes, len) = package();
+    let layout = declared(alloc, &bytes[..len])?;
     let mut stores = Stores::read(alloc, &layout, &declared_image(alloc)?)?;
     let committed = stores.copy(alloc)?;
     laws::a_write_keeps_the_shape();
@@ -252,7 +218,8 @@ fn bytes_are_written_and_copied(rt: HostRuntime) -> Result<(), Fail> {
 #[test]
 fn a_writer_fails_after_each_byte(rt: HostRuntime) -> Result<(), Fail> {
     let alloc = rt.alloc();
-    let layout = declared(alloc, one_store())?;
+    let (bytes, len) = one_store();
+    let layout = declared(alloc, &bytes[..len])?;
     let image = newer();
     let stores = Stores::read(alloc, &layout, image)?;
     for room in 0..image.len() {
@@ -272,7 +239,8 @@ fn a_writer_fails_after_each_byte(rt: HostRuntime) -> Result<(), Fail> {
 #[test]
 fn faults_of_an_image(rt: HostRuntime) -> Result<(), Fail> {
     let alloc = rt.alloc();
-    let layout = declared(alloc, one_store())?;
+    let (bytes, len) = one_store();
+    let layout = declared(alloc, &bytes[..len])?;
     for (head, rest, cause, place) in [
         (
             OLDER.as_slice(),
@@ -301,27 +269,27 @@ fn faults_of_an_image(rt: HostRuntime) -> Result<(), Fail> {
         ),
         (b"HV9".as_slice(), b"".as_slice(), Cause::StoreShort, 0),
         (
-            &HEAD[..4],
+            &IMAGE[..4],
             b"\x23\x22\x22\x22\x22\x22\x22\x22\x22\x22\x22\x22\x22\x22\x22\x22".as_slice(),
             Cause::StoreFormSet,
             4,
         ),
-        (&HEAD[..19], b"".as_slice(), Cause::StoreShort, 4),
-        (&HEAD[..20], b"\x02\x00".as_slice(), Cause::StoreCount, 20),
+        (&IMAGE[..19], b"".as_slice(), Cause::StoreShort, 4),
+        (&IMAGE[..20], b"\x02\x00".as_slice(), Cause::StoreCount, 20),
         (
-            HEAD.as_slice(),
+            &IMAGE[..22],
             b"\x01\x00\x03\x00\x01\x00".as_slice(),
             Cause::StoreSize,
             24,
         ),
         (
-            HEAD.as_slice(),
+            &IMAGE[..22],
             b"\x01\x00\x02\x00\x01".as_slice(),
             Cause::StoreShort,
             26,
         ),
         (
-            HEAD.as_slice(),
+            &IMAGE[..22],
             b"\x01\x00\x02\x00\x01\x00\x00".as_slice(),
             Cause::StoreTrailing,
             28,

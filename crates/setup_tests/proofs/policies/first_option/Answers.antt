@@ -1,11 +1,11 @@
 use Rattle.std.proofs.Common.{◌≡◌, ℕ, Option, Some, None, List, [], ◌∷◌, IfSome, sym, ap, ◌∙◌, subst}
 use Rattle.std.specs.Prelude.{MatchOption}
 use Rattle.ifr_opcodes.specs.Forest.{Placed}
-use Rattle.ifr_scopes.specs.Checked.{IsNodeOf, AreNodesOf}
+use Rattle.ifr_scopes.specs.code.Checked.{IsNodeOf, AreNodesOf}
 use Rattle.ifr_scopes.specs.Nodes.{options}
-use Rattle.ifr_scopes.specs.Parts.{option_node}
+use Rattle.ifr_scopes.specs.code.Parts.{option_node}
 use Rattle.ifr_scopes.specs.declared.option_view.OptionView.{OptionView}
-use Rattle.hii_questions.specs.Views.{question_node}
+use Rattle.hii_questions.specs.code.Views.{question_node}
 use Rattle.guard_policy.proofs.OptionLemmas.{options_are_nodes, first_of}
 use Rattle.setup_tests.proofs.policies.first_option.Goals as goal
 

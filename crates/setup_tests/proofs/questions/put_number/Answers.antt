@@ -1,8 +1,9 @@
 use Rattle.std.proofs.Common.{subst, sym}
 use Rattle.ifr_scopes.specs.Nodes.{nodes_of}
-use Rattle.hii_varstore.specs.Layout.{Shape, HasRange}
-use Rattle.hii_questions.specs.Checks.{range_of}
-use Rattle.hii_questions.specs.Views.{question_view}
+use Rattle.hii_varstore.specs.Layout.{Shape}
+use Rattle.hii_varstore.specs.code.Ranges.{HasRange}
+use Rattle.hii_questions.specs.code.Checks.{range_of}
+use Rattle.hii_questions.specs.code.Views.{question_view}
 use Rattle.hii_questions.proofs.LawLemmas.{range_found}
 use Rattle.setup_tests.proofs.questions.put_number.Goals as goal
 

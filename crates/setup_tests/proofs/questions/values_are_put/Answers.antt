@@ -2,7 +2,7 @@ use Rattle.std.proofs.Common.{subst, sym}
 use Rattle.hii_bytes.specs.Faults.{HasNone}
 use Rattle.ifr_scopes.specs.Nodes.{nodes_of}
 use Rattle.hii_questions.specs.Faults.{IsQuestionFault}
-use Rattle.hii_questions.specs.Survey.{Survey}
+use Rattle.hii_questions.specs.code.Survey.{Survey}
 use Rattle.setup_tests.proofs.questions.values_are_put.Goals as goal
 
 pub put_number-requires-clause-sound : goal.put_number-requires-clause-sound
