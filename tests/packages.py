@@ -7,7 +7,7 @@ END_PACKAGE = bytes([4, 0, 0, 0xDF])
 FORM_SET_GUID = bytes([0x22]) * 16
 VARSTORE_GUID = bytes([0x33]) * 16
 
-# The kinds of the values of options and defaults (UEFI 2.8, 33.3.8.3, EFI_IFR_ONE_OF_OPTION).
+# The Types of options and defaults (UEFI 2.8, 33.3.8.3, EFI_IFR_ONE_OF_OPTION.Type, EFI_IFR_DEFAULT.Type).
 NUMBER_1, NUMBER_2, NUMBER_4, NUMBER_8, BOOLEAN, STRING_ID, OTHER, BUFFER = 0, 1, 2, 3, 4, 7, 8, 0x0B
 WIDTHS = {NUMBER_1: 1, NUMBER_2: 2, NUMBER_4: 4, NUMBER_8: 8, BOOLEAN: 1, STRING_ID: 2}
 
@@ -43,12 +43,12 @@ def form_set():
 
 
 def varstore(store, size):
-    """A buffer store whose name is `V`."""
+    """A store with bytes, whose name is `V`."""
     return opcode(0x24, VARSTORE_GUID + u16(store) + u16(size) + b"V\0")
 
 
 def varstore_efi(store, size):
-    """A buffer store with the attributes of a variable, whose name is `V`."""
+    """A store with bytes and with the attributes of a variable, whose name is `V`."""
     return opcode(0x26, u16(store) + VARSTORE_GUID + u32(7) + u16(size) + b"V\0")
 
 
@@ -111,8 +111,8 @@ def ordered_list(number, offset, most, flags=0, **header):
     return question(0x23, number, offset, bytes([most, flags]), **header)
 
 
-def option(text, value, kind=NUMBER_1, flags=0):
-    return opcode(0x09, u16(text) + bytes([flags, kind]) + little(value, WIDTHS[kind]))
+def option(text, value, value_type=NUMBER_1, flags=0):
+    return opcode(0x09, u16(text) + bytes([flags, value_type]) + little(value, WIDTHS[value_type]))
 
 
 def string_question(number, offset, least, most, **header):
@@ -141,8 +141,8 @@ def ref(number, fields):
     return question(0x0F, number, 0, fields, 0)
 
 
-def default(number, kind, value=b""):
-    return opcode(0x5B, u16(number) + bytes([kind]) + value)
+def default(number, value_type, value=b""):
+    return opcode(0x5B, u16(number) + bytes([value_type]) + value)
 
 
 def value(says):

@@ -38,7 +38,7 @@ def wrong_opcodes():
     in_form("guid_with_a_scope", scoped(opcode(0x5F, bytes(16))), "26 OpOutside at 00000039")
     in_form_set("efi_store_of_24_bytes", opcode(0x26, EFI_STORE), "26 OpOutside at 00000033")
     in_choice("option_of_a_string", option(5, 1, STRING_ID), "26 OpOutside at 0000004a")
-    in_checkbox("default_of_an_unknown_kind", default(0, 0x0D), "26 OpOutside at 00000047")
+    in_checkbox("default_of_an_unknown_type", default(0, 0x0D), "26 OpOutside at 00000047")
     # What is too short.
     for name, op in (("subtitle", subtitle(9)), ("text", text_statement(9, 9)), ("reset_button", reset_button(9)), ("numeric", NUMBER),
                      ("numeric_of_two_bytes", numeric(2, 1, UNSIGNED, 2, 0, 9)), ("one_of", one_of(2, 1)),
@@ -46,7 +46,7 @@ def wrong_opcodes():
                      ("date", date(2)), ("time", time(2)), ("action", action(2)), ("ref", ref(2, b""))):
         in_form("%s_too_short" % name, cut(op), "27 OpSize at 00000039")
     in_choice("option_too_short", cut(option(5, 1)), "27 OpSize at 0000004a")
-    in_choice("option_without_a_kind", opcode(0x09, u16(5) + b"\0"), "27 OpSize at 0000004a")
+    in_choice("option_without_a_type", opcode(0x09, u16(5) + b"\0"), "27 OpSize at 0000004a")
     in_checkbox("default_too_short", cut(default(0, NUMBER_2, u16(1))), "27 OpSize at 00000047")
     in_form_set("default_store_too_short", cut(default_store(9, 0)), "27 OpSize at 00000033")
     in_form_set("store_of_names_too_short", cut(varstore_name_value(5)), "27 OpSize at 00000033")
@@ -93,4 +93,4 @@ def wrong_ids():
     told("option_too_large", scoped(one_of(1, 0), large), "37 OptionRange at 0000004a")
     told("option_too_large_without_a_store", scoped(one_of(1, 0, store=0), large), "37 OptionRange at 0000004a")
     told("options_of_two_widths", scoped(ordered_list(1, 0, 2), option(5, 1), option(6, 2, NUMBER_2)), "38 MixedOptions at 0000004f")
-    told("options_of_two_kinds", scoped(ordered_list(1, 0, 2), option(5, 1), option(6, 1, BOOLEAN)), "38 MixedOptions at 0000004f")
+    told("options_of_two_types", scoped(ordered_list(1, 0, 2), option(5, 1), option(6, 1, BOOLEAN)), "38 MixedOptions at 0000004f")

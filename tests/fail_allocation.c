@@ -1,6 +1,6 @@
-/* A library that stands before the C library's own (LD_PRELOAD) and refuses one growth of memory: the call of malloc or
- * realloc with the number in the variable REFUSE_GROWTH, counted from 1, answers a null pointer. What was refused is told by
- * a file with the name in REFUSE_GROWTH_TOLD, which is made then. */
+/* A library that stands before the C library's own (LD_PRELOAD) and makes one allocation fail: the call of malloc or realloc
+ * with the number in the variable FAIL_ALLOCATION, counted from 1, answers a null pointer. That it failed is told by a file
+ * with the name in FAIL_ALLOCATION_TOLD, which is made then. */
 #define _GNU_SOURCE
 #include <dlfcn.h>
 #include <errno.h>
@@ -11,10 +11,10 @@
 
 static unsigned long calls;
 
-static int is_refused(void)
+static int fails(void)
 {
-    const char *wanted = getenv("REFUSE_GROWTH");
-    const char *told = getenv("REFUSE_GROWTH_TOLD");
+    const char *wanted = getenv("FAIL_ALLOCATION");
+    const char *told = getenv("FAIL_ALLOCATION_TOLD");
 
     calls++;
     if (wanted == NULL || calls != strtoul(wanted, NULL, 10))
@@ -31,7 +31,7 @@ void *malloc(size_t size)
 
     if (next == NULL)
         next = (void *(*)(size_t))dlsym(RTLD_NEXT, "malloc");
-    return is_refused() ? NULL : next(size);
+    return fails() ? NULL : next(size);
 }
 
 void *realloc(void *block, size_t size)
@@ -40,5 +40,5 @@ void *realloc(void *block, size_t size)
 
     if (next == NULL)
         next = (void *(*)(void *, size_t))dlsym(RTLD_NEXT, "realloc");
-    return is_refused() ? NULL : next(block, size);
+    return fails() ? NULL : next(block, size);
 }
