@@ -1,4 +1,4 @@
-use crate::packages::{condition, forms_of, guarded, refusal, with};
+use crate::packages::{FRONT, condition, forms_of, guarded, refusal, with};
 use hii_bytes::Cause;
 use ifr_expr::{Answers, Value};
 use std::test::*;
@@ -100,7 +100,7 @@ fn references(rt: HostRuntime) {
         let (bytes, len) = with(&opcodes);
         assert_eq!(rt; refusal(alloc, &bytes[..len]), fault(cause, place));
     }
-    let (mut no_form, _) = with(&QUESTIONS);
+    let mut no_form = FRONT;
     no_form[27] = 0x29;
     no_form[28] = 2;
     assert_eq!(rt; refusal(alloc, &no_form[..29]), fault(Cause::NoForm, 4));
