@@ -13,7 +13,7 @@ pub(crate) fn list_of(alloc: Global, packages: &[u8]) -> Result<Vec<u8>, AllocEr
     Ok(list)
 }
 
-// Adds a string package with a language and blocks.
+// Adds a string package with a language and blocks, of less than 256 bytes in all.
 pub(crate) fn add_strings(
     packages: &mut Vec<u8>,
     language: &[u8],

@@ -39,6 +39,7 @@ fn package() -> ([u8; 512], usize)
     package_of(10, &FORM)
 }
 
+// The bytes of the store 1.
 const FIELDS: &[u8] = b"\x02\xff\x01\x00A\x00\x00\x00\x02\x00";
 
 // The questions of a form set. It has no clause, so that no test carries those of `Questions::read`.

@@ -10,21 +10,22 @@ use std::test::Fail;
 
 static GUID: [u8; 16] = [0x22; 16];
 
-// An image of one store, of the id 1 and 2 bytes; and the front of one of the older form, up to these.
+// An image of the store 1, of 2 bytes.
 static IMAGE: [u8; 28] = [
     0x48, 0x56, 0x53, 0x32, 0x22, 0x22, 0x22, 0x22, 0x22, 0x22, 0x22, 0x22, 0x22, 0x22, 0x22, 0x22,
     0x22, 0x22, 0x22, 0x22, 1, 0, 1, 0, 2, 0, 1, 0,
 ];
 
+// The front of one of the older form, up to these bytes.
 static OLDER: [u8; 10] = [0x48, 0x56, 0x53, 0x31, 1, 0, 1, 0, 2, 0];
 
-// A form behind one store of 2 bytes, and its END and that of the form set.
+// A form, over a store of 2 bytes.
 const FORM: [u8; 10] = [
     0x01, 0x86, 1, 0, 1, 0, // FORM, at 51
     0x29, 2, 0x29, 2, // at 57, 59
 ];
 
-// Behind that store, stores of all kinds, one inside a guard, and a form.
+// Stores of all kinds behind a store of 2 bytes, one of them inside a guard, and a form.
 const STORES: [u8; 87] = [
     0x25, 20, 5, 0, 1, 2, 3, 4, 5, 6, 7, 8, 9, 10, 11, 12, 13, 14, 15, 16, // VARSTORE_NAME_VALUE of the id 5, at 51
     0x0a, 0x82, 0x46, 2, // SUPPRESS_IF of TRUE, at 71
