@@ -1,4 +1,4 @@
-ghost use Rattle.std.specs.Prelude.{◌≡◌};
+ghost use Rattle.std.specs.Prelude.{◌≡◌, ◌≤◌, ◌<◌, ◌^◌, length};
 ghost use Rattle.ifr_scopes.specs.code.Checked.{IsNodeOf};
 ghost use Rattle.ifr_scopes.specs.code.Lists.{form_node};
 ghost use Rattle.guard_policy.specs.code.Views.{bytes_of};
@@ -201,14 +201,22 @@ fn is_shown<'a, R: Abort + AllocGlobal>(
     Ok(())
 }
 
-#[test]
-fn a_page_has_rows_and_is_written(rt: HostRuntime) -> Result<(), Fail> {
+// Shows the page of the first form of a package, with the texts of a list.
+fn shows<'a, R: Abort + AllocGlobal>(rt: &R, bytes: &'a [u8], list: &'a [u8]) -> Result<(), Fail>
+    requires header { 4 ≤ length bytes.now }
+    requires small { length bytes.now < 2 ^ 24 }
+{
     let alloc = rt.alloc();
-    let (bytes, len) = package();
-    let forms = forms_of(alloc, &bytes[..len])?;
+    let forms = forms_of(alloc, bytes)?;
     let layout = Layout::read(alloc, &forms)?;
     let questions = Questions::read(alloc, &forms, &layout)?;
-    let list = PackageList::read(string_list())?;
+    let list = PackageList::read(list)?;
     let languages = Languages::read(alloc, &list)?;
-    is_shown(&rt, &forms, &layout, &questions, &languages)
+    is_shown(rt, &forms, &layout, &questions, &languages)
+}
+
+#[test]
+fn a_page_has_rows_and_is_written(rt: HostRuntime) -> Result<(), Fail> {
+    let (bytes, len) = package();
+    shows(&rt, &bytes[..len], string_list())
 }
