@@ -29,6 +29,7 @@ pub mod SizeLemmas
 pub mod RuleOrderLemmas
 pub mod RulesOrderedLemmas
 pub mod FormLemmas
+pub mod FormPlaceLemmas
 pub mod KeptRuleLemmas
 pub mod NamedSizeLemmas
 pub mod FrameLemmas

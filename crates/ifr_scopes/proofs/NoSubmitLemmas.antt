@@ -81,7 +81,7 @@ pub is_condition : (n : Placed) → is_no_submit n ≡ true → is_condition_num
 unfolding is_condition_number
 is_condition n is = ap is_condition_number (eqb-true (number n.op) NO_SUBMIT_IF is)
 
-stands : (bytes : List ℕ) (place : ℕ) → has_node bytes place ≡ true → Contains (nodes_of bytes) (node_in bytes place)
+pub stands : (bytes : List ℕ) (place : ℕ) → has_node bytes place ≡ true → Contains (nodes_of bytes) (node_in bytes place)
 unfolding node_in
 stands bytes place there =
     let found = some_there (node_at (nodes_of bytes) place) there in

@@ -1,6 +1,7 @@
--- Forms and questions that are named twice, forms that are not there, and rules that are too large (own rule).
+-- Forms and questions by their ids: which are named twice, and which forms are not there; and rules that are too large
+-- (own rule).
 use Rattle.std.specs.Prelude.{◌≡◌, ◌⊎◌, ℕ, Bool, false, ◌==◌, ◌&&◌, not, Option, Some, None, List, [], ◌∷◌, ◌++◌, filter}
-use Rattle.std.specs.List.{list_any}
+use Rattle.std.specs.List.{list_any, find}
 use Rattle.hii_bytes.specs.Faults.{IsFaultOf}
 use Rattle.hii_bytes.specs.declared.cause.Cause.{Cause}
 use Rattle.hii_bytes.specs.declared.cause.Cause.TheVariants.{DuplicateForm, DuplicateQuestion, NoForm, RuleTooLarge}
@@ -21,6 +22,10 @@ ranked before (n ∷ ns) = record { before = before; node = n } ∷ ranked (befo
 
 abbrev pub has_form_id : ℕ → Placed → Bool
 has_form_id id n = is_form n && (form_id n.op == id)
+
+-- the form of an id (UEFI 2.8, 33.2.5.2 Forms)
+abbrev pub form_with : List Placed → ℕ → Option Placed
+form_with ns id = find (has_form_id id) ns
 
 abbrev pub has_question_id : ℕ → Placed → Bool
 has_question_id id n = is_question n && (question_id n.op == id)

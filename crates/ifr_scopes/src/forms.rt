@@ -1,24 +1,26 @@
 //! A forms package that was read.
 
-ghost use Rattle.std.specs.Prelude.{◌≡◌, ◌∷◌, List, IfOk, IfErr, filter, map, option_map};
+ghost use Rattle.std.specs.Prelude.{◌≡◌, ◌∷◌, true, List, IfOk, IfErr, filter, map, option_map};
 ghost use Rattle.hii_bytes.specs.Faults.{Refuses};
 ghost use Rattle.ifr_opcodes.specs.Forest.{Placed};
 ghost use Rattle.ifr_opcodes.specs.Opcode.{number};
 ghost use Rattle.ifr_scopes.specs.Accepted.{IsAccepted, IsPackageFault};
 ghost use Rattle.ifr_scopes.specs.code.AnyConditions.{any_condition_node};
-ghost use Rattle.ifr_scopes.specs.code.Checked.{node_in};
+ghost use Rattle.ifr_scopes.specs.code.Checked.{IsNodeOf, has_form, node_in};
 ghost use Rattle.ifr_scopes.specs.Guards.{is_guard};
 ghost use Rattle.ifr_scopes.specs.code.Index.{conditional_at, guards_of_indexed, lock_of_indexed};
 ghost use Rattle.ifr_scopes.specs.code.Kept.{AreKept};
-ghost use Rattle.ifr_scopes.specs.code.Lists.{form_set_node, stores_left, all_guards_left, forms_left, statements_left, guards_left};
+ghost use Rattle.ifr_scopes.specs.code.Lists.{form_node, form_set_node, stores_left, all_guards_left, forms_left, statements_left, guards_left};
 ghost use Rattle.ifr_scopes.specs.code.LocksLeft.{lock_node};
 ghost use Rattle.ifr_scopes.specs.Nodes.{nodes_of, is_form, is_store, is_statement, is_no_submit};
 ghost use Rattle.ifr_scopes.specs.code.NoSubmitsLeft.{no_submits_left};
+ghost use Rattle.ifr_scopes.specs.References.{form_with};
 
 use crate::any_condition::AnyCondition;
 use crate::condition_index::{ConditionIndex, conditions_of};
 use crate::condition_view::ConditionView;
-use crate::form::FormViews;
+use crate::form::{Form, FormViews};
+use crate::form_index::{FormIndex, forms_by_id};
 use crate::form_set::FormSet;
 use crate::framing::check_framing;
 use crate::guard::{Guard, GuardViews};
@@ -51,6 +53,7 @@ pub struct Forms<'a> {
     locks: LockIndex,
     no_submits: Vec<NoSubmitPlace>,
     conditions: ConditionIndex,
+    forms: FormIndex,
 }
 
 impl<'a> Model for Forms<'a> {
@@ -66,7 +69,8 @@ impl<'a> Model for Forms<'a> {
     ghost invariant = { λ s. IsReadAs s.ifr.now
         (λ place. option_map (λ v. v.items) (get nat_cmp s.index place)) s.rules
         (λ place. get nat_cmp s.locks place) s.no_submits.items
-        (λ place. get nat_cmp s.conditions place) };
+        (λ place. get nat_cmp s.conditions place)
+        (λ id. get nat_cmp s.forms id) };
 }
 
 impl<'a> Forms<'a> {
@@ -86,6 +90,7 @@ impl<'a> Forms<'a> {
         let locks = locks_of(alloc, ifr)?;
         let no_submits = no_submits_of(alloc, ifr)?;
         let conditions = conditions_of(alloc, ifr)?;
+        let forms = forms_by_id(alloc, ifr)?;
         Ok(Forms {
             ifr,
             rules,
@@ -93,6 +98,7 @@ impl<'a> Forms<'a> {
             locks,
             no_submits,
             conditions,
+            forms,
         })
     }
 
@@ -138,6 +144,25 @@ impl<'a> Forms<'a> {
         FormViews {
             nodes: Nodes::over(self.ifr),
         }
+    }
+
+    /// The form at a place, in bytes from the package's header, where one stands.
+    pub fn form_at(&self, place: u32) -> Form<'a>
+        requires { has_form self.now place ≡ true }
+        ensures place { (form_node result).place ≡ place }
+        ensures node { IsNodeOf self.now (form_node result) }
+    {
+        Form {
+            node: node_at(self.ifr, place),
+        }
+    }
+
+    /// The form of an id, found in a search.
+    pub fn form(&self, id: u16) -> Option<Form<'a>>
+        ensures { option_map form_node result ≡ form_with (nodes_of self.now) id }
+    {
+        let place = self.forms.get(&id)?;
+        Some(self.form_at(*place))
     }
 
     /// The statements of all forms, by place.

@@ -9,6 +9,7 @@ mod dependence;
 mod ends;
 mod form;
 mod form_end;
+mod form_index;
 mod form_set;
 mod forms;
 mod framing;

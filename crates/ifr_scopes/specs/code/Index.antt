@@ -9,6 +9,7 @@ use Rattle.ifr_scopes.specs.Kinds.{is_condition_number}
 use Rattle.ifr_scopes.specs.Locks.{first_lock}
 use Rattle.ifr_scopes.specs.code.LockIndex.{lock_place}
 use Rattle.ifr_scopes.specs.Nodes.{is_form, is_statement, is_option, this_of}
+use Rattle.ifr_scopes.specs.References.{form_with}
 
 abbrev pub is_indexed : Placed → Bool
 is_indexed n = is_form n || is_statement n || is_option n
@@ -55,3 +56,7 @@ conditional_at ns place = kind_at is_conditional ns place
 
 abbrev pub this_at : List Placed → ℕ → Option ℕ
 this_at ns place = option_map this_of (conditional_at ns place)
+
+-- the place of the form of an id
+abbrev pub form_place_with : List Placed → ℕ → Option ℕ
+form_place_with ns id = option_map (λ n. n.place) (form_with ns id)
