@@ -1,13 +1,13 @@
 -- What the place of an id tells of the stores.
-use Rattle.std.proofs.Common.{◌≡◌, ◌++◌, take, drop, add-one, ℕ, zero, suc, ◌+◌, ◌<◌, ◌≤◌, true, false, eqb, nat_eq, cond, ◌^◌, List, [], ◌∷◌, length, map, get_or, set, Option, Some, None, option_map, refl, sym, ap, ◌∙◌, arith, rules, inl, inr}
+use Rattle.std.proofs.Common.{◌≡◌, ◌++◌, take, drop, add-one, ℕ, zero, suc, ◌+◌, ◌<◌, ◌≤◌, true, false, eqb, nat_eq, cond, ◌^◌, List, [], ◌∷◌, length, map, get_or, set, slice_range, Option, Some, None, option_map, refl, sym, ap, ◌∙◌, subst, arith, rules, inl, inr}
 use Rattle.std.specs.List.{AllByRecursion, IsDistinct, find, position_from}
 use Rattle.std.specs.Option.{IsSomeAnd, IsSome}
 use Rattle.std.proofs.lemmas.Bool.{cases_Bool, eqb-true, eqb-false, ne_eqb}
 use Rattle.hii_varstore.specs.declared.buffer.Buffer.{Buffer}
-use Rattle.hii_varstore.specs.Stores.{Store, buffer_of, overwritten, store_with, with_bytes}
+use Rattle.hii_varstore.specs.Stores.{Store, StoreMap, buffer_of, overwritten, store_with, with_bytes}
 use Rattle.hii_varstore.specs.code.Table.{AreStores, place_of}
 use Rattle.hii_varstore.proofs.TableLemmas.{few_of}
-use Rattle.std.proofs.lemmas.List.{get_or-map, length-map, places}
+use Rattle.std.proofs.lemmas.List.{get_or-map, length-map, places, same_lists}
 
 -- the store of the id is the one at this place, and no earlier one
 abbrev pub IsAt : List Buffer → ℕ → ℕ → Type 0
@@ -119,6 +119,29 @@ put_is guid bs ss id i offset new d held here read =
     let apart = (rw (← held.laid) at held.sound.apart).1 in
     let changed : set ss i (store_with d offset new) ≡ set ss i (store_with (get_or ss i d) offset new) = ap (λ (s : Store). set ss i (store_with s offset new)) read in
     ap (λ (stores : List Store). record { guid = guid; stores = stores }) (changed ∙ written ss id i offset new d apart here)
+
+-- bytes whose range was written anew, with that range as it was
+given_bytes : (old new : List ℕ) (offset width : ℕ) → offset + width ≤ length old → length new ≡ width → overwritten (overwritten old offset new) offset (slice_range old offset (offset + width)) ≡ old
+given_bytes old new offset width within size = same_lists _ _ (search (rules, places)) (λ k d h. grind (arith, places))
+
+given_in : (ss : List Store) (id i offset : ℕ) (new old : List ℕ) (d : Store) → IsDistinct nat_eq (map (λ (b : Buffer). b.id) (map buffer_of ss)) → IsAt (map buffer_of ss) id i
+    → overwritten (overwritten (get_or ss i d).bytes offset new) offset old ≡ (get_or ss i d).bytes → map (λ (s : Store). cond (eqb s.id id) (store_with s offset old) s) (map (λ (s : Store). cond (eqb s.id id) (store_with s offset new) s) ss) ≡ ss
+unfolding IsDistinct
+given_in [] id i offset new old d apart h given = absurd h
+given_in (s ∷ ss) id zero offset new old d apart h given =
+    let none = rw (eqb-true s.id id h) at apart.0 in
+    rw (h, h, unwritten ss id offset new none, unwritten ss id offset old none, given) refl
+given_in (s ∷ ss) id (suc i) offset new old d apart h given = rw (h.0, h.0, given_in ss id i offset new old d apart.1 h.1 given) refl
+
+-- stores of which a range was written anew, with that range as it was
+pub given_back : (m now : StoreMap) (bs : List Buffer) (id i offset width : ℕ) (new : List ℕ) (d : Store) → AreStores bs m.stores → IsAt (map buffer_of m.stores) id i → d ≡ get_or m.stores i d → offset + width ≤ length d.bytes → length new ≡ width
+    → now ≡ with_bytes m id offset new → with_bytes now id offset (slice_range d.bytes offset (offset + width)) ≡ m
+unfolding with_bytes IsDistinct
+given_back m now bs id i offset width new d held here read within size anew =
+    let apart = (rw (← held.laid) at held.sound.apart).1 in
+    let old = slice_range d.bytes offset (offset + width) in
+    let given = subst (λ (s : Store). overwritten (overwritten s.bytes offset new) offset old ≡ s.bytes) read (given_bytes d.bytes new offset width within size) in
+    rw anew (ap (λ (stores : List Store). record { guid = m.guid; stores = stores }) (given_in m.stores id i offset new old d apart here given))
 
 -- one more store that is copied
 copied : (ss ts : List Store) (i : ℕ) (d : Store) → i < length ss → i < length ts → set (take i ts ++ drop i ss) i (get_or ts i d) ≡ take (suc i) ts ++ drop (suc i) ss

@@ -2,7 +2,7 @@
 
 ghost use Rattle.std.specs.Prelude.{◌≡◌, ◌+◌, ◌<◌, ◌≤◌, ◌^◌, IfOk, length, slice_range};
 ghost use Rattle.std.specs.Borrow.{sem};
-ghost use Rattle.hii_varstore.specs.Stores.{buffer_of};
+ghost use Rattle.hii_varstore.specs.Stores.{buffer_of, store_with};
 ghost use Rattle.hii_varstore.specs.code.Lending.{LendsRange};
 
 use std::alloc::{AllocError, Global};
@@ -73,5 +73,16 @@ impl Store {
         ensures { self.new ≡ other.now }
     {
         self.bytes.copy_from_slice(&other.bytes);
+    }
+
+    /// Takes over a range of the bytes of another store, which reaches as far.
+    pub(crate) fn copy_range(&mut self, other: &Store, offset: usize, width: usize)
+        requires own { offset + width ≤ length self.old.bytes }
+        requires others { offset + width ≤ length other.now.bytes }
+        ensures { self.new ≡ store_with self.old offset
+            (slice_range other.now.bytes offset (offset + width)) }
+    {
+        self.range_mut(offset, width)
+            .copy_from_slice(&other.bytes[offset..offset + width]);
     }
 }

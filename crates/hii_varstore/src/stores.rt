@@ -1,9 +1,9 @@
 //! What the buffer stores of a form set hold.
 
-ghost use Rattle.std.specs.Prelude.{◌≡◌, IfOk, IfErr, MatchOption, length, map, option_copied, Some};
+ghost use Rattle.std.specs.Prelude.{◌≡◌, ℕ, IfOk, IfErr, IsSomeAnd, List, MatchOption, length, map, option_copied, Some};
 ghost use Rattle.hii_bytes.specs.Faults.{Refuses, out_of_memory};
 ghost use Rattle.hii_bytes.specs.Watching.{pen_of, Puts, Writes, Tells};
-ghost use Rattle.hii_varstore.specs.Stores.{StoreMap, buffer_of, shape_of, bytes_of, bytes_of_field};
+ghost use Rattle.hii_varstore.specs.Stores.{StoreMap, buffer_of, shape_of, bytes_of, bytes_of_field, with_bytes};
 ghost use Rattle.hii_varstore.specs.code.Ranges.{IsCut};
 ghost use Rattle.hii_varstore.specs.code.Ranges.{HasRange};
 ghost use Rattle.hii_varstore.specs.code.Lending.{LendsField};
@@ -115,6 +115,21 @@ impl Stores {
         ensures { self.new ≡ other.now }
     {
         copy_all(&mut self.stores, &other.stores);
+    }
+
+    /// Takes over the `width` bytes of the store of an id from an offset in bytes on from other stores of the same layout.
+    pub fn copy_range(&mut self, from: &Stores, id: u16, offset: usize, width: usize)
+        requires same { shape_of self.old ≡ shape_of from.now }
+        requires range { HasRange (shape_of self.old) id offset width }
+        ensures copied { IsSomeAnd (bytes_of_field from.now id offset width)
+            (λ bytes. self.new ≡ with_bytes self.old id offset bytes) }
+        ensures shape { shape_of self.new ≡ shape_of self.old }
+        // Stores that differed in this range alone are the same again.
+        ensures given_back { (new : List ℕ) → length new ≡ width
+            → self.old ≡ with_bytes from.now id offset new → self.new ≡ from.now }
+    {
+        let place = self.table.find(id).unwrap();
+        self.stores[place].copy_range(&from.stores[place], offset, width);
     }
 
     /// Writes the image of the stores. At a writer's fault the front of the image is written, as many bytes as the fault
