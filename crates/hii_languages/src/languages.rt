@@ -140,11 +140,12 @@ impl<'a> Languages<'a> {
         self.tables.get(number?)?.text(id)
     }
 
-    // The text of a string id in the string package of a number. The first one is asked only where that has none.
-    fn text_for(&self, number: Option<usize>, id: u16) -> Option<Units<'a>>
-        ensures { option_map units_in result ≡ text_under self.now number id }
+    /// The text of a string id: that of the chosen string package, else that of the first one (own rule), which is asked only
+    /// where the chosen one has none.
+    pub fn units(&self, choice: Choice, id: u16) -> Option<Units<'a>>
+        ensures { option_map units_in result ≡ text_under self.now (choice_of choice) id }
     {
-        match self.text_in(number, id) {
+        match self.text_in(choice.number, id) {
             Some(units) => Some(units),
             None => self.text_in(Some(0), id),
         }
@@ -159,7 +160,7 @@ impl<'a> Languages<'a> {
         if id == 0 {
             return Shown::Nothing;
         }
-        match self.text_for(choice.number, id) {
+        match self.units(choice, id) {
             Some(units) => Shown::Units(units),
             None => Shown::Missing(id),
         }
