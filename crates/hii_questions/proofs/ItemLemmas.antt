@@ -84,3 +84,10 @@ items_within w bytes =
     let part : length (items_in w bytes) * w ≤ length bytes / w * w = mul-le-mul_right w less in
     let whole = div-mul-le_self (length bytes) w in
     omega (arith, part, whole)
+
+-- up to where so many items lie, where these are left of all
+pub front_more : (end left fewer w all : ℕ) → end + left * w ≡ all → left ≡ suc fewer → end + w ≤ all
+front_more end left fewer w all counted more = let h = rw more at counted in grind (arith, h)
+
+pub front_all : (end left w all : ℕ) → end + left * w ≡ all → left ≡ 0 → end ≡ all
+front_all end left w all counted none = let h = rw none at counted in omega (arith, h)

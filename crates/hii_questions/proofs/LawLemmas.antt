@@ -12,6 +12,7 @@ use Rattle.ifr_opcodes.specs.Forest.{Placed}
 use Rattle.ifr_opcodes.specs.Opcode.{number}
 use Rattle.ifr_opcodes.specs.declared.codes.TheConstants.{CHECKBOX, NUMERIC, ONE_OF, STRING, PASSWORD, ORDERED_LIST}
 use Rattle.ifr_scopes.specs.Nodes.{is_question, options}
+use Rattle.ifr_scopes.proofs.FormPlaceLemmas.{found}
 use Rattle.ifr_scopes.proofs.ViewLemmas.{further}
 use Rattle.hii_varstore.specs.Layout.{size_of}
 use Rattle.hii_varstore.specs.code.Ranges.{HasRange}
@@ -27,15 +28,6 @@ use Rattle.hii_questions.specs.Inputs.{Offer, units, field, field_as, read_as, i
 use Rattle.hii_questions.specs.laws.Fields.{HoldsFields, FindsQuestions, ReadsBack, LeavesOthers, HasBytes, taken_value, FillsFields}
 use Rattle.hii_questions.specs.Types.{type_of, option_values}
 use Rattle.hii_questions.proofs.KeptLemmas.{IsSound, kept, wide}
-
--- what is found is among those that are searched, and passes the test
-found : {X : Type 0} (p : X → Bool) (xs : List X) (x : X) → find p xs ≡ Some x → Contains xs x × (p x ≡ true)
-found p [] x e = absurd cc
-found p (y ∷ xs) x e = go (p y) refl (found p xs x) e
-  where
-    go : (b : Bool) → p y ≡ b → (find p xs ≡ Some x → Contains xs x × (p x ≡ true)) → cond b (Some y) (find p xs) ≡ Some x → Contains (y ∷ xs) x × (p x ≡ true)
-    go true h later e = let same : y ≡ x = cc in ((0, omega arith, same), ap p (sym same) ∙ h)
-    go false h later e = let there = later e in (further y xs x there.0, there.1)
 
 pub finds_questions : FindsQuestions
 finds_questions ns id n e = elim (cases_Bool (eqb id 0)) [

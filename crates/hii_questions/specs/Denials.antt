@@ -1,7 +1,7 @@
 -- How denials are named, and which are told with a text (own rule).
 use Rattle.std.specs.Prelude.{ℕ, Bool, true, false, List, codes}
 use Rattle.hii_questions.specs.declared.denial.DenialKind.{DenialKind}
-use Rattle.hii_questions.specs.declared.denial.DenialKind.TheVariants.{DisableIf, SuppressIf, GrayOutIf, Locked, ReadOnly, Outside, Kind, Range, NoOption, Length, Repeat, EmptySet, BadText, InconsistentIf, NoSubmitIf, NoQuestion}
+use Rattle.hii_questions.specs.declared.denial.DenialKind.TheVariants.{DisableIf, SuppressIf, GrayOutIf, Locked, ReadOnly, Outside, Kind, Range, NoOption, Length, Repeat, EmptySet, BadText, InconsistentIf, NoSubmitIf, NoQuestion, NotRef, NotButton, NoRow, NoBack, DeepHistory}
 
 abbrev pub kind_name : DenialKind → List ℕ
 kind_name DisableIf = codes "disableif"
@@ -20,6 +20,11 @@ kind_name BadText = codes "badtext"
 kind_name InconsistentIf = codes "inconsistentif"
 kind_name NoSubmitIf = codes "nosubmitif"
 kind_name NoQuestion = codes "noquestion"
+kind_name NotRef = codes "notref"
+kind_name NotButton = codes "notbutton"
+kind_name NoRow = codes "norow"
+kind_name NoBack = codes "noback"
+kind_name DeepHistory = codes "deephistory"
 
 -- whether a denial of a kind is told with the text of the opcode that decides
 abbrev pub has_text : DenialKind → Bool

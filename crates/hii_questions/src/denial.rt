@@ -38,6 +38,16 @@ pub enum DenialKind {
     NoSubmitIf,
     /// No question has the id.
     NoQuestion,
+    /// The question is no reference.
+    NotRef,
+    /// The statement is no button.
+    NotButton,
+    /// The page has no such row.
+    NoRow,
+    /// No form was left by a reference.
+    NoBack,
+    /// So many forms were left by references as are kept.
+    DeepHistory,
 }
 
 impl DenialKind {
@@ -62,6 +72,11 @@ impl DenialKind {
             DenialKind::InconsistentIf => "inconsistentif",
             DenialKind::NoSubmitIf => "nosubmitif",
             DenialKind::NoQuestion => "noquestion",
+            DenialKind::NotRef => "notref",
+            DenialKind::NotButton => "notbutton",
+            DenialKind::NoRow => "norow",
+            DenialKind::NoBack => "noback",
+            DenialKind::DeepHistory => "deephistory",
         }
     }
 

@@ -1,6 +1,8 @@
 //! The items of a field, one number each: a number alone, the characters of a text, the elements of a list.
 
-ghost use Rattle.std.specs.Prelude.{◌≡◌, ◌∷◌, [], MatchOption, chars};
+ghost use Rattle.std.specs.Prelude.{◌≡◌, ◌∷◌, [], true, MatchOption, chars};
+ghost use Rattle.hii_questions.specs.Items.{bytes_of_items};
+ghost use Rattle.hii_questions.specs.code.Widths.{is_width};
 
 use crate::stored_items::StoredItems;
 use hii_bytes::NumberList;
@@ -50,4 +52,17 @@ impl<'i> Iterator for Items<'i> {
             Items::Stored(stored) => stored.step(),
         }
     }
+}
+
+/// The front of some bytes that their items fill, of 1, 2, 4 or 8 bytes each: all before the first item that is 0, without a part
+/// of an item at the end (own rule).
+pub fn bytes_of_items(bytes: &[u8], width: usize) -> &[u8]
+    requires { is_width width ≡ true }
+    ensures { result.now ≡ bytes_of_items width bytes.now }
+{
+    let mut end = 0;
+    for _item in Items::Stored(StoredItems { bytes, width }) {
+        end += width;
+    }
+    &bytes[..end]
 }

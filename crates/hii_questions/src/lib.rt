@@ -30,6 +30,7 @@ pub use elements::element_width;
 pub use field::Field;
 pub use field_range::FieldRange;
 pub use input::Input;
+pub use items::bytes_of_items;
 pub use numbers::shown;
 pub use over::Over;
 pub use question::Question;
