@@ -1,0 +1,3 @@
+pub mod Defaults
+pub mod code
+pub mod laws

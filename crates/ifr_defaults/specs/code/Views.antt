@@ -1,0 +1,15 @@
+-- What the values of the code stand for.
+use Rattle.std.specs.Prelude.{ℕ, Option, List}
+use Rattle.ifr_expr.specs.Values.{Value}
+use Rattle.ifr_scopes.specs.code.Rules.{rules_of}
+use Rattle.hii_languages.specs.Languages.{Spoken}
+use Rattle.hii_languages.specs.Shown.{text_under}
+use Rattle.ifr_defaults.specs.Defaults.{Sources}
+
+-- the rules of a forms package, what questions answer, and the texts of string packages of which one is chosen
+abbrev pub sources_of : List ℕ → (ℕ → Value) → List Spoken → Option ℕ → Sources
+sources_of forms answers languages choice = record {
+  rules = rules_of forms;
+  answers = answers;
+  texts = text_under languages choice;
+}
