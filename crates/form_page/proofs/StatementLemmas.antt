@@ -1,14 +1,17 @@
 -- The statements of a page, one after the other.
-use Rattle.std.proofs.Common.{◌≡◌, ℕ, ◌+◌, true, Some, None, List, ◌∷◌, ap, ◌∙◌, inl, inr}
+use Rattle.std.proofs.Common.{◌≡◌, ℕ, true, Option, Some, None, List, [], ◌∷◌, MatchOption, IfSome, option_map, sym, subst, ◌∙◌, inl, inr}
 use Rattle.std.specs.Prelude.{is_none, filter, if◌then◌else◌}
+use Rattle.std.specs.List.{slice_get}
+use Rattle.std.proofs.lemmas.Option.{slice_get_within, get_or_from_slice_get}
+use Rattle.std.proofs.lemmas.List.Elements.{All-filter}
 use Rattle.std.proofs.lemmas.Bool.{cond-true, cond-false, cases_Bool}
 use Rattle.ifr_opcodes.specs.Forest.{Placed}
 use Rattle.ifr_scopes.specs.Nodes.{is_question}
-use Rattle.hii_varstore.specs.Stores.{StoreMap}
+use Rattle.ifr_scopes.specs.code.Checked.{IsNodeOf, AreNodesOf}
 use Rattle.hii_questions.specs.Fields.{Asked, asked}
+use Rattle.guard_policy.proofs.OptionLemmas.{rest_of}
 use Rattle.guard_policy.specs.Policy.{hidden}
 use Rattle.guard_policy.specs.World.{World}
-use Rattle.form_page.specs.Pages.{row_of, rows_from}
 
 -- a question that is found for a statement is the statement
 pub asked_is : (ns : List Placed) (n : Placed) (q : Asked) → Some q ≡ (if is_question n then Some (asked ns n) else None) → (is_question n ≡ true) × (q ≡ asked ns n)
@@ -17,12 +20,19 @@ asked_is ns n q e = elim (cases_Bool (is_question n)) [
   | inr none ↦ let nothing = e ∙ cond-false (is_question n) (Some (asked ns n)) None none in absurd cc
 ]
 
-abbrev seen : World → List Placed → List Placed
-seen w its = filter (λ n. is_none (hidden w n)) its
+-- what a call of `next` leaves of statements of a package
+pub nodes_after : {X : Type 0} (view : X → Placed) (bytes : List ℕ) (r : Option X) (left after : List Placed) → MatchOption r ((left ≡ []) × (after ≡ [])) (λ x. left ≡ view x ∷ after)
+    → AreNodesOf bytes left → AreNodesOf bytes after
+nodes_after view bytes None left after e all = subst (AreNodesOf bytes) (e.0 ∙ sym e.1) all
+nodes_after view bytes (Some x) left after e all = rest_of bytes left (view x) after e all
 
--- the row of the first statement, where it is not hidden
-pub rows_first : (texts : ℕ → List ℕ) (w : World) (stores : StoreMap) (number : ℕ) (left rest : List Placed) (n : Placed) → left ≡ n ∷ rest → is_none (hidden w n) ≡ true
-    → rows_from texts w stores number (seen w left) ≡ row_of texts w stores number n ∷ rows_from texts w stores (number + 1) (seen w rest)
-rows_first texts w stores number left rest n e shown =
-    ap (λ (l : List Placed). rows_from texts w stores number (seen w l)) e
-    ∙ ap (rows_from texts w stores number) (cond-true (is_none (hidden w n)) (n ∷ seen w rest) (seen w rest) shown)
+-- of statements of a package those that are listed
+pub listed_nodes : (bytes : List ℕ) (w : World) (ns : List Placed) → AreNodesOf bytes ns → AreNodesOf bytes (filter (λ m. is_none (hidden w m)) ns)
+listed_nodes bytes w ns = All-filter (λ (m : Placed). is_none (hidden w m)) (IsNodeOf bytes) ns
+
+-- of nodes of a package the one at an index
+pub node_at_index : {X : Type 0} (view : X → Placed) (bytes : List ℕ) (ns : List Placed) (k : ℕ) (r : Option X) → option_map view r ≡ slice_get ns k → AreNodesOf bytes ns
+    → IfSome r (λ x. IsNodeOf bytes (view x))
+node_at_index view bytes ns k None e all = tt
+node_at_index view bytes ns k (Some x) e all =
+    subst (IsNodeOf bytes) (get_or_from_slice_get ns k (view x) (view x) (sym e)) (all k (view x) (slice_get_within ns k (view x) (sym e)))

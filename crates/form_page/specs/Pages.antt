@@ -1,7 +1,7 @@
 -- The page of a form: its title and a row for each of its statements that is not hidden (UEFI 2.8, 33.2.5.2 Forms; how a row
 -- looks is an own rule).
-use Rattle.std.specs.Prelude.{ℕ, ◌+◌, Bool, ◌==◌, ◌||◌, if◌then◌else◌, Option, Some, None, is_some, is_none, List, [], ◌∷◌, ◌++◌, filter, codes, decimal}
-use Rattle.std.specs.List.{flat_map}
+use Rattle.std.specs.Prelude.{ℕ, ◌+◌, ◌-◌, Bool, ◌==◌, ◌||◌, if◌then◌else◌, Option, Some, None, is_some, is_none, List, [], ◌∷◌, ◌++◌, filter, codes, decimal}
+use Rattle.std.specs.List.{flat_map, slice_get}
 use Rattle.hii_bytes.specs.Texts.{right_aligned}
 use Rattle.ifr_opcodes.specs.Forest.{Placed}
 use Rattle.ifr_opcodes.specs.Fields.{form_id, form_title, statement_prompt, question_id}
@@ -47,10 +47,18 @@ rows_from texts w stores number [] = []
 rows_from texts w stores number (n ∷ rest) =
     row_of texts w stores number n ∷ rows_from texts w stores (number + 1) rest
 
+-- the statements of a form that are not hidden
+abbrev pub listed_statements : World → Placed → List Placed
+listed_statements w form = filter (λ n. is_none (hidden w n)) (statements form)
+
+-- the statement of a row, numbered from 1; there is none at 0 and past the last row
+abbrev pub statement_in_row : World → Placed → ℕ → Option Placed
+statement_in_row w form row =
+    if row == 0 then None else slice_get (listed_statements w form) (row - 1)
+
 -- the rows of a form, numbered from 1
 abbrev pub rows_of_form : (ℕ → List ℕ) → World → StoreMap → Placed → List Row
-rows_of_form texts w stores form =
-    rows_from texts w stores 1 (filter (λ n. is_none (hidden w n)) (statements form))
+rows_of_form texts w stores form = rows_from texts w stores 1 (listed_statements w form)
 
 -- a question's id in five columns, or that there is none
 abbrev pub id_text : Option ℕ → List ℕ

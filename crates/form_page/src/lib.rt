@@ -4,19 +4,22 @@
 mod ascii_text;
 mod decisions;
 mod hex_digits;
+mod listed;
 mod option_texts;
 mod page;
 mod print;
 mod row;
 mod row_value;
+mod rows;
 mod shown;
 mod statement_row;
 mod statement_value;
 mod value_chars;
 
 pub use option_texts::Elements;
-pub use page::{Page, Rows};
+pub use page::Page;
 pub use row::Row;
 pub use row_value::{Hexadecimal, RowValue};
+pub use rows::Rows;
 pub use shown::put_shown;
 pub use value_chars::RowValueChars;

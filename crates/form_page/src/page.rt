@@ -1,23 +1,22 @@
 //! Pages.
 
-ghost use Rattle.std.specs.Prelude.{◌≡◌, ◌+◌, ◌<◌, ◌^◌, length};
+ghost use Rattle.std.specs.Prelude.{◌≡◌, IfSome, option_map};
 ghost use Rattle.ifr_opcodes.specs.Fields.{form_title};
-ghost use Rattle.ifr_scopes.specs.code.Checked.{IsNodeOf, IsNodeOf-prop, AreNodesOf, AreNodesOf-prop};
-ghost use Rattle.ifr_scopes.specs.code.Lists.{form_node, statements_left};
+ghost use Rattle.ifr_scopes.specs.code.Checked.{IsNodeOf, IsNodeOf-prop};
+ghost use Rattle.ifr_scopes.specs.code.Lists.{form_node, statement_node};
 ghost use Rattle.hii_languages.specs.code.Views.{choice_of, text_of};
 ghost use Rattle.guard_policy.specs.code.KeptConditions.{TellsAll, TellsAll-prop};
 ghost use Rattle.guard_policy.specs.code.Views.{bytes_of, world};
 ghost use Rattle.form_page.specs.Pages as pages;
 
-use crate::decisions::is_listed;
-use crate::row::Row;
-use crate::statement_row::row_of;
+use crate::listed::Listed;
+use crate::rows::Rows;
 use guard_policy::{Conditions, Policy};
 use hii_languages::{Choice, Languages, Shown};
 use hii_questions::Questions;
 use hii_varstore::Stores;
 use ifr_scopes::laws::{statements_are_few, statements_are_nodes};
-use ifr_scopes::{Form, Statements};
+use ifr_scopes::{Form, Statement};
 use std::alloc::AllocError;
 
 /// The page of a form over some stores (UEFI 2.8, 33.2.5.2 Forms), by what is kept of conditions.
@@ -48,18 +47,9 @@ impl<'a, 's, C: Conditions> Clone for Page<'a, 's, C> {
     }
 }
 
-/// The rows that are left of a page.
-#[derive(Drop)]
-pub struct Rows<'a, 's, C: Conditions> {
-    page: Page<'a, 's, C>,
-    statements: Statements<'a>,
-    number: u32,
-    pub ghost together: { AreNodesOf (bytes_of page.policy) (statements_left statements) } by { AreNodesOf-prop (bytes_of page.policy) (statements_left statements) },
-    pub ghost few: { number + length (statements_left statements) < 2 ^ 32 },
-}
-
 impl<'a, 's, C: Conditions> Page<'a, 's, C> {
     ghost use Rattle.form_page.specs.code.PageViews.{texts_of, world_of};
+    ghost use Rattle.form_page.specs.code.ListedViews.{listed_left};
     ghost use Rattle.form_page.specs.code.Views.{rows_left};
 
     /// The page of a form of the policy's package, with texts in the chosen language. The questions are those of this package, and
@@ -106,34 +96,34 @@ impl<'a, 's, C: Conditions> Page<'a, 's, C> {
             (world_of self.now) self.now.stores.now (form_node self.now.form) }
     {
         statements_are_few();
-        statements_are_nodes();
         Rows {
-            page: *self,
-            statements: self.form.statements(),
+            listed: self.listed(),
             number: 1,
         }
     }
-}
 
-impl<'a, 's, C: Conditions> Iterator for Rows<'a, 's, C> {
-    ghost use Rattle.std.specs.Iterator.{YieldsFirstBy, item_count};
-    ghost use Rattle.form_page.specs.code.Views.{row_seen, rows_left};
+    /// The statement of a row, numbered from 1, if the page has that row.
+    pub fn statement_in_row(&self, row: u32) -> Option<Statement<'a>>
+        ensures found { option_map statement_node result
+            ≡ pages.statement_in_row (world_of self.now) (form_node self.now.form) row }
+        ensures node { IfSome result (λ statement. IsNodeOf (bytes_of self.now.policy)
+            (statement_node statement)) }
+    {
+        let above = row.checked_sub(1)?;
+        let mut listed = self.listed();
+        listed.nth(above as usize)
+    }
 
-    type Item = Row<'a, 's, C>;
-
-    ghost next_gives = { YieldsFirstBy row_seen rows_left };
-
-    ghost remaining = { item_count rows_left };
-
-    fn next(&mut self) -> Option<Row<'a, 's, C>> {
-        let page = self.page;
-        while let Some(statement) = self.statements.next() {
-            if is_listed(page, statement) {
-                let row = row_of(page, self.number, statement);
-                self.number += 1;
-                return Some(row);
-            }
+    // The statements of the form that are not hidden.
+    fn listed(&self) -> Listed<'a, 's, C>
+        ensures page { result.page ≡ self.now }
+        ensures left { listed_left result ≡ pages.listed_statements (world_of self.now)
+            (form_node self.now.form) }
+    {
+        statements_are_nodes();
+        Listed {
+            page: *self,
+            statements: self.form.statements(),
         }
-        None
     }
 }

@@ -8,8 +8,9 @@ ghost use Rattle.form_page.specs.code.PageViews.{texts_of, world_of};
 ghost use Rattle.form_page.specs.Pages as pages;
 ghost use Rattle.form_page.specs.code.Views.{rows_left};
 
-use crate::page::{Page, Rows};
+use crate::page::Page;
 use crate::row::put_row;
+use crate::rows::Rows;
 use crate::shown::put_shown;
 use guard_policy::Conditions;
 use hii_bytes::{Watched, WriteFault};

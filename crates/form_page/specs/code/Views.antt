@@ -1,15 +1,14 @@
 -- What the values of a page stand for.
-use Rattle.std.specs.Prelude.{is_none, List, filter}
-use Rattle.ifr_scopes.specs.code.Lists.{statements_left}
+use Rattle.std.specs.Prelude.{List}
 use Rattle.hii_languages.specs.code.Views.{text_of}
-use Rattle.guard_policy.specs.Policy.{hidden}
 use Rattle.guard_policy.specs.declared.conditions.Conditions.{Ghosts}
+use Rattle.form_page.specs.code.ListedViews.{listed_left}
 use Rattle.form_page.specs.code.PageViews.{texts_of, world_of}
 use Rattle.form_page.specs.Pages.{rows_from}
 use Rattle.form_page.specs.Pages as pages
 use Rattle.form_page.specs.code.RowViews.{value_text}
 use Rattle.form_page.specs.declared.row.Row.{Row}
-use Rattle.form_page.specs.declared.page.Rows.{Rows}
+use Rattle.form_page.specs.declared.rows.Rows.{Rows}
 
 -- a row with the characters of its texts
 abbrev pub row_seen : {C : Type 0} {g : Ghosts C} → Row C g → pages.Row
@@ -24,6 +23,5 @@ row_seen row =
 
 abbrev pub rows_left : {C : Type 0} {g : Ghosts C} → Rows C g → List pages.Row
 rows_left it =
-    let w = world_of it.page in
-    rows_from (texts_of it.page) w it.page.stores.now it.number
-    (filter (λ n. is_none (hidden w n)) (statements_left it.statements))
+    let page = it.listed.page in
+    rows_from (texts_of page) (world_of page) page.stores.now it.number (listed_left it.listed)

@@ -1,11 +1,11 @@
 use Rattle.std.proofs.Common.{◌≡◌, length}
 use Rattle.ifr_scopes.specs.code.Lists.{statements_left}
-use Rattle.form_page.specs.code.Views.{rows_left}
-use Rattle.form_page.proofs.page.RowsIterator.next.Given as goal
+use Rattle.form_page.specs.code.ListedViews.{listed_left}
+use Rattle.form_page.proofs.listed.Listed.step.Given as goal
 
 -- the statements that were passed are hidden
 abbrev pub invariant-loop-statement : goal.invariant-loop-statement
-invariant-loop-statement g l = (l.page ≡ l.self.page) × (rows_left l.self ≡ rows_left l.fn.self)
+invariant-loop-statement g l = (l.page ≡ l.self.page) × (listed_left l.self ≡ listed_left l.fn.self)
 
 abbrev pub decreases-loop-statement : goal.decreases-loop-statement
 decreases-loop-statement g l = length (statements_left l.self.statements)

@@ -1,0 +1,55 @@
+//! The statements of a form that its page shows.
+
+ghost use Rattle.std.specs.Prelude.{◌≡◌, IfSome};
+ghost use Rattle.ifr_scopes.specs.code.Checked.{IsNodeOf, AreNodesOf, AreNodesOf-prop};
+ghost use Rattle.ifr_scopes.specs.code.Lists.{statement_node, statements_left};
+ghost use Rattle.guard_policy.specs.code.Views.{bytes_of};
+
+use crate::decisions::is_listed;
+use crate::page::Page;
+use guard_policy::Conditions;
+use ifr_scopes::{Statement, Statements};
+
+/// The statements that are left of a page, by place: those of its form that are not hidden.
+#[derive(Drop)]
+pub(crate) struct Listed<'a, 's, C: Conditions> {
+    pub(crate) page: Page<'a, 's, C>,
+    pub(crate) statements: Statements<'a>,
+    pub ghost together: { AreNodesOf (bytes_of page.policy) (statements_left statements) } by { AreNodesOf-prop (bytes_of page.policy) (statements_left statements) },
+}
+
+impl<'a, 's, C: Conditions> Listed<'a, 's, C> {
+    ghost use Rattle.std.specs.Iterator.{YieldsFirstBy};
+    ghost use Rattle.form_page.specs.code.ListedViews.{listed_left};
+
+    /// Takes the first statement.
+    pub(crate) fn step(&mut self) -> Option<Statement<'a>>
+        ensures steps { YieldsFirstBy statement_node listed_left self.old result self.new }
+        ensures page { self.new.page ≡ self.old.page }
+        ensures node { IfSome result (λ statement. IsNodeOf (bytes_of self.old.page.policy)
+            (statement_node statement)) }
+    {
+        let page = self.page;
+        while let Some(statement) = self.statements.next() {
+            if is_listed(page, statement) {
+                return Some(statement);
+            }
+        }
+        None
+    }
+}
+
+impl<'a, 's, C: Conditions> Iterator for Listed<'a, 's, C> {
+    ghost use Rattle.std.specs.Iterator.{YieldsFirstBy, item_count};
+    ghost use Rattle.form_page.specs.code.ListedViews.{listed_left};
+
+    type Item = Statement<'a>;
+
+    ghost next_gives = { YieldsFirstBy statement_node listed_left };
+
+    ghost remaining = { item_count listed_left };
+
+    fn next(&mut self) -> Option<Statement<'a>> {
+        self.step()
+    }
+}
