@@ -1,6 +1,11 @@
 -- What commands leave as it is.
-use Rattle.std.proofs.Common.{◌≡◌, ℕ, ◌+◌, ◌<◌, ◌≤◌, Option, Some, None, Result, Ok, Err, List, [], ◌∷◌, refl, sym, ap, ◌∙◌, arith, inl, inr}
+use Rattle.std.proofs.Common.{◌≡◌, ℕ, ◌+◌, ◌-◌, ◌<◌, ◌≤◌, ◌==◌, Bool, true, false, cond, Option, Some, None, Result, Ok, Err, List, [], ◌∷◌, length, slice_get, refl, sym, ap, subst, ◌∙◌, arith, inl, inr}
+use Rattle.std.specs.Prelude.{Contains}
 use Rattle.std.proofs.lemmas.Bool.{cases_lt}
+use Rattle.std.proofs.lemmas.List.Elements.{Contains-append_left, Contains-append_right}
+use Rattle.ifr_opcodes.specs.Fields.{reset_default}
+use Rattle.ifr_opcodes.specs.Opcode.{number}
+use Rattle.ifr_opcodes.specs.declared.codes.TheConstants.{RESET_BUTTON}
 use Rattle.ifr_opcodes.specs.Forest.{Placed}
 use Rattle.ifr_scopes.specs.Nodes.{nodes_of}
 use Rattle.hii_varstore.specs.Stores.{StoreMap}
@@ -11,13 +16,18 @@ use Rattle.hii_questions.specs.Fits.{fits}
 use Rattle.hii_questions.specs.Inputs.{Offer, whole, listed, utf8}
 use Rattle.hii_questions.proofs.LawLemmas.{fits_wide}
 use Rattle.hii_questions.specs.declared.denial.DenialKind.{DenialKind}
-use Rattle.guard_policy.specs.Policy.{fixed, unsubmitted}
+use Rattle.hii_questions.specs.declared.denial.DenialKind.TheVariants.{NotButton}
+use Rattle.ifr_defaults.specs.Defaults.{default_of}
+use Rattle.guard_policy.specs.Policy.{denied_by, fixed, unsubmitted}
 use Rattle.guard_policy.specs.declared.denial.Denial.{Denial}
-use Rattle.hii_commands.specs.Orders.{Order, ShowPage, SetValue, OrderElements, SetText, AskWhy, ChooseLanguage, SubmitChanges, DiscardChanges}
+use Rattle.hii_commands.specs.Orders.{Order, ShowPage, SetValue, OrderElements, SetText, FollowReference, GoBack, PressButton, TakeDefaults, AskWhy, ChooseLanguage, SubmitChanges, DiscardChanges}
 use Rattle.browser_core.specs.State.{State, world_of}
-use Rattle.browser_core.specs.Step.{Outcome, step, told_why, question_denial, set_question, set_unless_fixed, set_unless_forbidden, set_fitting, value_denial, with_field, submit_unless}
-use Rattle.browser_core.specs.declared.reply.Reply.TheVariants.{Accepted}
-use Rattle.browser_core.specs.laws.Bytes.{id_set, SetsByte, KeepsOtherBytes}
+use Rattle.browser_core.specs.Step.{Outcome, Taken, step, denied, form_of, told_why, question_denial, set_question, set_unless_fixed, set_unless_forbidden, set_fitting, value_denial, with_field, submit_unless, sources, taken_if, take_offer, take_default, take_each, questions_in, taken, take_defaults, press_unless_fixed, press_statement, row_of_form}
+use Rattle.browser_core.specs.declared.reply.Reply.{Reply}
+use Rattle.browser_core.specs.declared.reply.Reply.TheVariants.{Accepted, Denied, Refused}
+use Rattle.browser_core.specs.laws.Bytes.{named_if, pressed_if, questions_set, SetsByte, KeepsOtherBytes}
+use Rattle.browser_core.proofs.GoLemmas.{LeavesStores, follow_leaves, back_leaves}
+use Rattle.browser_core.proofs.SealedLemmas.{set_keeps as set_keeps_package}
 
 -- ---- one command
 
@@ -84,14 +94,94 @@ set_submits s offer (Some n) = unless_submits s n offer (fixed (world_of s) n)
 abbrev pub Keeps : State → State → ℕ → ℕ → Type 0
 Keeps s t store at = (byte_of t.working store at ≡ byte_of s.committed store at) × (byte_of t.committed store at ≡ byte_of s.committed store at)
 
+-- No question of some has the byte.
+abbrev NoneHas : List Placed → List ℕ → ℕ → ℕ → Type 0
+NoneHas qs ifr store at = (n : Placed) (field : Field) → Contains qs n → field_of (nodes_of ifr) n ≡ Some field → store ≡ field.store → field.offset ≤ at → at < field.offset + field.width → ⊥
+
+named_contains : (o : Option Placed) (n : Placed) (r : Reply) → o ≡ Some n → r ≡ Accepted → Contains (named_if o r) n
+named_contains o n r named is = rw (named, is) (0, omega arith, refl)
+
 -- a command that sets a question
-setting_keeps : (s : State) (order : Order) (id : ℕ) (offer : Offer) (store at : ℕ) → id_set order ≡ Some id → step s order ≡ set_question s (question_with (nodes_of s.ifr) id) offer
-    → byte_of s.working store at ≡ byte_of s.committed store at → (SetsByte s order store at → ⊥) → Keeps s (step s order).state store at
-setting_keeps s order id offer store at names steps same none = (
-  ap (λ (o : Outcome). byte_of o.state.working store at) steps
-      ∙ set_keeps s offer store at (question_with (nodes_of s.ifr) id) (λ n field found is here from inside ok. none (id, n, field, names, found, is, here, from, inside, ap (λ (o : Outcome). o.reply) steps ∙ ok)) ∙ same,
-  ap (λ (o : Outcome). byte_of o.state.committed store at) steps ∙ ap (λ m. byte_of m store at) (set_submits s offer (question_with (nodes_of s.ifr) id)),
+setting_keeps : (s : State) (o : Option Placed) (offer : Offer) (store at : ℕ) → byte_of s.working store at ≡ byte_of s.committed store at
+    → NoneHas (named_if o (set_question s o offer).reply) s.ifr store at → Keeps s (set_question s o offer).state store at
+setting_keeps s o offer store at same none = (
+  set_keeps s offer store at o (λ n field is found here from inside ok. none n field (named_contains o n (set_question s o offer).reply is ok) found here from inside) ∙ same,
+  ap (λ m. byte_of m store at) (set_submits s offer o),
 )
+
+-- ---- defaults
+
+set_grows : (qs : List Placed) (q n : Placed) (r : Reply) → Contains qs n → Contains (taken_if qs q r) n
+set_grows qs q n Accepted c = Contains-append_left qs (q ∷ []) n c
+set_grows qs q n (Denied d) c = c
+set_grows qs q n (Refused cause) c = c
+
+offer_grows : (t : Taken) (q n : Placed) (o : Option Offer) → Contains t.questions n → Contains (take_offer t q o).questions n
+offer_grows t q n None c = c
+offer_grows t q n (Some offer) c = set_grows t.questions q n (set_question t.state (Some q) offer).reply c
+
+-- those that took their defaults stay so
+each_grows : (class : ℕ) (t : Taken) (qs : List Placed) (n : Placed) → Contains t.questions n → Contains (take_each class t qs).questions n
+each_grows class t [] n c = c
+each_grows class t (q ∷ qs) n c = each_grows class (take_default class t q) qs n (offer_grows t q n (default_of (sources t.state) q class) c)
+
+taken_contains : (qs : List Placed) (q n : Placed) (r : Reply) → Some q ≡ Some n → r ≡ Accepted → Contains (taken_if qs q r) n
+taken_contains qs q n r same is =
+    let e : q ≡ n = cc in
+    rw (is, e) (Contains-append_right qs (n ∷ []) n (0, omega arith, refl))
+
+-- The second state has the package and the submitted stores of the first, and the byte in those that commands change.
+pub record KeepsByte (s t : State) (store at : ℕ) : Type 0 where
+  pub ifr : t.ifr ≡ s.ifr
+  pub committed : t.committed ≡ s.committed
+  pub working : byte_of t.working store at ≡ byte_of s.working store at
+
+offer_keeps : (t : Taken) (q : Placed) (store at : ℕ) (o : Option Offer) → NoneHas (take_offer t q o).questions t.state.ifr store at → KeepsByte t.state (take_offer t q o).state store at
+offer_keeps t q store at None none = record { ifr = refl; committed = refl; working = refl }
+offer_keeps t q store at (Some offer) none = record {
+  ifr = (set_keeps_package t.state offer (Some q)).ifr;
+  committed = set_submits t.state offer (Some q);
+  working = set_keeps t.state offer store at (Some q)
+      (λ n field is found here from inside ok. none n field (taken_contains t.questions q n (set_question t.state (Some q) offer).reply is ok) found here from inside);
+}
+
+each_keeps : (class : ℕ) (t : Taken) (qs : List Placed) (store at : ℕ) → NoneHas (take_each class t qs).questions t.state.ifr store at → KeepsByte t.state (take_each class t qs).state store at
+each_keeps class t [] store at none = record { ifr = refl; committed = refl; working = refl }
+each_keeps class t (q ∷ qs) store at none =
+    let next = take_default class t q in
+    let first = offer_keeps t q store at (default_of (sources t.state) q class) (λ n field c. none n field (each_grows class next qs n c)) in
+    let later = each_keeps class next qs store at (λ n field c found. none n field c (subst (λ (ifr : List ℕ). field_of (nodes_of ifr) n ≡ Some field) first.ifr found)) in
+    record { ifr = later.ifr ∙ first.ifr; committed = later.committed ∙ first.committed; working = later.working ∙ first.working }
+
+defaults_keep : (s : State) (class store at : ℕ) → byte_of s.working store at ≡ byte_of s.committed store at → NoneHas (taken s class).questions s.ifr store at → Keeps s (take_defaults s class).state store at
+defaults_keep s class store at same none =
+    let kept = each_keeps class record { state = s; questions = [] } (questions_in (form_of s)) store at none in
+    (kept.working ∙ same, ap (λ m. byte_of m store at) kept.committed)
+
+-- ---- a button
+
+unfixed_keeps : (s : State) (button : Placed) (store at : ℕ) (o : Option Denial) → byte_of s.working store at ≡ byte_of s.committed store at
+    → NoneHas (pressed_if s (Some button) (press_unless_fixed s button o).reply) s.ifr store at → Keeps s (press_unless_fixed s button o).state store at
+unfixed_keeps s button store at (Some denial) same none = (same, refl)
+unfixed_keeps s button store at None same none = defaults_keep s (reset_default button.op) store at same none
+
+abbrev pressed : State → Placed → Bool → Outcome
+pressed s n is = cond is (press_unless_fixed s n (fixed (world_of s) n)) (denied s (denied_by NotButton n))
+
+button_keeps : (s : State) (n : Placed) (store at : ℕ) (is : Bool) → byte_of s.working store at ≡ byte_of s.committed store at → NoneHas (pressed_if s (Some n) (pressed s n is).reply) s.ifr store at
+    → Keeps s (pressed s n is).state store at
+button_keeps s n store at true same none = unfixed_keeps s n store at (fixed (world_of s) n) same none
+button_keeps s n store at false same none = (same, refl)
+
+press_keeps : (s : State) (store at : ℕ) (o : Option Placed) → byte_of s.working store at ≡ byte_of s.committed store at → NoneHas (pressed_if s o (press_statement s o).reply) s.ifr store at
+    → Keeps s (press_statement s o).state store at
+press_keeps s store at None same none = (same, refl)
+press_keeps s store at (Some n) same none = button_keeps s n store at (number n.op == RESET_BUTTON) same none
+
+-- ---- other commands
+
+leaves_keep : (s t : State) (store at : ℕ) → byte_of s.working store at ≡ byte_of s.committed store at → LeavesStores s t → Keeps s t store at
+leaves_keep s t store at same leaves = (ap (λ m. byte_of m store at) leaves.working ∙ same, ap (λ m. byte_of m store at) leaves.committed)
 
 why_keeps : (s : State) (o : Option Denial) (store at : ℕ) → byte_of s.working store at ≡ byte_of s.committed store at → Keeps s (told_why s o).state store at
 why_keeps s None store at same = (same, refl)
@@ -101,11 +191,18 @@ submit_keeps : (s : State) (o : Option Denial) (store at : ℕ) → byte_of s.wo
 submit_keeps s (Some denial) store at same = (same, refl)
 submit_keeps s None store at same = (same, same)
 
+none_sets : (s : State) (order : Order) (store at : ℕ) → (SetsByte s order store at → ⊥) → NoneHas (questions_set s order) s.ifr store at
+none_sets s order store at none n field c found here from inside = none (n, field, c, found, here, from, inside)
+
 step_keeps : (s : State) (order : Order) (store at : ℕ) → byte_of s.working store at ≡ byte_of s.committed store at → (SetsByte s order store at → ⊥) → Keeps s (step s order).state store at
 step_keeps s ShowPage store at same none = (same, refl)
-step_keeps s (SetValue id value) store at same none = setting_keeps s (SetValue id value) id (whole value) store at refl refl same none
-step_keeps s (OrderElements id numbers) store at same none = setting_keeps s (OrderElements id numbers) id (listed numbers) store at refl refl same none
-step_keeps s (SetText id text) store at same none = setting_keeps s (SetText id text) id (utf8 text) store at refl refl same none
+step_keeps s (SetValue id value) store at same none = setting_keeps s (question_with (nodes_of s.ifr) id) (whole value) store at same (none_sets s (SetValue id value) store at none)
+step_keeps s (OrderElements id numbers) store at same none = setting_keeps s (question_with (nodes_of s.ifr) id) (listed numbers) store at same (none_sets s (OrderElements id numbers) store at none)
+step_keeps s (SetText id text) store at same none = setting_keeps s (question_with (nodes_of s.ifr) id) (utf8 text) store at same (none_sets s (SetText id text) store at none)
+step_keeps s (FollowReference id) store at same none = leaves_keep s _ store at same (follow_leaves s (question_with (nodes_of s.ifr) id))
+step_keeps s GoBack store at same none = leaves_keep s _ store at same (back_leaves s (slice_get s.history (length s.history - 1)))
+step_keeps s (PressButton row) store at same none = press_keeps s store at (row_of_form s row (form_of s)) same (none_sets s (PressButton row) store at none)
+step_keeps s (TakeDefaults class) store at same none = defaults_keep s class store at same (none_sets s (TakeDefaults class) store at none)
 step_keeps s (ChooseLanguage language) store at same none = (same, refl)
 step_keeps s (AskWhy id) store at same none = why_keeps s (question_denial s (question_with (nodes_of s.ifr) id)) store at same
 step_keeps s SubmitChanges store at same none = submit_keeps s (unsubmitted (world_of s)) store at same

@@ -1,3 +1,4 @@
+pub mod Cores
 pub mod RunLemmas
 pub mod OpeningLemmas
 pub mod FormLemmas
@@ -6,5 +7,8 @@ pub mod SetLemmas
 pub mod ChangeLemmas
 pub mod LawLemmas
 pub mod DecidingLemmas
+pub mod DefaultLemmas
+pub mod FollowLemmas
+pub mod GoLemmas
 pub mod SealedLemmas
 pub mod WorkedCases

@@ -1,5 +1,5 @@
 -- Which bytes open a session, and with which faults they do not.
-use Rattle.std.proofs.Common.{◌≡◌, ℕ, List, ◌∷◌, ◌++◌, Option, Some, true, length, drop, refl, sym, ap, subst, ◌∙◌, arith, length-append, inl, inr}
+use Rattle.std.proofs.Common.{◌≡◌, ℕ, List, [], ◌∷◌, ◌++◌, Option, Some, true, length, drop, refl, sym, ap, subst, ◌∙◌, arith, length-append, inl, inr}
 use Rattle.std.specs.List.{concat}
 use Rattle.std.specs.Prelude.{filter}
 use Rattle.std.specs.Option.{IsSome}
@@ -174,8 +174,8 @@ refuses_image list n stores ifr shape fault f b laid r =
 pub opened : (list : List ℕ) (n : ℕ) (stores language : List ℕ) (packages : List (List ℕ)) (source : Entry) (start : State) (shape : Shape) (first : Placed) (others : List Placed)
     → SpellsPackages list packages → nth_forms packages n ≡ Some source → start.ifr ≡ source.bytes → AreSpoken (string_packages packages) start.spoken → start.language ≡ chosen start.spoken language
     → IsBrowsable start.ifr → shape ≡ layout_in start.ifr → SpellsImage shape stores start.committed
-    → start.working ≡ start.committed → start.removed ≡ removed_at (nodes_of start.ifr) start.working → filter is_form (nodes_of start.ifr) ≡ first ∷ others → start.form ≡ first.place → Opens list n stores language start
-opened list n stores language packages source start shape first others s found is says chose b laid spelled same removed forms place = record {
+    → start.working ≡ start.committed → start.removed ≡ removed_at (nodes_of start.ifr) start.working → filter is_form (nodes_of start.ifr) ≡ first ∷ others → start.form ≡ first.place → start.history ≡ [] → Opens list n stores language start
+opened list n stores language packages source start shape first others s found is says chose b laid spelled same removed forms place none = record {
   source = source;
   found = (packages, s, found);
   bytes = is;
@@ -187,4 +187,5 @@ opened list n stores language packages source start shape first others s found i
   removed = removed;
   others = places others;
   forms = ap places forms ∙ ap (λ (p : ℕ). p ∷ places others) (sym place);
+  history = none;
 }

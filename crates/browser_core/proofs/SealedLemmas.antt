@@ -1,9 +1,12 @@
 -- Two sessions that hold the same in sealed questions answer commands on these alike.
-use Rattle.std.proofs.Common.{◌≡◌, ℕ, ◌+◌, ◌<◌, ◌==◌, Bool, true, false, cond, Option, Some, None, option_map, Result, Ok, Err, List, [], ◌∷◌, ◌++◌, length, get_or, map, slice_range, refl, sym, ap, subst, ◌∙◌, arith}
+use Rattle.std.proofs.Common.{◌≡◌, ℕ, ◌+◌, ◌-◌, ◌<◌, ◌==◌, Bool, true, false, cond, Option, Some, None, option_map, Result, Ok, Err, List, [], ◌∷◌, ◌++◌, length, slice_get, get_or, map, slice_range, refl, sym, ap, subst, ◌∙◌, arith}
 use Rattle.std.specs.Prelude.{Contains}
 use Rattle.std.specs.List.{AllByRecursion, flat_map}
 use Rattle.std.proofs.lemmas.List.{places, same_lists}
+use Rattle.ifr_opcodes.specs.Fields.{reset_default}
 use Rattle.ifr_opcodes.specs.Forest.{Placed}
+use Rattle.ifr_opcodes.specs.Opcode.{number}
+use Rattle.ifr_opcodes.specs.declared.codes.TheConstants.{RESET_BUTTON}
 use Rattle.ifr_expr.specs.Meaning.{answered}
 use Rattle.ifr_expr.specs.Values.{Value, undefined}
 use Rattle.ifr_scopes.specs.Nodes.{nodes_of, options, inconsistents, warnings}
@@ -17,19 +20,22 @@ use Rattle.hii_questions.specs.Fits.{fits}
 use Rattle.hii_questions.specs.Inputs.{Offer, whole, listed, utf8}
 use Rattle.hii_questions.specs.Types.{type_of}
 use Rattle.hii_questions.specs.declared.denial.DenialKind.{DenialKind}
-use Rattle.guard_policy.specs.Policy.{or_else, fixed, closed, first_closed, inconsistent, warned, unsubmitted}
+use Rattle.hii_questions.specs.declared.denial.DenialKind.TheVariants.{NotButton}
+use Rattle.ifr_defaults.specs.Defaults.{default_of}
+use Rattle.guard_policy.specs.Policy.{denied_by, or_else, fixed, closed, first_closed, inconsistent, warned, unsubmitted}
 use Rattle.guard_policy.specs.laws.Support.{around, support_over}
 use Rattle.guard_policy.specs.Warned.{warning_of}
 use Rattle.guard_policy.specs.World.{World, is_met_over, world_over}
 use Rattle.guard_policy.specs.declared.denial.Denial.{Denial}
 use Rattle.guard_policy.proofs.SupportLemmas.{front, back, all_alike, fixed_same, closed_same, inconsistent_same, warned_same}
-use Rattle.hii_commands.specs.Orders.{Order, ShowPage, SetValue, OrderElements, SetText, AskWhy, ChooseLanguage, SubmitChanges, DiscardChanges}
+use Rattle.hii_commands.specs.Orders.{Order, ShowPage, SetValue, OrderElements, SetText, FollowReference, GoBack, PressButton, TakeDefaults, AskWhy, ChooseLanguage, SubmitChanges, DiscardChanges}
 use Rattle.browser_core.specs.laws.Bytes.{state_with, answers_to}
 use Rattle.browser_core.specs.Opening.{layout_in}
 use Rattle.browser_core.specs.laws.Sealed.{deciding, IsSealed, HoldAlike, AreAlike, IsLaid, SessionsAreLaid, IsOn, SealedQuestionsAnswerAlike}
 use Rattle.browser_core.specs.State.{State, world_with, world_of, texts}
-use Rattle.browser_core.specs.Step.{Outcome, step, denied, no_question, told_why, question_denial, why_question, set_question, set_unless_fixed, set_fitting, set_stores, set_unless_forbidden, value_denial, named_values, with_field, field_bytes, submit_unless}
+use Rattle.browser_core.specs.Step.{Outcome, Taken, step, denied, form_of, sources, take_offer, take_default, take_each, questions_in, take_defaults, press_unless_fixed, press_statement, row_of_form, no_question, told_why, question_denial, why_question, set_question, set_unless_fixed, set_fitting, set_stores, set_unless_forbidden, value_denial, named_values, with_field, field_bytes, submit_unless}
 use Rattle.browser_core.specs.Texts.{ok_text, warning_line}
+use Rattle.browser_core.proofs.GoLemmas.{LeavesStores, follow_leaves, back_leaves}
 
 -- ---- bytes that are written
 
@@ -140,11 +146,11 @@ module _ (ns : List Placed) (ids : List ℕ) (a b : StoreMap) (alike : HoldAlike
 
 -- ---- one command
 
-module _ (s : State) (ids : List ℕ) (committed working : StoreMap) (form : ℕ) (sealed : IsSealed (nodes_of s.ifr) ids) (shapes : shape_of s.working ≡ shape_of working)
+module _ (s : State) (ids : List ℕ) (committed working : StoreMap) (form : ℕ) (history : List ℕ) (sealed : IsSealed (nodes_of s.ifr) ids) (shapes : shape_of s.working ≡ shape_of working)
     (submitted : HoldAlike (nodes_of s.ifr) ids s.committed committed) (read : HoldAlike (nodes_of s.ifr) ids s.working working) where
   -- a session like this one over other stores
   abbrev beside : State
-  beside = record s { committed = committed; working = working; form = form }
+  beside = record s { committed = committed; working = working; form = form; history = history }
 
   abbrev ns : List Placed
   ns = nodes_of s.ifr
@@ -214,11 +220,15 @@ module _ (s : State) (ids : List ℕ) (committed working : StoreMap) (form : ℕ
   step_beside (AskWhy id) on = why_alike id on (question_with ns id) refl
   step_beside DiscardChanges on = (refl, record { ifr = refl; removed = refl; spoken = refl; language = refl; committed = submitted; working = submitted })
   step_beside ShowPage on = absurd on
+  step_beside (FollowReference id) on = absurd on
+  step_beside GoBack on = absurd on
+  step_beside (PressButton row) on = absurd on
+  step_beside (TakeDefaults class) on = absurd on
   step_beside (ChooseLanguage language) on = absurd on
   step_beside SubmitChanges on = absurd on
 
 -- the second session is the first one over its own stores
-beside_is : (s t : State) → s.ifr ≡ t.ifr → s.removed ≡ t.removed → s.spoken ≡ t.spoken → s.language ≡ t.language → record s { committed = t.committed; working = t.working; form = t.form } ≡ t
+beside_is : (s t : State) → s.ifr ≡ t.ifr → s.removed ≡ t.removed → s.spoken ≡ t.spoken → s.language ≡ t.language → record s { committed = t.committed; working = t.working; form = t.form; history = t.history } ≡ t
 beside_is s t ifr removed spoken language = rw (ifr, removed, spoken, language) refl
 
 step_alike : (s t : State) (ids : List ℕ) (order : Order) → IsLaid s → IsLaid t → IsSealed (nodes_of s.ifr) ids → AreAlike ids s t → IsOn ids order
@@ -227,7 +237,7 @@ step_alike s t ids order laid also sealed alike on =
     let shapes = laid.working ∙ ap layout_in alike.ifr ∙ sym also.working in
     subst (λ (u : State). ((step s order).text ≡ (step u order).text) × AreAlike ids (step s order).state (step u order).state)
     (beside_is s t alike.ifr alike.removed alike.spoken alike.language)
-    (step_beside s ids t.committed t.working t.form sealed shapes alike.committed alike.working order on)
+    (step_beside s ids t.committed t.working t.form t.history sealed shapes alike.committed alike.working order on)
 
 -- ---- sessions are laid
 
@@ -254,13 +264,42 @@ unless_keeps : (s : State) (q : Placed) (offer : Offer) (o : Option Denial) → 
 unless_keeps s q offer (Some d) = keeps_all s
 unless_keeps s q offer None = fitting_keeps s q (fits (nodes_of s.ifr) q offer)
 
-set_keeps : (s : State) (offer : Offer) (o : Option Placed) → Keeps s (set_question s o offer).state
+pub set_keeps : (s : State) (offer : Offer) (o : Option Placed) → Keeps s (set_question s o offer).state
 set_keeps s offer None = keeps_all s
 set_keeps s offer (Some q) = unless_keeps s q offer (fixed (world_of s) q)
 
 why_keeps : (s : State) (o : Option Denial) → Keeps s (told_why s o).state
 why_keeps s None = keeps_all s
 why_keeps s (Some d) = keeps_all s
+
+leaves_keep : (s t : State) → LeavesStores s t → Keeps s t
+leaves_keep s t leaves = record { ifr = leaves.ifr; committed = ap shape_of leaves.committed; working = ap shape_of leaves.working }
+
+pub offer_keeps : (t : Taken) (q : Placed) (o : Option Offer) → Keeps t.state (take_offer t q o).state
+offer_keeps t q None = keeps_all t.state
+offer_keeps t q (Some offer) = set_keeps t.state offer (Some q)
+
+each_keeps : (class : ℕ) (t : Taken) (qs : List Placed) → Keeps t.state (take_each class t qs).state
+each_keeps class t [] = keeps_all t.state
+each_keeps class t (q ∷ qs) =
+    let first = offer_keeps t q (default_of (sources t.state) q class) in
+    let later = each_keeps class (take_default class t q) qs in
+    record { ifr = later.ifr ∙ first.ifr; committed = later.committed ∙ first.committed; working = later.working ∙ first.working }
+
+defaults_keep : (s : State) (class : ℕ) → Keeps s (take_defaults s class).state
+defaults_keep s class = each_keeps class record { state = s; questions = [] } (questions_in (form_of s))
+
+unfixed_keeps : (s : State) (button : Placed) (o : Option Denial) → Keeps s (press_unless_fixed s button o).state
+unfixed_keeps s button (Some d) = keeps_all s
+unfixed_keeps s button None = defaults_keep s (reset_default button.op)
+
+button_keeps : (s : State) (n : Placed) (is : Bool) → Keeps s (cond is (press_unless_fixed s n (fixed (world_of s) n)) (denied s (denied_by NotButton n))).state
+button_keeps s n true = unfixed_keeps s n (fixed (world_of s) n)
+button_keeps s n false = keeps_all s
+
+press_keeps : (s : State) (o : Option Placed) → Keeps s (press_statement s o).state
+press_keeps s None = keeps_all s
+press_keeps s (Some n) = button_keeps s n (number n.op == RESET_BUTTON)
 
 submit_laid : (s : State) (o : Option Denial) → IsLaid s → IsLaid (submit_unless s o).state
 submit_laid s None laid = record { committed = laid.working; working = laid.working }
@@ -277,6 +316,10 @@ step_laid s (SetValue id value) laid = kept_laid s _ (set_keeps s (whole value) 
 step_laid s (OrderElements id numbers) laid = kept_laid s _ (set_keeps s (listed numbers) (question_with (nodes_of s.ifr) id)) laid
 step_laid s (SetText id text) laid = kept_laid s _ (set_keeps s (utf8 text) (question_with (nodes_of s.ifr) id)) laid
 step_laid s (AskWhy id) laid = kept_laid s _ (why_keeps s (question_denial s (question_with (nodes_of s.ifr) id))) laid
+step_laid s (FollowReference id) laid = kept_laid s _ (leaves_keep s _ (follow_leaves s (question_with (nodes_of s.ifr) id))) laid
+step_laid s GoBack laid = kept_laid s _ (leaves_keep s _ (back_leaves s (slice_get s.history (length s.history - 1)))) laid
+step_laid s (PressButton row) laid = kept_laid s _ (press_keeps s (row_of_form s row (form_of s))) laid
+step_laid s (TakeDefaults class) laid = kept_laid s _ (defaults_keep s class) laid
 step_laid s ShowPage laid = laid
 step_laid s (ChooseLanguage language) laid = record { committed = laid.committed; working = laid.working }
 step_laid s SubmitChanges laid = submit_laid s (unsubmitted (world_of s)) laid
@@ -299,6 +342,10 @@ on_keeps s ids (OrderElements id numbers) on = (set_keeps s (listed numbers) (qu
 on_keeps s ids (SetText id text) on = (set_keeps s (utf8 text) (question_with (nodes_of s.ifr) id)).ifr
 on_keeps s ids (AskWhy id) on = (why_keeps s (question_denial s (question_with (nodes_of s.ifr) id))).ifr
 on_keeps s ids DiscardChanges on = refl
+on_keeps s ids (FollowReference id) on = absurd on
+on_keeps s ids GoBack on = absurd on
+on_keeps s ids (PressButton row) on = absurd on
+on_keeps s ids (TakeDefaults class) on = absurd on
 on_keeps s ids ShowPage on = refl
 on_keeps s ids (ChooseLanguage language) on = refl
 on_keeps s ids SubmitChanges on = absurd on

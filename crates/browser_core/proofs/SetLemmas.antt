@@ -1,12 +1,13 @@
 -- Setting a question to a value.
-use Rattle.std.proofs.Common.{◌≡◌, ℕ, List, ◌++◌, Option, Some, None, Ok, Err, refl, sym, ap, ◌∙◌, subst}
-use Rattle.std.specs.Prelude.{option_map}
+use Rattle.std.proofs.Common.{◌≡◌, ℕ, Bool, true, false, List, ◌++◌, length, Option, Some, None, Ok, Err, refl, sym, ap, ◌∙◌, subst}
+use Rattle.std.specs.Prelude.{option_map, if◌then◌else◌}
 use Rattle.ifr_opcodes.specs.Forest.{Placed}
 use Rattle.ifr_opcodes.specs.Reading.{tree_of}
 use Rattle.ifr_scopes.specs.Accepted.{IsAccepted}
 use Rattle.ifr_scopes.specs.code.Checked.{IsNodeOf}
-use Rattle.ifr_scopes.specs.Nodes.{nodes_of}
+use Rattle.ifr_scopes.specs.Nodes.{nodes_of, is_question}
 use Rattle.ifr_scopes.proofs.PlaceLemmas.{is_found}
+use Rattle.ifr_scopes.proofs.ViewLemmas.{contains_found}
 use Rattle.hii_varstore.specs.Layout.{Shape}
 use Rattle.hii_varstore.specs.code.Ranges.{HasRange}
 use Rattle.hii_varstore.specs.Stores.{StoreMap, shape_of, with_bytes}
@@ -17,26 +18,19 @@ use Rattle.hii_questions.specs.Fits.{fits}
 use Rattle.hii_questions.specs.Inputs.{Offer}
 use Rattle.hii_questions.specs.code.NewBytes.{new_bytes}
 use Rattle.hii_questions.specs.declared.field.Field.{Field}
-use Rattle.hii_questions.proofs.LawLemmas.{finds_questions, found_fits}
-use Rattle.hii_questions.specs.code.Views.{question_node, question_view}
-use Rattle.hii_questions.specs.declared.question.Question.{Question}
+use Rattle.hii_questions.specs.declared.denial.DenialKind.{DenialKind}
+use Rattle.hii_questions.proofs.LawLemmas.{finds_questions, holds_fields, fits_wide}
 use Rattle.guard_policy.specs.Policy.{fixed, unsubmitted}
 use Rattle.guard_policy.specs.code.Answers.{unless}
 use Rattle.guard_policy.proofs.DenialLemmas.{none_of, some_of}
 use Rattle.guard_policy.specs.declared.denial.Denial.{Denial}
 use Rattle.browser_core.specs.State.{State, world_of}
-use Rattle.browser_core.specs.Step.{accepted, denied, no_question, question_denial, value_denial, warned_text, set_stores, set_question, commit, submitted}
+use Rattle.browser_core.specs.Step.{accepted, denied, value_denial, warned_text, set_stores, set_question, commit, submitted}
 use Rattle.browser_core.specs.Texts.{ok_text}
 use Rattle.browser_core.specs.Opening.{IsBrowsable, layout_in}
-use Rattle.browser_core.specs.code.Standing.{IsQuestionOf, Selects}
+use Rattle.browser_core.specs.code.Standing.{IsQuestionIn}
 
--- the question of an id is a node of the package
-pub question_is_node : (ifr asked : List ℕ) (id : ℕ) (n : Placed) → IsAccepted ifr → asked ≡ ifr → question_with (nodes_of asked) id ≡ Some n → IsNodeOf ifr n
-question_is_node ifr asked id n accepted same found =
-    let there = finds_questions (nodes_of ifr) id n (subst (λ bytes. question_with (nodes_of bytes) id ≡ Some n) same found) in
-    is_found ifr (tree_of ifr) n accepted.checked.spelled there.0
-
--- ---- the question of an id
+-- ---- questions of the package
 
 -- the question that was found, and its field
 some_asked : (ns : List Placed) (o : Option Placed) (q : Asked) → option_map (asked ns) o ≡ Some q → (o ≡ Some q.node) × (q.field ≡ field_of ns q.node)
@@ -45,40 +39,62 @@ some_asked ns (Some n) q e =
     let same : asked ns n ≡ q = cc in
     (ap (λ (x : Asked). Some x.node) same, ap (λ (x : Asked). x.field) (sym same) ∙ ap (λ (x : Asked). field_of ns x.node) same)
 
-pub found_asked : (ns : List Placed) (id : ℕ) (q : Asked) → Some q ≡ option_map (asked ns) (question_with ns id) → (question_with ns id ≡ Some q.node) × (q.field ≡ field_of ns q.node)
-found_asked ns id q e = some_asked ns (question_with ns id) q (sym e)
+with_field_of : (ns : List Placed) (q : Asked) → q.field ≡ field_of ns q.node → q ≡ asked ns q.node
+with_field_of ns q e = ap (λ (f : Option fields.Field). record { node = q.node; field = f }) e
 
-pub is_question_of : (ifr asks : List ℕ) (id : ℕ) (q : Asked) → IsAccepted ifr → asks ≡ ifr → Some q ≡ option_map (asked (nodes_of asks)) (question_with (nodes_of asks) id) → IsQuestionOf ifr id q
-is_question_of ifr asks id q accepted same e =
-    let found = found_asked (nodes_of ifr) id q (subst (λ (bytes : List ℕ). Some q ≡ option_map (asked (nodes_of bytes)) (question_with (nodes_of bytes) id)) same e) in
-    record {
-      named = found.0;
-      own = ap (λ (f : Option fields.Field). record { node = q.node; field = f }) found.1;
-      node = question_is_node ifr ifr id q.node accepted refl found.0;
-    }
+-- the question of an id
+pub is_question_of : (ifr asks : List ℕ) (id : ℕ) (q : Asked) → IsAccepted ifr → asks ≡ ifr → is_question q.node ≡ true → Some q ≡ option_map (asked (nodes_of asks)) (question_with (nodes_of asks) id)
+    → IsQuestionIn ifr q × (question_with (nodes_of ifr) id ≡ Some q.node)
+is_question_of ifr asks id q accepted same asks_it e =
+    let found = some_asked (nodes_of ifr) (question_with (nodes_of ifr) id) q (sym (subst (λ (bytes : List ℕ). Some q ≡ option_map (asked (nodes_of bytes)) (question_with (nodes_of bytes) id)) same e)) in
+    let there = finds_questions (nodes_of ifr) id q.node found.0 in (
+      record {
+        asks = asks_it;
+        own = with_field_of (nodes_of ifr) q found.1;
+        node = is_found ifr (tree_of ifr) q.node accepted.checked.spelled there.0;
+      },
+      found.0,
+    )
 
--- ---- whether it may be changed
+none_asked : (ns : List Placed) (o : Option Placed) → None ≡ option_map (asked ns) o → o ≡ None
+none_asked ns None e = refl
+none_asked ns (Some n) e = absurd cc
 
-pub selects : (s : State) (id : ℕ) (question : Question) → IsBrowsable s.ifr → shape_of s.working ≡ layout_in s.ifr → IsQuestionOf s.ifr id (question_view question) → unless (fixed (world_of s) (question_node question)) ≡ Ok tt → Selects s id (Ok question)
-selects s id question browsable laid is free = (is, none_of (fixed (world_of s) (question_node question)) free, browsable, laid)
+pub no_question_of : (ifr asks : List ℕ) (id : ℕ) → asks ≡ ifr → None ≡ option_map (asked (nodes_of asks)) (question_with (nodes_of asks) id) → question_with (nodes_of ifr) id ≡ None
+no_question_of ifr asks id same e =
+    none_asked (nodes_of ifr) (question_with (nodes_of ifr) id) (subst (λ (bytes : List ℕ). None ≡ option_map (asked (nodes_of bytes)) (question_with (nodes_of bytes) id)) same e)
 
-pub selects_nothing : (s : State) (id : ℕ) (q : Asked) (denial : Denial) → IsQuestionOf s.ifr id q → unless (fixed (world_of s) q.node) ≡ Err denial → Selects s id (Err denial)
-selects_nothing s id q denial is why = rw is.named (some_of (fixed (world_of s) q.node) denial why)
+-- the question that a statement is
+asked_if : (ns : List Placed) (n : Placed) (asks : Bool) (q : Asked) → Some q ≡ (if asks then Some (asked ns n) else None) → (asks ≡ true) × (q ≡ asked ns n)
+asked_if ns n true q e = (refl, cc)
+asked_if ns n false q e = absurd cc
 
--- what is not selected is not set
-pub unselected : (s : State) (o : Option Placed) (offer : Offer) (denial : Denial) → question_denial s o ≡ Some denial → set_question s o offer ≡ denied s denial
-unselected s None offer denial e = let same : no_question ≡ denial = cc in ap (denied s) same
-unselected s (Some q) offer denial e = rw e refl
+pub is_question_at : (ifr : List ℕ) (n : Placed) (q : Asked) → IsNodeOf ifr n → Some q ≡ (if is_question n then Some (asked (nodes_of ifr) n) else None)
+    → IsQuestionIn ifr q × (q.node ≡ n) × (is_question n ≡ true)
+is_question_at ifr n q node e =
+    let is = asked_if (nodes_of ifr) n (is_question n) q e in
+    (rw is.1 (record { asks = is.0; own = refl; node = node }), ap (λ (x : Asked). x.node) is.1, is.0)
 
 -- ---- whether it takes a value
 
-pub takes : (s : State) (id : ℕ) (offer : Offer) (q : Asked) (new : Field) → IsBrowsable s.ifr → shape_of s.working ≡ layout_in s.ifr → IsQuestionOf s.ifr id q → fixed (world_of s) q.node ≡ None
+pub fixed_question : (s : State) (n : Placed) (offer : Offer) (denial : Denial) → unless (fixed (world_of s) n) ≡ Err denial → set_question s (Some n) offer ≡ denied s denial
+fixed_question s n offer denial why = let some = some_of (fixed (world_of s) n) denial why in rw some refl
+
+pub takes : (s : State) (offer : Offer) (q : Asked) (new : Field) → IsBrowsable s.ifr → shape_of s.working ≡ layout_in s.ifr → IsQuestionIn s.ifr q → unless (fixed (world_of s) q.node) ≡ Ok tt
     → fits (nodes_of s.ifr) q.node offer ≡ Ok (new_bytes new) → field_of (nodes_of s.ifr) q.node ≡ Some (range_of new)
     → HasRange (shape_of s.working) new.store new.offset new.width
-    × (set_question s (question_with (nodes_of s.ifr) id) offer ≡ set_stores s (with_bytes s.working new.store new.offset (new_bytes new)) q.node)
-takes s id offer q new browsable laid is free fit field =
-    let within = found_fits (nodes_of s.ifr) id q.node (range_of new) browsable.questions is.named field in
-    (subst (λ (shape : Shape). HasRange shape new.store new.offset new.width) (sym laid) within, rw (is.named, free, fit, field) refl)
+    × (length (new_bytes new) ≡ new.width)
+    × (set_question s (Some q.node) offer ≡ set_stores s (with_bytes s.working new.store new.offset (new_bytes new)) q.node)
+takes s offer q new browsable laid is free fit field =
+    let none = none_of (fixed (world_of s) q.node) free in
+    let there = contains_found (nodes_of s.ifr) q.node.place q.node is.node in
+    let within = holds_fields (nodes_of s.ifr) q.node (range_of new) browsable.questions there is.asks field in
+    (subst (λ (shape : Shape). HasRange shape new.store new.offset new.width) (sym laid) within, fits_wide (nodes_of s.ifr) q.node offer (range_of new) (new_bytes new) field fit, rw (none, fit, field) refl)
+
+pub takes_nothing : (s : State) (offer : Offer) (q : Asked) (kind : DenialKind) (place : ℕ) → unless (fixed (world_of s) q.node) ≡ Ok tt → fits (nodes_of s.ifr) q.node offer ≡ Err kind → place ≡ q.node.place
+    → set_question s (Some q.node) offer ≡ denied s record { kind = kind; place = place; message = 0 }
+takes_nothing s offer q kind place free unfit at =
+    let none = none_of (fixed (world_of s) q.node) free in rw (none, unfit, at) refl
 
 -- ---- whether it may have the value
 

@@ -1,5 +1,5 @@
 -- What bytes without a fault open.
-use Rattle.std.proofs.Common.{◌≡◌, ℕ, ◌≤◌, ◌<◌, ◌^◌, List, Some, length, refl, sym, subst, inl, inr}
+use Rattle.std.proofs.Common.{◌≡◌, ℕ, ◌≤◌, ◌<◌, ◌^◌, List, [], Some, length, refl, sym, subst, inl, inr}
 use Rattle.hii_bytes.specs.declared.cause.Cause.{Cause}
 use Rattle.hii_bytes.specs.Faults.{HasNone, Then}
 use Rattle.hii_packages.specs.Packages.{Entry, SpellsPackages, nth_forms}
@@ -93,8 +93,9 @@ starts list n image language packages source spells is u =
       committed = u.stores.0;
       working = u.stores.0;
       form = first.0.place;
+      history = [];
     } in
-    (start, opened list n image language packages source start (layout_in ifr) first.0 first.1 spells is refl u.texts.1 refl u.browsable refl u.stores.1 refl refl first.2 refl)
+    (start, opened list n image language packages source start (layout_in ifr) first.0 first.1 spells is refl u.texts.1 refl u.browsable refl u.stores.1 refl refl first.2 refl refl)
 
 pub opens_without_fault : (list : List ℕ) (n : ℕ) (image language : List ℕ) (packages : List (List ℕ)) (source : Entry) → SpellsPackages list packages → nth_forms packages n ≡ Some source
     → 4 ≤ length source.bytes → length source.bytes < 2 ^ 32

@@ -7,6 +7,7 @@ use Rattle.ifr_opcodes.specs.Operators.{operands}
 use Rattle.ifr_opcodes.specs.Reading.{cut, levels, tree_of}
 use Rattle.ifr_expr.specs.Meaning.{leaf_value}
 use Rattle.ifr_expr.specs.Reading.{trees_of, tree_of_opcodes}
+use Rattle.ifr_expr.specs.Values.{constant_value, binary_value, number_value}
 use Rattle.unicode_width.proofs.Computing.{unicode_width}
 use Rattle.sibt_strings.specs.Units.{chars_of_units}
 use Rattle.ifr_opcodes.specs.Statements.{is_question_number, is_statement_number}
@@ -61,7 +62,7 @@ before = form_set ++ store ++ form
 abbrev started : List ℕ → List ℕ → State
 started ifr bytes =
     let stores : StoreMap = record { guid = replicate 16 0x22; stores = record { id = 1; bytes = bytes } ∷ [] } in
-    record { ifr = ifr; removed = []; spoken = []; language = None; committed = stores; working = stores; form = 51 }
+    record { ifr = ifr; removed = []; spoken = []; language = None; committed = stores; working = stores; form = 51; history = [] }
 
 -- ---- a checkbox is set and submitted
 
@@ -143,3 +144,25 @@ forbidding = (99 ∷ 0 ∷ 0 ∷ 2 ∷ []) ++ before ++ suppress_if ++ equal_to 
 a_hidden_one_forbids : (outcome_of (started forbidding (0 ∷ 0 ∷ [])) (codes "page\nsubmit\n")).text ≡ codes "FORM 1 #2\nDENIED nosubmitif at 0000004f #7\n"
 unfolding cut levels tree_of number_in with_bytes digits unicode_width operands trees_of tree_of_opcodes leaf_value is_question_number is_statement_number is_store_number
 a_hidden_one_forbids = refl
+
+-- ---- a reference is followed, a button pressed, and the first form shown again
+
+abbrev two_forms : List ℕ
+two_forms = (106 ∷ 0 ∷ 0 ∷ 2 ∷ []) ++ before ++ (0x0F ∷ 0x0F ∷ 8 ∷ 0 ∷ 0 ∷ 0 ∷ 5 ∷ 0 ∷ 0 ∷ 0 ∷ 0 ∷ 0 ∷ 0 ∷ 2 ∷ 0 ∷ []) ++ end
+    ++ (1 ∷ 0x86 ∷ 2 ∷ 0 ∷ 9 ∷ 0 ∷ []) ++ (0x0D ∷ 8 ∷ 10 ∷ 0 ∷ 0 ∷ 0 ∷ 0 ∷ 0 ∷ []) ++ (0x06 ∷ 0x0E ∷ 3 ∷ 0 ∷ 0 ∷ 0 ∷ 1 ∷ 0 ∷ 1 ∷ 0 ∷ 0 ∷ 0 ∷ 0 ∷ 1 ∷ []) ++ end ++ end
+
+a_form_is_entered_and_left : (outcome_of (started two_forms (0 ∷ 0 ∷ [])) (codes "defaults 0\ngo 5\npage\npress 1\npress 2\npress 3\nback\nback\n")).text
+    ≡ codes "OK 0\nOK\nFORM 2 #9\n  1 *     - #10                      [reset]\n  2 *     1 #3                       [ ]\nOK 1\nDENIED notbutton at 00000058\nDENIED norow at 00000000\nOK\nDENIED noback at 00000000\n"
+unfolding cut levels tree_of number_in with_bytes digits unicode_width is_question_number is_statement_number is_store_number
+a_form_is_entered_and_left = refl
+
+-- ---- a number has a default, and another that an expression says
+
+abbrev adding : List ℕ
+adding = (107 ∷ 0 ∷ 0 ∷ 2 ∷ []) ++ before ++ (0x07 ∷ 0x91 ∷ 3 ∷ 0 ∷ 0 ∷ 0 ∷ 1 ∷ 0 ∷ 1 ∷ 0 ∷ 0 ∷ 0 ∷ 0 ∷ 0x10 ∷ 0 ∷ 9 ∷ 1 ∷ [])
+    ++ (0x5B ∷ 6 ∷ 0 ∷ 0 ∷ 0 ∷ 5 ∷ []) ++ (0x5B ∷ 0x85 ∷ 1 ∷ 0 ∷ 8 ∷ []) ++ (0x5A ∷ 0x82 ∷ []) ++ (0x42 ∷ 0x83 ∷ 4 ∷ 0x42 ∷ 3 ∷ 3 ∷ 0x3A ∷ 2 ∷ []) ++ end ++ end ++ end ++ end ++ end ++ end
+
+a_default_is_taken : (outcome_of (started adding (0 ∷ 0 ∷ [])) (codes "defaults 0\npage\ndefaults 1\npage\ndefaults 2\n")).text
+    ≡ codes "OK 1\nFORM 1 #2\n  1 *     1 #3                       [5]\nOK 1\nFORM 1 #2\n  1 *     1 #3                       [7]\nOK 0\n"
+unfolding cut levels tree_of number_in with_bytes digits unicode_width operands trees_of tree_of_opcodes leaf_value constant_value binary_value number_value is_question_number is_statement_number is_store_number
+a_default_is_taken = refl

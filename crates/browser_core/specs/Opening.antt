@@ -85,3 +85,4 @@ pub record Opens (list : List ℕ) (n : ℕ) (image language : List ℕ) (start 
   pub removed : start.removed ≡ removed_at (nodes_of start.ifr) start.working
   pub others : List ℕ
   pub forms : places (filter is_form (nodes_of start.ifr)) ≡ start.form ∷ others
+  pub history : start.history ≡ []

@@ -8,7 +8,8 @@ use Rattle.guard_policy.specs.World.{World, world_over}
 
 -- The bytes of the forms package that is browsed, the places of the DISABLE_IFs that were removed from it when it was opened,
 -- and the texts of the string packages, which stay the same; the number of the string package whose texts are shown; the
--- stores as they were last submitted; the stores that commands read and change; and the place of the current form.
+-- stores as they were last submitted; the stores that commands read and change; the place of the current form; and the places of
+-- the forms that references have led away from, the oldest first.
 pub record State : Type 0 where
   pub ifr : List ℕ
   pub removed : List ℕ
@@ -17,6 +18,7 @@ pub record State : Type 0 where
   pub committed : StoreMap
   pub working : StoreMap
   pub form : ℕ
+  pub history : List ℕ
 
 -- what decisions look at, over some stores, and over those that commands change
 abbrev pub world_with : State → StoreMap → World

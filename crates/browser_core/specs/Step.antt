@@ -1,34 +1,41 @@
 -- What a command does: the state that it leaves, its text and whether it was carried out (own rule).
-use Rattle.std.specs.Prelude.{ℕ, ◌&&◌, Bool, not, nat_eq, true, Option, Some, None, Result, Ok, Err, List, [], ◌∷◌, ◌++◌, length, map, filter}
+use Rattle.std.specs.Prelude.{ℕ, ◌-◌, ◌==◌, ◌&&◌, Bool, not, nat_eq, nat_lt, if◌then◌else◌, true, Option, Some, None, option_and_then, Result, Ok, Err, List, [], ◌∷◌, ◌++◌, length, slice_get, take, map, filter}
 use Rattle.std.specs.List.{flat_map}
 use Rattle.std.specs.Cmp.Lexicographic.{pointwise}
 use Rattle.hii_bytes.specs.declared.cause.Cause.{Cause}
 use Rattle.ifr_opcodes.specs.Forest.{Placed, node_at}
-use Rattle.ifr_opcodes.specs.Fields.{question_id}
+use Rattle.ifr_opcodes.specs.Fields.{question_id, ref_target, reset_default}
+use Rattle.ifr_opcodes.specs.Opcode.{number}
+use Rattle.ifr_opcodes.specs.declared.codes.TheConstants.{RESET_BUTTON}
 use Rattle.ifr_expr.specs.Values.{Value, natural, buffer}
-use Rattle.ifr_scopes.specs.Nodes.{nodes_of, is_question}
+use Rattle.ifr_scopes.specs.Nodes.{nodes_of, is_question, is_reference, statements}
+use Rattle.ifr_scopes.specs.References.{form_with}
+use Rattle.ifr_scopes.specs.Rules.{rules_among}
 use Rattle.hii_languages.specs.Languages.{chosen}
+use Rattle.hii_languages.specs.Shown.{text_under}
 use Rattle.hii_varstore.specs.Stores.{StoreMap, bytes_of_field, with_bytes}
-use Rattle.hii_questions.specs.Answers.{value_of_field}
+use Rattle.hii_questions.specs.Answers.{answers, value_of_field}
 use Rattle.hii_questions.specs.Fields.{Field, field_of, question_with}
 use Rattle.hii_questions.specs.Inputs.{Offer, whole, listed, utf8}
 use Rattle.hii_questions.specs.Items.{items_in}
 use Rattle.hii_questions.specs.Types.{element_width}
 use Rattle.hii_questions.specs.Fits.{fits}
 use Rattle.hii_questions.specs.declared.denial.DenialKind.{DenialKind}
-use Rattle.hii_questions.specs.declared.denial.DenialKind.TheVariants.{NoQuestion}
-use Rattle.guard_policy.specs.Policy.{or_else, fixed, first_closed, inconsistent, warned, unsubmitted}
+use Rattle.hii_questions.specs.declared.denial.DenialKind.TheVariants.{NoQuestion, NotRef, NotButton, NoRow, NoBack, DeepHistory, Outside}
+use Rattle.ifr_defaults.specs.Defaults.{Sources, default_of}
+use Rattle.guard_policy.specs.Policy.{denied_by, or_else, hidden, fixed, first_closed, inconsistent, warned, unsubmitted}
 use Rattle.guard_policy.specs.Warned.{warning_of}
 use Rattle.guard_policy.specs.World.{World, world_over}
 use Rattle.guard_policy.specs.declared.denial.Denial.{Denial}
-use Rattle.form_page.specs.Pages.{page_text}
-use Rattle.hii_commands.specs.Orders.{Order, ShowPage, SetValue, OrderElements, SetText, AskWhy, ChooseLanguage, SubmitChanges, DiscardChanges}
+use Rattle.form_page.specs.Pages.{page_text, statement_in_row}
+use Rattle.hii_commands.specs.Orders.{Order, ShowPage, SetValue, OrderElements, SetText, FollowReference, GoBack, PressButton, TakeDefaults, AskWhy, ChooseLanguage, SubmitChanges, DiscardChanges}
 use Rattle.hii_commands.specs.Meaning.{cause_of}
 use Rattle.hii_commands.specs.Reading.{reading_of}
 use Rattle.hii_commands.specs.declared.command.BadLine.{BadLine}
 use Rattle.hii_commands.specs.Line.{without_return}
 use Rattle.browser_core.specs.State.{State, world_with, world_of, texts}
 use Rattle.browser_core.specs.Texts.{ok_text, count_text, changed_text, denied_text, warning_line, refused_text}
+use Rattle.browser_core.specs.declared.history.TheConstants.{HISTORY_LIMIT}
 use Rattle.browser_core.specs.declared.reply.Reply.{Reply}
 use Rattle.browser_core.specs.declared.reply.Reply.TheVariants.{Accepted, Denied, Refused}
 
@@ -49,19 +56,27 @@ denied s denial =
 abbrev pub refused : State → Cause → Outcome
 refused s cause = record { state = s; text = refused_text cause; reply = Refused cause }
 
+-- a denial that no opcode decides
+abbrev pub denied_by_none : DenialKind → Denial
+denied_by_none kind = record { kind = kind; place = 0; message = 0 }
+
 -- ---- page
+
+-- the current form
+abbrev pub form_of : State → Option Placed
+form_of s = node_at (nodes_of s.ifr) s.form
 
 abbrev pub page_at : State → Option Placed → List ℕ
 page_at s None = []
 page_at s (Some form) = page_text (texts s) (world_of s) s.working form
 
 abbrev pub show_page : State → Outcome
-show_page s = accepted s (page_at s (node_at (nodes_of s.ifr) s.form))
+show_page s = accepted s (page_at s (form_of s))
 
 -- ---- a question that a command names: it is there, and may be changed
 
 abbrev pub no_question : Denial
-no_question = record { kind = NoQuestion; place = 0; message = 0 }
+no_question = denied_by_none NoQuestion
 
 abbrev pub question_denial : State → Option Placed → Option Denial
 question_denial s None = Some no_question
@@ -122,6 +137,111 @@ abbrev pub set_question : State → Option Placed → Offer → Outcome
 set_question s None offer = denied s no_question
 set_question s (Some q) offer = set_unless_fixed s q offer (fixed (world_of s) q)
 
+-- ---- defaults: the questions of the current form, one after the other by place, are set to their defaults of a class; those
+-- that have none, or may not have it, stay as they are (UEFI 2.8, 33.2.5.8 Defaults)
+
+-- a state, and the questions that took their defaults
+pub record Taken : Type 0 where
+  pub state : State
+  pub questions : List Placed
+
+-- what the defaults of a form set are taken from
+abbrev pub sources : State → Sources
+sources s = record {
+  rules = rules_among (nodes_of s.ifr);
+  answers = answers (nodes_of s.ifr) s.working;
+  texts = text_under s.spoken s.language;
+}
+
+abbrev pub taken_if : List Placed → Placed → Reply → List Placed
+taken_if qs q Accepted = qs ++ q ∷ []
+taken_if qs q _ = qs
+
+abbrev pub take_set : List Placed → Placed → Outcome → Taken
+take_set qs q set = record { state = set.state; questions = taken_if qs q set.reply }
+
+abbrev pub take_offer : Taken → Placed → Option Offer → Taken
+take_offer t q None = t
+take_offer t q (Some offer) = take_set t.questions q (set_question t.state (Some q) offer)
+
+-- a question takes its default over the stores that the questions before it have left
+abbrev pub take_default : ℕ → Taken → Placed → Taken
+take_default class t q = take_offer t q (default_of (sources t.state) q class)
+
+abbrev pub take_each : ℕ → Taken → List Placed → Taken
+take_each class t [] = t
+take_each class t (q ∷ qs) = take_each class (take_default class t q) qs
+
+abbrev pub questions_in : Option Placed → List Placed
+questions_in None = []
+questions_in (Some form) = filter is_question (statements form)
+
+-- what the current form's questions leave when they take their defaults
+abbrev pub taken : State → ℕ → Taken
+taken s class = take_each class record { state = s; questions = [] } (questions_in (form_of s))
+
+abbrev pub take_defaults : State → ℕ → Outcome
+take_defaults s class =
+    accepted (taken s class).state (count_text (length (taken s class).questions))
+
+-- ---- press: the button in a row of the page sets the defaults of its class
+
+abbrev pub press_unless_fixed : State → Placed → Option Denial → Outcome
+press_unless_fixed s button (Some denial) = denied s denial
+press_unless_fixed s button None = take_defaults s (reset_default button.op)
+
+abbrev pub press_statement : State → Option Placed → Outcome
+press_statement s None = denied s (denied_by_none NoRow)
+press_statement s (Some n) =
+    if number n.op == RESET_BUTTON then press_unless_fixed s n (fixed (world_of s) n)
+    else denied s (denied_by NotButton n)
+
+abbrev pub row_of_form : State → ℕ → Option Placed → Option Placed
+row_of_form s row None = None
+row_of_form s row (Some form) = statement_in_row (world_of s) form row
+
+abbrev pub press : State → ℕ → Outcome
+press s row = press_statement s (row_of_form s row (form_of s))
+
+-- ---- go: a reference that may be selected leads to a form that is not hidden, and the current form is kept (UEFI 2.8, 33.3.8.3,
+-- EFI_IFR_REF)
+
+abbrev pub show_form : State → Placed → Outcome
+show_form s form =
+    if nat_lt (length s.history) HISTORY_LIMIT
+    then accepted (record s { form = form.place; history = s.history ++ s.form ∷ [] }) ok_text
+    else denied s (denied_by_none DeepHistory)
+
+abbrev pub show_unless_hidden : State → Placed → Option Denial → Outcome
+show_unless_hidden s form (Some denial) = denied s denial
+show_unless_hidden s form None = show_form s form
+
+-- A reference that leads to no form of the form set is outside.
+abbrev pub go_to : State → Placed → Option Placed → Outcome
+go_to s q None = denied s (denied_by Outside q)
+go_to s q (Some form) = show_unless_hidden s form (hidden (world_of s) form)
+
+abbrev pub go_unless_fixed : State → Placed → Option Denial → Outcome
+go_unless_fixed s q (Some denial) = denied s denial
+go_unless_fixed s q None =
+    go_to s q (option_and_then (form_with (nodes_of s.ifr)) (ref_target q.op))
+
+abbrev pub follow : State → Option Placed → Outcome
+follow s None = denied s no_question
+follow s (Some q) =
+    if is_reference q then go_unless_fixed s q (fixed (world_of s) q)
+    else denied s (denied_by NotRef q)
+
+-- ---- back: the form that was left last is the current one again, whatever hides it
+
+abbrev pub go_back_to : State → Option ℕ → Outcome
+go_back_to s None = denied s (denied_by_none NoBack)
+go_back_to s (Some place) =
+    accepted (record s { form = place; history = take (length s.history - 1) s.history }) ok_text
+
+abbrev pub go_back : State → Outcome
+go_back s = go_back_to s (slice_get s.history (length s.history - 1))
+
 -- ---- submit and discard
 
 -- the bytes of a question's field in the stores
@@ -167,6 +287,10 @@ step s (SetValue id value) = set_question s (question_with (nodes_of s.ifr) id) 
 step s (OrderElements id numbers) =
     set_question s (question_with (nodes_of s.ifr) id) (listed numbers)
 step s (SetText id text) = set_question s (question_with (nodes_of s.ifr) id) (utf8 text)
+step s (FollowReference id) = follow s (question_with (nodes_of s.ifr) id)
+step s GoBack = go_back s
+step s (PressButton row) = press s row
+step s (TakeDefaults class) = take_defaults s class
 step s (AskWhy id) = why_question s (question_with (nodes_of s.ifr) id)
 step s (ChooseLanguage language) =
     accepted (record s { language = chosen s.spoken language }) ok_text

@@ -1,44 +1,56 @@
 //! A form set that is browsed, and what commands do to it.
 
-ghost use Rattle.std.specs.Prelude.{◌≡◌, ◌∷◌, not, List, filter, length, IfOk, IfErr, option_copied};
+ghost use Rattle.std.specs.Prelude.{◌≡◌, ◌∷◌, not, List, Some, filter, length, IfOk, IfErr, IfSome, option_and_then, option_copied, option_map};
 ghost use Rattle.hii_bytes.specs.Faults.{Refuses, IsLeast, out_of_memory};
 ghost use Rattle.hii_bytes.specs.Watching.{Puts, Writes};
 ghost use Rattle.hii_packages.specs.code.Package.{entry_of};
 ghost use Rattle.hii_packages.specs.Packages.{SpellsPackages, nth_forms};
 ghost use Rattle.ifr_opcodes.specs.Forest.{Placed};
+ghost use Rattle.ifr_scopes.specs.Accepted.{IsAccepted};
 ghost use Rattle.ifr_scopes.specs.code.Checked.{IsNodeOf};
-ghost use Rattle.ifr_scopes.specs.code.Lists.{form_node};
+ghost use Rattle.ifr_scopes.specs.code.Lists.{form_node, statement_node};
 ghost use Rattle.ifr_scopes.specs.Nodes.{nodes_of, is_form};
+ghost use Rattle.ifr_scopes.specs.References.{form_with};
+ghost use Rattle.ifr_defaults.specs.Defaults as defaults;
 ghost use Rattle.hii_commands.specs.Meaning.{order_of, HasList};
 ghost use Rattle.hii_varstore.specs.Stores.{shape_of};
 ghost use Rattle.hii_questions.specs.Fields.{question_with};
 ghost use Rattle.hii_questions.specs.code.Offers.{offer_of};
 ghost use Rattle.hii_questions.specs.code.Views.{question_node, question_view};
-ghost use Rattle.guard_policy.specs.code.Views.{bytes_of};
-ghost use Rattle.browser_core.specs.State.{State};
-ghost use Rattle.browser_core.specs.Step.{step, denied, why_question, set_question, warned_text, show_page, changed, are_same_bytes, field_bytes, commit, submitted};
-ghost use Rattle.browser_core.specs.code.Standing.{Selects, Takes, Sets, LiesIn, IsOffered};
-ghost use Rattle.browser_core.specs.Opening.{Opens, IsOpenFault, IsSourceFault};
+ghost use Rattle.guard_policy.specs.Policy.{fixed};
+ghost use Rattle.guard_policy.specs.code.Answers.{unless};
+ghost use Rattle.guard_policy.specs.code.KeptConditions.{TellsAll};
+ghost use Rattle.guard_policy.specs.code.Views.{bytes_of, world};
+ghost use Rattle.form_page.specs.code.PageViews as pages;
+ghost use Rattle.browser_core.specs.State.{State, world_of, texts};
+ghost use Rattle.browser_core.specs.Step as steps;
+ghost use Rattle.browser_core.specs.Step.{step, denied, why_question, set_question, warned_text, show_page, changed, are_same_bytes, field_bytes, commit, submitted, take_defaults as defaults_taken};
+ghost use Rattle.browser_core.specs.code.Standing.{IsQuestionIn, Finds, Takes, Changes, Sets, Leads, Presses, TakesDefault, LiesIn, IsOffered, answered};
+ghost use Rattle.browser_core.specs.Opening.{Opens, IsBrowsable, IsOpenFault, IsSourceFault, layout_in};
 
-use crate::change::{NewValue, value_allowed};
+use crate::change::value_allowed;
+use crate::defaults::take_defaults;
+use crate::history::History;
 use crate::reply::Reply;
 use crate::texts::{put_changed, put_count, put_denial, put_warnings};
 use form_page::Page;
-use guard_policy::{Denial, Policy, Removed};
+use guard_policy::{Conditions, Denial, Policy, Removed};
 use hii_bytes::{Fault, Watched};
 use hii_commands::Command;
 use hii_languages::{Choice, Languages};
 use hii_packages::laws::spelled_bytes_have_no_fault;
 use hii_packages::{Package, PackageList};
-use hii_questions::{DenialKind, Input, Question, Questions, check_value};
+use hii_questions::{DenialKind, Field, Input, Question, Questions, check_value};
 use hii_varstore::{Layout, Stores};
+use ifr_defaults::default_of;
 use ifr_scopes::laws::a_node_is_that_of_its_place;
-use ifr_scopes::{Form, Forms};
+use ifr_scopes::{Form, Forms, Statement, StatementKind};
 use std::alloc::Global;
 use std::io::Write;
 use std::marker::Model;
 
-/// A form set, the stores as they were last submitted, the stores that commands read and change, and the current form.
+/// A form set, the stores as they were last submitted, the stores that commands read and change, the current form, and those
+/// that references have led away from.
 #[derive(Drop)]
 pub(crate) struct Core<'a> {
     forms: Forms<'a>,
@@ -51,6 +63,7 @@ pub(crate) struct Core<'a> {
     // the working stores, in which a new value is tried
     trial: Stores,
     form: Form<'a>,
+    history: History,
 }
 
 impl<'a> Model for Core<'a> {
@@ -69,10 +82,11 @@ impl<'a> Model for Core<'a> {
       committed = c.committed;
       working = c.working;
       form = (form_node c.form).place;
+      history = c.history.items;
     } };
 
     ghost invariant = { λ c. Stands c.forms c.questions c.committed c.working c.trial
-        (form_node c.form) };
+        (form_node c.form) c.history.items };
 }
 
 impl<'a> Core<'a> {
@@ -112,6 +126,7 @@ impl<'a> Core<'a> {
             working,
             trial,
             form,
+            history: History::new(),
         })
     }
 
@@ -147,7 +162,17 @@ impl<'a> Core<'a> {
             Command::Set { question, value } => self.set(question, Input::Number(value), out),
             Command::Order { question, list } => self.set(question, Input::List(list), out),
             Command::Text { question, text } => self.set(question, Input::Utf8(text), out),
-            Command::Why(question) => self.why(question, out),
+            Command::Go(question) => {
+                let followed = self.follow(question);
+                self.answer(followed, out)
+            }
+            Command::Back => {
+                let left = self.go_back();
+                self.answer(left, out)
+            }
+            Command::Press(row) => self.press(row, out),
+            Command::Defaults(class) => self.take_defaults(class, out),
+            Command::Why(question) => self.answer(self.why(question), out),
             Command::Lang(language) => {
                 self.language = self.languages.choose(language);
                 out.put(b"OK\n");
@@ -171,22 +196,42 @@ impl<'a> Core<'a> {
         Policy::new(&self.forms, &self.questions, &self.removed)
     }
 
-    // Writes the page of the current form.
-    fn put_page<W: Write>(&self, out: &mut Watched<W>)
-        ensures { Puts W.contents out.old out.new (show_page self.now).text }
+    /// The current form.
+    pub(crate) fn form(&self) -> Form<'a>
+        ensures form { steps.form_of self.now ≡ Some (form_node result) }
+        ensures node { IsNodeOf self.now.ifr (form_node result) }
+        ensures accepted { IsAccepted self.now.ifr }
     {
-        let policy = self.policy();
-        let conditions = policy.over(&self.working);
-        let page = Page::new(
+        self.forms.bytes();
+        self.form
+    }
+
+    // The page of the current form, by conditions that tell of the working stores.
+    fn page<'s, C: Conditions>(&'s self, conditions: &'s C) -> Page<'a, 's, C>
+        requires { TellsAll (C.holding conditions.now) (world_of self.now) }
+        ensures form { steps.form_of self.now ≡ Some (form_node result.form) }
+        ensures bytes { bytes_of result.policy ≡ self.now.ifr }
+        ensures world { pages.world_of result ≡ world_of self.now }
+        ensures stores { result.stores.now ≡ self.now.working }
+        ensures texts { pages.texts_of result ≡ texts self.now }
+    {
+        Page::new(
             self.form,
-            policy,
+            self.policy(),
             &self.questions,
             &self.working,
             &self.languages,
             self.language,
-            &conditions,
-        );
-        page.put_page(out);
+            conditions,
+        )
+    }
+
+    // Writes the page of the current form.
+    fn put_page<W: Write>(&self, out: &mut Watched<W>)
+        ensures { Puts W.contents out.old out.new (show_page self.now).text }
+    {
+        let conditions = self.policy().over(&self.working);
+        self.page(&conditions).put_page(out);
     }
 
     // Writes why a command is denied.
@@ -199,32 +244,48 @@ impl<'a> Core<'a> {
         Reply::Denied(denial)
     }
 
-    // The question of an id, where it may be changed.
-    fn selected(&self, id: u16) -> Result<Question<'a>, Denial>
-        ensures { Selects self.now id result }
+    // Writes that a command was carried out, or why it is denied.
+    fn answer<W: Write>(&self, done: Result<(), Denial>, out: &mut Watched<W>) -> Reply
+        ensures text { Puts W.contents out.old out.new (answered self.now done).text }
+        ensures reply { result ≡ (answered self.now done).reply }
     {
-        let Some(question) = self.questions.find(id) else {
-            return Err(Denial::by(DenialKind::NoQuestion, 0));
-        };
-        self.policy()
-            .changeable(question.statement(), &self.working)?;
-        Ok(question)
-    }
-
-    // Writes what forbids a change of the question of an id, if something does.
-    fn why<W: Write>(&self, id: u16, out: &mut Watched<W>) -> Reply
-        ensures text { Puts W.contents out.old out.new
-            (why_question self.now (question_with (nodes_of self.now.ifr) id)).text }
-        ensures reply { result
-            ≡ (why_question self.now (question_with (nodes_of self.now.ifr) id)).reply }
-    {
-        match self.selected(id) {
-            Ok(_) => {
+        match done {
+            Ok(()) => {
                 out.put(b"OK\n");
                 Reply::Accepted
             }
             Err(denial) => self.deny(denial, out),
         }
+    }
+
+    // The question of an id.
+    fn find(&self, id: u16) -> Result<Question<'a>, Denial>
+        ensures { Finds self.now id result }
+    {
+        match self.questions.find(id) {
+            Some(question) => Ok(question),
+            None => Err(Denial::by(DenialKind::NoQuestion, 0)),
+        }
+    }
+
+    // Whether a statement may be changed.
+    fn changeable(&self, statement: Statement<'a>) -> Result<(), Denial>
+        requires { IsNodeOf self.now.ifr (statement_node statement) }
+        ensures denied { result
+            ≡ unless (fixed (world_of self.now) (statement_node statement.entry)) }
+        ensures browsable { IsBrowsable self.now.ifr }
+        ensures laid { shape_of self.now.working ≡ layout_in self.now.ifr }
+    {
+        self.policy().changeable(statement, &self.working)
+    }
+
+    // Tells what forbids a change of the question of an id, if something does.
+    fn why(&self, id: u16) -> Result<(), Denial>
+        ensures { why_question self.now (question_with (nodes_of self.now.ifr) id)
+            ≡ answered self.now result }
+    {
+        let question = self.find(id)?;
+        self.changeable(question.statement())
     }
 
     // Sets the question of an id to a value and writes of what it warns, or writes why it is denied.
@@ -240,7 +301,7 @@ impl<'a> Core<'a> {
             ≡ (set_question self.old (question_with (nodes_of self.old.ifr) id)
             (offer_of input.entry)).reply }
     {
-        match self.change(id, input) {
+        match self.change_named(id, input) {
             Ok(question) => {
                 out.put(b"OK\n");
                 self.put_warnings(question, out);
@@ -250,34 +311,178 @@ impl<'a> Core<'a> {
         }
     }
 
-    // The question of an id with the new bytes with which it has a value, where it may be changed and takes it.
-    fn new_value<'i>(&self, id: u16, input: Input<'i>) -> Result<NewValue<'a, 'i>, Denial>
-        requires { IsOffered input }
-        ensures { Takes self.now id (offer_of input.entry) result }
-    {
-        let question = self.selected(id)?;
-        let field = check_value(question, input)?;
-        Ok(NewValue { question, field })
-    }
-
-    // Gives the question of an id a value, which is tried first, or answers why it may not have it.
-    fn change(&mut self, id: u16, input: Input<'_>) -> Result<Question<'a>, Denial>
+    // Gives the question of an id a value, or answers why it may not have it.
+    fn change_named(&mut self, id: u16, input: Input<'_>) -> Result<Question<'a>, Denial>
         requires { IsOffered input }
         ensures { Sets self.old id (offer_of input.entry) self.new result }
     {
-        let NewValue { question, field } = self.new_value(id, input)?;
+        let question = self.find(id)?;
+        self.change(question, input)?;
+        Ok(question)
+    }
+
+    // The new bytes with which a question has a value, where it may be changed and takes it.
+    fn new_value<'i>(&self, question: Question<'a>, input: Input<'i>) -> Result<Field<'i>, Denial>
+        requires question { IsQuestionIn self.now.ifr (question_view question) }
+        requires input { IsOffered input }
+        ensures { Takes self.now (question_node question.entry) (offer_of input.entry) result }
+    {
+        self.changeable(question.statement())?;
+        let field = check_value(question, input)?;
+        Ok(field)
+    }
+
+    // Gives a question a value, which is tried first, or answers why it may not have it. A value that is denied is taken back in
+    // its field alone.
+    fn change(&mut self, question: Question<'a>, input: Input<'_>) -> Result<(), Denial>
+        requires question { IsQuestionIn self.old.ifr (question_view question) }
+        requires input { IsOffered input }
+        ensures { Changes self.old (question_node question.entry) (offer_of input.entry) self.new
+            result }
+    {
+        let field = self.new_value(question, input)?;
         field.put(&mut self.trial);
         let policy = Policy::new(&self.forms, &self.questions, &self.removed);
         match value_allowed(policy, question, &self.working, &self.trial) {
             Ok(()) => {
                 field.put(&mut self.working);
-                Ok(question)
+                Ok(())
             }
             Err(denial) => {
-                self.trial.copy_from(&self.working);
+                let offset = usize::from(field.offset);
+                self.trial
+                    .copy_range(&self.working, field.store, offset, field.width);
                 Err(denial)
             }
         }
+    }
+
+    // The default of a question for a class, if it has one.
+    fn default_of(&self, question: Question<'a>, class: u16) -> Option<Input<'a>>
+        ensures default { option_map offer_of result ≡ defaults.default_of (steps.sources self.now)
+            (question_node question.entry) class }
+        ensures offered { IfSome result IsOffered }
+    {
+        let answers = self.questions.over(&self.working);
+        default_of(
+            question,
+            class,
+            &answers,
+            &self.forms,
+            &self.languages,
+            self.language,
+        )
+    }
+
+    /// Sets the question that a statement is to its default of a class, where it has one and may have it, and tells whether.
+    pub(crate) fn take_default(&mut self, statement: Statement<'a>, class: u16) -> bool
+        requires { IsNodeOf self.old.ifr (statement_node statement) }
+        ensures { TakesDefault self.old class (statement_node statement.entry) self.new result }
+    {
+        let Some(question) = self.policy().question(statement) else {
+            return false;
+        };
+        match self.default_of(question, class) {
+            Some(input) => self.change(question, input).is_ok(),
+            None => false,
+        }
+    }
+
+    // Sets the questions of the current form to their defaults of a class, and writes how many took them.
+    fn take_defaults<W: Write>(&mut self, class: u16, out: &mut Watched<W>) -> Reply
+        ensures state { self.new ≡ (defaults_taken self.old class).state }
+        ensures text { Puts W.contents out.old out.new (defaults_taken self.old class).text }
+        ensures reply { result ≡ (defaults_taken self.old class).reply }
+    {
+        put_count(take_defaults(self, class), out);
+        Reply::Accepted
+    }
+
+    // The statement in a row of the page.
+    fn statement_in_row(&self, row: u32) -> Option<Statement<'a>>
+        ensures found { option_map statement_node result
+            ≡ steps.row_of_form self.now row (steps.form_of self.now) }
+        ensures node { IfSome result (λ statement. IsNodeOf self.now.ifr
+            (statement_node statement)) }
+    {
+        let conditions = self.policy().over(&self.working);
+        (&*self).page(&conditions).statement_in_row(row)
+    }
+
+    // The class of defaults that the button in a row sets, where it may be pressed.
+    fn button(&self, row: u32) -> Result<u16, Denial>
+        ensures { Presses self.now row result }
+    {
+        let Some(statement) = self.statement_in_row(row) else {
+            return Err(Denial::by(DenialKind::NoRow, 0));
+        };
+        let StatementKind::ResetButton(button) = statement.kind() else {
+            return Err(Denial::by(DenialKind::NotButton, statement.place()));
+        };
+        self.changeable(statement)?;
+        Ok(button.default_id())
+    }
+
+    // Presses the button in a row of the page, or writes why it may not be pressed.
+    fn press<W: Write>(&mut self, row: u32, out: &mut Watched<W>) -> Reply
+        ensures state { self.new ≡ (steps.press self.old row).state }
+        ensures text { Puts W.contents out.old out.new (steps.press self.old row).text }
+        ensures reply { result ≡ (steps.press self.old row).reply }
+    {
+        match self.button(row) {
+            Ok(class) => self.take_defaults(class, out),
+            Err(denial) => self.deny(denial, out),
+        }
+    }
+
+    // The form of an id.
+    fn form_of(&self, id: Option<u16>) -> Option<Form<'a>>
+        ensures found { option_map form_node result
+            ≡ option_and_then (form_with (nodes_of self.now.ifr)) id }
+        ensures node { IfSome result (λ form. IsNodeOf self.now.ifr (form_node form)) }
+    {
+        self.forms.form(id?)
+    }
+
+    // The form to which the reference of an id leads, where it may be selected and the form is not hidden.
+    fn target(&self, id: u16) -> Result<Form<'a>, Denial>
+        ensures { Leads self.now id result }
+    {
+        let question = self.find(id)?;
+        let StatementKind::Ref(reference) = question.statement().kind() else {
+            return Err(Denial::by(DenialKind::NotRef, question.place()));
+        };
+        self.changeable(question.statement())?;
+        let Some(form) = self.form_of(reference.target()) else {
+            return Err(Denial::by(DenialKind::Outside, question.place()));
+        };
+        self.policy().opens(form, &self.working)?;
+        Ok(form)
+    }
+
+    // Goes to the form to which the reference of an id leads, and keeps the current one.
+    fn follow(&mut self, id: u16) -> Result<(), Denial>
+        ensures { steps.follow self.old (question_with (nodes_of self.old.ifr) id)
+            ≡ answered self.new result }
+    {
+        let form = self.target(id)?;
+        if self.history.is_full() {
+            return Err(Denial::by(DenialKind::DeepHistory, 0));
+        }
+        self.history.push(self.form.place());
+        self.form = form;
+        Ok(())
+    }
+
+    // Goes back to the form that a reference has led away from last.
+    fn go_back(&mut self) -> Result<(), Denial>
+        ensures { steps.go_back self.old ≡ answered self.new result }
+    {
+        let Some(place) = self.history.pop() else {
+            return Err(Denial::by(DenialKind::NoBack, 0));
+        };
+        self.form = self.forms.form_at(place);
+        Ok(())
     }
 
     // Writes of what a question warns.

@@ -14,16 +14,9 @@ ghost use Rattle.guard_policy.specs.code.Views.{bytes_of, world};
 ghost use Rattle.browser_core.specs.Step.{named_values, value_denial};
 
 use guard_policy::{Denial, Policy};
-use hii_questions::{Field, Question, StoredItems, element_width, read_value};
+use hii_questions::{Question, StoredItems, element_width, read_value};
 use hii_varstore::Stores;
 use ifr_expr::Value;
-
-/// A question with the new bytes of its field.
-#[derive(Clone, Copy, Debug)]
-pub(crate) struct NewValue<'a, 'i> {
-    pub(crate) question: Question<'a>,
-    pub(crate) field: Field<'i>,
-}
 
 /// Whether a question may have the value that it has in new stores: its options of this value are not all fixed over the working
 /// stores, and no INCONSISTENT_IF of it holds over the new ones.

@@ -4,6 +4,8 @@
 
 mod browser;
 mod change;
+mod defaults;
+mod history;
 pub mod laws;
 mod reply;
 mod script;

@@ -1,7 +1,7 @@
 -- Worked values of the definitions.
 use Rattle.std.proofs.Common.{◌≡◌, pos, negsuc, [], ◌∷◌, Some, None, Ok, Err, codes, refl}
 use Rattle.hii_commands.specs.declared.command.BadLine.TheVariants.{BadCommand}
-use Rattle.hii_commands.specs.Orders.{ShowPage, SetValue, OrderElements, SetText, ChooseLanguage}
+use Rattle.hii_commands.specs.Orders.{ShowPage, SetValue, OrderElements, SetText, PressButton, ChooseLanguage}
 use Rattle.hii_commands.specs.Reading.{order_in, reading_of}
 use Rattle.hii_commands.specs.Script.{lines_of, whole_lines}
 
@@ -64,6 +64,12 @@ text_from_a_space = refl
 
 two_spaces_before_text : order_in (codes "text  1 x") ≡ None
 two_spaces_before_text = refl
+
+widest_row : order_in (codes "press 999999999") ≡ Some (PressButton 999999999)
+widest_row = refl
+
+ten_digits_of_a_row : order_in (codes "press 0000000001") ≡ None
+ten_digits_of_a_row = refl
 
 language : order_in (codes "lang en-US") ≡ Some (ChooseLanguage (codes "en-US"))
 language = refl

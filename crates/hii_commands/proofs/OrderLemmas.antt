@@ -1,5 +1,5 @@
 -- The order that a text asks for, and the one that is found in it.
-use Rattle.std.proofs.Common.{◌≡◌, ◌==◌, ◌&&◌, ◌≤◌, ℕ, ℤ, pos, neg_ℤ, ◌^◌, ◌<◌, Bool, true, false, List, [], ◌∷◌, ◌++◌, length, nat_le, drop, Option, Some, None, codes, option_map, refl, sym, ap, ◌∙◌, arith, inl, inr, subst, append-nil}
+use Rattle.std.proofs.Common.{◌≡◌, ◌⊎◌, if◌then◌else◌, ◌==◌, ◌&&◌, ◌≤◌, ℕ, ℤ, pos, neg_ℤ, ◌^◌, ◌<◌, Bool, true, false, List, [], ◌∷◌, ◌++◌, length, nat_le, drop, Option, Some, None, codes, option_map, refl, sym, ap, ◌∙◌, arith, inl, inr, subst, append-nil}
 use Rattle.std.specs.Char.{digit_value}
 use Rattle.std.specs.List.{list_all}
 use Rattle.std.specs.Str.{bytes_eq}
@@ -11,9 +11,9 @@ use Rattle.hii_bytes.specs.NumberList.{IsNumberList, is_number_list, numbers_of}
 use Rattle.hii_bytes.proofs.DigitLemmas.{number_below-from, number_below-is}
 use Rattle.hii_bytes.proofs.NumberListLemmas.{numbers_of-is, list-from, list-is}
 use Rattle.hii_commands.specs.laws.Lines.{Lacks}
-use Rattle.hii_commands.specs.Orders.{Order, ShowPage, SetValue, OrderElements, SetText, AskWhy, ChooseLanguage, SubmitChanges, DiscardChanges, is_language_byte}
+use Rattle.hii_commands.specs.Orders.{Order, ShowPage, SetValue, OrderElements, SetText, AskWhy, FollowReference, GoBack, PressButton, TakeDefaults, ChooseLanguage, SubmitChanges, DiscardChanges, is_language_byte}
 use Rattle.hii_commands.specs.laws.Asking.{Asks, IsValue, IsLanguage, list_word}
-use Rattle.hii_commands.specs.Reading.{question_in, value_in, begins_with, cut_word, question_order, list_in, set_in, elements_in, text_in, why_in, lang_in, plain_in, words_in, order_in}
+use Rattle.hii_commands.specs.Reading.{question_in, value_in, begins_with, cut_word, question_order, default_class_in, row_number_in, list_in, set_in, elements_in, text_in, why_in, go_in, press_in, defaults_in, lang_in, plain_in, numbered_in, words_in, order_in}
 use Rattle.hii_commands.proofs.WordLemmas.{cut_word-alone, cut_word-spaced, cut_word-together, together, begins, Lacks-digits}
 
 -- ---- values
@@ -131,6 +131,10 @@ found text ShowPage e = ap order_in e
 found text SubmitChanges e = ap order_in e
 found text (ChooseLanguage language) (e, is_language) = ap order_in e ∙ language-from language is_language
 found text (AskWhy q) (question, e, is_question) = ap order_in e ∙ ap (option_map AskWhy) (number_below-from 65536 10 5 question q is_question)
+found text (FollowReference q) (question, e, is_question) = ap order_in e ∙ ap (option_map FollowReference) (number_below-from 65536 10 5 question q is_question)
+found text GoBack e = ap order_in e
+found text (PressButton row) (digits, e, is_row) = ap order_in e ∙ ap (option_map PressButton) (number_below-from (10 ^ 9) 10 9 digits row is_row)
+found text (TakeDefaults class) (digits, e, is_class) = ap order_in e ∙ ap (option_map TakeDefaults) (number_below-from 65536 10 5 digits class is_class)
 found text DiscardChanges e = ap order_in e
 found text (SetValue q z) (question, value, e, is_question, is_value) =
     ap order_in e
@@ -189,56 +193,78 @@ why_asks text rest order whole e =
     let s = mapped AskWhy (question_in rest) order e in
     subst (Asks text) (sym s.2) (rest, whole, number_below-is 65536 10 5 rest s.0 s.1)
 
+go_asks : (text rest : List ℕ) (order : Order) → text ≡ codes "go" ++ 32 ∷ rest → go_in rest ≡ Some order → Asks text order
+go_asks text rest order whole e =
+    let s = mapped FollowReference (question_in rest) order e in
+    subst (Asks text) (sym s.2) (rest, whole, number_below-is 65536 10 5 rest s.0 s.1)
+
+press_asks : (text rest : List ℕ) (order : Order) → text ≡ codes "press" ++ 32 ∷ rest → press_in rest ≡ Some order → Asks text order
+press_asks text rest order whole e =
+    let s = mapped PressButton (row_number_in rest) order e in
+    subst (Asks text) (sym s.2) (rest, whole, number_below-is (10 ^ 9) 10 9 rest s.0 s.1)
+
+defaults_ask : (text rest : List ℕ) (order : Order) → text ≡ codes "defaults" ++ 32 ∷ rest → defaults_in rest ≡ Some order → Asks text order
+defaults_ask text rest order whole e =
+    let s = mapped TakeDefaults (default_class_in rest) order e in
+    subst (Asks text) (sym s.2) (rest, whole, number_below-is 65536 10 5 rest s.0 s.1)
+
+-- the branch of a word, or the other one
+word_is : {X : Type 0} (word first : List ℕ) (here other z : X) → (if bytes_eq word first then here else other) ≡ z → ((word ≡ first) × (here ≡ z)) ⊎ (other ≡ z)
+word_is word first here other z e = elim (cases_Bool (bytes_eq word first)) [
+  | inl is ↦ inl ((bytes_eq-Decides word first).0 is, sym (cond-true (bytes_eq word first) here other is) ∙ e)
+  | inr differs ↦ inr (sym (cond-false (bytes_eq word first) here other differs) ∙ e)
+]
+
 plain_asks : (word : List ℕ) (order : Order) → plain_in word ≡ Some order → Asks word order
-plain_asks word order e = elim (cases_Bool (bytes_eq word (codes "page"))) [
-  | inl is ↦ let some : Some ShowPage ≡ Some order = sym (cond-true (bytes_eq word (codes "page")) _ _ is) ∙ e in
-      let same : ShowPage ≡ order = cc in subst (Asks word) same ((bytes_eq-Decides word (codes "page")).0 is)
-  | inr a ↦
-      let e' = sym (cond-false (bytes_eq word (codes "page")) _ _ a) ∙ e in
-      elim (cases_Bool (bytes_eq word (codes "submit"))) [
-        | inl is ↦ let some : Some SubmitChanges ≡ Some order = sym (cond-true (bytes_eq word (codes "submit")) _ _ is) ∙ e' in
-            let same : SubmitChanges ≡ order = cc in subst (Asks word) same ((bytes_eq-Decides word (codes "submit")).0 is)
-        | inr b ↦
-            let e'' = sym (cond-false (bytes_eq word (codes "submit")) _ _ b) ∙ e' in
-            elim (cases_Bool (bytes_eq word (codes "discard"))) [
-              | inl is ↦ let some : Some DiscardChanges ≡ Some order = sym (cond-true (bytes_eq word (codes "discard")) _ _ is) ∙ e'' in
-                  let same : DiscardChanges ≡ order = cc in subst (Asks word) same ((bytes_eq-Decides word (codes "discard")).0 is)
-              | inr c ↦ let none : ◌≡◌ {A = Option Order} None (Some order) = sym (cond-false (bytes_eq word (codes "discard")) _ _ c) ∙ e'' in (cc)
-            ]
+plain_asks word order e = elim (word_is word (codes "page") (Some ShowPage) _ (Some order) e) [
+  | inl is ↦ let some = is.1 in let same : ShowPage ≡ order = cc in subst (Asks word) same is.0
+  | inr a ↦ elim (word_is word (codes "back") (Some GoBack) _ (Some order) a) [
+    | inl is ↦ let some = is.1 in let same : GoBack ≡ order = cc in subst (Asks word) same is.0
+    | inr b ↦ elim (word_is word (codes "submit") (Some SubmitChanges) _ (Some order) b) [
+      | inl is ↦ let some = is.1 in let same : SubmitChanges ≡ order = cc in subst (Asks word) same is.0
+      | inr c ↦ elim (word_is word (codes "discard") (Some DiscardChanges) None (Some order) c) [
+        | inl is ↦ let some = is.1 in let same : DiscardChanges ≡ order = cc in subst (Asks word) same is.0
+        | inr none ↦ cc
       ]
+    ]
+  ]
 ]
 
 -- a first word and the rest behind its space
-spaced : (text word rest first : List ℕ) → cut_word text ≡ (word, Some rest) → bytes_eq word first ≡ true → text ≡ first ++ 32 ∷ rest
-spaced text word rest first cut is = sym (cut_word-together text) ∙ ap together cut ∙ ap (λ w. w ++ 32 ∷ rest) ((bytes_eq-Decides word first).0 is)
+spaced : (text word rest first : List ℕ) → cut_word text ≡ (word, Some rest) → word ≡ first → text ≡ first ++ 32 ∷ rest
+spaced text word rest first cut is = sym (cut_word-together text) ∙ ap together cut ∙ ap (λ w. w ++ 32 ∷ rest) is
+
+numbered_asks : (text word rest : List ℕ) (order : Order) → cut_word text ≡ (word, Some rest) → numbered_in word rest ≡ Some order → Asks text order
+numbered_asks text word rest order cut e = elim (word_is word (codes "why") (why_in rest) _ (Some order) e) [
+  | inl is ↦ why_asks text rest order (spaced text word rest (codes "why") cut is.0) is.1
+  | inr a ↦ elim (word_is word (codes "go") (go_in rest) _ (Some order) a) [
+    | inl is ↦ go_asks text rest order (spaced text word rest (codes "go") cut is.0) is.1
+    | inr b ↦ elim (word_is word (codes "press") (press_in rest) _ (Some order) b) [
+      | inl is ↦ press_asks text rest order (spaced text word rest (codes "press") cut is.0) is.1
+      | inr c ↦ elim (word_is word (codes "defaults") (defaults_in rest) None (Some order) c) [
+        | inl is ↦ defaults_ask text rest order (spaced text word rest (codes "defaults") cut is.0) is.1
+        | inr none ↦ cc
+      ]
+    ]
+  ]
+]
 
 words_ask : (text : List ℕ) (order : Order) (words : List ℕ × Option (List ℕ)) → cut_word text ≡ words → words_in words ≡ Some order → Asks text order
 words_ask text order (word, None) cut e =
     let whole : text ≡ word = sym (cut_word-together text) ∙ ap together cut in
     subst (λ t. Asks t order) (sym whole) (plain_asks word order e)
-words_ask text order (word, Some rest) cut e = elim (cases_Bool (bytes_eq word (codes "set"))) [
-  | inl is ↦ set_asks text rest order (cut_word rest) (spaced text word rest (codes "set") cut is) refl (sym (cond-true (bytes_eq word (codes "set")) _ _ is) ∙ e)
-  | inr a ↦
-      let e' = sym (cond-false (bytes_eq word (codes "set")) _ _ a) ∙ e in
-      elim (cases_Bool (bytes_eq word (codes "order"))) [
-        | inl is ↦ elements_ask text rest order (cut_word rest) (spaced text word rest (codes "order") cut is) refl (sym (cond-true (bytes_eq word (codes "order")) _ _ is) ∙ e')
-        | inr b ↦
-            let e'' = sym (cond-false (bytes_eq word (codes "order")) _ _ b) ∙ e' in
-            elim (cases_Bool (bytes_eq word (codes "text"))) [
-              | inl is ↦ text_asks text rest order (cut_word rest) (spaced text word rest (codes "text") cut is) refl (sym (cond-true (bytes_eq word (codes "text")) _ _ is) ∙ e'')
-              | inr c ↦
-                  let e''' = sym (cond-false (bytes_eq word (codes "text")) _ _ c) ∙ e'' in
-                  elim (cases_Bool (bytes_eq word (codes "lang"))) [
-                    | inl is ↦ lang_asks text rest order (spaced text word rest (codes "lang") cut is) (sym (cond-true (bytes_eq word (codes "lang")) _ _ is) ∙ e''')
-                    | inr d ↦
-                        let e4 = sym (cond-false (bytes_eq word (codes "lang")) _ _ d) ∙ e''' in
-                        elim (cases_Bool (bytes_eq word (codes "why"))) [
-                          | inl is ↦ why_asks text rest order (spaced text word rest (codes "why") cut is) (sym (cond-true (bytes_eq word (codes "why")) _ _ is) ∙ e4)
-                          | inr f ↦ let none : ◌≡◌ {A = Option Order} None (Some order) = sym (cond-false (bytes_eq word (codes "why")) _ _ f) ∙ e4 in (cc)
-                        ]
-                  ]
-            ]
+words_ask text order (word, Some rest) cut e = elim (word_is word (codes "set") (set_in (cut_word rest)) _ (Some order) e) [
+  | inl is ↦ set_asks text rest order (cut_word rest) (spaced text word rest (codes "set") cut is.0) refl is.1
+  | inr a ↦ elim (word_is word (codes "order") (elements_in (cut_word rest)) _ (Some order) a) [
+    | inl is ↦ elements_ask text rest order (cut_word rest) (spaced text word rest (codes "order") cut is.0) refl is.1
+    | inr b ↦ elim (word_is word (codes "text") (text_in (cut_word rest)) _ (Some order) b) [
+      | inl is ↦ text_asks text rest order (cut_word rest) (spaced text word rest (codes "text") cut is.0) refl is.1
+      | inr c ↦ elim (word_is word (codes "lang") (lang_in rest) _ (Some order) c) [
+        | inl is ↦ lang_asks text rest order (spaced text word rest (codes "lang") cut is.0) is.1
+        | inr d ↦ numbered_asks text word rest order cut d
       ]
+    ]
+  ]
 ]
 
 -- the order that is found is asked for

@@ -1,11 +1,15 @@
 -- Words of a line.
-use Rattle.std.proofs.Common.{◌≡◌, ◌==◌, ℕ, ◌+◌, ◌<◌, true, List, [], ◌∷◌, ◌++◌, length, take, drop, Option, Some, None, refl, sym, ap, subst, ◌∙◌, arith, inl, inr, append_assoc}
+use Rattle.std.proofs.Common.{◌≡◌, ◌==◌, ℕ, ◌+◌, ◌<◌, ◌^◌, true, List, [], ◌∷◌, ◌++◌, length, take, drop, Option, Some, None, refl, sym, ap, subst, ◌∙◌, arith, inl, inr, append_assoc}
 use Rattle.std.specs.Char.{digit_value}
 use Rattle.std.specs.List.{position, before_first}
 use Rattle.std.specs.Str.Parse.{AllDigits}
 use Rattle.std.proofs.lemmas.Bool.{cases_Bool, cond-true, cond-false, eqb-true, ne_eqb}
 use Rattle.std.proofs.lemmas.List.{take-append-drop}
 use Rattle.std.proofs.lemmas.Slice.Eq.{bytes_eq-Decides}
+use Rattle.std.proofs.lemmas.Int.Digits.{digits_value-lt}
+use Rattle.std.proofs.Math.Nat.{pow-le-pow_right}
+use Rattle.hii_bytes.specs.Digits.{number_below}
+use Rattle.hii_bytes.proofs.DigitLemmas.{number_below-from, number_below-is}
 use Rattle.hii_commands.specs.laws.Lines.{Lacks}
 use Rattle.hii_commands.specs.Reading.{begins_with, cut_word}
 use Rattle.hii_commands.proofs.CutLemmas.{Lacks-before_first, piece_whole, piece_at}
@@ -52,6 +56,13 @@ begins text word e =
 pub Lacks-digits : (text : List ℕ) → AllDigits 10 text → Lacks 32 text
 Lacks-digits [] h = tt
 Lacks-digits (b ∷ text) h = (λ e. let bad : digit_value 32 < 10 = subst (λ x. digit_value x < 10) e h.0 in omega (arith, bad), Lacks-digits text h.1)
+
+-- a number of so many decimal digits is below that power of ten
+pub number_below-power : (limit most : ℕ) (text : List ℕ) (n : ℕ) → number_below limit 10 most text ≡ Some n → (n < 10 ^ most) × (number_below (10 ^ most) 10 most text ≡ Some n)
+number_below-power limit most text n e =
+    let is = number_below-is limit 10 most text n e in
+    let small : n < 10 ^ most = omega (arith, is.value, digits_value-lt 10 text is.digits.1, pow-le-pow_right {n = 10} (omega arith) is.few) in
+    (small, number_below-from (10 ^ most) 10 most text n (record { digits = is.digits; few = is.few; value = is.value; small = small }))
 
 -- what stands before the first space and after it
 pub cut_word-at : (text : List ℕ) (end : ℕ) → position (λ byte. byte == 32) text ≡ Some end → cut_word text ≡ (take end text, Some (drop (end + 1) text))

@@ -9,6 +9,10 @@ pub data Order : Type 0 where
   OrderElements : ℕ → List ℕ → Order
   SetText : ℕ → List ℕ → Order
   AskWhy : ℕ → Order
+  FollowReference : ℕ → Order
+  GoBack : Order
+  PressButton : ℕ → Order
+  TakeDefaults : ℕ → Order
   ChooseLanguage : List ℕ → Order
   SubmitChanges : Order
   DiscardChanges : Order

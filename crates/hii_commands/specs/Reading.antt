@@ -9,10 +9,18 @@ use Rattle.hii_commands.specs.declared.limits.TheConstants.{LINE_LIMIT}
 use Rattle.hii_commands.specs.declared.command.BadLine.{BadLine}
 use Rattle.hii_commands.specs.declared.command.BadLine.TheVariants.{BadCommand, LineTooLong}
 use Rattle.hii_commands.specs.Line.{without_return}
-use Rattle.hii_commands.specs.Orders.{Order, ShowPage, SetValue, OrderElements, SetText, AskWhy, ChooseLanguage, SubmitChanges, DiscardChanges, is_language_byte}
+use Rattle.hii_commands.specs.Orders.{Order, ShowPage, SetValue, OrderElements, SetText, AskWhy, FollowReference, GoBack, PressButton, TakeDefaults, ChooseLanguage, SubmitChanges, DiscardChanges, is_language_byte}
 
 abbrev pub question_in : List ℕ → Option ℕ
 question_in text = number_below 65536 10 5 text
+
+-- the id of a default class
+abbrev pub default_class_in : List ℕ → Option ℕ
+default_class_in text = number_below 65536 10 5 text
+
+-- the number of a row, as nine digits can write it
+abbrev pub row_number_in : List ℕ → Option ℕ
+row_number_in text = number_below (10 ^ 9) 10 9 text
 
 -- whether the text begins with a word
 abbrev pub begins_with : List ℕ → List ℕ → Bool
@@ -60,6 +68,18 @@ text_in (question, rest) = question_order SetText (question_in question) (Some (
 abbrev pub why_in : List ℕ → Option Order
 why_in text = option_map AskWhy (question_in text)
 
+-- the order of `go` over what stands behind it
+abbrev pub go_in : List ℕ → Option Order
+go_in text = option_map FollowReference (question_in text)
+
+-- the order of `press` over what stands behind it
+abbrev pub press_in : List ℕ → Option Order
+press_in text = option_map PressButton (row_number_in text)
+
+-- the order of `defaults` over what stands behind it
+abbrev pub defaults_in : List ℕ → Option Order
+defaults_in text = option_map TakeDefaults (default_class_in text)
+
 -- the order of `lang` over what stands behind it
 abbrev pub lang_in : List ℕ → Option Order
 lang_in text =
@@ -70,8 +90,18 @@ lang_in text =
 abbrev pub plain_in : List ℕ → Option Order
 plain_in word =
     if bytes_eq word (codes "page") then Some ShowPage
+    else if bytes_eq word (codes "back") then Some GoBack
     else if bytes_eq word (codes "submit") then Some SubmitChanges
     else if bytes_eq word (codes "discard") then Some DiscardChanges
+    else None
+
+-- the order of a first word that one number follows
+abbrev pub numbered_in : List ℕ → List ℕ → Option Order
+numbered_in word rest =
+    if bytes_eq word (codes "why") then why_in rest
+    else if bytes_eq word (codes "go") then go_in rest
+    else if bytes_eq word (codes "press") then press_in rest
+    else if bytes_eq word (codes "defaults") then defaults_in rest
     else None
 
 -- the order of a first word and the rest behind its space
@@ -82,8 +112,7 @@ words_in (word, Some rest) =
     else if bytes_eq word (codes "order") then elements_in (cut_word rest)
     else if bytes_eq word (codes "text") then text_in (cut_word rest)
     else if bytes_eq word (codes "lang") then lang_in rest
-    else if bytes_eq word (codes "why") then why_in rest
-    else None
+    else numbered_in word rest
 
 -- what a text without LF and CR asks for
 abbrev pub order_in : List ℕ → Option Order

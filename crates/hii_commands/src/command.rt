@@ -9,7 +9,7 @@ ghost use Rattle.hii_bytes.specs.Digits.{number_below};
 ghost use Rattle.hii_bytes.specs.NumberList.{IsList, numbers_of};
 ghost use Rattle.hii_commands.specs.laws.Asking.{Means, IsRefused};
 ghost use Rattle.hii_commands.specs.Meaning.{HasList, order_of, cause_of};
-ghost use Rattle.hii_commands.specs.Reading.{order_in, reading_of, set_in, elements_in, text_in, list_in, why_in, lang_in, plain_in, value_in, question_in, cut_word};
+ghost use Rattle.hii_commands.specs.Reading.{order_in, reading_of, set_in, elements_in, text_in, list_in, why_in, go_in, press_in, defaults_in, numbered_in, lang_in, plain_in, value_in, question_in, default_class_in, row_number_in, cut_word};
 
 use crate::limits::LINE_LIMIT;
 use hii_bytes::{Cause, first_place, is_number_list, number_of_digits};
@@ -28,6 +28,14 @@ pub enum Command<'a> {
     Text { question: u16, text: &'a [u8] },
     /// `why Q`: what forbids a change of a question, if something does.
     Why(u16),
+    /// `go Q`: the form to which a question that is a reference leads.
+    Go(u16),
+    /// `back`: the form before.
+    Back,
+    /// `press R`: the button in a row of the page, below 10^9.
+    Press(u32),
+    /// `defaults D`: the defaults of a class become the values of the questions.
+    Defaults(u16),
     /// `lang L`: the language of the texts that follow, 1 to 63 ASCII letters, digits and hyphens.
     Lang(&'a [u8]),
     /// `submit`: the working stores become the committed ones.
@@ -111,10 +119,8 @@ fn command_in(text: &[u8]) -> Option<Command<'_>>
                 text_command(rest)
             } else if is_word(word, b"lang") {
                 lang_command(rest)
-            } else if is_word(word, b"why") {
-                why_command(rest)
             } else {
-                None
+                numbered_command(word, rest)
             }
         }
     }
@@ -142,6 +148,8 @@ fn plain_command(word: &[u8]) -> Option<Command<'_>>
 {
     if is_word(word, b"page") {
         Some(Command::Page)
+    } else if is_word(word, b"back") {
+        Some(Command::Back)
     } else if is_word(word, b"submit") {
         Some(Command::Submit)
     } else if is_word(word, b"discard") {
@@ -196,12 +204,54 @@ fn text_command(rest: &[u8]) -> Option<Command<'_>>
     })
 }
 
+// The command of a word that one number follows.
+fn numbered_command<'a>(word: &[u8], rest: &'a [u8]) -> Option<Command<'a>>
+    ensures order { option_map order_of result ≡ numbered_in word.now rest.now }
+    ensures list { IfSome result HasList }
+{
+    if is_word(word, b"why") {
+        why_command(rest)
+    } else if is_word(word, b"go") {
+        go_command(rest)
+    } else if is_word(word, b"press") {
+        press_command(rest)
+    } else if is_word(word, b"defaults") {
+        defaults_command(rest)
+    } else {
+        None
+    }
+}
+
 fn why_command(rest: &[u8]) -> Option<Command<'_>>
     ensures order { option_map order_of result ≡ why_in rest.now }
     ensures list { IfSome result HasList }
 {
     let question = question_of(rest)?;
     Some(Command::Why(question))
+}
+
+fn go_command(rest: &[u8]) -> Option<Command<'_>>
+    ensures order { option_map order_of result ≡ go_in rest.now }
+    ensures list { IfSome result HasList }
+{
+    let question = question_of(rest)?;
+    Some(Command::Go(question))
+}
+
+fn press_command(rest: &[u8]) -> Option<Command<'_>>
+    ensures order { option_map order_of result ≡ press_in rest.now }
+    ensures list { IfSome result HasList }
+{
+    let row = row_of(rest)?;
+    Some(Command::Press(row))
+}
+
+fn defaults_command(rest: &[u8]) -> Option<Command<'_>>
+    ensures order { option_map order_of result ≡ defaults_in rest.now }
+    ensures list { IfSome result HasList }
+{
+    let class = class_of(rest)?;
+    Some(Command::Defaults(class))
 }
 
 // The most bytes of a language.
@@ -235,6 +285,21 @@ fn question_of(text: &[u8]) -> Option<u16>
 {
     let number = number_of_digits(text, 10, 5)?;
     u16::try_from(number).ok()
+}
+
+// A class has the digits of a question's id.
+fn class_of(text: &[u8]) -> Option<u16>
+    ensures { result ≡ default_class_in text.now }
+{
+    question_of(text)
+}
+
+// The digits are too few for more than 32 bits.
+fn row_of(text: &[u8]) -> Option<u32>
+    ensures { result ≡ row_number_in text.now }
+{
+    let number = number_of_digits(text, 10, 9)?;
+    u32::try_from(number).ok()
 }
 
 fn value_of(text: &[u8]) -> Option<i128>

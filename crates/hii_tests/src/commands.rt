@@ -8,6 +8,13 @@ fn commands_of_lines(rt: HostRuntime) {
         (b"lang -A9".as_slice(), Ok(Command::Lang(b"-A9".as_slice()))),
         (b"why 00007".as_slice(), Ok(Command::Why(7))),
         (b"why 7 ".as_slice(), Err(BadLine::BadCommand)),
+        (b"go 7".as_slice(), Ok(Command::Go(7))),
+        (b"back".as_slice(), Ok(Command::Back)),
+        (b"back 1".as_slice(), Err(BadLine::BadCommand)),
+        (b"press 999999999".as_slice(), Ok(Command::Press(999999999))),
+        (b"press 0000000001".as_slice(), Err(BadLine::BadCommand)),
+        (b"defaults 65535".as_slice(), Ok(Command::Defaults(65535))),
+        (b"route 7".as_slice(), Err(BadLine::BadCommand)),
         (
             b"set 65535 0xFfffffffffffffff".as_slice(),
             Ok(Command::Set {

@@ -26,11 +26,14 @@ forbids it, by a script of commands over a package list and its variable stores.
 // What `--help` says below the options.
 const SCRIPT_AND_STATUSES: &str = "\
 The script is standard input, one command a line, and the answers go to standard
-output. With Q for the id of a question:
+output. With Q for the id of a question and R for the number of a row:
   page                 show the form
   set Q V              change a checkbox, a number or a choice
   order Q V,V..        change an ordered list
   text Q TEXT          change a text or a password
+  go Q, back           follow a reference to its form, and come back
+  press R              press the button in a row
+  defaults D           set the form's questions to their defaults of class D
   why Q                may it be changed, and if not, which opcode forbids it
   lang L               show texts in another language
   submit, discard      keep the changes, or drop them

@@ -1,8 +1,10 @@
--- What holds of a session at all times, and what a value that is to be set comes to.
-use Rattle.std.specs.Prelude.{◌≡◌, ℕ, List, ◌++◌, Option, Some, None, Result, Ok, Err}
+-- What holds of a session at all times, and what the steps of a command come to.
+use Rattle.std.specs.Prelude.{◌≡◌, ℕ, Bool, true, if◌then◌else◌, All, List, [], ◌∷◌, ◌++◌, length, Option, Some, None, Result, Ok, Err}
 use Rattle.ifr_opcodes.specs.Forest.{Placed}
-use Rattle.ifr_scopes.specs.code.Checked.{IsNodeOf}
-use Rattle.ifr_scopes.specs.Nodes.{nodes_of}
+use Rattle.ifr_scopes.specs.code.Checked.{IsNodeOf, has_form}
+use Rattle.ifr_scopes.specs.code.Lists.{form_node}
+use Rattle.ifr_scopes.specs.declared.form.Form.{Form}
+use Rattle.ifr_scopes.specs.Nodes.{nodes_of, is_question}
 use Rattle.hii_varstore.specs.Layout.{Shape}
 use Rattle.hii_varstore.specs.code.Ranges.{HasRange}
 use Rattle.hii_varstore.specs.Stores.{StoreMap, shape_of, with_bytes}
@@ -12,26 +14,26 @@ use Rattle.hii_questions.specs.code.NewBytes.{new_bytes}
 use Rattle.hii_questions.specs.code.Offers.{IsGiven}
 use Rattle.hii_questions.specs.code.Survey.{Survey}
 use Rattle.hii_questions.specs.code.Views.{question_node, question_view}
+use Rattle.hii_questions.specs.declared.field.Field.{Field}
 use Rattle.hii_questions.specs.declared.question.Question.{Question}
 use Rattle.hii_questions.specs.declared.input.Input.{Input}
 use Rattle.guard_policy.specs.declared.denial.Denial.{Denial}
-use Rattle.guard_policy.specs.Policy.{fixed}
-use Rattle.browser_core.specs.State.{State, world_of}
+use Rattle.browser_core.specs.State.{State}
 use Rattle.browser_core.specs.Opening.{IsBrowsable, layout_in}
 use Rattle.browser_core.specs.Texts.{ok_text}
-use Rattle.browser_core.specs.Step.{accepted, denied, question_denial, warned_text, set_stores, set_question}
-use Rattle.browser_core.specs.declared.change.NewValue.{NewValue}
+use Rattle.browser_core.specs.Step.{Outcome, Taken, accepted, denied, no_question, warned_text, set_stores, set_question, take_default, take_defaults, press, show_form, follow}
 
 -- The package can be browsed, the questions and the stores are its own, the stores for trials are the working ones, and the form
--- is one of its nodes.
+-- and those of the history are among its nodes.
 pub record Stands (ifr : List ℕ) (questions : Survey) (committed working trial : StoreMap)
-    (form : Placed) : Type 0 where
+    (form : Placed) (history : List ℕ) : Type 0 where
   pub together : questions.ifr ≡ ifr
   pub browsable : IsBrowsable ifr
   pub submitted : shape_of committed ≡ layout_in ifr
   pub laid : shape_of working ≡ layout_in ifr
   pub same : trial ≡ working
   pub node : IsNodeOf ifr form
+  pub left : All (λ place. has_form ifr place ≡ true) history
 
 -- the field of a question lies in its store
 abbrev pub LiesIn : Shape → fields.Asked → Type 0
@@ -39,40 +41,72 @@ LiesIn shape q =
     (field : fields.Field) → q.field ≡ Some field
     → HasRange shape field.store field.offset field.width
 
--- The question is that of the id in the package.
-pub record IsQuestionOf (ifr : List ℕ) (id : ℕ) (q : fields.Asked) : Type 0 where
-  pub named : fields.question_with (nodes_of ifr) id ≡ Some q.node
+-- The question is one of the package.
+pub record IsQuestionIn (ifr : List ℕ) (q : fields.Asked) : Type 0 where
+  pub asks : is_question q.node ≡ true
   pub own : q ≡ fields.asked (nodes_of ifr) q.node
   pub node : IsNodeOf ifr q.node
 
--- The question of an id may be changed, or why not.
-abbrev pub Selects : State → ℕ → Result Question Denial → Type 0
-Selects s id (Ok question) =
-    IsQuestionOf s.ifr id (question_view question)
-    × (fixed (world_of s) (question_node question) ≡ None) × IsBrowsable s.ifr
-    × (shape_of s.working ≡ layout_in s.ifr)
-Selects s id (Err denial) =
-    question_denial s (fields.question_with (nodes_of s.ifr) id) ≡ Some denial
+-- a command that is carried out without more to tell, or denied
+abbrev pub answered : State → Result (Unit {0}) Denial → Outcome
+answered s (Ok done) = accepted s ok_text
+answered s (Err denial) = denied s denial
 
--- The question of an id takes a value with new bytes that lie in their store, which its options and conditions may forbid; or why
+-- The question of an id, or that there is none.
+abbrev pub Finds : State → ℕ → Result Question Denial → Type 0
+Finds s id (Ok question) =
+    IsQuestionIn s.ifr (question_view question)
+    × (fields.question_with (nodes_of s.ifr) id ≡ Some (question_node question))
+Finds s id (Err denial) =
+    (fields.question_with (nodes_of s.ifr) id ≡ None) × (denial ≡ no_question)
+
+-- A question takes a value with new bytes that fill a range of their store, which its options and conditions may forbid; or why
 -- it does not take it.
-abbrev pub Takes : State → ℕ → Offer → Result NewValue Denial → Type 0
-Takes s id offer (Ok new) =
-    IsQuestionOf s.ifr id (question_view new.question)
-    × HasRange (shape_of s.working) new.field.store new.field.offset new.field.width
-    × (set_question s (fields.question_with (nodes_of s.ifr) id) offer
-    ≡ set_stores s (with_bytes s.working new.field.store new.field.offset (new_bytes new.field))
-    (question_node new.question))
-Takes s id offer (Err denial) =
-    set_question s (fields.question_with (nodes_of s.ifr) id) offer ≡ denied s denial
+abbrev pub Takes : State → Placed → Offer → Result Field Denial → Type 0
+Takes s n offer (Ok new) =
+    HasRange (shape_of s.working) new.store new.offset new.width
+    × (length (new_bytes new) ≡ new.width)
+    × (set_question s (Some n) offer
+    ≡ set_stores s (with_bytes s.working new.store new.offset (new_bytes new)) n)
+Takes s n offer (Err denial) = set_question s (Some n) offer ≡ denied s denial
 
--- The question of an id has a value, of which it may warn; or why it may not have it, and nothing is changed.
+-- A question has a value, of which it may warn; or why it may not have it, and nothing is changed.
+abbrev pub Changes : State → Placed → Offer → State → Result (Unit {0}) Denial → Type 0
+Changes s n offer now (Ok done) =
+    set_question s (Some n) offer ≡ accepted now (ok_text ++ warned_text now now.working n)
+Changes s n offer now (Err denial) =
+    (set_question s (Some n) offer ≡ denied s denial) × (now ≡ s)
+
+-- So it is with the question of an id.
 abbrev pub Sets : State → ℕ → Offer → State → Result Question Denial → Type 0
 Sets s id offer now (Ok question) =
     set_question s (fields.question_with (nodes_of s.ifr) id) offer
     ≡ accepted now (ok_text ++ warned_text now now.working (question_node question))
 Sets s id offer now (Err denial) =
     (set_question s (fields.question_with (nodes_of s.ifr) id) offer ≡ denied s denial) × (now ≡ s)
+
+-- a statement takes its default, where it is a question
+abbrev pub take_statement : ℕ → Taken → Placed → Taken
+take_statement class t n = if is_question n then take_default class t n else t
+
+-- What a statement leaves that takes its default, and whether it took one.
+abbrev pub TakesDefault : State → ℕ → Placed → State → Bool → Type 0
+TakesDefault s class n now took =
+    (qs : List Placed)
+    → take_statement class record { state = s; questions = qs } n
+    ≡ record { state = now; questions = if took then qs ++ n ∷ [] else qs }
+
+-- The button in a row sets the defaults of a class, or why it does not.
+abbrev pub Presses : State → ℕ → Result ℕ Denial → Type 0
+Presses s row (Ok class) = press s row ≡ take_defaults s class
+Presses s row (Err denial) = press s row ≡ denied s denial
+
+-- The reference of an id leads to a form, or why it does not.
+abbrev pub Leads : State → ℕ → Result Form Denial → Type 0
+Leads s id (Ok form) =
+    IsNodeOf s.ifr (form_node form)
+    × (follow s (fields.question_with (nodes_of s.ifr) id) ≡ show_form s (form_node form))
+Leads s id (Err denial) = follow s (fields.question_with (nodes_of s.ifr) id) ≡ denied s denial
 
 -- What a caller grants of an input, whatever the field.
 abbrev pub IsOffered : Input → Type 0

@@ -3,7 +3,7 @@ use Rattle.std.specs.Prelude.{◌≡◌, ◌⊎◌, ℕ, ℤ, pos, neg_ℤ, ◌^
 use Rattle.std.specs.List.{list_all}
 use Rattle.hii_bytes.specs.Digits.{IsNumber}
 use Rattle.hii_bytes.specs.NumberList.{IsNumberList}
-use Rattle.hii_commands.specs.Orders.{Order, ShowPage, SetValue, OrderElements, SetText, AskWhy, ChooseLanguage, SubmitChanges, DiscardChanges, is_language_byte}
+use Rattle.hii_commands.specs.Orders.{Order, ShowPage, SetValue, OrderElements, SetText, AskWhy, FollowReference, GoBack, PressButton, TakeDefaults, ChooseLanguage, SubmitChanges, DiscardChanges, is_language_byte}
 use Rattle.hii_commands.specs.declared.limits.TheConstants.{LINE_LIMIT}
 use Rattle.hii_commands.specs.declared.command.BadLine.{BadLine}
 use Rattle.hii_commands.specs.declared.command.BadLine.TheVariants.{BadCommand, LineTooLong}
@@ -12,6 +12,14 @@ use Rattle.hii_commands.specs.Line.{without_return}
 -- a question's id: 1 to 5 decimal digits, at most 65535
 abbrev pub IsQuestion : List ℕ → ℕ → Type 0
 IsQuestion text q = IsNumber 10 5 65536 text q
+
+-- the id of a default class: 1 to 5 decimal digits, at most 65535
+abbrev pub IsClass : List ℕ → ℕ → Type 0
+IsClass text class = IsNumber 10 5 65536 text class
+
+-- a row of a page: 1 to 9 decimal digits
+abbrev pub IsRow : List ℕ → ℕ → Type 0
+IsRow text row = IsNumber 10 9 (10 ^ 9) text row
 
 -- a value: 1 to 20 decimal digits, or a minus and as many, or `0x` and 1 to 16 hex digits; the magnitude is below 2^64
 abbrev pub IsValue : List ℕ → ℤ → Type 0
@@ -46,6 +54,13 @@ Asks text (SetText q rest) = (question : List ℕ) × IsQuestion question q
     ⊎ ((text ≡ codes "text " ++ question) × (rest ≡ [])))
 Asks text (AskWhy q) =
     (question : List ℕ) × (text ≡ codes "why " ++ question) × IsQuestion question q
+Asks text (FollowReference q) =
+    (question : List ℕ) × (text ≡ codes "go " ++ question) × IsQuestion question q
+Asks text GoBack = text ≡ codes "back"
+Asks text (PressButton row) =
+    (digits : List ℕ) × (text ≡ codes "press " ++ digits) × IsRow digits row
+Asks text (TakeDefaults class) =
+    (digits : List ℕ) × (text ≡ codes "defaults " ++ digits) × IsClass digits class
 Asks text (ChooseLanguage language) = (text ≡ codes "lang " ++ language) × IsLanguage language
 Asks text SubmitChanges = text ≡ codes "submit"
 Asks text DiscardChanges = text ≡ codes "discard"

@@ -1,9 +1,8 @@
 use Rattle.std.proofs.Common.{rules, sym, ap, subst, ◌∙◌, arith, length}
 use Rattle.std.specs.List.{AllByRecursion}
-use Rattle.ifr_scopes.specs.code.Lists.{form_node}
-use Rattle.hii_languages.specs.code.Views.{choice_of}
 use Rattle.hii_questions.specs.code.Lists.{questions_left}
 use Rattle.hii_questions.specs.code.Views.{question_view}
+use Rattle.browser_core.proofs.Cores.{state_in}
 use Rattle.browser_core.specs.State.{State}
 use Rattle.browser_core.specs.Opening.{layout_in}
 use Rattle.browser_core.specs.code.Standing.{LiesIn}
@@ -21,7 +20,7 @@ differs-requires-clause-working c =
 
 pub loop-question-init : goal.loop-question-init
 loop-question-init c =
-    let s : State = record { ifr = c.self.inside.forms; removed = c.self.inside.removed; spoken = c.self.inside.languages; language = choice_of c.self.inside.language; committed = c.self.inside.committed; working = c.self.inside.working; form = (form_node c.self.inside.form).place } in
+    let s : State = state_in c.self.inside in
     let all = all_questions c.self.inside.questions.ifr c.self.inside.forms (questions_left c.all-question-items.result) (questions_left c.into_iter-question-iterator.result)
     (ap questions_left c.into_iter-question-iterator.ensures.into_iter_gives) c.all-question-items.ensures c.self.invariant.together in
     record {
@@ -33,14 +32,14 @@ loop-question-init c =
 
 pub overflow_add-count : goal.overflow_add-count
 overflow_add-count c =
-    let s : State = record { ifr = c.self.inside.forms; removed = c.self.inside.removed; spoken = c.self.inside.languages; language = choice_of c.self.inside.language; committed = c.self.inside.committed; working = c.self.inside.working; form = (form_node c.self.inside.form).place } in
+    let s : State = state_in c.self.inside in
     let more = count_more (is_other_field s) (question_view c.in-Some.question) c.differs.result (questions_left c.loop-question.question-iterator) (questions_left c.next.new.self) c.loop-question.count _ c.in-Some.ensures.steps c.differs.ensures c.if-differs.true c.loop-question.invariant.counted in
     let small = few_changed s c.self.invariant.browsable.accepted in
     omega (arith, more, small)
 
 pub loop-question-preserved-then-differs : goal.loop-question-preserved-then-differs
 loop-question-preserved-then-differs c =
-    let s : State = record { ifr = c.self.inside.forms; removed = c.self.inside.removed; spoken = c.self.inside.languages; language = choice_of c.self.inside.language; committed = c.self.inside.committed; working = c.self.inside.working; form = (form_node c.self.inside.form).place } in
+    let s : State = state_in c.self.inside in
     record {
       can = search rules;
       ends = search rules;
@@ -50,7 +49,7 @@ loop-question-preserved-then-differs c =
 
 pub loop-question-preserved : goal.loop-question-preserved
 loop-question-preserved c =
-    let s : State = record { ifr = c.self.inside.forms; removed = c.self.inside.removed; spoken = c.self.inside.languages; language = choice_of c.self.inside.language; committed = c.self.inside.committed; working = c.self.inside.working; form = (form_node c.self.inside.form).place } in
+    let s : State = state_in c.self.inside in
     record {
       can = search rules;
       ends = search rules;
@@ -60,5 +59,5 @@ loop-question-preserved c =
 
 pub returns : goal.returns
 returns c =
-    let s : State = record { ifr = c.self.inside.forms; removed = c.self.inside.removed; spoken = c.self.inside.languages; language = choice_of c.self.inside.language; committed = c.self.inside.committed; working = c.self.inside.working; form = (form_node c.self.inside.form).place } in
+    let s : State = state_in c.self.inside in
     count_all (is_other_field s) (questions_left c.loop-question.question-iterator) c.loop-question.count _ c.in-None.ensures.steps.0 c.loop-question.invariant.counted ∙ ap (λ (s : State). length (changed s)) c.self.view_is

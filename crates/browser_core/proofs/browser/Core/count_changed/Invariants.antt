@@ -1,9 +1,8 @@
 use Rattle.std.proofs.Common.{◌≡◌, ◌+◌, length}
 use Rattle.std.specs.Prelude.{filter}
 use Rattle.std.specs.List.{AllByRecursion}
-use Rattle.ifr_scopes.specs.code.Lists.{form_node}
-use Rattle.hii_languages.specs.code.Views.{choice_of}
 use Rattle.hii_questions.specs.code.Lists.{questions_left}
+use Rattle.browser_core.proofs.Cores.{state_in}
 use Rattle.browser_core.specs.State.{State}
 use Rattle.browser_core.specs.Opening.{layout_in}
 use Rattle.browser_core.specs.code.Standing.{LiesIn}
@@ -14,7 +13,7 @@ use Rattle.browser_core.proofs.browser.Core.count_changed.Given as goal
 -- the changed questions so far, and those that are left, are all
 abbrev pub invariant-loop-question : goal.invariant-loop-question
 invariant-loop-question l =
-    let s : State = record { ifr = l.self-inside.forms; removed = l.self-inside.removed; spoken = l.self-inside.languages; language = choice_of l.self-inside.language; committed = l.self-inside.committed; working = l.self-inside.working; form = (form_node l.self-inside.form).place } in
+    let s : State = state_in l.self-inside in
     record {
       can : goal.iterator-loop-question.can_next l.question-iterator;
       ends : goal.iterator-loop-question.is_finite l.question-iterator;

@@ -1,4 +1,4 @@
-use Rattle.std.proofs.Common.{refl, sym, ap, ◌∙◌}
+use Rattle.std.proofs.Common.{rules, refl, sym, ap, ◌∙◌}
 use Rattle.std.proofs.lemmas.Result.{err_from_is_err_and}
 use Rattle.hii_packages.specs.code.Package.{entry_of}
 use Rattle.ifr_scopes.specs.code.Lists.{form_node}
@@ -82,6 +82,7 @@ invariant_of-result c =
       laid = ap shape_of c.in_ok-working.ensures.same ∙ submitted;
       same = c.in_ok-trial.ensures.same ∙ sym c.in_ok-working.ensures.same;
       node = c.first_form-form.ensures.node;
+      left = search rules;
     }
 
 pub returns-clause-opened : goal.returns-clause-opened
@@ -89,4 +90,4 @@ returns-clause-opened c =
     opened c.args.list.now c.args.forms c.args.stores.now c.args.lang.now c.in_ok-found.found.packages (entry_of c.in_ok-found.found.forms) _ c.in_ok-layout.layout (form_node c.first_form-form.result) c.first_form-form.ensures.first.0
     c.in_ok-found.ensures.spelled c.in_ok-found.ensures.found c.in_ok-forms.ensures.read c.in_ok-languages.ensures.read c.choose-language.ensures
     (browsable c.in_ok-forms.forms c.in_ok-layout.layout c.in_ok-forms.ensures.accepted c.in_ok-layout.ensures.sound c.in_ok-layout.ensures.read c.in_ok-questions.ensures.sound) c.in_ok-layout.ensures.read
-    c.in_ok-committed.ensures.spelled c.in_ok-working.ensures.same c.in_ok-removed.ensures.removed c.first_form-form.ensures.first.1 refl
+    c.in_ok-committed.ensures.spelled c.in_ok-working.ensures.same c.in_ok-removed.ensures.removed c.first_form-form.ensures.first.1 refl c.new.ensures

@@ -1,27 +1,23 @@
-use Rattle.std.proofs.Common.{subst, sym, ap, ◌∙◌}
+use Rattle.std.proofs.Common.{ℕ, List, Option, sym, subst}
 use Rattle.hii_bytes.specs.Watching.{pen_of, Writes}
-use Rattle.ifr_opcodes.specs.Forest.{node_at}
+use Rattle.ifr_opcodes.specs.Forest.{Placed}
 use Rattle.ifr_scopes.specs.code.Lists.{form_node}
-use Rattle.ifr_scopes.specs.Nodes.{nodes_of}
-use Rattle.hii_languages.specs.code.Views.{choice_of}
-use Rattle.browser_core.specs.State.{State}
+use Rattle.hii_varstore.specs.Stores.{StoreMap}
+use Rattle.guard_policy.specs.World.{World}
+use Rattle.form_page.specs.Pages.{page_text}
+use Rattle.form_page.specs.code.PageViews as pages
+use Rattle.browser_core.specs.State.{world_of, texts}
 use Rattle.browser_core.specs.Step.{page_at}
 use Rattle.browser_core.proofs.browser.Core.put_page.Goals as goal
 
-pub new-page-requires-clause-node : goal.new-page-requires-clause-node
-new-page-requires-clause-node g c = rw (c.policy-policy.ensures.bytes ∙ ap (λ (s : State). s.ifr) (sym c.self.view_is)) c.self.invariant.node
-
-pub new-page-requires-clause-own : goal.new-page-requires-clause-own
-new-page-requires-clause-own g c = c.self.invariant.together ∙ ap (λ (s : State). s.ifr) c.self.view_is ∙ sym c.policy-policy.ensures.bytes
-
-pub new-page-requires-clause-told : goal.new-page-requires-clause-told
-new-page-requires-clause-told g c = rw (c.over-conditions.ensures.policy, c.over-conditions.ensures.stores) c.over-conditions.ensures.tells
-
 pub returns : goal.returns
 returns g c =
-    let inside : State = record { ifr = c.self.inside.forms; removed = c.self.inside.removed; spoken = c.self.inside.languages; language = choice_of c.self.inside.language; committed = c.self.inside.committed; working = c.self.inside.working; form = (form_node c.self.inside.form).place } in
-    let bytes = c.policy-policy.ensures.bytes ∙ ap (λ (s : State). s.ifr) (sym c.self.view_is) in
-    let removed = c.policy-policy.ensures.removed ∙ ap (λ (s : State). s.removed) (sym c.self.view_is) in
-    let told = rw (c.new-page.ensures.languages, c.new-page.ensures.choice, c.new-page.ensures.policy, c.new-page.ensures.stores, c.new-page.ensures.form, bytes, removed) at c.put_page.ensures in
-    subst (λ (s : State). Writes (pen_of g.W.Write.contents c.args.out.now) (pen_of g.W.Write.contents c.put_page.new.out) (page_at s (node_at (nodes_of s.ifr) s.form))) c.self.view_is
-    (rw c.self.invariant.node told)
+    let s = c.args.self.now in
+    let page = c.page.result in
+    let a = pen_of g.W.Write.contents c.args.out.now in
+    let b = pen_of g.W.Write.contents c.put_page.new.out in
+    let form = form_node page.form in
+    let by_texts = subst (λ (t : ℕ → List ℕ). Writes a b (page_text t (pages.world_of page) page.stores.now form)) c.page.ensures.texts c.put_page.ensures in
+    let by_world = subst (λ (w : World). Writes a b (page_text (texts s) w page.stores.now form)) c.page.ensures.world by_texts in
+    let by_stores = subst (λ (m : StoreMap). Writes a b (page_text (texts s) (world_of s) m form)) c.page.ensures.stores by_world in
+    subst (λ (o : Option Placed). Writes a b (page_at s o)) (sym c.page.ensures.form) by_stores

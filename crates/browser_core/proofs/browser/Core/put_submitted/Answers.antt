@@ -1,10 +1,9 @@
 use Rattle.std.proofs.Common.{rules, sym, ap, subst, ◌∙◌, length}
 use Rattle.std.specs.List.{AllByRecursion}
 use Rattle.hii_bytes.specs.Watching.{pen_of, Writes}
-use Rattle.ifr_scopes.specs.code.Lists.{form_node}
-use Rattle.hii_languages.specs.code.Views.{choice_of}
 use Rattle.hii_questions.specs.code.Lists.{questions_left}
 use Rattle.hii_questions.specs.code.Views.{question_view}
+use Rattle.browser_core.proofs.Cores.{state_in}
 use Rattle.browser_core.specs.State.{State}
 use Rattle.browser_core.specs.Opening.{layout_in}
 use Rattle.browser_core.specs.code.Standing.{LiesIn}
@@ -23,7 +22,7 @@ differs-requires-clause-working g c =
 
 pub loop-question-init : goal.loop-question-init
 loop-question-init g c =
-    let s : State = record { ifr = c.self.inside.forms; removed = c.self.inside.removed; spoken = c.self.inside.languages; language = choice_of c.self.inside.language; committed = c.self.inside.committed; working = c.self.inside.working; form = (form_node c.self.inside.form).place } in
+    let s : State = state_in c.self.inside in
     let all = all_questions c.self.inside.questions.ifr c.self.inside.forms (questions_left c.all-question-items.result) (questions_left c.into_iter-question-iterator.result)
     (ap questions_left c.into_iter-question-iterator.ensures.into_iter_gives) c.all-question-items.ensures c.self.invariant.together in
     record {
@@ -35,7 +34,7 @@ loop-question-init g c =
 
 pub loop-question-preserved-then-differs : goal.loop-question-preserved-then-differs
 loop-question-preserved-then-differs g c =
-    let s : State = record { ifr = c.self.inside.forms; removed = c.self.inside.removed; spoken = c.self.inside.languages; language = choice_of c.self.inside.language; committed = c.self.inside.committed; working = c.self.inside.working; form = (form_node c.self.inside.form).place } in
+    let s : State = state_in c.self.inside in
     record {
       can = search rules;
       ends = search rules;
@@ -45,7 +44,7 @@ loop-question-preserved-then-differs g c =
 
 pub loop-question-preserved : goal.loop-question-preserved
 loop-question-preserved g c =
-    let s : State = record { ifr = c.self.inside.forms; removed = c.self.inside.removed; spoken = c.self.inside.languages; language = choice_of c.self.inside.language; committed = c.self.inside.committed; working = c.self.inside.working; form = (form_node c.self.inside.form).place } in
+    let s : State = state_in c.self.inside in
     record {
       can = search rules;
       ends = search rules;
@@ -55,6 +54,6 @@ loop-question-preserved g c =
 
 pub returns : goal.returns
 returns g c =
-    let s : State = record { ifr = c.self.inside.forms; removed = c.self.inside.removed; spoken = c.self.inside.languages; language = choice_of c.self.inside.language; committed = c.self.inside.committed; working = c.self.inside.working; form = (form_node c.self.inside.form).place } in
+    let s : State = state_in c.self.inside in
     subst (λ (s : State). Writes (pen_of g.W.Write.contents c.args.out.now) (pen_of g.W.Write.contents c.loop-question.out) (commit s).text) c.self.view_is
     (Stands-all _ _ (commit s).text (told (is_other_field s) (questions_left c.loop-question.question-iterator)) c.loop-question.invariant.text (ap (told (is_other_field s)) c.in-None.ensures.steps.0))

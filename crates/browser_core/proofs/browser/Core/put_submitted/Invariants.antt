@@ -1,9 +1,8 @@
 use Rattle.std.specs.List.{AllByRecursion}
 use Rattle.hii_bytes.specs.Watching.{pen_of}
 use Rattle.hii_bytes.specs.code.Writing.{Stands}
-use Rattle.ifr_scopes.specs.code.Lists.{form_node}
-use Rattle.hii_languages.specs.code.Views.{choice_of}
 use Rattle.hii_questions.specs.code.Lists.{questions_left}
+use Rattle.browser_core.proofs.Cores.{state_in}
 use Rattle.browser_core.specs.State.{State}
 use Rattle.browser_core.specs.Opening.{layout_in}
 use Rattle.browser_core.specs.code.Standing.{LiesIn}
@@ -14,7 +13,7 @@ use Rattle.browser_core.proofs.browser.Core.put_submitted.Given as goal
 -- the count and the changed questions so far are written, and those that are left stand to be written
 abbrev pub invariant-loop-question : goal.invariant-loop-question
 invariant-loop-question g l =
-    let s : State = record { ifr = l.self-inside.forms; removed = l.self-inside.removed; spoken = l.self-inside.languages; language = choice_of l.self-inside.language; committed = l.self-inside.committed; working = l.self-inside.working; form = (form_node l.self-inside.form).place } in
+    let s : State = state_in l.self-inside in
     record {
       can : (goal.iterator-loop-question g).can_next l.question-iterator;
       ends : (goal.iterator-loop-question g).is_finite l.question-iterator;

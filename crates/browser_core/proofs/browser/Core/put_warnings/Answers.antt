@@ -1,15 +1,14 @@
 use Rattle.std.proofs.Common.{subst, sym, ap, ◌∙◌}
 use Rattle.hii_bytes.specs.Watching.{pen_of, Writes}
-use Rattle.ifr_scopes.specs.code.Lists.{form_node}
-use Rattle.hii_languages.specs.code.Views.{choice_of}
 use Rattle.hii_questions.specs.code.Views.{question_node}
+use Rattle.browser_core.proofs.Cores.{state_in}
 use Rattle.browser_core.specs.State.{State}
 use Rattle.browser_core.specs.Step.{warned_text}
 use Rattle.browser_core.proofs.browser.Core.put_warnings.Goals as goal
 
 pub returns : goal.returns
 returns g c =
-    let inside : State = record { ifr = c.self.inside.forms; removed = c.self.inside.removed; spoken = c.self.inside.languages; language = choice_of c.self.inside.language; committed = c.self.inside.committed; working = c.self.inside.working; form = (form_node c.self.inside.form).place } in
+    let inside : State = state_in c.self.inside in
     let bytes = c.policy.ensures.bytes ∙ ap (λ (s : State). s.ifr) (sym c.self.view_is) in
     let removed = c.policy.ensures.removed ∙ ap (λ (s : State). s.removed) (sym c.self.view_is) in
     let told = rw (c.warnings-warnings.ensures, bytes, removed) at c.put_warnings.ensures in

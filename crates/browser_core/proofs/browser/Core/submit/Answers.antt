@@ -1,10 +1,9 @@
 use Rattle.std.proofs.Common.{◌≡◌, Ok, Err, sym, ap, subst, ◌∙◌}
 use Rattle.hii_bytes.specs.Watching.{pen_of, Writes}
-use Rattle.ifr_scopes.specs.code.Lists.{form_node}
-use Rattle.hii_languages.specs.code.Views.{choice_of}
 use Rattle.hii_varstore.specs.Stores.{StoreMap}
 use Rattle.guard_policy.specs.Policy.{unsubmitted}
 use Rattle.guard_policy.specs.code.Answers.{unless}
+use Rattle.browser_core.proofs.Cores.{state_in}
 use Rattle.browser_core.specs.State.{State, world_of}
 use Rattle.browser_core.specs.Step.{Outcome, commit}
 use Rattle.browser_core.proofs.SetLemmas.{submits, submits_nothing}
@@ -12,7 +11,7 @@ use Rattle.browser_core.proofs.browser.Core.submit.Goals as goal
 
 pub returns-in-Ok-clause-state : goal.returns-in-Ok-clause-state
 returns-in-Ok-clause-state g c =
-    let inside : State = record { ifr = c.self.inside.forms; removed = c.self.inside.removed; spoken = c.self.inside.languages; language = choice_of c.self.inside.language; committed = c.self.inside.committed; working = c.self.inside.working; form = (form_node c.self.inside.form).place } in
+    let inside : State = state_in c.self.inside in
     let free : unless (unsubmitted (world_of c.args.self.now)) ≡ Ok tt = rw (c.policy.ensures.bytes, c.policy.ensures.removed, ap (λ (s : State). s.working) c.self.view_is) at (sym c.may_submit.ensures ∙ c.in-Ok.is) in
     ap (λ (m : StoreMap). record inside { committed = m }) c.copy_from.ensures ∙ ap (λ (s : State). (commit s).state) c.self.view_is ∙ ap (λ (o : Outcome). o.state) (sym (submits c.args.self.now free))
 

@@ -1,0 +1,19 @@
+use Rattle.std.proofs.Common.{◌≡◌, ℕ, true, sym, subst}
+use Rattle.ifr_scopes.specs.code.Checked.{IsNodeOf, has_form}
+use Rattle.ifr_scopes.specs.code.Lists.{form_node}
+use Rattle.browser_core.specs.State.{State}
+use Rattle.browser_core.proofs.FollowLemmas.{has_form_there, all_and_one}
+use Rattle.browser_core.proofs.browser.Core.follow.Goals as goal
+
+pub invariant_of-self : goal.invariant_of-self
+invariant_of-self c =
+    let there : has_form c.self.inside.forms c.place.result ≡ true = subst (λ (p : ℕ). has_form c.self.inside.forms p ≡ true) (sym c.place.ensures) (has_form_there c.self.inside.forms (form_node c.self.inside.form) c.self.invariant.node c.self.inside.form.form) in
+    record {
+      together = c.self.invariant.together;
+      browsable = c.self.invariant.browsable;
+      submitted = c.self.invariant.submitted;
+      laid = c.self.invariant.laid;
+      same = c.self.invariant.same;
+      node = subst (λ (s : State). IsNodeOf s.ifr (form_node c.in_ok-form.form)) (sym c.self.view_is) c.in_ok-form.ensures.0;
+      left = all_and_one (λ (p : ℕ). has_form c.self.inside.forms p ≡ true) c.self.inside.history.items c.push.new.self.items c.place.result c.self.invariant.left there c.push.ensures.items;
+    }

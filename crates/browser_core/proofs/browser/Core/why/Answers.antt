@@ -1,0 +1,16 @@
+use Rattle.std.proofs.Common.{ap, ◌∙◌}
+use Rattle.ifr_opcodes.specs.Forest.{Placed}
+use Rattle.ifr_scopes.specs.Nodes.{nodes_of}
+use Rattle.hii_questions.specs.Fields.{question_with}
+use Rattle.hii_questions.specs.code.Views.{question_node}
+use Rattle.guard_policy.specs.Policy.{fixed}
+use Rattle.guard_policy.specs.code.Answers.{unless}
+use Rattle.browser_core.specs.State.{world_of}
+use Rattle.browser_core.proofs.FollowLemmas.{why_answered}
+use Rattle.browser_core.proofs.browser.Core.why.Goals as goal
+
+pub returns : goal.returns
+returns c =
+    let s = c.args.self.now in
+    why_answered s (question_with (nodes_of s.ifr) c.args.id) (question_node c.in_ok-question.question) c.changeable.result c.in_ok-question.ensures.1
+    (c.changeable.ensures.denied ∙ ap (λ (n : Placed). unless (fixed (world_of s) n)) c.statement.ensures)

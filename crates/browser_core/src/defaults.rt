@@ -1,0 +1,25 @@
+//! Defaults of the questions of a form.
+
+ghost use Rattle.std.specs.Prelude.{◌≡◌, length};
+ghost use Rattle.browser_core.specs.Step.{taken};
+
+use crate::browser::Core;
+use ifr_scopes::laws::{statements_are_few, statements_are_nodes};
+
+/// Sets the questions of the current form, by place, to their defaults of a class, each over the stores that those before it
+/// have left, and tells how many took them.
+pub(crate) fn take_defaults(core: &mut Core<'_>, class: u16) -> u64
+    ensures state { core.new ≡ (taken core.old class).state }
+    ensures count { result ≡ length (taken core.old class).questions }
+{
+    statements_are_few();
+    statements_are_nodes();
+    let mut count = 0;
+    let mut statements = core.form().statements();
+    while let Some(statement) = statements.next() {
+        if core.take_default(statement, class) {
+            count += 1;
+        }
+    }
+    count
+}
