@@ -11,7 +11,6 @@ use Rattle.guard_policy.specs.declared.denial.Denial.{Denial}
 use Rattle.browser_core.specs.State.{State, world_of}
 use Rattle.browser_core.specs.Step.{accepted, denied, denied_by_none, show_unless_hidden, go_to, go_unless_fixed, follow, go_back_to}
 use Rattle.browser_core.specs.Texts.{ok_text}
-use Rattle.browser_core.specs.declared.history.TheConstants.{HISTORY_LIMIT}
 
 -- The second state has the package and the stores of the first.
 pub record LeavesStores (s t : State) : Type 0 where
@@ -29,7 +28,7 @@ room_leaves s form false = leaves_all s
 
 hidden_leaves : (s : State) (form : Placed) (o : Option Denial) → LeavesStores s (show_unless_hidden s form o).state
 hidden_leaves s form (Some d) = leaves_all s
-hidden_leaves s form None = room_leaves s form (nat_lt (length s.history) HISTORY_LIMIT)
+hidden_leaves s form None = room_leaves s form (nat_lt (length s.history) 32)
 
 target_leaves : (s : State) (q : Placed) (o : Option Placed) → LeavesStores s (go_to s q o).state
 target_leaves s q None = leaves_all s

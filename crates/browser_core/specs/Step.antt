@@ -35,7 +35,6 @@ use Rattle.hii_commands.specs.declared.command.BadLine.{BadLine}
 use Rattle.hii_commands.specs.Line.{without_return}
 use Rattle.browser_core.specs.State.{State, world_with, world_of, texts}
 use Rattle.browser_core.specs.Texts.{ok_text, count_text, changed_text, denied_text, warning_line, refused_text}
-use Rattle.browser_core.specs.declared.history.TheConstants.{HISTORY_LIMIT}
 use Rattle.browser_core.specs.declared.reply.Reply.{Reply}
 use Rattle.browser_core.specs.declared.reply.Reply.TheVariants.{Accepted, Denied, Refused}
 
@@ -203,12 +202,12 @@ row_of_form s row (Some form) = statement_in_row (world_of s) form row
 abbrev pub press : State → ℕ → Outcome
 press s row = press_statement s (row_of_form s row (form_of s))
 
--- ---- go: a reference that may be selected leads to a form that is not hidden, and the current form is kept (UEFI 2.8, 33.3.8.3,
--- EFI_IFR_REF)
+-- ---- go: a reference that may be selected leads to a form that is not hidden, and the current form is kept, where fewer than 32
+-- are (UEFI 2.8, 33.3.8.3, EFI_IFR_REF; the history is an own rule)
 
 abbrev pub show_form : State → Placed → Outcome
 show_form s form =
-    if nat_lt (length s.history) HISTORY_LIMIT
+    if nat_lt (length s.history) 32
     then accepted (record s { form = form.place; history = s.history ++ s.form ∷ [] }) ok_text
     else denied s (denied_by_none DeepHistory)
 
