@@ -42,14 +42,14 @@ def form_set():
     return bytes([0x0E, 0x97]) + FORM_SET_GUID + u16(1) + u16(0) + bytes([0])
 
 
-def varstore(store, size):
-    """A store with bytes, whose name is `V`."""
-    return opcode(0x24, VARSTORE_GUID + u16(store) + u16(size) + b"V\0")
+def varstore(store, size, name=b"V", guid=VARSTORE_GUID):
+    """A store with bytes."""
+    return opcode(0x24, guid + u16(store) + u16(size) + name + b"\0")
 
 
-def varstore_efi(store, size):
-    """A store with bytes and with the attributes of a variable, whose name is `V`."""
-    return opcode(0x26, u16(store) + VARSTORE_GUID + u32(7) + u16(size) + b"V\0")
+def varstore_efi(store, size, name=b"V", guid=VARSTORE_GUID):
+    """A store with bytes and with the attributes of a variable."""
+    return opcode(0x26, u16(store) + guid + u32(7) + u16(size) + name + b"\0")
 
 
 def varstore_name_value(store):
@@ -243,6 +243,11 @@ def string_package(language, blocks, info_offset=None, end=b"\0"):
     fixed = u32(46) + u32(info_offset) + bytes(32) + u16(1)
     body = fixed + language + blocks + end
     return (4 + len(body)).to_bytes(3, "little") + bytes([0x04]) + body
+
+
+def device_path(path):
+    """A package with a device path (UEFI 2.8, 33.3.4 Device Path Package)."""
+    return (4 + len(path)).to_bytes(3, "little") + bytes([0x08]) + path
 
 
 def package_list(packages, length=None):

@@ -118,8 +118,8 @@ def line_forms():
     talk("lines_that_are_no_lists", listed, b"\0\0", [(line, BAD) for line in lists] + [("order 1 00000000000000000001", OK), page("#5")])
     wrong = ["text", "text ", "text  1 x", "text 1\tx", "text x y", "text 65536 x", "Text 1 x", " text 1 x"]
     talk("lines_that_are_no_texts", of_form(string_question(1, 0, 0, 1)), b"\0\0", [(line, BAD) for line in wrong] + [page("")])
-    later = ["extract GUID=", "route GUID="]
-    talk("commands_that_are_not_known", of_form(ref(1, u16(1))), b"\0\0", [(line, BAD) for line in later])
+    unknown = ["help", "export GUID=", "reroute GUID=", "extract\tGUID="]
+    talk("commands_that_are_not_known", of_form(ref(1, u16(1))), b"\0\0", [(line, BAD) for line in unknown])
 
 
 def pages():

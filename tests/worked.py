@@ -57,10 +57,15 @@ def denied(kind, place=FIRST):
     return "DENIED %s at %08x\n" % (kind, place)
 
 
-def talk(name, list_bytes, stored, said, left=None):
-    """Lines with their answers, over the bytes of store 1. They leave other bytes if these are given."""
+def talk_over(name, list_bytes, stores, said, left=None):
+    """Lines with their answers, over the bytes of stores by their ids. They leave other bytes if these are given."""
     script = b"".join((line if isinstance(line, bytes) else line.encode()) + b"\n" for line, _ in said)
-    case(name, list_bytes, older_image([(1, stored)]), script, "".join(answer for _, answer in said), held(*(left or stored)))
+    case(name, list_bytes, older_image(stores), script, "".join(answer for _, answer in said), image(left or stores))
+
+
+def talk(name, list_bytes, stored, said, left=None):
+    """The same over the bytes of store 1."""
+    talk_over(name, list_bytes, [(1, stored)], said, [(1, left or stored)])
 
 
 def with_strings(opcodes, *packages):

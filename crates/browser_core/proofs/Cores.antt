@@ -7,6 +7,7 @@ use Rattle.browser_core.specs.declared.browser.Core.TheInside.{Inside}
 abbrev pub state_in : Inside → State
 state_in c = record {
   ifr = c.forms;
+  path = c.path.now;
   removed = c.removed;
   spoken = c.languages;
   language = choice_of c.language;

@@ -1,5 +1,5 @@
 -- What commands leave as it is.
-use Rattle.std.proofs.Common.{◌≡◌, ℕ, ◌+◌, ◌-◌, ◌<◌, ◌≤◌, ◌==◌, Bool, true, false, cond, Option, Some, None, Result, Ok, Err, List, [], ◌∷◌, length, slice_get, refl, sym, ap, subst, ◌∙◌, arith, inl, inr}
+use Rattle.std.proofs.Common.{◌≡◌, ℕ, ◌+◌, ◌-◌, ◌<◌, ◌≤◌, ◌==◌, ◌⊎◌, Bool, true, false, cond, Option, Some, None, Result, Ok, Err, List, [], ◌∷◌, length, slice_get, refl, sym, ap, subst, ◌∙◌, arith, inl, inr}
 use Rattle.std.specs.Prelude.{Contains}
 use Rattle.std.proofs.lemmas.Bool.{cases_lt}
 use Rattle.std.proofs.lemmas.List.Elements.{Contains-append_left, Contains-append_right}
@@ -11,22 +11,30 @@ use Rattle.ifr_scopes.specs.Nodes.{nodes_of}
 use Rattle.hii_varstore.specs.Stores.{StoreMap}
 use Rattle.hii_varstore.specs.laws.Bytes.{byte_of}
 use Rattle.hii_varstore.proofs.WriteLemmas.{byte_after}
-use Rattle.hii_questions.specs.Fields.{Field, field_of, question_with}
+use Rattle.config_text.specs.Grammar.{Named, Area}
+use Rattle.config_text.specs.Reading.{configuration_in}
+use Rattle.config_text.specs.declared.kind.TextKind.TheVariants.{Ask, Tell}
+use Rattle.hii_bytes.specs.declared.cause.Cause.{Cause}
+use Rattle.hii_questions.specs.Fields.{Field, field_of, question_with, is_password}
 use Rattle.hii_questions.specs.Fits.{fits}
+use Rattle.hii_questions.specs.Inputs as inputs
 use Rattle.hii_questions.specs.Inputs.{Offer, whole, listed, utf8}
 use Rattle.hii_questions.proofs.LawLemmas.{fits_wide}
 use Rattle.hii_questions.specs.declared.denial.DenialKind.{DenialKind}
-use Rattle.hii_questions.specs.declared.denial.DenialKind.TheVariants.{NotButton}
+use Rattle.hii_questions.specs.declared.denial.DenialKind.TheVariants.{NotButton, Password}
 use Rattle.ifr_defaults.specs.Defaults.{default_of}
 use Rattle.guard_policy.specs.Policy.{denied_by, fixed, unsubmitted}
 use Rattle.guard_policy.specs.declared.denial.Denial.{Denial}
-use Rattle.hii_commands.specs.Orders.{Order, ShowPage, SetValue, OrderElements, SetText, FollowReference, GoBack, PressButton, TakeDefaults, AskWhy, ChooseLanguage, SubmitChanges, DiscardChanges}
+use Rattle.hii_commands.specs.Orders.{Order, ShowPage, SetValue, OrderElements, SetText, FollowReference, GoBack, PressButton, TakeDefaults, ExtractConfiguration, RouteConfiguration, AskWhy, ChooseLanguage, SubmitChanges, DiscardChanges}
+use Rattle.browser_core.specs.Configuration.{store_named, block_field, block_bytes, question_of_field}
 use Rattle.browser_core.specs.State.{State, world_of}
-use Rattle.browser_core.specs.Step.{Outcome, Taken, step, denied, form_of, told_why, question_denial, set_question, set_unless_fixed, set_unless_forbidden, set_fitting, value_denial, with_field, submit_unless, sources, taken_if, take_offer, take_default, take_each, questions_in, taken, take_defaults, press_unless_fixed, press_statement, row_of_form}
+use Rattle.browser_core.specs.Texts.{count_text}
+use Rattle.browser_core.specs.Step.{Outcome, Taken, step, denied, form_of, told_why, question_denial, set_question, set_unless_fixed, set_unless_forbidden, set_fitting, value_denial, with_field, submit_unless, sources, taken_if, take_offer, take_default, take_each, questions_in, taken, take_defaults, press_unless_fixed, press_statement, row_of_form, set_field, set_block, set_blocks, go_on, route_to, route_reading}
 use Rattle.browser_core.specs.declared.reply.Reply.{Reply}
 use Rattle.browser_core.specs.declared.reply.Reply.TheVariants.{Accepted, Denied, Refused}
-use Rattle.browser_core.specs.laws.Bytes.{named_if, pressed_if, questions_set, SetsByte, KeepsOtherBytes}
+use Rattle.browser_core.specs.laws.Bytes.{named_if, pressed_if, questions_of_blocks, routed_to, questions_routed, where_accepted, questions_set, SetsByte, KeepsOtherBytes}
 use Rattle.browser_core.proofs.GoLemmas.{LeavesStores, follow_leaves, back_leaves}
+use Rattle.browser_core.proofs.RoutedLemmas.{extract_leaves}
 use Rattle.browser_core.proofs.SealedLemmas.{set_keeps as set_keeps_package}
 
 -- ---- one command
@@ -178,6 +186,81 @@ press_keeps : (s : State) (store at : ℕ) (o : Option Placed) → byte_of s.wor
 press_keeps s store at None same none = (same, refl)
 press_keeps s store at (Some n) same none = button_keeps s n store at (number n.op == RESET_BUTTON) same none
 
+-- ---- the blocks of a response
+
+password_keeps : (s : State) (q : Placed) (bytes : List ℕ) (store at : ℕ) (is : Bool) → NoneHas (named_if (Some q) (cond is (denied s (denied_by Password q)) (set_question s (Some q) (inputs.field bytes))).reply) s.ifr store at
+    → KeepsByte s (cond is (denied s (denied_by Password q)) (set_question s (Some q) (inputs.field bytes))).state store at
+password_keeps s q bytes store at true none = record { ifr = refl; committed = refl; working = refl }
+password_keeps s q bytes store at false none = record {
+  ifr = (set_keeps_package s (inputs.field bytes) (Some q)).ifr;
+  committed = set_submits s (inputs.field bytes) (Some q);
+  working = set_keeps s (inputs.field bytes) store at (Some q)
+      (λ n f is found here from inside ok. none n f (named_contains (Some q) n (set_question s (Some q) (inputs.field bytes)).reply is ok) found here from inside);
+}
+
+set_field_keeps : (s : State) (o : Option Placed) (bytes : List ℕ) (store at : ℕ) → NoneHas (named_if o (set_field s o bytes).reply) s.ifr store at → KeepsByte s (set_field s o bytes).state store at
+set_field_keeps s None bytes store at none = record { ifr = refl; committed = refl; working = refl }
+set_field_keeps s (Some q) bytes store at none = password_keeps s q bytes store at (is_password q) none
+
+-- the blocks behind the first, where all are set
+abbrev AllSet : State → List ℕ → ℕ → State → List Area → Type 0
+AllSet before text id s blocks = (set_blocks before text id s blocks).reply ≡ Accepted
+
+next_set : (before s next : State) (text : List ℕ) (id : ℕ) (blocks : List Area) (r : Reply) → (go_on before r (set_blocks before text id next blocks)).reply ≡ Accepted
+    → (r ≡ Accepted) × AllSet before text id next blocks
+next_set before s next text id blocks Accepted e = (refl, e)
+next_set before s next text id blocks (Denied d) e = absurd cc
+next_set before s next text id blocks (Refused cause) e = absurd cc
+
+blocks_keep : (before s : State) (text : List ℕ) (id : ℕ) (blocks : List Area) (store at : ℕ) → AllSet before text id s blocks → NoneHas (questions_of_blocks s id blocks) s.ifr store at
+    → KeepsByte s (set_blocks before text id s blocks).state store at
+blocks_keep before s text id [] store at all none = record { ifr = refl; committed = refl; working = refl }
+blocks_keep before s text id (block ∷ blocks) store at all none =
+    let next = (set_block s id block).state in
+    let set = next_set before s next text id blocks (set_block s id block).reply all in
+    let o = question_of_field (world_of s) (nodes_of s.ifr) (block_field id block) in
+    let mine = named_if o (set_block s id block).reply in
+    let first = set_field_keeps s o (block_bytes block) store at (λ n f c. none n f (Contains-append_left mine (questions_of_blocks next id blocks) n c)) in
+    let later = blocks_keep before next text id blocks store at set.1
+    (λ n f c found. none n f (Contains-append_right mine (questions_of_blocks next id blocks) n c) (subst (λ (ifr : List ℕ). field_of (nodes_of ifr) n ≡ Some f) first.ifr found)) in
+    rw set.0 (record { ifr = later.ifr ∙ first.ifr; committed = later.committed ∙ first.committed; working = later.working ∙ first.working })
+
+on_not : (before : State) (r : Reply) (next : Outcome) → ((next.reply ≡ Accepted → ⊥) → next.state ≡ before) → ((go_on before r next).reply ≡ Accepted → ⊥) → (go_on before r next).state ≡ before
+on_not before Accepted next later none = later none
+on_not before (Denied d) next later none = refl
+on_not before (Refused cause) next later none = refl
+
+-- blocks that are not all set leave what was there before them
+not_set : (before s : State) (text : List ℕ) (id : ℕ) (blocks : List Area) → (AllSet before text id s blocks → ⊥) → (set_blocks before text id s blocks).state ≡ before
+not_set before s text id [] none = absurd (none refl)
+not_set before s text id (block ∷ blocks) none =
+    on_not before (set_block s id block).reply (set_blocks before text id (set_block s id block).state blocks) (not_set before (set_block s id block).state text id blocks) none
+
+-- a reply that is not that of a command that is carried out
+is_accepted : (r : Reply) → (r ≡ Accepted) ⊎ (r ≡ Accepted → ⊥)
+is_accepted Accepted = inl refl
+is_accepted (Denied d) = inr (λ e. absurd cc)
+is_accepted (Refused cause) = inr (λ e. absurd cc)
+
+routed_keep : (s : State) (blocks : List Area) (store at : ℕ) (o : Option ℕ) → byte_of s.working store at ≡ byte_of s.committed store at → NoneHas (where_accepted (route_to s blocks o).reply (routed_to s blocks o)) s.ifr store at
+    → Keeps s (route_to s blocks o).state store at
+routed_keep s blocks store at None same none = (same, refl)
+routed_keep s blocks store at (Some id) same none =
+    let end = set_blocks s (count_text (length blocks)) id s blocks in
+    elim (is_accepted end.reply) [
+      | inl all ↦
+          let kept = blocks_keep s s (count_text (length blocks)) id blocks store at all (rw all at none) in
+          (kept.working ∙ same, ap (λ m. byte_of m store at) kept.committed)
+      | inr not_all ↦
+          let back : end.state ≡ s = not_set s s (count_text (length blocks)) id blocks not_all in
+          subst (λ (t : State). Keeps s t store at) (sym back) (same, refl)
+    ]
+
+route_keeps : (s : State) (r : Result (Named × List Area) Cause) (store at : ℕ) → byte_of s.working store at ≡ byte_of s.committed store at → NoneHas (where_accepted (route_reading s r).reply (questions_routed s r)) s.ifr store at
+    → Keeps s (route_reading s r).state store at
+route_keeps s (Err cause) store at same none = (same, refl)
+route_keeps s (Ok (named, blocks)) store at same none = routed_keep s blocks store at (store_named (nodes_of s.ifr) s.path named) same none
+
 -- ---- other commands
 
 leaves_keep : (s t : State) (store at : ℕ) → byte_of s.working store at ≡ byte_of s.committed store at → LeavesStores s t → Keeps s t store at
@@ -203,6 +286,8 @@ step_keeps s (FollowReference id) store at same none = leaves_keep s _ store at 
 step_keeps s GoBack store at same none = leaves_keep s _ store at same (back_leaves s (slice_get s.history (length s.history - 1)))
 step_keeps s (PressButton row) store at same none = press_keeps s store at (row_of_form s row (form_of s)) same (none_sets s (PressButton row) store at none)
 step_keeps s (TakeDefaults class) store at same none = defaults_keep s class store at same (none_sets s (TakeDefaults class) store at none)
+step_keeps s (ExtractConfiguration request) store at same none = leaves_keep s _ store at same (extract_leaves s (configuration_in Ask request))
+step_keeps s (RouteConfiguration response) store at same none = route_keeps s (configuration_in Tell response) store at same (none_sets s (RouteConfiguration response) store at none)
 step_keeps s (ChooseLanguage language) store at same none = (same, refl)
 step_keeps s (AskWhy id) store at same none = why_keeps s (question_denial s (question_with (nodes_of s.ifr) id)) store at same
 step_keeps s SubmitChanges store at same none = submit_keeps s (unsubmitted (world_of s)) store at same

@@ -3,7 +3,13 @@ pub mod RunLemmas
 pub mod OpeningLemmas
 pub mod FormLemmas
 pub mod WithoutFaultLemmas
+pub mod AgreeLemmas
+pub mod ByteLemmas
 pub mod SetLemmas
+pub mod BlockLemmas
+pub mod RouteLemmas
+pub mod RoutedLemmas
+pub mod TellingLemmas
 pub mod ChangeLemmas
 pub mod LawLemmas
 pub mod DecidingLemmas

@@ -9,7 +9,7 @@ use Rattle.hii_bytes.specs.declared.cause.Fault.{Fault}
 use Rattle.hii_bytes.specs.Faults.{HasNone, IsLeast, Refuses, Then, out_of_memory}
 use Rattle.hii_bytes.specs.Numbers.{number_in}
 use Rattle.hii_bytes.proofs.FaultLemmas.{then_first, then_second, then_none}
-use Rattle.hii_packages.specs.Packages.{Entry, SpellsPackages, nth_forms, pieces_of, stops, end_package}
+use Rattle.hii_packages.specs.Packages.{Entry, SpellsPackages, nth_forms, device_path_of, pieces_of, stops, end_package}
 use Rattle.hii_packages.specs.Faults.{IsListFault, IsFormsFault}
 use Rattle.hii_packages.proofs.PackageLemmas.{pieces-concat}
 use Rattle.hii_packages.proofs.SpellLemmas.{end_from_spells}
@@ -174,11 +174,13 @@ refuses_image list n stores ifr shape fault f b laid r =
 pub opened : (list : List ℕ) (n : ℕ) (stores language : List ℕ) (packages : List (List ℕ)) (source : Entry) (start : State) (shape : Shape) (first : Placed) (others : List Placed)
     → SpellsPackages list packages → nth_forms packages n ≡ Some source → start.ifr ≡ source.bytes → AreSpoken (string_packages packages) start.spoken → start.language ≡ chosen start.spoken language
     → IsBrowsable start.ifr → shape ≡ layout_in start.ifr → SpellsImage shape stores start.committed
-    → start.working ≡ start.committed → start.removed ≡ removed_at (nodes_of start.ifr) start.working → filter is_form (nodes_of start.ifr) ≡ first ∷ others → start.form ≡ first.place → start.history ≡ [] → Opens list n stores language start
-opened list n stores language packages source start shape first others s found is says chose b laid spelled same removed forms place none = record {
+    → start.working ≡ start.committed → start.removed ≡ removed_at (nodes_of start.ifr) start.working → filter is_form (nodes_of start.ifr) ≡ first ∷ others → start.form ≡ first.place → start.history ≡ [] → start.path ≡ device_path_of packages
+    → Opens list n stores language start
+opened list n stores language packages source start shape first others s found is says chose b laid spelled same removed forms place none path = record {
   source = source;
   found = (packages, s, found);
   bytes = is;
+  path = (packages, s, path);
   texts = (packages, s, says);
   language_is = chose;
   browsable = b;

@@ -14,13 +14,18 @@ use Rattle.ifr_scopes.proofs.ViewLemmas.{further}
 use Rattle.hii_varstore.specs.Layout.{Shape, size_of}
 use Rattle.hii_varstore.specs.Stores.{StoreMap, shape_of, bytes_of, overwritten}
 use Rattle.hii_varstore.proofs.WriteLemmas.{bytes_after, shape_after, sizes}
-use Rattle.hii_questions.specs.Answers.{answers, answer_of, value_of_field, value_of_bytes}
-use Rattle.hii_questions.specs.Fields.{Field, field_of, question_with}
+use Rattle.hii_questions.specs.Answers.{answers, answer_of, value_of_field, value_of_bytes, named_values}
+use Rattle.config_text.specs.Grammar.{Named, Area}
+use Rattle.config_text.specs.Reading.{configuration_in}
+use Rattle.config_text.specs.declared.kind.TextKind.TheVariants.{Ask, Tell}
+use Rattle.hii_bytes.specs.declared.cause.Cause.{Cause}
+use Rattle.hii_questions.specs.Fields.{Field, field_of, question_with, is_password}
 use Rattle.hii_questions.specs.Fits.{fits}
+use Rattle.hii_questions.specs.Inputs as inputs
 use Rattle.hii_questions.specs.Inputs.{Offer, whole, listed, utf8}
 use Rattle.hii_questions.specs.Types.{type_of}
 use Rattle.hii_questions.specs.declared.denial.DenialKind.{DenialKind}
-use Rattle.hii_questions.specs.declared.denial.DenialKind.TheVariants.{NotButton}
+use Rattle.hii_questions.specs.declared.denial.DenialKind.TheVariants.{NotButton, Password}
 use Rattle.ifr_defaults.specs.Defaults.{default_of}
 use Rattle.guard_policy.specs.Policy.{denied_by, or_else, fixed, closed, first_closed, inconsistent, warned, unsubmitted}
 use Rattle.guard_policy.specs.laws.Support.{around, support_over}
@@ -28,13 +33,15 @@ use Rattle.guard_policy.specs.Warned.{warning_of}
 use Rattle.guard_policy.specs.World.{World, is_met_over, world_over}
 use Rattle.guard_policy.specs.declared.denial.Denial.{Denial}
 use Rattle.guard_policy.proofs.SupportLemmas.{front, back, all_alike, fixed_same, closed_same, inconsistent_same, warned_same}
-use Rattle.hii_commands.specs.Orders.{Order, ShowPage, SetValue, OrderElements, SetText, FollowReference, GoBack, PressButton, TakeDefaults, AskWhy, ChooseLanguage, SubmitChanges, DiscardChanges}
+use Rattle.hii_commands.specs.Orders.{Order, ShowPage, SetValue, OrderElements, SetText, FollowReference, GoBack, PressButton, TakeDefaults, ExtractConfiguration, RouteConfiguration, AskWhy, ChooseLanguage, SubmitChanges, DiscardChanges}
 use Rattle.browser_core.specs.laws.Bytes.{state_with, answers_to}
 use Rattle.browser_core.specs.Opening.{layout_in}
 use Rattle.browser_core.specs.laws.Sealed.{deciding, IsSealed, HoldAlike, AreAlike, IsLaid, SessionsAreLaid, IsOn, SealedQuestionsAnswerAlike}
+use Rattle.browser_core.specs.Configuration.{store_named, block_field, block_bytes, question_of_field}
 use Rattle.browser_core.specs.State.{State, world_with, world_of, texts}
-use Rattle.browser_core.specs.Step.{Outcome, Taken, step, denied, form_of, sources, take_offer, take_default, take_each, questions_in, take_defaults, press_unless_fixed, press_statement, row_of_form, no_question, told_why, question_denial, why_question, set_question, set_unless_fixed, set_fitting, set_stores, set_unless_forbidden, value_denial, named_values, with_field, field_bytes, submit_unless}
-use Rattle.browser_core.specs.Texts.{ok_text, warning_line}
+use Rattle.browser_core.specs.Step.{Outcome, Taken, step, denied, form_of, sources, take_offer, take_default, take_each, questions_in, take_defaults, press_unless_fixed, press_statement, row_of_form, no_question, told_why, question_denial, why_question, set_question, set_unless_fixed, set_fitting, set_stores, set_unless_forbidden, value_denial, with_field, field_bytes, submit_unless, set_field, set_block, route_to, route_reading}
+use Rattle.browser_core.specs.Texts.{ok_text, count_text, warning_line}
+use Rattle.browser_core.proofs.RoutedLemmas.{extract_leaves, blocks_end}
 use Rattle.browser_core.proofs.GoLemmas.{LeavesStores, follow_leaves, back_leaves}
 
 -- ---- bytes that are written
@@ -146,11 +153,11 @@ module _ (ns : List Placed) (ids : List ℕ) (a b : StoreMap) (alike : HoldAlike
 
 -- ---- one command
 
-module _ (s : State) (ids : List ℕ) (committed working : StoreMap) (form : ℕ) (history : List ℕ) (sealed : IsSealed (nodes_of s.ifr) ids) (shapes : shape_of s.working ≡ shape_of working)
+module _ (s : State) (ids : List ℕ) (committed working : StoreMap) (form : ℕ) (history path : List ℕ) (sealed : IsSealed (nodes_of s.ifr) ids) (shapes : shape_of s.working ≡ shape_of working)
     (submitted : HoldAlike (nodes_of s.ifr) ids s.committed committed) (read : HoldAlike (nodes_of s.ifr) ids s.working working) where
   -- a session like this one over other stores
   abbrev beside : State
-  beside = record s { committed = committed; working = working; form = form; history = history }
+  beside = record s { committed = committed; working = working; form = form; history = history; path = path }
 
   abbrev ns : List Placed
   ns = nodes_of s.ifr
@@ -224,11 +231,13 @@ module _ (s : State) (ids : List ℕ) (committed working : StoreMap) (form : ℕ
   step_beside GoBack on = absurd on
   step_beside (PressButton row) on = absurd on
   step_beside (TakeDefaults class) on = absurd on
+  step_beside (ExtractConfiguration request) on = absurd on
+  step_beside (RouteConfiguration response) on = absurd on
   step_beside (ChooseLanguage language) on = absurd on
   step_beside SubmitChanges on = absurd on
 
 -- the second session is the first one over its own stores
-beside_is : (s t : State) → s.ifr ≡ t.ifr → s.removed ≡ t.removed → s.spoken ≡ t.spoken → s.language ≡ t.language → record s { committed = t.committed; working = t.working; form = t.form; history = t.history } ≡ t
+beside_is : (s t : State) → s.ifr ≡ t.ifr → s.removed ≡ t.removed → s.spoken ≡ t.spoken → s.language ≡ t.language → record s { committed = t.committed; working = t.working; form = t.form; history = t.history; path = t.path } ≡ t
 beside_is s t ifr removed spoken language = rw (ifr, removed, spoken, language) refl
 
 step_alike : (s t : State) (ids : List ℕ) (order : Order) → IsLaid s → IsLaid t → IsSealed (nodes_of s.ifr) ids → AreAlike ids s t → IsOn ids order
@@ -237,7 +246,7 @@ step_alike s t ids order laid also sealed alike on =
     let shapes = laid.working ∙ ap layout_in alike.ifr ∙ sym also.working in
     subst (λ (u : State). ((step s order).text ≡ (step u order).text) × AreAlike ids (step s order).state (step u order).state)
     (beside_is s t alike.ifr alike.removed alike.spoken alike.language)
-    (step_beside s ids t.committed t.working t.form t.history sealed shapes alike.committed alike.working order on)
+    (step_beside s ids t.committed t.working t.form t.history t.path sealed shapes alike.committed alike.working order on)
 
 -- ---- sessions are laid
 
@@ -301,6 +310,27 @@ press_keeps : (s : State) (o : Option Placed) → Keeps s (press_statement s o).
 press_keeps s None = keeps_all s
 press_keeps s (Some n) = button_keeps s n (number n.op == RESET_BUTTON)
 
+field_keeps : (s : State) (q : Placed) (bytes : List ℕ) (is : Bool) → Keeps s (cond is (denied s (denied_by Password q)) (set_question s (Some q) (inputs.field bytes))).state
+field_keeps s q bytes true = keeps_all s
+field_keeps s q bytes false = set_keeps s (inputs.field bytes) (Some q)
+
+pub set_field_keeps : (s : State) (o : Option Placed) (bytes : List ℕ) → Keeps s (set_field s o bytes).state
+set_field_keeps s None bytes = keeps_all s
+set_field_keeps s (Some q) bytes = field_keeps s q bytes (is_password q)
+
+block_keeps : (before s : State) (store : ℕ) (block : Area) → Keeps before s → Keeps before (set_block s store block).state
+block_keeps before s store block keeps =
+    let next = set_field_keeps s (question_of_field (world_of s) (nodes_of s.ifr) (block_field store block)) (block_bytes block) in
+    record { ifr = next.ifr ∙ keeps.ifr; committed = next.committed ∙ keeps.committed; working = next.working ∙ keeps.working }
+
+routed_keeps : (s : State) (blocks : List Area) (o : Option ℕ) → Keeps s (route_to s blocks o).state
+routed_keeps s blocks None = keeps_all s
+routed_keeps s blocks (Some store) = blocks_end (Keeps s) s s (count_text (length blocks)) store blocks (keeps_all s) (keeps_all s) (λ t block keeps. block_keeps s t store block keeps)
+
+route_keeps : (s : State) (r : Result (Named × List Area) Cause) → Keeps s (route_reading s r).state
+route_keeps s (Err cause) = keeps_all s
+route_keeps s (Ok (named, blocks)) = routed_keeps s blocks (store_named (nodes_of s.ifr) s.path named)
+
 submit_laid : (s : State) (o : Option Denial) → IsLaid s → IsLaid (submit_unless s o).state
 submit_laid s None laid = record { committed = laid.working; working = laid.working }
 submit_laid s (Some d) laid = laid
@@ -320,6 +350,8 @@ step_laid s (FollowReference id) laid = kept_laid s _ (leaves_keep s _ (follow_l
 step_laid s GoBack laid = kept_laid s _ (leaves_keep s _ (back_leaves s (slice_get s.history (length s.history - 1)))) laid
 step_laid s (PressButton row) laid = kept_laid s _ (press_keeps s (row_of_form s row (form_of s))) laid
 step_laid s (TakeDefaults class) laid = kept_laid s _ (defaults_keep s class) laid
+step_laid s (ExtractConfiguration request) laid = kept_laid s _ (leaves_keep s _ (extract_leaves s (configuration_in Ask request))) laid
+step_laid s (RouteConfiguration response) laid = kept_laid s _ (route_keeps s (configuration_in Tell response)) laid
 step_laid s ShowPage laid = laid
 step_laid s (ChooseLanguage language) laid = record { committed = laid.committed; working = laid.working }
 step_laid s SubmitChanges laid = submit_laid s (unsubmitted (world_of s)) laid
@@ -342,6 +374,8 @@ on_keeps s ids (OrderElements id numbers) on = (set_keeps s (listed numbers) (qu
 on_keeps s ids (SetText id text) on = (set_keeps s (utf8 text) (question_with (nodes_of s.ifr) id)).ifr
 on_keeps s ids (AskWhy id) on = (why_keeps s (question_denial s (question_with (nodes_of s.ifr) id))).ifr
 on_keeps s ids DiscardChanges on = refl
+on_keeps s ids (ExtractConfiguration request) on = absurd on
+on_keeps s ids (RouteConfiguration response) on = absurd on
 on_keeps s ids (FollowReference id) on = absurd on
 on_keeps s ids GoBack on = absurd on
 on_keeps s ids (PressButton row) on = absurd on

@@ -1,6 +1,8 @@
 -- Setting a question to a value.
-use Rattle.std.proofs.Common.{◌≡◌, ℕ, Bool, true, false, List, ◌++◌, length, Option, Some, None, Ok, Err, refl, sym, ap, ◌∙◌, subst}
+use Rattle.std.proofs.Common.{◌≡◌, ◌⊎◌, ℕ, ◌+◌, ◌<◌, ◌≤◌, Bool, true, false, List, length, Option, Some, None, Ok, Err, refl, sym, ap, ◌∙◌, subst, arith, inl, inr}
 use Rattle.std.specs.Prelude.{option_map, if◌then◌else◌}
+use Rattle.std.specs.Option.{IsSomeAnd}
+use Rattle.std.proofs.lemmas.Bool.{cases_lt}
 use Rattle.ifr_opcodes.specs.Forest.{Placed}
 use Rattle.ifr_opcodes.specs.Reading.{tree_of}
 use Rattle.ifr_scopes.specs.Accepted.{IsAccepted}
@@ -10,23 +12,32 @@ use Rattle.ifr_scopes.proofs.PlaceLemmas.{is_found}
 use Rattle.ifr_scopes.proofs.ViewLemmas.{contains_found}
 use Rattle.hii_varstore.specs.Layout.{Shape}
 use Rattle.hii_varstore.specs.code.Ranges.{HasRange}
-use Rattle.hii_varstore.specs.Stores.{StoreMap, shape_of, with_bytes}
-use Rattle.hii_questions.specs.code.Checks.{range_of}
+use Rattle.hii_varstore.specs.Stores.{StoreMap, shape_of, bytes_of_field, with_bytes}
+use Rattle.hii_varstore.proofs.WriteLemmas.{byte_after, field_back, shape_after}
+use Rattle.hii_questions.specs.Answers.{named_values, value_of_bytes, value_of_field}
+use Rattle.hii_questions.specs.code.Checks.{Checks, NamesItems, range_of}
 use Rattle.hii_questions.specs.Fields as fields
 use Rattle.hii_questions.specs.Fields.{Asked, asked, field_of, question_with}
-use Rattle.hii_questions.specs.Fits.{fits}
+use Rattle.hii_questions.specs.Fits.{fits, fits_field}
+use Rattle.hii_questions.specs.Types.{type_of}
 use Rattle.hii_questions.specs.Inputs.{Offer}
-use Rattle.hii_questions.specs.code.NewBytes.{new_bytes}
+use Rattle.hii_questions.specs.code.NewBytes.{new_bytes, new_items}
 use Rattle.hii_questions.specs.declared.field.Field.{Field}
 use Rattle.hii_questions.specs.declared.denial.DenialKind.{DenialKind}
+use Rattle.hii_questions.specs.laws.Fields.{AreBytes}
+use Rattle.hii_questions.proofs.NamedLemmas.{values_fit}
 use Rattle.hii_questions.proofs.LawLemmas.{finds_questions, holds_fields, fits_wide}
-use Rattle.guard_policy.specs.Policy.{fixed, unsubmitted}
+use Rattle.guard_policy.specs.Policy.{or_else, fixed, first_closed, inconsistent, unsubmitted}
+use Rattle.guard_policy.specs.World.{World}
+use Rattle.guard_policy.specs.code.Views.{bytes_of, world}
+use Rattle.guard_policy.specs.declared.policy.Policy.{Policy}
 use Rattle.guard_policy.specs.code.Answers.{unless}
 use Rattle.guard_policy.proofs.DenialLemmas.{none_of, some_of}
 use Rattle.guard_policy.specs.declared.denial.Denial.{Denial}
-use Rattle.browser_core.specs.State.{State, world_of}
-use Rattle.browser_core.specs.Step.{accepted, denied, value_denial, warned_text, set_stores, set_question, commit, submitted}
-use Rattle.browser_core.specs.Texts.{ok_text}
+use Rattle.browser_core.specs.State.{State, world_of, world_with}
+use Rattle.browser_core.specs.Step.{accepted, denied, set_unless_fixed, set_unless_forbidden, set_question, commit, submitted}
+use Rattle.browser_core.specs.code.Changing.{IsOver, TakesField, SetsValue}
+use Rattle.browser_core.proofs.AgreeLemmas.{copied_agree}
 use Rattle.browser_core.specs.Opening.{IsBrowsable, layout_in}
 use Rattle.browser_core.specs.code.Standing.{IsQuestionIn}
 
@@ -80,29 +91,117 @@ is_question_at ifr n q node e =
 pub fixed_question : (s : State) (n : Placed) (offer : Offer) (denial : Denial) → unless (fixed (world_of s) n) ≡ Err denial → set_question s (Some n) offer ≡ denied s denial
 fixed_question s n offer denial why = let some = some_of (fixed (world_of s) n) denial why in rw some refl
 
-pub takes : (s : State) (offer : Offer) (q : Asked) (new : Field) → IsBrowsable s.ifr → shape_of s.working ≡ layout_in s.ifr → IsQuestionIn s.ifr q → unless (fixed (world_of s) q.node) ≡ Ok tt
-    → fits (nodes_of s.ifr) q.node offer ≡ Ok (new_bytes new) → field_of (nodes_of s.ifr) q.node ≡ Some (range_of new)
-    → HasRange (shape_of s.working) new.store new.offset new.width
-    × (length (new_bytes new) ≡ new.width)
-    × (set_question s (Some q.node) offer ≡ set_stores s (with_bytes s.working new.store new.offset (new_bytes new)) q.node)
-takes s offer q new browsable laid is free fit field =
-    let none = none_of (fixed (world_of s) q.node) free in
-    let there = contains_found (nodes_of s.ifr) q.node.place q.node is.node in
-    let within = holds_fields (nodes_of s.ifr) q.node (range_of new) browsable.questions there is.asks field in
-    (subst (λ (shape : Shape). HasRange shape new.store new.offset new.width) (sym laid) within, fits_wide (nodes_of s.ifr) q.node offer (range_of new) (new_bytes new) field fit, rw (none, fit, field) refl)
+pub free_question : (s : State) (n : Placed) (offer : Offer) → unless (fixed (world_of s) n) ≡ Ok tt → set_question s (Some n) offer ≡ set_unless_fixed s n offer None
+free_question s n offer free = let none = none_of (fixed (world_of s) n) free in rw none refl
 
-pub takes_nothing : (s : State) (offer : Offer) (q : Asked) (kind : DenialKind) (place : ℕ) → unless (fixed (world_of s) q.node) ≡ Ok tt → fits (nodes_of s.ifr) q.node offer ≡ Err kind → place ≡ q.node.place
-    → set_question s (Some q.node) offer ≡ denied s record { kind = kind; place = place; message = 0 }
-takes_nothing s offer q kind place free unfit at =
-    let none = none_of (fixed (world_of s) q.node) free in rw (none, unfit, at) refl
+-- a session decides over what its policy does
+pub over_world : (policy : Policy) (m : StoreMap) (s : State) → IsOver policy m s → world policy m ≡ world_of s
+over_world policy m s over = rw (over.ifr, over.removed, over.working_is) refl
+
+over_with : (policy : Policy) (m new : StoreMap) (s : State) → IsOver policy m s → world policy new ≡ world_with s new
+over_with policy m new s over = rw (over.ifr, over.removed) refl
+
+-- what a session has with new bytes in a field
+abbrev put : StoreMap → Field → StoreMap
+put m new = with_bytes m new.store new.offset (new_bytes new)
+
+-- the field of a question that takes new bytes, and these bytes
+record Fits (policy : Policy) (m : StoreMap) (q : Asked) (offer : Offer) (new : Field) : Type 0 where
+  field : field_of (nodes_of (bytes_of policy)) q.node ≡ Some (range_of new)
+  fit : fits (nodes_of (bytes_of policy)) q.node offer ≡ Ok (new_bytes new)
+  range : HasRange (shape_of m) new.store new.offset new.width
+  wide : length (new_bytes new) ≡ new.width
+  named : named_values q.node (value_of_field (put m new) q.node (Some (range_of new))) ≡ new_items new
+
+fits_there : (policy : Policy) (m : StoreMap) (q : Asked) (offer : Offer) (new : Field) → IsBrowsable (bytes_of policy) → shape_of m ≡ layout_in (bytes_of policy) → IsQuestionIn (bytes_of policy) q → AreBytes (bytes_of policy)
+    → Checks q offer (Ok new) → NamesItems q new → Fits policy m q offer new
+fits_there policy m q offer new browsable laid is small checks names =
+    let ns = nodes_of (bytes_of policy) in
+    let own : q.field ≡ field_of ns q.node = ap (λ (x : Asked). x.field) is.own in
+    let field : field_of ns q.node ≡ Some (range_of new) = sym own ∙ checks.1 in
+    let there = contains_found ns q.node.place q.node is.node in
+    let range : HasRange (shape_of m) new.store new.offset new.width = subst (λ (shape : Shape). HasRange shape new.store new.offset new.width) (sym laid) (holds_fields ns q.node (range_of new) browsable.questions there is.asks field) in
+    let fit : fits ns q.node offer ≡ Ok (new_bytes new) = ap (λ f. fits_field (type_of q.node) f offer) (sym own) ∙ checks.0 in
+    let wide = fits_wide ns q.node offer (range_of new) (new_bytes new) field fit in
+    let back : bytes_of_field (put m new) new.store new.offset new.width ≡ Some (new_bytes new) =
+    subst (λ (w : ℕ). bytes_of_field (put m new) new.store new.offset w ≡ Some (new_bytes new)) wide (field_back m new.store new.offset (new_bytes new) (subst (λ (w : ℕ). HasRange (shape_of m) new.store new.offset w) (sym wide) range)) in
+    record {
+      field = field;
+      fit = fit;
+      range = range;
+      wide = wide;
+      named = ap (λ b. named_values q.node (value_of_bytes (type_of q.node) b)) back ∙ names ns browsable.questions there is.asks (values_fit (bytes_of policy) q.node small browsable.accepted there);
+    }
+
+-- the same in a session
+takes_in : (policy : Policy) (m : StoreMap) (q : Asked) (offer : Offer) (new : Field) (s : State) (closed : Option Denial) → Fits policy m q offer new → IsOver policy m s → first_closed (world policy m) q.node (new_items new) ≡ closed
+    → set_unless_fixed s q.node offer None ≡ set_unless_forbidden s (put m new) q.node (or_else closed (inconsistent (world_with s (put m new)) q.node))
+takes_in policy m q offer new s closed h over those =
+    let field : field_of (nodes_of s.ifr) q.node ≡ Some (range_of new) = subst (λ (ifr : List ℕ). field_of (nodes_of ifr) q.node ≡ Some (range_of new)) over.ifr h.field in
+    let fit : fits (nodes_of s.ifr) q.node offer ≡ Ok (new_bytes new) = subst (λ (ifr : List ℕ). fits (nodes_of ifr) q.node offer ≡ Ok (new_bytes new)) over.ifr h.fit in
+    let closed_too : first_closed (world_of s) q.node (named_values q.node (value_of_field (put s.working new) q.node (Some (range_of new)))) ≡ closed =
+    subst (λ (stores : StoreMap). first_closed (world_of s) q.node (named_values q.node (value_of_field (put stores new) q.node (Some (range_of new)))) ≡ closed) over.working_is
+    (ap (first_closed (world_of s) q.node) h.named ∙ subst (λ (w : World). first_closed w q.node (new_items new) ≡ closed) (over_world policy m s over) those) in
+    rw (over.working_is, fit, field, closed_too) refl
+
+pub takes_field : (policy : Policy) (m : StoreMap) (q : Asked) (offer : Offer) (new : Field) → IsBrowsable (bytes_of policy) → shape_of m ≡ layout_in (bytes_of policy) → IsQuestionIn (bytes_of policy) q → AreBytes (bytes_of policy)
+    → Checks q offer (Ok new) → NamesItems q new → unless (first_closed (world policy m) q.node (new_items new)) ≡ Ok tt → TakesField policy m q offer (Ok new)
+takes_field policy m q offer new browsable laid is small checks names free =
+    let h = fits_there policy m q offer new browsable laid is small checks names in
+    (h.range, h.wide, checks.1, λ s over. takes_in policy m q offer new s None h over (none_of (first_closed (world policy m) q.node (new_items new)) free))
+
+pub takes_closed : (policy : Policy) (m : StoreMap) (q : Asked) (offer : Offer) (new : Field) (denial : Denial) → IsBrowsable (bytes_of policy) → shape_of m ≡ layout_in (bytes_of policy) → IsQuestionIn (bytes_of policy) q → AreBytes (bytes_of policy)
+    → Checks q offer (Ok new) → NamesItems q new → unless (first_closed (world policy m) q.node (new_items new)) ≡ Err denial → TakesField policy m q offer (Err denial)
+takes_closed policy m q offer new denial browsable laid is small checks names why =
+    let h = fits_there policy m q offer new browsable laid is small checks names in
+    λ s over. takes_in policy m q offer new s (Some denial) h over (some_of (first_closed (world policy m) q.node (new_items new)) denial why)
+
+pub takes_nothing : (policy : Policy) (m : StoreMap) (q : Asked) (offer : Offer) (kind : DenialKind) (place : ℕ) → IsQuestionIn (bytes_of policy) q → fits_field (type_of q.node) q.field offer ≡ Err kind → place ≡ q.node.place
+    → TakesField policy m q offer (Err record { kind = kind; place = place; message = 0 })
+takes_nothing policy m q offer kind place is unfit at = λ s over.
+    let fit : fits (nodes_of s.ifr) q.node offer ≡ Err kind = subst (λ (ifr : List ℕ). fits (nodes_of ifr) q.node offer ≡ Err kind) over.ifr (ap (λ f. fits_field (type_of q.node) f offer) (sym (ap (λ (x : Asked). x.field) is.own)) ∙ unfit) in
+    rw (fit, at) refl
+
+-- where a byte is that lies in no field
+pub outside_of : (new : Field) (at : ℕ) → length (new_bytes new) ≡ new.width → ((new.offset ≤ at) × (at < new.offset + new.width) → ⊥) → (at < new.offset) ⊎ (new.offset + length (new_bytes new) ≤ at)
+outside_of new at wide away = elim (cases_lt at new.offset) [
+  | inl before ↦ inl before
+  | inr from ↦ elim (cases_lt at (new.offset + new.width)) [ inl inside ↦ absurd (away (from, inside)) | inr behind ↦ inr (omega (arith, wide, behind)) ]
+]
 
 -- ---- whether it may have the value
 
-pub allowed_value : (s : State) (new : StoreMap) (n : Placed) → unless (value_denial (world_of s) new n) ≡ Ok tt → set_stores s new n ≡ accepted (record s { working = new }) (ok_text ++ warned_text s new n)
-allowed_value s new n free = let none = none_of (value_denial (world_of s) new n) free in rw none refl
+pub sets_value : (policy : Policy) (q : Asked) (offer : Offer) (spare m : StoreMap) (new : Field) → TakesField policy m q offer (Ok new) → unless (inconsistent (world policy (put m new)) q.node) ≡ Ok tt
+    → SetsValue policy q offer spare m (put m new) (Ok new)
+sets_value policy q offer spare m new takes free = (
+  refl,
+  takes.1,
+  takes.2,
+  λ s over.
+      let none : inconsistent (world_with s (put m new)) q.node ≡ None = subst (λ (w : World). inconsistent w q.node ≡ None) (over_with policy m (put m new) s over) (none_of (inconsistent (world policy (put m new)) q.node) free) in
+      takes.3 s over ∙ ap (set_unless_forbidden s (put m new) q.node) none,
+  takes.0,
+)
 
-pub forbidden_value : (s : State) (new : StoreMap) (n : Placed) (denial : Denial) → unless (value_denial (world_of s) new n) ≡ Err denial → set_stores s new n ≡ denied s denial
-forbidden_value s new n denial why = let some = some_of (value_denial (world_of s) new n) denial why in rw some refl
+-- a value that is forbidden, and stores to which the field is given back
+pub gives_back : (policy : Policy) (q : Asked) (offer : Offer) (spare m now : StoreMap) (new : Field) (denial : Denial) → TakesField policy m q offer (Ok new) → unless (inconsistent (world policy (put m new)) q.node) ≡ Err denial
+    → shape_of m ≡ shape_of spare → IsSomeAnd (bytes_of_field spare new.store new.offset new.width) (λ bytes. now ≡ with_bytes (put m new) new.store new.offset bytes) → shape_of now ≡ shape_of (put m new)
+    → ((bytes : List ℕ) → length bytes ≡ new.width → put m new ≡ with_bytes spare new.store new.offset bytes → now ≡ spare) → SetsValue policy q offer spare m now (Err denial)
+gives_back policy q offer spare m now new denial takes why laid copied shape back =
+    let kept : shape_of (put m new) ≡ shape_of m = shape_after m new.store new.offset (new_bytes new) in
+    let range : HasRange (shape_of (put m new)) new.store new.offset new.width = subst (λ (sh : Shape). HasRange sh new.store new.offset new.width) (sym kept) takes.0 in (
+      shape ∙ kept,
+      λ store at alike. copied_agree (put m new) spare now new.store new.offset new.width (kept ∙ laid) range copied store at
+          (λ away. byte_after m new.store new.offset store at (new_bytes new) (λ same. outside_of new at takes.1 (λ w. away (same, w.0, w.1))) ∙ alike),
+      λ same. back (new_bytes new) takes.1 (ap (λ (stores : StoreMap). put stores new) same),
+      λ s over.
+          let some : inconsistent (world_with s (put m new)) q.node ≡ Some denial = subst (λ (w : World). inconsistent w q.node ≡ Some denial) (over_with policy m (put m new) s over) (some_of (inconsistent (world policy (put m new)) q.node) denial why) in
+          takes.3 s over ∙ ap (set_unless_forbidden s (put m new) q.node) some,
+    )
+
+-- a question that takes no value leaves the stores
+pub leaves_all : (policy : Policy) (q : Asked) (offer : Offer) (spare m : StoreMap) (denial : Denial) → TakesField policy m q offer (Err denial) → SetsValue policy q offer spare m m (Err denial)
+leaves_all policy q offer spare m denial takes = (refl, λ store at alike. alike, λ same. same, takes)
 
 -- ---- whether the stores may be submitted
 

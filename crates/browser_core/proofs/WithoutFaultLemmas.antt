@@ -2,7 +2,7 @@
 use Rattle.std.proofs.Common.{◌≡◌, ℕ, ◌≤◌, ◌<◌, ◌^◌, List, [], Some, length, refl, sym, subst, inl, inr}
 use Rattle.hii_bytes.specs.declared.cause.Cause.{Cause}
 use Rattle.hii_bytes.specs.Faults.{HasNone, Then}
-use Rattle.hii_packages.specs.Packages.{Entry, SpellsPackages, nth_forms}
+use Rattle.hii_packages.specs.Packages.{device_path_of, Entry, SpellsPackages, nth_forms}
 use Rattle.hii_languages.specs.Languages.{Spoken, string_packages, AreSpoken, IsStringsFault, chosen}
 use Rattle.ifr_opcodes.specs.Forest as forest
 use Rattle.ifr_opcodes.proofs.ForestLemmas.{is_tree_of}
@@ -87,6 +87,7 @@ starts list n image language packages source spells is u =
     let first = first_of ifr u.browsable.accepted in
     let start : State = record {
       ifr = ifr;
+      path = device_path_of packages;
       removed = removed_at (nodes_of ifr) u.stores.0;
       spoken = u.texts.0;
       language = chosen u.texts.0 language;
@@ -95,7 +96,7 @@ starts list n image language packages source spells is u =
       form = first.0.place;
       history = [];
     } in
-    (start, opened list n image language packages source start (layout_in ifr) first.0 first.1 spells is refl u.texts.1 refl u.browsable refl u.stores.1 refl refl first.2 refl refl)
+    (start, opened list n image language packages source start (layout_in ifr) first.0 first.1 spells is refl u.texts.1 refl u.browsable refl u.stores.1 refl refl first.2 refl refl refl)
 
 pub opens_without_fault : (list : List ℕ) (n : ℕ) (image language : List ℕ) (packages : List (List ℕ)) (source : Entry) → SpellsPackages list packages → nth_forms packages n ≡ Some source
     → 4 ≤ length source.bytes → length source.bytes < 2 ^ 32

@@ -62,7 +62,7 @@ before = form_set ++ store ++ form
 abbrev started : List ℕ → List ℕ → State
 started ifr bytes =
     let stores : StoreMap = record { guid = replicate 16 0x22; stores = record { id = 1; bytes = bytes } ∷ [] } in
-    record { ifr = ifr; removed = []; spoken = []; language = None; committed = stores; working = stores; form = 51; history = [] }
+    record { ifr = ifr; path = []; removed = []; spoken = []; language = None; committed = stores; working = stores; form = 51; history = [] }
 
 -- ---- a checkbox is set and submitted
 
@@ -166,3 +166,38 @@ a_default_is_taken : (outcome_of (started adding (0 ∷ 0 ∷ [])) (codes "defau
     ≡ codes "OK 1\nFORM 1 #2\n  1 *     1 #3                       [5]\nOK 1\nFORM 1 #2\n  1 *     1 #3                       [7]\nOK 0\n"
 unfolding cut levels tree_of number_in with_bytes digits unicode_width operands trees_of tree_of_opcodes leaf_value constant_value binary_value number_value is_question_number is_statement_number is_store_number
 a_default_is_taken = refl
+
+-- ---- a response is denied at its second block, and sets nothing
+
+abbrev inconsistent_if : ℕ → List ℕ
+inconsistent_if text = 0x11 ∷ 0x84 ∷ text ∷ 0 ∷ []
+
+-- the header that names the store
+abbrev header : List ℕ
+header = codes "GUID=33333333333333333333333333333333&NAME=0056&PATH="
+
+abbrev guarding_itself : List ℕ
+guarding_itself = (99 ∷ 0 ∷ 0 ∷ 2 ∷ []) ++ before ++ checkbox 1 0 ++ (0x06 ∷ 0x8E ∷ 4 ∷ 0 ∷ 0 ∷ 0 ∷ 2 ∷ 0 ∷ 1 ∷ 0 ∷ 1 ∷ 0 ∷ 0 ∷ 0 ∷ []) ++ inconsistent_if 7 ++ equal_to 2 1 ++ end ++ end ++ end ++ end
+
+a_denied_response_sets_nothing : (outcome_of (started guarding_itself (0 ∷ 0 ∷ []))
+    (codes "route " ++ header ++ codes "&OFFSET=0&WIDTH=1&VALUE=1&OFFSET=1&WIDTH=1&VALUE=1\nsubmit\nroute " ++ header ++ codes "&OFFSET=0&WIDTH=1&VALUE=01\nroute " ++ header ++ codes "\nroute " ++ header ++ codes "&OFFSET=0&WIDTH=1&VALUE=100\nroute " ++ header ++ codes "&OFFSET=0&WIDTH=2&VALUE=1\n")).text
+    ≡ codes "DENIED inconsistentif at 00000055 #7\nOK 0\nOK 1\nOK 0\nREFUSED 83 ValueWidth\nDENIED nofield at 00000000\n"
+unfolding cut levels tree_of number_in with_bytes digits unicode_width operands trees_of tree_of_opcodes leaf_value is_question_number is_statement_number is_store_number
+a_denied_response_sets_nothing = refl
+
+-- ---- of two questions with one field a block sets the one that is not fixed, and the committed stores are told
+
+-- with the flag READ_ONLY or without
+abbrev sharing : ℕ → List ℕ
+sharing flags =
+    (113 ∷ 0 ∷ 0 ∷ 2 ∷ []) ++ before ++ suppress_if ++ equal_to 2 1 ++ checkbox 1 0 ++ end
+    ++ (0x06 ∷ 0x0E ∷ 5 ∷ 0 ∷ 0 ∷ 0 ∷ 3 ∷ 0 ∷ 1 ∷ 0 ∷ 0 ∷ 0 ∷ flags ∷ 0 ∷ []) ++ checkbox 2 1 ++ end ++ end
+
+the_one_that_is_not_fixed_is_set : (outcome_of (started (sharing 0) (0 ∷ 1 ∷ [])) (codes "route " ++ header ++ codes "&OFFSET=0&WIDTH=1&VALUE=1\nextract " ++ header ++ codes "\nsubmit\nextract " ++ header ++ codes "&OFFSET=0&WIDTH=1\n")).text
+    ≡ codes "OK 1\nCONFIG " ++ header ++ codes "&OFFSET=0000&WIDTH=0002&VALUE=0100\nOK 2\nCHANGED 1\nCHANGED 3\nCONFIG " ++ header ++ codes "&OFFSET=0000&WIDTH=0001&VALUE=01\n"
+unfolding cut levels tree_of number_in with_bytes digits unicode_width operands trees_of tree_of_opcodes leaf_value is_question_number is_statement_number is_store_number
+the_one_that_is_not_fixed_is_set = refl
+
+the_first_denies_where_all_are_fixed : (outcome_of (started (sharing 1) (0 ∷ 1 ∷ [])) (codes "route " ++ header ++ codes "&OFFSET=0&WIDTH=1&VALUE=1\n")).text ≡ codes "DENIED suppressif at 00000039\n"
+unfolding cut levels tree_of number_in with_bytes digits unicode_width operands trees_of tree_of_opcodes leaf_value is_question_number is_statement_number is_store_number
+the_first_denies_where_all_are_fixed = refl

@@ -1,5 +1,6 @@
 pub mod State
 pub mod Texts
+pub mod Configuration
 pub mod Step
 pub mod Run
 pub mod Opening

@@ -2,7 +2,7 @@
 use Rattle.std.specs.Prelude.{◌≡◌, ℕ, List, [], ◌∷◌, drop, filter, Option, Some, None}
 use Rattle.hii_bytes.specs.Faults.{HasNone, Then}
 use Rattle.hii_bytes.specs.declared.cause.Cause.{Cause}
-use Rattle.hii_packages.specs.Packages.{Entry, SpellsPackages, pieces_of, nth_forms}
+use Rattle.hii_packages.specs.Packages.{Entry, SpellsPackages, pieces_of, nth_forms, device_path_of}
 use Rattle.hii_packages.specs.Faults.{IsListFault, IsFormsFault}
 use Rattle.hii_languages.specs.Languages.{Spoken, string_packages, AreSpoken, IsStringsFault, chosen}
 use Rattle.ifr_opcodes.specs.Forest.{places}
@@ -35,6 +35,11 @@ abbrev pub HasTexts : List ℕ → List Spoken → Type 0
 HasTexts list spoken =
     (packages : List (List ℕ)) × SpellsPackages list packages
     × AreSpoken (string_packages packages) spoken
+
+-- The list spells packages, and this is its device path.
+abbrev pub HasPath : List ℕ → List ℕ → Type 0
+HasPath list path =
+    (packages : List (List ℕ)) × SpellsPackages list packages × (path ≡ device_path_of packages)
 
 -- the faults of the string packages of a list, in their order
 abbrev pub IsTextFault : List ℕ → Cause → ℕ → Type 0
@@ -77,6 +82,7 @@ pub record Opens (list : List ℕ) (n : ℕ) (image language : List ℕ) (start 
   pub source : Entry
   pub found : HasSource list n source
   pub bytes : start.ifr ≡ source.bytes
+  pub path : HasPath list start.path
   pub texts : HasTexts list start.spoken
   pub language_is : start.language ≡ chosen start.spoken language
   pub browsable : IsBrowsable start.ifr

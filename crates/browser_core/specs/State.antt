@@ -6,12 +6,13 @@ use Rattle.ifr_scopes.specs.Nodes.{nodes_of}
 use Rattle.hii_varstore.specs.Stores.{StoreMap}
 use Rattle.guard_policy.specs.World.{World, world_over}
 
--- The bytes of the forms package that is browsed, the places of the DISABLE_IFs that were removed from it when it was opened,
--- and the texts of the string packages, which stay the same; the number of the string package whose texts are shown; the
--- stores as they were last submitted; the stores that commands read and change; the place of the current form; and the places of
--- the forms that references have led away from, the oldest first.
+-- The bytes of the forms package that is browsed, the device path of the list, the places of the DISABLE_IFs that were
+-- removed from the package when it was opened, and the texts of the string packages, which stay the same; the number of the
+-- string package whose texts are shown; the stores as they were last submitted; the stores that commands read and change; the
+-- place of the current form; and the places of the forms that references have led away from, the oldest first.
 pub record State : Type 0 where
   pub ifr : List ℕ
+  pub path : List ℕ
   pub removed : List ℕ
   pub spoken : List Spoken
   pub language : Option ℕ

@@ -1,39 +1,43 @@
 -- What a command does: the state that it leaves, its text and whether it was carried out (own rule).
-use Rattle.std.specs.Prelude.{ℕ, ◌-◌, ◌==◌, ◌&&◌, Bool, not, nat_eq, nat_lt, if◌then◌else◌, true, Option, Some, None, option_and_then, Result, Ok, Err, List, [], ◌∷◌, ◌++◌, length, slice_get, take, map, filter}
+use Rattle.std.specs.Prelude.{ℕ, ◌-◌, ◌==◌, ◌&&◌, Bool, not, nat_eq, nat_lt, if◌then◌else◌, true, Option, Some, None, option_and_then, option_map, Result, Ok, Err, List, [], ◌∷◌, ◌++◌, length, slice_get, take, map, filter, codes}
 use Rattle.std.specs.List.{flat_map}
 use Rattle.std.specs.Cmp.Lexicographic.{pointwise}
+use Rattle.std.specs.Option.{unwrap_or}
+use Rattle.config_text.specs.Grammar.{Named, Area}
+use Rattle.config_text.specs.Reading.{configuration_in}
+use Rattle.config_text.specs.Written.{blocks_asked, response_text}
+use Rattle.config_text.specs.declared.kind.TextKind.TheVariants.{Ask, Tell}
 use Rattle.hii_bytes.specs.declared.cause.Cause.{Cause}
 use Rattle.ifr_opcodes.specs.Forest.{Placed, node_at}
 use Rattle.ifr_opcodes.specs.Fields.{question_id, ref_target, reset_default}
 use Rattle.ifr_opcodes.specs.Opcode.{number}
 use Rattle.ifr_opcodes.specs.declared.codes.TheConstants.{RESET_BUTTON}
-use Rattle.ifr_expr.specs.Values.{Value, natural, buffer}
 use Rattle.ifr_scopes.specs.Nodes.{nodes_of, is_question, is_reference, statements}
 use Rattle.ifr_scopes.specs.References.{form_with}
 use Rattle.ifr_scopes.specs.Rules.{rules_among}
 use Rattle.hii_languages.specs.Languages.{chosen}
 use Rattle.hii_languages.specs.Shown.{text_under}
-use Rattle.hii_varstore.specs.Stores.{StoreMap, bytes_of_field, with_bytes}
-use Rattle.hii_questions.specs.Answers.{answers, value_of_field}
-use Rattle.hii_questions.specs.Fields.{Field, field_of, question_with}
+use Rattle.hii_varstore.specs.Stores.{StoreMap, bytes_of, bytes_of_field, with_bytes}
+use Rattle.hii_questions.specs.Answers.{answers, value_of_field, named_values}
+use Rattle.hii_questions.specs.Fields.{Field, field_of, question_with, is_password}
+use Rattle.hii_questions.specs.Inputs as inputs
 use Rattle.hii_questions.specs.Inputs.{Offer, whole, listed, utf8}
-use Rattle.hii_questions.specs.Items.{items_in}
-use Rattle.hii_questions.specs.Types.{element_width}
 use Rattle.hii_questions.specs.Fits.{fits}
 use Rattle.hii_questions.specs.declared.denial.DenialKind.{DenialKind}
-use Rattle.hii_questions.specs.declared.denial.DenialKind.TheVariants.{NoQuestion, NotRef, NotButton, NoRow, NoBack, DeepHistory, Outside}
+use Rattle.hii_questions.specs.declared.denial.DenialKind.TheVariants.{NoQuestion, NotRef, NotButton, NoRow, NoBack, DeepHistory, NoStore, NoField, Password, Outside}
 use Rattle.ifr_defaults.specs.Defaults.{Sources, default_of}
 use Rattle.guard_policy.specs.Policy.{denied_by, or_else, hidden, fixed, first_closed, inconsistent, warned, unsubmitted}
 use Rattle.guard_policy.specs.Warned.{warning_of}
 use Rattle.guard_policy.specs.World.{World, world_over}
 use Rattle.guard_policy.specs.declared.denial.Denial.{Denial}
 use Rattle.form_page.specs.Pages.{page_text, statement_in_row}
-use Rattle.hii_commands.specs.Orders.{Order, ShowPage, SetValue, OrderElements, SetText, FollowReference, GoBack, PressButton, TakeDefaults, AskWhy, ChooseLanguage, SubmitChanges, DiscardChanges}
+use Rattle.hii_commands.specs.Orders.{Order, ShowPage, SetValue, OrderElements, SetText, FollowReference, GoBack, PressButton, TakeDefaults, ExtractConfiguration, RouteConfiguration, AskWhy, ChooseLanguage, SubmitChanges, DiscardChanges}
 use Rattle.hii_commands.specs.Meaning.{cause_of}
 use Rattle.hii_commands.specs.Reading.{reading_of}
 use Rattle.hii_commands.specs.declared.command.BadLine.{BadLine}
 use Rattle.hii_commands.specs.Line.{without_return}
 use Rattle.browser_core.specs.State.{State, world_with, world_of, texts}
+use Rattle.browser_core.specs.Configuration.{store_named, block_field, leaves_store, password_in, block_bytes, question_of_field}
 use Rattle.browser_core.specs.Texts.{ok_text, count_text, changed_text, denied_text, warning_line, refused_text}
 use Rattle.browser_core.specs.declared.reply.Reply.{Reply}
 use Rattle.browser_core.specs.declared.reply.Reply.TheVariants.{Accepted, Denied, Refused}
@@ -97,12 +101,6 @@ why_question s q = told_why s (question_denial s q)
 abbrev pub with_field : StoreMap → Option Field → List ℕ → StoreMap
 with_field stores None bytes = stores
 with_field stores (Some field) bytes = with_bytes stores field.store field.offset bytes
-
--- the values of options that the value of a question names: a number, or the elements of a list
-abbrev pub named_values : Placed → Value → List ℕ
-named_values q (natural n) = n ∷ []
-named_values q (buffer bytes) = items_in (element_width q) bytes
-named_values q _ = []
 
 -- what forbids a value that the question has in new stores
 abbrev pub value_denial : World → StoreMap → Placed → Option Denial
@@ -241,6 +239,86 @@ go_back_to s (Some place) =
 abbrev pub go_back : State → Outcome
 go_back s = go_back_to s (slice_get s.history (length s.history - 1))
 
+-- ---- extract: the bytes of a store's blocks as they were last submitted, where no password is told (UEFI 2.8, 34.2.1 String
+-- Grammar; what is not told is an own rule)
+
+-- what forbids that a block of a store of so many bytes is told
+abbrev pub telling_denial : List Placed → ℕ → ℕ → Area → Option Denial
+telling_denial ns store size block =
+    if leaves_store size block then Some (denied_by_none NoField)
+    else option_map (λ q. denied_by Password q.node) (password_in ns (block_field store block))
+
+-- the first block that may not be told denies
+abbrev pub first_untold : List Placed → ℕ → ℕ → List Area → Option Denial
+first_untold ns store size [] = None
+first_untold ns store size (block ∷ blocks) =
+    or_else (telling_denial ns store size block) (first_untold ns store size blocks)
+
+abbrev pub configuration_text : Named × List Area → List ℕ → List ℕ
+configuration_text request bytes = codes "CONFIG " ++ response_text request bytes ++ codes "\n"
+
+abbrev pub extract_unless : State → List ℕ → Option Denial → Outcome
+extract_unless s text (Some denial) = denied s denial
+extract_unless s text None = accepted s text
+
+-- the blocks of a request, over the bytes of the store
+abbrev pub extract_bytes : State → Named × List Area → ℕ → List ℕ → Outcome
+extract_bytes s request store bytes =
+    extract_unless s (configuration_text request bytes)
+    (first_untold (nodes_of s.ifr) store (length bytes) (blocks_asked request.1 (length bytes)))
+
+abbrev pub extract_from : State → Named × List Area → Option ℕ → Outcome
+extract_from s request None = denied s (denied_by_none NoStore)
+extract_from s request (Some store) =
+    extract_bytes s request store (unwrap_or (bytes_of s.committed store) [])
+
+abbrev pub extract_reading : State → Result (Named × List Area) Cause → Outcome
+extract_reading s (Err cause) = refused s cause
+extract_reading s (Ok request) =
+    extract_from s request (store_named (nodes_of s.ifr) s.path request.0)
+
+abbrev pub extract : State → List ℕ → Outcome
+extract s text = extract_reading s (configuration_in Ask text)
+
+-- ---- route: the questions of all blocks take their values, one after the other, or none does (an own rule)
+
+-- the question of a block takes its value, where it is no password
+abbrev pub set_field : State → Option Placed → List ℕ → Outcome
+set_field s None bytes = denied s (denied_by_none NoField)
+set_field s (Some q) bytes =
+    if is_password q then denied s (denied_by Password q)
+    else set_question s (Some q) (inputs.field bytes)
+
+abbrev pub set_block : State → ℕ → Area → Outcome
+set_block s store block =
+    set_field s (question_of_field (world_of s) (nodes_of s.ifr) (block_field store block))
+    (block_bytes block)
+
+-- A block that is denied leaves what was there before all blocks.
+abbrev pub go_on : State → Reply → Outcome → Outcome
+go_on before Accepted next = next
+go_on before (Denied denial) next = denied before denial
+go_on before (Refused cause) next = refused before cause
+
+-- each block is set over the stores that the blocks before it have left
+abbrev pub set_blocks : State → List ℕ → ℕ → State → List Area → Outcome
+set_blocks before text store s [] = accepted s text
+set_blocks before text store s (block ∷ blocks) =
+    go_on before (set_block s store block).reply
+    (set_blocks before text store (set_block s store block).state blocks)
+
+abbrev pub route_to : State → List Area → Option ℕ → Outcome
+route_to s blocks None = denied s (denied_by_none NoStore)
+route_to s blocks (Some store) = set_blocks s (count_text (length blocks)) store s blocks
+
+abbrev pub route_reading : State → Result (Named × List Area) Cause → Outcome
+route_reading s (Err cause) = refused s cause
+route_reading s (Ok (named, blocks)) =
+    route_to s blocks (store_named (nodes_of s.ifr) s.path named)
+
+abbrev pub route : State → List ℕ → Outcome
+route s text = route_reading s (configuration_in Tell text)
+
 -- ---- submit and discard
 
 -- the bytes of a question's field in the stores
@@ -290,6 +368,8 @@ step s (FollowReference id) = follow s (question_with (nodes_of s.ifr) id)
 step s GoBack = go_back s
 step s (PressButton row) = press s row
 step s (TakeDefaults class) = take_defaults s class
+step s (ExtractConfiguration request) = extract s request
+step s (RouteConfiguration response) = route s response
 step s (AskWhy id) = why_question s (question_with (nodes_of s.ifr) id)
 step s (ChooseLanguage language) =
     accepted (record s { language = chosen s.spoken language }) ok_text

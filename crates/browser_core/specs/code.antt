@@ -1,3 +1,4 @@
 -- How structs, iterators and tables of the code are seen. No module outside of this folder and of laws cites one of it.
 pub mod Reading
 pub mod Standing
+pub mod Changing

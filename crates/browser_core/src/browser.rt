@@ -1,6 +1,6 @@
 //! A form set that is browsed, and what commands do to it.
 
-ghost use Rattle.std.specs.Prelude.{◌≡◌, ◌∷◌, not, List, Some, filter, length, IfOk, IfErr, IfSome, option_and_then, option_copied, option_map};
+ghost use Rattle.std.specs.Prelude.{◌≡◌, ◌∷◌, not, List, Some, filter, length, MatchResult, IfOk, IfErr, IfSome, option_and_then, option_copied, option_map};
 ghost use Rattle.hii_bytes.specs.Faults.{Refuses, IsLeast, out_of_memory};
 ghost use Rattle.hii_bytes.specs.Watching.{Puts, Writes};
 ghost use Rattle.hii_packages.specs.code.Package.{entry_of};
@@ -25,22 +25,31 @@ ghost use Rattle.form_page.specs.code.PageViews as pages;
 ghost use Rattle.browser_core.specs.State.{State, world_of, texts};
 ghost use Rattle.browser_core.specs.Step as steps;
 ghost use Rattle.browser_core.specs.Step.{step, denied, why_question, set_question, warned_text, show_page, changed, are_same_bytes, field_bytes, commit, submitted, take_defaults as defaults_taken};
-ghost use Rattle.browser_core.specs.code.Standing.{IsQuestionIn, Finds, Takes, Changes, Sets, Leads, Presses, TakesDefault, LiesIn, IsOffered, answered};
+ghost use Rattle.browser_core.specs.code.Standing.{IsQuestionIn, Finds, Changes, Sets, Leads, Presses, TakesDefault, IsTold, IsUntold, Routes, LiesIn, IsOffered, answered};
+ghost use Rattle.browser_core.specs.Configuration.{store_named};
+ghost use Rattle.config_text.specs.code.Views.{header_view};
+ghost use Rattle.config_text.specs.code.TextViews.{request_view, response_view};
+ghost use Rattle.std.specs.Option.{ok_or};
 ghost use Rattle.browser_core.specs.Opening.{Opens, IsBrowsable, IsOpenFault, IsSourceFault, layout_in};
 
-use crate::change::value_allowed;
+use crate::blocks::set_blocks;
+use crate::change::set_value;
 use crate::defaults::take_defaults;
 use crate::history::History;
 use crate::reply::Reply;
-use crate::texts::{put_changed, put_count, put_denial, put_warnings};
+use crate::telling::blocks_told;
+use crate::texts::{put_changed, put_count, put_denial, put_refusal, put_warnings};
+use crate::varstores::Varstores;
+use config_text::laws::blocks_are_few;
+use config_text::{Header, Request, Response, put_response, read_request, read_response};
 use form_page::Page;
 use guard_policy::{Conditions, Denial, Policy, Removed};
-use hii_bytes::{Fault, Watched};
+use hii_bytes::{Cause, Fault, Watched};
 use hii_commands::Command;
 use hii_languages::{Choice, Languages};
 use hii_packages::laws::spelled_bytes_have_no_fault;
 use hii_packages::{Package, PackageList};
-use hii_questions::{DenialKind, Field, Input, Question, Questions, check_value};
+use hii_questions::{DenialKind, Input, Question, Questions};
 use hii_varstore::{Layout, Stores};
 use ifr_defaults::default_of;
 use ifr_scopes::laws::a_node_is_that_of_its_place;
@@ -54,14 +63,17 @@ use std::marker::Model;
 #[derive(Drop)]
 pub(crate) struct Core<'a> {
     forms: Forms<'a>,
+    // the body of the list's first DEVICE_PATH package, or empty
+    path: &'a [u8],
+    varstores: Varstores<'a>,
     languages: Languages<'a>,
     language: Choice,
     questions: Questions<'a>,
     removed: Removed,
     committed: Stores,
     working: Stores,
-    // the working stores, in which a new value is tried
-    trial: Stores,
+    // the working stores, from which what was changed is given back
+    spare: Stores,
     form: Form<'a>,
     history: History,
 }
@@ -76,6 +88,7 @@ impl<'a> Model for Core<'a> {
 
     ghost view = { λ c. record {
       ifr = c.forms;
+      path = c.path.now;
       removed = c.removed;
       spoken = c.languages;
       language = choice_of c.language;
@@ -85,7 +98,7 @@ impl<'a> Model for Core<'a> {
       history = c.history.items;
     } };
 
-    ghost invariant = { λ c. Stands c.forms c.questions c.committed c.working c.trial
+    ghost invariant = { λ c. Stands c.forms c.varstores c.questions c.committed c.working c.spare
         (form_node c.form) c.history.items };
 }
 
@@ -108,23 +121,28 @@ impl<'a> Core<'a> {
         let found = find_source(list, forms)?;
         let languages = Languages::read(alloc, &found.packages)?;
         let forms = Forms::read(alloc, found.forms)?;
+        let varstores = Varstores::read(alloc, &forms)?;
         let layout = Layout::read(alloc, &forms)?;
+        // The buffer stores have different ids.
+        layout.buffers();
         let questions = Questions::read(alloc, &forms, &layout)?;
         let committed = Stores::read(alloc, &layout, stores)?;
         let working = committed.copy(alloc)?;
-        let trial = committed.copy(alloc)?;
+        let spare = committed.copy(alloc)?;
         let removed = Removed::at_open(alloc, &forms, &questions, &working)?;
         let form = first_form(&forms);
         let language = languages.choose(lang);
         Ok(Core {
             forms,
+            path: found.packages.device_path(),
+            varstores,
             languages,
             language,
             questions,
             removed,
             committed,
             working,
-            trial,
+            spare,
             form,
             history: History::new(),
         })
@@ -172,6 +190,8 @@ impl<'a> Core<'a> {
             }
             Command::Press(row) => self.press(row, out),
             Command::Defaults(class) => self.take_defaults(class, out),
+            Command::Extract(text) => self.extract(text, out),
+            Command::Route(text) => self.route(text, out),
             Command::Why(question) => self.answer(self.why(question), out),
             Command::Lang(language) => {
                 self.language = self.languages.choose(language);
@@ -181,7 +201,7 @@ impl<'a> Core<'a> {
             Command::Submit => self.submit(out),
             Command::Discard => {
                 self.working.copy_from(&self.committed);
-                self.trial.copy_from(&self.committed);
+                self.spare.copy_from(&self.committed);
                 out.put(b"OK\n");
                 Reply::Accepted
             }
@@ -242,6 +262,15 @@ impl<'a> Core<'a> {
         let message = self.languages.text(self.language, denial.message);
         put_denial(denial, message.chars(), out);
         Reply::Denied(denial)
+    }
+
+    // Writes by which cause a text in a command is refused.
+    fn refuse<W: Write>(&self, cause: Cause, out: &mut Watched<W>) -> Reply
+        ensures text { Puts W.contents out.old out.new (steps.refused self.now cause).text }
+        ensures reply { result ≡ Reply.Refused cause }
+    {
+        put_refusal(cause, out);
+        Reply::Refused(cause)
     }
 
     // Writes that a command was carried out, or why it is denied.
@@ -321,40 +350,18 @@ impl<'a> Core<'a> {
         Ok(question)
     }
 
-    // The new bytes with which a question has a value, where it may be changed and takes it.
-    fn new_value<'i>(&self, question: Question<'a>, input: Input<'i>) -> Result<Field<'i>, Denial>
-        requires question { IsQuestionIn self.now.ifr (question_view question) }
-        requires input { IsOffered input }
-        ensures { Takes self.now (question_node question.entry) (offer_of input.entry) result }
-    {
-        self.changeable(question.statement())?;
-        let field = check_value(question, input)?;
-        Ok(field)
-    }
-
-    // Gives a question a value, which is tried first, or answers why it may not have it. A value that is denied is taken back in
-    // its field alone.
+    // Gives a question a value, or answers why it may not have it. A value that is denied is taken back in its field alone.
     fn change(&mut self, question: Question<'a>, input: Input<'_>) -> Result<(), Denial>
         requires question { IsQuestionIn self.old.ifr (question_view question) }
         requires input { IsOffered input }
         ensures { Changes self.old (question_node question.entry) (offer_of input.entry) self.new
             result }
     {
-        let field = self.new_value(question, input)?;
-        field.put(&mut self.trial);
+        self.changeable(question.statement())?;
         let policy = Policy::new(&self.forms, &self.questions, &self.removed);
-        match value_allowed(policy, question, &self.working, &self.trial) {
-            Ok(()) => {
-                field.put(&mut self.working);
-                Ok(())
-            }
-            Err(denial) => {
-                let offset = usize::from(field.offset);
-                self.trial
-                    .copy_range(&self.working, field.store, offset, field.width);
-                Err(denial)
-            }
-        }
+        let field = set_value(policy, question, input, &mut self.working, &self.spare)?;
+        field.put(&mut self.spare);
+        Ok(())
     }
 
     // The default of a question for a class, if it has one.
@@ -483,6 +490,87 @@ impl<'a> Core<'a> {
         };
         self.form = self.forms.form_at(place);
         Ok(())
+    }
+
+    // The id of the store that a header names.
+    fn store_named(&self, header: Header<'_>) -> Result<u16, Denial>
+        ensures { result
+            ≡ ok_or (store_named (nodes_of self.now.ifr) self.now.path (header_view header.entry))
+            (steps.denied_by_none DenialKind.NoStore) }
+    {
+        match self.varstores.named(header, self.path) {
+            Some(store) => Ok(store),
+            None => Err(Denial::by(DenialKind::NoStore, 0)),
+        }
+    }
+
+    // Writes the response to a request over the stores as they were last submitted, or why it is not told.
+    fn extract<W: Write>(&self, text: &[u8], out: &mut Watched<W>) -> Reply
+        ensures text { Puts W.contents out.old out.new (steps.extract self.now text.now).text }
+        ensures reply { result ≡ (steps.extract self.now text.now).reply }
+    {
+        let request = match read_request(text) {
+            Ok(request) => request,
+            Err(cause) => return self.refuse(cause, out),
+        };
+        match self.told_bytes(&request) {
+            Ok(bytes) => {
+                out.put(b"CONFIG ");
+                put_response(out, &request, bytes);
+                out.put(b"\n");
+                Reply::Accepted
+            }
+            Err(denial) => self.deny(denial, out),
+        }
+    }
+
+    // The bytes of the store that a request names, as they were last submitted, where all of its blocks may be told.
+    fn told_bytes(&self, request: &Request<'_>) -> Result<&[u8], Denial>
+        ensures { MatchResult result
+            (λ bytes. IsTold self.now (request_view request.now) bytes.now)
+            (IsUntold self.now (request_view request.now)) }
+    {
+        let store = self.store_named(request.header())?;
+        let bytes = self.committed.bytes(store).unwrap_or(&[]);
+        let blocks = request.blocks_asked(bytes.len());
+        blocks_told(&self.questions, store, bytes.len(), blocks)?;
+        Ok(bytes)
+    }
+
+    // Sets the questions of all blocks of a response and writes how many blocks there are, or writes why none is set.
+    fn route<W: Write>(&mut self, text: &[u8], out: &mut Watched<W>) -> Reply
+        ensures state { self.new ≡ (steps.route self.old text.now).state }
+        ensures text { Puts W.contents out.old out.new (steps.route self.old text.now).text }
+        ensures reply { result ≡ (steps.route self.old text.now).reply }
+    {
+        let response = match read_response(text) {
+            Ok(response) => response,
+            Err(cause) => return self.refuse(cause, out),
+        };
+        match self.set_blocks(&response) {
+            Ok(count) => {
+                put_count(count, out);
+                Reply::Accepted
+            }
+            Err(denial) => self.deny(denial, out),
+        }
+    }
+
+    // Sets the questions of all blocks of a response and tells how many blocks there are, or tells why none is set.
+    fn set_blocks(&mut self, response: &Response<'_>) -> Result<u64, Denial>
+        ensures { Routes self.old (response_view response.now) self.new result }
+    {
+        let store = self.store_named(response.header())?;
+        blocks_are_few(response);
+        let policy = Policy::new(&self.forms, &self.questions, &self.removed);
+        set_blocks(
+            policy,
+            &self.questions,
+            store,
+            response.blocks(),
+            &mut self.working,
+            &mut self.spare,
+        )
     }
 
     // Writes of what a question warns.

@@ -2,6 +2,7 @@
 //! and change.
 #![tactic(auto)]
 
+mod blocks;
 mod browser;
 mod change;
 mod defaults;
@@ -10,7 +11,9 @@ pub mod laws;
 mod reply;
 mod script;
 mod session;
+mod telling;
 mod texts;
+mod varstores;
 
 pub use reply::{End, Reply, RunFault};
 pub use session::Session;

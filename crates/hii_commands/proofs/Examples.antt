@@ -1,7 +1,7 @@
 -- Worked values of the definitions.
 use Rattle.std.proofs.Common.{◌≡◌, pos, negsuc, [], ◌∷◌, Some, None, Ok, Err, codes, refl}
 use Rattle.hii_commands.specs.declared.command.BadLine.TheVariants.{BadCommand}
-use Rattle.hii_commands.specs.Orders.{ShowPage, SetValue, OrderElements, SetText, PressButton, ChooseLanguage}
+use Rattle.hii_commands.specs.Orders.{ShowPage, SetValue, OrderElements, SetText, PressButton, ExtractConfiguration, RouteConfiguration, ChooseLanguage}
 use Rattle.hii_commands.specs.Reading.{order_in, reading_of}
 use Rattle.hii_commands.specs.Script.{lines_of, whole_lines}
 
@@ -70,6 +70,15 @@ widest_row = refl
 
 ten_digits_of_a_row : order_in (codes "press 0000000001") ≡ None
 ten_digits_of_a_row = refl
+
+one_word : order_in (codes "extract GUID=&x") ≡ Some (ExtractConfiguration (codes "GUID=&x"))
+one_word = refl
+
+two_words : order_in (codes "route GUID= x") ≡ None
+two_words = refl
+
+no_word : order_in (codes "route ") ≡ None
+no_word = refl
 
 language : order_in (codes "lang en-US") ≡ Some (ChooseLanguage (codes "en-US"))
 language = refl

@@ -1,19 +1,19 @@
 -- The order that a text asks for, and the one that is found in it.
-use Rattle.std.proofs.Common.{◌≡◌, ◌⊎◌, if◌then◌else◌, ◌==◌, ◌&&◌, ◌≤◌, ℕ, ℤ, pos, neg_ℤ, ◌^◌, ◌<◌, Bool, true, false, List, [], ◌∷◌, ◌++◌, length, nat_le, drop, Option, Some, None, codes, option_map, refl, sym, ap, ◌∙◌, arith, inl, inr, subst, append-nil}
+use Rattle.std.proofs.Common.{◌≡◌, ◌⊎◌, if◌then◌else◌, ◌==◌, ◌&&◌, not, ◌≤◌, ℕ, ℤ, pos, neg_ℤ, ◌^◌, ◌<◌, Bool, true, false, List, [], ◌∷◌, ◌++◌, length, nat_le, drop, Option, Some, None, codes, option_map, refl, sym, ap, ◌∙◌, arith, inl, inr, subst, append-nil}
 use Rattle.std.specs.Char.{digit_value}
 use Rattle.std.specs.List.{list_all}
 use Rattle.std.specs.Str.{bytes_eq}
 use Rattle.std.specs.Str.Parse.{AllDigits}
-use Rattle.std.proofs.lemmas.Bool.{and_parts, and_from, cases_Bool, cond-true, cond-false, eqb-true, leb-true, le-leb}
+use Rattle.std.proofs.lemmas.Bool.{and_parts, and_from, cases_Bool, cond-true, cond-false, eqb-true, ne_eqb, leb-true, le-leb}
 use Rattle.std.proofs.lemmas.Slice.Eq.{bytes_eq-Decides}
 use Rattle.hii_bytes.specs.Digits.{number_below}
 use Rattle.hii_bytes.specs.NumberList.{IsNumberList, is_number_list, numbers_of}
 use Rattle.hii_bytes.proofs.DigitLemmas.{number_below-from, number_below-is}
 use Rattle.hii_bytes.proofs.NumberListLemmas.{numbers_of-is, list-from, list-is}
 use Rattle.hii_commands.specs.laws.Lines.{Lacks}
-use Rattle.hii_commands.specs.Orders.{Order, ShowPage, SetValue, OrderElements, SetText, AskWhy, FollowReference, GoBack, PressButton, TakeDefaults, ChooseLanguage, SubmitChanges, DiscardChanges, is_language_byte}
-use Rattle.hii_commands.specs.laws.Asking.{Asks, IsValue, IsLanguage, list_word}
-use Rattle.hii_commands.specs.Reading.{question_in, value_in, begins_with, cut_word, question_order, default_class_in, row_number_in, list_in, set_in, elements_in, text_in, why_in, go_in, press_in, defaults_in, lang_in, plain_in, numbered_in, words_in, order_in}
+use Rattle.hii_commands.specs.Orders.{Order, ShowPage, SetValue, OrderElements, SetText, AskWhy, FollowReference, GoBack, PressButton, TakeDefaults, ExtractConfiguration, RouteConfiguration, ChooseLanguage, SubmitChanges, DiscardChanges, is_language_byte, is_word_byte}
+use Rattle.hii_commands.specs.laws.Asking.{Asks, IsValue, IsLanguage, IsOneWord, list_word}
+use Rattle.hii_commands.specs.Reading.{question_in, value_in, begins_with, cut_word, question_order, default_class_in, row_number_in, list_in, set_in, elements_in, text_in, why_in, go_in, press_in, defaults_in, lang_in, plain_in, is_one_word, word_order, numbered_in, worded_in, words_in, order_in}
 use Rattle.hii_commands.proofs.WordLemmas.{cut_word-alone, cut_word-spaced, cut_word-together, together, begins, Lacks-digits}
 
 -- ---- values
@@ -94,6 +94,40 @@ lang_asks text rest order whole e = elim (cases_Bool (is_language rest)) [
   | inr other ↦ let none : ◌≡◌ {A = Option Order} None (Some order) = sym (cond-false (is_language rest) (Some (ChooseLanguage rest)) None other) ∙ e in (cc)
 ]
 
+-- ---- words
+
+word_bytes-from : (text : List ℕ) → Lacks 32 text → list_all is_word_byte text ≡ true
+word_bytes-from [] h = refl
+word_bytes-from (b ∷ text) h = and_from _ _ (ap not (ne_eqb b 32 h.0)) (word_bytes-from text h.1)
+
+word_bytes-are : (text : List ℕ) → list_all is_word_byte text ≡ true → Lacks 32 text
+word_bytes-are [] e = tt
+word_bytes-are (b ∷ text) e =
+    let p = and_parts _ _ e in
+    (λ same. let bad : not (32 == 32) ≡ true = subst (λ x. not (x == 32) ≡ true) same p.0 in (cc), word_bytes-are text p.1)
+
+word-from : (order : List ℕ → Order) (text : List ℕ) → IsOneWord text → word_order order text ≡ Some (order text)
+word-from order text h = cond-true (is_one_word text) (Some (order text)) None (and_from _ _ (le-leb _ _ h.some) (word_bytes-from text h.whole))
+
+-- the order over one word is found in one
+word-is : (order : List ℕ → Order) (text : List ℕ) (z : Order) → word_order order text ≡ Some z → IsOneWord text × (order text ≡ z)
+word-is order text z e = elim (cases_Bool (is_one_word text)) [
+  | inl all ↦
+      let some : Some (order text) ≡ Some z = sym (cond-true (is_one_word text) (Some (order text)) None all) ∙ e in
+      let same : order text ≡ z = cc in
+      let p = and_parts _ _ all in
+      (record { some = leb-true _ _ p.0; whole = word_bytes-are text p.1 }, same)
+  | inr other ↦ let none : ◌≡◌ {A = Option Order} None (Some z) = sym (cond-false (is_one_word text) (Some (order text)) None other) ∙ e in (cc)
+]
+
+extract_asks : (text rest : List ℕ) (order : Order) → text ≡ codes "extract" ++ 32 ∷ rest → word_order ExtractConfiguration rest ≡ Some order → Asks text order
+extract_asks text rest order whole e =
+    let w = word-is ExtractConfiguration rest order e in subst (Asks text) w.1 (whole, w.0)
+
+route_asks : (text rest : List ℕ) (order : Order) → text ≡ codes "route" ++ 32 ∷ rest → word_order RouteConfiguration rest ≡ Some order → Asks text order
+route_asks text rest order whole e =
+    let w = word-is RouteConfiguration rest order e in subst (Asks text) w.1 (whole, w.0)
+
 -- ---- lists
 
 -- what stands behind a word where a list follows it
@@ -130,6 +164,8 @@ pub found : (text : List ℕ) (order : Order) → Asks text order → order_in t
 found text ShowPage e = ap order_in e
 found text SubmitChanges e = ap order_in e
 found text (ChooseLanguage language) (e, is_language) = ap order_in e ∙ language-from language is_language
+found text (ExtractConfiguration request) (e, is_word) = ap order_in e ∙ word-from ExtractConfiguration request is_word
+found text (RouteConfiguration response) (e, is_word) = ap order_in e ∙ word-from RouteConfiguration response is_word
 found text (AskWhy q) (question, e, is_question) = ap order_in e ∙ ap (option_map AskWhy) (number_below-from 65536 10 5 question q is_question)
 found text (FollowReference q) (question, e, is_question) = ap order_in e ∙ ap (option_map FollowReference) (number_below-from 65536 10 5 question q is_question)
 found text GoBack e = ap order_in e
@@ -249,6 +285,18 @@ numbered_asks text word rest order cut e = elim (word_is word (codes "why") (why
   ]
 ]
 
+worded_asks : (text word rest : List ℕ) (order : Order) → cut_word text ≡ (word, Some rest) → worded_in word rest ≡ Some order → Asks text order
+worded_asks text word rest order cut e = elim (word_is word (codes "lang") (lang_in rest) _ (Some order) e) [
+  | inl is ↦ lang_asks text rest order (spaced text word rest (codes "lang") cut is.0) is.1
+  | inr a ↦ elim (word_is word (codes "extract") (word_order ExtractConfiguration rest) _ (Some order) a) [
+    | inl is ↦ extract_asks text rest order (spaced text word rest (codes "extract") cut is.0) is.1
+    | inr b ↦ elim (word_is word (codes "route") (word_order RouteConfiguration rest) _ (Some order) b) [
+      | inl is ↦ route_asks text rest order (spaced text word rest (codes "route") cut is.0) is.1
+      | inr c ↦ numbered_asks text word rest order cut c
+    ]
+  ]
+]
+
 words_ask : (text : List ℕ) (order : Order) (words : List ℕ × Option (List ℕ)) → cut_word text ≡ words → words_in words ≡ Some order → Asks text order
 words_ask text order (word, None) cut e =
     let whole : text ≡ word = sym (cut_word-together text) ∙ ap together cut in
@@ -259,10 +307,7 @@ words_ask text order (word, Some rest) cut e = elim (word_is word (codes "set") 
     | inl is ↦ elements_ask text rest order (cut_word rest) (spaced text word rest (codes "order") cut is.0) refl is.1
     | inr b ↦ elim (word_is word (codes "text") (text_in (cut_word rest)) _ (Some order) b) [
       | inl is ↦ text_asks text rest order (cut_word rest) (spaced text word rest (codes "text") cut is.0) refl is.1
-      | inr c ↦ elim (word_is word (codes "lang") (lang_in rest) _ (Some order) c) [
-        | inl is ↦ lang_asks text rest order (spaced text word rest (codes "lang") cut is.0) is.1
-        | inr d ↦ numbered_asks text word rest order cut d
-      ]
+      | inr c ↦ worded_asks text word rest order cut c
     ]
   ]
 ]

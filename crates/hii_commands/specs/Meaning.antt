@@ -4,10 +4,10 @@ use Rattle.hii_bytes.specs.NumberList.{IsList, numbers_of}
 use Rattle.hii_bytes.specs.declared.cause.Cause.{Cause}
 use Rattle.hii_bytes.specs.declared.cause.Cause.TheVariants as cause
 use Rattle.hii_commands.specs.declared.command.Command.{Command}
-use Rattle.hii_commands.specs.declared.command.Command.TheVariants.{Page, Set, Order as OrderCommand, Text, Why, Go, Back, Press, Defaults, Lang, Submit, Discard}
+use Rattle.hii_commands.specs.declared.command.Command.TheVariants.{Page, Set, Order as OrderCommand, Text, Why, Go, Back, Press, Defaults, Extract, Route, Lang, Submit, Discard}
 use Rattle.hii_commands.specs.declared.command.BadLine.{BadLine}
 use Rattle.hii_commands.specs.declared.command.BadLine.TheVariants.{BadCommand, LineTooLong}
-use Rattle.hii_commands.specs.Orders.{Order, ShowPage, SetValue, OrderElements, SetText, AskWhy, FollowReference, GoBack, PressButton, TakeDefaults, ChooseLanguage, SubmitChanges, DiscardChanges}
+use Rattle.hii_commands.specs.Orders.{Order, ShowPage, SetValue, OrderElements, SetText, AskWhy, FollowReference, GoBack, PressButton, TakeDefaults, ExtractConfiguration, RouteConfiguration, ChooseLanguage, SubmitChanges, DiscardChanges}
 
 -- what a command asks for
 abbrev pub order_of : Command → Order
@@ -20,6 +20,8 @@ order_of (Go q) = FollowReference q
 order_of Back = GoBack
 order_of (Press row) = PressButton row
 order_of (Defaults class) = TakeDefaults class
+order_of (Extract text) = ExtractConfiguration text.now
+order_of (Route text) = RouteConfiguration text.now
 order_of (Lang language) = ChooseLanguage language.now
 order_of Submit = SubmitChanges
 order_of Discard = DiscardChanges
@@ -35,6 +37,8 @@ HasList (Go q) = ⊤
 HasList Back = ⊤
 HasList (Press row) = ⊤
 HasList (Defaults class) = ⊤
+HasList (Extract text) = ⊤
+HasList (Route text) = ⊤
 HasList (Lang language) = ⊤
 HasList Submit = ⊤
 HasList Discard = ⊤

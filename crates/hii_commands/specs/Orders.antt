@@ -1,5 +1,5 @@
 -- The forms of a script's commands (own rule).
-use Rattle.std.specs.Prelude.{◌==◌, ◌||◌, ℕ, ℤ, Bool, List}
+use Rattle.std.specs.Prelude.{◌==◌, ◌||◌, not, ℕ, ℤ, Bool, List}
 use Rattle.std.specs.Char.{is_ascii_alphanumeric}
 
 -- what a command asks for, without where its bytes lie
@@ -13,6 +13,8 @@ pub data Order : Type 0 where
   GoBack : Order
   PressButton : ℕ → Order
   TakeDefaults : ℕ → Order
+  ExtractConfiguration : List ℕ → Order
+  RouteConfiguration : List ℕ → Order
   ChooseLanguage : List ℕ → Order
   SubmitChanges : Order
   DiscardChanges : Order
@@ -20,3 +22,7 @@ pub data Order : Type 0 where
 -- a letter, a digit or a hyphen, as ASCII has them
 abbrev pub is_language_byte : ℕ → Bool
 is_language_byte byte = is_ascii_alphanumeric byte || byte == 45
+
+-- a byte within a word
+abbrev pub is_word_byte : ℕ → Bool
+is_word_byte byte = not (byte == 32)

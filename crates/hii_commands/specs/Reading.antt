@@ -9,7 +9,7 @@ use Rattle.hii_commands.specs.declared.limits.TheConstants.{LINE_LIMIT}
 use Rattle.hii_commands.specs.declared.command.BadLine.{BadLine}
 use Rattle.hii_commands.specs.declared.command.BadLine.TheVariants.{BadCommand, LineTooLong}
 use Rattle.hii_commands.specs.Line.{without_return}
-use Rattle.hii_commands.specs.Orders.{Order, ShowPage, SetValue, OrderElements, SetText, AskWhy, FollowReference, GoBack, PressButton, TakeDefaults, ChooseLanguage, SubmitChanges, DiscardChanges, is_language_byte}
+use Rattle.hii_commands.specs.Orders.{Order, ShowPage, SetValue, OrderElements, SetText, AskWhy, FollowReference, GoBack, PressButton, TakeDefaults, ExtractConfiguration, RouteConfiguration, ChooseLanguage, SubmitChanges, DiscardChanges, is_language_byte, is_word_byte}
 
 abbrev pub question_in : List ℕ → Option ℕ
 question_in text = number_below 65536 10 5 text
@@ -86,6 +86,14 @@ lang_in text =
     if nat_le 1 (length text) && (nat_le (length text) 63 && list_all is_language_byte text)
     then Some (ChooseLanguage text) else None
 
+-- whether the text is one word
+abbrev pub is_one_word : List ℕ → Bool
+is_one_word text = nat_le 1 (length text) && list_all is_word_byte text
+
+-- the order of a first word over the one word behind it
+abbrev pub word_order : (List ℕ → Order) → List ℕ → Option Order
+word_order order text = if is_one_word text then Some (order text) else None
+
 -- the order of a word that stands alone
 abbrev pub plain_in : List ℕ → Option Order
 plain_in word =
@@ -104,6 +112,14 @@ numbered_in word rest =
     else if bytes_eq word (codes "defaults") then defaults_in rest
     else None
 
+-- the order of a first word that one word follows
+abbrev pub worded_in : List ℕ → List ℕ → Option Order
+worded_in word rest =
+    if bytes_eq word (codes "lang") then lang_in rest
+    else if bytes_eq word (codes "extract") then word_order ExtractConfiguration rest
+    else if bytes_eq word (codes "route") then word_order RouteConfiguration rest
+    else numbered_in word rest
+
 -- the order of a first word and the rest behind its space
 abbrev pub words_in : List ℕ × Option (List ℕ) → Option Order
 words_in (word, None) = plain_in word
@@ -111,8 +127,7 @@ words_in (word, Some rest) =
     if bytes_eq word (codes "set") then set_in (cut_word rest)
     else if bytes_eq word (codes "order") then elements_in (cut_word rest)
     else if bytes_eq word (codes "text") then text_in (cut_word rest)
-    else if bytes_eq word (codes "lang") then lang_in rest
-    else numbered_in word rest
+    else worded_in word rest
 
 -- what a text without LF and CR asks for
 abbrev pub order_in : List ℕ → Option Order

@@ -9,7 +9,7 @@ ghost use Rattle.hii_bytes.specs.Digits.{number_below};
 ghost use Rattle.hii_bytes.specs.NumberList.{IsList, numbers_of};
 ghost use Rattle.hii_commands.specs.laws.Asking.{Means, IsRefused};
 ghost use Rattle.hii_commands.specs.Meaning.{HasList, order_of, cause_of};
-ghost use Rattle.hii_commands.specs.Reading.{order_in, reading_of, set_in, elements_in, text_in, list_in, why_in, go_in, press_in, defaults_in, numbered_in, lang_in, plain_in, value_in, question_in, default_class_in, row_number_in, cut_word};
+ghost use Rattle.hii_commands.specs.Reading.{order_in, reading_of, set_in, elements_in, text_in, list_in, is_one_word, why_in, go_in, press_in, defaults_in, numbered_in, worded_in, word_order, lang_in, plain_in, value_in, question_in, default_class_in, row_number_in, cut_word};
 
 use crate::limits::LINE_LIMIT;
 use hii_bytes::{Cause, first_place, is_number_list, number_of_digits};
@@ -36,6 +36,10 @@ pub enum Command<'a> {
     Press(u32),
     /// `defaults D`: the defaults of a class become the values of the questions.
     Defaults(u16),
+    /// `extract T`: the committed stores as the configuration text that this request asks for. The text is one word.
+    Extract(&'a [u8]),
+    /// `route T`: the values of this configuration text become those of the questions. The text is one word.
+    Route(&'a [u8]),
     /// `lang L`: the language of the texts that follow, 1 to 63 ASCII letters, digits and hyphens.
     Lang(&'a [u8]),
     /// `submit`: the working stores become the committed ones.
@@ -117,10 +121,8 @@ fn command_in(text: &[u8]) -> Option<Command<'_>>
                 order_command(rest)
             } else if is_word(word, b"text") {
                 text_command(rest)
-            } else if is_word(word, b"lang") {
-                lang_command(rest)
             } else {
-                numbered_command(word, rest)
+                worded_command(word, rest)
             }
         }
     }
@@ -202,6 +204,64 @@ fn text_command(rest: &[u8]) -> Option<Command<'_>>
         question,
         text: text.unwrap_or(&[]),
     })
+}
+
+// The command of a word that one word follows.
+fn worded_command<'a>(word: &[u8], rest: &'a [u8]) -> Option<Command<'a>>
+    ensures order { option_map order_of result ≡ worded_in word.now rest.now }
+    ensures list { IfSome result HasList }
+{
+    if is_word(word, b"lang") {
+        lang_command(rest)
+    } else if is_word(word, b"extract") {
+        extract_command(rest)
+    } else if is_word(word, b"route") {
+        route_command(rest)
+    } else {
+        numbered_command(word, rest)
+    }
+}
+
+fn extract_command(rest: &[u8]) -> Option<Command<'_>>
+    ensures order { option_map order_of result
+        ≡ word_order orders.ExtractConfiguration rest.now }
+    ensures list { IfSome result HasList }
+{
+    if is_one_word(rest) {
+        Some(Command::Extract(rest))
+    } else {
+        None
+    }
+}
+
+fn route_command(rest: &[u8]) -> Option<Command<'_>>
+    ensures order { option_map order_of result ≡ word_order orders.RouteConfiguration rest.now }
+    ensures list { IfSome result HasList }
+{
+    if is_one_word(rest) {
+        Some(Command::Route(rest))
+    } else {
+        None
+    }
+}
+
+// Whether the text is one word: at least one byte, and no space.
+fn is_one_word(text: &[u8]) -> bool
+    ensures { result ≡ is_one_word text.now }
+{
+    1 <= text.len() && are_word_bytes(text)
+}
+
+fn are_word_bytes(text: &[u8]) -> bool
+    ensures { result ≡ list_all orders.is_word_byte text.now }
+{
+    text.iter().all(|byte| is_word_byte(*byte))
+}
+
+fn is_word_byte(byte: u8) -> bool
+    ensures { result ≡ orders.is_word_byte byte }
+{
+    byte != b' '
 }
 
 // The command of a word that one number follows.

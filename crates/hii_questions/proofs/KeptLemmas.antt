@@ -13,11 +13,11 @@ use Rattle.ifr_expr.specs.Values as values
 use Rattle.ifr_expr.specs.Values.{Value, undefined, boolean, natural, buffer}
 use Rattle.hii_questions.specs.Answers.{answer_in}
 use Rattle.hii_questions.specs.FieldTypes.{FieldType, checkbox, numeric, one_of, text, ordered_list, size_of_type}
-use Rattle.hii_questions.specs.Inputs.{Offer, whole, raw, utf8, units, listed, elements, fits_type, checkbox_number, bits_of, fitting_bits, numeric_bytes, number_of_bits, is_offered, offered, chosen_bytes, text_bytes, is_text, is_bad_character, list_denial, bytes_unless, list_bytes}
+use Rattle.hii_questions.specs.Inputs.{Offer, whole, raw, utf8, units, listed, elements, fits_type, checkbox_number, bits_of, fitting_bits, numeric_bytes, number_of_bits, is_offered, offered, chosen_bytes, text_bytes, is_text, is_bad_character, element_denial, bytes_unless, list_bytes}
 use Rattle.hii_questions.specs.Items.{items_in, is_item, spelled, filled, numbers, bytes_of_items}
 use Rattle.hii_questions.specs.laws.Fields.{complement, choice, taken_as, AreBytes, HasBytes}
 use Rattle.hii_questions.specs.declared.denial.DenialKind.{DenialKind}
-use Rattle.hii_questions.specs.declared.denial.DenialKind.TheVariants.{Range, NoOption, Length, BadText}
+use Rattle.hii_questions.specs.declared.denial.DenialKind.TheVariants.{Range, NoOption, Length, EmptySet, BadText}
 use Rattle.hii_questions.proofs.ItemLemmas.{while_more}
 use Rattle.hii_questions.proofs.ListLemmas.{length_spelled}
 use Rattle.hii_questions.proofs.SpellLemmas.{AreItems, bytes_back}
@@ -53,18 +53,18 @@ bits_kept bits bytes e =
     (ap (answer_in checkbox) (sym is) ∙ elim (cases_Bool (eqb bits 0)) [ inl off ↦ rw off refl | inr on ↦ rw on refl ], ap (length {A = ℕ}) (sym is))
 
 -- a number in its bytes
-number_back : (w b : ℕ) → b < 256 ^ w → little_number w (little_bytes w b) ≡ b
+pub number_back : (w b : ℕ) → b < 256 ^ w → little_number w (little_bytes w b) ≡ b
 number_back w b less = ap (little_number w) (sym (append-nil (little_bytes w b))) ∙ little_number-reads_back w b [] less
 
 pow_some : (w : ℕ) → 0 < 256 ^ w
 pow_some w = let h = one-le-pow w 256 (omega arith) in omega arith
 
-fitting_is : (w bits b : ℕ) → fitting_bits w bits ≡ Some b → (b ≡ bits) × (b < 256 ^ w)
+pub fitting_is : (w bits b : ℕ) → fitting_bits w bits ≡ Some b → (b ≡ bits) × (b < 256 ^ w)
 fitting_is w bits b e =
     let is = cond_some (ltb bits (256 ^ w)) bits b e in
     (sym is.1, omega (arith, is.1, ltb-true bits (256 ^ w) is.0))
 
-bits_are : (signed : Bool) (w : ℕ) (n : ℤ) (b : ℕ) → bits_of signed w n ≡ Some b → (b ≡ complement w n) × (b < 256 ^ w)
+pub bits_are : (signed : Bool) (w : ℕ) (n : ℤ) (b : ℕ) → bits_of signed w n ≡ Some b → (b ≡ complement w n) × (b < 256 ^ w)
 bits_are signed w (pos n) b e =
     let most = cond signed (256 ^ w / 2) (256 ^ w) in
     let is = cond_some (ltb n most) n b e in
@@ -74,7 +74,7 @@ bits_are signed w (negsuc n) b e =
     let is = cond_some (signed && ltb n (256 ^ w / 2)) (256 ^ w - suc n) b e in
     (sym is.1, omega (arith, is.1, pow_some w))
 
-numeric_are : (signed : Bool) (w mn mx : ℕ) (o : Option ℕ) (bytes : List ℕ) → numeric_bytes signed w mn mx o ≡ Ok bytes → (b : ℕ) × (o ≡ Some b) × (bytes ≡ little_bytes w b)
+pub numeric_are : (signed : Bool) (w mn mx : ℕ) (o : Option ℕ) (bytes : List ℕ) → numeric_bytes signed w mn mx o ≡ Ok bytes → (b : ℕ) × (o ≡ Some b) × (bytes ≡ little_bytes w b)
 numeric_are signed w mn mx None bytes e = absurd (cc)
 numeric_are signed w mn mx (Some b) bytes e = elim (cases_Bool (int_lt (number_of_bits signed w b) (number_of_bits signed w mn) || int_lt (number_of_bits signed w mx) (number_of_bits signed w b))) [
   | inl out ↦ let none : ◌≡◌ {A = Result (List ℕ) DenialKind} (Err Range) (Ok bytes) = sym (rw out refl) ∙ e in absurd (cc)
@@ -85,7 +85,7 @@ numeric_are signed w mn mx (Some b) bytes e = elim (cases_Bool (int_lt (number_o
 number_kept : (w b n : ℕ) (bytes : List ℕ) → bytes ≡ little_bytes w b → b ≡ n → b < 256 ^ w → natural (little_number w bytes) ≡ natural n
 number_kept w b n bytes is same less = ap (λ (l : List ℕ). natural (little_number w l)) is ∙ ap natural (number_back w b less ∙ same)
 
-chosen_are : (w : ℕ) (vs : List ℕ) (z : ℤ) (bytes : List ℕ) → chosen_bytes w (offered vs z) ≡ Ok bytes → (v : ℕ) × (z ≡ pos v) × (is_offered vs v ≡ true) × (bytes ≡ little_bytes w v)
+pub chosen_are : (w : ℕ) (vs : List ℕ) (z : ℤ) (bytes : List ℕ) → chosen_bytes w (offered vs z) ≡ Ok bytes → (v : ℕ) × (z ≡ pos v) × (is_offered vs v ≡ true) × (bytes ≡ little_bytes w v)
 chosen_are w vs (pos v) bytes e = elim (cases_Bool (is_offered vs v)) [
   | inl has ↦ (v, refl, has, sym (same_bytes (little_bytes w v) bytes (sym (rw has refl) ∙ e)))
   | inr other ↦ let none : ◌≡◌ {A = Result (List ℕ) DenialKind} (Err NoOption) (Ok bytes) = sym (rw other refl) ∙ e in absurd (cc)
@@ -147,14 +147,21 @@ utf8_kept mn mx given bytes e = elim (cases_Bool (is_text given)) [
   | inr other ↦ let none : ◌≡◌ {A = Result (List ℕ) DenialKind} (Err BadText) (Ok bytes) = sym (rw other refl) ∙ e in absurd (cc)
 ]
 
-list_are : (w most : ℕ) (unique some : Bool) (vs ns bytes : List ℕ) → list_bytes w most unique some vs ns ≡ Ok bytes → (bytes ≡ filled (most * w) (spelled w ns)) × (length ns ≤ most)
+pub list_are : (w most : ℕ) (unique some : Bool) (vs ns bytes : List ℕ) → list_bytes w most unique some vs ns ≡ Ok bytes
+    → (bytes ≡ filled (most * w) (spelled w ns)) × (length ns ≤ most) × (element_denial vs unique [] ns ≡ None)
 list_are w most unique some vs ns bytes e = elim (cases_Bool (ltb most (length ns))) [
   | inl more ↦ let none : ◌≡◌ {A = Result (List ℕ) DenialKind} (Err Length) (Ok bytes) = sym (rw more refl) ∙ e in absurd (cc)
-  | inr few ↦ (go (list_denial most unique some vs ns) e, ltb-false most (length ns) few)
+  | inr few ↦ elim (cases_Bool (some && eqb (length ns) 0)) [
+    | inl empty ↦ let none : ◌≡◌ {A = Result (List ℕ) DenialKind} (Err EmptySet) (Ok bytes) = sym (rw (few, empty) refl) ∙ e in absurd (cc)
+    | inr full ↦
+        let given : bytes_unless (element_denial vs unique [] ns) (filled (most * w) (spelled w ns)) ≡ Ok bytes = sym (rw (few, full) refl) ∙ e in
+        let are = go (element_denial vs unique [] ns) given in
+        (are.0, ltb-false most (length ns) few, are.1)
+  ]
 ]
   where
-    go : (d : Option DenialKind) → bytes_unless d (filled (most * w) (spelled w ns)) ≡ Ok bytes → bytes ≡ filled (most * w) (spelled w ns)
-    go None e = sym (same_bytes (filled (most * w) (spelled w ns)) bytes e)
+    go : (d : Option DenialKind) → bytes_unless d (filled (most * w) (spelled w ns)) ≡ Ok bytes → (bytes ≡ filled (most * w) (spelled w ns)) × (d ≡ None)
+    go None e = (sym (same_bytes (filled (most * w) (spelled w ns)) bytes e), refl)
     go (Some k) e = absurd (cc)
 
 list_kept : (w most : ℕ) (unique some : Bool) (vs ns bytes : List ℕ) → list_bytes w most unique some vs ns ≡ Ok bytes

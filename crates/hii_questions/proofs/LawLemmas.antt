@@ -1,13 +1,13 @@
 -- Questions and their fields, where no question has a fault.
-use Rattle.std.proofs.Common.{◌≡◌, ℕ, zero, suc, ◌+◌, ◌^◌, ◌<◌, ◌≤◌, Bool, true, false, eqb, leb, cond, ◌&&◌, Option, Some, None, Ok, List, [], ◌∷◌, map, length, refl, sym, ap, subst, ◌∙◌, arith, inl, inr, option_map}
+use Rattle.std.proofs.Common.{◌≡◌, ℕ, zero, suc, ◌+◌, ◌^◌, ◌<◌, ◌≤◌, Bool, true, false, eqb, leb, ◌&&◌, Option, Some, None, Ok, List, [], ◌∷◌, map, length, refl, sym, ap, subst, ◌∙◌, arith, inl, inr, option_map}
 use Rattle.std.specs.Prelude.{is_some, IsSomeAnd, Contains, filter}
-use Rattle.std.specs.List.{find, flat_map}
+use Rattle.std.specs.List.{flat_map}
 use Rattle.std.proofs.lemmas.Bool.{cases_Bool, and_parts, eqb-true, eq-eqb, ltb-false, leb-false, false_from_ne_true, false≢true}
 use Rattle.std.proofs.lemmas.List.Elements.{Contains-append_left, Contains-append_right}
 use Rattle.hii_bytes.specs.Faults.{HasNone}
 use Rattle.hii_bytes.specs.declared.cause.Cause.TheVariants.{FieldOutside, OptionRange}
 use Rattle.hii_bytes.specs.declared.cause.Cause.{Cause}
-use Rattle.ifr_opcodes.specs.Fields.{question_id, question_store, question_offset, one_of_width, option_value}
+use Rattle.ifr_opcodes.specs.Fields.{question_id, question_store, question_offset, display, numeric_width, numeric_minimum, numeric_maximum, one_of_width, string_minimum, string_maximum, password_minimum, password_maximum, ordered_list_containers, is_unique_set, has_no_empty_set, option_value}
 use Rattle.ifr_opcodes.specs.Forest.{Placed}
 use Rattle.ifr_opcodes.specs.Opcode.{number}
 use Rattle.ifr_opcodes.specs.declared.codes.TheConstants.{CHECKBOX, NUMERIC, ONE_OF, STRING, PASSWORD, ORDERED_LIST}
@@ -26,7 +26,7 @@ use Rattle.hii_questions.specs.FieldTypes.{FieldType, checkbox, numeric, one_of,
 use Rattle.hii_questions.specs.Fits.{fits_field}
 use Rattle.hii_questions.specs.Inputs.{Offer, units, field, field_as, read_as, is_offered}
 use Rattle.hii_questions.specs.laws.Fields.{HoldsFields, FindsQuestions, ReadsBack, LeavesOthers, HasBytes, taken_value, FillsFields}
-use Rattle.hii_questions.specs.Types.{type_of, option_values}
+use Rattle.hii_questions.specs.Types.{is_signed, element_width, type_of, option_values}
 use Rattle.hii_questions.proofs.KeptLemmas.{IsSound, kept, wide}
 
 pub finds_questions : FindsQuestions
@@ -65,7 +65,7 @@ field_sound ns n cause none within is =
     false_from_ne_true (has_field_fault (layout_of ns) (is_known ns) (asked ns n) cause) (λ bad.
     none cause n.place (itself (asked ns n), gathered parts_of (questions ns) (asked ns n) (itself (asked ns n)) (asked_there ns n within is) (0, omega arith, refl), refl, bad))
 
-option_sound : (ns : List Placed) (n o : Placed) (cause : Cause) → HasNone (IsQuestionFault ns) → Contains ns n → is_question n ≡ true → Contains (options n) o → has_option_fault n o cause ≡ false
+pub option_sound : (ns : List Placed) (n o : Placed) (cause : Cause) → HasNone (IsQuestionFault ns) → Contains ns n → is_question n ≡ true → Contains (options n) o → has_option_fault n o cause ≡ false
 option_sound ns n o cause none within is there =
     false_from_ne_true (has_option_fault n o cause) (λ bad.
     let part = option (asked ns n) o in
@@ -115,7 +115,7 @@ pub leaves_others : LeavesOthers
 leaves_others m id offset bytes n f apart = ap (value_of_bytes (type_of n)) (field_after m id offset f.store f.offset f.width bytes apart)
 
 -- an option of a value
-with_value : (os : List Placed) (v : ℕ) → is_offered (option_values os) v ≡ true → (o : Placed) × Contains os o × (option_value o.op ≡ v)
+pub with_value : (os : List Placed) (v : ℕ) → is_offered (option_values os) v ≡ true → (o : Placed) × Contains os o × (option_value o.op ≡ v)
 with_value [] v e = absurd (cc)
 with_value (o ∷ os) v e = elim (cases_Bool (eqb (option_value o.op) v)) [
   | inl here ↦ (o, (0, omega arith, refl), eqb-true (option_value o.op) v here)
@@ -135,31 +135,39 @@ values_fit ns n none within is code v offers =
     omega (arith, o.2, leb-false (256 ^ one_of_width n.op) (option_value o.0.op) less)
 
 -- the type of a question's field, where its options fit
-abbrev SoundWith : Option FieldType → Type 0
+abbrev pub SoundWith : Option FieldType → Type 0
 SoundWith None = Unit {0}
 SoundWith (Some t) = IsSound t
 
-type_sound : (ns : List Placed) (n : Placed) → HasNone (IsQuestionFault ns) → Contains ns n → is_question n ≡ true → SoundWith (type_of n)
-type_sound ns n none within is =
+-- what holds of each type that a question may have
+pub by_type : (P : Option FieldType → Type 0) (n : Placed) → P (Some checkbox) → ((signed : Bool) (w mn mx : ℕ) → P (Some (numeric signed w mn mx)))
+    → (eqb (number n.op) ONE_OF ≡ true → P (Some (one_of (one_of_width n.op) (option_values (options n)))))
+    → ((mn mx : ℕ) → P (Some (text mn mx)))
+    → (eqb (number n.op) ORDERED_LIST ≡ true → P (Some (ordered_list (element_width n) (ordered_list_containers n.op) (is_unique_set n.op) (has_no_empty_set n.op) (option_values (options n)))))
+    → P None → P (type_of n)
+by_type P n check num one txt list other =
     elim (cases_Bool (eqb (number n.op) CHECKBOX)) [
-      | inl a ↦ rw a tt
+      | inl a ↦ rw a check
       | inr a ↦ elim (cases_Bool (eqb (number n.op) NUMERIC)) [
-        | inl b ↦ rw (a, b) tt
+        | inl b ↦ rw (a, b) (num (is_signed (display n.op)) (numeric_width n.op) (numeric_minimum n.op) (numeric_maximum n.op))
         | inr b ↦ elim (cases_Bool (eqb (number n.op) ONE_OF)) [
-          | inl d ↦ let fit = values_fit ns n none within is d in rw (a, b, d) fit
+          | inl d ↦ rw (a, b, d) (one d)
           | inr d ↦ elim (cases_Bool (eqb (number n.op) STRING)) [
-            | inl s ↦ rw (a, b, d, s) tt
+            | inl s ↦ rw (a, b, d, s) (txt (string_minimum n.op) (string_maximum n.op))
             | inr s ↦ elim (cases_Bool (eqb (number n.op) PASSWORD)) [
-              | inl p ↦ rw (a, b, d, s, p) tt
+              | inl p ↦ rw (a, b, d, s, p) (txt (password_minimum n.op) (password_maximum n.op))
               | inr p ↦ elim (cases_Bool (eqb (number n.op) ORDERED_LIST)) [
-                | inl l ↦ rw (a, b, d, s, p, l) tt
-                | inr l ↦ rw (a, b, d, s, p, l) tt
+                | inl l ↦ rw (a, b, d, s, p, l) (list l)
+                | inr l ↦ rw (a, b, d, s, p, l) other
               ]
             ]
           ]
         ]
       ]
     ]
+
+pub type_sound : (ns : List Placed) (n : Placed) → HasNone (IsQuestionFault ns) → Contains ns n → is_question n ≡ true → SoundWith (type_of n)
+type_sound ns n none within is = by_type SoundWith n tt (λ signed w mn mx. tt) (values_fit ns n none within is) (λ mn mx. tt) (λ list. tt) tt
 
 field_kept : (t : FieldType) (bytes : List ℕ) → HasBytes (field bytes) → HasBytes (field_as t bytes)
 field_kept checkbox bytes h = tt

@@ -90,7 +90,7 @@ questions_rise bytes qs accepted placed =
     let within = some_within is_question ns 4 high (nodes_within f 4 [] accepted.checked.spelled.are_nodes) in
     rise_asked (layout_of ns) (filter is_question ns) qs 0 high (lower (filter is_question ns) 4 high 0 high within (omega arith) (omega arith)) placed
 
-module _ (ifr : List ℕ) (qs : List Question) (ids : BTreeMap ℕ Question) (are : AreQuestions ifr qs ids) (p at : ℕ) where
+module _ (ifr : List ℕ) (qs : List Question) (ids : BTreeMap ℕ Question) (fs ps : List Question) (are : AreQuestions ifr qs ids fs ps) (p at : ℕ) where
   first_is : first_at (questions (nodes_of ifr)) p ≡ option_map question_view (find (λ q. eqb (place_of q) p) qs)
   first_is = ap (λ (all : List Asked). first_at all p) (sym are.placed) ∙ found_mapped question_view (λ (a : Asked). eqb a.node.place p) qs
 

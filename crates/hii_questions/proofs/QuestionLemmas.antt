@@ -23,7 +23,7 @@ abbrev id_of : Question → ℕ
 id_of q = question_id (question_node q).op
 
 -- what is found among those that pass a first test
-found_among : {X : Type 0} (p q : X → Bool) (xs : List X) → find q (filter p xs) ≡ find (λ x. p x && q x) xs
+pub found_among : {X : Type 0} (p q : X → Bool) (xs : List X) → find q (filter p xs) ≡ find (λ x. p x && q x) xs
 found_among p q [] = refl
 found_among p q (x ∷ xs) = elim (cases_Bool (p x)) [
   | inl here ↦ rw here (ap (cond (q x) (Some x)) (found_among p q xs))

@@ -1,7 +1,7 @@
 -- How denials are named, and which are told with a text (own rule).
 use Rattle.std.specs.Prelude.{ℕ, Bool, true, false, List, codes}
 use Rattle.hii_questions.specs.declared.denial.DenialKind.{DenialKind}
-use Rattle.hii_questions.specs.declared.denial.DenialKind.TheVariants.{DisableIf, SuppressIf, GrayOutIf, Locked, ReadOnly, Outside, Kind, Range, NoOption, Length, Repeat, EmptySet, BadText, InconsistentIf, NoSubmitIf, NoQuestion, NotRef, NotButton, NoRow, NoBack, DeepHistory}
+use Rattle.hii_questions.specs.declared.denial.DenialKind.TheVariants.{DisableIf, SuppressIf, GrayOutIf, Locked, ReadOnly, Outside, Kind, Range, NoOption, Length, Repeat, EmptySet, BadText, InconsistentIf, NoSubmitIf, NoQuestion, NotRef, NotButton, NoRow, NoBack, DeepHistory, NoStore, NoField, Password}
 
 abbrev pub kind_name : DenialKind → List ℕ
 kind_name DisableIf = codes "disableif"
@@ -25,6 +25,9 @@ kind_name NotButton = codes "notbutton"
 kind_name NoRow = codes "norow"
 kind_name NoBack = codes "noback"
 kind_name DeepHistory = codes "deephistory"
+kind_name NoStore = codes "nostore"
+kind_name NoField = codes "nofield"
+kind_name Password = codes "password"
 
 -- whether a denial of a kind is told with the text of the opcode that decides
 abbrev pub has_text : DenialKind → Bool

@@ -1,9 +1,11 @@
 -- Questions, and the fields that hold their values: bytes of a store (UEFI 2.8, 33.2.5.4 Questions and 33.2.5.6 Storage;
 -- where the field is stands in the question's opcode, 33.3.8.2.2 EFI_IFR_QUESTION_HEADER).
-use Rattle.std.specs.Prelude.{ℕ, ◌==◌, ◌&&◌, if◌then◌else◌, Option, Some, None, option_map, List, map, filter}
+use Rattle.std.specs.Prelude.{ℕ, ◌+◌, Bool, false, ◌==◌, ◌&&◌, nat_lt, if◌then◌else◌, Option, Some, None, option_map, List, map, filter}
 use Rattle.std.specs.List.{find}
 use Rattle.ifr_opcodes.specs.Forest.{Placed}
 use Rattle.ifr_opcodes.specs.Fields.{question_id, question_store, question_offset}
+use Rattle.ifr_opcodes.specs.Opcode.{number}
+use Rattle.ifr_opcodes.specs.declared.codes.TheConstants.{PASSWORD}
 use Rattle.ifr_scopes.specs.Nodes.{is_question}
 use Rattle.hii_varstore.specs.Layout.{Shape, size_of}
 use Rattle.hii_varstore.specs.StoreNodes.{layout_of}
@@ -55,3 +57,30 @@ questions ns = map (asked ns) (filter is_question ns)
 abbrev pub question_with : List Placed → ℕ → Option Placed
 question_with ns id =
     if id == 0 then None else find (λ n. is_question n && (question_id n.op == id)) ns
+
+-- a test of a question's field, if it has one
+abbrev pub field_passes : (Field → Bool) → Option Field → Bool
+field_passes test None = false
+field_passes test (Some field) = test field
+
+-- Two fields are the same bytes of one store.
+abbrev pub is_same_field : Field → Field → Bool
+is_same_field f g = g.store == f.store && g.offset == f.offset && g.width == f.width
+
+-- A question has exactly this field.
+abbrev pub has_field : Field → Asked → Bool
+has_field f q = field_passes (is_same_field f) q.field
+
+-- Two fields have a byte in common: they lie in one store and have bytes, and each begins before the other's end.
+abbrev pub meets : Field → Field → Bool
+meets f g =
+    f.store == g.store && nat_lt 0 f.width && nat_lt 0 g.width
+    && nat_lt f.offset (g.offset + g.width) && nat_lt g.offset (f.offset + f.width)
+
+-- EFI_IFR_PASSWORD
+abbrev pub is_password : Placed → Bool
+is_password n = number n.op == PASSWORD
+
+-- A question is for a password, and its field has one of these bytes.
+abbrev pub is_password_in : Field → Asked → Bool
+is_password_in f q = is_password q.node && field_passes (meets f) q.field

@@ -48,6 +48,12 @@ pub enum DenialKind {
     NoBack,
     /// So many forms were left by references as are kept.
     DeepHistory,
+    /// No store has the name.
+    NoStore,
+    /// No question has the field.
+    NoField,
+    /// The field is that of a password.
+    Password,
 }
 
 impl DenialKind {
@@ -77,6 +83,9 @@ impl DenialKind {
             DenialKind::NoRow => "norow",
             DenialKind::NoBack => "noback",
             DenialKind::DeepHistory => "deephistory",
+            DenialKind::NoStore => "nostore",
+            DenialKind::NoField => "nofield",
+            DenialKind::Password => "password",
         }
     }
 

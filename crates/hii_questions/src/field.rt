@@ -6,6 +6,7 @@ ghost use Rattle.hii_varstore.specs.Stores.{shape_of, with_bytes};
 ghost use Rattle.hii_questions.specs.code.Contents.{content_bytes};
 
 use crate::content::Content;
+use crate::items::Items;
 use hii_varstore::Stores;
 
 /// New bytes for the field of a question (UEFI 2.8, 33.2.5.6 Storage).
@@ -18,11 +19,14 @@ pub struct Field<'i> {
     /// How many bytes the field has.
     pub width: usize,
     pub(crate) content: Content<'i>,
+    /// Whether the items are values of options.
+    pub(crate) names: bool,
     pub ghost fits: { length (content_bytes content) ≤ width },
 }
 
 impl<'i> Field<'i> {
-    ghost use Rattle.hii_questions.specs.code.NewBytes.{new_bytes};
+    ghost use Rattle.hii_questions.specs.code.ItemsLeft.{items_left};
+    ghost use Rattle.hii_questions.specs.code.NewBytes.{new_bytes, new_items};
 
     /// Writes the new bytes into the store.
     pub fn put(self, stores: &mut Stores)
@@ -33,5 +37,17 @@ impl<'i> Field<'i> {
     {
         let bytes = stores.field_mut(self.store, usize::from(self.offset), self.width);
         self.content.write(bytes);
+    }
+
+    /// The values of options that the question names once it has the new bytes: its number, or the elements of its list. A
+    /// checkbox and a text name none.
+    pub fn items(self) -> Items<'i>
+        ensures { items_left result ≡ new_items self.entry }
+    {
+        if self.names {
+            self.content.items
+        } else {
+            Items::Number(None)
+        }
     }
 }

@@ -1,7 +1,11 @@
 //! Where a field lies, as the code tells it.
 
-/// Where the field of a question lies.
-#[derive(Clone, Copy, Debug, PartialEq, Eq)]
+/// How many bytes the field of a question has at most that is no PASSWORD: those of an ORDERED_LIST of 255 elements of 8
+/// bytes (UEFI 2.8, 33.3.8.3, EFI_IFR_ORDERED_LIST).
+pub const WIDEST_FIELD: usize = 2040;
+
+/// Where the field of a question lies. Fields follow one another by store, offset and width.
+#[derive(Clone, Copy, Debug, PartialEq, Eq, PartialOrd, Ord)]
 pub struct FieldRange {
     /// The id of the store.
     pub store: u16,
@@ -9,4 +13,28 @@ pub struct FieldRange {
     pub offset: u16,
     /// How many bytes the field has.
     pub width: usize,
+}
+
+impl FieldRange {
+    ghost use Rattle.std.specs.Prelude.{◌≡◌, ◌+◌, nat_lt};
+    ghost use Rattle.hii_questions.specs.Fields.{meets};
+    ghost use Rattle.hii_questions.specs.code.Ranges.{range_in};
+
+    /// Whether two fields have a byte in common.
+    pub fn meets(self, other: FieldRange) -> bool
+        ensures { result ≡ meets (range_in self) (range_in other) }
+    {
+        self.store == other.store
+            && 0 < self.width
+            && 0 < other.width
+            && self.begins_within(other)
+            && other.begins_within(self)
+    }
+
+    // Whether its offset is below the end of another field.
+    fn begins_within(self, other: FieldRange) -> bool
+        ensures { result ≡ nat_lt self.offset (other.offset + other.width) }
+    {
+        self.offset < other.offset || usize::from(self.offset - other.offset) < other.width
+    }
 }

@@ -67,15 +67,19 @@ pub(crate) enum FieldType<'a> {
 }
 
 impl<'a> FieldType<'a> {
-    ghost use Rattle.std.specs.Prelude.{option_map};
+    ghost use Rattle.std.specs.Prelude.{◌≤◌, false, IfSome, option_map};
     ghost use Rattle.ifr_scopes.specs.code.Lists.{statement_node};
+    ghost use Rattle.hii_questions.specs.declared.field_range.TheConstants.{WIDEST_FIELD};
+    ghost use Rattle.hii_questions.specs.Fields.{is_password};
     ghost use Rattle.hii_questions.specs.FieldTypes.{size_of_type};
     ghost use Rattle.hii_questions.specs.code.TypeViews.{type_in};
     ghost use Rattle.hii_questions.specs.Types.{type_of};
 
     /// What the field of a statement holds, if it is a question that may have one.
     pub(crate) fn of(statement: Statement<'a>) -> Option<FieldType<'a>>
-        ensures { option_map type_in result ≡ type_of (statement_node statement.entry) }
+        ensures held { option_map type_in result ≡ type_of (statement_node statement.entry) }
+        ensures narrow { is_password (statement_node statement.entry) ≡ false
+            → IfSome result (λ t. size_of_type (type_in t) ≤ WIDEST_FIELD) }
     {
         let choices = Choices {
             question: statement,

@@ -1,9 +1,9 @@
 //! Which values fields take.
 
-ghost use Rattle.std.specs.Prelude.{◌≡◌, ◌*◌, true};
+ghost use Rattle.std.specs.Prelude.{◌≡◌, ◌*◌, true, Some};
 ghost use Rattle.byteorder.specs.Endian.{little_bytes};
 ghost use Rattle.hii_questions.specs.code.Contents.{content_bytes};
-ghost use Rattle.hii_questions.specs.code.Fitting.{Gives};
+ghost use Rattle.hii_questions.specs.code.Fitting.{Gives, names_options, offered_items, one_item};
 ghost use Rattle.hii_questions.specs.FieldTypes.{checkbox, size_of_type};
 ghost use Rattle.hii_questions.specs.Inputs.{fits_type, numeric_bytes, offered, chosen_bytes, text_bytes, list_bytes};
 ghost use Rattle.hii_questions.specs.code.ChoiceViews.{choice_values};
@@ -30,7 +30,8 @@ pub(crate) fn content_of<'i>(
 ) -> Result<Content<'i>, DenialKind>
     requires { HasList input }
     ensures { Gives (size_of_type (type_in field_type.entry))
-        (fits_type (type_in field_type.entry) (offer_of input.entry)) result }
+        (fits_type (type_in field_type.entry) (offer_of input.entry))
+        (offered_items (type_in field_type.entry) (offer_of input.entry)) result }
 {
     match field_type {
         FieldType::Checkbox => checkbox_content(input),
@@ -41,10 +42,21 @@ pub(crate) fn content_of<'i>(
     }
 }
 
+/// Whether the items of a field are values of options.
+pub(crate) fn names_options(field_type: FieldType<'_>) -> bool
+    ensures { result ≡ names_options (type_in field_type.entry) }
+{
+    matches!(
+        field_type,
+        FieldType::Numeric(_) | FieldType::OneOf(_) | FieldType::OrderedList(_)
+    )
+}
+
 // A number of `width` bytes.
 fn number_content<'i>(number: u64, width: usize) -> Content<'i>
     requires { is_width width ≡ true }
-    ensures { content_bytes result ≡ little_bytes width number }
+    ensures bytes { content_bytes result ≡ little_bytes width number }
+    ensures items { items_left result.items ≡ one_item (Some number) }
 {
     Content {
         items: Items::Number(Some(number)),
@@ -53,7 +65,8 @@ fn number_content<'i>(number: u64, width: usize) -> Content<'i>
 }
 
 fn checkbox_content(input: Input<'_>) -> Result<Content<'_>, DenialKind>
-    ensures { Gives 1 (fits_type checkbox (offer_of input.entry)) result }
+    ensures { Gives 1 (fits_type checkbox (offer_of input.entry))
+        (offered_items checkbox (offer_of input.entry)) result }
 {
     match input {
         Input::Number(0) | Input::Raw(0) => Ok(number_content(0, 1)),
@@ -64,7 +77,8 @@ fn checkbox_content(input: Input<'_>) -> Result<Content<'_>, DenialKind>
 }
 
 fn numeric_content(numeric: NumericType, input: Input<'_>) -> Result<Content<'_>, DenialKind>
-    ensures { Gives numeric.width (fits_type (numeric_in numeric) (offer_of input.entry)) result }
+    ensures { Gives numeric.width (fits_type (numeric_in numeric) (offer_of input.entry))
+        (offered_items (numeric_in numeric) (offer_of input.entry)) result }
 {
     match input {
         Input::Number(number) => {
@@ -78,7 +92,8 @@ fn numeric_content(numeric: NumericType, input: Input<'_>) -> Result<Content<'_>
 // The number of these bits, where there are some, and it is within the bounds.
 fn within_bounds<'i>(numeric: NumericType, bits: Option<u64>) -> Result<Content<'i>, DenialKind>
     ensures { Gives numeric.width
-        (numeric_bytes numeric.signed numeric.width numeric.minimum numeric.maximum bits) result }
+        (numeric_bytes numeric.signed numeric.width numeric.minimum numeric.maximum bits)
+        (one_item bits) result }
 {
     let Some(bits) = bits else {
         return Err(DenialKind::Range);
@@ -94,7 +109,8 @@ fn within_bounds<'i>(numeric: NumericType, bits: Option<u64>) -> Result<Content<
 
 fn one_of_content<'i>(one_of: OneOfType<'_>, input: Input<'i>) -> Result<Content<'i>, DenialKind>
     ensures { Gives one_of.entry.width
-        (fits_type (one_of_in one_of.entry) (offer_of input.entry)) result }
+        (fits_type (one_of_in one_of.entry) (offer_of input.entry))
+        (offered_items (one_of_in one_of.entry) (offer_of input.entry)) result }
 {
     match input {
         Input::Number(number) => chosen(one_of, number),
@@ -107,7 +123,7 @@ fn one_of_content<'i>(one_of: OneOfType<'_>, input: Input<'i>) -> Result<Content
 fn chosen<'i>(one_of: OneOfType<'_>, number: i128) -> Result<Content<'i>, DenialKind>
     ensures { Gives one_of.entry.width
         (chosen_bytes one_of.entry.width (offered (choice_values one_of.entry.choices) number))
-        result }
+        (one_item (offered (choice_values one_of.entry.choices) number)) result }
 {
     match one_of.choices.value(number) {
         Some(value) => Ok(number_content(value, one_of.width)),
@@ -116,7 +132,8 @@ fn chosen<'i>(one_of: OneOfType<'_>, number: i128) -> Result<Content<'i>, Denial
 }
 
 fn text_content(text: TextType, input: Input<'_>) -> Result<Content<'_>, DenialKind>
-    ensures { Gives (2 * text.maximum) (fits_type (text_in text) (offer_of input.entry)) result }
+    ensures { Gives (2 * text.maximum) (fits_type (text_in text) (offer_of input.entry))
+        (offered_items (text_in text) (offer_of input.entry)) result }
 {
     match input {
         Input::Utf8(bytes) => match text_of(bytes) {
@@ -131,7 +148,8 @@ fn text_content(text: TextType, input: Input<'_>) -> Result<Content<'_>, DenialK
 // The units, where they are neither too few nor too many.
 fn of_length<'i>(text: TextType, units: Items<'i>) -> Result<Content<'i>, DenialKind>
     ensures { Gives (2 * text.maximum)
-        (text_bytes text.minimum text.maximum (items_left units.entry)) result }
+        (text_bytes text.minimum text.maximum (items_left units.entry)) (items_left units.entry)
+        result }
 {
     match count_within(units, text.maximum) {
         Some(count) if text.minimum <= count => Ok(Content {
@@ -145,7 +163,8 @@ fn of_length<'i>(text: TextType, units: Items<'i>) -> Result<Content<'i>, Denial
 fn list_content<'i>(list: ListType<'_>, input: Input<'i>) -> Result<Content<'i>, DenialKind>
     requires { HasList input }
     ensures { Gives (list.entry.most * list_width list.entry)
-        (fits_type (list_in list.entry) (offer_of input.entry)) result }
+        (fits_type (list_in list.entry) (offer_of input.entry))
+        (offered_items (list_in list.entry) (offer_of input.entry)) result }
 {
     match input {
         Input::List(text) => elements(list, Items::List(NumberList::of(text))),
@@ -161,7 +180,8 @@ fn list_content<'i>(list: ListType<'_>, input: Input<'i>) -> Result<Content<'i>,
 fn elements<'i>(list: ListType<'_>, items: Items<'i>) -> Result<Content<'i>, DenialKind>
     ensures { Gives (list.entry.most * list_width list.entry)
         (list_bytes (list_width list.entry) list.entry.most list.entry.unique list.entry.some
-        (choice_values list.entry.choices) (items_left items.entry)) result }
+        (choice_values list.entry.choices) (items_left items.entry)) (items_left items.entry)
+        result }
 {
     check_list(list, items)?;
     Ok(Content {

@@ -7,9 +7,9 @@ ghost use Rattle.hii_questions.specs.code.Widths.{is_width};
 use crate::stored_items::StoredItems;
 use hii_bytes::NumberList;
 
-/// The items that are left.
+/// The items of a field that are left, from the first to the last.
 #[derive(Clone, Copy, Debug)]
-pub(crate) enum Items<'i> {
+pub enum Items<'i> {
     /// A number, if it is left.
     Number(Option<u64>),
     /// The characters of a text.

@@ -1,6 +1,6 @@
 //! Laws of the definitions that the contracts cite.
 
-ghost use Rattle.hii_questions.specs.laws.Fields.{HoldsFields, FindsQuestions, ReadsBack, FillsFields, LeavesOthers};
+ghost use Rattle.hii_questions.specs.laws.Fields.{HoldsFields, FindsQuestions, HaveTheField, ReadsBack, FillsFields, LeavesOthers};
 
 /// Where no question has a fault, each field lies in its store.
 pub fn fields_lie_in_their_stores()
@@ -10,6 +10,11 @@ pub fn fields_lie_in_their_stores()
 /// The question of an id is a question of the package with this id.
 pub fn questions_of_ids_are_questions()
     ensures { FindsQuestions }
+{}
+
+/// The questions with a field are questions of the package with exactly this field.
+pub fn questions_with_a_field_have_it()
+    ensures { HaveTheField }
 {}
 
 /// What a question takes it answers, once the bytes are put: a number as its two's complement, a text as its units, a list

@@ -1,6 +1,7 @@
 //! The questions of a form set, and the values that they have in its stores (UEFI 2.8, 33.2.5.4 Questions).
 #![tactic(auto)]
 
+mod by_field;
 mod check;
 mod choices;
 mod content;
@@ -17,6 +18,7 @@ mod lists;
 mod locate;
 mod numbers;
 mod over;
+mod passwords;
 mod question;
 mod questions;
 mod reading;
@@ -28,12 +30,12 @@ mod value;
 pub use denial::{DenialKind, ValueDenial};
 pub use elements::element_width;
 pub use field::Field;
-pub use field_range::FieldRange;
+pub use field_range::{FieldRange, WIDEST_FIELD};
 pub use input::Input;
-pub use items::bytes_of_items;
+pub use items::{Items, bytes_of_items};
 pub use numbers::shown;
 pub use over::Over;
 pub use question::Question;
-pub use questions::{AllQuestions, Questions};
+pub use questions::{Questions, QuestionsByPlace};
 pub use stored_items::StoredItems;
 pub use value::{check_value, read_value};

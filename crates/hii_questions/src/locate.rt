@@ -5,7 +5,7 @@ ghost use Rattle.ifr_opcodes.specs.code.Marks.{mark};
 ghost use Rattle.ifr_opcodes.specs.code.Ops.{op_of};
 ghost use Rattle.ifr_scopes.specs.code.Lists.{statement_node};
 ghost use Rattle.hii_questions.specs.Fields.{field_at};
-ghost use Rattle.hii_questions.specs.code.Ranges.{range_in, HasWidth};
+ghost use Rattle.hii_questions.specs.code.Ranges.{range_in, HasWidth, IsNarrow};
 
 use crate::field_range::FieldRange;
 use crate::field_type::FieldType;
@@ -23,6 +23,7 @@ pub(crate) fn field_in(
     ensures found { option_map range_in result
         ≡ field_at layout.now (statement_node statement.entry) }
     ensures wide { HasWidth (statement_node statement.entry) result }
+    ensures narrow { IsNarrow (statement_node statement.entry) result }
 {
     let store = op.store();
     if store == 0 {

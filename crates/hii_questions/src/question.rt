@@ -5,12 +5,12 @@ ghost use Rattle.ifr_opcodes.specs.code.Marks.{mark};
 ghost use Rattle.ifr_opcodes.specs.code.Ops.{op_of};
 ghost use Rattle.ifr_scopes.specs.code.Lists.{statement_node};
 ghost use Rattle.ifr_scopes.specs.Nodes.{is_question};
-ghost use Rattle.hii_questions.specs.code.Ranges.{HasWidth, HasWidth-prop};
+ghost use Rattle.hii_questions.specs.code.Ranges.{HasWidth, HasWidth-prop, IsNarrow, IsNarrow-prop};
 
 use crate::field_range::FieldRange;
 use crate::locate::field_in;
 use hii_varstore::Layout;
-use ifr_opcodes::QuestionOp;
+use ifr_opcodes::{PASSWORD, QuestionOp};
 use ifr_scopes::Statement;
 
 /// A question (UEFI 2.8, 33.2.5.4 Questions), and where its field lies.
@@ -22,13 +22,14 @@ pub struct Question<'a> {
     pub ghost same: { op_of op.op ≡ mark (statement_node statement) },
     pub ghost asks: { is_question (statement_node statement) ≡ true },
     pub ghost wide: { HasWidth (statement_node statement) field } by { HasWidth-prop (statement_node statement) field },
+    pub ghost narrow: { IsNarrow (statement_node statement) field } by { IsNarrow-prop (statement_node statement) field },
 }
 
 impl<'a> Question<'a> {
     ghost use Rattle.std.specs.Prelude.{if◌then◌else◌, Some, None, option_map};
     ghost use Rattle.ifr_opcodes.specs.Fields.{question_id};
     ghost use Rattle.ifr_opcodes.specs.code.Ops.{bytes_of};
-    ghost use Rattle.hii_questions.specs.Fields.{asked_at};
+    ghost use Rattle.hii_questions.specs.Fields.{asked_at, field_passes, is_password, meets};
     ghost use Rattle.hii_questions.specs.code.Ranges.{range_in};
     ghost use Rattle.hii_questions.specs.code.Views.{question_node, question_view};
 
@@ -75,10 +76,28 @@ impl<'a> Question<'a> {
         self.op
     }
 
-    /// Where its field lies, if it has one.
+    /// Where its field lies, if it has one. That of a question that is no PASSWORD has at most `WIDEST_FIELD` bytes.
     pub fn field(self) -> Option<FieldRange>
-        ensures { option_map range_in result ≡ (question_view self.entry).field }
+        ensures found { option_map range_in result ≡ (question_view self.entry).field }
+        ensures narrow { IsNarrow (question_node self.entry) result }
     {
         self.field
+    }
+
+    /// Whether it is for a password (UEFI 2.8, 33.3.8.3, EFI_IFR_PASSWORD).
+    pub fn is_password(self) -> bool
+        ensures { result ≡ is_password (question_node self.entry) }
+    {
+        self.op.op.code == PASSWORD
+    }
+
+    /// Whether its field has a byte of this one.
+    pub(crate) fn meets(self, field: FieldRange) -> bool
+        ensures { result ≡ field_passes (meets (range_in field)) (question_view self.entry).field }
+    {
+        match self.field {
+            Some(own) => field.meets(own),
+            None => false,
+        }
     }
 }

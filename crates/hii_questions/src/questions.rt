@@ -1,19 +1,24 @@
 //! All questions of a form set.
 
-ghost use Rattle.std.specs.Prelude.{◌≡◌, IfOk, IfErr, option_map};
+ghost use Rattle.std.specs.Prelude.{◌≡◌, IfOk, IfErr, filter, option_map};
+ghost use Rattle.std.specs.List.{find};
 ghost use Rattle.hii_bytes.specs.Faults.{HasNone, Refuses, out_of_memory};
 ghost use Rattle.ifr_scopes.specs.Nodes.{nodes_of};
 ghost use Rattle.hii_varstore.specs.StoreNodes.{layout_of};
 ghost use Rattle.hii_questions.specs.Answers.{answers};
 ghost use Rattle.hii_questions.specs.Faults.{IsQuestionFault};
-ghost use Rattle.hii_questions.specs.Fields.{questions, asked, question_with};
+ghost use Rattle.hii_questions.specs.Fields.{questions, asked, question_with, has_field, is_password_in};
 ghost use Rattle.hii_questions.specs.code.Lists.{questions_left};
 ghost use Rattle.hii_questions.specs.code.Over.{answers_over};
+ghost use Rattle.hii_questions.specs.code.Ranges.{range_in};
 ghost use Rattle.hii_questions.specs.code.Tables.{first_at};
 ghost use Rattle.hii_questions.specs.code.Views.{question_view};
 
+use crate::by_field::{questions_by_field, questions_with};
 use crate::check::check_questions;
+use crate::field_range::FieldRange;
 use crate::over::Over;
+use crate::passwords::{first_in, passwords_among};
 use crate::question::Question;
 use crate::tables::{questions_by_id, questions_by_place, store_ids};
 use hii_bytes::Fault;
@@ -23,12 +28,15 @@ use std::alloc::Global;
 use std::collections::BTreeMap;
 use std::marker::Model;
 
-/// The questions of a form set by place, which are found by their places and by their ids. They are seen as the package.
+/// The questions of a form set by place, which are found by their places, by their ids and by their fields. They are seen as
+/// the package.
 #[derive(Drop)]
 pub struct Questions<'a> {
     ifr: &'a [u8],
     by_place: Vec<Question<'a>>,
     by_id: BTreeMap<u16, Question<'a>>,
+    by_field: Vec<Question<'a>>,
+    passwords: Vec<Question<'a>>,
 }
 
 impl<'a> Model for Questions<'a> {
@@ -40,7 +48,8 @@ impl<'a> Model for Questions<'a> {
 
     ghost view = { λ s. record { ifr = s.ifr.now } };
 
-    ghost invariant = { λ s. AreQuestions s.ifr.now s.by_place.items s.by_id };
+    ghost invariant = { λ s. AreQuestions s.ifr.now s.by_place.items s.by_id s.by_field.items
+        s.passwords.items };
 }
 
 impl<'a> Questions<'a> {
@@ -64,12 +73,16 @@ impl<'a> Questions<'a> {
         let ifr = forms.bytes();
         let by_place = questions_by_place(alloc, forms, layout)?;
         let by_id = questions_by_id(alloc, &by_place)?;
+        let by_field = questions_by_field(alloc, &by_place)?;
+        let passwords = passwords_among(alloc, &by_place)?;
         let ids = store_ids(alloc, forms)?;
         check_questions(&by_place, layout, &ids)?;
         Ok(Questions {
             ifr,
             by_place,
             by_id,
+            by_field,
+            passwords,
         })
     }
 
@@ -99,11 +112,29 @@ impl<'a> Questions<'a> {
         }
     }
 
+    /// The questions whose field is exactly this one, by place.
+    pub fn with_field(&self, field: FieldRange) -> QuestionsByPlace<'_, 'a>
+        ensures { questions_left result
+            ≡ filter (has_field (range_in field)) (questions (nodes_of self.now.ifr)) }
+    {
+        QuestionsByPlace {
+            questions: questions_with(&self.by_field, field),
+        }
+    }
+
+    /// The first question by place that is for a password, and whose field has a byte of this one.
+    pub fn password_in(&self, field: FieldRange) -> Option<Question<'a>>
+        ensures { option_map question_view result
+            ≡ find (is_password_in (range_in field)) (questions (nodes_of self.now.ifr)) }
+    {
+        first_in(&self.passwords, field)
+    }
+
     /// All questions, by place.
-    pub fn all(&self) -> AllQuestions<'_, 'a>
+    pub fn all(&self) -> QuestionsByPlace<'_, 'a>
         ensures { questions_left result ≡ questions (nodes_of self.now.ifr) }
     {
-        AllQuestions {
+        QuestionsByPlace {
             questions: &self.by_place,
         }
     }
@@ -119,13 +150,13 @@ impl<'a> Questions<'a> {
     }
 }
 
-/// The questions that are left of a form set, by place.
+/// The questions that are left of some of a form set, by place.
 #[derive(Debug, Drop)]
-pub struct AllQuestions<'q, 'a> {
+pub struct QuestionsByPlace<'q, 'a> {
     questions: &'q [Question<'a>],
 }
 
-impl<'q, 'a> Iterator for AllQuestions<'q, 'a> {
+impl<'q, 'a> Iterator for QuestionsByPlace<'q, 'a> {
     ghost use Rattle.std.specs.Iterator.{YieldsFirstBy, item_count};
     ghost use Rattle.hii_questions.specs.code.Views.{question_view};
     ghost use Rattle.hii_questions.specs.code.Lists.{questions_left};

@@ -1,16 +1,16 @@
 //! The values of questions, and which they take.
 
-ghost use Rattle.std.specs.Prelude.{◌≡◌};
+ghost use Rattle.std.specs.Prelude.{◌≡◌, IfOk};
 ghost use Rattle.ifr_expr.specs.code.Views.{value_of};
 ghost use Rattle.hii_questions.specs.Answers.{value_of_field};
-ghost use Rattle.hii_questions.specs.code.Checks.{Checks};
+ghost use Rattle.hii_questions.specs.code.Checks.{Checks, NamesItems};
 ghost use Rattle.hii_questions.specs.code.Offers.{offer_of, IsGiven};
 ghost use Rattle.hii_questions.specs.code.Views.{question_node, question_view};
 
 use crate::denial::{DenialKind, ValueDenial};
 use crate::field::Field;
 use crate::field_type::FieldType;
-use crate::fitting::content_of;
+use crate::fitting::{content_of, names_options};
 use crate::input::Input;
 use crate::question::Question;
 use crate::reading::value_in;
@@ -40,7 +40,8 @@ pub fn read_value<'s>(question: Question<'_>, stores: &'s Stores) -> Value<'s>
 /// question without a field takes none (`Kind`), nor an input of another kind.
 pub fn check_value<'i>(question: Question<'_>, input: Input<'i>) -> Result<Field<'i>, ValueDenial>
     requires { IsGiven (question_view question).field input }
-    ensures { Checks (question_view question.entry) (offer_of input.entry) result }
+    ensures given { Checks (question_view question.entry) (offer_of input.entry) result }
+    ensures items { IfOk result (NamesItems (question_view question.entry)) }
 {
     let denied = |kind| ValueDenial::by(kind, question.place());
     let Some(field) = question.field else {
@@ -55,6 +56,7 @@ pub fn check_value<'i>(question: Question<'_>, input: Input<'i>) -> Result<Field
             offset: field.offset,
             width: field.width,
             content,
+            names: names_options(field_type),
         }),
         Err(kind) => Err(denied(kind)),
     }

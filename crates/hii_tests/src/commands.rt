@@ -14,7 +14,13 @@ fn commands_of_lines(rt: HostRuntime) {
         (b"press 999999999".as_slice(), Ok(Command::Press(999999999))),
         (b"press 0000000001".as_slice(), Err(BadLine::BadCommand)),
         (b"defaults 65535".as_slice(), Ok(Command::Defaults(65535))),
-        (b"route 7".as_slice(), Err(BadLine::BadCommand)),
+        (
+            b"extract \t&\xff".as_slice(),
+            Ok(Command::Extract(b"\t&\xff".as_slice())),
+        ),
+        (b"extract ".as_slice(), Err(BadLine::BadCommand)),
+        (b"route 7".as_slice(), Ok(Command::Route(b"7".as_slice()))),
+        (b"route 7 8".as_slice(), Err(BadLine::BadCommand)),
         (
             b"set 65535 0xFfffffffffffffff".as_slice(),
             Ok(Command::Set {

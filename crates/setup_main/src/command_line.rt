@@ -35,6 +35,8 @@ output. With Q for the id of a question and R for the number of a row:
   press R              press the button in a row
   defaults D           set the form's questions to their defaults of class D
   why Q                may it be changed, and if not, which opcode forbids it
+  extract TEXT         tell the kept values that a configuration request names
+  route TEXT           set the values of a configuration response, all or none
   lang L               show texts in another language
   submit, discard      keep the changes, or drop them
 

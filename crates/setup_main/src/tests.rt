@@ -84,6 +84,27 @@ fn a_run_leaves_answers_and_an_image(rt: HostRuntime) {
     leaves(&rt, given(), &mut reader, Ended::Done, answers(), image());
 }
 
+// A route whose second block has no question, what is extracted behind it, and a submission.
+fn denied_route() -> &'static [u8] {
+    b"route GUID=33333333333333333333333333333333&NAME=0056&PATH=&OFFSET=0&WIDTH=1&VALUE=1&OFFSET=1&WIDTH=1&VALUE=1\n\
+extract GUID=33333333333333333333333333333333&NAME=0056&PATH=\n\
+submit\n"
+}
+
+fn answers_to_denied_route() -> &'static [u8] {
+    b"DENIED nofield at 00000000\n\
+CONFIG GUID=33333333333333333333333333333333&NAME=0056&PATH=&OFFSET=0000&WIDTH=0002&VALUE=0000\n\
+OK 0\n"
+}
+
+#[test]
+fn a_denied_route_leaves_the_image(rt: HostRuntime) {
+    let mut reader = denied_route();
+    let written = b"HVS2\"\"\"\"\"\"\"\"\"\"\"\"\"\"\"\"\x01\0\x01\0\x02\0\0\0";
+    let answered = answers_to_denied_route();
+    leaves(&rt, given(), &mut reader, Ended::Done, answered, written);
+}
+
 #[test]
 fn an_empty_script_leaves_the_image(rt: HostRuntime) {
     let mut reader = b"".as_slice();

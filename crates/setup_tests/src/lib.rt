@@ -2,6 +2,10 @@
 #![tactic(auto)]
 
 #[cfg(test)]
+mod configurations;
+#[cfg(test)]
+mod fields;
+#[cfg(test)]
 mod forms;
 #[cfg(test)]
 mod images;

@@ -111,7 +111,7 @@ struct Ran {
 }
 
 // The two bytes of a store.
-fn pair(bytes: Option<&[u8]>) -> [u8; 2] {
+pub(crate) fn pair(bytes: Option<&[u8]>) -> [u8; 2] {
     let mut pair = [0xff; 2];
     if let Some(bytes) = bytes {
         if bytes.len() == 2 {

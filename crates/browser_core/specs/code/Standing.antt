@@ -1,5 +1,7 @@
 -- What holds of a session at all times, and what the steps of a command come to.
-use Rattle.std.specs.Prelude.{◌≡◌, ℕ, Bool, true, if◌then◌else◌, All, List, [], ◌∷◌, ◌++◌, length, Option, Some, None, Result, Ok, Err}
+use Rattle.std.specs.Prelude.{◌≡◌, ℕ, Bool, true, if◌then◌else◌, ◌<◌, ◌^◌, All, List, [], ◌∷◌, ◌++◌, length, Option, Some, None, Result, Ok, Err}
+use Rattle.config_text.specs.Grammar.{Named, Area}
+use Rattle.config_text.specs.Written.{AreInside}
 use Rattle.ifr_opcodes.specs.Forest.{Placed}
 use Rattle.ifr_scopes.specs.code.Checked.{IsNodeOf, has_form}
 use Rattle.ifr_scopes.specs.code.Lists.{form_node}
@@ -7,31 +9,33 @@ use Rattle.ifr_scopes.specs.declared.form.Form.{Form}
 use Rattle.ifr_scopes.specs.Nodes.{nodes_of, is_question}
 use Rattle.hii_varstore.specs.Layout.{Shape}
 use Rattle.hii_varstore.specs.code.Ranges.{HasRange}
-use Rattle.hii_varstore.specs.Stores.{StoreMap, shape_of, with_bytes}
+use Rattle.hii_varstore.specs.code.Table.{AreBuffers}
+use Rattle.hii_varstore.specs.Stores.{StoreMap, shape_of}
 use Rattle.hii_questions.specs.Fields as fields
 use Rattle.hii_questions.specs.Inputs.{Offer}
-use Rattle.hii_questions.specs.code.NewBytes.{new_bytes}
 use Rattle.hii_questions.specs.code.Offers.{IsGiven}
 use Rattle.hii_questions.specs.code.Survey.{Survey}
 use Rattle.hii_questions.specs.code.Views.{question_node, question_view}
-use Rattle.hii_questions.specs.declared.field.Field.{Field}
 use Rattle.hii_questions.specs.declared.question.Question.{Question}
 use Rattle.hii_questions.specs.declared.input.Input.{Input}
 use Rattle.guard_policy.specs.declared.denial.Denial.{Denial}
+use Rattle.browser_core.specs.Configuration.{store_named}
 use Rattle.browser_core.specs.State.{State}
 use Rattle.browser_core.specs.Opening.{IsBrowsable, layout_in}
-use Rattle.browser_core.specs.Texts.{ok_text}
-use Rattle.browser_core.specs.Step.{Outcome, Taken, accepted, denied, no_question, warned_text, set_stores, set_question, take_default, take_defaults, press, show_form, follow}
+use Rattle.browser_core.specs.Texts.{ok_text, count_text}
+use Rattle.browser_core.specs.Step.{Outcome, Taken, accepted, denied, no_question, warned_text, set_question, take_default, take_defaults, press, show_form, follow, configuration_text, extract_from, route_to}
 
--- The package can be browsed, the questions and the stores are its own, the stores for trials are the working ones, and the form
--- and those of the history are among its nodes.
-pub record Stands (ifr : List ℕ) (questions : Survey) (committed working trial : StoreMap)
-    (form : Placed) (history : List ℕ) : Type 0 where
+-- The package can be browsed, the questions and the stores are its own, no two stores have one id, the spare stores are the
+-- working ones, and the form and those of the history are among its nodes.
+pub record Stands (ifr : List ℕ) (varstores : List ℕ) (questions : Survey)
+    (committed working spare : StoreMap) (form : Placed) (history : List ℕ) : Type 0 where
+  pub named_stores : varstores ≡ ifr
+  pub buffers : AreBuffers (layout_in ifr).buffers
   pub together : questions.ifr ≡ ifr
   pub browsable : IsBrowsable ifr
   pub submitted : shape_of committed ≡ layout_in ifr
   pub laid : shape_of working ≡ layout_in ifr
-  pub same : trial ≡ working
+  pub same : spare ≡ working
   pub node : IsNodeOf ifr form
   pub left : All (λ place. has_form ifr place ≡ true) history
 
@@ -59,16 +63,6 @@ Finds s id (Ok question) =
     × (fields.question_with (nodes_of s.ifr) id ≡ Some (question_node question))
 Finds s id (Err denial) =
     (fields.question_with (nodes_of s.ifr) id ≡ None) × (denial ≡ no_question)
-
--- A question takes a value with new bytes that fill a range of their store, which its options and conditions may forbid; or why
--- it does not take it.
-abbrev pub Takes : State → Placed → Offer → Result Field Denial → Type 0
-Takes s n offer (Ok new) =
-    HasRange (shape_of s.working) new.store new.offset new.width
-    × (length (new_bytes new) ≡ new.width)
-    × (set_question s (Some n) offer
-    ≡ set_stores s (with_bytes s.working new.store new.offset (new_bytes new)) n)
-Takes s n offer (Err denial) = set_question s (Some n) offer ≡ denied s denial
 
 -- A question has a value, of which it may warn; or why it may not have it, and nothing is changed.
 abbrev pub Changes : State → Placed → Offer → State → Result (Unit {0}) Denial → Type 0
@@ -107,6 +101,27 @@ Leads s id (Ok form) =
     IsNodeOf s.ifr (form_node form)
     × (follow s (fields.question_with (nodes_of s.ifr) id) ≡ show_form s (form_node form))
 Leads s id (Err denial) = follow s (fields.question_with (nodes_of s.ifr) id) ≡ denied s denial
+
+-- A request is answered by these bytes of the store that it names, in which its blocks lie.
+pub record IsTold (s : State) (request : Named × List Area) (bytes : List ℕ) : Type 0 where
+  pub small : length bytes < 2 ^ 16
+  pub inside : AreInside request.1 (length bytes)
+  pub answer : extract_from s request (store_named (nodes_of s.ifr) s.path request.0)
+      ≡ accepted s (configuration_text request bytes)
+
+-- A request is denied.
+abbrev pub IsUntold : State → Named × List Area → Denial → Type 0
+IsUntold s request denial =
+    extract_from s request (store_named (nodes_of s.ifr) s.path request.0) ≡ denied s denial
+
+-- The questions of all blocks of a response are set, or why none is.
+abbrev pub Routes : State → Named × List Area → State → Result ℕ Denial → Type 0
+Routes s response now (Ok count) =
+    route_to s response.1 (store_named (nodes_of s.ifr) s.path response.0)
+    ≡ accepted now (count_text count)
+Routes s response now (Err denial) =
+    (route_to s response.1 (store_named (nodes_of s.ifr) s.path response.0) ≡ denied s denial)
+    × (now ≡ s)
 
 -- What a caller grants of an input, whatever the field.
 abbrev pub IsOffered : Input → Type 0

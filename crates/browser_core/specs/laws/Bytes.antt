@@ -1,13 +1,18 @@
 -- What commands leave as it is.
-use Rattle.std.specs.Prelude.{◌≡◌, ◌⊎◌, ℕ, ◌+◌, ◌<◌, ◌≤◌, Contains, Option, Some, List, [], ◌∷◌}
+use Rattle.std.specs.Prelude.{◌≡◌, ◌⊎◌, ℕ, ◌+◌, ◌<◌, ◌≤◌, Contains, Option, Some, None, Result, Ok, Err, List, [], ◌∷◌, ◌++◌}
+use Rattle.hii_bytes.specs.declared.cause.Cause.{Cause}
+use Rattle.config_text.specs.Grammar.{Named, Area}
+use Rattle.config_text.specs.Reading.{configuration_in}
+use Rattle.config_text.specs.declared.kind.TextKind.TheVariants.{Tell}
 use Rattle.ifr_opcodes.specs.Fields.{reset_default}
 use Rattle.ifr_opcodes.specs.Forest.{Placed}
 use Rattle.ifr_scopes.specs.Nodes.{nodes_of}
 use Rattle.hii_varstore.specs.laws.Bytes.{byte_of}
 use Rattle.hii_questions.specs.Fields.{Field, field_of, question_with}
-use Rattle.hii_commands.specs.Orders.{Order, SetValue, OrderElements, SetText, PressButton, TakeDefaults}
-use Rattle.browser_core.specs.State.{State}
-use Rattle.browser_core.specs.Step.{form_of, taken, row_of_form, press, step}
+use Rattle.hii_commands.specs.Orders.{Order, SetValue, OrderElements, SetText, PressButton, TakeDefaults, RouteConfiguration}
+use Rattle.browser_core.specs.State.{State, world_of}
+use Rattle.browser_core.specs.Configuration.{store_named, block_field, question_of_field}
+use Rattle.browser_core.specs.Step.{form_of, taken, row_of_form, press, set_block, route, step}
 use Rattle.browser_core.specs.declared.reply.Reply.{Reply}
 use Rattle.browser_core.specs.declared.reply.Reply.TheVariants.{Accepted}
 
@@ -31,7 +36,31 @@ abbrev pub pressed_if : State → Option Placed → Reply → List Placed
 pressed_if s (Some button) Accepted = (taken s (reset_default button.op)).questions
 pressed_if s _ _ = []
 
--- the questions that a command sets: the one that it names, where it is carried out, or those that take their defaults
+-- the questions that some blocks set, one after the other
+abbrev pub questions_of_blocks : State → ℕ → List Area → List Placed
+questions_of_blocks s store [] = []
+questions_of_blocks s store (block ∷ blocks) =
+    named_if (question_of_field (world_of s) (nodes_of s.ifr) (block_field store block))
+    (set_block s store block).reply
+    ++ questions_of_blocks (set_block s store block).state store blocks
+
+abbrev pub routed_to : State → List Area → Option ℕ → List Placed
+routed_to s blocks None = []
+routed_to s blocks (Some store) = questions_of_blocks s store blocks
+
+-- the questions of the blocks of a response
+abbrev pub questions_routed : State → Result (Named × List Area) Cause → List Placed
+questions_routed s (Err cause) = []
+questions_routed s (Ok (named, blocks)) =
+    routed_to s blocks (store_named (nodes_of s.ifr) s.path named)
+
+-- some questions, where a command is carried out
+abbrev pub where_accepted : Reply → List Placed → List Placed
+where_accepted Accepted qs = qs
+where_accepted _ qs = []
+
+-- the questions that a command sets: the one that it names, where it is carried out, those that take their defaults,
+-- or those of the blocks of a response
 abbrev pub questions_set : State → Order → List Placed
 questions_set s (SetValue id value) =
     named_if (question_with (nodes_of s.ifr) id) (step s (SetValue id value)).reply
@@ -40,6 +69,9 @@ questions_set s (OrderElements id numbers) =
 questions_set s (SetText id text) =
     named_if (question_with (nodes_of s.ifr) id) (step s (SetText id text)).reply
 questions_set s (PressButton row) = pressed_if s (row_of_form s row (form_of s)) (press s row).reply
+questions_set s (RouteConfiguration response) =
+    where_accepted (route s response).reply
+    (questions_routed s (configuration_in Tell response))
 questions_set s (TakeDefaults class) = (taken s class).questions
 questions_set s _ = []
 

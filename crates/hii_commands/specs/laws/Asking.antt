@@ -3,11 +3,12 @@ use Rattle.std.specs.Prelude.{◌≡◌, ◌⊎◌, ℕ, ℤ, pos, neg_ℤ, ◌^
 use Rattle.std.specs.List.{list_all}
 use Rattle.hii_bytes.specs.Digits.{IsNumber}
 use Rattle.hii_bytes.specs.NumberList.{IsNumberList}
-use Rattle.hii_commands.specs.Orders.{Order, ShowPage, SetValue, OrderElements, SetText, AskWhy, FollowReference, GoBack, PressButton, TakeDefaults, ChooseLanguage, SubmitChanges, DiscardChanges, is_language_byte}
+use Rattle.hii_commands.specs.Orders.{Order, ShowPage, SetValue, OrderElements, SetText, AskWhy, FollowReference, GoBack, PressButton, TakeDefaults, ExtractConfiguration, RouteConfiguration, ChooseLanguage, SubmitChanges, DiscardChanges, is_language_byte}
 use Rattle.hii_commands.specs.declared.limits.TheConstants.{LINE_LIMIT}
 use Rattle.hii_commands.specs.declared.command.BadLine.{BadLine}
 use Rattle.hii_commands.specs.declared.command.BadLine.TheVariants.{BadCommand, LineTooLong}
 use Rattle.hii_commands.specs.Line.{without_return}
+use Rattle.hii_commands.specs.laws.Lines.{Lacks}
 
 -- a question's id: 1 to 5 decimal digits, at most 65535
 abbrev pub IsQuestion : List ℕ → ℕ → Type 0
@@ -39,6 +40,11 @@ pub record IsLanguage (text : List ℕ) : Type 0 where
   pub few : length text ≤ 63
   pub each : list_all is_language_byte text ≡ true
 
+-- one word: at least one byte, and no space
+pub record IsOneWord (text : List ℕ) : Type 0 where
+  pub some : 1 ≤ length text
+  pub whole : Lacks 32 text
+
 -- The text has the form of the command that asks for this: its words, with one space between them. The new text of a
 -- question is all that stands after one space, or empty.
 abbrev pub Asks : List ℕ → Order → Type 0
@@ -61,6 +67,10 @@ Asks text (PressButton row) =
     (digits : List ℕ) × (text ≡ codes "press " ++ digits) × IsRow digits row
 Asks text (TakeDefaults class) =
     (digits : List ℕ) × (text ≡ codes "defaults " ++ digits) × IsClass digits class
+Asks text (ExtractConfiguration request) =
+    (text ≡ codes "extract " ++ request) × IsOneWord request
+Asks text (RouteConfiguration response) =
+    (text ≡ codes "route " ++ response) × IsOneWord response
 Asks text (ChooseLanguage language) = (text ≡ codes "lang " ++ language) × IsLanguage language
 Asks text SubmitChanges = text ≡ codes "submit"
 Asks text DiscardChanges = text ≡ codes "discard"

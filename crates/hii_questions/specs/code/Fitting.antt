@@ -1,15 +1,45 @@
 -- What the code makes of an input.
-use Rattle.std.specs.Prelude.{◌≡◌, ℕ, ◌≤◌, length, Option, Some, None, Result, Ok, Err, List}
+use Rattle.std.specs.Prelude.{◌≡◌, ℕ, ◌≤◌, ◌==◌, Bool, true, false, if◌then◌else◌, pos, length, Option, Some, None, Result, Ok, Err, List, [], ◌∷◌, chars}
+use Rattle.hii_questions.specs.FieldTypes.{FieldType, checkbox, numeric, one_of, text, ordered_list}
+use Rattle.hii_questions.specs.Inputs.{Offer, whole, raw, utf8, units, listed, elements, bits_of, fitting_bits, offered}
+use Rattle.hii_questions.specs.Items.{items_in, filled}
 use Rattle.hii_questions.specs.code.Contents.{content_bytes}
-use Rattle.hii_questions.specs.Items.{filled}
+use Rattle.hii_questions.specs.code.ItemsLeft.{items_left}
 use Rattle.hii_questions.specs.declared.content.Content.{Content}
 use Rattle.hii_questions.specs.declared.denial.DenialKind.{DenialKind}
 
--- the content of a field of some bytes, where these are the new bytes, or why there are none
-abbrev pub Gives : ℕ → Result (List ℕ) DenialKind → Result Content DenialKind → Type 0
-Gives size wanted (Ok content) =
+abbrev pub one_item : Option ℕ → List ℕ
+one_item None = []
+one_item (Some n) = n ∷ []
+
+-- the items that a field is to hold of an offer that it takes
+abbrev pub offered_items : FieldType → Offer → List ℕ
+offered_items checkbox (whole (pos n)) = n ∷ []
+offered_items checkbox (raw bits) = (if bits == 0 then 0 else 1) ∷ []
+offered_items (numeric signed width minimum maximum) (whole n) = one_item (bits_of signed width n)
+offered_items (numeric signed width minimum maximum) (raw bits) = one_item (fitting_bits width bits)
+offered_items (one_of width values) (whole n) = one_item (offered values n)
+offered_items (one_of width values) (raw bits) = one_item (offered values (pos bits))
+offered_items (text minimum maximum) (utf8 bytes) = chars bytes
+offered_items (text minimum maximum) (units bytes) = items_in 2 bytes
+offered_items (ordered_list width most unique some values) (listed ns) = ns
+offered_items (ordered_list width most unique some values) (elements bytes) = items_in width bytes
+offered_items t offer = []
+
+-- whether the items of a field name options
+abbrev pub names_options : FieldType → Bool
+names_options checkbox = false
+names_options (numeric signed width minimum maximum) = true
+names_options (one_of width values) = true
+names_options (text minimum maximum) = false
+names_options (ordered_list width most unique some values) = true
+
+-- the content of a field of some bytes, where these are the new bytes and the items, or why there are none
+abbrev pub Gives : ℕ → Result (List ℕ) DenialKind → List ℕ → Result Content DenialKind → Type 0
+Gives size wanted items (Ok content) =
     (wanted ≡ Ok (filled size (content_bytes content))) × (length (content_bytes content) ≤ size)
-Gives size wanted (Err kind) = wanted ≡ Err kind
+    × (items_left content.items ≡ items)
+Gives size wanted items (Err kind) = wanted ≡ Err kind
 
 -- why a list is refused, if it is
 abbrev pub Tells : Option DenialKind → Result (Unit {0}) DenialKind → Type 0

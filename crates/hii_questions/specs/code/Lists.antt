@@ -2,7 +2,7 @@
 use Rattle.std.specs.Prelude.{List, map}
 use Rattle.hii_questions.specs.Fields.{Asked}
 use Rattle.hii_questions.specs.code.Views.{question_view}
-use Rattle.hii_questions.specs.declared.questions.AllQuestions.{AllQuestions}
+use Rattle.hii_questions.specs.declared.questions.QuestionsByPlace.{QuestionsByPlace}
 
-abbrev pub questions_left : AllQuestions → List Asked
+abbrev pub questions_left : QuestionsByPlace → List Asked
 questions_left it = map question_view it.questions.now

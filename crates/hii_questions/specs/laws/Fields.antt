@@ -1,5 +1,5 @@
 -- Laws of questions and their fields.
-use Rattle.std.specs.Prelude.{◌≡◌, ◌⊎◌, ℕ, ◌+◌, ◌-◌, ◌*◌, ◌^◌, ◌≤◌, ◌<◌, ◌==◌, not, ℤ, pos, negsuc, suc, true, Option, Some, None, Ok, List, length, slice_index, chars, Contains, ⊤}
+use Rattle.std.specs.Prelude.{◌≡◌, ◌⊎◌, ℕ, ◌+◌, ◌-◌, ◌*◌, ◌^◌, ◌≤◌, ◌<◌, ◌==◌, not, ℤ, pos, negsuc, suc, true, Option, Some, None, Ok, List, length, slice_index, chars, filter, Contains, ⊤}
 use Rattle.hii_bytes.specs.Faults.{HasNone}
 use Rattle.ifr_opcodes.specs.Forest.{Placed}
 use Rattle.ifr_opcodes.specs.Fields.{question_id}
@@ -11,7 +11,7 @@ use Rattle.hii_varstore.specs.StoreNodes.{layout_of}
 use Rattle.hii_varstore.specs.Stores.{StoreMap, shape_of, with_bytes}
 use Rattle.hii_questions.specs.Answers.{value_of_field}
 use Rattle.hii_questions.specs.Faults.{IsQuestionFault}
-use Rattle.hii_questions.specs.Fields.{Field, field_of, question_with}
+use Rattle.hii_questions.specs.Fields.{Field, Asked, field_of, question_with, has_field}
 use Rattle.hii_questions.specs.FieldTypes.{FieldType, checkbox, numeric, one_of, text, ordered_list}
 use Rattle.hii_questions.specs.Fits.{fits}
 use Rattle.hii_questions.specs.Inputs.{Offer, whole, raw, utf8, units, listed, elements, field, read_as}
@@ -29,6 +29,12 @@ abbrev pub FindsQuestions : Type 0
 FindsQuestions =
     (ns : List Placed) (id : ℕ) (n : Placed) → question_with ns id ≡ Some n → Contains ns n
     × (is_question n ≡ true) × (question_id n.op ≡ id)
+
+-- The questions with a field are among all, and have exactly this field.
+abbrev pub HaveTheField : Type 0
+HaveTheField =
+    (qs : List Asked) (f : Field) (q : Asked) → Contains (filter (has_field f) qs) q
+    → Contains qs q × (q.field ≡ Some f)
 
 -- the two's complement of a number in `width` bytes
 abbrev pub complement : ℕ → ℤ → ℕ

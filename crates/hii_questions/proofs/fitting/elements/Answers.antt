@@ -1,3 +1,4 @@
+use Rattle.std.proofs.Common.{refl}
 use Rattle.hii_questions.specs.code.ChoiceViews.{choice_values}
 use Rattle.hii_questions.specs.code.ItemsLeft.{items_left}
 use Rattle.hii_questions.specs.code.TypeViews.{list_width}
@@ -7,5 +8,5 @@ use Rattle.hii_questions.proofs.fitting.elements.Goals as goal
 pub returns : goal.returns
 returns c =
     let list = c.args.list in
-    rw c.width.ensures.value
-    (elements_fit (list_width list) list.most list.unique list.some (choice_values list.choices) (items_left c.args.items) c.in_ok-check_list.ensures.told c.in_ok-check_list.ensures.few)
+    let fit = elements_fit (list_width list) list.most list.unique list.some (choice_values list.choices) (items_left c.args.items) c.in_ok-check_list.ensures.told c.in_ok-check_list.ensures.few in
+    rw c.width.ensures.value (fit.0, fit.1, refl)

@@ -11,4 +11,4 @@ pub put-requires : goal.put-requires
 put-requires c =
     let new = range_of c.in_ok-check_value.field-0 in
     subst (λ (s : Shape). HasRange s new.store new.offset new.width) (sym c.requires.laid)
-    (range_found (nodes_of c.args.questions.now.ifr) c.args.id (question_view c.in-Some.question) new c.requires.sound c.in-Some.ensures c.in_ok-check_value.ensures.1)
+    (range_found (nodes_of c.args.questions.now.ifr) c.args.id (question_view c.in-Some.question) new c.requires.sound c.in-Some.ensures c.in_ok-check_value.ensures.given.1)

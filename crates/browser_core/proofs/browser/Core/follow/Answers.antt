@@ -9,6 +9,8 @@ pub invariant_of-self : goal.invariant_of-self
 invariant_of-self c =
     let there : has_form c.self.inside.forms c.place.result ≡ true = subst (λ (p : ℕ). has_form c.self.inside.forms p ≡ true) (sym c.place.ensures) (has_form_there c.self.inside.forms (form_node c.self.inside.form) c.self.invariant.node c.self.inside.form.form) in
     record {
+      named_stores = c.self.invariant.named_stores;
+      buffers = c.self.invariant.buffers;
       together = c.self.invariant.together;
       browsable = c.self.invariant.browsable;
       submitted = c.self.invariant.submitted;

@@ -1,4 +1,6 @@
-use Rattle.std.proofs.Common.{rules, refl, sym, ap, ◌∙◌}
+use Rattle.std.proofs.Common.{rules, refl, sym, ap, subst, ◌∙◌}
+use Rattle.hii_varstore.specs.Layout.{Shape}
+use Rattle.hii_varstore.specs.code.Table.{AreBuffers}
 use Rattle.std.proofs.lemmas.Result.{err_from_is_err_and}
 use Rattle.hii_packages.specs.code.Package.{entry_of}
 use Rattle.ifr_scopes.specs.code.Lists.{form_node}
@@ -62,10 +64,15 @@ returns-in_err-committed-clause-accepted c =
     let p = err_from_is_err_and c.from_residual-in_err-committed.result c.from_residual-in_err-committed.ensures.1 in
     λ start o. rw (p.1, p.2) (only_memory c.args.list.now c.args.forms c.args.stores.now c.args.lang.now start _ o (refuses_image c.args.list.now c.args.forms c.args.stores.now c.in_ok-forms.forms c.in_ok-layout.layout _ (is_found c.args.list.now c.args.forms c.in_ok-found.found.packages (entry_of c.in_ok-found.found.forms) _ c.in_ok-languages.languages c.in_ok-found.ensures.spelled c.in_ok-found.ensures.found c.in_ok-forms.ensures.read c.in_ok-languages.ensures.read) (browsable c.in_ok-forms.forms c.in_ok-layout.layout c.in_ok-forms.ensures.accepted c.in_ok-layout.ensures.sound c.in_ok-layout.ensures.read c.in_ok-questions.ensures.sound) c.in_ok-layout.ensures.read c.in_err-committed.ensures.refused))
 
-pub returns-in_err-trial-clause-accepted : goal.returns-in_err-trial-clause-accepted
-returns-in_err-trial-clause-accepted c =
-    let p = err_from_is_err_and c.from_residual-in_err-trial.result c.from_residual-in_err-trial.ensures.1 in
-    λ start o. rw (p.1, p.2) c.in_err-trial.ensures.refused
+pub returns-in_err-working-clause-accepted : goal.returns-in_err-working-clause-accepted
+returns-in_err-working-clause-accepted c =
+    let p = err_from_is_err_and c.from_residual-in_err-working.result c.from_residual-in_err-working.ensures.1 in
+    λ start o. rw (p.1, p.2) c.in_err-working.ensures.refused
+
+pub returns-in_err-spare-clause-accepted : goal.returns-in_err-spare-clause-accepted
+returns-in_err-spare-clause-accepted c =
+    let p = err_from_is_err_and c.from_residual-in_err-spare.result c.from_residual-in_err-spare.ensures.1 in
+    λ start o. rw (p.1, p.2) c.in_err-spare.ensures.refused
 
 pub returns-in_err-removed-clause-accepted : goal.returns-in_err-removed-clause-accepted
 returns-in_err-removed-clause-accepted c =
@@ -76,11 +83,13 @@ pub invariant_of-result : goal.invariant_of-result
 invariant_of-result c =
     let submitted = c.in_ok-committed.ensures.spelled.laid ∙ c.in_ok-layout.ensures.read in
     record {
+      named_stores = c.in_ok-varstores.ensures;
+      buffers = subst (λ (shape : Shape). AreBuffers shape.buffers) c.in_ok-layout.ensures.read c.buffers.ensures.sound;
       together = ap (λ (s : Survey). s.ifr) c.in_ok-questions.ensures.read;
       browsable = (browsable c.in_ok-forms.forms c.in_ok-layout.layout c.in_ok-forms.ensures.accepted c.in_ok-layout.ensures.sound c.in_ok-layout.ensures.read c.in_ok-questions.ensures.sound);
       submitted = submitted;
       laid = ap shape_of c.in_ok-working.ensures.same ∙ submitted;
-      same = c.in_ok-trial.ensures.same ∙ sym c.in_ok-working.ensures.same;
+      same = c.in_ok-spare.ensures.same ∙ sym c.in_ok-working.ensures.same;
       node = c.first_form-form.ensures.node;
       left = search rules;
     }
@@ -90,4 +99,4 @@ returns-clause-opened c =
     opened c.args.list.now c.args.forms c.args.stores.now c.args.lang.now c.in_ok-found.found.packages (entry_of c.in_ok-found.found.forms) _ c.in_ok-layout.layout (form_node c.first_form-form.result) c.first_form-form.ensures.first.0
     c.in_ok-found.ensures.spelled c.in_ok-found.ensures.found c.in_ok-forms.ensures.read c.in_ok-languages.ensures.read c.choose-language.ensures
     (browsable c.in_ok-forms.forms c.in_ok-layout.layout c.in_ok-forms.ensures.accepted c.in_ok-layout.ensures.sound c.in_ok-layout.ensures.read c.in_ok-questions.ensures.sound) c.in_ok-layout.ensures.read
-    c.in_ok-committed.ensures.spelled c.in_ok-working.ensures.same c.in_ok-removed.ensures.removed c.first_form-form.ensures.first.1 refl c.new.ensures
+    c.in_ok-committed.ensures.spelled c.in_ok-working.ensures.same c.in_ok-removed.ensures.removed c.first_form-form.ensures.first.1 refl c.new.ensures c.device_path.ensures

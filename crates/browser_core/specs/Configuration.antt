@@ -1,0 +1,73 @@
+-- What a configuration text names in a form set (UEFI 2.8, 34.2.1 String Grammar; which stores and questions a text names is an
+-- own rule).
+use Rattle.std.specs.Prelude.{ℕ, ◌+◌, ◌==◌, ◌&&◌, nat_lt, Bool, if◌then◌else◌, List, [], ◌∷◌, filter, Option, Some, None, option_map, is_some, is_none}
+use Rattle.std.specs.List.{find}
+use Rattle.std.specs.Option.{option_or}
+use Rattle.std.specs.Str.{bytes_eq}
+use Rattle.std.specs.Str.Parse.{digits_value}
+use Rattle.byteorder.specs.Endian.{little_bytes}
+use Rattle.config_text.specs.Grammar.{Named, Area}
+use Rattle.ifr_opcodes.specs.Forest.{Placed}
+use Rattle.ifr_opcodes.specs.Fields.{varstore_guid, varstore_name, varstore_efi_guid, varstore_efi_name}
+use Rattle.ifr_opcodes.specs.Opcode.{number}
+use Rattle.ifr_opcodes.specs.declared.codes.TheConstants.{VARSTORE}
+use Rattle.ifr_scopes.specs.Nodes.{is_store}
+use Rattle.ifr_scopes.specs.Stores.{store_id, store_size}
+use Rattle.hii_questions.specs.Fields.{Field, Asked, questions, has_field, is_password_in}
+use Rattle.guard_policy.specs.Policy.{fixed}
+use Rattle.guard_policy.specs.World.{World}
+
+-- ---- stores
+
+-- the GUID and the name of a store of bytes (33.3.8.3, EFI_IFR_VARSTORE and EFI_IFR_VARSTORE_EFI)
+abbrev pub guid_of_store : List ℕ → List ℕ
+guid_of_store op = if number op == VARSTORE then varstore_guid op else varstore_efi_guid op
+
+abbrev pub name_of_store : List ℕ → List ℕ
+name_of_store op = if number op == VARSTORE then varstore_name op else varstore_efi_name op
+
+-- A header names a store of bytes by its GUID and its name, each byte of it a character, and by the list's device path.
+abbrev pub names_store : Named → List ℕ → Placed → Bool
+names_store named path n =
+    is_some (store_size n.op)
+    && (bytes_eq named.guid (guid_of_store n.op)
+    && (bytes_eq named.name (name_of_store n.op) && bytes_eq named.path path))
+
+-- the id of the first store by place that a header names
+abbrev pub store_named : List Placed → List ℕ → Named → Option ℕ
+store_named ns path named =
+    option_map (λ n. store_id n.op) (find (names_store named path) (filter is_store ns))
+
+-- ---- blocks
+
+-- the bytes of a store that a block names
+abbrev pub block_field : ℕ → Area → Field
+block_field store block = record { store = store; offset = block.offset; width = block.width }
+
+-- A block leaves a store of so many bytes.
+abbrev pub leaves_store : ℕ → Area → Bool
+leaves_store size block = nat_lt size (block.offset + block.width)
+
+-- the first password by place whose field a block meets
+abbrev pub password_in : List Placed → Field → Option Asked
+password_in ns field = find (is_password_in field) (questions ns)
+
+-- the bytes of a block's value, the lowest first
+abbrev pub block_bytes : Area → List ℕ
+block_bytes block = little_bytes block.width (digits_value 16 block.digits)
+
+-- the first of some questions
+abbrev pub first_question : List Asked → Option Placed
+first_question [] = None
+first_question (q ∷ qs) = Some q.node
+
+-- the first of some questions that is not fixed
+abbrev pub first_free : World → List Asked → Option Placed
+first_free w qs = option_map (λ q. q.node) (find (λ q. is_none (fixed w q.node)) qs)
+
+-- the question that a block sets: of those that have exactly its field the first by place that is not fixed, or where all are
+-- fixed the first
+abbrev pub question_of_field : World → List Placed → Field → Option Placed
+question_of_field w ns field =
+    option_or (first_free w (filter (has_field field) (questions ns)))
+    (first_question (filter (has_field field) (questions ns)))

@@ -1,0 +1,12 @@
+pub mod PartLemmas
+pub mod HexLemmas
+pub mod StepLemmas
+pub mod ReadLemmas
+pub mod HeaderLemmas
+pub mod TextLemmas
+pub mod GroupLemmas
+pub mod WriteLemmas
+pub mod ValueLemmas
+pub mod LawLemmas
+pub mod BackLemmas
+pub mod FewLemmas

@@ -1,0 +1,10 @@
+//! The two kinds of configuration texts.
+
+/// Whether the blocks of a text ask for values or tell them.
+#[derive(Clone, Copy, Debug, PartialEq, Eq)]
+pub(crate) enum TextKind {
+    /// A request: its blocks have no value.
+    Ask,
+    /// A response: each block has a value.
+    Tell,
+}

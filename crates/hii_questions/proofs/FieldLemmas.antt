@@ -1,0 +1,90 @@
+-- The questions of a package by their fields, and its passwords.
+use Rattle.std.proofs.Common.{◌≡◌, ℕ, zero, suc, Bool, true, false, eqb, ◌==◌, ◌&&◌, Option, Some, None, List, [], ◌∷◌, map, refl, sym, ap, ◌∙◌, arith, inl, inr, filter, find, is_eq, option_map, Contains}
+use Rattle.std.specs.Cmp.{IsTotalOrder, nat_cmp_total, on_total, then_total}
+use Rattle.std.specs.Cmp.Lexicographic.{options_total}
+use Rattle.std.specs.Option.{option_cmp}
+use Rattle.std.specs.declared.cmp.Ordering.{Ordering}
+use Rattle.std.specs.declared.cmp.Ordering.TheVariants.{Less, Equal, Greater}
+use Rattle.std.specs.Ordering.{nat_cmp, ordering_then}
+use Rattle.std.specs.BTreeMap.{BTreeMap}
+use Rattle.std.proofs.lemmas.Bool.{and_parts, cases_Bool, eqb-true}
+use Rattle.ifr_scopes.specs.Nodes.{nodes_of}
+use Rattle.ifr_scopes.proofs.ViewLemmas.{further}
+use Rattle.hii_varstore.proofs.TableLemmas.{is_eq-nat_cmp}
+use Rattle.hii_questions.specs.Fields.{Field, questions, field_passes, is_same_field, has_field, meets, is_password, is_password_in}
+use Rattle.hii_questions.specs.code.ByField.{range_cmp}
+use Rattle.hii_questions.specs.code.Ranges.{range_in}
+use Rattle.hii_questions.specs.code.Tables.{AreQuestions}
+use Rattle.hii_questions.specs.code.Views.{question_node, question_view}
+use Rattle.hii_questions.specs.declared.field_range.FieldRange.{FieldRange}
+use Rattle.hii_questions.specs.declared.question.Question.{Question}
+use Rattle.hii_questions.specs.laws.Fields.{HaveTheField}
+use Rattle.hii_questions.proofs.OrderLemmas.{filter_mapped}
+use Rattle.hii_questions.proofs.QuestionLemmas.{found_among, found_mapped}
+
+pub range_total : IsTotalOrder (option_cmp range_cmp)
+range_total = options_total (then_total (on_total (λ (f : FieldRange). f.store) nat_cmp_total) (then_total (on_total (λ (f : FieldRange). f.offset) nat_cmp_total) (on_total (λ (f : FieldRange). f.width) nat_cmp_total)))
+
+eq_then : (r s : Ordering) → is_eq (ordering_then r s) ≡ (is_eq r && is_eq s)
+eq_then Less s = refl
+eq_then Equal s = refl
+eq_then Greater s = refl
+
+and_assoc : (a b c : Bool) → (a && (b && c)) ≡ (a && b && c)
+and_assoc true b c = refl
+and_assoc false b c = refl
+
+same_tells : (g f : FieldRange) → is_eq (range_cmp g f) ≡ is_same_field (range_in f) (range_in g)
+same_tells g f =
+    let a = nat_cmp g.store f.store in
+    let b = nat_cmp g.offset f.offset in
+    let d = nat_cmp g.width f.width in
+    eq_then a (ordering_then b d) ∙ ap (λ t. is_eq a && t) (eq_then b d) ∙ and_assoc (is_eq a) (is_eq b) (is_eq d) ∙ ap (λ t. t && is_eq b && is_eq d) (is_eq-nat_cmp g.store f.store)
+    ∙ ap (λ t. eqb g.store f.store && t && is_eq d) (is_eq-nat_cmp g.offset f.offset) ∙ ap (λ t. eqb g.store f.store && eqb g.offset f.offset && t) (is_eq-nat_cmp g.width f.width)
+
+tells : (o : Option FieldRange) (f : FieldRange) → is_eq (option_cmp range_cmp o (Some f)) ≡ field_passes (is_same_field (range_in f)) (option_map range_in o)
+tells None f = refl
+tells (Some g) f = same_tells g f
+
+-- The comparison with a field ties for the questions that have it.
+pub ties_are : (f : FieldRange) → ◌≡◌ {A = Question → Bool} (λ q. is_eq (option_cmp range_cmp q.field (Some f))) (λ q. has_field (range_in f) (question_view q))
+ties_are f = λ i q. tells q.field f i
+
+module _ (ifr : List ℕ) (qs : List Question) (ids : BTreeMap ℕ Question) (fs ps : List Question) (are : AreQuestions ifr qs ids fs ps) (f : FieldRange) where
+  pub fields_are : map question_view (filter (λ q. has_field (range_in f) (question_view q)) fs) ≡ filter (has_field (range_in f)) (questions (nodes_of ifr))
+  fields_are =
+      ap (map question_view) (are.ordered.kept f) ∙ sym (filter_mapped question_view (has_field (range_in f)) qs) ∙ ap (filter (has_field (range_in f))) are.placed
+
+  pub first_password : option_map question_view (find (λ q. field_passes (meets (range_in f)) (question_view q).field) ps) ≡ find (is_password_in (range_in f)) (questions (nodes_of ifr))
+  first_password =
+      ap (λ l. option_map question_view (find (λ q. field_passes (meets (range_in f)) (question_view q).field) l)) are.secret
+      ∙ ap (option_map question_view) (found_among (λ q. is_password (question_node q)) (λ q. field_passes (meets (range_in f)) (question_view q).field) qs)
+      ∙ sym (found_mapped question_view (is_password_in (range_in f)) qs) ∙ ap (find (is_password_in (range_in f))) are.placed
+
+-- ---- the questions with a field have it
+
+-- what stands in a list is its first, or behind that
+first_or_later : {X : Type 0} (p : X → Bool) (y : X) (us ys : List X) (x : X) → p y ≡ true → (Contains us x → Contains ys x × (p x ≡ true)) → Contains (y ∷ us) x → Contains (y ∷ ys) x × (p x ≡ true)
+first_or_later p y us ys x here later (zero, lt, e) = ((0, omega arith, e), ap p (sym e) ∙ here)
+first_or_later p y us ys x here later (suc k, lt, e) = let found = later (k, omega arith, e) in (further y ys x found.0, found.1)
+
+-- what passes a test is among all
+passing : {X : Type 0} (p : X → Bool) (xs : List X) (x : X) → Contains (filter p xs) x → Contains xs x × (p x ≡ true)
+passing p [] x (k, lt, e) = absurd (omega arith)
+passing p (y ∷ xs) x there = elim (cases_Bool (p y)) [
+  | inl here ↦ first_or_later p y (filter p xs) xs x here (passing p xs x) (rw here at there)
+  | inr other ↦ let later = passing p xs x (rw other at there) in (further y xs x later.0, later.1)
+]
+
+same_field : (f : Field) (o : Option Field) → field_passes (is_same_field f) o ≡ true → o ≡ Some f
+same_field f None h = absurd (cc)
+same_field f (Some g) h =
+    let both = and_parts (g.store == f.store && g.offset == f.offset) (g.width == f.width) h in
+    let first = and_parts (g.store == f.store) (g.offset == f.offset) both.0 in
+    let store = eqb-true g.store f.store first.0 in
+    let offset = eqb-true g.offset f.offset first.1 in
+    let width = eqb-true g.width f.width both.1 in
+    λ i. Some record { store = store i; offset = offset i; width = width i }
+
+pub have_the_field : HaveTheField
+have_the_field qs f q there = let found = passing (has_field f) qs q there in (found.0, same_field f q.field found.1)

@@ -1,0 +1,153 @@
+//! Questions by their fields.
+
+ghost use Rattle.std.specs.Prelude.{◌≡◌};
+
+use crate::forms::{forms_of, package_of};
+use hii_bytes::Fault;
+use hii_questions::{FieldRange, Input, Question, Questions, WIDEST_FIELD, check_value};
+use hii_varstore::Layout;
+use ifr_scopes::Forms;
+use std::alloc::Global;
+use std::test::Fail;
+
+// A form, over a store of 8 bytes.
+const FORM: [u8; 142] = [
+    0x01, 0x86, 1, 0, 1, 0, // a form, at 51
+    0x06, 14, 1, 0, 2, 0, 7, 0, 1, 0, 6, 0, 0, 0, // a checkbox of the id 7, byte 6, at 57
+    0x05, 0x91, 1, 0, 2, 0, 8, 0, 1, 0, 6, 0, 0, 0x10, 0, 0, 0, // a choice of the id 8, byte 6, at 71
+    0x09, 7, 5, 0, 0, 0, 2, 0x29, 2, // its option, at 88
+    0x23, 0x8f, 1, 0, 2, 0, 9, 0, 1, 0, 0, 0, 0, 2, 0, // a list of the id 9, two elements of two bytes, bytes 0 to 3, at 97
+    0x09, 8, 5, 0, 0, 1, 1, 2, 0x29, 2, // its option, at 112
+    0x1c, 16, 1, 0, 2, 0, 10, 0, 1, 0, 0, 0, 0, 0, 2, 0, // a text of the id 10, bytes 0 to 3, at 122
+    0x08, 17, 1, 0, 2, 0, 11, 0, 1, 0, 4, 0, 0, 0, 0, 1, 0, // a password of the id 11, bytes 4 and 5, at 138
+    0x08, 17, 1, 0, 2, 0, 12, 0, 1, 0, 3, 0, 0, 0, 0, 1, 0, // one of the id 12, bytes 3 and 4, at 155
+    0x08, 17, 1, 0, 2, 0, 13, 0, 1, 0, 7, 0, 0, 0, 0, 0, 0, // one of the id 13, no byte, at 172
+    0x29, 2, 0x29, 2, // at 189, 191
+];
+
+// The forms package; and how long it is.
+fn package() -> ([u8; 512], usize)
+    ensures { result.1 ≡ 193 }
+{
+    package_of(8, &FORM)
+}
+
+// The questions of a form set. It has no clause, so that no test carries those of `Questions::read`.
+fn questions_of<'a>(alloc: Global, forms: &Forms<'a>) -> Result<Questions<'a>, Fault> {
+    Questions::read(alloc, forms, &Layout::read(alloc, forms)?)
+}
+
+// So many bytes of the store 1.
+fn range(offset: u16, width: usize) -> FieldRange {
+    FieldRange {
+        store: 1,
+        offset,
+        width,
+    }
+}
+
+#[test]
+fn fields_meet_where_they_have_a_byte_in_common(rt: HostRuntime) {
+    for (one, other, wanted) in [
+        (range(4, 2), range(5, 1), true),
+        (range(4, 2), range(3, 2), true),
+        (range(4, 2), range(0, 8), true),
+        (range(4, 2), range(6, 1), false),
+        (range(4, 2), range(2, 2), false),
+        (range(4, 2), range(5, 0), false),
+        (range(65535, 2), range(65535, WIDEST_FIELD), true),
+    ] {
+        assert_eq!(rt; (one.meets(other), other.meets(one)), (wanted, wanted));
+        let elsewhere = FieldRange { store: 2, ..other };
+        assert!(rt; !one.meets(elsewhere));
+    }
+}
+
+#[test]
+fn questions_are_found_by_their_fields(rt: HostRuntime) -> Result<(), Fail> {
+    let alloc = rt.alloc();
+    let (bytes, len) = package();
+    let forms = forms_of(alloc, &bytes[..len])?;
+    let questions = questions_of(alloc, &forms)?;
+    for (field, ids) in [
+        (range(6, 1), [Some(7), Some(8)]),
+        (range(0, 4), [Some(9), Some(10)]),
+        (range(4, 2), [Some(11), None]),
+        (range(7, 0), [Some(13), None]),
+        (range(0, 2), [None, None]),
+        (range(5, 1), [None, None]),
+        (
+            FieldRange {
+                store: 2,
+                ..range(6, 1)
+            },
+            [None, None],
+        ),
+    ] {
+        let mut found = questions.with_field(field);
+        for id in ids {
+            assert_eq!(rt; found.next().map(|question| question.id()), id);
+        }
+        assert!(rt; found.next().is_none());
+    }
+    Ok(())
+}
+
+#[test]
+fn passwords_are_found_by_bytes_of_their_fields(rt: HostRuntime) -> Result<(), Fail> {
+    let alloc = rt.alloc();
+    let (bytes, len) = package();
+    let forms = forms_of(alloc, &bytes[..len])?;
+    let questions = questions_of(alloc, &forms)?;
+    for question in questions.all() {
+        assert_eq!(rt; question.is_password(), 11 <= question.id());
+    }
+    for (field, id) in [
+        (range(3, 1), Some(12)),
+        (range(4, 1), Some(11)),
+        (range(0, 8), Some(11)),
+        (range(0, 3), None),
+        (range(6, 2), None),
+    ] {
+        let password = questions.password_in(field);
+        assert_eq!(rt; password.map(|question| question.id()), id);
+    }
+    Ok(())
+}
+
+// The first two values of options that a question names once it has a value, where that is no list and no field.
+fn named(question: Question<'_>, input: Input<'_>) -> [Option<u64>; 2] {
+    let checked = match input {
+        Input::List(_) | Input::Field(_) => return [None, None],
+        _ => check_value(question, input),
+    };
+    match checked {
+        Ok(field) => {
+            let mut items = field.items();
+            [items.next(), items.next()]
+        }
+        Err(_) => [None, None],
+    }
+}
+
+#[test]
+fn new_values_name_options(rt: HostRuntime) -> Result<(), Fail> {
+    let alloc = rt.alloc();
+    let (bytes, len) = package();
+    let forms = forms_of(alloc, &bytes[..len])?;
+    let questions = questions_of(alloc, &forms)?;
+    for (id, input, wanted) in [
+        (7, Input::Number(1), [None, None]),
+        (8, Input::Raw(2), [Some(2), None]),
+        (
+            9,
+            Input::Elements(b"\x01\x02\x01\x02"),
+            [Some(0x201), Some(0x201)],
+        ),
+        (10, Input::Utf8(b"ab"), [None, None]),
+    ] {
+        let question = questions.find(id).expect(&rt, "a question");
+        assert_eq!(rt; named(question, input), wanted);
+    }
+    Ok(())
+}
