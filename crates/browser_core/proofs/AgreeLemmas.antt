@@ -7,8 +7,7 @@ use Rattle.std.proofs.lemmas.List.{places}
 use Rattle.std.proofs.lemmas.List.Edits.{length-between}
 use Rattle.std.proofs.lemmas.Option.{slice_get-get_or}
 use Rattle.std.proofs.lemmas.Bool.{cases_Bool, cases_lt, eqb-true, eq-eqb, ne_eqb, eqb-false}
-use Rattle.hii_varstore.specs.Stores.{Store, StoreMap, buffer_of, shape_of, bytes_of, bytes_of_field, with_bytes}
-use Rattle.hii_varstore.specs.laws.Bytes.{byte_of}
+use Rattle.hii_varstore.specs.Stores.{Store, StoreMap, buffer_of, shape_of, bytes_of, bytes_of_field, with_bytes, byte_of}
 use Rattle.hii_varstore.specs.code.Ranges.{HasRange}
 use Rattle.hii_varstore.specs.code.Table.{AreBuffers}
 use Rattle.hii_varstore.specs.declared.buffer.Buffer.{Buffer}

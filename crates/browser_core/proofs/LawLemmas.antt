@@ -8,8 +8,7 @@ use Rattle.ifr_opcodes.specs.Opcode.{number}
 use Rattle.ifr_opcodes.specs.declared.codes.TheConstants.{RESET_BUTTON}
 use Rattle.ifr_opcodes.specs.Forest.{Placed}
 use Rattle.ifr_scopes.specs.Nodes.{nodes_of}
-use Rattle.hii_varstore.specs.Stores.{StoreMap}
-use Rattle.hii_varstore.specs.laws.Bytes.{byte_of}
+use Rattle.hii_varstore.specs.Stores.{StoreMap, byte_of}
 use Rattle.hii_varstore.proofs.WriteLemmas.{byte_after}
 use Rattle.config_text.specs.Grammar.{Named, Area}
 use Rattle.config_text.specs.Reading.{configuration_in}

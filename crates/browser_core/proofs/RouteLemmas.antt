@@ -8,8 +8,7 @@ use Rattle.ifr_scopes.specs.Nodes.{nodes_of}
 use Rattle.hii_varstore.specs.Layout.{Shape}
 use Rattle.hii_varstore.specs.code.Ranges.{HasRange}
 use Rattle.hii_varstore.specs.code.Table.{AreBuffers}
-use Rattle.hii_varstore.specs.laws.Bytes.{byte_of}
-use Rattle.hii_varstore.specs.Stores.{StoreMap, shape_of, bytes_of_field, with_bytes}
+use Rattle.hii_varstore.specs.Stores.{byte_of, StoreMap, shape_of, bytes_of_field, with_bytes}
 use Rattle.hii_varstore.proofs.WriteLemmas.{byte_after, shape_after}
 use Rattle.hii_questions.specs.Fields.{Asked, field_of}
 use Rattle.hii_questions.specs.Inputs.{field}

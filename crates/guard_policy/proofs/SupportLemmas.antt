@@ -22,7 +22,8 @@ use Rattle.hii_questions.specs.Answers.{answers}
 use Rattle.hii_questions.specs.code.Views.{question_node}
 use Rattle.hii_questions.specs.declared.denial.DenialKind.TheVariants.{GrayOutIf, Locked, InconsistentIf, NoSubmitIf}
 use Rattle.guard_policy.specs.Policy.{denied_by, told, or_else, is_removed, hides, hiding, hidden, grays_out, fixed_itself, fixed, all_fixed, closed, inconsistent, unsubmitted, warned}
-use Rattle.guard_policy.specs.laws.Support.{suppressing, graying_out, around, counts, conditions, denial, warning_of, ids_behind, support_over, AnswersAgree, until_met, is_by_first}
+use Rattle.guard_policy.specs.Conditions.{ids_behind}
+use Rattle.guard_policy.specs.laws.Support.{suppressing, graying_out, around, counts, conditions, denial, warning_of, support_over, AnswersAgree, until_met, is_by_first}
 use Rattle.guard_policy.specs.World.{World, is_met, is_met_over}
 use Rattle.guard_policy.specs.code.Worlds.{otherwise}
 use Rattle.guard_policy.specs.declared.denial.Denial.{Denial}

@@ -22,7 +22,8 @@ use Rattle.ifr_scopes.proofs.ScopeLemmas.{ancestor_node}
 use Rattle.hii_varstore.specs.Stores.{StoreMap}
 use Rattle.hii_questions.specs.code.Views.{question_node}
 use Rattle.guard_policy.specs.laws.Support.{IsSubjectOf, around, conditions, counts, graying_out, suppressing}
-use Rattle.guard_policy.specs.code.KeptConditions.{Tells, TellsAll, is_by_kept, is_kept}
+use Rattle.guard_policy.specs.Conditions.{is_kept}
+use Rattle.guard_policy.specs.code.KeptConditions.{Tells, TellsAll, is_by_kept}
 use Rattle.guard_policy.specs.World.{World, is_met, world_over}
 use Rattle.guard_policy.specs.code.Worlds.{is_met_at, is_met_if}
 use Rattle.guard_policy.specs.declared.support.Decision.{Decision}

@@ -1,4 +1,5 @@
 pub mod World
+pub mod Conditions
 pub mod Policy
 pub mod Warned
 pub mod code

@@ -71,11 +71,11 @@ impl<'p, 'a, 's> Conditions for Evaluated<'p, 'a, 's> {
 
 /// Conditions that are kept.
 #[derive(Drop)]
-pub(crate) struct Kept<'p, C> {
+pub(crate) struct ByConditions<'p, C> {
     pub(crate) conditions: &'p C,
 }
 
-impl<'p, 'a, C: Conditions> Verdicts<'a> for Kept<'p, C> {
+impl<'p, 'a, C: Conditions> Verdicts<'a> for ByConditions<'p, C> {
     ghost met = { λ it n. C.holding it.conditions.now n.place };
 
     fn is_met(&self, condition: AnyCondition<'a>) -> bool {

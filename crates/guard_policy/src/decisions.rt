@@ -15,7 +15,7 @@ ghost use Rattle.guard_policy.specs.code.Views.{world, world_by};
 ghost use Rattle.guard_policy.specs.code.Worlds.{is_met_at};
 ghost use Rattle.guard_policy.specs.declared.support.Decision.TheVariants.{Listed, Changeable, OptionOpen, Opens};
 
-use crate::conditions::{Conditions, Evaluated, Kept, Verdicts};
+use crate::conditions::{ByConditions, Conditions, Evaluated, Verdicts};
 use crate::denial::Denial;
 use crate::policy::Policy;
 use hii_questions::{DenialKind, Question};
@@ -81,7 +81,7 @@ impl<'a, 's> Policy<'a, 's> {
         ensures { DecidesBy (C.holding conditions.now) (world self.now)
             (Listed statement.entry) result }
     {
-        self.seen_at(statement.place(), &Kept { conditions })
+        self.seen_at(statement.place(), &ByConditions { conditions })
     }
 
     /// Whether an option of a question is shown, by the rule of `listed` and by what is kept of conditions.
@@ -97,7 +97,7 @@ impl<'a, 's> Policy<'a, 's> {
             → result ≡ denying.unless
             (spec.hidden (world self.now stores) (option_node option.entry)) }
     {
-        self.seen_at(option.place(), &Kept { conditions })
+        self.seen_at(option.place(), &ByConditions { conditions })
     }
 
     /// Whether a form is opened, by the rule of `listed`.
@@ -114,7 +114,7 @@ impl<'a, 's> Policy<'a, 's> {
         requires { IsNodeOf self.now.forms.now (form_node form) }
         ensures { DecidesBy (C.holding conditions.now) (world self.now) (Opens form.entry) result }
     {
-        self.seen_at(form.place(), &Kept { conditions })
+        self.seen_at(form.place(), &ByConditions { conditions })
     }
 
     // Whether an option may be chosen, as far as it goes: not where it is not shown, a GRAY_OUT_IF around it holds or it is
@@ -179,7 +179,7 @@ impl<'a, 's> Policy<'a, 's> {
         ensures { DecidesBy (C.holding conditions.now) (world self.now)
             (Changeable statement.entry) result }
     {
-        self.changeable_with(statement, &Kept { conditions })
+        self.changeable_with(statement, &ByConditions { conditions })
     }
 
     // Whether a question may be given a value of its options, by conditions from anywhere.
@@ -236,6 +236,6 @@ impl<'a, 's> Policy<'a, 's> {
         ensures { DecidesBy (C.holding conditions.now) (world self.now)
             (OptionOpen question.entry value) result }
     {
-        self.option_open_with(question, value, &Kept { conditions })
+        self.option_open_with(question, value, &ByConditions { conditions })
     }
 }

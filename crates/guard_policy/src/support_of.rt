@@ -6,7 +6,8 @@ ghost use Rattle.ifr_scopes.specs.code.AnyConditions.{any_condition_node};
 ghost use Rattle.ifr_scopes.specs.code.DependenceLeft.{dependence_left};
 ghost use Rattle.ifr_scopes.specs.Nodes.{nodes_of};
 ghost use Rattle.hii_varstore.specs.Stores.{StoreMap};
-ghost use Rattle.guard_policy.specs.laws.Support.{IsSubjectOf, ids_behind, support, support_at};
+ghost use Rattle.guard_policy.specs.Conditions.{ids_behind};
+ghost use Rattle.guard_policy.specs.laws.Support.{IsSubjectOf, support, support_at};
 ghost use Rattle.guard_policy.specs.code.SupportLeft.{ids_left, support_at_left, support_left};
 ghost use Rattle.guard_policy.specs.code.Views.{world};
 

@@ -14,7 +14,7 @@ ghost use Rattle.guard_policy.specs.code.WarningsLeft.{warnings_left};
 ghost use Rattle.guard_policy.specs.World.{is_met};
 ghost use Rattle.guard_policy.specs.declared.support.Decision.TheVariants.{MaySubmit};
 
-use crate::conditions::{Conditions, Kept, Verdicts, condition_holds};
+use crate::conditions::{ByConditions, Conditions, Verdicts, condition_holds};
 use crate::denial::Denial;
 use crate::policy::Policy;
 use crate::warnings::Warnings;
@@ -101,7 +101,7 @@ impl<'a, 's> Policy<'a, 's> {
     pub fn may_submit_by<C: Conditions>(&self, conditions: &C) -> Result<(), Denial>
         ensures { DecidesBy (C.holding conditions.now) (world self.now) MaySubmit result }
     {
-        self.may_submit_with(&Kept { conditions })
+        self.may_submit_with(&ByConditions { conditions })
     }
 
     /// Of what a question warns over these stores: the WARNING_IFs of it that hold, by place.

@@ -17,6 +17,7 @@ use Rattle.hii_questions.specs.code.Ranges.{range_in}
 use Rattle.hii_questions.specs.code.Tables.{AreQuestions}
 use Rattle.hii_questions.specs.code.Views.{question_node, question_view}
 use Rattle.hii_questions.specs.declared.field_range.FieldRange.{FieldRange}
+use Rattle.hii_questions.specs.declared.merging.Step.{Step}
 use Rattle.hii_questions.specs.declared.question.Question.{Question}
 use Rattle.hii_questions.specs.laws.Fields.{HaveTheField}
 use Rattle.hii_questions.proofs.OrderLemmas.{filter_mapped}
@@ -50,7 +51,7 @@ tells (Some g) f = same_tells g f
 pub ties_are : (f : FieldRange) → ◌≡◌ {A = Question → Bool} (λ q. is_eq (option_cmp range_cmp q.field (Some f))) (λ q. has_field (range_in f) (question_view q))
 ties_are f = λ i q. tells q.field f i
 
-module _ (ifr : List ℕ) (qs : List Question) (ids : BTreeMap ℕ Question) (fs ps : List Question) (are : AreQuestions ifr qs ids fs ps) (f : FieldRange) where
+module _ (ifr : List ℕ) (qs : List Question) (ids : BTreeMap ℕ Question) (fs ps : List Question) (ss : List Step) (are : AreQuestions ifr qs ids fs ps ss) (f : FieldRange) where
   pub fields_are : map question_view (filter (λ q. has_field (range_in f) (question_view q)) fs) ≡ filter (has_field (range_in f)) (questions (nodes_of ifr))
   fields_are =
       ap (map question_view) (are.ordered.kept f) ∙ sym (filter_mapped question_view (has_field (range_in f)) qs) ∙ ap (filter (has_field (range_in f))) are.placed

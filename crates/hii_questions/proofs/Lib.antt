@@ -13,3 +13,5 @@ pub mod KeptLemmas
 pub mod ApartLemmas
 pub mod LawLemmas
 pub mod NamedLemmas
+pub mod MergeLemmas
+pub mod StepLemmas

@@ -19,6 +19,7 @@ use Rattle.hii_varstore.specs.StoreNodes.{layout_of}
 use Rattle.hii_questions.specs.Fields.{Asked, asked_at, questions}
 use Rattle.hii_questions.specs.code.Tables.{first_at, AreQuestions}
 use Rattle.hii_questions.specs.code.Views.{question_node, question_view}
+use Rattle.hii_questions.specs.declared.merging.Step.{Step}
 use Rattle.hii_questions.specs.declared.question.Question.{Question}
 use Rattle.hii_questions.proofs.PartLemmas.{lower, some_within}
 use Rattle.hii_questions.proofs.QuestionLemmas.{found_mapped}
@@ -90,7 +91,7 @@ questions_rise bytes qs accepted placed =
     let within = some_within is_question ns 4 high (nodes_within f 4 [] accepted.checked.spelled.are_nodes) in
     rise_asked (layout_of ns) (filter is_question ns) qs 0 high (lower (filter is_question ns) 4 high 0 high within (omega arith) (omega arith)) placed
 
-module _ (ifr : List ℕ) (qs : List Question) (ids : BTreeMap ℕ Question) (fs ps : List Question) (are : AreQuestions ifr qs ids fs ps) (p at : ℕ) where
+module _ (ifr : List ℕ) (qs : List Question) (ids : BTreeMap ℕ Question) (fs ps : List Question) (ss : List Step) (are : AreQuestions ifr qs ids fs ps ss) (p at : ℕ) where
   first_is : first_at (questions (nodes_of ifr)) p ≡ option_map question_view (find (λ q. eqb (place_of q) p) qs)
   first_is = ap (λ (all : List Asked). first_at all p) (sym are.placed) ∙ found_mapped question_view (λ (a : Asked). eqb a.node.place p) qs
 

@@ -8,10 +8,13 @@ pub mod FaultTells
 pub mod Fitting
 pub mod ItemsLeft
 pub mod Lists
+pub mod Merging
 pub mod NewBytes
+pub mod Numbers
 pub mod Offers
 pub mod Over
 pub mod Ranges
+pub mod Steps
 pub mod StoredLeft
 pub mod Survey
 pub mod Tables

@@ -16,9 +16,26 @@ pub struct FieldRange {
 }
 
 impl FieldRange {
-    ghost use Rattle.std.specs.Prelude.{◌≡◌, ◌+◌, nat_lt};
+    ghost use Rattle.std.specs.Prelude.{◌≡◌, ◌+◌, ◌<◌, nat_lt};
     ghost use Rattle.hii_questions.specs.Fields.{meets};
+    ghost use Rattle.hii_questions.specs.code.Numbers.{first_of, behind_of};
     ghost use Rattle.hii_questions.specs.code.Ranges.{range_in};
+
+    /// The number of its first byte among the bytes of all stores.
+    pub fn first(self) -> u64
+        ensures number { result ≡ first_of self }
+        // An offset has two bytes.
+        ensures small { self.offset < 65536 }
+    {
+        u64::from(self.store) * 131_072 + u64::from(self.offset)
+    }
+
+    /// The number behind that of its last byte. What reaches further than a store may is cut off.
+    pub fn behind(self) -> u64
+        ensures { result ≡ behind_of self }
+    {
+        self.first() + self.width.min(65_536) as u64
+    }
 
     /// Whether two fields have a byte in common.
     pub fn meets(self, other: FieldRange) -> bool

@@ -1,12 +1,9 @@
 //! The passwords of a form set.
 
 ghost use Rattle.std.specs.Prelude.{◌≡◌, IfOk, filter};
-ghost use Rattle.std.specs.List.{find};
-ghost use Rattle.hii_questions.specs.Fields.{field_passes, is_password, meets};
-ghost use Rattle.hii_questions.specs.code.Ranges.{range_in};
-ghost use Rattle.hii_questions.specs.code.Views.{question_node, question_view};
+ghost use Rattle.hii_questions.specs.Fields.{is_password};
+ghost use Rattle.hii_questions.specs.code.Views.{question_node};
 
-use crate::field_range::FieldRange;
 use crate::question::Question;
 use std::alloc::{AllocError, Global};
 
@@ -25,17 +22,4 @@ pub(crate) fn passwords_among<'a>(
         }
     }
     Ok(passwords)
-}
-
-/// The first of some questions whose field has a byte of this one.
-pub(crate) fn first_in<'a>(questions: &[Question<'a>], field: FieldRange) -> Option<Question<'a>>
-    ensures { result
-        ≡ find (λ q. field_passes (meets (range_in field)) (question_view q).field) questions.now }
-{
-    for question in questions {
-        if question.meets(field) {
-            return Some(*question);
-        }
-    }
-    None
 }

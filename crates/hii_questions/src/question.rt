@@ -29,7 +29,7 @@ impl<'a> Question<'a> {
     ghost use Rattle.std.specs.Prelude.{if◌then◌else◌, Some, None, option_map};
     ghost use Rattle.ifr_opcodes.specs.Fields.{question_id};
     ghost use Rattle.ifr_opcodes.specs.code.Ops.{bytes_of};
-    ghost use Rattle.hii_questions.specs.Fields.{asked_at, field_passes, is_password, meets};
+    ghost use Rattle.hii_questions.specs.Fields.{asked_at, is_password};
     ghost use Rattle.hii_questions.specs.code.Ranges.{range_in};
     ghost use Rattle.hii_questions.specs.code.Views.{question_node, question_view};
 
@@ -89,15 +89,5 @@ impl<'a> Question<'a> {
         ensures { result ≡ is_password (question_node self.entry) }
     {
         self.op.op.code == PASSWORD
-    }
-
-    /// Whether its field has a byte of this one.
-    pub(crate) fn meets(self, field: FieldRange) -> bool
-        ensures { result ≡ field_passes (meets (range_in field)) (question_view self.entry).field }
-    {
-        match self.field {
-            Some(own) => field.meets(own),
-            None => false,
-        }
     }
 }

@@ -17,9 +17,11 @@ ghost use Rattle.hii_questions.specs.code.Views.{question_view};
 use crate::by_field::{questions_by_field, questions_with};
 use crate::check::check_questions;
 use crate::field_range::FieldRange;
+use crate::merging::Step;
 use crate::over::Over;
-use crate::passwords::{first_in, passwords_among};
+use crate::passwords::passwords_among;
 use crate::question::Question;
+use crate::steps::{first_in, steps_among};
 use crate::tables::{questions_by_id, questions_by_place, store_ids};
 use hii_bytes::Fault;
 use hii_varstore::{Layout, Stores};
@@ -37,6 +39,7 @@ pub struct Questions<'a> {
     by_id: BTreeMap<u16, Question<'a>>,
     by_field: Vec<Question<'a>>,
     passwords: Vec<Question<'a>>,
+    password_steps: Vec<Step>,
 }
 
 impl<'a> Model for Questions<'a> {
@@ -49,7 +52,7 @@ impl<'a> Model for Questions<'a> {
     ghost view = { λ s. record { ifr = s.ifr.now } };
 
     ghost invariant = { λ s. AreQuestions s.ifr.now s.by_place.items s.by_id s.by_field.items
-        s.passwords.items };
+        s.passwords.items s.password_steps.items };
 }
 
 impl<'a> Questions<'a> {
@@ -75,6 +78,7 @@ impl<'a> Questions<'a> {
         let by_id = questions_by_id(alloc, &by_place)?;
         let by_field = questions_by_field(alloc, &by_place)?;
         let passwords = passwords_among(alloc, &by_place)?;
+        let password_steps = steps_among(alloc, &passwords)?;
         let ids = store_ids(alloc, forms)?;
         check_questions(&by_place, layout, &ids)?;
         Ok(Questions {
@@ -83,6 +87,7 @@ impl<'a> Questions<'a> {
             by_id,
             by_field,
             passwords,
+            password_steps,
         })
     }
 
@@ -127,7 +132,7 @@ impl<'a> Questions<'a> {
         ensures { option_map question_view result
             ≡ find (is_password_in (range_in field)) (questions (nodes_of self.now.ifr)) }
     {
-        first_in(&self.passwords, field)
+        first_in(&self.passwords, &self.password_steps, field)
     }
 
     /// All questions, by place.

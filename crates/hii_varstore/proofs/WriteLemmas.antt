@@ -5,8 +5,7 @@ use Rattle.std.specs.Option.{IsSomeAnd, option_and_then}
 use Rattle.std.proofs.lemmas.List.{places, same_lists}
 use Rattle.std.proofs.lemmas.Option.{slice_get-get_or, slice_get_past}
 use Rattle.std.proofs.lemmas.Bool.{cases_Bool, cases_lt, eqb-true, eq-eqb, ne_eqb, eqb-false}
-use Rattle.hii_varstore.specs.Stores.{Store, StoreMap, buffer_of, shape_of, bytes_of, bytes_of_field, overwritten, store_with, with_bytes}
-use Rattle.hii_varstore.specs.laws.Bytes.{byte_of}
+use Rattle.hii_varstore.specs.Stores.{Store, StoreMap, buffer_of, shape_of, bytes_of, bytes_of_field, overwritten, store_with, with_bytes, byte_of}
 use Rattle.hii_varstore.specs.Layout.{size_of}
 use Rattle.hii_varstore.specs.code.Ranges.{HasRange}
 use Rattle.hii_varstore.specs.declared.buffer.Buffer.{Buffer}

@@ -4,4 +4,3 @@ pub mod StoreNodes
 pub mod Image
 pub mod Faults
 pub mod code
-pub mod laws

@@ -1,5 +1,5 @@
 -- What the buffer stores of a form set hold: a finite map from the ids of the stores to their bytes (own rule).
-use Rattle.std.specs.Prelude.{ℕ, ◌+◌, ◌==◌, if◌then◌else◌, List, ◌++◌, length, map, take, drop, slice_range, Option, option_map}
+use Rattle.std.specs.Prelude.{ℕ, ◌+◌, ◌==◌, if◌then◌else◌, List, ◌++◌, length, map, take, drop, slice_get, slice_range, Option, option_and_then, option_map}
 use Rattle.std.specs.List.{find}
 use Rattle.hii_varstore.specs.declared.buffer.Buffer.{Buffer}
 use Rattle.hii_varstore.specs.Layout.{Shape}
@@ -24,6 +24,10 @@ shape_of m = record { guid = m.guid; buffers = map buffer_of m.stores }
 -- the bytes of the store of an id
 abbrev pub bytes_of : StoreMap → ℕ → Option (List ℕ)
 bytes_of m id = option_map (λ s. s.bytes) (find (λ s. s.id == id) m.stores)
+
+-- one of them
+abbrev pub byte_of : StoreMap → ℕ → ℕ → Option ℕ
+byte_of m id at = option_and_then (λ bytes. slice_get bytes at) (bytes_of m id)
 
 -- the bytes of a range of the store of an id
 abbrev pub bytes_of_field : StoreMap → ℕ → ℕ → ℕ → Option (List ℕ)

@@ -4,8 +4,7 @@ ghost use Rattle.std.specs.Prelude.{◌≡◌, ◌⊎◌, ◌+◌, ◌≤◌, �
 ghost use Rattle.hii_bytes.specs.Faults.{HasNone};
 ghost use Rattle.hii_varstore.specs.Layout.{Shape, size_of};
 ghost use Rattle.hii_varstore.specs.code.Ranges.{HasRange};
-ghost use Rattle.hii_varstore.specs.Stores.{StoreMap, shape_of, bytes_of, bytes_of_field, overwritten, with_bytes};
-ghost use Rattle.hii_varstore.specs.laws.Bytes.{byte_of};
+ghost use Rattle.hii_varstore.specs.Stores.{StoreMap, shape_of, bytes_of, bytes_of_field, overwritten, with_bytes, byte_of};
 ghost use Rattle.hii_varstore.specs.Image.{image_of, older_image_of, SpellsImage};
 ghost use Rattle.hii_varstore.specs.Faults.{IsImageFault};
 

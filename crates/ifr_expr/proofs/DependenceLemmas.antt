@@ -7,10 +7,11 @@ use Rattle.ifr_opcodes.specs.declared.codes.TheConstants.{EQ_ID_VAL, EQ_ID_ID, E
 use Rattle.ifr_opcodes.specs.Fields.{eq_id_val_value, eq_id_id_first, eq_id_id_second, eq_id_val_list_values, rule_ref_rule}
 use Rattle.ifr_opcodes.specs.Opcode.{number}
 use Rattle.ifr_opcodes.specs.Forest.{Mark}
-use Rattle.ifr_expr.specs.laws.Dependence.{own, ids_behind, ids_over, rule_ids, dependence, Agree}
+use Rattle.ifr_expr.specs.Dependence.{own, ids_behind, ids_over, rule_ids, dependence}
+use Rattle.ifr_expr.specs.laws.Agreement.{Agree}
 use Rattle.ifr_expr.specs.Meaning.{Rule, answered, names, leaf_value, value_over, rule_values, value}
 use Rattle.ifr_expr.specs.code.Rules.{named, AreOrdered}
-use Rattle.ifr_expr.specs.laws.Support.{ids_of}
+use Rattle.ifr_expr.specs.Support.{ids_of}
 use Rattle.ifr_expr.specs.Trees.{Tree, leaf, one, two, post}
 use Rattle.ifr_expr.specs.Values.{Value, natural, are_same, is_one_of, unary_value, binary_value}
 use Rattle.ifr_expr.proofs.RuleLemmas.{Below, found_by}

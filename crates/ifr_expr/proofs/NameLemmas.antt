@@ -8,7 +8,7 @@ use Rattle.ifr_opcodes.specs.Forest.{Mark}
 use Rattle.ifr_opcodes.specs.Opcode.{number}
 use Rattle.ifr_opcodes.specs.Reading.{cut}
 use Rattle.ifr_expr.specs.code.Checked.{marks}
-use Rattle.ifr_expr.specs.laws.Support.{ids_of, ids_named}
+use Rattle.ifr_expr.specs.Support.{ids_of, ids_named}
 use Rattle.ifr_expr.specs.code.Names.{names_of, names_among}
 use Rattle.ifr_expr.specs.code.Bytes.{to_end, AreOpcodes}
 use Rattle.ifr_expr.specs.code.Supports.{id_of}

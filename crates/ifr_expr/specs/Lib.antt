@@ -5,5 +5,7 @@ pub mod Faults
 pub mod Reading
 pub mod Meaning
 pub mod References
+pub mod Support
+pub mod Dependence
 pub mod code
 pub mod laws

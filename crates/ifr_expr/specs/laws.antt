@@ -1,3 +1,2 @@
 -- What the laws of the crate say, and the words that they alone need.
-pub mod Dependence
-pub mod Support
+pub mod Agreement

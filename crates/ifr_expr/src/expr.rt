@@ -28,7 +28,7 @@ impl<'a> Expr<'a> {
     ghost use Rattle.ifr_expr.specs.code.Expressions.{tree_of, end_of, operators_left};
     ghost use Rattle.ifr_expr.specs.Faults.{IsOpcodeFault, IsExpressionFault};
     ghost use Rattle.ifr_expr.specs.Meaning.{value};
-    ghost use Rattle.ifr_expr.specs.laws.Support.{support};
+    ghost use Rattle.ifr_expr.specs.Support.{support};
     ghost use Rattle.ifr_expr.specs.code.Names.{names_in};
     ghost use Rattle.ifr_expr.specs.code.NamesLeft.{names_left};
     ghost use Rattle.ifr_expr.specs.code.Bytes.{IsExpressionNode, opcodes_of};

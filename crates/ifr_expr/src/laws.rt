@@ -2,7 +2,8 @@
 
 ghost use Rattle.std.specs.Prelude.{◌≡◌, ℕ, List};
 ghost use Rattle.ifr_opcodes.specs.Forest.{Mark};
-ghost use Rattle.ifr_expr.specs.laws.Dependence.{Agree, dependence};
+ghost use Rattle.ifr_expr.specs.Dependence.{dependence};
+ghost use Rattle.ifr_expr.specs.laws.Agreement.{Agree};
 ghost use Rattle.ifr_expr.specs.Meaning.{Rule, rule_values, value};
 ghost use Rattle.ifr_expr.specs.code.Rules.{AreOrdered, named};
 ghost use Rattle.ifr_expr.specs.Trees.{Tree, Means};

@@ -31,7 +31,7 @@ enum Named {
 }
 
 // What an operator names, in its order.
-#[tactic(auto, unfolding(crate::specs::laws::Support::ids_of))]
+#[tactic(auto, unfolding(crate::specs::Support::ids_of))]
 fn named_by(op: ExprOp) -> Named
     ensures { names_by result ≡ names_of (op_of (operator op.entry)) }
 {

@@ -10,10 +10,10 @@ use Rattle.ifr_opcodes.specs.declared.codes.TheConstants.{EQ_ID_VAL, EQ_ID_ID, E
 use Rattle.ifr_opcodes.specs.Fields.{eq_id_val_question, eq_id_id_first, eq_id_id_second, eq_id_val_list_question, question_ref_question, rule_ref_rule}
 use Rattle.ifr_opcodes.specs.Forest.{Mark}
 use Rattle.ifr_opcodes.specs.Opcode.{number}
-use Rattle.ifr_expr.specs.laws.Dependence.{own, ids_behind, rule_ids, dependence}
+use Rattle.ifr_expr.specs.Dependence.{own, ids_behind, rule_ids, dependence}
 use Rattle.ifr_expr.specs.Meaning.{Rule}
 use Rattle.ifr_expr.specs.code.Rules.{AreOrdered, named}
-use Rattle.ifr_expr.specs.laws.Support.{ids_of}
+use Rattle.ifr_expr.specs.Support.{ids_of}
 use Rattle.ifr_expr.specs.code.Names.{names_of, names_among, names_in}
 use Rattle.ifr_expr.specs.code.NamesLeft.{names_left}
 use Rattle.ifr_expr.specs.References.{references, references_among}

@@ -26,7 +26,7 @@ pub struct Dependence<'s, 'a> {
 
 impl<'a> Forms<'a> {
     ghost use Rattle.std.specs.Prelude.{◌≡◌};
-    ghost use Rattle.ifr_expr.specs.laws.Dependence.{dependence};
+    ghost use Rattle.ifr_expr.specs.Dependence.{dependence};
     ghost use Rattle.ifr_expr.specs.code.Expressions.{tree_of};
     ghost use Rattle.ifr_scopes.specs.code.DependenceLeft.{dependence_left};
 

@@ -1,20 +1,26 @@
 //! A forms package that was read.
 
-ghost use Rattle.std.specs.Prelude.{◌≡◌, ◌∷◌, true, List, IfOk, IfErr, filter, map, option_map};
+ghost use Rattle.std.specs.Prelude.{◌≡◌, ◌∷◌, true, List, IfOk, IfErr, IfSome, filter, map, option_map};
+ghost use Rattle.std.specs.List.{find};
 ghost use Rattle.hii_bytes.specs.Faults.{Refuses};
 ghost use Rattle.ifr_opcodes.specs.Forest.{Placed};
 ghost use Rattle.ifr_opcodes.specs.Opcode.{number};
+ghost use Rattle.ifr_expr.specs.Meaning.{names};
+ghost use Rattle.ifr_expr.specs.code.Rules.{AreOrdered};
 ghost use Rattle.ifr_scopes.specs.Accepted.{IsAccepted, IsPackageFault};
 ghost use Rattle.ifr_scopes.specs.code.AnyConditions.{any_condition_node};
 ghost use Rattle.ifr_scopes.specs.code.Checked.{IsNodeOf, has_form, node_in};
 ghost use Rattle.ifr_scopes.specs.Guards.{is_guard};
 ghost use Rattle.ifr_scopes.specs.code.Index.{conditional_at, guards_of_indexed, lock_of_indexed};
 ghost use Rattle.ifr_scopes.specs.code.Kept.{AreKept};
-ghost use Rattle.ifr_scopes.specs.code.Lists.{form_node, form_set_node, stores_left, all_guards_left, forms_left, statements_left, guards_left};
+ghost use Rattle.ifr_scopes.specs.code.Lists.{form_node, form_set_node, rule_node, stores_left, all_guards_left, forms_left, rules_left, statements_left, guards_left};
 ghost use Rattle.ifr_scopes.specs.code.LocksLeft.{lock_node};
 ghost use Rattle.ifr_scopes.specs.Nodes.{nodes_of, is_form, is_store, is_statement, is_no_submit};
 ghost use Rattle.ifr_scopes.specs.code.NoSubmitsLeft.{no_submits_left};
 ghost use Rattle.ifr_scopes.specs.References.{form_with};
+ghost use Rattle.ifr_scopes.specs.Rules.{is_rule, as_rule, rule_nodes};
+ghost use Rattle.ifr_scopes.specs.code.Rules.{rules_of};
+ghost use Rattle.ifr_scopes.specs.code.Views.{node_of};
 
 use crate::any_condition::AnyCondition;
 use crate::condition_index::{ConditionIndex, conditions_of};
@@ -30,9 +36,11 @@ use crate::index::{Index, index_of};
 use crate::lock_index::{LockIndex, locks_of};
 use crate::locks::LockView;
 use crate::no_submits::{NoSubmitPlace, NoSubmits, no_submits_of};
+use crate::node::Node;
 use crate::nodes::Nodes;
 use crate::places::node_at;
 use crate::references::check_references;
+use crate::rule::{RuleView, RuleViews};
 use crate::rules::{RuleTable, expression_of};
 use crate::scoped_nodes::ScopedNodes;
 use crate::statement::Statements;
@@ -165,6 +173,36 @@ impl<'a> Forms<'a> {
         Some(self.form_at(*place))
     }
 
+    /// The rules of all forms, by place.
+    pub fn rules(&self) -> RuleViews<'a>
+        ensures { rules_left result ≡ filter is_rule (nodes_of self.now) }
+    {
+        RuleViews {
+            nodes: Nodes::over(self.ifr),
+        }
+    }
+
+    // The node of the rule that a reference to an id at a place names, if there is one.
+    fn node_named(&self, id: u8, place: u32) -> Option<Node<'a>>
+        ensures ordered { AreOrdered (rules_of self.now) }
+        ensures rule { IfSome result (λ node. is_rule (node_of node) ≡ true) }
+        ensures named { option_map node_of result
+            ≡ find (λ n. names id place (as_rule n)) (rule_nodes (nodes_of self.now)) }
+    {
+        let rule = self.rules.named(id, place)?;
+        Some(node_at(self.ifr, rule.place))
+    }
+
+    /// The rule that a reference to an id names, if there is one. The place of the reference is in bytes from the
+    /// package's header.
+    pub fn rule_named(&self, id: u8, place: u32) -> Option<RuleView<'a>>
+        ensures { option_map rule_node result
+            ≡ find (λ n. names id place (as_rule n)) (rule_nodes (nodes_of self.now)) }
+    {
+        let node = self.node_named(id, place)?;
+        Some(RuleView { node })
+    }
+
     /// The statements of all forms, by place.
     pub fn statements(&self) -> Statements<'a>
         ensures { statements_left result ≡ filter is_statement (nodes_of self.now) }
@@ -232,14 +270,10 @@ impl<'a> Forms<'a> {
 }
 
 impl<'a> Rules<'a> for Forms<'a> {
-    ghost use Rattle.ifr_scopes.specs.code.Rules.{rules_of};
-
     ghost rules = { λ forms. rules_of forms };
 
     fn rule(&self, id: u8, place: u32) -> Option<Expr<'a>> {
-        let Some(rule) = self.rules.named(id, place) else {
-            return None;
-        };
-        Some(expression_of(node_at(self.ifr, rule.place)))
+        let node = self.node_named(id, place)?;
+        Some(expression_of(node))
     }
 }

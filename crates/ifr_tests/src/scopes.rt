@@ -156,3 +156,21 @@ fn questions_behind_rules(rt: HostRuntime) -> Result<(), Fail> {
     assert_eq!(rt; (ids.next(), ids.next()), (Some(7), None));
     Ok(())
 }
+
+#[test]
+fn rules_by_place_and_by_id(rt: HostRuntime) -> Result<(), Fail> {
+    let (bytes, len) = with(&DEPENDENT);
+    let forms = forms_of(rt.alloc(), &bytes[..len])?;
+    let mut rules = forms.rules();
+    for rule in [rules.next(), forms.rule_named(5, 46)] {
+        let rule = rule.expect(&rt, "a rule");
+        assert_eq!(rt; rule.place(), 33);
+        assert_eq!(rt; rule.expression().support().next(), Some(7));
+    }
+    assert!(rt; rules.next().is_none());
+    // a place inside of the rule, and an id that no rule has
+    for (id, place) in [(5, 43), (6, 46)] {
+        assert!(rt; forms.rule_named(id, place).is_none());
+    }
+    Ok(())
+}

@@ -64,6 +64,17 @@ fn fields_meet_where_they_have_a_byte_in_common(rt: HostRuntime) {
 }
 
 #[test]
+fn bytes_of_all_stores_have_numbers(rt: HostRuntime) {
+    for (field, first, behind) in [
+        (range(4, 2), 131_076, 131_078),
+        (range(4, 0), 131_076, 131_076),
+        (range(65_535, 100_000), 196_607, 262_143),
+    ] {
+        assert_eq!(rt; (field.first(), field.behind()), (first, behind));
+    }
+}
+
+#[test]
 fn questions_are_found_by_their_fields(rt: HostRuntime) -> Result<(), Fail> {
     let alloc = rt.alloc();
     let (bytes, len) = package();

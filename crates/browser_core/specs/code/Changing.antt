@@ -6,8 +6,7 @@ use Rattle.ifr_opcodes.specs.Forest.{Placed}
 use Rattle.ifr_scopes.specs.Nodes.{nodes_of}
 use Rattle.hii_varstore.specs.Layout.{Shape}
 use Rattle.hii_varstore.specs.code.Ranges.{HasRange}
-use Rattle.hii_varstore.specs.laws.Bytes.{byte_of}
-use Rattle.hii_varstore.specs.Stores.{StoreMap, shape_of, with_bytes}
+use Rattle.hii_varstore.specs.Stores.{byte_of, StoreMap, shape_of, with_bytes}
 use Rattle.hii_questions.specs.Fields as fields
 use Rattle.hii_questions.specs.Fields.{Asked, is_password}
 use Rattle.hii_questions.specs.Inputs.{Offer}

@@ -7,7 +7,7 @@ use Rattle.config_text.specs.declared.kind.TextKind.TheVariants.{Tell}
 use Rattle.ifr_opcodes.specs.Fields.{reset_default}
 use Rattle.ifr_opcodes.specs.Forest.{Placed}
 use Rattle.ifr_scopes.specs.Nodes.{nodes_of}
-use Rattle.hii_varstore.specs.laws.Bytes.{byte_of}
+use Rattle.hii_varstore.specs.Stores.{byte_of}
 use Rattle.hii_questions.specs.Fields.{Field, field_of, question_with}
 use Rattle.hii_commands.specs.Orders.{Order, SetValue, OrderElements, SetText, PressButton, TakeDefaults, RouteConfiguration}
 use Rattle.browser_core.specs.State.{State, world_of}

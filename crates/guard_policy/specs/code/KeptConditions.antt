@@ -1,12 +1,10 @@
 -- What is kept of conditions, and how it decides.
-use Rattle.std.specs.Prelude.{◌≡◌, ℕ, Bool, true, false, ◌==◌, ◌||◌, Result, List, filter}
+use Rattle.std.specs.Prelude.{◌≡◌, ℕ, Bool, true, false, Result, List, filter}
 use Rattle.std.proofs.Props.{props}
 use Rattle.std.specs.List.{AllByRecursion, AllByRecursion-prop}
-use Rattle.ifr_opcodes.specs.declared.codes.TheConstants.{SUPPRESS_IF, GRAY_OUT_IF}
 use Rattle.ifr_opcodes.specs.Forest.{Placed}
-use Rattle.ifr_opcodes.specs.Opcode.{number}
-use Rattle.ifr_scopes.specs.Nodes.{is_no_submit}
 use Rattle.hii_varstore.specs.Stores.{StoreMap}
+use Rattle.guard_policy.specs.Conditions.{is_kept}
 use Rattle.guard_policy.specs.World.{World, is_met}
 use Rattle.guard_policy.specs.code.Answers.{unless}
 use Rattle.guard_policy.specs.declared.denial.Denial.{Denial}
@@ -17,10 +15,6 @@ use Rattle.guard_policy.specs.laws.Support.{conditions, denial}
 -- What is kept by place tells of these conditions whether they hold.
 abbrev pub Tells : (ℕ → Bool) → World → List Placed → Type 0
 Tells holding w cs = AllByRecursion (λ c. holding c.place ≡ is_met w c) cs
-
--- the conditions that may be kept: those of SUPPRESS_IF, GRAY_OUT_IF and NO_SUBMIT_IF
-abbrev pub is_kept : Placed → Bool
-is_kept n = number n.op == SUPPRESS_IF || number n.op == GRAY_OUT_IF || is_no_submit n
 
 -- What is kept by place tells of all of them.
 abbrev pub TellsAll : (ℕ → Bool) → World → Type 0

@@ -5,17 +5,16 @@ use Rattle.ifr_opcodes.specs.declared.codes.TheConstants.{SUPPRESS_IF, GRAY_OUT_
 use Rattle.ifr_opcodes.specs.Fields.{option_value}
 use Rattle.ifr_opcodes.specs.Forest.{Placed}
 use Rattle.ifr_opcodes.specs.Opcode.{number}
-use Rattle.ifr_expr.specs.laws.Dependence.{dependence, Agree}
+use Rattle.ifr_expr.specs.laws.Agreement.{Agree}
 use Rattle.ifr_scopes.specs.code.Checked.{IsNodeOf}
-use Rattle.ifr_scopes.specs.Conditions.{expression_tree}
 use Rattle.ifr_scopes.specs.Guards.{guards}
 use Rattle.ifr_scopes.specs.code.Index.{conditional_at}
 use Rattle.ifr_scopes.specs.code.Lists.{form_node, statement_node}
-use Rattle.ifr_scopes.specs.Nodes.{is_no_submit, options, inconsistents, warnings, this_of}
-use Rattle.ifr_scopes.specs.Rules.{rules_among}
+use Rattle.ifr_scopes.specs.Nodes.{is_no_submit, options, inconsistents, warnings}
 use Rattle.hii_varstore.specs.Stores.{StoreMap}
 use Rattle.hii_questions.specs.Answers.{answers}
 use Rattle.hii_questions.specs.code.Views.{question_node}
+use Rattle.guard_policy.specs.Conditions.{ids_behind}
 use Rattle.guard_policy.specs.World.{World, is_met}
 use Rattle.guard_policy.specs.Policy.{is_removed, hidden, fixed, closed, inconsistent, unsubmitted, warned}
 use Rattle.guard_policy.specs.declared.denial.Denial.{Denial}
@@ -72,10 +71,7 @@ abbrev pub warning_of : World → Decision → List Placed
 warning_of w (Warnings question) = warned w (question_node question)
 warning_of w _ = []
 
--- the questions on whose answers a condition depends
-abbrev pub ids_behind : List Placed → Placed → List ℕ
-ids_behind ns c = dependence (rules_among ns) (this_of c) (expression_tree c)
-
+-- the questions on whose answers some conditions depend
 abbrev pub support_over : List Placed → List Placed → List ℕ
 support_over ns cs = flat_map (ids_behind ns) cs
 

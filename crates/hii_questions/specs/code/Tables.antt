@@ -8,7 +8,9 @@ use Rattle.ifr_opcodes.specs.Fields.{question_id}
 use Rattle.ifr_scopes.specs.Nodes.{nodes_of}
 use Rattle.hii_questions.specs.Fields.{Asked, questions, is_password}
 use Rattle.hii_questions.specs.code.ByField.{AreByField}
+use Rattle.hii_questions.specs.code.Steps.{AreSteps}
 use Rattle.hii_questions.specs.code.Views.{question_node, question_view}
+use Rattle.hii_questions.specs.declared.merging.Step.{Step}
 use Rattle.hii_questions.specs.declared.question.Question.{Question}
 
 -- the first of some questions with an id
@@ -20,12 +22,13 @@ abbrev pub first_at : List Asked → ℕ → Option Asked
 first_at qs place = find (λ q. q.node.place == place) qs
 
 -- These are the questions of a package, whose places rise, the first of each id, those in the order of their fields, and the
--- passwords among them.
+-- passwords among them, with the steps that tell of each byte the first of these.
 pub record AreQuestions (ifr : List ℕ) (by_place : List Question)
-    (by_id : BTreeMap ℕ Question) (by_field passwords : List Question) : Type 0 where
+    (by_id : BTreeMap ℕ Question) (by_field passwords : List Question) (steps : List Step) : Type 0 where
   pub placed : map question_view by_place ≡ questions (nodes_of ifr)
   pub rise : Rise (λ (q : Question). (question_node q).place) 0 by_place
   pub found : (id : ℕ) → option_map question_view (get nat_cmp by_id id)
       ≡ first_with (questions (nodes_of ifr)) id
   pub ordered : AreByField by_place by_field
   pub secret : passwords ≡ filter (λ q. is_password (question_node q)) by_place
+  pub told : AreSteps passwords steps

@@ -6,7 +6,7 @@ use Rattle.ifr_opcodes.specs.declared.codes.TheConstants.{RULE_REF, THIS}
 use Rattle.ifr_opcodes.specs.Opcode.{number}
 use Rattle.ifr_opcodes.specs.Fields.{rule_ref_rule}
 use Rattle.ifr_opcodes.specs.Forest.{Mark}
-use Rattle.ifr_expr.specs.laws.Support.{ids_of}
+use Rattle.ifr_expr.specs.Support.{ids_of}
 use Rattle.ifr_expr.specs.Trees.{Tree, post}
 use Rattle.ifr_expr.specs.declared.names.Name.{Name}
 use Rattle.ifr_expr.specs.declared.names.Name.TheVariants.{Question, This, Rule}

@@ -3,7 +3,7 @@ use Rattle.std.specs.Prelude.{ℕ, ◌+◌, ◌≤◌, List, [], ◌∷◌, leng
 use Rattle.std.specs.Coded.{×_prop, Unit-prop}
 use Rattle.std.specs.List.{flat_map}
 use Rattle.std.proofs.Props.{props}
-use Rattle.ifr_expr.specs.laws.Dependence.{own, rule_ids}
+use Rattle.ifr_expr.specs.Dependence.{own, rule_ids}
 use Rattle.ifr_expr.specs.Meaning.{Rule}
 use Rattle.ifr_expr.specs.code.NamesLeft.{names_left}
 use Rattle.ifr_expr.specs.declared.names.Name.{Name}

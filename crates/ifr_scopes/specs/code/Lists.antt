@@ -6,6 +6,7 @@ use Rattle.ifr_scopes.specs.code.Checked.{node_in}
 use Rattle.ifr_opcodes.specs.Opcode.{number}
 use Rattle.ifr_scopes.specs.Guards.{is_guard}
 use Rattle.ifr_scopes.specs.Nodes.{is_form, is_store, is_statement}
+use Rattle.ifr_scopes.specs.Rules.{is_rule}
 use Rattle.ifr_scopes.specs.code.Views.{node_of, nodes_left}
 use Rattle.ifr_scopes.specs.code.Visits.{left}
 use Rattle.ifr_scopes.specs.declared.guard.Guard.{Guard}
@@ -17,6 +18,8 @@ use Rattle.ifr_scopes.specs.declared.guards_at.GuardsAt.{GuardsAt}
 use Rattle.ifr_scopes.specs.declared.guards_of.GuardsOf.{GuardsOf}
 use Rattle.ifr_scopes.specs.declared.form.Form.{Form}
 use Rattle.ifr_scopes.specs.declared.form.FormViews.{FormViews}
+use Rattle.ifr_scopes.specs.declared.rule.RuleView.{RuleView}
+use Rattle.ifr_scopes.specs.declared.rule.RuleViews.{RuleViews}
 use Rattle.ifr_scopes.specs.declared.varstore.StoreOp.{StoreOp}
 use Rattle.ifr_scopes.specs.declared.varstore.StoreOp.TheVariants as store
 use Rattle.ifr_scopes.specs.declared.statement.Statement.{Statement}
@@ -24,12 +27,15 @@ use Rattle.ifr_scopes.specs.declared.statement.StatementKind.{StatementKind}
 use Rattle.ifr_scopes.specs.declared.statement.StatementKind.TheVariants as kind
 use Rattle.ifr_scopes.specs.declared.statement.Statements.{Statements}
 
--- a guard, a form and a statement as nodes
+-- a guard, a form, a rule and a statement as nodes
 abbrev pub guard_node : Guard → Placed
 guard_node guard = node_of guard.node
 
 abbrev pub form_node : Form → Placed
 form_node form = node_of form.node
+
+abbrev pub rule_node : RuleView → Placed
+rule_node rule = node_of rule.node
 
 abbrev pub statement_node : Statement → Placed
 statement_node statement = node_of statement.node
@@ -52,6 +58,9 @@ guards_of_left it = map (λ guard. node_in it.ifr.now guard.place) (drop it.next
 
 abbrev pub forms_left : FormViews → List Placed
 forms_left it = filter is_form (nodes_left it.nodes)
+
+abbrev pub rules_left : RuleViews → List Placed
+rules_left it = filter is_rule (nodes_left it.nodes)
 
 abbrev pub statements_left : Statements → List Placed
 statements_left it = filter is_statement (nodes_left it.nodes)

@@ -1,7 +1,7 @@
 use Rattle.std.proofs.Common.{◌∙◌}
 use Rattle.ifr_scopes.specs.Nodes.{nodes_of}
 use Rattle.ifr_scopes.specs.code.AnyConditions.{any_condition_node}
-use Rattle.guard_policy.specs.laws.Support.{ids_behind}
+use Rattle.guard_policy.specs.Conditions.{ids_behind}
 use Rattle.guard_policy.proofs.AskedLemmas.{next_piece}
 use Rattle.guard_policy.proofs.support_of.SupportOfIterator.next.Goals as goal
 

@@ -18,7 +18,7 @@ returns-in-Ok c =
     let equal = c.in-Ok.ensures.position (λ q. (question_node q).place) (answers_always _ _ _ (λ f a r g called. search rules)) in
     let found = subst (λ (qs : List Question). (at < length qs) × IsBinarySearchResult (λ q. nat_cmp (question_node q).place place) qs (Ok at)) c.deref.ensures.value (c.in-Ok.ensures.bound, equal) in
     ap (λ (q : Question). Some (question_view q)) c.index.ensures
-    ∙ found_at c.self.inside.ifr.now c.self.inside.by_place.items c.self.inside.by_id c.self.inside.by_field.items c.self.inside.passwords.items c.self.invariant place at c.index.result.now found.0 found.1
+    ∙ found_at c.self.inside.ifr.now c.self.inside.by_place.items c.self.inside.by_id c.self.inside.by_field.items c.self.inside.passwords.items c.self.inside.password_steps.items c.self.invariant place at c.index.result.now found.0 found.1
     ∙ ap (λ (s : Survey). first_at (questions (nodes_of s.ifr)) place) c.self.view_is
 
 pub returns-in-Err : goal.returns-in-Err
@@ -27,5 +27,5 @@ returns-in-Err c =
     let at = c.in-Err.field-0 in
     let parted = c.in-Err.ensures.position (λ q. (question_node q).place) (answers_always _ _ _ (λ f a r g called. search rules)) in
     let missing = subst (λ (qs : List Question). (at ≤ length qs) × IsBinarySearchResult (λ q. nat_cmp (question_node q).place place) qs (Err at)) c.deref.ensures.value (c.in-Err.ensures.bound, parted) in
-    none_at c.self.inside.ifr.now c.self.inside.by_place.items c.self.inside.by_id c.self.inside.by_field.items c.self.inside.passwords.items c.self.invariant place at missing.0 missing.1
+    none_at c.self.inside.ifr.now c.self.inside.by_place.items c.self.inside.by_id c.self.inside.by_field.items c.self.inside.passwords.items c.self.inside.password_steps.items c.self.invariant place at missing.0 missing.1
     ∙ ap (λ (s : Survey). first_at (questions (nodes_of s.ifr)) place) c.self.view_is

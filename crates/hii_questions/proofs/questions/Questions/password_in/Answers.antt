@@ -13,5 +13,5 @@ returns c =
     let f = c.args.field in
     let s = c.self.inside in
     ap (option_map question_view) (c.first_in.ensures ∙ ap (λ (qs : List Question). find (λ q. field_passes (meets (range_in f)) (question_view q).field) qs) c.deref.ensures.value)
-    ∙ first_password s.ifr.now s.by_place.items s.by_id s.by_field.items s.passwords.items c.self.invariant f
+    ∙ first_password s.ifr.now s.by_place.items s.by_id s.by_field.items s.passwords.items s.password_steps.items c.self.invariant f
     ∙ ap (λ (v : Survey). find (is_password_in (range_in f)) (questions (nodes_of v.ifr))) c.self.view_is

@@ -13,5 +13,5 @@ returns c =
     let f = c.args.field in
     let s = c.self.inside in
     ap (map question_view) (c.questions_with.ensures ∙ ap (λ (qs : List Question). filter (λ q. has_field (range_in f) (question_view q)) qs) c.deref.ensures.value)
-    ∙ fields_are s.ifr.now s.by_place.items s.by_id s.by_field.items s.passwords.items c.self.invariant f
+    ∙ fields_are s.ifr.now s.by_place.items s.by_id s.by_field.items s.passwords.items s.password_steps.items c.self.invariant f
     ∙ ap (λ (v : Survey). filter (has_field (range_in f)) (questions (nodes_of v.ifr))) c.self.view_is

@@ -1,15 +1,14 @@
 -- On which questions the value of an expression depends (UEFI 2.8, 33.2.5.7 Expressions; that a reference to a rule depends on
 -- what the rule depends on follows from how rules are found, an own rule).
-use Rattle.std.specs.Prelude.{◌≡◌, ℕ, ◌==◌, if◌then◌else◌, List, [], ◌∷◌}
-use Rattle.std.specs.List.{AllByRecursion, flat_map}
+use Rattle.std.specs.Prelude.{ℕ, ◌==◌, if◌then◌else◌, List, [], ◌∷◌}
+use Rattle.std.specs.List.{flat_map}
 use Rattle.ifr_opcodes.specs.declared.codes.TheConstants.{RULE_REF, THIS}
 use Rattle.ifr_opcodes.specs.Opcode.{number}
 use Rattle.ifr_opcodes.specs.Fields.{rule_ref_rule}
 use Rattle.ifr_opcodes.specs.Forest.{Mark}
-use Rattle.ifr_expr.specs.Meaning.{Rule, answered, names}
-use Rattle.ifr_expr.specs.laws.Support.{ids_of}
+use Rattle.ifr_expr.specs.Meaning.{Rule, names}
+use Rattle.ifr_expr.specs.Support.{ids_of}
 use Rattle.ifr_expr.specs.Trees.{Tree, post}
-use Rattle.ifr_expr.specs.Values.{Value}
 
 -- the question in whose scope an opcode stands, if there is one
 abbrev pub own : ℕ → List ℕ
@@ -38,7 +37,3 @@ rule_ids (r ∷ earlier) id place =
 -- the questions on whose answers the value of a tree depends, over rules of which the latest stands first
 abbrev pub dependence : List Rule → ℕ → Tree → List ℕ
 dependence rules this tree = ids_over (rule_ids rules) this tree
-
--- Two sets of answers agree on these questions.
-abbrev pub Agree : (ℕ → Value) → (ℕ → Value) → List ℕ → Type 0
-Agree a b ids = AllByRecursion (λ id. answered a id ≡ answered b id) ids

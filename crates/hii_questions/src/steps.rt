@@ -1,0 +1,132 @@
+//! Which of some fields is the first that has a byte, for all bytes of the stores.
+
+ghost use Rattle.std.specs.Prelude.{◌≡◌, ◌⊎◌, ◌+◌, ◌≤◌, ◌<◌, ℕ, IfOk, length};
+ghost use Rattle.std.specs.List.{find};
+ghost use Rattle.hii_questions.specs.Fields.{field_passes, meets};
+ghost use Rattle.hii_questions.specs.code.Ranges.{range_in};
+ghost use Rattle.hii_questions.specs.code.Views.{question_view};
+ghost use Rattle.hii_questions.specs.code.Steps.{AreSmall, AreSteps, IsLeastWithin, StepsRise, first_from, is_small, least_met, tells_first, told_behind, value_at};
+
+use crate::field_range::FieldRange;
+use crate::merging::{Step, merged};
+use crate::question::Question;
+use std::alloc::{AllocError, Global};
+
+// The steps of one field of a number.
+fn steps_of_one(
+    alloc: Global,
+    field: Option<FieldRange>,
+    number: usize,
+    none: usize,
+) -> Result<Vec<Step>, AllocError>
+    ensures first { IfOk result (λ steps. (at : ℕ) → value_at none steps.items at
+        ≡ tells_first none number field at) }
+    ensures rise { IfOk result (λ steps. StepsRise 0 steps.items) }
+    ensures small { IfOk result (λ steps. is_small field) }
+{
+    let mut steps = Vec::new(alloc);
+    if let Some(field) = field {
+        let from = field.first();
+        let behind = field.behind();
+        if from < behind {
+            steps.push(Step {
+                from,
+                first: number,
+            })?;
+            steps.push(Step {
+                from: behind,
+                first: none,
+            })?;
+        }
+    }
+    Ok(steps)
+}
+
+// The steps of the fields of some questions, which have numbers from one on.
+fn steps_of(
+    alloc: Global,
+    questions: &[Question<'_>],
+    number: usize,
+    none: usize,
+) -> Result<Vec<Step>, AllocError>
+    requires { number + length questions.now ≤ none }
+    ensures first { IfOk result (λ steps. (at : ℕ) → value_at none steps.items at
+        ≡ first_from none number questions.now at) }
+    ensures rise { IfOk result (λ steps. StepsRise 0 steps.items) }
+    ensures small { IfOk result (λ steps. AreSmall questions.now) }
+{
+    match questions {
+        [] => Ok(Vec::new(alloc)),
+        [question] => steps_of_one(alloc, question.field, number, none),
+        _ => {
+            let (before, behind) = questions.split_at(questions.len() / 2);
+            let left = steps_of(alloc, before, number, none)?;
+            let right = steps_of(alloc, behind, number + before.len(), none)?;
+            merged(alloc, &left, &right, none)
+        }
+    }
+}
+
+/// The steps that tell of each byte the first of some questions whose field has it.
+pub(crate) fn steps_among(
+    alloc: Global,
+    questions: &[Question<'_>],
+) -> Result<Vec<Step>, AllocError>
+    ensures { IfOk result (λ steps. AreSteps questions.now steps.items) }
+{
+    steps_of(alloc, questions, 0, questions.len())
+}
+
+// The least number that steps tell up to before a byte, but for what is before the first step.
+fn least_before(steps: &[Step], none: usize, end: u64) -> usize
+    ensures { result ≡ least_met none end steps.now }
+{
+    let mut least = none;
+    for step in steps {
+        if step.from >= end {
+            break;
+        }
+        least = least.min(step.first);
+    }
+    least
+}
+
+// The number that is told behind so many steps.
+fn told_behind(steps: &[Step], none: usize, count: usize) -> usize
+    requires { count ≤ length steps.now }
+    ensures { result ≡ told_behind none steps.now count }
+{
+    match count.checked_sub(1) {
+        Some(last) => steps[last].first,
+        None => none,
+    }
+}
+
+// The least number that steps tell of the bytes from one on up to before another.
+fn least_within(steps: &[Step], none: usize, from: u64, end: u64) -> usize
+    requires { StepsRise 0 steps.now }
+    ensures { IsLeastWithin steps.now none from end result }
+{
+    if from >= end {
+        return none;
+    }
+    let begun = steps.partition_point(|step| step.from <= from);
+    told_behind(steps, none, begun).min(least_before(&steps[begun..], none, end))
+}
+
+/// The first of some questions whose field has a byte of this one, by the steps of all.
+pub(crate) fn first_in<'a>(
+    questions: &[Question<'a>],
+    steps: &[Step],
+    field: FieldRange,
+) -> Option<Question<'a>>
+    requires { AreSteps questions.now steps.now }
+    ensures { result ≡ find (λ q. field_passes (meets (range_in field)) (question_view q).field) questions.now }
+{
+    let first = least_within(steps, questions.len(), field.first(), field.behind());
+    if first < questions.len() {
+        Some(questions[first])
+    } else {
+        None
+    }
+}

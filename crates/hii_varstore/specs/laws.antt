@@ -1,2 +1,0 @@
--- What the laws of the crate say, and the words that they alone need.
-pub mod Bytes
