@@ -1,5 +1,5 @@
 -- Questions whose fields hold other bytes than when they were last submitted.
-use Rattle.std.proofs.Common.{Bor, ◌≡◌, ℕ, suc, map, ◌+◌, ◌^◌, ◌<◌, ◌≤◌, Bool, true, false, cond, Option, Some, None, option_map, List, [], ◌∷◌, ◌++◌, length, drop, inl, inr, refl, sym, ap, subst, ◌∙◌, arith, append_assoc, length-drop}
+use Rattle.std.proofs.Common.{Bor, ◌≡◌, ℕ, suc, map, ◌+◌, ◌^◌, ◌<◌, ◌≤◌, Bool, true, false, cond, Option, Some, None, option_map, List, [], ◌∷◌, ◌++◌, length, drop, inl, inr, refl, sym, ap, subst, ◌∙◌, arith, append_assoc, length-drop, IsSome}
 use Rattle.std.specs.Prelude.{not, ◌&&◌, Contains, filter, slice_range, option_copied, IsSomeAnd, MatchOption}
 use Rattle.std.specs.List.{AllByRecursion, flat_map}
 use Rattle.std.proofs.lemmas.Bool.{cases_Bool, eqb-false}
@@ -17,7 +17,7 @@ use Rattle.ifr_scopes.proofs.PlaceLemmas.{Within, nodes_within}
 use Rattle.ifr_scopes.proofs.ViewLemmas.{further}
 use Rattle.hii_varstore.specs.Layout.{Shape}
 use Rattle.hii_varstore.specs.Stores.{StoreMap, shape_of, bytes_of, bytes_of_field}
-use Rattle.hii_varstore.specs.code.Ranges.{IsCut}
+use Rattle.hii_varstore.specs.code.Ranges.{HasRange, IsCut}
 use Rattle.hii_varstore.proofs.WriteLemmas.{sizes}
 use Rattle.hii_varstore.specs.StoreNodes.{layout_of}
 use Rattle.hii_questions.specs.Fields.{Field, Asked, asked, questions}
@@ -35,9 +35,18 @@ uncut : (bytes : Option (List ℕ)) (offset width : ℕ) → IsSomeAnd (option_m
 uncut None offset width range cut = absurd range
 uncut (Some bs) offset width range cut = eqb-false _ _ cut (length-between bs offset (offset + width) range ∙ omega arith)
 
+pub uncut_range : (m : StoreMap) (id offset width : ℕ) → HasRange (shape_of m) id offset width → IsCut width (bytes_of_field m id offset width) → ⊥
+uncut_range m id offset width range = uncut (bytes_of m id) offset width (rw (sizes m id) at range)
+
+-- what is found of a range that a store has
+pub is_there : (m : StoreMap) (id offset at width : ℕ) (found : Option (Bor (List ℕ))) → HasRange (shape_of m) id offset width → at ≡ offset
+    → MatchOption found (IsCut width (bytes_of_field m id at width)) (λ bytes. (bytes_of_field m id at width ≡ Some bytes.now) × (length bytes.now ≡ width)) → IsSome found
+is_there m id offset at width None range same told = absurd (uncut_range m id offset width range (rw same at told))
+is_there m id offset at width (Some bytes) range same told = refl
+
 -- the bytes of a question's field are in its store
 pub in_store : (m : StoreMap) (q : Asked) (field : Field) → LiesIn (shape_of m) q → q.field ≡ Some field → IsCut field.width (bytes_of_field m field.store field.offset field.width) → ⊥
-in_store m q field lies has = uncut (bytes_of m field.store) field.offset field.width (rw (sizes m field.store) at (lies field has))
+in_store m q field lies has = uncut_range m field.store field.offset field.width (lies field has)
 
 -- what is found of the field of a question are its bytes
 pub whole_field : (m : StoreMap) (q : Asked) (field : Field) (offset : ℕ) (found : Option (Bor (List ℕ))) → LiesIn (shape_of m) q → q.field ≡ Some field → offset ≡ field.offset

@@ -1,6 +1,8 @@
 -- What a form set that is browsed is seen as, for proofs that look into it.
 use Rattle.ifr_scopes.specs.code.Lists.{form_node}
 use Rattle.hii_languages.specs.code.Views.{choice_of}
+use Rattle.std.proofs.Common.{◌≡◌, ap}
+use Rattle.browser_core.specs.Renewed.{Shown}
 use Rattle.browser_core.specs.State.{State}
 use Rattle.browser_core.specs.declared.browser.Core.TheInside.{Inside}
 
@@ -12,7 +14,15 @@ state_in c = record {
   spoken = c.languages;
   language = choice_of c.language;
   committed = c.committed;
-  working = c.working;
+  working = c.working.stores;
   form = (form_node c.form).place;
   history = c.history.items;
 }
+
+-- what is seen of the state alone
+pub seen : {a b : Shown} → a ≡ b → a.state ≡ b.state
+seen e = ap (λ (t : Shown). t.state) e
+
+-- the same state and the same number
+pub both : (a b : Shown) → a.state ≡ b.state → a.renewed ≡ b.renewed → a ≡ b
+both a b state renewed = λ i. record { state = state i; renewed = renewed i }

@@ -31,7 +31,8 @@ use Rattle.browser_core.specs.Texts.{count_text}
 use Rattle.browser_core.specs.Step.{Outcome, Taken, step, denied, form_of, told_why, question_denial, set_question, set_unless_fixed, set_unless_forbidden, set_fitting, value_denial, with_field, submit_unless, sources, taken_if, take_offer, take_default, take_each, questions_in, taken, take_defaults, press_unless_fixed, press_statement, row_of_form, set_field, set_block, set_blocks, go_on, route_to, route_reading}
 use Rattle.browser_core.specs.declared.reply.Reply.{Reply}
 use Rattle.browser_core.specs.declared.reply.Reply.TheVariants.{Accepted, Denied, Refused}
-use Rattle.browser_core.specs.laws.Bytes.{named_if, pressed_if, questions_of_blocks, routed_to, questions_routed, where_accepted, questions_set, SetsByte, KeepsOtherBytes}
+use Rattle.browser_core.specs.Renewed.{named_if, pressed_if}
+use Rattle.browser_core.specs.laws.Bytes.{questions_of_blocks, routed_to, questions_routed, where_accepted, questions_set, SetsByte, KeepsOtherBytes}
 use Rattle.browser_core.proofs.GoLemmas.{LeavesStores, follow_leaves, back_leaves}
 use Rattle.browser_core.proofs.RoutedLemmas.{extract_leaves}
 use Rattle.browser_core.proofs.SealedLemmas.{set_keeps as set_keeps_package}

@@ -18,3 +18,5 @@ pub mod FollowLemmas
 pub mod GoLemmas
 pub mod SealedLemmas
 pub mod WorkedCases
+pub mod CountLemmas
+pub mod FieldLemmas

@@ -18,12 +18,13 @@ use Rattle.hii_commands.specs.declared.command.BadLine.TheVariants as bad
 use Rattle.hii_commands.specs.declared.limits.TheConstants.{LINE_LIMIT, SCRIPT_LIMIT}
 use Rattle.hii_bytes.specs.declared.cause.Cause.TheVariants.{LineTooLong}
 use Rattle.hii_commands.proofs.ScriptLemmas.{cut-within, cut-ended, whole_lines-front}
+use Rattle.browser_core.specs.Renewed.{Shown, renewed_reading, renewed_text, shown_line}
 use Rattle.browser_core.specs.State.{State}
-use Rattle.browser_core.specs.Step.{accepted, refused, step_reading, step_text, step_line}
+use Rattle.browser_core.specs.Step.{Outcome, accepted, refused, step_reading, step_text, step_line}
 use Rattle.browser_core.specs.declared.reply.RunFault.{RunFault}
 use Rattle.browser_core.specs.declared.reply.End.{End}
 use Rattle.browser_core.specs.declared.reply.End.TheVariants.{Done, TooLong}
-use Rattle.browser_core.specs.Run.{state_after, text_of, StopsAtLine, StopsAtLimit, Runs, Finishes, BreaksOff, Overflows, ScriptOutcome, outcome_of, too_long_text}
+use Rattle.browser_core.specs.Run.{shown_after_lines, text_of, StopsAtLine, StopsAtLimit, Runs, Finishes, BreaksOff, Overflows, ScriptOutcome, outcome_of, too_long_text}
 use Rattle.browser_core.specs.code.Reading.{Stands}
 
 -- ---- one line
@@ -58,57 +59,75 @@ long_is_some line long = λ blank.
 pub long_line : (s : State) (line : List ℕ) → LINE_LIMIT < length line → step_line s line ≡ refused s LineTooLong
 long_line s line long = line_read s line (Err bad.LineTooLong) (long_is_some line long) (cond-true _ _ _ (lt-ltb LINE_LIMIT (length line) long))
 
+-- what a session shows after a line
+pub blank_shown : (s : Shown) (line : List ℕ) → without_return line ≡ [] → shown_line s line ≡ s
+blank_shown s line blank = ap (λ (text : List ℕ). record { state = (step_text s.state line text).state; renewed = renewed_text s line text }) blank
+
+text_shown : (s : Shown) (line text : List ℕ) → text ≢ [] → renewed_text s line text ≡ renewed_reading s (reading_of line)
+text_shown s line [] some = absurd (some refl)
+text_shown s line (b ∷ text) some = refl
+
+pub line_shown : (s : Shown) (line : List ℕ) (reading : Result Order BadLine) → without_return line ≢ [] → reading_of line ≡ reading
+    → shown_line s line ≡ record { state = (step_reading s.state reading).state; renewed = renewed_reading s reading }
+line_shown s line reading some is =
+    let state = ap (λ (o : Outcome). o.state) (line_read s.state line reading some is) in
+    let count = text_shown s line (without_return line) some ∙ ap (renewed_reading s) is in
+    rw (state, count) refl
+
+pub long_shown : (s : Shown) (line : List ℕ) → LINE_LIMIT < length line → shown_line s line ≡ s
+long_shown s line long = line_shown s line (Err bad.LineTooLong) (long_is_some line long) (cond-true _ _ _ (lt-ltb LINE_LIMIT (length line) long))
+
 -- ---- lines, one after the other
 
-pub state_after-append : (s : State) (xs ys : List (List ℕ)) → state_after s (xs ++ ys) ≡ state_after (state_after s xs) ys
-state_after-append s [] ys = refl
-state_after-append s (x ∷ xs) ys = state_after-append (step_line s x).state xs ys
+pub shown_after_lines-append : (s : Shown) (xs ys : List (List ℕ)) → shown_after_lines s (xs ++ ys) ≡ shown_after_lines (shown_after_lines s xs) ys
+shown_after_lines-append s [] ys = refl
+shown_after_lines-append s (x ∷ xs) ys = shown_after_lines-append (shown_line s x) xs ys
 
-pub text_of-append : (s : State) (xs ys : List (List ℕ)) → text_of s (xs ++ ys) ≡ text_of s xs ++ text_of (state_after s xs) ys
+pub text_of-append : (s : Shown) (xs ys : List (List ℕ)) → text_of s (xs ++ ys) ≡ text_of s xs ++ text_of (shown_after_lines s xs) ys
 text_of-append s [] ys = refl
-text_of-append s (x ∷ xs) ys = ap (λ t. (step_line s x).text ++ t) (text_of-append (step_line s x).state xs ys) ∙ sym (append_assoc (step_line s x).text _ _)
+text_of-append s (x ∷ xs) ys = ap (λ t. (step_line s.state x).text ++ t) (text_of-append (shown_line s x) xs ys) ∙ sym (append_assoc (step_line s.state x).text _ _)
 
 -- one more line
-text_of-push : (s now : State) (xs : List (List ℕ)) (x : List ℕ) → now ≡ state_after s xs → text_of s (xs ++ x ∷ []) ≡ text_of s xs ++ (step_line now x).text
-text_of-push s now xs x e = text_of-append s xs (x ∷ []) ∙ ap (λ t. text_of s xs ++ t) (append-nil (step_line (state_after s xs) x).text) ∙ ap (λ n. text_of s xs ++ (step_line n x).text) (sym e)
+text_of-push : (s now : Shown) (xs : List (List ℕ)) (x : List ℕ) → now ≡ shown_after_lines s xs → text_of s (xs ++ x ∷ []) ≡ text_of s xs ++ (step_line now.state x).text
+text_of-push s now xs x e = text_of-append s xs (x ∷ []) ∙ ap (λ t. text_of s xs ++ t) (append-nil (step_line (shown_after_lines s xs).state x).text) ∙ ap (λ n. text_of s xs ++ (step_line n.state x).text) (sym e)
 
-state_after-push : (s now : State) (xs : List (List ℕ)) (x : List ℕ) → now ≡ state_after s xs → state_after s (xs ++ x ∷ []) ≡ (step_line now x).state
-state_after-push s now xs x e = state_after-append s xs (x ∷ []) ∙ ap (λ n. (step_line n x).state) (sym e)
+shown_after_lines-push : (s now : Shown) (xs : List (List ℕ)) (x : List ℕ) → now ≡ shown_after_lines s xs → shown_after_lines s (xs ++ x ∷ []) ≡ (shown_line now x)
+shown_after_lines-push s now xs x e = shown_after_lines-append s xs (x ∷ []) ∙ ap (λ n. (shown_line n x)) (sym e)
 
 -- bytes that end no line
-pub stands_within : (start now : State) (pen new : Pen) (bytes p : List ℕ) (line after : Held) → Stands start pen bytes now line new → IsWithinLine p
+pub stands_within : (start now : Shown) (pen new : Pen) (bytes p : List ℕ) (line after : Held) → Stands start pen bytes now line new → IsWithinLine p
     → ((held : List ℕ) → line ≡ held_of held → after ≡ held_of (held ++ p)) → Stands start pen (bytes ++ p) now after new
 stands_within start now pen new bytes p line after h within fed =
     let cut = cut-within bytes p within in
     let whole : whole_lines (bytes ++ p) ≡ whole_lines bytes = ap (λ (c : List (List ℕ) × List ℕ). c.0) cut in
     let rest : rest_of (bytes ++ p) ≡ rest_of bytes ++ p = ap (λ (c : List (List ℕ) × List ℕ). c.1) cut in
     record {
-      state = h.state ∙ ap (state_after start) (sym whole);
+      shown = h.shown ∙ ap (shown_after_lines start) (sym whole);
       text = subst (λ l. Writes pen new (text_of start l)) (sym whole) h.text;
       line_is = fed (rest_of bytes) h.line_is ∙ ap held_of (sym rest);
       sound = h.sound;
     }
 
 -- bytes that end the line, which is run
-pub stands_line : (start now stepped : State) (pen mid new : Pen) (bytes p : List ℕ) (after : Held) → IsWithinLine p
-    → now ≡ state_after start (whole_lines bytes) → Writes pen mid (text_of start (whole_lines bytes))
-    → stepped ≡ (step_line now (rest_of bytes ++ p)).state → Writes mid new (step_line now (rest_of bytes ++ p)).text
+pub stands_line : (start now stepped : Shown) (pen mid new : Pen) (bytes p : List ℕ) (after : Held) → IsWithinLine p
+    → now ≡ shown_after_lines start (whole_lines bytes) → Writes pen mid (text_of start (whole_lines bytes))
+    → stepped ≡ shown_line now (rest_of bytes ++ p) → Writes mid new (step_line now.state (rest_of bytes ++ p)).text
     → after ≡ held_of [] → new.broken ≡ false → Stands start pen (bytes ++ (p ++ 10 ∷ [])) stepped after new
 stands_line start now stepped pen mid new bytes p after within state text next told cleared sound =
     let cut = cut-ended bytes p within in
     let whole : whole_lines (bytes ++ (p ++ 10 ∷ [])) ≡ whole_lines bytes ++ (rest_of bytes ++ p) ∷ [] = ap (λ (c : List (List ℕ) × List ℕ). c.0) cut in
     let rest : rest_of (bytes ++ (p ++ 10 ∷ [])) ≡ [] = ap (λ (c : List (List ℕ) × List ℕ). c.1) cut in
     record {
-      state = next ∙ sym (ap (state_after start) whole ∙ state_after-push start now (whole_lines bytes) (rest_of bytes ++ p) state);
+      shown = next ∙ sym (ap (shown_after_lines start) whole ∙ shown_after_lines-push start now (whole_lines bytes) (rest_of bytes ++ p) state);
       text = subst (Writes pen new) (sym (ap (text_of start) whole ∙ text_of-push start now (whole_lines bytes) (rest_of bytes ++ p) state)) (writes_trans text told);
       line_is = cleared ∙ ap held_of (sym rest);
       sound = sound;
     }
 
 -- the line at which the writer fails
-pub stops_line : (start now stepped : State) (pen mid new : Pen) (lines later : List (List ℕ)) (line : List ℕ)
-    → now ≡ state_after start lines → Writes pen mid (text_of start lines) → mid.broken ≡ false
-    → stepped ≡ (step_line now line).state → Writes mid new (step_line now line).text
+pub stops_line : (start now stepped : Shown) (pen mid new : Pen) (lines later : List (List ℕ)) (line : List ℕ)
+    → now ≡ shown_after_lines start lines → Writes pen mid (text_of start lines) → mid.broken ≡ false
+    → stepped ≡ shown_line now line → Writes mid new (step_line now.state line).text
     → new.broken ≡ true → StopsAtLine start pen ((lines ++ line ∷ []) ++ later) stepped new
 stops_line start now stepped pen mid new lines later line state text was_sound next told broken =
     let past = writes_past (text_of start (lines ++ line ∷ [])) text told was_sound (text_of-push start now lines line state) in
@@ -118,16 +137,16 @@ stops_line start now stepped pen mid new lines later line state text was_sound n
       later = later;
       one = omega arith;
       front = refl;
-      state = next ∙ sym (state_after-push start now lines line state);
+      shown = next ∙ sym (shown_after_lines-push start now lines line state);
       text = past.0;
       all_before = past.1;
       broken = broken;
     }
 
 -- the writer fails at a line that a piece ends, with more bytes behind the line
-pub stops_piece : (start now stepped : State) (pen mid new : Pen) (bytes p more all : List ℕ) → IsWithinLine p
-    → now ≡ state_after start (whole_lines bytes) → Writes pen mid (text_of start (whole_lines bytes)) → mid.broken ≡ false
-    → stepped ≡ (step_line now (rest_of bytes ++ p)).state → Writes mid new (step_line now (rest_of bytes ++ p)).text → new.broken ≡ true
+pub stops_piece : (start now stepped : Shown) (pen mid new : Pen) (bytes p more all : List ℕ) → IsWithinLine p
+    → now ≡ shown_after_lines start (whole_lines bytes) → Writes pen mid (text_of start (whole_lines bytes)) → mid.broken ≡ false
+    → stepped ≡ shown_line now (rest_of bytes ++ p) → Writes mid new (step_line now.state (rest_of bytes ++ p)).text → new.broken ≡ true
     → all ≡ (bytes ++ (p ++ 10 ∷ [])) ++ more → StopsAtLine start pen (whole_lines all) stepped new
 stops_piece start now stepped pen mid new bytes p more all within state text was_sound next told broken e =
     let whole : whole_lines (bytes ++ (p ++ 10 ∷ [])) ≡ whole_lines bytes ++ (rest_of bytes ++ p) ∷ [] = ap (λ (c : List (List ℕ) × List ℕ). c.0) (cut-ended bytes p within) in
@@ -144,58 +163,58 @@ lines_run_past : (script : List ℕ) → SCRIPT_LIMIT < length script → lines_
 lines_run_past script past = cond-true _ _ _ (lt-ltb SCRIPT_LIMIT (length script) past)
 
 -- what these lines leave and write, and whether more bytes stand behind them
-abbrev outcome_at : State → List (List ℕ) → Bool → ScriptOutcome
+abbrev outcome_at : Shown → List (List ℕ) → Bool → ScriptOutcome
 outcome_at s lines long = record {
-  state = state_after s lines;
+  shown = shown_after_lines s lines;
   text = text_of s lines ++ (if long then too_long_text else []);
   end = if long then TooLong else Done;
 }
 
-outcome_within : (s : State) (script : List ℕ) → length script ≤ SCRIPT_LIMIT
-    → outcome_of s script ≡ record { state = state_after s (lines_of script); text = text_of s (lines_of script); end = Done }
+outcome_within : (s : Shown) (script : List ℕ) → length script ≤ SCRIPT_LIMIT
+    → outcome_of s script ≡ record { shown = shown_after_lines s (lines_of script); text = text_of s (lines_of script); end = Done }
 outcome_within s script within =
     ap (outcome_at s (lines_run script)) (le-ltb SCRIPT_LIMIT (length script) within)
     ∙ ap (λ l. outcome_at s l false) (lines_run_within script within)
-    ∙ ap (λ t. record { state = state_after s (lines_of script); text = t; end = Done }) (append-nil (text_of s (lines_of script)))
+    ∙ ap (λ t. record { shown = shown_after_lines s (lines_of script); text = t; end = Done }) (append-nil (text_of s (lines_of script)))
 
-outcome_past : (s : State) (script : List ℕ) → SCRIPT_LIMIT < length script → outcome_of s script ≡ outcome_at s (whole_lines (take SCRIPT_LIMIT script)) true
+outcome_past : (s : Shown) (script : List ℕ) → SCRIPT_LIMIT < length script → outcome_of s script ≡ outcome_at s (whole_lines (take SCRIPT_LIMIT script)) true
 outcome_past s script past =
     ap (outcome_at s (lines_run script)) (lt-ltb SCRIPT_LIMIT (length script) past)
     ∙ ap (λ l. outcome_at s l true) (lines_run_past script past)
 
 -- an empty line does nothing
-state_after-last_line : (s : State) (rest : List ℕ) → state_after s (last_line rest) ≡ (step_line s rest).state
-state_after-last_line s [] = refl
-state_after-last_line s (b ∷ rest) = refl
+shown_after_lines-last_line : (s : Shown) (rest : List ℕ) → shown_after_lines s (last_line rest) ≡ (shown_line s rest)
+shown_after_lines-last_line s [] = refl
+shown_after_lines-last_line s (b ∷ rest) = refl
 
-text_of-last_line : (s : State) (rest : List ℕ) → text_of s (last_line rest) ≡ (step_line s rest).text
+text_of-last_line : (s : Shown) (rest : List ℕ) → text_of s (last_line rest) ≡ (step_line s.state rest).text
 text_of-last_line s [] = refl
 text_of-last_line s (b ∷ rest) = append-nil _
 
-stops_later : (start now : State) (pen new : Pen) (lines more : List (List ℕ)) → StopsAtLine start pen lines now new → StopsAtLine start pen (lines ++ more) now new
+stops_later : (start now : Shown) (pen new : Pen) (lines more : List (List ℕ)) → StopsAtLine start pen lines now new → StopsAtLine start pen (lines ++ more) now new
 stops_later start now pen new lines more h = record {
   before = h.before;
   last = h.last;
   later = h.later ++ more;
   one = h.one;
   front = ap (λ l. l ++ more) h.front ∙ append_assoc (h.before ++ h.last) h.later more;
-  state = h.state;
+  shown = h.shown;
   text = h.text;
   all_before = h.all_before;
   broken = h.broken;
 }
 
 -- the writer fails at the last line, which is not empty
-stops_last : (start now stepped : State) (pen mid new : Pen) (bytes rest : List ℕ)
-    → now ≡ state_after start (whole_lines bytes) → Writes pen mid (text_of start (whole_lines bytes)) → mid.broken ≡ false
-    → stepped ≡ (step_line now rest).state → Writes mid new (step_line now rest).text → new.broken ≡ true → StopsAtLine start pen (whole_lines bytes ++ last_line rest) stepped new
+stops_last : (start now stepped : Shown) (pen mid new : Pen) (bytes rest : List ℕ)
+    → now ≡ shown_after_lines start (whole_lines bytes) → Writes pen mid (text_of start (whole_lines bytes)) → mid.broken ≡ false
+    → stepped ≡ shown_line now rest → Writes mid new (step_line now.state rest).text → new.broken ≡ true → StopsAtLine start pen (whole_lines bytes ++ last_line rest) stepped new
 stops_last start now stepped pen mid new bytes [] state text was_sound next told broken = let some : told.part < 0 = told.short was_sound broken in absurd (omega arith)
 stops_last start now stepped pen mid new bytes (b ∷ rest) state text was_sound next told broken =
     subst (λ l. StopsAtLine start pen l stepped new) (append-nil (whole_lines bytes ++ (b ∷ rest) ∷ []))
     (stops_line start now stepped pen mid new (whole_lines bytes) [] (b ∷ rest) state text was_sound next told broken)
 
 -- the writer failed before the first byte
-pub overflows_at_once : (start : State) (pen : Pen) (reader : Option (List ℕ)) → pen.broken ≡ true → Overflows start pen reader start pen reader
+pub overflows_at_once : (start : Shown) (pen : Pen) (reader : Option (List ℕ)) → pen.broken ≡ true → Overflows start pen reader start pen reader
 overflows_at_once start pen reader broken = record {
   bytes = [];
   consumed = Consumes-nil reader;
@@ -206,7 +225,7 @@ overflows_at_once start pen reader broken = record {
     later = [];
     one = omega arith;
     front = refl;
-    state = refl;
+    shown = refl;
     text = writes_nil pen;
     all_before = omega arith;
     broken = broken;
@@ -214,50 +233,50 @@ overflows_at_once start pen reader broken = record {
 }
 
 -- the reader failed
-pub breaks_off : (start now : State) (pen new : Pen) (reader left after : Option (List ℕ)) (bytes : List ℕ) (line : Held)
+pub breaks_off : (start now : Shown) (pen new : Pen) (reader left after : Option (List ℕ)) (bytes : List ℕ) (line : Held)
     → Consumes reader left bytes → length bytes ≤ SCRIPT_LIMIT → Stands start pen bytes now line new → Keeps left after → BreaksOff start pen reader now new after
 breaks_off start now pen new reader left after bytes line consumed few stands kept = record {
   bytes = bytes;
   consumed = Consumes-kept reader left after bytes consumed kept;
   few = few;
-  state = stands.state;
+  shown = stands.shown;
   text = appended_whole stands.text stands.sound;
   sound = stands.sound;
 }
 
 -- the last line is run
-pub finishes : (start now stepped : State) (pen mid new : Pen) (reader left : Option (List ℕ)) (bytes : List ℕ) (line : Held)
+pub finishes : (start now stepped : Shown) (pen mid new : Pen) (reader left : Option (List ℕ)) (bytes : List ℕ) (line : Held)
     → Consumes reader left bytes → length bytes ≤ SCRIPT_LIMIT → IsAtEnd left → Stands start pen bytes now line mid
-    → stepped ≡ (step_line now (rest_of bytes)).state → Writes mid new (step_line now (rest_of bytes)).text → new.broken ≡ false
+    → stepped ≡ shown_line now (rest_of bytes) → Writes mid new (step_line now.state (rest_of bytes)).text → new.broken ≡ false
     → Finishes start pen reader Done stepped new left
 finishes start now stepped pen mid new reader left bytes line consumed few at_end stands next told sound =
     let is = outcome_within start bytes few in
     let whole = whole_lines bytes in
     let last = last_line (rest_of bytes) in
-    let state : stepped ≡ state_after start (whole ++ last) = next ∙ ap (λ s. (step_line s (rest_of bytes)).state) stands.state ∙ sym (state_after-append start whole last ∙ state_after-last_line (state_after start whole) (rest_of bytes)) in
-    let text : text_of start (whole ++ last) ≡ text_of start whole ++ (step_line now (rest_of bytes)).text =
-    text_of-append start whole last ∙ ap (λ t. text_of start whole ++ t) (text_of-last_line (state_after start whole) (rest_of bytes)) ∙ ap (λ s. text_of start whole ++ (step_line s (rest_of bytes)).text) (sym stands.state) in
+    let state : stepped ≡ shown_after_lines start (whole ++ last) = next ∙ ap (λ s. (shown_line s (rest_of bytes))) stands.shown ∙ sym (shown_after_lines-append start whole last ∙ shown_after_lines-last_line (shown_after_lines start whole) (rest_of bytes)) in
+    let text : text_of start (whole ++ last) ≡ text_of start whole ++ (step_line now.state (rest_of bytes)).text =
+    text_of-append start whole last ∙ ap (λ t. text_of start whole ++ t) (text_of-last_line (shown_after_lines start whole) (rest_of bytes)) ∙ ap (λ s. text_of start whole ++ (step_line s.state (rest_of bytes)).text) (sym stands.shown) in
     record {
       script = bytes;
       consumed = consumed;
       few = omega arith;
       end_is = sym (ap (λ (o : ScriptOutcome). o.end) is);
       at_end = λ _. at_end;
-      state = state ∙ sym (ap (λ (o : ScriptOutcome). o.state) is);
+      shown = state ∙ sym (ap (λ (o : ScriptOutcome). o.shown) is);
       text = subst (Appends pen.known new.known) (sym (ap (λ (o : ScriptOutcome). o.text) is ∙ text)) (appended_whole (writes_trans stands.text told) sound);
       sound = sound;
     }
 
 -- the writer fails at the last line
-pub overflows_last : (start now stepped : State) (pen mid new : Pen) (reader left : Option (List ℕ)) (bytes : List ℕ) (line : Held)
+pub overflows_last : (start now stepped : Shown) (pen mid new : Pen) (reader left : Option (List ℕ)) (bytes : List ℕ) (line : Held)
     → Consumes reader left bytes → length bytes ≤ SCRIPT_LIMIT → Stands start pen bytes now line mid
-    → stepped ≡ (step_line now (rest_of bytes)).state → Writes mid new (step_line now (rest_of bytes)).text → new.broken ≡ true
+    → stepped ≡ shown_line now (rest_of bytes) → Writes mid new (step_line now.state (rest_of bytes)).text → new.broken ≡ true
     → Overflows start pen reader stepped new left
 overflows_last start now stepped pen mid new reader left bytes line consumed few stands next told broken = record {
   bytes = bytes;
   consumed = consumed;
   few = omega arith;
-  stops = inl (subst (λ l. StopsAtLine start pen l stepped new) (sym (lines_run_within bytes few)) (stops_last start now stepped pen mid new bytes (rest_of bytes) stands.state stands.text stands.sound next told broken));
+  stops = inl (subst (λ l. StopsAtLine start pen l stepped new) (sym (lines_run_within bytes few)) (stops_last start now stepped pen mid new bytes (rest_of bytes) stands.shown stands.text stands.sound next told broken));
 }
 
 -- the part of a read that stands within the limit
@@ -276,30 +295,30 @@ read_more n limit bytes buf within =
     ]
 
 -- what is read so far, and what the lines in it left
-pub record Reads (start : State) (pen : Pen) (reader : Option (List ℕ)) (count : ℕ) (now : State) (line : Held) (new : Pen) (left : Option (List ℕ)) : Type 0 where
+pub record Reads (start : Shown) (pen : Pen) (reader : Option (List ℕ)) (count : ℕ) (now : Shown) (line : Held) (new : Pen) (left : Option (List ℕ)) : Type 0 where
   pub bytes : List ℕ
   pub consumed : Consumes reader left bytes
   pub counted : length bytes ≡ count
   pub few : count ≤ SCRIPT_LIMIT + 1
   pub stands : Stands start pen (take SCRIPT_LIMIT bytes) now line new
 
-pub reads_none : (start : State) (pen : Pen) (reader : Option (List ℕ)) (line : Held) → line ≡ held_of [] → pen.broken ≡ false → Reads start pen reader 0 start line pen reader
+pub reads_none : (start : Shown) (pen : Pen) (reader : Option (List ℕ)) (line : Held) → line ≡ held_of [] → pen.broken ≡ false → Reads start pen reader 0 start line pen reader
 reads_none start pen reader line cleared sound = record {
   bytes = [];
   consumed = Consumes-nil reader;
   counted = refl;
   few = omega arith;
-  stands = record { state = refl; text = writes_nil pen; line_is = cleared; sound = sound };
+  stands = record { shown = refl; text = writes_nil pen; line_is = cleared; sound = sound };
 }
 
 -- below the limit all that was read stands
-pub reads_within : (start now : State) (pen new : Pen) (reader left : Option (List ℕ)) (count : ℕ) (line : Held) (h : Reads start pen reader count now line new left) → count ≤ SCRIPT_LIMIT
+pub reads_within : (start now : Shown) (pen new : Pen) (reader left : Option (List ℕ)) (count : ℕ) (line : Held) (h : Reads start pen reader count now line new left) → count ≤ SCRIPT_LIMIT
     → Stands start pen h.bytes now line new
 reads_within start now pen new reader left count line h within =
     let all : take SCRIPT_LIMIT h.bytes ≡ h.bytes = take_all SCRIPT_LIMIT h.bytes (omega (arith, h.counted)) in
     subst (λ b. Stands start pen b now line new) all h.stands
 
-pub reads_more : (start now stepped : State) (pen mid new : Pen) (reader left after : Option (List ℕ)) (count n part : ℕ) (buf : List ℕ) (line cleared : Held)
+pub reads_more : (start now stepped : Shown) (pen mid new : Pen) (reader left after : Option (List ℕ)) (count n part : ℕ) (buf : List ℕ) (line cleared : Held)
     → (h : Reads start pen reader count now line mid left) → count ≤ SCRIPT_LIMIT → n ≤ length buf → count + n ≤ SCRIPT_LIMIT + 1 → part ≡ min n (SCRIPT_LIMIT - count) → Consumes left after (take n buf)
     → Stands start pen (h.bytes ++ take part buf) stepped cleared new → Reads start pen reader (count + n) stepped cleared new after
 reads_more start now stepped pen mid new reader left after count n part buf line cleared h within room few least consumed stands = record {
@@ -313,7 +332,7 @@ reads_more start now stepped pen mid new reader left after count n part buf line
       subst (λ b. Stands start pen b stepped cleared new) (ap (λ k. h.bytes ++ take k buf) same ∙ sym (read_more n SCRIPT_LIMIT h.bytes buf size)) stands;
 }
 
-pub overflows_piece : (start now stepped : State) (pen mid new : Pen) (reader left after : Option (List ℕ)) (count n part : ℕ) (buf : List ℕ) (line : Held)
+pub overflows_piece : (start now stepped : Shown) (pen mid new : Pen) (reader left after : Option (List ℕ)) (count n part : ℕ) (buf : List ℕ) (line : Held)
     → (h : Reads start pen reader count now line mid left) → count ≤ SCRIPT_LIMIT → n ≤ length buf → count + n ≤ SCRIPT_LIMIT + 1 → part ≡ min n (SCRIPT_LIMIT - count) → Consumes left after (take n buf)
     → StopsAtLine start pen (whole_lines (h.bytes ++ take part buf)) stepped new → Overflows start pen reader stepped new after
 overflows_piece start now stepped pen mid new reader left after count n part buf line h within room few least consumed stops =
@@ -334,7 +353,7 @@ overflows_piece start now stepped pen mid new reader left after count n part buf
     }
 
 -- past the limit
-pub finishes_past : (start now : State) (pen mid new : Pen) (reader left : Option (List ℕ)) (count : ℕ) (line : Held)
+pub finishes_past : (start now : Shown) (pen mid new : Pen) (reader left : Option (List ℕ)) (count : ℕ) (line : Held)
     → (h : Reads start pen reader count now line mid left) → SCRIPT_LIMIT < count → Writes mid new too_long_text → new.broken ≡ false → Finishes start pen reader TooLong now new left
 finishes_past start now pen mid new reader left count line h past told sound =
     let long : SCRIPT_LIMIT < length h.bytes = omega (arith, h.counted) in
@@ -345,12 +364,12 @@ finishes_past start now pen mid new reader left count line h past told sound =
       few = omega (arith, h.counted, h.few);
       end_is = sym (ap (λ (o : ScriptOutcome). o.end) is);
       at_end = λ e. let bad : TooLong ≡ Done = e in (cc);
-      state = h.stands.state ∙ sym (ap (λ (o : ScriptOutcome). o.state) is);
+      shown = h.stands.shown ∙ sym (ap (λ (o : ScriptOutcome). o.shown) is);
       text = subst (Appends pen.known new.known) (sym (ap (λ (o : ScriptOutcome). o.text) is)) (appended_whole (writes_trans h.stands.text told) sound);
       sound = sound;
     }
 
-pub overflows_past : (start now : State) (pen mid new : Pen) (reader left : Option (List ℕ)) (count : ℕ) (line : Held)
+pub overflows_past : (start now : Shown) (pen mid new : Pen) (reader left : Option (List ℕ)) (count : ℕ) (line : Held)
     → (h : Reads start pen reader count now line mid left) → SCRIPT_LIMIT < count → Writes mid new too_long_text → new.broken ≡ true → Overflows start pen reader now new left
 overflows_past start now pen mid new reader left count line h past told broken =
     let long : SCRIPT_LIMIT < length h.bytes = omega (arith, h.counted) in
@@ -362,7 +381,7 @@ overflows_past start now pen mid new reader left count line h past told broken =
       stops = inr (
         long,
         subst (λ l. StopsAtLimit start pen l now new) (sym (lines_run_past h.bytes long)) (record {
-          state = h.stands.state;
+          shown = h.stands.shown;
           text = beyond.0;
           all_before = beyond.1;
           broken = broken;
@@ -376,13 +395,13 @@ consumes_none reader left after bytes buf n consumed nothing e =
     subst (Consumes reader after) (ap (λ k. bytes ++ take k buf) e ∙ append-nil bytes) (Consumes-trans reader left after bytes (take n buf) consumed nothing)
 
 -- past the limit nothing more counts
-outcome_of-front : (s : State) (script more : List ℕ) → SCRIPT_LIMIT < length script → outcome_of s (script ++ more) ≡ outcome_of s script
+outcome_of-front : (s : Shown) (script more : List ℕ) → SCRIPT_LIMIT < length script → outcome_of s (script ++ more) ≡ outcome_of s script
 outcome_of-front s script more past =
     let both : SCRIPT_LIMIT < length (script ++ more) = omega (arith, length-append script more) in
     let front : take SCRIPT_LIMIT (script ++ more) ≡ take SCRIPT_LIMIT script = take-append-le SCRIPT_LIMIT script more (omega arith) in
     outcome_past s (script ++ more) both ∙ ap (λ b. outcome_at s (whole_lines b) true) front ∙ sym (outcome_past s script past)
 
-outcome_of_all : (s : State) (xs script ys : List ℕ) (end : End) → xs ≡ script ++ ys → end ≡ (outcome_of s script).end → (end ≡ Done → ys ≡ []) → outcome_of s xs ≡ outcome_of s script
+outcome_of_all : (s : Shown) (xs script ys : List ℕ) (end : End) → xs ≡ script ++ ys → end ≡ (outcome_of s script).end → (end ≡ Done → ys ≡ []) → outcome_of s xs ≡ outcome_of s script
 outcome_of_all s xs script ys end e is at_end = elim (cases_lt SCRIPT_LIMIT (length script)) [
   | inl past ↦ ap (outcome_of s) e ∙ outcome_of-front s script ys past
   | inr within ↦
@@ -391,16 +410,16 @@ outcome_of_all s xs script ys end e is at_end = elim (cases_lt SCRIPT_LIMIT (len
 ]
 
 -- where the reader's bytes are known, the run is the outcome of all of them
-pub finishes_known : (start now : State) (pen new : Pen) (end : End) (reader left : Option (List ℕ)) → Finishes start pen reader end now new left
-    → IfSome reader (λ script. (end ≡ (outcome_of start script).end) × (now ≡ (outcome_of start script).state) × Appends pen.known new.known (outcome_of start script).text)
+pub finishes_known : (start now : Shown) (pen new : Pen) (end : End) (reader left : Option (List ℕ)) → Finishes start pen reader end now new left
+    → IfSome reader (λ script. (end ≡ (outcome_of start script).end) × (now ≡ (outcome_of start script).shown) × Appends pen.known new.known (outcome_of start script).text)
 finishes_known start now pen new end None left h = tt
 finishes_known start now pen new end (Some xs) None h = absurd h.consumed
 finishes_known start now pen new end (Some xs) (Some ys) h =
     let same = outcome_of_all start xs h.script ys end h.consumed h.end_is h.at_end in
-    (h.end_is ∙ sym (ap (λ (o : ScriptOutcome). o.end) same), h.state ∙ sym (ap (λ (o : ScriptOutcome). o.state) same), subst (Appends pen.known new.known) (sym (ap (λ (o : ScriptOutcome). o.text) same)) h.text)
+    (h.end_is ∙ sym (ap (λ (o : ScriptOutcome). o.end) same), h.shown ∙ sym (ap (λ (o : ScriptOutcome). o.shown) same), subst (Appends pen.known new.known) (sym (ap (λ (o : ScriptOutcome). o.text) same)) h.text)
 
-pub runs_known : (start now : State) (pen new : Pen) (result : Result End RunFault) (reader left : Option (List ℕ)) → Runs start pen reader result now new left
-    → IfSome reader (λ script. IfOk result (λ end. (end ≡ (outcome_of start script).end) × (now ≡ (outcome_of start script).state) × Appends pen.known new.known (outcome_of start script).text))
+pub runs_known : (start now : Shown) (pen new : Pen) (result : Result End RunFault) (reader left : Option (List ℕ)) → Runs start pen reader result now new left
+    → IfSome reader (λ script. IfOk result (λ end. (end ≡ (outcome_of start script).end) × (now ≡ (outcome_of start script).shown) × Appends pen.known new.known (outcome_of start script).text))
 runs_known start now pen new (Ok end) reader left h = finishes_known start now pen new end reader left h
 runs_known start now pen new (Err e) None left h = tt
 runs_known start now pen new (Err e) (Some xs) left h = tt

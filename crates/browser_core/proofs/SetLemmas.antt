@@ -1,7 +1,6 @@
 -- Setting a question to a value.
-use Rattle.std.proofs.Common.{◌≡◌, ◌⊎◌, ℕ, ◌+◌, ◌<◌, ◌≤◌, Bool, true, false, List, length, Option, Some, None, Ok, Err, refl, sym, ap, ◌∙◌, subst, arith, inl, inr}
+use Rattle.std.proofs.Common.{◌≡◌, ◌⊎◌, ℕ, ◌+◌, ◌<◌, ◌≤◌, Bool, true, false, List, [], length, Option, Some, None, ◌++◌, Ok, Err, refl, sym, ap, ◌∙◌, subst, arith, inl, inr}
 use Rattle.std.specs.Prelude.{option_map, if◌then◌else◌}
-use Rattle.std.specs.Option.{IsSomeAnd}
 use Rattle.std.proofs.lemmas.Bool.{cases_lt}
 use Rattle.ifr_opcodes.specs.Forest.{Placed}
 use Rattle.ifr_opcodes.specs.Reading.{tree_of}
@@ -34,12 +33,16 @@ use Rattle.guard_policy.specs.declared.policy.Policy.{Policy}
 use Rattle.guard_policy.specs.code.Answers.{unless}
 use Rattle.guard_policy.proofs.DenialLemmas.{none_of, some_of}
 use Rattle.guard_policy.specs.declared.denial.Denial.{Denial}
+use Rattle.browser_core.specs.Renewed.{named_if}
 use Rattle.browser_core.specs.State.{State, world_of, world_with}
-use Rattle.browser_core.specs.Step.{accepted, denied, set_unless_fixed, set_unless_forbidden, set_question, commit, submitted}
+use Rattle.kept_conditions.specs.Kept.{KeptMap}
+use Rattle.kept_conditions.specs.code.Setting.{put_in}
+use Rattle.browser_core.specs.Texts.{ok_text}
+use Rattle.browser_core.specs.Step.{accepted, denied, warned_text, set_unless_fixed, set_unless_forbidden, set_question, commit, submitted}
 use Rattle.browser_core.specs.code.Changing.{IsOver, TakesField, SetsValue}
-use Rattle.browser_core.proofs.AgreeLemmas.{copied_agree}
 use Rattle.browser_core.specs.Opening.{IsBrowsable, layout_in}
-use Rattle.browser_core.specs.code.Standing.{IsQuestionIn}
+use Rattle.browser_core.specs.code.Standing.{IsQuestionIn, LiesIn}
+use Rattle.browser_core.specs.declared.reply.Reply.TheVariants.{Denied}
 
 -- ---- questions of the package
 
@@ -85,6 +88,11 @@ pub is_question_at : (ifr : List ℕ) (n : Placed) (q : Asked) → IsNodeOf ifr 
 is_question_at ifr n q node e =
     let is = asked_if (nodes_of ifr) n (is_question n) q e in
     (rw is.1 (record { asks = is.0; own = refl; node = node }), ap (λ (x : Asked). x.node) is.1, is.0)
+
+-- the field of a question lies in its store
+pub lies_in : (ifr : List ℕ) (q : Asked) → IsBrowsable ifr → IsQuestionIn ifr q → LiesIn (layout_in ifr) q
+lies_in ifr q browsable is = λ f has.
+    holds_fields (nodes_of ifr) q.node f browsable.questions (contains_found (nodes_of ifr) q.node.place q.node is.node) is.asks (sym (ap (λ (x : Asked). x.field) is.own) ∙ has)
 
 -- ---- whether it takes a value
 
@@ -171,37 +179,33 @@ outside_of new at wide away = elim (cases_lt at new.offset) [
 
 -- ---- whether it may have the value
 
-pub sets_value : (policy : Policy) (q : Asked) (offer : Offer) (spare m : StoreMap) (new : Field) → TakesField policy m q offer (Ok new) → unless (inconsistent (world policy (put m new)) q.node) ≡ Ok tt
-    → SetsValue policy q offer spare m (put m new) (Ok new)
-sets_value policy q offer spare m new takes free = (
-  refl,
+pub sets_value : (policy : Policy) (q : Asked) (offer : Offer) (old new : KeptMap) (field : Field) → TakesField policy old.stores q offer (Ok field) → new ≡ put_in old field → inconsistent (world policy new.stores) q.node ≡ None
+    → SetsValue policy q offer old new (Ok field)
+sets_value policy q offer old new field takes is free = (
+  is,
   takes.1,
   takes.2,
   λ s over.
-      let none : inconsistent (world_with s (put m new)) q.node ≡ None = subst (λ (w : World). inconsistent w q.node ≡ None) (over_with policy m (put m new) s over) (none_of (inconsistent (world policy (put m new)) q.node) free) in
-      takes.3 s over ∙ ap (set_unless_forbidden s (put m new) q.node) none,
+      let now : new.stores ≡ put old.stores field = ap (λ (m : KeptMap). m.stores) is in
+      let none : inconsistent (world_with s (put old.stores field)) q.node ≡ None = subst (λ (w : World). inconsistent w q.node ≡ None) (ap (world policy) now ∙ over_with policy old.stores (put old.stores field) s over) free in
+      takes.3 s over ∙ ap (set_unless_forbidden s (put old.stores field) q.node) none
+      ∙ ap (λ (m : StoreMap). accepted (record s { working = m }) (ok_text ++ warned_text s m q.node)) (sym now),
   takes.0,
 )
 
--- a value that is forbidden, and stores to which the field is given back
-pub gives_back : (policy : Policy) (q : Asked) (offer : Offer) (spare m now : StoreMap) (new : Field) (denial : Denial) → TakesField policy m q offer (Ok new) → unless (inconsistent (world policy (put m new)) q.node) ≡ Err denial
-    → shape_of m ≡ shape_of spare → IsSomeAnd (bytes_of_field spare new.store new.offset new.width) (λ bytes. now ≡ with_bytes (put m new) new.store new.offset bytes) → shape_of now ≡ shape_of (put m new)
-    → ((bytes : List ℕ) → length bytes ≡ new.width → put m new ≡ with_bytes spare new.store new.offset bytes → now ≡ spare) → SetsValue policy q offer spare m now (Err denial)
-gives_back policy q offer spare m now new denial takes why laid copied shape back =
-    let kept : shape_of (put m new) ≡ shape_of m = shape_after m new.store new.offset (new_bytes new) in
-    let range : HasRange (shape_of (put m new)) new.store new.offset new.width = subst (λ (sh : Shape). HasRange sh new.store new.offset new.width) (sym kept) takes.0 in (
-      shape ∙ kept,
-      λ store at alike. copied_agree (put m new) spare now new.store new.offset new.width (kept ∙ laid) range copied store at
-          (λ away. byte_after m new.store new.offset store at (new_bytes new) (λ same. outside_of new at takes.1 (λ w. away (same, w.0, w.1))) ∙ alike),
-      λ same. back (new_bytes new) takes.1 (ap (λ (stores : StoreMap). put stores new) same),
-      λ s over.
-          let some : inconsistent (world_with s (put m new)) q.node ≡ Some denial = subst (λ (w : World). inconsistent w q.node ≡ Some denial) (over_with policy m (put m new) s over) (some_of (inconsistent (world policy (put m new)) q.node) denial why) in
-          takes.3 s over ∙ ap (set_unless_forbidden s (put m new) q.node) some,
-    )
+-- a value that is forbidden
+pub denies_value : (policy : Policy) (q : Asked) (offer : Offer) (old new : KeptMap) (field : Field) (denial : Denial) → TakesField policy old.stores q offer (Ok field) → new ≡ old
+    → inconsistent (world policy (put old.stores field)) q.node ≡ Some denial → SetsValue policy q offer old new (Err denial)
+denies_value policy q offer old new field denial takes is why = (
+  is,
+  λ s over.
+      let some : inconsistent (world_with s (put old.stores field)) q.node ≡ Some denial = subst (λ (w : World). inconsistent w q.node ≡ Some denial) (over_with policy old.stores (put old.stores field) s over) why in
+      takes.3 s over ∙ ap (set_unless_forbidden s (put old.stores field) q.node) some,
+)
 
 -- a question that takes no value leaves the stores
-pub leaves_all : (policy : Policy) (q : Asked) (offer : Offer) (spare m : StoreMap) (denial : Denial) → TakesField policy m q offer (Err denial) → SetsValue policy q offer spare m m (Err denial)
-leaves_all policy q offer spare m denial takes = (refl, λ store at alike. alike, λ same. same, takes)
+pub leaves_all : (policy : Policy) (q : Asked) (offer : Offer) (old : KeptMap) (denial : Denial) → TakesField policy old.stores q offer (Err denial) → SetsValue policy q offer old old (Err denial)
+leaves_all policy q offer old denial takes = (refl, takes)
 
 -- ---- whether the stores may be submitted
 
@@ -210,3 +214,9 @@ submits s free = let none = none_of (unsubmitted (world_of s)) free in rw none r
 
 pub submits_nothing : (s : State) (denial : Denial) → unless (unsubmitted (world_of s)) ≡ Err denial → submitted s ≡ denied s denial
 submits_nothing s denial why = let some = some_of (unsubmitted (world_of s)) denial why in rw some refl
+
+-- ---- a command that is denied names no question
+
+pub names_nothing : (o : Option Placed) (denial : Denial) → named_if o (Denied denial) ≡ []
+names_nothing None denial = refl
+names_nothing (Some n) denial = refl

@@ -2,6 +2,7 @@ pub mod State
 pub mod Texts
 pub mod Configuration
 pub mod Step
+pub mod Renewed
 pub mod Run
 pub mod Opening
 pub mod code

@@ -5,7 +5,7 @@ use Rattle.hii_bytes.specs.Watching.{Pen, Writes}
 use Rattle.hii_bytes.specs.declared.cause.Cause.TheVariants.{ScriptTooLong}
 use Rattle.hii_commands.specs.declared.limits.TheConstants.{SCRIPT_LIMIT}
 use Rattle.hii_commands.specs.Script.{whole_lines, is_too_long, lines_run}
-use Rattle.browser_core.specs.State.{State}
+use Rattle.browser_core.specs.Renewed.{Shown, shown_line}
 use Rattle.browser_core.specs.Step.{step_line}
 use Rattle.browser_core.specs.Texts.{refused_text}
 use Rattle.browser_core.specs.declared.reply.End.{End}
@@ -13,15 +13,16 @@ use Rattle.browser_core.specs.declared.reply.End.TheVariants.{Done, TooLong}
 use Rattle.browser_core.specs.declared.reply.RunFault.{RunFault}
 use Rattle.browser_core.specs.declared.reply.RunFault.TheVariants.{Read, Write}
 
--- the state after these lines
-abbrev pub state_after : State → List (List ℕ) → State
-state_after s [] = s
-state_after s (line ∷ lines) = state_after (step_line s line).state lines
+-- what a session shows after these lines
+abbrev pub shown_after_lines : Shown → List (List ℕ) → Shown
+shown_after_lines shown [] = shown
+shown_after_lines shown (line ∷ lines) = shown_after_lines (shown_line shown line) lines
 
 -- the texts of these lines, one after the other
-abbrev pub text_of : State → List (List ℕ) → List ℕ
-text_of s [] = []
-text_of s (line ∷ lines) = (step_line s line).text ++ text_of (step_line s line).state lines
+abbrev pub text_of : Shown → List (List ℕ) → List ℕ
+text_of shown [] = []
+text_of shown (line ∷ lines) =
+    (step_line shown.state line).text ++ text_of (shown_line shown line) lines
 
 -- how a script that is too long is answered, after its lines
 abbrev pub too_long_text : List ℕ
@@ -29,62 +30,62 @@ too_long_text = refused_text ScriptTooLong
 
 -- what a script leaves, writes and ends with
 pub record ScriptOutcome : Type 0 where
-  pub state : State
+  pub shown : Shown
   pub text : List ℕ
   pub end : End
 
-abbrev pub outcome_of : State → List ℕ → ScriptOutcome
+abbrev pub outcome_of : Shown → List ℕ → ScriptOutcome
 outcome_of s script = record {
-  state = state_after s (lines_run script);
+  shown = shown_after_lines s (lines_run script);
   text = text_of s (lines_run script) ++ (if is_too_long script then too_long_text else []);
   end = if is_too_long script then TooLong else Done;
 }
 
 -- Some lines were carried out up to one at which the writer failed. All texts before that one's were written whole.
-pub record StopsAtLine (start : State) (pen : Pen) (lines : List (List ℕ)) (now : State)
+pub record StopsAtLine (start : Shown) (pen : Pen) (lines : List (List ℕ)) (now : Shown)
     (new : Pen) : Type 0 where
   pub before : List (List ℕ)
   pub last : List (List ℕ)
   pub later : List (List ℕ)
   pub one : length last ≤ 1
   pub front : lines ≡ (before ++ last) ++ later
-  pub state : now ≡ state_after start (before ++ last)
+  pub shown : now ≡ shown_after_lines start (before ++ last)
   pub text : Writes pen new (text_of start (before ++ last))
   pub all_before : length (text_of start before) ≤ text.part
   pub broken : new.broken ≡ true
 
 -- All lines were carried out, and the writer failed at the answer that the script is too long.
-pub record StopsAtLimit (start : State) (pen : Pen) (lines : List (List ℕ)) (now : State)
+pub record StopsAtLimit (start : Shown) (pen : Pen) (lines : List (List ℕ)) (now : Shown)
     (new : Pen) : Type 0 where
-  pub state : now ≡ state_after start lines
+  pub shown : now ≡ shown_after_lines start lines
   pub text : Writes pen new (text_of start lines ++ too_long_text)
   pub all_before : length (text_of start lines) ≤ text.part
   pub broken : new.broken ≡ true
 
 -- The script was read to its end, or to the byte past the limit.
-pub record Finishes (start : State) (pen : Pen) (reader : Option (List ℕ)) (end : End) (now : State)
+pub record Finishes (start : Shown) (pen : Pen) (reader : Option (List ℕ)) (end : End) (now : Shown)
     (new : Pen) (left : Option (List ℕ)) : Type 0 where
   pub script : List ℕ
   pub consumed : Consumes reader left script
   pub few : length script ≤ SCRIPT_LIMIT + 1
   pub end_is : end ≡ (outcome_of start script).end
   pub at_end : end ≡ Done → IsAtEnd left
-  pub state : now ≡ (outcome_of start script).state
+  pub shown : now ≡ (outcome_of start script).shown
   pub text : Appends pen.known new.known (outcome_of start script).text
   pub sound : new.broken ≡ false
 
 -- The reader failed after these bytes. The lines that they end were carried out.
-pub record BreaksOff (start : State) (pen : Pen) (reader : Option (List ℕ)) (now : State)
+pub record BreaksOff (start : Shown) (pen : Pen) (reader : Option (List ℕ)) (now : Shown)
     (new : Pen) (left : Option (List ℕ)) : Type 0 where
   pub bytes : List ℕ
   pub consumed : Consumes reader left bytes
   pub few : length bytes ≤ SCRIPT_LIMIT
-  pub state : now ≡ state_after start (whole_lines bytes)
+  pub shown : now ≡ shown_after_lines start (whole_lines bytes)
   pub text : Appends pen.known new.known (text_of start (whole_lines bytes))
   pub sound : new.broken ≡ false
 
 -- The writer failed after these bytes were read, at one of the lines that stand in them, or at the answer that they are too many.
-pub record Overflows (start : State) (pen : Pen) (reader : Option (List ℕ)) (now : State)
+pub record Overflows (start : Shown) (pen : Pen) (reader : Option (List ℕ)) (now : Shown)
     (new : Pen) (left : Option (List ℕ)) : Type 0 where
   pub bytes : List ℕ
   pub consumed : Consumes reader left bytes
@@ -92,7 +93,7 @@ pub record Overflows (start : State) (pen : Pen) (reader : Option (List ℕ)) (n
   pub stops : StopsAtLine start pen (lines_run bytes) now new
       ⊎ ((SCRIPT_LIMIT < length bytes) × StopsAtLimit start pen (lines_run bytes) now new)
 
-abbrev pub Runs : State → Pen → Option (List ℕ) → Result End RunFault → State → Pen
+abbrev pub Runs : Shown → Pen → Option (List ℕ) → Result End RunFault → Shown → Pen
     → Option (List ℕ) → Type 0
 Runs start pen reader (Ok end) now new left = Finishes start pen reader end now new left
 Runs start pen reader (Err Read) now new left = BreaksOff start pen reader now new left

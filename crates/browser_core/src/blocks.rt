@@ -1,52 +1,94 @@
 //! The blocks of a configuration text, and the questions that they set.
 
-ghost use Rattle.std.specs.Prelude.{◌≡◌, ◌<◌, ◌^◌, length, take};
+ghost use Rattle.std.specs.Prelude.{◌≡◌, ◌<◌, ◌^◌, Some, length, take};
 ghost use Rattle.config_text.specs.code.BlocksLeft.{blocks_left};
 ghost use Rattle.config_text.specs.code.Views.{block_view};
 ghost use Rattle.hii_questions.specs.code.Ranges.{range_in};
-ghost use Rattle.hii_varstore.specs.Stores.{shape_of};
+ghost use Rattle.hii_varstore.specs.code.Ranges.{HasRange};
+ghost use Rattle.hii_varstore.specs.Stores.{bytes_of_field, shape_of};
 ghost use Rattle.guard_policy.specs.code.Views.{bytes_of};
 ghost use Rattle.browser_core.specs.Opening.{IsBrowsable, layout_in};
-ghost use Rattle.browser_core.specs.code.Changing.{Chooses, CopiesBlocks, FirstChoice, HaveRanges, SetsBlock, SetsBlocks};
+ghost use Rattle.browser_core.specs.code.Changing.{Chooses, CopiesBlocks, FirstChoice, HaveRanges, SetsBlock, SetsBlocks, range_of_block};
 
 use crate::change::{are_bytes, set_value};
 use config_text::{Block, Blocks};
 use guard_policy::{Denial, Policy};
 use hii_questions::{DenialKind, FieldRange, Input, Question, Questions, WIDEST_FIELD};
 use hii_varstore::Stores;
+use kept_conditions::{KeptStores, Ranges};
 
 /// Sets the question of each block of a store, one after the other, and tells how many blocks there are; or tells why one is
-/// denied, and none is set. What was alike in the working stores and the spare ones is so afterwards: each block is given back
-/// from the spare stores, or kept there, in its field alone.
+/// denied, and none is set. The spare stores hold what the working ones do, before and afterwards: they follow in the fields of the
+/// blocks alone, and so do the working ones where they go back.
 pub(crate) fn set_blocks<'a>(
     policy: Policy<'a, '_>,
     questions: &Questions<'a>,
     store: u16,
     blocks: Blocks<'_>,
-    working: &mut Stores,
+    working: &mut KeptStores<'a>,
     spare: &mut Stores,
 ) -> Result<u64, Denial>
     requires together { questions.now.ifr ≡ bytes_of policy }
+    requires package { working.old.ifr ≡ bytes_of policy }
     requires browsable { IsBrowsable (bytes_of policy) }
-    requires working { shape_of working.old ≡ layout_in (bytes_of policy) }
-    requires spare { shape_of spare.old ≡ layout_in (bytes_of policy) }
+    requires laid { shape_of working.old.stores ≡ layout_in (bytes_of policy) }
+    requires same { spare.old ≡ working.old.stores }
     requires few { length (blocks_left blocks) < 2 ^ 64 }
-    ensures { SetsBlocks policy.entry store (blocks_left blocks.entry) working.old spare.old
-        working.new spare.new result }
+    ensures { SetsBlocks policy.entry store (blocks_left blocks.entry) working.old working.new
+        spare.new result }
 {
     let mut left = blocks;
     let mut count = 0;
     while let Some(block) = left.next() {
-        match set_block(policy, questions, store, block, working, spare) {
+        match set_block(policy, questions, store, block, working) {
             Ok(()) => count += 1,
             Err(denial) => {
-                copy_blocks(store, blocks, count, spare, working);
+                let fields = BlockFields {
+                    store,
+                    blocks,
+                    count,
+                };
+                working.give_back(policy, spare, fields);
                 return Err(denial);
             }
         }
     }
-    copy_blocks(store, blocks, count, working, spare);
+    copy_blocks(store, blocks, count, working.stores(), spare);
     Ok(count)
+}
+
+/// The fields of the first so many blocks that are left.
+#[derive(Drop)]
+struct BlockFields<'t> {
+    store: u16,
+    blocks: Blocks<'t>,
+    count: u64,
+}
+
+impl<'t> Ranges for BlockFields<'t> {
+    ghost use Rattle.browser_core.specs.code.Changing.{fields_left};
+
+    ghost ranges = { fields_left };
+
+    fn next(&mut self) -> Option<FieldRange> {
+        if self.count == 0 {
+            return None;
+        }
+        let block = self.blocks.next()?;
+        self.count -= 1;
+        Some(field_of(self.store, block))
+    }
+}
+
+// The field of a block of a store.
+fn field_of(store: u16, block: Block<'_>) -> FieldRange
+    ensures { result ≡ range_of_block store (block_view block.entry) }
+{
+    FieldRange {
+        store,
+        offset: block.offset,
+        width: usize::from(block.width),
+    }
 }
 
 // Takes over the bytes of the first so many blocks of a store from other stores.
@@ -74,28 +116,35 @@ fn set_block<'a>(
     questions: &Questions<'a>,
     store: u16,
     block: Block<'_>,
-    working: &mut Stores,
-    spare: &Stores,
+    working: &mut KeptStores<'a>,
 ) -> Result<(), Denial>
     requires together { questions.now.ifr ≡ bytes_of policy }
+    requires package { working.old.ifr ≡ bytes_of policy }
     requires browsable { IsBrowsable (bytes_of policy) }
-    requires working { shape_of working.old ≡ layout_in (bytes_of policy) }
-    requires spare { shape_of spare.now ≡ layout_in (bytes_of policy) }
-    ensures { SetsBlock policy.entry store (block_view block.entry) spare.now working.old
-        working.new result }
+    requires laid { shape_of working.old.stores ≡ layout_in (bytes_of policy) }
+    ensures { SetsBlock policy.entry store (block_view block.entry) working.old working.new result }
 {
-    let range = FieldRange {
-        store,
-        offset: block.offset,
-        width: usize::from(block.width),
-    };
+    let range = field_of(store, block);
     let question = question_with(policy, questions, range, working)?;
-    let mut bytes = [0; WIDEST_FIELD];
-    let bytes = &mut bytes[..range.width];
-    block.value_into(bytes);
-    are_bytes(bytes);
-    set_value(policy, question, Input::Field(bytes), working, spare)?;
+    let mut new = [0; WIDEST_FIELD];
+    let new = &mut new[..range.width];
+    block.value_into(new);
+    are_bytes(new);
+    let mut old = [0; WIDEST_FIELD];
+    let old = &mut old[..range.width];
+    keep_field(working.stores(), range, old);
+    set_value(policy, question, Input::Field(new), working, old)?;
     Ok(())
+}
+
+// Copies the bytes of a field.
+fn keep_field(stores: &Stores, field: FieldRange, into: &mut [u8])
+    requires range { HasRange (shape_of stores.now) field.store field.offset field.width }
+    requires size { length into.old ≡ field.width }
+    ensures { bytes_of_field stores.now field.store field.offset field.width ≡ Some into.new }
+{
+    let bytes = stores.field(field.store, usize::from(field.offset), field.width);
+    into.copy_from_slice(bytes.unwrap());
 }
 
 // The question that a block with this field sets, or why it sets none.
@@ -103,11 +152,12 @@ fn question_with<'a>(
     policy: Policy<'a, '_>,
     questions: &Questions<'a>,
     field: FieldRange,
-    working: &Stores,
+    working: &KeptStores<'a>,
 ) -> Result<Question<'a>, Denial>
     requires together { questions.now.ifr ≡ bytes_of policy }
+    requires package { working.now.ifr ≡ bytes_of policy }
     requires browsable { IsBrowsable (bytes_of policy) }
-    ensures { Chooses policy.entry working.now (range_in field) result }
+    ensures { Chooses policy.entry working.now.stores (range_in field) result }
 {
     let Some((question, free)) = first_choice(policy, questions, field, working) else {
         return Err(Denial::by(DenialKind::NoField, 0));
@@ -124,16 +174,17 @@ fn first_choice<'a>(
     policy: Policy<'a, '_>,
     questions: &Questions<'a>,
     field: FieldRange,
-    working: &Stores,
+    working: &KeptStores<'a>,
 ) -> Option<(Question<'a>, Result<(), Denial>)>
     requires together { questions.now.ifr ≡ bytes_of policy }
+    requires package { working.now.ifr ≡ bytes_of policy }
     requires browsable { IsBrowsable (bytes_of policy) }
-    ensures { FirstChoice policy.entry working.now (range_in field) result }
+    ensures { FirstChoice policy.entry working.now.stores (range_in field) result }
 {
     let mut first = None;
     let mut sharing = questions.with_field(field);
     while let Some(question) = sharing.next() {
-        match policy.changeable(question.statement(), working) {
+        match working.changeable(policy, question.statement()) {
             Ok(()) => return Some((question, Ok(()))),
             Err(denial) => {
                 if first.is_none() {

@@ -13,20 +13,25 @@ ghost use Rattle.ifr_scopes.specs.Nodes.{nodes_of, is_form};
 ghost use Rattle.ifr_scopes.specs.References.{form_with};
 ghost use Rattle.ifr_defaults.specs.Defaults as defaults;
 ghost use Rattle.hii_commands.specs.Meaning.{order_of, HasList};
+ghost use Rattle.hii_commands.specs.Orders.{DiscardChanges};
 ghost use Rattle.hii_varstore.specs.Stores.{shape_of};
 ghost use Rattle.hii_questions.specs.Fields.{question_with};
 ghost use Rattle.hii_questions.specs.code.Offers.{offer_of};
 ghost use Rattle.hii_questions.specs.code.Views.{question_node, question_view};
-ghost use Rattle.guard_policy.specs.Policy.{fixed};
+ghost use Rattle.guard_policy.specs.Policy.{fixed, unsubmitted};
 ghost use Rattle.guard_policy.specs.code.Answers.{unless};
-ghost use Rattle.guard_policy.specs.code.KeptConditions.{TellsAll};
 ghost use Rattle.guard_policy.specs.code.Views.{bytes_of, world};
 ghost use Rattle.form_page.specs.code.PageViews as pages;
+ghost use Rattle.browser_core.specs.Renewed.{Shown, field_writes, named_if, opened, pressed_if, response_writes, shown_after, writes_of};
 ghost use Rattle.browser_core.specs.State.{State, world_of, texts};
+ghost use Rattle.browser_core.specs.code.Changing.{IsHeld};
+ghost use Rattle.browser_core.specs.code.Counting.{counted_all};
 ghost use Rattle.browser_core.specs.Step as steps;
-ghost use Rattle.browser_core.specs.Step.{step, denied, why_question, set_question, warned_text, show_page, changed, are_same_bytes, field_bytes, commit, submitted, take_defaults as defaults_taken};
+ghost use Rattle.browser_core.specs.Step.{step, denied, why_question, set_question, warned_text, show_page, changed, are_same_bytes, field_bytes, commit, submitted, taken, take_defaults as defaults_taken};
 ghost use Rattle.browser_core.specs.code.Standing.{IsQuestionIn, Finds, Changes, Sets, Leads, Presses, TakesDefault, IsTold, IsUntold, Routes, LiesIn, IsOffered, answered};
 ghost use Rattle.browser_core.specs.Configuration.{store_named};
+ghost use Rattle.config_text.specs.Reading.{configuration_in};
+ghost use Rattle.config_text.specs.declared.kind.TextKind.TheVariants.{Tell};
 ghost use Rattle.config_text.specs.code.Views.{header_view};
 ghost use Rattle.config_text.specs.code.TextViews.{request_view, response_view};
 ghost use Rattle.std.specs.Option.{ok_or};
@@ -43,7 +48,7 @@ use crate::varstores::Varstores;
 use config_text::laws::blocks_are_few;
 use config_text::{Header, Request, Response, put_response, read_request, read_response};
 use form_page::Page;
-use guard_policy::{Conditions, Denial, Policy, Removed};
+use guard_policy::{Denial, Policy, Removed};
 use hii_bytes::{Cause, Fault, Watched};
 use hii_commands::Command;
 use hii_languages::{Choice, Languages};
@@ -54,6 +59,8 @@ use hii_varstore::{Layout, Stores};
 use ifr_defaults::default_of;
 use ifr_scopes::laws::a_node_is_that_of_its_place;
 use ifr_scopes::{Form, Forms, Statement, StatementKind};
+use kept_conditions::laws::what_is_kept_tells_of_the_stores;
+use kept_conditions::{Kept, KeptStores};
 use std::alloc::Global;
 use std::io::Write;
 use std::marker::Model;
@@ -71,8 +78,8 @@ pub(crate) struct Core<'a> {
     questions: Questions<'a>,
     removed: Removed,
     committed: Stores,
-    working: Stores,
-    // the working stores, from which what was changed is given back
+    working: KeptStores<'a>,
+    // what the working stores held before a command
     spare: Stores,
     form: Form<'a>,
     history: History,
@@ -81,21 +88,24 @@ pub(crate) struct Core<'a> {
 impl<'a> Model for Core<'a> {
     ghost use Rattle.hii_languages.specs.code.Views.{choice_of};
     ghost use Rattle.ifr_scopes.specs.code.Lists.{form_node};
-    ghost use Rattle.browser_core.specs.State.{State};
+    ghost use Rattle.browser_core.specs.Renewed.{Shown};
     ghost use Rattle.browser_core.specs.code.Standing.{Stands};
 
-    ghost Value = { State };
+    ghost Value = { Shown };
 
     ghost view = { λ c. record {
-      ifr = c.forms;
-      path = c.path.now;
-      removed = c.removed;
-      spoken = c.languages;
-      language = choice_of c.language;
-      committed = c.committed;
-      working = c.working;
-      form = (form_node c.form).place;
-      history = c.history.items;
+      state = record {
+        ifr = c.forms;
+        path = c.path.now;
+        removed = c.removed;
+        spoken = c.languages;
+        language = choice_of c.language;
+        committed = c.committed;
+        working = c.working.stores;
+        form = (form_node c.form).place;
+        history = c.history.items;
+      };
+      renewed = c.working.renewed;
     } };
 
     ghost invariant = { λ c. Stands c.forms c.varstores c.questions c.committed c.working c.spare
@@ -112,7 +122,8 @@ impl<'a> Core<'a> {
         stores: &[u8],
         lang: &[u8],
     ) -> Result<Core<'a>, Fault>
-        ensures opened { IfOk result (Opens list.entry.now forms stores.now lang.now) }
+        ensures opened { IfOk result (λ core. Opens list.entry.now forms stores.now lang.now core.state
+            × (core.renewed ≡ 0)) }
         ensures refused { IfErr result (Refuses (IsOpenFault list.entry.now forms stores.now)) }
         // Where the bytes open a session, nothing but an allocation that fails refuses it.
         ensures accepted { (start : State) → Opens list.entry.now forms stores.now lang.now start
@@ -127,9 +138,10 @@ impl<'a> Core<'a> {
         layout.buffers();
         let questions = Questions::read(alloc, &forms, &layout)?;
         let committed = Stores::read(alloc, &layout, stores)?;
-        let working = committed.copy(alloc)?;
+        let removed = Removed::at_open(alloc, &forms, &questions, &committed)?;
+        let policy = Policy::new(&forms, &questions, &removed);
+        let working = KeptStores::read(alloc, policy, &questions, committed.copy(alloc)?)?;
         let spare = committed.copy(alloc)?;
-        let removed = Removed::at_open(alloc, &forms, &questions, &working)?;
         let form = first_form(&forms);
         let language = languages.choose(lang);
         Ok(Core {
@@ -149,15 +161,22 @@ impl<'a> Core<'a> {
     }
 
     pub(crate) fn committed(&self) -> &Stores
-        ensures { result.now ≡ self.now.committed }
+        ensures { result.now ≡ self.now.state.committed }
     {
         &self.committed
     }
 
     pub(crate) fn working(&self) -> &Stores
-        ensures { result.now ≡ self.now.working }
+        ensures { result.now ≡ self.now.state.working }
     {
-        &self.working
+        self.working.stores()
+    }
+
+    /// How many conditions the last command evaluated anew, at most 2^64 - 1.
+    pub(crate) fn renewed(&self) -> u64
+        ensures { result ≡ self.now.renewed }
+    {
+        self.working.renewed()
     }
 
     /// Carries the command out and writes its text as far as the writer takes it.
@@ -167,10 +186,32 @@ impl<'a> Core<'a> {
         out: &mut Watched<W>,
     ) -> Reply
         requires { HasList command }
-        ensures state { self.new ≡ (step self.old (order_of command.entry)).state }
+        ensures shown { self.new ≡ shown_after self.old (order_of command.entry) }
         ensures text { Puts W.contents out.old out.new
-            (step self.old (order_of command.entry)).text }
-        ensures reply { result ≡ (step self.old (order_of command.entry)).reply }
+            (step self.old.state (order_of command.entry)).text }
+        ensures reply { result ≡ (step self.old.state (order_of command.entry)).reply }
+    {
+        self.count_anew();
+        self.obey(command, out)
+    }
+
+    // Begins to count the conditions that are evaluated anew.
+    fn count_anew(&mut self)
+        ensures { self.new ≡ opened self.old.state }
+    {
+        self.working.count_anew();
+    }
+
+    // Carries the command out, writes its text and counts on.
+    fn obey<W: Write>(&mut self, command: Command<'_>, out: &mut Watched<W>) -> Reply
+        requires { HasList command }
+        ensures state { self.new.state ≡ (step self.old.state (order_of command.entry)).state }
+        ensures text { Puts W.contents out.old out.new
+            (step self.old.state (order_of command.entry)).text }
+        ensures reply { result ≡ (step self.old.state (order_of command.entry)).reply }
+        ensures renewed { self.new.renewed ≡ counted_all self.old.renewed
+            (nodes_of self.old.state.ifr)
+            (writes_of self.old.state (order_of command.entry)) }
     {
         match command {
             Command::Page => {
@@ -200,8 +241,7 @@ impl<'a> Core<'a> {
             }
             Command::Submit => self.submit(out),
             Command::Discard => {
-                self.working.copy_from(&self.committed);
-                self.spare.copy_from(&self.committed);
+                self.discard();
                 out.put(b"OK\n");
                 Reply::Accepted
             }
@@ -210,53 +250,52 @@ impl<'a> Core<'a> {
 
     // What decides over the form set.
     fn policy(&self) -> Policy<'a, '_>
-        ensures bytes { bytes_of result ≡ self.now.ifr }
-        ensures removed { result.removed.now ≡ self.now.removed }
+        ensures bytes { bytes_of result ≡ self.now.state.ifr }
+        ensures removed { result.removed.now ≡ self.now.state.removed }
     {
         Policy::new(&self.forms, &self.questions, &self.removed)
     }
 
     /// The current form.
     pub(crate) fn form(&self) -> Form<'a>
-        ensures form { steps.form_of self.now ≡ Some (form_node result) }
-        ensures node { IsNodeOf self.now.ifr (form_node result) }
-        ensures accepted { IsAccepted self.now.ifr }
+        ensures form { steps.form_of self.now.state ≡ Some (form_node result) }
+        ensures node { IsNodeOf self.now.state.ifr (form_node result) }
+        ensures accepted { IsAccepted self.now.state.ifr }
     {
         self.forms.bytes();
         self.form
     }
 
-    // The page of the current form, by conditions that tell of the working stores.
-    fn page<'s, C: Conditions>(&'s self, conditions: &'s C) -> Page<'a, 's, C>
-        requires { TellsAll (C.holding conditions.now) (world_of self.now) }
-        ensures form { steps.form_of self.now ≡ Some (form_node result.form) }
-        ensures bytes { bytes_of result.policy ≡ self.now.ifr }
-        ensures world { pages.world_of result ≡ world_of self.now }
-        ensures stores { result.stores.now ≡ self.now.working }
-        ensures texts { pages.texts_of result ≡ texts self.now }
+    /// The page of the current form, by what is kept of conditions.
+    pub(crate) fn page(&self) -> Page<'a, '_, Kept<'a>>
+        ensures form { steps.form_of self.now.state ≡ Some (form_node result.form) }
+        ensures bytes { bytes_of result.policy ≡ self.now.state.ifr }
+        ensures world { pages.world_of result ≡ world_of self.now.state }
+        ensures stores { result.stores.now ≡ self.now.state.working }
+        ensures texts { pages.texts_of result ≡ texts self.now.state }
     {
+        what_is_kept_tells_of_the_stores();
         Page::new(
             self.form,
             self.policy(),
             &self.questions,
-            &self.working,
+            self.working.stores(),
             &self.languages,
             self.language,
-            conditions,
+            self.working.kept(),
         )
     }
 
     // Writes the page of the current form.
     fn put_page<W: Write>(&self, out: &mut Watched<W>)
-        ensures { Puts W.contents out.old out.new (show_page self.now).text }
+        ensures { Puts W.contents out.old out.new (show_page self.now.state).text }
     {
-        let conditions = self.policy().over(&self.working);
-        self.page(&conditions).put_page(out);
+        self.page().put_page(out);
     }
 
     // Writes why a command is denied.
     fn deny<W: Write>(&self, denial: Denial, out: &mut Watched<W>) -> Reply
-        ensures text { Puts W.contents out.old out.new (denied self.now denial).text }
+        ensures text { Puts W.contents out.old out.new (denied self.now.state denial).text }
         ensures reply { result ≡ Reply.Denied denial }
     {
         let message = self.languages.text(self.language, denial.message);
@@ -266,7 +305,7 @@ impl<'a> Core<'a> {
 
     // Writes by which cause a text in a command is refused.
     fn refuse<W: Write>(&self, cause: Cause, out: &mut Watched<W>) -> Reply
-        ensures text { Puts W.contents out.old out.new (steps.refused self.now cause).text }
+        ensures text { Puts W.contents out.old out.new (steps.refused self.now.state cause).text }
         ensures reply { result ≡ Reply.Refused cause }
     {
         put_refusal(cause, out);
@@ -275,8 +314,8 @@ impl<'a> Core<'a> {
 
     // Writes that a command was carried out, or why it is denied.
     fn answer<W: Write>(&self, done: Result<(), Denial>, out: &mut Watched<W>) -> Reply
-        ensures text { Puts W.contents out.old out.new (answered self.now done).text }
-        ensures reply { result ≡ (answered self.now done).reply }
+        ensures text { Puts W.contents out.old out.new (answered self.now.state done).text }
+        ensures reply { result ≡ (answered self.now.state done).reply }
     {
         match done {
             Ok(()) => {
@@ -289,7 +328,7 @@ impl<'a> Core<'a> {
 
     // The question of an id.
     fn find(&self, id: u16) -> Result<Question<'a>, Denial>
-        ensures { Finds self.now id result }
+        ensures { Finds self.now.state id result }
     {
         match self.questions.find(id) {
             Some(question) => Ok(question),
@@ -299,19 +338,19 @@ impl<'a> Core<'a> {
 
     // Whether a statement may be changed.
     fn changeable(&self, statement: Statement<'a>) -> Result<(), Denial>
-        requires { IsNodeOf self.now.ifr (statement_node statement) }
+        requires { IsNodeOf self.now.state.ifr (statement_node statement) }
         ensures denied { result
-            ≡ unless (fixed (world_of self.now) (statement_node statement.entry)) }
-        ensures browsable { IsBrowsable self.now.ifr }
-        ensures laid { shape_of self.now.working ≡ layout_in self.now.ifr }
+            ≡ unless (fixed (world_of self.now.state) (statement_node statement.entry)) }
+        ensures browsable { IsBrowsable self.now.state.ifr }
+        ensures laid { shape_of self.now.state.working ≡ layout_in self.now.state.ifr }
     {
-        self.policy().changeable(statement, &self.working)
+        self.working.changeable(self.policy(), statement)
     }
 
     // Tells what forbids a change of the question of an id, if something does.
     fn why(&self, id: u16) -> Result<(), Denial>
-        ensures { why_question self.now (question_with (nodes_of self.now.ifr) id)
-            ≡ answered self.now result }
+        ensures { why_question self.now.state (question_with (nodes_of self.now.state.ifr) id)
+            ≡ answered self.now.state result }
     {
         let question = self.find(id)?;
         self.changeable(question.statement())
@@ -320,15 +359,18 @@ impl<'a> Core<'a> {
     // Sets the question of an id to a value and writes of what it warns, or writes why it is denied.
     fn set<W: Write>(&mut self, id: u16, input: Input<'_>, out: &mut Watched<W>) -> Reply
         requires { IsOffered input }
-        ensures state { self.new
-            ≡ (set_question self.old (question_with (nodes_of self.old.ifr) id)
+        ensures state { self.new.state
+            ≡ (set_question self.old.state (question_with (nodes_of self.old.state.ifr) id)
             (offer_of input.entry)).state }
         ensures text { Puts W.contents out.old out.new
-            (set_question self.old (question_with (nodes_of self.old.ifr) id)
+            (set_question self.old.state (question_with (nodes_of self.old.state.ifr) id)
             (offer_of input.entry)).text }
         ensures reply { result
-            ≡ (set_question self.old (question_with (nodes_of self.old.ifr) id)
+            ≡ (set_question self.old.state (question_with (nodes_of self.old.state.ifr) id)
             (offer_of input.entry)).reply }
+        ensures renewed { self.new.renewed ≡ counted_all self.old.renewed
+            (nodes_of self.old.state.ifr) (field_writes (nodes_of self.old.state.ifr)
+            (named_if (question_with (nodes_of self.old.state.ifr) id) result)) }
     {
         match self.change_named(id, input) {
             Ok(question) => {
@@ -350,27 +392,29 @@ impl<'a> Core<'a> {
         Ok(question)
     }
 
-    // Gives a question a value, or answers why it may not have it. A value that is denied is taken back in its field alone.
+    // Gives a question a value, or answers why it may not have it. A value that is denied is taken back in
+    // its field alone.
     fn change(&mut self, question: Question<'a>, input: Input<'_>) -> Result<(), Denial>
-        requires question { IsQuestionIn self.old.ifr (question_view question) }
+        requires question { IsQuestionIn self.old.state.ifr (question_view question) }
         requires input { IsOffered input }
         ensures { Changes self.old (question_node question.entry) (offer_of input.entry) self.new
             result }
     {
         self.changeable(question.statement())?;
         let policy = Policy::new(&self.forms, &self.questions, &self.removed);
-        let field = set_value(policy, question, input, &mut self.working, &self.spare)?;
+        let old = held_in(&self.spare, question);
+        let field = set_value(policy, question, input, &mut self.working, old)?;
         field.put(&mut self.spare);
         Ok(())
     }
 
     // The default of a question for a class, if it has one.
     fn default_of(&self, question: Question<'a>, class: u16) -> Option<Input<'a>>
-        ensures default { option_map offer_of result ≡ defaults.default_of (steps.sources self.now)
+        ensures default { option_map offer_of result ≡ defaults.default_of (steps.sources self.now.state)
             (question_node question.entry) class }
         ensures offered { IfSome result IsOffered }
     {
-        let answers = self.questions.over(&self.working);
+        let answers = self.questions.over(self.working.stores());
         default_of(
             question,
             class,
@@ -383,7 +427,7 @@ impl<'a> Core<'a> {
 
     /// Sets the question that a statement is to its default of a class, where it has one and may have it, and tells whether.
     pub(crate) fn take_default(&mut self, statement: Statement<'a>, class: u16) -> bool
-        requires { IsNodeOf self.old.ifr (statement_node statement) }
+        requires { IsNodeOf self.old.state.ifr (statement_node statement) }
         ensures { TakesDefault self.old class (statement_node statement.entry) self.new result }
     {
         let Some(question) = self.policy().question(statement) else {
@@ -397,9 +441,12 @@ impl<'a> Core<'a> {
 
     // Sets the questions of the current form to their defaults of a class, and writes how many took them.
     fn take_defaults<W: Write>(&mut self, class: u16, out: &mut Watched<W>) -> Reply
-        ensures state { self.new ≡ (defaults_taken self.old class).state }
-        ensures text { Puts W.contents out.old out.new (defaults_taken self.old class).text }
-        ensures reply { result ≡ (defaults_taken self.old class).reply }
+        ensures state { self.new.state ≡ (defaults_taken self.old.state class).state }
+        ensures text { Puts W.contents out.old out.new (defaults_taken self.old.state class).text }
+        ensures reply { result ≡ (defaults_taken self.old.state class).reply }
+        ensures renewed { self.new.renewed ≡ counted_all self.old.renewed
+            (nodes_of self.old.state.ifr) (field_writes (nodes_of self.old.state.ifr)
+            (taken self.old.state class).questions) }
     {
         put_count(take_defaults(self, class), out);
         Reply::Accepted
@@ -408,17 +455,16 @@ impl<'a> Core<'a> {
     // The statement in a row of the page.
     fn statement_in_row(&self, row: u32) -> Option<Statement<'a>>
         ensures found { option_map statement_node result
-            ≡ steps.row_of_form self.now row (steps.form_of self.now) }
-        ensures node { IfSome result (λ statement. IsNodeOf self.now.ifr
+            ≡ steps.row_of_form self.now.state row (steps.form_of self.now.state) }
+        ensures node { IfSome result (λ statement. IsNodeOf self.now.state.ifr
             (statement_node statement)) }
     {
-        let conditions = self.policy().over(&self.working);
-        (&*self).page(&conditions).statement_in_row(row)
+        self.page().statement_in_row(row)
     }
 
     // The class of defaults that the button in a row sets, where it may be pressed.
     fn button(&self, row: u32) -> Result<u16, Denial>
-        ensures { Presses self.now row result }
+        ensures { Presses self.now.state row result }
     {
         let Some(statement) = self.statement_in_row(row) else {
             return Err(Denial::by(DenialKind::NoRow, 0));
@@ -432,9 +478,13 @@ impl<'a> Core<'a> {
 
     // Presses the button in a row of the page, or writes why it may not be pressed.
     fn press<W: Write>(&mut self, row: u32, out: &mut Watched<W>) -> Reply
-        ensures state { self.new ≡ (steps.press self.old row).state }
-        ensures text { Puts W.contents out.old out.new (steps.press self.old row).text }
-        ensures reply { result ≡ (steps.press self.old row).reply }
+        ensures state { self.new.state ≡ (steps.press self.old.state row).state }
+        ensures text { Puts W.contents out.old out.new (steps.press self.old.state row).text }
+        ensures reply { result ≡ (steps.press self.old.state row).reply }
+        ensures renewed { self.new.renewed ≡ counted_all self.old.renewed
+            (nodes_of self.old.state.ifr) (field_writes (nodes_of self.old.state.ifr)
+            (pressed_if self.old.state (steps.row_of_form self.old.state row
+            (steps.form_of self.old.state)) result)) }
     {
         match self.button(row) {
             Ok(class) => self.take_defaults(class, out),
@@ -445,15 +495,15 @@ impl<'a> Core<'a> {
     // The form of an id.
     fn form_of(&self, id: Option<u16>) -> Option<Form<'a>>
         ensures found { option_map form_node result
-            ≡ option_and_then (form_with (nodes_of self.now.ifr)) id }
-        ensures node { IfSome result (λ form. IsNodeOf self.now.ifr (form_node form)) }
+            ≡ option_and_then (form_with (nodes_of self.now.state.ifr)) id }
+        ensures node { IfSome result (λ form. IsNodeOf self.now.state.ifr (form_node form)) }
     {
         self.forms.form(id?)
     }
 
     // The form to which the reference of an id leads, where it may be selected and the form is not hidden.
     fn target(&self, id: u16) -> Result<Form<'a>, Denial>
-        ensures { Leads self.now id result }
+        ensures { Leads self.now.state id result }
     {
         let question = self.find(id)?;
         let StatementKind::Ref(reference) = question.statement().kind() else {
@@ -463,14 +513,15 @@ impl<'a> Core<'a> {
         let Some(form) = self.form_of(reference.target()) else {
             return Err(Denial::by(DenialKind::Outside, question.place()));
         };
-        self.policy().opens(form, &self.working)?;
+        self.working.opens(self.policy(), form)?;
         Ok(form)
     }
 
     // Goes to the form to which the reference of an id leads, and keeps the current one.
     fn follow(&mut self, id: u16) -> Result<(), Denial>
-        ensures { steps.follow self.old (question_with (nodes_of self.old.ifr) id)
-            ≡ answered self.new result }
+        ensures answer { steps.follow self.old.state (question_with (nodes_of self.old.state.ifr) id)
+            ≡ answered self.new.state result }
+        ensures renewed { self.new.renewed ≡ self.old.renewed }
     {
         let form = self.target(id)?;
         if self.history.is_full() {
@@ -483,7 +534,8 @@ impl<'a> Core<'a> {
 
     // Goes back to the form that a reference has led away from last.
     fn go_back(&mut self) -> Result<(), Denial>
-        ensures { steps.go_back self.old ≡ answered self.new result }
+        ensures answer { steps.go_back self.old.state ≡ answered self.new.state result }
+        ensures renewed { self.new.renewed ≡ self.old.renewed }
     {
         let Some(place) = self.history.pop() else {
             return Err(Denial::by(DenialKind::NoBack, 0));
@@ -495,7 +547,7 @@ impl<'a> Core<'a> {
     // The id of the store that a header names.
     fn store_named(&self, header: Header<'_>) -> Result<u16, Denial>
         ensures { result
-            ≡ ok_or (store_named (nodes_of self.now.ifr) self.now.path (header_view header.entry))
+            ≡ ok_or (store_named (nodes_of self.now.state.ifr) self.now.state.path (header_view header.entry))
             (steps.denied_by_none DenialKind.NoStore) }
     {
         match self.varstores.named(header, self.path) {
@@ -506,8 +558,8 @@ impl<'a> Core<'a> {
 
     // Writes the response to a request over the stores as they were last submitted, or why it is not told.
     fn extract<W: Write>(&self, text: &[u8], out: &mut Watched<W>) -> Reply
-        ensures text { Puts W.contents out.old out.new (steps.extract self.now text.now).text }
-        ensures reply { result ≡ (steps.extract self.now text.now).reply }
+        ensures text { Puts W.contents out.old out.new (steps.extract self.now.state text.now).text }
+        ensures reply { result ≡ (steps.extract self.now.state text.now).reply }
     {
         let request = match read_request(text) {
             Ok(request) => request,
@@ -527,8 +579,8 @@ impl<'a> Core<'a> {
     // The bytes of the store that a request names, as they were last submitted, where all of its blocks may be told.
     fn told_bytes(&self, request: &Request<'_>) -> Result<&[u8], Denial>
         ensures { MatchResult result
-            (λ bytes. IsTold self.now (request_view request.now) bytes.now)
-            (IsUntold self.now (request_view request.now)) }
+            (λ bytes. IsTold self.now.state (request_view request.now) bytes.now)
+            (IsUntold self.now.state (request_view request.now)) }
     {
         let store = self.store_named(request.header())?;
         let bytes = self.committed.bytes(store).unwrap_or(&[]);
@@ -539,9 +591,12 @@ impl<'a> Core<'a> {
 
     // Sets the questions of all blocks of a response and writes how many blocks there are, or writes why none is set.
     fn route<W: Write>(&mut self, text: &[u8], out: &mut Watched<W>) -> Reply
-        ensures state { self.new ≡ (steps.route self.old text.now).state }
-        ensures text { Puts W.contents out.old out.new (steps.route self.old text.now).text }
-        ensures reply { result ≡ (steps.route self.old text.now).reply }
+        ensures state { self.new.state ≡ (steps.route self.old.state text.now).state }
+        ensures text { Puts W.contents out.old out.new (steps.route self.old.state text.now).text }
+        ensures reply { result ≡ (steps.route self.old.state text.now).reply }
+        ensures renewed { self.new.renewed ≡ counted_all self.old.renewed
+            (nodes_of self.old.state.ifr)
+            (response_writes self.old.state (configuration_in Tell text.now)) }
     {
         let response = match read_response(text) {
             Ok(response) => response,
@@ -576,22 +631,41 @@ impl<'a> Core<'a> {
     // Writes of what a question warns.
     fn put_warnings<W: Write>(&self, question: Question<'a>, out: &mut Watched<W>)
         ensures { Puts W.contents out.old out.new
-            (warned_text self.now self.now.working (question_node question.entry)) }
+            (warned_text self.now.state self.now.state.working (question_node question.entry)) }
     {
-        let warnings = self.policy().warnings(question, &self.working);
+        let warnings = self.policy().warnings(question, self.working.stores());
         put_warnings(warnings, &self.languages, self.language, out);
+    }
+
+    // Goes back to the stores as they were last submitted.
+    fn discard(&mut self)
+        ensures state { self.new.state ≡ (step self.old.state DiscardChanges).state }
+        ensures renewed { self.new.renewed ≡ counted_all self.old.renewed
+            (nodes_of self.old.state.ifr) (writes_of self.old.state DiscardChanges) }
+    {
+        let policy = Policy::new(&self.forms, &self.questions, &self.removed);
+        self.working.copy_from(policy, &self.spare, &self.committed);
+        self.spare.copy_from(&self.committed);
+    }
+
+    // Whether the working stores may be submitted.
+    fn may_submit(&self) -> Result<(), Denial>
+        ensures { result ≡ unless (unsubmitted (world_of self.now.state)) }
+    {
+        self.working.may_submit(self.policy())
     }
 
     // Submits the working stores, or writes why they may not be submitted.
     fn submit<W: Write>(&mut self, out: &mut Watched<W>) -> Reply
-        ensures state { self.new ≡ (submitted self.old).state }
-        ensures text { Puts W.contents out.old out.new (submitted self.old).text }
-        ensures reply { result ≡ (submitted self.old).reply }
+        ensures state { self.new.state ≡ (submitted self.old.state).state }
+        ensures text { Puts W.contents out.old out.new (submitted self.old.state).text }
+        ensures reply { result ≡ (submitted self.old.state).reply }
+        ensures renewed { self.new.renewed ≡ self.old.renewed }
     {
-        match self.policy().may_submit(&self.working) {
+        match self.may_submit() {
             Ok(()) => {
                 self.put_submitted(out);
-                self.committed.copy_from(&self.working);
+                self.committed.copy_from(self.working.stores());
                 Reply::Accepted
             }
             Err(denial) => self.deny(denial, out),
@@ -600,11 +674,11 @@ impl<'a> Core<'a> {
 
     // Writes how many questions have other bytes than when they were last submitted, and each of them by place.
     fn put_submitted<W: Write>(&self, out: &mut Watched<W>)
-        ensures { Puts W.contents out.old out.new (commit self.now).text }
+        ensures { Puts W.contents out.old out.new (commit self.now.state).text }
     {
         put_count(self.count_changed(), out);
         for question in self.questions.all() {
-            if differs(question, &self.committed, &self.working) {
+            if differs(question, &self.committed, self.working.stores()) {
                 put_changed(question.id(), out);
             }
         }
@@ -612,11 +686,11 @@ impl<'a> Core<'a> {
 
     // How many questions have other bytes than when they were last submitted.
     fn count_changed(&self) -> u64
-        ensures { result ≡ length (changed self.now) }
+        ensures { result ≡ length (changed self.now.state) }
     {
         let mut count = 0;
         for question in self.questions.all() {
-            if differs(question, &self.committed, &self.working) {
+            if differs(question, &self.committed, self.working.stores()) {
                 count += 1;
             }
         }
@@ -663,6 +737,17 @@ fn bytes_in<'s>(stores: &'s Stores, question: Question<'_>) -> Option<&'s [u8]>
 {
     let field = question.field()?;
     stores.field(field.store, usize::from(field.offset), field.width)
+}
+
+// The bytes of the field of a question, none if it has no field.
+fn held_in<'s>(stores: &'s Stores, question: Question<'_>) -> &'s [u8]
+    requires { LiesIn (shape_of stores.now) (question_view question) }
+    ensures { IsHeld stores.now (question_view question.entry) result.now }
+{
+    match bytes_in(stores, question) {
+        Some(bytes) => bytes,
+        None => &[],
+    }
 }
 
 // Whether the field of a question has other bytes in these stores.

@@ -11,39 +11,34 @@ ghost use Rattle.guard_policy.specs.code.Answers.{unless};
 ghost use Rattle.guard_policy.specs.code.Views.{bytes_of, world};
 ghost use Rattle.ifr_scopes.specs.code.Checked.{IsNodeOf};
 ghost use Rattle.browser_core.specs.Opening.{IsBrowsable, layout_in};
-ghost use Rattle.browser_core.specs.code.Changing.{TakesField, SetsValue};
+ghost use Rattle.browser_core.specs.code.Changing.{IsHeld, TakesField, SetsValue};
 ghost use Rattle.browser_core.specs.code.Standing.{IsQuestionIn};
 
 use guard_policy::{Denial, Policy};
 use hii_questions::{Field, Input, Items, Question, check_value};
-use hii_varstore::Stores;
+use kept_conditions::KeptStores;
 
-/// Gives a question that is not fixed a value, or tells why it may not have it. The working stores then hold in its field what the
-/// spare ones hold there, and else what they held.
+/// Gives a question that is not fixed a value, or tells why it may not have it. `old` are the bytes of its field, if it has one. The
+/// working stores then hold what they held, or new bytes in this field.
 pub(crate) fn set_value<'a, 'i>(
     policy: Policy<'a, '_>,
     question: Question<'a>,
     input: Input<'i>,
-    working: &mut Stores,
-    spare: &Stores,
+    working: &mut KeptStores<'a>,
+    old: &[u8],
 ) -> Result<Field<'i>, Denial>
     requires question { IsQuestionIn (bytes_of policy) (question_view question) }
     requires browsable { IsBrowsable (bytes_of policy) }
-    requires working { shape_of working.old ≡ layout_in (bytes_of policy) }
-    requires spare { shape_of spare.now ≡ layout_in (bytes_of policy) }
+    requires package { working.old.ifr ≡ bytes_of policy }
+    requires laid { shape_of working.old.stores ≡ layout_in (bytes_of policy) }
+    requires held { IsHeld working.old.stores (question_view question) old.now }
     requires input { IsGiven (question_view question).field input }
     ensures { SetsValue policy.entry (question_view question.entry) (offer_of input.entry)
-        spare.now working.old working.new result }
+        working.old working.new result }
 {
     let field = new_field(policy, question, input, working)?;
-    field.put(working);
-    match policy.consistent(question, working) {
-        Ok(()) => Ok(field),
-        Err(denial) => {
-            working.copy_range(spare, field.store, usize::from(field.offset), field.width);
-            Err(denial)
-        }
-    }
+    working.set(policy, question, field, old)?;
+    Ok(field)
 }
 
 // The new bytes with which a question that is not fixed has a value, where it takes the value and its options may be chosen.
@@ -51,13 +46,14 @@ fn new_field<'a, 'i>(
     policy: Policy<'a, '_>,
     question: Question<'a>,
     input: Input<'i>,
-    working: &Stores,
+    working: &KeptStores<'a>,
 ) -> Result<Field<'i>, Denial>
     requires question { IsQuestionIn (bytes_of policy) (question_view question) }
     requires browsable { IsBrowsable (bytes_of policy) }
-    requires laid { shape_of working.now ≡ layout_in (bytes_of policy) }
+    requires package { working.now.ifr ≡ bytes_of policy }
+    requires laid { shape_of working.now.stores ≡ layout_in (bytes_of policy) }
     requires input { IsGiven (question_view question).field input }
-    ensures { TakesField policy.entry working.now (question_view question.entry)
+    ensures { TakesField policy.entry working.now.stores (question_view question.entry)
         (offer_of input.entry) result }
 {
     // So the values of options fit their width.
@@ -77,16 +73,17 @@ fn options_open<'a>(
     policy: Policy<'a, '_>,
     question: Question<'a>,
     values: Items<'_>,
-    working: &Stores,
+    working: &KeptStores<'a>,
 ) -> Result<(), Denial>
-    requires { IsNodeOf (bytes_of policy) (question_node question) }
+    requires package { working.now.ifr ≡ bytes_of policy }
+    requires node { IsNodeOf (bytes_of policy) (question_node question) }
     ensures { result
-        ≡ unless (first_closed (world policy.entry working.now) (question_node question.entry)
+        ≡ unless (first_closed (world policy.entry working.now.stores) (question_node question.entry)
         (items_left values.entry)) }
 {
     let mut values = values;
     while let Some(value) = values.next() {
-        policy.option_open(question, value, working)?;
+        working.option_open(policy, question, value)?;
     }
     Ok(())
 }

@@ -1,7 +1,10 @@
 //! Defaults of the questions of a form.
 
 ghost use Rattle.std.specs.Prelude.{◌≡◌, length};
+ghost use Rattle.ifr_scopes.specs.Nodes.{nodes_of};
+ghost use Rattle.browser_core.specs.Renewed.{field_writes};
 ghost use Rattle.browser_core.specs.Step.{taken};
+ghost use Rattle.browser_core.specs.code.Counting.{counted_all};
 
 use crate::browser::Core;
 use ifr_scopes::laws::{statements_are_few, statements_are_nodes};
@@ -9,8 +12,11 @@ use ifr_scopes::laws::{statements_are_few, statements_are_nodes};
 /// Sets the questions of the current form, by place, to their defaults of a class, each over the stores that those before it
 /// have left, and tells how many took them.
 pub(crate) fn take_defaults(core: &mut Core<'_>, class: u16) -> u64
-    ensures state { core.new ≡ (taken core.old class).state }
-    ensures count { result ≡ length (taken core.old class).questions }
+    ensures state { core.new.state ≡ (taken core.old.state class).state }
+    ensures count { result ≡ length (taken core.old.state class).questions }
+    ensures renewed { core.new.renewed ≡ counted_all core.old.renewed
+        (nodes_of core.old.state.ifr) (field_writes (nodes_of core.old.state.ifr)
+        (taken core.old.state class).questions) }
 {
     statements_are_few();
     statements_are_nodes();

@@ -15,6 +15,7 @@ mod telling;
 mod texts;
 mod varstores;
 
+pub use kept_conditions::Kept;
 pub use reply::{End, Reply, RunFault};
 pub use session::Session;
 pub use texts::{put_refusal, put_refusal_at};

@@ -4,7 +4,7 @@ ghost use Rattle.std.specs.Prelude.{◌≡◌, ◌++◌, ℕ, List, IfOk, true, 
 ghost use Rattle.hii_bytes.specs.Watching.{Pen, pen_of, inner_of, has_failed, Puts};
 ghost use Rattle.hii_commands.specs.code.Held.{held_of};
 ghost use Rattle.hii_commands.specs.Script.{whole_lines};
-ghost use Rattle.browser_core.specs.State.{State};
+ghost use Rattle.browser_core.specs.Renewed.{Shown, shown_line};
 ghost use Rattle.browser_core.specs.Step.{step_line};
 ghost use Rattle.browser_core.specs.Run.{Runs, StopsAtLine};
 ghost use Rattle.browser_core.specs.code.Reading.{Stands};
@@ -79,11 +79,11 @@ fn run_piece<W: Write>(
     piece: &[u8],
     out: &mut Watched<W>,
 )
-    ensures stands { (start : State) (pen : Pen) (bytes : List ℕ)
+    ensures stands { (start : Shown) (pen : Pen) (bytes : List ℕ)
         → Stands start pen bytes core.old line.old (pen_of W.contents out.old)
         → has_failed out.new ≡ false
         → Stands start pen (bytes ++ piece.now) core.new line.new (pen_of W.contents out.new) }
-    ensures stops { (start : State) (pen : Pen) (bytes : List ℕ)
+    ensures stops { (start : Shown) (pen : Pen) (bytes : List ℕ)
         → Stands start pen bytes core.old line.old (pen_of W.contents out.old)
         → has_failed out.new ≡ true
         → StopsAtLine start pen (whole_lines (bytes ++ piece.now)) core.new
@@ -105,10 +105,10 @@ fn run_piece<W: Write>(
 
 // Runs the line that is held.
 fn run_line<W: Write>(core: &mut Core<'_>, line: &LineBuffer, out: &mut Watched<W>)
-    ensures state { (bytes : List ℕ) → line.now ≡ held_of bytes
-        → core.new ≡ (step_line core.old bytes).state }
+    ensures shown { (bytes : List ℕ) → line.now ≡ held_of bytes
+        → core.new ≡ shown_line core.old bytes }
     ensures text { (bytes : List ℕ) → line.now ≡ held_of bytes
-        → Puts W.contents out.old out.new (step_line core.old bytes).text }
+        → Puts W.contents out.old out.new (step_line core.old.state bytes).text }
 {
     match line.line() {
         Ok(bytes) => run_bytes(core, bytes, out),
@@ -118,8 +118,8 @@ fn run_line<W: Write>(core: &mut Core<'_>, line: &LineBuffer, out: &mut Watched<
 
 // Runs a line, of which nothing is done where it is blank.
 fn run_bytes<W: Write>(core: &mut Core<'_>, line: &[u8], out: &mut Watched<W>)
-    ensures state { core.new ≡ (step_line core.old line.now).state }
-    ensures text { Puts W.contents out.old out.new (step_line core.old line.now).text }
+    ensures shown { core.new ≡ shown_line core.old line.now }
+    ensures text { Puts W.contents out.old out.new (step_line core.old.state line.now).text }
 {
     if is_blank(line) {
         return;

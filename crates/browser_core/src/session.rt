@@ -1,21 +1,27 @@
 //! A session over a package list and the image of its stores.
 
-ghost use Rattle.std.specs.Prelude.{◌≡◌, ℕ, List, true, false, Err, IfOk, IfErr, IfSome};
+ghost use Rattle.std.specs.Prelude.{◌≡◌, ℕ, List, true, false, Err, Some, IfOk, IfErr, IfSome};
 ghost use Rattle.std.specs.Io.KnownBytes.{Appends};
 ghost use Rattle.hii_bytes.specs.Faults.{Refuses, out_of_memory};
 ghost use Rattle.hii_bytes.specs.Watching.{pen_of, inner_of, has_failed, Tells};
 ghost use Rattle.hii_commands.specs.Meaning.{order_of, HasList};
-ghost use Rattle.browser_core.specs.State.{State};
-ghost use Rattle.browser_core.specs.Step.{step};
+ghost use Rattle.ifr_scopes.specs.code.Lists.{form_node};
+ghost use Rattle.guard_policy.specs.code.Views.{bytes_of};
+ghost use Rattle.form_page.specs.code.PageViews as pages;
+ghost use Rattle.browser_core.specs.Renewed.{shown_after};
+ghost use Rattle.browser_core.specs.State.{State, texts, world_of};
+ghost use Rattle.browser_core.specs.Step.{form_of, step};
 ghost use Rattle.browser_core.specs.Opening.{Opens, IsOpenFault};
 ghost use Rattle.browser_core.specs.Run.{Runs, outcome_of};
 
 use crate::browser::Core;
 use crate::reply::{End, Reply, RunFault};
 use crate::script::run_all;
+use form_page::Page;
 use hii_bytes::{Fault, Watched, WriteFault};
 use hii_commands::{Command, LineBuffer};
 use hii_varstore::Stores;
+use kept_conditions::Kept;
 use std::alloc::Global;
 use std::io::{Read, Write};
 use std::marker::Model;
@@ -29,9 +35,9 @@ pub struct Session<'a> {
 }
 
 impl<'a> Model for Session<'a> {
-    ghost use Rattle.browser_core.specs.State.{State};
+    ghost use Rattle.browser_core.specs.Renewed.{Shown};
 
-    ghost Value = { State };
+    ghost Value = { Shown };
 
     ghost view = { λ s. s.core };
 }
@@ -46,7 +52,8 @@ impl<'a> Session<'a> {
         stores: &[u8],
         lang: &[u8],
     ) -> Result<Session<'a>, Fault>
-        ensures opened { IfOk result (Opens list.entry.now forms stores.now lang.now) }
+        ensures opened { IfOk result (λ session. Opens list.entry.now forms stores.now lang.now
+            session.state × (session.renewed ≡ 0)) }
         ensures refused { IfErr result (Refuses (IsOpenFault list.entry.now forms stores.now)) }
         // Where the bytes open a session, nothing but an allocation that fails refuses it.
         ensures accepted { (start : State) → Opens list.entry.now forms stores.now lang.now start
@@ -59,16 +66,35 @@ impl<'a> Session<'a> {
 
     /// The stores as they were last submitted, or opened.
     pub fn committed(&self) -> &Stores
-        ensures { result.now ≡ self.now.committed }
+        ensures { result.now ≡ self.now.state.committed }
     {
         self.core.committed()
     }
 
     /// The stores that commands read and change.
     pub fn working(&self) -> &Stores
-        ensures { result.now ≡ self.now.working }
+        ensures { result.now ≡ self.now.state.working }
     {
         self.core.working()
+    }
+
+    /// How many conditions the last command evaluated anew: for each write of it those of SUPPRESS_IF, GRAY_OUT_IF and NO_SUBMIT_IF
+    /// that depend on a question whose field has one of the written bytes, at most 2^64 - 1; 0 before the first command.
+    pub fn renewed(&self) -> u64
+        ensures { result ≡ self.now.renewed }
+    {
+        self.core.renewed()
+    }
+
+    /// The page of the current form over the working stores.
+    pub fn page(&self) -> Page<'a, '_, Kept<'a>>
+        ensures form { form_of self.now.state ≡ Some (form_node result.form) }
+        ensures bytes { bytes_of result.policy ≡ self.now.state.ifr }
+        ensures world { pages.world_of result ≡ world_of self.now.state }
+        ensures stores { result.stores.now ≡ self.now.state.working }
+        ensures texts { pages.texts_of result ≡ texts self.now.state }
+    {
+        self.core.page()
     }
 
     /// Carries the command out, and then writes its text. Where the writer fails, the command is carried out all the same.
@@ -78,11 +104,11 @@ impl<'a> Session<'a> {
         out: &mut Watched<W>,
     ) -> Result<Reply, WriteFault>
         requires { HasList command }
-        ensures state { self.new ≡ (step self.old (order_of command.entry)).state }
+        ensures shown { self.new ≡ shown_after self.old (order_of command.entry) }
         ensures text { Tells (pen_of W.contents out.old) (pen_of W.contents out.new) result
-            (step self.old (order_of command.entry)).text }
+            (step self.old.state (order_of command.entry)).text }
         ensures reply { IfOk result (λ reply. reply
-            ≡ (step self.old (order_of command.entry)).reply) }
+            ≡ (step self.old.state (order_of command.entry)).reply) }
     {
         out.restart();
         let reply = self.core.carry_out(command, out);
@@ -103,7 +129,7 @@ impl<'a> Session<'a> {
     ) -> Result<End, RunFault>
         // The whole run, where the script's bytes are known.
         ensures whole { IfSome (R.remaining (inner_of script.old)) (λ bytes. IfOk result (λ end.
-            (end ≡ (outcome_of self.old bytes).end) × (self.new ≡ (outcome_of self.old bytes).state)
+            (end ≡ (outcome_of self.old bytes).end) × (self.new ≡ (outcome_of self.old bytes).shown)
             × Appends (W.contents (inner_of out.old)) (W.contents (inner_of out.new))
             (outcome_of self.old bytes).text)) }
         // At any reader and writer, and at their faults.

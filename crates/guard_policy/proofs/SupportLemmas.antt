@@ -22,7 +22,7 @@ use Rattle.hii_questions.specs.Answers.{answers}
 use Rattle.hii_questions.specs.code.Views.{question_node}
 use Rattle.hii_questions.specs.declared.denial.DenialKind.TheVariants.{GrayOutIf, Locked, InconsistentIf, NoSubmitIf}
 use Rattle.guard_policy.specs.Policy.{denied_by, told, or_else, is_removed, hides, hiding, hidden, grays_out, fixed_itself, fixed, all_fixed, closed, inconsistent, unsubmitted, warned}
-use Rattle.guard_policy.specs.Conditions.{ids_behind}
+use Rattle.guard_policy.specs.Conditions.{condition_ids}
 use Rattle.guard_policy.specs.laws.Support.{suppressing, graying_out, around, counts, conditions, denial, warning_of, support_over, AnswersAgree, until_met, is_by_first}
 use Rattle.guard_policy.specs.World.{World, is_met, is_met_over}
 use Rattle.guard_policy.specs.code.Worlds.{otherwise}
@@ -96,12 +96,12 @@ module _ (ns : List Placed) (removed : List ℕ) (stores others : StoreMap) wher
   abbrev HoldsAlike : Placed → Type 0
   HoldsAlike c = is_met_over ns others c ≡ is_met_over ns stores c
 
-  alike : (c : Placed) → AnswersAgree ns stores others (ids_behind ns c) → HoldsAlike c
+  alike : (c : Placed) → AnswersAgree ns stores others (condition_ids ns c) → HoldsAlike c
   alike c h = ap holds (sym (depends (rules_among ns) (answers ns stores) (answers ns others) (this_of c) (expression_tree c) h))
 
   pub all_alike : (cs : List Placed) → AnswersAgree ns stores others (support_over ns cs) → AllByRecursion HoldsAlike cs
   all_alike [] h = tt
-  all_alike (c ∷ cs) h = (alike c (front Agrees (ids_behind ns c) (support_over ns cs) h), all_alike cs (back Agrees (ids_behind ns c) (support_over ns cs) h))
+  all_alike (c ∷ cs) h = (alike c (front Agrees (condition_ids ns c) (support_over ns cs) h), all_alike cs (back Agrees (condition_ids ns c) (support_over ns cs) h))
 
 -- ---- decisions where other conditions hold
 

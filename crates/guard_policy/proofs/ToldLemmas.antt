@@ -143,7 +143,7 @@ module _ (bytes removed : List ℕ) (stores : StoreMap) (holding : ℕ → Bool)
 -- ---- conditions that are evaluated whenever they are asked
 
 -- the node of a kind that is found at its place is the first of the kind there
-kind_found : (is : Placed → Bool) (ns : List Placed) (n : Placed) → node_at ns n.place ≡ Some n → is n ≡ true → kind_at is ns n.place ≡ Some n
+pub kind_found : (is : Placed → Bool) (ns : List Placed) (n : Placed) → node_at ns n.place ≡ Some n → is n ≡ true → kind_at is ns n.place ≡ Some n
 kind_found is [] n e k = absurd cc
 kind_found is (m ∷ ns) n e k = elim (cases_Bool (m.place == n.place)) [
   | inl here ↦
@@ -158,7 +158,7 @@ conditional_no_submit : (code : ℕ) → code ≡ NO_SUBMIT_IF → is_guard code
 unfolding is_condition_number
 conditional_no_submit code e = rw e refl
 
-kept_conditional : (g : Placed) → is_kept g ≡ true → is_conditional g ≡ true
+pub kept_conditional : (g : Placed) → is_kept g ≡ true → is_conditional g ≡ true
 kept_conditional g e = elim (cases_Bool (number g.op == SUPPRESS_IF)) [
   | inl first ↦ rw first refl
   | inr other ↦ elim (cases_Bool (number g.op == GRAY_OUT_IF)) [

@@ -13,5 +13,5 @@ abbrev pub is_kept : Placed → Bool
 is_kept n = number n.op == SUPPRESS_IF || number n.op == GRAY_OUT_IF || is_no_submit n
 
 -- the questions on whose answers a condition depends
-abbrev pub ids_behind : List Placed → Placed → List ℕ
-ids_behind ns c = dependence (rules_among ns) (this_of c) (expression_tree c)
+abbrev pub condition_ids : List Placed → Placed → List ℕ
+condition_ids ns c = dependence (rules_among ns) (this_of c) (expression_tree c)

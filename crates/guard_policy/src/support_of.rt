@@ -6,7 +6,7 @@ ghost use Rattle.ifr_scopes.specs.code.AnyConditions.{any_condition_node};
 ghost use Rattle.ifr_scopes.specs.code.DependenceLeft.{dependence_left};
 ghost use Rattle.ifr_scopes.specs.Nodes.{nodes_of};
 ghost use Rattle.hii_varstore.specs.Stores.{StoreMap};
-ghost use Rattle.guard_policy.specs.Conditions.{ids_behind};
+ghost use Rattle.guard_policy.specs.Conditions.{condition_ids};
 ghost use Rattle.guard_policy.specs.laws.Support.{IsSubjectOf, support, support_at};
 ghost use Rattle.guard_policy.specs.code.SupportLeft.{ids_left, support_at_left, support_left};
 ghost use Rattle.guard_policy.specs.code.Views.{world};
@@ -33,7 +33,7 @@ pub struct SupportAt<'a, 's> {
 // The ids of the questions on whose answers a condition depends.
 fn ids_of<'a, 's>(condition: AnyCondition<'a>, forms: &'s Forms<'a>) -> Dependence<'s, 'a>
     ensures { dependence_left result
-        ≡ ids_behind (nodes_of forms.now) (any_condition_node condition.entry) }
+        ≡ condition_ids (nodes_of forms.now) (any_condition_node condition.entry) }
 {
     forms.dependence(condition.condition(), condition.this())
 }

@@ -7,7 +7,7 @@ use Rattle.hii_bytes.specs.Faults.{Refuses}
 use Rattle.hii_bytes.specs.Watching.{Pen}
 use Rattle.browser_core.specs.Opening.{IsOpenFault}
 use Rattle.hii_varstore.specs.Image.{image_of}
-use Rattle.browser_core.specs.State.{State}
+use Rattle.browser_core.specs.Renewed.{Shown}
 use Rattle.browser_core.specs.Run.{outcome_of, Finishes}
 use Rattle.browser_core.specs.declared.reply.End.{End}
 use Rattle.browser_core.specs.declared.reply.End.TheVariants as end
@@ -50,16 +50,16 @@ refused_serves given before NoMemory fault answered why told = (refl, told.1)
 
 -- ---- a known script
 
-runs_all : (given : Given) (start now : State) (ended : End) (answers answered : Pen) (reader left : Option (List ℕ)) → Starts given start
+runs_all : (given : Given) (start now : Shown) (ended : End) (answers answered : Pen) (reader left : Option (List ℕ)) → Starts given start
     → Finishes start answers reader ended now answered left
-    → IfSome reader (λ script. (run : RunsAll given script ended answers answered) × (now ≡ (outcome_of run.start script).state))
+    → IfSome reader (λ script. (run : RunsAll given script ended answers answered) × (now ≡ (outcome_of run.start script).shown))
 runs_all given start now ended answers answered None left starts finishes = tt
 runs_all given start now ended answers answered (Some script) left starts finishes =
     let known = finishes_known start now answers answered ended (Some script) left finishes in
     (record { start = start; starts = starts; ends = known.0; text = (known.2, finishes.sound) }, known.1)
 
 of_finished : (given : Given) (before after : Ends) (ended : End) (run : Finished given before ended after)
-    → IfSome before.script (λ script. (all : RunsAll given script ended before.answers after.answers) × (run.now ≡ (outcome_of all.start script).state))
+    → IfSome before.script (λ script. (all : RunsAll given script ended before.answers after.answers) × (run.now ≡ (outcome_of all.start script).shown))
 of_finished given before after ended run = runs_all given run.start run.now ended before.answers after.answers before.script after.script run.starts run.finishes
 
 always : (script : Option (List ℕ)) (P : List ℕ → Type 0) → ((bytes : List ℕ) → P bytes) → IfSome script P
@@ -67,10 +67,10 @@ always None P each = tt
 always (Some bytes) P each = each bytes
 
 pub done_known : (given : Given) (before after : Ends) (run : Finished given before end.Done after)
-    → IsWritten before.out after.out (image_of run.now.committed)
+    → IsWritten before.out after.out (image_of run.now.state.committed)
     → IfSome before.script (λ script. ServesAll given script before.answers before.out Done after.answers after.out)
 done_known given before after run image = IfSome_then before.script (of_finished given before after end.Done run)
-    (λ script all. (all.0, subst (λ (s : State). IsWritten before.out after.out (image_of s.committed)) all.1 image))
+    (λ script all. (all.0, subst (λ (s : Shown). IsWritten before.out after.out (image_of s.state.committed)) all.1 image))
 
 pub refused_known : (given : Given) (before after : Ends) → after.out ≡ before.out → IsRefused given before.answers after.answers ⊎ Finished given before end.TooLong after
     → IfSome before.script (λ script. ServesAll given script before.answers before.out Refused after.answers after.out)

@@ -7,7 +7,7 @@ use Rattle.hii_bytes.specs.declared.writing.WriteFault.{WriteFault}
 use Rattle.hii_bytes.specs.Faults.{IsLeast}
 use Rattle.hii_bytes.specs.Watching.{Pen, Writes, StopsWithin}
 use Rattle.hii_varstore.specs.Image.{image_of}
-use Rattle.browser_core.specs.State.{State}
+use Rattle.browser_core.specs.Renewed.{Shown}
 use Rattle.browser_core.specs.Opening.{Opens, IsOpenFault}
 use Rattle.browser_core.specs.Run.{outcome_of, Finishes, BreaksOff, Overflows}
 use Rattle.browser_core.specs.Texts.{refused_text, fault_text}
@@ -17,9 +17,11 @@ use Rattle.setup_main.specs.declared.serve.Given.{Given}
 use Rattle.setup_main.specs.declared.serve.Ended.{Ended}
 use Rattle.setup_main.specs.declared.serve.Ended.TheVariants.{Done, Refused, ReadScript, WriteAnswers, WriteOut, NoMemory}
 
--- the state with which a session over what is given begins
-abbrev pub Starts : Given → State → Type 0
-Starts given start = Opens given.list.now given.forms given.stores.now given.lang.now start
+-- what a session over what is given shows at first
+abbrev pub Starts : Given → Shown → Type 0
+Starts given start =
+    Opens given.list.now given.forms given.stores.now given.lang.now start.state
+    × (start.renewed ≡ 0)
 
 -- the least fault of what is given
 abbrev pub IsRefusedBy : Given → Fault → Type 0
@@ -34,7 +36,7 @@ IsWritten old new text = Appends old.known new.known text × (new.broken ≡ fal
 -- A session over what is given runs this script to an end, and its answers are written.
 pub record RunsAll (given : Given) (script : List ℕ) (end : End)
     (answers answered : Pen) : Type 0 where
-  pub start : State
+  pub start : Shown
   pub starts : Starts given start
   pub ends : end ≡ (outcome_of start script).end
   pub text : IsWritten answers answered (outcome_of start script).text
@@ -50,7 +52,7 @@ pub record IsRefused (given : Given) (answers answered : Pen) : Type 0 where
 abbrev pub ServesAll : Given → List ℕ → Pen → Pen → Ended → Pen → Pen → Type 0
 ServesAll given script answers out Done answered written =
     (run : RunsAll given script end.Done answers answered)
-    × IsWritten out written (image_of (outcome_of run.start script).state.committed)
+    × IsWritten out written (image_of (outcome_of run.start script).shown.state.committed)
 ServesAll given script answers out Refused answered written =
     (written ≡ out) × (IsRefused given answers answered
     ⊎ RunsAll given script end.TooLong answers answered)
@@ -68,9 +70,9 @@ pub record Ends : Type 0 where
 
 -- A session over what is given runs the bytes that were read to an end, and its answers are written.
 pub record Finished (given : Given) (before : Ends) (end : End) (after : Ends) : Type 0 where
-  pub start : State
+  pub start : Shown
   pub starts : Starts given start
-  pub now : State
+  pub now : Shown
   pub finishes : Finishes start before.answers before.script end now after.answers after.script
 
 -- What is given is refused or an allocation fails, and the answers fail at the line that tells it.
@@ -84,20 +86,20 @@ pub record FailsAtOnce (given : Given) (before after : Ends) : Type 0 where
 abbrev pub Serves : Given → Ends → Ended → Ends → Type 0
 Serves given before Done after =
     (run : Finished given before end.Done after)
-    × IsWritten before.out after.out (image_of run.now.committed)
+    × IsWritten before.out after.out (image_of run.now.state.committed)
 Serves given before Refused after =
     (after.out ≡ before.out) × (IsRefused given before.answers after.answers
     ⊎ Finished given before end.TooLong after)
 Serves given before ReadScript after =
-    (after.out ≡ before.out) × (start now : State) × Starts given start
+    (after.out ≡ before.out) × (start now : Shown) × Starts given start
     × BreaksOff start before.answers before.script now after.answers after.script
 Serves given before WriteAnswers after =
     (after.out ≡ before.out)
     × (FailsAtOnce given before after
-    ⊎ ((start now : State) × Starts given start
+    ⊎ ((start now : Shown) × Starts given start
     × Overflows start before.answers before.script now after.answers after.script))
 Serves given before WriteOut after =
     (run : Finished given before end.Done after) × (fault : WriteFault)
-    × StopsWithin before.out after.out fault (image_of run.now.committed)
+    × StopsWithin before.out after.out fault (image_of run.now.state.committed)
 Serves given before NoMemory after =
     (after.out ≡ before.out) × IsWritten before.answers after.answers (refused_text OutOfMemory)

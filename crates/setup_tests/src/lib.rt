@@ -16,6 +16,8 @@ mod policies;
 #[cfg(test)]
 mod questions;
 #[cfg(test)]
+mod renewals;
+#[cfg(test)]
 mod sessions;
 #[cfg(test)]
 mod stores;

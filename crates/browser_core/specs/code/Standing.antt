@@ -20,22 +20,28 @@ use Rattle.hii_questions.specs.declared.question.Question.{Question}
 use Rattle.hii_questions.specs.declared.input.Input.{Input}
 use Rattle.guard_policy.specs.declared.denial.Denial.{Denial}
 use Rattle.browser_core.specs.Configuration.{store_named}
+use Rattle.kept_conditions.specs.Kept.{KeptMap}
+use Rattle.browser_core.specs.Renewed.{Shown, Write, field_write, pressed_if, route_writes}
 use Rattle.browser_core.specs.State.{State}
+use Rattle.browser_core.specs.code.Counting.{counted_all}
+use Rattle.browser_core.specs.declared.reply.Reply.TheVariants.{Accepted}
 use Rattle.browser_core.specs.Opening.{IsBrowsable, layout_in}
 use Rattle.browser_core.specs.Texts.{ok_text, count_text}
-use Rattle.browser_core.specs.Step.{Outcome, Taken, accepted, denied, no_question, warned_text, set_question, take_default, take_defaults, press, show_form, follow, configuration_text, extract_from, route_to}
+use Rattle.browser_core.specs.Step.{Outcome, Taken, accepted, denied, no_question, warned_text, set_question, take_default, take_defaults, taken, row_of_form, form_of, press, show_form, follow, configuration_text, extract_from, route_to}
 
--- The package can be browsed, the questions and the stores are its own, no two stores have one id, the spare stores are the
--- working ones, and the form and those of the history are among its nodes.
+-- The package can be browsed, the questions, the stores and what is kept of conditions are its own, no two stores have one id,
+-- the spare stores are the working ones, and the form and those of the history are among its nodes.
 pub record Stands (ifr : List ℕ) (varstores : List ℕ) (questions : Survey)
-    (committed working spare : StoreMap) (form : Placed) (history : List ℕ) : Type 0 where
+    (committed : StoreMap) (working : KeptMap) (spare : StoreMap) (form : Placed)
+    (history : List ℕ) : Type 0 where
   pub named_stores : varstores ≡ ifr
   pub buffers : AreBuffers (layout_in ifr).buffers
   pub together : questions.ifr ≡ ifr
   pub browsable : IsBrowsable ifr
   pub submitted : shape_of committed ≡ layout_in ifr
-  pub laid : shape_of working ≡ layout_in ifr
-  pub same : spare ≡ working
+  pub kept : working.ifr ≡ ifr
+  pub laid : shape_of working.stores ≡ layout_in ifr
+  pub same : spare ≡ working.stores
   pub node : IsNodeOf ifr form
   pub left : All (λ place. has_form ifr place ≡ true) history
 
@@ -64,35 +70,48 @@ Finds s id (Ok question) =
 Finds s id (Err denial) =
     (fields.question_with (nodes_of s.ifr) id ≡ None) × (denial ≡ no_question)
 
+-- The conditions are counted that some writes touch.
+abbrev pub Counts : Shown → List Write → Shown → Type 0
+Counts s writes now = now.renewed ≡ counted_all s.renewed (nodes_of s.state.ifr) writes
+
 -- A question has a value, of which it may warn; or why it may not have it, and nothing is changed.
-abbrev pub Changes : State → Placed → Offer → State → Result (Unit {0}) Denial → Type 0
+abbrev pub Changes : Shown → Placed → Offer → Shown → Result (Unit {0}) Denial → Type 0
 Changes s n offer now (Ok done) =
-    set_question s (Some n) offer ≡ accepted now (ok_text ++ warned_text now now.working n)
+    (set_question s.state (Some n) offer
+    ≡ accepted now.state (ok_text ++ warned_text now.state now.state.working n))
+    × Counts s (field_write (nodes_of s.state.ifr) n) now
 Changes s n offer now (Err denial) =
-    (set_question s (Some n) offer ≡ denied s denial) × (now ≡ s)
+    (set_question s.state (Some n) offer ≡ denied s.state denial) × (now ≡ s)
 
 -- So it is with the question of an id.
-abbrev pub Sets : State → ℕ → Offer → State → Result Question Denial → Type 0
+abbrev pub Sets : Shown → ℕ → Offer → Shown → Result Question Denial → Type 0
 Sets s id offer now (Ok question) =
-    set_question s (fields.question_with (nodes_of s.ifr) id) offer
-    ≡ accepted now (ok_text ++ warned_text now now.working (question_node question))
+    (set_question s.state (fields.question_with (nodes_of s.state.ifr) id) offer
+    ≡ accepted now.state
+    (ok_text ++ warned_text now.state now.state.working (question_node question)))
+    × (fields.question_with (nodes_of s.state.ifr) id ≡ Some (question_node question))
+    × Counts s (field_write (nodes_of s.state.ifr) (question_node question)) now
 Sets s id offer now (Err denial) =
-    (set_question s (fields.question_with (nodes_of s.ifr) id) offer ≡ denied s denial) × (now ≡ s)
+    (set_question s.state (fields.question_with (nodes_of s.state.ifr) id) offer
+    ≡ denied s.state denial) × (now ≡ s)
 
 -- a statement takes its default, where it is a question
 abbrev pub take_statement : ℕ → Taken → Placed → Taken
 take_statement class t n = if is_question n then take_default class t n else t
 
 -- What a statement leaves that takes its default, and whether it took one.
-abbrev pub TakesDefault : State → ℕ → Placed → State → Bool → Type 0
+abbrev pub TakesDefault : Shown → ℕ → Placed → Shown → Bool → Type 0
 TakesDefault s class n now took =
-    (qs : List Placed)
-    → take_statement class record { state = s; questions = qs } n
-    ≡ record { state = now; questions = if took then qs ++ n ∷ [] else qs }
+    ((qs : List Placed)
+    → take_statement class record { state = s.state; questions = qs } n
+    ≡ record { state = now.state; questions = if took then qs ++ n ∷ [] else qs })
+    × Counts s (if took then field_write (nodes_of s.state.ifr) n else []) now
 
 -- The button in a row sets the defaults of a class, or why it does not.
 abbrev pub Presses : State → ℕ → Result ℕ Denial → Type 0
-Presses s row (Ok class) = press s row ≡ take_defaults s class
+Presses s row (Ok class) =
+    (press s row ≡ take_defaults s class)
+    × (pressed_if s (row_of_form s row (form_of s)) Accepted ≡ (taken s class).questions)
 Presses s row (Err denial) = press s row ≡ denied s denial
 
 -- The reference of an id leads to a form, or why it does not.
@@ -115,13 +134,18 @@ IsUntold s request denial =
     extract_from s request (store_named (nodes_of s.ifr) s.path request.0) ≡ denied s denial
 
 -- The questions of all blocks of a response are set, or why none is.
-abbrev pub Routes : State → Named × List Area → State → Result ℕ Denial → Type 0
+abbrev pub Routes : Shown → Named × List Area → Shown → Result ℕ Denial → Type 0
 Routes s response now (Ok count) =
-    route_to s response.1 (store_named (nodes_of s.ifr) s.path response.0)
-    ≡ accepted now (count_text count)
+    (route_to s.state response.1 (store_named (nodes_of s.state.ifr) s.state.path response.0)
+    ≡ accepted now.state (count_text count))
+    × Counts s (route_writes s.state response.1
+    (store_named (nodes_of s.state.ifr) s.state.path response.0)) now
 Routes s response now (Err denial) =
-    (route_to s response.1 (store_named (nodes_of s.ifr) s.path response.0) ≡ denied s denial)
-    × (now ≡ s)
+    (route_to s.state response.1 (store_named (nodes_of s.state.ifr) s.state.path response.0)
+    ≡ denied s.state denial)
+    × (now.state ≡ s.state)
+    × Counts s (route_writes s.state response.1
+    (store_named (nodes_of s.state.ifr) s.state.path response.0)) now
 
 -- What a caller grants of an input, whatever the field.
 abbrev pub IsOffered : Input → Type 0

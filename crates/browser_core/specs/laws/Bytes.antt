@@ -4,7 +4,6 @@ use Rattle.hii_bytes.specs.declared.cause.Cause.{Cause}
 use Rattle.config_text.specs.Grammar.{Named, Area}
 use Rattle.config_text.specs.Reading.{configuration_in}
 use Rattle.config_text.specs.declared.kind.TextKind.TheVariants.{Tell}
-use Rattle.ifr_opcodes.specs.Fields.{reset_default}
 use Rattle.ifr_opcodes.specs.Forest.{Placed}
 use Rattle.ifr_scopes.specs.Nodes.{nodes_of}
 use Rattle.hii_varstore.specs.Stores.{byte_of}
@@ -12,6 +11,7 @@ use Rattle.hii_questions.specs.Fields.{Field, field_of, question_with}
 use Rattle.hii_commands.specs.Orders.{Order, SetValue, OrderElements, SetText, PressButton, TakeDefaults, RouteConfiguration}
 use Rattle.browser_core.specs.State.{State, world_of}
 use Rattle.browser_core.specs.Configuration.{store_named, block_field, question_of_field}
+use Rattle.browser_core.specs.Renewed.{named_if, pressed_if}
 use Rattle.browser_core.specs.Step.{form_of, taken, row_of_form, press, set_block, route, step}
 use Rattle.browser_core.specs.declared.reply.Reply.{Reply}
 use Rattle.browser_core.specs.declared.reply.Reply.TheVariants.{Accepted}
@@ -25,16 +25,6 @@ state_with s (order ∷ orders) = state_with (step s order).state orders
 abbrev pub answers_to : State → List Order → List (List ℕ)
 answers_to s [] = []
 answers_to s (order ∷ orders) = (step s order).text ∷ answers_to (step s order).state orders
-
--- the question that a command names, where it is carried out
-abbrev pub named_if : Option Placed → Reply → List Placed
-named_if (Some q) Accepted = q ∷ []
-named_if _ _ = []
-
--- the questions that took their defaults at a button, where it was pressed
-abbrev pub pressed_if : State → Option Placed → Reply → List Placed
-pressed_if s (Some button) Accepted = (taken s (reset_default button.op)).questions
-pressed_if s _ _ = []
 
 -- the questions that some blocks set, one after the other
 abbrev pub questions_of_blocks : State → ℕ → List Area → List Placed

@@ -14,7 +14,7 @@ use Rattle.ifr_scopes.specs.Nodes.{is_no_submit, options, inconsistents, warning
 use Rattle.hii_varstore.specs.Stores.{StoreMap}
 use Rattle.hii_questions.specs.Answers.{answers}
 use Rattle.hii_questions.specs.code.Views.{question_node}
-use Rattle.guard_policy.specs.Conditions.{ids_behind}
+use Rattle.guard_policy.specs.Conditions.{condition_ids}
 use Rattle.guard_policy.specs.World.{World, is_met}
 use Rattle.guard_policy.specs.Policy.{is_removed, hidden, fixed, closed, inconsistent, unsubmitted, warned}
 use Rattle.guard_policy.specs.declared.denial.Denial.{Denial}
@@ -73,7 +73,7 @@ warning_of w _ = []
 
 -- the questions on whose answers some conditions depend
 abbrev pub support_over : List Placed → List Placed → List ℕ
-support_over ns cs = flat_map (ids_behind ns) cs
+support_over ns cs = flat_map (condition_ids ns) cs
 
 -- the questions on whose answers a decision depends
 abbrev pub support : World → Decision → List ℕ
@@ -82,7 +82,7 @@ support w decision = support_over w.nodes (conditions w decision)
 -- the questions on whose answers the condition at a place depends; none where no condition stands
 abbrev pub ids_behind_one : List Placed → Option Placed → List ℕ
 ids_behind_one ns None = []
-ids_behind_one ns (Some c) = ids_behind ns c
+ids_behind_one ns (Some c) = condition_ids ns c
 
 abbrev pub support_at : List Placed → ℕ → List ℕ
 support_at ns place = ids_behind_one ns (conditional_at ns place)

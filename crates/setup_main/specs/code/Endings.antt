@@ -3,7 +3,7 @@ use Rattle.std.specs.Prelude.{◌≡◌, ◌≢◌, ◌⊎◌, ℕ, true, List, 
 use Rattle.hii_bytes.specs.declared.cause.Cause.TheVariants.{OutOfMemory}
 use Rattle.hii_bytes.specs.declared.cause.Fault.{Fault}
 use Rattle.hii_bytes.specs.Watching.{Pen, Writes}
-use Rattle.browser_core.specs.State.{State}
+use Rattle.browser_core.specs.Renewed.{Shown}
 use Rattle.browser_core.specs.Run.{outcome_of}
 use Rattle.browser_core.specs.Texts.{refused_text, fault_text}
 use Rattle.browser_core.specs.declared.reply.End.{End}
@@ -18,14 +18,14 @@ use Rattle.setup_main.specs.Serving.{Starts, IsRefusedBy, IsWritten}
 -- A session over what is given begins, and where the bytes of its script are known, they end so.
 abbrev pub StartsAndEnds : Given → Option (List ℕ) → End → Type 0
 StartsAndEnds given script end =
-    (start : State) × Starts given start
+    (start : Shown) × Starts given start
     × IfSome script (λ bytes. (outcome_of start bytes).end ≡ end)
 
 abbrev pub EndsAs : Given → Option (List ℕ) → Ended → Type 0
 EndsAs given script Done = StartsAndEnds given script end.Done
 EndsAs given script Refused =
     ((fault : Fault) × IsRefusedBy given fault) ⊎ StartsAndEnds given script end.TooLong
-EndsAs given script ReadScript = (start : State) × Starts given start
+EndsAs given script ReadScript = (start : Shown) × Starts given start
 EndsAs given script WriteAnswers = Unit {0}
 EndsAs given script WriteOut = StartsAndEnds given script end.Done
 EndsAs given script NoMemory = Unit {0}

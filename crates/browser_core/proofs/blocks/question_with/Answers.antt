@@ -8,4 +8,4 @@ use Rattle.browser_core.proofs.blocks.question_with.Goals as goal
 pub returns-in_err-free : goal.returns-in_err-free
 returns-in_err-free c =
     let p = err_from_is_err_and c.from_residual.result c.from_residual.ensures.1 in
-    rw (p.1, p.2) (all_fixed c.args.policy c.args.working.now (range_in c.args.field) (question_node c.in-Some.question) c.in_err-free.field-0.0 c.in-Some.ensures.1 (sym c.is_password.ensures ∙ c.if-is_password.false) (sym c.in-Some.ensures.2 ∙ c.in_err-free.was))
+    rw (p.1, p.2) (all_fixed c.args.policy c.args.working.now.stores (range_in c.args.field) (question_node c.in-Some.question) c.in_err-free.field-0.0 c.in-Some.ensures.1 (sym c.is_password.ensures ∙ c.if-is_password.false) (sym c.in-Some.ensures.2 ∙ c.in_err-free.was))

@@ -8,7 +8,7 @@ use Rattle.browser_core.proofs.change.options_open.Given as goal
 -- the values that were met have open options
 abbrev pub invariant-loop-value : goal.invariant-loop-value
 invariant-loop-value l =
-    let w = world l.policy l.working in
+    let w = world l.policy l.working.stores in
     let q = question_node l.question in
     first_closed w q (items_left l.values) ≡ first_closed w q (items_left l.fn.values)
 

@@ -1,16 +1,23 @@
-use Rattle.std.proofs.Common.{sym, ap, ◌∙◌}
-use Rattle.guard_policy.specs.Policy.{inconsistent}
-use Rattle.guard_policy.specs.code.Answers.{unless}
-use Rattle.guard_policy.specs.code.Views.{world}
-use Rattle.hii_varstore.specs.Stores.{StoreMap}
+use Rattle.std.proofs.lemmas.Result.{err_from_is_err_and}
+use Rattle.hii_questions.specs.code.Checks.{range_of}
 use Rattle.hii_questions.specs.code.Offers.{offer_of}
-use Rattle.hii_questions.specs.code.Views.{question_node, question_view}
-use Rattle.browser_core.proofs.SetLemmas.{gives_back}
+use Rattle.hii_questions.specs.code.Views.{question_view}
+use Rattle.browser_core.proofs.SetLemmas.{denies_value, leaves_all, sets_value}
 use Rattle.browser_core.proofs.change.set_value.Goals as goal
 
-pub returns-in-Err : goal.returns-in-Err
-returns-in-Err c =
-    let q = question_view c.args.question in
-    let why = ap (λ (m : StoreMap). unless (inconsistent (world c.args.policy m) (question_node c.args.question))) (sym c.put.ensures.written) ∙ sym c.consistent.ensures ∙ c.in-Err.is in
-    gives_back c.args.policy q (offer_of c.args.input) c.args.spare.now c.args.working.now c.copy_range.new.self c.in_ok-field.field c.in-Err.denial c.in_ok-field.ensures why (c.requires.working ∙ sym c.requires.spare)
-    (rw (c.put.ensures.written, c.from.ensures) at c.copy_range.ensures.copied) (rw c.put.ensures.written at c.copy_range.ensures.shape) (rw (c.put.ensures.written, c.from.ensures) at c.copy_range.ensures.given_back)
+pub returns-in_err-field : goal.returns-in_err-field
+returns-in_err-field c =
+    let p = err_from_is_err_and c.from_residual.result c.from_residual.ensures.1 in
+    rw (p.1, p.2) (leaves_all c.args.policy (question_view c.args.question) (offer_of c.args.input) c.args.working.now c.in_err-field.field-0.0 c.in_err-field.ensures)
+
+pub set-requires-clause-bytes : goal.set-requires-clause-bytes
+set-requires-clause-bytes c = c.requires.held (range_of c.in_ok-field.field) c.in_ok-field.ensures.2
+
+pub returns-in_err-set : goal.returns-in_err-set
+returns-in_err-set c =
+    let p = err_from_is_err_and c.from_residual-in_err-set.result c.from_residual-in_err-set.ensures.1 in
+    rw (p.1, p.2) (denies_value c.args.policy (question_view c.args.question) (offer_of c.args.input) c.args.working.now c.set.new.self c.in_ok-field.field c.in_err-set.field-0.0 c.in_ok-field.ensures c.in_err-set.ensures.0 c.in_err-set.ensures.1)
+
+pub returns : goal.returns
+returns c =
+    sets_value c.args.policy (question_view c.args.question) (offer_of c.args.input) c.args.working.now c.set.new.self c.in_ok-field.field c.in_ok-field.ensures c.in_ok-set.ensures.0 c.in_ok-set.ensures.1

@@ -11,8 +11,8 @@ use Rattle.browser_core.proofs.defaults.take_defaults.Goals as goal
 pub take_default-requires : goal.take_default-requires
 take_default-requires c =
     let n = statement_node c.in-Some.statement in
-    let all = subst (AreNodesOf c.args.core.now.ifr) c.in-Some.ensures.steps c.loop-statement.invariant.nodes in
-    subst (λ (ifr : List ℕ). IsNodeOf ifr n) (sym c.loop-statement.invariant.same) (All-head (λ m. IsNodeOf c.args.core.now.ifr m) n (statements_left c.next.new.self) all)
+    let all = subst (AreNodesOf c.args.core.now.state.ifr) c.in-Some.ensures.steps c.loop-statement.invariant.nodes in
+    subst (λ (ifr : List ℕ). IsNodeOf ifr n) (sym c.loop-statement.invariant.same) (All-head (λ m. IsNodeOf c.args.core.now.state.ifr m) n (statements_left c.next.new.self) all)
 
 pub loop-statement-preserved-then-take_default : goal.loop-statement-preserved-then-take_default
 loop-statement-preserved-then-take_default c =
@@ -26,9 +26,9 @@ loop-statement-preserved-then-take_default c =
       can = search rules;
       ends = search rules;
       same = takes_package c.args.class c.loop-statement.core c.take_default.new.self n c.take_default.result takes ∙ c.loop-statement.invariant.same;
-      nodes = All-tail (λ m. IsNodeOf c.args.core.now.ifr m) n ns (subst (AreNodesOf c.args.core.now.ifr) steps c.loop-statement.invariant.nodes);
+      nodes = All-tail (λ m. IsNodeOf c.args.core.now.state.ifr m) n ns (subst (AreNodesOf c.args.core.now.state.ifr) steps c.loop-statement.invariant.nodes);
       few = omega (arith, few, fewer);
-      left = takes_next c.args.class (taken c.args.core.now c.args.class) c.loop-statement.core c.take_default.new.self c.loop-statement.count n ns (statements_left c.loop-statement.statements) true steps
+      left = takes_next c.args.class (taken c.args.core.now.state c.args.class) c.args.core.now c.loop-statement.core c.take_default.new.self c.loop-statement.count n ns (statements_left c.loop-statement.statements) true c.loop-statement.invariant.same steps
           (subst (λ (b : Bool). TakesDefault c.loop-statement.core c.args.class n c.take_default.new.self b) c.if-take_default.true takes) c.loop-statement.invariant.left;
     }
 
@@ -44,8 +44,8 @@ loop-statement-preserved c =
       can = search rules;
       ends = search rules;
       same = takes_package c.args.class c.loop-statement.core c.take_default.new.self n c.take_default.result takes ∙ c.loop-statement.invariant.same;
-      nodes = All-tail (λ m. IsNodeOf c.args.core.now.ifr m) n ns (subst (AreNodesOf c.args.core.now.ifr) steps c.loop-statement.invariant.nodes);
+      nodes = All-tail (λ m. IsNodeOf c.args.core.now.state.ifr m) n ns (subst (AreNodesOf c.args.core.now.state.ifr) steps c.loop-statement.invariant.nodes);
       few = omega (arith, few, fewer);
-      left = takes_next c.args.class (taken c.args.core.now c.args.class) c.loop-statement.core c.take_default.new.self c.loop-statement.count n ns (statements_left c.loop-statement.statements) false steps
+      left = takes_next c.args.class (taken c.args.core.now.state c.args.class) c.args.core.now c.loop-statement.core c.take_default.new.self c.loop-statement.count n ns (statements_left c.loop-statement.statements) false c.loop-statement.invariant.same steps
           (subst (λ (b : Bool). TakesDefault c.loop-statement.core c.args.class n c.take_default.new.self b) c.if-take_default.false takes) c.loop-statement.invariant.left;
     }

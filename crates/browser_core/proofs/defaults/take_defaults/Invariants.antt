@@ -11,8 +11,8 @@ invariant-loop-statement l =
     record {
       can : goal.iterator-loop-statement.can_next l.statements;
       ends : goal.iterator-loop-statement.is_finite l.statements;
-      same : l.core.ifr ≡ l.fn.core.ifr;
-      nodes : AreNodesOf l.fn.core.ifr (statements_left l.statements);
+      same : l.core.state.ifr ≡ l.fn.core.state.ifr;
+      nodes : AreNodesOf l.fn.core.state.ifr (statements_left l.statements);
       few : l.count + length (statements_left l.statements) < 2 ^ 32;
-      left : TakesLeft l.class (taken l.fn.core l.class) l.core l.count (statements_left l.statements);
+      left : TakesLeft l.class (taken l.fn.core.state l.class) l.fn.core l.core l.count (statements_left l.statements);
     }

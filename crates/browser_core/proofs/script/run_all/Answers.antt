@@ -34,7 +34,7 @@ returns-then-failed-2-clause-run g c =
     let within : c.loop-count.count ≤ SCRIPT_LIMIT = omega (arith, c.loop-count-test.true) in
     let stands = reads_within _ _ _ _ _ _ _ _ so_far within in
     let consumed = consumes_none _ _ _ so_far.bytes c.read.new.buf c.in-Ok.n so_far.consumed c.in-Ok.ensures.bytes.0 c.if-n-eq0.true in
-    overflows_last _ _ _ _ _ _ _ _ so_far.bytes _ consumed (omega (arith, so_far.counted, within)) stands (c.run_line.ensures.state _ stands.line_is) (c.run_line.ensures.text _ stands.line_is)
+    overflows_last _ _ _ _ _ _ _ _ so_far.bytes _ consumed (omega (arith, so_far.counted, within)) stands (c.run_line.ensures.shown _ stands.line_is) (c.run_line.ensures.text _ stands.line_is)
     (sym c.failed-then-n-eq0.ensures ∙ c.if-failed-2.true)
 
 pub returns-else-failed-2-clause-run : goal.returns-else-failed-2-clause-run
@@ -46,7 +46,7 @@ returns-else-failed-2-clause-run g c =
     let long : length c.read.new.buf ≡ c.min-room.result = search rules in
     let some : 0 < length c.read.new.buf = omega (arith, long, c.min-room.ensures, within) in
     finishes _ _ _ _ _ _ _ _ so_far.bytes _ consumed (omega (arith, so_far.counted, within)) (c.in-Ok.ensures.bytes.1 c.if-n-eq0.true some) stands
-    (c.run_line.ensures.state _ stands.line_is) (c.run_line.ensures.text _ stands.line_is) (sym c.failed-then-n-eq0.ensures ∙ c.if-failed-2.false)
+    (c.run_line.ensures.shown _ stands.line_is) (c.run_line.ensures.text _ stands.line_is) (sym c.failed-then-n-eq0.ensures ∙ c.if-failed-2.false)
 
 pub returns-then-failed-3-clause-run : goal.returns-then-failed-3-clause-run
 returns-then-failed-3-clause-run g c =

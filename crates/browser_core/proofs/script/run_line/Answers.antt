@@ -4,7 +4,7 @@ use Rattle.hii_bytes.specs.declared.cause.Cause.TheVariants.{LineTooLong}
 use Rattle.hii_commands.specs.Meaning.{cause_of}
 use Rattle.browser_core.specs.Step.{Outcome}
 use Rattle.browser_core.specs.Texts.{refused_text}
-use Rattle.browser_core.proofs.RunLemmas.{long_line}
+use Rattle.browser_core.proofs.RunLemmas.{long_line, long_shown}
 use Rattle.browser_core.proofs.script.run_line.Goals as goal
 
 pub returns-in-Err-clause-text : goal.returns-in-Err-clause-text
@@ -12,7 +12,7 @@ returns-in-Err-clause-text g c = λ bytes h.
     let long = c.in-Err.ensures bytes h in
     let is : c.cause.result ≡ LineTooLong = c.cause.ensures ∙ ap cause_of long.1 in
     subst (Writes (pen_of g.W.Write.contents c.args.out.now) (pen_of g.W.Write.contents c.put_refusal.new.out))
-    (ap refused_text is ∙ sym (ap (λ (o : Outcome). o.text) (long_line c.args.core.now bytes long.0))) c.put_refusal.ensures
+    (ap refused_text is ∙ sym (ap (λ (o : Outcome). o.text) (long_line c.args.core.now.state bytes long.0))) c.put_refusal.ensures
 
-pub returns-in-Err-clause-state : goal.returns-in-Err-clause-state
-returns-in-Err-clause-state g c = λ bytes h. sym (ap (λ (o : Outcome). o.state) (long_line c.args.core.now bytes (c.in-Err.ensures bytes h).0))
+pub returns-in-Err-clause-shown : goal.returns-in-Err-clause-shown
+returns-in-Err-clause-shown g c = λ bytes h. sym (long_shown c.args.core.now bytes (c.in-Err.ensures bytes h).0)

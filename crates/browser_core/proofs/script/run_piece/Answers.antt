@@ -41,7 +41,7 @@ loop-rest-preserved-else-failed g c =
           let held = c.feed-fed.ensures.held (rest_of (bytes ++ so_far.0)) stands.line_is in
           subst (λ b. Stands start pen b c.run_line.new.core c.clear.new.self pen_then) (append_assoc bytes so_far.0 (line ++ 10 ∷ []))
           (stands_line start c.loop-rest.core c.run_line.new.core pen pen_now pen_then (bytes ++ so_far.0) line c.clear.new.self (IsWithinLine-before_first rest)
-          stands.state stands.text (c.run_line.ensures.state _ held) (c.run_line.ensures.text _ held) c.clear.ensures (sym c.failed.ensures ∙ c.if-failed.false)),
+          stands.shown stands.text (c.run_line.ensures.shown _ held) (c.run_line.ensures.text _ held) c.clear.ensures (sym c.failed.ensures ∙ c.if-failed.false)),
     )
 
 pub returns-then-failed-clause-stops : goal.returns-then-failed-clause-stops
@@ -55,7 +55,7 @@ returns-then-failed-clause-stops g c = λ start pen bytes h broken.
     let stands = so_far.2 start pen bytes h in
     let held = c.feed-fed.ensures.held (rest_of (bytes ++ so_far.0)) stands.line_is in
     stops_piece start c.loop-rest.core c.run_line.new.core pen pen_now pen_then (bytes ++ so_far.0) line (drop c.feed-fed.result.taken rest) _ (IsWithinLine-before_first rest)
-    stands.state stands.text stands.sound (c.run_line.ensures.state _ held) (c.run_line.ensures.text _ held) broken
+    stands.shown stands.text stands.sound (c.run_line.ensures.shown _ held) (c.run_line.ensures.text _ held) broken
     (ap (λ l. bytes ++ l) (so_far.1 ∙ ap (λ l. so_far.0 ++ l) fed) ∙ sym (append_assoc bytes so_far.0 ((line ++ 10 ∷ []) ++ drop c.feed-fed.result.taken rest))
     ∙ sym (append_assoc (bytes ++ so_far.0) (line ++ 10 ∷ []) (drop c.feed-fed.result.taken rest)))
 

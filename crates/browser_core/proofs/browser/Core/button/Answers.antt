@@ -11,4 +11,4 @@ returns-in_err-changeable c =
     let n = statement_node c.in-Some.statement in
     let button : (number n.op == RESET_BUTTON) ≡ true = search rules in
     let p = err_from_is_err_and c.from_residual.result c.from_residual.ensures.1 in
-    rw (p.1, p.2) (press_fixed c.args.self.now c.args.row n c.in_err-changeable.field-0.0 (sym c.in-Some.ensures.found) button (sym c.in_err-changeable.ensures.denied))
+    rw (p.1, p.2) (press_fixed c.args.self.now.state c.args.row n c.in_err-changeable.field-0.0 (sym c.in-Some.ensures.found) button (sym c.in_err-changeable.ensures.denied))

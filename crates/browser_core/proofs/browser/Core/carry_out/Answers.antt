@@ -1,8 +1,17 @@
-use Rattle.std.proofs.Common.{sym}
-use Rattle.config_text.specs.Reading.{configuration_in}
-use Rattle.config_text.specs.declared.kind.TextKind.TheVariants.{Ask}
-use Rattle.browser_core.proofs.RoutedLemmas.{extract_state}
+use Rattle.std.proofs.Common.{ap, ◌∙◌}
+use Rattle.ifr_scopes.specs.Nodes.{nodes_of}
+use Rattle.hii_commands.specs.Meaning.{order_of}
+use Rattle.browser_core.specs.Renewed.{Shown, shown_after, writes_of}
+use Rattle.browser_core.specs.Step.{step}
+use Rattle.browser_core.specs.code.Counting.{counted_all}
+use Rattle.browser_core.proofs.Cores.{both}
+use Rattle.browser_core.proofs.CountLemmas.{counted_from_none}
 use Rattle.browser_core.proofs.browser.Core.carry_out.Goals as goal
 
-pub returns-in-Extract-clause-state : goal.returns-in-Extract-clause-state
-returns-in-Extract-clause-state g c = rw c.in-Extract.is (sym (extract_state c.args.self.now (configuration_in Ask c.in-Extract.text.now)))
+pub returns-clause-shown : goal.returns-clause-shown
+returns-clause-shown g c =
+    let s = c.args.self.now.state in
+    let order = order_of c.args.command in
+    let state = c.obey.ensures.state ∙ ap (λ (t : Shown). (step t.state order).state) c.count_anew.ensures in
+    let count = c.obey.ensures.renewed ∙ ap (λ (t : Shown). counted_all t.renewed (nodes_of t.state.ifr) (writes_of t.state order)) c.count_anew.ensures ∙ counted_from_none (nodes_of s.ifr) (writes_of s order) in
+    both c.obey.new.self (shown_after c.args.self.now order) state count

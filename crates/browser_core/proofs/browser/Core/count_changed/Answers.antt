@@ -1,8 +1,9 @@
 use Rattle.std.proofs.Common.{rules, sym, ap, subst, ◌∙◌, arith, length}
 use Rattle.std.specs.List.{AllByRecursion}
+use Rattle.hii_varstore.specs.Stores.{shape_of}
 use Rattle.hii_questions.specs.code.Lists.{questions_left}
 use Rattle.hii_questions.specs.code.Views.{question_view}
-use Rattle.browser_core.proofs.Cores.{state_in}
+use Rattle.browser_core.proofs.Cores.{state_in, seen}
 use Rattle.browser_core.specs.State.{State}
 use Rattle.browser_core.specs.Opening.{layout_in}
 use Rattle.browser_core.specs.code.Standing.{LiesIn}
@@ -16,7 +17,7 @@ differs-requires-clause-committed c =
 
 pub differs-requires-clause-working : goal.differs-requires-clause-working
 differs-requires-clause-working c =
-    subst (λ shape. LiesIn shape (question_view c.in-Some.question)) (sym c.self.invariant.laid) (lies_first (layout_in c.self.inside.forms) (questions_left c.loop-question.question-iterator) (questions_left c.next.new.self) (question_view c.in-Some.question) c.loop-question.invariant.lie c.in-Some.ensures.steps).0
+    subst (λ shape. LiesIn shape (question_view c.in-Some.question)) (sym (ap shape_of c.stores.ensures ∙ c.self.invariant.laid)) (lies_first (layout_in c.self.inside.forms) (questions_left c.loop-question.question-iterator) (questions_left c.next.new.self) (question_view c.in-Some.question) c.loop-question.invariant.lie c.in-Some.ensures.steps).0
 
 pub loop-question-init : goal.loop-question-init
 loop-question-init c =
@@ -33,7 +34,7 @@ loop-question-init c =
 pub overflow_add-count : goal.overflow_add-count
 overflow_add-count c =
     let s : State = state_in c.self.inside in
-    let more = count_more (is_other_field s) (question_view c.in-Some.question) c.differs.result (questions_left c.loop-question.question-iterator) (questions_left c.next.new.self) c.loop-question.count _ c.in-Some.ensures.steps c.differs.ensures c.if-differs.true c.loop-question.invariant.counted in
+    let more = count_more (is_other_field s) (question_view c.in-Some.question) c.differs.result (questions_left c.loop-question.question-iterator) (questions_left c.next.new.self) c.loop-question.count _ c.in-Some.ensures.steps (rw c.stores.ensures at c.differs.ensures) c.if-differs.true c.loop-question.invariant.counted in
     let small = few_changed s c.self.invariant.browsable.accepted in
     omega (arith, more, small)
 
@@ -44,7 +45,7 @@ loop-question-preserved-then-differs c =
       can = search rules;
       ends = search rules;
       lie = (lies_first (layout_in c.self.inside.forms) (questions_left c.loop-question.question-iterator) (questions_left c.next.new.self) (question_view c.in-Some.question) c.loop-question.invariant.lie c.in-Some.ensures.steps).1;
-      counted = count_more (is_other_field s) (question_view c.in-Some.question) c.differs.result (questions_left c.loop-question.question-iterator) (questions_left c.next.new.self) c.loop-question.count _ c.in-Some.ensures.steps c.differs.ensures c.if-differs.true c.loop-question.invariant.counted;
+      counted = count_more (is_other_field s) (question_view c.in-Some.question) c.differs.result (questions_left c.loop-question.question-iterator) (questions_left c.next.new.self) c.loop-question.count _ c.in-Some.ensures.steps (rw c.stores.ensures at c.differs.ensures) c.if-differs.true c.loop-question.invariant.counted;
     }
 
 pub loop-question-preserved : goal.loop-question-preserved
@@ -54,10 +55,10 @@ loop-question-preserved c =
       can = search rules;
       ends = search rules;
       lie = (lies_first (layout_in c.self.inside.forms) (questions_left c.loop-question.question-iterator) (questions_left c.next.new.self) (question_view c.in-Some.question) c.loop-question.invariant.lie c.in-Some.ensures.steps).1;
-      counted = count_same (is_other_field s) (question_view c.in-Some.question) c.differs.result (questions_left c.loop-question.question-iterator) (questions_left c.next.new.self) c.loop-question.count _ c.in-Some.ensures.steps c.differs.ensures c.if-differs.false c.loop-question.invariant.counted;
+      counted = count_same (is_other_field s) (question_view c.in-Some.question) c.differs.result (questions_left c.loop-question.question-iterator) (questions_left c.next.new.self) c.loop-question.count _ c.in-Some.ensures.steps (rw c.stores.ensures at c.differs.ensures) c.if-differs.false c.loop-question.invariant.counted;
     }
 
 pub returns : goal.returns
 returns c =
     let s : State = state_in c.self.inside in
-    count_all (is_other_field s) (questions_left c.loop-question.question-iterator) c.loop-question.count _ c.in-None.ensures.steps.0 c.loop-question.invariant.counted ∙ ap (λ (s : State). length (changed s)) c.self.view_is
+    count_all (is_other_field s) (questions_left c.loop-question.question-iterator) c.loop-question.count _ c.in-None.ensures.steps.0 c.loop-question.invariant.counted ∙ ap (λ (s : State). length (changed s)) (seen c.self.view_is)

@@ -3,6 +3,7 @@ use Rattle.ifr_scopes.specs.code.Checked.{IsNodeOf, has_form}
 use Rattle.ifr_scopes.specs.code.Lists.{form_node}
 use Rattle.browser_core.specs.State.{State}
 use Rattle.browser_core.proofs.FollowLemmas.{has_form_there, all_and_one}
+use Rattle.browser_core.proofs.Cores.{seen}
 use Rattle.browser_core.proofs.browser.Core.follow.Goals as goal
 
 pub invariant_of-self : goal.invariant_of-self
@@ -14,8 +15,9 @@ invariant_of-self c =
       together = c.self.invariant.together;
       browsable = c.self.invariant.browsable;
       submitted = c.self.invariant.submitted;
+      kept = c.self.invariant.kept;
       laid = c.self.invariant.laid;
       same = c.self.invariant.same;
-      node = subst (λ (s : State). IsNodeOf s.ifr (form_node c.in_ok-form.form)) (sym c.self.view_is) c.in_ok-form.ensures.0;
+      node = subst (λ (s : State). IsNodeOf s.ifr (form_node c.in_ok-form.form)) (sym (seen c.self.view_is)) c.in_ok-form.ensures.0;
       left = all_and_one (λ (p : ℕ). has_form c.self.inside.forms p ≡ true) c.self.inside.history.items c.push.new.self.items c.place.result c.self.invariant.left there c.push.ensures.items;
     }

@@ -8,6 +8,7 @@ use Rattle.ifr_scopes.specs.code.Lists.{form_node}
 use Rattle.ifr_scopes.specs.declared.form.Form.{Form}
 use Rattle.browser_core.specs.State.{State}
 use Rattle.browser_core.proofs.FollowLemmas.{form_is_node}
+use Rattle.browser_core.proofs.Cores.{seen}
 use Rattle.browser_core.proofs.browser.Core.form_of.Goals as goal
 
 found_node : (ifr : List ℕ) (id : ℕ) (o : Option Form) → IsAccepted ifr → option_map form_node o ≡ form_with (nodes_of ifr) id → IfSome o (λ form. IsNodeOf ifr (form_node form))
@@ -16,5 +17,5 @@ found_node ifr id (Some form) accepted e = form_is_node ifr id (form_node form) 
 
 pub returns-clause-node : goal.returns-clause-node
 returns-clause-node c =
-    subst (λ (s : State). IfSome c.form.result (λ form. IsNodeOf s.ifr (form_node form))) c.self.view_is
+    subst (λ (s : State). IfSome c.form.result (λ form. IsNodeOf s.ifr (form_node form))) (seen c.self.view_is)
     (found_node c.self.inside.forms c.in_ok-id.field-0 c.form.result c.self.invariant.browsable.accepted c.form.ensures)

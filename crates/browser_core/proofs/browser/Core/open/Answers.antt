@@ -1,11 +1,14 @@
-use Rattle.std.proofs.Common.{rules, refl, sym, ap, subst, ◌∙◌}
+use Rattle.std.proofs.Common.{rules, refl, sym, ap, subst, ◌∙◌, inl}
 use Rattle.hii_varstore.specs.Layout.{Shape}
 use Rattle.hii_varstore.specs.code.Table.{AreBuffers}
 use Rattle.std.proofs.lemmas.Result.{err_from_is_err_and}
 use Rattle.hii_packages.specs.code.Package.{entry_of}
 use Rattle.ifr_scopes.specs.code.Lists.{form_node}
 use Rattle.hii_varstore.specs.Stores.{shape_of}
+use Rattle.ifr_scopes.specs.Nodes.{nodes_of}
+use Rattle.guard_policy.specs.World.{removed_at}
 use Rattle.hii_questions.specs.code.Survey.{Survey}
+use Rattle.kept_conditions.specs.Kept.{KeptMap}
 use Rattle.browser_core.proofs.OpeningLemmas.{only_memory, refuses_source, refuses_texts, refuses_package, refuses_stores, refuses_questions, refuses_image, is_found, browsable, opened}
 use Rattle.browser_core.proofs.browser.Core.open.Goals as goal
 
@@ -69,6 +72,16 @@ returns-in_err-working-clause-accepted c =
     let p = err_from_is_err_and c.from_residual-in_err-working.result c.from_residual-in_err-working.ensures.1 in
     λ start o. rw (p.1, p.2) c.in_err-working.ensures.refused
 
+pub returns-in_err-copy-clause-accepted : goal.returns-in_err-copy-clause-accepted
+returns-in_err-copy-clause-accepted c =
+    let p = err_from_is_err_and c.from_residual-in_err-copy.result c.from_residual-in_err-copy.ensures.1 in
+    λ start o. rw (p.1, p.2) c.in_err-copy.ensures.refused
+
+pub returns-in_err-spare-clause-refused : goal.returns-in_err-spare-clause-refused
+returns-in_err-spare-clause-refused c =
+    let p = err_from_is_err_and c.from_residual-in_err-spare.result c.from_residual-in_err-spare.ensures.1 in
+    rw (p.1, p.2) (inl c.in_err-spare.ensures.refused)
+
 pub returns-in_err-spare-clause-accepted : goal.returns-in_err-spare-clause-accepted
 returns-in_err-spare-clause-accepted c =
     let p = err_from_is_err_and c.from_residual-in_err-spare.result c.from_residual-in_err-spare.ensures.1 in
@@ -88,15 +101,19 @@ invariant_of-result c =
       together = ap (λ (s : Survey). s.ifr) c.in_ok-questions.ensures.read;
       browsable = (browsable c.in_ok-forms.forms c.in_ok-layout.layout c.in_ok-forms.ensures.accepted c.in_ok-layout.ensures.sound c.in_ok-layout.ensures.read c.in_ok-questions.ensures.sound);
       submitted = submitted;
-      laid = ap shape_of c.in_ok-working.ensures.same ∙ submitted;
-      same = c.in_ok-spare.ensures.same ∙ sym c.in_ok-working.ensures.same;
+      kept = ap (λ (it : KeptMap). it.ifr) c.in_ok-working.ensures.read ∙ c.new-policy.ensures.forms;
+      laid = ap (λ (it : KeptMap). shape_of it.stores) c.in_ok-working.ensures.read ∙ ap shape_of c.in_ok-copy.ensures.same ∙ submitted;
+      same = c.in_ok-spare.ensures.same ∙ sym (ap (λ (it : KeptMap). it.stores) c.in_ok-working.ensures.read ∙ c.in_ok-copy.ensures.same);
       node = c.first_form-form.ensures.node;
       left = search rules;
     }
 
 pub returns-clause-opened : goal.returns-clause-opened
 returns-clause-opened c =
-    opened c.args.list.now c.args.forms c.args.stores.now c.args.lang.now c.in_ok-found.found.packages (entry_of c.in_ok-found.found.forms) _ c.in_ok-layout.layout (form_node c.first_form-form.result) c.first_form-form.ensures.first.0
-    c.in_ok-found.ensures.spelled c.in_ok-found.ensures.found c.in_ok-forms.ensures.read c.in_ok-languages.ensures.read c.choose-language.ensures
-    (browsable c.in_ok-forms.forms c.in_ok-layout.layout c.in_ok-forms.ensures.accepted c.in_ok-layout.ensures.sound c.in_ok-layout.ensures.read c.in_ok-questions.ensures.sound) c.in_ok-layout.ensures.read
-    c.in_ok-committed.ensures.spelled c.in_ok-working.ensures.same c.in_ok-removed.ensures.removed c.first_form-form.ensures.first.1 refl c.new.ensures c.device_path.ensures
+    let working = ap (λ (it : KeptMap). it.stores) c.in_ok-working.ensures.read ∙ c.in_ok-copy.ensures.same in (
+      opened c.args.list.now c.args.forms c.args.stores.now c.args.lang.now c.in_ok-found.found.packages (entry_of c.in_ok-found.found.forms) _ c.in_ok-layout.layout (form_node c.first_form-form.result) c.first_form-form.ensures.first.0
+          c.in_ok-found.ensures.spelled c.in_ok-found.ensures.found c.in_ok-forms.ensures.read c.in_ok-languages.ensures.read c.choose-language.ensures
+          (browsable c.in_ok-forms.forms c.in_ok-layout.layout c.in_ok-forms.ensures.accepted c.in_ok-layout.ensures.sound c.in_ok-layout.ensures.read c.in_ok-questions.ensures.sound) c.in_ok-layout.ensures.read
+          c.in_ok-committed.ensures.spelled working (c.in_ok-removed.ensures.removed ∙ ap (removed_at (nodes_of c.in_ok-forms.forms)) (sym working)) c.first_form-form.ensures.first.1 refl c.new.ensures c.device_path.ensures,
+      ap (λ (it : KeptMap). it.renewed) c.in_ok-working.ensures.read,
+    )

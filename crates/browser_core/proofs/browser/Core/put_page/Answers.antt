@@ -12,7 +12,7 @@ use Rattle.browser_core.proofs.browser.Core.put_page.Goals as goal
 
 pub returns : goal.returns
 returns g c =
-    let s = c.args.self.now in
+    let s = c.args.self.now.state in
     let page = c.page.result in
     let a = pen_of g.W.Write.contents c.args.out.now in
     let b = pen_of g.W.Write.contents c.put_page.new.out in

@@ -1,9 +1,10 @@
 use Rattle.std.proofs.Common.{rules, sym, ap, subst, ◌∙◌, length}
 use Rattle.std.specs.List.{AllByRecursion}
 use Rattle.hii_bytes.specs.Watching.{pen_of, Writes}
+use Rattle.hii_varstore.specs.Stores.{shape_of}
 use Rattle.hii_questions.specs.code.Lists.{questions_left}
 use Rattle.hii_questions.specs.code.Views.{question_view}
-use Rattle.browser_core.proofs.Cores.{state_in}
+use Rattle.browser_core.proofs.Cores.{state_in, seen}
 use Rattle.browser_core.specs.State.{State}
 use Rattle.browser_core.specs.Opening.{layout_in}
 use Rattle.browser_core.specs.code.Standing.{LiesIn}
@@ -18,7 +19,7 @@ differs-requires-clause-committed g c =
 
 pub differs-requires-clause-working : goal.differs-requires-clause-working
 differs-requires-clause-working g c =
-    subst (λ shape. LiesIn shape (question_view c.in-Some.question)) (sym c.self.invariant.laid) (lies_first (layout_in c.self.inside.forms) (questions_left c.loop-question.question-iterator) (questions_left c.next.new.self) (question_view c.in-Some.question) c.loop-question.invariant.lie c.in-Some.ensures.steps).0
+    subst (λ shape. LiesIn shape (question_view c.in-Some.question)) (sym (ap shape_of c.stores.ensures ∙ c.self.invariant.laid)) (lies_first (layout_in c.self.inside.forms) (questions_left c.loop-question.question-iterator) (questions_left c.next.new.self) (question_view c.in-Some.question) c.loop-question.invariant.lie c.in-Some.ensures.steps).0
 
 pub loop-question-init : goal.loop-question-init
 loop-question-init g c =
@@ -29,7 +30,7 @@ loop-question-init g c =
       can = search rules;
       ends = search rules;
       lie = subst (AllByRecursion (LiesIn (layout_in s.ifr))) (sym all) (fields_lie s.ifr c.self.invariant.browsable);
-      text = told_start s (questions_left c.into_iter-question-iterator.result) c.count_changed.result (c.count_changed.ensures ∙ ap (λ (s : State). length (changed s)) (sym c.self.view_is)) all c.put_count.ensures;
+      text = told_start s (questions_left c.into_iter-question-iterator.result) c.count_changed.result (c.count_changed.ensures ∙ ap (λ (s : State). length (changed s)) (sym (seen c.self.view_is))) all c.put_count.ensures;
     }
 
 pub loop-question-preserved-then-differs : goal.loop-question-preserved-then-differs
@@ -39,7 +40,7 @@ loop-question-preserved-then-differs g c =
       can = search rules;
       ends = search rules;
       lie = (lies_first (layout_in c.self.inside.forms) (questions_left c.loop-question.question-iterator) (questions_left c.next.new.self) (question_view c.in-Some.question) c.loop-question.invariant.lie c.in-Some.ensures.steps).1;
-      text = told_more {text = (commit s).text} (is_other_field s) (question_view c.in-Some.question) c.differs.result (questions_left c.loop-question.question-iterator) (questions_left c.next.new.self) c.id.result c.in-Some.ensures.steps c.differs.ensures c.if-differs.true c.id.ensures c.loop-question.invariant.text c.put_changed.ensures;
+      text = told_more {text = (commit s).text} (is_other_field s) (question_view c.in-Some.question) c.differs.result (questions_left c.loop-question.question-iterator) (questions_left c.next.new.self) c.id.result c.in-Some.ensures.steps (rw c.stores.ensures at c.differs.ensures) c.if-differs.true c.id.ensures c.loop-question.invariant.text c.put_changed.ensures;
     }
 
 pub loop-question-preserved : goal.loop-question-preserved
@@ -49,11 +50,11 @@ loop-question-preserved g c =
       can = search rules;
       ends = search rules;
       lie = (lies_first (layout_in c.self.inside.forms) (questions_left c.loop-question.question-iterator) (questions_left c.next.new.self) (question_view c.in-Some.question) c.loop-question.invariant.lie c.in-Some.ensures.steps).1;
-      text = told_same {text = (commit s).text} (is_other_field s) (question_view c.in-Some.question) c.differs.result (questions_left c.loop-question.question-iterator) (questions_left c.next.new.self) c.in-Some.ensures.steps c.differs.ensures c.if-differs.false c.loop-question.invariant.text;
+      text = told_same {text = (commit s).text} (is_other_field s) (question_view c.in-Some.question) c.differs.result (questions_left c.loop-question.question-iterator) (questions_left c.next.new.self) c.in-Some.ensures.steps (rw c.stores.ensures at c.differs.ensures) c.if-differs.false c.loop-question.invariant.text;
     }
 
 pub returns : goal.returns
 returns g c =
     let s : State = state_in c.self.inside in
-    subst (λ (s : State). Writes (pen_of g.W.Write.contents c.args.out.now) (pen_of g.W.Write.contents c.loop-question.out) (commit s).text) c.self.view_is
+    subst (λ (s : State). Writes (pen_of g.W.Write.contents c.args.out.now) (pen_of g.W.Write.contents c.loop-question.out) (commit s).text) (seen c.self.view_is)
     (Stands-all _ _ (commit s).text (told (is_other_field s) (questions_left c.loop-question.question-iterator)) c.loop-question.invariant.text (ap (told (is_other_field s)) c.in-None.ensures.steps.0))

@@ -1,7 +1,7 @@
 use Rattle.std.proofs.Common.{subst, sym, ap, ◌∙◌}
 use Rattle.hii_bytes.specs.Watching.{pen_of, Writes}
 use Rattle.hii_questions.specs.code.Views.{question_node}
-use Rattle.browser_core.proofs.Cores.{state_in}
+use Rattle.browser_core.proofs.Cores.{state_in, seen}
 use Rattle.browser_core.specs.State.{State}
 use Rattle.browser_core.specs.Step.{warned_text}
 use Rattle.browser_core.proofs.browser.Core.put_warnings.Goals as goal
@@ -9,7 +9,7 @@ use Rattle.browser_core.proofs.browser.Core.put_warnings.Goals as goal
 pub returns : goal.returns
 returns g c =
     let inside : State = state_in c.self.inside in
-    let bytes = c.policy.ensures.bytes ∙ ap (λ (s : State). s.ifr) (sym c.self.view_is) in
-    let removed = c.policy.ensures.removed ∙ ap (λ (s : State). s.removed) (sym c.self.view_is) in
-    let told = rw (c.warnings-warnings.ensures, bytes, removed) at c.put_warnings.ensures in
-    subst (λ (s : State). Writes (pen_of g.W.Write.contents c.args.out.now) (pen_of g.W.Write.contents c.put_warnings.new.out) (warned_text s s.working (question_node c.args.question))) c.self.view_is told
+    let bytes = c.policy.ensures.bytes ∙ ap (λ (s : State). s.ifr) (sym (seen c.self.view_is)) in
+    let removed = c.policy.ensures.removed ∙ ap (λ (s : State). s.removed) (sym (seen c.self.view_is)) in
+    let told = rw (c.warnings-warnings.ensures, c.stores.ensures, bytes, removed) at c.put_warnings.ensures in
+    subst (λ (s : State). Writes (pen_of g.W.Write.contents c.args.out.now) (pen_of g.W.Write.contents c.put_warnings.new.out) (warned_text s s.working (question_node c.args.question))) (seen c.self.view_is) told

@@ -14,11 +14,12 @@ use Rattle.guard_policy.specs.code.Answers.{unless}
 use Rattle.browser_core.specs.State.{State, world_of}
 use Rattle.browser_core.specs.Step.{denied}
 use Rattle.browser_core.proofs.FollowLemmas.{go_fixed, go_nowhere, go_hidden}
+use Rattle.browser_core.proofs.Cores.{seen}
 use Rattle.browser_core.proofs.browser.Core.target.Goals as goal
 
 pub returns-in_err-changeable : goal.returns-in_err-changeable
 returns-in_err-changeable c =
-    let s = c.args.self.now in
+    let s = c.args.self.now.state in
     let n = question_node c.in_ok-question.question in
     let leads : is_reference n ≡ true = search rules in
     let p = err_from_is_err_and c.from_residual-in_err-changeable.result c.from_residual-in_err-changeable.ensures.1 in
@@ -27,7 +28,7 @@ returns-in_err-changeable c =
 
 pub returns-in_default-form_of : goal.returns-in_default-form_of
 returns-in_default-form_of c =
-    let s = c.args.self.now in
+    let s = c.args.self.now.state in
     let n = question_node c.in_ok-question.question in
     let leads : is_reference n ≡ true = search rules in
     let free : unless (fixed (world_of s) n) ≡ Ok tt = ap (λ (m : Placed). unless (fixed (world_of s) m)) (sym c.statement-2.ensures) ∙ sym c.in_ok-changeable.ensures.denied in
@@ -38,7 +39,7 @@ returns-in_default-form_of c =
 
 pub returns-in_err-opens : goal.returns-in_err-opens
 returns-in_err-opens c =
-    let s = c.args.self.now in
+    let s = c.args.self.now.state in
     let n = question_node c.in_ok-question.question in
     let form = form_node c.in-Some.form in
     let leads : is_reference n ≡ true = search rules in
@@ -47,5 +48,5 @@ returns-in_err-opens c =
     let is : option_and_then (form_with (nodes_of s.ifr)) (ref_target n.op) ≡ Some form =
     ap (λ (b : List ℕ). option_and_then (form_with (nodes_of s.ifr)) (ref_target b)) (sym op) ∙ ap (option_and_then (form_with (nodes_of s.ifr))) (sym c.target.ensures) ∙ sym c.in-Some.ensures.found in
     let p = err_from_is_err_and c.from_residual-in_err-opens.result c.from_residual-in_err-opens.ensures.1 in
-    let why : unless (hidden (world_of s) form) ≡ Err c.in_err-opens.field-0.0 = rw (c.policy.ensures.bytes, c.policy.ensures.removed, ap (λ (t : State). t.working) c.self.view_is) at (sym c.in_err-opens.ensures) in
+    let why : unless (hidden (world_of s) form) ≡ Err c.in_err-opens.field-0.0 = rw (c.policy.ensures.bytes, c.policy.ensures.removed, ap (λ (t : State). t.working) (seen c.self.view_is)) at (sym c.in_err-opens.ensures) in
     rw (p.1, p.2) (go_hidden s (question_with (nodes_of s.ifr) c.args.id) n form c.in_err-opens.field-0.0 c.in_ok-question.ensures.1 leads free is why)

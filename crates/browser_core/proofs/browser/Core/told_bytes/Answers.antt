@@ -11,11 +11,12 @@ use Rattle.browser_core.specs.Configuration.{store_named}
 use Rattle.browser_core.specs.State.{State}
 use Rattle.browser_core.specs.Step.{extract_from}
 use Rattle.browser_core.proofs.TellingLemmas.{no_store, some_store, store_small, bytes_there, is_told, is_untold}
+use Rattle.browser_core.proofs.Cores.{seen}
 use Rattle.browser_core.proofs.browser.Core.told_bytes.Goals as goal
 
 pub returns-in_err-store : goal.returns-in_err-store
 returns-in_err-store c =
-    let s = c.args.self.now in
+    let s = c.args.self.now.state in
     let request = request_view c.args.request.now in
     let none = no_store _ _ c.in_err-store.field-0.0 (rw c.header.ensures at c.in_err-store.ensures) in
     let p = err_from_is_err_and c.from_residual.result c.from_residual.ensures.1 in
@@ -29,23 +30,23 @@ blocks_asked-blocks-requires c =
 
 pub returns-in_err-blocks_told : goal.returns-in_err-blocks_told
 returns-in_err-blocks_told c =
-    let s = c.args.self.now in
+    let s = c.args.self.now.state in
     let request = request_view c.args.request.now in
     let store = c.in_ok-store.store in
     let named : store_named (nodes_of s.ifr) s.path request.0 ≡ Some store = some_store _ store _ (rw c.header.ensures at c.in_ok-store.ensures) in
-    let is = ap (λ b. b.now) c.unwrap_or-bytes.ensures ∙ bytes_there c.bytes.result _ ∙ ap (λ o. unwrap_or o []) (c.bytes.ensures ∙ ap (λ (t : State). bytes_of t.committed store) c.self.view_is) in
-    let why = rw (c.blocks_asked-blocks.ensures, c.self.invariant.together ∙ ap (λ (t : State). t.ifr) c.self.view_is) at c.in_err-blocks_told.ensures in
+    let is = ap (λ b. b.now) c.unwrap_or-bytes.ensures ∙ bytes_there c.bytes.result _ ∙ ap (λ o. unwrap_or o []) (c.bytes.ensures ∙ ap (λ (t : State). bytes_of t.committed store) (seen c.self.view_is)) in
+    let why = rw (c.blocks_asked-blocks.ensures, c.self.invariant.together ∙ ap (λ (t : State). t.ifr) (seen c.self.view_is)) at c.in_err-blocks_told.ensures in
     let p = err_from_is_err_and c.from_residual-in_err-blocks_told.result c.from_residual-in_err-blocks_told.ensures.1 in
     rw (p.1, p.2) (is_untold s request store c.unwrap_or-bytes.result.now c.in_err-blocks_told.field-0.0 named is (some_of _ _ (sym why)))
 
 pub returns : goal.returns
 returns c =
-    let s = c.args.self.now in
+    let s = c.args.self.now.state in
     let request = request_view c.args.request.now in
     let store = c.in_ok-store.store in
     let sound = subst (λ (sh : Shape). AreBuffers sh.buffers) (sym c.self.invariant.submitted) c.self.invariant.buffers in
     let named : store_named (nodes_of s.ifr) s.path request.0 ≡ Some store = some_store _ store _ (rw c.header.ensures at c.in_ok-store.ensures) in
     let here = ap (λ b. b.now) c.unwrap_or-bytes.ensures ∙ bytes_there c.bytes.result _ ∙ ap (λ o. unwrap_or o []) c.bytes.ensures in
-    let is = here ∙ ap (λ (t : State). unwrap_or (bytes_of t.committed store) []) c.self.view_is in
-    let free = rw (c.blocks_asked-blocks.ensures, c.self.invariant.together ∙ ap (λ (t : State). t.ifr) c.self.view_is) at c.in_ok-blocks_told.ensures in
+    let is = here ∙ ap (λ (t : State). unwrap_or (bytes_of t.committed store) []) (seen c.self.view_is) in
+    let free = rw (c.blocks_asked-blocks.ensures, c.self.invariant.together ∙ ap (λ (t : State). t.ifr) (seen c.self.view_is)) at c.in_ok-blocks_told.ensures in
     is_told s request store c.unwrap_or-bytes.result.now named is (subst (λ (bs : List ℕ). length bs < 2 ^ 16) (sym here) (store_small c.self.inside.committed store sound)) (none_of _ (sym free))

@@ -15,12 +15,12 @@ use Rattle.form_page.proofs.page.Page.statement_in_row.Goals as goal
 pub returns-clause-found : goal.returns-clause-found
 returns-clause-found g c =
     let page = c.args.self.now in
-    let row = c.args.row in
+    let number = c.args.row in
     let ns = listed_statements (world_of page) (form_node page.form) in
     let above = c.in_ok-above.ensures in
-    let none : (row == 0) ≡ false = ne_eqb row 0 (λ e. omega arith) in
+    let none : (number == 0) ≡ false = ne_eqb number 0 (λ e. omega arith) in
     let road = YieldsList-from_first statement_node listed_left ns c.listed-listed.ensures.left in
-    nth_from_yields_List c.nth.result c.nth.new.self c.in_ok-above.above c.nth.ensures.ran road ∙ ap (slice_get ns) above.1 ∙ sym (cond-false (row == 0) None (slice_get ns (row - 1)) none)
+    nth_from_yields_List c.nth.result c.nth.new.self c.in_ok-above.above c.nth.ensures.ran road ∙ ap (slice_get ns) above.1 ∙ sym (cond-false (number == 0) None (slice_get ns (number - 1)) none)
 
 pub returns-clause-node : goal.returns-clause-node
 returns-clause-node g c =

@@ -1,0 +1,91 @@
+"""What the measurements of the built program share: counts of instructions and of memory, and whether they grow evenly.
+
+`valgrind` must be there.
+"""
+import argparse
+import math
+import os
+import re
+import subprocess
+import sys
+import tempfile
+
+HERE = os.path.dirname(os.path.abspath(__file__))
+sys.path.insert(0, os.path.join(os.path.dirname(HERE), "tests"))
+from packages import END_PACKAGE, older_image, package, package_list
+
+PROGRAM = os.path.join(os.path.dirname(HERE), "crates", "setup_main", "out", "setup_main")
+SIZES = [1000, 2000, 4000, 8000]
+MOST_PER_DOUBLING, MOST_OF_THE_SAME = 2.4, 1.2
+
+
+class Counter:
+    """Counts what runs of a program take, and how many counts are wrong."""
+
+    def __init__(self, program, scratch):
+        self.program, self.scratch, self.wrong = program, scratch, 0
+
+    def file(self, name, content):
+        path = os.path.join(self.scratch, name)
+        with open(path, "wb") as f:
+            f.write(content)
+        return path
+
+    def run_under(self, tool, texts, opcodes, held, script):
+        """A run under a tool of valgrind, over string packages and a forms package with a store of so many bytes."""
+        packages = texts + package(opcodes) + END_PACKAGE
+        words = ["--list", self.file("list", package_list(packages)), "--stores", self.file("stores", older_image([(1, bytes(held))]))]
+        words += ["--out", os.path.join(self.scratch, "image")]
+        done = subprocess.run(["valgrind", *tool, self.program, *words], input=script, capture_output=True)
+        if done.returncode != 0:
+            sys.exit("a run ends with %d: %r %r" % (done.returncode, done.stdout[:200], done.stderr[-400:]))
+        return done
+
+    def measure(self, texts, opcodes, held, script):
+        """The instructions of such a run, and its answers."""
+        tool = ["--tool=callgrind", "--callgrind-out-file=/dev/null"]
+        done = self.run_under(tool, texts, opcodes, held, script)
+        told = re.search(rb"Collected : (\d+)", done.stderr)
+        if not told:
+            sys.exit("valgrind tells no count: %r" % done.stderr[-400:])
+        return int(told.group(1)), done.stdout
+
+    def peak(self, texts, opcodes, held, script):
+        """The bytes of memory that such a run has taken and not given back where these are most."""
+        told = os.path.join(self.scratch, "massif")
+        self.run_under(["--tool=massif", "--peak-inaccuracy=0.0", "--massif-out-file=" + told], texts, opcodes, held, script)
+        with open(told, encoding="utf-8") as f:
+            return max(int(count) for count in re.findall(r"^mem_heap_B=(\d+)$", f.read(), re.MULTILINE))
+
+    def wanted(self, got, expected, what):
+        if got != expected:
+            sys.exit("wrong %s: %r" % (what, got[:400] if isinstance(got, bytes) else got))
+
+    def line(self, name, cells, said="", fault=None):
+        """Prints a line of a table. A fault counts as wrong."""
+        self.wrong += fault is not None
+        print("%-24s" % name + "".join("%16s" % cell for cell in cells) + said + ("   " + fault if fault else ""), flush=True)
+
+    def row(self, name, sizes, counts, most=MOST_PER_DOUBLING):
+        """Prints the counts of something for growing sizes, and whether they grow evenly: at most so many times per doubling."""
+        grown = [b / max(a, 1) for a, b in zip(counts, counts[1:])]
+        even = all(growth <= most ** math.log2(b / a) for growth, a, b in zip(grown, sizes, sizes[1:]))
+        said = "   x " + ", ".join("%.2f" % growth for growth in grown)
+        self.line(name, counts, said, None if even else "grows too fast")
+
+    def done(self):
+        """Prints whether all is right, and gives the status."""
+        print("all counts grow evenly" if self.wrong == 0 else "%d counts grow too fast" % self.wrong)
+        return 0 if self.wrong == 0 else 1
+
+
+def main(doc, counter):
+    """Runs a counter of this kind over the sizes that the command line asks for, and gives the status."""
+    parser = argparse.ArgumentParser(description=doc, formatter_class=argparse.RawDescriptionHelpFormatter)
+    parser.add_argument("program", nargs="?", default=PROGRAM)
+    parser.add_argument("--sizes", nargs="*", type=int, default=SIZES)
+    options = parser.parse_args()
+    with tempfile.TemporaryDirectory() as scratch:
+        made = counter(os.path.abspath(options.program), scratch)
+        made.run(options.sizes)
+        return made.done()

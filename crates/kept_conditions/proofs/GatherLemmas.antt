@@ -1,0 +1,264 @@
+-- What readers name is added, name by name.
+use Rattle.std.proofs.Common.{◌≡◌, ℕ, zero, suc, ◌+◌, ◌<◌, ◌≤◌, ◌==◌, ◌&&◌, ◌||◌, ◌++◌, nat_lt, take, Bool, true, false, Some, None, List, [], ◌∷◌, length, map, filter, reverse, refl, sym, ap, ◌∙◌, subst, inl, inr, arith}
+use Rattle.std.specs.Prelude.{All, Contains}
+use Rattle.std.specs.List.{AllByRecursion, flat_map, list_any}
+use Rattle.std.proofs.lemmas.Bool.{cases_Bool, cases_eq, cases_lt, cond-true, eq-eqb, ne_eqb, le-ltb, lt-ltb}
+use Rattle.std.proofs.lemmas.List.{map-append, take_more}
+use Rattle.std.proofs.lemmas.List.Elements.{All-nil, All-push}
+use Rattle.std.proofs.lemmas.List.Folds.{list_any-append}
+use Rattle.std.proofs.lemmas.List.Sorted.{Contains-permutation, IsPermutation-reverse}
+use Rattle.ifr_opcodes.specs.declared.codes.TheConstants.{RULE_REF, THIS}
+use Rattle.ifr_opcodes.specs.Forest.{Mark, Placed}
+use Rattle.ifr_opcodes.specs.Opcode.{number}
+use Rattle.ifr_expr.specs.Dependence.{rule_ids, dependence}
+use Rattle.ifr_expr.specs.Meaning.{names}
+use Rattle.ifr_expr.specs.code.Rules.{AreOrdered}
+use Rattle.ifr_expr.specs.Support.{ids_of}
+use Rattle.ifr_expr.specs.Trees.{post}
+use Rattle.ifr_expr.specs.code.Names.{names_of, names_among}
+use Rattle.ifr_expr.specs.declared.names.Name.{Name}
+use Rattle.ifr_expr.specs.declared.names.Name.TheVariants as name
+use Rattle.ifr_expr.proofs.DependenceLemmas.{found_ids, no_ids}
+use Rattle.ifr_scopes.specs.Accepted.{IsAccepted}
+use Rattle.ifr_scopes.specs.code.Checked.{or_empty}
+use Rattle.ifr_scopes.specs.Conditions.{expression_tree}
+use Rattle.ifr_scopes.specs.Nodes.{nodes_of, end_of}
+use Rattle.ifr_scopes.specs.Rules.{is_rule, as_rule, rule_nodes, rules_among}
+use Rattle.ifr_scopes.specs.code.Frames.{ids_by}
+use Rattle.ifr_scopes.proofs.FormPlaceLemmas.{found}
+use Rattle.ifr_scopes.proofs.FrameLemmas.{ids_of_names}
+use Rattle.ifr_scopes.proofs.RuleLookupLemmas.{named_node, named_none, named_some, named_before}
+use Rattle.ifr_scopes.proofs.RuleOrderLemmas.{rule_there}
+use Rattle.ifr_scopes.proofs.RulesOrderedLemmas.{are_ordered}
+use Rattle.hii_questions.specs.code.Ranges.{range_in}
+use Rattle.kept_conditions.specs.code.Gathering.{Adds, AreGathered, IsBefore, entry}
+use Rattle.kept_conditions.specs.code.Index.{IsLink, finds, is_used}
+use Rattle.kept_conditions.specs.code.Nodes.{reader_nodes, reader_node, this_in, ids_read, is_touched, some_has_byte}
+use Rattle.kept_conditions.specs.code.Readings.{AreSmall, HaveNumbers, is_read, reads}
+use Rattle.kept_conditions.specs.Touching.{has_byte, field_with}
+use Rattle.kept_conditions.specs.declared.gathering.Gathered.{Gathered}
+use Rattle.kept_conditions.specs.declared.links.Link.{Link}
+use Rattle.kept_conditions.specs.declared.readers.Reader.{Reader}
+use Rattle.kept_conditions.specs.declared.readings.Reading.{Reading}
+use Rattle.kept_conditions.proofs.NumberLemmas.{among, place_among, reader_is, reader_among}
+use Rattle.kept_conditions.proofs.ReaderLemmas.{rule_reader}
+
+or_false : (b : Bool) → b || false ≡ b
+or_false true = refl
+or_false false = refl
+
+and_false : (b : Bool) → b && false ≡ false
+and_false true = refl
+and_false false = refl
+
+or_assoc : (a b c : Bool) → (a || b) || c ≡ a || (b || c)
+or_assoc true b c = refl
+or_assoc false b c = refl
+
+-- ---- one after the other
+
+adds_none : (ns : List Placed) (number : ℕ) (ids : List ℕ) (it : Gathered) → ((bytes : ℕ → ℕ → Bool) → some_has_byte ns bytes ids ≡ false) → Adds ns number ids it it
+adds_none ns number ids it none = record {
+  list = refl;
+  sound = λ sound. sound;
+  found = λ bytes k.
+      sym (or_false (finds ns bytes it.readings.items it.links.items k)) ∙ ap (λ b. finds ns bytes it.readings.items it.links.items k || b) (sym (ap (λ b. number == k && b) (none bytes) ∙ and_false (number == k)));
+}
+
+pub adds_nothing : (ns : List Placed) (number : ℕ) (it : Gathered) → Adds ns number [] it it
+adds_nothing ns number it = adds_none ns number [] it (λ bytes. refl)
+
+pub adds_then : (ns : List Placed) (number : ℕ) (xs ys : List ℕ) (a b c : Gathered) → Adds ns number xs a b → Adds ns number ys b c → Adds ns number (xs ++ ys) a c
+adds_then ns number xs ys a b c first second = record {
+  list = second.list ∙ first.list;
+  sound = λ sound. second.sound (first.sound sound);
+  found = λ bytes k.
+      second.found bytes k ∙ ap (λ x. x || (number == k && some_has_byte ns bytes ys)) (first.found bytes k)
+      ∙ joined (finds ns bytes a.readings.items a.links.items k) (number == k) (some_has_byte ns bytes xs) (some_has_byte ns bytes ys)
+      ∙ ap (λ x. finds ns bytes a.readings.items a.links.items k || (number == k && x)) (sym (list_any-append (λ id. has_byte bytes (field_with ns id)) xs ys));
+}
+  where
+    joined : (f n x y : Bool) → (f || (n && x)) || (n && y) ≡ f || (n && (x || y))
+    joined true n x y = refl
+    joined false true x y = refl
+    joined false false x y = refl
+
+-- ---- a question
+
+module _ (ns : List Placed) (number id : ℕ) (old new : Gathered) (r : Reading) (inside : number < length (reader_nodes ns)) (is : field_with ns id ≡ Some (range_in r.range)) (mine : r.reader ≡ number) (small : r.range.offset < 65536)
+    (list : new.list ≡ old.list) (readings : new.readings.items ≡ old.readings.items ++ r ∷ []) (links : new.links ≡ old.links) where
+  read_found : (bytes : ℕ → ℕ → Bool) (k : ℕ) → reads bytes new.readings.items k ≡ (reads bytes old.readings.items k || (number == k && some_has_byte ns bytes (id ∷ [])))
+  read_found bytes k =
+      ap (λ rs. reads bytes rs k) readings ∙ list_any-append (is_read bytes k) old.readings.items (r ∷ [])
+      ∙ ap (λ b. reads bytes old.readings.items k || b)
+      (or_false (is_read bytes k r) ∙ ap (λ n. n == k && has_byte bytes (Some (range_in r.range))) mine
+      ∙ ap (λ b. number == k && b) (ap (has_byte bytes) (sym is) ∙ sym (or_false (has_byte bytes (field_with ns id)))))
+
+  pub adds_question : Adds ns number (id ∷ []) old new
+  adds_question = record {
+    list = list;
+    sound = λ sound. record {
+      numbers = subst (HaveNumbers (length (reader_nodes ns))) (sym readings) (All-push (λ (x : Reading). x.reader < length (reader_nodes ns)) old.readings.items r sound.numbers (subst (λ n. n < length (reader_nodes ns)) (sym mine) inside));
+      small = subst AreSmall (sym readings) (All-push (λ (x : Reading). x.range.offset < 65536) old.readings.items r sound.small small);
+      linked = subst (λ v. All (IsLink ns) v.items) (sym links) sound.linked;
+    };
+    found = λ bytes k.
+        ap (λ v. finds ns bytes new.readings.items v.items k) links ∙ ap (λ b. b || list_any (is_used (is_touched ns bytes) k) old.links.items) (read_found bytes k)
+        ∙ swapped (reads bytes old.readings.items k) (number == k && some_has_byte ns bytes (id ∷ [])) (list_any (is_used (is_touched ns bytes) k) old.links.items);
+  }
+    where
+      swapped : (a b c : Bool) → (a || b) || c ≡ (a || c) || b
+      swapped true b c = refl
+      swapped false true true = refl
+      swapped false true false = refl
+      swapped false false true = refl
+      swapped false false false = refl
+
+pub no_question : (ns : List Placed) (number id : ℕ) (it : Gathered) → None ≡ field_with ns id → Adds ns number (id ∷ []) it it
+no_question ns number id it none = adds_none ns number (id ∷ []) it (λ bytes. ap (λ o. has_byte bytes o || false) (sym none))
+
+-- ---- a rule
+
+module _ (bytes : List ℕ) (accepted : IsAccepted bytes) where
+  abbrev ns : List Placed
+  ns = nodes_of bytes
+
+  pub no_rule : (number id place : ℕ) (it : Gathered) → None ≡ named_node (rule_nodes ns) id place → Adds ns number (rule_ids (rules_among ns) id place) it it
+  no_rule number id place it none =
+      adds_none ns number (rule_ids (rules_among ns) id place) it (λ written. ap (some_has_byte ns written) (no_ids (rules_among ns) id place (named_none (rule_nodes ns) id place (sym none))))
+
+  pub named_among : (m : Placed) (id place : ℕ) → Some m ≡ named_node (rule_nodes ns) id place → Contains ns m × (is_rule m ≡ true)
+  named_among m id place named = rule_there ns m (found (λ n. names id place (as_rule n)) (rule_nodes ns) m (sym named)).0
+
+  pub rule_placed : (m : Placed) (id place : ℕ) → Some m ≡ named_node (rule_nodes ns) id place → Contains (map (λ (n : Placed). n.place) (reader_nodes ns)) m.place
+  rule_placed m id place named = let it = named_among m id place named in place_among bytes accepted m it.0 (rule_reader m it.1)
+
+  module _ (number id place : ℕ) (m : Placed) (named : Some m ≡ named_node (rule_nodes ns) id place) (l : Link) (inside : number < length (reader_nodes ns)) (mine : l.user ≡ number)
+      (within : l.rule < length (reader_nodes ns)) (there : (reader_node ns l.rule).place ≡ m.place)
+      (before : is_rule (reader_node ns number) ≡ true → place < end_of (reader_node ns number)) where
+    is_m : reader_node ns l.rule ≡ m
+    is_m = let it = named_among m id place named in reader_is bytes accepted m l.rule it.0 within there
+
+    rule_m : is_rule m ≡ true
+    rule_m = let it = named_among m id place named in it.1
+
+    its_ids : rule_ids (rules_among ns) id place ≡ ids_read ns m
+    its_ids =
+        found_ids (rules_among ns) id place (as_rule m) (are_ordered bytes accepted.checked) (named_some (rule_nodes ns) id place m (sym named))
+        ∙ ap (λ this. dependence (rules_among ns) this (expression_tree m)) (sym (cond-true (is_rule m) 0 _ rule_m))
+
+    touched : (written : ℕ → ℕ → Bool) → is_touched ns written l.rule ≡ some_has_byte ns written (rule_ids (rules_among ns) id place)
+    touched written = ap (λ n. some_has_byte ns written (ids_read ns n)) is_m ∙ ap (some_has_byte ns written) (sym its_ids)
+
+    is_link : IsLink ns l
+    is_link = record {
+      rule = within;
+      user = subst (λ n. n < length (reader_nodes ns)) (sym mine) inside;
+      named = ap is_rule is_m ∙ rule_m;
+      before = λ rule.
+          let ends : end_of m ≤ place = named_before (rule_nodes ns) id place m (sym named) in
+          let less : place < end_of (reader_node ns number) = before (sym (ap (λ n. is_rule (reader_node ns n)) mine) ∙ rule) in
+          omega (arith, ends, less, ap end_of is_m, ap (λ n. end_of (reader_node ns n)) mine);
+    }
+
+    module _ (old new : Gathered) (list : new.list ≡ old.list) (readings : new.readings ≡ old.readings) (links : new.links.items ≡ old.links.items ++ l ∷ []) where
+      pub adds_rule : Adds ns number (rule_ids (rules_among ns) id place) old new
+      adds_rule = record {
+        list = list;
+        sound = λ sound. record {
+          numbers = subst (λ v. HaveNumbers (length (reader_nodes ns)) v.items) (sym readings) sound.numbers;
+          small = subst (λ v. AreSmall v.items) (sym readings) sound.small;
+          linked = subst (All (IsLink ns)) (sym links) (All-push (IsLink ns) old.links.items l sound.linked is_link);
+        };
+        found = λ written k.
+            ap (λ v. finds ns written v.items new.links.items k) readings
+            ∙ ap (λ ls. reads written old.readings.items k || list_any (is_used (is_touched ns written) k) ls) links
+            ∙ ap (λ b. reads written old.readings.items k || b)
+            (list_any-append (is_used (is_touched ns written) k) old.links.items (l ∷ [])
+            ∙ ap (λ b. list_any (is_used (is_touched ns written) k) old.links.items || b)
+            (or_false (is_used (is_touched ns written) k l) ∙ ap (λ n. n == k && is_touched ns written l.rule) mine ∙ ap (λ b. number == k && b) (touched written)))
+            ∙ sym (or_assoc (reads written old.readings.items k) (list_any (is_used (is_touched ns written) k) old.links.items) (number == k && some_has_byte ns written (rule_ids (rules_among ns) id place)));
+      }
+
+-- ---- all names
+
+before_one : (ends : ℕ) (op : Mark) → op.place < ends → AllByRecursion (IsBefore ends) (names_of op)
+before_one ends op less = elim (cases_Bool (number op.op == RULE_REF)) [
+  | inl is ↦ rw is (less, tt)
+  | inr no_rule ↦ elim (cases_Bool (number op.op == THIS)) [
+    | inl is ↦ rw (no_rule, is) (tt, tt)
+    | inr other ↦ rw (no_rule, other) (questions ends (ids_of op.op))
+  ]
+]
+  where
+    questions : (ends : ℕ) (ids : List ℕ) → AllByRecursion (IsBefore ends) (map name.Question ids)
+    questions ends [] = tt
+    questions ends (id ∷ ids) = (tt, questions ends ids)
+
+before_joined : (ends : ℕ) (xs ys : List Name) → AllByRecursion (IsBefore ends) xs → AllByRecursion (IsBefore ends) ys → AllByRecursion (IsBefore ends) (xs ++ ys)
+before_joined ends [] ys u v = v
+before_joined ends (x ∷ xs) ys u v = (u.0, before_joined ends xs ys u.1 v)
+
+pub names_before : (ends : ℕ) (ops : List Mark) → AllByRecursion (λ (op : Mark). op.place < ends) ops → AllByRecursion (IsBefore ends) (names_among ops)
+names_before ends [] below = tt
+names_before ends (op ∷ ops) below = before_joined ends (names_of op) (names_among ops) (before_one ends op below.0) (names_before ends ops below.1)
+
+ordered_at : (ns : List Placed) (n : Placed) → AreOrdered (map as_rule ns) → Contains ns n → AllByRecursion (λ (op : Mark). op.place < end_of n) (post (expression_tree n))
+ordered_at [] n o (k, less, e) = absurd (omega (arith, less))
+ordered_at (m ∷ ns) n o (zero, less, e) = subst (λ (x : Placed). AllByRecursion (λ (op : Mark). op.place < end_of x) (post (expression_tree x))) e o.0
+ordered_at (m ∷ ns) n o (suc k, less, e) = ordered_at ns n o.1.1 (k, omega (arith, less), e)
+
+-- what a rule names stands before its end
+pub rule_names_before : (bytes : List ℕ) → IsAccepted bytes → (k : ℕ) → k < length (reader_nodes (nodes_of bytes)) → is_rule (reader_node (nodes_of bytes) k) ≡ true
+    → AllByRecursion (IsBefore (end_of (reader_node (nodes_of bytes) k))) (names_among (post (expression_tree (reader_node (nodes_of bytes) k))))
+rule_names_before bytes accepted k less rule =
+    let ns = nodes_of bytes in
+    let n = reader_node ns k in
+    let it = among is_rule ns n n (reader_among ns k less) rule in
+    let has : Contains (rule_nodes ns) n = Contains-permutation (filter is_rule ns) (reverse (filter is_rule ns)) n (IsPermutation-reverse (filter is_rule ns)) (it.0, it.1, it.2) in
+    names_before (end_of n) (post (expression_tree n)) (ordered_at (rule_nodes ns) n (are_ordered bytes accepted.checked) has)
+
+pub ids_among : (ns : List Placed) (n : Placed) (this : ℕ) → this ≡ this_in n → flat_map (ids_by (rules_among ns) this) (names_among (post (expression_tree n))) ≡ ids_read ns n
+ids_among ns n this is = ids_of_names (rules_among ns) this (post (expression_tree n)) ∙ ap (λ k. dependence (rules_among ns) k (expression_tree n)) is
+
+-- ---- one reader more
+
+-- those up to one, and that one
+pub upto : (touched : ℕ → Bool) (count k : ℕ) → ((nat_lt k count && touched k) || (count == k && touched count)) ≡ (nat_lt k (count + 1) && touched k)
+upto touched count k = elim (cases_eq count k) [
+  | inl same ↦
+      let none : nat_lt k count ≡ false = le-ltb k count (omega (arith, same)) in
+      let less : nat_lt k (count + 1) ≡ true = lt-ltb k (count + 1) (omega (arith, same)) in
+      ap (λ b. (b && touched k) || (count == k && touched count)) none ∙ ap (λ b. b && touched count) (eq-eqb count k same) ∙ ap touched same ∙ sym (ap (λ b. b && touched k) less)
+  | inr other ↦ elim (cases_lt k count) [
+    | inl before ↦
+        ap (λ b. (nat_lt k count && touched k) || (b && touched count)) (ne_eqb count k other) ∙ or_false (nat_lt k count && touched k)
+        ∙ ap (λ b. b && touched k) (lt-ltb k count before ∙ sym (lt-ltb k (count + 1) (omega (arith, before))))
+    | inr from ↦
+        let more : count + 1 ≤ k = grind (arith) in
+        ap (λ b. (nat_lt k count && touched k) || (b && touched count)) (ne_eqb count k other) ∙ or_false (nat_lt k count && touched k)
+        ∙ ap (λ b. b && touched k) (le-ltb k count from ∙ sym (le-ltb k (count + 1) more))
+  ]
+]
+
+-- the first readers, and the next
+pub entry_more : (holding : ℕ → Bool) (ns : List Placed) (count : ℕ) → count < length (reader_nodes ns) → map (entry holding) (take (count + 1) (reader_nodes ns)) ≡ map (entry holding) (take count (reader_nodes ns)) ++ entry holding (reader_node ns count) ∷ []
+entry_more holding ns count less = ap (map (entry holding)) (take_more (reader_nodes ns) count (or_empty None) less) ∙ map-append (entry holding) (take count (reader_nodes ns)) (reader_node ns count ∷ [])
+
+pub entry_is : (holding : ℕ → Bool) (n : Placed) (place : ℕ) (rule holds : Bool) → place ≡ n.place → rule ≡ is_rule n → holds ≡ holding place
+    → ◌≡◌ {A = Reader} record { place = place; round = 0; is_rule = rule; holds = holds } (entry holding n)
+entry_is holding n place rule holds e f h =
+    ap (λ (b : Bool). record { place = place; round = 0; is_rule = rule; holds = b }) h
+    ∙ ap (λ (p : ℕ). record { place = p; round = 0; is_rule = rule; holds = holding p }) e
+    ∙ ap (λ (b : Bool). record { place = n.place; round = 0; is_rule = b; holds = holding n.place }) f
+
+pub none_gathered : (holding : ℕ → Bool) (ns : List Placed) (it : Gathered) → it.list.items ≡ [] → it.readings.items ≡ [] → it.links.items ≡ [] → AreGathered ns holding 0 it
+none_gathered holding ns it list readings links = record {
+  list = list;
+  sound = record {
+    numbers = subst (HaveNumbers (length (reader_nodes ns))) (sym readings) (All-nil (λ (r : Reading). r.reader < length (reader_nodes ns)));
+    small = subst AreSmall (sym readings) (All-nil (λ (r : Reading). r.range.offset < 65536));
+    linked = subst (All (IsLink ns)) (sym links) (All-nil (IsLink ns));
+  };
+  found = λ bytes k. ap (λ rs. finds ns bytes rs it.links.items k) readings ∙ ap (λ ls. list_any (is_used (is_touched ns bytes) k) ls) links ∙ sym (ap (λ b. b && is_touched ns bytes k) (le-ltb k 0 (omega arith)));
+}

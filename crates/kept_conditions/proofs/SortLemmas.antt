@@ -1,0 +1,152 @@
+-- Lists that are sorted, and of which each element is left once.
+use Rattle.std.proofs.Common.{◌≡◌, ℕ, zero, suc, ◌+◌, ◌<◌, ◌≤◌, ◌==◌, ◌&&◌, ◌||◌, Bool, true, false, List, [], ◌∷◌, get_or, is_lt, nat_cmp, refl, sym, ap, ◌∙◌, subst, inl, inr, arith}
+use Rattle.std.specs.Prelude.{All, Contains}
+use Rattle.std.specs.List.{dedup, dedup_from, list_any}
+use Rattle.std.specs.List.Retain.{DiffersFromLast, IsFiltered}
+use Rattle.std.specs.List.Sorted.{IsNonDecreasingBy, IsPermutation, IsSorted}
+use Rattle.std.specs.Cmp.{nat_cmp_is}
+use Rattle.std.specs.Ordering.{ordering_then}
+use Rattle.std.specs.declared.cmp.Ordering.{Ordering}
+use Rattle.std.specs.declared.cmp.Ordering.TheVariants.{Less, Equal, Greater}
+use Rattle.std.proofs.lemmas.Bool.{cases_Bool, cases_lt, cases_eq, cond-true, cond-false, and_parts, eqb-true, false≢true}
+use Rattle.std.proofs.lemmas.List.Elements.{All-tail, All-contains, Contains-get_or}
+use Rattle.std.proofs.lemmas.List.Filters.{All-dedup, dedup_is}
+use Rattle.std.proofs.lemmas.List.Kept.{Contains-from_dedup}
+use Rattle.std.proofs.lemmas.List.Sorted.{Contains-permutation, IsPermutation-sym, IsNonDecreasingBy-from_all_adjacent, list_any-IsPermutation}
+use Rattle.hii_questions.specs.code.ByField.{range_cmp}
+use Rattle.kept_conditions.specs.code.Indexing.{HasSame}
+use Rattle.kept_conditions.specs.code.Links.{RulesRise}
+use Rattle.kept_conditions.specs.code.Readings.{first_of, AreSmall, AreSorted}
+use Rattle.kept_conditions.specs.declared.links.Link.{Link}
+use Rattle.kept_conditions.specs.declared.readings.Reading.{Reading}
+
+-- ---- each once
+
+module _ {X : Type 0} (E : X → X → Bool) where
+  module _ (same : (x y : X) → E x y ≡ true → x ≡ y) (p : X → Bool) where
+    passes_from : (k : X) (xs : List X) → list_any p (dedup_from E k xs) ≡ (p k || list_any p xs)
+    passes_from k [] = refl
+    passes_from k (x ∷ xs) = elim (cases_Bool (E x k)) [
+      | inl alike ↦
+          ap (list_any p) (cond-true (E x k) (dedup_from E k xs) (k ∷ dedup_from E x xs) alike) ∙ passes_from k xs
+          ∙ twice (p k) (list_any p xs) ∙ ap (λ y. p k || (p y || list_any p xs)) (sym (same x k alike))
+      | inr other ↦
+          ap (list_any p) (cond-false (E x k) (dedup_from E k xs) (k ∷ dedup_from E x xs) other) ∙ ap (λ b. p k || b) (passes_from x xs)
+    ]
+      where
+        twice : (a b : Bool) → a || b ≡ a || (a || b)
+        twice true b = refl
+        twice false b = refl
+
+    passes_once : (xs : List X) → list_any p (dedup E xs) ≡ list_any p xs
+    passes_once [] = refl
+    passes_once (x ∷ xs) = passes_from x xs
+
+  pub has_same : ((x y : X) → E x y ≡ true → x ≡ y) → (olds sorted news : List X) → IsPermutation olds sorted → IsFiltered (DiffersFromLast E) [] sorted news → HasSame olds news
+  has_same same olds sorted news moved once =
+      let is : news ≡ dedup E sorted = dedup_is E sorted news once in
+      record {
+        passes = λ p. ap (list_any p) is ∙ passes_once same p sorted ∙ sym (list_any-IsPermutation p olds sorted moved);
+        within = λ x has. Contains-permutation sorted olds x (IsPermutation-sym olds sorted moved) (Contains-from_dedup E sorted x (subst (λ (l : List X). Contains l x) is has));
+      }
+
+  -- ---- in order
+
+  module _ (n : X → ℕ) where
+    rises_cons : (k : X) (xs : List X) → All (λ y. n k ≤ n y) xs → IsNonDecreasingBy n xs → IsNonDecreasingBy n (k ∷ xs)
+    rises_cons k xs above rise zero zero d le less = omega arith
+    rises_cons k xs above rise zero (suc j) d le less = above j d (omega (arith, less))
+    rises_cons k xs above rise (suc i) zero d le less = absurd (omega (arith, le))
+    rises_cons k xs above rise (suc i) (suc j) d le less = rise i j d (omega (arith, le)) (omega (arith, less))
+
+    rises_head : (x : X) (xs : List X) → IsNonDecreasingBy n (x ∷ xs) → All (λ y. n x ≤ n y) xs
+    rises_head x xs rise k d less = rise 0 (suc k) d (omega arith) (omega (arith, less))
+
+    rises_tail : (x : X) (xs : List X) → IsNonDecreasingBy n (x ∷ xs) → IsNonDecreasingBy n xs
+    rises_tail x xs rise i j d le less = rise (suc i) (suc j) d (omega (arith, le)) (omega (arith, less))
+
+    rises_from : (k : X) (xs : List X) → All (λ y. n k ≤ n y) xs → IsNonDecreasingBy n xs → IsNonDecreasingBy n (dedup_from E k xs)
+    rises_from k [] above rise = rises_cons k [] above rise
+    rises_from k (x ∷ xs) above rise = elim (cases_Bool (E x k)) [
+      | inl alike ↦ subst (IsNonDecreasingBy n) (sym (cond-true (E x k) (dedup_from E k xs) (k ∷ dedup_from E x xs) alike)) (rises_from k xs (All-tail (λ y. n k ≤ n y) x xs above) (rises_tail x xs rise))
+      | inr other ↦
+          subst (IsNonDecreasingBy n) (sym (cond-false (E x k) (dedup_from E k xs) (k ∷ dedup_from E x xs) other))
+          (rises_cons k (dedup_from E x xs) (All-dedup E (λ y. n k ≤ n y) (x ∷ xs) above) (rises_from x xs (rises_head x xs rise) (rises_tail x xs rise)))
+    ]
+
+    rises_once : (xs : List X) → IsNonDecreasingBy n xs → IsNonDecreasingBy n (dedup E xs)
+    rises_once [] rise = rise
+    rises_once (x ∷ xs) rise = rises_from x xs (rises_head x xs rise) (rises_tail x xs rise)
+
+    pub rises_still : (sorted news : List X) → IsFiltered (DiffersFromLast E) [] sorted news → IsNonDecreasingBy n sorted → IsNonDecreasingBy n news
+    rises_still sorted news once rise = subst (IsNonDecreasingBy n) (sym (dedup_is E sorted news once)) (rises_once sorted rise)
+
+-- what is the same has what each of the others has
+pub all_same : {X : Type 0} (P : X → Type 0) (olds news : List X) → HasSame olds news → All P olds → All P news
+all_same P olds news same all k d less = All-contains P olds (get_or news k d) all (same.within (get_or news k d) (Contains-get_or news k d less))
+
+-- ---- readings
+
+abbrev pub reading_cmp : Reading → Reading → Ordering
+reading_cmp a b = ordering_then (range_cmp a.range b.range) (nat_cmp a.reader b.reader)
+
+less_first : (a b : ℕ) (o : Ordering) → a < b → is_lt (ordering_then (nat_cmp a b) o) ≡ true
+less_first a b o less = ap (λ r. is_lt (ordering_then r o)) (sym (nat_cmp_is a b Less less))
+
+less_second : (a b : ℕ) (o : Ordering) → a ≡ b → is_lt o ≡ true → is_lt (ordering_then (nat_cmp a b) o) ≡ true
+less_second a b o same e = ap (λ r. is_lt (ordering_then r o)) (sym (nat_cmp_is a b Equal same)) ∙ e
+
+less_then : (r o : Ordering) → is_lt r ≡ true → is_lt (ordering_then r o) ≡ true
+less_then Less o e = refl
+less_then Equal o e = absurd (false≢true e)
+less_then Greater o e = absurd (false≢true e)
+
+not_below : (y x : Reading) → y.range.offset < 65536 → x.range.offset < 65536 → is_lt (reading_cmp y x) ≡ false → first_of x ≤ first_of y
+not_below y x small small' e = elim (cases_lt y.range.store x.range.store) [
+  | inl less ↦ absurd (false≢true (sym e ∙ less_then (range_cmp y.range x.range) (nat_cmp y.reader x.reader) (less_first y.range.store x.range.store _ less)))
+  | inr from ↦ elim (cases_eq y.range.store x.range.store) [
+    | inl same ↦ elim (cases_lt y.range.offset x.range.offset) [
+      | inl less ↦ absurd (false≢true (sym e ∙ less_then (range_cmp y.range x.range) (nat_cmp y.reader x.reader) (less_second y.range.store x.range.store _ same (less_first y.range.offset x.range.offset _ less))))
+      | inr up ↦ omega (arith, same, up)
+    ]
+    | inr other ↦ let more : x.range.store < y.range.store = grind (arith) in omega (arith, more, small')
+  ]
+]
+
+pub readings_rise : (rs : List Reading) → AreSmall rs → IsSorted reading_cmp rs → AreSorted rs
+readings_rise rs small sorted = IsNonDecreasingBy-from_all_adjacent first_of rs (λ k d less. not_below (get_or rs (k + 1) d) (get_or rs k d) (small (k + 1) d less) (small k d (omega (arith, less))) (sorted k d (omega arith) less))
+
+abbrev pub reading_eq : Reading → Reading → Bool
+reading_eq a b = (a.range.store == b.range.store && (a.range.offset == b.range.offset && a.range.width == b.range.width)) && a.reader == b.reader
+
+pub same_reading : (x y : Reading) → reading_eq x y ≡ true → x ≡ y
+same_reading x y e =
+    let whole = and_parts (x.range.store == y.range.store && (x.range.offset == y.range.offset && x.range.width == y.range.width)) (x.reader == y.reader) e in
+    let first = and_parts (x.range.store == y.range.store) (x.range.offset == y.range.offset && x.range.width == y.range.width) whole.0 in
+    let second = and_parts (x.range.offset == y.range.offset) (x.range.width == y.range.width) first.1 in
+    ap (λ (n : ℕ). record { range = record { store = n; offset = x.range.offset; width = x.range.width }; reader = x.reader }) (eqb-true x.range.store y.range.store first.0)
+    ∙ ap (λ (n : ℕ). record { range = record { store = y.range.store; offset = n; width = x.range.width }; reader = x.reader }) (eqb-true x.range.offset y.range.offset second.0)
+    ∙ ap (λ (n : ℕ). record { range = record { store = y.range.store; offset = y.range.offset; width = n }; reader = x.reader }) (eqb-true x.range.width y.range.width second.1)
+    ∙ ap (λ (n : ℕ). record { range = y.range; reader = n }) (eqb-true x.reader y.reader whole.1)
+
+-- ---- links
+
+abbrev pub link_eq : Link → Link → Bool
+link_eq a b = a.rule == b.rule && a.user == b.user
+
+pub same_link : (x y : Link) → link_eq x y ≡ true → x ≡ y
+same_link x y e =
+    let both = and_parts (x.rule == y.rule) (x.user == y.user) e in
+    ap (λ (n : ℕ). record { rule = n; user = x.user }) (eqb-true x.rule y.rule both.0) ∙ ap (λ (n : ℕ). record { rule = y.rule; user = n }) (eqb-true x.user y.user both.1)
+
+abbrev pub link_cmp : Link → Link → Ordering
+link_cmp a b = ordering_then (nat_cmp a.rule b.rule) (nat_cmp a.user b.user)
+
+link_not_below : (y x : Link) → is_lt (link_cmp y x) ≡ false → x.rule ≤ y.rule
+link_not_below y x e = elim (cases_lt y.rule x.rule) [
+  | inl less ↦ absurd (false≢true (sym e ∙ less_first y.rule x.rule _ less))
+  | inr from ↦ from
+]
+
+pub links_rise : (links : List Link) → IsSorted link_cmp links → RulesRise links
+links_rise links sorted = IsNonDecreasingBy-from_all_adjacent (λ (l : Link). l.rule) links (λ k d less. link_not_below (get_or links (k + 1) d) (get_or links k d) (sorted k d (omega arith) less))

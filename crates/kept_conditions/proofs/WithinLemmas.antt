@@ -1,0 +1,193 @@
+-- Bytes of fields that lie within ranges, and in which stores differ.
+use Rattle.std.proofs.Common.{◌≡◌, ℕ, zero, suc, min, max, ◌+◌, ◌-◌, ◌<◌, ◌≤◌, ◌==◌, ◌&&◌, ◌||◌, nat_le, nat_lt, not, Bool, true, false, Option, None, Some, List, [], ◌∷◌, length, drop, refl, sym, ap, ◌∙◌, inl, inr, arith}
+use Rattle.std.specs.Prelude.{slice_get, option_and_then}
+use Rattle.std.specs.List.{AllWithin}
+use Rattle.std.proofs.lemmas.List.{drop_more, drop_all}
+use Rattle.std.proofs.lemmas.Bool.{cases_Bool, cases_lt, eqb-true, eq-eqb, leb-true, le-leb, ltb-true, lt-ltb, false≢true}
+use Rattle.hii_varstore.specs.Stores.{StoreMap, shape_of, bytes_of, byte_of}
+use Rattle.hii_questions.specs.code.Numbers.{first_of, behind_of}
+use Rattle.hii_questions.specs.declared.field_range.FieldRange.{FieldRange}
+use Rattle.kept_conditions.specs.code.Differing.{common, other_at, other_bytes}
+use Rattle.kept_conditions.specs.code.Ranges.{LiesWithin}
+use Rattle.kept_conditions.specs.code.Readings as readings
+use Rattle.kept_conditions.specs.code.Readings.{AreSmall, NoneMeets, at_place, is_read, meets, no_reading, reads}
+use Rattle.kept_conditions.specs.code.Within.{AreAlike, in_range}
+use Rattle.kept_conditions.specs.Touching.{difference, has_one, is_same}
+use Rattle.kept_conditions.specs.declared.readings.Reading.{Reading}
+use Rattle.kept_conditions.proofs.DifferenceLemmas.{equal_behind, none_one, one_size}
+use Rattle.kept_conditions.proofs.UntouchedLemmas.{none_has}
+use Rattle.kept_conditions.proofs.RangeLemmas.{alike, both, has_some, meets_range, some_has, together}
+use Rattle.kept_conditions.proofs.HitLemmas.{skip, unmet_behind}
+
+-- ---- a byte of a range
+
+pub is_in : (r : FieldRange) (store at : ℕ) → LiesWithin r store at → in_range r store at ≡ true
+is_in r store at lies =
+    together (store == r.store) (nat_le r.offset at && nat_lt at (r.offset + r.width)) (eq-eqb store r.store lies.0)
+    (together (nat_le r.offset at) (nat_lt at (r.offset + r.width)) (le-leb r.offset at lies.1) (lt-ltb at (r.offset + r.width) lies.2))
+
+pub lies_in : (r : FieldRange) (store at : ℕ) → in_range r store at ≡ true → LiesWithin r store at
+lies_in r store at e =
+    let first = both (store == r.store) (nat_le r.offset at && nat_lt at (r.offset + r.width)) e in
+    let second = both (nat_le r.offset at) (nat_lt at (r.offset + r.width)) first.1 in
+    (eqb-true store r.store first.0, leb-true r.offset at second.0, ltb-true at (r.offset + r.width) second.1)
+
+pub not_in : (r : FieldRange) (store at : ℕ) → (LiesWithin r store at → ⊥) → in_range r store at ≡ false
+not_in r store at away = elim (cases_Bool (in_range r store at)) [
+  | inl is ↦ absurd (away (lies_in r store at is))
+  | inr other ↦ other
+]
+
+pub lies_out : (r : FieldRange) (store at : ℕ) → in_range r store at ≡ false → LiesWithin r store at → ⊥
+lies_out r store at away lies = false≢true (sym away ∙ is_in r store at lies)
+
+-- ---- bytes that are among two sets
+
+and_none : (a b : Bool) → b ≡ false → a && b ≡ false
+and_none true b e = e
+and_none false b e = refl
+
+pub other_store : (bytes : ℕ → ℕ → Bool) (field within : FieldRange) → (field.store ≡ within.store → ⊥) → has_one (common bytes (in_range within)) field.store field.offset field.width ≡ false
+other_store bytes field within other =
+    none_one (common bytes (in_range within)) field.store field.width field.offset (λ at from before. and_none (bytes field.store at) (in_range within field.store at) (not_in within field.store at (λ w. other w.0)))
+
+pub fewer_bytes : (bytes others : ℕ → ℕ → Bool) (store offset width : ℕ) → has_one bytes store offset width ≡ false → has_one (common bytes others) store offset width ≡ false
+fewer_bytes bytes others store offset width none =
+    none_one (common bytes others) store width offset (λ at from before. ap (λ b. b && others store at) (none_has bytes store width offset at none from before))
+
+-- all bytes of a field lie within it
+pub own_range : (bytes : ℕ → ℕ → Bool) (r : FieldRange) → has_one (common bytes (in_range r)) r.store r.offset r.width ≡ has_one bytes r.store r.offset r.width
+own_range bytes r =
+    alike (has_one (common bytes (in_range r)) r.store r.offset r.width) (has_one bytes r.store r.offset r.width)
+    (λ has.
+    let some = some_has (common bytes (in_range r)) r.store r.width r.offset has in
+    let two = both (bytes r.store some.0) (in_range r r.store some.0) some.3 in
+    has_some bytes r.store r.width r.offset some.0 some.1 some.2 two.0)
+    (λ has.
+    let some = some_has bytes r.store r.width r.offset has in
+    has_some (common bytes (in_range r)) r.store r.width r.offset some.0 some.1 some.2 (together (bytes r.store some.0) (in_range r r.store some.0) some.3 (is_in r r.store some.0 (refl, some.1, some.2))))
+
+-- the bytes of a field that lie within a range and in which stores differ
+pub parts_differ : (old new : StoreMap) → shape_of old ≡ shape_of new → (field within : FieldRange) → field.store ≡ within.store → (xs ys : List ℕ) → Some xs ≡ bytes_of old field.store → Some ys ≡ bytes_of new field.store
+    → other_bytes xs ys (max field.offset within.offset) (min (min (field.offset + field.width) (length xs)) (min (within.offset + within.width) (length xs)) - max field.offset within.offset)
+    ≡ has_one (common (difference old new) (in_range within)) field.store field.offset field.width
+parts_differ old new shape field within same xs ys e f =
+    let from = max field.offset within.offset in
+    let to = min (min (field.offset + field.width) (length xs)) (min (within.offset + within.width) (length xs)) in
+    let bytes = common (difference old new) (in_range within) in
+    let size : length xs ≡ length ys = one_size old new shape field.store xs ys e f in
+    let is : (at : ℕ) → other_at xs ys 0 at ≡ difference old new field.store at = λ at.
+    ap (λ (o : Option (List ℕ)). not (is_same (option_and_then (λ (b : List ℕ). slice_get b at) o) (slice_get ys at))) e
+    ∙ ap (λ (o : Option (List ℕ)). not (is_same (option_and_then (λ (b : List ℕ). slice_get b at) (bytes_of old field.store)) (option_and_then (λ (b : List ℕ). slice_get b at) o))) f in
+    alike (other_bytes xs ys from (to - from)) (has_one bytes field.store field.offset field.width)
+    (λ has.
+    let some = some_has (other_at xs ys) 0 (to - from) from has in
+    let at = some.0 in
+    has_some bytes field.store field.width field.offset at (omega (arith, some.1)) (omega (arith, some.1, some.2))
+    (together (difference old new field.store at) (in_range within field.store at) (sym (is at) ∙ some.3)
+    (is_in within field.store at (same, omega (arith, some.1), omega (arith, some.1, some.2)))))
+    (λ has.
+    let some = some_has bytes field.store field.width field.offset has in
+    let at = some.0 in
+    let two = both (difference old new field.store at) (in_range within field.store at) some.3 in
+    let there = lies_in within field.store at two.1 in
+    let differs : other_at xs ys 0 at ≡ true = is at ∙ two.0 in
+    let inside : at < length xs = elim (cases_lt at (length xs)) [
+      | inl inside ↦ inside
+      | inr behind ↦ absurd (false≢true (sym (equal_behind xs ys at behind (omega (arith, behind, size))) ∙ differs))
+    ] in
+    has_some (other_at xs ys) 0 (to - from) from at (omega (arith, some.1, there.1)) (omega (arith, some.2, there.2, inside, some.1, there.1)) differs)
+
+-- ---- sets of bytes that make up a set
+
+module _ (bytes some others : ℕ → ℕ → Bool) (is : (store at : ℕ) → bytes store at ≡ (some store at || others store at)) where
+  split_one : (store width offset : ℕ) → has_one bytes store offset width ≡ (has_one some store offset width || has_one others store offset width)
+  split_one store zero offset = refl
+  split_one store (suc width) offset =
+      ap (λ b. b || has_one bytes store (offset + 1) width) (is store offset) ∙ ap (λ b. (some store offset || others store offset) || b) (split_one store width (offset + 1))
+      ∙ turned (some store offset) (others store offset) (has_one some store (offset + 1) width) (has_one others store (offset + 1) width)
+    where
+      turned : (a b x y : Bool) → ((a || b) || (x || y)) ≡ ((a || x) || (b || y))
+      turned true b x y = refl
+      turned false true true y = refl
+      turned false true false y = refl
+      turned false false x y = refl
+
+  pub split_reads : (rs : List Reading) (k : ℕ) → reads bytes rs k ≡ (reads some rs k || reads others rs k)
+  split_reads [] k = refl
+  split_reads (r ∷ rs) k =
+      ap (λ b. (r.reader == k && b) || reads bytes rs k) (split_one r.range.store r.range.width r.range.offset)
+      ∙ ap (λ b. (r.reader == k && (has_one some r.range.store r.range.offset r.range.width || has_one others r.range.store r.range.offset r.range.width)) || b) (split_reads rs k)
+      ∙ turned (r.reader == k) (has_one some r.range.store r.range.offset r.range.width) (has_one others r.range.store r.range.offset r.range.width) (reads some rs k) (reads others rs k)
+    where
+      turned : (n a b x y : Bool) → ((n && (a || b)) || (x || y)) ≡ (((n && a) || x) || ((n && b) || y))
+      turned false a b x y = refl
+      turned true true b x y = refl
+      turned true false true true y = refl
+      turned true false true false y = refl
+      turned true false false x y = refl
+
+-- nothing reads no byte
+pub reads_nothing : (bytes : ℕ → ℕ → Bool) → ((store at : ℕ) → bytes store at ≡ false) → (rs : List Reading) (k : ℕ) → reads bytes rs k ≡ false
+reads_nothing bytes none [] k = refl
+reads_nothing bytes none (r ∷ rs) k =
+    ap (λ b. (r.reader == k && b) || reads bytes rs k) (none_one bytes r.range.store r.range.width r.range.offset (λ at from before. none r.range.store at))
+    ∙ ap (λ b. b || reads bytes rs k) (and_none (r.reader == k) false refl) ∙ reads_nothing bytes none rs k
+
+-- ---- bytes that are the same
+
+pub same_byte : (o : Option ℕ) → is_same o o ≡ true
+same_byte None = refl
+same_byte (Some b) = eq-eqb b b refl
+
+pub alike_nowhere : (old new : StoreMap) → AreAlike old new → (store at : ℕ) → difference old new store at ≡ false
+alike_nowhere old new same store at = ap (λ o. not (is_same o (byte_of new store at))) (same store at) ∙ ap not (same_byte (byte_of new store at))
+
+-- a reading that has no byte of a range has none that is among others, too
+pub unmet_reading : (bytes : ℕ → ℕ → Bool) (range : FieldRange) (r : Reading) (k : ℕ) → range.offset < 65536 → r.range.offset < 65536 → meets (first_of range) (behind_of range) r ≡ false → is_read (common bytes (in_range range)) k r ≡ false
+unmet_reading bytes range r k small small' none =
+    let away : has_one (in_range range) r.range.store r.range.offset r.range.width ≡ false = sym (meets_range range r small small') ∙ none in
+    and_none (r.reader == k) (has_one (common bytes (in_range range)) r.range.store r.range.offset r.range.width)
+    (none_one (common bytes (in_range range)) r.range.store r.range.width r.range.offset (λ at from before.
+    and_none (bytes r.range.store at) (in_range range r.range.store at) (none_has (in_range range) r.range.store r.range.width r.range.offset at away from before)))
+
+-- whether a reading is that of a reader, by whether it has one of the bytes
+pub unread_reading : (bytes : ℕ → ℕ → Bool) (r : Reading) (k : ℕ) → has_one bytes r.range.store r.range.offset r.range.width ≡ false → is_read bytes k r ≡ false
+unread_reading bytes r k none = and_none (r.reader == k) (has_one bytes r.range.store r.range.offset r.range.width) none
+
+pub read_reading : (bytes : ℕ → ℕ → Bool) (r : Reading) (k : ℕ) → has_one bytes r.range.store r.range.offset r.range.width ≡ true → is_read bytes k r ≡ (r.reader == k)
+read_reading bytes r k has = ap (λ b. r.reader == k && b) has ∙ and_true (r.reader == k)
+  where
+    and_true : (b : Bool) → b && true ≡ b
+    and_true true = refl
+    and_true false = refl
+
+-- ---- readings, from the last one on, of which those are told that meet the bytes between two numbers, which are those of a range
+
+module _ (bytes : ℕ → ℕ → Bool) (range : FieldRange) (rs : List Reading) (from behind : ℕ) (first : from ≡ first_of range) (last : behind ≡ behind_of range) (small : range.offset < 65536) (all : AreSmall rs) where
+  pub reads_skip : (low high k : ℕ) → low ≤ high → high ≤ length rs → NoneMeets from behind rs low high → reads (common bytes (in_range range)) (drop low rs) k ≡ reads (common bytes (in_range range)) (drop high rs) k
+  reads_skip low high k ordered within none =
+      skip (is_read (common bytes (in_range range)) k) rs no_reading (high - low) low high (omega (arith, ordered)) within
+      (λ j above below.
+      let r = at_place rs j in
+      unmet_reading bytes range r k small (all j no_reading (omega (arith, below, within))) (sym (ap (λ n. meets n behind r) first ∙ ap (λ n. meets (first_of range) n r) last) ∙ none j above below))
+
+  pub reads_behind : (place k : ℕ) → place ≤ length rs → AllWithin (λ (r : Reading). nat_lt (readings.first_of r) behind ≡ false) rs place (length rs) → reads (common bytes (in_range range)) (drop place rs) k ≡ false
+  reads_behind place k within none =
+      reads_skip place (length rs) k within (omega arith) (λ j above below. unmet_behind from behind (at_place rs j) (none j no_reading above below))
+      ∙ ap (λ l. reads (common bytes (in_range range)) l k) (drop_all (length rs) rs (omega arith))
+
+  -- the one at a place and those behind it, where none meets them up to another place
+  module _ (at before k : ℕ) (less : at < before) (within : before ≤ length rs) (none : NoneMeets from behind rs (at + 1) before) where
+    reads_next : reads (common bytes (in_range range)) (drop at rs) k ≡ (is_read (common bytes (in_range range)) k (at_place rs at) || reads (common bytes (in_range range)) (drop before rs) k)
+    reads_next =
+        ap (λ l. reads (common bytes (in_range range)) l k) (drop_more rs at no_reading (omega (arith, less, within)))
+        ∙ ap (λ b. is_read (common bytes (in_range range)) k (at_place rs at) || b) (reads_skip (at + 1) before k (omega (arith, less)) within none)
+
+    pub reads_past : has_one (common bytes (in_range range)) (at_place rs at).range.store (at_place rs at).range.offset (at_place rs at).range.width ≡ false
+        → reads (common bytes (in_range range)) (drop at rs) k ≡ reads (common bytes (in_range range)) (drop before rs) k
+    reads_past away = reads_next ∙ ap (λ b. b || reads (common bytes (in_range range)) (drop before rs) k) (unread_reading (common bytes (in_range range)) (at_place rs at) k away)
+
+    pub reads_more : has_one (common bytes (in_range range)) (at_place rs at).range.store (at_place rs at).range.offset (at_place rs at).range.width ≡ true
+        → reads (common bytes (in_range range)) (drop at rs) k ≡ ((at_place rs at).reader == k || reads (common bytes (in_range range)) (drop before rs) k)
+    reads_more has = reads_next ∙ ap (λ b. b || reads (common bytes (in_range range)) (drop before rs) k) (read_reading (common bytes (in_range range)) (at_place rs at) k has)

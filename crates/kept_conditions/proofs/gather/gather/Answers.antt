@@ -1,0 +1,31 @@
+use Rattle.std.proofs.Common.{◌≡◌, ℕ, List, length, sym, ap, ◌∙◌, subst, arith}
+use Rattle.std.proofs.lemmas.List.{length-map}
+use Rattle.ifr_opcodes.specs.Forest.{Placed}
+use Rattle.ifr_scopes.specs.Nodes.{nodes_of}
+use Rattle.hii_varstore.specs.Stores.{StoreMap}
+use Rattle.guard_policy.specs.code.Views.{world}
+use Rattle.guard_policy.specs.code.Worlds.{is_met_at}
+use Rattle.guard_policy.specs.declared.policy.Policy.{Policy}
+use Rattle.kept_conditions.specs.code.Gathering.{AreGathered}
+use Rattle.kept_conditions.specs.code.Nodes.{reader_nodes}
+use Rattle.kept_conditions.proofs.GatherLemmas.{none_gathered}
+use Rattle.kept_conditions.proofs.ReaderLemmas.{rule_readers}
+use Rattle.kept_conditions.proofs.gather.gather.Goals as goal
+
+pub loop-number-init : goal.loop-number-init
+loop-number-init c = record {
+  gathered = none_gathered _ (nodes_of c.forms-forms.result.now) _ c.in_ok-with_capacity.ensures.items c.new.ensures.items c.new-2.ensures.items;
+  left = c.rules-rules.ensures ∙ sym (rule_readers (nodes_of c.forms-forms.result.now));
+}
+
+pub returns : goal.returns
+returns c =
+    let bytes = c.forms-forms.result.now in
+    let long : length c.in_ok-places.places.items ≡ length (reader_nodes (nodes_of bytes)) = ap (λ (l : List ℕ). length l) c.in_ok-places.ensures ∙ length-map (reader_nodes (nodes_of bytes)) (λ (n : Placed). n.place) in
+    let size : c.loop-number.number ≡ length (reader_nodes (nodes_of bytes)) =
+    omega (arith, c.loop-number-test.false, c.loop-number.auto.number-end, c.len-number-end.ensures, c.in_ok-places.places.ok.0, long) in
+    let all : AreGathered (nodes_of bytes) (λ place. is_met_at (world c.over-now.result.policy c.over-now.result.stores.now) place) c.loop-number.number c.loop-number.gathered = c.loop-number.invariant.gathered in
+    subst (λ (b : List ℕ). AreGathered (nodes_of b) (is_met_at (world c.args.policy c.args.stores.now)) (length (reader_nodes (nodes_of b))) c.loop-number.gathered) c.forms-forms.ensures
+    (subst (λ (n : ℕ). AreGathered (nodes_of bytes) (is_met_at (world c.args.policy c.args.stores.now)) n c.loop-number.gathered) size
+    (subst (λ (m : StoreMap). AreGathered (nodes_of bytes) (is_met_at (world c.args.policy m)) c.loop-number.number c.loop-number.gathered) c.over-now.ensures.stores
+    (subst (λ (p : Policy). AreGathered (nodes_of bytes) (is_met_at (world p c.over-now.result.stores.now)) c.loop-number.number c.loop-number.gathered) c.over-now.ensures.policy all)))

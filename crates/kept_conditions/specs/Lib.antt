@@ -1,0 +1,4 @@
+pub mod Touching
+pub mod Kept
+pub mod code
+pub mod laws

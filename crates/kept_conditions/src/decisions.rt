@@ -1,0 +1,67 @@
+//! Decisions over stores by what is kept over them.
+
+ghost use Rattle.std.specs.Prelude.{◌≡◌};
+ghost use Rattle.ifr_scopes.specs.code.Checked.{IsNodeOf};
+ghost use Rattle.ifr_scopes.specs.code.Lists.{form_node, statement_node};
+ghost use Rattle.hii_questions.specs.code.Views.{question_node};
+ghost use Rattle.guard_policy.specs.Policy.{closed, fixed, hidden, unsubmitted};
+ghost use Rattle.guard_policy.specs.code.Answers.{unless};
+ghost use Rattle.guard_policy.specs.code.Views.{bytes_of, world};
+
+use crate::kept_stores::KeptStores;
+use guard_policy::{Denial, Policy};
+use hii_questions::Question;
+use ifr_scopes::{Form, Statement};
+
+impl<'a> KeptStores<'a> {
+    /// Whether a form is opened over these stores, as the policy decides it. The policy is that of the package.
+    pub fn opens(&self, policy: Policy<'a, '_>, form: Form<'a>) -> Result<(), Denial>
+        requires package { bytes_of policy ≡ self.now.ifr }
+        requires node { IsNodeOf (bytes_of policy) (form_node form) }
+        ensures { result ≡ unless
+            (hidden (world policy.entry self.now.stores) (form_node form.entry)) }
+    {
+        // The package is accepted.
+        policy.forms().bytes();
+        policy.opens_by(form, self.kept())
+    }
+
+    /// Whether a statement may be changed over these stores, as the policy decides it.
+    pub fn changeable(&self, policy: Policy<'a, '_>, statement: Statement<'a>) -> Result<(), Denial>
+        requires package { bytes_of policy ≡ self.now.ifr }
+        requires node { IsNodeOf (bytes_of policy) (statement_node statement) }
+        ensures { result ≡ unless
+            (fixed (world policy.entry self.now.stores) (statement_node statement.entry)) }
+    {
+        // The package is accepted.
+        policy.forms().bytes();
+        policy.changeable_by(statement, self.kept())
+    }
+
+    /// Whether a question may be given a value of its options over these stores, as the policy decides it.
+    pub fn option_open(
+        &self,
+        policy: Policy<'a, '_>,
+        question: Question<'a>,
+        value: u64,
+    ) -> Result<(), Denial>
+        requires package { bytes_of policy ≡ self.now.ifr }
+        requires node { IsNodeOf (bytes_of policy) (question_node question) }
+        ensures { result ≡ unless
+            (closed (world policy.entry self.now.stores) (question_node question.entry) value) }
+    {
+        // The package is accepted.
+        policy.forms().bytes();
+        policy.option_open_by(question, value, self.kept())
+    }
+
+    /// Whether these stores may be submitted, as the policy decides it.
+    pub fn may_submit(&self, policy: Policy<'a, '_>) -> Result<(), Denial>
+        requires { bytes_of policy ≡ self.now.ifr }
+        ensures { result ≡ unless (unsubmitted (world policy.entry self.now.stores)) }
+    {
+        // The package is accepted.
+        policy.forms().bytes();
+        policy.may_submit_by(self.kept())
+    }
+}
