@@ -32,9 +32,11 @@ class Counter:
         return path
 
     def run_under(self, tool, texts, opcodes, held, script):
-        """A run under a tool of valgrind, over string packages and a forms package with a store of so many bytes."""
+        """A run under a tool of valgrind, over string packages and a forms package with a store of so many bytes, or with these
+        stores."""
         packages = texts + package(opcodes) + END_PACKAGE
-        words = ["--list", self.file("list", package_list(packages)), "--stores", self.file("stores", older_image([(1, bytes(held))]))]
+        stores = [(1, bytes(held))] if isinstance(held, int) else held
+        words = ["--list", self.file("list", package_list(packages)), "--stores", self.file("stores", older_image(stores))]
         words += ["--out", os.path.join(self.scratch, "image")]
         done = subprocess.run(["valgrind", *tool, self.program, *words], input=script, capture_output=True)
         if done.returncode != 0:

@@ -3,9 +3,9 @@ use Rattle.std.proofs.Common.{length-append, ◌-◌, ◌==◌, slice_index, if�
 use Rattle.std.proofs.lemmas.Bool.{cond-true, cond-false, lt-ltb, le-ltb, cases_lt, cases_Bool}
 use Rattle.std.proofs.lemmas.List.{take-take, take_all, length-take, take-append-le}
 use Rattle.std.proofs.Math.Seq.{take-append-add}
-use Rattle.std.proofs.KnownBytes.{Consumes-nil, Consumes-trans, Consumes-kept}
+use Rattle.std.proofs.KnownBytes.{Consumes-nil, Consumes-trans, Consumes-kept, Appends-kept, Keeps-refl}
 use Rattle.std.specs.Io.KnownBytes.{Consumes, Appends, IsAtEnd, Keeps}
-use Rattle.hii_bytes.specs.Watching.{Pen, Writes}
+use Rattle.hii_bytes.specs.Watching.{Pen, Writes, Flushes, BreaksWithin}
 use Rattle.hii_bytes.proofs.WritingLemmas.{writes_trans, writes_past, writes_nil, appended_whole}
 use Rattle.hii_commands.specs.Script.{whole_lines, rest_of, last_line, lines_of, lines_run}
 use Rattle.hii_commands.specs.laws.Lines.{IsWithinLine}
@@ -26,6 +26,44 @@ use Rattle.browser_core.specs.declared.reply.End.{End}
 use Rattle.browser_core.specs.declared.reply.End.TheVariants.{Done, TooLong}
 use Rattle.browser_core.specs.Run.{shown_after_lines, text_of, StopsAtLine, StopsAtLimit, Runs, Finishes, BreaksOff, Overflows, ScriptOutcome, outcome_of, too_long_text}
 use Rattle.browser_core.specs.code.Reading.{Stands}
+
+-- ---- a writer that passes on what it took
+
+flushes_none : (a : Pen) → Flushes a a
+flushes_none a = record { kept = Keeps-refl a.known; counted = refl; after_fault = λ h. h }
+
+sound_before : (a b : Pen) → Flushes a b → b.broken ≡ false → a.broken ≡ false
+sound_before a b flushed sound = elim (cases_Bool a.broken) [
+  | inl broken ↦ let bad : true ≡ false = sym (flushed.after_fault broken) ∙ sound in (cc)
+  | inr unbroken ↦ unbroken
+]
+
+-- a text is passed on
+pub writes_flushed : {a b c : Pen} {s : List ℕ} → Writes a b s → Flushes b c → c.broken ≡ false → Writes a c s
+writes_flushed {a} {b} {c} {s} p flushed sound = record {
+  part = p.part;
+  within = p.within;
+  appended = Appends-kept a.known b.known c.known (take p.part s) p.appended flushed.kept;
+  counted = flushed.counted ∙ p.counted;
+  after_fault = λ h. let e = p.after_fault h in (e.0, flushed.after_fault e.1);
+  whole = λ _. p.whole (sound_before b c flushed sound);
+  short = λ _ broken. let bad : true ≡ false = sym broken ∙ sound in (cc);
+}
+
+-- the writer fails at a text, or as it passes the text on
+pub breaks_flushed : {a b c : Pen} {s : List ℕ} (u : List ℕ) (p : Writes a b s) → Flushes b c → c.broken ≡ true → u ≡ s
+    → (w : BreaksWithin a c u) × (w.part ≡ p.part) × (a.broken ≡ true → w.part ≡ 0)
+breaks_flushed {a} {b} {c} {s} u p flushed broken e = subst (λ u. (w : BreaksWithin a c u) × (w.part ≡ p.part) × (a.broken ≡ true → w.part ≡ 0)) (sym e) (
+  record {
+    part = p.part;
+    within = p.within;
+    appended = Appends-kept a.known b.known c.known (take p.part s) p.appended flushed.kept;
+    counted = flushed.counted ∙ p.counted;
+    broken = broken;
+  },
+  refl,
+  λ h. (p.after_fault h).0,
+)
 
 -- ---- one line
 
@@ -124,24 +162,42 @@ stands_line start now stepped pen mid new bytes p after within state text next t
       sound = sound;
     }
 
+-- the answers of a piece are passed on
+pub stands_passing : (start now : Shown) (pen mid new : Pen) (bytes : List ℕ) (line : Held) → (mid.broken ≡ false → Stands start pen bytes now line mid) → Flushes mid new
+    → new.broken ≡ false → Stands start pen bytes now line new
+stands_passing start now pen mid new bytes line stands flushed sound =
+    let h = stands (sound_before mid new flushed sound) in
+    record { shown = h.shown; text = writes_flushed h.text flushed sound; line_is = h.line_is; sound = sound }
+
+-- the writer fails at one more line or at none, or as it passes on the answers
+stops_after : (start now stepped : Shown) (pen mid after new : Pen) (before last later : List (List ℕ)) → length last ≤ 1
+    → now ≡ shown_after_lines start before → Writes pen mid (text_of start before) → mid.broken ≡ false
+    → stepped ≡ shown_after_lines now last → Writes mid after (text_of now last) → Flushes after new → new.broken ≡ true
+    → StopsAtLine start pen ((before ++ last) ++ later) stepped new
+stops_after start now stepped pen mid after new before last later one state text was_sound next told flushed broken =
+    let both : text_of start (before ++ last) ≡ text_of start before ++ text_of now last = text_of-append start before last ∙ ap (λ n. text_of start before ++ text_of n last) (sym state) in
+    let past = writes_past (text_of start before ++ text_of now last) text told was_sound refl in
+    let breaks = breaks_flushed (text_of start (before ++ last)) past.0 flushed broken both in
+    record {
+      before = before;
+      last = last;
+      later = later;
+      one = one;
+      front = refl;
+      shown = next ∙ ap (λ n. shown_after_lines n last) state ∙ sym (shown_after_lines-append start before last);
+      text = breaks.0;
+      all_before = omega (arith, past.1, breaks.1);
+      after_fault = breaks.2;
+    }
+
 -- the line at which the writer fails
-pub stops_line : (start now stepped : Shown) (pen mid new : Pen) (lines later : List (List ℕ)) (line : List ℕ)
+stops_line : (start now stepped : Shown) (pen mid new : Pen) (lines later : List (List ℕ)) (line : List ℕ)
     → now ≡ shown_after_lines start lines → Writes pen mid (text_of start lines) → mid.broken ≡ false
     → stepped ≡ shown_line now line → Writes mid new (step_line now.state line).text
     → new.broken ≡ true → StopsAtLine start pen ((lines ++ line ∷ []) ++ later) stepped new
 stops_line start now stepped pen mid new lines later line state text was_sound next told broken =
-    let past = writes_past (text_of start (lines ++ line ∷ [])) text told was_sound (text_of-push start now lines line state) in
-    record {
-      before = lines;
-      last = line ∷ [];
-      later = later;
-      one = omega arith;
-      front = refl;
-      shown = next ∙ sym (shown_after_lines-push start now lines line state);
-      text = past.0;
-      all_before = past.1;
-      broken = broken;
-    }
+    stops_after start now stepped pen mid new new lines (line ∷ []) later (omega arith) state text was_sound next
+    (subst (Writes mid new) (sym (append-nil (step_line now.state line).text)) told) (flushes_none new) broken
 
 -- the writer fails at a line that a piece ends, with more bytes behind the line
 pub stops_piece : (start now stepped : Shown) (pen mid new : Pen) (bytes p more all : List ℕ) → IsWithinLine p
@@ -191,6 +247,10 @@ text_of-last_line : (s : Shown) (rest : List ℕ) → text_of s (last_line rest)
 text_of-last_line s [] = refl
 text_of-last_line s (b ∷ rest) = append-nil _
 
+last_line-few : (rest : List ℕ) → length (last_line rest) ≤ 1
+last_line-few [] = omega arith
+last_line-few (b ∷ rest) = omega arith
+
 stops_later : (start now : Shown) (pen new : Pen) (lines more : List (List ℕ)) → StopsAtLine start pen lines now new → StopsAtLine start pen (lines ++ more) now new
 stops_later start now pen new lines more h = record {
   before = h.before;
@@ -201,36 +261,69 @@ stops_later start now pen new lines more h = record {
   shown = h.shown;
   text = h.text;
   all_before = h.all_before;
-  broken = h.broken;
+  after_fault = h.after_fault;
 }
 
--- the writer fails at the last line, which is not empty
-stops_last : (start now stepped : Shown) (pen mid new : Pen) (bytes rest : List ℕ)
+stops_flushed : (start now : Shown) (pen mid new : Pen) (lines : List (List ℕ)) → StopsAtLine start pen lines now mid → Flushes mid new → StopsAtLine start pen lines now new
+stops_flushed start now pen mid new lines h flushed = record {
+  before = h.before;
+  last = h.last;
+  later = h.later;
+  one = h.one;
+  front = h.front;
+  shown = h.shown;
+  text = record {
+    part = h.text.part;
+    within = h.text.within;
+    appended = Appends-kept pen.known mid.known new.known (take h.text.part (text_of start (h.before ++ h.last))) h.text.appended flushed.kept;
+    counted = flushed.counted ∙ h.text.counted;
+    broken = flushed.after_fault h.text.broken;
+  };
+  all_before = h.all_before;
+  after_fault = h.after_fault;
+}
+
+-- the writer fails at the last line, or as it passes on its answer
+stops_last : (start now stepped : Shown) (pen mid after new : Pen) (bytes rest : List ℕ)
     → now ≡ shown_after_lines start (whole_lines bytes) → Writes pen mid (text_of start (whole_lines bytes)) → mid.broken ≡ false
-    → stepped ≡ shown_line now rest → Writes mid new (step_line now.state rest).text → new.broken ≡ true → StopsAtLine start pen (whole_lines bytes ++ last_line rest) stepped new
-stops_last start now stepped pen mid new bytes [] state text was_sound next told broken = let some : told.part < 0 = told.short was_sound broken in absurd (omega arith)
-stops_last start now stepped pen mid new bytes (b ∷ rest) state text was_sound next told broken =
-    subst (λ l. StopsAtLine start pen l stepped new) (append-nil (whole_lines bytes ++ (b ∷ rest) ∷ []))
-    (stops_line start now stepped pen mid new (whole_lines bytes) [] (b ∷ rest) state text was_sound next told broken)
+    → stepped ≡ shown_line now rest → Writes mid after (step_line now.state rest).text → Flushes after new → new.broken ≡ true
+    → StopsAtLine start pen (whole_lines bytes ++ last_line rest) stepped new
+stops_last start now stepped pen mid after new bytes rest state text was_sound next told flushed broken =
+    subst (λ l. StopsAtLine start pen l stepped new) (append-nil (whole_lines bytes ++ last_line rest))
+    (stops_after start now stepped pen mid after new (whole_lines bytes) (last_line rest) [] (last_line-few rest) state text was_sound
+    (next ∙ sym (shown_after_lines-last_line now rest)) (subst (Writes mid after) (sym (text_of-last_line now rest)) told) flushed broken)
 
--- the writer failed before the first byte
-pub overflows_at_once : (start : Shown) (pen : Pen) (reader : Option (List ℕ)) → pen.broken ≡ true → Overflows start pen reader start pen reader
-overflows_at_once start pen reader broken = record {
-  bytes = [];
-  consumed = Consumes-nil reader;
-  few = omega arith;
-  stops = inl (record {
-    before = [];
-    last = [];
-    later = [];
-    one = omega arith;
-    front = refl;
-    shown = refl;
-    text = writes_nil pen;
-    all_before = omega arith;
-    broken = broken;
-  });
-}
+-- the writer fails at a line of a piece, or as it passes on the answers of all of them
+pub stops_passing : (start now : Shown) (pen mid new : Pen) (bytes : List ℕ) (line : Held) → (mid.broken ≡ false → Stands start pen bytes now line mid)
+    → (mid.broken ≡ true → StopsAtLine start pen (whole_lines bytes) now mid) → Flushes mid new → new.broken ≡ true → StopsAtLine start pen (whole_lines bytes) now new
+stops_passing start now pen mid new bytes line stands stops flushed broken = elim (cases_Bool mid.broken) [
+  | inl was_broken ↦ stops_flushed start now pen mid new (whole_lines bytes) (stops was_broken) flushed
+  | inr sound ↦
+      let h = stands sound in
+      subst (λ l. StopsAtLine start pen l now new) (append-nil (whole_lines bytes ++ []) ∙ append-nil (whole_lines bytes))
+      (stops_after start now now pen mid mid new (whole_lines bytes) [] [] (omega arith) h.shown h.text sound refl (writes_nil mid) flushed broken)
+]
+
+-- the writer fails before the first byte
+pub overflows_at_once : (start : Shown) (pen new : Pen) (reader : Option (List ℕ)) → Flushes pen new → new.broken ≡ true → Overflows start pen reader start new reader
+overflows_at_once start pen new reader flushed broken =
+    let breaks = breaks_flushed [] (writes_nil pen) flushed broken refl in
+    record {
+      bytes = [];
+      consumed = Consumes-nil reader;
+      few = omega arith;
+      stops = inl (record {
+        before = [];
+        last = [];
+        later = [];
+        one = omega arith;
+        front = refl;
+        shown = refl;
+        text = breaks.0;
+        all_before = omega arith;
+        after_fault = breaks.2;
+      });
+    }
 
 -- the reader failed
 pub breaks_off : (start now : Shown) (pen new : Pen) (reader left after : Option (List ℕ)) (bytes : List ℕ) (line : Held)
@@ -267,16 +360,16 @@ finishes start now stepped pen mid new reader left bytes line consumed few at_en
       sound = sound;
     }
 
--- the writer fails at the last line
-pub overflows_last : (start now stepped : Shown) (pen mid new : Pen) (reader left : Option (List ℕ)) (bytes : List ℕ) (line : Held)
+-- the writer fails at the last line, or as it passes on its answer
+pub overflows_last : (start now stepped : Shown) (pen mid after new : Pen) (reader left : Option (List ℕ)) (bytes : List ℕ) (line : Held)
     → Consumes reader left bytes → length bytes ≤ SCRIPT_LIMIT → Stands start pen bytes now line mid
-    → stepped ≡ shown_line now (rest_of bytes) → Writes mid new (step_line now.state (rest_of bytes)).text → new.broken ≡ true
+    → stepped ≡ shown_line now (rest_of bytes) → Writes mid after (step_line now.state (rest_of bytes)).text → Flushes after new → new.broken ≡ true
     → Overflows start pen reader stepped new left
-overflows_last start now stepped pen mid new reader left bytes line consumed few stands next told broken = record {
+overflows_last start now stepped pen mid after new reader left bytes line consumed few stands next told flushed broken = record {
   bytes = bytes;
   consumed = consumed;
   few = omega arith;
-  stops = inl (subst (λ l. StopsAtLine start pen l stepped new) (sym (lines_run_within bytes few)) (stops_last start now stepped pen mid new bytes (rest_of bytes) stands.shown stands.text stands.sound next told broken));
+  stops = inl (subst (λ l. StopsAtLine start pen l stepped new) (sym (lines_run_within bytes few)) (stops_last start now stepped pen mid after new bytes (rest_of bytes) stands.shown stands.text stands.sound next told flushed broken));
 }
 
 -- the part of a read that stands within the limit
@@ -302,13 +395,13 @@ pub record Reads (start : Shown) (pen : Pen) (reader : Option (List ℕ)) (count
   pub few : count ≤ SCRIPT_LIMIT + 1
   pub stands : Stands start pen (take SCRIPT_LIMIT bytes) now line new
 
-pub reads_none : (start : Shown) (pen : Pen) (reader : Option (List ℕ)) (line : Held) → line ≡ held_of [] → pen.broken ≡ false → Reads start pen reader 0 start line pen reader
-reads_none start pen reader line cleared sound = record {
+pub reads_none : (start : Shown) (pen new : Pen) (reader : Option (List ℕ)) (line : Held) → line ≡ held_of [] → Flushes pen new → new.broken ≡ false → Reads start pen reader 0 start line new reader
+reads_none start pen new reader line cleared flushed sound = record {
   bytes = [];
   consumed = Consumes-nil reader;
   counted = refl;
   few = omega arith;
-  stands = record { shown = refl; text = writes_nil pen; line_is = cleared; sound = sound };
+  stands = record { shown = refl; text = writes_flushed (writes_nil pen) flushed sound; line_is = cleared; sound = sound };
 }
 
 -- below the limit all that was read stands
@@ -369,11 +462,13 @@ finishes_past start now pen mid new reader left count line h past told sound =
       sound = sound;
     }
 
-pub overflows_past : (start now : Shown) (pen mid new : Pen) (reader left : Option (List ℕ)) (count : ℕ) (line : Held)
-    → (h : Reads start pen reader count now line mid left) → SCRIPT_LIMIT < count → Writes mid new too_long_text → new.broken ≡ true → Overflows start pen reader now new left
-overflows_past start now pen mid new reader left count line h past told broken =
+pub overflows_past : (start now : Shown) (pen mid after new : Pen) (reader left : Option (List ℕ)) (count : ℕ) (line : Held)
+    → (h : Reads start pen reader count now line mid left) → SCRIPT_LIMIT < count → Writes mid after too_long_text → Flushes after new → new.broken ≡ true → Overflows start pen reader now new left
+overflows_past start now pen mid after new reader left count line h past told flushed broken =
     let long : SCRIPT_LIMIT < length h.bytes = omega (arith, h.counted) in
-    let beyond = writes_past (text_of start (whole_lines (take SCRIPT_LIMIT h.bytes)) ++ too_long_text) h.stands.text told h.stands.sound refl in
+    let text = text_of start (whole_lines (take SCRIPT_LIMIT h.bytes)) ++ too_long_text in
+    let beyond = writes_past text h.stands.text told h.stands.sound refl in
+    let breaks = breaks_flushed text beyond.0 flushed broken refl in
     record {
       bytes = h.bytes;
       consumed = h.consumed;
@@ -382,9 +477,9 @@ overflows_past start now pen mid new reader left count line h past told broken =
         long,
         subst (λ l. StopsAtLimit start pen l now new) (sym (lines_run_past h.bytes long)) (record {
           shown = h.stands.shown;
-          text = beyond.0;
-          all_before = beyond.1;
-          broken = broken;
+          text = breaks.0;
+          all_before = omega (arith, beyond.1, breaks.1);
+          after_fault = breaks.2;
         }),
       );
     }

@@ -1,7 +1,7 @@
 -- What a script leaves and writes (own rule).
 use Rattle.std.specs.Prelude.{◌≡◌, ℕ, ◌+◌, ◌<◌, ◌≤◌, ◌⊎◌, true, false, List, [], ◌∷◌, ◌++◌, length, if◌then◌else◌, Option, Result, Ok, Err}
 use Rattle.std.specs.Io.KnownBytes.{Appends, Consumes, IsAtEnd}
-use Rattle.hii_bytes.specs.Watching.{Pen, Writes}
+use Rattle.hii_bytes.specs.Watching.{Pen, BreaksWithin}
 use Rattle.hii_bytes.specs.declared.cause.Cause.TheVariants.{ScriptTooLong}
 use Rattle.hii_commands.specs.declared.limits.TheConstants.{SCRIPT_LIMIT}
 use Rattle.hii_commands.specs.Script.{whole_lines, is_too_long, lines_run}
@@ -41,7 +41,8 @@ outcome_of s script = record {
   end = if is_too_long script then TooLong else Done;
 }
 
--- Some lines were carried out up to one at which the writer failed. All texts before that one's were written whole.
+-- Some lines were carried out, and then the writer failed: at the answer of the last of them, or as it passed answers on. All
+-- texts before that one's were taken whole.
 pub record StopsAtLine (start : Shown) (pen : Pen) (lines : List (List ℕ)) (now : Shown)
     (new : Pen) : Type 0 where
   pub before : List (List ℕ)
@@ -50,17 +51,17 @@ pub record StopsAtLine (start : Shown) (pen : Pen) (lines : List (List ℕ)) (no
   pub one : length last ≤ 1
   pub front : lines ≡ (before ++ last) ++ later
   pub shown : now ≡ shown_after_lines start (before ++ last)
-  pub text : Writes pen new (text_of start (before ++ last))
+  pub text : BreaksWithin pen new (text_of start (before ++ last))
   pub all_before : length (text_of start before) ≤ text.part
-  pub broken : new.broken ≡ true
+  pub after_fault : pen.broken ≡ true → text.part ≡ 0
 
--- All lines were carried out, and the writer failed at the answer that the script is too long.
+-- All lines were carried out, and the writer failed at the answer that the script is too long, or as it passed that on.
 pub record StopsAtLimit (start : Shown) (pen : Pen) (lines : List (List ℕ)) (now : Shown)
     (new : Pen) : Type 0 where
   pub shown : now ≡ shown_after_lines start lines
-  pub text : Writes pen new (text_of start lines ++ too_long_text)
+  pub text : BreaksWithin pen new (text_of start lines ++ too_long_text)
   pub all_before : length (text_of start lines) ≤ text.part
-  pub broken : new.broken ≡ true
+  pub after_fault : pen.broken ≡ true → text.part ≡ 0
 
 -- The script was read to its end, or to the byte past the limit.
 pub record Finishes (start : Shown) (pen : Pen) (reader : Option (List ℕ)) (end : End) (now : Shown)

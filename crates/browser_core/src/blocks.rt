@@ -184,7 +184,7 @@ fn first_choice<'a>(
     let mut first = None;
     let mut sharing = questions.with_field(field);
     while let Some(question) = sharing.next() {
-        match working.changeable(policy, question.statement()) {
+        match working.question_changeable(policy, question) {
             Ok(()) => return Some((question, Ok(()))),
             Err(denial) => {
                 if first.is_none() {

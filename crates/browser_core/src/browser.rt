@@ -347,13 +347,24 @@ impl<'a> Core<'a> {
         self.working.changeable(self.policy(), statement)
     }
 
+    // Whether a question of the session may be changed.
+    fn question_changeable(&self, question: Question<'a>) -> Result<(), Denial>
+        requires { IsQuestionIn self.now.state.ifr (question_view question) }
+        ensures denied { result
+            ≡ unless (fixed (world_of self.now.state) (question_node question.entry)) }
+        ensures browsable { IsBrowsable self.now.state.ifr }
+        ensures laid { shape_of self.now.state.working ≡ layout_in self.now.state.ifr }
+    {
+        self.working.question_changeable(self.policy(), question)
+    }
+
     // Tells what forbids a change of the question of an id, if something does.
     fn why(&self, id: u16) -> Result<(), Denial>
         ensures { why_question self.now.state (question_with (nodes_of self.now.state.ifr) id)
             ≡ answered self.now.state result }
     {
         let question = self.find(id)?;
-        self.changeable(question.statement())
+        self.question_changeable(question)
     }
 
     // Sets the question of an id to a value and writes of what it warns, or writes why it is denied.
@@ -400,7 +411,7 @@ impl<'a> Core<'a> {
         ensures { Changes self.old (question_node question.entry) (offer_of input.entry) self.new
             result }
     {
-        self.changeable(question.statement())?;
+        self.question_changeable(question)?;
         let policy = Policy::new(&self.forms, &self.questions, &self.removed);
         let old = held_in(&self.spare, question);
         let field = set_value(policy, question, input, &mut self.working, old)?;
@@ -509,7 +520,7 @@ impl<'a> Core<'a> {
         let StatementKind::Ref(reference) = question.statement().kind() else {
             return Err(Denial::by(DenialKind::NotRef, question.place()));
         };
-        self.changeable(question.statement())?;
+        self.question_changeable(question)?;
         let Some(form) = self.form_of(reference.target()) else {
             return Err(Denial::by(DenialKind::Outside, question.place()));
         };

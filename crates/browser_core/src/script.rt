@@ -1,7 +1,7 @@
 //! The lines of a script, one after the other.
 
-ghost use Rattle.std.specs.Prelude.{◌≡◌, ◌++◌, ℕ, List, IfOk, true, false, Err};
-ghost use Rattle.hii_bytes.specs.Watching.{Pen, pen_of, inner_of, has_failed, Puts};
+ghost use Rattle.std.specs.Prelude.{◌≡◌, ◌++◌, ℕ, List, IfOk, true, false, not, Err};
+ghost use Rattle.hii_bytes.specs.Watching.{Pen, pen_of, inner_of, has_failed, Puts, Flushes};
 ghost use Rattle.hii_commands.specs.code.Held.{held_of};
 ghost use Rattle.hii_commands.specs.Script.{whole_lines};
 ghost use Rattle.browser_core.specs.Renewed.{Shown, shown_line};
@@ -22,7 +22,8 @@ const LIMIT: usize = SCRIPT_LIMIT as usize;
 // The most bytes of one read.
 const PIECE: usize = 512;
 
-/// Runs the lines of a script. A line that is not empty at the script's end needs no LF.
+/// Runs the lines of a script. A line that is not empty at the script's end needs no LF. The answers are passed on before
+/// each read and at the end.
 pub(crate) fn run_all<R: Read, W: Write>(
     core: &mut Core<'_>,
     line: &mut LineBuffer,
@@ -36,10 +37,10 @@ pub(crate) fn run_all<R: Read, W: Write>(
     ensures writes { result ≡ Err RunFault.Write → has_failed out.new ≡ true }
     ensures sound { IfOk result (λ end. has_failed script.new ≡ false) }
 {
-    if out.failed() {
+    line.clear();
+    if !passes_on(out) {
         return Err(RunFault::Write);
     }
-    line.clear();
     let mut piece = [0u8; PIECE];
     let mut count = 0usize;
     while count <= LIMIT {
@@ -51,25 +52,33 @@ pub(crate) fn run_all<R: Read, W: Write>(
         };
         if n == 0 {
             run_line(core, line, out);
-            return if out.failed() {
-                Err(RunFault::Write)
-            } else {
+            return if passes_on(out) {
                 Ok(End::Done)
+            } else {
+                Err(RunFault::Write)
             };
         }
         let within = n.min(LIMIT - count);
         run_piece(core, line, &buf[..within], out);
-        if out.failed() {
+        if !passes_on(out) {
             return Err(RunFault::Write);
         }
         count += n;
     }
     put_refusal(Cause::ScriptTooLong, out);
-    if out.failed() {
-        Err(RunFault::Write)
-    } else {
+    if passes_on(out) {
         Ok(End::TooLong)
+    } else {
+        Err(RunFault::Write)
     }
+}
+
+// Passes on what the writer holds back, and answers whether the writer has not failed.
+fn passes_on<W: Write>(out: &mut Watched<W>) -> bool
+    ensures flushes { Flushes (pen_of W.contents out.old) (pen_of W.contents out.new) }
+    ensures fault { has_failed out.new ≡ not result }
+{
+    out.flush().is_ok()
 }
 
 // Feeds the piece, and runs each line that it ends, unless the writer fails.

@@ -97,7 +97,8 @@ impl<'a> Session<'a> {
         self.core.page()
     }
 
-    /// Carries the command out, and then writes its text. Where the writer fails, the command is carried out all the same.
+    /// Carries the command out, and then writes its text, without a flush. Where the writer fails, the command is carried out
+    /// all the same.
     pub fn run<W: Write>(
         &mut self,
         command: Command<'_>,
@@ -121,7 +122,7 @@ impl<'a> Session<'a> {
     }
 
     /// Runs the lines of a script, each complete line of a piece of at most 512 bytes before the next is read. It reads
-    /// at most 1,048,577 bytes.
+    /// at most 1,048,577 bytes. The answers are flushed before each read and at the end.
     pub fn run_script<R: Read, W: Write>(
         &mut self,
         script: &mut Watched<R>,

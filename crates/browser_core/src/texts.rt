@@ -1,5 +1,6 @@
 //! The lines of answers.
 
+ghost use Rattle.std.specs.Prelude.{◌≡◌};
 ghost use Rattle.hii_bytes.specs.Watching.{Puts, Writes};
 ghost use Rattle.std.specs.List.{flat_map};
 ghost use Rattle.hii_languages.specs.Shown.{shown_text};
@@ -7,11 +8,13 @@ ghost use Rattle.hii_languages.specs.code.Views.{chars_left, choice_of};
 ghost use Rattle.guard_policy.specs.code.WarningsLeft.{warnings_left};
 ghost use Rattle.browser_core.specs.Texts.{count_text, changed_text, place_text, message_text, denied_text, warning_text, warning_line, cause_text, refused_text, fault_text};
 
+use arrayvec::ArrayVec;
 use form_page::put_shown;
 use guard_policy::{Denial, Warning, Warnings};
 use hii_bytes::{Cause, Fault, Watched};
 use hii_languages::{Choice, Languages, ShownChars};
 use hii_questions::DenialKind;
+use itoa::Buffer;
 use std::io::Write;
 
 /// Writes `OK n`.
@@ -23,13 +26,24 @@ pub(crate) fn put_count<W: Write>(n: u64, out: &mut Watched<W>)
     out.put(b"\n");
 }
 
+// The line that tells that a question has other bytes.
+fn changed_line(question: u16) -> ArrayVec<u8, 14>
+    ensures { result.items ≡ changed_text question }
+{
+    let mut line = ArrayVec::new();
+    line.try_extend_from_slice(b"CHANGED ").unwrap();
+    let mut buffer = Buffer::new();
+    line.try_extend_from_slice(buffer.format(question).as_bytes())
+        .unwrap();
+    line.push(b'\n');
+    line
+}
+
 /// Writes `CHANGED q`.
 pub(crate) fn put_changed<W: Write>(question: u16, out: &mut Watched<W>)
     ensures { Puts W.contents out.old out.new (changed_text question) }
 {
-    out.put(b"CHANGED ");
-    out.put_decimal(u64::from(question));
-    out.put(b"\n");
+    out.put(changed_line(question).as_slice());
 }
 
 // Writes the lowest 32 bits of a place in eight hex digits.

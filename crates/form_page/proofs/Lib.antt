@@ -1,3 +1,4 @@
+pub mod LineLemmas
 pub mod TextLemmas
 pub mod StatementLemmas
 pub mod WholeTexts

@@ -6,6 +6,9 @@ use Rattle.hii_bytes.specs.Watching.{Pen, Writes}
 use Rattle.hii_bytes.specs.code.Writing.{Stands}
 use Rattle.hii_bytes.proofs.WritingLemmas.{writes_trans}
 use Rattle.form_page.specs.Texts.{columns, width, utf8, cut_to}
+use Rattle.form_page.specs.code.Lines.{Adds}
+use Rattle.form_page.specs.declared.line.Line.{Line}
+use Rattle.form_page.proofs.LineLemmas.{AddsFront, one_added}
 
 -- past one more piece of a text
 pub past_piece : (a b c : Pen) (text rest front more : List ℕ) → rest ≡ front ++ more → Stands a b text rest → Writes b c front → Stands a c text more
@@ -15,17 +18,20 @@ past_piece a b c text rest front more e s w = record {
   written = writes_trans s.written w;
 }
 
--- past one more character
-pub past_char : (a b c : Pen) (text left later : List ℕ) (char : ℕ) → left ≡ char ∷ later → Stands a b text (utf8 left) → Writes b c (encode_utf8 char) → Stands a c text (utf8 later)
-past_char a b c text left later char e s w = past_piece a b c text (utf8 left) (encode_utf8 char) (utf8 later) (ap utf8 e) s w
+-- one more character is added
+pub char_added : (old mid now : Pen) (line longer full : Line) (text left later : List ℕ) (char : ℕ) → left ≡ char ∷ later → AddsFront old mid line longer text (utf8 left)
+    → Adds mid longer now full (encode_utf8 char) → AddsFront old now line full text (utf8 later)
+char_added old mid now line longer full text left later char e so_far more =
+    one_added old mid now line longer full text (utf8 left) (encode_utf8 char) (utf8 later) (ap utf8 e) so_far more
 
 -- a character that there is room for
 pub is_cut : (room char : ℕ) (later : List ℕ) → columns char ≤ room → cut_to room (char ∷ later) ≡ char ∷ cut_to (room - columns char) later
 is_cut room char later fits = cond-true (leb (columns char) room) _ _ (le-leb (columns char) room fits)
 
-pub past_cut : (a b c : Pen) (text left later : List ℕ) (room char : ℕ) → left ≡ char ∷ later → columns char ≤ room → Stands a b text (utf8 (cut_to room left)) → Writes b c (encode_utf8 char)
-    → Stands a c text (utf8 (cut_to (room - columns char) later))
-past_cut a b c text left later room char e fits s w = past_char a b c text (cut_to room left) (cut_to (room - columns char) later) char (ap (cut_to room) e ∙ is_cut room char later fits) s w
+pub cut_added : (old mid now : Pen) (line longer full : Line) (text left later : List ℕ) (room char : ℕ) → left ≡ char ∷ later → columns char ≤ room
+    → AddsFront old mid line longer text (utf8 (cut_to room left)) → Adds mid longer now full (encode_utf8 char) → AddsFront old now line full text (utf8 (cut_to (room - columns char) later))
+cut_added old mid now line longer full text left later room char e fits so_far more =
+    char_added old mid now line longer full text (cut_to room left) (cut_to (room - columns char) later) char (ap (cut_to room) e ∙ is_cut room char later fits) so_far more
 
 -- the columns that are left behind it
 pub less_room : (room char : ℕ) (left later : List ℕ) → left ≡ char ∷ later → columns char ≤ room → (room - columns char) - width (cut_to (room - columns char) later) ≡ room - width (cut_to room left)

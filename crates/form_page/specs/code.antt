@@ -1,6 +1,7 @@
 -- How structs, iterators and tables of the code are seen. No module outside of this folder and of laws cites one of it.
 pub mod CharViews
 pub mod Elements
+pub mod Lines
 pub mod ListedViews
 pub mod PageViews
 pub mod Pieces

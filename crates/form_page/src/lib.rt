@@ -4,6 +4,7 @@
 mod ascii_text;
 mod decisions;
 mod hex_digits;
+mod line;
 mod listed;
 mod option_texts;
 mod page;

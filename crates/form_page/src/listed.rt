@@ -20,9 +20,19 @@ pub(crate) struct Listed<'a, 's, C: Conditions> {
 
 impl<'a, 's, C: Conditions> Listed<'a, 's, C> {
     ghost use Rattle.std.specs.Iterator.{YieldsFirstBy};
-    ghost use Rattle.form_page.specs.code.ListedViews.{listed_left};
+    ghost use Rattle.form_page.specs.code.ListedViews.{all_left, listed_left};
 
-    /// Takes the first statement.
+    /// Takes the first statement, also one that is hidden.
+    pub(crate) fn take_first(&mut self) -> Option<Statement<'a>>
+        ensures steps { YieldsFirstBy statement_node all_left self.old result self.new }
+        ensures page { self.new.page ≡ self.old.page }
+        ensures node { IfSome result (λ statement. IsNodeOf (bytes_of self.old.page.policy)
+            (statement_node statement)) }
+    {
+        self.statements.next()
+    }
+
+    /// Takes the first statement that is not hidden.
     pub(crate) fn step(&mut self) -> Option<Statement<'a>>
         ensures steps { YieldsFirstBy statement_node listed_left self.old result self.new }
         ensures page { self.new.page ≡ self.old.page }

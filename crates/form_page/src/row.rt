@@ -1,12 +1,14 @@
 //! Rows of a page.
 
 ghost use Rattle.std.specs.Prelude.{◌≡◌};
-ghost use Rattle.hii_bytes.specs.Watching.{Puts, Writes};
+ghost use Rattle.hii_bytes.specs.Watching.{pen_of, Puts, Writes};
 ghost use Rattle.form_page.specs.Texts.{utf8};
 ghost use Rattle.form_page.specs.Pages.{id_text, row_text};
+ghost use Rattle.form_page.specs.code.Lines.{Adds};
 ghost use Rattle.form_page.specs.code.RowViews.{value_text};
 ghost use Rattle.form_page.specs.code.Views.{row_seen};
 
+use crate::line::Line;
 use crate::row_value::RowValue;
 use crate::shown::put_in_columns;
 use guard_policy::Conditions;
@@ -29,21 +31,27 @@ pub struct Row<'a, 's, C: Conditions> {
     pub value: RowValue<'a, 's, C>,
 }
 
-fn put_value<C: Conditions, W: Write>(value: RowValue<'_, '_, C>, out: &mut Watched<W>)
-    ensures { Puts W.contents out.old out.new (utf8 (value_text value.entry)) }
+fn put_value<C: Conditions, W: Write>(
+    value: RowValue<'_, '_, C>,
+    line: &mut Line,
+    out: &mut Watched<W>,
+)
+    ensures { Adds (pen_of W.contents out.old) line.old (pen_of W.contents out.new) line.new
+        (utf8 (value_text value.entry)) }
 {
     let mut text = value.chars();
     while let Some(c) = text.next() {
-        out.put_char(c);
+        line.put_char(c, out);
     }
 }
 
-fn put_id<W: Write>(question: Option<u16>, out: &mut Watched<W>)
-    ensures { Puts W.contents out.old out.new (id_text question) }
+fn put_id<W: Write>(question: Option<u16>, line: &mut Line, out: &mut Watched<W>)
+    ensures { Adds (pen_of W.contents out.old) line.old (pen_of W.contents out.new) line.new
+        (id_text question) }
 {
     match question {
-        Some(id) => out.put_decimal_right(5, u64::from(id)),
-        None => out.put(b"    -"),
+        Some(id) => line.put_decimal_right(5, u64::from(id), out),
+        None => line.put(b"    -", out),
     }
 }
 
@@ -51,14 +59,16 @@ fn put_id<W: Write>(question: Option<u16>, out: &mut Watched<W>)
 pub(crate) fn put_row<C: Conditions, W: Write>(row: Row<'_, '_, C>, out: &mut Watched<W>)
     ensures { Puts W.contents out.old out.new (row_text (row_seen row.entry)) }
 {
-    out.put_decimal_right(3, u64::from(row.number));
-    out.put(b" ");
-    out.put(&[row.mark]);
-    out.put(b" ");
-    put_id(row.question, out);
-    out.put(b" ");
-    put_in_columns(row.prompt.chars(), 24, out);
-    out.put(b" [");
-    put_value(row.value, out);
-    out.put(b"]\n");
+    let mut line = Line::new();
+    line.put_decimal_right(3, u64::from(row.number), out);
+    line.put(b" ", out);
+    line.put(&[row.mark], out);
+    line.put(b" ", out);
+    put_id(row.question, &mut line, out);
+    line.put(b" ", out);
+    put_in_columns(row.prompt.chars(), 24, &mut line, out);
+    line.put(b" [", out);
+    put_value(row.value, &mut line, out);
+    line.put(b"]\n", out);
+    line.end(out);
 }

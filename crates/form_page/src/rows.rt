@@ -27,9 +27,13 @@ impl<'a, 's, C: Conditions> Iterator for Rows<'a, 's, C> {
     ghost remaining = { item_count rows_left };
 
     fn next(&mut self) -> Option<Row<'a, 's, C>> {
-        let statement = self.listed.step()?;
-        let row = row_of(self.listed.page, self.number, statement);
-        self.number += 1;
-        Some(row)
+        let page = self.listed.page;
+        while let Some(statement) = self.listed.take_first() {
+            if let Some(row) = row_of(page, self.number, statement) {
+                self.number += 1;
+                return Some(row);
+            }
+        }
+        None
     }
 }

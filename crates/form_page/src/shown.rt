@@ -1,10 +1,12 @@
 //! Texts of the list as they are written.
 
 ghost use Rattle.std.specs.Prelude.{◌≡◌, ◌-◌, ◌≤◌};
-ghost use Rattle.hii_bytes.specs.Watching.{Puts, Writes};
+ghost use Rattle.hii_bytes.specs.Watching.{pen_of, Puts, Writes};
 ghost use Rattle.hii_languages.specs.code.Views.{chars_left};
+ghost use Rattle.form_page.specs.code.Lines.{Adds};
 ghost use Rattle.form_page.specs.Texts.{columns, utf8, cut_to, width, in_columns};
 
+use crate::line::Line;
 use hii_bytes::Watched;
 use hii_languages::ShownChars;
 use std::io::Write;
@@ -17,10 +19,16 @@ fn columns_of(c: char) -> usize
     c.width().unwrap_or(0)
 }
 
-// Writes the longest front of whole characters that is at most this many columns wide, and answers how many columns are left.
-fn put_cut<W: Write>(text: ShownChars<'_>, room: usize, out: &mut Watched<W>) -> usize
+// Adds the longest front of whole characters that is at most this many columns wide, and answers how many columns are left.
+fn put_cut<W: Write>(
+    text: ShownChars<'_>,
+    room: usize,
+    line: &mut Line,
+    out: &mut Watched<W>,
+) -> usize
     ensures left { result ≡ room - width (cut_to room (chars_left text.entry)) }
-    ensures text { Puts W.contents out.old out.new (utf8 (cut_to room (chars_left text.entry))) }
+    ensures text { Adds (pen_of W.contents out.old) line.old (pen_of W.contents out.new) line.new
+        (utf8 (cut_to room (chars_left text.entry))) }
 {
     let mut text = text;
     let mut room = room;
@@ -29,27 +37,43 @@ fn put_cut<W: Write>(text: ShownChars<'_>, room: usize, out: &mut Watched<W>) ->
         if wide > room {
             return room;
         }
-        out.put_char(c);
+        line.put_char(c, out);
         room -= wide;
     }
     room
 }
 
-/// Writes a text in so many columns: cut, and filled with spaces.
-pub(crate) fn put_in_columns<W: Write>(text: ShownChars<'_>, count: usize, out: &mut Watched<W>)
+/// Adds a text in so many columns: cut, and filled with spaces.
+pub(crate) fn put_in_columns<W: Write>(
+    text: ShownChars<'_>,
+    count: usize,
+    line: &mut Line,
+    out: &mut Watched<W>,
+)
     requires { count ≤ 24 }
-    ensures { Puts W.contents out.old out.new (in_columns count (chars_left text.entry)) }
+    ensures { Adds (pen_of W.contents out.old) line.old (pen_of W.contents out.new) line.new
+        (in_columns count (chars_left text.entry)) }
 {
-    let room = put_cut(text, count, out);
-    out.put_spaces(room);
+    let room = put_cut(text, count, line, out);
+    line.put_spaces(room, out);
+}
+
+// Adds a text whole, in UTF-8.
+fn put_chars<W: Write>(text: ShownChars<'_>, line: &mut Line, out: &mut Watched<W>)
+    ensures { Adds (pen_of W.contents out.old) line.old (pen_of W.contents out.new) line.new
+        (utf8 (chars_left text.entry)) }
+{
+    let mut text = text;
+    while let Some(c) = text.next() {
+        line.put_char(c, out);
+    }
 }
 
 /// Writes a text whole, in UTF-8.
 pub fn put_shown<W: Write>(text: ShownChars<'_>, out: &mut Watched<W>)
     ensures { Puts W.contents out.old out.new (utf8 (chars_left text.entry)) }
 {
-    let mut text = text;
-    while let Some(c) = text.next() {
-        out.put_char(c);
-    }
+    let mut line = Line::new();
+    put_chars(text, &mut line, out);
+    line.end(out);
 }

@@ -1,19 +1,23 @@
 //! The rows of statements.
 
-ghost use Rattle.std.specs.Prelude.{◌≡◌};
+ghost use Rattle.std.specs.Prelude.{◌≡◌, if◌then◌else◌, Some, None, is_err, is_none, is_some, option_map};
 ghost use Rattle.ifr_opcodes.specs.code.Ops.{bytes_of as op_bytes};
 ghost use Rattle.ifr_scopes.specs.code.Checked.{IsNodeOf};
 ghost use Rattle.ifr_scopes.specs.code.Lists.{statement_node, kind_op};
+ghost use Rattle.ifr_scopes.specs.Nodes.{nodes_of, is_question};
+ghost use Rattle.hii_questions.specs.Fields.{asked};
+ghost use Rattle.hii_questions.specs.code.Views.{question_view};
+ghost use Rattle.guard_policy.specs.Policy.{fixed, hidden};
 ghost use Rattle.guard_policy.specs.code.Views.{bytes_of};
 ghost use Rattle.form_page.specs.code.PageViews.{texts_of, world_of};
 ghost use Rattle.form_page.specs.Pages as pages;
 ghost use Rattle.form_page.specs.code.Views.{row_seen};
 
-use crate::decisions::is_fixed;
+use crate::decisions::standing;
 use crate::page::Page;
 use crate::row::Row;
 use crate::statement_value::statement_value;
-use guard_policy::Conditions;
+use guard_policy::{Conditions, SeenStatement, Standing};
 use ifr_scopes::{Statement, StatementKind};
 
 // The id of the question that a statement is.
@@ -36,21 +40,45 @@ fn mark_of(kind: StatementKind<'_>, is_fixed: bool) -> u8
     }
 }
 
-/// The row of a statement on a page.
-pub(crate) fn row_of<'a, 's, C: Conditions>(
+// The row of a statement that is seen.
+fn seen_row<'a, 's, C: Conditions>(
     page: Page<'a, 's, C>,
     number: u32,
     statement: Statement<'a>,
+    seen: SeenStatement<'a>,
 ) -> Row<'a, 's, C>
-    requires { IsNodeOf (bytes_of page.policy) (statement_node statement) }
+    requires node { IsNodeOf (bytes_of page.policy) (statement_node statement) }
+    requires fixed { is_err seen.changeable
+        ≡ is_some (fixed (world_of page) (statement_node statement)) }
+    requires asked { option_map question_view seen.question
+        ≡ (if is_question (statement_node statement)
+        then Some (asked (nodes_of (bytes_of page.policy)) (statement_node statement)) else None) }
     ensures { row_seen result ≡ pages.row_of (texts_of page.entry)
         (world_of page.entry) page.entry.stores.now number (statement_node statement.entry) }
 {
     Row {
         number,
-        mark: mark_of(statement.kind(), is_fixed(page, statement)),
+        mark: mark_of(statement.kind(), seen.changeable.is_err()),
         question: id_of(statement),
         prompt: page.languages.text(page.choice, statement.op().prompt()),
-        value: statement_value(page, statement),
+        value: statement_value(page, statement, seen.question),
+    }
+}
+
+/// The row of a statement on a page, where it is seen.
+pub(crate) fn row_of<'a, 's, C: Conditions>(
+    page: Page<'a, 's, C>,
+    number: u32,
+    statement: Statement<'a>,
+) -> Option<Row<'a, 's, C>>
+    requires { IsNodeOf (bytes_of page.policy) (statement_node statement) }
+    ensures { option_map row_seen result
+        ≡ (if is_none (hidden (world_of page.entry) (statement_node statement.entry))
+        then Some (pages.row_of (texts_of page.entry) (world_of page.entry)
+        page.entry.stores.now number (statement_node statement.entry)) else None) }
+{
+    match standing(page, statement) {
+        Standing::Hidden(_) => None,
+        Standing::Seen(seen) => Some(seen_row(page, number, statement, seen)),
     }
 }

@@ -134,41 +134,35 @@ fn stored_value<'a, 's, C: Conditions>(
     RowValue::Empty
 }
 
-// The question that a statement is, if it is one.
-fn question_of<'a, C: Conditions>(
-    page: Page<'a, '_, C>,
-    statement: Statement<'a>,
-) -> Option<Question<'a>>
-    requires { IsNodeOf (bytes_of page.policy) (statement_node statement) }
-    ensures { option_map question_view result
-        ≡ (if is_question (statement_node statement.entry)
-        then Some (asked (nodes_of (bytes_of page.entry.policy)) (statement_node statement.entry))
-        else None) }
-{
-    page.questions.at(statement.place())
-}
-
 // What the row of a statement shows of its value, which only a question has.
 fn question_value<'a, 's, C: Conditions>(
     page: Page<'a, 's, C>,
     statement: Statement<'a>,
+    question: Option<Question<'a>>,
 ) -> RowValue<'a, 's, C>
-    requires { IsNodeOf (bytes_of page.policy) (statement_node statement) }
+    requires node { IsNodeOf (bytes_of page.policy) (statement_node statement) }
+    requires asked { option_map question_view question
+        ≡ (if is_question (statement_node statement)
+        then Some (asked (nodes_of (bytes_of page.policy)) (statement_node statement)) else None) }
     ensures { value_text result ≡ values.question_shown (texts_of page.entry)
         (world_of page.entry) page.entry.stores.now (statement_node statement.entry) }
 {
-    match question_of(page, statement) {
+    match question {
         Some(question) => stored_value(page, statement, read_value(question, page.stores)),
         None => RowValue::Empty,
     }
 }
 
-/// What the row of a statement shows between its brackets.
+/// What the row of a statement shows between its brackets, with the question that it is, if it is one.
 pub(crate) fn statement_value<'a, 's, C: Conditions>(
     page: Page<'a, 's, C>,
     statement: Statement<'a>,
+    question: Option<Question<'a>>,
 ) -> RowValue<'a, 's, C>
-    requires { IsNodeOf (bytes_of page.policy) (statement_node statement) }
+    requires node { IsNodeOf (bytes_of page.policy) (statement_node statement) }
+    requires asked { option_map question_view question
+        ≡ (if is_question (statement_node statement)
+        then Some (asked (nodes_of (bytes_of page.policy)) (statement_node statement)) else None) }
     ensures { value_text result ≡ values.value_shown (texts_of page.entry)
         (world_of page.entry) page.entry.stores.now (statement_node statement.entry) }
 {
@@ -176,6 +170,6 @@ pub(crate) fn statement_value<'a, 's, C: Conditions>(
         StatementKind::Text(op) => RowValue::Text(page.languages.text(page.choice, op.second())),
         StatementKind::ResetButton(_) => RowValue::ResetButton,
         StatementKind::Ref(op) => RowValue::Reference(op.target()),
-        _ => question_value(page, statement),
+        _ => question_value(page, statement, question),
     }
 }

@@ -1,13 +1,15 @@
 -- Forms, statements and options are indexed.
-use Rattle.std.proofs.Common.{◌≡◌, ℕ, true, refl, inl, inr}
+use Rattle.std.proofs.Common.{◌≡◌, ℕ, true, Option, List, refl, sym, ap, ◌∙◌, inl, inr}
 use Rattle.std.proofs.lemmas.Bool.{cases_Bool}
-use Rattle.ifr_opcodes.specs.Forest.{Placed}
+use Rattle.ifr_opcodes.specs.Forest.{Placed, SpellsForest}
+use Rattle.ifr_opcodes.specs.Reading.{tree_of}
 use Rattle.ifr_scopes.specs.Guards.{guards}
+use Rattle.ifr_scopes.specs.code.Checked.{IsNodeOf}
 use Rattle.ifr_scopes.specs.code.Index.{is_indexed, guards_of_indexed, lock_of_indexed}
 use Rattle.ifr_scopes.specs.Locks.{first_lock}
-use Rattle.ifr_scopes.specs.Nodes.{is_form, is_statement, is_option}
-use Rattle.guard_policy.specs.Policy.{covered_by, covered}
-use Rattle.guard_policy.specs.World.{World}
+use Rattle.ifr_scopes.specs.Nodes.{nodes_of, is_form, is_statement, is_option}
+use Rattle.ifr_scopes.proofs.PathLemmas.{own_guards, own_lock}
+use Rattle.ifr_scopes.proofs.ViewLemmas.{contains_found}
 
 pub of_form : (n : Placed) → is_form n ≡ true → is_indexed n ≡ true
 of_form n is = rw is refl
@@ -27,7 +29,10 @@ of_option n is = elim (cases_Bool (is_form n)) [
   ]
 ]
 
--- what is looked up at the place of a node covers the node
-pub covered_there : (w : World) (n : Placed) (place : ℕ) → place ≡ n.place → guards_of_indexed w.nodes n.place ≡ guards n → lock_of_indexed w.nodes n.place ≡ first_lock w.nodes n
-    → covered_by w (guards_of_indexed w.nodes place) (lock_of_indexed w.nodes place) ≡ covered w n
-covered_there w n place at gs lock = rw (at, gs, lock) refl
+-- the guards that are looked up at the place of a node are those of the node
+pub guards_there : (bytes : List ℕ) (n : Placed) (place : ℕ) (gs : List Placed) → SpellsForest bytes (tree_of bytes) → IsNodeOf bytes n → is_indexed n ≡ true → n.place ≡ place → gs ≡ guards_of_indexed (nodes_of bytes) place → gs ≡ guards n
+guards_there bytes n place gs s node indexed at e = e ∙ ap (guards_of_indexed (nodes_of bytes)) (sym at) ∙ own_guards bytes n s (contains_found (nodes_of bytes) n.place n node) indexed
+
+-- and so is the LOCKED
+pub lock_there : (bytes : List ℕ) (n : Placed) (place : ℕ) (lock : Option Placed) → SpellsForest bytes (tree_of bytes) → IsNodeOf bytes n → is_indexed n ≡ true → n.place ≡ place → lock ≡ lock_of_indexed (nodes_of bytes) place → lock ≡ first_lock (nodes_of bytes) n
+lock_there bytes n place lock s node indexed at e = e ∙ ap (lock_of_indexed (nodes_of bytes)) (sym at) ∙ own_lock bytes n s (contains_found (nodes_of bytes) n.place n node) indexed

@@ -4,6 +4,7 @@ pub mod DenialLemmas
 pub mod RemovedLemmas
 pub mod ClosedLemmas
 pub mod IndexedLemmas
+pub mod CoveringLemmas
 pub mod AskedLemmas
 pub mod SupportLemmas
 pub mod KeptLemmas

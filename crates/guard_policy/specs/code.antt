@@ -3,6 +3,7 @@ pub mod Answers
 pub mod AskedLeft
 pub mod Effects
 pub mod KeptConditions
+pub mod Standings
 pub mod SupportLeft
 pub mod Views
 pub mod WarningsLeft

@@ -1,12 +1,16 @@
 //! What guards and LOCKED do to what they stand around.
 
-ghost use Rattle.std.specs.Prelude.{◌≡◌, true, option_map};
+ghost use Rattle.std.specs.Prelude.{◌≡◌, true, if◌then◌else◌, Some, option_map};
 ghost use Rattle.std.specs.List.{find, list_any};
 ghost use Rattle.ifr_opcodes.specs.Forest.{Placed};
+ghost use Rattle.ifr_scopes.specs.Guards.{guards};
+ghost use Rattle.ifr_scopes.specs.code.AroundViews.{around_guards, around_lock};
 ghost use Rattle.ifr_scopes.specs.code.Checked.{IsNodeOf};
-ghost use Rattle.ifr_scopes.specs.code.Index.{guards_of_indexed, is_indexed, lock_of_indexed};
-ghost use Rattle.ifr_scopes.specs.code.Lists.{guard_node, guards_left};
-ghost use Rattle.ifr_scopes.specs.Nodes.{nodes_of};
+ghost use Rattle.ifr_scopes.specs.code.Index.{is_indexed};
+ghost use Rattle.ifr_scopes.specs.code.Lists.{guard_node};
+ghost use Rattle.ifr_scopes.specs.code.LocksLeft.{lock_node};
+ghost use Rattle.ifr_scopes.specs.code.NoSubmitsLeft.{no_submit_node};
+ghost use Rattle.hii_questions.specs.declared.denial.DenialKind.TheVariants.{GrayOutIf, Locked};
 ghost use Rattle.guard_policy.specs.code.Effects.{acts};
 ghost use Rattle.guard_policy.specs.Policy as spec;
 ghost use Rattle.guard_policy.specs.code.Answers as denying;
@@ -18,7 +22,32 @@ use crate::effect::{Effect, hiding};
 use crate::policy::Policy;
 use hii_questions::DenialKind;
 use ifr_opcodes::{DISABLE_IF, GRAY_OUT_IF, SUPPRESS_IF};
-use ifr_scopes::{AnyCondition, Guard, GuardsAt};
+use ifr_scopes::{AnyCondition, Around, Guard, LockView, NoSubmit};
+
+/// Of the guards around a form, a statement or an option, of each effect the outermost that has it.
+#[derive(Clone, Copy, Debug)]
+pub(crate) struct Effects<'a> {
+    pub(crate) hides: Option<Guard<'a>>,
+    pub(crate) grays_out: Option<Guard<'a>>,
+}
+
+/// What forbids that something is changed that is not hidden: the guard that grays it out, else the LOCKED.
+pub(crate) fn unless_grayed_out(
+    grays_out: Option<Guard<'_>>,
+    lock: Option<LockView<'_>>,
+) -> Result<(), Denial>
+    ensures { result ≡ denying.unless
+        (spec.or_else (option_map (spec.denied_by GrayOutIf) (option_map guard_node grays_out.entry))
+        (option_map (spec.denied_by Locked) (option_map lock_node lock.entry))) }
+{
+    if let Some(guard) = grays_out {
+        return Err(Denial::by(DenialKind::GrayOutIf, guard.place()));
+    }
+    match lock {
+        Some(lock) => Err(Denial::by(DenialKind::Locked, lock.place())),
+        None => Ok(()),
+    }
+}
 
 impl<'a, 's> Policy<'a, 's> {
     // Whether a guard has an effect.
@@ -34,32 +63,72 @@ impl<'a, 's> Policy<'a, 's> {
         }
     }
 
-    // The outermost guard with an effect on the form, statement or option at a place.
-    fn first_guard<V: Verdicts<'a>>(
+    // Of an effect the outermost guard that has it, where this guard stands around those of which it is known.
+    fn outermost<V: Verdicts<'a>>(
         &self,
         effect: Effect,
-        place: u32,
+        guard: Guard<'a>,
+        inner: Option<Guard<'a>>,
         verdicts: &V,
     ) -> Option<Guard<'a>>
         ensures { option_map guard_node result
-            ≡ find (acts effect (world_by self.now (V.met verdicts.now)))
-            (guards_of_indexed (nodes_of self.now.forms.now) place) }
+            ≡ (if acts effect (world_by self.now (V.met verdicts.now)) (guard_node guard.entry)
+            then Some (guard_node guard.entry) else option_map guard_node inner.entry) }
     {
-        let mut guards = self.forms.guards_at(place);
-        while let Some(guard) = guards.next() {
-            if self.acts(effect, guard, verdicts) {
-                return Some(guard);
-            }
+        if self.acts(effect, guard, verdicts) {
+            Some(guard)
+        } else {
+            inner
         }
-        None
     }
 
-    /// Whether one of some guards was removed.
-    pub(crate) fn is_removed(&self, guards: GuardsAt<'_, 'a>) -> bool
-        ensures { result ≡ list_any (spec.is_removed self.now.removed.now)
-            (guards_left guards.entry) }
+    // The outermost guard that hides.
+    fn hiding_guard<V: Verdicts<'a>>(
+        &self,
+        around: Around<'_, 'a>,
+        verdicts: &V,
+    ) -> Option<Guard<'a>>
+        ensures { option_map guard_node result
+            ≡ find (spec.hides (world_by self.now (V.met verdicts.now)))
+            (around_guards around.entry) }
     {
-        let mut guards = guards;
+        let mut hides = None;
+        let mut guards = around.guards();
+        while let Some(guard) = guards.next() {
+            hides = self.outermost(Effect::Hides, guard, hides, verdicts);
+        }
+        hides
+    }
+
+    /// The outermost guards with each effect.
+    pub(crate) fn effects<V: Verdicts<'a>>(
+        &self,
+        around: Around<'_, 'a>,
+        verdicts: &V,
+    ) -> Effects<'a>
+        ensures hides { option_map guard_node result.hides
+            ≡ find (spec.hides (world_by self.now (V.met verdicts.now)))
+            (around_guards around.entry) }
+        ensures grays_out { option_map guard_node result.grays_out
+            ≡ find (spec.grays_out (world_by self.now (V.met verdicts.now)))
+            (around_guards around.entry) }
+    {
+        let mut hides = None;
+        let mut grays_out = None;
+        let mut guards = around.guards();
+        while let Some(guard) = guards.next() {
+            hides = self.outermost(Effect::Hides, guard, hides, verdicts);
+            grays_out = self.outermost(Effect::GraysOut, guard, grays_out, verdicts);
+        }
+        Effects { hides, grays_out }
+    }
+
+    /// Whether a DISABLE_IF around a condition that denies a submission was removed.
+    pub(crate) fn is_removed(&self, nosubmit: &NoSubmit<'_, 'a>) -> bool
+        ensures { result ≡ list_any (spec.is_removed self.now.removed.now)
+            (guards (no_submit_node nosubmit.now)) }
+    {
+        let mut guards = nosubmit.guards;
         while let Some(guard) = guards.next() {
             if guard.op().code == DISABLE_IF && self.removed(guard.place()) {
                 return true;
@@ -68,42 +137,33 @@ impl<'a, 's> Policy<'a, 's> {
         false
     }
 
-    // What is not hidden of the form, statement or option at a place.
-    fn unless_hidden<V: Verdicts<'a>>(&self, place: u32, verdicts: &V) -> Result<(), Denial>
-        ensures { result ≡ denying.unless
-            (spec.hidden_among (world_by self.now (V.met verdicts.now))
-            (guards_of_indexed (nodes_of self.now.forms.now) place)) }
-    {
-        match self.first_guard(Effect::Hides, place, verdicts) {
-            Some(guard) => Err(hiding(guard)),
-            None => Ok(()),
-        }
-    }
-
-    // What around the form, statement or option at a place lets it not be changed.
-    fn unless_covered<V: Verdicts<'a>>(&self, place: u32, verdicts: &V) -> Result<(), Denial>
-        ensures { result ≡ denying.unless
-            (spec.covered_by (world_by self.now (V.met verdicts.now))
-            (guards_of_indexed (nodes_of self.now.forms.now) place)
-            (lock_of_indexed (nodes_of self.now.forms.now) place)) }
-    {
-        self.unless_hidden(place, verdicts)?;
-        if let Some(guard) = self.first_guard(Effect::GraysOut, place, verdicts) {
-            return Err(Denial::by(DenialKind::GrayOutIf, guard.place()));
-        }
-        match self.forms.lock_at(place) {
-            Some(lock) => Err(Denial::by(DenialKind::Locked, lock.place())),
-            None => Ok(()),
-        }
-    }
-
     /// Whether the form, statement or option at a place is seen.
     pub(crate) fn seen_at<V: Verdicts<'a>>(&self, place: u32, verdicts: &V) -> Result<(), Denial>
         ensures { (n : Placed) → IsNodeOf self.now.forms.now n → is_indexed n ≡ true
             → n.place ≡ place → result
             ≡ denying.unless (spec.hidden (world_by self.now (V.met verdicts.now)) n) }
     {
-        self.unless_hidden(place, verdicts)
+        match self.hiding_guard(self.forms.around(place), verdicts) {
+            Some(guard) => Err(hiding(guard)),
+            None => Ok(()),
+        }
+    }
+
+    // What of that around which this stands may not be changed.
+    fn unless_covered<V: Verdicts<'a>>(
+        &self,
+        around: Around<'_, 'a>,
+        verdicts: &V,
+    ) -> Result<(), Denial>
+        ensures { result ≡ denying.unless
+            (spec.covered_by (world_by self.now (V.met verdicts.now))
+            (around_guards around.entry) (around_lock around.entry)) }
+    {
+        let effects = self.effects(around, verdicts);
+        if let Some(guard) = effects.hides {
+            return Err(hiding(guard));
+        }
+        unless_grayed_out(effects.grays_out, around.lock())
     }
 
     /// Whether nothing around the form, statement or option at a place lets it not be changed.
@@ -116,6 +176,6 @@ impl<'a, 's> Policy<'a, 's> {
             → n.place ≡ place → result
             ≡ denying.unless (spec.covered (world_by self.now (V.met verdicts.now)) n) }
     {
-        self.unless_covered(place, verdicts)
+        self.unless_covered(self.forms.around(place), verdicts)
     }
 }

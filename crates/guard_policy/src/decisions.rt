@@ -1,11 +1,13 @@
 //! What a policy decides of forms, statements and options.
 
-ghost use Rattle.std.specs.Prelude.{◌≡◌};
+ghost use Rattle.std.specs.Prelude.{◌≡◌, option_and_then, option_map};
 ghost use Rattle.hii_varstore.specs.Stores.{StoreMap};
 ghost use Rattle.ifr_scopes.specs.code.Checked.{IsNodeOf};
 ghost use Rattle.ifr_scopes.specs.code.Lists.{form_node, statement_node};
 ghost use Rattle.ifr_scopes.specs.Nodes.{nodes_of};
 ghost use Rattle.ifr_scopes.specs.code.Parts.{option_node};
+ghost use Rattle.ifr_scopes.specs.declared.statement.Statement.{Statement};
+ghost use Rattle.hii_questions.specs.Fields.{asked};
 ghost use Rattle.hii_questions.specs.code.Views.{question_node, question_view};
 ghost use Rattle.guard_policy.specs.Policy as spec;
 ghost use Rattle.guard_policy.specs.code.Answers as denying;
@@ -44,6 +46,17 @@ fn fixed_question(question: Question<'_>) -> Result<(), Denial>
         return Ok(());
     };
     Err(Denial::by(kind, question.place()))
+}
+
+/// Whether what a statement is as a question forbids a change by itself: nothing does where it is none.
+pub(crate) fn fixed_as_question(question: Option<Question<'_>>) -> Result<(), Denial>
+    ensures { result ≡ denying.unless
+        (option_and_then spec.fixed_question (option_map question_view question.entry)) }
+{
+    match question {
+        Some(question) => fixed_question(question),
+        None => Ok(()),
+    }
 }
 
 impl<'a, 's> Policy<'a, 's> {
@@ -137,10 +150,7 @@ impl<'a, 's> Policy<'a, 's> {
         ensures { result ≡ denying.unless
             (spec.fixed_itself (nodes_of self.now.forms.now) (statement_node statement.entry)) }
     {
-        match self.question(statement) {
-            Some(question) => fixed_question(question),
-            None => Ok(()),
-        }
+        fixed_as_question(self.question(statement))
     }
 
     // Whether a statement may be changed, by conditions from anywhere.
@@ -180,6 +190,38 @@ impl<'a, 's> Policy<'a, 's> {
             (Changeable statement.entry) result }
     {
         self.changeable_with(statement, &ByConditions { conditions })
+    }
+
+    // Whether a question may be changed, by conditions from anywhere.
+    fn question_changeable_with<V: Verdicts<'a>>(
+        &self,
+        question: Question<'a>,
+        verdicts: &V,
+    ) -> Result<(), Denial>
+        requires node { IsNodeOf self.now.forms.now (question_node question) }
+        requires asked { question_view question
+            ≡ asked (nodes_of self.now.forms.now) (question_node question) }
+        ensures { result ≡ denying.unless
+            (spec.fixed (world_by self.now (V.met verdicts.now)) (question_node question.entry)) }
+    {
+        self.uncovered_at(question.place(), verdicts)?;
+        fixed_question(question)
+    }
+
+    /// Whether a question of the package may be changed, by what is kept of conditions: what `changeable_by` answers of its
+    /// statement, with no search for the question.
+    pub fn question_changeable_by<C: Conditions>(
+        &self,
+        question: Question<'a>,
+        conditions: &C,
+    ) -> Result<(), Denial>
+        requires node { IsNodeOf self.now.forms.now (question_node question) }
+        requires asked { question_view question
+            ≡ asked (nodes_of self.now.forms.now) (question_node question) }
+        ensures { (statement : Statement) → statement_node statement ≡ question_node question.entry
+            → DecidesBy (C.holding conditions.now) (world self.now) (Changeable statement) result }
+    {
+        self.question_changeable_with(question, &ByConditions { conditions })
     }
 
     // Whether a question may be given a value of its options, by conditions from anywhere.

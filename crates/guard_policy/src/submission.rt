@@ -21,7 +21,7 @@ impl<'a, 's> Submission<'a, 's> {
         ensures { YieldsFirstBy condition_node submission_left self.old result self.new }
     {
         while let Some(nosubmit) = self.conditions.next() {
-            if !self.policy.is_removed(nosubmit.guards) {
+            if !self.policy.is_removed(&nosubmit) {
                 return Some(nosubmit.condition);
             }
         }

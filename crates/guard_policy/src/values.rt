@@ -71,7 +71,7 @@ impl<'a, 's> Policy<'a, 's> {
             (no_submit_node nosubmit.entry) }
     {
         let condition = AnyCondition::Question(nosubmit.condition);
-        !self.is_removed(nosubmit.guards) && verdicts.is_met(condition)
+        !self.is_removed(&nosubmit) && verdicts.is_met(condition)
     }
 
     // Whether stores may be submitted, by conditions from anywhere.

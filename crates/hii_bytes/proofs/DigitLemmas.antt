@@ -1,13 +1,12 @@
 -- Numbers as digits, and what is read of them.
-use Rattle.std.proofs.Common.{◌≡◌, ◌==◌, ◌&&◌, ℕ, zero, suc, ◌^◌, ◌<◌, ◌≤◌, Bool, true, List, [], ◌∷◌, length, get_or, Option, Some, None, Result, Ok, Err, refl, sym, ap, subst, ◌∙◌, arith, inl, inr, ltb, leb}
+use Rattle.std.proofs.Common.{◌≡◌, ◌&&◌, ℕ, zero, suc, ◌+◌, ◌*◌, ◌^◌, ◌<◌, ◌≤◌, Bool, true, List, [], ◌∷◌, length, take, take_all, get_or, Option, Some, None, refl, sym, ap, subst, ◌∙◌, arith, inl, inr, ltb, leb}
 use Rattle.std.specs.Char.{is_digit, digit_value}
 use Rattle.std.specs.List.{list_all}
-use Rattle.std.specs.Result.{result_ok}
-use Rattle.std.specs.Str.{IsUtf8}
-use Rattle.std.specs.Str.Parse.{AllDigits, digits_value, without_leading_plus, ParsesUnsigned}
-use Rattle.std.proofs.lemmas.Bool.{and_parts, and_from, cases_Bool, cond-true, cond-false, eqb-true, ltb-true, lt-ltb, leb-true, le-leb}
-use Rattle.std.proofs.lemmas.Bool.Decides.{nat_tests}
-use Rattle.std.proofs.lemmas.Str.{IsUtf8-from_ascii}
+use Rattle.std.specs.Str.Parse.{AllDigits, digits_value}
+use Rattle.std.proofs.lemmas.Int.Digits.{digits_value_more}
+use Rattle.std.proofs.lemmas.Str.Parse.{digits_value-take-le}
+use Rattle.std.proofs.lemmas.Bool.{and_parts, and_from, cases_Bool, cond-true, cond-false, ltb-true, lt-ltb, leb-true, le-leb}
+use native.Mathlib.Numerals.{unary_clauses}
 use Rattle.hii_bytes.specs.Digits.{IsNumber, number_below}
 
 all_digits-to : (radix : ℕ) (text : List ℕ) → list_all (λ byte. is_digit byte radix) text ≡ true → AllDigits radix text
@@ -47,37 +46,50 @@ number_below-is limit radix most text n e = elim (cases_Bool (tests limit radix 
   | inr other ↦ let none : ◌≡◌ {A = Option ℕ} None (Some n) = sym (cond-false (tests limit radix most text) (Some (digits_value radix text)) None other) ∙ e in (cc)
 ]
 
--- digits are ASCII, and none is a plus
-digit_below : (radix : ℕ) (text : List ℕ) → radix ≤ 36 → AllDigits radix text → (i : ℕ) → get_or text i 0 < 128
-digit_below radix [] small h i = omega arith
-digit_below radix (b ∷ text) small h zero = let d = h.0 in grind (arith, nat_tests)
-digit_below radix (b ∷ text) small h (suc i) = digit_below radix text small h.1 i
-
-pub IsUtf8-digits : (radix : ℕ) (text : List ℕ) → radix ≤ 36 → list_all (λ byte. is_digit byte radix) text ≡ true → IsUtf8 text
-IsUtf8-digits radix text small e = IsUtf8-from_ascii text (digit_below radix text small (all_digits-to radix text e))
-
-no_plus : (radix : ℕ) (text : List ℕ) → radix ≤ 36 → AllDigits radix text → without_leading_plus text ≡ text
-no_plus radix [] small h = refl
-no_plus radix (b ∷ text) small h = elim (cases_Bool (b == 43)) [
-  | inl e ↦ let bad : digit_value 43 < radix = subst (λ x. digit_value x < radix) (eqb-true b 43 e) h.0 in absurd (omega (arith, bad, small))
-  | inr e ↦ rw e refl
-]
-
-number_below-none : (limit radix most : ℕ) (text : List ℕ) → ((n : ℕ) → IsNumber radix most limit text n → ⊥) → None ≡ number_below limit radix most text
+pub number_below-none : (limit radix most : ℕ) (text : List ℕ) → ((n : ℕ) → IsNumber radix most limit text n → ⊥) → None ≡ number_below limit radix most text
 number_below-none limit radix most text none = go (number_below limit radix most text) refl
   where
     go : (o : Option ℕ) → number_below limit radix most text ≡ o → None ≡ o
     go None e = refl
     go (Some n) e = absurd (none n (number_below-is limit radix most text n e))
 
--- what `from_str_radix` reads of digits
-pub parsed : {E : Type 0} (radix most : ℕ) (text : List ℕ) (r : Result ℕ E) → radix ≤ 36 → length text ≤ most → list_all (λ byte. is_digit byte radix) text ≡ true
-    → ParsesUnsigned 64 radix text r → result_ok r ≡ number_below (2 ^ 64) radix most text
-parsed radix most text (Ok n) small few digits h =
-    let plain = no_plus radix text small (all_digits-to radix text digits) in
-    let p = rw plain at h in
-    sym (number_below-from (2 ^ 64) radix most text n (record { digits = p.0.0; few = few; value = sym p.1; small = omega (arith, p.0.1, p.1) }))
-parsed radix most text (Err e) small few digits h =
-    let plain = no_plus radix text small (all_digits-to radix text digits) in
-    let p = rw plain at h in
-    number_below-none (2 ^ 64) radix most text (λ n is. p (is.digits, omega (arith, is.value, is.small)))
+digit_at : (radix : ℕ) (text : List ℕ) (i : ℕ) → AllDigits radix text → i < length text → digit_value (get_or text i 0) < radix
+digit_at radix [] i h inside = absurd (omega (arith, inside))
+digit_at radix (b ∷ text) zero h inside = h.0
+digit_at radix (b ∷ text) (suc i) h inside = digit_at radix text i h.1 (omega (arith, inside))
+
+one_more : (radix : ℕ) (text : List ℕ) (i : ℕ) → AllDigits radix (take i text) → i < length text → digit_value (get_or text i 0) < radix
+    → AllDigits radix (take (i + 1) text)
+one_more radix [] i h inside d = absurd (omega (arith, inside))
+one_more radix (b ∷ text) zero h inside d = (d, tt)
+one_more radix (b ∷ text) (suc i) h inside d = simp unary_clauses (h.0, simp unary_clauses at (one_more radix text i h.1 (omega (arith, inside)) d))
+
+-- a number that was read with one more digit
+pub digit_read : (radix : ℕ) (text : List ℕ) (i n : ℕ) → i < length text → AllDigits radix (take i text) × (n ≡ digits_value radix (take i text))
+    → digit_value (get_or text i 0) < radix
+    → AllDigits radix (take (i + 1) text) × (n * radix + digit_value (get_or text i 0) ≡ digits_value radix (take (i + 1) text))
+digit_read radix text i n inside so_far d =
+    (one_more radix text i so_far.0 inside d, rw so_far.1 (sym (digits_value_more radix text i inside)))
+
+-- a byte after which there is no number below the limit
+pub digit_refused : (radix most : ℕ) (text : List ℕ) (i n : ℕ) → 1 ≤ radix → i < length text → n ≡ digits_value radix (take i text)
+    → ((digit_value (get_or text i 0) < radix) × (n * radix + digit_value (get_or text i 0) < 2 ^ 64) → ⊥)
+    → None ≡ number_below (2 ^ 64) radix most text
+digit_refused radix most text i n some inside so_far refused =
+    number_below-none (2 ^ 64) radix most text (λ m is.
+    let value : n * radix + digit_value (get_or text i 0) ≡ digits_value radix (take (i + 1) text) = rw so_far (sym (digits_value_more radix text i inside)) in
+    let most_of : digits_value radix (take (i + 1) text) ≤ digits_value radix text = digits_value-take-le radix text (i + 1) some in
+    refused (digit_at radix text i is.digits.1 inside, omega (arith, value, most_of, is.value, is.small)))
+
+-- digits that were all read
+pub digits_read : (radix most : ℕ) (text : List ℕ) (i n : ℕ) → 0 < length text → length text ≤ most → length text ≤ i
+    → AllDigits radix (take i text) × (n ≡ digits_value radix (take i text)) → n < 2 ^ 64
+    → Some n ≡ number_below (2 ^ 64) radix most text
+digits_read radix most text i n some few end so_far small =
+    let all : take i text ≡ text = take_all i text end in
+    sym (number_below-from (2 ^ 64) radix most text n (record {
+      digits = (some, subst (AllDigits radix) all so_far.0);
+      few = few;
+      value = sym (so_far.1 ∙ ap (digits_value radix) all);
+      small = small;
+    }))

@@ -1,6 +1,8 @@
 pub mod NumberLemmas
 pub mod DigitLemmas
 pub mod NumberListLemmas
+pub mod NumberSetLemmas
+pub mod SearchLemmas
 pub mod FaultLemmas
 pub mod WritingLemmas
 pub mod FirstFaultLemmas

@@ -1,6 +1,6 @@
 -- What a watched reader or writer shows (own rule).
 use Rattle.std.specs.Prelude.{◌≡◌, ℕ, ◌<◌, ◌≤◌, ◌+◌, ◌-◌, ◌^◌, min, Bool, true, false, List, length, take, Option, Result, Ok, Err}
-use Rattle.std.specs.Io.KnownBytes.{Appends}
+use Rattle.std.specs.Io.KnownBytes.{Appends, Keeps}
 use Rattle.hii_bytes.specs.declared.watched.Watched.{Watched}
 use Rattle.hii_bytes.specs.declared.writing.WriteFault.{WriteFault}
 
@@ -35,6 +35,20 @@ pub record Writes (old new : Pen) (text : List ℕ) : Type 0 where
   pub after_fault : old.broken ≡ true → (part ≡ 0) × (new.broken ≡ true)
   pub whole : new.broken ≡ false → part ≡ length text
   pub short : old.broken ≡ false → new.broken ≡ true → part < length text
+
+-- What a writer held back was passed on, or it failed.
+pub record Flushes (old new : Pen) : Type 0 where
+  pub kept : Keeps old.known new.known
+  pub counted : new.count ≡ old.count
+  pub after_fault : old.broken ≡ true → new.broken ≡ true
+
+-- A text was written whole or in part, and then the writer failed.
+pub record BreaksWithin (old new : Pen) (text : List ℕ) : Type 0 where
+  pub part : ℕ
+  pub within : part ≤ length text
+  pub appended : Appends old.known new.known (take part text)
+  pub counted : new.count ≡ saturating_sum old.count part
+  pub broken : new.broken ≡ true
 
 -- A text was put into a watched writer, of which `contents` says what it holds.
 abbrev pub Puts : {T : Type 0} → (T → Option (List ℕ)) → Watched T → Watched T → List ℕ → Type 0

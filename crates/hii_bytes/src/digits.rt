@@ -1,29 +1,32 @@
 //! Numbers as digits.
 
-ghost use Rattle.std.specs.Prelude.{◌≡◌, ◌⊎◌, ◌^◌};
-ghost use Rattle.std.specs.Char.{is_digit};
-ghost use Rattle.std.specs.List.{list_all};
+ghost use Rattle.std.specs.Prelude.{◌≡◌, ◌⊎◌, ◌^◌, ◌<◌, ◌+◌, ◌*◌, SomeIff};
+ghost use Rattle.std.specs.Char.{digit_value};
 ghost use Rattle.hii_bytes.specs.Digits.{number_below};
-
-use std::str;
 
 /// The number below 2^64 that one to `most` digits of the radix 10 or 16 write, if the text is that.
 pub fn number_of_digits(text: &[u8], radix: u32, most: usize) -> Option<u64>
     requires { (radix ≡ 10) ⊎ (radix ≡ 16) }
     ensures { result ≡ number_below (2 ^ 64) radix most text.now }
 {
-    if text.len() > most || !are_digits(text, radix) {
+    if text.is_empty() || text.len() > most {
         return None;
     }
-    match str::from_utf8(text) {
-        Ok(digits) => u64::from_str_radix(digits, radix).ok(),
-        Err(_) => None,
+    let mut number = 0;
+    for byte in text {
+        number = with_digit(number, *byte, radix)?;
     }
+    Some(number)
 }
 
-fn are_digits(text: &[u8], radix: u32) -> bool
+// The number with one more digit, if the byte is one and it stays below 2^64.
+fn with_digit(number: u64, byte: u8, radix: u32) -> Option<u64>
     requires { (radix ≡ 10) ⊎ (radix ≡ 16) }
-    ensures { result ≡ list_all (λ byte. is_digit byte radix) text.now }
+    ensures { SomeIff result ((digit_value byte < radix)
+        × (number * radix + digit_value byte < 2 ^ 64)) (number * radix + digit_value byte) }
 {
-    text.iter().all(|byte| char::from(*byte).is_digit(radix))
+    let digit = char::from(byte).to_digit(radix)?;
+    number
+        .checked_mul(u64::from(radix))?
+        .checked_add(u64::from(digit))
 }

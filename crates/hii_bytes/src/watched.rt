@@ -7,8 +7,8 @@ ghost use Rattle.hii_bytes.specs.code.Writing.{taken_of};
 
 use std::io::{Error, ErrorKind, Read, Result, Write};
 
-/// A reader or writer that remembers whether a read or a write was a fault: an error of any kind, or a write of some
-/// bytes that took none. From then on each read and write is a fault.
+/// A reader or writer that remembers whether a read, a write or a flush was a fault: an error of any kind, or a write of some
+/// bytes that took none. From then on each of them is a fault.
 #[derive(Drop)]
 pub struct Watched<T> {
     inner: T,
@@ -30,7 +30,7 @@ impl<T> Watched<T> {
         }
     }
 
-    /// Whether a read or a write erred, or a write of some bytes took none.
+    /// Whether a read, a write or a flush erred, or a write of some bytes took none.
     pub fn failed(&self) -> bool
         ensures { result ≡ has_failed self.now }
     {
@@ -112,9 +112,15 @@ impl<W: Write> Write for Watched<W> {
 
     fn flush(&mut self) -> Result<()>
         ensures bytes { Keeps (W.contents (inner_of self.old)) (W.contents (inner_of self.new)) }
-        ensures failed { has_failed self.new ≡ has_failed self.old }
         ensures counted { taken_of self.new ≡ taken_of self.old }
+        ensures fault { has_failed self.new ≡ is_err result }
+        ensures stays { has_failed self.old ≡ true → IsErr result }
     {
-        self.inner.flush()
+        if self.is_failed {
+            return Err(Error::from(ErrorKind::Other));
+        }
+        let flushed = self.inner.flush();
+        self.is_failed = flushed.is_err();
+        flushed
     }
 }

@@ -1,27 +1,31 @@
 -- The questions of a package by their fields, and its passwords.
-use Rattle.std.proofs.Common.{◌≡◌, ℕ, zero, suc, Bool, true, false, eqb, ◌==◌, ◌&&◌, Option, Some, None, List, [], ◌∷◌, map, refl, sym, ap, ◌∙◌, arith, inl, inr, filter, find, is_eq, option_map, Contains}
+use Rattle.std.proofs.Common.{◌≡◌, ℕ, zero, suc, Bool, true, false, eqb, ◌==◌, ◌&&◌, Option, Some, None, List, [], ◌∷◌, map, refl, sym, ap, subst, ◌∙◌, arith, inl, inr, filter, find, is_eq, option_map, Contains}
 use Rattle.std.specs.Cmp.{IsTotalOrder, nat_cmp_total, on_total, then_total}
 use Rattle.std.specs.Cmp.Lexicographic.{options_total}
 use Rattle.std.specs.Option.{option_cmp}
 use Rattle.std.specs.declared.cmp.Ordering.{Ordering}
 use Rattle.std.specs.declared.cmp.Ordering.TheVariants.{Less, Equal, Greater}
 use Rattle.std.specs.Ordering.{nat_cmp, ordering_then}
-use Rattle.std.specs.BTreeMap.{BTreeMap}
 use Rattle.std.proofs.lemmas.Bool.{and_parts, cases_Bool, eqb-true}
+use Rattle.std.proofs.lemmas.List.Elements.{All-filter}
 use Rattle.ifr_scopes.specs.Nodes.{nodes_of}
+use Rattle.ifr_scopes.specs.code.Checked.{node_in}
 use Rattle.ifr_scopes.proofs.ViewLemmas.{further}
 use Rattle.hii_varstore.proofs.TableLemmas.{is_eq-nat_cmp}
-use Rattle.hii_questions.specs.Fields.{Field, questions, field_passes, is_same_field, has_field, meets, is_password, is_password_in}
-use Rattle.hii_questions.specs.code.ByField.{range_cmp}
+use Rattle.hii_questions.specs.Fields.{Field, questions, field_passes, is_same_field, has_field, is_password, is_password_in}
+use Rattle.hii_questions.specs.code.ByField.{has_range, range_cmp}
+use Rattle.hii_questions.specs.code.Entries.{AreQuestionEntries, IsQuestionEntry, entry_field, entry_view}
 use Rattle.hii_questions.specs.code.Ranges.{range_in}
 use Rattle.hii_questions.specs.code.Tables.{AreQuestions}
-use Rattle.hii_questions.specs.code.Views.{question_node, question_view}
+use Rattle.hii_bytes.specs.declared.id_table.IdEntry.{IdEntry}
+use Rattle.hii_questions.specs.declared.entry.QuestionEntry.{QuestionEntry}
 use Rattle.hii_questions.specs.declared.field_range.FieldRange.{FieldRange}
 use Rattle.hii_questions.specs.declared.merging.Step.{Step}
-use Rattle.hii_questions.specs.declared.question.Question.{Question}
 use Rattle.hii_questions.specs.laws.Fields.{HaveTheField}
+use Rattle.hii_questions.proofs.EntryLemmas.{found_holds}
 use Rattle.hii_questions.proofs.OrderLemmas.{filter_mapped}
 use Rattle.hii_questions.proofs.QuestionLemmas.{found_among, found_mapped}
+use Rattle.hii_questions.proofs.StepLemmas.{meets_in}
 
 pub range_total : IsTotalOrder (option_cmp range_cmp)
 range_total = options_total (then_total (on_total (λ (f : FieldRange). f.store) nat_cmp_total) (then_total (on_total (λ (f : FieldRange). f.offset) nat_cmp_total) (on_total (λ (f : FieldRange). f.width) nat_cmp_total)))
@@ -48,19 +52,26 @@ tells None f = refl
 tells (Some g) f = same_tells g f
 
 -- The comparison with a field ties for the questions that have it.
-pub ties_are : (f : FieldRange) → ◌≡◌ {A = Question → Bool} (λ q. is_eq (option_cmp range_cmp q.field (Some f))) (λ q. has_field (range_in f) (question_view q))
-ties_are f = λ i q. tells q.field f i
+pub ties_are : (f : FieldRange) → ◌≡◌ {A = QuestionEntry → Bool} (λ e. is_eq (option_cmp range_cmp (entry_field e) (Some f))) (has_range f)
+ties_are f = λ i e. tells (entry_field e) f i
 
-module _ (ifr : List ℕ) (qs : List Question) (ids : BTreeMap ℕ Question) (fs ps : List Question) (ss : List Step) (are : AreQuestions ifr qs ids fs ps ss) (f : FieldRange) where
-  pub fields_are : map question_view (filter (λ q. has_field (range_in f) (question_view q)) fs) ≡ filter (has_field (range_in f)) (questions (nodes_of ifr))
-  fields_are =
-      ap (map question_view) (are.ordered.kept f) ∙ sym (filter_mapped question_view (has_field (range_in f)) qs) ∙ ap (filter (has_field (range_in f))) are.placed
+module _ (ifr : List ℕ) (es : List QuestionEntry) (ids : List IdEntry) (fs ps : List QuestionEntry) (ss : List Step) (are : AreQuestions ifr es ids fs ps ss) (f : FieldRange) where
+  pub fields_are : map (entry_view ifr) (filter (has_range f) fs) ≡ filter (has_field (range_in f)) (questions (nodes_of ifr))
+  fields_are = ap (map (entry_view ifr)) (are.ordered.kept f) ∙ sym (filter_mapped (entry_view ifr) (has_field (range_in f)) es) ∙ ap (filter (has_field (range_in f))) are.placed
 
-  pub first_password : option_map question_view (find (λ q. field_passes (meets (range_in f)) (question_view q).field) ps) ≡ find (is_password_in (range_in f)) (questions (nodes_of ifr))
+  pub fields_kept : AreQuestionEntries ifr (filter (has_range f) fs)
+  fields_kept = subst (AreQuestionEntries ifr) (sym (are.ordered.kept f)) (All-filter (has_range f) (λ e. IsQuestionEntry ifr e) es are.kept)
+
+  pub first_password : option_map (entry_view ifr) (find (λ e. meets_in f (entry_field e)) ps) ≡ find (is_password_in (range_in f)) (questions (nodes_of ifr))
   first_password =
-      ap (λ l. option_map question_view (find (λ q. field_passes (meets (range_in f)) (question_view q).field) l)) are.secret
-      ∙ ap (option_map question_view) (found_among (λ q. is_password (question_node q)) (λ q. field_passes (meets (range_in f)) (question_view q).field) qs)
-      ∙ sym (found_mapped question_view (is_password_in (range_in f)) qs) ∙ ap (find (is_password_in (range_in f))) are.placed
+      ap (λ l. option_map (entry_view ifr) (find (λ e. meets_in f (entry_field e)) l)) are.secret
+      ∙ ap (option_map (entry_view ifr)) (found_among (λ e. is_password (node_in ifr e.place)) (λ e. meets_in f (entry_field e)) es) ∙ sym (found_mapped (entry_view ifr) (is_password_in (range_in f)) es)
+      ∙ ap (find (is_password_in (range_in f))) are.placed
+
+  pub password_kept : (e : QuestionEntry) → find (λ e. meets_in f (entry_field e)) ps ≡ Some e → IsQuestionEntry ifr e
+  password_kept e found =
+      let all : AreQuestionEntries ifr ps = subst (AreQuestionEntries ifr) (sym are.secret) (All-filter (λ e. is_password (node_in ifr e.place)) (λ e. IsQuestionEntry ifr e) es are.kept) in
+      found_holds (λ e. IsQuestionEntry ifr e) (λ e. meets_in f (entry_field e)) ps e all found
 
 -- ---- the questions with a field have it
 
@@ -70,7 +81,7 @@ first_or_later p y us ys x here later (zero, lt, e) = ((0, omega arith, e), ap p
 first_or_later p y us ys x here later (suc k, lt, e) = let found = later (k, omega arith, e) in (further y ys x found.0, found.1)
 
 -- what passes a test is among all
-passing : {X : Type 0} (p : X → Bool) (xs : List X) (x : X) → Contains (filter p xs) x → Contains xs x × (p x ≡ true)
+pub passing : {X : Type 0} (p : X → Bool) (xs : List X) (x : X) → Contains (filter p xs) x → Contains xs x × (p x ≡ true)
 passing p [] x (k, lt, e) = absurd (omega arith)
 passing p (y ∷ xs) x there = elim (cases_Bool (p y)) [
   | inl here ↦ first_or_later p y (filter p xs) xs x here (passing p xs x) (rw here at there)

@@ -2,6 +2,8 @@ pub mod ItemLemmas
 pub mod ListLemmas
 pub mod FaultLemmas
 pub mod QuestionLemmas
+pub mod EntryLemmas
+pub mod IdLemmas
 pub mod PartLemmas
 pub mod PlaceLemmas
 pub mod OrderLemmas

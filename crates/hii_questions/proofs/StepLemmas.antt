@@ -1,14 +1,15 @@
 -- Steps that tell of each byte which field is the first that has it.
-use Rattle.std.proofs.Common.{◌≡◌, ◌⊎◌, ℕ, zero, suc, ◌+◌, ◌-◌, ◌*◌, ◌≤◌, ◌<◌, ◌==◌, ◌&&◌, min, nat_le, nat_lt, Bool, true, false, Option, Some, None, option_map, List, [], ◌∷◌, ◌++◌, length, get_or, slice_get, drop, take, refl, sym, ap, subst, ◌∙◌, arith, inl, inr, find}
+use Rattle.std.proofs.Common.{◌≡◌, ◌⊎◌, ℕ, zero, suc, ◌+◌, ◌≤◌, ◌<◌, min, nat_le, nat_lt, Bool, true, false, Option, Some, None, option_map, List, [], ◌∷◌, ◌++◌, length, get_or, slice_get, drop, refl, sym, ap, ◌∙◌, arith, inl, inr, find}
 use Rattle.std.proofs.lemmas.Bool.{and_parts, cases_Bool, cases_lt, eqb-true, eq-eqb, leb-true, le-leb, ltb-true, lt-ltb}
 use Rattle.std.specs.List.Sorted.{IsPartitionPoint, IsPartitionedBy}
 use Rattle.hii_questions.specs.Fields.{field_passes, meets}
+use Rattle.hii_questions.specs.code.Entries.{entry_field}
 use Rattle.hii_questions.specs.code.Numbers.{first_of, behind_of}
 use Rattle.hii_questions.specs.code.Ranges.{range_in}
 use Rattle.hii_questions.specs.code.Steps.{AreSmall, AreSteps, IsLeastWithin, IsTold, StepsRise, first_from, has_number, is_small, least_met, told_behind, value_at}
+use Rattle.hii_questions.specs.declared.entry.QuestionEntry.{QuestionEntry}
 use Rattle.hii_questions.specs.declared.field_range.FieldRange.{FieldRange}
 use Rattle.hii_questions.specs.declared.merging.Step.{Step}
-use Rattle.hii_questions.specs.declared.question.Question.{Question}
 use Rattle.hii_questions.proofs.MergeLemmas.{not_up}
 
 -- ---- the least number up to a byte
@@ -173,41 +174,41 @@ apart f (Some g) at small small' none low high = elim (cases_Bool (has_number (S
 
 -- ---- the first of some questions
 
-first_between : (none k : ℕ) (qs : List Question) (at : ℕ) → k + length qs ≤ none → (k ≤ first_from none k qs at) × (first_from none k qs at ≤ none)
+first_between : (none k : ℕ) (qs : List QuestionEntry) (at : ℕ) → k + length qs ≤ none → (k ≤ first_from none k qs at) × (first_from none k qs at ≤ none)
 first_between none k [] at long = (omega (arith, long), omega arith)
-first_between none k (q ∷ qs) at long = elim (cases_Bool (has_number q.field at)) [
+first_between none k (q ∷ qs) at long = elim (cases_Bool (has_number (entry_field q) at)) [
   | inl has ↦ rw has (omega arith, omega (arith, long))
   | inr other ↦ let rest = first_between none (k + 1) qs at (omega (arith, long)) in rw other (omega (arith, rest.0), rest.1)
 ]
 
-pub first_split : (none k : ℕ) (xs ys : List Question) (at : ℕ) → k + length xs + length ys ≤ none → first_from none k (xs ++ ys) at ≡ min (first_from none k xs at) (first_from none (k + length xs) ys at)
+pub first_split : (none k : ℕ) (xs ys : List QuestionEntry) (at : ℕ) → k + length xs + length ys ≤ none → first_from none k (xs ++ ys) at ≡ min (first_from none k xs at) (first_from none (k + length xs) ys at)
 first_split none k [] ys at long =
     let rest = first_between none k ys at (omega (arith, long)) in
     let same : first_from none (k + 0) ys at ≡ first_from none k ys at = ap (λ (j : ℕ). first_from none j ys at) (omega arith) in
     omega (arith, same, rest.1)
-first_split none k (x ∷ xs) ys at long = elim (cases_Bool (has_number x.field at)) [
+first_split none k (x ∷ xs) ys at long = elim (cases_Bool (has_number (entry_field x) at)) [
   | inl has ↦ let rest = first_between none (k + suc (length xs)) ys at (omega (arith, long)) in rw has (omega (arith, rest.0))
   | inr other ↦
       let same : first_from none (k + 1 + length xs) ys at ≡ first_from none (k + suc (length xs)) ys at = ap (λ (j : ℕ). first_from none j ys at) (omega arith) in
       rw other (first_split none (k + 1) xs ys at (omega (arith, long)) ∙ ap (λ (v : ℕ). min (first_from none (k + 1) xs at) v) same)
 ]
 
-pub small_split : (xs ys : List Question) → AreSmall xs → AreSmall ys → AreSmall (xs ++ ys)
+pub small_split : (xs ys : List QuestionEntry) → AreSmall xs → AreSmall ys → AreSmall (xs ++ ys)
 small_split [] ys left right = right
 small_split (x ∷ xs) ys left right = (left.0, small_split xs ys left.1 right)
 
 -- the number of the first question that meets a field is the least that is told of its bytes
-abbrev pub IsFirst : ℕ → FieldRange → ℕ → List Question → ℕ → Type 0
+abbrev pub IsFirst : ℕ → FieldRange → ℕ → List QuestionEntry → ℕ → Type 0
 IsFirst none f k qs r =
     ((at : ℕ) → first_of f ≤ at → at < behind_of f → r ≤ first_from none k qs at)
     × ((r ≡ none) ⊎ ((at : ℕ) × (first_of f ≤ at) × (at < behind_of f) × (first_from none k qs at ≡ r)))
 
 -- Where the first question does not meet it, it is the first of the others.
-not_first : (none k r : ℕ) (f : FieldRange) (q : Question) (qs : List Question) → f.offset < 65536 → AreSmall (q ∷ qs) → k + suc (length qs) ≡ none → meets_in f q.field ≡ false → IsFirst none f k (q ∷ qs) r
+not_first : (none k r : ℕ) (f : FieldRange) (q : QuestionEntry) (qs : List QuestionEntry) → f.offset < 65536 → AreSmall (q ∷ qs) → k + suc (length qs) ≡ none → meets_in f (entry_field q) ≡ false → IsFirst none f k (q ∷ qs) r
     → (k + 1 ≤ r) × IsFirst none f (k + 1) qs r
 not_first none k r f q qs small all long other first =
     let later : (at : ℕ) → first_of f ≤ at → at < behind_of f → first_from none k (q ∷ qs) at ≡ first_from none (k + 1) qs at =
-    λ at low high. rw (apart f q.field at small all.0 other low high) refl in
+    λ at low high. rw (apart f (entry_field q) at small all.0 other low high) refl in
     let told : (r ≡ none) ⊎ ((at : ℕ) × (first_of f ≤ at) × (at < behind_of f) × (first_from none (k + 1) qs at ≡ r)) = elim first.1 [
       | inl over ↦ inl over
       | inr there ↦ inr (there.0, there.1, there.2, sym (later there.0 there.1 there.2) ∙ there.3)
@@ -220,24 +221,24 @@ not_first none k r f q qs small all long other first =
     )
 
 -- Where it does, no other number is less.
-is_first : (none k r : ℕ) (f : FieldRange) (q : Question) (qs : List Question) → f.offset < 65536 → AreSmall (q ∷ qs) → meets_in f q.field ≡ true → IsFirst none f k (q ∷ qs) r → r ≤ k
+is_first : (none k r : ℕ) (f : FieldRange) (q : QuestionEntry) (qs : List QuestionEntry) → f.offset < 65536 → AreSmall (q ∷ qs) → meets_in f (entry_field q) ≡ true → IsFirst none f k (q ∷ qs) r → r ≤ k
 is_first none k r f q qs small all met first =
-    let there = meets_is f q.field small all.0 met in
+    let there = meets_is f (entry_field q) small all.0 met in
     let here : first_from none k (q ∷ qs) there.0 ≡ k = rw there.3 refl in
     omega (arith, first.0 there.0 there.1 there.2, here)
 
-found_from : (none k r : ℕ) (f : FieldRange) (qs : List Question) (i : ℕ) → f.offset < 65536 → AreSmall qs → k + length qs ≡ none → r ≡ k + i → IsFirst none f k qs r → find (λ q. meets_in f q.field) qs ≡ slice_get qs i
+found_from : (none k r : ℕ) (f : FieldRange) (qs : List QuestionEntry) (i : ℕ) → f.offset < 65536 → AreSmall qs → k + length qs ≡ none → r ≡ k + i → IsFirst none f k qs r → find (λ q. meets_in f (entry_field q)) qs ≡ slice_get qs i
 found_from none k r f [] i small all long is first = refl
-found_from none k r f (q ∷ qs) zero small all long is first = elim (cases_Bool (meets_in f q.field)) [
+found_from none k r f (q ∷ qs) zero small all long is first = elim (cases_Bool (meets_in f (entry_field q))) [
   | inl met ↦ rw met refl
   | inr other ↦ absurd (omega (arith, is, (not_first none k r f q qs small all long other first).0))
 ]
-found_from none k r f (q ∷ qs) (suc i) small all long is first = elim (cases_Bool (meets_in f q.field)) [
+found_from none k r f (q ∷ qs) (suc i) small all long is first = elim (cases_Bool (meets_in f (entry_field q))) [
   | inl met ↦ absurd (omega (arith, is, is_first none k r f q qs small all met first))
   | inr other ↦ rw other (found_from none (k + 1) r f qs i small all.1 (omega (arith, long)) (omega (arith, is)) (not_first none k r f q qs small all long other first).1)
 ]
 
-pub first_found : (qs : List Question) (ss : List Step) (f : FieldRange) (r : ℕ) → f.offset < 65536 → AreSteps qs ss → IsLeastWithin ss (length qs) (first_of f) (behind_of f) r → find (λ q. meets_in f q.field) qs ≡ slice_get qs r
+pub first_found : (qs : List QuestionEntry) (ss : List Step) (f : FieldRange) (r : ℕ) → f.offset < 65536 → AreSteps qs ss → IsLeastWithin ss (length qs) (first_of f) (behind_of f) r → find (λ q. meets_in f (entry_field q)) qs ≡ slice_get qs r
 first_found qs ss f r small are least =
     found_from (length qs) 0 r f qs r small are.small (omega arith) (omega arith) (
       (λ at low high. omega (arith, least.least at low high, are.first at)),

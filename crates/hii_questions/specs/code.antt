@@ -4,8 +4,10 @@ pub mod Causes
 pub mod Checks
 pub mod ChoiceViews
 pub mod Contents
+pub mod Entries
 pub mod FaultTells
 pub mod Fitting
+pub mod Ids
 pub mod ItemsLeft
 pub mod Lists
 pub mod Merging

@@ -1,33 +1,34 @@
 //! Whether the stores hold the fields of all questions, and the options of lists suit.
 
-ghost use Rattle.std.specs.Prelude.{◌≡◌, map};
-ghost use Rattle.std.specs.BTreeSet.{contains};
+ghost use Rattle.std.specs.Prelude.{◌≡◌};
+ghost use Rattle.hii_bytes.specs.code.NumberSets.{has_number};
 ghost use Rattle.std.specs.List.{flat_map};
-ghost use Rattle.std.specs.Ordering.{nat_cmp};
 ghost use Rattle.hii_bytes.specs.code.FirstFaults.{first_cause};
 ghost use Rattle.ifr_scopes.specs.Nodes.{options};
 ghost use Rattle.ifr_scopes.specs.code.Parts.{option_node};
 ghost use Rattle.hii_questions.specs.Faults.{parts_of, has_field_fault, has_option_fault};
 ghost use Rattle.hii_questions.specs.code.Causes.{question_causes};
-ghost use Rattle.hii_questions.specs.code.FaultTells.{TellsFault, first_part_fault, first_option_fault};
+ghost use Rattle.hii_questions.specs.code.FaultTells.{TellsFault, first_part_fault, first_option_fault, is_choice};
 ghost use Rattle.hii_questions.specs.Types.{first_kind as first_kind_of};
+ghost use Rattle.hii_questions.specs.code.Lists.{questions_left};
 ghost use Rattle.hii_questions.specs.code.Views.{question_node, question_view};
 
 use crate::elements::first_kind;
 use crate::numbers::fitting_bits;
 use crate::question::Question;
-use hii_bytes::{Cause, Fault};
+use crate::questions_by_place::QuestionsByPlace;
+use hii_bytes::{Cause, Fault, NumberSet};
 use hii_varstore::Layout;
+use ifr_opcodes::{ONE_OF, ORDERED_LIST};
 use ifr_scopes::{OptionView, StatementKind};
-use std::collections::BTreeSet;
 
 // What is wrong with the store or the field of a question.
-fn field_fault(question: Question<'_>, layout: &Layout<'_>, ids: &BTreeSet<u16>) -> Option<Cause>
-    ensures { result ≡ first_cause (has_field_fault layout.now (λ id. contains nat_cmp ids.now id))
+fn field_fault(question: Question<'_>, layout: &Layout<'_>, ids: &NumberSet) -> Option<Cause>
+    ensures { result ≡ first_cause (has_field_fault layout.now (λ id. has_number ids.now id))
         (question_view question.entry) question_causes }
 {
     let store = question.op.store();
-    if store != 0 && !ids.contains(&store) {
+    if store != 0 && !ids.contains(store) {
         return Some(Cause::UnknownVarstore);
     }
     let field = question.field?;
@@ -58,11 +59,21 @@ fn option_fault(question: Question<'_>, first: Option<u8>, option: OptionView<'_
     }
 }
 
+// Whether an option of a question may have a fault: it is a ONE_OF or an ORDERED_LIST.
+fn is_choice(question: Question<'_>) -> bool
+    ensures { result ≡ is_choice (question_node question.entry) }
+{
+    question.op.op.code == ONE_OF || question.op.op.code == ORDERED_LIST
+}
+
 // Refuses the first option of a question with a fault.
 fn check_options(question: Question<'_>) -> Result<(), Fault>
     ensures { TellsFault (first_option_fault (question_node question.entry)
         (options (question_node question.entry))) result }
 {
+    if !is_choice(question) {
+        return Ok(());
+    }
     let first = first_kind(question.statement);
     for option in question.statement.options() {
         if let Some(cause) = option_fault(question, first, option) {
@@ -73,12 +84,8 @@ fn check_options(question: Question<'_>) -> Result<(), Fault>
 }
 
 // Refuses a question with a fault, and then its first option with one.
-fn check_question(
-    question: Question<'_>,
-    layout: &Layout<'_>,
-    ids: &BTreeSet<u16>,
-) -> Result<(), Fault>
-    ensures { TellsFault (first_part_fault layout.now (λ id. contains nat_cmp ids.now id)
+fn check_question(question: Question<'_>, layout: &Layout<'_>, ids: &NumberSet) -> Result<(), Fault>
+    ensures { TellsFault (first_part_fault layout.now (λ id. has_number ids.now id)
         (parts_of (question_view question.entry))) result }
 {
     match field_fault(question, layout, ids) {
@@ -91,15 +98,15 @@ fn check_question(
 /// field reaches past its store's end by FieldOutside, an option of a ONE_OF that is no number of its width by OptionRange,
 /// one of an ORDERED_LIST of another Type than the first by MixedOptions, each at its place (own rule).
 pub(crate) fn check_questions(
-    questions: &[Question<'_>],
+    questions: QuestionsByPlace<'_, '_>,
     layout: &Layout<'_>,
-    ids: &BTreeSet<u16>,
+    ids: &NumberSet,
 ) -> Result<(), Fault>
-    ensures { TellsFault (first_part_fault layout.now (λ id. contains nat_cmp ids.now id)
-        (flat_map parts_of (map question_view questions.now))) result }
+    ensures { TellsFault (first_part_fault layout.now (λ id. has_number ids.now id)
+        (flat_map parts_of (questions_left questions.entry))) result }
 {
     for question in questions {
-        check_question(*question, layout, ids)?;
+        check_question(question, layout, ids)?;
     }
     Ok(())
 }

@@ -67,7 +67,7 @@ pub(crate) enum FieldType<'a> {
 }
 
 impl<'a> FieldType<'a> {
-    ghost use Rattle.std.specs.Prelude.{◌≤◌, false, IfSome, option_map};
+    ghost use Rattle.std.specs.Prelude.{◌≤◌, ◌<◌, ◌^◌, false, IfSome, option_map};
     ghost use Rattle.ifr_scopes.specs.code.Lists.{statement_node};
     ghost use Rattle.hii_questions.specs.declared.field_range.TheConstants.{WIDEST_FIELD};
     ghost use Rattle.hii_questions.specs.Fields.{is_password};
@@ -116,7 +116,8 @@ impl<'a> FieldType<'a> {
 
     /// How many bytes the field has.
     pub(crate) fn size(self) -> usize
-        ensures { result ≡ size_of_type (type_in self.entry) }
+        ensures size { result ≡ size_of_type (type_in self.entry) }
+        ensures small { result < 2 ^ 32 }
     {
         match self {
             FieldType::Checkbox => 1,

@@ -5,9 +5,10 @@ ghost use Rattle.ifr_opcodes.specs.code.Marks.{mark};
 ghost use Rattle.ifr_opcodes.specs.code.Ops.{op_of};
 ghost use Rattle.ifr_scopes.specs.code.Lists.{statement_node};
 ghost use Rattle.hii_questions.specs.Fields.{field_at};
+ghost use Rattle.hii_questions.specs.code.Entries.{entry_range};
 ghost use Rattle.hii_questions.specs.code.Ranges.{range_in, HasWidth, IsNarrow};
 
-use crate::field_range::FieldRange;
+use crate::entry::FieldEntry;
 use crate::field_type::FieldType;
 use hii_varstore::Layout;
 use ifr_opcodes::QuestionOp;
@@ -18,12 +19,12 @@ pub(crate) fn field_in(
     statement: Statement<'_>,
     op: QuestionOp<'_>,
     layout: &Layout<'_>,
-) -> Option<FieldRange>
+) -> Option<FieldEntry>
     requires { op_of op.op ≡ mark (statement_node statement) }
-    ensures found { option_map range_in result
+    ensures found { option_map range_in (option_map entry_range result)
         ≡ field_at layout.now (statement_node statement.entry) }
-    ensures wide { HasWidth (statement_node statement.entry) result }
-    ensures narrow { IsNarrow (statement_node statement.entry) result }
+    ensures wide { HasWidth (statement_node statement.entry) (option_map entry_range result) }
+    ensures narrow { IsNarrow (statement_node statement.entry) (option_map entry_range result) }
 {
     let store = op.store();
     if store == 0 {
@@ -31,9 +32,9 @@ pub(crate) fn field_in(
     }
     layout.size(store)?;
     let field_type = FieldType::of(statement)?;
-    Some(FieldRange {
+    Some(FieldEntry {
         store,
         offset: op.offset(),
-        width: field_type.size(),
+        width: field_type.size() as u32,
     })
 }

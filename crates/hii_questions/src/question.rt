@@ -7,9 +7,8 @@ ghost use Rattle.ifr_scopes.specs.code.Lists.{statement_node};
 ghost use Rattle.ifr_scopes.specs.Nodes.{is_question};
 ghost use Rattle.hii_questions.specs.code.Ranges.{HasWidth, HasWidth-prop, IsNarrow, IsNarrow-prop};
 
+use crate::entry::QuestionEntry;
 use crate::field_range::FieldRange;
-use crate::locate::field_in;
-use hii_varstore::Layout;
 use ifr_opcodes::{PASSWORD, QuestionOp};
 use ifr_scopes::Statement;
 
@@ -26,25 +25,27 @@ pub struct Question<'a> {
 }
 
 impl<'a> Question<'a> {
-    ghost use Rattle.std.specs.Prelude.{if◌then◌else◌, Some, None, option_map};
+    ghost use Rattle.std.specs.Prelude.{option_map};
     ghost use Rattle.ifr_opcodes.specs.Fields.{question_id};
     ghost use Rattle.ifr_opcodes.specs.code.Ops.{bytes_of};
-    ghost use Rattle.hii_questions.specs.Fields.{asked_at, is_password};
+    ghost use Rattle.ifr_scopes.specs.Accepted.{IsAccepted};
+    ghost use Rattle.hii_questions.specs.Fields.{is_password};
+    ghost use Rattle.hii_questions.specs.code.Entries.{IsQuestionEntry, entry_view};
     ghost use Rattle.hii_questions.specs.code.Ranges.{range_in};
     ghost use Rattle.hii_questions.specs.code.Views.{question_node, question_view};
 
-    /// The question that a statement is, with its field in the stores of a layout.
-    pub(crate) fn of(statement: Statement<'a>, layout: &Layout<'_>) -> Option<Question<'a>>
-        ensures { option_map question_view result
-            ≡ (if is_question (statement_node statement.entry)
-            then Some (asked_at layout.now (statement_node statement.entry)) else None) }
+    /// The question of an accepted package of which this is kept.
+    pub(crate) fn kept(ifr: &'a [u8], entry: QuestionEntry) -> Question<'a>
+        requires accepted { IsAccepted ifr.now }
+        requires kept { IsQuestionEntry ifr.now entry }
+        ensures { question_view result ≡ entry_view ifr.entry.now entry }
     {
-        let op = statement.question()?;
-        Some(Question {
+        let statement = Statement::at(ifr, entry.place);
+        Question {
             statement,
-            op,
-            field: field_in(statement, op, layout),
-        })
+            op: statement.question().unwrap(),
+            field: entry.field(),
+        }
     }
 
     /// The statement that it is.

@@ -16,18 +16,19 @@ ghost use Rattle.hii_questions.specs.code.Views.{question_view};
 
 use crate::by_field::{questions_by_field, questions_with};
 use crate::check::check_questions;
+use crate::entry::QuestionEntry;
 use crate::field_range::FieldRange;
 use crate::merging::Step;
 use crate::over::Over;
 use crate::passwords::passwords_among;
 use crate::question::Question;
+use crate::questions_by_place::QuestionsByPlace;
 use crate::steps::{first_in, steps_among};
-use crate::tables::{questions_by_id, questions_by_place, store_ids};
-use hii_bytes::Fault;
+use crate::tables::{numbers_by_id, questions_by_place, store_ids};
+use hii_bytes::{Fault, IdTable};
 use hii_varstore::{Layout, Stores};
 use ifr_scopes::Forms;
 use std::alloc::Global;
-use std::collections::BTreeMap;
 use std::marker::Model;
 
 /// The questions of a form set by place, which are found by their places, by their ids and by their fields. They are seen as
@@ -35,10 +36,10 @@ use std::marker::Model;
 #[derive(Drop)]
 pub struct Questions<'a> {
     ifr: &'a [u8],
-    by_place: Vec<Question<'a>>,
-    by_id: BTreeMap<u16, Question<'a>>,
-    by_field: Vec<Question<'a>>,
-    passwords: Vec<Question<'a>>,
+    by_place: Vec<QuestionEntry>,
+    by_id: IdTable,
+    by_field: Vec<QuestionEntry>,
+    passwords: Vec<QuestionEntry>,
     password_steps: Vec<Step>,
 }
 
@@ -75,12 +76,12 @@ impl<'a> Questions<'a> {
     {
         let ifr = forms.bytes();
         let by_place = questions_by_place(alloc, forms, layout)?;
-        let by_id = questions_by_id(alloc, &by_place)?;
         let by_field = questions_by_field(alloc, &by_place)?;
-        let passwords = passwords_among(alloc, &by_place)?;
+        let by_id = numbers_by_id(alloc, QuestionsByPlace::over(ifr, &by_place))?;
+        let passwords = passwords_among(alloc, ifr, &by_place)?;
         let password_steps = steps_among(alloc, &passwords)?;
         let ids = store_ids(alloc, forms)?;
-        check_questions(&by_place, layout, &ids)?;
+        check_questions(QuestionsByPlace::over(ifr, &by_place), layout, &ids)?;
         Ok(Questions {
             ifr,
             by_place,
@@ -100,7 +101,8 @@ impl<'a> Questions<'a> {
         if id == 0 {
             return None;
         }
-        self.by_id.get(&id).copied()
+        let number = self.by_id.find(id)?;
+        Some(Question::kept(self.ifr, self.by_place[number as usize]))
     }
 
     /// The question at a place, in bytes from the package's header.
@@ -110,9 +112,9 @@ impl<'a> Questions<'a> {
     {
         match self
             .by_place
-            .binary_search_by_key(&place, |question| question.place())
+            .binary_search_by_key(&place, |question| question.place)
         {
-            Ok(at) => Some(self.by_place[at]),
+            Ok(at) => Some(Question::kept(self.ifr, self.by_place[at])),
             Err(_) => None,
         }
     }
@@ -122,9 +124,7 @@ impl<'a> Questions<'a> {
         ensures { questions_left result
             ≡ filter (has_field (range_in field)) (questions (nodes_of self.now.ifr)) }
     {
-        QuestionsByPlace {
-            questions: questions_with(&self.by_field, field),
-        }
+        QuestionsByPlace::over(self.ifr, questions_with(&self.by_field, field))
     }
 
     /// The first question by place that is for a password, and whose field has a byte of this one.
@@ -132,16 +132,15 @@ impl<'a> Questions<'a> {
         ensures { option_map question_view result
             ≡ find (is_password_in (range_in field)) (questions (nodes_of self.now.ifr)) }
     {
-        first_in(&self.passwords, &self.password_steps, field)
+        let entry = first_in(&self.passwords, &self.password_steps, field)?;
+        Some(Question::kept(self.ifr, entry))
     }
 
     /// All questions, by place.
     pub fn all(&self) -> QuestionsByPlace<'_, 'a>
         ensures { questions_left result ≡ questions (nodes_of self.now.ifr) }
     {
-        QuestionsByPlace {
-            questions: &self.by_place,
-        }
+        QuestionsByPlace::over(self.ifr, &self.by_place)
     }
 
     /// What the questions answer where the stores are these.
@@ -151,34 +150,6 @@ impl<'a> Questions<'a> {
         Over {
             questions: self,
             stores,
-        }
-    }
-}
-
-/// The questions that are left of some of a form set, by place.
-#[derive(Debug, Drop)]
-pub struct QuestionsByPlace<'q, 'a> {
-    questions: &'q [Question<'a>],
-}
-
-impl<'q, 'a> Iterator for QuestionsByPlace<'q, 'a> {
-    ghost use Rattle.std.specs.Iterator.{YieldsFirstBy, item_count};
-    ghost use Rattle.hii_questions.specs.code.Views.{question_view};
-    ghost use Rattle.hii_questions.specs.code.Lists.{questions_left};
-
-    type Item = Question<'a>;
-
-    ghost next_gives = { YieldsFirstBy question_view questions_left };
-
-    ghost remaining = { item_count questions_left };
-
-    fn next(&mut self) -> Option<Question<'a>> {
-        match self.questions {
-            [question, questions @ ..] => {
-                self.questions = questions;
-                Some(*question)
-            }
-            [] => None,
         }
     }
 }

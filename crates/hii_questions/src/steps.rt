@@ -1,15 +1,15 @@
 //! Which of some fields is the first that has a byte, for all bytes of the stores.
 
-ghost use Rattle.std.specs.Prelude.{◌≡◌, ◌⊎◌, ◌+◌, ◌≤◌, ◌<◌, ℕ, IfOk, length};
+ghost use Rattle.std.specs.Prelude.{◌≡◌, ◌⊎◌, ◌+◌, ◌≤◌, ◌<◌, ℕ, IfOk, length, option_map};
 ghost use Rattle.std.specs.List.{find};
 ghost use Rattle.hii_questions.specs.Fields.{field_passes, meets};
+ghost use Rattle.hii_questions.specs.code.Entries.{entry_field};
 ghost use Rattle.hii_questions.specs.code.Ranges.{range_in};
-ghost use Rattle.hii_questions.specs.code.Views.{question_view};
 ghost use Rattle.hii_questions.specs.code.Steps.{AreSmall, AreSteps, IsLeastWithin, StepsRise, first_from, is_small, least_met, tells_first, told_behind, value_at};
 
+use crate::entry::QuestionEntry;
 use crate::field_range::FieldRange;
 use crate::merging::{Step, merged};
-use crate::question::Question;
 use std::alloc::{AllocError, Global};
 
 // The steps of one field of a number.
@@ -45,7 +45,7 @@ fn steps_of_one(
 // The steps of the fields of some questions, which have numbers from one on.
 fn steps_of(
     alloc: Global,
-    questions: &[Question<'_>],
+    questions: &[QuestionEntry],
     number: usize,
     none: usize,
 ) -> Result<Vec<Step>, AllocError>
@@ -57,7 +57,7 @@ fn steps_of(
 {
     match questions {
         [] => Ok(Vec::new(alloc)),
-        [question] => steps_of_one(alloc, question.field, number, none),
+        [question] => steps_of_one(alloc, question.field(), number, none),
         _ => {
             let (before, behind) = questions.split_at(questions.len() / 2);
             let left = steps_of(alloc, before, number, none)?;
@@ -70,7 +70,7 @@ fn steps_of(
 /// The steps that tell of each byte the first of some questions whose field has it.
 pub(crate) fn steps_among(
     alloc: Global,
-    questions: &[Question<'_>],
+    questions: &[QuestionEntry],
 ) -> Result<Vec<Step>, AllocError>
     ensures { IfOk result (λ steps. AreSteps questions.now steps.items) }
 {
@@ -115,13 +115,13 @@ fn least_within(steps: &[Step], none: usize, from: u64, end: u64) -> usize
 }
 
 /// The first of some questions whose field has a byte of this one, by the steps of all.
-pub(crate) fn first_in<'a>(
-    questions: &[Question<'a>],
+pub(crate) fn first_in(
+    questions: &[QuestionEntry],
     steps: &[Step],
     field: FieldRange,
-) -> Option<Question<'a>>
+) -> Option<QuestionEntry>
     requires { AreSteps questions.now steps.now }
-    ensures { result ≡ find (λ q. field_passes (meets (range_in field)) (question_view q).field) questions.now }
+    ensures { result ≡ find (λ e. field_passes (meets (range_in field)) (option_map range_in (entry_field e))) questions.now }
 {
     let first = least_within(steps, questions.len(), field.first(), field.behind());
     if first < questions.len() {

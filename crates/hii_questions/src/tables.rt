@@ -1,68 +1,71 @@
 //! The questions of a form set as they are kept.
 
-ghost use Rattle.std.specs.Prelude.{◌≡◌, ℕ, IfOk, map, option_map};
-ghost use Rattle.std.specs.BTreeMap.{get};
-ghost use Rattle.std.specs.BTreeSet.{contains};
-ghost use Rattle.std.specs.Ordering.{nat_cmp};
+ghost use Rattle.std.specs.Prelude.{◌≡◌, ◌<◌, ◌^◌, ℕ, IfOk, length, map};
+ghost use Rattle.hii_bytes.specs.code.NumberSets.{has_number};
+ghost use Rattle.ifr_scopes.specs.Accepted.{IsAccepted};
 ghost use Rattle.ifr_scopes.specs.Nodes.{nodes_of};
 ghost use Rattle.hii_varstore.specs.StoreNodes.{layout_of};
 ghost use Rattle.hii_questions.specs.Faults.{is_known};
 ghost use Rattle.hii_questions.specs.Fields.{questions};
-ghost use Rattle.hii_questions.specs.code.Tables.{first_with};
-ghost use Rattle.hii_questions.specs.code.Views.{question_view};
+ghost use Rattle.hii_questions.specs.code.Entries.{AreQuestionEntries, entry_view};
+ghost use Rattle.hii_questions.specs.code.Ids.{AreIds};
+ghost use Rattle.hii_questions.specs.code.Lists.{questions_left};
 
-use crate::question::Question;
+use crate::entry::QuestionEntry;
+use crate::questions_by_place::QuestionsByPlace;
+use hii_bytes::{IdEntry, IdTable, NumberSet};
 use hii_varstore::Layout;
 use ifr_scopes::Forms;
 use std::alloc::{AllocError, Global};
-use std::collections::{BTreeMap, BTreeSet};
 
 /// The questions of a form set by place.
-pub(crate) fn questions_by_place<'a>(
+pub(crate) fn questions_by_place(
     alloc: Global,
-    forms: &Forms<'a>,
+    forms: &Forms<'_>,
     layout: &Layout<'_>,
-) -> Result<Vec<Question<'a>>, AllocError>
-    requires { layout.now ≡ layout_of (nodes_of forms.now) }
-    ensures { IfOk result (λ by_place. map question_view by_place.items
+) -> Result<Vec<QuestionEntry>, AllocError>
+    requires laid { layout.now ≡ layout_of (nodes_of forms.now) }
+    requires accepted { IsAccepted forms.now }
+    ensures placed { IfOk result (λ by_place. map (entry_view forms.now) by_place.items
         ≡ questions (nodes_of forms.now)) }
+    ensures kept { IfOk result (λ by_place. AreQuestionEntries forms.now by_place.items) }
 {
     let mut questions = Vec::new(alloc);
     for statement in forms.statements() {
-        if let Some(question) = Question::of(statement, layout) {
+        if let Some(question) = QuestionEntry::of(statement, layout) {
             questions.push(question)?;
         }
     }
     Ok(questions)
 }
 
-/// The first question of each id.
-pub(crate) fn questions_by_id<'a>(
+/// The numbers of questions by their ids.
+pub(crate) fn numbers_by_id(
     alloc: Global,
-    questions: &[Question<'a>],
-) -> Result<BTreeMap<u16, Question<'a>>, AllocError>
-    ensures { IfOk result (λ index. (id : ℕ)
-        → option_map question_view (get nat_cmp index id)
-        ≡ first_with (map question_view questions.now) id) }
+    questions: QuestionsByPlace<'_, '_>,
+) -> Result<IdTable, AllocError>
+    requires { length (questions_left questions) < 2 ^ 32 }
+    ensures { IfOk result (AreIds (questions_left questions.entry)) }
 {
-    let mut index = BTreeMap::new(alloc);
+    let mut ids = Vec::new(alloc);
     for question in questions {
-        let id = question.id();
-        if !index.contains_key(&id) {
-            index.insert(id, *question)?;
-        }
+        let number = ids.len() as u32;
+        ids.push(IdEntry {
+            id: question.id(),
+            number,
+        })?;
     }
-    Ok(index)
+    IdTable::of(ids)
 }
 
 /// The ids of all stores.
-pub(crate) fn store_ids(alloc: Global, forms: &Forms<'_>) -> Result<BTreeSet<u16>, AllocError>
+pub(crate) fn store_ids(alloc: Global, forms: &Forms<'_>) -> Result<NumberSet, AllocError>
     ensures { IfOk result (λ ids. (id : ℕ)
-        → contains nat_cmp ids id ≡ is_known (nodes_of forms.now) id) }
+        → has_number ids id ≡ is_known (nodes_of forms.now) id) }
 {
-    let mut ids = BTreeSet::new(alloc);
+    let mut ids = NumberSet::new(alloc)?;
     for store in forms.stores() {
-        ids.insert(store.id())?;
+        ids.insert(store.id());
     }
     Ok(ids)
 }

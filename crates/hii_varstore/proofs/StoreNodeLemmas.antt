@@ -2,7 +2,6 @@
 use Rattle.std.proofs.Common.{◌≡◌, ◌⊎◌, ℕ, ◌+◌, ◌^◌, ◌<◌, ◌≤◌, Bool, true, false, eqb, nat_eq, length, Option, option_map, Some, None, List, [], ◌∷◌, ◌++◌, append_assoc, map, refl, sym, ap, subst, ◌∙◌, arith, inl, inr, lit≤}
 use Rattle.std.specs.Prelude.{Contains, filter}
 use Rattle.std.specs.List.{AllByRecursion, IsDistinct, list_any, filter_map, cons_option}
-use Rattle.std.specs.BTreeSet.{BTreeSet}
 use Rattle.std.proofs.lemmas.Bool.{cases_Bool, ne_eqb, false≢true}
 use Rattle.std.proofs.lemmas.Option.{none-some, same_Some}
 use Rattle.std.proofs.lemmas.List.{map-append, append-nil}
@@ -102,7 +101,7 @@ sound_among ns e = none_among ranked_place repeats_store causes (ranked [] ns) a
 -- ---- the stores so far
 
 -- Some stores were met, and their ids are known; the first fault of all is that of those which are left.
-pub record HasMet (all left : List Placed) (ids : BTreeSet ℕ) (buffers : List Buffer) : Type 0 where
+pub record HasMet (all left : List Placed) (ids : List Bool) (buffers : List Buffer) : Type 0 where
   pub before : List Placed
   pub parts : all ≡ before ++ left
   pub known : AreIdsOf before ids
@@ -165,7 +164,7 @@ buffers_more before buffers b sound built fits free =
     }
 
 -- one more store, with the buffers that there are then
-met_next : (all left : List Placed) (n : Placed) (ids more : BTreeSet ℕ) (buffers next : List Buffer) → (met : HasMet all (n ∷ left) ids buffers)
+met_next : (all left : List Placed) (n : Placed) (ids more : List Bool) (buffers next : List Buffer) → (met : HasMet all (n ∷ left) ids buffers)
     → next ≡ buffers ++ cons_option (declared_buffer n) [] → AreBuffers next → is_taken (store_id n.op) met.before ≡ false → AreIdsOf (met.before ++ n ∷ []) more → HasMet all left more next
 met_next all left n ids more buffers next met grown sound free known = record {
   before = met.before ++ n ∷ [];
@@ -177,7 +176,7 @@ met_next all left n ids more buffers next met grown sound free known = record {
 }
 
 -- a buffer store more
-pub met_more : (all left : List Placed) (n : Placed) (ids more : BTreeSet ℕ) (buffers : List Buffer) (b : Buffer) → (met : HasMet all (n ∷ left) ids buffers)
+pub met_more : (all left : List Placed) (n : Placed) (ids more : List Bool) (buffers : List Buffer) (b : Buffer) → (met : HasMet all (n ∷ left) ids buffers)
     → declared_buffer n ≡ Some b → (b.id < 2 ^ 16) × (b.size < 2 ^ 16) → is_taken (store_id n.op) met.before ≡ false → AreIdsOf (met.before ++ n ∷ []) more → HasMet all left more (buffers ++ b ∷ [])
 met_more all left n ids more buffers b met is fits free known =
     let its : store_id n.op ≡ b.id = id_of_buffer (store_id n.op) (store_size n.op) b is in
@@ -185,22 +184,22 @@ met_more all left n ids more buffers b met is fits free known =
     (buffers_more met.before buffers b met.sound met.built fits (rw its at free)) free known
 
 -- a store more that is no buffer store
-pub met_no_buffer : (all left : List Placed) (n : Placed) (ids more : BTreeSet ℕ) (buffers : List Buffer) → (met : HasMet all (n ∷ left) ids buffers)
+pub met_no_buffer : (all left : List Placed) (n : Placed) (ids more : List Bool) (buffers : List Buffer) → (met : HasMet all (n ∷ left) ids buffers)
     → declared_buffer n ≡ None → is_taken (store_id n.op) met.before ≡ false → AreIdsOf (met.before ++ n ∷ []) more → HasMet all left more buffers
 met_no_buffer all left n ids more buffers met is free known =
     met_next all left n ids more buffers buffers met (sym (append-nil buffers) ∙ ap (λ (o : Option Buffer). buffers ++ cons_option o []) (sym is)) met.sound free known
 
-pub met_all : (all left : List Placed) (ids : BTreeSet ℕ) (buffers : List Buffer) → HasMet all left ids buffers → left ≡ [] → (buffers ≡ filter_map declared_buffer all) × (first_repeat [] all ≡ None)
+pub met_all : (all left : List Placed) (ids : List Bool) (buffers : List Buffer) → HasMet all left ids buffers → left ≡ [] → (buffers ≡ filter_map declared_buffer all) × (first_repeat [] all ≡ None)
 met_all all left ids buffers met e =
     let whole : all ≡ met.before = met.parts ∙ ap (λ (ns : List Placed). met.before ++ ns) e ∙ append-nil met.before in
     (met.built ∙ ap (filter_map declared_buffer) (sym whole), sym met.same ∙ ap (first_repeat met.before) e)
 
 -- a store that repeats an id is the first fault
-pub met_again : (all left : List Placed) (n : Placed) (ids : BTreeSet ℕ) (buffers : List Buffer) → (met : HasMet all (n ∷ left) ids buffers) → is_taken (store_id n.op) met.before ≡ true
+pub met_again : (all left : List Placed) (n : Placed) (ids : List Bool) (buffers : List Buffer) → (met : HasMet all (n ∷ left) ids buffers) → is_taken (store_id n.op) met.before ≡ true
     → first_repeat [] all ≡ Some record { cause = DuplicateVarstore; place = n.place }
 met_again all left n ids buffers met taken = sym (rw taken at met.same)
 
-pub met_none : (all : List Placed) (ids : BTreeSet ℕ) (buffers : List Buffer) → AreIdsOf [] ids → buffers ≡ [] → HasMet all all ids buffers
+pub met_none : (all : List Placed) (ids : List Bool) (buffers : List Buffer) → AreIdsOf [] ids → buffers ≡ [] → HasMet all all ids buffers
 unfolding IsDistinct
 met_none all ids buffers known none = record {
   before = [];

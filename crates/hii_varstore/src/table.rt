@@ -4,15 +4,15 @@ ghost use Rattle.std.specs.Prelude.{◌≡◌, IfOk};
 ghost use Rattle.hii_varstore.specs.code.Table.{AreBuffers, place_of};
 
 use crate::buffer::Buffer;
+use hii_bytes::{IdEntry, IdTable};
 use std::alloc::{AllocError, Global};
-use std::collections::BTreeMap;
 use std::marker::Model;
 
 /// The buffer stores by place, with an index by id.
 #[derive(Debug, Drop)]
 pub(crate) struct Table {
     buffers: Vec<Buffer>,
-    places: BTreeMap<u16, usize>,
+    places: IdTable,
 }
 
 impl Model for Table {
@@ -34,18 +34,27 @@ impl Table {
         requires { AreBuffers buffers.items }
         ensures { IfOk result (λ table. table ≡ buffers.items) }
     {
-        let mut places = BTreeMap::new(alloc);
+        let mut places = Vec::new(alloc);
         for (place, buffer) in buffers.iter().enumerate() {
-            places.insert(buffer.id, place)?;
+            places.push(IdEntry {
+                id: buffer.id,
+                number: place as u32,
+            })?;
         }
-        Ok(Table { buffers, places })
+        Ok(Table {
+            buffers,
+            places: IdTable::of(places)?,
+        })
     }
 
     /// A second table of the same stores.
     pub(crate) fn copy(&self, alloc: Global) -> Result<Table, AllocError>
         ensures { IfOk result (λ table. table ≡ self.now) }
     {
-        Table::new(alloc, Vec::from_slice(alloc, &self.buffers)?)
+        Ok(Table {
+            buffers: Vec::from_slice(alloc, &self.buffers)?,
+            places: self.places.copy(alloc)?,
+        })
     }
 
     /// The stores by place.
@@ -60,6 +69,7 @@ impl Table {
     pub(crate) fn find(&self, id: u16) -> Option<usize>
         ensures { result ≡ place_of self.now id }
     {
-        self.places.get(&id).copied()
+        let place = self.places.find(id)?;
+        Some(place as usize)
     }
 }

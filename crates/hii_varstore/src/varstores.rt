@@ -1,6 +1,6 @@
 //! The stores that a form set declares.
 
-ghost use Rattle.std.specs.Prelude.{◌≡◌, Ok, false, List, [], ◌∷◌, ◌++◌, IfOk, IfErr};
+ghost use Rattle.std.specs.Prelude.{◌≡◌, false, List, [], ◌∷◌, ◌++◌, IfOk, IfErr};
 ghost use Rattle.std.specs.List.{filter_map};
 ghost use Rattle.hii_bytes.specs.Faults.{HasNone, Refuses};
 ghost use Rattle.ifr_opcodes.specs.Forest.{Placed};
@@ -11,22 +11,18 @@ ghost use Rattle.hii_varstore.specs.code.Ids.{AreIdsOf};
 ghost use Rattle.hii_varstore.specs.code.Table.{AreBuffers};
 
 use crate::buffer::Buffer;
-use hii_bytes::{Cause, Fault};
+use hii_bytes::{Cause, Fault, NumberSet};
 use ifr_scopes::{Varstore, Varstores};
-use std::alloc::{AllocError, Global};
-use std::collections::BTreeSet;
+use std::alloc::Global;
 
 // Meets the id of the next store, and tells whether it is 0 or was met before.
-fn meets_again(ids: &mut BTreeSet<u16>, id: u16) -> Result<bool, AllocError>
-    ensures told { IfOk result (λ taken. (before : List Placed) → AreIdsOf before ids.old
-        → taken ≡ is_taken id before) }
-    ensures met { result ≡ Ok false → (before : List Placed) (n : Placed) → store_id n.op ≡ id
+fn meets_again(ids: &mut NumberSet, id: u16) -> bool
+    ensures told { (before : List Placed) → AreIdsOf before ids.old
+        → result ≡ is_taken id before }
+    ensures met { result ≡ false → (before : List Placed) (n : Placed) → store_id n.op ≡ id
         → AreIdsOf before ids.old → AreIdsOf (before ++ n ∷ []) ids.new }
 {
-    if id == 0 {
-        return Ok(true);
-    }
-    Ok(!ids.insert(id)?)
+    id == 0 || !ids.insert(id)
 }
 
 // The buffer store that a store is, if it holds bytes.
@@ -47,11 +43,10 @@ pub(crate) fn read_buffers(alloc: Global, stores: Varstores<'_>) -> Result<Vec<B
     ensures sound { IfOk result (λ buffers. HasNone (IsRepeatedStore (stores_left stores.entry))) }
     ensures refused { IfErr result (Refuses (IsRepeatedStore (stores_left stores.entry))) }
 {
-    let mut ids = BTreeSet::new(alloc);
+    let mut ids = NumberSet::new(alloc)?;
     let mut buffers = Vec::new(alloc);
     for store in stores {
-        let is_taken = meets_again(&mut ids, store.id())?;
-        if is_taken {
+        if meets_again(&mut ids, store.id()) {
             return Err(Fault::at(Cause::DuplicateVarstore, u64::from(store.place())));
         }
         if let Some(buffer) = read_buffer(store) {

@@ -1,9 +1,9 @@
 -- The opcodes of an expression, met one after the other, are those of its node.
-use Rattle.std.proofs.Common.{◌≡◌, ℕ, ◌+◌, ◌≤◌, ◌<◌, ◌^◌, inl, inr, Bool, true, false, cond, Option, Some, None, Result, Ok, List, [], ◌∷◌, ◌++◌, length, refl, sym, ap, subst, ◌∙◌, append_assoc, arith, inl, inr, lit≤}
-use Rattle.std.specs.Prelude.{Contains, not, ⊤}
+use Rattle.std.proofs.Common.{◌≡◌, ℕ, ◌+◌, ◌≤◌, ◌<◌, ◌^◌, inl, inr, Bool, true, false, cond, Option, Some, None, Result, Ok, Err, List, [], ◌∷◌, ◌++◌, length, refl, sym, ap, subst, ◌∙◌, append_assoc, arith, lit≤, add-one}
+use Rattle.std.specs.Prelude.{Contains, not, ⊤, ◌==◌}
 use Rattle.std.specs.List.{concat}
 use Rattle.std.proofs.lemmas.List.{append-nil}
-use Rattle.std.proofs.lemmas.Bool.{cases_Bool, false≢true, true≢false, ne_eqb}
+use Rattle.std.proofs.lemmas.Bool.{cases_Bool, false≢true, true≢false, ne_eqb, eqb-true, eqb-false}
 use Rattle.hii_bytes.specs.Faults.{IsLeast, HasNone}
 use Rattle.hii_bytes.specs.code.FirstFaults.{AreAll, Rise, first_cause, fault_or, first_fault}
 use Rattle.hii_bytes.specs.declared.cause.Cause.{Cause}
@@ -28,6 +28,9 @@ use Rattle.ifr_expr.specs.Trees.{Tree, post, need, Means, siblings, expression}
 use Rattle.ifr_expr.proofs.CountLemmas.{count_step, count_none, count-append}
 use Rattle.ifr_expr.proofs.TreeLemmas.{is_tree_of}
 use Rattle.ifr_expr.proofs.ShapeLemmas.{Grown, Says, says_all, least_shape, no_shape}
+
+behind_first : (x : Mark) (xs : List Mark) (m : Mark) → Contains xs m → Contains (x ∷ xs) m
+behind_first x xs m (k, lt, e) = (k + 1, omega arith, rw add-one e)
 
 -- ---- the opcodes that are met, and those of the node
 
@@ -265,3 +268,49 @@ not_meant at all fault l tree m few clear = elim l.told [ inl f ↦ clear fault.
 
 pub not_clear : (at : ℕ) (all : List Mark) (fault : Fault) → IsLeast (IsExpressionFault at all) fault → HasNone (IsExpressionFault at all) → ⊥
 not_clear at all fault l clear = clear fault.cause fault.place l.told
+
+-- ---- opcodes without a fault
+
+-- where no opcode opens a scope inside of the expression's own, those that are met are those of the node
+same_opcodes : (at : ℕ) (xs ys : List Mark) → Agree at xs ys → ((m : Mark) → Contains ys m → has_opcode_fault at m ScopeBit ≡ false) → xs ≡ ys
+same_opcodes at [] [] a plain = refl
+same_opcodes at [] (y ∷ ys) a plain = absurd a
+same_opcodes at (x ∷ xs) [] a plain = absurd a
+same_opcodes at (x ∷ xs) (y ∷ ys) a plain =
+    let here : has_opcode_fault at x ScopeBit ≡ false = ap (λ (m : Mark). has_opcode_fault at m ScopeBit) a.0 ∙ plain y (0, omega arith, refl) in
+    ap (λ (m : Mark). m ∷ xs) a.0 ∙ ap (λ (l : List Mark). y ∷ l) (same_opcodes at xs ys (a.1 here) (λ m w. plain m (behind_first y ys m w)))
+
+all_sized : (marks : List Mark) → ((m : Mark) → Contains marks m → IsSized m) → AreSized marks
+all_sized [] each = tt
+all_sized (m ∷ marks) each = (each m (0, omega arith, refl), all_sized marks (λ n w. each n (behind_first m marks n w)))
+
+no_fault_there : (at : ℕ) (all : List Mark) → HasNone (IsOpcodeFault at all) → (m : Mark) → Contains all m → (cause : Cause) → has_opcode_fault at m cause ≡ false
+no_fault_there at all without m within cause = elim (cases_Bool (has_opcode_fault at m cause)) [
+  | inl has ↦ absurd (without cause m.place (m, within, refl, has))
+  | inr e ↦ e
+]
+
+counted_done : (at : ℕ) (bytes : List ℕ) → IsExpressionNode bytes → HasNone (IsOpcodeFault at (opcodes_of at bytes)) → Done at (opcodes_of at bytes) (to_end at (opcodes_in bytes)) (counted_all (Ok 0) (opcodes_of at bytes))
+counted_done at bytes h without =
+    let all = opcodes_of at bytes in
+    let clear = no_fault_there at all without in
+    let sized : AreSized all = all_sized all (λ m w. record { operator = not_false (is_operator (number m.op)) (clear m w Misplaced); sized = clear m w OpSize }) in
+    record {
+      same = same_opcodes at (to_end at (opcodes_in bytes)) all (agree_all at bytes h) (λ m w. clear m w ScopeBit);
+      none = without;
+      told = says_all at all sized;
+      sized = sized;
+    }
+
+-- they leave one value
+one_left : (at : ℕ) (bytes : List ℕ) (values : Result ℕ Fault) → HasNone (IsExpressionFault at (opcodes_of at bytes)) → Done at (opcodes_of at bytes) (to_end at (opcodes_in bytes)) values → values ≡ Ok 1
+one_left at bytes (Ok count) sound d = elim (cases_Bool (count == 1)) [
+  | inl is ↦ ap (λ (n : ℕ). Ok n) (eqb-true count 1 is)
+  | inr other ↦ absurd (sound ExprShape at (inr (d.none, several at bytes (to_end at (opcodes_in bytes)) count d (eqb-false count 1 other))))
+]
+one_left at bytes (Err fault) sound d = absurd (sound fault.cause fault.place (inr (d.none, d.told)))
+
+pub done_where_sound : (at : ℕ) (bytes : List ℕ) → IsExpressionNode bytes → HasNone (IsExpressionFault at (opcodes_of at bytes)) → Done at (opcodes_of at bytes) (to_end at (opcodes_in bytes)) (Ok 1)
+done_where_sound at bytes h sound =
+    let d = counted_done at bytes h (λ cause place f. sound cause place (inl f)) in
+    subst (Done at (opcodes_of at bytes) (to_end at (opcodes_in bytes))) (one_left at bytes (counted_all (Ok 0) (opcodes_of at bytes)) sound d) d

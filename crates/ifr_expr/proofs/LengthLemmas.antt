@@ -1,29 +1,38 @@
--- An expression has fewer opcodes than bytes.
-use Rattle.std.proofs.Common.{ℕ, zero, suc, ◌+◌, ◌≤◌, Bool, true, false, cond, List, [], ◌∷◌, length, take, drop, arith}
-use Rattle.std.specs.Prelude.{◌==◌}
-use Rattle.ifr_opcodes.specs.Opcode.{stated_length, is_end}
+-- How many opcodes an expression has, and how many values it needs at once, by its bytes.
+use Rattle.std.proofs.Common.{ℕ, ◌+◌, ◌*◌, ◌≤◌, ◌<◌, List, [], ◌∷◌, ◌++◌, length, ap, arith, length-append, inl, inr}
+use Rattle.std.specs.List.{AllByRecursion, concat}
+use Rattle.std.proofs.lemmas.Bool.{cases_Bool}
+use Rattle.ifr_opcodes.specs.Opcode.{is_end, IsWhole}
 use Rattle.ifr_opcodes.specs.Forest.{Mark}
-use Rattle.ifr_opcodes.specs.Reading.{cut, opcodes_in}
-use Rattle.ifr_expr.specs.code.Bytes.{to_end}
-use Rattle.ifr_expr.specs.code.Checked.{marks}
+use Rattle.ifr_opcodes.specs.Reading.{opcodes_in}
+use Rattle.ifr_expr.specs.code.Bytes.{AreOpcodes, to_end}
+use Rattle.ifr_expr.specs.code.Checked.{IsChecked, marks, tree}
+use Rattle.ifr_expr.specs.Trees.{Tree, leaf, one, two, post, need}
+use Rattle.ifr_expr.proofs.TreeLemmas.{some_need}
 
-few_cut : (n : ℕ) (bytes : List ℕ) → length (cut n bytes) ≤ n
-unfolding cut
-few_cut zero bytes = omega arith
-few_cut (suc n) bytes = go (length bytes == 0) (few_cut n (drop (stated_length bytes) bytes))
-  where
-    go : (b : Bool) → length (cut n (drop (stated_length bytes) bytes)) ≤ n → length (cond b [] (take (stated_length bytes) bytes ∷ cut n (drop (stated_length bytes) bytes))) ≤ suc n
-    go true h = omega arith
-    go false h = omega (arith, h)
-
-fewer : (at : ℕ) (ops : List (List ℕ)) → length (to_end at ops) ≤ length ops
+wide : (at : ℕ) (ops : List (List ℕ)) → AllByRecursion IsWhole ops → 2 * length (to_end at ops) ≤ length (concat ops)
 unfolding to_end
-fewer at [] = omega arith
-fewer at (op ∷ ops) = go (is_end op) (fewer (at + length op) ops)
-  where
-    go : (b : Bool) → length (to_end (at + length op) ops) ≤ length ops → length (cond {A = List Mark} b [] (record { place = at; op = op } ∷ to_end (at + length op) ops)) ≤ suc (length ops)
-    go true h = omega arith
-    go false h = omega (arith, h)
+wide at [] h = omega arith
+wide at (op ∷ ops) h = elim (cases_Bool (is_end op)) [
+  | inl e ↦ rw e (omega arith)
+  | inr e ↦ rw e (omega (arith, h.0.long, wide (at + length op) ops h.1, length-append op (concat ops)))
+]
 
-pub few_marks : (at : ℕ) (bytes : List ℕ) → length (marks at bytes) ≤ length bytes
-few_marks at bytes = omega (arith, fewer at (opcodes_in bytes), few_cut (length bytes) bytes)
+-- an opcode has two bytes or more
+pub few_marks : (at : ℕ) (bytes : List ℕ) → AreOpcodes bytes → 2 * length (marks at bytes) ≤ length bytes
+few_marks at bytes a = omega (arith, wide at (opcodes_in bytes) a.whole, ap (λ (l : List ℕ). length l) a.joined)
+
+-- each value but the first that a tree needs at once has an opcode of its own and one that takes it
+many_opcodes : (t : Tree) → 2 * need t ≤ length (post t) + 1
+many_opcodes (leaf op) = omega arith
+many_opcodes (one op operand) = omega (arith, many_opcodes operand, length-append (post operand) (op ∷ []))
+many_opcodes (two op left right) =
+    omega (arith, many_opcodes left, many_opcodes right, some_need left, length-append (post left) (post right ++ op ∷ []), length-append (post right) (op ∷ []))
+
+pub some_opcode : (t : Tree) → 0 < length (post t)
+some_opcode t = omega (arith, many_opcodes t, some_need t)
+
+-- an expression of few bytes needs few values at once
+pub few_values : (at : ℕ) (bytes : List ℕ) → IsChecked at bytes → 4 * need (tree at bytes) ≤ length bytes + 2
+few_values at bytes c =
+    omega (arith, few_marks at bytes c.opcodes, many_opcodes (tree at bytes), ap (λ (l : List Mark). length l) c.means.spelled)

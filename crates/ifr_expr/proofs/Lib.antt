@@ -3,7 +3,6 @@ pub mod TreeLemmas
 pub mod CountLemmas
 pub mod ShapeLemmas
 pub mod CheckLemmas
-pub mod StackLemmas
 pub mod ValueLemmas
 pub mod RuleLemmas
 pub mod EvaluationLemmas

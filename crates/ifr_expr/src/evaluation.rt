@@ -1,24 +1,28 @@
 //! The values of expressions.
 
-ghost use Rattle.std.specs.Prelude.{◌≡◌, ◌≤◌, ◌<◌, ◌+◌, ℕ, List, length, option_map, IfSome};
-ghost use Rattle.ifr_opcodes.specs.code.Codes.{unary_code, binary_code};
+ghost use Rattle.std.specs.Prelude.{◌≡◌, ◌≤◌, ◌+◌, ℕ, Some, List, [], ◌∷◌, length, option_map, IfSome};
 ghost use Rattle.ifr_opcodes.specs.code.Ops.{op_of};
-ghost use Rattle.ifr_opcodes.specs.code.Views.{leaf_operator, values_left};
+ghost use Rattle.ifr_opcodes.specs.code.Views.{operator, leaf_operator, values_left};
 ghost use Rattle.ifr_expr.specs.Meaning as meaning;
 ghost use Rattle.ifr_expr.specs.code.Rules as ordering;
-ghost use Rattle.ifr_expr.specs.code.Stacks.{operand_value, last_first, with_unary, with_binary};
+ghost use Rattle.ifr_expr.specs.code.Stacks.{Fit, operand_value, values_behind};
 ghost use Rattle.ifr_expr.specs.Values as spec;
 ghost use Rattle.ifr_expr.specs.code.Views.{value_of, outcome_value};
-ghost use Rattle.ifr_expr.specs.code.Expressions.{tree_of, end_of};
+ghost use Rattle.ifr_expr.specs.code.Expressions.{tree_of, end_of, operators_left};
+ghost use Rattle.ifr_expr.specs.Trees.{takes};
 
+use crate::counting::MAX_VALUES;
 use crate::expr::Expr;
 use crate::operations::{as_number, binary, constant, same, unary};
+use crate::operators::Operators;
 use crate::value::{Operand, Outcome, Value};
-use arrayvec::ArrayVec;
-use ifr_opcodes::{Binary, ExprOp, LeafOp, ListValues, Unary};
+use ifr_opcodes::{ExprOp, LeafOp, ListValues};
 
-/// The values that wait for their operators.
-type Stack = ArrayVec<Operand, 64>;
+/// How many values wait for others at most in an expression of few bytes.
+const FEW: usize = 8;
+
+/// What room holds where no value waits.
+const NOTHING: Operand = Operand::Made(Outcome::Undefined);
 
 /// What expressions are evaluated over: answers and rules.
 pub(crate) trait World {
@@ -56,6 +60,7 @@ fn one_of(answer: Value<'_>, mut numbers: ListValues<'_>) -> Outcome
 
 // The value of an operator that takes no operands and is no reference to a rule.
 #[tactic(auto, unfolding(crate::specs::Meaning::leaf_value))]
+#[inline(always)]
 fn leaf<W: World>(world: &W, op: LeafOp<'_>, this: u16) -> Operand
     ensures { (rules : ℕ → ℕ → spec.Value)
         → operand_value (W.answers world.now) result
@@ -90,49 +95,76 @@ fn resolve<W: World>(world: &W, operand: Operand) -> Value<'_>
     }
 }
 
-// An operator with one operand takes it from the stack, and leaves its value there.
-fn apply_unary<W: World>(world: &W, operator: Unary, stack: &mut Stack)
-    requires some { 0 < length stack.old.items }
-    requires fits { length stack.old.items ≤ 64 }
-    ensures values { last_first (W.answers world.now) stack.new.items
-        ≡ with_unary (unary_code operator) (last_first (W.answers world.now) stack.old.items) }
-    ensures len { length stack.new.items ≡ length stack.old.items }
+// The value of an operator that takes no operands.
+#[cycle(evaluation)]
+#[inline(always)]
+fn operand_of<W: World>(world: &W, op: ExprOp<'_>, this: u16) -> Operand
+    requires { takes (op_of (operator op)) ≡ Some 0 }
+    ensures { operand_value (W.answers world.now) result
+        ≡ meaning.leaf_value (meaning.rule_values (W.rules world.now) (W.answers world.now))
+        (W.answers world.now) this (op_of (operator op.entry)) }
 {
-    let operand = stack.pop().unwrap();
-    stack.push(Operand::Made(unary(operator, resolve(world, operand))));
+    match op {
+        ExprOp::Leaf(op) => leaf(world, op, this),
+        ExprOp::RuleRef(op) => match world.rule(op.rule(), op.op.place) {
+            Some(rule) => evaluate(world, rule, 0),
+            None => Operand::Made(Outcome::Undefined),
+        },
+        _ => unreachable!(),
+    }
 }
 
-// An operator with two operands takes them from the stack, the right one first, and leaves its value there.
-fn apply_binary<W: World>(world: &W, operator: Binary, stack: &mut Stack)
-    requires some { 1 < length stack.old.items }
-    requires fits { length stack.old.items ≤ 64 }
-    ensures values { last_first (W.answers world.now) stack.new.items
-        ≡ with_binary (binary_code operator) (last_first (W.answers world.now) stack.old.items) }
-    ensures len { length stack.new.items + 1 ≡ length stack.old.items }
+// The value of an expression, by that of its first operator and the operators behind it, over room for the values that wait
+// for others.
+#[cycle(evaluation)]
+fn evaluate_behind<W: World>(
+    world: &W,
+    first: Operand,
+    mut ops: Operators<'_>,
+    this: u16,
+    waiting: &mut [Operand],
+) -> Operand
+    requires { Fit (length waiting.old + 1) 1 (operators_left ops) }
+    ensures { values_behind
+        (meaning.leaf_value (meaning.rule_values (W.rules world.now) (W.answers world.now))
+        (W.answers world.now) this)
+        (operand_value (W.answers world.now) first ∷ []) (operators_left ops.entry)
+        ≡ operand_value (W.answers world.now) result ∷ [] }
 {
-    let right = stack.pop().unwrap();
-    let left = stack.pop().unwrap();
-    let outcome = binary(operator, resolve(world, left), resolve(world, right));
-    stack.push(Operand::Made(outcome));
+    let mut last = first;
+    let mut count = 0;
+    while let Some(op) = ops.next() {
+        last = match op {
+            ExprOp::Unary(op) => Operand::Made(unary(op.operator, resolve(world, last))),
+            ExprOp::Binary(op) => {
+                count -= 1;
+                let left = waiting[count];
+                Operand::Made(binary(op.operator, resolve(world, left), resolve(world, last)))
+            }
+            _ => {
+                waiting[count] = last;
+                count += 1;
+                operand_of(world, op, this)
+            }
+        };
+    }
+    last
 }
 
 /// The value of an expression.
+#[cycle(evaluation)]
 pub(crate) fn evaluate<W: World>(world: &W, expr: Expr<'_>, this: u16) -> Operand
     ensures { operand_value (W.answers world.now) result
         ≡ meaning.value (W.rules world.now) (W.answers world.now) this (tree_of expr.entry) }
 {
-    let mut stack = Stack::new();
     let mut ops = expr.operators();
-    while let Some(op) = ops.next() {
-        match op {
-            ExprOp::Leaf(op) => stack.push(leaf(world, op, this)),
-            ExprOp::RuleRef(op) => match world.rule(op.rule(), op.op.place) {
-                Some(rule) => stack.push(evaluate(world, rule, 0)),
-                None => stack.push(Operand::Made(Outcome::Undefined)),
-            },
-            ExprOp::Unary(op) => apply_unary(world, op.operator, &mut stack),
-            ExprOp::Binary(op) => apply_binary(world, op.operator, &mut stack),
-        }
+    let first = operand_of(world, ops.next().unwrap(), this);
+    if ops.is_done() {
+        return first;
     }
-    stack.pop().unwrap()
+    if expr.needs_few(FEW + 1) {
+        evaluate_behind(world, first, ops, this, &mut [NOTHING; FEW])
+    } else {
+        evaluate_behind(world, first, ops, this, &mut [NOTHING; MAX_VALUES])
+    }
 }

@@ -22,7 +22,7 @@ pub struct Expr<'a> {
 }
 
 impl<'a> Expr<'a> {
-    ghost use Rattle.std.specs.Prelude.{◌≡◌, ◌≤◌, IfOk, IfErr, IsOk, length, slice_range};
+    ghost use Rattle.std.specs.Prelude.{◌≡◌, ◌≤◌, true, IfOk, IfErr, IsOk, length, slice_range};
     ghost use Rattle.hii_bytes.specs.Faults.{IsLeast, HasNone};
     ghost use Rattle.ifr_expr.specs.code.Checked.{marks};
     ghost use Rattle.ifr_expr.specs.code.Expressions.{tree_of, end_of, operators_left};
@@ -79,6 +79,23 @@ impl<'a> Expr<'a> {
         }
     }
 
+    /// The expression that stands at a range of a package, in bytes from its header: the node of an operator, which has no
+    /// fault.
+    pub fn over(ifr: &'a [u8], from: u32, to: u32) -> Expr<'a>
+        requires ordered { from ≤ to }
+        requires within { to ≤ length ifr.now }
+        requires node { IsExpressionNode (slice_range ifr.now from to) }
+        requires sound { HasNone
+            (IsExpressionFault from (opcodes_of from (slice_range ifr.now from to))) }
+        ensures read { Means (opcodes_of from (slice_range ifr.entry.now from to)) (tree_of result) }
+        ensures range { (result.place ≡ from) × (end_of result ≡ to) }
+    {
+        Expr {
+            bytes: &ifr[from as usize..to as usize],
+            place: from,
+        }
+    }
+
     // The operators of the expression, by place.
     pub(crate) fn operators(self) -> Operators<'a>
         ensures { operators_left result ≡ marks self.entry.place self.entry.bytes.now }
@@ -88,12 +105,21 @@ impl<'a> Expr<'a> {
         }
     }
 
+    // Whether its bytes are too few to need more values at once than these: an operator has two bytes or more, and to n values
+    // at once there are 2 n - 1 operators or more.
+    pub(crate) fn needs_few(self, count: usize) -> bool
+        requires { count ≤ 64 }
+        ensures { result ≡ true → need (tree_of self.entry) ≤ count }
+    {
+        self.bytes.len() < 4 * count + 2
+    }
+
     /// How many opcodes it has; an END is none of them.
     pub fn len(self) -> usize
         ensures { result ≡ length (post (tree_of self.entry)) }
     {
         let mut count = 0;
-        let mut ops = self.operators();
+        let mut ops = Opcodes::over(self.bytes, self.place);
         while let Some(_op) = ops.next() {
             count += 1;
         }

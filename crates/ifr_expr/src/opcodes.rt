@@ -16,7 +16,7 @@ pub struct Opcodes<'a> {
 }
 
 impl<'a> Opcodes<'a> {
-    ghost use Rattle.std.specs.Prelude.{◌≡◌};
+    ghost use Rattle.std.specs.Prelude.{◌≡◌, true, []};
     ghost use Rattle.std.specs.Iterator.{YieldsFirstBy};
     ghost use Rattle.ifr_opcodes.specs.code.Ops.{op_of};
     ghost use Rattle.ifr_expr.specs.code.Checked.{marks};
@@ -31,7 +31,15 @@ impl<'a> Opcodes<'a> {
         Opcodes { rest: bytes, place }
     }
 
+    // Whether no byte is left, and so no opcode.
+    pub(crate) fn is_done(&self) -> bool
+        ensures { result ≡ true → opcodes_left self.now ≡ [] }
+    {
+        self.rest.is_empty()
+    }
+
     // Goes to the next.
+    #[inline(always)]
     fn step(&mut self) -> Option<Op<'a>>
         ensures { YieldsFirstBy op_of opcodes_left self.old result self.new }
     {
@@ -58,6 +66,7 @@ impl<'a> Iterator for Opcodes<'a> {
 
     ghost remaining = { item_count opcodes_left };
 
+    #[inline(always)]
     fn next(&mut self) -> Option<Op<'a>> {
         self.step()
     }

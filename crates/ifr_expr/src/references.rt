@@ -2,12 +2,12 @@
 
 ghost use Rattle.std.specs.Prelude.{◌≡◌};
 ghost use Rattle.ifr_opcodes.specs.code.Ops.{op_of};
-ghost use Rattle.ifr_opcodes.specs.code.Views.{operator};
+ghost use Rattle.ifr_expr.specs.code.Checked.{IsSized};
 ghost use Rattle.ifr_expr.specs.code.ReferencesLeft.{as_list};
 ghost use Rattle.ifr_expr.specs.References.{references_of};
 
 use crate::operators::Operators;
-use ifr_opcodes::ExprOp;
+use ifr_opcodes::{Op, RULE_REF, RuleRefOp};
 
 /// A reference to a rule (UEFI 2.8, 33.3.8.3, EFI_IFR_RULE_REF).
 #[derive(Clone, Copy, Debug, PartialEq, Eq)]
@@ -18,17 +18,19 @@ pub struct RuleReference {
     pub place: u32,
 }
 
-// The reference that an operator is, if it is one.
-fn reference_in(op: ExprOp) -> Option<RuleReference>
-    ensures { as_list result ≡ references_of (op_of (operator op.entry)) }
+// The reference that an operator's opcode is, if it is one.
+fn reference_in(op: Op) -> Option<RuleReference>
+    requires { IsSized (op_of op) }
+    ensures { as_list result ≡ references_of (op_of op.entry) }
 {
-    match op {
-        ExprOp::RuleRef(op) => Some(RuleReference {
-            id: op.rule(),
-            place: op.op.place,
-        }),
-        _ => None,
+    if op.code != RULE_REF {
+        return None;
     }
+    let view = RuleRefOp { op };
+    Some(RuleReference {
+        id: view.rule(),
+        place: op.place,
+    })
 }
 
 /// The references to rules that are left of an expression, by place.
@@ -45,7 +47,7 @@ impl<'a> RuleReferences<'a> {
     fn step(&mut self) -> Option<RuleReference>
         ensures { YieldsFirstBy (λ reference. reference) references_left self.old result self.new }
     {
-        while let Some(op) = self.ops.next() {
+        while let Some(op) = self.ops.next_op() {
             if let Some(reference) = reference_in(op) {
                 return Some(reference);
             }

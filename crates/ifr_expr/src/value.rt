@@ -47,12 +47,6 @@ pub(crate) enum Operand {
     Answer(u16),
 }
 
-impl Default for Operand {
-    fn default() -> Self {
-        Operand::Made(Outcome::Undefined)
-    }
-}
-
 /// What questions answer.
 pub trait Answers<'v> {
     ghost use Rattle.std.specs.Prelude.{◌≡◌, ℕ};

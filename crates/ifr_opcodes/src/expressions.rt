@@ -8,14 +8,14 @@ ghost use Rattle.ifr_opcodes.specs.Operators.{is_among, uints};
 ghost use Rattle.ifr_opcodes.specs.code.Ops.{bytes_of};
 
 use crate::codes::{
-    EQ_ID_ID, EQ_ID_VAL, EQ_ID_VAL_LIST, QUESTION_REF1, RULE_REF, THIS, UINT8, UINT16, UINT32,
-    UINT64,
+    BITWISE_NOT, EQ_ID_ID, EQ_ID_VAL, EQ_ID_VAL_LIST, FALSE, NOT, ONE, ONES, QUESTION_REF1,
+    RULE_REF, THIS, TRUE, UINT8, UINT16, UINT32, UINT64, UNDEFINED, ZERO,
 };
 use crate::eq_id_id::EqIdIdOp;
 use crate::eq_id_val::EqIdValOp;
 use crate::eq_id_val_list::EqIdValListOp;
 use crate::op::Op;
-use crate::operators::{Binary, Constant, Unary, operands};
+use crate::operators::{Binary, Constant, Unary, is_operator};
 use crate::references::{QuestionRefOp, RuleRefOp};
 use crate::rows::least_len;
 use hii_bytes::{Cause, Fault};
@@ -46,13 +46,39 @@ impl<'a> ExprOp<'a> {
     pub fn read(op: Op<'a>) -> Result<ExprOp<'a>, Fault>
         ensures { Reads (λ op. is_operator (number op)) operator op.entry result }
     {
-        let Some(count) = operands(op.code) else {
+        if !is_operator(op.code) {
             return Err(op.fault(Cause::OpOutside));
-        };
+        }
         op.check_length(least_len(op))?;
-        Ok(match count {
-            0 => ExprOp::without_operands(op),
-            1 => ExprOp::Unary(UnaryOp {
+        Ok(ExprOp::of(op))
+    }
+
+    /// The view of an operator's opcode that has all its fields.
+    #[inline(always)]
+    #[tactic(auto, unfolding(crate::specs::Operators::operands))]
+    pub fn of(op: Op<'a>) -> ExprOp<'a>
+        requires known { is_operator op.code ≡ true }
+        requires sized { least_length (bytes_of op) ≤ length (bytes_of op) }
+        ensures { op_of (operator result) ≡ op_of op.entry }
+    {
+        match op.code {
+            EQ_ID_VAL => ExprOp::Leaf(LeafOp::EqIdVal(EqIdValOp { op })),
+            EQ_ID_ID => ExprOp::Leaf(LeafOp::EqIdId(EqIdIdOp { op })),
+            EQ_ID_VAL_LIST => ExprOp::Leaf(LeafOp::EqIdValList(EqIdValListOp { op })),
+            QUESTION_REF1 => ExprOp::Leaf(LeafOp::QuestionRef(QuestionRefOp { op })),
+            UINT8 => ExprOp::Leaf(LeafOp::Uint(UintOp { op })),
+            UINT16 => ExprOp::Leaf(LeafOp::Uint(UintOp { op })),
+            UINT32 => ExprOp::Leaf(LeafOp::Uint(UintOp { op })),
+            UINT64 => ExprOp::Leaf(LeafOp::Uint(UintOp { op })),
+            THIS => ExprOp::Leaf(LeafOp::This(ThisOp { op })),
+            RULE_REF => ExprOp::RuleRef(RuleRefOp { op }),
+            TRUE | FALSE | ZERO | ONE | ONES | UNDEFINED => {
+                ExprOp::Leaf(LeafOp::Constant(ConstantOp {
+                    op,
+                    constant: Constant::of(op.code),
+                }))
+            }
+            NOT | BITWISE_NOT => ExprOp::Unary(UnaryOp {
                 op,
                 operator: Unary::of(op.code),
             }),
@@ -60,19 +86,7 @@ impl<'a> ExprOp<'a> {
                 op,
                 operator: Binary::of(op.code),
             }),
-        })
-    }
-
-    // The view of an operator that takes no operands.
-    fn without_operands(op: Op<'a>) -> ExprOp<'a>
-        requires leaf { operands op.code ≡ Some 0 }
-        requires sized { least_length (bytes_of op) ≤ length (bytes_of op) }
-        ensures { op_of (operator result) ≡ op_of op.entry }
-    {
-        if op.code == RULE_REF {
-            return ExprOp::RuleRef(RuleRefOp { op });
         }
-        ExprOp::Leaf(LeafOp::of(op))
     }
 
     /// The opcode of the operator.
@@ -113,31 +127,6 @@ impl<'a> LeafOp<'a> {
     ghost use Rattle.ifr_opcodes.specs.Fields.{least_length};
     ghost use Rattle.ifr_opcodes.specs.code.Ops.{op_of};
     ghost use Rattle.ifr_opcodes.specs.code.Views.{leaf_operator};
-
-    // The view of an operator that takes no operands and is no reference to a rule.
-    #[tactic(auto, unfolding(crate::specs::Operators::operands))]
-    fn of(op: Op<'a>) -> LeafOp<'a>
-        requires leaf { operands op.code ≡ Some 0 }
-        requires other { op.code ≢ RULE_REF }
-        requires sized { least_length (bytes_of op) ≤ length (bytes_of op) }
-        ensures { op_of (leaf_operator result) ≡ op_of op.entry }
-    {
-        match op.code {
-            EQ_ID_VAL => LeafOp::EqIdVal(EqIdValOp { op }),
-            EQ_ID_ID => LeafOp::EqIdId(EqIdIdOp { op }),
-            EQ_ID_VAL_LIST => LeafOp::EqIdValList(EqIdValListOp { op }),
-            QUESTION_REF1 => LeafOp::QuestionRef(QuestionRefOp { op }),
-            UINT8 => LeafOp::Uint(UintOp { op }),
-            UINT16 => LeafOp::Uint(UintOp { op }),
-            UINT32 => LeafOp::Uint(UintOp { op }),
-            UINT64 => LeafOp::Uint(UintOp { op }),
-            THIS => LeafOp::This(ThisOp { op }),
-            _ => LeafOp::Constant(ConstantOp {
-                op,
-                constant: Constant::of(op.code),
-            }),
-        }
-    }
 
     /// The opcode of the operator.
     pub fn op(self) -> Op<'a>

@@ -129,6 +129,7 @@ pub enum Binary {
 
 impl Constant {
     // The constant of a number.
+    #[inline(always)]
     pub(crate) fn of(code: u8) -> Constant
         requires { is_among code constants ≡ true }
         ensures { constant_code result ≡ code }
@@ -148,6 +149,7 @@ impl Constant {
 impl Unary {
     // The operator of a number that takes one operand.
     #[tactic(auto, unfolding(crate::specs::Operators::operands))]
+    #[inline(always)]
     pub(crate) fn of(code: u8) -> Unary
         requires { operands_of code ≡ Some 1 }
         ensures { unary_code result ≡ code }
@@ -163,6 +165,7 @@ impl Unary {
 impl Binary {
     // The operator of a number that takes two operands.
     #[tactic(auto, unfolding(crate::specs::Operators::operands))]
+    #[inline(always)]
     pub(crate) fn of(code: u8) -> Binary
         requires { operands_of code ≡ Some 2 }
         ensures { binary_code result ≡ code }

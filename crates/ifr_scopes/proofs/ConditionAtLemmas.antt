@@ -1,45 +1,105 @@
--- The node with a condition that is looked up at a place is the one there.
-use Rattle.std.proofs.Common.{◌≡◌, ℕ, Bool, true, false, Option, Some, None, List, refl, sym, ap, ◌∙◌, subst}
+-- The node with a condition at a place is a guard, or one of the conditions of questions.
+use Rattle.std.proofs.Common.{◌≡◌, ℕ, ◌+◌, Bool, eqb, Option, Some, None, List, [], ◌∷◌, refl, sym, ap, ◌∙◌, inl, inr, arith, subst}
 use Rattle.std.specs.Prelude.{◌||◌, option_map}
-use Rattle.ifr_opcodes.specs.Forest.{Placed, SpellsForest}
+use Rattle.std.specs.Option.{option_or}
+use Rattle.std.proofs.lemmas.Bool.{cases_Bool, eqb-true, and_right}
+use Rattle.hii_bytes.specs.code.FirstFaults.{Rise}
 use Rattle.ifr_opcodes.specs.Opcode.{number}
+use Rattle.ifr_opcodes.specs.Forest.{Placed, SpellsForest}
 use Rattle.ifr_opcodes.specs.Reading.{tree_of}
-use Rattle.ifr_scopes.specs.code.Checked.{node_in, has_node}
 use Rattle.ifr_scopes.specs.Guards.{is_guard}
-use Rattle.ifr_scopes.specs.code.Index.{is_conditional, conditional_at, this_at, entry_of}
-use Rattle.ifr_scopes.specs.Kinds.{is_condition_number}
-use Rattle.ifr_scopes.specs.Nodes.{nodes_of, this_of}
+use Rattle.ifr_scopes.specs.Nodes.{nodes_of}
+use Rattle.ifr_scopes.specs.code.Checked.{node_in}
+use Rattle.ifr_scopes.specs.code.Index.{kind_at, conditional_at}
+use Rattle.ifr_scopes.specs.code.Tables.{inner_guard, guard_entry, is_question_condition, condition_entry, IsGuardEntry, IsConditionEntry}
+use Rattle.ifr_scopes.specs.declared.index.GuardEntry.{GuardEntry}
+use Rattle.ifr_scopes.specs.declared.index.ConditionEntry.{ConditionEntry}
+use Rattle.ifr_scopes.proofs.IndexLemmas.{behind, nodes_rise}
+use Rattle.ifr_scopes.proofs.NoSubmitLemmas.{is_entry}
+use Rattle.ifr_scopes.proofs.NumberLemmas.{is_guard_entry}
 use Rattle.ifr_scopes.proofs.PathLemmas.{find_within}
-use Rattle.ifr_scopes.proofs.ViewLemmas.{node_in_place, is_at}
+use Rattle.ifr_scopes.proofs.ViewLemmas.{node_in_place}
 
--- what is kept of the node that is looked up
-pub kept_this : (found : Option Placed) → entry_of (λ n. Some (this_of n)) found ≡ option_map this_of found
-kept_this None = refl
-kept_this (Some n) = refl
+abbrev place_of : Placed → ℕ
+place_of n = n.place
 
--- A node with a condition stands at the place in the package, in the scope of this question.
-pub record IsConditional (bytes : List ℕ) (place this : ℕ) : Type 0 where
-  pub there : has_node bytes place ≡ true
-  pub conditional : is_conditional (node_in bytes place) ≡ true
-  pub within : this ≡ this_of (node_in bytes place)
-  pub is : conditional_at (nodes_of bytes) place ≡ Some (node_in bytes place)
+-- of one kind or of another
+pub either_at : (one other : Placed → Bool) (low place : ℕ) (ns : List Placed) → Rise place_of low ns → kind_at (λ n. one n || other n) ns place ≡ option_or (kind_at one ns place) (kind_at other ns place)
+either_at one other low place [] r = refl
+either_at one other low place (n ∷ ns) r =
+    let later = either_at one other (n.place + 1) place ns r.1 in
+    elim (cases_Bool (eqb n.place place)) [
+      | inl at ↦
+          let past : kind_at one ns place ≡ None = behind one (n.place + 1) place ns (omega (arith, eqb-true n.place place at)) r.1 in
+          elim (cases_Bool (one n)) [
+            | inl is ↦ rw (at, is) refl
+            | inr not_one ↦ elim (cases_Bool (other n)) [
+              | inl is ↦ rw (at, not_one, is, past) refl
+              | inr not_other ↦ rw (at, not_one, not_other) later
+            ]
+          ]
+      | inr elsewhere ↦
+          rw (and_right (one n || other n) (eqb n.place place) elsewhere, and_right (one n) (eqb n.place place) elsewhere, and_right (other n) (eqb n.place place) elsewhere) later
+    ]
 
-pub conditional_some : (bytes : List ℕ) (place this : ℕ) → SpellsForest bytes (tree_of bytes) → Some this ≡ this_at (nodes_of bytes) place → IsConditional bytes place this
-conditional_some bytes place this s e = go (conditional_at (nodes_of bytes) place) refl e
+abbrev guarding : Placed → Bool
+guarding n = is_guard (number n.op)
+
+-- the guard or the condition of a question at a place
+either : (bytes : List ℕ) (place : ℕ) → SpellsForest bytes (tree_of bytes) → conditional_at (nodes_of bytes) place ≡ option_or (kind_at guarding (nodes_of bytes) place) (kind_at is_question_condition (nodes_of bytes) place)
+either bytes place s = either_at guarding is_question_condition 4 place (nodes_of bytes) (nodes_rise bytes s)
+
+-- The guard has this entry, and is the node with a condition at the place.
+pub record IsGuardAt (bytes : List ℕ) (place : ℕ) (guard : GuardEntry) : Type 0 where
+  pub kept : IsGuardEntry bytes guard
+  pub is : conditional_at (nodes_of bytes) place ≡ Some (node_in bytes guard.place)
+
+pub guard_some : (bytes : List ℕ) (place : ℕ) (guard : GuardEntry) → SpellsForest bytes (tree_of bytes) → Some guard ≡ option_map (λ n. guard_entry (inner_guard (nodes_of bytes) n.path) n) (kind_at guarding (nodes_of bytes) place) → IsGuardAt bytes place guard
+guard_some bytes place guard s e = go (kind_at guarding (nodes_of bytes) place) refl e
   where
-    go : (found : Option Placed) → conditional_at (nodes_of bytes) place ≡ found → Some this ≡ option_map this_of found → IsConditional bytes place this
+    go : (found : Option Placed) → kind_at guarding (nodes_of bytes) place ≡ found → Some guard ≡ option_map (λ n. guard_entry (inner_guard (nodes_of bytes) n.path) n) found → IsGuardAt bytes place guard
     go None at e = absurd cc
     go (Some n) at e =
-        let its = find_within is_conditional (nodes_of bytes) place n at in
-        let node : node_in bytes place ≡ n = ap (node_in bytes) (sym its.placed) ∙ node_in_place bytes n s its.within in
-        let within : this ≡ this_of n = cc in
-        record {
-          there = subst (λ (p : ℕ). has_node bytes p ≡ true) its.placed (is_at bytes n s its.within).there;
-          conditional = ap is_conditional node ∙ its.holds;
-          within = within ∙ ap this_of (sym node);
-          is = at ∙ ap (λ (m : Placed). Some m) (sym node);
-        }
+        let its = find_within guarding (nodes_of bytes) place n at in
+        let same : guard ≡ guard_entry (inner_guard (nodes_of bytes) n.path) n = cc in
+        subst (IsGuardAt bytes place) (sym same) (record {
+          kept = is_guard_entry bytes (inner_guard (nodes_of bytes) n.path) n s its.within its.holds;
+          is = either bytes place s ∙ ap (λ (o : Option Placed). option_or o (kind_at is_question_condition (nodes_of bytes) place)) at ∙ ap (λ (m : Placed). Some m) (sym (node_in_place bytes n s its.within));
+        })
 
--- such a node is one of a question's conditions where it is no guard
-pub of_question : (n : Placed) → is_conditional n ≡ true → is_guard (number n.op) ≡ false → is_condition_number (number n.op) ≡ true
-of_question n is other = ap (λ (b : Bool). b || is_condition_number (number n.op)) (sym other) ∙ is
+no_guard_at : (ns : List Placed) (found : Option Placed) → ◌≡◌ {A = Option GuardEntry} None (option_map (λ n. guard_entry (inner_guard ns n.path) n) found) → found ≡ None
+no_guard_at ns None e = refl
+no_guard_at ns (Some n) e = absurd cc
+
+no_condition_at : (found : Option Placed) → ◌≡◌ {A = Option ConditionEntry} None (option_map condition_entry found) → found ≡ None
+no_condition_at None e = refl
+no_condition_at (Some n) e = absurd cc
+
+-- The condition of a question has this entry, and is the node with a condition at the place.
+pub record IsConditionAt (bytes : List ℕ) (place : ℕ) (condition : ConditionEntry) : Type 0 where
+  pub kept : IsConditionEntry bytes condition
+  pub is : conditional_at (nodes_of bytes) place ≡ Some (node_in bytes condition.place)
+
+pub condition_some : (bytes : List ℕ) (place : ℕ) (condition : ConditionEntry) → SpellsForest bytes (tree_of bytes)
+    → ◌≡◌ {A = Option GuardEntry} None (option_map (λ n. guard_entry (inner_guard (nodes_of bytes) n.path) n) (kind_at guarding (nodes_of bytes) place))
+    → Some condition ≡ option_map condition_entry (kind_at is_question_condition (nodes_of bytes) place) → IsConditionAt bytes place condition
+condition_some bytes place condition s no_guard e = go (kind_at is_question_condition (nodes_of bytes) place) refl e
+  where
+    go : (found : Option Placed) → kind_at is_question_condition (nodes_of bytes) place ≡ found → Some condition ≡ option_map condition_entry found → IsConditionAt bytes place condition
+    go None at e = absurd cc
+    go (Some n) at e =
+        let its = find_within is_question_condition (nodes_of bytes) place n at in
+        let same : condition ≡ condition_entry n = cc in
+        subst (IsConditionAt bytes place) (sym same) (record {
+          kept = is_entry bytes n s its.within its.holds;
+          is =
+              either bytes place s ∙ ap (λ (o : Option Placed). option_or o (kind_at is_question_condition (nodes_of bytes) place)) (no_guard_at (nodes_of bytes) (kind_at guarding (nodes_of bytes) place) no_guard) ∙ at
+              ∙ ap (λ (m : Placed). Some m) (sym (node_in_place bytes n s its.within));
+        })
+
+pub none_there : (bytes : List ℕ) (place : ℕ) → SpellsForest bytes (tree_of bytes)
+    → ◌≡◌ {A = Option GuardEntry} None (option_map (λ n. guard_entry (inner_guard (nodes_of bytes) n.path) n) (kind_at guarding (nodes_of bytes) place))
+    → ◌≡◌ {A = Option ConditionEntry} None (option_map condition_entry (kind_at is_question_condition (nodes_of bytes) place)) → ◌≡◌ {A = Option Placed} None (conditional_at (nodes_of bytes) place)
+none_there bytes place s no_guard no_condition =
+    sym (either bytes place s ∙ ap (λ (o : Option Placed). option_or o (kind_at is_question_condition (nodes_of bytes) place)) (no_guard_at (nodes_of bytes) (kind_at guarding (nodes_of bytes) place) no_guard)
+    ∙ no_condition_at (kind_at is_question_condition (nodes_of bytes) place) no_condition)

@@ -1,12 +1,11 @@
 -- The expression with which a node begins stands right behind the node's opcode.
-use Rattle.std.proofs.Common.{◌≡◌, ℕ, ◌+◌, ◌<◌, ◌≤◌, true, Some, None, Result, IsOk, List, [], ◌∷◌, ◌++◌, length, slice_range, sym, ap, ◌∙◌, subst, arith, length-append}
+use Rattle.std.proofs.Common.{◌≡◌, ℕ, ◌+◌, ◌<◌, ◌≤◌, true, Some, None, List, [], ◌∷◌, ◌++◌, length, slice_range, sym, ap, ◌∙◌, subst, arith, length-append}
 use Rattle.std.specs.Prelude.{Contains}
 use Rattle.std.proofs.lemmas.Bool.{cond-true}
 use Rattle.std.proofs.lemmas.List.{length-drop}
 use Rattle.hii_bytes.specs.Faults.{HasNone}
-use Rattle.hii_bytes.specs.declared.cause.Fault.{Fault}
 use Rattle.ifr_opcodes.specs.Opcode.{number}
-use Rattle.ifr_opcodes.specs.Forest.{none, node, flat, Mark, Placed, as_ancestor}
+use Rattle.ifr_opcodes.specs.Forest.{none, node, flat, Placed, as_ancestor}
 use Rattle.ifr_opcodes.specs.Reading.{tree_of}
 use Rattle.ifr_opcodes.proofs.ForestLemmas.{takes}
 use Rattle.ifr_expr.specs.Trees.{Tree, Means, expression}
@@ -19,6 +18,7 @@ use Rattle.ifr_scopes.specs.Table.{wants_expression, wants_value}
 use Rattle.ifr_scopes.specs.Conditions.{expression_tree, tree_of_value, value_tree}
 use Rattle.ifr_scopes.specs.Checked.{IsChecked}
 use Rattle.ifr_scopes.specs.code.Checked.{IsAt, node_in, has_node}
+use Rattle.ifr_scopes.specs.code.Ends.{first_end, expression_end}
 use Rattle.ifr_scopes.proofs.ExpressionLemmas.{StandsFrom, stands_from}
 use Rattle.ifr_scopes.proofs.PlaceLemmas.{node_stands}
 use Rattle.ifr_scopes.proofs.ViewLemmas.{is_at, node_in_place}
@@ -32,6 +32,7 @@ pub record Begins (bytes : List ℕ) (outer : Placed) (from : ℕ) : Type 0 wher
   pub sound : HasNone (IsExpressionFault from (expression node.place node.op node.children))
   pub tree : tree_in (outer.place + length outer.op) outer.children ≡ tree_of_opcodes (expression node.place node.op node.children)
   pub inside : from < length bytes
+  pub ends : end_of (node_in bytes from) ≡ expression_end outer
 
 -- a node lies inside of the package
 pub place_below : (bytes : List ℕ) (n : Placed) → IsChecked bytes → Contains (nodes_of bytes) n → n.place < length bytes
@@ -42,6 +43,7 @@ place_below bytes n checked within =
     omega (arith, long, size.0, ap (λ (l : List ℕ). length l) s.1, length-drop n.place bytes, length-append (flat (node n.op n.children none)) s.0)
 
 begins_here : (bytes : List ℕ) (n : Placed) (h : HasCondition bytes n) → IsChecked bytes → Begins bytes n (n.place + length n.op)
+unfolding expression_end
 begins_here bytes n h checked =
     let from : ℕ = n.place + length n.op in
     let child : Placed = record { place = from; op = h.op; path = n.path ++ as_ancestor n ∷ []; children = h.children } in
@@ -53,6 +55,7 @@ begins_here bytes n h checked =
       sound = h.sound;
       tree = ap (tree_in from) h.first;
       inside = place_below bytes child checked h.within;
+      ends = ap end_of same ∙ sym (ap (first_end from) h.first);
     }
 
 pub begins_at : (bytes : List ℕ) (place : ℕ) (op : List ℕ) (from : ℕ) → IsChecked bytes → IsAt bytes place op → wants_expression (number (node_in bytes place).op) ≡ true → from ≡ place + length op → Begins bytes (node_in bytes place) from
@@ -61,11 +64,6 @@ begins_at bytes place op from checked at wants is =
     let h = has_condition bytes n checked (is_node bytes place op checked at) wants in
     let here : n.place + length n.op ≡ from = omega (arith, at.placed, ap (λ (l : List ℕ). length l) at.opcode, is) in
     subst (Begins bytes n) here (begins_here bytes n h checked)
-
--- the expression is accepted
-pub is_read : {X : Type 0} (bytes : List ℕ) (outer : Placed) (from : ℕ) (b : Begins bytes outer from) (result : Result X Fault)
-    → (HasNone (IsExpressionFault from (opcodes_of from (slice_range bytes from (end_of (node_in bytes from))))) → IsOk result) → IsOk result
-is_read bytes outer from b result accepted = accepted (subst (λ (l : List Mark). HasNone (IsExpressionFault from l)) (sym b.stands.opcodes) b.sound)
 
 -- the tree of the expression is that of the outer node's scope
 pub is_its_tree : (bytes : List ℕ) (outer : Placed) (from : ℕ) (b : Begins bytes outer from) (tree : Tree) → Means (opcodes_of from (slice_range bytes from (end_of (node_in bytes from)))) tree → tree ≡ tree_in (outer.place + length outer.op) outer.children

@@ -1,15 +1,17 @@
 -- What is kept of a lock is the place of a LOCKED of the package.
 use Rattle.std.proofs.Common.{◌≡◌, ℕ, Bool, true, Option, Some, None, List, [], ◌∷◌, ◌++◌, refl, sym, ap, ◌∙◌, subst, inl, inr, arith}
-use Rattle.std.specs.Prelude.{Contains, option_map, filter}
+use Rattle.std.specs.Prelude.{Contains, option_and_then, option_map, filter}
 use Rattle.std.specs.List.{flat_map}
 use Rattle.std.proofs.lemmas.Bool.{cases_Bool, cond-true, cond-false, and_parts}
 use Rattle.ifr_opcodes.specs.Forest.{Placed, SpellsForest}
 use Rattle.ifr_opcodes.specs.Reading.{tree_of}
 use Rattle.ifr_scopes.specs.code.Checked.{node_in, has_node}
-use Rattle.ifr_scopes.specs.code.Index.{indexed_at, entry_of, lock_of_indexed, lock_place_at}
+use Rattle.ifr_scopes.specs.code.Index.{indexed_at, entry_of, lock_of_indexed}
+use Rattle.ifr_scopes.specs.code.Locked.{IsLockedPlace}
 use Rattle.ifr_scopes.specs.Locks.{is_locked, locks_scope, locked_in, chain, first_of_nodes, first_lock}
-use Rattle.ifr_scopes.specs.code.LockIndex.{lock_place}
+use Rattle.ifr_scopes.specs.code.Tables.{kept_entry}
 use Rattle.ifr_scopes.specs.Nodes.{nodes_of}
+use Rattle.ifr_scopes.specs.declared.index.Entry.{Entry}
 use Rattle.ifr_scopes.proofs.ViewLemmas.{further, node_in_place, is_at}
 
 -- One of these nodes, and a LOCKED.
@@ -41,27 +43,25 @@ looked_up : (ns : List Placed) (found : Option Placed) (lock : Placed) → entry
 looked_up ns None lock e = absurd cc
 looked_up ns (Some n) lock e = first_along ns (chain n) lock e
 
-place_of : (ns : List Placed) (found : Option Placed) → entry_of (lock_place ns) found ≡ option_map (λ (lock : Placed). lock.place) (entry_of (first_lock ns) found)
-place_of ns None = refl
-place_of ns (Some n) = refl
+-- The place that is kept, if there is one, is that of a LOCKED, which is this one.
+pub record IsKeptLock (bytes : List ℕ) (lock : Option ℕ) (its : Option Placed) : Type 0 where
+  pub locked : IsLockedPlace bytes lock
+  pub is : option_map (node_in bytes) lock ≡ its
 
--- A LOCKED stands at the place in the package, and decides for what is looked up.
-pub record IsLock (bytes : List ℕ) (place lock : ℕ) : Type 0 where
-  pub there : has_node bytes lock ≡ true
-  pub locked : is_locked (node_in bytes lock) ≡ true
-  pub is : lock_of_indexed (nodes_of bytes) place ≡ Some (node_in bytes lock)
-
-pub lock_some : (bytes : List ℕ) (place lock : ℕ) → SpellsForest bytes (tree_of bytes) → Some lock ≡ lock_place_at (nodes_of bytes) place → IsLock bytes place lock
-lock_some bytes place lock s e = go (lock_of_indexed (nodes_of bytes) place) refl (e ∙ place_of (nodes_of bytes) (indexed_at (nodes_of bytes) place))
+pub lock_kept : (bytes : List ℕ) (place : ℕ) (lock : Option ℕ) → SpellsForest bytes (tree_of bytes) → lock ≡ option_map (λ (l : Placed). l.place) (lock_of_indexed (nodes_of bytes) place) → IsKeptLock bytes lock (lock_of_indexed (nodes_of bytes) place)
+lock_kept bytes place lock s e = go (lock_of_indexed (nodes_of bytes) place) refl e
   where
-    go : (found : Option Placed) → lock_of_indexed (nodes_of bytes) place ≡ found → Some lock ≡ option_map (λ (l : Placed). l.place) found → IsLock bytes place lock
-    go None is e = absurd cc
+    go : (found : Option Placed) → lock_of_indexed (nodes_of bytes) place ≡ found → lock ≡ option_map (λ (l : Placed). l.place) found → IsKeptLock bytes lock found
+    go None is e = subst (λ (o : Option ℕ). IsKeptLock bytes o None) (sym e) (record { locked = tt; is = refl })
     go (Some n) is e =
-        let here : n.place ≡ lock = cc in
         let its = looked_up (nodes_of bytes) (indexed_at (nodes_of bytes) place) n is in
-        let node : node_in bytes lock ≡ n = ap (node_in bytes) (sym here) ∙ node_in_place bytes n s its.within in
-        record {
-          there = subst (λ (p : ℕ). has_node bytes p ≡ true) here (is_at bytes n s its.within).there;
-          locked = ap is_locked node ∙ its.locked;
-          is = is ∙ ap (λ (m : Placed). Some m) (sym node);
-        }
+        let node : node_in bytes n.place ≡ n = node_in_place bytes n s its.within in
+        let there : has_node bytes n.place ≡ true = (is_at bytes n s its.within).there in
+        let locked : is_locked (node_in bytes n.place) ≡ true = ap is_locked node ∙ its.locked in
+        subst (λ (o : Option ℕ). IsKeptLock bytes o (Some n)) (sym e) (record { locked = rw (there, locked) refl; is = ap (λ (m : Placed). Some m) node })
+
+-- what the index has of a form, a statement or an option tells its lock
+pub lock_told : (ns : List Placed) (found : Option Placed) (entry : Option Entry) (lock : Option ℕ) → entry ≡ option_map (kept_entry ns) found → lock ≡ option_and_then (λ (x : Entry). x.lock) entry
+    → lock ≡ option_map (λ (l : Placed). l.place) (entry_of (first_lock ns) found)
+lock_told ns None entry lock e is = is ∙ ap (option_and_then (λ (x : Entry). x.lock)) e
+lock_told ns (Some n) entry lock e is = is ∙ ap (option_and_then (λ (x : Entry). x.lock)) e

@@ -19,7 +19,6 @@ pub mod IndexLemmas
 pub mod LockLemmas
 pub mod KeptLockLemmas
 pub mod PathLemmas
-pub mod ConditionAtLemmas
 pub mod RuleFacts
 pub mod QuestionFacts
 pub mod ThisLemmas
@@ -39,5 +38,12 @@ pub mod RuleWorkedValues
 pub mod ReferenceLemmas
 pub mod AroundLemmas
 pub mod ScopeLemmas
+pub mod EntryLemmas
 pub mod NoSubmitFacts
 pub mod NoSubmitLemmas
+pub mod NumberLemmas
+pub mod ConditionAtLemmas
+pub mod IndexingLemmas
+pub mod LockingLemmas
+pub mod OutwardLemmas
+pub mod FormTableLemmas

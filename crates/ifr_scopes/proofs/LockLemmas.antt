@@ -1,19 +1,12 @@
 -- The first LOCKED of each scope are found node by node.
-use Rattle.std.proofs.Common.{◌≡◌, ℕ, ◌+◌, ◌<◌, eqb, cond, Option, Some, None, List, [], ◌∷◌, ◌++◌, length, get_or, drop, refl, sym, ap, ◌∙◌, arith}
+use Rattle.std.proofs.Common.{◌≡◌, ℕ, ◌+◌, ◌<◌, Option, Some, None, List, [], ◌∷◌, ◌++◌, length, get_or, drop, refl, sym, ap, ◌∙◌}
 use Rattle.std.specs.Prelude.{option_map}
 use Rattle.std.specs.List.{flat_map}
-use Rattle.std.specs.BTreeMap.{BTreeMap, get, Updates}
 use Rattle.std.specs.Option.{option_or}
-use Rattle.std.specs.Ordering.{nat_cmp}
-use Rattle.std.proofs.lemmas.Bool.Decides.{nat_tests}
 use Rattle.std.proofs.lemmas.List.{at_drop_more}
 use Rattle.ifr_opcodes.specs.Forest.{Placed}
 use Rattle.ifr_scopes.specs.Locks.{locked_in, chain, first_of_nodes}
 use Rattle.ifr_scopes.specs.code.LockIndex.{first_place, lock_place, first_some}
-
--- What was found so far, else the first of those that are left, is the first of all.
-abbrev pub Finds : (ℕ → Option ℕ) → (ℕ → Option ℕ) → List Placed → Type 0
-Finds all found left = (scope : ℕ) → option_or (found scope) (first_place left scope) ≡ all scope
 
 -- ---- the first along the places of a node
 
@@ -40,8 +33,3 @@ same_first found all (place ∷ places) e = rw (e place, same_first found all pl
 -- what is found for the scopes tells for a node
 pub decides : (ns : List Placed) (found : ℕ → Option ℕ) (n : Placed) → ((scope : ℕ) → found scope ≡ first_place ns scope) → first_some found (chain n) ≡ lock_place ns n
 decides ns found n e = same_first found (first_place ns) (chain n) e ∙ sym (first-flat_map ns (chain n))
-
--- ---- what was put into an index
-
-pub put : (old new : BTreeMap ℕ ℕ) (key value place : ℕ) → Updates nat_cmp old new key (Some value) → get nat_cmp new place ≡ cond (eqb key place) (Some value) (get nat_cmp old place)
-put old new key value place updates = let at = updates.0 place in grind (arith, nat_tests)

@@ -12,7 +12,7 @@ use Rattle.ifr_opcodes.specs.Forest.{Mark, Ancestor, Placed, as_ancestor}
 use Rattle.ifr_scopes.specs.Checked.{IsChecked}
 use Rattle.ifr_scopes.specs.Guards.{is_guard, node_within, nodes_on, guards, guards_among}
 use Rattle.ifr_scopes.specs.code.Index.{is_indexed, guards_of_indexed}
-use Rattle.ifr_scopes.specs.code.KeptNoSubmits.{parent_place}
+use Rattle.ifr_scopes.specs.code.Tables.{parent_place}
 use Rattle.ifr_opcodes.specs.Statements.{is_question_number, is_statement_number}
 use Rattle.ifr_scopes.specs.Kinds.{is_store_number, is_condition_number, is_ignored}
 use Rattle.ifr_scopes.specs.Nodes.{nodes_of, is_form, is_question, is_statement, is_no_submit}

@@ -1,5 +1,5 @@
 -- The guards of a node are kept.
-use Rattle.std.proofs.Common.{◌≡◌, ℕ, zero, suc, ◌+◌, ◌<◌, ◌≤◌, Bool, true, false, eqb, Option, Some, None, List, [], ◌∷◌, ◌++◌, length, map, get_or, refl, sym, ap, ◌∙◌, subst, inl, inr, arith}
+use Rattle.std.proofs.Common.{◌≡◌, ℕ, zero, suc, ◌+◌, ◌<◌, ◌≤◌, Bool, true, false, eqb, Option, Some, List, [], ◌∷◌, ◌++◌, length, map, get_or, refl, sym, ap, ◌∙◌, subst, inl, inr, arith}
 use Rattle.std.specs.Prelude.{Contains, ◌&&◌, filter, option_map}
 use Rattle.std.specs.List.{AllByRecursion}
 use Rattle.std.proofs.lemmas.Bool.{cases_Bool, eq-eqb, eqb-true, ne_eqb, cond-true, cond-false, and_parts, and_from, and_right}
@@ -9,7 +9,7 @@ use Rattle.ifr_opcodes.specs.Forest.{flat, Ancestor, Placed, as_ancestor, below,
 use Rattle.ifr_opcodes.specs.Reading.{tree_of}
 use Rattle.ifr_scopes.specs.Guards.{is_guard, node_within, nodes_on, guards, guards_among}
 use Rattle.ifr_scopes.specs.code.Index.{is_indexed, kind_at, indexed_at, entry_of, or_none, guards_of_indexed, lock_of_indexed}
-use Rattle.ifr_scopes.specs.code.Kept.{IsKept, AreKept, kept_guard, kept_guards, kept_at}
+use Rattle.ifr_scopes.specs.code.Kept.{IsKept, AreKept, kept_guard, kept_guards}
 use Rattle.ifr_scopes.specs.Locks.{first_lock}
 use Rattle.ifr_scopes.specs.Nodes.{nodes_of, is_statement, statements, this_of}
 use Rattle.ifr_scopes.specs.code.Checked.{IsNodeOf, AreNodesOf, node_in}
@@ -83,16 +83,6 @@ find_within is (m ∷ ns) place n e = elim (cases_Bool (is m && eqb m.place plac
       let its = find_within is ns place n (sym (cond-false (is m && eqb m.place place) (Some m) (kind_at is ns place) later) ∙ e) in
       record { within = further m ns n its.within; holds = its.holds; placed = its.placed }
 ]
-
-pub kept_some : (bytes : List ℕ) (place : ℕ) (kept : List GuardPlace) → SpellsForest bytes (tree_of bytes) → Some kept ≡ kept_at (nodes_of bytes) place → Keeps bytes kept (guards_of_indexed (nodes_of bytes) place)
-kept_some bytes place kept s e = go (indexed_at (nodes_of bytes) place) refl e
-  where
-    go : (o : Option Placed) → indexed_at (nodes_of bytes) place ≡ o → Some kept ≡ entry_of (λ m. Some (kept_guards m)) o → Keeps bytes kept (guards_of_indexed (nodes_of bytes) place)
-    go None is e = absurd cc
-    go (Some n) is e =
-        let same : kept ≡ kept_guards n = cc in
-        let its : guards n ≡ guards_of_indexed (nodes_of bytes) place = sym (ap (λ (o : Option Placed). or_none (option_map guards o)) is) in
-        subst (Keeps bytes kept) its (subst (λ (l : List GuardPlace). Keeps bytes l (guards n)) (sym same) (keeps bytes n s (find_within is_indexed (nodes_of bytes) place n is).within))
 
 -- ---- what is looked up at the place of a form, a statement or an option
 

@@ -1,16 +1,18 @@
 -- How structs, iterators and tables of the code are seen. No module outside of this folder and of laws cites one of it.
 pub mod AnyConditions
 pub mod Around
+pub mod AroundViews
 pub mod Causes
 pub mod Checked
 pub mod DependenceLeft
+pub mod Ends
 pub mod Frames
 pub mod Index
 pub mod Kept
-pub mod KeptNoSubmits
 pub mod KeptRules
 pub mod Lists
 pub mod LockIndex
+pub mod Locked
 pub mod LocksLeft
 pub mod Met
 pub mod NoSubmitsLeft
@@ -20,6 +22,7 @@ pub mod ReadForms
 pub mod RuleNodes
 pub mod Rules
 pub mod Scopes
+pub mod Tables
 pub mod Views
 pub mod Visits
 pub mod Walking

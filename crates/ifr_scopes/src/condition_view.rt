@@ -4,11 +4,17 @@ ghost use Rattle.std.specs.Prelude.{◌≡◌, true, All};
 ghost use Rattle.ifr_opcodes.specs.Opcode.{number};
 ghost use Rattle.ifr_scopes.specs.Kinds.{is_condition_number};
 ghost use Rattle.ifr_scopes.specs.Nodes.{of_question, this_of};
+ghost use Rattle.ifr_scopes.specs.Checked.{IsChecked};
+ghost use Rattle.ifr_scopes.specs.code.Checked.{node_in};
+ghost use Rattle.ifr_scopes.specs.code.Ends.{expression_end};
 ghost use Rattle.ifr_scopes.specs.code.PartsLeft.{parts_left, HaveThis, HaveThis-prop};
+ghost use Rattle.ifr_scopes.specs.code.Tables.{IsConditionEntry};
 ghost use Rattle.ifr_scopes.specs.code.Views.{node_of};
 
+use crate::index::ConditionEntry;
 use crate::node::Node;
 use crate::nodes_of::NodesOf;
+use crate::places::node_at;
 use ifr_expr::Expr;
 use ifr_opcodes::{
     INCONSISTENT_IF, InconsistentIfOp, NO_SUBMIT_IF, NoSubmitIfOp, Op, WARNING_IF, WarningIfOp,
@@ -65,8 +71,11 @@ impl<'a> ConditionOp<'a> {
 pub struct ConditionView<'a> {
     pub(crate) node: Node<'a>,
     pub(crate) this: u16,
+    // Where its expression ends, in bytes from the package's header.
+    pub(crate) ends: u32,
     pub ghost condition: { is_condition_number (number (node_of node).op) ≡ true },
     pub ghost within: { this ≡ this_of (node_of node) },
+    pub ghost ended: { ends ≡ expression_end (node_of node) },
 }
 
 impl<'a> ConditionView<'a> {
@@ -74,6 +83,19 @@ impl<'a> ConditionView<'a> {
     ghost use Rattle.ifr_expr.specs.code.Expressions.{tree_of};
     ghost use Rattle.ifr_scopes.specs.Conditions.{expression_tree};
     ghost use Rattle.ifr_scopes.specs.code.Parts.{condition_node, condition_op};
+
+    /// A condition of an index.
+    pub(crate) fn kept(ifr: &'a [u8], condition: ConditionEntry) -> ConditionView<'a>
+        requires checked { IsChecked ifr.now }
+        requires kept { IsConditionEntry ifr.now condition }
+        ensures { condition_node result ≡ node_in ifr.entry.now condition.place }
+    {
+        ConditionView {
+            node: node_at(ifr, condition.place),
+            this: condition.this,
+            ends: condition.ends,
+        }
+    }
 
     /// The place of the condition, in bytes from the package's header.
     pub fn place(self) -> u32
@@ -101,7 +123,7 @@ impl<'a> ConditionView<'a> {
     pub fn condition(self) -> Expr<'a>
         ensures { tree_of result ≡ expression_tree (condition_node self.entry) }
     {
-        self.node.expression()
+        self.node.expression_to(self.ends)
     }
 }
 
@@ -151,6 +173,7 @@ impl<'a> Iterator for ConditionViews<'a> {
         Some(ConditionView {
             node,
             this: self.this,
+            ends: node.expression_end(),
         })
     }
 }

@@ -1,6 +1,6 @@
 //! A forms package that was read.
 
-ghost use Rattle.std.specs.Prelude.{◌≡◌, ◌∷◌, true, List, IfOk, IfErr, IfSome, filter, map, option_map};
+ghost use Rattle.std.specs.Prelude.{◌≡◌, ◌∷◌, true, List, IfOk, IfErr, IfSome, filter, option_map};
 ghost use Rattle.std.specs.List.{find};
 ghost use Rattle.hii_bytes.specs.Faults.{Refuses};
 ghost use Rattle.ifr_opcodes.specs.Forest.{Placed};
@@ -9,40 +9,39 @@ ghost use Rattle.ifr_expr.specs.Meaning.{names};
 ghost use Rattle.ifr_expr.specs.code.Rules.{AreOrdered};
 ghost use Rattle.ifr_scopes.specs.Accepted.{IsAccepted, IsPackageFault};
 ghost use Rattle.ifr_scopes.specs.code.AnyConditions.{any_condition_node};
-ghost use Rattle.ifr_scopes.specs.code.Checked.{IsNodeOf, has_form, node_in};
+ghost use Rattle.ifr_scopes.specs.code.Checked.{IsNodeOf, has_form};
 ghost use Rattle.ifr_scopes.specs.Guards.{is_guard};
-ghost use Rattle.ifr_scopes.specs.code.Index.{conditional_at, guards_of_indexed, lock_of_indexed};
-ghost use Rattle.ifr_scopes.specs.code.Kept.{AreKept};
+ghost use Rattle.ifr_scopes.specs.code.Index.{conditional_at, guards_of_indexed, indexed_at, lock_of_indexed};
 ghost use Rattle.ifr_scopes.specs.code.Lists.{form_node, form_set_node, rule_node, stores_left, all_guards_left, forms_left, rules_left, statements_left, guards_left};
+ghost use Rattle.ifr_scopes.specs.code.AroundViews.{around_guards, around_lock, around_package};
 ghost use Rattle.ifr_scopes.specs.code.LocksLeft.{lock_node};
 ghost use Rattle.ifr_scopes.specs.Nodes.{nodes_of, is_form, is_store, is_statement, is_no_submit};
 ghost use Rattle.ifr_scopes.specs.code.NoSubmitsLeft.{no_submits_left};
 ghost use Rattle.ifr_scopes.specs.References.{form_with};
 ghost use Rattle.ifr_scopes.specs.Rules.{is_rule, as_rule, rule_nodes};
 ghost use Rattle.ifr_scopes.specs.code.Rules.{rules_of};
+ghost use Rattle.ifr_scopes.specs.code.Tables.{kept_entry};
 ghost use Rattle.ifr_scopes.specs.code.Views.{node_of};
 
 use crate::any_condition::AnyCondition;
-use crate::condition_index::{ConditionIndex, conditions_of};
+use crate::around::{Around, guard_number, lock_place};
 use crate::condition_view::ConditionView;
 use crate::form::{Form, FormViews};
-use crate::form_index::{FormIndex, forms_by_id};
 use crate::form_set::FormSet;
 use crate::framing::check_framing;
 use crate::guard::{Guard, GuardViews};
-use crate::guard_place::GuardPlace;
 use crate::guards_at::GuardsAt;
-use crate::index::{Index, index_of};
-use crate::lock_index::{LockIndex, locks_of};
+use crate::guards_outward::GuardsOutward;
+use crate::index::{Entry, Index, condition_at, entry_at, guard_at};
+use crate::indexing::index_of;
 use crate::locks::LockView;
-use crate::no_submits::{NoSubmitPlace, NoSubmits, no_submits_of};
+use crate::no_submits::NoSubmits;
 use crate::node::Node;
 use crate::nodes::Nodes;
 use crate::places::node_at;
 use crate::references::check_references;
 use crate::rule::{RuleView, RuleViews};
 use crate::rules::{RuleTable, expression_of};
-use crate::scoped_nodes::ScopedNodes;
 use crate::statement::Statements;
 use crate::structure::check_structure;
 use crate::varstore::Varstores;
@@ -58,27 +57,17 @@ pub struct Forms<'a> {
     ifr: &'a [u8],
     rules: RuleTable,
     index: Index,
-    locks: LockIndex,
-    no_submits: Vec<NoSubmitPlace>,
-    conditions: ConditionIndex,
-    forms: FormIndex,
 }
 
 impl<'a> Model for Forms<'a> {
-    ghost use Rattle.std.specs.Prelude.{ℕ, List, option_map};
-    ghost use Rattle.std.specs.BTreeMap.{get};
-    ghost use Rattle.std.specs.Ordering.{nat_cmp};
+    ghost use Rattle.std.specs.Prelude.{ℕ, List};
     ghost use Rattle.ifr_scopes.specs.code.ReadForms.{IsReadAs};
 
     ghost Value = { List ℕ };
 
     ghost view = { λ s. s.ifr.now };
 
-    ghost invariant = { λ s. IsReadAs s.ifr.now
-        (λ place. option_map (λ v. v.items) (get nat_cmp s.index place)) s.rules
-        (λ place. get nat_cmp s.locks place) s.no_submits.items
-        (λ place. get nat_cmp s.conditions place)
-        (λ id. get nat_cmp s.forms id) };
+    ghost invariant = { λ s. IsReadAs s.ifr.now s.rules s.index };
 }
 
 impl<'a> Forms<'a> {
@@ -95,19 +84,7 @@ impl<'a> Forms<'a> {
         check_structure(ifr)?;
         let rules = check_references(alloc, ifr)?;
         let index = index_of(alloc, ifr)?;
-        let locks = locks_of(alloc, ifr)?;
-        let no_submits = no_submits_of(alloc, ifr)?;
-        let conditions = conditions_of(alloc, ifr)?;
-        let forms = forms_by_id(alloc, ifr)?;
-        Ok(Forms {
-            ifr,
-            rules,
-            index,
-            locks,
-            no_submits,
-            conditions,
-            forms,
-        })
+        Ok(Forms { ifr, rules, index })
     }
 
     /// The bytes of the package, which is accepted.
@@ -136,12 +113,13 @@ impl<'a> Forms<'a> {
     }
 
     /// All guards, by place.
-    pub fn guards(&self) -> GuardViews<'a>
+    pub fn guards(&self) -> GuardViews<'_, 'a>
         ensures { all_guards_left result
             ≡ filter (λ n. is_guard (number n.op)) (nodes_of self.now) }
     {
         GuardViews {
-            nodes: ScopedNodes::over(self.ifr),
+            ifr: self.ifr,
+            guards: &self.index.guards,
         }
     }
 
@@ -169,8 +147,8 @@ impl<'a> Forms<'a> {
     pub fn form(&self, id: u16) -> Option<Form<'a>>
         ensures { option_map form_node result ≡ form_with (nodes_of self.now) id }
     {
-        let place = self.forms.get(&id)?;
-        Some(self.form_at(*place))
+        let place = self.index.forms.find(id)?;
+        Some(self.form_at(place))
     }
 
     /// The rules of all forms, by place.
@@ -218,19 +196,32 @@ impl<'a> Forms<'a> {
     {
         NoSubmits {
             forms: self,
-            kept: &self.no_submits,
+            kept: &self.index.conditions,
         }
     }
 
-    // The guards of the form, statement or option at a place, as the index keeps them.
-    fn kept_at(&self, place: u32) -> &[GuardPlace]
-        ensures guards { AreKept self.now result.now }
-        ensures again { map (λ guard. node_in self.now guard.place) result.now
-            ≡ guards_of_indexed (nodes_of self.now) place }
+    // What the index has of the form, statement or option at a place.
+    fn entry_at(&self, place: u32) -> Option<Entry>
+        ensures { result
+            ≡ option_map (kept_entry (nodes_of self.now)) (indexed_at (nodes_of self.now) place) }
     {
-        match self.index.get(&place) {
-            Some(guards) => guards.as_slice(),
-            None => &[],
+        entry_at(&self.index.entries, place)
+    }
+
+    /// What stands around the form, statement or option at a place, found in one search; nothing at any other place.
+    pub fn around(&self, place: u32) -> Around<'_, 'a>
+        ensures guards { around_guards result ≡ guards_of_indexed (nodes_of self.now) place }
+        ensures lock { around_lock result ≡ lock_of_indexed (nodes_of self.now) place }
+        ensures of_package { around_package result ≡ self.now }
+    {
+        let entry = self.entry_at(place);
+        Around {
+            guards: GuardsOutward {
+                ifr: self.ifr,
+                guards: &self.index.guards,
+                next: guard_number(entry),
+            },
+            lock: lock_place(entry),
         }
     }
 
@@ -239,33 +230,25 @@ impl<'a> Forms<'a> {
         ensures guards { guards_left result ≡ guards_of_indexed (nodes_of self.now) place }
         ensures of_package { result.ifr.now ≡ self.now }
     {
-        GuardsAt {
-            ifr: self.ifr,
-            kept: self.kept_at(place),
-        }
+        self.around(place).guards().outermost_first()
     }
 
     /// The LOCKED that decides for the form, statement or option at a place, if one locks it; none at any other place.
     pub fn lock_at(&self, place: u32) -> Option<LockView<'a>>
         ensures { option_map lock_node result ≡ lock_of_indexed (nodes_of self.now) place }
     {
-        let lock = self.locks.get(&place)?;
-        Some(LockView {
-            node: node_at(self.ifr, *lock),
-        })
+        self.around(place).lock()
     }
 
     /// The condition of the opcode at a place, in bytes from the package's header, if it has one.
     pub fn condition_at(&self, place: u32) -> Option<AnyCondition<'a>>
         ensures { option_map any_condition_node result ≡ conditional_at (nodes_of self.now) place }
     {
-        let this = *self.conditions.get(&place)?;
-        let node = node_at(self.ifr, place);
-        if node.is_guard() {
-            Some(AnyCondition::Guard(Guard { node, this }))
-        } else {
-            Some(AnyCondition::Question(ConditionView { node, this }))
+        if let Some(guard) = guard_at(&self.index.guards, place) {
+            return Some(AnyCondition::Guard(Guard::kept(self.ifr, guard)));
         }
+        let condition = condition_at(&self.index.conditions, place)?;
+        Some(AnyCondition::Question(ConditionView::kept(self.ifr, condition)))
     }
 }
 

@@ -1,21 +1,25 @@
-//! The guards at places that were kept.
+//! The guards at places, from the outermost inwards.
 
 ghost use Rattle.std.specs.Prelude.{◌≡◌, IfSome};
 ghost use Rattle.ifr_scopes.specs.Checked.{IsChecked};
+ghost use Rattle.ifr_scopes.specs.Nodes.{nodes_of};
 ghost use Rattle.ifr_scopes.specs.code.Checked.{IsChecked-prop};
-ghost use Rattle.ifr_scopes.specs.code.Kept.{AreKept, AreKept-prop};
+ghost use Rattle.ifr_scopes.specs.code.Tables.{IsGuardTable, IsGuardTable-prop, AreNumbers, AreNumbers-prop};
 
 use crate::guard::Guard;
-use crate::guard_place::GuardPlace;
-use crate::places::node_at;
+use crate::index::GuardEntry;
+use arrayvec::ArrayVec;
 
 /// The guards of a form, a statement or an option that are left, the outermost first.
-#[derive(Debug, Drop)]
+#[derive(Drop)]
 pub struct GuardsAt<'s, 'a> {
     pub(crate) ifr: &'a [u8],
-    pub(crate) kept: &'s [GuardPlace],
+    pub(crate) guards: &'s [GuardEntry],
+    // The numbers of the guards, the innermost first.
+    pub(crate) numbers: ArrayVec<u32, 64>,
     pub ghost checked: { IsChecked ifr.now } by { IsChecked-prop ifr.now },
-    pub ghost guards: { AreKept ifr.now kept.now } by { AreKept-prop ifr.now kept.now },
+    pub ghost table: { IsGuardTable ifr.now guards.now } by { IsGuardTable-prop ifr.now guards.now },
+    pub ghost numbered: { AreNumbers (nodes_of ifr.now) numbers.items } by { AreNumbers-prop (nodes_of ifr.now) numbers.items },
 }
 
 impl<'s, 'a> GuardsAt<'s, 'a> {
@@ -28,13 +32,8 @@ impl<'s, 'a> GuardsAt<'s, 'a> {
         ensures of_package { IfSome result (λ guard. guard_package guard ≡ self.old.ifr.now) }
         ensures kept { self.new.ifr.now ≡ self.old.ifr.now }
     {
-        let (guard, kept) = self.kept.split_first()?;
-        let node = node_at(self.ifr, guard.place);
-        self.kept = kept;
-        Some(Guard {
-            node,
-            this: guard.this,
-        })
+        let number = self.numbers.pop()?;
+        Some(Guard::kept(self.ifr, self.guards[number as usize]))
     }
 }
 

@@ -46,10 +46,7 @@ impl<'a> GuardsOf<'a> {
     {
         let guard = *self.kept.as_slice().get(self.next)?;
         self.next += 1;
-        Some(Guard {
-            node: node_at(self.ifr, guard.place),
-            this: guard.this,
-        })
+        Some(Guard::met(node_at(self.ifr, guard.place), guard.this))
     }
 }
 

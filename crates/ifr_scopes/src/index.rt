@@ -1,46 +1,90 @@
-//! The guards of forms, statements and options, by place.
+//! An index of a package: by place its forms, statements and options with what is around them, its guards, and the
+//! conditions of its questions; and its forms by their ids.
 
-ghost use Rattle.std.specs.Prelude.{◌≡◌, ◌||◌, ◌==◌, ℕ, option_map, IfOk};
-ghost use Rattle.std.specs.BTreeMap.{get};
-ghost use Rattle.std.specs.Ordering.{nat_cmp};
-ghost use Rattle.ifr_opcodes.specs.declared.codes.TheConstants as codes;
-ghost use Rattle.ifr_scopes.specs.Checked.{IsChecked};
-ghost use Rattle.ifr_scopes.specs.code.Kept.{kept_at};
-ghost use Rattle.ifr_opcodes.specs.Statements.{is_statement_number};
-ghost use Rattle.ifr_scopes.specs.Nodes.{nodes_of};
+ghost use Rattle.std.specs.Prelude.{◌≡◌, ◌==◌, ℕ};
+ghost use Rattle.std.specs.List.{find};
+ghost use Rattle.hii_bytes.specs.code.FirstFaults.{Rise};
 
-use crate::guard_place::GuardPlace;
-use crate::scoped_nodes::ScopedNodes;
-use ifr_opcodes::{FORM, ONE_OF_OPTION, is_statement};
-use smallvec::SmallVec;
-use std::alloc::{AllocError, Global};
-use std::collections::BTreeMap;
+use hii_bytes::IdTable;
 
-/// The guards of each form, statement and option by its place, the outermost first.
-pub(crate) type Index = BTreeMap<u32, SmallVec<GuardPlace, 4>>;
-
-/// Whether this is the number of a form, a statement or an option.
-pub(crate) fn is_indexed(code: u8) -> bool
-    ensures { result ≡ (code == codes.FORM || is_statement_number code
-        || code == codes.ONE_OF_OPTION) }
-{
-    code == FORM || is_statement(code) || code == ONE_OF_OPTION
+/// A form, a statement or an option. Places are in bytes from the package's header.
+#[derive(Clone, Copy, Debug)]
+pub struct Entry {
+    pub(crate) place: u32,
+    /// The number of the innermost guard around it, if there is one.
+    pub(crate) guard: Option<u32>,
+    /// The place of the LOCKED that decides for it, if it is locked.
+    pub(crate) lock: Option<u32>,
 }
 
-/// The index of a checked package.
-pub(crate) fn index_of(alloc: Global, ifr: &[u8]) -> Result<Index, AllocError>
-    requires { IsChecked ifr.now }
-    ensures { IfOk result (λ index. (place : ℕ)
-        → option_map (λ v. v.items) (get nat_cmp index place) ≡ kept_at (nodes_of ifr.now) place) }
+/// A guard. Its number is how many guards stand before it.
+#[derive(Clone, Copy, Debug)]
+pub struct GuardEntry {
+    pub(crate) place: u32,
+    /// The id of the question in whose scope it stands, or 0.
+    pub(crate) this: u16,
+    /// The number of the innermost guard around it, if there is one.
+    pub(crate) outer: Option<u32>,
+    /// Where its condition ends.
+    pub(crate) ends: u32,
+}
+
+/// A condition of a question.
+#[derive(Clone, Copy, Debug)]
+pub struct ConditionEntry {
+    pub(crate) place: u32,
+    /// The number of its opcode.
+    pub(crate) code: u8,
+    /// The place of what it stands in.
+    pub(crate) question: u32,
+    /// The id of the question in whose scope it stands, or 0.
+    pub(crate) this: u16,
+    /// Where its expression ends.
+    pub(crate) ends: u32,
+}
+
+/// The tables of a package.
+#[derive(Drop)]
+pub struct Index {
+    /// The forms, statements and options, by place.
+    pub(crate) entries: Vec<Entry>,
+    /// The guards, by place.
+    pub(crate) guards: Vec<GuardEntry>,
+    /// The conditions of questions, by place.
+    pub(crate) conditions: Vec<ConditionEntry>,
+    /// The places of the forms, by id.
+    pub(crate) forms: IdTable,
+}
+
+/// The form, statement or option at a place.
+pub(crate) fn entry_at(entries: &[Entry], place: u32) -> Option<Entry>
+    ensures { (low : ℕ) → Rise (λ (e : Entry). e.place) low entries.now
+        → result ≡ find (λ e. e.place == place) entries.now }
 {
-    let mut index = BTreeMap::new(alloc);
-    let mut nodes = ScopedNodes::over(ifr);
-    while let Some(met) = nodes.step() {
-        let op = met.node.op();
-        if is_indexed(op.code) {
-            let guards = SmallVec::from_slice(alloc, nodes.guards(&met).as_slice())?;
-            index.insert(op.place, guards)?;
-        }
+    match entries.binary_search_by_key(&place, |entry| entry.place) {
+        Ok(at) => Some(entries[at]),
+        Err(_) => None,
     }
-    Ok(index)
+}
+
+/// The guard at a place.
+pub(crate) fn guard_at(guards: &[GuardEntry], place: u32) -> Option<GuardEntry>
+    ensures { (low : ℕ) → Rise (λ (g : GuardEntry). g.place) low guards.now
+        → result ≡ find (λ g. g.place == place) guards.now }
+{
+    match guards.binary_search_by_key(&place, |guard| guard.place) {
+        Ok(at) => Some(guards[at]),
+        Err(_) => None,
+    }
+}
+
+/// The condition of a question at a place.
+pub(crate) fn condition_at(conditions: &[ConditionEntry], place: u32) -> Option<ConditionEntry>
+    ensures { (low : ℕ) → Rise (λ (c : ConditionEntry). c.place) low conditions.now
+        → result ≡ find (λ c. c.place == place) conditions.now }
+{
+    match conditions.binary_search_by_key(&place, |condition| condition.place) {
+        Ok(at) => Some(conditions[at]),
+        Err(_) => None,
+    }
 }

@@ -2,14 +2,13 @@
 #![tactic(auto)]
 
 mod any_condition;
-mod condition_index;
+mod around;
 mod condition_view;
 mod default_view;
 mod dependence;
 mod ends;
 mod form;
 mod form_end;
-mod form_index;
 mod form_set;
 mod forms;
 mod framing;
@@ -18,10 +17,11 @@ mod guard_place;
 mod guards;
 mod guards_at;
 mod guards_of;
+mod guards_outward;
 mod index;
+mod indexing;
 mod kinds;
 pub mod laws;
-mod lock_index;
 mod locks;
 mod no_submits;
 mod node;
@@ -40,6 +40,7 @@ mod varstore;
 mod walk;
 
 pub use any_condition::AnyCondition;
+pub use around::Around;
 pub use condition_view::{ConditionOp, ConditionView, ConditionViews};
 pub use default_view::{DefaultView, Defaults};
 pub use dependence::Dependence;
@@ -49,6 +50,7 @@ pub use forms::Forms;
 pub use guard::{Guard, GuardViews};
 pub use guards_at::GuardsAt;
 pub use guards_of::GuardsOf;
+pub use guards_outward::GuardsOutward;
 pub use locks::{LockView, Locks};
 pub use no_submits::{NoSubmit, NoSubmits};
 pub use option_view::{OptionView, Options};

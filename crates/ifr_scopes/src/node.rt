@@ -32,6 +32,7 @@ impl<'a> Node<'a> {
     ghost use Rattle.ifr_scopes.specs.code.Views.{node_of};
     ghost use Rattle.ifr_opcodes.specs.Fields.{ref_target};
     ghost use Rattle.ifr_expr.specs.code.Expressions.{tree_of};
+    ghost use Rattle.ifr_scopes.specs.code.Ends.{expression_end};
     ghost use Rattle.ifr_scopes.specs.Conditions.{expression_tree};
     ghost use Rattle.ifr_scopes.specs.Table.{wants_expression};
 
@@ -145,14 +146,30 @@ impl<'a> Node<'a> {
         }
     }
 
+    /// Where the expression ends with which its scope begins, in bytes from the package's header.
+    pub(crate) fn expression_end(self) -> u32
+        requires { wants_expression (number (node_of self).op) ≡ true }
+        ensures { result ≡ expression_end (node_of self.entry) }
+    {
+        end_of(self.ifr, self.op.place + self.op.len() as u32)
+    }
+
+    /// The expression with which its scope begins, which ends there.
+    pub(crate) fn expression_to(self, to: u32) -> Expr<'a>
+        requires wants { wants_expression (number (node_of self).op) ≡ true }
+        requires ends { to ≡ expression_end (node_of self) }
+        ensures { tree_of result ≡ expression_tree (node_of self.entry) }
+    {
+        let from = self.op.place + self.op.len() as u32;
+        Expr::over(self.ifr, from, to)
+    }
+
     /// The expression with which its scope begins.
     pub fn expression(self) -> Expr<'a>
         requires { wants_expression (number (node_of self).op) ≡ true }
         ensures { tree_of result ≡ expression_tree (node_of self.entry) }
     {
-        let from = self.op.place + self.op.len() as u32;
-        let to = end_of(self.ifr, from);
-        Expr::check(self.ifr, from, to).unwrap()
+        self.expression_to(self.expression_end())
     }
 
     /// The opcode of a question, as far as all questions have the same.

@@ -12,8 +12,7 @@ ghost use Rattle.ifr_opcodes.specs.Fields.{form_id, question_id};
 ghost use Rattle.ifr_scopes.specs.code.Views.{node_of};
 ghost use Rattle.ifr_scopes.specs.References.{IsReferenceFault, has_reference_fault, has_form_id, has_question_id, is_lost as lost_among};
 ghost use Rattle.ifr_scopes.specs.code.Causes.{reference_causes};
-ghost use Rattle.std.specs.BTreeSet.{contains};
-ghost use Rattle.std.specs.Ordering.{nat_cmp};
+ghost use Rattle.hii_bytes.specs.code.NumberSets.{has_number};
 ghost use Rattle.ifr_scopes.specs.code.KeptRules.{AreKeptRules};
 
 use crate::form_end::FormEnd;
@@ -22,17 +21,16 @@ use crate::node::Node;
 use crate::nodes::Nodes;
 use crate::rules::{RuleTable, expression_of};
 use crate::scoped_nodes::{ScopedNode, ScopedNodes};
-use hii_bytes::{Cause, Fault};
+use hii_bytes::{Cause, Fault, NumberSet};
 use std::alloc::{AllocError, Global};
-use std::collections::BTreeSet;
 
 /// What was met of a package: the ids of its forms and of its questions, its rules, and the form in which the last of
 /// these stands; beside the ids of all its forms.
 #[derive(Drop)]
 struct Met {
-    all: BTreeSet<u16>,
-    forms: BTreeSet<u16>,
-    questions: BTreeSet<u16>,
+    all: NumberSet,
+    forms: NumberSet,
+    questions: NumberSet,
     rules: RuleTable,
     form: Option<FormEnd>,
 }
@@ -46,18 +44,18 @@ impl Met {
     ghost use Rattle.ifr_scopes.specs.Rules.{is_rule, form_end, forms_among};
 
     /// Nothing of a package whose forms have these ids.
-    fn new(alloc: Global, all: BTreeSet<u16>) -> Met
-        ensures { (bytes : List ℕ)
-            → ((id : ℕ) → contains nat_cmp all id ≡ list_any (has_form_id id) (nodes_of bytes))
-            → AreOf bytes [] result }
+    fn new(alloc: Global, all: NumberSet) -> Result<Met, AllocError>
+        ensures { IfOk result (λ met. (bytes : List ℕ)
+            → ((id : ℕ) → has_number all id ≡ list_any (has_form_id id) (nodes_of bytes))
+            → AreOf bytes [] met) }
     {
-        Met {
+        Ok(Met {
             all,
-            forms: BTreeSet::new(alloc),
-            questions: BTreeSet::new(alloc),
+            forms: NumberSet::new(alloc)?,
+            questions: NumberSet::new(alloc)?,
             rules: RuleTable::new(alloc),
             form: None,
-        }
+        })
     }
 
     /// Where the form at a place ends.
@@ -86,7 +84,7 @@ impl Met {
         ensures met { result ≡ Ok None → MeetsNext next.now.node self.old self.new }
     {
         if !next.node.is_rule() {
-            return self.meet_other(next.node);
+            return Ok(self.meet_other(next.node));
         }
         // each rule of a checked package stands in a form
         let form = nodes.form(next).unwrap();
@@ -112,85 +110,80 @@ impl Met {
     }
 
     /// Meets the next node, which is no rule, and tells whether its id was met before, or leads to no form.
-    fn meet_other(&mut self, node: Node) -> Result<Option<Cause>, AllocError>
+    fn meet_other(&mut self, node: Node) -> Option<Cause>
         requires other { is_rule (node_of node) ≡ false }
-        ensures told { IfOk result (λ cause. (bytes : List ℕ) (before : List Placed)
-            → Tells bytes before (node_of node.entry) self.old cause) }
-        ensures met { result ≡ Ok None → (bytes : List ℕ) (before : List Placed)
+        ensures told { (bytes : List ℕ) (before : List Placed)
+            → Tells bytes before (node_of node.entry) self.old result }
+        ensures met { result ≡ None → (bytes : List ℕ) (before : List Placed)
             → Meets bytes before (node_of node.entry) self.old self.new }
     {
-        if repeats_form(&mut self.forms, node)? {
-            return Ok(Some(Cause::DuplicateForm));
+        if repeats_form(&mut self.forms, node) {
+            return Some(Cause::DuplicateForm);
         }
-        if repeats_question(&mut self.questions, node)? {
-            return Ok(Some(Cause::DuplicateQuestion));
+        if repeats_question(&mut self.questions, node) {
+            return Some(Cause::DuplicateQuestion);
         }
         if self.is_lost(node) {
-            return Ok(Some(Cause::NoForm));
+            return Some(Cause::NoForm);
         }
-        Ok(None)
+        None
     }
 
     /// Whether a question is a reference that leads to no form.
     fn is_lost(&self, node: Node) -> bool
         ensures { (ns : List Placed)
-            → ((id : ℕ) → contains nat_cmp self.now.all id ≡ list_any (has_form_id id) ns) →
+            → ((id : ℕ) → has_number self.now.all id ≡ list_any (has_form_id id) ns) →
             result ≡ (is_reference (node_of node.entry)
             && lost_among ns (ref_target (node_of node.entry).op)) }
     {
         match node.target() {
-            Some(id) => !self.all.contains(&id),
+            Some(id) => !self.all.contains(id),
             None => false,
         }
     }
 }
 
 // Whether a node is a form of an id that was met before. If not, the ids are those of the forms to and with this node.
-fn repeats_form(ids: &mut BTreeSet<u16>, node: Node) -> Result<bool, AllocError>
-    ensures { OnOk result ((before : List Placed)
-        → ((id : ℕ) → contains nat_cmp ids.old id ≡ list_any (has_form_id id) before) →
-        (result ≡ Ok (is_form (node_of node.entry)
+fn repeats_form(ids: &mut NumberSet, node: Node) -> bool
+    ensures { (before : List Placed)
+        → ((id : ℕ) → has_number ids.old id ≡ list_any (has_form_id id) before) →
+        (result ≡ (is_form (node_of node.entry)
         && list_any (has_form_id (form_id (node_of node.entry).op)) before))
-        × (result ≡ Ok false → (id : ℕ) → contains nat_cmp ids.new id
-        ≡ list_any (has_form_id id) (before ++ node_of node.entry ∷ []))) }
+        × (result ≡ false → (id : ℕ) → has_number ids.new id
+        ≡ list_any (has_form_id id) (before ++ node_of node.entry ∷ [])) }
 {
-    if node.is_form() {
-        Ok(!ids.insert(node.form().id())?)
-    } else {
-        Ok(false)
-    }
+    node.is_form() && !ids.insert(node.form().id())
 }
 
 // Whether a node is a question of an id, other than 0, that was met before. If not, the ids are those of the questions to
 // and with this node.
-fn repeats_question(ids: &mut BTreeSet<u16>, node: Node) -> Result<bool, AllocError>
-    ensures { OnOk result ((before : List Placed)
-        → ((id : ℕ) → contains nat_cmp ids.old id ≡ list_any (has_question_id id) before) →
-        (result ≡ Ok (is_question (node_of node.entry)
+fn repeats_question(ids: &mut NumberSet, node: Node) -> bool
+    ensures { (before : List Placed)
+        → ((id : ℕ) → has_number ids.old id ≡ list_any (has_question_id id) before) →
+        (result ≡ (is_question (node_of node.entry)
         && (not (question_id (node_of node.entry).op == 0)
         && list_any (has_question_id (question_id (node_of node.entry).op)) before)))
-        × (result ≡ Ok false → (id : ℕ) → contains nat_cmp ids.new id
-        ≡ list_any (has_question_id id) (before ++ node_of node.entry ∷ []))) }
+        × (result ≡ false → (id : ℕ) → has_number ids.new id
+        ≡ list_any (has_question_id id) (before ++ node_of node.entry ∷ [])) }
 {
-    if node.is_question() {
-        let id = node.question().id();
-        Ok(!ids.insert(id)? && id != 0)
-    } else {
-        Ok(false)
+    if !node.is_question() {
+        return false;
     }
+    let id = node.question().id();
+    !ids.insert(id) && id != 0
 }
 
 // The ids of the forms of a package.
-fn form_ids(alloc: Global, ifr: &[u8]) -> Result<BTreeSet<u16>, AllocError>
+fn form_ids(alloc: Global, ifr: &[u8]) -> Result<NumberSet, AllocError>
     requires { IsChecked ifr.now }
     ensures { IfOk result (λ ids. (id : ℕ)
-        → contains nat_cmp ids id ≡ list_any (has_form_id id) (nodes_of ifr.now)) }
+        → has_number ids id ≡ list_any (has_form_id id) (nodes_of ifr.now)) }
 {
-    let mut ids = BTreeSet::new(alloc);
+    let mut ids = NumberSet::new(alloc)?;
     let mut nodes = Nodes::over(ifr);
     while let Some(node) = nodes.step() {
         if node.is_form() {
-            ids.insert(node.form().id())?;
+            ids.insert(node.form().id());
         }
     }
     Ok(ids)
@@ -224,7 +217,7 @@ pub(crate) fn check_references(alloc: Global, ifr: &[u8]) -> Result<RuleTable, F
         return Err(Fault::at(Cause::NoForm, HEADER as u64));
     }
     let all = form_ids(alloc, ifr)?;
-    let mut met = Met::new(alloc, all);
+    let mut met = Met::new(alloc, all)?;
     let mut nodes = ScopedNodes::over(ifr);
     while let Some(next) = nodes.step() {
         if let Some(cause) = met.meet(&nodes, &next)? {

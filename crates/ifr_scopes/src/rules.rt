@@ -56,7 +56,7 @@ pub(crate) fn expression_of(rule: Node<'_>) -> Expr<'_>
     // the END of the rule's scope has two bytes
     let to = end_of(rule.ifr, rule.op.place) - 2;
     let from = rule.op.place + rule.op.len() as u32;
-    Expr::check(rule.ifr, from, to).unwrap()
+    Expr::over(rule.ifr, from, to)
 }
 
 impl RuleTable {

@@ -3,7 +3,9 @@
 ghost use Rattle.std.specs.Prelude.{◌≡◌, true, Some, None, option_map, if◌then◌else◌};
 ghost use Rattle.ifr_opcodes.specs.code.Marks.{mark};
 ghost use Rattle.ifr_opcodes.specs.code.Ops.{op_of};
+ghost use Rattle.ifr_scopes.specs.Accepted.{IsAccepted};
 ghost use Rattle.ifr_scopes.specs.Nodes.{is_statement, is_question, options, defaults, inconsistents, no_submits, warnings};
+ghost use Rattle.ifr_scopes.specs.code.Checked.{has_statement, node_in};
 ghost use Rattle.ifr_scopes.specs.code.Views.{node_of};
 
 use crate::condition_view::ConditionViews;
@@ -14,6 +16,7 @@ use crate::node::Node;
 use crate::nodes::Nodes;
 use crate::nodes_of::NodesOf;
 use crate::option_view::Options;
+use crate::places::node_at;
 use ifr_opcodes::{
     ACTION, ActionOp, CHECKBOX, CheckboxOp, DATE, DEFAULT, DateOp, INCONSISTENT_IF, NO_SUBMIT_IF,
     NUMERIC, NumericOp, ONE_OF, ONE_OF_OPTION, ORDERED_LIST, OneOfOp, Op, OrderedListOp, PASSWORD,
@@ -100,6 +103,18 @@ impl<'a> Statement<'a> {
     ghost use Rattle.ifr_scopes.specs.Nodes.{nodes_of};
     ghost use Rattle.ifr_scopes.specs.code.Lists.{guards_of_left, statement_node, statement_package, kind_op};
     ghost use Rattle.ifr_scopes.specs.code.Parts.{options_left, defaults_left, conditions_left};
+
+    /// The statement at a place of an accepted package, in bytes from its header, where one stands.
+    pub fn at(ifr: &'a [u8], place: u32) -> Statement<'a>
+        requires accepted { IsAccepted ifr.now }
+        requires there { has_statement ifr.now place ≡ true }
+        ensures node { statement_node result ≡ node_in ifr.entry.now place }
+        ensures of_package { statement_package result ≡ ifr.entry.now }
+    {
+        Statement {
+            node: node_at(ifr, place),
+        }
+    }
 
     /// The place of the statement, in bytes from the package's header.
     pub fn place(self) -> u32

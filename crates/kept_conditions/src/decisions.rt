@@ -3,7 +3,9 @@
 ghost use Rattle.std.specs.Prelude.{◌≡◌};
 ghost use Rattle.ifr_scopes.specs.code.Checked.{IsNodeOf};
 ghost use Rattle.ifr_scopes.specs.code.Lists.{form_node, statement_node};
-ghost use Rattle.hii_questions.specs.code.Views.{question_node};
+ghost use Rattle.ifr_scopes.specs.Nodes.{nodes_of};
+ghost use Rattle.hii_questions.specs.Fields.{asked};
+ghost use Rattle.hii_questions.specs.code.Views.{question_node, question_view};
 ghost use Rattle.guard_policy.specs.Policy.{closed, fixed, hidden, unsubmitted};
 ghost use Rattle.guard_policy.specs.code.Answers.{unless};
 ghost use Rattle.guard_policy.specs.code.Views.{bytes_of, world};
@@ -36,6 +38,24 @@ impl<'a> KeptStores<'a> {
         // The package is accepted.
         policy.forms().bytes();
         policy.changeable_by(statement, self.kept())
+    }
+
+    /// Whether a question may be changed over these stores, as the policy decides it of its statement.
+    pub fn question_changeable(
+        &self,
+        policy: Policy<'a, '_>,
+        question: Question<'a>,
+    ) -> Result<(), Denial>
+        requires package { bytes_of policy ≡ self.now.ifr }
+        requires node { IsNodeOf (bytes_of policy) (question_node question) }
+        requires own { question_view question
+            ≡ asked (nodes_of (bytes_of policy)) (question_node question) }
+        ensures { result ≡ unless
+            (fixed (world policy.entry self.now.stores) (question_node question.entry)) }
+    {
+        // The package is accepted.
+        policy.forms().bytes();
+        policy.question_changeable_by(question, self.kept())
     }
 
     /// Whether a question may be given a value of its options over these stores, as the policy decides it.

@@ -35,14 +35,14 @@ refused_serves given before Refused fault answered why told = (
 refused_serves given before ReadScript fault answered why told = absurd told
 refused_serves given before WriteAnswers fault answered why told = (
   refl,
-  inl (elim told.0 [
+  inl (elim told [
     | inl line ↦ record {
       text = _;
       line = inl (fault, not_memory given fault line.0 why, refl);
-      writes = line.1;
-      broken = told.1;
+      breaks = line.1.0;
+      after_fault = line.1.1;
     }
-    | inr line ↦ record { text = _; line = inr refl; writes = line; broken = told.1 }
+    | inr line ↦ record { text = _; line = inr refl; breaks = line.0; after_fault = line.1 }
   ]),
 )
 refused_serves given before WriteOut fault answered why told = absurd told

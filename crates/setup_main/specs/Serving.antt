@@ -5,7 +5,7 @@ use Rattle.hii_bytes.specs.declared.cause.Cause.TheVariants.{OutOfMemory}
 use Rattle.hii_bytes.specs.declared.cause.Fault.{Fault}
 use Rattle.hii_bytes.specs.declared.writing.WriteFault.{WriteFault}
 use Rattle.hii_bytes.specs.Faults.{IsLeast}
-use Rattle.hii_bytes.specs.Watching.{Pen, Writes, StopsWithin}
+use Rattle.hii_bytes.specs.Watching.{Pen, BreaksWithin, StopsWithin}
 use Rattle.hii_varstore.specs.Image.{image_of}
 use Rattle.browser_core.specs.Renewed.{Shown}
 use Rattle.browser_core.specs.Opening.{Opens, IsOpenFault}
@@ -75,13 +75,13 @@ pub record Finished (given : Given) (before : Ends) (end : End) (after : Ends) :
   pub now : Shown
   pub finishes : Finishes start before.answers before.script end now after.answers after.script
 
--- What is given is refused or an allocation fails, and the answers fail at the line that tells it.
+-- What is given is refused or an allocation fails, and the answers fail at the line that tells it, or as that is passed on.
 pub record FailsAtOnce (given : Given) (before after : Ends) : Type 0 where
   pub text : List ℕ
   pub line : ((fault : Fault) × IsRefusedBy given fault × (text ≡ fault_text fault))
       ⊎ (text ≡ refused_text OutOfMemory)
-  pub writes : Writes before.answers after.answers text
-  pub broken : after.answers.broken ≡ true
+  pub breaks : BreaksWithin before.answers after.answers text
+  pub after_fault : before.answers.broken ≡ true → breaks.part ≡ 0
 
 abbrev pub Serves : Given → Ends → Ended → Ends → Type 0
 Serves given before Done after =

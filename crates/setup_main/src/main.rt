@@ -14,7 +14,7 @@ use hii_bytes::{Cause, Watched};
 use read_whole::ReadError;
 use serve::{Ended, Given, serve_watched};
 use std::fmt::Display;
-use std::io::{Read, Write};
+use std::io::{BufWriter, Read, Write};
 use std::process::ExitCode;
 use std::rt::{Env, Files};
 use std::{env, fs, io};
@@ -107,26 +107,41 @@ fn run<R: Files + Input + Print + Eprint + AllocGlobal>(rt: &R, options: Options
         stores: stores.as_slice(),
         lang: options.lang.as_bytes(),
     };
+    match run_given(rt, given, options.out) {
+        Some(Ended::Done) => 0,
+        Some(Ended::Refused) => REFUSED,
+        Some(Ended::ReadScript) => fault(rt, "read script"),
+        Some(Ended::WriteAnswers) => fault(rt, "write answers"),
+        Some(Ended::WriteOut) => fault(rt, "write out"),
+        Some(Ended::NoMemory) => NO_MEMORY,
+        None => refused(rt, Cause::OutOfMemory, NO_MEMORY),
+    }
+}
+
+// Runs the session over standard input, standard output and the file of the image, or answers nothing where there is no
+// memory for the buffer of the answers.
+fn run_given<R: Files + Input + Print + AllocGlobal>(
+    rt: &R,
+    given: Given<'_>,
+    path: &str,
+) -> Option<Ended> {
+    let buffer = BufWriter::new(rt.alloc(), io::writer(rt)).ok()?;
+    let mut answers = Watched::new(buffer);
     let out = OutFile {
         rt,
-        path: options.out,
+        path,
         file: None,
     };
     let ended = serve_watched(
         rt.alloc(),
         given,
         &mut Watched::new(rt.reader()),
-        &mut Watched::new(io::writer(rt)),
+        &mut answers,
         &mut Watched::new(out),
     );
-    match ended {
-        Ended::Done => 0,
-        Ended::Refused => REFUSED,
-        Ended::ReadScript => fault(rt, "read script"),
-        Ended::WriteAnswers => fault(rt, "write answers"),
-        Ended::WriteOut => fault(rt, "write out"),
-        Ended::NoMemory => NO_MEMORY,
-    }
+    // What a writer that failed did not take is given up.
+    let _ = answers.into_inner().into_parts();
+    Some(ended)
 }
 
 /// A file that is made when its first bytes are written.

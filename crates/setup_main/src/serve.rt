@@ -60,7 +60,8 @@ pub fn serve<R: Read, A: Write, O: Write>(
     )
 }
 
-/// Opens the session, runs the script, and writes the image that it leaves, over readers and writers that are watched.
+/// Opens the session, runs the script, and writes the image that it leaves, over readers and writers that are watched. The
+/// answers are flushed before each read of the script and at the end.
 pub fn serve_watched<R: Read, A: Write, O: Write>(
     alloc: Global,
     given: Given<'_>,
@@ -135,17 +136,15 @@ fn refuse<A: Write>(fault: Fault, answers: &mut Watched<A>) -> Ended
 {
     if fault.cause == Cause::OutOfMemory {
         put_refusal(Cause::OutOfMemory, answers);
-        if answers.failed() {
-            Ended::WriteAnswers
-        } else {
-            Ended::NoMemory
+        match answers.flush() {
+            Ok(()) => Ended::NoMemory,
+            Err(_) => Ended::WriteAnswers,
         }
     } else {
         put_refusal_at(fault, answers);
-        if answers.failed() {
-            Ended::WriteAnswers
-        } else {
-            Ended::Refused
+        match answers.flush() {
+            Ok(()) => Ended::Refused,
+            Err(_) => Ended::WriteAnswers,
         }
     }
 }

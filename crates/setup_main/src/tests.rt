@@ -5,7 +5,7 @@ use crate::serve::{Ended, Given, serve};
 use hii_bytes::Watched;
 use std::alloc::Global;
 use std::io;
-use std::io::{ErrorKind, Read};
+use std::io::{BufWriter, ErrorKind, Read, Write};
 use std::process::Abort;
 use std::test::Fail;
 
@@ -21,14 +21,19 @@ const LIST: &[u8] = b"\x11\x11\x11\x11\x11\x11\x11\x11\x11\x11\x11\x11\x11\x11\x
 
 const STORES: &[u8] = b"HVS1\x01\0\x01\0\x02\0\0\0";
 
-// A script, what is answered to it and the image that it leaves, of which proofs know nothing.
+// A script whose last line has no LF, what is answered to it and the image that it leaves, of which proofs know nothing.
 
 fn script() -> &'static [u8] {
-    b"page\nset 1 1\nsubmit\n"
+    b"page\nset 1 1\nsubmit"
 }
 
 fn answers() -> &'static [u8] {
     b"FORM 1 #2\n  1 *     1 #3                       [ ]\nOK\nOK 1\nCHANGED 1\n"
+}
+
+// What is answered to the lines before the last one.
+fn answers_before_the_last() -> &'static [u8] {
+    b"FORM 1 #2\n  1 *     1 #3                       [ ]\nOK\n"
 }
 
 fn image() -> &'static [u8] {
@@ -44,25 +49,54 @@ fn given() -> Given<'static> {
     }
 }
 
-/// Gives so many zero bytes, and then errs.
+/// Gives these bytes, and then errs.
 #[derive(Drop)]
 struct Broken {
-    left: usize,
+    bytes: &'static [u8],
 }
 
 impl Read for Broken {
     fn read(&mut self, buf: &mut [u8]) -> io::Result<usize> {
-        if self.left == 0 {
+        if self.bytes.is_empty() {
             return Err(io::Error::from(ErrorKind::Other));
         }
-        let n = buf.len().min(self.left);
-        buf[..n].fill(0);
-        self.left -= n;
-        Ok(n)
+        self.bytes.read(buf)
     }
 }
 
-// A run ends so, with these answers and this image, where its writers take all.
+/// Takes all bytes, counts the writes, and errs at a flush after so many.
+#[derive(Drop)]
+struct Counting {
+    bytes: Vec<u8>,
+    writes: usize,
+    flushes_left: usize,
+}
+
+impl Write for Counting {
+    fn write(&mut self, buf: &[u8]) -> io::Result<usize> {
+        self.bytes.extend_from_slice(buf)?;
+        self.writes = self.writes.saturating_add(1);
+        Ok(buf.len())
+    }
+
+    fn flush(&mut self) -> io::Result<()> {
+        if self.flushes_left == 0 {
+            return Err(io::Error::from(ErrorKind::Other));
+        }
+        self.flushes_left -= 1;
+        Ok(())
+    }
+}
+
+fn counter_of(rt: &impl AllocGlobal, flushes_left: usize) -> Counting {
+    Counting {
+        bytes: Vec::new(rt.alloc()),
+        writes: 0,
+        flushes_left,
+    }
+}
+
+// A run ends so, with this image, and with these answers behind a buffer that has passed on all of them.
 fn leaves<R: Abort + AllocGlobal>(
     rt: &R,
     given: Given<'_>,
@@ -70,18 +104,20 @@ fn leaves<R: Abort + AllocGlobal>(
     ended: Ended,
     answered: &[u8],
     written: &[u8],
-) {
-    let mut answers = Vec::new(rt.alloc());
+) -> Result<(), Fail> {
+    let mut answers = BufWriter::new(rt.alloc(), Vec::new(rt.alloc()))?;
     let mut out = Vec::new(rt.alloc());
     assert!(rt; serve(rt.alloc(), given, script, &mut answers, &mut out) == ended);
-    assert!(rt; answers.as_slice() == answered);
+    assert!(rt; answers.get_ref().as_slice() == answered);
+    assert!(rt; answers.buffer().is_empty());
     assert!(rt; out.as_slice() == written);
+    Ok(())
 }
 
 #[test]
-fn a_run_leaves_answers_and_an_image(rt: HostRuntime) {
+fn a_run_leaves_answers_and_an_image(rt: HostRuntime) -> Result<(), Fail> {
     let mut reader = script();
-    leaves(&rt, given(), &mut reader, Ended::Done, answers(), image());
+    leaves(&rt, given(), &mut reader, Ended::Done, answers(), image())
 }
 
 // A route whose second block has no question, what is extracted behind it, and a submission.
@@ -98,35 +134,42 @@ OK 0\n"
 }
 
 #[test]
-fn a_denied_route_leaves_the_image(rt: HostRuntime) {
+fn a_denied_route_leaves_the_image(rt: HostRuntime) -> Result<(), Fail> {
     let mut reader = denied_route();
     let written = b"HVS2\"\"\"\"\"\"\"\"\"\"\"\"\"\"\"\"\x01\0\x01\0\x02\0\0\0";
     let answered = answers_to_denied_route();
-    leaves(&rt, given(), &mut reader, Ended::Done, answered, written);
+    leaves(&rt, given(), &mut reader, Ended::Done, answered, written)
 }
 
 #[test]
-fn an_empty_script_leaves_the_image(rt: HostRuntime) {
+fn an_empty_script_leaves_the_image(rt: HostRuntime) -> Result<(), Fail> {
     let mut reader = b"".as_slice();
     let written = b"HVS2\"\"\"\"\"\"\"\"\"\"\"\"\"\"\"\"\x01\0\x01\0\x02\0\0\0";
-    leaves(&rt, given(), &mut reader, Ended::Done, b"", written);
+    leaves(&rt, given(), &mut reader, Ended::Done, b"", written)
 }
 
 #[test]
-fn a_refused_list_leaves_no_image(rt: HostRuntime) {
+fn a_refused_list_leaves_no_image(rt: HostRuntime) -> Result<(), Fail> {
     let mut reader = script();
     let refused = Given {
         list: b"",
         ..given()
     };
     let answered = b"REFUSED 1 ListShort at 00000000\n";
-    leaves(&rt, refused, &mut reader, Ended::Refused, answered, b"");
+    leaves(&rt, refused, &mut reader, Ended::Refused, answered, b"")
 }
 
 #[test]
-fn a_script_may_fail(rt: HostRuntime) {
-    let mut broken = Broken { left: 0 };
-    leaves(&rt, given(), &mut broken, Ended::ReadScript, b"", b"");
+fn a_script_may_fail(rt: HostRuntime) -> Result<(), Fail> {
+    let mut broken = Broken { bytes: b"" };
+    leaves(&rt, given(), &mut broken, Ended::ReadScript, b"", b"")
+}
+
+#[test]
+fn answers_are_passed_on_before_the_next_read(rt: HostRuntime) -> Result<(), Fail> {
+    let mut broken = Broken { bytes: script() };
+    let answered = answers_before_the_last();
+    leaves(&rt, given(), &mut broken, Ended::ReadScript, answered, b"")
 }
 
 #[test]
@@ -134,8 +177,7 @@ fn a_script_may_be_too_long(rt: HostRuntime) -> Result<(), Fail> {
     let long = vec![in rt.alloc(); b'\n'; 1_048_577]?;
     let mut reader = long.as_slice();
     let answered = b"REFUSED 72 ScriptTooLong\n";
-    leaves(&rt, given(), &mut reader, Ended::Refused, answered, b"");
-    Ok(())
+    leaves(&rt, given(), &mut reader, Ended::Refused, answered, b"")
 }
 
 // A run stops at a writer of answers that has only so much room.
@@ -164,6 +206,73 @@ fn writers_of_answers_may_be_too_short(rt: HostRuntime) -> Result<(), Fail> {
     for room in 0..answers().len() {
         answers_stop_at(&rt, room)?;
     }
+    Ok(())
+}
+
+// A run ends at the flush that fails, with these answers.
+fn flush_fails_after<R: Abort + AllocGlobal>(
+    rt: &R,
+    flushes_left: usize,
+    given: Given<'_>,
+    answered: &[u8],
+) -> Result<(), Fail> {
+    let mut answers = BufWriter::new(rt.alloc(), counter_of(rt, flushes_left))?;
+    let mut out = Vec::new(rt.alloc());
+    let mut reader = script();
+    let ended = serve(rt.alloc(), given, &mut reader, &mut answers, &mut out);
+    assert!(rt; ended == Ended::WriteAnswers);
+    assert!(rt; answers.get_ref().bytes.as_slice() == answered);
+    assert!(rt; out.is_empty());
+    Ok(())
+}
+
+#[test]
+fn a_flush_may_fail(rt: HostRuntime) -> Result<(), Fail> {
+    let refused = Given {
+        list: b"",
+        ..given()
+    };
+    flush_fails_after(&rt, 0, refused, b"REFUSED 1 ListShort at 00000000\n")?;
+    flush_fails_after(&rt, 0, given(), b"")?;
+    flush_fails_after(&rt, 1, given(), answers_before_the_last())?;
+    flush_fails_after(&rt, 2, given(), answers())
+}
+
+// The list with so many subtitles of 7 bytes behind its checkbox.
+fn list_with_subtitles(alloc: Global, count: u16) -> Result<Vec<u8>, Fail> {
+    let added = 7 * u32::from(count);
+    let mut list = Vec::new(alloc);
+    list.extend_from_slice(&LIST[..16])?;
+    list.extend_from_slice(&(99 + added).to_le_bytes())?;
+    list.extend_from_slice(&(75 + added).to_le_bytes()[..3])?;
+    list.extend_from_slice(&LIST[23..91])?;
+    for _ in 0..count {
+        list.extend_from_slice(b"\x02\x07\0\0\0\0\0")?;
+    }
+    list.extend_from_slice(&LIST[91..])?;
+    Ok(list)
+}
+
+#[test]
+fn a_page_makes_few_writes(rt: HostRuntime) -> Result<(), Fail> {
+    let list = list_with_subtitles(rt.alloc(), 1000)?;
+    let long = Given {
+        list: list.as_slice(),
+        ..given()
+    };
+    let mut answers = BufWriter::new(rt.alloc(), counter_of(&rt, 9))?;
+    let mut out = Vec::new(rt.alloc());
+    let mut reader = script();
+    assert!(rt; serve(rt.alloc(), long, &mut reader, &mut answers, &mut out) == Ended::Done);
+    let rows = answers
+        .get_ref()
+        .bytes
+        .iter()
+        .filter(|byte| **byte == b'\n')
+        .count();
+    // The first line names the form, and three lines answer the other commands.
+    assert!(rt; rows == 1005);
+    assert!(rt; answers.get_ref().writes < 20);
     Ok(())
 }
 
@@ -213,7 +322,9 @@ fn files_of_the_greatest_length(rt: HostRuntime) -> Result<(), Fail> {
 
 #[test]
 fn a_file_may_fail(rt: HostRuntime) {
-    let mut broken = Watched::new(Broken { left: 10 });
+    let mut broken = Watched::new(Broken {
+        bytes: b"0123456789",
+    });
     let error = read_whole(rt.alloc(), &mut broken).err();
     assert!(rt; error == Some(ReadError::Fault));
 }

@@ -7,6 +7,10 @@ use Rattle.guard_policy.specs.declared.conditions.Conditions.{Ghosts}
 use Rattle.form_page.specs.code.PageViews.{world_of}
 use Rattle.form_page.specs.declared.listed.Listed.{Listed}
 
+-- the statements that are left, hidden or not
+abbrev pub all_left : {C : Type 0} {g : Ghosts C} → Listed C g → List Placed
+all_left it = statements_left it.statements
+
 -- the statements that are left and not hidden
 abbrev pub listed_left : {C : Type 0} {g : Ghosts C} → Listed C g → List Placed
 listed_left it =

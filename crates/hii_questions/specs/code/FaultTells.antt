@@ -1,8 +1,10 @@
 -- What the checks of questions tell.
-use Rattle.std.specs.Prelude.{◌≡◌, ℕ, Bool, Option, Some, None, Result, Ok, Err, List}
+use Rattle.std.specs.Prelude.{◌≡◌, ℕ, Bool, ◌==◌, ◌||◌, Option, Some, None, Result, Ok, Err, List}
 use Rattle.hii_bytes.specs.code.FirstFaults.{first_fault}
 use Rattle.hii_bytes.specs.declared.cause.Fault.{Fault}
 use Rattle.ifr_opcodes.specs.Forest.{Placed}
+use Rattle.ifr_opcodes.specs.Opcode.{number}
+use Rattle.ifr_opcodes.specs.declared.codes.TheConstants.{ONE_OF, ORDERED_LIST}
 use Rattle.hii_varstore.specs.Layout.{Shape}
 use Rattle.hii_questions.specs.Faults.{QuestionPart, place_of, has_question_fault, has_option_fault}
 use Rattle.hii_questions.specs.code.Causes.{question_causes}
@@ -19,3 +21,7 @@ first_part_fault shape known ps =
 abbrev pub first_option_fault : Placed → List Placed → Option Fault
 first_option_fault q os =
     first_fault (λ (o : Placed). o.place) (has_option_fault q) question_causes os
+
+-- a question whose options may have a fault
+abbrev pub is_choice : Placed → Bool
+is_choice q = number q.op == ONE_OF || number q.op == ORDERED_LIST

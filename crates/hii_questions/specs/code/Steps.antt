@@ -1,10 +1,11 @@
 -- Which of some fields is the first that has a byte, told by steps.
 use Rattle.std.specs.Prelude.{◌≡◌, ◌⊎◌, ℕ, zero, suc, ◌+◌, ◌≤◌, ◌<◌, ◌&&◌, min, Bool, false, nat_le, nat_lt, if◌then◌else◌, Option, Some, None, List, [], ◌∷◌, ⊤, length}
 use Rattle.std.specs.List.{AllByRecursion}
+use Rattle.hii_questions.specs.code.Entries.{entry_field}
 use Rattle.hii_questions.specs.code.Numbers.{first_of, behind_of}
+use Rattle.hii_questions.specs.declared.entry.QuestionEntry.{QuestionEntry}
 use Rattle.hii_questions.specs.declared.field_range.FieldRange.{FieldRange}
 use Rattle.hii_questions.specs.declared.merging.Step.{Step}
-use Rattle.hii_questions.specs.declared.question.Question.{Question}
 
 -- what steps tell of a byte: the number of the last step up to it, and what is before where it is before all
 abbrev pub value_at : ℕ → List Step → ℕ → ℕ
@@ -32,10 +33,10 @@ abbrev pub tells_first : ℕ → ℕ → Option FieldRange → ℕ → ℕ
 tells_first none number field at = if has_number field at then number else none
 
 -- the number of the first that has a byte, where they are numbered from one on
-abbrev pub first_from : ℕ → ℕ → List Question → ℕ → ℕ
+abbrev pub first_from : ℕ → ℕ → List QuestionEntry → ℕ → ℕ
 first_from none number [] at = none
 first_from none number (q ∷ qs) at =
-    if has_number q.field at then number else first_from none (number + 1) qs at
+    if has_number (entry_field q) at then number else first_from none (number + 1) qs at
 
 -- the least number that steps tell, up to a byte
 abbrev pub least_met : ℕ → ℕ → List Step → ℕ
@@ -47,11 +48,11 @@ abbrev pub is_small : Option FieldRange → Type 0
 is_small None = ⊤
 is_small (Some f) = f.offset < 65536
 
-abbrev pub AreSmall : List Question → Type 0
-AreSmall qs = AllByRecursion (λ (q : Question). is_small q.field) qs
+abbrev pub AreSmall : List QuestionEntry → Type 0
+AreSmall qs = AllByRecursion (λ (q : QuestionEntry). is_small (entry_field q)) qs
 
 -- Steps tell of each byte the number of the first of some questions whose field has it, and how many there are where none has.
-pub record AreSteps (qs : List Question) (ss : List Step) : Type 0 where
+pub record AreSteps (qs : List QuestionEntry) (ss : List Step) : Type 0 where
   pub first : (at : ℕ) → value_at (length qs) ss at ≡ first_from (length qs) 0 qs at
   pub rise : StepsRise 0 ss
   pub small : AreSmall qs

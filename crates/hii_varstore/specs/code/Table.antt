@@ -1,8 +1,8 @@
 -- The buffer stores of a form set by place, found by their ids (own rule).
 use Rattle.std.specs.Prelude.{◌≡◌, ℕ, ◌<◌, ◌^◌, ◌==◌, nat_eq, List, ◌∷◌, map, Option}
 use Rattle.std.specs.List.{AllByRecursion, IsDistinct, position_from}
-use Rattle.std.specs.Ordering.{nat_cmp}
-use Rattle.std.specs.BTreeMap.{BTreeMap, get}
+use Rattle.hii_bytes.specs.code.IdTables.{number_with}
+use Rattle.hii_bytes.specs.declared.id_table.IdEntry.{IdEntry}
 use Rattle.hii_varstore.specs.declared.buffer.Buffer.{Buffer}
 use Rattle.hii_varstore.specs.Stores.{Store, buffer_of}
 
@@ -17,8 +17,8 @@ abbrev pub place_of : List Buffer → ℕ → Option ℕ
 place_of buffers id = position_from (λ b. b.id == id) 0 buffers
 
 -- the places by id are those of the stores
-pub record IsTable (buffers : List Buffer) (places : BTreeMap ℕ ℕ) : Type 0 where
-  pub indexed : (id : ℕ) → get nat_cmp places id ≡ place_of buffers id
+pub record IsTable (buffers : List Buffer) (places : List IdEntry) : Type 0 where
+  pub indexed : (id : ℕ) → number_with places id ≡ place_of buffers id
   pub sound : AreBuffers buffers
 
 -- the stores of a table

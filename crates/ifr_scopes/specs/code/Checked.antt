@@ -6,7 +6,7 @@ use Rattle.ifr_opcodes.specs.Opcode.{number}
 use Rattle.ifr_opcodes.specs.code.Props.{IsWhole-prop}
 use Rattle.ifr_opcodes.specs.Forest.{Forest, Forest-set, none, node, IsNode, AreNodes, Ancestor, Placed, node_at}
 use Rattle.ifr_scopes.specs.Guards.{is_guard}
-use Rattle.ifr_scopes.specs.Nodes.{nodes_of, is_form}
+use Rattle.ifr_scopes.specs.Nodes.{nodes_of, is_form, is_statement}
 use Rattle.ifr_scopes.specs.Checked.{IsChecked}
 use Rattle.ifr_scopes.specs.Accepted.{IsAccepted}
 
@@ -62,6 +62,10 @@ has_guard bytes place = has_node bytes place && is_guard (number (node_in bytes 
 -- a form stands at this place of the package
 abbrev pub has_form : List ℕ → ℕ → Bool
 has_form bytes place = has_node bytes place && is_form (node_in bytes place)
+
+-- a statement stands at this place of the package
+abbrev pub has_statement : List ℕ → ℕ → Bool
+has_statement bytes place = has_node bytes place && is_statement (node_in bytes place)
 
 ancestor_prop : (a b : Ancestor) → IsProp (a ≡ b)
 ancestor_prop a b = hlevel (props, forest_prop)

@@ -7,8 +7,7 @@ use Rattle.ifr_opcodes.specs.Opcode.{number}
 use Rattle.ifr_scopes.specs.Guards.{is_guard, guards}
 use Rattle.ifr_scopes.specs.Kinds.{is_condition_number}
 use Rattle.ifr_scopes.specs.Locks.{first_lock}
-use Rattle.ifr_scopes.specs.code.LockIndex.{lock_place}
-use Rattle.ifr_scopes.specs.Nodes.{is_form, is_statement, is_option, this_of}
+use Rattle.ifr_scopes.specs.Nodes.{is_form, is_statement, is_option}
 use Rattle.ifr_scopes.specs.References.{form_with}
 
 abbrev pub is_indexed : Placed → Bool
@@ -46,16 +45,9 @@ guards_of_indexed ns place = or_none (option_map guards (indexed_at ns place))
 abbrev pub lock_of_indexed : List Placed → ℕ → Option Placed
 lock_of_indexed ns place = entry_at (first_lock ns) ns place
 
--- the place of the LOCKED that decides for the form, statement or option at a place
-abbrev pub lock_place_at : List Placed → ℕ → Option ℕ
-lock_place_at ns place = entry_at (lock_place ns) ns place
-
--- the node with a condition at a place, and the question in whose scope it stands
+-- the node with a condition at a place
 abbrev pub conditional_at : List Placed → ℕ → Option Placed
 conditional_at ns place = kind_at is_conditional ns place
-
-abbrev pub this_at : List Placed → ℕ → Option ℕ
-this_at ns place = option_map this_of (conditional_at ns place)
 
 -- the place of the form of an id
 abbrev pub form_place_with : List Placed → ℕ → Option ℕ

@@ -1,10 +1,9 @@
 -- Guards as they are kept: each as its place and the question in whose scope it stands.
-use Rattle.std.specs.Prelude.{◌≡◌, ℕ, true, All, Option, Some, List, map}
+use Rattle.std.specs.Prelude.{◌≡◌, ℕ, true, All, List, map}
 use Rattle.std.proofs.Props.{props}
 use Rattle.ifr_opcodes.specs.Forest.{Placed}
 use Rattle.ifr_scopes.specs.code.Checked.{node_in, has_guard}
 use Rattle.ifr_scopes.specs.Guards.{guards}
-use Rattle.ifr_scopes.specs.code.Index.{entry_at}
 use Rattle.ifr_scopes.specs.Nodes.{this_of}
 use Rattle.ifr_scopes.specs.declared.guard_place.GuardPlace.{GuardPlace}
 
@@ -14,10 +13,6 @@ kept_guard guard = record { place = guard.place; this = this_of guard }
 -- the guards of a node, the outermost first
 abbrev pub kept_guards : Placed → List GuardPlace
 kept_guards n = map kept_guard (guards n)
-
--- the guards of the form, statement or option at a place
-abbrev pub kept_at : List Placed → ℕ → Option (List GuardPlace)
-kept_at ns place = entry_at (λ n. Some (kept_guards n)) ns place
 
 -- A guard stands at the place in the package, and in the scope of this question.
 pub record IsKept (bytes : List ℕ) (guard : GuardPlace) : Type 0 where

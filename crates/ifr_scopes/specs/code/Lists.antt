@@ -1,12 +1,13 @@
 -- What the iterators over a package have before them.
-use Rattle.std.specs.Prelude.{ℕ, List, drop, filter, map}
+use Rattle.std.specs.Prelude.{ℕ, List, drop, filter, map, reverse}
 use Rattle.ifr_opcodes.specs.Forest.{Placed}
 use Rattle.ifr_opcodes.specs.declared.op.Op.{Op}
 use Rattle.ifr_scopes.specs.code.Checked.{node_in}
 use Rattle.ifr_opcodes.specs.Opcode.{number}
 use Rattle.ifr_scopes.specs.Guards.{is_guard}
-use Rattle.ifr_scopes.specs.Nodes.{is_form, is_store, is_statement}
+use Rattle.ifr_scopes.specs.Nodes.{nodes_of, is_form, is_store, is_statement}
 use Rattle.ifr_scopes.specs.Rules.{is_rule}
+use Rattle.ifr_scopes.specs.code.Tables.{guard_of_number, guards_from}
 use Rattle.ifr_scopes.specs.code.Views.{node_of, nodes_left}
 use Rattle.ifr_scopes.specs.code.Visits.{left}
 use Rattle.ifr_scopes.specs.declared.guard.Guard.{Guard}
@@ -16,6 +17,7 @@ use Rattle.ifr_scopes.specs.declared.varstore.Varstore.{Varstore}
 use Rattle.ifr_scopes.specs.declared.varstore.Varstores.{Varstores}
 use Rattle.ifr_scopes.specs.declared.guards_at.GuardsAt.{GuardsAt}
 use Rattle.ifr_scopes.specs.declared.guards_of.GuardsOf.{GuardsOf}
+use Rattle.ifr_scopes.specs.declared.guards_outward.GuardsOutward.{GuardsOutward}
 use Rattle.ifr_scopes.specs.declared.form.Form.{Form}
 use Rattle.ifr_scopes.specs.declared.form.FormViews.{FormViews}
 use Rattle.ifr_scopes.specs.declared.rule.RuleView.{RuleView}
@@ -51,7 +53,10 @@ abbrev pub statement_package : Statement → List ℕ
 statement_package statement = statement.node.ifr.now
 
 abbrev pub guards_left : GuardsAt → List Placed
-guards_left it = map (λ guard. node_in it.ifr.now guard.place) it.kept.now
+guards_left it = map (guard_of_number (nodes_of it.ifr.now)) (reverse it.numbers.items)
+
+abbrev pub outward_left : GuardsOutward → List Placed
+outward_left it = reverse (guards_from (nodes_of it.ifr.now) it.next)
 
 abbrev pub guards_of_left : GuardsOf → List Placed
 guards_of_left it = map (λ guard. node_in it.ifr.now guard.place) (drop it.next it.kept.items)
@@ -96,4 +101,4 @@ abbrev pub stores_left : Varstores → List Placed
 stores_left it = filter is_store (nodes_left it.nodes)
 
 abbrev pub all_guards_left : GuardViews → List Placed
-all_guards_left it = filter (λ n. is_guard (number n.op)) (left it.nodes.walk)
+all_guards_left it = map (λ guard. node_in it.ifr.now guard.place) it.guards.now

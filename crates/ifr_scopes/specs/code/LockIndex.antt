@@ -1,5 +1,5 @@
 -- The LOCKED that decides, found by place.
-use Rattle.std.specs.Prelude.{ℕ, Option, None, List, [], ◌∷◌, option_map}
+use Rattle.std.specs.Prelude.{◌≡◌, ℕ, Option, None, List, [], ◌∷◌, option_map}
 use Rattle.std.specs.Option.{option_or}
 use Rattle.ifr_opcodes.specs.Forest.{Placed}
 use Rattle.ifr_scopes.specs.Locks.{locked_in, first_of_nodes, first_lock}
@@ -16,3 +16,7 @@ first_place ns scope = option_map (λ n. n.place) (first_of_nodes (locked_in ns 
 abbrev pub first_some : (ℕ → Option ℕ) → List ℕ → Option ℕ
 first_some found [] = None
 first_some found (place ∷ places) = option_or (found place) (first_some found places)
+
+-- What was found so far, else the first of those that are left, is the first of all.
+abbrev pub Finds : (ℕ → Option ℕ) → (ℕ → Option ℕ) → List Placed → Type 0
+Finds all found left = (scope : ℕ) → option_or (found scope) (first_place left scope) ≡ all scope

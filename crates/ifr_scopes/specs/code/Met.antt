@@ -1,8 +1,7 @@
 -- What was met of the nodes of a package.
 use Rattle.std.specs.Prelude.{◌≡◌, ℕ, Option, List, [], ◌∷◌, ◌++◌, IfSome}
 use Rattle.std.specs.List.{list_any}
-use Rattle.std.specs.Ordering.{nat_cmp}
-use Rattle.std.specs.BTreeSet.{contains}
+use Rattle.hii_bytes.specs.code.NumberSets.{has_number}
 use Rattle.hii_bytes.specs.code.FirstFaults.{first_cause}
 use Rattle.hii_bytes.specs.declared.cause.Cause.{Cause}
 use Rattle.ifr_opcodes.specs.Forest.{Placed}
@@ -18,9 +17,9 @@ use Rattle.ifr_scopes.specs.declared.references.Met.{Met}
 -- The ids are those of the forms and of the questions among some nodes, and the rules are theirs; all ids are those of the
 -- package's forms; a form that is known ends where that of its place does.
 pub record AreOf (bytes : List ℕ) (ns : List Placed) (met : Met) : Type 0 where
-  pub all : (id : ℕ) → contains nat_cmp met.all id ≡ list_any (has_form_id id) (nodes_of bytes)
-  pub forms : (id : ℕ) → contains nat_cmp met.forms id ≡ list_any (has_form_id id) ns
-  pub questions : (id : ℕ) → contains nat_cmp met.questions id ≡ list_any (has_question_id id) ns
+  pub all : (id : ℕ) → has_number met.all id ≡ list_any (has_form_id id) (nodes_of bytes)
+  pub forms : (id : ℕ) → has_number met.forms id ≡ list_any (has_form_id id) ns
+  pub questions : (id : ℕ) → has_number met.questions id ≡ list_any (has_question_id id) ns
   pub rules : AreKeptRules ns met.rules
   pub form : IfSome met.form (λ form. form.ends ≡ end_of (node_in bytes form.place))
 

@@ -2,7 +2,7 @@
 use Rattle.std.specs.Prelude.{◌≡◌, ◌≢◌, ◌⊎◌, ℕ, true, List, Option, IfSome}
 use Rattle.hii_bytes.specs.declared.cause.Cause.TheVariants.{OutOfMemory}
 use Rattle.hii_bytes.specs.declared.cause.Fault.{Fault}
-use Rattle.hii_bytes.specs.Watching.{Pen, Writes}
+use Rattle.hii_bytes.specs.Watching.{Pen, BreaksWithin}
 use Rattle.browser_core.specs.Renewed.{Shown}
 use Rattle.browser_core.specs.Run.{outcome_of}
 use Rattle.browser_core.specs.Texts.{refused_text, fault_text}
@@ -32,12 +32,16 @@ EndsAs given script NoMemory = Unit {0}
 
 -- ---- a fault alone
 
+-- A text was written whole or in part, and then the writer failed. At one that had failed before nothing was written.
+abbrev pub Breaks : Pen → Pen → List ℕ → Type 0
+Breaks old new text = (w : BreaksWithin old new text) × (old.broken ≡ true → w.part ≡ 0)
+
 -- A fault is told: out of memory without a place, any other at its place.
 abbrev pub IsTold : Fault → Pen → Ended → Pen → Type 0
 IsTold fault old Refused new = (fault.cause ≢ OutOfMemory) × IsWritten old new (fault_text fault)
 IsTold fault old NoMemory new =
     (fault.cause ≡ OutOfMemory) × IsWritten old new (refused_text OutOfMemory)
 IsTold fault old WriteAnswers new =
-    (((fault.cause ≢ OutOfMemory) × Writes old new (fault_text fault))
-    ⊎ Writes old new (refused_text OutOfMemory)) × (new.broken ≡ true)
+    ((fault.cause ≢ OutOfMemory) × Breaks old new (fault_text fault))
+    ⊎ Breaks old new (refused_text OutOfMemory)
 IsTold fault old _ new = ⊥

@@ -12,27 +12,32 @@ use Rattle.browser_core.proofs.blocks.first_choice.Goals as goal
 pub loop-question-init : goal.loop-question-init
 loop-question-init c = choice_start c.args.policy c.args.working.now.stores (range_in c.args.field) c.args.questions.now.ifr _ c.requires.browsable.accepted c.requires.together c.with_field-sharing.ensures
 
-pub changeable-requires-clause-node : goal.changeable-requires-clause-node
-changeable-requires-clause-node c =
+pub question_changeable-requires-clause-node : goal.question_changeable-requires-clause-node
+question_changeable-requires-clause-node c =
     let q : Asked = question_view c.in-Some.question in
-    rw c.statement.ensures (each_first c.args.policy (range_in c.args.field) q _ _ c.in-Some.ensures.steps c.loop-question.invariant.each).0.node
+    (each_first c.args.policy (range_in c.args.field) q _ _ c.in-Some.ensures.steps c.loop-question.invariant.each).0.node
+
+pub question_changeable-requires-clause-own : goal.question_changeable-requires-clause-own
+question_changeable-requires-clause-own c =
+    let q : Asked = question_view c.in-Some.question in
+    (each_first c.args.policy (range_in c.args.field) q _ _ c.in-Some.ensures.steps c.loop-question.invariant.each).0.own
 
 pub returns-in-Ok : goal.returns-in-Ok
 returns-in-Ok c =
     let q = c.in-Some.question in
-    let free : unless (fixed (world c.args.policy c.args.working.now.stores) (question_node q)) ≡ Ok tt = ap (λ (n : Placed). unless (fixed (world c.args.policy c.args.working.now.stores) n)) (sym c.statement.ensures) ∙ sym c.changeable.ensures ∙ c.in-Ok.is in
+    let free : unless (fixed (world c.args.policy c.args.working.now.stores) (question_node q)) ≡ Ok tt = sym c.question_changeable.ensures ∙ c.in-Ok.is in
     choice_found c.args.policy c.args.working.now.stores (range_in c.args.field) c.loop-question.first q _ _ c.in-Some.ensures.steps c.loop-question.invariant free
 
 pub loop-question-preserved-then-is_none : goal.loop-question-preserved-then-is_none
 loop-question-preserved-then-is_none c =
     let q = c.in-Some.question in
-    let why : unless (fixed (world c.args.policy c.args.working.now.stores) (question_node q)) ≡ Err c.in-Err.denial = ap (λ (n : Placed). unless (fixed (world c.args.policy c.args.working.now.stores) n)) (sym c.statement.ensures) ∙ sym c.changeable.ensures ∙ c.in-Err.is in
+    let why : unless (fixed (world c.args.policy c.args.working.now.stores) (question_node q)) ≡ Err c.in-Err.denial = sym c.question_changeable.ensures ∙ c.in-Err.is in
     choice_next c.args.policy c.args.working.now.stores (range_in c.args.field) c.loop-question.first q _ _ c.in-Err.denial (c.is_none.ensures ∙ ap not c.if-is_none.true) c.in-Some.ensures.steps c.loop-question.invariant why
 
 pub loop-question-preserved : goal.loop-question-preserved
 loop-question-preserved c =
     let q = c.in-Some.question in
-    let why : unless (fixed (world c.args.policy c.args.working.now.stores) (question_node q)) ≡ Err c.in-Err.denial = ap (λ (n : Placed). unless (fixed (world c.args.policy c.args.working.now.stores) n)) (sym c.statement.ensures) ∙ sym c.changeable.ensures ∙ c.in-Err.is in
+    let why : unless (fixed (world c.args.policy c.args.working.now.stores) (question_node q)) ≡ Err c.in-Err.denial = sym c.question_changeable.ensures ∙ c.in-Err.is in
     choice_later c.args.policy c.args.working.now.stores (range_in c.args.field) c.loop-question.first q _ _ c.in-Err.denial (c.is_none.ensures ∙ ap not c.if-is_none.false) c.in-Some.ensures.steps c.loop-question.invariant why
 
 pub returns : goal.returns

@@ -1,5 +1,5 @@
-use Rattle.form_page.proofs.TextLemmas.{past_char}
+use Rattle.form_page.proofs.LineLemmas.{whole_line}
 use Rattle.form_page.proofs.shown.put_shown.Goals as goal
 
-pub loop-c-preserved : goal.loop-c-preserved
-loop-c-preserved g c = past_char _ _ _ _ _ _ _ c.in-Some.ensures.steps c.loop-c.invariant c.put_char.ensures
+pub returns : goal.returns
+returns g c = whole_line _ _ _ _ _ _ c.new-line.ensures c.put_chars.ensures c.end.ensures

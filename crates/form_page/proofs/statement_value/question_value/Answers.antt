@@ -1,4 +1,5 @@
 use Rattle.std.proofs.Common.{◌∙◌, sym, ap}
+use Rattle.std.specs.Prelude.{option_map}
 use Rattle.std.proofs.lemmas.Bool.{cond-true}
 use Rattle.ifr_scopes.specs.code.Lists.{statement_node}
 use Rattle.ifr_scopes.specs.Nodes.{nodes_of, is_question}
@@ -21,7 +22,7 @@ returns-in-Some g c =
     let ns = nodes_of (bytes_of c.args.page.policy) in
     let n = statement_node c.args.statement in
     let stores = c.args.page.stores.now in
-    let is = asked_is ns n (question_view c.in-Some.question) c.in-Some.ensures in
+    let is = asked_is ns n (question_view c.in-Some.question) (ap (option_map question_view) (sym c.in-Some.is) ∙ c.requires.asked) in
     let value = c.read_value.ensures ∙ ap (λ (q : Asked). value_of_field stores q.node q.field) is.1 in
     c.stored_value.ensures ∙ ap (stored_shown (texts_of c.args.page) (world_of c.args.page) n) value
     ∙ sym (cond-true (is_question n) _ _ is.0)

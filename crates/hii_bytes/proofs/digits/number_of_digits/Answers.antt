@@ -1,18 +1,19 @@
-use Rattle.std.proofs.Common.{◌≡◌, ◌≤◌, arith, true}
+use Rattle.std.proofs.Common.{◌<◌, ◌^◌, length, arith}
 use Rattle.std.proofs.lemmas.Grind.{common_steps}
-use Rattle.std.specs.List.{list_all}
-use Rattle.std.specs.Char.{is_digit}
-use Rattle.hii_bytes.proofs.DigitLemmas.{parsed, IsUtf8-digits}
+use Rattle.hii_bytes.proofs.DigitLemmas.{digit_read, digit_refused, digits_read}
 use Rattle.hii_bytes.proofs.digits.number_of_digits.Goals as goal
 
-pub returns-in-Ok : goal.returns-in-Ok
-returns-in-Ok c =
-    let small : c.args.radix ≤ 36 = grind (arith, c.requires) in
-    let digits : list_all (λ byte. is_digit byte c.args.radix) c.args.text.now ≡ true = grind (arith, common_steps) in
-    rw c.ok.ensures.value (parsed c.args.radix c.args.most c.args.text.now c.from_str_radix.result small (omega arith) digits (rw c.in-Ok.ensures.cases.0 at c.from_str_radix.ensures.value))
+pub returns-in_err-number : goal.returns-in_err-number
+returns-in_err-number c =
+    rw c.from_residual.ensures (digit_refused c.args.radix c.args.most c.args.text.now c.loop-byte.byte-index c.loop-byte.number (grind (arith, c.requires)) (omega arith) c.loop-byte.invariant.0.1 c.in_err-number.ensures)
 
-pub returns-in-Err : goal.returns-in-Err
-returns-in-Err c =
-    let small : c.args.radix ≤ 36 = grind (arith, c.requires) in
-    let digits : list_all (λ byte. is_digit byte c.args.radix) c.args.text.now ≡ true = grind (arith, common_steps) in
-    absurd (c.in-Err.ensures.cases.0 (IsUtf8-digits c.args.radix c.args.text.now small digits))
+pub loop-byte-preserved : goal.loop-byte-preserved
+loop-byte-preserved c =
+    let read = c.in_ok-number.ensures in
+    let small : c.in_ok-number.number < 2 ^ 64 = rw read.1 read.0.1 in
+    (rw read.1 (digit_read c.args.radix c.args.text.now c.loop-byte.byte-index c.loop-byte.number (omega arith) c.loop-byte.invariant.0 read.0.0), small)
+
+pub returns : goal.returns
+returns c =
+    let some : 0 < length c.args.text.now = grind (arith, common_steps) in
+    digits_read c.args.radix c.args.most c.args.text.now c.loop-byte.byte-index c.loop-byte.number some (omega arith) (omega arith) c.loop-byte.invariant.0 c.loop-byte.invariant.1

@@ -3,7 +3,8 @@ use Rattle.std.specs.Option.{option_cmp}
 use Rattle.std.proofs.lemmas.List.{take_rest}
 use Rattle.std.proofs.lemmas.List.Sorted.{IsPartitionPoint-from_clause}
 use Rattle.hii_questions.specs.code.ByField.{range_cmp}
-use Rattle.hii_questions.specs.declared.question.Question.{Question}
+use Rattle.hii_questions.specs.code.Entries.{entry_field}
+use Rattle.hii_questions.specs.declared.entry.QuestionEntry.{QuestionEntry}
 use Rattle.hii_questions.proofs.FieldLemmas.{range_total, ties_are}
 use Rattle.hii_questions.proofs.OrderLemmas.{found_between, parted_le, parted_lt}
 use Rattle.hii_questions.proofs.by_field.questions_with.Goals as goal
@@ -16,8 +17,8 @@ returns c =
     let wanted = Some c.args.field in
     let rest = take (length xs - from) (drop from xs) in
     let is = take_rest xs from in
-    let below = IsPartitionPoint-from_clause (λ (q : Question). is_lt (option_cmp range_cmp q.field wanted)) xs from c.partition_point-first.ensures.partitioned
-    (parted_lt range_total (λ (q : Question). q.field) wanted xs c.requires) (λ a r q called. search rules) in
-    let within = IsPartitionPoint-from_clause (λ (q : Question). is_le (option_cmp range_cmp q.field wanted)) rest count c.partition_point-count.ensures.partitioned
-    (parted_le range_total (λ (q : Question). q.field) wanted xs rest from is c.requires) (λ a r q called. search rules) in
-    found_between range_total (λ (q : Question). q.field) wanted xs rest from count is below within ∙ ap (λ p. filter p xs) (ties_are c.args.field)
+    let below = IsPartitionPoint-from_clause (λ (q : QuestionEntry). is_lt (option_cmp range_cmp (entry_field q) wanted)) xs from c.partition_point-first.ensures.partitioned
+    (parted_lt range_total entry_field wanted xs c.requires) (λ a r q called. search rules) in
+    let within = IsPartitionPoint-from_clause (λ (q : QuestionEntry). is_le (option_cmp range_cmp (entry_field q) wanted)) rest count c.partition_point-count.ensures.partitioned
+    (parted_le range_total entry_field wanted xs rest from is c.requires) (λ a r q called. search rules) in
+    found_between range_total entry_field wanted xs rest from count is below within ∙ ap (λ p. filter p xs) (ties_are c.args.field)

@@ -1,7 +1,6 @@
-use Rattle.std.proofs.Common.{◌≡◌, List, ◌++◌, ◌+◌, min, subst, sym, ap, ◌∙◌, arith, append-nil, length, rules}
-use Rattle.hii_questions.specs.code.Merging.{at_most, merge_left}
+use Rattle.std.proofs.Common.{◌≡◌, ◌++◌, ◌+◌, min, subst, sym, ap, ◌∙◌, arith, append-nil, length}
+use Rattle.hii_questions.specs.code.Merging.{at_most}
 use Rattle.hii_questions.specs.code.Steps.{StepsRise, value_at}
-use Rattle.hii_questions.specs.declared.merging.Step.{Step}
 use Rattle.hii_questions.proofs.MergeLemmas.{least_told, all_rise}
 use Rattle.hii_questions.proofs.merging.merged.Goals as goal
 

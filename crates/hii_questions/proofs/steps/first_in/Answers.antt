@@ -1,15 +1,12 @@
-use Rattle.std.proofs.Common.{◌≡◌, List, Some, None, length, slice_get, find, refl, sym, ◌∙◌, arith, rules}
+use Rattle.std.proofs.Common.{◌≡◌, length, slice_get, find, refl, sym, ◌∙◌, arith, rules}
 use Rattle.std.proofs.lemmas.Option.{slice_get_read, slice_get_past}
-use Rattle.hii_questions.specs.Fields.{field_passes, meets}
-use Rattle.hii_questions.specs.code.Numbers.{first_of, behind_of}
-use Rattle.hii_questions.specs.code.Ranges.{range_in}
-use Rattle.hii_questions.specs.code.Views.{question_view}
-use Rattle.hii_questions.proofs.StepLemmas.{first_found}
+use Rattle.hii_questions.specs.code.Entries.{entry_field}
+use Rattle.hii_questions.proofs.StepLemmas.{first_found, meets_in}
 use Rattle.hii_questions.proofs.steps.first_in.Goals.{After-least_within-first}
 use Rattle.hii_questions.proofs.steps.first_in.Goals as goal
 
 -- what is found is the question of the least number
-found : (c : After-least_within-first) → find (λ q. field_passes (meets (range_in c.args.field)) (question_view q).field) c.args.questions.now ≡ slice_get c.args.questions.now c.least_within-first.result
+found : (c : After-least_within-first) → find (λ e. meets_in c.args.field (entry_field e)) c.args.questions.now ≡ slice_get c.args.questions.now c.least_within-first.result
 found c =
     first_found c.args.questions.now c.args.steps.now c.args.field c.least_within-first.result c.first.ensures.small c.requires
     (rw (sym c.behind.ensures, sym c.first.ensures.number) c.least_within-first.ensures)

@@ -1,7 +1,6 @@
-use Rattle.std.proofs.Common.{◌≡◌, ◌≤◌, ◌<◌, ◌-◌, suc, nat_le, drop, min, sym, ap, subst, ◌∙◌, arith, rules}
+use Rattle.std.proofs.Common.{nat_le, arith, rules}
 use Rattle.std.proofs.lemmas.List.{take_rest}
 use Rattle.std.proofs.lemmas.List.Sorted.{IsPartitionPoint-from_clause}
-use Rattle.hii_questions.specs.code.Steps.{IsLeastWithin, least_met, told_behind}
 use Rattle.hii_questions.specs.declared.merging.Step.{Step}
 use Rattle.hii_questions.proofs.StepLemmas.{least_of, parted}
 use Rattle.hii_questions.proofs.steps.least_within.Goals as goal

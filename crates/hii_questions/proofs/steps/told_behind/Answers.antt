@@ -1,4 +1,4 @@
-use Rattle.std.proofs.Common.{◌≡◌, suc, sym, ap, ◌∙◌, arith, rules}
+use Rattle.std.proofs.Common.{◌≡◌, suc, sym, ap, ◌∙◌, arith}
 use Rattle.hii_questions.specs.code.Steps.{told_behind}
 use Rattle.hii_questions.proofs.StepLemmas.{behind_is}
 use Rattle.hii_questions.proofs.steps.told_behind.Goals as goal

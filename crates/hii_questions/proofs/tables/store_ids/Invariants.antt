@@ -1,7 +1,6 @@
 use Rattle.std.proofs.Common.{◌≡◌, ◌||◌, ◌==◌, ℕ}
-use Rattle.std.specs.BTreeSet.{contains}
+use Rattle.hii_bytes.specs.code.NumberSets.{has_number}
 use Rattle.std.specs.List.{list_any}
-use Rattle.std.specs.Ordering.{nat_cmp}
 use Rattle.ifr_scopes.specs.code.Lists.{stores_left}
 use Rattle.ifr_scopes.specs.Nodes.{nodes_of}
 use Rattle.ifr_scopes.specs.Stores.{store_id}
@@ -13,5 +12,5 @@ abbrev pub invariant-loop-store : goal.invariant-loop-store
 invariant-loop-store l = record {
   can : goal.iterator-loop-store.can_next l.store-iterator;
   ends : goal.iterator-loop-store.is_finite l.store-iterator;
-  known : (id : ℕ) → contains nat_cmp l.ids id || list_any (λ s. store_id s.op == id) (stores_left l.store-iterator) ≡ is_known (nodes_of l.forms) id;
+  known : (id : ℕ) → has_number l.ids id || list_any (λ s. store_id s.op == id) (stores_left l.store-iterator) ≡ is_known (nodes_of l.forms) id;
 }

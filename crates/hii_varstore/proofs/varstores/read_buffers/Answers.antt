@@ -1,4 +1,4 @@
-use Rattle.std.proofs.Common.{rules, ◌≡◌, ◌++◌, ◌∷◌, [], List, Ok, Some, None, true, false, sym, ap, subst, ◌∙◌, arith, inr}
+use Rattle.std.proofs.Common.{◌≡◌, ◌++◌, ◌∷◌, [], List, Some, None, true, false, sym, ap, subst, ◌∙◌, arith, inr}
 use Rattle.std.proofs.lemmas.Grind.{common_steps}
 use Rattle.ifr_opcodes.specs.Forest.{Placed}
 use Rattle.ifr_scopes.specs.code.Lists.{store_node, stores_left}
@@ -11,14 +11,14 @@ pub loop-store-init : goal.loop-store-init
 loop-store-init c = record {
   can = tt;
   ends = tt;
-  met = rw c.into_iter-store-iterator.ensures.into_iter_gives (met_none (stores_left c.args.stores) _ _ (λ id. search rules) c.new-buffers.ensures.items);
+  met = rw c.into_iter-store-iterator.ensures.into_iter_gives (met_none (stores_left c.args.stores) _ _ c.in_ok-ids.ensures c.new-buffers.ensures.items);
 }
 
-pub returns-then-is_taken-clause-refused : goal.returns-then-is_taken-clause-refused
-returns-then-is_taken-clause-refused c =
+pub returns-then-meets_again-clause-refused : goal.returns-then-meets_again-clause-refused
+returns-then-meets_again-clause-refused c =
     let n = store_node c.in-Some.store in
     let met = subst (λ (ns : List Placed). HasMet (stores_left c.args.stores) ns c.loop-store.ids c.loop-store.buffers.items) c.in-Some.ensures.steps c.loop-store.invariant.met in
-    let taken : is_taken (store_id n.op) met.before ≡ true = ap (λ id. is_taken id met.before) (sym c.id.ensures) ∙ sym (c.in_ok-is_taken.ensures.told met.before met.known) ∙ c.if-is_taken.true in
+    let taken : is_taken (store_id n.op) met.before ≡ true = ap (λ id. is_taken id met.before) (sym c.id.ensures) ∙ sym (c.meets_again.ensures.told met.before met.known) ∙ c.if-meets_again.true in
     let first = refused_among c.args.stores _ (met_again _ _ n _ _ met taken) in
     rw (c.at.ensures, c.from.ensures, c.place.ensures) (inr first)
 
@@ -27,8 +27,8 @@ loop-store-preserved-in-Continue-branch-2 c =
     let n = store_node c.in-Some.store in
     let b = c.in-Some-read_buffer.buffer in
     let met = subst (λ (ns : List Placed). HasMet (stores_left c.args.stores) ns c.loop-store.ids c.loop-store.buffers.items) c.in-Some.ensures.steps c.loop-store.invariant.met in
-    let free : is_taken (store_id n.op) met.before ≡ false = ap (λ id. is_taken id met.before) (sym c.id.ensures) ∙ sym (c.in_ok-is_taken.ensures.told met.before met.known) ∙ c.if-is_taken.false in
-    let new : c.meets_again.result ≡ Ok false = c.in_ok-is_taken.was ∙ ap Ok c.if-is_taken.false in
+    let free : is_taken (store_id n.op) met.before ≡ false = ap (λ id. is_taken id met.before) (sym c.id.ensures) ∙ sym (c.meets_again.ensures.told met.before met.known) ∙ c.if-meets_again.false in
+    let new : c.meets_again.result ≡ false = c.if-meets_again.false in
     let known = c.meets_again.ensures.met new met.before n (sym c.id.ensures) met.known in
     let is : declared_buffer n ≡ Some b = sym c.read_buffer.ensures ∙ c.in-Some-read_buffer.is in
     let items : c.push.new.self.items ≡ c.loop-store.buffers.items ++ b ∷ [] = grind (arith, common_steps) in
@@ -38,8 +38,8 @@ pub loop-store-preserved : goal.loop-store-preserved
 loop-store-preserved c =
     let n = store_node c.in-Some.store in
     let met = subst (λ (ns : List Placed). HasMet (stores_left c.args.stores) ns c.loop-store.ids c.loop-store.buffers.items) c.in-Some.ensures.steps c.loop-store.invariant.met in
-    let free : is_taken (store_id n.op) met.before ≡ false = ap (λ id. is_taken id met.before) (sym c.id.ensures) ∙ sym (c.in_ok-is_taken.ensures.told met.before met.known) ∙ c.if-is_taken.false in
-    let new : c.meets_again.result ≡ Ok false = c.in_ok-is_taken.was ∙ ap Ok c.if-is_taken.false in
+    let free : is_taken (store_id n.op) met.before ≡ false = ap (λ id. is_taken id met.before) (sym c.id.ensures) ∙ sym (c.meets_again.ensures.told met.before met.known) ∙ c.if-meets_again.false in
+    let new : c.meets_again.result ≡ false = c.if-meets_again.false in
     let known = c.meets_again.ensures.met new met.before n (sym c.id.ensures) met.known in
     let is : declared_buffer n ≡ None = sym c.read_buffer.ensures ∙ c.in_default.is in
     record { can = tt; ends = tt; met = met_no_buffer _ _ n _ _ _ met is free known }

@@ -22,7 +22,7 @@ loop-next-init c = record {
   has_met = record {
     before = [];
     split = c.over-nodes.ensures.all;
-    known = c.new-met.ensures c.args.ifr.now c.in_ok-all.ensures;
+    known = c.in_ok-met.ensures c.args.ifr.now c.in_ok-all.ensures;
     same = ap (first_repeat (nodes_of c.args.ifr.now) []) c.over-nodes.ensures.all;
   };
   kept = c.over-nodes.ensures.kept;

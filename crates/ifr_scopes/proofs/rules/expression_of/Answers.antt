@@ -22,24 +22,23 @@ its c =
 pub overflow_add-from : goal.overflow_add-from
 overflow_add-from c = let h = its (goal.at.overflow_add-from c).After-len in omega (arith, h.ordered, h.ends, h.within, c.args.rule.checked.small)
 
-pub check-requires-clause-ordered : goal.check-requires-clause-ordered
-check-requires-clause-ordered c = (its (goal.at.check-requires-clause-ordered c).After-len).ordered
+pub over-requires-clause-ordered : goal.over-requires-clause-ordered
+over-requires-clause-ordered c = (its (goal.at.over-requires-clause-ordered c).After-len).ordered
 
-pub check-requires-clause-within : goal.check-requires-clause-within
-check-requires-clause-within c = let h = its (goal.at.check-requires-clause-within c).After-len in omega (arith, h.ends, h.within)
+pub over-requires-clause-within : goal.over-requires-clause-within
+over-requires-clause-within c = let h = its (goal.at.over-requires-clause-within c).After-len in omega (arith, h.ends, h.within)
 
-pub check-requires-clause-node : goal.check-requires-clause-node
-check-requires-clause-node c =
-    let h = its (goal.at.check-requires-clause-node c).After-len in
+pub over-requires-clause-node : goal.over-requires-clause-node
+over-requires-clause-node c =
+    let h = its (goal.at.over-requires-clause-node c).After-len in
     is_expression_node _ h.op h.inner h.are_nodes h.bytes_there h.operator
 
-pub unwrap-requires : goal.unwrap-requires
-unwrap-requires c =
-    let h = its (goal.at.unwrap-requires c).After-len in
-    c.check.ensures.accepted (none_there c.args.rule.ifr.now (node_of c.args.rule) _ _ h)
+pub over-requires-clause-sound : goal.over-requires-clause-sound
+over-requires-clause-sound c =
+    let h = its (goal.at.over-requires-clause-sound c).After-len in
+    none_there c.args.rule.ifr.now (node_of c.args.rule) _ _ h
 
 pub returns-clause-tree : goal.returns-clause-tree
 returns-clause-tree c =
     let h = its (goal.at.returns-clause-tree c).After-len in
-    let read = rw c.unwrap.ensures at c.check.ensures.read in
-    is_its_tree c.args.rule.ifr.now (node_of c.args.rule) _ _ h (tree_of c.unwrap.result) read
+    is_its_tree c.args.rule.ifr.now (node_of c.args.rule) _ _ h (tree_of c.over.result) c.over.ensures.read

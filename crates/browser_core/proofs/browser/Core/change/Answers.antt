@@ -24,11 +24,11 @@ use Rattle.browser_core.proofs.Cores.{state_in, seen}
 use Rattle.browser_core.proofs.SetLemmas.{fixed_question, free_question, lies_in}
 use Rattle.browser_core.proofs.browser.Core.change.Goals as goal
 
-pub returns-in_err-changeable : goal.returns-in_err-changeable
-returns-in_err-changeable c =
+pub returns-in_err-question_changeable : goal.returns-in_err-question_changeable
+returns-in_err-question_changeable c =
     let s = c.args.self.now.state in
     let p = err_from_is_err_and c.from_residual.result c.from_residual.ensures.1 in
-    rw (p.1, p.2) (fixed_question s (question_node c.args.question) (offer_of c.args.input) c.in_err-changeable.field-0.0 (ap (λ (m : Placed). unless (fixed (world_of s) m)) (sym c.statement.ensures) ∙ sym c.in_err-changeable.ensures.denied), refl)
+    rw (p.1, p.2) (fixed_question s (question_node c.args.question) (offer_of c.args.input) c.in_err-question_changeable.field-0.0 (sym c.in_err-question_changeable.ensures.denied), refl)
 
 pub set_value-requires-clause-input : goal.set_value-requires-clause-input
 set_value-requires-clause-input c = c.requires.input (question_view c.args.question).field
@@ -47,7 +47,7 @@ pub returns-in_err-field : goal.returns-in_err-field
 returns-in_err-field c =
     let s = c.args.self.now.state in
     let n = question_node c.args.question in
-    let free : unless (fixed (world_of s) n) ≡ Ok tt = ap (λ (m : Placed). unless (fixed (world_of s) m)) (sym c.statement.ensures) ∙ sym c.in_ok-changeable.ensures.denied in
+    let free : unless (fixed (world_of s) n) ≡ Ok tt = sym c.in_ok-question_changeable.ensures.denied in
     let over : IsOver c.new-policy.result c.self.inside.working.stores s =
     record { ifr = c.new-policy.ensures.forms ∙ ap (λ (t : State). t.ifr) (seen c.self.view_is); removed = c.new-policy.ensures.removed ∙ ap (λ (t : State). t.removed) (seen c.self.view_is); working_is = ap (λ (t : State). t.working) (seen c.self.view_is) } in
     let inside : KeptMap → Shown = λ m. record { state = record (state_in c.self.inside) { working = m.stores }; renewed = m.renewed } in
@@ -64,7 +64,7 @@ returns c =
     let s = c.args.self.now.state in
     let n = question_node c.args.question in
     let field = c.in_ok-field.field in
-    let free : unless (fixed (world_of s) n) ≡ Ok tt = ap (λ (m : Placed). unless (fixed (world_of s) m)) (sym c.statement.ensures) ∙ sym c.in_ok-changeable.ensures.denied in
+    let free : unless (fixed (world_of s) n) ≡ Ok tt = sym c.in_ok-question_changeable.ensures.denied in
     let over : IsOver c.new-policy.result c.self.inside.working.stores s =
     record { ifr = c.new-policy.ensures.forms ∙ ap (λ (t : State). t.ifr) (seen c.self.view_is); removed = c.new-policy.ensures.removed ∙ ap (λ (t : State). t.removed) (seen c.self.view_is); working_is = ap (λ (t : State). t.working) (seen c.self.view_is) } in
     let now = c.set_value.new.working in

@@ -17,21 +17,21 @@ use Rattle.browser_core.proofs.FollowLemmas.{go_fixed, go_nowhere, go_hidden}
 use Rattle.browser_core.proofs.Cores.{seen}
 use Rattle.browser_core.proofs.browser.Core.target.Goals as goal
 
-pub returns-in_err-changeable : goal.returns-in_err-changeable
-returns-in_err-changeable c =
+pub returns-in_err-question_changeable : goal.returns-in_err-question_changeable
+returns-in_err-question_changeable c =
     let s = c.args.self.now.state in
     let n = question_node c.in_ok-question.question in
     let leads : is_reference n ≡ true = search rules in
-    let p = err_from_is_err_and c.from_residual-in_err-changeable.result c.from_residual-in_err-changeable.ensures.1 in
-    let why : unless (fixed (world_of s) n) ≡ Err c.in_err-changeable.field-0.0 = ap (λ (m : Placed). unless (fixed (world_of s) m)) (sym c.statement-2.ensures) ∙ sym c.in_err-changeable.ensures.denied in
-    rw (p.1, p.2) (go_fixed s (question_with (nodes_of s.ifr) c.args.id) n c.in_err-changeable.field-0.0 c.in_ok-question.ensures.1 leads why)
+    let p = err_from_is_err_and c.from_residual-in_err-question_changeable.result c.from_residual-in_err-question_changeable.ensures.1 in
+    let why : unless (fixed (world_of s) n) ≡ Err c.in_err-question_changeable.field-0.0 = sym c.in_err-question_changeable.ensures.denied in
+    rw (p.1, p.2) (go_fixed s (question_with (nodes_of s.ifr) c.args.id) n c.in_err-question_changeable.field-0.0 c.in_ok-question.ensures.1 leads why)
 
 pub returns-in_default-form_of : goal.returns-in_default-form_of
 returns-in_default-form_of c =
     let s = c.args.self.now.state in
     let n = question_node c.in_ok-question.question in
     let leads : is_reference n ≡ true = search rules in
-    let free : unless (fixed (world_of s) n) ≡ Ok tt = ap (λ (m : Placed). unless (fixed (world_of s) m)) (sym c.statement-2.ensures) ∙ sym c.in_ok-changeable.ensures.denied in
+    let free : unless (fixed (world_of s) n) ≡ Ok tt = sym c.in_ok-question_changeable.ensures.denied in
     let op : bytes_of c.in-Ref.reference.op ≡ n.op = search rules in
     let none : option_and_then (form_with (nodes_of s.ifr)) (ref_target n.op) ≡ None =
     ap (λ (b : List ℕ). option_and_then (form_with (nodes_of s.ifr)) (ref_target b)) (sym op) ∙ ap (option_and_then (form_with (nodes_of s.ifr))) (sym c.target.ensures) ∙ sym c.in_default-form_of.ensures.found in
@@ -43,7 +43,7 @@ returns-in_err-opens c =
     let n = question_node c.in_ok-question.question in
     let form = form_node c.in-Some.form in
     let leads : is_reference n ≡ true = search rules in
-    let free : unless (fixed (world_of s) n) ≡ Ok tt = ap (λ (m : Placed). unless (fixed (world_of s) m)) (sym c.statement-2.ensures) ∙ sym c.in_ok-changeable.ensures.denied in
+    let free : unless (fixed (world_of s) n) ≡ Ok tt = sym c.in_ok-question_changeable.ensures.denied in
     let op : bytes_of c.in-Ref.reference.op ≡ n.op = search rules in
     let is : option_and_then (form_with (nodes_of s.ifr)) (ref_target n.op) ≡ Some form =
     ap (λ (b : List ℕ). option_and_then (form_with (nodes_of s.ifr)) (ref_target b)) (sym op) ∙ ap (option_and_then (form_with (nodes_of s.ifr))) (sym c.target.ensures) ∙ sym c.in-Some.ensures.found in

@@ -12,5 +12,5 @@ use Rattle.browser_core.proofs.browser.Core.why.Goals as goal
 pub returns : goal.returns
 returns c =
     let s = c.args.self.now.state in
-    why_answered s (question_with (nodes_of s.ifr) c.args.id) (question_node c.in_ok-question.question) c.changeable.result c.in_ok-question.ensures.1
-    (c.changeable.ensures.denied ∙ ap (λ (n : Placed). unless (fixed (world_of s) n)) c.statement.ensures)
+    why_answered s (question_with (nodes_of s.ifr) c.args.id) (question_node c.in_ok-question.question) c.question_changeable.result c.in_ok-question.ensures.1
+    c.question_changeable.ensures.denied

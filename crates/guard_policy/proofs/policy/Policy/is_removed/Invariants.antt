@@ -1,6 +1,8 @@
 use Rattle.std.proofs.Common.{◌≡◌}
 use Rattle.std.specs.List.{list_any}
-use Rattle.ifr_scopes.specs.code.Lists.{guards_left}
+use Rattle.ifr_scopes.specs.Guards.{guards}
+use Rattle.ifr_scopes.specs.code.Lists.{outward_left}
+use Rattle.ifr_scopes.specs.code.NoSubmitsLeft.{no_submit_node}
 use Rattle.guard_policy.specs.Policy.{is_removed}
 use Rattle.guard_policy.proofs.policy.Policy.is_removed.Given as goal
 
@@ -11,5 +13,5 @@ invariant-loop-guard l =
     record {
       can : goal.iterator-loop-guard.can_next l.guards;
       ends : goal.iterator-loop-guard.is_finite l.guards;
-      same : list_any which (guards_left l.guards) ≡ list_any which (guards_left l.fn.guards);
+      same : list_any which (outward_left l.guards) ≡ list_any which (guards (no_submit_node l.nosubmit));
     }

@@ -1,18 +1,18 @@
-use Rattle.std.proofs.Common.{ap, sym, ◌∙◌}
-use Rattle.ifr_scopes.specs.Nodes.{nodes_of}
-use Rattle.ifr_scopes.proofs.PathLemmas.{own_guards, own_lock}
-use Rattle.ifr_scopes.proofs.ViewLemmas.{contains_found}
+use Rattle.std.proofs.Common.{ap, ◌∙◌, List, Option}
+use Rattle.ifr_opcodes.specs.Forest.{Placed}
+use Rattle.ifr_scopes.specs.Guards.{guards}
+use Rattle.ifr_scopes.specs.code.AroundViews.{around_lock}
+use Rattle.guard_policy.specs.Policy.{covered_by}
 use Rattle.guard_policy.specs.code.Answers.{unless}
 use Rattle.guard_policy.specs.code.Views.{world_by}
-use Rattle.guard_policy.proofs.IndexedLemmas.{covered_there}
+use Rattle.guard_policy.proofs.IndexedLemmas.{guards_there, lock_there}
 use Rattle.guard_policy.proofs.policy.Policy.uncovered_at.Goals as goal
 
 pub returns : goal.returns
 returns g c = λ n node indexed at.
-    let forms = c.args.self.now.forms.now in
-    let w = world_by c.args.self.now (g.V.Verdicts.met c.args.verdicts.now) in
-    let spelled = c.args.self.now.accepted.checked.spelled in
-    let within = contains_found (nodes_of forms) n.place n node in
-    let guards = own_guards forms n spelled within indexed in
-    let lock = own_lock forms n spelled within indexed in
-    c.unless_covered.ensures ∙ ap unless (covered_there w n c.args.place (sym at) guards lock)
+    let policy = c.args.self.now in
+    let w = world_by policy (g.V.Verdicts.met c.args.verdicts.now) in
+    let spelled = policy.accepted.checked.spelled in
+    let gs = guards_there policy.forms.now n c.args.place _ spelled node indexed at c.around.ensures.guards in
+    let lock = lock_there policy.forms.now n c.args.place _ spelled node indexed at c.around.ensures.lock in
+    c.unless_covered.ensures ∙ ap (λ (its : List Placed). unless (covered_by w its (around_lock c.around.result))) gs ∙ ap (λ (o : Option Placed). unless (covered_by w (guards n) o)) lock

@@ -1,4 +1,4 @@
-use Rattle.std.proofs.Common.{◌≡◌, ℕ, Some, sym, ◌∙◌, rules}
+use Rattle.std.proofs.Common.{◌≡◌, Some, rules}
 use Rattle.hii_questions.specs.code.Merging.{next_from}
 use Rattle.hii_questions.proofs.MergeLemmas.{one_passed}
 use Rattle.hii_questions.proofs.merging.Merge.step.Goals as goal

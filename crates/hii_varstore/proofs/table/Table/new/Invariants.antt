@@ -1,9 +1,7 @@
-use Rattle.std.proofs.Common.{◌≡◌, ℕ, take}
-use Rattle.std.specs.Ordering.{nat_cmp}
-use Rattle.std.specs.BTreeMap.{get}
-use Rattle.hii_varstore.specs.code.Table.{place_of}
+use Rattle.std.proofs.Common.{◌≡◌, take}
+use Rattle.hii_varstore.proofs.TableLemmas.{entries_from}
 use Rattle.hii_varstore.proofs.table.Table.new.Given as goal
 
--- the stores so far are in the index
+-- the entries of the stores so far
 abbrev pub invariant-loop-place : goal.invariant-loop-place
-invariant-loop-place l = (id : ℕ) → get nat_cmp l.places id ≡ place_of (take l.place l.fn.buffers.items) id
+invariant-loop-place l = l.places.items ≡ entries_from 0 (take l.place l.fn.buffers.items)

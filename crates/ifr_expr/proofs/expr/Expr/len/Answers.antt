@@ -6,4 +6,4 @@ use Rattle.ifr_expr.proofs.expr.Expr.len.Goals as goal
 pub overflow_add-count : goal.overflow_add-count
 overflow_add-count c =
     let expr = c.args.self in
-    omega (arith, c.loop-op.invariant, ap (λ (l : List Mark). length l) c.in-Some.ensures.steps, few_marks expr.place expr.bytes.now, expr.checked.small)
+    omega (arith, c.loop-op.invariant, ap (λ (l : List Mark). length l) c.in-Some.ensures.steps, few_marks expr.place expr.bytes.now expr.checked.opcodes, expr.checked.small)

@@ -1,17 +1,19 @@
-use Rattle.std.proofs.Common.{◌≡◌, ℕ, List, filter, subst, ◌∙◌}
-use Rattle.ifr_scopes.specs.code.KeptNoSubmits.{AreKeptNoSubmits}
+use Rattle.std.proofs.Common.{◌≡◌, ℕ, List, filter, sym, ap, subst, ◌∙◌}
 use Rattle.ifr_scopes.specs.Nodes.{nodes_of, is_no_submit}
-use Rattle.ifr_scopes.proofs.NoSubmitLemmas.{kept_again, keeps}
+use Rattle.ifr_scopes.specs.code.Tables.{AreConditionEntries}
+use Rattle.ifr_scopes.proofs.NoSubmitLemmas.{all_again, all_entries, denying}
 use Rattle.ifr_scopes.proofs.forms.Forms.nosubmits.Goals as goal
 
 pub invariant_of-result : goal.invariant_of-result
 invariant_of-result c =
     let its = c.deref.result.now in
-    let kept = keeps c.self.inside.ifr.now its c.self.invariant.accepted.checked.spelled (c.deref.ensures.value ∙ c.self.invariant.no_submits) in
-    record { conditions = subst (λ (bytes : List ℕ). AreKeptNoSubmits bytes its) c.self.view_is kept.conditions }
+    let bytes = c.self.inside.ifr.now in
+    let are = subst (AreConditionEntries bytes) (sym (c.deref.ensures.value ∙ c.self.invariant.index.conditions)) (all_entries bytes c.self.invariant.accepted.checked.spelled) in
+    record { conditions = subst (λ (b : List ℕ). AreConditionEntries b its) c.self.view_is are }
 
 pub returns : goal.returns
 returns c =
     let its = c.deref.result.now in
-    let kept = keeps c.self.inside.ifr.now its c.self.invariant.accepted.checked.spelled (c.deref.ensures.value ∙ c.self.invariant.no_submits) in
-    subst (λ (bytes : List ℕ). kept_again bytes its ≡ filter is_no_submit (nodes_of bytes)) c.self.view_is kept.again
+    let bytes = c.self.inside.ifr.now in
+    let again = ap (denying bytes) (c.deref.ensures.value ∙ c.self.invariant.index.conditions) ∙ all_again bytes c.self.invariant.accepted.checked.spelled in
+    subst (λ (b : List ℕ). denying b its ≡ filter is_no_submit (nodes_of b)) c.self.view_is again

@@ -1,12 +1,24 @@
-use Rattle.std.proofs.Common.{subst}
-use Rattle.std.proofs.lemmas.List.Elements.{All-tail}
-use Rattle.ifr_scopes.specs.code.Kept.{IsKept, AreKept}
+use Rattle.std.proofs.Common.{ℕ, Some, List, [], ◌∷◌, map, refl, sym, ap, ◌∙◌}
+use Rattle.std.specs.Prelude.{reverse}
+use Rattle.std.proofs.lemmas.List.{reverse-append}
+use Rattle.ifr_opcodes.specs.Forest.{Placed}
+use Rattle.ifr_scopes.specs.Nodes.{nodes_of}
+use Rattle.ifr_scopes.specs.code.Tables.{guard_of_number}
+use Rattle.ifr_scopes.proofs.NumberLemmas.{leads_on, last_number}
 use Rattle.ifr_scopes.proofs.guards_at.GuardsAt.step.Goals as goal
 
-pub invariant_of-self : goal.invariant_of-self
-invariant_of-self c =
+pub kept-requires-clause-kept : goal.kept-requires-clause-kept
+kept-requires-clause-kept c =
     let it = c.args.self.now in
-    record {
-      checked = it.checked;
-      guards = All-tail (λ guard. IsKept it.ifr.now guard) c.in_ok-guard.guard.now c.in_ok-guard.kept.now (subst (AreKept it.ifr.now) c.in_ok-guard.ensures.cases.0 it.guards);
-    }
+    let k = c.in_ok-number.number in
+    (leads_on it.ifr.now it.guards.now (Some k) k _ it.checked.spelled it.table refl (last_number (nodes_of it.ifr.now) it.numbers.items c.pop.new.self.items k c.in_ok-number.ensures.items it.numbered)).kept
+
+pub returns-clause-steps : goal.returns-clause-steps
+returns-clause-steps c =
+    let it = c.args.self.now in
+    let ns = nodes_of it.ifr.now in
+    let k = c.in_ok-number.number in
+    let rest = c.pop.new.self.items in
+    let on = leads_on it.ifr.now it.guards.now (Some k) k _ it.checked.spelled it.table refl (last_number ns it.numbers.items rest k c.in_ok-number.ensures.items it.numbered) in
+    ap (λ (l : List ℕ). map (guard_of_number ns) (reverse l)) c.in_ok-number.ensures.items ∙ ap (map (guard_of_number ns)) (reverse-append rest (k ∷ []))
+    ∙ ap (λ (n : Placed). n ∷ map (guard_of_number ns) (reverse rest)) (sym (c.kept.ensures.node ∙ on.is))

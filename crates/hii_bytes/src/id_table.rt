@@ -1,0 +1,74 @@
+//! What is found by ids of 16 bits.
+
+ghost use Rattle.std.specs.Prelude.{◌≡◌, ℕ, IfOk};
+ghost use Rattle.std.specs.List.Sorted.{IsSortedByKey};
+ghost use Rattle.std.specs.Ordering.{nat_cmp};
+ghost use Rattle.hii_bytes.specs.code.IdTables.{number_with};
+
+use std::alloc::{AllocError, Global};
+use std::marker::Model;
+
+/// An id, and the number that is kept with it.
+#[derive(Clone, Copy, Debug)]
+pub struct IdEntry {
+    pub id: u16,
+    pub number: u32,
+}
+
+/// Numbers by ids of 16 bits, in a sorted list that is searched by halves (own rule). It is seen as this list.
+#[derive(Debug, Drop)]
+pub struct IdTable {
+    entries: Vec<IdEntry>,
+}
+
+impl Model for IdTable {
+    ghost use Rattle.std.specs.Prelude.{List};
+    ghost use Rattle.std.specs.List.Sorted.{IsSortedByKey};
+    ghost use Rattle.std.specs.Ordering.{nat_cmp};
+    ghost use Rattle.hii_bytes.specs.declared.id_table.IdEntry.{IdEntry};
+
+    ghost Value = { List IdEntry };
+
+    ghost view = { λ t. t.entries.items };
+
+    ghost invariant = { λ t. IsSortedByKey (λ (e : IdEntry). e.id) nat_cmp t.entries.items };
+}
+
+// The number of the first entry of an id.
+fn first_number(entries: &[IdEntry], id: u16) -> Option<u32>
+    requires { IsSortedByKey (λ (e : IdEntry). e.id) nat_cmp entries.now }
+    ensures { result ≡ number_with entries.now id }
+{
+    let first = entries.partition_point(|entry| entry.id < id);
+    if first < entries.len() && entries[first].id == id {
+        return Some(entries[first].number);
+    }
+    None
+}
+
+impl IdTable {
+    /// The table of these entries. Of those of one id the first counts.
+    pub fn of(entries: Vec<IdEntry>) -> Result<IdTable, AllocError>
+        ensures { IfOk result (λ table. (id : ℕ)
+            → number_with table id ≡ number_with entries.items id) }
+    {
+        let mut entries = entries;
+        entries.sort_by_key(|entry| entry.id)?;
+        Ok(IdTable { entries })
+    }
+
+    /// A second table of the same.
+    pub fn copy(&self, alloc: Global) -> Result<IdTable, AllocError>
+        ensures { IfOk result (λ table. table ≡ self.now) }
+    {
+        let entries = Vec::from_slice(alloc, &self.entries)?;
+        Ok(IdTable { entries })
+    }
+
+    /// The number that is kept with an id, if one is.
+    pub fn find(&self, id: u16) -> Option<u32>
+        ensures { result ≡ number_with self.now id }
+    {
+        first_number(&self.entries, id)
+    }
+}

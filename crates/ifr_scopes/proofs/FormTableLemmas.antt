@@ -1,0 +1,30 @@
+-- The forms of a package by their ids.
+use Rattle.std.proofs.Common.{◌≡◌, ℕ, eqb, Option, Some, None, List, [], ◌∷◌, map, refl, inl, inr}
+use Rattle.std.specs.Prelude.{option_map, filter}
+use Rattle.std.proofs.lemmas.Bool.{cases_Bool}
+use Rattle.hii_bytes.specs.code.IdTables.{number_with}
+use Rattle.ifr_opcodes.specs.Fields.{form_id}
+use Rattle.ifr_opcodes.specs.Forest.{Placed}
+use Rattle.ifr_scopes.specs.Nodes.{is_form}
+use Rattle.ifr_scopes.specs.References.{form_with}
+use Rattle.ifr_scopes.specs.code.Index.{form_place_with}
+use Rattle.ifr_scopes.specs.code.Tables.{form_entry}
+
+-- the place that is kept with an id is that of the first form of it
+pub place_with : (ns : List Placed) (id : ℕ) → number_with (map form_entry (filter is_form ns)) id ≡ form_place_with ns id
+place_with [] id = refl
+place_with (n ∷ ns) id = elim (cases_Bool (is_form n)) [
+  | inl is ↦ elim (cases_Bool (eqb (form_id n.op) id)) [
+    | inl here ↦ rw (is, here) refl
+    | inr other ↦ rw (is, other) (place_with ns id)
+  ]
+  | inr other ↦ rw other (place_with ns id)
+]
+
+-- none of an id has no place
+pub none_with : (ns : List Placed) (id : ℕ) → ◌≡◌ {A = Option ℕ} None (form_place_with ns id) → ◌≡◌ {A = Option Placed} None (form_with ns id)
+none_with ns id e = go (form_with ns id) e
+  where
+    go : (o : Option Placed) → ◌≡◌ {A = Option ℕ} None (option_map (λ (n : Placed). n.place) o) → ◌≡◌ {A = Option Placed} None o
+    go None e = refl
+    go (Some n) e = absurd cc

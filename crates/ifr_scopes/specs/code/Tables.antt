@@ -1,0 +1,176 @@
+-- The tables of a package's index.
+use Rattle.std.specs.Prelude.{◌≡◌, ◌<◌, ℕ, ◌-◌, Bool, true, ◌==◌, nat_lt, Option, Some, None, option_map, unwrap_or, All, IfSome, List, [], ◌∷◌, ◌++◌, length, filter, map}
+use Rattle.std.specs.List.{last_or, slice_get}
+use Rattle.std.specs.Option.{option_flatten}
+use Rattle.std.proofs.Props.{props}
+use Rattle.hii_bytes.specs.code.IdTables.{number_with}
+use Rattle.hii_bytes.specs.declared.id_table.IdEntry.{IdEntry}
+use Rattle.ifr_opcodes.specs.Fields.{form_id}
+use Rattle.ifr_opcodes.specs.Forest.{Ancestor, Placed}
+use Rattle.ifr_opcodes.specs.Opcode.{number}
+use Rattle.ifr_scopes.specs.Guards.{is_guard, guards, guards_among}
+use Rattle.ifr_scopes.specs.Kinds.{is_condition_number}
+use Rattle.ifr_scopes.specs.Nodes.{nodes_of, this_of}
+use Rattle.ifr_scopes.specs.Structure.{parent}
+use Rattle.ifr_scopes.specs.code.Checked.{or_empty, node_in, has_node, has_guard}
+use Rattle.ifr_scopes.specs.code.Ends.{expression_end}
+use Rattle.ifr_scopes.specs.code.Index.{is_indexed, entry_at, form_place_with}
+use Rattle.ifr_scopes.specs.code.LockIndex.{lock_place}
+use Rattle.ifr_scopes.specs.declared.index.Index.{Index}
+use Rattle.ifr_scopes.specs.declared.index.Entry.{Entry}
+use Rattle.ifr_scopes.specs.declared.index.GuardEntry.{GuardEntry}
+use Rattle.ifr_scopes.specs.declared.index.ConditionEntry.{ConditionEntry}
+
+-- ---- the numbers of guards
+
+-- how many guards stand before a place
+abbrev pub guards_before : List Placed → ℕ → ℕ
+guards_before ns place = length (filter (λ n. nat_lt n.place place) (guards_among ns))
+
+-- the number of the innermost guard on a path
+abbrev pub inner_guard : List Placed → List Ancestor → Option ℕ
+inner_guard ns path =
+    option_map (λ a. guards_before ns a.place)
+    (last_or None (filter (λ a. is_guard (number a.op)) path))
+
+-- the guard of a number
+unfoldable pub guard_of_number : List Placed → ℕ → Placed
+guard_of_number ns k = or_empty (slice_get (guards_among ns) k)
+
+-- the guard of a number, if there is one, and those around it, the outermost first
+abbrev pub guards_from : List Placed → Option ℕ → List Placed
+guards_from ns None = []
+guards_from ns (Some k) = guards (guard_of_number ns k) ++ guard_of_number ns k ∷ []
+
+-- It is the number of a guard, if it is one; and all of these are.
+abbrev pub IsNumber : List Placed → Option ℕ → Type 0
+IsNumber ns number = IfSome number (λ k. k < length (guards_among ns))
+
+abbrev pub AreNumbers : List Placed → List ℕ → Type 0
+AreNumbers ns numbers = All (λ k. k < length (guards_among ns)) numbers
+
+pub IsNumber-prop : (ns : List Placed) (number : Option ℕ) → IsProp (IsNumber ns number)
+IsNumber-prop ns None = hlevel props
+IsNumber-prop ns (Some k) = hlevel props
+
+pub AreNumbers-prop : (ns : List Placed) (numbers : List ℕ) → IsProp (AreNumbers ns numbers)
+AreNumbers-prop ns numbers = hlevel props
+
+-- the last of the numbers along a path
+abbrev pub inner_last : List (Option ℕ) → Option ℕ
+inner_last numbers = option_flatten (slice_get numbers (length numbers - 1))
+
+-- ---- the tables
+
+-- a guard, with the number of the innermost around it
+abbrev pub guard_entry : Option ℕ → Placed → GuardEntry
+guard_entry outer n =
+    record { place = n.place; this = this_of n; outer = outer; ends = expression_end n }
+
+abbrev pub guard_table : List Placed → List GuardEntry
+guard_table ns = map (λ n. guard_entry (inner_guard ns n.path) n) (guards_among ns)
+
+-- A guard stands at the place in the package, in the scope of this question, and its condition ends there.
+pub record IsGuardEntry (bytes : List ℕ) (guard : GuardEntry) : Type 0 where
+  pub stands : has_guard bytes guard.place ≡ true
+  pub within : guard.this ≡ this_of (node_in bytes guard.place)
+  pub ends : guard.ends ≡ expression_end (node_in bytes guard.place)
+
+pub IsGuardEntry-prop : (bytes : List ℕ) (guard : GuardEntry) → IsProp (IsGuardEntry bytes guard)
+IsGuardEntry-prop bytes guard = hlevel props
+
+abbrev pub AreGuardEntries : List ℕ → List GuardEntry → Type 0
+AreGuardEntries bytes guards = All (λ one. IsGuardEntry bytes one) guards
+
+pub AreGuardEntries-prop : (bytes : List ℕ) (guards : List GuardEntry)
+    → IsProp (AreGuardEntries bytes guards)
+AreGuardEntries-prop bytes guards = hlevel (props, IsGuardEntry-prop)
+
+-- a form, a statement or an option, with the innermost guard around it, as long as nothing is known that locks it
+abbrev pub entry_of_node : Option ℕ → Placed → Entry
+entry_of_node guard n = record { place = n.place; guard = guard; lock = None }
+
+abbrev pub entries_unlocked : List Placed → List Entry
+entries_unlocked ns = map (λ n. entry_of_node (inner_guard ns n.path) n) (filter is_indexed ns)
+
+-- the same, with the LOCKED that decides for it
+abbrev pub kept_entry : List Placed → Placed → Entry
+kept_entry ns n =
+    record { place = n.place; guard = inner_guard ns n.path; lock = lock_place ns n }
+
+abbrev pub entry_table : List Placed → List Entry
+entry_table ns = map (kept_entry ns) (filter is_indexed ns)
+
+-- the number of the innermost guard around the form, statement or option at a place
+abbrev pub innermost_at : List Placed → ℕ → Option ℕ
+innermost_at ns place = entry_at (λ n. inner_guard ns n.path) ns place
+
+-- a condition of a question
+abbrev pub is_question_condition : Placed → Bool
+is_question_condition n = is_condition_number (number n.op)
+
+-- the place of what a node stands in, 0 where it stands in nothing
+abbrev pub parent_place : Placed → ℕ
+parent_place n = unwrap_or (option_map (λ a. a.place) (parent n)) 0
+
+abbrev pub condition_entry : Placed → ConditionEntry
+condition_entry n =
+    record {
+      place = n.place;
+      code = number n.op;
+      question = parent_place n;
+      this = this_of n;
+      ends = expression_end n;
+    }
+
+abbrev pub condition_table : List Placed → List ConditionEntry
+condition_table ns = map condition_entry (filter is_question_condition ns)
+
+-- A condition of a question stands at the place in the package, and this is its entry.
+pub record IsConditionEntry (bytes : List ℕ) (kept : ConditionEntry) : Type 0 where
+  pub there : has_node bytes kept.place ≡ true
+  pub condition : is_condition_number kept.code ≡ true
+  pub code : kept.code ≡ number (node_in bytes kept.place).op
+  pub question : kept.question ≡ parent_place (node_in bytes kept.place)
+  pub within : kept.this ≡ this_of (node_in bytes kept.place)
+  pub ends : kept.ends ≡ expression_end (node_in bytes kept.place)
+
+pub IsConditionEntry-prop : (bytes : List ℕ) (kept : ConditionEntry)
+    → IsProp (IsConditionEntry bytes kept)
+IsConditionEntry-prop bytes kept = hlevel props
+
+abbrev pub AreConditionEntries : List ℕ → List ConditionEntry → Type 0
+AreConditionEntries bytes kept = All (λ one. IsConditionEntry bytes one) kept
+
+pub AreConditionEntries-prop : (bytes : List ℕ) (kept : List ConditionEntry)
+    → IsProp (AreConditionEntries bytes kept)
+AreConditionEntries-prop bytes kept = hlevel (props, IsConditionEntry-prop)
+
+-- a form with its place
+abbrev pub form_entry : Placed → IdEntry
+form_entry n = record { id = form_id n.op; number = n.place }
+
+-- these are the places of the forms of a package by their ids
+abbrev pub AreFormEntries : List Placed → List IdEntry → Type 0
+AreFormEntries ns forms = (id : ℕ) → number_with forms id ≡ form_place_with ns id
+
+-- These are the tables of a package's nodes.
+pub record IsIndexOf (ns : List Placed) (index : Index) : Type 0 where
+  pub entries : index.entries.items ≡ entry_table ns
+  pub guards : index.guards.items ≡ guard_table ns
+  pub conditions : index.conditions.items ≡ condition_table ns
+  pub forms : AreFormEntries ns index.forms
+
+option_prop : (a b : Option ℕ) → IsProp (a ≡ b)
+option_prop a b = hlevel props
+
+guard_entry_prop : (a b : GuardEntry) → IsProp (a ≡ b)
+guard_entry_prop a b = hlevel (props, option_prop)
+
+-- these are the guards of a package
+abbrev pub IsGuardTable : List ℕ → List GuardEntry → Type 0
+IsGuardTable bytes guards = guards ≡ guard_table (nodes_of bytes)
+
+pub IsGuardTable-prop : (bytes : List ℕ) (guards : List GuardEntry)
+    → IsProp (IsGuardTable bytes guards)
+IsGuardTable-prop bytes guards = hlevel (props, option_prop, guard_entry_prop)
