@@ -56,8 +56,6 @@ fn new_field<'a, 'i>(
     ensures { TakesField policy.entry working.now.stores (question_view question.entry)
         (offer_of input.entry) result }
 {
-    // So the values of options fit their width.
-    are_bytes(policy.forms().bytes());
     let field = check_value(question, input)?;
     options_open(policy, question, field.items(), working)?;
     Ok(field)

@@ -1,6 +1,6 @@
 //! Bytes that are written together.
 
-ghost use Rattle.std.specs.Prelude.{◌≡◌, ◌≤◌, ◌<◌, ◌^◌, List, [], decimal, replicate, encode_utf8};
+ghost use Rattle.std.specs.Prelude.{◌≡◌, ◌≤◌, ◌<◌, ◌^◌, List, [], ◌∷◌, decimal, replicate, encode_utf8};
 ghost use Rattle.hii_bytes.specs.Watching.{pen_of, Puts, Writes};
 ghost use Rattle.hii_bytes.specs.Texts.{right_aligned};
 ghost use Rattle.form_page.specs.code.Lines.{Adds};
@@ -52,11 +52,25 @@ impl Line {
         }
     }
 
+    /// Adds a byte.
+    pub(crate) fn put_byte<W: Write>(&mut self, byte: u8, out: &mut Watched<W>)
+        ensures { Adds (pen_of W.contents out.old) self.old (pen_of W.contents out.new) self.new
+            (byte ∷ []) }
+    {
+        if self.held.try_push(byte).is_err() {
+            self.put(&[byte], out);
+        }
+    }
+
     /// Adds a character in UTF-8.
     pub(crate) fn put_char<W: Write>(&mut self, c: char, out: &mut Watched<W>)
         ensures { Adds (pen_of W.contents out.old) self.old (pen_of W.contents out.new) self.new
             (encode_utf8 c) }
     {
+        if c.is_ascii() {
+            self.put_byte(c as u8, out);
+            return;
+        }
         let mut bytes = [0u8; 4];
         self.put(c.encode_utf8(&mut bytes).as_bytes(), out);
     }

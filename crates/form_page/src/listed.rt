@@ -2,20 +2,21 @@
 
 ghost use Rattle.std.specs.Prelude.{◌≡◌, IfSome};
 ghost use Rattle.ifr_scopes.specs.code.Checked.{IsNodeOf, AreNodesOf, AreNodesOf-prop};
-ghost use Rattle.ifr_scopes.specs.code.Lists.{statement_node, statements_left};
+ghost use Rattle.ifr_scopes.specs.code.Lists.{statement_node};
+ghost use Rattle.ifr_scopes.specs.code.StatementsLeft.{statements_of_left};
 ghost use Rattle.guard_policy.specs.code.Views.{bytes_of};
 
 use crate::decisions::is_listed;
 use crate::page::Page;
 use guard_policy::Conditions;
-use ifr_scopes::{Statement, Statements};
+use ifr_scopes::{Statement, StatementsOf};
 
 /// The statements that are left of a page, by place: those of its form that are not hidden.
 #[derive(Drop)]
 pub(crate) struct Listed<'a, 's, C: Conditions> {
     pub(crate) page: Page<'a, 's, C>,
-    pub(crate) statements: Statements<'a>,
-    pub ghost together: { AreNodesOf (bytes_of page.policy) (statements_left statements) } by { AreNodesOf-prop (bytes_of page.policy) (statements_left statements) },
+    pub(crate) statements: StatementsOf<'s, 'a>,
+    pub ghost together: { AreNodesOf (bytes_of page.policy) (statements_of_left statements) } by { AreNodesOf-prop (bytes_of page.policy) (statements_of_left statements) },
 }
 
 impl<'a, 's, C: Conditions> Listed<'a, 's, C> {

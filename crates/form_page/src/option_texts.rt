@@ -39,7 +39,7 @@ pub(crate) fn option_text<'a, C: Conditions>(
         ≡ choice (texts_of page.entry) (world_of page.entry)
         (statement_node statement.entry) value }
 {
-    let mut options = statement.options();
+    let mut options = page.policy.forms().options_of(statement);
     while let Some(option) = options.next() {
         if is_choice(page, option, value) {
             return Some(page.languages.text(page.choice, option.op().text()));

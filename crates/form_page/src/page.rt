@@ -123,7 +123,7 @@ impl<'a, 's, C: Conditions> Page<'a, 's, C> {
         statements_are_nodes();
         Listed {
             page: *self,
-            statements: self.form.statements(),
+            statements: self.policy.forms().statements_of(self.form),
         }
     }
 }

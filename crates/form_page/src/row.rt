@@ -61,11 +61,11 @@ pub(crate) fn put_row<C: Conditions, W: Write>(row: Row<'_, '_, C>, out: &mut Wa
 {
     let mut line = Line::new();
     line.put_decimal_right(3, u64::from(row.number), out);
-    line.put(b" ", out);
-    line.put(&[row.mark], out);
-    line.put(b" ", out);
+    line.put_byte(b' ', out);
+    line.put_byte(row.mark, out);
+    line.put_byte(b' ', out);
     put_id(row.question, &mut line, out);
-    line.put(b" ", out);
+    line.put_byte(b' ', out);
     put_in_columns(row.prompt.chars(), 24, &mut line, out);
     line.put(b" [", out);
     put_value(row.value, &mut line, out);

@@ -17,7 +17,7 @@ fn next_of<'a>(guards: &mut GuardsAt<'_, 'a>, code: u8) -> Option<Guard<'a>>
     ensures { YieldsFirstBy guard_node (numbered_left code) guards.old result guards.new }
 {
     while let Some(guard) = guards.step() {
-        if guard.op().code == code {
+        if guard.code() == code {
             return Some(guard);
         }
     }

@@ -2,13 +2,14 @@
 
 ghost use Rattle.std.specs.Prelude.{◌≡◌};
 ghost use Rattle.ifr_scopes.specs.code.AnyConditions.{any_condition_node};
+ghost use Rattle.ifr_scopes.specs.code.Lists.{guard_node};
 ghost use Rattle.ifr_scopes.specs.Nodes.{nodes_of};
 ghost use Rattle.guard_policy.specs.World.{is_met_over};
 
 use crate::policy::Policy;
 use hii_questions::Questions;
 use hii_varstore::Stores;
-use ifr_scopes::{AnyCondition, Forms};
+use ifr_scopes::{AnyCondition, Forms, Guard};
 
 /// What is kept of conditions, by their places.
 pub trait Conditions {
@@ -21,6 +22,14 @@ pub trait Conditions {
     /// SUPPRESS_IF, GRAY_OUT_IF and NO_SUBMIT_IF alone (UEFI 2.8, 33.3.8.3).
     fn holds(&self, place: u32) -> bool
         ensures { result ≡ holding self.now place };
+
+    /// The same of the condition of a guard at a place. The number is how many guards of the package stand before it: it may
+    /// spare a search, and is not what decides.
+    fn guard_holds(&self, _number: u32, place: u32) -> bool
+        ensures { result ≡ holding self.now place }
+    {
+        self.holds(place)
+    }
 }
 
 /// Where a decision learns whether a condition holds.
@@ -75,12 +84,24 @@ pub(crate) struct ByConditions<'p, C> {
     pub(crate) conditions: &'p C,
 }
 
+impl<'p, C: Conditions> ByConditions<'p, C> {
+    // Whether the condition of a guard holds.
+    fn guard_holds(&self, guard: Guard<'_>) -> bool
+        ensures { result ≡ C.holding self.now.conditions.now (guard_node guard.entry).place }
+    {
+        match guard.number() {
+            Some(number) => self.conditions.guard_holds(number, guard.place()),
+            None => self.conditions.holds(guard.place()),
+        }
+    }
+}
+
 impl<'p, 'a, C: Conditions> Verdicts<'a> for ByConditions<'p, C> {
     ghost met = { λ it n. C.holding it.conditions.now n.place };
 
     fn is_met(&self, condition: AnyCondition<'a>) -> bool {
         match condition {
-            AnyCondition::Guard(guard) => self.conditions.holds(guard.place()),
+            AnyCondition::Guard(guard) => self.guard_holds(guard),
             AnyCondition::Question(condition) => self.conditions.holds(condition.place()),
         }
     }

@@ -55,7 +55,7 @@ impl<'a, 's> Policy<'a, 's> {
         ensures { result ≡ acts effect (world_by self.now (V.met verdicts.now))
             (guard_node guard.entry) }
     {
-        match (effect, guard.op().code) {
+        match (effect, guard.code()) {
             (Effect::Hides, DISABLE_IF) => self.removed(guard.place()),
             (Effect::Hides, SUPPRESS_IF) => verdicts.is_met(AnyCondition::Guard(guard)),
             (Effect::GraysOut, GRAY_OUT_IF) => verdicts.is_met(AnyCondition::Guard(guard)),
@@ -130,20 +130,25 @@ impl<'a, 's> Policy<'a, 's> {
     {
         let mut guards = nosubmit.guards;
         while let Some(guard) = guards.next() {
-            if guard.op().code == DISABLE_IF && self.removed(guard.place()) {
+            if guard.code() == DISABLE_IF && self.removed(guard.place()) {
                 return true;
             }
         }
         false
     }
 
-    /// Whether the form, statement or option at a place is seen.
-    pub(crate) fn seen_at<V: Verdicts<'a>>(&self, place: u32, verdicts: &V) -> Result<(), Denial>
+    /// Whether the form, statement or option at a place is seen, which is looked for first at this position of the index.
+    pub(crate) fn seen_at<V: Verdicts<'a>>(
+        &self,
+        place: u32,
+        position: u32,
+        verdicts: &V,
+    ) -> Result<(), Denial>
         ensures { (n : Placed) → IsNodeOf self.now.forms.now n → is_indexed n ≡ true
             → n.place ≡ place → result
             ≡ denying.unless (spec.hidden (world_by self.now (V.met verdicts.now)) n) }
     {
-        match self.hiding_guard(self.forms.around(place), verdicts) {
+        match self.hiding_guard(self.forms.around_at(place, position), verdicts) {
             Some(guard) => Err(hiding(guard)),
             None => Ok(()),
         }
@@ -166,16 +171,18 @@ impl<'a, 's> Policy<'a, 's> {
         unless_grayed_out(effects.grays_out, around.lock())
     }
 
-    /// Whether nothing around the form, statement or option at a place lets it not be changed.
+    /// Whether nothing around the form, statement or option at a place lets it not be changed. It is looked for first at this
+    /// position of the index.
     pub(crate) fn uncovered_at<V: Verdicts<'a>>(
         &self,
         place: u32,
+        position: u32,
         verdicts: &V,
     ) -> Result<(), Denial>
         ensures { (n : Placed) → IsNodeOf self.now.forms.now n → is_indexed n ≡ true
             → n.place ≡ place → result
             ≡ denying.unless (spec.covered (world_by self.now (V.met verdicts.now)) n) }
     {
-        self.unless_covered(self.forms.around(place), verdicts)
+        self.unless_covered(self.forms.around_at(place, position), verdicts)
     }
 }

@@ -81,7 +81,7 @@ impl<'a, 's> Policy<'a, 's> {
         ensures { result ≡ denying.unless
             (spec.hidden (world self.now stores.now) (statement_node statement.entry)) }
     {
-        self.seen_at(statement.place(), &self.over(stores))
+        self.seen_at(statement.place(), statement.position(), &self.over(stores))
     }
 
     /// Whether a statement of the package is seen, by what is kept of conditions.
@@ -94,7 +94,11 @@ impl<'a, 's> Policy<'a, 's> {
         ensures { DecidesBy (C.holding conditions.now) (world self.now)
             (Listed statement.entry) result }
     {
-        self.seen_at(statement.place(), &ByConditions { conditions })
+        self.seen_at(
+            statement.place(),
+            statement.position(),
+            &ByConditions { conditions },
+        )
     }
 
     /// Whether an option of a question is shown, by the rule of `listed` and by what is kept of conditions.
@@ -110,7 +114,7 @@ impl<'a, 's> Policy<'a, 's> {
             → result ≡ denying.unless
             (spec.hidden (world self.now stores) (option_node option.entry)) }
     {
-        self.seen_at(option.place(), &ByConditions { conditions })
+        self.seen_at(option.place(), 0, &ByConditions { conditions })
     }
 
     /// Whether a form is opened, by the rule of `listed`.
@@ -119,7 +123,7 @@ impl<'a, 's> Policy<'a, 's> {
         ensures { result ≡ denying.unless
             (spec.hidden (world self.now stores.now) (form_node form.entry)) }
     {
-        self.seen_at(form.place(), &self.over(stores))
+        self.seen_at(form.place(), 0, &self.over(stores))
     }
 
     /// Whether a form is opened, by what is kept of conditions.
@@ -127,7 +131,7 @@ impl<'a, 's> Policy<'a, 's> {
         requires { IsNodeOf self.now.forms.now (form_node form) }
         ensures { DecidesBy (C.holding conditions.now) (world self.now) (Opens form.entry) result }
     {
-        self.seen_at(form.place(), &ByConditions { conditions })
+        self.seen_at(form.place(), 0, &ByConditions { conditions })
     }
 
     // Whether an option may be chosen, as far as it goes: not where it is not shown, a GRAY_OUT_IF around it holds or it is
@@ -141,7 +145,7 @@ impl<'a, 's> Policy<'a, 's> {
         ensures { result ≡ denying.unless
             (spec.fixed (world_by self.now (V.met verdicts.now)) (option_node option.entry)) }
     {
-        self.uncovered_at(option.place(), verdicts)
+        self.uncovered_at(option.place(), 0, verdicts)
     }
 
     // Whether a statement forbids a change by itself.
@@ -163,7 +167,7 @@ impl<'a, 's> Policy<'a, 's> {
         ensures { result ≡ denying.unless
             (spec.fixed (world_by self.now (V.met verdicts.now)) (statement_node statement.entry)) }
     {
-        self.uncovered_at(statement.place(), verdicts)?;
+        self.uncovered_at(statement.place(), statement.position(), verdicts)?;
         self.fixed_itself(statement)
     }
 
@@ -204,7 +208,7 @@ impl<'a, 's> Policy<'a, 's> {
         ensures { result ≡ denying.unless
             (spec.fixed (world_by self.now (V.met verdicts.now)) (question_node question.entry)) }
     {
-        self.uncovered_at(question.place(), verdicts)?;
+        self.uncovered_at(question.place(), question.statement().position(), verdicts)?;
         fixed_question(question)
     }
 

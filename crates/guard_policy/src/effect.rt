@@ -22,7 +22,7 @@ pub(crate) enum Effect {
 pub(crate) fn hiding(guard: Guard<'_>) -> Denial
     ensures { result ≡ hiding (guard_node guard.entry) }
 {
-    let kind = if guard.op().code == DISABLE_IF {
+    let kind = if guard.code() == DISABLE_IF {
         DenialKind::DisableIf
     } else {
         DenialKind::SuppressIf

@@ -1,21 +1,21 @@
 //! The conditions around the options of questions.
 
 ghost use Rattle.ifr_scopes.specs.code.Checked.{AreNodesOf, AreNodesOf-prop};
-ghost use Rattle.ifr_scopes.specs.code.Parts.{options_left};
+ghost use Rattle.ifr_scopes.specs.code.OptionsLeft.{options_of_left};
 
 use crate::around::{Around, next_around};
 use hii_questions::Question;
-use ifr_scopes::{Forms, Guard, OptionView, Options};
+use ifr_scopes::{Forms, Guard, OptionView, OptionsOf};
 
 /// The guards around the options of a value on whose conditions it depends whether one of them may be chosen, those that are
 /// left: option by option.
 #[derive(Drop)]
 pub(crate) struct OptionConditions<'a, 's> {
     forms: &'s Forms<'a>,
-    options: Options<'a>,
+    options: OptionsOf<'s, 'a>,
     value: u64,
     around: Option<Around<'a, 's>>,
-    pub ghost nodes: { AreNodesOf forms.now (options_left options) } by { AreNodesOf-prop forms.now (options_left options) },
+    pub ghost nodes: { AreNodesOf forms.now (options_of_left options) } by { AreNodesOf-prop forms.now (options_of_left options) },
 }
 
 impl<'a, 's> OptionConditions<'a, 's> {
@@ -45,7 +45,7 @@ impl<'a, 's> OptionConditions<'a, 's> {
     {
         // The package is accepted: the options are nodes of it.
         forms.bytes();
-        let options = question.statement().options();
+        let options = forms.options_of(question.statement());
         OptionConditions {
             forms,
             options,

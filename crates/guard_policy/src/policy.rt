@@ -8,7 +8,9 @@ ghost use Rattle.ifr_scopes.specs.code.Checked.{IsNodeOf};
 ghost use Rattle.ifr_scopes.specs.code.Lists.{statement_node};
 ghost use Rattle.ifr_scopes.specs.Nodes.{nodes_of, is_question};
 ghost use Rattle.hii_questions.specs.Fields.{asked};
+ghost use Rattle.hii_questions.specs.laws.Fields.{AreBytes};
 ghost use Rattle.hii_questions.specs.code.Views.{question_view};
+ghost use Rattle.guard_policy.specs.code.Bytes.{AreBytes-prop};
 
 use crate::removed::Removed;
 use hii_questions::{Question, Questions};
@@ -23,7 +25,13 @@ pub struct Policy<'a, 's> {
     pub(crate) removed: &'s Removed,
     pub ghost together: { questions.now.ifr ≡ forms.now },
     pub ghost accepted: { IsAccepted forms.now } by { IsAccepted-prop forms.now },
+    pub ghost small: { AreBytes forms.now } by { AreBytes-prop forms.now },
 }
+
+// No byte is above 255.
+fn are_bytes(bytes: &[u8])
+    ensures { AreBytes bytes.now }
+{}
 
 impl<'a, 's> Policy<'a, 's> {
     /// The policy of a form set from which this was removed.
@@ -37,7 +45,7 @@ impl<'a, 's> Policy<'a, 's> {
         ensures removed { result.removed.now ≡ removed.now }
     {
         // The package is accepted.
-        forms.bytes();
+        are_bytes(forms.bytes());
         Policy {
             forms,
             questions,
@@ -68,6 +76,6 @@ impl<'a, 's> Policy<'a, 's> {
             then Some (asked (nodes_of self.now.forms.now) (statement_node statement.entry))
             else None) }
     {
-        self.questions.at(statement.place())
+        self.questions.of_statement(statement)
     }
 }

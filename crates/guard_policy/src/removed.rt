@@ -53,7 +53,7 @@ impl Removed {
         let mut places = Vec::new(alloc);
         let mut guards = forms.guards();
         while let Some(guard) = guards.next() {
-            if guard.op().code == DISABLE_IF
+            if guard.code() == DISABLE_IF
                 && condition_holds(AnyCondition::Guard(guard), forms, questions, stores)
             {
                 places.push(guard.place())?;

@@ -69,7 +69,9 @@ impl<'a, 's> Policy<'a, 's> {
         ensures question { TellsQuestion (nodes_of self.now.forms.now)
             (statement_node statement.entry) result }
     {
-        let around = self.forms.around(statement.place());
+        let around = self
+            .forms
+            .around_at(statement.place(), statement.position());
         let effects = self.effects(around, verdicts);
         if let Some(guard) = effects.hides {
             return Standing::Hidden(hiding(guard));

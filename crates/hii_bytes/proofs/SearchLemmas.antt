@@ -1,5 +1,5 @@
 -- Lists of things whose numbers rise, and how they are searched by halves.
-use Rattle.std.proofs.Common.{◌≡◌, ℕ, zero, suc, ◌+◌, ◌≤◌, ◌<◌, Bool, true, false, eqb, ltb, not, Option, Some, None, Ok, Err, List, [], ◌∷◌, length, get_or, refl, sym, ap, ◌∙◌, inl, inr, arith, is_lt}
+use Rattle.std.proofs.Common.{◌≡◌, ℕ, zero, suc, ◌+◌, ◌-◌, ◌≤◌, ◌<◌, Bool, true, false, eqb, ltb, not, Option, Some, None, Ok, Err, List, [], ◌∷◌, length, get_or, refl, sym, ap, ◌∙◌, inl, inr, arith, is_lt}
 use Rattle.std.specs.Prelude.{◌&&◌, ◌==◌, option_map, filter}
 use Rattle.std.specs.List.{find}
 use Rattle.std.specs.List.Sorted.{IsBinarySearchResult, IsNonDecreasingBy, IsPartitionPoint, IsPartitionedBy, IsSortedByKey, IsStableByKey, ties}
@@ -90,6 +90,16 @@ module _ {X : Type 0} (key : X → ℕ) where
         let above : ltb (key (get_or xs first d)) k ≡ false = split.1 first d (omega arith) (omega arith) in
         other (omega arith) (omega (arith, ltb-false _ k above))
   ])
+
+  -- the first of a key, where the one before it has a lower key
+  pub begins : (xs : List X) (k at : ℕ) (d : X) → IsSortedByKey key nat_cmp xs → at < length xs → key (get_or xs at d) ≡ k → (0 < at → key (get_or xs (at - 1) d) < k)
+      → find (λ x. eqb (key x) k) xs ≡ Some (get_or xs at d)
+  begins xs k at d sorted lt is before =
+      find_here (λ x. eqb (key x) k) xs at d lt (λ j below.
+      let less : key (get_or xs (at - 1) d) < k = before (omega (arith, below)) in
+      let up : key (get_or xs j d) ≤ key (get_or xs (at - 1) d) = IsNonDecreasingBy-from_sort key xs sorted j (at - 1) d (omega (arith, below)) (omega (arith, lt)) in
+      ne_eqb (key (get_or xs j d)) k (λ e. omega (arith, less, up, e)))
+      (eq-eqb (key (get_or xs at d)) k is)
 
   -- A stable sort keeps those of one key.
   pub kept_of_key : (xs ys : List X) (k : ℕ) (like : X) → key like ≡ k → IsStableByKey key nat_cmp xs ys → filter (λ x. key x == k) ys ≡ filter (λ x. key x == k) xs

@@ -1,9 +1,11 @@
 //! What is found by ids of 16 bits.
 
-ghost use Rattle.std.specs.Prelude.{◌≡◌, ℕ, IfOk};
+ghost use Rattle.std.specs.Prelude.{◌≡◌, ◌<◌, ◌==◌, ℕ, true, Some, IfOk, length, slice_index_or};
+ghost use Rattle.std.specs.List.{find};
 ghost use Rattle.std.specs.List.Sorted.{IsSortedByKey};
 ghost use Rattle.std.specs.Ordering.{nat_cmp};
 ghost use Rattle.hii_bytes.specs.code.IdTables.{number_with};
+ghost use Rattle.hii_bytes.specs.declared.id_table.IdEntry.{IdEntry};
 
 use std::alloc::{AllocError, Global};
 use std::marker::Model;
@@ -34,11 +36,39 @@ impl Model for IdTable {
     ghost invariant = { λ t. IsSortedByKey (λ (e : IdEntry). e.id) nat_cmp t.entries.items };
 }
 
+// Where an entry of an id stands if there is one of each id from the first on.
+fn likely_index(entries: &[IdEntry], id: u16) -> usize {
+    match entries.first() {
+        Some(first) => usize::from(id.saturating_sub(first.id)),
+        None => 0,
+    }
+}
+
+// Whether the first entry of an id stands at an index.
+fn begins_at(entries: &[IdEntry], index: usize, id: u16) -> bool
+    requires { IsSortedByKey (λ (e : IdEntry). e.id) nat_cmp entries.now }
+    ensures within { result ≡ true → index < length entries.now }
+    ensures first { result ≡ true → (d : IdEntry) → find (λ (e : IdEntry). e.id == id) entries.now
+        ≡ Some (slice_index_or entries.now index d) }
+{
+    if index >= entries.len() {
+        return false;
+    }
+    if entries[index].id != id {
+        return false;
+    }
+    index == 0 || entries[index - 1].id < id
+}
+
 // The number of the first entry of an id.
 fn first_number(entries: &[IdEntry], id: u16) -> Option<u32>
     requires { IsSortedByKey (λ (e : IdEntry). e.id) nat_cmp entries.now }
     ensures { result ≡ number_with entries.now id }
 {
+    let likely = likely_index(entries, id);
+    if begins_at(entries, likely, id) {
+        return Some(entries[likely].number);
+    }
     let first = entries.partition_point(|entry| entry.id < id);
     if first < entries.len() && entries[first].id == id {
         return Some(entries[first].number);

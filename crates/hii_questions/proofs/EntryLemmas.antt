@@ -81,11 +81,6 @@ found_alike p q (x ∷ xs) all = elim (cases_Bool (q x)) [
   | inr other ↦ rw (all 0 x (omega arith), other) (found_alike p q xs (λ k d lt. all (suc k) d (omega arith)))
 ]
 
--- the questions of which all are kept
-pub all_kept : (ifr bytes : List ℕ) (es all : List QuestionEntry) (qs : List Asked) → qs ≡ map (entry_view ifr) all → all ≡ es → ifr ≡ bytes → map (entry_view bytes) es ≡ questions (nodes_of bytes)
-    → qs ≡ questions (nodes_of bytes)
-all_kept ifr bytes es all qs seen same read placed = seen ∙ ap (map (entry_view ifr)) same ∙ ap (λ (b : List ℕ). map (entry_view b) es) read ∙ placed
-
 -- A package has fewer questions than a number of four bytes may count.
 pub few_questions : (ifr : List ℕ) → IsAccepted ifr → length (questions (nodes_of ifr)) < 2 ^ 32
 few_questions ifr accepted =

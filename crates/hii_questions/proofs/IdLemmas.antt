@@ -1,5 +1,5 @@
 -- The questions of a package by their ids.
-use Rattle.std.proofs.Common.{◌≡◌, ℕ, suc, ◌+◌, ◌<◌, false, eqb, Some, None, List, [], ◌∷◌, ◌++◌, length, get_or, refl, sym, ap, ◌∙◌, arith, inl, inr, append_assoc, option_map}
+use Rattle.std.proofs.Common.{◌≡◌, ℕ, suc, ◌+◌, ◌<◌, false, eqb, Some, None, List, [], ◌∷◌, length, get_or, refl, sym, ap, ◌∙◌, arith, inl, inr, option_map}
 use Rattle.std.specs.Prelude.{◌==◌}
 use Rattle.std.proofs.lemmas.Bool.{cases_Bool}
 use Rattle.std.proofs.lemmas.List.{get_or-map, length-map}
@@ -15,14 +15,6 @@ use Rattle.hii_questions.specs.code.Tables.{AreQuestions, first_with}
 use Rattle.hii_questions.specs.declared.entry.QuestionEntry.{QuestionEntry}
 use Rattle.hii_questions.specs.declared.merging.Step.{Step}
 use Rattle.hii_questions.proofs.QuestionLemmas.{first_is_with}
-
--- ---- the table
-
--- one more id
-pub push_id : (ids : List IdEntry) (q : Asked) (left rest : List Asked) (all : List IdEntry) → left ≡ q ∷ rest → ids ++ ids_from (length ids) left ≡ all
-    → ids ++ (record { id = question_id q.node.op; number = length ids } ∷ []) ++ ids_from (length ids + 1) rest ≡ all
-push_id ids q left rest all steps was =
-    append_assoc ids (record { id = question_id q.node.op; number = length ids } ∷ []) (ids_from (length ids + 1) rest) ∙ sym (ap (λ (l : List Asked). ids ++ ids_from (length ids) l) steps) ∙ was
 
 -- ---- the number of an id
 

@@ -17,3 +17,4 @@ pub mod LawLemmas
 pub mod NamedLemmas
 pub mod MergeLemmas
 pub mod StepLemmas
+pub mod ReadLemmas

@@ -7,6 +7,7 @@ pub mod Contents
 pub mod Entries
 pub mod FaultTells
 pub mod Fitting
+pub mod Gathered
 pub mod Ids
 pub mod ItemsLeft
 pub mod Lists

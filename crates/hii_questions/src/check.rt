@@ -1,43 +1,63 @@
 //! Whether the stores hold the fields of all questions, and the options of lists suit.
 
-ghost use Rattle.std.specs.Prelude.{◌≡◌};
-ghost use Rattle.hii_bytes.specs.code.NumberSets.{has_number};
-ghost use Rattle.std.specs.List.{flat_map};
+ghost use Rattle.std.specs.Prelude.{◌≡◌, ◌⊎◌, IfOk, MatchResult, None, Some};
+ghost use Rattle.hii_bytes.specs.Faults.{out_of_memory};
 ghost use Rattle.hii_bytes.specs.code.FirstFaults.{first_cause};
-ghost use Rattle.ifr_scopes.specs.Nodes.{options};
+ghost use Rattle.ifr_opcodes.specs.Fields.{question_store};
+ghost use Rattle.ifr_scopes.specs.Nodes.{nodes_of, options};
 ghost use Rattle.ifr_scopes.specs.code.Parts.{option_node};
-ghost use Rattle.hii_questions.specs.Faults.{parts_of, has_field_fault, has_option_fault};
+ghost use Rattle.hii_varstore.specs.Layout.{size_of};
+ghost use Rattle.hii_varstore.specs.StoreNodes.{layout_of};
+ghost use Rattle.hii_questions.specs.Faults.{parts_of, has_option_fault, is_known, lacks_store};
+ghost use Rattle.hii_questions.specs.Fields.{asked};
 ghost use Rattle.hii_questions.specs.code.Causes.{question_causes};
-ghost use Rattle.hii_questions.specs.code.FaultTells.{TellsFault, first_part_fault, first_option_fault, is_choice};
+ghost use Rattle.hii_questions.specs.code.FaultTells.{TellsFault, first_part_fault, first_option_fault, is_choice, reaches_past};
+ghost use Rattle.hii_questions.specs.code.Gathered.{AreGathered};
 ghost use Rattle.hii_questions.specs.Types.{first_kind as first_kind_of};
-ghost use Rattle.hii_questions.specs.code.Lists.{questions_left};
 ghost use Rattle.hii_questions.specs.code.Views.{question_node, question_view};
 
 use crate::elements::first_kind;
 use crate::numbers::fitting_bits;
 use crate::question::Question;
-use crate::questions_by_place::QuestionsByPlace;
+use crate::store_ids::has_store;
 use hii_bytes::{Cause, Fault, NumberSet};
-use hii_varstore::Layout;
 use ifr_opcodes::{ONE_OF, ORDERED_LIST};
-use ifr_scopes::{OptionView, StatementKind};
+use ifr_scopes::{Forms, OptionView, StatementKind};
+use std::alloc::{AllocError, Global};
 
-// What is wrong with the store or the field of a question.
-fn field_fault(question: Question<'_>, layout: &Layout<'_>, ids: &NumberSet) -> Option<Cause>
-    ensures { result ≡ first_cause (has_field_fault layout.now (λ id. has_number ids.now id))
-        (question_view question.entry) question_causes }
+// Whether a question names a store, and none that is there. Its store holds so many bytes, if any.
+fn lacks_store(
+    alloc: Global,
+    forms: &Forms<'_>,
+    ids: &mut Option<NumberSet>,
+    question: Question<'_>,
+    size: Option<u16>,
+) -> Result<bool, AllocError>
+    requires sized { size ≡ size_of (layout_of (nodes_of forms.now))
+        (question_store (question_node question).op) }
+    requires gathered { AreGathered (nodes_of forms.now) ids.old }
+    ensures told { IfOk result (λ lacks. lacks
+        ≡ lacks_store (is_known (nodes_of forms.now)) (question_node question.entry)) }
+    ensures gathered { AreGathered (nodes_of forms.now) ids.new }
 {
     let store = question.op.store();
-    if store != 0 && !ids.contains(store) {
-        return Some(Cause::UnknownVarstore);
+    if store == 0 || size.is_some() {
+        return Ok(false);
     }
-    let field = question.field?;
-    let size = usize::from(layout.size(field.store)?);
+    let has = has_store(alloc, forms, ids, store)?;
+    Ok(!has)
+}
+
+// Whether the field of a question reaches past the end of its store, which holds so many bytes.
+fn is_outside(question: Question<'_>, size: Option<u16>) -> bool
+    ensures { result ≡ reaches_past (question_view question.entry).field size }
+{
+    let (Some(field), Some(size)) = (question.field, size) else {
+        return false;
+    };
+    let size = usize::from(size);
     let offset = usize::from(field.offset);
-    if size < offset || size - offset < field.width {
-        return Some(Cause::FieldOutside);
-    }
-    None
+    size < offset || size - offset < field.width
 }
 
 // What is wrong with an option of a question, whose first option is of this Type.
@@ -83,30 +103,34 @@ fn check_options(question: Question<'_>) -> Result<(), Fault>
     Ok(())
 }
 
-// Refuses a question with a fault, and then its first option with one.
-fn check_question(question: Question<'_>, layout: &Layout<'_>, ids: &NumberSet) -> Result<(), Fault>
-    ensures { TellsFault (first_part_fault layout.now (λ id. has_number ids.now id)
-        (parts_of (question_view question.entry))) result }
-{
-    match field_fault(question, layout, ids) {
-        Some(cause) => Err(question.op.op.fault(cause)),
-        None => check_options(question),
-    }
-}
-
-/// Refuses the first question or option with a fault: a question whose store is not there by UnknownVarstore, one whose
-/// field reaches past its store's end by FieldOutside, an option of a ONE_OF that is no number of its width by OptionRange,
-/// one of an ORDERED_LIST of another Type than the first by MixedOptions, each at its place (own rule).
-pub(crate) fn check_questions(
-    questions: QuestionsByPlace<'_, '_>,
-    layout: &Layout<'_>,
-    ids: &NumberSet,
+/// Refuses a question whose store is not there by UnknownVarstore, or whose field reaches past its store's end by
+/// FieldOutside, each at the question, and then the first option of it with a fault: one of a ONE_OF that is no number of
+/// its width by OptionRange, one of an ORDERED_LIST of another Type than the first by MixedOptions, each at its place (own
+/// rule). Where an allocation fails the fault is OutOfMemory. The question's store holds so many bytes, if any.
+pub(crate) fn check_question(
+    alloc: Global,
+    forms: &Forms<'_>,
+    ids: &mut Option<NumberSet>,
+    question: Question<'_>,
+    size: Option<u16>,
 ) -> Result<(), Fault>
-    ensures { TellsFault (first_part_fault layout.now (λ id. has_number ids.now id)
-        (flat_map parts_of (questions_left questions.entry))) result }
+    requires sized { size ≡ size_of (layout_of (nodes_of forms.now))
+        (question_store (question_node question).op) }
+    requires asked { question_view question ≡ asked (nodes_of forms.now) (question_node question) }
+    requires gathered { AreGathered (nodes_of forms.now) ids.old }
+    ensures told { MatchResult result
+        (λ _. first_part_fault (layout_of (nodes_of forms.now)) (is_known (nodes_of forms.now))
+        (parts_of (question_view question.entry)) ≡ None)
+        (λ fault. (fault ≡ out_of_memory)
+        ⊎ (first_part_fault (layout_of (nodes_of forms.now)) (is_known (nodes_of forms.now))
+        (parts_of (question_view question.entry)) ≡ Some fault)) }
+    ensures gathered { AreGathered (nodes_of forms.now) ids.new }
 {
-    for question in questions {
-        check_question(question, layout, ids)?;
+    if lacks_store(alloc, forms, ids, question, size)? {
+        return Err(question.op.op.fault(Cause::UnknownVarstore));
     }
-    Ok(())
+    if is_outside(question, size) {
+        return Err(question.op.op.fault(Cause::FieldOutside));
+    }
+    check_options(question)
 }

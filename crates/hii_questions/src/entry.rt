@@ -1,13 +1,17 @@
 //! What is kept of questions.
 
-ghost use Rattle.std.specs.Prelude.{◌≡◌, false, MatchOption};
+ghost use Rattle.std.specs.Prelude.{◌≡◌, true};
+ghost use Rattle.ifr_opcodes.specs.Fields.{question_store};
+ghost use Rattle.ifr_opcodes.specs.code.Marks.{mark};
+ghost use Rattle.ifr_opcodes.specs.code.Ops.{op_of};
 ghost use Rattle.ifr_scopes.specs.code.Lists.{statement_node};
 ghost use Rattle.ifr_scopes.specs.Nodes.{is_question};
+ghost use Rattle.hii_varstore.specs.Layout.{Shape, size_of};
 ghost use Rattle.hii_questions.specs.code.Entries.{IsEntryOf, entry_field, entry_range};
 
 use crate::field_range::FieldRange;
 use crate::locate::field_in;
-use hii_varstore::Layout;
+use ifr_opcodes::QuestionOp;
 use ifr_scopes::Statement;
 
 /// Where a field lies, in less room than a `FieldRange` takes.
@@ -36,21 +40,30 @@ impl FieldEntry {
 pub(crate) struct QuestionEntry {
     /// The place of the question, in bytes from the package's header.
     pub(crate) place: u32,
+    /// The position of its statement in the index of the package.
+    pub(crate) position: u32,
     /// Where its field lies, if it has one.
     pub(crate) field: Option<FieldEntry>,
 }
 
 impl QuestionEntry {
-    /// What is kept of the question that a statement is, with its field in the stores of a layout.
-    pub(crate) fn of(statement: Statement<'_>, layout: &Layout<'_>) -> Option<QuestionEntry>
-        ensures { MatchOption result (is_question (statement_node statement.entry) ≡ false)
-            (IsEntryOf layout.now (statement_node statement.entry)) }
+    /// What is kept of the question that a statement is, whose store holds so many bytes, if any.
+    pub(crate) fn of(
+        statement: Statement<'_>,
+        op: QuestionOp<'_>,
+        size: Option<u16>,
+    ) -> QuestionEntry
+        requires same { op_of op.op ≡ mark (statement_node statement) }
+        requires asks { is_question (statement_node statement) ≡ true }
+        ensures { (shape : Shape)
+            → size ≡ size_of shape (question_store (statement_node statement.entry).op)
+            → IsEntryOf shape (statement_node statement.entry) result }
     {
-        let op = statement.question()?;
-        Some(QuestionEntry {
+        QuestionEntry {
             place: statement.place(),
-            field: field_in(statement, op, layout),
-        })
+            position: statement.position(),
+            field: field_in(statement, op, size),
+        }
     }
 
     /// Where its field lies, if it has one.

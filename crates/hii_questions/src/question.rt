@@ -30,7 +30,7 @@ impl<'a> Question<'a> {
     ghost use Rattle.ifr_opcodes.specs.code.Ops.{bytes_of};
     ghost use Rattle.ifr_scopes.specs.Accepted.{IsAccepted};
     ghost use Rattle.hii_questions.specs.Fields.{is_password};
-    ghost use Rattle.hii_questions.specs.code.Entries.{IsQuestionEntry, entry_view};
+    ghost use Rattle.hii_questions.specs.code.Entries.{IsQuestionEntry, entry_field, entry_view};
     ghost use Rattle.hii_questions.specs.code.Ranges.{range_in};
     ghost use Rattle.hii_questions.specs.code.Views.{question_node, question_view};
 
@@ -40,10 +40,28 @@ impl<'a> Question<'a> {
         requires kept { IsQuestionEntry ifr.now entry }
         ensures { question_view result ≡ entry_view ifr.entry.now entry }
     {
-        let statement = Statement::at(ifr, entry.place);
+        let statement = Statement::at(ifr, entry.place, entry.position);
+        Question::of(statement, statement.question().unwrap(), entry)
+    }
+
+    /// The question that a statement is, of which this is kept.
+    pub(crate) fn of(
+        statement: Statement<'a>,
+        op: QuestionOp<'a>,
+        entry: QuestionEntry,
+    ) -> Question<'a>
+        requires same { op_of op.op ≡ mark (statement_node statement) }
+        requires asks { is_question (statement_node statement) ≡ true }
+        requires wide { HasWidth (statement_node statement) (entry_field entry) }
+        requires narrow { IsNarrow (statement_node statement) (entry_field entry) }
+        ensures { question_view result ≡ record {
+          node = statement_node statement.entry;
+          field = option_map range_in (entry_field entry);
+        } }
+    {
         Question {
             statement,
-            op: statement.question().unwrap(),
+            op,
             field: entry.field(),
         }
     }

@@ -4,6 +4,7 @@ ghost use Rattle.std.specs.Prelude.{◌≡◌, IfOk, IfErr, filter, option_map};
 ghost use Rattle.std.specs.List.{find};
 ghost use Rattle.hii_bytes.specs.Faults.{HasNone, Refuses, out_of_memory};
 ghost use Rattle.ifr_scopes.specs.Nodes.{nodes_of};
+ghost use Rattle.ifr_scopes.specs.code.Lists.{statement_node};
 ghost use Rattle.hii_varstore.specs.StoreNodes.{layout_of};
 ghost use Rattle.hii_questions.specs.Answers.{answers};
 ghost use Rattle.hii_questions.specs.Faults.{IsQuestionFault};
@@ -15,19 +16,17 @@ ghost use Rattle.hii_questions.specs.code.Tables.{first_at};
 ghost use Rattle.hii_questions.specs.code.Views.{question_view};
 
 use crate::by_field::{questions_by_field, questions_with};
-use crate::check::check_questions;
 use crate::entry::QuestionEntry;
 use crate::field_range::FieldRange;
 use crate::merging::Step;
 use crate::over::Over;
-use crate::passwords::passwords_among;
 use crate::question::Question;
 use crate::questions_by_place::QuestionsByPlace;
 use crate::steps::{first_in, steps_among};
-use crate::tables::{numbers_by_id, questions_by_place, store_ids};
+use crate::tables::{numbers_near, read_questions};
 use hii_bytes::{Fault, IdTable};
 use hii_varstore::{Layout, Stores};
-use ifr_scopes::Forms;
+use ifr_scopes::{Forms, Statement};
 use std::alloc::Global;
 use std::marker::Model;
 
@@ -37,6 +36,8 @@ use std::marker::Model;
 pub struct Questions<'a> {
     ifr: &'a [u8],
     by_place: Vec<QuestionEntry>,
+    // For each position of the index how many questions stand before it, to find a statement's question first there.
+    near: Vec<u32>,
     by_id: IdTable,
     by_field: Vec<QuestionEntry>,
     passwords: Vec<QuestionEntry>,
@@ -75,16 +76,15 @@ impl<'a> Questions<'a> {
             → IfErr result (λ fault. fault ≡ out_of_memory) }
     {
         let ifr = forms.bytes();
-        let by_place = questions_by_place(alloc, forms, layout)?;
+        let (by_place, numbers, passwords) = read_questions(alloc, forms, layout)?;
         let by_field = questions_by_field(alloc, &by_place)?;
-        let by_id = numbers_by_id(alloc, QuestionsByPlace::over(ifr, &by_place))?;
-        let passwords = passwords_among(alloc, ifr, &by_place)?;
+        let by_id = IdTable::of(numbers)?;
         let password_steps = steps_among(alloc, &passwords)?;
-        let ids = store_ids(alloc, forms)?;
-        check_questions(QuestionsByPlace::over(ifr, &by_place), layout, &ids)?;
+        let near = numbers_near(alloc, &by_place)?;
         Ok(Questions {
             ifr,
             by_place,
+            near,
             by_id,
             by_field,
             passwords,
@@ -110,6 +110,28 @@ impl<'a> Questions<'a> {
         ensures { option_map question_view result
             ≡ first_at (questions (nodes_of self.now.ifr)) place }
     {
+        self.at_number(place, 0)
+    }
+
+    /// The question at the place of a statement, with no search where the statement comes from the index.
+    pub fn of_statement(&self, statement: Statement<'_>) -> Option<Question<'a>>
+        ensures { option_map question_view result
+            ≡ first_at (questions (nodes_of self.now.ifr)) (statement_node statement.entry).place }
+    {
+        let number = self.near.get(statement.position() as usize);
+        self.at_number(statement.place(), number.copied().unwrap_or(0))
+    }
+
+    // The question at a place, which is looked for first where it is the one of a number.
+    fn at_number(&self, place: u32, number: u32) -> Option<Question<'a>>
+        ensures { option_map question_view result
+            ≡ first_at (questions (nodes_of self.now.ifr)) place }
+    {
+        if let Some(entry) = self.by_place.get(number as usize) {
+            if entry.place == place {
+                return Some(Question::kept(self.ifr, *entry));
+            }
+        }
         match self
             .by_place
             .binary_search_by_key(&place, |question| question.place)

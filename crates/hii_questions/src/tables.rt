@@ -1,71 +1,82 @@
 //! The questions of a form set as they are kept.
 
-ghost use Rattle.std.specs.Prelude.{◌≡◌, ◌<◌, ◌^◌, ℕ, IfOk, length, map};
-ghost use Rattle.hii_bytes.specs.code.NumberSets.{has_number};
+ghost use Rattle.std.specs.Prelude.{◌≡◌, ◌⊎◌, IfOk, IfErr, None, Some, filter, map};
+ghost use Rattle.std.specs.List.{flat_map};
+ghost use Rattle.hii_bytes.specs.Faults.{out_of_memory};
 ghost use Rattle.ifr_scopes.specs.Accepted.{IsAccepted};
 ghost use Rattle.ifr_scopes.specs.Nodes.{nodes_of};
+ghost use Rattle.ifr_scopes.specs.code.Checked.{node_in};
 ghost use Rattle.hii_varstore.specs.StoreNodes.{layout_of};
-ghost use Rattle.hii_questions.specs.Faults.{is_known};
-ghost use Rattle.hii_questions.specs.Fields.{questions};
+ghost use Rattle.hii_questions.specs.Faults.{is_known, parts_of};
+ghost use Rattle.hii_questions.specs.Fields.{is_password, questions};
 ghost use Rattle.hii_questions.specs.code.Entries.{AreQuestionEntries, entry_view};
-ghost use Rattle.hii_questions.specs.code.Ids.{AreIds};
-ghost use Rattle.hii_questions.specs.code.Lists.{questions_left};
+ghost use Rattle.hii_questions.specs.code.FaultTells.{first_part_fault};
+ghost use Rattle.hii_questions.specs.code.Ids.{ids_from};
 
+use crate::check::check_question;
 use crate::entry::QuestionEntry;
-use crate::questions_by_place::QuestionsByPlace;
-use hii_bytes::{IdEntry, IdTable, NumberSet};
+use crate::question::Question;
+use hii_bytes::{Fault, IdEntry};
 use hii_varstore::Layout;
 use ifr_scopes::Forms;
 use std::alloc::{AllocError, Global};
 
-/// The questions of a form set by place.
-pub(crate) fn questions_by_place(
+/// The questions of a form set by place, the number of each by its id, and those for passwords by place, or the first fault of
+/// the questions. Where an allocation fails the fault is OutOfMemory.
+pub(crate) fn read_questions(
     alloc: Global,
     forms: &Forms<'_>,
     layout: &Layout<'_>,
-) -> Result<Vec<QuestionEntry>, AllocError>
+) -> Result<(Vec<QuestionEntry>, Vec<IdEntry>, Vec<QuestionEntry>), Fault>
     requires laid { layout.now ≡ layout_of (nodes_of forms.now) }
     requires accepted { IsAccepted forms.now }
-    ensures placed { IfOk result (λ by_place. map (entry_view forms.now) by_place.items
+    ensures placed { IfOk result (λ read. map (entry_view forms.now) read.0.items
         ≡ questions (nodes_of forms.now)) }
-    ensures kept { IfOk result (λ by_place. AreQuestionEntries forms.now by_place.items) }
+    ensures kept { IfOk result (λ read. AreQuestionEntries forms.now read.0.items) }
+    ensures numbered { IfOk result (λ read. read.1.items
+        ≡ ids_from 0 (questions (nodes_of forms.now))) }
+    ensures secret { IfOk result (λ read. read.2.items
+        ≡ filter (λ e. is_password (node_in forms.now e.place)) read.0.items) }
+    ensures sound { IfOk result (λ _. first_part_fault (layout_of (nodes_of forms.now))
+        (is_known (nodes_of forms.now)) (flat_map parts_of (questions (nodes_of forms.now)))
+        ≡ None) }
+    ensures refused { IfErr result (λ fault. (fault ≡ out_of_memory)
+        ⊎ (first_part_fault (layout_of (nodes_of forms.now)) (is_known (nodes_of forms.now))
+        (flat_map parts_of (questions (nodes_of forms.now))) ≡ Some fault)) }
 {
-    let mut questions = Vec::new(alloc);
+    let mut by_place = Vec::new(alloc);
+    let mut numbers = Vec::new(alloc);
+    let mut passwords = Vec::new(alloc);
+    let mut store_ids = None;
     for statement in forms.statements() {
-        if let Some(question) = QuestionEntry::of(statement, layout) {
-            questions.push(question)?;
+        if let Some(op) = statement.question() {
+            let size = layout.size(op.store());
+            let entry = QuestionEntry::of(statement, op, size);
+            let question = Question::of(statement, op, entry);
+            check_question(alloc, forms, &mut store_ids, question, size)?;
+            numbers.push(IdEntry {
+                id: question.id(),
+                number: by_place.len() as u32,
+            })?;
+            by_place.push(entry)?;
+            if question.is_password() {
+                passwords.push(entry)?;
+            }
         }
     }
-    Ok(questions)
+    Ok((by_place, numbers, passwords))
 }
 
-/// The numbers of questions by their ids.
-pub(crate) fn numbers_by_id(
+/// For each position of the index, up to that of the last question, how many questions stand before it.
+pub(crate) fn numbers_near(
     alloc: Global,
-    questions: QuestionsByPlace<'_, '_>,
-) -> Result<IdTable, AllocError>
-    requires { length (questions_left questions) < 2 ^ 32 }
-    ensures { IfOk result (AreIds (questions_left questions.entry)) }
-{
-    let mut ids = Vec::new(alloc);
+    questions: &[QuestionEntry],
+) -> Result<Vec<u32>, AllocError> {
+    let mut near = Vec::new(alloc);
+    let mut number = 0u32;
     for question in questions {
-        let number = ids.len() as u32;
-        ids.push(IdEntry {
-            id: question.id(),
-            number,
-        })?;
+        near.resize(question.position as usize + 1, number)?;
+        number = number.wrapping_add(1);
     }
-    IdTable::of(ids)
-}
-
-/// The ids of all stores.
-pub(crate) fn store_ids(alloc: Global, forms: &Forms<'_>) -> Result<NumberSet, AllocError>
-    ensures { IfOk result (λ ids. (id : ℕ)
-        → has_number ids id ≡ is_known (nodes_of forms.now) id) }
-{
-    let mut ids = NumberSet::new(alloc)?;
-    for store in forms.stores() {
-        ids.insert(store.id());
-    }
-    Ok(ids)
+    Ok(near)
 }

@@ -1,28 +1,23 @@
 -- The stores that a form set declares: their places rise, and the first that repeats an id has the least fault.
-use Rattle.std.proofs.Common.{◌≡◌, ◌⊎◌, ℕ, ◌+◌, ◌^◌, ◌<◌, ◌≤◌, Bool, true, false, eqb, nat_eq, length, Option, option_map, Some, None, List, [], ◌∷◌, ◌++◌, append_assoc, map, refl, sym, ap, subst, ◌∙◌, arith, inl, inr, lit≤}
+use Rattle.std.proofs.Common.{◌≡◌, ◌⊎◌, ℕ, ◌+◌, ◌^◌, ◌<◌, ◌≤◌, Bool, true, false, eqb, nat_eq, Option, option_map, Some, None, List, [], ◌∷◌, ◌++◌, append_assoc, map, refl, sym, ap, subst, ◌∙◌, arith, inl, inr, lit≤}
 use Rattle.std.specs.Prelude.{Contains, filter}
 use Rattle.std.specs.List.{AllByRecursion, IsDistinct, list_any, filter_map, cons_option}
 use Rattle.std.proofs.lemmas.Bool.{cases_Bool, ne_eqb, false≢true}
 use Rattle.std.proofs.lemmas.Option.{none-some, same_Some}
 use Rattle.std.proofs.lemmas.List.{map-append, append-nil}
-use Rattle.std.proofs.lemmas.List.Elements.{All-tail, filter_map-append}
+use Rattle.std.proofs.lemmas.List.Elements.{filter_map-append}
 use Rattle.hii_bytes.specs.Faults.{IsLeast, HasNone}
 use Rattle.hii_bytes.specs.code.FirstFaults.{AreAll, first_fault, Rise}
 use Rattle.hii_bytes.specs.declared.cause.Cause.{Cause}
 use Rattle.hii_bytes.specs.declared.cause.Cause.TheVariants.{DuplicateVarstore}
 use Rattle.hii_bytes.specs.declared.cause.Fault.{Fault}
 use Rattle.hii_bytes.proofs.FirstFaultLemmas.{first_among, none_among}
-use Rattle.ifr_opcodes.specs.Opcode.{is_end, IsWhole}
-use Rattle.ifr_opcodes.specs.Forest.{Ancestor, Placed}
-use Rattle.ifr_scopes.specs.code.Checked.{IsAt, AreAt, node_in}
-use Rattle.ifr_scopes.specs.code.Lists.{stores_left}
-use Rattle.ifr_scopes.specs.Nodes.{is_store}
+use Rattle.ifr_opcodes.specs.Forest.{Placed}
+use Rattle.ifr_scopes.specs.Accepted.{IsAccepted}
+use Rattle.ifr_scopes.specs.Nodes.{nodes_of, is_store}
 use Rattle.ifr_scopes.specs.References.{Ranked, ranked}
 use Rattle.ifr_scopes.specs.Stores.{store_id, store_size}
-use Rattle.ifr_scopes.specs.code.Views.{nodes_left}
-use Rattle.ifr_scopes.specs.code.Visits.{left}
-use Rattle.ifr_scopes.specs.code.Walking.{scan}
-use Rattle.ifr_scopes.specs.declared.varstore.Varstores.{Varstores}
+use Rattle.ifr_scopes.proofs.IndexLemmas.{nodes_rise}
 use Rattle.hii_varstore.specs.declared.buffer.Buffer.{Buffer}
 use Rattle.hii_varstore.specs.StoreNodes.{declared_buffer, is_taken, repeats_store, IsRepeatedStore}
 use Rattle.hii_varstore.specs.code.Ids.{AreIdsOf}
@@ -40,26 +35,6 @@ rise_lower : (ns : List Placed) (low lower : ℕ) → lower ≤ low → Rise nod
 rise_lower [] low lower h r = tt
 rise_lower (n ∷ ns) low lower h r = (omega (arith, r.0), r.1)
 
-scan_rises : (at : ℕ) (path : List Ancestor) (ops : List (List ℕ)) → AllByRecursion IsWhole ops → Rise node_place at (scan at path ops)
-unfolding scan
-scan_rises at path [] w = tt
-scan_rises at path (op ∷ ops) w =
-    let long : 2 ≤ length op = w.0.long in
-    elim (cases_Bool (is_end op)) [
-      | inl end ↦
-          elim (cases_Bool (eqb (length path) 0)) [
-            | inl outer ↦ rw (end, outer) tt
-            | inr inner ↦ rw (end, inner) (rise_lower _ (at + length op) at (omega arith) (scan_rises (at + length op) _ ops w.1))
-          ]
-      | inr node ↦ rw node (omega arith, rise_lower _ (at + length op) (at + 1) (omega arith) (scan_rises (at + length op) _ ops w.1))
-    ]
-
-found_rise : (bytes : List ℕ) (ns : List Placed) (low : ℕ) → AreAt bytes ns → Rise node_place low ns → Rise node_place low (map (λ n. node_in bytes n.place) ns)
-found_rise bytes [] low at r = tt
-found_rise bytes (n ∷ ns) low at r =
-    let same : (node_in bytes n.place).place ≡ n.place = (at 0 n (omega arith)).placed in
-    (omega (arith, r.0, same), rise_lower _ (n.place + 1) _ (omega (arith, same)) (found_rise bytes ns (n.place + 1) (All-tail (λ (m : Placed). IsAt bytes m.place m.op) n ns at) r.1))
-
 filter_rises : (test : Placed → Bool) (ns : List Placed) (low : ℕ) → Rise node_place low ns → Rise node_place low (filter test ns)
 filter_rises test [] low r = tt
 filter_rises test (n ∷ ns) low r = elim (cases_Bool (test n)) [
@@ -71,11 +46,9 @@ ranked_rise : (before ns : List Placed) (low : ℕ) → Rise node_place low ns �
 ranked_rise before [] low r = tt
 ranked_rise before (n ∷ ns) low r = (r.0, ranked_rise (before ++ n ∷ []) ns (n.place + 1) r.1)
 
-stores_rise : (stores : Varstores) → Rise ranked_place stores.nodes.walk.at (ranked [] (stores_left stores))
-stores_rise stores =
-    let walk = stores.nodes.walk in
-    let scanned = scan_rises walk.at _ _ walk.walking.whole in
-    ranked_rise [] (stores_left stores) walk.at (filter_rises is_store (nodes_left stores.nodes) walk.at (found_rise walk.bytes.now (left walk) walk.at stores.nodes.stand scanned))
+-- the stores of a package
+pub stores_rise : (bytes : List ℕ) (ns : List Placed) → IsAccepted bytes → ns ≡ filter is_store (nodes_of bytes) → Rise node_place 0 ns
+stores_rise bytes ns accepted e = subst (Rise node_place 0) (sym e) (filter_rises is_store (nodes_of bytes) 0 (rise_lower (nodes_of bytes) 4 0 (omega arith) (nodes_rise bytes accepted.checked.spelled)))
 
 -- ---- the first store that repeats an id
 
@@ -92,8 +65,8 @@ among r _ h = absurd (false≢true h)
 all_causes : AreAll repeats_store causes
 all_causes = record { rise = (lit≤ tt, tt); all = among }
 
-pub refused_among : (stores : Varstores) (fault : Fault) → first_repeat [] (stores_left stores) ≡ Some fault → IsLeast (IsRepeatedStore (stores_left stores)) fault
-refused_among stores fault e = first_among ranked_place repeats_store causes stores.nodes.walk.at (ranked [] (stores_left stores)) fault all_causes (stores_rise stores) e
+pub refused_among : (ns : List Placed) (fault : Fault) → Rise node_place 0 ns → first_repeat [] ns ≡ Some fault → IsLeast (IsRepeatedStore ns) fault
+refused_among ns fault rise e = first_among ranked_place repeats_store causes 0 (ranked [] ns) fault all_causes (ranked_rise [] ns 0 rise) e
 
 pub sound_among : (ns : List Placed) → first_repeat [] ns ≡ None → HasNone (IsRepeatedStore ns)
 sound_among ns e = none_among ranked_place repeats_store causes (ranked [] ns) all_causes e

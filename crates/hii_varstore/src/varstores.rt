@@ -3,6 +3,7 @@
 ghost use Rattle.std.specs.Prelude.{◌≡◌, false, List, [], ◌∷◌, ◌++◌, IfOk, IfErr};
 ghost use Rattle.std.specs.List.{filter_map};
 ghost use Rattle.hii_bytes.specs.Faults.{HasNone, Refuses};
+ghost use Rattle.hii_bytes.specs.code.FirstFaults.{Rise};
 ghost use Rattle.ifr_opcodes.specs.Forest.{Placed};
 ghost use Rattle.ifr_scopes.specs.code.Lists.{store_node, stores_left};
 ghost use Rattle.ifr_scopes.specs.Stores.{store_id};
@@ -36,7 +37,8 @@ fn read_buffer(store: Varstore<'_>) -> Option<Buffer>
 
 /// The buffer stores that are declared, or DuplicateVarstore at the place of the first store of any kind that has the id 0
 /// or the id of one before it. Where an allocation fails the fault is OutOfMemory.
-pub(crate) fn read_buffers(alloc: Global, stores: Varstores<'_>) -> Result<Vec<Buffer>, Fault>
+pub(crate) fn read_buffers(alloc: Global, stores: Varstores<'_, '_>) -> Result<Vec<Buffer>, Fault>
+    requires { Rise (λ (n : Placed). n.place) 0 (stores_left stores) }
     ensures read { IfOk result (λ buffers. buffers.items
         ≡ filter_map declared_buffer (stores_left stores.entry)) }
     ensures apart { IfOk result (λ buffers. AreBuffers buffers.items) }

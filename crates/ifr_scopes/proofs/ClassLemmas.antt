@@ -1,15 +1,15 @@
 -- The class of the innermost scope of a path, where one more opcode stands in it.
-use Rattle.std.proofs.Common.{◌≡◌, ℕ, ◌+◌, ◌<◌, Bool, true, false, cond, All, None, List, [], ◌∷◌, ◌++◌, length, map, get_or, take, drop, refl, sym, ap, ◌∙◌, inl, inr, arith}
-use Rattle.std.specs.Prelude.{not, if◌then◌else◌}
+use Rattle.std.proofs.Common.{◌≡◌, ℕ, Bool, true, false, cond, Option, Some, None, List, [], ◌∷◌, ◌++◌, refl, sym, ap, ◌∙◌}
+use Rattle.std.specs.Prelude.{not, option_map}
 use Rattle.std.specs.List.{last_or}
-use Rattle.std.proofs.lemmas.Bool.{cases_Bool, cond-true, cond-false}
-use Rattle.std.proofs.lemmas.List.{append-nil, map-append, length-take, get_or-take, get_or-drop, take_more}
+use Rattle.std.proofs.lemmas.Bool.{cond-true, cond-false}
+use Rattle.std.proofs.lemmas.List.{append-nil}
 use Rattle.std.proofs.lemmas.List.Elements.{filter-append}
-use Rattle.ifr_opcodes.specs.Opcode.{number, stated_length, IsWhole}
-use Rattle.ifr_opcodes.specs.Forest.{Ancestor}
-use Rattle.ifr_opcodes.specs.code.Marks.{mark_at, ancestor_at}
+use Rattle.ifr_opcodes.specs.Opcode.{number}
+use Rattle.ifr_opcodes.specs.Forest.{Ancestor, Mark}
 use Rattle.ifr_scopes.specs.Guards.{is_guard}
 use Rattle.ifr_scopes.specs.Table.{row, class_of, guarded, others_among, class_in, is_guard_scope, class_around}
+use Rattle.ifr_scopes.specs.Structure.{innermost}
 use Rattle.ifr_scopes.specs.declared.table.Class.{Class}
 use Rattle.ifr_scopes.specs.declared.table.Class.TheVariants.{OfFormSet, OfForm, OfText, OfQuestion, OfChoice, OfOptions, OfOption, OfExpression, OfNothing}
 use Rattle.ifr_scopes.proofs.InnermostLemmas.{last_or-push}
@@ -46,26 +46,23 @@ class-other path a other =
     let last : is_guard_scope (last_or None (path ++ a ∷ [])) ≡ false = ap is_guard_scope (last_or-push None path a) ∙ other in
     cond-false (is_guard_scope (last_or None (path ++ a ∷ []))) _ _ last ∙ ap (λ (l : List Ancestor). class_in (last_or None l)) more ∙ ap class_in (last_or-push None (others_among path) a)
 
--- ---- along the places of a path
+-- ---- by the innermost opcode
 
--- the number of what stands at a place is the byte there
-number_there : (bytes : List ℕ) (place : ℕ) → IsWhole (mark_at bytes place).op → number (ancestor_at bytes place).op ≡ get_or bytes place 0
-number_there bytes place whole =
-    let behind = drop place bytes in
-    let some : 0 < stated_length behind = omega (arith, whole.long, length-take (stated_length behind) behind) in
-    get_or-take (stated_length behind) behind 0 0 some ∙ get_or-drop place bytes 0 0 ∙ ap (λ (k : ℕ). get_or bytes k 0) (omega arith)
+split_last : (a : Ancestor) (path : List Ancestor) → (outer : List Ancestor) × (last : Ancestor) × (a ∷ path ≡ outer ++ last ∷ [])
+split_last a [] = ([], a, refl)
+split_last a (b ∷ path) = let s = split_last b path in (a ∷ s.0, s.1, ap (λ (l : List Ancestor). a ∷ l) s.2)
 
--- the class where one more place was met
-pub class_next : (bytes places : List ℕ) (i : ℕ) → All (λ place. IsWhole (mark_at bytes place).op) places → i < length places
-    → class_around (map (ancestor_at bytes) (take (i + 1) places)) ≡ (if is_guard (get_or bytes (get_or places i 0) 0) then guarded (class_around (map (ancestor_at bytes) (take i places))) else class_of (row (get_or bytes (get_or places i 0) 0)))
-class_next bytes places i whole lt =
-    let place = get_or places i 0 in
-    let code = get_or bytes place 0 in
-    let before = map (ancestor_at bytes) (take i places) in
-    let a = ancestor_at bytes place in
-    let one : number a.op ≡ code = number_there bytes place (whole i 0 lt) in
-    let more : map (ancestor_at bytes) (take (i + 1) places) ≡ before ++ a ∷ [] = ap (λ (l : List ℕ). map (ancestor_at bytes) l) (take_more places i 0 lt) ∙ map-append (ancestor_at bytes) (take i places) (place ∷ []) in
-    ap class_around more ∙ elim (cases_Bool (is_guard code)) [
-      | inl is ↦ class-guard before a (ap is_guard one ∙ is) ∙ sym (cond-true (is_guard code) _ _ is)
-      | inr other ↦ class-other before a (ap is_guard one ∙ other) ∙ ap (λ (k : ℕ). class_of (row k)) one ∙ sym (cond-false (is_guard code) _ _ other)
-    ]
+innermost_last : (outer : List Ancestor) (last : Ancestor) → innermost (outer ++ last ∷ []) ≡ Some (record { place = last.place; op = last.op })
+innermost_last outer last = ap (option_map (λ (a : Ancestor). record { place = a.place; op = a.op })) (last_or-push None outer last)
+
+pub class_nothing : (path : List Ancestor) → ◌≡◌ {A = Option Mark} None (innermost path) → OfNothing ≡ class_around path
+class_nothing [] e = refl
+class_nothing (a ∷ path) e = let s = split_last a path in absurd (let some = e ∙ ap innermost s.2 ∙ innermost_last s.0 s.1 in cc)
+
+pub class_innermost : (path : List Ancestor) (m : Mark) → Some m ≡ innermost path → is_guard (number m.op) ≡ false → class_of (row (number m.op)) ≡ class_around path
+class_innermost [] m e other = absurd cc
+class_innermost (a ∷ path) m e other =
+    let s = split_last a path in
+    let some = e ∙ ap innermost s.2 ∙ innermost_last s.0 s.1 in
+    let same : m.op ≡ s.1.op = cc in
+    ap (λ (op : List ℕ). class_of (row (number op))) same ∙ sym (ap class_around s.2 ∙ class-other s.0 s.1 (ap (λ (op : List ℕ). is_guard (number op)) (sym same) ∙ other))

@@ -1,12 +1,13 @@
 -- The forms of a package by their ids.
 use Rattle.std.proofs.Common.{◌≡◌, ℕ, eqb, Option, Some, None, List, [], ◌∷◌, map, refl, inl, inr}
-use Rattle.std.specs.Prelude.{option_map, filter}
+use Rattle.std.specs.Prelude.{is_some, option_map, filter}
+use Rattle.std.specs.List.{list_any}
 use Rattle.std.proofs.lemmas.Bool.{cases_Bool}
 use Rattle.hii_bytes.specs.code.IdTables.{number_with}
 use Rattle.ifr_opcodes.specs.Fields.{form_id}
 use Rattle.ifr_opcodes.specs.Forest.{Placed}
 use Rattle.ifr_scopes.specs.Nodes.{is_form}
-use Rattle.ifr_scopes.specs.References.{form_with}
+use Rattle.ifr_scopes.specs.References.{form_with, has_form_id}
 use Rattle.ifr_scopes.specs.code.Index.{form_place_with}
 use Rattle.ifr_scopes.specs.code.Tables.{form_entry}
 
@@ -28,3 +29,8 @@ none_with ns id e = go (form_with ns id) e
     go : (o : Option Placed) → ◌≡◌ {A = Option ℕ} None (option_map (λ (n : Placed). n.place) o) → ◌≡◌ {A = Option Placed} None o
     go None e = refl
     go (Some n) e = absurd cc
+
+-- a form of an id has a place
+pub some_with : (ns : List Placed) (id : ℕ) → is_some (form_place_with ns id) ≡ list_any (has_form_id id) ns
+some_with [] id = refl
+some_with (n ∷ ns) id = elim (cases_Bool (has_form_id id n)) [ inl is ↦ rw is refl | inr other ↦ rw other (some_with ns id) ]

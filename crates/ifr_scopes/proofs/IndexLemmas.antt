@@ -1,17 +1,14 @@
 -- Tables of the nodes of a package, looked up by place.
-use Rattle.std.proofs.Common.{◌≡◌, ℕ, zero, suc, ◌+◌, ◌≤◌, ◌<◌, Bool, true, false, eqb, Option, Some, None, Ok, Err, List, [], ◌∷◌, length, map, get_or, refl, sym, ap, ◌∙◌, subst, inl, inr, arith}
+use Rattle.std.proofs.Common.{◌≡◌, ℕ, ◌+◌, ◌≤◌, Bool, true, false, eqb, Option, Some, None, List, [], ◌∷◌, length, map, refl, sym, ap, ◌∙◌, subst, inl, inr, arith}
 use Rattle.std.specs.Prelude.{◌&&◌, option_map, filter}
 use Rattle.std.specs.List.{find}
-use Rattle.std.specs.List.Sorted.{IsBinarySearchResult, IsNonDecreasingBy}
-use Rattle.std.specs.Ordering.{nat_cmp, ordering_index}
-use Rattle.std.proofs.lemmas.Bool.{cases_Bool, cases_lt, eq-eqb, ne_eqb, and_from, and_right}
-use Rattle.std.proofs.lemmas.Bool.Decides.{nat_tests}
-use Rattle.std.proofs.lemmas.Cmp.{ranked}
+use Rattle.std.proofs.lemmas.Bool.{cases_Bool, ne_eqb, and_from, and_right}
 use Rattle.hii_bytes.specs.code.FirstFaults.{Rise}
 use Rattle.ifr_opcodes.specs.Forest.{Placed, SpellsForest, flat}
 use Rattle.ifr_opcodes.specs.Reading.{tree_of}
 use Rattle.ifr_scopes.specs.code.Index.{kind_at}
 use Rattle.ifr_scopes.specs.Nodes.{nodes_of}
+use Rattle.ifr_scopes.proofs.BehindPlaceLemmas.{lower}
 use Rattle.ifr_scopes.proofs.PlaceLemmas.{nodes_within}
 use Rattle.ifr_scopes.proofs.StructureLemmas.{rising}
 
@@ -40,15 +37,11 @@ behind is low place (n ∷ ns) less r =
 -- ---- a table of those of a kind
 
 module _ {X : Type 0} (is : Placed → Bool) (entry : Placed → X) (place : X → ℕ) (same : (n : Placed) → place (entry n) ≡ n.place) where
-  lower : (low high : ℕ) (xs : List X) → low ≤ high → Rise place high xs → Rise place low xs
-  lower low high [] le r = tt
-  lower low high (x ∷ xs) le r = (omega (arith, r.0), r.1)
-
   pub table_rises : (low : ℕ) (ns : List Placed) → Rise place_of low ns → Rise place low (map entry (filter is ns))
   table_rises low [] r = tt
   table_rises low (n ∷ ns) r = elim (cases_Bool (is n)) [
     | inl kept ↦ rw kept (omega (arith, r.0, same n), subst (λ (p : ℕ). Rise place (p + 1) (map entry (filter is ns))) (sym (same n)) (table_rises (n.place + 1) ns r.1))
-    | inr other ↦ rw other (lower low (n.place + 1) (map entry (filter is ns)) (omega (arith, r.0)) (table_rises (n.place + 1) ns r.1))
+    | inr other ↦ rw other (lower place low (n.place + 1) (map entry (filter is ns)) (omega (arith, r.0)) (table_rises (n.place + 1) ns r.1))
   ]
 
   pub table_at : (p : ℕ) (ns : List Placed) → find (λ x. eqb (place x) p) (map entry (filter is ns)) ≡ option_map entry (kind_at is ns p)

@@ -16,10 +16,11 @@ use Rattle.ifr_opcodes.specs.code.Marks.{ancestor_at}
 use Rattle.ifr_opcodes.specs.Reading.{tree_of}
 use Rattle.ifr_scopes.specs.Checked.{IsChecked}
 use Rattle.ifr_scopes.specs.Guards.{is_guard, guards_among}
-use Rattle.ifr_scopes.specs.Nodes.{nodes_of, is_form}
+use Rattle.ifr_scopes.specs.Nodes.{nodes_of, is_form, is_store}
+use Rattle.ifr_scopes.specs.Rules.{is_rule}
 use Rattle.ifr_scopes.specs.code.Index.{is_indexed}
 use Rattle.ifr_scopes.specs.code.LockIndex.{Finds, first_place}
-use Rattle.ifr_scopes.specs.code.Tables.{guards_before, inner_guard, inner_last, guard_entry, guard_table, entry_of_node, entries_unlocked, is_question_condition, condition_entry, condition_table, form_entry}
+use Rattle.ifr_scopes.specs.code.Tables.{guards_before, inner_guard, inner_last, guard_entry, guard_table, entry_of_node, entries_unlocked, is_question_condition, condition_entry, condition_table, form_entry, places_of, entry_table, kept_entry}
 use Rattle.ifr_scopes.specs.declared.index.Entry.{Entry}
 use Rattle.ifr_scopes.specs.declared.index.GuardEntry.{GuardEntry}
 use Rattle.ifr_scopes.specs.declared.index.ConditionEntry.{ConditionEntry}
@@ -133,7 +134,7 @@ pushed ns path a stack x e s =
 -- ---- the tables
 
 -- These are the tables of the nodes before those that are left.
-pub record Made (ns : List Placed) (entries : List Entry) (guards : List GuardEntry) (conditions : List ConditionEntry) (forms : List IdEntry) (found : ℕ → Option ℕ) (inner : List (Option ℕ)) (left : List Placed) : Type 0 where
+pub record Made (ns : List Placed) (entries : List Entry) (guards : List GuardEntry) (conditions : List ConditionEntry) (forms : List IdEntry) (stores rules : List ℕ) (found : ℕ → Option ℕ) (inner : List (Option ℕ)) (left : List Placed) : Type 0 where
   pub before : List Placed
   pub around : List Ancestor
   pub split : ns ≡ before ++ left
@@ -143,11 +144,13 @@ pub record Made (ns : List Placed) (entries : List Entry) (guards : List GuardEn
   pub has_guards : guards ≡ map (λ n. guard_entry (inner_guard ns n.path) n) (guards_among before)
   pub has_conditions : conditions ≡ map condition_entry (filter is_question_condition before)
   pub has_forms : forms ≡ map form_entry (filter is_form before)
+  pub has_stores : stores ≡ places_of is_store before
+  pub has_rules : rules ≡ places_of is_rule before
   pub locks : Finds (first_place ns) found left
 
-pub made_start : (bytes : List ℕ) (entries : List Entry) (guards : List GuardEntry) (conditions : List ConditionEntry) (forms : List IdEntry) (found : ℕ → Option ℕ) (inner : List (Option ℕ)) (left : List Placed) → SpellsForest bytes (tree_of bytes)
-    → entries ≡ [] → guards ≡ [] → conditions ≡ [] → forms ≡ [] → ((scope : ℕ) → found scope ≡ None) → inner ≡ [] → left ≡ nodes_of bytes → Made (nodes_of bytes) entries guards conditions forms found inner left
-made_start bytes entries guards conditions forms found inner left s no_entry no_guard no_condition no_form no_lock no_scope all = record {
+pub made_start : (bytes : List ℕ) (entries : List Entry) (guards : List GuardEntry) (conditions : List ConditionEntry) (forms : List IdEntry) (stores rules : List ℕ) (found : ℕ → Option ℕ) (inner : List (Option ℕ)) (left : List Placed) → SpellsForest bytes (tree_of bytes)
+    → entries ≡ [] → guards ≡ [] → conditions ≡ [] → forms ≡ [] → stores ≡ [] → rules ≡ [] → ((scope : ℕ) → found scope ≡ None) → inner ≡ [] → left ≡ nodes_of bytes → Made (nodes_of bytes) entries guards conditions forms stores rules found inner left
+made_start bytes entries guards conditions forms stores rules found inner left s no_entry no_guard no_condition no_form no_store no_rule no_lock no_scope all = record {
   before = [];
   around = [];
   split = sym all;
@@ -157,6 +160,8 @@ made_start bytes entries guards conditions forms found inner left s no_entry no_
   has_guards = no_guard;
   has_conditions = no_condition;
   has_forms = no_form;
+  has_stores = no_store;
+  has_rules = no_rule;
   locks = λ scope. rw (no_lock scope) (ap (λ (l : List Placed). first_place l scope) all);
 }
 
@@ -169,24 +174,25 @@ more_of is f g before n old new e same put =
     here = elim (cases_Bool (is n)) [ inl kept ↦ rw kept (ap (λ x. x ∷ []) (sym same)) | inr other ↦ rw other refl ]
 
 -- the node that is met, among the scopes around it
-pub inner_met : (ns : List Placed) (entries : List Entry) (guards : List GuardEntry) (conditions : List ConditionEntry) (forms : List IdEntry) (found : ℕ → Option ℕ) (inner : List (Option ℕ)) (n : Placed) (rest : List Placed)
-    → (m : Made ns entries guards conditions forms found inner (n ∷ rest)) → IsStack ns n.path (take (length n.path) inner)
-inner_met ns entries guards conditions forms found inner n rest m = cut ns m.around n.path m.follows.0.more inner m.follows.0.split m.stack
+pub inner_met : (ns : List Placed) (entries : List Entry) (guards : List GuardEntry) (conditions : List ConditionEntry) (forms : List IdEntry) (stores rules : List ℕ) (found : ℕ → Option ℕ) (inner : List (Option ℕ)) (n : Placed) (rest : List Placed)
+    → (m : Made ns entries guards conditions forms stores rules found inner (n ∷ rest)) → IsStack ns n.path (take (length n.path) inner)
+inner_met ns entries guards conditions forms stores rules found inner n rest m = cut ns m.around n.path m.follows.0.more inner m.follows.0.split m.stack
 
-pub made_next : (ns : List Placed) (entries more_entries : List Entry) (guards more_guards : List GuardEntry) (conditions more_conditions : List ConditionEntry) (forms more_forms : List IdEntry) (found more_found : ℕ → Option ℕ)
+pub made_next : (ns : List Placed) (entries more_entries : List Entry) (guards more_guards : List GuardEntry) (conditions more_conditions : List ConditionEntry) (forms more_forms : List IdEntry) (stores more_stores rules more_rules : List ℕ) (found more_found : ℕ → Option ℕ)
     (inner more_inner : List (Option ℕ)) (n : Placed) (rest : List Placed) (depth own : ℕ) (guard : Option ℕ)
-    → Rise place_of 4 ns → Made ns entries guards conditions forms found inner (n ∷ rest) → depth ≡ length n.path → own ≡ length guards → guard ≡ inner_last (take depth inner)
+    → Rise place_of 4 ns → Made ns entries guards conditions forms stores rules found inner (n ∷ rest) → depth ≡ length n.path → own ≡ length guards → guard ≡ inner_last (take depth inner)
     → more_inner ≡ take depth inner ++ cond (has_scope n.op) (cond (is_guard (number n.op)) (Some own) guard ∷ []) []
     → more_entries ≡ entries ++ map (entry_of_node guard) (filter is_indexed (n ∷ []))
     → more_guards ≡ guards ++ map (guard_entry guard) (guards_among (n ∷ []))
     → more_conditions ≡ conditions ++ map condition_entry (filter is_question_condition (n ∷ []))
     → more_forms ≡ forms ++ map form_entry (filter is_form (n ∷ []))
+    → more_stores ≡ stores ++ places_of is_store (n ∷ []) → more_rules ≡ rules ++ places_of is_rule (n ∷ [])
     → ((all : ℕ → Option ℕ) (left : List Placed) → Finds all found (n ∷ left) → Finds all more_found left)
-    → Made ns more_entries more_guards more_conditions more_forms more_found more_inner rest
-made_next ns entries more_entries guards more_guards conditions more_conditions forms more_forms found more_found inner more_inner n rest depth own guard r m at count told stacked put_entry put_guard put_condition put_form put_lock =
+    → Made ns more_entries more_guards more_conditions more_forms more_stores more_rules more_found more_inner rest
+made_next ns entries more_entries guards more_guards conditions more_conditions forms more_forms stores more_stores rules more_rules found more_found inner more_inner n rest depth own guard r m at count told stacked put_entry put_guard put_condition put_form put_store put_rule put_lock =
     let path = n.path in
     let a = as_ancestor n in
-    let first = inner_met ns entries guards conditions forms found inner n rest m in
+    let first = inner_met ns entries guards conditions forms stores rules found inner n rest m in
     let is : guard ≡ inner_guard ns path = told ∙ ap (λ (d : ℕ). inner_last (take d inner)) at ∙ inner_of_stack ns path (take (length path) inner) first in
     let rise : Rise place_of 4 (m.before ++ n ∷ rest) = subst (Rise place_of 4) m.split r in
     let mine : own ≡ guards_before ns n.place =
@@ -213,29 +219,35 @@ made_next ns entries more_entries guards more_guards conditions more_conditions 
       has_guards = more_of (λ p. is_guard (number p.op)) (λ p. guard_entry (inner_guard ns p.path) p) (guard_entry guard) m.before n guards more_guards m.has_guards (ap (λ (g : Option ℕ). guard_entry g n) (sym is)) put_guard;
       has_conditions = more_of is_question_condition condition_entry condition_entry m.before n conditions more_conditions m.has_conditions refl put_condition;
       has_forms = more_of is_form form_entry form_entry m.before n forms more_forms m.has_forms refl put_form;
+      has_stores = more_of is_store place_of place_of m.before n stores more_stores m.has_stores refl put_store;
+      has_rules = more_of is_rule place_of place_of m.before n rules more_rules m.has_rules refl put_rule;
       locks = put_lock (first_place ns) rest m.locks;
     }
   where
-    length_guards : (m : Made ns entries guards conditions forms found inner (n ∷ rest)) → length guards ≡ length (guards_among m.before)
+    length_guards : (m : Made ns entries guards conditions forms stores rules found inner (n ∷ rest)) → length guards ≡ length (guards_among m.before)
     length_guards m = ap (λ (l : List GuardEntry). length l) m.has_guards ∙ length-map (guards_among m.before) (λ p. guard_entry (inner_guard ns p.path) p)
 
 -- All nodes were met.
-pub record IsMade (ns : List Placed) (entries : List Entry) (guards : List GuardEntry) (conditions : List ConditionEntry) (forms : List IdEntry) (found : ℕ → Option ℕ) : Type 0 where
+pub record IsMade (ns : List Placed) (entries : List Entry) (guards : List GuardEntry) (conditions : List ConditionEntry) (forms : List IdEntry) (stores rules : List ℕ) (found : ℕ → Option ℕ) : Type 0 where
   pub entries_are : entries ≡ entries_unlocked ns
   pub guards_are : guards ≡ guard_table ns
   pub conditions_are : conditions ≡ condition_table ns
   pub forms_are : forms ≡ map form_entry (filter is_form ns)
+  pub stores_are : stores ≡ places_of is_store ns
+  pub rules_are : rules ≡ places_of is_rule ns
   pub locks_are : (scope : ℕ) → found scope ≡ first_place ns scope
 
-pub made_all : (ns : List Placed) (entries : List Entry) (guards : List GuardEntry) (conditions : List ConditionEntry) (forms : List IdEntry) (found : ℕ → Option ℕ) (inner : List (Option ℕ)) (left : List Placed)
-    → Made ns entries guards conditions forms found inner left → left ≡ [] → IsMade ns entries guards conditions forms found
-made_all ns entries guards conditions forms found inner left m ended =
+pub made_all : (ns : List Placed) (entries : List Entry) (guards : List GuardEntry) (conditions : List ConditionEntry) (forms : List IdEntry) (stores rules : List ℕ) (found : ℕ → Option ℕ) (inner : List (Option ℕ)) (left : List Placed)
+    → Made ns entries guards conditions forms stores rules found inner left → left ≡ [] → IsMade ns entries guards conditions forms stores rules found
+made_all ns entries guards conditions forms stores rules found inner left m ended =
     let all : m.before ≡ ns = sym (m.split ∙ ap (λ (l : List Placed). m.before ++ l) ended ∙ append-nil m.before) in
     record {
       entries_are = m.has_entries ∙ ap (λ (l : List Placed). map (λ n. entry_of_node (inner_guard ns n.path) n) (filter is_indexed l)) all;
       guards_are = m.has_guards ∙ ap (λ (l : List Placed). map (λ n. guard_entry (inner_guard ns n.path) n) (guards_among l)) all;
       conditions_are = m.has_conditions ∙ ap (λ (l : List Placed). condition_table l) all;
       forms_are = m.has_forms ∙ ap (λ (l : List Placed). map form_entry (filter is_form l)) all;
+      stores_are = m.has_stores ∙ ap (places_of is_store) all;
+      rules_are = m.has_rules ∙ ap (places_of is_rule) all;
       locks_are = λ scope. sym (or_nothing (found scope)) ∙ ap (λ (l : List Placed). option_or (found scope) (first_place l scope)) (sym ended) ∙ m.locks scope;
     }
   where
@@ -245,17 +257,24 @@ made_all ns entries guards conditions forms found inner left m ended =
 
 -- ---- the numbers fit
 
-few_of : (is : Placed → Bool) (ns : List Placed) → length (filter is ns) ≤ length ns
+pub few_of : {X : Type 0} (is : X → Bool) (ns : List X) → length (filter is ns) ≤ length ns
 few_of is [] = omega arith
 few_of is (n ∷ ns) =
     let later = few_of is ns in
     elim (cases_Bool (is n)) [ inl kept ↦ rw kept (omega arith) | inr other ↦ rw other (omega arith) ]
 
-pub few_made : (bytes : List ℕ) (entries : List Entry) (guards : List GuardEntry) (conditions : List ConditionEntry) (forms : List IdEntry) (found : ℕ → Option ℕ) (inner : List (Option ℕ)) (left : List Placed) → IsChecked bytes
-    → Made (nodes_of bytes) entries guards conditions forms found inner left → length guards < 2 ^ 32
-few_made bytes entries guards conditions forms found inner left checked m =
+few_nodes : (bytes : List ℕ) → IsChecked bytes → length (nodes_of bytes) < 2 ^ 32
+few_nodes bytes checked =
     let first = at_first bytes checked.header checked.small checked.spelled in
-    let all : length (nodes_of bytes) < 2 ^ 32 = subst (λ (l : List Placed). length l < 2 ^ 32) first.1 (few_left bytes 4 [] first.0) in
+    subst (λ (l : List Placed). length l < 2 ^ 32) first.1 (few_left bytes 4 [] first.0)
+
+pub few_entries : (bytes : List ℕ) → IsChecked bytes → length (entry_table (nodes_of bytes)) < 2 ^ 32
+few_entries bytes checked = omega (arith, few_nodes bytes checked, few_of is_indexed (nodes_of bytes), length-map (filter is_indexed (nodes_of bytes)) (kept_entry (nodes_of bytes)))
+
+pub few_made : (bytes : List ℕ) (entries : List Entry) (guards : List GuardEntry) (conditions : List ConditionEntry) (forms : List IdEntry) (stores rules : List ℕ) (found : ℕ → Option ℕ) (inner : List (Option ℕ)) (left : List Placed) → IsChecked bytes
+    → Made (nodes_of bytes) entries guards conditions forms stores rules found inner left → length guards < 2 ^ 32
+few_made bytes entries guards conditions forms stores rules found inner left checked m =
+    let all = few_nodes bytes checked in
     let count = ap (λ (l : List GuardEntry). length l) m.has_guards ∙ length-map (guards_among m.before) (λ p. guard_entry (inner_guard (nodes_of bytes) p.path) p) in
     omega (arith, all, count, few_of (λ p. is_guard (number p.op)) m.before, ap (λ (l : List Placed). length l) m.split, length-append m.before left)
 

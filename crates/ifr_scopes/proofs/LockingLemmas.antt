@@ -6,7 +6,9 @@ use Rattle.std.proofs.lemmas.List.{append-nil, map-append, length-append, length
 use Rattle.std.proofs.Math.ListN.{set}
 use Rattle.std.proofs.Math.Seq.{get_or-append_seam, set-append_seam}
 use Rattle.std.proofs.lemmas.List.Elements.{filter-append}
+use Rattle.ifr_opcodes.specs.Opcode.{number}
 use Rattle.ifr_opcodes.specs.Forest.{Placed}
+use Rattle.ifr_opcodes.specs.Opcode.{number}
 use Rattle.ifr_scopes.specs.Locks.{chain}
 use Rattle.ifr_scopes.specs.code.Index.{is_indexed}
 use Rattle.ifr_scopes.specs.code.LockIndex.{first_place, first_some, lock_place}
@@ -65,15 +67,15 @@ is_next ns entries next n rest is l =
     }
 
 pub locking_one : (ns : List Placed) (entries : List Entry) (next : ℕ) (n : Placed) (rest : List Placed) (found : ℕ → Option ℕ) (entry : Entry) → is_indexed n ≡ true → Locking ns entries next (n ∷ rest)
-    → ((scope : ℕ) → found scope ≡ first_place ns scope) → entry.place ≡ n.place → entry.guard ≡ inner_guard ns n.path → entry.lock ≡ first_some found (chain n) → Locking ns (set entries next entry) (next + 1) rest
-locking_one ns entries next n rest found entry is l firsts place guard lock =
+    → ((scope : ℕ) → found scope ≡ first_place ns scope) → entry.place ≡ n.place → entry.code ≡ number n.op → entry.guard ≡ inner_guard ns n.path → entry.lock ≡ first_some found (chain n) → Locking ns (set entries next entry) (next + 1) rest
+locking_one ns entries next n rest found entry is l firsts place code guard lock =
     let done = map (kept_entry ns) (filter is_indexed l.before) in
     let more = map (bare ns) (filter is_indexed rest) in
     let e = at_next ns entries next n rest is l in
     let count : next ≡ length done = l.so_many ∙ sym (length-map (filter is_indexed l.before) (kept_entry ns)) in
     let same : filter is_indexed (l.before ++ n ∷ []) ≡ filter is_indexed l.before ++ n ∷ [] = filter-append is_indexed l.before (n ∷ []) ∙ rw is refl in
     let decided : entry.lock ≡ lock_place ns n = lock ∙ decides ns found n firsts in
-    let its : entry ≡ kept_entry ns n = λ i. record { place = place i; guard = guard i; lock = decided i } in
+    let its : entry ≡ kept_entry ns n = λ i. record { place = place i; code = code i; guard = guard i; lock = decided i } in
     record {
       before = l.before ++ n ∷ [];
       split = l.split ∙ sym (append_assoc l.before (n ∷ []) rest);
@@ -102,7 +104,7 @@ unlocked ns found firsts none = each (filter is_indexed ns)
     each [] = refl
     each (n ∷ its) =
         let lock : ◌≡◌ {A = Option ℕ} None (lock_place ns n) = sym (nowhere (chain n)) ∙ decides ns found n firsts in
-        ap (λ (o : Option ℕ). record { place = n.place; guard = inner_guard ns n.path; lock = o } ∷ map (bare ns) its) lock ∙ ap (λ (x : List Entry). kept_entry ns n ∷ x) (each its)
+        ap (λ (o : Option ℕ). record { place = n.place; code = number n.op; guard = inner_guard ns n.path; lock = o } ∷ map (bare ns) its) lock ∙ ap (λ (x : List Entry). kept_entry ns n ∷ x) (each its)
 
 pub no_entries : (found : BTreeMap ℕ ℕ) → btree_map_len found ≡ 0 → IsEmpty found
 no_entries found e = nil_from_length found.entries e

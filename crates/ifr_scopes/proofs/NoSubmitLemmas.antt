@@ -1,6 +1,6 @@
--- Conditions of questions are kept, and those that deny a submission are found again.
+-- Conditions of questions are kept, and those of a number are found again.
 use Rattle.std.proofs.Common.{◌≡◌, ℕ, true, eqb, List, [], ◌∷◌, map, refl, sym, ap, ◌∙◌, subst, inl, inr, arith}
-use Rattle.std.specs.Prelude.{Contains, filter}
+use Rattle.std.specs.Prelude.{◌==◌, Contains, filter}
 use Rattle.std.proofs.lemmas.Bool.{cases_Bool, eqb-true}
 use Rattle.ifr_opcodes.specs.declared.codes.TheConstants.{NO_SUBMIT_IF}
 use Rattle.ifr_opcodes.specs.Opcode.{number}
@@ -35,30 +35,32 @@ is_entry bytes n s within is =
 pub all_entries : (bytes : List ℕ) → SpellsForest bytes (tree_of bytes) → AreConditionEntries bytes (condition_table (nodes_of bytes))
 all_entries bytes s = all_entries_are (λ one. IsConditionEntry bytes one) is_question_condition condition_entry (nodes_of bytes) (λ n within is. is_entry bytes n s within is)
 
-pub is_condition : (code : ℕ) → eqb code NO_SUBMIT_IF ≡ true → is_condition_number code ≡ true
-unfolding is_condition_number
-is_condition code is = ap is_condition_number (eqb-true code NO_SUBMIT_IF is)
+-- the nodes of those of a number
+abbrev pub of_number : List ℕ → ℕ → List ConditionEntry → List Placed
+of_number bytes code kept = map (λ one. node_in bytes one.place) (filter (λ one. one.code == code) kept)
 
--- the nodes of those that deny a submission
-abbrev pub denying : List ℕ → List ConditionEntry → List Placed
-denying bytes kept = map (λ one. node_in bytes one.place) (filter denies kept)
-
-again : (bytes : List ℕ) (ns : List Placed) → SpellsForest bytes (tree_of bytes) → ((n : Placed) → Contains ns n → Contains (nodes_of bytes) n) → denying bytes (condition_table ns) ≡ filter is_no_submit ns
-again bytes [] s within = refl
-again bytes (n ∷ ns) s within =
-    let later = again bytes ns s (λ m w. within m (further n ns m w)) in
-    elim (cases_Bool (is_no_submit n)) [
+pub again : (bytes : List ℕ) (code : ℕ) (ns : List Placed) → is_condition_number code ≡ true → SpellsForest bytes (tree_of bytes) → ((n : Placed) → Contains ns n → Contains (nodes_of bytes) n)
+    → of_number bytes code (condition_table ns) ≡ filter (λ n. number n.op == code) ns
+again bytes code [] condition s within = refl
+again bytes code (n ∷ ns) condition s within =
+    let later = again bytes code ns condition s (λ m w. within m (further n ns m w)) in
+    elim (cases_Bool (number n.op == code)) [
       | inl is ↦
-          let kept : is_question_condition n ≡ true = is_condition (number n.op) is in
-          rw (kept, is) (ap (λ (m : Placed). m ∷ denying bytes (condition_table ns)) (node_in_place bytes n s (within n (0, omega arith, refl))) ∙ ap (λ (l : List Placed). n ∷ l) later)
+          let kept : is_question_condition n ≡ true = ap is_condition_number (eqb-true (number n.op) code is) ∙ condition in
+          rw (kept, is) (ap (λ (m : Placed). m ∷ of_number bytes code (condition_table ns)) (node_in_place bytes n s (within n (0, omega arith, refl))) ∙ ap (λ (l : List Placed). n ∷ l) later)
       | inr other ↦ elim (cases_Bool (is_question_condition n)) [
         | inl kept ↦ rw (kept, other) later
         | inr plain ↦ rw (plain, other) later
       ]
     ]
 
+-- the nodes of those that deny a submission
+abbrev pub denying : List ℕ → List ConditionEntry → List Placed
+denying bytes kept = of_number bytes NO_SUBMIT_IF kept
+
 pub all_again : (bytes : List ℕ) → SpellsForest bytes (tree_of bytes) → denying bytes (condition_table (nodes_of bytes)) ≡ filter is_no_submit (nodes_of bytes)
-all_again bytes s = again bytes (nodes_of bytes) s (λ n w. w)
+unfolding is_condition_number
+all_again bytes s = again bytes NO_SUBMIT_IF (nodes_of bytes) refl s (λ n w. w)
 
 -- ---- one of them
 

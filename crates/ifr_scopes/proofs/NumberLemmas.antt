@@ -69,6 +69,7 @@ is_guard_entry bytes outer n s within guards =
     let same : n ≡ node_in bytes n.place = sym (node_in_place bytes n s within) in
     record {
       stands = rw (at.there, at.opcode) guards;
+      code = ap (λ (m : Placed). number m.op) same;
       within = ap this_of same;
       ends = ap expression_end same;
     }
@@ -140,6 +141,43 @@ so_many_before low (m ∷ before) rest n r =
     let behind : m.place + 1 ≤ n.place = before_place (m.place + 1) before rest n r.1 in
     let earlier : nat_lt m.place n.place ≡ true = grind (arith, nat_tests) in
     elim (cases_Bool (guarding m)) [ inl is ↦ rw (is, earlier) (ap (λ (k : ℕ). suc k) later) | inr other ↦ rw other later ]
+
+-- no guard stands before where all begin
+no_lower : (low : ℕ) (ns : List Placed) (k : ℕ) (d : Placed) → Rise place_of low ns → k < length (guards_among ns) → low ≤ (get_or (guards_among ns) k d).place
+no_lower low [] k d r lt = absurd (omega arith)
+no_lower low (n ∷ ns) zero d r lt = elim (cases_Bool (guarding n)) [
+  | inl is ↦ rw is r.0
+  | inr other ↦ let later = no_lower (n.place + 1) ns zero d r.1 (rw other at lt) in rw other (omega (arith, r.0, later))
+]
+no_lower low (n ∷ ns) (suc j) d r lt = elim (cases_Bool (guarding n)) [
+  | inl is ↦
+      let fewer : suc j < suc (length (guards_among ns)) = rw is at lt in
+      let later = no_lower (n.place + 1) ns j d r.1 (omega (arith, fewer)) in
+      rw is (omega (arith, r.0, later))
+  | inr other ↦ let later = no_lower (n.place + 1) ns (suc j) d r.1 (rw other at lt) in rw other (omega (arith, r.0, later))
+]
+
+-- before the guard of a number stand so many
+so_many : (low : ℕ) (ns : List Placed) (k : ℕ) (d : Placed) → Rise place_of low ns → k < length (guards_among ns) → guards_before ns (get_or (guards_among ns) k d).place ≡ k
+so_many low [] k d r lt = absurd (omega arith)
+so_many low (n ∷ ns) zero d r lt = elim (cases_Bool (guarding n)) [
+  | inl is ↦
+      let here : nat_lt n.place n.place ≡ false = grind (arith, nat_tests) in
+      rw (is, here) (ap (λ (l : List Placed). length l) (none_before (n.place + 1) n.place ns (omega arith) r.1))
+  | inr other ↦ rw other (so_many (n.place + 1) ns zero d r.1 (rw other at lt))
+]
+so_many low (n ∷ ns) (suc j) d r lt = elim (cases_Bool (guarding n)) [
+  | inl is ↦
+      let fewer : suc j < suc (length (guards_among ns)) = rw is at lt in
+      let g : Placed = get_or (guards_among ns) j d in
+      let behind : n.place + 1 ≤ g.place = no_lower (n.place + 1) ns j d r.1 (omega (arith, fewer)) in
+      let before : nat_lt n.place g.place ≡ true = grind (arith, nat_tests) in
+      rw (is, before) (ap (λ (m : ℕ). suc m) (so_many (n.place + 1) ns j d r.1 (omega (arith, fewer))))
+  | inr other ↦ rw other (so_many (n.place + 1) ns (suc j) d r.1 (rw other at lt))
+]
+
+numbered_place : (ns : List Placed) (k : ℕ) → Rise place_of 4 ns → k < length (guards_among ns) → guards_before ns (guard_of_number ns k).place ≡ k
+numbered_place ns k r lt = ap (λ (n : Placed). guards_before ns n.place) (some_guard ns k (or_empty None) lt) ∙ so_many 4 ns k (or_empty None) r lt
 
 -- ---- the innermost guard of a path
 
@@ -249,12 +287,13 @@ few_guards n = few_on [] n.path
 
 -- what is read past a table
 abbrev pub no_guard : GuardEntry
-no_guard = record { place = 0; this = 0; outer = None; ends = 0 }
+no_guard = record { place = 0; code = 0; this = 0; outer = None; ends = 0 }
 
 -- This is the entry of the guard of a number, and its own leads to those around it.
 pub record LeadsOn (bytes : List ℕ) (next : Option ℕ) (k : ℕ) (guard : GuardEntry) : Type 0 where
   pub kept : IsGuardEntry bytes guard
   pub is : node_in bytes guard.place ≡ guard_of_number (nodes_of bytes) k
+  pub before : k ≡ guards_before (nodes_of bytes) guard.place
   pub numbered : IsNumber (nodes_of bytes) guard.outer
   pub split : guards_from (nodes_of bytes) next ≡ guards_from (nodes_of bytes) guard.outer ++ node_in bytes guard.place ∷ []
   pub count : length (guards_from (nodes_of bytes) next) ≡ length (guards_from (nodes_of bytes) guard.outer) + 1
@@ -273,6 +312,7 @@ leads_on bytes table next k d s e is lt =
     subst (LeadsOn bytes next k) (sym (entry_there ns table k d e lt)) (record {
       kept = is_guard_entry bytes (inner_guard ns n.path) n s there.within there.guards;
       is = node;
+      before = sym (numbered_place ns k (nodes_rise bytes s) lt);
       numbered = around.numbered;
       split = split;
       count = ap (λ (l : List Placed). length l) split ∙ length-append outer (node_in bytes n.place ∷ []);

@@ -1,14 +1,15 @@
--- What stands in the scope of a question of a checked package is no statement.
+-- What stands in the scope of a question of a checked package is no statement and no form.
 use Rattle.std.proofs.Common.{◌≡◌, ℕ, zero, suc, ◌≤◌, Bool, true, false, List, [], ◌∷◌, ◌++◌, append_assoc, length, refl, sym, ap, ◌∙◌, arith, inl, inr, length-append}
 use Rattle.std.specs.Prelude.{Contains, ◌||◌}
-use Rattle.std.proofs.lemmas.Bool.{cases_Bool, ne_eqb}
+use Rattle.std.proofs.lemmas.Bool.{cases_Bool, ne_eqb, false≢true}
+use Rattle.ifr_opcodes.specs.declared.codes.TheConstants.{FORM}
 use Rattle.ifr_opcodes.specs.Opcode.{number}
 use Rattle.ifr_opcodes.specs.Operators.{is_among}
 use Rattle.ifr_opcodes.specs.Forest.{Ancestor, Placed, as_ancestor}
 use Rattle.ifr_scopes.specs.Checked.{IsChecked}
 use Rattle.ifr_scopes.specs.Guards.{is_guard}
 use Rattle.ifr_opcodes.specs.Statements.{is_question_number}
-use Rattle.ifr_scopes.specs.Nodes.{nodes_of, is_question, is_statement}
+use Rattle.ifr_scopes.specs.Nodes.{nodes_of, is_form, is_question, is_statement}
 use Rattle.ifr_scopes.specs.Structure.{parent, is_condition, begins_with_value, is_wanted, is_root}
 use Rattle.ifr_scopes.specs.Table.{class_around}
 use Rattle.ifr_scopes.proofs.ClassLemmas.{class-guard, class-other}
@@ -35,7 +36,7 @@ node_is_inner bytes n checked within root inner = elim (cases_Bool (is_wanted n)
 some_root : (n : Placed) (before after : List Ancestor) (a : Ancestor) → n.path ≡ before ++ a ∷ after → is_root n ≡ false
 some_root n before after a e = ne_eqb (length n.path) 0 (λ z. omega (arith, z, ap (λ (l : List Ancestor). length l) e, length-append before (a ∷ after)))
 
-last_of : (xs ys : List Ancestor) (x y : Ancestor) → xs ++ x ∷ [] ≡ ys ++ y ∷ [] → (xs ≡ ys) × (x ≡ y)
+pub last_of : (xs ys : List Ancestor) (x y : Ancestor) → xs ++ x ∷ [] ≡ ys ++ y ∷ [] → (xs ≡ ys) × (x ≡ y)
 last_of [] [] x y e = (refl, cc)
 last_of [] (z ∷ ys) x y e = absurd (omega (arith, ap (λ (l : List Ancestor). length l) e, length-append ys (y ∷ [])))
 last_of (z ∷ xs) [] x y e = absurd (omega (arith, ap (λ (l : List Ancestor). length l) e, length-append xs (x ∷ [])))
@@ -82,7 +83,14 @@ inner_class bytes (suc k) q n inside checked within is le e = elim (split_last i
   ]
 ]
 
--- no statement stands in the scope of a question
+-- no statement stands in the scope of a question, nor what one stands in
+inside_is_inner : (bytes : List ℕ) (q n : Placed) (inside : List Ancestor) → IsChecked bytes → Contains (nodes_of bytes) n → is_question q ≡ true → n.path ≡ q.path ++ as_ancestor q ∷ inside → is_among (number n.op) outer ≡ false
+inside_is_inner bytes q n inside checked within is e =
+    node_is_inner bytes n checked within (some_root n q.path inside (as_ancestor q) e) (inner_class bytes (length inside) q n inside checked within is (omega arith) e)
+
 pub no_statement_inside : (bytes : List ℕ) (q n : Placed) (inside : List Ancestor) → IsChecked bytes → Contains (nodes_of bytes) n → is_question q ≡ true → n.path ≡ q.path ++ as_ancestor q ∷ inside → is_statement n ≡ false
-no_statement_inside bytes q n inside checked within is e =
-    no_statement (number n.op) (node_is_inner bytes n checked within (some_root n q.path inside (as_ancestor q) e) (inner_class bytes (length inside) q n inside checked within is (omega arith) e))
+no_statement_inside bytes q n inside checked within is e = no_statement (number n.op) (inside_is_inner bytes q n inside checked within is e)
+
+pub no_form_inside : (bytes : List ℕ) (q n : Placed) (inside : List Ancestor) → IsChecked bytes → Contains (nodes_of bytes) n → is_question q ≡ true → n.path ≡ q.path ++ as_ancestor q ∷ inside → is_form n ≡ false
+no_form_inside bytes q n inside checked within is e =
+    ne_eqb (number n.op) FORM (λ form. false≢true (sym (inside_is_inner bytes q n inside checked within is e) ∙ ap (λ (k : ℕ). is_among k outer) form))

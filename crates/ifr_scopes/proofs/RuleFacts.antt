@@ -59,7 +59,7 @@ around_it bytes n checked within = elim (split_last n.path) [
 
 -- ---- where a node may stand
 
-one_place : (bytes : List ℕ) (n m : Placed) → IsChecked bytes → Contains (nodes_of bytes) n → Contains (nodes_of bytes) m → n.place ≡ m.place → n ≡ m
+pub one_place : (bytes : List ℕ) (n m : Placed) → IsChecked bytes → Contains (nodes_of bytes) n → Contains (nodes_of bytes) m → n.place ≡ m.place → n ≡ m
 one_place bytes n m checked v w e =
     let found : Some n ≡ Some m = sym (is_found bytes (tree_of bytes) n checked.spelled v) ∙ ap (node_at (nodes_of bytes)) e ∙ is_found bytes (tree_of bytes) m checked.spelled w in
     cc
@@ -192,6 +192,21 @@ in_form_set bytes (suc k) n checked within le e = elim (around_it bytes n checke
       ]
 ]
 
+-- around a form there is none
+around_form : (bytes : List ℕ) (n : Placed) → IsChecked bytes → Contains (nodes_of bytes) n → number n.op ≡ FORM → HasForms n.path []
+around_form bytes n checked within form =
+    let root = no_root bytes n checked within (number_other (number n.op) FORM FORM_SET form refl) in
+    in_form_set bytes (length n.path) n checked within (omega arith) (holds_form (class_around n.path) (held_as bytes n FORM checked within form no_operators.1 refl root))
+
+pub no_form_around : (bytes : List ℕ) (n : Placed) → IsChecked bytes → Contains (nodes_of bytes) n → number n.op ≡ FORM → forms_among n.path ≡ []
+no_form_around bytes n checked within form = (around_form bytes n checked within form).forms_are
+
+-- a subtitle stands where statements do
+pub around_subtitle : (bytes : List ℕ) (n : Placed) → IsChecked bytes → Contains (nodes_of bytes) n → number n.op ≡ SUBTITLE → class_around n.path ≡ OfForm
+around_subtitle bytes n checked within subtitle =
+    let root = no_root bytes n checked within (number_other (number n.op) SUBTITLE FORM_SET subtitle refl) in
+    holds_subtitle (class_around n.path) (held_as bytes n SUBTITLE checked within subtitle no_operators.3 refl root)
+
 -- in a form, and in the subtitles and guards in it, there is this form
 in_form : (bytes : List ℕ) (k : ℕ) (n : Placed) → IsChecked bytes → Contains (nodes_of bytes) n → length n.path ≤ k → class_around n.path ≡ OfForm → (form : Ancestor) × HasForms n.path (form ∷ [])
 in_form bytes zero n checked within le e = elim (around_it bytes n checked within) [
@@ -209,9 +224,7 @@ in_form bytes (suc k) n checked within le e = elim (around_it bytes n checked wi
             (inner.0, past n.path m.path a (inner.0 ∷ []) r.path (guard_other (number m.op) FORM guards refl) (guard_other (number m.op) RULE guards refl) inner.1)
         | inr other ↦ elim (of_form (number m.op) (sym (ap class_around r.path ∙ class-other m.path a other) ∙ e)) [
           | inl form ↦
-              let root = no_root bytes m checked r.within (number_other (number m.op) FORM FORM_SET form refl) in
-              let set : class_around m.path ≡ OfFormSet = holds_form (class_around m.path) (held_as bytes m FORM checked r.within form no_operators.1 refl root) in
-              let inner = in_form_set bytes (length m.path) m checked r.within (omega arith) set in (
+              let inner = around_form bytes m checked r.within form in (
                 a,
                 record {
                   forms_are = ap forms_among r.path ∙ form_comes m.path a (eq-eqb (number m.op) FORM form) inner.forms_are;
@@ -219,9 +232,7 @@ in_form bytes (suc k) n checked within le e = elim (around_it bytes n checked wi
                 },
               )
           | inr subtitle ↦
-              let root = no_root bytes m checked r.within (number_other (number m.op) SUBTITLE FORM_SET subtitle refl) in
-              let class : class_around m.path ≡ OfForm = holds_subtitle (class_around m.path) (held_as bytes m SUBTITLE checked r.within subtitle no_operators.3 refl root) in
-              let inner = in_form bytes k m checked r.within (shorter k n.path m.path a le r.path) class in
+              let inner = in_form bytes k m checked r.within (shorter k n.path m.path a le r.path) (around_subtitle bytes m checked r.within subtitle) in
               (inner.0, past n.path m.path a (inner.0 ∷ []) r.path (number_other (number m.op) SUBTITLE FORM subtitle refl) (number_other (number m.op) SUBTITLE RULE subtitle refl) inner.1)
         ]
       ]

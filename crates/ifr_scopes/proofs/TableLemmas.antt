@@ -118,6 +118,35 @@ holds_rule OfOption e = absurd (false≢true e)
 holds_rule OfExpression e = absurd (false≢true e)
 holds_rule OfNothing e = absurd (false≢true e)
 
+-- what holds of the number of each statement holds of a statement
+of_statement : (holds : ℕ → Bool) → list_all holds plain_statements ≡ true → list_all holds questions_without_options ≡ true → list_all holds questions_with_options ≡ true
+    → (code : ℕ) → is_statement_number code ≡ true → holds code ≡ true
+unfolding is_statement_number is_question_number
+of_statement holds plain without with_them code is = elim (cases_Bool (is_among code plain_statements)) [
+  | inl here ↦ of_each holds plain_statements code plain here
+  | inr more ↦ elim (cases_Bool (is_among code questions_without_options)) [
+    | inl here ↦ of_each holds questions_without_options code without here
+    | inr last ↦ of_each holds questions_with_options code with_them (ap (λ (b : Bool). b || is_among code questions_with_options) (sym last) ∙ ap (λ (b : Bool). b || (is_among code questions_without_options || is_among code questions_with_options)) (sym more) ∙ is)
+  ]
+]
+
+none_held : (c : Class) → list_all (λ k. not (admits c k)) plain_statements ≡ true → list_all (λ k. not (admits c k)) questions_without_options ≡ true → list_all (λ k. not (admits c k)) questions_with_options ≡ true
+    → (code : ℕ) → is_statement_number code ≡ true → admits c code ≡ true → ⊥
+none_held c plain without with_them code is held = false≢true (ap not (sym held) ∙ of_statement (λ k. not (admits c k)) plain without with_them code is)
+
+-- a statement stands in the scope of a form alone, or of a subtitle
+pub holds_statement : (c : Class) (code : ℕ) → is_statement_number code ≡ true → admits c code ≡ true → c ≡ OfForm
+unfolding is_question_number is_store_number is_condition_number is_ignored operands is_statement_number
+holds_statement OfFormSet code is held = absurd (none_held OfFormSet refl refl refl code is held)
+holds_statement OfForm code is held = refl
+holds_statement OfText code is held = absurd (none_held OfText refl refl refl code is held)
+holds_statement OfQuestion code is held = absurd (none_held OfQuestion refl refl refl code is held)
+holds_statement OfChoice code is held = absurd (none_held OfChoice refl refl refl code is held)
+holds_statement OfOptions code is held = absurd (none_held OfOptions refl refl refl code is held)
+holds_statement OfOption code is held = absurd (none_held OfOption refl refl refl code is held)
+holds_statement OfExpression code is held = absurd (none_held OfExpression refl refl refl code is held)
+holds_statement OfNothing code is held = absurd (none_held OfNothing refl refl refl code is held)
+
 pub holds_subtitle : (c : Class) → admits c SUBTITLE ≡ true → c ≡ OfForm
 unfolding is_statement_number is_question_number is_store_number is_condition_number is_ignored operands
 holds_subtitle OfFormSet e = absurd (false≢true e)
@@ -242,16 +271,9 @@ question_is_inner code is =
 
 -- statements are among them
 pub no_statement : (code : ℕ) → is_among code outer ≡ false → is_statement_number code ≡ false
-unfolding is_statement_number is_question_number
 no_statement code other = elim (cases_Bool (is_statement_number code)) [
   | inr e ↦ e
-  | inl is ↦ absurd (false≢true (sym other ∙ elim (cases_Bool (is_among code plain_statements)) [
-    | inl plain ↦ of_each (λ c. is_among c outer) plain_statements code refl plain
-    | inr more ↦ elim (cases_Bool (is_among code questions_without_options)) [
-      | inl without ↦ of_each (λ c. is_among c outer) questions_without_options code refl without
-      | inr last ↦ of_each (λ c. is_among c outer) questions_with_options code refl (ap (λ (b : Bool). b || is_among code questions_with_options) (sym last) ∙ ap (λ (b : Bool). b || (is_among code questions_without_options || is_among code questions_with_options)) (sym more) ∙ is)
-    ]
-  ]))
+  | inl is ↦ absurd (false≢true (sym other ∙ of_statement (λ c. is_among c outer) refl refl refl code is))
 ]
 
 -- an operator and a VALUE are none of them
@@ -274,3 +296,17 @@ no_guard code is = elim (cases_Bool (is_guard code)) [
   where
     guard_apart : (c : ℕ) → is_guard c ≡ true → is_among c outer ≡ false
     guard_apart c guards = none_among is_guard outer c refl guards
+
+-- ---- what a statement is not
+
+no_form_set : is_statement_number FORM_SET ≡ false
+unfolding is_statement_number is_question_number
+no_form_set = refl
+
+-- a statement is no form set, no operator and no VALUE
+pub statement_apart : (code : ℕ) → is_statement_number code ≡ true → (eqb code FORM_SET ≡ false) × (is_operator code ≡ false) × (eqb code VALUE ≡ false)
+statement_apart code is = (
+  ne_eqb code FORM_SET (λ e. false≢true (sym no_form_set ∙ ap is_statement_number (sym e) ∙ is)),
+  elim (cases_Bool (is_operator code)) [ inr e ↦ e | inl operator ↦ absurd (false≢true (sym (no_statement code (operator_is_inner code operator)) ∙ is)) ],
+  ne_eqb code VALUE (λ e. false≢true (sym (no_statement VALUE value_is_inner) ∙ ap is_statement_number (sym e) ∙ is)),
+)

@@ -4,6 +4,7 @@ pub mod Around
 pub mod AroundViews
 pub mod Causes
 pub mod Checked
+pub mod ConditionsLeft
 pub mod DependenceLeft
 pub mod Ends
 pub mod Frames
@@ -16,12 +17,14 @@ pub mod Locked
 pub mod LocksLeft
 pub mod Met
 pub mod NoSubmitsLeft
+pub mod OptionsLeft
 pub mod Parts
 pub mod PartsLeft
 pub mod ReadForms
 pub mod RuleNodes
 pub mod Rules
 pub mod Scopes
+pub mod StatementsLeft
 pub mod Tables
 pub mod Views
 pub mod Visits

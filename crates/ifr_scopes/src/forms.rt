@@ -1,48 +1,59 @@
 //! A forms package that was read.
 
-ghost use Rattle.std.specs.Prelude.{◌≡◌, ◌∷◌, true, List, IfOk, IfErr, IfSome, filter, option_map};
+ghost use Rattle.std.specs.Prelude.{◌≡◌, ◌==◌, ◌∷◌, [], true, nat_lt, if◌then◌else◌, List, IfOk, IfErr, IfSome, filter, length, option_map};
 ghost use Rattle.std.specs.List.{find};
 ghost use Rattle.hii_bytes.specs.Faults.{Refuses};
 ghost use Rattle.ifr_opcodes.specs.Forest.{Placed};
-ghost use Rattle.ifr_opcodes.specs.Opcode.{number};
+ghost use Rattle.ifr_opcodes.specs.Opcode.{number, has_scope};
 ghost use Rattle.ifr_expr.specs.Meaning.{names};
 ghost use Rattle.ifr_expr.specs.code.Rules.{AreOrdered};
 ghost use Rattle.ifr_scopes.specs.Accepted.{IsAccepted, IsPackageFault};
 ghost use Rattle.ifr_scopes.specs.code.AnyConditions.{any_condition_node};
 ghost use Rattle.ifr_scopes.specs.code.Checked.{IsNodeOf, has_form};
+ghost use Rattle.ifr_scopes.specs.code.ConditionsLeft.{conditions_of_left};
 ghost use Rattle.ifr_scopes.specs.Guards.{is_guard};
 ghost use Rattle.ifr_scopes.specs.code.Index.{conditional_at, guards_of_indexed, indexed_at, lock_of_indexed};
-ghost use Rattle.ifr_scopes.specs.code.Lists.{form_node, form_set_node, rule_node, stores_left, all_guards_left, forms_left, rules_left, statements_left, guards_left};
+ghost use Rattle.ifr_scopes.specs.code.Lists.{form_node, form_set_node, rule_node, stores_left, all_guards_left, forms_left, rules_left, all_statements_left, statement_node, guards_left};
 ghost use Rattle.ifr_scopes.specs.code.AroundViews.{around_guards, around_lock, around_package};
 ghost use Rattle.ifr_scopes.specs.code.LocksLeft.{lock_node};
-ghost use Rattle.ifr_scopes.specs.Nodes.{nodes_of, is_form, is_store, is_statement, is_no_submit};
+ghost use Rattle.ifr_scopes.specs.Kinds.{is_condition_number};
+ghost use Rattle.ifr_scopes.specs.Nodes.{nodes_of, is_form, is_store, is_statement, is_no_submit, of_question, options, statements};
 ghost use Rattle.ifr_scopes.specs.code.NoSubmitsLeft.{no_submits_left};
+ghost use Rattle.ifr_scopes.specs.code.OptionsLeft.{options_of_left};
+ghost use Rattle.ifr_scopes.specs.code.StatementsLeft.{statements_of_left};
 ghost use Rattle.ifr_scopes.specs.References.{form_with};
 ghost use Rattle.ifr_scopes.specs.Rules.{is_rule, as_rule, rule_nodes};
 ghost use Rattle.ifr_scopes.specs.code.Rules.{rules_of};
-ghost use Rattle.ifr_scopes.specs.code.Tables.{kept_entry};
+ghost use Rattle.ifr_scopes.specs.code.Tables.{kept_entry, condition_table, entry_table};
 ghost use Rattle.ifr_scopes.specs.code.Views.{node_of};
 
+use crate::all_statements::AllStatements;
 use crate::any_condition::AnyCondition;
 use crate::around::{Around, guard_number, lock_place};
 use crate::condition_view::ConditionView;
+use crate::conditions_of::ConditionsOf;
 use crate::form::{Form, FormViews};
 use crate::form_set::FormSet;
 use crate::framing::check_framing;
 use crate::guard::{Guard, GuardViews};
 use crate::guards_at::GuardsAt;
 use crate::guards_outward::GuardsOutward;
-use crate::index::{Entry, Index, condition_at, entry_at, guard_at};
+use crate::index::{
+    ConditionEntry, Entry, Index, condition_at, conditions_behind, entries_behind, entry_at,
+    guard_at,
+};
 use crate::indexing::index_of;
 use crate::locks::LockView;
 use crate::no_submits::NoSubmits;
 use crate::node::Node;
 use crate::nodes::Nodes;
+use crate::options_of::OptionsOf;
 use crate::places::node_at;
 use crate::references::check_references;
 use crate::rule::{RuleView, RuleViews};
 use crate::rules::{RuleTable, expression_of};
-use crate::statement::Statements;
+use crate::statement::Statement;
+use crate::statements_of::StatementsOf;
 use crate::structure::check_structure;
 use crate::varstore::Varstores;
 use hii_bytes::Fault;
@@ -82,8 +93,8 @@ impl<'a> Forms<'a> {
         let ifr = source.bytes;
         check_framing(ifr)?;
         check_structure(ifr)?;
-        let rules = check_references(alloc, ifr)?;
         let index = index_of(alloc, ifr)?;
+        let rules = check_references(alloc, ifr, &index.forms)?;
         Ok(Forms { ifr, rules, index })
     }
 
@@ -103,12 +114,14 @@ impl<'a> Forms<'a> {
         FormSet { node }
     }
 
-    /// The stores, by place.
-    pub fn stores(&self) -> Varstores<'a>
-        ensures { stores_left result ≡ filter is_store (nodes_of self.now) }
+    /// The stores of the package, which is accepted, by place.
+    pub fn stores(&self) -> Varstores<'_, 'a>
+        ensures stores { stores_left result ≡ filter is_store (nodes_of self.now) }
+        ensures accepted { IsAccepted self.now }
     {
         Varstores {
-            nodes: Nodes::over(self.ifr),
+            ifr: self.ifr,
+            places: &self.index.stores,
         }
     }
 
@@ -121,6 +134,13 @@ impl<'a> Forms<'a> {
             ifr: self.ifr,
             guards: &self.index.guards,
         }
+    }
+
+    /// How many guards there are.
+    pub fn guard_count(&self) -> usize
+        ensures { result ≡ length (filter (λ n. is_guard (number n.op)) (nodes_of self.now)) }
+    {
+        self.index.guards.len()
     }
 
     /// The forms, by place.
@@ -152,11 +172,12 @@ impl<'a> Forms<'a> {
     }
 
     /// The rules of all forms, by place.
-    pub fn rules(&self) -> RuleViews<'a>
+    pub fn rules(&self) -> RuleViews<'_, 'a>
         ensures { rules_left result ≡ filter is_rule (nodes_of self.now) }
     {
         RuleViews {
-            nodes: Nodes::over(self.ifr),
+            ifr: self.ifr,
+            places: &self.index.rules,
         }
     }
 
@@ -182,11 +203,85 @@ impl<'a> Forms<'a> {
     }
 
     /// The statements of all forms, by place.
-    pub fn statements(&self) -> Statements<'a>
-        ensures { statements_left result ≡ filter is_statement (nodes_of self.now) }
+    pub fn statements(&self) -> AllStatements<'_, 'a>
+        ensures { all_statements_left result ≡ filter is_statement (nodes_of self.now) }
     {
-        Statements {
-            nodes: Nodes::over(self.ifr),
+        AllStatements {
+            ifr: self.ifr,
+            entries: &self.index.entries,
+            position: 0,
+        }
+    }
+
+    /// The statements of a form, by place, the first of them found in one search. Each knows its position.
+    pub fn statements_of(&self, form: Form<'a>) -> StatementsOf<'_, 'a>
+        requires node { IsNodeOf self.now (form_node form) }
+        ensures { statements_of_left result ≡ statements (form_node form.entry) }
+    {
+        let entries = self.index.entries.as_slice();
+        let kept = entries_behind(entries, form.place());
+        StatementsOf {
+            ifr: self.ifr,
+            kept,
+            position: (entries.len() - kept.len()) as u32,
+        }
+    }
+
+    // The conditions behind a statement that opens a scope; none behind another.
+    fn conditions_behind(&self, statement: Statement<'a>) -> &[ConditionEntry]
+        ensures { result.now ≡ (if has_scope (statement_node statement.entry).op
+            then filter (λ c. nat_lt (statement_node statement.entry).place c.place)
+            (condition_table (nodes_of self.now))
+            else []) }
+    {
+        let op = statement.op().op;
+        if op.scope {
+            conditions_behind(&self.index.conditions, op.place)
+        } else {
+            &[]
+        }
+    }
+
+    /// The conditions of a number that stand in the scope of the question that a statement is, by place, found in one search;
+    /// none of a statement that is none.
+    pub fn conditions_of(&self, statement: Statement<'a>, code: u8) -> ConditionsOf<'_, 'a>
+        requires node { IsNodeOf self.now (statement_node statement) }
+        requires condition { is_condition_number code ≡ true }
+        ensures { conditions_of_left result
+            ≡ of_question (λ n. number n.op == code) (statement_node statement.entry) }
+    {
+        ConditionsOf {
+            ifr: self.ifr,
+            kept: self.conditions_behind(statement),
+            question: statement.place(),
+            code,
+        }
+    }
+
+    // What the index has behind a statement that opens a scope; nothing behind another.
+    fn entries_behind(&self, statement: Statement<'a>) -> &[Entry]
+        ensures { result.now ≡ (if has_scope (statement_node statement.entry).op
+            then filter (λ e. nat_lt (statement_node statement.entry).place e.place)
+            (entry_table (nodes_of self.now))
+            else []) }
+    {
+        let op = statement.op().op;
+        if op.scope {
+            entries_behind(&self.index.entries, op.place)
+        } else {
+            &[]
+        }
+    }
+
+    /// The options in the scope of the question that a statement is, by place, found in one search; none of a statement that is
+    /// none.
+    pub fn options_of(&self, statement: Statement<'a>) -> OptionsOf<'_, 'a>
+        requires node { IsNodeOf self.now (statement_node statement) }
+        ensures { options_of_left result ≡ options (statement_node statement.entry) }
+    {
+        OptionsOf {
+            ifr: self.ifr,
+            kept: self.entries_behind(statement),
         }
     }
 
@@ -200,12 +295,12 @@ impl<'a> Forms<'a> {
         }
     }
 
-    // What the index has of the form, statement or option at a place.
-    fn entry_at(&self, place: u32) -> Option<Entry>
+    // What the index has of the form, statement or option at a place, which is looked for first at this position.
+    fn entry_at(&self, place: u32, position: u32) -> Option<Entry>
         ensures { result
             ≡ option_map (kept_entry (nodes_of self.now)) (indexed_at (nodes_of self.now) place) }
     {
-        entry_at(&self.index.entries, place)
+        entry_at(&self.index.entries, place, position)
     }
 
     /// What stands around the form, statement or option at a place, found in one search; nothing at any other place.
@@ -214,7 +309,16 @@ impl<'a> Forms<'a> {
         ensures lock { around_lock result ≡ lock_of_indexed (nodes_of self.now) place }
         ensures of_package { around_package result ≡ self.now }
     {
-        let entry = self.entry_at(place);
+        self.around_at(place, 0)
+    }
+
+    /// The same, with no search where as many forms, statements and options stand before the place as the position says.
+    pub fn around_at(&self, place: u32, position: u32) -> Around<'_, 'a>
+        ensures guards { around_guards result ≡ guards_of_indexed (nodes_of self.now) place }
+        ensures lock { around_lock result ≡ lock_of_indexed (nodes_of self.now) place }
+        ensures of_package { around_package result ≡ self.now }
+    {
+        let entry = self.entry_at(place, position);
         Around {
             guards: GuardsOutward {
                 ifr: self.ifr,

@@ -1,6 +1,6 @@
 //! The guards at places, from the outermost inwards.
 
-ghost use Rattle.std.specs.Prelude.{◌≡◌, IfSome};
+ghost use Rattle.std.specs.Prelude.{◌≡◌, true, IfSome, is_some};
 ghost use Rattle.ifr_scopes.specs.Checked.{IsChecked};
 ghost use Rattle.ifr_scopes.specs.Nodes.{nodes_of};
 ghost use Rattle.ifr_scopes.specs.code.Checked.{IsChecked-prop};
@@ -30,10 +30,12 @@ impl<'s, 'a> GuardsAt<'s, 'a> {
     pub fn step(&mut self) -> Option<Guard<'a>>
         ensures steps { YieldsFirstBy guard_node guards_left self.old result self.new }
         ensures of_package { IfSome result (λ guard. guard_package guard ≡ self.old.ifr.now) }
+        ensures numbered { IfSome result (λ guard. is_some guard.number ≡ true) }
         ensures kept { self.new.ifr.now ≡ self.old.ifr.now }
     {
         let number = self.numbers.pop()?;
-        Some(Guard::kept(self.ifr, self.guards[number as usize]))
+        let guard = Guard::kept(self.ifr, self.guards[number as usize]);
+        Some(guard.numbered(number))
     }
 }
 

@@ -32,13 +32,14 @@ impl<'s, 'a> GuardsOutward<'s, 'a> {
     pub fn step(&mut self) -> Option<Guard<'a>>
         ensures steps { YieldsFirstBy guard_node outward_left self.old result self.new }
         ensures of_package { IfSome result (λ guard. guard_package guard ≡ self.old.ifr.now) }
+        ensures numbered { IfSome result (λ guard. guard.number ≡ self.old.next) }
         ensures kept { self.new.ifr.now ≡ self.old.ifr.now }
     {
         let number = self.next?;
         let guard = self.guards[number as usize];
         let view = Guard::kept(self.ifr, guard);
         self.next = guard.outer;
-        Some(view)
+        Some(view.numbered(number))
     }
 
     /// The same guards, the outermost first.

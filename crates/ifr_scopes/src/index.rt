@@ -1,7 +1,7 @@
 //! An index of a package: by place its forms, statements and options with what is around them, its guards, and the
 //! conditions of its questions; and its forms by their ids.
 
-ghost use Rattle.std.specs.Prelude.{◌≡◌, ◌==◌, ℕ};
+ghost use Rattle.std.specs.Prelude.{◌≡◌, ◌==◌, ℕ, nat_lt, filter};
 ghost use Rattle.std.specs.List.{find};
 ghost use Rattle.hii_bytes.specs.code.FirstFaults.{Rise};
 
@@ -11,6 +11,8 @@ use hii_bytes::IdTable;
 #[derive(Clone, Copy, Debug)]
 pub struct Entry {
     pub(crate) place: u32,
+    /// The number of its opcode.
+    pub(crate) code: u8,
     /// The number of the innermost guard around it, if there is one.
     pub(crate) guard: Option<u32>,
     /// The place of the LOCKED that decides for it, if it is locked.
@@ -21,6 +23,8 @@ pub struct Entry {
 #[derive(Clone, Copy, Debug)]
 pub struct GuardEntry {
     pub(crate) place: u32,
+    /// The number of its opcode.
+    pub(crate) code: u8,
     /// The id of the question in whose scope it stands, or 0.
     pub(crate) this: u16,
     /// The number of the innermost guard around it, if there is one.
@@ -54,17 +58,35 @@ pub struct Index {
     pub(crate) conditions: Vec<ConditionEntry>,
     /// The places of the forms, by id.
     pub(crate) forms: IdTable,
+    /// The places of the stores.
+    pub(crate) stores: Vec<u32>,
+    /// The places of the rules.
+    pub(crate) rules: Vec<u32>,
 }
 
-/// The form, statement or option at a place.
-pub(crate) fn entry_at(entries: &[Entry], place: u32) -> Option<Entry>
+/// The form, statement or option at a place, which is looked for first at this position.
+pub(crate) fn entry_at(entries: &[Entry], place: u32, position: u32) -> Option<Entry>
     ensures { (low : ℕ) → Rise (λ (e : Entry). e.place) low entries.now
         → result ≡ find (λ e. e.place == place) entries.now }
 {
+    if let Some(entry) = entries.get(position as usize) {
+        if entry.place == place {
+            return Some(*entry);
+        }
+    }
     match entries.binary_search_by_key(&place, |entry| entry.place) {
         Ok(at) => Some(entries[at]),
         Err(_) => None,
     }
+}
+
+/// The forms, statements and options behind a place.
+pub(crate) fn entries_behind(entries: &[Entry], place: u32) -> &[Entry]
+    ensures { (low : ℕ) → Rise (λ (e : Entry). e.place) low entries.now
+        → result.now ≡ filter (λ e. nat_lt place e.place) entries.now }
+{
+    let first = entries.partition_point(|entry| entry.place <= place);
+    &entries[first..]
 }
 
 /// The guard at a place.
@@ -87,4 +109,13 @@ pub(crate) fn condition_at(conditions: &[ConditionEntry], place: u32) -> Option<
         Ok(at) => Some(conditions[at]),
         Err(_) => None,
     }
+}
+
+/// The conditions of questions behind a place.
+pub(crate) fn conditions_behind(conditions: &[ConditionEntry], place: u32) -> &[ConditionEntry]
+    ensures { (low : ℕ) → Rise (λ (c : ConditionEntry). c.place) low conditions.now
+        → result.now ≡ filter (λ c. nat_lt place c.place) conditions.now }
+{
+    let first = conditions.partition_point(|condition| condition.place <= place);
+    &conditions[first..]
 }

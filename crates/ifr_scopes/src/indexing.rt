@@ -10,11 +10,12 @@ ghost use Rattle.ifr_opcodes.specs.declared.codes.TheConstants as codes;
 ghost use Rattle.ifr_scopes.specs.Checked.{IsChecked};
 ghost use Rattle.ifr_scopes.specs.Guards.{guards_among};
 ghost use Rattle.ifr_scopes.specs.Guards as guard;
-ghost use Rattle.ifr_scopes.specs.Nodes.{nodes_of, is_form};
+ghost use Rattle.ifr_scopes.specs.Nodes.{nodes_of, is_form, is_store};
+ghost use Rattle.ifr_scopes.specs.Rules.{is_rule};
 ghost use Rattle.ifr_scopes.specs.code.Around.{IsAround};
 ghost use Rattle.ifr_scopes.specs.code.Index as indexed;
 ghost use Rattle.ifr_scopes.specs.code.LockIndex.{Finds, first_place, first_some};
-ghost use Rattle.ifr_scopes.specs.code.Tables.{IsIndexOf, inner_last, is_question_condition, entry_of_node, guard_entry, condition_entry, form_entry, entries_unlocked, entry_table};
+ghost use Rattle.ifr_scopes.specs.code.Tables.{IsIndexOf, places_of, inner_last, is_question_condition, entry_of_node, guard_entry, condition_entry, form_entry, entries_unlocked, entry_table};
 ghost use Rattle.ifr_scopes.specs.code.Views.{node_of};
 
 use crate::index::{ConditionEntry, Entry, GuardEntry, Index};
@@ -70,6 +71,7 @@ fn add_entry(entries: &mut Vec<Entry>, node: Node, guard: Option<u32>) -> Result
     if is_indexed(op.code) {
         entries.push(Entry {
             place: op.place,
+            code: op.code,
             guard,
             lock: None,
         })?;
@@ -89,8 +91,10 @@ fn add_guard(
         ++ map (guard_entry outer) (guards_among (node_of met.now.node ∷ []))) }
 {
     if met.node.is_guard() {
+        let op = met.node.op();
         guards.push(GuardEntry {
-            place: met.node.op().place,
+            place: op.place,
+            code: op.code,
             this: nodes.this(met),
             outer,
             ends: met.node.expression_end(),
@@ -132,6 +136,28 @@ fn add_form(forms: &mut Vec<IdEntry>, node: Node) -> Result<(), AllocError>
             id: node.form().id(),
             number: node.op().place,
         })?;
+    }
+    Ok(())
+}
+
+// Adds the place of a store.
+fn add_store(stores: &mut Vec<u32>, node: Node) -> Result<(), AllocError>
+    ensures { OnOk result (stores.new.items ≡ stores.old.items
+        ++ places_of is_store (node_of node.entry ∷ [])) }
+{
+    if node.is_store() {
+        stores.push(node.op().place)?;
+    }
+    Ok(())
+}
+
+// Adds the place of a rule.
+fn add_rule(rules: &mut Vec<u32>, node: Node) -> Result<(), AllocError>
+    ensures { OnOk result (rules.new.items ≡ rules.old.items
+        ++ places_of is_rule (node_of node.entry ∷ [])) }
+{
+    if node.is_rule() {
+        rules.push(node.op().place)?;
     }
     Ok(())
 }
@@ -188,6 +214,7 @@ fn lock_entries(ifr: &[u8], locks: &BTreeMap<u32, u32>, entries: &mut Vec<Entry>
             let entry = entries[next];
             entries[next] = Entry {
                 place: entry.place,
+                code: entry.code,
                 guard: entry.guard,
                 lock: first_along(locks, places.as_slice()),
             };
@@ -205,6 +232,8 @@ pub(crate) fn index_of(alloc: Global, ifr: &[u8]) -> Result<Index, AllocError>
     let mut guards = Vec::new(alloc);
     let mut conditions = Vec::new(alloc);
     let mut forms = Vec::new(alloc);
+    let mut stores = Vec::new(alloc);
+    let mut rules = Vec::new(alloc);
     let mut locks = BTreeMap::new(alloc);
     let mut inner = ArrayVec::new();
     let mut nodes = ScopedNodes::over(ifr);
@@ -214,6 +243,8 @@ pub(crate) fn index_of(alloc: Global, ifr: &[u8]) -> Result<Index, AllocError>
         add_guard(&mut guards, &nodes, &met, guard)?;
         add_condition(&mut conditions, &nodes, &met)?;
         add_form(&mut forms, met.node)?;
+        add_store(&mut stores, met.node)?;
+        add_rule(&mut rules, met.node)?;
         add_lock(&mut locks, &nodes, &met)?;
     }
     lock_entries(ifr, &locks, &mut entries);
@@ -222,5 +253,7 @@ pub(crate) fn index_of(alloc: Global, ifr: &[u8]) -> Result<Index, AllocError>
         guards,
         conditions,
         forms: IdTable::of(forms)?,
+        stores,
+        rules,
     })
 }

@@ -1,9 +1,11 @@
 //! The nodes of a forms package: its framing, and walks over them (UEFI 2.8, 33.3.8 Forms Package).
 #![tactic(auto)]
 
+mod all_statements;
 mod any_condition;
 mod around;
 mod condition_view;
+mod conditions_of;
 mod default_view;
 mod dependence;
 mod ends;
@@ -28,20 +30,24 @@ mod node;
 mod nodes;
 mod nodes_of;
 mod option_view;
+mod options_of;
 mod places;
 mod references;
 mod rule;
 mod rules;
 mod scoped_nodes;
 mod statement;
+mod statements_of;
 mod structure;
 mod table;
 mod varstore;
 mod walk;
 
+pub use all_statements::AllStatements;
 pub use any_condition::AnyCondition;
 pub use around::Around;
 pub use condition_view::{ConditionOp, ConditionView, ConditionViews};
+pub use conditions_of::ConditionsOf;
 pub use default_view::{DefaultView, Defaults};
 pub use dependence::Dependence;
 pub use form::{Form, FormViews};
@@ -54,6 +60,8 @@ pub use guards_outward::GuardsOutward;
 pub use locks::{LockView, Locks};
 pub use no_submits::{NoSubmit, NoSubmits};
 pub use option_view::{OptionView, Options};
+pub use options_of::OptionsOf;
 pub use rule::{RuleView, RuleViews};
 pub use statement::{Statement, StatementKind, Statements};
+pub use statements_of::StatementsOf;
 pub use varstore::{StoreOp, Varstore, Varstores};

@@ -14,6 +14,7 @@ ghost use Rattle.ifr_scopes.specs.References.{IsReferenceFault, has_reference_fa
 ghost use Rattle.ifr_scopes.specs.code.Causes.{reference_causes};
 ghost use Rattle.hii_bytes.specs.code.NumberSets.{has_number};
 ghost use Rattle.ifr_scopes.specs.code.KeptRules.{AreKeptRules};
+ghost use Rattle.ifr_scopes.specs.code.Tables.{AreFormEntries};
 
 use crate::form_end::FormEnd;
 use crate::framing::HEADER;
@@ -21,21 +22,21 @@ use crate::node::Node;
 use crate::nodes::Nodes;
 use crate::rules::{RuleTable, expression_of};
 use crate::scoped_nodes::{ScopedNode, ScopedNodes};
-use hii_bytes::{Cause, Fault, NumberSet};
+use hii_bytes::{Cause, Fault, IdTable, NumberSet};
 use std::alloc::{AllocError, Global};
 
 /// What was met of a package: the ids of its forms and of its questions, its rules, and the form in which the last of
-/// these stands; beside the ids of all its forms.
+/// these stands; beside the places of all its forms by their ids.
 #[derive(Drop)]
-struct Met {
-    all: NumberSet,
+struct Met<'t> {
+    all: &'t IdTable,
     forms: NumberSet,
     questions: NumberSet,
     rules: RuleTable,
     form: Option<FormEnd>,
 }
 
-impl Met {
+impl<'t> Met<'t> {
     ghost use Rattle.ifr_opcodes.specs.Fields.{ref_target};
     ghost use Rattle.ifr_scopes.specs.code.Met.{AreOf, Tells, Meets, TellsNext, MeetsNext};
     ghost use Rattle.ifr_scopes.specs.code.Around.{IsAround};
@@ -44,10 +45,9 @@ impl Met {
     ghost use Rattle.ifr_scopes.specs.Rules.{is_rule, form_end, forms_among};
 
     /// Nothing of a package whose forms have these ids.
-    fn new(alloc: Global, all: NumberSet) -> Result<Met, AllocError>
+    fn new(alloc: Global, all: &'t IdTable) -> Result<Met<'t>, AllocError>
         ensures { IfOk result (λ met. (bytes : List ℕ)
-            → ((id : ℕ) → has_number all id ≡ list_any (has_form_id id) (nodes_of bytes))
-            → AreOf bytes [] met) }
+            → AreFormEntries (nodes_of bytes) all.now → AreOf bytes [] met) }
     {
         Ok(Met {
             all,
@@ -132,12 +132,11 @@ impl Met {
     /// Whether a question is a reference that leads to no form.
     fn is_lost(&self, node: Node) -> bool
         ensures { (ns : List Placed)
-            → ((id : ℕ) → has_number self.now.all id ≡ list_any (has_form_id id) ns) →
-            result ≡ (is_reference (node_of node.entry)
+            → AreFormEntries ns self.now.all.now → result ≡ (is_reference (node_of node.entry)
             && lost_among ns (ref_target (node_of node.entry).op)) }
     {
         match node.target() {
-            Some(id) => !self.all.contains(id),
+            Some(id) => self.all.find(id).is_none(),
             None => false,
         }
     }
@@ -173,22 +172,6 @@ fn repeats_question(ids: &mut NumberSet, node: Node) -> bool
     !ids.insert(id) && id != 0
 }
 
-// The ids of the forms of a package.
-fn form_ids(alloc: Global, ifr: &[u8]) -> Result<NumberSet, AllocError>
-    requires { IsChecked ifr.now }
-    ensures { IfOk result (λ ids. (id : ℕ)
-        → has_number ids id ≡ list_any (has_form_id id) (nodes_of ifr.now)) }
-{
-    let mut ids = NumberSet::new(alloc)?;
-    let mut nodes = Nodes::over(ifr);
-    while let Some(node) = nodes.step() {
-        if node.is_form() {
-            ids.insert(node.form().id());
-        }
-    }
-    Ok(ids)
-}
-
 // Whether a package has a form.
 fn has_form(ifr: &[u8]) -> bool
     requires { IsChecked ifr.now }
@@ -206,9 +189,14 @@ fn has_form(ifr: &[u8]) -> bool
 /// The rules of a package. A package without a form is refused by NoForm at 4, and a form or a question whose id one
 /// before it has by DuplicateForm or DuplicateQuestion at the later one; a question may have the id 0 again (own rule). A
 /// reference that leads to no form is refused by NoForm, a rule of a depth above 16 or a weight above 4,096 by
-/// RuleTooLarge. Where an allocation fails the fault is OutOfMemory.
-pub(crate) fn check_references(alloc: Global, ifr: &[u8]) -> Result<RuleTable, Fault>
-    requires { IsChecked ifr.now }
+/// RuleTooLarge. Where an allocation fails the fault is OutOfMemory. The places of all forms are given by their ids.
+pub(crate) fn check_references(
+    alloc: Global,
+    ifr: &[u8],
+    forms: &IdTable,
+) -> Result<RuleTable, Fault>
+    requires checked { IsChecked ifr.now }
+    requires forms { AreFormEntries (nodes_of ifr.now) forms.now }
     ensures sound { OnOk result (HasNone (IsReferenceFault (nodes_of ifr.now))) }
     ensures kept { IfOk result (AreKeptRules (nodes_of ifr.now)) }
     ensures refused { IfErr result (Refuses (IsReferenceFault (nodes_of ifr.now))) }
@@ -216,8 +204,7 @@ pub(crate) fn check_references(alloc: Global, ifr: &[u8]) -> Result<RuleTable, F
     if !has_form(ifr) {
         return Err(Fault::at(Cause::NoForm, HEADER as u64));
     }
-    let all = form_ids(alloc, ifr)?;
-    let mut met = Met::new(alloc, all)?;
+    let mut met = Met::new(alloc, forms)?;
     let mut nodes = ScopedNodes::over(ifr);
     while let Some(next) = nodes.step() {
         if let Some(cause) = met.meet(&nodes, &next)? {

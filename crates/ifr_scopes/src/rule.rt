@@ -1,11 +1,14 @@
 //! Rules.
 
 ghost use Rattle.std.specs.Prelude.{◌≡◌, true};
+ghost use Rattle.ifr_scopes.specs.Checked.{IsChecked};
 ghost use Rattle.ifr_scopes.specs.Rules.{is_rule};
+ghost use Rattle.ifr_scopes.specs.code.Checked.{IsChecked-prop};
+ghost use Rattle.ifr_scopes.specs.code.Tables.{AreOfKind, AreOfKind-prop};
 ghost use Rattle.ifr_scopes.specs.code.Views.{node_of};
 
 use crate::node::Node;
-use crate::nodes::Nodes;
+use crate::places::node_at;
 use crate::rules::expression_of;
 use ifr_expr::Expr;
 
@@ -38,11 +41,14 @@ impl<'a> RuleView<'a> {
 
 /// The rules that are left of a package, by place.
 #[derive(Drop)]
-pub struct RuleViews<'a> {
-    pub(crate) nodes: Nodes<'a>,
+pub struct RuleViews<'s, 'a> {
+    pub(crate) ifr: &'a [u8],
+    pub(crate) places: &'s [u32],
+    pub ghost checked: { IsChecked ifr.now } by { IsChecked-prop ifr.now },
+    pub ghost stand: { AreOfKind is_rule ifr.now places.now } by { AreOfKind-prop is_rule ifr.now places.now },
 }
 
-impl<'a> Iterator for RuleViews<'a> {
+impl<'s, 'a> Iterator for RuleViews<'s, 'a> {
     ghost use Rattle.std.specs.Iterator.{YieldsFirstBy, item_count};
     ghost use Rattle.ifr_scopes.specs.code.Lists.{rule_node, rules_left};
 
@@ -53,11 +59,10 @@ impl<'a> Iterator for RuleViews<'a> {
     ghost remaining = { item_count rules_left };
 
     fn next(&mut self) -> Option<RuleView<'a>> {
-        while let Some(node) = self.nodes.step() {
-            if node.is_rule() {
-                return Some(RuleView { node });
-            }
-        }
-        None
+        let (place, places) = self.places.split_first()?;
+        self.places = places;
+        Some(RuleView {
+            node: node_at(self.ifr, *place),
+        })
     }
 }

@@ -92,6 +92,8 @@ impl<'a> StatementKind<'a> {
 #[derive(Clone, Copy, Debug)]
 pub struct Statement<'a> {
     pub(crate) node: Node<'a>,
+    // At which position of the index it is looked for first.
+    pub(crate) position: u32,
     pub ghost statement: { is_statement (node_of node) ≡ true },
 }
 
@@ -104,8 +106,9 @@ impl<'a> Statement<'a> {
     ghost use Rattle.ifr_scopes.specs.code.Lists.{guards_of_left, statement_node, statement_package, kind_op};
     ghost use Rattle.ifr_scopes.specs.code.Parts.{options_left, defaults_left, conditions_left};
 
-    /// The statement at a place of an accepted package, in bytes from its header, where one stands.
-    pub fn at(ifr: &'a [u8], place: u32) -> Statement<'a>
+    /// The statement at a place of an accepted package, in bytes from its header, where one stands, with its position as
+    /// `position` gave it.
+    pub fn at(ifr: &'a [u8], place: u32, position: u32) -> Statement<'a>
         requires accepted { IsAccepted ifr.now }
         requires there { has_statement ifr.now place ≡ true }
         ensures node { statement_node result ≡ node_in ifr.entry.now place }
@@ -113,7 +116,16 @@ impl<'a> Statement<'a> {
     {
         Statement {
             node: node_at(ifr, place),
+            position,
         }
+    }
+
+    /// How many forms, statements and options stand before it, if it comes from an index, and else 0: where `Forms` looks for
+    /// it first. What is found there is compared with its place.
+    pub fn position(self) -> u32
+        ensures { result ≡ self.entry.position }
+    {
+        self.position
     }
 
     /// The place of the statement, in bytes from the package's header.
@@ -232,7 +244,7 @@ impl<'a> Iterator for Statements<'a> {
     fn next(&mut self) -> Option<Statement<'a>> {
         while let Some(node) = self.nodes.step() {
             if node.is_statement() {
-                return Some(Statement { node });
+                return Some(Statement { node, position: 0 });
             }
         }
         None

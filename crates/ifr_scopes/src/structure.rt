@@ -1,12 +1,13 @@
 //! Each node by itself: whether its opcode is known, has its fields and the Scope that it wants, and whether it may stand
 //! where it stands; and the expressions.
 
-ghost use Rattle.std.specs.Prelude.{◌≡◌, ◌≤◌, ◌<◌, ◌^◌, length, map, option_map, All, OnOk, IfErr};
+ghost use Rattle.std.specs.Prelude.{◌≡◌, ◌≤◌, ◌<◌, ◌^◌, List, None, length, map, option_map, All, OnOk, IfErr};
 ghost use Rattle.hii_bytes.specs.Faults.{IsLeast, HasNone};
 ghost use Rattle.hii_bytes.specs.code.FirstFaults.{first_cause};
-ghost use Rattle.ifr_opcodes.specs.Opcode.{IsWhole, has_scope};
+ghost use Rattle.ifr_opcodes.specs.Opcode.{IsWhole, has_scope, number};
 ghost use Rattle.ifr_opcodes.specs.code.Ops.{bytes_of, op_of};
-ghost use Rattle.ifr_opcodes.specs.Forest.{SpellsForest, Forest};
+ghost use Rattle.ifr_opcodes.specs.Forest.{SpellsForest, Forest, Ancestor};
+ghost use Rattle.std.specs.List.{last_or};
 ghost use Rattle.ifr_opcodes.specs.Reading.{tree_of};
 ghost use Rattle.ifr_opcodes.specs.code.Marks.{mark_at, ancestor_at};
 ghost use Rattle.ifr_scopes.specs.Nodes.{nodes_of};
@@ -42,22 +43,40 @@ fn has_wrong_scope(op: Op, operand: bool) -> bool
     }
 }
 
-// What may stand in the scope of the innermost of the nodes at these places.
-#[tactic(auto, using(crate::proofs::ClassLemmas::class_next))]
-fn class_around(bytes: &[u8], places: &[u32]) -> Class
+// The number of the innermost of the opcodes at these places that is no guard, if there is one.
+fn innermost_other(bytes: &[u8], places: &[u32]) -> Option<u8>
     requires { All (λ place. IsWhole (mark_at bytes.now place).op) places.now }
+    ensures { result ≡ option_map (λ a. number a.op)
+        (last_or None (table.others_among (map (ancestor_at bytes.now) places.now))) }
+{
+    let mut left = places;
+    while let Some((place, outer)) = left.split_last() {
+        let code = bytes[*place as usize];
+        if !is_guard(code) {
+            return Some(code);
+        }
+        left = outer;
+    }
+    None
+}
+
+// What may stand in the scope of the innermost of the nodes at these places, which is this opcode.
+fn class_around(bytes: &[u8], places: &[u32], parent: Option<Op>) -> Class
+    requires whole { All (λ place. IsWhole (mark_at bytes.now place).op) places.now }
+    requires parent { option_map op_of parent
+        ≡ structure.innermost (map (ancestor_at bytes.now) places.now) }
     ensures { result ≡ table.class_around (map (ancestor_at bytes.now) places.now) }
 {
-    let mut found = Class::OfNothing;
-    for place in places {
-        let code = bytes[*place as usize];
-        found = if is_guard(code) {
-            guarded(found)
-        } else {
-            class_of(code)
-        };
+    let Some(parent) = parent else {
+        return Class::OfNothing;
+    };
+    if !is_guard(parent.code) {
+        return class_of(parent.code);
     }
-    found
+    match innermost_other(bytes, places) {
+        Some(code) => guarded(class_of(code)),
+        None => Class::OfNothing,
+    }
 }
 
 // The opcode of the innermost of the nodes at these places.
@@ -108,18 +127,18 @@ fn is_operator_scope(parent: Option<Op>) -> bool
     }
 }
 
-// Whether an expression stands at a node, by its opcode and the places around it.
-fn is_expression(bytes: &[u8], op: Op, around: &[u32]) -> bool
-    requires { All (λ place. IsWhole (mark_at bytes.now place).op) around.now }
-    ensures { (children : Forest) → result
+// Whether an expression stands at a node, by its opcode and that around it.
+fn is_expression(op: Op, parent: Option<Op>) -> bool
+    ensures { (path : List Ancestor) (children : Forest)
+        → option_map op_of parent.entry ≡ structure.innermost path → result
         ≡ structure.is_expression record {
           place = op.entry.place;
           op = bytes_of op.entry;
-          path = map (ancestor_at bytes.now) around.now;
+          path = path;
           children = children;
         } }
 {
-    begins_scope(op.place, innermost(bytes, around)) && is_operator(op.code)
+    begins_scope(op.place, parent) && is_operator(op.code)
 }
 
 fn lacks_expression(first: Option<u8>) -> bool
@@ -149,9 +168,18 @@ fn lacks_wanted(op: Op, first: Option<u8>) -> bool
         || (wants_value(op) && lacks_value(first))
 }
 
-// The least cause for which a node is refused, by its opcode, the places around it and the number of its first child.
-fn cause_of(bytes: &[u8], op: Op, around: &[u32], first: Option<u8>) -> Option<Cause>
-    requires { All (λ place. IsWhole (mark_at bytes.now place).op) around.now }
+// The least cause for which a node is refused, by its opcode, the places around it, the opcode at the innermost of these, and
+// the number of its first child.
+fn cause_of(
+    bytes: &[u8],
+    op: Op,
+    around: &[u32],
+    parent: Option<Op>,
+    first: Option<u8>,
+) -> Option<Cause>
+    requires whole { All (λ place. IsWhole (mark_at bytes.now place).op) around.now }
+    requires parent { option_map op_of parent
+        ≡ structure.innermost (map (ancestor_at bytes.now) around.now) }
     ensures { (children : Forest) → structure.first_number children ≡ first →
         result ≡ least_cause record {
           place = op.entry.place;
@@ -161,7 +189,6 @@ fn cause_of(bytes: &[u8], op: Op, around: &[u32], first: Option<u8>) -> Option<C
         } }
 {
     let is_root = around.is_empty();
-    let parent = innermost(bytes, around);
     let is_first = op.place == HEADER as u32;
     if is_first && op.code != FORM_SET {
         return Some(Cause::NotFormSet);
@@ -178,7 +205,7 @@ fn cause_of(bytes: &[u8], op: Op, around: &[u32], first: Option<u8>) -> Option<C
     if !is_root
         && !begins_scope(op.place, parent)
         && !begins_with_value(op.place, parent)
-        && !admits(class_around(bytes, around), op.code)
+        && !admits(class_around(bytes, around, parent), op.code)
     {
         return Some(Cause::Misplaced);
     }
@@ -207,10 +234,11 @@ pub(crate) fn check_structure(bytes: &[u8]) -> Result<(), Fault>
     let mut walk = Walk::over(bytes);
     while let Some(visit) = walk.step() {
         let around = walk.around(visit.depth);
-        if let Some(cause) = cause_of(bytes, visit.op, around, walk.first_child(&visit)) {
+        let parent = innermost(bytes, around);
+        if let Some(cause) = cause_of(bytes, visit.op, around, parent, walk.first_child(&visit)) {
             return Err(visit.op.fault(cause));
         }
-        if is_expression(bytes, visit.op, around) {
+        if is_expression(visit.op, parent) {
             let place = visit.op.place;
             Expr::check(bytes, place, end_of(bytes, place))?;
         }

@@ -1,11 +1,14 @@
 //! The stores that a form set declares.
 
 ghost use Rattle.std.specs.Prelude.{◌≡◌, true};
+ghost use Rattle.ifr_scopes.specs.Checked.{IsChecked};
 ghost use Rattle.ifr_scopes.specs.Nodes.{is_store};
+ghost use Rattle.ifr_scopes.specs.code.Checked.{IsChecked-prop};
+ghost use Rattle.ifr_scopes.specs.code.Tables.{AreOfKind, AreOfKind-prop};
 ghost use Rattle.ifr_scopes.specs.code.Views.{node_of};
 
 use crate::node::Node;
-use crate::nodes::Nodes;
+use crate::places::node_at;
 use ifr_opcodes::{
     Op, VARSTORE, VARSTORE_EFI, VARSTORE_NAME_VALUE, VarstoreEfiOp, VarstoreNameValueOp, VarstoreOp,
 };
@@ -96,11 +99,14 @@ impl<'a> Varstore<'a> {
 
 /// The stores that are left of a package, by place.
 #[derive(Drop)]
-pub struct Varstores<'a> {
-    pub(crate) nodes: Nodes<'a>,
+pub struct Varstores<'s, 'a> {
+    pub(crate) ifr: &'a [u8],
+    pub(crate) places: &'s [u32],
+    pub ghost checked: { IsChecked ifr.now } by { IsChecked-prop ifr.now },
+    pub ghost stand: { AreOfKind is_store ifr.now places.now } by { AreOfKind-prop is_store ifr.now places.now },
 }
 
-impl<'a> Iterator for Varstores<'a> {
+impl<'s, 'a> Iterator for Varstores<'s, 'a> {
     ghost use Rattle.std.specs.Iterator.{YieldsFirstBy, item_count};
     ghost use Rattle.ifr_scopes.specs.code.Lists.{store_node, stores_left};
 
@@ -111,11 +117,10 @@ impl<'a> Iterator for Varstores<'a> {
     ghost remaining = { item_count stores_left };
 
     fn next(&mut self) -> Option<Varstore<'a>> {
-        while let Some(node) = self.nodes.step() {
-            if node.is_store() {
-                return Some(Varstore { node });
-            }
-        }
-        None
+        let (place, places) = self.places.split_first()?;
+        self.places = places;
+        Some(Varstore {
+            node: node_at(self.ifr, *place),
+        })
     }
 }

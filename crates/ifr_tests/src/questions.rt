@@ -116,6 +116,8 @@ fn question_and_options(rt: HostRuntime) -> Result<(), Fail> {
     let statement = forms.statements().next().expect(&rt, "a statement");
     assert!(rt; matches!(statement.kind(), StatementKind::OneOf(_)));
     assert_eq!(rt; statement.question().map(|question| question.id()), Some(1));
+    // the form stands before it in the index
+    assert_eq!(rt; statement.position(), 1);
     let mut options = statement.options();
     for (place, value) in [(50, 4), (57, 5)] {
         let option = options.next().expect(&rt, "an option");

@@ -20,10 +20,13 @@ fn guards_in_no_question(rt: HostRuntime) -> Result<(), Fail> {
     ] {
         let guard = guard.expect(&rt, "a guard");
         assert_eq!(rt; (guard.place(), guard.this()), (27, 0));
-        assert_eq!(rt; guard.op().code, 0x0a);
+        assert_eq!(rt; (guard.code(), guard.op().code), (0x0a, 0x0a));
         assert_eq!(rt; guard.condition().support().next(), Some(7));
     }
     assert!(rt; forms.guards_at(27).next().is_none());
+    assert_eq!(rt; forms.guard_count(), 1);
+    let first = forms.guards_at(form.place()).next();
+    assert_eq!(rt; first.and_then(|guard| guard.number()), Some(0));
     Ok(())
 }
 

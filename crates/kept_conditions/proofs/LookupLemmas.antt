@@ -1,9 +1,9 @@
 -- A condition is found at its place by halving, among readers.
-use Rattle.std.proofs.Common.{◌≡◌, ℕ, ◌+◌, ◌≤◌, ◌<◌, ◌==◌, ◌&&◌, Bool, true, false, Some, None, Option, Ok, Err, List, [], ◌∷◌, length, get_or, map, filter, refl, sym, ap, ◌∙◌, subst, arith, inl, inr}
+use Rattle.std.proofs.Common.{◌≡◌, ℕ, zero, suc, ◌+◌, ◌≤◌, ◌<◌, ◌==◌, ◌&&◌, Bool, true, false, Some, None, Option, Ok, Err, List, [], ◌∷◌, length, get_or, map, filter, refl, sym, ap, ◌∙◌, subst, arith, inl, inr}
 use Rattle.std.specs.List.{find}
 use Rattle.std.specs.List.Sorted.{IsBinarySearchResult}
 use Rattle.std.specs.Ordering.{nat_cmp}
-use Rattle.std.proofs.lemmas.Bool.{cases_Bool, cond-true, cond-false, eqb-true, ne_eqb}
+use Rattle.std.proofs.lemmas.Bool.{cases_Bool, cond-true, cond-false, eqb-true, eq-eqb, ne_eqb}
 use Rattle.hii_bytes.specs.code.FirstFaults.{Rise}
 use Rattle.hii_bytes.proofs.SearchLemmas.{searched, not_found}
 use Rattle.kept_conditions.specs.Kept.{Told, held, holds_if}
@@ -75,3 +75,20 @@ found_at p xs at d r lt equal = one_told 0 p xs (get_or xs at d) (rise_from 0 xs
 
 pub none_at : (p : ℕ) (xs : List Reader) (at : ℕ) → Rise (λ (x : ℕ). x) 0 (map place_of xs) → at ≤ length xs → IsBinarySearchResult (λ x. nat_cmp (place_of x) p) xs (Err at) → held (map value_of (filter is_condition xs)) p ≡ false
 none_at p xs at r within parted = none_told p xs (not_found place_of 0 p xs at (rise_from 0 xs r) within parted)
+
+-- a reader that is found by its number
+no_lower : (low : ℕ) (xs : List Reader) (k : ℕ) (d : Reader) → Rise place_of low xs → k < length xs → low ≤ place_of (get_or xs k d)
+no_lower low [] k d r lt = absurd (omega (arith, lt))
+no_lower low (x ∷ xs) zero d r lt = r.0
+no_lower low (x ∷ xs) (suc k) d r lt = let later = no_lower (place_of x + 1) xs k d r.1 (omega (arith, lt)) in omega (arith, r.0, later)
+
+found_so : (low p : ℕ) (xs : List Reader) (k : ℕ) (d : Reader) → Rise place_of low xs → k < length xs → place_of (get_or xs k d) ≡ p → reader_at xs p ≡ Some (get_or xs k d)
+found_so low p [] k d r lt e = absurd (omega (arith, lt))
+found_so low p (x ∷ xs) zero d r lt e = rw (eq-eqb (place_of x) p e) refl
+found_so low p (x ∷ xs) (suc k) d r lt e =
+    let behind = no_lower (place_of x + 1) xs k d r.1 (omega (arith, lt)) in
+    rw (ne_eqb (place_of x) p (λ same. omega (arith, same, e, behind))) (found_so (place_of x + 1) p xs k d r.1 (omega (arith, lt)) e)
+
+pub told_at : (p : ℕ) (xs : List Reader) (k : ℕ) (d : Reader) → Rise (λ (x : ℕ). x) 0 (map place_of xs) → k < length xs → place_of (get_or xs k d) ≡ p
+    → held (map value_of (filter is_condition xs)) p ≡ (is_condition (get_or xs k d) && (get_or xs k d).holds)
+told_at p xs k d r lt e = one_told 0 p xs (get_or xs k d) (rise_from 0 xs r) (found_so 0 p xs k d (rise_from 0 xs r) lt e)

@@ -23,8 +23,6 @@ impl<'a> KeptStores<'a> {
         ensures { result ≡ unless
             (hidden (world policy.entry self.now.stores) (form_node form.entry)) }
     {
-        // The package is accepted.
-        policy.forms().bytes();
         policy.opens_by(form, self.kept())
     }
 
@@ -35,8 +33,6 @@ impl<'a> KeptStores<'a> {
         ensures { result ≡ unless
             (fixed (world policy.entry self.now.stores) (statement_node statement.entry)) }
     {
-        // The package is accepted.
-        policy.forms().bytes();
         policy.changeable_by(statement, self.kept())
     }
 
@@ -53,8 +49,6 @@ impl<'a> KeptStores<'a> {
         ensures { result ≡ unless
             (fixed (world policy.entry self.now.stores) (question_node question.entry)) }
     {
-        // The package is accepted.
-        policy.forms().bytes();
         policy.question_changeable_by(question, self.kept())
     }
 
@@ -70,8 +64,6 @@ impl<'a> KeptStores<'a> {
         ensures { result ≡ unless
             (closed (world policy.entry self.now.stores) (question_node question.entry) value) }
     {
-        // The package is accepted.
-        policy.forms().bytes();
         policy.option_open_by(question, value, self.kept())
     }
 
@@ -80,8 +72,6 @@ impl<'a> KeptStores<'a> {
         requires { bytes_of policy ≡ self.now.ifr }
         ensures { result ≡ unless (unsubmitted (world policy.entry self.now.stores)) }
     {
-        // The package is accepted.
-        policy.forms().bytes();
         policy.may_submit_by(self.kept())
     }
 }

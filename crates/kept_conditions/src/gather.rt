@@ -24,7 +24,7 @@ use std::alloc::{AllocError, Global};
 fn add<'a, C: Conditions>(
     gathered: &mut Gathered,
     source: Source<'_, '_, 'a>,
-    rules: &mut RuleViews<'a>,
+    rules: &mut RuleViews<'_, 'a>,
     number: usize,
     now: &C,
 ) -> Result<(), AllocError>

@@ -1,20 +1,22 @@
 //! What is kept of the conditions of a package.
 
-ghost use Rattle.std.specs.Prelude.{◌≡◌, IfOk, IfErr};
+ghost use Rattle.std.specs.Prelude.{◌≡◌, ◌&&◌, IfOk, IfErr, IfSome};
 ghost use Rattle.hii_bytes.specs.Faults.{out_of_memory};
 ghost use Rattle.ifr_scopes.specs.Nodes.{nodes_of};
 ghost use Rattle.hii_varstore.specs.Stores.{StoreMap, shape_of};
 ghost use Rattle.guard_policy.specs.code.Views.{bytes_of};
-ghost use Rattle.kept_conditions.specs.Kept.{kept_over};
+ghost use Rattle.kept_conditions.specs.Kept.{held, kept_over};
 ghost use Rattle.kept_conditions.specs.code.Ranges.{HaveRanges};
+ghost use Rattle.kept_conditions.specs.code.Readers.{is_condition};
 ghost use Rattle.kept_conditions.specs.code.Within.{AreAlike, AreAlikeOutside};
 ghost use Rattle.kept_conditions.specs.laws.Writes.{IsWrite};
 ghost use Rattle.kept_conditions.specs.Touching.{difference, range_of, renewals};
 
 use crate::gather::gather;
+use crate::guard_readers::guard_readers;
 use crate::index::{Index, index_over};
 use crate::ranges::Ranges;
-use crate::readers::Readers;
+use crate::readers::{Reader, Readers};
 use crate::renewal::{renew_changed, renew_touched, renew_within};
 use guard_policy::{Conditions, Policy};
 use hii_bytes::Fault;
@@ -30,6 +32,8 @@ pub struct Kept<'a> {
     ifr: &'a [u8],
     readers: Readers,
     index: Index,
+    // For each guard by its number, the number of its reader, if it has one.
+    guard_readers: Vec<u32>,
 }
 
 impl<'a> Model for Kept<'a> {
@@ -65,11 +69,29 @@ impl<'a> Kept<'a> {
         let Ok(readers) = Readers::over(alloc, gathered.list) else {
             return Err(Fault::out_of_memory());
         };
+        let Ok(guard_readers) = guard_readers(alloc, policy, &readers.list) else {
+            return Err(Fault::out_of_memory());
+        };
         Ok(Kept {
             ifr: policy.forms().bytes(),
             readers,
             index,
+            guard_readers,
         })
+    }
+
+    // The reader at a place, where it is that of the guard of a number.
+    fn reader_of_guard(&self, number: u32, place: u32) -> Option<Reader>
+        ensures { IfSome result
+            (λ reader. (is_condition reader && reader.holds) ≡ held self.now.values place) }
+    {
+        let at = *self.guard_readers.get(number as usize)?;
+        let reader = *self.readers.list.get(at as usize)?;
+        if reader.place == place {
+            Some(reader)
+        } else {
+            None
+        }
     }
 
     /// Evaluates the conditions anew, over the stores after a write of so many bytes, that depend on one of these bytes, and
@@ -135,8 +157,6 @@ impl<'a> Kept<'a> {
 }
 
 impl<'a> Conditions for Kept<'a> {
-    ghost use Rattle.kept_conditions.specs.Kept.{held};
-
     ghost holding = { λ kept place. held kept.values place };
 
     fn holds(&self, place: u32) -> bool {
@@ -144,6 +164,13 @@ impl<'a> Conditions for Kept<'a> {
         match readers.binary_search_by_key(&place, |reader| reader.place) {
             Ok(at) => readers[at].condition_holds(),
             Err(_) => false,
+        }
+    }
+
+    fn guard_holds(&self, number: u32, place: u32) -> bool {
+        match self.reader_of_guard(number, place) {
+            Some(reader) => reader.condition_holds(),
+            None => self.holds(place),
         }
     }
 }

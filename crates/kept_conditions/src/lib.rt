@@ -5,6 +5,7 @@ mod decisions;
 mod difference;
 mod gather;
 mod gathering;
+mod guard_readers;
 mod index;
 mod kept;
 mod kept_stores;

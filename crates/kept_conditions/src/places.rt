@@ -19,7 +19,7 @@ fn add_guards(places: &mut Vec<u32>, forms: &Forms<'_>) -> Result<(), AllocError
 {
     let mut guards = forms.guards();
     while let Some(guard) = guards.next() {
-        let code = guard.op().code;
+        let code = guard.code();
         if code == SUPPRESS_IF || code == GRAY_OUT_IF {
             places.push(guard.place())?;
         }

@@ -25,7 +25,7 @@ pub(crate) struct ReaderExpression<'a> {
 /// The expression of the reader of a number, where the rules are left that do not stand before it.
 pub(crate) fn expression_of<'a>(
     source: Source<'_, '_, 'a>,
-    rules: &mut RuleViews<'a>,
+    rules: &mut RuleViews<'_, 'a>,
     number: usize,
 ) -> ReaderExpression<'a>
     requires inside { number < length (reader_nodes (nodes_of source.forms.now)) }

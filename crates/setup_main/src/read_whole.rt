@@ -21,6 +21,11 @@ pub enum ReadError {
 /// The most bytes that a file may have.
 pub const FILE_LIMIT: u64 = 16_777_216;
 
+const LIMIT: usize = FILE_LIMIT as usize;
+
+// The most bytes of one read.
+const PIECE: usize = 4096;
+
 /// All bytes that the reader has, at most 16,777,216. More are refused by `TooLong`; a fault of the reader and an allocation
 /// that fails are told apart by whether the reader has failed.
 pub fn read_whole<R: Read>(alloc: Global, reader: &mut Watched<R>) -> Result<Vec<u8>, ReadError>
@@ -32,19 +37,20 @@ pub fn read_whole<R: Read>(alloc: Global, reader: &mut Watched<R>) -> Result<Vec
     ensures memory { result ≡ Err ReadError.NoMemory → has_failed reader.new ≡ false }
 {
     let mut bytes = Vec::new(alloc);
-    let read = (&mut *reader).take(FILE_LIMIT + 1).read_to_end(&mut bytes);
-    match read {
-        Ok(_) => {
-            if bytes.len() as u64 > FILE_LIMIT {
-                Err(ReadError::TooLong)
-            } else {
-                Ok(bytes)
-            }
+    let mut piece = [0u8; PIECE];
+    while bytes.len() <= LIMIT {
+        let room = (LIMIT + 1 - bytes.len()).min(PIECE);
+        let buf = &mut piece[..room];
+        let n = match reader.read(buf) {
+            Ok(n) => n,
+            Err(_) => return Err(ReadError::Fault),
+        };
+        if n == 0 {
+            return Ok(bytes);
         }
-        Err(_) => Err(if reader.failed() {
-            ReadError::Fault
-        } else {
-            ReadError::NoMemory
-        }),
+        if bytes.extend_from_slice(&buf[..n]).is_err() {
+            return Err(ReadError::NoMemory);
+        }
     }
+    Err(ReadError::TooLong)
 }

@@ -1,5 +1,5 @@
 -- A table finds the texts of ids.
-use Rattle.std.proofs.Common.{◌≡◌, ◌≢◌, ℕ, zero, suc, ◌+◌, ◌-◌, ◌<◌, ◌≤◌, ◌^◌, ◌==◌, true, false, inl, inr, if◌then◌else◌, List, [], ◌∷◌, ◌++◌, length, drop, get_or, map, replicate, Option, None, Some, Ok, Err, refl, ap, sym, ◌∙◌, subst, arith, append_assoc, length-append}
+use Rattle.std.proofs.Common.{◌≡◌, ◌≢◌, ◌⊎◌, ℕ, zero, suc, ◌+◌, ◌-◌, ◌<◌, ◌≤◌, ◌^◌, ◌==◌, true, false, inl, inr, if◌then◌else◌, List, [], ◌∷◌, ◌++◌, length, drop, get_or, map, replicate, Option, None, Some, Ok, Err, refl, ap, sym, ◌∙◌, subst, arith, append_assoc, length-append}
 use Rattle.std.specs.Option.{option_map, is_some}
 use Rattle.std.specs.List.Sorted.{IsBinarySearchResult, IsNonDecreasingBy}
 use Rattle.std.specs.Ordering.{nat_cmp, ordering_index}
@@ -17,7 +17,7 @@ use Rattle.sibt_strings.specs.declared.place.TextPlace.{TextPlace}
 use Rattle.sibt_strings.proofs.BlockLemmas.{blocks_none}
 use Rattle.sibt_strings.proofs.EndLemmas.{ends_place, ends_trans}
 use Rattle.sibt_strings.proofs.IdLemmas.{OptionText, text_at-left, text_at-right, text_at-past, with_blocks-more, Left, left_all, left_behind}
-use Rattle.sibt_strings.proofs.TextLemmas.{same_some, texts_split}
+use Rattle.sibt_strings.proofs.TextLemmas.{cut_ends, same_some, texts_split}
 
 no_place : TextPlace
 no_place = record { id = 0; place = 0 }
@@ -279,6 +279,43 @@ added_full {blocks} {n = n} {new = new} a full done size table =
     let t = table_full blocks (done ++ map Some a.seen) (map Some a.later.0) new (a.table done size table) (omega (arith, seen, size, full)) in
     subst (λ texts. IsTable blocks texts new)
     (append_assoc done (map Some a.seen) (map Some a.later.0) ∙ ap (λ m. done ++ m) (sym (map-append Some a.seen a.later.0) ∙ ap (map Some) (sym a.all))) t
+
+-- The first n texts have places, of which the last stands at the front of the rest; before the first the rest is that of none.
+pub record AddedUpTo (blocks : List ℕ) (next count : ℕ) (bytes : List ℕ) (old : List TextPlace) (n : ℕ) (rest : List ℕ) (new : List TextPlace) : Type 0 where
+  pub behind : List ℕ
+  pub added : Added blocks next count bytes old n behind new
+  pub last : ((n ≡ 0) × (rest ≡ behind)) ⊎ ((0 < n) × (text : List ℕ) × (cut_text rest ≡ Some (text, behind)))
+
+pub up_to_start : (blocks : List ℕ) (next count : ℕ) (bytes : List ℕ) (places : List TextPlace) → EndsWith blocks bytes → is_some (texts_in count bytes) ≡ true → AddedUpTo blocks next count bytes places 0 bytes places
+up_to_start blocks next count bytes places inside whole = record { behind = bytes; added = added_start blocks next count bytes places inside whole; last = inl (refl, refl) }
+
+-- before the first text nothing is left out, and behind it the text of the last place
+pub up_to_first : {blocks : List ℕ} {next count : ℕ} {bytes : List ℕ} {old : List TextPlace} {n : ℕ} {rest : List ℕ} {new : List TextPlace}
+    (a : AddedUpTo blocks next count bytes old n rest new) → n ≡ 0 → rest ≡ a.behind
+up_to_first a none = elim a.last [
+  | inl first ↦ first.1
+  | inr later ↦ absurd (omega (arith, later.0, none))
+]
+
+pub up_to_later : {blocks : List ℕ} {next count : ℕ} {bytes : List ℕ} {old : List TextPlace} {n : ℕ} {rest : List ℕ} {new : List TextPlace}
+    (a : AddedUpTo blocks next count bytes old n rest new) → 0 < n → (text : List ℕ) × (cut_text rest ≡ Some (text, a.behind))
+up_to_later a some = elim a.last [
+  | inl first ↦ absurd (omega (arith, first.0, some))
+  | inr later ↦ (later.1, later.2)
+]
+
+-- the place of one text more, which stands behind the others
+pub up_to_more : {blocks : List ℕ} {next count : ℕ} {bytes : List ℕ} {old : List TextPlace} {n : ℕ} {rest : List ℕ} {new : List TextPlace}
+    (a : AddedUpTo blocks next count bytes old n rest new) → n < count → (p : TextPlace) (here : List ℕ) → here ≡ a.behind → p.id ≡ next + n → p.place ≡ length blocks - length here →
+    AddedUpTo blocks next count bytes old (n + 1) here (new ++ p ∷ [])
+up_to_more {blocks} a lt p here same id place =
+    let s = added_split a.added lt in
+    let found : cut_text here ≡ Some (s.0.0, s.0.1) = ap cut_text same ∙ s.2 in
+    record {
+      behind = s.0.1;
+      added = added_more a.added lt p s.0.0 s.0.1 s.2 (cut_ends a.behind s.0.0 s.0.1 s.2) id (place ∙ ap (λ (b : List ℕ). length blocks - length b) same);
+      last = inr (omega arith, s.0.0, found);
+    }
 
 -- the places of the texts of the blocks before the rest, up to the next id
 pub record Tabled (blocks rest : List ℕ) (next : ℕ) (whole : List Block) (places : List TextPlace) : Type 0 where

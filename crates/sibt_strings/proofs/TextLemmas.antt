@@ -1,11 +1,11 @@
 -- Texts are found unit by unit, and text by text.
-use Rattle.std.proofs.Common.{◌≡◌, ◌⊎◌, inl, inr, ℕ, zero, suc, ◌-◌, ◌<◌, ◌≤◌, ◌%◌, ◌==◌, ◌&&◌, true, false, List, [], ◌∷◌, ◌++◌, length, take, drop, get_or, Option, None, Some, refl, ap, sym, ◌∙◌, subst, arith, append_assoc, length-append}
+use Rattle.std.proofs.Common.{◌≡◌, ◌⊎◌, inl, inr, ℕ, zero, suc, ◌-◌, ◌<◌, ◌≤◌, ◌%◌, ◌==◌, ◌&&◌, if◌then◌else◌, Bool, true, false, List, [], ◌∷◌, ◌++◌, length, take, drop, get_or, Option, None, Some, refl, ap, sym, ◌∙◌, subst, arith, append_assoc, length-append}
 use Rattle.std.specs.Option.{option_map, is_some}
 use Rattle.std.specs.List.{slice_get}
 use Rattle.std.proofs.lemmas.Bool.{false≢true}
 use Rattle.std.proofs.lemmas.List.{append-nil, take_at}
 use Rattle.sibt_strings.specs.Blocks.{cut_text, texts_in}
-use Rattle.sibt_strings.specs.code.Views.{whole_texts}
+use Rattle.sibt_strings.specs.code.Views.{EndsWith, whole_texts}
 
 -- a text with these bytes in front
 abbrev pub behind_front : List ℕ → Option (List ℕ × List ℕ) → Option (List ℕ × List ℕ)
@@ -157,3 +157,24 @@ some_of_map f None y e = absurd (none_some y e)
     none_some : {B : Type 0} (y : B) → None ≡ Some y → ⊥
     none_some y e = cc
 some_of_map f (Some x) y e = (x, refl, same_some (f x) y e)
+
+none_cut : (text rest : List ℕ) → ◌≡◌ {A = Option (List ℕ × List ℕ)} None (Some (text, rest)) → ⊥
+none_cut text rest e = cc
+
+-- the bytes behind a text stand at the end
+pub cut_ends : (bytes text rest : List ℕ) → cut_text bytes ≡ Some (text, rest) → EndsWith bytes rest
+unfolding cut_text
+cut_ends [] text rest e = absurd (none_cut text rest e)
+cut_ends (low ∷ []) text rest e = absurd (none_cut text rest e)
+cut_ends (low ∷ high ∷ more) text rest e = step ((low == 0) && (high == 0)) (cut_text more) (λ x y f. cut_ends more x y f) e
+  where
+    step : (z : Bool) (t : Option (List ℕ × List ℕ)) → ((x y : List ℕ) → ◌≡◌ {A = Option (List ℕ × List ℕ)} t (Some (x, y)) → EndsWith more y)
+        → ◌≡◌ {A = Option (List ℕ × List ℕ)} (if z then Some ([], more) else option_map (λ t. (low ∷ high ∷ t.0, t.1)) t) (Some (text, rest)) → EndsWith (low ∷ high ∷ more) rest
+    step true t ends e =
+        let same : more ≡ rest = ap (λ (p : List ℕ × List ℕ). p.1) (same_some ([], more) (text, rest) e) in
+        record { front = low ∷ high ∷ []; parts = ap (λ b. low ∷ high ∷ b) same }
+    step false None ends e = absurd (none_cut text rest e)
+    step false (Some t) ends e =
+        let same : t.1 ≡ rest = ap (λ (p : List ℕ × List ℕ). p.1) (same_some (low ∷ high ∷ t.0, t.1) (text, rest) e) in
+        let r = ends t.0 t.1 refl in
+        record { front = low ∷ high ∷ r.front; parts = ap (λ b. low ∷ high ∷ b) (r.parts ∙ ap (λ b. r.front ++ b) same) }

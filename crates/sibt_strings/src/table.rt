@@ -39,17 +39,23 @@ impl<'a> Model for StringTable<'a> {
         (texts_of (blocks_in (length s.block_bytes.now) s.block_bytes.now)) s.places.items };
 }
 
-// The place of an id's text.
+// The place of an id's text. Where each id from 1 on has one, it is the one of that number.
 fn place_at(places: &[TextPlace], id: u16) -> Option<u32>
     ensures { (low high : ℕ) → Rises low high places.now → result ≡ place_of places.now id }
 {
+    if let Some(place) = places.get(usize::from(id.saturating_sub(1))) {
+        if place.id == id {
+            return Some(place.place);
+        }
+    }
     match places.binary_search_by_key(&id, |place| place.id) {
         Ok(at) => Some(places[at].place),
         Err(_) => None,
     }
 }
 
-// Adds the places of texts, of which the first belongs to the next id. Ids past 65,535 have no name.
+// Adds the places of texts, of which the first belongs to the next id. Ids past 65,535 have no name. The end of the last
+// text is not looked for.
 fn add_texts(
     places: &mut Vec<TextPlace>,
     blocks: &[u8],
@@ -66,10 +72,12 @@ fn add_texts(
         let Some(id) = next.checked_add(i) else {
             return Ok(());
         };
+        if i > 0 {
+            let (_, behind) = split_text(rest).unwrap();
+            rest = behind;
+        }
         let place = (blocks.len() - rest.len()) as u32;
         places.push(TextPlace { id, place })?;
-        let (_, behind) = split_text(rest).unwrap();
-        rest = behind;
     }
     Ok(())
 }

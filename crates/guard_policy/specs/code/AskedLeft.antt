@@ -7,7 +7,8 @@ use Rattle.ifr_opcodes.specs.Forest.{Placed}
 use Rattle.ifr_opcodes.specs.Opcode.{number}
 use Rattle.ifr_scopes.specs.code.Lists.{guards_left}
 use Rattle.ifr_scopes.specs.code.NoSubmitsLeft.{no_submits_left}
-use Rattle.ifr_scopes.specs.code.Parts.{conditions_left, options_left}
+use Rattle.ifr_scopes.specs.code.OptionsLeft.{options_of_left}
+use Rattle.ifr_scopes.specs.code.Parts.{conditions_left}
 use Rattle.ifr_scopes.specs.declared.guards_at.GuardsAt.{GuardsAt}
 use Rattle.guard_policy.specs.laws.Support.{around, counts}
 use Rattle.guard_policy.specs.declared.around.Around.{Around}
@@ -34,7 +35,7 @@ around_one_left (Some it) = around_left it
 
 -- the options behind it
 abbrev pub options_of_value : OptionConditions → List Placed
-options_of_value it = filter (λ o. option_value o.op == it.value) (options_left it.options)
+options_of_value it = filter (λ o. option_value o.op == it.value) (options_of_left it.options)
 
 abbrev pub around_options_left : OptionConditions → List Placed
 around_options_left it = around_one_left it.around ++ flat_map around (options_of_value it)

@@ -5,11 +5,12 @@ use Rattle.ifr_opcodes.specs.declared.op.Op.{Op}
 use Rattle.ifr_scopes.specs.code.Checked.{node_in}
 use Rattle.ifr_opcodes.specs.Opcode.{number}
 use Rattle.ifr_scopes.specs.Guards.{is_guard}
-use Rattle.ifr_scopes.specs.Nodes.{nodes_of, is_form, is_store, is_statement}
-use Rattle.ifr_scopes.specs.Rules.{is_rule}
+use Rattle.ifr_opcodes.specs.Statements.{is_statement_number}
+use Rattle.ifr_scopes.specs.Nodes.{nodes_of, is_form, is_statement}
 use Rattle.ifr_scopes.specs.code.Tables.{guard_of_number, guards_from}
 use Rattle.ifr_scopes.specs.code.Views.{node_of, nodes_left}
 use Rattle.ifr_scopes.specs.code.Visits.{left}
+use Rattle.ifr_scopes.specs.declared.all_statements.AllStatements.{AllStatements}
 use Rattle.ifr_scopes.specs.declared.guard.Guard.{Guard}
 use Rattle.ifr_scopes.specs.declared.guard.GuardViews.{GuardViews}
 use Rattle.ifr_scopes.specs.declared.form_set.FormSet.{FormSet}
@@ -31,7 +32,7 @@ use Rattle.ifr_scopes.specs.declared.statement.Statements.{Statements}
 
 -- a guard, a form, a rule and a statement as nodes
 abbrev pub guard_node : Guard → Placed
-guard_node guard = node_of guard.node
+guard_node guard = node_in guard.ifr.now guard.place
 
 abbrev pub form_node : Form → Placed
 form_node form = node_of form.node
@@ -44,7 +45,7 @@ statement_node statement = node_of statement.node
 
 -- the bytes of the package of a guard, of a form and of a statement
 abbrev pub guard_package : Guard → List ℕ
-guard_package guard = guard.node.ifr.now
+guard_package guard = guard.ifr.now
 
 abbrev pub form_package : Form → List ℕ
 form_package form = form.node.ifr.now
@@ -65,10 +66,15 @@ abbrev pub forms_left : FormViews → List Placed
 forms_left it = filter is_form (nodes_left it.nodes)
 
 abbrev pub rules_left : RuleViews → List Placed
-rules_left it = filter is_rule (nodes_left it.nodes)
+rules_left it = map (node_in it.ifr.now) it.places.now
 
 abbrev pub statements_left : Statements → List Placed
 statements_left it = filter is_statement (nodes_left it.nodes)
+
+abbrev pub all_statements_left : AllStatements → List Placed
+all_statements_left it =
+    map (λ entry. node_in it.ifr.now entry.place)
+    (filter (λ entry. is_statement_number entry.code) it.entries.now)
 
 abbrev pub form_set_node : FormSet → Placed
 form_set_node form_set = node_of form_set.node
@@ -98,7 +104,7 @@ kind_op (kind.Action view) = view.op
 kind_op (kind.Ref view) = view.op
 
 abbrev pub stores_left : Varstores → List Placed
-stores_left it = filter is_store (nodes_left it.nodes)
+stores_left it = map (node_in it.ifr.now) it.places.now
 
 abbrev pub all_guards_left : GuardViews → List Placed
 all_guards_left it = map (λ guard. node_in it.ifr.now guard.place) it.guards.now

@@ -10,14 +10,15 @@ use Rattle.ifr_scopes.specs.Nodes.{nodes_of, end_of}
 use Rattle.ifr_scopes.specs.code.KeptRules.{AreKeptRules}
 use Rattle.ifr_scopes.specs.References.{has_form_id, has_question_id, has_reference_fault}
 use Rattle.ifr_scopes.specs.code.Causes.{reference_causes}
+use Rattle.ifr_scopes.specs.code.Tables.{AreFormEntries}
 use Rattle.ifr_scopes.specs.code.Views.{node_of}
 use Rattle.ifr_scopes.specs.declared.node.Node.{Node}
 use Rattle.ifr_scopes.specs.declared.references.Met.{Met}
 
--- The ids are those of the forms and of the questions among some nodes, and the rules are theirs; all ids are those of the
--- package's forms; a form that is known ends where that of its place does.
+-- The ids are those of the forms and of the questions among some nodes, and the rules are theirs; the places are those of all of
+-- the package's forms; a form that is known ends where that of its place does.
 pub record AreOf (bytes : List ℕ) (ns : List Placed) (met : Met) : Type 0 where
-  pub all : (id : ℕ) → has_number met.all id ≡ list_any (has_form_id id) (nodes_of bytes)
+  pub all : AreFormEntries (nodes_of bytes) met.all.now
   pub forms : (id : ℕ) → has_number met.forms id ≡ list_any (has_form_id id) ns
   pub questions : (id : ℕ) → has_number met.questions id ≡ list_any (has_question_id id) ns
   pub rules : AreKeptRules ns met.rules

@@ -10,7 +10,8 @@ use Rattle.ifr_opcodes.specs.Forest.{Ancestor, Placed}
 use Rattle.ifr_opcodes.specs.Opcode.{number}
 use Rattle.ifr_scopes.specs.Guards.{is_guard, guards, guards_among}
 use Rattle.ifr_scopes.specs.Kinds.{is_condition_number}
-use Rattle.ifr_scopes.specs.Nodes.{nodes_of, this_of}
+use Rattle.ifr_scopes.specs.Nodes.{nodes_of, this_of, is_store}
+use Rattle.ifr_scopes.specs.Rules.{is_rule}
 use Rattle.ifr_scopes.specs.Structure.{parent}
 use Rattle.ifr_scopes.specs.code.Checked.{or_empty, node_in, has_node, has_guard}
 use Rattle.ifr_scopes.specs.code.Ends.{expression_end}
@@ -49,6 +50,14 @@ IsNumber ns number = IfSome number (λ k. k < length (guards_among ns))
 abbrev pub AreNumbers : List Placed → List ℕ → Type 0
 AreNumbers ns numbers = All (λ k. k < length (guards_among ns)) numbers
 
+-- So many guards stand before this place, if it is told how many.
+abbrev pub AreBefore : List Placed → Option ℕ → ℕ → Type 0
+AreBefore ns told place = IfSome told (λ k. k ≡ guards_before ns place)
+
+pub AreBefore-prop : (ns : List Placed) (told : Option ℕ) (place : ℕ) → IsProp (AreBefore ns told place)
+AreBefore-prop ns None place = hlevel props
+AreBefore-prop ns (Some k) place = hlevel props
+
 pub IsNumber-prop : (ns : List Placed) (number : Option ℕ) → IsProp (IsNumber ns number)
 IsNumber-prop ns None = hlevel props
 IsNumber-prop ns (Some k) = hlevel props
@@ -65,14 +74,21 @@ inner_last numbers = option_flatten (slice_get numbers (length numbers - 1))
 -- a guard, with the number of the innermost around it
 abbrev pub guard_entry : Option ℕ → Placed → GuardEntry
 guard_entry outer n =
-    record { place = n.place; this = this_of n; outer = outer; ends = expression_end n }
+    record {
+      place = n.place;
+      code = number n.op;
+      this = this_of n;
+      outer = outer;
+      ends = expression_end n;
+    }
 
 abbrev pub guard_table : List Placed → List GuardEntry
 guard_table ns = map (λ n. guard_entry (inner_guard ns n.path) n) (guards_among ns)
 
--- A guard stands at the place in the package, in the scope of this question, and its condition ends there.
+-- A guard of this number stands at the place in the package, in the scope of this question, and its condition ends there.
 pub record IsGuardEntry (bytes : List ℕ) (guard : GuardEntry) : Type 0 where
   pub stands : has_guard bytes guard.place ≡ true
+  pub code : guard.code ≡ number (node_in bytes guard.place).op
   pub within : guard.this ≡ this_of (node_in bytes guard.place)
   pub ends : guard.ends ≡ expression_end (node_in bytes guard.place)
 
@@ -88,7 +104,8 @@ AreGuardEntries-prop bytes guards = hlevel (props, IsGuardEntry-prop)
 
 -- a form, a statement or an option, with the innermost guard around it, as long as nothing is known that locks it
 abbrev pub entry_of_node : Option ℕ → Placed → Entry
-entry_of_node guard n = record { place = n.place; guard = guard; lock = None }
+entry_of_node guard n =
+    record { place = n.place; code = number n.op; guard = guard; lock = None }
 
 abbrev pub entries_unlocked : List Placed → List Entry
 entries_unlocked ns = map (λ n. entry_of_node (inner_guard ns n.path) n) (filter is_indexed ns)
@@ -96,10 +113,48 @@ entries_unlocked ns = map (λ n. entry_of_node (inner_guard ns n.path) n) (filte
 -- the same, with the LOCKED that decides for it
 abbrev pub kept_entry : List Placed → Placed → Entry
 kept_entry ns n =
-    record { place = n.place; guard = inner_guard ns n.path; lock = lock_place ns n }
+    record {
+      place = n.place;
+      code = number n.op;
+      guard = inner_guard ns n.path;
+      lock = lock_place ns n;
+    }
 
 abbrev pub entry_table : List Placed → List Entry
 entry_table ns = map (kept_entry ns) (filter is_indexed ns)
+
+-- A form, a statement or an option of this number stands at the place in the package.
+pub record IsEntry (bytes : List ℕ) (entry : Entry) : Type 0 where
+  pub there : has_node bytes entry.place ≡ true
+  pub code : entry.code ≡ number (node_in bytes entry.place).op
+
+pub IsEntry-prop : (bytes : List ℕ) (entry : Entry) → IsProp (IsEntry bytes entry)
+IsEntry-prop bytes entry = hlevel props
+
+abbrev pub AreEntries : List ℕ → List Entry → Type 0
+AreEntries bytes entries = All (λ one. IsEntry bytes one) entries
+
+pub AreEntries-prop : (bytes : List ℕ) (entries : List Entry) → IsProp (AreEntries bytes entries)
+AreEntries-prop bytes entries = hlevel (props, IsEntry-prop)
+
+-- the places of the nodes of a kind
+abbrev pub places_of : (Placed → Bool) → List Placed → List ℕ
+places_of is ns = map (λ n. n.place) (filter is ns)
+
+-- A node of a kind stands at the place in the package, and at all of these.
+pub record IsOfKind (is : Placed → Bool) (bytes : List ℕ) (place : ℕ) : Type 0 where
+  pub there : has_node bytes place ≡ true
+  pub kind : is (node_in bytes place) ≡ true
+
+pub IsOfKind-prop : (is : Placed → Bool) (bytes : List ℕ) (place : ℕ)
+    → IsProp (IsOfKind is bytes place)
+IsOfKind-prop is bytes place = hlevel props
+
+abbrev pub AreOfKind : (Placed → Bool) → List ℕ → List ℕ → Type 0
+AreOfKind is bytes places = All (λ place. IsOfKind is bytes place) places
+
+pub AreOfKind-prop : (is : Placed → Bool) (bytes places : List ℕ) → IsProp (AreOfKind is bytes places)
+AreOfKind-prop is bytes places = hlevel (props, IsOfKind-prop)
 
 -- the number of the innermost guard around the form, statement or option at a place
 abbrev pub innermost_at : List Placed → ℕ → Option ℕ
@@ -160,6 +215,8 @@ pub record IsIndexOf (ns : List Placed) (index : Index) : Type 0 where
   pub guards : index.guards.items ≡ guard_table ns
   pub conditions : index.conditions.items ≡ condition_table ns
   pub forms : AreFormEntries ns index.forms
+  pub stores : index.stores.items ≡ places_of is_store ns
+  pub rules : index.rules.items ≡ places_of is_rule ns
 
 option_prop : (a b : Option ℕ) → IsProp (a ≡ b)
 option_prop a b = hlevel props

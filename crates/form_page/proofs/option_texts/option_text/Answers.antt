@@ -5,7 +5,8 @@ use Rattle.ifr_opcodes.specs.Fields.{option_value}
 use Rattle.ifr_opcodes.specs.Forest.{Placed}
 use Rattle.ifr_scopes.specs.code.Lists.{statement_node}
 use Rattle.ifr_scopes.specs.Nodes.{options}
-use Rattle.ifr_scopes.specs.code.Parts.{option_node, options_left}
+use Rattle.ifr_scopes.specs.code.OptionsLeft.{options_of_left}
+use Rattle.ifr_scopes.specs.code.Parts.{option_node}
 use Rattle.guard_policy.specs.Policy.{hidden}
 use Rattle.guard_policy.specs.code.Views.{bytes_of}
 use Rattle.form_page.specs.code.PageViews.{texts_of, world_of}
@@ -15,7 +16,7 @@ use Rattle.form_page.proofs.option_texts.option_text.Goals as goal
 
 pub loop-option-init : goal.loop-option-init
 loop-option-init g c =
-    rw c.options-options.ensures (refl, options_are_nodes (bytes_of c.args.page.policy) (statement_node c.args.statement) c.args.page.policy.accepted.checked.spelled c.requires)
+    rw c.options_of-options.ensures (refl, options_are_nodes (bytes_of c.args.page.policy) (statement_node c.args.statement) c.args.page.policy.accepted.checked.spelled c.requires)
 
 pub is_choice-requires : goal.is_choice-requires
 is_choice-requires g c = first_of _ _ _ _ c.in-Some.ensures.steps c.loop-option.invariant.1
@@ -26,7 +27,7 @@ returns-then-is_choice g c =
     let texts = texts_of c.args.page in
     let o = option_node c.in-Some.option in
     let value = c.args.value in
-    let rest = option_with w (options_left c.next.new.self) value in
+    let rest = option_with w (options_of_left c.next.new.self) value in
     let found = cond-true ((option_value o.op == value) && is_none (hidden w o)) (Some o) rest (sym c.is_choice.ensures ∙ c.if-is_choice.true) in
     let first : option_with w (options (statement_node c.args.statement)) value ≡ Some o =
     sym c.loop-option.invariant.0 ∙ ap (λ (l : List Placed). option_with w l value) c.in-Some.ensures.steps ∙ found in
@@ -37,5 +38,5 @@ loop-option-preserved g c =
     let w = world_of c.args.page in
     let o = option_node c.in-Some.option in
     let value = c.args.value in
-    let passed = cond-false ((option_value o.op == value) && is_none (hidden w o)) (Some o) (option_with w (options_left c.next.new.self) value) (sym c.is_choice.ensures ∙ c.if-is_choice.false) in
+    let passed = cond-false ((option_value o.op == value) && is_none (hidden w o)) (Some o) (option_with w (options_of_left c.next.new.self) value) (sym c.is_choice.ensures ∙ c.if-is_choice.false) in
     (sym passed ∙ sym (ap (λ (l : List Placed). option_with w l value) c.in-Some.ensures.steps) ∙ c.loop-option.invariant.0, rest_of _ _ _ _ c.in-Some.ensures.steps c.loop-option.invariant.1)

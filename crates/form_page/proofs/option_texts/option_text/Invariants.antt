@@ -2,7 +2,7 @@ use Rattle.std.proofs.Common.{◌≡◌, length}
 use Rattle.ifr_scopes.specs.code.Checked.{AreNodesOf}
 use Rattle.ifr_scopes.specs.code.Lists.{statement_node}
 use Rattle.ifr_scopes.specs.Nodes.{options}
-use Rattle.ifr_scopes.specs.code.Parts.{options_left}
+use Rattle.ifr_scopes.specs.code.OptionsLeft.{options_of_left}
 use Rattle.guard_policy.specs.code.Views.{bytes_of, world}
 use Rattle.form_page.specs.RowValues.{option_with}
 use Rattle.form_page.proofs.option_texts.option_text.Given as goal
@@ -11,8 +11,8 @@ use Rattle.form_page.proofs.option_texts.option_text.Given as goal
 abbrev pub invariant-loop-option : goal.invariant-loop-option
 invariant-loop-option g l =
     let w = world l.page.policy l.page.stores.now in
-    (option_with w (options_left l.options) l.value ≡ option_with w (options (statement_node l.statement)) l.value)
-    × AreNodesOf (bytes_of l.page.policy) (options_left l.options)
+    (option_with w (options_of_left l.options) l.value ≡ option_with w (options (statement_node l.statement)) l.value)
+    × AreNodesOf (bytes_of l.page.policy) (options_of_left l.options)
 
 abbrev pub decreases-loop-option : goal.decreases-loop-option
-decreases-loop-option g l = length (options_left l.options)
+decreases-loop-option g l = length (options_of_left l.options)

@@ -1,10 +1,14 @@
-use Rattle.std.proofs.Common.{ℕ, Bool}
-use Rattle.hii_bytes.specs.code.NumberSets.{has_number}
+use Rattle.std.proofs.Common.{sym, ◌∙◌}
+use Rattle.ifr_scopes.specs.Nodes.{nodes_of}
+use Rattle.hii_varstore.specs.StoreNodes.{layout_of}
+use Rattle.hii_questions.specs.Faults.{is_known}
 use Rattle.hii_questions.specs.code.Views.{question_view}
-use Rattle.hii_questions.proofs.FaultLemmas.{question_told}
+use Rattle.hii_questions.proofs.ReadLemmas.{options_told, outside_is}
 use Rattle.hii_questions.proofs.check.check_question.Goals as goal
 
-pub returns-in-None : goal.returns-in-None
-returns-in-None c =
-    let known : ℕ → Bool = λ id. has_number c.args.ids.now id in
-    question_told c.args.layout.now known (question_view c.args.question) c.check_options.result c.in-None.ensures c.check_options.ensures
+pub returns-clause-told : goal.returns-clause-told
+returns-clause-told c =
+    let ns = nodes_of c.args.forms.now in
+    let q = question_view c.args.question in
+    options_told (layout_of ns) (is_known ns) q c.check_options.result (sym c.in_ok-lacks_store.ensures.told ∙ c.if-branch.false)
+    (sym (outside_is (layout_of ns) q c.args.size c.requires.sized c.requires.asked) ∙ sym c.is_outside.ensures ∙ c.if-is_outside.false) c.check_options.ensures

@@ -19,7 +19,7 @@ returns-then-meets_again-clause-refused c =
     let n = store_node c.in-Some.store in
     let met = subst (λ (ns : List Placed). HasMet (stores_left c.args.stores) ns c.loop-store.ids c.loop-store.buffers.items) c.in-Some.ensures.steps c.loop-store.invariant.met in
     let taken : is_taken (store_id n.op) met.before ≡ true = ap (λ id. is_taken id met.before) (sym c.id.ensures) ∙ sym (c.meets_again.ensures.told met.before met.known) ∙ c.if-meets_again.true in
-    let first = refused_among c.args.stores _ (met_again _ _ n _ _ met taken) in
+    let first = refused_among (stores_left c.args.stores) _ c.requires (met_again _ _ n _ _ met taken) in
     rw (c.at.ensures, c.from.ensures, c.place.ensures) (inr first)
 
 pub loop-store-preserved-in-Continue-branch-2 : goal.loop-store-preserved-in-Continue-branch-2

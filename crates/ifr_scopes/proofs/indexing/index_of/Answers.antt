@@ -13,13 +13,13 @@ use Rattle.ifr_scopes.proofs.indexing.index_of.Goals as goal
 
 pub loop-met-init : goal.loop-met-init
 loop-met-init c = record {
-  made = made_start c.args.ifr.now _ _ _ _ _ _ _ c.requires.spelled c.new-entries.ensures.items c.new-guards.ensures.items c.new-conditions.ensures.items c.new-forms.ensures.items (λ scope. search rules) c.new-inner.ensures c.over-nodes.ensures.all;
+  made = made_start c.args.ifr.now _ _ _ _ _ _ _ _ _ c.requires.spelled c.new-entries.ensures.items c.new-guards.ensures.items c.new-conditions.ensures.items c.new-forms.ensures.items c.new-stores.ensures.items c.new-rules.ensures.items (λ scope. search rules) c.new-inner.ensures c.over-nodes.ensures.all;
   kept = c.over-nodes.ensures.kept;
 }
 
 pub overflow_cast-len : goal.overflow_cast-len
 overflow_cast-len c =
-    let few = few_made c.args.ifr.now _ c.loop-met.guards.items _ _ _ _ _ c.requires c.loop-met.invariant.made in
+    let few = few_made c.args.ifr.now _ c.loop-met.guards.items _ _ _ _ _ _ _ c.requires c.loop-met.invariant.made in
     let count : c.len.result ≡ length c.loop-met.guards.items = search rules in
     omega (arith, few, count)
 
@@ -30,25 +30,27 @@ loop-met-preserved c =
     let n = node_of c.in-Some.met.node in
     let old = c.loop-met in
     let found = get nat_cmp c.loop-met.locks in
-    let now = subst (Made ns old.entries.items old.guards.items old.conditions.items old.forms.items found old.inner.items) c.in-Some.ensures.some.0 old.invariant.made in
+    let now = subst (Made ns old.entries.items old.guards.items old.conditions.items old.forms.items old.stores.items old.rules.items found old.inner.items) c.in-Some.ensures.some.0 old.invariant.made in
     let around = c.in-Some.ensures.some.1 in
     let count : c.len.result ≡ length c.loop-met.guards.items = search rules in
     record {
       made =
-          made_next ns old.entries.items c.add_entry.new.entries.items old.guards.items c.add_guard.new.guards.items old.conditions.items c.add_condition.new.conditions.items old.forms.items c.add_form.new.forms.items
+          made_next ns old.entries.items c.add_entry.new.entries.items old.guards.items c.add_guard.new.guards.items old.conditions.items c.add_condition.new.conditions.items old.forms.items c.add_form.new.forms.items old.stores.items c.add_store.new.stores.items old.rules.items c.add_rule.new.rules.items
           found (get nat_cmp c.add_lock.new.locks) old.inner.items c.descend-guard.new.inner.items n (left c.step.new.self.walk) c.in-Some.met.depth c.len.result c.descend-guard.result
           (nodes_rise bytes c.requires.spelled) now (path_depth _ _ _ n around.within around.path) count c.descend-guard.ensures.around c.descend-guard.ensures.inner
-          c.in_ok-add_entry.ensures c.in_ok-add_guard.ensures c.in_ok-add_condition.ensures c.in_ok-add_form.ensures c.in_ok-add_lock.ensures;
+          c.in_ok-add_entry.ensures c.in_ok-add_guard.ensures c.in_ok-add_condition.ensures c.in_ok-add_form.ensures c.in_ok-add_store.ensures c.in_ok-add_rule.ensures c.in_ok-add_lock.ensures;
       kept = c.step.ensures.kept ∙ old.invariant.kept;
     }
 
 pub returns : goal.returns
 returns c =
     let ns = nodes_of c.args.ifr.now in
-    let all = made_all ns _ _ _ _ (get nat_cmp c.loop-met.locks) _ (left c.loop-met.nodes.walk) c.loop-met.invariant.made c.in_default.ensures.none.0 in
+    let all = made_all ns _ _ _ _ _ _ (get nat_cmp c.loop-met.locks) _ (left c.loop-met.nodes.walk) c.loop-met.invariant.made c.in_default.ensures.none.0 in
     record {
       entries = c.lock_entries.ensures;
       guards = all.guards_are;
       conditions = all.conditions_are;
       forms = λ id. c.in_ok-of.ensures id ∙ ap (λ (l : List IdEntry). number_with l id) all.forms_are ∙ place_with ns id;
+      stores = all.stores_are;
+      rules = all.rules_are;
     }

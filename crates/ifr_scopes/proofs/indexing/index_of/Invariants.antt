@@ -8,7 +8,7 @@ use Rattle.ifr_scopes.proofs.indexing.index_of.Given as goal
 
 abbrev pub invariant-loop-met : goal.invariant-loop-met
 invariant-loop-met l = record {
-  made : Made (nodes_of l.ifr) l.entries.items l.guards.items l.conditions.items l.forms.items (get nat_cmp l.locks) l.inner.items (left l.nodes.walk);
+  made : Made (nodes_of l.ifr) l.entries.items l.guards.items l.conditions.items l.forms.items l.stores.items l.rules.items (get nat_cmp l.locks) l.inner.items (left l.nodes.walk);
   kept : l.nodes.walk.bytes.now ≡ l.ifr;
 }
 

@@ -25,11 +25,11 @@ loop-met-preserved-then-is_indexed c =
     let now = subst (Locking ns c.loop-met.entries.items c.loop-met.next) c.in-Some.ensures.some.0 c.loop-met.invariant.locking in
     let indexed : is_indexed n ≡ true = search rules in
     let next = is_next ns c.loop-met.entries.items c.loop-met.next n rest indexed now in
-    let entry : Entry = record { place = c.index-entry.result.now.place; guard = c.index-entry.result.now.guard; lock = c.first_along.result } in
+    let entry : Entry = record { place = c.index-entry.result.now.place; code = c.index-entry.result.now.code; guard = c.index-entry.result.now.guard; lock = c.first_along.result } in
     let was = c.index-entry.ensures ∙ next.is _ in
     let lock = c.first_along.ensures ∙ ap (first_some found) (c.as_slice.ensures.value ∙ c.chain-places.ensures) in
     record {
-      locking = locking_one ns c.loop-met.entries.items c.loop-met.next n rest found entry indexed now c.requires.found (ap (λ (e : Entry). e.place) was) (ap (λ (e : Entry). e.guard) was) lock;
+      locking = locking_one ns c.loop-met.entries.items c.loop-met.next n rest found entry indexed now c.requires.found (ap (λ (e : Entry). e.place) was) (ap (λ (e : Entry). e.code) was) (ap (λ (e : Entry). e.guard) was) lock;
       kept = c.step.ensures.kept ∙ c.loop-met.invariant.kept;
     }
 

@@ -15,14 +15,14 @@ use Rattle.ifr_scopes.proofs.references.check_references.Goals as goal
 use Rattle.ifr_scopes.proofs.references.check_references.Goals.{After-meet}
 
 pub returns-then-not-has_form-clause-refused : goal.returns-then-not-has_form-clause-refused
-returns-then-not-has_form-clause-refused c = rw c.at.ensures (inr (no_form_is_least (tree_of c.args.ifr.now) c.requires.spelled.are_nodes (sym c.has_form.ensures ∙ c.if-not-has_form.true)))
+returns-then-not-has_form-clause-refused c = rw c.at.ensures (inr (no_form_is_least (tree_of c.args.ifr.now) c.requires.checked.spelled.are_nodes (sym c.has_form.ensures ∙ c.if-not-has_form.true)))
 
 pub loop-next-init : goal.loop-next-init
 loop-next-init c = record {
   has_met = record {
     before = [];
     split = c.over-nodes.ensures.all;
-    known = c.in_ok-met.ensures c.args.ifr.now c.in_ok-all.ensures;
+    known = c.in_ok-met.ensures c.args.ifr.now c.requires.forms;
     same = ap (first_repeat (nodes_of c.args.ifr.now) []) c.over-nodes.ensures.all;
   };
   kept = c.over-nodes.ensures.kept;
@@ -67,7 +67,7 @@ returns-in-Some-2-clause-refused c =
     let rest = left c.step.new.self.walk in
     let fault : ℕ → Fault = λ place. record { cause = c.in-Some-2.cause; place = place } in
     let told = c.in_ok-cause.ensures.told so_far.before rest (split a ∙ ap nodes_of (sym (of_package a))) (known a) ∙ ap (λ (b : List ℕ). first_cause (has_reference_fault (nodes_of b)) (record { before = so_far.before; node = node }) reference_causes) (of_package a) in
-    inr (refused_among (tree_of c.args.ifr.now) _ c.requires.spelled.are_nodes (sym c.has_form.ensures ∙ c.if-not-has_form.false)
+    inr (refused_among (tree_of c.args.ifr.now) _ c.requires.checked.spelled.are_nodes (sym c.has_form.ensures ∙ c.if-not-has_form.false)
     (sym so_far.same ∙ ap (first_repeat (nodes_of c.args.ifr.now) so_far.before) c.in-Some.ensures.some.0
     ∙ ap (λ (o : Option Cause). fault_or o node.place (first_repeat (nodes_of c.args.ifr.now) (so_far.before ++ node ∷ []) rest)) (sym told ∙ c.in-Some-2.is)
     ∙ ap (λ (p : ℕ). Some (fault p)) (sym c.op.ensures.place) ∙ ap (λ (f : Fault). Some f) (sym c.fault.ensures)))

@@ -1,9 +1,10 @@
-use Rattle.std.proofs.Common.{◌≡◌, ℕ, sym, ap, subst, ◌∙◌, arith}
+use Rattle.std.proofs.Common.{◌≡◌, ℕ, map, sym, ap, subst, ◌∙◌, arith}
 use Rattle.std.proofs.lemmas.Bool.{false≢true}
 use Rattle.std.proofs.lemmas.Result.{err_from_is_err_and}
 use Rattle.hii_bytes.specs.Faults.{IsLeast}
 use Rattle.hii_bytes.specs.declared.cause.Fault.{Fault}
 use Rattle.ifr_opcodes.specs.Reading.{tree_of}
+use Rattle.ifr_opcodes.specs.code.Marks.{ancestor_at}
 use Rattle.ifr_scopes.specs.Nodes.{nodes_of}
 use Rattle.ifr_scopes.specs.Structure.{first_number, is_expression, IsStructureFault}
 use Rattle.ifr_scopes.specs.code.Causes.{least_cause}
@@ -25,7 +26,7 @@ told c = sym (c.cause_of.ensures (met c).node.children (ap first_number (met c).
 
 -- whether its expression is to be checked
 asked : (c : After-is_expression) (m : IsMet c.args.bytes.now c.around-around.result.now c.in-Some.visit c.step.new.self) → is_expression m.node ≡ c.is_expression.result
-asked c m = sym (c.is_expression.ensures m.node.children ∙ ap is_expression m.seen)
+asked c m = sym (c.is_expression.ensures (map (ancestor_at c.args.bytes.now) c.around-around.result.now) m.node.children c.innermost-parent.ensures ∙ ap is_expression m.seen)
 
 -- and where that stands
 stood : (c : After-end_of) (m : IsMet c.args.bytes.now c.around-around.result.now c.in-Some.visit c.step.new.self) → is_expression m.node ≡ c.is_expression.result → StandsFrom c.args.bytes.now m.node c.in-Some.visit.op.place c.end_of.result

@@ -1,4 +1,4 @@
-use Rattle.std.proofs.Common.{◌≡◌, ◌+◌, ◌||◌, Bool, true, false, take, refl, sym, ap, ◌∙◌, arith}
+use Rattle.std.proofs.Common.{◌≡◌, ◌+◌, ◌||◌, Bool, take, refl, sym, ap, ◌∙◌, arith}
 use Rattle.kept_conditions.specs.Touching.{difference}
 use Rattle.kept_conditions.specs.code.Readings.{at_place, no_reading, is_read, reads}
 use Rattle.kept_conditions.proofs.GoesLemmas.{any_more, none_met, one_more, same_ones}

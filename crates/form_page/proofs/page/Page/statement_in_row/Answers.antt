@@ -3,7 +3,8 @@ use Rattle.std.specs.List.{slice_get}
 use Rattle.std.proofs.lemmas.Bool.{cond-false, ne_eqb}
 use Rattle.std.proofs.lemmas.Iterator.Consumers.{YieldsList-from_first, nth_from_yields_List}
 use Rattle.ifr_scopes.specs.code.Checked.{IsNodeOf}
-use Rattle.ifr_scopes.specs.code.Lists.{form_node, statement_node, statements_left}
+use Rattle.ifr_scopes.specs.code.Lists.{form_node, statement_node}
+use Rattle.ifr_scopes.specs.code.StatementsLeft.{statements_of_left}
 use Rattle.guard_policy.specs.code.Views.{bytes_of}
 use Rattle.form_page.specs.Pages.{listed_statements}
 use Rattle.form_page.specs.code.ListedViews.{listed_left}
@@ -27,6 +28,6 @@ returns-clause-node g c =
     let it = c.listed-listed.result in
     let road = YieldsList-from_first statement_node listed_left (listed_left it) refl in
     let found = nth_from_yields_List c.nth.result c.nth.new.self c.in_ok-above.above c.nth.ensures.ran road in
-    let nodes = listed_nodes (bytes_of it.page.policy) (world_of it.page) (statements_left it.statements) it.together in
+    let nodes = listed_nodes (bytes_of it.page.policy) (world_of it.page) (statements_of_left it.statements) it.together in
     subst (λ (page : Page _ _). IfSome c.nth.result (λ statement. IsNodeOf (bytes_of page.policy) (statement_node statement))) c.listed-listed.ensures.page
     (node_at_index statement_node (bytes_of it.page.policy) (listed_left it) c.in_ok-above.above c.nth.result found nodes)

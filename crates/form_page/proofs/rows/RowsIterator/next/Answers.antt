@@ -4,7 +4,7 @@ use Rattle.ifr_scopes.specs.code.Lists.{statement_node}
 use Rattle.form_page.specs.Pages.{row_of, rows_from}
 use Rattle.form_page.specs.code.ListedViews.{all_left, listed_left}
 use Rattle.form_page.specs.code.PageViews.{texts_of, world_of}
-use Rattle.form_page.specs.code.Views.{row_seen}
+use Rattle.form_page.specs.code.Views.{row_seen, rows_left}
 use Rattle.form_page.specs.declared.page.Page.{Page}
 use Rattle.form_page.proofs.StatementLemmas.{IsFirstRow, first_row, listed_among, no_row}
 use Rattle.form_page.proofs.rows.RowsIterator.next.Goals as goal
@@ -38,8 +38,11 @@ invariant_of-self g c =
     let count : length (listed_left it.listed) ≡ length (statement_node c.in-Some.statement ∷ listed_left new) = ap length (old_left ∙ its.listed ∙ ap (λ (l : List Placed). statement_node c.in-Some.statement ∷ l) (sym new_left)) in
     record { few = omega (arith, it.few, count) }
 
-pub returns-in-Some-row_of-clause-steps : goal.returns-in-Some-row_of-clause-steps
-returns-in-Some-row_of-clause-steps g c =
+-- the row that is given, and those behind it
+given : (g : _) (c : In-Some-row_of g)
+    → rows_left c.args.self.now
+    ≡ row_seen c.in-Some-row_of.row ∷ rows_from (texts_of c.take_first.new.self.page) (world_of c.take_first.new.self.page) c.take_first.new.self.page.stores.now (c.loop-statement.self.number + 1) (listed_left c.take_first.new.self)
+given g c =
     let it = c.loop-statement.self in
     let fn = c.args.self.now in
     let page = fn.listed.page in
@@ -47,11 +50,19 @@ returns-in-Some-row_of-clause-steps g c =
     let same = c.loop-statement.invariant.same in
     let rows = rows_from (texts_of page) (world_of page) page.stores.now in
     let old_left = ap (λ (page : Page _ _). listed_among (world_of page) (all_left it.listed)) same in
-    let its = first g (goal.at.returns-in-Some-row_of-clause-steps g c).In-Some-row_of in
+    let its = first g c in
     ap (λ (k : ℕ). rows k (listed_left fn.listed)) (sym c.loop-statement.invariant.number)
     ∙ ap (rows it.number) (sym c.loop-statement.invariant.left ∙ old_left)
     ∙ its.rows
     ∙ ap (λ (page : Page _ _). row_seen c.in-Some-row_of.row ∷ rows_from (texts_of page) (world_of page) page.stores.now (it.number + 1) (listed_among (world_of page) (all_left new))) (sym (c.in-Some.ensures.page ∙ same))
+
+pub returns-in-Some-row_of-clause-steps : goal.returns-in-Some-row_of-clause-steps
+returns-in-Some-row_of-clause-steps g c = given g (goal.at.returns-in-Some-row_of-clause-steps g c).In-Some-row_of
+
+pub returns-in-Some-row_of-clause-goes : goal.returns-in-Some-row_of-clause-goes
+returns-in-Some-row_of-clause-goes g c =
+    let e = given g (goal.at.returns-in-Some-row_of-clause-goes g c).In-Some-row_of in
+    record { on = λ _. (tt, tt, omega (arith, ap length e)); keeps = tt; rests = λ _. tt }
 
 -- no row of a hidden statement
 passed : (g : _) (c : In_default-row_of g) → listed_left c.take_first.new.self ≡ listed_left c.loop-statement.self.listed

@@ -1,5 +1,5 @@
 use Rattle.std.proofs.Common.{◌≡◌, length}
-use Rattle.ifr_scopes.specs.code.Lists.{statements_left}
+use Rattle.ifr_scopes.specs.code.StatementsLeft.{statements_of_left}
 use Rattle.form_page.specs.code.ListedViews.{listed_left}
 use Rattle.form_page.proofs.rows.RowsIterator.next.Given as goal
 
@@ -14,4 +14,4 @@ invariant-loop-statement g l =
     }
 
 abbrev pub decreases-loop-statement : goal.decreases-loop-statement
-decreases-loop-statement g l = length (statements_left l.self.listed.statements)
+decreases-loop-statement g l = length (statements_of_left l.self.listed.statements)

@@ -1,5 +1,5 @@
 use Rattle.std.proofs.Common.{◌≡◌, length}
-use Rattle.ifr_scopes.specs.code.Parts.{options_left}
+use Rattle.ifr_scopes.specs.code.OptionsLeft.{options_of_left}
 use Rattle.guard_policy.specs.code.AskedLeft.{options_of_value}
 use Rattle.guard_policy.proofs.option_conditions.OptionConditions.next_option.Given as goal
 
@@ -11,4 +11,4 @@ invariant-loop-option l = record {
 }
 
 abbrev pub decreases-loop-option : goal.decreases-loop-option
-decreases-loop-option l = length (options_left l.self.options)
+decreases-loop-option l = length (options_of_left l.self.options)

@@ -5,7 +5,7 @@ use Rattle.ifr_opcodes.specs.Fields.{option_value}
 use Rattle.ifr_opcodes.specs.Forest.{Placed}
 use Rattle.ifr_scopes.specs.code.Checked.{AreNodesOf}
 use Rattle.ifr_scopes.specs.Nodes.{options}
-use Rattle.ifr_scopes.specs.code.Parts.{options_left}
+use Rattle.ifr_scopes.specs.code.OptionsLeft.{options_of_left}
 use Rattle.hii_questions.specs.code.Views.{question_node}
 use Rattle.guard_policy.specs.laws.Support.{around}
 use Rattle.guard_policy.proofs.OptionLemmas.{options_are_nodes}
@@ -14,11 +14,11 @@ use Rattle.guard_policy.proofs.option_conditions.OptionConditions.of.Goals as go
 pub invariant_of-result : goal.invariant_of-result
 invariant_of-result c =
     let q = question_node c.args.question in
-    let all : options_left c.options-options.result ≡ options q = c.options-options.ensures ∙ ap options c.statement.ensures in
+    let all : options_of_left c.options_of-options.result ≡ options q = c.options_of-options.ensures ∙ ap options c.statement.ensures in
     record { nodes = subst (AreNodesOf c.args.forms.now) (sym all) (options_are_nodes c.args.forms.now q c.bytes.ensures.accepted.checked.spelled c.requires) }
 
 pub returns : goal.returns
 returns c =
     let q = question_node c.args.question in
-    let all : options_left c.options-options.result ≡ options q = c.options-options.ensures ∙ ap options c.statement.ensures in
+    let all : options_of_left c.options_of-options.result ≡ options q = c.options_of-options.ensures ∙ ap options c.statement.ensures in
     ap (λ (os : List Placed). flat_map around (filter (λ o. option_value o.op == c.args.value) os)) all

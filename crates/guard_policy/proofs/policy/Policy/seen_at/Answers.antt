@@ -13,12 +13,12 @@ pub returns-in-Some : goal.returns-in-Some
 returns-in-Some g c = λ n node indexed at.
     let policy = c.args.self.now in
     let w = world_by policy (g.V.Verdicts.met c.args.verdicts.now) in
-    let there = guards_there policy.forms.now n c.args.place _ policy.accepted.checked.spelled node indexed at c.around.ensures.guards in
+    let there = guards_there policy.forms.now n c.args.place _ policy.accepted.checked.spelled node indexed at c.around_at.ensures.guards in
     ap (λ (d : Denial). Err d) c.hiding.ensures ∙ ap (λ (o : Option Placed). unless (option_map hiding o)) (c.in-Some.ensures ∙ ap (find (hides w)) there)
 
 pub returns-in-None : goal.returns-in-None
 returns-in-None g c = λ n node indexed at.
     let policy = c.args.self.now in
     let w = world_by policy (g.V.Verdicts.met c.args.verdicts.now) in
-    let there = guards_there policy.forms.now n c.args.place _ policy.accepted.checked.spelled node indexed at c.around.ensures.guards in
+    let there = guards_there policy.forms.now n c.args.place _ policy.accepted.checked.spelled node indexed at c.around_at.ensures.guards in
     ap (λ (o : Option Placed). unless (option_map hiding o)) (c.in-None.ensures ∙ ap (find (hides w)) there)

@@ -13,6 +13,6 @@ returns g c = λ n node indexed at.
     let policy = c.args.self.now in
     let w = world_by policy (g.V.Verdicts.met c.args.verdicts.now) in
     let spelled = policy.accepted.checked.spelled in
-    let gs = guards_there policy.forms.now n c.args.place _ spelled node indexed at c.around.ensures.guards in
-    let lock = lock_there policy.forms.now n c.args.place _ spelled node indexed at c.around.ensures.lock in
-    c.unless_covered.ensures ∙ ap (λ (its : List Placed). unless (covered_by w its (around_lock c.around.result))) gs ∙ ap (λ (o : Option Placed). unless (covered_by w (guards n) o)) lock
+    let gs = guards_there policy.forms.now n c.args.place _ spelled node indexed at c.around_at.ensures.guards in
+    let lock = lock_there policy.forms.now n c.args.place _ spelled node indexed at c.around_at.ensures.lock in
+    c.unless_covered.ensures ∙ ap (λ (its : List Placed). unless (covered_by w its (around_lock c.around_at.result))) gs ∙ ap (λ (o : Option Placed). unless (covered_by w (guards n) o)) lock

@@ -42,7 +42,7 @@ returns-clause-met c = λ _ before rest split known.
     let kept = subst (AreKeptRules before) (sym c.form_end-form_ends.ensures.stays.3) known.rules in
     let around = form_around view.ifr.now n c.args.form view.checked (is_node view.ifr.now view.op.place _ view.checked view.stands) c.requires.form in
     record {
-      all = λ id. rw c.form_end-form_ends.ensures.stays.0 (known.all id);
+      all = rw c.form_end-form_ends.ensures.stays.0 known.all;
       forms = λ id. rw c.form_end-form_ends.ensures.stays.1 (known.forms id ∙ sym (no_form_more before n id c.requires.rule));
       questions = λ id. rw c.form_end-form_ends.ensures.stays.2 (known.questions id ∙ sym (no_question_more before n id c.requires.rule));
       rules = c.in_ok-add.ensures before kept (c.form_end-form_ends.ensures.end ∙ around.ends) (its_size before n c.in-Some.size told);

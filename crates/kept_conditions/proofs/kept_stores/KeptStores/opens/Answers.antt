@@ -1,5 +1,4 @@
-use Rattle.std.proofs.Common.{refl, subst}
-use Rattle.ifr_scopes.specs.Accepted.{IsAccepted}
+use Rattle.std.proofs.Common.{refl}
 use Rattle.guard_policy.specs.declared.support.Decision.TheVariants.{Opens}
 use Rattle.kept_conditions.proofs.TellsLemmas.{kept_tells}
 use Rattle.kept_conditions.proofs.kept_stores.KeptStores.opens.Goals as goal
@@ -8,4 +7,4 @@ pub returns : goal.returns
 returns c =
     c.opens_by.ensures c.args.self.now.stores
     (kept_tells c.args.policy c.kept.result.now c.args.self.now.ifr c.args.self.now.stores (Opens c.args.form)
-    (subst IsAccepted c.forms.ensures c.bytes.ensures.accepted) c.requires.package c.kept.ensures c.requires.node refl)
+    c.args.policy.accepted c.requires.package c.kept.ensures c.requires.node refl)

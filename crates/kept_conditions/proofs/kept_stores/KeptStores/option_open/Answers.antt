@@ -1,5 +1,4 @@
-use Rattle.std.proofs.Common.{refl, subst}
-use Rattle.ifr_scopes.specs.Accepted.{IsAccepted}
+use Rattle.std.proofs.Common.{refl}
 use Rattle.guard_policy.specs.declared.support.Decision.TheVariants.{OptionOpen}
 use Rattle.kept_conditions.proofs.TellsLemmas.{kept_tells}
 use Rattle.kept_conditions.proofs.kept_stores.KeptStores.option_open.Goals as goal
@@ -8,4 +7,4 @@ pub returns : goal.returns
 returns c =
     c.option_open_by.ensures c.args.self.now.stores
     (kept_tells c.args.policy c.kept.result.now c.args.self.now.ifr c.args.self.now.stores (OptionOpen c.args.question c.args.value)
-    (subst IsAccepted c.forms.ensures c.bytes.ensures.accepted) c.requires.package c.kept.ensures c.requires.node refl)
+    c.args.policy.accepted c.requires.package c.kept.ensures c.requires.node refl)

@@ -1,0 +1,22 @@
+use Rattle.std.proofs.Common.{◌≡◌, ℕ, List, map, filter, sym, ap, subst, ◌∙◌}
+use Rattle.ifr_scopes.specs.Nodes.{nodes_of}
+use Rattle.ifr_scopes.specs.Rules.{is_rule}
+use Rattle.ifr_scopes.specs.code.Checked.{node_in}
+use Rattle.ifr_scopes.specs.code.Tables.{AreOfKind}
+use Rattle.ifr_scopes.proofs.KindLemmas.{all_of_kind, kind_again}
+use Rattle.ifr_scopes.proofs.forms.Forms.rules.Goals as goal
+
+pub invariant_of-result : goal.invariant_of-result
+invariant_of-result c =
+    let bytes = c.self.inside.ifr.now in
+    record {
+      checked = c.self.invariant.accepted.checked;
+      stand = subst (AreOfKind is_rule bytes) (sym (c.deref.ensures.value ∙ c.self.invariant.index.rules)) (all_of_kind is_rule bytes c.self.invariant.accepted.checked.spelled);
+    }
+
+pub returns : goal.returns
+returns c =
+    let its = c.deref.result.now in
+    let bytes = c.self.inside.ifr.now in
+    let again = ap (map (node_in bytes)) (c.deref.ensures.value ∙ c.self.invariant.index.rules) ∙ kind_again is_rule bytes c.self.invariant.accepted.checked.spelled in
+    subst (λ (b : List ℕ). map (node_in bytes) its ≡ filter is_rule (nodes_of b)) c.self.view_is again
