@@ -1,6 +1,6 @@
 -- Blocks of configuration texts that set questions.
 use Rattle.std.proofs.Common.{◌≡◌, ℕ, true, false, List, [], ◌∷◌, map, Option, Some, None, Result, Ok, Err, refl, sym, ap, subst, ◌∙◌, arith, inl, inr}
-use Rattle.std.specs.Prelude.{◌==◌, ◌&&◌, Contains, filter, is_some, ⊤}
+use Rattle.std.specs.Prelude.{◌==◌, ◌&&◌, Contains, filter, is_some, IfOk, ⊤}
 use Rattle.std.specs.List.{AllByRecursion}
 use Rattle.std.specs.Option.{option_or}
 use Rattle.std.proofs.lemmas.Bool.{cases_Bool, cond-true, cond-false, and_parts, eqb-true}
@@ -8,6 +8,7 @@ use Rattle.ifr_opcodes.specs.Forest.{Placed}
 use Rattle.ifr_opcodes.specs.Reading.{tree_of}
 use Rattle.ifr_scopes.specs.Accepted.{IsAccepted}
 use Rattle.ifr_scopes.specs.Nodes.{nodes_of, is_question}
+use Rattle.ifr_scopes.specs.declared.around.Around.{Around}
 use Rattle.ifr_scopes.proofs.PlaceLemmas.{is_found}
 use Rattle.ifr_scopes.proofs.ViewLemmas.{further}
 use Rattle.hii_varstore.specs.Stores.{StoreMap}
@@ -19,6 +20,7 @@ use Rattle.hii_questions.specs.declared.denial.DenialKind.TheVariants.{NoField, 
 use Rattle.guard_policy.specs.Policy.{denied_by, fixed}
 use Rattle.guard_policy.specs.World.{World}
 use Rattle.guard_policy.specs.code.Answers.{unless}
+use Rattle.guard_policy.specs.code.Surroundings.{IsAroundNode, answer_of}
 use Rattle.guard_policy.specs.code.Views.{bytes_of, world}
 use Rattle.guard_policy.proofs.DenialLemmas.{none_of, some_of}
 use Rattle.guard_policy.specs.declared.denial.Denial.{Denial}
@@ -65,17 +67,20 @@ of_field ifr f accepted = of_field_among ifr f (nodes_of ifr) accepted (λ n c. 
 -- ---- the first that is not fixed, or else the first
 
 -- the first of some questions that were met, or else of those that are left
-abbrev pub first_met : Option (Question × Result (Unit {0}) Denial) → List Asked → Option Placed
+abbrev pub first_met : Option (Question × Result Around Denial) → List Asked → Option Placed
 first_met None left = first_question left
 first_met (Some found) left = Some (question_node found.0)
 
 -- a question that was met is fixed
-abbrev pub IsMet : Policy → StoreMap → Field → Option (Question × Result (Unit {0}) Denial) → Type 0
+abbrev pub IsMet : Policy → StoreMap → Field → Option (Question × Result Around Denial) → Type 0
 IsMet policy working f None = ⊤
-IsMet policy working f (Some found) = IsOfField (bytes_of policy) f (question_view found.0) × (found.1 ≡ unless (fixed (world policy working) (question_node found.0)))
+IsMet policy working f (Some found) =
+    IsOfField (bytes_of policy) f (question_view found.0)
+    × (answer_of found.1 ≡ unless (fixed (world policy working) (question_node found.0)))
+    × IfOk found.1 (IsAroundNode (bytes_of policy) (question_node found.0))
 
 -- These questions are left of those with a field, and those before them are fixed.
-pub record ChoiceLeft (policy : Policy) (working : StoreMap) (f : Field) (first : Option (Question × Result (Unit {0}) Denial)) (left : List Asked) : Type 0 where
+pub record ChoiceLeft (policy : Policy) (working : StoreMap) (f : Field) (first : Option (Question × Result Around Denial)) (left : List Asked) : Type 0 where
   pub each : AllByRecursion (IsOfField (bytes_of policy) f) left
   pub met : IsMet policy working f first
   pub said : set_over policy working f ≡ option_or (first_free (world policy working) left) (first_met first left)
@@ -85,14 +90,14 @@ choice_start policy working f asks left accepted same is =
     let all : left ≡ filter (has_field f) (questions (nodes_of (bytes_of policy))) = is ∙ ap (λ (ifr : List ℕ). filter (has_field f) (questions (nodes_of ifr))) same in
     rw all (record { each = of_field (bytes_of policy) f accepted; met = tt; said = refl })
 
-pub choice_found : (policy : Policy) (working : StoreMap) (f : Field) (first : Option (Question × Result (Unit {0}) Denial)) (question : Question) (left rest : List Asked) → left ≡ question_view question ∷ rest → ChoiceLeft policy working f first left
-    → unless (fixed (world policy working) (question_node question)) ≡ Ok tt → FirstChoice policy working f (Some (question, Ok tt))
-choice_found policy working f first question left rest e h free =
+pub choice_found : (policy : Policy) (working : StoreMap) (f : Field) (first : Option (Question × Result Around Denial)) (question : Question) (around : Around) (left rest : List Asked) → left ≡ question_view question ∷ rest → ChoiceLeft policy working f first left
+    → unless (fixed (world policy working) (question_node question)) ≡ Ok tt → IsAroundNode (bytes_of policy) (question_node question) around → FirstChoice policy working f (Some (question, Ok around))
+choice_found policy working f first question around left rest e h free is =
     let none = none_of (fixed (world policy working) (question_node question)) free in
     let all : AllByRecursion (IsOfField (bytes_of policy) f) (question_view question ∷ rest) = subst (AllByRecursion (IsOfField (bytes_of policy) f)) e h.each in
-    (all.0, rw (e, none) at h.said, sym free)
+    (all.0, rw (e, none) at h.said, sym free, is)
 
-next_choice : (policy : Policy) (working : StoreMap) (f : Field) (first now : Option (Question × Result (Unit {0}) Denial)) (question : Question) (left rest : List Asked) (denial : Denial) → left ≡ question_view question ∷ rest → ChoiceLeft policy working f first left
+next_choice : (policy : Policy) (working : StoreMap) (f : Field) (first now : Option (Question × Result Around Denial)) (question : Question) (left rest : List Asked) (denial : Denial) → left ≡ question_view question ∷ rest → ChoiceLeft policy working f first left
     → unless (fixed (world policy working) (question_node question)) ≡ Err denial → IsMet policy working f now → first_met now rest ≡ first_met first (question_view question ∷ rest) → ChoiceLeft policy working f now rest
 next_choice policy working f first now question left rest denial e h why met same =
     let some = some_of (fixed (world policy working) (question_node question)) denial why in
@@ -103,21 +108,21 @@ pub each_first : (policy : Policy) (f : Field) (q : Asked) (left rest : List Ask
 each_first policy f q left rest e each = (subst (AllByRecursion (IsOfField (bytes_of policy) f)) e each).0
 
 -- the first question that is met
-pub choice_next : (policy : Policy) (working : StoreMap) (f : Field) (first : Option (Question × Result (Unit {0}) Denial)) (question : Question) (left rest : List Asked) (denial : Denial) → is_some first ≡ false → left ≡ question_view question ∷ rest
+pub choice_next : (policy : Policy) (working : StoreMap) (f : Field) (first : Option (Question × Result Around Denial)) (question : Question) (left rest : List Asked) (denial : Denial) → is_some first ≡ false → left ≡ question_view question ∷ rest
     → ChoiceLeft policy working f first left → unless (fixed (world policy working) (question_node question)) ≡ Err denial → ChoiceLeft policy working f (Some (question, Err denial)) rest
 choice_next policy working f None question left rest denial none e h why =
-    next_choice policy working f None (Some (question, Err denial)) question left rest denial e h why (each_first policy f (question_view question) left rest e h.each, sym why) refl
+    next_choice policy working f None (Some (question, Err denial)) question left rest denial e h why (each_first policy f (question_view question) left rest e h.each, sym why, tt) refl
 choice_next policy working f (Some found) question left rest denial none e h why = absurd cc
 
 -- a later one
-pub choice_later : (policy : Policy) (working : StoreMap) (f : Field) (first : Option (Question × Result (Unit {0}) Denial)) (question : Question) (left rest : List Asked) (denial : Denial) → is_some first ≡ true → left ≡ question_view question ∷ rest
+pub choice_later : (policy : Policy) (working : StoreMap) (f : Field) (first : Option (Question × Result Around Denial)) (question : Question) (left rest : List Asked) (denial : Denial) → is_some first ≡ true → left ≡ question_view question ∷ rest
     → ChoiceLeft policy working f first left → unless (fixed (world policy working) (question_node question)) ≡ Err denial → ChoiceLeft policy working f first rest
 choice_later policy working f None question left rest denial some e h why = absurd cc
 choice_later policy working f (Some found) question left rest denial some e h why = next_choice policy working f (Some found) (Some found) question left rest denial e h why h.met refl
 
-pub choice_end : (policy : Policy) (working : StoreMap) (f : Field) (first : Option (Question × Result (Unit {0}) Denial)) (left : List Asked) → left ≡ [] → ChoiceLeft policy working f first left → FirstChoice policy working f first
+pub choice_end : (policy : Policy) (working : StoreMap) (f : Field) (first : Option (Question × Result Around Denial)) (left : List Asked) → left ≡ [] → ChoiceLeft policy working f first left → FirstChoice policy working f first
 choice_end policy working f None left e h = rw e at h.said
-choice_end policy working f (Some found) left e h = (h.met.0, rw e at h.said, h.met.1)
+choice_end policy working f (Some found) left e h = (h.met.0, rw e at h.said, h.met.1, h.met.2)
 
 -- ---- the question of a block
 

@@ -20,13 +20,14 @@ use Rattle.hii_varstore.specs.Stores.{StoreMap, shape_of, bytes_of, bytes_of_fie
 use Rattle.hii_varstore.specs.code.Ranges.{HasRange, IsCut}
 use Rattle.hii_varstore.proofs.WriteLemmas.{sizes}
 use Rattle.hii_varstore.specs.StoreNodes.{layout_of}
+use Rattle.hii_questions.specs.Changes.{field_bytes, holds_others}
 use Rattle.hii_questions.specs.Fields.{Field, Asked, asked, questions}
 use Rattle.hii_questions.specs.Faults.{IsQuestionFault}
+use Rattle.hii_questions.specs.code.LyingIn.{LiesIn, LieIn}
 use Rattle.hii_questions.proofs.LawLemmas.{holds_fields}
 use Rattle.browser_core.specs.State.{State}
 use Rattle.browser_core.specs.Opening.{IsBrowsable, layout_in}
-use Rattle.browser_core.specs.code.Standing.{LiesIn}
-use Rattle.browser_core.specs.Step.{are_same_bytes, field_bytes, is_other, is_changed, changed, commit}
+use Rattle.browser_core.specs.Step.{is_other, is_changed, changed, commit}
 use Rattle.browser_core.specs.Texts.{count_text, changed_text}
 
 -- no byte of a range that lies in the bytes is cut off
@@ -57,7 +58,7 @@ whole_field m q field offset (Some bytes) lies has same told = rw has (sym (rw s
 
 -- ---- all questions
 
-lie_among : (all ns : List Placed) → HasNone (IsQuestionFault all) → ((n : Placed) → Contains ns n → Contains all n) → AllByRecursion (LiesIn (layout_of all)) (map (asked all) (filter is_question ns))
+lie_among : (all ns : List Placed) → HasNone (IsQuestionFault all) → ((n : Placed) → Contains ns n → Contains all n) → LieIn (layout_of all) (map (asked all) (filter is_question ns))
 lie_among all [] none within = tt
 lie_among all (n ∷ ns) none within = elim (cases_Bool (is_question n)) [
   | inl is ↦ rw is ((λ field e. holds_fields all n field none (within n (0, omega arith, refl)) is e), lie_among all ns none (λ m c. within m (further n ns m c)))
@@ -65,20 +66,12 @@ lie_among all (n ∷ ns) none within = elim (cases_Bool (is_question n)) [
 ]
 
 -- the field of each question lies in its store
-pub fields_lie : (ifr : List ℕ) → IsBrowsable ifr → AllByRecursion (LiesIn (layout_in ifr)) (questions (nodes_of ifr))
+pub fields_lie : (ifr : List ℕ) → IsBrowsable ifr → LieIn (layout_in ifr) (questions (nodes_of ifr))
 fields_lie ifr b = lie_among (nodes_of ifr) (nodes_of ifr) b.questions (λ n c. c)
-
--- what an iterator over all questions has before it at first
-pub all_questions : (asks ifr : List ℕ) (all left : List Asked) → left ≡ all → all ≡ questions (nodes_of asks) → asks ≡ ifr → left ≡ questions (nodes_of ifr)
-all_questions asks ifr all left same e together = same ∙ e ∙ ap (λ (bytes : List ℕ). questions (nodes_of bytes)) together
-
--- the first of some questions, and those after it
-pub lies_first : (shape : Shape) (qs left : List Asked) (q : Asked) → AllByRecursion (LiesIn shape) qs → qs ≡ q ∷ left → LiesIn shape q × AllByRecursion (LiesIn shape) left
-lies_first shape qs left q all e = subst (AllByRecursion (LiesIn shape)) e all
 
 -- the field of a question holds other bytes than when it was last submitted
 abbrev pub is_other_field : State → Asked → Bool
-is_other_field s q = not (are_same_bytes (field_bytes s.committed q.field) (field_bytes s.working q.field))
+is_other_field s q = holds_others s.committed s.working q
 
 pick : (b : Bool) (q : Asked) (qs : List Asked) (ns : List Placed) → map (λ q. q.node) qs ≡ ns → map (λ q. q.node) (cond b (q ∷ qs) qs) ≡ cond b (q.node ∷ ns) ns
 pick true q qs ns e = ap (λ (l : List Placed). q.node ∷ l) e
@@ -95,7 +88,7 @@ others : (s : State) (ns : List Placed) → map (λ q. q.node) (filter (is_other
 others s [] = refl
 others s (n ∷ ns) = one_more s n ns (is_question n) (others s ns)
 
-changed_is : (s : State) → map (λ q. q.node) (filter (is_other_field s) (questions (nodes_of s.ifr))) ≡ changed s
+pub changed_is : (s : State) → map (λ q. q.node) (filter (is_other_field s) (questions (nodes_of s.ifr))) ≡ changed s
 changed_is s = others s (nodes_of s.ifr)
 
 as_many : (qs : List Asked) → length (map (λ q. q.node) qs) ≡ length qs
@@ -106,72 +99,33 @@ same_texts : (qs : List Asked) → flat_map (λ q. changed_text (question_id q.n
 same_texts [] = refl
 same_texts (q ∷ qs) = ap (λ (l : List ℕ). changed_text (question_id q.node.op) ++ l) (same_texts qs)
 
--- ---- how many have changed
-
-few : (ns : List Placed) (low high : ℕ) → Within low high ns → low + length ns ≤ high
-few [] low high w = omega arith
-few (n ∷ ns) low high w = omega (arith, w.0, few ns (n.place + 1) high w.1)
-
-fewer : (p : Placed → Bool) (ns : List Placed) → length (filter p ns) ≤ length ns
-fewer p [] = omega arith
-fewer p (n ∷ ns) = elim (cases_Bool (p n)) [
-  | inl e ↦ rw e (omega (arith, fewer p ns))
-  | inr e ↦ rw e (omega (arith, fewer p ns))
-]
-
-pub few_changed : (s : State) → IsAccepted s.ifr → length (changed s) < 2 ^ 32
-few_changed s a =
-    let f = tree_of s.ifr in
-    let spelled = a.checked.spelled in
-    let count = few (nodes_of s.ifr) 4 _ (nodes_within f 4 [] spelled.are_nodes) in
-    let size : length (drop 4 s.ifr) ≡ length (flat f) = ap (λ (l : List ℕ). length l) spelled.spelled in
-    let small = a.checked.small in
-    let header = a.checked.header in
-    omega (arith, fewer (is_changed s) (nodes_of s.ifr), count, size, length-drop 4 s.ifr, small, header)
-
--- one question more, that has changed or has not
-pub count_more : (p : Asked → Bool) (q : Asked) (result : Bool) (qs left : List Asked) (count total : ℕ) → qs ≡ q ∷ left → result ≡ p q → result ≡ true → count + length (filter p qs) ≡ total → count + 1 + length (filter p left) ≡ total
-count_more p q result qs left count total e test is so_far =
-    let all = rw (e, sym test ∙ is) at so_far in omega (arith, all)
-
-pub count_same : (p : Asked → Bool) (q : Asked) (result : Bool) (qs left : List Asked) (count total : ℕ) → qs ≡ q ∷ left → result ≡ p q → result ≡ false → count + length (filter p qs) ≡ total → count + length (filter p left) ≡ total
-count_same p q result qs left count total e test not_it so_far = rw (e, sym test ∙ not_it) at so_far
-
-pub count_all : (p : Asked → Bool) (qs : List Asked) (count total : ℕ) → qs ≡ [] → count + length (filter p qs) ≡ total → count ≡ total
-count_all p qs count total e so_far = let all = rw e at so_far in omega (arith, all)
-
 -- ---- their texts
 
--- the texts of those that have changed
-abbrev pub told : (Asked → Bool) → List Asked → List ℕ
-told p qs = flat_map (λ q. changed_text (question_id q.node.op)) (filter p qs)
+-- the texts of some that have changed
+abbrev pub told : List Asked → List ℕ
+told qs = flat_map (λ q. changed_text (question_id q.node.op)) qs
 
--- how many have changed, of those that stand before an iterator at first
-pub counted_start : (s : State) (qs : List Asked) → qs ≡ questions (nodes_of s.ifr) → 0 + length (filter (is_other_field s) qs) ≡ length (changed s)
-counted_start s qs all =
-    let counts : length (filter (is_other_field s) qs) ≡ length (changed s) = ap (λ (l : List Asked). length (filter (is_other_field s) l)) all ∙ sym (as_many (filter (is_other_field s) (questions (nodes_of s.ifr)))) ∙ ap (λ (ns : List Placed). length ns) (changed_is s) in
-    omega (arith, counts)
+-- how many they are
+counts : (s : State) (qs : List Asked) → map (λ q. q.node) qs ≡ changed s → length qs ≡ length (changed s)
+counts s qs are = sym (as_many qs) ∙ ap (λ (ns : List Placed). length ns) are
 
-pub told_start : {a b : Pen} (s : State) (qs : List Asked) (count : ℕ) → count ≡ length (changed s) → qs ≡ questions (nodes_of s.ifr) → Writes a b (count_text count)
-    → Stands a b (commit s).text (told (is_other_field s) qs)
-told_start {a} {b} s qs count counts all wrote =
-    let texts : flat_map (λ (n : Placed). changed_text (question_id n.op)) (changed s) ≡ told (is_other_field s) qs =
-    ap (λ (ns : List Placed). flat_map (λ (n : Placed). changed_text (question_id n.op)) ns) (sym (changed_is s)) ∙ sym (same_texts (filter (is_other_field s) (questions (nodes_of s.ifr)))) ∙ ap (told (is_other_field s)) (sym all) in
+-- the count is written, and they stand to be written
+pub told_start : {a b : Pen} (s : State) (qs : List Asked) (count : ℕ) → count ≡ length qs → map (λ q. q.node) qs ≡ changed s → Writes a b (count_text count) → Stands a b (commit s).text (told qs)
+told_start {a} {b} s qs count counted are wrote =
+    let texts : flat_map (λ (n : Placed). changed_text (question_id n.op)) (changed s) ≡ told qs = ap (λ (ns : List Placed). flat_map (λ (n : Placed). changed_text (question_id n.op)) ns) (sym are) ∙ sym (same_texts qs) in
+    let number = counted ∙ counts s qs are in
     record {
       front = count_text count;
-      parts = ap (λ (n : ℕ). count_text n ++ flat_map (λ (n : Placed). changed_text (question_id n.op)) (changed s)) (sym counts) ∙ ap (λ (l : List ℕ). count_text count ++ l) texts;
+      parts = ap (λ (n : ℕ). count_text n ++ flat_map (λ (n : Placed). changed_text (question_id n.op)) (changed s)) (sym number) ∙ ap (λ (l : List ℕ). count_text count ++ l) texts;
       written = wrote;
     }
 
-pub told_more : {a b c : Pen} {text : List ℕ} (p : Asked → Bool) (q : Asked) (result : Bool) (qs left : List Asked) (id : ℕ) → qs ≡ q ∷ left → result ≡ p q → result ≡ true → id ≡ question_id q.node.op
-    → Stands a b text (told p qs) → Writes b c (changed_text id) → Stands a c text (told p left)
-told_more {a} {b} {c} {text} p q result qs left id e test is same stands wrote =
-    let here : told p qs ≡ changed_text id ++ told p left = rw (e, sym test ∙ is, same) refl in
+-- the next of them is written
+pub told_more : {a b c : Pen} {text : List ℕ} (q : Asked) (qs left : List Asked) (id : ℕ) → qs ≡ q ∷ left → id ≡ question_id q.node.op → Stands a b text (told qs) → Writes b c (changed_text id) → Stands a c text (told left)
+told_more {a} {b} {c} {text} q qs left id e same stands wrote =
+    let here : told qs ≡ changed_text id ++ told left = rw (e, same) refl in
     record {
       front = stands.front ++ changed_text id;
-      parts = stands.parts ∙ ap (λ (l : List ℕ). stands.front ++ l) here ∙ sym (append_assoc stands.front (changed_text id) (told p left));
+      parts = stands.parts ∙ ap (λ (l : List ℕ). stands.front ++ l) here ∙ sym (append_assoc stands.front (changed_text id) (told left));
       written = writes_trans stands.written wrote;
     }
-
-pub told_same : {a b : Pen} {text : List ℕ} (p : Asked → Bool) (q : Asked) (result : Bool) (qs left : List Asked) → qs ≡ q ∷ left → result ≡ p q → result ≡ false → Stands a b text (told p qs) → Stands a b text (told p left)
-told_same {a} {b} {text} p q result qs left e test not_it stands = rw (e, sym test ∙ not_it) at stands

@@ -5,6 +5,7 @@ use Rattle.std.specs.Option.{IsSomeAnd}
 use Rattle.config_text.specs.Grammar.{Named, Area}
 use Rattle.ifr_opcodes.specs.Forest.{Placed}
 use Rattle.ifr_scopes.specs.Nodes.{nodes_of}
+use Rattle.ifr_scopes.specs.declared.around.Around.{Around}
 use Rattle.hii_varstore.specs.Layout.{Shape}
 use Rattle.hii_varstore.specs.code.Ranges.{HasRange}
 use Rattle.hii_varstore.specs.code.Table.{AreBuffers}
@@ -49,9 +50,9 @@ use Rattle.browser_core.proofs.SetLemmas.{over_world, free_question, outside_of}
 -- ---- one block
 
 -- a block sets its question as a value of the whole field does
-block_is : (policy : Policy) (m : StoreMap) (store : ℕ) (block : Area) (q : Question) (s : State) (bytes : List ℕ) (o : Outcome) → Chooses policy m (block_field store block) (Ok q) → bytes ≡ block_bytes block → IsOver policy m s
+block_is : (policy : Policy) (m : StoreMap) (store : ℕ) (block : Area) (q : Question) (around : Around) (s : State) (bytes : List ℕ) (o : Outcome) → Chooses policy m (block_field store block) (Ok (q, around)) → bytes ≡ block_bytes block → IsOver policy m s
     → set_unless_fixed s (question_node q) (field bytes) None ≡ o → set_block s store block ≡ o
-block_is policy m store block q s bytes o chosen same over e =
+block_is policy m store block q around s bytes o chosen same over e =
     let there = sym (set_there policy m (block_field store block) s over) ∙ chosen.1 in
     let free : unless (fixed (world_of s) (question_node q)) ≡ Ok tt = subst (λ (w : World). unless (fixed w (question_node q)) ≡ Ok tt) (over_world policy m s over) (ap unless chosen.3) in
     let not_it = chosen.2 in
@@ -62,13 +63,13 @@ block_is policy m store block q s bytes o chosen same over e =
     ∙ e
 
 -- the field of the question that a block sets, in a session
-field_there : (policy : Policy) (m : StoreMap) (f : fields.Field) (q : Question) (s : State) → Chooses policy m f (Ok q) → IsOver policy m s → field_of (nodes_of s.ifr) (question_node q) ≡ Some f
-field_there policy m f q s chosen over =
+field_there : (policy : Policy) (m : StoreMap) (f : fields.Field) (q : Question) (around : Around) (s : State) → Chooses policy m f (Ok (q, around)) → IsOver policy m s → field_of (nodes_of s.ifr) (question_node q) ≡ Some f
+field_there policy m f q around s chosen over =
     subst (λ (ifr : List ℕ). field_of (nodes_of ifr) (question_node q) ≡ Some f) over.ifr (sym (ap (λ (x : Asked). x.field) chosen.0.0.own) ∙ chosen.0.1)
 
-pub block_is_set : (policy : Policy) (old new : KeptMap) (store : ℕ) (block : Area) (q : Question) (bytes : List ℕ) (field' : Field) → Chooses policy old.stores (block_field store block) (Ok q) → bytes ≡ block_bytes block
+pub block_is_set : (policy : Policy) (old new : KeptMap) (store : ℕ) (block : Area) (q : Question) (around : Around) (bytes : List ℕ) (field' : Field) → Chooses policy old.stores (block_field store block) (Ok (q, around)) → bytes ≡ block_bytes block
     → HasRange (shape_of old.stores) store block.offset block.width → SetsValue policy (question_view q) (field bytes) old new (Ok field') → SetsBlock policy store block old new (Ok tt)
-block_is_set policy old new store block q bytes field' chosen same inside sets =
+block_is_set policy old new store block q around bytes field' chosen same inside sets =
     let own : Some (range_of field') ≡ Some (block_field store block) = sym sets.2 ∙ chosen.0.1 in
     let lies : range_of field' ≡ block_field store block = cc in
     let now : new.stores ≡ with_bytes old.stores field'.store field'.offset (new_bytes field') = ap (λ (m : KeptMap). m.stores) sets.0 in (
@@ -80,24 +81,24 @@ block_is_set policy old new store block q bytes field' chosen same inside sets =
       λ s over. (
         ok_text ++ warned_text s new.stores (question_node q),
         question_node q,
-        block_is policy old.stores store block q s bytes _ chosen same over (sets.3 s over),
+        block_is policy old.stores store block q around s bytes _ chosen same over (sets.3 s over),
         sym (set_there policy old.stores (block_field store block) s over) ∙ chosen.1,
-        field_there policy old.stores (block_field store block) q s chosen over,
+        field_there policy old.stores (block_field store block) q around s chosen over,
       ),
     )
 
-pub block_is_denied : (policy : Policy) (old new : KeptMap) (store : ℕ) (block : Area) (q : Question) (bytes : List ℕ) (denial : Denial) → Chooses policy old.stores (block_field store block) (Ok q) → bytes ≡ block_bytes block
+pub block_is_denied : (policy : Policy) (old new : KeptMap) (store : ℕ) (block : Area) (q : Question) (around : Around) (bytes : List ℕ) (denial : Denial) → Chooses policy old.stores (block_field store block) (Ok (q, around)) → bytes ≡ block_bytes block
     → SetsValue policy (question_view q) (field bytes) old new (Err denial) → SetsBlock policy store block old new (Err denial)
-block_is_denied policy old new store block q bytes denial chosen same sets =
-    (sets.0, λ s over. block_is policy old.stores store block q s bytes (denied s denial) chosen same over (sets.1 s over))
+block_is_denied policy old new store block q around bytes denial chosen same sets =
+    (sets.0, λ s over. block_is policy old.stores store block q around s bytes (denied s denial) chosen same over (sets.1 s over))
 
 pub no_question : (policy : Policy) (old : KeptMap) (store : ℕ) (block : Area) (denial : Denial) → Chooses policy old.stores (block_field store block) (Err denial) → SetsBlock policy store block old old (Err denial)
 no_question policy old store block denial chosen = (refl, λ s over. chosen s (block_bytes block) over)
 
 -- the field of the question of a block lies in its store
-pub block_range : (policy : Policy) (m : StoreMap) (store : ℕ) (block : Area) (q : Question) → Chooses policy m (block_field store block) (Ok q) → IsBrowsable (bytes_of policy) → shape_of m ≡ layout_in (bytes_of policy)
+pub block_range : (policy : Policy) (m : StoreMap) (store : ℕ) (block : Area) (q : Question) (around : Around) → Chooses policy m (block_field store block) (Ok (q, around)) → IsBrowsable (bytes_of policy) → shape_of m ≡ layout_in (bytes_of policy)
     → HasRange (shape_of m) store block.offset block.width
-block_range policy m store block q chosen browsable laid =
+block_range policy m store block q around chosen browsable laid =
     let ns = nodes_of (bytes_of policy) in
     let n = question_node q in
     let is = chosen.0.0 in

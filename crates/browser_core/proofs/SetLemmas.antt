@@ -41,7 +41,8 @@ use Rattle.browser_core.specs.Texts.{ok_text}
 use Rattle.browser_core.specs.Step.{accepted, denied, warned_text, set_unless_fixed, set_unless_forbidden, set_question, commit, submitted}
 use Rattle.browser_core.specs.code.Changing.{IsOver, TakesField, SetsValue}
 use Rattle.browser_core.specs.Opening.{IsBrowsable, layout_in}
-use Rattle.browser_core.specs.code.Standing.{IsQuestionIn, LiesIn}
+use Rattle.browser_core.specs.code.Standing.{IsQuestionIn}
+use Rattle.hii_questions.specs.code.LyingIn.{LiesIn}
 use Rattle.browser_core.specs.declared.reply.Reply.TheVariants.{Denied}
 
 -- ---- questions of the package

@@ -1,7 +1,6 @@
 -- What a command does: the state that it leaves, its text and whether it was carried out (own rule).
-use Rattle.std.specs.Prelude.{ℕ, ◌-◌, ◌==◌, ◌&&◌, Bool, not, nat_eq, nat_lt, if◌then◌else◌, true, Option, Some, None, option_and_then, option_map, Result, Ok, Err, List, [], ◌∷◌, ◌++◌, length, slice_get, take, map, filter, codes}
+use Rattle.std.specs.Prelude.{ℕ, ◌-◌, ◌==◌, ◌&&◌, Bool, not, nat_lt, if◌then◌else◌, true, Option, Some, None, option_and_then, option_map, Result, Ok, Err, List, [], ◌∷◌, ◌++◌, length, slice_get, take, map, filter, codes}
 use Rattle.std.specs.List.{flat_map}
-use Rattle.std.specs.Cmp.Lexicographic.{pointwise}
 use Rattle.std.specs.Option.{unwrap_or}
 use Rattle.config_text.specs.Grammar.{Named, Area}
 use Rattle.config_text.specs.Reading.{configuration_in}
@@ -17,8 +16,9 @@ use Rattle.ifr_scopes.specs.References.{form_with}
 use Rattle.ifr_scopes.specs.Rules.{rules_among}
 use Rattle.hii_languages.specs.Languages.{chosen}
 use Rattle.hii_languages.specs.Shown.{text_under}
-use Rattle.hii_varstore.specs.Stores.{StoreMap, bytes_of, bytes_of_field, with_bytes}
+use Rattle.hii_varstore.specs.Stores.{StoreMap, are_same_bytes, bytes_of, with_bytes}
 use Rattle.hii_questions.specs.Answers.{answers, value_of_field, named_values}
+use Rattle.hii_questions.specs.Changes.{field_bytes}
 use Rattle.hii_questions.specs.Fields.{Field, field_of, question_with, is_password}
 use Rattle.hii_questions.specs.Inputs as inputs
 use Rattle.hii_questions.specs.Inputs.{Offer, whole, listed, utf8}
@@ -320,15 +320,6 @@ abbrev pub route : State → List ℕ → Outcome
 route s text = route_reading s (configuration_in Tell text)
 
 -- ---- submit and discard
-
--- the bytes of a question's field in the stores
-abbrev pub field_bytes : StoreMap → Option Field → Option (List ℕ)
-field_bytes stores None = None
-field_bytes stores (Some field) = bytes_of_field stores field.store field.offset field.width
-
-abbrev pub are_same_bytes : Option (List ℕ) → Option (List ℕ) → Bool
-are_same_bytes (Some xs) (Some ys) = pointwise nat_eq xs ys
-are_same_bytes _ _ = true
 
 -- the field of a question holds other bytes than when it was last submitted
 abbrev pub is_other : State → Placed → Bool

@@ -15,6 +15,7 @@ use config_text::{Block, Blocks};
 use guard_policy::{Denial, Policy};
 use hii_questions::{DenialKind, FieldRange, Input, Question, Questions, WIDEST_FIELD};
 use hii_varstore::Stores;
+use ifr_scopes::Around;
 use kept_conditions::{KeptStores, Ranges};
 
 /// Sets the question of each block of a store, one after the other, and tells how many blocks there are; or tells why one is
@@ -125,7 +126,7 @@ fn set_block<'a>(
     ensures { SetsBlock policy.entry store (block_view block.entry) working.old working.new result }
 {
     let range = field_of(store, block);
-    let question = question_with(policy, questions, range, working)?;
+    let (question, around) = question_with(policy, questions, range, working)?;
     let mut new = [0; WIDEST_FIELD];
     let new = &mut new[..range.width];
     block.value_into(new);
@@ -133,7 +134,7 @@ fn set_block<'a>(
     let mut old = [0; WIDEST_FIELD];
     let old = &mut old[..range.width];
     keep_field(working.stores(), range, old);
-    set_value(policy, question, Input::Field(new), working, old)?;
+    set_value(policy, question, around, Input::Field(new), working, old)?;
     Ok(())
 }
 
@@ -147,13 +148,13 @@ fn keep_field(stores: &Stores, field: FieldRange, into: &mut [u8])
     into.copy_from_slice(bytes.unwrap());
 }
 
-// The question that a block with this field sets, or why it sets none.
-fn question_with<'a>(
-    policy: Policy<'a, '_>,
+// The question that a block with this field sets, and what stands around it, or why it sets none.
+fn question_with<'a, 's>(
+    policy: Policy<'a, 's>,
     questions: &Questions<'a>,
     field: FieldRange,
     working: &KeptStores<'a>,
-) -> Result<Question<'a>, Denial>
+) -> Result<(Question<'a>, Around<'s, 'a>), Denial>
     requires together { questions.now.ifr ≡ bytes_of policy }
     requires package { working.now.ifr ≡ bytes_of policy }
     requires browsable { IsBrowsable (bytes_of policy) }
@@ -165,17 +166,17 @@ fn question_with<'a>(
     if question.is_password() {
         return Err(Denial::by(DenialKind::Password, question.place()));
     }
-    free?;
-    Ok(question)
+    Ok((question, free?))
 }
 
-// Of the questions that have exactly this field the first by place that is not fixed, or else the first, with what fixes it.
-fn first_choice<'a>(
-    policy: Policy<'a, '_>,
+// Of the questions that have exactly this field the first by place that is not fixed, with what stands around it, or else the first,
+// with what fixes it.
+fn first_choice<'a, 's>(
+    policy: Policy<'a, 's>,
     questions: &Questions<'a>,
     field: FieldRange,
     working: &KeptStores<'a>,
-) -> Option<(Question<'a>, Result<(), Denial>)>
+) -> Option<(Question<'a>, Result<Around<'s, 'a>, Denial>)>
     requires together { questions.now.ifr ≡ bytes_of policy }
     requires package { working.now.ifr ≡ bytes_of policy }
     requires browsable { IsBrowsable (bytes_of policy) }
@@ -184,8 +185,8 @@ fn first_choice<'a>(
     let mut first = None;
     let mut sharing = questions.with_field(field);
     while let Some(question) = sharing.next() {
-        match working.question_changeable(policy, question) {
-            Ok(()) => return Some((question, Ok(()))),
+        match working.changeable_question(policy, question) {
+            Ok(around) => return Some((question, Ok(around))),
             Err(denial) => {
                 if first.is_none() {
                     first = Some((question, Err(denial)));

@@ -1,6 +1,6 @@
 //! A form set that is browsed, and what commands do to it.
 
-ghost use Rattle.std.specs.Prelude.{◌≡◌, ◌∷◌, not, List, Some, filter, length, MatchResult, IfOk, IfErr, IfSome, option_and_then, option_copied, option_map};
+ghost use Rattle.std.specs.Prelude.{◌≡◌, ◌∷◌, List, Some, filter, map, MatchResult, IfOk, IfErr, IfSome, option_and_then, option_copied, option_map};
 ghost use Rattle.hii_bytes.specs.Faults.{Refuses, IsLeast, out_of_memory};
 ghost use Rattle.hii_bytes.specs.Watching.{Puts, Writes};
 ghost use Rattle.hii_packages.specs.code.Package.{entry_of};
@@ -15,7 +15,10 @@ ghost use Rattle.ifr_defaults.specs.Defaults as defaults;
 ghost use Rattle.hii_commands.specs.Meaning.{order_of, HasList};
 ghost use Rattle.hii_commands.specs.Orders.{DiscardChanges};
 ghost use Rattle.hii_varstore.specs.Stores.{shape_of};
+ghost use Rattle.hii_questions.specs.Changes.{field_bytes};
 ghost use Rattle.hii_questions.specs.Fields.{question_with};
+ghost use Rattle.hii_questions.specs.code.Differing.{differing_left};
+ghost use Rattle.hii_questions.specs.code.LyingIn.{LiesIn};
 ghost use Rattle.hii_questions.specs.code.Offers.{offer_of};
 ghost use Rattle.hii_questions.specs.code.Views.{question_node, question_view};
 ghost use Rattle.guard_policy.specs.Policy.{fixed, unsubmitted};
@@ -27,8 +30,8 @@ ghost use Rattle.browser_core.specs.State.{State, world_of, texts};
 ghost use Rattle.browser_core.specs.code.Changing.{IsHeld};
 ghost use Rattle.browser_core.specs.code.Counting.{counted_all};
 ghost use Rattle.browser_core.specs.Step as steps;
-ghost use Rattle.browser_core.specs.Step.{step, denied, why_question, set_question, warned_text, show_page, changed, are_same_bytes, field_bytes, commit, submitted, taken, take_defaults as defaults_taken};
-ghost use Rattle.browser_core.specs.code.Standing.{IsQuestionIn, Finds, Changes, Sets, Leads, Presses, TakesDefault, IsTold, IsUntold, Routes, LiesIn, IsOffered, answered};
+ghost use Rattle.browser_core.specs.Step.{step, denied, why_question, set_question, warned_text, show_page, changed, commit, submitted, taken, take_defaults as defaults_taken};
+ghost use Rattle.browser_core.specs.code.Standing.{IsQuestionIn, Finds, Changes, Sets, Leads, Presses, TakesDefault, IsTold, IsUntold, Routes, IsOffered, answered};
 ghost use Rattle.browser_core.specs.Configuration.{store_named};
 ghost use Rattle.config_text.specs.Reading.{configuration_in};
 ghost use Rattle.config_text.specs.declared.kind.TextKind.TheVariants.{Tell};
@@ -54,12 +57,10 @@ use hii_commands::Command;
 use hii_languages::{Choice, Languages};
 use hii_packages::laws::spelled_bytes_have_no_fault;
 use hii_packages::{Package, PackageList};
-use hii_questions::{DenialKind, Input, Question, Questions};
+use hii_questions::{DenialKind, DifferingQuestions, Input, Question, Questions};
 use hii_varstore::{Layout, Stores};
 use ifr_defaults::default_of;
-use ifr_scopes::laws::a_node_is_that_of_its_place;
 use ifr_scopes::{Form, Forms, Statement, StatementKind};
-use kept_conditions::laws::what_is_kept_tells_of_the_stores;
 use kept_conditions::{Kept, KeptStores};
 use std::alloc::Global;
 use std::io::Write;
@@ -262,7 +263,6 @@ impl<'a> Core<'a> {
         ensures node { IsNodeOf self.now.state.ifr (form_node result) }
         ensures accepted { IsAccepted self.now.state.ifr }
     {
-        self.forms.bytes();
         self.form
     }
 
@@ -274,7 +274,6 @@ impl<'a> Core<'a> {
         ensures stores { result.stores.now ≡ self.now.state.working }
         ensures texts { pages.texts_of result ≡ texts self.now.state }
     {
-        what_is_kept_tells_of_the_stores();
         Page::new(
             self.form,
             self.policy(),
@@ -411,10 +410,10 @@ impl<'a> Core<'a> {
         ensures { Changes self.old (question_node question.entry) (offer_of input.entry) self.new
             result }
     {
-        self.question_changeable(question)?;
         let policy = Policy::new(&self.forms, &self.questions, &self.removed);
+        let around = self.working.changeable_question(policy, question)?;
         let old = held_in(&self.spare, question);
-        let field = set_value(policy, question, input, &mut self.working, old)?;
+        let field = set_value(policy, question, around, input, &mut self.working, old)?;
         field.put(&mut self.spare);
         Ok(())
     }
@@ -639,8 +638,9 @@ impl<'a> Core<'a> {
         )
     }
 
-    // Writes of what a question warns.
+    // Writes of what a question of the form set warns.
     fn put_warnings<W: Write>(&self, question: Question<'a>, out: &mut Watched<W>)
+        requires { IsNodeOf self.now.state.ifr (question_node question) }
         ensures { Puts W.contents out.old out.new
             (warned_text self.now.state self.now.state.working (question_node question.entry)) }
     {
@@ -687,25 +687,19 @@ impl<'a> Core<'a> {
     fn put_submitted<W: Write>(&self, out: &mut Watched<W>)
         ensures { Puts W.contents out.old out.new (commit self.now.state).text }
     {
-        put_count(self.count_changed(), out);
-        for question in self.questions.all() {
-            if differs(question, &self.committed, self.working.stores()) {
-                put_changed(question.id(), out);
-            }
+        let changed = self.changed_questions();
+        put_count(changed.number(), out);
+        for question in changed {
+            put_changed(question.id(), out);
         }
     }
 
-    // How many questions have other bytes than when they were last submitted.
-    fn count_changed(&self) -> u64
-        ensures { result ≡ length (changed self.now.state) }
+    // The questions that have other bytes than when they were last submitted, by place.
+    fn changed_questions(&self) -> DifferingQuestions<'_, 'a>
+        ensures { map (λ q. q.node) (differing_left result) ≡ changed self.now.state }
     {
-        let mut count = 0;
-        for question in self.questions.all() {
-            if differs(question, &self.committed, self.working.stores()) {
-                count += 1;
-            }
-        }
-        count
+        self.questions
+            .differing(&self.committed, self.working.stores())
     }
 }
 
@@ -731,13 +725,11 @@ fn find_source(list: &[u8], number: usize) -> Result<Source<'_>, Fault>
 
 // The first form, by place.
 fn first_form<'a>(forms: &Forms<'a>) -> Form<'a>
+    requires { IsAccepted forms.now }
     ensures first { (others : List Placed)
         × (filter is_form (nodes_of forms.now) ≡ form_node result ∷ others) }
     ensures node { IsNodeOf forms.now (form_node result) }
 {
-    // The package is accepted: it has a form.
-    forms.bytes();
-    a_node_is_that_of_its_place();
     forms.forms().next().unwrap()
 }
 
@@ -758,19 +750,5 @@ fn held_in<'s>(stores: &'s Stores, question: Question<'_>) -> &'s [u8]
     match bytes_in(stores, question) {
         Some(bytes) => bytes,
         None => &[],
-    }
-}
-
-// Whether the field of a question has other bytes in these stores.
-fn differs(question: Question<'_>, committed: &Stores, working: &Stores) -> bool
-    requires committed { LiesIn (shape_of committed.now) (question_view question) }
-    requires working { LiesIn (shape_of working.now) (question_view question) }
-    ensures { result
-        ≡ not (are_same_bytes (field_bytes committed.now (question_view question.entry).field)
-        (field_bytes working.now (question_view question.entry).field)) }
-{
-    match (bytes_in(committed, question), bytes_in(working, question)) {
-        (Some(old), Some(new)) => old != new,
-        _ => false,
     }
 }

@@ -9,3 +9,4 @@ pub mod AskedLemmas
 pub mod SupportLemmas
 pub mod KeptLemmas
 pub mod ToldLemmas
+pub mod SurroundingLemmas

@@ -6,6 +6,7 @@ pub mod Effects
 pub mod KeptConditions
 pub mod Standings
 pub mod SupportLeft
+pub mod Surroundings
 pub mod Views
 pub mod WarningsLeft
 pub mod Worlds

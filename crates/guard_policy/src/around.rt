@@ -38,8 +38,6 @@ impl<'a, 's> Around<'a, 's> {
         ensures { (n : Placed) → IsNodeOf forms.now n → is_indexed n ≡ true → n.place ≡ place
             → around_left result ≡ suppressing n }
     {
-        // The package is accepted.
-        forms.bytes();
         Around {
             suppressing: forms.guards_at(place),
             graying_out: None,
@@ -51,8 +49,6 @@ impl<'a, 's> Around<'a, 's> {
         ensures { (n : Placed) → IsNodeOf forms.now n → is_indexed n ≡ true → n.place ≡ place
             → around_left result ≡ around n }
     {
-        // The package is accepted.
-        forms.bytes();
         let graying_out = forms.guards_at(place);
         let suppressing = forms.guards_at(place);
         Around {

@@ -1,6 +1,6 @@
 //! What guards and LOCKED do to what they stand around.
 
-ghost use Rattle.std.specs.Prelude.{◌≡◌, true, if◌then◌else◌, Some, option_map};
+ghost use Rattle.std.specs.Prelude.{◌≡◌, true, IfSome, if◌then◌else◌, Some, option_map};
 ghost use Rattle.std.specs.List.{find, list_any};
 ghost use Rattle.ifr_opcodes.specs.Forest.{Placed};
 ghost use Rattle.ifr_scopes.specs.Guards.{guards};
@@ -14,6 +14,7 @@ ghost use Rattle.hii_questions.specs.declared.denial.DenialKind.TheVariants.{Gra
 ghost use Rattle.guard_policy.specs.code.Effects.{acts};
 ghost use Rattle.guard_policy.specs.Policy as spec;
 ghost use Rattle.guard_policy.specs.code.Answers as denying;
+ghost use Rattle.guard_policy.specs.code.Surroundings.{IsFree};
 ghost use Rattle.guard_policy.specs.code.Views.{world_by};
 
 use crate::conditions::Verdicts;
@@ -154,8 +155,8 @@ impl<'a, 's> Policy<'a, 's> {
         }
     }
 
-    // What of that around which this stands may not be changed.
-    fn unless_covered<V: Verdicts<'a>>(
+    /// What of that around which this stands may not be changed.
+    pub(crate) fn unless_covered<V: Verdicts<'a>>(
         &self,
         around: Around<'_, 'a>,
         verdicts: &V,
@@ -184,5 +185,29 @@ impl<'a, 's> Policy<'a, 's> {
             ≡ denying.unless (spec.covered (world_by self.now (V.met verdicts.now)) n) }
     {
         self.unless_covered(self.forms.around_at(place, position), verdicts)
+    }
+
+    /// The same, where what stands around something may be at hand of which it is known that nothing of it lets that not be
+    /// changed.
+    pub(crate) fn uncovered_within<V: Verdicts<'a>>(
+        &self,
+        place: u32,
+        position: u32,
+        free: Option<Around<'s, 'a>>,
+        verdicts: &V,
+    ) -> Result<(), Denial>
+        requires { IfSome free
+            (IsFree self.now.forms.now (world_by self.now (V.met verdicts.now))) }
+        ensures { (n : Placed) → IsNodeOf self.now.forms.now n → is_indexed n ≡ true
+            → n.place ≡ place → result
+            ≡ denying.unless (spec.covered (world_by self.now (V.met verdicts.now)) n) }
+    {
+        let around = self.forms.around_at(place, position);
+        if let Some(free) = free {
+            if around.is_same(free) {
+                return Ok(());
+            }
+        }
+        self.unless_covered(around, verdicts)
     }
 }

@@ -13,7 +13,8 @@ use crate::option_conditions::OptionConditions;
 use crate::policy::Policy;
 use crate::submission::Submission;
 use crate::support::Decision;
-use ifr_scopes::{AnyCondition, ConditionViews};
+use ifr_opcodes::{INCONSISTENT_IF, WARNING_IF};
+use ifr_scopes::{AnyCondition, ConditionsOf};
 
 /// The conditions of a decision that are left, in the order in which they decide.
 #[derive(Drop)]
@@ -23,13 +24,14 @@ pub(crate) enum DecisionConditions<'a, 's> {
     /// The conditions around the options of a value.
     Options(OptionConditions<'a, 's>),
     /// The conditions of a question.
-    Question(ConditionViews<'a>),
+    Question(ConditionsOf<'s, 'a>),
     /// The conditions of all questions that deny a submission.
     Submission(Submission<'a, 's>),
 }
 
 impl<'a, 's> DecisionConditions<'a, 's> {
     /// The conditions of a decision of a policy.
+    #[tactic(auto, unfolding(ifr_scopes::specs::Kinds::is_condition_number))]
     pub(crate) fn of(policy: Policy<'a, 's>, decision: Decision<'a>) -> DecisionConditions<'a, 's>
         requires { IsSubjectOf policy.forms.now decision }
         ensures { (stores : StoreMap) → asked_left result
@@ -50,14 +52,17 @@ impl<'a, 's> DecisionConditions<'a, 's> {
                 DecisionConditions::Around(Around::hiding(forms, form.place()))
             }
             Decision::Consistent(question) => {
-                DecisionConditions::Question(question.statement().inconsistents())
+                DecisionConditions::Question(forms.conditions_of(
+                    question.statement(),
+                    INCONSISTENT_IF,
+                ))
             }
             Decision::MaySubmit => DecisionConditions::Submission(Submission {
                 policy,
                 conditions: forms.nosubmits(),
             }),
             Decision::Warnings(question) => {
-                DecisionConditions::Question(question.statement().warnings())
+                DecisionConditions::Question(forms.conditions_of(question.statement(), WARNING_IF))
             }
         }
     }

@@ -1,6 +1,6 @@
 //! What a policy decides of forms, statements and options.
 
-ghost use Rattle.std.specs.Prelude.{◌≡◌, option_and_then, option_map};
+ghost use Rattle.std.specs.Prelude.{◌≡◌, IfSome, option_and_then, option_map};
 ghost use Rattle.hii_varstore.specs.Stores.{StoreMap};
 ghost use Rattle.ifr_scopes.specs.code.Checked.{IsNodeOf};
 ghost use Rattle.ifr_scopes.specs.code.Lists.{form_node, statement_node};
@@ -13,6 +13,7 @@ ghost use Rattle.guard_policy.specs.Policy as spec;
 ghost use Rattle.guard_policy.specs.code.Answers as denying;
 ghost use Rattle.guard_policy.specs.code.KeptConditions.{DecidesBy, Tells, TellsAll};
 ghost use Rattle.guard_policy.specs.laws.Support.{suppressing};
+ghost use Rattle.guard_policy.specs.code.Surroundings.{IsFree};
 ghost use Rattle.guard_policy.specs.code.Views.{world, world_by};
 ghost use Rattle.guard_policy.specs.code.Worlds.{is_met_at};
 ghost use Rattle.guard_policy.specs.declared.support.Decision.TheVariants.{Listed, Changeable, OptionOpen, Opens};
@@ -22,7 +23,7 @@ use crate::denial::Denial;
 use crate::policy::Policy;
 use hii_questions::{DenialKind, Question};
 use hii_varstore::Stores;
-use ifr_scopes::{Form, OptionView, Statement, StatementKind};
+use ifr_scopes::{Around, Form, OptionView, Statement, StatementKind};
 
 // Whether a question lacks what it needs to be changed: a reference a form to which it leads, another a field.
 fn is_outside(question: Question<'_>) -> bool
@@ -34,8 +35,8 @@ fn is_outside(question: Question<'_>) -> bool
     }
 }
 
-// Whether a question forbids a change by itself.
-fn fixed_question(question: Question<'_>) -> Result<(), Denial>
+/// Whether a question forbids a change by itself.
+pub(crate) fn fixed_question(question: Question<'_>) -> Result<(), Denial>
     ensures { result ≡ denying.unless (spec.fixed_question (question_view question.entry)) }
 {
     let kind = if question.op().is_read_only() {
@@ -139,13 +140,16 @@ impl<'a, 's> Policy<'a, 's> {
     fn option_selectable<V: Verdicts<'a>>(
         &self,
         option: OptionView<'a>,
+        free: Option<Around<'s, 'a>>,
         verdicts: &V,
     ) -> Result<(), Denial>
-        requires { IsNodeOf self.now.forms.now (option_node option) }
+        requires node { IsNodeOf self.now.forms.now (option_node option) }
+        requires free { IfSome free
+            (IsFree self.now.forms.now (world_by self.now (V.met verdicts.now))) }
         ensures { result ≡ denying.unless
             (spec.fixed (world_by self.now (V.met verdicts.now)) (option_node option.entry)) }
     {
-        self.uncovered_at(option.place(), 0, verdicts)
+        self.uncovered_within(option.place(), 0, free, verdicts)
     }
 
     // Whether a statement forbids a change by itself.
@@ -228,23 +232,28 @@ impl<'a, 's> Policy<'a, 's> {
         self.question_changeable_with(question, &ByConditions { conditions })
     }
 
-    // Whether a question may be given a value of its options, by conditions from anywhere.
-    fn option_open_with<V: Verdicts<'a>>(
+    /// Whether a question may be given a value of its options, by conditions from anywhere. What stands around something may be
+    /// at hand of which it is known that nothing of it lets that not be changed: an option around which the same stands may be
+    /// chosen.
+    pub(crate) fn option_open_with<V: Verdicts<'a>>(
         &self,
         question: Question<'a>,
         value: u64,
+        free: Option<Around<'s, 'a>>,
         verdicts: &V,
     ) -> Result<(), Denial>
-        requires { IsNodeOf self.now.forms.now (question_node question) }
+        requires node { IsNodeOf self.now.forms.now (question_node question) }
+        requires free { IfSome free
+            (IsFree self.now.forms.now (world_by self.now (V.met verdicts.now))) }
         ensures { result ≡ denying.unless
             (spec.closed (world_by self.now (V.met verdicts.now))
             (question_node question.entry) value) }
     {
         let mut first = None;
-        let mut options = question.statement().options();
+        let mut options = self.forms.options_of(question.statement());
         while let Some(option) = options.next() {
             if option.op().value() == value {
-                match self.option_selectable(option, verdicts) {
+                match self.option_selectable(option, free, verdicts) {
                     Ok(()) => return Ok(()),
                     Err(denial) => first = first.or(Some(denial)),
                 }
@@ -268,7 +277,7 @@ impl<'a, 's> Policy<'a, 's> {
         ensures { result ≡ denying.unless
             (spec.closed (world self.now stores.now) (question_node question.entry) value) }
     {
-        self.option_open_with(question, value, &self.over(stores))
+        self.option_open_with(question, value, None, &self.over(stores))
     }
 
     /// Whether a question of the package may be given a value of its options, by what is kept of conditions.
@@ -282,6 +291,6 @@ impl<'a, 's> Policy<'a, 's> {
         ensures { DecidesBy (C.holding conditions.now) (world self.now)
             (OptionOpen question.entry value) result }
     {
-        self.option_open_with(question, value, &ByConditions { conditions })
+        self.option_open_with(question, value, None, &ByConditions { conditions })
     }
 }

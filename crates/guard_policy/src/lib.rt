@@ -2,6 +2,7 @@
 #![tactic(auto)]
 
 mod around;
+mod changeable;
 mod conditions;
 mod covering;
 mod decision_conditions;

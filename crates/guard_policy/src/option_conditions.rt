@@ -23,6 +23,7 @@ impl<'a, 's> OptionConditions<'a, 's> {
     ghost use Rattle.std.specs.Iterator.{YieldsFirstBy};
     ghost use Rattle.std.specs.List.{flat_map};
     ghost use Rattle.ifr_opcodes.specs.Fields.{option_value};
+    ghost use Rattle.ifr_scopes.specs.Accepted.{IsAccepted};
     ghost use Rattle.ifr_scopes.specs.code.Checked.{IsNodeOf};
     ghost use Rattle.ifr_scopes.specs.code.Lists.{guard_node};
     ghost use Rattle.ifr_scopes.specs.Nodes.{options};
@@ -37,14 +38,13 @@ impl<'a, 's> OptionConditions<'a, 's> {
         question: Question<'a>,
         value: u64,
     ) -> OptionConditions<'a, 's>
-        requires { IsNodeOf forms.now (question_node question) }
+        requires accepted { IsAccepted forms.now }
+        requires node { IsNodeOf forms.now (question_node question) }
         ensures { around_options_left result
             ≡ flat_map around
             (filter (λ o. option_value o.op == value)
             (options (question_node question.entry))) }
     {
-        // The package is accepted: the options are nodes of it.
-        forms.bytes();
         let options = forms.options_of(question.statement());
         OptionConditions {
             forms,

@@ -48,8 +48,6 @@ impl Removed {
             ≡ removed_at (nodes_of forms.now) stores.now) }
         ensures refused { IfErr result (λ fault. fault ≡ out_of_memory) }
     {
-        // The package is accepted: the places of its nodes rise.
-        forms.bytes();
         let mut places = Vec::new(alloc);
         let mut guards = forms.guards();
         while let Some(guard) = guards.next() {

@@ -2,8 +2,10 @@
 
 ghost use Rattle.std.specs.Prelude.{◌≡◌, map, option_map};
 ghost use Rattle.std.specs.List.{find};
+ghost use Rattle.ifr_scopes.specs.code.Checked.{IsNodeOf};
+ghost use Rattle.ifr_scopes.specs.code.ConditionsLeft.{conditions_of_left};
 ghost use Rattle.ifr_scopes.specs.code.NoSubmitsLeft.{no_submit_node};
-ghost use Rattle.ifr_scopes.specs.code.Parts.{condition_node, conditions_left};
+ghost use Rattle.ifr_scopes.specs.code.Parts.{condition_node};
 ghost use Rattle.hii_questions.specs.code.Views.{question_node};
 ghost use Rattle.guard_policy.specs.Policy as spec;
 ghost use Rattle.guard_policy.specs.code.Answers as denying;
@@ -20,7 +22,8 @@ use crate::policy::Policy;
 use crate::warnings::Warnings;
 use hii_questions::{DenialKind, Question};
 use hii_varstore::Stores;
-use ifr_scopes::{AnyCondition, ConditionView, ConditionViews, NoSubmit};
+use ifr_opcodes::{INCONSISTENT_IF, WARNING_IF};
+use ifr_scopes::{AnyCondition, ConditionView, ConditionsOf, NoSubmit};
 
 impl<'a, 's> Policy<'a, 's> {
     /// Whether a condition of a question holds.
@@ -38,13 +41,12 @@ impl<'a, 's> Policy<'a, 's> {
     // The first of some conditions that holds.
     fn first_holding(
         &self,
-        conditions: ConditionViews<'a>,
+        mut conditions: ConditionsOf<'_, 'a>,
         stores: &Stores,
     ) -> Option<ConditionView<'a>>
         ensures { option_map condition_node result
-            ≡ find (is_met (world self.now stores.now)) (conditions_left conditions.entry) }
+            ≡ find (is_met (world self.now stores.now)) (conditions_of_left conditions.entry) }
     {
-        let mut conditions = conditions;
         while let Some(condition) = conditions.next() {
             if self.condition_holds(condition, stores) {
                 return Some(condition);
@@ -53,13 +55,18 @@ impl<'a, 's> Policy<'a, 's> {
         None
     }
 
-    /// Whether the value of a question is consistent: no INCONSISTENT_IF of it holds over these stores. The denial, of the kind
-    /// InconsistentIf, names the first by place, and its text.
+    /// Whether the value of a question of the package is consistent: no INCONSISTENT_IF of it holds over these stores. The
+    /// denial, of the kind InconsistentIf, names the first by place, and its text.
+    #[tactic(auto, unfolding(ifr_scopes::specs::Kinds::is_condition_number))]
     pub fn consistent(&self, question: Question<'a>, stores: &Stores) -> Result<(), Denial>
+        requires { IsNodeOf self.now.forms.now (question_node question) }
         ensures { result ≡ denying.unless
             (spec.inconsistent (world self.now stores.now) (question_node question.entry)) }
     {
-        match self.first_holding(question.statement().inconsistents(), stores) {
+        let conditions = self
+            .forms
+            .conditions_of(question.statement(), INCONSISTENT_IF);
+        match self.first_holding(conditions, stores) {
             Some(condition) => Err(Denial::telling(DenialKind::InconsistentIf, condition)),
             None => Ok(()),
         }
@@ -104,8 +111,10 @@ impl<'a, 's> Policy<'a, 's> {
         self.may_submit_with(&ByConditions { conditions })
     }
 
-    /// Of what a question warns over these stores: the WARNING_IFs of it that hold, by place.
+    /// Of what a question of the package warns over these stores: the WARNING_IFs of it that hold, by place.
+    #[tactic(auto, unfolding(ifr_scopes::specs::Kinds::is_condition_number))]
     pub fn warnings(&self, question: Question<'a>, stores: &'s Stores) -> Warnings<'a, 's>
+        requires { IsNodeOf self.now.forms.now (question_node question) }
         ensures { warnings_left result
             ≡ map warning_of (spec.warned (world self.now stores.now)
             (question_node question.entry)) }
@@ -113,7 +122,7 @@ impl<'a, 's> Policy<'a, 's> {
         Warnings {
             policy: *self,
             stores,
-            conditions: question.statement().warnings(),
+            conditions: self.forms.conditions_of(question.statement(), WARNING_IF),
         }
     }
 }

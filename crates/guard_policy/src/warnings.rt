@@ -2,7 +2,7 @@
 
 use crate::policy::Policy;
 use hii_varstore::Stores;
-use ifr_scopes::{ConditionView, ConditionViews};
+use ifr_scopes::{ConditionView, ConditionsOf};
 
 /// A WARNING_IF whose condition holds: its place, in bytes from the header of the forms package, and the string id of its text
 /// (UEFI 2.8, 33.3.8.3, EFI_IFR_WARNING_IF).
@@ -17,7 +17,7 @@ pub struct Warning {
 pub struct Warnings<'a, 's> {
     pub(crate) policy: Policy<'a, 's>,
     pub(crate) stores: &'s Stores,
-    pub(crate) conditions: ConditionViews<'a>,
+    pub(crate) conditions: ConditionsOf<'s, 'a>,
 }
 
 impl<'a, 's> Iterator for Warnings<'a, 's> {

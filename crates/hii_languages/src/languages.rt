@@ -3,7 +3,6 @@
 ghost use Rattle.std.specs.Prelude.{◌≡◌, ◌==◌, List, IfOk, IfErr, option_map, position};
 ghost use Rattle.std.specs.Str.{str_eq_ignore_ascii_case};
 ghost use Rattle.hii_bytes.specs.Faults.{Refuses, out_of_memory};
-ghost use Rattle.sibt_strings.specs.Strings.{Speaks, IsStringFaultIn};
 ghost use Rattle.sibt_strings.specs.code.Views.{units_in};
 ghost use Rattle.hii_languages.specs.Languages.{Spoken, string_packages, AreSpoken, IsStringsFault, primary_subtag, first_package, chosen};
 ghost use Rattle.hii_languages.specs.Shown.{shown, shown_text, text_in_package, text_under};
@@ -12,8 +11,8 @@ ghost use Rattle.hii_languages.specs.code.Views.{choice_of, seen, text_of};
 use crate::choice::Choice;
 use crate::shown::Shown;
 use hii_bytes::{Fault, first_place};
-use hii_packages::{Package, PackageList, STRINGS};
-use sibt_strings::{StringTable, Strings, Units};
+use hii_packages::{PackageList, STRINGS};
+use sibt_strings::{StringTable, Units};
 use std::alloc::Global;
 use std::marker::Model;
 
@@ -49,16 +48,6 @@ fn is_same(language: &[u8], other: &[u8]) -> bool
     language.eq_ignore_ascii_case(other)
 }
 
-// The table of a string package.
-fn table_of<'a>(alloc: Global, source: Package<'a>) -> Result<StringTable<'a>, Fault>
-    ensures read { IfOk result (Speaks source.entry.bytes.now) }
-    ensures refused { IfErr result
-        (Refuses (IsStringFaultIn source.entry.bytes.now source.entry.place)) }
-{
-    let strings = Strings::read(source)?;
-    Ok(StringTable::read(alloc, strings)?)
-}
-
 impl<'a> Languages<'a> {
     /// The string packages of a list, or the least fault of the first that has one: StringHeader, LanguageText,
     /// StringBlock or StringText, at its place in bytes from the list's front. OutOfMemory (60) at 0 where an
@@ -73,7 +62,7 @@ impl<'a> Languages<'a> {
         let mut tables = Vec::new(alloc);
         for source in list.packages() {
             if source.kind == STRINGS {
-                let table = table_of(alloc, source)?;
+                let table = StringTable::of_package(alloc, source)?;
                 tables.push(table)?;
             }
         }

@@ -2,6 +2,7 @@ pub mod ItemLemmas
 pub mod ListLemmas
 pub mod FaultLemmas
 pub mod QuestionLemmas
+pub mod DifferingLemmas
 pub mod EntryLemmas
 pub mod IdLemmas
 pub mod PartLemmas

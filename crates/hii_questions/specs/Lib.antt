@@ -5,6 +5,7 @@ pub mod Denials
 pub mod Types
 pub mod Fields
 pub mod Answers
+pub mod Changes
 pub mod Fits
 pub mod Faults
 pub mod code

@@ -4,6 +4,7 @@ pub mod Causes
 pub mod Checks
 pub mod ChoiceViews
 pub mod Contents
+pub mod Differing
 pub mod Entries
 pub mod FaultTells
 pub mod Fitting
@@ -11,6 +12,7 @@ pub mod Gathered
 pub mod Ids
 pub mod ItemsLeft
 pub mod Lists
+pub mod LyingIn
 pub mod Merging
 pub mod NewBytes
 pub mod Numbers

@@ -6,6 +6,7 @@ mod check;
 mod choices;
 mod content;
 mod denial;
+mod differing;
 mod elements;
 mod entry;
 mod field;
@@ -32,6 +33,7 @@ mod texts;
 mod value;
 
 pub use denial::{DenialKind, ValueDenial};
+pub use differing::DifferingQuestions;
 pub use elements::element_width;
 pub use field::Field;
 pub use field_range::{FieldRange, WIDEST_FIELD};

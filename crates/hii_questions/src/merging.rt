@@ -95,7 +95,7 @@ pub(crate) fn merged(
             steps: right,
         },
     };
-    let mut steps = Vec::new(alloc);
+    let mut steps = Vec::with_capacity(alloc, left.len() + right.len())?;
     while let Some(step) = merge.step() {
         steps.push(step)?;
     }

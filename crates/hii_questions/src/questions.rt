@@ -6,16 +6,21 @@ ghost use Rattle.hii_bytes.specs.Faults.{HasNone, Refuses, out_of_memory};
 ghost use Rattle.ifr_scopes.specs.Nodes.{nodes_of};
 ghost use Rattle.ifr_scopes.specs.code.Lists.{statement_node};
 ghost use Rattle.hii_varstore.specs.StoreNodes.{layout_of};
+ghost use Rattle.hii_varstore.specs.Stores.{shape_of};
 ghost use Rattle.hii_questions.specs.Answers.{answers};
 ghost use Rattle.hii_questions.specs.Faults.{IsQuestionFault};
 ghost use Rattle.hii_questions.specs.Fields.{questions, asked, question_with, has_field, is_password_in};
+ghost use Rattle.hii_questions.specs.Changes.{holds_others};
+ghost use Rattle.hii_questions.specs.code.Differing.{differing_left};
 ghost use Rattle.hii_questions.specs.code.Lists.{questions_left};
+ghost use Rattle.hii_questions.specs.code.LyingIn.{LieIn};
 ghost use Rattle.hii_questions.specs.code.Over.{answers_over};
 ghost use Rattle.hii_questions.specs.code.Ranges.{range_in};
 ghost use Rattle.hii_questions.specs.code.Tables.{first_at};
 ghost use Rattle.hii_questions.specs.code.Views.{question_view};
 
 use crate::by_field::{questions_by_field, questions_with};
+use crate::differing::DifferingQuestions;
 use crate::entry::QuestionEntry;
 use crate::field_range::FieldRange;
 use crate::merging::Step;
@@ -163,6 +168,21 @@ impl<'a> Questions<'a> {
         ensures { questions_left result ≡ questions (nodes_of self.now.ifr) }
     {
         QuestionsByPlace::over(self.ifr, &self.by_place)
+    }
+
+    /// The questions whose fields hold other bytes in the second stores than in the first, by place. Both are of the form set.
+    pub fn differing<'s>(&'s self, one: &'s Stores, other: &'s Stores) -> DifferingQuestions<'s, 'a>
+        requires same { shape_of one.now ≡ shape_of other.now }
+        requires lie { LieIn (shape_of one.now) (questions (nodes_of self.now.ifr)) }
+        ensures { differing_left result
+            ≡ filter (holds_others one.now other.now) (questions (nodes_of self.now.ifr)) }
+    {
+        DifferingQuestions {
+            ifr: self.ifr,
+            entries: &self.by_place,
+            one,
+            other,
+        }
     }
 
     /// What the questions answer where the stores are these.

@@ -24,7 +24,7 @@ fn steps_of_one(
     ensures rise { IfOk result (λ steps. StepsRise 0 steps.items) }
     ensures small { IfOk result (λ steps. is_small field) }
 {
-    let mut steps = Vec::new(alloc);
+    let mut steps = Vec::with_capacity(alloc, 2)?;
     if let Some(field) = field {
         let from = field.first();
         let behind = field.behind();

@@ -23,9 +23,12 @@ fn package_of<'a>(rt: &impl Abort, list: &'a [u8]) -> Result<Package<'a>, Fault>
     )
 }
 
-// The fault of the package of a list, by its cause and place.
-fn fault_of(rt: &impl Abort, list: &[u8]) -> Result<Option<(Cause, u64)>, Fault> {
-    let fault = Strings::read(package_of(rt, list)?).err();
+// The fault of a list of one string package of these blocks, by its cause and place: by a walk and by the table.
+fn fault_of<R: Abort + AllocGlobal>(rt: &R, blocks: &[u8]) -> Result<Option<(Cause, u64)>, Fail> {
+    let list = list_of_blocks(rt.alloc(), blocks)?;
+    let package = package_of(rt, list.as_slice())?;
+    let fault = Strings::read(package).err();
+    assert!(rt; StringTable::of_package(rt.alloc(), package).err() == fault);
     Ok(fault.map(|fault| (fault.cause, fault.place)))
 }
 
@@ -60,9 +63,9 @@ fn blocks_have<R: Abort + AllocGlobal>(
     texts: &[(u16, Option<&[u8]>)],
 ) -> Result<(), Fail> {
     let list = list_of_blocks(rt.alloc(), blocks)?;
-    let strings = Strings::read(package_of(rt, list.as_slice())?)?;
-    walk_finds(rt, &strings, texts);
-    table_finds(rt, &StringTable::read(rt.alloc(), strings)?, texts);
+    let package = package_of(rt, list.as_slice())?;
+    walk_finds(rt, &Strings::read(package)?, texts);
+    table_finds(rt, &StringTable::of_package(rt.alloc(), package)?, texts);
     Ok(())
 }
 
@@ -103,9 +106,20 @@ fn each_form_of_block(rt: HostRuntime) -> Result<(), Fail> {
 
 #[test]
 fn faults_of_a_package(rt: HostRuntime) -> Result<(), Fail> {
-    let list = list_of_blocks(rt.alloc(), b"\x14A\0\0\0\x14A\0\0")?;
-    let fault = fault_of(&rt, list.as_slice())?;
-    assert!(rt; fault == Some((Cause::StringText, 77)));
+    let cut = fault_of(&rt, b"\x14A\0\0\0\x14A\0\0")?;
+    assert!(rt; cut == Some((Cause::StringText, 77)));
+    let unknown = fault_of(&rt, b"\x16\x02\0A\0\0\0\0\0\x99")?;
+    assert!(rt; unknown == Some((Cause::StringBlock, 81)));
+    Ok(())
+}
+
+// The id 65,535 is the last: the text behind it has none, and a bad block behind that is still one.
+#[test]
+fn texts_past_the_last_id(rt: HostRuntime) -> Result<(), Fail> {
+    let texts: [(u16, Option<&[u8]>); 3] = [(0, None), (65534, None), (65535, Some(b"A\0"))];
+    blocks_have(&rt, b"\x21\xfe\xff\x14A\0\0\0\x14B\0\0\0\0", &texts)?;
+    let fault = fault_of(&rt, b"\x21\xfe\xff\x14A\0\0\0\x14B\0\0\0\x99")?;
+    assert!(rt; fault == Some((Cause::StringBlock, 85)));
     Ok(())
 }
 

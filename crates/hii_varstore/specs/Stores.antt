@@ -1,5 +1,6 @@
 -- What the buffer stores of a form set hold: a finite map from the ids of the stores to their bytes (own rule).
-use Rattle.std.specs.Prelude.{ℕ, ◌+◌, ◌==◌, if◌then◌else◌, List, ◌++◌, length, map, take, drop, slice_get, slice_range, Option, option_and_then, option_map}
+use Rattle.std.specs.Prelude.{ℕ, ◌+◌, ◌==◌, Bool, true, nat_eq, if◌then◌else◌, List, ◌++◌, length, map, take, drop, slice_get, slice_range, Option, Some, option_and_then, option_map}
+use Rattle.std.specs.Cmp.Lexicographic.{pointwise}
 use Rattle.std.specs.List.{find}
 use Rattle.hii_varstore.specs.declared.buffer.Buffer.{Buffer}
 use Rattle.hii_varstore.specs.Layout.{Shape}
@@ -33,6 +34,11 @@ byte_of m id at = option_and_then (λ bytes. slice_get bytes at) (bytes_of m id)
 abbrev pub bytes_of_field : StoreMap → ℕ → ℕ → ℕ → Option (List ℕ)
 bytes_of_field m id offset width =
     option_map (λ bytes. slice_range bytes offset (offset + width)) (bytes_of m id)
+
+-- the bytes of two ranges are the same, where both are there
+abbrev pub are_same_bytes : Option (List ℕ) → Option (List ℕ) → Bool
+are_same_bytes (Some xs) (Some ys) = pointwise nat_eq xs ys
+are_same_bytes _ _ = true
 
 -- bytes, with new ones in place of those from an offset on, as far as the bytes reach
 abbrev pub overwritten : List ℕ → ℕ → List ℕ → List ℕ

@@ -1,6 +1,7 @@
 //! What one buffer store holds.
 
-ghost use Rattle.std.specs.Prelude.{◌≡◌, ◌+◌, ◌<◌, ◌≤◌, ◌^◌, IfOk, length, slice_range};
+ghost use Rattle.std.specs.Prelude.{◌≡◌, ◌+◌, ◌<◌, ◌≤◌, ◌^◌, IfOk, length, nat_eq, not, slice_range};
+ghost use Rattle.std.specs.Cmp.Lexicographic.{pointwise};
 ghost use Rattle.std.specs.Borrow.{sem};
 ghost use Rattle.hii_varstore.specs.Stores.{buffer_of, store_with};
 ghost use Rattle.hii_varstore.specs.code.Lending.{LendsRange};
@@ -56,6 +57,17 @@ impl Store {
         ensures small { length self.now.bytes < 2 ^ 16 }
     {
         &self.bytes
+    }
+
+    /// Whether a range of the bytes is another in a store that reaches as far.
+    pub(crate) fn differs(&self, other: &Store, offset: usize, width: usize) -> bool
+        requires own { offset + width ≤ length self.now.bytes }
+        requires others { offset + width ≤ length other.now.bytes }
+        ensures { result ≡ not (pointwise nat_eq
+            (slice_range self.now.bytes offset (offset + width))
+            (slice_range other.now.bytes offset (offset + width))) }
+    {
+        self.bytes[offset..offset + width] != other.bytes[offset..offset + width]
     }
 
     /// A range of the bytes, to be written.

@@ -1,9 +1,9 @@
 //! What the buffer stores of a form set hold.
 
-ghost use Rattle.std.specs.Prelude.{◌≡◌, ℕ, IfOk, IfErr, IsSomeAnd, List, MatchOption, length, map, option_copied, Some};
+ghost use Rattle.std.specs.Prelude.{◌≡◌, ℕ, IfOk, IfErr, IsSomeAnd, List, MatchOption, length, map, not, option_copied, Some};
 ghost use Rattle.hii_bytes.specs.Faults.{Refuses, out_of_memory};
 ghost use Rattle.hii_bytes.specs.Watching.{pen_of, Puts, Writes, Tells};
-ghost use Rattle.hii_varstore.specs.Stores.{StoreMap, buffer_of, shape_of, bytes_of, bytes_of_field, with_bytes};
+ghost use Rattle.hii_varstore.specs.Stores.{StoreMap, are_same_bytes, buffer_of, shape_of, bytes_of, bytes_of_field, with_bytes};
 ghost use Rattle.hii_varstore.specs.code.Ranges.{IsCut};
 ghost use Rattle.hii_varstore.specs.code.Ranges.{HasRange};
 ghost use Rattle.hii_varstore.specs.code.Lending.{LendsField};
@@ -95,6 +95,17 @@ impl Stores {
     {
         let rest = self.bytes(id)?.get(offset..).unwrap_or(&[]);
         rest.get(..width)
+    }
+
+    /// Whether the `width` bytes of the store of an id from an offset in bytes on are others in other stores of the same layout.
+    pub fn differs(&self, other: &Stores, id: u16, offset: usize, width: usize) -> bool
+        requires same { shape_of self.now ≡ shape_of other.now }
+        requires range { HasRange (shape_of self.now) id offset width }
+        ensures { result ≡ not (are_same_bytes (bytes_of_field self.now id offset width)
+            (bytes_of_field other.now id offset width)) }
+    {
+        let place = self.table.find(id).unwrap();
+        self.stores[place].differs(&other.stores[place], offset, width)
     }
 
     /// The `width` bytes of the store of an id from an offset in bytes on, to be written.

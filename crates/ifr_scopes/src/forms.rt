@@ -125,10 +125,11 @@ impl<'a> Forms<'a> {
         }
     }
 
-    /// All guards, by place.
+    /// All guards of the package, which is accepted, by place.
     pub fn guards(&self) -> GuardViews<'_, 'a>
-        ensures { all_guards_left result
+        ensures guards { all_guards_left result
             ≡ filter (λ n. is_guard (number n.op)) (nodes_of self.now) }
+        ensures accepted { IsAccepted self.now }
     {
         GuardViews {
             ifr: self.ifr,

@@ -1,6 +1,6 @@
 //! Decisions over stores by what is kept over them.
 
-ghost use Rattle.std.specs.Prelude.{◌≡◌};
+ghost use Rattle.std.specs.Prelude.{◌≡◌, IfOk, None};
 ghost use Rattle.ifr_scopes.specs.code.Checked.{IsNodeOf};
 ghost use Rattle.ifr_scopes.specs.code.Lists.{form_node, statement_node};
 ghost use Rattle.ifr_scopes.specs.Nodes.{nodes_of};
@@ -8,12 +8,13 @@ ghost use Rattle.hii_questions.specs.Fields.{asked};
 ghost use Rattle.hii_questions.specs.code.Views.{question_node, question_view};
 ghost use Rattle.guard_policy.specs.Policy.{closed, fixed, hidden, unsubmitted};
 ghost use Rattle.guard_policy.specs.code.Answers.{unless};
+ghost use Rattle.guard_policy.specs.code.Surroundings.{IsAroundNode, answer_of};
 ghost use Rattle.guard_policy.specs.code.Views.{bytes_of, world};
 
 use crate::kept_stores::KeptStores;
 use guard_policy::{Denial, Policy};
 use hii_questions::Question;
-use ifr_scopes::{Form, Statement};
+use ifr_scopes::{Around, Form, Statement};
 
 impl<'a> KeptStores<'a> {
     /// Whether a form is opened over these stores, as the policy decides it. The policy is that of the package.
@@ -65,6 +66,44 @@ impl<'a> KeptStores<'a> {
             (closed (world policy.entry self.now.stores) (question_node question.entry) value) }
     {
         policy.option_open_by(question, value, self.kept())
+    }
+
+    /// What stands around a question that may be changed over these stores, as the policy decides it. Where it may not, the denial is
+    /// that of `question_changeable`.
+    pub fn changeable_question<'s>(
+        &self,
+        policy: Policy<'a, 's>,
+        question: Question<'a>,
+    ) -> Result<Around<'s, 'a>, Denial>
+        requires package { bytes_of policy ≡ self.now.ifr }
+        requires node { IsNodeOf (bytes_of policy) (question_node question) }
+        requires own { question_view question
+            ≡ asked (nodes_of (bytes_of policy)) (question_node question) }
+        ensures answer { answer_of result ≡ unless
+            (fixed (world policy.entry self.now.stores) (question_node question.entry)) }
+        ensures around { IfOk result
+            (IsAroundNode (bytes_of policy.entry) (question_node question.entry)) }
+    {
+        policy.changeable_question_by(question, self.kept())
+    }
+
+    /// Whether a question that may be changed over these stores may be given a value of its options, as the policy decides it: what
+    /// `option_open` answers, with what stands around the question at hand.
+    pub fn option_open_within<'s>(
+        &self,
+        policy: Policy<'a, 's>,
+        question: Question<'a>,
+        value: u64,
+        around: Around<'s, 'a>,
+    ) -> Result<(), Denial>
+        requires package { bytes_of policy ≡ self.now.ifr }
+        requires node { IsNodeOf (bytes_of policy) (question_node question) }
+        requires around { IsAroundNode (bytes_of policy) (question_node question) around }
+        requires free { fixed (world policy self.now.stores) (question_node question) ≡ None }
+        ensures { result ≡ unless
+            (closed (world policy.entry self.now.stores) (question_node question.entry) value) }
+    {
+        policy.option_open_within_by(question, value, around, self.kept())
     }
 
     /// Whether these stores may be submitted, as the policy decides it.

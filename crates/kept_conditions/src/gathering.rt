@@ -90,8 +90,6 @@ impl Gathered {
             (rule_ids (rules_among (nodes_of source.entry.forms.now)) reference.id reference.place)
             self.old self.new) }
     {
-        // The package is accepted: its rules are ordered.
-        source.forms.bytes();
         if let Some(rule) = source.forms.rule_named(reference.id, reference.place) {
             self.links.push(Link {
                 rule: source.number_of(rule.place()),
@@ -135,8 +133,6 @@ impl Gathered {
             (ids_read (nodes_of source.entry.forms.now)
             (reader_node (nodes_of source.entry.forms.now) number)) self.old self.new) }
     {
-        // The package is accepted: its rules are ordered.
-        source.forms.bytes();
         let mut names = reader.expression.names();
         while let Some(name) = names.next() {
             self.add_name(number, reader.this, name, source)?;

@@ -32,7 +32,7 @@ pub struct Kept<'a> {
     ifr: &'a [u8],
     readers: Readers,
     index: Index,
-    // For each guard by its number, the number of its reader, if it has one.
+    // For each guard by its number, the number of its reader, where its condition is kept.
     guard_readers: Vec<u32>,
 }
 

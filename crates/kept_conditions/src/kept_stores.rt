@@ -2,6 +2,7 @@
 
 ghost use Rattle.std.specs.Prelude.{◌≡◌, ℕ, IfOk, IfErr, Some};
 ghost use Rattle.hii_bytes.specs.Faults.{out_of_memory};
+ghost use Rattle.ifr_scopes.specs.code.Checked.{IsNodeOf};
 ghost use Rattle.hii_varstore.specs.code.Ranges.{HasRange};
 ghost use Rattle.hii_varstore.specs.code.Table.{AreBuffers};
 ghost use Rattle.hii_varstore.specs.Stores.{byte_of, bytes_of_field, shape_of};
@@ -95,8 +96,8 @@ impl<'a> KeptStores<'a> {
         self.renewed = 0;
     }
 
-    /// Puts the new bytes of a field of a question, unless an INCONSISTENT_IF of it holds over the stores with them, which then
-    /// stay as they are. `old` are the bytes that the field has.
+    /// Puts the new bytes of a field of a question of the package, unless an INCONSISTENT_IF of it holds over the stores with them,
+    /// which then stay as they are. `old` are the bytes that the field has.
     pub fn set(
         &mut self,
         policy: Policy<'a, '_>,
@@ -105,6 +106,7 @@ impl<'a> KeptStores<'a> {
         old: &[u8],
     ) -> Result<(), Denial>
         requires package { bytes_of policy ≡ self.old.ifr }
+        requires node { IsNodeOf (bytes_of policy) (question_node question) }
         requires range { HasRange (shape_of self.old.stores) field.store field.offset field.width }
         requires bytes { bytes_of_field self.old.stores field.store field.offset field.width
             ≡ Some old.now }

@@ -2,6 +2,7 @@
 
 ghost use Rattle.std.specs.Prelude.{◌≡◌, ◌++◌, IfOk, map, filter};
 ghost use Rattle.ifr_opcodes.specs.Forest.{Placed};
+ghost use Rattle.ifr_scopes.specs.Accepted.{IsAccepted};
 ghost use Rattle.ifr_scopes.specs.Nodes.{nodes_of, is_no_submit};
 ghost use Rattle.ifr_scopes.specs.Rules.{is_rule};
 ghost use Rattle.kept_conditions.specs.code.Gathering.{is_kept_guard};
@@ -55,11 +56,10 @@ fn add_rules(places: &mut Vec<u32>, forms: &Forms<'_>) -> Result<(), AllocError>
 
 /// The places of the conditions that are kept and of the rules, which rise.
 pub(crate) fn reader_places(alloc: Global, forms: &Forms<'_>) -> Result<Vec<u32>, AllocError>
+    requires { IsAccepted forms.now }
     ensures { IfOk result (λ places.
         places.items ≡ map (λ (n : Placed). n.place) (reader_nodes (nodes_of forms.now))) }
 {
-    // The package is accepted: the places of its nodes rise.
-    forms.bytes();
     let mut places = Vec::new(alloc);
     add_guards(&mut places, forms)?;
     add_no_submits(&mut places, forms)?;

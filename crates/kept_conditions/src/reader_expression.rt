@@ -35,8 +35,6 @@ pub(crate) fn expression_of<'a>(
     ensures left { rules_left rules.new
         ≡ filter is_rule (drop (number + 1) (reader_nodes (nodes_of source.entry.forms.now))) }
 {
-    // The package is accepted: there is one node at each place.
-    source.forms.bytes();
     if let Some(condition) = source.forms.condition_at(source.place_of(number)) {
         return ReaderExpression {
             expression: condition.condition(),

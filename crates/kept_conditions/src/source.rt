@@ -2,6 +2,8 @@
 
 ghost use Rattle.std.specs.Prelude.{◌≡◌, ◌<◌, ◌≤◌, length, map, option_map};
 ghost use Rattle.ifr_opcodes.specs.Forest.{Placed};
+ghost use Rattle.ifr_scopes.specs.Accepted.{IsAccepted};
+ghost use Rattle.ifr_scopes.specs.code.Checked.{IsAccepted-prop};
 ghost use Rattle.ifr_scopes.specs.Nodes.{nodes_of};
 ghost use Rattle.hii_questions.specs.code.Ranges.{range_in};
 ghost use Rattle.kept_conditions.specs.code.Nodes.{reader_nodes};
@@ -10,12 +12,13 @@ ghost use Rattle.kept_conditions.specs.Touching.{field_with as field_with_id};
 use hii_questions::{FieldRange, Questions};
 use ifr_scopes::Forms;
 
-/// A package, its questions, and the places of its readers.
+/// A package, which is accepted, its questions, and the places of its readers.
 #[derive(Clone, Copy)]
 pub(crate) struct Source<'p, 's, 'a> {
     pub(crate) forms: &'s Forms<'a>,
     pub(crate) questions: &'s Questions<'a>,
     pub(crate) places: &'p [u32],
+    pub ghost accepted: { IsAccepted forms.now } by { IsAccepted-prop forms.now },
     pub ghost together: { questions.now.ifr ≡ forms.now },
     pub ghost placed: { places.now
         ≡ map (λ (n : Placed). n.place) (reader_nodes (nodes_of forms.now)) },
@@ -40,8 +43,6 @@ impl<'p, 's, 'a> Source<'p, 's, 'a> {
         // There is at most one reader at each place.
         ensures high { number ≤ result }
     {
-        // The package is accepted: the places of its nodes rise.
-        self.forms.bytes();
         self.places[number]
     }
 
@@ -51,8 +52,6 @@ impl<'p, 's, 'a> Source<'p, 's, 'a> {
         ensures within { result < length (reader_nodes (nodes_of self.entry.forms.now)) }
         ensures there { (reader_node (nodes_of self.entry.forms.now) result).place ≡ place }
     {
-        // The package is accepted: the places of its nodes rise.
-        self.forms.bytes();
         let Ok(number) = self.places.binary_search(&place) else {
             unreachable!()
         };

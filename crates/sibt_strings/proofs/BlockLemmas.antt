@@ -43,10 +43,10 @@ pub record LeadsTo (bytes rest : List ℕ) : Type 0 where
   pub leads : Leads bytes blocks rest
   pub few : length blocks + length rest ≤ length bytes
 
-pub leads_start : (bytes : List ℕ) → LeadsTo bytes bytes
+unfoldable pub leads_start : (bytes : List ℕ) → LeadsTo bytes bytes
 leads_start bytes = record { blocks = []; leads = refl; few = omega arith }
 
-pub leads_on : (bytes rest : List ℕ) (block : Block) (behind : List ℕ) → LeadsTo bytes rest → front_of rest ≡ Whole block behind → length behind < length rest → LeadsTo bytes behind
+unfoldable pub leads_on : (bytes rest : List ℕ) (block : Block) (behind : List ℕ) → LeadsTo bytes rest → front_of rest ≡ Whole block behind → length behind < length rest → LeadsTo bytes behind
 leads_on bytes rest block behind l front less = record {
   blocks = l.blocks ++ block ∷ [];
   leads = leads_more bytes l.blocks rest block behind l.leads front;

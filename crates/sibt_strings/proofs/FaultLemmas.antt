@@ -4,12 +4,14 @@ use Rattle.std.proofs.lemmas.Bool.{false≢true, true≢false}
 use Rattle.std.specs.Option.{option_map, is_some}
 use Rattle.hii_bytes.specs.declared.cause.Cause.{Cause}
 use Rattle.hii_bytes.specs.declared.cause.Cause.TheVariants.{StringHeader, StringBlock, StringText, LanguageText}
+use Rattle.hii_bytes.specs.declared.cause.Fault.{Fault}
 use Rattle.hii_bytes.specs.Cause.{number_of}
 use Rattle.hii_bytes.specs.Faults.{IsLeast, HasNone}
 use Rattle.sibt_strings.specs.Blocks.{Block, Front, End, CutText, BadBlock, front_of, AreBlocks, StandsAt}
 use Rattle.sibt_strings.specs.code.Ends.{Stops}
 use Rattle.sibt_strings.specs.Strings.{Spoken, Speaks, texts_of, HasFixedPart, IsStringFault, IsStringFaultIn, info_offset, blocks_of, language_of}
-use Rattle.sibt_strings.proofs.BlockLemmas.{one_stop, one_reading}
+use Rattle.sibt_strings.specs.code.Views.{blocks_in, spoken_in, HoldsBlocks}
+use Rattle.sibt_strings.proofs.BlockLemmas.{one_stop, one_reading, held_are}
 
 -- whole blocks lead to one place, and one thing stands there
 same_stand : (blocks : List ℕ) (f g : Front) (a b : ℕ) → StandsAt blocks f a → StandsAt blocks g b → Stops f → Stops g → (a ≡ b) × (f ≡ g)
@@ -124,6 +126,26 @@ no_string_fault bytes spoken h cause place f = elim (other_fault bytes cause pla
   where
     some_none : (y : List ℕ) → Some y ≡ None → ⊥
     some_none y e = cc
+
+-- what says something is not refused
+pub refused_unspoken : (bytes : List ℕ) (start : ℕ) (spoken : Spoken) (fault : Fault) → Speaks bytes spoken → IsLeast (IsStringFaultIn bytes start) fault → ⊥
+refused_unspoken bytes start spoken fault speaks least = no_string_fault bytes spoken speaks fault.cause least.told.0 least.told.1
+
+-- a language and whole blocks say something
+pub spoken_by_parts : (bytes language blocks : List ℕ) → HasFixedPart bytes → blocks ≡ blocks_of bytes → language_of bytes ≡ Some language → HoldsBlocks blocks → Speaks bytes (spoken_in language blocks)
+spoken_by_parts bytes language blocks fixed same language_is held = record {
+  fixed = fixed;
+  language = language_is;
+  whole_blocks = blocks_in (length blocks) blocks;
+  are = subst (λ b. AreBlocks b (blocks_in (length blocks) blocks)) same (held_are blocks held);
+  texts = refl;
+}
+
+-- the one fault where the blocks are whole
+pub only_language : (bytes blocks : List ℕ) (start : ℕ) → HasFixedPart bytes → blocks ≡ blocks_of bytes → language_of bytes ≡ None → HoldsBlocks blocks →
+    IsLeast (IsStringFaultIn bytes start) (record { cause = LanguageText; place = start + 46 })
+only_language bytes blocks start fixed same none held =
+    least_language bytes start fixed none (λ cause place f. absurd (no_block_fault bytes held.0 (subst (λ b. AreBlocks b held.0) same held.1) cause place f))
 
 -- what is bad among these blocks, where they are those of a package
 pub bad_at : (blocks bytes : List ℕ) (cause : Cause) (at : ℕ) → blocks ≡ blocks_of bytes →

@@ -1,23 +1,25 @@
 -- A table finds the texts of ids.
-use Rattle.std.proofs.Common.{◌≡◌, ◌≢◌, ◌⊎◌, ℕ, zero, suc, ◌+◌, ◌-◌, ◌<◌, ◌≤◌, ◌^◌, ◌==◌, true, false, inl, inr, if◌then◌else◌, List, [], ◌∷◌, ◌++◌, length, drop, get_or, map, replicate, Option, None, Some, Ok, Err, refl, ap, sym, ◌∙◌, subst, arith, append_assoc, length-append}
-use Rattle.std.specs.Option.{option_map, is_some}
+use Rattle.std.proofs.Common.{◌≡◌, ◌≢◌, ℕ, zero, suc, ◌+◌, ◌-◌, ◌<◌, ◌≤◌, ◌^◌, ◌==◌, true, false, inl, inr, if◌then◌else◌, List, [], ◌∷◌, ◌++◌, length, get_or, map, replicate, Option, None, Some, Ok, Err, refl, ap, sym, ◌∙◌, subst, arith, append_assoc, length-append}
+use Rattle.std.specs.Option.{option_map}
 use Rattle.std.specs.List.Sorted.{IsBinarySearchResult, IsNonDecreasingBy}
 use Rattle.std.specs.Ordering.{nat_cmp, ordering_index}
 use Rattle.std.proofs.lemmas.Cmp.{ranked}
-use Rattle.std.proofs.lemmas.List.{append-nil, drop_all, length-map, map-append, map_push}
+use Rattle.std.proofs.lemmas.List.{append-nil, drop_all, map_push}
 use Rattle.std.proofs.lemmas.List.Sorted.{IsNonDecreasingBy-from_default}
-use Rattle.std.proofs.lemmas.Bool.{false≢true, cases_eq, cases_lt, cond-true, cond-false}
+use Rattle.std.proofs.lemmas.Bool.{cases_eq, cases_lt, cond-true, cond-false}
 use Rattle.std.proofs.lemmas.Bool.Decides.{nat_tests}
-use Rattle.sibt_strings.specs.Blocks.{Block, Duplicate, Skip, Whole, cut_text, texts_in, front_of, AreBlocks}
-use Rattle.sibt_strings.specs.code.Ends.{Stops}
+use Rattle.sibt_strings.specs.Blocks.{Block, Texts, Duplicate, Skip, End, Whole, cut_text, texts_in, front_of}
 use Rattle.sibt_strings.specs.Strings.{text_at, texts_of, with_block, with_blocks}
-use Rattle.sibt_strings.specs.code.Views.{EndsWith, count_of, whole_texts}
-use Rattle.sibt_strings.specs.code.Table.{place_of, text_of_place, Rises, IsTable, Adds}
+use Rattle.sibt_strings.specs.code.Views.{EndsWith, HoldsBlocks}
+use Rattle.sibt_strings.specs.code.Table.{place_of, text_of_place, Rises, IsTable, HasTable, IsNext, IsTabled, Adds, StepsTo}
 use Rattle.sibt_strings.specs.declared.place.TextPlace.{TextPlace}
-use Rattle.sibt_strings.proofs.BlockLemmas.{blocks_none}
-use Rattle.sibt_strings.proofs.EndLemmas.{ends_place, ends_trans}
-use Rattle.sibt_strings.proofs.IdLemmas.{OptionText, text_at-left, text_at-right, text_at-past, with_blocks-more, Left, left_all, left_behind}
-use Rattle.sibt_strings.proofs.TextLemmas.{cut_ends, same_some, texts_split}
+use Rattle.sibt_strings.specs.declared.places.TextPlaces.{TextPlaces}
+use Rattle.sibt_strings.specs.declared.places.Step.{Step}
+use Rattle.sibt_strings.specs.declared.places.Step.TheVariants as step
+use Rattle.sibt_strings.proofs.BlockLemmas.{LeadsTo, leads_start, leads_on, held_blocks}
+use Rattle.sibt_strings.proofs.EndLemmas.{ends_all, ends_place, ends_trans}
+use Rattle.sibt_strings.proofs.IdLemmas.{OptionText, text_at-left, text_at-right, text_at-past, length-with_block}
+use Rattle.sibt_strings.proofs.TextLemmas.{cut_ends, texts_none, texts_first}
 
 no_place : TextPlace
 no_place = record { id = 0; place = 0 }
@@ -75,16 +77,8 @@ place_of-push_other : (places : List TextPlace) (p : TextPlace) (id : ℕ) → i
 place_of-push_other [] p id other = grind (arith, nat_tests)
 place_of-push_other (q ∷ places) p id other = ap (λ later. if q.id == id then Some q.place else later) (place_of-push_other places p id other)
 
--- no place for no text
-pub table_start : (bytes : List ℕ) → IsTable bytes [] []
-table_start bytes = record { rise = omega arith; found = none }
-  where
-    none : (id : ℕ) → id < 2 ^ 16 → None ≡ text_at [] id
-    none zero lt = refl
-    none (suc n) lt = refl
-
 -- the place of one text more
-pub table_push : (bytes : List ℕ) (texts : List OptionText) (places : List TextPlace) (p : TextPlace) (text : OptionText) → IsTable bytes texts places →
+table_push : (bytes : List ℕ) (texts : List OptionText) (places : List TextPlace) (p : TextPlace) (text : OptionText) → IsTable bytes texts places →
     p.id ≡ length texts + 1 → text_of_place bytes (Some p.place) ≡ text → IsTable bytes (texts ++ text ∷ []) (places ++ p ∷ [])
 table_push bytes texts places p text t next here =
     let size : length (texts ++ text ∷ []) ≡ length texts + 1 = length-append texts (text ∷ []) in
@@ -105,7 +99,7 @@ table_push bytes texts places p text t next here =
     ]
 
 -- the places stay where the ids that follow have no text
-pub table_none : (bytes : List ℕ) (texts more : List OptionText) (places : List TextPlace) → IsTable bytes texts places →
+table_none : (bytes : List ℕ) (texts more : List OptionText) (places : List TextPlace) → IsTable bytes texts places →
     ((id : ℕ) → id < 2 ^ 16 → text_at (texts ++ more) id ≡ text_at texts id) → IsTable bytes (texts ++ more) places
 table_none bytes texts more places t same = record {
   rise = rises_weaker 1 (length texts + 1) (length (texts ++ more) + 1) places (omega (arith, length-append texts more)) t.rise;
@@ -113,11 +107,11 @@ table_none bytes texts more places t same = record {
 }
 
 -- or cannot be named
-pub table_full : (bytes : List ℕ) (texts more : List OptionText) (places : List TextPlace) → IsTable bytes texts places → 2 ^ 16 ≤ length texts + 1 → IsTable bytes (texts ++ more) places
+table_full : (bytes : List ℕ) (texts more : List OptionText) (places : List TextPlace) → IsTable bytes texts places → 2 ^ 16 ≤ length texts + 1 → IsTable bytes (texts ++ more) places
 table_full bytes texts more places t full = table_none bytes texts more places t (λ id small. text_at-left texts more id (omega (arith, small, full)))
 
 -- skipped ids have no text
-pub text_at-replicate : (texts : List OptionText) (count id : ℕ) → text_at (texts ++ replicate count None) id ≡ text_at texts id
+text_at-replicate : (texts : List OptionText) (count id : ℕ) → text_at (texts ++ replicate count None) id ≡ text_at texts id
 text_at-replicate texts count zero = refl
 text_at-replicate [] count (suc n) = go count n
   where
@@ -176,179 +170,122 @@ pub table_past : (bytes : List ℕ) (texts : List OptionText) (places : List Tex
     Some place ≡ place_of places id → length bytes ≤ place → text_at texts id ≡ None
 table_past bytes texts places id place t small found past = sym (t.found id small) ∙ ap (text_of_place bytes) (sym found) ∙ text_past bytes place past
 
--- the places with one block more, by its form
-pub table_duplicate : (bytes : List ℕ) (texts : List OptionText) (places : List TextPlace) (other : ℕ) (p : TextPlace) → IsTable bytes texts places → other < 2 ^ 16 →
-    Some p.place ≡ place_of places other → p.id ≡ length texts + 1 → IsTable bytes (with_block texts (Duplicate other)) (places ++ p ∷ [])
-table_duplicate bytes texts places other p t small found next =
-    table_push bytes texts places p (text_at texts other) t next (ap (text_of_place bytes) found ∙ t.found other small)
-
-pub table_no_duplicate : (bytes : List ℕ) (texts : List OptionText) (places : List TextPlace) (other : ℕ) → IsTable bytes texts places → other < 2 ^ 16 →
-    None ≡ place_of places other → IsTable bytes (with_block texts (Duplicate other)) places
-table_no_duplicate bytes texts places other t small missing =
-    let none : text_at texts other ≡ None = sym (t.found other small) ∙ sym (ap (text_of_place bytes) missing) in
-    subst (λ text. IsTable bytes (texts ++ text ∷ []) places) (sym none) (table_none bytes texts (None ∷ []) places t (λ id _. text_at-replicate texts 1 id))
-
-pub table_skip : (bytes : List ℕ) (texts : List OptionText) (places : List TextPlace) (count : ℕ) → IsTable bytes texts places → IsTable bytes (with_block texts (Skip count)) places
+-- the places where so many ids are skipped
+table_skip : (bytes : List ℕ) (texts : List OptionText) (places : List TextPlace) (count : ℕ) → IsTable bytes texts places → IsTable bytes (with_block texts (Skip count)) places
 table_skip bytes texts places count t = table_none bytes texts (replicate count None) places t (λ id _. text_at-replicate texts count id)
 
--- Of so many texts at the front of bytes that stand in the blocks the first n have places, and the rest has the others.
-pub record Added (blocks : List ℕ) (next count : ℕ) (bytes : List ℕ) (old : List TextPlace) (n : ℕ) (rest : List ℕ) (new : List TextPlace) : Type 0 where
-  pub seen : List (List ℕ)
-  pub size : length seen ≡ n
-  pub inside : EndsWith blocks rest
-  pub later : List (List ℕ) × List ℕ
-  pub whole : texts_in (count - n) rest ≡ Some later
-  pub all : whole_texts (texts_in count bytes) ≡ seen ++ later.0
-  pub table : (done : List OptionText) → length done + 1 ≡ next → IsTable blocks done old → IsTable blocks (done ++ map Some seen) new
-
-pub added_start : (blocks : List ℕ) (next count : ℕ) (bytes : List ℕ) (places : List TextPlace) → EndsWith blocks bytes → is_some (texts_in count bytes) ≡ true → Added blocks next count bytes places 0 bytes places
-added_start blocks next count bytes places inside whole =
-    let t = some_of (texts_in count bytes) whole in
-    record {
-      seen = [];
-      size = refl;
-      inside = inside;
-      later = t.0;
-      whole = ap (λ n. texts_in n bytes) (minus_zero count) ∙ t.1;
-      all = ap whole_texts t.1;
-      table = λ done size table. rw (append-nil done) table;
-    }
-  where
-    some_of : (o : Option (List (List ℕ) × List ℕ)) → is_some o ≡ true → (t : List (List ℕ) × List ℕ) × (o ≡ Some t)
-    some_of None e = absurd (false≢true e)
-    some_of (Some t) e = (t, refl)
-
-    minus_zero : (n : ℕ) → n - 0 ≡ n
-    minus_zero n = omega arith
-
-one_less : (count n : ℕ) (bytes : List ℕ) (later : List (List ℕ) × List ℕ) → n < count → texts_in (count - n) bytes ≡ Some later → texts_in (suc (count - (n + 1))) bytes ≡ Some later
-one_less count n bytes later lt e = let step : suc (count - (n + 1)) ≡ count - n = omega arith in ap (λ k. texts_in k bytes) step ∙ e
-
-same_later : {x : Option (List (List ℕ) × List ℕ)} {l m : List (List ℕ) × List ℕ} → x ≡ Some l → x ≡ Some m → l ≡ m
-same_later {x} {l} {m} e f = same_some l m (sym e ∙ f)
-
--- where texts are left, one stands at the front of the rest
-pub added_split : {blocks : List ℕ} {next count : ℕ} {bytes : List ℕ} {old : List TextPlace} {n : ℕ} {rest : List ℕ} {new : List TextPlace}
-    (a : Added blocks next count bytes old n rest new) → n < count →
-    (t : List ℕ × List ℕ) × (ts : List (List ℕ) × List ℕ) × (cut_text rest ≡ Some t) × (texts_in (count - (n + 1)) t.1 ≡ Some ts) × (a.later ≡ (t.0 ∷ ts.0, ts.1))
-added_split {count = count} {n = n} {rest = rest} a lt =
-    let s = texts_split (count - (n + 1)) rest (ap is_some (one_less count n rest a.later lt a.whole)) in
-    (s.0, s.1, s.2, s.3, same_later (one_less count n rest a.later lt a.whole) s.4)
-
 -- the place of one text more
-pub added_more : {blocks : List ℕ} {next count : ℕ} {bytes : List ℕ} {old : List TextPlace} {n : ℕ} {rest : List ℕ} {new : List TextPlace}
-    (a : Added blocks next count bytes old n rest new) → n < count → (p : TextPlace) (text behind : List ℕ) →
-    cut_text rest ≡ Some (text, behind) → EndsWith rest behind → p.id ≡ next + n → p.place ≡ length blocks - length rest →
-    Added blocks next count bytes old (n + 1) behind (new ++ p ∷ [])
-added_more {blocks} {next} {count} {bytes} {old} {n} {rest} {new} a lt p text behind found inside id place =
-    let s = added_split a lt in
-    let same : s.0 ≡ (text, behind) = same_some _ _ (sym s.2 ∙ found) in
-    let more : map Some (a.seen ++ text ∷ []) ≡ map Some a.seen ++ Some text ∷ [] = map_push Some a.seen text in
-    let here : text_of_place blocks (Some p.place) ≡ Some text =
-    ap (λ k. option_map (λ t. t.0) (cut_text (drop k blocks))) place ∙ ap (λ b. option_map (λ t. t.0) (cut_text b)) (ends_place a.inside) ∙ ap (option_map (λ t. t.0)) found in
-    record {
-      seen = a.seen ++ text ∷ [];
-      size = omega (arith, length-append a.seen (text ∷ []), a.size);
-      inside = ends_trans a.inside inside;
-      later = s.1;
-      whole = ap (λ (t : List ℕ × List ℕ). texts_in (count - (n + 1)) t.1) (sym same) ∙ s.3;
-      all = a.all ∙ ap (λ (l : List (List ℕ) × List ℕ). a.seen ++ l.0) s.4 ∙ ap (λ (t : List ℕ × List ℕ). a.seen ++ (t.0 ∷ s.1.0)) same ∙ sym (append_assoc a.seen (text ∷ []) s.1.0);
-      table = λ done size table.
-          let next : p.id ≡ length (done ++ map Some a.seen) + 1 = omega (arith, id, size, a.size, length-append done (map Some a.seen), length-map a.seen Some) in
-          subst (λ texts. IsTable blocks texts (new ++ p ∷ [])) (append_assoc done (map Some a.seen) (Some text ∷ []) ∙ ap (λ m. done ++ m) (sym more))
-          (table_push blocks (done ++ map Some a.seen) new p (Some text) (a.table done size table) next here);
-    }
+pub tabled_push : (bytes : List ℕ) (texts : List OptionText) (places : List TextPlace) (id place : ℕ) (next after : Option ℕ) → next ≡ Some id → IsTabled bytes texts next places →
+    ((n : ℕ) → IsNext next n → IsNext after (n + 1)) → IsTabled bytes (texts ++ text_of_place bytes (Some place) ∷ []) after (places ++ record { id = id; place = place } ∷ [])
+tabled_push bytes texts places id place next after named t further = record {
+  table = table_push bytes texts places (record { id = id; place = place }) (text_of_place bytes (Some place)) t.table (subst (λ n. IsNext n (length texts + 1)) named t.behind) refl;
+  behind = subst (IsNext after) (omega (arith, length-append texts (text_of_place bytes (Some place) ∷ []))) (further (length texts + 1) t.behind);
+}
 
--- all texts have places
-pub added_all : {blocks : List ℕ} {next count : ℕ} {bytes : List ℕ} {old : List TextPlace} {n : ℕ} {rest : List ℕ} {new : List TextPlace}
-    (a : Added blocks next count bytes old n rest new) → count ≤ n →
-    (done : List OptionText) → length done + 1 ≡ next → IsTable blocks done old → IsTable blocks (done ++ map Some (whole_texts (texts_in count bytes))) new
-unfolding texts_in
-added_all {blocks} {count = count} {n = n} {rest = rest} {new = new} a le done size table =
-    let none : count - n ≡ 0 = omega arith in
-    let later : a.later ≡ ([], rest) = same_some _ _ (sym a.whole ∙ ap (λ k. texts_in k rest) none) in
-    let all = a.all ∙ ap (λ (l : List (List ℕ) × List ℕ). a.seen ++ l.0) later ∙ append-nil a.seen in
-    subst (λ texts. IsTable blocks (done ++ map Some texts) new) (sym all) (a.table done size table)
+-- a text of an id that has no name
+pub tabled_full : (bytes : List ℕ) (texts : List OptionText) (places : List TextPlace) (text : OptionText) (next : Option ℕ) → next ≡ None → IsTabled bytes texts next places →
+    IsTabled bytes (texts ++ text ∷ []) next places
+tabled_full bytes texts places text next unnamed t =
+    let full : 2 ^ 16 ≤ length texts + 1 = subst (λ n. IsNext n (length texts + 1)) unnamed t.behind in
+    let more : 2 ^ 16 ≤ length (texts ++ text ∷ []) + 1 = omega (arith, full, length-append texts (text ∷ [])) in
+    record { table = table_full bytes texts (text ∷ []) places t.table full; behind = subst (λ n. IsNext n (length (texts ++ text ∷ []) + 1)) (sym unnamed) more }
 
--- the texts that are left belong to ids that have no name
-pub added_full : {blocks : List ℕ} {next count : ℕ} {bytes : List ℕ} {old : List TextPlace} {n : ℕ} {rest : List ℕ} {new : List TextPlace}
-    (a : Added blocks next count bytes old n rest new) → 2 ^ 16 ≤ next + n →
-    (done : List OptionText) → length done + 1 ≡ next → IsTable blocks done old → IsTable blocks (done ++ map Some (whole_texts (texts_in count bytes))) new
-added_full {blocks} {n = n} {new = new} a full done size table =
-    let seen : length (done ++ map Some a.seen) ≡ length done + n = omega (arith, a.size, length-append done (map Some a.seen), length-map a.seen Some) in
-    let t = table_full blocks (done ++ map Some a.seen) (map Some a.later.0) new (a.table done size table) (omega (arith, seen, size, full)) in
-    subst (λ texts. IsTable blocks texts new)
-    (append_assoc done (map Some a.seen) (map Some a.later.0) ∙ ap (λ m. done ++ m) (sym (map-append Some a.seen a.later.0) ∙ ap (map Some) (sym a.all))) t
+-- so many ids without text
+pub tabled_skip : (bytes : List ℕ) (texts : List OptionText) (places : List TextPlace) (next after : Option ℕ) (count : ℕ) → IsTabled bytes texts next places →
+    ((id : ℕ) → IsNext next id → IsNext after (id + count)) → IsTabled bytes (with_block texts (Skip count)) after places
+tabled_skip bytes texts places next after count t further = record {
+  table = table_skip bytes texts places count t.table;
+  behind = subst (IsNext after) (omega (arith, length-with_block texts (Skip count))) (further (length texts + 1) t.behind);
+}
 
--- The first n texts have places, of which the last stands at the front of the rest; before the first the rest is that of none.
-pub record AddedUpTo (blocks : List ℕ) (next count : ℕ) (bytes : List ℕ) (old : List TextPlace) (n : ℕ) (rest : List ℕ) (new : List TextPlace) : Type 0 where
-  pub behind : List ℕ
-  pub added : Added blocks next count bytes old n behind new
-  pub last : ((n ≡ 0) × (rest ≡ behind)) ⊎ ((0 < n) × (text : List ℕ) × (cut_text rest ≡ Some (text, behind)))
+pub tabled_no_duplicate : (bytes : List ℕ) (texts : List OptionText) (places new : List TextPlace) (next after : Option ℕ) (other : ℕ) → IsTabled bytes texts next places → other < 2 ^ 16 →
+    None ≡ place_of places other → IsTabled bytes (with_block texts (Skip 1)) after new → IsTabled bytes (with_block texts (Duplicate other)) after new
+tabled_no_duplicate bytes texts places new next after other t small missing skipped =
+    let none : text_at texts other ≡ None = sym (t.table.found other small) ∙ sym (ap (text_of_place bytes) missing) in
+    subst (λ text. IsTabled bytes (texts ++ text ∷ []) after new) (sym none) skipped
 
-pub up_to_start : (blocks : List ℕ) (next count : ℕ) (bytes : List ℕ) (places : List TextPlace) → EndsWith blocks bytes → is_some (texts_in count bytes) ≡ true → AddedUpTo blocks next count bytes places 0 bytes places
-up_to_start blocks next count bytes places inside whole = record { behind = bytes; added = added_start blocks next count bytes places inside whole; last = inl (refl, refl) }
+-- texts with these before them
+abbrev texts_before : List (List ℕ) → Option (List (List ℕ) × List ℕ) → Option (List (List ℕ) × List ℕ)
+texts_before seen None = None
+texts_before seen (Some t) = Some (seen ++ t.0, t.1)
 
--- before the first text nothing is left out, and behind it the text of the last place
-pub up_to_first : {blocks : List ℕ} {next count : ℕ} {bytes : List ℕ} {old : List TextPlace} {n : ℕ} {rest : List ℕ} {new : List TextPlace}
-    (a : AddedUpTo blocks next count bytes old n rest new) → n ≡ 0 → rest ≡ a.behind
-up_to_first a none = elim a.last [
-  | inl first ↦ first.1
-  | inr later ↦ absurd (omega (arith, later.0, none))
-]
+-- Of so many texts at the front of bytes the first n have places, and the others stand at the front of the rest.
+pub record Placed (blocks bytes : List ℕ) (count : ℕ) (old : TextPlaces) (n : ℕ) (rest : List ℕ) (new : TextPlaces) : Type 0 where
+  pub seen : List (List ℕ)
+  pub inside : EndsWith bytes rest
+  pub same : texts_before seen (texts_in (count - n) rest) ≡ texts_in count bytes
+  pub adds : Adds blocks (Texts seen) old new
 
-pub up_to_later : {blocks : List ℕ} {next count : ℕ} {bytes : List ℕ} {old : List TextPlace} {n : ℕ} {rest : List ℕ} {new : List TextPlace}
-    (a : AddedUpTo blocks next count bytes old n rest new) → 0 < n → (text : List ℕ) × (cut_text rest ≡ Some (text, a.behind))
-up_to_later a some = elim a.last [
-  | inl first ↦ absurd (omega (arith, first.0, some))
-  | inr later ↦ (later.1, later.2)
-]
+module _ {blocks bytes : List ℕ} {count : ℕ} {old : TextPlaces} {n : ℕ} {rest : List ℕ} {new : TextPlaces} (p : Placed blocks bytes count old n rest new) where
+  left : n < count → count - n ≡ suc (count - (n + 1))
+  left less = omega arith
 
--- the place of one text more, which stands behind the others
-pub up_to_more : {blocks : List ℕ} {next count : ℕ} {bytes : List ℕ} {old : List TextPlace} {n : ℕ} {rest : List ℕ} {new : List TextPlace}
-    (a : AddedUpTo blocks next count bytes old n rest new) → n < count → (p : TextPlace) (here : List ℕ) → here ≡ a.behind → p.id ≡ next + n → p.place ≡ length blocks - length here →
-    AddedUpTo blocks next count bytes old (n + 1) here (new ++ p ∷ [])
-up_to_more {blocks} a lt p here same id place =
-    let s = added_split a.added lt in
-    let found : cut_text here ≡ Some (s.0.0, s.0.1) = ap cut_text same ∙ s.2 in
-    record {
-      behind = s.0.1;
-      added = added_more a.added lt p s.0.0 s.0.1 s.2 (cut_ends a.behind s.0.0 s.0.1 s.2) id (place ∙ ap (λ (b : List ℕ). length blocks - length b) same);
-      last = inr (omega arith, s.0.0, found);
-    }
+  -- one text more
+  pub placed_more : n < count → EndsWith blocks bytes → (newer : TextPlaces) (place : ℕ) (text behind : List ℕ) → place ≡ length blocks - length rest →
+      ((texts : List OptionText) → IsTabled blocks texts new.next new.places.items → IsTabled blocks (texts ++ text_of_place blocks (Some place) ∷ []) newer.next newer.places.items) →
+      cut_text rest ≡ Some (text, behind) → Placed blocks bytes count old (n + 1) behind newer
+  placed_more less inside newer place text behind at added found =
+      let here : text_of_place blocks (Some place) ≡ Some text =
+      ap (λ k. text_of_place blocks (Some k)) at ∙ ap (λ b. option_map (λ (t : List ℕ × List ℕ). t.0) (cut_text b)) (ends_place (ends_trans inside p.inside)) ∙ ap (option_map (λ t. t.0)) found in
+      record {
+        seen = p.seen ++ text ∷ [];
+        inside = ends_trans p.inside (cut_ends rest text behind found);
+        same = moved (texts_in (count - (n + 1)) behind) ∙ ap (texts_before p.seen) (sym (texts_first (count - (n + 1)) rest text behind found) ∙ ap (λ k. texts_in k rest) (sym (left less))) ∙ p.same;
+        adds = λ texts t.
+            let pushed = subst (λ text. IsTabled blocks ((texts ++ map Some p.seen) ++ text ∷ []) newer.next newer.places.items) here (added (texts ++ map Some p.seen) (p.adds texts t)) in
+            subst (λ texts. IsTabled blocks texts newer.next newer.places.items) (append_assoc texts (map Some p.seen) (Some text ∷ []) ∙ ap (λ more. texts ++ more) (sym (map_push Some p.seen text))) pushed;
+      }
+    where
+      moved : (t : Option (List (List ℕ) × List ℕ)) → texts_before (p.seen ++ text ∷ []) t ≡ texts_before p.seen (option_map (λ ts. (text ∷ ts.0, ts.1)) t)
+      moved None = refl
+      moved (Some t) = ap (λ texts. Some (texts, t.1)) (append_assoc p.seen (text ∷ []) t.0)
 
--- the places of the texts of the blocks before the rest, up to the next id
-pub record Tabled (blocks rest : List ℕ) (next : ℕ) (whole : List Block) (places : List TextPlace) : Type 0 where
-  pub left : Left rest (next - 1) whole
-  pub some : 1 ≤ next
-  pub table : IsTable blocks left.done places
+  -- one of the texts is cut
+  pub placed_cut : n < count → cut_text rest ≡ None → texts_in count bytes ≡ None
+  placed_cut less cut = sym p.same ∙ ap (texts_before p.seen) (ap (λ k. texts_in k rest) (left less) ∙ texts_none (count - (n + 1)) rest cut)
 
-pub tabled_start : (blocks : List ℕ) (whole : List Block) → AreBlocks blocks whole → Tabled blocks blocks 1 whole []
-unfolding left_all
-tabled_start blocks whole are = record { left = left_all blocks whole are; some = omega arith; table = table_start blocks }
+  -- all have places
+  pub placed_all : count ≤ n → texts_in count bytes ≡ Some (p.seen, rest)
+  unfolding texts_in
+  placed_all all =
+      let none : count - n ≡ 0 = omega arith in
+      sym p.same ∙ ap (λ k. texts_before p.seen (texts_in k rest)) none ∙ ap (λ texts. Some (texts, rest)) (append-nil p.seen)
 
--- one block more
-module _ {blocks rest : List ℕ} {next : ℕ} {whole : List Block} {old : List TextPlace} (block : Block) (behind : List ℕ) (new : List TextPlace)
-    (t : Tabled blocks rest next whole old) (front : front_of rest ≡ Whole block behind) (adds : Adds blocks next block old new) where
-  more : (later : Left behind (next - 1 + count_of block) whole) × IsTable blocks later.done new
-  more =
-      let l = left_behind rest (next - 1) whole block behind t.left front in
-      (l.0, subst (λ done. IsTable blocks done new) (sym l.1) (adds t.left.done (omega (arith, t.left.counted, t.some)) t.table))
+with_blocks-push : (texts : List OptionText) (blocks : List Block) (block : Block) → with_blocks texts (blocks ++ block ∷ []) ≡ with_block (with_blocks texts blocks) block
+with_blocks-push texts [] block = refl
+with_blocks-push texts (b ∷ blocks) block = with_blocks-push (with_block texts b) blocks block
 
-  pub tabled_behind : (after : ℕ) → after ≡ next + count_of block → Tabled blocks behind after whole new
-  tabled_behind after e =
-      let n : next - 1 + count_of block ≡ after - 1 = omega (arith, e, t.some) in
-      let m = subst (λ n. (later : Left behind n whole) × IsTable blocks later.done new) n more in
-      record { left = m.0; some = omega (arith, e, t.some); table = m.1 }
+-- the blocks before the rest are whole, and their texts have places
+pub record Walked (blocks rest : List ℕ) (found : TextPlaces) : Type 0 where
+  pub leads : LeadsTo blocks rest
+  pub inside : EndsWith blocks rest
+  pub tabled : IsTabled blocks (texts_of leads.blocks) found.next found.places.items
 
-  -- the ids that follow have no name
-  pub tabled_full : 2 ^ 16 ≤ next + count_of block → IsTable blocks (texts_of whole) new
-  tabled_full full =
-      let l = more.0 in
-      let later = with_blocks-more l.done l.left in
-      subst (λ texts. IsTable blocks texts new) (sym later.1 ∙ l.same) (table_full blocks l.done later.0 new more.1 (omega (arith, full, l.counted, t.some)))
+pub walked_none : (blocks : List ℕ) (found : TextPlaces) → IsTabled blocks [] found.next found.places.items → Walked blocks blocks found
+unfolding leads_start
+walked_none blocks found none = record { leads = leads_start blocks; inside = ends_all blocks; tabled = none }
 
-pub tabled_end : {blocks rest : List ℕ} {next : ℕ} {whole : List Block} {places : List TextPlace} → Tabled blocks rest next whole places → Stops (front_of rest) → IsTable blocks (texts_of whole) places
-tabled_end {blocks} {rest} {places = places} t stops =
-    let texts = sym (ap (with_blocks t.left.done) (blocks_none rest t.left.left t.left.are stops)) ∙ t.left.same in
-    subst (λ texts. IsTable blocks texts places) texts t.table
+module _ {blocks rest : List ℕ} {old : TextPlaces} (w : Walked blocks rest old) where
+  -- one block more
+  pub walked_on : (new : TextPlaces) (block : Block) (behind : List ℕ) → front_of rest ≡ Whole block behind → Adds blocks block old new → EndsWith rest behind → length behind < length rest →
+      Walked blocks behind new
+  unfolding leads_on
+  walked_on new block behind front adds inside less = record {
+    leads = leads_on blocks rest block behind w.leads front less;
+    inside = ends_trans w.inside inside;
+    tabled = subst (λ texts. IsTabled blocks texts new.next new.places.items) (sym (with_blocks-push [] w.leads.blocks block)) (adds (texts_of w.leads.blocks) w.tabled);
+  }
+
+  -- the end
+  walked_whole : front_of rest ≡ End → HoldsBlocks blocks
+  walked_whole end = (w.leads.blocks, (rest, w.leads.leads, end), omega (arith, w.leads.few))
+
+  pub walked_table : front_of rest ≡ End → HasTable blocks old.places.items
+  unfolding walked_whole
+  walked_table end = subst (λ whole. IsTable blocks (texts_of whole) old.places.items) (sym (held_blocks blocks (walked_whole end))) w.tabled.table
+
+-- what a step leaves stands at the end of what it began with
+pub steps_behind : {bytes more : List ℕ} (found : Step) → EndsWith bytes more → StepsTo (EndsWith more) found → StepsTo (EndsWith bytes) found
+steps_behind step.End e lies = tt
+steps_behind (step.Behind rest) e lies = ends_trans e lies
+steps_behind (step.Bad cause) e lies = tt

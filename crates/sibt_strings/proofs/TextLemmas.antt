@@ -88,9 +88,14 @@ pub cases_option : {A : Type 0} (o : Option A) → (o ≡ None) ⊎ ((x : A) × 
 cases_option None = inl refl
 cases_option (Some x) = inr (x, refl)
 
-texts_none : (n : ℕ) (bytes : List ℕ) → cut_text bytes ≡ None → texts_in (suc n) bytes ≡ None
+pub texts_none : (n : ℕ) (bytes : List ℕ) → cut_text bytes ≡ None → texts_in (suc n) bytes ≡ None
 unfolding texts_in
 texts_none n bytes e = rw e refl
+
+-- the others stand behind the first
+pub texts_first : (n : ℕ) (bytes text behind : List ℕ) → cut_text bytes ≡ Some (text, behind) → texts_in (suc n) bytes ≡ option_map (λ ts. (text ∷ ts.0, ts.1)) (texts_in n behind)
+unfolding texts_in
+texts_first n bytes text behind e = rw e refl
 
 texts_cons : (n : ℕ) (bytes : List ℕ) (t : List ℕ × List ℕ) (ts : List (List ℕ) × List ℕ) → cut_text bytes ≡ Some t → texts_in n t.1 ≡ Some ts → texts_in (suc n) bytes ≡ Some (t.0 ∷ ts.0, ts.1)
 unfolding texts_in

@@ -1,10 +1,8 @@
 //! The parts of a string package behind its fixed part.
 
-ghost use Rattle.std.specs.Prelude.{◌≡◌, ◌⊎◌, List, IfErr, OnOk, option_map};
-ghost use Rattle.hii_bytes.specs.declared.cause.Cause.TheVariants.{StringBlock, StringText};
-ghost use Rattle.sibt_strings.specs.Blocks.{BadBlock, CutText, StandsAt};
+ghost use Rattle.std.specs.Prelude.{◌≡◌, List, IfErr, OnOk, option_map};
 ghost use Rattle.sibt_strings.specs.Strings.{language_in};
-ghost use Rattle.sibt_strings.specs.code.Views.{HoldsBlocks};
+ghost use Rattle.sibt_strings.specs.code.Views.{HoldsBlocks, IsBlockFault};
 
 use crate::front::{Front, front_at};
 use hii_bytes::{Cause, Fault};
@@ -12,9 +10,7 @@ use hii_bytes::{Cause, Fault};
 /// Whether the bytes are whole blocks up to an end block; the place of a fault counts from the first byte.
 pub(crate) fn check_blocks(blocks: &[u8]) -> Result<(), Fault>
     ensures whole { OnOk result (HoldsBlocks blocks.now) }
-    ensures bad { IfErr result (λ fault.
-        ((fault.cause ≡ StringBlock) × StandsAt blocks.now BadBlock fault.place)
-        ⊎ ((fault.cause ≡ StringText) × StandsAt blocks.now CutText fault.place)) }
+    ensures bad { IfErr result (IsBlockFault blocks.now) }
 {
     let mut rest = blocks;
     'walk: loop {

@@ -3,7 +3,7 @@
 ghost use Rattle.std.specs.Prelude.{◌≡◌, ◌+◌, ◌<◌, ◌≤◌, ◌%◌, length, IfSome, MatchOption, option_map};
 ghost use Rattle.sibt_strings.specs.Blocks.{cut_text, texts_in, front_of, texts_block, extension_block};
 ghost use Rattle.sibt_strings.specs.code.Ends.{Stops};
-ghost use Rattle.sibt_strings.specs.code.Views.{units_in, front_seen, front_or_bad, EndsWith, LiesIn, LeavesLess, SplitsInto};
+ghost use Rattle.sibt_strings.specs.code.Views.{units_in, head_seen, head_or_bad, front_seen, EndsWith, HasBehind, LiesIn, LeavesLess, SplitsInto};
 
 use crate::block::{Block, Texts};
 use crate::block_types::{
@@ -12,6 +12,20 @@ use crate::block_types::{
 };
 use crate::units::Units;
 use hii_bytes::{u16_at, u32_at};
+
+/// What stands at the front of the bytes of blocks, before its texts are split.
+#[derive(Clone, Copy, Debug)]
+pub(crate) enum Head<'a> {
+    End,
+    /// A block of so many texts, which stand at the front of the bytes if they are whole.
+    Texts(u16, &'a [u8]),
+    /// One id has the text of this one. The bytes stand behind the block, as those of the two that follow.
+    Duplicate(u16, &'a [u8]),
+    /// So many ids have no text.
+    Skip(u16, &'a [u8]),
+    Extension(&'a [u8]),
+    BadBlock,
+}
 
 /// What stands at the front of the bytes of blocks.
 #[derive(Clone, Copy, Debug)]
@@ -65,42 +79,53 @@ fn texts_front(count: u16, bytes: &[u8]) -> Front<'_>
 }
 
 // An extension of a length in bytes, whose own header takes so many; none where the length is below that or past the bytes.
-fn extension_front(header: usize, size: usize, bytes: &[u8]) -> Option<Front<'_>>
+fn extension_head(header: usize, size: usize, bytes: &[u8]) -> Option<Head<'_>>
     requires { 0 < header }
-    ensures front { front_or_bad result ≡ extension_block header size bytes.now }
-    ensures inside { IfSome result (λ front. LiesIn front bytes.now) }
-    ensures shorter { IfSome result (λ front. LeavesLess front (length bytes.now)) }
+    ensures head { head_or_bad result ≡ extension_block header size bytes.now }
+    ensures inside { IfSome result (λ head. HasBehind head (EndsWith bytes.now)) }
+    ensures shorter { IfSome result (λ head. HasBehind head (λ rest.
+        length rest < length bytes.now)) }
 {
     if size < header || bytes.len() < size {
         return None;
     }
-    Some(Front::Whole(Block::Extension, &bytes[size..]))
+    Some(Head::Extension(&bytes[size..]))
 }
 
 // What stands at the front of the bytes of blocks; none where that is no known block or its fields are cut.
 #[tactic(auto, unfolding(crate::specs::Blocks::front_of))]
-fn known_front(bytes: &[u8]) -> Option<Front<'_>>
-    ensures front { front_or_bad result ≡ front_of bytes.now }
-    ensures inside { IfSome result (λ front. LiesIn front bytes.now) }
-    ensures shorter { IfSome result (λ front. LeavesLess front (length bytes.now)) }
+fn known_head(bytes: &[u8]) -> Option<Head<'_>>
+    ensures head { head_or_bad result ≡ front_of bytes.now }
+    ensures inside { IfSome result (λ head. HasBehind head (EndsWith bytes.now)) }
+    ensures shorter { IfSome result (λ head. HasBehind head (λ rest.
+        length rest < length bytes.now)) }
 {
     let [block_type, body @ ..] = bytes else {
         return None;
     };
     match *block_type {
-        END => Some(Front::End),
-        STRING_UCS2 => Some(texts_front(1, body)),
-        STRING_UCS2_FONT => Some(texts_front(1, body.get(1..)?)),
-        STRINGS_UCS2 => Some(texts_front(u16_at(body, 0)?, &body[2..])),
-        STRINGS_UCS2_FONT => Some(texts_front(u16_at(body, 1)?, &body[3..])),
-        DUPLICATE => Some(Front::Whole(Block::Duplicate(u16_at(body, 0)?), &body[2..])),
-        SKIP2 => Some(Front::Whole(Block::Skip(u16_at(body, 0)?), &body[2..])),
-        SKIP1 => Some(Front::Whole(Block::Skip(u16::from(*body.first()?)), &body[1..])),
-        EXT1 => extension_front(3, usize::from(*body.get(1)?), bytes),
-        EXT2 => extension_front(4, usize::from(u16_at(body, 1)?), bytes),
-        EXT4 => extension_front(6, u32_at(body, 1)? as usize, bytes),
+        END => Some(Head::End),
+        STRING_UCS2 => Some(Head::Texts(1, body)),
+        STRING_UCS2_FONT => Some(Head::Texts(1, body.get(1..)?)),
+        STRINGS_UCS2 => Some(Head::Texts(u16_at(body, 0)?, &body[2..])),
+        STRINGS_UCS2_FONT => Some(Head::Texts(u16_at(body, 1)?, &body[3..])),
+        DUPLICATE => Some(Head::Duplicate(u16_at(body, 0)?, &body[2..])),
+        SKIP2 => Some(Head::Skip(u16_at(body, 0)?, &body[2..])),
+        SKIP1 => Some(Head::Skip(u16::from(*body.first()?), &body[1..])),
+        EXT1 => extension_head(3, usize::from(*body.get(1)?), bytes),
+        EXT2 => extension_head(4, usize::from(u16_at(body, 1)?), bytes),
+        EXT4 => extension_head(6, u32_at(body, 1)? as usize, bytes),
         _ => None,
     }
+}
+
+/// What stands at the front of the bytes of blocks, before its texts are split.
+pub(crate) fn head_at(bytes: &[u8]) -> Head<'_>
+    ensures head { head_seen result ≡ front_of bytes.now }
+    ensures inside { HasBehind result (EndsWith bytes.now) }
+    ensures shorter { HasBehind result (λ rest. length rest < length bytes.now) }
+{
+    known_head(bytes).unwrap_or(Head::BadBlock)
 }
 
 /// What stands at the front of the bytes of blocks.
@@ -109,7 +134,14 @@ pub(crate) fn front_at(bytes: &[u8]) -> Front<'_>
     ensures inside { LiesIn result bytes.now }
     ensures shorter { LeavesLess result (length bytes.now) }
 {
-    known_front(bytes).unwrap_or(Front::BadBlock)
+    match head_at(bytes) {
+        Head::End => Front::End,
+        Head::Texts(count, texts) => texts_front(count, texts),
+        Head::Duplicate(id, behind) => Front::Whole(Block::Duplicate(id), behind),
+        Head::Skip(count, behind) => Front::Whole(Block::Skip(count), behind),
+        Head::Extension(behind) => Front::Whole(Block::Extension, behind),
+        Head::BadBlock => Front::BadBlock,
+    }
 }
 
 /// The whole block at the front of the bytes, if one stands there, and the bytes behind it.

@@ -1,14 +1,15 @@
 //! The strings of a package, read from its bytes.
 
-ghost use Rattle.std.specs.Prelude.{◌≡◌, ◌+◌, ◌<◌, ◌^◌, length, Err, IfOk, IfErr, IsOk, option_map};
+ghost use Rattle.std.specs.Prelude.{◌≡◌, ◌<◌, ◌^◌, length, IfOk, IfErr, IsOk, option_map};
 ghost use Rattle.hii_bytes.specs.Faults.{IsLeast};
 ghost use Rattle.sibt_strings.specs.Strings.{Spoken, Speaks, IsStringFaultIn, text_at};
 ghost use Rattle.sibt_strings.specs.code.Views.{units_in};
 
-use crate::blocks::{check_blocks, language_at};
+use crate::blocks::check_blocks;
 use crate::entry::{Entry, entry_at};
+use crate::parts::Parts;
 use crate::units::Units;
-use hii_bytes::{Cause, Fault, u32_at};
+use hii_bytes::Fault;
 use hii_packages::Package;
 use std::marker::Model;
 
@@ -32,14 +33,6 @@ impl<'a> Model for Strings<'a> {
     ghost invariant = { λ s. HoldsBlocks s.block_bytes.now × (length s.block_bytes.now < 2 ^ 24) };
 }
 
-// A fault at a place in a package.
-fn fault_in<T>(source: Package<'_>, cause: Cause, at: u64) -> Result<T, Fault>
-    requires { source.place + at < 2 ^ 64 }
-    ensures { result ≡ Err record { cause = cause; place = source.entry.place + at } }
-{
-    Err(Fault::at(cause, source.place + at))
-}
-
 impl<'a> Strings<'a> {
     /// The strings of a string package (UEFI 2.8, 33.3.6 String Package), or its least fault, at its place in bytes from
     /// the list's front: StringHeader where the fixed part is cut or the blocks do not begin behind it in the package,
@@ -52,32 +45,13 @@ impl<'a> Strings<'a> {
         // What says something is read.
         ensures accepted { (spoken : Spoken) → Speaks source.entry.bytes.now spoken → IsOk result }
     {
-        let bytes = source.bytes;
-        if bytes.len() < 46 {
-            return fault_in(source, Cause::StringHeader, 0);
-        }
-        let offset = u32_at(bytes, 8).unwrap() as usize;
-        if offset < 46 || bytes.len() < offset {
-            return fault_in(source, Cause::StringHeader, 0);
-        }
-        let block_bytes = &bytes[offset..];
-        let language = language_at(&bytes[46..offset]);
-        let bad_language = Fault::at(Cause::LanguageText, source.place + 46);
-        match check_blocks(block_bytes) {
-            Ok(()) => match language {
-                Some(language) => Ok(Strings {
-                    language,
-                    block_bytes,
-                }),
-                None => Err(bad_language),
-            },
-            Err(fault) => {
-                let at = offset as u64 + fault.place;
-                if language.is_none() && 46 < at {
-                    return Err(bad_language);
-                }
-                fault_in(source, fault.cause, at)
-            }
+        let parts = Parts::of(source)?;
+        match check_blocks(parts.block_bytes) {
+            Ok(()) => Ok(Strings {
+                language: parts.language()?,
+                block_bytes: parts.block_bytes,
+            }),
+            Err(fault) => Err(parts.least_fault(fault)),
         }
     }
 

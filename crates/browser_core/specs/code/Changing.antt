@@ -1,9 +1,10 @@
 -- What the steps of a change of stores come to.
-use Rattle.std.specs.Prelude.{◌≡◌, ℕ, false, List, [], ◌∷◌, ◌++◌, length, map, take, Option, Some, None, Result, Ok, Err}
+use Rattle.std.specs.Prelude.{◌≡◌, ℕ, false, List, [], ◌∷◌, ◌++◌, length, map, take, Option, Some, None, Result, Ok, Err, IfOk}
 use Rattle.std.specs.List.{AllByRecursion}
 use Rattle.config_text.specs.Grammar.{Area}
 use Rattle.ifr_opcodes.specs.Forest.{Placed}
 use Rattle.ifr_scopes.specs.Nodes.{nodes_of}
+use Rattle.ifr_scopes.specs.declared.around.Around.{Around}
 use Rattle.hii_varstore.specs.Layout.{Shape}
 use Rattle.hii_varstore.specs.code.Ranges.{HasRange}
 use Rattle.hii_varstore.specs.Stores.{bytes_of_field, byte_of, StoreMap, shape_of, with_bytes}
@@ -17,6 +18,7 @@ use Rattle.hii_questions.specs.declared.field.Field.{Field}
 use Rattle.hii_questions.specs.declared.question.Question.{Question}
 use Rattle.guard_policy.specs.Policy.{fixed, inconsistent}
 use Rattle.guard_policy.specs.code.Answers.{unless}
+use Rattle.guard_policy.specs.code.Surroundings.{IsAroundNode, answer_of}
 use Rattle.guard_policy.specs.code.Views.{bytes_of, world}
 use Rattle.guard_policy.specs.declared.denial.Denial.{Denial}
 use Rattle.guard_policy.specs.declared.policy.Policy.{Policy}
@@ -94,22 +96,24 @@ abbrev pub set_over : Policy → StoreMap → fields.Field → Option Placed
 set_over policy working field =
     question_of_field (world policy working) (nodes_of (bytes_of policy)) field
 
--- The question that a block with a field sets, and what fixes it.
+-- The question that a block with a field sets, and what stands around it, or what fixes it.
 abbrev pub FirstChoice : Policy → StoreMap → fields.Field
-    → Option (Question × Result (Unit {0}) Denial) → Type 0
+    → Option (Question × Result Around Denial) → Type 0
 FirstChoice policy working field None = set_over policy working field ≡ None
 FirstChoice policy working field (Some (question, free)) =
     IsOfField (bytes_of policy) field (question_view question)
     × (set_over policy working field ≡ Some (question_node question))
-    × (free ≡ unless (fixed (world policy working) (question_node question)))
+    × (answer_of free ≡ unless (fixed (world policy working) (question_node question)))
+    × IfOk free (IsAroundNode (bytes_of policy) (question_node question))
 
--- The question that a block with a field sets, which is not fixed and no password; or why none is set.
-abbrev pub Chooses : Policy → StoreMap → fields.Field → Result Question Denial → Type 0
-Chooses policy working field (Ok question) =
+-- The question that a block with a field sets, which is not fixed and no password, with what stands around it; or why none is set.
+abbrev pub Chooses : Policy → StoreMap → fields.Field → Result (Question × Around) Denial → Type 0
+Chooses policy working field (Ok (question, around)) =
     IsOfField (bytes_of policy) field (question_view question)
     × (set_over policy working field ≡ Some (question_node question))
     × (is_password (question_node question) ≡ false)
     × (fixed (world policy working) (question_node question) ≡ None)
+    × IsAroundNode (bytes_of policy) (question_node question) around
 Chooses policy working field (Err denial) =
     (s : State) (bytes : List ℕ) → IsOver policy working s
     → set_field s (question_of_field (world_of s) (nodes_of s.ifr) field) bytes ≡ denied s denial

@@ -45,12 +45,6 @@ pub record Stands (ifr : List ℕ) (varstores : List ℕ) (questions : Survey)
   pub node : IsNodeOf ifr form
   pub left : All (λ place. has_form ifr place ≡ true) history
 
--- the field of a question lies in its store
-abbrev pub LiesIn : Shape → fields.Asked → Type 0
-LiesIn shape q =
-    (field : fields.Field) → q.field ≡ Some field
-    → HasRange shape field.store field.offset field.width
-
 -- The question is one of the package.
 pub record IsQuestionIn (ifr : List ℕ) (q : fields.Asked) : Type 0 where
   pub asks : is_question q.node ≡ true
@@ -91,6 +85,7 @@ Sets s id offer now (Ok question) =
     (ok_text ++ warned_text now.state now.state.working (question_node question)))
     × (fields.question_with (nodes_of s.state.ifr) id ≡ Some (question_node question))
     × Counts s (field_write (nodes_of s.state.ifr) (question_node question)) now
+    × IsNodeOf now.state.ifr (question_node question)
 Sets s id offer now (Err denial) =
     (set_question s.state (fields.question_with (nodes_of s.state.ifr) id) offer
     ≡ denied s.state denial) × (now ≡ s)

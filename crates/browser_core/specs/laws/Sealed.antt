@@ -16,7 +16,7 @@ use Rattle.hii_commands.specs.Orders.{Order, SetValue, OrderElements, SetText, A
 use Rattle.browser_core.specs.laws.Bytes.{state_with, answers_to}
 use Rattle.browser_core.specs.Opening.{layout_in, Opens}
 use Rattle.browser_core.specs.State.{State}
-use Rattle.browser_core.specs.Step.{field_bytes}
+use Rattle.hii_questions.specs.Changes.{field_bytes}
 
 -- ---- on which questions the changes of one depend
 

@@ -5,10 +5,10 @@ use Rattle.ifr_opcodes.specs.declared.codes.TheConstants.{SUPPRESS_IF, GRAY_OUT_
 use Rattle.ifr_opcodes.specs.Fields.{option_value}
 use Rattle.ifr_opcodes.specs.Forest.{Placed}
 use Rattle.ifr_opcodes.specs.Opcode.{number}
+use Rattle.ifr_scopes.specs.code.ConditionsLeft.{conditions_of_left}
 use Rattle.ifr_scopes.specs.code.Lists.{guards_left}
 use Rattle.ifr_scopes.specs.code.NoSubmitsLeft.{no_submits_left}
 use Rattle.ifr_scopes.specs.code.OptionsLeft.{options_of_left}
-use Rattle.ifr_scopes.specs.code.Parts.{conditions_left}
 use Rattle.ifr_scopes.specs.declared.guards_at.GuardsAt.{GuardsAt}
 use Rattle.guard_policy.specs.laws.Support.{around, counts}
 use Rattle.guard_policy.specs.declared.around.Around.{Around}
@@ -48,5 +48,5 @@ submission_left it = filter (counts it.policy.removed.now) (no_submits_left it.c
 abbrev pub asked_left : DecisionConditions → List Placed
 asked_left (kind.Around it) = around_left it
 asked_left (kind.Options it) = around_options_left it
-asked_left (kind.Question it) = conditions_left it
+asked_left (kind.Question it) = conditions_of_left it
 asked_left (kind.Submission it) = submission_left it

@@ -52,9 +52,9 @@ IsSubjectOf bytes (Listed statement) = IsNodeOf bytes (statement_node statement)
 IsSubjectOf bytes (Changeable statement) = IsNodeOf bytes (statement_node statement)
 IsSubjectOf bytes (OptionOpen question value) = IsNodeOf bytes (question_node question)
 IsSubjectOf bytes (Opens form) = IsNodeOf bytes (form_node form)
-IsSubjectOf bytes (Consistent question) = ⊤
+IsSubjectOf bytes (Consistent question) = IsNodeOf bytes (question_node question)
 IsSubjectOf bytes MaySubmit = ⊤
-IsSubjectOf bytes (Warnings question) = ⊤
+IsSubjectOf bytes (Warnings question) = IsNodeOf bytes (question_node question)
 
 -- what denies; a warning denies nothing
 abbrev pub denial : World → Decision → Option Denial

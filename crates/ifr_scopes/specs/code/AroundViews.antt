@@ -1,5 +1,5 @@
 -- What stands around a form, a statement or an option.
-use Rattle.std.specs.Prelude.{ℕ, Option, option_map, List}
+use Rattle.std.specs.Prelude.{◌≡◌, ℕ, Option, option_map, List}
 use Rattle.ifr_opcodes.specs.Forest.{Placed}
 use Rattle.ifr_scopes.specs.Nodes.{nodes_of}
 use Rattle.ifr_scopes.specs.code.Checked.{node_in}
@@ -17,3 +17,7 @@ around_guards it = guards_from (nodes_of it.guards.ifr.now) it.guards.next
 -- the LOCKED that decides
 abbrev pub around_lock : Around → Option Placed
 around_lock it = option_map (node_in it.guards.ifr.now) it.lock
+
+-- The innermost guard has the same number, and the same LOCKED decides.
+abbrev pub IsSameAround : Around → Around → Type 0
+IsSameAround one other = (one.guards.next ≡ other.guards.next) × (one.lock ≡ other.lock)

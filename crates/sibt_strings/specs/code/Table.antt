@@ -1,8 +1,13 @@
 -- Where the texts of string ids stand (own rule; the ids and texts are those of UEFI 2.8, 33.3.6.2 String Information).
-use Rattle.std.specs.Prelude.{◌≡◌, ℕ, ◌+◌, ◌<◌, ◌≤◌, ◌^◌, ◌==◌, if◌then◌else◌, List, [], ◌∷◌, length, drop, Option, None, Some, option_map}
-use Rattle.sibt_strings.specs.Blocks.{Block, cut_text}
-use Rattle.sibt_strings.specs.Strings.{text_at, with_block}
+use Rattle.std.specs.Prelude.{◌≡◌, ◌⊎◌, ℕ, ◌+◌, ◌<◌, ◌≤◌, ◌^◌, ◌==◌, if◌then◌else◌, List, [], ◌∷◌, length, drop, Option, None, Some, option_map}
+use Rattle.hii_bytes.specs.declared.cause.Cause.TheVariants.{StringBlock, StringText}
+use Rattle.sibt_strings.specs.Blocks.{Block, Front, End, Whole, CutText, BadBlock, cut_text}
+use Rattle.sibt_strings.specs.Strings.{text_at, texts_of, with_block}
+use Rattle.sibt_strings.specs.code.Views.{blocks_in}
 use Rattle.sibt_strings.specs.declared.place.TextPlace.{TextPlace}
+use Rattle.sibt_strings.specs.declared.places.TextPlaces.{TextPlaces}
+use Rattle.sibt_strings.specs.declared.places.Step.{Step}
+use Rattle.sibt_strings.specs.declared.places.Step.TheVariants as step
 
 -- the place of an id's text
 abbrev pub place_of : List TextPlace → ℕ → Option ℕ
@@ -25,8 +30,37 @@ pub record IsTable (bytes : List ℕ) (texts : List (Option (List ℕ)))
   pub rise : Rises 1 (length texts + 1) places
   pub found : (id : ℕ) → id < 2 ^ 16 → text_of_place bytes (place_of places id) ≡ text_at texts id
 
--- To the places of the texts before the next id those of a block's texts are added.
-abbrev pub Adds : List ℕ → ℕ → Block → List TextPlace → List TextPlace → Type 0
-Adds bytes next block old new =
-    (texts : List (Option (List ℕ))) → length texts + 1 ≡ next → IsTable bytes texts old
-    → IsTable bytes (with_block texts block) new
+-- the places of the texts of these blocks
+abbrev pub HasTable : List ℕ → List TextPlace → Type 0
+HasTable bytes places = IsTable bytes (texts_of (blocks_in (length bytes) bytes)) places
+
+-- the next id, if a number of 16 bits names it
+abbrev pub IsNext : Option ℕ → ℕ → Type 0
+IsNext None id = 2 ^ 16 ≤ id
+IsNext (Some next) id = next ≡ id
+
+-- The places of these texts, and the id behind them.
+pub record IsTabled (bytes : List ℕ) (texts : List (Option (List ℕ))) (next : Option ℕ)
+    (places : List TextPlace) : Type 0 where
+  pub table : IsTable bytes texts places
+  pub behind : IsNext next (length texts + 1)
+
+-- To the places of the texts so far those of a block's texts are added.
+abbrev pub Adds : List ℕ → Block → TextPlaces → TextPlaces → Type 0
+Adds bytes block old new =
+    (texts : List (Option (List ℕ))) → IsTabled bytes texts old.next old.places.items
+    → IsTabled bytes (with_block texts block) new.next new.places.items
+
+-- The end, the bytes behind a whole block whose texts are added, or why this is no whole block.
+abbrev pub Steps : List ℕ → Front → Step → TextPlaces → TextPlaces → Type 0
+Steps bytes front step.End old new = (front ≡ End) × (new ≡ old)
+Steps bytes front (step.Behind rest) old new =
+    (block : Block) × (front ≡ Whole block rest.now) × Adds bytes block old new
+Steps bytes front (step.Bad cause) old new =
+    ((cause ≡ StringBlock) × (front ≡ BadBlock)) ⊎ ((cause ≡ StringText) × (front ≡ CutText))
+
+-- the bytes behind a whole block are these
+abbrev pub StepsTo : (List ℕ → Type 0) → Step → Type 0
+StepsTo P step.End = Unit {0}
+StepsTo P (step.Behind rest) = P rest.now
+StepsTo P (step.Bad cause) = Unit {0}

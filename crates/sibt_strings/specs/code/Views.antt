@@ -1,10 +1,14 @@
 -- What the values of the program stand for.
-use Rattle.std.specs.Prelude.{◌≡◌, ℕ, zero, suc, ◌<◌, ◌≤◌, length, List, [], ◌∷◌, ◌++◌, Option, None, Some}
+use Rattle.std.specs.Prelude.{◌≡◌, ◌⊎◌, ℕ, zero, suc, ◌<◌, ◌≤◌, length, List, [], ◌∷◌, ◌++◌, Option, None, Some}
+use Rattle.hii_bytes.specs.declared.cause.Cause.TheVariants.{StringBlock, StringText}
+use Rattle.hii_bytes.specs.declared.cause.Fault.{Fault}
 use Rattle.sibt_strings.specs.Blocks as spec
 use Rattle.sibt_strings.specs.Strings.{Spoken, text_at, texts_of}
 use Rattle.sibt_strings.specs.Units.{chars_of_units}
 use Rattle.sibt_strings.specs.declared.block.Block.{Block}
 use Rattle.sibt_strings.specs.declared.block.Block.TheVariants as block
+use Rattle.sibt_strings.specs.declared.front.Head.{Head}
+use Rattle.sibt_strings.specs.declared.front.Head.TheVariants as head
 use Rattle.sibt_strings.specs.declared.front.Front.{Front}
 use Rattle.sibt_strings.specs.declared.front.Front.TheVariants as front
 use Rattle.sibt_strings.specs.declared.entry.Entry.{Entry}
@@ -37,10 +41,27 @@ front_seen (front.Whole block rest) = spec.Whole (block_seen block) rest.now
 front_seen front.CutText = spec.CutText
 front_seen front.BadBlock = spec.BadBlock
 
+abbrev pub head_seen : Head → spec.Front
+head_seen head.End = spec.End
+head_seen (head.Texts count bytes) = spec.texts_block (spec.texts_in count bytes.now)
+head_seen (head.Duplicate id rest) = spec.Whole (spec.Duplicate id) rest.now
+head_seen (head.Skip count rest) = spec.Whole (spec.Skip count) rest.now
+head_seen (head.Extension rest) = spec.Whole spec.Extension rest.now
+head_seen head.BadBlock = spec.BadBlock
+
 -- what stands at the front, or a bad block where that was not found
-abbrev pub front_or_bad : Option Front → spec.Front
-front_or_bad None = spec.BadBlock
-front_or_bad (Some found) = front_seen found
+abbrev pub head_or_bad : Option Head → spec.Front
+head_or_bad None = spec.BadBlock
+head_or_bad (Some found) = head_seen found
+
+-- the bytes of the texts of a block, or else those behind it, are these
+abbrev pub HasBehind : Head → (List ℕ → Type 0) → Type 0
+HasBehind head.End P = Unit {0}
+HasBehind (head.Texts count bytes) P = P bytes.now
+HasBehind (head.Duplicate id rest) P = P rest.now
+HasBehind (head.Skip count rest) P = P rest.now
+HasBehind (head.Extension rest) P = P rest.now
+HasBehind head.BadBlock P = Unit {0}
 
 -- the bytes end with the rest
 pub record EndsWith (bytes rest : List ℕ) : Type 0 where
@@ -109,3 +130,9 @@ spoken_in language bytes =
 abbrev pub HoldsBlocks : List ℕ → Type 0
 HoldsBlocks bytes =
     (blocks : List spec.Block) × spec.AreBlocks bytes blocks × (length blocks ≤ length bytes)
+
+-- the fault of the first block that is bad, at its place from the first byte
+abbrev pub IsBlockFault : List ℕ → Fault → Type 0
+IsBlockFault bytes fault =
+    ((fault.cause ≡ StringBlock) × spec.StandsAt bytes spec.BadBlock fault.place)
+    ⊎ ((fault.cause ≡ StringText) × spec.StandsAt bytes spec.CutText fault.place)

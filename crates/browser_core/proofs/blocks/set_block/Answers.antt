@@ -22,8 +22,9 @@ pub keep_field-requires-clause-range : goal.keep_field-requires-clause-range
 keep_field-requires-clause-range c =
     let block = block_view c.args.block in
     let q = c.in_ok-question.question in
-    let chosen : Chooses c.args.policy c.args.working.now.stores (block_field c.args.store block) (Ok q) = rw c.field_of-range.ensures at c.in_ok-question.ensures in
-    let within = block_range c.args.policy c.args.working.now.stores c.args.store block q chosen c.requires.browsable c.requires.laid in
+    let around = c.in_ok-question.around in
+    let chosen : Chooses c.args.policy c.args.working.now.stores (block_field c.args.store block) (Ok (q, around)) = rw c.field_of-range.ensures at c.in_ok-question.ensures in
+    let within = block_range c.args.policy c.args.working.now.stores c.args.store block q around chosen c.requires.browsable c.requires.laid in
     subst (λ (r : FieldRange). HasRange (shape_of c.stores.result.now) r.store r.offset r.width) (sym c.field_of-range.ensures)
     (subst (λ (m : StoreMap). HasRange (shape_of m) c.args.store block.offset block.width) (sym c.stores.ensures) within)
 
@@ -31,16 +32,18 @@ pub returns-in_err-set_value : goal.returns-in_err-set_value
 returns-in_err-set_value c =
     let block = block_view c.args.block in
     let q = c.in_ok-question.question in
-    let chosen : Chooses c.args.policy c.args.working.now.stores (block_field c.args.store block) (Ok q) = rw c.field_of-range.ensures at c.in_ok-question.ensures in
+    let around = c.in_ok-question.around in
+    let chosen : Chooses c.args.policy c.args.working.now.stores (block_field c.args.store block) (Ok (q, around)) = rw c.field_of-range.ensures at c.in_ok-question.ensures in
     let bytes = bytes_of_number _ block.width _ c.are_bytes.ensures c.value_into.ensures.sized c.value_into.ensures.number in
     let p = err_from_is_err_and c.from_residual-in_err-set_value.result c.from_residual-in_err-set_value.ensures.1 in
-    rw (p.1, p.2) (block_is_denied c.args.policy c.args.working.now c.set_value.new.working c.args.store block q _ c.in_err-set_value.field-0.0 chosen bytes c.in_err-set_value.ensures)
+    rw (p.1, p.2) (block_is_denied c.args.policy c.args.working.now c.set_value.new.working c.args.store block q around _ c.in_err-set_value.field-0.0 chosen bytes c.in_err-set_value.ensures)
 
 pub returns : goal.returns
 returns c =
     let block = block_view c.args.block in
     let q = c.in_ok-question.question in
-    let chosen : Chooses c.args.policy c.args.working.now.stores (block_field c.args.store block) (Ok q) = rw c.field_of-range.ensures at c.in_ok-question.ensures in
+    let around = c.in_ok-question.around in
+    let chosen : Chooses c.args.policy c.args.working.now.stores (block_field c.args.store block) (Ok (q, around)) = rw c.field_of-range.ensures at c.in_ok-question.ensures in
     let bytes = bytes_of_number _ block.width _ c.are_bytes.ensures c.value_into.ensures.sized c.value_into.ensures.number in
-    block_is_set c.args.policy c.args.working.now c.set_value.new.working c.args.store block q _ c.in_ok-set_value.field-0 chosen bytes
-    (block_range c.args.policy c.args.working.now.stores c.args.store block q chosen c.requires.browsable c.requires.laid) c.in_ok-set_value.ensures
+    block_is_set c.args.policy c.args.working.now c.set_value.new.working c.args.store block q around _ c.in_ok-set_value.field-0 chosen bytes
+    (block_range c.args.policy c.args.working.now.stores c.args.store block q around chosen c.requires.browsable c.requires.laid) c.in_ok-set_value.ensures

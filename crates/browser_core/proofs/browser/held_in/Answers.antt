@@ -2,7 +2,7 @@ use Rattle.std.proofs.Common.{◌≡◌, None, sym, ap, subst, ◌∙◌}
 use Rattle.hii_varstore.specs.Stores.{bytes_of_field}
 use Rattle.hii_varstore.specs.code.Ranges.{IsCut}
 use Rattle.hii_questions.specs.code.Views.{question_view}
-use Rattle.browser_core.specs.Step.{field_bytes}
+use Rattle.hii_questions.specs.Changes.{field_bytes}
 use Rattle.browser_core.proofs.ChangeLemmas.{in_store}
 use Rattle.browser_core.proofs.browser.held_in.Goals as goal
 

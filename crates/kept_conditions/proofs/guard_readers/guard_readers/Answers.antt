@@ -12,7 +12,7 @@ use Rattle.kept_conditions.proofs.guard_readers.guard_readers.Goals.{After-place
 pub loop-next-init : goal.loop-next-init
 loop-next-init c =
     let bytes = bytes_of c.args.policy in
-    let all : all_guards_left c.guards-guards.result ≡ guards_among (nodes_of bytes) = c.guards-guards.ensures ∙ ap (λ (b : List ℕ). guards_among (nodes_of b)) c.forms-forms.ensures in
+    let all : all_guards_left c.guards-guards.result ≡ guards_among (nodes_of bytes) = c.guards-guards.ensures.guards ∙ ap (λ (b : List ℕ). guards_among (nodes_of b)) c.forms-forms.ensures in
     record {
       same = ap (λ (l : List ℕ). l ++ map (λ (n : Placed). passed n.place c.args.readers.now) (all_guards_left c.guards-guards.result)) c.in_ok-numbers.ensures.items
           ∙ ap (map (λ (n : Placed). passed n.place c.args.readers.now)) all;

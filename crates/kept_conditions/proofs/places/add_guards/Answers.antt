@@ -8,5 +8,5 @@ use Rattle.kept_conditions.proofs.places.add_guards.Goals as goal
 pub loop-guard-init : goal.loop-guard-init
 loop-guard-init c =
     let before = c.args.places.now.items in
-    ap (λ (l : List Placed). before ++ map (λ (n : Placed). n.place) (filter is_kept_guard l)) c.guards-guards.ensures
+    ap (λ (l : List Placed). before ++ map (λ (n : Placed). n.place) (filter is_kept_guard l)) c.guards-guards.ensures.guards
     ∙ ap (λ (l : List Placed). before ++ map (λ (n : Placed). n.place) l) (guards_kept (nodes_of c.args.forms.now))

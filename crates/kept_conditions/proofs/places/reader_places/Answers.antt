@@ -16,5 +16,5 @@ returns c =
     let first = c.in_ok-add_guards.ensures ∙ ap (λ (l : List ℕ). l ++ gs) c.new-places.ensures.items in
     let second = c.in_ok-add_no_submits.ensures ∙ ap (λ (l : List ℕ). l ++ cs) first in
     let all = c.in_ok-add_rules.ensures ∙ ap (λ (l : List ℕ). l ++ rs) second in
-    sorted_places c.args.forms.now c.sort_unstable.new.self.items c.bytes.ensures.accepted
+    sorted_places c.args.forms.now c.sort_unstable.new.self.items c.requires
     (subst (λ (l : List ℕ). IsPermutation l c.sort_unstable.new.self.items) all c.sort_unstable.ensures.permutation) c.sort_unstable.ensures.sorted

@@ -2,6 +2,7 @@ use Rattle.std.proofs.Common.{◌≡◌, ℕ, List, sym, ap, subst, ◌∙◌}
 use Rattle.guard_policy.specs.code.KeptConditions.{TellsAll}
 use Rattle.guard_policy.specs.code.Views.{world}
 use Rattle.kept_conditions.specs.Kept.{KeptValues, held, kept_over}
+use Rattle.kept_conditions.proofs.TellsLemmas.{tells}
 use Rattle.browser_core.specs.State.{State}
 use Rattle.browser_core.proofs.Cores.{seen}
 use Rattle.browser_core.proofs.browser.Core.page.Goals as goal
@@ -12,4 +13,4 @@ new-requires-clause-told c =
     let stores = c.stores.result.now in
     let same : c.self.inside.working.ifr ≡ ifr = c.self.invariant.kept ∙ ap (λ (s : State). s.ifr) (seen c.self.view_is) ∙ sym c.policy.ensures.bytes in
     let kept : c.kept.result.now ≡ kept_over ifr stores = c.kept.ensures ∙ ap (λ (bytes : List ℕ). kept_over bytes c.self.inside.working.stores) same ∙ ap (kept_over ifr) (sym c.stores.ensures) in
-    subst (λ (k : KeptValues). TellsAll (held k.values) (world c.policy.result stores)) (sym kept) (c.what_is_kept_tells_of_the_stores.ensures ifr c.policy.result.removed.now stores c.policy.result.accepted)
+    subst (λ (k : KeptValues). TellsAll (held k.values) (world c.policy.result stores)) (sym kept) (tells ifr c.policy.result.removed.now stores c.policy.result.accepted)

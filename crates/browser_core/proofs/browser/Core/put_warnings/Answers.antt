@@ -1,10 +1,14 @@
-use Rattle.std.proofs.Common.{subst, sym, ap, ◌∙◌}
+use Rattle.std.proofs.Common.{List, ℕ, subst, sym, ap, ◌∙◌}
 use Rattle.hii_bytes.specs.Watching.{pen_of, Writes}
+use Rattle.ifr_scopes.specs.code.Checked.{IsNodeOf}
 use Rattle.hii_questions.specs.code.Views.{question_node}
 use Rattle.browser_core.proofs.Cores.{state_in, seen}
 use Rattle.browser_core.specs.State.{State}
 use Rattle.browser_core.specs.Step.{warned_text}
 use Rattle.browser_core.proofs.browser.Core.put_warnings.Goals as goal
+
+pub warnings-warnings-requires : goal.warnings-warnings-requires
+warnings-warnings-requires g c = subst (λ (ifr : List ℕ). IsNodeOf ifr (question_node c.args.question)) (sym c.policy.ensures.bytes) c.requires
 
 pub returns : goal.returns
 returns g c =

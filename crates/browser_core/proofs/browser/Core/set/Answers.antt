@@ -10,6 +10,9 @@ use Rattle.browser_core.specs.code.Counting.{counted_all}
 use Rattle.browser_core.proofs.SetLemmas.{names_nothing}
 use Rattle.browser_core.proofs.browser.Core.set.Goals as goal
 
+pub put_warnings-requires : goal.put_warnings-requires
+put_warnings-requires g c = c.in-Ok.ensures.3
+
 pub returns-in-Ok-clause-text : goal.returns-in-Ok-clause-text
 returns-in-Ok-clause-text g c =
     subst (λ (o : Outcome). Writes (pen_of g.W.Write.contents c.args.out.now) (pen_of g.W.Write.contents c.put_warnings.new.out) o.text) (sym c.in-Ok.ensures.0) (c.put.ensures ⨾ c.put_warnings.ensures)

@@ -6,8 +6,8 @@ use Rattle.guard_policy.specs.code.Views.{world}
 use Rattle.guard_policy.proofs.IndexedLemmas.{of_form, of_statement}
 use Rattle.guard_policy.proofs.decision_conditions.DecisionConditions.of.Goals as goal
 
-pub of-requires : goal.of-requires
-of-requires c = subst (IsSubjectOf c.args.policy.forms.now) c.in-OptionOpen.is c.requires
+pub of-requires-clause-node : goal.of-requires-clause-node
+of-requires-clause-node c = subst (IsSubjectOf c.args.policy.forms.now) c.in-OptionOpen.is c.requires
 
 pub returns-in-Listed : goal.returns-in-Listed
 returns-in-Listed c = λ stores.

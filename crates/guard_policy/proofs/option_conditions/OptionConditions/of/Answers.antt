@@ -15,7 +15,7 @@ pub invariant_of-result : goal.invariant_of-result
 invariant_of-result c =
     let q = question_node c.args.question in
     let all : options_of_left c.options_of-options.result ≡ options q = c.options_of-options.ensures ∙ ap options c.statement.ensures in
-    record { nodes = subst (AreNodesOf c.args.forms.now) (sym all) (options_are_nodes c.args.forms.now q c.bytes.ensures.accepted.checked.spelled c.requires) }
+    record { nodes = subst (AreNodesOf c.args.forms.now) (sym all) (options_are_nodes c.args.forms.now q c.requires.accepted.checked.spelled c.requires.node) }
 
 pub returns : goal.returns
 returns c =

@@ -1,6 +1,6 @@
 use Rattle.std.proofs.Common.{◌≡◌}
 use Rattle.std.specs.List.{find}
-use Rattle.ifr_scopes.specs.code.Parts.{conditions_left}
+use Rattle.ifr_scopes.specs.code.ConditionsLeft.{conditions_of_left}
 use Rattle.guard_policy.specs.code.Views.{world}
 use Rattle.guard_policy.specs.World.{is_met}
 use Rattle.guard_policy.proofs.policy.Policy.first_holding.Given as goal
@@ -12,5 +12,5 @@ invariant-loop-condition l =
     record {
       can : goal.iterator-loop-condition.can_next l.conditions;
       ends : goal.iterator-loop-condition.is_finite l.conditions;
-      same : find which (conditions_left l.conditions) ≡ find which (conditions_left l.fn.conditions);
+      same : find which (conditions_of_left l.conditions) ≡ find which (conditions_of_left l.fn.conditions);
     }

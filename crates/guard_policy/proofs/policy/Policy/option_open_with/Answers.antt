@@ -5,7 +5,8 @@ use Rattle.ifr_opcodes.specs.Fields.{option_value}
 use Rattle.ifr_opcodes.specs.Forest.{Placed}
 use Rattle.ifr_scopes.specs.code.Checked.{AreNodesOf}
 use Rattle.ifr_scopes.specs.Nodes.{options}
-use Rattle.ifr_scopes.specs.code.Parts.{option_node, options_left}
+use Rattle.ifr_scopes.specs.code.OptionsLeft.{options_of_left}
+use Rattle.ifr_scopes.specs.code.Parts.{option_node}
 use Rattle.hii_questions.specs.code.Views.{question_node}
 use Rattle.guard_policy.specs.Policy.{all_fixed, fixed}
 use Rattle.guard_policy.specs.code.Answers.{unless}
@@ -19,23 +20,23 @@ pub loop-option-init : goal.loop-option-init
 loop-option-init g c =
     let q = question_node c.args.question in
     let w = world_by c.args.self.now (g.V.Verdicts.met c.args.verdicts.now) in
-    let all : options_left c.options-options.result ≡ options q = c.options-options.ensures ∙ ap options c.statement.ensures in
+    let all : options_of_left c.options_of-options.result ≡ options q = c.options_of-options.ensures ∙ ap options c.statement.ensures in
     record {
       can = search rules;
       ends = search rules;
-      nodes = subst (AreNodesOf c.args.self.now.forms.now) (sym all) (options_are_nodes c.args.self.now.forms.now q c.args.self.now.accepted.checked.spelled c.requires);
+      nodes = subst (AreNodesOf c.args.self.now.forms.now) (sym all) (options_are_nodes c.args.self.now.forms.now q c.args.self.now.accepted.checked.spelled c.requires.node);
       same = ap (λ (os : List Placed). all_fixed w (filter (λ o. option_value o.op == c.args.value) os)) all;
     }
 
 pub option_selectable-requires : goal.option_selectable-requires
-option_selectable-requires g c = λ k. ((refl, tt), first_of _ _ _ _ c.in-Some.ensures.steps c.loop-option.invariant.nodes)
+option_selectable-requires g c = λ k. ((refl, tt), (first_of _ _ _ _ c.in-Some.ensures.steps c.loop-option.invariant.nodes, c.requires.free))
 
 pub returns-in-Ok : goal.returns-in-Ok
 returns-in-Ok g c =
     let w = world_by c.args.self.now (g.V.Verdicts.met c.args.verdicts.now) in
     let o = option_node c.in-Some.option in
     let told : c.value.result ≡ option_value o.op = c.value.ensures ∙ ap option_value c.op.ensures.bytes in
-    let rest = filter (λ (p : Placed). option_value p.op == c.args.value) (options_left c.next.new.self) in
+    let rest = filter (λ (p : Placed). option_value p.op == c.args.value) (options_of_left c.next.new.self) in
     let split = cond-true (option_value o.op == c.args.value) (o ∷ rest) rest (eq-eqb (option_value o.op) c.args.value (sym told ∙ c.if-value.true)) in
     let free = none_of (fixed w o) (sym c.option_selectable.ensures ∙ c.in-Ok.is) in
     let none = ap (standing w c.loop-option.first) (ap (filter (λ (p : Placed). option_value p.op == c.args.value)) c.in-Some.ensures.steps ∙ split) ∙ open_one w c.loop-option.first o rest free in
@@ -46,7 +47,7 @@ loop-option-preserved-in-Err g c =
     let w = world_by c.args.self.now (g.V.Verdicts.met c.args.verdicts.now) in
     let o = option_node c.in-Some.option in
     let told : c.value.result ≡ option_value o.op = c.value.ensures ∙ ap option_value c.op.ensures.bytes in
-    let rest = filter (λ (p : Placed). option_value p.op == c.args.value) (options_left c.next.new.self) in
+    let rest = filter (λ (p : Placed). option_value p.op == c.args.value) (options_of_left c.next.new.self) in
     let split = cond-true (option_value o.op == c.args.value) (o ∷ rest) rest (eq-eqb (option_value o.op) c.args.value (sym told ∙ c.if-value.true)) in
     let why = some_of (fixed w o) c.in-Err.denial (sym c.option_selectable.ensures ∙ c.in-Err.is) in
     let more = ap (standing w c.loop-option.first) (ap (filter (λ (p : Placed). option_value p.op == c.args.value)) c.in-Some.ensures.steps ∙ split) ∙ fixed_one w c.loop-option.first o rest c.in-Err.denial why in
@@ -62,7 +63,7 @@ loop-option-preserved g c =
     let w = world_by c.args.self.now (g.V.Verdicts.met c.args.verdicts.now) in
     let o = option_node c.in-Some.option in
     let told : c.value.result ≡ option_value o.op = c.value.ensures ∙ ap option_value c.op.ensures.bytes in
-    let rest = filter (λ (p : Placed). option_value p.op == c.args.value) (options_left c.next.new.self) in
+    let rest = filter (λ (p : Placed). option_value p.op == c.args.value) (options_of_left c.next.new.self) in
     let split = cond-false (option_value o.op == c.args.value) (o ∷ rest) rest (ne_eqb (option_value o.op) c.args.value (λ e. c.if-value.false (told ∙ e))) in
     let passed = ap (standing w c.loop-option.first) (ap (filter (λ (p : Placed). option_value p.op == c.args.value)) c.in-Some.ensures.steps ∙ split) in
     record {

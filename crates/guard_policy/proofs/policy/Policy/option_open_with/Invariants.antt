@@ -2,7 +2,7 @@ use Rattle.std.proofs.Common.{◌≡◌}
 use Rattle.std.specs.Prelude.{filter, ◌==◌}
 use Rattle.ifr_opcodes.specs.Fields.{option_value}
 use Rattle.ifr_scopes.specs.code.Checked.{AreNodesOf}
-use Rattle.ifr_scopes.specs.code.Parts.{options_left}
+use Rattle.ifr_scopes.specs.code.OptionsLeft.{options_of_left}
 use Rattle.hii_questions.specs.code.Views.{question_node}
 use Rattle.guard_policy.specs.Policy.{closed}
 use Rattle.guard_policy.specs.code.Views.{world_by}
@@ -16,6 +16,6 @@ invariant-loop-option g l =
     record {
       can : (goal.iterator-loop-option g).can_next l.options;
       ends : (goal.iterator-loop-option g).is_finite l.options;
-      nodes : AreNodesOf l.self.forms.now (options_left l.options);
-      same : standing w l.first (filter (λ o. option_value o.op == l.value) (options_left l.options)) ≡ closed w (question_node l.question) l.value;
+      nodes : AreNodesOf l.self.forms.now (options_of_left l.options);
+      same : standing w l.first (filter (λ o. option_value o.op == l.value) (options_of_left l.options)) ≡ closed w (question_node l.question) l.value;
     }

@@ -10,4 +10,4 @@ pub returns : goal.returns
 returns g c =
     let w = world_by c.args.self.now (g.V.Verdicts.met c.args.verdicts.now) in
     let n = option_node c.args.option in
-    c.uncovered_at.ensures n c.requires (of_option n c.args.option.option) (sym c.place.ensures) ∙ ap unless (sym (option_fixed w n c.args.option.option))
+    c.uncovered_within.ensures n c.requires.node (of_option n c.args.option.option) (sym c.place.ensures) ∙ ap unless (sym (option_fixed w n c.args.option.option))

@@ -13,7 +13,7 @@ use Rattle.guard_policy.proofs.removed.Removed.at_open.Goals as goal
 pub loop-guard-init : goal.loop-guard-init
 loop-guard-init c =
     let ns = nodes_of c.args.forms.now in
-    rw (c.new-places.ensures.items, c.guards-guards.ensures) (ap (map (λ (n : Placed). n.place)) (of_guards (is_met_over ns c.args.stores.now) ns))
+    rw (c.new-places.ensures.items, c.guards-guards.ensures.guards) (ap (map (λ (n : Placed). n.place)) (of_guards (is_met_over ns c.args.stores.now) ns))
 
 pub invariant_of-result : goal.invariant_of-result
 invariant_of-result c =
@@ -22,5 +22,5 @@ invariant_of-result c =
     let items = c.loop-guard.places.items in
     let which = is_disabling ns c.args.stores.now in
     let all = sym (append-nil items) ∙ ap (λ (left : List Placed). items ++ map (λ (n : Placed). n.place) (filter which left)) (sym c.in_default.ensures.steps.0) ∙ c.loop-guard.invariant in
-    let rise = rising ns 4 (4 + length (flat f)) (nodes_within f 4 [] c.bytes.ensures.accepted.checked.spelled.are_nodes) in
+    let rise = rising ns 4 (4 + length (flat f)) (nodes_within f 4 [] c.guards-guards.ensures.accepted.checked.spelled.are_nodes) in
     subst (Ascend 0) (sym all) (from_zero 4 _ (places_ascend which 4 ns rise))

@@ -1,5 +1,6 @@
 use Rattle.std.proofs.Common.{◌≡◌, ℕ, List, map, filter, sym, ap, subst, ◌∙◌}
 use Rattle.ifr_opcodes.specs.Opcode.{number}
+use Rattle.ifr_scopes.specs.Accepted.{IsAccepted}
 use Rattle.ifr_scopes.specs.Guards.{is_guard, guards_among}
 use Rattle.ifr_scopes.specs.Nodes.{nodes_of}
 use Rattle.ifr_scopes.specs.code.Checked.{node_in}
@@ -16,8 +17,11 @@ invariant_of-result c =
       entries = subst (AreGuardEntries bytes) (sym (c.deref.ensures.value ∙ c.self.invariant.index.guards)) (all_guards_kept bytes c.self.invariant.accepted.checked.spelled);
     }
 
-pub returns : goal.returns
-returns c =
+pub returns-clause-accepted : goal.returns-clause-accepted
+returns-clause-accepted c = subst IsAccepted c.self.view_is c.self.invariant.accepted
+
+pub returns-clause-guards : goal.returns-clause-guards
+returns-clause-guards c =
     let its = c.deref.result.now in
     let bytes = c.self.inside.ifr.now in
     let again = ap (map (λ (guard : GuardEntry). node_in bytes guard.place)) (c.deref.ensures.value ∙ c.self.invariant.index.guards) ∙ all_guards_again bytes c.self.invariant.accepted.checked.spelled in

@@ -21,7 +21,7 @@ loop-name-init c =
       behind = [];
       adds = adds_nothing ns c.args.number c.args.self.now;
       all = ap (flat_map (ids_by (rules_among ns) c.args.reader.this)) names ∙ ids_among ns n c.args.reader.this c.requires.is.this;
-      before = λ rule. subst (AllByRecursion (IsBefore (end_of n))) (sym names) (rule_names_before bytes c.bytes.ensures.accepted c.args.number c.requires.inside rule);
+      before = λ rule. subst (AllByRecursion (IsBefore (end_of n))) (sym names) (rule_names_before bytes c.args.source.accepted c.args.number c.requires.inside rule);
     }
 
 pub loop-name-preserved : goal.loop-name-preserved

@@ -10,15 +10,15 @@ pub number_of-requires : goal.number_of-requires
 number_of-requires c =
     let m = rule_node c.in-Some.rule in
     subst (λ (place : ℕ). Contains c.args.source.places.now place) (sym c.place.ensures)
-    (subst (λ (l : List ℕ). Contains l m.place) (sym c.args.source.placed) (rule_placed c.args.source.forms.now c.bytes.ensures.accepted m c.args.reference.id c.args.reference.place c.in-Some.ensures))
+    (subst (λ (l : List ℕ). Contains l m.place) (sym c.args.source.placed) (rule_placed c.args.source.forms.now c.args.source.accepted m c.args.reference.id c.args.reference.place c.in-Some.ensures))
 
 pub returns-in_ok-push : goal.returns-in_ok-push
 returns-in_ok-push c =
     let m = rule_node c.in-Some.rule in
     let l : Link = record { rule = c.number_of.result; user = c.args.number } in
     let new : Gathered = record { list = c.args.self.now.list; readings = c.args.self.now.readings; links = c.push.new.self } in
-    adds_rule c.args.source.forms.now c.bytes.ensures.accepted c.args.number c.args.reference.id c.args.reference.place m c.in-Some.ensures l c.requires.inside refl c.number_of.ensures.within
+    adds_rule c.args.source.forms.now c.args.source.accepted c.args.number c.args.reference.id c.args.reference.place m c.in-Some.ensures l c.requires.inside refl c.number_of.ensures.within
     (c.number_of.ensures.there ∙ c.place.ensures) c.requires.before c.args.self.now new refl refl c.in_ok-push.ensures.items
 
 pub returns-in_default : goal.returns-in_default
-returns-in_default c = no_rule c.args.source.forms.now c.bytes.ensures.accepted c.args.number c.args.reference.id c.args.reference.place c.args.self.now c.in_default.ensures
+returns-in_default c = no_rule c.args.source.forms.now c.args.source.accepted c.args.number c.args.reference.id c.args.reference.place c.args.self.now c.in_default.ensures

@@ -10,4 +10,4 @@ returns-clause-place c = place_number (nodes_of c.args.self.forms.now) c.args.se
 pub returns-clause-high : goal.returns-clause-high
 returns-clause-high c =
     subst (λ (n : ℕ). c.args.number ≤ n) (sym (place_number (nodes_of c.args.self.forms.now) c.args.self.places.now c.args.number 0 c.args.self.placed c.requires))
-    (number_small c.args.self.forms.now c.bytes.ensures.accepted c.args.number c.requires)
+    (number_small c.args.self.forms.now c.args.self.accepted c.args.number c.requires)

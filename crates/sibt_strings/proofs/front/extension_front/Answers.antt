@@ -1,5 +1,0 @@
-use Rattle.sibt_strings.proofs.EndLemmas.{ends_range}
-use Rattle.sibt_strings.proofs.front.extension_front.Goals as goal
-
-pub returns-clause-inside : goal.returns-clause-inside
-returns-clause-inside c = (tt, ends_range c.args.bytes.now c.args.size)
