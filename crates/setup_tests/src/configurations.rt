@@ -1,13 +1,13 @@
 //! Configuration texts in sessions.
 
 use crate::sessions::pair;
-use crate::writers::Limited;
 use browser_core::{End, Reply, RunFault, Session};
 use config_text::read_request;
 use guard_policy::Denial;
 use hii_bytes::{Cause, Fault, Watched, WriteFault};
 use hii_commands::Command;
 use hii_questions::DenialKind;
+use policy_tests::writers::Limited;
 use std::io::Write;
 use std::process::Abort;
 use std::test::Fail;

@@ -1,10 +1,10 @@
 //! How many conditions a session evaluates anew.
 
-use crate::images::image_of;
 use crate::sessions::pair;
 use browser_core::{Reply, Session};
 use hii_bytes::{Fault, Watched};
 use hii_commands::read_line;
+use policy_tests::images::image_of;
 use std::process::Abort;
 use std::test::Fail;
 

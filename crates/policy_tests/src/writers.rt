@@ -5,9 +5,11 @@ use std::io::{ErrorKind, Write};
 
 /// Takes that many bytes, and then fails.
 #[derive(Drop)]
-pub(crate) struct Limited {
-    pub(crate) bytes: Vec<u8>,
-    pub(crate) room: usize,
+pub struct Limited {
+    /// What was taken.
+    pub bytes: Vec<u8>,
+    /// How many bytes more are taken.
+    pub room: usize,
 }
 
 impl Write for Limited {

@@ -5,7 +5,7 @@ use Rattle.hii_varstore.specs.code.Ranges.{HasRange}
 use Rattle.hii_questions.specs.code.Checks.{range_of}
 use Rattle.hii_questions.specs.code.Views.{question_view}
 use Rattle.hii_questions.proofs.LawLemmas.{range_found}
-use Rattle.setup_tests.proofs.questions.put_text.Goals as goal
+use Rattle.policy_tests.proofs.questions.put_text.Goals as goal
 
 pub put-requires : goal.put-requires
 put-requires c =

@@ -6,7 +6,7 @@ use Rattle.ifr_scopes.specs.code.Checked.{IsNodeOf, AreNodesOf}
 use Rattle.ifr_scopes.specs.code.Lists.{form_node, forms_left}
 use Rattle.ifr_scopes.specs.Nodes.{nodes_of, is_form}
 use Rattle.ifr_scopes.specs.declared.form.Form.{Form}
-use Rattle.setup_tests.proofs.forms.first_form.Goals as goal
+use Rattle.policy_tests.proofs.forms.first_form.Goals as goal
 
 first_of : (bytes : List ℕ) (left : List Placed) (first : Option Form) (rest : List Placed) → MatchOption first ((left ≡ []) × (rest ≡ [])) (λ form. left ≡ form_node form ∷ rest)
     → AreNodesOf bytes left → IfSome first (λ form. IsNodeOf bytes (form_node form))

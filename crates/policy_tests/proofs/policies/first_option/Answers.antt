@@ -7,7 +7,7 @@ use Rattle.ifr_scopes.specs.code.Parts.{option_node}
 use Rattle.ifr_scopes.specs.declared.option_view.OptionView.{OptionView}
 use Rattle.hii_questions.specs.code.Views.{question_node}
 use Rattle.guard_policy.proofs.OptionLemmas.{options_are_nodes, first_of}
-use Rattle.setup_tests.proofs.policies.first_option.Goals as goal
+use Rattle.policy_tests.proofs.policies.first_option.Goals as goal
 
 first_node : (bytes : List ℕ) (left : List Placed) (first : Option OptionView) (rest : List Placed) → MatchOption first ((left ≡ []) × (rest ≡ [])) (λ o. left ≡ option_node o ∷ rest)
     → AreNodesOf bytes left → IfSome first (λ o. IsNodeOf bytes (option_node o))
