@@ -1,7 +1,7 @@
 -- Questions whose fields hold other bytes than when they were last submitted.
-use Rattle.std.proofs.Common.{Bor, ◌≡◌, ℕ, suc, map, ◌+◌, ◌^◌, ◌<◌, ◌≤◌, Bool, true, false, cond, Option, Some, None, option_map, List, [], ◌∷◌, ◌++◌, length, drop, inl, inr, refl, sym, ap, subst, ◌∙◌, arith, append_assoc, length-drop, IsSome}
-use Rattle.std.specs.Prelude.{not, ◌&&◌, Contains, filter, slice_range, option_copied, IsSomeAnd, MatchOption}
-use Rattle.std.specs.List.{AllByRecursion, flat_map}
+use Rattle.std.proofs.Common.{Bor, ◌≡◌, ℕ, suc, map, ◌+◌, ◌≤◌, Bool, true, false, cond, Option, Some, None, option_map, List, [], ◌∷◌, ◌++◌, length, inl, inr, refl, sym, ap, ◌∙◌, arith, append_assoc, IsSome}
+use Rattle.std.specs.Prelude.{◌&&◌, Contains, filter, slice_range, option_copied, IsSomeAnd, MatchOption}
+use Rattle.std.specs.List.{flat_map}
 use Rattle.std.proofs.lemmas.Bool.{cases_Bool, eqb-false}
 use Rattle.std.proofs.lemmas.List.Edits.{length-between}
 use Rattle.hii_bytes.specs.Faults.{HasNone}
@@ -9,13 +9,9 @@ use Rattle.hii_bytes.specs.Watching.{Pen, Writes}
 use Rattle.hii_bytes.specs.code.Writing.{Stands}
 use Rattle.hii_bytes.proofs.WritingLemmas.{writes_trans}
 use Rattle.ifr_opcodes.specs.Fields.{question_id}
-use Rattle.ifr_opcodes.specs.Forest.{Placed, flat}
-use Rattle.ifr_opcodes.specs.Reading.{tree_of}
-use Rattle.ifr_scopes.specs.Accepted.{IsAccepted}
+use Rattle.ifr_opcodes.specs.Forest.{Placed}
 use Rattle.ifr_scopes.specs.Nodes.{nodes_of, is_question}
-use Rattle.ifr_scopes.proofs.PlaceLemmas.{Within, nodes_within}
 use Rattle.ifr_scopes.proofs.ViewLemmas.{further}
-use Rattle.hii_varstore.specs.Layout.{Shape}
 use Rattle.hii_varstore.specs.Stores.{StoreMap, shape_of, bytes_of, bytes_of_field}
 use Rattle.hii_varstore.specs.code.Ranges.{HasRange, IsCut}
 use Rattle.hii_varstore.proofs.WriteLemmas.{sizes}

@@ -8,7 +8,6 @@ use Rattle.ifr_defaults.specs.Defaults.{default_of}
 use Rattle.browser_core.proofs.SealedLemmas.{offer_keeps}
 use Rattle.ifr_scopes.specs.Nodes.{nodes_of}
 use Rattle.browser_core.specs.Renewed.{Shown, Write, field_write, field_writes}
-use Rattle.browser_core.specs.State.{State}
 use Rattle.hii_questions.specs.Inputs.{Offer}
 use Rattle.guard_policy.specs.declared.denial.Denial.{Denial}
 use Rattle.browser_core.specs.Step.{Taken, sources, take_default, take_each, take_offer, take_set, set_question}

@@ -12,7 +12,7 @@ use Rattle.ifr_scopes.proofs.ViewLemmas.{contains_found}
 use Rattle.hii_varstore.specs.Layout.{Shape}
 use Rattle.hii_varstore.specs.code.Ranges.{HasRange}
 use Rattle.hii_varstore.specs.Stores.{StoreMap, shape_of, bytes_of_field, with_bytes}
-use Rattle.hii_varstore.proofs.WriteLemmas.{byte_after, field_back, shape_after}
+use Rattle.hii_varstore.proofs.WriteLemmas.{field_back}
 use Rattle.hii_questions.specs.Answers.{named_values, value_of_bytes, value_of_field}
 use Rattle.hii_questions.specs.code.Checks.{Checks, NamesItems, range_of}
 use Rattle.hii_questions.specs.Fields as fields

@@ -3,13 +3,14 @@
 ghost use Rattle.std.specs.Prelude.{◌≡◌};
 ghost use Rattle.ifr_scopes.specs.code.AnyConditions.{any_condition_node};
 ghost use Rattle.ifr_scopes.specs.code.Lists.{guard_node};
+ghost use Rattle.ifr_scopes.specs.code.Parts.{condition_node};
 ghost use Rattle.ifr_scopes.specs.Nodes.{nodes_of};
 ghost use Rattle.guard_policy.specs.World.{is_met_over};
 
 use crate::policy::Policy;
 use hii_questions::Questions;
 use hii_varstore::Stores;
-use ifr_scopes::{AnyCondition, Forms, Guard};
+use ifr_scopes::{AnyCondition, ConditionView, Forms, Guard};
 
 /// What is kept of conditions, by their places.
 pub trait Conditions {
@@ -26,6 +27,14 @@ pub trait Conditions {
     /// The same of the condition of a guard at a place. The number is how many guards of the package stand before it: it may
     /// spare a search, and is not what decides.
     fn guard_holds(&self, _number: u32, place: u32) -> bool
+        ensures { result ≡ holding self.now place }
+    {
+        self.holds(place)
+    }
+
+    /// The same of a condition of a question at a place. The number is how many conditions of questions of the package stand
+    /// before it: it may spare a search, and is not what decides.
+    fn condition_holds(&self, _number: u32, place: u32) -> bool
         ensures { result ≡ holding self.now place }
     {
         self.holds(place)
@@ -94,6 +103,17 @@ impl<'p, C: Conditions> ByConditions<'p, C> {
             None => self.conditions.holds(guard.place()),
         }
     }
+
+    // Whether a condition of a question holds.
+    fn condition_holds(&self, condition: ConditionView<'_>) -> bool
+        ensures { result
+            ≡ C.holding self.now.conditions.now (condition_node condition.entry).place }
+    {
+        match condition.number() {
+            Some(number) => self.conditions.condition_holds(number, condition.place()),
+            None => self.conditions.holds(condition.place()),
+        }
+    }
 }
 
 impl<'p, 'a, C: Conditions> Verdicts<'a> for ByConditions<'p, C> {
@@ -102,7 +122,7 @@ impl<'p, 'a, C: Conditions> Verdicts<'a> for ByConditions<'p, C> {
     fn is_met(&self, condition: AnyCondition<'a>) -> bool {
         match condition {
             AnyCondition::Guard(guard) => self.guard_holds(guard),
-            AnyCondition::Question(condition) => self.conditions.holds(condition.place()),
+            AnyCondition::Question(condition) => self.condition_holds(condition),
         }
     }
 }

@@ -11,7 +11,7 @@ use Rattle.ifr_scopes.specs.Guards.{is_guard}
 use Rattle.ifr_scopes.specs.Nodes.{nodes_of}
 use Rattle.ifr_scopes.specs.code.Checked.{node_in}
 use Rattle.ifr_scopes.specs.code.Index.{kind_at, conditional_at}
-use Rattle.ifr_scopes.specs.code.Tables.{inner_guard, guard_entry, is_question_condition, condition_entry, IsGuardEntry, IsConditionEntry}
+use Rattle.ifr_scopes.specs.code.Tables.{inner_guard, guard_entry, is_question_condition, kept_condition, IsGuardEntry, IsConditionEntry}
 use Rattle.ifr_scopes.specs.declared.index.GuardEntry.{GuardEntry}
 use Rattle.ifr_scopes.specs.declared.index.ConditionEntry.{ConditionEntry}
 use Rattle.ifr_scopes.proofs.IndexLemmas.{behind, nodes_rise}
@@ -71,9 +71,9 @@ no_guard_at : (ns : List Placed) (found : Option Placed) → ◌≡◌ {A = Opti
 no_guard_at ns None e = refl
 no_guard_at ns (Some n) e = absurd cc
 
-no_condition_at : (found : Option Placed) → ◌≡◌ {A = Option ConditionEntry} None (option_map condition_entry found) → found ≡ None
-no_condition_at None e = refl
-no_condition_at (Some n) e = absurd cc
+no_condition_at : (ns : List Placed) (found : Option Placed) → ◌≡◌ {A = Option ConditionEntry} None (option_map (kept_condition ns) found) → found ≡ None
+no_condition_at ns None e = refl
+no_condition_at ns (Some n) e = absurd cc
 
 -- The condition of a question has this entry, and is the node with a condition at the place.
 pub record IsConditionAt (bytes : List ℕ) (place : ℕ) (condition : ConditionEntry) : Type 0 where
@@ -82,14 +82,14 @@ pub record IsConditionAt (bytes : List ℕ) (place : ℕ) (condition : Condition
 
 pub condition_some : (bytes : List ℕ) (place : ℕ) (condition : ConditionEntry) → SpellsForest bytes (tree_of bytes)
     → ◌≡◌ {A = Option GuardEntry} None (option_map (λ n. guard_entry (inner_guard (nodes_of bytes) n.path) n) (kind_at guarding (nodes_of bytes) place))
-    → Some condition ≡ option_map condition_entry (kind_at is_question_condition (nodes_of bytes) place) → IsConditionAt bytes place condition
+    → Some condition ≡ option_map (kept_condition (nodes_of bytes)) (kind_at is_question_condition (nodes_of bytes) place) → IsConditionAt bytes place condition
 condition_some bytes place condition s no_guard e = go (kind_at is_question_condition (nodes_of bytes) place) refl e
   where
-    go : (found : Option Placed) → kind_at is_question_condition (nodes_of bytes) place ≡ found → Some condition ≡ option_map condition_entry found → IsConditionAt bytes place condition
+    go : (found : Option Placed) → kind_at is_question_condition (nodes_of bytes) place ≡ found → Some condition ≡ option_map (kept_condition (nodes_of bytes)) found → IsConditionAt bytes place condition
     go None at e = absurd cc
     go (Some n) at e =
         let its = find_within is_question_condition (nodes_of bytes) place n at in
-        let same : condition ≡ condition_entry n = cc in
+        let same : condition ≡ kept_condition (nodes_of bytes) n = cc in
         subst (IsConditionAt bytes place) (sym same) (record {
           kept = is_entry bytes n s its.within its.holds;
           is =
@@ -99,7 +99,7 @@ condition_some bytes place condition s no_guard e = go (kind_at is_question_cond
 
 pub none_there : (bytes : List ℕ) (place : ℕ) → SpellsForest bytes (tree_of bytes)
     → ◌≡◌ {A = Option GuardEntry} None (option_map (λ n. guard_entry (inner_guard (nodes_of bytes) n.path) n) (kind_at guarding (nodes_of bytes) place))
-    → ◌≡◌ {A = Option ConditionEntry} None (option_map condition_entry (kind_at is_question_condition (nodes_of bytes) place)) → ◌≡◌ {A = Option Placed} None (conditional_at (nodes_of bytes) place)
+    → ◌≡◌ {A = Option ConditionEntry} None (option_map (kept_condition (nodes_of bytes)) (kind_at is_question_condition (nodes_of bytes) place)) → ◌≡◌ {A = Option Placed} None (conditional_at (nodes_of bytes) place)
 none_there bytes place s no_guard no_condition =
     sym (either bytes place s ∙ ap (λ (o : Option Placed). option_or o (kind_at is_question_condition (nodes_of bytes) place)) (no_guard_at (nodes_of bytes) (kind_at guarding (nodes_of bytes) place) no_guard)
-    ∙ no_condition_at (kind_at is_question_condition (nodes_of bytes) place) no_condition)
+    ∙ no_condition_at (nodes_of bytes) (kind_at is_question_condition (nodes_of bytes) place) no_condition)

@@ -13,7 +13,7 @@ use Rattle.ifr_scopes.specs.Checked.{IsChecked}
 use Rattle.ifr_scopes.specs.code.Checked.{IsNodeOf}
 use Rattle.ifr_scopes.specs.Kinds.{is_condition_number}
 use Rattle.ifr_scopes.specs.Nodes.{nodes_of, is_question, of_question}
-use Rattle.ifr_scopes.specs.code.Tables.{IsConditionEntry, AreConditionEntries, is_question_condition, condition_entry, condition_table, parent_place}
+use Rattle.ifr_scopes.specs.code.Tables.{IsConditionEntry, AreConditionEntries, is_question_condition, kept_condition, conditions_among, condition_table, parent_place}
 use Rattle.ifr_scopes.specs.declared.index.ConditionEntry.{ConditionEntry}
 use Rattle.ifr_scopes.proofs.BehindPlaceLemmas.{apart, entries_behind, front, no_front}
 use Rattle.ifr_scopes.proofs.ConditionsLeftLemmas.{left_of}
@@ -54,28 +54,28 @@ of_place bytes m n checked within there is e =
 abbrev named : List ℕ → Placed → List ConditionEntry
 named bytes m = take_while (λ one. one.question == m.place) (filter (λ one. nat_lt m.place one.place) (condition_table (nodes_of bytes)))
 
-behind_it : (bytes : List ℕ) (m : Placed) → filter (λ (one : ConditionEntry). nat_lt m.place one.place) (condition_table (nodes_of bytes)) ≡ condition_table (filter (λ n. nat_lt m.place n.place) (nodes_of bytes))
-behind_it bytes m = entries_behind is_question_condition condition_entry (λ (one : ConditionEntry). one.place) (λ n. refl) m.place (nodes_of bytes)
+behind_it : (bytes : List ℕ) (m : Placed) → filter (λ (one : ConditionEntry). nat_lt m.place one.place) (condition_table (nodes_of bytes)) ≡ conditions_among (nodes_of bytes) (filter (λ n. nat_lt m.place n.place) (nodes_of bytes))
+behind_it bytes m = entries_behind is_question_condition (kept_condition (nodes_of bytes)) (λ (one : ConditionEntry). one.place) (λ n. refl) m.place (nodes_of bytes)
 
-both : (xs ys : List Placed) → condition_table (xs ++ ys) ≡ condition_table xs ++ condition_table ys
-both xs ys = ap (map condition_entry) (filter-append is_question_condition xs ys) ∙ map-append condition_entry (filter is_question_condition xs) (filter is_question_condition ys)
+both : (ns xs ys : List Placed) → conditions_among ns (xs ++ ys) ≡ conditions_among ns xs ++ conditions_among ns ys
+both ns xs ys = ap (map (kept_condition ns)) (filter-append is_question_condition xs ys) ∙ map-append (kept_condition ns) (filter is_question_condition xs) (filter is_question_condition ys)
 
-named_of_question : (bytes : List ℕ) (q : Placed) → IsChecked bytes → Contains (nodes_of bytes) q → is_question q ≡ true → named bytes q ≡ condition_table (below q)
+named_of_question : (bytes : List ℕ) (q : Placed) → IsChecked bytes → Contains (nodes_of bytes) q → is_question q ≡ true → named bytes q ≡ conditions_among (nodes_of bytes) (below q)
 named_of_question bytes q checked within asks =
     let b = behind_node bytes q checked.spelled within in
     let names : ConditionEntry → Bool = λ one. one.question == q.place in
     let there : (n : Placed) → Contains b.others n → Contains (nodes_of bytes) n =
     λ n w. kept (λ m. nat_lt q.place m.place) (nodes_of bytes) n (subst (λ (l : List Placed). Contains l n) (sym b.parts) (Contains-append_right (below q) b.others n w)) in
-    let none : take_while names (condition_table b.others) ≡ [] = no_front is_question_condition condition_entry names b.others
+    let none : take_while names (conditions_among (nodes_of bytes) b.others) ≡ [] = no_front is_question_condition (kept_condition (nodes_of bytes)) names b.others
     (λ n w is. ne_eqb (parent_place n) q.place (λ e. apart (λ (m : Placed). m.place) _ (below q) b.others n b.rise (of_place bytes q n checked within (there n w) is e).1 w)) in
-    ap (take_while names) (behind_it bytes q ∙ ap condition_table b.parts ∙ both (below q) b.others)
-    ∙ front is_question_condition condition_entry names (below q) (condition_table b.others) (λ n w is. eq-eqb (parent_place n) q.place (its_place bytes q n checked within asks w is)) none
+    ap (take_while names) (behind_it bytes q ∙ ap (conditions_among (nodes_of bytes)) b.parts ∙ both (nodes_of bytes) (below q) b.others)
+    ∙ front is_question_condition (kept_condition (nodes_of bytes)) names (below q) (conditions_among (nodes_of bytes) b.others) (λ n w is. eq-eqb (parent_place n) q.place (its_place bytes q n checked within asks w is)) none
 
 named_of_other : (bytes : List ℕ) (m : Placed) → IsChecked bytes → Contains (nodes_of bytes) m → is_question m ≡ false → named bytes m ≡ []
 named_of_other bytes m checked within other =
     let names : ConditionEntry → Bool = λ one. one.question == m.place in
     let behind = filter (λ n. nat_lt m.place n.place) (nodes_of bytes) in
-    ap (take_while names) (behind_it bytes m) ∙ no_front is_question_condition condition_entry names behind
+    ap (take_while names) (behind_it bytes m) ∙ no_front is_question_condition (kept_condition (nodes_of bytes)) names behind
     (λ n w is. ne_eqb (parent_place n) m.place (λ e. false≢true (sym other ∙ (of_place bytes m n checked within (kept (λ p. nat_lt m.place p.place) (nodes_of bytes) n w) is e).0)))
 
 -- those of a number are the conditions of this number in the scope of the question

@@ -20,7 +20,7 @@ use Rattle.ifr_scopes.specs.Nodes.{nodes_of, is_form, is_store}
 use Rattle.ifr_scopes.specs.Rules.{is_rule}
 use Rattle.ifr_scopes.specs.code.Index.{is_indexed}
 use Rattle.ifr_scopes.specs.code.LockIndex.{Finds, first_place}
-use Rattle.ifr_scopes.specs.code.Tables.{guards_before, inner_guard, inner_last, guard_entry, guard_table, entry_of_node, entries_unlocked, is_question_condition, condition_entry, condition_table, form_entry, places_of, entry_table, kept_entry}
+use Rattle.ifr_scopes.specs.code.Tables.{guards_before, inner_guard, inner_last, guard_entry, guard_table, entry_of_node, entries_unlocked, is_question_condition, conditions_before, condition_entry, kept_condition, conditions_among, condition_table, form_entry, places_of, entry_table, kept_entry}
 use Rattle.ifr_scopes.specs.declared.index.Entry.{Entry}
 use Rattle.ifr_scopes.specs.declared.index.GuardEntry.{GuardEntry}
 use Rattle.ifr_scopes.specs.declared.index.ConditionEntry.{ConditionEntry}
@@ -142,7 +142,7 @@ pub record Made (ns : List Placed) (entries : List Entry) (guards : List GuardEn
   pub follows : Follows around left
   pub has_entries : entries ≡ map (λ n. entry_of_node (inner_guard ns n.path) n) (filter is_indexed before)
   pub has_guards : guards ≡ map (λ n. guard_entry (inner_guard ns n.path) n) (guards_among before)
-  pub has_conditions : conditions ≡ map condition_entry (filter is_question_condition before)
+  pub has_conditions : conditions ≡ conditions_among ns before
   pub has_forms : forms ≡ map form_entry (filter is_form before)
   pub has_stores : stores ≡ places_of is_store before
   pub has_rules : rules ≡ places_of is_rule before
@@ -179,24 +179,26 @@ pub inner_met : (ns : List Placed) (entries : List Entry) (guards : List GuardEn
 inner_met ns entries guards conditions forms stores rules found inner n rest m = cut ns m.around n.path m.follows.0.more inner m.follows.0.split m.stack
 
 pub made_next : (ns : List Placed) (entries more_entries : List Entry) (guards more_guards : List GuardEntry) (conditions more_conditions : List ConditionEntry) (forms more_forms : List IdEntry) (stores more_stores rules more_rules : List ℕ) (found more_found : ℕ → Option ℕ)
-    (inner more_inner : List (Option ℕ)) (n : Placed) (rest : List Placed) (depth own : ℕ) (guard : Option ℕ)
-    → Rise place_of 4 ns → Made ns entries guards conditions forms stores rules found inner (n ∷ rest) → depth ≡ length n.path → own ≡ length guards → guard ≡ inner_last (take depth inner)
+    (inner more_inner : List (Option ℕ)) (n : Placed) (rest : List Placed) (depth own next : ℕ) (guard : Option ℕ)
+    → Rise place_of 4 ns → Made ns entries guards conditions forms stores rules found inner (n ∷ rest) → depth ≡ length n.path → own ≡ length guards → next ≡ length conditions → guard ≡ inner_last (take depth inner)
     → more_inner ≡ take depth inner ++ cond (has_scope n.op) (cond (is_guard (number n.op)) (Some own) guard ∷ []) []
     → more_entries ≡ entries ++ map (entry_of_node guard) (filter is_indexed (n ∷ []))
     → more_guards ≡ guards ++ map (guard_entry guard) (guards_among (n ∷ []))
-    → more_conditions ≡ conditions ++ map condition_entry (filter is_question_condition (n ∷ []))
+    → more_conditions ≡ conditions ++ map (condition_entry guard next) (filter is_question_condition (n ∷ []))
     → more_forms ≡ forms ++ map form_entry (filter is_form (n ∷ []))
     → more_stores ≡ stores ++ places_of is_store (n ∷ []) → more_rules ≡ rules ++ places_of is_rule (n ∷ [])
     → ((all : ℕ → Option ℕ) (left : List Placed) → Finds all found (n ∷ left) → Finds all more_found left)
     → Made ns more_entries more_guards more_conditions more_forms more_stores more_rules more_found more_inner rest
-made_next ns entries more_entries guards more_guards conditions more_conditions forms more_forms stores more_stores rules more_rules found more_found inner more_inner n rest depth own guard r m at count told stacked put_entry put_guard put_condition put_form put_store put_rule put_lock =
+made_next ns entries more_entries guards more_guards conditions more_conditions forms more_forms stores more_stores rules more_rules found more_found inner more_inner n rest depth own next guard r m at count count_next told stacked put_entry put_guard put_condition put_form put_store put_rule put_lock =
     let path = n.path in
     let a = as_ancestor n in
     let first = inner_met ns entries guards conditions forms stores rules found inner n rest m in
     let is : guard ≡ inner_guard ns path = told ∙ ap (λ (d : ℕ). inner_last (take d inner)) at ∙ inner_of_stack ns path (take (length path) inner) first in
     let rise : Rise place_of 4 (m.before ++ n ∷ rest) = subst (Rise place_of 4) m.split r in
     let mine : own ≡ guards_before ns n.place =
-    count ∙ length_guards m ∙ sym (ap (λ (l : List Placed). guards_before l n.place) m.split ∙ so_many_before 4 m.before rest n rise) in
+    count ∙ length_guards m ∙ sym (ap (λ (l : List Placed). guards_before l n.place) m.split ∙ so_many_before (λ p. is_guard (number p.op)) 4 m.before rest n rise) in
+    let its : next ≡ conditions_before ns n.place =
+    count_next ∙ length_conditions m ∙ sym (ap (λ (l : List Placed). conditions_before l n.place) m.split ∙ so_many_before is_question_condition 4 m.before rest n rise) in
     record {
       before = m.before ++ n ∷ [];
       around = entered n;
@@ -217,7 +219,7 @@ made_next ns entries more_entries guards more_guards conditions more_conditions 
       follows = m.follows.1;
       has_entries = more_of is_indexed (λ p. entry_of_node (inner_guard ns p.path) p) (entry_of_node guard) m.before n entries more_entries m.has_entries (ap (λ (g : Option ℕ). entry_of_node g n) (sym is)) put_entry;
       has_guards = more_of (λ p. is_guard (number p.op)) (λ p. guard_entry (inner_guard ns p.path) p) (guard_entry guard) m.before n guards more_guards m.has_guards (ap (λ (g : Option ℕ). guard_entry g n) (sym is)) put_guard;
-      has_conditions = more_of is_question_condition condition_entry condition_entry m.before n conditions more_conditions m.has_conditions refl put_condition;
+      has_conditions = more_of is_question_condition (kept_condition ns) (condition_entry guard next) m.before n conditions more_conditions m.has_conditions (sym (ap (λ (g : Option ℕ). condition_entry g next n) is ∙ ap (λ (k : ℕ). condition_entry (inner_guard ns path) k n) its)) put_condition;
       has_forms = more_of is_form form_entry form_entry m.before n forms more_forms m.has_forms refl put_form;
       has_stores = more_of is_store place_of place_of m.before n stores more_stores m.has_stores refl put_store;
       has_rules = more_of is_rule place_of place_of m.before n rules more_rules m.has_rules refl put_rule;
@@ -226,6 +228,9 @@ made_next ns entries more_entries guards more_guards conditions more_conditions 
   where
     length_guards : (m : Made ns entries guards conditions forms stores rules found inner (n ∷ rest)) → length guards ≡ length (guards_among m.before)
     length_guards m = ap (λ (l : List GuardEntry). length l) m.has_guards ∙ length-map (guards_among m.before) (λ p. guard_entry (inner_guard ns p.path) p)
+
+    length_conditions : (m : Made ns entries guards conditions forms stores rules found inner (n ∷ rest)) → length conditions ≡ length (filter is_question_condition m.before)
+    length_conditions m = ap (λ (l : List ConditionEntry). length l) m.has_conditions ∙ length-map (filter is_question_condition m.before) (kept_condition ns)
 
 -- All nodes were met.
 pub record IsMade (ns : List Placed) (entries : List Entry) (guards : List GuardEntry) (conditions : List ConditionEntry) (forms : List IdEntry) (stores rules : List ℕ) (found : ℕ → Option ℕ) : Type 0 where
@@ -244,7 +249,7 @@ made_all ns entries guards conditions forms stores rules found inner left m ende
     record {
       entries_are = m.has_entries ∙ ap (λ (l : List Placed). map (λ n. entry_of_node (inner_guard ns n.path) n) (filter is_indexed l)) all;
       guards_are = m.has_guards ∙ ap (λ (l : List Placed). map (λ n. guard_entry (inner_guard ns n.path) n) (guards_among l)) all;
-      conditions_are = m.has_conditions ∙ ap (λ (l : List Placed). condition_table l) all;
+      conditions_are = m.has_conditions ∙ ap (conditions_among ns) all;
       forms_are = m.has_forms ∙ ap (λ (l : List Placed). map form_entry (filter is_form l)) all;
       stores_are = m.has_stores ∙ ap (places_of is_store) all;
       rules_are = m.has_rules ∙ ap (places_of is_rule) all;
@@ -272,11 +277,13 @@ pub few_entries : (bytes : List ℕ) → IsChecked bytes → length (entry_table
 few_entries bytes checked = omega (arith, few_nodes bytes checked, few_of is_indexed (nodes_of bytes), length-map (filter is_indexed (nodes_of bytes)) (kept_entry (nodes_of bytes)))
 
 pub few_made : (bytes : List ℕ) (entries : List Entry) (guards : List GuardEntry) (conditions : List ConditionEntry) (forms : List IdEntry) (stores rules : List ℕ) (found : ℕ → Option ℕ) (inner : List (Option ℕ)) (left : List Placed) → IsChecked bytes
-    → Made (nodes_of bytes) entries guards conditions forms stores rules found inner left → length guards < 2 ^ 32
+    → Made (nodes_of bytes) entries guards conditions forms stores rules found inner left → (length guards < 2 ^ 32) × (length conditions < 2 ^ 32)
 few_made bytes entries guards conditions forms stores rules found inner left checked m =
     let all = few_nodes bytes checked in
     let count = ap (λ (l : List GuardEntry). length l) m.has_guards ∙ length-map (guards_among m.before) (λ p. guard_entry (inner_guard (nodes_of bytes) p.path) p) in
-    omega (arith, all, count, few_of (λ p. is_guard (number p.op)) m.before, ap (λ (l : List Placed). length l) m.split, length-append m.before left)
+    let its = ap (λ (l : List ConditionEntry). length l) m.has_conditions ∙ length-map (filter is_question_condition m.before) (kept_condition (nodes_of bytes)) in
+    let met = ap (λ (l : List Placed). length l) m.split ∙ length-append m.before left in
+    (omega (arith, all, count, few_of (λ p. is_guard (number p.op)) m.before, met), omega (arith, all, its, few_of is_question_condition m.before, met))
 
 -- the depth of a node is the length of its path
 pub path_depth : (bytes around : List ℕ) (depth : ℕ) (n : Placed) → depth ≤ length around → n.path ≡ map (ancestor_at bytes) (take depth around) → depth ≡ length n.path

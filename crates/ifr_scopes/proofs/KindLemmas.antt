@@ -1,12 +1,12 @@
 -- Nodes of a kind are kept by their places, and found again; so are all statements.
 use Rattle.std.proofs.Common.{◌≡◌, ℕ, Bool, true, List, [], ◌∷◌, map, refl, sym, ap, ◌∙◌, inl, inr, arith}
-use Rattle.std.specs.Prelude.{◌||◌, Contains, filter}
+use Rattle.std.specs.Prelude.{Contains, filter}
 use Rattle.std.proofs.lemmas.Bool.{cases_Bool}
 use Rattle.ifr_opcodes.specs.Opcode.{number}
 use Rattle.ifr_opcodes.specs.Forest.{Placed, SpellsForest}
 use Rattle.ifr_opcodes.specs.Reading.{tree_of}
 use Rattle.ifr_opcodes.specs.Statements.{is_statement_number}
-use Rattle.ifr_scopes.specs.Nodes.{nodes_of, is_form, is_option, is_statement}
+use Rattle.ifr_scopes.specs.Nodes.{nodes_of, is_form, is_statement}
 use Rattle.ifr_scopes.specs.code.Checked.{node_in}
 use Rattle.ifr_scopes.specs.code.Index.{is_indexed}
 use Rattle.ifr_scopes.specs.code.Tables.{AreEntries, AreOfKind, IsEntry, IsOfKind, entry_table, kept_entry, places_of}

@@ -44,7 +44,6 @@ pub mod ScopeLemmas
 pub mod EntryLemmas
 pub mod InsideLemmas
 pub mod ConditionFacts
-pub mod NoSubmitFacts
 pub mod NoSubmitLemmas
 pub mod ConditionsLeftLemmas
 pub mod ConditionsOfLemmas

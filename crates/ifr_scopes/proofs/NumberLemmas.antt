@@ -77,12 +77,12 @@ is_guard_entry bytes outer n s within guards =
 -- ---- the number of a guard
 
 -- none stands before a place where all are behind it
-none_before : (low place : ℕ) (ns : List Placed) → place ≤ low → Rise place_of low ns → filter (λ n. nat_lt n.place place) (guards_among ns) ≡ []
-none_before low place [] le r = refl
-none_before low place (n ∷ ns) le r =
-    let later = none_before (n.place + 1) place ns (omega (arith, r.0)) r.1 in
+none_before : (is : Placed → Bool) (low place : ℕ) (ns : List Placed) → place ≤ low → Rise place_of low ns → filter (λ n. nat_lt n.place place) (filter is ns) ≡ []
+none_before is low place [] le r = refl
+none_before is low place (n ∷ ns) le r =
+    let later = none_before is (n.place + 1) place ns (omega (arith, r.0)) r.1 in
     let behind : nat_lt n.place place ≡ false = let up : low ≤ n.place = r.0 in grind (arith, nat_tests) in
-    elim (cases_Bool (guarding n)) [ inl is ↦ rw (is, behind) later | inr other ↦ rw other later ]
+    elim (cases_Bool (is n)) [ inl kept ↦ rw (kept, behind) later | inr other ↦ rw other later ]
 
 lower : (low high : ℕ) (ns : List Placed) → low ≤ high → Rise place_of high ns → Rise place_of low ns
 lower low high [] le r = tt
@@ -104,7 +104,7 @@ guard_found low (m ∷ ns) n zero r lt e is =
     let same : m ≡ n = e in
     let guards : guarding m ≡ true = ap guarding same ∙ is in
     let here : nat_lt m.place n.place ≡ false = let at : m.place ≡ n.place = ap place_of same in grind (arith, nat_tests) in
-    let none : filter (λ x. nat_lt x.place n.place) (guards_among ns) ≡ [] = none_before (m.place + 1) n.place ns (omega (arith, ap place_of same)) r.1 in
+    let none : filter (λ x. nat_lt x.place n.place) (guards_among ns) ≡ [] = none_before guarding (m.place + 1) n.place ns (omega (arith, ap place_of same)) r.1 in
     let count : guards_before (m ∷ ns) n.place ≡ 0 = rw (guards, here, none) refl in
     record {
       within = rw (count, guards) (omega arith);
@@ -129,18 +129,19 @@ guard_found low (m ∷ ns) n (suc k) r lt e is =
           }
     ]
 
--- where these stand before a node, their guards do
+-- where these stand before a node, those of a kind do
 before_place : (low : ℕ) (before rest : List Placed) (n : Placed) → Rise place_of low (before ++ n ∷ rest) → low ≤ n.place
 before_place low [] rest n r = r.0
 before_place low (m ∷ before) rest n r = omega (arith, r.0, before_place (m.place + 1) before rest n r.1)
 
-pub so_many_before : (low : ℕ) (before rest : List Placed) (n : Placed) → Rise place_of low (before ++ n ∷ rest) → guards_before (before ++ n ∷ rest) n.place ≡ length (guards_among before)
-so_many_before low [] rest n r = ap (λ (l : List Placed). length l) (none_before n.place n.place (n ∷ rest) (omega arith) (omega arith, r.1))
-so_many_before low (m ∷ before) rest n r =
-    let later = so_many_before (m.place + 1) before rest n r.1 in
+pub so_many_before : (is : Placed → Bool) (low : ℕ) (before rest : List Placed) (n : Placed) → Rise place_of low (before ++ n ∷ rest)
+    → length (filter (λ m. nat_lt m.place n.place) (filter is (before ++ n ∷ rest))) ≡ length (filter is before)
+so_many_before is low [] rest n r = ap (λ (l : List Placed). length l) (none_before is n.place n.place (n ∷ rest) (omega arith) (omega arith, r.1))
+so_many_before is low (m ∷ before) rest n r =
+    let later = so_many_before is (m.place + 1) before rest n r.1 in
     let behind : m.place + 1 ≤ n.place = before_place (m.place + 1) before rest n r.1 in
     let earlier : nat_lt m.place n.place ≡ true = grind (arith, nat_tests) in
-    elim (cases_Bool (guarding m)) [ inl is ↦ rw (is, earlier) (ap (λ (k : ℕ). suc k) later) | inr other ↦ rw other later ]
+    elim (cases_Bool (is m)) [ inl kept ↦ rw (kept, earlier) (ap (λ (k : ℕ). suc k) later) | inr other ↦ rw other later ]
 
 -- no guard stands before where all begin
 no_lower : (low : ℕ) (ns : List Placed) (k : ℕ) (d : Placed) → Rise place_of low ns → k < length (guards_among ns) → low ≤ (get_or (guards_among ns) k d).place
@@ -163,7 +164,7 @@ so_many low [] k d r lt = absurd (omega arith)
 so_many low (n ∷ ns) zero d r lt = elim (cases_Bool (guarding n)) [
   | inl is ↦
       let here : nat_lt n.place n.place ≡ false = grind (arith, nat_tests) in
-      rw (is, here) (ap (λ (l : List Placed). length l) (none_before (n.place + 1) n.place ns (omega arith) r.1))
+      rw (is, here) (ap (λ (l : List Placed). length l) (none_before guarding (n.place + 1) n.place ns (omega arith) r.1))
   | inr other ↦ rw other (so_many (n.place + 1) ns zero d r.1 (rw other at lt))
 ]
 so_many low (n ∷ ns) (suc j) d r lt = elim (cases_Bool (guarding n)) [

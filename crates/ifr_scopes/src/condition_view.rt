@@ -1,14 +1,14 @@
 //! The conditions of questions: of their values, of a submission, and of a warning.
 
-ghost use Rattle.std.specs.Prelude.{◌≡◌, true, All};
-ghost use Rattle.ifr_opcodes.specs.Opcode.{number};
+ghost use Rattle.std.specs.Prelude.{◌≡◌, true, All, Some};
+ghost use Rattle.ifr_opcodes.specs.Opcode.{number as opcode_number};
 ghost use Rattle.ifr_scopes.specs.Kinds.{is_condition_number};
-ghost use Rattle.ifr_scopes.specs.Nodes.{of_question, this_of};
+ghost use Rattle.ifr_scopes.specs.Nodes.{nodes_of, of_question, this_of};
 ghost use Rattle.ifr_scopes.specs.Checked.{IsChecked};
 ghost use Rattle.ifr_scopes.specs.code.Checked.{node_in};
 ghost use Rattle.ifr_scopes.specs.code.Ends.{expression_end};
 ghost use Rattle.ifr_scopes.specs.code.PartsLeft.{parts_left, HaveThis, HaveThis-prop};
-ghost use Rattle.ifr_scopes.specs.code.Tables.{IsConditionEntry};
+ghost use Rattle.ifr_scopes.specs.code.Tables.{AreConditionsBefore, AreConditionsBefore-prop, IsConditionEntry};
 ghost use Rattle.ifr_scopes.specs.code.Views.{node_of};
 
 use crate::index::ConditionEntry;
@@ -73,27 +73,32 @@ pub struct ConditionView<'a> {
     pub(crate) this: u16,
     // Where its expression ends, in bytes from the package's header.
     pub(crate) ends: u32,
-    pub ghost condition: { is_condition_number (number (node_of node).op) ≡ true },
+    // How many conditions of questions of the package stand before it, if that is known.
+    pub(crate) number: Option<u32>,
+    pub ghost condition: { is_condition_number (opcode_number (node_of node).op) ≡ true },
     pub ghost within: { this ≡ this_of (node_of node) },
     pub ghost ended: { ends ≡ expression_end (node_of node) },
+    pub ghost counted: { AreConditionsBefore (nodes_of node.ifr.now) number node.op.place } by { AreConditionsBefore-prop (nodes_of node.ifr.now) number node.op.place },
 }
 
 impl<'a> ConditionView<'a> {
     ghost use Rattle.ifr_opcodes.specs.code.Ops.{bytes_of};
     ghost use Rattle.ifr_expr.specs.code.Expressions.{tree_of};
     ghost use Rattle.ifr_scopes.specs.Conditions.{expression_tree};
-    ghost use Rattle.ifr_scopes.specs.code.Parts.{condition_node, condition_op};
+    ghost use Rattle.ifr_scopes.specs.code.Parts.{condition_node, condition_op, condition_package};
 
     /// A condition of an index.
     pub(crate) fn kept(ifr: &'a [u8], condition: ConditionEntry) -> ConditionView<'a>
         requires checked { IsChecked ifr.now }
         requires kept { IsConditionEntry ifr.now condition }
-        ensures { condition_node result ≡ node_in ifr.entry.now condition.place }
+        ensures node { condition_node result ≡ node_in ifr.entry.now condition.place }
+        ensures number { result.number ≡ Some condition.number }
     {
         ConditionView {
             node: node_at(ifr, condition.place),
             this: condition.this,
             ends: condition.ends,
+            number: Some(condition.number),
         }
     }
 
@@ -102,6 +107,16 @@ impl<'a> ConditionView<'a> {
         ensures { result ≡ (condition_node self.entry).place }
     {
         self.node.op().place
+    }
+
+    /// Its number among the conditions of questions of the package, by place, from 0 on: it is known of those that `Forms` looks
+    /// up.
+    pub fn number(self) -> Option<u32>
+        ensures known { result ≡ self.entry.number }
+        ensures counted { AreConditionsBefore (nodes_of (condition_package self.entry)) result
+            (condition_node self.entry).place }
+    {
+        self.number
     }
 
     /// The opcode of the condition.
@@ -144,7 +159,7 @@ impl<'a> ConditionViews<'a> {
     pub(crate) fn question(node: Node<'a>, code: u8) -> ConditionViews<'a>
         requires { is_condition_number code ≡ true }
         ensures { conditions_left result
-            ≡ of_question (λ n. number n.op == code) (node_of node.entry) }
+            ≡ of_question (λ n. opcode_number n.op == code) (node_of node.entry) }
     {
         let this = if node.is_question() {
             node.question().id()
@@ -174,6 +189,7 @@ impl<'a> Iterator for ConditionViews<'a> {
             node,
             this: self.this,
             ends: node.expression_end(),
+            number: None,
         })
     }
 }

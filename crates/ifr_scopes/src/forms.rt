@@ -8,6 +8,7 @@ ghost use Rattle.ifr_opcodes.specs.Opcode.{number, has_scope};
 ghost use Rattle.ifr_expr.specs.Meaning.{names};
 ghost use Rattle.ifr_expr.specs.code.Rules.{AreOrdered};
 ghost use Rattle.ifr_scopes.specs.Accepted.{IsAccepted, IsPackageFault};
+ghost use Rattle.ifr_scopes.specs.code.AllConditionsLeft.{all_conditions_left};
 ghost use Rattle.ifr_scopes.specs.code.AnyConditions.{any_condition_node};
 ghost use Rattle.ifr_scopes.specs.code.Checked.{IsNodeOf, has_form};
 ghost use Rattle.ifr_scopes.specs.code.ConditionsLeft.{conditions_of_left};
@@ -27,6 +28,7 @@ ghost use Rattle.ifr_scopes.specs.code.Rules.{rules_of};
 ghost use Rattle.ifr_scopes.specs.code.Tables.{kept_entry, condition_table, entry_table};
 ghost use Rattle.ifr_scopes.specs.code.Views.{node_of};
 
+use crate::all_conditions::AllConditions;
 use crate::all_statements::AllStatements;
 use crate::any_condition::AnyCondition;
 use crate::around::{Around, guard_number, lock_place};
@@ -286,12 +288,33 @@ impl<'a> Forms<'a> {
         }
     }
 
+    /// All conditions of questions of the package, which is accepted, by place.
+    pub fn conditions(&self) -> AllConditions<'_, 'a>
+        ensures conditions { all_conditions_left result
+            ≡ filter (λ n. is_condition_number (number n.op)) (nodes_of self.now) }
+        ensures accepted { IsAccepted self.now }
+    {
+        AllConditions {
+            ifr: self.ifr,
+            kept: &self.index.conditions,
+        }
+    }
+
+    /// How many conditions of questions there are.
+    pub fn condition_count(&self) -> usize
+        ensures { result
+            ≡ length (filter (λ n. is_condition_number (number n.op)) (nodes_of self.now)) }
+    {
+        self.index.conditions.len()
+    }
+
     /// The NO_SUBMIT_IFs of all questions, by place, each with its guards.
     pub fn nosubmits(&self) -> NoSubmits<'_, 'a>
         ensures { no_submits_left result ≡ filter is_no_submit (nodes_of self.now) }
     {
         NoSubmits {
-            forms: self,
+            ifr: self.ifr,
+            guards: &self.index.guards,
             kept: &self.index.conditions,
         }
     }

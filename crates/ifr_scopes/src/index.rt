@@ -33,16 +33,19 @@ pub struct GuardEntry {
     pub(crate) ends: u32,
 }
 
-/// A condition of a question.
+/// A condition of a question. Its number is how many of them stand before it.
 #[derive(Clone, Copy, Debug)]
 pub struct ConditionEntry {
     pub(crate) place: u32,
     /// The number of its opcode.
     pub(crate) code: u8,
+    pub(crate) number: u32,
     /// The place of what it stands in.
     pub(crate) question: u32,
     /// The id of the question in whose scope it stands, or 0.
     pub(crate) this: u16,
+    /// The number of the innermost guard around it, if there is one.
+    pub(crate) guard: Option<u32>,
     /// Where its expression ends.
     pub(crate) ends: u32,
 }

@@ -103,23 +103,28 @@ fn add_guard(
     Ok(())
 }
 
-// Adds a condition of a question.
+// Adds a condition of a question, with the innermost guard around it. It would have this number.
 fn add_condition(
     conditions: &mut Vec<ConditionEntry>,
     nodes: &ScopedNodes,
     met: &ScopedNode,
+    guard: Option<u32>,
+    own: u32,
 ) -> Result<(), AllocError>
     requires { IsAround nodes.now met.now }
     ensures { OnOk result (conditions.new.items ≡ conditions.old.items
-        ++ map condition_entry (filter is_question_condition (node_of met.now.node ∷ []))) }
+        ++ map (condition_entry guard own)
+        (filter is_question_condition (node_of met.now.node ∷ []))) }
 {
     let op = met.node.op();
     if is_condition(op.code) {
         conditions.push(ConditionEntry {
             place: op.place,
             code: op.code,
+            number: own,
             question: nodes.parent(met).unwrap_or(0),
             this: nodes.this(met),
+            guard,
             ends: met.node.expression_end(),
         })?;
     }
@@ -241,7 +246,8 @@ pub(crate) fn index_of(alloc: Global, ifr: &[u8]) -> Result<Index, AllocError>
         let guard = descend(&mut inner, &met, guards.len() as u32);
         add_entry(&mut entries, met.node, guard)?;
         add_guard(&mut guards, &nodes, &met, guard)?;
-        add_condition(&mut conditions, &nodes, &met)?;
+        let own = conditions.len() as u32;
+        add_condition(&mut conditions, &nodes, &met, guard, own)?;
         add_form(&mut forms, met.node)?;
         add_store(&mut stores, met.node)?;
         add_rule(&mut rules, met.node)?;

@@ -1,6 +1,7 @@
 //! The nodes of a forms package: its framing, and walks over them (UEFI 2.8, 33.3.8 Forms Package).
 #![tactic(auto)]
 
+mod all_conditions;
 mod all_statements;
 mod any_condition;
 mod around;
@@ -43,6 +44,7 @@ mod table;
 mod varstore;
 mod walk;
 
+pub use all_conditions::AllConditions;
 pub use all_statements::AllStatements;
 pub use any_condition::AnyCondition;
 pub use around::Around;

@@ -1,16 +1,16 @@
 //! The conditions that deny a submission, of all questions.
 
 ghost use Rattle.std.specs.Prelude.{◌≡◌, reverse};
-ghost use Rattle.ifr_scopes.specs.code.Checked.{nodes_prop};
+ghost use Rattle.ifr_scopes.specs.Checked.{IsChecked};
+ghost use Rattle.ifr_scopes.specs.code.Checked.{IsChecked-prop, nodes_prop};
 ghost use Rattle.ifr_scopes.specs.Guards.{guards as guards_of_node};
 ghost use Rattle.ifr_scopes.specs.code.Lists.{outward_left};
 ghost use Rattle.ifr_scopes.specs.code.Parts.{condition_node};
-ghost use Rattle.ifr_scopes.specs.code.Tables.{AreConditionEntries, AreConditionEntries-prop};
+ghost use Rattle.ifr_scopes.specs.code.Tables.{AreConditionEntries, AreConditionEntries-prop, IsGuardTable, IsGuardTable-prop};
 
 use crate::condition_view::ConditionView;
-use crate::forms::Forms;
 use crate::guards_outward::GuardsOutward;
-use crate::index::ConditionEntry;
+use crate::index::{ConditionEntry, GuardEntry};
 use ifr_opcodes::NO_SUBMIT_IF;
 
 /// A condition that denies a submission while it holds, and the guards around it, which are those of its question (UEFI
@@ -26,9 +26,12 @@ pub struct NoSubmit<'s, 'a> {
 /// The NO_SUBMIT_IFs of a form set that are left, by place.
 #[derive(Drop)]
 pub struct NoSubmits<'s, 'a> {
-    pub(crate) forms: &'s Forms<'a>,
+    pub(crate) ifr: &'a [u8],
+    pub(crate) guards: &'s [GuardEntry],
     pub(crate) kept: &'s [ConditionEntry],
-    pub ghost conditions: { AreConditionEntries forms.now kept.now } by { AreConditionEntries-prop forms.now kept.now },
+    pub ghost checked: { IsChecked ifr.now } by { IsChecked-prop ifr.now },
+    pub ghost table: { IsGuardTable ifr.now guards.now } by { IsGuardTable-prop ifr.now guards.now },
+    pub ghost conditions: { AreConditionEntries ifr.now kept.now } by { AreConditionEntries-prop ifr.now kept.now },
 }
 
 impl<'s, 'a> Iterator for NoSubmits<'s, 'a> {
@@ -45,9 +48,14 @@ impl<'s, 'a> Iterator for NoSubmits<'s, 'a> {
         while let Some((first, kept)) = self.kept.split_first() {
             self.kept = kept;
             if first.code == NO_SUBMIT_IF {
-                let condition = ConditionView::kept(self.forms.bytes(), *first);
-                let guards = self.forms.around(first.question).guards();
-                return Some(NoSubmit { condition, guards });
+                return Some(NoSubmit {
+                    condition: ConditionView::kept(self.ifr, *first),
+                    guards: GuardsOutward {
+                        ifr: self.ifr,
+                        guards: self.guards,
+                        next: first.guard,
+                    },
+                });
             }
         }
         None

@@ -17,7 +17,7 @@ pub mod ConditionLemmas
 pub mod GatherLemmas
 pub mod IndexLemmas
 pub mod LookupLemmas
-pub mod GuardReaderLemmas
+pub mod PlaceReaderLemmas
 pub mod PlaceLemmas
 pub mod MeetLemmas
 pub mod GoesLemmas

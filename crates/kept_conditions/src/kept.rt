@@ -13,8 +13,8 @@ ghost use Rattle.kept_conditions.specs.laws.Writes.{IsWrite};
 ghost use Rattle.kept_conditions.specs.Touching.{difference, range_of, renewals};
 
 use crate::gather::gather;
-use crate::guard_readers::guard_readers;
 use crate::index::{Index, index_over};
+use crate::place_readers::{condition_readers, guard_readers};
 use crate::ranges::Ranges;
 use crate::readers::{Reader, Readers};
 use crate::renewal::{renew_changed, renew_touched, renew_within};
@@ -34,6 +34,8 @@ pub struct Kept<'a> {
     index: Index,
     // For each guard by its number, the number of its reader, where its condition is kept.
     guard_readers: Vec<u32>,
+    // The same for each condition of a question.
+    condition_readers: Vec<u32>,
 }
 
 impl<'a> Model for Kept<'a> {
@@ -72,25 +74,39 @@ impl<'a> Kept<'a> {
         let Ok(guard_readers) = guard_readers(alloc, policy, &readers.list) else {
             return Err(Fault::out_of_memory());
         };
+        let Ok(condition_readers) = condition_readers(alloc, policy, &readers.list) else {
+            return Err(Fault::out_of_memory());
+        };
         Ok(Kept {
             ifr: policy.forms().bytes(),
             readers,
             index,
             guard_readers,
+            condition_readers,
         })
     }
 
-    // The reader at a place, where it is that of the guard of a number.
-    fn reader_of_guard(&self, number: u32, place: u32) -> Option<Reader>
+    // The reader at a place, where it is the one that these tell for a number.
+    fn reader_of(&self, readers: &[u32], number: u32, place: u32) -> Option<Reader>
         ensures { IfSome result
             (λ reader. (is_condition reader && reader.holds) ≡ held self.now.values place) }
     {
-        let at = *self.guard_readers.get(number as usize)?;
+        let at = *readers.get(number as usize)?;
         let reader = *self.readers.list.get(at as usize)?;
         if reader.place == place {
             Some(reader)
         } else {
             None
+        }
+    }
+
+    // Whether the condition at a place holds, whose reader these tell for a number: where it is another one, it is searched for.
+    fn holds_by(&self, readers: &[u32], number: u32, place: u32) -> bool
+        ensures { result ≡ held self.now.values place }
+    {
+        match self.reader_of(readers, number, place) {
+            Some(reader) => reader.condition_holds(),
+            None => self.holds(place),
         }
     }
 
@@ -168,9 +184,10 @@ impl<'a> Conditions for Kept<'a> {
     }
 
     fn guard_holds(&self, number: u32, place: u32) -> bool {
-        match self.reader_of_guard(number, place) {
-            Some(reader) => reader.condition_holds(),
-            None => self.holds(place),
-        }
+        self.holds_by(&self.guard_readers, number, place)
+    }
+
+    fn condition_holds(&self, number: u32, place: u32) -> bool {
+        self.holds_by(&self.condition_readers, number, place)
     }
 }

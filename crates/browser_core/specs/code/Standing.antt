@@ -7,8 +7,6 @@ use Rattle.ifr_scopes.specs.code.Checked.{IsNodeOf, has_form}
 use Rattle.ifr_scopes.specs.code.Lists.{form_node}
 use Rattle.ifr_scopes.specs.declared.form.Form.{Form}
 use Rattle.ifr_scopes.specs.Nodes.{nodes_of, is_question}
-use Rattle.hii_varstore.specs.Layout.{Shape}
-use Rattle.hii_varstore.specs.code.Ranges.{HasRange}
 use Rattle.hii_varstore.specs.code.Table.{AreBuffers}
 use Rattle.hii_varstore.specs.Stores.{StoreMap, shape_of}
 use Rattle.hii_questions.specs.Fields as fields

@@ -15,4 +15,4 @@ abbrev pub denies : ConditionEntry → Bool
 denies kept = kept.code == NO_SUBMIT_IF
 
 abbrev pub no_submits_left : NoSubmits → List Placed
-no_submits_left it = map (λ kept. node_in it.forms.now kept.place) (filter denies it.kept.now)
+no_submits_left it = map (λ kept. node_in it.ifr.now kept.place) (filter denies it.kept.now)

@@ -37,5 +37,8 @@ condition_op (condition.WarningIf view) = view.op
 abbrev pub condition_node : ConditionView → Placed
 condition_node condition = node_of condition.node
 
+abbrev pub condition_package : ConditionView → List ℕ
+condition_package condition = condition.node.ifr.now
+
 abbrev pub conditions_left : ConditionViews → List Placed
 conditions_left it = parts_left it.nodes

@@ -1,5 +1,5 @@
 -- The tables of a package's index.
-use Rattle.std.specs.Prelude.{◌≡◌, ◌<◌, ℕ, ◌-◌, Bool, true, ◌==◌, nat_lt, Option, Some, None, option_map, unwrap_or, All, IfSome, List, [], ◌∷◌, ◌++◌, length, filter, map}
+use Rattle.std.specs.Prelude.{◌≡◌, ◌<◌, ℕ, ◌-◌, Bool, true, nat_lt, Option, Some, None, option_map, unwrap_or, All, IfSome, List, [], ◌∷◌, ◌++◌, length, filter, map}
 use Rattle.std.specs.List.{last_or, slice_get}
 use Rattle.std.specs.Option.{option_flatten}
 use Rattle.std.proofs.Props.{props}
@@ -21,6 +21,9 @@ use Rattle.ifr_scopes.specs.declared.index.Index.{Index}
 use Rattle.ifr_scopes.specs.declared.index.Entry.{Entry}
 use Rattle.ifr_scopes.specs.declared.index.GuardEntry.{GuardEntry}
 use Rattle.ifr_scopes.specs.declared.index.ConditionEntry.{ConditionEntry}
+
+option_prop : (a b : Option ℕ) → IsProp (a ≡ b)
+option_prop a b = hlevel props
 
 -- ---- the numbers of guards
 
@@ -50,13 +53,20 @@ IsNumber ns number = IfSome number (λ k. k < length (guards_among ns))
 abbrev pub AreNumbers : List Placed → List ℕ → Type 0
 AreNumbers ns numbers = All (λ k. k < length (guards_among ns)) numbers
 
+-- There are so many, if it is told how many.
+abbrev pub AreTold : Option ℕ → ℕ → Type 0
+AreTold told count = IfSome told (λ k. k ≡ count)
+
+AreTold-prop : (told : Option ℕ) (count : ℕ) → IsProp (AreTold told count)
+AreTold-prop None count = hlevel props
+AreTold-prop (Some k) count = hlevel props
+
 -- So many guards stand before this place, if it is told how many.
 abbrev pub AreBefore : List Placed → Option ℕ → ℕ → Type 0
-AreBefore ns told place = IfSome told (λ k. k ≡ guards_before ns place)
+AreBefore ns told place = AreTold told (guards_before ns place)
 
 pub AreBefore-prop : (ns : List Placed) (told : Option ℕ) (place : ℕ) → IsProp (AreBefore ns told place)
-AreBefore-prop ns None place = hlevel props
-AreBefore-prop ns (Some k) place = hlevel props
+AreBefore-prop ns told place = AreTold-prop told (guards_before ns place)
 
 pub IsNumber-prop : (ns : List Placed) (number : Option ℕ) → IsProp (IsNumber ns number)
 IsNumber-prop ns None = hlevel props
@@ -160,7 +170,7 @@ AreOfKind-prop is bytes places = hlevel (props, IsOfKind-prop)
 abbrev pub innermost_at : List Placed → ℕ → Option ℕ
 innermost_at ns place = entry_at (λ n. inner_guard ns n.path) ns place
 
--- a condition of a question
+-- whether a node is a condition of a question
 abbrev pub is_question_condition : Placed → Bool
 is_question_condition n = is_condition_number (number n.op)
 
@@ -168,31 +178,56 @@ is_question_condition n = is_condition_number (number n.op)
 abbrev pub parent_place : Placed → ℕ
 parent_place n = unwrap_or (option_map (λ a. a.place) (parent n)) 0
 
-abbrev pub condition_entry : Placed → ConditionEntry
-condition_entry n =
+-- how many conditions of questions stand before a place
+abbrev pub conditions_before : List Placed → ℕ → ℕ
+conditions_before ns place =
+    length (filter (λ n. nat_lt n.place place) (filter is_question_condition ns))
+
+-- So many of them stand before this place, if it is told how many.
+abbrev pub AreConditionsBefore : List Placed → Option ℕ → ℕ → Type 0
+AreConditionsBefore ns told place = AreTold told (conditions_before ns place)
+
+pub AreConditionsBefore-prop : (ns : List Placed) (told : Option ℕ) (place : ℕ)
+    → IsProp (AreConditionsBefore ns told place)
+AreConditionsBefore-prop ns told place = AreTold-prop told (conditions_before ns place)
+
+-- one of them, with the number of the innermost guard around it, and its own
+abbrev pub condition_entry : Option ℕ → ℕ → Placed → ConditionEntry
+condition_entry guard own n =
     record {
       place = n.place;
       code = number n.op;
+      number = own;
       question = parent_place n;
       this = this_of n;
+      guard = guard;
       ends = expression_end n;
     }
 
+abbrev pub kept_condition : List Placed → Placed → ConditionEntry
+kept_condition ns n = condition_entry (inner_guard ns n.path) (conditions_before ns n.place) n
+
+-- those among some nodes, and among all
+abbrev pub conditions_among : List Placed → List Placed → List ConditionEntry
+conditions_among ns its = map (kept_condition ns) (filter is_question_condition its)
+
 abbrev pub condition_table : List Placed → List ConditionEntry
-condition_table ns = map condition_entry (filter is_question_condition ns)
+condition_table ns = conditions_among ns ns
 
 -- A condition of a question stands at the place in the package, and this is its entry.
 pub record IsConditionEntry (bytes : List ℕ) (kept : ConditionEntry) : Type 0 where
   pub there : has_node bytes kept.place ≡ true
   pub condition : is_condition_number kept.code ≡ true
   pub code : kept.code ≡ number (node_in bytes kept.place).op
+  pub before : kept.number ≡ conditions_before (nodes_of bytes) kept.place
   pub question : kept.question ≡ parent_place (node_in bytes kept.place)
   pub within : kept.this ≡ this_of (node_in bytes kept.place)
+  pub guard : kept.guard ≡ inner_guard (nodes_of bytes) (node_in bytes kept.place).path
   pub ends : kept.ends ≡ expression_end (node_in bytes kept.place)
 
 pub IsConditionEntry-prop : (bytes : List ℕ) (kept : ConditionEntry)
     → IsProp (IsConditionEntry bytes kept)
-IsConditionEntry-prop bytes kept = hlevel props
+IsConditionEntry-prop bytes kept = hlevel (props, option_prop)
 
 abbrev pub AreConditionEntries : List ℕ → List ConditionEntry → Type 0
 AreConditionEntries bytes kept = All (λ one. IsConditionEntry bytes one) kept
@@ -217,9 +252,6 @@ pub record IsIndexOf (ns : List Placed) (index : Index) : Type 0 where
   pub forms : AreFormEntries ns index.forms
   pub stores : index.stores.items ≡ places_of is_store ns
   pub rules : index.rules.items ≡ places_of is_rule ns
-
-option_prop : (a b : Option ℕ) → IsProp (a ≡ b)
-option_prop a b = hlevel props
 
 guard_entry_prop : (a b : GuardEntry) → IsProp (a ≡ b)
 guard_entry_prop a b = hlevel (props, option_prop)

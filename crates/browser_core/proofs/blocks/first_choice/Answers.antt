@@ -4,7 +4,6 @@ use Rattle.guard_policy.specs.Policy.{fixed}
 use Rattle.guard_policy.specs.code.Answers.{unless}
 use Rattle.guard_policy.specs.code.Surroundings.{IsAroundNode, answer_of}
 use Rattle.guard_policy.specs.code.Views.{bytes_of, world}
-use Rattle.ifr_opcodes.specs.Forest.{Placed}
 use Rattle.hii_questions.specs.code.Ranges.{range_in}
 use Rattle.hii_questions.specs.code.Views.{question_node, question_view}
 use Rattle.hii_questions.specs.Fields.{Asked}

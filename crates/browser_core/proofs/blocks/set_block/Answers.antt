@@ -1,13 +1,11 @@
-use Rattle.std.proofs.Common.{◌≡◌, ℕ, Ok, ap, subst, sym, ◌∙◌}
+use Rattle.std.proofs.Common.{Ok, subst, sym}
 use Rattle.std.proofs.lemmas.Result.{err_from_is_err_and}
 use Rattle.config_text.specs.code.Views.{block_view}
 use Rattle.hii_varstore.specs.code.Ranges.{HasRange}
 use Rattle.hii_varstore.specs.Stores.{StoreMap, shape_of}
-use Rattle.hii_questions.specs.Fields.{Field}
-use Rattle.hii_questions.specs.code.Ranges.{range_in}
 use Rattle.hii_questions.specs.declared.field_range.FieldRange.{FieldRange}
 use Rattle.browser_core.specs.Configuration.{block_field}
-use Rattle.browser_core.specs.code.Changing.{Chooses, range_of_block}
+use Rattle.browser_core.specs.code.Changing.{Chooses}
 use Rattle.browser_core.proofs.ByteLemmas.{bytes_of_number}
 use Rattle.browser_core.proofs.RouteLemmas.{no_question, block_is_set, block_is_denied, block_range}
 use Rattle.browser_core.proofs.blocks.set_block.Goals as goal

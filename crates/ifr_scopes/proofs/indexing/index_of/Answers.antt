@@ -1,4 +1,4 @@
-use Rattle.std.proofs.Common.{◌≡◌, ℕ, List, length, rules, ap, ◌∙◌, subst, arith}
+use Rattle.std.proofs.Common.{◌≡◌, List, length, rules, ap, ◌∙◌, subst, arith}
 use Rattle.std.specs.BTreeMap.{get}
 use Rattle.std.specs.Ordering.{nat_cmp}
 use Rattle.hii_bytes.specs.code.IdTables.{number_with}
@@ -21,7 +21,13 @@ pub overflow_cast-len : goal.overflow_cast-len
 overflow_cast-len c =
     let few = few_made c.args.ifr.now _ c.loop-met.guards.items _ _ _ _ _ _ _ c.requires c.loop-met.invariant.made in
     let count : c.len.result ≡ length c.loop-met.guards.items = search rules in
-    omega (arith, few, count)
+    omega (arith, few.0, count)
+
+pub overflow_cast-own : goal.overflow_cast-own
+overflow_cast-own c =
+    let few = few_made c.args.ifr.now _ _ c.loop-met.conditions.items _ _ _ _ _ _ c.requires c.loop-met.invariant.made in
+    let count : c.len-own.result ≡ length c.loop-met.conditions.items = search rules in
+    omega (arith, few.1, count)
 
 pub loop-met-preserved : goal.loop-met-preserved
 loop-met-preserved c =
@@ -33,11 +39,12 @@ loop-met-preserved c =
     let now = subst (Made ns old.entries.items old.guards.items old.conditions.items old.forms.items old.stores.items old.rules.items found old.inner.items) c.in-Some.ensures.some.0 old.invariant.made in
     let around = c.in-Some.ensures.some.1 in
     let count : c.len.result ≡ length c.loop-met.guards.items = search rules in
+    let next : c.len-own.result ≡ length c.loop-met.conditions.items = search rules in
     record {
       made =
           made_next ns old.entries.items c.add_entry.new.entries.items old.guards.items c.add_guard.new.guards.items old.conditions.items c.add_condition.new.conditions.items old.forms.items c.add_form.new.forms.items old.stores.items c.add_store.new.stores.items old.rules.items c.add_rule.new.rules.items
-          found (get nat_cmp c.add_lock.new.locks) old.inner.items c.descend-guard.new.inner.items n (left c.step.new.self.walk) c.in-Some.met.depth c.len.result c.descend-guard.result
-          (nodes_rise bytes c.requires.spelled) now (path_depth _ _ _ n around.within around.path) count c.descend-guard.ensures.around c.descend-guard.ensures.inner
+          found (get nat_cmp c.add_lock.new.locks) old.inner.items c.descend-guard.new.inner.items n (left c.step.new.self.walk) c.in-Some.met.depth c.len.result c.len-own.result c.descend-guard.result
+          (nodes_rise bytes c.requires.spelled) now (path_depth _ _ _ n around.within around.path) count next c.descend-guard.ensures.around c.descend-guard.ensures.inner
           c.in_ok-add_entry.ensures c.in_ok-add_guard.ensures c.in_ok-add_condition.ensures c.in_ok-add_form.ensures c.in_ok-add_store.ensures c.in_ok-add_rule.ensures c.in_ok-add_lock.ensures;
       kept = c.step.ensures.kept ∙ old.invariant.kept;
     }

@@ -1,9 +1,7 @@
-use Rattle.std.proofs.Common.{List, map, filter, sym, ap, subst, ◌∙◌}
-use Rattle.ifr_opcodes.specs.Forest.{Placed}
+use Rattle.std.proofs.Common.{List, map, sym, ap, subst, ◌∙◌}
 use Rattle.ifr_scopes.specs.Nodes.{nodes_of}
 use Rattle.hii_varstore.specs.Layout.{Shape}
-use Rattle.hii_varstore.specs.Stores.{StoreMap, shape_of}
-use Rattle.hii_questions.specs.Changes.{holds_others}
+use Rattle.hii_varstore.specs.Stores.{shape_of}
 use Rattle.hii_questions.specs.Fields.{Asked, questions}
 use Rattle.hii_questions.specs.code.LyingIn.{LieIn}
 use Rattle.browser_core.proofs.ChangeLemmas.{changed_is, fields_lie}

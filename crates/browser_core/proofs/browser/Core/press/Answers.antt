@@ -4,7 +4,6 @@ use Rattle.ifr_scopes.specs.Nodes.{nodes_of}
 use Rattle.browser_core.specs.Renewed.{field_writes, pressed_if}
 use Rattle.browser_core.specs.Step.{row_of_form, form_of}
 use Rattle.browser_core.specs.code.Counting.{counted_all}
-use Rattle.browser_core.specs.declared.reply.Reply.{Reply}
 use Rattle.browser_core.proofs.FollowLemmas.{presses_nothing}
 use Rattle.browser_core.proofs.browser.Core.press.Goals as goal
 

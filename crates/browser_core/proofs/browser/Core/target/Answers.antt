@@ -2,7 +2,6 @@ use Rattle.std.proofs.Common.{◌≡◌, List, ℕ, true, None, Some, Err, Ok, r
 use Rattle.std.specs.Prelude.{option_and_then}
 use Rattle.std.proofs.lemmas.Result.{err_from_is_err_and}
 use Rattle.ifr_opcodes.specs.Fields.{ref_target}
-use Rattle.ifr_opcodes.specs.Forest.{Placed}
 use Rattle.ifr_opcodes.specs.code.Ops.{bytes_of}
 use Rattle.ifr_scopes.specs.Nodes.{nodes_of, is_reference}
 use Rattle.ifr_scopes.specs.References.{form_with}

@@ -1,11 +1,6 @@
-use Rattle.std.proofs.Common.{ap, ◌∙◌}
-use Rattle.ifr_opcodes.specs.Forest.{Placed}
 use Rattle.ifr_scopes.specs.Nodes.{nodes_of}
 use Rattle.hii_questions.specs.Fields.{question_with}
 use Rattle.hii_questions.specs.code.Views.{question_node}
-use Rattle.guard_policy.specs.Policy.{fixed}
-use Rattle.guard_policy.specs.code.Answers.{unless}
-use Rattle.browser_core.specs.State.{world_of}
 use Rattle.browser_core.proofs.FollowLemmas.{why_answered}
 use Rattle.browser_core.proofs.browser.Core.why.Goals as goal
 

@@ -20,4 +20,5 @@ invariant_of-result c =
       condition = ap is_condition_number c.in_ok-node.ensures.coded ∙ it.coded;
       within = sym (subst (HaveThis it.this) c.in_ok-node.ensures.steps it.within 0 (node_of c.in_ok-node.node) (omega arith));
       ended = c.expression_end.ensures;
+      counted = tt;
     }

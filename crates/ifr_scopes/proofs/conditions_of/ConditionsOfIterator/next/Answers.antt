@@ -14,7 +14,7 @@ given c =
     let first = c.in-Some.first.now in
     let rest = left_of it.ifr.now it.question it.code c.in-Some.kept.now in
     sym c.loop-first.invariant ∙ left_first it.ifr.now it.question it.code first it.kept.now c.in-Some.kept.now c.in-Some.ensures.cases.0 (eq-eqb first.question it.question c.if-first-self.false) (eq-eqb first.code it.code c.if-first-self-2.true)
-    ∙ ap (λ (n : Placed). n ∷ rest) (sym c.kept.ensures)
+    ∙ ap (λ (n : Placed). n ∷ rest) (sym c.kept.ensures.node)
 
 pub returns-then-first-self-2-clause-steps : goal.returns-then-first-self-2-clause-steps
 returns-then-first-self-2-clause-steps c = given (goal.at.returns-then-first-self-2-clause-steps c).After-kept

@@ -6,7 +6,7 @@ use Rattle.ifr_scopes.specs.Guards.{is_guard}
 use Rattle.ifr_scopes.specs.Nodes.{nodes_of}
 use Rattle.ifr_scopes.specs.code.AnyConditions.{any_condition_node}
 use Rattle.ifr_scopes.specs.code.Index.{kind_at, conditional_at}
-use Rattle.ifr_scopes.specs.code.Tables.{inner_guard, guard_entry, is_question_condition, condition_entry}
+use Rattle.ifr_scopes.specs.code.Tables.{inner_guard, guard_entry, is_question_condition, kept_condition}
 use Rattle.ifr_scopes.specs.declared.index.GuardEntry.{GuardEntry}
 use Rattle.ifr_scopes.specs.declared.index.ConditionEntry.{ConditionEntry}
 use Rattle.ifr_scopes.proofs.ConditionAtLemmas.{guard_some, condition_some, none_there}
@@ -34,11 +34,11 @@ returns-in-Some c =
     ap (λ (n : Placed). Some n) c.kept.ensures.node ∙ sym its.is ∙ ap (λ (b : List ℕ). conditional_at (nodes_of b) c.args.place) c.self.view_is
 
 -- or the condition
-condition_is : (c : After-condition_at) → c.condition_at.result ≡ option_map condition_entry (kind_at is_question_condition (nodes_of c.self.inside.ifr.now) c.args.place)
+condition_is : (c : After-condition_at) → c.condition_at.result ≡ option_map (kept_condition (nodes_of c.self.inside.ifr.now)) (kind_at is_question_condition (nodes_of c.self.inside.ifr.now) c.args.place)
 condition_is c =
     let bytes = c.self.inside.ifr.now in
     let ns = nodes_of bytes in
-    looked_up is_question_condition condition_entry (λ (x : ConditionEntry). x.place) (λ n. refl) c.args.place ns c.deref-2.result.now c.condition_at.result (nodes_rise bytes c.self.invariant.accepted.checked.spelled)
+    looked_up is_question_condition (kept_condition ns) (λ (x : ConditionEntry). x.place) (λ n. refl) c.args.place ns c.deref-2.result.now c.condition_at.result (nodes_rise bytes c.self.invariant.accepted.checked.spelled)
     (c.deref-2.ensures.value ∙ c.self.invariant.index.conditions) c.condition_at.ensures
 
 pub returns-in_err-condition : goal.returns-in_err-condition
@@ -59,4 +59,4 @@ returns c =
     let at = goal.at.returns c in
     let its = condition_some c.self.inside.ifr.now c.args.place c.in_ok-condition.condition c.self.invariant.accepted.checked.spelled (sym c.in_default.is ∙ guard_is at.After-guard_at)
     (sym c.in_ok-condition.was ∙ condition_is at.After-condition_at) in
-    ap (λ (n : Placed). Some n) c.kept-2.ensures ∙ sym its.is ∙ ap (λ (b : List ℕ). conditional_at (nodes_of b) c.args.place) c.self.view_is
+    ap (λ (n : Placed). Some n) c.kept-2.ensures.node ∙ sym its.is ∙ ap (λ (b : List ℕ). conditional_at (nodes_of b) c.args.place) c.self.view_is

@@ -5,7 +5,7 @@ use Rattle.ifr_opcodes.specs.Opcode.{has_scope}
 use Rattle.ifr_opcodes.proofs.OpcodeLemmas.{has_scope_spelled}
 use Rattle.ifr_scopes.specs.Nodes.{nodes_of}
 use Rattle.ifr_scopes.specs.code.Lists.{statement_node}
-use Rattle.ifr_scopes.specs.code.Tables.{is_question_condition, condition_entry, condition_table}
+use Rattle.ifr_scopes.specs.code.Tables.{is_question_condition, kept_condition, condition_table}
 use Rattle.ifr_scopes.specs.declared.index.ConditionEntry.{ConditionEntry}
 use Rattle.ifr_scopes.proofs.IndexLemmas.{nodes_rise, table_rises}
 use Rattle.ifr_scopes.proofs.forms.Forms.conditions_behind.Goals as goal
@@ -18,7 +18,7 @@ returns-then-op c =
     let place = λ (x : ConditionEntry). x.place in
     let scoped : has_scope m.op ≡ true = ap has_scope (sym c.op.ensures.bytes) ∙ has_scope_spelled op.code op.scope op.body.now op.whole ∙ c.if-op.true in
     let is = c.deref.ensures.value ∙ c.self.invariant.index.conditions in
-    let rise = table_rises is_question_condition condition_entry place (λ n. refl) 4 (nodes_of bytes) (nodes_rise bytes c.self.invariant.accepted.checked.spelled) in
+    let rise = table_rises is_question_condition (kept_condition (nodes_of bytes)) place (λ n. refl) 4 (nodes_of bytes) (nodes_rise bytes c.self.invariant.accepted.checked.spelled) in
     let behind = c.conditions_behind.ensures 4 (subst (Rise place 4) (sym is) rise) in
     let its : List ConditionEntry = filter (λ x. nat_lt m.place x.place) (condition_table (nodes_of c.args.self.now)) in
     behind ∙ ap (λ (p : ℕ). filter (λ (x : ConditionEntry). nat_lt p x.place) c.deref.result.now) c.op.ensures.place ∙ ap (filter (λ (x : ConditionEntry). nat_lt m.place x.place)) is

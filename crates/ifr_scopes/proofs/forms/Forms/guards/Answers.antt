@@ -1,7 +1,6 @@
-use Rattle.std.proofs.Common.{◌≡◌, ℕ, List, map, filter, sym, ap, subst, ◌∙◌}
-use Rattle.ifr_opcodes.specs.Opcode.{number}
+use Rattle.std.proofs.Common.{◌≡◌, ℕ, List, map, sym, ap, subst, ◌∙◌}
 use Rattle.ifr_scopes.specs.Accepted.{IsAccepted}
-use Rattle.ifr_scopes.specs.Guards.{is_guard, guards_among}
+use Rattle.ifr_scopes.specs.Guards.{guards_among}
 use Rattle.ifr_scopes.specs.Nodes.{nodes_of}
 use Rattle.ifr_scopes.specs.code.Checked.{node_in}
 use Rattle.ifr_scopes.specs.code.Tables.{AreGuardEntries}

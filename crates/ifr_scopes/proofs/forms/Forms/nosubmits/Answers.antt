@@ -6,14 +6,15 @@ use Rattle.ifr_scopes.proofs.forms.Forms.nosubmits.Goals as goal
 
 pub invariant_of-result : goal.invariant_of-result
 invariant_of-result c =
-    let its = c.deref.result.now in
     let bytes = c.self.inside.ifr.now in
-    let are = subst (AreConditionEntries bytes) (sym (c.deref.ensures.value ∙ c.self.invariant.index.conditions)) (all_entries bytes c.self.invariant.accepted.checked.spelled) in
-    record { conditions = subst (λ (b : List ℕ). AreConditionEntries b its) c.self.view_is are }
+    record {
+      checked = c.self.invariant.accepted.checked;
+      table = c.deref.ensures.value ∙ c.self.invariant.index.guards;
+      conditions = subst (AreConditionEntries bytes) (sym (c.deref-2.ensures.value ∙ c.self.invariant.index.conditions)) (all_entries bytes c.self.invariant.accepted.checked.spelled);
+    }
 
 pub returns : goal.returns
 returns c =
-    let its = c.deref.result.now in
     let bytes = c.self.inside.ifr.now in
-    let again = ap (denying bytes) (c.deref.ensures.value ∙ c.self.invariant.index.conditions) ∙ all_again bytes c.self.invariant.accepted.checked.spelled in
-    subst (λ (b : List ℕ). denying b its ≡ filter is_no_submit (nodes_of b)) c.self.view_is again
+    let again = ap (denying bytes) (c.deref-2.ensures.value ∙ c.self.invariant.index.conditions) ∙ all_again bytes c.self.invariant.accepted.checked.spelled in
+    subst (λ (b : List ℕ). denying bytes c.deref-2.result.now ≡ filter is_no_submit (nodes_of b)) c.self.view_is again

@@ -49,6 +49,11 @@ guard_readers-requires c =
     let at = (goal.at.guard_readers-requires c).In-Ok-over in
     subst (Rise (λ (r : Reader). r.place) 0) (sym c.deref.ensures.value) (rise_from 0 c.in-Ok-over.readers.list.items (made at).rise)
 
+pub condition_readers-requires : goal.condition_readers-requires
+condition_readers-requires c =
+    let at = (goal.at.condition_readers-requires c).In-Ok-over in
+    subst (Rise (λ (r : Reader). r.place) 0) (sym c.deref-2.ensures.value) (rise_from 0 c.in-Ok-over.readers.list.items (made at).rise)
+
 same_bytes : (c : After-bytes) → c.bytes.result.now ≡ bytes_of c.args.policy
 same_bytes c = c.bytes.ensures.bytes ∙ c.forms.ensures
 

@@ -1,6 +1,6 @@
 use Rattle.std.proofs.Common.{◌≡◌, ◌+◌, ◌-◌, ◌≤◌, drop, length}
-use Rattle.kept_conditions.specs.code.GuardReaders.{passed}
-use Rattle.kept_conditions.proofs.guard_readers.first_from.Given as goal
+use Rattle.kept_conditions.specs.code.PlaceReaders.{passed}
+use Rattle.kept_conditions.proofs.place_readers.first_from.Given as goal
 
 -- those so far were passed
 abbrev pub invariant-loop-next : goal.invariant-loop-next

@@ -1,4 +1,4 @@
--- Where the readers of guards stand among all.
+-- Where the readers at places stand among all.
 use Rattle.std.specs.Prelude.{ℕ, nat_lt, List}
 use Rattle.std.specs.List.{prefix_len}
 use Rattle.kept_conditions.specs.declared.readers.Reader.{Reader}
