@@ -1,7 +1,7 @@
 pub mod Cores
 pub mod RunLemmas
-pub mod OpeningLemmas
 pub mod FormLemmas
+pub mod OpeningLemmas
 pub mod WithoutFaultLemmas
 pub mod AgreeLemmas
 pub mod ByteLemmas
@@ -11,6 +11,8 @@ pub mod RouteLemmas
 pub mod RoutedLemmas
 pub mod TellingLemmas
 pub mod ChangeLemmas
+pub mod RefusedLemmas
+pub mod OneStateLemmas
 pub mod LawLemmas
 pub mod DecidingLemmas
 pub mod DefaultLemmas

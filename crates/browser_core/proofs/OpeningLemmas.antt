@@ -29,11 +29,14 @@ use Rattle.hii_varstore.specs.Layout.{Shape}
 use Rattle.hii_varstore.specs.Image.{SpellsImage}
 use Rattle.hii_varstore.specs.StoreNodes.{IsStoreFault}
 use Rattle.hii_varstore.specs.Faults.{IsImageFault}
-use Rattle.hii_varstore.proofs.FaultLemmas as image
+use Rattle.hii_varstore.proofs.FaultLemmas as image_faults
 use Rattle.hii_questions.specs.Faults.{IsQuestionFault}
+use Rattle.form_sets.specs.Packages.{IsGoodPackage}
+use Rattle.form_sets.proofs.PackageLemmas.{accepted_where_good, stored_where_good, asked_where_good, good_where_accepted}
 use Rattle.guard_policy.specs.World.{removed_at}
 use Rattle.browser_core.specs.State.{State}
-use Rattle.browser_core.specs.Opening.{bytes_or_none, forms_bytes, HasSource, HasTexts, layout_in, IsSourceFault, IsTextFault, IsFormSetFault, IsBrowsingFault, IsOpenFault, IsBrowsable, Opens}
+use Rattle.browser_core.proofs.FormLemmas.{first_of}
+use Rattle.browser_core.specs.Opening.{bytes_or_none, forms_bytes, HasSource, HasTexts, layout_in, IsSourceFault, IsTextFault, IsFormSetFault, IsBrowsingFault, IsOpenFault, IsBrowsable, AreGood, Opens}
 
 -- ---- the forms package of a number
 
@@ -91,14 +94,70 @@ no_text_fault : (list : List ℕ) (spoken : List Spoken) → HasTexts list spoke
 no_text_fault list spoken (packages, s, says) =
     subst (λ ps. HasNone (IsStringsFault (string_packages ps))) (sym (spelled_pieces list packages s)) (spoken_sound (string_packages packages) spoken says)
 
+-- what is good can be browsed, and the other way round
+browsable_where_good : (ifr : List ℕ) → IsGoodPackage ifr → IsBrowsable ifr
+browsable_where_good ifr g = record { accepted = accepted_where_good ifr g; stores = stored_where_good ifr g; questions = asked_where_good ifr g }
+
+pub good_where_browsable : (ifr : List ℕ) → IsBrowsable ifr → IsGoodPackage ifr
+good_where_browsable ifr b = good_where_accepted ifr b.accepted b.stores b.questions
+
+-- good bytes have no fault
+pub good_no_fault : (list : List ℕ) (n : ℕ) (image : List ℕ) → AreGood list n image → HasNone (IsOpenFault list n image)
+good_no_fault list n image g =
+    let ifr = g.source.bytes in
+    then_none (IsSourceFault list n) (Then (IsTextFault list) (IsBrowsingFault (forms_bytes list n) image)) (no_source_fault list n g.source g.found)
+    (then_none (IsTextFault list) (IsBrowsingFault (forms_bytes list n) image) (no_text_fault list g.spoken g.texts)
+    (subst (λ ifr. HasNone (IsBrowsingFault ifr image)) (sym (source_bytes list n g.source g.found))
+    (then_none (IsFormSetFault ifr) (IsImageFault (layout_in ifr) image) (browsable_no_fault ifr (browsable_where_good ifr g.good)) (image_faults.no_fault (layout_in ifr) image g.stores g.image_is))))
+
+-- bytes that open a session are good
+pub opens_good : (list : List ℕ) (n : ℕ) (image language : List ℕ) (start : State) → Opens list n image language start → AreGood list n image
+opens_good list n image language start o = record {
+  source = o.source;
+  found = o.found;
+  spoken = start.spoken;
+  texts = o.texts;
+  good = subst IsGoodPackage o.bytes (good_where_browsable start.ifr o.browsable);
+  stores = start.working;
+  image_is = subst (λ ifr. SpellsImage (layout_in ifr) image start.working) o.bytes o.stores;
+}
+
 pub opens_no_fault : (list : List ℕ) (n : ℕ) (stores language : List ℕ) (start : State) → Opens list n stores language start → HasNone (IsOpenFault list n stores)
-opens_no_fault list n stores language start o =
-    let is : start.ifr ≡ forms_bytes list n = o.bytes ∙ sym (source_bytes list n o.source o.found) in
-    then_none (IsSourceFault list n) (Then (IsTextFault list) (IsBrowsingFault (forms_bytes list n) stores)) (no_source_fault list n o.source o.found)
-    (then_none (IsTextFault list) (IsBrowsingFault (forms_bytes list n) stores) (no_text_fault list start.spoken o.texts)
-    (subst (λ ifr. HasNone (IsBrowsingFault ifr stores)) is
-    (then_none (IsFormSetFault start.ifr) (IsImageFault (layout_in start.ifr) stores) (browsable_no_fault start.ifr o.browsable)
-    (image.no_fault (layout_in start.ifr) stores start.working o.stores))))
+opens_no_fault list n stores language start o = good_no_fault list n stores (opens_good list n stores language start o)
+
+-- good bytes open a session
+pub opens_where_good : (list : List ℕ) (n : ℕ) (image language : List ℕ) → AreGood list n image → (start : State) × Opens list n image language start
+opens_where_good list n image language g =
+    let ifr = g.source.bytes in
+    let first = first_of ifr (accepted_where_good ifr g.good) in
+    let start : State = record {
+      ifr = ifr;
+      path = device_path_of g.found.0;
+      removed = removed_at (nodes_of ifr) g.stores;
+      spoken = g.spoken;
+      language = chosen g.spoken language;
+      committed = g.stores;
+      working = g.stores;
+      form = first.0.place;
+      history = [];
+    } in (
+      start,
+      record {
+        source = g.source;
+        found = g.found;
+        bytes = refl;
+        path = (g.found.0, g.found.1, refl);
+        texts = g.texts;
+        language_is = refl;
+        browsable = browsable_where_good ifr g.good;
+        stores = g.image_is;
+        submitted = refl;
+        removed = refl;
+        others = places first.1;
+        forms = ap places first.2;
+        history = refl;
+      },
+    )
 
 -- where the bytes open a session, the only fault is out of memory
 pub only_memory : (list : List ℕ) (n : ℕ) (stores language : List ℕ) (start : State) (fault : Fault) → Opens list n stores language start → Refuses (IsOpenFault list n stores) fault → fault ≡ out_of_memory

@@ -251,19 +251,6 @@ last_line-few : (rest : List ℕ) → length (last_line rest) ≤ 1
 last_line-few [] = omega arith
 last_line-few (b ∷ rest) = omega arith
 
-stops_later : (start now : Shown) (pen new : Pen) (lines more : List (List ℕ)) → StopsAtLine start pen lines now new → StopsAtLine start pen (lines ++ more) now new
-stops_later start now pen new lines more h = record {
-  before = h.before;
-  last = h.last;
-  later = h.later ++ more;
-  one = h.one;
-  front = ap (λ l. l ++ more) h.front ∙ append_assoc (h.before ++ h.last) h.later more;
-  shown = h.shown;
-  text = h.text;
-  all_before = h.all_before;
-  after_fault = h.after_fault;
-}
-
 stops_flushed : (start now : Shown) (pen mid new : Pen) (lines : List (List ℕ)) → StopsAtLine start pen lines now mid → Flushes mid new → StopsAtLine start pen lines now new
 stops_flushed start now pen mid new lines h flushed = record {
   before = h.before;
@@ -362,14 +349,14 @@ finishes start now stepped pen mid new reader left bytes line consumed few at_en
 
 -- the writer fails at the last line, or as it passes on its answer
 pub overflows_last : (start now stepped : Shown) (pen mid after new : Pen) (reader left : Option (List ℕ)) (bytes : List ℕ) (line : Held)
-    → Consumes reader left bytes → length bytes ≤ SCRIPT_LIMIT → Stands start pen bytes now line mid
+    → Consumes reader left bytes → length bytes ≤ SCRIPT_LIMIT → IsAtEnd left → Stands start pen bytes now line mid
     → stepped ≡ shown_line now (rest_of bytes) → Writes mid after (step_line now.state (rest_of bytes)).text → Flushes after new → new.broken ≡ true
     → Overflows start pen reader stepped new left
-overflows_last start now stepped pen mid after new reader left bytes line consumed few stands next told flushed broken = record {
+overflows_last start now stepped pen mid after new reader left bytes line consumed few at_end stands next told flushed broken = record {
   bytes = bytes;
   consumed = consumed;
   few = omega arith;
-  stops = inl (subst (λ l. StopsAtLine start pen l stepped new) (sym (lines_run_within bytes few)) (stops_last start now stepped pen mid after new bytes (rest_of bytes) stands.shown stands.text stands.sound next told flushed broken));
+  stops = inr (inl (at_end, subst (λ l. StopsAtLine start pen l stepped new) (sym (lines_run_within bytes few)) (stops_last start now stepped pen mid after new bytes (rest_of bytes) stands.shown stands.text stands.sound next told flushed broken)));
 }
 
 -- the part of a read that stands within the limit
@@ -433,16 +420,11 @@ overflows_piece start now stepped pen mid new reader left after count n part buf
     let counted : length all ≡ count + n = omega (arith, length-append h.bytes (take n buf), length-take n buf, h.counted) in
     let same : part ≡ min n (SCRIPT_LIMIT - length h.bytes) = omega (arith, h.counted, least) in
     let size : length h.bytes ≤ SCRIPT_LIMIT = omega (arith, h.counted) in
-    let at_limit : StopsAtLine start pen (whole_lines (take SCRIPT_LIMIT all)) stepped new = subst (λ b. StopsAtLine start pen (whole_lines b) stepped new) (ap (λ k. h.bytes ++ take k buf) same ∙ sym (read_more n SCRIPT_LIMIT h.bytes buf size)) stops in
     record {
       bytes = all;
       consumed = Consumes-trans reader left after h.bytes (take n buf) h.consumed consumed;
       few = omega (arith, counted);
-      stops = inl (elim (cases_lt SCRIPT_LIMIT (length all)) [
-        | inl past ↦ subst (λ l. StopsAtLine start pen l stepped new) (sym (lines_run_past all past)) at_limit
-        | inr below ↦ subst (λ l. StopsAtLine start pen l stepped new) (ap (λ b. whole_lines b ++ last_line (rest_of all)) (take_all SCRIPT_LIMIT all below) ∙ sym (lines_run_within all below))
-            (stops_later start stepped pen new (whole_lines (take SCRIPT_LIMIT all)) (last_line (rest_of all)) at_limit)
-      ]);
+      stops = inl (subst (λ b. StopsAtLine start pen (whole_lines b) stepped new) (ap (λ k. h.bytes ++ take k buf) same ∙ sym (read_more n SCRIPT_LIMIT h.bytes buf size)) stops);
     }
 
 -- past the limit
@@ -473,7 +455,7 @@ overflows_past start now pen mid after new reader left count line h past told fl
       bytes = h.bytes;
       consumed = h.consumed;
       few = omega (arith, h.counted, h.few);
-      stops = inr (
+      stops = inr (inr (
         long,
         subst (λ l. StopsAtLimit start pen l now new) (sym (lines_run_past h.bytes long)) (record {
           shown = h.stands.shown;
@@ -481,7 +463,7 @@ overflows_past start now pen mid after new reader left count line h past told fl
           all_before = omega (arith, beyond.1, breaks.1);
           after_fault = breaks.2;
         }),
-      );
+      ));
     }
 
 -- a read of no bytes

@@ -47,7 +47,7 @@ use Rattle.browser_core.proofs.GoLemmas.{LeavesStores, follow_leaves, back_leave
 
 -- ---- bytes that are written
 
-element : (xs ys : List ℕ) (at width k d : ℕ) → length xs ≡ length ys → slice_range xs at (at + width) ≡ slice_range ys at (at + width) → k < length (slice_range xs at (at + width)) → get_or xs (at + k) d ≡ get_or ys (at + k) d
+pub element : (xs ys : List ℕ) (at width k d : ℕ) → length xs ≡ length ys → slice_range xs at (at + width) ≡ slice_range ys at (at + width) → k < length (slice_range xs at (at + width)) → get_or xs (at + k) d ≡ get_or ys (at + k) d
 element xs ys at width k d lengths e lt =
     let same = ap (λ (l : List ℕ). get_or l k d) e in
     grind (arith, places, same)
@@ -59,13 +59,13 @@ range_alike xs ys new offset at width lengths e =
     same_lists _ _ (grind (arith, places, lengths)) (λ k d h. let same = element xs ys at width k d lengths e (grind (arith, places)) in grind (arith, places, same, lengths))
 
 -- the bytes of a field in the store of its id, after a write to a store or to none
-abbrev range_of : Option (List ℕ) → ℕ → ℕ → Option (List ℕ)
+abbrev pub range_of : Option (List ℕ) → ℕ → ℕ → Option (List ℕ)
 range_of o at width = option_map (λ bytes. slice_range bytes at (at + width)) o
 
 abbrev written : Bool → Option (List ℕ) → ℕ → List ℕ → Option (List ℕ)
 written here o offset new = option_map (λ (bytes : List ℕ). cond here (overwritten bytes offset new) bytes) o
 
-abbrev length_of : Option (List ℕ) → Option ℕ
+abbrev pub length_of : Option (List ℕ) → Option ℕ
 length_of o = option_map (λ (bytes : List ℕ). length bytes) o
 
 written_alike : (here : Bool) (o p : Option (List ℕ)) (offset at width : ℕ) (new : List ℕ) → length_of o ≡ length_of p → range_of o at width ≡ range_of p at width
@@ -79,13 +79,16 @@ written_alike true (Some xs) (Some ys) offset at width new lengths e =
     ap (λ (l : List ℕ). Some l) (range_alike xs ys new offset at width same alike)
 written_alike false (Some xs) (Some ys) offset at width new lengths e = e
 
+-- stores of one shape have as many bytes under an id
+pub lengths_alike : (a b : StoreMap) (store : ℕ) → shape_of a ≡ shape_of b → length_of (bytes_of a store) ≡ length_of (bytes_of b store)
+lengths_alike a b store shapes = sym (sizes a store) ∙ ap (λ (shape : Shape). size_of shape store) shapes ∙ sizes b store
+
 -- where two maps of stores of one shape hold the same in a field, they do so after the same was written into both
 field_alike : (a b : StoreMap) (f g : Field) (new : List ℕ) → shape_of a ≡ shape_of b → field_bytes a (Some g) ≡ field_bytes b (Some g)
     → field_bytes (with_field a (Some f) new) (Some g) ≡ field_bytes (with_field b (Some f) new) (Some g)
 field_alike a b f g new shapes e =
-    let lengths : length_of (bytes_of a g.store) ≡ length_of (bytes_of b g.store) = sym (sizes a g.store) ∙ ap (λ (shape : Shape). size_of shape g.store) shapes ∙ sizes b g.store in
     ap (λ o. range_of o g.offset g.width) (bytes_after a f.store f.offset g.store new)
-    ∙ written_alike (g.store == f.store) (bytes_of a g.store) (bytes_of b g.store) f.offset g.offset g.width new lengths e
+    ∙ written_alike (g.store == f.store) (bytes_of a g.store) (bytes_of b g.store) f.offset g.offset g.width new (lengths_alike a b g.store shapes) e
     ∙ sym (ap (λ o. range_of o g.offset g.width) (bytes_after b f.store f.offset g.store new))
 
 one_alike : (a b : StoreMap) (o p : Option Field) (new : List ℕ) → shape_of a ≡ shape_of b → field_bytes a p ≡ field_bytes b p → field_bytes (with_field a o new) p ≡ field_bytes (with_field b o new) p
@@ -332,31 +335,37 @@ route_keeps : (s : State) (r : Result (Named × List Area) Cause) → Keeps s (r
 route_keeps s (Err cause) = keeps_all s
 route_keeps s (Ok (named, blocks)) = routed_keeps s blocks (store_named (nodes_of s.ifr) s.path named)
 
-submit_laid : (s : State) (o : Option Denial) → IsLaid s → IsLaid (submit_unless s o).state
-submit_laid s None laid = record { committed = laid.working; working = laid.working }
-submit_laid s (Some d) laid = laid
+submit_keeps : (s : State) (o : Option Denial) → shape_of s.committed ≡ shape_of s.working → Keeps s (submit_unless s o).state
+submit_keeps s None same = record { ifr = refl; committed = sym same; working = refl }
+submit_keeps s (Some d) same = keeps_all s
 
-kept_laid : (s t : State) → Keeps s t → IsLaid s → IsLaid t
-kept_laid s t keeps laid = record {
-  committed = keeps.committed ∙ laid.committed ∙ ap layout_in (sym keeps.ifr);
-  working = keeps.working ∙ laid.working ∙ ap layout_in (sym keeps.ifr);
-}
+-- a command leaves the package and the shape of the stores
+pub step_keeps : (s : State) (order : Order) → shape_of s.committed ≡ shape_of s.working → Keeps s (step s order).state
+step_keeps s (SetValue id value) same = set_keeps s (whole value) (question_with (nodes_of s.ifr) id)
+step_keeps s (OrderElements id numbers) same = set_keeps s (listed numbers) (question_with (nodes_of s.ifr) id)
+step_keeps s (SetText id text) same = set_keeps s (utf8 text) (question_with (nodes_of s.ifr) id)
+step_keeps s (AskWhy id) same = why_keeps s (question_denial s (question_with (nodes_of s.ifr) id))
+step_keeps s (FollowReference id) same = leaves_keep s _ (follow_leaves s (question_with (nodes_of s.ifr) id))
+step_keeps s GoBack same = leaves_keep s _ (back_leaves s (slice_get s.history (length s.history - 1)))
+step_keeps s (PressButton row) same = press_keeps s (row_of_form s row (form_of s))
+step_keeps s (TakeDefaults class) same = defaults_keep s class
+step_keeps s (ExtractConfiguration request) same = leaves_keep s _ (extract_leaves s (configuration_in Ask request))
+step_keeps s (RouteConfiguration response) same = route_keeps s (configuration_in Tell response)
+step_keeps s ShowPage same = keeps_all s
+step_keeps s (ChooseLanguage language) same = record { ifr = refl; committed = refl; working = refl }
+step_keeps s SubmitChanges same = submit_keeps s (unsubmitted (world_of s)) same
+step_keeps s DiscardChanges same = record { ifr = refl; committed = refl; working = same }
+
+laid_keeps : (s : State) (order : Order) → IsLaid s → Keeps s (step s order).state
+laid_keeps s order laid = step_keeps s order (laid.committed ∙ sym laid.working)
 
 step_laid : (s : State) (order : Order) → IsLaid s → IsLaid (step s order).state
-step_laid s (SetValue id value) laid = kept_laid s _ (set_keeps s (whole value) (question_with (nodes_of s.ifr) id)) laid
-step_laid s (OrderElements id numbers) laid = kept_laid s _ (set_keeps s (listed numbers) (question_with (nodes_of s.ifr) id)) laid
-step_laid s (SetText id text) laid = kept_laid s _ (set_keeps s (utf8 text) (question_with (nodes_of s.ifr) id)) laid
-step_laid s (AskWhy id) laid = kept_laid s _ (why_keeps s (question_denial s (question_with (nodes_of s.ifr) id))) laid
-step_laid s (FollowReference id) laid = kept_laid s _ (leaves_keep s _ (follow_leaves s (question_with (nodes_of s.ifr) id))) laid
-step_laid s GoBack laid = kept_laid s _ (leaves_keep s _ (back_leaves s (slice_get s.history (length s.history - 1)))) laid
-step_laid s (PressButton row) laid = kept_laid s _ (press_keeps s (row_of_form s row (form_of s))) laid
-step_laid s (TakeDefaults class) laid = kept_laid s _ (defaults_keep s class) laid
-step_laid s (ExtractConfiguration request) laid = kept_laid s _ (leaves_keep s _ (extract_leaves s (configuration_in Ask request))) laid
-step_laid s (RouteConfiguration response) laid = kept_laid s _ (route_keeps s (configuration_in Tell response)) laid
-step_laid s ShowPage laid = laid
-step_laid s (ChooseLanguage language) laid = record { committed = laid.committed; working = laid.working }
-step_laid s SubmitChanges laid = submit_laid s (unsubmitted (world_of s)) laid
-step_laid s DiscardChanges laid = record { committed = laid.committed; working = laid.committed }
+step_laid s order laid =
+    let keeps = laid_keeps s order laid in
+    record {
+      committed = keeps.committed ∙ laid.committed ∙ ap layout_in (sym keeps.ifr);
+      working = keeps.working ∙ laid.working ∙ ap layout_in (sym keeps.ifr);
+    }
 
 laid_after : (s : State) (orders : List Order) → IsLaid s → IsLaid (state_with s orders)
 laid_after s [] laid = laid
@@ -368,27 +377,10 @@ are_laid list n image language start orders opens =
 
 -- ---- some commands
 
--- a command on questions leaves the package
-on_keeps : (s : State) (ids : List ℕ) (order : Order) → IsOn ids order → (step s order).state.ifr ≡ s.ifr
-on_keeps s ids (SetValue id value) on = (set_keeps s (whole value) (question_with (nodes_of s.ifr) id)).ifr
-on_keeps s ids (OrderElements id numbers) on = (set_keeps s (listed numbers) (question_with (nodes_of s.ifr) id)).ifr
-on_keeps s ids (SetText id text) on = (set_keeps s (utf8 text) (question_with (nodes_of s.ifr) id)).ifr
-on_keeps s ids (AskWhy id) on = (why_keeps s (question_denial s (question_with (nodes_of s.ifr) id))).ifr
-on_keeps s ids DiscardChanges on = refl
-on_keeps s ids (ExtractConfiguration request) on = absurd on
-on_keeps s ids (RouteConfiguration response) on = absurd on
-on_keeps s ids (FollowReference id) on = absurd on
-on_keeps s ids GoBack on = absurd on
-on_keeps s ids (PressButton row) on = absurd on
-on_keeps s ids (TakeDefaults class) on = absurd on
-on_keeps s ids ShowPage on = refl
-on_keeps s ids (ChooseLanguage language) on = refl
-on_keeps s ids SubmitChanges on = absurd on
-
 pub sessions_alike : SealedQuestionsAnswerAlike
 sessions_alike s t ids [] laid also sealed alike on = (refl, alike)
 sessions_alike s t ids (order ∷ orders) laid also sealed alike on =
     let first = step_alike s t ids order laid also sealed alike on.0 in
-    let still = subst (λ (ifr : List ℕ). IsSealed (nodes_of ifr) ids) (sym (on_keeps s ids order on.0)) sealed in
+    let still = subst (λ (ifr : List ℕ). IsSealed (nodes_of ifr) ids) (sym (laid_keeps s order laid).ifr) sealed in
     let later = sessions_alike (step s order).state (step t order).state ids orders (step_laid s order laid) (step_laid t order also) still first.1 on.1 in
     (ap (λ (text : List ℕ). text ∷ answers_to (step s order).state orders) first.0 ∙ ap (λ (texts : List (List ℕ)). (step t order).text ∷ texts) later.0, later.1)

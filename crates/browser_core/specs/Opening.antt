@@ -6,9 +6,11 @@ use Rattle.hii_packages.specs.Packages.{Entry, SpellsPackages, pieces_of, nth_fo
 use Rattle.hii_packages.specs.Faults.{IsListFault, IsFormsFault}
 use Rattle.hii_languages.specs.Languages.{Spoken, string_packages, AreSpoken, IsStringsFault, chosen}
 use Rattle.ifr_opcodes.specs.Forest.{places}
+use Rattle.form_sets.specs.Packages.{IsGoodPackage}
 use Rattle.ifr_scopes.specs.Accepted.{IsAccepted, IsPackageFault}
 use Rattle.ifr_scopes.specs.Nodes.{nodes_of, is_form}
 use Rattle.hii_varstore.specs.Layout.{Shape}
+use Rattle.hii_varstore.specs.Stores.{StoreMap}
 use Rattle.hii_varstore.specs.StoreNodes.{layout_of, IsStoreFault}
 use Rattle.hii_varstore.specs.Image.{SpellsImage}
 use Rattle.hii_varstore.specs.Faults.{IsImageFault}
@@ -74,6 +76,17 @@ pub record IsBrowsable (ifr : List ℕ) : Type 0 where
   pub accepted : IsAccepted ifr
   pub stores : HasNone (IsStoreFault (nodes_of ifr))
   pub questions : HasNone (IsQuestionFault (nodes_of ifr))
+
+-- What the bytes are that open a session in any language: the list spells packages, among them a good forms package of the
+-- number, its string packages say texts, and the image spells the stores that the forms package declares.
+pub record AreGood (list : List ℕ) (n : ℕ) (image : List ℕ) : Type 0 where
+  pub source : Entry
+  pub found : HasSource list n source
+  pub spoken : List Spoken
+  pub texts : HasTexts list spoken
+  pub good : IsGoodPackage source.bytes
+  pub stores : StoreMap
+  pub image_is : SpellsImage (layout_in source.bytes) image stores
 
 -- The list spells packages, among them a forms package of the number, which can be browsed; its string packages say texts,
 -- of which those for the language are shown; the image spells its stores, with which a session begins, at the first form; the

@@ -1,5 +1,5 @@
 -- What a script leaves and writes (own rule).
-use Rattle.std.specs.Prelude.{◌≡◌, ℕ, ◌+◌, ◌<◌, ◌≤◌, ◌⊎◌, true, false, List, [], ◌∷◌, ◌++◌, length, if◌then◌else◌, Option, Result, Ok, Err}
+use Rattle.std.specs.Prelude.{◌≡◌, ℕ, ◌+◌, ◌<◌, ◌≤◌, ◌⊎◌, true, false, List, [], ◌∷◌, ◌++◌, length, take, if◌then◌else◌, Option, Result, Ok, Err}
 use Rattle.std.specs.Io.KnownBytes.{Appends, Consumes, IsAtEnd}
 use Rattle.hii_bytes.specs.Watching.{Pen, BreaksWithin}
 use Rattle.hii_bytes.specs.declared.cause.Cause.TheVariants.{ScriptTooLong}
@@ -85,14 +85,16 @@ pub record BreaksOff (start : Shown) (pen : Pen) (reader : Option (List ℕ)) (n
   pub text : Appends pen.known new.known (text_of start (whole_lines bytes))
   pub sound : new.broken ≡ false
 
--- The writer failed after these bytes were read, at one of the lines that stand in them, or at the answer that they are too many.
+-- The writer failed after these bytes were read: at a line whose LF stands among them, within the limit; or, where the script ended
+-- there, at one of its lines, of which the last needs no LF; or at the answer that they are too many.
 pub record Overflows (start : Shown) (pen : Pen) (reader : Option (List ℕ)) (now : Shown)
     (new : Pen) (left : Option (List ℕ)) : Type 0 where
   pub bytes : List ℕ
   pub consumed : Consumes reader left bytes
   pub few : length bytes ≤ SCRIPT_LIMIT + 1
-  pub stops : StopsAtLine start pen (lines_run bytes) now new
-      ⊎ ((SCRIPT_LIMIT < length bytes) × StopsAtLimit start pen (lines_run bytes) now new)
+  pub stops : StopsAtLine start pen (whole_lines (take SCRIPT_LIMIT bytes)) now new
+      ⊎ ((IsAtEnd left × StopsAtLine start pen (lines_run bytes) now new)
+      ⊎ ((SCRIPT_LIMIT < length bytes) × StopsAtLimit start pen (lines_run bytes) now new))
 
 abbrev pub Runs : Shown → Pen → Option (List ℕ) → Result End RunFault → Shown → Pen
     → Option (List ℕ) → Type 0

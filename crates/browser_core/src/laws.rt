@@ -1,17 +1,52 @@
 //! Laws of the definitions that the contracts cite.
 
-ghost use Rattle.std.specs.Prelude.{ℕ, List};
+ghost use Rattle.std.specs.Prelude.{◌≡◌, ◌≢◌, ℕ, List};
 ghost use Rattle.hii_bytes.specs.Faults.{HasNone};
-ghost use Rattle.browser_core.specs.laws.Bytes.{KeepsOtherBytes};
-ghost use Rattle.browser_core.specs.Opening.{Opens, IsOpenFault};
+ghost use Rattle.hii_commands.specs.Orders.{Order};
+ghost use Rattle.browser_core.specs.laws.Bytes.{ChangesNamedBytesAlone, KeepsOtherBytes};
+ghost use Rattle.browser_core.specs.Opening.{AreGood, Opens, IsOpenFault};
 ghost use Rattle.browser_core.specs.laws.Sealed.{DecidingHasAll, DecidingHasNoOthers, SealedQuestionsAnswerAlike, SessionsAreLaid};
+ghost use Rattle.browser_core.specs.Renewed.{opened};
+ghost use Rattle.browser_core.specs.Run.{outcome_of};
 ghost use Rattle.browser_core.specs.State.{State};
+ghost use Rattle.browser_core.specs.Step.{step, step_line};
 
+use crate::reply::Reply;
 use hii_languages::laws::packages_without_fault_speak;
 use hii_packages::PackageList;
 use hii_packages::laws::spelled_bytes_have_no_fault;
 use hii_varstore::laws::images_without_fault_are_spelled;
 use ifr_scopes::laws::bytes_without_framing_fault_are_spelled;
+
+/// Good bytes have no fault.
+pub fn good_bytes_have_no_fault()
+    ensures { (list : List ℕ) (n : ℕ) (image : List ℕ) → AreGood list n image
+        → HasNone (IsOpenFault list n image) }
+{}
+
+/// Bytes without a fault are good: the list spells packages, the string packages say texts, the forms package of the number is
+/// there, spells a well-formed form set and has good ids, stores and questions, and the image spells its stores.
+pub fn bytes_without_fault_are_good(list: &[u8], forms: usize, image: &[u8])
+    ensures { HasNone (IsOpenFault list.now forms image.now) → AreGood list.now forms image.now }
+{
+    let Ok(packages) = PackageList::read(list) else {
+        return;
+    };
+    let Ok(source) = packages.forms(forms) else {
+        return;
+    };
+    packages_without_fault_speak(&packages);
+    bytes_without_framing_fault_are_spelled(source.bytes);
+    images_without_fault_are_spelled();
+}
+
+/// Good bytes open a session in any language, and what opens one are good bytes.
+pub fn good_bytes_open()
+    ensures opens { (list : List ℕ) (n : ℕ) (image language : List ℕ) → AreGood list n image →
+        (start : State) × Opens list n image language start }
+    ensures good { (list : List ℕ) (n : ℕ) (image language : List ℕ) (start : State)
+        → Opens list n image language start → AreGood list n image }
+{}
 
 /// Bytes that open a session have no fault.
 pub fn bytes_that_open_have_no_fault()
@@ -24,16 +59,32 @@ pub fn bytes_without_fault_open(list: &[u8], forms: usize, image: &[u8], languag
     ensures { HasNone (IsOpenFault list.now forms image.now) → (start : State)
         × Opens list.now forms image.now language.now start }
 {
-    let Ok(packages) = PackageList::read(list) else {
-        return;
-    };
-    let Ok(source) = packages.forms(forms) else {
-        return;
-    };
-    packages_without_fault_speak(&packages);
-    bytes_without_framing_fault_are_spelled(source.bytes);
-    images_without_fault_are_spelled();
+    bytes_without_fault_are_good(list, forms, image);
+    good_bytes_open();
 }
+
+/// Bytes open one state at most, so a script has one outcome over them.
+pub fn bytes_open_one_state()
+    ensures state { (list : List ℕ) (n : ℕ) (image language : List ℕ) (a b : State)
+        → Opens list n image language a → Opens list n image language b → a ≡ b }
+    ensures outcome { (list : List ℕ) (n : ℕ) (image language script : List ℕ) (a b : State)
+        → Opens list n image language a → Opens list n image language b
+        → outcome_of (opened a) script ≡ outcome_of (opened b) script }
+{}
+
+/// A command or a line that is not carried out changes nothing.
+pub fn refused_commands_change_nothing()
+    ensures commands { (s : State) (order : Order) → (step s order).reply ≢ Reply.Accepted
+        → (step s order).state ≡ s }
+    ensures lines { (s : State) (line : List ℕ) → (step_line s line).reply ≢ Reply.Accepted
+        → (step_line s line).state ≡ s }
+{}
+
+/// A command changes no byte of the stores but in the fields that it names, wherever a session stands whose stores were
+/// submitted as they stood at first.
+pub fn commands_change_named_bytes_alone()
+    ensures { ChangesNamedBytesAlone }
+{}
 
 /// What commands change are bytes in fields of questions that they set: any other byte stays as it was submitted.
 pub fn commands_keep_other_bytes()

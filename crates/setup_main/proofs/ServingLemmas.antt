@@ -1,10 +1,12 @@
 -- What a run leaves, by how it ended.
-use Rattle.std.proofs.Common.{◌≡◌, ◌≢◌, ◌⊎◌, ℕ, List, Option, None, Some, IfSome, refl, sym, ap, subst, inl, inr}
+use Rattle.std.proofs.Common.{◌≡◌, ◌≢◌, ◌⊎◌, ℕ, false, List, Option, None, Some, IfSome, refl, ap, subst, inl, inr}
 use Rattle.std.proofs.lemmas.Option.{IfSome_then}
 use Rattle.hii_bytes.specs.declared.cause.Cause.TheVariants.{OutOfMemory}
 use Rattle.hii_bytes.specs.declared.cause.Fault.{Fault}
 use Rattle.hii_bytes.specs.Faults.{Refuses}
-use Rattle.hii_bytes.specs.Watching.{Pen}
+use Rattle.hii_bytes.specs.Watching.{Pen, inner_of, has_failed, pen_of}
+use Rattle.hii_bytes.specs.code.Writing.{taken_of}
+use Rattle.hii_bytes.specs.declared.watched.Watched.{Watched}
 use Rattle.browser_core.specs.Opening.{IsOpenFault}
 use Rattle.hii_varstore.specs.Image.{image_of}
 use Rattle.browser_core.specs.Renewed.{Shown}
@@ -15,8 +17,8 @@ use Rattle.browser_core.proofs.RunLemmas.{finishes_known}
 use Rattle.setup_main.specs.declared.serve.Given.{Given}
 use Rattle.setup_main.specs.declared.serve.Ended.{Ended}
 use Rattle.setup_main.specs.declared.serve.Ended.TheVariants.{Done, Refused, ReadScript, WriteAnswers, WriteOut, NoMemory}
-use Rattle.setup_main.specs.Serving.{Starts, IsRefusedBy, IsWritten, RunsAll, IsRefused, ServesAll, Ends, Finished, Serves}
-use Rattle.setup_main.specs.code.Endings.{StartsAndEnds, EndsAs, IsTold}
+use Rattle.setup_main.specs.Serving.{Starts, IsRefusedBy, IsWritten, RunsAll, IsRefused, ServesAll, Ends, Finished, Serves, fresh, Gives, GivesAll}
+use Rattle.setup_main.specs.code.Endings.{IsTold}
 
 -- ---- a refused opening
 
@@ -88,22 +90,18 @@ serves_known given before after WriteAnswers h = always before.script _ (λ scri
 serves_known given before after WriteOut h = always before.script _ (λ script. tt)
 serves_known given before after NoMemory h = always before.script _ (λ script. h)
 
--- ---- how a run ends
+-- ---- a reader and writers that are given back
 
-starts_and_ends : (given : Given) (before after : Ends) (ended : End) → Finished given before ended after → StartsAndEnds given before.script ended
-starts_and_ends given before after ended run = (
-  run.start,
-  run.starts,
-  IfSome_then before.script (finishes_known run.start run.now before.answers after.answers ended before.script after.script run.finishes) (λ script known. sym known.0),
-)
+pub new_pen : {T : Type 0} (contents : T → Option (List ℕ)) (w : Watched T) (inner : T) → inner_of w ≡ inner → has_failed w ≡ false → taken_of w ≡ 0 → pen_of contents w ≡ fresh (contents inner)
+new_pen contents w inner is sound none = rw (is, sound, none) refl
 
-pub ends_as : (given : Given) (before after : Ends) (ended : Ended) → Serves given before ended after → EndsAs given before.script ended
-ends_as given before after Done h = starts_and_ends given before after end.Done h.0
-ends_as given before after Refused h = elim h.1 [
-  | inl refused ↦ inl (refused.fault, refused.least)
-  | inr run ↦ inr (starts_and_ends given before after end.TooLong run)
-]
-ends_as given before after ReadScript h = (h.1, h.3)
-ends_as given before after WriteAnswers h = tt
-ends_as given before after WriteOut h = starts_and_ends given before after end.Done h.0
-ends_as given before after NoMemory h = tt
+pub gives : (given : Given) (ended : Ended) (before after : Ends) (script answers out left answered written : Option (List ℕ)) → before.script ≡ script → before.answers ≡ fresh answers → before.out ≡ fresh out
+    → after.script ≡ left → after.answers.known ≡ answered → after.out.known ≡ written → Serves given before ended after → Gives given script answers out ended left answered written
+gives given ended before after script answers out left answered written s a o l b w serves =
+    record { after = after; left_is = l; answered_is = b; written_is = w; serves = rw (s, a, o) at serves }
+
+pub gives_all : (given : Given) (ended : Ended) (script answers out left answered written : Option (List ℕ)) → Gives given script answers out ended left answered written
+    → IfSome script (λ bytes. GivesAll given bytes answers out ended answered written)
+gives_all given ended script answers out left answered written g =
+    IfSome_then script (serves_known given (record { script = script; answers = fresh answers; out = fresh out }) g.after ended g.serves)
+    (λ bytes serves. record { answers_left = g.after.answers; out_left = g.after.out; answered_is = g.answered_is; written_is = g.written_is; serves = serves })

@@ -103,3 +103,28 @@ Serves given before WriteOut after =
     × StopsWithin before.out after.out fault (image_of run.now.state.committed)
 Serves given before NoMemory after =
     (after.out ≡ before.out) × IsWritten before.answers after.answers (refused_text OutOfMemory)
+
+-- ---- a reader and writers that are given back
+
+-- what a writer that has not failed holds, where that is known
+abbrev pub fresh : Option (List ℕ) → Pen
+fresh known = record { known = known; broken = false; count = 0 }
+
+-- A run over writers that had not failed ended so, and this is what the writers hold that were given back.
+pub record GivesAll (given : Given) (script : List ℕ) (answers out : Option (List ℕ)) (ended : Ended)
+    (answered written : Option (List ℕ)) : Type 0 where
+  pub answers_left : Pen
+  pub out_left : Pen
+  pub answered_is : answers_left.known ≡ answered
+  pub written_is : out_left.known ≡ written
+  pub serves : ServesAll given script (fresh answers) (fresh out) ended answers_left out_left
+
+-- So it is with any reader and writers.
+pub record Gives (given : Given) (script answers out : Option (List ℕ)) (ended : Ended)
+    (left answered written : Option (List ℕ)) : Type 0 where
+  pub after : Ends
+  pub left_is : after.script ≡ left
+  pub answered_is : after.answers.known ≡ answered
+  pub written_is : after.out.known ≡ written
+  pub serves : Serves given
+      record { script = script; answers = fresh answers; out = fresh out } ended after

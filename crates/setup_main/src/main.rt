@@ -12,7 +12,7 @@ use clap::error::ErrorKind;
 use command_line::{Options, read_words};
 use hii_bytes::{Cause, Watched};
 use read_whole::ReadError;
-use serve::{Ended, Given, serve_watched};
+use serve::{Ended, Given, serve};
 use std::fmt::Display;
 use std::io::{BufWriter, Read, Write};
 use std::process::ExitCode;
@@ -125,23 +125,16 @@ fn run_given<R: Files + Input + Print + AllocGlobal>(
     given: Given<'_>,
     path: &str,
 ) -> Option<Ended> {
-    let buffer = BufWriter::new(rt.alloc(), io::writer(rt)).ok()?;
-    let mut answers = Watched::new(buffer);
+    let answers = BufWriter::new(rt.alloc(), io::writer(rt)).ok()?;
     let out = OutFile {
         rt,
         path,
         file: None,
     };
-    let ended = serve_watched(
-        rt.alloc(),
-        given,
-        &mut Watched::new(rt.reader()),
-        &mut answers,
-        &mut Watched::new(out),
-    );
+    let served = serve(rt.alloc(), given, rt.reader(), answers, out);
     // What a writer that failed did not take is given up.
-    let _ = answers.into_inner().into_parts();
-    Some(ended)
+    let _ = served.answers.into_parts();
+    Some(served.ended)
 }
 
 /// A file that is made when its first bytes are written.

@@ -26,7 +26,7 @@ const LIMIT: usize = FILE_LIMIT as usize;
 // The most bytes of one read.
 const PIECE: usize = 4096;
 
-/// All bytes that the reader has, at most 16,777,216. More are refused by `TooLong`; a fault of the reader and an allocation
+/// All bytes that the reader has, at most 16,777,216, where no read failed. More are refused by `TooLong`; a fault and an allocation
 /// that fails are told apart by whether the reader has failed.
 pub fn read_whole<R: Read>(alloc: Global, reader: &mut Watched<R>) -> Result<Vec<u8>, ReadError>
     ensures whole { IfSome (R.remaining (inner_of reader.old)) (λ all. MatchResult result
@@ -35,6 +35,7 @@ pub fn read_whole<R: Read>(alloc: Global, reader: &mut Watched<R>) -> Result<Vec
     ensures limit { IfOk result (λ bytes. length bytes.items ≤ FILE_LIMIT) }
     ensures fault { result ≡ Err ReadError.Fault → has_failed reader.new ≡ true }
     ensures memory { result ≡ Err ReadError.NoMemory → has_failed reader.new ≡ false }
+    ensures sound { IfOk result (λ bytes. has_failed reader.new ≡ false) }
 {
     let mut bytes = Vec::new(alloc);
     let mut piece = [0u8; PIECE];

@@ -2,8 +2,8 @@
 
 ghost use Rattle.std.specs.Prelude.{◌≡◌, IfSome, true, false};
 ghost use Rattle.hii_bytes.specs.Watching.{pen_of, inner_of, has_failed};
-ghost use Rattle.setup_main.specs.Serving.{Starts, Serves, ServesAll};
-ghost use Rattle.setup_main.specs.code.Endings.{EndsAs, IsTold};
+ghost use Rattle.setup_main.specs.Serving.{Starts, Serves, ServesAll, Gives, GivesAll};
+ghost use Rattle.setup_main.specs.code.Endings.{IsTold};
 ghost use Rattle.setup_main.specs.declared.serve.Given.{Given};
 
 use browser_core::{End, RunFault, Session, put_refusal, put_refusal_at};
@@ -41,27 +41,51 @@ pub enum Ended {
     NoMemory,
 }
 
-/// Opens the session, runs the script, and writes the image that it leaves. What refuses the bytes is told as an answer.
+/// How a run ended, and the reader and writers that it was given.
+#[derive(Drop)]
+pub struct Served<R, A, O> {
+    /// How it ended.
+    pub ended: Ended,
+    /// What is left of the script.
+    pub script: R,
+    /// The writer of the answers.
+    pub answers: A,
+    /// The writer of the image.
+    pub out: O,
+}
+
+/// Opens the session, runs the script, and writes the image that it leaves, over a reader and writers of which none has failed,
+/// and gives them back. What refuses the bytes is told as an answer.
 pub fn serve<R: Read, A: Write, O: Write>(
     alloc: Global,
     given: Given<'_>,
-    script: &mut R,
-    answers: &mut A,
-    out: &mut O,
-) -> Ended
-    ensures { EndsAs given.entry (R.remaining script.old) result }
+    script: R,
+    answers: A,
+    out: O,
+) -> Served<R, A, O>
+    // Where the script's bytes are known.
+    ensures whole { IfSome (R.remaining script) (λ bytes. GivesAll given.entry bytes
+        (A.contents answers) (O.contents out) result.ended
+        (A.contents result.answers) (O.contents result.out)) }
+    // At any reader and writers, and at their faults.
+    ensures serves { Gives given.entry (R.remaining script) (A.contents answers)
+        (O.contents out) result.ended (R.remaining result.script)
+        (A.contents result.answers) (O.contents result.out) }
 {
-    serve_watched(
-        alloc,
-        given,
-        &mut Watched::new(script),
-        &mut Watched::new(answers),
-        &mut Watched::new(out),
-    )
+    let mut script = Watched::new(script);
+    let mut answers = Watched::new(answers);
+    let mut out = Watched::new(out);
+    let ended = serve_watched(alloc, given, &mut script, &mut answers, &mut out);
+    Served {
+        ended,
+        script: script.into_inner(),
+        answers: answers.into_inner(),
+        out: out.into_inner(),
+    }
 }
 
-/// Opens the session, runs the script, and writes the image that it leaves, over readers and writers that are watched. The
-/// answers are flushed before each read of the script and at the end.
+/// Opens the session, runs the script, and writes the image that it leaves, over readers and writers that are watched. What
+/// refuses the bytes is told as an answer. The answers are flushed before each read of the script and at the end.
 pub fn serve_watched<R: Read, A: Write, O: Write>(
     alloc: Global,
     given: Given<'_>,

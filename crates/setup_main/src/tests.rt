@@ -107,7 +107,7 @@ fn leaves<R: Abort + AllocGlobal>(
 ) -> Result<(), Fail> {
     let mut answers = BufWriter::new(rt.alloc(), Vec::new(rt.alloc()))?;
     let mut out = Vec::new(rt.alloc());
-    assert!(rt; serve(rt.alloc(), given, script, &mut answers, &mut out) == ended);
+    assert!(rt; serve(rt.alloc(), given, script, &mut answers, &mut out).ended == ended);
     assert!(rt; answers.get_ref().as_slice() == answered);
     assert!(rt; answers.buffer().is_empty());
     assert!(rt; out.as_slice() == written);
@@ -191,7 +191,8 @@ fn answers_stop_at<R: Abort + AllocGlobal>(rt: &R, room: usize) -> Result<(), Fa
         &mut reader,
         &mut taken.as_mut_slice(),
         &mut out,
-    );
+    )
+    .ended;
     assert!(rt; ended == Ended::WriteAnswers);
     assert!(rt;
         Some(taken.as_slice()) == answers().get(..room),
@@ -219,7 +220,7 @@ fn flush_fails_after<R: Abort + AllocGlobal>(
     let mut answers = BufWriter::new(rt.alloc(), counter_of(rt, flushes_left))?;
     let mut out = Vec::new(rt.alloc());
     let mut reader = script();
-    let ended = serve(rt.alloc(), given, &mut reader, &mut answers, &mut out);
+    let ended = serve(rt.alloc(), given, &mut reader, &mut answers, &mut out).ended;
     assert!(rt; ended == Ended::WriteAnswers);
     assert!(rt; answers.get_ref().bytes.as_slice() == answered);
     assert!(rt; out.is_empty());
@@ -263,7 +264,7 @@ fn a_page_makes_few_writes(rt: HostRuntime) -> Result<(), Fail> {
     let mut answers = BufWriter::new(rt.alloc(), counter_of(&rt, 9))?;
     let mut out = Vec::new(rt.alloc());
     let mut reader = script();
-    assert!(rt; serve(rt.alloc(), long, &mut reader, &mut answers, &mut out) == Ended::Done);
+    assert!(rt; serve(rt.alloc(), long, &mut reader, &mut answers, &mut out).ended == Ended::Done);
     let rows = answers
         .get_ref()
         .bytes
@@ -287,7 +288,8 @@ fn image_stops_at<R: Abort + AllocGlobal>(rt: &R, room: usize) -> Result<(), Fai
         &mut reader,
         &mut answered,
         &mut taken.as_mut_slice(),
-    );
+    )
+    .ended;
     assert!(rt; ended == Ended::WriteOut);
     assert!(rt; answered.as_slice() == answers());
     assert!(rt; Some(taken.as_slice()) == image().get(..room), "at {room}");

@@ -1,9 +1,4 @@
-use Rattle.std.proofs.Common.{arith}
-use Rattle.hii_packages.specs.code.Package.{entry_of}
-use Rattle.browser_core.proofs.WithoutFaultLemmas.{opens_without_fault}
 use Rattle.browser_core.proofs.laws.bytes_without_fault_open.Goals as goal
 
 pub returns : goal.returns
-returns c =
-    opens_without_fault c.args.list.now c.args.forms c.args.image.now c.args.language.now c.in-Ok.packages (entry_of c.in-Ok-forms.source) c.in-Ok.ensures.spelled c.in-Ok-forms.ensures.found
-    c.in-Ok-forms.source.header (omega (arith, c.in-Ok-forms.source.small)) c.packages_without_fault_speak.ensures c.bytes_without_framing_fault_are_spelled.ensures c.images_without_fault_are_spelled.ensures
+returns c = λ none. c.good_bytes_open.ensures.opens c.args.list.now c.args.forms c.args.image.now c.args.language.now (c.bytes_without_fault_are_good.ensures none)

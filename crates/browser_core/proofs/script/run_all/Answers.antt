@@ -35,7 +35,9 @@ returns-else-passes_on-clause-run g c =
     let within : c.loop-count.count ≤ SCRIPT_LIMIT = omega (arith, c.loop-count-test.true) in
     let stands = reads_within _ _ _ _ _ _ _ _ so_far within in
     let consumed = consumes_none _ _ _ so_far.bytes c.read.new.buf c.in-Ok.n so_far.consumed c.in-Ok.ensures.bytes.0 c.if-n-eq0.true in
-    overflows_last _ _ _ _ _ _ _ _ _ so_far.bytes _ consumed (omega (arith, so_far.counted, within)) stands (c.run_line.ensures.shown _ stands.line_is) (c.run_line.ensures.text _ stands.line_is)
+    let long : length c.read.new.buf ≡ c.min-room.result = search rules in
+    let some : 0 < length c.read.new.buf = omega (arith, long, c.min-room.ensures, within) in
+    overflows_last _ _ _ _ _ _ _ _ _ so_far.bytes _ consumed (omega (arith, so_far.counted, within)) (c.in-Ok.ensures.bytes.1 c.if-n-eq0.true some) stands (c.run_line.ensures.shown _ stands.line_is) (c.run_line.ensures.text _ stands.line_is)
     c.passes_on-then-n-eq0.ensures.flushes (c.passes_on-then-n-eq0.ensures.fault ∙ ap not c.if-passes_on.false)
 
 pub returns-then-passes_on-clause-run : goal.returns-then-passes_on-clause-run
