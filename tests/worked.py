@@ -30,6 +30,17 @@ def plain_row(number, mark, prompt, value):
     return "%3d %s     - %-24s [%s]\n" % (number, mark, "#%d" % prompt, value)
 
 
+def prompts(*ids):
+    """Checkboxes whose prompts are these ids and two, all over the first byte of the store."""
+    return base() + b"".join(checkbox(number, 0) for number in ids) + END + END
+
+
+def shown_row(number, question, prompt, columns=None):
+    """The row of an unset checkbox whose prompt takes so many columns, one for each character where none are given."""
+    columns = len(prompt) if columns is None else columns
+    return "%3d * %5d %s%s [ ]\n" % (number, question, prompt, " " * (24 - columns))
+
+
 def held(*bytes_of_store):
     return image([(1, bytes(bytes_of_store))])
 

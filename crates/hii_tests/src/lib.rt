@@ -1,4 +1,4 @@
-//! Worked cases over numbers, packages, strings, languages and commands, by public calls alone.
+//! Worked cases over numbers, streams, packages, strings, languages and commands, by public calls alone.
 #![tactic(auto)]
 
 #[cfg(test)]
@@ -11,5 +11,7 @@ mod lists;
 mod numbers;
 #[cfg(test)]
 mod packages;
+#[cfg(test)]
+mod streams;
 #[cfg(test)]
 mod strings;

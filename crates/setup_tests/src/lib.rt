@@ -4,6 +4,8 @@
 #[cfg(test)]
 mod configurations;
 #[cfg(test)]
+mod pieces;
+#[cfg(test)]
 mod renewals;
 #[cfg(test)]
 mod sessions;

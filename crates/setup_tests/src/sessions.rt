@@ -104,8 +104,8 @@ fn writer_of(rt: &impl AllocGlobal, room: usize, takes_none: bool) -> Watched<Na
 
 /// How a script ends, and the bytes of the store after it: those that commands change, and those that were last submitted.
 #[derive(Drop)]
-struct Ran {
-    end: Result<End, RunFault>,
+pub(crate) struct Ran {
+    pub(crate) end: Result<End, RunFault>,
     working: [u8; 2],
     committed: [u8; 2],
 }
@@ -122,7 +122,7 @@ pub(crate) fn pair(bytes: Option<&[u8]>) -> [u8; 2] {
 }
 
 // What a session does that is opened for this script alone. It has no clause, so that no test carries those of `run_script`.
-fn after(
+pub(crate) fn after(
     rt: &impl AllocGlobal,
     script: &mut Watched<impl Read>,
     out: &mut Watched<impl Write>,

@@ -1,0 +1,130 @@
+//! A script is read in pieces, and each complete line of a piece is answered before the next read.
+
+use crate::sessions::after;
+use browser_core::End;
+use hii_bytes::Watched;
+use std::alloc::Global;
+use std::cell::RefCell;
+use std::io;
+use std::io::{BufWriter, ErrorKind, Read, Write};
+use std::process::Abort;
+use std::test::Fail;
+
+// A line, its answer, and how often it stands in a script. The most bytes of a piece are no number of lines.
+const LINE: &[u8] = b"why 1\n";
+
+const ANSWER: &[u8] = b"OK\n";
+
+const LINES: usize = 300;
+
+const PIECE: usize = 512;
+
+fn repeated(alloc: Global, bytes: &[u8]) -> Result<Vec<u8>, Fail> {
+    let mut all = Vec::new(alloc);
+    for _ in 0..LINES {
+        all.extend_from_slice(bytes)?;
+    }
+    Ok(all)
+}
+
+/// Writes where others can look.
+#[derive(Drop)]
+struct Shown<'a> {
+    written: &'a RefCell<Vec<u8>>,
+}
+
+impl Write for Shown<'_> {
+    fn write(&mut self, buf: &[u8]) -> io::Result<usize> {
+        match self.written.try_borrow_mut() {
+            Ok(mut written) => {
+                written.extend_from_slice(buf)?;
+                Ok(buf.len())
+            }
+            Err(_) => Err(io::Error::from(ErrorKind::Other)),
+        }
+    }
+
+    fn flush(&mut self) -> io::Result<()> {
+        Ok(())
+    }
+}
+
+/// What is so at a read.
+#[derive(Clone, Copy)]
+struct Seen {
+    /// How many bytes it asks for.
+    room: usize,
+    /// How many bytes of the script are left.
+    left: usize,
+    /// How many bytes are written, where these are a front of the answers.
+    answered: Option<usize>,
+}
+
+/// Gives at most `step` bytes of a script in a read, and looks at what is written before.
+#[derive(Drop)]
+struct Looking<'a> {
+    script: &'a [u8],
+    step: usize,
+    answers: &'a [u8],
+    written: &'a RefCell<Vec<u8>>,
+    reads: Vec<Seen>,
+}
+
+impl Looking<'_> {
+    fn answered(&self) -> Option<usize> {
+        let written = self.written.try_borrow().ok()?;
+        self.answers
+            .starts_with(written.as_slice())
+            .then_some(written.len())
+    }
+}
+
+impl Read for Looking<'_> {
+    fn read(&mut self, buf: &mut [u8]) -> io::Result<usize> {
+        let seen = Seen {
+            room: buf.len(),
+            left: self.script.len(),
+            answered: self.answered(),
+        };
+        self.reads.push(seen)?;
+        let most = buf.len().min(self.step);
+        self.script.read(&mut buf[..most])
+    }
+}
+
+// At each read of a script that comes in such steps all lines are answered that were read before, behind a buffer, too.
+fn are_answered<R: Abort + AllocGlobal>(rt: &R, step: usize) -> Result<(), Fail> {
+    let (lines, answers) = (repeated(rt.alloc(), LINE)?, repeated(rt.alloc(), ANSWER)?);
+    let written = RefCell::new(Vec::new(rt.alloc()));
+    let mut script = Watched::new(Looking {
+        script: lines.as_slice(),
+        step,
+        answers: answers.as_slice(),
+        written: &written,
+        reads: Vec::new(rt.alloc()),
+    });
+    let shown = Shown { written: &written };
+    let mut out = Watched::new(BufWriter::new(rt.alloc(), shown)?);
+    let ran = after(rt, &mut script, &mut out)?;
+    assert!(rt; ran.end == Ok(End::Done));
+    let looked = script.into_inner();
+    assert!(rt; looked.answered() == Some(answers.len()));
+    for seen in looked.reads.iter() {
+        let room = seen.room;
+        assert!(rt; room > 0 && room <= PIECE, "{room} bytes are asked for");
+        let complete = lines.len().saturating_sub(seen.left) / LINE.len();
+        assert!(rt;
+            seen.answered == Some(complete * ANSWER.len()),
+            "{complete} lines were read, in steps of {step}"
+        );
+    }
+    Ok(())
+}
+
+#[test]
+fn lines_are_answered_before_the_next_read(rt: HostRuntime) -> Result<(), Fail> {
+    for step in [1, 7, 511, PIECE, 10_000] {
+        are_answered(&rt, step)?;
+    }
+    Ok(())
+}
