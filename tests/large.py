@@ -53,7 +53,7 @@ def languages():
 
 
 def forms_packages():
-    """A forms package that fills a list, with checkboxes of id 0 and with the shortest opcodes. A checkbox stands behind them."""
+    """Forms packages that fill a list: one with checkboxes of id 0, one with the shortest opcodes. A checkbox stands behind them."""
     room = FILE_LIMIT - len(of_form(checkbox(1, 1)))
     for name, filler in (("questions_without_an_id", checkbox(0, 0)), ("opcodes", opcode(0x5F))):
         count, rest = divmod(room, len(filler))
@@ -86,7 +86,8 @@ def questions():
 
 
 def conditions():
-    """Each question has conditions and a guard, most of which hold while it is set. Those of the DISABLE_IFs hold for each other one."""
+    """Each question has a guard, a NO_SUBMIT_IF and a WARNING_IF that hold while it is set, and an INCONSISTENT_IF that never does. Every
+    other DISABLE_IF holds at opening."""
     def guarded(number):
         is_set = eq_id_val(number, 1)
         box = scoped(checkbox(number, number + 1), inconsistent_if(7, eq_id_val(number, 2)), no_submit_if(8, is_set), warning_if(9, is_set))
@@ -117,7 +118,7 @@ def conditions():
 
 
 def choices():
-    """More options than two bytes count."""
+    """More options than two bytes can count."""
     options = [option(5, value, NUMBER_4) for value in range(70000)]
     talk("large_number_of_options", of_form(scoped(one_of(1, 0, 4), *options, option(6, 70000, NUMBER_4, 0x10)), size=4), bytes(4), [
         page(1, row(1, 1, "*", "<#5>")), ("set 1 70000", OK), page(1, row(1, 1, "*", "<#6>")), ("set 1 70001", denied("nooption")),
