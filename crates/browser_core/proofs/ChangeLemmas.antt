@@ -22,7 +22,8 @@ use Rattle.hii_questions.specs.Faults.{IsQuestionFault}
 use Rattle.hii_questions.specs.code.LyingIn.{LiesIn, LieIn}
 use Rattle.hii_questions.proofs.LawLemmas.{holds_fields}
 use Rattle.browser_core.specs.State.{State}
-use Rattle.browser_core.specs.Opening.{IsBrowsable, layout_in}
+use Rattle.browser_core.specs.Opening.{layout_in}
+use Rattle.browser_core.specs.code.Browsable.{IsBrowsable}
 use Rattle.browser_core.specs.Step.{is_other, is_changed, changed, commit}
 use Rattle.browser_core.specs.Texts.{count_text, changed_text}
 

@@ -24,7 +24,7 @@ use Rattle.config_text.specs.declared.kind.TextKind.TheVariants.{Ask, Tell}
 use Rattle.hii_bytes.specs.declared.cause.Cause.{Cause}
 use Rattle.hii_questions.specs.Changes.{field_bytes}
 use Rattle.hii_questions.specs.Fields.{Field, Asked, asked, questions, has_field, field_of, question_with, is_password}
-use Rattle.hii_questions.specs.Fits.{fits}
+use Rattle.hii_questions.specs.Fits.{fits, values_offered}
 use Rattle.hii_questions.specs.Inputs as inputs
 use Rattle.hii_questions.specs.Inputs.{Offer, whole, listed, utf8}
 use Rattle.hii_questions.proofs.FieldLemmas.{passing, have_the_field}
@@ -72,12 +72,12 @@ forbidden_keeps s new n store at (Some denial) keep = refl
 forbidden_keeps s new n store at None keep = keep refl
 
 fitting_keeps : (s : State) (n : Placed) (offer : Offer) (store at : ℕ) (r : Result (List ℕ) DenialKind) → fits (nodes_of s.ifr) n offer ≡ r
-    → ((field : Field) → field_of (nodes_of s.ifr) n ≡ Some field → store ≡ field.store → field.offset ≤ at → at < field.offset + field.width → (set_fitting s n r).reply ≡ Accepted → ⊥)
-    → byte_of (set_fitting s n r).state.working store at ≡ byte_of s.working store at
+    → ((field : Field) → field_of (nodes_of s.ifr) n ≡ Some field → store ≡ field.store → field.offset ≤ at → at < field.offset + field.width → (set_fitting s n (values_offered n offer) r).reply ≡ Accepted → ⊥)
+    → byte_of (set_fitting s n (values_offered n offer) r).state.working store at ≡ byte_of s.working store at
 fitting_keeps s n offer store at (Err _) fit none = refl
 fitting_keeps s n offer store at (Ok bytes) fit none =
     let new = with_field s.working (field_of (nodes_of s.ifr) n) bytes in
-    forbidden_keeps s new n store at (value_denial (world_of s) new n)
+    forbidden_keeps s new n store at (value_denial (world_of s) new n (values_offered n offer))
     (λ ok. field_keeps s n offer bytes store at fit (field_of (nodes_of s.ifr) n) refl (λ field is same from inside. none field is same from inside ok))
 
 unless_keeps : (s : State) (n : Placed) (offer : Offer) (store at : ℕ) (o : Option Denial)
@@ -96,15 +96,15 @@ forbidden_submits : (s : State) (new : StoreMap) (n : Placed) (o : Option Denial
 forbidden_submits s new n (Some denial) = refl
 forbidden_submits s new n None = refl
 
-fitting_submits : (s : State) (n : Placed) (r : Result (List ℕ) DenialKind) → (set_fitting s n r).state.committed ≡ s.committed
-fitting_submits s n (Err _) = refl
-fitting_submits s n (Ok bytes) =
+fitting_submits : (s : State) (n : Placed) (values : List ℕ) (r : Result (List ℕ) DenialKind) → (set_fitting s n values r).state.committed ≡ s.committed
+fitting_submits s n values (Err _) = refl
+fitting_submits s n values (Ok bytes) =
     let new = with_field s.working (field_of (nodes_of s.ifr) n) bytes in
-    forbidden_submits s new n (value_denial (world_of s) new n)
+    forbidden_submits s new n (value_denial (world_of s) new n values)
 
 unless_submits : (s : State) (n : Placed) (offer : Offer) (o : Option Denial) → (set_unless_fixed s n offer o).state.committed ≡ s.committed
 unless_submits s n offer (Some denial) = refl
-unless_submits s n offer None = fitting_submits s n (fits (nodes_of s.ifr) n offer)
+unless_submits s n offer None = fitting_submits s n (values_offered n offer) (fits (nodes_of s.ifr) n offer)
 
 set_submits : (s : State) (offer : Offer) (q : Option Placed) → (set_question s q offer).state.committed ≡ s.committed
 set_submits s offer None = refl

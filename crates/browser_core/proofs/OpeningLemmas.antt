@@ -36,7 +36,8 @@ use Rattle.form_sets.proofs.PackageLemmas.{accepted_where_good, stored_where_goo
 use Rattle.guard_policy.specs.World.{removed_at}
 use Rattle.browser_core.specs.State.{State}
 use Rattle.browser_core.proofs.FormLemmas.{first_of}
-use Rattle.browser_core.specs.Opening.{bytes_or_none, forms_bytes, HasSource, HasTexts, layout_in, IsSourceFault, IsTextFault, IsFormSetFault, IsBrowsingFault, IsOpenFault, IsBrowsable, AreGood, Opens}
+use Rattle.browser_core.specs.Opening.{bytes_or_none, forms_bytes, HasSource, HasTexts, layout_in, IsSourceFault, IsTextFault, IsFormSetFault, IsBrowsingFault, IsOpenFault, AreGood, Opens}
+use Rattle.browser_core.specs.code.Browsable.{IsBrowsable}
 
 -- ---- the forms package of a number
 
@@ -117,7 +118,7 @@ opens_good list n image language start o = record {
   found = o.found;
   spoken = start.spoken;
   texts = o.texts;
-  good = subst IsGoodPackage o.bytes (good_where_browsable start.ifr o.browsable);
+  good = subst IsGoodPackage o.bytes o.good;
   stores = start.working;
   image_is = subst (λ ifr. SpellsImage (layout_in ifr) image start.working) o.bytes o.stores;
 }
@@ -149,7 +150,7 @@ opens_where_good list n image language g =
         path = (g.found.0, g.found.1, refl);
         texts = g.texts;
         language_is = refl;
-        browsable = browsable_where_good ifr g.good;
+        good = g.good;
         stores = g.image_is;
         submitted = refl;
         removed = refl;
@@ -242,7 +243,7 @@ opened list n stores language packages source start shape first others s found i
   path = (packages, s, path);
   texts = (packages, s, says);
   language_is = chose;
-  browsable = b;
+  good = good_where_browsable start.ifr b;
   stores = subst (SpellsImage (layout_in start.ifr) stores) (sym same) (subst (λ shape. SpellsImage shape stores start.committed) laid spelled);
   submitted = sym same;
   removed = removed;

@@ -13,7 +13,7 @@ use Rattle.ifr_scopes.specs.Nodes.{nodes_of, is_reference}
 use Rattle.ifr_scopes.specs.References.{form_with}
 use Rattle.hii_varstore.specs.Stores.{StoreMap}
 use Rattle.hii_questions.specs.Fields.{field_of, question_with}
-use Rattle.hii_questions.specs.Fits.{fits}
+use Rattle.hii_questions.specs.Fits.{fits, values_offered}
 use Rattle.hii_questions.specs.Inputs.{Offer, whole, listed, utf8}
 use Rattle.hii_questions.specs.declared.denial.DenialKind.{DenialKind}
 use Rattle.hii_questions.specs.declared.denial.DenialKind.TheVariants.{NotRef, NotButton, DeepHistory}
@@ -41,15 +41,15 @@ forbidden_leaves : (s : State) (new : StoreMap) (q : Placed) (o : Option Denial)
 forbidden_leaves s new q (Some denial) none = refl
 forbidden_leaves s new q None none = absurd (none refl)
 
-fitting_leaves : (s : State) (q : Placed) (r : Result (List ℕ) DenialKind) → Leaves s (set_fitting s q r)
-fitting_leaves s q (Err _) none = refl
-fitting_leaves s q (Ok bytes) none =
+fitting_leaves : (s : State) (q : Placed) (values : List ℕ) (r : Result (List ℕ) DenialKind) → Leaves s (set_fitting s q values r)
+fitting_leaves s q values (Err _) none = refl
+fitting_leaves s q values (Ok bytes) none =
     let new = with_field s.working (field_of (nodes_of s.ifr) q) bytes in
-    forbidden_leaves s new q (value_denial (world_of s) new q) none
+    forbidden_leaves s new q (value_denial (world_of s) new q values) none
 
 unless_leaves : (s : State) (q : Placed) (offer : Offer) (o : Option Denial) → Leaves s (set_unless_fixed s q offer o)
 unless_leaves s q offer (Some denial) none = refl
-unless_leaves s q offer None none = fitting_leaves s q (fits (nodes_of s.ifr) q offer) none
+unless_leaves s q offer None none = fitting_leaves s q (values_offered q offer) (fits (nodes_of s.ifr) q offer) none
 
 set_leaves : (s : State) (o : Option Placed) (offer : Offer) → Leaves s (set_question s o offer)
 set_leaves s None offer none = refl

@@ -32,7 +32,8 @@ use Rattle.guard_policy.specs.declared.denial.Denial.{Denial}
 use Rattle.guard_policy.specs.declared.policy.Policy.{Policy}
 use Rattle.ifr_scopes.proofs.ViewLemmas.{contains_found}
 use Rattle.hii_questions.proofs.LawLemmas.{holds_fields}
-use Rattle.browser_core.specs.Opening.{IsBrowsable, layout_in}
+use Rattle.browser_core.specs.Opening.{layout_in}
+use Rattle.browser_core.specs.code.Browsable.{IsBrowsable}
 use Rattle.browser_core.specs.Configuration.{block_field, block_bytes, store_named, question_of_field}
 use Rattle.browser_core.specs.Renewed.{Shown, Write, Blocks, and_then, and_back, route_writes, write_of, written_by}
 use Rattle.browser_core.specs.code.Counting.{counted_all}

@@ -14,13 +14,13 @@ use Rattle.ifr_scopes.proofs.ViewLemmas.{further}
 use Rattle.hii_varstore.specs.Layout.{Shape, size_of}
 use Rattle.hii_varstore.specs.Stores.{StoreMap, shape_of, bytes_of, overwritten}
 use Rattle.hii_varstore.proofs.WriteLemmas.{bytes_after, shape_after, sizes}
-use Rattle.hii_questions.specs.Answers.{answers, answer_of, value_of_field, value_of_bytes, named_values}
+use Rattle.hii_questions.specs.Answers.{answers, answer_of, value_of_field, value_of_bytes}
 use Rattle.config_text.specs.Grammar.{Named, Area}
 use Rattle.config_text.specs.Reading.{configuration_in}
 use Rattle.config_text.specs.declared.kind.TextKind.TheVariants.{Ask, Tell}
 use Rattle.hii_bytes.specs.declared.cause.Cause.{Cause}
 use Rattle.hii_questions.specs.Fields.{Field, field_of, question_with, is_password}
-use Rattle.hii_questions.specs.Fits.{fits}
+use Rattle.hii_questions.specs.Fits.{fits, values_offered}
 use Rattle.hii_questions.specs.Inputs as inputs
 use Rattle.hii_questions.specs.Inputs.{Offer, whole, listed, utf8}
 use Rattle.hii_questions.specs.Types.{type_of}
@@ -199,25 +199,23 @@ module _ (s : State) (ids : List ℕ) (committed working : StoreMap) (form : ℕ
         record { ifr = refl; removed = refl; spoken = refl; language = refl; committed = submitted; working = new },
       )
 
-      forbids_alike : value_denial (world_of beside) b q ≡ value_denial (world_of s) a q
-      forbids_alike =
-          let value = value_alike a b q (field_of ns q) (new id q within is) in
-          ap (λ (v : Value). or_else (first_closed (world_of beside) q (named_values q v)) (inconsistent (world_with beside b) q)) (sym value)
-          ∙ ap (λ (d : Option Denial). or_else d (inconsistent (world_with beside b) q)) (first_closed_alike ns ids s.working working read s.removed q (behind q is) (named_values q (value_of_field a q (field_of ns q))))
-          ∙ ap (or_else (first_closed (world_of s) q (named_values q (value_of_field a q (field_of ns q))))) (inconsistent_alike ns ids a b new s.removed q (behind q is))
+      forbids_alike : (values : List ℕ) → value_denial (world_of beside) b q values ≡ value_denial (world_of s) a q values
+      forbids_alike values =
+          ap (λ (d : Option Denial). or_else d (inconsistent (world_with beside b) q)) (first_closed_alike ns ids s.working working read s.removed q (behind q is) values)
+          ∙ ap (or_else (first_closed (world_of s) q values)) (inconsistent_alike ns ids a b new s.removed q (behind q is))
 
-      stores_alike : Answer (set_stores s a q) (set_stores beside b q)
-      stores_alike = subst (λ d. Answer (set_stores s a q) (set_unless_forbidden beside b q d)) (sym forbids_alike) (forbidden_alike (value_denial (world_of s) a q))
+      stores_alike : (values : List ℕ) → Answer (set_stores s a q values) (set_stores beside b q values)
+      stores_alike values = subst (λ d. Answer (set_stores s a q values) (set_unless_forbidden beside b q d)) (sym (forbids_alike values)) (forbidden_alike (value_denial (world_of s) a q values))
 
-    fitting_alike : (q : Placed) (r : Result (List ℕ) DenialKind) → question_with ns id ≡ Some q → Answer (set_fitting s q r) (set_fitting beside q r)
-    fitting_alike q (Err why) is = denied_alike record { kind = why; place = q.place; message = 0 }
-    fitting_alike q (Ok bytes) is =
+    fitting_alike : (q : Placed) (values : List ℕ) (r : Result (List ℕ) DenialKind) → question_with ns id ≡ Some q → Answer (set_fitting s q values r) (set_fitting beside q values r)
+    fitting_alike q values (Err why) is = denied_alike record { kind = why; place = q.place; message = 0 }
+    fitting_alike q values (Ok bytes) is =
         stores_alike q is (with_field s.working (field_of ns q) bytes) (with_field working (field_of ns q) bytes)
-        (λ other n within found. one_alike s.working working (field_of ns q) (field_of ns n) bytes shapes (read other n within found))
+        (λ other n within found. one_alike s.working working (field_of ns q) (field_of ns n) bytes shapes (read other n within found)) values
 
     unless_alike : (q : Placed) (offer : Offer) (o : Option Denial) → question_with ns id ≡ Some q → Answer (set_unless_fixed s q offer o) (set_unless_fixed beside q offer o)
     unless_alike q offer (Some d) is = denied_alike d
-    unless_alike q offer None is = fitting_alike q (fits ns q offer) is
+    unless_alike q offer None is = fitting_alike q (values_offered q offer) (fits ns q offer) is
 
     pub set_alike : (offer : Offer) (o : Option Placed) → question_with ns id ≡ o → Answer (set_question s o offer) (set_question beside o offer)
     set_alike offer None is = denied_alike no_question
@@ -267,15 +265,15 @@ forbidden_keeps : (s : State) (new : StoreMap) (q : Placed) (o : Option Denial) 
 forbidden_keeps s new q (Some d) same = keeps_all s
 forbidden_keeps s new q None same = record { ifr = refl; committed = refl; working = same }
 
-fitting_keeps : (s : State) (q : Placed) (r : Result (List ℕ) DenialKind) → Keeps s (set_fitting s q r).state
-fitting_keeps s q (Err _) = keeps_all s
-fitting_keeps s q (Ok bytes) =
+fitting_keeps : (s : State) (q : Placed) (values : List ℕ) (r : Result (List ℕ) DenialKind) → Keeps s (set_fitting s q values r).state
+fitting_keeps s q values (Err _) = keeps_all s
+fitting_keeps s q values (Ok bytes) =
     let new = with_field s.working (field_of (nodes_of s.ifr) q) bytes in
-    forbidden_keeps s new q (value_denial (world_of s) new q) (field_shape s.working (field_of (nodes_of s.ifr) q) bytes)
+    forbidden_keeps s new q (value_denial (world_of s) new q values) (field_shape s.working (field_of (nodes_of s.ifr) q) bytes)
 
 unless_keeps : (s : State) (q : Placed) (offer : Offer) (o : Option Denial) → Keeps s (set_unless_fixed s q offer o).state
 unless_keeps s q offer (Some d) = keeps_all s
-unless_keeps s q offer None = fitting_keeps s q (fits (nodes_of s.ifr) q offer)
+unless_keeps s q offer None = fitting_keeps s q (values_offered q offer) (fits (nodes_of s.ifr) q offer)
 
 pub set_keeps : (s : State) (offer : Offer) (o : Option Placed) → Keeps s (set_question s o offer).state
 set_keeps s offer None = keeps_all s

@@ -11,20 +11,16 @@ use Rattle.ifr_scopes.proofs.PlaceLemmas.{is_found}
 use Rattle.ifr_scopes.proofs.ViewLemmas.{contains_found}
 use Rattle.hii_varstore.specs.Layout.{Shape}
 use Rattle.hii_varstore.specs.code.Ranges.{HasRange}
-use Rattle.hii_varstore.specs.Stores.{StoreMap, shape_of, bytes_of_field, with_bytes}
-use Rattle.hii_varstore.proofs.WriteLemmas.{field_back}
-use Rattle.hii_questions.specs.Answers.{named_values, value_of_bytes, value_of_field}
+use Rattle.hii_varstore.specs.Stores.{StoreMap, shape_of, with_bytes}
 use Rattle.hii_questions.specs.code.Checks.{Checks, NamesItems, range_of}
 use Rattle.hii_questions.specs.Fields as fields
 use Rattle.hii_questions.specs.Fields.{Asked, asked, field_of, question_with}
-use Rattle.hii_questions.specs.Fits.{fits, fits_field}
+use Rattle.hii_questions.specs.Fits.{fits, fits_field, values_offered}
 use Rattle.hii_questions.specs.Types.{type_of}
 use Rattle.hii_questions.specs.Inputs.{Offer}
 use Rattle.hii_questions.specs.code.NewBytes.{new_bytes, new_items}
 use Rattle.hii_questions.specs.declared.field.Field.{Field}
 use Rattle.hii_questions.specs.declared.denial.DenialKind.{DenialKind}
-use Rattle.hii_questions.specs.laws.Fields.{AreBytes}
-use Rattle.hii_questions.proofs.NamedLemmas.{values_fit}
 use Rattle.hii_questions.proofs.LawLemmas.{finds_questions, holds_fields, fits_wide}
 use Rattle.guard_policy.specs.Policy.{or_else, fixed, first_closed, inconsistent, unsubmitted}
 use Rattle.guard_policy.specs.World.{World}
@@ -40,7 +36,8 @@ use Rattle.kept_conditions.specs.code.Setting.{put_in}
 use Rattle.browser_core.specs.Texts.{ok_text}
 use Rattle.browser_core.specs.Step.{accepted, denied, warned_text, set_unless_fixed, set_unless_forbidden, set_question, commit, submitted}
 use Rattle.browser_core.specs.code.Changing.{IsOver, TakesField, SetsValue}
-use Rattle.browser_core.specs.Opening.{IsBrowsable, layout_in}
+use Rattle.browser_core.specs.Opening.{layout_in}
+use Rattle.browser_core.specs.code.Browsable.{IsBrowsable}
 use Rattle.browser_core.specs.code.Standing.{IsQuestionIn}
 use Rattle.hii_questions.specs.code.LyingIn.{LiesIn}
 use Rattle.browser_core.specs.declared.reply.Reply.TheVariants.{Denied}
@@ -120,11 +117,11 @@ record Fits (policy : Policy) (m : StoreMap) (q : Asked) (offer : Offer) (new : 
   fit : fits (nodes_of (bytes_of policy)) q.node offer ≡ Ok (new_bytes new)
   range : HasRange (shape_of m) new.store new.offset new.width
   wide : length (new_bytes new) ≡ new.width
-  named : named_values q.node (value_of_field (put m new) q.node (Some (range_of new))) ≡ new_items new
+  named : values_offered q.node offer ≡ new_items new
 
-fits_there : (policy : Policy) (m : StoreMap) (q : Asked) (offer : Offer) (new : Field) → IsBrowsable (bytes_of policy) → shape_of m ≡ layout_in (bytes_of policy) → IsQuestionIn (bytes_of policy) q → AreBytes (bytes_of policy)
-    → Checks q offer (Ok new) → NamesItems q new → Fits policy m q offer new
-fits_there policy m q offer new browsable laid is small checks names =
+fits_there : (policy : Policy) (m : StoreMap) (q : Asked) (offer : Offer) (new : Field) → IsBrowsable (bytes_of policy) → shape_of m ≡ layout_in (bytes_of policy) → IsQuestionIn (bytes_of policy) q
+    → Checks q offer (Ok new) → NamesItems q offer new → Fits policy m q offer new
+fits_there policy m q offer new browsable laid is checks names =
     let ns = nodes_of (bytes_of policy) in
     let own : q.field ≡ field_of ns q.node = ap (λ (x : Asked). x.field) is.own in
     let field : field_of ns q.node ≡ Some (range_of new) = sym own ∙ checks.1 in
@@ -132,14 +129,12 @@ fits_there policy m q offer new browsable laid is small checks names =
     let range : HasRange (shape_of m) new.store new.offset new.width = subst (λ (shape : Shape). HasRange shape new.store new.offset new.width) (sym laid) (holds_fields ns q.node (range_of new) browsable.questions there is.asks field) in
     let fit : fits ns q.node offer ≡ Ok (new_bytes new) = ap (λ f. fits_field (type_of q.node) f offer) (sym own) ∙ checks.0 in
     let wide = fits_wide ns q.node offer (range_of new) (new_bytes new) field fit in
-    let back : bytes_of_field (put m new) new.store new.offset new.width ≡ Some (new_bytes new) =
-    subst (λ (w : ℕ). bytes_of_field (put m new) new.store new.offset w ≡ Some (new_bytes new)) wide (field_back m new.store new.offset (new_bytes new) (subst (λ (w : ℕ). HasRange (shape_of m) new.store new.offset w) (sym wide) range)) in
     record {
       field = field;
       fit = fit;
       range = range;
       wide = wide;
-      named = ap (λ b. named_values q.node (value_of_bytes (type_of q.node) b)) back ∙ names ns browsable.questions there is.asks (values_fit (bytes_of policy) q.node small browsable.accepted there);
+      named = sym names;
     }
 
 -- the same in a session
@@ -148,21 +143,20 @@ takes_in : (policy : Policy) (m : StoreMap) (q : Asked) (offer : Offer) (new : F
 takes_in policy m q offer new s closed h over those =
     let field : field_of (nodes_of s.ifr) q.node ≡ Some (range_of new) = subst (λ (ifr : List ℕ). field_of (nodes_of ifr) q.node ≡ Some (range_of new)) over.ifr h.field in
     let fit : fits (nodes_of s.ifr) q.node offer ≡ Ok (new_bytes new) = subst (λ (ifr : List ℕ). fits (nodes_of ifr) q.node offer ≡ Ok (new_bytes new)) over.ifr h.fit in
-    let closed_too : first_closed (world_of s) q.node (named_values q.node (value_of_field (put s.working new) q.node (Some (range_of new)))) ≡ closed =
-    subst (λ (stores : StoreMap). first_closed (world_of s) q.node (named_values q.node (value_of_field (put stores new) q.node (Some (range_of new)))) ≡ closed) over.working_is
-    (ap (first_closed (world_of s) q.node) h.named ∙ subst (λ (w : World). first_closed w q.node (new_items new) ≡ closed) (over_world policy m s over) those) in
+    let closed_too : first_closed (world_of s) q.node (values_offered q.node offer) ≡ closed =
+    ap (first_closed (world_of s) q.node) h.named ∙ subst (λ (w : World). first_closed w q.node (new_items new) ≡ closed) (over_world policy m s over) those in
     rw (over.working_is, fit, field, closed_too) refl
 
-pub takes_field : (policy : Policy) (m : StoreMap) (q : Asked) (offer : Offer) (new : Field) → IsBrowsable (bytes_of policy) → shape_of m ≡ layout_in (bytes_of policy) → IsQuestionIn (bytes_of policy) q → AreBytes (bytes_of policy)
-    → Checks q offer (Ok new) → NamesItems q new → unless (first_closed (world policy m) q.node (new_items new)) ≡ Ok tt → TakesField policy m q offer (Ok new)
-takes_field policy m q offer new browsable laid is small checks names free =
-    let h = fits_there policy m q offer new browsable laid is small checks names in
+pub takes_field : (policy : Policy) (m : StoreMap) (q : Asked) (offer : Offer) (new : Field) → IsBrowsable (bytes_of policy) → shape_of m ≡ layout_in (bytes_of policy) → IsQuestionIn (bytes_of policy) q
+    → Checks q offer (Ok new) → NamesItems q offer new → unless (first_closed (world policy m) q.node (new_items new)) ≡ Ok tt → TakesField policy m q offer (Ok new)
+takes_field policy m q offer new browsable laid is checks names free =
+    let h = fits_there policy m q offer new browsable laid is checks names in
     (h.range, h.wide, checks.1, λ s over. takes_in policy m q offer new s None h over (none_of (first_closed (world policy m) q.node (new_items new)) free))
 
-pub takes_closed : (policy : Policy) (m : StoreMap) (q : Asked) (offer : Offer) (new : Field) (denial : Denial) → IsBrowsable (bytes_of policy) → shape_of m ≡ layout_in (bytes_of policy) → IsQuestionIn (bytes_of policy) q → AreBytes (bytes_of policy)
-    → Checks q offer (Ok new) → NamesItems q new → unless (first_closed (world policy m) q.node (new_items new)) ≡ Err denial → TakesField policy m q offer (Err denial)
-takes_closed policy m q offer new denial browsable laid is small checks names why =
-    let h = fits_there policy m q offer new browsable laid is small checks names in
+pub takes_closed : (policy : Policy) (m : StoreMap) (q : Asked) (offer : Offer) (new : Field) (denial : Denial) → IsBrowsable (bytes_of policy) → shape_of m ≡ layout_in (bytes_of policy) → IsQuestionIn (bytes_of policy) q
+    → Checks q offer (Ok new) → NamesItems q offer new → unless (first_closed (world policy m) q.node (new_items new)) ≡ Err denial → TakesField policy m q offer (Err denial)
+takes_closed policy m q offer new denial browsable laid is checks names why =
+    let h = fits_there policy m q offer new browsable laid is checks names in
     λ s over. takes_in policy m q offer new s (Some denial) h over (some_of (first_closed (world policy m) q.node (new_items new)) denial why)
 
 pub takes_nothing : (policy : Policy) (m : StoreMap) (q : Asked) (offer : Offer) (kind : DenialKind) (place : ℕ) → IsQuestionIn (bytes_of policy) q → fits_field (type_of q.node) q.field offer ≡ Err kind → place ≡ q.node.place

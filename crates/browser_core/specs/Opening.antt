@@ -1,13 +1,13 @@
 -- Which bytes open a session, and with which faults they do not (own rule).
 use Rattle.std.specs.Prelude.{◌≡◌, ℕ, List, [], ◌∷◌, drop, filter, Option, Some, None}
-use Rattle.hii_bytes.specs.Faults.{HasNone, Then}
+use Rattle.hii_bytes.specs.Faults.{Then}
 use Rattle.hii_bytes.specs.declared.cause.Cause.{Cause}
 use Rattle.hii_packages.specs.Packages.{Entry, SpellsPackages, pieces_of, nth_forms, device_path_of}
 use Rattle.hii_packages.specs.Faults.{IsListFault, IsFormsFault}
 use Rattle.hii_languages.specs.Languages.{Spoken, string_packages, AreSpoken, IsStringsFault, chosen}
 use Rattle.ifr_opcodes.specs.Forest.{places}
 use Rattle.form_sets.specs.Packages.{IsGoodPackage}
-use Rattle.ifr_scopes.specs.Accepted.{IsAccepted, IsPackageFault}
+use Rattle.ifr_scopes.specs.Accepted.{IsPackageFault}
 use Rattle.ifr_scopes.specs.Nodes.{nodes_of, is_form}
 use Rattle.hii_varstore.specs.Layout.{Shape}
 use Rattle.hii_varstore.specs.Stores.{StoreMap}
@@ -71,12 +71,6 @@ IsOpenFault list n image =
     Then (IsSourceFault list n)
     (Then (IsTextFault list) (IsBrowsingFault (forms_bytes list n) image))
 
--- A package is accepted, and so are its stores and its questions.
-pub record IsBrowsable (ifr : List ℕ) : Type 0 where
-  pub accepted : IsAccepted ifr
-  pub stores : HasNone (IsStoreFault (nodes_of ifr))
-  pub questions : HasNone (IsQuestionFault (nodes_of ifr))
-
 -- What the bytes are that open a session in any language: the list spells packages, among them a good forms package of the
 -- number, its string packages say texts, and the image spells the stores that the forms package declares.
 pub record AreGood (list : List ℕ) (n : ℕ) (image : List ℕ) : Type 0 where
@@ -88,9 +82,9 @@ pub record AreGood (list : List ℕ) (n : ℕ) (image : List ℕ) : Type 0 where
   pub stores : StoreMap
   pub image_is : SpellsImage (layout_in source.bytes) image stores
 
--- The list spells packages, among them a forms package of the number, which can be browsed; its string packages say texts,
--- of which those for the language are shown; the image spells its stores, with which a session begins, at the first form; the
--- DISABLE_IFs that hold over these stores are removed.
+-- The list spells packages, among them a good forms package of the number; its string packages say texts, of which those for the
+-- language are shown; the image spells its stores, with which a session begins, at the first form; the DISABLE_IFs that hold over
+-- these stores are removed.
 pub record Opens (list : List ℕ) (n : ℕ) (image language : List ℕ) (start : State) : Type 0 where
   pub source : Entry
   pub found : HasSource list n source
@@ -98,7 +92,7 @@ pub record Opens (list : List ℕ) (n : ℕ) (image language : List ℕ) (start 
   pub path : HasPath list start.path
   pub texts : HasTexts list start.spoken
   pub language_is : start.language ≡ chosen start.spoken language
-  pub browsable : IsBrowsable start.ifr
+  pub good : IsGoodPackage start.ifr
   pub stores : SpellsImage (layout_in start.ifr) image start.working
   pub submitted : start.committed ≡ start.working
   pub removed : start.removed ≡ removed_at (nodes_of start.ifr) start.working

@@ -17,12 +17,12 @@ use Rattle.ifr_scopes.specs.Rules.{rules_among}
 use Rattle.hii_languages.specs.Languages.{chosen}
 use Rattle.hii_languages.specs.Shown.{text_under}
 use Rattle.hii_varstore.specs.Stores.{StoreMap, are_same_bytes, bytes_of, with_bytes}
-use Rattle.hii_questions.specs.Answers.{answers, value_of_field, named_values}
+use Rattle.hii_questions.specs.Answers.{answers}
 use Rattle.hii_questions.specs.Changes.{field_bytes}
 use Rattle.hii_questions.specs.Fields.{Field, field_of, question_with, is_password}
 use Rattle.hii_questions.specs.Inputs as inputs
 use Rattle.hii_questions.specs.Inputs.{Offer, whole, listed, utf8}
-use Rattle.hii_questions.specs.Fits.{fits}
+use Rattle.hii_questions.specs.Fits.{fits, values_offered}
 use Rattle.hii_questions.specs.declared.denial.DenialKind.{DenialKind}
 use Rattle.hii_questions.specs.declared.denial.DenialKind.TheVariants.{NoQuestion, NotRef, NotButton, NoRow, NoBack, DeepHistory, NoStore, NoField, Password, Outside}
 use Rattle.ifr_defaults.specs.Defaults.{Sources, default_of}
@@ -102,11 +102,10 @@ abbrev pub with_field : StoreMap → Option Field → List ℕ → StoreMap
 with_field stores None bytes = stores
 with_field stores (Some field) bytes = with_bytes stores field.store field.offset bytes
 
--- what forbids a value that the question has in new stores
-abbrev pub value_denial : World → StoreMap → Placed → Option Denial
-value_denial w new q =
-    or_else (first_closed w q (named_values q (value_of_field new q (field_of w.nodes q))))
-    (inconsistent (world_over w.nodes w.removed new) q)
+-- what forbids a value that the question has in new stores, where these values of options were offered
+abbrev pub value_denial : World → StoreMap → Placed → List ℕ → Option Denial
+value_denial w new q values =
+    or_else (first_closed w q values) (inconsistent (world_over w.nodes w.removed new) q)
 
 -- the lines of the warnings of a question, over new stores
 abbrev pub warned_text : State → StoreMap → Placed → List ℕ
@@ -118,17 +117,20 @@ set_unless_forbidden s new q (Some denial) = denied s denial
 set_unless_forbidden s new q None =
     accepted (record s { working = new }) (ok_text ++ warned_text s new q)
 
-abbrev pub set_stores : State → StoreMap → Placed → Outcome
-set_stores s new q = set_unless_forbidden s new q (value_denial (world_of s) new q)
+abbrev pub set_stores : State → StoreMap → Placed → List ℕ → Outcome
+set_stores s new q values =
+    set_unless_forbidden s new q (value_denial (world_of s) new q values)
 
-abbrev pub set_fitting : State → Placed → Result (List ℕ) DenialKind → Outcome
-set_fitting s q (Err kind) = denied s record { kind = kind; place = q.place; message = 0 }
-set_fitting s q (Ok bytes) =
-    set_stores s (with_field s.working (field_of (nodes_of s.ifr) q) bytes) q
+abbrev pub set_fitting : State → Placed → List ℕ → Result (List ℕ) DenialKind → Outcome
+set_fitting s q values (Err kind) =
+    denied s record { kind = kind; place = q.place; message = 0 }
+set_fitting s q values (Ok bytes) =
+    set_stores s (with_field s.working (field_of (nodes_of s.ifr) q) bytes) q values
 
 abbrev pub set_unless_fixed : State → Placed → Offer → Option Denial → Outcome
 set_unless_fixed s q offer (Some denial) = denied s denial
-set_unless_fixed s q offer None = set_fitting s q (fits (nodes_of s.ifr) q offer)
+set_unless_fixed s q offer None =
+    set_fitting s q (values_offered q offer) (fits (nodes_of s.ifr) q offer)
 
 abbrev pub set_question : State → Option Placed → Offer → Outcome
 set_question s None offer = denied s no_question

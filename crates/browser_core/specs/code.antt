@@ -1,4 +1,5 @@
 -- How structs, iterators and tables of the code are seen. No module outside of this folder and of laws cites one of it.
+pub mod Browsable
 pub mod Reading
 pub mod Standing
 pub mod Changing

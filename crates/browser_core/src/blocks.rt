@@ -7,7 +7,8 @@ ghost use Rattle.hii_questions.specs.code.Ranges.{range_in};
 ghost use Rattle.hii_varstore.specs.code.Ranges.{HasRange};
 ghost use Rattle.hii_varstore.specs.Stores.{bytes_of_field, shape_of};
 ghost use Rattle.guard_policy.specs.code.Views.{bytes_of};
-ghost use Rattle.browser_core.specs.Opening.{IsBrowsable, layout_in};
+ghost use Rattle.browser_core.specs.Opening.{layout_in};
+ghost use Rattle.browser_core.specs.code.Browsable.{IsBrowsable};
 ghost use Rattle.browser_core.specs.code.Changing.{Chooses, CopiesBlocks, FirstChoice, HaveRanges, SetsBlock, SetsBlocks, range_of_block};
 
 use crate::change::{are_bytes, set_value};

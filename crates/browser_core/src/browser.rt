@@ -38,7 +38,8 @@ ghost use Rattle.config_text.specs.declared.kind.TextKind.TheVariants.{Tell};
 ghost use Rattle.config_text.specs.code.Views.{header_view};
 ghost use Rattle.config_text.specs.code.TextViews.{request_view, response_view};
 ghost use Rattle.std.specs.Option.{ok_or};
-ghost use Rattle.browser_core.specs.Opening.{Opens, IsBrowsable, IsOpenFault, IsSourceFault, layout_in};
+ghost use Rattle.browser_core.specs.Opening.{Opens, IsOpenFault, IsSourceFault, layout_in};
+ghost use Rattle.browser_core.specs.code.Browsable.{IsBrowsable};
 
 use crate::blocks::set_blocks;
 use crate::change::set_value;

@@ -11,7 +11,8 @@ ghost use Rattle.guard_policy.specs.code.Answers.{unless};
 ghost use Rattle.guard_policy.specs.code.Surroundings.{IsAroundNode};
 ghost use Rattle.guard_policy.specs.code.Views.{bytes_of, world};
 ghost use Rattle.ifr_scopes.specs.code.Checked.{IsNodeOf};
-ghost use Rattle.browser_core.specs.Opening.{IsBrowsable, layout_in};
+ghost use Rattle.browser_core.specs.Opening.{layout_in};
+ghost use Rattle.browser_core.specs.code.Browsable.{IsBrowsable};
 ghost use Rattle.browser_core.specs.code.Changing.{IsHeld, TakesField, SetsValue};
 ghost use Rattle.browser_core.specs.code.Standing.{IsQuestionIn};
 

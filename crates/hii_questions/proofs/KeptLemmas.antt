@@ -148,14 +148,14 @@ utf8_kept mn mx given bytes e = elim (cases_Bool (is_text given)) [
 ]
 
 pub list_are : (w most : ℕ) (unique some : Bool) (vs ns bytes : List ℕ) → list_bytes w most unique some vs ns ≡ Ok bytes
-    → (bytes ≡ filled (most * w) (spelled w ns)) × (length ns ≤ most) × (element_denial vs unique [] ns ≡ None)
+    → (bytes ≡ filled (most * w) (spelled w ns)) × (length ns ≤ most) × (element_denial vs unique ns ≡ None)
 list_are w most unique some vs ns bytes e = elim (cases_Bool (ltb most (length ns))) [
   | inl more ↦ let none : ◌≡◌ {A = Result (List ℕ) DenialKind} (Err Length) (Ok bytes) = sym (rw more refl) ∙ e in absurd (cc)
   | inr few ↦ elim (cases_Bool (some && eqb (length ns) 0)) [
     | inl empty ↦ let none : ◌≡◌ {A = Result (List ℕ) DenialKind} (Err EmptySet) (Ok bytes) = sym (rw (few, empty) refl) ∙ e in absurd (cc)
     | inr full ↦
-        let given : bytes_unless (element_denial vs unique [] ns) (filled (most * w) (spelled w ns)) ≡ Ok bytes = sym (rw (few, full) refl) ∙ e in
-        let are = go (element_denial vs unique [] ns) given in
+        let given : bytes_unless (element_denial vs unique ns) (filled (most * w) (spelled w ns)) ≡ Ok bytes = sym (rw (few, full) refl) ∙ e in
+        let are = go (element_denial vs unique ns) given in
         (are.0, ltb-false most (length ns) few, are.1)
   ]
 ]

@@ -1,16 +1,18 @@
 -- Elements one after the other.
 use Rattle.std.proofs.Common.{◌≡◌, ◌==◌, ℕ, zero, suc, ◌+◌, ◌-◌, ◌≤◌, Bool, true, false, cond, Option, Some, None, List, [], ◌∷◌, ◌++◌, length, take, sym, ap, ◌∙◌, arith, refl, length-append, append_assoc}
-use Rattle.std.proofs.Common.{◌&&◌, ◌*◌, leb, ltb, Ok}
+use Rattle.std.proofs.Common.{◌&&◌, ◌||◌, ◌*◌, not, leb, ltb, Ok, inl, inr}
 use Rattle.std.proofs.Math.Nat.{mul-le-mul_right}
-use Rattle.std.proofs.lemmas.Bool.{ne_eqb, leb-true, le-ltb}
+use Rattle.std.proofs.lemmas.Bool.{cases_Bool, ne_eqb, leb-true, le-ltb}
 use Rattle.std.proofs.lemmas.Option.{cond_some}
 use Rattle.byteorder.specs.Endian.{little_bytes}
 use Rattle.byteorder.specs.Numbers.{length-bytes_low_first}
-use Rattle.hii_questions.specs.Inputs.{is_offered, element_denial, list_denial, bytes_unless, list_bytes, text_bytes}
+use Rattle.hii_questions.specs.Inputs.{is_offered, denial_of, elements_behind, element_denial, list_denial, bytes_unless, list_bytes, text_bytes}
 use Rattle.hii_questions.specs.Items.{spelled, filled}
+use Rattle.hii_questions.specs.code.Fitting.{denial_behind}
 use Rattle.hii_questions.specs.declared.denial.DenialKind.{DenialKind}
 use Rattle.std.proofs.lemmas.List.{take_at}
-use Rattle.std.specs.List.{list_any}
+use Rattle.std.specs.List.{list_any, find}
+use Rattle.std.specs.Option.{is_some, option_and_then}
 
 -- what is among the first of some items, and not the very first
 pub among_more : (wanted left item : ℕ) (items rest : List ℕ) → items ≡ item ∷ rest → (left ≡ 0 → ⊥) → (item ≡ wanted → ⊥)
@@ -34,10 +36,25 @@ before_more count item all items rest whole is counted =
 -- an element that is fine, and stands before others
 pub element_more : (values : List ℕ) (unique : Bool) (before : List ℕ) (item : ℕ) (rest : List ℕ) → (item ≡ 0 → ⊥) → is_offered values item ≡ true
     → unique && list_any (λ earlier. earlier == item) before ≡ false
-    → element_denial values unique before (item ∷ rest) ≡ element_denial values unique (before ++ item ∷ []) rest
+    → denial_behind values unique before (item ∷ rest) ≡ denial_behind values unique (before ++ item ∷ []) rest
 element_more values unique before item rest some has new =
     let is = ne_eqb item 0 some in
     rw (is, has, new) refl
+
+-- the first element that may not be is found one after the other
+denied_behind : (values : List ℕ) (unique : Bool) (before ns : List ℕ)
+    → option_and_then (denial_of values unique) (find (λ e. is_some (denial_of values unique e)) (elements_behind before ns)) ≡ denial_behind values unique before ns
+denied_behind values unique before [] = refl
+denied_behind values unique before (n ∷ ns) = elim (cases_Bool ((n == 0) || not (is_offered values n))) [
+  | inl bad ↦ rw bad (rw bad refl)
+  | inr fine ↦ elim (cases_Bool (unique && list_any (λ earlier. earlier == n) before)) [
+    | inl again ↦ rw (fine, again) (rw (fine, again) refl)
+    | inr new ↦ rw (fine, new) (denied_behind values unique (before ++ n ∷ []) ns)
+  ]
+]
+
+pub first_denied : (values : List ℕ) (unique : Bool) (ns : List ℕ) → element_denial values unique ns ≡ denial_behind values unique [] ns
+first_denied values unique ns = denied_behind values unique [] ns
 
 pub length_spelled : (width : ℕ) (items : List ℕ) → length (spelled width items) ≡ length items * width
 length_spelled width [] = omega arith

@@ -1,6 +1,6 @@
 -- What questions answer: the values of their fields (UEFI 2.8, 33.2.5.4 Questions; which value a field's bytes are is an own
 -- rule).
-use Rattle.std.specs.Prelude.{ℕ, ◌==◌, not, if◌then◌else◌, Option, Some, None, List, [], ◌∷◌, length, slice_index}
+use Rattle.std.specs.Prelude.{ℕ, ◌==◌, not, if◌then◌else◌, Option, Some, None, List, length, slice_index}
 use Rattle.byteorder.specs.Endian.{little_number}
 use Rattle.ifr_opcodes.specs.Forest.{Placed}
 use Rattle.ifr_expr.specs.Values as values
@@ -8,8 +8,8 @@ use Rattle.ifr_expr.specs.Values.{Value, undefined, boolean, natural, buffer}
 use Rattle.hii_varstore.specs.Stores.{StoreMap, bytes_of_field as field_bytes}
 use Rattle.hii_questions.specs.FieldTypes.{FieldType, checkbox, numeric, one_of, text, ordered_list, size_of_type}
 use Rattle.hii_questions.specs.Fields.{Field, field_of, question_with}
-use Rattle.hii_questions.specs.Items.{items_in, bytes_of_items}
-use Rattle.hii_questions.specs.Types.{element_width, type_of}
+use Rattle.hii_questions.specs.Items.{bytes_of_items}
+use Rattle.hii_questions.specs.Types.{type_of}
 
 -- A checkbox is true where its byte is not 0. A number has no sign, whatever is shown. A text ends at its first zero unit. A
 -- list is the whole field.
@@ -39,9 +39,3 @@ answer_of ns stores (Some n) = value_of_field stores n (field_of ns n)
 -- the answer to each question id: that of its question's field, hidden or not; undefined where there is none
 abbrev pub answers : List Placed → StoreMap → ℕ → Value
 answers ns stores id = answer_of ns stores (question_with ns id)
-
--- the values of options that the value of a question names: a number, or the elements of a list
-abbrev pub named_values : Placed → Value → List ℕ
-named_values q (natural n) = n ∷ []
-named_values q (buffer bytes) = items_in (element_width q) bytes
-named_values q _ = []

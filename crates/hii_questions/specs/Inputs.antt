@@ -1,6 +1,6 @@
 -- What a question takes as its value, and which bytes of its field this gives (own rule).
-use Rattle.std.specs.Prelude.{ℕ, ◌-◌, ◌*◌, ◌/◌, ◌^◌, ◌==◌, Bool, ◌||◌, ◌&&◌, nat_lt, nat_le, not, if◌then◌else◌, ℤ, pos, negsuc, ◌-ℤ◌, int_lt, suc, Option, Some, None, Result, Ok, Err, List, [], ◌∷◌, ◌++◌, length, chars}
-use Rattle.std.specs.List.{list_any}
+use Rattle.std.specs.Prelude.{ℕ, ◌-◌, ◌*◌, ◌/◌, ◌^◌, ◌==◌, Bool, ◌||◌, ◌&&◌, nat_lt, nat_le, not, if◌then◌else◌, ℤ, pos, negsuc, ◌-ℤ◌, int_lt, suc, Option, Some, None, is_some, option_and_then, Result, Ok, Err, List, [], ◌∷◌, ◌++◌, length, chars}
+use Rattle.std.specs.List.{list_any, find}
 use Rattle.std.specs.Str.{is_utf8}
 use Rattle.byteorder.specs.Endian.{little_number, little_bytes}
 use Rattle.hii_questions.specs.FieldTypes.{FieldType, checkbox, numeric, one_of, text, ordered_list}
@@ -94,19 +94,34 @@ is_bad_character c = c == 0 || nat_lt 0xffff c
 abbrev pub is_text : List ℕ → Bool
 is_text bytes = is_utf8 bytes && not (list_any is_bad_character (chars bytes))
 
--- Each element is the value of an option, and none comes twice where that is forbidden.
-abbrev pub element_denial : List ℕ → Bool → List ℕ → List ℕ → Option DenialKind
-element_denial values unique before [] = None
-element_denial values unique before (n ∷ ns) =
-    if n == 0 || not (is_offered values n) then Some NoOption
-    else if unique && list_any (λ earlier. earlier == n) before then Some Repeat
-    else element_denial values unique (before ++ n ∷ []) ns
+-- an element of a list, with those before it
+pub record Element : Type 0 where
+  pub before : List ℕ
+  pub number : ℕ
+
+abbrev pub elements_behind : List ℕ → List ℕ → List Element
+elements_behind before [] = []
+elements_behind before (n ∷ ns) =
+    record { before = before; number = n } ∷ elements_behind (before ++ n ∷ []) ns
+
+-- Why an element may not be: it is 0 or no option has it, or it comes again where none may come twice.
+abbrev pub denial_of : List ℕ → Bool → Element → Option DenialKind
+denial_of values unique e =
+    if e.number == 0 || not (is_offered values e.number) then Some NoOption
+    else if unique && list_any (λ earlier. earlier == e.number) e.before then Some Repeat
+    else None
+
+-- the first element that may not be tells why
+abbrev pub element_denial : List ℕ → Bool → List ℕ → Option DenialKind
+element_denial values unique ns =
+    option_and_then (denial_of values unique)
+    (find (λ e. is_some (denial_of values unique e)) (elements_behind [] ns))
 
 abbrev pub list_denial : ℕ → Bool → Bool → List ℕ → List ℕ → Option DenialKind
 list_denial most unique some values ns =
     if nat_lt most (length ns) then Some Length
     else if some && (length ns == 0) then Some EmptySet
-    else element_denial values unique [] ns
+    else element_denial values unique ns
 
 abbrev pub bytes_unless : Option DenialKind → List ℕ → Result (List ℕ) DenialKind
 bytes_unless None bytes = Ok bytes
@@ -134,3 +149,15 @@ fits_type (ordered_list width most unique some values) (listed ns) =
 fits_type (ordered_list width most unique some values) (elements bytes) =
     list_bytes width most unique some values (items_in width bytes)
 fits_type t offer = Err Kind
+
+-- the values of options that an offer names: a number, or the elements of a list
+abbrev pub number_named : ℤ → List ℕ
+number_named (pos n) = n ∷ []
+number_named (negsuc n) = []
+
+abbrev pub values_in : FieldType → Offer → List ℕ
+values_in (one_of width values) (whole n) = number_named n
+values_in (one_of width values) (raw bits) = bits ∷ []
+values_in (ordered_list width most unique some values) (listed ns) = ns
+values_in (ordered_list width most unique some values) (elements bytes) = items_in width bytes
+values_in t offer = []

@@ -46,10 +46,7 @@ pub(crate) fn content_of<'i>(
 pub(crate) fn names_options(field_type: FieldType<'_>) -> bool
     ensures { result ≡ names_options (type_in field_type.entry) }
 {
-    matches!(
-        field_type,
-        FieldType::Numeric(_) | FieldType::OneOf(_) | FieldType::OrderedList(_)
-    )
+    matches!(field_type, FieldType::OneOf(_) | FieldType::OrderedList(_))
 }
 
 // A number of `width` bytes.

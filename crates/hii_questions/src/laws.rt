@@ -1,6 +1,6 @@
 //! Laws of the definitions that the contracts cite.
 
-ghost use Rattle.hii_questions.specs.laws.Fields.{HoldsFields, FindsQuestions, HaveTheField, ReadsBack, FillsFields, LeavesOthers};
+ghost use Rattle.hii_questions.specs.laws.Fields.{HoldsFields, FindsQuestions, HaveTheField, ReadsBack, NamesWhatWasOffered, FillsFields, LeavesOthers};
 
 /// Where no question has a fault, each field lies in its store.
 pub fn fields_lie_in_their_stores()
@@ -21,6 +21,11 @@ pub fn questions_with_a_field_have_it()
 /// filled with zeros.
 pub fn a_taken_value_is_read_back()
     ensures { ReadsBack }
+{}
+
+/// What is read of the field of a question once it has taken what was offered names the values of options that were offered.
+pub fn a_taken_value_names_what_was_offered()
+    ensures { NamesWhatWasOffered }
 {}
 
 /// What a question takes are as many bytes as its field has.

@@ -1,6 +1,6 @@
 //! Lists of values of options.
 
-ghost use Rattle.std.specs.Prelude.{◌≡◌, ◌≤◌, ◌==◌, [], OnOk, length, take};
+ghost use Rattle.std.specs.Prelude.{◌≡◌, ◌≤◌, ◌==◌, OnOk, length, take};
 ghost use Rattle.std.specs.List.{list_any};
 ghost use Rattle.hii_questions.specs.code.ChoiceViews.{choice_values};
 ghost use Rattle.hii_questions.specs.code.Fitting.{Tells};
@@ -30,7 +30,7 @@ pub(crate) fn check_list(list: ListType<'_>, items: Items<'_>) -> Result<(), Den
 // Refuses an element that no option has, or that stands before itself in a list that is a set.
 fn check_elements(list: ListType<'_>, items: Items<'_>) -> Result<(), DenialKind>
     requires { length (items_left items) ≤ 65535 }
-    ensures { Tells (element_denial (choice_values list.entry.choices) list.entry.unique []
+    ensures { Tells (element_denial (choice_values list.entry.choices) list.entry.unique
         (items_left items.entry)) result }
 {
     let mut count = 0;

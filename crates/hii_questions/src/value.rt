@@ -41,7 +41,7 @@ pub fn read_value<'s>(question: Question<'_>, stores: &'s Stores) -> Value<'s>
 pub fn check_value<'i>(question: Question<'_>, input: Input<'i>) -> Result<Field<'i>, ValueDenial>
     requires { IsGiven (question_view question).field input }
     ensures given { Checks (question_view question.entry) (offer_of input.entry) result }
-    ensures items { IfOk result (NamesItems (question_view question.entry)) }
+    ensures items { IfOk result (NamesItems (question_view question.entry) (offer_of input.entry)) }
 {
     let denied = |kind| ValueDenial::by(kind, question.place());
     let Some(field) = question.field else {

@@ -9,7 +9,9 @@ use Rattle.ifr_opcodes.specs.declared.codes.TheConstants.{FORM_SET, FORM, REF, O
 use Rattle.ifr_opcodes.specs.Statements.{is_question_number, is_statement_number}
 use Rattle.ifr_scopes.specs.Kinds.{is_store_number}
 
--- the nodes of the forest that a package spells, by place
+-- The nodes of the forest that a package spells, by place. That `tree_of` gives this forest need not be believed: of a checked
+-- package `SpellsForest bytes (tree_of bytes)` is told (IsChecked), and the laws `one_forest_is_spelled` and
+-- `the_tree_is_the_spelled_forest` say that no other forest is spelled.
 abbrev pub nodes_of : List ℕ → List Placed
 nodes_of bytes = nodes (tree_of bytes)
 

@@ -4,6 +4,7 @@ ghost use Rattle.std.specs.Prelude.{◌≡◌, ℕ, ◌+◌, ◌≤◌, ◌<◌,
 ghost use Rattle.hii_bytes.specs.Faults.{HasNone};
 ghost use Rattle.hii_bytes.specs.declared.cause.Cause.{Cause};
 ghost use Rattle.ifr_opcodes.specs.Forest.{Forest, none, node, flat, AreNodes, SpellsForest, Ancestor, Placed, as_ancestor, nodes, places};
+ghost use Rattle.ifr_opcodes.specs.Reading.{tree_of};
 ghost use Rattle.ifr_scopes.specs.Framing.{IsFramingFault};
 ghost use Rattle.ifr_scopes.specs.code.Checked.{AreNodesOf, IsNodeOf};
 ghost use Rattle.ifr_scopes.specs.Guards.{guards};
@@ -21,6 +22,11 @@ use crate::framing::check_framing;
 pub fn one_forest_is_spelled()
     ensures { (bytes : List ℕ) (f g : Forest) → SpellsForest bytes f
         → SpellsForest bytes g → f ≡ g }
+{}
+
+/// Where a package spells a forest, the tree that its bytes are read as is this forest.
+pub fn the_tree_is_the_spelled_forest()
+    ensures { (bytes : List ℕ) (f : Forest) → SpellsForest bytes f → tree_of bytes ≡ f }
 {}
 
 /// The places of the nodes of a package rise.

@@ -62,7 +62,8 @@ impl<'a> Locks<'a> {
     pub(crate) fn around(ifr: &'a [u8], place: u32) -> Locks<'a>
         requires checked { IsChecked ifr.now }
         requires there { has_node ifr.now place ≡ true }
-        ensures { locks_left result ≡ locks (nodes_of ifr.now) (node_in ifr.now place) }
+        ensures locks { locks_left result ≡ locks (nodes_of ifr.now) (node_in ifr.now place) }
+        ensures of_package { result.ifr.now ≡ ifr.now }
     {
         Locks {
             ifr,

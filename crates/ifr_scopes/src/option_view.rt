@@ -54,8 +54,9 @@ impl<'a> OptionView<'a> {
     /// The LOCKED that lock it, by what they stand in, the outermost first, then by place; found by walks from the package's
     /// start.
     pub fn locks(self) -> Locks<'a>
-        ensures { locks_left result
+        ensures locks { locks_left result
             ≡ locks (nodes_of (option_package self.entry)) (option_node self.entry) }
+        ensures of_package { result.ifr.now ≡ option_package self.entry }
     {
         Locks::around(self.node.ifr, self.node.op.place)
     }

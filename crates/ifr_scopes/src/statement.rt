@@ -176,8 +176,9 @@ impl<'a> Statement<'a> {
     /// The LOCKED that lock it, by what they stand in, the outermost first, then by place; found by walks from the package's
     /// start.
     pub fn locks(self) -> Locks<'a>
-        ensures { locks_left result
+        ensures locks { locks_left result
             ≡ locks (nodes_of (statement_package self.entry)) (statement_node self.entry) }
+        ensures of_package { result.ifr.now ≡ statement_package self.entry }
     {
         Locks::around(self.node.ifr, self.node.op.place)
     }

@@ -1,7 +1,8 @@
 -- Worked values of the definitions.
 use Rattle.std.proofs.Common.{◌≡◌, ℕ, List, [], ◌∷◌, ◌++◌, replicate, Option, Some, None, refl, lit≤}
 use Rattle.hii_bytes.specs.Numbers.{number_in}
-use Rattle.sibt_strings.specs.Blocks.{Texts, Duplicate, Skip, Extension, End, Whole, CutText, BadBlock, cut_text, texts_in, front_of}
+use Rattle.sibt_strings.specs.Blocks.{Texts, Duplicate, Extension, End, Whole, CutText, BadBlock, cut_text, texts_in, front_of}
+use Rattle.sibt_strings.specs.Spelling.{string_ucs2, skip1, duplicate}
 use Rattle.sibt_strings.specs.Strings.{Speaks, text_at, texts_of}
 use Rattle.sibt_strings.specs.Units.{chars_of_units}
 
@@ -24,8 +25,8 @@ unfolding number_in cut_text texts_in front_of bytes blocks texts
 says = record {
   fixed = record { long = lit≤ tt; low = lit≤ tt; high = lit≤ tt };
   language = refl;
-  whole_blocks = Texts ((0x41 ∷ 0 ∷ []) ∷ []) ∷ Skip 3 ∷ Texts ((0x00 ∷ 0xD8 ∷ 0xF1 ∷ 0xFF ∷ 0x42 ∷ 0 ∷ []) ∷ []) ∷ Duplicate 1 ∷ Duplicate 9 ∷ [];
-  are = (0 ∷ [], (_, refl, (_, refl, (_, refl, (_, refl, (_, refl, refl))))), refl);
+  whole_blocks = string_ucs2 (0x41 ∷ 0 ∷ []) ∷ skip1 3 ∷ string_ucs2 (0x00 ∷ 0xD8 ∷ 0xF1 ∷ 0xFF ∷ 0x42 ∷ 0 ∷ []) ∷ duplicate (1 ∷ 0 ∷ []) ∷ duplicate (9 ∷ 0 ∷ []) ∷ [];
+  are = record { fitting = ((refl, tt), (tt, ((refl, (refl, (refl, tt))), (refl, (refl, tt))))); rest = []; whole = refl };
   texts = refl;
 }
 

@@ -1,5 +1,5 @@
 -- The least fault of a string package.
-use Rattle.std.proofs.Common.{◌≡◌, ◌≢◌, ◌⊎◌, ℕ, ◌+◌, ◌<◌, ◌≤◌, List, length, Option, None, Some, true, false, refl, ap, sym, ◌∙◌, subst, inl, inr, arith}
+use Rattle.std.proofs.Common.{◌≡◌, ◌≢◌, ◌⊎◌, ℕ, ◌+◌, ◌<◌, ◌≤◌, List, length, map, Option, None, Some, true, false, refl, ap, sym, ◌∙◌, subst, inl, inr, arith}
 use Rattle.std.proofs.lemmas.Bool.{false≢true, true≢false}
 use Rattle.std.specs.Option.{option_map, is_some}
 use Rattle.hii_bytes.specs.declared.cause.Cause.{Cause}
@@ -8,10 +8,12 @@ use Rattle.hii_bytes.specs.declared.cause.Fault.{Fault}
 use Rattle.hii_bytes.specs.Cause.{number_of}
 use Rattle.hii_bytes.specs.Faults.{IsLeast, HasNone}
 use Rattle.sibt_strings.specs.Blocks.{Block, Front, End, CutText, BadBlock, front_of, AreBlocks, StandsAt}
+use Rattle.sibt_strings.specs.Spelling.{said}
 use Rattle.sibt_strings.specs.code.Ends.{Stops}
 use Rattle.sibt_strings.specs.Strings.{Spoken, Speaks, texts_of, HasFixedPart, IsStringFault, IsStringFaultIn, info_offset, blocks_of, language_of}
 use Rattle.sibt_strings.specs.code.Views.{blocks_in, spoken_in, HoldsBlocks}
 use Rattle.sibt_strings.proofs.BlockLemmas.{one_stop, one_reading, held_are}
+use Rattle.sibt_strings.proofs.SpellingLemmas.{blocks_read, blocks_found}
 
 -- whole blocks lead to one place, and one thing stands there
 same_stand : (blocks : List ℕ) (f g : Front) (a b : ℕ) → StandsAt blocks f a → StandsAt blocks g b → Stops f → Stops g → (a ≡ b) × (f ≡ g)
@@ -120,7 +122,7 @@ some_mapped f (Some x) l e h = λ n. some_none (f x) (e ∙ n)
 -- a string package that says something has no fault
 pub no_string_fault : (bytes : List ℕ) (spoken : Spoken) → Speaks bytes spoken → HasNone (IsStringFault bytes)
 no_string_fault bytes spoken h cause place f = elim (other_fault bytes cause place h.fixed f) [
-  | inl g ↦ no_block_fault bytes h.whole_blocks h.are cause place g
+  | inl g ↦ no_block_fault bytes (map said h.whole_blocks) (blocks_read (blocks_of bytes) h.whole_blocks h.are) cause place g
   | inr x ↦ some_none spoken.language (sym h.language ∙ x.2)
 ]
   where
@@ -133,13 +135,9 @@ refused_unspoken bytes start spoken fault speaks least = no_string_fault bytes s
 
 -- a language and whole blocks say something
 pub spoken_by_parts : (bytes language blocks : List ℕ) → HasFixedPart bytes → blocks ≡ blocks_of bytes → language_of bytes ≡ Some language → HoldsBlocks blocks → Speaks bytes (spoken_in language blocks)
-spoken_by_parts bytes language blocks fixed same language_is held = record {
-  fixed = fixed;
-  language = language_is;
-  whole_blocks = blocks_in (length blocks) blocks;
-  are = subst (λ b. AreBlocks b (blocks_in (length blocks) blocks)) same (held_are blocks held);
-  texts = refl;
-}
+spoken_by_parts bytes language blocks fixed same language_is held =
+    let spelled = blocks_found (blocks_of bytes) (blocks_in (length blocks) blocks) (subst (λ b. AreBlocks b (blocks_in (length blocks) blocks)) same (held_are blocks held)) in
+    record { fixed = fixed; language = language_is; whole_blocks = spelled.spelled; are = spelled.are; texts = ap texts_of (sym spelled.say) }
 
 -- the one fault where the blocks are whole
 pub only_language : (bytes blocks : List ℕ) (start : ℕ) → HasFixedPart bytes → blocks ≡ blocks_of bytes → language_of bytes ≡ None → HoldsBlocks blocks →
@@ -171,7 +169,7 @@ later_than bytes cause at bad later other place f =
 pub one_spoken : (bytes : List ℕ) (spoken other : Spoken) → Speaks bytes spoken → Speaks bytes other → spoken ≡ other
 one_spoken bytes spoken other a b =
     let language : spoken.language ≡ other.language = same_some (sym a.language ∙ b.language) in
-    let texts : spoken.texts ≡ other.texts = a.texts ∙ ap texts_of (one_reading (blocks_of bytes) a.whole_blocks b.whole_blocks a.are b.are) ∙ sym b.texts in
+    let texts : spoken.texts ≡ other.texts = a.texts ∙ ap texts_of (one_reading (blocks_of bytes) (map said a.whole_blocks) (map said b.whole_blocks) (blocks_read (blocks_of bytes) a.whole_blocks a.are) (blocks_read (blocks_of bytes) b.whole_blocks b.are)) ∙ sym b.texts in
     ap (λ l. record { language = l; texts = spoken.texts }) language ∙ ap (λ t. record { language = other.language; texts = t }) texts
   where
     same_some : {x y : List ℕ} → Some x ≡ Some y → x ≡ y

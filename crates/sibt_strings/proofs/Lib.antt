@@ -2,6 +2,7 @@ pub mod EndLemmas
 pub mod UnitLemmas
 pub mod TextLemmas
 pub mod BlockLemmas
+pub mod SpellingLemmas
 pub mod IdLemmas
 pub mod FaultLemmas
 pub mod TableLemmas

@@ -1,4 +1,5 @@
 pub mod Blocks
+pub mod Spelling
 pub mod Strings
 pub mod Units
 pub mod code

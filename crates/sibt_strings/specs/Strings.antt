@@ -3,7 +3,8 @@ use Rattle.std.specs.Prelude.{◌≡◌, ◌⊎◌, ℕ, zero, suc, ◌+◌, ◌
 use Rattle.hii_bytes.specs.declared.cause.Cause.{Cause}
 use Rattle.hii_bytes.specs.declared.cause.Cause.TheVariants.{StringHeader, StringBlock, StringText, LanguageText}
 use Rattle.hii_bytes.specs.Numbers.{number_in}
-use Rattle.sibt_strings.specs.Blocks.{Block, Texts, Duplicate, Skip, Extension, CutText, BadBlock, AreBlocks, StandsAt}
+use Rattle.sibt_strings.specs.Blocks.{Block, Texts, Duplicate, Skip, Extension, CutText, BadBlock, StandsAt}
+use Rattle.sibt_strings.specs.Spelling.{WholeBlock, said, AreSpelled}
 
 -- What a string package says: its language, and for each string id from 1 on the bytes of its text, if it has one.
 pub record Spoken : Type 0 where
@@ -58,9 +59,9 @@ pub record HasFixedPart (bytes : List ℕ) : Type 0 where
 pub record Speaks (bytes : List ℕ) (spoken : Spoken) : Type 0 where
   pub fixed : HasFixedPart bytes
   pub language : language_of bytes ≡ Some spoken.language
-  pub whole_blocks : List Block
-  pub are : AreBlocks (blocks_of bytes) whole_blocks
-  pub texts : spoken.texts ≡ texts_of whole_blocks
+  pub whole_blocks : List WholeBlock
+  pub are : AreSpelled (blocks_of bytes) whole_blocks
+  pub texts : spoken.texts ≡ texts_of (map said whole_blocks)
 
 -- The rows of the table of faults (own rule), with places in bytes from the package's front.
 abbrev pub IsStringFault : List ℕ → Cause → ℕ → Type 0

@@ -23,7 +23,8 @@ use Rattle.browser_core.specs.Renewed.{Shown, Write, field_write, pressed_if, ro
 use Rattle.browser_core.specs.State.{State}
 use Rattle.browser_core.specs.code.Counting.{counted_all}
 use Rattle.browser_core.specs.declared.reply.Reply.TheVariants.{Accepted}
-use Rattle.browser_core.specs.Opening.{IsBrowsable, layout_in}
+use Rattle.browser_core.specs.Opening.{layout_in}
+use Rattle.browser_core.specs.code.Browsable.{IsBrowsable}
 use Rattle.browser_core.specs.Texts.{ok_text, count_text}
 use Rattle.browser_core.specs.Step.{Outcome, Taken, accepted, denied, no_question, warned_text, set_question, take_default, take_defaults, taken, row_of_form, form_of, press, show_form, follow, configuration_text, extract_from, route_to}
 

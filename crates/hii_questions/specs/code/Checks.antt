@@ -1,14 +1,10 @@
 -- What the check of a value tells.
-use Rattle.std.specs.Prelude.{◌≡◌, ◌<◌, ◌^◌, true, Some, Result, Ok, Err, List, Contains}
-use Rattle.hii_bytes.specs.Faults.{HasNone}
+use Rattle.std.specs.Prelude.{◌≡◌, ◌<◌, ◌^◌, Some, Result, Ok, Err, List, Contains}
 use Rattle.ifr_opcodes.specs.Fields.{kind_width, option_kind, option_value}
 use Rattle.ifr_opcodes.specs.Forest.{Placed}
-use Rattle.ifr_scopes.specs.Nodes.{is_question, options}
-use Rattle.hii_questions.specs.Answers.{value_of_bytes, named_values}
-use Rattle.hii_questions.specs.Faults.{IsQuestionFault}
 use Rattle.hii_questions.specs.Fields as fields
 use Rattle.hii_questions.specs.Fields.{Asked}
-use Rattle.hii_questions.specs.Fits.{fits_field}
+use Rattle.hii_questions.specs.Fits.{fits_field, values_offered}
 use Rattle.hii_questions.specs.Inputs.{Offer}
 use Rattle.hii_questions.specs.code.NewBytes.{new_bytes, new_items}
 use Rattle.hii_questions.specs.Types.{type_of}
@@ -32,9 +28,6 @@ Checks q offer (Err denial) =
 abbrev pub ValuesFit : List Placed → Type 0
 ValuesFit os = (o : Placed) → Contains os o → option_value o.op < 256 ^ kind_width (option_kind o.op)
 
--- The items of new bytes are the values of options that the question's value names once they are put, where no question among
--- the nodes has a fault and the options are those of a package.
-abbrev pub NamesItems : Asked → Field → Type 0
-NamesItems q new = (ns : List Placed) → HasNone (IsQuestionFault ns) →
-    Contains ns q.node → is_question q.node ≡ true → ValuesFit (options q.node)
-    → named_values q.node (value_of_bytes (type_of q.node) (Some (new_bytes new))) ≡ new_items new
+-- The items of new bytes are the values of options that were offered.
+abbrev pub NamesItems : Asked → Offer → Field → Type 0
+NamesItems q offer new = new_items new ≡ values_offered q.node offer

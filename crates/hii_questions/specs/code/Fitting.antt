@@ -1,12 +1,14 @@
 -- What the code makes of an input.
-use Rattle.std.specs.Prelude.{◌≡◌, ℕ, ◌≤◌, ◌==◌, Bool, true, false, if◌then◌else◌, pos, length, Option, Some, None, Result, Ok, Err, List, [], ◌∷◌, chars}
+use Rattle.std.specs.Prelude.{◌≡◌, ℕ, ◌≤◌, ◌==◌, ◌||◌, ◌&&◌, not, Bool, true, false, if◌then◌else◌, pos, length, Option, Some, None, Result, Ok, Err, List, [], ◌∷◌, ◌++◌, chars}
+use Rattle.std.specs.List.{list_any}
 use Rattle.hii_questions.specs.FieldTypes.{FieldType, checkbox, numeric, one_of, text, ordered_list}
-use Rattle.hii_questions.specs.Inputs.{Offer, whole, raw, utf8, units, listed, elements, bits_of, fitting_bits, offered}
+use Rattle.hii_questions.specs.Inputs.{Offer, whole, raw, utf8, units, listed, elements, bits_of, fitting_bits, is_offered, offered}
 use Rattle.hii_questions.specs.Items.{items_in, filled}
 use Rattle.hii_questions.specs.code.Contents.{content_bytes}
 use Rattle.hii_questions.specs.code.ItemsLeft.{items_left}
 use Rattle.hii_questions.specs.declared.content.Content.{Content}
 use Rattle.hii_questions.specs.declared.denial.DenialKind.{DenialKind}
+use Rattle.hii_questions.specs.declared.denial.DenialKind.TheVariants.{NoOption, Repeat}
 
 abbrev pub one_item : Option ℕ → List ℕ
 one_item None = []
@@ -26,10 +28,10 @@ offered_items (ordered_list width most unique some values) (listed ns) = ns
 offered_items (ordered_list width most unique some values) (elements bytes) = items_in width bytes
 offered_items t offer = []
 
--- whether the items of a field name options
+-- whether the items of a field are values of options
 abbrev pub names_options : FieldType → Bool
 names_options checkbox = false
-names_options (numeric signed width minimum maximum) = true
+names_options (numeric signed width minimum maximum) = false
 names_options (one_of width values) = true
 names_options (text minimum maximum) = false
 names_options (ordered_list width most unique some values) = true
@@ -40,6 +42,14 @@ Gives size wanted items (Ok content) =
     (wanted ≡ Ok (filled size (content_bytes content))) × (length (content_bytes content) ≤ size)
     × (items_left content.items ≡ items)
 Gives size wanted items (Err kind) = wanted ≡ Err kind
+
+-- why one of some elements may not be that stand behind others, if one may not
+abbrev pub denial_behind : List ℕ → Bool → List ℕ → List ℕ → Option DenialKind
+denial_behind values unique before [] = None
+denial_behind values unique before (n ∷ ns) =
+    if n == 0 || not (is_offered values n) then Some NoOption
+    else if unique && list_any (λ earlier. earlier == n) before then Some Repeat
+    else denial_behind values unique (before ++ n ∷ []) ns
 
 -- why a list is refused, if it is
 abbrev pub Tells : Option DenialKind → Result (Unit {0}) DenialKind → Type 0

@@ -1,11 +1,12 @@
 -- Laws of questions and their fields.
-use Rattle.std.specs.Prelude.{◌≡◌, ◌⊎◌, ℕ, ◌+◌, ◌-◌, ◌*◌, ◌^◌, ◌≤◌, ◌<◌, ◌==◌, not, ℤ, pos, negsuc, suc, true, Option, Some, None, Ok, List, length, slice_index, chars, filter, Contains, ⊤}
+use Rattle.std.specs.Prelude.{◌≡◌, ◌⊎◌, ℕ, ◌+◌, ◌-◌, ◌*◌, ◌^◌, ◌≤◌, ◌<◌, ◌==◌, not, ℤ, pos, negsuc, suc, true, Option, Some, None, Ok, List, [], ◌∷◌, length, slice_index, chars, filter, Contains, ⊤}
 use Rattle.hii_bytes.specs.Faults.{HasNone}
 use Rattle.ifr_opcodes.specs.Forest.{Placed}
 use Rattle.ifr_opcodes.specs.Fields.{question_id}
 use Rattle.ifr_expr.specs.Values as values
 use Rattle.ifr_expr.specs.Values.{Value, undefined, boolean, natural, buffer}
-use Rattle.ifr_scopes.specs.Nodes.{is_question}
+use Rattle.ifr_scopes.specs.Accepted.{IsAccepted}
+use Rattle.ifr_scopes.specs.Nodes.{nodes_of, is_question}
 use Rattle.hii_varstore.specs.code.Ranges.{HasRange}
 use Rattle.hii_varstore.specs.StoreNodes.{layout_of}
 use Rattle.hii_varstore.specs.Stores.{StoreMap, shape_of, with_bytes}
@@ -13,7 +14,7 @@ use Rattle.hii_questions.specs.Answers.{value_of_field}
 use Rattle.hii_questions.specs.Faults.{IsQuestionFault}
 use Rattle.hii_questions.specs.Fields.{Field, Asked, field_of, question_with, has_field}
 use Rattle.hii_questions.specs.FieldTypes.{FieldType, checkbox, numeric, one_of, text, ordered_list}
-use Rattle.hii_questions.specs.Fits.{fits}
+use Rattle.hii_questions.specs.Fits.{fits, values_offered}
 use Rattle.hii_questions.specs.Inputs.{Offer, whole, raw, utf8, units, listed, elements, field, read_as}
 use Rattle.hii_questions.specs.Items.{items_in, spelled, filled}
 use Rattle.hii_questions.specs.Types.{type_of}
@@ -100,3 +101,21 @@ abbrev pub LeavesOthers : Type 0
 LeavesOthers = (m : StoreMap) (id offset : ℕ) (bytes : List ℕ) (n : Placed) (f : Field) →
     (f.store ≡ id → (f.offset + f.width ≤ offset) ⊎ (offset + length bytes ≤ f.offset)) →
     value_of_field (with_bytes m id offset bytes) n (Some f) ≡ value_of_field m n (Some f)
+
+-- the values of options that the value of a field names: a number, or the elements of a list
+abbrev pub named_values : Option FieldType → Value → List ℕ
+named_values (Some (one_of width vs)) (natural n) = n ∷ []
+named_values (Some (ordered_list width most unique some vs)) (buffer bytes) = items_in width bytes
+named_values t value = []
+
+-- What is read of the field of a question of a package, once it has taken what was offered, names the values of options that were
+-- offered.
+abbrev pub NamesWhatWasOffered : Type 0
+NamesWhatWasOffered =
+    (m : StoreMap) (ifr : List ℕ) (n : Placed) (f : Field) (offer : Offer) (bytes : List ℕ)
+    → AreBytes ifr → IsAccepted ifr → HasNone (IsQuestionFault (nodes_of ifr)) →
+    Contains (nodes_of ifr) n → is_question n ≡ true → field_of (nodes_of ifr) n ≡ Some f
+    → fits (nodes_of ifr) n offer ≡ Ok bytes →
+    HasRange (shape_of m) f.store f.offset f.width →
+    named_values (type_of n) (value_of_field (with_bytes m f.store f.offset bytes) n (Some f))
+    ≡ values_offered n offer

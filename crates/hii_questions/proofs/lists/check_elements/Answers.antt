@@ -1,11 +1,19 @@
 use Rattle.std.proofs.Common.{◌≡◌, ◌==◌, ◌&&◌, ℕ, ◌∷◌, [], ◌++◌, false, List, length, take, sym, ap, ◌∙◌, arith, refl, append_assoc}
 use Rattle.std.specs.List.{list_any}
 use Rattle.hii_questions.specs.code.ChoiceViews.{choice_values}
-use Rattle.hii_questions.specs.Inputs.{element_denial}
+use Rattle.hii_questions.specs.code.Fitting.{denial_behind}
 use Rattle.hii_questions.specs.code.ItemsLeft.{items_left}
-use Rattle.hii_questions.proofs.ListLemmas.{before_more, element_more}
+use Rattle.hii_questions.proofs.ListLemmas.{before_more, element_more, first_denied}
 use Rattle.hii_questions.proofs.lists.check_elements.Goals as goal
 use Rattle.hii_questions.proofs.lists.check_elements.Goals.{else-list-via-then-list+else-stands_before, else-list-via-else-list}
+
+pub loop-item-init : goal.loop-item-init
+loop-item-init c =
+    let vs = choice_values c.args.list.choices in
+    let unique = c.args.list.unique in
+    let all = items_left c.args.items in
+    let given : items_left c.into_iter-item-iterator.result ≡ all = ap items_left c.into_iter-item-iterator.ensures.into_iter_gives in
+    record { can = tt; ends = tt; all = given; counted = let e = ap (length {A = ℕ}) given in omega (arith, e); same = ap (denial_behind vs unique []) given ∙ sym (first_denied vs unique all) }
 
 pub loop-item-preserved : goal.loop-item-preserved
 loop-item-preserved c =
@@ -28,6 +36,6 @@ loop-item-preserved c =
       ends = tt;
       all = ap (λ (l : List ℕ). l ++ rest) before ∙ append_assoc (take count all) (item ∷ []) rest ∙ ap (λ (l : List ℕ). take count all ++ l) (sym steps) ∙ was.all;
       counted = let e = ap (length {A = ℕ}) steps in let k = was.counted in omega (arith, e, k);
-      same = ap (λ (l : List ℕ). element_denial (choice_values list.choices) list.unique l rest) before ∙ sym more
-          ∙ ap (element_denial (choice_values list.choices) list.unique (take count all)) (sym steps) ∙ was.same;
+      same = ap (λ (l : List ℕ). denial_behind (choice_values list.choices) list.unique l rest) before ∙ sym more
+          ∙ ap (denial_behind (choice_values list.choices) list.unique (take count all)) (sym steps) ∙ was.same;
     }

@@ -1,6 +1,7 @@
-use Rattle.std.proofs.Common.{◌≡◌, ◌+◌, [], ◌++◌, length, take}
+use Rattle.std.proofs.Common.{◌≡◌, ◌+◌, ◌++◌, length, take}
 use Rattle.hii_questions.specs.code.ChoiceViews.{choice_values}
 use Rattle.hii_questions.specs.Inputs.{element_denial}
+use Rattle.hii_questions.specs.code.Fitting.{denial_behind}
 use Rattle.hii_questions.specs.code.ItemsLeft.{items_left}
 use Rattle.hii_questions.proofs.lists.check_elements.Given as goal
 
@@ -11,6 +12,6 @@ invariant-loop-item l = record {
   ends : goal.iterator-loop-item.is_finite l.item-iterator;
   all : take l.count (items_left l.items) ++ items_left l.item-iterator ≡ items_left l.items;
   counted : l.count + length (items_left l.item-iterator) ≡ length (items_left l.items);
-  same : element_denial (choice_values l.list.choices) l.list.unique (take l.count (items_left l.items)) (items_left l.item-iterator)
-      ≡ element_denial (choice_values l.list.choices) l.list.unique [] (items_left l.items);
+  same : denial_behind (choice_values l.list.choices) l.list.unique (take l.count (items_left l.items)) (items_left l.item-iterator)
+      ≡ element_denial (choice_values l.list.choices) l.list.unique (items_left l.items);
 }

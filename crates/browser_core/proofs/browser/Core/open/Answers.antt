@@ -37,6 +37,11 @@ returns-in_err-forms-clause-accepted c =
     let p = err_from_is_err_and c.from_residual-in_err-forms.result c.from_residual-in_err-forms.ensures.1 in
     λ start o. rw (p.1, p.2) (only_memory c.args.list.now c.args.forms c.args.stores.now c.args.lang.now start _ o (refuses_package c.args.list.now c.args.forms c.args.stores.now c.in_ok-found.found.forms.bytes.now _ (is_found c.args.list.now c.args.forms c.in_ok-found.found.packages (entry_of c.in_ok-found.found.forms) _ c.in_ok-languages.languages c.in_ok-found.ensures.spelled c.in_ok-found.ensures.found refl c.in_ok-languages.ensures.read) c.in_err-forms.ensures.refused))
 
+pub returns-in_err-varstores-clause-accepted : goal.returns-in_err-varstores-clause-accepted
+returns-in_err-varstores-clause-accepted c =
+    let p = err_from_is_err_and c.from_residual-in_err-varstores.result c.from_residual-in_err-varstores.ensures.1 in
+    λ start o. rw (p.1, p.2) refl
+
 pub returns-in_err-layout-clause-refused : goal.returns-in_err-layout-clause-refused
 returns-in_err-layout-clause-refused c =
     let p = err_from_is_err_and c.from_residual-in_err-layout.result c.from_residual-in_err-layout.ensures.1 in

@@ -1,3 +1,4 @@
+use Rattle.std.proofs.Common.{inl}
 use Rattle.std.proofs.lemmas.Result.{err_from_is_err_and}
 use Rattle.browser_core.proofs.session.Session.open.Goals as goal
 
@@ -5,6 +6,11 @@ pub returns-in_err-core-clause-accepted : goal.returns-in_err-core-clause-accept
 returns-in_err-core-clause-accepted c =
     let p = err_from_is_err_and c.from_residual.result c.from_residual.ensures.1 in
     λ start o. rw (p.1, p.2) (c.in_err-core.ensures.accepted start o)
+
+pub returns-in_err-line-clause-refused : goal.returns-in_err-line-clause-refused
+returns-in_err-line-clause-refused c =
+    let p = err_from_is_err_and c.from_residual-in_err-line.result c.from_residual-in_err-line.ensures.1 in
+    rw (p.1, p.2) (inl c.in_err-line.ensures.memory)
 
 pub returns-in_err-line-clause-accepted : goal.returns-in_err-line-clause-accepted
 returns-in_err-line-clause-accepted c =
