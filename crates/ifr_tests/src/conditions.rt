@@ -2,7 +2,7 @@ ghost use Rattle.std.specs.Prelude.{◌≤◌, ◌==◌, if◌then◌else◌, le
 
 use crate::packages::{condition, forms_of, guarded};
 use hii_bytes::Cause;
-use ifr_expr::{Answers, Name, Names, RuleReference, Value};
+use ifr_expr::{Answers, Expr, Name, Names, RuleReference, Value};
 use std::alloc::Global;
 use std::test::*;
 
@@ -187,5 +187,22 @@ fn references(rt: HostRuntime) -> Result<(), Fail> {
         assert_eq!(rt; references.next(), Some(RuleReference { id, place }));
     }
     assert!(rt; references.next().is_none());
+    Ok(())
+}
+
+// The question 7 answers 1, and an opcode too short for that.
+const WHOLE: [u8; 6] = [0x12, 6, 7, 0, 1, 0];
+
+const SHORT: [u8; 4] = [0x12, 4, 7, 0];
+
+#[test]
+fn an_expression_by_itself(rt: HostRuntime) -> Result<(), Fail> {
+    let whole = Expr::check(&WHOLE, 0, 6)?;
+    assert_eq!(rt; (whole.len(), whole.support().next()), (1, Some(7)));
+    let fault = Expr::check(&SHORT, 0, 4).err();
+    assert_eq!(rt;
+        fault.map(|fault| (fault.cause, fault.place)),
+        Some((Cause::OpSize, 0))
+    );
     Ok(())
 }

@@ -30,6 +30,15 @@ fn guards_in_no_question(rt: HostRuntime) -> Result<(), Fail> {
     Ok(())
 }
 
+#[test]
+fn the_form_set_is_the_root(rt: HostRuntime) -> Result<(), Fail> {
+    let (bytes, len) = with(&[]);
+    let forms = forms_of(rt.alloc(), &bytes[..len])?;
+    let form_set = forms.formset();
+    assert_eq!(rt; (form_set.place(), form_set.op().title()), (4, 0x4321));
+    Ok(())
+}
+
 // Three questions and a second form.
 const QUESTIONS: [u8; 50] = [
     0x06, 14, 2, 0, 3, 0, 0, 0, 1, 0, 4, 0, 1, 2, // a question of the id 0, at 33
