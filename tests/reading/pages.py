@@ -16,11 +16,32 @@ NO_ID = {"SUBTITLE", "TEXT", "RESET_BUTTON"}
 HANGUL_WITHOUT_WIDTH = {*range(0x1160, 0x1200), *range(0xD7B0, 0xD7C7), *range(0xD7CB, 0xD7FC)}
 # Blocks of ideographs, whose unassigned characters are wide as well.
 IDEOGRAPHS = {*range(0x3400, 0x4DC0), *range(0x4E00, 0xA000), *range(0xF900, 0xFB00)}
+# Characters whose columns `unicode_width` tells otherwise than this Python's edition of Unicode: what joins the character before it
+# or is never shown, marks that stand by themselves, what newer editions have made wide, and two vowels of Khmer.
+ODD_COLUMNS = {
+    0: "05C8-05C9 0897 09BE 09D7 0B3E 0B53-0B54 0B57 0BBE 0BD7 0CC0 0CC2 0CC7-0CC8 0CCA-0CCB 0CD5-0CD6 0D3E 0D4E 0D57 0DCF 0DDF 0ECE "
+       "1715 1734 1ACF-1AF0 1B35 1B3B 1B3D 1B43-1B44 1BAA 1BF2-1BF3 2065 302E-302F 3164 A8FA A953 A9C0 FFA0 FFF3-FFF8",
+    1: "0600-0604 06DD 2D7F FFF9-FFFB",
+    2: "17A4 2630-2637 268A-268F 2FFC-2FFF 31E4-31E5 31EF 4DC0-4DFF",
+    3: "17D8",
+}
+
+
+def codes_in(ranges):
+    """The codes of characters in ranges of hexadecimal numbers."""
+    for part in ranges.split():
+        first, _, last = part.partition("-")
+        yield from range(int(first, 16), int(last or first, 16) + 1)
+
+
+ODD = {code: width for width, ranges in ODD_COLUMNS.items() for code in codes_in(ranges)}
 
 
 def columns(character):
     """The columns that a character takes: by its East Asian Width, none for one without a width."""
     category, code = unicodedata.category(character), ord(character)
+    if code in ODD:
+        return ODD[code]
     if category == "Cn":
         return 2 if code in IDEOGRAPHS else 1
     if category in ("Mn", "Me", "Cf") or code in HANGUL_WITHOUT_WIDTH:
