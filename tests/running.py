@@ -66,7 +66,8 @@ def cases_below(folder):
 
 
 def examples():
-    return [Example(os.path.join(EXAMPLES, name)) for name in sorted(os.listdir(EXAMPLES)) if name != "README.md"]
+    folders = [os.path.join(EXAMPLES, name) for name in sorted(os.listdir(EXAMPLES))]
+    return [Example(folder) for folder in folders if os.path.isfile(os.path.join(folder, "script"))]
 
 
 def make_cases(folder, *words):

@@ -13,12 +13,13 @@ ghost use Rattle.ifr_scopes.specs.Nodes.{nodes_of, is_form};
 ghost use Rattle.ifr_scopes.specs.References.{form_with};
 ghost use Rattle.ifr_defaults.specs.Defaults as defaults;
 ghost use Rattle.hii_commands.specs.Meaning.{order_of, HasList};
+ghost use Rattle.hii_languages.specs.code.Views.{choice_of};
 ghost use Rattle.hii_commands.specs.Orders.{DiscardChanges};
 ghost use Rattle.hii_varstore.specs.Stores.{shape_of};
 ghost use Rattle.hii_questions.specs.Changes.{field_bytes};
-ghost use Rattle.hii_questions.specs.Fields.{question_with};
+ghost use Rattle.hii_questions.specs.Fields.{question_with, questions};
 ghost use Rattle.hii_questions.specs.code.Differing.{differing_left};
-ghost use Rattle.hii_questions.specs.code.LyingIn.{LiesIn};
+ghost use Rattle.hii_questions.specs.code.LyingIn.{LiesIn, LieIn};
 ghost use Rattle.hii_questions.specs.code.Offers.{offer_of};
 ghost use Rattle.hii_questions.specs.code.Views.{question_node, question_view};
 ghost use Rattle.guard_policy.specs.Policy.{fixed, unsubmitted};
@@ -274,6 +275,10 @@ impl<'a> Core<'a> {
         ensures world { pages.world_of result ≡ world_of self.now.state }
         ensures stores { result.stores.now ≡ self.now.state.working }
         ensures texts { pages.texts_of result ≡ texts self.now.state }
+        ensures spoken { result.languages.now ≡ self.now.state.spoken }
+        ensures language { choice_of result.choice ≡ self.now.state.language }
+        ensures fields { LieIn (shape_of self.now.state.working)
+            (questions (nodes_of self.now.state.ifr)) }
     {
         Page::new(
             self.form,

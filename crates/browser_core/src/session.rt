@@ -5,7 +5,12 @@ ghost use Rattle.std.specs.Io.KnownBytes.{Appends};
 ghost use Rattle.hii_bytes.specs.Faults.{Refuses, out_of_memory};
 ghost use Rattle.hii_bytes.specs.Watching.{pen_of, inner_of, has_failed, Tells};
 ghost use Rattle.hii_commands.specs.Meaning.{order_of, HasList};
+ghost use Rattle.hii_languages.specs.code.Views.{choice_of};
+ghost use Rattle.ifr_scopes.specs.Nodes.{nodes_of};
 ghost use Rattle.ifr_scopes.specs.code.Lists.{form_node};
+ghost use Rattle.hii_varstore.specs.Stores.{shape_of};
+ghost use Rattle.hii_questions.specs.Fields.{questions};
+ghost use Rattle.hii_questions.specs.code.LyingIn.{LieIn};
 ghost use Rattle.guard_policy.specs.code.Views.{bytes_of};
 ghost use Rattle.form_page.specs.code.PageViews as pages;
 ghost use Rattle.browser_core.specs.Renewed.{shown_after};
@@ -93,6 +98,10 @@ impl<'a> Session<'a> {
         ensures world { pages.world_of result ≡ world_of self.now.state }
         ensures stores { result.stores.now ≡ self.now.state.working }
         ensures texts { pages.texts_of result ≡ texts self.now.state }
+        ensures spoken { result.languages.now ≡ self.now.state.spoken }
+        ensures language { choice_of result.choice ≡ self.now.state.language }
+        ensures fields { LieIn (shape_of self.now.state.working)
+            (questions (nodes_of self.now.state.ifr)) }
     {
         self.core.page()
     }

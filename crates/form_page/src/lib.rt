@@ -19,8 +19,9 @@ mod value_chars;
 
 pub use option_texts::Elements;
 pub use page::Page;
-pub use row::Row;
+pub use row::{Row, put_row_value};
 pub use row_value::{Hexadecimal, RowValue};
 pub use rows::Rows;
 pub use shown::put_shown;
+pub use statement_value::numeric_value;
 pub use value_chars::RowValueChars;

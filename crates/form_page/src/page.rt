@@ -10,7 +10,9 @@ ghost use Rattle.guard_policy.specs.code.Views.{bytes_of, world};
 ghost use Rattle.form_page.specs.Pages as pages;
 
 use crate::listed::Listed;
+use crate::row_value::RowValue;
 use crate::rows::Rows;
+use crate::statement_value::statement_value;
 use guard_policy::{Conditions, Policy};
 use hii_languages::{Choice, Languages, Shown};
 use hii_questions::Questions;
@@ -50,7 +52,9 @@ impl<'a, 's, C: Conditions> Clone for Page<'a, 's, C> {
 impl<'a, 's, C: Conditions> Page<'a, 's, C> {
     ghost use Rattle.form_page.specs.code.PageViews.{texts_of, world_of};
     ghost use Rattle.form_page.specs.code.ListedViews.{listed_left};
+    ghost use Rattle.form_page.specs.code.RowViews.{value_text};
     ghost use Rattle.form_page.specs.code.Views.{rows_left};
+    ghost use Rattle.form_page.specs.RowValues.{value_shown};
 
     /// The page of a form of the policy's package, with texts in the chosen language. The questions are those of this package, and
     /// what is kept of its conditions tells whether they hold over the stores.
@@ -87,7 +91,7 @@ impl<'a, 's, C: Conditions> Page<'a, 's, C> {
     pub fn title(&self) -> Shown<'a>
         ensures { text_of result ≡ texts_of self.now (form_title (form_node self.now.form).op) }
     {
-        self.languages.text(self.choice, self.form.op().title())
+        self.text(self.form.op().title())
     }
 
     /// The rows of the page: one for each statement of the form that is not hidden.
@@ -100,6 +104,66 @@ impl<'a, 's, C: Conditions> Page<'a, 's, C> {
             listed: self.listed(),
             number: 1,
         }
+    }
+
+    /// What decides over the form set of the page.
+    pub fn policy(&self) -> Policy<'a, 's>
+        ensures { result ≡ self.now.policy }
+    {
+        self.policy
+    }
+
+    /// The questions of the form set.
+    pub fn questions(&self) -> &'s Questions<'a>
+        ensures same { result.now ≡ self.now.questions.now }
+        ensures own { result.now.ifr ≡ bytes_of self.now.policy }
+    {
+        self.questions
+    }
+
+    /// The stores over which the page is.
+    pub fn stores(&self) -> &'s Stores
+        ensures { result.now ≡ self.now.stores.now }
+    {
+        self.stores
+    }
+
+    /// What is kept of conditions, which tells whether they hold over the stores of the page.
+    pub fn conditions(&self) -> &'s C
+        ensures { TellsAll (C.holding result.now) (world_of self.now) }
+    {
+        self.conditions
+    }
+
+    /// The string packages of the page's texts.
+    pub fn languages(&self) -> &'s Languages<'a>
+        ensures { result.now ≡ self.now.languages.now }
+    {
+        self.languages
+    }
+
+    /// Which string package is chosen.
+    pub fn choice(&self) -> Choice
+        ensures { choice_of result ≡ choice_of self.now.choice }
+    {
+        self.choice
+    }
+
+    /// What is shown of a string id.
+    pub fn text(&self, id: u16) -> Shown<'a>
+        ensures { text_of result ≡ texts_of self.now id }
+    {
+        self.languages.text(self.choice, id)
+    }
+
+    /// What a statement of the form set shows between the brackets of a row, on whichever form it stands and whether it is seen or
+    /// not.
+    pub fn value_of(&self, statement: Statement<'a>) -> RowValue<'a, 's, C>
+        requires { IsNodeOf (bytes_of self.now.policy) (statement_node statement) }
+        ensures { value_text result ≡ value_shown (texts_of self.now) (world_of self.now)
+            self.now.stores.now (statement_node statement.entry) }
+    {
+        statement_value(*self, statement, self.policy.question(statement))
     }
 
     /// The statement of a row, numbered from 1, if the page has that row.

@@ -45,6 +45,15 @@ fn put_value<C: Conditions, W: Write>(
     }
 }
 
+/// Writes a value in UTF-8, as it stands between the brackets of a row.
+pub fn put_row_value<C: Conditions, W: Write>(value: RowValue<'_, '_, C>, out: &mut Watched<W>)
+    ensures { Puts W.contents out.old out.new (utf8 (value_text value.entry)) }
+{
+    let mut line = Line::new();
+    put_value(value, &mut line, out);
+    line.end(out);
+}
+
 fn put_id<W: Write>(question: Option<u16>, line: &mut Line, out: &mut Watched<W>)
     ensures { Adds (pen_of W.contents out.old) line.old (pen_of W.contents out.new) line.new
         (id_text question) }

@@ -33,7 +33,11 @@ fn checkbox_value<'a, 's, C: Conditions>(value: Value<'_>) -> RowValue<'a, 's, C
     }
 }
 
-fn numeric_value<'a, 's, C: Conditions>(op: NumericOp<'_>, value: Value<'_>) -> RowValue<'a, 's, C>
+/// What is shown of the value of a NUMERIC; of what is no number, nothing.
+pub fn numeric_value<'a, 's, C: Conditions>(
+    op: NumericOp<'_>,
+    value: Value<'_>,
+) -> RowValue<'a, 's, C>
     ensures { value_text result ≡ values.numeric_shown (op_bytes op.entry.op)
         (value_of value.entry) }
 {

@@ -1,14 +1,15 @@
 -- The index of the buffer stores.
-use Rattle.std.proofs.Common.{◌≡◌, ℕ, suc, ◌+◌, ◌^◌, ◌<◌, ◌≤◌, true, eqb, ltb, List, [], ◌∷◌, ◌++◌, length, map, take, get_or, Option, refl, ap, arith, inl, inr}
+use Rattle.std.proofs.Common.{◌≡◌, ℕ, suc, ◌+◌, ◌^◌, ◌<◌, ◌≤◌, true, eqb, ltb, List, [], ◌∷◌, ◌++◌, length, map, take, replicate, get_or, Option, refl, ap, arith, inl, inr}
 use Rattle.std.specs.List.{AllByRecursion, list_any, position_from}
 use Rattle.std.specs.Ordering.{nat_cmp, is_eq}
 use Rattle.hii_bytes.specs.code.IdTables.{number_with}
 use Rattle.hii_bytes.specs.declared.id_table.IdEntry.{IdEntry}
-use Rattle.std.proofs.lemmas.List.{take_more, length-map, length-take-le}
+use Rattle.std.proofs.lemmas.List.{take_more, length-map, length-take-le, length-replicate}
 use Rattle.std.proofs.lemmas.Map.Steps.{length-le_from_distinct_below}
 use Rattle.std.proofs.lemmas.Bool.{cases_Bool, eqb-true, ne_eqb, ltb-true}
 use Rattle.hii_varstore.specs.declared.buffer.Buffer.{Buffer}
 use Rattle.hii_varstore.specs.code.Table.{AreBuffers, place_of}
+use Rattle.hii_varstore.specs.Stores.{buffer_of, zeros_in}
 
 -- the place of the store of an id, counted from `start`
 abbrev place_from : ℕ → List Buffer → ℕ → Option ℕ
@@ -76,3 +77,8 @@ entries_more bs i d within =
 -- a place among stores fits four bytes
 pub small_place : (bs : List Buffer) (i : ℕ) → AreBuffers bs → i < length bs → i < 2 ^ 32
 small_place bs i sound within = omega (arith, few_buffers bs sound)
+
+-- stores that hold zeros are those of the layout
+pub zeros_laid : (bs : List Buffer) → map buffer_of (map zeros_in bs) ≡ bs
+zeros_laid [] = refl
+zeros_laid (b ∷ bs) = let size : length {A = ℕ} (replicate b.size 0) ≡ b.size = length-replicate b.size 0 in rw (size, zeros_laid bs) refl

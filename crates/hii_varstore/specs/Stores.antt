@@ -1,5 +1,5 @@
 -- What the buffer stores of a form set hold: a finite map from the ids of the stores to their bytes (own rule).
-use Rattle.std.specs.Prelude.{ℕ, ◌+◌, ◌==◌, Bool, true, nat_eq, if◌then◌else◌, List, ◌++◌, length, map, take, drop, slice_get, slice_range, Option, Some, option_and_then, option_map}
+use Rattle.std.specs.Prelude.{ℕ, ◌+◌, ◌==◌, Bool, true, nat_eq, if◌then◌else◌, List, ◌++◌, length, map, take, drop, replicate, slice_get, slice_range, Option, Some, option_and_then, option_map}
 use Rattle.std.specs.Cmp.Lexicographic.{pointwise}
 use Rattle.std.specs.List.{find}
 use Rattle.hii_varstore.specs.declared.buffer.Buffer.{Buffer}
@@ -21,6 +21,13 @@ buffer_of s = record { id = s.id; size = length s.bytes }
 
 abbrev pub shape_of : StoreMap → Shape
 shape_of m = record { guid = m.guid; buffers = map buffer_of m.stores }
+
+-- stores that hold zeros alone
+abbrev pub zeros_in : Buffer → Store
+zeros_in b = record { id = b.id; bytes = replicate b.size 0 }
+
+abbrev pub zeros_of : Shape → StoreMap
+zeros_of shape = record { guid = shape.guid; stores = map zeros_in shape.buffers }
 
 -- the bytes of the store of an id
 abbrev pub bytes_of : StoreMap → ℕ → Option (List ℕ)

@@ -3,9 +3,10 @@
 ghost use Rattle.std.specs.Prelude.{◌≡◌, ◌+◌, ◌<◌, ◌≤◌, ◌^◌, IfOk, length, nat_eq, not, slice_range};
 ghost use Rattle.std.specs.Cmp.Lexicographic.{pointwise};
 ghost use Rattle.std.specs.Borrow.{sem};
-ghost use Rattle.hii_varstore.specs.Stores.{buffer_of, store_with};
+ghost use Rattle.hii_varstore.specs.Stores.{buffer_of, store_with, zeros_in};
 ghost use Rattle.hii_varstore.specs.code.Lending.{LendsRange};
 
+use crate::buffer::Buffer;
 use std::alloc::{AllocError, Global};
 use std::marker::Model;
 
@@ -36,6 +37,16 @@ impl Store {
         Ok(Store {
             id,
             bytes: Vec::from_slice(alloc, bytes)?,
+        })
+    }
+
+    /// A store that holds zeros alone.
+    pub(crate) fn zeros(alloc: Global, buffer: Buffer) -> Result<Store, AllocError>
+        ensures { IfOk result (λ store. store ≡ zeros_in buffer) }
+    {
+        Ok(Store {
+            id: buffer.id,
+            bytes: vec![in alloc; 0; buffer.size as usize]?,
         })
     }
 

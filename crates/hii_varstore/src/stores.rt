@@ -3,7 +3,7 @@
 ghost use Rattle.std.specs.Prelude.{◌≡◌, ℕ, IfOk, IfErr, IsSomeAnd, List, MatchOption, length, map, not, option_copied, Some};
 ghost use Rattle.hii_bytes.specs.Faults.{Refuses, out_of_memory};
 ghost use Rattle.hii_bytes.specs.Watching.{pen_of, Puts, Writes, Tells};
-ghost use Rattle.hii_varstore.specs.Stores.{StoreMap, are_same_bytes, buffer_of, shape_of, bytes_of, bytes_of_field, with_bytes};
+ghost use Rattle.hii_varstore.specs.Stores.{StoreMap, are_same_bytes, buffer_of, shape_of, bytes_of, bytes_of_field, with_bytes, zeros_in, zeros_of};
 ghost use Rattle.hii_varstore.specs.code.Ranges.{IsCut};
 ghost use Rattle.hii_varstore.specs.code.Ranges.{HasRange};
 ghost use Rattle.hii_varstore.specs.code.Lending.{LendsField};
@@ -11,6 +11,7 @@ ghost use Rattle.std.specs.Borrow.{sem};
 ghost use Rattle.hii_varstore.specs.Image.{image_of, SpellsImage};
 ghost use Rattle.hii_varstore.specs.Faults.{IsImageFault};
 
+use crate::buffer::Buffer;
 use crate::image::{MARK, put_stores, read_head, read_stores};
 use crate::layout::Layout;
 use crate::store::Store;
@@ -58,6 +59,22 @@ impl Stores {
         let place = read_head(layout.guid().bytes(), image)?;
         let stores = read_stores(alloc, layout.table(), image, place)?;
         let table = layout.table().copy(alloc)?;
+        let mut guid = [0; 16];
+        guid.copy_from_slice(layout.guid().bytes());
+        Ok(Stores {
+            guid,
+            table,
+            stores,
+        })
+    }
+
+    /// The stores of a layout with nothing but zeros in them, or OutOfMemory (60) at 0 where an allocation fails.
+    pub fn zeros(alloc: Global, layout: &Layout<'_>) -> Result<Stores, Fault>
+        ensures zeros { IfOk result (λ stores. stores ≡ zeros_of layout.now) }
+        ensures refused { IfErr result (λ fault. fault ≡ out_of_memory) }
+    {
+        let table = layout.table().copy(alloc)?;
+        let stores = zeros(alloc, table.buffers())?;
         let mut guid = [0; 16];
         guid.copy_from_slice(layout.guid().bytes());
         Ok(Stores {
@@ -167,6 +184,17 @@ impl Stores {
         out.put(&self.guid);
         put_stores(&self.stores, out);
     }
+}
+
+// A list of stores that hold zeros alone.
+fn zeros(alloc: Global, buffers: &[Buffer]) -> Result<Vec<Store>, AllocError>
+    ensures { IfOk result (λ stores. stores.items ≡ map zeros_in buffers.now) }
+{
+    let mut stores = Vec::with_capacity(alloc, buffers.len())?;
+    for buffer in buffers {
+        stores.push(Store::zeros(alloc, *buffer)?)?;
+    }
+    Ok(stores)
 }
 
 // A second list of the same stores.

@@ -14,11 +14,10 @@ use Rattle.ifr_opcodes.specs.declared.expressions.LeafOp.{LeafOp}
 use Rattle.ifr_opcodes.specs.declared.expressions.UnaryOp.{UnaryOp}
 use Rattle.ifr_opcodes.specs.declared.references.RuleRefOp.{RuleRefOp}
 use Rattle.ifr_opcodes.proofs.OperandLemmas.{leaf_takes, rule_ref_takes, unary_op_takes, binary_op_takes}
-use Rattle.ifr_expr.specs.code.Checked.{marks}
 use Rattle.ifr_expr.specs.code.Expressions.{tree_of, end_of, operators_left}
 use Rattle.ifr_expr.specs.code.Stacks.{Fit, operand_value, last_first, with_binary, values_behind}
 use Rattle.ifr_expr.specs.Meaning.{leaf_value, value_over}
-use Rattle.ifr_expr.specs.Trees.{takes, need}
+use Rattle.ifr_expr.specs.Trees.{takes, need, post}
 use Rattle.ifr_expr.specs.Values.{Value, unary_value, binary_value}
 use Rattle.ifr_expr.specs.declared.expr.Expr.{Expr}
 use Rattle.ifr_expr.specs.declared.operators.Operators.{Operators}
@@ -39,14 +38,14 @@ first_left : (old new : Operators) (r : Option ExprOp) (x : ExprOp) → Yields o
 first_left old new r x y e = subst (λ (o : Option ExprOp). Yields old o new) e y
 
 -- the first operator of an expression
-pub begun : (rules : ℕ → ℕ → Value) (answers : ℕ → Value) (this most : ℕ) (expr : Expr) (old new : Operators) (r : Option ExprOp) (x : ExprOp) → operators_left old ≡ marks expr.place expr.bytes.now → Yields old r new → r ≡ Some x → need (tree_of expr) ≤ most
+pub begun : (rules : ℕ → ℕ → Value) (answers : ℕ → Value) (this most : ℕ) (expr : Expr) (old new : Operators) (r : Option ExprOp) (x : ExprOp) → operators_left old ≡ post (tree_of expr) → Yields old r new → r ≡ Some x → need (tree_of expr) ≤ most
     → Begins (leaf_value rules answers this) (value_over rules answers this (tree_of expr)) most (end_of expr) (op_of (operator x)) (operators_left new)
 begun rules answers this most expr old new r x all y e few =
-    begins rules answers this expr.place expr.bytes.now most (op_of (operator x)) (operators_left new) expr.checked few (sym all ∙ first_left old new r x y e)
+    begins rules answers this expr.place expr.bytes.now most (op_of (operator x)) (operators_left new) expr.checked few (sym (all ∙ expr.checked.means.spelled) ∙ first_left old new r x y e)
 
-pub some_operator : (expr : Expr) (old new : Operators) (r : Option ExprOp) → operators_left old ≡ marks expr.place expr.bytes.now → Yields old r new → IsSome r
+pub some_operator : (expr : Expr) (old new : Operators) (r : Option ExprOp) → operators_left old ≡ post (tree_of expr) → Yields old r new → IsSome r
 some_operator expr old new r all y =
-    some_left old new r y (omega (arith, some_opcode (tree_of expr), ap (λ (l : List Mark). length l) expr.checked.means.spelled, ap (λ (l : List Mark). length l) all))
+    some_left old new r y (omega (arith, some_opcode (tree_of expr), ap (λ (l : List Mark). length l) all))
 
 -- ---- how many operands operators take
 

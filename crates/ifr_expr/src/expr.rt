@@ -24,7 +24,6 @@ pub struct Expr<'a> {
 impl<'a> Expr<'a> {
     ghost use Rattle.std.specs.Prelude.{◌≡◌, ◌≤◌, true, IfOk, IfErr, IsOk, length, slice_range};
     ghost use Rattle.hii_bytes.specs.Faults.{IsLeast, HasNone};
-    ghost use Rattle.ifr_expr.specs.code.Checked.{marks};
     ghost use Rattle.ifr_expr.specs.code.Expressions.{tree_of, end_of, operators_left};
     ghost use Rattle.ifr_expr.specs.Faults.{IsOpcodeFault, IsExpressionFault};
     ghost use Rattle.ifr_expr.specs.Meaning.{value};
@@ -96,9 +95,9 @@ impl<'a> Expr<'a> {
         }
     }
 
-    // The operators of the expression, by place.
-    pub(crate) fn operators(self) -> Operators<'a>
-        ensures { operators_left result ≡ marks self.entry.place self.entry.bytes.now }
+    /// The operators of the expression, by place: those of an operator's operands stand before it, of the left one first.
+    pub fn operators(self) -> Operators<'a>
+        ensures { operators_left result ≡ post (tree_of self.entry) }
     {
         Operators {
             ops: Opcodes::over(self.bytes, self.place),

@@ -18,6 +18,7 @@ mod value;
 
 pub use expr::Expr;
 pub use names::{Name, Names};
+pub use operators::Operators;
 pub use references::{RuleReference, RuleReferences};
 pub use rules::Rules;
 pub use support::Support;

@@ -6,7 +6,7 @@ ghost use Rattle.ifr_expr.specs.code.OpcodesLeft.{opcodes_left};
 use crate::opcodes::Opcodes;
 use ifr_opcodes::{ExprOp, Op};
 
-/// The operators that are left, by place.
+/// The operators that are left of an expression, by place.
 #[derive(Clone, Copy, Debug)]
 pub struct Operators<'a> {
     pub(crate) ops: Opcodes<'a>,

@@ -26,6 +26,7 @@ pub mod RuleFacts
 pub mod QuestionFacts
 pub mod ThisLemmas
 pub mod RuleExpressionLemmas
+pub mod RuleListLemmas
 pub mod NamedLemmas
 pub mod SizeLemmas
 pub mod RuleOrderLemmas

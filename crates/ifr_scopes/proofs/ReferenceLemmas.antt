@@ -1,5 +1,5 @@
 -- The first node that has a fault beside those before it has the least fault.
-use Rattle.std.proofs.Common.{◌≡◌, ℕ, zero, suc, ◌+◌, ◌<◌, ◌≤◌, ◌⊎◌, Bool, ltb, true, false, Option, Some, None, List, [], ◌∷◌, ◌++◌, length, refl, sym, ap, ◌∙◌, arith, inl, inr, lit≤}
+use Rattle.std.proofs.Common.{◌≡◌, ℕ, zero, suc, ◌+◌, ◌<◌, ◌≤◌, ◌⊎◌, Bool, ltb, true, false, Option, Some, None, List, [], ◌∷◌, ◌++◌, length, reverse, refl, sym, ap, ◌∙◌, arith, inl, inr, lit≤}
 use Rattle.std.specs.Prelude.{◌&&◌, not, ◌==◌, Contains, filter}
 use Rattle.std.specs.List.{list_any}
 use Rattle.std.proofs.Math.Bool.{and-false}
@@ -18,7 +18,7 @@ use Rattle.ifr_scopes.specs.References.{Ranked, ranked, has_reference_fault, IsR
 use Rattle.ifr_scopes.specs.code.Causes.{reference_causes}
 use Rattle.ifr_scopes.specs.code.Met.{AreOf}
 use Rattle.ifr_scopes.specs.Rules.{is_rule}
-use Rattle.ifr_scopes.specs.code.KeptRules.{AreKeptRules, kept_at}
+use Rattle.ifr_scopes.specs.code.KeptRules.{AreKeptRules, kept_rules}
 use Rattle.ifr_scopes.specs.declared.references.Met.{Met}
 use Rattle.ifr_scopes.specs.declared.rules.RuleTable.{RuleTable}
 use Rattle.ifr_scopes.proofs.KeptRuleLemmas.{no_rule}
@@ -106,4 +106,4 @@ sound_among ns some e = λ d p other. elim other [
 
 -- the rules stay where the next node is none
 pub kept_on : (before : List Placed) (n : Placed) (table : RuleTable) → is_rule n ≡ false → AreKeptRules before table → AreKeptRules (before ++ n ∷ []) table
-kept_on before n table other kept key = kept key ∙ ap (λ (l : List Placed). kept_at l key) (sym (no_rule before n other))
+kept_on before n table other kept id = kept id ∙ ap (λ (l : List Placed). reverse (kept_rules id l)) (sym (no_rule before n other))

@@ -1,10 +1,12 @@
 //! The rules of a package, found by their ids, and how large they are.
 
-ghost use Rattle.std.specs.Prelude.{◌≡◌, ◌∷◌, ◌++◌, ◌≤◌, true, List, [], OnOk};
+ghost use Rattle.std.specs.Prelude.{◌≡◌, ◌∷◌, ◌++◌, ◌≤◌, ◌<◌, ◌==◌, ℕ, nat_le, if◌then◌else◌, true, List, [], length, reverse, OnOk};
+ghost use Rattle.std.specs.List.{find};
+ghost use Rattle.std.specs.List.Sorted.{IsNonDecreasingBy};
 ghost use Rattle.ifr_opcodes.specs.Forest.{Placed};
 ghost use Rattle.ifr_expr.specs.code.Expressions as expr;
 ghost use Rattle.ifr_scopes.specs.Nodes as ends;
-ghost use Rattle.ifr_scopes.specs.code.KeptRules.{AreKeptRules, kept_named};
+ghost use Rattle.ifr_scopes.specs.code.KeptRules.{AreKeptRules, kept_named, list_of};
 ghost use Rattle.ifr_scopes.specs.Rules as rules;
 ghost use Rattle.ifr_scopes.specs.Rules.{is_rule, as_rule, form_end, rule_nodes, rules_among, rule_sizes, size_over};
 ghost use Rattle.ifr_scopes.specs.code.Rules.{fitting_size};
@@ -15,10 +17,9 @@ use crate::ends::end_of;
 use crate::node::Node;
 use ifr_expr::Expr;
 use std::alloc::{AllocError, Global};
-use std::collections::BTreeMap;
 
 /// How deeply rules may name one another.
-const MAX_DEPTH: u32 = 16;
+const MAX_DEPTH: u8 = 16;
 
 /// How many opcodes a rule may have, with those of the rules that it names.
 const MAX_WEIGHT: usize = 4096;
@@ -27,24 +28,26 @@ const MAX_WEIGHT: usize = 4096;
 #[derive(Clone, Copy, Debug, PartialEq, Eq)]
 pub(crate) struct RuleSize {
     /// One more than the greatest depth of the rules that it names.
-    pub(crate) depth: u32,
+    pub(crate) depth: u8,
     /// How many opcodes it has, with those of each rule that it names.
-    pub(crate) weight: u32,
+    pub(crate) weight: u16,
 }
 
 /// A rule as it is kept. Places are in bytes from the package's header.
 #[derive(Clone, Copy, Debug, PartialEq, Eq)]
 pub(crate) struct KeptRule {
     pub(crate) place: u32,
+    /// Where it ends.
+    pub(crate) ends: u32,
     /// Where the form ends in which it stands.
     pub(crate) form_ends: u32,
     pub(crate) size: RuleSize,
 }
 
-/// Rules, each by its id and the place where it ends.
+/// Rules, those of each id in a list, by place. There is no list behind that of the greatest id.
 #[derive(Drop)]
 pub(crate) struct RuleTable {
-    pub(crate) rules: BTreeMap<(u8, u32), KeptRule>,
+    pub(crate) rules: Vec<Vec<KeptRule>>,
 }
 
 /// The expression of a rule.
@@ -59,13 +62,58 @@ pub(crate) fn expression_of(rule: Node<'_>) -> Expr<'_>
     Expr::over(rule.ifr, from, to)
 }
 
+// The last rule of a list that ends at or before a place, if one does.
+fn last_ended(rules: &[KeptRule], place: u32) -> Option<KeptRule>
+    ensures { IsNonDecreasingBy (λ (r : KeptRule). r.ends) rules.now
+        → result ≡ find (λ r. nat_le r.ends place) (reverse rules.now) }
+{
+    let ended = rules.partition_point(|rule| rule.ends <= place);
+    if ended == 0 {
+        return None;
+    }
+    Some(rules[ended - 1])
+}
+
+// Adds empty lists until there is one of an id.
+fn add_lists(lists: &mut Vec<Vec<KeptRule>>, id: u8) -> Result<(), AllocError>
+    ensures reached { OnOk result (id < length lists.new.items) }
+    ensures stays { OnOk result ((other : ℕ)
+        → list_of lists.new.items other ≡ list_of lists.old.items other) }
+{
+    let alloc = *lists.allocator();
+    while lists.len() <= usize::from(id) {
+        lists.push(Vec::new(alloc))?;
+    }
+    Ok(())
+}
+
+// Adds a rule to the list of its id.
+fn add_to(lists: &mut Vec<Vec<KeptRule>>, id: u8, rule: KeptRule) -> Result<(), AllocError>
+    ensures { OnOk result ((other : ℕ) → list_of lists.new.items other
+        ≡ list_of lists.old.items other ++ (if id == other then rule ∷ [] else [])) }
+{
+    add_lists(lists, id)?;
+    lists[usize::from(id)].push(rule)?;
+    Ok(())
+}
+
 impl RuleTable {
     /// No rules.
     pub(crate) fn new(alloc: Global) -> RuleTable
         ensures { AreKeptRules [] result }
     {
         RuleTable {
-            rules: BTreeMap::new(alloc),
+            rules: Vec::new(alloc),
+        }
+    }
+
+    // The rules of an id, by place.
+    fn of_id(&self, id: u8) -> &[KeptRule]
+        ensures { result.now ≡ list_of self.now.rules.items id }
+    {
+        match self.rules.get(usize::from(id)) {
+            Some(rules) => rules,
+            None => &[],
         }
     }
 
@@ -74,11 +122,7 @@ impl RuleTable {
         ensures { (ns : List Placed) → AreKeptRules ns self.now → Descend (rule_nodes ns)
             → result ≡ kept_named (rule_nodes ns) id place }
     {
-        let mut those = self.rules.range((id, 0)..=(id, place));
-        let Some((_, last)) = those.next_back() else {
-            return None;
-        };
-        let rule = *last;
+        let rule = last_ended(self.of_id(id), place)?;
         if rule.form_ends <= place {
             return None;
         }
@@ -108,7 +152,7 @@ impl RuleTable {
         }
         Some(RuleSize {
             depth: depth + 1,
-            weight: weight as u32,
+            weight: weight as u16,
         })
     }
 
@@ -126,13 +170,12 @@ impl RuleTable {
             → AreKeptRules (before ++ node_of rule.entry ∷ []) self.new) }
     {
         let place = rule.op.place;
-        let key = (rule.rule().id(), end_of(rule.ifr, place));
         let kept = KeptRule {
             place,
+            ends: end_of(rule.ifr, place),
             form_ends,
             size,
         };
-        self.rules.insert(key, kept)?;
-        Ok(())
+        add_to(&mut self.rules, rule.rule().id(), kept)
     }
 }

@@ -1,8 +1,6 @@
 //! Runs over readers and writers that hold little, or fail.
 
-use crate::read_whole::{FILE_LIMIT, ReadError, read_whole};
 use crate::serve::{Ended, Given, serve};
-use hii_bytes::Watched;
 use std::alloc::Global;
 use std::io;
 use std::io::{BufWriter, ErrorKind, Read, Write};
@@ -302,31 +300,4 @@ fn writers_of_images_may_be_too_short(rt: HostRuntime) -> Result<(), Fail> {
         image_stops_at(&rt, room)?;
     }
     Ok(())
-}
-
-// How many bytes are read of a file of so many bytes.
-fn read_of(alloc: Global, length: usize) -> Result<Result<usize, ReadError>, Fail> {
-    let bytes = vec![in alloc; b'x'; length]?;
-    let mut reader = Watched::new(bytes.as_slice());
-    Ok(match read_whole(alloc, &mut reader) {
-        Ok(whole) => Ok(whole.len()),
-        Err(error) => Err(error),
-    })
-}
-
-#[test]
-fn files_of_the_greatest_length(rt: HostRuntime) -> Result<(), Fail> {
-    let limit = FILE_LIMIT as usize;
-    assert!(rt; read_of(rt.alloc(), limit)? == Ok(limit));
-    assert!(rt; read_of(rt.alloc(), limit + 1)? == Err(ReadError::TooLong));
-    Ok(())
-}
-
-#[test]
-fn a_file_may_fail(rt: HostRuntime) {
-    let mut broken = Watched::new(Broken {
-        bytes: b"0123456789",
-    });
-    let error = read_whole(rt.alloc(), &mut broken).err();
-    assert!(rt; error == Some(ReadError::Fault));
 }

@@ -1,10 +1,9 @@
--- Rules as they are kept, each by its id and its end.
-use Rattle.std.specs.Prelude.{◌≡◌, ℕ, Bool, ◌==◌, ◌&&◌, if◌then◌else◌, Option, Some, None, List, [], ◌∷◌, map}
-use Rattle.std.specs.BTreeMap.{get}
-use Rattle.std.specs.Ordering.{ordering_then, nat_cmp}
-use Rattle.std.specs.declared.cmp.Ordering.{Ordering}
+-- Rules as they are kept, in a list for each id.
+use Rattle.std.specs.Prelude.{◌≡◌, ℕ, ◌==◌, if◌then◌else◌, Option, Some, None, List, [], ◌∷◌, map, reverse, slice_index_or}
+use Rattle.std.specs.Global.{Vec}
 use Rattle.ifr_opcodes.specs.Forest.{Placed}
 use Rattle.ifr_expr.specs.Meaning.{names}
+use Rattle.ifr_scopes.specs.Nodes.{end_of}
 use Rattle.ifr_scopes.specs.Rules.{as_rule, rule_nodes, form_end, size}
 use Rattle.ifr_scopes.specs.declared.rules.KeptRule.{KeptRule}
 use Rattle.ifr_scopes.specs.declared.rules.RuleTable.{RuleTable}
@@ -14,6 +13,7 @@ abbrev pub kept_rule : List Placed → Placed → KeptRule
 kept_rule earlier n =
     record {
       place = n.place;
+      ends = end_of n;
       form_ends = form_end n.path;
       size = size (map as_rule earlier) (as_rule n);
     }
@@ -24,19 +24,18 @@ kept_named [] id place = None
 kept_named (n ∷ earlier) id place =
     if names id place (as_rule n) then Some (kept_rule earlier n) else kept_named earlier id place
 
--- the order of ids and ends
-abbrev pub key_cmp : ℕ × ℕ → ℕ × ℕ → Ordering
-key_cmp a b = ordering_then (nat_cmp a.0 b.0) (nat_cmp a.1 b.1)
+-- those of an id, the latest first
+abbrev pub kept_rules : ℕ → List Placed → List KeptRule
+kept_rules id [] = []
+kept_rules id (n ∷ earlier) =
+    if (as_rule n).id == id then kept_rule earlier n ∷ kept_rules id earlier
+    else kept_rules id earlier
 
-abbrev pub has_key : ℕ × ℕ → Placed → Bool
-has_key key n = ((as_rule n).id == key.0) && ((as_rule n).ends == key.1)
+-- the list of an id, empty where there is none
+abbrev pub list_of : List (Vec KeptRule) → ℕ → List KeptRule
+list_of lists id = slice_index_or (map (λ l. l.items) lists) id []
 
--- the rule of an id with this end
-abbrev pub kept_at : List Placed → ℕ × ℕ → Option KeptRule
-kept_at [] key = None
-kept_at (n ∷ earlier) key =
-    if has_key key n then Some (kept_rule earlier n) else kept_at earlier key
-
--- A table has the rules among nodes.
+-- A table has the rules among nodes, those of each id by place.
 abbrev pub AreKeptRules : List Placed → RuleTable → Type 0
-AreKeptRules ns table = (key : ℕ × ℕ) → get key_cmp table.rules key ≡ kept_at (rule_nodes ns) key
+AreKeptRules ns table =
+    (id : ℕ) → list_of table.rules.items id ≡ reverse (kept_rules id (rule_nodes ns))

@@ -1,4 +1,4 @@
-use Rattle.std.proofs.Common.{ℕ, ◌+◌, ◌<◌, ◌^◌, length, slice_range, arith}
+use Rattle.std.proofs.Common.{◌+◌, ◌<◌, ◌^◌, length, slice_range, arith}
 use Rattle.std.proofs.lemmas.List.{length-drop, length-take}
 use Rattle.ifr_expr.proofs.CheckLemmas.{checked, means_node, done_where_sound}
 use Rattle.ifr_expr.proofs.expr.Expr.over.Goals as goal

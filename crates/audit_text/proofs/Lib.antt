@@ -1,0 +1,3 @@
+pub mod TextLemmas
+mod WorkedTexts
+pub mod HexLemmas

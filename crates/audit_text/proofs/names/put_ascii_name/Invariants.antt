@@ -1,0 +1,12 @@
+use Rattle.std.proofs.Common.{length, map}
+use Rattle.hii_bytes.specs.Watching.{pen_of}
+use Rattle.hii_bytes.specs.code.Writing.{Stands}
+use Rattle.audit_text.specs.Texts.{ascii_name, shown_byte}
+use Rattle.audit_text.proofs.names.put_ascii_name.Given as goal
+
+-- the bytes before the rest are written
+abbrev pub invariant-loop-rest : goal.invariant-loop-rest
+invariant-loop-rest g l = Stands (pen_of g.W.Write.contents l.fn.out) (pen_of g.W.Write.contents l.out) (ascii_name l.name) (map shown_byte l.rest)
+
+abbrev pub decreases-loop-rest : goal.decreases-loop-rest
+decreases-loop-rest g l = length l.rest

@@ -1,0 +1,3 @@
+pub mod Texts
+pub mod Words
+pub mod code

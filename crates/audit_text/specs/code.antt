@@ -1,0 +1,2 @@
+-- How enums of the code are seen. Contracts of other crates cite it where they choose one.
+pub mod Cases

@@ -1,0 +1,43 @@
+//! Texts of a fixed width.
+
+ghost use Rattle.std.specs.Prelude.{◌≡◌, ◌≤◌, ◌+◌, length};
+ghost use Rattle.hii_bytes.specs.Watching.{Puts};
+ghost use Rattle.audit_text.specs.Texts.{hex_text, left_aligned, place_text};
+
+use crate::guid::{Case, digit_of};
+use hii_bytes::Watched;
+use std::io::Write;
+
+/// Writes a text and as many spaces as make it `width` bytes long, none where it is longer.
+pub fn put_left<W: Write>(out: &mut Watched<W>, width: usize, text: &[u8])
+    ensures { Puts W.contents out.old out.new (left_aligned width text.now) }
+{
+    out.put(text);
+    out.put_spaces(width.saturating_sub(text.len()));
+}
+
+/// Writes the lowest 32 bits of a place in eight lower-case hex digits.
+pub fn put_hex_place<W: Write>(out: &mut Watched<W>, place: u64)
+    ensures { Puts W.contents out.old out.new (place_text place) }
+{
+    out.put_hex((place / 0x100_0000 % 256) as u8);
+    out.put_hex((place / 0x1_0000 % 256) as u8);
+    out.put_hex((place / 0x100 % 256) as u8);
+    out.put_hex((place % 256) as u8);
+}
+
+/// Writes a number in lower-case hex digits, without zeros before it, and tells how many these are.
+pub fn put_hexadecimal<W: Write>(out: &mut Watched<W>, number: u32) -> usize
+    ensures text { Puts W.contents out.old out.new (hex_text number) }
+    ensures count { result ≡ length (hex_text number) }
+    ensures few { result ≤ number + 1 }
+{
+    let digit = digit_of((number % 16) as u8, Case::Lower);
+    if number < 16 {
+        out.put(&[digit]);
+        return 1;
+    }
+    let before = put_hexadecimal(out, number / 16);
+    out.put(&[digit]);
+    before + 1
+}

@@ -1,0 +1,11 @@
+//! Texts that lines of an audit share: GUIDs, columns, places, names of stores and of opcodes (own rules, but for the text of a
+//! GUID).
+#![tactic(auto)]
+
+mod columns;
+mod guid;
+mod names;
+
+pub use columns::{put_hex_place, put_hexadecimal, put_left};
+pub use guid::{Case, guid_digits, put_guid};
+pub use names::{attributes_text, opcode_name, put_ascii_name};

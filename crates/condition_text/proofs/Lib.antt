@@ -1,0 +1,11 @@
+pub mod SplitLemmas
+pub mod Reader
+pub mod WordLemmas
+pub mod ReadLemmas
+pub mod LeafLemmas
+pub mod DraftLemmas
+pub mod PieceLemmas
+pub mod WriteLemmas
+pub mod BuildLemmas
+pub mod GoodLemmas
+pub mod WorkedTexts

@@ -1,0 +1,3 @@
+pub mod Senses
+pub mod Texts
+pub mod code

@@ -1,0 +1,5 @@
+-- How the code holds texts that are made. No module outside of this folder cites one of it.
+pub mod Progress
+pub mod Pieces
+pub mod Drafts
+pub mod Conditions

@@ -1,0 +1,37 @@
+//! Laws of the texts of conditions.
+
+ghost use Rattle.std.specs.Prelude.{◌≡◌, ℕ, ◌<◌, slice_index};
+ghost use Rattle.std.specs.List.{AllByRecursion};
+ghost use Rattle.ifr_opcodes.specs.code.Ops.{bytes_of};
+ghost use Rattle.ifr_expr.specs.code.Expressions.{tree_of};
+ghost use Rattle.condition_text.specs.Senses.{Sense, IsGood, sense};
+ghost use Rattle.condition_text.specs.Texts.{text};
+
+use ifr_expr::Expr;
+use ifr_opcodes::Op;
+
+/// Two senses with the same text are the same sense.
+pub fn a_text_says_one_thing()
+    ensures { (s t : Sense) → IsGood s → IsGood t → text s ≡ text t → s ≡ t }
+{}
+
+/// What a checked expression says is good.
+pub fn checked_expressions_have_good_senses(expr: Expr<'_>)
+    ensures { IsGood (sense (tree_of expr.entry)) }
+{
+    let mut ops = expr.operators();
+    while let Some(op) = ops.next() {
+        opcodes_are_bytes(op.op());
+    }
+}
+
+// Each number that spells an opcode fits a byte.
+fn opcodes_are_bytes(op: Op<'_>)
+    ensures { AllByRecursion (λ byte. byte < 256) (bytes_of op.entry) }
+{
+    are_bytes(op.body);
+}
+
+fn are_bytes(bytes: &[u8])
+    ensures { (k : ℕ) → slice_index bytes.now k < 256 }
+{}

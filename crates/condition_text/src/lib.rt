@@ -1,0 +1,11 @@
+//! Conditions of a forms package in words (UEFI 2.8, 33.2.5.7 Expressions; the words are an own rule).
+#![tactic(auto)]
+
+mod condition;
+mod draft;
+pub mod laws;
+mod leaf;
+mod piece;
+mod words;
+
+pub use condition::ConditionText;

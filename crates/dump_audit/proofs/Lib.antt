@@ -1,0 +1,6 @@
+mod CauseLemmas
+mod ContentLemmas
+mod FaultLemmas
+mod LineLemmas
+mod TextLemmas
+mod WorkedLines

@@ -1,0 +1,79 @@
+-- A dump has one text.
+use Rattle.std.proofs.Common.{◌≡◌, ℕ, ◌+◌, ◌<◌, ◌≤◌, List, [], ◌∷◌, ◌++◌, length, map, refl, sym, ap, subst, ◌∙◌, arith, inl, inr}
+use Rattle.std.specs.List.{AllByRecursion, concat}
+use Rattle.hii_bytes.specs.declared.cause.Cause.{Cause}
+use Rattle.hii_bytes.specs.declared.cause.Fault.{Fault}
+use Rattle.hii_bytes.specs.Cause.{number_of}
+use Rattle.hii_bytes.specs.Faults.{IsLeast, HasNone}
+use Rattle.hii_bytes.proofs.FaultLemmas.{then_none}
+use Rattle.hii_dumps.specs.Dumps.{Entry, placed}
+use Rattle.hii_dumps.proofs.ListLemmas.{one_split}
+use Rattle.hii_packages.specs.Packages.{SpellsPackages}
+use Rattle.hii_packages.specs.Faults.{IsListFault}
+use Rattle.hii_packages.proofs.PlaceLemmas.{no_fault}
+use Rattle.hii_packages.proofs.SpellLemmas.{end_from_spells, one_spelled}
+use Rattle.hii_languages.specs.Languages.{Spoken, string_packages, AreSpoken, IsStringsFault}
+use Rattle.hii_languages.proofs.SpokenLemmas.{spoken_once, spoken_sound}
+use Rattle.dump_audit.specs.Findings.{Finding, Contents, Refused, IsFound, IsTextFault, IsListOrTextFault}
+use Rattle.dump_audit.specs.Lines.{Told, IsTold, lines, rest_line, IsSplitText}
+use Rattle.dump_audit.proofs.CauseLemmas.{same_cause}
+
+-- two least faults stand at one place, with one number
+record Alike (f g : Fault) : Type 0 where
+  place : f.place ≡ g.place
+  number : number_of f.cause ≡ number_of g.cause
+
+alike : (IsFault : Cause → ℕ → Type 0) (f g : Fault) → IsLeast IsFault f → IsLeast IsFault g → Alike f g
+alike IsFault f g l m = elim (l.least g.cause g.place m.told) [
+  | inl before ↦ elim (m.least f.cause f.place l.told) [ inl after ↦ absurd (omega (arith, before, after)) | inr same ↦ absurd (omega (arith, before, same.0)) ]
+  | inr same ↦ elim (m.least f.cause f.place l.told) [ inl after ↦ absurd (omega (arith, same.0, after)) | inr again ↦ record { place = same.0; number = omega (arith, same.1, again.1) } ]
+]
+
+one_least : (IsFault : Cause → ℕ → Type 0) (f g : Fault) → IsLeast IsFault f → IsLeast IsFault g → f ≡ g
+one_least IsFault f g l m =
+    let same = alike IsFault f g l m in
+    let cause = same_cause f.cause g.cause same.number in
+    let place = same.place in
+    λ i. record { cause = cause i; place = place i }
+
+no_text_fault : (list : List ℕ) (packages : List (List ℕ)) (spoken : List Spoken) → SpellsPackages list packages → AreSpoken (string_packages packages) spoken → HasNone (IsTextFault list)
+no_text_fault list packages spoken spells are cause place fault =
+    spoken_sound (string_packages packages) spoken are cause place
+    (subst (λ ps. IsStringsFault (string_packages ps) cause place) (one_spelled list fault.0 packages fault.1 spells) fault.2)
+
+no_fault_of : (list : List ℕ) (packages : List (List ℕ)) (spoken : List Spoken) → SpellsPackages list packages → AreSpoken (string_packages packages) spoken → HasNone (IsListOrTextFault list)
+no_fault_of list packages spoken spells are =
+    then_none (IsListFault list) (IsTextFault list) (no_fault list _ (end_from_spells list packages spells)) (no_text_fault list packages spoken spells are)
+
+one_finding : (list : List ℕ) (a b : Finding) → IsFound list a → IsFound list b → a ≡ b
+one_finding list (Contents ps ss) (Contents qs ts) f h =
+    let packages = one_spelled list ps qs f.0 h.0 in
+    let spoken = spoken_once (string_packages qs) ss ts (subst (λ (xs : List (List ℕ)). AreSpoken (string_packages xs) ss) packages f.1) h.1 in
+    ap (λ (xs : List (List ℕ)). Contents xs ss) packages ∙ ap (λ (xs : List Spoken). Contents qs xs) spoken
+one_finding list (Contents ps ss) (Refused fault) f h = absurd (no_fault_of list ps ss f.0 f.1 fault.cause fault.place h.told)
+one_finding list (Refused fault) (Contents ps ss) f h = absurd (no_fault_of list ps ss h.0 h.1 fault.cause fault.place f.told)
+one_finding list (Refused fault) (Refused other) f h = ap Refused (one_least (IsListOrTextFault list) fault other f h)
+
+one_entry : (t u : Told) → IsTold t → IsTold u → t.entry ≡ u.entry → t ≡ u
+one_entry t u is was same =
+    let finding = one_finding u.entry.bytes t.finding u.finding (subst (λ (e : Entry). IsFound e.bytes t.finding) same is) was in
+    λ i. record { entry = same i; finding = finding i }
+
+one_told : (ts us : List Told) → AllByRecursion IsTold ts → AllByRecursion IsTold us → map (λ t. t.entry) ts ≡ map (λ t. t.entry) us → ts ≡ us
+one_told [] [] a b same = refl
+one_told [] (u ∷ us) a b same = absurd (cc)
+one_told (t ∷ ts) [] a b same = absurd (cc)
+one_told (t ∷ ts) (u ∷ us) a b same =
+    let first : t.entry ≡ u.entry = cc in
+    let more : map (λ x. x.entry) ts ≡ map (λ x. x.entry) us = cc in
+    ap (λ (x : Told). x ∷ ts) (one_entry t u a.0 b.0 first) ∙ ap (λ (xs : List Told). u ∷ xs) (one_told ts us a.1 b.1 more)
+
+pub one_text : (dump text other : List ℕ) → IsSplitText dump text → IsSplitText dump other → text ≡ other
+one_text dump text other s t =
+    let same = one_split dump s.lists t.lists s.rest t.rest s.spelled t.spelled in
+    let told = one_told s.told t.told s.each t.each (s.in_order ∙ ap (λ (ls : List (List ℕ)). placed 0 ls) same.0 ∙ sym t.in_order) in
+    s.written
+    ∙ ap (λ (xs : List Told). lines 1 xs ++ rest_line (length (concat s.lists)) s.rest) told
+    ∙ ap (λ (ls : List (List ℕ)). lines 1 t.told ++ rest_line (length (concat ls)) s.rest) same.0
+    ∙ ap (λ (rest : List ℕ). lines 1 t.told ++ rest_line (length (concat t.lists)) rest) same.1
+    ∙ sym t.written

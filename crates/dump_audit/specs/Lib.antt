@@ -1,0 +1,4 @@
+pub mod Findings
+pub mod Contents
+pub mod Lines
+pub mod code

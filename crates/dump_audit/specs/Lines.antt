@@ -1,0 +1,78 @@
+-- The lines of a dump (own rule).
+use Rattle.std.specs.Prelude.{◌≡◌, ℕ, suc, Option, None, Some, List, [], ◌∷◌, ◌++◌, length, map, codes, decimal, encode_utf8}
+use Rattle.std.specs.List.{AllByRecursion, concat, flat_map}
+use Rattle.hii_bytes.specs.Cause.{number_of, name_of}
+use Rattle.hii_bytes.specs.declared.cause.Fault.{Fault}
+use Rattle.hii_dumps.specs.Dumps.{Entry, SpellsDump, placed}
+use Rattle.hii_packages.specs.Packages.{entries, forms_in}
+use Rattle.hii_languages.specs.Languages.{Spoken, first_package}
+use Rattle.hii_languages.specs.Shown.{shown_text}
+use Rattle.audit_text.specs.Texts.{joined, place_text}
+use Rattle.dump_audit.specs.Contents.{form_sets, guid_word, first_title}
+use Rattle.dump_audit.specs.Findings.{Finding, Contents, Refused, IsFound}
+
+-- which list a line is of: its number, its place in the dump and its length in bytes
+abbrev pub head_text : ℕ → Entry → List ℕ
+head_text number list =
+    codes "LIST " ++ decimal number ++ codes " " ++ place_text list.place ++ codes " "
+    ++ decimal (length list.bytes) ++ codes " "
+
+-- the languages of the string packages
+abbrev pub languages_text : List Spoken → List ℕ
+languages_text spoken = joined (codes ",") (map (λ s. s.language) spoken)
+
+-- the text of a title's string id, where there is one, in UTF-8, as it is shown in the language of the first string package
+abbrev pub title_text : List Spoken → Option ℕ → List ℕ
+title_text spoken None = []
+title_text spoken (Some id) =
+    codes " " ++ flat_map encode_utf8 (shown_text spoken (first_package spoken) id)
+
+-- how many forms packages there are, the GUIDs of the form sets with which they begin, the languages, the first form set's title
+abbrev pub contents_text : List (List ℕ) → List Spoken → List ℕ
+contents_text packages spoken =
+    codes "forms " ++ decimal (length (forms_in (entries packages)))
+    ++ flat_map guid_word (form_sets packages) ++ codes " strings " ++ languages_text spoken
+    ++ title_text spoken (first_title (form_sets packages))
+
+-- by which cause a list is refused, and at which place, in bytes from its first one
+abbrev pub fault_text : Fault → List ℕ
+fault_text fault =
+    codes "REFUSED " ++ decimal (number_of fault.cause) ++ codes " " ++ name_of fault.cause
+    ++ codes " at " ++ place_text fault.place
+
+abbrev pub finding_text : Finding → List ℕ
+finding_text (Contents packages spoken) = contents_text packages spoken
+finding_text (Refused fault) = fault_text fault
+
+-- a list of a dump, and what is found of it
+pub record Told : Type 0 where
+  pub entry : Entry
+  pub finding : Finding
+
+abbrev pub line : ℕ → Told → List ℕ
+line number told = head_text number told.entry ++ finding_text told.finding ++ codes "\n"
+
+-- the lines of lists, numbered from this number on
+abbrev pub lines : ℕ → List Told → List ℕ
+lines number [] = []
+lines number (told ∷ more) = line number told ++ lines (suc number) more
+
+-- the line of the rest at a place of the dump, where it has some bytes
+abbrev pub rest_line : ℕ → List ℕ → List ℕ
+rest_line place [] = []
+rest_line place (byte ∷ bytes) =
+    codes "REST " ++ place_text place ++ codes " " ++ decimal (length (byte ∷ bytes)) ++ codes "\n"
+
+-- What is found of a list is told.
+abbrev pub IsTold : Told → Type 0
+IsTold told = IsFound told.entry.bytes told.finding
+
+-- The text has a line for each list of the dump, in order and numbered from 1, and behind these one for its rest.
+pub record IsSplitText (dump text : List ℕ) : Type 0 where
+  pub lists : List (List ℕ)
+  pub rest : List ℕ
+  pub spelled : SpellsDump dump lists rest
+  pub told : List Told
+  pub each : AllByRecursion IsTold told
+  pub in_order : map (λ t. t.entry) told ≡ placed 0 lists
+  pub written : text ≡ lines 1 told ++ rest_line (length (concat lists)) rest

@@ -1,0 +1,10 @@
+//! The package lists of a dump, told line by line (own rule; the formats are those of UEFI 2.8, 33.3 and 34.8).
+#![tactic(auto)]
+
+mod contents;
+mod faults;
+pub mod laws;
+mod lines;
+mod strings;
+
+pub use lines::{put_list, put_rest, put_split};

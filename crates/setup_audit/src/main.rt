@@ -1,0 +1,37 @@
+//! What stands around `setup`: the package lists of a dump, the stores that a list declares, and images of them.
+#![tactic(auto)]
+
+mod answers;
+mod command_line;
+mod image;
+mod sources;
+mod split;
+mod stores;
+
+use clap::error::ErrorKind;
+use command_line::{Task, read_words};
+use hii_bytes::Cause;
+use setup_files::{Status, refused, usage, words};
+use std::process::ExitCode;
+use std::rt::{Env, Files};
+
+fn main(rt: HostRuntime) -> ExitCode {
+    match run(&rt) {
+        Ok(()) => ExitCode::from(Status::Done.number()),
+        Err(status) => ExitCode::from(status.number()),
+    }
+}
+
+fn run<R: Env + Files + Print + Eprint + AllocGlobal>(rt: &R) -> Result<(), Status> {
+    let words = words(rt)?;
+    match read_words(rt.alloc(), words.as_slice()) {
+        Ok(Task::Split(options)) => split::run(rt, options),
+        Ok(Task::Stores(list)) => stores::run(rt, list),
+        Ok(Task::Image(options)) => image::run(rt, &options),
+        Err(e) => Err(if e.kind() == ErrorKind::OutOfMemory {
+            refused(rt, Cause::OutOfMemory)
+        } else {
+            usage(rt, &e)
+        }),
+    }
+}

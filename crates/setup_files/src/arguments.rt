@@ -1,0 +1,23 @@
+//! The words of the command line.
+
+use crate::endings::{Status, refused, usage};
+use hii_bytes::Cause;
+use std::env;
+use std::io::ErrorKind;
+use std::rt::Env;
+
+/// The words of the command line, of which the first is the program's name, or the status with which the program ends.
+pub fn words<R: Env + Print + Eprint + AllocGlobal>(rt: &R) -> Result<Vec<String>, Status> {
+    match collected(rt) {
+        Ok(words) => Ok(words),
+        Err(e) => Err(if e.kind() == ErrorKind::OutOfMemory {
+            refused(rt, Cause::OutOfMemory)
+        } else {
+            usage(rt, &"error: an argument is not UTF-8\n")
+        }),
+    }
+}
+
+fn collected<R: Env + AllocGlobal>(rt: &R) -> std::io::Result<Vec<String>> {
+    Ok(env::args(rt)?.collect(rt.alloc())?)
+}

@@ -1,0 +1,2 @@
+pub mod DeclaringLemmas
+pub mod FillingLemmas

@@ -1,0 +1,11 @@
+use Rattle.hii_bytes.proofs.WritingLemmas.{◌⨾◌}
+use Rattle.store_audit.proofs.fillings.put_unfit.Goals as goal
+
+pub returns-in-File : goal.returns-in-File
+returns-in-File g c = rw c.in-File.is (rw c.in-File.is at (c.put.ensures ⨾ c.put_names.ensures ⨾ c.put_counts.ensures))
+
+pub returns-in-Zeros : goal.returns-in-Zeros
+returns-in-Zeros g c = rw c.in-Zeros.is (rw c.in-Zeros.is at (c.put.ensures ⨾ c.put_names.ensures ⨾ c.put_counts-in-Zeros.ensures))
+
+pub returns-in-Missing : goal.returns-in-Missing
+returns-in-Missing g c = rw c.in-Missing.is (c.put.ensures ⨾ c.put_names.ensures ⨾ c.put-in-Missing.ensures)

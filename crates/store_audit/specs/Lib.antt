@@ -1,0 +1,4 @@
+pub mod Declaring
+pub mod StoreLines
+pub mod Fillings
+pub mod code

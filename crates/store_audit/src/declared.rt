@@ -1,0 +1,103 @@
+//! What a form set declares.
+
+ghost use Rattle.std.specs.Prelude.{◌≡◌, IfOk, IfErr, Some};
+ghost use Rattle.hii_bytes.specs.Faults.{HasNone, IsLeast, Refuses};
+ghost use Rattle.hii_packages.specs.Packages.{Entry};
+ghost use Rattle.hii_packages.specs.code.Package.{entry_of};
+ghost use Rattle.ifr_scopes.specs.Nodes.{nodes_of};
+ghost use Rattle.hii_varstore.specs.StoreNodes.{layout_of};
+ghost use Rattle.form_sets.specs.Packages.{IsGoodPackage};
+ghost use Rattle.browser_core.specs.Opening.{HasSource, IsSourceFault, IsFormSetFault};
+ghost use Rattle.store_audit.specs.Declaring.{IsDeclaredFault};
+
+use hii_bytes::Fault;
+use hii_packages::laws::spelled_bytes_have_no_fault;
+use hii_packages::{Package, PackageList};
+use hii_questions::Questions;
+use hii_varstore::Layout;
+use ifr_scopes::Forms;
+use std::alloc::Global;
+use std::marker::Model;
+
+/// The form set of a package list, its buffer stores and its questions. They are seen as the forms package.
+#[derive(Drop)]
+pub struct Declared<'a> {
+    forms: Forms<'a>,
+    layout: Layout<'a>,
+    questions: Questions<'a>,
+}
+
+impl<'a> Model for Declared<'a> {
+    ghost use Rattle.std.specs.Prelude.{ℕ, List};
+    ghost use Rattle.store_audit.specs.code.Declared.{AreDeclared};
+
+    ghost Value = { List ℕ };
+
+    ghost view = { λ d. d.forms };
+
+    ghost invariant = { λ d. AreDeclared d.forms d.layout d.questions };
+}
+
+impl<'a> Declared<'a> {
+    /// The form set of the forms package of a number in a list, or the least fault of the list's packages (1 to 5), that there
+    /// is no such forms package (6), of the forms package (20 to 33, 39, 40), of its stores (34) or of its questions (35 to
+    /// 38). String packages are not read. Where an allocation fails the fault is OutOfMemory (60) at 0.
+    pub fn read(alloc: Global, list: &'a [u8], number: usize) -> Result<Declared<'a>, Fault>
+        ensures found { IfOk result (λ declared. (source : Entry)
+            × HasSource list.entry.now number source × (declared ≡ source.bytes)) }
+        ensures good { IfOk result IsGoodPackage }
+        ensures sound { IfOk result (λ declared. HasNone (IsDeclaredFault list.entry.now number)) }
+        ensures refused { IfErr result (Refuses (IsDeclaredFault list.entry.now number)) }
+    {
+        let source = find_source(list, number)?;
+        form_set(alloc, source)
+    }
+
+    /// The form set.
+    pub fn forms(&self) -> &Forms<'a>
+        ensures { result.now ≡ self.now }
+    {
+        &self.forms
+    }
+
+    /// The stores of the form set that hold bytes.
+    pub fn layout(&self) -> &Layout<'a>
+        ensures { result.now ≡ layout_of (nodes_of self.now) }
+    {
+        &self.layout
+    }
+
+    /// The questions of the form set.
+    pub fn questions(&self) -> &Questions<'a>
+        ensures { result.now ≡ record { ifr = self.now } }
+    {
+        &self.questions
+    }
+}
+
+// The forms package of a number, counted from 1.
+fn find_source(list: &[u8], number: usize) -> Result<Package<'_>, Fault>
+    ensures found { IfOk result (λ source. HasSource list.entry.now number (entry_of source)) }
+    ensures refused { IfErr result (IsLeast (IsSourceFault list.entry.now number)) }
+{
+    let packages = PackageList::read(list)?;
+    spelled_bytes_have_no_fault();
+    packages.forms(number)
+}
+
+// What a forms package declares.
+fn form_set<'a>(alloc: Global, source: Package<'a>) -> Result<Declared<'a>, Fault>
+    ensures read { IfOk result (λ declared. declared ≡ source.entry.bytes.now) }
+    ensures good { IfOk result IsGoodPackage }
+    ensures sound { IfOk result (λ declared. HasNone (IsFormSetFault source.entry.bytes.now)) }
+    ensures refused { IfErr result (Refuses (IsFormSetFault source.entry.bytes.now)) }
+{
+    let forms = Forms::read(alloc, source)?;
+    let layout = Layout::read(alloc, &forms)?;
+    let questions = Questions::read(alloc, &forms, &layout)?;
+    Ok(Declared {
+        forms,
+        layout,
+        questions,
+    })
+}

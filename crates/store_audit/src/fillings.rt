@@ -1,0 +1,203 @@
+//! Stores that are made of given bytes.
+
+ghost use Rattle.std.specs.Prelude.{◌≡◌, ◌≢◌, ◌+◌, ◌≤◌, List, None, IfOk, IfErr, length, map, find, flat_map, option_copied};
+ghost use Rattle.hii_bytes.specs.Faults.{out_of_memory};
+ghost use Rattle.hii_bytes.specs.Watching.{Puts, Writes};
+ghost use Rattle.ifr_scopes.specs.Nodes.{nodes_of};
+ghost use Rattle.hii_varstore.specs.Image.{image_of, SpellsImage};
+ghost use Rattle.hii_varstore.specs.StoreNodes.{layout_of};
+ghost use Rattle.hii_varstore.specs.Stores.{StoreMap, shape_of, with_bytes};
+ghost use Rattle.hii_varstore.specs.code.Ranges.{HasRange};
+ghost use Rattle.ifr_scopes.specs.code.Lists.{store_node};
+ghost use Rattle.store_audit.specs.Fillings as lines;
+ghost use Rattle.store_audit.specs.Fillings.{buffer_stores};
+ghost use Rattle.store_audit.specs.code.Fillings as spec;
+
+use crate::declared::Declared;
+use crate::views::store_name;
+use audit_text::put_ascii_name;
+use hii_bytes::{Fault, Watched};
+use hii_varstore::Stores;
+use hii_varstore::laws::{images_are_read_back, one_map_is_spelled};
+use ifr_scopes::Varstore;
+use std::alloc::Global;
+use std::io::Write;
+
+/// Where the bytes of a store come from.
+#[derive(Debug, Drop)]
+pub enum Source {
+    /// A file of this path, which has these bytes.
+    File { path: String, bytes: Vec<u8> },
+    /// Zeros, as many as the store holds.
+    Zeros,
+    /// No bytes are given.
+    Missing,
+}
+
+/// A store that holds bytes, and where they come from.
+#[derive(Drop)]
+pub struct Filling<'a> {
+    pub store: Varstore<'a>,
+    pub source: Source,
+}
+
+impl Filling<'_> {
+    ghost use Rattle.store_audit.specs.Fillings.{source_text};
+    ghost use Rattle.store_audit.specs.code.Fillings.{is_fit, wanted, filling_bytes};
+
+    // How many bytes the store holds.
+    fn wanted(&self) -> u16
+        ensures { result ≡ wanted self.now }
+    {
+        self.store.size().unwrap_or(0)
+    }
+
+    // How many bytes it is given.
+    fn given(&self) -> usize
+        ensures { result ≡ length (filling_bytes self.now) }
+    {
+        match &self.source {
+            Source::File { bytes, .. } => bytes.len(),
+            Source::Zeros => usize::from(self.wanted()),
+            Source::Missing => 0,
+        }
+    }
+
+    // Whether it is given as many bytes as it holds.
+    fn is_fit(&self) -> bool
+        ensures { result ≡ is_fit self.now }
+    {
+        match &self.source {
+            Source::File { bytes, .. } => bytes.len() == usize::from(self.wanted()),
+            Source::Zeros => true,
+            Source::Missing => false,
+        }
+    }
+
+    // The path of the file, or a word for what is no file.
+    fn source_text(&self) -> &[u8]
+        ensures { result.now ≡ source_text self.now.source }
+    {
+        match &self.source {
+            Source::File { path, .. } => path.as_bytes(),
+            Source::Zeros => b"zeros",
+            Source::Missing => b"-",
+        }
+    }
+}
+
+/// The first store by place that is not given as many bytes as it holds.
+pub fn first_unfit<'f, 'a>(fillings: &'f [Filling<'a>]) -> Option<&'f Filling<'a>>
+    ensures { option_copied result ≡ find spec.is_unfit fillings.entry.now }
+{
+    for filling in fillings {
+        if !filling.is_fit() {
+            return Some(filling);
+        }
+    }
+    None
+}
+
+// Writes the id and the name of a store.
+fn put_names<W: Write>(store: Varstore<'_>, out: &mut Watched<W>)
+    ensures { Puts W.contents out.old out.new (lines.names_text (store_node store.entry)) }
+{
+    out.put_decimal(u64::from(store.id()));
+    out.put(b" ");
+    put_ascii_name(out, store_name(store));
+}
+
+// Writes how many bytes a store is given, and how many it holds.
+fn put_counts<W: Write>(filling: &Filling<'_>, out: &mut Watched<W>)
+    ensures { Puts W.contents out.old out.new
+        (lines.counts_text (spec.filling_node filling.now) filling.now.source) }
+{
+    out.put(b": ");
+    out.put_decimal(filling.given() as u64);
+    out.put(b" bytes given, ");
+    out.put_decimal(u64::from(filling.wanted()));
+    out.put(b" wanted\n");
+}
+
+/// Writes the line that refuses a store which is given no bytes, or not as many as it holds.
+pub fn put_unfit<W: Write>(filling: &Filling<'_>, out: &mut Watched<W>)
+    ensures { Puts W.contents out.old out.new (spec.unfit_text filling.now) }
+{
+    out.put(b"store ");
+    put_names(filling.store, out);
+    match &filling.source {
+        Source::File { .. } => put_counts(filling, out),
+        Source::Zeros => put_counts(filling, out),
+        Source::Missing => out.put(b": no bytes given\n"),
+    }
+}
+
+// Writes the line of a store that is filled.
+fn put_filling<W: Write>(filling: &Filling<'_>, out: &mut Watched<W>)
+    ensures { Puts W.contents out.old out.new (spec.filling_text filling.now) }
+{
+    out.put(b"STORE ");
+    put_names(filling.store, out);
+    out.put(b" ");
+    out.put_decimal(filling.given() as u64);
+    out.put(b" ");
+    out.put(filling.source_text());
+    out.put(b"\n");
+}
+
+/// Writes a line for each store that is filled, with the source of its bytes.
+pub fn put_fillings<W: Write>(fillings: &[Filling<'_>], out: &mut Watched<W>)
+    ensures { Puts W.contents out.old out.new (flat_map spec.filling_text fillings.now) }
+{
+    for filling in fillings {
+        put_filling(filling, out);
+    }
+}
+
+// Puts the bytes of a file into the store of an id, from its first byte on.
+fn put_bytes(stores: &mut Stores, id: u16, bytes: &[u8])
+    requires { HasRange (shape_of stores.old) id 0 (length bytes.now) }
+    ensures { stores.new ≡ with_bytes stores.old id 0 bytes.now }
+{
+    stores.field_mut(id, 0, bytes.len()).copy_from_slice(bytes);
+}
+
+// Puts what a store is given into stores that hold zeros there.
+fn fill(stores: &mut Stores, filling: &Filling<'_>)
+    requires { HasRange (shape_of stores.old) (spec.filling_id filling.now) 0
+        (length (spec.file_bytes filling.now.source)) }
+    ensures { stores.new ≡ spec.filled_with filling.now stores.old }
+{
+    if let Source::File { bytes, .. } = &filling.source {
+        put_bytes(stores, filling.store.id(), bytes);
+    }
+}
+
+/// The stores of a form set, each filled with the bytes that it is given, or OutOfMemory (60) at 0 where an allocation fails.
+pub fn filled(
+    alloc: Global,
+    declared: &Declared<'_>,
+    fillings: &[Filling<'_>],
+) -> Result<Stores, Fault>
+    requires all { map spec.filling_node fillings.now ≡ buffer_stores (nodes_of declared.now) }
+    requires fit { find spec.is_unfit fillings.now ≡ None }
+    ensures made { IfOk result (λ stores. stores
+        ≡ spec.stores_of (layout_of (nodes_of declared.now)).guid fillings.now) }
+    ensures laid { IfOk result (λ stores. shape_of stores ≡ layout_of (nodes_of declared.now)) }
+    // What is read from the image of these stores are the given bytes, store by store.
+    ensures read_back { IfOk result (λ stores. (read : StoreMap)
+        → SpellsImage (layout_of (nodes_of declared.now)) (image_of stores) read
+        → map (λ s. s.bytes) read.stores ≡ map spec.filling_bytes fillings.now) }
+    ensures refused { IfErr result (λ fault. fault ≡ out_of_memory) }
+{
+    images_are_read_back();
+    one_map_is_spelled();
+    let layout = declared.layout();
+    // The buffer stores have different ids.
+    layout.buffers();
+    let mut stores = Stores::zeros(alloc, layout)?;
+    for filling in fillings {
+        fill(&mut stores, filling);
+    }
+    Ok(stores)
+}

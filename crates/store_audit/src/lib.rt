@@ -1,0 +1,14 @@
+//! The stores that a form set declares, told line by line, and the image that is made of given bytes.
+#![tactic(auto)]
+
+mod declared;
+mod fillings;
+mod store_lines;
+#[cfg(test)]
+mod tests;
+mod views;
+
+pub use declared::Declared;
+pub use fillings::{Filling, Source, filled, first_unfit, put_fillings, put_unfit};
+pub use store_lines::put_stores;
+pub use views::{store_guid, store_name};
