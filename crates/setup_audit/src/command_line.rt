@@ -13,6 +13,8 @@ pub enum Task<'a> {
     Stores(ListOptions<'a>),
     /// An image of the stores.
     Image(ImageOptions<'a>),
+    /// A line for each form and each question.
+    Questions(QuestionsOptions<'a>),
 }
 
 /// A dump, and what is told of it.
@@ -31,6 +33,16 @@ pub struct TakenList<'a> {
     pub number: u64,
     /// The file into which its bytes are written.
     pub out: &'a str,
+}
+
+/// A form set over an image of its stores.
+#[derive(Clone, Copy)]
+pub struct QuestionsOptions<'a> {
+    pub list: ListOptions<'a>,
+    /// The file of the image.
+    pub stores: &'a str,
+    /// The language of the texts.
+    pub lang: &'a str,
 }
 
 /// A forms package of a package list.
@@ -67,8 +79,8 @@ pub struct ImageOptions<'a> {
 
 // What `--help` says above the commands.
 const ABOUT: &str = "\
-Takes package lists of UEFI setups out of a dump, tells which stores their form sets
-declare, and makes images of them for setup.";
+Takes package lists of UEFI setups out of a dump, makes images of their stores for
+setup, and tells of each question which opcode forbids its change.";
 
 // What `--help` says below the commands.
 const STATUSES: &str = "\
@@ -91,6 +103,10 @@ const ABOUT_IMAGE: &str = "\
 Makes an image of the stores that hold bytes, and tells where the bytes of each
 come from: its file, else the file of its variable, else zeros";
 
+const ABOUT_QUESTIONS: &str = "\
+Tells each form, and each of its questions: whether it may be changed over an
+image of the stores, which opcode forbids it, its field, its value and its default";
+
 const TAKE_WITHOUT_OUT: &str = "--take N and --out F go together";
 
 const WRONG_STORE: &str = "--store wants the id of a store and a file, as 16=station.bin";
@@ -104,6 +120,13 @@ pub fn read_words<'a>(alloc: Global, words: &'a [String]) -> Result<Task<'a>, Er
             Some(options) => Ok(Task::Split(options)),
             None => Err(command.error(ErrorKind::MissingRequiredArgument, TAKE_WITHOUT_OUT)?),
         };
+    }
+    if let Some(questions) = matches.subcommand_matches("questions") {
+        return Ok(Task::Questions(QuestionsOptions {
+            list: list_in(questions),
+            stores: questions.get_str("stores").unwrap_or(""),
+            lang: questions.get_str("lang").unwrap_or("en-US"),
+        }));
     }
     if let Some(stores) = matches.subcommand_matches("stores") {
         return Ok(Task::Stores(list_in(stores)));
@@ -176,7 +199,8 @@ fn command<'a>(alloc: Global) -> Result<Command<'a>, AllocError> {
         .subcommand_required(true)
         .subcommand(split(alloc)?)?
         .subcommand(stores(alloc)?)?
-        .subcommand(image(alloc)?)
+        .subcommand(image(alloc)?)?
+        .subcommand(questions(alloc)?)
 }
 
 fn split<'a>(alloc: Global) -> Result<Command<'a>, AllocError> {
@@ -194,6 +218,19 @@ fn split<'a>(alloc: Global) -> Result<Command<'a>, AllocError> {
         .arg(dump)?
         .arg(take)?
         .arg(out)
+}
+
+fn questions<'a>(alloc: Global) -> Result<Command<'a>, AllocError> {
+    let stores = option(alloc, "stores", "F", "Image of the variable stores").required(true);
+    let lang = option(alloc, "lang", "L", "Language of the texts, as de or en-US")
+        .allow_hyphen_values(true)
+        .default_value("en-US");
+    Command::new(alloc, "questions")
+        .about(ABOUT_QUESTIONS)
+        .arg(list(alloc))?
+        .arg(stores)?
+        .arg(forms(alloc))?
+        .arg(lang)
 }
 
 fn stores<'a>(alloc: Global) -> Result<Command<'a>, AllocError> {

@@ -1,9 +1,12 @@
-//! What stands around `setup`: the package lists of a dump, the stores that a list declares, and images of them.
+//! What stands around `setup`: the package lists of a dump, the stores that a list declares and images of them, and the questions of
+//! a form set with what forbids their change.
 #![tactic(auto)]
 
 mod answers;
+mod auditing;
 mod command_line;
 mod image;
+mod questions;
 mod sources;
 mod split;
 mod stores;
@@ -26,6 +29,7 @@ fn run<R: Env + Files + Print + Eprint + AllocGlobal>(rt: &R) -> Result<(), Stat
     let words = words(rt)?;
     match read_words(rt.alloc(), words.as_slice()) {
         Ok(Task::Split(options)) => split::run(rt, options),
+        Ok(Task::Questions(options)) => questions::run(rt, options),
         Ok(Task::Stores(list)) => stores::run(rt, list),
         Ok(Task::Image(options)) => image::run(rt, &options),
         Err(e) => Err(if e.kind() == ErrorKind::OutOfMemory {

@@ -1,0 +1,9 @@
+pub mod NameLemmas
+pub mod MetLemmas
+pub mod FoundLemmas
+pub mod ReachLemmas
+pub mod LineLemmas
+pub mod ScriptLemmas
+pub mod TakingLemmas
+pub mod UndefinedLemmas
+pub mod QuestionsLemmas

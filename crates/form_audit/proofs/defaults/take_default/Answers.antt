@@ -1,0 +1,14 @@
+use Rattle.std.proofs.Common.{subst, sym}
+use Rattle.hii_varstore.specs.Stores.{StoreMap, shape_of}
+use Rattle.hii_questions.specs.code.Checks.{range_of}
+use Rattle.hii_questions.specs.code.LyingIn.{LiesIn}
+use Rattle.hii_questions.specs.code.Views.{question_view}
+use Rattle.form_audit.proofs.defaults.take_default.Goals as goal
+
+pub check_value-requires : goal.check_value-requires
+check_value-requires g c = c.in_ok-input.ensures.given (question_view c.args.question).field
+
+pub put-requires : goal.put-requires
+put-requires g c =
+    let lies = subst (λ (m : StoreMap). LiesIn (shape_of m) (question_view c.args.question)) (sym c.requires.same) c.requires.lies in
+    lies (range_of c.in-Ok.field) c.in-Ok.ensures.given.1

@@ -1,0 +1,78 @@
+//! The names of stores.
+
+ghost use Rattle.std.specs.Prelude.{◌≡◌, IfOk, option_map};
+ghost use Rattle.ifr_scopes.specs.Nodes.{nodes_of};
+ghost use Rattle.ifr_scopes.specs.code.Lists.{store_node};
+ghost use Rattle.form_audit.specs.QuestionLines.{name_of, store_name, store_with};
+
+use ifr_scopes::{Forms, StoreOp, Varstore};
+use std::alloc::{AllocError, Global};
+use std::marker::Model;
+
+/// The stores of a form set, which are found by their ids. They are seen as the package.
+#[derive(Drop)]
+pub(crate) struct StoreNames<'a> {
+    ifr: &'a [u8],
+    // Sorted by their ids.
+    stores: Vec<Varstore<'a>>,
+}
+
+impl<'a> Model for StoreNames<'a> {
+    ghost use Rattle.std.specs.Prelude.{ℕ, List};
+    ghost use Rattle.form_audit.specs.code.Names.{AreStoresOf};
+
+    ghost Value = { List ℕ };
+
+    ghost view = { λ s. s.ifr.now };
+
+    ghost invariant = { λ s. AreStoresOf s.ifr.now s.stores.items };
+}
+
+fn name(store: Varstore<'_>) -> &[u8]
+    ensures { result.now ≡ store_name (store_node store.entry).op }
+{
+    match store.op() {
+        StoreOp::Varstore(store) => store.name(),
+        StoreOp::VarstoreEfi(store) => store.name(),
+        StoreOp::NameValue(_) => &[],
+    }
+}
+
+impl<'a> StoreNames<'a> {
+    /// The stores of a form set.
+    pub(crate) fn read(alloc: Global, forms: &Forms<'a>) -> Result<StoreNames<'a>, AllocError>
+        ensures { IfOk result (λ names. names ≡ forms.now) }
+    {
+        let mut stores = Vec::new(alloc);
+        for store in forms.stores() {
+            stores.push(store)?;
+        }
+        stores.sort_by_key(|store| store.id())?;
+        Ok(StoreNames {
+            ifr: forms.bytes(),
+            stores,
+        })
+    }
+
+    /// The store of an id, if there is one.
+    pub(crate) fn find(&self, id: u16) -> Option<Varstore<'a>>
+        ensures { option_map store_node result ≡ store_with (nodes_of self.now) id }
+    {
+        let stores = self.stores.as_slice();
+        let first = stores.partition_point(|store| store.id() < id);
+        if first < stores.len() && stores[first].id() == id {
+            return Some(stores[first]);
+        }
+        None
+    }
+
+    /// The name of the store of an id, or no bytes.
+    pub(crate) fn name(&self, id: u16) -> &'a [u8]
+        ensures { result.now ≡ name_of (store_with (nodes_of self.now) id) }
+    {
+        match self.find(id) {
+            Some(store) => name(store),
+            None => &[],
+        }
+    }
+}

@@ -1,0 +1,28 @@
+-- What an audit over bytes tells (own rule).
+use Rattle.std.specs.Prelude.{ℕ, Bool}
+use Rattle.hii_bytes.specs.Watching.{Pen, Writes}
+use Rattle.browser_core.specs.Opening.{Opens}
+use Rattle.browser_core.specs.State.{State, texts, world_of}
+use Rattle.browser_core.specs.Step.{sources}
+use Rattle.form_audit.specs.Audited.{Audited}
+use Rattle.form_audit.specs.FormLines.{questions_text}
+use Rattle.form_audit.specs.Reach.{TellsReached}
+use Rattle.setup_audit.specs.declared.auditing.Given.{Given}
+
+-- what an audit looks at, of what a session begins with
+abbrev pub audited_at : State → Audited
+audited_at s = record {
+  texts = texts s;
+  world = world_of s;
+  stores = s.working;
+  sources = sources s;
+}
+
+-- The bytes open a session, and its forms and questions are told, so that a verdict is the one with which the session answers `why`
+-- at first.
+pub record Audits (given : Given) (old new : Pen) : Type 0 where
+  pub start : State
+  pub opens : Opens given.list.now given.forms given.stores.now given.lang.now start
+  pub is_reached : ℕ → Bool
+  pub reached : TellsReached (world_of start) is_reached
+  pub told : Writes old new (questions_text (audited_at start) is_reached)

@@ -1,0 +1,41 @@
+//! An audit over bytes that are given.
+
+ghost use Rattle.std.specs.Prelude.{◌≡◌, OnOk, IfErr};
+ghost use Rattle.hii_bytes.specs.Faults.{Refuses};
+ghost use Rattle.hii_bytes.specs.Watching.{pen_of};
+ghost use Rattle.browser_core.specs.Opening.{IsOpenFault};
+ghost use Rattle.setup_audit.specs.Auditing.{Audits};
+
+use browser_core::Session;
+use form_audit::put_questions;
+use hii_bytes::{Fault, Watched};
+use std::alloc::Global;
+use std::io::Write;
+
+/// What an audit is of.
+#[derive(Clone, Copy)]
+pub struct Given<'a> {
+    /// The bytes of the package list.
+    pub list: &'a [u8],
+    /// Which forms package is opened, counted from 1.
+    pub forms: usize,
+    /// The image of the stores.
+    pub stores: &'a [u8],
+    /// The language of the texts.
+    pub lang: &'a [u8],
+}
+
+/// Writes each form of the form set, and each of its questions with what forbids its change, over the image; or gives the least fault
+/// of what is given, by which a session over it is refused, or that an allocation failed. Then nothing is written.
+pub fn put_audit<W: Write>(
+    alloc: Global,
+    given: Given<'_>,
+    out: &mut Watched<W>,
+) -> Result<(), Fault>
+    ensures told { OnOk result (Audits given.entry (pen_of W.contents out.old) (pen_of W.contents out.new)) }
+    ensures refused { IfErr result (Refuses (IsOpenFault given.entry.list.now given.entry.forms given.entry.stores.now)) }
+    ensures nothing { IfErr result (λ _. pen_of W.contents out.new ≡ pen_of W.contents out.old) }
+{
+    let session = Session::open(alloc, given.list, given.forms, given.stores, given.lang)?;
+    put_questions(alloc, session.page(), out)
+}
