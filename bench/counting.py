@@ -14,7 +14,9 @@ HERE = os.path.dirname(os.path.abspath(__file__))
 sys.path.insert(0, os.path.join(os.path.dirname(HERE), "tests"))
 from packages import END_PACKAGE, older_image, package, package_list
 
-PROGRAM = os.path.join(os.path.dirname(HERE), "crates", "setup_main", "out", "setup_main")
+CRATES = os.path.join(os.path.dirname(HERE), "crates")
+PROGRAM = os.path.join(CRATES, "setup_main", "out", "setup_main")
+AUDIT = os.path.join(CRATES, "setup_audit", "out", "setup_audit")
 SIZES = [1000, 2000, 4000, 8000]
 MOST_PER_DOUBLING, MOST_OF_THE_SAME = 2.4, 1.2
 
@@ -22,8 +24,8 @@ MOST_PER_DOUBLING, MOST_OF_THE_SAME = 2.4, 1.2
 class Counter:
     """Counts what runs of a program take, and how many counts are wrong."""
 
-    def __init__(self, program, scratch):
-        self.program, self.scratch, self.wrong = program, scratch, 0
+    def __init__(self, program, audit, scratch):
+        self.program, self.audit, self.scratch, self.wrong = program, audit, scratch, 0
 
     def file(self, name, content):
         path = os.path.join(self.scratch, name)
@@ -31,31 +33,40 @@ class Counter:
             f.write(content)
         return path
 
-    def run_under(self, tool, texts, opcodes, held, script):
-        """A run under a tool of valgrind, over string packages and a forms package with a store of so many bytes, or with these
-        stores."""
+    def given(self, texts, opcodes, held):
+        """The words that give string packages and a forms package with a store of so many bytes, or with these stores."""
         packages = texts + package(opcodes) + END_PACKAGE
         stores = [(1, bytes(held))] if isinstance(held, int) else held
-        words = ["--list", self.file("list", package_list(packages)), "--stores", self.file("stores", older_image(stores))]
-        words += ["--out", os.path.join(self.scratch, "image")]
-        done = subprocess.run(["valgrind", *tool, self.program, *words], input=script, capture_output=True)
+        return ["--list", self.file("list", package_list(packages)), "--stores", self.file("stores", older_image(stores))]
+
+    def session(self, texts, opcodes, held):
+        """The command of a session over these."""
+        return [self.program, *self.given(texts, opcodes, held), "--out", os.path.join(self.scratch, "image")]
+
+    def run_under(self, tool, command, script):
+        """A run of a command under a tool of valgrind."""
+        done = subprocess.run(["valgrind", *tool, *command], input=script, capture_output=True)
         if done.returncode != 0:
             sys.exit("a run ends with %d: %r %r" % (done.returncode, done.stdout[:200], done.stderr[-400:]))
         return done
 
-    def measure(self, texts, opcodes, held, script):
-        """The instructions of such a run, and its answers."""
-        tool = ["--tool=callgrind", "--callgrind-out-file=/dev/null"]
-        done = self.run_under(tool, texts, opcodes, held, script)
+    def instructions(self, command, script):
+        """The instructions of a run, and its answers."""
+        done = self.run_under(["--tool=callgrind", "--callgrind-out-file=/dev/null"], command, script)
         told = re.search(rb"Collected : (\d+)", done.stderr)
         if not told:
             sys.exit("valgrind tells no count: %r" % done.stderr[-400:])
         return int(told.group(1)), done.stdout
 
+    def measure(self, texts, opcodes, held, script):
+        """The instructions of a session's script, and its answers."""
+        return self.instructions(self.session(texts, opcodes, held), script)
+
     def peak(self, texts, opcodes, held, script):
-        """The bytes of memory that such a run has taken and not given back where these are most."""
+        """The bytes of memory that such a session has taken and not given back where these are most."""
         told = os.path.join(self.scratch, "massif")
-        self.run_under(["--tool=massif", "--peak-inaccuracy=0.0", "--massif-out-file=" + told], texts, opcodes, held, script)
+        tool = ["--tool=massif", "--peak-inaccuracy=0.0", "--massif-out-file=" + told]
+        self.run_under(tool, self.session(texts, opcodes, held), script)
         with open(told, encoding="utf-8") as f:
             return max(int(count) for count in re.findall(r"^mem_heap_B=(\d+)$", f.read(), re.MULTILINE))
 
@@ -81,13 +92,15 @@ class Counter:
         return 0 if self.wrong == 0 else 1
 
 
-def main(doc, counter):
-    """Runs a counter of this kind over the sizes that the command line asks for, and gives the status."""
+def main(doc, counter, parts):
+    """Runs a counter of this kind over the sizes, and those of its parts, that the command line asks for, and gives the status."""
     parser = argparse.ArgumentParser(description=doc, formatter_class=argparse.RawDescriptionHelpFormatter)
     parser.add_argument("program", nargs="?", default=PROGRAM)
     parser.add_argument("--sizes", nargs="*", type=int, default=SIZES)
+    parser.add_argument("--only", nargs="+", choices=parts, default=parts, metavar="PART")
+    parser.add_argument("--audit", default=AUDIT)
     options = parser.parse_args()
     with tempfile.TemporaryDirectory() as scratch:
-        made = counter(os.path.abspath(options.program), scratch)
-        made.run(options.sizes)
+        made = counter(os.path.abspath(options.program), os.path.abspath(options.audit), scratch)
+        made.run(options.sizes, options.only)
         return made.done()

@@ -1,3 +1,4 @@
 pub mod Texts
 pub mod Words
+pub mod Stores
 pub mod code

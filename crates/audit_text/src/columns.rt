@@ -27,7 +27,7 @@ pub fn put_hex_place<W: Write>(out: &mut Watched<W>, place: u64)
 }
 
 /// Writes a number in lower-case hex digits, without zeros before it, and tells how many these are.
-pub fn put_hexadecimal<W: Write>(out: &mut Watched<W>, number: u32) -> usize
+pub fn put_hexadecimal<W: Write>(out: &mut Watched<W>, number: u64) -> usize
     ensures text { Puts W.contents out.old out.new (hex_text number) }
     ensures count { result ≡ length (hex_text number) }
     ensures few { result ≤ number + 1 }

@@ -2,8 +2,17 @@ pub mod NameLemmas
 pub mod MetLemmas
 pub mod FoundLemmas
 pub mod ReachLemmas
+pub mod KeptLemmas
 pub mod LineLemmas
 pub mod ScriptLemmas
 pub mod TakingLemmas
 pub mod UndefinedLemmas
 pub mod QuestionsLemmas
+pub mod FactLemmas
+pub mod AroundLemmas
+pub mod DependLemmas
+pub mod FlagLemmas
+pub mod ValueLemmas
+pub mod AskedLemmas
+pub mod RangeLemmas
+pub mod OneLineLemmas

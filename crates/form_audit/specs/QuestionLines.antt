@@ -2,10 +2,10 @@
 use Rattle.std.specs.Prelude.{ℕ, ◌==◌, Bool, true, false, bytes_eq, if◌then◌else◌, Option, Some, None, List, [], ◌∷◌, ◌++◌, filter, replicate, codes, decimal}
 use Rattle.std.specs.List.{find, flat_map}
 use Rattle.hii_bytes.specs.Texts.{right_aligned}
-use Rattle.ifr_opcodes.specs.Fields.{has_flag, question_flags, question_id, ref_form_set, statement_prompt, varstore_efi_name, varstore_name}
+use Rattle.ifr_opcodes.specs.Fields.{has_flag, question_flags, question_id, ref_form_set, statement_prompt}
 use Rattle.ifr_opcodes.specs.Forest.{Placed}
 use Rattle.ifr_opcodes.specs.Opcode.{number}
-use Rattle.ifr_opcodes.specs.declared.codes.TheConstants.{REF, VARSTORE, VARSTORE_EFI}
+use Rattle.ifr_opcodes.specs.declared.codes.TheConstants.{REF}
 use Rattle.ifr_expr.specs.Meaning.{value}
 use Rattle.ifr_expr.specs.Values.{Value, undefined}
 use Rattle.ifr_scopes.specs.Conditions.{expression_tree}
@@ -18,6 +18,7 @@ use Rattle.guard_policy.specs.Policy.{fixed}
 use Rattle.guard_policy.specs.declared.denial.Denial.{Denial}
 use Rattle.form_page.specs.RowValues.{value_shown}
 use Rattle.form_page.specs.Texts.{utf8}
+use Rattle.audit_text.specs.Stores.{store_name}
 use Rattle.audit_text.specs.Texts.{ascii_name, guid_text, hex_text, left_aligned, place_text}
 use Rattle.audit_text.specs.Words.{opcode_name}
 use Rattle.form_audit.specs.Audited.{Audited}
@@ -35,13 +36,6 @@ verdict_columns (Some denial) =
 -- the store of an id, of any kind
 abbrev pub store_with : List Placed → ℕ → Option Placed
 store_with ns id = find (λ n. store_id n.op == id) (filter is_store ns)
-
--- the name of a store; one of names and values has none
-abbrev pub store_name : List ℕ → List ℕ
-store_name op =
-    if number op == VARSTORE then varstore_name op
-    else if number op == VARSTORE_EFI then varstore_efi_name op
-    else []
 
 abbrev pub name_of : Option Placed → List ℕ
 name_of None = []

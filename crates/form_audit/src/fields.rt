@@ -39,7 +39,7 @@ fn put_field<W: Write>(names: &StoreNames<'_>, field: FieldRange, out: &mut Watc
     let name = names.name(field.store);
     put_ascii_name(out, name);
     out.put(b":0x");
-    let offset = put_hexadecimal(out, u32::from(field.offset));
+    let offset = put_hexadecimal(out, u64::from(field.offset));
     out.put(b"(");
     let width = put_number(field.width, out);
     out.put(b")");

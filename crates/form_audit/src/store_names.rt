@@ -3,9 +3,10 @@
 ghost use Rattle.std.specs.Prelude.{◌≡◌, IfOk, option_map};
 ghost use Rattle.ifr_scopes.specs.Nodes.{nodes_of};
 ghost use Rattle.ifr_scopes.specs.code.Lists.{store_node};
-ghost use Rattle.form_audit.specs.QuestionLines.{name_of, store_name, store_with};
+ghost use Rattle.form_audit.specs.QuestionLines.{name_of, store_with};
 
-use ifr_scopes::{Forms, StoreOp, Varstore};
+use audit_text::store_name;
+use ifr_scopes::{Forms, Varstore};
 use std::alloc::{AllocError, Global};
 use std::marker::Model;
 
@@ -26,16 +27,6 @@ impl<'a> Model for StoreNames<'a> {
     ghost view = { λ s. s.ifr.now };
 
     ghost invariant = { λ s. AreStoresOf s.ifr.now s.stores.items };
-}
-
-fn name(store: Varstore<'_>) -> &[u8]
-    ensures { result.now ≡ store_name (store_node store.entry).op }
-{
-    match store.op() {
-        StoreOp::Varstore(store) => store.name(),
-        StoreOp::VarstoreEfi(store) => store.name(),
-        StoreOp::NameValue(_) => &[],
-    }
 }
 
 impl<'a> StoreNames<'a> {
@@ -71,7 +62,7 @@ impl<'a> StoreNames<'a> {
         ensures { result.now ≡ name_of (store_with (nodes_of self.now) id) }
     {
         match self.find(id) {
-            Some(store) => name(store),
+            Some(store) => store_name(store),
             None => &[],
         }
     }

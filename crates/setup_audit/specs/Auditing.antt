@@ -6,6 +6,7 @@ use Rattle.browser_core.specs.State.{State, texts, world_of}
 use Rattle.browser_core.specs.Step.{sources}
 use Rattle.form_audit.specs.Audited.{Audited}
 use Rattle.form_audit.specs.FormLines.{questions_text}
+use Rattle.form_audit.specs.QuestionFacts.{TellsQuestion}
 use Rattle.form_audit.specs.Reach.{TellsReached}
 use Rattle.setup_audit.specs.declared.auditing.Given.{Given}
 
@@ -26,3 +27,9 @@ pub record Audits (given : Given) (old new : Pen) : Type 0 where
   pub is_reached : ℕ → Bool
   pub reached : TellsReached (world_of start) is_reached
   pub told : Writes old new (questions_text (audited_at start) is_reached)
+
+-- The bytes open a session, and what is known of the question of an id is told, with its place in the list; or that there is none.
+pub record AuditsQuestion (is_there : Bool) (given : Given) (id : ℕ) (old new : Pen) : Type 0 where
+  pub start : State
+  pub opens : Opens given.list.now given.forms given.stores.now given.lang.now start
+  pub told : TellsQuestion is_there (audited_at start) opens.source.place id old new

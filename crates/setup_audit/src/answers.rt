@@ -50,6 +50,14 @@ pub fn declared<'a, R: Print + Eprint + AllocGlobal>(
     }
 }
 
+/// Tells a fault behind the answers.
+pub fn refused_behind<R: Print + Eprint>(rt: &R, out: Answers<'_, R>, fault: Fault) -> Status {
+    match pass_on(rt, out) {
+        Ok(()) => refused_at(rt, fault),
+        Err(status) => status,
+    }
+}
+
 /// Tells a fault as an answer, at its place; want of memory has none.
 pub fn refused_at<R: Print + Eprint>(rt: &R, refusal: Fault) -> Status {
     if refusal.cause == Cause::OutOfMemory {

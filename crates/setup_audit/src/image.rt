@@ -1,8 +1,8 @@
 //! `image`: an image of the stores of a form set, made of given bytes.
 
 use crate::answers::{answers, declared, pass_on, refusal, refused_at};
-use crate::command_line::{ImageOptions, StoreFile};
 use crate::sources::fillings;
+use audit_options::{ImageOptions, StoreFile};
 use hii_bytes::Watched;
 use hii_varstore::{Layout, Stores};
 use setup_files::{OutFile, Status, fault, file};

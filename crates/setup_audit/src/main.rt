@@ -4,15 +4,16 @@
 
 mod answers;
 mod auditing;
-mod command_line;
+mod given;
 mod image;
+mod question;
 mod questions;
 mod sources;
 mod split;
 mod stores;
 
+use audit_options::{Task, read_words};
 use clap::error::ErrorKind;
-use command_line::{Task, read_words};
 use hii_bytes::Cause;
 use setup_files::{Status, refused, usage, words};
 use std::process::ExitCode;
@@ -30,6 +31,7 @@ fn run<R: Env + Files + Print + Eprint + AllocGlobal>(rt: &R) -> Result<(), Stat
     match read_words(rt.alloc(), words.as_slice()) {
         Ok(Task::Split(options)) => split::run(rt, options),
         Ok(Task::Questions(options)) => questions::run(rt, options),
+        Ok(Task::Question(options)) => question::run(rt, options),
         Ok(Task::Stores(list)) => stores::run(rt, list),
         Ok(Task::Image(options)) => image::run(rt, &options),
         Err(e) => Err(if e.kind() == ErrorKind::OutOfMemory {

@@ -1,30 +1,21 @@
 //! `questions`: each question of a form set, with what forbids its change.
 
-use crate::answers::{answers, pass_on, refused_at};
-use crate::auditing::{Given, put_audit};
-use crate::command_line::QuestionsOptions;
-use setup_files::{Status, file};
+use crate::answers::{answers, pass_on, refused_behind};
+use crate::auditing::put_audit;
+use crate::given::FormSetFiles;
+use audit_options::FormSetOptions;
+use setup_files::Status;
 use std::rt::Files;
 
 /// Tells the forms and the questions of a list over an image of its stores.
 pub fn run<R: Files + Print + Eprint + AllocGlobal>(
     rt: &R,
-    options: QuestionsOptions<'_>,
+    options: FormSetOptions<'_>,
 ) -> Result<(), Status> {
-    let list = file(rt, options.list.path, "read list")?;
-    let stores = file(rt, options.stores, "read stores")?;
-    let given = Given {
-        list: list.as_slice(),
-        forms: usize::from(options.list.forms),
-        stores: stores.as_slice(),
-        lang: options.lang.as_bytes(),
-    };
+    let files = FormSetFiles::read(rt, options)?;
     let mut out = answers(rt)?;
-    match put_audit(rt.alloc(), given, &mut out) {
+    match put_audit(rt.alloc(), files.given(), &mut out) {
         Ok(()) => pass_on(rt, out),
-        Err(fault) => {
-            pass_on(rt, out)?;
-            Err(refused_at(rt, fault))
-        }
+        Err(fault) => Err(refused_behind(rt, out, fault)),
     }
 }

@@ -5,8 +5,8 @@ ghost use Rattle.ifr_scopes.specs.Nodes.{nodes_of};
 ghost use Rattle.store_audit.specs.Fillings.{buffer_stores};
 ghost use Rattle.store_audit.specs.code.Fillings.{filling_node};
 
-use crate::command_line::ImageOptions;
-use audit_text::{Case, guid_digits};
+use audit_options::ImageOptions;
+use audit_text::{Case, guid_digits, store_guid, store_name};
 use hii_bytes::Cause;
 use ifr_scopes::Varstore;
 use setup_files::{Status, file, refused};
@@ -14,7 +14,7 @@ use std::alloc::Global;
 use std::io::ErrorKind;
 use std::rt::Files;
 use std::{fmt, fs, str};
-use store_audit::{Declared, Filling, Source, store_guid, store_name};
+use store_audit::{Declared, Filling, Source};
 
 // How many bytes a variable's attributes take in its file.
 const ATTRIBUTES: usize = 4;

@@ -1,7 +1,7 @@
 //! `split`: the package lists of a dump.
 
 use crate::answers::{answers, pass_on, refusal};
-use crate::command_line::{SplitOptions, TakenList};
+use audit_options::{SplitOptions, TakenList};
 use dump_audit::{put_list, put_split};
 use hii_bytes::Watched;
 use hii_dumps::Dump;

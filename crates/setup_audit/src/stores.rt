@@ -1,7 +1,7 @@
 //! `stores`: a line for each store of a form set.
 
 use crate::answers::{answers, declared, pass_on};
-use crate::command_line::ListOptions;
+use audit_options::ListOptions;
 use setup_files::{Status, file};
 use std::rt::Files;
 use store_audit::put_stores;

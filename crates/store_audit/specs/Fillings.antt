@@ -3,9 +3,9 @@ use Rattle.std.specs.Prelude.{ℕ, ◌==◌, Bool, true, false, List, [], ◌++�
 use Rattle.ifr_opcodes.specs.Forest.{Placed}
 use Rattle.ifr_scopes.specs.Nodes.{is_store}
 use Rattle.ifr_scopes.specs.Stores.{store_id, store_size}
+use Rattle.audit_text.specs.Stores.{store_name}
 use Rattle.audit_text.specs.Texts.{ascii_name}
 use Rattle.hii_varstore.specs.Stores.{Store}
-use Rattle.store_audit.specs.StoreLines.{store_name}
 use Rattle.store_audit.specs.declared.fillings.Source.{Source}
 use Rattle.store_audit.specs.declared.fillings.Source.TheVariants.{File, Zeros, Missing}
 

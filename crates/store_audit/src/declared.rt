@@ -49,7 +49,7 @@ impl<'a> Declared<'a> {
         ensures sound { IfOk result (λ declared. HasNone (IsDeclaredFault list.entry.now number)) }
         ensures refused { IfErr result (Refuses (IsDeclaredFault list.entry.now number)) }
     {
-        let source = find_source(list, number)?;
+        let source = forms_package(list, number)?;
         form_set(alloc, source)
     }
 
@@ -75,8 +75,9 @@ impl<'a> Declared<'a> {
     }
 }
 
-// The forms package of a number, counted from 1.
-fn find_source(list: &[u8], number: usize) -> Result<Package<'_>, Fault>
+/// The forms package of a number in a list, counted from 1, or the least fault of the list's packages (1 to 5), or that there is no
+/// such forms package (6).
+pub fn forms_package(list: &[u8], number: usize) -> Result<Package<'_>, Fault>
     ensures found { IfOk result (λ source. HasSource list.entry.now number (entry_of source)) }
     ensures refused { IfErr result (IsLeast (IsSourceFault list.entry.now number)) }
 {

@@ -14,8 +14,7 @@ ghost use Rattle.store_audit.specs.Fillings.{buffer_stores};
 ghost use Rattle.store_audit.specs.code.Fillings as spec;
 
 use crate::declared::Declared;
-use crate::views::store_name;
-use audit_text::put_ascii_name;
+use audit_text::{put_ascii_name, store_name};
 use hii_bytes::{Fault, Watched};
 use hii_varstore::Stores;
 use hii_varstore::laws::{images_are_read_back, one_map_is_spelled};

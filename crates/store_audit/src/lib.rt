@@ -6,9 +6,7 @@ mod fillings;
 mod store_lines;
 #[cfg(test)]
 mod tests;
-mod views;
 
-pub use declared::Declared;
+pub use declared::{Declared, forms_package};
 pub use fillings::{Filling, Source, filled, first_unfit, put_fillings, put_unfit};
 pub use store_lines::put_stores;
-pub use views::{store_guid, store_name};

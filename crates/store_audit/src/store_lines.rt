@@ -7,8 +7,10 @@ ghost use Rattle.ifr_scopes.specs.Nodes.{nodes_of};
 ghost use Rattle.ifr_scopes.specs.code.Lists.{store_node};
 ghost use Rattle.store_audit.specs.StoreLines.{size_text, store_line, stores_text};
 
-use crate::views::{attributes, kind, store_guid, store_name};
-use audit_text::{Case, put_ascii_name, put_guid, put_left};
+use audit_text::{
+    Case, put_ascii_name, put_guid, put_left, store_attributes, store_guid, store_name,
+    store_opcode_name,
+};
 use hii_bytes::Watched;
 use ifr_scopes::{Forms, Varstore};
 use std::io::Write;
@@ -29,11 +31,11 @@ fn put_store<W: Write>(store: Varstore<'_>, out: &mut Watched<W>)
 {
     out.put_decimal_right(5, u64::from(store.id()));
     out.put(b" ");
-    put_left(out, 19, kind(store));
+    put_left(out, 19, store_opcode_name(store));
     out.put(b" ");
     put_size(store.size(), out);
     out.put(b" ");
-    put_left(out, 8, attributes(store));
+    put_left(out, 8, store_attributes(store));
     out.put(b" ");
     put_guid(out, store_guid(store), Case::Upper);
     out.put(b" ");

@@ -6,26 +6,21 @@ use Rattle.ifr_scopes.specs.code.Checked.{IsNodeOf}
 use Rattle.hii_questions.specs.code.Views.{question_node}
 use Rattle.guard_policy.specs.Policy.{fixed}
 use Rattle.guard_policy.specs.code.Answers.{unless}
-use Rattle.guard_policy.specs.code.KeptConditions.{TellsAll}
 use Rattle.guard_policy.specs.code.Views.{bytes_of, world}
 use Rattle.guard_policy.specs.declared.policy.Policy.{Policy}
 use Rattle.guard_policy.specs.declared.support.Decision.TheVariants.{Changeable}
-use Rattle.guard_policy.proofs.ToldLemmas.{decision_told}
+use Rattle.form_audit.proofs.KeptLemmas.{kept_told}
 use Rattle.form_audit.proofs.question_line.put_columns.Goals as goal
 
 pub returns : goal.returns
 returns g c =
     let page = c.args.page in
-    let policy = c.policy.result in
     let stores = page.stores.now in
     let n = question_node c.args.question in
-    let holding = g.C.Conditions.holding c.conditions.result.now in
-    let told = subst (λ (p : Policy). TellsAll holding (world p stores)) (sym c.policy.ensures) c.conditions.ensures in
-    let own = subst (λ (p : Policy). IsNodeOf (bytes_of p) n) (sym c.policy.ensures) c.requires.node in
-    let node = subst (λ (m : Placed). IsNodeOf (bytes_of policy) m) (sym c.statement.ensures) own in
-    let tells = decision_told (bytes_of policy) policy.removed.now stores holding policy.accepted told (Changeable c.statement.result) node refl in
+    let node = subst (λ (m : Placed). IsNodeOf (bytes_of page.policy) m) (sym c.statement.ensures) c.requires.node in
+    let tells = kept_told page.policy c.policy.result stores (g.C.Conditions.holding c.conditions.result.now) (Changeable c.statement.result) c.policy.ensures c.conditions.ensures node refl in
     let verdict =
-    c.changeable_by-verdict.ensures stores tells ∙ ap (λ (m : Placed). unless (fixed (world policy stores) m)) c.statement.ensures
+    c.changeable_by-verdict.ensures stores tells ∙ ap (λ (m : Placed). unless (fixed (world c.policy.result stores) m)) c.statement.ensures
     ∙ ap (λ (p : Policy). unless (fixed (world p stores) n)) c.policy.ensures in
     let code = ap number c.op.ensures.bytes in
     rw (c.from.ensures, c.id.ensures, c.opcode_name.ensures, code, c.requires.names, c.field.ensures.found) at

@@ -1,0 +1,162 @@
+//! The commands and options, in the order in which help lists them.
+
+use clap::{Arg, ArgAction, Command};
+use std::alloc::{AllocError, Global};
+
+// What `--help` says above the commands.
+const ABOUT: &str = "\
+Takes package lists of UEFI setups out of a dump, makes images of their stores for
+setup, and tells of each question which opcode forbids its change.";
+
+// What `--help` says below the commands.
+const STATUSES: &str = "\
+Statuses:
+  0  the answers are written, and the file of --out where there is one
+  1  what was given is refused: why stands on standard output
+  2  wrong usage, or help
+  3  a read or a write failed: FAULT on standard error
+  4  out of memory: REFUSED 60 OutOfMemory on standard output";
+
+const ABOUT_SPLIT: &str = "\
+Tells the package lists of a dump, or takes one of them: a dump is lists, one
+after the other, as the HII database exports them";
+
+const ABOUT_STORES: &str = "\
+Tells each store: its id, its opcode, how many bytes it holds, its attributes,
+its GUID and its name";
+
+const ABOUT_IMAGE: &str = "\
+Makes an image of the stores that hold bytes, and tells where the bytes of each
+come from: its file, else the file of its variable, else zeros";
+
+const ABOUT_QUESTIONS: &str = "\
+Tells each form, and each of its questions: whether it may be changed over an
+image of the stores, which opcode forbids it, its field, its value and its default";
+
+const ABOUT_QUESTION: &str = "\
+Tells what is known of one question: its opcode and field, its value and defaults,
+each guard and check around it in words, its options, on which questions it depends
+whether it may be changed, and for which questions it decides that";
+
+pub(crate) fn command<'a>(alloc: Global) -> Result<Command<'a>, AllocError> {
+    Command::new(alloc, "setup_audit")
+        .bin_name("setup_audit")?
+        .about(ABOUT)
+        .after_help(STATUSES)
+        .subcommand_required(true)
+        .subcommand(split(alloc)?)?
+        .subcommand(stores(alloc)?)?
+        .subcommand(image(alloc)?)?
+        .subcommand(questions(alloc)?)?
+        .subcommand(question(alloc)?)
+}
+
+fn split<'a>(alloc: Global) -> Result<Command<'a>, AllocError> {
+    let dump = option(alloc, "dump", "F", "Package lists, one after the other").required(true);
+    let take = option(
+        alloc,
+        "take",
+        "N",
+        "Number of the list that is taken, counted from 1",
+    )
+    .value_parser(clap::value_parser!(u64).range(1..));
+    let out = option(alloc, "out", "F", "File for the list that is taken");
+    Command::new(alloc, "split")
+        .about(ABOUT_SPLIT)
+        .arg(dump)?
+        .arg(take)?
+        .arg(out)
+}
+
+fn questions<'a>(alloc: Global) -> Result<Command<'a>, AllocError> {
+    Command::new(alloc, "questions")
+        .about(ABOUT_QUESTIONS)
+        .arg(list(alloc))?
+        .arg(image_of_stores(alloc))?
+        .arg(forms(alloc))?
+        .arg(lang(alloc))
+}
+
+fn question<'a>(alloc: Global) -> Result<Command<'a>, AllocError> {
+    let id = option(alloc, "id", "Q", "Id of the question")
+        .required(true)
+        .value_parser(clap::value_parser!(u16));
+    Command::new(alloc, "question")
+        .about(ABOUT_QUESTION)
+        .arg(list(alloc))?
+        .arg(image_of_stores(alloc))?
+        .arg(id)?
+        .arg(forms(alloc))?
+        .arg(lang(alloc))
+}
+
+fn stores<'a>(alloc: Global) -> Result<Command<'a>, AllocError> {
+    Command::new(alloc, "stores")
+        .about(ABOUT_STORES)
+        .arg(list(alloc))?
+        .arg(forms(alloc))
+}
+
+fn image<'a>(alloc: Global) -> Result<Command<'a>, AllocError> {
+    let store = option(
+        alloc,
+        "store",
+        "ID=F",
+        "File of the bytes of the store with this id",
+    )
+    .action(ArgAction::Append);
+    let efivars = option(
+        alloc,
+        "efivars",
+        "DIR",
+        "Folder with a file NAME-guid for each variable: its attributes in four bytes, and its bytes",
+    );
+    let zero = Arg::new(alloc, "zero")
+        .long("zero")
+        .help("Fill stores that are given no file with zeros")
+        .action(ArgAction::SetTrue);
+    Command::new(alloc, "image")
+        .about(ABOUT_IMAGE)
+        .arg(list(alloc))?
+        .arg(option(alloc, "out", "F", "Image that is written").required(true))?
+        .arg(store)?
+        .arg(efivars)?
+        .arg(zero)?
+        .arg(forms(alloc))
+}
+
+fn list(alloc: Global) -> Arg<'static> {
+    option(alloc, "list", "F", "Package list with the forms package").required(true)
+}
+
+fn image_of_stores(alloc: Global) -> Arg<'static> {
+    option(alloc, "stores", "F", "Image of the variable stores").required(true)
+}
+
+fn lang(alloc: Global) -> Arg<'static> {
+    option(alloc, "lang", "L", "Language of the texts, as de or en-US")
+        .allow_hyphen_values(true)
+        .default_value("en-US")
+}
+
+fn forms(alloc: Global) -> Arg<'static> {
+    Arg::new(alloc, "forms")
+        .long("forms")
+        .value_name("N")
+        .help("Which forms package of the list is opened, counted from 1")
+        .value_parser(clap::value_parser!(u16).range(1..))
+        .default_value("1")
+}
+
+fn option(
+    alloc: Global,
+    name: &'static str,
+    value: &'static str,
+    help: &'static str,
+) -> Arg<'static> {
+    Arg::new(alloc, name)
+        .long(name)
+        .value_name(value)
+        .help(help)
+        .action(ArgAction::Set)
+}

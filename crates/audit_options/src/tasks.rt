@@ -1,0 +1,84 @@
+//! What the command line asks for.
+
+/// What is told or made.
+#[derive(Drop)]
+pub enum Task<'a> {
+    /// The lists of a dump.
+    Split(SplitOptions<'a>),
+    /// A line for each store.
+    Stores(ListOptions<'a>),
+    /// An image of the stores.
+    Image(ImageOptions<'a>),
+    /// A line for each form and each question.
+    Questions(FormSetOptions<'a>),
+    /// What is known of one question.
+    Question(QuestionOptions<'a>),
+}
+
+/// A dump, and what is told of it.
+#[derive(Clone, Copy)]
+pub struct SplitOptions<'a> {
+    /// The file of the dump.
+    pub dump: &'a str,
+    /// The list that is taken; where it is none, all are told.
+    pub taken: Option<TakenList<'a>>,
+}
+
+/// A list that is taken out of a dump.
+#[derive(Clone, Copy)]
+pub struct TakenList<'a> {
+    /// Its number, counted from 1.
+    pub number: u64,
+    /// The file into which its bytes are written.
+    pub out: &'a str,
+}
+
+/// A forms package of a package list.
+#[derive(Clone, Copy)]
+pub struct ListOptions<'a> {
+    /// The file of the list.
+    pub path: &'a str,
+    /// Which forms package is opened, counted from 1.
+    pub forms: u16,
+}
+
+/// A form set over an image of its stores.
+#[derive(Clone, Copy)]
+pub struct FormSetOptions<'a> {
+    pub list: ListOptions<'a>,
+    /// The file of the image.
+    pub stores: &'a str,
+    /// The language of the texts.
+    pub lang: &'a str,
+}
+
+/// A question of a form set.
+#[derive(Clone, Copy)]
+pub struct QuestionOptions<'a> {
+    pub form_set: FormSetOptions<'a>,
+    /// The question's id.
+    pub id: u16,
+}
+
+/// What an image is made of.
+#[derive(Drop)]
+pub struct ImageOptions<'a> {
+    pub list: ListOptions<'a>,
+    /// The file into which the image is written.
+    pub out: &'a str,
+    /// The files that are given to stores.
+    pub files: Vec<StoreFile<'a>>,
+    /// The folder with files of variables.
+    pub efivars: Option<&'a str>,
+    /// Whether stores that are given no file hold zeros.
+    pub zero: bool,
+}
+
+/// A file that holds the bytes of a store.
+#[derive(Clone, Copy)]
+pub struct StoreFile<'a> {
+    /// The store's id.
+    pub id: u16,
+    /// The file.
+    pub path: &'a str,
+}

@@ -1,0 +1,43 @@
+use Rattle.std.proofs.Common.{◌≡◌, ℕ, ap, subst, refl, sym, inl}
+use Rattle.std.proofs.lemmas.Result.{IfErr-weaker, IfOk-weaker}
+use Rattle.hii_bytes.specs.Watching.{pen_of}
+use Rattle.hii_packages.specs.Packages.{Entry}
+use Rattle.hii_packages.specs.code.Package.{entry_of}
+use Rattle.form_audit.specs.Audited.{Audited}
+use Rattle.form_audit.specs.QuestionFacts.{TellsQuestion}
+use Rattle.form_audit.specs.code.Pages.{audited}
+use Rattle.setup_audit.specs.Auditing.{audited_at}
+use Rattle.setup_audit.proofs.SourceLemmas.{one_source}
+use Rattle.setup_audit.proofs.auditing.put_question_audit.Goals as goal
+
+pub put_question_with_id-requires-clause-in_list : goal.put_question_with_id-requires-clause-in_list
+put_question_with_id-requires-clause-in_list g c =
+    let opens = c.in_ok-session.ensures.opened.0 in
+    let its = c.in_ok-package.package in
+    let source = one_source c.args.given.list.now c.args.given.forms (entry_of its) opens.source c.in_ok-package.ensures.found opens.found in
+    rw (c.page.ensures.bytes, opens.bytes, sym (ap (λ (e : Entry). e.bytes) source)) its.in_list
+
+pub returns-clause-told : goal.returns-clause-told
+returns-clause-told g c =
+    let s = c.in_ok-session.session.state in
+    let opens = c.in_ok-session.ensures.opened.0 in
+    let its = c.in_ok-package.package in
+    let source = one_source c.args.given.list.now c.args.given.forms (entry_of its) opens.source c.in_ok-package.ensures.found opens.found in
+    let same : audited c.page.result ≡ audited_at s =
+    rw (c.page.ensures.world, c.page.ensures.spoken, c.page.ensures.language, c.page.ensures.stores, c.page.ensures.bytes) refl in
+    let old = pen_of g.W.Write.contents c.args.out.now in
+    let new = pen_of g.W.Write.contents c.put_question_with_id.new.out in
+    IfOk-weaker c.put_question_with_id.result _ _
+    (λ is_there told. record {
+      start = s;
+      opens = opens;
+      told = subst (λ (place : ℕ). TellsQuestion is_there (audited_at s) place c.args.id old new) (ap (λ (e : Entry). e.place) source)
+          (subst (λ (a : Audited). TellsQuestion is_there a its.place c.args.id old new) same told);
+    })
+    c.put_question_with_id.ensures.told
+
+pub returns-clause-refused : goal.returns-clause-refused
+returns-clause-refused g c = IfErr-weaker c.put_question_with_id.result _ _ (λ fault e. inl e) c.put_question_with_id.ensures.refused
+
+pub returns-clause-nothing : goal.returns-clause-nothing
+returns-clause-nothing g c = IfErr-weaker c.put_question_with_id.result _ _ (λ fault e. λ other. absurd (other e)) c.put_question_with_id.ensures.refused

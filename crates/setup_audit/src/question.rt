@@ -1,0 +1,22 @@
+//! `question`: what is known of one question.
+
+use crate::answers::{answers, pass_on, refusal, refused_behind};
+use crate::auditing::put_question_audit;
+use crate::given::FormSetFiles;
+use audit_options::QuestionOptions;
+use setup_files::Status;
+use std::rt::Files;
+
+/// Tells what is known of a question of a list over an image of its stores.
+pub fn run<R: Files + Print + Eprint + AllocGlobal>(
+    rt: &R,
+    options: QuestionOptions<'_>,
+) -> Result<(), Status> {
+    let files = FormSetFiles::read(rt, options.form_set)?;
+    let mut out = answers(rt)?;
+    match put_question_audit(rt.alloc(), files.given(), options.id, &mut out) {
+        Ok(true) => pass_on(rt, out),
+        Ok(false) => Err(refusal(rt, out)),
+        Err(fault) => Err(refused_behind(rt, out, fault)),
+    }
+}
