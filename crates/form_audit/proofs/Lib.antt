@@ -8,11 +8,4 @@ pub mod ScriptLemmas
 pub mod TakingLemmas
 pub mod UndefinedLemmas
 pub mod QuestionsLemmas
-pub mod FactLemmas
-pub mod AroundLemmas
-pub mod DependLemmas
-pub mod FlagLemmas
-pub mod ValueLemmas
-pub mod AskedLemmas
-pub mod RangeLemmas
 pub mod OneLineLemmas

@@ -15,7 +15,7 @@ use Rattle.ifr_scopes.specs.Checked.{IsChecked}
 use Rattle.ifr_scopes.specs.Nodes.{nodes_of, is_form, is_question, is_statement}
 use Rattle.ifr_scopes.specs.Rules.{forms_among}
 use Rattle.ifr_scopes.proofs.FormFacts.{statement_form}
-use Rattle.ifr_scopes.proofs.PlaceLemmas.{Within, nodes_within}
+use Rattle.ifr_scopes.proofs.PlaceLemmas.{nodes_within, rise}
 use Rattle.ifr_scopes.proofs.RuleFacts.{no_form_around}
 use Rattle.ifr_scopes.proofs.ScopeLemmas.{path_inside}
 use Rattle.ifr_scopes.proofs.ViewLemmas.{further}
@@ -114,17 +114,6 @@ questions_by_form bytes accepted =
     })
 
 -- ---- their places
-
-above : (ns : List Placed) (low high k : ℕ) → Within low high ns → k < length ns → low ≤ get_or (places ns) k 0
-above [] low high k w lt = absurd (omega arith)
-above (n ∷ ns) low high zero w lt = w.0
-above (n ∷ ns) low high (suc k) w lt = omega (arith, w.0, above ns (n.place + 1) high k w.1 (omega arith))
-
-rise : (ns : List Placed) (low high i j : ℕ) → Within low high ns → i < j → j < length ns → get_or (places ns) i 0 < get_or (places ns) j 0
-rise [] low high i j w less lt = absurd (omega arith)
-rise (n ∷ ns) low high i zero w less lt = absurd (omega arith)
-rise (n ∷ ns) low high zero (suc j) w less lt = omega (arith, above ns (n.place + 1) high j w.1 (omega arith))
-rise (n ∷ ns) low high (suc i) (suc j) w less lt = rise ns (n.place + 1) high i j w.1 (omega arith) (omega arith)
 
 -- The places of the questions of an accepted package rise.
 pub questions_rise : (bytes : List ℕ) (i j : ℕ) → IsAccepted bytes → i < j → j < length (filter is_question (nodes_of bytes))

@@ -3,7 +3,4 @@ pub mod Reach
 pub mod ScriptValues
 pub mod QuestionLines
 pub mod FormLines
-pub mod ConditionFacts
-pub mod Dependences
-pub mod QuestionFacts
 pub mod code

@@ -5,5 +5,3 @@ pub mod Guards
 pub mod Taking
 pub mod Meeting
 pub mod MetForms
-pub mod Naming
-pub mod Options

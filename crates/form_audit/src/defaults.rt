@@ -10,7 +10,7 @@ ghost use Rattle.hii_questions.specs.code.Views.{question_node, question_view};
 ghost use Rattle.hii_varstore.specs.Stores.{shape_of};
 ghost use Rattle.form_audit.specs.ScriptValues.{behind, default_value};
 ghost use Rattle.form_audit.specs.code.Pages.{audited};
-ghost use Rattle.form_audit.specs.code.Taking.{HasTaken};
+ghost use Rattle.form_audit.specs.code.Taking.{DifferIn, HasTaken};
 
 use crate::script_values::put_script_value;
 use form_page::Page;
@@ -42,9 +42,9 @@ fn offered<'a, C: Conditions>(
     )
 }
 
-/// Gives a question its default for a class in stores that hold the same as those of the page, where there is one that the question
-/// takes, and tells the field that has new bytes.
-pub(crate) fn take_default<'a, C: Conditions>(
+/// Gives a question its default for a class, by the class's number, in stores that hold the same as those of the page, where there is
+/// one that the question takes, and tells the field that has new bytes: it alone differs. `give_back` makes the stores the same again.
+pub fn take_default<'a, C: Conditions>(
     page: Page<'a, '_, C>,
     question: Question<'a>,
     class: u16,
@@ -60,6 +60,19 @@ pub(crate) fn take_default<'a, C: Conditions>(
     };
     field.put(spare);
     Some(field)
+}
+
+/// Gives back the bytes of a field in which stores differ from those of the page, so that they hold the same again.
+pub fn give_back<C: Conditions>(page: Page<'_, '_, C>, field: Field<'_>, spare: &mut Stores)
+    requires { DifferIn page.stores.now spare.old field }
+    ensures { spare.new ≡ page.entry.stores.now }
+{
+    spare.copy_range(
+        page.stores(),
+        field.store,
+        usize::from(field.offset),
+        field.width,
+    );
 }
 
 /// Writes the default of a question for a class behind another text, where there is one that the question takes. `spare` are stores
@@ -82,11 +95,6 @@ pub(crate) fn put_default<'a, C: Conditions, W: Write>(
     if let Some(field) = take_default(page, question, class, spare) {
         let value = read_value(question, spare);
         put_script_value::<C, W>(before, question.statement(), value, out);
-        spare.copy_range(
-            page.stores(),
-            field.store,
-            usize::from(field.offset),
-            field.width,
-        );
+        give_back(page, field, spare);
     }
 }

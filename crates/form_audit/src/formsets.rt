@@ -1,6 +1,6 @@
 //! Other form sets to which references lead.
 
-ghost use Rattle.std.specs.Prelude.{◌≡◌, option_map};
+ghost use Rattle.std.specs.Prelude.{option_map};
 ghost use Rattle.hii_bytes.specs.Watching.{Puts};
 ghost use Rattle.ifr_opcodes.specs.code.Ops.{bytes_of as op_bytes};
 ghost use Rattle.ifr_scopes.specs.code.Lists.{statement_node};

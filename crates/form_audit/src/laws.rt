@@ -1,12 +1,9 @@
 //! Laws of what is told of questions.
 
-ghost use Rattle.std.specs.Prelude.{◌≡◌, ℕ, ◌<◌, List, filter, length, slice_index};
+ghost use Rattle.std.specs.Prelude.{◌≡◌, ℕ, ◌<◌, filter, length, slice_index};
 ghost use Rattle.std.specs.List.{flat_map};
-ghost use Rattle.ifr_opcodes.specs.Forest.{Placed, places};
-ghost use Rattle.ifr_opcodes.specs.Operators.{is_among};
+ghost use Rattle.ifr_opcodes.specs.Forest.{places};
 ghost use Rattle.ifr_scopes.specs.Nodes.{is_form, is_question, nodes_of};
-ghost use Rattle.guard_policy.specs.laws.Support.{around, support_over};
-ghost use Rattle.form_audit.specs.Dependences.{depends_on};
 ghost use Rattle.form_audit.specs.FormLines.{form_questions};
 
 use ifr_scopes::Forms;
@@ -22,9 +19,3 @@ pub fn each_question_has_one_line(forms: &Forms<'_>)
 {
     forms.bytes();
 }
-
-/// A change depends on the answers that `Policy::support_of` gives for it, through rules too.
-pub fn depends_are_the_support_of_a_change()
-    ensures { (ns : List Placed) (id : ℕ) (n : Placed) → is_among id (support_over ns (around n))
-        ≡ is_among id (depends_on ns n) }
-{}

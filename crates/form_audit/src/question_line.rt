@@ -11,7 +11,6 @@ ghost use Rattle.hii_questions.specs.code.Views.{question_node, question_view};
 ghost use Rattle.hii_varstore.specs.Stores.{shape_of};
 ghost use Rattle.guard_policy.specs.code.Views.{bytes_of};
 ghost use Rattle.form_audit.specs.QuestionLines.{columns_text, question_line, shown_text};
-ghost use Rattle.form_audit.specs.ScriptValues.{behind, stored_value};
 ghost use Rattle.form_audit.specs.code.Pages.{audited};
 
 use crate::defaults::put_default;

@@ -48,8 +48,8 @@ fn put_reach<W: Write>(opens: Result<(), Denial>, is_reached: bool, out: &mut Wa
     }
 }
 
-/// Writes a form by its id, its title and how it is reached.
-pub(crate) fn put_form<'a, C: Conditions, W: Write>(
+/// Writes a form by its id, its title and how it is reached, where these are the ids of the forms that are.
+pub fn put_form<'a, C: Conditions, W: Write>(
     page: Page<'a, '_, C>,
     reached: &NumberSet,
     form: Form<'a>,

@@ -108,7 +108,7 @@ fn put_list<W: Write>(
 
 /// Writes a value of a question as `set`, `order` and `text` take it, behind another text. Nothing is written of a PASSWORD, nor
 /// where there is no value.
-pub(crate) fn put_script_value<C: Conditions, W: Write>(
+pub fn put_script_value<C: Conditions, W: Write>(
     before: &[u8],
     statement: Statement<'_>,
     value: Value<'_>,

@@ -10,9 +10,9 @@ use ifr_scopes::{Forms, Varstore};
 use std::alloc::{AllocError, Global};
 use std::marker::Model;
 
-/// The stores of a form set, which are found by their ids. They are seen as the package.
+/// The stores of a form set, of any kind, which are found by their ids. They are seen as the forms package.
 #[derive(Drop)]
-pub(crate) struct StoreNames<'a> {
+pub struct StoreNames<'a> {
     ifr: &'a [u8],
     // Sorted by their ids.
     stores: Vec<Varstore<'a>>,
@@ -30,8 +30,8 @@ impl<'a> Model for StoreNames<'a> {
 }
 
 impl<'a> StoreNames<'a> {
-    /// The stores of a form set.
-    pub(crate) fn read(alloc: Global, forms: &Forms<'a>) -> Result<StoreNames<'a>, AllocError>
+    /// The stores of a form set. The one error is that an allocation failed.
+    pub fn read(alloc: Global, forms: &Forms<'a>) -> Result<StoreNames<'a>, AllocError>
         ensures { IfOk result (λ names. names ≡ forms.now) }
     {
         let mut stores = Vec::new(alloc);
@@ -45,8 +45,8 @@ impl<'a> StoreNames<'a> {
         })
     }
 
-    /// The store of an id, if there is one.
-    pub(crate) fn find(&self, id: u16) -> Option<Varstore<'a>>
+    /// The store of an id, the first by place, if there is one.
+    pub fn find(&self, id: u16) -> Option<Varstore<'a>>
         ensures { option_map store_node result ≡ store_with (nodes_of self.now) id }
     {
         let stores = self.stores.as_slice();
@@ -57,8 +57,8 @@ impl<'a> StoreNames<'a> {
         None
     }
 
-    /// The name of the store of an id, or no bytes.
-    pub(crate) fn name(&self, id: u16) -> &'a [u8]
+    /// The bytes of the name of the store of an id, or none where it has no name or is not there.
+    pub fn name(&self, id: u16) -> &'a [u8]
         ensures { result.now ≡ name_of (store_with (nodes_of self.now) id) }
     {
         match self.find(id) {

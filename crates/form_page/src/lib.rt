@@ -17,7 +17,7 @@ mod statement_row;
 mod statement_value;
 mod value_chars;
 
-pub use option_texts::Elements;
+pub use option_texts::{Elements, seen_option};
 pub use page::Page;
 pub use row::{Row, put_row_value};
 pub use row_value::{Hexadecimal, RowValue};

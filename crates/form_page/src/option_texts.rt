@@ -1,7 +1,8 @@
-//! The texts of options, as a page shows them for their values.
+//! The options that are seen for values, and their texts.
 
 ghost use Rattle.std.specs.Prelude.{◌≡◌, ◌==◌, ◌&&◌, is_none, option_map};
 ghost use Rattle.ifr_opcodes.specs.Fields.{option_value};
+ghost use Rattle.ifr_scopes.specs.Nodes.{options};
 ghost use Rattle.ifr_scopes.specs.code.Parts.{option_node};
 ghost use Rattle.guard_policy.specs.Policy.{hidden};
 ghost use Rattle.ifr_scopes.specs.code.Checked.{IsNodeOf, IsNodeOf-prop};
@@ -9,7 +10,7 @@ ghost use Rattle.ifr_scopes.specs.code.Lists.{statement_node};
 ghost use Rattle.hii_languages.specs.code.Views.{text_of};
 ghost use Rattle.guard_policy.specs.code.Views.{bytes_of};
 ghost use Rattle.form_page.specs.code.PageViews.{texts_of, world_of};
-ghost use Rattle.form_page.specs.RowValues.{choice};
+ghost use Rattle.form_page.specs.RowValues.{choice, option_with};
 
 use crate::decisions::is_option_listed;
 use crate::page::Page;
@@ -28,6 +29,25 @@ fn is_choice<'a, C: Conditions>(page: Page<'a, '_, C>, option: OptionView<'a>, v
     option.op().value() == value && is_option_listed(page, option)
 }
 
+/// The first option of a question, by place, that has a value and is not hidden.
+pub fn seen_option<'a, C: Conditions>(
+    page: Page<'a, '_, C>,
+    statement: Statement<'a>,
+    value: u64,
+) -> Option<OptionView<'a>>
+    requires { IsNodeOf (bytes_of page.policy) (statement_node statement) }
+    ensures { option_map option_node result
+        ≡ option_with (world_of page.entry) (options (statement_node statement.entry)) value }
+{
+    let mut options = page.policy.forms().options_of(statement);
+    while let Some(option) = options.next() {
+        if is_choice(page, option, value) {
+            return Some(option);
+        }
+    }
+    None
+}
+
 /// The text of the first option of a question, by place, that has a value and is not hidden.
 pub(crate) fn option_text<'a, C: Conditions>(
     page: Page<'a, '_, C>,
@@ -39,13 +59,8 @@ pub(crate) fn option_text<'a, C: Conditions>(
         ≡ choice (texts_of page.entry) (world_of page.entry)
         (statement_node statement.entry) value }
 {
-    let mut options = page.policy.forms().options_of(statement);
-    while let Some(option) = options.next() {
-        if is_choice(page, option, value) {
-            return Some(page.languages.text(page.choice, option.op().text()));
-        }
-    }
-    None
+    let option = seen_option(page, statement, value)?;
+    Some(page.languages.text(page.choice, option.op().text()))
 }
 
 /// The elements of a list that are left, each shown as the text of the option of its value.

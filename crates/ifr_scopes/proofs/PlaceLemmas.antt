@@ -54,7 +54,8 @@ above_all [] low high k w lt = absurd (omega arith)
 above_all (m ∷ ns) low high zero w lt = w.0
 above_all (m ∷ ns) low high (suc k) w lt = omega (arith, w.0, above_all ns (m.place + 1) high k w.1 (omega arith))
 
-rise : (ns : List Placed) (low high i j : ℕ) → Within low high ns → i < j → j < length ns → get_or (places ns) i 0 < get_or (places ns) j 0
+-- The places of nodes that lie between two places rise.
+pub rise : (ns : List Placed) (low high i j : ℕ) → Within low high ns → i < j → j < length ns → get_or (places ns) i 0 < get_or (places ns) j 0
 rise [] low high i j w lt le = absurd (omega arith)
 rise (m ∷ ns) low high zero zero w lt le = absurd (omega arith)
 rise (m ∷ ns) low high zero (suc j) w lt le = omega (arith, above_all ns (m.place + 1) high j w.1 (omega arith))

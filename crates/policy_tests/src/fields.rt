@@ -8,6 +8,7 @@ use hii_questions::{FieldRange, Input, Question, Questions, WIDEST_FIELD, check_
 use hii_varstore::Layout;
 use ifr_scopes::Forms;
 use std::alloc::Global;
+use std::process::Abort;
 use std::test::Fail;
 
 // A form, over a store of 8 bytes.
@@ -74,56 +75,66 @@ fn bytes_of_all_stores_have_numbers(rt: HostRuntime) {
     }
 }
 
-#[test]
-fn questions_are_found_by_their_fields(rt: HostRuntime) -> Result<(), Fail> {
-    let alloc = rt.alloc();
-    let (bytes, len) = package();
-    let forms = forms_of(alloc, &bytes[..len])?;
-    let questions = questions_of(alloc, &forms)?;
-    for (field, ids) in [
-        (range(6, 1), [Some(7), Some(8)]),
-        (range(0, 4), [Some(9), Some(10)]),
-        (range(4, 2), [Some(11), None]),
-        (range(7, 0), [Some(13), None]),
-        (range(0, 2), [None, None]),
-        (range(5, 1), [None, None]),
-        (
-            FieldRange {
-                store: 2,
-                ..range(6, 1)
-            },
-            [None, None],
-        ),
-    ] {
-        let mut found = questions.with_field(field);
-        for id in ids {
-            assert_eq!(rt; found.next().map(|question| question.id()), id);
-        }
-        assert!(rt; found.next().is_none());
-    }
-    Ok(())
+// The id of a question, if there is one.
+fn id_of(question: Option<Question<'_>>) -> Option<u16> {
+    Some(question?.id())
 }
 
-#[test]
-fn passwords_are_found_by_bytes_of_their_fields(rt: HostRuntime) -> Result<(), Fail> {
-    let alloc = rt.alloc();
-    let (bytes, len) = package();
-    let forms = forms_of(alloc, &bytes[..len])?;
-    let questions = questions_of(alloc, &forms)?;
-    for question in questions.all() {
-        assert_eq!(rt; question.is_password(), 11 <= question.id());
-    }
-    for (field, id) in [
-        (range(3, 1), Some(12)),
-        (range(4, 1), Some(11)),
-        (range(0, 8), Some(11)),
-        (range(0, 3), None),
-        (range(6, 2), None),
+// The ids of the first three questions with a field.
+fn ids_with(questions: &Questions<'_>, field: FieldRange) -> [Option<u16>; 3] {
+    let mut found = questions.with_field(field);
+    [
+        id_of(found.next()),
+        id_of(found.next()),
+        id_of(found.next()),
+    ]
+}
+
+fn questions_are_found_by_their_fields(rt: &impl Abort, questions: &Questions<'_>) {
+    for (offset, width, ids) in [
+        (6, 1, [Some(7), Some(8), None]),
+        (0, 4, [Some(9), Some(10), None]),
+        (4, 2, [Some(11), None, None]),
+        (7, 0, [Some(13), None, None]),
+        (0, 2, [None, None, None]),
+        (5, 1, [None, None, None]),
     ] {
-        let password = questions.password_in(field);
-        assert_eq!(rt; password.map(|question| question.id()), id);
+        assert_eq!(rt; ids_with(questions, range(offset, width)), ids);
     }
-    Ok(())
+    let elsewhere = FieldRange {
+        store: 2,
+        ..range(6, 1)
+    };
+    assert_eq!(rt; ids_with(questions, elsewhere), [None, None, None]);
+}
+
+// Whether a question is for a password, and its id.
+fn password_and_id(question: Question<'_>) -> (bool, u16) {
+    (question.is_password(), question.id())
+}
+
+fn passwords_have_the_last_ids(rt: &impl Abort, questions: &Questions<'_>) {
+    for question in questions.all() {
+        let (is_password, id) = password_and_id(question);
+        assert_eq!(rt; is_password, 11 <= id);
+    }
+}
+
+// The id of the first password with a byte of a field.
+fn password_in(questions: &Questions<'_>, field: FieldRange) -> Option<u16> {
+    id_of(questions.password_in(field))
+}
+
+fn passwords_are_found_by_bytes_of_their_fields(rt: &impl Abort, questions: &Questions<'_>) {
+    for (offset, width, id) in [
+        (3, 1, Some(12)),
+        (4, 1, Some(11)),
+        (0, 8, Some(11)),
+        (0, 3, None),
+        (6, 2, None),
+    ] {
+        assert_eq!(rt; password_in(questions, range(offset, width)), id);
+    }
 }
 
 // The first two values of options that a question names once it has a value, where that is no list and no field.
@@ -141,12 +152,7 @@ fn named(question: Question<'_>, input: Input<'_>) -> [Option<u64>; 2] {
     }
 }
 
-#[test]
-fn new_values_name_options(rt: HostRuntime) -> Result<(), Fail> {
-    let alloc = rt.alloc();
-    let (bytes, len) = package();
-    let forms = forms_of(alloc, &bytes[..len])?;
-    let questions = questions_of(alloc, &forms)?;
+fn new_values_name_options(rt: &impl Abort, questions: &Questions<'_>) {
     for (id, input, wanted) in [
         (7, Input::Number(1), [None, None]),
         (8, Input::Raw(2), [Some(2), None]),
@@ -157,8 +163,19 @@ fn new_values_name_options(rt: HostRuntime) -> Result<(), Fail> {
         ),
         (10, Input::Utf8(b"ab"), [None, None]),
     ] {
-        let question = questions.find(id).expect(&rt, "a question");
+        let question = questions.find(id).expect(rt, "a question");
         assert_eq!(rt; named(question, input), wanted);
     }
+}
+
+#[test]
+fn questions_have_fields_and_options(rt: HostRuntime) -> Result<(), Fail> {
+    let (bytes, len) = package();
+    let forms = forms_of(rt.alloc(), &bytes[..len])?;
+    let questions = questions_of(rt.alloc(), &forms)?;
+    questions_are_found_by_their_fields(&rt, &questions);
+    passwords_have_the_last_ids(&rt, &questions);
+    passwords_are_found_by_bytes_of_their_fields(&rt, &questions);
+    new_values_name_options(&rt, &questions);
     Ok(())
 }

@@ -19,15 +19,28 @@ const FRONT: [u8; 51] = [
     0x24, 24, 1, 2, 3, 4, 5, 6, 7, 8, 9, 10, 11, 12, 13, 14, 15, 16, 1, 0, 0, 0, b'A', 0, // VARSTORE, at 27
 ];
 
+// The front, without the values of its bytes.
+fn front() -> &'static [u8]
+    ensures { length result.now ≡ 51 }
+{
+    FRONT.as_slice()
+}
+
+// A forms package with a store of the id 1 and so many bytes, which has nothing behind it yet.
+fn started(size: u8) -> [u8; 512] {
+    let mut bytes = [0u8; 512];
+    bytes[..51].copy_from_slice(front());
+    bytes[47] = size;
+    bytes
+}
+
 // A forms package with a store of the id 1 and so many bytes, and these opcodes behind it, from 51 on; and how long it is.
 pub(crate) fn package_of(size: u8, opcodes: &[u8]) -> ([u8; 512], usize)
     requires { length opcodes.now ≤ 400 }
     ensures { result.1 ≡ 51 + length opcodes.now }
 {
-    let mut bytes = [0u8; 512];
+    let mut bytes = started(size);
     let end = 51 + opcodes.len();
-    bytes[..51].copy_from_slice(&FRONT);
-    bytes[47] = size;
     bytes[51..end].copy_from_slice(opcodes);
     (bytes, end)
 }

@@ -1,4 +1,4 @@
-ghost use Rattle.std.specs.Prelude.{◌≡◌, ◌≤◌, ◌<◌, ◌^◌, length};
+ghost use Rattle.std.specs.Prelude.{◌≡◌};
 ghost use Rattle.ifr_scopes.specs.code.Checked.{IsNodeOf};
 ghost use Rattle.ifr_scopes.specs.code.Lists.{form_node};
 ghost use Rattle.guard_policy.specs.code.Views.{bytes_of};
@@ -6,7 +6,7 @@ ghost use Rattle.guard_policy.specs.code.Views.{bytes_of};
 use crate::forms::{first_form, forms_of, package_of};
 use crate::images::image_of;
 use crate::writers::Limited;
-use form_page::Page;
+use form_page::{Page, Row};
 use guard_policy::{Conditions, Policy, Removed};
 use hii_bytes::{Watched, WriteFault};
 use hii_languages::{Languages, Shown};
@@ -94,7 +94,7 @@ fn package() -> ([u8; 512], usize)
 }
 
 // The string packages and the page, of which proofs know nothing.
-fn string_list() -> &'static [u8] {
+pub(crate) fn string_list() -> &'static [u8] {
     STRINGS
 }
 
@@ -102,27 +102,32 @@ fn page_text() -> &'static [u8] {
     TEXT
 }
 
-fn has_title_and_rows<C: Conditions>(rt: &impl Abort, page: &Page<'_, '_, C>) {
+fn has_title<C: Conditions>(rt: &impl Abort, page: &Page<'_, '_, C>) {
     let mut title = page.title().chars();
-    for c in ['#', '2'] {
-        assert_eq!(rt; title.next(), Some(c));
-    }
-    assert!(rt; title.next().is_none());
+    let chars = [title.next(), title.next(), title.next()];
+    assert_eq!(rt; chars, [Some('#'), Some('2'), None]);
+}
+
+// The number, the mark and the question of a row, whether it has a prompt, and the first two characters of its value.
+type Seen = (u32, u8, Option<u16>, bool, [Option<char>; 2]);
+
+fn seen<C: Conditions>(row: Option<Row<'_, '_, C>>) -> Option<Seen> {
+    let row = row?;
+    let has_prompt = !matches!(row.prompt, Shown::Nothing);
+    let mut chars = row.value.chars();
+    let shown = [chars.next(), chars.next()];
+    Some((row.number, row.mark, row.question, has_prompt, shown))
+}
+
+fn has_rows<C: Conditions>(rt: &impl Abort, page: &Page<'_, '_, C>) {
     let mut rows = page.rows();
     for (number, mark, question, shown) in [
         (1, b'*', 1, Some(' ')),
         (2, b'!', 4660, None),
         (3, b'!', 65535, Some('x')),
     ] {
-        let row = rows.next().expect(rt, "a row");
-        assert_eq!(rt;
-            (row.number, row.mark, row.question),
-            (number, mark, Some(question))
-        );
-        assert!(rt; matches!(row.prompt, Shown::Nothing) == (number == 2));
-        let mut chars = row.value.chars();
-        assert_eq!(rt; chars.next(), shown);
-        assert!(rt; chars.next().is_none());
+        let row = (number, mark, Some(question), number != 2, [shown, None]);
+        assert_eq!(rt; seen(rows.next()), Some(row));
     }
 }
 
@@ -136,6 +141,20 @@ fn is_written<C: Conditions>(rt: &impl Abort, alloc: Global, page: &Page<'_, '_,
     assert_eq!(rt; again.into_inner().as_slice(), page_text());
 }
 
+// How a page is written where a writer takes so many bytes, and what it took.
+fn written_within<C: Conditions>(
+    alloc: Global,
+    page: &Page<'_, '_, C>,
+    room: usize,
+) -> (Result<(), WriteFault>, Vec<u8>) {
+    let mut out = Watched::new(Limited {
+        bytes: Vec::new(alloc),
+        room,
+    });
+    let result = page.write_page(&mut out);
+    (result, out.into_inner().bytes)
+}
+
 fn stops_where_a_writer_fails<C: Conditions>(
     rt: &impl Abort,
     alloc: Global,
@@ -143,15 +162,12 @@ fn stops_where_a_writer_fails<C: Conditions>(
 ) {
     let text = page_text();
     for room in 0..text.len() {
-        let mut out = Watched::new(Limited {
-            bytes: Vec::new(alloc),
-            room,
-        });
+        let (result, taken) = written_within(alloc, page, room);
         let fault = WriteFault {
             written: room as u64,
         };
-        assert_eq!(rt; page.write_page(&mut out), Err(fault));
-        assert_eq!(rt; out.into_inner().bytes.as_slice(), &text[..room]);
+        assert_eq!(rt; result, Err(fault));
+        assert_eq!(rt; taken.as_slice(), &text[..room]);
     }
 }
 
@@ -177,7 +193,8 @@ fn page_is_shown<'a, R: Abort + AllocGlobal>(
         choice,
         &conditions,
     );
-    has_title_and_rows(rt, &page);
+    has_title(rt, &page);
+    has_rows(rt, &page);
     is_written(rt, rt.alloc(), &page);
     stops_where_a_writer_fails(rt, rt.alloc(), &page);
 }
@@ -185,38 +202,55 @@ fn page_is_shown<'a, R: Abort + AllocGlobal>(
 fn is_shown<'a, R: Abort + AllocGlobal>(
     rt: &R,
     forms: &Forms<'a>,
-    layout: &Layout<'a>,
+    questions: &Questions<'a>,
+    stores: &Stores,
+    languages: &Languages<'a>,
+) -> Result<(), Fail>
+    requires { questions.now.ifr ≡ forms.now }
+{
+    let removed = Removed::at_open(rt.alloc(), forms, questions, stores)?;
+    let policy = Policy::new(forms, questions, &removed);
+    let form = first_form(forms).expect(rt, "a form");
+    page_is_shown(rt, form, policy, questions, stores, languages);
+    Ok(())
+}
+
+// Over stores that hold FIELDS.
+fn over_fields<'a, R: Abort + AllocGlobal>(
+    rt: &R,
+    forms: &Forms<'a>,
+    layout: &Layout<'_>,
     questions: &Questions<'a>,
     languages: &Languages<'a>,
 ) -> Result<(), Fail>
     requires { questions.now.ifr ≡ forms.now }
 {
-    let alloc = rt.alloc();
-    let image = image_of(alloc, FIELDS)?;
-    let stores = Stores::read(alloc, layout, &image)?;
-    let removed = Removed::at_open(alloc, forms, questions, &stores)?;
-    let policy = Policy::new(forms, questions, &removed);
-    let form = first_form(forms).expect(rt, "a form");
-    page_is_shown(rt, form, policy, questions, &stores, languages);
-    Ok(())
+    let image = image_of(rt.alloc(), FIELDS)?;
+    let stores = Stores::read(rt.alloc(), layout, &image)?;
+    is_shown(rt, forms, questions, &stores, languages)
 }
 
-// Shows the page of the first form of a package, with the texts of a list.
-fn shows<'a, R: Abort + AllocGlobal>(rt: &R, bytes: &'a [u8], list: &'a [u8]) -> Result<(), Fail>
-    requires header { 4 ≤ length bytes.now }
-    requires small { length bytes.now < 2 ^ 24 }
-{
-    let alloc = rt.alloc();
-    let forms = forms_of(alloc, bytes)?;
-    let layout = Layout::read(alloc, &forms)?;
-    let questions = Questions::read(alloc, &forms, &layout)?;
-    let list = PackageList::read(list)?;
-    let languages = Languages::read(alloc, &list)?;
-    is_shown(rt, &forms, &layout, &questions, &languages)
+// With the questions of a form set.
+fn of_questions<'a, R: Abort + AllocGlobal>(
+    rt: &R,
+    forms: &Forms<'a>,
+    languages: &Languages<'a>,
+) -> Result<(), Fail> {
+    let layout = Layout::read(rt.alloc(), forms)?;
+    let questions = Questions::read(rt.alloc(), forms, &layout)?;
+    over_fields(rt, forms, &layout, &questions, languages)
+}
+
+// With the string packages.
+fn in_languages<'a, R: Abort + AllocGlobal>(rt: &R, forms: &Forms<'a>) -> Result<(), Fail> {
+    let list = PackageList::read(string_list())?;
+    let languages = Languages::read(rt.alloc(), &list)?;
+    of_questions(rt, forms, &languages)
 }
 
 #[test]
 fn a_page_has_rows_and_is_written(rt: HostRuntime) -> Result<(), Fail> {
     let (bytes, len) = package();
-    shows(&rt, &bytes[..len], string_list())
+    let forms = forms_of(rt.alloc(), &bytes[..len])?;
+    in_languages(&rt, &forms)
 }

@@ -91,6 +91,23 @@ fn denial(kind: DenialKind, place: u32) -> Result<(), Denial> {
     })
 }
 
+// Whether the statement of a question is listed and may be changed.
+fn statement_decided<'a>(
+    policy: Policy<'a, '_>,
+    questions: &Questions<'a>,
+    stores: &Stores,
+    id: u16,
+) -> Option<[Result<(), Denial>; 2]>
+    requires accepted { IsAccepted questions.now.ifr }
+    requires together { bytes_of policy ≡ questions.now.ifr }
+{
+    let statement = question_of(questions, id)?.statement();
+    Some([
+        policy.listed(statement, stores),
+        policy.changeable(statement, stores),
+    ])
+}
+
 fn statements_are_denied<'a>(
     rt: &impl Abort,
     policy: Policy<'a, '_>,
@@ -116,14 +133,12 @@ fn statements_are_denied<'a>(
         ),
         (3, Ok(()), denial(DenialKind::Locked, 243)),
     ] {
-        let question = question_of(questions, id).expect(rt, "a question");
-        let statement = question.statement();
-        assert_eq!(rt; policy.listed(statement, stores), listed);
-        assert_eq!(rt; policy.changeable(statement, stores), changeable);
+        let wanted = Some([listed, changeable]);
+        assert_eq!(rt; statement_decided(policy, questions, stores, id), wanted);
     }
 }
 
-fn values_are_denied<'a>(
+fn options_are_denied<'a>(
     rt: &impl Abort,
     policy: Policy<'a, '_>,
     questions: &Questions<'a>,
@@ -140,6 +155,17 @@ fn values_are_denied<'a>(
     ] {
         assert_eq!(rt; policy.option_open(choice, value, stores), open);
     }
+}
+
+fn values_are_denied<'a>(
+    rt: &impl Abort,
+    policy: Policy<'a, '_>,
+    questions: &Questions<'a>,
+    stores: &Stores,
+)
+    requires accepted { IsAccepted questions.now.ifr }
+    requires together { bytes_of policy ≡ questions.now.ifr }
+{
     let question = question_of(questions, 7).expect(rt, "a question");
     let inconsistent = Denial {
         kind: DenialKind::InconsistentIf,
@@ -158,8 +184,7 @@ fn values_are_denied<'a>(
         place: 103,
         message: 6,
     };
-    assert_eq!(rt; warnings.next(), Some(warning));
-    assert_eq!(rt; warnings.next(), None);
+    assert_eq!(rt; (warnings.next(), warnings.next()), (Some(warning), None));
 }
 
 // All conditions hold, or none.
@@ -176,6 +201,43 @@ impl Conditions for All {
     }
 }
 
+// What is decided where all conditions hold, or none: of the form, of a submission, and of the question 8.
+fn decided_by<'a>(
+    policy: Policy<'a, '_>,
+    questions: &Questions<'a>,
+    form: Form<'a>,
+    all: &All,
+) -> Option<[Result<(), Denial>; 4]>
+    requires accepted { IsAccepted questions.now.ifr }
+    requires together { bytes_of policy ≡ questions.now.ifr }
+    requires node { IsNodeOf questions.now.ifr (form_node form) }
+{
+    let statement = question_of(questions, 8)?.statement();
+    Some([
+        policy.opens_by(form, all),
+        policy.may_submit_by(all),
+        policy.listed_by(statement, all),
+        policy.changeable_by(statement, all),
+    ])
+}
+
+// And of the first option of the question 5.
+fn option_decided_by<'a>(
+    policy: Policy<'a, '_>,
+    questions: &Questions<'a>,
+    all: &All,
+) -> Option<[Result<(), Denial>; 2]>
+    requires accepted { IsAccepted questions.now.ifr }
+    requires together { bytes_of policy ≡ questions.now.ifr }
+{
+    let choice = question_of(questions, 5)?;
+    let option = first_option(questions, choice)?;
+    Some([
+        policy.option_open_by(choice, 1, all),
+        policy.option_listed_by(option, all),
+    ])
+}
+
 fn kept_conditions_decide<'a>(
     rt: &impl Abort,
     policy: Policy<'a, '_>,
@@ -187,27 +249,20 @@ fn kept_conditions_decide<'a>(
     requires node { IsNodeOf questions.now.ifr (form_node form) }
 {
     let suppressed = denial(DenialKind::SuppressIf, 51);
-    let unsubmitted = Denial {
+    let unsubmitted = Err(Denial {
         kind: DenialKind::NoSubmitIf,
         place: 91,
         message: 5,
-    };
+    });
     for (hold, seen, changeable, submitted) in [
         (false, Ok(()), denial(DenialKind::ReadOnly, 118), Ok(())),
-        (true, suppressed, suppressed, Err(unsubmitted)),
+        (true, suppressed, suppressed, unsubmitted),
     ] {
         let all = All { hold };
-        assert_eq!(rt; policy.opens_by(form, &all), seen);
-        assert_eq!(rt; policy.may_submit_by(&all), submitted);
-        let statement = question_of(questions, 8)
-            .expect(rt, "a question")
-            .statement();
-        assert_eq!(rt; policy.listed_by(statement, &all), seen);
-        assert_eq!(rt; policy.changeable_by(statement, &all), changeable);
-        let choice = question_of(questions, 5).expect(rt, "a question");
-        assert_eq!(rt; policy.option_open_by(choice, 1, &all), seen);
-        let option = first_option(questions, choice).expect(rt, "an option");
-        assert_eq!(rt; policy.option_listed_by(option, &all), seen);
+        let wanted = Some([seen, submitted, seen, changeable]);
+        assert_eq!(rt; decided_by(policy, questions, form, &all), wanted);
+        let wanted = Some([seen, seen]);
+        assert_eq!(rt; option_decided_by(policy, questions, &all), wanted);
     }
 }
 
@@ -241,7 +296,7 @@ fn conditions_are_found<'a>(rt: &impl Abort, policy: Policy<'a, '_>, stores: &St
     }
 }
 
-// What a policy decides over stores in which the question 5 is 2 and the others are 0.
+// What a policy decides over these stores.
 fn policy_decides<'a, R: Abort>(
     rt: &R,
     policy: Policy<'a, '_>,
@@ -281,6 +336,24 @@ fn form_is_suppressed<'a, R: Abort + AllocGlobal>(
     Ok(())
 }
 
+// What is decided over stores in which the question 5 is 2 and the others are 0.
+fn is_decided_over<'a, R: Abort + AllocGlobal>(
+    rt: &R,
+    forms: &Forms<'a>,
+    layout: &Layout<'a>,
+    questions: &Questions<'a>,
+    stores: &Stores,
+) -> Result<(), Fail>
+    requires accepted { IsAccepted forms.now }
+    requires together { questions.now.ifr ≡ forms.now }
+{
+    let removed = Removed::at_open(rt.alloc(), forms, questions, stores)?;
+    let policy = Policy::new(forms, questions, &removed);
+    let form = first_form(forms).expect(rt, "a form");
+    policy_decides(rt, policy, questions, stores, form);
+    form_is_suppressed(rt, policy, layout, form)
+}
+
 fn is_decided<'a, R: Abort + AllocGlobal>(
     rt: &R,
     forms: &Forms<'a>,
@@ -290,22 +363,22 @@ fn is_decided<'a, R: Abort + AllocGlobal>(
     requires accepted { IsAccepted forms.now }
     requires together { questions.now.ifr ≡ forms.now }
 {
-    let alloc = rt.alloc();
-    let image = image_of(alloc, &[0, 0, 2])?;
-    let stores = Stores::read(alloc, layout, &image)?;
-    let removed = Removed::at_open(alloc, forms, questions, &stores)?;
-    let policy = Policy::new(forms, questions, &removed);
-    let form = first_form(forms).expect(rt, "a form");
-    policy_decides(rt, policy, questions, &stores, form);
-    form_is_suppressed(rt, policy, layout, form)
+    let image = image_of(rt.alloc(), &[0, 0, 2])?;
+    let stores = Stores::read(rt.alloc(), layout, &image)?;
+    is_decided_over(rt, forms, layout, questions, &stores)
+}
+
+fn of_forms<'a, R: Abort + AllocGlobal>(rt: &R, forms: &Forms<'a>) -> Result<(), Fail>
+    requires { IsAccepted forms.now }
+{
+    let layout = Layout::read(rt.alloc(), forms)?;
+    let questions = Questions::read(rt.alloc(), forms, &layout)?;
+    is_decided(rt, forms, &layout, &questions)
 }
 
 #[test]
 fn denials_name_what_decides(rt: HostRuntime) -> Result<(), Fail> {
-    let alloc = rt.alloc();
     let (bytes, len) = package();
-    let forms = forms_of(alloc, &bytes[..len])?;
-    let layout = Layout::read(alloc, &forms)?;
-    let questions = Questions::read(alloc, &forms, &layout)?;
-    is_decided(&rt, &forms, &layout, &questions)
+    let forms = forms_of(rt.alloc(), &bytes[..len])?;
+    of_forms(&rt, &forms)
 }

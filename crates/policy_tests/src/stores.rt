@@ -6,6 +6,7 @@ use crate::writers::Limited;
 use hii_bytes::{Cause, Fault, Watched, WriteFault};
 use hii_varstore::{Buffer, Layout, Stores, laws};
 use std::alloc::Global;
+use std::process::Abort;
 use std::test::Fail;
 
 static GUID: [u8; 16] = [0x22; 16];
@@ -70,19 +71,30 @@ fn front() -> &'static [u8] {
     &IMAGE[..20]
 }
 
-#[test]
-fn an_image_is_read_and_written(rt: HostRuntime) -> Result<(), Fail> {
-    let alloc = rt.alloc();
-    let (bytes, len) = one_store();
-    let layout = declared(alloc, &bytes[..len])?;
+fn one_store_is_declared(rt: &impl Abort, layout: &Layout<'_>) {
     assert_eq!(rt;
         (layout.size(1), layout.size(2), layout.buffers().len()),
         (Some(2), None, 1)
     );
     assert_eq!(rt; layout.guid().bytes(), GUID.as_slice());
+}
+
+// An image of the older form is written in the newer one.
+fn is_written_anew(rt: &impl Abort, alloc: Global, layout: &Layout<'_>) -> Result<(), Fail> {
     let older = image_of(alloc, &[1, 0])?;
-    assert_eq!(rt; written(alloc, &layout, &older)?.as_slice(), newer());
+    let image = written(alloc, layout, &older)?;
+    assert_eq!(rt; image.as_slice(), newer());
     Ok(())
+}
+
+#[test]
+fn an_image_is_read_and_written(rt: HostRuntime) -> Result<(), Fail> {
+    let (bytes, len) = one_store();
+    let layout = declared(rt.alloc(), &bytes[..len])?;
+    one_store_is_declared(&rt, &layout);
+    is_written_anew(&rt, rt.alloc(), &layout)?;
+    writers_may_fail(&rt, rt.alloc(), &layout)?;
+    images_are_refused(&rt, rt.alloc(), &layout)
 }
 
 // The stores that a form set declares.
@@ -94,11 +106,7 @@ fn declared(alloc: Global, bytes: &[u8]) -> Result<Layout<'_>, Fault>
     Layout::read(alloc, &forms)
 }
 
-#[test]
-fn a_layout_is_read(rt: HostRuntime) -> Result<(), Fail> {
-    let alloc = rt.alloc();
-    let (bytes, len) = package();
-    let layout = declared(alloc, &bytes[..len])?;
+fn stores_are_declared(rt: &impl Abort, layout: &Layout<'_>) {
     assert_eq!(rt; layout.guid().bytes(), GUID.as_slice());
     assert_eq!(rt;
         layout.buffers(),
@@ -113,12 +121,16 @@ fn a_layout_is_read(rt: HostRuntime) -> Result<(), Fail> {
         (layout.size(1), layout.size(5), layout.size(7)),
         (Some(2), None, Some(3))
     );
-    Ok(())
+}
+
+// How stores of all kinds are refused with another byte.
+fn refused(alloc: Global, at: usize, byte: u8) -> Option<Fault> {
+    let (bytes, len) = changed(at, byte);
+    declared(alloc, &bytes[..len]).err()
 }
 
 #[test]
-fn ids_of_stores_of_all_kinds(rt: HostRuntime) -> Result<(), Fail> {
-    let alloc = rt.alloc();
+fn ids_of_stores_of_all_kinds(rt: HostRuntime) {
     // where the id of a store stands, the id that it gets, and the place of the store that is refused
     for (at, id, place) in [
         (45, 0, 27),
@@ -134,14 +146,12 @@ fn ids_of_stores_of_all_kinds(rt: HostRuntime) -> Result<(), Fail> {
         (45, 5, 51),
         (53, 7, 75),
     ] {
-        let (repeated, len) = changed(at, id);
         let fault = Fault {
             cause: Cause::DuplicateVarstore,
             place,
         };
-        assert_eq!(rt; declared(alloc, &repeated[..len]).err(), Some(fault));
+        assert_eq!(rt; refused(rt.alloc(), at, id), Some(fault));
     }
-    Ok(())
 }
 
 // How an image is refused. It has no clause, so that no test carries those of `Stores::read`.
@@ -176,33 +186,36 @@ fn are_read(alloc: Global, layout: &Layout<'_>, image: &[u8]) -> Result<bool, Fa
     )
 }
 
-#[test]
-fn an_image_has_the_buffer_stores_alone(rt: HostRuntime) -> Result<(), Fail> {
-    let alloc = rt.alloc();
-    let (bytes, len) = package();
-    let layout = declared(alloc, &bytes[..len])?;
-    let mut image = declared_image(alloc)?;
-    assert!(rt; are_read(alloc, &layout, &image)?);
-    assert_eq!(rt;
-        written(alloc, &layout, &image)?.as_slice(),
-        image.as_slice()
-    );
-    if let Some(count) = image.get_mut(20) {
-        *count = 4;
-    }
-    assert_eq!(rt;
-        refusal(alloc, &layout, &image),
-        Some((Cause::StoreCount, 20))
-    );
+// An image is read, and written as it was.
+fn is_read_and_written(
+    rt: &impl Abort,
+    alloc: Global,
+    layout: &Layout<'_>,
+    image: &[u8],
+) -> Result<(), Fail> {
+    assert!(rt; are_read(alloc, layout, image)?);
+    let out = written(alloc, layout, image)?;
+    assert_eq!(rt; out.as_slice(), image);
     Ok(())
 }
 
-#[test]
-fn bytes_are_written_and_copied(rt: HostRuntime) -> Result<(), Fail> {
-    let alloc = rt.alloc();
-    let (bytes, len) = package();
-    let layout = declared(alloc, &bytes[..len])?;
-    let mut stores = Stores::read(alloc, &layout, &declared_image(alloc)?)?;
+fn stores_are_counted(rt: &impl Abort, alloc: Global, layout: &Layout<'_>) -> Result<(), Fail> {
+    let mut image = declared_image(alloc)?;
+    if let Some(count) = image.get_mut(20) {
+        *count = 4;
+    }
+    let refused = Some((Cause::StoreCount, 20));
+    assert_eq!(rt; refusal(alloc, layout, &image), refused);
+    Ok(())
+}
+
+fn bytes_are_written_and_copied(
+    rt: &impl Abort,
+    alloc: Global,
+    layout: &Layout<'_>,
+    image: &[u8],
+) -> Result<(), Fail> {
+    let mut stores = Stores::read(alloc, layout, image)?;
     let committed = stores.copy(alloc)?;
     laws::a_write_keeps_the_shape();
     laws::images_without_fault_are_spelled();
@@ -216,89 +229,138 @@ fn bytes_are_written_and_copied(rt: HostRuntime) -> Result<(), Fail> {
     Ok(())
 }
 
+// The image of the declared stores.
+fn image_has_the_buffer_stores_alone(
+    rt: &impl Abort,
+    alloc: Global,
+    layout: &Layout<'_>,
+) -> Result<(), Fail> {
+    let image = declared_image(alloc)?;
+    is_read_and_written(rt, alloc, layout, &image)?;
+    bytes_are_written_and_copied(rt, alloc, layout, &image)
+}
+
 #[test]
-fn a_writer_fails_after_each_byte(rt: HostRuntime) -> Result<(), Fail> {
-    let alloc = rt.alloc();
-    let (bytes, len) = one_store();
-    let layout = declared(alloc, &bytes[..len])?;
+fn stores_of_all_kinds(rt: HostRuntime) -> Result<(), Fail> {
+    let (bytes, len) = package();
+    let layout = declared(rt.alloc(), &bytes[..len])?;
+    stores_are_declared(&rt, &layout);
+    stores_are_counted(&rt, rt.alloc(), &layout)?;
+    image_has_the_buffer_stores_alone(&rt, rt.alloc(), &layout)
+}
+
+// How stores are written where a writer takes so many bytes, and what it took.
+fn written_within(
+    alloc: Global,
+    stores: &Stores,
+    room: usize,
+) -> (Result<(), WriteFault>, Vec<u8>) {
+    let mut out = Watched::new(Limited {
+        bytes: Vec::new(alloc),
+        room,
+    });
+    let result = stores.image_into(&mut out);
+    (result, out.into_inner().bytes)
+}
+
+// A writer fails after each byte.
+fn writers_may_fail(rt: &impl Abort, alloc: Global, layout: &Layout<'_>) -> Result<(), Fail> {
     let image = newer();
-    let stores = Stores::read(alloc, &layout, image)?;
+    let stores = Stores::read(alloc, layout, image)?;
     for room in 0..image.len() {
-        let mut out = Watched::new(Limited {
-            bytes: Vec::new(alloc),
-            room,
-        });
+        let (result, taken) = written_within(alloc, &stores, room);
         let fault = WriteFault {
             written: room as u64,
         };
-        assert_eq!(rt; stores.image_into(&mut out), Err(fault));
-        assert_eq!(rt; out.into_inner().bytes.as_slice(), &image[..room]);
+        assert_eq!(rt; result, Err(fault));
+        assert_eq!(rt; taken.as_slice(), &image[..room]);
     }
     Ok(())
 }
 
-#[test]
-fn faults_of_an_image(rt: HostRuntime) -> Result<(), Fail> {
-    let alloc = rt.alloc();
-    let (bytes, len) = one_store();
-    let layout = declared(alloc, &bytes[..len])?;
+// The front of the image of one store, up to so many bytes, and that of one of the older form.
+fn image_front(length: usize) -> &'static [u8] {
+    IMAGE.get(..length).unwrap_or(&[])
+}
+
+fn older_front(length: usize) -> &'static [u8] {
+    OLDER.get(..length).unwrap_or(&[])
+}
+
+// How an image is refused that has these bytes.
+fn refusal_of(
+    alloc: Global,
+    layout: &Layout<'_>,
+    head: &[u8],
+    rest: &[u8],
+) -> Result<Option<(Cause, u64)>, Fail> {
+    let mut image = Vec::from_slice(alloc, head)?;
+    image.extend_from_slice(rest)?;
+    Ok(refusal(alloc, layout, &image))
+}
+
+fn images_are_refused(rt: &impl Abort, alloc: Global, layout: &Layout<'_>) -> Result<(), Fail> {
     for (head, rest, cause, place) in [
         (
-            OLDER.as_slice(),
+            older_front(10),
             b"\x00\x00\x00".as_slice(),
             Cause::StoreTrailing,
             12,
         ),
-        (OLDER.as_slice(), b"\x00".as_slice(), Cause::StoreShort, 10),
+        (older_front(10), b"\x00".as_slice(), Cause::StoreShort, 10),
         (
-            &OLDER[..8],
+            older_front(8),
             b"\x03\x00\x00\x00".as_slice(),
             Cause::StoreSize,
             8,
         ),
         (
-            &OLDER[..6],
+            older_front(6),
             b"\x02\x00\x02\x00\x00\x00".as_slice(),
             Cause::StoreId,
             6,
         ),
         (
-            &OLDER[..3],
+            older_front(3),
             b"9\x01\x00\x01\x00\x02\x00\x00\x00".as_slice(),
             Cause::StoreMagic,
             0,
         ),
         (b"HV9".as_slice(), b"".as_slice(), Cause::StoreShort, 0),
         (
-            &IMAGE[..4],
+            image_front(4),
             b"\x23\x22\x22\x22\x22\x22\x22\x22\x22\x22\x22\x22\x22\x22\x22\x22".as_slice(),
             Cause::StoreFormSet,
             4,
         ),
-        (&IMAGE[..19], b"".as_slice(), Cause::StoreShort, 4),
-        (&IMAGE[..20], b"\x02\x00".as_slice(), Cause::StoreCount, 20),
+        (image_front(19), b"".as_slice(), Cause::StoreShort, 4),
         (
-            &IMAGE[..22],
+            image_front(20),
+            b"\x02\x00".as_slice(),
+            Cause::StoreCount,
+            20,
+        ),
+        (
+            image_front(22),
             b"\x01\x00\x03\x00\x01\x00".as_slice(),
             Cause::StoreSize,
             24,
         ),
         (
-            &IMAGE[..22],
+            image_front(22),
             b"\x01\x00\x02\x00\x01".as_slice(),
             Cause::StoreShort,
             26,
         ),
         (
-            &IMAGE[..22],
+            image_front(22),
             b"\x01\x00\x02\x00\x01\x00\x00".as_slice(),
             Cause::StoreTrailing,
             28,
         ),
     ] {
-        let mut image = Vec::from_slice(alloc, head)?;
-        image.extend_from_slice(rest)?;
-        assert_eq!(rt; refusal(alloc, &layout, &image), Some((cause, place)));
+        let refused = Some((cause, place));
+        assert_eq!(rt; refusal_of(alloc, layout, head, rest)?, refused);
     }
     Ok(())
 }

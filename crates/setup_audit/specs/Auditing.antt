@@ -6,8 +6,8 @@ use Rattle.browser_core.specs.State.{State, texts, world_of}
 use Rattle.browser_core.specs.Step.{sources}
 use Rattle.form_audit.specs.Audited.{Audited}
 use Rattle.form_audit.specs.FormLines.{questions_text}
-use Rattle.form_audit.specs.QuestionFacts.{TellsQuestion}
 use Rattle.form_audit.specs.Reach.{TellsReached}
+use Rattle.question_audit.specs.QuestionFacts.{TellsQuestion}
 use Rattle.setup_audit.specs.declared.auditing.Given.{Given}
 
 -- what an audit looks at, of what a session begins with

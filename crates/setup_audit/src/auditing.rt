@@ -7,8 +7,9 @@ ghost use Rattle.browser_core.specs.Opening.{IsOpenFault};
 ghost use Rattle.setup_audit.specs.Auditing.{Audits, AuditsQuestion};
 
 use browser_core::Session;
-use form_audit::{put_question_with_id, put_questions};
+use form_audit::put_questions;
 use hii_bytes::{Fault, Watched};
+use question_audit::put_question_with_id;
 use std::alloc::Global;
 use std::io::Write;
 use store_audit::forms_package;

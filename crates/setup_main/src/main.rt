@@ -1,16 +1,15 @@
 //! Runs a script of commands over a package list and the image of its stores.
 #![tactic(auto)]
 
-mod command_line;
 mod serve;
 #[cfg(test)]
 mod tests;
 
 use clap::error::ErrorKind;
-use command_line::{Options, read_words};
 use hii_bytes::Cause;
 use serve::{Ended, Given, serve};
 use setup_files::{OutFile, Status, fault, file, refused, usage, words};
+use setup_options::{Options, read_words};
 use std::io;
 use std::io::BufWriter;
 use std::process::ExitCode;

@@ -144,6 +144,11 @@ fn a_store_is_extracted(rt: HostRuntime) -> Result<(), Fail> {
     assert_eq!(rt; left.end, Ok(End::Done));
     assert_eq!(rt; left.answers.as_slice(), answers_to_requests());
     assert_eq!(rt; (left.working, left.committed), ([1, 2], [1, 2]));
+    Ok(())
+}
+
+#[test]
+fn a_password_is_not_extracted(rt: HostRuntime) -> Result<(), Fail> {
     let left = left_by(&rt, SECRET, [1, 2], requests())?;
     let denied = b"DENIED password at 00000039\n".as_slice();
     assert!(rt; left.answers.as_slice().starts_with(denied));
@@ -170,7 +175,11 @@ fn texts_are_read_as_their_commands_want(rt: HostRuntime) -> Result<(), Fail> {
     let left = left_by(&rt, INCONSISTENT, [0, 0], faulty_routes())?;
     assert_eq!(rt; left.answers.as_slice(), causes());
     assert_eq!(rt; (left.working, left.committed), ([0, 0], [0, 0]));
-    // What is no response is a request.
+    Ok(())
+}
+
+#[test]
+fn what_is_no_response_is_a_request(rt: HostRuntime) -> Result<(), Fail> {
     let request = read_request(block_text()).ok().ok_or("a fault")?;
     let mut blocks = request.blocks();
     let block = blocks.next().ok_or("no block")?;
@@ -226,20 +235,35 @@ fn answer_text() -> &'static [u8] {
     b"CONFIG GUID=33333333333333333333333333333333&NAME=0056&PATH=&OFFSET=0000&WIDTH=0001&VALUE=00\n"
 }
 
+// What a request is answered where a writer takes so many bytes, and what it took.
+fn extracted_within(
+    rt: &impl AllocGlobal,
+    session: &mut Session<'_>,
+    room: usize,
+) -> (Result<Reply, WriteFault>, Vec<u8>) {
+    let mut out = Watched::new(Limited {
+        bytes: Vec::new(rt.alloc()),
+        room,
+    });
+    let result = extracted(session, block_text(), &mut out);
+    (result, out.into_inner().bytes)
+}
+
+// A writer takes so many bytes.
+fn is_cut_short<R: Abort + AllocGlobal>(rt: &R, session: &mut Session<'_>, room: usize) {
+    let (result, taken) = extracted_within(rt, session, room);
+    let fault = WriteFault {
+        written: room as u64,
+    };
+    assert_eq!(rt; result, Err(fault));
+    assert!(rt; Some(taken.as_slice()) == answer_text().get(..room));
+}
+
 #[test]
 fn a_response_is_cut_short_by_its_writer(rt: HostRuntime) -> Result<(), Fail> {
     let mut session = open(&rt, INCONSISTENT, [0, 0])?;
     for room in [0, 6, 7, 40, 91, 92] {
-        let mut out = Watched::new(Limited {
-            bytes: Vec::new(rt.alloc()),
-            room,
-        });
-        let fault = WriteFault {
-            written: room as u64,
-        };
-        assert_eq!(rt; extracted(&mut session, block_text(), &mut out), Err(fault));
-        let taken = out.into_inner();
-        assert!(rt; Some(taken.bytes.as_slice()) == answer_text().get(..room));
+        is_cut_short(&rt, &mut session, room);
     }
     Ok(())
 }

@@ -70,13 +70,12 @@ struct Looking<'a> {
     reads: Vec<Seen>,
 }
 
-impl Looking<'_> {
-    fn answered(&self) -> Option<usize> {
-        let written = self.written.try_borrow().ok()?;
-        self.answers
-            .starts_with(written.as_slice())
-            .then_some(written.len())
-    }
+// How many bytes are written, where these are a front of the answers.
+fn answered(answers: &[u8], written: &RefCell<Vec<u8>>) -> Option<usize> {
+    let written = written.try_borrow().ok()?;
+    answers
+        .starts_with(written.as_slice())
+        .then_some(written.len())
 }
 
 impl Read for Looking<'_> {
@@ -84,7 +83,7 @@ impl Read for Looking<'_> {
         let seen = Seen {
             room: buf.len(),
             left: self.script.len(),
-            answered: self.answered(),
+            answered: answered(self.answers, self.written),
         };
         self.reads.push(seen)?;
         let most = buf.len().min(self.step);
@@ -92,39 +91,60 @@ impl Read for Looking<'_> {
     }
 }
 
-// At each read of a script that comes in such steps all lines are answered that were read before, behind a buffer, too.
-fn are_answered<R: Abort + AllocGlobal>(rt: &R, step: usize) -> Result<(), Fail> {
-    let (lines, answers) = (repeated(rt.alloc(), LINE)?, repeated(rt.alloc(), ANSWER)?);
-    let written = RefCell::new(Vec::new(rt.alloc()));
-    let mut script = Watched::new(Looking {
-        script: lines.as_slice(),
-        step,
-        answers: answers.as_slice(),
-        written: &written,
-        reads: Vec::new(rt.alloc()),
-    });
-    let shown = Shown { written: &written };
-    let mut out = Watched::new(BufWriter::new(rt.alloc(), shown)?);
-    let ran = after(rt, &mut script, &mut out)?;
-    assert!(rt; ran.end == Ok(End::Done));
-    let looked = script.into_inner();
-    assert!(rt; looked.answered() == Some(answers.len()));
-    for seen in looked.reads.iter() {
+// Whether a session ends where a script does, and how many bytes of the answers are written then, while a buffer still stands before
+// the writer.
+fn ended<R: Abort + AllocGlobal>(
+    rt: &R,
+    script: &mut Watched<Looking<'_>>,
+    answers: &[u8],
+    written: &RefCell<Vec<u8>>,
+) -> Result<(bool, Option<usize>), Fail> {
+    let mut out = Watched::new(BufWriter::new(rt.alloc(), Shown { written })?);
+    let ran = after(rt, script, &mut out)?;
+    Ok((ran.end == Ok(End::Done), answered(answers, written)))
+}
+
+// All lines of a script of so many bytes were answered at each read that had come before it.
+fn answers_come_first(rt: &impl Abort, reads: &[Seen], length: usize, step: usize) {
+    for seen in reads {
         let room = seen.room;
         assert!(rt; room > 0 && room <= PIECE, "{room} bytes are asked for");
-        let complete = lines.len().saturating_sub(seen.left) / LINE.len();
+        let complete = length.saturating_sub(seen.left) / LINE.len();
         assert!(rt;
             seen.answered == Some(complete * ANSWER.len()),
             "{complete} lines were read, in steps of {step}"
         );
     }
+}
+
+// At each read of a script that comes in such steps all lines are answered that were read before, behind a buffer, too.
+fn are_answered<R: Abort + AllocGlobal>(
+    rt: &R,
+    step: usize,
+    lines: &[u8],
+    answers: &[u8],
+) -> Result<(), Fail> {
+    let written = RefCell::new(Vec::new(rt.alloc()));
+    let mut script = Watched::new(Looking {
+        script: lines,
+        step,
+        answers,
+        written: &written,
+        reads: Vec::new(rt.alloc()),
+    });
+    let all = (true, Some(answers.len()));
+    assert_eq!(rt; ended(rt, &mut script, answers, &written)?, all);
+    let reads = script.into_inner().reads;
+    answers_come_first(rt, reads.as_slice(), lines.len(), step);
     Ok(())
 }
 
 #[test]
 fn lines_are_answered_before_the_next_read(rt: HostRuntime) -> Result<(), Fail> {
+    let lines = repeated(rt.alloc(), LINE)?;
+    let answers = repeated(rt.alloc(), ANSWER)?;
     for step in [1, 7, 511, PIECE, 10_000] {
-        are_answered(&rt, step)?;
+        are_answered(&rt, step, lines.as_slice(), answers.as_slice())?;
     }
     Ok(())
 }

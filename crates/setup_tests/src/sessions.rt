@@ -136,38 +136,63 @@ pub(crate) fn after(
     })
 }
 
+/// What a script leaves that is read in pieces: what is answered, and whether the reader failed.
+#[derive(Drop)]
+struct Left {
+    ran: Ran,
+    answers: Vec<u8>,
+    failed: bool,
+}
+
+// What is left of the first bytes of a script, which are read in pieces of `step` bytes, and behind which the reader fails.
+fn left_by<R: Abort + AllocGlobal>(
+    rt: &R,
+    bytes: &[u8],
+    left: usize,
+    step: usize,
+) -> Result<Left, Fail> {
+    let mut script = Watched::new(Broken { bytes, left, step });
+    let mut out = Watched::new(Vec::new(rt.alloc()));
+    let ran = after(rt, &mut script, &mut out)?;
+    Ok(Left {
+        ran,
+        answers: out.into_inner(),
+        failed: script.failed(),
+    })
+}
+
+fn is_answered<R: Abort + AllocGlobal>(
+    rt: &R,
+    script: &[u8],
+    step: usize,
+    answers: &[u8],
+    bytes: [u8; 2],
+) -> Result<(), Fail> {
+    let left = left_by(rt, script, 100, step)?;
+    assert_eq!(rt; left.ran.end, Ok(End::Done));
+    assert!(rt; left.answers.as_slice() == answers, "in pieces of {step}");
+    assert_eq!(rt; (left.ran.working, left.ran.committed), (bytes, bytes));
+    Ok(())
+}
+
 #[test]
 fn answers_do_not_depend_on_the_pieces(rt: HostRuntime) -> Result<(), Fail> {
     for step in 1..21 {
-        let mut script = Watched::new(Broken {
-            bytes: script_text(),
-            left: 100,
-            step,
-        });
-        let mut out = Watched::new(Vec::new(rt.alloc()));
-        let ran = after(&rt, &mut script, &mut out)?;
-        assert_eq!(rt; ran.end, Ok(End::Done));
-        assert!(rt;
-            out.into_inner().as_slice() == answers(),
-            "in pieces of {step}"
-        );
-        assert_eq!(rt; (ran.working, ran.committed), ([1, 0], [1, 0]));
+        is_answered(&rt, script_text(), step, answers(), [1, 0])?;
     }
     Ok(())
 }
 
 #[test]
-fn what_is_denied_or_discarded_changes_nothing(rt: HostRuntime) -> Result<(), Fail> {
+fn laws_are_stated() {
     laws::commands_keep_other_bytes();
     laws::bytes_that_open_have_no_fault();
     laws::bytes_without_fault_open(LIST, 1, STORES, b"en-US");
-    let mut script = Watched::new(denied_script());
-    let mut out = Watched::new(Vec::new(rt.alloc()));
-    let ran = after(&rt, &mut script, &mut out)?;
-    assert_eq!(rt; ran.end, Ok(End::Done));
-    assert_eq!(rt; out.into_inner().as_slice(), denied_answers());
-    assert_eq!(rt; (ran.working, ran.committed), ([0, 0], [0, 0]));
-    Ok(())
+}
+
+#[test]
+fn what_is_denied_or_discarded_changes_nothing(rt: HostRuntime) -> Result<(), Fail> {
+    is_answered(&rt, denied_script(), 100, denied_answers(), [0, 0])
 }
 
 #[test]
@@ -218,36 +243,31 @@ fn a_writer_fails_after_each_byte(rt: HostRuntime) -> Result<(), Fail> {
     Ok(())
 }
 
-fn breaks_off<R: Abort + AllocGlobal>(rt: &R, left: usize) -> Result<(), Fail> {
-    let mut script = Watched::new(Broken {
-        bytes: script_text(),
-        left,
-        step: 4,
-    });
-    let mut out = Watched::new(Vec::new(rt.alloc()));
-    let ran = after(rt, &mut script, &mut out)?;
-    assert_eq!(rt; ran.end, Err(RunFault::Read));
-    assert!(rt; script.failed());
+fn breaks_off<R: Abort + AllocGlobal>(rt: &R, count: usize) -> Result<(), Fail> {
+    let left = left_by(rt, script_text(), count, 4)?;
+    assert_eq!(rt; left.ran.end, Err(RunFault::Read));
+    assert!(rt; left.failed);
     // The lines end after 5, 13 and 20 bytes.
-    let (written, changed) = if left < 5 {
+    let (written, changed) = if count < 5 {
         (0, 0)
-    } else if left < 13 {
+    } else if count < 13 {
         (51, 0)
     } else {
         (54, 1)
     };
     assert!(rt;
-        out.into_inner().as_slice() == answered(written),
-        "after {left}"
+        left.answers.as_slice() == answered(written),
+        "after {count}"
     );
-    assert_eq!(rt; (ran.working, ran.committed), ([changed, 0], [0, 0]));
+    let bytes = ([changed, 0], [0, 0]);
+    assert_eq!(rt; (left.ran.working, left.ran.committed), bytes);
     Ok(())
 }
 
 #[test]
 fn a_reader_fails_after_each_byte(rt: HostRuntime) -> Result<(), Fail> {
-    for left in 0..20 {
-        breaks_off(&rt, left)?;
+    for count in 0..20 {
+        breaks_off(&rt, count)?;
     }
     Ok(())
 }

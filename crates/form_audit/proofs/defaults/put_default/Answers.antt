@@ -1,28 +1,15 @@
-use Rattle.std.proofs.Common.{ℕ, ap, subst, sym, ◌∙◌}
+use Rattle.std.proofs.Common.{subst, sym, ◌∙◌}
 use Rattle.hii_bytes.specs.Watching.{Writes}
 use Rattle.hii_bytes.proofs.WritingLemmas.{writes_nil}
-use Rattle.hii_varstore.specs.Stores.{shape_of}
-use Rattle.hii_varstore.specs.code.Ranges.{HasRange}
 use Rattle.hii_questions.specs.code.Views.{question_node, question_view}
 use Rattle.form_page.proofs.WholeTexts.{whole_texts}
 use Rattle.form_audit.specs.code.Pages.{audited}
-use Rattle.form_audit.proofs.TakingLemmas.{no_default, taken_range, taken_shape}
+use Rattle.form_audit.proofs.TakingLemmas.{no_default}
 use Rattle.form_audit.proofs.defaults.put_default.Goals as goal
 
 pub put_script_value-requires : goal.put_script_value-requires
 put_script_value-requires g c = λ units e.
     whole_texts c.take_default.new.spare (question_node c.args.question) (question_view c.args.question).field units (sym c.read_value-value.ensures ∙ e)
-
-pub copy_range-requires-clause-same : goal.copy_range-requires-clause-same
-copy_range-requires-clause-same g c =
-    taken_shape (audited c.args.page) (question_view c.args.question) c.args.class c.take_default.new.spare c.in-Some.field c.in-Some.ensures ∙ ap shape_of (sym c.stores.ensures)
-
-pub copy_range-requires-clause-range : goal.copy_range-requires-clause-range
-copy_range-requires-clause-range g c =
-    let stores = c.take_default.new.spare in
-    let field = c.in-Some.field in
-    subst (λ (offset : ℕ). HasRange (shape_of stores) field.store offset field.width) (sym c.from.ensures)
-    (taken_range (audited c.args.page) (question_view c.args.question) c.args.class stores field c.requires.lies c.in-Some.ensures)
 
 pub returns-in_default-clause-text : goal.returns-in_default-clause-text
 returns-in_default-clause-text g c =

@@ -1,6 +1,5 @@
 use Rattle.std.proofs.Common.{◌∙◌, ◌≤◌, arith}
 use Rattle.form_page.specs.Texts.{columns}
-use Rattle.form_page.proofs.LineLemmas.{none_added}
 use Rattle.form_page.proofs.TextLemmas.{cut_added, less_room}
 use Rattle.form_page.proofs.shown.put_cut.Goals as goal
 

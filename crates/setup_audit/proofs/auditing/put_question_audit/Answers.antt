@@ -4,8 +4,8 @@ use Rattle.hii_bytes.specs.Watching.{pen_of}
 use Rattle.hii_packages.specs.Packages.{Entry}
 use Rattle.hii_packages.specs.code.Package.{entry_of}
 use Rattle.form_audit.specs.Audited.{Audited}
-use Rattle.form_audit.specs.QuestionFacts.{TellsQuestion}
 use Rattle.form_audit.specs.code.Pages.{audited}
+use Rattle.question_audit.specs.QuestionFacts.{TellsQuestion}
 use Rattle.setup_audit.specs.Auditing.{audited_at}
 use Rattle.setup_audit.proofs.SourceLemmas.{one_source}
 use Rattle.setup_audit.proofs.auditing.put_question_audit.Goals as goal

@@ -1,6 +1,5 @@
-use Rattle.std.proofs.Common.{◌≡◌, ◌++◌, [], ℕ, List, true, false, sym, ap, ◌∙◌, refl, arith, subst}
+use Rattle.std.proofs.Common.{◌≡◌, ◌++◌, ◌∙◌, arith}
 use Rattle.std.proofs.lemmas.Grind.{common_steps}
-use Rattle.hii_bytes.specs.Watching.{Pen, Writes}
 use Rattle.form_page.proofs.LineLemmas.{held_more, passed_on, written_at_once}
 use Rattle.form_page.specs.declared.line.Line.{Line}
 use Rattle.form_page.proofs.line.Line.put.Goals as goal

@@ -1,5 +1,0 @@
-use Rattle.form_audit.proofs.DependLemmas.{any_support}
-use Rattle.form_audit.proofs.laws.depends_are_the_support_of_a_change.Goals as goal
-
-pub returns : goal.returns
-returns c = λ ns id n. any_support ns id n

@@ -1,0 +1,7 @@
+pub mod FactLemmas
+pub mod AroundLemmas
+pub mod DependLemmas
+pub mod FlagLemmas
+pub mod ValueLemmas
+pub mod AskedLemmas
+pub mod RangeLemmas

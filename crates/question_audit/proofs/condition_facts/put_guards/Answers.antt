@@ -1,0 +1,20 @@
+use Rattle.std.proofs.Common.{sym}
+use Rattle.hii_bytes.specs.Watching.{pen_of}
+use Rattle.ifr_scopes.specs.Guards.{guards}
+use Rattle.ifr_scopes.specs.code.Lists.{guards_left, statement_node}
+use Rattle.guard_policy.proofs.IndexedLemmas.{of_statement}
+use Rattle.form_audit.specs.code.Pages.{audited}
+use Rattle.question_audit.specs.ConditionFacts.{guard_fact}
+use Rattle.question_audit.proofs.AroundLemmas.{guards_found, same_forms}
+use Rattle.question_audit.proofs.FactLemmas.{all_left, past_item}
+use Rattle.question_audit.proofs.condition_facts.put_guards.Goals as goal
+
+pub loop-guard-init : goal.loop-guard-init
+loop-guard-init g c =
+    let page = c.args.page in
+    let n = statement_node c.args.statement in
+    all_left (guard_fact (audited page)) (pen_of g.W.Write.contents c.args.out.now) (guards n) (guards_left c.guards_at-guards.result)
+    (guards_found page.policy n _ c.place.result _ c.requires (of_statement n c.args.statement.statement) (sym c.place.ensures) (same_forms _ c.policy.result page.policy c.forms.ensures c.policy.ensures) c.guards_at-guards.ensures.guards)
+
+pub loop-guard-preserved : goal.loop-guard-preserved
+loop-guard-preserved g c = past_item (guard_fact (audited c.args.page)) _ _ _ _ _ _ _ c.in-Some.ensures.steps c.loop-guard.invariant c.in_ok-put_guard.ensures

@@ -1,0 +1,17 @@
+use Rattle.std.proofs.Common.{length}
+use Rattle.std.specs.List.{flat_map}
+use Rattle.hii_bytes.specs.Watching.{pen_of}
+use Rattle.hii_bytes.specs.code.Writing.{Stands}
+use Rattle.ifr_scopes.specs.code.Lists.{guards_left, statement_node}
+use Rattle.form_audit.specs.code.Pages.{audited}
+use Rattle.question_audit.specs.ConditionFacts.{guard_fact, guard_facts}
+use Rattle.question_audit.proofs.condition_facts.put_guards.Given as goal
+
+-- the guards before those that are left were written
+abbrev pub invariant-loop-guard : goal.invariant-loop-guard
+invariant-loop-guard g l =
+    let a = audited l.page in
+    Stands (pen_of g.W.Write.contents l.fn.out) (pen_of g.W.Write.contents l.out) (guard_facts a (statement_node l.statement)) (flat_map (guard_fact a) (guards_left l.guards))
+
+abbrev pub decreases-loop-guard : goal.decreases-loop-guard
+decreases-loop-guard g l = length (guards_left l.guards)

@@ -1,0 +1,4 @@
+pub mod ConditionFacts
+pub mod Dependences
+pub mod QuestionFacts
+pub mod code

@@ -1,0 +1,140 @@
+-- What is known of one question, a line for each fact (own rule).
+use Rattle.std.specs.Prelude.{◌≡◌, ℕ, ◌+◌, Bool, true, false, ◌==◌, if◌then◌else◌, Option, Some, None, List, [], ◌∷◌, ◌++◌, filter, codes, decimal}
+use Rattle.std.specs.List.{find, list_any}
+use Rattle.hii_bytes.specs.Watching.{Pen, Writes}
+use Rattle.ifr_opcodes.specs.Fields.{question_id, statement_help, statement_prompt}
+use Rattle.ifr_opcodes.specs.Forest.{Placed}
+use Rattle.ifr_opcodes.specs.Opcode.{number}
+use Rattle.ifr_opcodes.specs.declared.codes.TheConstants.{ONE_OF}
+use Rattle.ifr_expr.specs.Values.{Value, natural}
+use Rattle.ifr_scopes.specs.Nodes.{is_form, statements}
+use Rattle.hii_questions.specs.Answers.{value_of_field}
+use Rattle.hii_questions.specs.Fields.{Asked, Field, asked, question_with}
+use Rattle.guard_policy.specs.Policy.{fixed}
+use Rattle.form_page.specs.RowValues.{choice}
+use Rattle.form_page.specs.Texts.{utf8}
+use Rattle.audit_text.specs.Stores.{store_guid}
+use Rattle.audit_text.specs.Texts.{guid_text, hex_text, place_text}
+use Rattle.audit_text.specs.Words.{opcode_name}
+use Rattle.form_audit.specs.Audited.{Audited}
+use Rattle.form_audit.specs.FormLines.{form_text}
+use Rattle.form_audit.specs.QuestionLines.{field_text, is_undefined, store_with}
+use Rattle.form_audit.specs.Reach.{TellsReached}
+use Rattle.form_audit.specs.ScriptValues.{behind, default_taken, script_value}
+use Rattle.question_audit.specs.ConditionFacts.{check_facts, fact, guard_facts, option_facts, verdict_text}
+use Rattle.question_audit.specs.Dependences.{decides_facts, depends_facts}
+
+-- ---- what its opcode says
+
+abbrev pub prompt_line : Audited → Placed → List ℕ
+prompt_line a n =
+    codes "QUESTION " ++ decimal (question_id n.op) ++ codes " "
+    ++ utf8 (a.texts (statement_prompt n.op)) ++ codes "\n"
+
+abbrev pub help_fact : List ℕ → List ℕ
+help_fact [] = []
+help_fact (c ∷ text) = fact (codes "help") (utf8 (c ∷ text))
+
+-- the form in whose scope a question stands
+abbrev pub has_within : Placed → Placed → Bool
+has_within n form = list_any (λ m. m.place == n.place) (statements form)
+
+abbrev pub form_of : List Placed → Placed → Option Placed
+form_of ns n = find (has_within n) (filter is_form ns)
+
+abbrev pub form_fact : Audited → (ℕ → Bool) → Option Placed → List ℕ
+form_fact a is_reached None = []
+form_fact a is_reached (Some form) = fact (codes "form") (form_text a is_reached form)
+
+-- the place of its opcode in its forms package, and in the list, where the package stands at a place
+abbrev pub opcode_fact : ℕ → Placed → List ℕ
+opcode_fact package_place n =
+    fact (codes "opcode")
+    (opcode_name (number n.op) ++ codes " at " ++ place_text n.place
+    ++ codes ", byte " ++ hex_text (package_place + n.place) ++ codes " of the list")
+
+abbrev pub guid_behind : Option Placed → List ℕ
+guid_behind None = []
+guid_behind (Some store) = codes " " ++ guid_text true (store_guid store.op)
+
+abbrev pub field_fact : List Placed → Option Field → List ℕ
+field_fact ns None = []
+field_fact ns (Some field) =
+    fact (codes "field")
+    (field_text ns field ++ codes ", varstore " ++ decimal field.store
+    ++ guid_behind (store_with ns field.store))
+
+-- ---- its value and its defaults
+
+-- the text of the option that a value of a ONE_OF is, if one is to be seen
+abbrev pub behind_number : Option (List ℕ) → List ℕ
+behind_number None = []
+behind_number (Some text) = codes " " ++ utf8 text
+
+abbrev pub choice_behind : Audited → Placed → Value → List ℕ
+choice_behind a n (natural m) = behind_number (choice a.texts a.world n m)
+choice_behind a n _ = []
+
+abbrev pub option_behind : Audited → Placed → Value → List ℕ
+option_behind a n its = if number n.op == ONE_OF then choice_behind a n its else []
+
+-- of a question that has a value; that of a PASSWORD is not told
+abbrev pub value_text : Audited → Placed → Value → List ℕ
+value_text a n its = behind [] (script_value n its) ++ option_behind a n its
+
+abbrev pub value_line : Audited → Placed → Value → List ℕ
+value_line a n its = if is_undefined its then [] else fact (codes "value") (value_text a n its)
+
+abbrev pub value_fact : Audited → Asked → List ℕ
+value_fact a q = value_line a q.node (value_of_field a.stores q.node q.field)
+
+-- the default of a class, which has a name, where the question takes it (UEFI 2.8, 33.2.5.8 Defaults)
+abbrev pub told_default : List ℕ → List ℕ → Option (List ℕ) → List ℕ
+told_default name choice None = []
+told_default name choice (Some its) =
+    fact (codes "default") (its ++ choice ++ codes " (" ++ name ++ codes ")")
+
+abbrev pub named_default : Audited → Placed → List ℕ → Option Value → List ℕ
+named_default a n name None = []
+named_default a n name (Some its) = told_default name (option_behind a n its) (script_value n its)
+
+abbrev pub default_fact : Audited → Asked → ℕ → List ℕ → List ℕ
+default_fact a q class name = named_default a q.node name (default_taken a q class)
+
+-- ---- all that is known
+
+abbrev pub verdict_fact : Audited → Placed → List ℕ
+verdict_fact a n = fact (codes "verdict") (verdict_text (fixed a.world n))
+
+-- what its opcode says, by what tells which forms are reached
+abbrev pub opcode_facts : Audited → (ℕ → Bool) → ℕ → Asked → List ℕ
+opcode_facts a is_reached package_place q =
+    prompt_line a q.node ++ help_fact (a.texts (statement_help q.node.op))
+    ++ form_fact a is_reached (form_of a.world.nodes q.node)
+    ++ opcode_fact package_place q.node ++ field_fact a.world.nodes q.field
+
+-- its value, its defaults of the classes standard and manufacturing
+abbrev pub value_facts : Audited → Asked → List ℕ
+value_facts a q =
+    value_fact a q ++ default_fact a q 0 (codes "standard")
+    ++ default_fact a q 1 (codes "manufacturing")
+
+abbrev pub question_facts : Audited → (ℕ → Bool) → ℕ → Asked → List ℕ
+question_facts a is_reached package_place q =
+    opcode_facts a is_reached package_place q ++ value_facts a q ++ verdict_fact a q.node
+    ++ guard_facts a q.node ++ check_facts a q.node ++ option_facts a q.node
+    ++ depends_facts a q.node ++ decides_facts a q.node
+
+-- ---- the question of an id
+
+abbrev pub no_question : ℕ → List ℕ
+no_question id = codes "NO QUESTION " ++ decimal id ++ codes "\n"
+
+-- There is one, and what is known of it is told, by what tells which forms are reached; or it is told that there is none.
+abbrev pub TellsQuestion : Bool → Audited → ℕ → ℕ → Pen → Pen → Type 0
+TellsQuestion true a package_place id old new =
+    (n : Placed) × (question_with a.world.nodes id ≡ Some n) × (is_reached : ℕ → Bool)
+    × TellsReached a.world is_reached
+    × Writes old new (question_facts a is_reached package_place (asked a.world.nodes n))
+TellsQuestion false a package_place id old new =
+    (question_with a.world.nodes id ≡ None) × Writes old new (no_question id)

@@ -1,0 +1,14 @@
+//! What is known of one question of a form set (own rule; questions are those of UEFI 2.8, 33.2.5.4).
+#![tactic(auto)]
+
+mod condition_facts;
+mod decides_facts;
+mod depends_facts;
+mod facts;
+pub mod laws;
+mod opcode_facts;
+mod option_facts;
+mod question_facts;
+mod value_facts;
+
+pub use question_facts::put_question_with_id;

@@ -1,0 +1,181 @@
+//! What the opcode of a question says.
+
+ghost use Rattle.std.specs.Prelude.{◌≡◌, ◌+◌, ◌<◌, ◌^◌, IfSome, option_map};
+ghost use Rattle.hii_bytes.specs.Watching.{Puts};
+ghost use Rattle.hii_bytes.specs.code.NumberSets.{has_number};
+ghost use Rattle.ifr_scopes.specs.Nodes.{nodes_of};
+ghost use Rattle.ifr_scopes.specs.code.Checked.{IsNodeOf};
+ghost use Rattle.ifr_scopes.specs.code.Lists.{form_node, statement_node};
+ghost use Rattle.hii_languages.specs.code.Views.{text_of};
+ghost use Rattle.hii_questions.specs.code.Ranges.{range_in};
+ghost use Rattle.hii_questions.specs.code.Views.{question_node, question_view};
+ghost use Rattle.guard_policy.specs.code.Views.{bytes_of};
+ghost use Rattle.form_audit.specs.QuestionLines.{field_text, store_with};
+ghost use Rattle.form_audit.specs.code.Pages.{audited};
+ghost use Rattle.question_audit.specs.QuestionFacts.{field_fact, form_fact, form_of, guid_behind, has_within, help_fact, opcode_fact, opcode_facts, prompt_line};
+
+use crate::facts::put_column;
+use audit_text::{
+    Case, opcode_name, put_ascii_name, put_guid, put_hex_place, put_hexadecimal, store_guid,
+};
+use form_audit::{StoreNames, put_form};
+use form_page::{Page, put_shown};
+use guard_policy::{Conditions, Policy};
+use hii_bytes::{NumberSet, Watched};
+use hii_languages::Shown;
+use hii_questions::{FieldRange, Question};
+use ifr_scopes::{Form, Forms, Statement};
+use std::io::Write;
+
+// Writes the first line: the id of a question and its prompt.
+fn put_prompt_line<'a, C: Conditions, W: Write>(
+    page: Page<'a, '_, C>,
+    question: Question<'a>,
+    out: &mut Watched<W>,
+)
+    ensures { Puts W.contents out.old out.new
+        (prompt_line (audited page.entry) (question_node question.entry)) }
+{
+    out.put(b"QUESTION ");
+    out.put_decimal(u64::from(question.id()));
+    out.put(b" ");
+    put_shown(page.text(question.statement().op().prompt()).chars(), out);
+    out.put(b"\n");
+}
+
+// Writes a help text, if there is one.
+fn put_help<W: Write>(help: Shown<'_>, out: &mut Watched<W>)
+    ensures { Puts W.contents out.old out.new (help_fact (text_of help.entry)) }
+{
+    if help.chars().next().is_some() {
+        put_column(b"help", out);
+        put_shown(help.chars(), out);
+        out.put(b"\n");
+    }
+}
+
+// Whether a statement stands in the scope of a form.
+fn has_within<'a>(forms: &Forms<'a>, form: Form<'a>, statement: Statement<'a>) -> bool
+    requires { IsNodeOf forms.now (form_node form) }
+    ensures { result ≡ has_within (statement_node statement.entry) (form_node form.entry) }
+{
+    let mut statements = forms.statements_of(form);
+    while let Some(other) = statements.next() {
+        if other.place() == statement.place() {
+            return true;
+        }
+    }
+    false
+}
+
+// The form in whose scope a statement stands.
+fn form_of<'a>(policy: Policy<'a, '_>, statement: Statement<'a>) -> Option<Form<'a>>
+    ensures node { IfSome result (λ form. IsNodeOf (bytes_of policy.entry) (form_node form)) }
+    ensures form { option_map form_node result
+        ≡ form_of (nodes_of (bytes_of policy.entry)) (statement_node statement.entry) }
+{
+    let forms = policy.forms();
+    let mut all = forms.forms();
+    while let Some(form) = all.next() {
+        if has_within(forms, form, statement) {
+            return Some(form);
+        }
+    }
+    None
+}
+
+// Writes the form of a statement with its reach, if it stands in one.
+fn put_form_fact<'a, C: Conditions, W: Write>(
+    page: Page<'a, '_, C>,
+    reached: &NumberSet,
+    statement: Statement<'a>,
+    out: &mut Watched<W>,
+)
+    ensures { Puts W.contents out.old out.new
+        (form_fact (audited page.entry) (has_number reached.now)
+        (form_of (nodes_of (bytes_of page.entry.policy)) (statement_node statement.entry))) }
+{
+    if let Some(form) = form_of(page.policy(), statement) {
+        put_column(b"form", out);
+        put_form(page, reached, form, out);
+        out.put(b"\n");
+    }
+}
+
+// Writes the name of a question's opcode and its places, in its forms package and in the list.
+fn put_opcode_fact<W: Write>(package_place: u64, question: Question<'_>, out: &mut Watched<W>)
+    requires { package_place + (question_node question).place < 2 ^ 64 }
+    ensures { Puts W.contents out.old out.new
+        (opcode_fact package_place (question_node question.entry)) }
+{
+    let place = u64::from(question.place());
+    put_column(b"opcode", out);
+    out.put(opcode_name(question.op().op.code));
+    out.put(b" at ");
+    put_hex_place(out, place);
+    out.put(b", byte ");
+    put_hexadecimal(out, package_place + place);
+    out.put(b" of the list");
+    out.put(b"\n");
+}
+
+// Writes the GUID of the store of an id behind a space, if there is such a store.
+fn put_store_guid<W: Write>(names: &StoreNames<'_>, id: u16, out: &mut Watched<W>)
+    ensures { Puts W.contents out.old out.new (guid_behind (store_with (nodes_of names.now) id)) }
+{
+    if let Some(store) = names.find(id) {
+        out.put(b" ");
+        put_guid(out, store_guid(store), Case::Upper);
+    }
+}
+
+// Writes where a field lies, as NAME:0xOFFSET(WIDTH).
+fn put_field_text<W: Write>(names: &StoreNames<'_>, field: FieldRange, out: &mut Watched<W>)
+    ensures { Puts W.contents out.old out.new
+        (field_text (nodes_of names.now) (range_in field)) }
+{
+    put_ascii_name(out, names.name(field.store));
+    out.put(b":0x");
+    put_hexadecimal(out, u64::from(field.offset));
+    out.put(b"(");
+    out.put_decimal(field.width as u64);
+    out.put(b")");
+}
+
+// Writes where the field of a question lies, if it has one, and in which store.
+fn put_field_fact<W: Write>(names: &StoreNames<'_>, field: Option<FieldRange>, out: &mut Watched<W>)
+    ensures { Puts W.contents out.old out.new
+        (field_fact (nodes_of names.now) (option_map range_in field)) }
+{
+    if let Some(field) = field {
+        put_column(b"field", out);
+        put_field_text(names, field, out);
+        out.put(b", varstore ");
+        out.put_decimal(u64::from(field.store));
+        put_store_guid(names, field.store, out);
+        out.put(b"\n");
+    }
+}
+
+/// Writes what the opcode of a question says, with the place of its forms package in the list.
+pub(crate) fn put_opcode_facts<'a, C: Conditions, W: Write>(
+    page: Page<'a, '_, C>,
+    reached: &NumberSet,
+    names: &StoreNames<'a>,
+    package_place: u64,
+    question: Question<'a>,
+    out: &mut Watched<W>,
+)
+    requires names { names.now ≡ bytes_of page.policy }
+    requires in_list { package_place + (question_node question).place < 2 ^ 64 }
+    ensures { Puts W.contents out.old out.new
+        (opcode_facts (audited page.entry) (has_number reached.now) package_place
+        (question_view question.entry)) }
+{
+    let statement = question.statement();
+    put_prompt_line(page, question, out);
+    put_help(page.text(statement.op().help()), out);
+    put_form_fact(page, reached, statement, out);
+    put_opcode_fact(package_place, question, out);
+    put_field_fact(names, question.field(), out);
+}
