@@ -52,11 +52,11 @@ class Counter:
 
     def instructions(self, command, script):
         """The instructions of a run, and its answers."""
-        done = self.run_under(["--tool=callgrind", "--callgrind-out-file=/dev/null"], command, script)
-        told = re.search(rb"Collected : (\d+)", done.stderr)
+        done = self.run_under(["--tool=cachegrind", "--cache-sim=no", "--cachegrind-out-file=/dev/null"], command, script)
+        told = re.search(rb"I +refs: +([\d,]+)", done.stderr)
         if not told:
             sys.exit("valgrind tells no count: %r" % done.stderr[-400:])
-        return int(told.group(1)), done.stdout
+        return int(told.group(1).replace(b",", b"")), done.stdout
 
     def measure(self, texts, opcodes, held, script):
         """The instructions of a session's script, and its answers."""

@@ -7,6 +7,7 @@ HERE = os.path.dirname(os.path.abspath(__file__))
 KEPT = os.path.join(HERE, "cases")
 EXAMPLES = os.path.join(os.path.dirname(HERE), "examples")
 SECONDS = 60
+OUT_OF_MEMORY = (4, b"REFUSED 60 OutOfMemory\n", None)
 
 
 def read(path):
@@ -44,6 +45,10 @@ class Case:
 
     def words(self, out):
         return ["--list", self.list, "--stores", self.stores, "--out", out] + self.args
+
+    def is_out_of_memory(self, run):
+        """Whether a run says that it is out of memory, and nothing else."""
+        return run == OUT_OF_MEMORY
 
 
 class Example(Case):
