@@ -1,5 +1,5 @@
 -- A text has not more blocks than bytes.
-use Rattle.std.proofs.Common.{◌≡◌, ℕ, ◌+◌, ◌<◌, ◌≤◌, ◌==◌, ◌&&◌, Bool, true, false, cond, List, [], ◌∷◌, ◌++◌, length, nat_lt, Option, Some, None, Result, Ok, Err, refl, sym, ap, arith, length-append}
+use Rattle.std.proofs.Common.{ℕ, ◌+◌, ◌≤◌, ◌&&◌, Bool, true, false, cond, List, [], ◌∷◌, length, nat_lt, Option, Some, None, Result, Ok, Err, arith, length-append}
 use Rattle.std.proofs.lemmas.List.Splits.{length-slice_split}
 use Rattle.std.proofs.lemmas.List.Sums.{count_by-le-length}
 use Rattle.hii_bytes.specs.declared.cause.Cause.{Cause}
@@ -7,7 +7,7 @@ use Rattle.config_text.specs.Faults.{Wanted, wants_offset, wants_width, wants_va
 use Rattle.config_text.specs.Grammar.{Area}
 use Rattle.config_text.specs.Numbers.{fits_width}
 use Rattle.config_text.specs.PartReading.{body_in, offset_in, width_in, are_hex}
-use Rattle.config_text.specs.Parts.{is_between, text_parts}
+use Rattle.config_text.specs.Parts.{is_between}
 use Rattle.config_text.specs.Reading.{PartStep, number_step, width_step, step_of, part_step, areas_before, then_areas, at_end, areas_in}
 use Rattle.config_text.specs.code.Elements.{parts_behind, areas_or_none, areas_of}
 use Rattle.config_text.specs.declared.kind.TextKind.{TextKind}

@@ -16,7 +16,6 @@ use Rattle.hii_packages.specs.declared.package.TheConstants.{FORMS}
 use Rattle.sibt_strings.specs.Strings.{Speaks, IsStringFaultIn}
 use Rattle.hii_languages.specs.Languages.{Spoken, first_package, AreSpoken, IsStringsFault}
 use Rattle.hii_languages.specs.Shown.{shown_text, characters, Nothing, text_or_missing}
-use Rattle.audit_text.specs.Texts.{joined}
 use Rattle.dump_audit.specs.Contents.{begins_with_form_set}
 use Rattle.dump_audit.specs.Lines.{languages_text}
 use Rattle.dump_audit.specs.code.Words.{word_behind, shown_in_first}

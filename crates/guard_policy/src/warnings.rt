@@ -2,7 +2,7 @@
 
 use crate::policy::Policy;
 use hii_varstore::Stores;
-use ifr_scopes::{ConditionView, ConditionsOf};
+use ifr_scopes::ConditionsOf;
 
 /// A WARNING_IF whose condition holds: its place, in bytes from the header of the forms package, and the string id of its text
 /// (UEFI 2.8, 33.3.8.3, EFI_IFR_WARNING_IF).

@@ -1,7 +1,7 @@
 -- Worked values of the definitions.
 use Rattle.std.proofs.Common.{◌≡◌, pos, negsuc, [], ◌∷◌, Some, None, Ok, Err, codes, refl}
 use Rattle.hii_commands.specs.declared.command.BadLine.TheVariants.{BadCommand}
-use Rattle.hii_commands.specs.Orders.{ShowPage, SetValue, OrderElements, SetText, PressButton, ExtractConfiguration, RouteConfiguration, ChooseLanguage}
+use Rattle.hii_commands.specs.Orders.{ShowPage, SetValue, OrderElements, SetText, PressButton, ExtractConfiguration, ChooseLanguage}
 use Rattle.hii_commands.specs.Reading.{order_in, reading_of}
 use Rattle.hii_commands.specs.Script.{lines_of, whole_lines}
 

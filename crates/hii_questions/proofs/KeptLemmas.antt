@@ -10,7 +10,7 @@ use Rattle.std.proofs.lemmas.List.{append-nil, length-replicate, get_or-drop}
 use Rattle.byteorder.specs.Endian.{little_number, little_bytes}
 use Rattle.byteorder.specs.Numbers.{little_number-reads_back, length-bytes_low_first, little_from-lt}
 use Rattle.ifr_expr.specs.Values as values
-use Rattle.ifr_expr.specs.Values.{Value, undefined, boolean, natural, buffer}
+use Rattle.ifr_expr.specs.Values.{natural, buffer}
 use Rattle.hii_questions.specs.Answers.{answer_in}
 use Rattle.hii_questions.specs.FieldTypes.{FieldType, checkbox, numeric, one_of, text, ordered_list, size_of_type}
 use Rattle.hii_questions.specs.Inputs.{Offer, whole, raw, utf8, units, listed, elements, fits_type, checkbox_number, bits_of, fitting_bits, numeric_bytes, number_of_bits, is_offered, offered, chosen_bytes, text_bytes, is_text, is_bad_character, element_denial, bytes_unless, list_bytes}

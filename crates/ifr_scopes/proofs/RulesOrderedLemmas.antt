@@ -8,7 +8,7 @@ use Rattle.ifr_opcodes.proofs.ForestLemmas.{takes}
 use Rattle.ifr_expr.specs.Meaning.{Rule}
 use Rattle.ifr_expr.specs.code.Rules.{AreOrdered}
 use Rattle.ifr_expr.specs.Reading.{over, trees_of, first_tree, tree_of_opcodes}
-use Rattle.ifr_expr.specs.Trees.{Tree, leaf, one, two, post, siblings, expression}
+use Rattle.ifr_expr.specs.Trees.{Tree, post, siblings, expression}
 use Rattle.ifr_expr.specs.Trees as trees
 use Rattle.ifr_scopes.specs.Checked.{IsChecked}
 use Rattle.ifr_scopes.specs.Nodes.{nodes_of, end_of}

@@ -1,7 +1,7 @@
 //! How many conditions a session evaluates anew.
 
 use crate::sessions::pair;
-use browser_core::{Reply, Session};
+use browser_core::Session;
 use hii_bytes::{Fault, Watched};
 use hii_commands::read_line;
 use policy_tests::images::image_of;

@@ -8,7 +8,7 @@ use Rattle.hii_varstore.specs.declared.buffer.Buffer.{Buffer}
 use Rattle.store_audit.specs.Fillings.{wanted_of, are_fit, bytes_given, store_from, filled_line, refused_line}
 use Rattle.store_audit.specs.declared.fillings.Filling.{Filling}
 use Rattle.store_audit.specs.declared.fillings.Source.{Source}
-use Rattle.store_audit.specs.declared.fillings.Source.TheVariants.{File, Zeros, Missing}
+use Rattle.store_audit.specs.declared.fillings.Source.TheVariants.{File}
 
 abbrev pub filling_node : Filling → Placed
 filling_node f = store_node f.store

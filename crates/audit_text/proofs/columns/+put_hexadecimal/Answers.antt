@@ -1,4 +1,4 @@
-use Rattle.std.proofs.Common.{◌≡◌, ℕ, ◌+◌, ◌/◌, ◌%◌, ◌∷◌, ◌++◌, [], false, length, List, arith, ap, sym, subst, ◌∙◌, length-append}
+use Rattle.std.proofs.Common.{ℕ, ◌+◌, ◌/◌, ◌%◌, ◌∷◌, ◌++◌, [], false, length, List, ap, sym, subst, ◌∙◌, length-append}
 use Rattle.std.specs.Fmt.{digit_glyph}
 use Rattle.hii_bytes.proofs.WritingLemmas.{◌⨾◌}
 use Rattle.hii_bytes.specs.Watching.{Writes, pen_of}

@@ -1,4 +1,4 @@
-use Rattle.std.proofs.Common.{◌≡◌, ◌+◌, ◌≤◌, length, arith}
+use Rattle.std.proofs.Common.{◌≤◌, length, arith}
 use Rattle.hii_packages.specs.Packages.{entries, forms_in}
 use Rattle.hii_packages.specs.code.Package.{entry_of}
 use Rattle.dump_audit.proofs.ContentLemmas.{fewer_pass, one_counted}

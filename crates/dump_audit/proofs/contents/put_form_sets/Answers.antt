@@ -1,4 +1,4 @@
-use Rattle.std.proofs.Common.{◌≡◌, Some, filter, sym, ap, ◌∙◌}
+use Rattle.std.proofs.Common.{filter, sym, ap, ◌∙◌}
 use Rattle.std.specs.List.{flat_map}
 use Rattle.std.specs.Option.{option_or}
 use Rattle.hii_packages.specs.code.Package.{entry_of}

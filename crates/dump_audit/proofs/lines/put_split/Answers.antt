@@ -1,8 +1,8 @@
-use Rattle.std.proofs.Common.{◌≡◌, ◌+◌, ◌≤◌, ◌<◌, ◌^◌, ◌∷◌, ◌++◌, length, map, refl, sym, ap, ◌∙◌, arith, rules, length-append}
+use Rattle.std.proofs.Common.{◌+◌, ◌≤◌, ◌<◌, ◌^◌, ◌++◌, length, map, refl, sym, ap, ◌∙◌, arith, rules, length-append}
 use Rattle.std.specs.List.{concat}
 use Rattle.std.proofs.lemmas.List.{append-nil}
 use Rattle.hii_bytes.proofs.WritingLemmas.{writes_trans}
-use Rattle.hii_dumps.specs.Dumps.{Entry, placed}
+use Rattle.hii_dumps.specs.Dumps.{placed}
 use Rattle.hii_dumps.specs.code.Lists.{entry_of}
 use Rattle.dump_audit.specs.Lines.{Told}
 use Rattle.dump_audit.proofs.LineLemmas.{goes_more, told_fewer, few_lists}

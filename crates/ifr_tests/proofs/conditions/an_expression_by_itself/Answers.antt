@@ -1,5 +1,4 @@
-use Rattle.std.proofs.Common.{◌≡◌, ℕ, List, [], ◌∷◌, refl, lit≤}
-use Rattle.ifr_opcodes.specs.Opcode.{IsWhole}
+use Rattle.std.proofs.Common.{[], ◌∷◌, refl, lit≤}
 use Rattle.ifr_opcodes.specs.Operators.{operands}
 use Rattle.ifr_opcodes.specs.Reading.{cut}
 use Rattle.ifr_expr.specs.code.Bytes.{IsExpressionNode}

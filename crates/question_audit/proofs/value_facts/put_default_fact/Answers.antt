@@ -1,4 +1,4 @@
-use Rattle.std.proofs.Common.{ℕ, Some, ap, subst, sym, ◌∙◌}
+use Rattle.std.proofs.Common.{Some, ap, subst, sym, ◌∙◌}
 use Rattle.hii_bytes.specs.Watching.{pen_of}
 use Rattle.hii_bytes.proofs.WritingLemmas.{writes_nil}
 use Rattle.ifr_expr.specs.Values.{Value}

@@ -14,7 +14,7 @@ use Rattle.guard_policy.specs.declared.denial.Denial.{Denial}
 use Rattle.guard_policy.proofs.CoveringLemmas.{fixed_hidden, fixed_seen}
 use Rattle.guard_policy.proofs.IndexedLemmas.{guards_there, lock_there, of_statement}
 use Rattle.guard_policy.proofs.policy.Policy.standing_with.Goals as goal
-use Rattle.guard_policy.proofs.policy.Policy.standing_with.Goals.{After-around_at-around, In-Some, In_default}
+use Rattle.guard_policy.proofs.policy.Policy.standing_with.Goals.{After-around_at-around}
 
 -- the guards that were looked up
 there : (g : _) (c : After-around_at-around g) → around_guards c.around_at-around.result ≡ guards (statement_node c.args.statement)

@@ -1,6 +1,6 @@
-use Rattle.std.proofs.Common.{◌≡◌, ◌+◌, ◌≤◌, Bool, not, List, Option, Some, ℕ, length, map, option_map, slice_range, refl, ap, sym, ◌∙◌, subst, arith}
+use Rattle.std.proofs.Common.{◌≡◌, ◌+◌, List, Some, ℕ, map, option_map, slice_range, refl, ap, sym, ◌∙◌, subst, arith}
 use Rattle.hii_varstore.specs.Layout.{Shape}
-use Rattle.hii_varstore.specs.Stores.{are_same_bytes, buffer_of, bytes_of_field}
+use Rattle.hii_varstore.specs.Stores.{buffer_of, bytes_of_field}
 use Rattle.hii_varstore.specs.code.Ranges.{HasRange}
 use Rattle.hii_varstore.proofs.PlaceLemmas.{IsAt, store_at, place_within, found_bytes, range_is_some, range_within}
 use Rattle.hii_varstore.proofs.stores.Stores.differs.Goals as goal

@@ -1,4 +1,4 @@
-use Rattle.std.proofs.Common.{◌≡◌, ◌∙◌, ap, sym, map}
+use Rattle.std.proofs.Common.{◌∙◌, ap, map}
 use Rattle.hii_varstore.specs.Stores.{buffer_of}
 use Rattle.hii_varstore.proofs.TableLemmas.{zeros_laid}
 use Rattle.hii_varstore.proofs.stores.Stores.zeros.Goals as goal
