@@ -64,9 +64,13 @@ class Counter:
 
     def peak(self, texts, opcodes, held, script):
         """The bytes of memory that such a session has taken and not given back where these are most."""
+        return self.peak_of(self.session(texts, opcodes, held), script)
+
+    def peak_of(self, command, script=b""):
+        """The same of a run of a command."""
         told = os.path.join(self.scratch, "massif")
         tool = ["--tool=massif", "--peak-inaccuracy=0.0", "--massif-out-file=" + told]
-        self.run_under(tool, self.session(texts, opcodes, held), script)
+        self.run_under(tool, command, script)
         with open(told, encoding="utf-8") as f:
             return max(int(count) for count in re.findall(r"^mem_heap_B=(\d+)$", f.read(), re.MULTILINE))
 

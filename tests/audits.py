@@ -1,8 +1,9 @@
-"""Runs of setup_audit over the examples, whose answers and images stand in examples/audit."""
+"""Runs of setup_audit over the examples, whose answers and images stand in examples/audit, and over files that are made for them."""
 import os
 import re
 
-from running import EXAMPLES, OUT_OF_MEMORY, read, read_or_none
+from packages import image
+from running import EXAMPLES, OUT_OF_MEMORY, read
 
 AUDIT = os.path.join(EXAMPLES, "audit")
 DUMP = os.path.join(AUDIT, "both.dump")
@@ -33,6 +34,13 @@ def told(name):
     return read(os.path.join(AUDIT, name))
 
 
+def write(path, content):
+    """Writes a file, and gives its path."""
+    with open(path, "wb") as f:
+        f.write(content)
+    return path
+
+
 def splits():
     """The lists of the dump: all of them told, and each taken out."""
     lines = told("both.split").splitlines(keepends=True)
@@ -55,8 +63,23 @@ def of_example(name):
         yield AuditRun("question %s of %s" % (id, name), ["question", *words, "--id", id], told("%s.question.%s" % (name, id)))
 
 
-def audit_runs():
-    runs = [*splits()]
+def images_of_files(folder):
+    """Images of the stores of the station: the bytes of both stand in files, and those of the first in the file of a variable behind its
+    attributes, where the second, which has none, is zeros."""
+    held = bytes(range(1, 73)), b"\1\2\3\4"
+    file = lambda name, content: write(os.path.join(folder, name), content)
+    first, second = file("Station.bin", held[0]), file("StationNv.bin", held[1])
+    variable = file("Station-6d1e5a10-7c4b-4e0a-9a31-225c60880f01", b"\7\0\0\0" + held[0])
+    words = ["image", "--list", os.path.join(EXAMPLES, "station", "list")]
+    lines = lambda *sources: ("STORE 16 Station 72 %s\nSTORE 17 StationNv 4 %s\n" % sources).encode()
+    made = lambda *stores: image(list(zip((16, 17), stores)), told("station.zero.image")[4:20])
+    yield AuditRun("image of files", words + ["--store", "16=" + first, "--store", "17=" + second], lines(first, second), made(*held), True)
+    yield AuditRun("image of variables", words + ["--efivars", folder, "--zero"], lines(variable, "zeros"), made(held[0], bytes(4)), True)
+
+
+def audit_runs(folder):
+    """All runs. The folder is for the files that are made for them."""
+    runs = [*splits(), *images_of_files(folder)]
     for name in NAMES:
         runs += of_example(name)
     station = os.path.join(EXAMPLES, "station")

@@ -1,9 +1,7 @@
 """A worked case with all fourteen commands."""
-from configuration import changed, config, extract, route, routed
+from configuration import changed, config, extract, route
 from packages import *
-from worked import TITLE, plain_row, row, talk
-
-OK = "OK\n"
+from worked import OK, TITLE, counted, plain_row, row, talk
 
 
 def all_commands():
@@ -16,7 +14,7 @@ def all_commands():
     left = b"\1\2\1a\0b\0\0"
     talk("all_commands", list_of(opcodes), bytes(8), [
         page(" ", "", ""), ("set 1 1", OK), ("order 2 2,1", OK), ("text 3 ab", OK), ("why 1", OK), ("submit", changed(1, 2, 3)),
-        ("press 4", routed(1)), ("defaults 0", routed(1)), ("go 4", OK), (route((7, 1, "1")), routed(1)),
+        ("press 4", counted(1)), ("defaults 0", counted(1)), ("go 4", OK), (route((7, 1, "1")), counted(1)),
         ("page", "FORM 2 #2\n" + row(1, 5, "*", "x")), (extract(), config((0, left))), ("discard", OK), ("lang de", OK),
         ("back", OK),
         page("x", "#6, #5", "ab")], left)

@@ -1,9 +1,9 @@
 """Series of lists, packages and images that are cut to each length. What they expect is computed by the rules of
 docs/FORMATS.md."""
 from documents import line_of
-from listed import CODES, LISTED, OPERATORS, QUESTIONS, ZERO, whole
+from listed import CODES, LISTED, OPERATORS, QUESTIONS, whole
 from packages import *
-from worked import ONE_BOX, ONE_BOX_LIST, ZEROS, case, held, prompts, refused, with_strings
+from worked import EIGHT_IDS, ONE_BOX, ONE_BOX_LIST, ZEROS, case, held, prompts, refused, with_strings
 
 
 def cut_lists():
@@ -69,9 +69,8 @@ def cut_packages():
 def cut_strings():
     """A string package cut to each length, with lengths that tell so. Its language ends at 52. Behind it stand the blocks of a
     text, of a skip, of a text, of two duplicates, and the end."""
-    blocks = [string("A"), skip(3), bytes([0x14, 0x00, 0xD8, 0xF1, 0xFF, 0x42, 0x00, 0x00, 0x00]), duplicate(1), duplicate(9)]
-    source = string_package("en-US", b"".join(blocks))
-    places = [52 + sum(map(len, blocks[:n])) for n in range(len(blocks) + 1)]
+    source = string_package("en-US", b"".join(EIGHT_IDS))
+    places = [52 + sum(map(len, EIGHT_IDS[:n])) for n in range(len(EIGHT_IDS) + 1)]
     for size in range(4, len(source)):
         if size < 52:
             # The fixed part is cut, or StringInfoOffset is past the package.

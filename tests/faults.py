@@ -5,11 +5,11 @@ What they expect is computed by the rules that stand in the documents: what may 
 faults is told (documents.py).
 """
 from documents import least, line_of
-from listed import CODES, CONTEXTS, LISTED, MAY, MAY_NOT, MUST, OPERATORS, QUESTIONS, TRUE, ZERO, placed, whole
+from listed import CODES, CONTEXTS, LISTED, MAY, MAY_NOT, MUST, OPERATORS, QUESTIONS, placed, whole
 from packages import *
 from worked import ONE_BOX, ONE_BOX_LIST, TITLE, ZEROS, case, held, prompts, refused, row, with_strings
 
-LOCKED, GUID = LISTED["locked"].op, LISTED["guid"].op
+GUID = LISTED["guid"].op
 UNKNOWN = opcode(0x64)
 # The first store of a list, and the one of LISTED.
 STORES = [(1, bytes(2)), (7, bytes(2))]
@@ -420,11 +420,19 @@ def one_image_field_before_another():
         refused("fault_54_in_the_field_of_%d" % number, ONE_BOX_LIST, line_of(54, at), WHOLE[:at] + wrong[at:at + 1])
 
 
+# Opcodes of a package with a fault at an end, by its cause, and the fault with its place.
+FAULTY_ENDS = {
+    22: (ONE_BOX[:-len(END)], (22, 4 + len(ONE_BOX) - len(END))),
+    24: (GUID + ONE_BOX, (24, 4)),
+    25: (ONE_BOX + UNKNOWN, (25, 4 + len(ONE_BOX))),
+}
+
+
 def second_forms_package():
     second = ("--forms", "2")
     shown = TITLE + row(1, 1, "*", " ")
-    for cause in FAULTY:
-        opcodes, found = with_faults(cause)
+    faulty = {cause: with_faults(cause) for cause in FAULTY} | {cause: (opcodes, [found]) for cause, (opcodes, found) in FAULTY_ENDS.items()}
+    for cause, (opcodes, found) in faulty.items():
         good, bad = package(ONE_BOX), package(opcodes)
         refused("fault_%d_in_the_second_forms_package" % cause, package_list(good + bad + END_PACKAGE), least(*found),
                 args=second)

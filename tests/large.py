@@ -5,9 +5,8 @@ No contract excludes that a call answers OutOfMemory above some size though no a
 """
 from packages import *
 from policies import inconsistent_if, no_submit_if, warned, warning_if
-from worked import FIRST, ONE_BOX, ONE_BOX_LIST, TITLE, ZEROS, case, denied, held, of_form, prompts, row, shown_row, talk, with_strings
+from worked import FIRST, OK, ONE_BOX, ONE_BOX_LIST, ZEROS, case, denied, held, of_form, prompts, row, shown_row, talk, with_strings
 
-OK = "OK\n"
 FILE_LIMIT, SCRIPT_LIMIT = 16777216, 1048576
 # The most bytes of a store, and the greatest id.
 STORE, LAST = 65535, 65535

@@ -4,11 +4,10 @@ Those of open scopes, waiting values, depths of rules and kept forms stand besid
 """
 from configuration import changed, config, extract
 from packages import *
-from worked import FIRST, ONE_BOX_LIST, TITLE, ZEROS, case, denied, held, of_form, plain_row, refused, row, talk, talk_over
+from worked import FIRST, OK, ONE_BOX_LIST, TITLE, ZEROS, case, denied, held, of_form, plain_row, refused, row, talk, talk_over
 
-OK = "OK\n"
 LINE_TOO_LONG, SCRIPT_TOO_LONG = "REFUSED 71 LineTooLong\n", "REFUSED 72 ScriptTooLong\n"
-TRUE, NOT, OR = operator(0x46), operator(0x17), operator(0x16)
+NOT, OR = operator(0x17), operator(0x16)
 LINE, SCRIPT, STORE, LAST = 4096, 1048576, 65535, 65535
 
 

@@ -5,7 +5,6 @@ Each has the least length of its row, and ids that no opcode of a context has.
 from collections import namedtuple
 from packages import *
 
-TRUE, ZERO = operator(0x46), operator(0x52)
 MUST, MAY, MAY_NOT = "must", "may", "may not"
 # The classes of scopes. A guard in a question covers less than the question, so it has a class of its own.
 FORM_SET, FORM, TEXT, QUESTION, CHOICE, OPTION, ALONE, GUARDED_OPTIONS = (

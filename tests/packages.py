@@ -38,8 +38,8 @@ def scoped(op, *children):
     return bytes([op[0], op[1] | 0x80]) + op[2:] + b"".join(children) + END
 
 
-def form_set():
-    return bytes([0x0E, 0x97]) + FORM_SET_GUID + u16(1) + u16(0) + bytes([0])
+def form_set(title=1):
+    return bytes([0x0E, 0x97]) + FORM_SET_GUID + u16(title) + u16(0) + bytes([0])
 
 
 def varstore(store, size, name=b"V", guid=VARSTORE_GUID):
@@ -161,6 +161,10 @@ def eq_id_val(question, value):
 def operator(code, fields=b""):
     """An operator of an expression (UEFI 2.8, 33.3.8.3)."""
     return opcode(code, fields)
+
+
+TRUE, FALSE, ZERO, ONE, ONES, UNDEFINED, THIS = (operator(code) for code in (0x46, 0x47, 0x52, 0x53, 0x54, 0x55, 0x58))
+LOCKED = opcode(0x0B)
 
 
 def uint8(n):

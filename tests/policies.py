@@ -1,11 +1,6 @@
 """Worked cases of guards, locks and the conditions of questions: what is shown, changed and submitted, and what forbids it."""
 from packages import *
-from worked import GUARDED_LIST, TITLE, case, denied, held, of_form, plain_row, refused, row, talk, with_strings
-
-OK = "OK\n"
-TRUE = operator(0x46)
-FALSE = operator(0x47)
-LOCKED = opcode(0x0B)
+from worked import GUARDED_LIST, OK, TITLE, case, denied, held, in_checkbox, in_form, of_form, plain_row, row, talk, with_strings
 
 
 def inconsistent_if(text, condition):
@@ -145,12 +140,6 @@ def conditions_of_questions():
 
 def wrong_conditions():
     """Opcodes of the policy where they may not stand, or cut short."""
-    def in_form(name, opcodes, line):
-        refused(name, of_form(opcodes, checkbox(1, 0)), line)
-
-    def in_checkbox(name, opcodes, line):
-        in_form(name, scoped(checkbox(2, 1), opcodes), line)
-
     for name, op in (("inconsistent_if", inconsistent_if(7, TRUE)), ("no_submit_if", no_submit_if(7, TRUE)), ("warning_if", warning_if(7, TRUE))):
         in_form("%s_in_a_form" % name, op, "28 Misplaced at 00000039")
         in_form("%s_in_a_text" % name, scoped(text_statement(9, 9), op), "28 Misplaced at 00000041")

@@ -1,8 +1,7 @@
 """Worked cases of lists that are refused for an opcode: by itself, for where it stands, or beside others."""
 from packages import *
-from worked import of_form, refused
+from worked import in_checkbox, in_form, of_form, refused
 
-TRUE = operator(0x46)
 NUMBER = numeric(2, 1, UNSIGNED, 1, 0, 9)
 EFI_STORE = u16(9) + VARSTORE_GUID + u32(7)
 
@@ -10,16 +9,6 @@ EFI_STORE = u16(9) + VARSTORE_GUID + u32(7)
 def cut(op):
     """An opcode without its last byte, which tells its length so."""
     return opcode(op[0], op[2:-1])
-
-
-def in_form(name, opcodes, line):
-    """Refused for opcodes that stand at 57, the first in a form."""
-    refused(name, of_form(opcodes, checkbox(1, 0)), line)
-
-
-def in_checkbox(name, opcodes, line):
-    """Refused for opcodes that stand at 71, the first in a checkbox."""
-    in_form(name, scoped(checkbox(2, 1), opcodes), line)
 
 
 def in_choice(name, opcodes, line):

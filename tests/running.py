@@ -1,4 +1,4 @@
-"""Runs of the program over cases: those in tests/cases, those of the series, and the examples."""
+"""Runs of the program over cases: those in tests/cases, those of the series, and the examples; and runs with failing allocations."""
 import os
 import subprocess
 import tempfile
@@ -8,6 +8,9 @@ KEPT = os.path.join(HERE, "cases")
 EXAMPLES = os.path.join(os.path.dirname(HERE), "examples")
 SECONDS = 60
 OUT_OF_MEMORY = (4, b"REFUSED 60 OutOfMemory\n", None)
+FILE_TOO_LONG = b"REFUSED 73 FileTooLong\n"
+# No run has as many allocations, but for those of large cases.
+MANY_ALLOCATIONS = 2000
 
 
 def read(path):
@@ -90,6 +93,27 @@ def run_case(program, case, env=None):
         except subprocess.TimeoutExpired:
             return None
         return done.returncode, done.stdout, read_or_none(out)
+
+
+def build_library(scratch):
+    """The library that makes allocations fail, which is built in this folder."""
+    library = os.path.join(scratch, "fail_allocation.so")
+    source = os.path.join(HERE, "fail_allocation.c")
+    subprocess.run(["cc", "-O2", "-Wall", "-shared", "-fPIC", "-o", library, source, "-ldl"], check=True)
+    return library
+
+
+def runs_with_failing_allocations(library, run):
+    """Makes each allocation fail in turn, until a run has no such one: its number, what `run` gives in this environment, and whether
+    it was asked for."""
+    for number in range(1, MANY_ALLOCATIONS):
+        with tempfile.TemporaryDirectory() as scratch:
+            told = os.path.join(scratch, "told")
+            given = run(dict(os.environ, LD_PRELOAD=library, FAIL_ALLOCATION=str(number), FAIL_ALLOCATION_TOLD=told))
+            met = os.path.exists(told)
+        yield number, given, met
+        if not met:
+            return
 
 
 def shown(run):

@@ -1,12 +1,10 @@
 """Worked cases of statements and questions of all kinds: pages, values that are taken and refused, stores."""
 from packages import *
-from worked import TITLE, case, denied, of_form, plain_row, refused, row, talk, with_strings
+from worked import OK, TITLE, case, denied, of_form, plain_row, refused, row, talk, with_strings
 
-OK = "OK\n"
 CHANGED_1 = "OK 1\nCHANGED 1\n"
 BAD = "REFUSED 70 BadCommand\n"
 EQUAL = 0x2F
-TRUE = operator(0x46)
 
 
 def page(shown, mark="*"):

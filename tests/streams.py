@@ -19,7 +19,7 @@ import termios
 import threading
 import time
 
-from running import SECONDS, read, read_or_none
+from running import FILE_TOO_LONG, SECONDS, read, read_or_none
 
 # What help says: something of the program, of each option and of each status, in this order.
 HELP = re.compile(
@@ -186,11 +186,11 @@ class Failing(Runs):
             fault = b"FAULT read %s\n" % name.encode()
             self.expect("a missing %s" % name, 3, b"", fault, {option: missing})
             self.expect("a folder as %s" % name, 3, b"", fault, {option: folder})
-            self.expect("a %s that is too long" % name, 1, b"REFUSED 73 FileTooLong\n", b"", {option: long})
+            self.expect("a %s that is too long" % name, 1, FILE_TOO_LONG, b"", {option: long})
             line = b"REFUSED 2 ListLength at 00000010\n" if name == "list" else b"REFUSED 50 StoreMagic at 00000000\n"
             self.expect("a %s of the greatest length" % name, 1, line, b"", {option: whole})
         self.expect("a missing list and missing stores", 3, b"", b"FAULT read list\n", {"--list": missing, "--stores": missing})
-        self.expect("a long list and missing stores", 1, b"REFUSED 73 FileTooLong\n", b"", {"--list": long, "--stores": missing})
+        self.expect("a long list and missing stores", 1, FILE_TOO_LONG, b"", {"--list": long, "--stores": missing})
         self.expect("an empty list and missing stores", 3, b"", b"FAULT read stores\n",
                     {"--list": "/dev/null", "--stores": missing})
         script = os.open(folder, os.O_RDONLY)

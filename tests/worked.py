@@ -2,7 +2,8 @@
 
 What a case expects was worked out by hand, never taken from the program.
 """
-from packages import END, END_PACKAGE, base, checkbox, eq_id_val, image, list_of, older_image, package, package_list, suppress_if
+from packages import (END, END_PACKAGE, base, checkbox, duplicate, eq_id_val, image, list_of, older_image, package, package_list, scoped,
+                      skip, string, suppress_if)
 
 # One form with one checkbox over the first byte of a store of two bytes. The forms package has 75 bytes, the list 99.
 ONE_BOX = base() + checkbox(1, 0) + END + END
@@ -16,6 +17,11 @@ GUARDED_LIST = list_of(GUARDED)
 # Question 1 is hidden while it is 1 itself.
 SELF_GUARDED_LIST = list_of(base() + suppress_if() + eq_id_val(1, 1) + checkbox(1, 0) + END + END + END)
 
+# Blocks of the ids 1 to 8: a text, three without one, units of a surrogate and of no character and a letter, a text twice, two without
+# one.
+EIGHT_IDS = [string("A"), skip(3), bytes([0x14, 0x00, 0xD8, 0xF1, 0xFF, 0x42, 0x00, 0x00, 0x00]), duplicate(1), duplicate(9)]
+
+OK = "OK\n"
 TITLE = "FORM 1 #2\n"
 FIRST = 57
 
@@ -62,6 +68,21 @@ def refused(name, list_bytes, line, stores=ZEROS, args=()):
 def of_form(*statements, size=2):
     """A list of one form with these statements, and a store of so many bytes. The first statement stands at 57."""
     return list_of(base(size) + b"".join(statements) + END + END)
+
+
+def in_form(name, opcodes, line):
+    """Refused for opcodes that stand at 57, the first in a form."""
+    refused(name, of_form(opcodes, checkbox(1, 0)), line)
+
+
+def in_checkbox(name, opcodes, line):
+    """Refused for opcodes that stand at 71, the first in a checkbox."""
+    in_form(name, scoped(checkbox(2, 1), opcodes), line)
+
+
+def counted(count):
+    """The answer with a count."""
+    return "OK %d\n" % count
 
 
 def denied(kind, place=FIRST):

@@ -3,6 +3,8 @@ import os
 import shutil
 from dataclasses import dataclass, replace
 
+from running import read
+
 
 @dataclass(frozen=True)
 class Case:
@@ -34,11 +36,6 @@ class Run:
     status: object
     answers: bytes
     image: object
-
-
-def read(path):
-    with open(path, "rb") as file:
-        return file.read()
 
 
 def arguments(words):

@@ -1,12 +1,12 @@
 """Random expressions over the questions and rules that there are: mostly defined ones, and some that are wrong."""
-from packages import END, eq_id_val, expression, operator, question_ref, rule_ref, u16, uint8
+from packages import (END, FALSE, ONE, ONES, THIS, TRUE, UNDEFINED, ZERO, eq_id_val, expression, operator, question_ref, rule_ref, u16,
+                      uint8)
 from fuzzing.structure import BINARY, BOX, NUMERIC, ONE_OF, OPERATORS, UNARY, mended, with_scope
 from fuzzing.values import WIDE, WORDS, value_for
 
 AND, OR, NOT, EQUAL, NOT_EQUAL, BITWISE_NOT = 0x15, 0x16, 0x17, 0x2F, 0x30, 0x37
 COMPARED = (0x2F, 0x30, 0x31, 0x32, 0x33, 0x34)
 COMPUTED = (0x35, 0x36, 0x38, 0x39, 0x3A, 0x3B, 0x3C, 0x3D, 0x3E)
-TRUE, FALSE, ZERO, ONE, ONES, UNDEFINED, THIS = (operator(code) for code in (0x46, 0x47, 0x52, 0x53, 0x54, 0x55, 0x58))
 
 
 def some_question(rng, facts):

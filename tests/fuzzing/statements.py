@@ -1,6 +1,6 @@
 """Random opcodes that are accepted where they belong: questions and what stands in them, guards, rules, stores."""
 import packages as p
-from packages import opcode, scoped, u16
+from packages import LOCKED as LOCK, opcode, scoped, u16
 from fuzzing.expressions import condition, quantity, rule as rule_named
 from fuzzing.facts import Question
 from fuzzing.structure import (ACTION, BOX, DATE, IGNORED, LISTED, NUMERIC, ONE_OF, PASSWORD, REF, STRING, TIME, WITH_FIELD,
@@ -11,7 +11,6 @@ KINDS = (BOX, BOX, BOX, NUMERIC, NUMERIC, NUMERIC, NUMERIC, ONE_OF, ONE_OF, ONE_
          LISTED)
 DISPLAYS = (p.SIGNED, p.SIGNED, p.UNSIGNED, p.HEXADECIMAL, 0x30)
 OPTION_TYPES = (p.NUMBER_1, p.NUMBER_1, p.NUMBER_2, p.NUMBER_4, p.NUMBER_8, p.BOOLEAN)
-LOCK = opcode(0x0B)
 # An opcode has 127 bytes at most.
 LONGEST_BUFFER = 100
 

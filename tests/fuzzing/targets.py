@@ -1,6 +1,6 @@
 """Cases that aim at one limit each, which chance would seldom meet."""
 import packages as p
-from packages import END, END_PACKAGE, opcode, scoped, u16
+from packages import END, END_PACKAGE, LOCKED as LOCK, opcode, scoped, u16
 from fuzzing import expressions, images, scripts
 from fuzzing.cases import Case
 from fuzzing.facts import facts_of
@@ -9,7 +9,6 @@ from fuzzing.values import WIDE
 
 BOX_LIST = p.list_of(p.base() + p.checkbox(1, 0) + END + END)
 SCRIPT_LIMIT = 1048576
-LOCK = opcode(0x0B)
 HEADER = "GUID=%s&NAME=0056&PATH=" % p.VARSTORE_GUID.hex()
 
 

@@ -9,3 +9,4 @@ pub mod WriteLemmas
 pub mod BuildLemmas
 pub mod GoodLemmas
 pub mod WorkedTexts
+pub mod SenseValueLemmas

@@ -1,5 +1,5 @@
 -- Pieces and tasks put down one by one.
-use Rattle.std.proofs.Common.{◌≡◌, ℕ, ◌+◌, ◌<◌, Option, List, [], ◌∷◌, ◌++◌, length, take, get_or, drop, refl, sym, ap, subst, ◌∙◌, append_assoc, append-nil}
+use Rattle.std.proofs.Common.{◌≡◌, ℕ, ◌+◌, ◌<◌, Option, List, [], ◌∷◌, ◌++◌, length, take, get_or, drop, refl, sym, ap, ◌∙◌, append_assoc, append-nil}
 use Rattle.std.specs.Prelude.{codes}
 use Rattle.std.proofs.lemmas.List.{take_more}
 use Rattle.ifr_opcodes.specs.declared.expressions.LeafOp.{LeafOp}
@@ -92,9 +92,6 @@ word_unwound tasks some pieces new w e f =
 
 pub operand_unwound : (tasks some : List Task) (pieces : List Piece) → tasks ≡ some ++ task.Operand ∷ [] → progress_of some pieces ≡ unwound (progress_of tasks pieces)
 operand_unwound tasks some pieces e = ap unwound (sym (task_pushed some tasks pieces task.Operand e))
-
-pub nothing_unwound : (tasks : List Task) (pieces : List Piece) → tasks ≡ [] → progress_of tasks pieces ≡ unwound (progress_of tasks pieces)
-nothing_unwound tasks pieces e = subst (λ (ts : List Task). progress_of ts pieces ≡ unwound (progress_of ts pieces)) (sym e) refl
 
 -- ---- the pieces are written
 

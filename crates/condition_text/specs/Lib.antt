@@ -1,3 +1,4 @@
 pub mod Senses
 pub mod Texts
+pub mod SenseValues
 pub mod code

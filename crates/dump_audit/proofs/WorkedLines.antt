@@ -8,6 +8,7 @@ use Rattle.sibt_strings.specs.Units.{chars_of_units}
 use Rattle.hii_languages.specs.Languages.{Spoken}
 use Rattle.dump_audit.specs.Findings.{Refused}
 use Rattle.dump_audit.specs.Lines.{contents_text, line, rest_line}
+use Rattle.dump_audit.specs.Taking.{no_list_text}
 
 -- a forms package with a FORM_SET and nothing else: its title has the string id 1
 abbrev forms : List ℕ
@@ -45,3 +46,7 @@ a_rest = refl
 
 no_rest : rest_line 0xd74 [] ≡ []
 no_rest = refl
+
+no_list : no_list_text 3 ≡ codes "NO LIST 3\n"
+unfolding digits
+no_list = refl

@@ -1,4 +1,5 @@
 pub mod Findings
 pub mod Contents
 pub mod Lines
+pub mod Taking
 pub mod code

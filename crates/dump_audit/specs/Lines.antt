@@ -76,3 +76,15 @@ pub record IsSplitText (dump text : List ℕ) : Type 0 where
   pub each : AllByRecursion IsTold told
   pub in_order : map (λ t. t.entry) told ≡ placed 0 lists
   pub written : text ≡ lines 1 told ++ rest_line (length (concat lists)) rest
+
+-- The text has the lines of the first lists of the dump, in order and numbered from 1, and not yet that of the next one.
+pub record BeginsSplitText (dump text : List ℕ) : Type 0 where
+  pub lists : List (List ℕ)
+  pub rest : List ℕ
+  pub spelled : SpellsDump dump lists rest
+  pub told : List Told
+  pub each : AllByRecursion IsTold told
+  pub next : Entry
+  pub later : List Entry
+  pub in_order : map (λ t. t.entry) told ++ next ∷ later ≡ placed 0 lists
+  pub written : text ≡ lines 1 told

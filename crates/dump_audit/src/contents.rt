@@ -53,7 +53,7 @@ pub(crate) fn forms_count(list: &PackageList<'_>) -> u64
 
 /// Writes the GUIDs of the form sets with which forms packages begin, each behind a space, and answers the string id of the first
 /// one's title.
-pub(crate) fn put_form_sets<W: Write>(out: &mut Watched<W>, list: &PackageList<'_>) -> Option<u16>
+pub(crate) fn put_form_sets<W: Write>(list: &PackageList<'_>, out: &mut Watched<W>) -> Option<u16>
     ensures text { Puts W.contents out.old out.new (flat_map guid_word (form_sets list.now)) }
     ensures title { result ≡ first_title (form_sets list.now) }
 {

@@ -2,9 +2,11 @@
 #![tactic(auto)]
 
 mod contents;
-mod faults;
+mod findings;
 pub mod laws;
 mod lines;
 mod strings;
+mod taking;
 
 pub use lines::{put_list, put_rest, put_split};
+pub use taking::put_taken;

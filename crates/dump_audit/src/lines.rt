@@ -1,40 +1,41 @@
 //! The lines of a dump.
 
-ghost use Rattle.std.specs.Prelude.{◌≡◌, ℕ, List, length};
+ghost use Rattle.std.specs.Prelude.{◌≡◌, ℕ, List, length, OnOk, OnErr};
 ghost use Rattle.std.specs.List.{concat};
 ghost use Rattle.hii_bytes.specs.Watching.{Puts};
 ghost use Rattle.hii_dumps.specs.code.Lists.{entry_of};
-ghost use Rattle.hii_languages.specs.Languages.{Spoken, string_packages, AreSpoken};
+ghost use Rattle.hii_languages.specs.Languages.{Spoken};
 ghost use Rattle.dump_audit.specs.Findings.{Finding, IsFound};
-ghost use Rattle.dump_audit.specs.Lines.{contents_text, fault_text, head_text, line, rest_line, IsSplitText};
+ghost use Rattle.dump_audit.specs.Lines.{contents_text, fault_text, head_text, line, rest_line, IsSplitText, BeginsSplitText};
+ghost use Rattle.dump_audit.specs.code.Heard.{heard_of};
 
 use crate::contents::{forms_count, put_form_sets};
-use crate::faults::read_list;
-use crate::strings::{put_chars, put_languages, shown_of};
+use crate::findings::{Contents, find};
+use crate::strings::put_chars;
 use audit_text::put_hex_place;
 use hii_bytes::{Fault, Watched};
 use hii_dumps::{Dump, DumpedList};
-use hii_packages::PackageList;
+use std::alloc::{AllocError, Global};
 use std::io::Write;
 
 // Writes what the packages of a list are.
-fn put_contents<W: Write>(out: &mut Watched<W>, list: &PackageList<'_>)
-    ensures { (spoken : List Spoken) → AreSpoken (string_packages list.now) spoken
-        → Puts W.contents out.old out.new (contents_text list.now spoken) }
+fn put_contents<W: Write>(contents: &Contents<'_>, out: &mut Watched<W>)
+    ensures { (spoken : List Spoken) → contents.now.strings ≡ heard_of spoken
+        → Puts W.contents out.old out.new (contents_text contents.now.packages spoken) }
 {
     out.put(b"forms ");
-    out.put_decimal(forms_count(list));
-    let title = put_form_sets(out, list);
+    out.put_decimal(forms_count(&contents.packages));
+    let title = put_form_sets(&contents.packages, out);
     out.put(b" strings ");
-    let first = put_languages(out, list);
+    contents.strings.put_languages(out);
     if let Some(id) = title {
         out.put(b" ");
-        put_chars(out, shown_of(&first, id).chars());
+        put_chars(contents.strings.shown(id).chars(), out);
     }
 }
 
 // Writes by which cause a list is refused, and where.
-fn put_fault<W: Write>(out: &mut Watched<W>, fault: Fault)
+fn put_fault<W: Write>(fault: Fault, out: &mut Watched<W>)
     ensures { Puts W.contents out.old out.new (fault_text fault) }
 {
     out.put(b"REFUSED ");
@@ -46,7 +47,7 @@ fn put_fault<W: Write>(out: &mut Watched<W>, fault: Fault)
 }
 
 // Writes which list a line is of: its number, its place and its length.
-fn put_head<W: Write>(out: &mut Watched<W>, number: u64, list: DumpedList<'_>)
+fn put_head<W: Write>(number: u64, list: DumpedList<'_>, out: &mut Watched<W>)
     ensures { Puts W.contents out.old out.new (head_text number (entry_of list.entry)) }
 {
     out.put(b"LIST ");
@@ -60,25 +61,33 @@ fn put_head<W: Write>(out: &mut Watched<W>, number: u64, list: DumpedList<'_>)
 
 /// Writes the line of a list: its number, its place in the dump and its length in bytes, and then how many forms packages it has,
 /// the GUIDs of the form sets with which they begin, the languages of its string packages, and the title of the first form set in
-/// the first of these languages; of a list with a fault of its packages, or else of its string packages, the least fault. It takes
-/// no memory.
-pub fn put_list<W: Write>(out: &mut Watched<W>, number: u64, list: DumpedList<'_>)
-    ensures { (finding : Finding) × IsFound list.entry.bytes.now finding
+/// the first of these languages; of a list with a fault of its packages, or else of its string packages, the least fault (own rule).
+/// Where an allocation fails nothing is written.
+pub fn put_list<W: Write>(
+    alloc: Global,
+    number: u64,
+    list: DumpedList<'_>,
+    out: &mut Watched<W>,
+) -> Result<(), AllocError>
+    ensures told { OnOk result ((finding : Finding) × IsFound list.entry.bytes.now finding
         × Puts W.contents out.old out.new (line number record {
           entry = entry_of list.entry;
           finding = finding;
-        }) }
+        })) }
+    ensures nothing { OnErr result (out.new ≡ out.old) }
 {
-    put_head(out, number, list);
-    match read_list(list.bytes) {
-        Ok(packages) => put_contents(out, &packages),
-        Err(fault) => put_fault(out, fault),
+    let found = find(alloc, list.bytes)?;
+    put_head(number, list, out);
+    match found {
+        Ok(contents) => put_contents(&contents, out),
+        Err(fault) => put_fault(fault, out),
     }
     out.put(b"\n");
+    Ok(())
 }
 
-/// Writes the line of a dump's rest, its place and its length in bytes, where the rest has some.
-pub fn put_rest<W: Write>(out: &mut Watched<W>, dump: &Dump<'_>)
+/// Writes the line of a dump's rest, its place and its length in bytes, where the rest has some (own rule).
+pub fn put_rest<W: Write>(dump: &Dump<'_>, out: &mut Watched<W>)
     ensures { Puts W.contents out.old out.new
         (rest_line (length (concat dump.now.lists)) dump.now.rest) }
 {
@@ -92,16 +101,24 @@ pub fn put_rest<W: Write>(out: &mut Watched<W>, dump: &Dump<'_>)
     out.put(b"\n");
 }
 
-/// Writes a line for each list of a dump, in order and numbered from 1, and one for its rest. It takes no memory.
-pub fn put_split<W: Write>(out: &mut Watched<W>, dump: &[u8])
-    ensures { (text : List ℕ) × IsSplitText dump.now text
-        × Puts W.contents out.old out.new text }
+/// Writes a line for each list of a dump, in order and numbered from 1, and one for its rest (own rule). Where an allocation fails
+/// these are the lines of the lists before the one that it was for.
+pub fn put_split<W: Write>(
+    alloc: Global,
+    dump: &[u8],
+    out: &mut Watched<W>,
+) -> Result<(), AllocError>
+    ensures told { OnOk result ((text : List ℕ) × IsSplitText dump.now text
+        × Puts W.contents out.old out.new text) }
+    ensures begun { OnErr result ((text : List ℕ) × BeginsSplitText dump.now text
+        × Puts W.contents out.old out.new text) }
 {
     let split = Dump::read(dump);
     let mut number = 1;
     for list in split.lists() {
-        put_list(out, number, list);
+        put_list(alloc, number, list, out)?;
         number += 1;
     }
-    put_rest(out, &split);
+    put_rest(&split, out);
+    Ok(())
 }

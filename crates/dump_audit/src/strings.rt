@@ -1,78 +1,103 @@
 //! What the string packages of a list tell.
 
-ghost use Rattle.std.specs.Prelude.{◌≡◌, List, map, codes, slice_get, encode_utf8};
+ghost use Rattle.std.specs.Prelude.{◌≡◌, codes, encode_utf8};
 ghost use Rattle.std.specs.List.{flat_map};
 ghost use Rattle.hii_bytes.specs.Watching.{Puts};
-ghost use Rattle.hii_languages.specs.Languages.{Spoken, string_packages, AreSpoken};
-ghost use Rattle.hii_languages.specs.code.Views.{chars_left, text_of};
-ghost use Rattle.audit_text.specs.Texts.{joined};
-ghost use Rattle.dump_audit.specs.code.Words.{word_behind, shown_in_first};
+ghost use Rattle.hii_languages.specs.code.Views.{chars_left};
 
-use hii_bytes::Watched;
+use hii_bytes::{Fault, Watched};
 use hii_languages::{Shown, ShownChars};
 use hii_packages::{PackageList, STRINGS};
-use sibt_strings::Strings;
+use sibt_strings::{StringTable, Units};
+use std::alloc::Global;
 use std::io::Write;
+use std::marker::Model;
 
-// Writes a word, behind a comma where it follows another.
-fn put_word<W: Write>(out: &mut Watched<W>, follows: bool, word: &[u8])
-    ensures { Puts W.contents out.old out.new (word_behind follows word.now) }
-{
-    if !follows {
-        out.put(word);
-        return;
-    }
-    out.put(b",");
-    out.put(word);
+/// The languages of the string packages of a list, in order, and the texts of the first one.
+#[derive(Drop)]
+pub(crate) struct ListStrings<'a> {
+    languages: Vec<&'a [u8]>,
+    first: Option<StringTable<'a>>,
 }
 
-/// Writes the languages of the string packages of a list, joined by commas, or a hyphen where there are none, and answers the first
-/// package's strings.
-pub(crate) fn put_languages<'a, W: Write>(
-    out: &mut Watched<W>,
-    list: &PackageList<'a>,
-) -> Option<Strings<'a>>
-    ensures text { (spoken : List Spoken) → AreSpoken (string_packages list.now) spoken
-        → Puts W.contents out.old out.new (joined (codes ",") (map (λ s. s.language) spoken)) }
-    ensures first { (spoken : List Spoken) → AreSpoken (string_packages list.now) spoken
-        → result ≡ slice_get spoken 0 }
-{
-    let mut first = None;
-    for source in list.packages() {
-        if source.kind == STRINGS {
-            match Strings::read(source) {
-                Ok(strings) => {
-                    put_word(out, first.is_some(), strings.language());
-                    first = first.or(Some(strings));
-                }
-                Err(_fault) => return None,
+impl<'a> Model for ListStrings<'a> {
+    ghost use Rattle.std.specs.Prelude.{map};
+    ghost use Rattle.dump_audit.specs.code.Heard.{Heard};
+
+    ghost Value = { Heard };
+
+    ghost view = { λ s. record {
+      languages = map (λ language. language.now) s.languages.items;
+      first = s.first;
+    } };
+}
+
+impl<'a> ListStrings<'a> {
+    ghost use Rattle.std.specs.Prelude.{List, IfOk, IfErr, option_map};
+    ghost use Rattle.hii_bytes.specs.Faults.{Refuses};
+    ghost use Rattle.sibt_strings.specs.code.Views.{units_in};
+    ghost use Rattle.hii_languages.specs.Languages.{Spoken, string_packages, AreSpoken, IsStringsFault};
+    ghost use Rattle.hii_languages.specs.code.Views.{text_of};
+    ghost use Rattle.audit_text.specs.Texts.{joined};
+    ghost use Rattle.dump_audit.specs.code.Heard.{heard_of, text_in_first, shown_in_first};
+
+    /// Reads each string package once, in memory for the texts of two at most; or gives the least fault of the first that has one,
+    /// or OutOfMemory (60) at 0 where an allocation fails.
+    pub(crate) fn read(alloc: Global, list: &PackageList<'a>) -> Result<ListStrings<'a>, Fault>
+        ensures read { IfOk result (λ strings. (spoken : List Spoken)
+            × AreSpoken (string_packages list.now) spoken × (strings ≡ heard_of spoken)) }
+        ensures refused { IfErr result (Refuses (IsStringsFault (string_packages list.now))) }
+    {
+        let mut languages = Vec::new(alloc);
+        let mut first = None;
+        for source in list.packages() {
+            if source.kind == STRINGS {
+                let table = StringTable::of_package(alloc, source)?;
+                languages.push(table.language())?;
+                first = first.or(Some(table));
             }
         }
+        Ok(ListStrings { languages, first })
     }
-    if first.is_none() {
-        out.put(b"-");
-    }
-    first
-}
 
-/// What is shown of a string id in the language of these strings, the first of a list.
-pub(crate) fn shown_of<'a>(first: &Option<Strings<'a>>, id: u16) -> Shown<'a>
-    ensures { text_of result ≡ shown_in_first first.now id }
-{
-    if id == 0 {
-        return Shown::Nothing;
+    /// Writes the languages, joined by commas, or a hyphen where there are none.
+    pub(crate) fn put_languages<W: Write>(&self, out: &mut Watched<W>)
+        ensures { Puts W.contents out.old out.new (joined (codes ",") self.now.languages) }
+    {
+        let Some((first, others)) = self.languages.split_first() else {
+            out.put(b"-");
+            return;
+        };
+        out.put(first);
+        for language in others {
+            out.put(b",");
+            out.put(language);
+        }
     }
-    match first {
-        Some(strings) => match strings.text(id) {
+
+    // The text of a string id in the first string package.
+    fn text(&self, id: u16) -> Option<Units<'a>>
+        ensures { option_map units_in result ≡ text_in_first self.now.first id }
+    {
+        self.first.as_ref()?.text(id)
+    }
+
+    /// What is shown of a string id in the language of the first string package.
+    pub(crate) fn shown(&self, id: u16) -> Shown<'a>
+        ensures { text_of result ≡ shown_in_first self.now.first id }
+    {
+        if id == 0 {
+            return Shown::Nothing;
+        }
+        match self.text(id) {
             Some(units) => Shown::Units(units),
             None => Shown::Missing(id),
-        },
-        None => Shown::Missing(id),
+        }
     }
 }
 
 /// Writes a text in UTF-8.
-pub(crate) fn put_chars<W: Write>(out: &mut Watched<W>, text: ShownChars<'_>)
+pub(crate) fn put_chars<W: Write>(text: ShownChars<'_>, out: &mut Watched<W>)
     ensures { Puts W.contents out.old out.new (flat_map encode_utf8 (chars_left text.entry)) }
 {
     let mut text = text;

@@ -1,5 +1,5 @@
 -- The first of things that have a key, among those that are sorted by their keys.
-use Rattle.std.proofs.Common.{◌≡◌, ◌≤◌, ℕ, Bool, true, false, arith, length, ltb, eqb, Option, Some, None, List, [], ◌∷◌, map, option_map, refl, sym, ap, ◌∙◌, inl, inr}
+use Rattle.std.proofs.Common.{◌≡◌, ◌≤◌, ℕ, true, false, arith, length, ltb, eqb, Option, Some, None, List, [], ◌∷◌, refl, sym, ap, ◌∙◌, inl, inr}
 use Rattle.std.specs.Prelude.{filter}
 use Rattle.std.specs.List.{find}
 use Rattle.std.specs.List.Sorted.{IsStableByKey, IsPartitionPoint, IsSortedByKey}
@@ -36,8 +36,3 @@ pub past_all : {X : Type 0} (key : X → ℕ) (xs : List X) (k first : ℕ) → 
     → IsSortedByKey key nat_cmp xs → length xs ≤ first → find (λ x. eqb (key x) k) xs ≡ None
 past_all key [] k first split sorted past = refl
 past_all key (x ∷ xs) k first split sorted past = first_past key (x ∷ xs) k first split sorted x (λ lt is. absurd (omega (arith, past, lt)))
-
--- What is found by what is seen of it is seen of what is found.
-pub find_seen : {X Y : Type 0} (view : X → Y) (p : Y → Bool) (xs : List X) → find p (map view xs) ≡ option_map view (find (λ x. p (view x)) xs)
-find_seen view p [] = refl
-find_seen view p (x ∷ xs) = elim (cases_Bool (p (view x))) [ inl here ↦ rw here refl | inr other ↦ rw other (find_seen view p xs) ]

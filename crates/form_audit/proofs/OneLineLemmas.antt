@@ -12,7 +12,7 @@ use Rattle.ifr_opcodes.specs.Reading.{tree_of}
 use Rattle.ifr_opcodes.proofs.StatementLemmas.{question_is_statement}
 use Rattle.ifr_scopes.specs.Accepted.{IsAccepted}
 use Rattle.ifr_scopes.specs.Checked.{IsChecked}
-use Rattle.ifr_scopes.specs.Nodes.{nodes_of, is_form, is_question, is_statement}
+use Rattle.ifr_scopes.specs.Nodes.{nodes_of, is_form, is_question}
 use Rattle.ifr_scopes.specs.Rules.{forms_among}
 use Rattle.ifr_scopes.proofs.FormFacts.{statement_form}
 use Rattle.ifr_scopes.proofs.PlaceLemmas.{nodes_within, rise}
@@ -21,20 +21,10 @@ use Rattle.ifr_scopes.proofs.ScopeLemmas.{path_inside}
 use Rattle.ifr_scopes.proofs.ViewLemmas.{further}
 use Rattle.hii_questions.proofs.OrderLemmas.{filter_none}
 use Rattle.hii_questions.proofs.PartLemmas.{some_within}
+use Rattle.hii_questions.proofs.QuestionLemmas.{among_statements}
 use Rattle.form_audit.specs.FormLines.{form_questions}
 
 -- ---- the questions of forms, form by form
-
--- each question among nodes is one among the statements of these
-asks_among : (ns : List Placed) → filter is_question (filter is_statement ns) ≡ filter is_question ns
-asks_among [] = refl
-asks_among (n ∷ ns) = elim (cases_Bool (is_question n)) [
-  | inl asks ↦ let states : is_statement n ≡ true = question_is_statement (number n.op) asks in rw (states, asks) (ap (λ (l : List Placed). n ∷ l) (asks_among ns))
-  | inr other ↦ elim (cases_Bool (is_statement n)) [
-    | inl states ↦ rw (states, other) (asks_among ns)
-    | inr plain ↦ rw (plain, other) (asks_among ns)
-  ]
-]
 
 -- the questions of the forms among nodes, form by form
 abbrev by_form : List Placed → List Placed
@@ -88,7 +78,7 @@ one_form (node op children rest) at path bare held =
           ]) in
           let forms : filter is_form (n ∷ (its ++ after)) ≡ n ∷ filter is_form after =
           cond-true (is_form n) _ _ form ∙ ap (λ (l : List Placed). n ∷ l) (filter-append is_form its after ∙ ap (λ (l : List Placed). l ++ filter is_form after) form_free) in
-          ap (flat_map form_questions) forms ∙ ap (λ (l : List Placed). l ++ by_form after) (asks_among its) ∙ ap (λ (l : List Placed). filter is_question its ++ l) later ∙ sym asked
+          ap (flat_map form_questions) forms ∙ ap (λ (l : List Placed). l ++ by_form after) (among_statements its) ∙ ap (λ (l : List Placed). filter is_question its ++ l) later ∙ sym asked
       | inr plain ↦
           let still : forms_among entered ≡ [] = filter-append (λ (b : Ancestor). number b.op == FORM) path (a ∷ []) ∙ ap (λ (l : List Ancestor). l ++ forms_among (a ∷ [])) bare ∙ cond-false (is_form n) _ _ plain in
           let inner : by_form its ≡ filter is_question its =

@@ -46,7 +46,7 @@ fn put_columns<'a, C: Conditions, W: Write>(
 {
     let verdict = page
         .policy()
-        .changeable_by(question.statement(), page.conditions());
+        .question_changeable_by(question, page.conditions());
     out.put_decimal_right(5, u64::from(question.id()));
     out.put(b" ");
     put_verdict(verdict, out);

@@ -12,7 +12,7 @@ ghost use Rattle.hii_questions.specs.code.Views.{question_node, question_view};
 ghost use Rattle.guard_policy.specs.Policy as spec;
 ghost use Rattle.guard_policy.specs.code.Answers as denying;
 ghost use Rattle.guard_policy.specs.code.KeptConditions.{DecidesBy, Tells, TellsAll};
-ghost use Rattle.guard_policy.specs.laws.Support.{suppressing};
+ghost use Rattle.guard_policy.specs.laws.Support.{around, suppressing};
 ghost use Rattle.guard_policy.specs.code.Surroundings.{IsFree};
 ghost use Rattle.guard_policy.specs.code.Views.{world, world_by};
 ghost use Rattle.guard_policy.specs.code.Worlds.{is_met_at};
@@ -150,6 +150,22 @@ impl<'a, 's> Policy<'a, 's> {
             (spec.fixed (world_by self.now (V.met verdicts.now)) (option_node option.entry)) }
     {
         self.uncovered_within(option.place(), 0, free, verdicts)
+    }
+
+    /// Whether an option of a question may be chosen, as far as it goes, by what is kept of conditions: not where it is not shown,
+    /// a GRAY_OUT_IF around it holds (GrayOutIf) or it is locked (Locked).
+    pub fn option_changeable_by<C: Conditions>(
+        &self,
+        option: OptionView<'a>,
+        conditions: &C,
+    ) -> Result<(), Denial>
+        requires { IsNodeOf self.now.forms.now (option_node option) }
+        ensures { (stores : StoreMap)
+            → Tells (C.holding conditions.now) (world self.now stores) (around (option_node option.entry))
+            → result ≡ denying.unless
+            (spec.fixed (world self.now stores) (option_node option.entry)) }
+    {
+        self.option_selectable(option, None, &ByConditions { conditions })
     }
 
     // Whether a statement forbids a change by itself.

@@ -58,8 +58,11 @@ fn lines_in_pieces(rt: HostRuntime) -> Result<(), Fail> {
     assert_eq!(rt; (fed.taken, fed.complete), (3, true));
     assert_eq!(rt; buffer.line(), Ok(b"page".as_slice()));
     buffer.clear();
-    let _fed = buffer.feed(&[b' '; 4097]);
+    let long = [b' '; 4097];
+    let _fed = buffer.feed(&long);
     assert_eq!(rt; buffer.line().err(), Some(BadLine::LineTooLong));
-    assert_eq!(rt; BadLine::LineTooLong.cause().number(), 71u8);
+    assert_eq!(rt; read_line(&long).err(), Some(BadLine::LineTooLong));
+    let cause = BadLine::LineTooLong.cause();
+    assert_eq!(rt; (cause.number(), cause.name()), (71, "LineTooLong"));
     Ok(())
 }

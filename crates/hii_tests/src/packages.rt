@@ -20,10 +20,13 @@ fn packages_of_a_list(rt: HostRuntime) -> Result<(), Fail> {
     assert_eq!(rt; kinds.as_slice(), [1, 2, 2, 8].as_slice());
     assert_eq!(rt; places.as_slice(), [20, 24, 28, 33].as_slice());
     assert_eq!(rt; list.forms(2)?.bytes, [5, 0, 0, 2, 0x29].as_slice());
-    assert_eq!(rt;
-        list.forms(3).err().map(|fault| fault.cause),
-        Some(Cause::NoForms)
-    );
+    for number in [0, 3] {
+        let fault = list.forms(number).err();
+        assert_eq!(rt;
+            fault.map(|fault| (fault.cause.number(), fault.place)),
+            Some((6, 0))
+        );
+    }
     assert_eq!(rt; list.device_path(), [0x7f, 0xff, 4, 0].as_slice());
     Ok(())
 }

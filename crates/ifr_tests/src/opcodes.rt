@@ -98,6 +98,7 @@ fn numbers_of_opcodes(rt: HostRuntime) {
 #[test]
 fn checkbox(rt: HostRuntime) -> Result<(), Fail> {
     let checkbox = CheckboxOp::read(op_at(&OPCODES, 32)?)?;
+    assert_eq!(rt; checkbox.question().id(), 11);
     assert_eq!(rt; (checkbox.flags(), checkbox.is_default()), (2, false));
     assert!(rt; checkbox.is_manufacturing_default());
     let question = QuestionOp::read(op_at(&OPCODES, 32)?)?;

@@ -1,5 +1,5 @@
 ghost use Rattle.guard_policy.specs.code.Views.{bytes_of};
-ghost use Rattle.std.specs.Prelude.{◌≡◌, IfSome};
+ghost use Rattle.std.specs.Prelude.{◌≡◌, ◌==◌, IfSome};
 ghost use Rattle.ifr_scopes.specs.Accepted.{IsAccepted};
 ghost use Rattle.ifr_scopes.specs.code.Checked.{IsNodeOf};
 ghost use Rattle.ifr_scopes.specs.code.Lists.{form_node};
@@ -238,6 +238,58 @@ fn option_decided_by<'a>(
     ])
 }
 
+// The condition at a place holds alone.
+#[derive(Drop)]
+struct Alone {
+    place: u32,
+}
+
+impl Conditions for Alone {
+    ghost holding = { λ alone place. alone.place == place };
+
+    fn holds(&self, place: u32) -> bool {
+        self.place == place
+    }
+}
+
+// Whether the first option of the question 5 is shown and may be chosen, by the condition at a place alone.
+fn option_decided_at<'a>(
+    policy: Policy<'a, '_>,
+    questions: &Questions<'a>,
+    place: u32,
+) -> Option<[Result<(), Denial>; 2]>
+    requires accepted { IsAccepted questions.now.ifr }
+    requires together { bytes_of policy ≡ questions.now.ifr }
+{
+    let choice = question_of(questions, 5)?;
+    let option = first_option(questions, choice)?;
+    let alone = Alone { place };
+    Some([
+        policy.option_listed_by(option, &alone),
+        policy.option_changeable_by(option, &alone),
+    ])
+}
+
+fn options_are_shown_and_chosen<'a>(
+    rt: &impl Abort,
+    policy: Policy<'a, '_>,
+    questions: &Questions<'a>,
+)
+    requires accepted { IsAccepted questions.now.ifr }
+    requires together { bytes_of policy ≡ questions.now.ifr }
+{
+    let suppressed = denial(DenialKind::SuppressIf, 51);
+    let grayed = denial(DenialKind::GrayOutIf, 207);
+    for (place, seen, open) in [
+        (51, suppressed, suppressed),
+        (207, Ok(()), grayed),
+        (146, Ok(()), Ok(())),
+    ] {
+        let decided = option_decided_at(policy, questions, place);
+        assert_eq!(rt; decided, Some([seen, open]));
+    }
+}
+
 fn kept_conditions_decide<'a>(
     rt: &impl Abort,
     policy: Policy<'a, '_>,
@@ -313,8 +365,10 @@ fn policy_decides<'a, R: Abort>(
     assert_eq!(rt; (policy.removed(170), policy.removed(146)), (true, false));
     assert_eq!(rt; policy.opens(form, stores), Ok(()));
     statements_are_denied(rt, policy, questions, stores);
+    options_are_denied(rt, policy, questions, stores);
     values_are_denied(rt, policy, questions, stores);
     kept_conditions_decide(rt, policy, questions, form);
+    options_are_shown_and_chosen(rt, policy, questions);
     decisions_depend_on_questions(rt, policy, questions);
     conditions_are_found(rt, policy, stores);
 }

@@ -9,8 +9,8 @@ use crate::forms::{forms_of, package_of};
 use crate::images::image_of;
 use hii_bytes::{Cause, Fault, is_number_list};
 use hii_questions::{
-    Input, Question, Questions, StoredItems, ValueDenial, check_value, element_width, laws,
-    read_value, shown,
+    DenialKind, Input, Question, Questions, StoredItems, ValueDenial, check_value, element_width,
+    laws, read_value, shown,
 };
 use hii_varstore::{Layout, Stores};
 use ifr_expr::{Answers, Value};
@@ -280,6 +280,22 @@ fn values_are_checked_in_their_order(rt: &impl Abort, questions: &Questions<'_>)
     }
 }
 
+// Why the question of an id does not take a number.
+fn denial_of(questions: &Questions<'_>, id: u16, number: i128) -> Option<ValueDenial> {
+    check_value(questions.find(id)?, Input::Number(number)).err()
+}
+
+fn denials_name_their_questions(rt: &impl Abort, questions: &Questions<'_>) {
+    for (id, number, kind, place) in [
+        (7, 2, DenialKind::Range, 57),
+        (9, 3, DenialKind::NoOption, 88),
+        (12, 1, DenialKind::Kind, 169),
+    ] {
+        let wanted = Some(ValueDenial { kind, place });
+        assert_eq!(rt; denial_of(questions, id, number), wanted);
+    }
+}
+
 // What questions answer is read of stores that hold FIELDS.
 fn over_fields(
     rt: &impl Abort,
@@ -303,6 +319,7 @@ fn values_are_checked_and_read(
     questions_are_found(rt, &questions);
     elements_have_widths(rt, &questions);
     values_are_checked_in_their_order(rt, &questions);
+    denials_name_their_questions(rt, &questions);
     over_fields(rt, alloc, &layout, &questions)
 }
 

@@ -1,3 +1,2 @@
 -- What the code decides step by step. No module outside of this folder cites one of it.
 pub mod Naming
-pub mod Options

@@ -2,10 +2,10 @@
 
 use browser_core::put_refusal_at;
 use hii_bytes::{Cause, Fault, Watched};
-use setup_files::{Status, fault, refused};
+use setup_files::{OutFile, Status, fault, refused};
 use std::io;
 use std::io::{BufWriter, Printer, Write};
-use store_audit::Declared;
+use std::rt::Files;
 
 /// A writer of answers, which are held back until they are passed on.
 pub type Answers<'a, R> = Watched<BufWriter<Printer<'a, R>>>;
@@ -30,43 +30,36 @@ pub fn pass_on<R: Print + Eprint>(rt: &R, answers: Answers<'_, R>) -> Result<(),
     }
 }
 
+/// Ends a run that wrote the file of `--out` behind its answers.
+pub fn written<R: Files + Print + Eprint>(
+    rt: &R,
+    answers: Answers<'_, R>,
+    file: &Watched<OutFile<'_, R>>,
+) -> Result<(), Status> {
+    pass_on(rt, answers)?;
+    if file.failed() {
+        return Err(fault(rt, "write out"));
+    }
+    Ok(())
+}
+
 /// Ends a run whose refusal stands in the answers.
-pub fn refusal<R: Print + Eprint>(rt: &R, out: Answers<'_, R>) -> Status {
-    match pass_on(rt, out) {
+pub fn refusal<R: Print + Eprint>(rt: &R, answers: Answers<'_, R>) -> Status {
+    match pass_on(rt, answers) {
         Ok(()) => Status::Refused,
         Err(status) => status,
     }
 }
 
-/// What a forms package of a list declares.
-pub fn declared<'a, R: Print + Eprint + AllocGlobal>(
-    rt: &R,
-    list: &'a [u8],
-    forms: u16,
-) -> Result<Declared<'a>, Status> {
-    match Declared::read(rt.alloc(), list, usize::from(forms)) {
-        Ok(declared) => Ok(declared),
-        Err(fault) => Err(refused_at(rt, fault)),
+/// Ends a run that a fault refuses. It is told behind the answers, at its place; want of memory has none.
+pub fn refused_by<R: Print + Eprint>(rt: &R, answers: Answers<'_, R>, fault: Fault) -> Status {
+    let mut answers = answers;
+    if fault.cause != Cause::OutOfMemory {
+        put_refusal_at(fault, &mut answers);
+        return refusal(rt, answers);
     }
-}
-
-/// Tells a fault behind the answers.
-pub fn refused_behind<R: Print + Eprint>(rt: &R, out: Answers<'_, R>, fault: Fault) -> Status {
-    match pass_on(rt, out) {
-        Ok(()) => refused_at(rt, fault),
+    match pass_on(rt, answers) {
+        Ok(()) => refused(rt, Cause::OutOfMemory),
         Err(status) => status,
     }
-}
-
-/// Tells a fault as an answer, at its place; want of memory has none.
-pub fn refused_at<R: Print + Eprint>(rt: &R, refusal: Fault) -> Status {
-    if refusal.cause == Cause::OutOfMemory {
-        return refused(rt, Cause::OutOfMemory);
-    }
-    let mut out = Watched::new(io::writer(rt));
-    put_refusal_at(refusal, &mut out);
-    if out.failed() {
-        return fault(rt, "write answers");
-    }
-    Status::Refused
 }

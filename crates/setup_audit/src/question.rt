@@ -1,6 +1,6 @@
 //! `question`: what is known of one question.
 
-use crate::answers::{answers, pass_on, refusal, refused_behind};
+use crate::answers::{answers, pass_on, refusal, refused_by};
 use crate::auditing::put_question_audit;
 use crate::given::FormSetFiles;
 use audit_options::QuestionOptions;
@@ -17,6 +17,6 @@ pub fn run<R: Files + Print + Eprint + AllocGlobal>(
     match put_question_audit(rt.alloc(), files.given(), options.id, &mut out) {
         Ok(true) => pass_on(rt, out),
         Ok(false) => Err(refusal(rt, out)),
-        Err(fault) => Err(refused_behind(rt, out, fault)),
+        Err(fault) => Err(refused_by(rt, out, fault)),
     }
 }

@@ -1,6 +1,6 @@
 //! `questions`: each question of a form set, with what forbids its change.
 
-use crate::answers::{answers, pass_on, refused_behind};
+use crate::answers::{answers, pass_on, refused_by};
 use crate::auditing::put_audit;
 use crate::given::FormSetFiles;
 use audit_options::FormSetOptions;
@@ -16,6 +16,6 @@ pub fn run<R: Files + Print + Eprint + AllocGlobal>(
     let mut out = answers(rt)?;
     match put_audit(rt.alloc(), files.given(), &mut out) {
         Ok(()) => pass_on(rt, out),
-        Err(fault) => Err(refused_behind(rt, out, fault)),
+        Err(fault) => Err(refused_by(rt, out, fault)),
     }
 }

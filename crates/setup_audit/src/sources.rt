@@ -53,20 +53,15 @@ fn source<R: Files + Print + Eprint + AllocGlobal>(
         }
     }
     if let Some(folder) = options.efivars {
-        match variable_path(rt.alloc(), folder, store) {
-            Ok(Some(path)) => {
-                if is_there(rt, path.as_str()) {
-                    return file_from(rt, path.as_str(), ATTRIBUTES);
-                }
-            }
-            Ok(None) => {}
-            Err(_) => return Err(refused(rt, Cause::OutOfMemory)),
+        if let Some(path) = variable(rt, folder, store)? {
+            return file_from(rt, path.as_str(), ATTRIBUTES);
         }
     }
-    if options.zero {
-        return Ok(Source::Zeros);
-    }
-    Ok(Source::Missing)
+    Ok(if options.zero {
+        Source::Zeros
+    } else {
+        Source::Missing
+    })
 }
 
 // The bytes of a file, without the first ones.
@@ -75,14 +70,31 @@ fn file_from<R: Files + Print + Eprint + AllocGlobal>(
     path: &str,
     skipped: usize,
 ) -> Result<Source, Status> {
-    let whole = file(rt, path, "read store")?;
-    let rest = whole.as_slice().get(skipped..).unwrap_or(&[]);
-    match (
-        String::from_str(rt.alloc(), path),
-        Vec::from_slice(rt.alloc(), rest),
-    ) {
-        (Ok(path), Ok(bytes)) => Ok(Source::File { path, bytes }),
-        _ => Err(refused(rt, Cause::OutOfMemory)),
+    let mut bytes = file(rt, path, "read store")?;
+    remove_front(&mut bytes, skipped);
+    match String::from_str(rt.alloc(), path) {
+        Ok(path) => Ok(Source::File { path, bytes }),
+        Err(_) => Err(refused(rt, Cause::OutOfMemory)),
+    }
+}
+
+// Removes the first bytes, or all where there are no more.
+fn remove_front(bytes: &mut Vec<u8>, skipped: usize) {
+    let left = bytes.len().saturating_sub(skipped);
+    let from = bytes.len() - left;
+    bytes.copy_within(from.., 0);
+    bytes.truncate(left);
+}
+
+// The path of the file of a variable, where there is such a file.
+fn variable<R: Files + Print + Eprint + AllocGlobal>(
+    rt: &R,
+    folder: &str,
+    store: Varstore<'_>,
+) -> Result<Option<String>, Status> {
+    match variable_path(rt.alloc(), folder, store) {
+        Ok(path) => Ok(path.filter(|path| is_there(rt, path.as_str()))),
+        Err(_) => Err(refused(rt, Cause::OutOfMemory)),
     }
 }
 

@@ -1,11 +1,10 @@
 //! `split`: the package lists of a dump.
 
-use crate::answers::{answers, pass_on, refusal};
+use crate::answers::{answers, pass_on, refusal, refused_by, written};
 use audit_options::{SplitOptions, TakenList};
-use dump_audit::{put_list, put_split};
-use hii_bytes::Watched;
-use hii_dumps::Dump;
-use setup_files::{OutFile, Status, fault, file};
+use dump_audit::{put_split, put_taken};
+use hii_bytes::{Fault, Watched};
+use setup_files::{OutFile, Status, file};
 use std::rt::Files;
 
 /// Tells the lists of a dump, or takes one of them.
@@ -16,11 +15,16 @@ pub fn run<R: Files + Print + Eprint + AllocGlobal>(
     let dump = file(rt, options.dump, "read dump")?;
     match options.taken {
         Some(taken) => take(rt, dump.as_slice(), taken),
-        None => {
-            let mut out = answers(rt)?;
-            put_split(&mut out, dump.as_slice());
-            pass_on(rt, out)
-        }
+        None => tell(rt, dump.as_slice()),
+    }
+}
+
+// Tells the lists of a dump.
+fn tell<R: Print + Eprint + AllocGlobal>(rt: &R, dump: &[u8]) -> Result<(), Status> {
+    let mut out = answers(rt)?;
+    match put_split(rt.alloc(), dump, &mut out) {
+        Ok(()) => pass_on(rt, out),
+        Err(failed) => Err(refused_by(rt, out, Fault::from(failed))),
     }
 }
 
@@ -31,18 +35,10 @@ fn take<R: Files + Print + Eprint + AllocGlobal>(
     taken: TakenList<'_>,
 ) -> Result<(), Status> {
     let mut out = answers(rt)?;
-    let Some(list) = Dump::read(dump).list(taken.number) else {
-        out.put(b"NO LIST ");
-        out.put_decimal(taken.number);
-        out.put(b"\n");
-        return Err(refusal(rt, out));
-    };
-    put_list(&mut out, taken.number, list);
-    pass_on(rt, out)?;
     let mut file = Watched::new(OutFile::new(rt, taken.out));
-    file.put(list.bytes);
-    if file.failed() {
-        return Err(fault(rt, "write out"));
+    match put_taken(rt.alloc(), dump, taken.number, &mut out, &mut file) {
+        Ok(true) => written(rt, out, &file),
+        Ok(false) => Err(refusal(rt, out)),
+        Err(failed) => Err(refused_by(rt, out, Fault::from(failed))),
     }
-    Ok(())
 }

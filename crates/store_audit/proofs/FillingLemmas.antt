@@ -13,6 +13,7 @@ use Rattle.hii_varstore.specs.StoreNodes.{declared_buffer, layout_of}
 use Rattle.hii_varstore.specs.Stores.{Store, buffer_of, shape_of, zeros_in, overwritten, store_with, with_bytes}
 use Rattle.hii_varstore.specs.code.Ranges.{HasRange}
 use Rattle.hii_varstore.specs.code.Table.{AreBuffers}
+use Rattle.hii_varstore.proofs.TableLemmas.{zeros_laid}
 use Rattle.store_audit.specs.declared.fillings.Filling.{Filling}
 use Rattle.store_audit.specs.declared.fillings.Source.{Source}
 use Rattle.store_audit.specs.declared.fillings.Source.TheVariants.{File, Zeros, Missing}
@@ -50,10 +51,6 @@ fit_at (f ∷ fs) zero d fit within = fit.0
 fit_at (f ∷ fs) (suc i) d fit within = fit_at fs i d fit.1 (omega (arith, within))
 
 -- the stores are those of the layout, however many are filled
-zeros_laid : (bs : List Buffer) → map buffer_of (map zeros_in bs) ≡ bs
-zeros_laid [] = refl
-zeros_laid (b ∷ bs) = let size : length {A = ℕ} (replicate b.size 0) ≡ b.size = length-replicate b.size 0 in rw (size, zeros_laid bs) refl
-
 pub laid_up_to : (i : ℕ) (fs : List Filling) → AllByRecursion (λ f. is_fit f ≡ true) fs → map buffer_of (filled_up_to i fs) ≡ map filling_buffer fs
 laid_up_to zero fs fit = zeros_laid (map filling_buffer fs)
 laid_up_to (suc i) [] fit = refl

@@ -19,23 +19,23 @@ use ifr_scopes::Forms;
 use std::alloc::Global;
 use std::marker::Model;
 
-/// The form set of a package list, its buffer stores and its questions. They are seen as the forms package.
+/// The form set of a package list, whose questions are sound, and its buffer stores. They are seen as the forms package.
 #[derive(Drop)]
 pub struct Declared<'a> {
     forms: Forms<'a>,
     layout: Layout<'a>,
-    questions: Questions<'a>,
 }
 
 impl<'a> Model for Declared<'a> {
-    ghost use Rattle.std.specs.Prelude.{ℕ, List};
-    ghost use Rattle.store_audit.specs.code.Declared.{AreDeclared};
+    ghost use Rattle.std.specs.Prelude.{◌≡◌, ℕ, List};
+    ghost use Rattle.ifr_scopes.specs.Nodes.{nodes_of};
+    ghost use Rattle.hii_varstore.specs.StoreNodes.{layout_of};
 
     ghost Value = { List ℕ };
 
     ghost view = { λ d. d.forms };
 
-    ghost invariant = { λ d. AreDeclared d.forms d.layout d.questions };
+    ghost invariant = { λ d. d.layout ≡ layout_of (nodes_of d.forms) };
 }
 
 impl<'a> Declared<'a> {
@@ -66,13 +66,6 @@ impl<'a> Declared<'a> {
     {
         &self.layout
     }
-
-    /// The questions of the form set.
-    pub fn questions(&self) -> &Questions<'a>
-        ensures { result.now ≡ record { ifr = self.now } }
-    {
-        &self.questions
-    }
 }
 
 /// The forms package of a number in a list, counted from 1, or the least fault of the list's packages (1 to 5), or that there is no
@@ -95,10 +88,6 @@ fn form_set<'a>(alloc: Global, source: Package<'a>) -> Result<Declared<'a>, Faul
 {
     let forms = Forms::read(alloc, source)?;
     let layout = Layout::read(alloc, &forms)?;
-    let questions = Questions::read(alloc, &forms, &layout)?;
-    Ok(Declared {
-        forms,
-        layout,
-        questions,
-    })
+    Questions::read(alloc, &forms, &layout)?;
+    Ok(Declared { forms, layout })
 }

@@ -1,8 +1,8 @@
 //! Stores that are made of given bytes.
 
-ghost use Rattle.std.specs.Prelude.{◌≡◌, ◌≢◌, ◌+◌, ◌≤◌, List, None, IfOk, IfErr, length, map, find, flat_map, option_copied};
+ghost use Rattle.std.specs.Prelude.{◌≡◌, None, IfOk, IfErr, OnErr, OnOk, length, map, find, flat_map, option_copied, option_map};
 ghost use Rattle.hii_bytes.specs.Faults.{out_of_memory};
-ghost use Rattle.hii_bytes.specs.Watching.{Puts, Writes};
+ghost use Rattle.hii_bytes.specs.Watching.{Puts, pen_of};
 ghost use Rattle.ifr_scopes.specs.Nodes.{nodes_of};
 ghost use Rattle.hii_varstore.specs.Image.{image_of, SpellsImage};
 ghost use Rattle.hii_varstore.specs.StoreNodes.{layout_of};
@@ -11,6 +11,7 @@ ghost use Rattle.hii_varstore.specs.code.Ranges.{HasRange};
 ghost use Rattle.ifr_scopes.specs.code.Lists.{store_node};
 ghost use Rattle.store_audit.specs.Fillings as lines;
 ghost use Rattle.store_audit.specs.Fillings.{buffer_stores};
+ghost use Rattle.store_audit.specs.Images.{PutsImage};
 ghost use Rattle.store_audit.specs.code.Fillings as spec;
 
 use crate::declared::Declared;
@@ -36,7 +37,9 @@ pub enum Source {
 /// A store that holds bytes, and where they come from.
 #[derive(Drop)]
 pub struct Filling<'a> {
+    /// The store.
     pub store: Varstore<'a>,
+    /// Where its bytes come from.
     pub source: Source,
 }
 
@@ -85,8 +88,8 @@ impl Filling<'_> {
     }
 }
 
-/// The first store by place that is not given as many bytes as it holds.
-pub fn first_unfit<'f, 'a>(fillings: &'f [Filling<'a>]) -> Option<&'f Filling<'a>>
+// The first store by place that is not given as many bytes as it holds.
+fn first_unfit<'f, 'a>(fillings: &'f [Filling<'a>]) -> Option<&'f Filling<'a>>
     ensures { option_copied result ≡ find spec.is_unfit fillings.entry.now }
 {
     for filling in fillings {
@@ -118,8 +121,8 @@ fn put_counts<W: Write>(filling: &Filling<'_>, out: &mut Watched<W>)
     out.put(b" wanted\n");
 }
 
-/// Writes the line that refuses a store which is given no bytes, or not as many as it holds.
-pub fn put_unfit<W: Write>(filling: &Filling<'_>, out: &mut Watched<W>)
+// Writes the line that refuses a store which is given no bytes, or not as many as it holds.
+fn put_unfit<W: Write>(filling: &Filling<'_>, out: &mut Watched<W>)
     ensures { Puts W.contents out.old out.new (spec.unfit_text filling.now) }
 {
     out.put(b"store ");
@@ -144,8 +147,8 @@ fn put_filling<W: Write>(filling: &Filling<'_>, out: &mut Watched<W>)
     out.put(b"\n");
 }
 
-/// Writes a line for each store that is filled, with the source of its bytes.
-pub fn put_fillings<W: Write>(fillings: &[Filling<'_>], out: &mut Watched<W>)
+// Writes a line for each store that is filled, with the source of its bytes.
+fn put_fillings<W: Write>(fillings: &[Filling<'_>], out: &mut Watched<W>)
     ensures { Puts W.contents out.old out.new (flat_map spec.filling_text fillings.now) }
 {
     for filling in fillings {
@@ -172,12 +175,8 @@ fn fill(stores: &mut Stores, filling: &Filling<'_>)
     }
 }
 
-/// The stores of a form set, each filled with the bytes that it is given, or OutOfMemory (60) at 0 where an allocation fails.
-pub fn filled(
-    alloc: Global,
-    declared: &Declared<'_>,
-    fillings: &[Filling<'_>],
-) -> Result<Stores, Fault>
+// The stores of a form set, each filled with the bytes that it is given, or OutOfMemory (60) at 0 where an allocation fails.
+fn filled(alloc: Global, declared: &Declared<'_>, fillings: &[Filling<'_>]) -> Result<Stores, Fault>
     requires all { map spec.filling_node fillings.now ≡ buffer_stores (nodes_of declared.now) }
     requires fit { find spec.is_unfit fillings.now ≡ None }
     ensures made { IfOk result (λ stores. stores
@@ -199,4 +198,44 @@ pub fn filled(
         fill(&mut stores, filling);
     }
     Ok(stores)
+}
+
+/// Fills the stores of a form set and writes their image: a line for each store, which is passed on, and then the image into a file.
+/// Where a store is not given as many bytes as it holds, the line of the first such store is written, and no image; nor is it where
+/// the answers fail. Tells whether each store is given what it holds. OutOfMemory (60) at 0 where an allocation fails; then nothing is
+/// written.
+pub fn put_image<W: Write, F: Write>(
+    alloc: Global,
+    declared: &Declared<'_>,
+    fillings: &[Filling<'_>],
+    out: &mut Watched<W>,
+    file: &mut Watched<F>,
+) -> Result<bool, Fault>
+    requires { map spec.filling_node fillings.now ≡ buffer_stores (nodes_of declared.now) }
+    ensures done { IfOk result (λ is_filled. PutsImage
+        (option_map spec.unfit_text (find spec.is_unfit fillings.now))
+        (spec.stores_of (layout_of (nodes_of declared.now)).guid fillings.now)
+        (flat_map spec.filling_text fillings.now) is_filled
+        (pen_of W.contents out.old) (pen_of W.contents out.new)
+        (pen_of F.contents file.old) (pen_of F.contents file.new)) }
+    // What is read from the image are the given bytes, store by store.
+    ensures read_back { find spec.is_unfit fillings.now ≡ None → OnOk result ((read : StoreMap)
+        → SpellsImage (layout_of (nodes_of declared.now))
+        (image_of (spec.stores_of (layout_of (nodes_of declared.now)).guid fillings.now)) read
+        → map (λ s. s.bytes) read.stores ≡ map spec.filling_bytes fillings.now) }
+    ensures refused { IfErr result (λ fault. fault ≡ out_of_memory) }
+    ensures nothing { OnErr result ((pen_of W.contents out.new ≡ pen_of W.contents out.old)
+        × (pen_of F.contents file.new ≡ pen_of F.contents file.old)) }
+{
+    if let Some(filling) = first_unfit(fillings) {
+        put_unfit(filling, out);
+        return Ok(false);
+    }
+    let stores = filled(alloc, declared, fillings)?;
+    put_fillings(fillings, out);
+    if out.flush().is_ok() {
+        // A file that fails knows it.
+        let _ = stores.image_into(file);
+    }
+    Ok(true)
 }

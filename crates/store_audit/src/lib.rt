@@ -8,5 +8,5 @@ mod store_lines;
 mod tests;
 
 pub use declared::{Declared, forms_package};
-pub use fillings::{Filling, Source, filled, first_unfit, put_fillings, put_unfit};
+pub use fillings::{Filling, Source, put_image};
 pub use store_lines::put_stores;

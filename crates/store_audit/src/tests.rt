@@ -6,7 +6,7 @@ ghost use Rattle.store_audit.specs.Fillings.{buffer_stores};
 ghost use Rattle.store_audit.specs.code.Fillings.{filling_node};
 
 use crate::declared::Declared;
-use crate::fillings::{Filling, Source, filled, first_unfit, put_fillings, put_unfit};
+use crate::fillings::{Filling, Source, put_image};
 use crate::store_lines::put_stores;
 use hii_bytes::Watched;
 use ifr_scopes::Varstore;
@@ -37,7 +37,6 @@ fn stores_are_told(rt: HostRuntime) -> Result<(), Fail> {
     put_stores(declared.forms(), &mut out);
     assert!(rt; out.into_inner().as_slice() == LINES);
     assert!(rt; declared.layout().size(2) == Some(3));
-    assert!(rt; declared.questions().find(1).is_none());
     Ok(())
 }
 
@@ -86,13 +85,8 @@ fn fill<R: Abort + AllocGlobal>(
 {
     let mut lines = Watched::new(Vec::new(rt.alloc()));
     let mut image = Watched::new(Vec::new(rt.alloc()));
-    match first_unfit(fillings) {
-        Some(filling) => put_unfit(filling, &mut lines),
-        None => {
-            put_fillings(fillings, &mut lines);
-            filled(rt.alloc(), declared, fillings)?.image_into(&mut image)?;
-        }
-    }
+    let is_filled = put_image(rt.alloc(), declared, fillings, &mut lines, &mut image)?;
+    assert!(rt; is_filled != written.is_empty());
     assert!(rt; lines.into_inner().as_slice() == told);
     assert!(rt; image.into_inner().as_slice() == written);
     Ok(())

@@ -1,12 +1,10 @@
-use Rattle.std.proofs.Common.{◌∙◌, ap, refl, sym, subst}
+use Rattle.std.proofs.Common.{◌∙◌, ap, refl}
 use Rattle.hii_bytes.proofs.WritingLemmas.{◌⨾◌}
-use Rattle.ifr_opcodes.specs.Forest.{Placed}
 use Rattle.ifr_opcodes.specs.Opcode.{number}
-use Rattle.ifr_scopes.specs.code.Checked.{IsNodeOf}
 use Rattle.hii_questions.specs.code.Views.{question_node}
 use Rattle.guard_policy.specs.Policy.{fixed}
 use Rattle.guard_policy.specs.code.Answers.{unless}
-use Rattle.guard_policy.specs.code.Views.{bytes_of, world}
+use Rattle.guard_policy.specs.code.Views.{world}
 use Rattle.guard_policy.specs.declared.policy.Policy.{Policy}
 use Rattle.guard_policy.specs.declared.support.Decision.TheVariants.{Changeable}
 use Rattle.form_audit.proofs.KeptLemmas.{kept_told}
@@ -17,11 +15,9 @@ returns g c =
     let page = c.args.page in
     let stores = page.stores.now in
     let n = question_node c.args.question in
-    let node = subst (λ (m : Placed). IsNodeOf (bytes_of page.policy) m) (sym c.statement.ensures) c.requires.node in
-    let tells = kept_told page.policy c.policy.result stores (g.C.Conditions.holding c.conditions.result.now) (Changeable c.statement.result) c.policy.ensures c.conditions.ensures node refl in
-    let verdict =
-    c.changeable_by-verdict.ensures stores tells ∙ ap (λ (m : Placed). unless (fixed (world c.policy.result stores) m)) c.statement.ensures
-    ∙ ap (λ (p : Policy). unless (fixed (world p stores) n)) c.policy.ensures in
+    let statement = c.args.question.statement in
+    let tells = kept_told page.policy c.policy.result stores (g.C.Conditions.holding c.conditions.result.now) (Changeable statement) c.policy.ensures c.conditions.ensures c.requires.node refl in
+    let verdict = c.question_changeable_by-verdict.ensures statement refl stores tells ∙ ap (λ (p : Policy). unless (fixed (world p stores) n)) c.policy.ensures in
     let code = ap number c.op.ensures.bytes in
     rw (c.from.ensures, c.id.ensures, c.opcode_name.ensures, code, c.requires.names, c.field.ensures.found) at
     (c.put_decimal_right.ensures ⨾ c.put.ensures ⨾ c.put_verdict.ensures (fixed (world page.policy stores) n) verdict ⨾ c.put-2.ensures

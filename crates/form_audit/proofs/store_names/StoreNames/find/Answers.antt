@@ -11,7 +11,8 @@ use Rattle.ifr_scopes.specs.declared.varstore.Varstore.{Varstore}
 use Rattle.hii_bytes.proofs.SearchLemmas.{parted, first_there, first_past}
 use Rattle.form_audit.specs.QuestionLines.{store_with}
 use Rattle.form_audit.specs.code.Names.{id_of}
-use Rattle.form_audit.proofs.NameLemmas.{find_seen, past_all}
+use Rattle.form_audit.proofs.NameLemmas.{past_all}
+use Rattle.hii_questions.proofs.QuestionLemmas.{found_mapped}
 use Rattle.form_audit.proofs.store_names.StoreNames.find.Goals as goal
 use Rattle.form_audit.proofs.store_names.StoreNames.find.Goals.{After-partition_point-first, else-first-stores-via-then-first-stores+else-id, else-first-stores-via-else-first-stores}
 
@@ -29,7 +30,7 @@ split_stores c =
 of_package : (c : After-partition_point-first) → option_map store_node (find (λ s. id_of s == c.args.id) c.as_slice-stores.result.now) ≡ store_with (nodes_of c.args.self.now) c.args.id
 of_package c =
     let test = λ (n : Placed). store_id n.op == c.args.id in
-    sym (find_seen store_node test c.as_slice-stores.result.now)
+    sym (found_mapped store_node test c.as_slice-stores.result.now)
     ∙ ap (λ (xs : List Varstore). find test (map store_node xs)) c.as_slice-stores.ensures.value
     ∙ c.self.invariant.first c.args.id ∙ ap (λ (bytes : List ℕ). store_with (nodes_of bytes) c.args.id) c.self.view_is
 

@@ -7,7 +7,8 @@ use Rattle.ifr_scopes.specs.Stores.{store_id}
 use Rattle.ifr_scopes.specs.code.Lists.{store_node}
 use Rattle.ifr_scopes.specs.declared.varstore.Varstore.{Varstore}
 use Rattle.form_audit.specs.code.Names.{id_of}
-use Rattle.form_audit.proofs.NameLemmas.{same_first, find_seen}
+use Rattle.form_audit.proofs.NameLemmas.{same_first}
+use Rattle.hii_questions.proofs.QuestionLemmas.{found_mapped}
 use Rattle.form_audit.proofs.store_names.StoreNames.read.Goals as goal
 
 pub invariant_of-result : goal.invariant_of-result
@@ -19,8 +20,8 @@ invariant_of-result c =
     record {
       sorted = c.in_ok-sort_by_key.ensures.sorted id_of (answers_always _ _ _ (λ e a r g called. search rules));
       first = λ id.
-          find_seen store_node (λ (n : Placed). store_id n.op == id) after
+          found_mapped store_node (λ (n : Placed). store_id n.op == id) after
           ∙ ap (λ (o : Option Varstore). option_map store_node o) (same_first id_of before after id (c.in_ok-sort_by_key.ensures.stable id_of (answers_always _ _ _ (λ e a r g called. search rules))))
-          ∙ sym (find_seen store_node (λ (n : Placed). store_id n.op == id) before)
+          ∙ sym (found_mapped store_node (λ (n : Placed). store_id n.op == id) before)
           ∙ ap (λ (ns : List Placed). find (λ n. store_id n.op == id) ns) (all ∙ ap (λ bytes. filter is_store (nodes_of bytes)) (sym same));
     }

@@ -1,0 +1,25 @@
+-- A list of a dump is taken by its number (own rule).
+use Rattle.std.specs.Prelude.{◌≡◌, ℕ, Bool, true, false, Option, None, Some, List, ◌++◌, codes, decimal}
+use Rattle.hii_bytes.specs.declared.watched.Watched.{Watched}
+use Rattle.hii_bytes.specs.Watching.{Pen, Writes, Puts}
+use Rattle.audit_text.specs.Passing.{PassesOn}
+use Rattle.hii_dumps.specs.Dumps.{Entry}
+use Rattle.dump_audit.specs.Findings.{Finding, IsFound}
+use Rattle.dump_audit.specs.Lines.{line}
+
+abbrev pub no_list_text : ℕ → List ℕ
+no_list_text number = codes "NO LIST " ++ decimal number ++ codes "\n"
+
+-- The line of the list of a number was passed on; where there is no such list, that was written.
+abbrev pub TellsList : ℕ → Option Entry → Bool → Pen → Pen → Type 0
+TellsList number None is_there old new =
+    (is_there ≡ false) × Writes old new (no_list_text number)
+TellsList number (Some list) is_there old new =
+    (is_there ≡ true) × (finding : Finding) × IsFound list.bytes finding
+    × PassesOn old new (line number record { entry = list; finding = finding })
+
+-- The bytes of the list were put into a file; where there is no list, or the answers failed, the file is as it was.
+abbrev pub TakesBytes : {F : Type 0} → Option Entry → Bool → (F → Option (List ℕ)) → Watched F → Watched F → Type 0
+TakesBytes None failed contents old new = new ≡ old
+TakesBytes (Some list) true contents old new = new ≡ old
+TakesBytes (Some list) false contents old new = Puts contents old new list.bytes

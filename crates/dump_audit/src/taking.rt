@@ -1,0 +1,43 @@
+//! One list of a dump, taken by its number.
+
+ghost use Rattle.std.specs.Prelude.{◌≡◌, ℕ, List, IfOk, OnErr};
+ghost use Rattle.hii_bytes.specs.Watching.{has_failed, pen_of};
+ghost use Rattle.hii_dumps.specs.Dumps.{SpellsDump, nth_list};
+ghost use Rattle.dump_audit.specs.Taking.{TellsList, TakesBytes};
+
+use crate::lines::put_list;
+use hii_bytes::Watched;
+use hii_dumps::Dump;
+use std::alloc::{AllocError, Global};
+use std::io::Write;
+
+/// Writes the line of the list of a number, counted from 1, passes it on, and then writes the list's bytes into a file; or writes
+/// that there is no such list. Tells whether there is one (own rule). The file is not written where there is none, where the answers
+/// fail, or where an allocation fails, and then no answer is written either.
+pub fn put_taken<W: Write, F: Write>(
+    alloc: Global,
+    dump: &[u8],
+    number: u64,
+    out: &mut Watched<W>,
+    file: &mut Watched<F>,
+) -> Result<bool, AllocError>
+    ensures taken { IfOk result (λ is_there. (lists : List (List ℕ)) × (rest : List ℕ)
+        × SpellsDump dump.now lists rest
+        × TellsList number (nth_list lists number) is_there (pen_of W.contents out.old)
+        (pen_of W.contents out.new)
+        × TakesBytes (nth_list lists number) (has_failed out.new) F.contents file.old file.new) }
+    ensures nothing_told { OnErr result (out.new ≡ out.old) }
+    ensures nothing_taken { OnErr result (file.new ≡ file.old) }
+{
+    let Some(list) = Dump::read(dump).list(number) else {
+        out.put(b"NO LIST ");
+        out.put_decimal(number);
+        out.put(b"\n");
+        return Ok(false);
+    };
+    put_list(alloc, number, list, out)?;
+    if out.flush().is_ok() {
+        file.put(list.bytes);
+    }
+    Ok(true)
+}
