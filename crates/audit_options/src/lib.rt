@@ -1,4 +1,4 @@
-//! The command line of `setup_audit`.
+//! The command line of `setup_audit` (own rule).
 #![tactic(auto)]
 
 mod commands;

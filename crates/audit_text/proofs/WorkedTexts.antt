@@ -1,7 +1,7 @@
 -- Texts that were worked out by hand.
 use Rattle.std.proofs.Common.{◌≡◌, ℕ, true, false, List, [], ◌∷◌, refl}
 use Rattle.std.specs.Prelude.{codes}
-use Rattle.audit_text.specs.Texts.{guid_text, left_aligned, place_text, ascii_name}
+use Rattle.audit_text.specs.Texts.{guid_text, left_aligned, ascii_name}
 use Rattle.audit_text.specs.Words.{opcode_name, attributes_text}
 
 -- the bytes of 6D1E5A10-7C4B-4E0A-9A31-225C60880F01
@@ -19,12 +19,6 @@ a_short_name_is_filled = refl
 
 a_long_name_stays : left_aligned 2 (codes "DATE") ≡ codes "DATE"
 a_long_name_stays = refl
-
-a_place : place_text 0xa0 ≡ codes "000000a0"
-a_place = refl
-
-the_lowest_32_bits_of_a_place : place_text 0x1fffffffe ≡ codes "fffffffe"
-the_lowest_32_bits_of_a_place = refl
 
 no_name : ascii_name [] ≡ codes "-"
 no_name = refl

@@ -3,7 +3,6 @@ use Rattle.std.specs.Prelude.{ℕ, ◌-◌, ◌/◌, ◌%◌, ◌==◌, ◌&&◌
 use Rattle.std.specs.Fmt.{digit_glyph}
 use Rattle.std.specs.Int.Digits as numbers
 use Rattle.std.specs.List.{flat_map}
-use Rattle.hii_bytes.specs.Texts.{hex_of}
 
 -- a byte in two hex digits, which are upper case or not
 abbrev pub byte_digits : Bool → ℕ → List ℕ
@@ -26,12 +25,6 @@ guid_text upper guid =
 -- a text and as many spaces as make it this wide
 abbrev pub left_aligned : ℕ → List ℕ → List ℕ
 left_aligned width text = text ++ replicate (width - length text) 32
-
--- the lowest 32 bits of a place in eight hex digits
-abbrev pub place_text : ℕ → List ℕ
-place_text place =
-    hex_of (place / 0x1000000 % 256) ++ hex_of (place / 0x10000 % 256)
-    ++ hex_of (place / 0x100 % 256) ++ hex_of (place % 256)
 
 -- a number in hex digits, without zeros before it
 abbrev pub hex_text : ℕ → List ℕ

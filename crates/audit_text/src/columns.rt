@@ -2,7 +2,7 @@
 
 ghost use Rattle.std.specs.Prelude.{◌≡◌, ◌≤◌, ◌+◌, length};
 ghost use Rattle.hii_bytes.specs.Watching.{Puts};
-ghost use Rattle.audit_text.specs.Texts.{hex_text, left_aligned, place_text};
+ghost use Rattle.audit_text.specs.Texts.{hex_text, left_aligned};
 
 use crate::guid::{Case, digit_of};
 use hii_bytes::Watched;
@@ -14,16 +14,6 @@ pub fn put_left<W: Write>(out: &mut Watched<W>, width: usize, text: &[u8])
 {
     out.put(text);
     out.put_spaces(width.saturating_sub(text.len()));
-}
-
-/// Writes the lowest 32 bits of a place in eight lower-case hex digits.
-pub fn put_hex_place<W: Write>(out: &mut Watched<W>, place: u64)
-    ensures { Puts W.contents out.old out.new (place_text place) }
-{
-    out.put_hex((place / 0x100_0000 % 256) as u8);
-    out.put_hex((place / 0x1_0000 % 256) as u8);
-    out.put_hex((place / 0x100 % 256) as u8);
-    out.put_hex((place % 256) as u8);
 }
 
 /// Writes a number in lower-case hex digits, without zeros before it, and tells how many these are.

@@ -7,7 +7,7 @@ mod guid;
 mod names;
 mod stores;
 
-pub use columns::{put_hex_place, put_hexadecimal, put_left};
+pub use columns::{put_hexadecimal, put_left};
 pub use guid::{Case, guid_digits, put_guid};
 pub use names::{attributes_text, opcode_name, put_ascii_name};
-pub use stores::{store_attributes, store_guid, store_name, store_opcode_name};
+pub use stores::{store_attributes, store_opcode_name};

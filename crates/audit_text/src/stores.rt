@@ -7,30 +7,7 @@ ghost use Rattle.audit_text.specs.Stores as stores;
 ghost use Rattle.audit_text.specs.Words as words;
 
 use crate::names::{attributes_text, opcode_name};
-use hii_bytes::Guid;
 use ifr_scopes::{StoreOp, Varstore};
-
-/// The GUID of a store.
-pub fn store_guid<'a>(store: Varstore<'a>) -> Guid<'a>
-    ensures { result.bytes.now ≡ stores.store_guid (store_node store.entry).op }
-{
-    match store.op() {
-        StoreOp::Varstore(store) => store.guid(),
-        StoreOp::VarstoreEfi(store) => store.guid(),
-        StoreOp::NameValue(store) => store.guid(),
-    }
-}
-
-/// The name of a store, without its NUL; a store of names and values has none.
-pub fn store_name<'a>(store: Varstore<'a>) -> &'a [u8]
-    ensures { result.now ≡ stores.store_name (store_node store.entry).op }
-{
-    match store.op() {
-        StoreOp::Varstore(store) => store.name(),
-        StoreOp::VarstoreEfi(store) => store.name(),
-        StoreOp::NameValue(_) => &[],
-    }
-}
 
 /// The name of a store's opcode.
 pub fn store_opcode_name(store: Varstore<'_>) -> &'static [u8]

@@ -3,7 +3,7 @@ use Rattle.std.proofs.Common.{◌≡◌, ℕ, true, false, List, [], ◌∷◌, 
 use Rattle.std.specs.Prelude.{◌==◌, ◌&&◌, Contains, filter, is_some, IfOk, ⊤}
 use Rattle.std.specs.List.{AllByRecursion}
 use Rattle.std.specs.Option.{option_or}
-use Rattle.std.proofs.lemmas.Bool.{cases_Bool, cond-true, cond-false, and_parts, eqb-true}
+use Rattle.std.proofs.lemmas.Bool.{cases_Bool, cond-false, and_parts, eqb-true}
 use Rattle.ifr_opcodes.specs.Forest.{Placed}
 use Rattle.ifr_opcodes.specs.Reading.{tree_of}
 use Rattle.ifr_scopes.specs.Accepted.{IsAccepted}
@@ -16,7 +16,7 @@ use Rattle.hii_questions.specs.Fields.{Field, Asked, asked, questions, field_pas
 use Rattle.hii_questions.specs.Inputs.{field}
 use Rattle.hii_questions.specs.code.Views.{question_node, question_view}
 use Rattle.hii_questions.specs.declared.question.Question.{Question}
-use Rattle.hii_questions.specs.declared.denial.DenialKind.TheVariants.{NoField, Password}
+use Rattle.hii_questions.specs.declared.denial.DenialKind.TheVariants.{Password}
 use Rattle.guard_policy.specs.Policy.{denied_by, fixed}
 use Rattle.guard_policy.specs.World.{World}
 use Rattle.guard_policy.specs.code.Answers.{unless}
@@ -27,7 +27,7 @@ use Rattle.guard_policy.specs.declared.denial.Denial.{Denial}
 use Rattle.guard_policy.specs.declared.policy.Policy.{Policy}
 use Rattle.browser_core.specs.Configuration.{first_question, first_free, question_of_field}
 use Rattle.browser_core.specs.State.{State, world_of}
-use Rattle.browser_core.specs.Step.{denied, denied_by_none, set_field, set_question}
+use Rattle.browser_core.specs.Step.{denied, set_field, set_question}
 use Rattle.browser_core.specs.code.Changing.{IsOver, IsOfField, FirstChoice, Chooses, set_over}
 use Rattle.browser_core.proofs.SetLemmas.{over_world, fixed_question}
 
@@ -131,16 +131,9 @@ pub set_there : (policy : Policy) (working : StoreMap) (f : Field) (s : State) �
 set_there policy working f s over =
     ap (λ (w : World). question_of_field w (nodes_of (bytes_of policy)) f) (over_world policy working s over) ∙ ap (λ (ifr : List ℕ). question_of_field (world_of s) (nodes_of ifr) f) over.ifr
 
-pub no_field : (policy : Policy) (working : StoreMap) (f : Field) → set_over policy working f ≡ None → Chooses policy working f (Err (denied_by_none NoField))
-no_field policy working f none = λ s bytes over. let there = sym (set_there policy working f s over) ∙ none in rw there refl
-
 -- a question that is no password is set as by its id
 pub no_password : (s : State) (n : Placed) (bytes : List ℕ) → is_password n ≡ false → set_field s (Some n) bytes ≡ set_question s (Some n) (field bytes)
 no_password s n bytes not_it = cond-false (is_password n) (denied s (denied_by Password n)) (set_question s (Some n) (field bytes)) not_it
-
-pub for_password : (policy : Policy) (working : StoreMap) (f : Field) (n : Placed) → set_over policy working f ≡ Some n → is_password n ≡ true → Chooses policy working f (Err (denied_by Password n))
-for_password policy working f n some is = λ s bytes over.
-    ap (λ (o : Option Placed). set_field s o bytes) (sym (set_there policy working f s over) ∙ some) ∙ cond-true (is_password n) (denied s (denied_by Password n)) (set_question s (Some n) (field bytes)) is
 
 pub all_fixed : (policy : Policy) (working : StoreMap) (f : Field) (n : Placed) (denial : Denial) → set_over policy working f ≡ Some n → is_password n ≡ false → unless (fixed (world policy working) n) ≡ Err denial
     → Chooses policy working f (Err denial)

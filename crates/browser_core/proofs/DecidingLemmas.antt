@@ -1,12 +1,13 @@
 -- The conditions that decide of the changes of a question are those of the decisions on them.
-use Rattle.std.proofs.Common.{◌≡◌, ℕ, zero, suc, ◌==◌, Bool, true, List, [], ◌∷◌, ◌++◌, refl, sym, ap, subst, ◌∙◌, inl, inr, arith}
+use Rattle.std.proofs.Common.{ℕ, zero, suc, ◌==◌, Bool, List, [], ◌∷◌, ◌++◌, refl, sym, subst, inl, inr, arith}
 use Rattle.std.specs.Prelude.{Contains, filter}
 use Rattle.std.specs.List.{flat_map}
-use Rattle.std.proofs.lemmas.Bool.{cases_Bool, cond-true, cond-false, eq-eqb}
+use Rattle.std.proofs.lemmas.Bool.{eq-eqb}
 use Rattle.std.proofs.lemmas.List.Elements.{Contains-append_left, Contains-append_right, Contains-append_cases}
 use Rattle.ifr_opcodes.specs.Fields.{option_value}
 use Rattle.ifr_opcodes.specs.Forest.{Placed}
 use Rattle.ifr_scopes.specs.Nodes.{options, inconsistents, warnings}
+use Rattle.ifr_scopes.proofs.OptionsOfLemmas.{passes}
 use Rattle.ifr_scopes.proofs.PathLemmas.{kept}
 use Rattle.ifr_scopes.proofs.ViewLemmas.{further}
 use Rattle.hii_questions.specs.code.Views.{question_node}
@@ -18,16 +19,6 @@ use Rattle.guard_policy.specs.declared.support.Decision.TheVariants.{Listed, Cha
 use Rattle.browser_core.specs.laws.Sealed.{deciding, IsOfChange, DecidingHasAll, DecidingHasNoOthers}
 
 -- ---- lists
-
-passing : (p : Placed → Bool) (xs : List Placed) (x : Placed) → Contains xs x → p x ≡ true → Contains (filter p xs) x
-passing p [] x (k, lt, e) is = absurd (omega arith)
-passing p (y ∷ xs) x (zero, lt, e) is = subst (λ l. Contains l x) (sym (cond-true (p y) (y ∷ filter p xs) (filter p xs) (ap p e ∙ is))) (0, omega arith, e)
-passing p (y ∷ xs) x (suc k, lt, e) is =
-    let behind = passing p xs x (k, omega arith, e) is in
-    elim (cases_Bool (p y)) [
-      | inl here ↦ subst (λ l. Contains l x) (sym (cond-true (p y) (y ∷ filter p xs) (filter p xs) here)) (further y (filter p xs) x behind)
-      | inr other ↦ subst (λ l. Contains l x) (sym (cond-false (p y) (y ∷ filter p xs) (filter p xs) other)) behind
-    ]
 
 -- what stands around some nodes stands around one of them
 around_some : (os : List Placed) (c : Placed) → Contains (flat_map around os) c → (o : Placed) × Contains os o × Contains (around o) c
@@ -84,7 +75,7 @@ by_option w question c within =
     let found = around_some (options (question_node question)) c within in
     let value = option_value found.0.op in
     let which : Placed → Bool = λ o. option_value o.op == value in
-    (OptionOpen question value, refl, around_one (filter which (options (question_node question))) found.0 c (passing which (options (question_node question)) found.0 found.1 (eq-eqb value value refl)) found.2)
+    (OptionOpen question value, refl, around_one (filter which (options (question_node question))) found.0 c (passes which (options (question_node question)) found.0 found.1 (eq-eqb value value refl)) found.2)
 
 by_its_own : (w : World) (question : Question) (c : Placed) → Contains (inconsistents (question_node question) ++ warnings (question_node question)) c → Decides w question c
 by_its_own w question c within = elim (Contains-append_cases (inconsistents (question_node question)) (warnings (question_node question)) c within) [

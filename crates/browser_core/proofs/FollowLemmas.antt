@@ -3,7 +3,7 @@ use Rattle.std.proofs.Common.{◌≡◌, ℕ, true, Option, Some, None, Result, 
 use Rattle.std.specs.Prelude.{All, is_some, option_and_then}
 use Rattle.std.proofs.lemmas.Bool.{cond-true}
 use Rattle.std.proofs.lemmas.List.Elements.{All-push}
-use Rattle.ifr_opcodes.specs.Fields.{ref_target, reset_default}
+use Rattle.ifr_opcodes.specs.Fields.{ref_target}
 use Rattle.ifr_opcodes.specs.Forest.{Placed}
 use Rattle.ifr_opcodes.specs.Opcode.{number}
 use Rattle.ifr_opcodes.specs.Reading.{tree_of}
@@ -21,9 +21,9 @@ use Rattle.guard_policy.specs.declared.denial.Denial.{Denial}
 use Rattle.guard_policy.proofs.DenialLemmas.{none_of, some_of}
 use Rattle.browser_core.specs.Renewed.{pressed_if}
 use Rattle.browser_core.specs.State.{State, world_of}
-use Rattle.browser_core.specs.Step.{denied, told_why, why_question, form_of, row_of_form, press, take_defaults, taken, show_unless_hidden, go_to, go_unless_fixed, follow}
+use Rattle.browser_core.specs.Step.{denied, told_why, why_question, form_of, row_of_form, press, show_unless_hidden, go_to, go_unless_fixed, follow}
 use Rattle.browser_core.specs.code.Standing.{answered}
-use Rattle.browser_core.specs.declared.reply.Reply.TheVariants.{Accepted, Denied}
+use Rattle.browser_core.specs.declared.reply.Reply.TheVariants.{Denied}
 
 -- ---- why
 
@@ -75,10 +75,6 @@ all_and_one P xs ys x all h e = subst (All P) (sym e) (All-push P xs x all h)
 pub press_fixed : (s : State) (row : ℕ) (n : Placed) (denial : Denial) → row_of_form s row (form_of s) ≡ Some n → (number n.op == RESET_BUTTON) ≡ true → unless (fixed (world_of s) n) ≡ Err denial
     → press s row ≡ denied s denial
 press_fixed s row n denial found button why = let some = some_of (fixed (world_of s) n) denial why in rw (found, button, some) refl
-
-pub press_free : (s : State) (row : ℕ) (n : Placed) (class : ℕ) → row_of_form s row (form_of s) ≡ Some n → (number n.op == RESET_BUTTON) ≡ true → unless (fixed (world_of s) n) ≡ Ok tt → class ≡ reset_default n.op
-    → (press s row ≡ take_defaults s class) × (pressed_if s (row_of_form s row (form_of s)) Accepted ≡ (taken s class).questions)
-press_free s row n class found button free is = let none = none_of (fixed (world_of s) n) free in rw (found, button, none, is) (refl, refl)
 
 -- where nothing is pressed, no question takes a default
 pub presses_nothing : (s : State) (o : Option Placed) (denial : Denial) → pressed_if s o (Denied denial) ≡ []

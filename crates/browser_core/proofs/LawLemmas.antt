@@ -4,7 +4,7 @@ use Rattle.std.specs.Prelude.{Contains, filter, is_none, option_and_then}
 use Rattle.std.specs.List.{find, cons_option}
 use Rattle.std.specs.Option.{option_or}
 use Rattle.std.specs.Cmp.Lexicographic.{same_text}
-use Rattle.std.proofs.lemmas.Bool.{cases_Bool, cases_lt, cond-true, cond-false, and_parts, eqb-true, eqb-false}
+use Rattle.std.proofs.lemmas.Bool.{cases_Bool, cases_lt, cond-true, cond-false, and_from, and_parts, eqb-true, eqb-false}
 use Rattle.std.proofs.lemmas.List.{places}
 use Rattle.std.proofs.lemmas.List.Elements.{Contains-append_left, Contains-append_right, Contains-push_cases}
 use Rattle.std.proofs.lemmas.Option.{slice_get-get_or, slice_get_past}
@@ -14,6 +14,7 @@ use Rattle.ifr_opcodes.specs.declared.codes.TheConstants.{RESET_BUTTON}
 use Rattle.ifr_opcodes.specs.Forest.{Placed, below, node_at}
 use Rattle.ifr_opcodes.specs.Reading.{tree_of}
 use Rattle.ifr_scopes.specs.Nodes.{nodes_of, is_question, is_statement, statements}
+use Rattle.ifr_scopes.proofs.FormPlaceLemmas.{found}
 use Rattle.ifr_scopes.proofs.OptionsOfLemmas.{passes}
 use Rattle.ifr_scopes.proofs.ViewLemmas.{below_within, contains_found, further}
 use Rattle.hii_varstore.specs.Stores.{StoreMap, shape_of, are_same_bytes, bytes_of, byte_of}
@@ -22,13 +23,14 @@ use Rattle.config_text.specs.Grammar.{Named, Area}
 use Rattle.config_text.specs.Reading.{configuration_in}
 use Rattle.config_text.specs.declared.kind.TextKind.TheVariants.{Ask, Tell}
 use Rattle.hii_bytes.specs.declared.cause.Cause.{Cause}
-use Rattle.hii_questions.specs.Changes.{field_bytes}
+use Rattle.hii_questions.specs.Changes.{field_bytes, with_field}
 use Rattle.hii_questions.specs.Fields.{Field, Asked, asked, questions, has_field, field_of, question_with, is_password}
 use Rattle.hii_questions.specs.Fits.{fits, values_offered}
 use Rattle.hii_questions.specs.Inputs as inputs
 use Rattle.hii_questions.specs.Inputs.{Offer, whole, listed, utf8}
 use Rattle.hii_questions.proofs.FieldLemmas.{passing, have_the_field}
 use Rattle.hii_questions.proofs.LawLemmas.{fits_wide}
+use Rattle.form_sets.proofs.FoundLemmas.{given}
 use Rattle.hii_questions.specs.declared.denial.DenialKind.{DenialKind}
 use Rattle.hii_questions.specs.declared.denial.DenialKind.TheVariants.{NotButton, Password}
 use Rattle.ifr_defaults.specs.Defaults.{default_of}
@@ -39,7 +41,7 @@ use Rattle.hii_commands.specs.Orders.{Order, ShowPage, SetValue, OrderElements, 
 use Rattle.browser_core.specs.Configuration.{store_named, block_field, block_bytes, first_question, first_free, question_of_field}
 use Rattle.browser_core.specs.State.{State, world_of}
 use Rattle.browser_core.specs.Texts.{count_text}
-use Rattle.browser_core.specs.Step.{Outcome, Taken, step, denied, form_of, told_why, question_denial, set_question, set_unless_fixed, set_unless_forbidden, set_fitting, value_denial, with_field, submit_unless, is_other, is_changed, changed, sources, taken_if, take_offer, take_default, take_each, questions_in, taken, take_defaults, press_unless_fixed, press_statement, row_of_form, set_field, set_block, set_blocks, go_on, route_to, route_reading}
+use Rattle.browser_core.specs.Step.{Outcome, Taken, step, denied, form_of, told_why, question_denial, set_question, set_unless_fixed, set_unless_forbidden, set_fitting, value_denial, submit_unless, is_other, is_changed, changed, sources, taken_if, take_offer, take_default, take_each, questions_in, taken, take_defaults, press_unless_fixed, press_statement, row_of_form, set_field, set_block, set_blocks, go_on, route_to, route_reading}
 use Rattle.browser_core.specs.declared.reply.Reply.{Reply}
 use Rattle.browser_core.specs.declared.reply.Reply.TheVariants.{Accepted, Denied, Refused}
 use Rattle.browser_core.specs.Renewed.{named_if, pressed_if}
@@ -141,14 +143,6 @@ fields_contain ns (q ∷ qs) n field (suc k, lt, e) is = later_field (field_of n
 none_has : (ifr : List ℕ) (qs : List Placed) (store at : ℕ) → AreQuestions ifr qs → NoneNamed ifr (fields_of (nodes_of ifr) qs) store at → NoneHas qs ifr store at
 none_has ifr qs store at are none n field c found here from inside = let it = are n c in none n field it.0 it.1 found (fields_contain (nodes_of ifr) qs n field c found) here from inside
 
--- what a search finds is there, and passes
-found_there : {X : Type 0} (test : X → Bool) (xs : List X) (x : X) → find test xs ≡ Some x → Contains xs x × (test x ≡ true)
-found_there test [] x e = absurd cc
-found_there test (y ∷ xs) x e = elim (cases_Bool (test y)) [
-  | inl is ↦ let same : y ≡ x = cc (sym (cond-true (test y) (Some y) (find test xs) is) ∙ e) in ((0, omega arith, same), ap test (sym same) ∙ is)
-  | inr other ↦ let later = found_there test xs x (sym (cond-false (test y) (Some y) (find test xs) other) ∙ e) in (further y xs x later.0, later.1)
-]
-
 named_is : (o : Option Placed) (r : Reply) (n : Placed) → Contains (named_if o r) n → o ≡ Some n
 named_is None r n (k, lt, e) = absurd (omega arith)
 named_is (Some q) Accepted n (zero, lt, e) = ap Some e
@@ -167,8 +161,8 @@ named_are ifr id r n c =
     elim (cases_Bool (id == 0)) [
       | inl no_id ↦ let none : None ≡ Some n = sym (cond-true (id == 0) None (find test (nodes_of ifr)) no_id) ∙ is in absurd cc
       | inr some ↦
-          let found = found_there test (nodes_of ifr) n (sym (cond-false (id == 0) None (find test (nodes_of ifr)) some) ∙ is) in
-          (found.0, (and_parts (is_question n) (question_id n.op == id) found.1).0)
+          let it = found test (nodes_of ifr) n (sym (cond-false (id == 0) None (find test (nodes_of ifr)) some) ∙ is) in
+          (it.0, (and_parts (is_question n) (question_id n.op == id) it.1).0)
     ]
 
 -- the questions of a form of the package
@@ -227,16 +221,11 @@ either : (o p : Option Placed) (n : Placed) → option_or o p ≡ Some n → (o 
 either None p n e = inr e
 either (Some m) p n e = inl e
 
-from_mapped : {X Y : Type 0} (f : X → Y) (xs : List X) (y : Y) → Contains (map f xs) y → (x : X) × Contains xs x × (f x ≡ y)
-from_mapped f [] y (k, lt, e) = absurd (omega arith)
-from_mapped f (x ∷ xs) y (zero, lt, e) = (x, (0, omega arith, refl), e)
-from_mapped f (x ∷ xs) y (suc k, lt, e) = let later = from_mapped f xs y (k, omega arith, e) in (later.0, further x xs later.0 later.1, later.2)
-
 -- a question with a field is one of the package that has the field
 asked_with : (ns : List Placed) (field : Field) (n : Placed) → IsOne (filter (has_field field) (questions ns)) n → Contains ns n × (is_question n ≡ true) × (field_of ns n ≡ Some field)
 asked_with ns field n one =
     let has = have_the_field (questions ns) field one.0 one.1 in
-    let it = from_mapped (asked ns) (filter is_question ns) one.0 has.0 in
+    let it = given (asked ns) (filter is_question ns) one.0 has.0 in
     let asks = passing is_question ns it.0 it.1 in
     let same : it.0 ≡ n = ap (λ (q : Asked). q.node) it.2 ∙ one.2 in
     let its : field_of ns it.0 ≡ Some field = ap (λ (q : Asked). q.field) it.2 ∙ has.1 in
@@ -248,7 +237,7 @@ chosen_there w ns field n e =
     let qs = filter (has_field field) (questions ns) in
     let free : Asked → Bool = λ q. is_none (fixed w q.node) in
     asked_with ns field n (elim (either (first_free w qs) (first_question qs) n e) [
-      | inl first ↦ node_of qs n (find free qs) (λ q found. (found_there free qs q found).0) first
+      | inl first ↦ node_of qs n (find free qs) (λ q e. (found free qs q e).0) first
       | inr other ↦ first_node qs n other
     ])
 
@@ -519,9 +508,6 @@ not_false : (b : Bool) → not b ≡ false → b ≡ true
 not_false true e = refl
 not_false false e = absurd cc
 
-both_true : (a b : Bool) → a ≡ true → b ≡ true → a && b ≡ true
-both_true a b first second = rw (first, second) refl
-
 one_byte : (a b : Option ℕ) → (a ≡ b) ⊎ (a ≡ b → ⊥)
 one_byte None None = inl refl
 one_byte None (Some y) = inr (λ e. absurd cc)
@@ -553,7 +539,7 @@ unchanged_byte s store at apart none = elim (one_byte (byte_of s.working store a
       let n = is.0 in
       let field = is.1 in
       let other = other_there s n field store at apart.shapes is.4 is.5 is.6 is.7 differ in
-      let among = passes (is_changed s) (nodes_of s.ifr) n is.2 (both_true (is_question n) (is_other s n) is.3 other) in
+      let among = passes (is_changed s) (nodes_of s.ifr) n is.2 (and_from (is_question n) (is_other s n) is.3 other) in
       none (field, fields_contain (nodes_of s.ifr) (changed s) n field among is.4, is.5, is.6, is.7))))
 ]
 

@@ -18,13 +18,9 @@ use Rattle.hii_packages.proofs.FormsLemmas.{there_without_fault}
 use Rattle.hii_languages.specs.Languages.{Spoken, string_packages, AreSpoken, IsStringsFault, chosen}
 use Rattle.hii_languages.proofs.SpokenLemmas.{spoken_sound}
 use Rattle.ifr_opcodes.specs.Forest.{Placed, places}
-use Rattle.ifr_opcodes.specs.Reading.{tree_of}
 use Rattle.ifr_scopes.specs.Accepted.{IsAccepted, IsPackageFault}
-use Rattle.ifr_scopes.specs.Framing.{IsFramingFault}
-use Rattle.ifr_scopes.specs.Structure.{IsStructureFault}
-use Rattle.ifr_scopes.specs.References.{IsReferenceFault}
 use Rattle.ifr_scopes.specs.Nodes.{nodes_of, is_form}
-use Rattle.ifr_scopes.proofs.RunLemmas.{none_where_spelled}
+use Rattle.ifr_scopes.proofs.AcceptedLemmas.{accepted_no_fault}
 use Rattle.hii_varstore.specs.Layout.{Shape}
 use Rattle.hii_varstore.specs.Image.{SpellsImage}
 use Rattle.hii_varstore.specs.StoreNodes.{IsStoreFault}
@@ -62,21 +58,20 @@ source_bytes list n source (packages, s, found) =
 some_is : (o : Option Entry) (source : Entry) → o ≡ Some source → IsSome o
 some_is o source e = subst IsSome (sym e) refl
 
-no_source_fault : (list : List ℕ) (n : ℕ) (source : Entry) → HasSource list n source → HasNone (IsSourceFault list n)
+pub no_source_fault : (list : List ℕ) (n : ℕ) (source : Entry) → HasSource list n source → HasNone (IsSourceFault list n)
 no_source_fault list n source (packages, s, found) =
     then_none (IsListFault list) (IsFormsFault list n) (list_places.no_fault list _ (end_from_spells list packages s))
     ((there_without_fault list packages n s).1 (some_is (nth_forms packages n) source found))
 
 -- ---- what can be browsed has no fault
 
-accepted_no_fault : (ifr : List ℕ) → IsAccepted ifr → HasNone (IsPackageFault ifr)
-accepted_no_fault ifr a =
-    then_none (IsFramingFault ifr) (Then (IsStructureFault (nodes_of ifr)) (IsReferenceFault (nodes_of ifr))) (none_where_spelled ifr (tree_of ifr) a.checked.spelled)
-    (then_none (IsStructureFault (nodes_of ifr)) (IsReferenceFault (nodes_of ifr)) a.checked.sound a.referred)
+-- the faults of a forms package behind those of the package itself
+abbrev Later : List ℕ → Cause → ℕ → Type 0
+Later ifr = Then (IsStoreFault (nodes_of ifr)) (IsQuestionFault (nodes_of ifr))
 
-browsable_no_fault : (ifr : List ℕ) → IsBrowsable ifr → HasNone (IsFormSetFault ifr)
+pub browsable_no_fault : (ifr : List ℕ) → IsBrowsable ifr → HasNone (IsFormSetFault ifr)
 browsable_no_fault ifr b =
-    then_none (IsPackageFault ifr) (Then (IsStoreFault (nodes_of ifr)) (IsQuestionFault (nodes_of ifr))) (accepted_no_fault ifr b.accepted)
+    then_none (IsPackageFault ifr) (Later ifr) (accepted_no_fault ifr b.accepted)
     (then_none (IsStoreFault (nodes_of ifr)) (IsQuestionFault (nodes_of ifr)) b.stores b.questions)
 
 -- the list's forms package of the number is found, these are its bytes, and the list's string packages say this
@@ -171,9 +166,23 @@ refuses_first : (First Second : Cause → ℕ → Type 0) (fault : Fault) → Re
 refuses_first First Second fault (inl memory) = inl memory
 refuses_first First Second fault (inr least) = inr (then_first First Second fault least)
 
-refuses_second : (First Second : Cause → ℕ → Type 0) (fault : Fault) → HasNone First → Refuses Second fault → Refuses (Then First Second) fault
+pub refuses_second : (First Second : Cause → ℕ → Type 0) (fault : Fault) → HasNone First → Refuses Second fault → Refuses (Then First Second) fault
 refuses_second First Second fault none (inl memory) = inl memory
 refuses_second First Second fault none (inr least) = inr (then_second First Second fault none least)
+
+-- a part of the forms package refuses, where those before it have no fault
+pub package_refuses : (ifr : List ℕ) (fault : Fault) → Refuses (IsPackageFault ifr) fault → Refuses (IsFormSetFault ifr) fault
+package_refuses ifr fault r = refuses_first (IsPackageFault ifr) (Later ifr) fault r
+
+pub stores_refuse : (ifr : List ℕ) (fault : Fault) → IsAccepted ifr → Refuses (IsStoreFault (nodes_of ifr)) fault → Refuses (IsFormSetFault ifr) fault
+stores_refuse ifr fault a r =
+    refuses_second (IsPackageFault ifr) (Later ifr) fault (accepted_no_fault ifr a)
+    (refuses_first (IsStoreFault (nodes_of ifr)) (IsQuestionFault (nodes_of ifr)) fault r)
+
+pub questions_refuse : (ifr : List ℕ) (fault : Fault) → IsAccepted ifr → HasNone (IsStoreFault (nodes_of ifr)) → Refuses (IsQuestionFault (nodes_of ifr)) fault → Refuses (IsFormSetFault ifr) fault
+questions_refuse ifr fault a sound r =
+    refuses_second (IsPackageFault ifr) (Later ifr) fault (accepted_no_fault ifr a)
+    (refuses_second (IsStoreFault (nodes_of ifr)) (IsQuestionFault (nodes_of ifr)) fault sound r)
 
 -- the list refuses
 pub refuses_source : (list : List ℕ) (n : ℕ) (stores : List ℕ) (fault : Fault) → IsLeast (IsSourceFault list n) fault → Refuses (IsOpenFault list n stores) fault
@@ -199,21 +208,15 @@ refuses_form_set list n stores ifr fault f r =
     refuses_later list n stores ifr fault f (refuses_first (IsFormSetFault ifr) (IsImageFault (layout_in ifr) stores) fault r)
 
 pub refuses_package : (list : List ℕ) (n : ℕ) (stores ifr : List ℕ) (fault : Fault) → IsFound list n ifr → Refuses (IsPackageFault ifr) fault → Refuses (IsOpenFault list n stores) fault
-refuses_package list n stores ifr fault f r =
-    refuses_form_set list n stores ifr fault f (refuses_first (IsPackageFault ifr) (Then (IsStoreFault (nodes_of ifr)) (IsQuestionFault (nodes_of ifr))) fault r)
+refuses_package list n stores ifr fault f r = refuses_form_set list n stores ifr fault f (package_refuses ifr fault r)
 
 pub refuses_stores : (list : List ℕ) (n : ℕ) (stores ifr : List ℕ) (fault : Fault) → IsFound list n ifr → IsAccepted ifr → Refuses (IsStoreFault (nodes_of ifr)) fault → Refuses (IsOpenFault list n stores) fault
-refuses_stores list n stores ifr fault f a r =
-    refuses_form_set list n stores ifr fault f
-    (refuses_second (IsPackageFault ifr) (Then (IsStoreFault (nodes_of ifr)) (IsQuestionFault (nodes_of ifr))) fault (accepted_no_fault ifr a)
-    (refuses_first (IsStoreFault (nodes_of ifr)) (IsQuestionFault (nodes_of ifr)) fault r))
+refuses_stores list n stores ifr fault f a r = refuses_form_set list n stores ifr fault f (stores_refuse ifr fault a r)
 
 pub refuses_questions : (list : List ℕ) (n : ℕ) (stores ifr : List ℕ) (shape : Shape) (fault : Fault) → IsFound list n ifr → IsAccepted ifr
     → HasNone (IsStoreFault (nodes_of ifr)) → shape ≡ layout_in ifr → Refuses (IsQuestionFault (nodes_of ifr)) fault → Refuses (IsOpenFault list n stores) fault
 refuses_questions list n stores ifr shape fault f a sound laid r =
-    refuses_form_set list n stores ifr fault f
-    (refuses_second (IsPackageFault ifr) (Then (IsStoreFault (nodes_of ifr)) (IsQuestionFault (nodes_of ifr))) fault (accepted_no_fault ifr a)
-    (refuses_second (IsStoreFault (nodes_of ifr)) (IsQuestionFault (nodes_of ifr)) fault sound r))
+    refuses_form_set list n stores ifr fault f (questions_refuse ifr fault a sound r)
 
 -- a package that can be browsed, of its parts
 pub browsable : (ifr : List ℕ) (shape : Shape) → IsAccepted ifr → HasNone (IsStoreFault (nodes_of ifr)) → shape ≡ layout_in ifr → HasNone (IsQuestionFault (nodes_of ifr)) → IsBrowsable ifr

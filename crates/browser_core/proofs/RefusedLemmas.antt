@@ -12,6 +12,7 @@ use Rattle.ifr_opcodes.specs.declared.codes.TheConstants.{RESET_BUTTON}
 use Rattle.ifr_scopes.specs.Nodes.{nodes_of, is_reference}
 use Rattle.ifr_scopes.specs.References.{form_with}
 use Rattle.hii_varstore.specs.Stores.{StoreMap}
+use Rattle.hii_questions.specs.Changes.{with_field}
 use Rattle.hii_questions.specs.Fields.{field_of, question_with}
 use Rattle.hii_questions.specs.Fits.{fits, values_offered}
 use Rattle.hii_questions.specs.Inputs.{Offer, whole, listed, utf8}
@@ -25,7 +26,7 @@ use Rattle.hii_commands.specs.Reading.{reading_of}
 use Rattle.hii_commands.specs.declared.command.BadLine.{BadLine}
 use Rattle.browser_core.specs.Configuration.{store_named}
 use Rattle.browser_core.specs.State.{State, world_of}
-use Rattle.browser_core.specs.Step.{Outcome, accepted, denied, denied_by_none, form_of, told_why, question_denial, set_question, set_unless_fixed, set_unless_forbidden, set_fitting, value_denial, with_field, press_unless_fixed, press_statement, row_of_form, show_unless_hidden, go_to, go_unless_fixed, follow, go_back_to, set_block, set_blocks, go_on, route_to, route_reading, submit_unless, step, step_reading, step_text, step_line}
+use Rattle.browser_core.specs.Step.{Outcome, accepted, denied, denied_by_none, form_of, told_why, question_denial, set_question, set_unless_fixed, set_unless_forbidden, set_fitting, value_denial, press_unless_fixed, press_statement, row_of_form, show_unless_hidden, go_to, go_unless_fixed, follow, go_back_to, set_block, set_blocks, go_on, route_to, route_reading, submit_unless, step, step_reading, step_text, step_line}
 use Rattle.browser_core.specs.Texts.{ok_text, count_text}
 use Rattle.browser_core.specs.declared.reply.Reply.{Reply}
 use Rattle.browser_core.specs.declared.reply.Reply.TheVariants.{Accepted, Denied, Refused}

@@ -26,7 +26,7 @@ use Rattle.hii_questions.specs.Inputs.{Offer, whole, listed, utf8}
 use Rattle.hii_questions.specs.Types.{type_of}
 use Rattle.hii_questions.specs.declared.denial.DenialKind.{DenialKind}
 use Rattle.hii_questions.specs.declared.denial.DenialKind.TheVariants.{NotButton, Password}
-use Rattle.hii_questions.specs.Changes.{field_bytes}
+use Rattle.hii_questions.specs.Changes.{field_bytes, with_field}
 use Rattle.ifr_defaults.specs.Defaults.{default_of}
 use Rattle.guard_policy.specs.Policy.{denied_by, or_else, fixed, closed, first_closed, inconsistent, warned, unsubmitted}
 use Rattle.guard_policy.specs.laws.Support.{around, support_over}
@@ -40,7 +40,7 @@ use Rattle.browser_core.specs.Opening.{layout_in}
 use Rattle.browser_core.specs.laws.Sealed.{deciding, IsSealed, HoldAlike, AreAlike, IsLaid, SessionsAreLaid, IsOn, SealedQuestionsAnswerAlike}
 use Rattle.browser_core.specs.Configuration.{store_named, block_field, block_bytes, question_of_field}
 use Rattle.browser_core.specs.State.{State, world_with, world_of, texts}
-use Rattle.browser_core.specs.Step.{Outcome, Taken, step, denied, form_of, sources, take_offer, take_default, take_each, questions_in, take_defaults, press_unless_fixed, press_statement, row_of_form, no_question, told_why, question_denial, why_question, set_question, set_unless_fixed, set_fitting, set_stores, set_unless_forbidden, value_denial, with_field, submit_unless, set_field, set_block, route_to, route_reading}
+use Rattle.browser_core.specs.Step.{Outcome, Taken, step, denied, form_of, sources, take_offer, take_default, take_each, questions_in, take_defaults, press_unless_fixed, press_statement, row_of_form, no_question, told_why, question_denial, why_question, set_question, set_unless_fixed, set_fitting, set_stores, set_unless_forbidden, value_denial, submit_unless, set_field, set_block, route_to, route_reading}
 use Rattle.browser_core.specs.Texts.{ok_text, count_text, warning_line}
 use Rattle.browser_core.proofs.RoutedLemmas.{extract_leaves, blocks_end}
 use Rattle.browser_core.proofs.GoLemmas.{LeavesStores, follow_leaves, back_leaves}

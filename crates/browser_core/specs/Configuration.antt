@@ -1,6 +1,6 @@
 -- What a configuration text names in a form set (UEFI 2.8, 34.2.1 String Grammar; which stores and questions a text names is an
 -- own rule).
-use Rattle.std.specs.Prelude.{ℕ, ◌+◌, ◌==◌, ◌&&◌, nat_lt, Bool, if◌then◌else◌, List, [], ◌∷◌, filter, Option, Some, None, option_map, is_some, is_none}
+use Rattle.std.specs.Prelude.{ℕ, ◌+◌, ◌&&◌, nat_lt, Bool, List, [], ◌∷◌, filter, Option, Some, None, option_map, is_some, is_none}
 use Rattle.std.specs.List.{find}
 use Rattle.std.specs.Option.{option_or}
 use Rattle.std.specs.Str.{bytes_eq}
@@ -8,30 +8,20 @@ use Rattle.std.specs.Str.Parse.{digits_value}
 use Rattle.byteorder.specs.Endian.{little_bytes}
 use Rattle.config_text.specs.Grammar.{Named, Area}
 use Rattle.ifr_opcodes.specs.Forest.{Placed}
-use Rattle.ifr_opcodes.specs.Fields.{varstore_guid, varstore_name, varstore_efi_guid, varstore_efi_name}
-use Rattle.ifr_opcodes.specs.Opcode.{number}
-use Rattle.ifr_opcodes.specs.declared.codes.TheConstants.{VARSTORE}
 use Rattle.ifr_scopes.specs.Nodes.{is_store}
-use Rattle.ifr_scopes.specs.Stores.{store_id, store_size}
+use Rattle.ifr_scopes.specs.Stores.{store_guid, store_id, store_name, store_size}
 use Rattle.hii_questions.specs.Fields.{Field, Asked, questions, has_field, is_password_in}
 use Rattle.guard_policy.specs.Policy.{fixed}
 use Rattle.guard_policy.specs.World.{World}
 
 -- ---- stores
 
--- the GUID and the name of a store of bytes (33.3.8.3, EFI_IFR_VARSTORE and EFI_IFR_VARSTORE_EFI)
-abbrev pub guid_of_store : List ℕ → List ℕ
-guid_of_store op = if number op == VARSTORE then varstore_guid op else varstore_efi_guid op
-
-abbrev pub name_of_store : List ℕ → List ℕ
-name_of_store op = if number op == VARSTORE then varstore_name op else varstore_efi_name op
-
 -- A header names a store of bytes by its GUID and its name, each byte of it a character, and by the list's device path.
 abbrev pub names_store : Named → List ℕ → Placed → Bool
 names_store named path n =
     is_some (store_size n.op)
-    && (bytes_eq named.guid (guid_of_store n.op)
-    && (bytes_eq named.name (name_of_store n.op) && bytes_eq named.path path))
+    && (bytes_eq named.guid (store_guid n.op)
+    && (bytes_eq named.name (store_name n.op) && bytes_eq named.path path))
 
 -- the id of the first store by place that a header names
 abbrev pub store_named : List Placed → List ℕ → Named → Option ℕ

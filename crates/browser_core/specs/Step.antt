@@ -16,10 +16,10 @@ use Rattle.ifr_scopes.specs.References.{form_with}
 use Rattle.ifr_scopes.specs.Rules.{rules_among}
 use Rattle.hii_languages.specs.Languages.{chosen}
 use Rattle.hii_languages.specs.Shown.{text_under}
-use Rattle.hii_varstore.specs.Stores.{StoreMap, are_same_bytes, bytes_of, with_bytes}
+use Rattle.hii_varstore.specs.Stores.{StoreMap, are_same_bytes, bytes_of}
 use Rattle.hii_questions.specs.Answers.{answers}
-use Rattle.hii_questions.specs.Changes.{field_bytes}
-use Rattle.hii_questions.specs.Fields.{Field, field_of, question_with, is_password}
+use Rattle.hii_questions.specs.Changes.{field_bytes, with_field}
+use Rattle.hii_questions.specs.Fields.{field_of, question_with, is_password}
 use Rattle.hii_questions.specs.Inputs as inputs
 use Rattle.hii_questions.specs.Inputs.{Offer, whole, listed, utf8}
 use Rattle.hii_questions.specs.Fits.{fits, values_offered}
@@ -96,11 +96,6 @@ why_question s q = told_why s (question_denial s q)
 
 -- ---- set, order and text: the question takes the value, options of the value are not all fixed, and no INCONSISTENT_IF of the
 -- question holds over the stores with the new field
-
--- the stores with new bytes in a field
-abbrev pub with_field : StoreMap → Option Field → List ℕ → StoreMap
-with_field stores None bytes = stores
-with_field stores (Some field) bytes = with_bytes stores field.store field.offset bytes
 
 -- what forbids a value that the question has in new stores, where these values of options were offered
 abbrev pub value_denial : World → StoreMap → Placed → List ℕ → Option Denial

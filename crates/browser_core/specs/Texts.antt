@@ -1,7 +1,6 @@
 -- The lines of answers (own rule).
-use Rattle.std.specs.Prelude.{ℕ, ◌/◌, ◌%◌, if◌then◌else◌, List, [], ◌++◌, codes, decimal}
-use Rattle.hii_bytes.specs.Texts.{hex_of}
-use Rattle.hii_bytes.specs.Cause.{number_of, name_of}
+use Rattle.std.specs.Prelude.{ℕ, if◌then◌else◌, List, [], ◌++◌, codes, decimal}
+use Rattle.hii_bytes.specs.Texts.{place_text, cause_text, fault_text}
 use Rattle.hii_bytes.specs.declared.cause.Cause.{Cause}
 use Rattle.hii_bytes.specs.declared.cause.Fault.{Fault}
 use Rattle.hii_questions.specs.Denials.{kind_name, has_text}
@@ -18,12 +17,6 @@ count_text n = codes "OK " ++ decimal n ++ codes "\n"
 
 abbrev pub changed_text : ℕ → List ℕ
 changed_text id = codes "CHANGED " ++ decimal id ++ codes "\n"
-
--- a place in eight hex digits
-abbrev pub place_text : ℕ → List ℕ
-place_text place =
-    hex_of (place / 0x1000000 % 256) ++ hex_of (place / 0x10000 % 256)
-    ++ hex_of (place / 0x100 % 256) ++ hex_of (place % 256)
 
 abbrev pub message_text : DenialKind → List ℕ → List ℕ
 message_text kind message = if has_text kind then codes " " ++ utf8 message else []
@@ -43,14 +36,10 @@ warning_text message warning =
 abbrev pub warning_line : (ℕ → List ℕ) → Warning → List ℕ
 warning_line texts warning = warning_text (texts warning.message) warning
 
--- by which cause something is refused
-abbrev pub cause_text : Cause → List ℕ
-cause_text cause = codes "REFUSED " ++ decimal (number_of cause) ++ codes " " ++ name_of cause
-
 -- how a line that is no command, or too long, is refused, and what else has no place
 abbrev pub refused_text : Cause → List ℕ
 refused_text cause = cause_text cause ++ codes "\n"
 
 -- how bytes are refused
-abbrev pub fault_text : Fault → List ℕ
-fault_text fault = cause_text fault.cause ++ codes " at " ++ place_text fault.place ++ codes "\n"
+abbrev pub refused_at_text : Fault → List ℕ
+refused_at_text fault = fault_text fault ++ codes "\n"

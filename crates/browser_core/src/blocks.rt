@@ -11,9 +11,10 @@ ghost use Rattle.browser_core.specs.Opening.{layout_in};
 ghost use Rattle.browser_core.specs.code.Browsable.{IsBrowsable};
 ghost use Rattle.browser_core.specs.code.Changing.{Chooses, CopiesBlocks, FirstChoice, HaveRanges, SetsBlock, SetsBlocks, range_of_block};
 
-use crate::change::{are_bytes, set_value};
+use crate::change::set_value;
 use config_text::{Block, Blocks};
 use guard_policy::{Denial, Policy};
+use hii_bytes::laws::are_bytes;
 use hii_questions::{DenialKind, FieldRange, Input, Question, Questions, WIDEST_FIELD};
 use hii_varstore::Stores;
 use ifr_scopes::Around;

@@ -2,7 +2,7 @@
 
 ghost use Rattle.std.specs.Prelude.{◌≡◌, ◌∷◌, List, Some, filter, map, MatchResult, IfOk, IfErr, IfSome, option_and_then, option_copied, option_map};
 ghost use Rattle.hii_bytes.specs.Faults.{Refuses, IsLeast, out_of_memory};
-ghost use Rattle.hii_bytes.specs.Watching.{Puts, Writes};
+ghost use Rattle.hii_bytes.specs.Watching.{Puts};
 ghost use Rattle.hii_packages.specs.code.Package.{entry_of};
 ghost use Rattle.hii_packages.specs.Packages.{SpellsPackages, nth_forms};
 ghost use Rattle.ifr_opcodes.specs.Forest.{Placed};

@@ -2,7 +2,6 @@
 
 ghost use Rattle.std.specs.Prelude.{◌≡◌, None};
 ghost use Rattle.hii_questions.specs.code.ItemsLeft.{items_left};
-ghost use Rattle.hii_questions.specs.laws.Fields.{AreBytes};
 ghost use Rattle.hii_questions.specs.code.Offers.{offer_of, IsGiven};
 ghost use Rattle.hii_questions.specs.code.Views.{question_node, question_view};
 ghost use Rattle.hii_varstore.specs.Stores.{shape_of};
@@ -69,11 +68,6 @@ fn new_field<'a, 's, 'i>(
     options_open(policy, question, around, field.items(), working)?;
     Ok(field)
 }
-
-/// No byte is above 255.
-pub(crate) fn are_bytes(bytes: &[u8])
-    ensures { AreBytes bytes.now }
-{}
 
 // Whether an option of each of these values of a question that is not fixed may be chosen.
 fn options_open<'a, 's>(

@@ -1,5 +1,5 @@
 //! A session of the setup browser: a package list and the stores of its form set, which the commands of a script show
-//! and change.
+//! and change (own rule; configuration texts are those of UEFI 2.8, 34.2.1 String Grammar).
 #![tactic(auto)]
 
 mod blocks;

@@ -1,6 +1,6 @@
 //! A session over a package list and the image of its stores.
 
-ghost use Rattle.std.specs.Prelude.{◌≡◌, ℕ, List, true, false, Err, Some, IfOk, IfErr, IfSome};
+ghost use Rattle.std.specs.Prelude.{◌≡◌, true, false, Err, Some, IfOk, IfErr, IfSome};
 ghost use Rattle.std.specs.Io.KnownBytes.{Appends};
 ghost use Rattle.hii_bytes.specs.Faults.{Refuses, out_of_memory};
 ghost use Rattle.hii_bytes.specs.Watching.{pen_of, inner_of, has_failed, Tells};

@@ -6,7 +6,7 @@ ghost use Rattle.std.specs.List.{flat_map};
 ghost use Rattle.hii_languages.specs.Shown.{shown_text};
 ghost use Rattle.hii_languages.specs.code.Views.{chars_left, choice_of};
 ghost use Rattle.guard_policy.specs.code.WarningsLeft.{warnings_left};
-ghost use Rattle.browser_core.specs.Texts.{count_text, changed_text, place_text, message_text, denied_text, warning_text, warning_line, cause_text, refused_text, fault_text};
+ghost use Rattle.browser_core.specs.Texts.{count_text, changed_text, message_text, denied_text, warning_text, warning_line, refused_text, refused_at_text};
 
 use arrayvec::ArrayVec;
 use form_page::put_shown;
@@ -46,16 +46,6 @@ pub(crate) fn put_changed<W: Write>(question: u16, out: &mut Watched<W>)
     out.put(changed_line(question).as_slice());
 }
 
-// Writes the lowest 32 bits of a place in eight hex digits.
-fn put_place<W: Write>(place: u64, out: &mut Watched<W>)
-    ensures { Puts W.contents out.old out.new (place_text place) }
-{
-    out.put_hex((place / 0x100_0000 % 256) as u8);
-    out.put_hex((place / 0x1_0000 % 256) as u8);
-    out.put_hex((place / 0x100 % 256) as u8);
-    out.put_hex((place % 256) as u8);
-}
-
 // Writes a text behind a space, where a denial of this kind has one.
 fn put_message<W: Write>(kind: DenialKind, message: ShownChars<'_>, out: &mut Watched<W>)
     ensures { Puts W.contents out.old out.new (message_text kind (chars_left message.entry)) }
@@ -73,7 +63,7 @@ pub(crate) fn put_denial<W: Write>(denial: Denial, message: ShownChars<'_>, out:
     out.put(b"DENIED ");
     out.put(denial.kind.name().as_bytes());
     out.put(b" at ");
-    put_place(u64::from(denial.place), out);
+    out.put_place(u64::from(denial.place));
     put_message(denial.kind, message, out);
     out.put(b"\n");
 }
@@ -83,7 +73,7 @@ fn put_warning<W: Write>(warning: Warning, message: ShownChars<'_>, out: &mut Wa
     ensures { Puts W.contents out.old out.new (warning_text (chars_left message.entry) warning) }
 {
     out.put(b"WARNING at ");
-    put_place(u64::from(warning.place), out);
+    out.put_place(u64::from(warning.place));
     out.put(b" ");
     put_shown(message, out);
     out.put(b"\n");
@@ -107,29 +97,18 @@ pub(crate) fn put_warnings<W: Write>(
     }
 }
 
-fn put_cause<W: Write>(cause: Cause, out: &mut Watched<W>)
-    ensures { Puts W.contents out.old out.new (cause_text cause) }
-{
-    out.put(b"REFUSED ");
-    out.put_decimal(u64::from(cause.number()));
-    out.put(b" ");
-    out.put(cause.name().as_bytes());
-}
-
 /// Writes the line of a cause without a place.
 pub fn put_refusal<W: Write>(cause: Cause, out: &mut Watched<W>)
     ensures { Puts W.contents out.old out.new (refused_text cause) }
 {
-    put_cause(cause, out);
+    out.put_cause(cause);
     out.put(b"\n");
 }
 
 /// Writes the line of a cause at its place, of which it tells the lowest 32 bits.
 pub fn put_refusal_at<W: Write>(fault: Fault, out: &mut Watched<W>)
-    ensures { Puts W.contents out.old out.new (fault_text fault) }
+    ensures { Puts W.contents out.old out.new (refused_at_text fault) }
 {
-    put_cause(fault.cause, out);
-    out.put(b" at ");
-    put_place(fault.place, out);
+    out.put_fault(fault);
     out.put(b"\n");
 }

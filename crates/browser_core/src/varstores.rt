@@ -7,7 +7,7 @@ ghost use Rattle.ifr_scopes.specs.code.Lists.{store_node};
 ghost use Rattle.browser_core.specs.Configuration.{names_store, store_named};
 
 use config_text::Header;
-use ifr_scopes::{Forms, StoreOp, Varstore};
+use ifr_scopes::{Forms, Varstore};
 use std::alloc::{AllocError, Global};
 use std::marker::Model;
 
@@ -63,9 +63,5 @@ impl<'a> Varstores<'a> {
 fn is_named(store: Varstore<'_>, header: Header<'_>, path: &[u8]) -> bool
     ensures { result ≡ names_store (header_view header.entry) path.now (store_node store.entry) }
 {
-    match store.op() {
-        StoreOp::Varstore(store) => header.names(store.guid().bytes(), store.name(), path),
-        StoreOp::VarstoreEfi(store) => header.names(store.guid().bytes(), store.name(), path),
-        StoreOp::NameValue(_) => false,
-    }
+    store.size().is_some() && header.names(store.guid().bytes(), store.name(), path)
 }

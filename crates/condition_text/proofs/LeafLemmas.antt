@@ -1,23 +1,18 @@
 -- What operators that take no operands say.
-use Rattle.std.proofs.Common.{◌≡◌, ℕ, ◌*◌, Bool, true, false, List, refl, sym, ap, subst, ◌∙◌}
+use Rattle.std.proofs.Common.{◌≡◌, ℕ, ◌*◌, true, List, refl, sym, ap, subst, ◌∙◌}
 use Rattle.ifr_opcodes.specs.declared.codes.TheConstants.{EQ_ID_VAL, EQ_ID_ID, EQ_ID_VAL_LIST, QUESTION_REF1, RULE_REF, THIS}
-use Rattle.ifr_opcodes.specs.declared.expressions.ExprOp.{ExprOp}
-use Rattle.ifr_opcodes.specs.declared.expressions.ExprOp.TheVariants as expr
 use Rattle.ifr_opcodes.specs.declared.expressions.LeafOp.{LeafOp}
 use Rattle.ifr_opcodes.specs.declared.expressions.LeafOp.TheVariants as leaf
 use Rattle.ifr_opcodes.specs.declared.references.RuleRefOp.{RuleRefOp}
 use Rattle.ifr_opcodes.specs.declared.operators.Constant.{Constant}
 use Rattle.ifr_opcodes.specs.declared.operators.Constant.TheVariants as constants
 use Rattle.ifr_opcodes.specs.code.Codes.{constant_code}
-use Rattle.ifr_opcodes.specs.code.Ops.{bytes_of, op_of}
-use Rattle.ifr_opcodes.specs.code.Views.{leaf_operator, operator}
+use Rattle.ifr_opcodes.specs.code.Ops.{bytes_of}
+use Rattle.ifr_opcodes.specs.code.Views.{leaf_operator}
 use Rattle.ifr_opcodes.specs.Fields.{eq_id_val_question, eq_id_val_value, eq_id_id_first, eq_id_id_second, eq_id_val_list_question, eq_id_val_list_values, question_ref_question, rule_ref_rule, uint_width, uint_value}
 use Rattle.ifr_opcodes.specs.Opcode.{number}
 use Rattle.ifr_opcodes.specs.Operators.{is_among, uints}
-use Rattle.ifr_opcodes.proofs.OperandLemmas.{leaf_takes, rule_ref_takes, unary_op_takes, binary_op_takes}
 use Rattle.condition_text.specs.Senses.{Sense, eq_id_val, eq_id_id, eq_id_val_list, question_ref, rule_ref, uint, constant, leaf_sense, alone}
-use Rattle.condition_text.specs.Texts.{is_short}
-use Rattle.condition_text.specs.code.Progress.{is_short_by, is_short_operand}
 use Rattle.condition_text.proofs.WordLemmas.{of_each}
 
 pub says_eq_id_val : (op : List ℕ) → number op ≡ EQ_ID_VAL → leaf_sense op ≡ eq_id_val (eq_id_val_question op) (eq_id_val_value op)
@@ -81,16 +76,3 @@ leaf_says (leaf.This op) = says_constant (bytes_of op.op) (rw op.coded refl) ∙
 
 pub rule_ref_says : (op : RuleRefOp) → leaf_sense (bytes_of op.op) ≡ rule_ref (rule_ref_rule (bytes_of op.op))
 rule_ref_says op = says_rule_ref (bytes_of op.op) op.coded
-
--- whether an operator stands as an operand without parentheses
-abbrev pub short_of : ExprOp → Bool
-short_of (expr.Leaf op) = is_short (leaf_sense (bytes_of (leaf_operator op)))
-short_of (expr.RuleRef op) = true
-short_of (expr.Unary op) = false
-short_of (expr.Binary op) = false
-
-pub expr_short : (op : ExprOp) → is_short_operand (op_of (operator op)) ≡ short_of op
-expr_short (expr.Leaf op) = ap (λ o. is_short_by o (op_of (leaf_operator op))) (leaf_takes op)
-expr_short (expr.RuleRef op) = ap (λ o. is_short_by o (op_of op.op)) (rule_ref_takes op) ∙ ap is_short (rule_ref_says op)
-expr_short (expr.Unary op) = ap (λ o. is_short_by o (op_of op.op)) (unary_op_takes op)
-expr_short (expr.Binary op) = ap (λ o. is_short_by o (op_of op.op)) (binary_op_takes op)

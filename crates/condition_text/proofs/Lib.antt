@@ -3,9 +3,11 @@ pub mod Reader
 pub mod WordLemmas
 pub mod ReadLemmas
 pub mod LeafLemmas
+pub mod KindLemmas
 pub mod DraftLemmas
 pub mod PieceLemmas
 pub mod WriteLemmas
+pub mod NextLemmas
 pub mod BuildLemmas
 pub mod GoodLemmas
 pub mod WorkedTexts

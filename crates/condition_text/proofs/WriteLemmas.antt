@@ -1,10 +1,8 @@
 -- What is written of operators that take no operands is their text.
-use Rattle.std.proofs.Common.{◌≡◌, ℕ, ◌*◌, List, ◌++◌, refl, sym, ap, ap₂, subst, ◌∙◌, append_assoc}
+use Rattle.std.proofs.Common.{◌≡◌, ℕ, ◌*◌, List, ◌++◌, refl, sym, ap, ap₂, subst, ◌∙◌}
 use Rattle.std.specs.Prelude.{codes, decimal}
 use Rattle.std.specs.List.{flat_map}
 use Rattle.hii_bytes.specs.Watching.{Pen, Writes}
-use Rattle.hii_bytes.specs.code.Writing.{Stands}
-use Rattle.hii_bytes.proofs.WritingLemmas.{writes_trans}
 use Rattle.ifr_opcodes.specs.declared.codes.TheConstants.{THIS}
 use Rattle.ifr_opcodes.specs.declared.expressions.LeafOp.{LeafOp}
 use Rattle.ifr_opcodes.specs.declared.expressions.LeafOp.TheVariants as leaf
@@ -66,10 +64,3 @@ this_text = refl
 pub rule_ref_text : (op : RuleRefOp) (r : ℕ) → r ≡ rule_ref_rule (bytes_of op.op) → codes "ruleref(" ++ decimal r ++ codes ")" ≡ text (leaf_sense (bytes_of op.op))
 unfolding text
 rule_ref_text op r e = ap (λ (a : ℕ). text (rule_ref a)) e ∙ ap text (sym (rule_ref_says op))
-
-pub past_piece : (a b c : Pen) (all rest front more : List ℕ) → rest ≡ front ++ more → Stands a b all rest → Writes b c front → Stands a c all more
-past_piece a b c all rest front more e s w = record {
-  front = s.front ++ front;
-  parts = s.parts ∙ ap (λ (l : List ℕ). s.front ++ l) e ∙ sym (append_assoc s.front front more);
-  written = writes_trans s.written w;
-}

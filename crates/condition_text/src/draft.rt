@@ -1,14 +1,13 @@
 //! A text that is made from its end to its front.
 
-ghost use Rattle.std.specs.Prelude.{◌≡◌, OnOk};
-ghost use Rattle.ifr_opcodes.specs.code.Ops.{bytes_of, op_of};
-ghost use Rattle.ifr_opcodes.specs.code.Views.{leaf_operator, operator};
-ghost use Rattle.condition_text.specs.Senses.{leaf_sense};
-ghost use Rattle.condition_text.specs.Texts.{is_short as is_short_sense};
-ghost use Rattle.condition_text.specs.code.Progress.{is_short_operand, said, said_operand, unwound};
+ghost use Rattle.std.specs.Prelude.{◌≡◌, ◌∷◌, List, OnOk};
+ghost use Rattle.ifr_opcodes.specs.Forest.{Mark};
+ghost use Rattle.condition_text.specs.code.Kinds.{StandsFor};
+ghost use Rattle.condition_text.specs.code.Progress.{enclosed, said, said_operand, unwound};
 
-use crate::piece::{Piece, Word};
-use ifr_opcodes::{ExprOp, LeafOp};
+use crate::kind::Kind;
+use crate::piece::Piece;
+use ifr_opcodes::{Binary, Unary};
 use std::alloc::{AllocError, Global};
 
 /// What is to be put down.
@@ -16,51 +15,51 @@ use std::alloc::{AllocError, Global};
 enum Task {
     /// The text of an operand.
     Operand,
-    /// A word.
-    Word(Word),
+    /// A parenthesis that opens.
+    Open,
+    /// The word of an operator with one operand.
+    Unary(Unary),
+    /// A parenthesis that opens, and the word of an operator with one operand.
+    OpenUnary(Unary),
+    /// The word of an operator with two operands.
+    Binary(Binary),
+}
+
+// One is held for each operator around the operand that is put down.
+const _: () = prove!(size_of::<Task>() == 2);
+
+impl Task {
+    ghost use Rattle.condition_text.specs.code.Tasks.{piece_of};
+
+    // The piece that is to be put down, where it is no operand.
+    fn piece(self) -> Option<Piece>
+        ensures { result ≡ piece_of self }
+    {
+        match self {
+            Task::Operand => None,
+            Task::Open => Some(Piece::Open),
+            Task::Unary(operator) => Some(Piece::Unary(operator)),
+            Task::OpenUnary(operator) => Some(Piece::OpenUnary(operator)),
+            Task::Binary(operator) => Some(Piece::Binary(operator)),
+        }
+    }
 }
 
 /// The pieces of a text from its end on, and what is to be put down before them, the nearest last.
 #[derive(Debug, Drop)]
-pub(crate) struct Draft<'a> {
+pub(crate) struct Draft {
     tasks: Vec<Task>,
-    pub(crate) pieces: Vec<Piece<'a>>,
+    pub(crate) pieces: Vec<Piece>,
 }
 
-// Whether an operator that takes no operands stands as an operand without parentheses.
-fn is_short_leaf(op: LeafOp<'_>) -> bool
-    ensures { result ≡ is_short_sense (leaf_sense (bytes_of (leaf_operator op.entry))) }
-{
-    match op {
-        LeafOp::EqIdVal(_) => false,
-        LeafOp::EqIdId(_) => false,
-        LeafOp::EqIdValList(_) => false,
-        LeafOp::QuestionRef(_) => true,
-        LeafOp::Uint(_) => true,
-        LeafOp::Constant(_) => true,
-        LeafOp::This(_) => true,
-    }
-}
-
-// Whether an operator stands as an operand without parentheses.
-fn is_short(op: ExprOp<'_>) -> bool
-    ensures { result ≡ is_short_operand (op_of (operator op.entry)) }
-{
-    match op {
-        ExprOp::Leaf(op) => is_short_leaf(op),
-        ExprOp::RuleRef(_) => true,
-        ExprOp::Unary(_) => false,
-        ExprOp::Binary(_) => false,
-    }
-}
-
-impl<'a> Draft<'a> {
+impl Draft {
+    ghost use Rattle.std.specs.Prelude.{[]};
     ghost use Rattle.condition_text.specs.code.Drafts.{progress};
     ghost use Rattle.condition_text.specs.code.Progress.{beginning};
 
     /// The text of nothing.
-    pub(crate) fn new(alloc: Global) -> Draft<'a>
-        ensures { progress result ≡ beginning }
+    pub(crate) fn new(alloc: Global) -> Draft
+        ensures { progress [] result ≡ beginning }
     {
         Draft {
             tasks: Vec::new(alloc),
@@ -69,47 +68,63 @@ impl<'a> Draft<'a> {
     }
 
     /// Puts down an operator that stands alone: its text, or what its operands and its word are to be.
-    pub(crate) fn say(&mut self, op: ExprOp<'a>) -> Result<(), AllocError>
-        ensures { OnOk result
-            (progress self.new ≡ said (op_of (operator op.entry)) (progress self.old)) }
+    pub(crate) fn say(&mut self, kind: Kind) -> Result<(), AllocError>
+        ensures { OnOk result ((op : Mark) (ops : List Mark) → StandsFor kind op
+            → progress (op ∷ ops) self.new ≡ said op (progress ops self.old)) }
     {
-        match op {
-            ExprOp::Leaf(op) => self.pieces.push(Piece::Leaf(op))?,
-            ExprOp::RuleRef(op) => self.pieces.push(Piece::RuleRef(op))?,
-            ExprOp::Unary(op) => {
-                self.tasks.push(Task::Word(Word::Unary(op.operator)))?;
+        match kind {
+            Kind::Value => self.pieces.push(Piece::Leaf)?,
+            Kind::Comparison => self.pieces.push(Piece::Leaf)?,
+            Kind::Unary(operator) => {
+                self.tasks.push(Task::Unary(operator))?;
                 self.tasks.push(Task::Operand)?;
             }
-            ExprOp::Binary(op) => {
+            Kind::Binary(operator) => {
                 self.tasks.push(Task::Operand)?;
-                self.tasks.push(Task::Word(Word::Binary(op.operator)))?;
+                self.tasks.push(Task::Binary(operator))?;
                 self.tasks.push(Task::Operand)?;
             }
         }
         Ok(())
     }
 
-    /// Puts down an operator that is an operand, in parentheses where it needs them.
-    pub(crate) fn say_operand(&mut self, op: ExprOp<'a>) -> Result<(), AllocError>
-        ensures { OnOk result
-            (progress self.new ≡ said_operand (op_of (operator op.entry)) (progress self.old)) }
+    // Puts down an operator in parentheses.
+    fn enclose(&mut self, kind: Kind) -> Result<(), AllocError>
+        ensures { OnOk result ((op : Mark) (ops : List Mark) → StandsFor kind op
+            → progress (op ∷ ops) self.new ≡ said op (enclosed (progress ops self.old))) }
     {
-        if is_short(op) {
-            return self.say(op);
+        self.pieces.push(Piece::Close)?;
+        if let Kind::Unary(operator) = kind {
+            self.tasks.push(Task::OpenUnary(operator))?;
+            self.tasks.push(Task::Operand)?;
+            return Ok(());
         }
-        self.pieces.push(Piece::Word(Word::Close))?;
-        self.tasks.push(Task::Word(Word::Open))?;
-        self.say(op)
+        self.tasks.push(Task::Open)?;
+        self.say(kind)
     }
 
-    /// Puts down the words up to the next operand.
+    /// Puts down an operator that is an operand, in parentheses where it needs them.
+    pub(crate) fn say_operand(&mut self, kind: Kind) -> Result<(), AllocError>
+        ensures { OnOk result ((op : Mark) (ops : List Mark) → StandsFor kind op
+            → progress (op ∷ ops) self.new ≡ said_operand op (progress ops self.old)) }
+    {
+        match kind {
+            Kind::Value => self.say(kind),
+            Kind::Comparison => self.enclose(kind),
+            Kind::Unary(_) => self.enclose(kind),
+            Kind::Binary(_) => self.enclose(kind),
+        }
+    }
+
+    /// Puts down the pieces up to the next operand.
     pub(crate) fn unwind(&mut self) -> Result<(), AllocError>
-        ensures { OnOk result (progress self.new ≡ unwound (progress self.old)) }
+        ensures { OnOk result ((ops : List Mark)
+            → progress ops self.new ≡ unwound (progress ops self.old)) }
     {
         while let Some(task) = self.tasks.pop() {
-            match task {
-                Task::Operand => return Ok(()),
-                Task::Word(word) => self.pieces.push(Piece::Word(word))?,
+            match task.piece() {
+                Some(piece) => self.pieces.push(piece)?,
+                None => return Ok(()),
             }
         }
         Ok(())

@@ -1,6 +1,6 @@
 //! Laws of the texts of conditions.
 
-ghost use Rattle.std.specs.Prelude.{◌≡◌, ℕ, ◌<◌, slice_index};
+ghost use Rattle.std.specs.Prelude.{◌≡◌, ℕ, ◌<◌};
 ghost use Rattle.std.specs.List.{AllByRecursion};
 ghost use Rattle.ifr_opcodes.specs.code.Ops.{bytes_of};
 ghost use Rattle.ifr_expr.specs.code.Expressions.{tree_of};
@@ -11,6 +11,7 @@ ghost use Rattle.condition_text.specs.SenseValues.{value_of_sense};
 ghost use Rattle.condition_text.specs.Senses.{Sense, IsGood, sense};
 ghost use Rattle.condition_text.specs.Texts.{text};
 
+use hii_bytes::laws::are_bytes;
 use ifr_expr::Expr;
 use ifr_opcodes::Op;
 
@@ -44,7 +45,3 @@ fn opcodes_are_bytes(op: Op<'_>)
 {
     are_bytes(op.body);
 }
-
-fn are_bytes(bytes: &[u8])
-    ensures { (k : ℕ) → slice_index bytes.now k < 256 }
-{}

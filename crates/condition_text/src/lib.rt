@@ -3,6 +3,7 @@
 
 mod condition;
 mod draft;
+mod kind;
 pub mod laws;
 mod leaf;
 mod piece;

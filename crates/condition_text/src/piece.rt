@@ -1,65 +1,74 @@
 //! The pieces of a text.
 
-ghost use Rattle.std.specs.Prelude.{◌≡◌};
+ghost use Rattle.std.specs.Prelude.{◌≡◌, drop};
 ghost use Rattle.hii_bytes.specs.Watching.{Puts};
-ghost use Rattle.condition_text.specs.code.Pieces.{piece_text, word_text};
+ghost use Rattle.condition_text.specs.code.Leaves.{first_text, leaves_left};
+ghost use Rattle.condition_text.specs.code.Pieces.{left_by, piece_text};
 
 use crate::leaf::{put_leaf, put_rule_ref};
 use crate::words::{binary_word, unary_word};
 use hii_bytes::Watched;
-use ifr_opcodes::{Binary, LeafOp, RuleRefOp, Unary};
+use ifr_expr::Operators;
+use ifr_opcodes::{Binary, ExprOp, Unary};
 use std::io::Write;
 
-/// What stands between the texts of operators that take no operands.
+/// A piece of a text. Operators that take no operands stand in it as they do in the expression, so that a piece need not say
+/// which one it is.
 #[derive(Clone, Copy, Debug)]
-pub(crate) enum Word {
+pub(crate) enum Piece {
+    /// The text of the next operator that takes no operands.
+    Leaf,
     /// A parenthesis that opens.
     Open,
     /// A parenthesis that closes.
     Close,
     /// The word of an operator with one operand.
     Unary(Unary),
+    /// A parenthesis that opens, and the word of an operator with one operand.
+    OpenUnary(Unary),
     /// The word of an operator with two operands, with the spaces around.
     Binary(Binary),
 }
 
-/// A piece of a text.
-#[derive(Clone, Copy, Debug)]
-pub(crate) enum Piece<'a> {
-    /// The text of an operator that takes no operands.
-    Leaf(LeafOp<'a>),
-    /// The text of a reference to a rule.
-    RuleRef(RuleRefOp<'a>),
-    /// What stands between these.
-    Word(Word),
-}
+// One at most is held for each byte of an expression.
+const _: () = prove!(size_of::<Piece>() == 2);
 
-impl Word {
-    fn put<W: Write>(self, out: &mut Watched<W>)
-        ensures { Puts W.contents out.old out.new (word_text self) }
-    {
-        match self {
-            Word::Open => out.put(b"("),
-            Word::Close => out.put(b")"),
-            Word::Unary(operator) => out.put(unary_word(operator)),
-            Word::Binary(operator) => {
-                out.put(b" ");
-                out.put(binary_word(operator));
-                out.put(b" ");
-            }
+// Writes the text of the next operator that takes no operands.
+fn put_next_leaf<W: Write>(out: &mut Watched<W>, ops: &mut Operators<'_>)
+    ensures written { Puts W.contents out.old out.new (first_text (leaves_left ops.old)) }
+    ensures left { leaves_left ops.new ≡ drop 1 (leaves_left ops.old) }
+{
+    while let Some(op) = ops.next() {
+        match op {
+            ExprOp::Leaf(op) => return put_leaf(out, op),
+            ExprOp::RuleRef(op) => return put_rule_ref(out, op),
+            ExprOp::Unary(_) => {}
+            ExprOp::Binary(_) => {}
         }
     }
 }
 
-impl<'a> Piece<'a> {
-    /// Writes the piece.
-    pub(crate) fn put<W: Write>(self, out: &mut Watched<W>)
-        ensures { Puts W.contents out.old out.new (piece_text self.entry) }
+impl Piece {
+    /// Writes the piece, and goes past the operator whose text it is.
+    pub(crate) fn put<W: Write>(self, out: &mut Watched<W>, ops: &mut Operators<'_>)
+        ensures written { Puts W.contents out.old out.new
+            (piece_text (first_text (leaves_left ops.old)) self) }
+        ensures left { leaves_left ops.new ≡ left_by self (leaves_left ops.old) }
     {
         match self {
-            Piece::Leaf(op) => put_leaf(out, op),
-            Piece::RuleRef(op) => put_rule_ref(out, op),
-            Piece::Word(word) => word.put(out),
+            Piece::Leaf => put_next_leaf(out, ops),
+            Piece::Open => out.put(b"("),
+            Piece::Close => out.put(b")"),
+            Piece::Unary(operator) => out.put(unary_word(operator)),
+            Piece::OpenUnary(operator) => {
+                out.put(b"(");
+                out.put(unary_word(operator));
+            }
+            Piece::Binary(operator) => {
+                out.put(b" ");
+                out.put(binary_word(operator));
+                out.put(b" ");
+            }
         }
     }
 }

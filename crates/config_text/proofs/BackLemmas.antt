@@ -69,17 +69,9 @@ abbrev Below : ℕ → List ℕ → Type 0
 Below limit [] = Unit {0}
 Below limit (n ∷ numbers) = (n < limit) × Below limit numbers
 
-below_append : (limit : ℕ) (xs ys : List ℕ) → Below limit xs → Below limit ys → Below limit (xs ++ ys)
-below_append limit [] ys h k = k
-below_append limit (x ∷ xs) ys h k = (h.0, below_append limit xs ys h.1 k)
-
 below_parts : (limit : ℕ) (xs ys : List ℕ) → Below limit (xs ++ ys) → Below limit xs × Below limit ys
 below_parts limit [] ys h = (tt, h)
 below_parts limit (x ∷ xs) ys h = let p = below_parts limit xs ys h.1 in ((h.0, p.0), p.1)
-
-below_reverse : (limit : ℕ) (xs : List ℕ) → Below limit xs → Below limit (reverse xs)
-below_reverse limit [] h = tt
-below_reverse limit (x ∷ xs) h = subst (Below limit) (sym (reverse-append (x ∷ []) xs)) (below_append limit (reverse xs) (x ∷ []) (below_reverse limit xs h.1) (h.0, tt))
 
 below_each : (limit : ℕ) (xs : List ℕ) → ((k : ℕ) → get_or xs k 0 < limit) → Below limit xs
 below_each limit [] h = tt

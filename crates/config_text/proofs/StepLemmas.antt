@@ -1,13 +1,12 @@
 -- One part of an element.
-use Rattle.std.proofs.Common.{◌≡◌, ◌==◌, ℕ, ◌<◌, true, List, [], ◌∷◌, ◌++◌, length, Option, Some, None, Result, Ok, Err, is_ok, refl, sym, ap, ◌∙◌, append_assoc, arith, option_map}
-use Rattle.std.proofs.lemmas.Bool.{eqb-true}
+use Rattle.std.proofs.Common.{◌≡◌, ℕ, ◌<◌, List, [], ◌∷◌, ◌++◌, length, Option, Some, None, Result, Ok, Err, refl, sym, ap, ◌∙◌, append_assoc, arith, option_map}
 use Rattle.hii_bytes.specs.declared.cause.Cause.{Cause}
 use Rattle.hii_bytes.specs.declared.cause.Cause.TheVariants.{BadElement}
 use Rattle.config_text.specs.PartReading.{body_in, body_first}
 use Rattle.config_text.specs.Grammar.{Area}
 use Rattle.config_text.specs.Faults.{wants_offset, key_of}
 use Rattle.config_text.specs.Reading.{areas_in, then_areas, part_step, areas_before}
-use Rattle.config_text.specs.code.Elements.{areas_behind, are_elements}
+use Rattle.config_text.specs.code.Elements.{areas_behind}
 use Rattle.config_text.specs.declared.kind.TextKind.{TextKind}
 
 -- a body, and the parts behind it
@@ -46,10 +45,3 @@ Behind-more kind text rest behind area h e = record {
   areas = h.areas ++ area ∷ [];
   same = h.same ∙ ap (areas_before h.areas) e ∙ areas_before_more h.areas (area ∷ []) (areas_behind kind behind);
 }
-
-pub Behind-bad : (kind : TextKind) (text rest : List ℕ) (cause : Cause) → Behind kind text rest → areas_behind kind rest ≡ Err cause → areas_behind kind text ≡ Err cause
-Behind-bad kind text rest cause h e = h.same ∙ ap (areas_before h.areas) e
-
-pub Behind-end : (kind : TextKind) (text rest : List ℕ) → Behind kind text rest → (length rest == 0) ≡ true → are_elements kind text ≡ true
-Behind-end kind text [] h e = ap is_ok h.same
-Behind-end kind text (b ∷ rest) h e = let bad : length (b ∷ rest) ≡ 0 = eqb-true _ _ e in absurd (omega (arith, bad))

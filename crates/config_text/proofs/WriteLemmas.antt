@@ -1,21 +1,13 @@
 -- What is written, piece by piece.
-use Rattle.std.proofs.Common.{◌≡◌, ℕ, zero, suc, ◌+◌, ◌-◌, ◌<◌, ◌≤◌, List, [], ◌∷◌, ◌++◌, length, take, get_or, sym, ap, subst, ◌∙◌, arith, append_assoc, append-nil, ◌↔◌}
+use Rattle.std.proofs.Common.{◌≡◌, ℕ, zero, suc, ◌+◌, ◌-◌, ◌<◌, ◌≤◌, List, [], ◌∷◌, ◌++◌, length, take, get_or, sym, ap, subst, ◌∙◌, arith, append-nil}
 use Rattle.std.specs.List.{flat_map}
 use Rattle.std.proofs.lemmas.List.{take_more, take_all, reverse-append}
 use Rattle.std.proofs.lemmas.Grind.{flat_map-append}
 use Rattle.hii_bytes.specs.Texts.{hex_of}
 use Rattle.hii_bytes.specs.Watching.{Pen, Writes}
-use Rattle.hii_bytes.specs.code.Writing.{Stands}
-use Rattle.hii_bytes.proofs.WritingLemmas.{writes_trans, ◌⨾◌}
+use Rattle.hii_bytes.proofs.WritingLemmas.{◌⨾◌}
 use Rattle.config_text.specs.Grammar.{Named, Area}
 use Rattle.config_text.specs.Written.{value_digits, block_text, header_text, response_text, blocks_asked, AreInside}
-
-pub past_piece : (a b c : Pen) (text rest front more : List ℕ) → rest ≡ front ++ more → Stands a b text rest → Writes b c front → Stands a c text more
-past_piece a b c text rest front more e s w = record {
-  front = s.front ++ front;
-  parts = s.parts ∙ ap (λ (l : List ℕ). s.front ++ l) e ∙ sym (append_assoc s.front front more);
-  written = writes_trans s.written w;
-}
 
 -- one more of some numbers
 pub one_more : {a b c : Pen} (f : ℕ → List ℕ) (xs : List ℕ) (i : ℕ) → i < length xs → Writes a b (flat_map f (take i xs)) → Writes b c (f (get_or xs i 0))
@@ -63,8 +55,3 @@ asked_inside (area ∷ areas) size h = h
 -- blocks that lie in a store, one by one
 pub inside_some : (areas rest : List Area) (area : Area) (size : ℕ) → areas ≡ area ∷ rest → AreInside areas size → (area.offset + area.width ≤ size) × AreInside rest size
 inside_some areas rest area size e h = subst (λ all. AreInside all size) e h
-
-pub inside_more : (areas left rest : List Area) (area : Area) (size : ℕ) → left ≡ area ∷ rest → area.offset + area.width ≤ size
-    → AreInside areas size ↔ AreInside left size → AreInside areas size ↔ AreInside rest size
-inside_more areas left rest area size e less h =
-    (λ all. (subst (λ some. AreInside some size) e (h.0 all)).1, λ others. h.1 (subst (λ some. AreInside some size) (sym e) (less, others)))

@@ -1,4 +1,5 @@
-//! Configuration texts: requests and responses, read and written (UEFI 2.8, 34.2.1 String Grammar).
+//! Configuration texts: requests and responses, read and written (UEFI 2.8, 34.2.1 String Grammar; the limits, the faults and
+//! how a response is written where the grammar leaves a choice are own rules).
 #![tactic(auto)]
 
 mod block;

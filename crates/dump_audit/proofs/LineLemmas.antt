@@ -4,11 +4,11 @@ use Rattle.std.specs.Prelude.{codes, decimal}
 use Rattle.std.specs.List.{AllByRecursion, concat}
 use Rattle.std.proofs.lemmas.List.{append-nil, map-append}
 use Rattle.hii_bytes.specs.Watching.{Pen, Writes}
-use Rattle.hii_bytes.proofs.WritingLemmas.{writes_trans, writes_nil}
+use Rattle.hii_bytes.proofs.WritingLemmas.{writes_trans}
+use Rattle.hii_bytes.specs.Texts.{place_text}
 use Rattle.hii_dumps.specs.Dumps.{Entry, IsList, placed}
 use Rattle.dump_audit.specs.Lines.{Told, IsTold, line, lines, rest_line, title_text}
 use Rattle.hii_languages.specs.Languages.{Spoken}
-use Rattle.audit_text.specs.Texts.{place_text}
 
 all_more : (told : List Told) (t : Told) → AllByRecursion IsTold told → IsTold t → AllByRecursion IsTold (told ++ t ∷ [])
 all_more [] t each is = (is, tt)
@@ -28,9 +28,6 @@ pub record Goes (all left : List Entry) (number : ℕ) (old new : Pen) : Type 0 
   pub in_order : map (λ t. t.entry) told ++ left ≡ all
   pub next : number ≡ 1 + length told
   pub written : Writes old new (lines 1 told)
-
-pub goes_none : (all : List Entry) (pen : Pen) → Goes all all 1 pen pen
-goes_none all pen = record { told = []; each = tt; in_order = refl; next = refl; written = writes_nil pen }
 
 pub goes_more : {all left later : List Entry} {number : ℕ} {a b c : Pen} (t : Told) → Goes all left number a b → left ≡ t.entry ∷ later → IsTold t → Writes b c (line number t) → Goes all later (number + 1) a c
 goes_more {all} {left} {later} {number} {a} {b} {c} t g first is wrote =

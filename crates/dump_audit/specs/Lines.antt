@@ -1,13 +1,12 @@
 -- The lines of a dump (own rule).
 use Rattle.std.specs.Prelude.{◌≡◌, ℕ, suc, Option, None, Some, List, [], ◌∷◌, ◌++◌, length, map, codes, decimal, encode_utf8}
 use Rattle.std.specs.List.{AllByRecursion, concat, flat_map}
-use Rattle.hii_bytes.specs.Cause.{number_of, name_of}
-use Rattle.hii_bytes.specs.declared.cause.Fault.{Fault}
+use Rattle.hii_bytes.specs.Texts.{place_text, fault_text}
 use Rattle.hii_dumps.specs.Dumps.{Entry, SpellsDump, placed}
 use Rattle.hii_packages.specs.Packages.{entries, forms_in}
 use Rattle.hii_languages.specs.Languages.{Spoken, first_package}
 use Rattle.hii_languages.specs.Shown.{shown_text}
-use Rattle.audit_text.specs.Texts.{joined, place_text}
+use Rattle.audit_text.specs.Texts.{joined}
 use Rattle.dump_audit.specs.Contents.{form_sets, guid_word, first_title}
 use Rattle.dump_audit.specs.Findings.{Finding, Contents, Refused, IsFound}
 
@@ -34,12 +33,7 @@ contents_text packages spoken =
     ++ flat_map guid_word (form_sets packages) ++ codes " strings " ++ languages_text spoken
     ++ title_text spoken (first_title (form_sets packages))
 
--- by which cause a list is refused, and at which place, in bytes from its first one
-abbrev pub fault_text : Fault → List ℕ
-fault_text fault =
-    codes "REFUSED " ++ decimal (number_of fault.cause) ++ codes " " ++ name_of fault.cause
-    ++ codes " at " ++ place_text fault.place
-
+-- what the packages of a list are, or by which cause it is refused, and at which place, in bytes from its first one
 abbrev pub finding_text : Finding → List ℕ
 finding_text (Contents packages spoken) = contents_text packages spoken
 finding_text (Refused fault) = fault_text fault

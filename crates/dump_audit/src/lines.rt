@@ -6,14 +6,13 @@ ghost use Rattle.hii_bytes.specs.Watching.{Puts};
 ghost use Rattle.hii_dumps.specs.code.Lists.{entry_of};
 ghost use Rattle.hii_languages.specs.Languages.{Spoken};
 ghost use Rattle.dump_audit.specs.Findings.{Finding, IsFound};
-ghost use Rattle.dump_audit.specs.Lines.{contents_text, fault_text, head_text, line, rest_line, IsSplitText, BeginsSplitText};
+ghost use Rattle.dump_audit.specs.Lines.{contents_text, head_text, line, rest_line, IsSplitText, BeginsSplitText};
 ghost use Rattle.dump_audit.specs.code.Heard.{heard_of};
 
 use crate::contents::{forms_count, put_form_sets};
 use crate::findings::{Contents, find};
 use crate::strings::put_chars;
-use audit_text::put_hex_place;
-use hii_bytes::{Fault, Watched};
+use hii_bytes::Watched;
 use hii_dumps::{Dump, DumpedList};
 use std::alloc::{AllocError, Global};
 use std::io::Write;
@@ -34,18 +33,6 @@ fn put_contents<W: Write>(contents: &Contents<'_>, out: &mut Watched<W>)
     }
 }
 
-// Writes by which cause a list is refused, and where.
-fn put_fault<W: Write>(fault: Fault, out: &mut Watched<W>)
-    ensures { Puts W.contents out.old out.new (fault_text fault) }
-{
-    out.put(b"REFUSED ");
-    out.put_decimal(u64::from(fault.cause.number()));
-    out.put(b" ");
-    out.put(fault.cause.name().as_bytes());
-    out.put(b" at ");
-    put_hex_place(out, fault.place);
-}
-
 // Writes which list a line is of: its number, its place and its length.
 fn put_head<W: Write>(number: u64, list: DumpedList<'_>, out: &mut Watched<W>)
     ensures { Puts W.contents out.old out.new (head_text number (entry_of list.entry)) }
@@ -53,7 +40,7 @@ fn put_head<W: Write>(number: u64, list: DumpedList<'_>, out: &mut Watched<W>)
     out.put(b"LIST ");
     out.put_decimal(number);
     out.put(b" ");
-    put_hex_place(out, list.place);
+    out.put_place(list.place);
     out.put(b" ");
     out.put_decimal(list.bytes.len() as u64);
     out.put(b" ");
@@ -80,7 +67,7 @@ pub fn put_list<W: Write>(
     put_head(number, list, out);
     match found {
         Ok(contents) => put_contents(&contents, out),
-        Err(fault) => put_fault(fault, out),
+        Err(fault) => out.put_fault(fault),
     }
     out.put(b"\n");
     Ok(())
@@ -95,7 +82,7 @@ pub fn put_rest<W: Write>(dump: &Dump<'_>, out: &mut Watched<W>)
         return;
     }
     out.put(b"REST ");
-    put_hex_place(out, dump.rest_place());
+    out.put_place(dump.rest_place());
     out.put(b" ");
     out.put_decimal(dump.rest().len() as u64);
     out.put(b"\n");

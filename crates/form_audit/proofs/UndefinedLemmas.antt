@@ -2,8 +2,8 @@
 use Rattle.std.proofs.Common.{◌≡◌, ℕ, List, ◌∷◌, ◌++◌, sym, subst}
 use Rattle.std.specs.Prelude.{codes}
 use Rattle.hii_bytes.specs.Watching.{Pen, Writes}
+use Rattle.hii_bytes.specs.Texts.{place_text}
 use Rattle.ifr_opcodes.specs.Forest.{Placed}
-use Rattle.audit_text.specs.Texts.{place_text}
 use Rattle.form_audit.specs.QuestionLines.{places_behind, undefined_text}
 
 -- the text of a place

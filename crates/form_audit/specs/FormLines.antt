@@ -1,6 +1,7 @@
 -- The forms of a form set, each with its questions (own rule).
 use Rattle.std.specs.Prelude.{ℕ, Bool, true, false, Option, Some, None, List, [], ◌++◌, filter, codes, decimal}
 use Rattle.std.specs.List.{flat_map}
+use Rattle.hii_bytes.specs.Texts.{place_text}
 use Rattle.ifr_opcodes.specs.Fields.{form_id, form_title}
 use Rattle.ifr_opcodes.specs.Forest.{Placed}
 use Rattle.ifr_scopes.specs.Nodes.{is_form, is_question, statements}
@@ -9,7 +10,6 @@ use Rattle.hii_questions.specs.Fields.{asked}
 use Rattle.guard_policy.specs.Policy.{hidden}
 use Rattle.guard_policy.specs.declared.denial.Denial.{Denial}
 use Rattle.form_page.specs.Texts.{utf8}
-use Rattle.audit_text.specs.Texts.{place_text}
 use Rattle.form_audit.specs.Audited.{Audited}
 use Rattle.form_audit.specs.QuestionLines.{question_line}
 

@@ -1,7 +1,7 @@
 -- The line of a question (own rule).
 use Rattle.std.specs.Prelude.{ℕ, ◌==◌, Bool, true, false, bytes_eq, if◌then◌else◌, Option, Some, None, List, [], ◌∷◌, ◌++◌, filter, replicate, codes, decimal}
 use Rattle.std.specs.List.{find, flat_map}
-use Rattle.hii_bytes.specs.Texts.{right_aligned}
+use Rattle.hii_bytes.specs.Texts.{right_aligned, place_text}
 use Rattle.ifr_opcodes.specs.Fields.{has_flag, question_flags, question_id, ref_form_set, statement_prompt}
 use Rattle.ifr_opcodes.specs.Forest.{Placed}
 use Rattle.ifr_opcodes.specs.Opcode.{number}
@@ -11,15 +11,14 @@ use Rattle.ifr_expr.specs.Values.{Value, undefined}
 use Rattle.ifr_scopes.specs.Conditions.{expression_tree}
 use Rattle.ifr_scopes.specs.Guards.{guards}
 use Rattle.ifr_scopes.specs.Nodes.{is_store, this_of}
-use Rattle.ifr_scopes.specs.Stores.{store_id}
+use Rattle.ifr_scopes.specs.Stores.{store_id, store_name}
 use Rattle.hii_questions.specs.Denials.{kind_name}
 use Rattle.hii_questions.specs.Fields.{Asked, Field}
 use Rattle.guard_policy.specs.Policy.{fixed}
 use Rattle.guard_policy.specs.declared.denial.Denial.{Denial}
 use Rattle.form_page.specs.RowValues.{value_shown}
 use Rattle.form_page.specs.Texts.{utf8}
-use Rattle.audit_text.specs.Stores.{store_name}
-use Rattle.audit_text.specs.Texts.{ascii_name, guid_text, hex_text, left_aligned, place_text}
+use Rattle.audit_text.specs.Texts.{ascii_name, guid_text, hex_text, left_aligned}
 use Rattle.audit_text.specs.Words.{opcode_name}
 use Rattle.form_audit.specs.Audited.{Audited}
 use Rattle.form_audit.specs.ScriptValues.{behind, default_value, stored_value}

@@ -7,9 +7,10 @@ use Rattle.ifr_opcodes.specs.Fields.{display, numeric_width}
 use Rattle.ifr_opcodes.specs.Forest.{Placed}
 use Rattle.ifr_opcodes.specs.Opcode.{number}
 use Rattle.ifr_expr.specs.Values.{Value, boolean, natural, text, buffer}
-use Rattle.hii_varstore.specs.Stores.{StoreMap, with_bytes}
+use Rattle.hii_varstore.specs.Stores.{StoreMap}
 use Rattle.hii_questions.specs.Answers.{value_of_field}
-use Rattle.hii_questions.specs.Fields.{Asked, Field}
+use Rattle.hii_questions.specs.Changes.{with_field}
+use Rattle.hii_questions.specs.Fields.{Asked}
 use Rattle.hii_questions.specs.Fits.{fits_field}
 use Rattle.hii_questions.specs.Inputs.{Offer}
 use Rattle.hii_questions.specs.Items.{items_in}
@@ -61,11 +62,6 @@ script_value n value =
 -- the value of a question in some stores
 abbrev pub stored_value : StoreMap → Asked → Option (List ℕ)
 stored_value stores q = script_value q.node (value_of_field stores q.node q.field)
-
--- the stores with new bytes in a field
-abbrev pub with_field : StoreMap → Option Field → List ℕ → StoreMap
-with_field stores None bytes = stores
-with_field stores (Some field) bytes = with_bytes stores field.store field.offset bytes
 
 -- the value that a question has once it has taken what is offered; none where it does not take it
 abbrev pub value_with : StoreMap → Asked → Result (List ℕ) DenialKind → Option Value

@@ -1,4 +1,4 @@
--- How structs of the code are seen. No module outside of this folder cites one of it.
+-- How structs of the code are seen. No definition outside of this folder cites one of it; contracts of question_audit do.
 pub mod Pages
 pub mod Names
 pub mod Guards

@@ -1,10 +1,9 @@
 //! The fields of questions.
 
-ghost use Rattle.std.specs.Prelude.{◌≡◌, decimal, length, option_map};
+ghost use Rattle.std.specs.Prelude.{◌≡◌, ◌-◌, decimal, length, option_map};
 ghost use Rattle.hii_bytes.specs.Watching.{Puts};
 ghost use Rattle.ifr_scopes.specs.Nodes.{nodes_of};
 ghost use Rattle.hii_questions.specs.code.Ranges.{range_in};
-ghost use Rattle.audit_text.specs.Texts.{left_aligned};
 ghost use Rattle.form_audit.specs.QuestionLines.{field_columns, field_text};
 
 use crate::store_names::StoreNames;
@@ -31,10 +30,15 @@ fn put_number<W: Write>(number: usize, out: &mut Watched<W>) -> usize
     digits.len()
 }
 
-// Writes where a field lies, as NAME:0xOFFSET(WIDTH), in its column.
-fn put_field<W: Write>(names: &StoreNames<'_>, field: FieldRange, out: &mut Watched<W>)
-    ensures { Puts W.contents out.old out.new
-        (left_aligned 18 (field_text (nodes_of names.now) (range_in field))) }
+/// Writes where a field lies, as NAME:0xOFFSET(WIDTH), and tells how many bytes are left of a column of 18.
+pub fn put_field_text<W: Write>(
+    names: &StoreNames<'_>,
+    field: FieldRange,
+    out: &mut Watched<W>,
+) -> usize
+    ensures text { Puts W.contents out.old out.new
+        (field_text (nodes_of names.now) (range_in field)) }
+    ensures left { result ≡ 18 - length (field_text (nodes_of names.now) (range_in field)) }
 {
     let name = names.name(field.store);
     put_ascii_name(out, name);
@@ -44,7 +48,7 @@ fn put_field<W: Write>(names: &StoreNames<'_>, field: FieldRange, out: &mut Watc
     let width = put_number(field.width, out);
     out.put(b")");
     let behind_name = (COLUMN - MARKS).saturating_sub(name.len().max(1));
-    out.put_spaces(behind_name.saturating_sub(offset).saturating_sub(width));
+    behind_name.saturating_sub(offset).saturating_sub(width)
 }
 
 /// Writes where a field lies in its column, or a hyphen where there is none.
@@ -57,7 +61,10 @@ pub(crate) fn put_field_column<W: Write>(
         (field_columns (nodes_of names.now) (option_map range_in field)) }
 {
     match field {
-        Some(field) => put_field(names, field, out),
+        Some(field) => {
+            let left = put_field_text(names, field, out);
+            out.put_spaces(left);
+        }
         None => put_left(out, COLUMN, b"-"),
     }
 }

@@ -1,4 +1,4 @@
-//! Other form sets to which references lead.
+//! Words for the flags of a question, and for the other form set to which a reference leads.
 
 ghost use Rattle.std.specs.Prelude.{option_map};
 ghost use Rattle.hii_bytes.specs.Watching.{Puts};

@@ -14,6 +14,7 @@ mod undefined;
 mod verdicts;
 
 pub use defaults::{give_back, take_default};
+pub use fields::put_field_text;
 pub use questions::{put_form, put_questions};
 pub use reach::reached_forms;
 pub use script_values::put_script_value;

@@ -3,10 +3,10 @@
 ghost use Rattle.std.specs.Prelude.{◌≡◌, ℕ, Bool, Option, OnOk, IfErr};
 ghost use Rattle.hii_bytes.specs.Faults.{out_of_memory};
 ghost use Rattle.hii_bytes.specs.Watching.{Puts};
+ghost use Rattle.hii_bytes.specs.code.NumberSets.{has_number};
 ghost use Rattle.ifr_scopes.specs.Nodes.{nodes_of};
 ghost use Rattle.ifr_scopes.specs.code.Checked.{IsNodeOf};
 ghost use Rattle.ifr_scopes.specs.code.Lists.{form_node};
-ghost use Rattle.hii_bytes.specs.code.NumberSets.{has_number};
 ghost use Rattle.hii_questions.specs.Fields.{questions};
 ghost use Rattle.hii_questions.specs.code.LyingIn.{LieIn};
 ghost use Rattle.hii_varstore.specs.Stores.{shape_of};
@@ -21,7 +21,6 @@ ghost use Rattle.form_audit.specs.code.Pages.{audited};
 use crate::question_line::put_question;
 use crate::reach::reached_forms;
 use crate::store_names::StoreNames;
-use audit_text::put_hex_place;
 use form_page::{Page, put_shown};
 use guard_policy::{Conditions, Denial};
 use hii_bytes::{Fault, NumberSet, Watched};
@@ -40,7 +39,7 @@ fn put_reach<W: Write>(opens: Result<(), Denial>, is_reached: bool, out: &mut Wa
             out.put(b" (");
             out.put(denial.kind.name().as_bytes());
             out.put(b" at ");
-            put_hex_place(out, u64::from(denial.place));
+            out.put_place(u64::from(denial.place));
             out.put(b")");
         }
         Ok(()) if is_reached => {}

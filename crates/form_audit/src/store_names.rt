@@ -5,7 +5,6 @@ ghost use Rattle.ifr_scopes.specs.Nodes.{nodes_of};
 ghost use Rattle.ifr_scopes.specs.code.Lists.{store_node};
 ghost use Rattle.form_audit.specs.QuestionLines.{name_of, store_with};
 
-use audit_text::store_name;
 use ifr_scopes::{Forms, Varstore};
 use std::alloc::{AllocError, Global};
 use std::marker::Model;
@@ -62,7 +61,7 @@ impl<'a> StoreNames<'a> {
         ensures { result.now ≡ name_of (store_with (nodes_of self.now) id) }
     {
         match self.find(id) {
-            Some(store) => store_name(store),
+            Some(store) => store.name(),
             None => &[],
         }
     }

@@ -10,7 +10,6 @@ ghost use Rattle.form_audit.specs.QuestionLines.{is_undefined, is_undefined_guar
 ghost use Rattle.form_audit.specs.code.Guards.{undefined_left};
 ghost use Rattle.form_audit.specs.code.Pages.{audited};
 
-use audit_text::put_hex_place;
 use form_page::Page;
 use guard_policy::Conditions;
 use hii_bytes::Watched;
@@ -70,7 +69,7 @@ fn put_places<C: Conditions, W: Write>(guards: UndefinedGuards<'_, '_, C>, out: 
     let mut guards = guards;
     while let Some(guard) = guards.step() {
         out.put(b" ");
-        put_hex_place(out, u64::from(guard.place()));
+        out.put_place(u64::from(guard.place()));
     }
 }
 
@@ -90,7 +89,7 @@ pub(crate) fn put_undefined<'a, C: Conditions, W: Write>(
     };
     if let Some(guard) = guards.step() {
         out.put(b" undefined ");
-        put_hex_place(out, u64::from(guard.place()));
+        out.put_place(u64::from(guard.place()));
         put_places(guards, out);
     }
 }

@@ -6,7 +6,7 @@ ghost use Rattle.guard_policy.specs.code.Answers.{unless};
 ghost use Rattle.guard_policy.specs.declared.denial.Denial.{Denial as Denied};
 ghost use Rattle.form_audit.specs.QuestionLines.{verdict_columns};
 
-use audit_text::{put_hex_place, put_left};
+use audit_text::put_left;
 use guard_policy::Denial;
 use hii_bytes::Watched;
 use std::io::Write;
@@ -24,7 +24,7 @@ pub(crate) fn put_verdict<W: Write>(verdict: Result<(), Denial>, out: &mut Watch
         Err(denial) => {
             put_left(out, 10, denial.kind.name().as_bytes());
             out.put(b" ");
-            put_hex_place(out, u64::from(denial.place));
+            out.put_place(u64::from(denial.place));
         }
     }
 }

@@ -60,7 +60,3 @@ one_added old mid now line longer full text left front later e so_far more = rec
   parts = so_far.parts ∙ ap (λ (l : List ℕ). so_far.front ++ l) e ∙ sym (append_assoc so_far.front front later);
   added = so_far.added ▹ more;
 }
-
-pub all_added : (old now : Pen) (line full : Line) (text left : List ℕ) → left ≡ [] → AddsFront old now line full text left → Adds old line now full text
-all_added old now line full text left none so_far =
-    subst (Adds old line now full) (sym (so_far.parts ∙ ap (λ (l : List ℕ). so_far.front ++ l) none ∙ append-nil so_far.front)) so_far.added

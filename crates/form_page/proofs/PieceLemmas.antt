@@ -14,9 +14,6 @@ pub digits_alone : (front digits text units : List ℕ) → text ≡ [] → unit
 digits_alone front digits text units none_shown none =
     rw (none_shown, none) (append-nil (front ++ (digits ++ [])) ∙ ap (λ (d : List ℕ). front ++ d) (append-nil digits))
 
-pub units_alone : (front text units : List ℕ) → front ≡ [] → text ≡ [] → (front ++ (text ++ units)) ++ [] ≡ units
-units_alone front text units none none_shown = rw (none, none_shown) (append-nil units)
-
 pub next_element : (texts front text behind choice later : List ℕ) → texts ≡ [] → front ++ text ≡ 32 ∷ choice → behind ≡ (44 ∷ 32 ∷ choice) ++ later → texts ++ behind ≡ 44 ∷ (front ++ (text ++ later))
 next_element texts front text behind choice later none first its =
     ap (λ (t : List ℕ). t ++ behind) none ∙ its ∙ ap (λ (l : List ℕ). 44 ∷ (l ++ later)) (sym first) ∙ ap (λ (l : List ℕ). 44 ∷ l) (append_assoc front text later)

@@ -1,22 +1,12 @@
 -- Texts are written character by character.
-use Rattle.std.proofs.Common.{◌≡◌, ℕ, ◌-◌, ◌≤◌, leb, List, ◌∷◌, ◌++◌, append_assoc, sym, ap, ◌∙◌, arith}
+use Rattle.std.proofs.Common.{◌≡◌, ℕ, ◌-◌, ◌≤◌, leb, List, ◌∷◌, ap, ◌∙◌, arith}
 use Rattle.std.specs.Prelude.{encode_utf8}
 use Rattle.std.proofs.lemmas.Bool.{cond-true, le-leb}
-use Rattle.hii_bytes.specs.Watching.{Pen, Writes}
-use Rattle.hii_bytes.specs.code.Writing.{Stands}
-use Rattle.hii_bytes.proofs.WritingLemmas.{writes_trans}
+use Rattle.hii_bytes.specs.Watching.{Pen}
 use Rattle.form_page.specs.Texts.{columns, width, utf8, cut_to}
 use Rattle.form_page.specs.code.Lines.{Adds}
 use Rattle.form_page.specs.declared.line.Line.{Line}
 use Rattle.form_page.proofs.LineLemmas.{AddsFront, one_added}
-
--- past one more piece of a text
-pub past_piece : (a b c : Pen) (text rest front more : List ℕ) → rest ≡ front ++ more → Stands a b text rest → Writes b c front → Stands a c text more
-past_piece a b c text rest front more e s w = record {
-  front = s.front ++ front;
-  parts = s.parts ∙ ap (λ (l : List ℕ). s.front ++ l) e ∙ sym (append_assoc s.front front more);
-  written = writes_trans s.written w;
-}
 
 -- one more character is added
 pub char_added : (old mid now : Pen) (line longer full : Line) (text left later : List ℕ) (char : ℕ) → left ≡ char ∷ later → AddsFront old mid line longer text (utf8 left)

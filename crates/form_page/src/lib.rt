@@ -1,4 +1,5 @@
-//! The page of a form: its title and a row for each statement that is seen (UEFI 2.8, 33.2.5.2 Forms).
+//! The page of a form: its title and a row for each statement that is seen (UEFI 2.8, 33.2.5.2 Forms; how a row looks is an
+//! own rule).
 #![tactic(auto)]
 
 mod ascii_text;

@@ -1,7 +1,7 @@
 //! Bytes that are written together.
 
-ghost use Rattle.std.specs.Prelude.{◌≡◌, ◌≤◌, ◌<◌, ◌^◌, List, [], ◌∷◌, decimal, replicate, encode_utf8};
-ghost use Rattle.hii_bytes.specs.Watching.{pen_of, Puts, Writes};
+ghost use Rattle.std.specs.Prelude.{◌≡◌, ◌≤◌, ◌<◌, [], ◌∷◌, decimal, replicate, encode_utf8};
+ghost use Rattle.hii_bytes.specs.Watching.{pen_of, Puts};
 ghost use Rattle.hii_bytes.specs.Texts.{right_aligned};
 ghost use Rattle.form_page.specs.code.Lines.{Adds};
 

@@ -1,8 +1,7 @@
 //! Pages as bytes.
 
-ghost use Rattle.std.specs.Prelude.{◌≡◌};
 ghost use Rattle.std.specs.List.{flat_map};
-ghost use Rattle.hii_bytes.specs.Watching.{pen_of, Puts, Writes, Tells};
+ghost use Rattle.hii_bytes.specs.Watching.{pen_of, Puts, Tells};
 ghost use Rattle.ifr_scopes.specs.code.Lists.{form_node};
 ghost use Rattle.form_page.specs.code.PageViews.{texts_of, world_of};
 ghost use Rattle.form_page.specs.Pages as pages;

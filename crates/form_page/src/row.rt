@@ -1,7 +1,6 @@
 //! Rows of a page.
 
-ghost use Rattle.std.specs.Prelude.{◌≡◌};
-ghost use Rattle.hii_bytes.specs.Watching.{pen_of, Puts, Writes};
+ghost use Rattle.hii_bytes.specs.Watching.{pen_of, Puts};
 ghost use Rattle.form_page.specs.Texts.{utf8};
 ghost use Rattle.form_page.specs.Pages.{id_text, row_text};
 ghost use Rattle.form_page.specs.code.Lines.{Adds};

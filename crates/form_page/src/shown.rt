@@ -1,7 +1,7 @@
 //! Texts of the list as they are written.
 
 ghost use Rattle.std.specs.Prelude.{◌≡◌, ◌-◌, ◌≤◌};
-ghost use Rattle.hii_bytes.specs.Watching.{pen_of, Puts, Writes};
+ghost use Rattle.hii_bytes.specs.Watching.{pen_of, Puts};
 ghost use Rattle.hii_languages.specs.code.Views.{chars_left};
 ghost use Rattle.form_page.specs.code.Lines.{Adds};
 ghost use Rattle.form_page.specs.Texts.{columns, utf8, cut_to, width, in_columns};

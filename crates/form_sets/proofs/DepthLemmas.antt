@@ -25,8 +25,9 @@ use Rattle.ifr_scopes.proofs.OptionFacts.{between}
 use Rattle.ifr_scopes.proofs.RuleOrderLemmas.{descend_of}
 use Rattle.ifr_scopes.proofs.RulesOrderedLemmas.{are_ordered}
 use Rattle.ifr_scopes.proofs.ViewLemmas.{below_within, further}
+use Rattle.hii_questions.proofs.FieldLemmas.{passing}
 use Rattle.form_sets.specs.Naming.{is_rule_reference, is_nameable, named_rule, references_in, HasDepth, weight, weight_of_named}
-use Rattle.form_sets.proofs.FoundLemmas.{first_or_later, passing, given, gives, map_alike, last_is_there}
+use Rattle.form_sets.proofs.FoundLemmas.{first_or_later, given, gives, map_alike, last_is_there}
 use Rattle.form_sets.proofs.NameableLemmas.{named_by_place}
 use Rattle.form_sets.proofs.TreeLemmas.{reference_at, references_are, how_many}
 

@@ -25,27 +25,6 @@ pub first_or_later : {X : Type 0} (y : X) (xs : List X) (x : X) → Contains (y 
 first_or_later y xs x (zero, lt, e) = inl e
 first_or_later y xs x (suc k, lt, e) = inr (k, omega arith, e)
 
--- what passes a test
-pub passing : {X : Type 0} (p : X → Bool) (xs : List X) (x : X) → Contains (filter p xs) x → Contains xs x × (p x ≡ true)
-passing p [] x w = absurd (nothing x w)
-passing p (y ∷ xs) x w = elim (cases_Bool (p y)) [
-  | inl is ↦ elim (first_or_later y (filter p xs) x (rw is at w)) [
-    | inl e ↦ ((0, omega arith, e), ap p (sym e) ∙ is)
-    | inr later ↦ let its = passing p xs x later in (further y xs x its.0, its.1)
-  ]
-  | inr other ↦ let its = passing p xs x (rw other at w) in (further y xs x its.0, its.1)
-]
-
-pub passes : {X : Type 0} (p : X → Bool) (xs : List X) (x : X) → Contains xs x → p x ≡ true → Contains (filter p xs) x
-passes p [] x w h = w
-passes p (y ∷ xs) x w h = elim (first_or_later y xs x w) [
-  | inl e ↦ let is : p y ≡ true = ap p e ∙ h in rw is (0, omega arith, e)
-  | inr later ↦ elim (cases_Bool (p y)) [
-    | inl is ↦ rw is (further y (filter p xs) x (passes p xs x later h))
-    | inr other ↦ rw other (passes p xs x later h)
-  ]
-]
-
 pub any_passes : {X : Type 0} (p : X → Bool) (xs : List X) → list_any p xs ≡ true → (x : X) × Contains xs x × (p x ≡ true)
 any_passes p [] h = absurd (false≢true h)
 any_passes p (y ∷ xs) h = elim (or_cases (p y) (list_any p xs) h) [

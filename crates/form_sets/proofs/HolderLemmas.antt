@@ -15,11 +15,13 @@ use Rattle.ifr_scopes.proofs.BehindLemmas.{are_inside, below_or_behind}
 use Rattle.ifr_scopes.proofs.FormFacts.{IsBelowForm, behind_form, form_there}
 use Rattle.ifr_scopes.proofs.InsideLemmas.{inside_node}
 use Rattle.ifr_scopes.proofs.OptionFacts.{between}
+use Rattle.ifr_scopes.proofs.OptionsOfLemmas.{passes}
 use Rattle.ifr_scopes.proofs.RuleFacts.{one_place, rule_fact}
 use Rattle.ifr_scopes.proofs.ScopeLemmas.{path_inside}
 use Rattle.ifr_scopes.proofs.ViewLemmas.{below_within}
+use Rattle.hii_questions.proofs.FieldLemmas.{passing}
 use Rattle.form_sets.specs.Naming.{place_or_0, form_around, is_inside}
-use Rattle.form_sets.proofs.FoundLemmas.{nothing, passing, passes, any_passes, some_passes, last_is_there, some_last}
+use Rattle.form_sets.proofs.FoundLemmas.{nothing, any_passes, some_passes, last_is_there, some_last}
 
 -- ---- what is on a path
 

@@ -14,10 +14,12 @@ use Rattle.ifr_scopes.specs.Nodes.{nodes_of, is_form, is_question, is_reference}
 use Rattle.ifr_scopes.specs.References.{Ranked, ranked, has_form_id, has_question_id, has_reference_fault, is_lost, IsReferenceFault}
 use Rattle.ifr_scopes.specs.Rules.{is_rule, as_rule, rules_among, size, is_rule_too_large}
 use Rattle.ifr_scopes.specs.declared.rules.RuleSize.{RuleSize}
+use Rattle.ifr_scopes.proofs.OptionsOfLemmas.{passes}
+use Rattle.hii_questions.proofs.FieldLemmas.{passing}
 use Rattle.form_sets.specs.Ids.{AreReferred, form_ids, is_id, question_ids}
 use Rattle.form_sets.specs.Naming.{IsSmallRule, HasDepth, weight}
 use Rattle.form_sets.proofs.DepthLemmas.{IsRuleAt, whole, depth_before, weight_before, has_depth, depth_has, weight_is}
-use Rattle.form_sets.proofs.FoundLemmas.{alike, nothing, passing, passes}
+use Rattle.form_sets.proofs.FoundLemmas.{alike, nothing}
 use Rattle.form_sets.proofs.RankedLemmas.{IsPart, part_of, part_at, part_there, ranked_part, has_id, some_has, has_some, no_repeat, differ}
 
 -- ---- ids

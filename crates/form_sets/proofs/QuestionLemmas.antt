@@ -19,9 +19,10 @@ use Rattle.hii_questions.specs.Faults.{is_known, lacks_store, is_past, is_field_
 use Rattle.hii_questions.specs.Fields.{Field, Asked, asked, field_of, questions}
 use Rattle.hii_questions.specs.Types.{first_kind}
 use Rattle.hii_questions.proofs.LawLemmas.{option_sound}
+use Rattle.hii_questions.proofs.FieldLemmas.{passing}
 use Rattle.form_sets.specs.Ids.{store_ids}
 use Rattle.form_sets.specs.Questions.{IsGoodQuestion, AreGoodQuestions}
-use Rattle.form_sets.proofs.FoundLemmas.{nothing, first_or_later, passing, any_passes, some_passes, given, gives}
+use Rattle.form_sets.proofs.FoundLemmas.{nothing, first_or_later, any_passes, some_passes, given, gives}
 
 -- ---- a good question has no fault
 

@@ -8,8 +8,10 @@ use Rattle.std.proofs.lemmas.List.Elements.{Contains-append_right}
 use Rattle.ifr_opcodes.specs.Forest.{Placed}
 use Rattle.ifr_scopes.specs.References.{Ranked, ranked}
 use Rattle.ifr_scopes.proofs.NamedLemmas.{each}
+use Rattle.ifr_scopes.proofs.OptionsOfLemmas.{passes}
 use Rattle.ifr_scopes.proofs.ViewLemmas.{further}
-use Rattle.form_sets.proofs.FoundLemmas.{nothing, first_or_later, passes, passing, gives, given, any_passes, some_passes}
+use Rattle.hii_questions.proofs.FieldLemmas.{passing}
+use Rattle.form_sets.proofs.FoundLemmas.{nothing, first_or_later, gives, given, any_passes, some_passes}
 
 -- ---- nodes with those before them
 

@@ -1,5 +1,5 @@
 -- The options of a value are looked at one after the other.
-use Rattle.std.proofs.Common.{◌≡◌, true, false, Option, Some, None, List, [], ◌∷◌, refl, ap, ◌∙◌}
+use Rattle.std.proofs.Common.{◌≡◌, true, false, Option, Some, None, List, ◌∷◌, refl, ap, ◌∙◌}
 use Rattle.std.specs.Prelude.{is_none, if◌then◌else◌}
 use Rattle.std.specs.List.{list_any}
 use Rattle.std.specs.Option.{option_or}
@@ -36,7 +36,3 @@ open_one w (Some denial) o rest e = rw e refl
 pub fixed_one : (w : World) (first : Option Denial) (o : Placed) (rest : List Placed) (denial : Denial) → fixed w o ≡ Some denial → standing w first (o ∷ rest) ≡ standing w (option_or first (Some denial)) rest
 fixed_one w None o rest denial e = rw e refl
 fixed_one w (Some before) o rest denial e = rw e refl
-
-pub none_left : (w : World) (first : Option Denial) → standing w first [] ≡ first
-none_left w None = refl
-none_left w (Some denial) = refl

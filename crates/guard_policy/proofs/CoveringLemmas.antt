@@ -42,10 +42,6 @@ nothing_before (Some n) = refl
 pub all_come : (which : Placed → Bool) (left gs : List Placed) → left ≡ reverse gs → outermost which left None ≡ find which gs
 all_come which left gs e = nothing_before (find which (reverse left)) ∙ ap (find which) (ap reverse e ∙ reverse-reverse gs)
 
--- at last none
-pub none_come : (which : Placed → Bool) (left : List Placed) (found : Option Placed) → left ≡ [] → outermost which left found ≡ found
-none_come which left found e = ap (λ (l : List Placed). outermost which l found) e
-
 -- whether some guard does does not depend on their order
 pub any_turned : (which : Placed → Bool) (left gs : List Placed) → left ≡ reverse gs → list_any which left ≡ list_any which gs
 any_turned which left gs e = ap (list_any which) e ∙ sym (list_any-IsPermutation which gs (reverse gs) (IsPermutation-reverse gs))

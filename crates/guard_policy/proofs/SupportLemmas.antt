@@ -47,10 +47,6 @@ find_step p q x xs here behind = elim (cases_Bool (q x)) [
   | inr past ↦ cond-false (p x) (Some x) (find p xs) (here ∙ past) ∙ behind past ∙ sym (cond-false (q x) (Some x) (find q xs) past)
 ]
 
-find_same : (p q : Placed → Bool) (xs : List Placed) → AllByRecursion (λ x. p x ≡ q x) xs → find p xs ≡ find q xs
-find_same p q [] h = refl
-find_same p q (x ∷ xs) h = ap (λ (b : Bool). cond b (Some x) (find p xs)) h.0 ∙ ap (λ (o : Option Placed). cond (q x) (Some x) o) (find_same p q xs h.1)
-
 filter_same : (p q : Placed → Bool) (xs : List Placed) → AllByRecursion (λ x. p x ≡ q x) xs → filter p xs ≡ filter q xs
 filter_same p q [] h = refl
 filter_same p q (x ∷ xs) h = ap (λ (b : Bool). cond b (x ∷ filter p xs) (filter p xs)) h.0 ∙ ap (λ (l : List Placed). cond (q x) (x ∷ l) l) (filter_same p q xs h.1)

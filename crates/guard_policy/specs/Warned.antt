@@ -1,4 +1,4 @@
--- Of what is warned, as it is told.
+-- Of what is warned, as it is told (UEFI 2.8, 33.3.8.3, EFI_IFR_WARNING_IF).
 use Rattle.ifr_opcodes.specs.Forest.{Placed}
 use Rattle.ifr_scopes.specs.Conditions.{message}
 use Rattle.guard_policy.specs.declared.warnings.Warning.{Warning}

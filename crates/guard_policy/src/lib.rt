@@ -1,4 +1,5 @@
-//! What is seen, what may be changed and submitted, and which opcode forbids it (UEFI 2.8, 33.2.5.10 Forms Processing).
+//! What is seen, what may be changed and submitted, and which opcode forbids it (UEFI 2.8, 33.2.5.10 Forms Processing; which of
+//! several opcodes is named is an own rule).
 #![tactic(auto)]
 
 mod around;

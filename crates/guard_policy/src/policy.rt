@@ -1,6 +1,7 @@
 //! What a policy decides over.
 
 ghost use Rattle.std.specs.Prelude.{◌≡◌, if◌then◌else◌, Some, None, option_map};
+ghost use Rattle.hii_bytes.specs.Numbers.{AreBytes};
 ghost use Rattle.ifr_opcodes.specs.Operators.{is_among};
 ghost use Rattle.ifr_scopes.specs.Accepted.{IsAccepted};
 ghost use Rattle.ifr_scopes.specs.code.Checked.{IsAccepted-prop};
@@ -8,11 +9,11 @@ ghost use Rattle.ifr_scopes.specs.code.Checked.{IsNodeOf};
 ghost use Rattle.ifr_scopes.specs.code.Lists.{statement_node};
 ghost use Rattle.ifr_scopes.specs.Nodes.{nodes_of, is_question};
 ghost use Rattle.hii_questions.specs.Fields.{asked};
-ghost use Rattle.hii_questions.specs.laws.Fields.{AreBytes};
 ghost use Rattle.hii_questions.specs.code.Views.{question_view};
 ghost use Rattle.guard_policy.specs.code.Bytes.{AreBytes-prop};
 
 use crate::removed::Removed;
+use hii_bytes::laws::are_bytes;
 use hii_questions::{Question, Questions};
 use ifr_scopes::{Forms, Statement};
 
@@ -27,11 +28,6 @@ pub struct Policy<'a, 's> {
     pub ghost accepted: { IsAccepted forms.now } by { IsAccepted-prop forms.now },
     pub ghost small: { AreBytes forms.now } by { AreBytes-prop forms.now },
 }
-
-// No byte is above 255.
-fn are_bytes(bytes: &[u8])
-    ensures { AreBytes bytes.now }
-{}
 
 impl<'a, 's> Policy<'a, 's> {
     /// The policy of a form set from which this was removed.

@@ -6,3 +6,4 @@ pub mod SearchLemmas
 pub mod FaultLemmas
 pub mod WritingLemmas
 pub mod FirstFaultLemmas
+mod WorkedTexts

@@ -90,6 +90,14 @@ Stands-end a b c text rest p q = subst (Writes a c) (sym p.parts) (writes_trans 
 pub Stands-all : (a b : Pen) (text rest : List ℕ) → Stands a b text rest → rest ≡ [] → Writes a b text
 Stands-all a b text rest p none = subst (Writes a b) (sym (p.parts ∙ ap (λ l. p.front ++ l) none ∙ append-nil p.front)) p.written
 
+-- past one more piece of a text
+pub past_piece : (a b c : Pen) (text rest front more : List ℕ) → rest ≡ front ++ more → Stands a b text rest → Writes b c front → Stands a c text more
+past_piece a b c text rest front more e s w = record {
+  front = s.front ++ front;
+  parts = s.parts ∙ ap (λ (l : List ℕ). s.front ++ l) e ∙ sym (append_assoc s.front front more);
+  written = writes_trans s.written w;
+}
+
 -- one text, and then another
 infixl 10 ◌⨾◌
 pub ◌⨾◌ : {a b c : Pen} {s t : List ℕ} → Writes a b s → Writes b c t → Writes a c (s ++ t)

@@ -3,8 +3,9 @@
 ghost use Rattle.std.specs.Prelude.{◌≡◌, ◌≤◌, ◌<◌, ℕ, false, length, decimal, replicate, encode_utf8};
 ghost use Rattle.std.specs.Fmt.{digit_glyph};
 ghost use Rattle.hii_bytes.specs.Watching.{Puts, Writes};
-ghost use Rattle.hii_bytes.specs.Texts.{right_aligned, hex_of};
+ghost use Rattle.hii_bytes.specs.Texts.{right_aligned, hex_of, place_text, cause_text, fault_text};
 
+use crate::cause::{Cause, Fault};
 use crate::watched::Watched;
 use itoa::Buffer;
 use std::io::Write;
@@ -80,6 +81,35 @@ impl<W: Write> Watched<W> {
     {
         let mut bytes = [0u8; 4];
         self.put(c.encode_utf8(&mut bytes).as_bytes());
+    }
+
+    /// Writes the lowest 32 bits of a place in eight lower-case hex digits.
+    pub fn put_place(&mut self, place: u64)
+        ensures { Puts W.contents self.old self.new (place_text place) }
+    {
+        self.put_hex((place / 0x100_0000 % 256) as u8);
+        self.put_hex((place / 0x1_0000 % 256) as u8);
+        self.put_hex((place / 0x100 % 256) as u8);
+        self.put_hex((place % 256) as u8);
+    }
+
+    /// Writes by which cause something is refused.
+    pub fn put_cause(&mut self, cause: Cause)
+        ensures { Puts W.contents self.old self.new (cause_text cause) }
+    {
+        self.put(b"REFUSED ");
+        self.put_decimal(u64::from(cause.number()));
+        self.put(b" ");
+        self.put(cause.name().as_bytes());
+    }
+
+    /// Writes by which cause bytes are refused, and at which place, of which it tells the lowest 32 bits.
+    pub fn put_fault(&mut self, fault: Fault)
+        ensures { Puts W.contents self.old self.new (fault_text fault) }
+    {
+        self.put_cause(fault.cause);
+        self.put(b" at ");
+        self.put_place(fault.place);
     }
 }
 

@@ -1,12 +1,11 @@
 //! What a line asks for.
 
-ghost use Rattle.std.specs.Prelude.{◌≡◌, ◌↔◌, ◌⊎◌, ◌<◌, ◌≤◌, ◌^◌, ◌==◌, ℤ, pos, [], Some, None, Ok, Err, IsTrue, MatchResult, IfOk, IfSome, option_map};
+ghost use Rattle.std.specs.Prelude.{◌≡◌, ◌↔◌, ◌<◌, ◌==◌, [], Some, None, Ok, Err, IsTrue, MatchResult, IfOk, IfSome, option_map};
 ghost use Rattle.std.specs.List.{list_all};
 ghost use Rattle.std.specs.Str.{bytes_eq};
+ghost use Rattle.hii_bytes.specs.NumberList.{IsList, numbers_of};
 ghost use Rattle.hii_commands.specs.Line.{without_return};
 ghost use Rattle.hii_commands.specs.Orders as orders;
-ghost use Rattle.hii_bytes.specs.Digits.{number_below};
-ghost use Rattle.hii_bytes.specs.NumberList.{IsList, numbers_of};
 ghost use Rattle.hii_commands.specs.laws.Asking.{Means, IsRefused};
 ghost use Rattle.hii_commands.specs.Meaning.{HasList, order_of, cause_of};
 ghost use Rattle.hii_commands.specs.Reading.{order_in, reading_of, set_in, elements_in, text_in, list_in, is_one_word, why_in, go_in, press_in, defaults_in, numbered_in, worded_in, word_order, lang_in, plain_in, value_in, question_in, default_class_in, row_number_in, cut_word};

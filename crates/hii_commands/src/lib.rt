@@ -1,4 +1,4 @@
-//! The lines of a script and the commands that they are.
+//! The lines of a script and the commands that they are (own rule).
 #![tactic(auto)]
 
 mod command;

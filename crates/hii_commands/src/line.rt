@@ -27,7 +27,7 @@ pub struct LineBuffer {
 }
 
 impl Model for LineBuffer {
-    ghost use Rattle.std.specs.Prelude.{◌≡◌, ◌≤◌, vec_len, vec_capacity, true};
+    ghost use Rattle.std.specs.Prelude.{◌≤◌, vec_len, vec_capacity};
     ghost use Rattle.hii_commands.specs.declared.limits.TheConstants.{LINE_LIMIT};
     ghost use Rattle.hii_commands.specs.code.Held.{Held};
 

@@ -1,2 +1,2 @@
--- How structs and iterators of the code are seen. No module outside of this folder cites one of it.
+-- How structs and iterators of the code are seen. No definition outside of this folder cites one of it; contracts of dump_audit do.
 pub mod Lists

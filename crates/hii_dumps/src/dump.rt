@@ -17,7 +17,7 @@ pub struct Dump<'a> {
 }
 
 impl<'a> Model for Dump<'a> {
-    ghost use Rattle.std.specs.Prelude.{◌+◌, ◌<◌, ◌^◌, length};
+    ghost use Rattle.std.specs.Prelude.{◌<◌, ◌^◌, length};
     ghost use Rattle.hii_dumps.specs.Dumps.{Parts};
     ghost use Rattle.hii_dumps.specs.code.Lists.{AreLists, lists_of};
 

@@ -1,6 +1,6 @@
 -- What string packages say, and their faults.
-use Rattle.std.proofs.Common.{◌≡◌, ℕ, ◌==◌, Bool, true, false, List, [], ◌∷◌, ◌++◌, filter, length, take, nat_lt, Option, Some, None, inl, inr, arith, refl, ap, sym, ◌∙◌, subst, append_assoc}
-use Rattle.std.proofs.lemmas.List.{append-nil, take_all}
+use Rattle.std.proofs.Common.{◌≡◌, ℕ, ◌==◌, Bool, true, List, [], ◌∷◌, ◌++◌, filter, length, take, nat_lt, Option, Some, None, inl, inr, arith, refl, ap, sym, ◌∙◌, subst, append_assoc}
+use Rattle.std.proofs.lemmas.List.{take_all}
 use Rattle.std.proofs.lemmas.Bool.{cases_Bool, cond-true, cond-false}
 use Rattle.std.proofs.lemmas.Bool.Decides.{nat_tests}
 use Rattle.std.specs.List.{position, position_or_len, before_first}
@@ -55,21 +55,12 @@ pub record IsRead (all : List Entry) (spoken : List Spoken) (left : List Entry) 
   pub parts : filter is_strings all ≡ done ++ filter is_strings left
   pub spoken_by : AreSpoken done spoken
 
-pub read_none : (all : List Entry) → IsRead all [] all
-read_none all = record { done = []; parts = refl; spoken_by = tt }
-
 pub read_more : (all : List Entry) (spoken : List Spoken) (e : Entry) (left : List Entry) (s : Spoken) → IsRead all spoken (e ∷ left) → is_strings e ≡ true → Speaks e.bytes s → IsRead all (spoken ++ s ∷ []) left
 read_more all spoken e left s r strings speaks = record {
   done = r.done ++ e ∷ [];
   parts = r.parts ∙ ap (λ es. r.done ++ es) (rw strings refl) ∙ sym (append_assoc r.done (e ∷ []) (filter is_strings left));
   spoken_by = spoken_push r.done spoken e s r.spoken_by speaks;
 }
-
-pub read_other : (all : List Entry) (spoken : List Spoken) (e : Entry) (left : List Entry) → IsRead all spoken (e ∷ left) → is_strings e ≡ false → IsRead all spoken left
-read_other all spoken e left r other = record { done = r.done; parts = r.parts ∙ ap (λ es. r.done ++ es) (rw other refl); spoken_by = r.spoken_by }
-
-pub read_all : (all : List Entry) (spoken : List Spoken) → IsRead all spoken [] → AreSpoken (filter is_strings all) spoken
-read_all all spoken r = subst (λ es. AreSpoken es spoken) (sym (r.parts ∙ append-nil r.done)) r.spoken_by
 
 pub read_fault : (all : List Entry) (spoken : List Spoken) (e : Entry) (left : List Entry) (fault : Fault) → IsRead all spoken (e ∷ left) → is_strings e ≡ true →
     IsLeast (IsStringFaultIn e.bytes e.place) fault → IsLeast (IsStringsFault (filter is_strings all)) fault

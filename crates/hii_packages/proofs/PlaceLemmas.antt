@@ -139,16 +139,6 @@ fault_from list NoEnd place f = inr (inr (begins_from list place f.1))
 fault_from list AfterEnd place (_, end, begins, kind, size, at, last) = inr (inr (omega (arith, at, begins_from list end begins)))
 fault_from list _ place f = absurd f
 
--- a list of fewer than 20 bytes is short before all else
-pub least_short : (list : List ℕ) → length list < 20 → IsLeast (IsListFault list) (record { cause = ListShort; place = 0 })
-least_short list short = record {
-  told = (refl, short);
-  least = λ cause place other. elim (fault_from list cause place other) [
-    | inl x ↦ inr (sym x.1, omega (arith, ap number_of x.0))
-    | inr r ↦ elim r [ inl x ↦ inl (omega (arith, x.1)) | inr behind ↦ inl (omega (arith, behind)) ]
-  ];
-}
-
 -- a wrong length of the list comes before what stands in it
 pub least_length : (list : List ℕ) → 20 ≤ length list → (list_length list < 20) ⊎ (length list < list_length list) → IsLeast (IsListFault list) (record { cause = ListLength; place = 16 })
 least_length list header wrong = record {

@@ -1,4 +1,4 @@
-//! Lists of HII packages (UEFI 2.8, 33.3.1 Package Lists and Package Headers).
+//! Lists of HII packages (UEFI 2.8, 33.3.1 Package Lists and Package Headers; what is refused, and as what, is an own rule).
 #![tactic(auto)]
 
 pub mod laws;

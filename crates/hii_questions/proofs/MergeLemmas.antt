@@ -90,9 +90,6 @@ enough (suc n) (suc m) a b ss ts long long' = elim (cases_next (next_from ss ts)
 abbrev all_of : ℕ → List Step → ℕ → List Step → List Step
 all_of a ss b ts = at_most (length ss + length ts) a ss b ts
 
-pub none_left : (a b : ℕ) (ss ts : List Step) → next_from ss ts ≡ None → all_of a ss b ts ≡ []
-none_left a b ss ts e = over (length ss + length ts) a b ss ts e
-
 pub one_passed : (a b : ℕ) (ss ts : List Step) (from : ℕ) → next_from ss ts ≡ Some from
     → all_of a ss b ts ≡ step_of from a ss b ts ∷ all_of (passed from a ss) (behind from ss) (passed from b ts) (behind from ts)
 one_passed a b ss ts from e =

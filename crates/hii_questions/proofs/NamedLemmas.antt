@@ -8,6 +8,7 @@ use Rattle.byteorder.specs.Endian.{little_number, little_bytes}
 use Rattle.hii_bytes.specs.Faults.{HasNone}
 use Rattle.hii_bytes.specs.declared.cause.Cause.TheVariants.{MixedOptions}
 use Rattle.hii_bytes.proofs.NumberLemmas.{number_in-lt}
+use Rattle.hii_bytes.specs.Numbers.{AreBytes}
 use Rattle.ifr_opcodes.specs.Fields.{kind_width, option_kind}
 use Rattle.ifr_opcodes.specs.Forest.{Placed, SpellsForest, flat, node, none, below}
 use Rattle.ifr_opcodes.specs.Opcode.{number}
@@ -31,7 +32,7 @@ use Rattle.hii_questions.specs.Items.{items_in, spelled, filled}
 use Rattle.hii_questions.specs.Types.{element_width, first_kind, width_of_kind, type_of, option_values}
 use Rattle.hii_questions.specs.code.Checks.{ValuesFit}
 use Rattle.hii_questions.specs.code.Fitting.{one_item, offered_items, names_options, denial_behind}
-use Rattle.hii_questions.specs.laws.Fields.{AreBytes, named_values, NamesWhatWasOffered}
+use Rattle.hii_questions.specs.laws.Fields.{named_values, NamesWhatWasOffered}
 use Rattle.hii_questions.specs.declared.denial.DenialKind.TheVariants.{NoOption, Repeat}
 use Rattle.hii_questions.proofs.KeptLemmas.{IsSound, number_back, chosen_are, list_are, wide}
 use Rattle.hii_questions.proofs.ListLemmas.{first_denied}

@@ -112,9 +112,6 @@ least_of ss none from end i less rise point =
       ];
     }
 
-pub no_bytes : (ss : List Step) (none from end : ℕ) → end ≤ from → IsLeastWithin ss none from end none
-no_bytes ss none from end empty = record { least = λ at later before. absurd (omega (arith, empty, later, before)); told = inl refl }
-
 -- ---- fields and numbers of bytes
 
 numbered : (f g : FieldRange) (at : ℕ) → f.offset < 65536 → g.offset < 65536 → first_of f ≤ at → at < behind_of f → has_number (Some g) at ≡ true → meets (range_in f) (range_in g) ≡ true
@@ -192,10 +189,6 @@ first_split none k (x ∷ xs) ys at long = elim (cases_Bool (has_number (entry_f
       let same : first_from none (k + 1 + length xs) ys at ≡ first_from none (k + suc (length xs)) ys at = ap (λ (j : ℕ). first_from none j ys at) (omega arith) in
       rw other (first_split none (k + 1) xs ys at (omega (arith, long)) ∙ ap (λ (v : ℕ). min (first_from none (k + 1) xs at) v) same)
 ]
-
-pub small_split : (xs ys : List QuestionEntry) → AreSmall xs → AreSmall ys → AreSmall (xs ++ ys)
-small_split [] ys left right = right
-small_split (x ∷ xs) ys left right = (left.0, small_split xs ys left.1 right)
 
 -- the number of the first question that meets a field is the least that is told of its bytes
 abbrev pub IsFirst : ℕ → FieldRange → ℕ → List QuestionEntry → ℕ → Type 0

@@ -1,6 +1,6 @@
 //! What is offered to a question as its value.
 
-ghost use Rattle.std.specs.Prelude.{◌≡◌, ◌≤◌, length};
+ghost use Rattle.std.specs.Prelude.{◌≡◌};
 ghost use Rattle.hii_questions.specs.Inputs.{read_as};
 ghost use Rattle.hii_questions.specs.code.Offers.{offer_of, HasField, HasList};
 ghost use Rattle.hii_questions.specs.code.TypeViews.{type_in};

@@ -1,4 +1,5 @@
-//! The questions of a form set, and the values that they have in its stores (UEFI 2.8, 33.2.5.4 Questions).
+//! The questions of a form set, and the values that they have in its stores (UEFI 2.8, 33.2.5.4 Questions and 33.2.5.6 Storage;
+//! which values a question takes, and what is refused, are own rules).
 #![tactic(auto)]
 
 mod by_field;

@@ -1,6 +1,6 @@
 //! Two lists of steps as one.
 
-ghost use Rattle.std.specs.Prelude.{◌≡◌, ℕ, IfOk, length, min};
+ghost use Rattle.std.specs.Prelude.{◌≡◌, ℕ, IfOk, min};
 ghost use Rattle.hii_questions.specs.code.Steps.{StepsRise, value_at};
 
 use std::alloc::{AllocError, Global};

@@ -1,6 +1,6 @@
 //! Which of some fields is the first that has a byte, for all bytes of the stores.
 
-ghost use Rattle.std.specs.Prelude.{◌≡◌, ◌⊎◌, ◌+◌, ◌≤◌, ◌<◌, ℕ, IfOk, length, option_map};
+ghost use Rattle.std.specs.Prelude.{◌≡◌, ◌+◌, ◌≤◌, ◌<◌, ℕ, IfOk, length, option_map};
 ghost use Rattle.std.specs.List.{find};
 ghost use Rattle.hii_questions.specs.Fields.{field_passes, meets};
 ghost use Rattle.hii_questions.specs.code.Entries.{entry_field};

@@ -3,7 +3,7 @@
 ghost use Rattle.std.specs.Prelude.{◌≡◌, ◌⊎◌, ◌+◌, ◌^◌, ◌<◌, ◌≤◌, [], ◌∷◌, ◌++◌, IfOk, IfErr, OnOk, length, drop};
 ghost use Rattle.std.specs.Int.{to_le_bytes, w16};
 ghost use Rattle.hii_bytes.specs.Faults.{out_of_memory};
-ghost use Rattle.hii_bytes.specs.Watching.{Puts, Writes};
+ghost use Rattle.hii_bytes.specs.Watching.{Puts};
 ghost use Rattle.hii_varstore.specs.code.Table.{AreStores};
 ghost use Rattle.hii_varstore.specs.Image.{store_image, stores_image};
 ghost use Rattle.hii_varstore.specs.Faults.{Told, Any, IsPartFault, IsOlder, head_parts, store_parts, stores_parts};

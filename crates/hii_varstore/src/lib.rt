@@ -1,4 +1,5 @@
-//! The buffer stores of a form set, their bytes, and the image in which they are kept.
+//! The buffer stores of a form set, their bytes, and the image in which they are kept (UEFI 2.8, 33.2.5.6 Storage, and 33.3.8.3,
+//! EFI_IFR_VARSTORE and EFI_IFR_VARSTORE_EFI; the image is an own rule).
 #![tactic(auto)]
 
 mod buffer;

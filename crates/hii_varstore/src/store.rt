@@ -18,7 +18,7 @@ pub(crate) struct Store {
 }
 
 impl Model for Store {
-    ghost use Rattle.std.specs.Prelude.{ℕ, ◌<◌, ◌^◌, length};
+    ghost use Rattle.std.specs.Prelude.{◌<◌, ◌^◌, length};
     ghost use Rattle.hii_varstore.specs.Stores.{Store as TheStore};
 
     ghost Value = { TheStore };

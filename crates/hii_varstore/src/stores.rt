@@ -2,7 +2,7 @@
 
 ghost use Rattle.std.specs.Prelude.{◌≡◌, ℕ, IfOk, IfErr, IsSomeAnd, List, MatchOption, length, map, not, option_copied, Some};
 ghost use Rattle.hii_bytes.specs.Faults.{Refuses, out_of_memory};
-ghost use Rattle.hii_bytes.specs.Watching.{pen_of, Puts, Writes, Tells};
+ghost use Rattle.hii_bytes.specs.Watching.{pen_of, Puts, Tells};
 ghost use Rattle.hii_varstore.specs.Stores.{StoreMap, are_same_bytes, buffer_of, shape_of, bytes_of, bytes_of_field, with_bytes, zeros_in, zeros_of};
 ghost use Rattle.hii_varstore.specs.code.Ranges.{IsCut};
 ghost use Rattle.hii_varstore.specs.code.Ranges.{HasRange};

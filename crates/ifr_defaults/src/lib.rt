@@ -1,4 +1,4 @@
-//! The defaults of questions (UEFI 2.8, 33.2.5.8 Defaults).
+//! The defaults of questions (UEFI 2.8, 33.2.5.8 Defaults; which of several counts is an own rule).
 #![tactic(auto)]
 
 mod classes;

@@ -1,24 +1,17 @@
 -- The bytes of an expression's node, and its opcodes.
-use Rattle.std.proofs.Common.{◌≡◌, ℕ, zero, suc, Bool, true, false, Some, List, [], ◌∷◌, ◌++◌, length, take, drop, refl, sym, ap, subst, ◌∙◌, arith, inl, inr}
-use Rattle.std.specs.Prelude.{◌==◌, ◌&&◌, not}
+use Rattle.std.proofs.Common.{◌≡◌, ℕ, true, false, List, [], ◌∷◌, ◌++◌, length, take, drop, refl, sym, ap, subst, ◌∙◌, inl, inr}
 use Rattle.std.specs.List.{concat}
 use Rattle.std.proofs.lemmas.List.{append-nil, take_at, drop_at}
-use Rattle.std.proofs.lemmas.Bool.{cases_Bool, false≢true, eq-eqb}
-use Rattle.hii_bytes.specs.Faults.{HasNone}
-use Rattle.hii_bytes.specs.declared.cause.Cause.{Cause}
-use Rattle.hii_bytes.specs.declared.cause.Cause.TheVariants.{OpOutside, OpSize, Misplaced, ScopeBit}
+use Rattle.std.proofs.lemmas.Bool.{cases_Bool}
 use Rattle.ifr_opcodes.specs.Opcode.{number, has_scope, stated_length, end}
-use Rattle.ifr_opcodes.specs.Operators.{is_operator, operands}
-use Rattle.ifr_opcodes.specs.Fields.{is_short}
-use Rattle.ifr_opcodes.specs.Forest.{Forest, none, node, opcodes, flat, AreNodes, Mark}
+use Rattle.ifr_opcodes.specs.Operators.{is_operator}
+use Rattle.ifr_opcodes.specs.Forest.{Forest, none, node, opcodes, flat, AreNodes}
 use Rattle.ifr_opcodes.specs.Reading.{opcodes_in, levels}
 use Rattle.ifr_opcodes.specs.code.Marks.{inside}
 use Rattle.ifr_opcodes.proofs.OpcodeLemmas.{AllWhole, stated_at}
-use Rattle.ifr_opcodes.proofs.RowLemmas.{operator_inside}
 use Rattle.ifr_opcodes.proofs.ForestLemmas.{opcodes_scoped, opcodes_plain, all_whole, opcodes_in_spelled, children_again}
-use Rattle.ifr_expr.specs.Faults.{has_opcode_fault, IsOpcodeFault}
 use Rattle.ifr_expr.specs.code.Bytes.{front, children, IsExpressionNode, opcodes_of}
-use Rattle.ifr_expr.specs.Trees.{leaf, Means, expression}
+use Rattle.ifr_expr.specs.Trees.{expression}
 
 behind_whole : (op : List ℕ) (ops : List (List ℕ)) → AllWhole (op ∷ ops) → AllWhole ops
 behind_whole op ops h = h.1
@@ -77,28 +70,3 @@ pub opcodes_are : (at : ℕ) (bytes op : List ℕ) (inner : Forest) → AreNodes
 opcodes_are at bytes op inner h e =
     let parts = node_of_bytes bytes op inner h e in
     carried (λ (x : List ℕ) (c : Forest). expression at x c ≡ expression at op inner) (front bytes) op (children bytes) inner parts.0 parts.1 refl
-
--- ---- an operator without operands that stands alone
-
-pub lone : (at : ℕ) (op : List ℕ) → operands (number op) ≡ Some 0 → Means (expression at op none) (leaf (record { place = at; op = op }))
-lone at op h = record { spelled = refl; fitting = h }
-
-not_true : (b : Bool) → b ≡ true → not b ≡ false
-not_true true e = refl
-not_true false e = absurd (false≢true e)
-
-and_not : (a b : Bool) → b ≡ true → (a && not b) ≡ false
-and_not true true e = refl
-and_not false true e = refl
-and_not a false e = absurd (false≢true e)
-
-clear_alone : (at : ℕ) (op : List ℕ) (cause : Cause) → is_operator (number op) ≡ true → is_short op ≡ false → has_opcode_fault at (record { place = at; op = op }) cause ≡ false
-clear_alone at op OpOutside known sized = operator_inside op known
-clear_alone at op OpSize known sized = sized
-clear_alone at op Misplaced known sized = not_true (is_operator (number op)) known
-clear_alone at op ScopeBit known sized = and_not (has_scope op) (at == at) (eq-eqb at at refl)
-clear_alone at op _ known sized = refl
-
-pub no_fault_alone : (at : ℕ) (op : List ℕ) → is_operator (number op) ≡ true → is_short op ≡ false → HasNone (IsOpcodeFault at (expression at op none))
-no_fault_alone at op known sized cause place (m, (zero, lt, same), here, there) = false≢true (sym (clear_alone at op cause known sized) ∙ ap (λ (x : Mark). has_opcode_fault at x cause) same ∙ there)
-no_fault_alone at op known sized cause place (m, (suc k, lt, same), here, there) = omega arith

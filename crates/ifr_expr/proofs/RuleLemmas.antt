@@ -1,5 +1,5 @@
 -- The value of the rule that a reference names.
-use Rattle.std.proofs.Common.{◌≡◌, ℕ, ◌+◌, ◌≤◌, ◌<◌, length, Bool, true, false, Option, Some, None, List, [], ◌∷◌, ◌++◌, refl, sym, ap, subst, ◌∙◌, arith, inl, inr}
+use Rattle.std.proofs.Common.{◌≡◌, ℕ, ◌+◌, ◌≤◌, ◌<◌, Bool, true, false, Option, Some, None, List, [], ◌∷◌, ◌++◌, refl, sym, ap, subst, ◌∙◌, arith, inl, inr}
 use Rattle.std.specs.List.{AllByRecursion}
 use Rattle.std.specs.Prelude.{◌==◌, nat_lt, ◌&&◌, option_map}
 use Rattle.std.proofs.lemmas.Bool.{cases_Bool, cond-true, cond-false, lt-leb}
@@ -7,8 +7,6 @@ use Rattle.ifr_opcodes.specs.declared.codes.TheConstants.{RULE_REF}
 use Rattle.ifr_opcodes.specs.Opcode.{number}
 use Rattle.ifr_opcodes.specs.Fields.{rule_ref_rule}
 use Rattle.ifr_opcodes.specs.Forest.{Mark}
-use Rattle.ifr_expr.specs.code.Checked.{IsChecked, marks, tree}
-use Rattle.ifr_expr.proofs.ValueLemmas.{all_inside}
 use Rattle.ifr_expr.specs.Meaning.{leaf_value, value_over, Rule, names, rule_values, value}
 use Rattle.ifr_expr.specs.code.Rules.{named, AreOrdered}
 use Rattle.ifr_expr.specs.Trees.{Tree, leaf, one, two, post}
@@ -130,8 +128,3 @@ rule_missing rules answers id place e = go (named rules id place) refl e
 pub reference_value : (rules : ℕ → ℕ → Value) (answers : ℕ → Value) (this : ℕ) (op : Mark) → number op.op ≡ RULE_REF → leaf_value rules answers this op ≡ rules (rule_ref_rule op.op) op.place
 unfolding leaf_value
 reference_value rules answers this op e = rw e refl
-
--- ---- an expression that was checked
-
-pub before_end : (at : ℕ) (bytes : List ℕ) → IsChecked at bytes → Below (at + length bytes) (post (tree at bytes))
-before_end at bytes c = subst (Below (at + length bytes)) (sym c.means.spelled) (all_inside at bytes c.opcodes)

@@ -1,4 +1,4 @@
--- Bytes read as the opcodes of an expression, and opcodes made into a tree.
+-- Bytes read as the opcodes of an expression, and opcodes made into a tree (own rule).
 use Rattle.std.specs.Prelude.{ℕ, zero, suc, Option, Some, List, [], ◌∷◌}
 use Rattle.ifr_opcodes.specs.Forest.{Forest, none, node, Mark}
 use Rattle.ifr_expr.specs.Trees.{Tree, leaf, one, two, takes, expression}

@@ -1,4 +1,4 @@
--- The questions that the opcodes of an expression name.
+-- The questions that the opcodes of an expression name (UEFI 2.8, 33.3.8.3 Opcode Reference, under the name of each).
 use Rattle.std.specs.Prelude.{ℕ, ◌==◌, if◌then◌else◌, List, [], ◌∷◌, ◌++◌}
 use Rattle.ifr_opcodes.specs.declared.codes.TheConstants.{EQ_ID_VAL, EQ_ID_ID, EQ_ID_VAL_LIST, QUESTION_REF1}
 use Rattle.ifr_opcodes.specs.Opcode.{number}

@@ -1,5 +1,5 @@
 //! Expressions of a forms package: their trees, and their values over the answers of questions (UEFI 2.8, 33.2.5.7
-//! Expressions).
+//! Expressions; what is refused, and how rules are found, are own rules).
 #![tactic(auto)]
 
 mod counting;

@@ -14,7 +14,7 @@ pub struct Operators<'a> {
 }
 
 impl<'a> Operators<'a> {
-    ghost use Rattle.std.specs.Prelude.{◌≡◌, true, IfNone, IfSome, [], ◌∷◌};
+    ghost use Rattle.std.specs.Prelude.{◌≡◌, true, IfSome, []};
     ghost use Rattle.ifr_opcodes.specs.code.Ops.{op_of};
     ghost use Rattle.ifr_opcodes.specs.code.Views.{operator};
     ghost use Rattle.std.specs.Iterator.{YieldsFirstBy};

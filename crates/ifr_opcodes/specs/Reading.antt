@@ -1,4 +1,4 @@
--- Bytes cut into opcodes, and opcodes made into a forest again.
+-- Bytes cut into opcodes, and opcodes made into a forest again (UEFI 2.8, 33.3.8 Forms Package).
 use Rattle.std.specs.Prelude.{ℕ, zero, suc, ◌==◌, if◌then◌else◌, List, [], ◌∷◌, length, take, drop}
 use Rattle.ifr_opcodes.specs.Opcode.{stated_length, has_scope, is_end}
 use Rattle.ifr_opcodes.specs.Forest.{Forest, none, node}

@@ -5,7 +5,7 @@ ghost use Rattle.ifr_opcodes.specs.declared.codes.TheConstants.{DEFAULT};
 ghost use Rattle.ifr_opcodes.specs.declared.kinds.TheConstants.{TYPE_REF};
 ghost use Rattle.ifr_opcodes.specs.Kinds.{kind_width as width_of_kind};
 ghost use Rattle.ifr_opcodes.specs.Fields.{default_kind};
-ghost use Rattle.ifr_opcodes.specs.code.Ops.{bytes_of, op_of};
+ghost use Rattle.ifr_opcodes.specs.code.Ops.{bytes_of};
 
 use crate::codes::DEFAULT;
 use crate::kinds::{TYPE_BUFFER, kind_width};

@@ -34,12 +34,11 @@ pub enum ExprOp<'a> {
 }
 
 impl<'a> ExprOp<'a> {
-    ghost use Rattle.std.specs.Prelude.{Some};
     ghost use Rattle.ifr_opcodes.specs.Opcode.{number};
     ghost use Rattle.ifr_opcodes.specs.Operators.{is_operator, operands};
     ghost use Rattle.ifr_opcodes.specs.Fields.{least_length};
     ghost use Rattle.ifr_opcodes.specs.code.Ops.{op_of};
-    ghost use Rattle.ifr_opcodes.specs.code.Views.{Reads, operator, leaf_operator};
+    ghost use Rattle.ifr_opcodes.specs.code.Views.{Reads, operator};
 
     /// An opcode that is no operator is refused by OpOutside, one that is shorter than its fields by OpSize, each at its
     /// place.
@@ -122,9 +121,6 @@ pub enum LeafOp<'a> {
 }
 
 impl<'a> LeafOp<'a> {
-    ghost use Rattle.std.specs.Prelude.{Some, ◌≢◌};
-    ghost use Rattle.ifr_opcodes.specs.Operators.{operands};
-    ghost use Rattle.ifr_opcodes.specs.Fields.{least_length};
     ghost use Rattle.ifr_opcodes.specs.code.Ops.{op_of};
     ghost use Rattle.ifr_opcodes.specs.code.Views.{leaf_operator};
 

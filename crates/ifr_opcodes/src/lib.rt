@@ -1,4 +1,5 @@
-//! The opcodes of a forms package, and the forest that they spell (UEFI 2.8, 33.3.8 Forms Package).
+//! The opcodes of a forms package, and the forest that they spell (UEFI 2.8, 33.3.8 Forms Package; which opcodes are known is an
+//! own rule).
 #![tactic(auto)]
 
 mod action;

@@ -22,7 +22,7 @@ pub struct Op<'a> {
 }
 
 impl<'a> Op<'a> {
-    ghost use Rattle.std.specs.Prelude.{◌≡◌, ◌==◌, ◌+◌, ◌<◌, ◌≤◌, ◌⊎◌, ℕ, true, length, drop, slice_range, OnOk, IfErr, IsOk};
+    ghost use Rattle.std.specs.Prelude.{◌≡◌, ◌+◌, ◌<◌, ◌≤◌, ◌⊎◌, true, length, drop, slice_range, OnOk, IfErr};
     ghost use Rattle.hii_bytes.specs.Faults.{IsLeast};
     ghost use Rattle.hii_bytes.specs.Numbers.{number_in};
     ghost use Rattle.ifr_opcodes.specs.Fields.{number_where};

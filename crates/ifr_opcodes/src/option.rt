@@ -5,7 +5,7 @@ ghost use Rattle.ifr_opcodes.specs.declared.codes.TheConstants.{ONE_OF_OPTION};
 ghost use Rattle.ifr_opcodes.specs.declared.kinds.TheConstants.{TYPE_BOOLEAN};
 ghost use Rattle.ifr_opcodes.specs.Kinds.{kind_width as width_of_kind};
 ghost use Rattle.ifr_opcodes.specs.Fields.{option_kind};
-ghost use Rattle.ifr_opcodes.specs.code.Ops.{bytes_of, op_of};
+ghost use Rattle.ifr_opcodes.specs.code.Ops.{bytes_of};
 
 use crate::codes::ONE_OF_OPTION;
 use crate::kinds::kind_width;

@@ -2,7 +2,7 @@
 
 ghost use Rattle.std.specs.Prelude.{◌≡◌, ◌≤◌, length};
 ghost use Rattle.ifr_opcodes.specs.declared.codes.TheConstants.{RULE};
-ghost use Rattle.ifr_opcodes.specs.code.Ops.{bytes_of, op_of};
+ghost use Rattle.ifr_opcodes.specs.code.Ops.{bytes_of};
 
 use crate::codes::RULE;
 use crate::op::Op;

@@ -4,7 +4,7 @@ ghost use Rattle.std.specs.Prelude.{◌≡◌, ◌≤◌, ◌+◌, length};
 ghost use Rattle.std.specs.List.{position, before_first};
 ghost use Rattle.ifr_opcodes.specs.declared.codes.TheConstants.{VARSTORE};
 ghost use Rattle.ifr_opcodes.specs.Fields.{is_nul, varstore_name};
-ghost use Rattle.ifr_opcodes.specs.code.Ops.{bytes_of, op_of};
+ghost use Rattle.ifr_opcodes.specs.code.Ops.{bytes_of};
 
 use crate::codes::VARSTORE;
 use crate::op::Op;

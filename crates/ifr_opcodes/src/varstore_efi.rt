@@ -3,7 +3,7 @@
 ghost use Rattle.std.specs.Prelude.{◌≡◌, ◌≤◌, ◌+◌, length};
 ghost use Rattle.ifr_opcodes.specs.declared.codes.TheConstants.{VARSTORE_EFI};
 ghost use Rattle.ifr_opcodes.specs.Fields.{varstore_efi_name};
-ghost use Rattle.ifr_opcodes.specs.code.Ops.{bytes_of, op_of};
+ghost use Rattle.ifr_opcodes.specs.code.Ops.{bytes_of};
 
 use crate::codes::VARSTORE_EFI;
 use crate::op::Op;

@@ -1,5 +1,6 @@
 pub mod CountLemmas
 pub mod RunLemmas
+pub mod AcceptedLemmas
 pub mod NodeLemmas
 pub mod PlaceLemmas
 pub mod WalkLemmas

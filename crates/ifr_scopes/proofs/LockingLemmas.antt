@@ -26,14 +26,6 @@ pub record Locking (ns : List Placed) (entries : List Entry) (next : ℕ) (left 
   pub so_many : next ≡ length (filter is_indexed before)
   pub are : entries ≡ map (kept_entry ns) (filter is_indexed before) ++ map (bare ns) (filter is_indexed left)
 
-pub locking_start : (ns : List Placed) (entries : List Entry) (left : List Placed) → entries ≡ entries_unlocked ns → left ≡ ns → Locking ns entries 0 left
-locking_start ns entries left e all = record {
-  before = [];
-  split = sym all;
-  so_many = refl;
-  are = e ∙ ap (λ (l : List Placed). map (bare ns) (filter is_indexed l)) (sym all);
-}
-
 pub locking_other : (ns : List Placed) (entries : List Entry) (next : ℕ) (n : Placed) (rest : List Placed) → is_indexed n ≡ false → Locking ns entries next (n ∷ rest) → Locking ns entries next rest
 locking_other ns entries next n rest other l =
     let same : filter is_indexed (l.before ++ n ∷ []) ≡ filter is_indexed l.before = filter-append is_indexed l.before (n ∷ []) ∙ rw other (append-nil (filter is_indexed l.before)) in
@@ -85,12 +77,6 @@ locking_one ns entries next n rest found entry is l firsts place code guard lock
           ∙ ap (λ (x : Entry). done ++ x ∷ more) its ∙ sym (append_assoc done (kept_entry ns n ∷ []) more)
           ∙ ap (λ (x : List Entry). x ++ more) (sym (map-append (kept_entry ns) (filter is_indexed l.before) (n ∷ [])) ∙ ap (map (kept_entry ns)) (sym same));
     }
-
-pub locking_all : (ns : List Placed) (entries : List Entry) (next : ℕ) (left : List Placed) → Locking ns entries next left → left ≡ [] → entries ≡ entry_table ns
-locking_all ns entries next left l none =
-    let all : l.before ≡ ns = sym (l.split ∙ ap (λ (x : List Placed). l.before ++ x) none ∙ append-nil l.before) in
-    l.are ∙ ap (λ (x : List Placed). map (kept_entry ns) (filter is_indexed l.before) ++ map (bare ns) (filter is_indexed x)) none ∙ append-nil (map (kept_entry ns) (filter is_indexed l.before))
-    ∙ ap (λ (x : List Placed). map (kept_entry ns) (filter is_indexed x)) all
 
 -- where nothing is locked
 pub unlocked : (ns : List Placed) (found : ℕ → Option ℕ) → ((scope : ℕ) → found scope ≡ first_place ns scope) → ((scope : ℕ) → found scope ≡ None) → entries_unlocked ns ≡ entry_table ns

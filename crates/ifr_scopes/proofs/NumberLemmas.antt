@@ -84,10 +84,6 @@ none_before is low place (n ∷ ns) le r =
     let behind : nat_lt n.place place ≡ false = let up : low ≤ n.place = r.0 in grind (arith, nat_tests) in
     elim (cases_Bool (is n)) [ inl kept ↦ rw (kept, behind) later | inr other ↦ rw other later ]
 
-lower : (low high : ℕ) (ns : List Placed) → low ≤ high → Rise place_of high ns → Rise place_of low ns
-lower low high [] le r = tt
-lower low high (n ∷ ns) le r = (omega (arith, r.0), r.1)
-
 -- The guard is found by how many stand before it.
 pub record IsFoundGuard (ns : List Placed) (n : Placed) : Type 0 where
   pub within : guards_before ns n.place < length (guards_among ns)

@@ -41,12 +41,13 @@ filters p q (n ∷ ns) same =
     ap (λ (b : Bool). cond b (n ∷ filter p ns) (filter p ns)) (same n (0, omega arith, refl))
     ∙ ap (λ (l : List Placed). cond (q n) (n ∷ l) l) (filters p q ns (λ m w. same m (further n ns m w)))
 
-pub passes : (p : Placed → Bool) (ns : List Placed) (n : Placed) → Contains ns n → p n ≡ true → Contains (filter p ns) n
-passes p [] n (k, lt, e) is = absurd (omega arith)
-passes p (m ∷ ns) n (zero, lt, e) is = let same : m ≡ n = e in rw (ap p same ∙ is) (0, omega arith, same)
-passes p (m ∷ ns) n (suc k, lt, e) is =
-    let later = passes p ns n (k, omega arith, e) is in
-    elim (cases_Bool (p m)) [ inl kept ↦ rw kept (further m (filter p ns) n later) | inr other ↦ rw other later ]
+-- what passes a test is among those that pass it
+pub passes : {X : Type 0} (p : X → Bool) (xs : List X) (x : X) → Contains xs x → p x ≡ true → Contains (filter p xs) x
+passes p [] x (k, lt, e) is = absurd (omega arith)
+passes p (y ∷ xs) x (zero, lt, e) is = let same : y ≡ x = e in rw (ap p same ∙ is) (0, omega arith, same)
+passes p (y ∷ xs) x (suc k, lt, e) is =
+    let later = passes p xs x (k, omega arith, e) is in
+    elim (cases_Bool (p y)) [ inl kept ↦ rw kept (further y (filter p xs) x later) | inr other ↦ rw other later ]
 
 statement_indexed : (n : Placed) → is_statement n ≡ true → is_indexed n ≡ true
 statement_indexed n states = elim (cases_Bool (is_form n)) [ inl form ↦ rw form refl | inr other ↦ rw (other, states) refl ]

@@ -1,4 +1,4 @@
--- A package whose framing and nodes were checked, and the nodes at its places.
+-- A package whose framing and nodes were checked, and the nodes at its places (own rule).
 use Rattle.std.specs.Prelude.{ℕ, ◌≤◌, ◌<◌, ◌^◌, List, length}
 use Rattle.hii_bytes.specs.Faults.{HasNone}
 use Rattle.ifr_opcodes.specs.Forest.{SpellsForest}

@@ -1,6 +1,6 @@
 //! The conditions of questions: of their values, of a submission, and of a warning.
 
-ghost use Rattle.std.specs.Prelude.{◌≡◌, true, All, Some};
+ghost use Rattle.std.specs.Prelude.{◌≡◌, true, Some};
 ghost use Rattle.ifr_opcodes.specs.Opcode.{number as opcode_number};
 ghost use Rattle.ifr_scopes.specs.Kinds.{is_condition_number};
 ghost use Rattle.ifr_scopes.specs.Nodes.{nodes_of, of_question, this_of};

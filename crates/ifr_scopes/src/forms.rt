@@ -16,7 +16,6 @@ ghost use Rattle.ifr_scopes.specs.Guards.{is_guard};
 ghost use Rattle.ifr_scopes.specs.code.Index.{conditional_at, guards_of_indexed, indexed_at, lock_of_indexed};
 ghost use Rattle.ifr_scopes.specs.code.Lists.{form_node, form_set_node, rule_node, stores_left, all_guards_left, forms_left, rules_left, all_statements_left, statement_node, guards_left};
 ghost use Rattle.ifr_scopes.specs.code.AroundViews.{around_guards, around_lock, around_package};
-ghost use Rattle.ifr_scopes.specs.code.LocksLeft.{lock_node};
 ghost use Rattle.ifr_scopes.specs.Kinds.{is_condition_number};
 ghost use Rattle.ifr_scopes.specs.Nodes.{nodes_of, is_form, is_store, is_statement, is_no_submit, of_question, options, statements};
 ghost use Rattle.ifr_scopes.specs.code.NoSubmitsLeft.{no_submits_left};
@@ -45,7 +44,6 @@ use crate::index::{
     guard_at,
 };
 use crate::indexing::index_of;
-use crate::locks::LockView;
 use crate::no_submits::NoSubmits;
 use crate::node::Node;
 use crate::nodes::Nodes;
@@ -359,13 +357,6 @@ impl<'a> Forms<'a> {
         ensures of_package { result.ifr.now ≡ self.now }
     {
         self.around(place).guards().outermost_first()
-    }
-
-    /// The LOCKED that decides for the form, statement or option at a place, if one locks it; none at any other place.
-    pub fn lock_at(&self, place: u32) -> Option<LockView<'a>>
-        ensures { option_map lock_node result ≡ lock_of_indexed (nodes_of self.now) place }
-    {
-        self.around(place).lock()
     }
 
     /// The condition of the opcode at a place, in bytes from the package's header, if it has one.

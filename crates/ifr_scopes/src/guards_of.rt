@@ -24,7 +24,6 @@ pub struct GuardsOf<'a> {
 
 impl<'a> GuardsOf<'a> {
     ghost use Rattle.std.specs.Iterator.{YieldsFirstBy};
-    ghost use Rattle.ifr_opcodes.specs.Forest.{Ancestor};
     ghost use Rattle.ifr_scopes.specs.code.Lists.{guard_node, guard_package, guards_of_left};
 
     /// The guards of the node at a place of a checked package.

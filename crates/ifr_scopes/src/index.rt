@@ -1,5 +1,5 @@
-//! An index of a package: by place its forms, statements and options with what is around them, its guards, and the
-//! conditions of its questions; and its forms by their ids.
+//! An index of a package: by place its forms, statements and options with what is around them, its guards, the conditions of its
+//! questions, its stores and its rules, and its forms by their ids; and how its tables are searched.
 
 ghost use Rattle.std.specs.Prelude.{◌≡◌, ◌==◌, ℕ, nat_lt, filter};
 ghost use Rattle.std.specs.List.{find};

@@ -1,4 +1,5 @@
-//! The nodes of a forms package: its framing, and walks over them (UEFI 2.8, 33.3.8 Forms Package).
+//! The nodes of a forms package: its framing, and walks over them (UEFI 2.8, 33.3.8 Forms Package; what is refused, and as what,
+//! what a LOCKED locks and how rules are found are own rules).
 #![tactic(auto)]
 
 mod all_conditions;

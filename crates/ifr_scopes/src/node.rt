@@ -51,6 +51,7 @@ impl<'a> Node<'a> {
         self.op.code == FORM_SET
     }
 
+    /// Whether it is a form.
     pub fn is_form(self) -> bool
         ensures { result ≡ nodes.is_form (node_of self.entry) }
     {
@@ -64,12 +65,14 @@ impl<'a> Node<'a> {
         kinds::is_store(self.op.code)
     }
 
+    /// Whether it is a question.
     pub fn is_question(self) -> bool
         ensures { result ≡ nodes.is_question (node_of self.entry) }
     {
         is_question(self.op.code)
     }
 
+    /// Whether it is a statement; the questions are among them.
     pub fn is_statement(self) -> bool
         ensures { result ≡ nodes.is_statement (node_of self.entry) }
     {
@@ -83,6 +86,7 @@ impl<'a> Node<'a> {
         is_guard(self.op.code)
     }
 
+    /// Whether it is a rule.
     pub fn is_rule(self) -> bool
         ensures { result ≡ rules.is_rule (node_of self.entry) }
     {

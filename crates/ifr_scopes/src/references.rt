@@ -4,15 +4,13 @@
 ghost use Rattle.std.specs.Prelude.{◌≡◌, ◌==◌, ◌&&◌, not, ℕ, Ok, Some, None, true, false, option_map, List, [], ◌∷◌, ◌++◌, IfOk, OnOk, IfErr, IfSome};
 ghost use Rattle.std.specs.List.{list_any, last_or};
 ghost use Rattle.hii_bytes.specs.Faults.{HasNone, Refuses};
-ghost use Rattle.hii_bytes.specs.code.FirstFaults.{first_cause};
+ghost use Rattle.hii_bytes.specs.code.NumberSets.{has_number};
 ghost use Rattle.ifr_opcodes.specs.Forest.{Placed};
 ghost use Rattle.ifr_scopes.specs.Checked.{IsChecked};
 ghost use Rattle.ifr_scopes.specs.Nodes.{nodes_of, is_form, is_question, is_reference};
 ghost use Rattle.ifr_opcodes.specs.Fields.{form_id, question_id};
 ghost use Rattle.ifr_scopes.specs.code.Views.{node_of};
-ghost use Rattle.ifr_scopes.specs.References.{IsReferenceFault, has_reference_fault, has_form_id, has_question_id, is_lost as lost_among};
-ghost use Rattle.ifr_scopes.specs.code.Causes.{reference_causes};
-ghost use Rattle.hii_bytes.specs.code.NumberSets.{has_number};
+ghost use Rattle.ifr_scopes.specs.References.{IsReferenceFault, has_form_id, has_question_id, is_lost as lost_among};
 ghost use Rattle.ifr_scopes.specs.code.KeptRules.{AreKeptRules};
 ghost use Rattle.ifr_scopes.specs.code.Tables.{AreFormEntries};
 

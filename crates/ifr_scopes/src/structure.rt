@@ -3,8 +3,7 @@
 
 ghost use Rattle.std.specs.Prelude.{◌≡◌, ◌≤◌, ◌<◌, ◌^◌, List, None, length, map, option_map, All, OnOk, IfErr};
 ghost use Rattle.hii_bytes.specs.Faults.{IsLeast, HasNone};
-ghost use Rattle.hii_bytes.specs.code.FirstFaults.{first_cause};
-ghost use Rattle.ifr_opcodes.specs.Opcode.{IsWhole, has_scope, number};
+ghost use Rattle.ifr_opcodes.specs.Opcode.{IsWhole, number};
 ghost use Rattle.ifr_opcodes.specs.code.Ops.{bytes_of, op_of};
 ghost use Rattle.ifr_opcodes.specs.Forest.{SpellsForest, Forest, Ancestor};
 ghost use Rattle.std.specs.List.{last_or};

@@ -9,6 +9,7 @@ ghost use Rattle.ifr_scopes.specs.code.Views.{node_of};
 
 use crate::node::Node;
 use crate::places::node_at;
+use hii_bytes::Guid;
 use ifr_opcodes::{
     Op, VARSTORE, VARSTORE_EFI, VARSTORE_NAME_VALUE, VarstoreEfiOp, VarstoreNameValueOp, VarstoreOp,
 };
@@ -57,7 +58,7 @@ pub struct Varstore<'a> {
 impl<'a> Varstore<'a> {
     ghost use Rattle.ifr_opcodes.specs.code.Ops.{bytes_of};
     ghost use Rattle.ifr_scopes.specs.code.Lists.{store_node, store_op};
-    ghost use Rattle.ifr_scopes.specs.Stores.{store_id, store_size};
+    ghost use Rattle.ifr_scopes.specs.Stores.{store_guid, store_id, store_name, store_size};
 
     /// The place of the store, in bytes from the package's header.
     pub fn place(self) -> u32
@@ -93,6 +94,28 @@ impl<'a> Varstore<'a> {
             StoreOp::Varstore(store) => Some(store.size()),
             StoreOp::VarstoreEfi(store) => Some(store.size()),
             StoreOp::NameValue(_) => None,
+        }
+    }
+
+    /// Its GUID.
+    pub fn guid(self) -> Guid<'a>
+        ensures { result.bytes.now ≡ store_guid (store_node self.entry).op }
+    {
+        match self.op() {
+            StoreOp::Varstore(store) => store.guid(),
+            StoreOp::VarstoreEfi(store) => store.guid(),
+            StoreOp::NameValue(store) => store.guid(),
+        }
+    }
+
+    /// Its name, without its NUL; a store of names and values has none.
+    pub fn name(self) -> &'a [u8]
+        ensures { result.now ≡ store_name (store_node self.entry).op }
+    {
+        match self.op() {
+            StoreOp::Varstore(store) => store.name(),
+            StoreOp::VarstoreEfi(store) => store.name(),
+            StoreOp::NameValue(_) => &[],
         }
     }
 }

@@ -1,6 +1,6 @@
 //! A way through the nodes of a package.
 
-ghost use Rattle.std.specs.Prelude.{◌≡◌, ◌≤◌, ◌<◌, ◌^◌, ◌+◌, ◌++◌, ◌∷◌, ℕ, List, [], Some, length, map, if◌then◌else◌, IfNone, IfSome, IsSome};
+ghost use Rattle.std.specs.Prelude.{◌≡◌, ◌≤◌, ◌<◌, ◌^◌, ◌+◌, ◌++◌, ◌∷◌, [], Some, length, map, if◌then◌else◌, IfNone, IfSome, IsSome};
 ghost use Rattle.ifr_opcodes.specs.Forest.{Placed, SpellsForest, as_ancestor, nodes, node_at, below};
 ghost use Rattle.ifr_opcodes.specs.code.Marks.{mark};
 ghost use Rattle.ifr_opcodes.specs.Opcode.{has_scope, IsWhole};

@@ -174,7 +174,7 @@ fn guards_and_locks_at_places(rt: HostRuntime) -> Result<(), Fail> {
     assert_eq!(rt; (lock.place(), lock.op().code), (93, LOCKED));
     for (place, lock) in [(50, Some(93)), (57, Some(93)), (64, None)] {
         assert!(rt; forms.guards_at(place).next().is_none());
-        assert_eq!(rt; forms.lock_at(place).map(|lock| lock.place()), lock);
+        assert_eq!(rt; forms.around(place).lock().map(|lock| lock.place()), lock);
     }
     Ok(())
 }

@@ -1,6 +1,5 @@
 -- How many elements of lists pass tests, and what holds of those that do.
-use Rattle.std.proofs.Common.{◌≡◌, ℕ, zero, suc, ◌+◌, ◌<◌, ◌||◌, Bool, true, false, cond, List, [], ◌∷◌, ◌++◌, length, filter, get_or, count_by, refl, sym, ap, ◌∙◌, subst, inl, inr, arith}
-use Rattle.std.specs.List.{AllByRecursion}
+use Rattle.std.proofs.Common.{◌≡◌, ℕ, suc, ◌+◌, ◌<◌, ◌||◌, Bool, true, false, cond, List, [], ◌∷◌, ◌++◌, length, filter, get_or, count_by, refl, sym, ap, ◌∙◌, inl, inr, arith}
 use Rattle.std.proofs.lemmas.Bool.{cases_Bool, cond-true, cond-false, false≢true}
 use Rattle.std.proofs.lemmas.List.Sums.{sum_by-cons, sum_by-append}
 
@@ -64,32 +63,8 @@ count_either p a b apart (x ∷ xs) =
           ]
     ]
 
--- ---- what holds of all that pass a test holds of those that pass a narrower one
+-- ---- those that pass a narrower test
 
-pub narrower : {X : Type 0} (P : X → Type 0) (a c : X → Bool) → ((x : X) → a x ≡ true → c x ≡ true) → (xs : List X) → AllByRecursion P (filter c xs) → AllByRecursion P (filter a xs)
-narrower P a c implies [] h = tt
-narrower P a c implies (x ∷ xs) h = elim (cases_Bool (a x)) [
-  | inl takes ↦
-      let these = subst (AllByRecursion P) (cond-true (c x) (x ∷ filter c xs) (filter c xs) (implies x takes)) h in
-      subst (AllByRecursion P) (sym (cond-true (a x) (x ∷ filter a xs) (filter a xs) takes)) (these.0, narrower P a c implies xs these.1)
-  | inr leaves ↦
-      let behind : AllByRecursion P (filter c xs) = elim (cases_Bool (c x)) [
-        | inl takes ↦ let these = subst (AllByRecursion P) (cond-true (c x) (x ∷ filter c xs) (filter c xs) takes) h in these.1
-        | inr none ↦ subst (AllByRecursion P) (cond-false (c x) (x ∷ filter c xs) (filter c xs) none) h
-      ] in
-      subst (AllByRecursion P) (sym (cond-false (a x) (x ∷ filter a xs) (filter a xs) leaves)) (narrower P a c implies xs behind)
-]
-
-pub joined : {X : Type 0} (P : X → Type 0) (xs ys : List X) → AllByRecursion P xs → AllByRecursion P ys → AllByRecursion P (xs ++ ys)
-joined P [] ys h k = k
-joined P (x ∷ xs) ys h k = (h.0, joined P xs ys h.1 k)
-
-pub at_index : {X : Type 0} (P : X → Type 0) (xs : List X) (k : ℕ) (d : X) → AllByRecursion P xs → k < length xs → P (get_or xs k d)
-at_index P [] k d h less = absurd (omega (arith, less))
-at_index P (x ∷ xs) zero d h less = h.0
-at_index P (x ∷ xs) (suc k) d h less = at_index P xs k d h.1 (omega (arith, less))
-
--- those that pass a narrower test
 pub filter_narrower : {X : Type 0} (a c : X → Bool) → ((x : X) → a x ≡ true → c x ≡ true) → (xs : List X) → filter a (filter c xs) ≡ filter a xs
 filter_narrower a c implies [] = refl
 filter_narrower a c implies (x ∷ xs) = elim (cases_Bool (c x)) [

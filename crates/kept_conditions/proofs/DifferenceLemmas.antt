@@ -19,14 +19,6 @@ none_one bytes store (suc width) offset none =
     ap (λ b. b || has_one bytes store (offset + 1) width) (none offset (omega arith) (omega arith))
     ∙ none_one bytes store width (offset + 1) (λ at from before. none at (omega (arith, from)) (omega (arith, before)))
 
-pub same_one : (bytes others : ℕ → ℕ → Bool) (store other width offset : ℕ) → ((at : ℕ) → bytes store at ≡ others other at) → has_one bytes store offset width ≡ has_one others other offset width
-same_one bytes others store other zero offset same = refl
-same_one bytes others store other (suc width) offset same =
-    ap (λ b. b || has_one bytes store (offset + 1) width) (same offset) ∙ ap (λ b. others other offset || b) (same_one bytes others store other width (offset + 1) same)
-
-same_byte : (b : ℕ) → b == b ≡ true
-same_byte b = eq-eqb b b refl
-
 -- the bytes at an offset inside of both
 pub equal_at : (old new : List ℕ) (at : ℕ) → at < length old → at < length new → get_or old at 0 ≡ get_or new at 0 → other_at old new 0 at ≡ false
 equal_at old new at within within' e =
@@ -68,11 +60,6 @@ module _ (old new : StoreMap) (shape : shape_of old ≡ shape_of new) (store : �
   one_size xs ys e f =
       let all : Some (length xs) ≡ Some (length ys) = ap (option_map (λ (bytes : List ℕ). length bytes)) e ∙ same_size ∙ sym (ap (option_map (λ (bytes : List ℕ). length bytes)) f) in
       cc
-
-  pub stores_differ : (xs ys : List ℕ) (offset width : ℕ) → Some xs ≡ bytes_of old store → Some ys ≡ bytes_of new store → other_bytes xs ys offset width ≡ has_one (difference old new) store offset width
-  stores_differ xs ys offset width e f = same_one (other_at xs ys) (difference old new) 0 store width offset (λ at.
-      ap (λ (o : Option (List ℕ)). not (is_same (option_and_then (λ (bytes : List ℕ). slice_get bytes at) o) (slice_get ys at))) e
-      ∙ ap (λ (o : Option (List ℕ)). not (is_same (option_and_then (λ (bytes : List ℕ). slice_get bytes at) (bytes_of old store)) (option_and_then (λ (bytes : List ℕ). slice_get bytes at) o))) f)
 
   neither : (o p : Option (List ℕ)) → option_map (λ (bytes : List ℕ). length bytes) o ≡ option_map (λ (bytes : List ℕ). length bytes) p → (o ≡ None) ⊎ (p ≡ None) → (o ≡ None) × (p ≡ None)
   neither None None e h = (refl, refl)

@@ -114,9 +114,6 @@ module _ (ns : List Placed) (number id : ℕ) (old new : Gathered) (r : Reading)
       swapped false false true = refl
       swapped false false false = refl
 
-pub no_question : (ns : List Placed) (number id : ℕ) (it : Gathered) → None ≡ field_with ns id → Adds ns number (id ∷ []) it it
-no_question ns number id it none = adds_none ns number (id ∷ []) it (λ bytes. ap (λ o. has_byte bytes o || false) (sym none))
-
 -- ---- a rule
 
 module _ (bytes : List ℕ) (accepted : IsAccepted bytes) where

@@ -117,9 +117,6 @@ times_mapped v (n ∷ ns) =
 abbrev is_guard_or_submit : Placed → Bool
 is_guard_or_submit n = is_kept_guard n || is_no_submit n
 
-same_kinds : (ns : List Placed) → filter (λ n. is_guard_or_submit n || is_rule n) ns ≡ reader_nodes ns
-same_kinds ns = refl
-
 no_rule : (n : Placed) → is_guard_or_submit n ≡ true → is_rule n ≡ false
 no_rule n e = kept_no_rule n e
 

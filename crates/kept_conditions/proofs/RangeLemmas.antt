@@ -1,20 +1,12 @@
 -- Ranges of bytes of stores, and of the numbers of all bytes.
 use Rattle.std.proofs.Common.{◌≡◌, ℕ, zero, suc, ◌+◌, ◌<◌, ◌≤◌, ◌==◌, ◌&&◌, ◌||◌, nat_le, nat_lt, Bool, true, false, List, [], ◌∷◌, refl, sym, ap, ◌∙◌, inl, inr, arith}
-use Rattle.std.proofs.lemmas.Bool.{cases_Bool, cases_lt, false≢true, eqb-true, eq-eqb, ltb-true, lt-ltb, leb-true, le-leb}
+use Rattle.std.proofs.lemmas.Bool.{cases_Bool, cases_lt, false≢true, and_from, and_parts, eqb-true, eq-eqb, ltb-true, lt-ltb, leb-true, le-leb}
 use Rattle.hii_questions.specs.code.Numbers.{first_of, behind_of}
 use Rattle.hii_questions.specs.declared.field_range.FieldRange.{FieldRange}
 use Rattle.kept_conditions.specs.code.Readings.{AreSmall, meets, hits, is_read, reads}
 use Rattle.kept_conditions.specs.Touching.{has_one, range_of}
 use Rattle.kept_conditions.specs.declared.readings.Reading.{Reading}
 use Rattle.kept_conditions.proofs.UntouchedLemmas.{none_has}
-
-pub both : (a b : Bool) → a && b ≡ true → (a ≡ true) × (b ≡ true)
-both true b e = (refl, e)
-both false b e = absurd (false≢true e)
-
-pub together : (a b : Bool) → a ≡ true → b ≡ true → a && b ≡ true
-together true b e f = f
-together false b e f = e
 
 -- two tests that pass where the other does
 pub alike : (a b : Bool) → (a ≡ true → b ≡ true) → (b ≡ true → a ≡ true) → a ≡ b
@@ -51,9 +43,9 @@ meets_range written r small small' =
     let behind' = behind_of r.range in
     alike (meets from behind r) (has_one (range_of store offset width) r.range.store r.range.offset r.range.width)
     (λ met.
-    let first = both (nat_lt from behind) (nat_lt from' behind' && (nat_lt from' behind && nat_lt from behind')) met in
-    let second = both (nat_lt from' behind') (nat_lt from' behind && nat_lt from behind') first.1 in
-    let third = both (nat_lt from' behind) (nat_lt from behind') second.1 in
+    let first = and_parts (nat_lt from behind) (nat_lt from' behind' && (nat_lt from' behind && nat_lt from behind')) met in
+    let second = and_parts (nat_lt from' behind') (nat_lt from' behind && nat_lt from behind') first.1 in
+    let third = and_parts (nat_lt from' behind) (nat_lt from behind') second.1 in
     let some : from < behind = ltb-true from behind first.0 in
     let some' : from' < behind' = ltb-true from' behind' second.0 in
     let left : from' < behind = ltb-true from' behind third.0 in
@@ -62,24 +54,24 @@ meets_range written r small small' =
     elim (cases_lt offset r.range.offset) [
       | inl before ↦
           has_some (range_of store offset width) r.range.store r.range.width r.range.offset r.range.offset (omega arith) (omega (arith, some'))
-          (together (r.range.store == store) (nat_le offset r.range.offset && nat_lt r.range.offset (offset + width)) (eq-eqb r.range.store store same)
-          (together (nat_le offset r.range.offset) (nat_lt r.range.offset (offset + width)) (le-leb offset r.range.offset (omega (arith, before))) (lt-ltb r.range.offset (offset + width) (omega (arith, left, same)))))
+          (and_from (r.range.store == store) (nat_le offset r.range.offset && nat_lt r.range.offset (offset + width)) (eq-eqb r.range.store store same)
+          (and_from (nat_le offset r.range.offset) (nat_lt r.range.offset (offset + width)) (le-leb offset r.range.offset (omega (arith, before))) (lt-ltb r.range.offset (offset + width) (omega (arith, left, same)))))
       | inr behind ↦
           has_some (range_of store offset width) r.range.store r.range.width r.range.offset offset behind (omega (arith, right, same))
-          (together (r.range.store == store) (nat_le offset offset && nat_lt offset (offset + width)) (eq-eqb r.range.store store same)
-          (together (nat_le offset offset) (nat_lt offset (offset + width)) (le-leb offset offset (omega arith)) (lt-ltb offset (offset + width) (omega (arith, some)))))
+          (and_from (r.range.store == store) (nat_le offset offset && nat_lt offset (offset + width)) (eq-eqb r.range.store store same)
+          (and_from (nat_le offset offset) (nat_lt offset (offset + width)) (le-leb offset offset (omega arith)) (lt-ltb offset (offset + width) (omega (arith, some)))))
     ])
     (λ has.
     let found = some_has (range_of store offset width) r.range.store r.range.width r.range.offset has in
     let at = found.0 in
-    let first = both (r.range.store == store) (nat_le offset at && nat_lt at (offset + width)) found.3 in
-    let second = both (nat_le offset at) (nat_lt at (offset + width)) first.1 in
+    let first = and_parts (r.range.store == store) (nat_le offset at && nat_lt at (offset + width)) found.3 in
+    let second = and_parts (nat_le offset at) (nat_lt at (offset + width)) first.1 in
     let same : r.range.store ≡ store = eqb-true r.range.store store first.0 in
     let low : offset ≤ at = leb-true offset at second.0 in
     let high : at < offset + width = ltb-true at (offset + width) second.1 in
-    together (nat_lt from behind) (nat_lt from' behind' && (nat_lt from' behind && nat_lt from behind')) (lt-ltb from behind (omega (arith, low, high)))
-    (together (nat_lt from' behind') (nat_lt from' behind && nat_lt from behind') (lt-ltb from' behind' (omega (arith, found.1, found.2)))
-    (together (nat_lt from' behind) (nat_lt from behind') (lt-ltb from' behind (omega (arith, low, high, found.1, found.2, same, small, small'))) (lt-ltb from behind' (omega (arith, low, high, found.1, found.2, same, small, small'))))))
+    and_from (nat_lt from behind) (nat_lt from' behind' && (nat_lt from' behind && nat_lt from behind')) (lt-ltb from behind (omega (arith, low, high)))
+    (and_from (nat_lt from' behind') (nat_lt from' behind && nat_lt from behind') (lt-ltb from' behind' (omega (arith, found.1, found.2)))
+    (and_from (nat_lt from' behind) (nat_lt from behind') (lt-ltb from' behind (omega (arith, low, high, found.1, found.2, same, small, small'))) (lt-ltb from behind' (omega (arith, low, high, found.1, found.2, same, small, small'))))))
 
 -- which readers are found is which read one of the bytes
 pub hits_range : (rs : List Reading) (written : FieldRange) (k : ℕ) → written.offset < 65536 → AreSmall rs

@@ -3,7 +3,7 @@ use Rattle.std.proofs.Common.{◌≡◌, ℕ, zero, suc, min, max, ◌+◌, ◌-
 use Rattle.std.specs.Prelude.{slice_get, option_and_then}
 use Rattle.std.specs.List.{AllWithin}
 use Rattle.std.proofs.lemmas.List.{drop_more, drop_all}
-use Rattle.std.proofs.lemmas.Bool.{cases_Bool, cases_lt, eqb-true, eq-eqb, leb-true, le-leb, ltb-true, lt-ltb, false≢true}
+use Rattle.std.proofs.lemmas.Bool.{cases_Bool, cases_lt, and_from, and_parts, eqb-true, eq-eqb, leb-true, le-leb, ltb-true, lt-ltb, false≢true}
 use Rattle.hii_varstore.specs.Stores.{StoreMap, shape_of, bytes_of, byte_of}
 use Rattle.hii_questions.specs.code.Numbers.{first_of, behind_of}
 use Rattle.hii_questions.specs.declared.field_range.FieldRange.{FieldRange}
@@ -16,20 +16,20 @@ use Rattle.kept_conditions.specs.Touching.{difference, has_one, is_same}
 use Rattle.kept_conditions.specs.declared.readings.Reading.{Reading}
 use Rattle.kept_conditions.proofs.DifferenceLemmas.{equal_behind, none_one, one_size}
 use Rattle.kept_conditions.proofs.UntouchedLemmas.{none_has}
-use Rattle.kept_conditions.proofs.RangeLemmas.{alike, both, has_some, meets_range, some_has, together}
+use Rattle.kept_conditions.proofs.RangeLemmas.{alike, has_some, meets_range, some_has}
 use Rattle.kept_conditions.proofs.HitLemmas.{skip, unmet_behind}
 
 -- ---- a byte of a range
 
 pub is_in : (r : FieldRange) (store at : ℕ) → LiesWithin r store at → in_range r store at ≡ true
 is_in r store at lies =
-    together (store == r.store) (nat_le r.offset at && nat_lt at (r.offset + r.width)) (eq-eqb store r.store lies.0)
-    (together (nat_le r.offset at) (nat_lt at (r.offset + r.width)) (le-leb r.offset at lies.1) (lt-ltb at (r.offset + r.width) lies.2))
+    and_from (store == r.store) (nat_le r.offset at && nat_lt at (r.offset + r.width)) (eq-eqb store r.store lies.0)
+    (and_from (nat_le r.offset at) (nat_lt at (r.offset + r.width)) (le-leb r.offset at lies.1) (lt-ltb at (r.offset + r.width) lies.2))
 
 pub lies_in : (r : FieldRange) (store at : ℕ) → in_range r store at ≡ true → LiesWithin r store at
 lies_in r store at e =
-    let first = both (store == r.store) (nat_le r.offset at && nat_lt at (r.offset + r.width)) e in
-    let second = both (nat_le r.offset at) (nat_lt at (r.offset + r.width)) first.1 in
+    let first = and_parts (store == r.store) (nat_le r.offset at && nat_lt at (r.offset + r.width)) e in
+    let second = and_parts (nat_le r.offset at) (nat_lt at (r.offset + r.width)) first.1 in
     (eqb-true store r.store first.0, leb-true r.offset at second.0, ltb-true at (r.offset + r.width) second.1)
 
 pub not_in : (r : FieldRange) (store at : ℕ) → (LiesWithin r store at → ⊥) → in_range r store at ≡ false
@@ -61,11 +61,11 @@ own_range bytes r =
     alike (has_one (common bytes (in_range r)) r.store r.offset r.width) (has_one bytes r.store r.offset r.width)
     (λ has.
     let some = some_has (common bytes (in_range r)) r.store r.width r.offset has in
-    let two = both (bytes r.store some.0) (in_range r r.store some.0) some.3 in
+    let two = and_parts (bytes r.store some.0) (in_range r r.store some.0) some.3 in
     has_some bytes r.store r.width r.offset some.0 some.1 some.2 two.0)
     (λ has.
     let some = some_has bytes r.store r.width r.offset has in
-    has_some (common bytes (in_range r)) r.store r.width r.offset some.0 some.1 some.2 (together (bytes r.store some.0) (in_range r r.store some.0) some.3 (is_in r r.store some.0 (refl, some.1, some.2))))
+    has_some (common bytes (in_range r)) r.store r.width r.offset some.0 some.1 some.2 (and_from (bytes r.store some.0) (in_range r r.store some.0) some.3 (is_in r r.store some.0 (refl, some.1, some.2))))
 
 -- the bytes of a field that lie within a range and in which stores differ
 pub parts_differ : (old new : StoreMap) → shape_of old ≡ shape_of new → (field within : FieldRange) → field.store ≡ within.store → (xs ys : List ℕ) → Some xs ≡ bytes_of old field.store → Some ys ≡ bytes_of new field.store
@@ -84,12 +84,12 @@ parts_differ old new shape field within same xs ys e f =
     let some = some_has (other_at xs ys) 0 (to - from) from has in
     let at = some.0 in
     has_some bytes field.store field.width field.offset at (omega (arith, some.1)) (omega (arith, some.1, some.2))
-    (together (difference old new field.store at) (in_range within field.store at) (sym (is at) ∙ some.3)
+    (and_from (difference old new field.store at) (in_range within field.store at) (sym (is at) ∙ some.3)
     (is_in within field.store at (same, omega (arith, some.1), omega (arith, some.1, some.2)))))
     (λ has.
     let some = some_has bytes field.store field.width field.offset has in
     let at = some.0 in
-    let two = both (difference old new field.store at) (in_range within field.store at) some.3 in
+    let two = and_parts (difference old new field.store at) (in_range within field.store at) some.3 in
     let there = lies_in within field.store at two.1 in
     let differs : other_at xs ys 0 at ≡ true = is at ∙ two.0 in
     let inside : at < length xs = elim (cases_lt at (length xs)) [

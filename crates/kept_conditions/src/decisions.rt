@@ -53,21 +53,6 @@ impl<'a> KeptStores<'a> {
         policy.question_changeable_by(question, self.kept())
     }
 
-    /// Whether a question may be given a value of its options over these stores, as the policy decides it.
-    pub fn option_open(
-        &self,
-        policy: Policy<'a, '_>,
-        question: Question<'a>,
-        value: u64,
-    ) -> Result<(), Denial>
-        requires package { bytes_of policy ≡ self.now.ifr }
-        requires node { IsNodeOf (bytes_of policy) (question_node question) }
-        ensures { result ≡ unless
-            (closed (world policy.entry self.now.stores) (question_node question.entry) value) }
-    {
-        policy.option_open_by(question, value, self.kept())
-    }
-
     /// What stands around a question that may be changed over these stores, as the policy decides it. Where it may not, the denial is
     /// that of `question_changeable`.
     pub fn changeable_question<'s>(
@@ -87,8 +72,8 @@ impl<'a> KeptStores<'a> {
         policy.changeable_question_by(question, self.kept())
     }
 
-    /// Whether a question that may be changed over these stores may be given a value of its options, as the policy decides it: what
-    /// `option_open` answers, with what stands around the question at hand.
+    /// Whether a question that may be changed over these stores may be given a value of its options, as the policy decides it, with
+    /// what stands around the question at hand.
     pub fn option_open_within<'s>(
         &self,
         policy: Policy<'a, 's>,

@@ -1,6 +1,6 @@
 //! How it is found which readers a write touches.
 
-ghost use Rattle.std.specs.Prelude.{◌≡◌, All, IfOk, length};
+ghost use Rattle.std.specs.Prelude.{◌≡◌, IfOk, length};
 ghost use Rattle.kept_conditions.specs.code.Indexing.{HasSame};
 ghost use Rattle.kept_conditions.specs.code.Links.{RulesRise};
 ghost use Rattle.kept_conditions.specs.code.Readings.{AreSmall, AreSorted, AreSpans};

@@ -1,4 +1,4 @@
-//! Values of conditions that are kept while bytes of stores are written.
+//! Values of conditions that are kept while bytes of stores are written (own rule).
 #![tactic(auto)]
 
 mod decisions;

@@ -1,7 +1,6 @@
 //! The expressions of readers.
 
-ghost use Rattle.std.specs.Prelude.{◌≡◌, ◌<◌, ◌+◌, drop, filter, length, map};
-ghost use Rattle.ifr_opcodes.specs.Forest.{Placed};
+ghost use Rattle.std.specs.Prelude.{◌≡◌, ◌<◌, ◌+◌, drop, filter, length};
 ghost use Rattle.ifr_scopes.specs.Nodes.{nodes_of};
 ghost use Rattle.ifr_scopes.specs.Rules.{is_rule};
 ghost use Rattle.ifr_scopes.specs.code.Lists.{rules_left};

@@ -1,6 +1,6 @@
 //! How readers are met that read what was written.
 
-ghost use Rattle.std.specs.Prelude.{◌≡◌, ◌<◌, ◌≤◌, ℕ, length, nat_lt, false};
+ghost use Rattle.std.specs.Prelude.{◌≡◌, ◌<◌, ◌≤◌, length, nat_lt, false};
 ghost use Rattle.std.specs.List.{AllWithin};
 ghost use Rattle.kept_conditions.specs.code.Readers.{Goes, HasRoom, KeepsFollowing, Reaches};
 ghost use Rattle.kept_conditions.specs.code.Readings.{first_of, hits, AreSpans, AreSorted, HaveNumbers};

@@ -2,7 +2,6 @@
 
 ghost use Rattle.std.specs.Prelude.{◌≡◌, length};
 ghost use Rattle.hii_varstore.specs.Stores.{shape_of};
-ghost use Rattle.hii_varstore.specs.code.Ranges.{HasRange};
 ghost use Rattle.kept_conditions.specs.code.Differing.{common};
 ghost use Rattle.kept_conditions.specs.code.Readers.{Goes, HasRoom, KeepsFollowing, Reaches};
 ghost use Rattle.kept_conditions.specs.code.Readings.{reads, AreSmall, AreSorted, AreSpans, HaveNumbers};

@@ -1,6 +1,6 @@
 //! The search for the readings that meet some bytes.
 
-ghost use Rattle.std.specs.Prelude.{◌≡◌, ◌<◌, ◌≤◌, ◌+◌, ℕ, length, IfOk, true, false, Some, None, List};
+ghost use Rattle.std.specs.Prelude.{◌≡◌, ◌<◌, ◌≤◌, ◌+◌, length, IfOk, Some, None};
 ghost use Rattle.kept_conditions.specs.code.Readings.{meets, IsSpan, AreSpans, IsLastMeeting};
 
 use crate::readings::Reading;

@@ -5,9 +5,8 @@ use Rattle.std.specs.List.{flat_map}
 use Rattle.std.proofs.lemmas.Bool.{cases_Bool, cond-true, cond-false}
 use Rattle.hii_bytes.specs.Watching.{Pen, Writes}
 use Rattle.hii_bytes.specs.code.Writing.{Stands}
-use Rattle.hii_bytes.proofs.WritingLemmas.{Stands-start, Stands-all}
+use Rattle.hii_bytes.proofs.WritingLemmas.{Stands-start, Stands-all, past_piece}
 use Rattle.form_page.specs.Texts.{utf8}
-use Rattle.form_page.proofs.TextLemmas.{past_piece}
 use Rattle.form_audit.specs.QuestionLines.{word_where}
 use Rattle.question_audit.specs.ConditionFacts.{fact}
 use Rattle.question_audit.specs.QuestionFacts.{help_fact}

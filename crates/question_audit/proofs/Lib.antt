@@ -1,3 +1,4 @@
+pub mod BeginningLemmas
 pub mod FactLemmas
 pub mod AroundLemmas
 pub mod DependLemmas

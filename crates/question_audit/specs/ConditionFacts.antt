@@ -1,6 +1,7 @@
 -- Facts of conditions: of guards, of the checks of a question and of its options (own rule).
 use Rattle.std.specs.Prelude.{ℕ, Bool, ◌==◌, ◌&&◌, if◌then◌else◌, Option, Some, None, List, [], ◌++◌, filter, codes, decimal}
 use Rattle.std.specs.List.{flat_map}
+use Rattle.hii_bytes.specs.Texts.{place_text}
 use Rattle.ifr_opcodes.specs.Fields.{option_text, option_value, question_id}
 use Rattle.ifr_opcodes.specs.Forest.{Placed}
 use Rattle.ifr_opcodes.specs.Opcode.{number}
@@ -15,7 +16,7 @@ use Rattle.hii_questions.specs.Denials.{kind_name}
 use Rattle.guard_policy.specs.Policy.{fixed, is_removed}
 use Rattle.guard_policy.specs.declared.denial.Denial.{Denial}
 use Rattle.form_page.specs.Texts.{utf8}
-use Rattle.audit_text.specs.Texts.{left_aligned, place_text}
+use Rattle.audit_text.specs.Texts.{left_aligned}
 use Rattle.audit_text.specs.Words.{opcode_name}
 use Rattle.condition_text.specs.Senses.{sense}
 use Rattle.condition_text.specs.Texts as conditions

@@ -1,3 +1,4 @@
+pub mod Beginnings
 pub mod ConditionFacts
 pub mod Dependences
 pub mod QuestionFacts

@@ -1,26 +1,28 @@
 -- What is known of one question, a line for each fact (own rule).
-use Rattle.std.specs.Prelude.{◌≡◌, ℕ, ◌+◌, Bool, true, false, ◌==◌, if◌then◌else◌, Option, Some, None, List, [], ◌∷◌, ◌++◌, filter, codes, decimal}
+use Rattle.std.specs.Prelude.{◌≡◌, ◌⊎◌, ℕ, ◌+◌, Bool, true, false, ◌==◌, if◌then◌else◌, Option, Some, None, List, [], ◌∷◌, ◌++◌, filter, codes, decimal}
 use Rattle.std.specs.List.{find, list_any}
 use Rattle.hii_bytes.specs.Watching.{Pen, Writes}
+use Rattle.hii_bytes.specs.Texts.{place_text}
 use Rattle.ifr_opcodes.specs.Fields.{question_id, statement_help, statement_prompt}
 use Rattle.ifr_opcodes.specs.Forest.{Placed}
 use Rattle.ifr_opcodes.specs.Opcode.{number}
 use Rattle.ifr_opcodes.specs.declared.codes.TheConstants.{ONE_OF}
 use Rattle.ifr_expr.specs.Values.{Value, natural}
 use Rattle.ifr_scopes.specs.Nodes.{is_form, statements}
+use Rattle.ifr_scopes.specs.Stores.{store_guid}
 use Rattle.hii_questions.specs.Answers.{value_of_field}
 use Rattle.hii_questions.specs.Fields.{Asked, Field, asked, question_with}
 use Rattle.guard_policy.specs.Policy.{fixed}
 use Rattle.form_page.specs.RowValues.{choice}
 use Rattle.form_page.specs.Texts.{utf8}
-use Rattle.audit_text.specs.Stores.{store_guid}
-use Rattle.audit_text.specs.Texts.{guid_text, hex_text, place_text}
+use Rattle.audit_text.specs.Texts.{guid_text, hex_text}
 use Rattle.audit_text.specs.Words.{opcode_name}
 use Rattle.form_audit.specs.Audited.{Audited}
 use Rattle.form_audit.specs.FormLines.{form_text}
 use Rattle.form_audit.specs.QuestionLines.{field_text, is_undefined, store_with}
 use Rattle.form_audit.specs.Reach.{TellsReached}
 use Rattle.form_audit.specs.ScriptValues.{behind, default_taken, script_value}
+use Rattle.question_audit.specs.Beginnings.{Begins}
 use Rattle.question_audit.specs.ConditionFacts.{check_facts, fact, guard_facts, option_facts, verdict_text}
 use Rattle.question_audit.specs.Dependences.{decides_facts, depends_facts}
 
@@ -138,3 +140,11 @@ TellsQuestion true a package_place id old new =
     × Writes old new (question_facts a is_reached package_place (asked a.world.nodes n))
 TellsQuestion false a package_place id old new =
     (question_with a.world.nodes id ≡ None) × Writes old new (no_question id)
+
+-- Nothing was written; or there is one, and the beginning of what is known of it was written.
+abbrev pub BeginsQuestion : Audited → ℕ → ℕ → Pen → Pen → Type 0
+BeginsQuestion a package_place id old new =
+    (new ≡ old)
+    ⊎ ((n : Placed) × (question_with a.world.nodes id ≡ Some n) × (is_reached : ℕ → Bool)
+    × TellsReached a.world is_reached
+    × Begins old new (question_facts a is_reached package_place (asked a.world.nodes n)))

@@ -1,7 +1,7 @@
 //! The guards around questions and their checks.
 
-ghost use Rattle.std.specs.Prelude.{◌≡◌, OnOk};
-ghost use Rattle.hii_bytes.specs.Watching.{Puts};
+ghost use Rattle.std.specs.Prelude.{◌≡◌, OnOk, OnErr};
+ghost use Rattle.hii_bytes.specs.Watching.{Puts, pen_of};
 ghost use Rattle.ifr_opcodes.specs.Opcode.{number};
 ghost use Rattle.ifr_opcodes.specs.code.Ops.{bytes_of as op_bytes};
 ghost use Rattle.ifr_expr.specs.code.Views.{value_of};
@@ -12,10 +12,11 @@ ghost use Rattle.ifr_scopes.specs.code.Parts.{condition_node, condition_op};
 ghost use Rattle.hii_questions.specs.code.Views.{question_node};
 ghost use Rattle.guard_policy.specs.code.Views.{bytes_of};
 ghost use Rattle.form_audit.specs.code.Pages.{audited};
+ghost use Rattle.question_audit.specs.Beginnings.{Begins};
 ghost use Rattle.question_audit.specs.ConditionFacts.{check_fact, check_facts, condition_fact, guard_fact, guard_facts, guard_state, state_text, value_at};
 
 use crate::facts::put_column;
-use audit_text::{opcode_name, put_hex_place};
+use audit_text::opcode_name;
 use condition_text::ConditionText;
 use form_page::Page;
 use guard_policy::Conditions;
@@ -66,14 +67,15 @@ fn put_condition<W: Write>(
     out: &mut Watched<W>,
 ) -> Result<(), AllocError>
     requires { code ≡ number (any_condition_node condition).op }
-    ensures { OnOk result (Puts W.contents out.old out.new
+    ensures told { OnOk result (Puts W.contents out.old out.new
         (condition_fact word.now (any_condition_node condition.entry) state.now)) }
+    ensures nothing { OnErr result (out.new ≡ out.old) }
 {
     let text = ConditionText::of(alloc, condition.condition())?;
     put_column(word, out);
     out.put(opcode_name(code));
     out.put(b" at ");
-    put_hex_place(out, u64::from(condition.place()));
+    out.put_place(u64::from(condition.place()));
     out.put(b" ");
     out.put(state);
     out.put(b": ");
@@ -96,15 +98,16 @@ fn guard_state<'a, C: Conditions>(page: Page<'a, '_, C>, guard: Guard<'a>) -> &'
     }
 }
 
-// Writes a guard.
+// Writes a guard. Where an allocation fails nothing is written.
 fn put_guard<'a, C: Conditions, W: Write>(
     alloc: Global,
     page: Page<'a, '_, C>,
     guard: Guard<'a>,
     out: &mut Watched<W>,
 ) -> Result<(), AllocError>
-    ensures { OnOk result (Puts W.contents out.old out.new
+    ensures told { OnOk result (Puts W.contents out.old out.new
         (guard_fact (audited page.entry) (guard_node guard.entry))) }
+    ensures nothing { OnErr result (out.new ≡ out.old) }
 {
     let state = guard_state(page, guard);
     put_condition(
@@ -117,7 +120,7 @@ fn put_guard<'a, C: Conditions, W: Write>(
     )
 }
 
-/// Writes the guards around a statement, the outermost first.
+/// Writes the guards around a statement, the outermost first. Where an allocation fails, the beginning of these lines may be written.
 pub(crate) fn put_guards<'a, C: Conditions, W: Write>(
     alloc: Global,
     page: Page<'a, '_, C>,
@@ -125,7 +128,9 @@ pub(crate) fn put_guards<'a, C: Conditions, W: Write>(
     out: &mut Watched<W>,
 ) -> Result<(), AllocError>
     requires { IsNodeOf (bytes_of page.policy) (statement_node statement) }
-    ensures { OnOk result (Puts W.contents out.old out.new
+    ensures told { OnOk result (Puts W.contents out.old out.new
+        (guard_facts (audited page.entry) (statement_node statement.entry))) }
+    ensures begun { OnErr result (Begins (pen_of W.contents out.old) (pen_of W.contents out.new)
         (guard_facts (audited page.entry) (statement_node statement.entry))) }
 {
     let mut guards = page.policy().forms().guards_at(statement.place());
@@ -146,29 +151,32 @@ fn code_of(op: ConditionOp<'_>) -> u8
     }
 }
 
-// Writes a check.
+// Writes a check. Where an allocation fails nothing is written.
 fn put_check<'a, C: Conditions, W: Write>(
     alloc: Global,
     page: Page<'a, '_, C>,
     check: ConditionView<'a>,
     out: &mut Watched<W>,
 ) -> Result<(), AllocError>
-    ensures { OnOk result (Puts W.contents out.old out.new
+    ensures told { OnOk result (Puts W.contents out.old out.new
         (check_fact (audited page.entry) (condition_node check.entry))) }
+    ensures nothing { OnErr result (out.new ≡ out.old) }
 {
     let condition = AnyCondition::Question(check);
     let state = state_of(page, condition);
     put_condition(alloc, b"check", code_of(check.op()), condition, state, out)
 }
 
-/// Writes the checks in the scope of a question, by place.
+/// Writes the checks in the scope of a question, by place. Where an allocation fails, the beginning of these lines may be written.
 pub(crate) fn put_checks<'a, C: Conditions, W: Write>(
     alloc: Global,
     page: Page<'a, '_, C>,
     question: Question<'a>,
     out: &mut Watched<W>,
 ) -> Result<(), AllocError>
-    ensures { OnOk result (Puts W.contents out.old out.new
+    ensures told { OnOk result (Puts W.contents out.old out.new
+        (check_facts (audited page.entry) (question_node question.entry))) }
+    ensures begun { OnErr result (Begins (pen_of W.contents out.old) (pen_of W.contents out.new)
         (check_facts (audited page.entry) (question_node question.entry))) }
 {
     let mut checks = page.policy().forms().conditions();

@@ -1,6 +1,6 @@
 //! Which questions depend on another one where it is asked whether they may be changed.
 
-ghost use Rattle.std.specs.Prelude.{◌≡◌, ℕ, true, is_some, IfOk, OnOk, length};
+ghost use Rattle.std.specs.Prelude.{◌≡◌, ℕ, true, is_some, IfOk, OnOk, OnErr, length};
 ghost use Rattle.hii_bytes.specs.Watching.{Puts};
 ghost use Rattle.ifr_scopes.specs.Guards.{guards_among};
 ghost use Rattle.ifr_scopes.specs.Nodes.{nodes_of};
@@ -100,8 +100,9 @@ pub(crate) fn put_decides<'a, C: Conditions, W: Write>(
     question: Question<'a>,
     out: &mut Watched<W>,
 ) -> Result<(), AllocError>
-    ensures { OnOk result (Puts W.contents out.old out.new
+    ensures told { OnOk result (Puts W.contents out.old out.new
         (decides_facts (audited page.entry) (question_node question.entry))) }
+    ensures nothing { OnErr result (out.new ≡ out.old) }
 {
     let policy = page.policy();
     let flags = guards_naming(alloc, policy.forms(), question.id())?;

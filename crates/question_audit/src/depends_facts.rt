@@ -1,6 +1,6 @@
 //! On which questions it depends whether a question may be changed.
 
-ghost use Rattle.std.specs.Prelude.{◌≡◌, ℕ, IfOk, OnOk};
+ghost use Rattle.std.specs.Prelude.{◌≡◌, ℕ, IfOk, OnOk, OnErr};
 ghost use Rattle.hii_bytes.specs.Watching.{Puts};
 ghost use Rattle.hii_bytes.specs.code.NumberSets.{has_number};
 ghost use Rattle.ifr_opcodes.specs.Operators.{is_among};
@@ -118,8 +118,9 @@ pub(crate) fn put_depends<'a, C: Conditions, W: Write>(
     out: &mut Watched<W>,
 ) -> Result<(), AllocError>
     requires { IsNodeOf (bytes_of page.policy) (statement_node statement) }
-    ensures { OnOk result (Puts W.contents out.old out.new
+    ensures told { OnOk result (Puts W.contents out.old out.new
         (depends_facts (audited page.entry) (statement_node statement.entry))) }
+    ensures nothing { OnErr result (out.new ≡ out.old) }
 {
     let ids = support_of(alloc, page, statement)?;
     let mut number = 0;

@@ -6,7 +6,7 @@ ghost use Rattle.guard_policy.specs.code.Answers.{unless};
 ghost use Rattle.guard_policy.specs.declared.denial.Denial.{Denial as Denied};
 ghost use Rattle.question_audit.specs.ConditionFacts.{column, verdict_text};
 
-use audit_text::{put_hex_place, put_left};
+use audit_text::put_left;
 use guard_policy::Denial;
 use hii_bytes::Watched;
 use std::io::Write;
@@ -32,7 +32,7 @@ pub(crate) fn put_verdict_text<W: Write>(verdict: Result<(), Denial>, out: &mut 
         Err(denial) => {
             out.put(denial.kind.name().as_bytes());
             out.put(b" at ");
-            put_hex_place(out, u64::from(denial.place));
+            out.put_place(u64::from(denial.place));
         }
     }
 }

@@ -10,15 +10,13 @@ ghost use Rattle.hii_languages.specs.code.Views.{text_of};
 ghost use Rattle.hii_questions.specs.code.Ranges.{range_in};
 ghost use Rattle.hii_questions.specs.code.Views.{question_node, question_view};
 ghost use Rattle.guard_policy.specs.code.Views.{bytes_of};
-ghost use Rattle.form_audit.specs.QuestionLines.{field_text, store_with};
+ghost use Rattle.form_audit.specs.QuestionLines.{store_with};
 ghost use Rattle.form_audit.specs.code.Pages.{audited};
 ghost use Rattle.question_audit.specs.QuestionFacts.{field_fact, form_fact, form_of, guid_behind, has_within, help_fact, opcode_fact, opcode_facts, prompt_line};
 
 use crate::facts::put_column;
-use audit_text::{
-    Case, opcode_name, put_ascii_name, put_guid, put_hex_place, put_hexadecimal, store_guid,
-};
-use form_audit::{StoreNames, put_form};
+use audit_text::{Case, opcode_name, put_guid, put_hexadecimal};
+use form_audit::{StoreNames, put_field_text, put_form};
 use form_page::{Page, put_shown};
 use guard_policy::{Conditions, Policy};
 use hii_bytes::{NumberSet, Watched};
@@ -112,7 +110,7 @@ fn put_opcode_fact<W: Write>(package_place: u64, question: Question<'_>, out: &m
     put_column(b"opcode", out);
     out.put(opcode_name(question.op().op.code));
     out.put(b" at ");
-    put_hex_place(out, place);
+    out.put_place(place);
     out.put(b", byte ");
     put_hexadecimal(out, package_place + place);
     out.put(b" of the list");
@@ -125,21 +123,8 @@ fn put_store_guid<W: Write>(names: &StoreNames<'_>, id: u16, out: &mut Watched<W
 {
     if let Some(store) = names.find(id) {
         out.put(b" ");
-        put_guid(out, store_guid(store), Case::Upper);
+        put_guid(out, store.guid(), Case::Upper);
     }
-}
-
-// Writes where a field lies, as NAME:0xOFFSET(WIDTH).
-fn put_field_text<W: Write>(names: &StoreNames<'_>, field: FieldRange, out: &mut Watched<W>)
-    ensures { Puts W.contents out.old out.new
-        (field_text (nodes_of names.now) (range_in field)) }
-{
-    put_ascii_name(out, names.name(field.store));
-    out.put(b":0x");
-    put_hexadecimal(out, u64::from(field.offset));
-    out.put(b"(");
-    out.put_decimal(field.width as u64);
-    out.put(b")");
 }
 
 // Writes where the field of a question lies, if it has one, and in which store.

@@ -1,8 +1,8 @@
 //! The options of questions.
 
-ghost use Rattle.std.specs.Prelude.{◌≡◌, ◌==◌, ◌++◌, Option, OnOk, codes, filter};
+ghost use Rattle.std.specs.Prelude.{◌≡◌, ◌==◌, ◌++◌, Option, OnOk, OnErr, codes, filter};
 ghost use Rattle.std.specs.List.{flat_map};
-ghost use Rattle.hii_bytes.specs.Watching.{Puts};
+ghost use Rattle.hii_bytes.specs.Watching.{Puts, pen_of};
 ghost use Rattle.ifr_scopes.specs.Guards.{guards};
 ghost use Rattle.ifr_scopes.specs.code.Checked.{IsNodeOf};
 ghost use Rattle.ifr_scopes.specs.code.Lists.{statement_node};
@@ -13,6 +13,7 @@ ghost use Rattle.guard_policy.specs.code.Views.{bytes_of};
 ghost use Rattle.guard_policy.specs.declared.denial.Denial.{Denial as Denied};
 ghost use Rattle.form_page.specs.code.PageViews.{world_of};
 ghost use Rattle.form_audit.specs.code.Pages.{audited};
+ghost use Rattle.question_audit.specs.Beginnings.{Begins};
 ghost use Rattle.question_audit.specs.ConditionFacts.{condition_words, deciding, option_fact, option_facts};
 
 use crate::facts::{put_column, put_verdict_text};
@@ -36,7 +37,8 @@ fn verdict_on<'a, C: Conditions>(
         .option_changeable_by(option, page.conditions())
 }
 
-// Writes what the guard at a place around an option says, behind a colon.
+// Writes what the guard at a place around an option says, behind a colon. Where an allocation fails, the beginning of it may be
+// written.
 fn put_guard_at<'a, C: Conditions, W: Write>(
     alloc: Global,
     page: Page<'a, '_, C>,
@@ -45,7 +47,10 @@ fn put_guard_at<'a, C: Conditions, W: Write>(
     out: &mut Watched<W>,
 ) -> Result<(), AllocError>
     requires { IsNodeOf (bytes_of page.policy) (option_node option) }
-    ensures { OnOk result (Puts W.contents out.old out.new
+    ensures told { OnOk result (Puts W.contents out.old out.new
+        (flat_map (λ g. codes ": " ++ condition_words g)
+        (filter (λ g. g.place == place) (guards (option_node option.entry))))) }
+    ensures begun { OnErr result (Begins (pen_of W.contents out.old) (pen_of W.contents out.new)
         (flat_map (λ g. codes ": " ++ condition_words g)
         (filter (λ g. g.place == place) (guards (option_node option.entry))))) }
 {
@@ -60,7 +65,8 @@ fn put_guard_at<'a, C: Conditions, W: Write>(
     Ok(())
 }
 
-// Writes what the guard that decides a verdict on an option says, if a guard does.
+// Writes what the guard that decides a verdict on an option says, if a guard does. Where an allocation fails, the beginning of it may
+// be written.
 fn put_deciding<'a, C: Conditions, W: Write>(
     alloc: Global,
     page: Page<'a, '_, C>,
@@ -69,8 +75,11 @@ fn put_deciding<'a, C: Conditions, W: Write>(
     out: &mut Watched<W>,
 ) -> Result<(), AllocError>
     requires { IsNodeOf (bytes_of page.policy) (option_node option) }
-    ensures { OnOk result ((denied : Option Denied) → verdict ≡ unless denied
+    ensures told { OnOk result ((denied : Option Denied) → verdict ≡ unless denied
         → Puts W.contents out.old out.new (deciding (option_node option.entry) denied)) }
+    ensures begun { OnErr result ((denied : Option Denied) → verdict ≡ unless denied
+        → Begins (pen_of W.contents out.old) (pen_of W.contents out.new)
+        (deciding (option_node option.entry) denied)) }
 {
     match verdict {
         Ok(()) => Ok(()),
@@ -78,7 +87,7 @@ fn put_deciding<'a, C: Conditions, W: Write>(
     }
 }
 
-// Writes an option.
+// Writes an option. Where an allocation fails, the beginning of its line may be written.
 fn put_option<'a, C: Conditions, W: Write>(
     alloc: Global,
     page: Page<'a, '_, C>,
@@ -86,7 +95,9 @@ fn put_option<'a, C: Conditions, W: Write>(
     out: &mut Watched<W>,
 ) -> Result<(), AllocError>
     requires { IsNodeOf (bytes_of page.policy) (option_node option) }
-    ensures { OnOk result (Puts W.contents out.old out.new
+    ensures told { OnOk result (Puts W.contents out.old out.new
+        (option_fact (audited page.entry) (option_node option.entry))) }
+    ensures begun { OnErr result (Begins (pen_of W.contents out.old) (pen_of W.contents out.new)
         (option_fact (audited page.entry) (option_node option.entry))) }
 {
     let verdict = verdict_on(page, option);
@@ -101,7 +112,7 @@ fn put_option<'a, C: Conditions, W: Write>(
     Ok(())
 }
 
-/// Writes the options of a question, by place.
+/// Writes the options of a question, by place. Where an allocation fails, the beginning of these lines may be written.
 pub(crate) fn put_options<'a, C: Conditions, W: Write>(
     alloc: Global,
     page: Page<'a, '_, C>,
@@ -109,7 +120,9 @@ pub(crate) fn put_options<'a, C: Conditions, W: Write>(
     out: &mut Watched<W>,
 ) -> Result<(), AllocError>
     requires { IsNodeOf (bytes_of page.policy) (statement_node statement) }
-    ensures { OnOk result (Puts W.contents out.old out.new
+    ensures told { OnOk result (Puts W.contents out.old out.new
+        (option_facts (audited page.entry) (statement_node statement.entry))) }
+    ensures begun { OnErr result (Begins (pen_of W.contents out.old) (pen_of W.contents out.new)
         (option_facts (audited page.entry) (statement_node statement.entry))) }
 {
     let mut options = page.policy().forms().options_of(statement);

@@ -1,6 +1,6 @@
 //! What is known of one question.
 
-ghost use Rattle.std.specs.Prelude.{◌≡◌, ◌+◌, ◌<◌, ◌^◌, ℕ, Bool, OnOk, IfOk, IfErr, length};
+ghost use Rattle.std.specs.Prelude.{◌≡◌, ◌⊎◌, ◌+◌, ◌<◌, ◌^◌, ℕ, Bool, OnOk, OnErr, IfOk, IfErr, length};
 ghost use Rattle.hii_bytes.specs.Faults.{out_of_memory};
 ghost use Rattle.hii_bytes.specs.Watching.{Puts, pen_of};
 ghost use Rattle.ifr_scopes.specs.Nodes.{nodes_of};
@@ -13,7 +13,8 @@ ghost use Rattle.guard_policy.specs.code.Views.{bytes_of};
 ghost use Rattle.form_page.specs.code.PageViews.{world_of};
 ghost use Rattle.form_audit.specs.Reach.{TellsReached};
 ghost use Rattle.form_audit.specs.code.Pages.{audited};
-ghost use Rattle.question_audit.specs.QuestionFacts.{TellsQuestion, question_facts, verdict_fact};
+ghost use Rattle.question_audit.specs.Beginnings.{Begins};
+ghost use Rattle.question_audit.specs.QuestionFacts.{BeginsQuestion, TellsQuestion, question_facts, verdict_fact};
 
 use crate::condition_facts::{put_checks, put_guards};
 use crate::decides_facts::put_decides;
@@ -50,7 +51,7 @@ fn put_verdict_fact<'a, C: Conditions, W: Write>(
     out.put(b"\n");
 }
 
-// Writes what is known of a question, a line for each fact. Where an allocation fails a part of it may be written.
+// Writes what is known of a question, a line for each fact. Where an allocation fails, the beginning of these lines may be written.
 fn put_question_facts<'a, C: Conditions, W: Write>(
     alloc: Global,
     page: Page<'a, '_, C>,
@@ -67,6 +68,11 @@ fn put_question_facts<'a, C: Conditions, W: Write>(
         × Puts W.contents out.old out.new
         (question_facts (audited page.entry) is_reached package_place
         (question_view question.entry))) }
+    ensures begun { OnErr result ((out.new ≡ out.old)
+        ⊎ ((is_reached : ℕ → Bool) × TellsReached (world_of page.entry) is_reached
+        × Begins (pen_of W.contents out.old) (pen_of W.contents out.new)
+        (question_facts (audited page.entry) is_reached package_place
+        (question_view question.entry)))) }
     ensures refused { IfErr result (λ fault. fault ≡ out_of_memory) }
 {
     let reached = reached_forms(alloc, page)?;
@@ -86,7 +92,7 @@ fn put_question_facts<'a, C: Conditions, W: Write>(
 
 /// Writes what is known of the question of an id in the form set of a page, a line for each fact, over the stores of the page, or that
 /// there is no such question; and tells whether there is one. The forms package stands at a place of its list, in bytes. Where an
-/// allocation fails a part may be written.
+/// allocation fails, the beginning of these lines may be written.
 pub fn put_question_with_id<'a, C: Conditions, W: Write>(
     alloc: Global,
     page: Page<'a, '_, C>,
@@ -97,6 +103,8 @@ pub fn put_question_with_id<'a, C: Conditions, W: Write>(
     requires lie { LieIn (shape_of page.stores.now) (questions (nodes_of (bytes_of page.policy))) }
     requires in_list { package_place + length (bytes_of page.policy) < 2 ^ 64 }
     ensures told { IfOk result (λ is_there. TellsQuestion is_there (audited page.entry) package_place id
+        (pen_of W.contents out.old) (pen_of W.contents out.new)) }
+    ensures begun { OnErr result (BeginsQuestion (audited page.entry) package_place id
         (pen_of W.contents out.old) (pen_of W.contents out.new)) }
     ensures refused { IfErr result (λ fault. fault ≡ out_of_memory) }
 {

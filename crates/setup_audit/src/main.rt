@@ -1,10 +1,9 @@
 //! What stands around `setup`: the package lists of a dump, the stores that a list declares and images of them, and the questions of
-//! a form set with what forbids their change.
+//! a form set with what forbids their change (own rule).
 #![tactic(auto)]
 
 mod answers;
 mod auditing;
-mod given;
 mod image;
 mod question;
 mod questions;

@@ -6,7 +6,7 @@ ghost use Rattle.store_audit.specs.Fillings.{buffer_stores};
 ghost use Rattle.store_audit.specs.code.Fillings.{filling_node};
 
 use audit_options::ImageOptions;
-use audit_text::{Case, guid_digits, store_guid, store_name};
+use audit_text::{Case, guid_digits};
 use hii_bytes::Cause;
 use ifr_scopes::Varstore;
 use setup_files::{Status, file, refused};
@@ -104,9 +104,9 @@ fn variable_path(
     folder: &str,
     store: Varstore<'_>,
 ) -> Result<Option<String>, fmt::Error> {
-    let digits = guid_digits(store_guid(store), Case::Lower);
+    let digits = guid_digits(store.guid(), Case::Lower);
     let (Ok(name), Ok(guid)) = (
-        str::from_utf8(store_name(store)),
+        str::from_utf8(store.name()),
         str::from_utf8(digits.as_slice()),
     ) else {
         return Ok(None);

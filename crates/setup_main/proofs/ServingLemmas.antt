@@ -14,7 +14,7 @@ use Rattle.browser_core.specs.Run.{outcome_of, Finishes}
 use Rattle.browser_core.specs.declared.reply.End.{End}
 use Rattle.browser_core.specs.declared.reply.End.TheVariants as end
 use Rattle.browser_core.proofs.RunLemmas.{finishes_known}
-use Rattle.setup_main.specs.declared.serve.Given.{Given}
+use Rattle.setup_files.specs.declared.given.Given.{Given}
 use Rattle.setup_main.specs.declared.serve.Ended.{Ended}
 use Rattle.setup_main.specs.declared.serve.Ended.TheVariants.{Done, Refused, ReadScript, WriteAnswers, WriteOut, NoMemory}
 use Rattle.setup_main.specs.Serving.{Starts, IsRefusedBy, IsWritten, RunsAll, IsRefused, ServesAll, Ends, Finished, Serves, fresh, Gives, GivesAll}

@@ -10,10 +10,10 @@ use Rattle.hii_varstore.specs.Image.{image_of}
 use Rattle.browser_core.specs.Renewed.{Shown}
 use Rattle.browser_core.specs.Opening.{Opens, IsOpenFault}
 use Rattle.browser_core.specs.Run.{outcome_of, Finishes, BreaksOff, Overflows}
-use Rattle.browser_core.specs.Texts.{refused_text, fault_text}
+use Rattle.browser_core.specs.Texts.{refused_text, refused_at_text}
 use Rattle.browser_core.specs.declared.reply.End.{End}
 use Rattle.browser_core.specs.declared.reply.End.TheVariants as end
-use Rattle.setup_main.specs.declared.serve.Given.{Given}
+use Rattle.setup_files.specs.declared.given.Given.{Given}
 use Rattle.setup_main.specs.declared.serve.Ended.{Ended}
 use Rattle.setup_main.specs.declared.serve.Ended.TheVariants.{Done, Refused, ReadScript, WriteAnswers, WriteOut, NoMemory}
 
@@ -45,7 +45,7 @@ pub record RunsAll (given : Given) (script : List ℕ) (end : End)
 pub record IsRefused (given : Given) (answers answered : Pen) : Type 0 where
   pub fault : Fault
   pub least : IsRefusedBy given fault
-  pub text : IsWritten answers answered (fault_text fault)
+  pub text : IsWritten answers answered (refused_at_text fault)
 
 -- What stands in the answers and in the image where no reader or writer fails. The image is that of the stores that were
 -- last submitted, and is written only after a whole script.
@@ -78,7 +78,7 @@ pub record Finished (given : Given) (before : Ends) (end : End) (after : Ends) :
 -- What is given is refused or an allocation fails, and the answers fail at the line that tells it, or as that is passed on.
 pub record FailsAtOnce (given : Given) (before after : Ends) : Type 0 where
   pub text : List ℕ
-  pub line : ((fault : Fault) × IsRefusedBy given fault × (text ≡ fault_text fault))
+  pub line : ((fault : Fault) × IsRefusedBy given fault × (text ≡ refused_at_text fault))
       ⊎ (text ≡ refused_text OutOfMemory)
   pub breaks : BreaksWithin before.answers after.answers text
   pub after_fault : before.answers.broken ≡ true → breaks.part ≡ 0

@@ -1,4 +1,4 @@
-//! Runs a script of commands over a package list and the image of its stores.
+//! Runs a script of commands over a package list and the image of its stores (own rule).
 #![tactic(auto)]
 
 mod serve;
@@ -7,8 +7,8 @@ mod tests;
 
 use clap::error::ErrorKind;
 use hii_bytes::Cause;
-use serve::{Ended, Given, serve};
-use setup_files::{OutFile, Status, fault, file, refused, usage, words};
+use serve::{Ended, serve};
+use setup_files::{FormSetFiles, Given, OutFile, Status, fault, refused, usage, words};
 use setup_options::{Options, read_words};
 use std::io;
 use std::io::BufWriter;
@@ -35,20 +35,11 @@ fn status<R: Env + Files + Input + Print + Eprint + AllocGlobal>(rt: &R) -> Stat
 }
 
 fn run<R: Files + Input + Print + Eprint + AllocGlobal>(rt: &R, options: Options<'_>) -> Status {
-    let list = match file(rt, options.list, "read list") {
-        Ok(bytes) => bytes,
+    let files = match FormSetFiles::read(rt, options.list, options.stores) {
+        Ok(files) => files,
         Err(status) => return status,
     };
-    let stores = match file(rt, options.stores, "read stores") {
-        Ok(bytes) => bytes,
-        Err(status) => return status,
-    };
-    let given = Given {
-        list: list.as_slice(),
-        forms: usize::from(options.forms),
-        stores: stores.as_slice(),
-        lang: options.lang.as_bytes(),
-    };
+    let given = files.given(options.forms, options.lang);
     match run_given(rt, given, options.out) {
         Some(Ended::Done) => Status::Done,
         Some(Ended::Refused) => Status::Refused,

@@ -4,25 +4,13 @@ ghost use Rattle.std.specs.Prelude.{◌≡◌, IfSome, true, false};
 ghost use Rattle.hii_bytes.specs.Watching.{pen_of, inner_of, has_failed};
 ghost use Rattle.setup_main.specs.Serving.{Starts, Serves, ServesAll, Gives, GivesAll};
 ghost use Rattle.setup_main.specs.code.Endings.{IsTold};
-ghost use Rattle.setup_main.specs.declared.serve.Given.{Given};
+ghost use Rattle.setup_files.specs.declared.given.Given.{Given};
 
 use browser_core::{End, RunFault, Session, put_refusal, put_refusal_at};
 use hii_bytes::{Cause, Fault, Watched};
+use setup_files::Given;
 use std::alloc::Global;
 use std::io::{Read, Write};
-
-/// What a run begins with.
-#[derive(Clone, Copy)]
-pub struct Given<'a> {
-    /// The bytes of the package list.
-    pub list: &'a [u8],
-    /// Which forms package is opened, counted from 1.
-    pub forms: usize,
-    /// The image of the stores.
-    pub stores: &'a [u8],
-    /// The language of the texts.
-    pub lang: &'a [u8],
-}
 
 /// How a run ended.
 #[derive(Clone, Copy, Debug, PartialEq, Eq)]

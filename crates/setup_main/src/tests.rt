@@ -1,6 +1,7 @@
 //! Runs over readers and writers that hold little, or fail.
 
-use crate::serve::{Ended, Given, serve};
+use crate::serve::{Ended, serve};
+use setup_files::Given;
 use std::alloc::Global;
 use std::io;
 use std::io::{BufWriter, ErrorKind, Read, Write};

@@ -1,4 +1,4 @@
-//! The command line of `setup`.
+//! The command line of `setup` (own rule).
 #![tactic(auto)]
 
 mod command_line;

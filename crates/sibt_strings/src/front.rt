@@ -1,6 +1,6 @@
 //! The block at the front of the bytes of blocks.
 
-ghost use Rattle.std.specs.Prelude.{◌≡◌, ◌+◌, ◌<◌, ◌≤◌, ◌%◌, length, IfSome, MatchOption, option_map};
+ghost use Rattle.std.specs.Prelude.{◌≡◌, ◌+◌, ◌<◌, length, IfSome, MatchOption, option_map};
 ghost use Rattle.sibt_strings.specs.Blocks.{cut_text, texts_in, front_of, texts_block, extension_block};
 ghost use Rattle.sibt_strings.specs.code.Ends.{Stops};
 ghost use Rattle.sibt_strings.specs.code.Views.{units_in, head_seen, head_or_bad, front_seen, EndsWith, HasBehind, LiesIn, LeavesLess, SplitsInto};

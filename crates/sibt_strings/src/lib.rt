@@ -1,4 +1,5 @@
-//! String packages: a language, and texts by string ids (UEFI 2.8, 33.3.6 String Package).
+//! String packages: a language, and texts by string ids (UEFI 2.8, 33.3.6 String Package; what is refused, and what is shown of a
+//! text, are own rules).
 #![tactic(auto)]
 
 mod block;

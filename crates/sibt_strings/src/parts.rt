@@ -1,6 +1,6 @@
 //! The parts of a string package.
 
-ghost use Rattle.std.specs.Prelude.{◌≡◌, ◌+◌, ◌<◌, ◌^◌, length, Some, IfOk, IfErr, option_map};
+ghost use Rattle.std.specs.Prelude.{◌≡◌, ◌+◌, ◌<◌, Some, IfOk, IfErr, option_map};
 ghost use Rattle.hii_bytes.specs.Faults.{IsLeast};
 ghost use Rattle.hii_bytes.specs.declared.cause.Cause.TheVariants.{LanguageText};
 ghost use Rattle.sibt_strings.specs.Strings.{HasFixedPart, IsStringFaultIn, info_offset, language_of, blocks_of};

@@ -1,6 +1,6 @@
 //! The places of the texts of string ids, gathered in a walk over blocks.
 
-ghost use Rattle.std.specs.Prelude.{◌≡◌, ◌+◌, ◌<◌, ◌^◌, ℕ, List, [], ◌∷◌, ◌++◌, Option, Some, length, IfOk, IfErr, OnOk};
+ghost use Rattle.std.specs.Prelude.{◌+◌, ◌<◌, ◌^◌, ℕ, List, [], ◌∷◌, ◌++◌, Option, Some, length, IfOk, IfErr, OnOk};
 ghost use Rattle.sibt_strings.specs.Blocks as spec;
 ghost use Rattle.sibt_strings.specs.code.Views.{EndsWith, HoldsBlocks, IsBlockFault};
 ghost use Rattle.sibt_strings.specs.code.Table.{text_of_place, IsNext, IsTabled, Adds, HasTable, Steps, StepsTo};

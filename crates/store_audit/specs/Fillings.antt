@@ -2,8 +2,7 @@
 use Rattle.std.specs.Prelude.{ℕ, ◌==◌, Bool, true, false, List, [], ◌++◌, filter, is_some, length, replicate, unwrap_or, codes, decimal, string_bytes}
 use Rattle.ifr_opcodes.specs.Forest.{Placed}
 use Rattle.ifr_scopes.specs.Nodes.{is_store}
-use Rattle.ifr_scopes.specs.Stores.{store_id, store_size}
-use Rattle.audit_text.specs.Stores.{store_name}
+use Rattle.ifr_scopes.specs.Stores.{store_id, store_name, store_size}
 use Rattle.audit_text.specs.Texts.{ascii_name}
 use Rattle.hii_varstore.specs.Stores.{Store}
 use Rattle.store_audit.specs.declared.fillings.Source.{Source}

@@ -4,8 +4,8 @@ use Rattle.hii_bytes.specs.Texts.{right_aligned}
 use Rattle.ifr_opcodes.specs.Forest.{Placed}
 use Rattle.ifr_opcodes.specs.Opcode.{number}
 use Rattle.ifr_scopes.specs.Nodes.{is_store}
-use Rattle.ifr_scopes.specs.Stores.{store_id, store_size}
-use Rattle.audit_text.specs.Stores.{store_attributes, store_guid, store_name}
+use Rattle.ifr_scopes.specs.Stores.{store_guid, store_id, store_name, store_size}
+use Rattle.audit_text.specs.Stores.{store_attributes}
 use Rattle.audit_text.specs.Texts.{left_aligned, guid_text, ascii_name}
 use Rattle.audit_text.specs.Words.{opcode_name}
 

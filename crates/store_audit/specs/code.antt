@@ -1,2 +1,2 @@
--- How structs, iterators and tables of the code are seen. No module outside of this folder and of laws cites one of it.
+-- How a store is seen that is filled. No definition outside of this folder cites one of it; contracts of setup_audit do.
 pub mod Fillings

@@ -1,6 +1,6 @@
 //! What a form set declares.
 
-ghost use Rattle.std.specs.Prelude.{◌≡◌, IfOk, IfErr, Some};
+ghost use Rattle.std.specs.Prelude.{◌≡◌, IfOk, IfErr};
 ghost use Rattle.hii_bytes.specs.Faults.{HasNone, IsLeast, Refuses};
 ghost use Rattle.hii_packages.specs.Packages.{Entry};
 ghost use Rattle.hii_packages.specs.code.Package.{entry_of};

@@ -15,7 +15,7 @@ ghost use Rattle.store_audit.specs.Images.{PutsImage};
 ghost use Rattle.store_audit.specs.code.Fillings as spec;
 
 use crate::declared::Declared;
-use audit_text::{put_ascii_name, store_name};
+use audit_text::put_ascii_name;
 use hii_bytes::{Fault, Watched};
 use hii_varstore::Stores;
 use hii_varstore::laws::{images_are_read_back, one_map_is_spelled};
@@ -106,7 +106,7 @@ fn put_names<W: Write>(store: Varstore<'_>, out: &mut Watched<W>)
 {
     out.put_decimal(u64::from(store.id()));
     out.put(b" ");
-    put_ascii_name(out, store_name(store));
+    put_ascii_name(out, store.name());
 }
 
 // Writes how many bytes a store is given, and how many it holds.

@@ -1,4 +1,5 @@
-//! The stores that a form set declares, told line by line, and the image that is made of given bytes.
+//! The stores that a form set declares, told line by line, and the image that is made of given bytes (own rule; stores are those
+//! of UEFI 2.8, 33.2.5.6 Storage).
 #![tactic(auto)]
 
 mod declared;

@@ -1,16 +1,12 @@
 //! A line for each store.
 
-ghost use Rattle.std.specs.Prelude.{◌≡◌};
-ghost use Rattle.hii_bytes.specs.Watching.{Puts, Writes};
+ghost use Rattle.hii_bytes.specs.Watching.{Puts};
 ghost use Rattle.hii_bytes.specs.Texts.{right_aligned};
 ghost use Rattle.ifr_scopes.specs.Nodes.{nodes_of};
 ghost use Rattle.ifr_scopes.specs.code.Lists.{store_node};
 ghost use Rattle.store_audit.specs.StoreLines.{size_text, store_line, stores_text};
 
-use audit_text::{
-    Case, put_ascii_name, put_guid, put_left, store_attributes, store_guid, store_name,
-    store_opcode_name,
-};
+use audit_text::{Case, put_ascii_name, put_guid, put_left, store_attributes, store_opcode_name};
 use hii_bytes::Watched;
 use ifr_scopes::{Forms, Varstore};
 use std::io::Write;
@@ -37,9 +33,9 @@ fn put_store<W: Write>(store: Varstore<'_>, out: &mut Watched<W>)
     out.put(b" ");
     put_left(out, 8, store_attributes(store));
     out.put(b" ");
-    put_guid(out, store_guid(store), Case::Upper);
+    put_guid(out, store.guid(), Case::Upper);
     out.put(b" ");
-    put_ascii_name(out, store_name(store));
+    put_ascii_name(out, store.name());
     out.put(b"\n");
 }
 

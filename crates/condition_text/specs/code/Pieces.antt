@@ -1,28 +1,30 @@
 -- The texts of pieces.
-use Rattle.std.specs.Prelude.{ℕ, List, [], ◌∷◌, ◌++◌, codes}
+use Rattle.std.specs.Prelude.{ℕ, List, [], ◌∷◌, ◌++◌, codes, drop}
+use Rattle.ifr_opcodes.specs.Forest.{Mark}
 use Rattle.ifr_opcodes.specs.code.Codes.{unary_code, binary_code}
-use Rattle.ifr_opcodes.specs.code.Ops.{bytes_of}
-use Rattle.ifr_opcodes.specs.code.Views.{leaf_operator}
-use Rattle.condition_text.specs.Senses.{leaf_sense}
-use Rattle.condition_text.specs.Texts.{text, word_in, unary_words}
+use Rattle.condition_text.specs.Texts.{word_in, unary_words}
+use Rattle.condition_text.specs.code.Leaves.{first_text}
 use Rattle.condition_text.specs.code.Progress.{spaced_word}
 use Rattle.condition_text.specs.declared.piece.Piece.{Piece}
 use Rattle.condition_text.specs.declared.piece.Piece.TheVariants as piece
-use Rattle.condition_text.specs.declared.piece.Word.{Word}
-use Rattle.condition_text.specs.declared.piece.Word.TheVariants as word
 
-abbrev pub word_text : Word → List ℕ
-word_text word.Open = codes "("
-word_text word.Close = codes ")"
-word_text (word.Unary operator) = word_in unary_words (unary_code operator)
-word_text (word.Binary operator) = spaced_word (binary_code operator)
+-- the text of a piece, by that of the next operator that takes no operands
+abbrev pub piece_text : List ℕ → Piece → List ℕ
+piece_text leaf piece.Leaf = leaf
+piece_text leaf piece.Open = codes "("
+piece_text leaf piece.Close = codes ")"
+piece_text leaf (piece.Unary operator) = word_in unary_words (unary_code operator)
+piece_text leaf (piece.OpenUnary operator) =
+    codes "(" ++ word_in unary_words (unary_code operator)
+piece_text leaf (piece.Binary operator) = spaced_word (binary_code operator)
 
-abbrev pub piece_text : Piece → List ℕ
-piece_text (piece.Leaf op) = text (leaf_sense (bytes_of (leaf_operator op)))
-piece_text (piece.RuleRef op) = text (leaf_sense (bytes_of op.op))
-piece_text (piece.Word word) = word_text word
+-- what a piece leaves of the operators that take no operands
+abbrev pub left_by : Piece → List Mark → List Mark
+left_by piece.Leaf leaves = drop 1 leaves
+left_by _ leaves = leaves
 
--- the text of pieces, of which the last stands first
-abbrev pub text_of_pieces : List Piece → List ℕ
-text_of_pieces [] = []
-text_of_pieces (piece ∷ pieces) = text_of_pieces pieces ++ piece_text piece
+-- the text of pieces among which the texts of operators that take no operands stand in turn
+abbrev pub woven : List Piece → List Mark → List ℕ
+woven [] leaves = []
+woven (piece ∷ pieces) leaves =
+    piece_text (first_text leaves) piece ++ woven pieces (left_by piece leaves)

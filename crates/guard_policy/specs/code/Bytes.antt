@@ -1,7 +1,7 @@
 -- The bytes of a package.
 use Rattle.std.specs.Prelude.{ℕ, List}
 use Rattle.std.proofs.Props.{props}
-use Rattle.hii_questions.specs.laws.Fields.{AreBytes}
+use Rattle.hii_bytes.specs.Numbers.{AreBytes}
 
 pub AreBytes-prop : (bytes : List ℕ) → IsProp (AreBytes bytes)
 AreBytes-prop bytes = hlevel props

@@ -1,6 +1,7 @@
 -- Laws of questions and their fields.
-use Rattle.std.specs.Prelude.{◌≡◌, ◌⊎◌, ℕ, ◌+◌, ◌-◌, ◌*◌, ◌^◌, ◌≤◌, ◌<◌, ◌==◌, not, ℤ, pos, negsuc, suc, true, Option, Some, None, Ok, List, [], ◌∷◌, length, slice_index, chars, filter, Contains, ⊤}
+use Rattle.std.specs.Prelude.{◌≡◌, ◌⊎◌, ℕ, ◌+◌, ◌-◌, ◌*◌, ◌^◌, ◌≤◌, ◌==◌, not, ℤ, pos, negsuc, suc, true, Option, Some, None, Ok, List, [], ◌∷◌, length, chars, filter, Contains, ⊤}
 use Rattle.hii_bytes.specs.Faults.{HasNone}
+use Rattle.hii_bytes.specs.Numbers.{AreBytes}
 use Rattle.ifr_opcodes.specs.Forest.{Placed}
 use Rattle.ifr_opcodes.specs.Fields.{question_id}
 use Rattle.ifr_expr.specs.Values as values
@@ -70,10 +71,7 @@ abbrev pub taken_value : Option FieldType → Offer → Value
 taken_value None offer = undefined
 taken_value (Some t) offer = taken_as t (read_as t offer)
 
--- The bytes of an offer are below 256.
-abbrev pub AreBytes : List ℕ → Type 0
-AreBytes bytes = (k : ℕ) → slice_index bytes k < 256
-
+-- The bytes of an offer are bytes.
 abbrev pub HasBytes : Offer → Type 0
 HasBytes (units bytes) = AreBytes bytes
 HasBytes (field bytes) = AreBytes bytes

@@ -2,4 +2,4 @@ use Rattle.hii_bytes.proofs.WritingLemmas.{◌⨾◌}
 use Rattle.browser_core.proofs.texts.put_refusal_at.Goals as goal
 
 pub returns : goal.returns
-returns g c = c.put_cause.ensures ⨾ c.put.ensures ⨾ c.put_place.ensures ⨾ c.put-2.ensures
+returns g c = c.put_fault.ensures ⨾ c.put.ensures

@@ -1,10 +1,9 @@
 use Rattle.std.proofs.Common.{ap, subst, ◌∙◌, List, ℕ, rules}
 use Rattle.std.specs.List.{flat_map}
+use Rattle.hii_bytes.specs.Watching.{pen_of, Writes}
+use Rattle.hii_bytes.proofs.WritingLemmas.{Stands-start, past_piece}
 use Rattle.hii_languages.specs.Shown.{shown_text}
 use Rattle.hii_languages.specs.code.Views.{choice_of}
-use Rattle.hii_bytes.specs.Watching.{pen_of, Writes}
-use Rattle.hii_bytes.proofs.WritingLemmas.{Stands-start}
-use Rattle.form_page.proofs.TextLemmas.{past_piece}
 use Rattle.guard_policy.specs.code.WarningsLeft.{warnings_left}
 use Rattle.browser_core.specs.Texts.{warning_text, warning_line}
 use Rattle.browser_core.proofs.texts.put_warnings.Goals as goal

@@ -1,8 +1,8 @@
 use Rattle.std.proofs.Common.{ℕ, ◌++◌, ap}
 use Rattle.std.specs.Prelude.{codes, decimal}
 use Rattle.std.specs.List.{flat_map}
-use Rattle.hii_bytes.proofs.WritingLemmas.{◌⨾◌}
-use Rattle.condition_text.proofs.WriteLemmas.{written_as, past_piece}
+use Rattle.hii_bytes.proofs.WritingLemmas.{◌⨾◌, past_piece}
+use Rattle.condition_text.proofs.WriteLemmas.{written_as}
 use Rattle.condition_text.proofs.leaf.put_values.Goals as goal
 
 pub loop-value-preserved : goal.loop-value-preserved

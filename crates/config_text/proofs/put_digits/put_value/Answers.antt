@@ -1,5 +1,6 @@
 use Rattle.std.proofs.Common.{◌<◌, length, rules}
-use Rattle.config_text.proofs.WriteLemmas.{past_piece, value_digits-last}
+use Rattle.hii_bytes.proofs.WritingLemmas.{past_piece}
+use Rattle.config_text.proofs.WriteLemmas.{value_digits-last}
 use Rattle.config_text.proofs.put_digits.put_value.Goals as goal
 
 pub loop-rest-preserved : goal.loop-rest-preserved

@@ -2,4 +2,4 @@ use Rattle.hii_bytes.proofs.WritingLemmas.{◌⨾◌}
 use Rattle.dump_audit.proofs.lines.put_head.Goals as goal
 
 pub returns : goal.returns
-returns g c = c.put.ensures ⨾ c.put_decimal.ensures ⨾ c.put-2.ensures ⨾ c.put_hex_place.ensures ⨾ c.put-3.ensures ⨾ c.put_decimal-2.ensures ⨾ c.put-4.ensures
+returns g c = c.put.ensures ⨾ c.put_decimal.ensures ⨾ c.put-2.ensures ⨾ c.put_place.ensures ⨾ c.put-3.ensures ⨾ c.put_decimal-2.ensures ⨾ c.put-4.ensures

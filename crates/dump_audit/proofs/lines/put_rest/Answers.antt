@@ -10,4 +10,4 @@ pub returns : goal.returns
 returns g c =
     let some : 0 < length c.args.dump.now.rest = grind (arith, common_steps) in
     subst (Writes _ _) (sym (rest_some (length (concat c.args.dump.now.lists)) c.args.dump.now.rest some))
-    (rw (c.rest_place.ensures, c.rest-2.ensures) at (c.put.ensures ⨾ c.put_hex_place.ensures ⨾ c.put-2.ensures ⨾ c.put_decimal.ensures ⨾ c.put-3.ensures))
+    (rw (c.rest_place.ensures, c.rest-2.ensures) at (c.put.ensures ⨾ c.put_place.ensures ⨾ c.put-2.ensures ⨾ c.put_decimal.ensures ⨾ c.put-3.ensures))

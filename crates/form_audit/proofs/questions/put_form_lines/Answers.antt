@@ -4,7 +4,7 @@ use Rattle.std.specs.List.{flat_map}
 use Rattle.hii_bytes.specs.Watching.{Writes, pen_of}
 use Rattle.hii_bytes.specs.code.NumberSets.{has_number}
 use Rattle.hii_bytes.specs.code.Writing.{Stands}
-use Rattle.hii_bytes.proofs.WritingLemmas.{◌⨾◌}
+use Rattle.hii_bytes.proofs.WritingLemmas.{◌⨾◌, past_piece}
 use Rattle.ifr_opcodes.specs.Forest.{Placed}
 use Rattle.ifr_scopes.specs.Nodes.{is_question, nodes_of}
 use Rattle.ifr_scopes.specs.code.Checked.{AreNodesOf, IsNodeOf}
@@ -18,7 +18,6 @@ use Rattle.hii_questions.specs.code.Views.{question_view}
 use Rattle.guard_policy.specs.code.Views.{bytes_of}
 use Rattle.guard_policy.specs.declared.policy.Policy.{Policy}
 use Rattle.guard_policy.proofs.OptionLemmas.{first_of, rest_of}
-use Rattle.audit_text.proofs.TextLemmas.{past_piece}
 use Rattle.form_audit.specs.FormLines.{form_lines, form_text}
 use Rattle.form_audit.specs.QuestionLines.{question_line}
 use Rattle.form_audit.specs.code.Pages.{audited}
@@ -87,7 +86,7 @@ loop-statement-preserved-in-Some-question g c =
       ends = search rules;
       nodes = rest_of bytes left n after e c.loop-statement.invariant.nodes;
       same = c.put_question.ensures.same;
-      text = past_piece (told n) (flat_map told (filter is_question after)) (with_question told n left after e said.0) c.loop-statement.invariant.text
+      text = past_piece _ _ _ _ _ (told n) (flat_map told (filter is_question after)) (with_question told n left after e said.0) c.loop-statement.invariant.text
           (subst (λ (q : Asked). Writes (pen_of g.W.Write.contents c.loop-statement.out) (pen_of g.W.Write.contents c.put_question.new.out) (question_line (audited page) q)) said.1 c.put_question.ensures.text);
     }
 

@@ -2,14 +2,13 @@ use Rattle.std.proofs.Common.{ℕ, List, [], ap, subst, rules, sym, ◌∙◌}
 use Rattle.std.specs.Prelude.{filter}
 use Rattle.std.specs.List.{flat_map}
 use Rattle.hii_bytes.specs.code.NumberSets.{has_number}
+use Rattle.hii_bytes.proofs.WritingLemmas.{writes_nil, past_piece}
 use Rattle.ifr_opcodes.specs.Forest.{Placed}
 use Rattle.ifr_scopes.specs.Nodes.{is_form, nodes_of}
 use Rattle.ifr_scopes.specs.code.Checked.{AreNodesOf}
 use Rattle.ifr_scopes.specs.code.Lists.{form_node, forms_left}
-use Rattle.hii_bytes.proofs.WritingLemmas.{writes_nil}
 use Rattle.guard_policy.specs.code.Views.{bytes_of}
 use Rattle.guard_policy.proofs.OptionLemmas.{first_of, rest_of}
-use Rattle.audit_text.proofs.TextLemmas.{past_piece}
 use Rattle.form_audit.specs.FormLines.{form_lines}
 use Rattle.form_audit.specs.code.Pages.{audited}
 use Rattle.form_audit.proofs.QuestionsLemmas.{forms_are_nodes}
@@ -50,5 +49,5 @@ loop-form-preserved g c =
       ends = search rules;
       nodes = rest_of (bytes_of page.policy) left n after e c.loop-form.invariant.nodes;
       same = c.put_form_lines.ensures.same;
-      text = past_piece (told n) (flat_map told after) (ap (flat_map told) e) c.loop-form.invariant.text c.put_form_lines.ensures.text;
+      text = past_piece _ _ _ _ _ (told n) (flat_map told after) (ap (flat_map told) e) c.loop-form.invariant.text c.put_form_lines.ensures.text;
     }

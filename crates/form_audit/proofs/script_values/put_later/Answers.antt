@@ -1,7 +1,6 @@
 use Rattle.std.proofs.Common.{ap, ◌++◌, codes, decimal}
 use Rattle.std.specs.List.{flat_map}
-use Rattle.hii_bytes.proofs.WritingLemmas.{Stands-start, ◌⨾◌}
-use Rattle.form_page.proofs.TextLemmas.{past_piece}
+use Rattle.hii_bytes.proofs.WritingLemmas.{Stands-start, ◌⨾◌, past_piece}
 use Rattle.form_audit.proofs.script_values.put_later.Goals as goal
 
 pub loop-item-preserved : goal.loop-item-preserved

@@ -28,7 +28,7 @@ found g c =
 pub returns-in-Some : goal.returns-in-Some
 returns-in-Some g c =
     let guard = guard_node c.in-Some.guard in
-    let place = place_told c.from.result guard.place (c.from.ensures ∙ c.place-in-Some.ensures) c.put_hex_place.ensures in
+    let place = place_told c.from.result guard.place (c.from.ensures ∙ c.place-in-Some.ensures) c.put_place.ensures in
     some_undefined _ (undefined_left c.step.new.self) guard (found g (goal.at.returns-in-Some g c).After-step ∙ c.in-Some.ensures) (c.put.ensures ⨾ place ⨾ c.put_places.ensures)
 
 pub returns-in_default : goal.returns-in_default

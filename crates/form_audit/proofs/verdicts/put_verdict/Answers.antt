@@ -13,6 +13,6 @@ returns-in-Ok g c = λ denied e.
 
 pub returns-in-Err : goal.returns-in-Err
 returns-in-Err g c = λ denied e.
-    subst (λ (o : Option Denial). Writes (pen_of g.W.Write.contents c.args.out.now) (pen_of g.W.Write.contents c.put_hex_place.new.out) (verdict_columns o))
+    subst (λ (o : Option Denial). Writes (pen_of g.W.Write.contents c.args.out.now) (pen_of g.W.Write.contents c.put_place.new.self) (verdict_columns o))
     (sym (one_forbids c.in-Err.denial denied (sym c.in-Err.is ∙ e)))
-    (rw (c.from.ensures, c.as_bytes.ensures.value, c.name.ensures) at (c.put_left-in-Err.ensures ⨾ c.put.ensures ⨾ c.put_hex_place.ensures))
+    (rw (c.from.ensures, c.as_bytes.ensures.value, c.name.ensures) at (c.put_left-in-Err.ensures ⨾ c.put.ensures ⨾ c.put_place.ensures))

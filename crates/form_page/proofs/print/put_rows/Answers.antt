@@ -1,8 +1,7 @@
 use Rattle.std.proofs.Common.{ap}
 use Rattle.std.specs.List.{flat_map}
+use Rattle.hii_bytes.proofs.WritingLemmas.{Stands-start, past_piece}
 use Rattle.form_page.specs.Pages.{row_text}
-use Rattle.hii_bytes.proofs.WritingLemmas.{Stands-start}
-use Rattle.form_page.proofs.TextLemmas.{past_piece}
 use Rattle.form_page.proofs.print.put_rows.Goals as goal
 
 pub loop-row-preserved : goal.loop-row-preserved

@@ -14,6 +14,7 @@ use Rattle.guard_policy.specs.code.Views.{bytes_of}
 use Rattle.form_audit.specs.code.Pages.{audited}
 use Rattle.question_audit.specs.ConditionFacts.{check_fact, is_check_of}
 use Rattle.question_audit.proofs.AroundLemmas.{same_forms}
+use Rattle.question_audit.proofs.BeginningLemmas.{at_error, stands_begun}
 use Rattle.question_audit.proofs.FactLemmas.{all_left, filter_both, past_passing}
 use Rattle.question_audit.proofs.condition_facts.put_checks.Goals as goal
 
@@ -37,4 +38,7 @@ loop-check-preserved-in-Continue-1 g c =
     let id = question_id (question_node c.args.question).op in
     let n = condition_node c.in-Some.check in
     let is : is_of id n ≡ true = eq-eqb _ _ (sym c.this.ensures ∙ c.if-this-id.true ∙ c.id.ensures) in
-    past_passing (check_fact (audited c.args.page)) (is_of id) _ _ _ _ _ _ n c.in-Some.ensures.steps is c.loop-check.invariant c.in_ok-put_check.ensures
+    past_passing (check_fact (audited c.args.page)) (is_of id) _ _ _ _ _ _ n c.in-Some.ensures.steps is c.loop-check.invariant c.in_ok-put_check.ensures.told
+
+pub returns-in_err-put_check-clause-begun : goal.returns-in_err-put_check-clause-begun
+returns-in_err-put_check-clause-begun g c = at_error c.from_residual.result (rw c.in_err-put_check.ensures.nothing (stands_begun c.loop-check.invariant))

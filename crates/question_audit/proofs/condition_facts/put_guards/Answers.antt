@@ -6,6 +6,7 @@ use Rattle.guard_policy.proofs.IndexedLemmas.{of_statement}
 use Rattle.form_audit.specs.code.Pages.{audited}
 use Rattle.question_audit.specs.ConditionFacts.{guard_fact}
 use Rattle.question_audit.proofs.AroundLemmas.{guards_found, same_forms}
+use Rattle.question_audit.proofs.BeginningLemmas.{at_error, stands_begun}
 use Rattle.question_audit.proofs.FactLemmas.{all_left, past_item}
 use Rattle.question_audit.proofs.condition_facts.put_guards.Goals as goal
 
@@ -17,4 +18,7 @@ loop-guard-init g c =
     (guards_found page.policy n _ c.place.result _ c.requires (of_statement n c.args.statement.statement) (sym c.place.ensures) (same_forms _ c.policy.result page.policy c.forms.ensures c.policy.ensures) c.guards_at-guards.ensures.guards)
 
 pub loop-guard-preserved : goal.loop-guard-preserved
-loop-guard-preserved g c = past_item (guard_fact (audited c.args.page)) _ _ _ _ _ _ _ c.in-Some.ensures.steps c.loop-guard.invariant c.in_ok-put_guard.ensures
+loop-guard-preserved g c = past_item (guard_fact (audited c.args.page)) _ _ _ _ _ _ _ c.in-Some.ensures.steps c.loop-guard.invariant c.in_ok-put_guard.ensures.told
+
+pub returns-in_err-put_guard-clause-begun : goal.returns-in_err-put_guard-clause-begun
+returns-in_err-put_guard-clause-begun g c = at_error c.from_residual.result (rw c.in_err-put_guard.ensures.nothing (stands_begun c.loop-guard.invariant))

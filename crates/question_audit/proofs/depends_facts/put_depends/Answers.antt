@@ -31,8 +31,8 @@ loop-number-preserved g c =
       written = past_either (depends_fact (audited page)) test _ _ _ _ _ _ k (next_id 65536 k c.loop-number-test.true) i.written (rw (c.in_ok-ids.ensures k) at c.put_if_among.ensures);
     }
 
-pub returns : goal.returns
-returns g c =
+pub returns-clause-told : goal.returns-clause-told
+returns-clause-told g c =
     let page = c.args.page in
     let k = c.loop-number.number in
     let test = supports (nodes_of (bytes_of page.policy)) (statement_node c.args.statement) in

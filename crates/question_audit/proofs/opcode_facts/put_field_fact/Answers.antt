@@ -10,5 +10,5 @@ use Rattle.question_audit.proofs.opcode_facts.put_field_fact.Goals as goal
 
 pub returns-in-Some : goal.returns-in-Some
 returns-in-Some g c =
-    written_as (rw c.from.ensures at (c.put_column.ensures ⨾ c.put_field_text.ensures ⨾ c.put.ensures ⨾ c.put_decimal.ensures ⨾ c.put_store_guid.ensures ⨾ c.put-in-Some.ensures))
+    written_as (rw c.from.ensures at (c.put_column.ensures ⨾ c.put_field_text.ensures.text ⨾ c.put.ensures ⨾ c.put_decimal.ensures ⨾ c.put_store_guid.ensures ⨾ c.put-in-Some.ensures))
     (ap (λ (f : Option FieldRange). field_fact (nodes_of c.args.names.now) (option_map range_in f)) (sym c.in-Some.is))

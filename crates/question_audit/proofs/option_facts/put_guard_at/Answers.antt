@@ -10,6 +10,7 @@ use Rattle.ifr_scopes.specs.code.Parts.{option_node}
 use Rattle.guard_policy.proofs.IndexedLemmas.{of_option}
 use Rattle.question_audit.specs.ConditionFacts.{condition_words}
 use Rattle.question_audit.proofs.AroundLemmas.{guards_found, same_forms}
+use Rattle.question_audit.proofs.BeginningLemmas.{at_error, stands_begun}
 use Rattle.question_audit.proofs.FactLemmas.{all_left, past_passing}
 use Rattle.question_audit.proofs.option_facts.put_guard_at.Goals as goal
 
@@ -32,3 +33,6 @@ loop-guard-preserved-then-place g c =
     let is : is_at c.args.place n ≡ true = eq-eqb _ _ (sym c.place-in-Some.ensures ∙ c.if-place.true) in
     past_passing words (is_at c.args.place) _ _ _ _ _ _ n c.in-Some.ensures.steps is c.loop-guard.invariant
     (rw (c.in_ok-text.ensures, c.condition.ensures) at (c.put.ensures ⨾ c.put-then-place.ensures))
+
+pub returns-in_err-text-clause-begun : goal.returns-in_err-text-clause-begun
+returns-in_err-text-clause-begun g c = at_error c.from_residual.result (stands_begun c.loop-guard.invariant)

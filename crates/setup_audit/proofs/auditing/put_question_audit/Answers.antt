@@ -1,11 +1,11 @@
-use Rattle.std.proofs.Common.{◌≡◌, ℕ, ap, subst, refl, sym, inl}
-use Rattle.std.proofs.lemmas.Result.{IfErr-weaker, IfOk-weaker}
+use Rattle.std.proofs.Common.{◌≡◌, ℕ, ap, subst, refl, sym, inl, inr}
+use Rattle.std.proofs.lemmas.Result.{IfErr-weaker, IfOk-weaker, on_err_weaker}
 use Rattle.hii_bytes.specs.Watching.{pen_of}
 use Rattle.hii_packages.specs.Packages.{Entry}
 use Rattle.hii_packages.specs.code.Package.{entry_of}
 use Rattle.form_audit.specs.Audited.{Audited}
 use Rattle.form_audit.specs.code.Pages.{audited}
-use Rattle.question_audit.specs.QuestionFacts.{TellsQuestion}
+use Rattle.question_audit.specs.QuestionFacts.{BeginsQuestion, TellsQuestion}
 use Rattle.setup_audit.specs.Auditing.{audited_at}
 use Rattle.setup_audit.proofs.SourceLemmas.{one_source}
 use Rattle.setup_audit.proofs.auditing.put_question_audit.Goals as goal
@@ -41,3 +41,22 @@ returns-clause-refused g c = IfErr-weaker c.put_question_with_id.result _ _ (λ 
 
 pub returns-clause-nothing : goal.returns-clause-nothing
 returns-clause-nothing g c = IfErr-weaker c.put_question_with_id.result _ _ (λ fault e. λ other. absurd (other e)) c.put_question_with_id.ensures.refused
+
+pub returns-clause-begun : goal.returns-clause-begun
+returns-clause-begun g c =
+    let s = c.in_ok-session.session.state in
+    let opens = c.in_ok-session.ensures.opened.0 in
+    let its = c.in_ok-package.package in
+    let source = one_source c.args.given.list.now c.args.given.forms (entry_of its) opens.source c.in_ok-package.ensures.found opens.found in
+    let same : audited c.page.result ≡ audited_at s =
+    rw (c.page.ensures.world, c.page.ensures.spoken, c.page.ensures.language, c.page.ensures.stores, c.page.ensures.bytes) refl in
+    let old = pen_of g.W.Write.contents c.args.out.now in
+    let new = pen_of g.W.Write.contents c.put_question_with_id.new.out in
+    on_err_weaker c.put_question_with_id.result
+    (λ begun. inr (
+      s,
+      opens,
+      subst (λ (place : ℕ). BeginsQuestion (audited_at s) place c.args.id old new) (ap (λ (e : Entry). e.place) source)
+          (subst (λ (a : Audited). BeginsQuestion a its.place c.args.id old new) same begun),
+    ))
+    c.put_question_with_id.ensures.begun

@@ -1,9 +1,8 @@
 use Rattle.std.proofs.lemmas.Result.{err_from_is_err_and}
 use Rattle.hii_bytes.specs.Faults.{HasNone}
 use Rattle.browser_core.specs.Opening.{IsFormSetFault}
-use Rattle.browser_core.proofs.OpeningLemmas.{good_where_browsable}
+use Rattle.browser_core.proofs.OpeningLemmas.{browsable_no_fault, good_where_browsable, package_refuses, stores_refuse, questions_refuse}
 use Rattle.std.proofs.Common.{subst}
-use Rattle.store_audit.proofs.DeclaringLemmas.{package_refuses, stores_refuse, questions_refuse, none_refuses}
 use Rattle.store_audit.proofs.declared.form_set.Goals as goal
 
 pub returns-in_err-forms-clause-refused : goal.returns-in_err-forms-clause-refused
@@ -27,4 +26,4 @@ returns-clause-good c =
 
 pub returns-clause-sound : goal.returns-clause-sound
 returns-clause-sound c =
-    subst (λ ifr. HasNone (IsFormSetFault ifr)) c.in_ok-forms.ensures.read (none_refuses _ c.in_ok-forms.ensures.accepted c.in_ok-layout.ensures.sound c.in_ok-read.ensures.sound)
+    subst (λ ifr. HasNone (IsFormSetFault ifr)) c.in_ok-forms.ensures.read (browsable_no_fault _ (record { accepted = c.in_ok-forms.ensures.accepted; stores = c.in_ok-layout.ensures.sound; questions = c.in_ok-read.ensures.sound }))

@@ -1,15 +1,11 @@
-use Rattle.std.proofs.Common.{◌≡◌, length, map, reverse}
+use Rattle.std.proofs.Common.{length}
 use Rattle.ifr_expr.specs.code.Expressions.{tree_of}
-use Rattle.condition_text.specs.Senses.{sense}
-use Rattle.condition_text.specs.Texts.{text}
-use Rattle.condition_text.specs.code.Drafts.{progress}
-use Rattle.condition_text.specs.code.Progress.{drafted}
-use Rattle.condition_text.proofs.BuildLemmas.{mark_of}
+use Rattle.condition_text.proofs.BuildLemmas.{Built}
 use Rattle.condition_text.proofs.condition.ConditionText.of.Given as goal
 
 -- what is put down and the operators that are left make the text
-abbrev pub invariant-loop-op : goal.invariant-loop-op
-invariant-loop-op l = (drafted (reverse (map mark_of l.ops.items)) (progress l.draft)).behind ≡ text (sense (tree_of l.expr))
+abbrev pub invariant-loop-kind : goal.invariant-loop-kind
+invariant-loop-kind l = Built (tree_of l.expr) l.kinds.items l.draft
 
-abbrev pub decreases-loop-op : goal.decreases-loop-op
-decreases-loop-op l = length l.ops.items
+abbrev pub decreases-loop-kind : goal.decreases-loop-kind
+decreases-loop-kind l = length l.kinds.items

@@ -1,4 +1,0 @@
-use Rattle.guard_policy.proofs.policy.are_bytes.Goals as goal
-
-pub returns : goal.returns
-returns c k = (c.type_inv.bytes k).fits
