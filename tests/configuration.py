@@ -136,7 +136,8 @@ def refused_texts():
         "&OFFSET=0&WIDTH=00000000", "&OFFSET=0&WIDTH=10000", "&OFFSET=0&WIDTH=000000001", "&OFFSET=0&WIDTH=0000000000000001", "&OFFSET=0&WIDTH=1g")]
     values = [HEADER + "&OFFSET=0&WIDTH=1&VALUE=" + it for it in ("", "&OFFSET=0", "g", "-1", "0x1", "1=", "100g", "g100")]
     talk("numbers_that_are_refused", ONE_BOX_LIST, b"\1\2", lines(b"extract", numbers, BAD_NUMBER) + lines(b"route", numbers + values, BAD_NUMBER)
-         + [("route %s&OFFSET=0&WIDTH=0&VALUE=1" % HEADER, BAD_NUMBER), ("extract %s&OFFSET=0&WIDTH=ffff" % HEADER, NO_FIELD)])
+         + lines(b"route", [HEADER + "&OFFSET=%s&WIDTH=%s&VALUE=1" % it for it in (("0", "0"), ("000000001", "1"))], BAD_NUMBER)
+         + [("extract %s&OFFSET=0&WIDTH=ffff" % HEADER, NO_FIELD)])
     wide = [HEADER + "&OFFSET=0&WIDTH=" + it for it in ("1&VALUE=100", "1&VALUE=f00", "1&VALUE=00100", "2&VALUE=10000", "2&VALUE=800000000000000000")]
     talk("values_that_are_too_wide", ONE_BOX_LIST, b"\1\2", lines(b"route", wide, VALUE_WIDTH) + [
         (route((0, 1, "001")), counted(1)), (route((0, 1, "0" * 60)), counted(1)), ("submit", changed(1))], b"\0\2")

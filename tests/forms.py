@@ -1,6 +1,6 @@
 """Worked cases of references, the forms that they have left, buttons and defaults."""
 from packages import *
-from worked import EIGHT_IDS, OK, TITLE, case, counted, denied, held, of_form, plain_row, row, talk, with_strings
+from worked import EIGHT_IDS, OK, TITLE, case, counted, denied, held, of_form, plain_row, refused, row, talk, with_strings
 
 NO_BACK, DEEP, NO_ROW, NO_QUESTION = (denied(kind, 0) for kind in ("noback", "deephistory", "norow", "noquestion"))
 ADD, DIVIDE = 0x3A, 0x3D
@@ -25,6 +25,14 @@ def references():
         ("page", TITLE + row(1, 5, "*", "->2")), ("back", NO_BACK), ("defaults 0", counted(0)), ("go 5", OK), ("page", second % " "),
         ("press 1", counted(1)), ("page", second % "x"), ("press 2", denied("notbutton", 88)), ("press 3", NO_ROW), ("press 0", NO_ROW),
         ("back", OK), ("back", NO_BACK), ("page", TITLE + row(1, 5, "*", "->2")), ("submit", "OK 1\nCHANGED 1\n")], b"\1\0")
+    # The prompt of a reference has no number that follows from its id, here the id 8.
+    forward = lambda number: statement(0x0F, 8, u16(5) + u16(0) + u16(0) + b"\0" + u16(number))
+    forms = lambda number: two_forms([forward(number)], [reset_button(10), checkbox(1, 0)[:-1] + b"\1"])
+    talk("to_the_second_form_and_back", forms(2), b"\0\0", [
+        ("page", TITLE + "  1 *     5 #8                       [->2]\n"), ("defaults 0", counted(0)), ("go 5", OK), ("page", second % " "),
+        ("press 1", counted(1)), ("press 2", denied("notbutton", 88)), ("press 3", NO_ROW), ("back", OK), ("back", NO_BACK)])
+    talk("first_of_two_forms_thirty_two_times", forms(1), b"\0\0", [*[("go 5", OK)] * 32, ("go 5", DEEP)])
+    refused("reference_to_a_third_of_two_forms", forms(3), "39 NoForm at 00000039")
     talk("thirty_two_forms_are_kept", of_form(ref(5, u16(1))), b"\0\0", [
         *[("go 5", OK)] * 32, ("go 5", DEEP), *[("back", OK)] * 2, *[("go 5", OK)] * 2, ("go 5", DEEP), *[("back", OK)] * 32,
         ("back", NO_BACK)])
@@ -83,6 +91,11 @@ def defaults():
                   default(4, NUMBER_1, b"\1"), valued(5, operator(0x58)), valued(6, TRUE), default(7, BOOLEAN, b"\7"),
                   default(8, 0x05, bytes(3)), default(9, 0x09))
     shown = [("page", TITLE + row(1, 1, "*", n)) for n in "0571"]
+    for name, first, count, then in (("", 4, 1, 7), ("_past_the_maximum", 9, 0, 5)):
+        added = scoped(numeric(1, 0, UNSIGNED, 1, 0, 9, step=1), default(0, NUMBER_1, b"\5"), valued(1, uint8(first), uint8(3), operator(ADD)))
+        talk("default_of_a_sum%s" % name, of_form(added), b"\0\0", [
+            ("defaults 0", counted(1)), ("page", TITLE + row(1, 1, "*", "5")), ("defaults 1", counted(count)),
+            ("page", TITLE + row(1, 1, "*", str(then))), ("defaults 2", counted(0)), ("submit", "OK 1\nCHANGED 1\n")], bytes([then, 0]))
     talk("defaults_of_a_number", of_form(sums), b"\0\0", [
         shown[0], ("defaults 0", counted(1)), shown[1], ("defaults 5", counted(1)), shown[1], ("defaults 1", counted(1)), shown[2],
         ("defaults 2", counted(0)), ("defaults 3", counted(0)), ("defaults 4", counted(0)), ("defaults 8", counted(0)), ("defaults 9", counted(0)),

@@ -90,20 +90,20 @@ def checkbox(number, offset, store=1, flags=0):
     return question(0x06, number, offset, bytes([0]), store, flags)
 
 
-def bounds(display, width, least, most):
-    """Flags with a display and a width in bytes, a minimum, a maximum and a step of 4."""
+def bounds(display, width, least, most, step=4):
+    """Flags with a display and a width in bytes, a minimum, a maximum and a step."""
     flags = display | {1: 0, 2: 1, 4: 2, 8: 3}[width]
-    return bytes([flags]) + little(least, width) + little(most, width) + little(4, width)
+    return bytes([flags]) + little(least, width) + little(most, width) + little(step, width)
 
 
-def numeric(number, offset, display, width, least, most, **header):
+def numeric(number, offset, display, width, least, most, step=4, **header):
     """A number of so many bytes, within bounds."""
-    return question(0x07, number, offset, bounds(display, width, least, most), **header)
+    return question(0x07, number, offset, bounds(display, width, least, most, step), **header)
 
 
-def one_of(number, offset, width=1, **header):
+def one_of(number, offset, width=1, step=4, **header):
     """A choice, whose options stand in its scope. It has bounds that none of them meets."""
-    return question(0x05, number, offset, bounds(UNSIGNED, width, 0, 0), **header)
+    return question(0x05, number, offset, bounds(UNSIGNED, width, 0, 0, step), **header)
 
 
 def ordered_list(number, offset, most, flags=0, **header):

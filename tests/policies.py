@@ -146,6 +146,7 @@ def wrong_conditions():
         in_checkbox("%s_without_a_scope" % name, bytes([op[0], op[1] & 0x7F]) + op[2:op[1] & 0x7F], "29 ScopeBit at 00000047")
         in_checkbox("%s_without_a_condition" % name, scoped(bytes([op[0], op[1] & 0x7F]) + op[2:op[1] & 0x7F]), "30 ExprShape at 00000047")
         in_form("%s_among_options" % name, scoped(one_of(2, 1), suppressed(TRUE, op)), "28 Misplaced at 0000004e")
+    in_form("warning_if_before_a_question", warning_if(9, eq_id_val(1, 1)), "28 Misplaced at 00000039")
     in_checkbox("inconsistent_if_too_short", scoped(opcode(0x11, b"\7"), TRUE), "27 OpSize at 00000047")
     in_checkbox("no_submit_if_too_short", scoped(opcode(0x10, b"\7"), TRUE), "27 OpSize at 00000047")
     in_checkbox("warning_if_too_short", scoped(opcode(0x63, u16(7)), TRUE), "27 OpSize at 00000047")

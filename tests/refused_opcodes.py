@@ -79,7 +79,8 @@ def wrong_ids():
     told("empty_text_past_its_store", string_question(1, 3, 0, 0), "36 FieldOutside at 00000039")
     told("list_past_its_store", scoped(ordered_list(1, 0, 2), option(5, 1, NUMBER_2)), "36 FieldOutside at 00000039")
     large = option(5, 256, NUMBER_2)
-    told("option_too_large", scoped(one_of(1, 0), large), "37 OptionRange at 0000004a")
+    told("option_too_large", scoped(one_of(1, 0, step=0), large), "37 OptionRange at 0000004a")
     told("option_too_large_without_a_store", scoped(one_of(1, 0, store=0), large), "37 OptionRange at 0000004a")
-    told("options_of_two_widths", scoped(ordered_list(1, 0, 2), option(5, 1), option(6, 2, NUMBER_2)), "38 MixedOptions at 0000004f")
+    told("options_of_two_widths", scoped(ordered_list(1, 0, 2, UNIQUE_SET | NO_EMPTY_SET), option(5, 1), option(6, 2, NUMBER_2)),
+         "38 MixedOptions at 0000004f")
     told("options_of_two_types", scoped(ordered_list(1, 0, 2), option(5, 1), option(6, 1, BOOLEAN)), "38 MixedOptions at 0000004f")

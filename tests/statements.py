@@ -14,10 +14,10 @@ def page(shown, mark="*"):
 
 def numbers():
     out = denied("range")
-    talk("signed_number", of_form(numeric(1, 0, SIGNED, 1, -128, 127)), b"\0\0", [
+    talk("signed_number", of_form(numeric(1, 0, SIGNED, 1, -128, 127, step=1)), b"\0\0", [
         ("set 1 -128", OK), page("-128"), ("set 1 127", OK), ("set 1 128", out), ("set 1 -129", out), ("set 1 0x80", out),
         ("set 1 0x7f", OK), page("127"), ("submit", CHANGED_1)], b"\x7f\0")
-    talk("hexadecimal_number", of_form(numeric(1, 0, HEXADECIMAL, 1, 0, 255)), b"\x0a\0", [
+    talk("hexadecimal_number", of_form(numeric(1, 0, HEXADECIMAL, 1, 0, 255, step=1)), b"\x0a\0", [
         page("0x0a"), ("set 1 -1", out), ("set 1 256", out), ("set 1 255", OK), page("0xff")])
     talk("hexadecimal_number_of_four_bytes", of_form(numeric(1, 0, HEXADECIMAL, 4, 0, 2**32 - 1), size=4), b"\x2c\1\0\0", [
         page("0x0000012c"), ("set 1 0xDEADBEEF", OK), page("0xdeadbeef")])
@@ -136,7 +136,7 @@ def pages():
         ("text 3 x", denied("outside", 128)), ("set 4 1", denied("kind", 141)), ("set 5 1", denied("outside", 156)),
         ("set 6 1", denied("outside", 169)), ("set 7 1", denied("outside", 202)), ("set 8 1", denied("outside", 217)),
         ("set 9 1", denied("outside", 231)), ("text 10 B", denied("readonly", 248)), ("submit", "OK 0\n")])
-    talk("date_in_a_store", of_form(date(1, store=1)), b"\1\1", [page("", "!"), ("set 1 1", denied("outside"))])
+    talk("date_in_a_store", of_form(date(1, store=1)), b"\1\1", [page("", "!"), ("set 1 1", denied("outside")), ("why 1", denied("outside"))])
     talk("read_only_date", of_form(date(1, flags=1)), b"\0\0", [page("", "!"), ("set 1 1", denied("readonly"))])
     nested = of_form(scoped(subtitle(20), checkbox(1, 0), scoped(subtitle(21), checkbox(2, 1))))
     talk("statements_under_a_subtitle", nested, b"\0\0", [("set 2 1", OK), (

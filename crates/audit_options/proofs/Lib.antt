@@ -1,0 +1,2 @@
+pub mod BuildingLemmas
+pub mod ReadingLemmas

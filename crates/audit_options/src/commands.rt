@@ -1,5 +1,9 @@
 //! The commands and options, in the order in which help lists them.
 
+ghost use Rattle.std.specs.Prelude.{IfOk, codes};
+ghost use Rattle.audit_options.specs.CommandLine as spec;
+ghost use Rattle.audit_options.specs.CommandLine.{IsArg, IsCommand, IsProgram};
+
 use clap::{Arg, ArgAction, Command};
 use std::alloc::{AllocError, Global};
 
@@ -38,20 +42,35 @@ Tells what is known of one question: its opcode and field, its value and default
 each guard and check around it in words, its options, on which questions it depends
 whether it may be changed, and for which questions it decides that";
 
-pub(crate) fn command<'a>(alloc: Global) -> Result<Command<'a>, AllocError> {
+/// All commands. The word behind `--lang` may begin with a hyphen where `takes_hyphen` says so.
+pub(crate) fn command<'a>(
+    alloc: Global,
+    version: &'static str,
+    takes_hyphen: bool,
+) -> Result<Command<'a>, AllocError>
+    ensures { IfOk result (IsProgram (spec.program takes_hyphen)) }
+{
     Command::new(alloc, "setup_audit")
         .bin_name("setup_audit")?
+        .version(version)
         .about(ABOUT)
         .after_help(STATUSES)
         .subcommand_required(true)
         .subcommand(split(alloc)?)?
         .subcommand(stores(alloc)?)?
         .subcommand(image(alloc)?)?
-        .subcommand(questions(alloc)?)?
-        .subcommand(question(alloc)?)
+        .subcommand(questions(alloc, takes_hyphen)?)?
+        .subcommand(question(alloc, takes_hyphen)?)
 }
 
-fn split<'a>(alloc: Global) -> Result<Command<'a>, AllocError> {
+/// `split` alone, to say how it is called.
+pub(crate) fn split_alone<'a>(alloc: Global) -> Result<Command<'a>, AllocError> {
+    split(alloc)?.bin_name("setup_audit split")
+}
+
+fn split<'a>(alloc: Global) -> Result<Command<'a>, AllocError>
+    ensures { IfOk result (IsCommand spec.split) }
+{
     let dump = option(alloc, "dump", "F", "Package lists, one after the other").required(true);
     let take = option(
         alloc,
@@ -68,16 +87,20 @@ fn split<'a>(alloc: Global) -> Result<Command<'a>, AllocError> {
         .arg(out)
 }
 
-fn questions<'a>(alloc: Global) -> Result<Command<'a>, AllocError> {
+fn questions<'a>(alloc: Global, takes_hyphen: bool) -> Result<Command<'a>, AllocError>
+    ensures { IfOk result (IsCommand (spec.questions takes_hyphen)) }
+{
     Command::new(alloc, "questions")
         .about(ABOUT_QUESTIONS)
         .arg(list(alloc))?
         .arg(image_of_stores(alloc))?
         .arg(forms(alloc))?
-        .arg(lang(alloc))
+        .arg(lang(alloc, takes_hyphen))
 }
 
-fn question<'a>(alloc: Global) -> Result<Command<'a>, AllocError> {
+fn question<'a>(alloc: Global, takes_hyphen: bool) -> Result<Command<'a>, AllocError>
+    ensures { IfOk result (IsCommand (spec.question takes_hyphen)) }
+{
     let id = option(alloc, "id", "Q", "Id of the question")
         .required(true)
         .value_parser(clap::value_parser!(u16));
@@ -87,17 +110,21 @@ fn question<'a>(alloc: Global) -> Result<Command<'a>, AllocError> {
         .arg(image_of_stores(alloc))?
         .arg(id)?
         .arg(forms(alloc))?
-        .arg(lang(alloc))
+        .arg(lang(alloc, takes_hyphen))
 }
 
-fn stores<'a>(alloc: Global) -> Result<Command<'a>, AllocError> {
+fn stores<'a>(alloc: Global) -> Result<Command<'a>, AllocError>
+    ensures { IfOk result (IsCommand spec.stores) }
+{
     Command::new(alloc, "stores")
         .about(ABOUT_STORES)
         .arg(list(alloc))?
         .arg(forms(alloc))
 }
 
-fn image<'a>(alloc: Global) -> Result<Command<'a>, AllocError> {
+fn image<'a>(alloc: Global) -> Result<Command<'a>, AllocError>
+    ensures { IfOk result (IsCommand spec.image) }
+{
     let store = option(
         alloc,
         "store",
@@ -125,21 +152,29 @@ fn image<'a>(alloc: Global) -> Result<Command<'a>, AllocError> {
         .arg(forms(alloc))
 }
 
-fn list(alloc: Global) -> Arg<'static> {
+fn list(alloc: Global) -> Arg<'static>
+    ensures { IsArg spec.list result }
+{
     option(alloc, "list", "F", "Package list with the forms package").required(true)
 }
 
-fn image_of_stores(alloc: Global) -> Arg<'static> {
+fn image_of_stores(alloc: Global) -> Arg<'static>
+    ensures { IsArg spec.stores_image result }
+{
     option(alloc, "stores", "F", "Image of the variable stores").required(true)
 }
 
-fn lang(alloc: Global) -> Arg<'static> {
+fn lang(alloc: Global, takes_hyphen: bool) -> Arg<'static>
+    ensures { IsArg (spec.lang takes_hyphen) result }
+{
     option(alloc, "lang", "L", "Language of the texts, as de or en-US")
-        .allow_hyphen_values(true)
+        .allow_hyphen_values(takes_hyphen)
         .default_value("en-US")
 }
 
-fn forms(alloc: Global) -> Arg<'static> {
+fn forms(alloc: Global) -> Arg<'static>
+    ensures { IsArg spec.forms result }
+{
     Arg::new(alloc, "forms")
         .long("forms")
         .value_name("N")
@@ -153,7 +188,9 @@ fn option(
     name: &'static str,
     value: &'static str,
     help: &'static str,
-) -> Arg<'static> {
+) -> Arg<'static>
+    ensures { IsArg (spec.option name.entry.now) result }
+{
     Arg::new(alloc, name)
         .long(name)
         .value_name(value)

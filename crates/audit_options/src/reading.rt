@@ -1,12 +1,18 @@
 //! The words of a command line.
 
-use crate::commands::command;
+ghost use Rattle.std.specs.Prelude.{◌≡◌, ◌≢◌, List, [], codes, false, true, IfErr, IfOk, MatchOption, map, string_bytes, unwrap_or};
+ghost use Rattle.clap.specs.Words.{all_of, found_of, kind_of, rows_of, subcommand_of, subcommand_rows_of, takes};
+ghost use Rattle.audit_options.specs.CommandLine as spec;
+ghost use Rattle.audit_options.specs.CommandLine.{has_hyphen_language, program};
+ghost use Rattle.audit_options.specs.Asked.{AreApart, AreStoreFiles, Asks, AsksFormSet, AsksImage, AsksList, AsksQuestion, AsksSplit, HasNoStoreFile, IsMisused, IsStoreFile, kind_of_misuse};
+
+use crate::commands::{command, split_alone};
 use crate::tasks::{
     FormSetOptions, ImageOptions, ListOptions, QuestionOptions, SplitOptions, StoreFile, TakenList,
     Task,
 };
 use clap::error::ErrorKind;
-use clap::{ArgMatches, Error};
+use clap::{ArgMatches, Command, Error};
 use std::alloc::{AllocError, Global};
 
 // A command whose words do not go together.
@@ -18,7 +24,11 @@ enum Misuse {
 }
 
 impl Misuse {
-    fn kind(self) -> ErrorKind {
+    ghost use Rattle.audit_options.specs.Asked.{kind_of_misuse};
+
+    fn kind(self) -> ErrorKind
+        ensures { result ≡ kind_of_misuse self }
+    {
         match self {
             Misuse::NoCommand => ErrorKind::MissingSubcommand,
             Misuse::TakeWithoutOut => ErrorKind::MissingRequiredArgument,
@@ -37,27 +47,80 @@ impl Misuse {
     }
 }
 
-/// Reads the words, of which the first is the program's name.
-pub fn read_words<'a>(alloc: Global, words: &'a [String]) -> Result<Task<'a>, Error> {
-    let mut command = command(alloc)?;
+/// Reads the words, of which the first is the program's name. An error is what `--help` and `--version` ask for, too.
+pub fn read_words<'a>(
+    alloc: Global,
+    version: &'static str,
+    words: &'a [String],
+) -> Result<Task<'a>, Error>
+    // Where a word behind `--lang` begins with a hyphen, clap does not say which words an option has.
+    ensures asked { IfOk result (λ task.
+        has_hyphen_language (map string_bytes words.entry.now) ≡ false
+        → Asks (subcommand_of (program false) (map string_bytes words.entry.now)) task) }
+    // What clap takes is refused by want of memory, or by options that do not go together.
+    ensures taken { IfErr result (λ e.
+        has_hyphen_language (map string_bytes words.entry.now) ≡ false
+        → takes (program false) (map string_bytes words.entry.now) ≡ true
+        → kind_of e ≢ ErrorKind.OutOfMemory
+        → (misuse : Misuse) × (kind_of e ≡ kind_of_misuse misuse)
+        × IsMisused (subcommand_of (program false) (map string_bytes words.entry.now)) misuse) }
+{
+    let mut command = command(alloc, version, has_hyphen_language(words))?;
     let matches = command.try_get_matches_from_mut(words)?;
     match task_in(alloc, &matches)? {
         Ok(task) => Ok(task),
-        Err(misuse) => Err(command.error(misuse.kind(), misuse.message())?),
+        Err(misuse) => Err(misused(alloc, &mut command, misuse)?),
     }
 }
 
+// Says how the program is called, or the command whose options do not go together.
+fn misused(alloc: Global, command: &mut Command<'_>, misuse: Misuse) -> Result<Error, AllocError>
+    ensures { IfOk result (λ e. kind_of e ≡ kind_of_misuse misuse) }
+{
+    match misuse {
+        Misuse::TakeWithoutOut => split_alone(alloc)?.error(misuse.kind(), misuse.message()),
+        _ => command.error(misuse.kind(), misuse.message()),
+    }
+}
+
+// Whether a word that begins with a hyphen stands behind `--lang`.
+fn has_hyphen_language(words: &[String]) -> bool
+    ensures { result ≡ has_hyphen_language (map string_bytes words.now) }
+{
+    let mut is_behind = false;
+    for word in words {
+        if is_behind && begins_with_hyphen(word.as_str()) {
+            return true;
+        }
+        is_behind = word.as_str() == "--lang";
+    }
+    false
+}
+
+fn begins_with_hyphen(word: &str) -> bool
+    ensures { result ≡ spec.begins_with_hyphen word.now }
+{
+    match word.as_bytes().first() {
+        Some(byte) => *byte == b'-',
+        None => false,
+    }
+}
+
+// What the command asks for that the words name, or why its options do not go together.
 fn task_in<'a>(
     alloc: Global,
     matches: &ArgMatches<'a>,
-) -> Result<Result<Task<'a>, Misuse>, AllocError> {
+) -> Result<Result<Task<'a>, Misuse>, AllocError>
+    ensures asked { IfOk result (λ read. IfOk read (Asks (subcommand_rows_of matches.now))) }
+    ensures misused { IfOk result (λ read. IfErr read (IsMisused (subcommand_rows_of matches.now))) }
+{
     let Some((name, options)) = matches.subcommand() else {
         return Ok(Err(Misuse::NoCommand));
     };
     Ok(match name {
-        "split" => split_in(options),
+        "split" => split_in(options).map(Task::Split),
         "stores" => Ok(Task::Stores(list_in(options))),
-        "image" => image_in(alloc, options)?,
+        "image" => image_in(alloc, options)?.map(Task::Image),
         "questions" => Ok(Task::Questions(form_set_in(options))),
         "question" => Ok(Task::Question(question_in(options))),
         _ => Err(Misuse::NoCommand),
@@ -65,26 +128,34 @@ fn task_in<'a>(
 }
 
 // What is told of a dump, unless a list is to be taken into no file, or none into a file.
-fn split_in<'a>(options: &ArgMatches<'a>) -> Result<Task<'a>, Misuse> {
+fn split_in<'a>(options: &ArgMatches<'a>) -> Result<SplitOptions<'a>, Misuse>
+    ensures asked { IfOk result (AsksSplit (rows_of (found_of options.now))) }
+    ensures misused { IfErr result (λ misuse. (misuse ≡ Misuse.TakeWithoutOut)
+        × AreApart (rows_of (found_of options.now))) }
+{
     let taken = match (options.get_one::<u64>("take"), options.get_str("out")) {
         (Some(number), Some(out)) => Some(TakenList { number, out }),
         (None, None) => None,
         _ => return Err(Misuse::TakeWithoutOut),
     };
-    Ok(Task::Split(SplitOptions {
+    Ok(SplitOptions {
         dump: options.get_str("dump").unwrap_or(""),
         taken,
-    }))
+    })
 }
 
-fn list_in<'a>(options: &ArgMatches<'a>) -> ListOptions<'a> {
+fn list_in<'a>(options: &ArgMatches<'a>) -> ListOptions<'a>
+    ensures { AsksList (rows_of (found_of options.now)) result }
+{
     ListOptions {
         path: options.get_str("list").unwrap_or(""),
         forms: options.get_one::<u16>("forms").unwrap_or(1),
     }
 }
 
-fn form_set_in<'a>(options: &ArgMatches<'a>) -> FormSetOptions<'a> {
+fn form_set_in<'a>(options: &ArgMatches<'a>) -> FormSetOptions<'a>
+    ensures { AsksFormSet (rows_of (found_of options.now)) result }
+{
     FormSetOptions {
         list: list_in(options),
         stores: options.get_str("stores").unwrap_or(""),
@@ -92,7 +163,9 @@ fn form_set_in<'a>(options: &ArgMatches<'a>) -> FormSetOptions<'a> {
     }
 }
 
-fn question_in<'a>(options: &ArgMatches<'a>) -> QuestionOptions<'a> {
+fn question_in<'a>(options: &ArgMatches<'a>) -> QuestionOptions<'a>
+    ensures { AsksQuestion (rows_of (found_of options.now)) result }
+{
     QuestionOptions {
         form_set: form_set_in(options),
         id: options.get_one::<u16>("id").unwrap_or(0),
@@ -102,37 +175,61 @@ fn question_in<'a>(options: &ArgMatches<'a>) -> QuestionOptions<'a> {
 fn image_in<'a>(
     alloc: Global,
     options: &ArgMatches<'a>,
-) -> Result<Result<Task<'a>, Misuse>, AllocError> {
+) -> Result<Result<ImageOptions<'a>, Misuse>, AllocError>
+    ensures asked { IfOk result (λ read. IfOk read (AsksImage (rows_of (found_of options.now)))) }
+    ensures misused { IfOk result (λ read. IfErr read (λ misuse. (misuse ≡ Misuse.NoStoreFile)
+        × HasNoStoreFile (rows_of (found_of options.now)))) }
+{
     let Some(files) = files_in(alloc, options)? else {
         return Ok(Err(Misuse::NoStoreFile));
     };
-    Ok(Ok(Task::Image(ImageOptions {
+    Ok(Ok(ImageOptions {
         list: list_in(options),
         out: options.get_str("out").unwrap_or(""),
         files,
         efivars: options.get_str("efivars"),
         zero: options.get_flag("zero"),
-    })))
+    }))
 }
 
 // The files that are given to stores, unless one is not given as an id and a file.
 fn files_in<'a>(
     alloc: Global,
     options: &ArgMatches<'a>,
-) -> Result<Option<Vec<StoreFile<'a>>>, AllocError> {
+) -> Result<Option<Vec<StoreFile<'a>>>, AllocError>
+    ensures { IfOk result (λ read. MatchOption read (HasNoStoreFile (rows_of (found_of options.now)))
+        (λ files. AreStoreFiles
+        (unwrap_or (all_of (codes "store") (rows_of (found_of options.now))) []) files.items)) }
+{
+    match options.get_strs("store") {
+        Some(words) => store_files(alloc, words),
+        None => Ok(Some(Vec::new(alloc))),
+    }
+}
+
+// The files that words give to stores, unless one is not an id and a file.
+fn store_files<'a>(
+    alloc: Global,
+    words: &[&'a str],
+) -> Result<Option<Vec<StoreFile<'a>>>, AllocError>
+    ensures { IfOk result (λ read. MatchOption read
+        ((files : List StoreFile) → AreStoreFiles (map (λ word. word.now) words.now) files → ⊥)
+        (λ files. AreStoreFiles (map (λ word. word.now) words.now) files.items)) }
+{
     let mut files = Vec::new(alloc);
-    if let Some(words) = options.get_strs("store") {
-        for word in words {
-            match store_file(word) {
-                Some(file) => files.push(file)?,
-                None => return Ok(None),
-            }
+    for word in words {
+        match store_file(word) {
+            Some(file) => files.push(file)?,
+            None => return Ok(None),
         }
     }
     Ok(Some(files))
 }
 
-fn store_file(word: &str) -> Option<StoreFile<'_>> {
+fn store_file(word: &str) -> Option<StoreFile<'_>>
+    ensures { MatchOption result ((file : StoreFile) → IsStoreFile word.entry.now file → ⊥)
+        (IsStoreFile word.entry.now) }
+{
     let (id, path) = word.split_once('=')?;
     Some(StoreFile {
         id: id.parse().ok()?,

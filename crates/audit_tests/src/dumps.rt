@@ -4,6 +4,7 @@ use audit_text::{put_hexadecimal, put_left};
 use dump_audit::{put_list, put_rest, put_split, put_taken};
 use hii_bytes::Watched;
 use hii_dumps::Dump;
+use std::io::BufWriter;
 use std::test::Fail;
 
 const DUMP: &[u8] = b"\x11\x11\x11\x11\x11\x11\x11\x11\x11\x11\x11\x11\x11\x11\x11\x11\x18\0\0\0\
@@ -32,11 +33,12 @@ fn a_dump_is_split(rt: HostRuntime) -> Result<(), Fail> {
 
 #[test]
 fn a_list_is_taken(rt: HostRuntime) -> Result<(), Fail> {
-    let mut out = Watched::new(Vec::new(rt.alloc()));
+    let mut out = Watched::new(BufWriter::new(rt.alloc(), Vec::new(rt.alloc()))?);
     let mut file = Watched::new(Vec::new(rt.alloc()));
     assert!(rt; !put_taken(rt.alloc(), DUMP, 4, &mut out, &mut file)?);
     assert!(rt; put_taken(rt.alloc(), DUMP, 1, &mut out, &mut file)?);
-    let told = out.into_inner();
+    let (told, held) = out.into_inner().into_parts();
+    assert!(rt; held.is_empty());
     assert!(rt; told.as_slice() == b"NO LIST 4\nLIST 1 00000000 24 forms 0 strings -\n".as_slice());
     assert!(rt; file.into_inner().as_slice() == &DUMP[..24]);
     Ok(())

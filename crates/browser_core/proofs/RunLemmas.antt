@@ -170,7 +170,7 @@ stands_passing start now pen mid new bytes line stands flushed sound =
     record { shown = h.shown; text = writes_flushed h.text flushed sound; line_is = h.line_is; sound = sound }
 
 -- the writer fails at one more line or at none, or as it passes on the answers
-stops_after : (start now stepped : Shown) (pen mid after new : Pen) (before last later : List (List ℕ)) → length last ≤ 1
+pub stops_after : (start now stepped : Shown) (pen mid after new : Pen) (before last later : List (List ℕ)) → length last ≤ 1
     → now ≡ shown_after_lines start before → Writes pen mid (text_of start before) → mid.broken ≡ false
     → stepped ≡ shown_after_lines now last → Writes mid after (text_of now last) → Flushes after new → new.broken ≡ true
     → StopsAtLine start pen ((before ++ last) ++ later) stepped new
@@ -219,21 +219,21 @@ lines_run_past : (script : List ℕ) → SCRIPT_LIMIT < length script → lines_
 lines_run_past script past = cond-true _ _ _ (lt-ltb SCRIPT_LIMIT (length script) past)
 
 -- what these lines leave and write, and whether more bytes stand behind them
-abbrev outcome_at : Shown → List (List ℕ) → Bool → ScriptOutcome
+abbrev pub outcome_at : Shown → List (List ℕ) → Bool → ScriptOutcome
 outcome_at s lines long = record {
   shown = shown_after_lines s lines;
   text = text_of s lines ++ (if long then too_long_text else []);
   end = if long then TooLong else Done;
 }
 
-outcome_within : (s : Shown) (script : List ℕ) → length script ≤ SCRIPT_LIMIT
+pub outcome_within : (s : Shown) (script : List ℕ) → length script ≤ SCRIPT_LIMIT
     → outcome_of s script ≡ record { shown = shown_after_lines s (lines_of script); text = text_of s (lines_of script); end = Done }
 outcome_within s script within =
     ap (outcome_at s (lines_run script)) (le-ltb SCRIPT_LIMIT (length script) within)
     ∙ ap (λ l. outcome_at s l false) (lines_run_within script within)
     ∙ ap (λ t. record { shown = shown_after_lines s (lines_of script); text = t; end = Done }) (append-nil (text_of s (lines_of script)))
 
-outcome_past : (s : Shown) (script : List ℕ) → SCRIPT_LIMIT < length script → outcome_of s script ≡ outcome_at s (whole_lines (take SCRIPT_LIMIT script)) true
+pub outcome_past : (s : Shown) (script : List ℕ) → SCRIPT_LIMIT < length script → outcome_of s script ≡ outcome_at s (whole_lines (take SCRIPT_LIMIT script)) true
 outcome_past s script past =
     ap (outcome_at s (lines_run script)) (lt-ltb SCRIPT_LIMIT (length script) past)
     ∙ ap (λ l. outcome_at s l true) (lines_run_past script past)
@@ -251,7 +251,7 @@ last_line-few : (rest : List ℕ) → length (last_line rest) ≤ 1
 last_line-few [] = omega arith
 last_line-few (b ∷ rest) = omega arith
 
-stops_flushed : (start now : Shown) (pen mid new : Pen) (lines : List (List ℕ)) → StopsAtLine start pen lines now mid → Flushes mid new → StopsAtLine start pen lines now new
+pub stops_flushed : (start now : Shown) (pen mid new : Pen) (lines : List (List ℕ)) → StopsAtLine start pen lines now mid → Flushes mid new → StopsAtLine start pen lines now new
 stops_flushed start now pen mid new lines h flushed = record {
   before = h.before;
   last = h.last;
@@ -320,7 +320,7 @@ breaks_off start now pen new reader left after bytes line consumed few stands ke
   consumed = Consumes-kept reader left after bytes consumed kept;
   few = few;
   shown = stands.shown;
-  text = appended_whole stands.text stands.sound;
+  text = stands.text;
   sound = stands.sound;
 }
 
@@ -343,7 +343,7 @@ finishes start now stepped pen mid new reader left bytes line consumed few at_en
       end_is = sym (ap (λ (o : ScriptOutcome). o.end) is);
       at_end = λ _. at_end;
       shown = state ∙ sym (ap (λ (o : ScriptOutcome). o.shown) is);
-      text = subst (Appends pen.known new.known) (sym (ap (λ (o : ScriptOutcome). o.text) is ∙ text)) (appended_whole (writes_trans stands.text told) sound);
+      text = subst (Writes pen new) (sym (ap (λ (o : ScriptOutcome). o.text) is ∙ text)) (writes_trans stands.text told);
       sound = sound;
     }
 
@@ -440,7 +440,7 @@ finishes_past start now pen mid new reader left count line h past told sound =
       end_is = sym (ap (λ (o : ScriptOutcome). o.end) is);
       at_end = λ e. let bad : TooLong ≡ Done = e in (cc);
       shown = h.stands.shown ∙ sym (ap (λ (o : ScriptOutcome). o.shown) is);
-      text = subst (Appends pen.known new.known) (sym (ap (λ (o : ScriptOutcome). o.text) is)) (appended_whole (writes_trans h.stands.text told) sound);
+      text = subst (Writes pen new) (sym (ap (λ (o : ScriptOutcome). o.text) is)) (writes_trans h.stands.text told);
       sound = sound;
     }
 
@@ -472,7 +472,7 @@ consumes_none reader left after bytes buf n consumed nothing e =
     subst (Consumes reader after) (ap (λ k. bytes ++ take k buf) e ∙ append-nil bytes) (Consumes-trans reader left after bytes (take n buf) consumed nothing)
 
 -- past the limit nothing more counts
-outcome_of-front : (s : Shown) (script more : List ℕ) → SCRIPT_LIMIT < length script → outcome_of s (script ++ more) ≡ outcome_of s script
+pub outcome_of-front : (s : Shown) (script more : List ℕ) → SCRIPT_LIMIT < length script → outcome_of s (script ++ more) ≡ outcome_of s script
 outcome_of-front s script more past =
     let both : SCRIPT_LIMIT < length (script ++ more) = omega (arith, length-append script more) in
     let front : take SCRIPT_LIMIT (script ++ more) ≡ take SCRIPT_LIMIT script = take-append-le SCRIPT_LIMIT script more (omega arith) in
@@ -493,7 +493,7 @@ finishes_known start now pen new end None left h = tt
 finishes_known start now pen new end (Some xs) None h = absurd h.consumed
 finishes_known start now pen new end (Some xs) (Some ys) h =
     let same = outcome_of_all start xs h.script ys end h.consumed h.end_is h.at_end in
-    (h.end_is ∙ sym (ap (λ (o : ScriptOutcome). o.end) same), h.shown ∙ sym (ap (λ (o : ScriptOutcome). o.shown) same), subst (Appends pen.known new.known) (sym (ap (λ (o : ScriptOutcome). o.text) same)) h.text)
+    (h.end_is ∙ sym (ap (λ (o : ScriptOutcome). o.end) same), h.shown ∙ sym (ap (λ (o : ScriptOutcome). o.shown) same), subst (Appends pen.known new.known) (sym (ap (λ (o : ScriptOutcome). o.text) same)) (appended_whole h.text h.sound))
 
 pub runs_known : (start now : Shown) (pen new : Pen) (result : Result End RunFault) (reader left : Option (List ℕ)) → Runs start pen reader result now new left
     → IfSome reader (λ script. IfOk result (λ end. (end ≡ (outcome_of start script).end) × (now ≡ (outcome_of start script).shown) × Appends pen.known new.known (outcome_of start script).text))

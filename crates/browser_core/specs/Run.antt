@@ -1,7 +1,7 @@
 -- What a script leaves and writes (own rule).
 use Rattle.std.specs.Prelude.{◌≡◌, ℕ, ◌+◌, ◌<◌, ◌≤◌, ◌⊎◌, true, false, List, [], ◌∷◌, ◌++◌, length, take, if◌then◌else◌, Option, Result, Ok, Err}
-use Rattle.std.specs.Io.KnownBytes.{Appends, Consumes, IsAtEnd}
-use Rattle.hii_bytes.specs.Watching.{Pen, BreaksWithin}
+use Rattle.std.specs.Io.KnownBytes.{Consumes, IsAtEnd}
+use Rattle.hii_bytes.specs.Watching.{Pen, Writes, BreaksWithin}
 use Rattle.hii_bytes.specs.declared.cause.Cause.TheVariants.{ScriptTooLong}
 use Rattle.hii_commands.specs.declared.limits.TheConstants.{SCRIPT_LIMIT}
 use Rattle.hii_commands.specs.Script.{whole_lines, is_too_long, lines_run}
@@ -72,7 +72,7 @@ pub record Finishes (start : Shown) (pen : Pen) (reader : Option (List ℕ)) (en
   pub end_is : end ≡ (outcome_of start script).end
   pub at_end : end ≡ Done → IsAtEnd left
   pub shown : now ≡ (outcome_of start script).shown
-  pub text : Appends pen.known new.known (outcome_of start script).text
+  pub text : Writes pen new (outcome_of start script).text
   pub sound : new.broken ≡ false
 
 -- The reader failed after these bytes. The lines that they end were carried out.
@@ -82,7 +82,7 @@ pub record BreaksOff (start : Shown) (pen : Pen) (reader : Option (List ℕ)) (n
   pub consumed : Consumes reader left bytes
   pub few : length bytes ≤ SCRIPT_LIMIT
   pub shown : now ≡ shown_after_lines start (whole_lines bytes)
-  pub text : Appends pen.known new.known (text_of start (whole_lines bytes))
+  pub text : Writes pen new (text_of start (whole_lines bytes))
   pub sound : new.broken ≡ false
 
 -- The writer failed after these bytes were read: at a line whose LF stands among them, within the limit; or, where the script ended

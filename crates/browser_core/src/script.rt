@@ -1,7 +1,9 @@
 //! The lines of a script, one after the other.
 
-ghost use Rattle.std.specs.Prelude.{◌≡◌, ◌++◌, ℕ, List, IfOk, true, false, not, Err};
-ghost use Rattle.hii_bytes.specs.Watching.{Pen, pen_of, inner_of, has_failed, Puts, Flushes};
+ghost use Rattle.std.specs.Prelude.{◌≡◌, ◌++◌, ℕ, List, IfOk, OnOk, IsErr, true, false, not, Err, is_err};
+ghost use Rattle.std.specs.Io.{ReadsAtMost};
+ghost use Rattle.std.specs.Io.KnownBytes.{ReadConsumes};
+ghost use Rattle.hii_bytes.specs.Watching.{Pen, pen_of, inner_of, has_failed, has_passed_on, Puts, Flushes};
 ghost use Rattle.hii_commands.specs.code.Held.{held_of};
 ghost use Rattle.hii_commands.specs.Script.{whole_lines};
 ghost use Rattle.browser_core.specs.Renewed.{Shown, shown_line};
@@ -14,6 +16,7 @@ use crate::reply::{End, RunFault};
 use crate::texts::put_refusal;
 use hii_bytes::{Cause, Watched};
 use hii_commands::{LineBuffer, SCRIPT_LIMIT, is_blank, read_line};
+use std::io;
 use std::io::{Read, Write};
 
 // The most bytes that a script may have.
@@ -36,6 +39,8 @@ pub(crate) fn run_all<R: Read, W: Write>(
     ensures reads { result ≡ Err RunFault.Read → has_failed script.new ≡ true }
     ensures writes { result ≡ Err RunFault.Write → has_failed out.new ≡ true }
     ensures sound { IfOk result (λ end. has_failed script.new ≡ false) }
+    ensures passed_on { OnOk result (has_passed_on out.new ≡ true) }
+    ensures passed_on_before_reads { result ≡ Err RunFault.Read → has_passed_on out.new ≡ true }
 {
     line.clear();
     if !passes_on(out) {
@@ -46,7 +51,7 @@ pub(crate) fn run_all<R: Read, W: Write>(
     while count <= LIMIT {
         let room = (LIMIT + 1 - count).min(PIECE);
         let buf = &mut piece[..room];
-        let n = match script.read(buf) {
+        let n = match read_piece(script, buf, out) {
             Ok(n) => n,
             Err(_) => return Err(RunFault::Read),
         };
@@ -77,8 +82,25 @@ pub(crate) fn run_all<R: Read, W: Write>(
 fn passes_on<W: Write>(out: &mut Watched<W>) -> bool
     ensures flushes { Flushes (pen_of W.contents out.old) (pen_of W.contents out.new) }
     ensures fault { has_failed out.new ≡ not result }
+    ensures passed_on { result ≡ true → has_passed_on out.new ≡ true }
 {
     out.flush().is_ok()
+}
+
+// Reads a piece of the script, where all answers to what was read before are passed on. Nothing else reads the script.
+fn read_piece<R: Read, W: Write>(
+    script: &mut Watched<R>,
+    buf: &mut [u8],
+    _answers: &Watched<W>,
+) -> io::Result<usize>
+    requires { has_passed_on _answers.now ≡ true }
+    ensures bound { ReadsAtMost result buf.new }
+    ensures bytes { ReadConsumes (R.remaining (inner_of script.old))
+        (R.remaining (inner_of script.new)) result buf.new }
+    ensures fault { has_failed script.new ≡ is_err result }
+    ensures stays { has_failed script.old ≡ true → IsErr result }
+{
+    script.read(buf)
 }
 
 // Feeds the piece, and runs each line that it ends, unless the writer fails.

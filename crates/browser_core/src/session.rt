@@ -1,9 +1,9 @@
 //! A session over a package list and the image of its stores.
 
-ghost use Rattle.std.specs.Prelude.{◌≡◌, true, false, Err, Some, IfOk, IfErr, IfSome};
+ghost use Rattle.std.specs.Prelude.{◌≡◌, true, false, Err, Some, IfOk, IfErr, IfSome, OnOk};
 ghost use Rattle.std.specs.Io.KnownBytes.{Appends};
 ghost use Rattle.hii_bytes.specs.Faults.{Refuses, out_of_memory};
-ghost use Rattle.hii_bytes.specs.Watching.{pen_of, inner_of, has_failed, Tells};
+ghost use Rattle.hii_bytes.specs.Watching.{pen_of, inner_of, has_failed, has_passed_on, Tells};
 ghost use Rattle.hii_commands.specs.Meaning.{order_of, HasList};
 ghost use Rattle.hii_languages.specs.code.Views.{choice_of};
 ghost use Rattle.ifr_scopes.specs.Nodes.{nodes_of};
@@ -149,6 +149,9 @@ impl<'a> Session<'a> {
         ensures reads { result ≡ Err RunFault.Read → has_failed script.new ≡ true }
         ensures writes { result ≡ Err RunFault.Write → has_failed out.new ≡ true }
         ensures sound { IfOk result (λ end. has_failed script.new ≡ false) }
+        // No answer is held back, but where the writer fails.
+        ensures passed_on { OnOk result (has_passed_on out.new ≡ true) }
+        ensures passed_on_before_reads { result ≡ Err RunFault.Read → has_passed_on out.new ≡ true }
     {
         run_all(&mut self.core, &mut self.line, script, out)
     }

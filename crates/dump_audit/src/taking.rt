@@ -1,7 +1,8 @@
 //! One list of a dump, taken by its number.
 
-ghost use Rattle.std.specs.Prelude.{◌≡◌, ℕ, List, IfOk, OnErr};
-ghost use Rattle.hii_bytes.specs.Watching.{has_failed, pen_of};
+ghost use Rattle.std.specs.Prelude.{◌≡◌, ℕ, [], true, false, List, IfOk, OnErr};
+ghost use Rattle.std.specs.Io.Buffered.{writer_buffer, writer_contents};
+ghost use Rattle.hii_bytes.specs.Watching.{has_failed, inner_of, pen_of};
 ghost use Rattle.hii_dumps.specs.Dumps.{SpellsDump, nth_list};
 ghost use Rattle.dump_audit.specs.Taking.{TellsList, TakesBytes};
 
@@ -9,23 +10,26 @@ use crate::lines::put_list;
 use hii_bytes::Watched;
 use hii_dumps::Dump;
 use std::alloc::{AllocError, Global};
-use std::io::Write;
+use std::io::{BufWriter, Write};
 
 /// Writes the line of the list of a number, counted from 1, passes it on, and then writes the list's bytes into a file; or writes
-/// that there is no such list. Tells whether there is one (own rule). The file is not written where there is none, where the answers
-/// fail, or where an allocation fails, and then no answer is written either.
-pub fn put_taken<W: Write, F: Write>(
+/// that there is no such list, and does not pass that on. Tells whether there is one (own rule). The file is not written where there
+/// is none, where the answers fail, or where an allocation fails, and then no answer is written either.
+pub fn put_taken<W: Write + Drop, F: Write>(
     alloc: Global,
     dump: &[u8],
     number: u64,
-    out: &mut Watched<W>,
+    out: &mut Watched<BufWriter<W>>,
     file: &mut Watched<F>,
 ) -> Result<bool, AllocError>
     ensures taken { IfOk result (λ is_there. (lists : List (List ℕ)) × (rest : List ℕ)
         × SpellsDump dump.now lists rest
-        × TellsList number (nth_list lists number) is_there (pen_of W.contents out.old)
-        (pen_of W.contents out.new)
+        × TellsList number (nth_list lists number) is_there
+        (pen_of (writer_contents W.contents) out.old)
+        (pen_of (writer_contents W.contents) out.new)
         × TakesBytes (nth_list lists number) (has_failed out.new) F.contents file.old file.new) }
+    ensures none_held { IfOk result (λ is_there. is_there ≡ true → has_failed out.new ≡ false
+        → writer_buffer (inner_of out.new) ≡ []) }
     ensures nothing_told { OnErr result (out.new ≡ out.old) }
     ensures nothing_taken { OnErr result (file.new ≡ file.old) }
 {
@@ -36,7 +40,7 @@ pub fn put_taken<W: Write, F: Write>(
         return Ok(false);
     };
     put_list(alloc, number, list, out)?;
-    if out.flush().is_ok() {
+    if out.pass_on().is_ok() {
         file.put(list.bytes);
     }
     Ok(true)

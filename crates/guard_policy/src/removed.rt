@@ -12,15 +12,19 @@ use hii_questions::Questions;
 use hii_varstore::Stores;
 use ifr_opcodes::DISABLE_IF;
 use ifr_scopes::{AnyCondition, Forms};
+use smallvec::SmallVec;
 use std::alloc::Global;
 use std::marker::Model;
+
+// How many places are held without an allocation: few forms have more DISABLE_IFs that hold.
+const FEW: usize = 8;
 
 /// The DISABLE_IFs whose conditions held when the form set was opened: what stands in their scopes is as if it were not there
 /// (UEFI 2.8, 33.3.8.3, EFI_IFR_DISABLE_IF). They are seen as their places, which rise, in bytes
 /// from the header of the forms package.
 #[derive(Drop)]
 pub struct Removed {
-    places: Vec<u32>,
+    places: SmallVec<u32, FEW>,
 }
 
 impl Model for Removed {
@@ -48,7 +52,7 @@ impl Removed {
             ≡ removed_at (nodes_of forms.now) stores.now) }
         ensures refused { IfErr result (λ fault. fault ≡ out_of_memory) }
     {
-        let mut places = Vec::new(alloc);
+        let mut places = SmallVec::new(alloc);
         let mut guards = forms.guards();
         while let Some(guard) = guards.next() {
             if guard.code() == DISABLE_IF
@@ -64,6 +68,6 @@ impl Removed {
     pub(crate) fn has(&self, place: u32) -> bool
         ensures { result ≡ is_among place self.now }
     {
-        self.places.binary_search(&place).is_ok()
+        self.places.as_slice().binary_search(&place).is_ok()
     }
 }

@@ -12,6 +12,10 @@ inner_of w = w.inner
 abbrev pub has_failed : {T : Type 0} → Watched T → Bool
 has_failed w = w.is_failed
 
+-- whether a flush was no fault, and nothing was written since
+abbrev pub has_passed_on : {T : Type 0} → Watched T → Bool
+has_passed_on w = w.is_passed_on
+
 -- a number below 2^64 after adding b, or 2^64 - 1 where that is more
 abbrev pub saturating_sum : ℕ → ℕ → ℕ
 saturating_sum a b = a + min b (2 ^ 64 - 1 - a)

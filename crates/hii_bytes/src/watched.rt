@@ -1,31 +1,35 @@
 //! Readers and writers that remember whether they failed.
-ghost use Rattle.std.specs.Prelude.{◌≡◌, ◌≤◌, ◌<◌, ℕ, IsErr, OnErr, IfOk, OnOk, true, false, length, is_err};
+ghost use Rattle.std.specs.Prelude.{◌≡◌, ◌≤◌, ◌<◌, ℕ, [], IsErr, OnErr, IfOk, OnOk, true, false, length, is_err};
 ghost use Rattle.std.specs.Io.{ReadsAtMost, WritesAtMost};
+ghost use Rattle.std.specs.Io.Buffered.{writer_buffer, writer_contents};
 ghost use Rattle.std.specs.Io.KnownBytes.{ReadConsumes, WriteAppends, Keeps};
-ghost use Rattle.hii_bytes.specs.Watching.{inner_of, has_failed, saturating_sum};
+ghost use Rattle.hii_bytes.specs.Watching.{inner_of, has_failed, has_passed_on, saturating_sum};
 ghost use Rattle.hii_bytes.specs.code.Writing.{taken_of};
 
-use std::io::{Error, ErrorKind, Read, Result, Write};
+use std::io::{BufWriter, Error, ErrorKind, Read, Result, Write};
 
 /// A reader or writer that remembers whether a read, a write or a flush was a fault: an error of any kind, or a write of some
-/// bytes that took none. From then on each of them is a fault.
+/// bytes that took none. From then on each of them is a fault. Of a writer it remembers, too, whether what it took was passed on.
 #[derive(Drop)]
 pub struct Watched<T> {
     inner: T,
     is_failed: bool,
+    is_passed_on: bool,
     taken: u64,
 }
 
 impl<T> Watched<T> {
-    /// Watches a reader or writer, as one that has not failed and has taken no bytes.
+    /// Watches a reader or writer, as one that has not failed and has taken no bytes, and may hold back others.
     pub fn new(inner: T) -> Watched<T>
         ensures inner { inner_of result ≡ inner }
         ensures sound { has_failed result ≡ false }
+        ensures held { has_passed_on result ≡ false }
         ensures none_taken { taken_of result ≡ 0 }
     {
         Watched {
             inner,
             is_failed: false,
+            is_passed_on: false,
             taken: 0,
         }
     }
@@ -35,6 +39,13 @@ impl<T> Watched<T> {
         ensures { result ≡ has_failed self.now }
     {
         self.is_failed
+    }
+
+    /// Whether a flush was no fault, and the writer took nothing since. So a writer that holds bytes back holds none.
+    pub fn has_passed_on(&self) -> bool
+        ensures { result ≡ has_passed_on self.now }
+    {
+        self.is_passed_on
     }
 
     /// The reader or writer that is watched.
@@ -55,9 +66,41 @@ impl<T> Watched<T> {
     pub fn restart(&mut self)
         ensures inner { inner_of self.new ≡ inner_of self.old }
         ensures failed { has_failed self.new ≡ has_failed self.old }
+        ensures passed_on { has_passed_on self.new ≡ has_passed_on self.old }
         ensures none_taken { taken_of self.new ≡ 0 }
     {
         self.taken = 0;
+    }
+
+    // Remembers what a flush came to, and gives it.
+    fn remember(&mut self, flushed: Result<()>) -> Result<()>
+        ensures inner { inner_of self.new ≡ inner_of self.old }
+        ensures failed { has_failed self.new ≡ is_err flushed }
+        ensures passed_on { OnOk flushed (has_passed_on self.new ≡ true) }
+        ensures counted { taken_of self.new ≡ taken_of self.old }
+        ensures result { result ≡ flushed }
+    {
+        self.is_failed = flushed.is_err();
+        self.is_passed_on = flushed.is_ok();
+        flushed
+    }
+}
+
+impl<W: Write + Drop> Watched<BufWriter<W>> {
+    /// Passes on all that the buffer holds, as `flush` does, and leaves it empty unless that is a fault.
+    pub fn pass_on(&mut self) -> Result<()>
+        ensures bytes { Keeps (writer_contents W.contents (inner_of self.old))
+            (writer_contents W.contents (inner_of self.new)) }
+        ensures empty { OnOk result (writer_buffer (inner_of self.new) ≡ []) }
+        ensures counted { taken_of self.new ≡ taken_of self.old }
+        ensures fault { has_failed self.new ≡ is_err result }
+        ensures stays { has_failed self.old ≡ true → IsErr result }
+    {
+        if self.is_failed {
+            return Err(Error::from(ErrorKind::Other));
+        }
+        let flushed = self.inner.flush();
+        self.remember(flushed)
     }
 }
 
@@ -94,11 +137,13 @@ impl<W: Write> Write for Watched<W> {
         ensures none { IfOk result (λ n. n ≡ 0 → 0 < length buf.now → has_failed self.new ≡ true) }
         ensures some { IfOk result (λ n. 0 < n → has_failed self.new ≡ false) }
         ensures empty { length buf.now ≡ 0 → OnOk result (has_failed self.new ≡ false) }
+        ensures held { OnOk result (has_passed_on self.new ≡ false) }
         ensures stays { has_failed self.old ≡ true → IsErr result }
     {
         if self.is_failed {
             return Err(Error::from(ErrorKind::Other));
         }
+        self.is_passed_on = false;
         let result = self.inner.write(buf);
         match &result {
             Ok(n) => {
@@ -114,13 +159,13 @@ impl<W: Write> Write for Watched<W> {
         ensures bytes { Keeps (W.contents (inner_of self.old)) (W.contents (inner_of self.new)) }
         ensures counted { taken_of self.new ≡ taken_of self.old }
         ensures fault { has_failed self.new ≡ is_err result }
+        ensures passed_on { OnOk result (has_passed_on self.new ≡ true) }
         ensures stays { has_failed self.old ≡ true → IsErr result }
     {
         if self.is_failed {
             return Err(Error::from(ErrorKind::Other));
         }
         let flushed = self.inner.flush();
-        self.is_failed = flushed.is_err();
-        flushed
+        self.remember(flushed)
     }
 }

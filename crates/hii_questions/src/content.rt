@@ -6,6 +6,7 @@ ghost use Rattle.hii_questions.specs.code.Widths.{is_width};
 ghost use Rattle.hii_questions.specs.Items.{filled};
 
 use crate::items::Items;
+use byteorder::{ByteOrder, LittleEndian};
 
 /// What a field is to hold: items of `width` bytes each, and zeros behind them.
 #[derive(Clone, Copy, Debug)]
@@ -38,5 +39,7 @@ fn write_item(into: &mut [u8], at: usize, item: u64, width: usize)
     requires within { at + width ≤ length into.old }
     ensures { take (at + width) into.new ≡ take at into.old ++ little_bytes width item }
 {
-    into[at..at + width].copy_from_slice(&item.to_le_bytes()[..width]);
+    let mut bytes = [0; 8];
+    LittleEndian::write_u64(&mut bytes, item);
+    into[at..at + width].copy_from_slice(&bytes[..width]);
 }

@@ -2,7 +2,7 @@
 
 use hii_bytes::Watched;
 use std::io;
-use std::io::{Read, Write};
+use std::io::{BufWriter, Read, Write};
 use std::test::Fail;
 
 // A piece that is larger than the buffers of a program.
@@ -87,11 +87,22 @@ fn a_writer_takes_a_piece_at_once(rt: HostRuntime) -> Result<(), Fail> {
     out.restart();
     out.put(piece.as_slice());
     assert!(rt; !out.failed() && out.taken() == PIECE as u64);
-    assert!(rt; out.flush().is_ok() && !out.failed());
+    assert!(rt; !out.has_passed_on());
+    assert!(rt; out.flush().is_ok() && !out.failed() && out.has_passed_on());
     let inner = out.into_inner();
     assert!(rt; inner.offered.as_slice() == [PIECE, 0, PIECE].as_slice());
     assert!(rt; inner.bytes.len() == 2 * PIECE && inner.bytes.iter().all(|byte| *byte == b'x'));
     assert!(rt; inner.flushes == 1);
+    Ok(())
+}
+
+#[test]
+fn a_buffer_is_passed_on(rt: HostRuntime) -> Result<(), Fail> {
+    let mut out = Watched::new(BufWriter::new(rt.alloc(), Vec::new(rt.alloc()))?);
+    out.put(b"some");
+    assert!(rt; out.pass_on().is_ok() && !out.failed() && out.has_passed_on());
+    let (inner, held) = out.into_inner().into_parts();
+    assert!(rt; inner.as_slice() == b"some".as_slice() && held.is_empty());
     Ok(())
 }
 

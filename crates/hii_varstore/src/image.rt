@@ -12,6 +12,7 @@ ghost use Rattle.hii_varstore.specs.code.Reading.{Reads, IsFaultOf, ReadsHead};
 use crate::buffer::Buffer;
 use crate::store::Store;
 use crate::table::Table;
+use byteorder::{ByteOrder, LittleEndian};
 use hii_bytes::{Cause, Fault, Watched};
 use std::alloc::{AllocError, Global};
 use std::io::Write;
@@ -19,6 +20,15 @@ use std::io::Write;
 pub(crate) const MARK: [u8; 4] = *b"HVS2";
 
 const OLDER_MARK: [u8; 4] = *b"HVS1";
+
+// The bytes of a number, the lowest first.
+fn bytes_of(number: u16) -> [u8; 2]
+    ensures { result ≡ to_le_bytes w16 number }
+{
+    let mut bytes = [0; 2];
+    LittleEndian::write_u16(&mut bytes, number);
+    bytes
+}
 
 // The place behind bytes that are told.
 fn told_at(image: &[u8], place: usize, wanted: &[u8], other: Cause) -> Result<usize, Fault>
@@ -48,7 +58,7 @@ fn number_at(image: &[u8], place: usize, number: u16, other: Cause) -> Result<us
     ensures wrong { IfErr result
         (IsFaultOf (Told (to_le_bytes w16 number) other ∷ []) image.now place) }
 {
-    told_at(image, place, &number.to_le_bytes(), other)
+    told_at(image, place, &bytes_of(number), other)
 }
 
 // The bytes of a width.
@@ -146,8 +156,8 @@ fn put_store<W: Write>(store: &Store, out: &mut Watched<W>)
 {
     let bytes = store.bytes();
     let size = bytes.len() as u16;
-    out.put(&store.id().to_le_bytes());
-    out.put(&size.to_le_bytes());
+    out.put(&bytes_of(store.id()));
+    out.put(&bytes_of(size));
     out.put(bytes);
 }
 
@@ -157,7 +167,7 @@ pub(crate) fn put_stores<W: Write>(stores: &[Store], out: &mut Watched<W>)
     ensures { Puts W.contents out.old out.new (stores_image stores.now) }
 {
     let count = stores.len() as u16;
-    out.put(&count.to_le_bytes());
+    out.put(&bytes_of(count));
     for store in stores {
         put_store(store, out);
     }

@@ -87,6 +87,15 @@ one_of_flags op = numeric_flags op
 abbrev pub one_of_width : List ℕ → ℕ
 one_of_width op = numeric_width op
 
+abbrev pub one_of_minimum : List ℕ → ℕ
+one_of_minimum op = numeric_minimum op
+
+abbrev pub one_of_maximum : List ℕ → ℕ
+one_of_maximum op = numeric_maximum op
+
+abbrev pub one_of_step : List ℕ → ℕ
+one_of_step op = numeric_step op
+
 -- EFI_IFR_STRING; its bounds count characters
 abbrev pub string_minimum : List ℕ → ℕ
 string_minimum op = number_in op 13 1

@@ -20,7 +20,7 @@ pub struct OneOfOp<'a> {
 }
 
 impl<'a> OneOfOp<'a> {
-    ghost use Rattle.ifr_opcodes.specs.Fields.{one_of_flags};
+    ghost use Rattle.ifr_opcodes.specs.Fields.{one_of_flags, one_of_minimum, one_of_maximum, one_of_step};
     ghost use Rattle.ifr_opcodes.specs.Rows.{is_row};
     ghost use Rattle.ifr_opcodes.specs.code.Views.{Reads};
 
@@ -52,5 +52,28 @@ impl<'a> OneOfOp<'a> {
         ensures { result ≡ one_of_width (bytes_of self.entry.op) }
     {
         width_of_flags(self.flags())
+    }
+
+    /// The least value, as a bit pattern. No rule asks it: its options are the values of a ONE_OF.
+    pub fn minimum(self) -> u64
+        ensures { result ≡ one_of_minimum (bytes_of self.entry.op) }
+    {
+        self.op.number_at(14, self.width())
+    }
+
+    /// The greatest value, as a bit pattern. No rule asks it.
+    pub fn maximum(self) -> u64
+        ensures { result ≡ one_of_maximum (bytes_of self.entry.op) }
+    {
+        let width = self.width();
+        self.op.number_at(14 + width, width)
+    }
+
+    /// By how much it changes at a step, as a bit pattern. No rule asks it.
+    pub fn step(self) -> u64
+        ensures { result ≡ one_of_step (bytes_of self.entry.op) }
+    {
+        let width = self.width();
+        self.op.number_at(14 + 2 * width, width)
     }
 }

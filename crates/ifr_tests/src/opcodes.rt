@@ -169,8 +169,8 @@ fn texts(rt: HostRuntime) -> Result<(), Fail> {
 static NUMERICS: [u8; 75] = [
     7, 20, 1, 0, 2, 0, 3, 0, 4, 0, 5, 0, 6, 0x21, 1, 2, 3, 4, 5, 6, // hexadecimal, of two bytes, at 0
     7, 17, 1, 0, 2, 0, 3, 0, 4, 0, 5, 0, 6, 0x00, 0x80, 0x7f, 1, // signed, of a byte, at 20
-    5, 0xa6, 1, 0, 2, 0, 3, 0, 4, 0, 5, 0, 6, 0x33, 0, 0, 0, 0, 0, 0, 0, 0, 0, 0, 0, 0, 0, 0, 0, 0,
-    0, 0, 0, 0, 0, 0, 0, 0, // ONE_OF, of eight bytes, at 37
+    5, 0xa6, 1, 0, 2, 0, 3, 0, 4, 0, 5, 0, 6, 0x33, 1, 0, 0, 0, 0, 0, 0, 0, 2, 3, 0, 0, 0, 0, 0, 0,
+    4, 0, 0, 0, 0, 0, 0, 5, // ONE_OF, of eight bytes, at 37
 ];
 
 #[test]
@@ -214,6 +214,10 @@ fn choices(rt: HostRuntime) -> Result<(), Fail> {
     let one = OneOfOp::read(op_at(&NUMERICS, 37)?)?;
     assert_eq!(rt; (one.question().offset(), one.flags()), (5, 0x33));
     assert_eq!(rt; one.width(), 8);
+    assert_eq!(rt;
+        (one.minimum(), one.maximum(), one.step()),
+        (1, 0x302, 0x0500_0000_0000_0004)
+    );
     let list = OrderedListOp::read(op_at(&STRINGS, 33)?)?;
     assert_eq!(rt; (list.question().id(), list.flags()), (3, 2));
     assert_eq!(rt; (list.max_containers(), list.is_unique_set()), (7, false));

@@ -22,7 +22,6 @@ use Rattle.form_audit.specs.FormLines.{form_text}
 use Rattle.form_audit.specs.QuestionLines.{field_text, is_undefined, store_with}
 use Rattle.form_audit.specs.Reach.{TellsReached}
 use Rattle.form_audit.specs.ScriptValues.{behind, default_taken, script_value}
-use Rattle.question_audit.specs.Beginnings.{Begins}
 use Rattle.question_audit.specs.ConditionFacts.{check_facts, fact, guard_facts, option_facts, verdict_text}
 use Rattle.question_audit.specs.Dependences.{decides_facts, depends_facts}
 
@@ -132,19 +131,29 @@ question_facts a is_reached package_place q =
 abbrev pub no_question : ℕ → List ℕ
 no_question id = codes "NO QUESTION " ++ decimal id ++ codes "\n"
 
--- There is one, and what is known of it is told, by what tells which forms are reached; or it is told that there is none.
-abbrev pub TellsQuestion : Bool → Audited → ℕ → ℕ → Pen → Pen → Type 0
-TellsQuestion true a package_place id old new =
+-- There is one, and this is what is known of it, by what tells which forms are reached; or this says that there is none.
+abbrev pub IsQuestionText : Bool → Audited → ℕ → ℕ → List ℕ → Type 0
+IsQuestionText true a package_place id text =
     (n : Placed) × (question_with a.world.nodes id ≡ Some n) × (is_reached : ℕ → Bool)
     × TellsReached a.world is_reached
-    × Writes old new (question_facts a is_reached package_place (asked a.world.nodes n))
-TellsQuestion false a package_place id old new =
-    (question_with a.world.nodes id ≡ None) × Writes old new (no_question id)
+    × (text ≡ question_facts a is_reached package_place (asked a.world.nodes n))
+IsQuestionText false a package_place id text =
+    (question_with a.world.nodes id ≡ None) × (text ≡ no_question id)
 
--- Nothing was written; or there is one, and the beginning of what is known of it was written.
+-- That is written.
+abbrev pub TellsQuestion : Bool → Audited → ℕ → ℕ → Pen → Pen → Type 0
+TellsQuestion is_there a package_place id old new =
+    (text : List ℕ) × IsQuestionText is_there a package_place id text × Writes old new text
+
+-- The text is the beginning of what is known of one, or nothing.
+abbrev pub BeginsQuestionText : Audited → ℕ → ℕ → List ℕ → Type 0
+BeginsQuestionText a package_place id text =
+    (text ≡ [])
+    ⊎ ((n : Placed) × (question_with a.world.nodes id ≡ Some n) × (is_reached : ℕ → Bool)
+    × TellsReached a.world is_reached × (rest : List ℕ)
+    × (question_facts a is_reached package_place (asked a.world.nodes n) ≡ text ++ rest))
+
+-- That is written.
 abbrev pub BeginsQuestion : Audited → ℕ → ℕ → Pen → Pen → Type 0
 BeginsQuestion a package_place id old new =
-    (new ≡ old)
-    ⊎ ((n : Placed) × (question_with a.world.nodes id ≡ Some n) × (is_reached : ℕ → Bool)
-    × TellsReached a.world is_reached
-    × Begins old new (question_facts a is_reached package_place (asked a.world.nodes n)))
+    (text : List ℕ) × BeginsQuestionText a package_place id text × Writes old new text

@@ -1,1 +1,4 @@
+pub mod EndingLemmas
+pub mod ImagingLemmas
 pub mod SourceLemmas
+pub mod SplittingLemmas

@@ -1,14 +1,15 @@
 //! An audit over bytes that are given.
 
-ghost use Rattle.std.specs.Prelude.{◌≡◌, ◌≢◌, IfOk, OnOk, OnErr, IfErr};
-ghost use Rattle.hii_bytes.specs.Faults.{Refuses, out_of_memory};
-ghost use Rattle.hii_bytes.specs.Watching.{pen_of};
+ghost use Rattle.std.specs.Prelude.{◌≡◌, ◌≢◌, ℕ, List, IfOk, OnOk, OnErr, IfErr};
+ghost use Rattle.hii_bytes.specs.Faults.{Refuses};
+ghost use Rattle.hii_bytes.specs.Watching.{Puts};
 ghost use Rattle.browser_core.specs.Opening.{IsOpenFault};
 ghost use Rattle.setup_audit.specs.Auditing.{Audits, AuditsQuestion, BeginsAuditsQuestion};
+ghost use Rattle.setup_audit.specs.code.Givens.{asked};
 
 use browser_core::Session;
 use form_audit::put_questions;
-use hii_bytes::{Fault, Watched};
+use hii_bytes::{Cause, Fault, Watched};
 use question_audit::put_question_with_id;
 use setup_files::Given;
 use std::alloc::Global;
@@ -22,9 +23,10 @@ pub fn put_audit<W: Write>(
     given: Given<'_>,
     out: &mut Watched<W>,
 ) -> Result<(), Fault>
-    ensures told { OnOk result (Audits given.entry (pen_of W.contents out.old) (pen_of W.contents out.new)) }
+    ensures told { OnOk result ((text : List ℕ) × Audits (asked given.entry) text
+        × Puts W.contents out.old out.new text) }
     ensures refused { IfErr result (Refuses (IsOpenFault given.entry.list.now given.entry.forms given.entry.stores.now)) }
-    ensures nothing { IfErr result (λ _. pen_of W.contents out.new ≡ pen_of W.contents out.old) }
+    ensures nothing { OnErr result (out.new ≡ out.old) }
 {
     let session = Session::open(alloc, given.list, given.forms, given.stores, given.lang)?;
     put_questions(alloc, session.page(), out)
@@ -39,10 +41,12 @@ pub fn put_question_audit<W: Write>(
     id: u16,
     out: &mut Watched<W>,
 ) -> Result<bool, Fault>
-    ensures told { IfOk result (λ is_there. AuditsQuestion is_there given.entry id (pen_of W.contents out.old) (pen_of W.contents out.new)) }
+    ensures told { IfOk result (λ is_there. (text : List ℕ) × AuditsQuestion is_there (asked given.entry) id text
+        × Puts W.contents out.old out.new text) }
     ensures refused { IfErr result (Refuses (IsOpenFault given.entry.list.now given.entry.forms given.entry.stores.now)) }
-    ensures nothing { IfErr result (λ fault. fault ≢ out_of_memory → pen_of W.contents out.new ≡ pen_of W.contents out.old) }
-    ensures begun { OnErr result (BeginsAuditsQuestion given.entry id (pen_of W.contents out.old) (pen_of W.contents out.new)) }
+    ensures nothing { IfErr result (λ fault. fault.cause ≢ Cause.OutOfMemory → out.new ≡ out.old) }
+    ensures begun { OnErr result ((text : List ℕ) × BeginsAuditsQuestion (asked given.entry) id text
+        × Puts W.contents out.old out.new text) }
 {
     let Given {
         list,

@@ -4,39 +4,48 @@
 
 mod answers;
 mod auditing;
+mod ended;
 mod image;
 mod question;
 mod questions;
 mod sources;
 mod split;
+mod store_files;
 mod stores;
 
 use audit_options::{Task, read_words};
+use clap::Error;
 use clap::error::ErrorKind;
 use hii_bytes::Cause;
-use setup_files::{Status, refused, usage, words};
+use setup_files::{Status, Terminals, VERSION, refused, shown, usage, words};
 use std::process::ExitCode;
 use std::rt::{Env, Files};
 
 fn main(rt: HostRuntime) -> ExitCode {
-    match run(&rt) {
-        Ok(()) => ExitCode::from(Status::Done.number()),
-        Err(status) => ExitCode::from(status.number()),
+    let (Ok(status) | Err(status)) = run(&rt, Terminals::of(&rt));
+    ExitCode::from(status.number())
+}
+
+fn run<R: Env + Files + Print + Eprint + AllocGlobal>(
+    rt: &R,
+    terminals: Terminals,
+) -> Result<Status, Status> {
+    let words = words(rt, terminals)?;
+    match read_words(rt.alloc(), VERSION, words.as_slice()) {
+        Ok(Task::Split(options)) => split::run(rt, terminals, options),
+        Ok(Task::Questions(options)) => questions::run(rt, terminals, options),
+        Ok(Task::Question(options)) => question::run(rt, terminals, options),
+        Ok(Task::Stores(options)) => stores::run(rt, terminals, options),
+        Ok(Task::Image(options)) => image::run(rt, terminals, &options),
+        Err(e) => Ok(tell(rt, terminals, &e)),
     }
 }
 
-fn run<R: Env + Files + Print + Eprint + AllocGlobal>(rt: &R) -> Result<(), Status> {
-    let words = words(rt)?;
-    match read_words(rt.alloc(), words.as_slice()) {
-        Ok(Task::Split(options)) => split::run(rt, options),
-        Ok(Task::Questions(options)) => questions::run(rt, options),
-        Ok(Task::Question(options)) => question::run(rt, options),
-        Ok(Task::Stores(list)) => stores::run(rt, list),
-        Ok(Task::Image(options)) => image::run(rt, &options),
-        Err(e) => Err(if e.kind() == ErrorKind::OutOfMemory {
-            refused(rt, Cause::OutOfMemory)
-        } else {
-            usage(rt, &e)
-        }),
+// Tells what was asked for of the program itself, or how it is called.
+fn tell<R: Print + Eprint>(rt: &R, terminals: Terminals, error: &Error) -> Status {
+    match error.kind() {
+        ErrorKind::OutOfMemory => refused(rt, terminals, Cause::OutOfMemory),
+        ErrorKind::DisplayHelp | ErrorKind::DisplayVersion => shown(rt, terminals, error),
+        _ => usage(rt, error),
     }
 }

@@ -1,40 +1,68 @@
 //! Where the bytes of an image come from.
 
-ghost use Rattle.std.specs.Prelude.{◌≡◌, IfOk, map};
+ghost use Rattle.std.specs.Prelude.{◌≡◌, IfErr, IfOk, drop, map, option_copied, option_map, string_bytes};
+ghost use Rattle.std.specs.List.{AllByRecursion};
 ghost use Rattle.ifr_scopes.specs.Nodes.{nodes_of};
+ghost use Rattle.ifr_scopes.specs.code.Lists.{store_node};
 ghost use Rattle.store_audit.specs.Fillings.{buffer_stores};
 ghost use Rattle.store_audit.specs.code.Fillings.{filling_node};
+ghost use Rattle.setup_audit.specs.Files.{IsFile};
+ghost use Rattle.setup_audit.specs.Sources.{IsSource, IsVariable, filler, last_given, variable_path};
+ghost use Rattle.setup_audit.specs.code.Sources.{IsUnsourced};
 
-use audit_options::ImageOptions;
+use crate::store_files::StoreFiles;
+use audit_options::{ImageOptions, StoreFile};
 use audit_text::{Case, guid_digits};
-use hii_bytes::Cause;
+use hii_bytes::laws::are_bytes;
 use ifr_scopes::Varstore;
-use setup_files::{Status, file, refused};
-use std::alloc::Global;
-use std::io::ErrorKind;
-use std::rt::Files;
-use std::{fmt, fs, str};
+use setup_files::Status;
+use std::alloc::{AllocError, Global};
+use std::str;
 use store_audit::{Declared, Filling, Source};
 
 // How many bytes a variable's attributes take in its file.
 const ATTRIBUTES: usize = 4;
 
+/// Why a store has no source.
+#[derive(Clone, Copy, Debug)]
+pub enum Unsourced {
+    /// A file was not read, and the program ends with this status.
+    Unread(Status),
+    /// An allocation failed.
+    NoMemory,
+}
+
+impl From<AllocError> for Unsourced {
+    ghost use Rattle.setup_audit.specs.declared.sources.Unsourced.TheVariants.{NoMemory};
+
+    ghost from_gives = { λ _ unsourced. unsourced ≡ NoMemory };
+
+    fn from(_failed: AllocError) -> Unsourced {
+        Unsourced::NoMemory
+    }
+}
+
 /// The stores that hold bytes, by place, and where the bytes of each come from.
-pub fn fillings<'a, R: Files + Print + Eprint + AllocGlobal>(
-    rt: &R,
+pub fn fillings<'a, F: StoreFiles>(
+    alloc: Global,
+    files: &F,
     declared: &Declared<'a>,
     options: &ImageOptions<'_>,
-) -> Result<Vec<Filling<'a>>, Status>
-    ensures { IfOk result (λ fillings. map filling_node fillings.items
+) -> Result<Vec<Filling<'a>>, Unsourced>
+    ensures all { IfOk result (λ fillings. map filling_node fillings.items
         ≡ buffer_stores (nodes_of declared.now)) }
+    ensures sources { IfOk result (λ fillings.
+        AllByRecursion (λ f. IsSource (F.known files.now) options.now (filling_node f) f.source)
+        fillings.items) }
+    ensures err { IfErr result IsUnsourced }
 {
-    let mut fillings = Vec::new(rt.alloc());
+    let mut fillings = Vec::new(alloc);
     let mut stores = declared.forms().stores();
     while let Some(store) = stores.next() {
         if store.size().is_some() {
-            let source = source(rt, options, store)?;
+            let source = source(alloc, files, options, store)?;
             if fillings.push(Filling { store, source }).is_err() {
-                return Err(refused(rt, Cause::OutOfMemory));
+                return Err(Unsourced::NoMemory);
             }
         }
     }
@@ -42,60 +70,92 @@ pub fn fillings<'a, R: Files + Print + Eprint + AllocGlobal>(
 }
 
 // Where the bytes of a store come from: the last file that is given to it, else the file of its variable, else zeros.
-fn source<R: Files + Print + Eprint + AllocGlobal>(
-    rt: &R,
+fn source<F: StoreFiles>(
+    alloc: Global,
+    files: &F,
     options: &ImageOptions<'_>,
     store: Varstore<'_>,
-) -> Result<Source, Status> {
-    for given in options.files.iter().rev() {
-        if given.id == store.id() {
-            return file_from(rt, given.path, 0);
+) -> Result<Source, Unsourced>
+    ensures source { IfOk result
+        (IsSource (F.known files.now) options.now (store_node store.entry)) }
+    ensures err { IfErr result IsUnsourced }
+{
+    if let Some(given) = last_given(options.files.as_slice(), store.id()) {
+        return file_from(alloc, files, given.path, 0);
+    }
+    let path = match options.efivars {
+        Some(folder) => variable_path(alloc, folder, store)?,
+        None => None,
+    };
+    variable(alloc, files, path, options.zero)
+}
+
+// The file of a variable without its attributes, where there is one, and else zeros or nothing.
+fn variable<F: StoreFiles>(
+    alloc: Global,
+    files: &F,
+    path: Option<String>,
+    zero: bool,
+) -> Result<Source, Unsourced>
+    ensures source { IfOk result
+        (IsVariable (F.known files.now) (option_map string_bytes path) zero) }
+    ensures err { IfErr result IsUnsourced }
+{
+    match path {
+        Some(path) if files.is_there(path.as_str()) => {
+            file_from(alloc, files, path.as_str(), ATTRIBUTES)
+        }
+        _ => Ok(filler(zero)),
+    }
+}
+
+fn filler(zero: bool) -> Source
+    ensures { result ≡ filler zero }
+{
+    if zero { Source::Zeros } else { Source::Missing }
+}
+
+// The last file that is given to the store of an id.
+fn last_given<'f, 'a>(files: &'f [StoreFile<'a>], id: u16) -> Option<&'f StoreFile<'a>>
+    ensures { option_copied result ≡ last_given files.entry.now id }
+{
+    let mut last = None;
+    for file in files {
+        if file.id == id {
+            last = Some(file);
         }
     }
-    if let Some(folder) = options.efivars {
-        if let Some(path) = variable(rt, folder, store)? {
-            return file_from(rt, path.as_str(), ATTRIBUTES);
-        }
-    }
-    Ok(if options.zero {
-        Source::Zeros
-    } else {
-        Source::Missing
-    })
+    last
 }
 
 // The bytes of a file, without the first ones.
-fn file_from<R: Files + Print + Eprint + AllocGlobal>(
-    rt: &R,
+fn file_from<F: StoreFiles>(
+    alloc: Global,
+    files: &F,
     path: &str,
     skipped: usize,
-) -> Result<Source, Status> {
-    let mut bytes = file(rt, path, "read store")?;
+) -> Result<Source, Unsourced>
+    ensures file { IfOk result (IsFile (F.known files.now) path.now skipped) }
+    ensures err { IfErr result IsUnsourced }
+{
+    let file = match files.read(path) {
+        Ok(file) => file,
+        Err(status) => return Err(Unsourced::Unread(status)),
+    };
+    let path = String::from_str(alloc, file.path)?;
+    let mut bytes = file.bytes;
     remove_front(&mut bytes, skipped);
-    match String::from_str(rt.alloc(), path) {
-        Ok(path) => Ok(Source::File { path, bytes }),
-        Err(_) => Err(refused(rt, Cause::OutOfMemory)),
-    }
+    Ok(Source::File { path, bytes })
 }
 
 // Removes the first bytes, or all where there are no more.
-fn remove_front(bytes: &mut Vec<u8>, skipped: usize) {
-    let left = bytes.len().saturating_sub(skipped);
-    let from = bytes.len() - left;
-    bytes.copy_within(from.., 0);
-    bytes.truncate(left);
-}
-
-// The path of the file of a variable, where there is such a file.
-fn variable<R: Files + Print + Eprint + AllocGlobal>(
-    rt: &R,
-    folder: &str,
-    store: Varstore<'_>,
-) -> Result<Option<String>, Status> {
-    match variable_path(rt.alloc(), folder, store) {
-        Ok(path) => Ok(path.filter(|path| is_there(rt, path.as_str()))),
-        Err(_) => Err(refused(rt, Cause::OutOfMemory)),
-    }
+fn remove_front(bytes: &mut Vec<u8>, count: usize)
+    ensures { bytes.new.items ≡ drop count bytes.old.items }
+{
+    let len = bytes.len();
+    let from = count.min(len);
+    bytes.copy_within(from..len, 0);
+    bytes.truncate(len - from);
 }
 
 // The path of the file of a variable, unless its name is none of a file.
@@ -103,23 +163,26 @@ fn variable_path(
     alloc: Global,
     folder: &str,
     store: Varstore<'_>,
-) -> Result<Option<String>, fmt::Error> {
-    let digits = guid_digits(store.guid(), Case::Lower);
+) -> Result<Option<String>, AllocError>
+    ensures { IfOk result (λ path. option_map string_bytes path
+        ≡ variable_path folder.now (store_node store.entry)) }
+{
+    let guid = store.guid();
+    are_bytes(guid.bytes());
+    let digits = guid_digits(guid, Case::Lower);
     let (Ok(name), Ok(guid)) = (
         str::from_utf8(store.name()),
         str::from_utf8(digits.as_slice()),
     ) else {
         return Ok(None);
     };
-    if name.contains('/') {
+    if store.name().contains(&b'/') {
         return Ok(None);
     }
-    Ok(Some(format!(in alloc; "{folder}/{name}-{guid}")?))
-}
-
-fn is_there<R: Files>(rt: &R, path: &str) -> bool {
-    match fs::metadata(rt, path) {
-        Ok(_) => true,
-        Err(e) => e.kind() != ErrorKind::NotFound,
-    }
+    let mut path = String::from_str(alloc, folder)?;
+    path.push_str("/")?;
+    path.push_str(name)?;
+    path.push_str("-")?;
+    path.push_str(guid)?;
+    Ok(Some(path))
 }

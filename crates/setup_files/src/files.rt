@@ -1,66 +1,47 @@
 //! Files of a program.
 
-use crate::endings::{Status, fault, refused};
-use crate::reading::{ReadError, read_whole};
-use hii_bytes::{Cause, Watched};
-use std::io::{Read, Write};
-use std::rt::Files;
-use std::{fs, io};
+ghost use Rattle.std.specs.Prelude.{◌≡◌, ◌≢◌, ◌≤◌, IfErr, IfOk, length};
+ghost use Rattle.setup_files.specs.declared.reading.TheConstants.{FILE_LIMIT};
 
-/// The bytes of a file, or the status with which the program ends; `what` says at a fault what was done.
-pub fn file<R: Files + Print + Eprint + AllocGlobal>(
+use crate::endings::{Status, fault, refused};
+use crate::noted::Noted;
+use crate::reading::{ReadError, read_whole};
+use crate::terminal::Terminals;
+use hii_bytes::{Cause, Watched};
+use std::fs;
+use std::rt::Files;
+
+/// A file that was read whole.
+#[derive(Drop)]
+pub struct WholeFile<'a> {
+    /// Its path.
+    pub path: &'a str,
+    /// Its bytes.
+    pub bytes: Vec<u8>,
+    ghost limited: { length bytes.items ≤ FILE_LIMIT },
+}
+
+/// The file of a path, or the status with which the program ends; `what` says at a fault what was done.
+pub fn file<'a, R: Files + Print + Eprint + AllocGlobal>(
     rt: &R,
-    path: &str,
+    terminals: Terminals,
+    path: &'a str,
     what: &str,
-) -> Result<Vec<u8>, Status> {
+) -> Result<WholeFile<'a>, Status>
+    ensures path { IfOk result (λ file. file.path.now ≡ path.now) }
+    ensures err { IfErr result (λ status. status ≢ Status.Done) }
+{
     let mut file = match fs::open(rt, path) {
-        Ok(file) => Watched::new(file),
-        Err(_) => return Err(fault(rt, what)),
+        Ok(file) => Watched::new(Noted::new(file)),
+        Err(e) => return Err(fault(rt, terminals, what, path, Some(e))),
     };
     match read_whole(rt.alloc(), &mut file) {
-        Ok(bytes) => Ok(bytes),
-        Err(ReadError::TooLong) => Err(refused(rt, Cause::FileTooLong)),
-        Err(ReadError::NoMemory) => Err(refused(rt, Cause::OutOfMemory)),
-        Err(ReadError::Fault) => Err(fault(rt, what)),
-    }
-}
-
-/// A file that is made when its first bytes are written.
-#[derive(Drop)]
-pub struct OutFile<'a, R: Files> {
-    rt: &'a R,
-    path: &'a str,
-    file: Option<R::File>,
-}
-
-impl<'a, R: Files> OutFile<'a, R> {
-    /// The file of a path, which is not made yet.
-    pub fn new(rt: &'a R, path: &'a str) -> OutFile<'a, R> {
-        OutFile {
-            rt,
-            path,
-            file: None,
-        }
-    }
-}
-
-impl<R: Files> Write for OutFile<'_, R> {
-    fn write(&mut self, buf: &[u8]) -> io::Result<usize> {
-        match &mut self.file {
-            Some(file) => file.write(buf),
-            None => {
-                let mut file = fs::create(self.rt, self.path)?;
-                let result = file.write(buf);
-                self.file = Some(file);
-                result
-            }
-        }
-    }
-
-    fn flush(&mut self) -> io::Result<()> {
-        match &mut self.file {
-            Some(file) => file.flush(),
-            None => Ok(()),
+        Ok(bytes) => Ok(WholeFile { path, bytes }),
+        Err(ReadError::TooLong) => Err(refused(rt, terminals, Cause::FileTooLong)),
+        Err(ReadError::NoMemory) => Err(refused(rt, terminals, Cause::OutOfMemory)),
+        Err(ReadError::Fault) => {
+            let reason = file.into_inner().error();
+            Err(fault(rt, terminals, what, path, reason))
         }
     }
 }

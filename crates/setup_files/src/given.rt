@@ -1,9 +1,10 @@
 //! What a form set is opened over (own rule).
 
-ghost use Rattle.std.specs.Prelude.{◌≡◌};
+ghost use Rattle.std.specs.Prelude.{◌≡◌, ◌≢◌, IfErr, IfOk};
 
 use crate::endings::Status;
-use crate::files::file;
+use crate::files::{WholeFile, file};
+use crate::terminal::Terminals;
 use std::rt::Files;
 
 /// What a form set is opened over.
@@ -21,33 +22,41 @@ pub struct Given<'a> {
 
 /// A package list and an image of its stores, as their files hold them.
 #[derive(Drop)]
-pub struct FormSetFiles {
-    list: Vec<u8>,
-    stores: Vec<u8>,
+pub struct FormSetFiles<'p> {
+    /// The file of the list.
+    pub list: WholeFile<'p>,
+    /// The file of the image.
+    pub stores: WholeFile<'p>,
 }
 
-impl FormSetFiles {
+impl<'p> FormSetFiles<'p> {
     /// Reads both files, the list first, or gives the status with which the program ends.
     pub fn read<R: Files + Print + Eprint + AllocGlobal>(
         rt: &R,
-        list: &str,
-        stores: &str,
-    ) -> Result<FormSetFiles, Status> {
-        let list = file(rt, list, "read list")?;
-        let stores = file(rt, stores, "read stores")?;
+        terminals: Terminals,
+        list: &'p str,
+        stores: &'p str,
+    ) -> Result<FormSetFiles<'p>, Status>
+        ensures list { IfOk result (λ files. files.list.path.now ≡ list.now) }
+        ensures stores { IfOk result (λ files. files.stores.path.now ≡ stores.now) }
+        ensures err { IfErr result (λ status. status ≢ Status.Done) }
+    {
+        let list = file(rt, terminals, list, "read list")?;
+        let stores = file(rt, terminals, stores, "read stores")?;
         Ok(FormSetFiles { list, stores })
     }
 
     /// What a forms package of the list is opened over, with texts in a language.
     pub fn given<'a>(&'a self, forms: u16, lang: &'a str) -> Given<'a>
-        ensures list { result.list.now ≡ self.now.list.items }
+        ensures list { result.list.now ≡ self.now.list.bytes.items }
         ensures forms { result.forms ≡ forms }
-        ensures stores { result.stores.now ≡ self.now.stores.items }
+        ensures stores { result.stores.now ≡ self.now.stores.bytes.items }
+        ensures lang { result.lang.now ≡ lang.now }
     {
         Given {
-            list: self.list.as_slice(),
+            list: self.list.bytes.as_slice(),
             forms: usize::from(forms),
-            stores: self.stores.as_slice(),
+            stores: self.stores.bytes.as_slice(),
             lang: lang.as_bytes(),
         }
     }

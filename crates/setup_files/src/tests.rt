@@ -1,7 +1,10 @@
-//! Files of the greatest length, and files that fail.
+//! Files of the greatest length, files that fail, and what is told of them.
 
+use crate::endings::{Status, shown, tell_refused};
+use crate::noted::Noted;
 use crate::reading::{FILE_LIMIT, ReadError, read_whole};
-use hii_bytes::Watched;
+use crate::terminal::Terminals;
+use hii_bytes::{Cause, Watched};
 use std::alloc::Global;
 use std::io;
 use std::io::{ErrorKind, Read};
@@ -48,4 +51,38 @@ fn a_file_may_fail(rt: HostRuntime) {
     });
     let error = read_whole(rt.alloc(), &mut broken).err();
     assert!(rt; error == Some(ReadError::Fault));
+}
+
+#[test]
+fn the_reason_of_a_fault_is_kept(rt: HostRuntime) {
+    let mut broken = Noted::new(Broken { bytes: b"0" });
+    let mut piece = [0; 2];
+    assert!(rt; matches!(&broken.read(&mut piece), Ok(1)));
+    assert!(rt; broken.read(&mut piece).is_err());
+    let kind = match broken.error() {
+        Some(error) => Some(error.kind()),
+        None => None,
+    };
+    assert!(rt; kind == Some(ErrorKind::Other));
+    let whole = Noted::new(b"".as_slice());
+    assert!(rt; whole.error().is_none());
+}
+
+#[test]
+fn a_refusal_is_told_with_its_status(rt: HostRuntime) {
+    let mut answers = Watched::new(Vec::new(rt.alloc()));
+    assert!(rt; tell_refused(Cause::FileTooLong, &mut answers) == Status::Refused);
+    assert!(rt; tell_refused(Cause::OutOfMemory, &mut answers) == Status::NoMemory);
+    let told = answers.into_inner();
+    let wanted = b"REFUSED 73 FileTooLong\nREFUSED 60 OutOfMemory\n";
+    assert!(rt; told.as_slice() == wanted.as_slice());
+}
+
+// A test has no terminal, so that nothing is told here.
+#[test]
+fn a_pipe_is_told_nothing(rt: HostRuntime) {
+    let terminals = Terminals::of(&rt);
+    terminals.greet(&rt, "");
+    terminals.explain(&rt, "", None);
+    assert!(rt; shown(&rt, terminals, &"") == Status::Done);
 }

@@ -1,1 +1,3 @@
+pub mod RunningLemmas
+pub mod KnownLemmas
 pub mod ServingLemmas

@@ -1,18 +1,24 @@
 -- What a run of the program leaves, by how it ended (own rule).
-use Rattle.std.specs.Prelude.{◌≡◌, ◌⊎◌, ℕ, true, List, Option, false}
-use Rattle.std.specs.Io.KnownBytes.{Appends}
+use Rattle.std.specs.Prelude.{◌≡◌, ◌+◌, ◌≤◌, ◌⊎◌, ℕ, Bool, true, false, List, [], length, take, drop, codes, Option, Some, None}
+use Rattle.std.specs.Io.Buffered.{writer_buffer, writer_inner}
+use Rattle.std.specs.Io.KnownBytes.{Appends, append_known}
+use Rattle.std.specs.declared.io.buffered.BufWriter.{BufWriter}
 use Rattle.hii_bytes.specs.declared.cause.Cause.TheVariants.{OutOfMemory}
 use Rattle.hii_bytes.specs.declared.cause.Fault.{Fault}
-use Rattle.hii_bytes.specs.declared.writing.WriteFault.{WriteFault}
+use Rattle.hii_bytes.specs.declared.watched.Watched.{Watched}
 use Rattle.hii_bytes.specs.Faults.{IsLeast}
-use Rattle.hii_bytes.specs.Watching.{Pen, BreaksWithin, StopsWithin}
+use Rattle.hii_bytes.specs.Watching.{Pen, pen_of, inner_of, BreaksWithin}
+use Rattle.hii_commands.specs.Script.{whole_lines}
+use Rattle.hii_commands.specs.declared.limits.TheConstants.{SCRIPT_LIMIT}
 use Rattle.hii_varstore.specs.Image.{image_of}
 use Rattle.browser_core.specs.Renewed.{Shown}
 use Rattle.browser_core.specs.Opening.{Opens, IsOpenFault}
-use Rattle.browser_core.specs.Run.{outcome_of, Finishes, BreaksOff, Overflows}
+use Rattle.browser_core.specs.Run.{text_of, outcome_of, Finishes, BreaksOff, Overflows}
 use Rattle.browser_core.specs.Texts.{refused_text, refused_at_text}
 use Rattle.browser_core.specs.declared.reply.End.{End}
 use Rattle.browser_core.specs.declared.reply.End.TheVariants as end
+use Rattle.setup_files.specs.declared.endings.Status.{Status}
+use Rattle.setup_files.specs.declared.endings.Status.TheVariants as status
 use Rattle.setup_files.specs.declared.given.Given.{Given}
 use Rattle.setup_main.specs.declared.serve.Ended.{Ended}
 use Rattle.setup_main.specs.declared.serve.Ended.TheVariants.{Done, Refused, ReadScript, WriteAnswers, WriteOut, NoMemory}
@@ -31,42 +37,155 @@ IsRefusedBy given fault = IsLeast (IsOpenFault given.list.now given.forms given.
 abbrev pub IsWritten : Pen → Pen → List ℕ → Type 0
 IsWritten old new text = Appends old.known new.known text × (new.broken ≡ false)
 
--- ---- a script of known bytes
+-- The first bytes of a text are written, maybe all of them, and its writer has failed, as it wrote or as it passed them on.
+pub record FailsWithin (old new : Pen) (text : List ℕ) : Type 0 where
+  pub part : ℕ
+  pub within : part ≤ length text
+  pub appended : Appends old.known new.known (take part text)
+  pub broken : new.broken ≡ true
 
--- A session over what is given runs this script to an end, and its answers are written.
-pub record RunsAll (given : Given) (script : List ℕ) (end : End)
-    (answers answered : Pen) : Type 0 where
-  pub start : Shown
-  pub starts : Starts given start
-  pub ends : end ≡ (outcome_of start script).end
-  pub text : IsWritten answers answered (outcome_of start script).text
+-- ---- endings
 
--- What is given is refused, and its least fault is told.
-pub record IsRefused (given : Given) (answers answered : Pen) : Type 0 where
-  pub fault : Fault
-  pub least : IsRefusedBy given fault
-  pub text : IsWritten answers answered (refused_at_text fault)
+-- the status with which the program ends
+abbrev pub status_of : Ended → Status
+status_of Done = status.Done
+status_of Refused = status.Refused
+status_of ReadScript = status.Fault
+status_of WriteAnswers = status.Fault
+status_of WriteOut = status.Fault
+status_of NoMemory = status.NoMemory
 
--- What stands in the answers and in the image where no reader or writer fails. The image is that of the stores that were
--- last submitted, and is written only after a whole script.
-abbrev pub ServesAll : Given → List ℕ → Pen → Pen → Ended → Pen → Pen → Type 0
-ServesAll given script answers out Done answered written =
-    (run : RunsAll given script end.Done answers answered)
-    × IsWritten out written (image_of (outcome_of run.start script).shown.state.committed)
-ServesAll given script answers out Refused answered written =
-    (written ≡ out) × (IsRefused given answers answered
-    ⊎ RunsAll given script end.TooLong answers answered)
-ServesAll given script answers out NoMemory answered written =
-    (written ≡ out) × IsWritten answers answered (refused_text OutOfMemory)
-ServesAll given script answers out _ answered written = Unit {0}
+-- which read or write failed
+abbrev pub fault_of : Ended → Option (List ℕ)
+fault_of ReadScript = Some (codes "read script")
+fault_of WriteAnswers = Some (codes "write answers")
+fault_of WriteOut = Some (codes "write out")
+fault_of _ = None
 
--- ---- any reader and writers
+-- Which of the script, the answers and the image have failed: the one that is named. Where the answers fail at last, the script
+-- may have failed before.
+abbrev pub IsNamed : Ended → Bool → Bool → Bool → Type 0
+IsNamed ReadScript script answers out = (script ≡ true) × (answers ≡ false) × (out ≡ false)
+IsNamed WriteAnswers script answers out = (answers ≡ true) × (out ≡ false)
+IsNamed WriteOut script answers out = (script ≡ false) × (answers ≡ false) × (out ≡ true)
+IsNamed Done script answers out = (script ≡ false) × (answers ≡ false) × (out ≡ false)
+IsNamed Refused script answers out = (script ≡ false) × (answers ≡ false) × (out ≡ false)
+IsNamed NoMemory script answers out = (script ≡ false) × (answers ≡ false) × (out ≡ false)
 
--- what a run meets: the bytes that the script has, where they are known, the answers and the image
+-- ---- the reader and the writers
+
+-- what a run meets and leaves: what is left of the script, where its bytes are known; the writer of the answers, and what the
+-- buffer in front of it holds back; the writer of the image
 pub record Ends : Type 0 where
   pub script : Option (List ℕ)
   pub answers : Pen
+  pub held : List ℕ
   pub out : Pen
+
+-- the writer of the answers with what is held back
+abbrev pub with_held : Ends → Pen
+with_held ends = record ends.answers { known = append_known ends.answers.known ends.held }
+
+abbrev pub ends_of : {R A O Z : Type 0} → (R → Option (List ℕ)) → (A → Option (List ℕ))
+    → (O → Option (List ℕ)) → Watched R → Watched (BufWriter A Z) → Watched O → Ends
+ends_of remaining answered written script answers out = record {
+  script = remaining (inner_of script);
+  answers = pen_of (λ buffered. answered (writer_inner buffered)) answers;
+  held = writer_buffer (inner_of answers);
+  out = pen_of written out;
+}
+
+-- a writer that has not failed, by what it holds
+abbrev pub fresh : Option (List ℕ) → Pen
+fresh known = record { known = known; broken = false; count = 0 }
+
+-- what a run begins with
+abbrev pub begins : Option (List ℕ) → Option (List ℕ) → Option (List ℕ) → Ends
+begins script answers out =
+    record { script = script; answers = fresh answers; held = []; out = fresh out }
+
+-- ---- what is told without a session
+
+-- What is given is refused, and its least fault is told. Nothing is read.
+pub record IsRefused (given : Given) (before after : Ends) : Type 0 where
+  pub fault : Fault
+  pub least : IsRefusedBy given fault
+  pub unread : after.script ≡ before.script
+  pub text : IsWritten before.answers after.answers (refused_at_text fault)
+
+-- An allocation failed, which is told. Nothing is read.
+pub record LacksMemory (before after : Ends) : Type 0 where
+  pub unread : after.script ≡ before.script
+  pub text : IsWritten before.answers after.answers (refused_text OutOfMemory)
+
+-- What is given is refused or an allocation fails, and the answers fail at the line that tells it, or as that is passed on. Nothing is
+-- read.
+pub record FailsAtOnce (given : Given) (before after : Ends) : Type 0 where
+  pub text : List ℕ
+  pub line : ((fault : Fault) × IsRefusedBy given fault × (text ≡ refused_at_text fault))
+      ⊎ (text ≡ refused_text OutOfMemory)
+  pub unread : after.script ≡ before.script
+  pub breaks : BreaksWithin before.answers (with_held after) text
+
+-- ---- a script of known bytes
+
+-- So many bytes of a script were read, and the others are left.
+pub record IsRead (script : List ℕ) (count : ℕ) (left : Option (List ℕ)) : Type 0 where
+  pub within : count ≤ length script
+  pub left_is : left ≡ Some (drop count script)
+
+-- what a run leaves of a script that it runs to an end: nothing, or what stands behind the byte past the limit
+abbrev pub left_of : End → List ℕ → List ℕ
+left_of end.Done script = []
+left_of end.TooLong script = drop (SCRIPT_LIMIT + 1) script
+
+-- A session over what is given runs this script to an end, and its answers are written.
+pub record RunsAll (given : Given) (script : List ℕ) (end : End) (before after : Ends) : Type 0 where
+  pub start : Shown
+  pub starts : Starts given start
+  pub ends : end ≡ (outcome_of start script).end
+  pub left : after.script ≡ Some (left_of end script)
+  pub text : IsWritten before.answers after.answers (outcome_of start script).text
+
+-- A session over what is given runs the lines whose LF was read before the reader failed, and its answers are written.
+pub record StopsReading (given : Given) (script : List ℕ) (before after : Ends) : Type 0 where
+  pub start : Shown
+  pub starts : Starts given start
+  pub count : ℕ
+  pub read : IsRead script count after.script
+  pub few : count ≤ SCRIPT_LIMIT
+  pub text : IsWritten before.answers after.answers
+      (text_of start (whole_lines (take count script)))
+
+-- A session over what is given runs the script until the answers fail, with the front of the text of the whole script.
+pub record StopsAnswering (given : Given) (script : List ℕ) (before after : Ends) : Type 0 where
+  pub start : Shown
+  pub starts : Starts given start
+  pub count : ℕ
+  pub read : IsRead script count after.script
+  pub few : count ≤ SCRIPT_LIMIT + 1
+  pub text : BreaksWithin before.answers (with_held after) (outcome_of start script).text
+
+-- What a run over a script leaves. The image is that of the stores that were last submitted, and is begun only after a whole script.
+abbrev pub ServesAll : Given → List ℕ → Ends → Ended → Ends → Type 0
+ServesAll given script before Done after =
+    (run : RunsAll given script end.Done before after)
+    × IsWritten before.out after.out (image_of (outcome_of run.start script).shown.state.committed)
+ServesAll given script before Refused after =
+    (after.out ≡ before.out) × (IsRefused given before after
+    ⊎ RunsAll given script end.TooLong before after)
+ServesAll given script before ReadScript after =
+    (after.out ≡ before.out) × StopsReading given script before after
+ServesAll given script before WriteAnswers after =
+    (after.out ≡ before.out) × (FailsAtOnce given before after
+    ⊎ StopsAnswering given script before after)
+ServesAll given script before WriteOut after =
+    (run : RunsAll given script end.Done before after)
+    × FailsWithin before.out after.out
+    (image_of (outcome_of run.start script).shown.state.committed)
+ServesAll given script before NoMemory after = (after.out ≡ before.out) × LacksMemory before after
+
+-- ---- any reader and writers
 
 -- A session over what is given runs the bytes that were read to an end, and its answers are written.
 pub record Finished (given : Given) (before : Ends) (end : End) (after : Ends) : Type 0 where
@@ -75,20 +194,12 @@ pub record Finished (given : Given) (before : Ends) (end : End) (after : Ends) :
   pub now : Shown
   pub finishes : Finishes start before.answers before.script end now after.answers after.script
 
--- What is given is refused or an allocation fails, and the answers fail at the line that tells it, or as that is passed on.
-pub record FailsAtOnce (given : Given) (before after : Ends) : Type 0 where
-  pub text : List ℕ
-  pub line : ((fault : Fault) × IsRefusedBy given fault × (text ≡ refused_at_text fault))
-      ⊎ (text ≡ refused_text OutOfMemory)
-  pub breaks : BreaksWithin before.answers after.answers text
-  pub after_fault : before.answers.broken ≡ true → breaks.part ≡ 0
-
 abbrev pub Serves : Given → Ends → Ended → Ends → Type 0
 Serves given before Done after =
     (run : Finished given before end.Done after)
     × IsWritten before.out after.out (image_of run.now.state.committed)
 Serves given before Refused after =
-    (after.out ≡ before.out) × (IsRefused given before.answers after.answers
+    (after.out ≡ before.out) × (IsRefused given before after
     ⊎ Finished given before end.TooLong after)
 Serves given before ReadScript after =
     (after.out ≡ before.out) × (start now : Shown) × Starts given start
@@ -97,34 +208,8 @@ Serves given before WriteAnswers after =
     (after.out ≡ before.out)
     × (FailsAtOnce given before after
     ⊎ ((start now : Shown) × Starts given start
-    × Overflows start before.answers before.script now after.answers after.script))
+    × Overflows start before.answers before.script now (with_held after) after.script))
 Serves given before WriteOut after =
-    (run : Finished given before end.Done after) × (fault : WriteFault)
-    × StopsWithin before.out after.out fault (image_of run.now.state.committed)
-Serves given before NoMemory after =
-    (after.out ≡ before.out) × IsWritten before.answers after.answers (refused_text OutOfMemory)
-
--- ---- a reader and writers that are given back
-
--- what a writer that has not failed holds, where that is known
-abbrev pub fresh : Option (List ℕ) → Pen
-fresh known = record { known = known; broken = false; count = 0 }
-
--- A run over writers that had not failed ended so, and this is what the writers hold that were given back.
-pub record GivesAll (given : Given) (script : List ℕ) (answers out : Option (List ℕ)) (ended : Ended)
-    (answered written : Option (List ℕ)) : Type 0 where
-  pub answers_left : Pen
-  pub out_left : Pen
-  pub answered_is : answers_left.known ≡ answered
-  pub written_is : out_left.known ≡ written
-  pub serves : ServesAll given script (fresh answers) (fresh out) ended answers_left out_left
-
--- So it is with any reader and writers.
-pub record Gives (given : Given) (script answers out : Option (List ℕ)) (ended : Ended)
-    (left answered written : Option (List ℕ)) : Type 0 where
-  pub after : Ends
-  pub left_is : after.script ≡ left
-  pub answered_is : after.answers.known ≡ answered
-  pub written_is : after.out.known ≡ written
-  pub serves : Serves given
-      record { script = script; answers = fresh answers; out = fresh out } ended after
+    (run : Finished given before end.Done after)
+    × FailsWithin before.out after.out (image_of run.now.state.committed)
+Serves given before NoMemory after = (after.out ≡ before.out) × LacksMemory before after

@@ -1,67 +1,121 @@
 //! Runs a script of commands over a package list and the image of its stores (own rule).
 #![tactic(auto)]
 
+ghost use Rattle.std.specs.Prelude.{◌≡◌};
+ghost use Rattle.setup_main.specs.Serving.{status_of};
+
 mod serve;
 #[cfg(test)]
 mod tests;
 
+use clap::Error;
 use clap::error::ErrorKind;
 use hii_bytes::Cause;
-use serve::{Ended, serve};
-use setup_files::{FormSetFiles, Given, OutFile, Status, fault, refused, usage, words};
-use setup_options::{Options, read_words};
+use serve::{Ended, Served, serve};
+use setup_files::{
+    FormSetFiles, Noted, OutFile, STANDARD_INPUT, STANDARD_OUTPUT, Status, Terminals, VERSION,
+    fault, is_same_file, out_file, refused, shown, usage, words,
+};
+use setup_options::{Options, names_script, read_words};
 use std::io;
-use std::io::BufWriter;
+use std::io::Printer;
 use std::process::ExitCode;
 use std::rt::{Env, Files};
 
+// What a person is told who gives commands by hand.
+const GREETING: &str = "setup: one command a line, --help lists them; \
+Ctrl-D ends and writes --out, Ctrl-C ends without it";
+
+// What a person is told who gives a script as a file.
+const SCRIPT_IS_INPUT: &str = "the script is standard input: setup .. < script\n";
+
+const LIST_AS_OUT: &str = "error: --out is the file of --list, which would be lost\n";
+
 fn main(rt: HostRuntime) -> ExitCode {
-    ExitCode::from(status(&rt).number())
+    ExitCode::from(status(&rt, Terminals::of(&rt)).number())
 }
 
-fn status<R: Env + Files + Input + Print + Eprint + AllocGlobal>(rt: &R) -> Status {
-    let words = match words(rt) {
+fn status<R: Env + Files + Input + Print + Eprint + AllocGlobal>(
+    rt: &R,
+    terminals: Terminals,
+) -> Status {
+    let words = match words(rt, terminals) {
         Ok(words) => words,
         Err(status) => return status,
     };
-    match read_words(rt.alloc(), words.as_slice()) {
-        Ok(options) => run(rt, options),
-        Err(e) => if e.kind() == ErrorKind::OutOfMemory {
-            refused(rt, Cause::OutOfMemory)
-        } else {
-            usage(rt, &e)
-        },
+    match read_words(rt.alloc(), VERSION, words.as_slice()) {
+        Ok(options) => run(rt, terminals, options),
+        Err(e) => tell(rt, terminals, &e, words.as_slice()),
     }
 }
 
-fn run<R: Files + Input + Print + Eprint + AllocGlobal>(rt: &R, options: Options<'_>) -> Status {
-    let files = match FormSetFiles::read(rt, options.list, options.stores) {
+// Tells what was asked for of the program itself, or how it is called.
+fn tell<R: Print + Eprint>(
+    rt: &R,
+    terminals: Terminals,
+    error: &Error,
+    words: &[String],
+) -> Status {
+    match error.kind() {
+        ErrorKind::OutOfMemory => refused(rt, terminals, Cause::OutOfMemory),
+        ErrorKind::DisplayVersion => shown(rt, terminals, error),
+        ErrorKind::UnknownArgument if names_script(words) => {
+            usage(rt, error);
+            usage(rt, &SCRIPT_IS_INPUT)
+        }
+        _ => usage(rt, error),
+    }
+}
+
+fn run<R: Files + Input + Print + Eprint + AllocGlobal>(
+    rt: &R,
+    terminals: Terminals,
+    options: Options<'_>,
+) -> Status {
+    if is_same_file(rt, options.list, options.out) {
+        return usage(rt, &LIST_AS_OUT);
+    }
+    let Ok(out) = out_file(rt, options.out) else {
+        return refused(rt, terminals, Cause::OutOfMemory);
+    };
+    let files = match FormSetFiles::read(rt, terminals, options.list, options.stores) {
         Ok(files) => files,
         Err(status) => return status,
     };
+    terminals.greet(rt, GREETING);
     let given = files.given(options.forms, options.lang);
-    match run_given(rt, given, options.out) {
-        Some(Ended::Done) => Status::Done,
-        Some(Ended::Refused) => Status::Refused,
-        Some(Ended::ReadScript) => fault(rt, "read script"),
-        Some(Ended::WriteAnswers) => fault(rt, "write answers"),
-        Some(Ended::WriteOut) => fault(rt, "write out"),
-        Some(Ended::NoMemory) => Status::NoMemory,
-        None => refused(rt, Cause::OutOfMemory),
+    let script = Noted::new(rt.reader());
+    let answers = Noted::new(io::writer(rt));
+    match serve(rt.alloc(), given, script, answers, out) {
+        Some(served) => told(rt, terminals, options.out, served),
+        None => refused(rt, terminals, Cause::OutOfMemory),
     }
 }
 
-// Runs the session over standard input, standard output and the file of the image, or answers nothing where there is no
-// memory for the buffer of the answers.
-fn run_given<R: Files + Input + Print + AllocGlobal>(
+// Tells the read or the write that failed, if one did. What a writer that failed did not take is given up.
+fn told<R: Files + Input + Print + Eprint>(
     rt: &R,
-    given: Given<'_>,
+    terminals: Terminals,
     path: &str,
-) -> Option<Ended> {
-    let answers = BufWriter::new(rt.alloc(), io::writer(rt)).ok()?;
-    let out = OutFile::new(rt, path);
-    let served = serve(rt.alloc(), given, rt.reader(), answers, out);
-    // What a writer that failed did not take is given up.
-    let _ = served.answers.into_parts();
-    Some(served.ended)
+    served: Served<Noted<R::Reader>, Noted<Printer<'_, R>>, OutFile<'_, R>>,
+) -> Status
+    ensures { result ≡ status_of served.entry.ended }
+{
+    let Served {
+        ended,
+        script,
+        answers,
+        out,
+    } = served;
+    let (answers, _) = answers.into_inner().into_parts();
+    let (out, _) = out.into_inner().into_parts();
+    let (file, reason) = match ended {
+        Ended::ReadScript => (STANDARD_INPUT, script.into_inner().error()),
+        Ended::WriteAnswers => (STANDARD_OUTPUT, answers.error()),
+        _ => (path, out.error()),
+    };
+    match ended.fault() {
+        Some(what) => fault(rt, terminals, what, file, reason),
+        None => ended.status(),
+    }
 }

@@ -1,21 +1,24 @@
 //! A session over files that are read, apart from the system.
 
-ghost use Rattle.std.specs.Prelude.{◌≡◌, IfSome, true, false};
-ghost use Rattle.hii_bytes.specs.Watching.{pen_of, inner_of, has_failed};
-ghost use Rattle.setup_main.specs.Serving.{Starts, Serves, ServesAll, Gives, GivesAll};
-ghost use Rattle.setup_main.specs.code.Endings.{IsTold};
+ghost use Rattle.std.specs.Prelude.{◌≡◌, ◌≢◌, [], IfSome, option_map, true, false};
+ghost use Rattle.std.specs.Io.Buffered.{writer_buffer, writer_contents};
+ghost use Rattle.hii_bytes.specs.Watching.{pen_of, inner_of, has_failed, has_passed_on};
+ghost use Rattle.hii_varstore.specs.Image.{image_of};
 ghost use Rattle.setup_files.specs.declared.given.Given.{Given};
+ghost use Rattle.setup_main.specs.Serving.{Starts, Serves, ServesAll, IsNamed, begins, ends_of, fault_of, status_of};
+ghost use Rattle.setup_main.specs.code.Endings.{IsTold, IsImageTold};
 
 use browser_core::{End, RunFault, Session, put_refusal, put_refusal_at};
 use hii_bytes::{Cause, Fault, Watched};
-use setup_files::Given;
+use hii_varstore::Stores;
+use setup_files::{Given, Status};
 use std::alloc::Global;
-use std::io::{Read, Write};
+use std::io::{BufWriter, Read, Write};
 
 /// How a run ended.
 #[derive(Clone, Copy, Debug, PartialEq, Eq)]
 pub enum Ended {
-    /// The script was run, and the image of its last submitted stores is written.
+    /// The script was run, and the image of its last submitted stores is written and passed on.
     Done,
     /// The bytes were refused, or the script is too long.
     Refused,
@@ -29,78 +32,107 @@ pub enum Ended {
     NoMemory,
 }
 
+impl Ended {
+    /// The status with which the program ends.
+    pub fn status(self) -> Status
+        ensures { result ≡ status_of self }
+    {
+        match self {
+            Ended::Done => Status::Done,
+            Ended::Refused => Status::Refused,
+            Ended::ReadScript | Ended::WriteAnswers | Ended::WriteOut => Status::Fault,
+            Ended::NoMemory => Status::NoMemory,
+        }
+    }
+
+    /// Which read or write failed, if one did.
+    pub fn fault(self) -> Option<&'static str>
+        ensures { option_map (λ text. text.now) result ≡ fault_of self }
+    {
+        match self {
+            Ended::ReadScript => Some("read script"),
+            Ended::WriteAnswers => Some("write answers"),
+            Ended::WriteOut => Some("write out"),
+            Ended::Done | Ended::Refused | Ended::NoMemory => None,
+        }
+    }
+}
+
 /// How a run ended, and the reader and writers that it was given.
 #[derive(Drop)]
-pub struct Served<R, A, O> {
+pub struct Served<R, A: Write + Drop, O> {
     /// How it ended.
     pub ended: Ended,
     /// What is left of the script.
-    pub script: R,
-    /// The writer of the answers.
-    pub answers: A,
+    pub script: Watched<R>,
+    /// The writer of the answers, behind its buffer.
+    pub answers: Watched<BufWriter<A>>,
     /// The writer of the image.
-    pub out: O,
+    pub out: Watched<O>,
 }
 
-/// Opens the session, runs the script, and writes the image that it leaves, over a reader and writers of which none has failed,
-/// and gives them back. What refuses the bytes is told as an answer.
-pub fn serve<R: Read, A: Write, O: Write>(
+/// Opens the session, runs the script, and writes the image that it leaves, and gives back the reader and the writers; or nothing,
+/// where there is no memory for the buffer of the answers. What refuses the bytes is told as an answer. The image is flushed
+/// once, at its end, and nowhere else.
+pub fn serve<R: Read + Drop, A: Write + Drop, O: Write + Drop>(
     alloc: Global,
     given: Given<'_>,
     script: R,
     answers: A,
     out: O,
-) -> Served<R, A, O>
+) -> Option<Served<R, A, O>>
     // Where the script's bytes are known.
-    ensures whole { IfSome (R.remaining script) (λ bytes. GivesAll given.entry bytes
-        (A.contents answers) (O.contents out) result.ended
-        (A.contents result.answers) (O.contents result.out)) }
+    ensures whole { IfSome result (λ served. IfSome (R.remaining script) (λ bytes.
+        ServesAll given.entry bytes
+        (begins (R.remaining script) (A.contents answers) (O.contents out)) served.ended
+        (ends_of R.remaining A.contents O.contents served.script served.answers served.out))) }
     // At any reader and writers, and at their faults.
-    ensures serves { Gives given.entry (R.remaining script) (A.contents answers)
-        (O.contents out) result.ended (R.remaining result.script)
-        (A.contents result.answers) (O.contents result.out) }
+    ensures serves { IfSome result (λ served. Serves given.entry
+        (begins (R.remaining script) (A.contents answers) (O.contents out)) served.ended
+        (ends_of R.remaining A.contents O.contents served.script served.answers served.out)) }
+    // Which of them have failed.
+    ensures named { IfSome result (λ served. IsNamed served.ended
+        (has_failed served.script) (has_failed served.answers) (has_failed served.out)) }
+    // No answer is held back, but where the answers fail.
+    ensures passed_on { IfSome result (λ served. served.ended ≢ Ended.WriteAnswers
+        → writer_buffer (inner_of served.answers) ≡ []) }
+    ensures image_passed_on { IfSome result (λ served. served.ended ≡ Ended.Done
+        → has_passed_on served.out ≡ true) }
+    // The writer of the image is as it was, without a flush, but where the image is written.
+    ensures untouched { IfSome result (λ served. served.ended ≢ Ended.Done
+        → served.ended ≢ Ended.WriteOut → inner_of served.out ≡ out) }
 {
     let mut script = Watched::new(script);
-    let mut answers = Watched::new(answers);
+    let mut answers = Watched::new(BufWriter::new(alloc, answers).ok()?);
     let mut out = Watched::new(out);
     let ended = serve_watched(alloc, given, &mut script, &mut answers, &mut out);
-    Served {
+    Some(Served {
         ended,
-        script: script.into_inner(),
-        answers: answers.into_inner(),
-        out: out.into_inner(),
-    }
+        script,
+        answers,
+        out,
+    })
 }
 
-/// Opens the session, runs the script, and writes the image that it leaves, over readers and writers that are watched. What
-/// refuses the bytes is told as an answer. The answers are flushed before each read of the script and at the end.
-pub fn serve_watched<R: Read, A: Write, O: Write>(
+// Serves over a reader and writers of which none has failed, and with an empty buffer.
+fn serve_watched<R: Read, A: Write + Drop, O: Write>(
     alloc: Global,
     given: Given<'_>,
     script: &mut Watched<R>,
-    answers: &mut Watched<A>,
+    answers: &mut Watched<BufWriter<A>>,
     out: &mut Watched<O>,
 ) -> Ended
-    // Where the script's bytes are known.
-    ensures whole { IfSome (R.remaining (inner_of script.old)) (λ bytes. ServesAll given.entry bytes
-        (pen_of A.contents answers.old) (pen_of O.contents out.old) result
-        (pen_of A.contents answers.new) (pen_of O.contents out.new)) }
-    // At any reader and writers, and at their faults.
+    requires script { has_failed script.old ≡ false }
+    requires empty { writer_buffer (inner_of answers.old) ≡ [] }
+    requires out { has_failed out.old ≡ false }
     ensures serves { Serves given.entry
-        record {
-          script = R.remaining (inner_of script.old);
-          answers = pen_of A.contents answers.old;
-          out = pen_of O.contents out.old;
-        } result
-        record {
-          script = R.remaining (inner_of script.new);
-          answers = pen_of A.contents answers.new;
-          out = pen_of O.contents out.new;
-        } }
-    ensures reads { result ≡ Ended.ReadScript → has_failed script.new ≡ true }
-    ensures answers { result ≡ Ended.WriteAnswers → has_failed answers.new ≡ true }
-    ensures writes { result ≡ Ended.WriteOut → has_failed out.new ≡ true }
-    ensures sound { result ≡ Ended.Done → has_failed script.new ≡ false }
+        (ends_of R.remaining A.contents O.contents script.old answers.old out.old) result
+        (ends_of R.remaining A.contents O.contents script.new answers.new out.new) }
+    ensures named { IsNamed result
+        (has_failed script.new) (has_failed answers.new) (has_failed out.new) }
+    ensures passed_on { result ≢ Ended.WriteAnswers → writer_buffer (inner_of answers.new) ≡ [] }
+    ensures image_passed_on { result ≡ Ended.Done → has_passed_on out.new ≡ true }
+    ensures untouched { result ≢ Ended.Done → result ≢ Ended.WriteOut → out.new ≡ out.old }
 {
     match Session::open(alloc, given.list, given.forms, given.stores, given.lang) {
         Ok(mut session) => run(&mut session, script, answers, out),
@@ -108,53 +140,66 @@ pub fn serve_watched<R: Read, A: Write, O: Write>(
     }
 }
 
-// Runs the script over a session that was opened, and writes the image that it leaves.
-fn run<R: Read, A: Write, O: Write>(
+// Runs the script over a session that was opened, passes its answers on, and then writes the image that it leaves.
+fn run<R: Read, A: Write + Drop, O: Write>(
     session: &mut Session<'_>,
     script: &mut Watched<R>,
-    answers: &mut Watched<A>,
+    answers: &mut Watched<BufWriter<A>>,
     out: &mut Watched<O>,
 ) -> Ended
+    requires empty { writer_buffer (inner_of answers.old) ≡ [] }
+    requires out { has_failed out.old ≡ false }
     ensures serves { (given : Given) → Starts given session.old → Serves given
-        record {
-          script = R.remaining (inner_of script.old);
-          answers = pen_of A.contents answers.old;
-          out = pen_of O.contents out.old;
-        } result
-        record {
-          script = R.remaining (inner_of script.new);
-          answers = pen_of A.contents answers.new;
-          out = pen_of O.contents out.new;
-        } }
-    ensures reads { result ≡ Ended.ReadScript → has_failed script.new ≡ true }
-    ensures answers { result ≡ Ended.WriteAnswers → has_failed answers.new ≡ true }
-    ensures writes { result ≡ Ended.WriteOut → has_failed out.new ≡ true }
-    ensures sound { result ≡ Ended.Done → has_failed script.new ≡ false }
+        (ends_of R.remaining A.contents O.contents script.old answers.old out.old) result
+        (ends_of R.remaining A.contents O.contents script.new answers.new out.new) }
+    ensures named { IsNamed result
+        (has_failed script.new) (has_failed answers.new) (has_failed out.new) }
+    ensures passed_on { result ≢ Ended.WriteAnswers → writer_buffer (inner_of answers.new) ≡ [] }
+    ensures image_passed_on { result ≡ Ended.Done → has_passed_on out.new ≡ true }
+    ensures untouched { result ≢ Ended.Done → result ≢ Ended.WriteOut → out.new ≡ out.old }
 {
-    match session.run_script(script, answers) {
-        Ok(End::Done) => match session.committed().image_into(out) {
-            Ok(()) => Ended::Done,
-            Err(_) => Ended::WriteOut,
-        },
+    let ran = session.run_script(script, answers);
+    let Ok(()) = answers.pass_on() else {
+        return Ended::WriteAnswers;
+    };
+    match ran {
+        Ok(End::Done) => write_image(session.committed(), out),
         Ok(End::TooLong) => Ended::Refused,
         Err(RunFault::Read) => Ended::ReadScript,
         Err(RunFault::Write) => Ended::WriteAnswers,
     }
 }
 
+// Writes the image of the stores, and passes it on.
+fn write_image<O: Write>(stores: &Stores, out: &mut Watched<O>) -> Ended
+    ensures told { IsImageTold (image_of stores.now) (pen_of O.contents out.old) result
+        (pen_of O.contents out.new) }
+    ensures passed_on { result ≡ Ended.Done → has_passed_on out.new ≡ true }
+{
+    let Ok(()) = stores.image_into(out) else {
+        return Ended::WriteOut;
+    };
+    match out.flush() {
+        Ok(()) => Ended::Done,
+        Err(_) => Ended::WriteOut,
+    }
+}
+
 // Tells why no session was opened.
-fn refuse<A: Write>(fault: Fault, answers: &mut Watched<A>) -> Ended
-    ensures { IsTold fault (pen_of A.contents answers.old) result (pen_of A.contents answers.new) }
+fn refuse<A: Write + Drop>(fault: Fault, answers: &mut Watched<BufWriter<A>>) -> Ended
+    ensures told { IsTold fault (pen_of (writer_contents A.contents) answers.old) result
+        (pen_of (writer_contents A.contents) answers.new) }
+    ensures passed_on { result ≢ Ended.WriteAnswers → writer_buffer (inner_of answers.new) ≡ [] }
 {
     if fault.cause == Cause::OutOfMemory {
         put_refusal(Cause::OutOfMemory, answers);
-        match answers.flush() {
+        match answers.pass_on() {
             Ok(()) => Ended::NoMemory,
             Err(_) => Ended::WriteAnswers,
         }
     } else {
         put_refusal_at(fault, answers);
-        match answers.flush() {
+        match answers.pass_on() {
             Ok(()) => Ended::Refused,
             Err(_) => Ended::WriteAnswers,
         }

@@ -1,10 +1,10 @@
 //! Runs over readers and writers that hold little, or fail.
 
-use crate::serve::{Ended, serve};
+use crate::serve::{Ended, Served, serve};
 use setup_files::Given;
-use std::alloc::Global;
+use std::alloc::{AllocError, Global};
 use std::io;
-use std::io::{BufWriter, ErrorKind, Read, Write};
+use std::io::{ErrorKind, Read, Write};
 use std::process::Abort;
 use std::test::Fail;
 
@@ -95,28 +95,40 @@ fn counter_of(rt: &impl AllocGlobal, flushes_left: usize) -> Counting {
     }
 }
 
-// A run ends so, with this image, and with these answers behind a buffer that has passed on all of them.
+// What a run leaves, where there is memory for its buffer.
+fn served<R: Read + Drop, A: Write + Drop, O: Write + Drop>(
+    alloc: Global,
+    given: Given<'_>,
+    script: R,
+    answers: A,
+    out: O,
+) -> Result<Served<R, A, O>, AllocError> {
+    serve(alloc, given, script, answers, out).ok_or(AllocError)
+}
+
+// A run ends so, with these answers, of which the buffer holds none back, and with this image.
 fn leaves<R: Abort + AllocGlobal>(
     rt: &R,
     given: Given<'_>,
-    script: &mut impl Read,
+    script: impl Read + Drop,
     ended: Ended,
     answered: &[u8],
     written: &[u8],
 ) -> Result<(), Fail> {
-    let mut answers = BufWriter::new(rt.alloc(), Vec::new(rt.alloc()))?;
-    let mut out = Vec::new(rt.alloc());
-    assert!(rt; serve(rt.alloc(), given, script, &mut answers, &mut out).ended == ended);
-    assert!(rt; answers.get_ref().as_slice() == answered);
-    assert!(rt; answers.buffer().is_empty());
-    assert!(rt; out.as_slice() == written);
+    let answers = Vec::new(rt.alloc());
+    let out = Vec::new(rt.alloc());
+    let left = served(rt.alloc(), given, script, answers, out)?;
+    assert!(rt; left.ended == ended);
+    let (answers, held) = left.answers.into_inner().into_parts();
+    assert!(rt; answers.as_slice() == answered);
+    assert!(rt; held.is_empty());
+    assert!(rt; left.out.into_inner().as_slice() == written);
     Ok(())
 }
 
 #[test]
 fn a_run_leaves_answers_and_an_image(rt: HostRuntime) -> Result<(), Fail> {
-    let mut reader = script();
-    leaves(&rt, given(), &mut reader, Ended::Done, answers(), image())
+    leaves(&rt, given(), script(), Ended::Done, answers(), image())
 }
 
 // A route whose second block has no question, what is extracted behind it, and a submission.
@@ -134,70 +146,70 @@ OK 0\n"
 
 #[test]
 fn a_denied_route_leaves_the_image(rt: HostRuntime) -> Result<(), Fail> {
-    let mut reader = denied_route();
     let written = b"HVS2\"\"\"\"\"\"\"\"\"\"\"\"\"\"\"\"\x01\0\x01\0\x02\0\0\0";
     let answered = answers_to_denied_route();
-    leaves(&rt, given(), &mut reader, Ended::Done, answered, written)
+    leaves(&rt, given(), denied_route(), Ended::Done, answered, written)
 }
 
 #[test]
 fn an_empty_script_leaves_the_image(rt: HostRuntime) -> Result<(), Fail> {
-    let mut reader = b"".as_slice();
+    let reader = b"".as_slice();
     let written = b"HVS2\"\"\"\"\"\"\"\"\"\"\"\"\"\"\"\"\x01\0\x01\0\x02\0\0\0";
-    leaves(&rt, given(), &mut reader, Ended::Done, b"", written)
+    leaves(&rt, given(), reader, Ended::Done, b"", written)
 }
 
 #[test]
 fn a_refused_list_leaves_no_image(rt: HostRuntime) -> Result<(), Fail> {
-    let mut reader = script();
     let refused = Given {
         list: b"",
         ..given()
     };
     let answered = b"REFUSED 1 ListShort at 00000000\n";
-    leaves(&rt, refused, &mut reader, Ended::Refused, answered, b"")
+    leaves(&rt, refused, script(), Ended::Refused, answered, b"")
 }
 
 #[test]
 fn a_script_may_fail(rt: HostRuntime) -> Result<(), Fail> {
-    let mut broken = Broken { bytes: b"" };
-    leaves(&rt, given(), &mut broken, Ended::ReadScript, b"", b"")
+    let broken = Broken { bytes: b"" };
+    leaves(&rt, given(), broken, Ended::ReadScript, b"", b"")
 }
 
 #[test]
 fn answers_are_passed_on_before_the_next_read(rt: HostRuntime) -> Result<(), Fail> {
-    let mut broken = Broken { bytes: script() };
+    let broken = Broken { bytes: script() };
     let answered = answers_before_the_last();
-    leaves(&rt, given(), &mut broken, Ended::ReadScript, answered, b"")
+    leaves(&rt, given(), broken, Ended::ReadScript, answered, b"")
 }
 
 #[test]
 fn a_script_may_be_too_long(rt: HostRuntime) -> Result<(), Fail> {
     let long = vec![in rt.alloc(); b'\n'; 1_048_577]?;
-    let mut reader = long.as_slice();
+    let reader = long.as_slice();
     let answered = b"REFUSED 72 ScriptTooLong\n";
-    leaves(&rt, given(), &mut reader, Ended::Refused, answered, b"")
+    leaves(&rt, given(), reader, Ended::Refused, answered, b"")
 }
 
-// A run stops at a writer of answers that has only so much room.
+// A run stops at a writer of answers that has only so much room, and the buffer holds back what is not taken.
 fn answers_stop_at<R: Abort + AllocGlobal>(rt: &R, room: usize) -> Result<(), Fail> {
     let mut taken = vec![in rt.alloc(); 0u8; room]?;
-    let mut out = Vec::new(rt.alloc());
-    let mut reader = script();
-    let ended = serve(
-        rt.alloc(),
-        given(),
-        &mut reader,
-        &mut taken.as_mut_slice(),
-        &mut out,
-    )
-    .ended;
+    let out = Vec::new(rt.alloc());
+    let Served {
+        ended,
+        script: _,
+        answers: left,
+        out,
+    } = served(rt.alloc(), given(), script(), taken.as_mut_slice(), out)?;
     assert!(rt; ended == Ended::WriteAnswers);
+    assert!(rt; out.into_inner().is_empty());
+    let (_, held) = left.into_inner().into_parts();
     assert!(rt;
         Some(taken.as_slice()) == answers().get(..room),
         "at {room}"
     );
-    assert!(rt; out.is_empty());
+    assert!(rt;
+        Some(held.as_slice()) == answers().get(room..room + held.len()),
+        "at {room}"
+    );
     Ok(())
 }
 
@@ -216,13 +228,13 @@ fn flush_fails_after<R: Abort + AllocGlobal>(
     given: Given<'_>,
     answered: &[u8],
 ) -> Result<(), Fail> {
-    let mut answers = BufWriter::new(rt.alloc(), counter_of(rt, flushes_left))?;
-    let mut out = Vec::new(rt.alloc());
-    let mut reader = script();
-    let ended = serve(rt.alloc(), given, &mut reader, &mut answers, &mut out).ended;
-    assert!(rt; ended == Ended::WriteAnswers);
-    assert!(rt; answers.get_ref().bytes.as_slice() == answered);
-    assert!(rt; out.is_empty());
+    let counting = counter_of(rt, flushes_left);
+    let out = Vec::new(rt.alloc());
+    let left = served(rt.alloc(), given, script(), counting, out)?;
+    assert!(rt; left.ended == Ended::WriteAnswers);
+    let (answers, _) = left.answers.into_inner().into_parts();
+    assert!(rt; answers.bytes.as_slice() == answered);
+    assert!(rt; left.out.into_inner().is_empty());
     Ok(())
 }
 
@@ -235,7 +247,38 @@ fn a_flush_may_fail(rt: HostRuntime) -> Result<(), Fail> {
     flush_fails_after(&rt, 0, refused, b"REFUSED 1 ListShort at 00000000\n")?;
     flush_fails_after(&rt, 0, given(), b"")?;
     flush_fails_after(&rt, 1, given(), answers_before_the_last())?;
-    flush_fails_after(&rt, 2, given(), answers())
+    flush_fails_after(&rt, 2, given(), answers())?;
+    flush_fails_after(&rt, 3, given(), answers())
+}
+
+// The writer of an image that a run leaves, which errs at a flush after so many.
+fn image_behind<R: Abort + AllocGlobal>(
+    rt: &R,
+    given: Given<'_>,
+    flushes_left: usize,
+    ended: Ended,
+) -> Result<Counting, Fail> {
+    let answers = Vec::new(rt.alloc());
+    let counting = counter_of(rt, flushes_left);
+    let left = served(rt.alloc(), given, script(), answers, counting)?;
+    assert!(rt; left.ended == ended);
+    Ok(left.out.into_inner())
+}
+
+#[test]
+fn an_image_is_flushed_once_and_last(rt: HostRuntime) -> Result<(), Fail> {
+    let failed = image_behind(&rt, given(), 0, Ended::WriteOut)?;
+    assert!(rt; failed.bytes.as_slice() == image());
+    let done = image_behind(&rt, given(), 1, Ended::Done)?;
+    assert!(rt; done.bytes.as_slice() == image());
+    assert!(rt; done.flushes_left == 0);
+    let refused = Given {
+        list: b"",
+        ..given()
+    };
+    let untouched = image_behind(&rt, refused, 1, Ended::Refused)?;
+    assert!(rt; untouched.flushes_left == 1);
+    Ok(())
 }
 
 // The list with so many subtitles of 7 bytes behind its checkbox.
@@ -260,37 +303,32 @@ fn a_page_makes_few_writes(rt: HostRuntime) -> Result<(), Fail> {
         list: list.as_slice(),
         ..given()
     };
-    let mut answers = BufWriter::new(rt.alloc(), counter_of(&rt, 9))?;
-    let mut out = Vec::new(rt.alloc());
-    let mut reader = script();
-    assert!(rt; serve(rt.alloc(), long, &mut reader, &mut answers, &mut out).ended == Ended::Done);
-    let rows = answers
-        .get_ref()
-        .bytes
-        .iter()
-        .filter(|byte| **byte == b'\n')
-        .count();
+    let counting = counter_of(&rt, 9);
+    let out = Vec::new(rt.alloc());
+    let left = served(rt.alloc(), long, script(), counting, out)?;
+    assert!(rt; left.ended == Ended::Done);
+    let (answers, _) = left.answers.into_inner().into_parts();
+    let rows = answers.bytes.iter().filter(|byte| **byte == b'\n').count();
     // The first line names the form, and three lines answer the other commands.
     assert!(rt; rows == 1005);
-    assert!(rt; answers.get_ref().writes < 20);
+    assert!(rt; answers.writes < 20);
     Ok(())
 }
 
 // A run stops at a writer of images that has only so much room.
 fn image_stops_at<R: Abort + AllocGlobal>(rt: &R, room: usize) -> Result<(), Fail> {
-    let mut answered = Vec::new(rt.alloc());
     let mut taken = vec![in rt.alloc(); 0u8; room]?;
-    let mut reader = script();
-    let ended = serve(
-        rt.alloc(),
-        given(),
-        &mut reader,
-        &mut answered,
-        &mut taken.as_mut_slice(),
-    )
-    .ended;
+    let vec = Vec::new(rt.alloc());
+    let Served {
+        ended,
+        script: _,
+        answers: left,
+        out: _,
+    } = served(rt.alloc(), given(), script(), vec, taken.as_mut_slice())?;
     assert!(rt; ended == Ended::WriteOut);
+    let (answered, held) = left.into_inner().into_parts();
     assert!(rt; answered.as_slice() == answers());
+    assert!(rt; held.is_empty());
     assert!(rt; Some(taken.as_slice()) == image().get(..room), "at {room}");
     Ok(())
 }

@@ -3,4 +3,4 @@
 
 mod command_line;
 
-pub use command_line::{Options, read_words};
+pub use command_line::{Options, names_script, read_words};

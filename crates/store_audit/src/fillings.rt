@@ -1,8 +1,9 @@
 //! Stores that are made of given bytes.
 
-ghost use Rattle.std.specs.Prelude.{◌≡◌, None, IfOk, IfErr, OnErr, OnOk, length, map, find, flat_map, option_copied, option_map};
+ghost use Rattle.std.specs.Prelude.{◌≡◌, [], true, false, None, IfOk, IfErr, OnErr, OnOk, length, map, find, flat_map, option_copied, option_map};
+ghost use Rattle.std.specs.Io.Buffered.{writer_buffer, writer_contents};
 ghost use Rattle.hii_bytes.specs.Faults.{out_of_memory};
-ghost use Rattle.hii_bytes.specs.Watching.{Puts, pen_of};
+ghost use Rattle.hii_bytes.specs.Watching.{Puts, has_failed, inner_of, pen_of};
 ghost use Rattle.ifr_scopes.specs.Nodes.{nodes_of};
 ghost use Rattle.hii_varstore.specs.Image.{image_of, SpellsImage};
 ghost use Rattle.hii_varstore.specs.StoreNodes.{layout_of};
@@ -21,7 +22,7 @@ use hii_varstore::Stores;
 use hii_varstore::laws::{images_are_read_back, one_map_is_spelled};
 use ifr_scopes::Varstore;
 use std::alloc::Global;
-use std::io::Write;
+use std::io::{BufWriter, Write};
 
 /// Where the bytes of a store come from.
 #[derive(Debug, Drop)]
@@ -201,31 +202,32 @@ fn filled(alloc: Global, declared: &Declared<'_>, fillings: &[Filling<'_>]) -> R
 }
 
 /// Fills the stores of a form set and writes their image: a line for each store, which is passed on, and then the image into a file.
-/// Where a store is not given as many bytes as it holds, the line of the first such store is written, and no image; nor is it where
-/// the answers fail. Tells whether each store is given what it holds. OutOfMemory (60) at 0 where an allocation fails; then nothing is
-/// written.
-pub fn put_image<W: Write, F: Write>(
+/// Where a store is not given as many bytes as it holds, the line of the first such store is written and not passed on, and no image
+/// is; nor is it where the answers fail. Tells whether each store is given what it holds. OutOfMemory (60) at 0 where an allocation
+/// fails; then nothing is written.
+pub fn put_image<W: Write + Drop, F: Write>(
     alloc: Global,
     declared: &Declared<'_>,
     fillings: &[Filling<'_>],
-    out: &mut Watched<W>,
+    out: &mut Watched<BufWriter<W>>,
     file: &mut Watched<F>,
 ) -> Result<bool, Fault>
     requires { map spec.filling_node fillings.now ≡ buffer_stores (nodes_of declared.now) }
-    ensures done { IfOk result (λ is_filled. PutsImage
+    ensures done { IfOk result (λ is_filled. PutsImage F.contents
         (option_map spec.unfit_text (find spec.is_unfit fillings.now))
         (spec.stores_of (layout_of (nodes_of declared.now)).guid fillings.now)
         (flat_map spec.filling_text fillings.now) is_filled
-        (pen_of W.contents out.old) (pen_of W.contents out.new)
-        (pen_of F.contents file.old) (pen_of F.contents file.new)) }
+        (pen_of (writer_contents W.contents) out.old) (pen_of (writer_contents W.contents) out.new)
+        file.old file.new) }
     // What is read from the image are the given bytes, store by store.
     ensures read_back { find spec.is_unfit fillings.now ≡ None → OnOk result ((read : StoreMap)
         → SpellsImage (layout_of (nodes_of declared.now))
         (image_of (spec.stores_of (layout_of (nodes_of declared.now)).guid fillings.now)) read
         → map (λ s. s.bytes) read.stores ≡ map spec.filling_bytes fillings.now) }
+    ensures none_held { IfOk result (λ is_filled. is_filled ≡ true → has_failed out.new ≡ false
+        → writer_buffer (inner_of out.new) ≡ []) }
     ensures refused { IfErr result (λ fault. fault ≡ out_of_memory) }
-    ensures nothing { OnErr result ((pen_of W.contents out.new ≡ pen_of W.contents out.old)
-        × (pen_of F.contents file.new ≡ pen_of F.contents file.old)) }
+    ensures nothing { OnErr result ((out.new ≡ out.old) × (file.new ≡ file.old)) }
 {
     if let Some(filling) = first_unfit(fillings) {
         put_unfit(filling, out);
@@ -233,7 +235,7 @@ pub fn put_image<W: Write, F: Write>(
     }
     let stores = filled(alloc, declared, fillings)?;
     put_fillings(fillings, out);
-    if out.flush().is_ok() {
+    if out.pass_on().is_ok() {
         // A file that fails knows it.
         let _ = stores.image_into(file);
     }

@@ -11,6 +11,7 @@ use crate::store_lines::put_stores;
 use hii_bytes::Watched;
 use ifr_scopes::Varstore;
 use std::alloc::Global;
+use std::io::BufWriter;
 use std::process::Abort;
 use std::test::Fail;
 
@@ -83,11 +84,13 @@ fn fill<R: Abort + AllocGlobal>(
 ) -> Result<(), Fail>
     requires { map filling_node fillings.now ≡ buffer_stores (nodes_of declared.now) }
 {
-    let mut lines = Watched::new(Vec::new(rt.alloc()));
+    let mut lines = Watched::new(BufWriter::new(rt.alloc(), Vec::new(rt.alloc()))?);
     let mut image = Watched::new(Vec::new(rt.alloc()));
     let is_filled = put_image(rt.alloc(), declared, fillings, &mut lines, &mut image)?;
     assert!(rt; is_filled != written.is_empty());
-    assert!(rt; lines.into_inner().as_slice() == told);
+    assert!(rt; lines.has_passed_on() == is_filled);
+    lines.pass_on()?;
+    assert!(rt; lines.into_inner().into_parts().0.as_slice() == told);
     assert!(rt; image.into_inner().as_slice() == written);
     Ok(())
 }

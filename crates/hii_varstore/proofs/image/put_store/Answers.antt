@@ -3,4 +3,4 @@ use Rattle.hii_varstore.proofs.image.put_store.Goals as goal
 
 pub returns : goal.returns
 returns g c =
-    rw (c.to_le_bytes.ensures, c.to_le_bytes-2.ensures, c.id.ensures, c.bytes-bytes.ensures.value) at (c.put.ensures ⨾ c.put-2.ensures ⨾ c.put-3.ensures)
+    rw (c.bytes_of.ensures, c.bytes_of-2.ensures, c.id.ensures, c.bytes-bytes.ensures.value) at (c.put.ensures ⨾ c.put-2.ensures ⨾ c.put-3.ensures)

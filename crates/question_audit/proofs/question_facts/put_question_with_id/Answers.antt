@@ -1,15 +1,13 @@
-use Rattle.std.proofs.Common.{ap, subst, sym, inl, inr}
-use Rattle.hii_bytes.specs.Watching.{pen_of}
-use Rattle.hii_bytes.proofs.WritingLemmas.{◌⨾◌}
+use Rattle.std.proofs.Common.{[], ap, inl, inr, refl, subst, sym, ◌∙◌}
+use Rattle.hii_bytes.specs.Watching.{Writes, pen_of}
+use Rattle.hii_bytes.proofs.WritingLemmas.{writes_nil, ◌⨾◌}
 use Rattle.ifr_scopes.specs.Nodes.{nodes_of}
 use Rattle.hii_varstore.specs.Stores.{shape_of}
 use Rattle.hii_questions.specs.code.LyingIn.{LiesIn}
 use Rattle.hii_questions.specs.code.Views.{question_view}
 use Rattle.guard_policy.specs.code.Views.{bytes_of}
-use Rattle.condition_text.proofs.WriteLemmas.{written_as}
 use Rattle.form_audit.specs.code.Pages.{audited}
 use Rattle.form_audit.proofs.QuestionsLemmas.{question_lies}
-use Rattle.question_audit.specs.Beginnings.{Begins}
 use Rattle.question_audit.specs.QuestionFacts.{question_facts}
 use Rattle.question_audit.proofs.AskedLemmas.{found_with, none_with, with_id_asks}
 use Rattle.question_audit.proofs.BeginningLemmas.{at_error}
@@ -41,18 +39,14 @@ returns-in_ok-put_question_facts-in-Some-clause-told g c =
     let a = audited c.args.page in
     let q = question_view c.in-Some.question in
     let found = found_with bytes _ c.args.id q policy.accepted.checked.spelled c.questions.ensures.own c.in-Some.ensures in
-    let w = c.in_ok-put_question_facts-in-Some.ensures.written in (
-      q.node,
-      found.with_id,
-      w.0,
-      w.1,
-      written_as w.2 (ap (question_facts a w.0 c.args.package_place) found.own),
-    )
+    let w = c.in_ok-put_question_facts-in-Some.ensures.written in
+    let text = ap (question_facts a w.0 c.args.package_place) found.own in
+    (_, (q.node, found.with_id, w.0, w.1, text), w.2)
 
 pub returns-in-None-clause-told : goal.returns-in-None-clause-told
 returns-in-None-clause-told g c =
     let none = none_with (bytes_of c.args.page.policy) _ c.args.id c.questions.ensures.own c.in-None.ensures in
-    (none, rw c.from.ensures at (c.put.ensures ⨾ c.put_decimal.ensures ⨾ c.put-in-None.ensures))
+    (_, (none, refl), rw c.from.ensures at (c.put.ensures ⨾ c.put_decimal.ensures ⨾ c.put-in-None.ensures))
 
 pub returns-in_err-put_question_facts-in-Some-clause-begun : goal.returns-in_err-put_question_facts-in-Some-clause-begun
 returns-in_err-put_question_facts-in-Some-clause-begun g c =
@@ -62,12 +56,8 @@ returns-in_err-put_question_facts-in-Some-clause-begun g c =
     let q = question_view c.in-Some.question in
     let found = found_with bytes _ c.args.id q policy.accepted.checked.spelled c.questions.ensures.own c.in-Some.ensures in
     at_error c.from_residual.result (elim c.in_err-put_question_facts-in-Some.ensures.begun [
-      | inl same ↦ inl (ap (pen_of g.W.Write.contents) same)
-      | inr w ↦ inr (
-        q.node,
-        found.with_id,
-        w.0,
-        w.1,
-        subst (Begins _ _) (ap (question_facts a w.0 c.args.package_place) found.own) w.2,
-      )
+      | inl same ↦ ([], inl refl, subst (λ now. Writes (pen_of g.W.Write.contents c.args.out.now) (pen_of g.W.Write.contents now) []) (sym same) (writes_nil _))
+      | inr w ↦
+          let text = ap (question_facts a w.0 c.args.package_place) found.own in
+          (w.2.front, inr (q.node, found.with_id, w.0, w.1, w.2.rest, sym text ∙ w.2.parts), w.2.written)
     ])

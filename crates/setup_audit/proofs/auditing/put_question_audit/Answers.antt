@@ -1,11 +1,11 @@
 use Rattle.std.proofs.Common.{◌≡◌, ℕ, ap, subst, refl, sym, inl, inr}
 use Rattle.std.proofs.lemmas.Result.{IfErr-weaker, IfOk-weaker, on_err_weaker}
-use Rattle.hii_bytes.specs.Watching.{pen_of}
+use Rattle.hii_bytes.specs.declared.cause.Fault.{Fault}
 use Rattle.hii_packages.specs.Packages.{Entry}
 use Rattle.hii_packages.specs.code.Package.{entry_of}
 use Rattle.form_audit.specs.Audited.{Audited}
 use Rattle.form_audit.specs.code.Pages.{audited}
-use Rattle.question_audit.specs.QuestionFacts.{BeginsQuestion, TellsQuestion}
+use Rattle.question_audit.specs.QuestionFacts.{BeginsQuestionText, IsQuestionText}
 use Rattle.setup_audit.specs.Auditing.{audited_at}
 use Rattle.setup_audit.proofs.SourceLemmas.{one_source}
 use Rattle.setup_audit.proofs.auditing.put_question_audit.Goals as goal
@@ -25,22 +25,25 @@ returns-clause-told g c =
     let source = one_source c.args.given.list.now c.args.given.forms (entry_of its) opens.source c.in_ok-package.ensures.found opens.found in
     let same : audited c.page.result ≡ audited_at s =
     rw (c.page.ensures.world, c.page.ensures.spoken, c.page.ensures.language, c.page.ensures.stores, c.page.ensures.bytes) refl in
-    let old = pen_of g.W.Write.contents c.args.out.now in
-    let new = pen_of g.W.Write.contents c.put_question_with_id.new.out in
     IfOk-weaker c.put_question_with_id.result _ _
-    (λ is_there told. record {
-      start = s;
-      opens = opens;
-      told = subst (λ (place : ℕ). TellsQuestion is_there (audited_at s) place c.args.id old new) (ap (λ (e : Entry). e.place) source)
-          (subst (λ (a : Audited). TellsQuestion is_there a its.place c.args.id old new) same told);
-    })
+    (λ is_there told. (
+      told.0,
+      record {
+        start = s;
+        opens = opens;
+        told = subst (λ (place : ℕ). IsQuestionText is_there (audited_at s) place c.args.id told.0) (ap (λ (e : Entry). e.place) source)
+            (subst (λ (a : Audited). IsQuestionText is_there a its.place c.args.id told.0) same told.1);
+      },
+      told.2,
+    ))
     c.put_question_with_id.ensures.told
 
 pub returns-clause-refused : goal.returns-clause-refused
 returns-clause-refused g c = IfErr-weaker c.put_question_with_id.result _ _ (λ fault e. inl e) c.put_question_with_id.ensures.refused
 
 pub returns-clause-nothing : goal.returns-clause-nothing
-returns-clause-nothing g c = IfErr-weaker c.put_question_with_id.result _ _ (λ fault e. λ other. absurd (other e)) c.put_question_with_id.ensures.refused
+returns-clause-nothing g c =
+    IfErr-weaker c.put_question_with_id.result _ _ (λ fault e other. absurd (other (ap (λ (f : Fault). f.cause) e))) c.put_question_with_id.ensures.refused
 
 pub returns-clause-begun : goal.returns-clause-begun
 returns-clause-begun g c =
@@ -50,13 +53,15 @@ returns-clause-begun g c =
     let source = one_source c.args.given.list.now c.args.given.forms (entry_of its) opens.source c.in_ok-package.ensures.found opens.found in
     let same : audited c.page.result ≡ audited_at s =
     rw (c.page.ensures.world, c.page.ensures.spoken, c.page.ensures.language, c.page.ensures.stores, c.page.ensures.bytes) refl in
-    let old = pen_of g.W.Write.contents c.args.out.now in
-    let new = pen_of g.W.Write.contents c.put_question_with_id.new.out in
     on_err_weaker c.put_question_with_id.result
-    (λ begun. inr (
-      s,
-      opens,
-      subst (λ (place : ℕ). BeginsQuestion (audited_at s) place c.args.id old new) (ap (λ (e : Entry). e.place) source)
-          (subst (λ (a : Audited). BeginsQuestion a its.place c.args.id old new) same begun),
+    (λ begun. (
+      begun.0,
+      inr (
+        s,
+        opens,
+        subst (λ (place : ℕ). BeginsQuestionText (audited_at s) place c.args.id begun.0) (ap (λ (e : Entry). e.place) source)
+            (subst (λ (a : Audited). BeginsQuestionText a its.place c.args.id begun.0) same begun.1),
+      ),
+      begun.2,
     ))
     c.put_question_with_id.ensures.begun

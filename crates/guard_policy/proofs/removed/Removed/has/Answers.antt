@@ -7,5 +7,5 @@ use Rattle.guard_policy.proofs.removed.Removed.has.Goals as goal
 
 pub returns : goal.returns
 returns c =
-    let found = subst (λ (xs : List ℕ). IsBinarySearchResult (λ y. nat_cmp y c.args.place) xs c.binary_search.result) c.deref.ensures.value c.binary_search.ensures.position in
+    let found = subst (λ (xs : List ℕ). IsBinarySearchResult (λ y. nat_cmp y c.args.place) xs c.binary_search.result) c.as_slice.ensures c.binary_search.ensures.position in
     c.is_ok.ensures.value ∙ is_there c.self.inside.places.items c.args.place c.binary_search.result c.self.invariant found ∙ ap (is_among c.args.place) c.self.view_is

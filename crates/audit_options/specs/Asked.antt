@@ -1,0 +1,138 @@
+-- What the words of a command line ask for: each option is the first value of its name (own rule).
+use Rattle.std.specs.Prelude.{◌≡◌, ◌⊎◌, ◌<◌, ◌^◌, ◌==◌, ◌||◌, ◌∷◌, ℕ, Bool, true, false, ⊤, Option, Some, None, List, [], codes, is_some, length, option_map, unwrap_or}
+use Rattle.std.specs.List.{after_first, before_first, position_or_len}
+use Rattle.std.specs.Str.{bytes_eq}
+use Rattle.std.specs.Str.Parse.{IsNumeral, digits_value, without_leading_plus}
+use Rattle.clap.specs.Words.{Row, Text, all_of, first_of, one_of}
+use Rattle.clap.specs.declared.error.ErrorKind.{ErrorKind}
+use Rattle.clap.specs.declared.error.ErrorKind.TheVariants as kind
+use Rattle.audit_options.specs.declared.reading.Misuse.{Misuse}
+use Rattle.audit_options.specs.declared.reading.Misuse.TheVariants.{NoCommand, NoStoreFile, TakeWithoutOut}
+use Rattle.audit_options.specs.declared.tasks.Task.{Task}
+use Rattle.audit_options.specs.declared.tasks.Task.TheVariants.{Split, Stores, Image, Questions, Question}
+use Rattle.audit_options.specs.declared.tasks.TakenList.{TakenList}
+use Rattle.audit_options.specs.declared.tasks.SplitOptions.{SplitOptions}
+use Rattle.audit_options.specs.declared.tasks.ListOptions.{ListOptions}
+use Rattle.audit_options.specs.declared.tasks.FormSetOptions.{FormSetOptions}
+use Rattle.audit_options.specs.declared.tasks.QuestionOptions.{QuestionOptions}
+use Rattle.audit_options.specs.declared.tasks.ImageOptions.{ImageOptions}
+use Rattle.audit_options.specs.declared.tasks.StoreFile.{StoreFile}
+
+-- ---- values
+
+-- the first text of an option, or this one where it has none
+abbrev pub text_in : List Row → Text → Text → Text
+text_in rows name other = unwrap_or (first_of name rows) other
+
+abbrev pub number_in : Text → ℕ
+number_in text = digits_value 10 (without_leading_plus text)
+
+-- The text is a decimal number below 2^bits, a plus before it or not.
+abbrev pub IsNumber : ℕ → Text → Type 0
+IsNumber bits text = IsNumeral 10 (without_leading_plus text) × (number_in text < 2 ^ bits)
+
+-- The number is that of a text, or this one where there is no text, or none of a number.
+abbrev pub Reads : ℕ → Option Text → ℕ → ℕ → Type 0
+Reads bits None other number = number ≡ other
+Reads bits (Some text) other number =
+    (IsNumber bits text × (number ≡ number_in text)) ⊎ (¬ (IsNumber bits text) × (number ≡ other))
+
+-- A flag is true where its text says so, and false where there is none.
+abbrev pub IsFlag : Option Text → Bool → Type 0
+IsFlag None flag = flag ≡ false
+IsFlag (Some text) flag =
+    (text ≡ codes "true" → flag ≡ true) × (text ≡ codes "false" → flag ≡ false)
+
+-- ---- the options of each command
+
+pub record AsksList (rows : List Row) (o : ListOptions) : Type 0 where
+  pub path : o.path.now ≡ text_in rows (codes "list") []
+  pub forms : Reads 16 (one_of (codes "forms") rows) 1 o.forms
+
+pub record AsksFormSet (rows : List Row) (o : FormSetOptions) : Type 0 where
+  pub list : AsksList rows o.list
+  pub stores : o.stores.now ≡ text_in rows (codes "stores") []
+  pub lang : o.lang.now ≡ text_in rows (codes "lang") (codes "en-US")
+
+pub record AsksQuestion (rows : List Row) (o : QuestionOptions) : Type 0 where
+  pub form_set : AsksFormSet rows o.form_set
+  pub id : Reads 16 (one_of (codes "id") rows) 0 o.id
+
+-- The list of a number is taken into a file; or there is neither.
+abbrev pub AsksTaken : List Row → Option TakenList → Type 0
+AsksTaken rows None =
+    ((text : Text) → one_of (codes "take") rows ≡ Some text → ¬ (IsNumber 64 text))
+    × (first_of (codes "out") rows ≡ None)
+AsksTaken rows (Some taken) =
+    (text : Text) × (one_of (codes "take") rows ≡ Some text) × IsNumber 64 text
+    × (taken.number ≡ number_in text) × (first_of (codes "out") rows ≡ Some taken.out.now)
+
+pub record AsksSplit (rows : List Row) (o : SplitOptions) : Type 0 where
+  pub dump : o.dump.now ≡ text_in rows (codes "dump") []
+  pub taken : AsksTaken rows o.taken
+
+abbrev pub is_equals_sign : ℕ → Bool
+is_equals_sign c = c == 61
+
+-- The word is an id and a file, as 16=station.bin.
+pub record IsStoreFile (word : Text) (file : StoreFile) : Type 0 where
+  pub has_sign : position_or_len is_equals_sign word < length word
+  pub number : IsNumber 16 (before_first is_equals_sign word)
+  pub id : file.id ≡ number_in (before_first is_equals_sign word)
+  pub path : file.path.now ≡ after_first is_equals_sign word
+
+abbrev pub AreStoreFiles : List Text → List StoreFile → Type 0
+AreStoreFiles [] [] = ⊤
+AreStoreFiles (word ∷ words) (file ∷ files) = IsStoreFile word file × AreStoreFiles words files
+AreStoreFiles _ _ = ⊥
+
+pub record AsksImage (rows : List Row) (o : ImageOptions) : Type 0 where
+  pub list : AsksList rows o.list
+  pub out : o.out.now ≡ text_in rows (codes "out") []
+  pub files : AreStoreFiles (unwrap_or (all_of (codes "store") rows) []) o.files.items
+  pub efivars : option_map (λ folder. folder.now) o.efivars ≡ first_of (codes "efivars") rows
+  pub zero : IsFlag (one_of (codes "zero") rows) o.zero
+
+-- The command that the words name, with its options, asks for this.
+abbrev pub Asks : Option (Text × List Row) → Task → Type 0
+Asks None task = ⊥
+Asks (Some met) (Split o) = (met.0 ≡ codes "split") × AsksSplit met.1 o
+Asks (Some met) (Stores o) = (met.0 ≡ codes "stores") × AsksList met.1 o
+Asks (Some met) (Image o) = (met.0 ≡ codes "image") × AsksImage met.1 o
+Asks (Some met) (Questions o) = (met.0 ≡ codes "questions") × AsksFormSet met.1 o
+Asks (Some met) (Question o) = (met.0 ≡ codes "question") × AsksQuestion met.1 o
+
+-- ---- options that do not go together
+
+-- which errors clap has for them
+abbrev pub kind_of_misuse : Misuse → ErrorKind
+kind_of_misuse NoCommand = kind.MissingSubcommand
+kind_of_misuse TakeWithoutOut = kind.MissingRequiredArgument
+kind_of_misuse NoStoreFile = kind.ValueValidation
+
+-- No list is taken by a number, though there is a file for it; or one is, and there is none.
+abbrev pub AreApart : List Row → Type 0
+AreApart rows =
+    ((first_of (codes "out") rows ≡ None)
+    × ((text : Text) × (one_of (codes "take") rows ≡ Some text) × IsNumber 64 text))
+    ⊎ ((is_some (first_of (codes "out") rows) ≡ true)
+    × ((text : Text) → one_of (codes "take") rows ≡ Some text → ¬ (IsNumber 64 text)))
+
+-- Some word that gives a file to a store is no id and file.
+abbrev pub HasNoStoreFile : List Row → Type 0
+HasNoStoreFile rows = (files : List StoreFile)
+    → AreStoreFiles (unwrap_or (all_of (codes "store") rows) []) files → ⊥
+
+abbrev pub is_command : Text → Bool
+is_command name =
+    bytes_eq name (codes "split")
+    || (bytes_eq name (codes "stores")
+    || (bytes_eq name (codes "image")
+    || (bytes_eq name (codes "questions") || bytes_eq name (codes "question"))))
+
+-- The options of the command that the words name do not go together, or the words name none.
+abbrev pub IsMisused : Option (Text × List Row) → Misuse → Type 0
+IsMisused None misuse = misuse ≡ NoCommand
+IsMisused (Some met) NoCommand = is_command met.0 ≡ false
+IsMisused (Some met) TakeWithoutOut = (met.0 ≡ codes "split") × AreApart met.1
+IsMisused (Some met) NoStoreFile = (met.0 ≡ codes "image") × HasNoStoreFile met.1

@@ -1,0 +1,118 @@
+-- The commands of `setup_audit` and their options, as clap reads them (own rule).
+use Rattle.std.specs.Prelude.{◌≡◌, ◌==◌, ◌&&◌, ◌||◌, ℕ, Bool, true, false, not, pos, Some, List, [], ◌∷◌, codes}
+use Rattle.std.specs.Str.{bytes_eq}
+use Rattle.clap.specs.Words.{App, Rule, Shape, Text, app_of, new_rule, rule_of}
+use Rattle.clap.specs.Simple.{new_shape}
+use Rattle.clap.specs.declared.builder.ArgAction.TheVariants.{Append, Set, SetTrue}
+use Rattle.clap.specs.declared.builder.ValueParser.TheVariants.{Signed, Unsigned}
+use Rattle.clap.specs.declared.builder.arg.Arg.{Arg}
+use Rattle.clap.specs.declared.builder.command.Command.{Command}
+use Rattle.clap.specs.declared.builder.command.Command.TheViews.{out-Command as fields_of}
+
+-- ---- the word behind `--lang`
+
+abbrev pub begins_with_hyphen : Text → Bool
+begins_with_hyphen [] = false
+begins_with_hyphen (c ∷ cs) = c == 45
+
+-- whether a word that begins with a hyphen stands behind `--lang`; the first may stand there itself
+abbrev pub has_hyphen_behind : Bool → List Text → Bool
+has_hyphen_behind is_behind [] = false
+has_hyphen_behind is_behind (word ∷ words) =
+    (is_behind && begins_with_hyphen word)
+    || has_hyphen_behind (bytes_eq word (codes "--lang")) words
+
+abbrev pub has_hyphen_language : List Text → Bool
+has_hyphen_language words = has_hyphen_behind false words
+
+-- ---- options
+
+-- an option with a value
+abbrev pub option : Text → Rule
+option name = record (new_rule name) { long = Some name; action = Some Set; value_names = 1 }
+
+abbrev pub required_option : Text → Rule
+required_option name = record (option name) { required = true }
+
+abbrev pub list : Rule
+list = required_option (codes "list")
+
+abbrev pub stores_image : Rule
+stores_image = required_option (codes "stores")
+
+abbrev pub forms : Rule
+forms = record (new_rule (codes "forms")) {
+  long = Some (codes "forms");
+  value_names = 1;
+  defaults = codes "1" ∷ [];
+  parser = Some (Signed (pos 1) (pos 65535));
+}
+
+-- its value may begin with a hyphen or not
+abbrev pub lang : Bool → Rule
+lang takes_hyphen = record (option (codes "lang")) {
+  defaults = codes "en-US" ∷ [];
+  is_simple = not takes_hyphen;
+}
+
+abbrev pub take : Rule
+take = record (option (codes "take")) { parser = Some (Unsigned 1 18446744073709551615) }
+
+abbrev pub id : Rule
+id = record (required_option (codes "id")) { parser = Some (Signed (pos 0) (pos 65535)) }
+
+abbrev pub store : Rule
+store = record (option (codes "store")) { action = Some Append }
+
+abbrev pub zero : Rule
+zero = record (new_rule (codes "zero")) { long = Some (codes "zero"); action = Some SetTrue }
+
+-- ---- commands
+
+abbrev pub command_of : Text → List Rule → Shape
+command_of name rules = record (new_shape name) { rules = rules }
+
+abbrev pub split : Shape
+split = command_of (codes "split")
+    (required_option (codes "dump") ∷ take ∷ option (codes "out") ∷ [])
+
+abbrev pub stores : Shape
+stores = command_of (codes "stores") (list ∷ forms ∷ [])
+
+abbrev pub image : Shape
+image = command_of (codes "image")
+    (list ∷ required_option (codes "out") ∷ store ∷ option (codes "efivars") ∷ zero ∷ forms ∷ [])
+
+abbrev pub questions : Bool → Shape
+questions takes_hyphen = command_of (codes "questions")
+    (list ∷ stores_image ∷ forms ∷ lang takes_hyphen ∷ [])
+
+abbrev pub question : Bool → Shape
+question takes_hyphen = command_of (codes "question")
+    (list ∷ stores_image ∷ id ∷ forms ∷ lang takes_hyphen ∷ [])
+
+-- all of it, where a language may begin with a hyphen or not
+abbrev pub program : Bool → App
+program takes_hyphen = record {
+  top = record (new_shape (codes "setup_audit")) {
+    is_leaf = false;
+    has_version = true;
+    subcommand_required = true;
+  };
+  subs = split ∷ stores ∷ image ∷ questions takes_hyphen ∷ question takes_hyphen ∷ [];
+}
+
+-- ---- what is built
+
+-- This argument is read by the rule.
+pub record IsArg (rule : Rule) (arg : Arg) : Type 0 where
+  pub read_by : rule_of arg ≡ rule
+  pub local : arg.global ≡ false
+
+pub record IsProgram (app : App) (command : Command) : Type 0 where
+  pub read_as : app_of command ≡ app
+  pub local : (fields_of command).has_globals ≡ false
+
+-- This command has no subcommand, and this shape.
+abbrev pub IsCommand : Shape → Command → Type 0
+IsCommand shape command = IsProgram record { top = shape; subs = [] } command
