@@ -1,0 +1,5 @@
+mod LeastLemmas
+mod CaseWords
+mod cases
+mod RenewedCases
+mod AtFaultCases

@@ -1,0 +1,14 @@
+pub mod Computing
+pub mod Packages
+pub mod Forest
+pub mod Expressions
+pub mod Strings
+pub mod Stores
+pub mod Questions
+pub mod Policy
+pub mod Defaults
+pub mod Pages
+pub mod Configuration
+pub mod Script
+pub mod Session
+pub mod Faults
