@@ -4,7 +4,7 @@ use Rattle.std.specs.Prelude.{◌==◌, ◌&&◌, Contains, filter, is_some, IfO
 use Rattle.std.specs.List.{AllByRecursion}
 use Rattle.std.specs.Option.{option_or}
 use Rattle.std.proofs.lemmas.Bool.{cases_Bool, cond-false, and_parts, eqb-true}
-use Rattle.ifr_opcodes.specs.Forest.{Placed}
+use Rattle.ifr_opcodes.specs.Forest.{Node}
 use Rattle.ifr_opcodes.specs.Reading.{tree_of}
 use Rattle.ifr_scopes.specs.Accepted.{IsAccepted}
 use Rattle.ifr_scopes.specs.Nodes.{nodes_of, is_question}
@@ -43,7 +43,7 @@ same_field f (Some g) e =
     let width : g.width ≡ f.width = eqb-true g.width f.width p.1 in
     ap Some (rw (store, offset, width) refl)
 
-of_field_among : (ifr : List ℕ) (f : Field) (ns : List Placed) → IsAccepted ifr → ((n : Placed) → Contains ns n → Contains (nodes_of ifr) n)
+of_field_among : (ifr : List ℕ) (f : Field) (ns : List Node) → IsAccepted ifr → ((n : Node) → Contains ns n → Contains (nodes_of ifr) n)
     → AllByRecursion (IsOfField ifr f) (filter (has_field f) (map (asked (nodes_of ifr)) (filter is_question ns)))
 of_field_among ifr f [] accepted within = tt
 of_field_among ifr f (n ∷ ns) accepted within =
@@ -67,7 +67,7 @@ of_field ifr f accepted = of_field_among ifr f (nodes_of ifr) accepted (λ n c. 
 -- ---- the first that is not fixed, or else the first
 
 -- the first of some questions that were met, or else of those that are left
-abbrev pub first_met : Option (Question × Result Around Denial) → List Asked → Option Placed
+abbrev pub first_met : Option (Question × Result Around Denial) → List Asked → Option Node
 first_met None left = first_question left
 first_met (Some found) left = Some (question_node found.0)
 
@@ -132,12 +132,12 @@ set_there policy working f s over =
     ap (λ (w : World). question_of_field w (nodes_of (bytes_of policy)) f) (over_world policy working s over) ∙ ap (λ (ifr : List ℕ). question_of_field (world_of s) (nodes_of ifr) f) over.ifr
 
 -- a question that is no password is set as by its id
-pub no_password : (s : State) (n : Placed) (bytes : List ℕ) → is_password n ≡ false → set_field s (Some n) bytes ≡ set_question s (Some n) (field bytes)
+pub no_password : (s : State) (n : Node) (bytes : List ℕ) → is_password n ≡ false → set_field s (Some n) bytes ≡ set_question s (Some n) (field bytes)
 no_password s n bytes not_it = cond-false (is_password n) (denied s (denied_by Password n)) (set_question s (Some n) (field bytes)) not_it
 
-pub all_fixed : (policy : Policy) (working : StoreMap) (f : Field) (n : Placed) (denial : Denial) → set_over policy working f ≡ Some n → is_password n ≡ false → unless (fixed (world policy working) n) ≡ Err denial
+pub all_fixed : (policy : Policy) (working : StoreMap) (f : Field) (n : Node) (denial : Denial) → set_over policy working f ≡ Some n → is_password n ≡ false → unless (fixed (world policy working) n) ≡ Err denial
     → Chooses policy working f (Err denial)
 all_fixed policy working f n denial some not_it why = λ s bytes over.
     let there = sym (set_there policy working f s over) ∙ some in
     let by : unless (fixed (world_of s) n) ≡ Err denial = subst (λ (w : World). unless (fixed w n) ≡ Err denial) (over_world policy working s over) why in
-    ap (λ (o : Option Placed). set_field s o bytes) there ∙ no_password s n bytes not_it ∙ fixed_question s n (field bytes) denial by
+    ap (λ (o : Option Node). set_field s o bytes) there ∙ no_password s n bytes not_it ∙ fixed_question s n (field bytes) denial by

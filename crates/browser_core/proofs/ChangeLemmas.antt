@@ -9,7 +9,7 @@ use Rattle.hii_bytes.specs.Watching.{Pen, Writes}
 use Rattle.hii_bytes.specs.code.Writing.{Stands}
 use Rattle.hii_bytes.proofs.WritingLemmas.{writes_trans}
 use Rattle.ifr_opcodes.specs.Fields.{question_id}
-use Rattle.ifr_opcodes.specs.Forest.{Placed}
+use Rattle.ifr_opcodes.specs.Forest.{Node}
 use Rattle.ifr_scopes.specs.Nodes.{nodes_of, is_question}
 use Rattle.ifr_scopes.proofs.ViewLemmas.{further}
 use Rattle.hii_varstore.specs.Stores.{StoreMap, shape_of, bytes_of, bytes_of_field}
@@ -55,7 +55,7 @@ whole_field m q field offset (Some bytes) lies has same told = rw has (sym (rw s
 
 -- ---- all questions
 
-lie_among : (all ns : List Placed) → HasNone (IsQuestionFault all) → ((n : Placed) → Contains ns n → Contains all n) → LieIn (layout_of all) (map (asked all) (filter is_question ns))
+lie_among : (all ns : List Node) → HasNone (IsQuestionFault all) → ((n : Node) → Contains ns n → Contains all n) → LieIn (layout_of all) (map (asked all) (filter is_question ns))
 lie_among all [] none within = tt
 lie_among all (n ∷ ns) none within = elim (cases_Bool (is_question n)) [
   | inl is ↦ rw is ((λ field e. holds_fields all n field none (within n (0, omega arith, refl)) is e), lie_among all ns none (λ m c. within m (further n ns m c)))
@@ -70,18 +70,18 @@ fields_lie ifr b = lie_among (nodes_of ifr) (nodes_of ifr) b.questions (λ n c. 
 abbrev pub is_other_field : State → Asked → Bool
 is_other_field s q = holds_others s.committed s.working q
 
-pick : (b : Bool) (q : Asked) (qs : List Asked) (ns : List Placed) → map (λ q. q.node) qs ≡ ns → map (λ q. q.node) (cond b (q ∷ qs) qs) ≡ cond b (q.node ∷ ns) ns
-pick true q qs ns e = ap (λ (l : List Placed). q.node ∷ l) e
+pick : (b : Bool) (q : Asked) (qs : List Asked) (ns : List Node) → map (λ q. q.node) qs ≡ ns → map (λ q. q.node) (cond b (q ∷ qs) qs) ≡ cond b (q.node ∷ ns) ns
+pick true q qs ns e = ap (λ (l : List Node). q.node ∷ l) e
 pick false q qs ns e = e
 
-one_more : (s : State) (n : Placed) (ns : List Placed) (asks : Bool)
+one_more : (s : State) (n : Node) (ns : List Node) (asks : Bool)
     → map (λ q. q.node) (filter (is_other_field s) (map (asked (nodes_of s.ifr)) (filter is_question ns))) ≡ filter (is_changed s) ns
     → map (λ q. q.node) (filter (is_other_field s) (map (asked (nodes_of s.ifr)) (cond asks (n ∷ filter is_question ns) (filter is_question ns)))) ≡ cond (asks && is_other s n) (n ∷ filter (is_changed s) ns) (filter (is_changed s) ns)
 one_more s n ns true e = pick (is_other s n) (asked (nodes_of s.ifr) n) (filter (is_other_field s) (map (asked (nodes_of s.ifr)) (filter is_question ns))) (filter (is_changed s) ns) e
 one_more s n ns false e = e
 
 -- the questions whose fields do are the changed ones
-others : (s : State) (ns : List Placed) → map (λ q. q.node) (filter (is_other_field s) (map (asked (nodes_of s.ifr)) (filter is_question ns))) ≡ filter (is_changed s) ns
+others : (s : State) (ns : List Node) → map (λ q. q.node) (filter (is_other_field s) (map (asked (nodes_of s.ifr)) (filter is_question ns))) ≡ filter (is_changed s) ns
 others s [] = refl
 others s (n ∷ ns) = one_more s n ns (is_question n) (others s ns)
 
@@ -104,16 +104,16 @@ told qs = flat_map (λ q. changed_text (question_id q.node.op)) qs
 
 -- how many they are
 counts : (s : State) (qs : List Asked) → map (λ q. q.node) qs ≡ changed s → length qs ≡ length (changed s)
-counts s qs are = sym (as_many qs) ∙ ap (λ (ns : List Placed). length ns) are
+counts s qs are = sym (as_many qs) ∙ ap (λ (ns : List Node). length ns) are
 
 -- the count is written, and they stand to be written
 pub told_start : {a b : Pen} (s : State) (qs : List Asked) (count : ℕ) → count ≡ length qs → map (λ q. q.node) qs ≡ changed s → Writes a b (count_text count) → Stands a b (commit s).text (told qs)
 told_start {a} {b} s qs count counted are wrote =
-    let texts : flat_map (λ (n : Placed). changed_text (question_id n.op)) (changed s) ≡ told qs = ap (λ (ns : List Placed). flat_map (λ (n : Placed). changed_text (question_id n.op)) ns) (sym are) ∙ sym (same_texts qs) in
+    let texts : flat_map (λ (n : Node). changed_text (question_id n.op)) (changed s) ≡ told qs = ap (λ (ns : List Node). flat_map (λ (n : Node). changed_text (question_id n.op)) ns) (sym are) ∙ sym (same_texts qs) in
     let number = counted ∙ counts s qs are in
     record {
       front = count_text count;
-      parts = ap (λ (n : ℕ). count_text n ++ flat_map (λ (n : Placed). changed_text (question_id n.op)) (changed s)) (sym number) ∙ ap (λ (l : List ℕ). count_text count ++ l) texts;
+      parts = ap (λ (n : ℕ). count_text n ++ flat_map (λ (n : Node). changed_text (question_id n.op)) (changed s)) (sym number) ∙ ap (λ (l : List ℕ). count_text count ++ l) texts;
       written = wrote;
     }
 

@@ -5,7 +5,7 @@ use Rattle.std.specs.List.{flat_map}
 use Rattle.std.proofs.lemmas.Bool.{eq-eqb}
 use Rattle.std.proofs.lemmas.List.Elements.{Contains-append_left, Contains-append_right, Contains-append_cases}
 use Rattle.ifr_opcodes.specs.Fields.{option_value}
-use Rattle.ifr_opcodes.specs.Forest.{Placed}
+use Rattle.ifr_opcodes.specs.Forest.{Node}
 use Rattle.ifr_scopes.specs.Nodes.{options, inconsistents, warnings}
 use Rattle.ifr_scopes.proofs.OptionsOfLemmas.{passes}
 use Rattle.ifr_scopes.proofs.PathLemmas.{kept}
@@ -21,7 +21,7 @@ use Rattle.browser_core.specs.laws.Sealed.{deciding, IsOfChange, DecidingHasAll,
 -- ---- lists
 
 -- what stands around some nodes stands around one of them
-around_some : (os : List Placed) (c : Placed) → Contains (flat_map around os) c → (o : Placed) × Contains os o × Contains (around o) c
+around_some : (os : List Node) (c : Node) → Contains (flat_map around os) c → (o : Node) × Contains os o × Contains (around o) c
 around_some [] c (k, lt, e) = absurd (omega arith)
 around_some (o ∷ os) c within = elim (Contains-append_cases (around o) (flat_map around os) c within) [
   | inl here ↦ (o, (0, omega arith, refl), here)
@@ -29,30 +29,30 @@ around_some (o ∷ os) c within = elim (Contains-append_cases (around o) (flat_m
 ]
 
 -- and what stands around one of them, around all
-around_one : (os : List Placed) (o c : Placed) → Contains os o → Contains (around o) c → Contains (flat_map around os) c
+around_one : (os : List Node) (o c : Node) → Contains os o → Contains (around o) c → Contains (flat_map around os) c
 around_one [] o c (k, lt, e) within = absurd (omega arith)
 around_one (p ∷ os) o c (zero, lt, e) within = Contains-append_left (around p) (flat_map around os) c (subst (λ n. Contains (around n) c) (sym e) within)
 around_one (p ∷ os) o c (suc k, lt, e) within = Contains-append_right (around p) (flat_map around os) c (around_one os o c (k, omega arith, e) within)
 
 -- ---- the parts of what decides
 
-of_itself : (q c : Placed) → Contains (around q) c → Contains (deciding q) c
+of_itself : (q c : Node) → Contains (around q) c → Contains (deciding q) c
 of_itself q c within = Contains-append_left (around q) (flat_map around (options q) ++ (inconsistents q ++ warnings q)) c within
 
-of_options : (q c : Placed) → Contains (flat_map around (options q)) c → Contains (deciding q) c
+of_options : (q c : Node) → Contains (flat_map around (options q)) c → Contains (deciding q) c
 of_options q c within =
     Contains-append_right (around q) (flat_map around (options q) ++ (inconsistents q ++ warnings q)) c
     (Contains-append_left (flat_map around (options q)) (inconsistents q ++ warnings q) c within)
 
-of_its_own : (q c : Placed) → Contains (inconsistents q ++ warnings q) c → Contains (deciding q) c
+of_its_own : (q c : Node) → Contains (inconsistents q ++ warnings q) c → Contains (deciding q) c
 of_its_own q c within =
     Contains-append_right (around q) (flat_map around (options q) ++ (inconsistents q ++ warnings q)) c
     (Contains-append_right (flat_map around (options q)) (inconsistents q ++ warnings q) c within)
 
 -- around an option of a value
-of_value : (q c : Placed) (value : ℕ) → Contains (flat_map around (filter (λ o. option_value o.op == value) (options q))) c → Contains (deciding q) c
+of_value : (q c : Node) (value : ℕ) → Contains (flat_map around (filter (λ o. option_value o.op == value) (options q))) c → Contains (deciding q) c
 of_value q c value within =
-    let which : Placed → Bool = λ o. option_value o.op == value in
+    let which : Node → Bool = λ o. option_value o.op == value in
     let found = around_some (filter which (options q)) c within in
     of_options q c (around_one (options q) found.0 c (kept which (options q) found.0 found.1) found.2)
 
@@ -67,17 +67,17 @@ has_all w q c MaySubmit is within = absurd is
 
 -- ---- each of them decides
 
-abbrev Decides : World → Question → Placed → Type 0
+abbrev Decides : World → Question → Node → Type 0
 Decides w question c = (decision : Decision) × IsOfChange (question_node question) decision × Contains (conditions w decision) c
 
-by_option : (w : World) (question : Question) (c : Placed) → Contains (flat_map around (options (question_node question))) c → Decides w question c
+by_option : (w : World) (question : Question) (c : Node) → Contains (flat_map around (options (question_node question))) c → Decides w question c
 by_option w question c within =
     let found = around_some (options (question_node question)) c within in
     let value = option_value found.0.op in
-    let which : Placed → Bool = λ o. option_value o.op == value in
+    let which : Node → Bool = λ o. option_value o.op == value in
     (OptionOpen question value, refl, around_one (filter which (options (question_node question))) found.0 c (passes which (options (question_node question)) found.0 found.1 (eq-eqb value value refl)) found.2)
 
-by_its_own : (w : World) (question : Question) (c : Placed) → Contains (inconsistents (question_node question) ++ warnings (question_node question)) c → Decides w question c
+by_its_own : (w : World) (question : Question) (c : Node) → Contains (inconsistents (question_node question) ++ warnings (question_node question)) c → Decides w question c
 by_its_own w question c within = elim (Contains-append_cases (inconsistents (question_node question)) (warnings (question_node question)) c within) [
   | inl inconsistent ↦ (Consistent question, refl, inconsistent)
   | inr warns ↦ (Warnings question, refl, warns)

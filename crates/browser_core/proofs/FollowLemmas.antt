@@ -4,7 +4,7 @@ use Rattle.std.specs.Prelude.{All, is_some, option_and_then}
 use Rattle.std.proofs.lemmas.Bool.{cond-true}
 use Rattle.std.proofs.lemmas.List.Elements.{All-push}
 use Rattle.ifr_opcodes.specs.Fields.{ref_target}
-use Rattle.ifr_opcodes.specs.Forest.{Placed}
+use Rattle.ifr_opcodes.specs.Forest.{Node}
 use Rattle.ifr_opcodes.specs.Opcode.{number}
 use Rattle.ifr_opcodes.specs.Reading.{tree_of}
 use Rattle.ifr_opcodes.specs.declared.codes.TheConstants.{RESET_BUTTON}
@@ -31,37 +31,37 @@ told_answered : (s : State) (o : Option Denial) → told_why s o ≡ answered s 
 told_answered s None = refl
 told_answered s (Some denial) = refl
 
-pub why_answered : (s : State) (q : Option Placed) (n : Placed) (r : Result (Unit {0}) Denial) → q ≡ Some n → r ≡ unless (fixed (world_of s) n) → why_question s q ≡ answered s r
+pub why_answered : (s : State) (q : Option Node) (n : Node) (r : Result (Unit {0}) Denial) → q ≡ Some n → r ≡ unless (fixed (world_of s) n) → why_question s q ≡ answered s r
 why_answered s q n r named told = rw (named, told) (told_answered s (fixed (world_of s) n))
 
 -- ---- forms
 
-pub form_is_node : (ifr : List ℕ) (id : ℕ) (form : Placed) → IsAccepted ifr → form_with (nodes_of ifr) id ≡ Some form → IsNodeOf ifr form
+pub form_is_node : (ifr : List ℕ) (id : ℕ) (form : Node) → IsAccepted ifr → form_with (nodes_of ifr) id ≡ Some form → IsNodeOf ifr form
 form_is_node ifr id form accepted is =
     is_found ifr (tree_of ifr) form accepted.checked.spelled (found (has_form_id id) (nodes_of ifr) form is).0
 
-pub has_form_there : (ifr : List ℕ) (form : Placed) → IsNodeOf ifr form → is_form form ≡ true → has_form ifr form.place ≡ true
+pub has_form_there : (ifr : List ℕ) (form : Node) → IsNodeOf ifr form → is_form form ≡ true → has_form ifr form.place ≡ true
 unfolding node_in
 has_form_there ifr form node is = rw (ap is_some node, ap or_empty node, is) refl
 
 -- ---- references
 
-led : (s : State) (q : Option Placed) (n : Placed) → q ≡ Some n → is_reference n ≡ true → follow s q ≡ go_unless_fixed s n (fixed (world_of s) n)
+led : (s : State) (q : Option Node) (n : Node) → q ≡ Some n → is_reference n ≡ true → follow s q ≡ go_unless_fixed s n (fixed (world_of s) n)
 led s q n named leads = ap (follow s) named ∙ cond-true (is_reference n) (go_unless_fixed s n (fixed (world_of s) n)) (denied s (denied_by NotRef n)) leads
 
-pub go_fixed : (s : State) (q : Option Placed) (n : Placed) (denial : Denial) → q ≡ Some n → is_reference n ≡ true → unless (fixed (world_of s) n) ≡ Err denial → follow s q ≡ denied s denial
+pub go_fixed : (s : State) (q : Option Node) (n : Node) (denial : Denial) → q ≡ Some n → is_reference n ≡ true → unless (fixed (world_of s) n) ≡ Err denial → follow s q ≡ denied s denial
 go_fixed s q n denial named leads why = led s q n named leads ∙ ap (go_unless_fixed s n) (some_of (fixed (world_of s) n) denial why)
 
 -- a reference that may be selected
-free_reference : (s : State) (q : Option Placed) (n : Placed) (o : Option Placed) → q ≡ Some n → is_reference n ≡ true → unless (fixed (world_of s) n) ≡ Ok tt
+free_reference : (s : State) (q : Option Node) (n : Node) (o : Option Node) → q ≡ Some n → is_reference n ≡ true → unless (fixed (world_of s) n) ≡ Ok tt
     → option_and_then (form_with (nodes_of s.ifr)) (ref_target n.op) ≡ o → follow s q ≡ go_to s n o
 free_reference s q n o named leads free is = led s q n named leads ∙ ap (go_unless_fixed s n) (none_of (fixed (world_of s) n) free) ∙ ap (go_to s n) is
 
-pub go_nowhere : (s : State) (q : Option Placed) (n : Placed) → q ≡ Some n → is_reference n ≡ true → unless (fixed (world_of s) n) ≡ Ok tt
+pub go_nowhere : (s : State) (q : Option Node) (n : Node) → q ≡ Some n → is_reference n ≡ true → unless (fixed (world_of s) n) ≡ Ok tt
     → option_and_then (form_with (nodes_of s.ifr)) (ref_target n.op) ≡ None → follow s q ≡ denied s (denied_by Outside n)
 go_nowhere s q n named leads free none = free_reference s q n None named leads free none
 
-pub go_hidden : (s : State) (q : Option Placed) (n form : Placed) (denial : Denial) → q ≡ Some n → is_reference n ≡ true → unless (fixed (world_of s) n) ≡ Ok tt
+pub go_hidden : (s : State) (q : Option Node) (n form : Node) (denial : Denial) → q ≡ Some n → is_reference n ≡ true → unless (fixed (world_of s) n) ≡ Ok tt
     → option_and_then (form_with (nodes_of s.ifr)) (ref_target n.op) ≡ Some form → unless (hidden (world_of s) form) ≡ Err denial → follow s q ≡ denied s denial
 go_hidden s q n form denial named leads free is why =
     free_reference s q n (Some form) named leads free is ∙ ap (show_unless_hidden s form) (some_of (hidden (world_of s) form) denial why)
@@ -72,11 +72,11 @@ all_and_one P xs ys x all h e = subst (All P) (sym e) (All-push P xs x all h)
 
 -- ---- buttons
 
-pub press_fixed : (s : State) (row : ℕ) (n : Placed) (denial : Denial) → row_of_form s row (form_of s) ≡ Some n → (number n.op == RESET_BUTTON) ≡ true → unless (fixed (world_of s) n) ≡ Err denial
+pub press_fixed : (s : State) (row : ℕ) (n : Node) (denial : Denial) → row_of_form s row (form_of s) ≡ Some n → (number n.op == RESET_BUTTON) ≡ true → unless (fixed (world_of s) n) ≡ Err denial
     → press s row ≡ denied s denial
 press_fixed s row n denial found button why = let some = some_of (fixed (world_of s) n) denial why in rw (found, button, some) refl
 
 -- where nothing is pressed, no question takes a default
-pub presses_nothing : (s : State) (o : Option Placed) (denial : Denial) → pressed_if s o (Denied denial) ≡ []
+pub presses_nothing : (s : State) (o : Option Node) (denial : Denial) → pressed_if s o (Denied denial) ≡ []
 presses_nothing s None denial = refl
 presses_nothing s (Some n) denial = refl

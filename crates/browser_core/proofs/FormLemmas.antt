@@ -5,7 +5,7 @@ use Rattle.std.specs.Option.{IsSome}
 use Rattle.std.specs.Iterator.{YieldsFirstBy}
 use Rattle.std.proofs.lemmas.Bool.{cases_Bool}
 use Rattle.hii_bytes.specs.declared.cause.Cause.TheVariants.{NoForm}
-use Rattle.ifr_opcodes.specs.Forest.{Placed}
+use Rattle.ifr_opcodes.specs.Forest.{Node}
 use Rattle.ifr_scopes.specs.Accepted.{IsAccepted}
 use Rattle.ifr_scopes.specs.Nodes.{nodes_of, is_form}
 use Rattle.ifr_scopes.proofs.ViewLemmas.{further}
@@ -19,7 +19,7 @@ pub some_form : (ifr : List ℕ) → IsAccepted ifr → filter is_form (nodes_of
 some_form ifr accepted none = accepted.referred NoForm 4 (inl (none, refl, refl))
 
 -- the first that passes a test is one of those that are tested
-pub first_within : (p : Placed → Bool) (ns : List Placed) (x : Placed) (rest : List Placed) → filter p ns ≡ x ∷ rest → Contains ns x
+pub first_within : (p : Node → Bool) (ns : List Node) (x : Node) (rest : List Node) → filter p ns ≡ x ∷ rest → Contains ns x
 first_within p [] x rest e = absurd cc
 first_within p (n ∷ ns) x rest e = elim (cases_Bool (p n)) [
   | inl passes ↦ let same : n ≡ x = cc (rw passes at e) in (0, omega arith, same)
@@ -27,10 +27,10 @@ first_within p (n ∷ ns) x rest e = elim (cases_Bool (p n)) [
 ]
 
 -- what is not empty has a first
-some_first : (xs : List Placed) → (xs ≡ [] → ⊥) → (x : Placed) × (rest : List Placed) × (xs ≡ x ∷ rest)
+some_first : (xs : List Node) → (xs ≡ [] → ⊥) → (x : Node) × (rest : List Node) × (xs ≡ x ∷ rest)
 some_first [] some = absurd (some refl)
 some_first (x ∷ rest) some = (x, rest, refl)
 
 -- the first form of an accepted package, and the others
-pub first_of : (ifr : List ℕ) → IsAccepted ifr → (first : Placed) × (others : List Placed) × (filter is_form (nodes_of ifr) ≡ first ∷ others)
+pub first_of : (ifr : List ℕ) → IsAccepted ifr → (first : Node) × (others : List Node) × (filter is_form (nodes_of ifr) ≡ first ∷ others)
 first_of ifr accepted = some_first (filter is_form (nodes_of ifr)) (some_form ifr accepted)

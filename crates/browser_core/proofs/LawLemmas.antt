@@ -11,7 +11,7 @@ use Rattle.std.proofs.lemmas.Option.{slice_get-get_or, slice_get_past}
 use Rattle.ifr_opcodes.specs.Fields.{question_id, reset_default}
 use Rattle.ifr_opcodes.specs.Opcode.{number}
 use Rattle.ifr_opcodes.specs.declared.codes.TheConstants.{RESET_BUTTON}
-use Rattle.ifr_opcodes.specs.Forest.{Placed, below, node_at}
+use Rattle.ifr_opcodes.specs.Forest.{Node, below, node_at}
 use Rattle.ifr_opcodes.specs.Reading.{tree_of}
 use Rattle.ifr_scopes.specs.Nodes.{nodes_of, is_question, is_statement, statements}
 use Rattle.ifr_scopes.proofs.FormPlaceLemmas.{found}
@@ -54,7 +54,7 @@ use Rattle.browser_core.proofs.SealedLemmas.{element, range_of, length_of, lengt
 -- ---- one command
 
 -- the stores after a set that was carried out
-field_keeps : (s : State) (n : Placed) (offer : Offer) (bytes : List ℕ) (store at : ℕ) → fits (nodes_of s.ifr) n offer ≡ Ok bytes → (o : Option Field) → field_of (nodes_of s.ifr) n ≡ o
+field_keeps : (s : State) (n : Node) (offer : Offer) (bytes : List ℕ) (store at : ℕ) → fits (nodes_of s.ifr) n offer ≡ Ok bytes → (o : Option Field) → field_of (nodes_of s.ifr) n ≡ o
     → ((field : Field) → field_of (nodes_of s.ifr) n ≡ Some field → store ≡ field.store → field.offset ≤ at → at < field.offset + field.width → ⊥)
     → byte_of (with_field s.working o bytes) store at ≡ byte_of s.working store at
 field_keeps s n offer bytes store at fit None is none = refl
@@ -68,12 +68,12 @@ field_keeps s n offer bytes store at fit (Some field) is none =
       ]
     ])
 
-forbidden_keeps : (s : State) (new : StoreMap) (n : Placed) (store at : ℕ) (o : Option Denial) → ((set_unless_forbidden s new n o).reply ≡ Accepted → byte_of new store at ≡ byte_of s.working store at)
+forbidden_keeps : (s : State) (new : StoreMap) (n : Node) (store at : ℕ) (o : Option Denial) → ((set_unless_forbidden s new n o).reply ≡ Accepted → byte_of new store at ≡ byte_of s.working store at)
     → byte_of (set_unless_forbidden s new n o).state.working store at ≡ byte_of s.working store at
 forbidden_keeps s new n store at (Some denial) keep = refl
 forbidden_keeps s new n store at None keep = keep refl
 
-fitting_keeps : (s : State) (n : Placed) (offer : Offer) (store at : ℕ) (r : Result (List ℕ) DenialKind) → fits (nodes_of s.ifr) n offer ≡ r
+fitting_keeps : (s : State) (n : Node) (offer : Offer) (store at : ℕ) (r : Result (List ℕ) DenialKind) → fits (nodes_of s.ifr) n offer ≡ r
     → ((field : Field) → field_of (nodes_of s.ifr) n ≡ Some field → store ≡ field.store → field.offset ≤ at → at < field.offset + field.width → (set_fitting s n (values_offered n offer) r).reply ≡ Accepted → ⊥)
     → byte_of (set_fitting s n (values_offered n offer) r).state.working store at ≡ byte_of s.working store at
 fitting_keeps s n offer store at (Err _) fit none = refl
@@ -82,50 +82,50 @@ fitting_keeps s n offer store at (Ok bytes) fit none =
     forbidden_keeps s new n store at (value_denial (world_of s) new n (values_offered n offer))
     (λ ok. field_keeps s n offer bytes store at fit (field_of (nodes_of s.ifr) n) refl (λ field is same from inside. none field is same from inside ok))
 
-unless_keeps : (s : State) (n : Placed) (offer : Offer) (store at : ℕ) (o : Option Denial)
+unless_keeps : (s : State) (n : Node) (offer : Offer) (store at : ℕ) (o : Option Denial)
     → ((field : Field) → field_of (nodes_of s.ifr) n ≡ Some field → store ≡ field.store → field.offset ≤ at → at < field.offset + field.width → (set_unless_fixed s n offer o).reply ≡ Accepted → ⊥)
     → byte_of (set_unless_fixed s n offer o).state.working store at ≡ byte_of s.working store at
 unless_keeps s n offer store at (Some denial) none = refl
 unless_keeps s n offer store at None none = fitting_keeps s n offer store at (fits (nodes_of s.ifr) n offer) refl none
 
-set_keeps : (s : State) (offer : Offer) (store at : ℕ) (q : Option Placed)
-    → ((n : Placed) (field : Field) → q ≡ Some n → field_of (nodes_of s.ifr) n ≡ Some field → store ≡ field.store → field.offset ≤ at → at < field.offset + field.width → (set_question s q offer).reply ≡ Accepted → ⊥)
+set_keeps : (s : State) (offer : Offer) (store at : ℕ) (q : Option Node)
+    → ((n : Node) (field : Field) → q ≡ Some n → field_of (nodes_of s.ifr) n ≡ Some field → store ≡ field.store → field.offset ≤ at → at < field.offset + field.width → (set_question s q offer).reply ≡ Accepted → ⊥)
     → byte_of (set_question s q offer).state.working store at ≡ byte_of s.working store at
 set_keeps s offer store at None none = refl
 set_keeps s offer store at (Some n) none = unless_keeps s n offer store at (fixed (world_of s) n) (λ field is same from inside ok. none n field refl is same from inside ok)
 
-forbidden_submits : (s : State) (new : StoreMap) (n : Placed) (o : Option Denial) → (set_unless_forbidden s new n o).state.committed ≡ s.committed
+forbidden_submits : (s : State) (new : StoreMap) (n : Node) (o : Option Denial) → (set_unless_forbidden s new n o).state.committed ≡ s.committed
 forbidden_submits s new n (Some denial) = refl
 forbidden_submits s new n None = refl
 
-fitting_submits : (s : State) (n : Placed) (values : List ℕ) (r : Result (List ℕ) DenialKind) → (set_fitting s n values r).state.committed ≡ s.committed
+fitting_submits : (s : State) (n : Node) (values : List ℕ) (r : Result (List ℕ) DenialKind) → (set_fitting s n values r).state.committed ≡ s.committed
 fitting_submits s n values (Err _) = refl
 fitting_submits s n values (Ok bytes) =
     let new = with_field s.working (field_of (nodes_of s.ifr) n) bytes in
     forbidden_submits s new n (value_denial (world_of s) new n values)
 
-unless_submits : (s : State) (n : Placed) (offer : Offer) (o : Option Denial) → (set_unless_fixed s n offer o).state.committed ≡ s.committed
+unless_submits : (s : State) (n : Node) (offer : Offer) (o : Option Denial) → (set_unless_fixed s n offer o).state.committed ≡ s.committed
 unless_submits s n offer (Some denial) = refl
 unless_submits s n offer None = fitting_submits s n (values_offered n offer) (fits (nodes_of s.ifr) n offer)
 
-set_submits : (s : State) (offer : Offer) (q : Option Placed) → (set_question s q offer).state.committed ≡ s.committed
+set_submits : (s : State) (offer : Offer) (q : Option Node) → (set_question s q offer).state.committed ≡ s.committed
 set_submits s offer None = refl
 set_submits s offer (Some n) = unless_submits s n offer (fixed (world_of s) n)
 
 -- ---- questions of the package
 
 -- No question of some has the byte.
-abbrev NoneHas : List Placed → List ℕ → ℕ → ℕ → Type 0
-NoneHas qs ifr store at = (n : Placed) (field : Field) → Contains qs n → field_of (nodes_of ifr) n ≡ Some field → store ≡ field.store → field.offset ≤ at → at < field.offset + field.width → ⊥
+abbrev NoneHas : List Node → List ℕ → ℕ → ℕ → Type 0
+NoneHas qs ifr store at = (n : Node) (field : Field) → Contains qs n → field_of (nodes_of ifr) n ≡ Some field → store ≡ field.store → field.offset ≤ at → at < field.offset + field.width → ⊥
 
 -- No field of these that is a question's has the byte.
 abbrev NoneNamed : List ℕ → List Field → ℕ → ℕ → Type 0
-NoneNamed ifr fields store at = (n : Placed) (field : Field) → Contains (nodes_of ifr) n → is_question n ≡ true → field_of (nodes_of ifr) n ≡ Some field → Contains fields field
+NoneNamed ifr fields store at = (n : Node) (field : Field) → Contains (nodes_of ifr) n → is_question n ≡ true → field_of (nodes_of ifr) n ≡ Some field → Contains fields field
     → store ≡ field.store → field.offset ≤ at → at < field.offset + field.width → ⊥
 
 -- Each of some nodes is a question of the package.
-abbrev AreQuestions : List ℕ → List Placed → Type 0
-AreQuestions ifr qs = (n : Placed) → Contains qs n → Contains (nodes_of ifr) n × (is_question n ≡ true)
+abbrev AreQuestions : List ℕ → List Node → Type 0
+AreQuestions ifr qs = (n : Node) → Contains qs n → Contains (nodes_of ifr) n × (is_question n ≡ true)
 
 first_field : (o : Option Field) (fields : List Field) (field : Field) → o ≡ Some field → Contains (cons_option o fields) field
 first_field None fields field e = absurd cc
@@ -135,28 +135,28 @@ later_field : (o : Option Field) (fields : List Field) (field : Field) → Conta
 later_field None fields field c = c
 later_field (Some other) fields field c = further other fields field c
 
-fields_contain : (ns qs : List Placed) (n : Placed) (field : Field) → Contains qs n → field_of ns n ≡ Some field → Contains (fields_of ns qs) field
+fields_contain : (ns qs : List Node) (n : Node) (field : Field) → Contains qs n → field_of ns n ≡ Some field → Contains (fields_of ns qs) field
 fields_contain ns [] n field (k, lt, e) is = absurd (omega arith)
 fields_contain ns (q ∷ qs) n field (zero, lt, e) is = first_field (field_of ns q) (fields_of ns qs) field (ap (field_of ns) e ∙ is)
 fields_contain ns (q ∷ qs) n field (suc k, lt, e) is = later_field (field_of ns q) (fields_of ns qs) field (fields_contain ns qs n field (k, omega arith, e) is)
 
-none_has : (ifr : List ℕ) (qs : List Placed) (store at : ℕ) → AreQuestions ifr qs → NoneNamed ifr (fields_of (nodes_of ifr) qs) store at → NoneHas qs ifr store at
+none_has : (ifr : List ℕ) (qs : List Node) (store at : ℕ) → AreQuestions ifr qs → NoneNamed ifr (fields_of (nodes_of ifr) qs) store at → NoneHas qs ifr store at
 none_has ifr qs store at are none n field c found here from inside = let it = are n c in none n field it.0 it.1 found (fields_contain (nodes_of ifr) qs n field c found) here from inside
 
-named_is : (o : Option Placed) (r : Reply) (n : Placed) → Contains (named_if o r) n → o ≡ Some n
+named_is : (o : Option Node) (r : Reply) (n : Node) → Contains (named_if o r) n → o ≡ Some n
 named_is None r n (k, lt, e) = absurd (omega arith)
 named_is (Some q) Accepted n (zero, lt, e) = ap Some e
 named_is (Some q) Accepted n (suc k, lt, e) = absurd (omega arith)
 named_is (Some q) (Denied d) n (k, lt, e) = absurd (omega arith)
 named_is (Some q) (Refused cause) n (k, lt, e) = absurd (omega arith)
 
-named_contains : (o : Option Placed) (n : Placed) (r : Reply) → o ≡ Some n → r ≡ Accepted → Contains (named_if o r) n
+named_contains : (o : Option Node) (n : Node) (r : Reply) → o ≡ Some n → r ≡ Accepted → Contains (named_if o r) n
 named_contains o n r named is = rw (named, is) (0, omega arith, refl)
 
 -- the question of an id
 named_are : (ifr : List ℕ) (id : ℕ) (r : Reply) → AreQuestions ifr (named_if (question_with (nodes_of ifr) id) r)
 named_are ifr id r n c =
-    let test : Placed → Bool = λ m. is_question m && (question_id m.op == id) in
+    let test : Node → Bool = λ m. is_question m && (question_id m.op == id) in
     let is : question_with (nodes_of ifr) id ≡ Some n = named_is (question_with (nodes_of ifr) id) r n c in
     elim (cases_Bool (id == 0)) [
       | inl no_id ↦ let none : None ≡ Some n = sym (cond-true (id == 0) None (find test (nodes_of ifr)) no_id) ∙ is in absurd cc
@@ -166,23 +166,23 @@ named_are ifr id r n c =
     ]
 
 -- the questions of a form of the package
-form_questions : (ifr : List ℕ) (place : ℕ) (o : Option Placed) → node_at (nodes_of ifr) place ≡ o → AreQuestions ifr (questions_in o)
+form_questions : (ifr : List ℕ) (place : ℕ) (o : Option Node) → node_at (nodes_of ifr) place ≡ o → AreQuestions ifr (questions_in o)
 form_questions ifr place None there n (k, lt, e) = absurd (omega arith)
 form_questions ifr place (Some form) there n c =
     let asks = passing is_question (statements form) n c in
     let inside = passing is_statement (below form) n asks.0 in
     (below_within (tree_of ifr) 4 [] form n (contains_found (nodes_of ifr) place form there) inside.0, asks.1)
 
-taken_cases : (qs : List Placed) (q n : Placed) (r : Reply) → Contains (taken_if qs q r) n → Contains qs n ⊎ (q ≡ n)
+taken_cases : (qs : List Node) (q n : Node) (r : Reply) → Contains (taken_if qs q r) n → Contains qs n ⊎ (q ≡ n)
 taken_cases qs q n Accepted c = Contains-push_cases qs q n c
 taken_cases qs q n (Denied d) c = inl c
 taken_cases qs q n (Refused cause) c = inl c
 
-offer_cases : (t : Taken) (q n : Placed) (o : Option Offer) → Contains (take_offer t q o).questions n → Contains t.questions n ⊎ (q ≡ n)
+offer_cases : (t : Taken) (q n : Node) (o : Option Offer) → Contains (take_offer t q o).questions n → Contains t.questions n ⊎ (q ≡ n)
 offer_cases t q n None c = inl c
 offer_cases t q n (Some offer) c = taken_cases t.questions q n (set_question t.state (Some q) offer).reply c
 
-each_cases : (class : ℕ) (t : Taken) (qs : List Placed) (n : Placed) → Contains (take_each class t qs).questions n → Contains t.questions n ⊎ Contains qs n
+each_cases : (class : ℕ) (t : Taken) (qs : List Node) (n : Node) → Contains (take_each class t qs).questions n → Contains t.questions n ⊎ Contains qs n
 each_cases class t [] n c = inl c
 each_cases class t (q ∷ qs) n c = elim (each_cases class (take_default class t q) qs n c) [
   | inl first ↦ elim (offer_cases t q n (default_of (sources t.state) q class) first) [
@@ -199,40 +199,40 @@ taken_are s class n c = elim (each_cases class record { state = s; questions = [
   | inr within ↦ form_questions s.ifr s.form (form_of s) refl n within
 ]
 
-pressed_are : (s : State) (o : Option Placed) (r : Reply) → AreQuestions s.ifr (pressed_if s o r)
+pressed_are : (s : State) (o : Option Node) (r : Reply) → AreQuestions s.ifr (pressed_if s o r)
 pressed_are s None r n (k, lt, e) = absurd (omega arith)
 pressed_are s (Some button) Accepted n c = taken_are s (reset_default button.op) n c
 pressed_are s (Some button) (Denied d) n (k, lt, e) = absurd (omega arith)
 pressed_are s (Some button) (Refused cause) n (k, lt, e) = absurd (omega arith)
 
 -- one of some questions is this node
-abbrev IsOne : List Asked → Placed → Type 0
+abbrev IsOne : List Asked → Node → Type 0
 IsOne qs n = (q : Asked) × Contains qs q × (q.node ≡ n)
 
-node_of : (qs : List Asked) (n : Placed) (o : Option Asked) → ((q : Asked) → o ≡ Some q → Contains qs q) → option_map (λ (q : Asked). q.node) o ≡ Some n → IsOne qs n
+node_of : (qs : List Asked) (n : Node) (o : Option Asked) → ((q : Asked) → o ≡ Some q → Contains qs q) → option_map (λ (q : Asked). q.node) o ≡ Some n → IsOne qs n
 node_of qs n None there e = absurd cc
 node_of qs n (Some q) there e = let same : q.node ≡ n = cc in (q, there q refl, same)
 
-first_node : (qs : List Asked) (n : Placed) → first_question qs ≡ Some n → IsOne qs n
+first_node : (qs : List Asked) (n : Node) → first_question qs ≡ Some n → IsOne qs n
 first_node [] n e = absurd cc
 first_node (q ∷ qs) n e = let same : q.node ≡ n = cc in (q, (0, omega arith, refl), same)
 
-either : (o p : Option Placed) (n : Placed) → option_or o p ≡ Some n → (o ≡ Some n) ⊎ (p ≡ Some n)
+either : (o p : Option Node) (n : Node) → option_or o p ≡ Some n → (o ≡ Some n) ⊎ (p ≡ Some n)
 either None p n e = inr e
 either (Some m) p n e = inl e
 
 -- a question with a field is one of the package that has the field
-asked_with : (ns : List Placed) (field : Field) (n : Placed) → IsOne (filter (has_field field) (questions ns)) n → Contains ns n × (is_question n ≡ true) × (field_of ns n ≡ Some field)
+asked_with : (ns : List Node) (field : Field) (n : Node) → IsOne (filter (has_field field) (questions ns)) n → Contains ns n × (is_question n ≡ true) × (field_of ns n ≡ Some field)
 asked_with ns field n one =
     let has = have_the_field (questions ns) field one.0 one.1 in
     let it = given (asked ns) (filter is_question ns) one.0 has.0 in
     let asks = passing is_question ns it.0 it.1 in
     let same : it.0 ≡ n = ap (λ (q : Asked). q.node) it.2 ∙ one.2 in
     let its : field_of ns it.0 ≡ Some field = ap (λ (q : Asked). q.field) it.2 ∙ has.1 in
-    subst (λ (m : Placed). Contains ns m × (is_question m ≡ true) × (field_of ns m ≡ Some field)) same (asks.0, asks.1, its)
+    subst (λ (m : Node). Contains ns m × (is_question m ≡ true) × (field_of ns m ≡ Some field)) same (asks.0, asks.1, its)
 
 -- the question that a block with a field sets
-chosen_there : (w : World) (ns : List Placed) (field : Field) (n : Placed) → question_of_field w ns field ≡ Some n → Contains ns n × (is_question n ≡ true) × (field_of ns n ≡ Some field)
+chosen_there : (w : World) (ns : List Node) (field : Field) (n : Node) → question_of_field w ns field ≡ Some n → Contains ns n × (is_question n ≡ true) × (field_of ns n ≡ Some field)
 chosen_there w ns field n e =
     let qs = filter (has_field field) (questions ns) in
     let free : Asked → Bool = λ q. is_none (fixed w q.node) in
@@ -253,7 +253,7 @@ itself : (s : State) (store at : ℕ) → KeepsByte s s store at
 itself s store at = record { ifr = refl; committed = refl; working = refl }
 
 -- a command that sets a question
-setting_keeps : (s : State) (o : Option Placed) (offer : Offer) (store at : ℕ) → NoneHas (named_if o (set_question s o offer).reply) s.ifr store at → KeepsByte s (set_question s o offer).state store at
+setting_keeps : (s : State) (o : Option Node) (offer : Offer) (store at : ℕ) → NoneHas (named_if o (set_question s o offer).reply) s.ifr store at → KeepsByte s (set_question s o offer).state store at
 setting_keeps s o offer store at none = record {
   ifr = (set_keeps_package s offer o).ifr;
   committed = set_submits s offer o;
@@ -262,26 +262,26 @@ setting_keeps s o offer store at none = record {
 
 -- ---- defaults
 
-set_grows : (qs : List Placed) (q n : Placed) (r : Reply) → Contains qs n → Contains (taken_if qs q r) n
+set_grows : (qs : List Node) (q n : Node) (r : Reply) → Contains qs n → Contains (taken_if qs q r) n
 set_grows qs q n Accepted c = Contains-append_left qs (q ∷ []) n c
 set_grows qs q n (Denied d) c = c
 set_grows qs q n (Refused cause) c = c
 
-offer_grows : (t : Taken) (q n : Placed) (o : Option Offer) → Contains t.questions n → Contains (take_offer t q o).questions n
+offer_grows : (t : Taken) (q n : Node) (o : Option Offer) → Contains t.questions n → Contains (take_offer t q o).questions n
 offer_grows t q n None c = c
 offer_grows t q n (Some offer) c = set_grows t.questions q n (set_question t.state (Some q) offer).reply c
 
 -- those that took their defaults stay so
-each_grows : (class : ℕ) (t : Taken) (qs : List Placed) (n : Placed) → Contains t.questions n → Contains (take_each class t qs).questions n
+each_grows : (class : ℕ) (t : Taken) (qs : List Node) (n : Node) → Contains t.questions n → Contains (take_each class t qs).questions n
 each_grows class t [] n c = c
 each_grows class t (q ∷ qs) n c = each_grows class (take_default class t q) qs n (offer_grows t q n (default_of (sources t.state) q class) c)
 
-taken_contains : (qs : List Placed) (q n : Placed) (r : Reply) → Some q ≡ Some n → r ≡ Accepted → Contains (taken_if qs q r) n
+taken_contains : (qs : List Node) (q n : Node) (r : Reply) → Some q ≡ Some n → r ≡ Accepted → Contains (taken_if qs q r) n
 taken_contains qs q n r same is =
     let e : q ≡ n = cc in
     rw (is, e) (Contains-append_right qs (n ∷ []) n (0, omega arith, refl))
 
-offer_keeps : (t : Taken) (q : Placed) (store at : ℕ) (o : Option Offer) → NoneHas (take_offer t q o).questions t.state.ifr store at → KeepsByte t.state (take_offer t q o).state store at
+offer_keeps : (t : Taken) (q : Node) (store at : ℕ) (o : Option Offer) → NoneHas (take_offer t q o).questions t.state.ifr store at → KeepsByte t.state (take_offer t q o).state store at
 offer_keeps t q store at None none = itself t.state store at
 offer_keeps t q store at (Some offer) none = record {
   ifr = (set_keeps_package t.state offer (Some q)).ifr;
@@ -290,7 +290,7 @@ offer_keeps t q store at (Some offer) none = record {
       (λ n field is found here from inside ok. none n field (taken_contains t.questions q n (set_question t.state (Some q) offer).reply is ok) found here from inside);
 }
 
-each_keeps : (class : ℕ) (t : Taken) (qs : List Placed) (store at : ℕ) → NoneHas (take_each class t qs).questions t.state.ifr store at → KeepsByte t.state (take_each class t qs).state store at
+each_keeps : (class : ℕ) (t : Taken) (qs : List Node) (store at : ℕ) → NoneHas (take_each class t qs).questions t.state.ifr store at → KeepsByte t.state (take_each class t qs).state store at
 each_keeps class t [] store at none = itself t.state store at
 each_keeps class t (q ∷ qs) store at none =
     let next = take_default class t q in
@@ -303,29 +303,29 @@ defaults_keep s class store at none = each_keeps class record { state = s; quest
 
 -- ---- a button
 
-unfixed_keeps : (s : State) (button : Placed) (store at : ℕ) (o : Option Denial) → NoneHas (pressed_if s (Some button) (press_unless_fixed s button o).reply) s.ifr store at → KeepsByte s (press_unless_fixed s button o).state store at
+unfixed_keeps : (s : State) (button : Node) (store at : ℕ) (o : Option Denial) → NoneHas (pressed_if s (Some button) (press_unless_fixed s button o).reply) s.ifr store at → KeepsByte s (press_unless_fixed s button o).state store at
 unfixed_keeps s button store at (Some denial) none = itself s store at
 unfixed_keeps s button store at None none = defaults_keep s (reset_default button.op) store at none
 
-abbrev pressed : State → Placed → Bool → Outcome
+abbrev pressed : State → Node → Bool → Outcome
 pressed s n is = cond is (press_unless_fixed s n (fixed (world_of s) n)) (denied s (denied_by NotButton n))
 
-button_keeps : (s : State) (n : Placed) (store at : ℕ) (is : Bool) → NoneHas (pressed_if s (Some n) (pressed s n is).reply) s.ifr store at → KeepsByte s (pressed s n is).state store at
+button_keeps : (s : State) (n : Node) (store at : ℕ) (is : Bool) → NoneHas (pressed_if s (Some n) (pressed s n is).reply) s.ifr store at → KeepsByte s (pressed s n is).state store at
 button_keeps s n store at true none = unfixed_keeps s n store at (fixed (world_of s) n) none
 button_keeps s n store at false none = itself s store at
 
-press_keeps : (s : State) (store at : ℕ) (o : Option Placed) → NoneHas (pressed_if s o (press_statement s o).reply) s.ifr store at → KeepsByte s (press_statement s o).state store at
+press_keeps : (s : State) (store at : ℕ) (o : Option Node) → NoneHas (pressed_if s o (press_statement s o).reply) s.ifr store at → KeepsByte s (press_statement s o).state store at
 press_keeps s store at None none = itself s store at
 press_keeps s store at (Some n) none = button_keeps s n store at (number n.op == RESET_BUTTON) none
 
 -- ---- the blocks of a response
 
-password_keeps : (s : State) (q : Placed) (bytes : List ℕ) (store at : ℕ) (is : Bool) → NoneHas (named_if (Some q) (cond is (denied s (denied_by Password q)) (set_question s (Some q) (inputs.field bytes))).reply) s.ifr store at
+password_keeps : (s : State) (q : Node) (bytes : List ℕ) (store at : ℕ) (is : Bool) → NoneHas (named_if (Some q) (cond is (denied s (denied_by Password q)) (set_question s (Some q) (inputs.field bytes))).reply) s.ifr store at
     → KeepsByte s (cond is (denied s (denied_by Password q)) (set_question s (Some q) (inputs.field bytes))).state store at
 password_keeps s q bytes store at true none = itself s store at
 password_keeps s q bytes store at false none = setting_keeps s (Some q) (inputs.field bytes) store at none
 
-set_field_keeps : (s : State) (o : Option Placed) (bytes : List ℕ) (store at : ℕ) → NoneHas (named_if o (set_field s o bytes).reply) s.ifr store at → KeepsByte s (set_field s o bytes).state store at
+set_field_keeps : (s : State) (o : Option Node) (bytes : List ℕ) (store at : ℕ) → NoneHas (named_if o (set_field s o bytes).reply) s.ifr store at → KeepsByte s (set_field s o bytes).state store at
 set_field_keeps s None bytes store at none = itself s store at
 set_field_keeps s (Some q) bytes store at none = password_keeps s q bytes store at (is_password q) none
 
@@ -450,7 +450,7 @@ keeps s (order ∷ orders) store at same none =
 
 -- A question of the package has the byte.
 abbrev IsOfQuestion : List ℕ → ℕ → ℕ → Type 0
-IsOfQuestion ifr store at = (n : Placed) × (field : Field) × Contains (nodes_of ifr) n × (is_question n ≡ true) × (field_of (nodes_of ifr) n ≡ Some field)
+IsOfQuestion ifr store at = (n : Node) × (field : Field) × Contains (nodes_of ifr) n × (is_question n ≡ true) × (field_of (nodes_of ifr) n ≡ Some field)
     × (store ≡ field.store) × (field.offset ≤ at) × (at < field.offset + field.width)
 
 -- Both stores have one shape, and hold the same where no question has a byte.
@@ -518,7 +518,7 @@ one_byte (Some x) (Some y) = elim (cases_Bool (x == y)) [
 ]
 
 -- a question whose field has a byte that differs is changed
-other_there : (s : State) (n : Placed) (field : Field) (store at : ℕ) → shape_of s.committed ≡ shape_of s.working → field_of (nodes_of s.ifr) n ≡ Some field → store ≡ field.store → field.offset ≤ at → at < field.offset + field.width
+other_there : (s : State) (n : Node) (field : Field) (store at : ℕ) → shape_of s.committed ≡ shape_of s.working → field_of (nodes_of s.ifr) n ≡ Some field → store ≡ field.store → field.offset ≤ at → at < field.offset + field.width
     → (byte_of s.working store at ≡ byte_of s.committed store at → ⊥) → is_other s n ≡ true
 other_there s n field store at shapes found here from inside differ = elim (cases_Bool (is_other s n)) [
   | inl is ↦ is

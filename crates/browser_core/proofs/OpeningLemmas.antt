@@ -17,7 +17,7 @@ use Rattle.hii_packages.proofs.PlaceLemmas as list_places
 use Rattle.hii_packages.proofs.FormsLemmas.{there_without_fault}
 use Rattle.hii_languages.specs.Languages.{Spoken, string_packages, AreSpoken, IsStringsFault, chosen}
 use Rattle.hii_languages.proofs.SpokenLemmas.{spoken_sound}
-use Rattle.ifr_opcodes.specs.Forest.{Placed, places}
+use Rattle.ifr_opcodes.specs.Forest.{Node, places}
 use Rattle.ifr_scopes.specs.Accepted.{IsAccepted, IsPackageFault}
 use Rattle.ifr_scopes.specs.Nodes.{nodes_of, is_form}
 use Rattle.ifr_scopes.proofs.AcceptedLemmas.{accepted_no_fault}
@@ -234,7 +234,7 @@ refuses_image list n stores ifr shape fault f b laid r =
     (subst (λ shape. Refuses (IsImageFault shape stores) fault) laid r))
 
 -- what the bytes open
-pub opened : (list : List ℕ) (n : ℕ) (stores language : List ℕ) (packages : List (List ℕ)) (source : Entry) (start : State) (shape : Shape) (first : Placed) (others : List Placed)
+pub opened : (list : List ℕ) (n : ℕ) (stores language : List ℕ) (packages : List (List ℕ)) (source : Entry) (start : State) (shape : Shape) (first : Node) (others : List Node)
     → SpellsPackages list packages → nth_forms packages n ≡ Some source → start.ifr ≡ source.bytes → AreSpoken (string_packages packages) start.spoken → start.language ≡ chosen start.spoken language
     → IsBrowsable start.ifr → shape ≡ layout_in start.ifr → SpellsImage shape stores start.committed
     → start.working ≡ start.committed → start.removed ≡ removed_at (nodes_of start.ifr) start.working → filter is_form (nodes_of start.ifr) ≡ first ∷ others → start.form ≡ first.place → start.history ≡ [] → start.path ≡ device_path_of packages

@@ -6,7 +6,7 @@ use Rattle.config_text.specs.Grammar.{Named, Area}
 use Rattle.config_text.specs.Reading.{configuration_in}
 use Rattle.config_text.specs.declared.kind.TextKind.TheVariants.{Ask, Tell}
 use Rattle.ifr_opcodes.specs.Fields.{ref_target}
-use Rattle.ifr_opcodes.specs.Forest.{Placed}
+use Rattle.ifr_opcodes.specs.Forest.{Node}
 use Rattle.ifr_opcodes.specs.Opcode.{number}
 use Rattle.ifr_opcodes.specs.declared.codes.TheConstants.{RESET_BUTTON}
 use Rattle.ifr_scopes.specs.Nodes.{nodes_of, is_reference}
@@ -38,21 +38,21 @@ Leaves s o = (o.reply ≡ Accepted → ⊥) → o.state ≡ s
 
 -- ---- a question
 
-forbidden_leaves : (s : State) (new : StoreMap) (q : Placed) (o : Option Denial) → Leaves s (set_unless_forbidden s new q o)
+forbidden_leaves : (s : State) (new : StoreMap) (q : Node) (o : Option Denial) → Leaves s (set_unless_forbidden s new q o)
 forbidden_leaves s new q (Some denial) none = refl
 forbidden_leaves s new q None none = absurd (none refl)
 
-fitting_leaves : (s : State) (q : Placed) (values : List ℕ) (r : Result (List ℕ) DenialKind) → Leaves s (set_fitting s q values r)
+fitting_leaves : (s : State) (q : Node) (values : List ℕ) (r : Result (List ℕ) DenialKind) → Leaves s (set_fitting s q values r)
 fitting_leaves s q values (Err _) none = refl
 fitting_leaves s q values (Ok bytes) none =
     let new = with_field s.working (field_of (nodes_of s.ifr) q) bytes in
     forbidden_leaves s new q (value_denial (world_of s) new q values) none
 
-unless_leaves : (s : State) (q : Placed) (offer : Offer) (o : Option Denial) → Leaves s (set_unless_fixed s q offer o)
+unless_leaves : (s : State) (q : Node) (offer : Offer) (o : Option Denial) → Leaves s (set_unless_fixed s q offer o)
 unless_leaves s q offer (Some denial) none = refl
 unless_leaves s q offer None none = fitting_leaves s q (values_offered q offer) (fits (nodes_of s.ifr) q offer) none
 
-set_leaves : (s : State) (o : Option Placed) (offer : Offer) → Leaves s (set_question s o offer)
+set_leaves : (s : State) (o : Option Node) (offer : Offer) → Leaves s (set_question s o offer)
 set_leaves s None offer none = refl
 set_leaves s (Some q) offer none = unless_leaves s q offer (fixed (world_of s) q) none
 
@@ -62,42 +62,42 @@ why_leaves s None none = refl
 
 -- ---- a button
 
-unfixed_leaves : (s : State) (button : Placed) (o : Option Denial) → Leaves s (press_unless_fixed s button o)
+unfixed_leaves : (s : State) (button : Node) (o : Option Denial) → Leaves s (press_unless_fixed s button o)
 unfixed_leaves s button (Some denial) none = refl
 unfixed_leaves s button None none = absurd (none refl)
 
-button_leaves : (s : State) (n : Placed) (is : Bool) → Leaves s (cond is (press_unless_fixed s n (fixed (world_of s) n)) (denied s (denied_by NotButton n)))
+button_leaves : (s : State) (n : Node) (is : Bool) → Leaves s (cond is (press_unless_fixed s n (fixed (world_of s) n)) (denied s (denied_by NotButton n)))
 button_leaves s n true none = unfixed_leaves s n (fixed (world_of s) n) none
 button_leaves s n false none = refl
 
-press_leaves : (s : State) (o : Option Placed) → Leaves s (press_statement s o)
+press_leaves : (s : State) (o : Option Node) → Leaves s (press_statement s o)
 press_leaves s None none = refl
 press_leaves s (Some n) none = button_leaves s n (number n.op == RESET_BUTTON) none
 
 -- ---- from form to form
 
-room_leaves : (s : State) (form : Placed) (room : Bool)
+room_leaves : (s : State) (form : Node) (room : Bool)
     → Leaves s (cond room (accepted (record s { form = form.place; history = s.history ++ s.form ∷ [] }) ok_text) (denied s (denied_by_none DeepHistory)))
 room_leaves s form true none = absurd (none refl)
 room_leaves s form false none = refl
 
-hidden_leaves : (s : State) (form : Placed) (o : Option Denial) → Leaves s (show_unless_hidden s form o)
+hidden_leaves : (s : State) (form : Node) (o : Option Denial) → Leaves s (show_unless_hidden s form o)
 hidden_leaves s form (Some denial) none = refl
 hidden_leaves s form None none = room_leaves s form (nat_lt (length s.history) 32) none
 
-target_leaves : (s : State) (q : Placed) (o : Option Placed) → Leaves s (go_to s q o)
+target_leaves : (s : State) (q : Node) (o : Option Node) → Leaves s (go_to s q o)
 target_leaves s q None none = refl
 target_leaves s q (Some form) none = hidden_leaves s form (hidden (world_of s) form) none
 
-fixed_leaves : (s : State) (q : Placed) (o : Option Denial) → Leaves s (go_unless_fixed s q o)
+fixed_leaves : (s : State) (q : Node) (o : Option Denial) → Leaves s (go_unless_fixed s q o)
 fixed_leaves s q (Some denial) none = refl
 fixed_leaves s q None none = target_leaves s q (option_and_then (form_with (nodes_of s.ifr)) (ref_target q.op)) none
 
-reference_leaves : (s : State) (q : Placed) (leads : Bool) → Leaves s (cond leads (go_unless_fixed s q (fixed (world_of s) q)) (denied s (denied_by NotRef q)))
+reference_leaves : (s : State) (q : Node) (leads : Bool) → Leaves s (cond leads (go_unless_fixed s q (fixed (world_of s) q)) (denied s (denied_by NotRef q)))
 reference_leaves s q true none = fixed_leaves s q (fixed (world_of s) q) none
 reference_leaves s q false none = refl
 
-follow_leaves : (s : State) (o : Option Placed) → Leaves s (follow s o)
+follow_leaves : (s : State) (o : Option Node) → Leaves s (follow s o)
 follow_leaves s None none = refl
 follow_leaves s (Some q) none = reference_leaves s q (is_reference q) none
 

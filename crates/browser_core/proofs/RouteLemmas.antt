@@ -3,7 +3,7 @@ use Rattle.std.proofs.Common.{◌≡◌, ℕ, zero, suc, ◌+◌, ◌-◌, ◌<�
 use Rattle.std.specs.List.{AllByRecursion}
 use Rattle.std.specs.Option.{IsSomeAnd}
 use Rattle.config_text.specs.Grammar.{Named, Area}
-use Rattle.ifr_opcodes.specs.Forest.{Placed}
+use Rattle.ifr_opcodes.specs.Forest.{Node}
 use Rattle.ifr_scopes.specs.Nodes.{nodes_of}
 use Rattle.ifr_scopes.specs.declared.around.Around.{Around}
 use Rattle.hii_varstore.specs.Layout.{Shape}
@@ -57,7 +57,7 @@ block_is policy m store block q around s bytes o chosen same over e =
     let there = sym (set_there policy m (block_field store block) s over) ∙ chosen.1 in
     let free : unless (fixed (world_of s) (question_node q)) ≡ Ok tt = subst (λ (w : World). unless (fixed w (question_node q)) ≡ Ok tt) (over_world policy m s over) (ap unless chosen.3) in
     let not_it = chosen.2 in
-    ap (λ (o : Option Placed). set_field s o (block_bytes block)) there
+    ap (λ (o : Option Node). set_field s o (block_bytes block)) there
     ∙ ap (λ (bs : List ℕ). set_field s (Some (question_node q)) bs) (sym same)
     ∙ no_password s (question_node q) bytes not_it
     ∙ free_question s (question_node q) (field bytes) free
@@ -207,12 +207,12 @@ of_both P [] block all = (tt, all.0)
 of_both P (b ∷ blocks) block all = let rest = of_both P blocks block all.1 in ((all.0, rest.0), rest.1)
 
 -- what a block writes that is set
-one_write : (s next : State) (store : ℕ) (block : Area) (rest : List Area) (n : Placed) (text : List ℕ) → set_block s store block ≡ accepted next text → question_of_field (world_of s) (nodes_of s.ifr) (block_field store block) ≡ Some n
+one_write : (s next : State) (store : ℕ) (block : Area) (rest : List Area) (n : Node) (text : List ℕ) → set_block s store block ≡ accepted next text → question_of_field (world_of s) (nodes_of s.ifr) (block_field store block) ≡ Some n
     → field_of (nodes_of s.ifr) n ≡ Some (block_field store block)
     → written_by s store (block ∷ rest) ≡ record { writes = range_of_field (block_field store block) ∷ (written_by next store rest).writes; state = (written_by next store rest).state }
 one_write s next store block rest n text sets asks has =
     ap (λ (o : Outcome). and_then s (question_of_field (world_of s) (nodes_of s.ifr) (block_field store block)) o.reply (written_by o.state store rest)) sets
-    ∙ ap (λ (q : Option Placed). and_then s q Accepted (written_by next store rest)) asks
+    ∙ ap (λ (q : Option Node). and_then s q Accepted (written_by next store rest)) asks
     ∙ ap (λ (f : Option fields.Field). record { writes = write_of f ++ (written_by next store rest).writes; state = (written_by next store rest).state }) has
 
 no_write : (s : State) (store : ℕ) (block : Area) (rest : List Area) (denial : Denial) → set_block s store block ≡ denied s denial → written_by s store (block ∷ rest) ≡ record { writes = []; state = s }
@@ -220,7 +220,7 @@ no_write s store block rest denial denies =
     ap (λ (o : Outcome). and_then s (question_of_field (world_of s) (nodes_of s.ifr) (block_field store block)) o.reply (written_by o.state store rest)) denies
     ∙ nothing (question_of_field (world_of s) (nodes_of s.ifr) (block_field store block))
   where
-    nothing : (q : Option Placed) → and_then s q (Denied denial) (written_by s store rest) ≡ record { writes = []; state = s }
+    nothing : (q : Option Node) → and_then s q (Denied denial) (written_by s store rest) ≡ record { writes = []; state = s }
     nothing None = refl
     nothing (Some q) = refl
 
@@ -245,7 +245,7 @@ set_next policy store all left rest block m now new count own e h sets = record 
       let next = written_by (later s new.stores) store rest in
       record {
         front = so_far.front ++ here ∷ [];
-        counted = ap (λ (it : KeptMap). it.renewed) sets.1 ∙ ap (λ (nodes : List Placed). kept.counted now.renewed (renewals nodes here)) ns
+        counted = ap (λ (it : KeptMap). it.renewed) sets.1 ∙ ap (λ (nodes : List Node). kept.counted now.renewed (renewals nodes here)) ns
             ∙ ap (λ (n : ℕ). kept.counted n (renewals (nodes_of s.ifr) here)) so_far.counted ∙ sym (counted_all-append m.renewed (nodes_of s.ifr) so_far.front (here ∷ []));
         whole = so_far.whole ∙ ap (λ (b : Blocks). record { writes = so_far.front ++ b.writes; state = b.state })
             (ap (written_by (later s now.stores) store) e ∙ one_write (later s now.stores) (later s new.stores) store block rest one.1 one.0 one.2 one.3 one.4)
@@ -312,7 +312,7 @@ all_back policy store all left rest block m now tried back spare new count denia
             let all_of : written_by s store all ≡ record { writes = said.front ++ []; state = later s now.stores } =
             said.whole ∙ ap (λ (b : Blocks). record { writes = said.front ++ b.writes; state = b.state }) (ap (written_by (later s now.stores) store) e ∙ no_write (later s now.stores) store block rest denial denies) in (
               h.told first s text over ∙ ap (set_blocks first text store (later s now.stores)) e ∙ first_denies first (later s now.stores) text store block rest denial denies,
-              ap (λ (it : KeptMap). it.renewed) left_is ∙ ap (λ (nodes : List Placed). kept.counted now.renewed (renewals nodes last)) ns ∙ ap (λ (n : ℕ). kept.counted n (renewals (nodes_of s.ifr) last)) said.counted
+              ap (λ (it : KeptMap). it.renewed) left_is ∙ ap (λ (nodes : List Node). kept.counted now.renewed (renewals nodes last)) ns ∙ ap (λ (n : ℕ). kept.counted n (renewals (nodes_of s.ifr) last)) said.counted
                   ∙ sym (counted_all-append m.renewed (nodes_of s.ifr) said.front (last ∷ []))
                   ∙ ap (λ (ws : List Write). counted_all m.renewed (nodes_of s.ifr) (ws ++ last ∷ [])) (sym (append-nil said.front))
                   ∙ ap (λ (b : Blocks). counted_all m.renewed (nodes_of s.ifr) (b.writes ++ difference b.state.working m.stores ∷ [])) (sym all_of),

@@ -4,7 +4,7 @@ use Rattle.std.specs.Prelude.{Contains}
 use Rattle.std.specs.List.{AllByRecursion, flat_map}
 use Rattle.std.proofs.lemmas.List.{places, same_lists}
 use Rattle.ifr_opcodes.specs.Fields.{reset_default}
-use Rattle.ifr_opcodes.specs.Forest.{Placed}
+use Rattle.ifr_opcodes.specs.Forest.{Node}
 use Rattle.ifr_opcodes.specs.Opcode.{number}
 use Rattle.ifr_opcodes.specs.declared.codes.TheConstants.{RESET_BUTTON}
 use Rattle.ifr_expr.specs.Meaning.{answered}
@@ -103,7 +103,7 @@ field_shape m (Some f) new = shape_after m f.store f.offset new
 
 -- ---- what questions answer
 
-value_alike : (a b : StoreMap) (n : Placed) (o : Option Field) → field_bytes a o ≡ field_bytes b o → value_of_field a n o ≡ value_of_field b n o
+value_alike : (a b : StoreMap) (n : Node) (o : Option Field) → field_bytes a o ≡ field_bytes b o → value_of_field a n o ≡ value_of_field b n o
 value_alike a b n None e = refl
 value_alike a b n (Some field) e = ap (value_of_bytes (type_of n)) e
 
@@ -112,19 +112,19 @@ all_within : (P : ℕ → Type 0) (ids xs : List ℕ) → ((id : ℕ) → Contai
 all_within P ids [] holds within = tt
 all_within P ids (x ∷ xs) holds within = (holds x (within x (0, omega arith, refl)), all_within P ids xs holds (λ y there. within y (further x xs y there)))
 
-module _ (ns : List Placed) (ids : List ℕ) (a b : StoreMap) (alike : HoldAlike ns ids a b) where
-  one_answer : (id : ℕ) (o : Option Placed) → Contains ids id → question_with ns id ≡ o → answer_of ns a o ≡ answer_of ns b o
+module _ (ns : List Node) (ids : List ℕ) (a b : StoreMap) (alike : HoldAlike ns ids a b) where
+  one_answer : (id : ℕ) (o : Option Node) → Contains ids id → question_with ns id ≡ o → answer_of ns a o ≡ answer_of ns b o
   one_answer id None within e = refl
   one_answer id (Some q) within e = value_alike a b q (field_of ns q) (alike id q within e)
 
   answered_alike : (id : ℕ) → Contains ids id → answered (answers ns a) id ≡ answered (answers ns b) id
   answered_alike id within = ap (λ (v : Value). cond (id == 0) undefined v) (one_answer id (question_with ns id) within refl)
 
-  abbrev HoldsAlike : Placed → Type 0
+  abbrev HoldsAlike : Node → Type 0
   HoldsAlike c = is_met_over ns b c ≡ is_met_over ns a c
 
   -- the conditions that decide of the changes of one of these questions
-  module _ (removed : List ℕ) (q : Placed) (behind : (id : ℕ) → Contains (support_over ns (deciding q)) id → Contains ids id) where
+  module _ (removed : List ℕ) (q : Node) (behind : (id : ℕ) → Contains (support_over ns (deciding q)) id → Contains ids id) where
     all_hold : AllByRecursion HoldsAlike (deciding q)
     all_hold = all_alike ns removed a b (deciding q) (all_within (λ id. answered (answers ns a) id ≡ answered (answers ns b) id) ids (support_over ns (deciding q)) answered_alike behind)
 
@@ -163,7 +163,7 @@ module _ (s : State) (ids : List ℕ) (committed working : StoreMap) (form : ℕ
   abbrev beside : State
   beside = record s { committed = committed; working = working; form = form; history = history; path = path }
 
-  abbrev ns : List Placed
+  abbrev ns : List Node
   ns = nodes_of s.ifr
 
   abbrev Answer : Outcome → Outcome → Type 0
@@ -180,22 +180,22 @@ module _ (s : State) (ids : List ℕ) (committed working : StoreMap) (form : ℕ
   told_alike (Some d) = denied_alike d
 
   module _ (id : ℕ) (within : Contains ids id) where
-    behind : (q : Placed) → question_with ns id ≡ Some q → (other : ℕ) → Contains (support_over ns (deciding q)) other → Contains ids other
+    behind : (q : Node) → question_with ns id ≡ Some q → (other : ℕ) → Contains (support_over ns (deciding q)) other → Contains ids other
     behind q is other = sealed id other q within is
 
-    denial_alike : (o : Option Placed) → question_with ns id ≡ o → question_denial beside o ≡ question_denial s o
+    denial_alike : (o : Option Node) → question_with ns id ≡ o → question_denial beside o ≡ question_denial s o
     denial_alike None is = refl
     denial_alike (Some q) is = fixed_alike ns ids s.working working read s.removed q (behind q is)
 
-    pub why_alike : (o : Option Placed) → question_with ns id ≡ o → Answer (why_question s o) (why_question beside o)
+    pub why_alike : (o : Option Node) → question_with ns id ≡ o → Answer (why_question s o) (why_question beside o)
     why_alike o is = subst (λ d. Answer (why_question s o) (told_why beside d)) (sym (denial_alike o is)) (told_alike (question_denial s o))
 
     -- over new stores that hold the same
-    module _ (q : Placed) (is : question_with ns id ≡ Some q) (a b : StoreMap) (new : HoldAlike ns ids a b) where
+    module _ (q : Node) (is : question_with ns id ≡ Some q) (a b : StoreMap) (new : HoldAlike ns ids a b) where
       forbidden_alike : (o : Option Denial) → Answer (set_unless_forbidden s a q o) (set_unless_forbidden beside b q o)
       forbidden_alike (Some d) = denied_alike d
       forbidden_alike None = (
-        ap (λ (ws : List Placed). ok_text ++ flat_map (warning_line (texts s)) (map warning_of ws)) (sym (warned_alike ns ids a b new s.removed q (behind q is))),
+        ap (λ (ws : List Node). ok_text ++ flat_map (warning_line (texts s)) (map warning_of ws)) (sym (warned_alike ns ids a b new s.removed q (behind q is))),
         record { ifr = refl; removed = refl; spoken = refl; language = refl; committed = submitted; working = new },
       )
 
@@ -207,17 +207,17 @@ module _ (s : State) (ids : List ℕ) (committed working : StoreMap) (form : ℕ
       stores_alike : (values : List ℕ) → Answer (set_stores s a q values) (set_stores beside b q values)
       stores_alike values = subst (λ d. Answer (set_stores s a q values) (set_unless_forbidden beside b q d)) (sym (forbids_alike values)) (forbidden_alike (value_denial (world_of s) a q values))
 
-    fitting_alike : (q : Placed) (values : List ℕ) (r : Result (List ℕ) DenialKind) → question_with ns id ≡ Some q → Answer (set_fitting s q values r) (set_fitting beside q values r)
+    fitting_alike : (q : Node) (values : List ℕ) (r : Result (List ℕ) DenialKind) → question_with ns id ≡ Some q → Answer (set_fitting s q values r) (set_fitting beside q values r)
     fitting_alike q values (Err why) is = denied_alike record { kind = why; place = q.place; message = 0 }
     fitting_alike q values (Ok bytes) is =
         stores_alike q is (with_field s.working (field_of ns q) bytes) (with_field working (field_of ns q) bytes)
         (λ other n within found. one_alike s.working working (field_of ns q) (field_of ns n) bytes shapes (read other n within found)) values
 
-    unless_alike : (q : Placed) (offer : Offer) (o : Option Denial) → question_with ns id ≡ Some q → Answer (set_unless_fixed s q offer o) (set_unless_fixed beside q offer o)
+    unless_alike : (q : Node) (offer : Offer) (o : Option Denial) → question_with ns id ≡ Some q → Answer (set_unless_fixed s q offer o) (set_unless_fixed beside q offer o)
     unless_alike q offer (Some d) is = denied_alike d
     unless_alike q offer None is = fitting_alike q (values_offered q offer) (fits ns q offer) is
 
-    pub set_alike : (offer : Offer) (o : Option Placed) → question_with ns id ≡ o → Answer (set_question s o offer) (set_question beside o offer)
+    pub set_alike : (offer : Offer) (o : Option Node) → question_with ns id ≡ o → Answer (set_question s o offer) (set_question beside o offer)
     set_alike offer None is = denied_alike no_question
     set_alike offer (Some q) is =
         subst (λ d. Answer (set_question s (Some q) offer) (set_unless_fixed beside q offer d)) (sym (denial_alike (Some q) is)) (unless_alike q offer (fixed (world_of s) q) is)
@@ -261,21 +261,21 @@ pub record Keeps (s t : State) : Type 0 where
 keeps_all : (s : State) → Keeps s s
 keeps_all s = record { ifr = refl; committed = refl; working = refl }
 
-forbidden_keeps : (s : State) (new : StoreMap) (q : Placed) (o : Option Denial) → shape_of new ≡ shape_of s.working → Keeps s (set_unless_forbidden s new q o).state
+forbidden_keeps : (s : State) (new : StoreMap) (q : Node) (o : Option Denial) → shape_of new ≡ shape_of s.working → Keeps s (set_unless_forbidden s new q o).state
 forbidden_keeps s new q (Some d) same = keeps_all s
 forbidden_keeps s new q None same = record { ifr = refl; committed = refl; working = same }
 
-fitting_keeps : (s : State) (q : Placed) (values : List ℕ) (r : Result (List ℕ) DenialKind) → Keeps s (set_fitting s q values r).state
+fitting_keeps : (s : State) (q : Node) (values : List ℕ) (r : Result (List ℕ) DenialKind) → Keeps s (set_fitting s q values r).state
 fitting_keeps s q values (Err _) = keeps_all s
 fitting_keeps s q values (Ok bytes) =
     let new = with_field s.working (field_of (nodes_of s.ifr) q) bytes in
     forbidden_keeps s new q (value_denial (world_of s) new q values) (field_shape s.working (field_of (nodes_of s.ifr) q) bytes)
 
-unless_keeps : (s : State) (q : Placed) (offer : Offer) (o : Option Denial) → Keeps s (set_unless_fixed s q offer o).state
+unless_keeps : (s : State) (q : Node) (offer : Offer) (o : Option Denial) → Keeps s (set_unless_fixed s q offer o).state
 unless_keeps s q offer (Some d) = keeps_all s
 unless_keeps s q offer None = fitting_keeps s q (values_offered q offer) (fits (nodes_of s.ifr) q offer)
 
-pub set_keeps : (s : State) (offer : Offer) (o : Option Placed) → Keeps s (set_question s o offer).state
+pub set_keeps : (s : State) (offer : Offer) (o : Option Node) → Keeps s (set_question s o offer).state
 set_keeps s offer None = keeps_all s
 set_keeps s offer (Some q) = unless_keeps s q offer (fixed (world_of s) q)
 
@@ -286,11 +286,11 @@ why_keeps s (Some d) = keeps_all s
 leaves_keep : (s t : State) → LeavesStores s t → Keeps s t
 leaves_keep s t leaves = record { ifr = leaves.ifr; committed = ap shape_of leaves.committed; working = ap shape_of leaves.working }
 
-pub offer_keeps : (t : Taken) (q : Placed) (o : Option Offer) → Keeps t.state (take_offer t q o).state
+pub offer_keeps : (t : Taken) (q : Node) (o : Option Offer) → Keeps t.state (take_offer t q o).state
 offer_keeps t q None = keeps_all t.state
 offer_keeps t q (Some offer) = set_keeps t.state offer (Some q)
 
-each_keeps : (class : ℕ) (t : Taken) (qs : List Placed) → Keeps t.state (take_each class t qs).state
+each_keeps : (class : ℕ) (t : Taken) (qs : List Node) → Keeps t.state (take_each class t qs).state
 each_keeps class t [] = keeps_all t.state
 each_keeps class t (q ∷ qs) =
     let first = offer_keeps t q (default_of (sources t.state) q class) in
@@ -300,23 +300,23 @@ each_keeps class t (q ∷ qs) =
 defaults_keep : (s : State) (class : ℕ) → Keeps s (take_defaults s class).state
 defaults_keep s class = each_keeps class record { state = s; questions = [] } (questions_in (form_of s))
 
-unfixed_keeps : (s : State) (button : Placed) (o : Option Denial) → Keeps s (press_unless_fixed s button o).state
+unfixed_keeps : (s : State) (button : Node) (o : Option Denial) → Keeps s (press_unless_fixed s button o).state
 unfixed_keeps s button (Some d) = keeps_all s
 unfixed_keeps s button None = defaults_keep s (reset_default button.op)
 
-button_keeps : (s : State) (n : Placed) (is : Bool) → Keeps s (cond is (press_unless_fixed s n (fixed (world_of s) n)) (denied s (denied_by NotButton n))).state
+button_keeps : (s : State) (n : Node) (is : Bool) → Keeps s (cond is (press_unless_fixed s n (fixed (world_of s) n)) (denied s (denied_by NotButton n))).state
 button_keeps s n true = unfixed_keeps s n (fixed (world_of s) n)
 button_keeps s n false = keeps_all s
 
-press_keeps : (s : State) (o : Option Placed) → Keeps s (press_statement s o).state
+press_keeps : (s : State) (o : Option Node) → Keeps s (press_statement s o).state
 press_keeps s None = keeps_all s
 press_keeps s (Some n) = button_keeps s n (number n.op == RESET_BUTTON)
 
-field_keeps : (s : State) (q : Placed) (bytes : List ℕ) (is : Bool) → Keeps s (cond is (denied s (denied_by Password q)) (set_question s (Some q) (inputs.field bytes))).state
+field_keeps : (s : State) (q : Node) (bytes : List ℕ) (is : Bool) → Keeps s (cond is (denied s (denied_by Password q)) (set_question s (Some q) (inputs.field bytes))).state
 field_keeps s q bytes true = keeps_all s
 field_keeps s q bytes false = set_keeps s (inputs.field bytes) (Some q)
 
-pub set_field_keeps : (s : State) (o : Option Placed) (bytes : List ℕ) → Keeps s (set_field s o bytes).state
+pub set_field_keeps : (s : State) (o : Option Node) (bytes : List ℕ) → Keeps s (set_field s o bytes).state
 set_field_keeps s None bytes = keeps_all s
 set_field_keeps s (Some q) bytes = field_keeps s q bytes (is_password q)
 

@@ -2,7 +2,7 @@
 use Rattle.std.proofs.Common.{◌≡◌, ◌⊎◌, ℕ, ◌+◌, ◌<◌, ◌≤◌, Bool, true, false, List, [], length, Option, Some, None, ◌++◌, Ok, Err, refl, sym, ap, ◌∙◌, subst, arith, inl, inr}
 use Rattle.std.specs.Prelude.{option_map, if◌then◌else◌}
 use Rattle.std.proofs.lemmas.Bool.{cases_lt}
-use Rattle.ifr_opcodes.specs.Forest.{Placed}
+use Rattle.ifr_opcodes.specs.Forest.{Node}
 use Rattle.ifr_opcodes.specs.Reading.{tree_of}
 use Rattle.ifr_scopes.specs.Accepted.{IsAccepted}
 use Rattle.ifr_scopes.specs.code.Checked.{IsNodeOf}
@@ -45,13 +45,13 @@ use Rattle.browser_core.specs.declared.reply.Reply.TheVariants.{Denied}
 -- ---- questions of the package
 
 -- the question that was found, and its field
-some_asked : (ns : List Placed) (o : Option Placed) (q : Asked) → option_map (asked ns) o ≡ Some q → (o ≡ Some q.node) × (q.field ≡ field_of ns q.node)
+some_asked : (ns : List Node) (o : Option Node) (q : Asked) → option_map (asked ns) o ≡ Some q → (o ≡ Some q.node) × (q.field ≡ field_of ns q.node)
 some_asked ns None q e = absurd cc
 some_asked ns (Some n) q e =
     let same : asked ns n ≡ q = cc in
     (ap (λ (x : Asked). Some x.node) same, ap (λ (x : Asked). x.field) (sym same) ∙ ap (λ (x : Asked). field_of ns x.node) same)
 
-with_field_of : (ns : List Placed) (q : Asked) → q.field ≡ field_of ns q.node → q ≡ asked ns q.node
+with_field_of : (ns : List Node) (q : Asked) → q.field ≡ field_of ns q.node → q ≡ asked ns q.node
 with_field_of ns q e = ap (λ (f : Option fields.Field). record { node = q.node; field = f }) e
 
 -- the question of an id
@@ -68,7 +68,7 @@ is_question_of ifr asks id q accepted same asks_it e =
       found.0,
     )
 
-none_asked : (ns : List Placed) (o : Option Placed) → None ≡ option_map (asked ns) o → o ≡ None
+none_asked : (ns : List Node) (o : Option Node) → None ≡ option_map (asked ns) o → o ≡ None
 none_asked ns None e = refl
 none_asked ns (Some n) e = absurd cc
 
@@ -77,11 +77,11 @@ no_question_of ifr asks id same e =
     none_asked (nodes_of ifr) (question_with (nodes_of ifr) id) (subst (λ (bytes : List ℕ). None ≡ option_map (asked (nodes_of bytes)) (question_with (nodes_of bytes) id)) same e)
 
 -- the question that a statement is
-asked_if : (ns : List Placed) (n : Placed) (asks : Bool) (q : Asked) → Some q ≡ (if asks then Some (asked ns n) else None) → (asks ≡ true) × (q ≡ asked ns n)
+asked_if : (ns : List Node) (n : Node) (asks : Bool) (q : Asked) → Some q ≡ (if asks then Some (asked ns n) else None) → (asks ≡ true) × (q ≡ asked ns n)
 asked_if ns n true q e = (refl, cc)
 asked_if ns n false q e = absurd cc
 
-pub is_question_at : (ifr : List ℕ) (n : Placed) (q : Asked) → IsNodeOf ifr n → Some q ≡ (if is_question n then Some (asked (nodes_of ifr) n) else None)
+pub is_question_at : (ifr : List ℕ) (n : Node) (q : Asked) → IsNodeOf ifr n → Some q ≡ (if is_question n then Some (asked (nodes_of ifr) n) else None)
     → IsQuestionIn ifr q × (q.node ≡ n) × (is_question n ≡ true)
 is_question_at ifr n q node e =
     let is = asked_if (nodes_of ifr) n (is_question n) q e in
@@ -94,10 +94,10 @@ lies_in ifr q browsable is = λ f has.
 
 -- ---- whether it takes a value
 
-pub fixed_question : (s : State) (n : Placed) (offer : Offer) (denial : Denial) → unless (fixed (world_of s) n) ≡ Err denial → set_question s (Some n) offer ≡ denied s denial
+pub fixed_question : (s : State) (n : Node) (offer : Offer) (denial : Denial) → unless (fixed (world_of s) n) ≡ Err denial → set_question s (Some n) offer ≡ denied s denial
 fixed_question s n offer denial why = let some = some_of (fixed (world_of s) n) denial why in rw some refl
 
-pub free_question : (s : State) (n : Placed) (offer : Offer) → unless (fixed (world_of s) n) ≡ Ok tt → set_question s (Some n) offer ≡ set_unless_fixed s n offer None
+pub free_question : (s : State) (n : Node) (offer : Offer) → unless (fixed (world_of s) n) ≡ Ok tt → set_question s (Some n) offer ≡ set_unless_fixed s n offer None
 free_question s n offer free = let none = none_of (fixed (world_of s) n) free in rw none refl
 
 -- a session decides over what its policy does
@@ -212,6 +212,6 @@ submits_nothing s denial why = let some = some_of (unsubmitted (world_of s)) den
 
 -- ---- a command that is denied names no question
 
-pub names_nothing : (o : Option Placed) (denial : Denial) → named_if o (Denied denial) ≡ []
+pub names_nothing : (o : Option Node) (denial : Denial) → named_if o (Denied denial) ≡ []
 names_nothing None denial = refl
 names_nothing (Some n) denial = refl

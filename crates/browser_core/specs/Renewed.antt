@@ -6,7 +6,7 @@ use Rattle.config_text.specs.Reading.{configuration_in}
 use Rattle.config_text.specs.declared.kind.TextKind.TheVariants.{Tell}
 use Rattle.hii_bytes.specs.declared.cause.Cause.{Cause}
 use Rattle.ifr_opcodes.specs.Fields.{reset_default}
-use Rattle.ifr_opcodes.specs.Forest.{Placed}
+use Rattle.ifr_opcodes.specs.Forest.{Node}
 use Rattle.ifr_scopes.specs.Nodes.{nodes_of}
 use Rattle.hii_questions.specs.Fields.{Field, field_of, question_with}
 use Rattle.hii_commands.specs.Line.{without_return}
@@ -31,19 +31,19 @@ abbrev pub write_of : Option Field → List Write
 write_of None = []
 write_of (Some field) = range_of_field field ∷ []
 
-abbrev pub field_write : List Placed → Placed → List Write
+abbrev pub field_write : List Node → Node → List Write
 field_write ns q = write_of (field_of ns q)
 
-abbrev pub field_writes : List Placed → List Placed → List Write
+abbrev pub field_writes : List Node → List Node → List Write
 field_writes ns qs = flat_map (field_write ns) qs
 
 -- the question that a command names, where it is carried out
-abbrev pub named_if : Option Placed → Reply → List Placed
+abbrev pub named_if : Option Node → Reply → List Node
 named_if (Some q) Accepted = q ∷ []
 named_if _ _ = []
 
 -- the questions that took their defaults at a button, where it was pressed
-abbrev pub pressed_if : State → Option Placed → Reply → List Placed
+abbrev pub pressed_if : State → Option Node → Reply → List Node
 pressed_if s (Some button) Accepted = (taken s (reset_default button.op)).questions
 pressed_if s _ _ = []
 
@@ -52,7 +52,7 @@ pub record Blocks : Type 0 where
   pub writes : List Write
   pub state : State
 
-abbrev pub and_then : State → Option Placed → Reply → Blocks → Blocks
+abbrev pub and_then : State → Option Node → Reply → Blocks → Blocks
 and_then s (Some q) Accepted next =
     record { writes = field_write (nodes_of s.ifr) q ++ next.writes; state = next.state }
 and_then s _ _ next = record { writes = []; state = s }

@@ -7,7 +7,7 @@ use Rattle.config_text.specs.Reading.{configuration_in}
 use Rattle.config_text.specs.Written.{blocks_asked, response_text}
 use Rattle.config_text.specs.declared.kind.TextKind.TheVariants.{Ask, Tell}
 use Rattle.hii_bytes.specs.declared.cause.Cause.{Cause}
-use Rattle.ifr_opcodes.specs.Forest.{Placed, node_at}
+use Rattle.ifr_opcodes.specs.Forest.{Node, node_at}
 use Rattle.ifr_opcodes.specs.Fields.{question_id, ref_target, reset_default}
 use Rattle.ifr_opcodes.specs.Opcode.{number}
 use Rattle.ifr_opcodes.specs.declared.codes.TheConstants.{RESET_BUTTON}
@@ -66,10 +66,10 @@ denied_by_none kind = record { kind = kind; place = 0; message = 0 }
 -- ---- page
 
 -- the current form
-abbrev pub form_of : State → Option Placed
+abbrev pub form_of : State → Option Node
 form_of s = node_at (nodes_of s.ifr) s.form
 
-abbrev pub page_at : State → Option Placed → List ℕ
+abbrev pub page_at : State → Option Node → List ℕ
 page_at s None = []
 page_at s (Some form) = page_text (texts s) (world_of s) s.working form
 
@@ -81,7 +81,7 @@ show_page s = accepted s (page_at s (form_of s))
 abbrev pub no_question : Denial
 no_question = denied_by_none NoQuestion
 
-abbrev pub question_denial : State → Option Placed → Option Denial
+abbrev pub question_denial : State → Option Node → Option Denial
 question_denial s None = Some no_question
 question_denial s (Some q) = fixed (world_of s) q
 
@@ -91,43 +91,43 @@ abbrev pub told_why : State → Option Denial → Outcome
 told_why s None = accepted s ok_text
 told_why s (Some denial) = denied s denial
 
-abbrev pub why_question : State → Option Placed → Outcome
+abbrev pub why_question : State → Option Node → Outcome
 why_question s q = told_why s (question_denial s q)
 
 -- ---- set, order and text: the question takes the value, options of the value are not all fixed, and no INCONSISTENT_IF of the
 -- question holds over the stores with the new field
 
 -- what forbids a value that the question has in new stores, where these values of options were offered
-abbrev pub value_denial : World → StoreMap → Placed → List ℕ → Option Denial
+abbrev pub value_denial : World → StoreMap → Node → List ℕ → Option Denial
 value_denial w new q values =
     or_else (first_closed w q values) (inconsistent (world_over w.nodes w.removed new) q)
 
 -- the lines of the warnings of a question, over new stores
-abbrev pub warned_text : State → StoreMap → Placed → List ℕ
+abbrev pub warned_text : State → StoreMap → Node → List ℕ
 warned_text s new q =
     flat_map (warning_line (texts s)) (map warning_of (warned (world_with s new) q))
 
-abbrev pub set_unless_forbidden : State → StoreMap → Placed → Option Denial → Outcome
+abbrev pub set_unless_forbidden : State → StoreMap → Node → Option Denial → Outcome
 set_unless_forbidden s new q (Some denial) = denied s denial
 set_unless_forbidden s new q None =
     accepted (record s { working = new }) (ok_text ++ warned_text s new q)
 
-abbrev pub set_stores : State → StoreMap → Placed → List ℕ → Outcome
+abbrev pub set_stores : State → StoreMap → Node → List ℕ → Outcome
 set_stores s new q values =
     set_unless_forbidden s new q (value_denial (world_of s) new q values)
 
-abbrev pub set_fitting : State → Placed → List ℕ → Result (List ℕ) DenialKind → Outcome
+abbrev pub set_fitting : State → Node → List ℕ → Result (List ℕ) DenialKind → Outcome
 set_fitting s q values (Err kind) =
     denied s record { kind = kind; place = q.place; message = 0 }
 set_fitting s q values (Ok bytes) =
     set_stores s (with_field s.working (field_of (nodes_of s.ifr) q) bytes) q values
 
-abbrev pub set_unless_fixed : State → Placed → Offer → Option Denial → Outcome
+abbrev pub set_unless_fixed : State → Node → Offer → Option Denial → Outcome
 set_unless_fixed s q offer (Some denial) = denied s denial
 set_unless_fixed s q offer None =
     set_fitting s q (values_offered q offer) (fits (nodes_of s.ifr) q offer)
 
-abbrev pub set_question : State → Option Placed → Offer → Outcome
+abbrev pub set_question : State → Option Node → Offer → Outcome
 set_question s None offer = denied s no_question
 set_question s (Some q) offer = set_unless_fixed s q offer (fixed (world_of s) q)
 
@@ -137,7 +137,7 @@ set_question s (Some q) offer = set_unless_fixed s q offer (fixed (world_of s) q
 -- a state, and the questions that took their defaults
 pub record Taken : Type 0 where
   pub state : State
-  pub questions : List Placed
+  pub questions : List Node
 
 -- what the defaults of a form set are taken from
 abbrev pub sources : State → Sources
@@ -147,26 +147,26 @@ sources s = record {
   texts = text_under s.spoken s.language;
 }
 
-abbrev pub taken_if : List Placed → Placed → Reply → List Placed
+abbrev pub taken_if : List Node → Node → Reply → List Node
 taken_if qs q Accepted = qs ++ q ∷ []
 taken_if qs q _ = qs
 
-abbrev pub take_set : List Placed → Placed → Outcome → Taken
+abbrev pub take_set : List Node → Node → Outcome → Taken
 take_set qs q set = record { state = set.state; questions = taken_if qs q set.reply }
 
-abbrev pub take_offer : Taken → Placed → Option Offer → Taken
+abbrev pub take_offer : Taken → Node → Option Offer → Taken
 take_offer t q None = t
 take_offer t q (Some offer) = take_set t.questions q (set_question t.state (Some q) offer)
 
 -- a question takes its default over the stores that the questions before it have left
-abbrev pub take_default : ℕ → Taken → Placed → Taken
+abbrev pub take_default : ℕ → Taken → Node → Taken
 take_default class t q = take_offer t q (default_of (sources t.state) q class)
 
-abbrev pub take_each : ℕ → Taken → List Placed → Taken
+abbrev pub take_each : ℕ → Taken → List Node → Taken
 take_each class t [] = t
 take_each class t (q ∷ qs) = take_each class (take_default class t q) qs
 
-abbrev pub questions_in : Option Placed → List Placed
+abbrev pub questions_in : Option Node → List Node
 questions_in None = []
 questions_in (Some form) = filter is_question (statements form)
 
@@ -180,17 +180,17 @@ take_defaults s class =
 
 -- ---- press: the button in a row of the page sets the defaults of its class
 
-abbrev pub press_unless_fixed : State → Placed → Option Denial → Outcome
+abbrev pub press_unless_fixed : State → Node → Option Denial → Outcome
 press_unless_fixed s button (Some denial) = denied s denial
 press_unless_fixed s button None = take_defaults s (reset_default button.op)
 
-abbrev pub press_statement : State → Option Placed → Outcome
+abbrev pub press_statement : State → Option Node → Outcome
 press_statement s None = denied s (denied_by_none NoRow)
 press_statement s (Some n) =
     if number n.op == RESET_BUTTON then press_unless_fixed s n (fixed (world_of s) n)
     else denied s (denied_by NotButton n)
 
-abbrev pub row_of_form : State → ℕ → Option Placed → Option Placed
+abbrev pub row_of_form : State → ℕ → Option Node → Option Node
 row_of_form s row None = None
 row_of_form s row (Some form) = statement_in_row (world_of s) form row
 
@@ -200,27 +200,27 @@ press s row = press_statement s (row_of_form s row (form_of s))
 -- ---- go: a reference that may be selected leads to a form that is not hidden, and the current form is kept, where fewer than 32
 -- are (UEFI 2.8, 33.3.8.3, EFI_IFR_REF; the history is an own rule)
 
-abbrev pub show_form : State → Placed → Outcome
+abbrev pub show_form : State → Node → Outcome
 show_form s form =
     if nat_lt (length s.history) 32
     then accepted (record s { form = form.place; history = s.history ++ s.form ∷ [] }) ok_text
     else denied s (denied_by_none DeepHistory)
 
-abbrev pub show_unless_hidden : State → Placed → Option Denial → Outcome
+abbrev pub show_unless_hidden : State → Node → Option Denial → Outcome
 show_unless_hidden s form (Some denial) = denied s denial
 show_unless_hidden s form None = show_form s form
 
 -- A reference that leads to no form of the form set is outside.
-abbrev pub go_to : State → Placed → Option Placed → Outcome
+abbrev pub go_to : State → Node → Option Node → Outcome
 go_to s q None = denied s (denied_by Outside q)
 go_to s q (Some form) = show_unless_hidden s form (hidden (world_of s) form)
 
-abbrev pub go_unless_fixed : State → Placed → Option Denial → Outcome
+abbrev pub go_unless_fixed : State → Node → Option Denial → Outcome
 go_unless_fixed s q (Some denial) = denied s denial
 go_unless_fixed s q None =
     go_to s q (option_and_then (form_with (nodes_of s.ifr)) (ref_target q.op))
 
-abbrev pub follow : State → Option Placed → Outcome
+abbrev pub follow : State → Option Node → Outcome
 follow s None = denied s no_question
 follow s (Some q) =
     if is_reference q then go_unless_fixed s q (fixed (world_of s) q)
@@ -240,13 +240,13 @@ go_back s = go_back_to s (slice_get s.history (length s.history - 1))
 -- Grammar; what is not told is an own rule)
 
 -- what forbids that a block of a store of so many bytes is told
-abbrev pub telling_denial : List Placed → ℕ → ℕ → Area → Option Denial
+abbrev pub telling_denial : List Node → ℕ → ℕ → Area → Option Denial
 telling_denial ns store size block =
     if leaves_store size block then Some (denied_by_none NoField)
     else option_map (λ q. denied_by Password q.node) (password_in ns (block_field store block))
 
 -- the first block that may not be told denies
-abbrev pub first_untold : List Placed → ℕ → ℕ → List Area → Option Denial
+abbrev pub first_untold : List Node → ℕ → ℕ → List Area → Option Denial
 first_untold ns store size [] = None
 first_untold ns store size (block ∷ blocks) =
     or_else (telling_denial ns store size block) (first_untold ns store size blocks)
@@ -280,7 +280,7 @@ extract s text = extract_reading s (configuration_in Ask text)
 -- ---- route: the questions of all blocks take their values, one after the other, or none does (an own rule)
 
 -- the question of a block takes its value, where it is no password
-abbrev pub set_field : State → Option Placed → List ℕ → Outcome
+abbrev pub set_field : State → Option Node → List ℕ → Outcome
 set_field s None bytes = denied s (denied_by_none NoField)
 set_field s (Some q) bytes =
     if is_password q then denied s (denied_by Password q)
@@ -319,16 +319,16 @@ route s text = route_reading s (configuration_in Tell text)
 -- ---- submit and discard
 
 -- the field of a question holds other bytes than when it was last submitted
-abbrev pub is_other : State → Placed → Bool
+abbrev pub is_other : State → Node → Bool
 is_other s n =
     not (are_same_bytes (field_bytes s.committed (field_of (nodes_of s.ifr) n))
     (field_bytes s.working (field_of (nodes_of s.ifr) n)))
 
 -- the questions whose fields hold other bytes than when they were last submitted, by place
-abbrev pub is_changed : State → Placed → Bool
+abbrev pub is_changed : State → Node → Bool
 is_changed s n = is_question n && is_other s n
 
-abbrev pub changed : State → List Placed
+abbrev pub changed : State → List Node
 changed s = filter (is_changed s) (nodes_of s.ifr)
 
 abbrev pub commit : State → Outcome

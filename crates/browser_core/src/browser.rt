@@ -5,7 +5,7 @@ ghost use Rattle.hii_bytes.specs.Faults.{Refuses, IsLeast, out_of_memory};
 ghost use Rattle.hii_bytes.specs.Watching.{Puts};
 ghost use Rattle.hii_packages.specs.code.Package.{entry_of};
 ghost use Rattle.hii_packages.specs.Packages.{SpellsPackages, nth_forms};
-ghost use Rattle.ifr_opcodes.specs.Forest.{Placed};
+ghost use Rattle.ifr_opcodes.specs.Forest.{Node};
 ghost use Rattle.ifr_scopes.specs.Accepted.{IsAccepted};
 ghost use Rattle.ifr_scopes.specs.code.Checked.{IsNodeOf};
 ghost use Rattle.ifr_scopes.specs.code.Lists.{form_node, statement_node};
@@ -732,7 +732,7 @@ fn find_source(list: &[u8], number: usize) -> Result<Source<'_>, Fault>
 // The first form, by place.
 fn first_form<'a>(forms: &Forms<'a>) -> Form<'a>
     requires { IsAccepted forms.now }
-    ensures first { (others : List Placed)
+    ensures first { (others : List Node)
         × (filter is_form (nodes_of forms.now) ≡ form_node result ∷ others) }
     ensures node { IsNodeOf forms.now (form_node result) }
 {

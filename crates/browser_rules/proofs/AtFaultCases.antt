@@ -1,6 +1,6 @@
 -- What a fault leaves: the reader, or the writer, of a worked case fails behind so many bytes.
-use Rattle.std.proofs.Common.{refl, inl, inr}
-use Rattle.std.specs.Prelude.{ℕ, true, List, [], ◌∷◌, take, None}
+use Rattle.std.proofs.Common.{refl, inr}
+use Rattle.std.specs.Prelude.{ℕ, true, [], ◌∷◌, take, None}
 use Rattle.std.proofs.lemmas.Bool.{leb-true}
 use Rattle.browser_rules.specs.Stores.{Stores}
 use Rattle.browser_rules.specs.Session.{State}

@@ -1,8 +1,8 @@
 -- The forest that a forms package spells, and its nodes by place (UEFI 2.8, 33.3.8 Forms Package and 33.3.8.2.1; which
 -- bytes spell one, Faults says: those whose framing has no fault).
-use Rattle.std.specs.Prelude.{ℕ, zero, suc, ◌+◌, ◌%◌, ◌==◌, if◌then◌else◌, Option, List, [], ◌∷◌, ◌++◌, length, take}
-use Rattle.std.specs.Prelude.{drop, slice_index}
-use Rattle.std.specs.List.{find, concat}
+use Rattle.std.specs.Prelude.{ℕ, zero, suc, ◌+◌, ◌%◌, ◌==◌, if◌then◌else◌, Option, Some, None, List, [], ◌∷◌, ◌++◌}
+use Rattle.std.specs.Prelude.{length, take, drop, slice_index}
+use Rattle.std.specs.List.{concat}
 use Rattle.browser_rules.specs.Opcodes.{number, has_scope}
 
 -- ---- opcodes: a number, a byte with the length in its low seven bits and Scope in the top one, and fields
@@ -28,6 +28,7 @@ cut (suc n) bytes =
 pub data Forest : Type 0 where
   none : Forest
   node : (op : List ℕ) (children rest : Forest) → Forest
+  deriving IsSet as Forest-set
 
 -- its opcodes, each followed, where it has Scope, by those of its children and an END; and their bytes
 abbrev pub opcodes : Forest → List (List ℕ)
@@ -81,8 +82,10 @@ nodes_at at path (node op children rest) =
 abbrev pub nodes_of : List ℕ → List Node
 nodes_of ifr = nodes_at 4 [] (tree_of ifr)
 
+-- the first of some nodes that stands at a place
 abbrev pub node_at : List Node → ℕ → Option Node
-node_at ns place = find (λ n. n.place == place) ns
+node_at [] place = None
+node_at (n ∷ ns) place = if n.place == place then Some n else node_at ns place
 
 -- what stands in a node's scope, at any depth, and where the node ends, its END counted
 abbrev pub below : Node → List Node

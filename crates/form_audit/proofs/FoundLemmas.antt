@@ -8,7 +8,7 @@ use Rattle.std.proofs.lemmas.List.Folds.{list_any-append}
 use Rattle.hii_bytes.specs.Faults.{HasNone, IsFaultOf}
 use Rattle.hii_bytes.specs.declared.cause.Cause.TheVariants.{DuplicateForm}
 use Rattle.ifr_opcodes.specs.Fields.{ref_target}
-use Rattle.ifr_opcodes.specs.Forest.{Placed}
+use Rattle.ifr_opcodes.specs.Forest.{Node}
 use Rattle.ifr_scopes.specs.Accepted.{IsAccepted}
 use Rattle.ifr_scopes.specs.Nodes.{nodes_of, is_form, is_reference}
 use Rattle.ifr_scopes.specs.References.{Ranked, ranked, has_form_id, has_reference_fault, form_with}
@@ -22,26 +22,26 @@ use Rattle.form_audit.proofs.MetLemmas.{id_of}
 
 -- ---- forms that are found by their own ids
 
-abbrev pub IsFound : List Placed → Placed → Type 0
+abbrev pub IsFound : List Node → Node → Type 0
 IsFound ns form = form_with ns (id_of form) ≡ Some form
 
 -- no two of one id are found
-pub same_found : (ns : List Placed) (f g : Placed) → IsFound ns f → IsFound ns g → id_of f ≡ id_of g → f ≡ g
+pub same_found : (ns : List Node) (f g : Node) → IsFound ns f → IsFound ns g → id_of f ≡ id_of g → f ≡ g
 same_found ns f g one other e = let same : Some f ≡ Some g = sym one ∙ ap (form_with ns) e ∙ other in cc
 
 -- the first form is found
-pub first_found : (ns : List Placed) (first : Placed) (others : List Placed) → filter is_form ns ≡ first ∷ others → IsFound ns first
+pub first_found : (ns : List Node) (first : Node) (others : List Node) → filter is_form ns ≡ first ∷ others → IsFound ns first
 first_found [] first others e = absurd cc
 first_found (n ∷ ns) first others e = elim (cases_Bool (is_form n)) [
   | inl is ↦
       let same : n ≡ first = let filled = rw is at e in cc in
-      subst (λ (f : Placed). IsFound (n ∷ ns) f) same (cond-true (has_form_id (id_of n) n) (Some n) (form_with ns (id_of n)) (rw (is, eq-eqb (id_of n) (id_of n) refl) refl))
+      subst (λ (f : Node). IsFound (n ∷ ns) f) same (cond-true (has_form_id (id_of n) n) (Some n) (form_with ns (id_of n)) (rw (is, eq-eqb (id_of n) (id_of n) refl) refl))
   | inr other ↦
       cond-false (has_form_id (id_of first) n) (Some n) (form_with ns (id_of first)) (rw other refl) ∙ first_found ns first others (rw other at e)
 ]
 
 -- so is a form to which a statement leads
-pub led_found : (w : World) (n to : Placed) → led_to w n ≡ Some to → IsFound w.nodes to
+pub led_found : (w : World) (n to : Node) → led_to w n ≡ Some to → IsFound w.nodes to
 led_found w n to e = through (is_reference n && is_none (fixed w n)) (ref_target n.op) e
   where
     through : (b : Bool) (target : Option ℕ) → cond b (option_and_then (form_with w.nodes) target) None ≡ Some to → IsFound w.nodes to
@@ -54,13 +54,13 @@ led_found w n to e = through (is_reference n && is_none (fixed w n)) (ref_target
 -- ---- the forms of an accepted package are found by their ids
 
 -- a node among others that were ranked behind some
-pub record IsRanked (before ns : List Placed) (n : Placed) (p : Placed → Bool) : Type 0 where
+pub record IsRanked (before ns : List Node) (n : Node) (p : Node → Bool) : Type 0 where
   pub rank : Ranked
   pub within : Contains (ranked before ns) rank
   pub node : rank.node ≡ n
   pub behind : list_any p before ≡ true → list_any p rank.before ≡ true
 
-ranked_of : (before ns : List Placed) (n : Placed) (p : Placed → Bool) → Contains ns n → IsRanked before ns n p
+ranked_of : (before ns : List Node) (n : Node) (p : Node → Bool) → Contains ns n → IsRanked before ns n p
 ranked_of before [] n p (k, lt, e) = absurd (omega arith)
 ranked_of before (m ∷ ns) n p (zero, lt, e) = record { rank = record { before = before; node = m }; within = (0, omega arith, refl); node = e; behind = λ h. h }
 ranked_of before (m ∷ ns) n p (suc k, lt, e) =
@@ -75,10 +75,10 @@ ranked_of before (m ∷ ns) n p (suc k, lt, e) =
 abbrev pub rank_place : Ranked → ℕ
 rank_place r = r.node.place
 
-form_found : (all before ns : List Placed) (form : Placed) → HasNone (IsFaultOf rank_place (has_reference_fault all) (ranked before ns)) → is_form form ≡ true → Contains ns form → IsFound ns form
+form_found : (all before ns : List Node) (form : Node) → HasNone (IsFaultOf rank_place (has_reference_fault all) (ranked before ns)) → is_form form ≡ true → Contains ns form → IsFound ns form
 form_found all before [] form none is (k, lt, e) = absurd (omega arith)
 form_found all before (n ∷ ns) form none is (zero, lt, e) =
-    subst (λ (f : Placed). IsFound (n ∷ ns) f) e (cond-true (has_form_id (id_of n) n) (Some n) (form_with ns (id_of n)) (rw (ap is_form e ∙ is, eq-eqb (id_of n) (id_of n) refl) refl))
+    subst (λ (f : Node). IsFound (n ∷ ns) f) e (cond-true (has_form_id (id_of n) n) (Some n) (form_with ns (id_of n)) (rw (ap is_form e ∙ is, eq-eqb (id_of n) (id_of n) refl) refl))
 form_found all before (n ∷ ns) form none is (suc k, lt, e) =
     let p = has_form_id (id_of form) in
     let there : Contains ns form = (k, omega arith, e) in
@@ -93,7 +93,7 @@ form_found all before (n ∷ ns) form none is (suc k, lt, e) =
           ∙ form_found all (before ++ n ∷ []) ns form (λ cause place fault. none cause place (fault.0, further (record { before = before; node = n }) (ranked (before ++ n ∷ []) ns) fault.0 fault.1, fault.2, fault.3)) is there
     ]
 
-pub accepted_found : (bytes : List ℕ) → IsAccepted bytes → (form : Placed) → Contains (filter is_form (nodes_of bytes)) form → IsFound (nodes_of bytes) form
+pub accepted_found : (bytes : List ℕ) → IsAccepted bytes → (form : Node) → Contains (filter is_form (nodes_of bytes)) form → IsFound (nodes_of bytes) form
 accepted_found bytes accepted form there =
     let its = passing is_form (nodes_of bytes) form there in
     form_found (nodes_of bytes) [] (nodes_of bytes) form (λ cause place fault. accepted.referred cause place (inr fault)) its.1 its.0

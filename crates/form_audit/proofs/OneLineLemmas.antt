@@ -7,7 +7,7 @@ use Rattle.std.proofs.lemmas.Grind.{flat_map-append}
 use Rattle.std.proofs.lemmas.List.Elements.{filter-append, Contains-append_left, Contains-append_right, Contains-get_or}
 use Rattle.ifr_opcodes.specs.declared.codes.TheConstants.{FORM}
 use Rattle.ifr_opcodes.specs.Opcode.{number}
-use Rattle.ifr_opcodes.specs.Forest.{Forest, none, node, flat, Ancestor, Placed, as_ancestor, nodes_at, places}
+use Rattle.ifr_opcodes.specs.Forest.{Forest, none, node, flat, Ancestor, Node, as_ancestor, nodes_at, places}
 use Rattle.ifr_opcodes.specs.Reading.{tree_of}
 use Rattle.ifr_opcodes.proofs.StatementLemmas.{question_is_statement}
 use Rattle.ifr_scopes.specs.Accepted.{IsAccepted}
@@ -27,10 +27,10 @@ use Rattle.form_audit.specs.FormLines.{form_questions}
 -- ---- the questions of forms, form by form
 
 -- the questions of the forms among nodes, form by form
-abbrev by_form : List Placed → List Placed
+abbrev by_form : List Node → List Node
 by_form ns = flat_map form_questions (filter is_form ns)
 
-by_form-append : (xs ys : List Placed) → by_form (xs ++ ys) ≡ by_form xs ++ by_form ys
+by_form-append : (xs ys : List Node) → by_form (xs ++ ys) ≡ by_form xs ++ by_form ys
 by_form-append xs ys = ap (flat_map form_questions) (filter-append is_form xs ys) ∙ flat_map-append form_questions (filter is_form xs) (filter is_form ys)
 
 -- no path with a form on it is without forms
@@ -42,22 +42,22 @@ form_on path inside a form bare =
     omega (arith, ap (λ (l : List Ancestor). length l) (sym bare ∙ parts), ap (λ (l : List Ancestor). length l) itself, length-append (forms_among path ++ forms_among (a ∷ [])) (forms_among inside), length-append (forms_among path) (forms_among (a ∷ [])))
 
 -- Of these nodes each question has a form around it, and no form has one.
-record AreHeld (ns : List Placed) : Type 0 where
-  pub questions : (n : Placed) → Contains ns n → is_question n ≡ true → forms_among n.path ≡ [] → ⊥
-  pub forms : (n : Placed) → Contains ns n → is_form n ≡ true → forms_among n.path ≡ []
+record AreHeld (ns : List Node) : Type 0 where
+  pub questions : (n : Node) → Contains ns n → is_question n ≡ true → forms_among n.path ≡ [] → ⊥
+  pub forms : (n : Node) → Contains ns n → is_form n ≡ true → forms_among n.path ≡ []
 
 -- outside of forms, the questions of a forest are those of its forms
 one_form : (f : Forest) (at : ℕ) (path : List Ancestor) → forms_among path ≡ [] → AreHeld (nodes_at at path f) → by_form (nodes_at at path f) ≡ filter is_question (nodes_at at path f)
 one_form none at path bare held = refl
 one_form (node op children rest) at path bare held =
     let behind = at + length (flat (node op children none)) in
-    let n : Placed = record { place = at; op = op; path = path; children = children } in
+    let n : Node = record { place = at; op = op; path = path; children = children } in
     let a = as_ancestor n in
     let entered = path ++ a ∷ [] in
     let its = nodes_at (at + length op) entered children in
     let after = nodes_at behind path rest in
-    let in_its : (m : Placed) → Contains its m → Contains (n ∷ (its ++ after)) m = λ m w. further n (its ++ after) m (Contains-append_left its after m w) in
-    let in_after : (m : Placed) → Contains after m → Contains (n ∷ (its ++ after)) m = λ m w. further n (its ++ after) m (Contains-append_right its after m w) in
+    let in_its : (m : Node) → Contains its m → Contains (n ∷ (its ++ after)) m = λ m w. further n (its ++ after) m (Contains-append_left its after m w) in
+    let in_after : (m : Node) → Contains after m → Contains (n ∷ (its ++ after)) m = λ m w. further n (its ++ after) m (Contains-append_right its after m w) in
     let later : by_form after ≡ filter is_question after =
     one_form rest behind path bare (record { questions = λ m w. held.questions m (in_after m w); forms = λ m w. held.forms m (in_after m w) }) in
     let silent : is_question n ≡ false = elim (cases_Bool (is_question n)) [
@@ -77,17 +77,17 @@ one_form (node op children rest) at path bare held =
             | inr other ↦ other
           ]) in
           let forms : filter is_form (n ∷ (its ++ after)) ≡ n ∷ filter is_form after =
-          cond-true (is_form n) _ _ form ∙ ap (λ (l : List Placed). n ∷ l) (filter-append is_form its after ∙ ap (λ (l : List Placed). l ++ filter is_form after) form_free) in
-          ap (flat_map form_questions) forms ∙ ap (λ (l : List Placed). l ++ by_form after) (among_statements its) ∙ ap (λ (l : List Placed). filter is_question its ++ l) later ∙ sym asked
+          cond-true (is_form n) _ _ form ∙ ap (λ (l : List Node). n ∷ l) (filter-append is_form its after ∙ ap (λ (l : List Node). l ++ filter is_form after) form_free) in
+          ap (flat_map form_questions) forms ∙ ap (λ (l : List Node). l ++ by_form after) (among_statements its) ∙ ap (λ (l : List Node). filter is_question its ++ l) later ∙ sym asked
       | inr plain ↦
           let still : forms_among entered ≡ [] = filter-append (λ (b : Ancestor). number b.op == FORM) path (a ∷ []) ∙ ap (λ (l : List Ancestor). l ++ forms_among (a ∷ [])) bare ∙ cond-false (is_form n) _ _ plain in
           let inner : by_form its ≡ filter is_question its =
           one_form children (at + length op) entered still (record { questions = λ m w. held.questions m (in_its m w); forms = λ m w. held.forms m (in_its m w) }) in
-          ap (flat_map form_questions) (cond-false (is_form n) _ _ plain) ∙ by_form-append its after ∙ ap (λ (l : List Placed). l ++ by_form after) inner ∙ ap (λ (l : List Placed). filter is_question its ++ l) later ∙ sym asked
+          ap (flat_map form_questions) (cond-false (is_form n) _ _ plain) ∙ by_form-append its after ∙ ap (λ (l : List Node). l ++ by_form after) inner ∙ ap (λ (l : List Node). filter is_question its ++ l) later ∙ sym asked
     ]
 
 -- a question of a checked package has a form around it
-form_around : (bytes : List ℕ) (n : Placed) → IsChecked bytes → Contains (nodes_of bytes) n → is_question n ≡ true → forms_among n.path ≡ [] → ⊥
+form_around : (bytes : List ℕ) (n : Node) → IsChecked bytes → Contains (nodes_of bytes) n → is_question n ≡ true → forms_among n.path ≡ [] → ⊥
 form_around bytes n checked within asks bare =
     let h = statement_form bytes n checked within (question_is_statement (number n.op) asks) in
     let form = h.form in

@@ -4,7 +4,7 @@ use Rattle.std.specs.Prelude.{Contains, filter}
 use Rattle.std.specs.List.{flat_map}
 use Rattle.std.proofs.lemmas.Bool.{cases_Bool}
 use Rattle.std.proofs.lemmas.List.Elements.{All-filter}
-use Rattle.ifr_opcodes.specs.Forest.{Placed}
+use Rattle.ifr_opcodes.specs.Forest.{Node}
 use Rattle.ifr_scopes.specs.Accepted.{IsAccepted}
 use Rattle.ifr_scopes.specs.Nodes.{is_form, is_question, nodes_of}
 use Rattle.ifr_scopes.specs.code.Checked.{AreNodesOf, IsNodeOf}
@@ -24,32 +24,32 @@ no_question_of true r e = absurd cc
 no_question_of false r e = refl
 
 -- what is left to tell before and behind a statement
-pub with_question : (told : Placed → List ℕ) (n : Placed) (left after : List Placed) → left ≡ n ∷ after → is_question n ≡ true
+pub with_question : (told : Node → List ℕ) (n : Node) (left after : List Node) → left ≡ n ∷ after → is_question n ≡ true
     → flat_map told (filter is_question left) ≡ told n ++ flat_map told (filter is_question after)
-with_question told n left after e is = ap (λ (l : List Placed). flat_map told (filter is_question l)) e ∙ here
+with_question told n left after e is = ap (λ (l : List Node). flat_map told (filter is_question l)) e ∙ here
   where
     here : flat_map told (filter is_question (n ∷ after)) ≡ told n ++ flat_map told (filter is_question after)
     here = rw is refl
 
-pub without_question : (told : Placed → List ℕ) (n : Placed) (left after : List Placed) → left ≡ n ∷ after → is_question n ≡ false
+pub without_question : (told : Node → List ℕ) (n : Node) (left after : List Node) → left ≡ n ∷ after → is_question n ≡ false
     → flat_map told (filter is_question left) ≡ flat_map told (filter is_question after)
-without_question told n left after e is = ap (λ (l : List Placed). flat_map told (filter is_question l)) e ∙ here
+without_question told n left after e is = ap (λ (l : List Node). flat_map told (filter is_question l)) e ∙ here
   where
     here : flat_map told (filter is_question (n ∷ after)) ≡ flat_map told (filter is_question after)
     here = rw is refl
 
 -- where the questions of some nodes lie in their stores, one of these does
-lies_among : (shape : Shape) (view : Placed → Asked) (ns : List Placed) (n : Placed) → LieIn shape (map view (filter is_question ns)) → Contains ns n → is_question n ≡ true → LiesIn shape (view n)
+lies_among : (shape : Shape) (view : Node → Asked) (ns : List Node) (n : Node) → LieIn shape (map view (filter is_question ns)) → Contains ns n → is_question n ≡ true → LiesIn shape (view n)
 lies_among shape view [] n lie (k, lt, e) is = absurd (omega arith)
 lies_among shape view (m ∷ ns) n lie (zero, lt, e) is =
     let asks : is_question m ≡ true = ap is_question e ∙ is in
-    subst (λ (x : Placed). LiesIn shape (view x)) e (rw asks at lie).0
+    subst (λ (x : Node). LiesIn shape (view x)) e (rw asks at lie).0
 lies_among shape view (m ∷ ns) n lie (suc k, lt, e) is = elim (cases_Bool (is_question m)) [
   | inl asks ↦ lies_among shape view ns n (rw asks at lie).1 (k, omega arith, e) is
   | inr other ↦ lies_among shape view ns n (rw other at lie) (k, omega arith, e) is
 ]
 
-pub question_lies : (shape : Shape) (bytes : List ℕ) (n : Placed) → LieIn shape (questions (nodes_of bytes)) → IsNodeOf bytes n → is_question n ≡ true → LiesIn shape (asked (nodes_of bytes) n)
+pub question_lies : (shape : Shape) (bytes : List ℕ) (n : Node) → LieIn shape (questions (nodes_of bytes)) → IsNodeOf bytes n → is_question n ≡ true → LiesIn shape (asked (nodes_of bytes) n)
 question_lies shape bytes n lie node is = lies_among shape (asked (nodes_of bytes)) (nodes_of bytes) n lie (contains_found (nodes_of bytes) n.place n node) is
 
 -- ---- the forms of a package

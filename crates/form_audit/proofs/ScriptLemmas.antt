@@ -2,7 +2,7 @@
 use Rattle.std.proofs.Common.{◌≡◌, ℕ, Bool, true, false, List, [], refl, sym, ap, ◌∙◌}
 use Rattle.std.specs.Prelude.{codes, decimal, if◌then◌else◌}
 use Rattle.std.specs.Fmt.{digits}
-use Rattle.ifr_opcodes.specs.Forest.{Placed}
+use Rattle.ifr_opcodes.specs.Forest.{Node}
 use Rattle.ifr_opcodes.specs.Opcode.{number}
 use Rattle.ifr_opcodes.specs.code.Ops.{bytes_of}
 use Rattle.ifr_opcodes.specs.declared.questions.CheckboxOp.{CheckboxOp}
@@ -37,7 +37,7 @@ no_number (Text units) before op other = refl
 no_number (Buffer bytes) before op other = refl
 
 -- a statement of another kind has no text of a value
-pub no_script : (kind : StatementKind) (n : Placed) (value : answers.Value) (before : List ℕ) → bytes_of (kind_op kind) ≡ n.op
+pub no_script : (kind : StatementKind) (n : Node) (value : answers.Value) (before : List ℕ) → bytes_of (kind_op kind) ≡ n.op
     → ((op : CheckboxOp) → kind ≡ kinds.Checkbox op → ⊥) → ((op : NumericOp) → kind ≡ kinds.Numeric op → ⊥) → ((op : OneOfOp) → kind ≡ kinds.OneOf op → ⊥)
     → ((op : StringOp) → kind ≡ kinds.String op → ⊥) → ((op : OrderedListOp) → kind ≡ kinds.OrderedList op → ⊥) → [] ≡ behind before (script_value n value)
 no_script (kinds.Subtitle view) n value before e checkbox numeric one_of string list = rw (ap number (sym e) ∙ view.coded) refl

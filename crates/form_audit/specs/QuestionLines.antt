@@ -3,7 +3,7 @@ use Rattle.std.specs.Prelude.{ℕ, ◌==◌, Bool, true, false, bytes_eq, if◌t
 use Rattle.std.specs.List.{find, flat_map}
 use Rattle.hii_bytes.specs.Texts.{right_aligned, place_text}
 use Rattle.ifr_opcodes.specs.Fields.{has_flag, question_flags, question_id, ref_form_set, statement_prompt}
-use Rattle.ifr_opcodes.specs.Forest.{Placed}
+use Rattle.ifr_opcodes.specs.Forest.{Node}
 use Rattle.ifr_opcodes.specs.Opcode.{number}
 use Rattle.ifr_opcodes.specs.declared.codes.TheConstants.{REF}
 use Rattle.ifr_expr.specs.Meaning.{value}
@@ -33,20 +33,20 @@ verdict_columns (Some denial) =
 -- ---- the field: NAME:0xOFFSET(WIDTH)
 
 -- the store of an id, of any kind
-abbrev pub store_with : List Placed → ℕ → Option Placed
+abbrev pub store_with : List Node → ℕ → Option Node
 store_with ns id = find (λ n. store_id n.op == id) (filter is_store ns)
 
-abbrev pub name_of : Option Placed → List ℕ
+abbrev pub name_of : Option Node → List ℕ
 name_of None = []
 name_of (Some store) = store_name store.op
 
-abbrev pub field_text : List Placed → Field → List ℕ
+abbrev pub field_text : List Node → Field → List ℕ
 field_text ns field =
     ascii_name (name_of (store_with ns field.store))
     ++ codes ":0x" ++ hex_text field.offset
     ++ codes "(" ++ decimal field.width ++ codes ")"
 
-abbrev pub field_columns : List Placed → Option Field → List ℕ
+abbrev pub field_columns : List Node → Option Field → List ℕ
 field_columns ns None = left_aligned 18 (codes "-")
 field_columns ns (Some field) = left_aligned 18 (field_text ns field)
 
@@ -76,17 +76,17 @@ abbrev pub is_undefined : Value → Bool
 is_undefined undefined = true
 is_undefined _ = false
 
-abbrev pub is_undefined_guard : Audited → Placed → Bool
+abbrev pub is_undefined_guard : Audited → Node → Bool
 is_undefined_guard a g =
     is_undefined (value a.sources.rules a.sources.answers (this_of g) (expression_tree g))
 
-abbrev pub undefined_guards : Audited → Placed → List Placed
+abbrev pub undefined_guards : Audited → Node → List Node
 undefined_guards a n = filter (is_undefined_guard a) (guards n)
 
-abbrev pub places_behind : List Placed → List ℕ
+abbrev pub places_behind : List Node → List ℕ
 places_behind gs = flat_map (λ g. codes " " ++ place_text g.place) gs
 
-abbrev pub undefined_text : List Placed → List ℕ
+abbrev pub undefined_text : List Node → List ℕ
 undefined_text [] = []
 undefined_text (g ∷ gs) = codes " undefined" ++ places_behind (g ∷ gs)
 
@@ -101,7 +101,7 @@ columns_text a q =
     ++ field_columns a.world.nodes q.field ++ codes " "
 
 -- the whole prompt, and the value as a page shows it
-abbrev pub shown_text : Audited → Placed → List ℕ
+abbrev pub shown_text : Audited → Node → List ℕ
 shown_text a n =
     utf8 (a.texts (statement_prompt n.op))
     ++ codes " [" ++ utf8 (value_shown a.texts a.world a.stores n) ++ codes "]"

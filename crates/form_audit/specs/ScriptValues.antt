@@ -4,7 +4,7 @@ use Rattle.std.specs.List.{flat_map}
 use Rattle.sibt_strings.specs.Units.{chars_of_units}
 use Rattle.ifr_opcodes.specs.declared.codes.TheConstants.{CHECKBOX, NUMERIC, ONE_OF, STRING, ORDERED_LIST}
 use Rattle.ifr_opcodes.specs.Fields.{display, numeric_width}
-use Rattle.ifr_opcodes.specs.Forest.{Placed}
+use Rattle.ifr_opcodes.specs.Forest.{Node}
 use Rattle.ifr_opcodes.specs.Opcode.{number}
 use Rattle.ifr_expr.specs.Values.{Value, boolean, natural, text, buffer}
 use Rattle.hii_varstore.specs.Stores.{StoreMap}
@@ -45,12 +45,12 @@ abbrev pub string_script : Value → Option (List ℕ)
 string_script (text units) = Some (utf8 (chars_of_units units))
 string_script _ = None
 
-abbrev pub list_script : Value → Placed → Option (List ℕ)
+abbrev pub list_script : Value → Node → Option (List ℕ)
 list_script (buffer bytes) n = Some (list_text (items_in (element_width n) bytes))
 list_script _ n = None
 
 -- A value of a question as `set`, `order` and `text` take it. A password is not told, and other questions have none.
-abbrev pub script_value : Placed → Value → Option (List ℕ)
+abbrev pub script_value : Node → Value → Option (List ℕ)
 script_value n value =
     if number n.op == CHECKBOX then checkbox_script value
     else if number n.op == NUMERIC then numeric_script value n.op

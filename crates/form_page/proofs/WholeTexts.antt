@@ -2,7 +2,7 @@
 use Rattle.std.proofs.Common.{◌≡◌, ℕ, ◌*◌, ◌%◌, eqb, Option, Some, None, List, length, sym, ◌∙◌, inl, inr, arith, length-take}
 use Rattle.std.proofs.lemmas.Bool.{cases_Bool, cond-true, cond-false}
 use Rattle.ifr_expr.specs.Values.{text as text_value}
-use Rattle.ifr_opcodes.specs.Forest.{Placed}
+use Rattle.ifr_opcodes.specs.Forest.{Node}
 use Rattle.hii_varstore.specs.Stores.{StoreMap, bytes_of_field as field_bytes}
 use Rattle.hii_questions.specs.Answers.{answer_in, value_of_bytes, value_of_field}
 use Rattle.hii_questions.specs.FieldTypes.{FieldType, checkbox, numeric, one_of, text, ordered_list, size_of_type}
@@ -32,6 +32,6 @@ whole_of (Some t) (Some bytes) units e = elim (cases_Bool (eqb (length bytes) (s
   | inr cut ↦ let none = sym (cond-false (eqb (length bytes) (size_of_type t)) (answer_in t bytes) _ cut) ∙ e in absurd cc
 ]
 
-pub whole_texts : (stores : StoreMap) (n : Placed) (field : Option Field) (units : List ℕ) → value_of_field stores n field ≡ text_value units → length units % 2 ≡ 0
+pub whole_texts : (stores : StoreMap) (n : Node) (field : Option Field) (units : List ℕ) → value_of_field stores n field ≡ text_value units → length units % 2 ≡ 0
 whole_texts stores n None units e = absurd cc
 whole_texts stores n (Some field) units e = whole_of (type_of n) (field_bytes stores field.store field.offset field.width) units e

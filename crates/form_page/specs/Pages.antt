@@ -3,7 +3,7 @@
 use Rattle.std.specs.Prelude.{ℕ, ◌+◌, ◌-◌, Bool, ◌==◌, ◌||◌, if◌then◌else◌, Option, Some, None, is_some, is_none, List, [], ◌∷◌, ◌++◌, filter, codes, decimal}
 use Rattle.std.specs.List.{flat_map, slice_get}
 use Rattle.hii_bytes.specs.Texts.{right_aligned}
-use Rattle.ifr_opcodes.specs.Forest.{Placed}
+use Rattle.ifr_opcodes.specs.Forest.{Node}
 use Rattle.ifr_opcodes.specs.Fields.{form_id, form_title, statement_prompt, question_id}
 use Rattle.ifr_opcodes.specs.Opcode.{number}
 use Rattle.ifr_opcodes.specs.declared.codes.TheConstants.{SUBTITLE, TEXT}
@@ -29,11 +29,11 @@ mark_of op is_fixed =
     if number op == SUBTITLE || number op == TEXT then 32 else if is_fixed then 33 else 42
 
 -- the id of a statement that is a question
-abbrev pub id_of : Placed → Option ℕ
+abbrev pub id_of : Node → Option ℕ
 id_of n = if is_question n then Some (question_id n.op) else None
 
 -- the row of a statement over some stores, with the texts as the characters that are shown of each string id
-abbrev pub row_of : (ℕ → List ℕ) → World → StoreMap → ℕ → Placed → Row
+abbrev pub row_of : (ℕ → List ℕ) → World → StoreMap → ℕ → Node → Row
 row_of texts w stores number n = record {
   number = number;
   mark = mark_of n.op (is_some (fixed w n));
@@ -42,22 +42,22 @@ row_of texts w stores number n = record {
   value = value_shown texts w stores n;
 }
 
-abbrev pub rows_from : (ℕ → List ℕ) → World → StoreMap → ℕ → List Placed → List Row
+abbrev pub rows_from : (ℕ → List ℕ) → World → StoreMap → ℕ → List Node → List Row
 rows_from texts w stores number [] = []
 rows_from texts w stores number (n ∷ rest) =
     row_of texts w stores number n ∷ rows_from texts w stores (number + 1) rest
 
 -- the statements of a form that are not hidden
-abbrev pub listed_statements : World → Placed → List Placed
+abbrev pub listed_statements : World → Node → List Node
 listed_statements w form = filter (λ n. is_none (hidden w n)) (statements form)
 
 -- the statement of a row, numbered from 1; there is none at 0 and past the last row
-abbrev pub statement_in_row : World → Placed → ℕ → Option Placed
+abbrev pub statement_in_row : World → Node → ℕ → Option Node
 statement_in_row w form row =
     if row == 0 then None else slice_get (listed_statements w form) (row - 1)
 
 -- the rows of a form, numbered from 1
-abbrev pub rows_of_form : (ℕ → List ℕ) → World → StoreMap → Placed → List Row
+abbrev pub rows_of_form : (ℕ → List ℕ) → World → StoreMap → Node → List Row
 rows_of_form texts w stores form = rows_from texts w stores 1 (listed_statements w form)
 
 -- a question's id in five columns, or that there is none
@@ -71,12 +71,12 @@ row_text row =
     ++ id_text row.question ++ codes " "
     ++ in_columns 24 row.prompt ++ codes " [" ++ utf8 row.value ++ codes "]\n"
 
-abbrev pub title_text : (ℕ → List ℕ) → Placed → List ℕ
+abbrev pub title_text : (ℕ → List ℕ) → Node → List ℕ
 title_text texts form =
     codes "FORM " ++ decimal (form_id form.op) ++ codes " " ++ utf8 (texts (form_title form.op))
     ++ codes "\n"
 
 -- the bytes of a page
-abbrev pub page_text : (ℕ → List ℕ) → World → StoreMap → Placed → List ℕ
+abbrev pub page_text : (ℕ → List ℕ) → World → StoreMap → Node → List ℕ
 page_text texts w stores form =
     title_text texts form ++ flat_map row_text (rows_of_form texts w stores form)

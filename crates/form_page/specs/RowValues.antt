@@ -8,7 +8,7 @@ use Rattle.ifr_opcodes.specs.declared.numbers.Display.{Display}
 use Rattle.ifr_opcodes.specs.declared.numbers.Display.TheVariants.{Signed, Unsigned, Hexadecimal}
 use Rattle.ifr_opcodes.specs.Opcode.{number}
 use Rattle.ifr_opcodes.specs.Fields.{display, numeric_width, option_text, option_value, ref_target, text_second}
-use Rattle.ifr_opcodes.specs.Forest.{Placed}
+use Rattle.ifr_opcodes.specs.Forest.{Node}
 use Rattle.ifr_expr.specs.Values.{Value, boolean, natural, text, buffer}
 use Rattle.ifr_scopes.specs.Nodes.{options, is_question}
 use Rattle.hii_varstore.specs.Stores.{StoreMap}
@@ -45,13 +45,13 @@ numeric_shown op (natural n) = number_text (display op) (numeric_width op) n
 numeric_shown op _ = []
 
 -- the first of some options, by place, that has the value and is not hidden
-abbrev pub option_with : World → List Placed → ℕ → Option Placed
+abbrev pub option_with : World → List Node → ℕ → Option Node
 option_with w its value = find (λ o. (option_value o.op == value) && is_none (hidden w o)) its
 
 -- the text of that option of a question
-abbrev pub choice : (ℕ → List ℕ) → World → Placed → ℕ → Option (List ℕ)
+abbrev pub choice : (ℕ → List ℕ) → World → Node → ℕ → Option (List ℕ)
 choice texts w n value =
-    option_map (λ (o : Placed). texts (option_text o.op)) (option_with w (options n) value)
+    option_map (λ (o : Node). texts (option_text o.op)) (option_with w (options n) value)
 
 -- where no option is to be seen, a question mark
 abbrev pub choice_text : Option (List ℕ) → List ℕ
@@ -62,7 +62,7 @@ choice_text (Some its) = its
 abbrev pub one_of_text : Option (List ℕ) → List ℕ
 one_of_text its = codes "<" ++ choice_text its ++ codes ">"
 
-abbrev pub one_of_shown : (ℕ → List ℕ) → World → Placed → Value → List ℕ
+abbrev pub one_of_shown : (ℕ → List ℕ) → World → Node → Value → List ℕ
 one_of_shown texts w n (natural value) = one_of_text (choice texts w n value)
 one_of_shown texts w n _ = []
 
@@ -74,7 +74,7 @@ abbrev pub list_text : List (Option (List ℕ)) → List ℕ
 list_text [] = []
 list_text (its ∷ choices) = choice_text its ++ later_text choices
 
-abbrev pub list_shown : (ℕ → List ℕ) → World → Placed → Value → List ℕ
+abbrev pub list_shown : (ℕ → List ℕ) → World → Node → Value → List ℕ
 list_shown texts w n (buffer bytes) =
     list_text (map (choice texts w n) (items_in (element_width n) bytes))
 list_shown texts w n _ = []
@@ -94,7 +94,7 @@ password_shown (text units) = password_text units
 password_shown _ = []
 
 -- what a question of each kind shows of a value; of the value of one without a field, which is undefined, nothing
-abbrev pub stored_shown : (ℕ → List ℕ) → World → Placed → Value → List ℕ
+abbrev pub stored_shown : (ℕ → List ℕ) → World → Node → Value → List ℕ
 stored_shown texts w n value =
     if number n.op == CHECKBOX then checkbox_shown value
     else if number n.op == NUMERIC then numeric_shown n.op value
@@ -110,13 +110,13 @@ reference_text None = codes "->"
 reference_text (Some form) = codes "->" ++ decimal form
 
 -- what a question shows of its value in some stores; a statement that is no question has none
-abbrev pub question_shown : (ℕ → List ℕ) → World → StoreMap → Placed → List ℕ
+abbrev pub question_shown : (ℕ → List ℕ) → World → StoreMap → Node → List ℕ
 question_shown texts w stores n =
     if is_question n then stored_shown texts w n (value_of_field stores n (field_of w.nodes n))
     else []
 
 -- what the row of a statement shows between its brackets, with the texts as the characters that are shown of each string id
-abbrev pub value_shown : (ℕ → List ℕ) → World → StoreMap → Placed → List ℕ
+abbrev pub value_shown : (ℕ → List ℕ) → World → StoreMap → Node → List ℕ
 value_shown texts w stores n =
     if number n.op == TEXT then texts (text_second n.op)
     else if number n.op == RESET_BUTTON then codes "reset"

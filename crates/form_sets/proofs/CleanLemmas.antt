@@ -6,7 +6,7 @@ use Rattle.std.proofs.lemmas.List.Elements.{Contains-append_cases, Contains-appe
 use Rattle.hii_bytes.specs.Faults.{HasNone}
 use Rattle.hii_bytes.specs.declared.cause.Cause.{Cause}
 use Rattle.hii_bytes.specs.declared.cause.Cause.TheVariants.{NotFormSet, AfterFormSet, OpOutside, OpSize, Misplaced, ScopeBit, ExprShape}
-use Rattle.ifr_opcodes.specs.Forest.{Forest, none, node, flat, Ancestor, Placed, nodes_at, nodes}
+use Rattle.ifr_opcodes.specs.Forest.{Forest, none, node, flat, Ancestor, Node, nodes_at, nodes}
 use Rattle.ifr_opcodes.specs.Opcode.{number, has_scope}
 use Rattle.ifr_opcodes.specs.Rows.{least_length, is_listed, is_left_out, is_outside, is_short}
 use Rattle.ifr_expr.specs.Faults.{IsExpressionFault}
@@ -21,7 +21,7 @@ use Rattle.form_sets.specs.WellFormed.{FitsScope, IsGoodOpcode}
 use Rattle.form_sets.proofs.RowLemmas.{listed_row}
 
 -- A node has no fault, nor has the expression that stands at it.
-pub record IsClean (n : Placed) : Type 0 where
+pub record IsClean (n : Node) : Type 0 where
   pub fault : (cause : Cause) → has_structure_fault n cause ≡ false
   pub expression : is_expression n ≡ true → HasNone (IsExpressionFault n.place (expression n.place n.op n.children))
 
@@ -33,7 +33,7 @@ AreClean at path (node op children rest) =
     × (AreClean (at + length op) (path ++ record { place = at; op = op; children = children } ∷ []) children
     × AreClean (at + length (flat (node op children none))) path rest)
 
-each_clean : (f : Forest) (at : ℕ) (path : List Ancestor) (n : Placed) → AreClean at path f → Contains (nodes_at at path f) n → IsClean n
+each_clean : (f : Forest) (at : ℕ) (path : List Ancestor) (n : Node) → AreClean at path f → Contains (nodes_at at path f) n → IsClean n
 each_clean none at path n c (k, lt, e) = absurd (omega arith)
 each_clean (node op children rest) at path n c (zero, lt, e) = subst IsClean e c.0
 each_clean (node op children rest) at path n c (suc k, lt, e) =
@@ -44,10 +44,10 @@ each_clean (node op children rest) at path n c (suc k, lt, e) =
       | inr w ↦ each_clean rest behind path n c.1.1 w
     ]
 
-all_clean : (f : Forest) (at : ℕ) (path : List Ancestor) → ((n : Placed) → Contains (nodes_at at path f) n → IsClean n) → AreClean at path f
+all_clean : (f : Forest) (at : ℕ) (path : List Ancestor) → ((n : Node) → Contains (nodes_at at path f) n → IsClean n) → AreClean at path f
 all_clean none at path each = tt
 all_clean (node op children rest) at path each =
-    let here : Placed = record { place = at; op = op; path = path; children = children } in
+    let here : Node = record { place = at; op = op; path = path; children = children } in
     let entered = path ++ record { place = at; op = op; children = children } ∷ [] in
     let behind = at + length (flat (node op children none)) in
     let inner = nodes_at (at + length op) entered children in
@@ -61,7 +61,7 @@ all_clean (node op children rest) at path each =
 
 -- they are those of a package without fault
 pub clean_without_fault : (op : List ℕ) (children rest : Forest) → AreClean 4 [] (node op children rest) → HasNone (IsStructureFault (nodes (node op children rest)))
-clean_without_fault op children rest c cause place (inl (nothing, is, at)) = omega (arith, ap (λ (l : List Placed). length l) nothing)
+clean_without_fault op children rest c cause place (inl (nothing, is, at)) = omega (arith, ap (λ (l : List Node). length l) nothing)
 clean_without_fault op children rest c cause place (inr (inl (n, within, at, has))) = false≢true (sym ((each_clean (node op children rest) 4 [] n c within).fault cause) ∙ has)
 clean_without_fault op children rest c cause place (inr (inr (n, within, is, fault))) = (each_clean (node op children rest) 4 [] n c within).expression is cause place fault
 
@@ -73,7 +73,7 @@ without_fault_clean f sound = all_clean f 4 [] (λ n within. record {
 
 -- ---- a node's faults, one by one
 
-pub no_fault : (n : Placed) → has_structure_fault n NotFormSet ≡ false → has_structure_fault n AfterFormSet ≡ false → is_outside n.op ≡ false → is_short n.op ≡ false
+pub no_fault : (n : Node) → has_structure_fault n NotFormSet ≡ false → has_structure_fault n AfterFormSet ≡ false → is_outside n.op ≡ false → is_short n.op ≡ false
     → has_structure_fault n Misplaced ≡ false → has_structure_fault n ScopeBit ≡ false → lacks_wanted n.op n.children ≡ false → (cause : Cause) → has_structure_fault n cause ≡ false
 no_fault n first after known long placed scoped begins NotFormSet = first
 no_fault n first after known long placed scoped begins AfterFormSet = after
@@ -114,11 +114,11 @@ good_inside op g = or_from (not (is_listed (number op))) (is_left_out op) (not_f
 pub good_long : (op : List ℕ) → IsGoodOpcode op → is_short op ≡ false
 good_long op g = le-ltb (length op) (least_length op) g.long
 
-pub good_scope : (n : Placed) → IsGoodOpcode n.op → is_operand n ≡ false → has_structure_fault n ScopeBit ≡ false
+pub good_scope : (n : Node) → IsGoodOpcode n.op → is_operand n ≡ false → has_structure_fault n ScopeBit ≡ false
 good_scope n g free =
     ap (λ (r : Option Row). has_wrong_scope r (is_operand n) n.op) g.found ∙ ap (λ (b : Bool). is_wrong_scope g.in_table.scope b n.op) free ∙ fitting g.in_table.scope n.op g.scoped
 
-pub clean_good : (n : Placed) → IsClean n → is_operand n ≡ false → IsGoodOpcode n.op
+pub clean_good : (n : Node) → IsClean n → is_operand n ≡ false → IsGoodOpcode n.op
 clean_good n c free =
     let known = or_parts (not (is_listed (number n.op))) (is_left_out n.op) (c.fault OpOutside) in
     let is : is_listed (number n.op) ≡ true = not-false (is_listed (number n.op)) known.0 in

@@ -5,7 +5,7 @@ use Rattle.std.proofs.lemmas.Bool.{cond-false, false≢true, and_left, not_from_
 use Rattle.hii_bytes.specs.Faults.{HasNone}
 use Rattle.hii_bytes.specs.declared.cause.Cause.TheVariants.{NotFormSet, AfterFormSet}
 use Rattle.ifr_opcodes.specs.declared.codes.TheConstants.{FORM_SET, DEFAULT}
-use Rattle.ifr_opcodes.specs.Forest.{Forest, none, node, flat, Placed, AreNodes, nodes}
+use Rattle.ifr_opcodes.specs.Forest.{Forest, none, node, flat, Node, AreNodes, nodes}
 use Rattle.ifr_opcodes.specs.Opcode.{number}
 use Rattle.ifr_opcodes.specs.Operators.{is_operator}
 use Rattle.ifr_scopes.specs.Guards.{is_guard}
@@ -48,7 +48,7 @@ root_clean op children is g = record {
   expression = λ e. absurd (false≢true e);
 }
   where
-    n : Placed
+    n : Node
     n = record { place = 4; op = op; path = []; children = children }
 
 pub sound : (f : Forest) → AreNodes f → IsFormSet f → HasNone (IsStructureFault (nodes f))

@@ -7,7 +7,7 @@ use Rattle.hii_bytes.specs.Faults.{HasNone}
 use Rattle.hii_bytes.specs.declared.cause.Cause.{Cause}
 use Rattle.hii_bytes.specs.declared.cause.Cause.TheVariants.{DuplicateForm, DuplicateQuestion, NoForm, RuleTooLarge}
 use Rattle.ifr_opcodes.specs.Fields.{form_id, question_id, ref_target}
-use Rattle.ifr_opcodes.specs.Forest.{Placed}
+use Rattle.ifr_opcodes.specs.Forest.{Node}
 use Rattle.ifr_opcodes.proofs.StatementLemmas.{and_first, and_second}
 use Rattle.ifr_scopes.specs.Checked.{IsChecked}
 use Rattle.ifr_scopes.specs.Nodes.{nodes_of, is_form, is_question, is_reference}
@@ -24,17 +24,17 @@ use Rattle.form_sets.proofs.RankedLemmas.{IsPart, part_of, part_at, part_there, 
 
 -- ---- ids
 
-abbrev form_of : Placed → ℕ
+abbrev form_of : Node → ℕ
 form_of n = form_id n.op
 
-abbrev question_of : Placed → ℕ
+abbrev question_of : Node → ℕ
 question_of n = question_id n.op
 
 -- a question that has an id
-abbrev is_named : Placed → Bool
+abbrev is_named : Node → Bool
 is_named n = is_question n && is_id (question_of n)
 
-question_ids_are : (ns : List Placed) → question_ids ns ≡ map question_of (filter is_named ns)
+question_ids_are : (ns : List Node) → question_ids ns ≡ map question_of (filter is_named ns)
 question_ids_are [] = refl
 question_ids_are (n ∷ ns) = elim (cases_Bool (is_question n)) [
   | inl asks ↦ elim (cases_Bool (is_id (question_of n))) [
@@ -44,14 +44,14 @@ question_ids_are (n ∷ ns) = elim (cases_Bool (is_question n)) [
   | inr other ↦ rw other (question_ids_are ns)
 ]
 
-same_question : (i : ℕ) (m : Placed) → is_id i ≡ true → has_id is_named question_of i m ≡ has_question_id i m
+same_question : (i : ℕ) (m : Node) → is_id i ≡ true → has_id is_named question_of i m ≡ has_question_id i m
 same_question i m is = alike (has_id is_named question_of i m) (has_question_id i m)
     (λ e. and_from (is_question m) (question_of m == i) (and_first (is_question m) (is_id (question_of m)) (and_first (is_named m) (question_of m == i) e)) (and_second (is_named m) (question_of m == i) e))
     (λ e.
     let same : question_of m ≡ i = eqb-true (question_of m) i (and_second (is_question m) (question_of m == i) e) in
     and_from (is_named m) (question_of m == i) (and_from (is_question m) (is_id (question_of m)) (and_first (is_question m) (question_of m == i) e) (ap is_id same ∙ is)) (and_second (is_question m) (question_of m == i) e))
 
-same_questions : (i : ℕ) (ns : List Placed) → is_id i ≡ true → list_any (has_id is_named question_of i) ns ≡ list_any (has_question_id i) ns
+same_questions : (i : ℕ) (ns : List Node) → is_id i ≡ true → list_any (has_id is_named question_of i) ns ≡ list_any (has_question_id i) ns
 same_questions i [] is = refl
 same_questions i (n ∷ ns) is = ap (λ (b : Bool). b || list_any (has_id is_named question_of i) ns) (same_question i n is) ∙ ap (λ (b : Bool). has_question_id i n || b) (same_questions i ns is)
 
@@ -63,13 +63,13 @@ small_size s deep heavy = or_from (nat_lt 16 s.depth) (nat_lt 4096 s.weight) (le
 size_small : (s : RuleSize) → is_rule_too_large s ≡ false → (s.depth ≤ 16) × (s.weight ≤ 4096)
 size_small s e = let both = or_parts (nat_lt 16 s.depth) (nat_lt 4096 s.weight) e in (ltb-false 16 s.depth both.0, ltb-false 4096 s.weight both.1)
 
-abbrev size_there : List Placed → Placed → RuleSize
+abbrev size_there : List Node → Node → RuleSize
 size_there before r = size (rules_among before) (as_rule r)
 
-rule_at : (bytes : List ℕ) (before : List Placed) (r : Placed) → IsPart (nodes_of bytes) before r → is_rule r ≡ true → IsRuleAt bytes before r
+rule_at : (bytes : List ℕ) (before : List Node) (r : Node) → IsPart (nodes_of bytes) before r → is_rule r ≡ true → IsRuleAt bytes before r
 rule_at bytes before r p is = record { rest = p.rest; split = p.split; is = is }
 
-is_not_large : (bytes : List ℕ) (before : List Placed) (r : Placed) → IsChecked bytes → IsPart (nodes_of bytes) before r → is_rule r ≡ true → IsSmallRule (nodes_of bytes) r → is_rule_too_large (size_there before r) ≡ false
+is_not_large : (bytes : List ℕ) (before : List Node) (r : Node) → IsChecked bytes → IsPart (nodes_of bytes) before r → is_rule r ≡ true → IsSmallRule (nodes_of bytes) r → is_rule_too_large (size_there before r) ≡ false
 is_not_large bytes before r checked p is small =
     let at = rule_at bytes before r p is in
     let within = part_there (nodes_of bytes) before r p in
@@ -79,7 +79,7 @@ is_not_large bytes before r checked p is small =
     (subst (λ (k : ℕ). k ≤ 16) (sym (depth_before bytes before r checked at)) deep)
     (subst (λ (k : ℕ). k ≤ 4096) (heavy ∙ sym (weight_before bytes before r checked at)) small.weight)
 
-is_small : (bytes : List ℕ) (before : List Placed) (r : Placed) → IsChecked bytes → IsPart (nodes_of bytes) before r → is_rule r ≡ true → is_rule_too_large (size_there before r) ≡ false → IsSmallRule (nodes_of bytes) r
+is_small : (bytes : List ℕ) (before : List Node) (r : Node) → IsChecked bytes → IsPart (nodes_of bytes) before r → is_rule r ≡ true → is_rule_too_large (size_there before r) ≡ false → IsSmallRule (nodes_of bytes) r
 is_small bytes before r checked p is fits =
     let at = rule_at bytes before r p is in
     let within = part_there (nodes_of bytes) before r p in
@@ -124,7 +124,7 @@ no_fault_there bytes q checked a within _ h = false≢true h
 
 pub good_is_faultless : (bytes : List ℕ) → IsChecked bytes → AreReferred (nodes_of bytes) → HasNone (IsReferenceFault (nodes_of bytes))
 good_is_faultless bytes checked a = λ cause place fault. elim fault [
-  | inl bare ↦ nothing a.first (subst (λ (l : List Placed). Contains l a.first) bare.0 a.is_there)
+  | inl bare ↦ nothing a.first (subst (λ (l : List Node). Contains l a.first) bare.0 a.is_there)
   | inr there ↦ no_fault_there bytes there.0 checked a there.1 cause there.3
 ]
 
@@ -138,18 +138,18 @@ holds : (b : Bool) → not b ≡ false → b ≡ true
 holds true e = refl
 holds false e = absurd (true≢false e)
 
-none_at : (ns before : List Placed) (n : Placed) → HasNone (IsReferenceFault ns) → IsPart ns before n → (cause : Cause) → has_reference_fault ns (record { before = before; node = n }) cause ≡ false
+none_at : (ns before : List Node) (n : Node) → HasNone (IsReferenceFault ns) → IsPart ns before n → (cause : Cause) → has_reference_fault ns (record { before = before; node = n }) cause ≡ false
 none_at ns before n none p cause = elim (cases_Bool (has_reference_fault ns (record { before = before; node = n }) cause)) [
   | inl bad ↦ absurd (none cause n.place (inr (record { before = before; node = n }, ranked_part ns before n p, refl, bad)))
   | inr good ↦ good
 ]
 
-first_form : (ns : List Placed) → HasNone (IsReferenceFault ns) → (f : Placed) × Contains (filter is_form ns) f
+first_form : (ns : List Node) → HasNone (IsReferenceFault ns) → (f : Node) × Contains (filter is_form ns) f
 first_form ns none = go (filter is_form ns) refl
   where
-    go : (fs : List Placed) → filter is_form ns ≡ fs → (f : Placed) × Contains (filter is_form ns) f
+    go : (fs : List Node) → filter is_form ns ≡ fs → (f : Node) × Contains (filter is_form ns) f
     go [] e = absurd (none NoForm 4 (inl (e, refl, refl)))
-    go (f ∷ fs) e = (f, subst (λ (l : List Placed). Contains l f) (sym e) (0, omega arith, refl))
+    go (f ∷ fs) e = (f, subst (λ (l : List Node). Contains l f) (sym e) (0, omega arith, refl))
 
 pub faultless_is_good : (bytes : List ℕ) → IsChecked bytes → HasNone (IsReferenceFault (nodes_of bytes)) → AreReferred (nodes_of bytes)
 faultless_is_good bytes checked none =

@@ -4,7 +4,7 @@ use Rattle.std.specs.Prelude.{Contains, ◌&&◌}
 use Rattle.std.proofs.lemmas.Bool.{cond-true, false≢true, and_left, and_right, or_from, or_left, or_right, not_from_true, le-ltb, eq-eqb, ne_eqb}
 use Rattle.hii_bytes.specs.declared.cause.Cause.TheVariants.{Misplaced}
 use Rattle.ifr_opcodes.specs.declared.codes.TheConstants.{VALUE}
-use Rattle.ifr_opcodes.specs.Forest.{Forest, none, node, flat, Mark, Ancestor, Placed, AreNodes}
+use Rattle.ifr_opcodes.specs.Forest.{Forest, none, node, flat, Mark, Ancestor, Node, AreNodes}
 use Rattle.ifr_opcodes.specs.Opcode.{number, has_scope}
 use Rattle.ifr_opcodes.specs.Operators.{is_operator}
 use Rattle.ifr_opcodes.specs.Rows.{least_length, is_listed}
@@ -31,7 +31,7 @@ begins_nothing : (op : List ℕ) (children : Forest) → is_operator (number op)
 begins_nothing op children known = or_from _ _ (and_left _ _ (wants_no_operator (number op) known)) (and_left _ _ (wants_no_value op known))
 
 -- the scope of an operator, which opens none in another's
-operator_scope : (n : Placed) (operand : Bool) → is_operator (number n.op) ≡ true → is_operand n ≡ operand → (operand && has_scope n.op) ≡ false → has_wrong_scope (row (number n.op)) (is_operand n) n.op ≡ false
+operator_scope : (n : Node) (operand : Bool) → is_operator (number n.op) ≡ true → is_operand n ≡ operand → (operand && has_scope n.op) ≡ false → has_wrong_scope (row (number n.op)) (is_operand n) n.op ≡ false
 operator_scope n operand known is free =
     ap (λ (r : Option Row). has_wrong_scope r (is_operand n) n.op) (operator_row (number n.op) known) ∙ ap (λ (b : Bool). b && has_scope n.op) is ∙ free
 

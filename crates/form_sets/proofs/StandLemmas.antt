@@ -2,7 +2,7 @@
 use Rattle.std.proofs.Common.{◌≡◌, ℕ, ◌+◌, ◌≤◌, ◌<◌, Bool, true, false, cond, Some, List, [], ◌∷◌, ◌++◌, length, length-append, refl, sym, ap, ◌∙◌, arith}
 use Rattle.std.specs.Prelude.{◌&&◌, ◌||◌}
 use Rattle.std.proofs.lemmas.Bool.{true≢false, and_right, eq-eqb, ne_eqb}
-use Rattle.ifr_opcodes.specs.Forest.{Forest, none, node, flat, Mark, Ancestor, Placed, AreNodes}
+use Rattle.ifr_opcodes.specs.Forest.{Forest, none, node, flat, Mark, Ancestor, Node, AreNodes}
 use Rattle.ifr_opcodes.specs.Opcode.{number}
 use Rattle.ifr_opcodes.specs.Operators.{is_operator}
 use Rattle.ifr_opcodes.proofs.ForestLemmas.{takes}
@@ -108,7 +108,7 @@ first_of class place op children path around plain other low = record {
 
 -- ---- a node there
 
-abbrev pub there : ℕ → List ℕ → Forest → List Ancestor → Ancestor → Placed
+abbrev pub there : ℕ → List ℕ → Forest → List Ancestor → Ancestor → Node
 there place op children outer a = record { place = place; op = op; path = outer ++ a ∷ []; children = children }
 
 module _ (place : ℕ) (op : List ℕ) (children : Forest) (outer : List Ancestor) (a : Ancestor) where

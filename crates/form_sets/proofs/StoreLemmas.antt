@@ -6,7 +6,7 @@ use Rattle.std.proofs.lemmas.Bool.{cases_Bool, false≢true, ne_eqb, or_from, or
 use Rattle.hii_bytes.specs.Faults.{HasNone}
 use Rattle.hii_bytes.specs.declared.cause.Cause.{Cause}
 use Rattle.hii_bytes.specs.declared.cause.Cause.TheVariants.{DuplicateVarstore}
-use Rattle.ifr_opcodes.specs.Forest.{Placed}
+use Rattle.ifr_opcodes.specs.Forest.{Node}
 use Rattle.ifr_scopes.specs.Nodes.{is_store}
 use Rattle.ifr_scopes.specs.References.{Ranked}
 use Rattle.ifr_scopes.specs.Stores.{store_id}
@@ -15,20 +15,20 @@ use Rattle.form_sets.specs.Ids.{AreStores}
 use Rattle.form_sets.proofs.FoundLemmas.{given, gives}
 use Rattle.form_sets.proofs.RankedLemmas.{IsPart, part_of, part_at, part_there, ranked_part, no_repeat, differ}
 
-abbrev any_node : Placed → Bool
+abbrev any_node : Node → Bool
 any_node n = true
 
-abbrev id_of : Placed → ℕ
+abbrev id_of : Node → ℕ
 id_of n = store_id n.op
 
-all_kept : (ns : List Placed) → filter any_node ns ≡ ns
+all_kept : (ns : List Node) → filter any_node ns ≡ ns
 all_kept [] = refl
 all_kept (n ∷ ns) = ap (λ l. n ∷ l) (all_kept ns)
 
-abbrev stores_of : List Placed → List Placed
+abbrev stores_of : List Node → List Node
 stores_of ns = filter is_store ns
 
-free_id : (ns : List Placed) → AreStores ns → (before : List Placed) (n : Placed) → IsPart (stores_of ns) before n → is_taken (store_id n.op) before ≡ false
+free_id : (ns : List Node) → AreStores ns → (before : List Node) (n : Node) → IsPart (stores_of ns) before n → is_taken (store_id n.op) before ≡ false
 free_id ns good before n part =
     or_from (store_id n.op == 0) (list_any (λ m. store_id m.op == store_id n.op) before)
     (ne_eqb (store_id n.op) 0 (good.ids (store_id n.op) (gives id_of (stores_of ns) n (part_there (stores_of ns) before n part))))
@@ -38,17 +38,17 @@ repeats : (r : Ranked) (cause : Cause) → repeats_store r cause ≡ true → is
 repeats r DuplicateVarstore e = e
 repeats r _ e = absurd (false≢true e)
 
-pub stores_sound : (ns : List Placed) → AreStores ns → HasNone (IsStoreFault ns)
+pub stores_sound : (ns : List Node) → AreStores ns → HasNone (IsStoreFault ns)
 stores_sound ns good cause place (r, there, at, bad) =
     false≢true (sym (free_id ns good r.before r.node (part_of (stores_of ns) r there)) ∙ repeats r cause bad)
 
-none_taken : (ns : List Placed) → HasNone (IsStoreFault ns) → (before : List Placed) (n : Placed) → IsPart (stores_of ns) before n → is_taken (store_id n.op) before ≡ false
+none_taken : (ns : List Node) → HasNone (IsStoreFault ns) → (before : List Node) (n : Node) → IsPart (stores_of ns) before n → is_taken (store_id n.op) before ≡ false
 none_taken ns none before n part = elim (cases_Bool (is_taken (store_id n.op) before)) [
   | inl bad ↦ absurd (none DuplicateVarstore n.place (record { before = before; node = n }, ranked_part (stores_of ns) before n part, refl, bad))
   | inr free ↦ free
 ]
 
-pub stores_complete : (ns : List Placed) → HasNone (IsStoreFault ns) → AreStores ns
+pub stores_complete : (ns : List Node) → HasNone (IsStoreFault ns) → AreStores ns
 stores_complete ns none = record {
   differ = subst (λ l. IsDistinct nat_eq (map id_of l)) (all_kept (stores_of ns))
       (differ any_node id_of (stores_of ns) (λ before n part is. (or_parts (store_id n.op == 0) (list_any (λ m. store_id m.op == store_id n.op) before) (none_taken ns none before n part)).1));

@@ -9,7 +9,7 @@ use Rattle.ifr_opcodes.specs.declared.codes.TheConstants.{RULE_REF}
 use Rattle.ifr_opcodes.specs.Fields.{rule_ref_rule}
 use Rattle.ifr_opcodes.specs.Opcode.{number, has_scope}
 use Rattle.ifr_opcodes.specs.Operators.{is_operator}
-use Rattle.ifr_opcodes.specs.Forest.{Forest, none, node, flat, AreNodes, Mark, Ancestor, Placed, as_ancestor, nodes_at, below}
+use Rattle.ifr_opcodes.specs.Forest.{Forest, none, node, flat, AreNodes, Mark, Ancestor, Node, as_ancestor, nodes_at, below}
 use Rattle.ifr_opcodes.specs.Reading.{tree_of}
 use Rattle.ifr_opcodes.specs.code.Marks.{mark}
 use Rattle.ifr_expr.specs.Faults.{IsExpressionFault}
@@ -33,8 +33,8 @@ use Rattle.form_sets.specs.Naming.{is_rule_reference, references_in}
 
 -- ---- nodes of which none has a scope
 
-abbrev marks : List Placed → List Mark
-marks ns = map (λ (n : Placed). mark n) ns
+abbrev marks : List Node → List Mark
+marks ns = map (λ (n : Node). mark n) ns
 
 alone : (f : Forest) (at : ℕ) (path : List Ancestor) → AreNodes f → ((m : Mark) → Contains (siblings at f) m → has_scope m.op ≡ false) → marks (nodes_at at path f) ≡ siblings at f
 alone none at path h bare = refl
@@ -69,7 +69,7 @@ no_scope from op inner h sound m within = elim (cases_Bool (has_scope m.op)) [
       absurd (sound ScopeBit m.place (inl (m, further first (siblings (from + length op) inner) m within, refl, and_from (has_scope m.op) (not (m.place == from)) scoped (not_from_false (m.place == from) past))))
 ]
 
-pub opcodes_below : (bytes : List ℕ) (n : Placed) → IsChecked bytes → Contains (nodes_of bytes) n → is_rule n ≡ true → post (as_rule n).tree ≡ marks (below n)
+pub opcodes_below : (bytes : List ℕ) (n : Node) → IsChecked bytes → Contains (nodes_of bytes) n → is_rule n ≡ true → post (as_rule n).tree ≡ marks (below n)
 opcodes_below bytes n checked within is =
     let fact = rule_fact bytes n checked within is in
     let op = fact.op in
@@ -79,7 +79,7 @@ opcodes_below bytes n checked within is =
     let first : Ancestor = record { place = from; op = op; children = fact.inner } in
     let inner = nodes_at (from + length op) (path ++ first ∷ []) fact.inner in
     let own : Mark = record { place = from; op = op } in
-    let all : marks (below n) ≡ own ∷ marks inner = ap (λ (f : Forest). marks (nodes_at from path f)) fact.children ∙ ap (λ (l : List Placed). own ∷ marks l) (append-nil inner) in
+    let all : marks (below n) ≡ own ∷ marks inner = ap (λ (f : Forest). marks (nodes_at from path f)) fact.children ∙ ap (λ (l : List Node). own ∷ marks l) (append-nil inner) in
     ap (λ (f : Forest). post (tree_in from f)) fact.children
     ∙ spelled from op fact.inner h fact.operator fact.sound
     ∙ ap (λ (l : List Mark). own ∷ l) (sym (alone fact.inner (from + length op) (path ++ first ∷ []) h.1.0 (no_scope from op fact.inner h fact.sound)))
@@ -87,18 +87,18 @@ opcodes_below bytes n checked within is =
 
 -- ---- the references
 
-abbrev pub reference_at : Placed → RuleReference
+abbrev pub reference_at : Node → RuleReference
 reference_at n = record { id = rule_ref_rule n.op; place = n.place }
 
-of_nodes : (ns : List Placed) → references_among (marks ns) ≡ map reference_at (filter is_rule_reference ns)
+of_nodes : (ns : List Node) → references_among (marks ns) ≡ map reference_at (filter is_rule_reference ns)
 of_nodes [] = refl
 of_nodes (n ∷ ns) = elim (cases_Bool (eqb (number n.op) RULE_REF)) [
   | inl is ↦ rw is (ap (λ (l : List RuleReference). reference_at n ∷ l) (of_nodes ns))
   | inr other ↦ rw other (of_nodes ns)
 ]
 
-pub references_are : (bytes : List ℕ) (n : Placed) → IsChecked bytes → Contains (nodes_of bytes) n → is_rule n ≡ true → references (as_rule n).tree ≡ map reference_at (references_in n)
+pub references_are : (bytes : List ℕ) (n : Node) → IsChecked bytes → Contains (nodes_of bytes) n → is_rule n ≡ true → references (as_rule n).tree ≡ map reference_at (references_in n)
 references_are bytes n checked within is = ap references_among (opcodes_below bytes n checked within is) ∙ of_nodes (below n)
 
-pub how_many : (bytes : List ℕ) (n : Placed) → IsChecked bytes → Contains (nodes_of bytes) n → is_rule n ≡ true → length (post (as_rule n).tree) ≡ length (below n)
-how_many bytes n checked within is = ap (λ (l : List Mark). length l) (opcodes_below bytes n checked within is) ∙ length-map (below n) (λ (m : Placed). mark m)
+pub how_many : (bytes : List ℕ) (n : Node) → IsChecked bytes → Contains (nodes_of bytes) n → is_rule n ≡ true → length (post (as_rule n).tree) ≡ length (below n)
+how_many bytes n checked within is = ap (λ (l : List Mark). length l) (opcodes_below bytes n checked within is) ∙ length-map (below n) (λ (m : Node). mark m)

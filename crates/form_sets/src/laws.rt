@@ -5,7 +5,7 @@ ghost use Rattle.std.specs.List.{find};
 ghost use Rattle.hii_bytes.specs.Faults.{HasNone};
 ghost use Rattle.ifr_expr.specs.Meaning.{names};
 ghost use Rattle.ifr_opcodes.specs.Fields.{rule_ref_rule};
-ghost use Rattle.ifr_opcodes.specs.Forest.{Forest, Placed, SpellsForest, nodes};
+ghost use Rattle.ifr_opcodes.specs.Forest.{Forest, Node, SpellsForest, nodes};
 ghost use Rattle.ifr_scopes.specs.Accepted.{IsAccepted};
 ghost use Rattle.ifr_scopes.specs.Checked.{IsChecked};
 ghost use Rattle.ifr_scopes.specs.Nodes.{nodes_of};
@@ -32,7 +32,7 @@ pub fn a_form_set_has_no_structure_fault()
 /// A reference to a rule names the last rule by place that has its id, stands before it under the same innermost FORM and does
 /// not hold it in its scope: the one whose value it has.
 pub fn a_reference_names_the_last_rule_before_it()
-    ensures { (bytes : List ℕ) (n : Placed) → IsChecked bytes → Contains (nodes_of bytes) n
+    ensures { (bytes : List ℕ) (n : Node) → IsChecked bytes → Contains (nodes_of bytes) n
         → is_rule_reference n ≡ true →
         find (names (rule_ref_rule n.op) n.place) (rules_among (nodes_of bytes))
         ≡ option_map as_rule (named_rule (nodes_of bytes) n) }
@@ -48,14 +48,14 @@ pub fn good_ids_have_no_reference_fault()
 
 /// Stores have no fault exactly where their ids differ and none is 0.
 pub fn good_stores_have_no_fault()
-    ensures sound { (ns : List Placed) → AreStores ns → HasNone (IsStoreFault ns) }
-    ensures complete { (ns : List Placed) → HasNone (IsStoreFault ns) → AreStores ns }
+    ensures sound { (ns : List Node) → AreStores ns → HasNone (IsStoreFault ns) }
+    ensures complete { (ns : List Node) → HasNone (IsStoreFault ns) → AreStores ns }
 {}
 
 /// Questions have no fault exactly where each is good.
 pub fn good_questions_have_no_fault()
-    ensures sound { (ns : List Placed) → AreGoodQuestions ns → HasNone (IsQuestionFault ns) }
-    ensures complete { (ns : List Placed) → HasNone (IsQuestionFault ns) → AreGoodQuestions ns }
+    ensures sound { (ns : List Node) → AreGoodQuestions ns → HasNone (IsQuestionFault ns) }
+    ensures complete { (ns : List Node) → HasNone (IsQuestionFault ns) → AreGoodQuestions ns }
 {}
 
 /// A package is accepted, and its stores and questions have no fault, exactly where it is good.

@@ -1,7 +1,7 @@
 -- Forms, statements and options are indexed.
 use Rattle.std.proofs.Common.{◌≡◌, ℕ, true, Option, List, refl, sym, ap, ◌∙◌, inl, inr}
 use Rattle.std.proofs.lemmas.Bool.{cases_Bool}
-use Rattle.ifr_opcodes.specs.Forest.{Placed, SpellsForest}
+use Rattle.ifr_opcodes.specs.Forest.{Node, SpellsForest}
 use Rattle.ifr_opcodes.specs.Reading.{tree_of}
 use Rattle.ifr_scopes.specs.Guards.{guards}
 use Rattle.ifr_scopes.specs.code.Checked.{IsNodeOf}
@@ -11,16 +11,16 @@ use Rattle.ifr_scopes.specs.Nodes.{nodes_of, is_form, is_statement, is_option}
 use Rattle.ifr_scopes.proofs.PathLemmas.{own_guards, own_lock}
 use Rattle.ifr_scopes.proofs.ViewLemmas.{contains_found}
 
-pub of_form : (n : Placed) → is_form n ≡ true → is_indexed n ≡ true
+pub of_form : (n : Node) → is_form n ≡ true → is_indexed n ≡ true
 of_form n is = rw is refl
 
-pub of_statement : (n : Placed) → is_statement n ≡ true → is_indexed n ≡ true
+pub of_statement : (n : Node) → is_statement n ≡ true → is_indexed n ≡ true
 of_statement n is = elim (cases_Bool (is_form n)) [
   | inl form ↦ rw form refl
   | inr other ↦ rw (other, is) refl
 ]
 
-pub of_option : (n : Placed) → is_option n ≡ true → is_indexed n ≡ true
+pub of_option : (n : Node) → is_option n ≡ true → is_indexed n ≡ true
 of_option n is = elim (cases_Bool (is_form n)) [
   | inl form ↦ rw form refl
   | inr other ↦ elim (cases_Bool (is_statement n)) [
@@ -30,9 +30,9 @@ of_option n is = elim (cases_Bool (is_form n)) [
 ]
 
 -- the guards that are looked up at the place of a node are those of the node
-pub guards_there : (bytes : List ℕ) (n : Placed) (place : ℕ) (gs : List Placed) → SpellsForest bytes (tree_of bytes) → IsNodeOf bytes n → is_indexed n ≡ true → n.place ≡ place → gs ≡ guards_of_indexed (nodes_of bytes) place → gs ≡ guards n
+pub guards_there : (bytes : List ℕ) (n : Node) (place : ℕ) (gs : List Node) → SpellsForest bytes (tree_of bytes) → IsNodeOf bytes n → is_indexed n ≡ true → n.place ≡ place → gs ≡ guards_of_indexed (nodes_of bytes) place → gs ≡ guards n
 guards_there bytes n place gs s node indexed at e = e ∙ ap (guards_of_indexed (nodes_of bytes)) (sym at) ∙ own_guards bytes n s (contains_found (nodes_of bytes) n.place n node) indexed
 
 -- and so is the LOCKED
-pub lock_there : (bytes : List ℕ) (n : Placed) (place : ℕ) (lock : Option Placed) → SpellsForest bytes (tree_of bytes) → IsNodeOf bytes n → is_indexed n ≡ true → n.place ≡ place → lock ≡ lock_of_indexed (nodes_of bytes) place → lock ≡ first_lock (nodes_of bytes) n
+pub lock_there : (bytes : List ℕ) (n : Node) (place : ℕ) (lock : Option Node) → SpellsForest bytes (tree_of bytes) → IsNodeOf bytes n → is_indexed n ≡ true → n.place ≡ place → lock ≡ lock_of_indexed (nodes_of bytes) place → lock ≡ first_lock (nodes_of bytes) n
 lock_there bytes n place lock s node indexed at e = e ∙ ap (lock_of_indexed (nodes_of bytes)) (sym at) ∙ own_lock bytes n s (contains_found (nodes_of bytes) n.place n node) indexed

@@ -3,7 +3,7 @@ use Rattle.std.proofs.Common.{◌≡◌, ℕ, suc, List, [], ◌∷◌, get_or, 
 use Rattle.std.specs.Prelude.{Contains, filter}
 use Rattle.std.proofs.lemmas.Bool.{cases_Bool, cond-true, cond-false}
 use Rattle.std.proofs.lemmas.List.Elements.{Contains-get_or}
-use Rattle.ifr_opcodes.specs.Forest.{Placed, below, SpellsForest}
+use Rattle.ifr_opcodes.specs.Forest.{Node, below, SpellsForest}
 use Rattle.ifr_opcodes.specs.Reading.{tree_of}
 use Rattle.ifr_scopes.specs.code.Checked.{IsNodeOf, AreNodesOf}
 use Rattle.ifr_scopes.specs.Nodes.{nodes_of, is_option, is_question, options}
@@ -11,20 +11,20 @@ use Rattle.ifr_scopes.proofs.PathLemmas.{kept}
 use Rattle.ifr_scopes.proofs.PlaceLemmas.{is_found}
 use Rattle.ifr_scopes.proofs.ViewLemmas.{below_within, contains_found}
 
-options_within : (q n : Placed) → Contains (options q) n → Contains (below q) n
+options_within : (q n : Node) → Contains (options q) n → Contains (below q) n
 options_within q n w = elim (cases_Bool (is_question q)) [
-  | inl asks ↦ kept is_option (below q) n (subst (λ (l : List Placed). Contains l n) (cond-true (is_question q) (filter is_option (below q)) [] asks) w)
-  | inr none ↦ let nowhere = subst (λ (l : List Placed). Contains l n) (cond-false (is_question q) (filter is_option (below q)) [] none) w in absurd (omega (arith, nowhere.1))
+  | inl asks ↦ kept is_option (below q) n (subst (λ (l : List Node). Contains l n) (cond-true (is_question q) (filter is_option (below q)) [] asks) w)
+  | inr none ↦ let nowhere = subst (λ (l : List Node). Contains l n) (cond-false (is_question q) (filter is_option (below q)) [] none) w in absurd (omega (arith, nowhere.1))
 ]
 
-pub options_are_nodes : (bytes : List ℕ) (q : Placed) → SpellsForest bytes (tree_of bytes) → IsNodeOf bytes q → AreNodesOf bytes (options q)
+pub options_are_nodes : (bytes : List ℕ) (q : Node) → SpellsForest bytes (tree_of bytes) → IsNodeOf bytes q → AreNodesOf bytes (options q)
 options_are_nodes bytes q s is = λ i d lt.
     let within = below_within (tree_of bytes) 4 [] q (get_or (options q) i d) (contains_found (nodes_of bytes) q.place q is) (options_within q _ (Contains-get_or (options q) i d lt)) in
     is_found bytes (tree_of bytes) (get_or (options q) i d) s within
 
 -- so is the first of such nodes, and so are the rest
-pub first_of : (bytes : List ℕ) (left : List Placed) (n : Placed) (rest : List Placed) → left ≡ n ∷ rest → AreNodesOf bytes left → IsNodeOf bytes n
+pub first_of : (bytes : List ℕ) (left : List Node) (n : Node) (rest : List Node) → left ≡ n ∷ rest → AreNodesOf bytes left → IsNodeOf bytes n
 first_of bytes left n rest e all = subst (AreNodesOf bytes) e all 0 n (omega arith)
 
-pub rest_of : (bytes : List ℕ) (left : List Placed) (n : Placed) (rest : List Placed) → left ≡ n ∷ rest → AreNodesOf bytes left → AreNodesOf bytes rest
+pub rest_of : (bytes : List ℕ) (left : List Node) (n : Node) (rest : List Node) → left ≡ n ∷ rest → AreNodesOf bytes left → AreNodesOf bytes rest
 rest_of bytes left n rest e all = λ i d lt. subst (AreNodesOf bytes) e all (suc i) d (omega arith)

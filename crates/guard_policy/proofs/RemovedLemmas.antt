@@ -7,7 +7,7 @@ use Rattle.std.proofs.lemmas.Bool.{cases_Bool, cases_lt, eqb-true, eq-eqb, ne_eq
 use Rattle.std.proofs.lemmas.List.Sorted.{searched}
 use Rattle.hii_bytes.specs.code.FirstFaults.{Rise}
 use Rattle.ifr_opcodes.specs.declared.codes.TheConstants.{DISABLE_IF}
-use Rattle.ifr_opcodes.specs.Forest.{Placed}
+use Rattle.ifr_opcodes.specs.Forest.{Node}
 use Rattle.ifr_opcodes.specs.Opcode.{number}
 use Rattle.ifr_opcodes.specs.Operators.{is_among}
 use Rattle.ifr_scopes.specs.Guards.{is_guard}
@@ -21,13 +21,13 @@ lower low high [] le r = tt
 lower low high (x ∷ xs) le r = let above : high ≤ x = r.0 in (omega arith, r.1)
 
 -- so do the places of some of the nodes
-pub places_ascend : (which : Placed → Bool) (low : ℕ) (ns : List Placed) → Rise (λ (n : Placed). n.place) low ns → Ascend low (map (λ (n : Placed). n.place) (filter which ns))
+pub places_ascend : (which : Node → Bool) (low : ℕ) (ns : List Node) → Rise (λ (n : Node). n.place) low ns → Ascend low (map (λ (n : Node). n.place) (filter which ns))
 places_ascend which low [] r = tt
 places_ascend which low (n ∷ ns) r = elim (cases_Bool (which n)) [
   | inl is ↦ rw is (r.0, places_ascend which (n.place + 1) ns r.1)
   | inr other ↦
       let first : low ≤ n.place = r.0 in
-      rw other (lower low (n.place + 1) (map (λ (m : Placed). m.place) (filter which ns)) (omega arith) (places_ascend which (n.place + 1) ns r.1))
+      rw other (lower low (n.place + 1) (map (λ (m : Node). m.place) (filter which ns)) (omega arith) (places_ascend which (n.place + 1) ns r.1))
 ]
 
 pub from_zero : (low : ℕ) (xs : List ℕ) → Ascend low xs → Ascend 0 xs
@@ -71,13 +71,13 @@ is_there xs x (Err i) up found =
     ]))
 
 -- a DISABLE_IF is a guard
-pub of_guards : (met : Placed → Bool) (ns : List Placed) → filter (λ n. eqb (number n.op) DISABLE_IF && met n) (filter (λ n. is_guard (number n.op)) ns) ≡ filter (λ n. eqb (number n.op) DISABLE_IF && met n) ns
+pub of_guards : (met : Node → Bool) (ns : List Node) → filter (λ n. eqb (number n.op) DISABLE_IF && met n) (filter (λ n. is_guard (number n.op)) ns) ≡ filter (λ n. eqb (number n.op) DISABLE_IF && met n) ns
 of_guards met [] = refl
 of_guards met (n ∷ ns) = elim (cases_Bool (eqb (number n.op) DISABLE_IF)) [
   | inl is ↦
       let guards : is_guard (number n.op) ≡ true = ap is_guard (eqb-true (number n.op) DISABLE_IF is) in
       elim (cases_Bool (met n)) [
-        | inl holds ↦ rw (guards, is, holds) (ap (λ (l : List Placed). n ∷ l) (of_guards met ns))
+        | inl holds ↦ rw (guards, is, holds) (ap (λ (l : List Node). n ∷ l) (of_guards met ns))
         | inr not ↦ rw (guards, is, not) (of_guards met ns)
       ]
   | inr other ↦ elim (cases_Bool (is_guard (number n.op))) [

@@ -7,7 +7,7 @@ use Rattle.std.proofs.lemmas.List.{append_assoc}
 use Rattle.std.proofs.lemmas.List.Elements.{Contains-get_or}
 use Rattle.ifr_opcodes.specs.declared.codes.TheConstants.{SUPPRESS_IF, GRAY_OUT_IF, NO_SUBMIT_IF}
 use Rattle.ifr_opcodes.specs.Fields.{option_value}
-use Rattle.ifr_opcodes.specs.Forest.{Ancestor, Placed, node_at}
+use Rattle.ifr_opcodes.specs.Forest.{Ancestor, Node, node_at}
 use Rattle.ifr_opcodes.specs.Opcode.{number}
 use Rattle.ifr_opcodes.specs.Reading.{tree_of}
 use Rattle.ifr_scopes.specs.Accepted.{IsAccepted}
@@ -62,7 +62,7 @@ each P [] h = tt
 each P (x ∷ xs) h = (h 0 x (omega arith), each P xs (λ k d lt. h (suc k) d (omega arith)))
 
 -- of the node that is found at a place
-at_place : (P : Placed → Type 0) (ns : List Placed) (place : ℕ) (n : Placed) → node_at ns place ≡ Some n → AllByRecursion P ns → P n
+at_place : (P : Node → Type 0) (ns : List Node) (place : ℕ) (n : Node) → node_at ns place ≡ Some n → AllByRecursion P ns → P n
 at_place P [] place n e h = absurd cc
 at_place P (m ∷ ns) place n e h = elim (cases_Bool (m.place == place)) [
   | inl here ↦ subst P (ap or_empty (sym (cond-true (m.place == place) (Some m) (node_at ns place) here) ∙ e)) h.0
@@ -75,16 +75,16 @@ and_false false = refl
 
 -- ---- kinds
 
-suppressing_kept : (g : Placed) → number g.op == SUPPRESS_IF ≡ true → is_kept g ≡ true
+suppressing_kept : (g : Node) → number g.op == SUPPRESS_IF ≡ true → is_kept g ≡ true
 suppressing_kept g e = rw e refl
 
-graying_out_kept : (g : Placed) → number g.op == GRAY_OUT_IF ≡ true → is_kept g ≡ true
+graying_out_kept : (g : Node) → number g.op == GRAY_OUT_IF ≡ true → is_kept g ≡ true
 graying_out_kept g e = elim (cases_Bool (number g.op == SUPPRESS_IF)) [
   | inl first ↦ rw first refl
   | inr other ↦ rw (other, e) refl
 ]
 
-no_submit_kept : (g : Placed) → is_no_submit g ≡ true → is_kept g ≡ true
+no_submit_kept : (g : Node) → is_no_submit g ≡ true → is_kept g ≡ true
 no_submit_kept g e = elim (cases_Bool (number g.op == SUPPRESS_IF)) [
   | inl first ↦ rw first refl
   | inr other ↦ elim (cases_Bool (number g.op == GRAY_OUT_IF)) [
@@ -95,7 +95,7 @@ no_submit_kept g e = elim (cases_Bool (number g.op == SUPPRESS_IF)) [
 
 -- ---- the nodes around a node
 
-around_nodes : (bytes : List ℕ) (n : Placed) (before path : List Ancestor) → IsAccepted bytes → IsNodeOf bytes n → n.path ≡ before ++ path → AllByRecursion (IsNodeOf bytes) (nodes_on before path)
+around_nodes : (bytes : List ℕ) (n : Node) (before path : List Ancestor) → IsAccepted bytes → IsNodeOf bytes n → n.path ≡ before ++ path → AllByRecursion (IsNodeOf bytes) (nodes_on before path)
 around_nodes bytes n before [] accepted is e = tt
 around_nodes bytes n before (a ∷ path) accepted is e =
     let found = ancestor_node bytes n before path a accepted.checked.spelled is e in
@@ -107,20 +107,20 @@ module _ (bytes removed : List ℕ) (stores : StoreMap) (holding : ℕ → Bool)
   abbrev w : World
   w = world_over (nodes_of bytes) removed stores
 
-  abbrev IsTold : Placed → Type 0
+  abbrev IsTold : Node → Type 0
   IsTold c = holding c.place ≡ is_met w c
 
-  kept_told : TellsAll holding w → (g : Placed) → IsNodeOf bytes g → is_kept g ≡ true → IsTold g
+  kept_told : TellsAll holding w → (g : Node) → IsNodeOf bytes g → is_kept g ≡ true → IsTold g
   kept_told all g is = at_place (λ c. is_kept c ≡ true → IsTold c) (nodes_of bytes) g.place g is (unfiltered IsTold is_kept (nodes_of bytes) all)
 
-  pub around_told : TellsAll holding w → (n : Placed) → IsNodeOf bytes n → Tells holding w (around n)
+  pub around_told : TellsAll holding w → (n : Node) → IsNodeOf bytes n → Tells holding w (around n)
   around_told all n is =
       let gs = turned (IsNodeOf bytes) (IsNodeOf bytes) (λ g. is_guard (number g.op)) (λ g e h. h) (ancestors n) (around_nodes bytes n [] n.path accepted is refl) in
       joined IsTold (suppressing n) (graying_out n)
       (turned (IsNodeOf bytes) IsTold (λ g. number g.op == SUPPRESS_IF) (λ g e h. kept_told all g h (suppressing_kept g e)) (guards n) gs)
       (turned (IsNodeOf bytes) IsTold (λ g. number g.op == GRAY_OUT_IF) (λ g e h. kept_told all g h (graying_out_kept g e)) (guards n) gs)
 
-  suppressing_told : TellsAll holding w → (n : Placed) → IsNodeOf bytes n → Tells holding w (suppressing n)
+  suppressing_told : TellsAll holding w → (n : Node) → IsNodeOf bytes n → Tells holding w (suppressing n)
   suppressing_told all n is = front IsTold (suppressing n) (graying_out n) (around_told all n is)
 
   submission_told : TellsAll holding w → Tells holding w (filter (counts w.removed) (filter is_no_submit w.nodes))
@@ -143,13 +143,13 @@ module _ (bytes removed : List ℕ) (stores : StoreMap) (holding : ℕ → Bool)
 -- ---- conditions that are evaluated whenever they are asked
 
 -- the node of a kind that is found at its place is the first of the kind there
-pub kind_found : (is : Placed → Bool) (ns : List Placed) (n : Placed) → node_at ns n.place ≡ Some n → is n ≡ true → kind_at is ns n.place ≡ Some n
+pub kind_found : (is : Node → Bool) (ns : List Node) (n : Node) → node_at ns n.place ≡ Some n → is n ≡ true → kind_at is ns n.place ≡ Some n
 kind_found is [] n e k = absurd cc
 kind_found is (m ∷ ns) n e k = elim (cases_Bool (m.place == n.place)) [
   | inl here ↦
       let same : m ≡ n = ap or_empty (sym (cond-true (m.place == n.place) (Some m) (node_at ns n.place) here) ∙ e) in
       let kind : is m ≡ true = ap is same ∙ k in
-      cond-true (is m && (m.place == n.place)) (Some m) (kind_at is ns n.place) (rw (kind, here) refl) ∙ ap (λ (x : Placed). Some x) same
+      cond-true (is m && (m.place == n.place)) (Some m) (kind_at is ns n.place) (rw (kind, here) refl) ∙ ap (λ (x : Node). Some x) same
   | inr past ↦
       cond-false (is m && (m.place == n.place)) (Some m) (kind_at is ns n.place) (ap (λ (b : Bool). is m && b) past ∙ and_false (is m)) ∙ kind_found is ns n (sym (cond-false (m.place == n.place) (Some m) (node_at ns n.place) past) ∙ e) k
 ]
@@ -158,7 +158,7 @@ conditional_no_submit : (code : ℕ) → code ≡ NO_SUBMIT_IF → is_guard code
 unfolding is_condition_number
 conditional_no_submit code e = rw e refl
 
-pub kept_conditional : (g : Placed) → is_kept g ≡ true → is_conditional g ≡ true
+pub kept_conditional : (g : Node) → is_kept g ≡ true → is_conditional g ≡ true
 kept_conditional g e = elim (cases_Bool (number g.op == SUPPRESS_IF)) [
   | inl first ↦ rw first refl
   | inr other ↦ elim (cases_Bool (number g.op == GRAY_OUT_IF)) [

@@ -2,7 +2,7 @@
 
 ghost use Rattle.std.specs.Prelude.{◌≡◌, true};
 ghost use Rattle.std.specs.Iterator.{YieldsFirstBy};
-ghost use Rattle.ifr_opcodes.specs.Forest.{Placed};
+ghost use Rattle.ifr_opcodes.specs.Forest.{Node};
 ghost use Rattle.ifr_scopes.specs.code.Checked.{IsNodeOf};
 ghost use Rattle.ifr_scopes.specs.code.Index.{is_indexed};
 ghost use Rattle.ifr_scopes.specs.code.Lists.{guard_node};
@@ -35,7 +35,7 @@ pub(crate) struct Around<'a, 's> {
 impl<'a, 's> Around<'a, 's> {
     /// The guards that may hide the form, statement or option at a place.
     pub(crate) fn hiding(forms: &'s Forms<'a>, place: u32) -> Around<'a, 's>
-        ensures { (n : Placed) → IsNodeOf forms.now n → is_indexed n ≡ true → n.place ≡ place
+        ensures { (n : Node) → IsNodeOf forms.now n → is_indexed n ≡ true → n.place ≡ place
             → around_left result ≡ suppressing n }
     {
         Around {
@@ -46,7 +46,7 @@ impl<'a, 's> Around<'a, 's> {
 
     /// The guards that may hide the form, statement or option at a place or let it not be changed.
     pub(crate) fn changing(forms: &'s Forms<'a>, place: u32) -> Around<'a, 's>
-        ensures { (n : Placed) → IsNodeOf forms.now n → is_indexed n ≡ true → n.place ≡ place
+        ensures { (n : Node) → IsNodeOf forms.now n → is_indexed n ≡ true → n.place ≡ place
             → around_left result ≡ around n }
     {
         let graying_out = forms.guards_at(place);

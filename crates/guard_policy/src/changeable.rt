@@ -1,7 +1,7 @@
 //! Questions that may be changed, and the values of their options.
 
 ghost use Rattle.std.specs.Prelude.{◌≡◌, IfOk, None};
-ghost use Rattle.ifr_opcodes.specs.Forest.{Placed};
+ghost use Rattle.ifr_opcodes.specs.Forest.{Node};
 ghost use Rattle.ifr_scopes.specs.code.Checked.{IsNodeOf};
 ghost use Rattle.ifr_scopes.specs.code.Lists.{statement_node};
 ghost use Rattle.ifr_scopes.specs.Nodes.{nodes_of};
@@ -78,7 +78,7 @@ impl<'a, 's> Policy<'a, 's> {
         requires node { IsNodeOf self.now.forms.now (question_node question) }
         requires around { IsAroundNode self.now.forms.now (question_node question) around }
         requires free { spec.fixed
-            (world_by self.now (λ (n : Placed). C.holding conditions.now n.place))
+            (world_by self.now (λ (n : Node). C.holding conditions.now n.place))
             (question_node question) ≡ None }
         ensures { DecidesBy (C.holding conditions.now) (world self.now)
             (OptionOpen question.entry value) result }

@@ -44,10 +44,10 @@ pub trait Conditions {
 /// Where a decision learns whether a condition holds.
 pub(crate) trait Verdicts<'a> {
     ghost use Rattle.std.specs.Prelude.{◌≡◌, Bool};
-    ghost use Rattle.ifr_opcodes.specs.Forest.{Placed};
+    ghost use Rattle.ifr_opcodes.specs.Forest.{Node};
     ghost use Rattle.ifr_scopes.specs.code.AnyConditions.{any_condition_node};
 
-    ghost met: { Self → Placed → Bool };
+    ghost met: { Self → Node → Bool };
 
     /// Whether a condition holds.
     fn is_met(&self, condition: AnyCondition<'a>) -> bool

@@ -2,7 +2,7 @@
 
 ghost use Rattle.std.specs.Prelude.{◌≡◌, true, IfSome, if◌then◌else◌, Some, option_map};
 ghost use Rattle.std.specs.List.{find, list_any};
-ghost use Rattle.ifr_opcodes.specs.Forest.{Placed};
+ghost use Rattle.ifr_opcodes.specs.Forest.{Node};
 ghost use Rattle.ifr_scopes.specs.Guards.{guards};
 ghost use Rattle.ifr_scopes.specs.code.AroundViews.{around_guards, around_lock};
 ghost use Rattle.ifr_scopes.specs.code.Checked.{IsNodeOf};
@@ -145,7 +145,7 @@ impl<'a, 's> Policy<'a, 's> {
         position: u32,
         verdicts: &V,
     ) -> Result<(), Denial>
-        ensures { (n : Placed) → IsNodeOf self.now.forms.now n → is_indexed n ≡ true
+        ensures { (n : Node) → IsNodeOf self.now.forms.now n → is_indexed n ≡ true
             → n.place ≡ place → result
             ≡ denying.unless (spec.hidden (world_by self.now (V.met verdicts.now)) n) }
     {
@@ -180,7 +180,7 @@ impl<'a, 's> Policy<'a, 's> {
         position: u32,
         verdicts: &V,
     ) -> Result<(), Denial>
-        ensures { (n : Placed) → IsNodeOf self.now.forms.now n → is_indexed n ≡ true
+        ensures { (n : Node) → IsNodeOf self.now.forms.now n → is_indexed n ≡ true
             → n.place ≡ place → result
             ≡ denying.unless (spec.covered (world_by self.now (V.met verdicts.now)) n) }
     {
@@ -198,7 +198,7 @@ impl<'a, 's> Policy<'a, 's> {
     ) -> Result<(), Denial>
         requires { IfSome free
             (IsFree self.now.forms.now (world_by self.now (V.met verdicts.now))) }
-        ensures { (n : Placed) → IsNodeOf self.now.forms.now n → is_indexed n ≡ true
+        ensures { (n : Node) → IsNodeOf self.now.forms.now n → is_indexed n ≡ true
             → n.place ≡ place → result
             ≡ denying.unless (spec.covered (world_by self.now (V.met verdicts.now)) n) }
     {

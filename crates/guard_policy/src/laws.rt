@@ -1,7 +1,7 @@
 //! Laws of the definitions of decisions.
 
 ghost use Rattle.std.specs.Prelude.{◌≡◌, ℕ, Bool, List, true, Some};
-ghost use Rattle.ifr_opcodes.specs.Forest.{Placed};
+ghost use Rattle.ifr_opcodes.specs.Forest.{Node};
 ghost use Rattle.ifr_scopes.specs.Accepted.{IsAccepted};
 ghost use Rattle.ifr_scopes.specs.code.Checked.{IsNodeOf};
 ghost use Rattle.ifr_scopes.specs.Nodes.{nodes_of};
@@ -14,12 +14,12 @@ ghost use Rattle.guard_policy.specs.declared.support.Decision.{Decision};
 
 /// A decision depends on the answers of its questions alone.
 pub fn a_decision_depends_on_its_questions_alone()
-    ensures denied { (ns : List Placed) (removed : List ℕ) (stores others : StoreMap)
+    ensures denied { (ns : List Node) (removed : List ℕ) (stores others : StoreMap)
         (decision : Decision)
         → AnswersAgree ns stores others (support (world_over ns removed stores) decision)
         → denial (world_over ns removed others) decision
         ≡ denial (world_over ns removed stores) decision }
-    ensures warned { (ns : List Placed) (removed : List ℕ) (stores others : StoreMap)
+    ensures warned { (ns : List Node) (removed : List ℕ) (stores others : StoreMap)
         (decision : Decision)
         → AnswersAgree ns stores others (support (world_over ns removed stores) decision)
         → warning_of (world_over ns removed others) decision
@@ -29,7 +29,7 @@ pub fn a_decision_depends_on_its_questions_alone()
 /// A denial depends on the answers of the questions of its conditions alone up to the first that holds: that one decides,
 /// or what is behind no condition.
 pub fn a_denial_depends_on_what_decides()
-    ensures { (ns : List Placed) (removed : List ℕ) (stores others : StoreMap)
+    ensures { (ns : List Node) (removed : List ℕ) (stores others : StoreMap)
         (decision : Decision) (d : Denial)
         → is_by_first decision ≡ true → denial (world_over ns removed stores) decision ≡ Some d
         → AnswersAgree ns stores others
@@ -40,7 +40,7 @@ pub fn a_denial_depends_on_what_decides()
 
 /// What is kept of all conditions of an accepted package tells of those around each of its nodes, and of those of a decision.
 pub fn what_is_kept_tells()
-    ensures node { (bytes removed : List ℕ) (stores : StoreMap) (holding : ℕ → Bool) (n : Placed)
+    ensures node { (bytes removed : List ℕ) (stores : StoreMap) (holding : ℕ → Bool) (n : Node)
         → IsAccepted bytes → IsNodeOf bytes n
         → TellsAll holding (world_over (nodes_of bytes) removed stores)
         → Tells holding (world_over (nodes_of bytes) removed stores) (around n) }

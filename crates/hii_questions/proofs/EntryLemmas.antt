@@ -5,7 +5,7 @@ use Rattle.std.proofs.lemmas.Bool.{and_from, and_parts, cases_Bool}
 use Rattle.std.proofs.lemmas.List.{length-map, map-append}
 use Rattle.std.proofs.lemmas.List.Elements.{All-append}
 use Rattle.std.proofs.lemmas.List.Sums.{length-filter, count_by-le-length}
-use Rattle.ifr_opcodes.specs.Forest.{Placed, SpellsForest}
+use Rattle.ifr_opcodes.specs.Forest.{Node, SpellsForest}
 use Rattle.ifr_opcodes.specs.Reading.{tree_of}
 use Rattle.ifr_scopes.specs.Accepted.{IsAccepted}
 use Rattle.ifr_scopes.specs.Nodes.{nodes_of, is_question, is_statement}
@@ -22,7 +22,7 @@ use Rattle.hii_questions.specs.declared.entry.QuestionEntry.{QuestionEntry}
 use Rattle.hii_questions.proofs.QuestionLemmas.{question_is_statement}
 
 -- what is kept of a node that is a question
-pub entry_kept : (ifr : List ℕ) (shape : Shape) (n : Placed) (e : QuestionEntry) → SpellsForest ifr (tree_of ifr) → Contains (nodes_of ifr) n → IsEntryOf shape n e → IsQuestionEntry ifr e
+pub entry_kept : (ifr : List ℕ) (shape : Shape) (n : Node) (e : QuestionEntry) → SpellsForest ifr (tree_of ifr) → Contains (nodes_of ifr) n → IsEntryOf shape n e → IsQuestionEntry ifr e
 entry_kept ifr shape n e s within of =
     let here = node_in_place ifr n s within in
     let same : node_in ifr e.place ≡ n = ap (node_in ifr) of.place ∙ here in
@@ -30,8 +30,8 @@ entry_kept ifr shape n e s within of =
     record {
       there = subst (λ (p : ℕ). has_statement ifr p ≡ true) (sym of.place) stands;
       asks = ap is_question same ∙ of.asks;
-      wide = subst (λ (m : Placed). HasWidth m (entry_field e)) (sym same) of.wide;
-      narrow = subst (λ (m : Placed). IsNarrow m (entry_field e)) (sym same) of.narrow;
+      wide = subst (λ (m : Node). HasWidth m (entry_field e)) (sym same) of.wide;
+      narrow = subst (λ (m : Node). IsNarrow m (entry_field e)) (sym same) of.narrow;
     }
 
 -- The question stands at the place that is kept.
@@ -39,7 +39,7 @@ pub entry_place : (ifr : List ℕ) (e : QuestionEntry) → SpellsForest ifr (tre
 entry_place ifr e s is = (stands_there ifr e.place s (and_parts (has_node ifr e.place) (is_statement (node_in ifr e.place)) is.there).0).1
 
 -- one more statement that is a question
-pub push_question : (ifr : List ℕ) (shape : Shape) (es : List QuestionEntry) (e : QuestionEntry) (n : Placed) (left rest : List Placed) (all : List Asked)
+pub push_question : (ifr : List ℕ) (shape : Shape) (es : List QuestionEntry) (e : QuestionEntry) (n : Node) (left rest : List Node) (all : List Asked)
     → SpellsForest ifr (tree_of ifr) → Contains (nodes_of ifr) n → IsEntryOf shape n e → left ≡ n ∷ rest
     → map (entry_view ifr) es ++ map (asked_at shape) (filter is_question left) ≡ all
     → map (entry_view ifr) (es ++ e ∷ []) ++ map (asked_at shape) (filter is_question rest) ≡ all
@@ -47,15 +47,15 @@ push_question ifr shape es e n left rest all s within of steps was =
     let node : node_in ifr e.place ≡ n = ap (node_in ifr) of.place ∙ node_in_place ifr n s within in
     let same : entry_view ifr e ≡ asked_at shape n = λ i. record { node = node i; field = of.field i } in
     let first : map (asked_at shape) (filter is_question left) ≡ entry_view ifr e ∷ map (asked_at shape) (filter is_question rest) =
-    ap (λ (l : List Placed). map (asked_at shape) (filter is_question l)) steps ∙ rw of.asks (ap (λ (a : Asked). a ∷ map (asked_at shape) (filter is_question rest)) (sym same)) in
+    ap (λ (l : List Node). map (asked_at shape) (filter is_question l)) steps ∙ rw of.asks (ap (λ (a : Asked). a ∷ map (asked_at shape) (filter is_question rest)) (sym same)) in
     ap (λ (l : List Asked). l ++ map (asked_at shape) (filter is_question rest)) (map-append (entry_view ifr) es (e ∷ []))
     ∙ append_assoc (map (entry_view ifr) es) (entry_view ifr e ∷ []) (map (asked_at shape) (filter is_question rest))
     ∙ ap (λ (l : List Asked). map (entry_view ifr) es ++ l) (sym first) ∙ was
 
 -- one that is none
-pub pass_statement : (shape : Shape) (n : Placed) (left rest : List Placed) → is_question n ≡ false → left ≡ n ∷ rest
+pub pass_statement : (shape : Shape) (n : Node) (left rest : List Node) → is_question n ≡ false → left ≡ n ∷ rest
     → map (asked_at shape) (filter is_question rest) ≡ map (asked_at shape) (filter is_question left)
-pass_statement shape n left rest other steps = sym (ap (λ (l : List Placed). map (asked_at shape) (filter is_question l)) steps ∙ rw other refl)
+pass_statement shape n left rest other steps = sym (ap (λ (l : List Node). map (asked_at shape) (filter is_question l)) steps ∙ rw other refl)
 
 all_one : {X : Type 0} (P : X → Type 0) (x : X) → P x → All P (x ∷ [])
 all_one P x is zero d lt = is
@@ -86,5 +86,5 @@ pub few_questions : (ifr : List ℕ) → IsAccepted ifr → length (questions (n
 few_questions ifr accepted =
     let ns = nodes_of ifr in
     let first = at_first ifr accepted.checked.header accepted.checked.small accepted.checked.spelled in
-    let all : length ns < 2 ^ 32 = subst (λ (l : List Placed). length l < 2 ^ 32) first.1 (few_left ifr 4 [] first.0) in
+    let all : length ns < 2 ^ 32 = subst (λ (l : List Node). length l < 2 ^ 32) first.1 (few_left ifr 4 [] first.0) in
     omega (arith, all, length-map (filter is_question ns) (asked ns), length-filter is_question ns, count_by-le-length is_question ns)

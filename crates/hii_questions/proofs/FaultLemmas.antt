@@ -8,7 +8,7 @@ use Rattle.hii_bytes.specs.code.FirstFaults.{first_cause, fault_or}
 use Rattle.hii_bytes.specs.declared.cause.Cause.{Cause}
 use Rattle.hii_bytes.specs.declared.cause.Fault.{Fault}
 use Rattle.hii_varstore.specs.Layout.{Shape}
-use Rattle.ifr_opcodes.specs.Forest.{Placed}
+use Rattle.ifr_opcodes.specs.Forest.{Node}
 use Rattle.ifr_opcodes.specs.Opcode.{number}
 use Rattle.ifr_opcodes.specs.declared.codes.TheConstants.{ONE_OF, ORDERED_LIST}
 use Rattle.ifr_scopes.specs.Nodes.{options}
@@ -34,12 +34,12 @@ first_here shape known q left rest f steps e =
     ∙ ap (λ (o : Option Fault). option_or o (first_part_fault shape known (flat_map parts_of rest))) e
 
 -- the first fault of the options of a question as parts
-options_same : (shape : Shape) (known : ℕ → Bool) (q : Asked) (os : List Placed) → first_part_fault shape known (map (option q) os) ≡ first_option_fault q.node os
+options_same : (shape : Shape) (known : ℕ → Bool) (q : Asked) (os : List Node) → first_part_fault shape known (map (option q) os) ≡ first_option_fault q.node os
 options_same shape known q [] = refl
 options_same shape known q (o ∷ os) = ap (fault_or (first_cause (has_option_fault q.node) o question_causes) o.place) (options_same shape known q os)
 
 -- no other question has an option with a fault
-pub no_choice : (q : Placed) (os : List Placed) → is_choice q ≡ false → first_option_fault q os ≡ None
+pub no_choice : (q : Node) (os : List Node) → is_choice q ≡ false → first_option_fault q os ≡ None
 no_choice q [] e = refl
 no_choice q (o ∷ os) e =
     let parts = or_parts (number q.op == ONE_OF) (number q.op == ORDERED_LIST) e in

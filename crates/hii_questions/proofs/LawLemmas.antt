@@ -8,7 +8,7 @@ use Rattle.hii_bytes.specs.Faults.{HasNone}
 use Rattle.hii_bytes.specs.declared.cause.Cause.TheVariants.{FieldOutside, OptionRange}
 use Rattle.hii_bytes.specs.declared.cause.Cause.{Cause}
 use Rattle.ifr_opcodes.specs.Fields.{question_id, question_store, question_offset, display, numeric_width, numeric_minimum, numeric_maximum, one_of_width, string_minimum, string_maximum, password_minimum, password_maximum, ordered_list_containers, is_unique_set, has_no_empty_set, option_value}
-use Rattle.ifr_opcodes.specs.Forest.{Placed}
+use Rattle.ifr_opcodes.specs.Forest.{Node}
 use Rattle.ifr_opcodes.specs.Opcode.{number}
 use Rattle.ifr_opcodes.specs.declared.codes.TheConstants.{CHECKBOX, NUMERIC, ONE_OF, STRING, PASSWORD, ORDERED_LIST}
 use Rattle.ifr_scopes.specs.Nodes.{is_question, options}
@@ -33,7 +33,7 @@ pub finds_questions : FindsQuestions
 finds_questions ns id n e = elim (cases_Bool (eqb id 0)) [
   | inl zero_id ↦ let none = rw zero_id at e in absurd (cc)
   | inr some ↦
-      let there = found (λ (m : Placed). is_question m && eqb (question_id m.op) id) ns n (rw some at e) in
+      let there = found (λ (m : Node). is_question m && eqb (question_id m.op) id) ns n (rw some at e) in
       let passes = and_parts (is_question n) (eqb (question_id n.op) id) there.1 in
       (there.0, passes.0, eqb-true (question_id n.op) id passes.1)
 ]
@@ -57,15 +57,15 @@ gathered f (z ∷ xs) x y (zero, lt, e) within = Contains-append_left (f z) (fla
 gathered f (z ∷ xs) x y (suc k, lt, e) within = Contains-append_right (f z) (flat_map f xs) y (gathered f xs x y (k, omega arith, e) within)
 
 -- a question is among the questions
-asked_there : (ns : List Placed) (n : Placed) → Contains ns n → is_question n ≡ true → Contains (questions ns) (asked ns n)
+asked_there : (ns : List Node) (n : Node) → Contains ns n → is_question n ≡ true → Contains (questions ns) (asked ns n)
 asked_there ns n within is = mapped (asked ns) (filter is_question ns) n (passing is_question ns n within is)
 
-field_sound : (ns : List Placed) (n : Placed) (cause : Cause) → HasNone (IsQuestionFault ns) → Contains ns n → is_question n ≡ true → has_field_fault (layout_of ns) (is_known ns) (asked ns n) cause ≡ false
+field_sound : (ns : List Node) (n : Node) (cause : Cause) → HasNone (IsQuestionFault ns) → Contains ns n → is_question n ≡ true → has_field_fault (layout_of ns) (is_known ns) (asked ns n) cause ≡ false
 field_sound ns n cause none within is =
     false_from_ne_true (has_field_fault (layout_of ns) (is_known ns) (asked ns n) cause) (λ bad.
     none cause n.place (itself (asked ns n), gathered parts_of (questions ns) (asked ns n) (itself (asked ns n)) (asked_there ns n within is) (0, omega arith, refl), refl, bad))
 
-pub option_sound : (ns : List Placed) (n o : Placed) (cause : Cause) → HasNone (IsQuestionFault ns) → Contains ns n → is_question n ≡ true → Contains (options n) o → has_option_fault n o cause ≡ false
+pub option_sound : (ns : List Node) (n o : Node) (cause : Cause) → HasNone (IsQuestionFault ns) → Contains ns n → is_question n ≡ true → Contains (options n) o → has_option_fault n o cause ≡ false
 option_sound ns n o cause none within is there =
     false_from_ne_true (has_option_fault n o cause) (λ bad.
     let part = option (asked ns n) o in
@@ -97,15 +97,15 @@ holds_fields ns n f none within is e =
     in_range (size_of shape f.store) f (ap (λ (id : ℕ). is_some (size_of shape id)) at.0 ∙ at.2) past
 
 -- the new bytes of the question of an id lie in its store
-pub found_fits : (ns : List Placed) (id : ℕ) (n : Placed) (f : Field) → HasNone (IsQuestionFault ns) → question_with ns id ≡ Some n → field_of ns n ≡ Some f → HasRange (layout_of ns) f.store f.offset f.width
+pub found_fits : (ns : List Node) (id : ℕ) (n : Node) (f : Field) → HasNone (IsQuestionFault ns) → question_with ns id ≡ Some n → field_of ns n ≡ Some f → HasRange (layout_of ns) f.store f.offset f.width
 found_fits ns id n f none e is = let there = finds_questions ns id n e in holds_fields ns n f none there.0 there.1 is
 
 -- the field of a question that is found by its id lies in its store
-pub range_found : (ns : List Placed) (id : ℕ) (q : Asked) (f : Field) → HasNone (IsQuestionFault ns) → Some q ≡ option_map (asked ns) (question_with ns id) → q.field ≡ Some f
+pub range_found : (ns : List Node) (id : ℕ) (q : Asked) (f : Field) → HasNone (IsQuestionFault ns) → Some q ≡ option_map (asked ns) (question_with ns id) → q.field ≡ Some f
     → HasRange (layout_of ns) f.store f.offset f.width
 range_found ns id q f none e is = go (question_with ns id) refl e
   where
-    go : (o : Option Placed) → question_with ns id ≡ o → Some q ≡ option_map (asked ns) o → HasRange (layout_of ns) f.store f.offset f.width
+    go : (o : Option Node) → question_with ns id ≡ o → Some q ≡ option_map (asked ns) o → HasRange (layout_of ns) f.store f.offset f.width
     go None at e = absurd (cc)
     go (Some n) at e =
         let same : q ≡ asked ns n = cc in
@@ -115,7 +115,7 @@ pub leaves_others : LeavesOthers
 leaves_others m id offset bytes n f apart = ap (value_of_bytes (type_of n)) (field_after m id offset f.store f.offset f.width bytes apart)
 
 -- an option of a value
-pub with_value : (os : List Placed) (v : ℕ) → is_offered (option_values os) v ≡ true → (o : Placed) × Contains os o × (option_value o.op ≡ v)
+pub with_value : (os : List Node) (v : ℕ) → is_offered (option_values os) v ≡ true → (o : Node) × Contains os o × (option_value o.op ≡ v)
 with_value [] v e = absurd (cc)
 with_value (o ∷ os) v e = elim (cases_Bool (eqb (option_value o.op) v)) [
   | inl here ↦ (o, (0, omega arith, refl), eqb-true (option_value o.op) v here)
@@ -126,7 +126,7 @@ with_value (o ∷ os) v e = elim (cases_Bool (eqb (option_value o.op) v)) [
 ]
 
 -- the values of the options of a ONE_OF fit its width
-values_fit : (ns : List Placed) (n : Placed) → HasNone (IsQuestionFault ns) → Contains ns n → is_question n ≡ true → eqb (number n.op) ONE_OF ≡ true
+values_fit : (ns : List Node) (n : Node) → HasNone (IsQuestionFault ns) → Contains ns n → is_question n ≡ true → eqb (number n.op) ONE_OF ≡ true
     → (v : ℕ) → is_offered (option_values (options n)) v ≡ true → v < 256 ^ one_of_width n.op
 values_fit ns n none within is code v offers =
     let o = with_value (options n) v offers in
@@ -140,7 +140,7 @@ SoundWith None = Unit {0}
 SoundWith (Some t) = IsSound t
 
 -- what holds of each type that a question may have
-pub by_type : (P : Option FieldType → Type 0) (n : Placed) → P (Some checkbox) → ((signed : Bool) (w mn mx : ℕ) → P (Some (numeric signed w mn mx)))
+pub by_type : (P : Option FieldType → Type 0) (n : Node) → P (Some checkbox) → ((signed : Bool) (w mn mx : ℕ) → P (Some (numeric signed w mn mx)))
     → (eqb (number n.op) ONE_OF ≡ true → P (Some (one_of (one_of_width n.op) (option_values (options n)))))
     → ((mn mx : ℕ) → P (Some (text mn mx)))
     → (eqb (number n.op) ORDERED_LIST ≡ true → P (Some (ordered_list (element_width n) (ordered_list_containers n.op) (is_unique_set n.op) (has_no_empty_set n.op) (option_values (options n)))))
@@ -166,7 +166,7 @@ by_type P n check num one txt list other =
       ]
     ]
 
-pub type_sound : (ns : List Placed) (n : Placed) → HasNone (IsQuestionFault ns) → Contains ns n → is_question n ≡ true → SoundWith (type_of n)
+pub type_sound : (ns : List Node) (n : Node) → HasNone (IsQuestionFault ns) → Contains ns n → is_question n ≡ true → SoundWith (type_of n)
 type_sound ns n none within is = by_type SoundWith n tt (λ signed w mn mx. tt) (values_fit ns n none within is) (λ mn mx. tt) (λ list. tt) tt
 
 field_kept : (t : FieldType) (bytes : List ℕ) → HasBytes (field bytes) → HasBytes (field_as t bytes)

@@ -10,7 +10,7 @@ use Rattle.hii_bytes.specs.declared.cause.Cause.TheVariants.{MixedOptions}
 use Rattle.hii_bytes.proofs.NumberLemmas.{number_in-lt}
 use Rattle.hii_bytes.specs.Numbers.{AreBytes}
 use Rattle.ifr_opcodes.specs.Fields.{kind_width, option_kind}
-use Rattle.ifr_opcodes.specs.Forest.{Placed, SpellsForest, flat, node, none, below}
+use Rattle.ifr_opcodes.specs.Forest.{Node, SpellsForest, flat, node, none, below}
 use Rattle.ifr_opcodes.specs.Opcode.{number}
 use Rattle.ifr_opcodes.specs.Reading.{tree_of}
 use Rattle.ifr_opcodes.specs.declared.codes.TheConstants.{ORDERED_LIST}
@@ -47,33 +47,33 @@ front_bytes (x ∷ xs) ys are zero = are 0
 front_bytes (x ∷ xs) ys are (suc k) = front_bytes xs ys (λ i. are (suc i)) k
 
 -- an opcode of a package is a part of its bytes
-opcode_bytes : (ifr : List ℕ) (n : Placed) → AreBytes ifr → SpellsForest ifr (tree_of ifr) → Contains (nodes_of ifr) n → AreBytes n.op
+opcode_bytes : (ifr : List ℕ) (n : Node) → AreBytes ifr → SpellsForest ifr (tree_of ifr) → Contains (nodes_of ifr) n → AreBytes n.op
 opcode_bytes ifr n are spells within =
     let its = flat (node n.op n.children none) in
     let stood = node_stands ifr (tree_of ifr) n spells within in
     let from_its_place : AreBytes (drop n.place ifr) = λ k. rw (get_or-drop n.place ifr k 0) (are (n.place + k)) in
     front_bytes n.op _ (front_bytes its stood.0 (subst AreBytes stood.1 from_its_place))
 
-option_below : (n o : Placed) → Contains (options n) o → Contains (below n) o
+option_below : (n o : Node) → Contains (options n) o → Contains (below n) o
 option_below n o offered = elim (cases_Bool (is_question n)) [
   | inl asks ↦ kept is_option (below n) o (rw asks at offered)
   | inr other ↦ let nowhere : Contains [] o = rw other at offered in absurd (omega (arith, nowhere.1))
 ]
 
 -- The options of a node of a package have values that fit.
-pub values_fit : (ifr : List ℕ) (n : Placed) → AreBytes ifr → IsAccepted ifr → Contains (nodes_of ifr) n → ValuesFit (options n)
+pub values_fit : (ifr : List ℕ) (n : Node) → AreBytes ifr → IsAccepted ifr → Contains (nodes_of ifr) n → ValuesFit (options n)
 values_fit ifr n are accepted within o offered =
     let spells = accepted.checked.spelled in
     number_in-lt o.op 6 (kind_width (option_kind o.op)) (opcode_bytes ifr o are spells (below_within (tree_of ifr) 4 [] n o within (option_below n o offered)))
 
 -- ---- the values of the options of an ORDERED_LIST fit its elements
 
-alike : (os : List Placed) (o : Placed) → Contains os o → is_of_another_type (first_kind os) (option_kind o.op) ≡ false → width_of_kind (first_kind os) ≡ kind_width (option_kind o.op)
+alike : (os : List Node) (o : Node) → Contains os o → is_of_another_type (first_kind os) (option_kind o.op) ≡ false → width_of_kind (first_kind os) ≡ kind_width (option_kind o.op)
 alike [] o (k, lt, e) same = absurd (omega arith)
 alike (first ∷ os) o there same =
     ap kind_width (sym (eqb-true (option_kind o.op) (option_kind first.op) (not-false (eqb (option_kind o.op) (option_kind first.op)) same)))
 
-elements_small : (ns : List Placed) (n : Placed) → HasNone (IsQuestionFault ns) → Contains ns n → is_question n ≡ true → ValuesFit (options n)
+elements_small : (ns : List Node) (n : Node) → HasNone (IsQuestionFault ns) → Contains ns n → is_question n ≡ true → ValuesFit (options n)
     → eqb (number n.op) ORDERED_LIST ≡ true → (v : ℕ) → is_offered (option_values (options n)) v ≡ true → v < 256 ^ element_width n
 elements_small ns n faultless within is fit code v offers =
     let o = with_value (options n) v offers in
@@ -86,7 +86,7 @@ abbrev pub ElementsFit : Option FieldType → Type 0
 ElementsFit (Some (ordered_list w most unique some vs)) = (v : ℕ) → is_offered vs v ≡ true → v < 256 ^ w
 ElementsFit _ = Unit {0}
 
-pub elements_fit : (ns : List Placed) (n : Placed) → HasNone (IsQuestionFault ns) → Contains ns n → is_question n ≡ true → ValuesFit (options n) → ElementsFit (type_of n)
+pub elements_fit : (ns : List Node) (n : Node) → HasNone (IsQuestionFault ns) → Contains ns n → is_question n ≡ true → ValuesFit (options n) → ElementsFit (type_of n)
 elements_fit ns n faultless within is fit = by_type ElementsFit n tt (λ signed w mn mx. tt) (λ one. tt) (λ mn mx. tt) (λ list. elements_small ns n faultless within is fit list) tt
 
 -- ---- what is taken names what was offered

@@ -5,7 +5,7 @@ use Rattle.std.specs.List.{find}
 use Rattle.std.specs.List.Sorted.{IsBinarySearchResult}
 use Rattle.std.specs.Ordering.{nat_cmp}
 use Rattle.hii_bytes.specs.code.FirstFaults.{Rise}
-use Rattle.ifr_opcodes.specs.Forest.{Placed, SpellsForest, flat}
+use Rattle.ifr_opcodes.specs.Forest.{Node, SpellsForest, flat}
 use Rattle.ifr_opcodes.specs.Reading.{tree_of}
 use Rattle.ifr_scopes.specs.Accepted.{IsAccepted}
 use Rattle.ifr_scopes.specs.Nodes.{nodes_of, is_question}
@@ -27,7 +27,7 @@ use Rattle.hii_questions.proofs.QuestionLemmas.{found_mapped}
 abbrev place_of : QuestionEntry → ℕ
 place_of e = e.place
 
-rise_asked : (ifr : List ℕ) (shape : Shape) (ns : List Placed) (es : List QuestionEntry) (low high : ℕ) → SpellsForest ifr (tree_of ifr) → AreQuestionEntries ifr es → Within low high ns
+rise_asked : (ifr : List ℕ) (shape : Shape) (ns : List Node) (es : List QuestionEntry) (low high : ℕ) → SpellsForest ifr (tree_of ifr) → AreQuestionEntries ifr es → Within low high ns
     → map (entry_view ifr) es ≡ map (asked_at shape) ns → Rise place_of low es
 rise_asked ifr shape ns [] low high s are w e = tt
 rise_asked ifr shape [] (x ∷ es) low high s are w e = absurd (cc)

@@ -4,7 +4,7 @@ use Rattle.std.specs.Prelude.{◌&&◌, ◌==◌, option_map, filter}
 use Rattle.std.specs.List.{find}
 use Rattle.std.proofs.lemmas.Bool.{cases_Bool, cond-false, or_right}
 use Rattle.ifr_opcodes.specs.Fields.{question_id}
-use Rattle.ifr_opcodes.specs.Forest.{Placed}
+use Rattle.ifr_opcodes.specs.Forest.{Node}
 use Rattle.ifr_opcodes.specs.Statements.{is_statement_number}
 use Rattle.ifr_scopes.specs.Nodes.{is_question, is_statement}
 use Rattle.hii_varstore.specs.Layout.{Shape}
@@ -28,17 +28,17 @@ found_mapped f p (x ∷ xs) = elim (cases_Bool (p (f x))) [
 ]
 
 -- the first question of an id that is not 0 is the question of this id
-pub first_is_with : (shape : Shape) (ns : List Placed) (id : ℕ) → eqb id 0 ≡ false
+pub first_is_with : (shape : Shape) (ns : List Node) (id : ℕ) → eqb id 0 ≡ false
     → first_with (map (asked_at shape) (filter is_question ns)) id ≡ option_map (asked_at shape) (question_with ns id)
 first_is_with shape ns id some =
     found_mapped (asked_at shape) (λ (q : Asked). question_id q.node.op == id) (filter is_question ns)
     ∙ ap (option_map (asked_at shape)) (found_among is_question (λ n. question_id n.op == id) ns ∙ sym (cond-false (eqb id 0) None _ some))
 
 -- What passes a second test passes a first.
-filter_twice : (p q : Placed → Bool) (ns : List Placed) → ((n : Placed) → q n ≡ true → p n ≡ true) → filter q (filter p ns) ≡ filter q ns
+filter_twice : (p q : Node → Bool) (ns : List Node) → ((n : Node) → q n ≡ true → p n ≡ true) → filter q (filter p ns) ≡ filter q ns
 filter_twice p q [] stronger = refl
 filter_twice p q (n ∷ ns) stronger = elim (cases_Bool (q n)) [
-  | inl here ↦ let first = stronger n here in rw (first, here) (ap (λ (l : List Placed). n ∷ l) (filter_twice p q ns stronger))
+  | inl here ↦ let first = stronger n here in rw (first, here) (ap (λ (l : List Node). n ∷ l) (filter_twice p q ns stronger))
   | inr other ↦ elim (cases_Bool (p n)) [
     | inl first ↦ rw (first, other) (filter_twice p q ns stronger)
     | inr none ↦ rw (none, other) (filter_twice p q ns stronger)
@@ -46,9 +46,9 @@ filter_twice p q (n ∷ ns) stronger = elim (cases_Bool (q n)) [
 ]
 
 -- a question is a statement
-pub question_is_statement : (n : Placed) → is_question n ≡ true → is_statement n ≡ true
+pub question_is_statement : (n : Node) → is_question n ≡ true → is_statement n ≡ true
 unfolding is_statement_number
 question_is_statement n is = or_right _ (is_question n) is
 
-pub among_statements : (ns : List Placed) → filter is_question (filter is_statement ns) ≡ filter is_question ns
+pub among_statements : (ns : List Node) → filter is_question (filter is_statement ns) ≡ filter is_question ns
 among_statements ns = filter_twice is_statement is_question ns question_is_statement

@@ -9,7 +9,7 @@ use Rattle.hii_bytes.specs.Faults.{out_of_memory}
 use Rattle.hii_bytes.specs.declared.cause.Fault.{Fault}
 use Rattle.hii_bytes.specs.declared.id_table.IdEntry.{IdEntry}
 use Rattle.ifr_opcodes.specs.Fields.{question_id, question_store, question_offset}
-use Rattle.ifr_opcodes.specs.Forest.{Mark, Placed}
+use Rattle.ifr_opcodes.specs.Forest.{Mark, Node}
 use Rattle.ifr_scopes.specs.Accepted.{IsAccepted}
 use Rattle.ifr_scopes.specs.code.Checked.{node_in}
 use Rattle.ifr_scopes.specs.Nodes.{is_question, is_store, nodes_of, options}
@@ -35,7 +35,7 @@ and_none : (b : Bool) → (b && false) ≡ false
 and_none true = refl
 and_none false = refl
 
-buffer_known : (stores : List Placed) (id : ℕ) → is_some (find (λ b. b.id == id) (filter_map declared_buffer stores)) ≡ true → list_any (λ s. store_id s.op == id) stores ≡ true
+buffer_known : (stores : List Node) (id : ℕ) → is_some (find (λ b. b.id == id) (filter_map declared_buffer stores)) ≡ true → list_any (λ s. store_id s.op == id) stores ≡ true
 buffer_known [] id is = is
 buffer_known (s ∷ stores) id is = elim (cases_Bool (store_id s.op == id)) [
   | inl here ↦ rw here refl
@@ -48,11 +48,11 @@ buffer_known (s ∷ stores) id is = elim (cases_Bool (store_id s.op == id)) [
     later (Some size) is other = rw other at is
 
 -- a question whose store holds bytes lacks none
-pub size_known : (ns : List Placed) (n : Placed) → is_some (size_of (layout_of ns) (question_store n.op)) ≡ true → lacks_store (is_known ns) n ≡ false
+pub size_known : (ns : List Node) (n : Node) → is_some (size_of (layout_of ns) (question_store n.op)) ≡ true → lacks_store (is_known ns) n ≡ false
 size_known ns n is = rw (buffer_known (filter is_store ns) (question_store n.op) (some_mapped _ _ is)) (and_none _)
 
 -- nor does one that names no store
-pub none_lacked : (known : ℕ → Bool) (n : Placed) → question_store n.op ≡ 0 → lacks_store known n ≡ false
+pub none_lacked : (known : ℕ → Bool) (n : Node) → question_store n.op ≡ 0 → lacks_store known n ≡ false
 none_lacked known n none = rw none refl
 
 -- ---- the first fault of a question
@@ -103,7 +103,7 @@ is_not_asked true wanted e = absurd cc
 is_not_asked false wanted e = refl
 
 -- a statement that is a question is the first that is left
-pub question_steps : (shape : Shape) (n : Placed) (left rest : List Placed) → is_question n ≡ true → left ≡ n ∷ rest
+pub question_steps : (shape : Shape) (n : Node) (left rest : List Node) → is_question n ≡ true → left ≡ n ∷ rest
     → map (asked_at shape) (filter is_question left) ≡ asked_at shape n ∷ map (asked_at shape) (filter is_question rest)
 question_steps shape n left rest asks steps = ap (map (asked_at shape)) (ap (filter is_question) steps ∙ cond-true (is_question n) (n ∷ filter is_question rest) (filter is_question rest) asks)
 
@@ -114,12 +114,12 @@ ids_more k (p ∷ qs) q =
     ap (λ (l : List IdEntry). record { id = question_id p.node.op; number = k } ∷ l)
     (ids_more (k + 1) qs q ∙ ap (λ (m : ℕ). ids_from (k + 1) qs ++ record { id = question_id q.node.op; number = m } ∷ []) (omega arith))
 
-pub numbers_more : (ifr : List ℕ) (es : List QuestionEntry) (e : QuestionEntry) (n : Placed) (ids : List IdEntry) (id number : ℕ) → ids ≡ ids_from 0 (map (entry_view ifr) es) → node_in ifr e.place ≡ n
+pub numbers_more : (ifr : List ℕ) (es : List QuestionEntry) (e : QuestionEntry) (n : Node) (ids : List IdEntry) (id number : ℕ) → ids ≡ ids_from 0 (map (entry_view ifr) es) → node_in ifr e.place ≡ n
     → id ≡ question_id n.op → number ≡ length es → ids ++ record { id = id; number = number } ∷ [] ≡ ids_from 0 (map (entry_view ifr) (es ++ e ∷ []))
 numbers_more ifr es e n ids id number so_far here named counted =
     let count : number ≡ 0 + length (map (entry_view ifr) es) = omega (arith, counted, length-map es (entry_view ifr)) in
     let last : ◌≡◌ {A = IdEntry} (record { id = id; number = number }) (record { id = question_id (entry_view ifr e).node.op; number = 0 + length (map (entry_view ifr) es) }) =
-    λ i. record { id = (named ∙ ap (λ (m : Placed). question_id m.op) (sym here)) i; number = count i } in
+    λ i. record { id = (named ∙ ap (λ (m : Node). question_id m.op) (sym here)) i; number = count i } in
     ap (λ (l : List IdEntry). l ++ record { id = id; number = number } ∷ []) so_far
     ∙ ap (λ (x : IdEntry). ids_from 0 (map (entry_view ifr) es) ++ x ∷ []) last
     ∙ sym (ids_more 0 (map (entry_view ifr) es) (entry_view ifr e)) ∙ ap (ids_from 0) (sym (map-append (entry_view ifr) es (e ∷ [])))
@@ -130,7 +130,7 @@ pub few_so_far : (ifr : List ℕ) (es : List QuestionEntry) (left : List Asked) 
 few_so_far ifr es left accepted e = omega (arith, ap length e, length-append (map (entry_view ifr) es) left, length-map es (entry_view ifr), few_questions ifr accepted)
 
 -- the passwords among one question more
-module _ (ifr : List ℕ) (es : List QuestionEntry) (e : QuestionEntry) (n : Placed) (ps : List QuestionEntry) (so_far : ps ≡ filter (λ x. is_password (node_in ifr x.place)) es) (here : node_in ifr e.place ≡ n) where
+module _ (ifr : List ℕ) (es : List QuestionEntry) (e : QuestionEntry) (n : Node) (ps : List QuestionEntry) (so_far : ps ≡ filter (λ x. is_password (node_in ifr x.place)) es) (here : node_in ifr e.place ≡ n) where
   abbrev secret : QuestionEntry → Bool
   secret x = is_password (node_in ifr x.place)
 

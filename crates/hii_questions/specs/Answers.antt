@@ -2,7 +2,7 @@
 -- rule).
 use Rattle.std.specs.Prelude.{ℕ, ◌==◌, not, if◌then◌else◌, Option, Some, None, List, length, slice_index}
 use Rattle.byteorder.specs.Endian.{little_number}
-use Rattle.ifr_opcodes.specs.Forest.{Placed}
+use Rattle.ifr_opcodes.specs.Forest.{Node}
 use Rattle.ifr_expr.specs.Values as values
 use Rattle.ifr_expr.specs.Values.{Value, undefined, boolean, natural, buffer}
 use Rattle.hii_varstore.specs.Stores.{StoreMap, bytes_of_field as field_bytes}
@@ -27,15 +27,15 @@ value_of_bytes (Some t) (Some bytes) =
 value_of_bytes _ _ = undefined
 
 -- the value of a question whose field is this, if it has one
-abbrev pub value_of_field : StoreMap → Placed → Option Field → Value
+abbrev pub value_of_field : StoreMap → Node → Option Field → Value
 value_of_field stores n None = undefined
 value_of_field stores n (Some field) =
     value_of_bytes (type_of n) (field_bytes stores field.store field.offset field.width)
 
-abbrev pub answer_of : List Placed → StoreMap → Option Placed → Value
+abbrev pub answer_of : List Node → StoreMap → Option Node → Value
 answer_of ns stores None = undefined
 answer_of ns stores (Some n) = value_of_field stores n (field_of ns n)
 
 -- the answer to each question id: that of its question's field, hidden or not; undefined where there is none
-abbrev pub answers : List Placed → StoreMap → ℕ → Value
+abbrev pub answers : List Node → StoreMap → ℕ → Value
 answers ns stores id = answer_of ns stores (question_with ns id)

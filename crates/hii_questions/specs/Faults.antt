@@ -4,7 +4,7 @@ use Rattle.std.specs.List.{list_any, flat_map}
 use Rattle.hii_bytes.specs.Faults.{IsFaultOf}
 use Rattle.hii_bytes.specs.declared.cause.Cause.{Cause}
 use Rattle.hii_bytes.specs.declared.cause.Cause.TheVariants.{UnknownVarstore, FieldOutside, OptionRange, MixedOptions}
-use Rattle.ifr_opcodes.specs.Forest.{Placed}
+use Rattle.ifr_opcodes.specs.Forest.{Node}
 use Rattle.ifr_opcodes.specs.Fields.{question_store, one_of_width, option_kind, option_value}
 use Rattle.ifr_opcodes.specs.Opcode.{number}
 use Rattle.ifr_opcodes.specs.declared.codes.TheConstants.{ONE_OF, ORDERED_LIST}
@@ -16,11 +16,11 @@ use Rattle.hii_questions.specs.Fields.{Field, Asked, questions}
 use Rattle.hii_questions.specs.Types.{first_kind}
 
 -- a store of any kind has the id
-abbrev pub is_known : List Placed → ℕ → Bool
+abbrev pub is_known : List Node → ℕ → Bool
 is_known ns id = list_any (λ s. store_id s.op == id) (filter is_store ns)
 
 -- The question names a store, and no known one.
-abbrev pub lacks_store : (ℕ → Bool) → Placed → Bool
+abbrev pub lacks_store : (ℕ → Bool) → Node → Bool
 lacks_store known q = not (question_store q.op == 0) && not (known (question_store q.op))
 
 -- The field reaches past the end of its store.
@@ -33,7 +33,7 @@ is_field_outside shape None = false
 is_field_outside shape (Some field) = is_past field (size_of shape field.store)
 
 -- The value of an option of a ONE_OF is no number of the question's width.
-abbrev pub is_option_too_large : Placed → Placed → Bool
+abbrev pub is_option_too_large : Node → Node → Bool
 is_option_too_large q o =
     number q.op == ONE_OF && nat_le (256 ^ one_of_width q.op) (option_value o.op)
 
@@ -42,7 +42,7 @@ abbrev pub is_of_another_type : Option ℕ → ℕ → Bool
 is_of_another_type None kind = false
 is_of_another_type (Some first) kind = not (kind == first)
 
-abbrev pub is_mixed : Placed → Placed → Bool
+abbrev pub is_mixed : Node → Node → Bool
 is_mixed q o =
     number q.op == ORDERED_LIST && is_of_another_type (first_kind (options q)) (option_kind o.op)
 
@@ -52,7 +52,7 @@ has_field_fault shape known q UnknownVarstore = lacks_store known q.node
 has_field_fault shape known q FieldOutside = is_field_outside shape q.field
 has_field_fault shape known q _ = false
 
-abbrev pub has_option_fault : Placed → Placed → Cause → Bool
+abbrev pub has_option_fault : Node → Node → Cause → Bool
 has_option_fault q o OptionRange = is_option_too_large q o
 has_option_fault q o MixedOptions = is_mixed q o
 has_option_fault q o _ = false
@@ -60,7 +60,7 @@ has_option_fault q o _ = false
 -- a question, or an option of one
 pub data QuestionPart : Type 0 where
   itself : (q : Asked) → QuestionPart
-  option : (q : Asked) (o : Placed) → QuestionPart
+  option : (q : Asked) (o : Node) → QuestionPart
 
 abbrev pub place_of : QuestionPart → ℕ
 place_of (itself q) = q.node.place
@@ -74,7 +74,7 @@ has_question_fault shape known (option q o) cause = has_option_fault q.node o ca
 abbrev pub parts_of : Asked → List QuestionPart
 parts_of q = itself q ∷ map (option q) (options q.node)
 
-abbrev pub IsQuestionFault : List Placed → Cause → ℕ → Type 0
+abbrev pub IsQuestionFault : List Node → Cause → ℕ → Type 0
 IsQuestionFault ns =
     IsFaultOf place_of (has_question_fault (layout_of ns) (is_known ns))
     (flat_map parts_of (questions ns))

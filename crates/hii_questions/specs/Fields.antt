@@ -2,7 +2,7 @@
 -- where the field is stands in the question's opcode, 33.3.8.2.2 EFI_IFR_QUESTION_HEADER).
 use Rattle.std.specs.Prelude.{ℕ, ◌+◌, Bool, false, ◌==◌, ◌&&◌, nat_lt, if◌then◌else◌, Option, Some, None, option_map, List, map, filter}
 use Rattle.std.specs.List.{find}
-use Rattle.ifr_opcodes.specs.Forest.{Placed}
+use Rattle.ifr_opcodes.specs.Forest.{Node}
 use Rattle.ifr_opcodes.specs.Fields.{question_id, question_store, question_offset}
 use Rattle.ifr_opcodes.specs.Opcode.{number}
 use Rattle.ifr_opcodes.specs.declared.codes.TheConstants.{PASSWORD}
@@ -19,7 +19,7 @@ pub record Field : Type 0 where
   pub width : ℕ
 
 -- how many bytes the field of a question has, if it may have one
-abbrev pub field_width : Placed → Option ℕ
+abbrev pub field_width : Node → Option ℕ
 field_width n = option_map size_of_type (type_of n)
 
 -- A field has a width, and lies in a store of bytes. Store id 0 is no store.
@@ -29,32 +29,32 @@ field_in store offset (Some size) (Some width) =
 field_in store offset _ _ = None
 
 -- the field of a question, where these are the stores
-abbrev pub field_at : Shape → Placed → Option Field
+abbrev pub field_at : Shape → Node → Option Field
 field_at shape n =
     field_in (question_store n.op) (question_offset n.op) (size_of shape (question_store n.op))
     (field_width n)
 
 -- the field of a question among all nodes
-abbrev pub field_of : List Placed → Placed → Option Field
+abbrev pub field_of : List Node → Node → Option Field
 field_of ns n = field_at (layout_of ns) n
 
 -- a question with its field
 pub record Asked : Type 0 where
-  pub node : Placed
+  pub node : Node
   pub field : Option Field
 
-abbrev pub asked_at : Shape → Placed → Asked
+abbrev pub asked_at : Shape → Node → Asked
 asked_at shape n = record { node = n; field = field_at shape n }
 
-abbrev pub asked : List Placed → Placed → Asked
+abbrev pub asked : List Node → Node → Asked
 asked ns n = asked_at (layout_of ns) n
 
 -- the questions among all nodes, by place
-abbrev pub questions : List Placed → List Asked
+abbrev pub questions : List Node → List Asked
 questions ns = map (asked ns) (filter is_question ns)
 
 -- the question of an id, which is not 0
-abbrev pub question_with : List Placed → ℕ → Option Placed
+abbrev pub question_with : List Node → ℕ → Option Node
 question_with ns id =
     if id == 0 then None else find (λ n. is_question n && (question_id n.op == id)) ns
 
@@ -78,7 +78,7 @@ meets f g =
     && nat_lt f.offset (g.offset + g.width) && nat_lt g.offset (f.offset + f.width)
 
 -- EFI_IFR_PASSWORD
-abbrev pub is_password : Placed → Bool
+abbrev pub is_password : Node → Bool
 is_password n = number n.op == PASSWORD
 
 -- A question is for a password, and its field has one of these bytes.

@@ -1,7 +1,7 @@
 -- What the field of a question holds, by its opcode (UEFI 2.8, 33.3.8.3 Opcode Reference, under the name of each).
 use Rattle.std.specs.Prelude.{ℕ, Bool, true, false, ◌==◌, if◌then◌else◌, Option, Some, None, List, [], ◌∷◌, map}
 use Rattle.ifr_opcodes.specs.Opcode.{number}
-use Rattle.ifr_opcodes.specs.Forest.{Placed}
+use Rattle.ifr_opcodes.specs.Forest.{Node}
 use Rattle.ifr_opcodes.specs.Fields.{kind_width, display, numeric_width, numeric_minimum, numeric_maximum, one_of_width, string_minimum, string_maximum, password_minimum, password_maximum, ordered_list_containers, is_unique_set, has_no_empty_set, option_kind, option_value}
 use Rattle.ifr_opcodes.specs.declared.codes.TheConstants.{CHECKBOX, NUMERIC, ONE_OF, STRING, PASSWORD, ORDERED_LIST}
 use Rattle.ifr_opcodes.specs.declared.numbers.Display.{Display}
@@ -14,11 +14,11 @@ is_signed Signed = true
 is_signed Unsigned = false
 is_signed Hexadecimal = false
 
-abbrev pub option_values : List Placed → List ℕ
-option_values opts = map (λ (o : Placed). option_value o.op) opts
+abbrev pub option_values : List Node → List ℕ
+option_values opts = map (λ (o : Node). option_value o.op) opts
 
 -- the Type of the first option, by place
-abbrev pub first_kind : List Placed → Option ℕ
+abbrev pub first_kind : List Node → Option ℕ
 first_kind [] = None
 first_kind (o ∷ opts) = Some (option_kind o.op)
 
@@ -27,11 +27,11 @@ width_of_kind None = 1
 width_of_kind (Some kind) = kind_width kind
 
 -- The elements of a list are as wide as its first option; without options they have a byte (own rule).
-abbrev pub element_width : Placed → ℕ
+abbrev pub element_width : Node → ℕ
 element_width n = width_of_kind (first_kind (options n))
 
 -- Dates, times, actions and references have no field (own rule).
-abbrev pub type_of : Placed → Option FieldType
+abbrev pub type_of : Node → Option FieldType
 type_of n =
     if number n.op == CHECKBOX then Some checkbox
     else if number n.op == NUMERIC

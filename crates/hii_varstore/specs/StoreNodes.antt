@@ -6,29 +6,29 @@ use Rattle.hii_bytes.specs.Faults.{IsFaultOf}
 use Rattle.hii_bytes.specs.declared.cause.Cause.{Cause}
 use Rattle.hii_bytes.specs.declared.cause.Cause.TheVariants.{DuplicateVarstore}
 use Rattle.ifr_opcodes.specs.Fields.{form_set_guid}
-use Rattle.ifr_opcodes.specs.Forest.{Placed}
+use Rattle.ifr_opcodes.specs.Forest.{Node}
 use Rattle.ifr_scopes.specs.Nodes.{is_store}
 use Rattle.ifr_scopes.specs.References.{Ranked, ranked}
 use Rattle.ifr_scopes.specs.Stores.{store_id, store_size}
 use Rattle.hii_varstore.specs.declared.buffer.Buffer.{Buffer}
 use Rattle.hii_varstore.specs.Layout.{Shape}
 
-abbrev pub guid_of : List Placed → List ℕ
+abbrev pub guid_of : List Node → List ℕ
 guid_of [] = []
 guid_of (form_set ∷ ns) = form_set_guid form_set.op
 
 -- the buffer store that a store is; a store of names and values, which holds no bytes, is none
-abbrev pub declared_buffer : Placed → Option Buffer
+abbrev pub declared_buffer : Node → Option Buffer
 declared_buffer n =
     option_map (λ size. record { id = store_id n.op; size = size }) (store_size n.op)
 
 -- the GUID of the form set, which is the first node, and the buffer stores by place
-abbrev pub layout_of : List Placed → Shape
+abbrev pub layout_of : List Node → Shape
 layout_of ns =
     record { guid = guid_of ns; buffers = filter_map declared_buffer (filter is_store ns) }
 
 -- the id is 0, or one of these stores, of any kind, has it
-abbrev pub is_taken : ℕ → List Placed → Bool
+abbrev pub is_taken : ℕ → List Node → Bool
 is_taken id stores = id == 0 || list_any (λ n. store_id n.op == id) stores
 
 -- A store of any kind has the id 0, or that of a store of any kind before it.
@@ -37,8 +37,8 @@ repeats_store r DuplicateVarstore = is_taken (store_id r.node.op) r.before
 repeats_store r _ = false
 
 -- the faults of some stores by place (own rule)
-abbrev pub IsRepeatedStore : List Placed → Cause → ℕ → Type 0
+abbrev pub IsRepeatedStore : List Node → Cause → ℕ → Type 0
 IsRepeatedStore stores = IsFaultOf (λ (r : Ranked). r.node.place) repeats_store (ranked [] stores)
 
-abbrev pub IsStoreFault : List Placed → Cause → ℕ → Type 0
+abbrev pub IsStoreFault : List Node → Cause → ℕ → Type 0
 IsStoreFault ns = IsRepeatedStore (filter is_store ns)

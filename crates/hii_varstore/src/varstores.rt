@@ -4,7 +4,7 @@ ghost use Rattle.std.specs.Prelude.{◌≡◌, false, List, [], ◌∷◌, ◌++
 ghost use Rattle.std.specs.List.{filter_map};
 ghost use Rattle.hii_bytes.specs.Faults.{HasNone, Refuses};
 ghost use Rattle.hii_bytes.specs.code.FirstFaults.{Rise};
-ghost use Rattle.ifr_opcodes.specs.Forest.{Placed};
+ghost use Rattle.ifr_opcodes.specs.Forest.{Node};
 ghost use Rattle.ifr_scopes.specs.code.Lists.{store_node, stores_left};
 ghost use Rattle.ifr_scopes.specs.Stores.{store_id};
 ghost use Rattle.hii_varstore.specs.StoreNodes.{declared_buffer, is_taken, IsRepeatedStore};
@@ -18,9 +18,9 @@ use std::alloc::Global;
 
 // Meets the id of the next store, and tells whether it is 0 or was met before.
 fn meets_again(ids: &mut NumberSet, id: u16) -> bool
-    ensures told { (before : List Placed) → AreIdsOf before ids.old
+    ensures told { (before : List Node) → AreIdsOf before ids.old
         → result ≡ is_taken id before }
-    ensures met { result ≡ false → (before : List Placed) (n : Placed) → store_id n.op ≡ id
+    ensures met { result ≡ false → (before : List Node) (n : Node) → store_id n.op ≡ id
         → AreIdsOf before ids.old → AreIdsOf (before ++ n ∷ []) ids.new }
 {
     id == 0 || !ids.insert(id)
@@ -38,7 +38,7 @@ fn read_buffer(store: Varstore<'_>) -> Option<Buffer>
 /// The buffer stores that are declared, or DuplicateVarstore at the place of the first store of any kind that has the id 0
 /// or the id of one before it. Where an allocation fails the fault is OutOfMemory.
 pub(crate) fn read_buffers(alloc: Global, stores: Varstores<'_, '_>) -> Result<Vec<Buffer>, Fault>
-    requires { Rise (λ (n : Placed). n.place) 0 (stores_left stores) }
+    requires { Rise (λ (n : Node). n.place) 0 (stores_left stores) }
     ensures read { IfOk result (λ buffers. buffers.items
         ≡ filter_map declared_buffer (stores_left stores.entry)) }
     ensures apart { IfOk result (λ buffers. AreBuffers buffers.items) }

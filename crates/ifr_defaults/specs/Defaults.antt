@@ -6,7 +6,7 @@ use Rattle.byteorder.specs.Endian.{little_number}
 use Rattle.ifr_opcodes.specs.declared.codes.TheConstants.{CHECKBOX, ONE_OF}
 use Rattle.ifr_opcodes.specs.declared.kinds.TheConstants.{TYPE_NUM_SIZE_64, TYPE_BOOLEAN, TYPE_STRING, TYPE_OTHER, TYPE_BUFFER}
 use Rattle.ifr_opcodes.specs.Fields.{question_id, default_id, default_kind, default_value, option_value, is_default_option, is_manufacturing_option, is_default_checkbox, is_manufacturing_checkbox}
-use Rattle.ifr_opcodes.specs.Forest.{Placed}
+use Rattle.ifr_opcodes.specs.Forest.{Node}
 use Rattle.ifr_opcodes.specs.Opcode.{number}
 use Rattle.ifr_expr.specs.Meaning.{Rule, value}
 use Rattle.ifr_expr.specs.Trees.{Tree}
@@ -30,12 +30,12 @@ abbrev pub value_number : List ℕ → ℕ
 value_number bytes = little_number (length bytes) bytes
 
 -- the value of an expression in the scope of a question, where it is a Boolean or a number
-abbrev pub evaluated : Sources → Placed → Tree → Option Offer
+abbrev pub evaluated : Sources → Node → Tree → Option Offer
 evaluated s q tree = option_map raw (as_number (value s.rules s.answers (question_id q.op) tree))
 
 -- what a DEFAULT of a question gives, by its Type: a number; a Boolean, where any byte other than 0 is true; the text of a
 -- string id, if it has one; the elements of a buffer; the value of its expression
-abbrev pub given : Sources → Placed → Placed → Option Offer
+abbrev pub given : Sources → Node → Node → Option Offer
 given s q d =
     let kind = default_kind d.op in
     let bytes = default_value d.op in
@@ -63,7 +63,7 @@ is_checked_for class op =
     else false
 
 -- Of the options of a ONE_OF the first that is chosen counts, whatever guards or locks it; those of an ORDERED_LIST give nothing.
-abbrev pub flagged : Placed → ℕ → Option ℕ
+abbrev pub flagged : Node → ℕ → Option ℕ
 flagged q class =
     if number q.op == ONE_OF
     then option_map (λ o. option_value o.op) (find (λ o. is_chosen_for class o.op) (options q))
@@ -73,14 +73,14 @@ flagged q class =
 -- ---- the default
 
 -- the DEFAULT of a question for a class: the first by place
-abbrev pub default_with : Placed → ℕ → Option Placed
+abbrev pub default_with : Node → ℕ → Option Node
 default_with q class = find (λ d. default_id d.op == class) (defaults q)
 
 -- A DEFAULT decides, even where it gives nothing; flags are asked where there is none.
-abbrev pub given_or_flagged : Sources → Placed → ℕ → Option Placed → Option Offer
+abbrev pub given_or_flagged : Sources → Node → ℕ → Option Node → Option Offer
 given_or_flagged s q class (Some d) = given s q d
 given_or_flagged s q class None = option_map raw (flagged q class)
 
 -- the default of a question for a class
-abbrev pub default_of : Sources → Placed → ℕ → Option Offer
+abbrev pub default_of : Sources → Node → ℕ → Option Offer
 default_of s q class = given_or_flagged s q class (default_with q class)

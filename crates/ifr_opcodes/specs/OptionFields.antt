@@ -1,5 +1,6 @@
 -- The fields of options and defaults (UEFI 2.8, 33.3.8.3 Opcode Reference, under the name of each).
 use Rattle.std.specs.Prelude.{ℕ, Bool, ◌==◌, if◌then◌else◌, List, take, drop}
+use Rattle.browser_rules.specs.Opcodes.{field, DEFAULT, ONE_OF_OPTION}
 use Rattle.hii_bytes.specs.Numbers.{number_in}
 use Rattle.ifr_opcodes.specs.Kinds.{kind_width}
 use Rattle.ifr_opcodes.specs.QuestionFields.{has_flag}
@@ -7,13 +8,13 @@ use Rattle.ifr_opcodes.specs.declared.kinds.TheConstants.{TYPE_BUFFER}
 
 -- EFI_IFR_ONE_OF_OPTION; its Type tells how many bytes its value has
 abbrev pub option_text : List ℕ → ℕ
-option_text op = number_in op 2 2
+option_text op = field ONE_OF_OPTION "Option" op
 
 abbrev pub option_flags : List ℕ → ℕ
-option_flags op = number_in op 4 1
+option_flags op = field ONE_OF_OPTION "Flags" op
 
 abbrev pub option_kind : List ℕ → ℕ
-option_kind op = number_in op 5 1
+option_kind op = field ONE_OF_OPTION "Type" op
 
 abbrev pub option_value : List ℕ → ℕ
 option_value op = number_in op 6 (kind_width (option_kind op))
@@ -28,10 +29,10 @@ is_manufacturing_option op = has_flag (option_flags op) 0x20
 
 -- EFI_IFR_DEFAULT; its Type tells how many bytes its value has
 abbrev pub default_id : List ℕ → ℕ
-default_id op = number_in op 2 2
+default_id op = field DEFAULT "DefaultId" op
 
 abbrev pub default_kind : List ℕ → ℕ
-default_kind op = number_in op 4 1
+default_kind op = field DEFAULT "Type" op
 
 abbrev pub default_value : List ℕ → List ℕ
 default_value op =

@@ -1,5 +1,6 @@
 -- The fields of statements and questions (UEFI 2.8, 33.3.8.3 Opcode Reference, under the name of each).
 use Rattle.std.specs.Prelude.{ℕ, ◌+◌, ◌*◌, Bool, not, ◌==◌, ◌||◌, nat_lt, nat_le, if◌then◌else◌, Option, Some, None, List, length, slice_range, bit_and}
+use Rattle.browser_rules.specs.Opcodes.{field, field_in, CHECKBOX, DATE, NUMERIC, ORDERED_LIST, PASSWORD, QUESTION_HEADER, RESET_BUTTON, STATEMENT_HEADER, STRING, SUBTITLE, TEXT, TIME}
 use Rattle.hii_bytes.specs.Numbers.{number_in}
 use Rattle.ifr_opcodes.specs.Kinds.{width_of_flags, display_of_flags}
 use Rattle.ifr_opcodes.specs.declared.numbers.Display.{Display}
@@ -15,35 +16,35 @@ number_where op at width =
 
 -- what every statement has (33.3.8.2.3 EFI_IFR_STATEMENT_HEADER)
 abbrev pub statement_prompt : List ℕ → ℕ
-statement_prompt op = number_in op 2 2
+statement_prompt op = field_in STATEMENT_HEADER "Prompt" op
 
 abbrev pub statement_help : List ℕ → ℕ
-statement_help op = number_in op 4 2
+statement_help op = field_in STATEMENT_HEADER "Help" op
 
 -- EFI_IFR_SUBTITLE
 abbrev pub subtitle_flags : List ℕ → ℕ
-subtitle_flags op = number_in op 6 1
+subtitle_flags op = field SUBTITLE "Flags" op
 
 -- EFI_IFR_TEXT
 abbrev pub text_second : List ℕ → ℕ
-text_second op = number_in op 6 2
+text_second op = field TEXT "TextTwo" op
 
 -- EFI_IFR_RESET_BUTTON
 abbrev pub reset_default : List ℕ → ℕ
-reset_default op = number_in op 6 2
+reset_default op = field RESET_BUTTON "DefaultId" op
 
 -- what every question has behind that of a statement (33.3.8.2.2 EFI_IFR_QUESTION_HEADER)
 abbrev pub question_id : List ℕ → ℕ
-question_id op = number_in op 6 2
+question_id op = field_in QUESTION_HEADER "QuestionId" op
 
 abbrev pub question_store : List ℕ → ℕ
-question_store op = number_in op 8 2
+question_store op = field_in QUESTION_HEADER "VarStoreId" op
 
 abbrev pub question_offset : List ℕ → ℕ
-question_offset op = number_in op 10 2
+question_offset op = field_in QUESTION_HEADER "VarOffset" op
 
 abbrev pub question_flags : List ℕ → ℕ
-question_flags op = number_in op 12 1
+question_flags op = field_in QUESTION_HEADER "QuestionFlags" op
 
 -- EFI_IFR_FLAG_READ_ONLY
 abbrev pub is_read_only : List ℕ → Bool
@@ -51,7 +52,7 @@ is_read_only op = has_flag (question_flags op) 0x01
 
 -- EFI_IFR_CHECKBOX
 abbrev pub checkbox_flags : List ℕ → ℕ
-checkbox_flags op = number_in op 13 1
+checkbox_flags op = field CHECKBOX "Flags" op
 
 -- EFI_IFR_CHECKBOX_DEFAULT
 abbrev pub is_default_checkbox : List ℕ → Bool
@@ -63,7 +64,7 @@ is_manufacturing_checkbox op = has_flag (checkbox_flags op) 0x02
 
 -- EFI_IFR_NUMERIC; the flags tell how many bytes each of its three numbers has
 abbrev pub numeric_flags : List ℕ → ℕ
-numeric_flags op = number_in op 13 1
+numeric_flags op = field NUMERIC "Flags" op
 
 abbrev pub numeric_width : List ℕ → ℕ
 numeric_width op = width_of_flags (numeric_flags op)
@@ -98,27 +99,27 @@ one_of_step op = numeric_step op
 
 -- EFI_IFR_STRING; its bounds count characters
 abbrev pub string_minimum : List ℕ → ℕ
-string_minimum op = number_in op 13 1
+string_minimum op = field STRING "MinSize" op
 
 abbrev pub string_maximum : List ℕ → ℕ
-string_maximum op = number_in op 14 1
+string_maximum op = field STRING "MaxSize" op
 
 abbrev pub string_flags : List ℕ → ℕ
-string_flags op = number_in op 15 1
+string_flags op = field STRING "Flags" op
 
 -- EFI_IFR_PASSWORD; its bounds count characters
 abbrev pub password_minimum : List ℕ → ℕ
-password_minimum op = number_in op 13 2
+password_minimum op = field PASSWORD "MinSize" op
 
 abbrev pub password_maximum : List ℕ → ℕ
-password_maximum op = number_in op 15 2
+password_maximum op = field PASSWORD "MaxSize" op
 
 -- EFI_IFR_ORDERED_LIST
 abbrev pub ordered_list_containers : List ℕ → ℕ
-ordered_list_containers op = number_in op 13 1
+ordered_list_containers op = field ORDERED_LIST "MaxContainers" op
 
 abbrev pub ordered_list_flags : List ℕ → ℕ
-ordered_list_flags op = number_in op 14 1
+ordered_list_flags op = field ORDERED_LIST "Flags" op
 
 -- EFI_IFR_UNIQUE_SET
 abbrev pub is_unique_set : List ℕ → Bool
@@ -130,11 +131,11 @@ has_no_empty_set op = has_flag (ordered_list_flags op) 0x02
 
 -- EFI_IFR_DATE
 abbrev pub date_flags : List ℕ → ℕ
-date_flags op = number_in op 13 1
+date_flags op = field DATE "Flags" op
 
 -- EFI_IFR_TIME
 abbrev pub time_flags : List ℕ → ℕ
-time_flags op = number_in op 13 1
+time_flags op = field TIME "Flags" op
 
 -- EFI_IFR_ACTION, whose text only longer opcodes have
 abbrev pub action_text : List ℕ → Option ℕ

@@ -1,6 +1,6 @@
 -- The guards that are kept for one node are those around it.
 use Rattle.std.proofs.Common.{◌≡◌, ℕ, true, List, sym, ap, subst}
-use Rattle.ifr_opcodes.specs.Forest.{Placed, node_at, SpellsForest}
+use Rattle.ifr_opcodes.specs.Forest.{Node, node_at, SpellsForest}
 use Rattle.ifr_opcodes.specs.Reading.{tree_of}
 use Rattle.ifr_scopes.specs.Guards.{guards as guards_of_node}
 use Rattle.ifr_scopes.specs.code.Kept.{kept_guards}
@@ -16,4 +16,4 @@ around bytes place kept s there e =
     let found = some_there (node_at (nodes_of bytes) place) there in
     let same = ap or_empty found.1 in
     let keeps_its = keeps bytes found.0 s (contains_found (nodes_of bytes) place found.0 found.1) in
-    subst (λ (l : List GuardPlace). Keeps bytes l (guards_of_node (node_in bytes place))) (sym e) (subst (λ (n : Placed). Keeps bytes (kept_guards n) (guards_of_node n)) (sym same) keeps_its)
+    subst (λ (l : List GuardPlace). Keeps bytes l (guards_of_node (node_in bytes place))) (sym e) (subst (λ (n : Node). Keeps bytes (kept_guards n) (guards_of_node n)) (sym same) keeps_its)

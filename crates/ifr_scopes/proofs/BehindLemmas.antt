@@ -4,7 +4,7 @@ use Rattle.std.specs.Prelude.{Contains}
 use Rattle.std.proofs.lemmas.Bool.{cases_Bool}
 use Rattle.std.proofs.lemmas.List.Elements.{Contains-append_cases, Contains-append_right}
 use Rattle.ifr_opcodes.specs.Opcode.{has_scope}
-use Rattle.ifr_opcodes.specs.Forest.{Forest, none, node, flat, AreNodes, Mark, Ancestor, Placed, as_ancestor, nodes_at, below}
+use Rattle.ifr_opcodes.specs.Forest.{Forest, none, node, flat, AreNodes, Mark, Ancestor, Node, as_ancestor, nodes_at, below}
 use Rattle.ifr_opcodes.specs.code.Marks.{mark}
 use Rattle.ifr_opcodes.proofs.ForestLemmas.{takes}
 use Rattle.ifr_expr.specs.Trees.{siblings}
@@ -12,24 +12,24 @@ use Rattle.ifr_scopes.specs.Nodes.{end_of}
 use Rattle.ifr_scopes.proofs.ViewLemmas.{further}
 
 -- A node stands inside of the bytes from one place up to another.
-pub record Inside (from to : ℕ) (n : Placed) : Type 0 where
+pub record Inside (from to : ℕ) (n : Node) : Type 0 where
   pub low : from ≤ n.place
   pub some : n.place < end_of n
   pub high : end_of n ≤ to
   pub are_nodes : AreNodes (node n.op n.children none)
 
-wider : (n : Placed) (low high low' high' : ℕ) → Inside low high n → low' ≤ low → high ≤ high' → Inside low' high' n
+wider : (n : Node) (low high low' high' : ℕ) → Inside low high n → low' ≤ low → high ≤ high' → Inside low' high' n
 wider n low high low' high' i l h = record { low = omega (arith, i.low); some = i.some; high = omega (arith, i.high); are_nodes = i.are_nodes }
 
-pub are_inside : (f : Forest) (at : ℕ) (path : List Ancestor) (n : Placed) → AreNodes f → Contains (nodes_at at path f) n → Inside at (at + length (flat f)) n
+pub are_inside : (f : Forest) (at : ℕ) (path : List Ancestor) (n : Node) → AreNodes f → Contains (nodes_at at path f) n → Inside at (at + length (flat f)) n
 are_inside none at path n h (k, lt, e) = absurd (omega arith)
 are_inside (node op children rest) at path n h (zero, lt, e) =
-    let here : Placed = record { place = at; op = op; path = path; children = children } in
+    let here : Node = record { place = at; op = op; path = path; children = children } in
     let size = takes op children rest h in
     let long : 2 ≤ length op = h.0.whole.long in
     subst (Inside at (at + length (flat (node op children rest)))) e (record { low = omega arith; some = omega (arith, size.0, long); high = omega (arith, size.1); are_nodes = (h.0, (h.1.0, tt)) })
 are_inside (node op children rest) at path n h (suc k, lt, e) =
-    let here : Placed = record { place = at; op = op; path = path; children = children } in
+    let here : Node = record { place = at; op = op; path = path; children = children } in
     let behind = at + length (flat (node op children none)) in
     let size = takes op children rest h in
     elim (Contains-append_cases (nodes_at (at + length op) (path ++ as_ancestor here ∷ []) children) (nodes_at behind path rest) n (k, omega arith, e)) [
@@ -38,25 +38,25 @@ are_inside (node op children rest) at path n h (suc k, lt, e) =
     ]
 
 -- A node at a greater place than another is below it, or stands behind its end.
-pub below_or_behind : (f : Forest) (at : ℕ) (path : List Ancestor) (n m : Placed) → AreNodes f → Contains (nodes_at at path f) n → Contains (nodes_at at path f) m → n.place < m.place → Contains (below n) m ⊎ (end_of n ≤ m.place)
+pub below_or_behind : (f : Forest) (at : ℕ) (path : List Ancestor) (n m : Node) → AreNodes f → Contains (nodes_at at path f) n → Contains (nodes_at at path f) m → n.place < m.place → Contains (below n) m ⊎ (end_of n ≤ m.place)
 below_or_behind none at path n m h (k, lt, e) v less = absurd (omega arith)
-below_or_behind (node op children rest) at path n m h (zero, lt, e) (zero, lt', e') less = absurd (omega (arith, less, ap (λ (p : Placed). p.place) e, ap (λ (p : Placed). p.place) e'))
+below_or_behind (node op children rest) at path n m h (zero, lt, e) (zero, lt', e') less = absurd (omega (arith, less, ap (λ (p : Node). p.place) e, ap (λ (p : Node). p.place) e'))
 below_or_behind (node op children rest) at path n m h (zero, lt, e) (suc j, lt', e') less =
-    let here : Placed = record { place = at; op = op; path = path; children = children } in
+    let here : Node = record { place = at; op = op; path = path; children = children } in
     let behind = at + length (flat (node op children none)) in
-    subst (λ (p : Placed). Contains (below p) m ⊎ (end_of p ≤ m.place)) e
+    subst (λ (p : Node). Contains (below p) m ⊎ (end_of p ≤ m.place)) e
     (elim (Contains-append_cases (below here) (nodes_at behind path rest) m (j, omega arith, e')) [ inl w ↦ inl w | inr w ↦ inr (are_inside rest behind path m h.1.1 w).low ])
 below_or_behind (node op children rest) at path n m h (suc k, lt, e) (zero, lt', e') less =
-    let here : Placed = record { place = at; op = op; path = path; children = children } in
+    let here : Node = record { place = at; op = op; path = path; children = children } in
     let behind = at + length (flat (node op children none)) in
     let entered = path ++ as_ancestor here ∷ [] in
-    let first : at ≡ m.place = ap (λ (p : Placed). p.place) e' in
+    let first : at ≡ m.place = ap (λ (p : Node). p.place) e' in
     absurd (elim (Contains-append_cases (nodes_at (at + length op) entered children) (nodes_at behind path rest) n (k, omega arith, e)) [
       | inl w ↦ omega (arith, less, first, (are_inside children (at + length op) entered n h.1.0 w).low)
       | inr w ↦ omega (arith, less, first, (are_inside rest behind path n h.1.1 w).low)
     ])
 below_or_behind (node op children rest) at path n m h (suc k, lt, e) (suc j, lt', e') less =
-    let here : Placed = record { place = at; op = op; path = path; children = children } in
+    let here : Node = record { place = at; op = op; path = path; children = children } in
     let behind = at + length (flat (node op children none)) in
     let entered = path ++ as_ancestor here ∷ [] in
     let its = nodes_at (at + length op) entered children in
@@ -78,26 +78,26 @@ below_or_behind (node op children rest) at path n m h (suc k, lt, e) (suc j, lt'
     ]
 
 -- A node of a forest is one of its first level, or stands behind one of these, inside of its scope.
-pub record IsAtOrIn (f : Forest) (at : ℕ) (path : List Ancestor) (n : Placed) : Type 0 where
+pub record IsAtOrIn (f : Forest) (at : ℕ) (path : List Ancestor) (n : Node) : Type 0 where
   pub first : Mark
   pub within : Contains (siblings at f) first
   pub where_it_is : ((first ≡ mark n) × (n.path ≡ path)) ⊎ ((first.place < n.place) × (has_scope first.op ≡ true))
 
-nothing_in : (op : List ℕ) (children : Forest) (at : ℕ) (path : List Ancestor) (n : Placed) → (has_scope op ≡ false → children ≡ none) → Contains (nodes_at at path children) n → has_scope op ≡ true
+nothing_in : (op : List ℕ) (children : Forest) (at : ℕ) (path : List Ancestor) (n : Node) → (has_scope op ≡ false → children ≡ none) → Contains (nodes_at at path children) n → has_scope op ≡ true
 nothing_in op children at path n leaf (k, lt, e) = elim (cases_Bool (has_scope op)) [
   | inl scoped ↦ scoped
   | inr bare ↦ absurd (omega (arith, lt, ap (λ (f : Forest). length (nodes_at at path f)) (leaf bare)))
 ]
 
-pub at_or_in : (f : Forest) (at : ℕ) (path : List Ancestor) (n : Placed) → AreNodes f → Contains (nodes_at at path f) n → IsAtOrIn f at path n
+pub at_or_in : (f : Forest) (at : ℕ) (path : List Ancestor) (n : Node) → AreNodes f → Contains (nodes_at at path f) n → IsAtOrIn f at path n
 at_or_in none at path n h (k, lt, e) = absurd (omega arith)
 at_or_in (node op children rest) at path n h (zero, lt, e) = record {
   first = record { place = at; op = op };
   within = (0, omega arith, refl);
-  where_it_is = inl (ap mark e, sym (ap (λ (p : Placed). p.path) e));
+  where_it_is = inl (ap mark e, sym (ap (λ (p : Node). p.path) e));
 }
 at_or_in (node op children rest) at path n h (suc k, lt, e) =
-    let here : Placed = record { place = at; op = op; path = path; children = children } in
+    let here : Node = record { place = at; op = op; path = path; children = children } in
     let behind = at + length (flat (node op children none)) in
     let entered = path ++ as_ancestor here ∷ [] in
     let long : 2 ≤ length op = h.0.whole.long in
@@ -111,11 +111,11 @@ at_or_in (node op children rest) at path n h (suc k, lt, e) =
     ]
 
 -- Each opcode of its first level is that of a node.
-pub is_node_of : (f : Forest) (at : ℕ) (path : List Ancestor) (m : Mark) → Contains (siblings at f) m → (n : Placed) × Contains (nodes_at at path f) n × (mark n ≡ m) × (n.path ≡ path)
+pub is_node_of : (f : Forest) (at : ℕ) (path : List Ancestor) (m : Mark) → Contains (siblings at f) m → (n : Node) × Contains (nodes_at at path f) n × (mark n ≡ m) × (n.path ≡ path)
 is_node_of none at path m (k, lt, e) = absurd (omega arith)
 is_node_of (node op children rest) at path m (zero, lt, e) = (record { place = at; op = op; path = path; children = children }, (0, omega arith, refl), e, refl)
 is_node_of (node op children rest) at path m (suc k, lt, e) =
-    let here : Placed = record { place = at; op = op; path = path; children = children } in
+    let here : Node = record { place = at; op = op; path = path; children = children } in
     let behind = at + length (flat (node op children none)) in
     let its = nodes_at (at + length op) (path ++ as_ancestor here ∷ []) children in
     let after = nodes_at behind path rest in

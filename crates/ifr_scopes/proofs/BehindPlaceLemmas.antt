@@ -9,7 +9,7 @@ use Rattle.std.proofs.lemmas.List.Elements.{Contains-append_right}
 use Rattle.std.proofs.lemmas.List.Sorted.{IsPartitionedBy-leb}
 use Rattle.std.proofs.lemmas.List.Sums.{take_while-cons}
 use Rattle.hii_bytes.specs.code.FirstFaults.{Rise}
-use Rattle.ifr_opcodes.specs.Forest.{Placed}
+use Rattle.ifr_opcodes.specs.Forest.{Node}
 use Rattle.ifr_scopes.proofs.ViewLemmas.{further}
 
 -- ---- what stands behind a place
@@ -83,9 +83,9 @@ module _ {X : Type 0} (place : X → ℕ) where
 
 -- ---- entries of nodes that pass a test
 
-module _ {E : Type 0} (is : Placed → Bool) (entry : Placed → E) where
+module _ {E : Type 0} (is : Node → Bool) (entry : Node → E) where
   -- Those behind a place are the entries of the nodes there.
-  pub entries_behind : (place : E → ℕ) → ((n : Placed) → place (entry n) ≡ n.place) → (p : ℕ) (ns : List Placed)
+  pub entries_behind : (place : E → ℕ) → ((n : Node) → place (entry n) ≡ n.place) → (p : ℕ) (ns : List Node)
       → filter (λ e. nat_lt p (place e)) (map entry (filter is ns)) ≡ map entry (filter is (filter (λ n. nat_lt p n.place) ns))
   entries_behind place same p [] = refl
   entries_behind place same p (n ∷ ns) =
@@ -103,7 +103,7 @@ module _ {E : Type 0} (is : Placed → Bool) (entry : Placed → E) where
       ]
 
   -- All of the front pass.
-  pub all_front : (p : E → Bool) (ns : List Placed) (rest : List E) → ((n : Placed) → Contains ns n → is n ≡ true → p (entry n) ≡ true)
+  pub all_front : (p : E → Bool) (ns : List Node) (rest : List E) → ((n : Node) → Contains ns n → is n ≡ true → p (entry n) ≡ true)
       → take_while p (map entry (filter is ns) ++ rest) ≡ map entry (filter is ns) ++ take_while p rest
   all_front p [] rest all = refl
   all_front p (n ∷ ns) rest all =
@@ -114,12 +114,12 @@ module _ {E : Type 0} (is : Placed → Bool) (entry : Placed → E) where
       ]
 
   -- All of the front pass, and none behind it.
-  pub front : (p : E → Bool) (ns : List Placed) (rest : List E) → ((n : Placed) → Contains ns n → is n ≡ true → p (entry n) ≡ true) → take_while p rest ≡ []
+  pub front : (p : E → Bool) (ns : List Node) (rest : List E) → ((n : Node) → Contains ns n → is n ≡ true → p (entry n) ≡ true) → take_while p rest ≡ []
       → take_while p (map entry (filter is ns) ++ rest) ≡ map entry (filter is ns)
   front p ns rest all none = all_front p ns rest all ∙ ap (λ (l : List E). map entry (filter is ns) ++ l) none ∙ append-nil (map entry (filter is ns))
 
   -- None passes.
-  pub no_front : (p : E → Bool) (ns : List Placed) → ((n : Placed) → Contains ns n → is n ≡ true → p (entry n) ≡ false) → take_while p (map entry (filter is ns)) ≡ []
+  pub no_front : (p : E → Bool) (ns : List Node) → ((n : Node) → Contains ns n → is n ≡ true → p (entry n) ≡ false) → take_while p (map entry (filter is ns)) ≡ []
   no_front p [] none = refl
   no_front p (n ∷ ns) none = elim (cases_Bool (is n)) [
     | inl kept ↦ rw kept (take_while-cons p (entry n) (map entry (filter is ns)) ∙ rw (none n (0, omega arith, refl) kept) refl)
@@ -129,14 +129,14 @@ module _ {E : Type 0} (is : Placed → Bool) (entry : Placed → E) where
 -- ---- what stands before a node
 
 -- A node of a kind stands before another.
-pub record HasBefore (kind : Placed → Bool) (ns : List Placed) (n : Placed) : Type 0 where
-  pub other : Placed
+pub record HasBefore (kind : Node → Bool) (ns : List Node) (n : Node) : Type 0 where
+  pub other : Node
   pub within : Contains ns other
   pub is : kind other ≡ true
   pub less : other.place < n.place
 
 -- One that is not of the kind is not that node.
-pub past : (kind : Placed → Bool) (m n : Placed) (ns : List Placed) → kind m ≡ false → HasBefore kind (m ∷ ns) n → HasBefore kind ns n
+pub past : (kind : Node → Bool) (m n : Node) (ns : List Node) → kind m ≡ false → HasBefore kind (m ∷ ns) n → HasBefore kind ns n
 past kind m n ns plain b = record { other = b.other; within = later b.within; is = b.is; less = b.less }
   where
     later : Contains (m ∷ ns) b.other → Contains ns b.other
@@ -144,5 +144,5 @@ past kind m n ns plain b = record { other = b.other; within = later b.within; is
     later (suc k, lt, e) = (k, omega arith, e)
 
 -- None stands before the first.
-pub none_before : (kind : Placed → Bool) (low : ℕ) (n : Placed) (ns : List Placed) → Rise (λ (m : Placed). m.place) low (n ∷ ns) → HasBefore kind (n ∷ ns) n → ⊥
-none_before kind low n ns r b = omega (arith, b.less, lowest (λ (m : Placed). m.place) n.place (n ∷ ns) b.other (omega arith, r.1) b.within)
+pub none_before : (kind : Node → Bool) (low : ℕ) (n : Node) (ns : List Node) → Rise (λ (m : Node). m.place) low (n ∷ ns) → HasBefore kind (n ∷ ns) n → ⊥
+none_before kind low n ns r b = omega (arith, b.less, lowest (λ (m : Node). m.place) n.place (n ∷ ns) b.other (omega arith, r.1) b.within)

@@ -5,7 +5,7 @@ use Rattle.std.specs.Option.{option_or}
 use Rattle.std.proofs.lemmas.Bool.{cases_Bool, eqb-true, and_right}
 use Rattle.hii_bytes.specs.code.FirstFaults.{Rise}
 use Rattle.ifr_opcodes.specs.Opcode.{number}
-use Rattle.ifr_opcodes.specs.Forest.{Placed, SpellsForest}
+use Rattle.ifr_opcodes.specs.Forest.{Node, SpellsForest}
 use Rattle.ifr_opcodes.specs.Reading.{tree_of}
 use Rattle.ifr_scopes.specs.Guards.{is_guard}
 use Rattle.ifr_scopes.specs.Nodes.{nodes_of}
@@ -20,11 +20,11 @@ use Rattle.ifr_scopes.proofs.NumberLemmas.{is_guard_entry}
 use Rattle.ifr_scopes.proofs.PathLemmas.{find_within}
 use Rattle.ifr_scopes.proofs.ViewLemmas.{node_in_place}
 
-abbrev place_of : Placed → ℕ
+abbrev place_of : Node → ℕ
 place_of n = n.place
 
 -- of one kind or of another
-pub either_at : (one other : Placed → Bool) (low place : ℕ) (ns : List Placed) → Rise place_of low ns → kind_at (λ n. one n || other n) ns place ≡ option_or (kind_at one ns place) (kind_at other ns place)
+pub either_at : (one other : Node → Bool) (low place : ℕ) (ns : List Node) → Rise place_of low ns → kind_at (λ n. one n || other n) ns place ≡ option_or (kind_at one ns place) (kind_at other ns place)
 either_at one other low place [] r = refl
 either_at one other low place (n ∷ ns) r =
     let later = either_at one other (n.place + 1) place ns r.1 in
@@ -42,7 +42,7 @@ either_at one other low place (n ∷ ns) r =
           rw (and_right (one n || other n) (eqb n.place place) elsewhere, and_right (one n) (eqb n.place place) elsewhere, and_right (other n) (eqb n.place place) elsewhere) later
     ]
 
-abbrev guarding : Placed → Bool
+abbrev guarding : Node → Bool
 guarding n = is_guard (number n.op)
 
 -- the guard or the condition of a question at a place
@@ -57,21 +57,21 @@ pub record IsGuardAt (bytes : List ℕ) (place : ℕ) (guard : GuardEntry) : Typ
 pub guard_some : (bytes : List ℕ) (place : ℕ) (guard : GuardEntry) → SpellsForest bytes (tree_of bytes) → Some guard ≡ option_map (λ n. guard_entry (inner_guard (nodes_of bytes) n.path) n) (kind_at guarding (nodes_of bytes) place) → IsGuardAt bytes place guard
 guard_some bytes place guard s e = go (kind_at guarding (nodes_of bytes) place) refl e
   where
-    go : (found : Option Placed) → kind_at guarding (nodes_of bytes) place ≡ found → Some guard ≡ option_map (λ n. guard_entry (inner_guard (nodes_of bytes) n.path) n) found → IsGuardAt bytes place guard
+    go : (found : Option Node) → kind_at guarding (nodes_of bytes) place ≡ found → Some guard ≡ option_map (λ n. guard_entry (inner_guard (nodes_of bytes) n.path) n) found → IsGuardAt bytes place guard
     go None at e = absurd cc
     go (Some n) at e =
         let its = find_within guarding (nodes_of bytes) place n at in
         let same : guard ≡ guard_entry (inner_guard (nodes_of bytes) n.path) n = cc in
         subst (IsGuardAt bytes place) (sym same) (record {
           kept = is_guard_entry bytes (inner_guard (nodes_of bytes) n.path) n s its.within its.holds;
-          is = either bytes place s ∙ ap (λ (o : Option Placed). option_or o (kind_at is_question_condition (nodes_of bytes) place)) at ∙ ap (λ (m : Placed). Some m) (sym (node_in_place bytes n s its.within));
+          is = either bytes place s ∙ ap (λ (o : Option Node). option_or o (kind_at is_question_condition (nodes_of bytes) place)) at ∙ ap (λ (m : Node). Some m) (sym (node_in_place bytes n s its.within));
         })
 
-no_guard_at : (ns : List Placed) (found : Option Placed) → ◌≡◌ {A = Option GuardEntry} None (option_map (λ n. guard_entry (inner_guard ns n.path) n) found) → found ≡ None
+no_guard_at : (ns : List Node) (found : Option Node) → ◌≡◌ {A = Option GuardEntry} None (option_map (λ n. guard_entry (inner_guard ns n.path) n) found) → found ≡ None
 no_guard_at ns None e = refl
 no_guard_at ns (Some n) e = absurd cc
 
-no_condition_at : (ns : List Placed) (found : Option Placed) → ◌≡◌ {A = Option ConditionEntry} None (option_map (kept_condition ns) found) → found ≡ None
+no_condition_at : (ns : List Node) (found : Option Node) → ◌≡◌ {A = Option ConditionEntry} None (option_map (kept_condition ns) found) → found ≡ None
 no_condition_at ns None e = refl
 no_condition_at ns (Some n) e = absurd cc
 
@@ -85,7 +85,7 @@ pub condition_some : (bytes : List ℕ) (place : ℕ) (condition : ConditionEntr
     → Some condition ≡ option_map (kept_condition (nodes_of bytes)) (kind_at is_question_condition (nodes_of bytes) place) → IsConditionAt bytes place condition
 condition_some bytes place condition s no_guard e = go (kind_at is_question_condition (nodes_of bytes) place) refl e
   where
-    go : (found : Option Placed) → kind_at is_question_condition (nodes_of bytes) place ≡ found → Some condition ≡ option_map (kept_condition (nodes_of bytes)) found → IsConditionAt bytes place condition
+    go : (found : Option Node) → kind_at is_question_condition (nodes_of bytes) place ≡ found → Some condition ≡ option_map (kept_condition (nodes_of bytes)) found → IsConditionAt bytes place condition
     go None at e = absurd cc
     go (Some n) at e =
         let its = find_within is_question_condition (nodes_of bytes) place n at in
@@ -93,13 +93,13 @@ condition_some bytes place condition s no_guard e = go (kind_at is_question_cond
         subst (IsConditionAt bytes place) (sym same) (record {
           kept = is_entry bytes n s its.within its.holds;
           is =
-              either bytes place s ∙ ap (λ (o : Option Placed). option_or o (kind_at is_question_condition (nodes_of bytes) place)) (no_guard_at (nodes_of bytes) (kind_at guarding (nodes_of bytes) place) no_guard) ∙ at
-              ∙ ap (λ (m : Placed). Some m) (sym (node_in_place bytes n s its.within));
+              either bytes place s ∙ ap (λ (o : Option Node). option_or o (kind_at is_question_condition (nodes_of bytes) place)) (no_guard_at (nodes_of bytes) (kind_at guarding (nodes_of bytes) place) no_guard) ∙ at
+              ∙ ap (λ (m : Node). Some m) (sym (node_in_place bytes n s its.within));
         })
 
 pub none_there : (bytes : List ℕ) (place : ℕ) → SpellsForest bytes (tree_of bytes)
     → ◌≡◌ {A = Option GuardEntry} None (option_map (λ n. guard_entry (inner_guard (nodes_of bytes) n.path) n) (kind_at guarding (nodes_of bytes) place))
-    → ◌≡◌ {A = Option ConditionEntry} None (option_map (kept_condition (nodes_of bytes)) (kind_at is_question_condition (nodes_of bytes) place)) → ◌≡◌ {A = Option Placed} None (conditional_at (nodes_of bytes) place)
+    → ◌≡◌ {A = Option ConditionEntry} None (option_map (kept_condition (nodes_of bytes)) (kind_at is_question_condition (nodes_of bytes) place)) → ◌≡◌ {A = Option Node} None (conditional_at (nodes_of bytes) place)
 none_there bytes place s no_guard no_condition =
-    sym (either bytes place s ∙ ap (λ (o : Option Placed). option_or o (kind_at is_question_condition (nodes_of bytes) place)) (no_guard_at (nodes_of bytes) (kind_at guarding (nodes_of bytes) place) no_guard)
+    sym (either bytes place s ∙ ap (λ (o : Option Node). option_or o (kind_at is_question_condition (nodes_of bytes) place)) (no_guard_at (nodes_of bytes) (kind_at guarding (nodes_of bytes) place) no_guard)
     ∙ no_condition_at (nodes_of bytes) (kind_at is_question_condition (nodes_of bytes) place) no_condition)

@@ -6,7 +6,7 @@ use Rattle.std.proofs.lemmas.Bool.{cases_Bool, eqb-true, ne_eqb, false≢true}
 use Rattle.ifr_opcodes.specs.declared.codes.TheConstants.{FORM_SET, VALUE, SUPPRESS_IF, GRAY_OUT_IF, DISABLE_IF}
 use Rattle.ifr_opcodes.specs.Opcode.{number}
 use Rattle.ifr_opcodes.specs.Operators.{is_operator, operands}
-use Rattle.ifr_opcodes.specs.Forest.{Mark, Ancestor, Placed, as_ancestor, below}
+use Rattle.ifr_opcodes.specs.Forest.{Mark, Ancestor, Node, as_ancestor, below}
 use Rattle.ifr_scopes.specs.Checked.{IsChecked}
 use Rattle.ifr_scopes.specs.Guards.{is_guard, guards}
 use Rattle.ifr_scopes.specs.code.Tables.{parent_place, is_question_condition}
@@ -99,13 +99,13 @@ no_operator code is = elim (cases_Bool (is_operator code)) [
   | inl operator ↦ absurd (false≢true (sym (none_among is_operator conditions code plain_numbers.2 operator) ∙ is))
 ]
 
-class_there : (bytes : List ℕ) (n : Placed) → IsChecked bytes → Contains (nodes_of bytes) n → is_question_condition n ≡ true → is_of_question (class_around n.path) ≡ true
+class_there : (bytes : List ℕ) (n : Node) → IsChecked bytes → Contains (nodes_of bytes) n → is_question_condition n ≡ true → is_of_question (class_around n.path) ≡ true
 class_there bytes n checked within is =
     let root : is_root n ≡ false = no_root bytes n checked within (other_than (number n.op) FORM_SET is plain_numbers.0) in
     let other : is_wanted n ≡ false = not_wanted bytes n checked within (no_operator (number n.op) is) (other_than (number n.op) VALUE is plain_numbers.1) in
     holds_condition (class_around n.path) (number n.op) is (held bytes n checked within other root)
 
-no_guard_there : (bytes : List ℕ) (g : Placed) → IsChecked bytes → Contains (nodes_of bytes) g → is_guard (number g.op) ≡ true → class_around g.path ≡ OfQuestion → ⊥
+no_guard_there : (bytes : List ℕ) (g : Node) → IsChecked bytes → Contains (nodes_of bytes) g → is_guard (number g.op) ≡ true → class_around g.path ≡ OfQuestion → ⊥
 no_guard_there bytes g checked within guards class =
     let plain : is_operator (number g.op) ≡ false = elim (cases_Bool (is_operator (number g.op))) [
       | inl operator ↦ absurd (false≢true (sym (guards_no_operator (number g.op) operator) ∙ guards))
@@ -116,14 +116,14 @@ no_guard_there bytes g checked within guards class =
     false≢true (sym (no_guard_held (number g.op) guards) ∙ ap (λ (c : Class). admits c (number g.op)) (sym class) ∙ held bytes g checked within other root)
 
 -- A question stands right around a node.
-pub record HasQuestion (bytes : List ℕ) (n : Placed) : Type 0 where
-  pub question : Placed
+pub record HasQuestion (bytes : List ℕ) (n : Node) : Type 0 where
+  pub question : Node
   pub within : Contains (nodes_of bytes) question
   pub asks : is_question question ≡ true
   pub below : Contains (below question) n
   pub path : n.path ≡ question.path ++ as_ancestor question ∷ []
 
-pub has_question : (bytes : List ℕ) (n : Placed) → IsChecked bytes → Contains (nodes_of bytes) n → is_question_condition n ≡ true → HasQuestion bytes n
+pub has_question : (bytes : List ℕ) (n : Node) → IsChecked bytes → Contains (nodes_of bytes) n → is_question_condition n ≡ true → HasQuestion bytes n
 has_question bytes n checked within is = elim (inside_node bytes n within) [
   | inl bare ↦ absurd (false≢true (ap (λ (l : List Ancestor). is_of_question (class_around l)) (sym bare) ∙ class_there bytes n checked within is))
   | inr r ↦
@@ -141,7 +141,7 @@ has_question bytes n checked within is = elim (inside_node bytes n within) [
 ]
 
 -- its place is that of what the node stands in
-pub question_place : (bytes : List ℕ) (n : Placed) (h : HasQuestion bytes n) → parent_place n ≡ h.question.place
+pub question_place : (bytes : List ℕ) (n : Node) (h : HasQuestion bytes n) → parent_place n ≡ h.question.place
 question_place bytes n h =
     let q = h.question in
     ap (λ (o : Option Mark). unwrap_or (option_map (λ (a : Mark). a.place) o) 0) (ap innermost h.path ∙ innermost-push q.path (as_ancestor q))

@@ -3,13 +3,13 @@ use Rattle.std.proofs.Common.{◌≡◌, ℕ, true, false, eqb, List, ◌∷◌,
 use Rattle.std.specs.List.{take_while}
 use Rattle.std.proofs.lemmas.Bool.{cond-true, cond-false}
 use Rattle.std.proofs.lemmas.List.Sums.{take_while-cons}
-use Rattle.ifr_opcodes.specs.Forest.{Placed}
+use Rattle.ifr_opcodes.specs.Forest.{Node}
 use Rattle.ifr_scopes.specs.code.Checked.{node_in}
 use Rattle.ifr_scopes.specs.declared.index.ConditionEntry.{ConditionEntry}
 use Rattle.ifr_scopes.proofs.NoSubmitLemmas.{of_number}
 
 -- the nodes of those of a number, as far as they name a question
-abbrev pub left_of : List ℕ → ℕ → ℕ → List ConditionEntry → List Placed
+abbrev pub left_of : List ℕ → ℕ → ℕ → List ConditionEntry → List Node
 left_of bytes question code kept = of_number bytes code (take_while (λ one. eqb one.question question) kept)
 
 named : (question : ℕ) (first : ConditionEntry) (rest : List ConditionEntry) → eqb first.question question ≡ true

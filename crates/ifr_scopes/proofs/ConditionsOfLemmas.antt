@@ -6,7 +6,7 @@ use Rattle.std.proofs.lemmas.Bool.{cases_Bool, cond-true, cond-false, eq-eqb, ne
 use Rattle.std.proofs.lemmas.List.{map-append}
 use Rattle.std.proofs.lemmas.List.Elements.{All-nil, All-same, All-filter, filter-append, Contains-append_right}
 use Rattle.ifr_opcodes.specs.Opcode.{number, has_scope}
-use Rattle.ifr_opcodes.specs.Forest.{Ancestor, Placed, as_ancestor, nodes_at, below}
+use Rattle.ifr_opcodes.specs.Forest.{Ancestor, Node, as_ancestor, nodes_at, below}
 use Rattle.ifr_opcodes.specs.Reading.{tree_of}
 use Rattle.ifr_opcodes.proofs.StatementLemmas.{question_is_statement}
 use Rattle.ifr_scopes.specs.Checked.{IsChecked}
@@ -28,7 +28,7 @@ use Rattle.ifr_scopes.proofs.ScopeLemmas.{path_inside}
 use Rattle.ifr_scopes.proofs.ViewLemmas.{below_within, contains_found}
 
 -- the place of the question of a condition that stands below a question is that question's
-its_place : (bytes : List ℕ) (q n : Placed) → IsChecked bytes → Contains (nodes_of bytes) q → is_question q ≡ true → Contains (below q) n → is_question_condition n ≡ true → parent_place n ≡ q.place
+its_place : (bytes : List ℕ) (q n : Node) → IsChecked bytes → Contains (nodes_of bytes) q → is_question q ≡ true → Contains (below q) n → is_question_condition n ≡ true → parent_place n ≡ q.place
 its_place bytes q n checked within asks inner is =
     let h = has_question bytes n checked (below_within (tree_of bytes) 4 [] q n within inner) is in
     let inside = path_inside q.children _ (q.path ++ as_ancestor q ∷ []) n inner in
@@ -44,34 +44,34 @@ its_place bytes q n checked within asks inner is =
     ]
 
 -- A node whose place is that of a condition's question is a question, and has the condition below it.
-of_place : (bytes : List ℕ) (m n : Placed) → IsChecked bytes → Contains (nodes_of bytes) m → Contains (nodes_of bytes) n → is_question_condition n ≡ true → parent_place n ≡ m.place → (is_question m ≡ true) × Contains (below m) n
+of_place : (bytes : List ℕ) (m n : Node) → IsChecked bytes → Contains (nodes_of bytes) m → Contains (nodes_of bytes) n → is_question_condition n ≡ true → parent_place n ≡ m.place → (is_question m ≡ true) × Contains (below m) n
 of_place bytes m n checked within there is e =
     let h = has_question bytes n checked there is in
     let same = one_place bytes h.question m checked h.within within (sym (question_place bytes n h) ∙ e) in
-    (ap is_question (sym same) ∙ h.asks, subst (λ (q : Placed). Contains (below q) n) same h.below)
+    (ap is_question (sym same) ∙ h.asks, subst (λ (q : Node). Contains (below q) n) same h.below)
 
 -- the conditions behind a node that name its place
-abbrev named : List ℕ → Placed → List ConditionEntry
+abbrev named : List ℕ → Node → List ConditionEntry
 named bytes m = take_while (λ one. one.question == m.place) (filter (λ one. nat_lt m.place one.place) (condition_table (nodes_of bytes)))
 
-behind_it : (bytes : List ℕ) (m : Placed) → filter (λ (one : ConditionEntry). nat_lt m.place one.place) (condition_table (nodes_of bytes)) ≡ conditions_among (nodes_of bytes) (filter (λ n. nat_lt m.place n.place) (nodes_of bytes))
+behind_it : (bytes : List ℕ) (m : Node) → filter (λ (one : ConditionEntry). nat_lt m.place one.place) (condition_table (nodes_of bytes)) ≡ conditions_among (nodes_of bytes) (filter (λ n. nat_lt m.place n.place) (nodes_of bytes))
 behind_it bytes m = entries_behind is_question_condition (kept_condition (nodes_of bytes)) (λ (one : ConditionEntry). one.place) (λ n. refl) m.place (nodes_of bytes)
 
-both : (ns xs ys : List Placed) → conditions_among ns (xs ++ ys) ≡ conditions_among ns xs ++ conditions_among ns ys
+both : (ns xs ys : List Node) → conditions_among ns (xs ++ ys) ≡ conditions_among ns xs ++ conditions_among ns ys
 both ns xs ys = ap (map (kept_condition ns)) (filter-append is_question_condition xs ys) ∙ map-append (kept_condition ns) (filter is_question_condition xs) (filter is_question_condition ys)
 
-named_of_question : (bytes : List ℕ) (q : Placed) → IsChecked bytes → Contains (nodes_of bytes) q → is_question q ≡ true → named bytes q ≡ conditions_among (nodes_of bytes) (below q)
+named_of_question : (bytes : List ℕ) (q : Node) → IsChecked bytes → Contains (nodes_of bytes) q → is_question q ≡ true → named bytes q ≡ conditions_among (nodes_of bytes) (below q)
 named_of_question bytes q checked within asks =
     let b = behind_node bytes q checked.spelled within in
     let names : ConditionEntry → Bool = λ one. one.question == q.place in
-    let there : (n : Placed) → Contains b.others n → Contains (nodes_of bytes) n =
-    λ n w. kept (λ m. nat_lt q.place m.place) (nodes_of bytes) n (subst (λ (l : List Placed). Contains l n) (sym b.parts) (Contains-append_right (below q) b.others n w)) in
+    let there : (n : Node) → Contains b.others n → Contains (nodes_of bytes) n =
+    λ n w. kept (λ m. nat_lt q.place m.place) (nodes_of bytes) n (subst (λ (l : List Node). Contains l n) (sym b.parts) (Contains-append_right (below q) b.others n w)) in
     let none : take_while names (conditions_among (nodes_of bytes) b.others) ≡ [] = no_front is_question_condition (kept_condition (nodes_of bytes)) names b.others
-    (λ n w is. ne_eqb (parent_place n) q.place (λ e. apart (λ (m : Placed). m.place) _ (below q) b.others n b.rise (of_place bytes q n checked within (there n w) is e).1 w)) in
+    (λ n w is. ne_eqb (parent_place n) q.place (λ e. apart (λ (m : Node). m.place) _ (below q) b.others n b.rise (of_place bytes q n checked within (there n w) is e).1 w)) in
     ap (take_while names) (behind_it bytes q ∙ ap (conditions_among (nodes_of bytes)) b.parts ∙ both (nodes_of bytes) (below q) b.others)
     ∙ front is_question_condition (kept_condition (nodes_of bytes)) names (below q) (conditions_among (nodes_of bytes) b.others) (λ n w is. eq-eqb (parent_place n) q.place (its_place bytes q n checked within asks w is)) none
 
-named_of_other : (bytes : List ℕ) (m : Placed) → IsChecked bytes → Contains (nodes_of bytes) m → is_question m ≡ false → named bytes m ≡ []
+named_of_other : (bytes : List ℕ) (m : Node) → IsChecked bytes → Contains (nodes_of bytes) m → is_question m ≡ false → named bytes m ≡ []
 named_of_other bytes m checked within other =
     let names : ConditionEntry → Bool = λ one. one.question == m.place in
     let behind = filter (λ n. nat_lt m.place n.place) (nodes_of bytes) in
@@ -79,7 +79,7 @@ named_of_other bytes m checked within other =
     (λ n w is. ne_eqb (parent_place n) m.place (λ e. false≢true (sym other ∙ (of_place bytes m n checked within (kept (λ p. nat_lt m.place p.place) (nodes_of bytes) n w) is e).0)))
 
 -- those of a number are the conditions of this number in the scope of the question
-conditions_named : (bytes : List ℕ) (m : Placed) (code : ℕ) → IsChecked bytes → Contains (nodes_of bytes) m → is_condition_number code ≡ true → of_number bytes code (named bytes m) ≡ of_question (λ n. number n.op == code) m
+conditions_named : (bytes : List ℕ) (m : Node) (code : ℕ) → IsChecked bytes → Contains (nodes_of bytes) m → is_condition_number code ≡ true → of_number bytes code (named bytes m) ≡ of_question (λ n. number n.op == code) m
 conditions_named bytes m code checked within condition = elim (cases_Bool (is_question m)) [
   | inl asks ↦
       rw asks (ap (of_number bytes code) (named_of_question bytes m checked within asks)
@@ -88,7 +88,7 @@ conditions_named bytes m code checked within condition = elim (cases_Bool (is_qu
 ]
 
 -- where no scope is opened there is none
-pub none_inside : (bytes : List ℕ) (m : Placed) (which : Placed → Bool) → IsChecked bytes → Contains (nodes_of bytes) m → has_scope m.op ≡ false → of_question which m ≡ []
+pub none_inside : (bytes : List ℕ) (m : Node) (which : Node → Bool) → IsChecked bytes → Contains (nodes_of bytes) m → has_scope m.op ≡ false → of_question which m ≡ []
 none_inside bytes m which checked within bare =
     let leaf = (node_stands bytes (tree_of bytes) m checked.spelled within).2.0.leaf bare in
     let nothing : below m ≡ [] = ap (nodes_at _ (m.path ++ as_ancestor m ∷ [])) leaf in
@@ -97,10 +97,10 @@ none_inside bytes m which checked within bare =
 -- ---- what is kept of them
 
 -- the conditions behind a node that opens a scope
-abbrev pub kept_behind : List ℕ → Placed → List ConditionEntry
+abbrev pub kept_behind : List ℕ → Node → List ConditionEntry
 kept_behind bytes m = cond (has_scope m.op) (filter (λ one. nat_lt m.place one.place) (condition_table (nodes_of bytes))) []
 
-pub kept_are : (bytes : List ℕ) (m : Placed) (its : List ConditionEntry) → IsChecked bytes → its ≡ kept_behind bytes m → AreConditionEntries bytes its
+pub kept_are : (bytes : List ℕ) (m : Node) (its : List ConditionEntry) → IsChecked bytes → its ≡ kept_behind bytes m → AreConditionEntries bytes its
 kept_are bytes m its checked e = elim (cases_Bool (has_scope m.op)) [
   | inl scoped ↦
       All-same (λ one. IsConditionEntry bytes one) its _ (e ∙ cond-true (has_scope m.op) _ _ scoped)
@@ -108,7 +108,7 @@ kept_are bytes m its checked e = elim (cases_Bool (has_scope m.op)) [
   | inr bare ↦ All-same (λ one. IsConditionEntry bytes one) its [] (e ∙ cond-false (has_scope m.op) _ _ bare) (All-nil (λ one. IsConditionEntry bytes one))
 ]
 
-pub conditions_kept : (bytes : List ℕ) (m : Placed) (code place : ℕ) (its : List ConditionEntry) → IsChecked bytes → IsNodeOf bytes m → is_condition_number code ≡ true → place ≡ m.place → its ≡ kept_behind bytes m
+pub conditions_kept : (bytes : List ℕ) (m : Node) (code place : ℕ) (its : List ConditionEntry) → IsChecked bytes → IsNodeOf bytes m → is_condition_number code ≡ true → place ≡ m.place → its ≡ kept_behind bytes m
     → left_of bytes place code its ≡ of_question (λ n. number n.op == code) m
 conditions_kept bytes m code place its checked is condition same e =
     let within = contains_found (nodes_of bytes) m.place m is in

@@ -6,7 +6,7 @@ use Rattle.std.proofs.lemmas.Bool.{cases_Bool, ne_eqb, eq-eqb, cond-true, cond-f
 use Rattle.ifr_opcodes.specs.declared.codes.TheConstants.{END}
 use Rattle.ifr_opcodes.specs.declared.op.Op.{Op}
 use Rattle.ifr_opcodes.specs.Opcode.{number, has_scope, end, is_end, IsWhole}
-use Rattle.ifr_opcodes.specs.Forest.{Forest, none, node, opcodes, flat, AreNodes, SpellsForest, Mark, Placed}
+use Rattle.ifr_opcodes.specs.Forest.{Forest, none, node, opcodes, flat, AreNodes, SpellsForest, Mark, Node}
 use Rattle.ifr_opcodes.specs.code.Marks.{mark}
 use Rattle.ifr_opcodes.specs.code.Ops.{bytes_of, op_of}
 use Rattle.ifr_opcodes.specs.Reading.{opcodes_in, tree_of}
@@ -88,7 +88,7 @@ pub stands_there : (bytes : List ℕ) (place : ℕ) → SpellsForest bytes (tree
 unfolding node_in
 stands_there bytes place s there =
     let found = some_there _ there in
-    subst (λ (n : Placed). StandsAt bytes n × (n.place ≡ place)) (sym (ap or_empty found.1)) (stands_at bytes (tree_of bytes) place found.0 s found.1, found_place (nodes_of bytes) place found.0 found.1)
+    subst (λ (n : Node). StandsAt bytes n × (n.place ≡ place)) (sym (ap or_empty found.1)) (stands_at bytes (tree_of bytes) place found.0 s found.1, found_place (nodes_of bytes) place found.0 found.1)
 
 behind_first : (bytes : List ℕ) (at : ℕ) (op : List ℕ) (others : List (List ℕ)) → AllWhole (op ∷ others) → drop at bytes ≡ concat (op ∷ others) → at ≤ length bytes
     → (opcodes_in (drop (at + length op) bytes) ≡ others) × (AreOpcodes (drop (at + length op) bytes) × (at + length op ≤ length bytes))
@@ -98,7 +98,7 @@ behind_first bytes at op others w e le =
     (is, (record { whole = rw is w.1; joined = ap concat is ∙ sym rest }, omega (arith, le, ap length e, length-drop at bytes, length-append op (concat others))))
 
 -- behind a node's opcode
-begins : (bytes : List ℕ) (n : Placed) → StandsAt bytes n → n.place ≤ length bytes → Ends bytes (n.place + length n.op) (cond (has_scope n.op) 1 0) (end_of n)
+begins : (bytes : List ℕ) (n : Node) → StandsAt bytes n → n.place ≤ length bytes → Ends bytes (n.place + length n.op) (cond (has_scope n.op) 1 0) (end_of n)
 begins bytes n s le = go (has_scope n.op) refl
   where
     long : 2 ≤ length n.op
@@ -126,7 +126,7 @@ begins bytes n s le = go (has_scope n.op) refl
         }
 
 -- a node lies inside of the package
-place_within : (bytes : List ℕ) (n : Placed) → StandsAt bytes n → n.place ≤ length bytes
+place_within : (bytes : List ℕ) (n : Node) → StandsAt bytes n → n.place ≤ length bytes
 place_within bytes n s = elim (cases_Bool (has_scope n.op)) [
   | inl scoped ↦ go (opcodes n.children ++ (end ∷ s.behind)) (opcodes_scoped n.op n.children none s.behind scoped)
   | inr bare ↦ go s.behind (opcodes_plain n.op n.children none s.behind bare)

@@ -4,7 +4,7 @@ use Rattle.std.specs.Prelude.{Contains, filter}
 use Rattle.std.specs.List.{All, AllByRecursion}
 use Rattle.std.proofs.lemmas.Bool.{cases_Bool}
 use Rattle.std.proofs.lemmas.List.Elements.{All-from_recursion}
-use Rattle.ifr_opcodes.specs.Forest.{Placed, SpellsForest}
+use Rattle.ifr_opcodes.specs.Forest.{Node, SpellsForest}
 use Rattle.ifr_opcodes.specs.Reading.{tree_of}
 use Rattle.ifr_scopes.specs.code.Checked.{node_in}
 use Rattle.ifr_scopes.specs.code.Tables.{IsGuardEntry, AreGuardEntries, guard_entry, guard_table, inner_guard}
@@ -15,8 +15,8 @@ use Rattle.ifr_scopes.specs.declared.index.GuardEntry.{GuardEntry}
 use Rattle.ifr_scopes.proofs.NumberLemmas.{is_guard_entry}
 use Rattle.ifr_scopes.proofs.ViewLemmas.{further, node_in_place}
 
-all_kept : {E : Type 0} (P : E → Type 0) (test : Placed → Bool) (entry : Placed → E) (ns : List Placed)
-    → ((n : Placed) → Contains ns n → test n ≡ true → P (entry n)) → AllByRecursion P (map entry (filter test ns))
+all_kept : {E : Type 0} (P : E → Type 0) (test : Node → Bool) (entry : Node → E) (ns : List Node)
+    → ((n : Node) → Contains ns n → test n ≡ true → P (entry n)) → AllByRecursion P (map entry (filter test ns))
 all_kept P test entry [] its = tt
 all_kept P test entry (n ∷ ns) its =
     let later = all_kept P test entry ns (λ m w. its m (further n ns m w)) in
@@ -26,20 +26,20 @@ all_kept P test entry (n ∷ ns) its =
     ]
 
 -- what is said of the entries of nodes that pass
-pub all_entries_are : {E : Type 0} (P : E → Type 0) (test : Placed → Bool) (entry : Placed → E) (ns : List Placed)
-    → ((n : Placed) → Contains ns n → test n ≡ true → P (entry n)) → All P (map entry (filter test ns))
+pub all_entries_are : {E : Type 0} (P : E → Type 0) (test : Node → Bool) (entry : Node → E) (ns : List Node)
+    → ((n : Node) → Contains ns n → test n ≡ true → P (entry n)) → All P (map entry (filter test ns))
 all_entries_are P test entry ns its = All-from_recursion P (map entry (filter test ns)) (all_kept P test entry ns its)
 
 -- the nodes at the places of entries are those that were kept
-pub nodes_again : {E : Type 0} (bytes : List ℕ) (place : E → ℕ) (test : Placed → Bool) (entry : Placed → E) (ns : List Placed)
-    → ((n : Placed) → place (entry n) ≡ n.place) → SpellsForest bytes (tree_of bytes) → ((n : Placed) → Contains ns n → Contains (nodes_of bytes) n)
+pub nodes_again : {E : Type 0} (bytes : List ℕ) (place : E → ℕ) (test : Node → Bool) (entry : Node → E) (ns : List Node)
+    → ((n : Node) → place (entry n) ≡ n.place) → SpellsForest bytes (tree_of bytes) → ((n : Node) → Contains ns n → Contains (nodes_of bytes) n)
     → map (λ one. node_in bytes (place one)) (map entry (filter test ns)) ≡ filter test ns
 nodes_again bytes place test entry [] places s within = refl
 nodes_again bytes place test entry (n ∷ ns) places s within =
     let later = nodes_again bytes place test entry ns places s (λ m w. within m (further n ns m w)) in
     elim (cases_Bool (test n)) [
-      | inl is ↦ rw is (ap (λ (m : Placed). m ∷ map (λ one. node_in bytes (place one)) (map entry (filter test ns)))
-          (ap (node_in bytes) (places n) ∙ node_in_place bytes n s (within n (0, omega arith, refl))) ∙ ap (λ (l : List Placed). n ∷ l) later)
+      | inl is ↦ rw is (ap (λ (m : Node). m ∷ map (λ one. node_in bytes (place one)) (map entry (filter test ns)))
+          (ap (node_in bytes) (places n) ∙ node_in_place bytes n s (within n (0, omega arith, refl))) ∙ ap (λ (l : List Node). n ∷ l) later)
       | inr other ↦ rw other later
     ]
 

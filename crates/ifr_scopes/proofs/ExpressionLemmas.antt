@@ -7,7 +7,7 @@ use Rattle.hii_bytes.specs.Cause.{number_of}
 use Rattle.hii_bytes.specs.declared.cause.Cause.{Cause}
 use Rattle.hii_bytes.specs.declared.cause.Cause.TheVariants.{NotFormSet, AfterFormSet, OpOutside, OpSize, Misplaced, ScopeBit, ExprShape, ExprDepth}
 use Rattle.ifr_opcodes.specs.Opcode.{number, has_scope}
-use Rattle.ifr_opcodes.specs.Forest.{Forest, none, node, flat, AreNodes, SpellsForest, Mark, Ancestor, Placed, as_ancestor, nodes}
+use Rattle.ifr_opcodes.specs.Forest.{Forest, none, node, flat, AreNodes, SpellsForest, Mark, Ancestor, Node, as_ancestor, nodes}
 use Rattle.ifr_opcodes.specs.code.Marks.{mark}
 use Rattle.ifr_opcodes.specs.Operators.{is_operator}
 use Rattle.ifr_opcodes.proofs.ForestLemmas.{takes}
@@ -80,7 +80,7 @@ shape_late at marks ExprShape place f = lit≤ tt
 shape_late at marks ExprDepth place f = lit≤ tt
 shape_late at marks _ place f = absurd f
 
-pub node_early : (n : Placed) (cause : Cause) → has_structure_fault n cause ≡ true → number_of cause ≤ 30
+pub node_early : (n : Node) (cause : Cause) → has_structure_fault n cause ≡ true → number_of cause ≤ 30
 node_early n NotFormSet h = lit≤ tt
 node_early n AfterFormSet h = lit≤ tt
 node_early n OpOutside h = lit≤ tt
@@ -96,30 +96,30 @@ pub innermost-push : (path : List Ancestor) (a : Ancestor) → innermost (path +
 innermost-push path a = ap (λ (found : Option Ancestor). option_map (λ (b : Ancestor). record { place = b.place; op = b.op }) found) (last_or-push None path a)
 
 -- A node stands in the scope of an operator.
-pub record IsIn (n parent : Placed) : Type 0 where
+pub record IsIn (n parent : Node) : Type 0 where
   pub path : n.path ≡ parent.path ++ as_ancestor parent ∷ []
   pub operator : is_operator (number parent.op) ≡ true
 
-its_parent : (n p : Placed) → IsIn n p → parent n ≡ Some (mark p)
+its_parent : (n p : Node) → IsIn n p → parent n ≡ Some (mark p)
 its_parent n p i = ap innermost i.path ∙ innermost-push p.path (as_ancestor p)
 
-in_is_operand : (n p : Placed) → IsIn n p → is_operand n ≡ true
+in_is_operand : (n p : Node) → IsIn n p → is_operand n ≡ true
 in_is_operand n p i = rw (its_parent n p i) i.operator
 
-pub in_is_no_condition : (n p : Placed) → IsIn n p → is_condition n ≡ false
+pub in_is_no_condition : (n p : Node) → IsIn n p → is_condition n ≡ false
 in_is_no_condition n p i = rw (its_parent n p i) (and_left _ _ (wants_no_operator (number p.op) i.operator))
 
-in_is_no_root : (n p : Placed) → IsIn n p → is_root n ≡ false
+in_is_no_root : (n p : Node) → IsIn n p → is_root n ≡ false
 in_is_no_root n p i = ne_eqb (length n.path) 0 (λ e. omega (arith, e, ap length i.path, length-append p.path (as_ancestor p ∷ [])))
 
-in_class : (n p : Placed) → IsIn n p → class_around n.path ≡ OfExpression
+in_class : (n p : Node) → IsIn n p → class_around n.path ≡ OfExpression
 in_class n p i =
     ap class_around i.path ∙ class-other p.path (as_ancestor p) (guards_no_operator (number p.op) i.operator) ∙ ap class_of (operator_row (number p.op) i.operator)
 
 -- ---- what is wrong with an opcode by itself, as a node and as an opcode of an expression
 
 -- the expression's own opcode
-pub own_fault : (n : Placed) (cause : Cause) → is_operator (number n.op) ≡ true → expr.has_opcode_fault n.place (mark n) cause ≡ true → has_structure_fault n cause ≡ true
+pub own_fault : (n : Node) (cause : Cause) → is_operator (number n.op) ≡ true → expr.has_opcode_fault n.place (mark n) cause ≡ true → has_structure_fault n cause ≡ true
 own_fault n OpOutside operator h = h
 own_fault n OpSize operator h = h
 own_fault n Misplaced operator h = absurd (false≢true (sym (not_from_true (is_operator (number n.op)) operator) ∙ h))
@@ -127,7 +127,7 @@ own_fault n ScopeBit operator h = absurd (false≢true (sym (not_from_true (n.pl
 own_fault n _ operator h = absurd (false≢true h)
 
 -- an opcode in the expression's scope, whose fault has no greater number there
-pub inner_fault : (n p : Placed) (cause : Cause) → IsIn n p → p.place < n.place → 4 < n.place → has_structure_fault n cause ≡ true → (other : Cause) × (expr.has_opcode_fault p.place (mark n) other ≡ true) × (number_of other ≤ number_of cause)
+pub inner_fault : (n p : Node) (cause : Cause) → IsIn n p → p.place < n.place → 4 < n.place → has_structure_fault n cause ≡ true → (other : Cause) × (expr.has_opcode_fault p.place (mark n) other ≡ true) × (number_of other ≤ number_of cause)
 inner_fault n p NotFormSet i less some h = absurd (false≢true (sym (ne_eqb n.place 4 (λ e. omega arith)) ∙ and_first _ _ h))
 inner_fault n p AfterFormSet i less some h = absurd (false≢true (sym (in_is_no_root n p i) ∙ and_first _ _ h))
 inner_fault n p OpOutside i less some h = (OpOutside, h, lit≤ tt)
@@ -148,14 +148,14 @@ inner_fault n p ExprShape i less some h = elim (cases_Bool (is_operator (number 
 inner_fault n p _ i less some h = absurd (false≢true h)
 
 -- an operator that opens a scope inside of the expression's own
-scope_fault : (n p : Placed) → IsIn n p → is_operator (number n.op) ≡ true → has_scope n.op ≡ true → has_structure_fault n ScopeBit ≡ true
+scope_fault : (n p : Node) → IsIn n p → is_operator (number n.op) ≡ true → has_scope n.op ≡ true → has_structure_fault n ScopeBit ≡ true
 scope_fault n p i operator scoped =
     ap (λ (r : Option Row). has_wrong_scope r (is_operand n) n.op) (operator_row (number n.op) operator) ∙ and_from (is_operand n) (has_scope n.op) (in_is_operand n p i) scoped
 
 -- ---- an expression that was read
 
 -- The expression at a node means a tree within the bound, of operators that have all their fields.
-pub record IsRead (n : Placed) : Type 0 where
+pub record IsRead (n : Node) : Type 0 where
   pub tree : Tree
   pub means : Means (expression n.place n.op n.children) tree
   pub within : need tree ≤ 64
@@ -167,7 +167,7 @@ is_sized (x ∷ marks) m all (zero, lt, e) = subst IsSized e all.0
 is_sized (x ∷ marks) m all (suc k, lt, e) = is_sized marks m all.1 (k, omega arith, e)
 
 -- What is wrong with it is the Scope of a node in its own.
-pub read_fault : (f : Forest) (n : Placed) (cause : Cause) (place : ℕ) → Contains (nodes f) n → IsRead n → IsExpressionFault n.place (expression n.place n.op n.children) cause place → IsNodeFault (nodes f) cause place
+pub read_fault : (f : Forest) (n : Node) (cause : Cause) (place : ℕ) → Contains (nodes f) n → IsRead n → IsExpressionFault n.place (expression n.place n.op n.children) cause place → IsNodeFault (nodes f) cause place
 read_fault f n cause place within r (inr (clear, shape)) = absurd (no_shape n.place (expression n.place n.op n.children) r.tree r.means r.within cause place shape)
 read_fault f n cause place within r (inl (m, (zero, lt, e), here, there)) = absurd (own cause (ap (λ (x : Mark). expr.has_opcode_fault n.place x cause) e ∙ there))
   where
@@ -199,13 +199,13 @@ read_fault f n cause place within r (inl (m, (suc k, lt, e), here, there)) = inn
 
 -- ---- the bytes of an expression
 
-pub record StandsFrom (bytes : List ℕ) (n : Placed) (from to : ℕ) : Type 0 where
+pub record StandsFrom (bytes : List ℕ) (n : Node) (from to : ℕ) : Type 0 where
   pub ordered : from ≤ to
   pub within : to ≤ length bytes
   pub opcodes : opcodes_of from (slice_range bytes from to) ≡ expression n.place n.op n.children
   pub is_node : IsExpressionNode (slice_range bytes from to)
 
-pub stands_from : (bytes : List ℕ) (f : Forest) (n : Placed) (from to : ℕ) → SpellsForest bytes f → Contains (nodes f) n → is_operator (number n.op) ≡ true → from ≡ n.place → to ≡ end_of n → StandsFrom bytes n from to
+pub stands_from : (bytes : List ℕ) (f : Forest) (n : Node) (from to : ℕ) → SpellsForest bytes f → Contains (nodes f) n → is_operator (number n.op) ≡ true → from ≡ n.place → to ≡ end_of n → StandsFrom bytes n from to
 stands_from bytes f n from to s within operator begins ends =
     let its = flat (node n.op n.children none) in
     let stood = node_stands bytes f n s within in

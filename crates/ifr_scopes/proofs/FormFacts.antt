@@ -5,7 +5,7 @@ use Rattle.std.proofs.lemmas.Bool.{cases_Bool, cond-true, eqb-true, eq-eqb}
 use Rattle.std.proofs.lemmas.List.Elements.{filter-append}
 use Rattle.ifr_opcodes.specs.declared.codes.TheConstants.{FORM}
 use Rattle.ifr_opcodes.specs.Opcode.{number}
-use Rattle.ifr_opcodes.specs.Forest.{Ancestor, Placed, as_ancestor, below}
+use Rattle.ifr_opcodes.specs.Forest.{Ancestor, Node, as_ancestor, below}
 use Rattle.ifr_scopes.specs.Checked.{IsChecked}
 use Rattle.ifr_scopes.specs.Guards.{is_guard}
 use Rattle.ifr_scopes.specs.Nodes.{nodes_of, is_form, is_statement}
@@ -23,8 +23,8 @@ use Rattle.ifr_scopes.proofs.ViewLemmas.{below_within}
 -- ---- the form of a statement
 
 -- A form has a node below it.
-pub record IsBelowForm (bytes : List ℕ) (n : Placed) : Type 0 where
-  pub form : Placed
+pub record IsBelowForm (bytes : List ℕ) (n : Node) : Type 0 where
+  pub form : Node
   pub within : Contains (nodes_of bytes) form
   pub is : is_form form ≡ true
   pub below : Contains (below form) n
@@ -33,12 +33,12 @@ nothing_there : (path : List Ancestor) → path ≡ [] → class_around path ≡
 nothing_there path bare e = let bad : OfNothing ≡ OfForm = ap class_around (sym bare) ∙ e in absurd cc
 
 -- what is below a node below a form is below the form
-deeper : (bytes : List ℕ) (n m : Placed) → IsBelowForm bytes m → Contains (below m) n → IsBelowForm bytes n
+deeper : (bytes : List ℕ) (n m : Node) → IsBelowForm bytes m → Contains (below m) n → IsBelowForm bytes n
 deeper bytes n m h inner =
     let q = h.form in
     record { form = q; within = h.within; is = h.is; below = below_within q.children (q.place + length q.op) (q.path ++ as_ancestor q ∷ []) m n h.below inner }
 
-in_form : (bytes : List ℕ) (k : ℕ) (n : Placed) → IsChecked bytes → Contains (nodes_of bytes) n → length n.path ≤ k → class_around n.path ≡ OfForm → IsBelowForm bytes n
+in_form : (bytes : List ℕ) (k : ℕ) (n : Node) → IsChecked bytes → Contains (nodes_of bytes) n → length n.path ≤ k → class_around n.path ≡ OfForm → IsBelowForm bytes n
 in_form bytes zero n checked within le e = elim (inside_node bytes n within) [
   | inl bare ↦ absurd (nothing_there n.path bare e)
   | inr r ↦ absurd (omega (arith, le, ap (λ (l : List Ancestor). length l) r.path, length-append r.outer.path (as_ancestor r.outer ∷ [])))
@@ -62,7 +62,7 @@ in_form bytes (suc k) n checked within le e = elim (inside_node bytes n within) 
       ]
 ]
 
-pub statement_form : (bytes : List ℕ) (n : Placed) → IsChecked bytes → Contains (nodes_of bytes) n → is_statement n ≡ true → IsBelowForm bytes n
+pub statement_form : (bytes : List ℕ) (n : Node) → IsChecked bytes → Contains (nodes_of bytes) n → is_statement n ≡ true → IsBelowForm bytes n
 statement_form bytes n checked within is =
     let its = statement_apart (number n.op) is in
     let root = no_root bytes n checked within its.0 in
@@ -71,7 +71,7 @@ statement_form bytes n checked within is =
 
 -- ---- where it stands
 
-pub no_form_below : (bytes : List ℕ) (q m : Placed) → IsChecked bytes → is_form q ≡ true → Contains (nodes_of bytes) m → is_form m ≡ true → Contains (below q) m → ⊥
+pub no_form_below : (bytes : List ℕ) (q m : Node) → IsChecked bytes → is_form q ≡ true → Contains (nodes_of bytes) m → is_form m ≡ true → Contains (below q) m → ⊥
 no_form_below bytes q m checked form within is inner =
     let a = as_ancestor q in
     let inside = path_inside q.children (q.place + length q.op) (q.path ++ a ∷ []) m inner in
@@ -81,10 +81,10 @@ no_form_below bytes q m checked form within is inner =
     let itself : forms_among (a ∷ inside.0) ≡ a ∷ forms_among inside.0 = cond-true (is_form q) _ _ form in
     omega (arith, ap (λ (l : List Ancestor). length l) (sym none ∙ parts ∙ ap (λ (l : List Ancestor). forms_among q.path ++ l) itself), length-append (forms_among q.path) (a ∷ forms_among inside.0))
 
-pub behind_form : (bytes : List ℕ) (n : Placed) → IsChecked bytes → (h : IsBelowForm bytes n) → h.form.place < n.place
+pub behind_form : (bytes : List ℕ) (n : Node) → IsChecked bytes → (h : IsBelowForm bytes n) → h.form.place < n.place
 behind_form bytes n checked h = (between bytes h.form n checked h.within h.below).behind
 
 -- The form of a statement behind a form is this form, or stands behind it as well.
-pub form_there : (bytes : List ℕ) (m n : Placed) → IsChecked bytes → Contains (nodes_of bytes) m → is_form m ≡ true → m.place < n.place → (h : IsBelowForm bytes n) → (h.form ≡ m) ⊎ (m.place < h.form.place)
+pub form_there : (bytes : List ℕ) (m n : Node) → IsChecked bytes → Contains (nodes_of bytes) m → is_form m ≡ true → m.place < n.place → (h : IsBelowForm bytes n) → (h.form ≡ m) ⊎ (m.place < h.form.place)
 form_there bytes m n checked within form less h =
     holder_there bytes h.form m n checked h.within within h.below (λ inner. no_form_below bytes h.form m checked h.is within form inner) less

@@ -4,7 +4,7 @@ use Rattle.std.specs.Prelude.{Contains, option_map, is_some, ◌==◌}
 use Rattle.std.specs.List.{find}
 use Rattle.std.proofs.lemmas.Bool.{and_parts}
 use Rattle.ifr_opcodes.specs.Fields.{form_id}
-use Rattle.ifr_opcodes.specs.Forest.{Placed, SpellsForest, node_at}
+use Rattle.ifr_opcodes.specs.Forest.{Node, SpellsForest, node_at}
 use Rattle.ifr_opcodes.specs.Reading.{tree_of}
 use Rattle.ifr_scopes.specs.Nodes.{nodes_of, is_form}
 use Rattle.ifr_scopes.specs.References.{has_form_id, form_with}
@@ -24,13 +24,13 @@ found p (y ∷ xs) x e = go (p y) refl (found p xs x) e
 
 -- The form of an id stands at a place.
 pub record IsFormWith (bytes : List ℕ) (id place : ℕ) : Type 0 where
-  pub node : Placed
+  pub node : Node
   pub is : form_with (nodes_of bytes) id ≡ Some node
   pub there : IsNodeOf bytes node
   pub placed : node.place ≡ place
   pub stands : has_form bytes place ≡ true
 
-form_found : (bytes : List ℕ) (id place : ℕ) (o : Option Placed) → form_with (nodes_of bytes) id ≡ o → SpellsForest bytes (tree_of bytes) → Some place ≡ option_map (λ (n : Placed). n.place) o → IsFormWith bytes id place
+form_found : (bytes : List ℕ) (id place : ℕ) (o : Option Node) → form_with (nodes_of bytes) id ≡ o → SpellsForest bytes (tree_of bytes) → Some place ≡ option_map (λ (n : Node). n.place) o → IsFormWith bytes id place
 form_found bytes id place None is s e = absurd cc
 form_found bytes id place (Some n) is s e =
     let same : place ≡ n.place = cc in
@@ -49,7 +49,7 @@ pub form_some : (bytes : List ℕ) (id place : ℕ) → SpellsForest bytes (tree
 form_some bytes id place s e = form_found bytes id place (form_with (nodes_of bytes) id) refl s e
 
 -- the form that stands there is it
-pub same_form : (bytes : List ℕ) (id place : ℕ) (f : Placed) → IsFormWith bytes id place → f.place ≡ place → IsNodeOf bytes f → Some f ≡ form_with (nodes_of bytes) id
+pub same_form : (bytes : List ℕ) (id place : ℕ) (f : Node) → IsFormWith bytes id place → f.place ≡ place → IsNodeOf bytes f → Some f ≡ form_with (nodes_of bytes) id
 same_form bytes id place f its placed node =
     let here : node_at (nodes_of bytes) place ≡ Some f = subst (λ (p : ℕ). node_at (nodes_of bytes) p ≡ Some f) placed node in
     let there : node_at (nodes_of bytes) place ≡ Some its.node = subst (λ (p : ℕ). node_at (nodes_of bytes) p ≡ Some its.node) its.placed its.there in

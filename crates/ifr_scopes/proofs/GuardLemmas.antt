@@ -1,7 +1,7 @@
 -- A guard by its place.
 use Rattle.std.proofs.Common.{◌≡◌, ℕ, true, Option, List, ap, ◌∙◌}
 use Rattle.std.proofs.lemmas.Bool.{and_parts}
-use Rattle.ifr_opcodes.specs.Forest.{Placed, node_at}
+use Rattle.ifr_opcodes.specs.Forest.{Node, node_at}
 use Rattle.ifr_scopes.specs.Nodes.{nodes_of}
 use Rattle.ifr_scopes.specs.code.Checked.{or_empty, node_in, has_guard}
 use Rattle.ifr_scopes.proofs.PlaceLemmas.{found_place}
@@ -11,4 +11,4 @@ pub is_placed : (bytes : List ℕ) (place : ℕ) → has_guard bytes place ≡ t
 unfolding node_in
 is_placed bytes place is =
     let found = some_there (node_at (nodes_of bytes) place) (and_parts _ _ is).0 in
-    ap (λ (o : Option Placed). (or_empty o).place) found.1 ∙ found_place (nodes_of bytes) place found.0 found.1
+    ap (λ (o : Option Node). (or_empty o).place) found.1 ∙ found_place (nodes_of bytes) place found.0 found.1

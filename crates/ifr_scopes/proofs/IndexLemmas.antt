@@ -4,7 +4,7 @@ use Rattle.std.specs.Prelude.{◌&&◌, option_map, filter}
 use Rattle.std.specs.List.{find}
 use Rattle.std.proofs.lemmas.Bool.{cases_Bool, ne_eqb, and_from, and_right}
 use Rattle.hii_bytes.specs.code.FirstFaults.{Rise}
-use Rattle.ifr_opcodes.specs.Forest.{Placed, SpellsForest, flat}
+use Rattle.ifr_opcodes.specs.Forest.{Node, SpellsForest, flat}
 use Rattle.ifr_opcodes.specs.Reading.{tree_of}
 use Rattle.ifr_scopes.specs.code.Index.{kind_at}
 use Rattle.ifr_scopes.specs.Nodes.{nodes_of}
@@ -14,20 +14,20 @@ use Rattle.ifr_scopes.proofs.StructureLemmas.{rising}
 
 -- ---- the nodes of a package
 
-abbrev place_of : Placed → ℕ
+abbrev place_of : Node → ℕ
 place_of n = n.place
 
 pub nodes_rise : (bytes : List ℕ) → SpellsForest bytes (tree_of bytes) → Rise place_of 4 (nodes_of bytes)
 nodes_rise bytes s = rising (nodes_of bytes) 4 (4 + length (flat (tree_of bytes))) (nodes_within (tree_of bytes) 4 [] s.are_nodes)
 
-passed : (is : Placed → Bool) (n : Placed) (rest : List Placed) (place : ℕ) → is n && eqb n.place place ≡ false → kind_at is (n ∷ rest) place ≡ kind_at is rest place
+passed : (is : Node → Bool) (n : Node) (rest : List Node) (place : ℕ) → is n && eqb n.place place ≡ false → kind_at is (n ∷ rest) place ≡ kind_at is rest place
 passed is n rest place e = rw e refl
 
-here : (is : Placed → Bool) (n : Placed) (rest : List Placed) (place : ℕ) → is n && eqb n.place place ≡ true → kind_at is (n ∷ rest) place ≡ Some n
+here : (is : Node → Bool) (n : Node) (rest : List Node) (place : ℕ) → is n && eqb n.place place ≡ true → kind_at is (n ∷ rest) place ≡ Some n
 here is n rest place e = rw e refl
 
 -- nodes that stand behind a place do not stand there
-pub behind : (is : Placed → Bool) (low place : ℕ) (ns : List Placed) → place + 1 ≤ low → Rise place_of low ns → kind_at is ns place ≡ None
+pub behind : (is : Node → Bool) (low place : ℕ) (ns : List Node) → place + 1 ≤ low → Rise place_of low ns → kind_at is ns place ≡ None
 behind is low place [] less r = refl
 behind is low place (n ∷ ns) less r =
     let above : low ≤ n.place = r.0 in
@@ -36,15 +36,15 @@ behind is low place (n ∷ ns) less r =
 
 -- ---- a table of those of a kind
 
-module _ {X : Type 0} (is : Placed → Bool) (entry : Placed → X) (place : X → ℕ) (same : (n : Placed) → place (entry n) ≡ n.place) where
-  pub table_rises : (low : ℕ) (ns : List Placed) → Rise place_of low ns → Rise place low (map entry (filter is ns))
+module _ {X : Type 0} (is : Node → Bool) (entry : Node → X) (place : X → ℕ) (same : (n : Node) → place (entry n) ≡ n.place) where
+  pub table_rises : (low : ℕ) (ns : List Node) → Rise place_of low ns → Rise place low (map entry (filter is ns))
   table_rises low [] r = tt
   table_rises low (n ∷ ns) r = elim (cases_Bool (is n)) [
     | inl kept ↦ rw kept (omega (arith, r.0, same n), subst (λ (p : ℕ). Rise place (p + 1) (map entry (filter is ns))) (sym (same n)) (table_rises (n.place + 1) ns r.1))
     | inr other ↦ rw other (lower place low (n.place + 1) (map entry (filter is ns)) (omega (arith, r.0)) (table_rises (n.place + 1) ns r.1))
   ]
 
-  pub table_at : (p : ℕ) (ns : List Placed) → find (λ x. eqb (place x) p) (map entry (filter is ns)) ≡ option_map entry (kind_at is ns p)
+  pub table_at : (p : ℕ) (ns : List Node) → find (λ x. eqb (place x) p) (map entry (filter is ns)) ≡ option_map entry (kind_at is ns p)
   table_at p [] = refl
   table_at p (n ∷ ns) = elim (cases_Bool (is n)) [
     | inl kept ↦ elim (cases_Bool (eqb n.place p)) [
@@ -59,7 +59,7 @@ module _ {X : Type 0} (is : Placed → Bool) (entry : Placed → X) (place : X �
   ]
 
   -- what is found in it at a place
-  pub looked_up : (p : ℕ) (ns : List Placed) (table : List X) (result : Option X) → Rise place_of 4 ns → table ≡ map entry (filter is ns)
+  pub looked_up : (p : ℕ) (ns : List Node) (table : List X) (result : Option X) → Rise place_of 4 ns → table ≡ map entry (filter is ns)
       → ((low : ℕ) → Rise place low table → result ≡ find (λ x. eqb (place x) p) table) → result ≡ option_map entry (kind_at is ns p)
   looked_up p ns table result r e found =
       found 4 (subst (Rise place 4) (sym e) (table_rises 4 ns r)) ∙ ap (find (λ x. eqb (place x) p)) e ∙ table_at p ns

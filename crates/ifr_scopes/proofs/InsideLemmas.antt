@@ -3,7 +3,7 @@ use Rattle.std.proofs.Common.{◌≡◌, ◌⊎◌, ℕ, zero, suc, ◌+◌, nat
 use Rattle.std.specs.Prelude.{Contains, filter}
 use Rattle.std.proofs.lemmas.List.Elements.{Contains-append_cases, Contains-append_left, Contains-append_right}
 use Rattle.hii_bytes.specs.code.FirstFaults.{Rise}
-use Rattle.ifr_opcodes.specs.Forest.{Forest, none, node, flat, Ancestor, Placed, as_ancestor, nodes_at, below, SpellsForest}
+use Rattle.ifr_opcodes.specs.Forest.{Forest, none, node, flat, Ancestor, Node, as_ancestor, nodes_at, below, SpellsForest}
 use Rattle.ifr_opcodes.specs.Reading.{tree_of}
 use Rattle.ifr_scopes.specs.Nodes.{nodes_of}
 use Rattle.ifr_scopes.proofs.BehindPlaceLemmas.{behind_one, rise_behind}
@@ -11,21 +11,21 @@ use Rattle.ifr_scopes.proofs.IndexLemmas.{nodes_rise}
 use Rattle.ifr_scopes.proofs.ViewLemmas.{further}
 
 -- A node stands right in the scope of another.
-pub record IsInside (ns : List Placed) (n : Placed) : Type 0 where
-  pub outer : Placed
+pub record IsInside (ns : List Node) (n : Node) : Type 0 where
+  pub outer : Node
   pub within : Contains ns outer
   pub below : Contains (below outer) n
   pub path : n.path ≡ outer.path ++ as_ancestor outer ∷ []
 
-among : (ns ms : List Placed) (n : Placed) → ((m : Placed) → Contains ns m → Contains ms m) → IsInside ns n → IsInside ms n
+among : (ns ms : List Node) (n : Node) → ((m : Node) → Contains ns m → Contains ms m) → IsInside ns n → IsInside ms n
 among ns ms n into i = record { outer = i.outer; within = into i.outer i.within; below = i.below; path = i.path }
 
 -- A node of a forest is one of its first level, or stands right in another.
-inside_it : (f : Forest) (at : ℕ) (path : List Ancestor) (n : Placed) → Contains (nodes_at at path f) n → (n.path ≡ path) ⊎ IsInside (nodes_at at path f) n
+inside_it : (f : Forest) (at : ℕ) (path : List Ancestor) (n : Node) → Contains (nodes_at at path f) n → (n.path ≡ path) ⊎ IsInside (nodes_at at path f) n
 inside_it none at path n (k, lt, e) = absurd (omega arith)
-inside_it (node op children rest) at path n (zero, lt, e) = inl (ap (λ (p : Placed). p.path) (sym e))
+inside_it (node op children rest) at path n (zero, lt, e) = inl (ap (λ (p : Node). p.path) (sym e))
 inside_it (node op children rest) at path n (suc k, lt, e) =
-    let here : Placed = record { place = at; op = op; path = path; children = children } in
+    let here : Node = record { place = at; op = op; path = path; children = children } in
     let behind = at + length (flat (node op children none)) in
     let entered = path ++ as_ancestor here ∷ [] in
     let its = nodes_at (at + length op) entered children in
@@ -41,25 +41,25 @@ inside_it (node op children rest) at path n (suc k, lt, e) =
       ]
     ]
 
-pub inside_node : (bytes : List ℕ) (n : Placed) → Contains (nodes_of bytes) n → (n.path ≡ []) ⊎ IsInside (nodes_of bytes) n
+pub inside_node : (bytes : List ℕ) (n : Node) → Contains (nodes_of bytes) n → (n.path ≡ []) ⊎ IsInside (nodes_of bytes) n
 inside_node bytes n within = inside_it (tree_of bytes) 4 [] n within
 
 -- ---- what stands behind a node
 
 -- Behind a node come those below it, and then others.
-record IsSplit (ns : List Placed) (n : Placed) : Type 0 where
-  before : List Placed
-  after : List Placed
+record IsSplit (ns : List Node) (n : Node) : Type 0 where
+  before : List Node
+  after : List Node
   parts : ns ≡ before ++ n ∷ (below n ++ after)
 
-split_at : (f : Forest) (at : ℕ) (path : List Ancestor) (n : Placed) → Contains (nodes_at at path f) n → IsSplit (nodes_at at path f) n
+split_at : (f : Forest) (at : ℕ) (path : List Ancestor) (n : Node) → Contains (nodes_at at path f) n → IsSplit (nodes_at at path f) n
 split_at none at path n (k, lt, e) = absurd (omega arith)
 split_at (node op children rest) at path n (zero, lt, e) =
-    let here : Placed = record { place = at; op = op; path = path; children = children } in
+    let here : Node = record { place = at; op = op; path = path; children = children } in
     let after = nodes_at (at + length (flat (node op children none))) path rest in
     subst (IsSplit (here ∷ (below here ++ after))) e (record { before = []; after = after; parts = refl })
 split_at (node op children rest) at path n (suc k, lt, e) =
-    let here : Placed = record { place = at; op = op; path = path; children = children } in
+    let here : Node = record { place = at; op = op; path = path; children = children } in
     let behind = at + length (flat (node op children none)) in
     let its = below here in
     let after = nodes_at behind path rest in
@@ -69,28 +69,28 @@ split_at (node op children rest) at path n (suc k, lt, e) =
           record {
             before = here ∷ s.before;
             after = s.after ++ after;
-            parts = ap (λ (l : List Placed). here ∷ (l ++ after)) s.parts
-                ∙ ap (λ (l : List Placed). here ∷ l) (append_assoc s.before (n ∷ (below n ++ s.after)) after ∙ ap (λ (l : List Placed). s.before ++ n ∷ l) (append_assoc (below n) s.after after));
+            parts = ap (λ (l : List Node). here ∷ (l ++ after)) s.parts
+                ∙ ap (λ (l : List Node). here ∷ l) (append_assoc s.before (n ∷ (below n ++ s.after)) after ∙ ap (λ (l : List Node). s.before ++ n ∷ l) (append_assoc (below n) s.after after));
           }
       | inr w ↦
           let s = split_at rest behind path n w in
           record {
             before = here ∷ (its ++ s.before);
             after = s.after;
-            parts = ap (λ (l : List Placed). here ∷ (its ++ l)) s.parts ∙ ap (λ (l : List Placed). here ∷ l) (sym (append_assoc its s.before (n ∷ (below n ++ s.after))));
+            parts = ap (λ (l : List Node). here ∷ (its ++ l)) s.parts ∙ ap (λ (l : List Node). here ∷ l) (sym (append_assoc its s.before (n ∷ (below n ++ s.after))));
           }
     ]
 
 -- The nodes at greater places than another are those below it, and then others.
-pub record IsBehind (ns : List Placed) (n : Placed) : Type 0 where
-  pub others : List Placed
+pub record IsBehind (ns : List Node) (n : Node) : Type 0 where
+  pub others : List Node
   pub parts : filter (λ m. nat_lt n.place m.place) ns ≡ below n ++ others
-  pub rise : Rise (λ (m : Placed). m.place) (n.place + 1) (below n ++ others)
+  pub rise : Rise (λ (m : Node). m.place) (n.place + 1) (below n ++ others)
 
-pub behind_node : (bytes : List ℕ) (n : Placed) → SpellsForest bytes (tree_of bytes) → Contains (nodes_of bytes) n → IsBehind (nodes_of bytes) n
+pub behind_node : (bytes : List ℕ) (n : Node) → SpellsForest bytes (tree_of bytes) → Contains (nodes_of bytes) n → IsBehind (nodes_of bytes) n
 behind_node bytes n s within =
     let split = split_at (tree_of bytes) 4 [] n within in
-    let place = λ (m : Placed). m.place in
+    let place = λ (m : Node). m.place in
     let rise = subst (Rise place 4) split.parts (nodes_rise bytes s) in
     record {
       others = split.after;

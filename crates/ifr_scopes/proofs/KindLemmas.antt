@@ -3,7 +3,7 @@ use Rattle.std.proofs.Common.{◌≡◌, ℕ, Bool, true, List, [], ◌∷◌, m
 use Rattle.std.specs.Prelude.{Contains, filter}
 use Rattle.std.proofs.lemmas.Bool.{cases_Bool}
 use Rattle.ifr_opcodes.specs.Opcode.{number}
-use Rattle.ifr_opcodes.specs.Forest.{Placed, SpellsForest}
+use Rattle.ifr_opcodes.specs.Forest.{Node, SpellsForest}
 use Rattle.ifr_opcodes.specs.Reading.{tree_of}
 use Rattle.ifr_opcodes.specs.Statements.{is_statement_number}
 use Rattle.ifr_scopes.specs.Nodes.{nodes_of, is_form, is_statement}
@@ -16,12 +16,12 @@ use Rattle.ifr_scopes.proofs.ViewLemmas.{further, is_at, node_in_place}
 
 -- ---- by their places
 
-pub all_of_kind : (is : Placed → Bool) (bytes : List ℕ) → SpellsForest bytes (tree_of bytes) → AreOfKind is bytes (places_of is (nodes_of bytes))
+pub all_of_kind : (is : Node → Bool) (bytes : List ℕ) → SpellsForest bytes (tree_of bytes) → AreOfKind is bytes (places_of is (nodes_of bytes))
 all_of_kind is bytes s =
     all_entries_are (IsOfKind is bytes) is (λ n. n.place) (nodes_of bytes)
     (λ n within kind. record { there = (is_at bytes n s within).there; kind = ap is (node_in_place bytes n s within) ∙ kind })
 
-pub kind_again : (is : Placed → Bool) (bytes : List ℕ) → SpellsForest bytes (tree_of bytes) → map (node_in bytes) (places_of is (nodes_of bytes)) ≡ filter is (nodes_of bytes)
+pub kind_again : (is : Node → Bool) (bytes : List ℕ) → SpellsForest bytes (tree_of bytes) → map (node_in bytes) (places_of is (nodes_of bytes)) ≡ filter is (nodes_of bytes)
 kind_again is bytes s = nodes_again bytes (λ (place : ℕ). place) is (λ n. n.place) (nodes_of bytes) (λ n. refl) s (λ n w. w)
 
 -- ---- statements, as entries
@@ -29,22 +29,22 @@ kind_again is bytes s = nodes_again bytes (λ (place : ℕ). place) is (λ n. n.
 pub all_are_entries : (bytes : List ℕ) → SpellsForest bytes (tree_of bytes) → AreEntries bytes (entry_table (nodes_of bytes))
 all_are_entries bytes s =
     all_entries_are (IsEntry bytes) is_indexed (kept_entry (nodes_of bytes)) (nodes_of bytes)
-    (λ n within indexed. record { there = (is_at bytes n s within).there; code = ap (λ (m : Placed). number m.op) (sym (node_in_place bytes n s within)) })
+    (λ n within indexed. record { there = (is_at bytes n s within).there; code = ap (λ (m : Node). number m.op) (sym (node_in_place bytes n s within)) })
 
 -- the statements among entries
-abbrev pub stated : List ℕ → List Entry → List Placed
+abbrev pub stated : List ℕ → List Entry → List Node
 stated bytes entries = map (λ entry. node_in bytes entry.place) (filter (λ entry. is_statement_number entry.code) entries)
 
-is_kept : (n : Placed) → is_statement n ≡ true → is_indexed n ≡ true
+is_kept : (n : Node) → is_statement n ≡ true → is_indexed n ≡ true
 is_kept n is = elim (cases_Bool (is_form n)) [ inl form ↦ rw form refl | inr other ↦ rw (other, is) refl ]
 
-pub again : (bytes : List ℕ) (all ns : List Placed) → SpellsForest bytes (tree_of bytes) → ((n : Placed) → Contains ns n → Contains (nodes_of bytes) n)
+pub again : (bytes : List ℕ) (all ns : List Node) → SpellsForest bytes (tree_of bytes) → ((n : Node) → Contains ns n → Contains (nodes_of bytes) n)
     → stated bytes (map (kept_entry all) (filter is_indexed ns)) ≡ filter is_statement ns
 again bytes all [] s within = refl
 again bytes all (n ∷ ns) s within =
     let later = again bytes all ns s (λ m w. within m (further n ns m w)) in
     elim (cases_Bool (is_statement n)) [
-      | inl is ↦ rw (is_kept n is, is) (ap (λ (m : Placed). m ∷ stated bytes (map (kept_entry all) (filter is_indexed ns))) (node_in_place bytes n s (within n (0, omega arith, refl))) ∙ ap (λ (l : List Placed). n ∷ l) later)
+      | inl is ↦ rw (is_kept n is, is) (ap (λ (m : Node). m ∷ stated bytes (map (kept_entry all) (filter is_indexed ns))) (node_in_place bytes n s (within n (0, omega arith, refl))) ∙ ap (λ (l : List Node). n ∷ l) later)
       | inr other ↦ elim (cases_Bool (is_indexed n)) [
         | inl kept ↦ rw (kept, other) later
         | inr plain ↦ rw (plain, other) later

@@ -7,7 +7,7 @@ use Rattle.hii_bytes.specs.code.FirstFaults.{first_cause}
 use Rattle.hii_bytes.specs.declared.cause.Cause.TheVariants.{RuleTooLarge}
 use Rattle.ifr_opcodes.specs.declared.codes.TheConstants.{FORM, REF, RULE}
 use Rattle.ifr_opcodes.specs.Opcode.{number}
-use Rattle.ifr_opcodes.specs.Forest.{Ancestor, Placed}
+use Rattle.ifr_opcodes.specs.Forest.{Ancestor, Node}
 use Rattle.ifr_opcodes.specs.Reading.{tree_of}
 use Rattle.ifr_scopes.specs.Checked.{IsChecked}
 use Rattle.ifr_scopes.specs.code.Checked.{node_in, has_node}
@@ -46,11 +46,11 @@ its_form place None e = absurd cc
 its_form place (Some a) e = (a, refl, cc)
 
 -- The form around a node is a node.
-pub record IsFormAround (bytes : List ℕ) (n : Placed) (place : ℕ) : Type 0 where
+pub record IsFormAround (bytes : List ℕ) (n : Node) (place : ℕ) : Type 0 where
   pub there : has_node bytes place ≡ true
   pub ends : end_of (node_in bytes place) ≡ form_end n.path
 
-pub form_around : (bytes : List ℕ) (n : Placed) (place : ℕ) → IsChecked bytes → Contains (nodes_of bytes) n → Some place ≡ option_map (λ (a : Ancestor). a.place) (last_or None (forms_among n.path)) → IsFormAround bytes n place
+pub form_around : (bytes : List ℕ) (n : Node) (place : ℕ) → IsChecked bytes → Contains (nodes_of bytes) n → Some place ≡ option_map (λ (a : Ancestor). a.place) (last_or None (forms_among n.path)) → IsFormAround bytes n place
 form_around bytes n place checked within e =
     let form = its_form place (last_or None (forms_among n.path)) e in
     let a = form.0 in
@@ -65,17 +65,17 @@ form_around bytes n place checked within e =
 
 -- ---- the fault of a rule
 
-no_form : (n : Placed) → is_rule n ≡ true → is_form n ≡ false
+no_form : (n : Node) → is_rule n ≡ true → is_form n ≡ false
 no_form n is = ap (λ (k : ℕ). eqb k FORM) (eqb-true (number n.op) RULE is)
 
 no_question_rule : is_question_number RULE ≡ false
 unfolding is_question_number
 no_question_rule = refl
 
-no_question : (n : Placed) → is_rule n ≡ true → is_question n ≡ false
+no_question : (n : Node) → is_rule n ≡ true → is_question n ≡ false
 no_question n is = ap is_question_number (eqb-true (number n.op) RULE is) ∙ no_question_rule
 
-no_reference : (n : Placed) → is_rule n ≡ true → is_reference n ≡ false
+no_reference : (n : Node) → is_rule n ≡ true → is_reference n ≡ false
 no_reference n is = ap (λ (k : ℕ). eqb k REF) (eqb-true (number n.op) RULE is)
 
 large : (s : RuleSize) → None ≡ fitting_size s → is_rule_too_large s ≡ true
@@ -92,27 +92,27 @@ fitting s t e = go (is_rule_too_large s) e
     go true e = absurd cc
     go false e = (refl, cc)
 
-pub told_large : (ns before : List Placed) (n : Placed) → is_rule n ≡ true → None ≡ fitting_size (size (rules_among before) (as_rule n)) → Some RuleTooLarge ≡ first_cause (has_reference_fault ns) (record { before = before; node = n }) reference_causes
+pub told_large : (ns before : List Node) (n : Node) → is_rule n ≡ true → None ≡ fitting_size (size (rules_among before) (as_rule n)) → Some RuleTooLarge ≡ first_cause (has_reference_fault ns) (record { before = before; node = n }) reference_causes
 told_large ns before n is e = rw (no_form n is, no_question n is, no_reference n is, is, large (size (rules_among before) (as_rule n)) e) refl
 
-pub told_none : (ns before : List Placed) (n : Placed) (s : RuleSize) → is_rule n ≡ true → Some s ≡ fitting_size (size (rules_among before) (as_rule n)) → None ≡ first_cause (has_reference_fault ns) (record { before = before; node = n }) reference_causes
+pub told_none : (ns before : List Node) (n : Node) (s : RuleSize) → is_rule n ≡ true → Some s ≡ fitting_size (size (rules_among before) (as_rule n)) → None ≡ first_cause (has_reference_fault ns) (record { before = before; node = n }) reference_causes
 told_none ns before n s is e = rw (no_form n is, no_question n is, no_reference n is, is, (fitting (size (rules_among before) (as_rule n)) s e).0) refl
 
-pub its_size : (before : List Placed) (n : Placed) (s : RuleSize) → Some s ≡ fitting_size (size (rules_among before) (as_rule n)) → s ≡ size (rules_among before) (as_rule n)
+pub its_size : (before : List Node) (n : Node) (s : RuleSize) → Some s ≡ fitting_size (size (rules_among before) (as_rule n)) → s ≡ size (rules_among before) (as_rule n)
 its_size before n s e = (fitting (size (rules_among before) (as_rule n)) s e).1
 
 -- ---- the ids stay
 
-pub no_form_more : (before : List Placed) (n : Placed) (id : ℕ) → is_rule n ≡ true → list_any (has_form_id id) (before ++ n ∷ []) ≡ list_any (has_form_id id) before
+pub no_form_more : (before : List Node) (n : Node) (id : ℕ) → is_rule n ≡ true → list_any (has_form_id id) (before ++ n ∷ []) ≡ list_any (has_form_id id) before
 no_form_more [] n id is = rw (no_form n is) refl
 no_form_more (m ∷ before) n id is = ap (λ (b : Bool). has_form_id id m || b) (no_form_more before n id is)
 
-pub no_question_more : (before : List Placed) (n : Placed) (id : ℕ) → is_rule n ≡ true → list_any (has_question_id id) (before ++ n ∷ []) ≡ list_any (has_question_id id) before
+pub no_question_more : (before : List Node) (n : Node) (id : ℕ) → is_rule n ≡ true → list_any (has_question_id id) (before ++ n ∷ []) ≡ list_any (has_question_id id) before
 no_question_more [] n id is = rw (no_question n is) refl
 no_question_more (m ∷ before) n id is = ap (λ (b : Bool). has_question_id id m || b) (no_question_more before n id is)
 
 -- each rule stands in a form
-pub some_form : (bytes : List ℕ) (n : Placed) (form : Option ℕ) → IsChecked bytes → Contains (nodes_of bytes) n → is_rule n ≡ true → form ≡ option_map (λ (a : Ancestor). a.place) (last_or None (forms_among n.path)) → IsSome form
+pub some_form : (bytes : List ℕ) (n : Node) (form : Option ℕ) → IsChecked bytes → Contains (nodes_of bytes) n → is_rule n ≡ true → form ≡ option_map (λ (a : Ancestor). a.place) (last_or None (forms_among n.path)) → IsSome form
 some_form bytes n form checked within is e =
     let fact = rule_fact bytes n checked within is in
     let last : last_or None (forms_among n.path) ≡ Some fact.form = ap (λ (l : List Ancestor). last_or None l) fact.forms in

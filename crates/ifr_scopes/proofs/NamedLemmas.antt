@@ -8,7 +8,7 @@ use Rattle.std.proofs.lemmas.List.{get_or-reverse, length-reverse, reverse-appen
 use Rattle.std.proofs.lemmas.List.Sorted.{IsNonDecreasingBy-push, IsNonDecreasingBy-short}
 use Rattle.std.proofs.lemmas.Map.Entries.{option_filter}
 use Rattle.ifr_opcodes.specs.Fields.{rule_id}
-use Rattle.ifr_opcodes.specs.Forest.{Placed}
+use Rattle.ifr_opcodes.specs.Forest.{Node}
 use Rattle.ifr_expr.specs.Meaning.{names}
 use Rattle.ifr_scopes.specs.Nodes.{end_of}
 use Rattle.ifr_scopes.specs.Rules.{as_rule, form_end}
@@ -26,12 +26,12 @@ each P (y ∷ xs) x all (zero, lt, e) = subst P e all.0
 each P (y ∷ xs) x all (suc k, lt, e) = each P xs x all.1 (k, omega arith, e)
 
 -- what it means that a rule is named
-pub record IsNamed (id place : ℕ) (n : Placed) : Type 0 where
+pub record IsNamed (id place : ℕ) (n : Node) : Type 0 where
   pub same : rule_id n.op ≡ id
   pub ends : end_of n ≤ place
   pub goes_on : place < form_end n.path
 
-pub is_named : (id place : ℕ) (n : Placed) → names id place (as_rule n) ≡ true → IsNamed id place n
+pub is_named : (id place : ℕ) (n : Node) → names id place (as_rule n) ≡ true → IsNamed id place n
 is_named id place n e =
     let rest = and_second (eqb (rule_id n.op) id) _ e in
     record {
@@ -42,7 +42,7 @@ is_named id place n e =
 
 -- ---- the last that ends up to a place
 
-pub none_named : (ns : List Placed) (id place : ℕ) → ((n : Placed) → Contains ns n → IsNamed id place n → ⊥) → kept_named ns id place ≡ None
+pub none_named : (ns : List Node) (id place : ℕ) → ((n : Node) → Contains ns n → IsNamed id place n → ⊥) → kept_named ns id place ≡ None
 none_named [] id place none = refl
 none_named (n ∷ earlier) id place none = elim (cases_Bool (names id place (as_rule n))) [
   | inl e ↦ absurd (none n (0, omega arith, refl) (is_named id place n e))
@@ -50,7 +50,7 @@ none_named (n ∷ earlier) id place none = elim (cases_Bool (names id place (as_
 ]
 
 -- The last of an id that ends up to a place is named, if its form goes on there.
-pub named_last : (ns : List Placed) (id place : ℕ) → Descend ns
+pub named_last : (ns : List Node) (id place : ℕ) → Descend ns
     → kept_named ns id place ≡ option_filter (λ r. ltb place r.form_ends) (find (λ r. leb r.ends place) (kept_rules id ns))
 named_last [] id place d = refl
 named_last (n ∷ earlier) id place d =
@@ -68,14 +68,14 @@ named_last (n ∷ earlier) id place d =
 
 -- ---- the rules of an id end one after the other
 
-first_below : (ns : List Placed) (id high : ℕ) (d : KeptRule) → ((q : Placed) → Contains ns q → end_of q ≤ high) → 0 < length (kept_rules id ns) → (get_or (kept_rules id ns) 0 d).ends ≤ high
+first_below : (ns : List Node) (id high : ℕ) (d : KeptRule) → ((q : Node) → Contains ns q → end_of q ≤ high) → 0 < length (kept_rules id ns) → (get_or (kept_rules id ns) 0 d).ends ≤ high
 first_below [] id high d below some = absurd (omega arith)
 first_below (n ∷ earlier) id high d below some = elim (cases_Bool (eqb (rule_id n.op) id)) [
   | inl own ↦ rw own (below n (0, omega arith, refl))
   | inr other ↦ rw other (first_below earlier id high d (λ q w. below q (further n earlier q w)) (rw other at some))
 ]
 
-pub ends_rise : (ns : List Placed) (id : ℕ) → Descend ns → IsNonDecreasingBy (λ (r : KeptRule). r.ends) (reverse (kept_rules id ns))
+pub ends_rise : (ns : List Node) (id : ℕ) → Descend ns → IsNonDecreasingBy (λ (r : KeptRule). r.ends) (reverse (kept_rules id ns))
 ends_rise [] id d = IsNonDecreasingBy-short (λ (r : KeptRule). r.ends) [] (omega arith)
 ends_rise (n ∷ earlier) id d = elim (cases_Bool (eqb (rule_id n.op) id)) [
   | inl own ↦
@@ -90,7 +90,7 @@ ends_rise (n ∷ earlier) id d = elim (cases_Bool (eqb (rule_id n.op) id)) [
 ]
 
 -- what is found in the list of an id
-pub named_found : (ns : List Placed) (id place : ℕ) (list : List KeptRule) (found : Option KeptRule) → Descend ns → list ≡ reverse (kept_rules id ns)
+pub named_found : (ns : List Node) (id place : ℕ) (list : List KeptRule) (found : Option KeptRule) → Descend ns → list ≡ reverse (kept_rules id ns)
     → (IsNonDecreasingBy (λ (r : KeptRule). r.ends) list → found ≡ find (λ r. leb r.ends place) (reverse list))
     → kept_named ns id place ≡ option_filter (λ r. ltb place r.form_ends) found
 named_found ns id place list found d is told =

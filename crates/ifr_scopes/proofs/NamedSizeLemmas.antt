@@ -6,7 +6,7 @@ use Rattle.std.proofs.lemmas.List.{append-nil}
 use Rattle.hii_bytes.specs.declared.cause.Cause.TheVariants.{RuleTooLarge}
 use Rattle.ifr_opcodes.specs.declared.codes.TheConstants.{RULE_REF}
 use Rattle.ifr_opcodes.specs.Fields.{rule_ref_rule}
-use Rattle.ifr_opcodes.specs.Forest.{Mark, Placed}
+use Rattle.ifr_opcodes.specs.Forest.{Mark, Node}
 use Rattle.ifr_opcodes.specs.Opcode.{number}
 use Rattle.ifr_expr.specs.Meaning.{Rule, names}
 use Rattle.ifr_expr.specs.code.Rules.{AreOrdered, named}
@@ -74,18 +74,18 @@ one_more r earlier own before id place = elim (cases_Bool (names id place r)) [
 abbrev NoneDeep : List Ranked → Type 0
 NoneDeep rs = (r : Ranked) → Contains rs r → is_rule r.node ≡ true → (size (rules_among r.before) (as_rule r.node)).depth ≤ 16
 
-shallow_with : (before : List Placed) (n : Placed) → (is_rule n ≡ true → (size (rules_among before) (as_rule n)).depth ≤ 16) → AreShallow (rules_among before) → AreShallow (rules_among (before ++ n ∷ []))
+shallow_with : (before : List Node) (n : Node) → (is_rule n ≡ true → (size (rules_among before) (as_rule n)).depth ≤ 16) → AreShallow (rules_among before) → AreShallow (rules_among (before ++ n ∷ []))
 shallow_with before n own have = elim (cases_Bool (is_rule n)) [
-  | inl is ↦ subst (λ (l : List Placed). AreShallow (map as_rule l)) (sym (one_rule before n is)) (one_more (as_rule n) (rules_among before) (own is) have)
-  | inr other ↦ subst (λ (l : List Placed). AreShallow (map as_rule l)) (sym (no_rule before n other)) have
+  | inl is ↦ subst (λ (l : List Node). AreShallow (map as_rule l)) (sym (one_rule before n is)) (one_more (as_rule n) (rules_among before) (own is) have)
+  | inr other ↦ subst (λ (l : List Node). AreShallow (map as_rule l)) (sym (no_rule before n other)) have
 ]
 
-all_shallow : (before ns : List Placed) → NoneDeep (ranked before ns) → AreShallow (rules_among before) → AreShallow (rules_among (before ++ ns))
-all_shallow before [] none have = subst (λ (l : List Placed). AreShallow (rules_among l)) (sym (append-nil before)) have
+all_shallow : (before ns : List Node) → NoneDeep (ranked before ns) → AreShallow (rules_among before) → AreShallow (rules_among (before ++ ns))
+all_shallow before [] none have = subst (λ (l : List Node). AreShallow (rules_among l)) (sym (append-nil before)) have
 all_shallow before (n ∷ ns) none have =
     let here : Ranked = record { before = before; node = n } in
     let others = ranked (before ++ n ∷ []) ns in
-    subst (λ (l : List Placed). AreShallow (rules_among l)) (append_assoc before (n ∷ []) ns)
+    subst (λ (l : List Node). AreShallow (rules_among l)) (append_assoc before (n ∷ []) ns)
     (all_shallow (before ++ n ∷ []) ns (λ r w. none r (further here others r w)) (shallow_with before n (none here (0, omega arith, refl)) have))
 
 pub are_shallow : (bytes : List ℕ) → IsAccepted bytes → AreShallow (rules_of bytes)

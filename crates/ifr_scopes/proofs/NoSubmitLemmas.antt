@@ -5,7 +5,7 @@ use Rattle.std.proofs.lemmas.Bool.{cases_Bool, eqb-true}
 use Rattle.std.proofs.lemmas.List.{length-map}
 use Rattle.ifr_opcodes.specs.declared.codes.TheConstants.{NO_SUBMIT_IF}
 use Rattle.ifr_opcodes.specs.Opcode.{number}
-use Rattle.ifr_opcodes.specs.Forest.{Placed, SpellsForest, node_at}
+use Rattle.ifr_opcodes.specs.Forest.{Node, SpellsForest, node_at}
 use Rattle.ifr_opcodes.specs.Reading.{tree_of}
 use Rattle.ifr_scopes.specs.code.Checked.{has_node, node_in, or_empty}
 use Rattle.ifr_scopes.specs.code.Ends.{expression_end}
@@ -16,17 +16,17 @@ use Rattle.ifr_scopes.specs.declared.index.ConditionEntry.{ConditionEntry}
 use Rattle.ifr_scopes.proofs.EntryLemmas.{all_entries_are, nodes_again}
 use Rattle.ifr_scopes.proofs.ViewLemmas.{contains_found, further, is_at, node_in_place, some_there}
 
-pub is_entry : (bytes : List ℕ) (n : Placed) → SpellsForest bytes (tree_of bytes) → Contains (nodes_of bytes) n → is_question_condition n ≡ true → IsConditionEntry bytes (kept_condition (nodes_of bytes) n)
+pub is_entry : (bytes : List ℕ) (n : Node) → SpellsForest bytes (tree_of bytes) → Contains (nodes_of bytes) n → is_question_condition n ≡ true → IsConditionEntry bytes (kept_condition (nodes_of bytes) n)
 is_entry bytes n s within is =
     let same : n ≡ node_in bytes n.place = sym (node_in_place bytes n s within) in
     record {
       there = (is_at bytes n s within).there;
       condition = is;
-      code = ap (λ (m : Placed). number m.op) same;
+      code = ap (λ (m : Node). number m.op) same;
       before = refl;
       question = ap parent_place same;
       within = ap this_of same;
-      guard = ap (λ (m : Placed). inner_guard (nodes_of bytes) m.path) same;
+      guard = ap (λ (m : Node). inner_guard (nodes_of bytes) m.path) same;
       ends = ap expression_end same;
     }
 
@@ -34,10 +34,10 @@ pub all_entries : (bytes : List ℕ) → SpellsForest bytes (tree_of bytes) → 
 all_entries bytes s = all_entries_are (λ one. IsConditionEntry bytes one) is_question_condition (kept_condition (nodes_of bytes)) (nodes_of bytes) (λ n within is. is_entry bytes n s within is)
 
 -- the nodes of those of a number
-abbrev pub of_number : List ℕ → ℕ → List ConditionEntry → List Placed
+abbrev pub of_number : List ℕ → ℕ → List ConditionEntry → List Node
 of_number bytes code kept = map (λ one. node_in bytes one.place) (filter (λ one. one.code == code) kept)
 
-pub again : (bytes : List ℕ) (code : ℕ) (ns : List Placed) → is_condition_number code ≡ true → SpellsForest bytes (tree_of bytes) → ((n : Placed) → Contains ns n → Contains (nodes_of bytes) n)
+pub again : (bytes : List ℕ) (code : ℕ) (ns : List Node) → is_condition_number code ≡ true → SpellsForest bytes (tree_of bytes) → ((n : Node) → Contains ns n → Contains (nodes_of bytes) n)
     → of_number bytes code (conditions_among (nodes_of bytes) ns) ≡ filter (λ n. number n.op == code) ns
 again bytes code [] condition s within = refl
 again bytes code (n ∷ ns) condition s within =
@@ -45,7 +45,7 @@ again bytes code (n ∷ ns) condition s within =
     elim (cases_Bool (number n.op == code)) [
       | inl is ↦
           let kept : is_question_condition n ≡ true = ap is_condition_number (eqb-true (number n.op) code is) ∙ condition in
-          rw (kept, is) (ap (λ (m : Placed). m ∷ of_number bytes code (conditions_among (nodes_of bytes) ns)) (node_in_place bytes n s (within n (0, omega arith, refl))) ∙ ap (λ (l : List Placed). n ∷ l) later)
+          rw (kept, is) (ap (λ (m : Node). m ∷ of_number bytes code (conditions_among (nodes_of bytes) ns)) (node_in_place bytes n s (within n (0, omega arith, refl))) ∙ ap (λ (l : List Node). n ∷ l) later)
       | inr other ↦ elim (cases_Bool (is_question_condition n)) [
         | inl kept ↦ rw (kept, other) later
         | inr plain ↦ rw (plain, other) later
@@ -53,7 +53,7 @@ again bytes code (n ∷ ns) condition s within =
     ]
 
 -- the nodes of those that deny a submission
-abbrev pub denying : List ℕ → List ConditionEntry → List Placed
+abbrev pub denying : List ℕ → List ConditionEntry → List Node
 denying bytes kept = of_number bytes NO_SUBMIT_IF kept
 
 pub all_again : (bytes : List ℕ) → SpellsForest bytes (tree_of bytes) → denying bytes (condition_table (nodes_of bytes)) ≡ filter is_no_submit (nodes_of bytes)
@@ -66,11 +66,11 @@ pub stands : (bytes : List ℕ) (place : ℕ) → has_node bytes place ≡ true 
 unfolding node_in
 stands bytes place there =
     let found = some_there (node_at (nodes_of bytes) place) there in
-    subst (λ (n : Placed). Contains (nodes_of bytes) n) (sym (ap or_empty found.1)) (contains_found (nodes_of bytes) place found.0 found.1)
+    subst (λ (n : Node). Contains (nodes_of bytes) n) (sym (ap or_empty found.1)) (contains_found (nodes_of bytes) place found.0 found.1)
 
 -- ---- all of them
 
-pub condition_entries : (ns : List Placed) (table : List ConditionEntry) → table ≡ condition_table ns → length table ≡ length (filter is_question_condition ns)
+pub condition_entries : (ns : List Node) (table : List ConditionEntry) → table ≡ condition_table ns → length table ≡ length (filter is_question_condition ns)
 condition_entries ns table e = ap (λ (t : List ConditionEntry). length t) e ∙ length-map (filter is_question_condition ns) (kept_condition ns)
 
 pub all_conditions_again : (bytes : List ℕ) → SpellsForest bytes (tree_of bytes)

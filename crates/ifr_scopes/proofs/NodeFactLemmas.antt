@@ -11,7 +11,7 @@ use Rattle.ifr_opcodes.specs.Operators.{is_operator}
 use Rattle.ifr_opcodes.specs.declared.codes.TheConstants.{GUID, VARSTORE_EFI, ONE_OF_OPTION, DEFAULT, VALUE}
 use Rattle.ifr_opcodes.specs.declared.kinds.TheConstants.{TYPE_BOOLEAN, TYPE_REF}
 use Rattle.ifr_opcodes.specs.Statements.{is_question_number, is_statement_number}
-use Rattle.ifr_opcodes.specs.Forest.{Forest, none, node, Placed, as_ancestor, nodes_at, nodes, below}
+use Rattle.ifr_opcodes.specs.Forest.{Forest, none, node, Node as Placed, as_ancestor, nodes_at, nodes, below}
 use Rattle.ifr_opcodes.specs.code.Marks.{mark}
 use Rattle.ifr_opcodes.specs.Reading.{tree_of}
 use Rattle.ifr_expr.specs.Faults.{IsExpressionFault}

@@ -5,7 +5,7 @@ use Rattle.std.proofs.lemmas.List.{append-nil, take_at, length-append, map-appen
 use Rattle.std.proofs.lemmas.Bool.{ne_eqb, lt-ltb, ltb-true, cases_Bool, cond_both}
 use Rattle.ifr_opcodes.specs.declared.codes.TheConstants.{END}
 use Rattle.ifr_opcodes.specs.Opcode.{number, has_scope, end, is_end}
-use Rattle.ifr_opcodes.specs.Forest.{Forest, none, node, opcodes, flat, height, AreNodes, SpellsForest, Mark, Ancestor, Placed, nodes_at, nodes}
+use Rattle.ifr_opcodes.specs.Forest.{Forest, none, node, opcodes, flat, height, AreNodes, SpellsForest, Mark, Ancestor, Node, nodes_at, nodes}
 use Rattle.ifr_opcodes.specs.code.Marks.{mark}
 use Rattle.ifr_opcodes.specs.Reading.{opcodes_in, levels}
 use Rattle.ifr_opcodes.specs.code.Marks.{inside}
@@ -40,7 +40,7 @@ scan_plain at path op ops n s = rw (ne_eqb (number op) END n, s) refl
 pub scan-opcodes : (f : Forest) (at : ℕ) (path : List Ancestor) (more : List (List ℕ)) → AreNodes f → scan at path (opcodes f ++ more) ≡ nodes_at at path f ++ scan (at + length (flat f)) path more
 scan-opcodes none at path more h = let e : at + 0 ≡ at = omega arith in rw e refl
 scan-opcodes (node op children rest) at path more h =
-    let here : Placed = record { place = at; op = op; path = path; children = children } in
+    let here : Node = record { place = at; op = op; path = path; children = children } in
     let mark : Ancestor = record { place = at; op = op; children = children } in
     elim (cases_Bool (has_scope op)) [
       | inl s ↦
@@ -56,8 +56,8 @@ scan-opcodes (node op children rest) at path more h =
           ap (scan at path) (opcodes_scoped op children rest more s)
           ∙ scan_scoped at path op (opcodes children ++ (end ∷ (opcodes rest ++ more))) h.0.no_end s
           ∙ ap (λ (f : Forest). record { place = at; op = op; path = path; children = f } ∷ scan (at + length op) (path ++ record { place = at; op = op; children = f } ∷ []) (opcodes children ++ (end ∷ (opcodes rest ++ more)))) (children_again children (opcodes rest ++ more) h.1.0)
-          ∙ ap (λ (l : List Placed). here ∷ l) (scan-opcodes children (at + length op) (path ++ mark ∷ []) (end ∷ (opcodes rest ++ more)) h.1.0
-          ∙ ap (λ (l : List Placed). inner ++ l) outside
+          ∙ ap (λ (l : List Node). here ∷ l) (scan-opcodes children (at + length op) (path ++ mark ∷ []) (end ∷ (opcodes rest ++ more)) h.1.0
+          ∙ ap (λ (l : List Node). inner ++ l) outside
           ∙ sym (append_assoc inner (nodes_at (at + length (flat (node op children none))) path rest) (scan (at + length (flat (node op children rest))) path more)))
       | inr s ↦
           let bare : children ≡ none = h.0.leaf s in
@@ -67,10 +67,10 @@ scan-opcodes (node op children rest) at path more h =
           ap (scan at path) (opcodes_plain op children rest more s)
           ∙ scan_plain at path op (opcodes rest ++ more) h.0.no_end s
           ∙ ap (λ (f : Forest). record { place = at; op = op; path = path; children = f } ∷ scan (at + length op) path (opcodes rest ++ more)) (sym bare)
-          ∙ ap (λ (l : List Placed). here ∷ l) (ap (λ n. scan n path (opcodes rest ++ more)) e1
+          ∙ ap (λ (l : List Node). here ∷ l) (ap (λ n. scan n path (opcodes rest ++ more)) e1
           ∙ scan-opcodes rest (at + length (flat (node op children none))) path more h.1.1
           ∙ ap (λ n. nodes_at (at + length (flat (node op children none))) path rest ++ scan n path more) e2
-          ∙ ap (λ (l : List Placed). (l ++ nodes_at (at + length (flat (node op children none))) path rest) ++ scan (at + length (flat (node op children rest))) path more) (sym childless))
+          ∙ ap (λ (l : List Node). (l ++ nodes_at (at + length (flat (node op children none))) path rest) ++ scan (at + length (flat (node op children rest))) path more) (sym childless))
     ]
 
 -- a walk from the start meets all nodes
@@ -82,7 +82,7 @@ scan_all bytes f s =
 
 -- a walk up to the END of a scope meets the nodes inside of it
 pub scan_inside : (f : Forest) (at : ℕ) (more : List (List ℕ)) → AreNodes f → scan at [] (opcodes f ++ (end ∷ more)) ≡ nodes_at at [] f
-scan_inside f at more h = scan-opcodes f at [] (end ∷ more) h ∙ ap (λ (l : List Placed). nodes_at at [] f ++ l) (scan_out (at + length (flat f)) more) ∙ append-nil (nodes_at at [] f)
+scan_inside f at more h = scan-opcodes f at [] (end ∷ more) h ∙ ap (λ (l : List Node). nodes_at at [] f ++ l) (scan_out (at + length (flat f)) more) ∙ append-nil (nodes_at at [] f)
 
 -- each node takes a byte at least
 pub scan_short : (ops : List (List ℕ)) (at : ℕ) (path : List Ancestor) → AllWhole ops → length (scan at path ops) ≤ length (concat ops)
@@ -94,24 +94,24 @@ scan_short (op ∷ ops) at path w =
     let outside = scan_short ops (at + length op) (take (length path - 1) path) w.1 in
     let within = scan_short ops (at + length op) (cond (has_scope op) (path ++ record { place = at; op = op; children = inside op ops } ∷ []) path) w.1 in
     let ended : length (cond (eqb (length path) 0) [] (scan (at + length op) (take (length path - 1) path) ops)) ≤ length (op ++ concat ops) =
-    cond_both (eqb (length path) 0) [] (scan (at + length op) (take (length path - 1) path) ops) (λ (l : List Placed). length l ≤ length (op ++ concat ops)) (λ e. omega arith) (λ e. omega arith) in
+    cond_both (eqb (length path) 0) [] (scan (at + length op) (take (length path - 1) path) ops) (λ (l : List Node). length l ≤ length (op ++ concat ops)) (λ e. omega arith) (λ e. omega arith) in
     cond_both (is_end op) (cond (eqb (length path) 0) [] (scan (at + length op) (take (length path - 1) path) ops)) (record { place = at; op = op; path = path; children = inside op ops } ∷ scan (at + length op) (cond (has_scope op) (path ++ record { place = at; op = op; children = inside op ops } ∷ []) path) ops)
-    (λ (l : List Placed). length l ≤ length (op ++ concat ops)) (λ e. ended) (λ e. omega arith)
+    (λ (l : List Node). length l ≤ length (op ++ concat ops)) (λ e. ended) (λ e. omega arith)
 
 -- further scopes around a forest are further ancestors of its nodes
 pub nodes_at-under : (f : Forest) (at : ℕ) (outer path : List Ancestor) → nodes_at at (outer ++ path) f ≡ map (under outer) (nodes_at at path f)
 nodes_at-under none at outer path = refl
 nodes_at-under (node op children rest) at outer path =
     let m : Ancestor = record { place = at; op = op; children = children } in
-    let here : Placed = record { place = at; op = op; path = outer ++ path; children = children } in
+    let here : Node = record { place = at; op = op; path = outer ++ path; children = children } in
     let behind = at + length (flat (node op children none)) in
     let inner : nodes_at (at + length op) ((outer ++ path) ++ m ∷ []) children ≡ map (under outer) (nodes_at (at + length op) (path ++ m ∷ []) children) =
     ap (λ (p : List Ancestor). nodes_at (at + length op) p children) (append_assoc outer path (m ∷ [])) ∙ nodes_at-under children (at + length op) outer (path ++ m ∷ []) in
-    ap (λ (l : List Placed). here ∷ (l ++ nodes_at behind (outer ++ path) rest)) inner
-    ∙ ap (λ (l : List Placed). here ∷ (map (under outer) (nodes_at (at + length op) (path ++ m ∷ []) children) ++ l)) (nodes_at-under rest behind outer path)
-    ∙ ap (λ (l : List Placed). here ∷ l) (sym (map-append (under outer) (nodes_at (at + length op) (path ++ m ∷ []) children) (nodes_at behind path rest)))
+    ap (λ (l : List Node). here ∷ (l ++ nodes_at behind (outer ++ path) rest)) inner
+    ∙ ap (λ (l : List Node). here ∷ (map (under outer) (nodes_at (at + length op) (path ++ m ∷ []) children) ++ l)) (nodes_at-under rest behind outer path)
+    ∙ ap (λ (l : List Node). here ∷ l) (sym (map-append (under outer) (nodes_at (at + length op) (path ++ m ∷ []) children) (nodes_at behind path rest)))
 
-pub marks_under : (outer : List Ancestor) (ns : List Placed) → map mark (map (under outer) ns) ≡ map mark ns
+pub marks_under : (outer : List Ancestor) (ns : List Node) → map mark (map (under outer) ns) ≡ map mark ns
 marks_under outer [] = refl
 marks_under outer (n ∷ ns) = ap (λ (l : List Mark). mark n ∷ l) (marks_under outer ns)
 

@@ -10,7 +10,7 @@ use Rattle.std.proofs.lemmas.List.Elements.{All-append, filter-append, filter_pa
 use Rattle.std.proofs.lemmas.Option.{slice_get-get_or}
 use Rattle.hii_bytes.specs.code.FirstFaults.{Rise}
 use Rattle.ifr_opcodes.specs.Opcode.{number}
-use Rattle.ifr_opcodes.specs.Forest.{Ancestor, Placed, as_ancestor, SpellsForest}
+use Rattle.ifr_opcodes.specs.Forest.{Ancestor, Node, as_ancestor, SpellsForest}
 use Rattle.ifr_opcodes.specs.Reading.{tree_of}
 use Rattle.ifr_scopes.specs.Guards.{is_guard, node_within, nodes_on, guards, guards_among}
 use Rattle.ifr_scopes.specs.Nodes.{nodes_of, this_of}
@@ -25,10 +25,10 @@ use Rattle.ifr_scopes.proofs.ScopeLemmas.{ancestor_node}
 use Rattle.ifr_scopes.proofs.PlaceLemmas.{is_found}
 use Rattle.ifr_scopes.proofs.ViewLemmas.{contains_found, is_at, node_in_place}
 
-abbrev place_of : Placed → ℕ
+abbrev place_of : Node → ℕ
 place_of n = n.place
 
-abbrev guarding : Placed → Bool
+abbrev guarding : Node → Bool
 guarding n = is_guard (number n.op)
 
 abbrev guarding_path : Ancestor → Bool
@@ -37,15 +37,15 @@ guarding_path a = is_guard (number a.op)
 -- ---- the guard of a number
 
 -- One of these nodes, which is a guard.
-pub record IsGuardOf (ns : List Placed) (guard : Placed) : Type 0 where
+pub record IsGuardOf (ns : List Node) (guard : Node) : Type 0 where
   pub within : Contains ns guard
   pub guards : is_guard (number guard.op) ≡ true
 
-some_guard : (ns : List Placed) (k : ℕ) (d : Placed) → k < length (guards_among ns) → guard_of_number ns k ≡ get_or (guards_among ns) k d
+some_guard : (ns : List Node) (k : ℕ) (d : Node) → k < length (guards_among ns) → guard_of_number ns k ≡ get_or (guards_among ns) k d
 unfolding guard_of_number
 some_guard ns k d lt = ap or_empty (slice_get-get_or (guards_among ns) k d lt)
 
-pub guard_there : (ns : List Placed) (k : ℕ) → k < length (guards_among ns) → IsGuardOf ns (guard_of_number ns k)
+pub guard_there : (ns : List Node) (k : ℕ) → k < length (guards_among ns) → IsGuardOf ns (guard_of_number ns k)
 guard_there ns k lt =
     let is = some_guard ns k (or_empty None) lt in
     subst (IsGuardOf ns) (sym is) (record {
@@ -54,22 +54,22 @@ guard_there ns k lt =
     })
 
 -- its entry in the table
-pub entry_there : (ns : List Placed) (table : List GuardEntry) (k : ℕ) (d : GuardEntry) → table ≡ guard_table ns → k < length (guards_among ns)
+pub entry_there : (ns : List Node) (table : List GuardEntry) (k : ℕ) (d : GuardEntry) → table ≡ guard_table ns → k < length (guards_among ns)
     → get_or table k d ≡ guard_entry (inner_guard ns (guard_of_number ns k).path) (guard_of_number ns k)
 entry_there ns table k d e lt =
-    ap (λ (t : List GuardEntry). get_or t k d) e ∙ get_or-map (λ (n : Placed). guard_entry (inner_guard ns n.path) n) (guards_among ns) k (or_empty None) d lt
-    ∙ ap (λ (n : Placed). guard_entry (inner_guard ns n.path) n) (sym (some_guard ns k (or_empty None) lt))
+    ap (λ (t : List GuardEntry). get_or t k d) e ∙ get_or-map (λ (n : Node). guard_entry (inner_guard ns n.path) n) (guards_among ns) k (or_empty None) d lt
+    ∙ ap (λ (n : Node). guard_entry (inner_guard ns n.path) n) (sym (some_guard ns k (or_empty None) lt))
 
-pub as_long : (ns : List Placed) (table : List GuardEntry) → table ≡ guard_table ns → length table ≡ length (guards_among ns)
-as_long ns table e = ap (λ (t : List GuardEntry). length t) e ∙ length-map (guards_among ns) (λ (n : Placed). guard_entry (inner_guard ns n.path) n)
+pub as_long : (ns : List Node) (table : List GuardEntry) → table ≡ guard_table ns → length table ≡ length (guards_among ns)
+as_long ns table e = ap (λ (t : List GuardEntry). length t) e ∙ length-map (guards_among ns) (λ (n : Node). guard_entry (inner_guard ns n.path) n)
 
-pub is_guard_entry : (bytes : List ℕ) (outer : Option ℕ) (n : Placed) → SpellsForest bytes (tree_of bytes) → Contains (nodes_of bytes) n → is_guard (number n.op) ≡ true → IsGuardEntry bytes (guard_entry outer n)
+pub is_guard_entry : (bytes : List ℕ) (outer : Option ℕ) (n : Node) → SpellsForest bytes (tree_of bytes) → Contains (nodes_of bytes) n → is_guard (number n.op) ≡ true → IsGuardEntry bytes (guard_entry outer n)
 is_guard_entry bytes outer n s within guards =
     let at = is_at bytes n s within in
     let same : n ≡ node_in bytes n.place = sym (node_in_place bytes n s within) in
     record {
       stands = rw (at.there, at.opcode) guards;
-      code = ap (λ (m : Placed). number m.op) same;
+      code = ap (λ (m : Node). number m.op) same;
       within = ap this_of same;
       ends = ap expression_end same;
     }
@@ -77,7 +77,7 @@ is_guard_entry bytes outer n s within guards =
 -- ---- the number of a guard
 
 -- none stands before a place where all are behind it
-none_before : (is : Placed → Bool) (low place : ℕ) (ns : List Placed) → place ≤ low → Rise place_of low ns → filter (λ n. nat_lt n.place place) (filter is ns) ≡ []
+none_before : (is : Node → Bool) (low place : ℕ) (ns : List Node) → place ≤ low → Rise place_of low ns → filter (λ n. nat_lt n.place place) (filter is ns) ≡ []
 none_before is low place [] le r = refl
 none_before is low place (n ∷ ns) le r =
     let later = none_before is (n.place + 1) place ns (omega (arith, r.0)) r.1 in
@@ -85,16 +85,16 @@ none_before is low place (n ∷ ns) le r =
     elim (cases_Bool (is n)) [ inl kept ↦ rw (kept, behind) later | inr other ↦ rw other later ]
 
 -- The guard is found by how many stand before it.
-pub record IsFoundGuard (ns : List Placed) (n : Placed) : Type 0 where
+pub record IsFoundGuard (ns : List Node) (n : Node) : Type 0 where
   pub within : guards_before ns n.place < length (guards_among ns)
   pub is : get_or (guards_among ns) (guards_before ns n.place) n ≡ n
 
-later_place : (low : ℕ) (ns : List Placed) (n : Placed) (k : ℕ) → Rise place_of low ns → k < length ns → get_or ns k n ≡ n → low ≤ n.place
+later_place : (low : ℕ) (ns : List Node) (n : Node) (k : ℕ) → Rise place_of low ns → k < length ns → get_or ns k n ≡ n → low ≤ n.place
 later_place low [] n k r lt e = absurd (omega arith)
 later_place low (m ∷ ns) n zero r lt e = omega (arith, r.0, ap place_of e)
 later_place low (m ∷ ns) n (suc k) r lt e = omega (arith, r.0, later_place (m.place + 1) ns n k r.1 (omega arith) e)
 
-guard_found : (low : ℕ) (ns : List Placed) (n : Placed) (k : ℕ) → Rise place_of low ns → k < length ns → get_or ns k n ≡ n → guarding n ≡ true → IsFoundGuard ns n
+guard_found : (low : ℕ) (ns : List Node) (n : Node) (k : ℕ) → Rise place_of low ns → k < length ns → get_or ns k n ≡ n → guarding n ≡ true → IsFoundGuard ns n
 guard_found low [] n k r lt e is = absurd (omega arith)
 guard_found low (m ∷ ns) n zero r lt e is =
     let same : m ≡ n = e in
@@ -126,13 +126,13 @@ guard_found low (m ∷ ns) n (suc k) r lt e is =
     ]
 
 -- where these stand before a node, those of a kind do
-before_place : (low : ℕ) (before rest : List Placed) (n : Placed) → Rise place_of low (before ++ n ∷ rest) → low ≤ n.place
+before_place : (low : ℕ) (before rest : List Node) (n : Node) → Rise place_of low (before ++ n ∷ rest) → low ≤ n.place
 before_place low [] rest n r = r.0
 before_place low (m ∷ before) rest n r = omega (arith, r.0, before_place (m.place + 1) before rest n r.1)
 
-pub so_many_before : (is : Placed → Bool) (low : ℕ) (before rest : List Placed) (n : Placed) → Rise place_of low (before ++ n ∷ rest)
+pub so_many_before : (is : Node → Bool) (low : ℕ) (before rest : List Node) (n : Node) → Rise place_of low (before ++ n ∷ rest)
     → length (filter (λ m. nat_lt m.place n.place) (filter is (before ++ n ∷ rest))) ≡ length (filter is before)
-so_many_before is low [] rest n r = ap (λ (l : List Placed). length l) (none_before is n.place n.place (n ∷ rest) (omega arith) (omega arith, r.1))
+so_many_before is low [] rest n r = ap (λ (l : List Node). length l) (none_before is n.place n.place (n ∷ rest) (omega arith) (omega arith, r.1))
 so_many_before is low (m ∷ before) rest n r =
     let later = so_many_before is (m.place + 1) before rest n r.1 in
     let behind : m.place + 1 ≤ n.place = before_place (m.place + 1) before rest n r.1 in
@@ -140,7 +140,7 @@ so_many_before is low (m ∷ before) rest n r =
     elim (cases_Bool (is m)) [ inl kept ↦ rw (kept, earlier) (ap (λ (k : ℕ). suc k) later) | inr other ↦ rw other later ]
 
 -- no guard stands before where all begin
-no_lower : (low : ℕ) (ns : List Placed) (k : ℕ) (d : Placed) → Rise place_of low ns → k < length (guards_among ns) → low ≤ (get_or (guards_among ns) k d).place
+no_lower : (low : ℕ) (ns : List Node) (k : ℕ) (d : Node) → Rise place_of low ns → k < length (guards_among ns) → low ≤ (get_or (guards_among ns) k d).place
 no_lower low [] k d r lt = absurd (omega arith)
 no_lower low (n ∷ ns) zero d r lt = elim (cases_Bool (guarding n)) [
   | inl is ↦ rw is r.0
@@ -155,35 +155,35 @@ no_lower low (n ∷ ns) (suc j) d r lt = elim (cases_Bool (guarding n)) [
 ]
 
 -- before the guard of a number stand so many
-so_many : (low : ℕ) (ns : List Placed) (k : ℕ) (d : Placed) → Rise place_of low ns → k < length (guards_among ns) → guards_before ns (get_or (guards_among ns) k d).place ≡ k
+so_many : (low : ℕ) (ns : List Node) (k : ℕ) (d : Node) → Rise place_of low ns → k < length (guards_among ns) → guards_before ns (get_or (guards_among ns) k d).place ≡ k
 so_many low [] k d r lt = absurd (omega arith)
 so_many low (n ∷ ns) zero d r lt = elim (cases_Bool (guarding n)) [
   | inl is ↦
       let here : nat_lt n.place n.place ≡ false = grind (arith, nat_tests) in
-      rw (is, here) (ap (λ (l : List Placed). length l) (none_before guarding (n.place + 1) n.place ns (omega arith) r.1))
+      rw (is, here) (ap (λ (l : List Node). length l) (none_before guarding (n.place + 1) n.place ns (omega arith) r.1))
   | inr other ↦ rw other (so_many (n.place + 1) ns zero d r.1 (rw other at lt))
 ]
 so_many low (n ∷ ns) (suc j) d r lt = elim (cases_Bool (guarding n)) [
   | inl is ↦
       let fewer : suc j < suc (length (guards_among ns)) = rw is at lt in
-      let g : Placed = get_or (guards_among ns) j d in
+      let g : Node = get_or (guards_among ns) j d in
       let behind : n.place + 1 ≤ g.place = no_lower (n.place + 1) ns j d r.1 (omega (arith, fewer)) in
       let before : nat_lt n.place g.place ≡ true = grind (arith, nat_tests) in
       rw (is, before) (ap (λ (m : ℕ). suc m) (so_many (n.place + 1) ns j d r.1 (omega (arith, fewer))))
   | inr other ↦ rw other (so_many (n.place + 1) ns (suc j) d r.1 (rw other at lt))
 ]
 
-numbered_place : (ns : List Placed) (k : ℕ) → Rise place_of 4 ns → k < length (guards_among ns) → guards_before ns (guard_of_number ns k).place ≡ k
-numbered_place ns k r lt = ap (λ (n : Placed). guards_before ns n.place) (some_guard ns k (or_empty None) lt) ∙ so_many 4 ns k (or_empty None) r lt
+numbered_place : (ns : List Node) (k : ℕ) → Rise place_of 4 ns → k < length (guards_among ns) → guards_before ns (guard_of_number ns k).place ≡ k
+numbered_place ns k r lt = ap (λ (n : Node). guards_before ns n.place) (some_guard ns k (or_empty None) lt) ∙ so_many 4 ns k (or_empty None) r lt
 
 -- ---- the innermost guard of a path
 
-pub inner_guard-push : (ns : List Placed) (path : List Ancestor) (a : Ancestor) → is_guard (number a.op) ≡ true → inner_guard ns (path ++ a ∷ []) ≡ Some (guards_before ns a.place)
+pub inner_guard-push : (ns : List Node) (path : List Ancestor) (a : Ancestor) → is_guard (number a.op) ≡ true → inner_guard ns (path ++ a ∷ []) ≡ Some (guards_before ns a.place)
 inner_guard-push ns path a is =
     let last : filter guarding_path (path ++ a ∷ []) ≡ filter guarding_path path ++ a ∷ [] = filter-append guarding_path path (a ∷ []) ∙ rw is refl in
     ap (λ (l : List Ancestor). option_map (λ (b : Ancestor). guards_before ns b.place) (last_or None l)) last ∙ ap (option_map (λ (b : Ancestor). guards_before ns b.place)) (last_or-push None (filter guarding_path path) a)
 
-pub inner_guard-other : (ns : List Placed) (path : List Ancestor) (a : Ancestor) → is_guard (number a.op) ≡ false → inner_guard ns (path ++ a ∷ []) ≡ inner_guard ns path
+pub inner_guard-other : (ns : List Node) (path : List Ancestor) (a : Ancestor) → is_guard (number a.op) ≡ false → inner_guard ns (path ++ a ∷ []) ≡ inner_guard ns path
 inner_guard-other ns path a other =
     let same : filter guarding_path (path ++ a ∷ []) ≡ filter guarding_path path = filter-append guarding_path path (a ∷ []) ∙ rw other (append-nil (filter guarding_path path)) in
     ap (λ (l : List Ancestor). option_map (λ (b : Ancestor). guards_before ns b.place) (last_or None l)) same
@@ -217,15 +217,15 @@ no_guards_on around (a ∷ path) e = elim (cases_Bool (guarding_path a)) [
 nodes_on-append : (around xs ys : List Ancestor) → nodes_on around (xs ++ ys) ≡ nodes_on around xs ++ nodes_on (around ++ xs) ys
 nodes_on-append around [] ys = ap (λ (l : List Ancestor). nodes_on l ys) (sym (append-nil around))
 nodes_on-append around (x ∷ xs) ys =
-    ap (λ (l : List Placed). node_within around x ∷ l)
+    ap (λ (l : List Node). node_within around x ∷ l)
     (nodes_on-append (around ++ x ∷ []) xs ys ∙ ap (λ (l : List Ancestor). nodes_on (around ++ x ∷ []) xs ++ nodes_on l ys) (append_assoc around (x ∷ []) xs))
 
 -- The guards of a node are those from the number of the innermost.
-pub record AreFrom (ns : List Placed) (n : Placed) : Type 0 where
+pub record AreFrom (ns : List Node) (n : Node) : Type 0 where
   pub numbered : IsNumber ns (inner_guard ns n.path)
   pub guards : guards n ≡ guards_from ns (inner_guard ns n.path)
 
-bare : (ns : List Placed) (n : Placed) → filter guarding_path n.path ≡ [] → AreFrom ns n
+bare : (ns : List Node) (n : Node) → filter guarding_path n.path ≡ [] → AreFrom ns n
 bare ns n none =
     let inner : inner_guard ns n.path ≡ None = ap (λ (l : List Ancestor). option_map (λ (a : Ancestor). guards_before ns a.place) (last_or None l)) none in
     record {
@@ -233,7 +233,7 @@ bare ns n none =
       guards = rw inner (no_guards_on [] n.path none);
     }
 
-inner_there : (bytes : List ℕ) (n : Placed) → SpellsForest bytes (tree_of bytes) → Contains (nodes_of bytes) n → HasInner n.path → AreFrom (nodes_of bytes) n
+inner_there : (bytes : List ℕ) (n : Node) → SpellsForest bytes (tree_of bytes) → Contains (nodes_of bytes) n → HasInner n.path → AreFrom (nodes_of bytes) n
 inner_there bytes n s within i =
     let ns = nodes_of bytes in
     let a = i.guard in
@@ -254,10 +254,10 @@ inner_there bytes n s within i =
     let split : guards n ≡ guards_among (nodes_on [] i.before) ++ guards_among (node_within i.before a ∷ nodes_on (i.before ++ a ∷ []) i.after) =
     ap (λ (l : List Ancestor). guards_among (nodes_on [] l)) i.split ∙ ap guards_among (nodes_on-append [] i.before (a ∷ i.after)) ∙ filter-append guarding (nodes_on [] i.before) (nodes_on i.before (a ∷ i.after)) in
     let last : guards_among (node_within i.before a ∷ nodes_on (i.before ++ a ∷ []) i.after) ≡ m ∷ [] =
-    rw i.guards (ap (λ (x : Placed). x ∷ guards_among (nodes_on (i.before ++ a ∷ []) i.after)) same ∙ ap (λ (l : List Placed). m ∷ l) (no_guards_on (i.before ++ a ∷ []) i.after i.none)) in
+    rw i.guards (ap (λ (x : Node). x ∷ guards_among (nodes_on (i.before ++ a ∷ []) i.after)) same ∙ ap (λ (l : List Node). m ∷ l) (no_guards_on (i.before ++ a ∷ []) i.after i.none)) in
     record {
       numbered = rw inner lt;
-      guards = rw inner (split ∙ ap (λ (l : List Placed). guards_among (nodes_on [] i.before) ++ l) last ∙ ap (λ (l : List Placed). l ++ m ∷ []) (sym outer) ∙ ap (λ (x : Placed). guards x ++ x ∷ []) (sym is));
+      guards = rw inner (split ∙ ap (λ (l : List Node). guards_among (nodes_on [] i.before) ++ l) last ∙ ap (λ (l : List Node). l ++ m ∷ []) (sym outer) ∙ ap (λ (x : Node). guards x ++ x ∷ []) (sym is));
     }
   where
     past : (path more : List Ancestor) → filter guarding_path more ≡ [] → inner_guard (nodes_of bytes) (path ++ more) ≡ inner_guard (nodes_of bytes) path
@@ -265,7 +265,7 @@ inner_there bytes n s within i =
         ap (λ (l : List Ancestor). option_map (λ (b : Ancestor). guards_before (nodes_of bytes) b.place) (last_or None l))
         (filter-append guarding_path path more ∙ ap (λ (l : List Ancestor). filter guarding_path path ++ l) none ∙ append-nil (filter guarding_path path))
 
-pub guards_are : (bytes : List ℕ) (n : Placed) → SpellsForest bytes (tree_of bytes) → Contains (nodes_of bytes) n → AreFrom (nodes_of bytes) n
+pub guards_are : (bytes : List ℕ) (n : Node) → SpellsForest bytes (tree_of bytes) → Contains (nodes_of bytes) n → AreFrom (nodes_of bytes) n
 guards_are bytes n s within = elim (inner_of n.path) [
   | inl none ↦ bare (nodes_of bytes) n none
   | inr i ↦ inner_there bytes n s within i
@@ -277,7 +277,7 @@ few_on around (a ∷ path) =
     let later = few_on (around ++ a ∷ []) path in
     elim (cases_Bool (guarding_path a)) [ inl is ↦ rw is (omega arith) | inr other ↦ rw other (omega arith) ]
 
-pub few_guards : (n : Placed) → length (guards n) ≤ length n.path
+pub few_guards : (n : Node) → length (guards n) ≤ length n.path
 few_guards n = few_on [] n.path
 
 -- ---- from one guard to the next
@@ -305,14 +305,14 @@ leads_on bytes table next k d s e is lt =
     let node : node_in bytes n.place ≡ n = node_in_place bytes n s there.within in
     let outer = guards_from ns (inner_guard ns n.path) in
     let split : guards_from ns next ≡ outer ++ node_in bytes n.place ∷ [] =
-    ap (guards_from ns) is ∙ ap (λ (l : List Placed). l ++ n ∷ []) around.guards ∙ ap (λ (m : Placed). outer ++ m ∷ []) (sym node) in
+    ap (guards_from ns) is ∙ ap (λ (l : List Node). l ++ n ∷ []) around.guards ∙ ap (λ (m : Node). outer ++ m ∷ []) (sym node) in
     subst (LeadsOn bytes next k) (sym (entry_there ns table k d e lt)) (record {
       kept = is_guard_entry bytes (inner_guard ns n.path) n s there.within there.guards;
       is = node;
       before = sym (numbered_place ns k (nodes_rise bytes s) lt);
       numbered = around.numbered;
       split = split;
-      count = ap (λ (l : List Placed). length l) split ∙ length-append outer (node_in bytes n.place ∷ []);
+      count = ap (λ (l : List Node). length l) split ∙ length-append outer (node_in bytes n.place ∷ []);
     })
 
 -- the guard, and then those around it
@@ -326,19 +326,19 @@ joined bytes next k guard old new on e =
     let outer = guards_from ns guard.outer in
     let rest = map (guard_of_number ns) (reverse old) in
     ap (λ (l : List ℕ). outer ++ map (guard_of_number ns) (reverse l)) e ∙ ap (λ (l : List ℕ). outer ++ map (guard_of_number ns) l) (reverse-append old (k ∷ []))
-    ∙ sym (append_assoc outer (guard_of_number ns k ∷ []) rest) ∙ ap (λ (n : Placed). (outer ++ n ∷ []) ++ rest) (sym on.is) ∙ ap (λ (l : List Placed). l ++ rest) (sym on.split)
+    ∙ sym (append_assoc outer (guard_of_number ns k ∷ []) rest) ∙ ap (λ (n : Node). (outer ++ n ∷ []) ++ rest) (sym on.is) ∙ ap (λ (l : List Node). l ++ rest) (sym on.split)
 
-pub number_within : (ns : List Placed) (next : Option ℕ) (k : ℕ) → next ≡ Some k → IsNumber ns next → k < length (guards_among ns)
+pub number_within : (ns : List Node) (next : Option ℕ) (k : ℕ) → next ≡ Some k → IsNumber ns next → k < length (guards_among ns)
 number_within ns next k e numbered = subst (IsNumber ns) e numbered
 
-pub more_numbers : (ns : List Placed) (old new : List ℕ) (k : ℕ) → new ≡ old ++ k ∷ [] → k < length (guards_among ns) → AreNumbers ns old → AreNumbers ns new
+pub more_numbers : (ns : List Node) (old new : List ℕ) (k : ℕ) → new ≡ old ++ k ∷ [] → k < length (guards_among ns) → AreNumbers ns old → AreNumbers ns new
 more_numbers ns old new k e lt are = subst (AreNumbers ns) (sym e) (All-append (λ (j : ℕ). j < length (guards_among ns)) old (k ∷ []) are (one lt))
   where
     one : k < length (guards_among ns) → AreNumbers ns (k ∷ [])
     one lt zero d below = lt
     one lt (suc i) d below = absurd (omega arith)
 
-pub last_number : (ns : List Placed) (all rest : List ℕ) (k : ℕ) → all ≡ rest ++ k ∷ [] → AreNumbers ns all → k < length (guards_among ns)
+pub last_number : (ns : List Node) (all rest : List ℕ) (k : ℕ) → all ≡ rest ++ k ∷ [] → AreNumbers ns all → k < length (guards_among ns)
 last_number ns all rest k e are =
     let its : AreNumbers ns (rest ++ k ∷ []) = subst (AreNumbers ns) e are in
     subst (λ (j : ℕ). j < length (guards_among ns)) (get_or-append_seam rest k [] 0) (its (length rest) 0 (omega (arith, length-append rest (k ∷ []))))

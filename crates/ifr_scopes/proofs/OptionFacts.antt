@@ -5,7 +5,7 @@ use Rattle.std.proofs.lemmas.Bool.{cases_Bool, cases_lt, eqb-true, false≢true}
 use Rattle.ifr_opcodes.specs.declared.codes.TheConstants.{FORM_SET, VALUE, ONE_OF_OPTION}
 use Rattle.ifr_opcodes.specs.Opcode.{number}
 use Rattle.ifr_opcodes.specs.Operators.{is_operator, operands}
-use Rattle.ifr_opcodes.specs.Forest.{none, Ancestor, Placed, as_ancestor, below}
+use Rattle.ifr_opcodes.specs.Forest.{none, Ancestor, Node, as_ancestor, below}
 use Rattle.ifr_opcodes.specs.Reading.{tree_of}
 use Rattle.ifr_opcodes.specs.Statements.{is_question_number, is_statement_number}
 use Rattle.ifr_opcodes.proofs.ForestLemmas.{takes}
@@ -68,8 +68,8 @@ guarded_options OfNothing e = e
 -- ---- the question of an option
 
 -- A question has a node below it.
-pub record IsBelowQuestion (bytes : List ℕ) (n : Placed) : Type 0 where
-  pub question : Placed
+pub record IsBelowQuestion (bytes : List ℕ) (n : Node) : Type 0 where
+  pub question : Node
   pub within : Contains (nodes_of bytes) question
   pub asks : is_question question ≡ true
   pub below : Contains (below question) n
@@ -77,7 +77,7 @@ pub record IsBelowQuestion (bytes : List ℕ) (n : Placed) : Type 0 where
 nothing_there : (path : List Ancestor) → path ≡ [] → is_of_options (class_around path) ≡ true → ⊥
 nothing_there path bare is = false≢true (ap (λ (l : List Ancestor). is_of_options (class_around l)) (sym bare) ∙ is)
 
-in_options : (bytes : List ℕ) (k : ℕ) (n : Placed) → IsChecked bytes → Contains (nodes_of bytes) n → length n.path ≤ k → is_of_options (class_around n.path) ≡ true → IsBelowQuestion bytes n
+in_options : (bytes : List ℕ) (k : ℕ) (n : Node) → IsChecked bytes → Contains (nodes_of bytes) n → length n.path ≤ k → is_of_options (class_around n.path) ≡ true → IsBelowQuestion bytes n
 in_options bytes zero n checked within le is = elim (inside_node bytes n within) [
   | inl bare ↦ absurd (nothing_there n.path bare is)
   | inr r ↦ absurd (omega (arith, le, ap (λ (l : List Ancestor). length l) r.path, length-append r.outer.path (as_ancestor r.outer ∷ [])))
@@ -104,7 +104,7 @@ no_operator : is_operator ONE_OF_OPTION ≡ false
 unfolding operands
 no_operator = refl
 
-pub option_question : (bytes : List ℕ) (n : Placed) → IsChecked bytes → Contains (nodes_of bytes) n → is_option n ≡ true → IsBelowQuestion bytes n
+pub option_question : (bytes : List ℕ) (n : Node) → IsChecked bytes → Contains (nodes_of bytes) n → is_option n ≡ true → IsBelowQuestion bytes n
 option_question bytes n checked within is =
     let code : number n.op ≡ ONE_OF_OPTION = eqb-true (number n.op) ONE_OF_OPTION is in
     let root : is_root n ≡ false = no_root bytes n checked within (ap (λ (k : ℕ). eqb k FORM_SET) code) in
@@ -113,18 +113,18 @@ option_question bytes n checked within is =
 
 -- ---- where it stands
 
-pub not_below : (bytes : List ℕ) (q m : Placed) → IsChecked bytes → Contains (nodes_of bytes) q → is_question q ≡ true → is_statement m ≡ true → Contains (below q) m → ⊥
+pub not_below : (bytes : List ℕ) (q m : Node) → IsChecked bytes → Contains (nodes_of bytes) q → is_question q ≡ true → is_statement m ≡ true → Contains (below q) m → ⊥
 not_below bytes q m checked within asks states inner =
     let inside = path_inside q.children (q.place + length q.op) (q.path ++ as_ancestor q ∷ []) m inner in
     let whole : m.path ≡ q.path ++ as_ancestor q ∷ inside.0 = inside.1 ∙ append_assoc q.path (as_ancestor q ∷ []) inside.0 in
     false≢true (sym (no_statement_inside bytes q m inside.0 checked (below_within (tree_of bytes) 4 [] q m within inner) asks whole) ∙ states)
 
 -- What is below a node stands behind it, and before its end.
-pub record IsBetween (q n : Placed) : Type 0 where
+pub record IsBetween (q n : Node) : Type 0 where
   pub behind : q.place < n.place
   pub before : n.place < end_of q
 
-pub between : (bytes : List ℕ) (q n : Placed) → IsChecked bytes → Contains (nodes_of bytes) q → Contains (below q) n → IsBetween q n
+pub between : (bytes : List ℕ) (q n : Node) → IsChecked bytes → Contains (nodes_of bytes) q → Contains (below q) n → IsBetween q n
 between bytes q n checked within inner =
     let nodes = (node_stands bytes (tree_of bytes) q checked.spelled within).2 in
     let size = takes q.op q.children none nodes in
@@ -132,11 +132,11 @@ between bytes q n checked within inner =
     let i = are_inside q.children (q.place + length q.op) (q.path ++ as_ancestor q ∷ []) n nodes.1.0 inner in
     record { behind = omega (arith, long, i.low); before = omega (arith, size.0, i.some, i.high) }
 
-pub behind_question : (bytes : List ℕ) (n : Placed) → IsChecked bytes → (h : IsBelowQuestion bytes n) → h.question.place < n.place
+pub behind_question : (bytes : List ℕ) (n : Node) → IsChecked bytes → (h : IsBelowQuestion bytes n) → h.question.place < n.place
 behind_question bytes n checked h = (between bytes h.question n checked h.within h.below).behind
 
 -- What has a node behind another below it, and not the other, is the other, or stands behind it as well.
-pub holder_there : (bytes : List ℕ) (q m n : Placed) → IsChecked bytes → Contains (nodes_of bytes) q → Contains (nodes_of bytes) m → Contains (below q) n → (Contains (below q) m → ⊥) → m.place < n.place → (q ≡ m) ⊎ (m.place < q.place)
+pub holder_there : (bytes : List ℕ) (q m n : Node) → IsChecked bytes → Contains (nodes_of bytes) q → Contains (nodes_of bytes) m → Contains (below q) n → (Contains (below q) m → ⊥) → m.place < n.place → (q ≡ m) ⊎ (m.place < q.place)
 holder_there bytes q m n checked v w inner apart less = elim (cases_lt m.place q.place) [
   | inl behind ↦ inr behind
   | inr upto ↦ elim (cases_lt q.place m.place) [
@@ -149,6 +149,6 @@ holder_there bytes q m n checked v w inner apart less = elim (cases_lt m.place q
 ]
 
 -- The question of an option behind a statement is the statement, or stands behind it as well.
-pub question_there : (bytes : List ℕ) (m n : Placed) → IsChecked bytes → Contains (nodes_of bytes) m → is_statement m ≡ true → m.place < n.place → (h : IsBelowQuestion bytes n) → (h.question ≡ m) ⊎ (m.place < h.question.place)
+pub question_there : (bytes : List ℕ) (m n : Node) → IsChecked bytes → Contains (nodes_of bytes) m → is_statement m ≡ true → m.place < n.place → (h : IsBelowQuestion bytes n) → (h.question ≡ m) ⊎ (m.place < h.question.place)
 question_there bytes m n checked within states less h =
     holder_there bytes h.question m n checked h.within within h.below (λ inner. not_below bytes h.question m checked h.within h.asks states inner) less

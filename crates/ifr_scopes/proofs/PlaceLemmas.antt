@@ -5,21 +5,21 @@ use Rattle.std.specs.Prelude.{Contains, filter}
 use Rattle.std.proofs.lemmas.List.{append-nil, length-append, length-drop, drop-drop, drop_at}
 use Rattle.std.proofs.lemmas.Bool.{eq-eqb, eqb-true, ne_eqb, cases_Bool}
 use Rattle.ifr_opcodes.specs.Opcode.{has_scope, end}
-use Rattle.ifr_opcodes.specs.Forest.{Forest, none, node, opcodes, flat, height, AreNodes, SpellsForest, Ancestor, Placed, as_ancestor, nodes_at, nodes, below, node_at, places}
+use Rattle.ifr_opcodes.specs.Forest.{Forest, none, node, opcodes, flat, height, AreNodes, SpellsForest, Ancestor, Node, as_ancestor, nodes_at, nodes, below, node_at, places}
 use Rattle.ifr_scopes.specs.Nodes.{is_statement, statements}
 use Rattle.ifr_opcodes.proofs.OpcodeLemmas.{AllWhole, AllWhole-back, concat-append}
 use Rattle.ifr_opcodes.proofs.ForestLemmas.{all_whole, opcodes_scoped, takes}
 
 -- the places rise, from low on, and stay below high
-abbrev pub Within : ℕ → ℕ → List Placed → Type 0
+abbrev pub Within : ℕ → ℕ → List Node → Type 0
 Within low high [] = low ≤ high
 Within low high (n ∷ ns) = (low ≤ n.place) × Within (n.place + 1) high ns
 
-wider : (ns : List Placed) (low high low' high' : ℕ) → Within low high ns → low' ≤ low → high ≤ high' → Within low' high' ns
+wider : (ns : List Node) (low high low' high' : ℕ) → Within low high ns → low' ≤ low → high ≤ high' → Within low' high' ns
 wider [] low high low' high' w l h = omega arith
 wider (n ∷ ns) low high low' high' w l h = (omega (arith, w.0), wider ns (n.place + 1) high (n.place + 1) high' w.1 (omega arith) h)
 
-Within-append : (xs ys : List Placed) (low mid high : ℕ) → Within low mid xs → Within mid high ys → Within low high (xs ++ ys)
+Within-append : (xs ys : List Node) (low mid high : ℕ) → Within low mid xs → Within mid high ys → Within low high (xs ++ ys)
 Within-append [] ys low mid high u v = wider ys mid high low high v u (omega arith)
 Within-append (x ∷ xs) ys low mid high u v = (u.0, Within-append xs ys (x.place + 1) mid high u.1 v)
 
@@ -34,28 +34,28 @@ nodes_within (node op children rest) at path h =
     let outer = wider (nodes_at behind path rest) behind (behind + length (flat rest)) behind (at + length (flat (node op children rest))) (nodes_within rest behind path h.1.1) (omega arith) (omega (arith, size.1)) in
     (omega arith, Within-append (nodes_at (at + length op) (path ++ record { place = at; op = op; children = children } ∷ []) children) (nodes_at behind path rest) (at + 1) behind (at + length (flat (node op children rest))) inner outer)
 
-pub above : (ns : List Placed) (low high : ℕ) (n : Placed) (k : ℕ) → Within low high ns → k < length ns → get_or ns k n ≡ n → low ≤ n.place
+pub above : (ns : List Node) (low high : ℕ) (n : Node) (k : ℕ) → Within low high ns → k < length ns → get_or ns k n ≡ n → low ≤ n.place
 above [] low high n k w lt e = absurd (omega arith)
-above (m ∷ ns) low high n zero w lt e = omega (arith, w.0, ap (λ (p : Placed). p.place) e)
+above (m ∷ ns) low high n zero w lt e = omega (arith, w.0, ap (λ (p : Node). p.place) e)
 above (m ∷ ns) low high n (suc k) w lt e = omega (arith, w.0, above ns (m.place + 1) high n k w.1 (omega arith) e)
 
-found_here : (ns : List Placed) (low high : ℕ) (n : Placed) (k : ℕ) → Within low high ns → k < length ns → get_or ns k n ≡ n → node_at ns n.place ≡ Some n
+found_here : (ns : List Node) (low high : ℕ) (n : Node) (k : ℕ) → Within low high ns → k < length ns → get_or ns k n ≡ n → node_at ns n.place ≡ Some n
 found_here [] low high n k w lt e = absurd (omega arith)
 found_here (m ∷ ns) low high n zero w lt e =
-    let here : eqb m.place n.place ≡ true = eq-eqb m.place n.place (ap (λ (p : Placed). p.place) e) in
-    rw here (ap (λ (p : Placed). Some p) e)
+    let here : eqb m.place n.place ≡ true = eq-eqb m.place n.place (ap (λ (p : Node). p.place) e) in
+    rw here (ap (λ (p : Node). Some p) e)
 found_here (m ∷ ns) low high n (suc k) w lt e =
     let later : m.place + 1 ≤ n.place = above ns (m.place + 1) high n k w.1 (omega arith) e in
     let not_here : eqb m.place n.place ≡ false = ne_eqb m.place n.place (λ same. omega arith) in
     rw not_here (found_here ns (m.place + 1) high n k w.1 (omega arith) e)
 
-above_all : (ns : List Placed) (low high k : ℕ) → Within low high ns → k < length ns → low ≤ get_or (places ns) k 0
+above_all : (ns : List Node) (low high k : ℕ) → Within low high ns → k < length ns → low ≤ get_or (places ns) k 0
 above_all [] low high k w lt = absurd (omega arith)
 above_all (m ∷ ns) low high zero w lt = w.0
 above_all (m ∷ ns) low high (suc k) w lt = omega (arith, w.0, above_all ns (m.place + 1) high k w.1 (omega arith))
 
 -- The places of nodes that lie between two places rise.
-pub rise : (ns : List Placed) (low high i j : ℕ) → Within low high ns → i < j → j < length ns → get_or (places ns) i 0 < get_or (places ns) j 0
+pub rise : (ns : List Node) (low high i j : ℕ) → Within low high ns → i < j → j < length ns → get_or (places ns) i 0 < get_or (places ns) j 0
 rise [] low high i j w lt le = absurd (omega arith)
 rise (m ∷ ns) low high zero zero w lt le = absurd (omega arith)
 rise (m ∷ ns) low high zero (suc j) w lt le = omega (arith, above_all ns (m.place + 1) high j w.1 (omega arith))
@@ -67,18 +67,18 @@ pub places_rise : (bytes : List ℕ) (f : Forest) (i j : ℕ) → SpellsForest b
 places_rise bytes f i j s lt le = rise (nodes f) 4 (4 + length (flat f)) i j (nodes_within f 4 [] s.are_nodes) lt le
 
 -- A node is found at its place.
-pub is_found : (bytes : List ℕ) (f : Forest) (n : Placed) → SpellsForest bytes f → Contains (nodes f) n → node_at (nodes f) n.place ≡ Some n
+pub is_found : (bytes : List ℕ) (f : Forest) (n : Node) → SpellsForest bytes f → Contains (nodes f) n → node_at (nodes f) n.place ≡ Some n
 is_found bytes f n s c = found_here (nodes f) 4 (4 + length (flat f)) n c.0 (nodes_within f 4 [] s.are_nodes) c.1 c.2
 
-pub found_place : (ns : List Placed) (place : ℕ) (n : Placed) → node_at ns place ≡ Some n → n.place ≡ place
+pub found_place : (ns : List Node) (place : ℕ) (n : Node) → node_at ns place ≡ Some n → n.place ≡ place
 found_place [] place n e = absurd cc
 found_place (m ∷ ns) place n e = go (eqb m.place place) refl (found_place ns place n) e
   where
     go : (b : Bool) → eqb m.place place ≡ b → (node_at ns place ≡ Some n → n.place ≡ place) → cond b (Some m) (node_at ns place) ≡ Some n → n.place ≡ place
-    go true h later e = let same : m ≡ n = cc in ap (λ (p : Placed). p.place) (sym same) ∙ eqb-true m.place place h
+    go true h later e = let same : m ≡ n = cc in ap (λ (p : Node). p.place) (sym same) ∙ eqb-true m.place place h
     go false h later e = later e
 
-found_either : (xs ys : List Placed) (place : ℕ) (n : Placed) → node_at (xs ++ ys) place ≡ Some n → (node_at xs place ≡ Some n) ⊎ (node_at ys place ≡ Some n)
+found_either : (xs ys : List Node) (place : ℕ) (n : Node) → node_at (xs ++ ys) place ≡ Some n → (node_at xs place ≡ Some n) ⊎ (node_at ys place ≡ Some n)
 found_either [] ys place n e = inr e
 found_either (m ∷ xs) ys place n e = go (eqb m.place place) (found_either xs ys place n) e
   where
@@ -87,18 +87,18 @@ found_either (m ∷ xs) ys place n e = go (eqb m.place place) (found_either xs y
     go true later e = inl e
     go false later e = later e
 
-found_only : (m : Placed) (place : ℕ) (n : Placed) → node_at (m ∷ []) place ≡ Some n → n ≡ m
+found_only : (m : Node) (place : ℕ) (n : Node) → node_at (m ∷ []) place ≡ Some n → n ≡ m
 found_only m place n e = go (eqb m.place place) e
   where
     go : (b : Bool) → cond b (Some m) None ≡ Some n → n ≡ m
     go true e = cc
     go false e = absurd cc
 
-found_nowhere : (place : ℕ) (n : Placed) → node_at [] place ≡ Some n → ⊥
+found_nowhere : (place : ℕ) (n : Node) → node_at [] place ≡ Some n → ⊥
 found_nowhere place n e = cc
 
 -- A node's opcodes, with those of its children, stand among a forest's at its place.
-pub record StandsIn (f : Forest) (at : ℕ) (n : Placed) : Type 0 where
+pub record StandsIn (f : Forest) (at : ℕ) (n : Node) : Type 0 where
   pub before : List (List ℕ)
   pub behind : List (List ℕ)
   pub parts : opcodes f ≡ before ++ (opcodes (node n.op n.children none) ++ behind)
@@ -113,7 +113,7 @@ opcodes_apart op children rest = go (has_scope op)
     go true = ap (λ (l : List (List ℕ)). op ∷ (l ++ opcodes rest)) (sym (append-nil (opcodes children ++ end ∷ [])))
     go false = refl
 
-first_stands : (op : List ℕ) (children rest : Forest) (at : ℕ) (n : Placed) → AreNodes (node op children rest) → n.op ≡ op → n.children ≡ children → n.place ≡ at → StandsIn (node op children rest) at n
+first_stands : (op : List ℕ) (children rest : Forest) (at : ℕ) (n : Node) → AreNodes (node op children rest) → n.op ≡ op → n.children ≡ children → n.place ≡ at → StandsIn (node op children rest) at n
 first_stands op children rest at n h o c p = record {
   before = [];
   behind = opcodes rest;
@@ -126,7 +126,7 @@ first_stands op children rest at n h o c p = record {
     same : node op children none ≡ node n.op n.children none
     same = ap (λ (x : List ℕ). node x children none) (sym o) ∙ ap (λ (f : Forest). node n.op f none) (sym c)
 
-inner_stands : (op : List ℕ) (children rest : Forest) (at : ℕ) (n : Placed) → has_scope op ≡ true → StandsIn children (at + length op) n → StandsIn (node op children rest) at n
+inner_stands : (op : List ℕ) (children rest : Forest) (at : ℕ) (n : Node) → has_scope op ≡ true → StandsIn children (at + length op) n → StandsIn (node op children rest) at n
 inner_stands op children rest at n s i =
     let its = opcodes (node n.op n.children none) in
     let all : opcodes (node op children rest) ≡ op ∷ (opcodes children ++ (end ∷ opcodes rest)) =
@@ -142,7 +142,7 @@ inner_stands op children rest at n s i =
       lower = omega (arith, i.lower);
     }
 
-outer_stands : (op : List ℕ) (children rest : Forest) (at : ℕ) (n : Placed) → StandsIn rest (at + length (flat (node op children none))) n → StandsIn (node op children rest) at n
+outer_stands : (op : List ℕ) (children rest : Forest) (at : ℕ) (n : Node) → StandsIn rest (at + length (flat (node op children none))) n → StandsIn (node op children rest) at n
 outer_stands op children rest at n i =
     let its = opcodes (node n.op n.children none) in
     let first = opcodes (node op children none) in
@@ -155,7 +155,7 @@ outer_stands op children rest at n i =
       lower = omega (arith, i.lower);
     }
 
-pub stands_in : (f : Forest) (at place : ℕ) (path : List Ancestor) (n : Placed) → AreNodes f → node_at (nodes_at at path f) place ≡ Some n → StandsIn f at n
+pub stands_in : (f : Forest) (at place : ℕ) (path : List Ancestor) (n : Node) → AreNodes f → node_at (nodes_at at path f) place ≡ Some n → StandsIn f at n
 stands_in none at place path n h e = absurd cc
 stands_in (node op children rest) at place path n h e =
     let m : Ancestor = record { place = at; op = op; children = children } in
@@ -164,7 +164,7 @@ stands_in (node op children rest) at place path n h e =
     elim (found_either (record { place = at; op = op; path = path; children = children } ∷ []) (inner ++ outer) place n e) [
       | inl first ↦
           let p = found_only (record { place = at; op = op; path = path; children = children }) place n first in
-          first_stands op children rest at n h (ap (λ (x : Placed). x.op) p) (ap (λ (x : Placed). x.children) p) (ap (λ (x : Placed). x.place) p)
+          first_stands op children rest at n h (ap (λ (x : Node). x.op) p) (ap (λ (x : Node). x.children) p) (ap (λ (x : Node). x.place) p)
       | inr others ↦
           elim (found_either inner outer place n others) [
             | inl k ↦
@@ -177,14 +177,14 @@ stands_in (node op children rest) at place path n h e =
     ]
 
 -- The bytes from a node's place on are those of the node and its children, and then others.
-pub record StandsAt (bytes : List ℕ) (n : Placed) : Type 0 where
+pub record StandsAt (bytes : List ℕ) (n : Node) : Type 0 where
   pub behind : List (List ℕ)
   pub spelled : drop n.place bytes ≡ concat (opcodes (node n.op n.children none) ++ behind)
   pub whole : AllWhole (opcodes (node n.op n.children none) ++ behind)
   pub are_nodes : AreNodes (node n.op n.children none)
   pub within : height (node n.op n.children none) ≤ 64
 
-pub stands_at : (bytes : List ℕ) (f : Forest) (place : ℕ) (n : Placed) → SpellsForest bytes f → node_at (nodes f) place ≡ Some n → StandsAt bytes n
+pub stands_at : (bytes : List ℕ) (f : Forest) (place : ℕ) (n : Node) → SpellsForest bytes f → node_at (nodes f) place ≡ Some n → StandsAt bytes n
 stands_at bytes f place n s e =
     let i = stands_in f 4 place [] n s.are_nodes e in
     let those = opcodes (node n.op n.children none) ++ i.behind in
@@ -198,7 +198,7 @@ stands_at bytes f place n s e =
     }
 
 -- where a node stands, in its bytes
-pub node_stands : (bytes : List ℕ) (f : Forest) (n : Placed) → SpellsForest bytes f → Contains (nodes f) n
+pub node_stands : (bytes : List ℕ) (f : Forest) (n : Node) → SpellsForest bytes f → Contains (nodes f) n
     → (more : List ℕ) × (drop n.place bytes ≡ flat (node n.op n.children none) ++ more) × AreNodes (node n.op n.children none)
 node_stands bytes f n s c =
     let i = stands_at bytes f n.place n s (is_found bytes f n s c) in
@@ -206,18 +206,18 @@ node_stands bytes f n s c =
 
 -- ---- how many nodes there are
 
-few : (ns : List Placed) (low high : ℕ) → Within low high ns → low + length ns ≤ high
+few : (ns : List Node) (low high : ℕ) → Within low high ns → low + length ns ≤ high
 few [] low high w = omega arith
 few (n ∷ ns) low high w = omega (arith, w.0, few ns (n.place + 1) high w.1)
 
-fewer : (is : Placed → Bool) (ns : List Placed) → length (filter is ns) ≤ length ns
+fewer : (is : Node → Bool) (ns : List Node) → length (filter is ns) ≤ length ns
 fewer is [] = omega arith
 fewer is (n ∷ ns) = elim (cases_Bool (is n)) [
   | inl e ↦ rw e (omega (arith, fewer is ns))
   | inr e ↦ rw e (omega (arith, fewer is ns))
 ]
 
-pub few_statements : (bytes : List ℕ) (f : Forest) (n : Placed) → SpellsForest bytes f → Contains (nodes f) n → length (statements n) + 2 ≤ length bytes
+pub few_statements : (bytes : List ℕ) (f : Forest) (n : Node) → SpellsForest bytes f → Contains (nodes f) n → length (statements n) + 2 ≤ length bytes
 few_statements bytes f n s c =
     let stood = node_stands bytes f n s c in
     let h = stood.2 in

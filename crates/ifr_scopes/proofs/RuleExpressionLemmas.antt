@@ -7,7 +7,7 @@ use Rattle.std.proofs.lemmas.Bool.{cases_Bool}
 use Rattle.hii_bytes.specs.Faults.{HasNone}
 use Rattle.ifr_opcodes.specs.Opcode.{number, has_scope, end}
 use Rattle.ifr_opcodes.specs.Operators.{is_operator}
-use Rattle.ifr_opcodes.specs.Forest.{Forest, none, node, opcodes, flat, AreNodes, Mark, Placed}
+use Rattle.ifr_opcodes.specs.Forest.{Forest, none, node, opcodes, flat, AreNodes, Mark, Node}
 use Rattle.ifr_opcodes.specs.Reading.{tree_of}
 use Rattle.ifr_opcodes.proofs.OpcodeLemmas.{concat-append}
 use Rattle.ifr_opcodes.proofs.ForestLemmas.{opcodes_scoped}
@@ -25,7 +25,7 @@ use Rattle.ifr_scopes.proofs.PlaceLemmas.{node_stands}
 use Rattle.ifr_scopes.proofs.RuleFacts.{rule_fact}
 
 -- A rule's expression stands at a range of the package.
-pub record Holds (bytes : List ℕ) (n : Placed) (from to : ℕ) : Type 0 where
+pub record Holds (bytes : List ℕ) (n : Node) (from to : ℕ) : Type 0 where
   pub op : List ℕ
   pub inner : Forest
   pub ordered : from ≤ to
@@ -40,7 +40,7 @@ pub record Holds (bytes : List ℕ) (n : Placed) (from to : ℕ) : Type 0 where
 some_children : (op : List ℕ) (inner : Forest) → node op inner none ≡ none → ⊥
 some_children op inner e = absurd cc
 
-pub holds : (bytes : List ℕ) (n : Placed) → IsChecked bytes → Contains (nodes_of bytes) n → is_rule n ≡ true → Holds bytes n (expression_place n) (end_of n - 2)
+pub holds : (bytes : List ℕ) (n : Node) → IsChecked bytes → Contains (nodes_of bytes) n → is_rule n ≡ true → Holds bytes n (expression_place n) (end_of n - 2)
 holds bytes n checked within is =
     let fact = rule_fact bytes n checked within is in
     let stood = node_stands bytes (tree_of bytes) n checked.spelled within in
@@ -74,9 +74,9 @@ holds bytes n checked within is =
       tree = ap (tree_in from) fact.children;
     }
 
-pub none_there : (bytes : List ℕ) (n : Placed) (from to : ℕ) → (h : Holds bytes n from to) → HasNone (IsExpressionFault from (opcodes_of from (slice_range bytes from to)))
+pub none_there : (bytes : List ℕ) (n : Node) (from to : ℕ) → (h : Holds bytes n from to) → HasNone (IsExpressionFault from (opcodes_of from (slice_range bytes from to)))
 none_there bytes n from to h = subst (λ (l : List Mark). HasNone (IsExpressionFault from l)) (sym (opcodes_are from (slice_range bytes from to) h.op h.inner h.are_nodes h.bytes_there)) h.sound
 
-pub is_its_tree : (bytes : List ℕ) (n : Placed) (from to : ℕ) (h : Holds bytes n from to) (tree : Tree) → Means (opcodes_of from (slice_range bytes from to)) tree → tree ≡ tree_in (expression_place n) n.children
+pub is_its_tree : (bytes : List ℕ) (n : Node) (from to : ℕ) (h : Holds bytes n from to) (tree : Tree) → Means (opcodes_of from (slice_range bytes from to)) tree → tree ≡ tree_in (expression_place n) n.children
 is_its_tree bytes n from to h tree means =
     sym (is_tree_of (opcodes_of from (slice_range bytes from to)) tree means) ∙ ap tree_of_opcodes (opcodes_are from (slice_range bytes from to) h.op h.inner h.are_nodes h.bytes_there) ∙ sym h.tree

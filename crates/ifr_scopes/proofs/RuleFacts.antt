@@ -9,7 +9,7 @@ use Rattle.hii_bytes.specs.declared.cause.Cause.TheVariants.{NotFormSet, AfterFo
 use Rattle.ifr_opcodes.specs.declared.codes.TheConstants.{FORM_SET, FORM, SUBTITLE, VALUE, RULE}
 use Rattle.ifr_opcodes.specs.Opcode.{number}
 use Rattle.ifr_opcodes.specs.Operators.{is_operator, operands}
-use Rattle.ifr_opcodes.specs.Forest.{Forest, none, node, flat, Ancestor, Placed, as_ancestor, nodes_at, node_at, AreNodes}
+use Rattle.ifr_opcodes.specs.Forest.{Forest, none, node, flat, Ancestor, Node, as_ancestor, nodes_at, node_at, AreNodes}
 use Rattle.ifr_opcodes.specs.Reading.{tree_of}
 use Rattle.ifr_opcodes.proofs.ForestLemmas.{takes}
 use Rattle.ifr_opcodes.proofs.StatementLemmas.{and_first, and_second}
@@ -40,12 +40,12 @@ split_last (b ∷ path) = elim (split_last path) [
 ]
 
 -- Around a node stands another.
-pub record IsAround (bytes : List ℕ) (n : Placed) : Type 0 where
-  pub outer : Placed
+pub record IsAround (bytes : List ℕ) (n : Node) : Type 0 where
+  pub outer : Node
   pub within : Contains (nodes_of bytes) outer
   pub path : n.path ≡ outer.path ++ as_ancestor outer ∷ []
 
-pub around_it : (bytes : List ℕ) (n : Placed) → IsChecked bytes → Contains (nodes_of bytes) n → (n.path ≡ []) ⊎ IsAround bytes n
+pub around_it : (bytes : List ℕ) (n : Node) → IsChecked bytes → Contains (nodes_of bytes) n → (n.path ≡ []) ⊎ IsAround bytes n
 around_it bytes n checked within = elim (split_last n.path) [
   | inl bare ↦ inl bare
   | inr (before, a, e) ↦
@@ -59,39 +59,39 @@ around_it bytes n checked within = elim (split_last n.path) [
 
 -- ---- where a node may stand
 
-pub one_place : (bytes : List ℕ) (n m : Placed) → IsChecked bytes → Contains (nodes_of bytes) n → Contains (nodes_of bytes) m → n.place ≡ m.place → n ≡ m
+pub one_place : (bytes : List ℕ) (n m : Node) → IsChecked bytes → Contains (nodes_of bytes) n → Contains (nodes_of bytes) m → n.place ≡ m.place → n ≡ m
 one_place bytes n m checked v w e =
     let found : Some n ≡ Some m = sym (is_found bytes (tree_of bytes) n checked.spelled v) ∙ ap (node_at (nodes_of bytes)) e ∙ is_found bytes (tree_of bytes) m checked.spelled w in
     cc
 
 -- what begins the scope of a node that wants an expression is an operator
-pub is_operator_there : (bytes : List ℕ) (n : Placed) → IsChecked bytes → Contains (nodes_of bytes) n → is_condition n ≡ true → is_operator (number n.op) ≡ true
+pub is_operator_there : (bytes : List ℕ) (n : Node) → IsChecked bytes → Contains (nodes_of bytes) n → is_condition n ≡ true → is_operator (number n.op) ≡ true
 is_operator_there bytes n checked within is = elim (around_it bytes n checked within) [
   | inl bare ↦ absurd (false≢true (ap (λ (l : List Ancestor). begins_scope n.place (innermost l)) (sym bare) ∙ is))
   | inr r ↦
       let m = r.outer in
       let begins : wants_expression (number m.op) && (n.place == m.place + length m.op) ≡ true = ap (begins_scope n.place) (sym (ap innermost r.path ∙ innermost-push m.path (as_ancestor m))) ∙ is in
       let h = has_condition bytes m checked r.within (and_first _ _ begins) in
-      let child : Placed = record { place = m.place + length m.op; op = h.op; path = m.path ++ as_ancestor m ∷ []; children = h.children } in
+      let child : Node = record { place = m.place + length m.op; op = h.op; path = m.path ++ as_ancestor m ∷ []; children = h.children } in
       let same : n ≡ child = one_place bytes n child checked within h.within (eqb-true n.place (m.place + length m.op) (and_second _ _ begins)) in
-      ap (λ (p : Placed). is_operator (number p.op)) same ∙ h.operator
+      ap (λ (p : Node). is_operator (number p.op)) same ∙ h.operator
 ]
 
 -- and of one that wants a VALUE, a VALUE
-pub is_value_there : (bytes : List ℕ) (n : Placed) → IsChecked bytes → Contains (nodes_of bytes) n → begins_with_value n.place (parent n) ≡ true → number n.op ≡ VALUE
+pub is_value_there : (bytes : List ℕ) (n : Node) → IsChecked bytes → Contains (nodes_of bytes) n → begins_with_value n.place (parent n) ≡ true → number n.op ≡ VALUE
 is_value_there bytes n checked within is = elim (around_it bytes n checked within) [
   | inl bare ↦ absurd (false≢true (ap (λ (l : List Ancestor). begins_with_value n.place (innermost l)) (sym bare) ∙ is))
   | inr r ↦
       let m = r.outer in
       let begins : wants_value m.op && (n.place == m.place + length m.op) ≡ true = ap (begins_with_value n.place) (sym (ap innermost r.path ∙ innermost-push m.path (as_ancestor m))) ∙ is in
       let h = has_value bytes m checked r.within (and_first _ _ begins) in
-      let child : Placed = record { place = m.place + length m.op; op = h.op; path = m.path ++ as_ancestor m ∷ []; children = h.children } in
+      let child : Node = record { place = m.place + length m.op; op = h.op; path = m.path ++ as_ancestor m ∷ []; children = h.children } in
       let same : n ≡ child = one_place bytes n child checked within h.within (eqb-true n.place (m.place + length m.op) (and_second _ _ begins)) in
-      ap (λ (p : Placed). number p.op) same ∙ h.is_value
+      ap (λ (p : Node). number p.op) same ∙ h.is_value
 ]
 
 -- what is neither is not wanted
-pub not_wanted : (bytes : List ℕ) (n : Placed) → IsChecked bytes → Contains (nodes_of bytes) n → is_operator (number n.op) ≡ false → eqb (number n.op) VALUE ≡ false → is_wanted n ≡ false
+pub not_wanted : (bytes : List ℕ) (n : Node) → IsChecked bytes → Contains (nodes_of bytes) n → is_operator (number n.op) ≡ false → eqb (number n.op) VALUE ≡ false → is_wanted n ≡ false
 not_wanted bytes n checked within other plain = elim (cases_Bool (is_condition n)) [
   | inl is ↦ absurd (false≢true (sym other ∙ is_operator_there bytes n checked within is))
   | inr no_condition ↦ elim (cases_Bool (begins_with_value n.place (parent n))) [
@@ -105,7 +105,7 @@ placed root wanted true r c e = refl
 placed root wanted false r c e = let bad : true ≡ false = rw (r, c) at e in absurd (true≢false bad)
 
 -- the form set alone is in no scope
-pub no_root : (bytes : List ℕ) (n : Placed) → IsChecked bytes → Contains (nodes_of bytes) n → eqb (number n.op) FORM_SET ≡ false → is_root n ≡ false
+pub no_root : (bytes : List ℕ) (n : Node) → IsChecked bytes → Contains (nodes_of bytes) n → eqb (number n.op) FORM_SET ≡ false → is_root n ≡ false
 no_root bytes n checked within other = elim (cases_Bool (is_root n)) [
   | inr e ↦ e
   | inl root ↦ elim (cases_Bool (n.place == 4)) [
@@ -114,11 +114,11 @@ no_root bytes n checked within other = elim (cases_Bool (is_root n)) [
   ]
 ]
 
-pub held : (bytes : List ℕ) (n : Placed) → IsChecked bytes → Contains (nodes_of bytes) n → is_wanted n ≡ false → is_root n ≡ false → admits (class_around n.path) (number n.op) ≡ true
+pub held : (bytes : List ℕ) (n : Node) → IsChecked bytes → Contains (nodes_of bytes) n → is_wanted n ≡ false → is_root n ≡ false → admits (class_around n.path) (number n.op) ≡ true
 held bytes n checked within other root = placed (is_root n) (is_wanted n) _ root other (no_fault bytes n Misplaced checked within)
 
 -- a node of this number is held where it stands
-held_as : (bytes : List ℕ) (n : Placed) (code : ℕ) → IsChecked bytes → Contains (nodes_of bytes) n → number n.op ≡ code → is_operator code ≡ false → eqb code VALUE ≡ false → is_root n ≡ false → admits (class_around n.path) code ≡ true
+held_as : (bytes : List ℕ) (n : Node) (code : ℕ) → IsChecked bytes → Contains (nodes_of bytes) n → number n.op ≡ code → is_operator code ≡ false → eqb code VALUE ≡ false → is_root n ≡ false → admits (class_around n.path) code ≡ true
 held_as bytes n code checked within is other plain root =
     ap (admits (class_around n.path)) (sym is) ∙ held bytes n checked within (not_wanted bytes n checked within (ap is_operator is ∙ other) (ap (λ (k : ℕ). eqb k VALUE) is ∙ plain)) root
 
@@ -166,7 +166,7 @@ past path before a forms e form rule h = record {
 }
 
 -- in a form set and its guards there is no form
-in_form_set : (bytes : List ℕ) (k : ℕ) (n : Placed) → IsChecked bytes → Contains (nodes_of bytes) n → length n.path ≤ k → class_around n.path ≡ OfFormSet → HasForms n.path []
+in_form_set : (bytes : List ℕ) (k : ℕ) (n : Node) → IsChecked bytes → Contains (nodes_of bytes) n → length n.path ≤ k → class_around n.path ≡ OfFormSet → HasForms n.path []
 in_form_set bytes zero n checked within le e = elim (around_it bytes n checked within) [
   | inl bare ↦ subst (λ (l : List Ancestor). HasForms l []) (sym bare) has_none
   | inr r ↦ absurd (nothing_around n.path r.outer.path (as_ancestor r.outer) le r.path)
@@ -193,22 +193,22 @@ in_form_set bytes (suc k) n checked within le e = elim (around_it bytes n checke
 ]
 
 -- around a form there is none
-around_form : (bytes : List ℕ) (n : Placed) → IsChecked bytes → Contains (nodes_of bytes) n → number n.op ≡ FORM → HasForms n.path []
+around_form : (bytes : List ℕ) (n : Node) → IsChecked bytes → Contains (nodes_of bytes) n → number n.op ≡ FORM → HasForms n.path []
 around_form bytes n checked within form =
     let root = no_root bytes n checked within (number_other (number n.op) FORM FORM_SET form refl) in
     in_form_set bytes (length n.path) n checked within (omega arith) (holds_form (class_around n.path) (held_as bytes n FORM checked within form no_operators.1 refl root))
 
-pub no_form_around : (bytes : List ℕ) (n : Placed) → IsChecked bytes → Contains (nodes_of bytes) n → number n.op ≡ FORM → forms_among n.path ≡ []
+pub no_form_around : (bytes : List ℕ) (n : Node) → IsChecked bytes → Contains (nodes_of bytes) n → number n.op ≡ FORM → forms_among n.path ≡ []
 no_form_around bytes n checked within form = (around_form bytes n checked within form).forms_are
 
 -- a subtitle stands where statements do
-pub around_subtitle : (bytes : List ℕ) (n : Placed) → IsChecked bytes → Contains (nodes_of bytes) n → number n.op ≡ SUBTITLE → class_around n.path ≡ OfForm
+pub around_subtitle : (bytes : List ℕ) (n : Node) → IsChecked bytes → Contains (nodes_of bytes) n → number n.op ≡ SUBTITLE → class_around n.path ≡ OfForm
 around_subtitle bytes n checked within subtitle =
     let root = no_root bytes n checked within (number_other (number n.op) SUBTITLE FORM_SET subtitle refl) in
     holds_subtitle (class_around n.path) (held_as bytes n SUBTITLE checked within subtitle no_operators.3 refl root)
 
 -- in a form, and in the subtitles and guards in it, there is this form
-in_form : (bytes : List ℕ) (k : ℕ) (n : Placed) → IsChecked bytes → Contains (nodes_of bytes) n → length n.path ≤ k → class_around n.path ≡ OfForm → (form : Ancestor) × HasForms n.path (form ∷ [])
+in_form : (bytes : List ℕ) (k : ℕ) (n : Node) → IsChecked bytes → Contains (nodes_of bytes) n → length n.path ≤ k → class_around n.path ≡ OfForm → (form : Ancestor) × HasForms n.path (form ∷ [])
 in_form bytes zero n checked within le e = elim (around_it bytes n checked within) [
   | inl bare ↦ let bad : OfNothing ≡ OfForm = ap class_around (sym bare) ∙ e in absurd cc
   | inr r ↦ absurd (nothing_around n.path r.outer.path (as_ancestor r.outer) le r.path)
@@ -248,7 +248,7 @@ wants_of_rule : wants_expression RULE ≡ true
 wants_of_rule = refl
 
 -- beside the expression there is nothing
-nothing_beside : (bytes : List ℕ) (n : Placed) (op : List ℕ) (inner rest : Forest) → IsChecked bytes → Contains (nodes_of bytes) n → is_rule n ≡ true → n.children ≡ node op inner rest → rest ≡ none
+nothing_beside : (bytes : List ℕ) (n : Node) (op : List ℕ) (inner rest : Forest) → IsChecked bytes → Contains (nodes_of bytes) n → is_rule n ≡ true → n.children ≡ node op inner rest → rest ≡ none
 nothing_beside bytes n op inner none checked within is e = refl
 nothing_beside bytes n op inner (node next its more) checked within is e =
     let rule : number n.op ≡ RULE = eqb-true (number n.op) RULE is in
@@ -256,8 +256,8 @@ nothing_beside bytes n op inner (node next its more) checked within is e =
     let from : ℕ = n.place + length n.op in
     let entered = n.path ++ a ∷ [] in
     let behind : ℕ = from + length (flat (node op inner none)) in
-    let m : Placed = record { place = behind; op = next; path = entered; children = its } in
-    let first_child : Placed = record { place = from; op = op; path = entered; children = inner } in
+    let m : Node = record { place = behind; op = next; path = entered; children = its } in
+    let first_child : Node = record { place = from; op = op; path = entered; children = inner } in
     let below_it : Contains (nodes_at from entered (node op inner (node next its more))) m =
     further first_child _ m (Contains-append_right (nodes_at (from + length op) (entered ++ as_ancestor first_child ∷ []) inner) (nodes_at behind entered (node next its more)) m (0, omega arith, refl)) in
     let there : Contains (nodes_of bytes) m = below_within (tree_of bytes) 4 [] n m within (subst (λ (f : Forest). Contains (nodes_at from entered f) m) (sym e) below_it) in
@@ -275,7 +275,7 @@ nothing_beside bytes n op inner (node next its more) checked within is e =
     let h = placed (is_root m) (is_wanted m) _ root no_start (no_fault bytes m Misplaced checked there) in
     absurd (false≢true (ap (λ (c : Class). admits c (number next)) (sym class) ∙ h))
 
-pub rule_fact : (bytes : List ℕ) (n : Placed) → IsChecked bytes → Contains (nodes_of bytes) n → is_rule n ≡ true → IsRuleNode n
+pub rule_fact : (bytes : List ℕ) (n : Node) → IsChecked bytes → Contains (nodes_of bytes) n → is_rule n ≡ true → IsRuleNode n
 rule_fact bytes n checked within is =
     let rule : number n.op ≡ RULE = eqb-true (number n.op) RULE is in
     let root = no_root bytes n checked within (number_other (number n.op) RULE FORM_SET rule refl) in

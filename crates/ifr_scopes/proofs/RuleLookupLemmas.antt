@@ -3,7 +3,7 @@ use Rattle.std.proofs.Common.{◌≡◌, ℕ, ◌≤◌, true, Option, Some, Non
 use Rattle.std.specs.Prelude.{Contains, is_some, option_map}
 use Rattle.std.specs.List.{find}
 use Rattle.std.proofs.lemmas.Bool.{cases_Bool}
-use Rattle.ifr_opcodes.specs.Forest.{Placed}
+use Rattle.ifr_opcodes.specs.Forest.{Node}
 use Rattle.ifr_opcodes.specs.Reading.{tree_of}
 use Rattle.ifr_expr.specs.Meaning.{names}
 use Rattle.ifr_expr.specs.code.Rules.{named}
@@ -20,16 +20,16 @@ use Rattle.ifr_scopes.proofs.RuleOrderLemmas.{rule_there}
 use Rattle.ifr_scopes.proofs.ViewLemmas.{further, node_in_place}
 
 -- the node of the rule that a reference names
-abbrev pub named_node : List Placed → ℕ → ℕ → Option Placed
+abbrev pub named_node : List Node → ℕ → ℕ → Option Node
 named_node ns id place = find (λ n. names id place (as_rule n)) ns
 
-record Names (ns : List Placed) (id place : ℕ) (kept : KeptRule) : Type 0 where
-  node : Placed
+record Names (ns : List Node) (id place : ℕ) (kept : KeptRule) : Type 0 where
+  node : Node
   within : Contains ns node
   same : kept.place ≡ node.place
   is : named_node ns id place ≡ Some node
 
-its_names : (ns : List Placed) (id place : ℕ) (kept : KeptRule) → Some kept ≡ kept_named ns id place → Names ns id place kept
+its_names : (ns : List Node) (id place : ℕ) (kept : KeptRule) → Some kept ≡ kept_named ns id place → Names ns id place kept
 its_names [] id place kept e = absurd cc
 its_names (n ∷ earlier) id place kept e = elim (cases_Bool (names id place (as_rule n))) [
   | inl here ↦
@@ -55,10 +55,10 @@ found_rule bytes id place kept checked e =
     record {
       there = ap (has_node bytes) k.same ∙ ap is_some (is_found bytes (tree_of bytes) n checked.spelled of_package.0);
       rule = ap is_rule same ∙ of_package.1;
-      is = k.is ∙ ap (λ (m : Placed). Some m) (sym same);
+      is = k.is ∙ ap (λ (m : Node). Some m) (sym same);
     }
 
-pub no_rule_named : (ns : List Placed) (id place : ℕ) → None ≡ kept_named ns id place → named_node ns id place ≡ None
+pub no_rule_named : (ns : List Node) (id place : ℕ) → None ≡ kept_named ns id place → named_node ns id place ≡ None
 no_rule_named [] id place e = refl
 no_rule_named (n ∷ earlier) id place e = elim (cases_Bool (names id place (as_rule n))) [
   | inl here ↦ let bad : None ≡ Some (kept_rule earlier n) = rw here at e in absurd cc
@@ -66,19 +66,19 @@ no_rule_named (n ∷ earlier) id place e = elim (cases_Bool (names id place (as_
 ]
 
 -- it is the rule of that node
-named_among : (ns : List Placed) (id place : ℕ) → named (map as_rule ns) id place ≡ option_map as_rule (named_node ns id place)
+named_among : (ns : List Node) (id place : ℕ) → named (map as_rule ns) id place ≡ option_map as_rule (named_node ns id place)
 named_among [] id place = refl
 named_among (n ∷ earlier) id place = elim (cases_Bool (names id place (as_rule n))) [
   | inl here ↦ rw here refl
   | inr other ↦ rw other (named_among earlier id place)
 ]
 
-pub named_none : (ns : List Placed) (id place : ℕ) → named_node ns id place ≡ None → named (map as_rule ns) id place ≡ None
+pub named_none : (ns : List Node) (id place : ℕ) → named_node ns id place ≡ None → named (map as_rule ns) id place ≡ None
 named_none ns id place e = named_among ns id place ∙ ap (option_map as_rule) e
 
-pub named_some : (ns : List Placed) (id place : ℕ) (n : Placed) → named_node ns id place ≡ Some n → named (map as_rule ns) id place ≡ Some (as_rule n)
+pub named_some : (ns : List Node) (id place : ℕ) (n : Node) → named_node ns id place ≡ Some n → named (map as_rule ns) id place ≡ Some (as_rule n)
 named_some ns id place n e = named_among ns id place ∙ ap (option_map as_rule) e
 
 -- and ends before the reference
-pub named_before : (ns : List Placed) (id place : ℕ) (n : Placed) → named_node ns id place ≡ Some n → end_of n ≤ place
+pub named_before : (ns : List Node) (id place : ℕ) (n : Node) → named_node ns id place ≡ Some n → end_of n ≤ place
 named_before ns id place n e = (is_named id place n (found (λ m. names id place (as_rule m)) ns n e).1).ends

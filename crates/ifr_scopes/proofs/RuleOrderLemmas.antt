@@ -7,7 +7,7 @@ use Rattle.std.proofs.lemmas.List.Elements.{filter-append, Contains-append_cases
 use Rattle.std.proofs.lemmas.Bool.{cases_Bool}
 use Rattle.ifr_opcodes.specs.declared.codes.TheConstants.{FORM, RULE}
 use Rattle.ifr_opcodes.specs.Opcode.{number}
-use Rattle.ifr_opcodes.specs.Forest.{Forest, none, node, flat, AreNodes, Ancestor, Placed, nodes_at}
+use Rattle.ifr_opcodes.specs.Forest.{Forest, none, node, flat, AreNodes, Ancestor, Node, nodes_at}
 use Rattle.ifr_opcodes.specs.Reading.{tree_of}
 use Rattle.ifr_opcodes.proofs.ForestLemmas.{takes}
 use Rattle.ifr_scopes.specs.Checked.{IsChecked}
@@ -21,41 +21,41 @@ use Rattle.ifr_scopes.proofs.ViewLemmas.{further}
 -- ---- numbers that rise along a list
 
 -- Each is by a gap at least greater than the one before it, from low on, and none is greater than high.
-abbrev Rises : ℕ → (Placed → ℕ) → ℕ → ℕ → List Placed → Type 0
+abbrev Rises : ℕ → (Node → ℕ) → ℕ → ℕ → List Node → Type 0
 Rises gap f low high [] = low ≤ high
 Rises gap f low high (n ∷ ns) = (low + gap ≤ f n) × Rises gap f (f n) high ns
 
-wider : (gap : ℕ) (f : Placed → ℕ) (ns : List Placed) (low high low' high' : ℕ) → Rises gap f low high ns → low' ≤ low → high ≤ high' → Rises gap f low' high' ns
+wider : (gap : ℕ) (f : Node → ℕ) (ns : List Node) (low high low' high' : ℕ) → Rises gap f low high ns → low' ≤ low → high ≤ high' → Rises gap f low' high' ns
 wider gap f [] low high low' high' r l h = omega arith
 wider gap f (n ∷ ns) low high low' high' r l h = (omega (arith, r.0), wider gap f ns (f n) high (f n) high' r.1 (omega arith) h)
 
-Rises-append : (gap : ℕ) (f : Placed → ℕ) (xs ys : List Placed) (low mid high : ℕ) → Rises gap f low mid xs → Rises gap f mid high ys → Rises gap f low high (xs ++ ys)
+Rises-append : (gap : ℕ) (f : Node → ℕ) (xs ys : List Node) (low mid high : ℕ) → Rises gap f low mid xs → Rises gap f mid high ys → Rises gap f low high (xs ++ ys)
 Rises-append gap f [] ys low mid high u v = wider gap f ys mid high low high v u (omega arith)
 Rises-append gap f (x ∷ xs) ys low mid high u v = (u.0, Rises-append gap f xs ys (f x) mid high u.1 v)
 
 -- the same number stays
-same_rises : (f : Placed → ℕ) (ns : List Placed) (low at : ℕ) → low ≤ at → AllByRecursion (λ n. f n ≡ at) ns → Rises 0 f low at ns
+same_rises : (f : Node → ℕ) (ns : List Node) (low at : ℕ) → low ≤ at → AllByRecursion (λ n. f n ≡ at) ns → Rises 0 f low at ns
 same_rises f [] low at le all = le
 same_rises f (n ∷ ns) low at le all = (omega (arith, all.0), same_rises f ns (f n) at (omega (arith, all.0)) all.1)
 
 -- ---- the rules of some nodes
 
-none_left : (ns : List Placed) → ((n : Placed) → Contains ns n → is_rule n ≡ true → ⊥) → filter is_rule ns ≡ []
+none_left : (ns : List Node) → ((n : Node) → Contains ns n → is_rule n ≡ true → ⊥) → filter is_rule ns ≡ []
 none_left [] never = refl
 none_left (n ∷ ns) never = elim (cases_Bool (is_rule n)) [
   | inl is ↦ absurd (never n (0, omega arith, refl) is)
   | inr other ↦ rw other (none_left ns (λ m w. never m (further n ns m w)))
 ]
 
-all_left : (P : Placed → Type 0) (ns : List Placed) → ((n : Placed) → Contains ns n → is_rule n ≡ true → P n) → AllByRecursion P (filter is_rule ns)
+all_left : (P : Node → Type 0) (ns : List Node) → ((n : Node) → Contains ns n → is_rule n ≡ true → P n) → AllByRecursion P (filter is_rule ns)
 all_left P [] each = tt
 all_left P (n ∷ ns) each = elim (cases_Bool (is_rule n)) [
   | inl is ↦ rw is (each n (0, omega arith, refl) is, all_left P ns (λ m w. each m (further n ns m w)))
   | inr other ↦ rw other (all_left P ns (λ m w. each m (further n ns m w)))
 ]
 
-abbrev AreRules : List Placed → Type 0
-AreRules ns = (n : Placed) → Contains ns n → is_rule n ≡ true → IsRuleNode n
+abbrev AreRules : List Node → Type 0
+AreRules ns = (n : Node) → Contains ns n → is_rule n ≡ true → IsRuleNode n
 
 -- the nodes of a forest part by part
 record Parts (at : ℕ) (path : List Ancestor) (op : List ℕ) (children rest : Forest) : Type 0 where
@@ -65,7 +65,7 @@ record Parts (at : ℕ) (path : List Ancestor) (op : List ℕ) (children rest : 
 
 parts : (at : ℕ) (path : List Ancestor) (op : List ℕ) (children rest : Forest) → AreRules (nodes_at at path (node op children rest)) → Parts at path op children rest
 parts at path op children rest are =
-    let here : Placed = record { place = at; op = op; path = path; children = children } in
+    let here : Node = record { place = at; op = op; path = path; children = children } in
     let its = nodes_at (at + length op) (path ++ record { place = at; op = op; children = children } ∷ []) children in
     let after = nodes_at (at + length (flat (node op children none))) path rest in
     record {
@@ -98,7 +98,7 @@ ends_rise (node op children rest) at path h are =
     wider 1 end_of (filter is_rule after) behind (behind + length (flat rest)) behind (at + length (flat (node op children rest))) (ends_rise rest behind path h.1.1 p.outer) (omega arith) (omega (arith, size.1)) in
     elim (cases_Bool (eqb (number op) RULE)) [
       | inl rule ↦
-          let bare : filter is_rule (its ++ after) ≡ filter is_rule after = filter-append is_rule its after ∙ ap (λ (l : List Placed). l ++ filter is_rule after) (below_none (at + length op) path a children rule p.inner) in
+          let bare : filter is_rule (its ++ after) ≡ filter is_rule after = filter-append is_rule its after ∙ ap (λ (l : List Node). l ++ filter is_rule after) (below_none (at + length op) path a children rule p.inner) in
           rw (rule, bare) (omega (arith, size.0), outer)
       | inr other ↦
           let inner : Rises 1 end_of at behind (filter is_rule its) =
@@ -108,7 +108,7 @@ ends_rise (node op children rest) at path h are =
 
 -- ---- the ends of their forms
 
-abbrev its_end : Placed → ℕ
+abbrev its_end : Node → ℕ
 its_end n = form_end n.path
 
 forms_push : (path : List Ancestor) (a : Ancestor) (more : List Ancestor) → forms_among (path ++ (a ∷ more)) ≡ forms_among path ++ forms_among (a ∷ more)
@@ -154,17 +154,17 @@ form_ends_rise (node op children rest) at path bare h are =
 
 -- ---- the latest first
 
-descends : (xs earlier : List Placed) (low high flow fhigh : ℕ) → Rises 1 end_of low high xs → Rises 0 its_end flow fhigh xs → AllByRecursion (λ q. (end_of q ≤ low) × (its_end q ≤ flow)) earlier → Descend earlier → Descend (reverse xs ++ earlier)
+descends : (xs earlier : List Node) (low high flow fhigh : ℕ) → Rises 1 end_of low high xs → Rises 0 its_end flow fhigh xs → AllByRecursion (λ q. (end_of q ≤ low) × (its_end q ≤ flow)) earlier → Descend earlier → Descend (reverse xs ++ earlier)
 descends [] earlier low high flow fhigh u v all d = d
 descends (x ∷ xs) earlier low high flow fhigh u v all d =
-    subst Descend (sym (ap (λ (l : List Placed). l ++ earlier) (reverse-append (x ∷ []) xs) ∙ append_assoc (reverse xs) (x ∷ []) earlier))
+    subst Descend (sym (ap (λ (l : List Node). l ++ earlier) (reverse-append (x ∷ []) xs) ∙ append_assoc (reverse xs) (x ∷ []) earlier))
     (descends xs (x ∷ earlier) (end_of x) high (its_end x) fhigh u.1 v.1 ((omega arith, omega arith), up earlier all) (before earlier all, d))
   where
-    up : (qs : List Placed) → AllByRecursion (λ q. (end_of q ≤ low) × (its_end q ≤ flow)) qs → AllByRecursion (λ q. (end_of q ≤ end_of x) × (its_end q ≤ its_end x)) qs
+    up : (qs : List Node) → AllByRecursion (λ q. (end_of q ≤ low) × (its_end q ≤ flow)) qs → AllByRecursion (λ q. (end_of q ≤ end_of x) × (its_end q ≤ its_end x)) qs
     up [] all = tt
     up (q ∷ qs) all = ((omega (arith, all.0.0, u.0), omega (arith, all.0.1, v.0)), up qs all.1)
 
-    before : (qs : List Placed) → AllByRecursion (λ q. (end_of q ≤ low) × (its_end q ≤ flow)) qs → AllByRecursion (λ q. (end_of q < end_of x) × (its_end q ≤ its_end x)) qs
+    before : (qs : List Node) → AllByRecursion (λ q. (end_of q ≤ low) × (its_end q ≤ flow)) qs → AllByRecursion (λ q. (end_of q < end_of x) × (its_end q ≤ its_end x)) qs
     before [] all = tt
     before (q ∷ qs) all = ((omega (arith, all.0.0, u.0), omega (arith, all.0.1, v.0)), before qs all.1)
 
@@ -176,22 +176,22 @@ descend_of bytes checked =
     subst Descend (append-nil (rule_nodes (nodes_of bytes)))
     (descends (filter is_rule (nodes_of bytes)) [] 4 (4 + length (flat f)) 4 (4 + length (flat f)) (ends_rise f 4 [] nodes_are are) (form_ends_rise f 4 [] refl nodes_are are) tt tt)
 
-behind_descends : (xs ys : List Placed) → Descend (xs ++ ys) → Descend ys
+behind_descends : (xs ys : List Node) → Descend (xs ++ ys) → Descend ys
 behind_descends [] ys d = d
 behind_descends (x ∷ xs) ys d = behind_descends xs ys d.1
 
 -- so do those before a node
-pub descend_before : (bytes : List ℕ) (before rest : List Placed) → IsChecked bytes → before ++ rest ≡ nodes_of bytes → Descend (rule_nodes before)
+pub descend_before : (bytes : List ℕ) (before rest : List Node) → IsChecked bytes → before ++ rest ≡ nodes_of bytes → Descend (rule_nodes before)
 descend_before bytes before rest checked e =
     let all : rule_nodes (nodes_of bytes) ≡ rule_nodes rest ++ rule_nodes before = ap rule_nodes (sym e) ∙ ap reverse (filter-append is_rule before rest) ∙ reverse-append (filter is_rule before) (filter is_rule rest) in
     behind_descends (rule_nodes rest) (rule_nodes before) (subst Descend all (descend_of bytes checked))
 
 -- ---- the rules among nodes
 
-filtered : (ns : List Placed) (n : Placed) → Contains (filter is_rule ns) n → Contains ns n × (is_rule n ≡ true)
+filtered : (ns : List Node) (n : Node) → Contains (filter is_rule ns) n → Contains ns n × (is_rule n ≡ true)
 filtered [] n w = absurd (nowhere w)
   where
-    nowhere : Contains {X = Placed} [] n → ⊥
+    nowhere : Contains {X = Node} [] n → ⊥
     nowhere (k, lt, e) = omega arith
 filtered (m ∷ ns) n w = elim (cases_Bool (is_rule m)) [
   | inl is ↦ go (rw is at w) is (filtered ns n)
@@ -202,9 +202,9 @@ filtered (m ∷ ns) n w = elim (cases_Bool (is_rule m)) [
     go (zero, lt, e) is rest = ((0, omega arith, e), ap is_rule (sym e) ∙ is)
     go (suc k, lt, e) is rest = let those = rest (k, omega arith, e) in (further m ns n those.0, those.1)
 
-reversed : (xs : List Placed) (n : Placed) → Contains (reverse xs) n → Contains xs n
+reversed : (xs : List Node) (n : Node) → Contains (reverse xs) n → Contains xs n
 reversed [] n w = w
-reversed (x ∷ xs) n w = elim (Contains-append_cases (reverse xs) (x ∷ []) n (subst (λ (l : List Placed). Contains l n) (reverse-append (x ∷ []) xs) w)) [
+reversed (x ∷ xs) n w = elim (Contains-append_cases (reverse xs) (x ∷ []) n (subst (λ (l : List Node). Contains l n) (reverse-append (x ∷ []) xs) w)) [
   | inl inner ↦ further x xs n (reversed xs n inner)
   | inr last ↦ first last
 ]
@@ -213,5 +213,5 @@ reversed (x ∷ xs) n w = elim (Contains-append_cases (reverse xs) (x ∷ []) n 
     first (zero, lt, e) = (0, omega arith, e)
     first (suc k, lt, e) = absurd (omega arith)
 
-pub rule_there : (ns : List Placed) (n : Placed) → Contains (rule_nodes ns) n → Contains ns n × (is_rule n ≡ true)
+pub rule_there : (ns : List Node) (n : Node) → Contains (rule_nodes ns) n → Contains ns n × (is_rule n ≡ true)
 rule_there ns n w = filtered ns n (reversed (filter is_rule ns) n w)

@@ -3,7 +3,7 @@ use Rattle.std.proofs.Common.{◌≡◌, ℕ, zero, suc, ◌+◌, ◌-◌, ◌<�
 use Rattle.std.specs.Prelude.{Contains}
 use Rattle.std.proofs.lemmas.List.{length-take}
 use Rattle.std.specs.List.{AllByRecursion}
-use Rattle.ifr_opcodes.specs.Forest.{Forest, none, node, flat, AreNodes, Mark, Placed}
+use Rattle.ifr_opcodes.specs.Forest.{Forest, none, node, flat, AreNodes, Mark, Node}
 use Rattle.ifr_opcodes.proofs.ForestLemmas.{takes}
 use Rattle.ifr_expr.specs.Meaning.{Rule}
 use Rattle.ifr_expr.specs.code.Rules.{AreOrdered}
@@ -62,7 +62,7 @@ siblings_below to at (node op children rest) h le =
     (omega (arith, size.0, size.1), siblings_below to (at + length (flat (node op children none))) rest h.1.1 (omega (arith, size.1)))
 
 -- the opcodes of a rule's expression stand before the rule's end
-rule_below : (bytes : List ℕ) (n : Placed) → IsChecked bytes → Contains (nodes_of bytes) n → is_rule n ≡ true → Below (end_of n) (post (as_rule n).tree)
+rule_below : (bytes : List ℕ) (n : Node) → IsChecked bytes → Contains (nodes_of bytes) n → is_rule n ≡ true → Below (end_of n) (post (as_rule n).tree)
 rule_below bytes n checked within is =
     let h = holds bytes n checked within is in
     let from : ℕ = expression_place n in
@@ -72,11 +72,11 @@ rule_below bytes n checked within is =
     let below : Below (end_of n) (expression from h.op h.inner) = (omega (arith, all, size.0), siblings_below (end_of n) (from + length h.op) h.inner h.are_nodes.1.0 (omega (arith, all, size.0))) in
     subst (λ (t : Tree). Below (end_of n) (post t)) (sym h.tree) (tree_below (end_of n) (expression from h.op h.inner) (omega (arith, h.ends)) below)
 
-earlier_end : (n : Placed) (ns : List Placed) → AllByRecursion (λ q. (end_of q < end_of n) × (form_end q.path ≤ form_end n.path)) ns → AllByRecursion (λ (q : Rule). q.ends ≤ end_of n) (map as_rule ns)
+earlier_end : (n : Node) (ns : List Node) → AllByRecursion (λ q. (end_of q < end_of n) × (form_end q.path ≤ form_end n.path)) ns → AllByRecursion (λ (q : Rule). q.ends ≤ end_of n) (map as_rule ns)
 earlier_end n [] all = tt
 earlier_end n (q ∷ ns) all = (omega (arith, all.0.0), earlier_end n ns all.1)
 
-ordered : (ns : List Placed) → Descend ns → ((n : Placed) → Contains ns n → Below (end_of n) (post (as_rule n).tree)) → AreOrdered (map as_rule ns)
+ordered : (ns : List Node) → Descend ns → ((n : Node) → Contains ns n → Below (end_of n) (post (as_rule n).tree)) → AreOrdered (map as_rule ns)
 ordered [] d below = tt
 ordered (n ∷ ns) d below = (below n (0, omega arith, refl), (earlier_end n ns d.0, ordered ns d.1 (λ m w. below m (further n ns m w))))
 

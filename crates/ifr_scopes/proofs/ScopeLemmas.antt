@@ -6,7 +6,7 @@ use Rattle.std.proofs.lemmas.List.{append-nil}
 use Rattle.std.proofs.lemmas.List.Elements.{All-tail, Contains-get_or, Contains-append_cases, Contains-append_left, Contains-append_right, filter-append}
 use Rattle.ifr_opcodes.specs.Opcode.{number}
 use Rattle.ifr_opcodes.specs.Fields.{question_id}
-use Rattle.ifr_opcodes.specs.Forest.{Forest, none, node, flat, Mark, Ancestor, Placed, as_ancestor, nodes_at, SpellsForest}
+use Rattle.ifr_opcodes.specs.Forest.{Forest, none, node, flat, Mark, Ancestor, Node, as_ancestor, nodes_at, SpellsForest}
 use Rattle.ifr_opcodes.specs.code.Marks.{mark}
 use Rattle.ifr_opcodes.specs.code.Ops.{bytes_of}
 use Rattle.ifr_opcodes.specs.Reading.{tree_of}
@@ -24,29 +24,29 @@ use Rattle.ifr_scopes.proofs.PlaceLemmas.{is_found}
 use Rattle.ifr_scopes.proofs.ViewLemmas.{is_at, node_in_place, further, contains_found}
 
 -- One of these nodes, as what is around others, with those before it as its path.
-pub record IsScopeOf (ns : List Placed) (before : List Ancestor) (a : Ancestor) : Type 0 where
-  pub node : Placed
+pub record IsScopeOf (ns : List Node) (before : List Ancestor) (a : Ancestor) : Type 0 where
+  pub node : Node
   pub within : Contains ns node
   pub is : as_ancestor node ≡ a
   pub path : node.path ≡ before
 
 -- Each of a path is such a node, where these are before it.
-abbrev pub Nest : List Placed → List Ancestor → List Ancestor → Type 0
+abbrev pub Nest : List Node → List Ancestor → List Ancestor → Type 0
 Nest ns before [] = Unit {0}
 Nest ns before (a ∷ path) = IsScopeOf ns before a × Nest ns (before ++ a ∷ []) path
 
-nest-push : (ns : List Placed) (before path : List Ancestor) (a : Ancestor) → Nest ns before path → IsScopeOf ns (before ++ path) a → Nest ns before (path ++ a ∷ [])
+nest-push : (ns : List Node) (before path : List Ancestor) (a : Ancestor) → Nest ns before path → IsScopeOf ns (before ++ path) a → Nest ns before (path ++ a ∷ [])
 nest-push ns before [] a nest last = (subst (λ (l : List Ancestor). IsScopeOf ns l a) (append-nil before) last, tt)
 nest-push ns before (b ∷ path) a nest last = (nest.0, nest-push ns (before ++ b ∷ []) path a nest.1 (subst (λ (l : List Ancestor). IsScopeOf ns l a) (sym (append_assoc before (b ∷ []) path)) last))
 
 -- each node's path nests, where the forest's path does
-nests : (ns : List Placed) (f : Forest) (at : ℕ) (path : List Ancestor) → Nest ns [] path → ((m : Placed) → Contains (nodes_at at path f) m → Contains ns m)
-    → (n : Placed) → Contains (nodes_at at path f) n → Nest ns [] n.path
+nests : (ns : List Node) (f : Forest) (at : ℕ) (path : List Ancestor) → Nest ns [] path → ((m : Node) → Contains (nodes_at at path f) m → Contains ns m)
+    → (n : Node) → Contains (nodes_at at path f) n → Nest ns [] n.path
 nests ns none at path nest within n (k, lt, e) = absurd (omega arith)
-nests ns (node op children rest) at path nest within n (zero, lt, e) = subst (λ (p : Placed). Nest ns [] p.path) e nest
+nests ns (node op children rest) at path nest within n (zero, lt, e) = subst (λ (p : Node). Nest ns [] p.path) e nest
 nests ns (node op children rest) at path nest within n (suc k, lt, e) =
     let behind = at + length (flat (node op children none)) in
-    let here : Placed = record { place = at; op = op; path = path; children = children } in
+    let here : Node = record { place = at; op = op; path = path; children = children } in
     let entered = path ++ as_ancestor here ∷ [] in
     let its = nodes_at (at + length op) entered children in
     let after = nodes_at behind path rest in
@@ -56,34 +56,34 @@ nests ns (node op children rest) at path nest within n (suc k, lt, e) =
       | inr w ↦ nests ns rest behind path nest (λ m v. within m (further here (its ++ after) m (Contains-append_right its after m v))) n w
     ]
 
-pub path_nests : (bytes : List ℕ) (n : Placed) → Contains (nodes_of bytes) n → Nest (nodes_of bytes) [] n.path
+pub path_nests : (bytes : List ℕ) (n : Node) → Contains (nodes_of bytes) n → Nest (nodes_of bytes) [] n.path
 path_nests bytes n within = nests (nodes_of bytes) (tree_of bytes) 4 [] tt (λ m v. v) n within
 
 -- an ancestor is one of these nodes
-abbrev pub IsOf : List Placed → Ancestor → Type 0
-IsOf ns a = (m : Placed) × Contains ns m × (as_ancestor m ≡ a)
+abbrev pub IsOf : List Node → Ancestor → Type 0
+IsOf ns a = (m : Node) × Contains ns m × (as_ancestor m ≡ a)
 
-nested : (ns : List Placed) (around path : List Ancestor) → Nest ns around path → AllByRecursion (IsOf ns) path
+nested : (ns : List Node) (around path : List Ancestor) → Nest ns around path → AllByRecursion (IsOf ns) path
 nested ns around [] nest = tt
 nested ns around (a ∷ path) nest = ((nest.0.node, nest.0.within, nest.0.is), nested ns (around ++ a ∷ []) path nest.1)
 
-pub path_is_of : (bytes : List ℕ) (n : Placed) → Contains (nodes_of bytes) n → AllByRecursion (IsOf (nodes_of bytes)) n.path
+pub path_is_of : (bytes : List ℕ) (n : Node) → Contains (nodes_of bytes) n → AllByRecursion (IsOf (nodes_of bytes)) n.path
 path_is_of bytes n within = nested (nodes_of bytes) [] n.path (path_nests bytes n within)
 
 -- one in the middle of a path
-nest_inner : (ns : List Placed) (outer before after : List Ancestor) (a : Ancestor) → Nest ns outer (before ++ a ∷ after) → IsScopeOf ns (outer ++ before) a
+nest_inner : (ns : List Node) (outer before after : List Ancestor) (a : Ancestor) → Nest ns outer (before ++ a ∷ after) → IsScopeOf ns (outer ++ before) a
 nest_inner ns outer [] after a nest = subst (λ (l : List Ancestor). IsScopeOf ns l a) (sym (append-nil outer)) nest.0
 nest_inner ns outer (b ∷ before) after a nest = subst (λ (l : List Ancestor). IsScopeOf ns l a) (append_assoc outer (b ∷ []) before) (nest_inner ns (outer ++ b ∷ []) before after a nest.1)
 
-pub ancestor_node : (bytes : List ℕ) (n : Placed) (before after : List Ancestor) (a : Ancestor) → SpellsForest bytes (tree_of bytes) → IsNodeOf bytes n → n.path ≡ before ++ a ∷ after
-    → (m : Placed) × IsNodeOf bytes m × (as_ancestor m ≡ a) × (m.path ≡ before)
+pub ancestor_node : (bytes : List ℕ) (n : Node) (before after : List Ancestor) (a : Ancestor) → SpellsForest bytes (tree_of bytes) → IsNodeOf bytes n → n.path ≡ before ++ a ∷ after
+    → (m : Node) × IsNodeOf bytes m × (as_ancestor m ≡ a) × (m.path ≡ before)
 ancestor_node bytes n before after a s is e =
     let nest = subst (Nest (nodes_of bytes) []) e (path_nests bytes n (contains_found (nodes_of bytes) n.place n is)) in
     let scope = nest_inner (nodes_of bytes) [] before after a nest in
     (scope.node, is_found bytes (tree_of bytes) scope.node s scope.within, scope.is, scope.path)
 
 -- the one of the place that is the next after some of them
-nest_at : (ns : List Placed) (bytes : List ℕ) (before : List Ancestor) (places : List ℕ) (i : ℕ) → i < length places → Nest ns before (map (ancestor_at bytes) places)
+nest_at : (ns : List Node) (bytes : List ℕ) (before : List Ancestor) (places : List ℕ) (i : ℕ) → i < length places → Nest ns before (map (ancestor_at bytes) places)
     → IsScopeOf ns (before ++ map (ancestor_at bytes) (take i places)) (ancestor_at bytes (get_or places i 0))
 nest_at ns bytes before [] i lt nest = absurd (omega arith)
 nest_at ns bytes before (p ∷ places) zero lt nest = subst (λ (l : List Ancestor). IsScopeOf ns l (ancestor_at bytes p)) (sym (append-nil before)) nest.0
@@ -101,11 +101,11 @@ stands_so bytes before place s scope =
     record {
       there = rw here at at.there;
       is = ap as_ancestor same ∙ scope.is;
-      path = ap (λ (m : Placed). m.path) same ∙ scope.path;
+      path = ap (λ (m : Node). m.path) same ∙ scope.path;
     }
 
 -- the places on a node's path
-pub are_scopes : (bytes places : List ℕ) (n : Placed) → SpellsForest bytes (tree_of bytes) → Contains (nodes_of bytes) n → n.path ≡ map (ancestor_at bytes) places → AreScopes bytes places
+pub are_scopes : (bytes places : List ℕ) (n : Node) → SpellsForest bytes (tree_of bytes) → Contains (nodes_of bytes) n → n.path ≡ map (ancestor_at bytes) places → AreScopes bytes places
 are_scopes bytes places n s within e = λ i lt.
     stands_so bytes (take i places) (get_or places i 0) s (nest_at (nodes_of bytes) bytes [] places i lt (subst (Nest (nodes_of bytes) []) e (path_nests bytes n within)))
 
@@ -114,9 +114,9 @@ pub around_node : (bytes : List ℕ) (place : ℕ) (op places : List ℕ) → Is
 around_node bytes place op places checked at e = are_scopes bytes places (node_in bytes place) checked.spelled (is_node bytes place op checked at) e
 
 -- the path of a node goes on from that of the forest in which it stands
-pub path_inside : (f : Forest) (at : ℕ) (path : List Ancestor) (m : Placed) → Contains (nodes_at at path f) m → (inside : List Ancestor) × (m.path ≡ path ++ inside)
+pub path_inside : (f : Forest) (at : ℕ) (path : List Ancestor) (m : Node) → Contains (nodes_at at path f) m → (inside : List Ancestor) × (m.path ≡ path ++ inside)
 path_inside none at path m (k, lt, e) = absurd (omega arith)
-path_inside (node op children rest) at path m (zero, lt, e) = ([], ap (λ (p : Placed). p.path) (sym e) ∙ sym (append-nil path))
+path_inside (node op children rest) at path m (zero, lt, e) = ([], ap (λ (p : Node). p.path) (sym e) ∙ sym (append-nil path))
 path_inside (node op children rest) at path m (suc k, lt, e) =
     let here : Ancestor = record { place = at; op = op; children = children } in
     let past = at + length (flat (node op children none)) in
@@ -146,13 +146,13 @@ pub all_nodes : (bytes : List ℕ) → SpellsForest bytes (tree_of bytes) → Ar
 all_nodes bytes s = λ i d lt. is_found bytes (tree_of bytes) (get_or (nodes_of bytes) i d) s (Contains-get_or (nodes_of bytes) i d lt)
 
 -- The node that is met next is one of the package, and so are those after it.
-pub record IsMet (bytes : List ℕ) (visit : Visit) (n : Placed) (rest : List Placed) : Type 0 where
+pub record IsMet (bytes : List ℕ) (visit : Visit) (n : Node) (rest : List Node) : Type 0 where
   pub is : node_in bytes visit.op.place ≡ n
   pub stands : IsAt bytes visit.op.place (bytes_of visit.op)
   pub within : Contains (nodes_of bytes) n
   pub others : AreNodesOf bytes rest
 
-pub is_met : (bytes : List ℕ) (visit : Visit) (n : Placed) (all rest : List Placed) → SpellsForest bytes (tree_of bytes) → AreNodesOf bytes all → all ≡ n ∷ rest → view visit ≡ mark n → IsMet bytes visit n rest
+pub is_met : (bytes : List ℕ) (visit : Visit) (n : Node) (all rest : List Node) → SpellsForest bytes (tree_of bytes) → AreNodesOf bytes all → all ≡ n ∷ rest → view visit ≡ mark n → IsMet bytes visit n rest
 is_met bytes visit n all rest s are e shown =
     let each = subst (AreNodesOf bytes) e are in
     let within = contains_found (nodes_of bytes) n.place n (each 0 n (omega arith)) in

@@ -4,7 +4,7 @@ use Rattle.std.specs.Prelude.{sum}
 use Rattle.std.specs.Ordering.{ord_max, nat_cmp}
 use Rattle.std.proofs.lemmas.List.Sums.{sum_by-cons}
 use Rattle.std.proofs.lemmas.Bool.{cases_Bool, ltb-true, ltb-false}
-use Rattle.ifr_opcodes.specs.Forest.{Placed}
+use Rattle.ifr_opcodes.specs.Forest.{Node}
 use Rattle.ifr_expr.specs.Meaning.{names}
 use Rattle.ifr_expr.specs.References.{references}
 use Rattle.ifr_expr.specs.Trees.{Tree, post}
@@ -21,7 +21,7 @@ size_of None = record { depth = 0; weight = 0 }
 size_of (Some rule) = rule.size
 
 -- the size of what is named is that of what was kept
-pub named_size : (ns : List Placed) (id place : ℕ) → rule_sizes (map as_rule ns) id place ≡ size_of (kept_named ns id place)
+pub named_size : (ns : List Node) (id place : ℕ) → rule_sizes (map as_rule ns) id place ≡ size_of (kept_named ns id place)
 unfolding rule_sizes
 named_size [] id place = refl
 named_size (n ∷ earlier) id place = elim (cases_Bool (names id place (as_rule n))) [
@@ -30,19 +30,19 @@ named_size (n ∷ earlier) id place = elim (cases_Bool (names id place (as_rule 
 ]
 
 -- the greatest depth and all weights of what references name
-abbrev depths : List Placed → List RuleReference → ℕ
+abbrev depths : List Node → List RuleReference → ℕ
 depths ns rs = greatest (map (λ r. (rule_sizes (rules_among ns) r.id r.place).depth) rs)
 
-abbrev weights : List Placed → List RuleReference → ℕ
+abbrev weights : List Node → List RuleReference → ℕ
 weights ns rs = sum (map (λ r. (rule_sizes (rules_among ns) r.id r.place).weight) rs)
 
 -- A table knows what references before these add to the size of an expression.
 pub record Measures (table : RuleTable) (tree : Tree) (left : List RuleReference) (depth weight : ℕ) : Type 0 where
-  pub deep : (ns : List Placed) → AreKeptRules ns table → Descend (rule_nodes ns) → max depth (depths ns left) ≡ depths ns (references tree)
-  pub heavy : (ns : List Placed) → AreKeptRules ns table → Descend (rule_nodes ns) → weight + weights ns left ≡ length (post tree) + weights ns (references tree)
+  pub deep : (ns : List Node) → AreKeptRules ns table → Descend (rule_nodes ns) → max depth (depths ns left) ≡ depths ns (references tree)
+  pub heavy : (ns : List Node) → AreKeptRules ns table → Descend (rule_nodes ns) → weight + weights ns left ≡ length (post tree) + weights ns (references tree)
 
 pub measured : (table : RuleTable) (tree : Tree) (old left : List RuleReference) (r : RuleReference) (depth weight : ℕ) (found : Option KeptRule) → old ≡ r ∷ left
-    → ((ns : List Placed) → AreKeptRules ns table → Descend (rule_nodes ns) → found ≡ kept_named (rule_nodes ns) r.id r.place)
+    → ((ns : List Node) → AreKeptRules ns table → Descend (rule_nodes ns) → found ≡ kept_named (rule_nodes ns) r.id r.place)
     → Measures table tree old depth weight → Measures table tree left (max depth (size_of found).depth) (weight + (size_of found).weight)
 measured table tree old left r depth weight found split told m = record {
   deep = λ ns kept descend.

@@ -6,7 +6,7 @@ use Rattle.std.proofs.lemmas.Bool.{cases_Bool, false≢true}
 use Rattle.std.proofs.lemmas.List.Elements.{All-tail, Contains-get_or, filter-append}
 use Rattle.ifr_opcodes.specs.Fields.{question_id}
 use Rattle.ifr_opcodes.specs.Opcode.{number}
-use Rattle.ifr_opcodes.specs.Forest.{Ancestor, Placed, as_ancestor, below}
+use Rattle.ifr_opcodes.specs.Forest.{Ancestor, Node as Placed, as_ancestor, below}
 use Rattle.ifr_opcodes.specs.Reading.{tree_of}
 use Rattle.ifr_scopes.specs.Checked.{IsChecked}
 use Rattle.ifr_scopes.specs.code.Checked.{IsNodeOf}

@@ -3,7 +3,7 @@ use Rattle.std.proofs.Common.{◌≡◌, eqb, ℕ, zero, suc, ◌+◌, true, Opt
 use Rattle.std.specs.Prelude.{Contains, is_some}
 use Rattle.std.proofs.lemmas.List.Elements.{Contains-append_cases, Contains-append_left, Contains-append_right, Contains-get_or}
 use Rattle.std.proofs.lemmas.Bool.{cases_Bool, cond-true, cond-false}
-use Rattle.ifr_opcodes.specs.Forest.{Forest, none, node, flat, Mark, Ancestor, Placed, as_ancestor, nodes_at, below, node_at, SpellsForest}
+use Rattle.ifr_opcodes.specs.Forest.{Forest, none, node, flat, Mark, Ancestor, Node, as_ancestor, nodes_at, below, node_at, SpellsForest}
 use Rattle.ifr_opcodes.specs.code.Marks.{mark}
 use Rattle.ifr_opcodes.specs.Opcode.{IsWhole}
 use Rattle.ifr_opcodes.specs.Reading.{tree_of}
@@ -18,44 +18,44 @@ pub further : {X : Type 0} (x : X) (xs : List X) (m : X) → Contains xs m → C
 further x xs m (k, lt, e) = (suc k, omega arith, e)
 
 -- the node that is found at its place
-pub node_in_place : (bytes : List ℕ) (n : Placed) → SpellsForest bytes (tree_of bytes) → Contains (nodes_of bytes) n → node_in bytes n.place ≡ n
+pub node_in_place : (bytes : List ℕ) (n : Node) → SpellsForest bytes (tree_of bytes) → Contains (nodes_of bytes) n → node_in bytes n.place ≡ n
 unfolding node_in
 node_in_place bytes n s within = ap or_empty (is_found bytes (tree_of bytes) n s within)
 
-pub is_at : (bytes : List ℕ) (n : Placed) → SpellsForest bytes (tree_of bytes) → Contains (nodes_of bytes) n → IsAt bytes n.place n.op
+pub is_at : (bytes : List ℕ) (n : Node) → SpellsForest bytes (tree_of bytes) → Contains (nodes_of bytes) n → IsAt bytes n.place n.op
 is_at bytes n s within =
     let same = node_in_place bytes n s within in
-    record { there = ap is_some (is_found bytes (tree_of bytes) n s within); placed = ap (λ (p : Placed). p.place) same; opcode = ap (λ (p : Placed). p.op) same }
+    record { there = ap is_some (is_found bytes (tree_of bytes) n s within); placed = ap (λ (p : Node). p.place) same; opcode = ap (λ (p : Node). p.op) same }
 
-pub contains_found : (ns : List Placed) (place : ℕ) (n : Placed) → node_at ns place ≡ Some n → Contains ns n
+pub contains_found : (ns : List Node) (place : ℕ) (n : Node) → node_at ns place ≡ Some n → Contains ns n
 contains_found [] place n e = absurd cc
 contains_found (m ∷ ns) place n e = elim (cases_Bool (eqb m.place place)) [
   | inl here ↦ let same : m ≡ n = cc (sym (cond-true (eqb m.place place) (Some m) (node_at ns place) here) ∙ e) in (0, omega arith, same)
   | inr later ↦ further m ns n (contains_found ns place n (sym (cond-false (eqb m.place place) (Some m) (node_at ns place) later) ∙ e))
 ]
 
-pub some_there : (found : Option Placed) → is_some found ≡ true → (n : Placed) × (found ≡ Some n)
+pub some_there : (found : Option Node) → is_some found ≡ true → (n : Node) × (found ≡ Some n)
 some_there None e = absurd (cc)
 some_there (Some n) e = (n, refl)
 
 -- the node where one stands
 pub node_there : (bytes : List ℕ) (place : ℕ) (op : List ℕ) → SpellsForest bytes (tree_of bytes) → IsAt bytes place op
-    → (n : Placed) × (node_at (nodes_of bytes) place ≡ Some n) × Contains (nodes_of bytes) n × (node_in bytes place ≡ n)
+    → (n : Node) × (node_at (nodes_of bytes) place ≡ Some n) × Contains (nodes_of bytes) n × (node_in bytes place ≡ n)
 unfolding node_in
 node_there bytes place op s at =
     let found = some_there (node_at (nodes_of bytes) place) at.there in
     (found.0, found.1, contains_found (nodes_of bytes) place found.0 found.1, ap or_empty found.1)
 
 -- the nodes below a node are nodes of the forest
-pub below_within : (f : Forest) (at : ℕ) (path : List Ancestor) (n m : Placed) → Contains (nodes_at at path f) n → Contains (below n) m → Contains (nodes_at at path f) m
+pub below_within : (f : Forest) (at : ℕ) (path : List Ancestor) (n m : Node) → Contains (nodes_at at path f) n → Contains (below n) m → Contains (nodes_at at path f) m
 below_within none at path n m (k, lt, e) inner = absurd (omega arith)
 below_within (node op children rest) at path n m (zero, lt, e) inner =
     let behind = at + length (flat (node op children none)) in
-    let here : Placed = record { place = at; op = op; path = path; children = children } in
-    further here _ m (Contains-append_left (nodes_at (at + length op) (path ++ as_ancestor here ∷ []) children) (nodes_at behind path rest) m (subst (λ (p : Placed). Contains (below p) m) (sym e) inner))
+    let here : Node = record { place = at; op = op; path = path; children = children } in
+    further here _ m (Contains-append_left (nodes_at (at + length op) (path ++ as_ancestor here ∷ []) children) (nodes_at behind path rest) m (subst (λ (p : Node). Contains (below p) m) (sym e) inner))
 below_within (node op children rest) at path n m (suc k, lt, e) inner =
     let behind = at + length (flat (node op children none)) in
-    let here : Placed = record { place = at; op = op; path = path; children = children } in
+    let here : Node = record { place = at; op = op; path = path; children = children } in
     let entered = path ++ as_ancestor here ∷ [] in
     let its = nodes_at (at + length op) entered children in
     let after = nodes_at behind path rest in
@@ -65,29 +65,29 @@ below_within (node op children rest) at path n m (suc k, lt, e) inner =
     ])
 
 -- nodes of the package, each found at its place
-pub all_found : (bytes : List ℕ) (ns : List Placed) → SpellsForest bytes (tree_of bytes) → ((n : Placed) → Contains ns n → Contains (nodes_of bytes) n) → map (λ n. node_in bytes n.place) ns ≡ ns
+pub all_found : (bytes : List ℕ) (ns : List Node) → SpellsForest bytes (tree_of bytes) → ((n : Node) → Contains ns n → Contains (nodes_of bytes) n) → map (λ n. node_in bytes n.place) ns ≡ ns
 all_found bytes [] s within = refl
 all_found bytes (n ∷ ns) s within =
-    ap (λ (p : Placed). p ∷ map (λ n. node_in bytes n.place) ns) (node_in_place bytes n s (within n (0, omega arith, refl))) ∙ ap (λ (l : List Placed). n ∷ l) (all_found bytes ns s (λ m w. within m (further n ns m w)))
+    ap (λ (p : Node). p ∷ map (λ n. node_in bytes n.place) ns) (node_in_place bytes n s (within n (0, omega arith, refl))) ∙ ap (λ (l : List Node). n ∷ l) (all_found bytes ns s (λ m w. within m (further n ns m w)))
 
-pub are_at : (bytes : List ℕ) (ns : List Placed) → SpellsForest bytes (tree_of bytes) → ((n : Placed) → Contains ns n → Contains (nodes_of bytes) n) → AreAt bytes ns
+pub are_at : (bytes : List ℕ) (ns : List Node) → SpellsForest bytes (tree_of bytes) → ((n : Node) → Contains ns n → Contains (nodes_of bytes) n) → AreAt bytes ns
 are_at bytes ns s within = λ i d lt. is_at bytes (get_or ns i d) s (within (get_or ns i d) (Contains-get_or ns i d lt))
 
 -- ---- the nodes of a walk inside of a node
 
-contains_under : (path : List Ancestor) (ns : List Placed) (n : Placed) → Contains ns n → Contains (map (under path) ns) (under path n)
+contains_under : (path : List Ancestor) (ns : List Node) (n : Node) → Contains ns n → Contains (map (under path) ns) (under path n)
 contains_under path [] n (k, lt, e) = absurd (omega arith)
 contains_under path (m ∷ ns) n (zero, lt, e) = (0, omega arith, ap (under path) e)
 contains_under path (m ∷ ns) n (suc k, lt, e) = further (under path m) (map (under path) ns) (under path n) (contains_under path ns n (k, omega arith, e))
 
-pub all_under : (bytes : List ℕ) (path : List Ancestor) (ns : List Placed) → SpellsForest bytes (tree_of bytes) → ((n : Placed) → Contains (map (under path) ns) n → Contains (nodes_of bytes) n)
+pub all_under : (bytes : List ℕ) (path : List Ancestor) (ns : List Node) → SpellsForest bytes (tree_of bytes) → ((n : Node) → Contains (map (under path) ns) n → Contains (nodes_of bytes) n)
     → map (λ n. node_in bytes n.place) ns ≡ map (under path) ns
 all_under bytes path [] s within = refl
 all_under bytes path (n ∷ ns) s within =
-    ap (λ (p : Placed). p ∷ map (λ n. node_in bytes n.place) ns) (node_in_place bytes (under path n) s (within (under path n) (0, omega arith, refl)))
-    ∙ ap (λ (l : List Placed). under path n ∷ l) (all_under bytes path ns s (λ m w. within m (further (under path n) (map (under path) ns) m w)))
+    ap (λ (p : Node). p ∷ map (λ n. node_in bytes n.place) ns) (node_in_place bytes (under path n) s (within (under path n) (0, omega arith, refl)))
+    ∙ ap (λ (l : List Node). under path n ∷ l) (all_under bytes path ns s (λ m w. within m (further (under path n) (map (under path) ns) m w)))
 
-pub are_under : (bytes : List ℕ) (path : List Ancestor) (ns : List Placed) → SpellsForest bytes (tree_of bytes) → ((n : Placed) → Contains (map (under path) ns) n → Contains (nodes_of bytes) n) → AreAt bytes ns
+pub are_under : (bytes : List ℕ) (path : List Ancestor) (ns : List Node) → SpellsForest bytes (tree_of bytes) → ((n : Node) → Contains (map (under path) ns) n → Contains (nodes_of bytes) n) → AreAt bytes ns
 are_under bytes path ns s within = λ i d lt.
     let n = get_or ns i d in
     is_at bytes (under path n) s (within (under path n) (contains_under path ns n (Contains-get_or ns i d lt)))

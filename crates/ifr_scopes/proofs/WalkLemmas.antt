@@ -6,7 +6,7 @@ use Rattle.std.proofs.lemmas.List.Elements.{All-take, All-push}
 use Rattle.std.proofs.lemmas.Bool.{eq-eqb, ne_eqb, cases_Bool}
 use Rattle.ifr_opcodes.specs.declared.codes.TheConstants.{END}
 use Rattle.ifr_opcodes.specs.Opcode.{number, stated_length, has_scope, end, IsWhole}
-use Rattle.ifr_opcodes.specs.Forest.{Forest, none, node, opcodes, height, Mark, Ancestor, Placed, SpellsForest, as_ancestor, nodes_at, nodes, node_at, below}
+use Rattle.ifr_opcodes.specs.Forest.{Forest, none, node, opcodes, height, Mark, Ancestor, Node, SpellsForest, as_ancestor, nodes_at, nodes, node_at, below}
 use Rattle.ifr_opcodes.specs.code.Marks.{mark}
 use Rattle.ifr_opcodes.specs.code.Marks.{inside, mark_at, ancestor_at}
 use Rattle.ifr_opcodes.specs.Reading.{opcodes_in, levels, tree_of}
@@ -106,7 +106,7 @@ at_out bytes at around op more k w e n empty =
     ap (λ (p : List ℕ). scan at (map (ancestor_at bytes) p) (opcodes_in (drop at bytes))) (nil_from_length around empty) ∙ ap (scan at []) (s.now ∙ ap (λ (o : List ℕ). o ∷ s.others) (w.ends n)) ∙ scan_out at s.others
 
 -- the node that is met at a place, with its children behind its opcode
-abbrev pub node_here : List ℕ → ℕ → ℕ → List ℕ → List ℕ → Placed
+abbrev pub node_here : List ℕ → ℕ → ℕ → List ℕ → List ℕ → Node
 node_here bytes at to around op = record { place = at; op = op; path = map (ancestor_at bytes) around; children = inside op (opcodes_in (drop to bytes)) }
 
 -- at a node that opens a scope
@@ -181,7 +181,7 @@ at_nothing bytes small =
     (k, at_last bytes (length bytes) [] k (λ op more w e. let size : length (op ++ more) ≡ 0 = ap length (sym e ∙ nothing) in omega (arith, w.long, length-append op more)))
 
 -- a walk inside of a node's scope
-pub at_inner : (bytes : List ℕ) (n : Placed) → length bytes < 2 ^ 32 → StandsAt bytes n → has_scope n.op ≡ true
+pub at_inner : (bytes : List ℕ) (n : Node) → length bytes < 2 ^ 32 → StandsAt bytes n → has_scope n.op ≡ true
     → IsWalking bytes (n.place + length n.op) [] × (nodes_left bytes (n.place + length n.op) [] ≡ nodes_at (n.place + length n.op) [] n.children)
 at_inner bytes n small s scoped =
     let at = n.place + length n.op in
@@ -206,17 +206,17 @@ pub path_kept : (bytes around more : List ℕ) (depth : ℕ) → depth ≡ lengt
 path_kept bytes around more depth e = ap (map (ancestor_at bytes)) (sym (take_at around more depth (sym e)))
 
 -- the opcode at a node's place is the node's
-pub marked_node : (bytes : List ℕ) (n : Placed) → StandsAt bytes n → mark_at bytes n.place ≡ mark n
+pub marked_node : (bytes : List ℕ) (n : Node) → StandsAt bytes n → mark_at bytes n.place ≡ mark n
 marked_node bytes n s = marked_at bytes n.place n.op _ s.are_nodes.0.whole s.spelled
 
 -- where the nodes inside of the node at a place begin, or the package's end where it has no scope
 abbrev pub inner_start : List ℕ → Mark → ℕ
 inner_start bytes m = if has_scope m.op then m.place + length m.op else length bytes
 
-abbrev IsInside : List ℕ → Placed → ℕ → Type 0
+abbrev IsInside : List ℕ → Node → ℕ → Type 0
 IsInside bytes n start = IsWalking bytes start [] × (below n ≡ map (under (n.path ++ as_ancestor n ∷ [])) (nodes_left bytes start []))
 
-inside_node : (bytes : List ℕ) (n : Placed) → length bytes < 2 ^ 32 → StandsAt bytes n → IsInside bytes n (inner_start bytes (mark n))
+inside_node : (bytes : List ℕ) (n : Node) → length bytes < 2 ^ 32 → StandsAt bytes n → IsInside bytes n (inner_start bytes (mark n))
 inside_node bytes n small s =
     let path = n.path ++ as_ancestor n ∷ [] in
     elim (cases_Bool (has_scope n.op)) [
@@ -237,7 +237,7 @@ inside_node bytes n small s =
     ]
 
 -- a walk inside of the node at a place
-pub at_inside : (bytes : List ℕ) (place start : ℕ) (n : Placed) → length bytes < 2 ^ 32 → SpellsForest bytes (tree_of bytes) → node_at (nodes (tree_of bytes)) place ≡ Some n → start ≡ inner_start bytes (mark_at bytes place)
+pub at_inside : (bytes : List ℕ) (place start : ℕ) (n : Node) → length bytes < 2 ^ 32 → SpellsForest bytes (tree_of bytes) → node_at (nodes (tree_of bytes)) place ≡ Some n → start ≡ inner_start bytes (mark_at bytes place)
     → IsWalking bytes start [] × (below n ≡ map (under (n.path ++ as_ancestor n ∷ [])) (nodes_left bytes start []))
 at_inside bytes place start n small spells e is =
     let s = stands_at bytes (tree_of bytes) place n spells e in
@@ -245,12 +245,12 @@ at_inside bytes place start n small spells e is =
     subst (IsInside bytes n) (ap (inner_start bytes) (sym there) ∙ sym is) (inside_node bytes n small s)
 
 -- the opcode at a place where a node is found
-pub whole_there : (bytes : List ℕ) (place : ℕ) (n : Placed) → SpellsForest bytes (tree_of bytes) → node_at (nodes (tree_of bytes)) place ≡ Some n → IsWhole (mark_at bytes place).op
+pub whole_there : (bytes : List ℕ) (place : ℕ) (n : Node) → SpellsForest bytes (tree_of bytes) → node_at (nodes (tree_of bytes)) place ≡ Some n → IsWhole (mark_at bytes place).op
 whole_there bytes place n spells e =
     let s = stands_at bytes (tree_of bytes) place n spells e in
     let there : mark_at bytes place ≡ mark n = ap (mark_at bytes) (sym (found_place (nodes (tree_of bytes)) place n e)) ∙ marked_node bytes n s in
     subst (λ (m : Mark). IsWhole m.op) (sym there) s.are_nodes.0.whole
 
-pub some_node : (found : Option Placed) → IsSome found → (n : Placed) × (found ≡ Some n)
+pub some_node : (found : Option Node) → IsSome found → (n : Node) × (found ≡ Some n)
 some_node None h = absurd (search rules)
 some_node (Some n) h = (n, refl)

@@ -4,7 +4,7 @@ use Rattle.std.specs.List.{last_or}
 use Rattle.ifr_opcodes.specs.declared.codes.TheConstants.{FORM, RULE}
 use Rattle.ifr_opcodes.specs.Opcode.{number}
 use Rattle.ifr_opcodes.specs.Fields.{rule_id}
-use Rattle.ifr_opcodes.specs.Forest.{none, node, flat, Ancestor, Placed}
+use Rattle.ifr_opcodes.specs.Forest.{none, node, flat, Ancestor, Node}
 use Rattle.ifr_expr.specs.Meaning.{Rule, names}
 use Rattle.ifr_expr.specs.Reading.{tree_in}
 use Rattle.ifr_expr.specs.References.{references}
@@ -12,7 +12,7 @@ use Rattle.ifr_expr.specs.Trees.{Tree, post}
 use Rattle.ifr_scopes.specs.Nodes.{end_of}
 use Rattle.ifr_scopes.specs.declared.rules.RuleSize.{RuleSize}
 
-abbrev pub is_rule : Placed → Bool
+abbrev pub is_rule : Node → Bool
 is_rule n = number n.op == RULE
 
 -- the forms among ancestors
@@ -32,10 +32,10 @@ abbrev pub form_end : List Ancestor → ℕ
 form_end path = end_or_0 (last_or None (forms_among path))
 
 -- where a rule's expression stands
-abbrev pub expression_place : Placed → ℕ
+abbrev pub expression_place : Node → ℕ
 expression_place n = n.place + length n.op
 
-abbrev pub as_rule : Placed → Rule
+abbrev pub as_rule : Node → Rule
 as_rule n =
     record {
       id = rule_id n.op;
@@ -45,10 +45,10 @@ as_rule n =
     }
 
 -- the rules among nodes, the latest first
-abbrev pub rule_nodes : List Placed → List Placed
+abbrev pub rule_nodes : List Node → List Node
 rule_nodes ns = reverse (filter is_rule ns)
 
-abbrev pub rules_among : List Placed → List Rule
+abbrev pub rules_among : List Node → List Rule
 rules_among ns = map as_rule (rule_nodes ns)
 
 abbrev pub greatest : List ℕ → ℕ

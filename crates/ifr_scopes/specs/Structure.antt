@@ -8,7 +8,7 @@ use Rattle.hii_bytes.specs.declared.cause.Cause.TheVariants.{NotFormSet, AfterFo
 use Rattle.ifr_opcodes.specs.Opcode.{number, has_scope}
 use Rattle.ifr_opcodes.specs.Fields.{is_listed, is_outside, is_short}
 use Rattle.ifr_opcodes.specs.Operators.{is_operator}
-use Rattle.ifr_opcodes.specs.Forest.{Forest, none, node, Mark, Ancestor, Placed}
+use Rattle.ifr_opcodes.specs.Forest.{Forest, none, node, Mark, Ancestor, Node}
 use Rattle.ifr_opcodes.specs.declared.codes.TheConstants.{FORM_SET, VALUE}
 use Rattle.ifr_expr.specs.Faults.{IsExpressionFault}
 use Rattle.ifr_expr.specs.Trees.{expression}
@@ -17,7 +17,7 @@ use Rattle.ifr_scopes.specs.declared.table.Row.{Row}
 use Rattle.ifr_scopes.specs.declared.table.Scope.{Scope}
 use Rattle.ifr_scopes.specs.declared.table.Scope.TheVariants.{Always, Sometimes, Never, Outermost, WithValue}
 
-abbrev pub is_root : Placed → Bool
+abbrev pub is_root : Node → Bool
 is_root n = length n.path == 0
 
 -- the opcode of the innermost of a path
@@ -25,7 +25,7 @@ abbrev pub innermost : List Ancestor → Option Mark
 innermost path = option_map (λ a. record { place = a.place; op = a.op }) (last_or None path)
 
 -- the opcode in whose scope a node stands
-abbrev pub parent : Placed → Option Mark
+abbrev pub parent : Node → Option Mark
 parent n = innermost n.path
 
 -- whether something stands at a place, in the scope of an opcode, right behind the opcode
@@ -37,7 +37,7 @@ abbrev pub begins_scope : ℕ → Option Mark → Bool
 begins_scope place None = false
 begins_scope place (Some a) = wants_expression (number a.op) && stands_first place a
 
-abbrev pub is_condition : Placed → Bool
+abbrev pub is_condition : Node → Bool
 is_condition n = begins_scope n.place (parent n)
 
 -- or the VALUE with which it begins
@@ -46,7 +46,7 @@ begins_with_value place None = false
 begins_with_value place (Some a) = wants_value a.op && stands_first place a
 
 -- whether a node is what the scope around it is to begin with
-abbrev pub is_wanted : Placed → Bool
+abbrev pub is_wanted : Node → Bool
 is_wanted n = is_condition n || begins_with_value n.place (parent n)
 
 -- whether a scope is that of an operator, in which the other opcodes of its expression stand
@@ -54,7 +54,7 @@ abbrev pub is_operator_scope : Option Mark → Bool
 is_operator_scope None = false
 is_operator_scope (Some a) = is_operator (number a.op)
 
-abbrev pub is_operand : Placed → Bool
+abbrev pub is_operand : Node → Bool
 is_operand n = is_operator_scope (parent n)
 
 -- whether it is wrong that an opcode has Scope, or has none, where it stands in the scope of an operator or does not
@@ -91,7 +91,7 @@ lacks_wanted op children =
     || (wants_value op && lacks_value (first_number children))
 
 -- the rows of the table of faults
-abbrev pub has_structure_fault : Placed → Cause → Bool
+abbrev pub has_structure_fault : Node → Cause → Bool
 has_structure_fault n NotFormSet = (n.place == 4) && not (number n.op == FORM_SET)
 has_structure_fault n AfterFormSet = is_root n && not (n.place == 4)
 has_structure_fault n OpOutside = is_outside n.op
@@ -103,21 +103,21 @@ has_structure_fault n ExprShape = lacks_wanted n.op n.children
 has_structure_fault n _ = false
 
 -- the faults of the nodes, each at its place
-abbrev pub IsNodeFault : List Placed → Cause → ℕ → Type 0
-IsNodeFault ns = IsFaultOf (λ (n : Placed). n.place) has_structure_fault ns
+abbrev pub IsNodeFault : List Node → Cause → ℕ → Type 0
+IsNodeFault ns = IsFaultOf (λ (n : Node). n.place) has_structure_fault ns
 
 -- whether an expression stands at a node
-abbrev pub is_expression : Placed → Bool
+abbrev pub is_expression : Node → Bool
 is_expression n = is_condition n && is_operator (number n.op)
 
 -- the faults of the expressions
-abbrev pub IsFaultOfExpression : List Placed → Cause → ℕ → Type 0
+abbrev pub IsFaultOfExpression : List Node → Cause → ℕ → Type 0
 IsFaultOfExpression ns cause place =
-    (n : Placed) × Contains ns n × (is_expression n ≡ true)
+    (n : Node) × Contains ns n × (is_expression n ≡ true)
     × IsExpressionFault n.place (expression n.place n.op n.children) cause place
 
 -- There is no opcode at all, or a node has a fault, or an expression.
-abbrev pub IsStructureFault : List Placed → Cause → ℕ → Type 0
+abbrev pub IsStructureFault : List Node → Cause → ℕ → Type 0
 IsStructureFault ns cause place =
     ((ns ≡ []) × (cause ≡ NotFormSet) × (place ≡ 4))
     ⊎ (IsNodeFault ns cause place ⊎ IsFaultOfExpression ns cause place)

@@ -3,7 +3,7 @@
 ghost use Rattle.std.specs.Prelude.{◌≡◌, ◌==◌, ◌∷◌, [], true, nat_lt, if◌then◌else◌, List, IfOk, IfErr, IfSome, filter, length, option_map};
 ghost use Rattle.std.specs.List.{find};
 ghost use Rattle.hii_bytes.specs.Faults.{Refuses};
-ghost use Rattle.ifr_opcodes.specs.Forest.{Placed};
+ghost use Rattle.ifr_opcodes.specs.Forest.{Node as Placed};
 ghost use Rattle.ifr_opcodes.specs.Opcode.{number, has_scope};
 ghost use Rattle.ifr_expr.specs.Meaning.{names};
 ghost use Rattle.ifr_expr.specs.code.Rules.{AreOrdered};

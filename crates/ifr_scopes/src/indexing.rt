@@ -3,7 +3,7 @@
 ghost use Rattle.std.specs.Prelude.{◌≡◌, ◌<◌, ◌||◌, ◌==◌, ◌++◌, ◌∷◌, [], true, ℕ, Some, List, Option, if◌then◌else◌, filter, map, take, IfOk, OnOk};
 ghost use Rattle.std.specs.BTreeMap.{get};
 ghost use Rattle.std.specs.Ordering.{nat_cmp};
-ghost use Rattle.ifr_opcodes.specs.Forest.{Placed};
+ghost use Rattle.ifr_opcodes.specs.Forest.{Node as Placed};
 ghost use Rattle.ifr_opcodes.specs.Opcode.{number, has_scope};
 ghost use Rattle.ifr_opcodes.specs.Statements.{is_statement_number};
 ghost use Rattle.ifr_opcodes.specs.declared.codes.TheConstants as codes;

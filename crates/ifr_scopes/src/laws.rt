@@ -3,7 +3,7 @@
 ghost use Rattle.std.specs.Prelude.{◌≡◌, ℕ, ◌+◌, ◌≤◌, ◌<◌, ◌^◌, true, List, ◌∷◌, ◌++◌, length, slice_index, drop, Contains};
 ghost use Rattle.hii_bytes.specs.Faults.{HasNone};
 ghost use Rattle.hii_bytes.specs.declared.cause.Cause.{Cause};
-ghost use Rattle.ifr_opcodes.specs.Forest.{Forest, none, node, flat, AreNodes, SpellsForest, Ancestor, Placed, as_ancestor, nodes, places};
+ghost use Rattle.ifr_opcodes.specs.Forest.{Forest, none, node, flat, AreNodes, SpellsForest, Ancestor, Node, as_ancestor, nodes, places};
 ghost use Rattle.ifr_opcodes.specs.Reading.{tree_of};
 ghost use Rattle.ifr_scopes.specs.Framing.{IsFramingFault};
 ghost use Rattle.ifr_scopes.specs.code.Checked.{AreNodesOf, IsNodeOf};
@@ -38,7 +38,7 @@ pub fn places_rise()
 
 /// The bytes at the place of a node are those of its opcode and of the nodes below it.
 pub fn a_node_stands_at_its_place()
-    ensures { (bytes : List ℕ) (f : Forest) (n : Placed) → SpellsForest bytes f
+    ensures { (bytes : List ℕ) (f : Forest) (n : Node) → SpellsForest bytes f
         → Contains (nodes f) n →
         (more : List ℕ) × (drop n.place bytes ≡ flat (node n.op n.children none) ++ more)
         × AreNodes (node n.op n.children none) }
@@ -71,10 +71,10 @@ pub fn bytes_without_framing_fault_are_spelled(bytes: &[u8])
 /// What is looked up at the place of a form, a statement or an option of a package are its guards, and the LOCKED that decides
 /// for it.
 pub fn guards_and_locks_are_found()
-    ensures guards { (bytes : List ℕ) (n : Placed) → IsAccepted bytes → IsNodeOf bytes n
+    ensures guards { (bytes : List ℕ) (n : Node) → IsAccepted bytes → IsNodeOf bytes n
         → is_indexed n ≡ true →
         guards_of_indexed (nodes_of bytes) n.place ≡ guards n }
-    ensures lock { (bytes : List ℕ) (n : Placed) → IsAccepted bytes → IsNodeOf bytes n
+    ensures lock { (bytes : List ℕ) (n : Node) → IsAccepted bytes → IsNodeOf bytes n
         → is_indexed n ≡ true →
         lock_of_indexed (nodes_of bytes) n.place ≡ first_lock (nodes_of bytes) n }
 {}
@@ -92,21 +92,21 @@ pub fn a_statement_is_a_node()
 
 /// A node of an accepted package is the one at its place.
 pub fn a_node_is_that_of_its_place()
-    ensures { (bytes : List ℕ) (n : Placed) → IsAccepted bytes → Contains (nodes_of bytes) n
+    ensures { (bytes : List ℕ) (n : Node) → IsAccepted bytes → Contains (nodes_of bytes) n
         → IsNodeOf bytes n }
 {}
 
 /// What stands around a node of an accepted package is a node, and what stands around that one is what stands before it on
 /// the path.
 pub fn an_ancestor_is_a_node()
-    ensures { (bytes : List ℕ) (n : Placed) (before after : List Ancestor) (a : Ancestor)
+    ensures { (bytes : List ℕ) (n : Node) (before after : List Ancestor) (a : Ancestor)
         → IsAccepted bytes → IsNodeOf bytes n → n.path ≡ before ++ a ∷ after
-        → (m : Placed) × IsNodeOf bytes m × (as_ancestor m ≡ a) × (m.path ≡ before) }
+        → (m : Node) × IsNodeOf bytes m × (as_ancestor m ≡ a) × (m.path ≡ before) }
 {}
 
 /// The statements of a form of a package are nodes of the package.
 pub fn statements_are_nodes()
-    ensures { (bytes : List ℕ) (form : Placed) → IsAccepted bytes → IsNodeOf bytes form
+    ensures { (bytes : List ℕ) (form : Node) → IsAccepted bytes → IsNodeOf bytes form
         → AreNodesOf bytes (statements form) }
 {}
 

@@ -5,7 +5,7 @@ ghost use Rattle.std.specs.Prelude.{◌≡◌, ◌==◌, ◌&&◌, not, ℕ, Ok,
 ghost use Rattle.std.specs.List.{list_any, last_or};
 ghost use Rattle.hii_bytes.specs.Faults.{HasNone, Refuses};
 ghost use Rattle.hii_bytes.specs.code.NumberSets.{has_number};
-ghost use Rattle.ifr_opcodes.specs.Forest.{Placed};
+ghost use Rattle.ifr_opcodes.specs.Forest.{Node as Placed};
 ghost use Rattle.ifr_scopes.specs.Checked.{IsChecked};
 ghost use Rattle.ifr_scopes.specs.Nodes.{nodes_of, is_form, is_question, is_reference};
 ghost use Rattle.ifr_opcodes.specs.Fields.{form_id, question_id};

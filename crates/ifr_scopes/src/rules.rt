@@ -3,7 +3,7 @@
 ghost use Rattle.std.specs.Prelude.{◌≡◌, ◌∷◌, ◌++◌, ◌≤◌, ◌<◌, ◌==◌, ℕ, nat_le, if◌then◌else◌, true, List, [], length, reverse, OnOk};
 ghost use Rattle.std.specs.List.{find};
 ghost use Rattle.std.specs.List.Sorted.{IsNonDecreasingBy};
-ghost use Rattle.ifr_opcodes.specs.Forest.{Placed};
+ghost use Rattle.ifr_opcodes.specs.Forest.{Node as Placed};
 ghost use Rattle.ifr_expr.specs.code.Expressions as expr;
 ghost use Rattle.ifr_scopes.specs.Nodes as ends;
 ghost use Rattle.ifr_scopes.specs.code.KeptRules.{AreKeptRules, kept_named, list_of};

@@ -1,7 +1,7 @@
 //! A way through the nodes of a package.
 
 ghost use Rattle.std.specs.Prelude.{◌≡◌, ◌≤◌, ◌<◌, ◌^◌, ◌+◌, ◌++◌, ◌∷◌, [], Some, length, map, if◌then◌else◌, IfNone, IfSome, IsSome};
-ghost use Rattle.ifr_opcodes.specs.Forest.{Placed, SpellsForest, as_ancestor, nodes, node_at, below};
+ghost use Rattle.ifr_opcodes.specs.Forest.{Node, SpellsForest, as_ancestor, nodes, node_at, below};
 ghost use Rattle.ifr_opcodes.specs.code.Marks.{mark};
 ghost use Rattle.ifr_opcodes.specs.Opcode.{has_scope, IsWhole};
 ghost use Rattle.ifr_opcodes.specs.Reading.{tree_of};
@@ -66,9 +66,9 @@ impl<'a> Walk<'a> {
         requires small { length bytes.now < 2 ^ 32 }
         requires spelled { SpellsForest bytes.now (tree_of bytes.now) }
         requires there { IsSome (node_at (nodes (tree_of bytes.now)) place) }
-        ensures nodes { (n : Placed) → node_at (nodes (tree_of bytes.now)) place ≡ Some n
+        ensures nodes { (n : Node) → node_at (nodes (tree_of bytes.now)) place ≡ Some n
             → below n ≡ map (under (n.path ++ as_ancestor n ∷ [])) (left result) }
-        ensures sights { (n : Placed) → node_at (nodes (tree_of bytes.now)) place ≡ Some n
+        ensures sights { (n : Node) → node_at (nodes (tree_of bytes.now)) place ≡ Some n
             → sights result ≡ map mark (below n) }
         ensures few { length (left result) < 2 ^ 32 }
         ensures kept { result.bytes.now ≡ bytes.now }

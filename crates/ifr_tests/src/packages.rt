@@ -2,7 +2,7 @@
 
 ghost use Rattle.std.specs.Prelude.{◌≡◌, ◌≤◌, ◌<◌, ◌^◌, ◌+◌, length};
 
-use hii_bytes::{Cause, Fault};
+use hii_bytes::Fault;
 use hii_packages::{FORMS, Package};
 use ifr_scopes::Forms;
 use std::alloc::Global;
@@ -66,21 +66,4 @@ pub(crate) fn forms_of(alloc: Global, bytes: &[u8]) -> Result<Forms<'_>, Fault>
         bytes,
     };
     Forms::read(alloc, source)
-}
-
-// The cause and the place by which a package is refused.
-pub(crate) fn refusal(alloc: Global, bytes: &[u8]) -> Option<(Cause, u64)>
-    requires header { 4 ≤ length bytes.now }
-    requires small { length bytes.now < 2 ^ 24 }
-{
-    let fault = forms_of(alloc, bytes).err()?;
-    Some((fault.cause, fault.place))
-}
-
-// How a package with a form under this condition is refused.
-pub(crate) fn condition(alloc: Global, condition: &[u8]) -> Option<(Cause, u64)>
-    requires { length condition.now ≤ 256 }
-{
-    let (bytes, len) = guarded(condition);
-    refusal(alloc, &bytes[..len])
 }

@@ -1,21 +1,11 @@
-ghost use Rattle.std.specs.Prelude.{◌≡◌, ◌≤◌, length};
+ghost use Rattle.std.specs.Prelude.{◌≡◌};
 
-use crate::packages::{forms_of, in_front, refusal, with};
+use crate::packages::{forms_of, in_front, with};
 use crate::scopes::Nobody;
-use hii_bytes::Cause;
 use ifr_expr::Value;
 use ifr_opcodes::{LOCKED, VARSTORE, VARSTORE_EFI, VARSTORE_NAME_VALUE};
 use ifr_scopes::{AnyCondition, ConditionOp, StatementKind, StoreOp, Varstore};
-use std::alloc::Global;
 use std::test::*;
-
-// The cause and the place by which a form with these opcodes is refused.
-fn form(alloc: Global, opcodes: &[u8]) -> Option<(Cause, u64)>
-    requires { length opcodes.now ≤ 64 }
-{
-    let (bytes, len) = with(opcodes);
-    refusal(alloc, &bytes[..len])
-}
 
 // A ONE_OF of the id 1, of bytes, with two options, a default of a number, and one of an expression, 2 + 3.
 const CHOICE: [u8; 63] = [
@@ -30,76 +20,6 @@ const CHOICE: [u8; 63] = [
     0x29, 2, // at 91
     0x5f, 3, 9, // a GUID of no effect, at 93
 ];
-
-#[test]
-fn opcodes_where_they_may_stand(rt: HostRuntime) {
-    let alloc = rt.alloc();
-    assert_eq!(rt; form(alloc, &CHOICE), None);
-    // SUBTITLE with a TEXT in it, RESET_BUTTON
-    let statements = [
-        0x02, 0x87, 3, 0, 0, 0, 0, 0x03, 8, 3, 0, 0, 0, 4, 0, 0x29, 2, 0x0d, 8, 3, 0, 0, 0, 0, 0,
-    ];
-    assert_eq!(rt; form(alloc, &statements), None);
-    // a REF to this form, and one that leads out of the form set
-    let references = [
-        0x0f, 15, 3, 0, 0, 0, 2, 0, 0, 0, 0, 0, 0, 7, 0, 0x0f, 13, 3, 0, 0, 0, 3, 0, 0, 0, 0, 0, 0,
-    ];
-    assert_eq!(rt; form(alloc, &references), None);
-}
-
-static REFUSED: [(&[u8], Cause); 5] = [
-    (&[0x09, 7, 5, 0, 0, 0, 4], Cause::Misplaced), // an option in a form
-    (&[0x5a, 0x82, 0x46, 2, 0x29, 2], Cause::Misplaced), // a VALUE in a form
-    (&[0x1d, 0x82, 0x29, 2], Cause::ScopeBit), // what is ignored has no scope
-    (&[0x5f, 0x82, 0x29, 2], Cause::OpOutside), // a GUID with a scope is not known
-    (&[0x0b, 0x82, 0x29, 2], Cause::ScopeBit), // LOCKED has no scope
-];
-
-#[test]
-fn opcodes_where_they_may_not_stand(rt: HostRuntime) {
-    let alloc = rt.alloc();
-    let mut lost = [0x0f, 15, 3, 0, 0, 0, 2, 0, 0, 0, 0, 0, 0, 8, 0];
-    assert_eq!(rt; form(alloc, &lost), Some((Cause::NoForm, 33)));
-    lost[1] = 14;
-    lost[0] = 0x1b;
-    assert_eq!(rt; form(alloc, &lost[..14]), None);
-    let subtitle_in_text = [
-        0x03, 0x88, 3, 0, 0, 0, 4, 0, 0x02, 7, 3, 0, 0, 0, 0, 0x29, 2,
-    ];
-    let refused = form(alloc, &subtitle_in_text);
-    assert_eq!(rt; refused, Some((Cause::Misplaced, 41)));
-    assert_eq!(rt; form(alloc, &[0x0b, 2]), None);
-    for (opcodes, cause) in &REFUSED {
-        assert!(rt; opcodes.len() <= 64);
-        assert_eq!(rt; form(alloc, opcodes), Some((*cause, 33)));
-    }
-}
-
-#[test]
-fn what_questions_have(rt: HostRuntime) {
-    let alloc = rt.alloc();
-    for (at, byte, refused) in [
-        (55, 7, Some((Cause::OpOutside, 50))), // the option is a text
-        (62, 1, Some((Cause::OpSize, 57))), // an option lacks a byte of its value
-        (74, 9, Some((Cause::ScopeBit, 70))), // a default with a scope has a VALUE
-        (75, 0x47, Some((Cause::ExprShape, 70))), // TRUE in place of VALUE
-        (33, 0x07, Some((Cause::Misplaced, 50))), // a NUMERIC with options
-        (57, 0x1e, Some((Cause::ScopeBit, 57))), // a DISABLE_IF without a scope
-        (68, 0x0d, Some((Cause::OpOutside, 64))), // a default of a kind that is not defined
-    ] {
-        let mut opcodes = CHOICE;
-        opcodes[at - 33] = byte;
-        assert_eq!(rt; form(alloc, &opcodes), refused);
-    }
-    // a guard among options, and in a question without options
-    let mut guarded = [
-        0x05, 0x91, 3, 0, 0, 0, 1, 0, 1, 0, 0, 0, 0, 0x10, 0, 0, 0, 0x0a, 0x82, 0x46, 2, 0x29, 2,
-        0x29, 2,
-    ];
-    assert_eq!(rt; form(alloc, &guarded), None);
-    guarded[0] = 0x07;
-    assert_eq!(rt; form(alloc, &guarded), Some((Cause::Misplaced, 50)));
-}
 
 // CHOICE with a LOCKED in place of the GUID, at 93.
 fn locked_choice() -> ([u8; 128], usize)

@@ -1,12 +1,9 @@
-use crate::packages::{FRONT, condition, forms_of, guarded, refusal, with};
-use hii_bytes::Cause;
+use crate::packages::{forms_of, guarded, with};
 use ifr_expr::{Answers, Value};
 use std::test::*;
 
-// The question 7 answers 1, without and with an opcode behind it, which negates that.
+// The question 7 answers 1.
 const ANSWERED: [u8; 6] = [0x12, 6, 7, 0, 1, 0];
-
-const NEGATED: [u8; 10] = [0x12, 0x86, 7, 0, 1, 0, 0x17, 2, 0x29, 2];
 
 #[test]
 fn guards_in_no_question(rt: HostRuntime) -> Result<(), Fail> {
@@ -37,85 +34,6 @@ fn the_form_set_is_the_root(rt: HostRuntime) -> Result<(), Fail> {
     let form_set = forms.formset();
     assert_eq!(rt; (form_set.place(), form_set.op().title()), (4, 0x4321));
     Ok(())
-}
-
-// Three questions and a second form.
-const QUESTIONS: [u8; 50] = [
-    0x06, 14, 2, 0, 3, 0, 0, 0, 1, 0, 4, 0, 1, 2, // a question of the id 0, at 33
-    0x06, 14, 2, 0, 3, 0, 0, 0, 1, 0, 5, 0, 1, 2, // another, at 47
-    0x06, 14, 2, 0, 3, 0, 3, 0, 1, 0, 6, 0, 1, 2, // a question of the id 3, at 61
-    0x29, 2, // at 75
-    0x01, 0x86, 9, 0, 8, 0, // a form, at 77
-];
-
-fn fault(cause: Cause, place: u64) -> Option<(Cause, u64)> {
-    Some((cause, place))
-}
-
-#[test]
-fn framing(rt: HostRuntime) {
-    let alloc = rt.alloc();
-    let (bytes, len) = with(&QUESTIONS);
-    assert_eq!(rt; refusal(alloc, &bytes[..len]), None);
-    for (len, cause, place) in [
-        (4, Cause::NotFormSet, 4), // nothing
-        (5, Cause::OpLength, 4), // half of an opcode
-        (85, Cause::ScopeOpen, 85), // a scope without its END
-    ] {
-        assert_eq!(rt; refusal(alloc, &bytes[..len]), fault(cause, place));
-    }
-    let two_ends = [0, 0, 0, 0, 0x46, 2, 0x29, 2];
-    assert_eq!(rt; refusal(alloc, &two_ends), fault(Cause::EndExtra, 6));
-    // an END with Scope is no whole opcode, also where no scope is open
-    let scoped_end = [0, 0, 0, 0, 0x29, 0x82];
-    assert_eq!(rt; refusal(alloc, &scoped_end), fault(Cause::OpLength, 4));
-    // 65 scopes in each other
-    let mut deep = [0x46u8; 134];
-    for scope in 0..65 {
-        deep[5 + 2 * scope] = 0x82;
-    }
-    assert_eq!(rt; refusal(alloc, &deep), fault(Cause::TooDeep, 132));
-}
-
-#[test]
-fn expressions(rt: HostRuntime) {
-    let alloc = rt.alloc();
-    assert_eq!(rt; condition(alloc, &ANSWERED), None);
-    assert_eq!(rt; condition(alloc, &NEGATED), None);
-    let not_true = [0x46, 0x82, 0x17, 2, 0x29, 2];
-    assert_eq!(rt; condition(alloc, &not_true), None);
-    let operand_with_scope = [0x46, 0x82, 0x17, 0x82, 0x29, 2, 0x29, 2];
-    let refused = condition(alloc, &operand_with_scope);
-    assert_eq!(rt; refused, fault(Cause::ScopeBit, 31));
-    for (opcodes, cause, place) in [
-        ([0x15, 0x82, 0x47, 2, 0x29, 2], Cause::ExprShape, 29), // AND stands first, where there is no value
-        ([0x46, 0x82, 0x46, 2, 0x29, 2], Cause::ExprShape, 29), // two values are left
-        ([0x46, 0x82, 0x12, 2, 0x29, 2], Cause::OpSize, 31), // a short opcode behind is told in place of that
-        ([0x46, 0x82, 0x64, 2, 0x29, 2], Cause::OpOutside, 31), // an opcode that is not known
-        ([0x46, 2, 0x46, 2, 0x46, 2], Cause::Misplaced, 31), // a second expression
-        ([0x06, 6, 7, 0, 8, 0], Cause::ExprShape, 27), // another opcode in its place
-        ([0x64, 6, 7, 0, 8, 0], Cause::OpOutside, 29), // one that is not known
-    ] {
-        assert_eq!(rt; condition(alloc, &opcodes), fault(cause, place));
-    }
-}
-
-#[test]
-fn references(rt: HostRuntime) {
-    let alloc = rt.alloc();
-    for (at, byte, cause, place) in [
-        (53, 3, Cause::DuplicateQuestion, 61),
-        (79, 7, Cause::DuplicateForm, 77),
-    ] {
-        let mut opcodes = QUESTIONS;
-        opcodes[at - 33] = byte;
-        let (bytes, len) = with(&opcodes);
-        assert_eq!(rt; refusal(alloc, &bytes[..len]), fault(cause, place));
-    }
-    let mut no_form = FRONT;
-    no_form[27] = 0x29;
-    no_form[28] = 2;
-    assert_eq!(rt; refusal(alloc, &no_form[..29]), fault(Cause::NoForm, 4));
 }
 
 // A rule, and a guard with a reference to it on each side.

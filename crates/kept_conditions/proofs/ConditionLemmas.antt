@@ -4,7 +4,7 @@ use Rattle.std.specs.Iterator.{YieldsFirstBy}
 use Rattle.std.proofs.lemmas.Bool.{cases_Bool, cond-true, cond-false, eqb-true, and_parts, false≢true}
 use Rattle.std.proofs.lemmas.List.{drop_more, get_or-map}
 use Rattle.ifr_opcodes.specs.declared.codes.TheConstants.{RULE}
-use Rattle.ifr_opcodes.specs.Forest.{Placed}
+use Rattle.ifr_opcodes.specs.Forest.{Node}
 use Rattle.ifr_opcodes.specs.Opcode.{number}
 use Rattle.ifr_opcodes.specs.Reading.{tree_of}
 use Rattle.ifr_scopes.specs.Accepted.{IsAccepted}
@@ -41,17 +41,17 @@ yields view rest old new (Some x) y ys steps is =
 -- ---- at the place of a reader
 
 module _ (bytes : List ℕ) (accepted : IsAccepted bytes) (k : ℕ) (less : k < length (reader_nodes (nodes_of bytes))) where
-  abbrev ns : List Placed
+  abbrev ns : List Node
   ns = nodes_of bytes
 
-  abbrev n : Placed
+  abbrev n : Node
   n = reader_node ns k
 
   kept : is_rule n ≡ false → is_kept n ≡ true
   kept other = sym (reader_kind n (node_is_reader ns k less)) ∙ ap not other
 
   -- what has a condition is no rule
-  pub condition_there : (m : Placed) (place : ℕ) → place ≡ n.place → Some m ≡ conditional_at ns place → (m ≡ n) × (is_rule n ≡ false)
+  pub condition_there : (m : Node) (place : ℕ) → place ≡ n.place → Some m ≡ conditional_at ns place → (m ≡ n) × (is_rule n ≡ false)
   condition_there m place here e =
       let it = found (λ x. is_conditional x && (x.place == n.place)) ns m (sym (e ∙ ap (conditional_at ns) here)) in
       let both = and_parts (is_conditional m) (m.place == n.place) it.1 in
@@ -68,7 +68,7 @@ module _ (bytes : List ℕ) (accepted : IsAccepted bytes) (k : ℕ) (less : k < 
     | inl rule ↦ rule
     | inr other ↦
         let there : conditional_at ns n.place ≡ Some n = kind_found is_conditional ns n (is_found bytes (tree_of bytes) n accepted.checked.spelled (reader_among ns k less)) (kept_conditional n (kept other)) in
-        let bad : ◌≡◌ {A = Option Placed} None (Some n) = e ∙ there in
+        let bad : ◌≡◌ {A = Option Node} None (Some n) = e ∙ there in
         absurd cc
   ]
 
@@ -92,5 +92,5 @@ module _ (bytes : List ℕ) (accepted : IsAccepted bytes) (k : ℕ) (less : k < 
       (rule, it.0, it.1, it.2, it.3)
 
 -- the place of the reader of a number
-pub place_number : (ns : List Placed) (places : List ℕ) (k : ℕ) (d : ℕ) → places ≡ map (λ (n : Placed). n.place) (reader_nodes ns) → k < length (reader_nodes ns) → get_or places k d ≡ (reader_node ns k).place
-place_number ns places k d placed less = ap (λ l. get_or l k d) placed ∙ get_or-map (λ (n : Placed). n.place) (reader_nodes ns) k (or_empty None) d less
+pub place_number : (ns : List Node) (places : List ℕ) (k : ℕ) (d : ℕ) → places ≡ map (λ (n : Node). n.place) (reader_nodes ns) → k < length (reader_nodes ns) → get_or places k d ≡ (reader_node ns k).place
+place_number ns places k d placed less = ap (λ l. get_or l k d) placed ∙ get_or-map (λ (n : Node). n.place) (reader_nodes ns) k (or_empty None) d less

@@ -8,7 +8,7 @@ use Rattle.std.proofs.lemmas.List.Elements.{All-nil, All-push}
 use Rattle.std.proofs.lemmas.List.Folds.{list_any-append}
 use Rattle.std.proofs.lemmas.List.Sorted.{Contains-permutation, IsPermutation-reverse}
 use Rattle.ifr_opcodes.specs.declared.codes.TheConstants.{RULE_REF, THIS}
-use Rattle.ifr_opcodes.specs.Forest.{Mark, Placed}
+use Rattle.ifr_opcodes.specs.Forest.{Mark, Node}
 use Rattle.ifr_opcodes.specs.Opcode.{number}
 use Rattle.ifr_expr.specs.Dependence.{rule_ids, dependence}
 use Rattle.ifr_expr.specs.Meaning.{names}
@@ -57,7 +57,7 @@ or_assoc false b c = refl
 
 -- ---- one after the other
 
-adds_none : (ns : List Placed) (number : ℕ) (ids : List ℕ) (it : Gathered) → ((bytes : ℕ → ℕ → Bool) → some_has_byte ns bytes ids ≡ false) → Adds ns number ids it it
+adds_none : (ns : List Node) (number : ℕ) (ids : List ℕ) (it : Gathered) → ((bytes : ℕ → ℕ → Bool) → some_has_byte ns bytes ids ≡ false) → Adds ns number ids it it
 adds_none ns number ids it none = record {
   list = refl;
   sound = λ sound. sound;
@@ -65,10 +65,10 @@ adds_none ns number ids it none = record {
       sym (or_false (finds ns bytes it.readings.items it.links.items k)) ∙ ap (λ b. finds ns bytes it.readings.items it.links.items k || b) (sym (ap (λ b. number == k && b) (none bytes) ∙ and_false (number == k)));
 }
 
-pub adds_nothing : (ns : List Placed) (number : ℕ) (it : Gathered) → Adds ns number [] it it
+pub adds_nothing : (ns : List Node) (number : ℕ) (it : Gathered) → Adds ns number [] it it
 adds_nothing ns number it = adds_none ns number [] it (λ bytes. refl)
 
-pub adds_then : (ns : List Placed) (number : ℕ) (xs ys : List ℕ) (a b c : Gathered) → Adds ns number xs a b → Adds ns number ys b c → Adds ns number (xs ++ ys) a c
+pub adds_then : (ns : List Node) (number : ℕ) (xs ys : List ℕ) (a b c : Gathered) → Adds ns number xs a b → Adds ns number ys b c → Adds ns number (xs ++ ys) a c
 adds_then ns number xs ys a b c first second = record {
   list = second.list ∙ first.list;
   sound = λ sound. second.sound (first.sound sound);
@@ -85,7 +85,7 @@ adds_then ns number xs ys a b c first second = record {
 
 -- ---- a question
 
-module _ (ns : List Placed) (number id : ℕ) (old new : Gathered) (r : Reading) (inside : number < length (reader_nodes ns)) (is : field_with ns id ≡ Some (range_in r.range)) (mine : r.reader ≡ number) (small : r.range.offset < 65536)
+module _ (ns : List Node) (number id : ℕ) (old new : Gathered) (r : Reading) (inside : number < length (reader_nodes ns)) (is : field_with ns id ≡ Some (range_in r.range)) (mine : r.reader ≡ number) (small : r.range.offset < 65536)
     (list : new.list ≡ old.list) (readings : new.readings.items ≡ old.readings.items ++ r ∷ []) (links : new.links ≡ old.links) where
   read_found : (bytes : ℕ → ℕ → Bool) (k : ℕ) → reads bytes new.readings.items k ≡ (reads bytes old.readings.items k || (number == k && some_has_byte ns bytes (id ∷ [])))
   read_found bytes k =
@@ -117,20 +117,20 @@ module _ (ns : List Placed) (number id : ℕ) (old new : Gathered) (r : Reading)
 -- ---- a rule
 
 module _ (bytes : List ℕ) (accepted : IsAccepted bytes) where
-  abbrev ns : List Placed
+  abbrev ns : List Node
   ns = nodes_of bytes
 
   pub no_rule : (number id place : ℕ) (it : Gathered) → None ≡ named_node (rule_nodes ns) id place → Adds ns number (rule_ids (rules_among ns) id place) it it
   no_rule number id place it none =
       adds_none ns number (rule_ids (rules_among ns) id place) it (λ written. ap (some_has_byte ns written) (no_ids (rules_among ns) id place (named_none (rule_nodes ns) id place (sym none))))
 
-  pub named_among : (m : Placed) (id place : ℕ) → Some m ≡ named_node (rule_nodes ns) id place → Contains ns m × (is_rule m ≡ true)
+  pub named_among : (m : Node) (id place : ℕ) → Some m ≡ named_node (rule_nodes ns) id place → Contains ns m × (is_rule m ≡ true)
   named_among m id place named = rule_there ns m (found (λ n. names id place (as_rule n)) (rule_nodes ns) m (sym named)).0
 
-  pub rule_placed : (m : Placed) (id place : ℕ) → Some m ≡ named_node (rule_nodes ns) id place → Contains (map (λ (n : Placed). n.place) (reader_nodes ns)) m.place
+  pub rule_placed : (m : Node) (id place : ℕ) → Some m ≡ named_node (rule_nodes ns) id place → Contains (map (λ (n : Node). n.place) (reader_nodes ns)) m.place
   rule_placed m id place named = let it = named_among m id place named in place_among bytes accepted m it.0 (rule_reader m it.1)
 
-  module _ (number id place : ℕ) (m : Placed) (named : Some m ≡ named_node (rule_nodes ns) id place) (l : Link) (inside : number < length (reader_nodes ns)) (mine : l.user ≡ number)
+  module _ (number id place : ℕ) (m : Node) (named : Some m ≡ named_node (rule_nodes ns) id place) (l : Link) (inside : number < length (reader_nodes ns)) (mine : l.user ≡ number)
       (within : l.rule < length (reader_nodes ns)) (there : (reader_node ns l.rule).place ≡ m.place)
       (before : is_rule (reader_node ns number) ≡ true → place < end_of (reader_node ns number)) where
     is_m : reader_node ns l.rule ≡ m
@@ -200,9 +200,9 @@ pub names_before : (ends : ℕ) (ops : List Mark) → AllByRecursion (λ (op : M
 names_before ends [] below = tt
 names_before ends (op ∷ ops) below = before_joined ends (names_of op) (names_among ops) (before_one ends op below.0) (names_before ends ops below.1)
 
-ordered_at : (ns : List Placed) (n : Placed) → AreOrdered (map as_rule ns) → Contains ns n → AllByRecursion (λ (op : Mark). op.place < end_of n) (post (expression_tree n))
+ordered_at : (ns : List Node) (n : Node) → AreOrdered (map as_rule ns) → Contains ns n → AllByRecursion (λ (op : Mark). op.place < end_of n) (post (expression_tree n))
 ordered_at [] n o (k, less, e) = absurd (omega (arith, less))
-ordered_at (m ∷ ns) n o (zero, less, e) = subst (λ (x : Placed). AllByRecursion (λ (op : Mark). op.place < end_of x) (post (expression_tree x))) e o.0
+ordered_at (m ∷ ns) n o (zero, less, e) = subst (λ (x : Node). AllByRecursion (λ (op : Mark). op.place < end_of x) (post (expression_tree x))) e o.0
 ordered_at (m ∷ ns) n o (suc k, less, e) = ordered_at ns n o.1.1 (k, omega (arith, less), e)
 
 -- what a rule names stands before its end
@@ -215,7 +215,7 @@ rule_names_before bytes accepted k less rule =
     let has : Contains (rule_nodes ns) n = Contains-permutation (filter is_rule ns) (reverse (filter is_rule ns)) n (IsPermutation-reverse (filter is_rule ns)) (it.0, it.1, it.2) in
     names_before (end_of n) (post (expression_tree n)) (ordered_at (rule_nodes ns) n (are_ordered bytes accepted.checked) has)
 
-pub ids_among : (ns : List Placed) (n : Placed) (this : ℕ) → this ≡ this_in n → flat_map (ids_by (rules_among ns) this) (names_among (post (expression_tree n))) ≡ ids_read ns n
+pub ids_among : (ns : List Node) (n : Node) (this : ℕ) → this ≡ this_in n → flat_map (ids_by (rules_among ns) this) (names_among (post (expression_tree n))) ≡ ids_read ns n
 ids_among ns n this is = ids_of_names (rules_among ns) this (post (expression_tree n)) ∙ ap (λ k. dependence (rules_among ns) k (expression_tree n)) is
 
 -- ---- one reader more
@@ -239,17 +239,17 @@ upto touched count k = elim (cases_eq count k) [
 ]
 
 -- the first readers, and the next
-pub entry_more : (holding : ℕ → Bool) (ns : List Placed) (count : ℕ) → count < length (reader_nodes ns) → map (entry holding) (take (count + 1) (reader_nodes ns)) ≡ map (entry holding) (take count (reader_nodes ns)) ++ entry holding (reader_node ns count) ∷ []
+pub entry_more : (holding : ℕ → Bool) (ns : List Node) (count : ℕ) → count < length (reader_nodes ns) → map (entry holding) (take (count + 1) (reader_nodes ns)) ≡ map (entry holding) (take count (reader_nodes ns)) ++ entry holding (reader_node ns count) ∷ []
 entry_more holding ns count less = ap (map (entry holding)) (take_more (reader_nodes ns) count (or_empty None) less) ∙ map-append (entry holding) (take count (reader_nodes ns)) (reader_node ns count ∷ [])
 
-pub entry_is : (holding : ℕ → Bool) (n : Placed) (place : ℕ) (rule holds : Bool) → place ≡ n.place → rule ≡ is_rule n → holds ≡ holding place
+pub entry_is : (holding : ℕ → Bool) (n : Node) (place : ℕ) (rule holds : Bool) → place ≡ n.place → rule ≡ is_rule n → holds ≡ holding place
     → ◌≡◌ {A = Reader} record { place = place; round = 0; is_rule = rule; holds = holds } (entry holding n)
 entry_is holding n place rule holds e f h =
     ap (λ (b : Bool). record { place = place; round = 0; is_rule = rule; holds = b }) h
     ∙ ap (λ (p : ℕ). record { place = p; round = 0; is_rule = rule; holds = holding p }) e
     ∙ ap (λ (b : Bool). record { place = n.place; round = 0; is_rule = b; holds = holding n.place }) f
 
-pub none_gathered : (holding : ℕ → Bool) (ns : List Placed) (it : Gathered) → it.list.items ≡ [] → it.readings.items ≡ [] → it.links.items ≡ [] → AreGathered ns holding 0 it
+pub none_gathered : (holding : ℕ → Bool) (ns : List Node) (it : Gathered) → it.list.items ≡ [] → it.readings.items ≡ [] → it.links.items ≡ [] → AreGathered ns holding 0 it
 none_gathered holding ns it list readings links = record {
   list = list;
   sound = record {

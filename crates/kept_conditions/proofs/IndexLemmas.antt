@@ -4,7 +4,7 @@ use Rattle.std.specs.List.{list_any}
 use Rattle.std.specs.Vec.{vec_capacity}
 use Rattle.std.proofs.lemmas.Bool.{lt-ltb}
 use Rattle.std.proofs.lemmas.List.{get_or-map, length-map, take_all}
-use Rattle.ifr_opcodes.specs.Forest.{Placed, flat}
+use Rattle.ifr_opcodes.specs.Forest.{Node, flat}
 use Rattle.ifr_opcodes.specs.Reading.{tree_of}
 use Rattle.ifr_scopes.specs.Accepted.{IsAccepted}
 use Rattle.ifr_scopes.specs.code.Checked.{or_empty}
@@ -47,17 +47,17 @@ pub record IsOver (gathered : Gathered) (readers : Readers) (index : Index) : Ty
 
 module _ (bytes : List ℕ) (accepted : IsAccepted bytes) (holding : ℕ → Bool) (gathered : Gathered) (it : AreGathered (nodes_of bytes) holding (length (reader_nodes (nodes_of bytes))) gathered)
     (readers : Readers) (index : Index) (over : IsOver gathered readers index) where
-  abbrev ns : List Placed
+  abbrev ns : List Node
   ns = nodes_of bytes
 
   whole : readers.list.items ≡ map (entry holding) (reader_nodes ns)
   whole = over.list ∙ it.list ∙ ap (map (entry holding)) (take_all (length (reader_nodes ns)) (reader_nodes ns) (omega arith))
 
-  map_entry : {X : Type 0} (f : Reader → X) (g : Placed → X) → ((n : Placed) → f (entry holding n) ≡ g n) → (xs : List Placed) → map f (map (entry holding) xs) ≡ map g xs
+  map_entry : {X : Type 0} (f : Reader → X) (g : Node → X) → ((n : Node) → f (entry holding n) ≡ g n) → (xs : List Node) → map f (map (entry holding) xs) ≡ map g xs
   map_entry f g same [] = refl
   map_entry f g same (x ∷ xs) = ap (λ y. y ∷ map f (map (entry holding) xs)) (same x) ∙ ap (λ l. g x ∷ l) (map_entry f g same xs)
 
-  placed : map (λ (r : Reader). r.place) readers.list.items ≡ map (λ (n : Placed). n.place) (reader_nodes ns)
+  placed : map (λ (r : Reader). r.place) readers.list.items ≡ map (λ (n : Node). n.place) (reader_nodes ns)
   placed = ap (map (λ (r : Reader). r.place)) whole ∙ map_entry (λ r. r.place) (λ n. n.place) (λ n. refl) (reader_nodes ns)
 
   kinds : map (λ (r : Reader). r.is_rule) readers.list.items ≡ map is_rule (reader_nodes ns)

@@ -2,7 +2,7 @@
 use Rattle.std.proofs.Common.{None, ◌≡◌, ◌⊎◌, ℕ, ◌<◌, ◌≤◌, ◌&&◌, not, Bool, true, false, cond, List, length, map, count_by, refl, sym, ap, ◌∙◌, subst, inl, inr, arith}
 use Rattle.std.proofs.lemmas.Bool.{cases_Bool, cond-true, cond-false, ne_eqb, false≢true}
 use Rattle.std.proofs.lemmas.List.{get_or-map, length-map, same_lists}
-use Rattle.ifr_opcodes.specs.Forest.{Placed}
+use Rattle.ifr_opcodes.specs.Forest.{Node}
 use Rattle.ifr_scopes.specs.code.Checked.{or_empty}
 use Rattle.ifr_scopes.specs.Rules.{is_rule}
 use Rattle.hii_varstore.specs.Stores.{StoreMap}
@@ -22,8 +22,8 @@ use Rattle.kept_conditions.proofs.MeetLemmas.{met_new}
 use Rattle.kept_conditions.proofs.ReaderLemmas.{TellsOver, many, place_at, rule_at, kept_at, kept_readers, touches_kept}
 use Rattle.kept_conditions.proofs.UntouchedLemmas.{untouched}
 
-module _ (ns : List Placed) (holding : ℕ → Bool) (written : ℕ → ℕ → Bool) (old new : Readers) (count : ℕ)
-    (placed : map (λ (r : Reader). r.place) old.list.items ≡ map (λ (n : Placed). n.place) (reader_nodes ns)) (kinds : map (λ (r : Reader). r.is_rule) old.list.items ≡ map is_rule (reader_nodes ns))
+module _ (ns : List Node) (holding : ℕ → Bool) (written : ℕ → ℕ → Bool) (old new : Readers) (count : ℕ)
+    (placed : map (λ (r : Reader). r.place) old.list.items ≡ map (λ (n : Node). n.place) (reader_nodes ns)) (kinds : map (λ (r : Reader). r.is_rule) old.list.items ≡ map is_rule (reader_nodes ns))
     (before : AreBefore old.round old.list.items) (goes : Goes holding old new count)
     (touched : (k : ℕ) → k < length old.list.items → was_met new k ≡ is_touched ns written k) where
   abbrev was : ℕ → Reader
@@ -73,7 +73,7 @@ module _ (ns : List Placed) (holding : ℕ → Bool) (written : ℕ → ℕ → 
       let within' : k < length old.list.items = subst (λ n. k < n) goes.size within in
       get_or-map f new.list.items k no_reader d within ∙ same k within' ∙ sym (get_or-map f old.list.items k no_reader d within'))
 
-  pub places_after : map (λ (r : Reader). r.place) new.list.items ≡ map (λ (n : Placed). n.place) (reader_nodes ns)
+  pub places_after : map (λ (r : Reader). r.place) new.list.items ≡ map (λ (n : Node). n.place) (reader_nodes ns)
   places_after = same_of (λ r. r.place) place_kept ∙ placed
 
   pub kinds_after : map (λ (r : Reader). r.is_rule) new.list.items ≡ map is_rule (reader_nodes ns)

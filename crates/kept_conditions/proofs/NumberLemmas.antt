@@ -6,7 +6,7 @@ use Rattle.std.proofs.lemmas.Bool.{cases_Bool, cases_lt, cond-true, cond-false}
 use Rattle.std.proofs.lemmas.List.{get_or-map, length-map, get_or_default}
 use Rattle.std.proofs.lemmas.List.Elements.{All-filter, All-contains_itself}
 use Rattle.std.proofs.lemmas.List.Sorted.{searched}
-use Rattle.ifr_opcodes.specs.Forest.{Placed, flat}
+use Rattle.ifr_opcodes.specs.Forest.{Node, flat}
 use Rattle.ifr_opcodes.specs.Reading.{tree_of}
 use Rattle.ifr_scopes.specs.Accepted.{IsAccepted}
 use Rattle.ifr_scopes.specs.code.Checked.{or_empty, node_in}
@@ -52,37 +52,37 @@ among p (y ∷ xs) x d (suc k, less, e) takes =
           (later.0, subst (λ l. later.0 < length l) (sym here) later.1, ap (λ l. get_or l later.0 d) here ∙ later.2)
     ]
 
-pub reader_among : (ns : List Placed) (k : ℕ) → k < length (reader_nodes ns) → Contains ns (reader_node ns k)
+pub reader_among : (ns : List Node) (k : ℕ) → k < length (reader_nodes ns) → Contains ns (reader_node ns k)
 reader_among ns k less = All-filter is_reader (Contains ns) ns (All-contains_itself ns) k (or_empty None) less
 
 -- ---- the readers of a package
 
 module _ (bytes : List ℕ) (accepted : IsAccepted bytes) where
-  abbrev ns : List Placed
+  abbrev ns : List Node
   ns = nodes_of bytes
 
   abbrev places : List ℕ
-  places = map (λ (n : Placed). n.place) (reader_nodes ns)
+  places = map (λ (n : Node). n.place) (reader_nodes ns)
 
   rise : Ascend 4 places
   rise = places_ascend is_reader 4 ns (rising ns 4 (4 + length (flat (tree_of bytes))) (nodes_within (tree_of bytes) 4 [] accepted.checked.spelled.are_nodes))
 
   place_of : (k : ℕ) → k < length (reader_nodes ns) → get_or places k 0 ≡ (reader_node ns k).place
-  place_of k less = get_or-map (λ (n : Placed). n.place) (reader_nodes ns) k (or_empty None) 0 less
+  place_of k less = get_or-map (λ (n : Node). n.place) (reader_nodes ns) k (or_empty None) 0 less
 
   long : length places ≡ length (reader_nodes ns)
-  long = length-map (reader_nodes ns) (λ (n : Placed). n.place)
+  long = length-map (reader_nodes ns) (λ (n : Node). n.place)
 
   -- there is but one node at a place
-  pub reader_is : (m : Placed) (k : ℕ) → Contains ns m → k < length (reader_nodes ns) → (reader_node ns k).place ≡ m.place → reader_node ns k ≡ m
+  pub reader_is : (m : Node) (k : ℕ) → Contains ns m → k < length (reader_nodes ns) → (reader_node ns k).place ≡ m.place → reader_node ns k ≡ m
   reader_is m k within less same =
       sym (node_in_place bytes (reader_node ns k) accepted.checked.spelled (reader_among ns k less))
       ∙ ap (node_in bytes) same ∙ node_in_place bytes m accepted.checked.spelled within
 
-  pub place_among : (m : Placed) → Contains ns m → is_reader m ≡ true → Contains places m.place
+  pub place_among : (m : Node) → Contains ns m → is_reader m ≡ true → Contains places m.place
   place_among m within reads =
       let it = among is_reader ns m (or_empty None) within reads in
-      (it.0, subst (λ n. it.0 < n) (sym long) it.1, get_or-map (λ (n : Placed). n.place) (reader_nodes ns) it.0 (or_empty None) m.place it.1 ∙ ap (λ (n : Placed). n.place) it.2)
+      (it.0, subst (λ n. it.0 < n) (sym long) it.1, get_or-map (λ (n : Node). n.place) (reader_nodes ns) it.0 (or_empty None) m.place it.1 ∙ ap (λ (n : Node). n.place) it.2)
 
   -- a search finds the number of a reader, which is no greater than its place
   pub found_number : (place number : ℕ) → IsBinarySearchResult (λ y. nat_cmp y place) places (Ok number)

@@ -6,7 +6,7 @@ use Rattle.std.proofs.lemmas.Bool.{cases_Bool, cases_lt, eqb-true, eq-eqb, ne_eq
 use Rattle.std.proofs.lemmas.List.Sums.{sum_by-cons}
 use Rattle.std.proofs.lemmas.List.Sorted.{IsNonDecreasingBy-from_sort, sum_by-IsPermutation}
 use Rattle.ifr_opcodes.specs.declared.codes.TheConstants.{SUPPRESS_IF, GRAY_OUT_IF, NO_SUBMIT_IF}
-use Rattle.ifr_opcodes.specs.Forest.{Placed, flat}
+use Rattle.ifr_opcodes.specs.Forest.{Node, flat}
 use Rattle.ifr_opcodes.specs.Opcode.{number}
 use Rattle.ifr_opcodes.specs.Reading.{tree_of}
 use Rattle.ifr_scopes.specs.Accepted.{IsAccepted}
@@ -35,7 +35,7 @@ guarding code e = elim (cases_Bool (code == SUPPRESS_IF)) [
   | inr other ↦ ap is_guard (eqb-true code GRAY_OUT_IF (sym (ap (λ b. b || code == GRAY_OUT_IF) other) ∙ e))
 ]
 
-pub guards_kept : (ns : List Placed) → filter is_kept_guard (filter (λ n. is_guard (number n.op)) ns) ≡ filter is_kept_guard ns
+pub guards_kept : (ns : List Node) → filter is_kept_guard (filter (λ n. is_guard (number n.op)) ns) ≡ filter is_kept_guard ns
 guards_kept ns = filter_narrower is_kept_guard (λ n. is_guard (number n.op)) (λ n e. guarding (number n.op) e) ns
 
 -- ---- numbers in order are told by how often each comes
@@ -109,23 +109,23 @@ same_numbers low low' (x ∷ xs) (y ∷ ys) u w same = elim (cases_lt x y) [
 
 -- ---- the places that were sorted
 
-times_mapped : (v : ℕ) (ns : List Placed) → times v (map (λ (n : Placed). n.place) ns) ≡ count_by (λ (n : Placed). n.place == v) ns
+times_mapped : (v : ℕ) (ns : List Node) → times v (map (λ (n : Node). n.place) ns) ≡ count_by (λ (n : Node). n.place == v) ns
 times_mapped v [] = refl
 times_mapped v (n ∷ ns) =
-    times_first v n.place (map (λ (m : Placed). m.place) ns) ∙ ap (λ k. one (n.place == v) + k) (times_mapped v ns) ∙ sym (sum_by-cons (λ (m : Placed). one (m.place == v)) n ns)
+    times_first v n.place (map (λ (m : Node). m.place) ns) ∙ ap (λ k. one (n.place == v) + k) (times_mapped v ns) ∙ sym (sum_by-cons (λ (m : Node). one (m.place == v)) n ns)
 
-abbrev is_guard_or_submit : Placed → Bool
+abbrev is_guard_or_submit : Node → Bool
 is_guard_or_submit n = is_kept_guard n || is_no_submit n
 
-no_rule : (n : Placed) → is_guard_or_submit n ≡ true → is_rule n ≡ false
+no_rule : (n : Node) → is_guard_or_submit n ≡ true → is_rule n ≡ false
 no_rule n e = kept_no_rule n e
 
 pub sorted_places : (bytes places : List ℕ) → IsAccepted bytes
-    → IsPermutation (map (λ (n : Placed). n.place) (filter is_kept_guard (nodes_of bytes)) ++ map (λ (n : Placed). n.place) (filter is_no_submit (nodes_of bytes)) ++ map (λ (n : Placed). n.place) (filter is_rule (nodes_of bytes))) places → IsSorted nat_cmp places
-    → places ≡ map (λ (n : Placed). n.place) (reader_nodes (nodes_of bytes))
+    → IsPermutation (map (λ (n : Node). n.place) (filter is_kept_guard (nodes_of bytes)) ++ map (λ (n : Node). n.place) (filter is_no_submit (nodes_of bytes)) ++ map (λ (n : Node). n.place) (filter is_rule (nodes_of bytes))) places → IsSorted nat_cmp places
+    → places ≡ map (λ (n : Node). n.place) (reader_nodes (nodes_of bytes))
 sorted_places bytes places accepted same sorted =
     let ns = nodes_of bytes in
-    let place : Placed → ℕ = λ n. n.place in
+    let place : Node → ℕ = λ n. n.place in
     let gs = filter is_kept_guard ns in
     let cs = filter is_no_submit ns in
     let rs = filter is_rule ns in
@@ -144,9 +144,9 @@ sorted_places bytes places accepted same sorted =
     let guards = times_mapped v gs in
     let submits = times_mapped v cs in
     let rules = times_mapped v rs in
-    let first : count_by (λ (n : Placed). n.place == v) gs + count_by (λ (n : Placed). n.place == v) cs ≡ count_by (λ (n : Placed). n.place == v) (filter is_guard_or_submit ns) =
-    sym (count_joined (λ (n : Placed). n.place == v) gs cs) ∙ count_either (λ (n : Placed). n.place == v) is_kept_guard is_no_submit (λ n e. no_guard (number n.op) e) ns in
-    let second : count_by (λ (n : Placed). n.place == v) (filter is_guard_or_submit ns) + count_by (λ (n : Placed). n.place == v) rs ≡ count_by (λ (n : Placed). n.place == v) (reader_nodes ns) =
-    sym (count_joined (λ (n : Placed). n.place == v) (filter is_guard_or_submit ns) rs) ∙ count_either (λ (n : Placed). n.place == v) is_guard_or_submit is_rule no_rule ns in
+    let first : count_by (λ (n : Node). n.place == v) gs + count_by (λ (n : Node). n.place == v) cs ≡ count_by (λ (n : Node). n.place == v) (filter is_guard_or_submit ns) =
+    sym (count_joined (λ (n : Node). n.place == v) gs cs) ∙ count_either (λ (n : Node). n.place == v) is_kept_guard is_no_submit (λ n e. no_guard (number n.op) e) ns in
+    let second : count_by (λ (n : Node). n.place == v) (filter is_guard_or_submit ns) + count_by (λ (n : Node). n.place == v) rs ≡ count_by (λ (n : Node). n.place == v) (reader_nodes ns) =
+    sym (count_joined (λ (n : Node). n.place == v) (filter is_guard_or_submit ns) rs) ∙ count_either (λ (n : Node). n.place == v) is_guard_or_submit is_rule no_rule ns in
     let whole = times_mapped v (reader_nodes ns) in
     omega (arith, all, parts, guards, submits, rules, first, second, whole))

@@ -6,7 +6,7 @@ use Rattle.std.proofs.lemmas.List.{length-map}
 use Rattle.std.proofs.lemmas.List.Sums.{prefix_len-le-length}
 use Rattle.std.proofs.Math.Seq.{take-append_seam}
 use Rattle.hii_bytes.specs.code.FirstFaults.{Rise}
-use Rattle.ifr_opcodes.specs.Forest.{Placed}
+use Rattle.ifr_opcodes.specs.Forest.{Node}
 use Rattle.ifr_scopes.specs.Accepted.{IsAccepted}
 use Rattle.ifr_scopes.specs.Nodes.{nodes_of}
 use Rattle.ifr_scopes.proofs.IndexLemmas.{nodes_rise}
@@ -17,7 +17,7 @@ use Rattle.kept_conditions.specs.declared.readers.Reader.{Reader}
 abbrev place_of : Reader → ℕ
 place_of r = r.place
 
-abbrev node_place : Placed → ℕ
+abbrev node_place : Node → ℕ
 node_place n = n.place
 
 -- before a place further on stand no fewer
@@ -103,16 +103,16 @@ all_replaced f (p ∷ ps) = ap (λ (l : List ℕ). f p ∷ l) (all_replaced f ps
 
 -- ---- the places of nodes of a kind
 
-pub kind_rises : (bytes : List ℕ) (is : Placed → Bool) → IsAccepted bytes → Ascend 0 (map node_place (filter is (nodes_of bytes)))
+pub kind_rises : (bytes : List ℕ) (is : Node → Bool) → IsAccepted bytes → Ascend 0 (map node_place (filter is (nodes_of bytes)))
 kind_rises bytes is accepted = from_zero 4 (map node_place (filter is (nodes_of bytes))) (places_ascend is 4 (nodes_of bytes) (nodes_rise bytes accepted.checked.spelled))
 
-pub readers_of_kind : (rs : List Reader) (ns : List Placed) → map (λ (p : ℕ). passed p rs) (map node_place ns) ≡ map (λ (n : Placed). passed n.place rs) ns
+pub readers_of_kind : (rs : List Reader) (ns : List Node) → map (λ (p : ℕ). passed p rs) (map node_place ns) ≡ map (λ (n : Node). passed n.place rs) ns
 readers_of_kind rs [] = refl
 readers_of_kind rs (n ∷ ns) = ap (λ (l : List ℕ). passed n.place rs ∷ l) (readers_of_kind rs ns)
 
 -- what is left of a list that was written as a slice
-pub numbered_slice : (rs : List Reader) (ns : List Placed) (len : ℕ) (now new old : List ℕ) → length now ≡ len → now ≡ map node_place ns → new ≡ map (λ (p : ℕ). passed p rs) now
-    → take len (new ++ drop (length new) old) ≡ map (λ (n : Placed). passed n.place rs) ns
+pub numbered_slice : (rs : List Reader) (ns : List Node) (len : ℕ) (now new old : List ℕ) → length now ≡ len → now ≡ map node_place ns → new ≡ map (λ (p : ℕ). passed p rs) now
+    → take len (new ++ drop (length new) old) ≡ map (λ (n : Node). passed n.place rs) ns
 numbered_slice rs ns len now new old long places is =
     let same : length new ≡ len = ap (λ (l : List ℕ). length l) is ∙ length-map now (λ (p : ℕ). passed p rs) ∙ long in
     ap (λ (k : ℕ). take k (new ++ drop (length new) old)) (sym same) ∙ take-append_seam new (drop (length new) old) ∙ is ∙ ap (map (λ (p : ℕ). passed p rs)) places ∙ readers_of_kind rs ns

@@ -6,7 +6,7 @@ use Rattle.std.specs.Vec.{vec_capacity}
 use Rattle.std.proofs.lemmas.Bool.{cases_Bool, cond-true, cond-false, ne_eqb, false≢true}
 use Rattle.std.proofs.lemmas.List.Sums.{sum_by-cons}
 use Rattle.hii_bytes.specs.code.FirstFaults.{Rise}
-use Rattle.ifr_opcodes.specs.Forest.{Placed}
+use Rattle.ifr_opcodes.specs.Forest.{Node}
 use Rattle.ifr_scopes.specs.Nodes.{nodes_of}
 use Rattle.ifr_scopes.specs.Rules.{is_rule}
 use Rattle.hii_varstore.specs.Stores.{StoreMap}
@@ -99,10 +99,10 @@ module _ {ifr : List ℕ} {start fresh : Readers} {index : Index} (begun : Begin
   is : IsIndex ifr start index
   is = begun.is
 
-  abbrev ns : List Placed
+  abbrev ns : List Node
   ns = nodes_of ifr
 
-  fresh_placed : map (λ (r : Reader). r.place) fresh.list.items ≡ map (λ (n : Placed). n.place) (reader_nodes ns)
+  fresh_placed : map (λ (r : Reader). r.place) fresh.list.items ≡ map (λ (n : Node). n.place) (reader_nodes ns)
   fresh_placed = same_map (λ r. r.place) (λ r. refl) fresh.list.items start.list.items begun.same ∙ is.placed
 
   fresh_kinds : map (λ (r : Reader). r.is_rule) fresh.list.items ≡ map is_rule (reader_nodes ns)
@@ -207,5 +207,5 @@ module _ {ifr : List ℕ} {start fresh : Readers} {index : Index} (begun : Begin
         found = is.found;
       }
         where
-          settled_placed : map (λ (r : Reader). r.place) settled.list.items ≡ map (λ (n : Placed). n.place) (reader_nodes ns)
+          settled_placed : map (λ (r : Reader). r.place) settled.list.items ≡ map (λ (n : Node). n.place) (reader_nodes ns)
           settled_placed = places_after ns holding written fresh settled (some + others) fresh_placed fresh_kinds begun.before all_goes touched

@@ -2,7 +2,7 @@
 use Rattle.std.proofs.Common.{sym, true, subst, ◌≡◌, ℕ, ◌+◌, ◌<◌, ◌≤◌, ◌==◌, false, Some, List, [], ◌∷◌, length, map, filter, refl, ap, ◌∙◌, arith}
 use Rattle.std.specs.List.{AllByRecursion, find}
 use Rattle.std.proofs.lemmas.Bool.{cond-true, cond-false, eq-eqb, ne_eqb}
-use Rattle.ifr_opcodes.specs.Forest.{Placed, flat}
+use Rattle.ifr_opcodes.specs.Forest.{Node, flat}
 use Rattle.ifr_opcodes.specs.Reading.{tree_of}
 use Rattle.ifr_scopes.specs.Nodes.{nodes_of}
 use Rattle.ifr_scopes.proofs.PlaceLemmas.{nodes_within}
@@ -21,12 +21,12 @@ use Rattle.guard_policy.proofs.RemovedLemmas.{Ascend, places_ascend}
 use Rattle.kept_conditions.specs.Kept.{Told, KeptValues, told, told_over, kept_over, held, holds_if}
 use Rattle.kept_conditions.specs.laws.Tells.{KeptTells}
 
-module _ (ns : List Placed) (stores : StoreMap) where
-  abbrev IsTold : List Placed → Placed → Type 0
+module _ (ns : List Node) (stores : StoreMap) where
+  abbrev IsTold : List Node → Node → Type 0
   IsTold all c = held (map (told ns stores) all) c.place ≡ is_met_over ns stores c
 
   -- a node in front of others, whose place is less than theirs
-  behind : (x : Placed) (all cs : List Placed) (low : ℕ) → x.place < low → Ascend low (map (λ (n : Placed). n.place) cs) → AllByRecursion (IsTold all) cs → AllByRecursion (IsTold (x ∷ all)) cs
+  behind : (x : Node) (all cs : List Node) (low : ℕ) → x.place < low → Ascend low (map (λ (n : Node). n.place) cs) → AllByRecursion (IsTold all) cs → AllByRecursion (IsTold (x ∷ all)) cs
   behind x all [] low less r h = tt
   behind x all (c ∷ cs) low less r h =
       let first : low ≤ c.place = r.0 in
@@ -35,7 +35,7 @@ module _ (ns : List Placed) (stores : StoreMap) where
         behind x all cs (c.place + 1) (omega (arith, first, less)) r.1 h.1,
       )
 
-  pub all_told : (cs : List Placed) (low : ℕ) → Ascend low (map (λ (n : Placed). n.place) cs) → AllByRecursion (IsTold cs) cs
+  pub all_told : (cs : List Node) (low : ℕ) → Ascend low (map (λ (n : Node). n.place) cs) → AllByRecursion (IsTold cs) cs
   all_told [] low r = tt
   all_told (c ∷ cs) low r = (
     ap holds_if (cond-true (c.place == c.place) (Some (told ns stores c)) (find (λ (t : Told). t.place == c.place) (map (told ns stores) cs)) (eq-eqb c.place c.place refl)),

@@ -4,7 +4,7 @@ use Rattle.std.specs.Prelude.{All}
 use Rattle.std.specs.List.{list_any}
 use Rattle.std.proofs.lemmas.Bool.{cases_Bool, and_parts, eqb-true, eq-eqb, false≢true}
 use Rattle.std.proofs.lemmas.List.Folds.{list_any_at}
-use Rattle.ifr_opcodes.specs.Forest.{Placed}
+use Rattle.ifr_opcodes.specs.Forest.{Node}
 use Rattle.ifr_scopes.specs.Nodes.{end_of}
 use Rattle.ifr_scopes.specs.Rules.{is_rule}
 use Rattle.kept_conditions.specs.code.Index.{IsLink, finds, is_used}
@@ -23,7 +23,7 @@ some_passes p (x ∷ xs) d e = elim (cases_Bool (p x)) [
       (suc later.0, omega (arith, later.1), later.2)
 ]
 
-module _ (ns : List Placed) (bytes : ℕ → ℕ → Bool) (readings : List Reading) (links : List Link) (linked : All (IsLink ns) links)
+module _ (ns : List Node) (bytes : ℕ → ℕ → Bool) (readings : List Reading) (links : List Link) (linked : All (IsLink ns) links)
     (found : (k : ℕ) → k < length (reader_nodes ns) → finds ns bytes readings links k ≡ is_touched ns bytes k) where
   abbrev no_link : Link
   no_link = record { rule = 0; user = 0 }

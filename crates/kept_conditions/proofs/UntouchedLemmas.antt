@@ -5,7 +5,7 @@ use Rattle.std.specs.List.{list_any}
 use Rattle.std.proofs.lemmas.Bool.{cases_Bool, false≢true}
 use Rattle.std.proofs.lemmas.List.{get_or-take, get_or-drop, same_lists}
 use Rattle.std.proofs.lemmas.Option.{slice_get-get_or, same_Some}
-use Rattle.ifr_opcodes.specs.Forest.{Placed}
+use Rattle.ifr_opcodes.specs.Forest.{Node}
 use Rattle.ifr_expr.specs.laws.Agreement.{Agree}
 use Rattle.ifr_expr.specs.Meaning.{answered}
 use Rattle.ifr_expr.specs.Values.{Value, undefined, holds}
@@ -81,18 +81,18 @@ module _ (written : ℕ → ℕ → Bool) (old new : StoreMap) (write : IsWrite 
   same_field field none = same_part (stores.bytes_of new field.store) (stores.bytes_of old field.store) field.offset field.width (same_size field.store)
       (λ at from before. write.others field.store at (none_has written field.store field.width field.offset at none from before))
 
-  same_value : (n : Placed) (o : Option Field) → has_byte written o ≡ false → value_of_field new n o ≡ value_of_field old n o
+  same_value : (n : Node) (o : Option Field) → has_byte written o ≡ false → value_of_field new n o ≡ value_of_field old n o
   same_value n None none = refl
   same_value n (Some field) none = ap (value_of_bytes (type_of n)) (same_field field none)
 
-  same_answer_of : (ns : List Placed) (q : Option Placed) → has_byte written (option_and_then (field_of ns) q) ≡ false → answer_of ns new q ≡ answer_of ns old q
+  same_answer_of : (ns : List Node) (q : Option Node) → has_byte written (option_and_then (field_of ns) q) ≡ false → answer_of ns new q ≡ answer_of ns old q
   same_answer_of ns None none = refl
   same_answer_of ns (Some n) none = same_value n (field_of ns n) none
 
-  same_answer : (ns : List Placed) (id : ℕ) → has_byte written (field_with ns id) ≡ false → answered (answers ns old) id ≡ answered (answers ns new) id
+  same_answer : (ns : List Node) (id : ℕ) → has_byte written (field_with ns id) ≡ false → answered (answers ns old) id ≡ answered (answers ns new) id
   same_answer ns id none = ap (λ (v : Value). cond (id == 0) undefined v) (sym (same_answer_of ns (question_with ns id) none))
 
-  agree : (ns : List Placed) (ids : List ℕ) → list_any (λ id. has_byte written (field_with ns id)) ids ≡ false → Agree (answers ns old) (answers ns new) ids
+  agree : (ns : List Node) (ids : List ℕ) → list_any (λ id. has_byte written (field_with ns id)) ids ≡ false → Agree (answers ns old) (answers ns new) ids
   agree ns [] none = tt
   agree ns (id ∷ ids) none =
       let here = has_byte written (field_with ns id) in

@@ -1,7 +1,7 @@
 -- What is kept of the conditions of a package (own rule).
 use Rattle.std.specs.Prelude.{ℕ, ◌+◌, ◌-◌, ◌^◌, ◌==◌, min, Bool, false, Option, Some, None, List, map, filter}
 use Rattle.std.specs.List.{find}
-use Rattle.ifr_opcodes.specs.Forest.{Placed}
+use Rattle.ifr_opcodes.specs.Forest.{Node}
 use Rattle.ifr_scopes.specs.Nodes.{nodes_of}
 use Rattle.hii_varstore.specs.Stores.{StoreMap}
 use Rattle.guard_policy.specs.Conditions.{is_kept}
@@ -9,7 +9,7 @@ use Rattle.guard_policy.specs.World.{is_met_over}
 use Rattle.kept_conditions.specs.Touching.{difference, renewals}
 
 -- the conditions that are kept: those of SUPPRESS_IFs, GRAY_OUT_IFs and NO_SUBMIT_IFs, by place
-abbrev pub kept_nodes : List Placed → List Placed
+abbrev pub kept_nodes : List Node → List Node
 kept_nodes ns = filter is_kept ns
 
 -- what is kept of a condition: the place of its opcode, and whether it holds
@@ -31,7 +31,7 @@ pub record KeptValues : Type 0 where
   pub values : List Told
 
 -- what is kept over some stores
-abbrev pub told : List Placed → StoreMap → Placed → Told
+abbrev pub told : List Node → StoreMap → Node → Told
 told ns stores c = record { place = c.place; holds = is_met_over ns stores c }
 
 abbrev pub told_over : List ℕ → StoreMap → List Told

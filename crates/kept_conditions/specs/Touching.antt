@@ -1,7 +1,7 @@
 -- Which conditions a write touches (own rule).
 use Rattle.std.specs.Prelude.{ℕ, zero, suc, ◌+◌, ◌==◌, ◌&&◌, ◌||◌, nat_le, nat_lt, Bool, true, false, not, Option, Some, None, option_and_then, List, filter, count_by}
 use Rattle.std.specs.List.{list_any}
-use Rattle.ifr_opcodes.specs.Forest.{Placed}
+use Rattle.ifr_opcodes.specs.Forest.{Node}
 use Rattle.hii_varstore.specs.Stores.{StoreMap, byte_of}
 use Rattle.hii_questions.specs.Fields.{Field, field_of, question_with}
 use Rattle.guard_policy.specs.Conditions.{condition_ids, is_kept}
@@ -17,15 +17,15 @@ has_byte bytes None = false
 has_byte bytes (Some field) = has_one bytes field.store field.offset field.width
 
 -- the field of the question of an id, if there is one
-abbrev pub field_with : List Placed → ℕ → Option Field
+abbrev pub field_with : List Node → ℕ → Option Field
 field_with ns id = option_and_then (field_of ns) (question_with ns id)
 
 -- The support of a condition has a field with one of the written bytes.
-abbrev pub touches : List Placed → (ℕ → ℕ → Bool) → Placed → Bool
+abbrev pub touches : List Node → (ℕ → ℕ → Bool) → Node → Bool
 touches ns written c = list_any (λ id. has_byte written (field_with ns id)) (condition_ids ns c)
 
 -- how many of the conditions that are kept a write touches
-abbrev pub renewals : List Placed → (ℕ → ℕ → Bool) → ℕ
+abbrev pub renewals : List Node → (ℕ → ℕ → Bool) → ℕ
 renewals ns written = count_by (touches ns written) (filter is_kept ns)
 
 -- ---- which bytes are written

@@ -1,7 +1,7 @@
 //! The gathering of the readers of a package.
 
 ghost use Rattle.std.specs.Prelude.{◌≡◌, ◌<◌, ◌∷◌, ℕ, List, [], true, OnOk, Some, length};
-ghost use Rattle.ifr_opcodes.specs.Forest.{Placed};
+ghost use Rattle.ifr_opcodes.specs.Forest.{Node};
 ghost use Rattle.ifr_expr.specs.Dependence.{own, rule_ids};
 ghost use Rattle.ifr_scopes.specs.Nodes.{end_of, nodes_of};
 ghost use Rattle.ifr_scopes.specs.Rules.{is_rule, rules_among};
@@ -31,7 +31,7 @@ pub(crate) struct Gathered {
 impl Gathered {
     // Adds that a reader reads a field: that of the question of an id that it names.
     fn add_reading(&mut self, number: u32, range: FieldRange) -> Result<(), AllocError>
-        ensures { OnOk result ((ns : List Placed) (id : ℕ) → number < length (reader_nodes ns)
+        ensures { OnOk result ((ns : List Node) (id : ℕ) → number < length (reader_nodes ns)
             → field_with_id ns id ≡ Some (range_in range)
             → Adds ns number (id ∷ []) self.old self.new) }
     {

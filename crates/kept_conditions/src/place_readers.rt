@@ -2,7 +2,7 @@
 
 ghost use Rattle.std.specs.Prelude.{◌≡◌, ◌≤◌, ◌+◌, ℕ, IfOk, drop, filter, length, map};
 ghost use Rattle.hii_bytes.specs.code.FirstFaults.{Rise};
-ghost use Rattle.ifr_opcodes.specs.Forest.{Placed};
+ghost use Rattle.ifr_opcodes.specs.Forest.{Node};
 ghost use Rattle.ifr_opcodes.specs.Opcode.{number};
 ghost use Rattle.ifr_scopes.specs.Guards.{guards_among};
 ghost use Rattle.ifr_scopes.specs.Kinds.{is_condition_number};
@@ -49,7 +49,7 @@ pub(crate) fn guard_readers(
 ) -> Result<Vec<u32>, AllocError>
     requires { Rise (λ (r : Reader). r.place) 0 readers.now }
     ensures { IfOk result (λ numbers.
-        numbers.items ≡ map (λ (n : Placed). passed n.place readers.now)
+        numbers.items ≡ map (λ (n : Node). passed n.place readers.now)
         (guards_among (nodes_of (bytes_of policy.entry)))) }
 {
     let forms = policy.forms();
@@ -70,7 +70,7 @@ pub(crate) fn condition_readers(
 ) -> Result<Vec<u32>, AllocError>
     requires { Rise (λ (r : Reader). r.place) 0 readers.now }
     ensures { IfOk result (λ numbers.
-        numbers.items ≡ map (λ (n : Placed). passed n.place readers.now)
+        numbers.items ≡ map (λ (n : Node). passed n.place readers.now)
         (filter (λ n. is_condition_number (number n.op)) (nodes_of (bytes_of policy.entry)))) }
 {
     let forms = policy.forms();

@@ -1,7 +1,7 @@
 //! The places of readers.
 
 ghost use Rattle.std.specs.Prelude.{◌≡◌, ◌++◌, IfOk, map, filter};
-ghost use Rattle.ifr_opcodes.specs.Forest.{Placed};
+ghost use Rattle.ifr_opcodes.specs.Forest.{Node};
 ghost use Rattle.ifr_scopes.specs.Accepted.{IsAccepted};
 ghost use Rattle.ifr_scopes.specs.Nodes.{nodes_of, is_no_submit};
 ghost use Rattle.ifr_scopes.specs.Rules.{is_rule};
@@ -15,7 +15,7 @@ use std::alloc::{AllocError, Global};
 // Adds those of SUPPRESS_IFs and GRAY_OUT_IFs.
 fn add_guards(places: &mut Vec<u32>, forms: &Forms<'_>) -> Result<(), AllocError>
     ensures { IfOk result (λ done.
-        places.new.items ≡ places.old.items ++ map (λ (n : Placed). n.place)
+        places.new.items ≡ places.old.items ++ map (λ (n : Node). n.place)
         (filter is_kept_guard (nodes_of forms.now))) }
 {
     let mut guards = forms.guards();
@@ -31,7 +31,7 @@ fn add_guards(places: &mut Vec<u32>, forms: &Forms<'_>) -> Result<(), AllocError
 // Adds those of NO_SUBMIT_IFs.
 fn add_no_submits(places: &mut Vec<u32>, forms: &Forms<'_>) -> Result<(), AllocError>
     ensures { IfOk result (λ done.
-        places.new.items ≡ places.old.items ++ map (λ (n : Placed). n.place)
+        places.new.items ≡ places.old.items ++ map (λ (n : Node). n.place)
         (filter is_no_submit (nodes_of forms.now))) }
 {
     let mut conditions = forms.nosubmits();
@@ -44,7 +44,7 @@ fn add_no_submits(places: &mut Vec<u32>, forms: &Forms<'_>) -> Result<(), AllocE
 // Adds those of rules.
 fn add_rules(places: &mut Vec<u32>, forms: &Forms<'_>) -> Result<(), AllocError>
     ensures { IfOk result (λ done.
-        places.new.items ≡ places.old.items ++ map (λ (n : Placed). n.place)
+        places.new.items ≡ places.old.items ++ map (λ (n : Node). n.place)
         (filter is_rule (nodes_of forms.now))) }
 {
     let mut rules = forms.rules();
@@ -58,7 +58,7 @@ fn add_rules(places: &mut Vec<u32>, forms: &Forms<'_>) -> Result<(), AllocError>
 pub(crate) fn reader_places(alloc: Global, forms: &Forms<'_>) -> Result<Vec<u32>, AllocError>
     requires { IsAccepted forms.now }
     ensures { IfOk result (λ places.
-        places.items ≡ map (λ (n : Placed). n.place) (reader_nodes (nodes_of forms.now))) }
+        places.items ≡ map (λ (n : Node). n.place) (reader_nodes (nodes_of forms.now))) }
 {
     let mut places = Vec::new(alloc);
     add_guards(&mut places, forms)?;

@@ -1,7 +1,7 @@
 //! What the readers of a package name, looked up.
 
 ghost use Rattle.std.specs.Prelude.{◌≡◌, ◌<◌, ◌≤◌, length, map, option_map};
-ghost use Rattle.ifr_opcodes.specs.Forest.{Placed};
+ghost use Rattle.ifr_opcodes.specs.Forest.{Node};
 ghost use Rattle.ifr_scopes.specs.Accepted.{IsAccepted};
 ghost use Rattle.ifr_scopes.specs.code.Checked.{IsAccepted-prop};
 ghost use Rattle.ifr_scopes.specs.Nodes.{nodes_of};
@@ -21,7 +21,7 @@ pub(crate) struct Source<'p, 's, 'a> {
     pub ghost accepted: { IsAccepted forms.now } by { IsAccepted-prop forms.now },
     pub ghost together: { questions.now.ifr ≡ forms.now },
     pub ghost placed: { places.now
-        ≡ map (λ (n : Placed). n.place) (reader_nodes (nodes_of forms.now)) },
+        ≡ map (λ (n : Node). n.place) (reader_nodes (nodes_of forms.now)) },
 }
 
 impl<'p, 's, 'a> Source<'p, 's, 'a> {

@@ -4,7 +4,7 @@ use Rattle.std.specs.Prelude.{OnErr, Result, Ok, Err}
 use Rattle.hii_bytes.specs.Watching.{Pen, Writes}
 use Rattle.hii_bytes.specs.code.Writing.{Stands}
 use Rattle.hii_bytes.proofs.WritingLemmas.{writes_trans}
-use Rattle.question_audit.specs.Beginnings.{Begins}
+use Rattle.question_audit.specs.code.Beginnings.{Begins}
 
 -- what stands of a text is its beginning
 pub stands_begun : {a b : Pen} {text rest : List ℕ} → Stands a b text rest → Begins a b text

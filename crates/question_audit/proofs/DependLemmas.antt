@@ -5,7 +5,7 @@ use Rattle.std.specs.List.{flat_map, list_any}
 use Rattle.std.proofs.lemmas.Bool.{cases_Bool, eqb-true, false≢true}
 use Rattle.std.proofs.lemmas.List.Folds.{list_any-append}
 use Rattle.ifr_opcodes.specs.declared.codes.TheConstants.{SUPPRESS_IF, GRAY_OUT_IF, DISABLE_IF}
-use Rattle.ifr_opcodes.specs.Forest.{Placed}
+use Rattle.ifr_opcodes.specs.Forest.{Node}
 use Rattle.ifr_opcodes.specs.Opcode.{number}
 use Rattle.ifr_opcodes.specs.Operators.{is_among}
 use Rattle.ifr_scopes.specs.Guards.{ancestors, guards, guards_among, is_guard}
@@ -14,11 +14,11 @@ use Rattle.guard_policy.specs.laws.Support.{around, graying_out, support_over, s
 use Rattle.question_audit.specs.Dependences.{depends_on, may_forbid}
 use Rattle.question_audit.specs.code.Naming.{counts, names}
 
-any_flat : (f : Placed → List ℕ) (id : ℕ) (gs : List Placed) → is_among id (flat_map f gs) ≡ list_any (λ g. is_among id (f g)) gs
+any_flat : (f : Node → List ℕ) (id : ℕ) (gs : List Node) → is_among id (flat_map f gs) ≡ list_any (λ g. is_among id (f g)) gs
 any_flat f id [] = refl
 any_flat f id (g ∷ gs) = list_any-append (λ (m : ℕ). m == id) (f g) (flat_map f gs) ∙ ap (λ (b : Bool). is_among id (f g) || b) (any_flat f id gs)
 
-any_filter : (p q : Placed → Bool) (gs : List Placed) → list_any p (filter q gs) ≡ list_any (λ g. q g && p g) gs
+any_filter : (p q : Node → Bool) (gs : List Node) → list_any p (filter q gs) ≡ list_any (λ g. q g && p g) gs
 any_filter p q [] = refl
 any_filter p q (g ∷ gs) = elim (cases_Bool (q g)) [
   | inl is ↦ rw is (ap (λ (b : Bool). p g || b) (any_filter p q gs))
@@ -42,7 +42,7 @@ one_of_two true g d e nd = refl
 one_of_two false true d e nd = refl
 one_of_two false false d e nd = absurd (false≢true (sym nd ∙ e))
 
-any_counts : (p : Placed → Bool) (ms : List Placed) → list_any (λ g. (number g.op == SUPPRESS_IF) && p g) (guards_among ms) || list_any (λ g. (number g.op == GRAY_OUT_IF) && p g) (guards_among ms)
+any_counts : (p : Node → Bool) (ms : List Node) → list_any (λ g. (number g.op == SUPPRESS_IF) && p g) (guards_among ms) || list_any (λ g. (number g.op == GRAY_OUT_IF) && p g) (guards_among ms)
     ≡ list_any (λ g. not (number g.op == DISABLE_IF) && p g) (guards_among ms)
 any_counts p [] = refl
 any_counts p (m ∷ ms) = elim (cases_Bool (is_guard (number m.op))) [
@@ -54,11 +54,11 @@ any_counts p (m ∷ ms) = elim (cases_Bool (is_guard (number m.op))) [
 ]
 
 -- it is asked guard by guard
-pub any_guard : (ns : List Placed) (id : ℕ) (n : Placed) → is_among id (depends_on ns n) ≡ list_any (counts ns id) (guards n)
+pub any_guard : (ns : List Node) (id : ℕ) (n : Node) → is_among id (depends_on ns n) ≡ list_any (counts ns id) (guards n)
 any_guard ns id n = any_flat (condition_ids ns) id (filter may_forbid (guards n)) ∙ any_filter (names ns id) may_forbid (guards n)
 
 -- the ids of the support of whether it may be changed are these
-pub any_support : (ns : List Placed) (id : ℕ) (n : Placed) → is_among id (support_over ns (around n)) ≡ is_among id (depends_on ns n)
+pub any_support : (ns : List Node) (id : ℕ) (n : Node) → is_among id (support_over ns (around n)) ≡ is_among id (depends_on ns n)
 any_support ns id n =
     any_flat (condition_ids ns) id (around n)
     ∙ list_any-append (names ns id) (suppressing n) (graying_out n)

@@ -3,7 +3,7 @@ use Rattle.std.specs.Prelude.{ℕ, Bool, ◌==◌, ◌&&◌, if◌then◌else◌
 use Rattle.std.specs.List.{flat_map}
 use Rattle.hii_bytes.specs.Texts.{place_text}
 use Rattle.ifr_opcodes.specs.Fields.{option_text, option_value, question_id}
-use Rattle.ifr_opcodes.specs.Forest.{Placed}
+use Rattle.ifr_opcodes.specs.Forest.{Node}
 use Rattle.ifr_opcodes.specs.Opcode.{number}
 use Rattle.ifr_opcodes.specs.declared.codes.TheConstants.{DISABLE_IF}
 use Rattle.ifr_expr.specs.Meaning.{value}
@@ -40,7 +40,7 @@ verdict_text (Some denial) = kind_name denial.kind ++ codes " at " ++ place_text
 -- ---- conditions
 
 -- what a condition is over the stores
-abbrev pub value_at : Audited → Placed → Value
+abbrev pub value_at : Audited → Node → Value
 value_at a c = value a.sources.rules a.sources.answers (this_of c) (expression_tree c)
 
 abbrev pub state_text : Value → List ℕ
@@ -50,54 +50,54 @@ state_text its =
     else codes "does not hold"
 
 -- a DISABLE_IF was removed when the form set was opened, or kept (UEFI 2.8, 33.3.8.3, EFI_IFR_DISABLE_IF)
-abbrev pub guard_state : Audited → Placed → List ℕ
+abbrev pub guard_state : Audited → Node → List ℕ
 guard_state a g =
     if number g.op == DISABLE_IF
     then (if is_removed a.world.removed g then codes "removed" else codes "kept")
     else state_text (value_at a g)
 
-abbrev pub condition_words : Placed → List ℕ
+abbrev pub condition_words : Node → List ℕ
 condition_words c = conditions.text (sense (expression_tree c))
 
 -- a condition by its opcode and its place, with its state and what it says
-abbrev pub condition_fact : List ℕ → Placed → List ℕ → List ℕ
+abbrev pub condition_fact : List ℕ → Node → List ℕ → List ℕ
 condition_fact word c state =
     column word ++ opcode_name (number c.op) ++ codes " at " ++ place_text c.place
     ++ codes " " ++ state ++ codes ": " ++ condition_words c ++ codes "\n"
 
 -- the guards around a question, the outermost first
-abbrev pub guard_fact : Audited → Placed → List ℕ
+abbrev pub guard_fact : Audited → Node → List ℕ
 guard_fact a g = condition_fact (codes "guard") g (guard_state a g)
 
-abbrev pub guard_facts : Audited → Placed → List ℕ
+abbrev pub guard_facts : Audited → Node → List ℕ
 guard_facts a n = flat_map (guard_fact a) (guards n)
 
 -- the INCONSISTENT_IFs, NO_SUBMIT_IFs and WARNING_IFs in the scope of the question of an id, by place
-abbrev pub is_check_of : ℕ → Placed → Bool
+abbrev pub is_check_of : ℕ → Node → Bool
 is_check_of id c = is_condition_number (number c.op) && (this_of c == id)
 
-abbrev pub check_fact : Audited → Placed → List ℕ
+abbrev pub check_fact : Audited → Node → List ℕ
 check_fact a c = condition_fact (codes "check") c (state_text (value_at a c))
 
-abbrev pub check_facts : Audited → Placed → List ℕ
+abbrev pub check_facts : Audited → Node → List ℕ
 check_facts a n =
     flat_map (check_fact a) (filter (is_check_of (question_id n.op)) a.world.nodes)
 
 -- ---- options
 
 -- the condition of a guard that decides, which is known by its place
-abbrev pub deciding : Placed → Option Denial → List ℕ
+abbrev pub deciding : Node → Option Denial → List ℕ
 deciding o None = []
 deciding o (Some denial) =
     flat_map (λ g. codes ": " ++ condition_words g)
     (filter (λ g. g.place == denial.place) (guards o))
 
 -- an option by its value and its text, and whether it may be chosen
-abbrev pub option_fact : Audited → Placed → List ℕ
+abbrev pub option_fact : Audited → Node → List ℕ
 option_fact a o =
     fact (codes "option")
     (decimal (option_value o.op) ++ codes " " ++ utf8 (a.texts (option_text o.op)) ++ codes ": "
     ++ verdict_text (fixed a.world o) ++ deciding o (fixed a.world o))
 
-abbrev pub option_facts : Audited → Placed → List ℕ
+abbrev pub option_facts : Audited → Node → List ℕ
 option_facts a n = flat_map (option_fact a) (options n)

@@ -2,7 +2,7 @@
 use Rattle.std.specs.Prelude.{ℕ, Bool, ◌==◌, not, if◌then◌else◌, Option, Some, None, List, ◌++◌, filter, codes, decimal}
 use Rattle.std.specs.List.{flat_map, range_with_len}
 use Rattle.ifr_opcodes.specs.Fields.{question_id, statement_prompt}
-use Rattle.ifr_opcodes.specs.Forest.{Placed}
+use Rattle.ifr_opcodes.specs.Forest.{Node}
 use Rattle.ifr_opcodes.specs.Opcode.{number}
 use Rattle.ifr_opcodes.specs.Operators.{is_among}
 use Rattle.ifr_opcodes.specs.declared.codes.TheConstants.{DISABLE_IF}
@@ -17,11 +17,11 @@ use Rattle.form_audit.specs.QuestionLines.{is_undefined}
 use Rattle.question_audit.specs.ConditionFacts.{fact}
 
 -- whether the condition of a guard may forbid a change: not that of a DISABLE_IF, which was removed or kept at opening
-abbrev pub may_forbid : Placed → Bool
+abbrev pub may_forbid : Node → Bool
 may_forbid g = not (number g.op == DISABLE_IF)
 
 -- the ids of the questions on whose answers changing a question depends: those of the conditions around it that may forbid it
-abbrev pub depends_on : List Placed → Placed → List ℕ
+abbrev pub depends_on : List Node → Node → List ℕ
 depends_on ns n = flat_map (condition_ids ns) (filter may_forbid (guards n))
 
 -- ---- on which questions it depends
@@ -31,7 +31,7 @@ answer_text a q =
     if is_undefined (value_of_field a.stores q.node q.field) then codes "has no answer here"
     else codes "[" ++ utf8 (value_shown a.texts a.world a.stores q.node) ++ codes "]"
 
-abbrev pub dependence_text : Audited → Option Placed → List ℕ
+abbrev pub dependence_text : Audited → Option Node → List ℕ
 dependence_text a None = codes "no such question"
 dependence_text a (Some n) =
     utf8 (a.texts (statement_prompt n.op)) ++ codes " " ++ answer_text a (asked a.world.nodes n)
@@ -46,13 +46,13 @@ unfoldable pub all_ids : List ℕ
 all_ids = range_with_len 0 65536
 
 -- those ids, each once, rising
-abbrev pub supports : List Placed → Placed → ℕ → Bool
+abbrev pub supports : List Node → Node → ℕ → Bool
 supports ns n id = is_among id (depends_on ns n)
 
-abbrev pub support_ids : List Placed → Placed → List ℕ
+abbrev pub support_ids : List Node → Node → List ℕ
 support_ids ns n = filter (supports ns n) all_ids
 
-abbrev pub depends_facts : Audited → Placed → List ℕ
+abbrev pub depends_facts : Audited → Node → List ℕ
 depends_facts a n = flat_map (depends_fact a) (support_ids a.world.nodes n)
 
 -- ---- which questions depend on it
@@ -62,12 +62,12 @@ decides_fact a q =
     fact (codes "decides")
     (decimal (question_id q.node.op) ++ codes " " ++ utf8 (a.texts (statement_prompt q.node.op)))
 
-abbrev pub is_decided_by : List Placed → ℕ → Asked → Bool
+abbrev pub is_decided_by : List Node → ℕ → Asked → Bool
 is_decided_by ns id q = is_among id (depends_on ns q.node)
 
 -- the questions whose changing depends on the answer to the question of an id, by place
-abbrev pub decided_by : List Placed → ℕ → List Asked
+abbrev pub decided_by : List Node → ℕ → List Asked
 decided_by ns id = filter (is_decided_by ns id) (questions ns)
 
-abbrev pub decides_facts : Audited → Placed → List ℕ
+abbrev pub decides_facts : Audited → Node → List ℕ
 decides_facts a n = flat_map (decides_fact a) (decided_by a.world.nodes (question_id n.op))

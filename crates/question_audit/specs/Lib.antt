@@ -1,4 +1,3 @@
-pub mod Beginnings
 pub mod ConditionFacts
 pub mod Dependences
 pub mod QuestionFacts

@@ -4,7 +4,7 @@ use Rattle.std.specs.List.{find, list_any}
 use Rattle.hii_bytes.specs.Watching.{Pen, Writes}
 use Rattle.hii_bytes.specs.Texts.{place_text}
 use Rattle.ifr_opcodes.specs.Fields.{question_id, statement_help, statement_prompt}
-use Rattle.ifr_opcodes.specs.Forest.{Placed}
+use Rattle.ifr_opcodes.specs.Forest.{Node}
 use Rattle.ifr_opcodes.specs.Opcode.{number}
 use Rattle.ifr_opcodes.specs.declared.codes.TheConstants.{ONE_OF}
 use Rattle.ifr_expr.specs.Values.{Value, natural}
@@ -27,7 +27,7 @@ use Rattle.question_audit.specs.Dependences.{decides_facts, depends_facts}
 
 -- ---- what its opcode says
 
-abbrev pub prompt_line : Audited → Placed → List ℕ
+abbrev pub prompt_line : Audited → Node → List ℕ
 prompt_line a n =
     codes "QUESTION " ++ decimal (question_id n.op) ++ codes " "
     ++ utf8 (a.texts (statement_prompt n.op)) ++ codes "\n"
@@ -37,28 +37,28 @@ help_fact [] = []
 help_fact (c ∷ text) = fact (codes "help") (utf8 (c ∷ text))
 
 -- the form in whose scope a question stands
-abbrev pub has_within : Placed → Placed → Bool
+abbrev pub has_within : Node → Node → Bool
 has_within n form = list_any (λ m. m.place == n.place) (statements form)
 
-abbrev pub form_of : List Placed → Placed → Option Placed
+abbrev pub form_of : List Node → Node → Option Node
 form_of ns n = find (has_within n) (filter is_form ns)
 
-abbrev pub form_fact : Audited → (ℕ → Bool) → Option Placed → List ℕ
+abbrev pub form_fact : Audited → (ℕ → Bool) → Option Node → List ℕ
 form_fact a is_reached None = []
 form_fact a is_reached (Some form) = fact (codes "form") (form_text a is_reached form)
 
 -- the place of its opcode in its forms package, and in the list, where the package stands at a place
-abbrev pub opcode_fact : ℕ → Placed → List ℕ
+abbrev pub opcode_fact : ℕ → Node → List ℕ
 opcode_fact package_place n =
     fact (codes "opcode")
     (opcode_name (number n.op) ++ codes " at " ++ place_text n.place
     ++ codes ", byte " ++ hex_text (package_place + n.place) ++ codes " of the list")
 
-abbrev pub guid_behind : Option Placed → List ℕ
+abbrev pub guid_behind : Option Node → List ℕ
 guid_behind None = []
 guid_behind (Some store) = codes " " ++ guid_text true (store_guid store.op)
 
-abbrev pub field_fact : List Placed → Option Field → List ℕ
+abbrev pub field_fact : List Node → Option Field → List ℕ
 field_fact ns None = []
 field_fact ns (Some field) =
     fact (codes "field")
@@ -72,18 +72,18 @@ abbrev pub behind_number : Option (List ℕ) → List ℕ
 behind_number None = []
 behind_number (Some text) = codes " " ++ utf8 text
 
-abbrev pub choice_behind : Audited → Placed → Value → List ℕ
+abbrev pub choice_behind : Audited → Node → Value → List ℕ
 choice_behind a n (natural m) = behind_number (choice a.texts a.world n m)
 choice_behind a n _ = []
 
-abbrev pub option_behind : Audited → Placed → Value → List ℕ
+abbrev pub option_behind : Audited → Node → Value → List ℕ
 option_behind a n its = if number n.op == ONE_OF then choice_behind a n its else []
 
 -- of a question that has a value; that of a PASSWORD is not told
-abbrev pub value_text : Audited → Placed → Value → List ℕ
+abbrev pub value_text : Audited → Node → Value → List ℕ
 value_text a n its = behind [] (script_value n its) ++ option_behind a n its
 
-abbrev pub value_line : Audited → Placed → Value → List ℕ
+abbrev pub value_line : Audited → Node → Value → List ℕ
 value_line a n its = if is_undefined its then [] else fact (codes "value") (value_text a n its)
 
 abbrev pub value_fact : Audited → Asked → List ℕ
@@ -95,7 +95,7 @@ told_default name choice None = []
 told_default name choice (Some its) =
     fact (codes "default") (its ++ choice ++ codes " (" ++ name ++ codes ")")
 
-abbrev pub named_default : Audited → Placed → List ℕ → Option Value → List ℕ
+abbrev pub named_default : Audited → Node → List ℕ → Option Value → List ℕ
 named_default a n name None = []
 named_default a n name (Some its) = told_default name (option_behind a n its) (script_value n its)
 
@@ -104,7 +104,7 @@ default_fact a q class name = named_default a q.node name (default_taken a q cla
 
 -- ---- all that is known
 
-abbrev pub verdict_fact : Audited → Placed → List ℕ
+abbrev pub verdict_fact : Audited → Node → List ℕ
 verdict_fact a n = fact (codes "verdict") (verdict_text (fixed a.world n))
 
 -- what its opcode says, by what tells which forms are reached
@@ -134,7 +134,7 @@ no_question id = codes "NO QUESTION " ++ decimal id ++ codes "\n"
 -- There is one, and this is what is known of it, by what tells which forms are reached; or this says that there is none.
 abbrev pub IsQuestionText : Bool → Audited → ℕ → ℕ → List ℕ → Type 0
 IsQuestionText true a package_place id text =
-    (n : Placed) × (question_with a.world.nodes id ≡ Some n) × (is_reached : ℕ → Bool)
+    (n : Node) × (question_with a.world.nodes id ≡ Some n) × (is_reached : ℕ → Bool)
     × TellsReached a.world is_reached
     × (text ≡ question_facts a is_reached package_place (asked a.world.nodes n))
 IsQuestionText false a package_place id text =
@@ -149,7 +149,7 @@ TellsQuestion is_there a package_place id old new =
 abbrev pub BeginsQuestionText : Audited → ℕ → ℕ → List ℕ → Type 0
 BeginsQuestionText a package_place id text =
     (text ≡ [])
-    ⊎ ((n : Placed) × (question_with a.world.nodes id ≡ Some n) × (is_reached : ℕ → Bool)
+    ⊎ ((n : Node) × (question_with a.world.nodes id ≡ Some n) × (is_reached : ℕ → Bool)
     × TellsReached a.world is_reached × (rest : List ℕ)
     × (question_facts a is_reached package_place (asked a.world.nodes n) ≡ text ++ rest))
 

@@ -13,8 +13,8 @@ ghost use Rattle.guard_policy.specs.code.Views.{bytes_of};
 ghost use Rattle.guard_policy.specs.declared.denial.Denial.{Denial as Denied};
 ghost use Rattle.form_page.specs.code.PageViews.{world_of};
 ghost use Rattle.form_audit.specs.code.Pages.{audited};
-ghost use Rattle.question_audit.specs.Beginnings.{Begins};
 ghost use Rattle.question_audit.specs.ConditionFacts.{condition_words, deciding, option_fact, option_facts};
+ghost use Rattle.question_audit.specs.code.Beginnings.{Begins};
 
 use crate::facts::{put_column, put_verdict_text};
 use condition_text::ConditionText;

@@ -13,8 +13,8 @@ ghost use Rattle.guard_policy.specs.code.Views.{bytes_of};
 ghost use Rattle.form_page.specs.code.PageViews.{world_of};
 ghost use Rattle.form_audit.specs.Reach.{TellsReached};
 ghost use Rattle.form_audit.specs.code.Pages.{audited};
-ghost use Rattle.question_audit.specs.Beginnings.{Begins};
 ghost use Rattle.question_audit.specs.QuestionFacts.{BeginsQuestion, TellsQuestion, question_facts, verdict_fact};
+ghost use Rattle.question_audit.specs.code.Beginnings.{Begins};
 
 use crate::condition_facts::{put_checks, put_guards};
 use crate::decides_facts::put_decides;

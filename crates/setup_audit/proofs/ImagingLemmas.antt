@@ -8,7 +8,7 @@ use Rattle.ifr_scopes.specs.Nodes.{nodes_of}
 use Rattle.hii_varstore.specs.Image.{image_of}
 use Rattle.hii_varstore.specs.StoreNodes.{layout_of}
 use Rattle.std.specs.List.{AllByRecursion, find, flat_map}
-use Rattle.ifr_opcodes.specs.Forest.{Placed}
+use Rattle.ifr_opcodes.specs.Forest.{Node}
 use Rattle.hii_varstore.specs.Stores.{Store}
 use Rattle.audit_options.specs.declared.tasks.ImageOptions.{ImageOptions}
 use Rattle.store_audit.specs.Fillings.{filled_line, refused_line, store_from}
@@ -32,7 +32,7 @@ supply f = record { node = code.filling_node f; source = f.source }
 
 pub supplied_nodes : (fs : List Filling) → map (λ (s : Supply). s.node) (map supply fs) ≡ map code.filling_node fs
 supplied_nodes [] = refl
-supplied_nodes (f ∷ fs) = ap (λ (ns : List Placed). code.filling_node f ∷ ns) (supplied_nodes fs)
+supplied_nodes (f ∷ fs) = ap (λ (ns : List Node). code.filling_node f ∷ ns) (supplied_nodes fs)
 
 pub supplied_lines : (fs : List Filling) → flat_map (λ (s : Supply). filled_line s.node s.source) (map supply fs) ≡ flat_map code.filling_text fs
 supplied_lines [] = refl
@@ -82,7 +82,7 @@ module _ (known : List ℕ → Known) (options : ImageOptions) (list ifr : List 
 
 -- ---- the image behind its lines
 
-module _ {A Z O : Type 0} (contents : A → Option (List ℕ)) (file : O → Option (List ℕ)) (ns : List Placed) (fs : List Filling)
+module _ {A Z O : Type 0} (contents : A → Option (List ℕ)) (file : O → Option (List ℕ)) (ns : List Node) (fs : List Filling)
     (start new : Watched (BufWriter A Z)) (old mid last : Watched O) (ended : Ended) where
   -- all stores are filled
   pub writes_filled : (unfit : Option Filling) → find code.is_unfit fs ≡ unfit
@@ -98,7 +98,7 @@ module _ {A Z O : Type 0} (contents : A → Option (List ℕ)) (file : O → Opt
       (λ sound. let w = subst (λ (b : Bool). WritesImage file stores b old mid) sound puts.2 in left_image file old mid last (image_of stores) ended w.0 w.1 (commits sound))
 
 -- a store is not given what it holds
-pub writes_unfit : {A Z O : Type 0} (contents : A → Option (List ℕ)) (file : O → Option (List ℕ)) (ns : List Placed) (fs : List Filling) (start told_to new : Watched (BufWriter A Z)) (old mid : Watched O)
+pub writes_unfit : {A Z O : Type 0} (contents : A → Option (List ℕ)) (file : O → Option (List ℕ)) (ns : List Node) (fs : List Filling) (start told_to new : Watched (BufWriter A Z)) (old mid : Watched O)
     (ended : Ended) (unfit : Option Filling) → find code.is_unfit fs ≡ unfit
     → PutsImage file (option_map code.unfit_text unfit) (code.stores_of (layout_of ns).guid fs) (flat_map code.filling_text fs) false (pen_of (writer_contents contents) start)
     (pen_of (writer_contents contents) told_to) old mid → PassesFrom contents Refused (pen_of (writer_contents contents) told_to) ended new

@@ -10,7 +10,7 @@ use Rattle.std.specs.Option.{option_or}
 use Rattle.std.specs.Str.{IsAscii, IsUtf8, is_utf8}
 use Rattle.hii_bytes.specs.Numbers.{AreBytes}
 use Rattle.hii_packages.specs.Packages.{Entry, nth_forms}
-use Rattle.ifr_opcodes.specs.Forest.{Placed}
+use Rattle.ifr_opcodes.specs.Forest.{Node}
 use Rattle.ifr_scopes.specs.Stores.{store_guid, store_name}
 use Rattle.browser_core.specs.Opening.{HasSource}
 use Rattle.browser_core.proofs.OpeningLemmas.{spelled_pieces}
@@ -111,9 +111,9 @@ no_text_is name none = elim (cases_Bool (is_utf8 name)) [
   | inr isn ↦ isn
 ]
 
-pub no_path : (folder : List ℕ) (n : Placed) → (IsUtf8 (store_name n.op) → ⊥) → None ≡ variable_path folder n
+pub no_path : (folder : List ℕ) (n : Node) → (IsUtf8 (store_name n.op) → ⊥) → None ≡ variable_path folder n
 no_path folder n none = rw (no_text_is (store_name n.op) none) refl
 
-pub path_is : (folder : List ℕ) (n : Placed) → IsUtf8 (store_name n.op) → list_any is_slash (store_name n.op) ≡ false
+pub path_is : (folder : List ℕ) (n : Node) → IsUtf8 (store_name n.op) → list_any is_slash (store_name n.op) ≡ false
     → variable_path folder n ≡ Some (folder ++ codes "/" ++ store_name n.op ++ codes "-" ++ guid_text false (store_guid n.op))
 path_is folder n text none = rw (is_utf8-from_IsUtf8 (store_name n.op) text, none) refl

@@ -2,7 +2,7 @@
 use Rattle.std.specs.Prelude.{◌≡◌, ◌⊎◌, ℕ, Bool, is_none, not, Option, Some, None, List, ◌++◌, codes, decimal, map}
 use Rattle.std.specs.List.{AllByRecursion, find, flat_map}
 use Rattle.hii_bytes.specs.declared.cause.Cause.TheVariants.{OutOfMemory}
-use Rattle.ifr_opcodes.specs.Forest.{Placed}
+use Rattle.ifr_opcodes.specs.Forest.{Node}
 use Rattle.ifr_scopes.specs.Nodes.{nodes_of}
 use Rattle.hii_varstore.specs.Image.{image_of}
 use Rattle.hii_varstore.specs.Layout.{Shape, size_of}
@@ -29,7 +29,7 @@ no_store_text id = codes "no store " ++ decimal id ++ codes "\n"
 
 -- a store, and where its bytes come from
 pub record Supply : Type 0 where
-  pub node : Placed
+  pub node : Node
   pub source : Source
 
 abbrev pub is_unfit : Supply → Bool

@@ -3,7 +3,7 @@ use Rattle.std.specs.Prelude.{◌≡◌, ◌⊎◌, ◌==◌, ◌&&◌, not, ℕ
 use Rattle.std.specs.List.{list_any}
 use Rattle.std.specs.Option.{option_or}
 use Rattle.std.specs.Str.{is_utf8}
-use Rattle.ifr_opcodes.specs.Forest.{Placed}
+use Rattle.ifr_opcodes.specs.Forest.{Node}
 use Rattle.ifr_scopes.specs.Stores.{store_guid, store_id, store_name}
 use Rattle.audit_text.specs.Texts.{guid_text}
 use Rattle.audit_options.specs.declared.tasks.ImageOptions.{ImageOptions}
@@ -22,7 +22,7 @@ abbrev pub is_slash : ℕ → Bool
 is_slash c = c == 47
 
 -- the path of the file of a store's variable in a folder, unless its name is no text or has a slash
-abbrev pub variable_path : List ℕ → Placed → Option (List ℕ)
+abbrev pub variable_path : List ℕ → Node → Option (List ℕ)
 variable_path folder n =
     if is_utf8 (store_name n.op) && not (list_any is_slash (store_name n.op))
     then Some (folder ++ codes "/" ++ store_name n.op ++ codes "-" ++ guid_text false (store_guid n.op))
@@ -49,7 +49,7 @@ abbrev pub IsGiven : (List ℕ → Known) → Option StoreFile → Option (List 
 IsGiven known (Some file) variable zero source = IsFile known file.path.now 0 source
 IsGiven known None variable zero source = IsVariable known variable zero source
 
-abbrev pub IsSource : (List ℕ → Known) → ImageOptions → Placed → Source → Type 0
+abbrev pub IsSource : (List ℕ → Known) → ImageOptions → Node → Source → Type 0
 IsSource known options n =
     IsGiven known (last_given options.files.items (store_id n.op))
     (option_and_then (λ folder. variable_path folder.now n) options.efivars) options.zero

@@ -1,6 +1,5 @@
 //! How many conditions a session evaluates anew.
 
-use crate::sessions::pair;
 use browser_core::Session;
 use hii_bytes::{Fault, Watched};
 use hii_commands::read_line;
@@ -10,22 +9,7 @@ use std::test::Fail;
 
 // Each list has a forms package with a store of two bytes, whose name is `V`, and a form whose statements begin at 57.
 
-/// A checkbox of the id 1 over the first byte, which is hidden while the question 2 is 1, and two over the second byte, of the ids 2
-/// and 3.
-const SHARED: &[u8] = b"\x11\x11\x11\x11\x11\x11\x11\x11\x11\x11\x11\x11\x11\x11\x11\x11\x89\0\0\0\
-\x71\0\0\x02\
-\x0e\x97\x22\x22\x22\x22\x22\x22\x22\x22\x22\x22\x22\x22\x22\x22\x22\x22\x01\0\0\0\0\
-\x24\x18\x33\x33\x33\x33\x33\x33\x33\x33\x33\x33\x33\x33\x33\x33\x33\x33\x01\0\x02\0V\0\
-\x01\x86\x01\0\x02\0\
-\x0a\x82\x12\x06\x02\0\x01\0\
-\x06\x0e\x03\0\0\0\x01\0\x01\0\0\0\0\0\
-\x29\x02\
-\x06\x0e\x04\0\0\0\x02\0\x01\0\x01\0\0\0\
-\x06\x0e\x05\0\0\0\x03\0\x01\0\x01\0\0\0\
-\x29\x02\x29\x02\
-\x04\0\0\xdf";
-
-/// The same without the question 3.
+/// A checkbox of the id 1 over the first byte, which is hidden while the question 2 is 1, and one of the id 2 over the second.
 const HIDING: &[u8] = b"\x11\x11\x11\x11\x11\x11\x11\x11\x11\x11\x11\x11\x11\x11\x11\x11\x7b\0\0\0\
 \x63\0\0\x02\
 \x0e\x97\x22\x22\x22\x22\x22\x22\x22\x22\x22\x22\x22\x22\x22\x22\x22\x22\x01\0\0\0\0\
@@ -107,37 +91,6 @@ fn all_as_counted(
     Ok(())
 }
 
-fn another_question() -> &'static [Counted] {
-    &[(b"set 1 1", 0), (b"set 3 1", 1), (b"why 1", 0)]
-}
-
-#[test]
-fn a_condition_is_renewed_by_bytes(rt: HostRuntime) -> Result<(), Fail> {
-    all_as_counted(&rt, SHARED, &[0; 2], another_question())
-}
-
-fn a_denied_route() -> &'static [Counted] {
-    &[
-        (b"why 1", 0),
-        (
-            b"route GUID=33333333333333333333333333333333&NAME=0056&PATH=\
-&OFFSET=1&WIDTH=1&VALUE=1&OFFSET=0&WIDTH=1&VALUE=1",
-            2,
-        ),
-        (b"why 1", 0),
-        (b"set 2 1", 1),
-        (b"set 2 1", 1),
-        (b"why 1", 0),
-        (b"discard", 1),
-        (b"why 1", 0),
-    ]
-}
-
-#[test]
-fn a_denied_route_renews_what_it_gives_back(rt: HostRuntime) -> Result<(), Fail> {
-    all_as_counted(&rt, HIDING, &[0; 2], a_denied_route())
-}
-
 fn all_commands() -> &'static [Counted] {
     &[
         (b"page", 0),
@@ -170,23 +123,6 @@ fn all_commands() -> &'static [Counted] {
 #[test]
 fn each_command_tells_its_count(rt: HostRuntime) -> Result<(), Fail> {
     all_as_counted(&rt, EACH_KIND, &[0; 7], all_commands())
-}
-
-fn script_text() -> &'static [u8] {
-    b"set 2 1\nwhy 1\nset 1 0\n\nset\n"
-}
-
-#[test]
-fn lines_without_a_command_leave_the_count(rt: HostRuntime) -> Result<(), Fail> {
-    let mut session = open(&rt, HIDING, &[0; 2])?;
-    let mut script = Watched::new(script_text());
-    let mut out = Watched::new(Vec::new(rt.alloc()));
-    assert!(rt; session.run_script(&mut script, &mut out).is_ok());
-    assert_eq!(rt;
-        (session.renewed(), pair(session.working().bytes(1))),
-        (0, [0, 1])
-    );
-    Ok(())
 }
 
 // How many rows the page of the current form has.

@@ -35,15 +35,6 @@ fn answered(count: usize) -> &'static [u8] {
     answers().get(..count).unwrap_or(b"")
 }
 
-fn denied_script() -> &'static [u8] {
-    b"set 1 2\nset 2 1\nset 1 1\ndiscard\nsubmit\n"
-}
-
-// The checkbox stands at 57.
-fn denied_answers() -> &'static [u8] {
-    b"DENIED range at 00000039\nDENIED noquestion at 00000000\nOK\nOK\nOK 0\n"
-}
-
 /// Takes so many bytes, at most `step` at a time, and then errs or takes none.
 #[derive(Drop)]
 struct Narrow {
@@ -161,52 +152,11 @@ fn left_by<R: Abort + AllocGlobal>(
     })
 }
 
-fn is_answered<R: Abort + AllocGlobal>(
-    rt: &R,
-    script: &[u8],
-    step: usize,
-    answers: &[u8],
-    bytes: [u8; 2],
-) -> Result<(), Fail> {
-    let left = left_by(rt, script, 100, step)?;
-    assert_eq!(rt; left.ran.end, Ok(End::Done));
-    assert!(rt; left.answers.as_slice() == answers, "in pieces of {step}");
-    assert_eq!(rt; (left.ran.working, left.ran.committed), (bytes, bytes));
-    Ok(())
-}
-
-#[test]
-fn answers_do_not_depend_on_the_pieces(rt: HostRuntime) -> Result<(), Fail> {
-    for step in 1..21 {
-        is_answered(&rt, script_text(), step, answers(), [1, 0])?;
-    }
-    Ok(())
-}
-
 #[test]
 fn laws_are_stated() {
     laws::commands_keep_other_bytes();
     laws::bytes_that_open_have_no_fault();
     laws::bytes_without_fault_open(LIST, 1, STORES, b"en-US");
-}
-
-#[test]
-fn what_is_denied_or_discarded_changes_nothing(rt: HostRuntime) -> Result<(), Fail> {
-    is_answered(&rt, denied_script(), 100, denied_answers(), [0, 0])
-}
-
-#[test]
-fn a_writer_may_take_a_byte_at_a_time(rt: HostRuntime) -> Result<(), Fail> {
-    let mut script = Watched::new(script_text());
-    let mut out = Watched::new(Narrow {
-        bytes: Vec::new(rt.alloc()),
-        room: 1000,
-        step: 1,
-        takes_none: false,
-    });
-    assert_eq!(rt; after(&rt, &mut script, &mut out)?.end, Ok(End::Done));
-    assert_eq!(rt; out.into_inner().bytes.as_slice(), answers());
-    Ok(())
 }
 
 fn stops_at<R: Abort + AllocGlobal>(rt: &R, room: usize, takes_none: bool) -> Result<(), Fail> {
@@ -305,28 +255,6 @@ fn a_command_tells_how_much_was_written(rt: HostRuntime) -> Result<(), Fail> {
     );
     assert_eq!(rt; pair(session.working().bytes(1)), [1, 0]);
     assert_eq!(rt; pair(session.committed().bytes(1)), [1, 0]);
-    Ok(())
-}
-
-// Whether this is answered to a line of so many bytes that ends so.
-fn is_answer(rt: &impl AllocGlobal, count: usize, end: &[u8], answer: &[u8]) -> Result<bool, Fail> {
-    let mut script = vec![in rt.alloc(); b'x'; count]?;
-    script.extend_from_slice(end)?;
-    let mut reader = Watched::new(script.as_slice());
-    let mut out = Watched::new(Vec::new(rt.alloc()));
-    let ran = after(rt, &mut reader, &mut out)?;
-    Ok(ran.end == Ok(End::Done) && out.into_inner().as_slice() == answer)
-}
-
-#[test]
-fn lines_of_the_greatest_length(rt: HostRuntime) -> Result<(), Fail> {
-    let bad = b"REFUSED 70 BadCommand\n";
-    let long = b"REFUSED 71 LineTooLong\n";
-    assert!(rt; is_answer(&rt, 4096, b"\n", bad)?);
-    assert!(rt; is_answer(&rt, 4095, b"\r\n", bad)?);
-    assert!(rt; is_answer(&rt, 4096, b"\r\n", long)?);
-    assert!(rt; is_answer(&rt, 4097, b"", long)?);
-    assert!(rt; is_answer(&rt, 0, b"\n\r\n\r", b"")?);
     Ok(())
 }
 

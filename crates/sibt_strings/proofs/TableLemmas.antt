@@ -210,20 +210,20 @@ texts_before seen None = None
 texts_before seen (Some t) = Some (seen ++ t.0, t.1)
 
 -- Of so many texts at the front of bytes the first n have places, and the others stand at the front of the rest.
-pub record Placed (blocks bytes : List ℕ) (count : ℕ) (old : TextPlaces) (n : ℕ) (rest : List ℕ) (new : TextPlaces) : Type 0 where
+pub record Node (blocks bytes : List ℕ) (count : ℕ) (old : TextPlaces) (n : ℕ) (rest : List ℕ) (new : TextPlaces) : Type 0 where
   pub seen : List (List ℕ)
   pub inside : EndsWith bytes rest
   pub same : texts_before seen (texts_in (count - n) rest) ≡ texts_in count bytes
   pub adds : Adds blocks (Texts seen) old new
 
-module _ {blocks bytes : List ℕ} {count : ℕ} {old : TextPlaces} {n : ℕ} {rest : List ℕ} {new : TextPlaces} (p : Placed blocks bytes count old n rest new) where
+module _ {blocks bytes : List ℕ} {count : ℕ} {old : TextPlaces} {n : ℕ} {rest : List ℕ} {new : TextPlaces} (p : Node blocks bytes count old n rest new) where
   left : n < count → count - n ≡ suc (count - (n + 1))
   left less = omega arith
 
   -- one text more
   pub placed_more : n < count → EndsWith blocks bytes → (newer : TextPlaces) (place : ℕ) (text behind : List ℕ) → place ≡ length blocks - length rest →
       ((texts : List OptionText) → IsTabled blocks texts new.next new.places.items → IsTabled blocks (texts ++ text_of_place blocks (Some place) ∷ []) newer.next newer.places.items) →
-      cut_text rest ≡ Some (text, behind) → Placed blocks bytes count old (n + 1) behind newer
+      cut_text rest ≡ Some (text, behind) → Node blocks bytes count old (n + 1) behind newer
   placed_more less inside newer place text behind at added found =
       let here : text_of_place blocks (Some place) ≡ Some text =
       ap (λ k. text_of_place blocks (Some k)) at ∙ ap (λ b. option_map (λ (t : List ℕ × List ℕ). t.0) (cut_text b)) (ends_place (ends_trans inside p.inside)) ∙ ap (option_map (λ t. t.0)) found in

@@ -5,7 +5,7 @@ use Rattle.std.specs.List.{AllByRecursion, IsDistinct, cons_option}
 use Rattle.std.specs.Option.{IsSomeAnd}
 use Rattle.std.proofs.lemmas.Bool.{cases_Bool, eqb-true, eqb-false, ne_eqb, eq-eqb}
 use Rattle.std.proofs.lemmas.List.{length-replicate, places, same_lists, take_more, flat_map_more}
-use Rattle.ifr_opcodes.specs.Forest.{Placed}
+use Rattle.ifr_opcodes.specs.Forest.{Node}
 use Rattle.ifr_scopes.specs.Nodes.{is_store}
 use Rattle.ifr_scopes.specs.Stores.{store_id, store_size}
 use Rattle.hii_varstore.specs.declared.buffer.Buffer.{Buffer}
@@ -146,14 +146,14 @@ apart_in bs fs sound all = rw all sound.apart.1
 
 -- ---- the stores of a layout
 
-buffer_more : (n : Placed) (ns : List Placed) (bs : List Buffer) (o : Option ℕ) → o ≡ store_size n.op → map buffer_in ns ≡ bs
+buffer_more : (n : Node) (ns : List Node) (bs : List Buffer) (o : Option ℕ) → o ≡ store_size n.op → map buffer_in ns ≡ bs
     → map buffer_in (cond (is_some o) (n ∷ ns) ns) ≡ cons_option (option_map (λ (size : ℕ). record { id = store_id n.op; size = size }) o) bs
 buffer_more n ns bs None told so_far = so_far
 buffer_more n ns bs (Some size) told so_far =
     let wanted : wanted_of n ≡ size = ap (λ (o : Option ℕ). unwrap_or o 0) (sym told) in
     rw (so_far, wanted) refl
 
-buffers_of : (ns : List Placed) → map buffer_in (filter has_bytes ns) ≡ filter_map declared_buffer ns
+buffers_of : (ns : List Node) → map buffer_in (filter has_bytes ns) ≡ filter_map declared_buffer ns
 buffers_of [] = refl
 buffers_of (n ∷ ns) = buffer_more n (filter has_bytes ns) (filter_map declared_buffer ns) (store_size n.op) refl (buffers_of ns)
 
@@ -162,7 +162,7 @@ nodes_to_buffers [] = refl
 nodes_to_buffers (f ∷ fs) = ap (λ (bs : List Buffer). filling_buffer f ∷ bs) (nodes_to_buffers fs)
 
 -- the stores that are filled are those of the layout
-pub all_buffers : (ns : List Placed) (fs : List Filling) → map filling_node fs ≡ buffer_stores ns → map filling_buffer fs ≡ (layout_of ns).buffers
+pub all_buffers : (ns : List Node) (fs : List Filling) → map filling_node fs ≡ buffer_stores ns → map filling_buffer fs ≡ (layout_of ns).buffers
 all_buffers ns fs all = nodes_to_buffers fs ∙ ap (map buffer_in) all ∙ buffers_of (filter is_store ns)
 
 -- ---- lines

@@ -1,6 +1,6 @@
 -- The stores of a form set that hold bytes, and what they are filled with (own rule).
 use Rattle.std.specs.Prelude.{ℕ, ◌==◌, Bool, true, false, List, [], ◌++◌, filter, is_some, length, replicate, unwrap_or, codes, decimal, string_bytes}
-use Rattle.ifr_opcodes.specs.Forest.{Placed}
+use Rattle.ifr_opcodes.specs.Forest.{Node}
 use Rattle.ifr_scopes.specs.Nodes.{is_store}
 use Rattle.ifr_scopes.specs.Stores.{store_id, store_name, store_size}
 use Rattle.audit_text.specs.Texts.{ascii_name}
@@ -9,15 +9,15 @@ use Rattle.store_audit.specs.declared.fillings.Source.{Source}
 use Rattle.store_audit.specs.declared.fillings.Source.TheVariants.{File, Zeros, Missing}
 
 -- a store of names and values holds no bytes (UEFI 2.8, 33.3.8.3, EFI_IFR_VARSTORE_NAME_VALUE)
-abbrev pub has_bytes : Placed → Bool
+abbrev pub has_bytes : Node → Bool
 has_bytes n = is_some (store_size n.op)
 
 -- the stores that hold bytes, by place
-abbrev pub buffer_stores : List Placed → List Placed
+abbrev pub buffer_stores : List Node → List Node
 buffer_stores ns = filter has_bytes (filter is_store ns)
 
 -- how many bytes a store holds
-abbrev pub wanted_of : Placed → ℕ
+abbrev pub wanted_of : Node → ℕ
 wanted_of n = unwrap_or (store_size n.op) 0
 
 -- the bytes that a source gives to a store that holds so many
@@ -33,17 +33,17 @@ are_fit size Zeros = true
 are_fit size Missing = false
 
 -- the bytes that a store is given
-abbrev pub bytes_given : Placed → Source → List ℕ
+abbrev pub bytes_given : Node → Source → List ℕ
 bytes_given n source = bytes_from (wanted_of n) source
 
 -- a store that holds what it is given
-abbrev pub store_from : Placed → Source → Store
+abbrev pub store_from : Node → Source → Store
 store_from n source = record { id = store_id n.op; bytes = bytes_given n source }
 
 -- ---- lines
 
 -- the id and the name of a store
-abbrev pub names_text : Placed → List ℕ
+abbrev pub names_text : Node → List ℕ
 names_text n = decimal (store_id n.op) ++ codes " " ++ ascii_name (store_name n.op)
 
 abbrev pub source_text : Source → List ℕ
@@ -52,22 +52,22 @@ source_text Zeros = codes "zeros"
 source_text Missing = codes "-"
 
 -- the line of a store that is filled
-abbrev pub filled_line : Placed → Source → List ℕ
+abbrev pub filled_line : Node → Source → List ℕ
 filled_line n source =
     codes "STORE " ++ names_text n ++ codes " " ++ decimal (length (bytes_given n source))
     ++ codes " " ++ source_text source ++ codes "\n"
 
 -- how many bytes a store is given, and how many it holds
-abbrev pub counts_text : Placed → Source → List ℕ
+abbrev pub counts_text : Node → Source → List ℕ
 counts_text n source =
     codes ": " ++ decimal (length (bytes_given n source)) ++ codes " bytes given, "
     ++ decimal (wanted_of n) ++ codes " wanted\n"
 
 -- why a store is not filled
-abbrev pub reason : Placed → Source → List ℕ
+abbrev pub reason : Node → Source → List ℕ
 reason n Missing = codes ": no bytes given\n"
 reason n source = counts_text n source
 
 -- the line of a store that is not filled
-abbrev pub refused_line : Placed → Source → List ℕ
+abbrev pub refused_line : Node → Source → List ℕ
 refused_line n source = codes "store " ++ names_text n ++ reason n source

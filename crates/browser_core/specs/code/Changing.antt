@@ -2,7 +2,7 @@
 use Rattle.std.specs.Prelude.{◌≡◌, ℕ, false, List, [], ◌∷◌, ◌++◌, length, map, take, Option, Some, None, Result, Ok, Err, IfOk}
 use Rattle.std.specs.List.{AllByRecursion}
 use Rattle.config_text.specs.Grammar.{Area}
-use Rattle.ifr_opcodes.specs.Forest.{Placed}
+use Rattle.ifr_opcodes.specs.Forest.{Node}
 use Rattle.ifr_scopes.specs.Nodes.{nodes_of}
 use Rattle.ifr_scopes.specs.declared.around.Around.{Around}
 use Rattle.hii_varstore.specs.Layout.{Shape}
@@ -92,7 +92,7 @@ abbrev pub IsOfField : List ℕ → fields.Field → Asked → Type 0
 IsOfField ifr field q = IsQuestionIn ifr q × (q.field ≡ Some field)
 
 -- the question that a block with a field sets, over some stores
-abbrev pub set_over : Policy → StoreMap → fields.Field → Option Placed
+abbrev pub set_over : Policy → StoreMap → fields.Field → Option Node
 set_over policy working field =
     question_of_field (world policy working) (nodes_of (bytes_of policy)) field
 
@@ -127,7 +127,7 @@ SetsBlock policy store block old new (Ok done) =
     × (shape_of new.stores ≡ shape_of old.stores)
     × ((other at : ℕ) → (LiesWithin (range_of_block store block) other at → ⊥)
     → AgreeAt new.stores old.stores other at)
-    × ((s : State) → IsOver policy old.stores s → (text : List ℕ) × (n : Placed)
+    × ((s : State) → IsOver policy old.stores s → (text : List ℕ) × (n : Node)
     × (set_block s store block ≡ accepted (record s { working = new.stores }) text)
     × (question_of_field (world_of s) (nodes_of s.ifr) (block_field store block) ≡ Some n)
     × (fields.field_of (nodes_of s.ifr) n ≡ Some (block_field store block)))

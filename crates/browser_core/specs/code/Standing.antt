@@ -2,7 +2,7 @@
 use Rattle.std.specs.Prelude.{◌≡◌, ℕ, Bool, true, if◌then◌else◌, ◌<◌, ◌^◌, All, List, [], ◌∷◌, ◌++◌, length, Option, Some, None, Result, Ok, Err}
 use Rattle.config_text.specs.Grammar.{Named, Area}
 use Rattle.config_text.specs.Written.{AreInside}
-use Rattle.ifr_opcodes.specs.Forest.{Placed}
+use Rattle.ifr_opcodes.specs.Forest.{Node}
 use Rattle.ifr_scopes.specs.code.Checked.{IsNodeOf, has_form}
 use Rattle.ifr_scopes.specs.code.Lists.{form_node}
 use Rattle.ifr_scopes.specs.declared.form.Form.{Form}
@@ -31,7 +31,7 @@ use Rattle.browser_core.specs.Step.{Outcome, Taken, accepted, denied, no_questio
 -- The package can be browsed, the questions, the stores and what is kept of conditions are its own, no two stores have one id,
 -- the spare stores are the working ones, and the form and those of the history are among its nodes.
 pub record Stands (ifr : List ℕ) (varstores : List ℕ) (questions : Survey)
-    (committed : StoreMap) (working : KeptMap) (spare : StoreMap) (form : Placed)
+    (committed : StoreMap) (working : KeptMap) (spare : StoreMap) (form : Node)
     (history : List ℕ) : Type 0 where
   pub named_stores : varstores ≡ ifr
   pub buffers : AreBuffers (layout_in ifr).buffers
@@ -68,7 +68,7 @@ abbrev pub Counts : Shown → List Write → Shown → Type 0
 Counts s writes now = now.renewed ≡ counted_all s.renewed (nodes_of s.state.ifr) writes
 
 -- A question has a value, of which it may warn; or why it may not have it, and nothing is changed.
-abbrev pub Changes : Shown → Placed → Offer → Shown → Result (Unit {0}) Denial → Type 0
+abbrev pub Changes : Shown → Node → Offer → Shown → Result (Unit {0}) Denial → Type 0
 Changes s n offer now (Ok done) =
     (set_question s.state (Some n) offer
     ≡ accepted now.state (ok_text ++ warned_text now.state now.state.working n))
@@ -90,13 +90,13 @@ Sets s id offer now (Err denial) =
     ≡ denied s.state denial) × (now ≡ s)
 
 -- a statement takes its default, where it is a question
-abbrev pub take_statement : ℕ → Taken → Placed → Taken
+abbrev pub take_statement : ℕ → Taken → Node → Taken
 take_statement class t n = if is_question n then take_default class t n else t
 
 -- What a statement leaves that takes its default, and whether it took one.
-abbrev pub TakesDefault : Shown → ℕ → Placed → Shown → Bool → Type 0
+abbrev pub TakesDefault : Shown → ℕ → Node → Shown → Bool → Type 0
 TakesDefault s class n now took =
-    ((qs : List Placed)
+    ((qs : List Node)
     → take_statement class record { state = s.state; questions = qs } n
     ≡ record { state = now.state; questions = if took then qs ++ n ∷ [] else qs })
     × Counts s (if took then field_write (nodes_of s.state.ifr) n else []) now

@@ -5,7 +5,7 @@ use Rattle.hii_bytes.specs.declared.cause.Cause.{Cause}
 use Rattle.config_text.specs.Grammar.{Named, Area}
 use Rattle.config_text.specs.Reading.{configuration_in}
 use Rattle.config_text.specs.declared.kind.TextKind.TheVariants.{Tell}
-use Rattle.ifr_opcodes.specs.Forest.{Placed}
+use Rattle.ifr_opcodes.specs.Forest.{Node}
 use Rattle.ifr_scopes.specs.Nodes.{nodes_of}
 use Rattle.hii_varstore.specs.Stores.{byte_of}
 use Rattle.hii_questions.specs.Fields.{Field, field_of, question_with}
@@ -30,7 +30,7 @@ answers_to s (order ∷ orders) = (step s order).text ∷ answers_to (step s ord
 -- ---- the fields that a command names
 
 -- the fields of some questions
-abbrev pub fields_of : List Placed → List Placed → List Field
+abbrev pub fields_of : List Node → List Node → List Field
 fields_of ns qs = filter_map (field_of ns) qs
 
 -- the fields of blocks, where their store is there

@@ -1,7 +1,7 @@
 -- Sets of questions that answer commands on them by their own fields alone (own rule).
 use Rattle.std.specs.Prelude.{◌≡◌, ℕ, Contains, Some, List, ◌++◌, ⊤}
 use Rattle.std.specs.List.{AllByRecursion, flat_map}
-use Rattle.ifr_opcodes.specs.Forest.{Placed}
+use Rattle.ifr_opcodes.specs.Forest.{Node}
 use Rattle.ifr_scopes.specs.code.Lists.{statement_node}
 use Rattle.ifr_scopes.specs.Nodes.{nodes_of, options, inconsistents, warnings}
 use Rattle.hii_varstore.specs.Stores.{StoreMap, shape_of}
@@ -21,17 +21,17 @@ use Rattle.hii_questions.specs.Changes.{field_bytes}
 -- ---- on which questions the changes of one depend
 
 -- the conditions that decide of the changes of a question: those around it, those around its options, and its own
-abbrev pub deciding : Placed → List Placed
+abbrev pub deciding : Node → List Node
 deciding q = around q ++ (flat_map around (options q) ++ (inconsistents q ++ warnings q))
 
 -- These questions are sealed: with each of them they have all on which its changes depend.
-abbrev pub IsSealed : List Placed → List ℕ → Type 0
+abbrev pub IsSealed : List Node → List ℕ → Type 0
 IsSealed ns ids =
-    (id behind : ℕ) (q : Placed) → Contains ids id → question_with ns id ≡ Some q
+    (id behind : ℕ) (q : Node) → Contains ids id → question_with ns id ≡ Some q
     → Contains (support_over ns (deciding q)) behind → Contains ids behind
 
 -- The decision is one of those on a change of the question.
-abbrev pub IsOfChange : Placed → Decision → Type 0
+abbrev pub IsOfChange : Node → Decision → Type 0
 IsOfChange q (Changeable statement) = statement_node statement ≡ q
 IsOfChange q (OptionOpen question value) = question_node question ≡ q
 IsOfChange q (Consistent question) = question_node question ≡ q
@@ -41,22 +41,22 @@ IsOfChange q _ = ⊥
 -- The conditions of the decisions on a change of a question are among those that decide of its changes.
 abbrev pub DecidingHasAll : Type 0
 DecidingHasAll =
-    (w : World) (q c : Placed) (decision : Decision) → IsOfChange q decision
+    (w : World) (q c : Node) (decision : Decision) → IsOfChange q decision
     → Contains (conditions w decision) c → Contains (deciding q) c
 
 -- Each of these is a condition of such a decision.
 abbrev pub DecidingHasNoOthers : Type 0
 DecidingHasNoOthers =
-    (w : World) (question : Question) (c : Placed) → Contains (deciding (question_node question)) c
+    (w : World) (question : Question) (c : Node) → Contains (deciding (question_node question)) c
     → (decision : Decision) × IsOfChange (question_node question) decision
     × Contains (conditions w decision) c
 
 -- ---- sessions that hold the same in some questions
 
 -- Two maps of stores hold the same bytes in the fields of these questions.
-abbrev pub HoldAlike : List Placed → List ℕ → StoreMap → StoreMap → Type 0
+abbrev pub HoldAlike : List Node → List ℕ → StoreMap → StoreMap → Type 0
 HoldAlike ns ids a b =
-    (id : ℕ) (q : Placed) → Contains ids id → question_with ns id ≡ Some q
+    (id : ℕ) (q : Node) → Contains ids id → question_with ns id ≡ Some q
     → field_bytes a (field_of ns q) ≡ field_bytes b (field_of ns q)
 
 -- Two sessions over one form set, from which the same was removed and which show the same texts, hold the same in the

@@ -3,7 +3,7 @@ use Rattle.std.specs.Prelude.{ℕ, ◌==◌, Option, Some, None, List, [], ◌++
 use Rattle.std.specs.List.{flat_map}
 use Rattle.ifr_opcodes.specs.declared.codes.TheConstants.{SUPPRESS_IF, GRAY_OUT_IF}
 use Rattle.ifr_opcodes.specs.Fields.{option_value}
-use Rattle.ifr_opcodes.specs.Forest.{Placed}
+use Rattle.ifr_opcodes.specs.Forest.{Node}
 use Rattle.ifr_opcodes.specs.Opcode.{number}
 use Rattle.ifr_scopes.specs.code.ConditionsLeft.{conditions_of_left}
 use Rattle.ifr_scopes.specs.code.Lists.{guards_left}
@@ -18,34 +18,34 @@ use Rattle.guard_policy.specs.declared.option_conditions.OptionConditions.{Optio
 use Rattle.guard_policy.specs.declared.submission.Submission.{Submission}
 
 -- the guards of a number
-abbrev pub numbered_left : ℕ → GuardsAt → List Placed
+abbrev pub numbered_left : ℕ → GuardsAt → List Node
 numbered_left code it = filter (λ g. number g.op == code) (guards_left it)
 
-abbrev pub graying_out_left : Option GuardsAt → List Placed
+abbrev pub graying_out_left : Option GuardsAt → List Node
 graying_out_left None = []
 graying_out_left (Some it) = numbered_left GRAY_OUT_IF it
 
-abbrev pub around_left : Around → List Placed
+abbrev pub around_left : Around → List Node
 around_left it = numbered_left SUPPRESS_IF it.suppressing ++ graying_out_left it.graying_out
 
 -- the conditions around the option at which it stands
-abbrev pub around_one_left : Option Around → List Placed
+abbrev pub around_one_left : Option Around → List Node
 around_one_left None = []
 around_one_left (Some it) = around_left it
 
 -- the options behind it
-abbrev pub options_of_value : OptionConditions → List Placed
+abbrev pub options_of_value : OptionConditions → List Node
 options_of_value it = filter (λ o. option_value o.op == it.value) (options_of_left it.options)
 
-abbrev pub around_options_left : OptionConditions → List Placed
+abbrev pub around_options_left : OptionConditions → List Node
 around_options_left it = around_one_left it.around ++ flat_map around (options_of_value it)
 
 -- the NO_SUBMIT_IFs that no removed DISABLE_IF hides
-abbrev pub submission_left : Submission → List Placed
+abbrev pub submission_left : Submission → List Node
 submission_left it = filter (counts it.policy.removed.now) (no_submits_left it.conditions)
 
 -- the conditions of a decision
-abbrev pub asked_left : DecisionConditions → List Placed
+abbrev pub asked_left : DecisionConditions → List Node
 asked_left (kind.Around it) = around_left it
 asked_left (kind.Options it) = around_options_left it
 asked_left (kind.Question it) = conditions_of_left it

@@ -2,7 +2,7 @@
 use Rattle.std.specs.Prelude.{◌≡◌, ℕ, Bool, true, false, Result, List, filter}
 use Rattle.std.proofs.Props.{props}
 use Rattle.std.specs.List.{AllByRecursion, AllByRecursion-prop}
-use Rattle.ifr_opcodes.specs.Forest.{Placed}
+use Rattle.ifr_opcodes.specs.Forest.{Node}
 use Rattle.hii_varstore.specs.Stores.{StoreMap}
 use Rattle.guard_policy.specs.Conditions.{is_kept}
 use Rattle.guard_policy.specs.World.{World, is_met}
@@ -13,7 +13,7 @@ use Rattle.guard_policy.specs.declared.support.Decision.TheVariants.{Consistent,
 use Rattle.guard_policy.specs.laws.Support.{conditions, denial}
 
 -- What is kept by place tells of these conditions whether they hold.
-abbrev pub Tells : (ℕ → Bool) → World → List Placed → Type 0
+abbrev pub Tells : (ℕ → Bool) → World → List Node → Type 0
 Tells holding w cs = AllByRecursion (λ c. holding c.place ≡ is_met w c) cs
 
 -- What is kept by place tells of all of them.
@@ -22,7 +22,7 @@ TellsAll holding w = Tells holding w (filter is_kept w.nodes)
 
 pub TellsAll-prop : (holding : ℕ → Bool) (w : World) → IsProp (TellsAll holding w)
 TellsAll-prop holding w =
-    AllByRecursion-prop (λ (c : Placed). holding c.place ≡ is_met w c) (λ c. hlevel props)
+    AllByRecursion-prop (λ (c : Node). holding c.place ≡ is_met w c) (λ c. hlevel props)
     (filter is_kept w.nodes)
 
 -- A decision depends only on what may be kept: not so of the consistency of a value, and of warnings.

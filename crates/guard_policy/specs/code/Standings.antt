@@ -1,6 +1,6 @@
 -- What the standing of a statement tells.
 use Rattle.std.specs.Prelude.{◌≡◌, if◌then◌else◌, Some, None, option_map, Result, Ok, Err, List, ⊤}
-use Rattle.ifr_opcodes.specs.Forest.{Placed}
+use Rattle.ifr_opcodes.specs.Forest.{Node}
 use Rattle.ifr_scopes.specs.Nodes.{is_question}
 use Rattle.hii_questions.specs.Fields.{asked}
 use Rattle.hii_questions.specs.code.Views.{question_view}
@@ -19,7 +19,7 @@ changeable_answer (Hidden denial) = Err denial
 changeable_answer (Seen statement) = statement.changeable
 
 -- A statement that is seen is told as the question that it is, if it is one.
-abbrev pub TellsQuestion : List Placed → Placed → Standing → Type 0
+abbrev pub TellsQuestion : List Node → Node → Standing → Type 0
 TellsQuestion ns n (Hidden denial) = ⊤
 TellsQuestion ns n (Seen statement) =
     option_map question_view statement.question

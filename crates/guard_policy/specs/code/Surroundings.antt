@@ -1,6 +1,6 @@
 -- What stands around nodes, as it is handed on.
 use Rattle.std.specs.Prelude.{◌≡◌, ℕ, List, None, Result, Ok, Err}
-use Rattle.ifr_opcodes.specs.Forest.{Placed}
+use Rattle.ifr_opcodes.specs.Forest.{Node}
 use Rattle.ifr_scopes.specs.Guards.{guards}
 use Rattle.ifr_scopes.specs.Locks.{first_lock}
 use Rattle.ifr_scopes.specs.Nodes.{nodes_of}
@@ -11,7 +11,7 @@ use Rattle.guard_policy.specs.World.{World}
 use Rattle.guard_policy.specs.declared.denial.Denial.{Denial}
 
 -- This stands around a node of a package.
-pub record IsAroundNode (bytes : List ℕ) (n : Placed) (around : Around) : Type 0 where
+pub record IsAroundNode (bytes : List ℕ) (n : Node) (around : Around) : Type 0 where
   pub of_package : around_package around ≡ bytes
   pub guards : around_guards around ≡ guards n
   pub lock : around_lock around ≡ first_lock (nodes_of bytes) n

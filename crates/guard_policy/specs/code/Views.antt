@@ -1,6 +1,6 @@
 -- What a policy decides over.
 use Rattle.std.specs.Prelude.{ℕ, Bool, List}
-use Rattle.ifr_opcodes.specs.Forest.{Placed}
+use Rattle.ifr_opcodes.specs.Forest.{Node}
 use Rattle.ifr_scopes.specs.Nodes.{nodes_of}
 use Rattle.hii_varstore.specs.Stores.{StoreMap}
 use Rattle.guard_policy.specs.World.{World, world_over}
@@ -15,6 +15,6 @@ abbrev pub world : Policy → StoreMap → World
 world policy stores = world_over (nodes_of policy.forms.now) policy.removed.now stores
 
 -- the nodes of its form set and what was removed from it, where these conditions hold
-abbrev pub world_by : Policy → (Placed → Bool) → World
+abbrev pub world_by : Policy → (Node → Bool) → World
 world_by policy met =
     record { nodes = nodes_of policy.forms.now; removed = policy.removed.now; met = met }

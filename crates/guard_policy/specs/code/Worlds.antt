@@ -1,11 +1,11 @@
 -- Worlds by the places of conditions.
 use Rattle.std.specs.Prelude.{ℕ, Bool, false, Option, Some, None}
-use Rattle.ifr_opcodes.specs.Forest.{Placed}
+use Rattle.ifr_opcodes.specs.Forest.{Node}
 use Rattle.ifr_scopes.specs.code.Index.{conditional_at}
 use Rattle.guard_policy.specs.World.{World, is_met}
 
 -- whether the condition at a place holds; not so where none stands
-abbrev pub is_met_if : World → Option Placed → Bool
+abbrev pub is_met_if : World → Option Node → Bool
 is_met_if w None = false
 is_met_if w (Some n) = is_met w n
 
@@ -13,5 +13,5 @@ abbrev pub is_met_at : World → ℕ → Bool
 is_met_at w place = is_met_if w (conditional_at w.nodes place)
 
 -- a world where other conditions hold
-abbrev pub otherwise : World → (Placed → Bool) → World
+abbrev pub otherwise : World → (Node → Bool) → World
 otherwise w met = record { nodes = w.nodes; removed = w.removed; met = met }

@@ -3,7 +3,7 @@ use Rattle.std.specs.Prelude.{ℕ, Bool, true, false, ◌==◌, ◌++◌, not, i
 use Rattle.std.specs.List.{flat_map, list_any}
 use Rattle.ifr_opcodes.specs.declared.codes.TheConstants.{SUPPRESS_IF, GRAY_OUT_IF}
 use Rattle.ifr_opcodes.specs.Fields.{option_value}
-use Rattle.ifr_opcodes.specs.Forest.{Placed}
+use Rattle.ifr_opcodes.specs.Forest.{Node}
 use Rattle.ifr_opcodes.specs.Opcode.{number}
 use Rattle.ifr_expr.specs.laws.Agreement.{Agree}
 use Rattle.ifr_scopes.specs.code.Checked.{IsNodeOf}
@@ -22,21 +22,21 @@ use Rattle.guard_policy.specs.declared.support.Decision.{Decision}
 use Rattle.guard_policy.specs.declared.support.Decision.TheVariants.{Listed, Changeable, OptionOpen, Opens, Consistent, MaySubmit, Warnings}
 
 -- the conditions around a node that may hide it, the outermost first, and those that may let nothing be changed
-abbrev pub suppressing : Placed → List Placed
+abbrev pub suppressing : Node → List Node
 suppressing n = filter (λ g. number g.op == SUPPRESS_IF) (guards n)
 
-abbrev pub graying_out : Placed → List Placed
+abbrev pub graying_out : Node → List Node
 graying_out n = filter (λ g. number g.op == GRAY_OUT_IF) (guards n)
 
-abbrev pub around : Placed → List Placed
+abbrev pub around : Node → List Node
 around n = suppressing n ++ graying_out n
 
 -- no removed DISABLE_IF hides it
-abbrev pub counts : List ℕ → Placed → Bool
+abbrev pub counts : List ℕ → Node → Bool
 counts removed n = not (list_any (is_removed removed) (guards n))
 
 -- the conditions of a decision, in the order in which they decide
-abbrev pub conditions : World → Decision → List Placed
+abbrev pub conditions : World → Decision → List Node
 conditions w (Listed statement) = suppressing (statement_node statement)
 conditions w (Changeable statement) = around (statement_node statement)
 conditions w (OptionOpen question value) =
@@ -67,12 +67,12 @@ denial w MaySubmit = unsubmitted w
 denial w (Warnings question) = None
 
 -- of what is warned
-abbrev pub warning_of : World → Decision → List Placed
+abbrev pub warning_of : World → Decision → List Node
 warning_of w (Warnings question) = warned w (question_node question)
 warning_of w _ = []
 
 -- the questions on whose answers some conditions depend
-abbrev pub support_over : List Placed → List Placed → List ℕ
+abbrev pub support_over : List Node → List Node → List ℕ
 support_over ns cs = flat_map (condition_ids ns) cs
 
 -- the questions on whose answers a decision depends
@@ -80,19 +80,19 @@ abbrev pub support : World → Decision → List ℕ
 support w decision = support_over w.nodes (conditions w decision)
 
 -- the questions on whose answers the condition at a place depends; none where no condition stands
-abbrev pub ids_behind_one : List Placed → Option Placed → List ℕ
+abbrev pub ids_behind_one : List Node → Option Node → List ℕ
 ids_behind_one ns None = []
 ids_behind_one ns (Some c) = condition_ids ns c
 
-abbrev pub support_at : List Placed → ℕ → List ℕ
+abbrev pub support_at : List Node → ℕ → List ℕ
 support_at ns place = ids_behind_one ns (conditional_at ns place)
 
 -- two stores of a form set give the same answers to these questions
-abbrev pub AnswersAgree : List Placed → StoreMap → StoreMap → List ℕ → Type 0
+abbrev pub AnswersAgree : List Node → StoreMap → StoreMap → List ℕ → Type 0
 AnswersAgree ns stores others ids = Agree (answers ns stores) (answers ns others) ids
 
 -- some conditions up to the first that holds, which is the last of them; all where none holds
-abbrev pub until_met : World → List Placed → List Placed
+abbrev pub until_met : World → List Node → List Node
 until_met w [] = []
 until_met w (c ∷ cs) = if is_met w c then c ∷ [] else c ∷ until_met w cs
 

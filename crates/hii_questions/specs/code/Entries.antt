@@ -1,7 +1,7 @@
 -- What is kept of questions.
 use Rattle.std.specs.Prelude.{◌≡◌, true, ℕ, Option, option_map, All, List}
 use Rattle.std.proofs.Props.{props}
-use Rattle.ifr_opcodes.specs.Forest.{Placed}
+use Rattle.ifr_opcodes.specs.Forest.{Node}
 use Rattle.ifr_scopes.specs.Nodes.{is_question}
 use Rattle.ifr_scopes.specs.code.Checked.{has_statement, node_in}
 use Rattle.hii_varstore.specs.Layout.{Shape}
@@ -24,7 +24,7 @@ entry_view ifr e =
     record { node = node_in ifr e.place; field = option_map range_in (entry_field e) }
 
 -- This is kept of a node that is a question, where these are the stores.
-pub record IsEntryOf (shape : Shape) (n : Placed) (e : QuestionEntry) : Type 0 where
+pub record IsEntryOf (shape : Shape) (n : Node) (e : QuestionEntry) : Type 0 where
   pub asks : is_question n ≡ true
   pub place : e.place ≡ n.place
   pub field : option_map range_in (entry_field e) ≡ field_at shape n

@@ -2,7 +2,7 @@
 use Rattle.std.specs.Prelude.{◌≡◌, ℕ, Bool, false, ◌==◌, ◌||◌, Option, Some, None, Result, Ok, Err, List}
 use Rattle.hii_bytes.specs.code.FirstFaults.{first_fault}
 use Rattle.hii_bytes.specs.declared.cause.Fault.{Fault}
-use Rattle.ifr_opcodes.specs.Forest.{Placed}
+use Rattle.ifr_opcodes.specs.Forest.{Node}
 use Rattle.ifr_opcodes.specs.Opcode.{number}
 use Rattle.ifr_opcodes.specs.declared.codes.TheConstants.{ONE_OF, ORDERED_LIST}
 use Rattle.hii_varstore.specs.Layout.{Shape}
@@ -19,12 +19,12 @@ abbrev pub first_part_fault : Shape → (ℕ → Bool) → List QuestionPart →
 first_part_fault shape known ps =
     first_fault place_of (has_question_fault shape known) question_causes ps
 
-abbrev pub first_option_fault : Placed → List Placed → Option Fault
+abbrev pub first_option_fault : Node → List Node → Option Fault
 first_option_fault q os =
-    first_fault (λ (o : Placed). o.place) (has_option_fault q) question_causes os
+    first_fault (λ (o : Node). o.place) (has_option_fault q) question_causes os
 
 -- a question whose options may have a fault
-abbrev pub is_choice : Placed → Bool
+abbrev pub is_choice : Node → Bool
 is_choice q = number q.op == ONE_OF || number q.op == ORDERED_LIST
 
 -- a field, if there is one, reaches past the end of a store of so many bytes

@@ -2,7 +2,7 @@
 use Rattle.std.specs.Prelude.{◌≡◌, ◌⊎◌, ℕ, ◌+◌, ◌-◌, ◌*◌, ◌^◌, ◌≤◌, ◌==◌, not, ℤ, pos, negsuc, suc, true, Option, Some, None, Ok, List, [], ◌∷◌, length, chars, filter, Contains, ⊤}
 use Rattle.hii_bytes.specs.Faults.{HasNone}
 use Rattle.hii_bytes.specs.Numbers.{AreBytes}
-use Rattle.ifr_opcodes.specs.Forest.{Placed}
+use Rattle.ifr_opcodes.specs.Forest.{Node}
 use Rattle.ifr_opcodes.specs.Fields.{question_id}
 use Rattle.ifr_expr.specs.Values as values
 use Rattle.ifr_expr.specs.Values.{Value, undefined, boolean, natural, buffer}
@@ -22,14 +22,14 @@ use Rattle.hii_questions.specs.Types.{type_of}
 
 -- Where no question has a fault, each field lies in its store.
 abbrev pub HoldsFields : Type 0
-HoldsFields = (ns : List Placed) (n : Placed) (f : Field) → HasNone (IsQuestionFault ns) →
+HoldsFields = (ns : List Node) (n : Node) (f : Field) → HasNone (IsQuestionFault ns) →
     Contains ns n → is_question n ≡ true → field_of ns n ≡ Some f
     → HasRange (layout_of ns) f.store f.offset f.width
 
 -- The question of an id is a question among the nodes, and has this id.
 abbrev pub FindsQuestions : Type 0
 FindsQuestions =
-    (ns : List Placed) (id : ℕ) (n : Placed) → question_with ns id ≡ Some n → Contains ns n
+    (ns : List Node) (id : ℕ) (n : Node) → question_with ns id ≡ Some n → Contains ns n
     × (is_question n ≡ true) × (question_id n.op ≡ id)
 
 -- The questions with a field are among all, and have exactly this field.
@@ -81,7 +81,7 @@ HasBytes offer = ⊤
 -- filled with zeros.
 abbrev pub ReadsBack : Type 0
 ReadsBack =
-    (m : StoreMap) (ns : List Placed) (n : Placed) (f : Field) (offer : Offer) (bytes : List ℕ)
+    (m : StoreMap) (ns : List Node) (n : Node) (f : Field) (offer : Offer) (bytes : List ℕ)
     → HasNone (IsQuestionFault ns) →
     Contains ns n → is_question n ≡ true → field_of ns n ≡ Some f → HasBytes offer
     → fits ns n offer ≡ Ok bytes →
@@ -91,12 +91,12 @@ ReadsBack =
 -- What a question takes are as many bytes as its field has.
 abbrev pub FillsFields : Type 0
 FillsFields =
-    (ns : List Placed) (n : Placed) (offer : Offer) (f : Field) (bytes : List ℕ)
+    (ns : List Node) (n : Node) (offer : Offer) (f : Field) (bytes : List ℕ)
     → field_of ns n ≡ Some f → fits ns n offer ≡ Ok bytes → length bytes ≡ f.width
 
 -- A write leaves the value of a field that it does not meet.
 abbrev pub LeavesOthers : Type 0
-LeavesOthers = (m : StoreMap) (id offset : ℕ) (bytes : List ℕ) (n : Placed) (f : Field) →
+LeavesOthers = (m : StoreMap) (id offset : ℕ) (bytes : List ℕ) (n : Node) (f : Field) →
     (f.store ≡ id → (f.offset + f.width ≤ offset) ⊎ (offset + length bytes ≤ f.offset)) →
     value_of_field (with_bytes m id offset bytes) n (Some f) ≡ value_of_field m n (Some f)
 
@@ -110,7 +110,7 @@ named_values t value = []
 -- offered.
 abbrev pub NamesWhatWasOffered : Type 0
 NamesWhatWasOffered =
-    (m : StoreMap) (ifr : List ℕ) (n : Placed) (f : Field) (offer : Offer) (bytes : List ℕ)
+    (m : StoreMap) (ifr : List ℕ) (n : Node) (f : Field) (offer : Offer) (bytes : List ℕ)
     → AreBytes ifr → IsAccepted ifr → HasNone (IsQuestionFault (nodes_of ifr)) →
     Contains (nodes_of ifr) n → is_question n ≡ true → field_of (nodes_of ifr) n ≡ Some f
     → fits (nodes_of ifr) n offer ≡ Ok bytes →

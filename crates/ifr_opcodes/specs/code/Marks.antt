@@ -1,12 +1,12 @@
 -- The opcode at a place, and what stands around it.
-use Rattle.ifr_opcodes.specs.Forest.{Mark, Placed, Forest, none, Ancestor}
+use Rattle.ifr_opcodes.specs.Forest.{Mark, Node, Forest, none, Ancestor}
 use Rattle.std.specs.Prelude.{◌≡◌, ℕ, ◌+◌, if◌then◌else◌, List, length, take, drop}
 use Rattle.hii_bytes.specs.declared.cause.Cause.{Cause}
 use Rattle.hii_bytes.specs.declared.cause.Cause.TheVariants.{OpLength}
 use Rattle.ifr_opcodes.specs.Opcode.{stated_length, has_scope, IsWhole}
 use Rattle.ifr_opcodes.specs.Reading.{opcodes_in, levels}
 
-abbrev pub mark : Placed → Mark
+abbrev pub mark : Node → Mark
 mark n = record { place = n.place; op = n.op }
 
 -- the children of a node with this opcode, if these follow

@@ -3,7 +3,7 @@ use Rattle.std.specs.Prelude.{List, [], ◌∷◌, Option}
 use Rattle.hii_bytes.specs.declared.cause.Cause.{Cause}
 use Rattle.hii_bytes.specs.declared.cause.Cause.TheVariants.{DuplicateForm, DuplicateQuestion, NoForm, RuleTooLarge, NotFormSet, AfterFormSet, OpOutside, OpSize, Misplaced, ScopeBit, ExprShape}
 use Rattle.hii_bytes.specs.code.FirstFaults.{first_cause}
-use Rattle.ifr_opcodes.specs.Forest.{Placed}
+use Rattle.ifr_opcodes.specs.Forest.{Node}
 use Rattle.ifr_scopes.specs.Structure.{has_structure_fault}
 
 -- the causes by their numbers
@@ -15,5 +15,5 @@ abbrev pub structure_causes : List Cause
 structure_causes =
     NotFormSet ∷ AfterFormSet ∷ OpOutside ∷ OpSize ∷ Misplaced ∷ ScopeBit ∷ ExprShape ∷ []
 
-abbrev pub least_cause : Placed → Option Cause
+abbrev pub least_cause : Node → Option Cause
 least_cause n = first_cause has_structure_fault n structure_causes

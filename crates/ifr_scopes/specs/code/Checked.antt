@@ -4,7 +4,7 @@ use Rattle.std.specs.Coded.{×_prop, Unit-prop}
 use Rattle.std.proofs.Props.{props}
 use Rattle.ifr_opcodes.specs.Opcode.{number}
 use Rattle.ifr_opcodes.specs.code.Props.{IsWhole-prop}
-use Rattle.ifr_opcodes.specs.Forest.{Forest, Forest-set, none, node, IsNode, AreNodes, Ancestor, Placed, node_at}
+use Rattle.ifr_opcodes.specs.Forest.{Forest, Forest-set, none, node, IsNode, AreNodes, Ancestor, Node, node_at}
 use Rattle.ifr_scopes.specs.Guards.{is_guard}
 use Rattle.ifr_scopes.specs.Nodes.{nodes_of, is_form, is_statement}
 use Rattle.ifr_scopes.specs.Checked.{IsChecked}
@@ -28,11 +28,11 @@ pub IsChecked-prop : (bytes : List ℕ) → IsProp (IsChecked bytes)
 IsChecked-prop bytes = hlevel (props, AreNodes-prop)
 
 -- the node at a place of a package; where there is none, one without bytes
-abbrev pub or_empty : Option Placed → Placed
+abbrev pub or_empty : Option Node → Node
 or_empty None = record { place = 0; op = []; path = []; children = none }
 or_empty (Some n) = n
 
-unfoldable pub node_in : List ℕ → ℕ → Placed
+unfoldable pub node_in : List ℕ → ℕ → Node
 node_in bytes place = or_empty (node_at (nodes_of bytes) place)
 
 -- A node with this opcode stands at this place of the package.
@@ -45,10 +45,10 @@ pub IsAt-prop : (bytes : List ℕ) (place : ℕ) (op : List ℕ) → IsProp (IsA
 IsAt-prop bytes place op = hlevel props
 
 -- these nodes, as far as place and opcode tell, stand in the package
-abbrev pub AreAt : List ℕ → List Placed → Type 0
+abbrev pub AreAt : List ℕ → List Node → Type 0
 AreAt bytes ns = All (λ n. IsAt bytes n.place n.op) ns
 
-pub AreAt-prop : (bytes : List ℕ) (ns : List Placed) → IsProp (AreAt bytes ns)
+pub AreAt-prop : (bytes : List ℕ) (ns : List Node) → IsProp (AreAt bytes ns)
 AreAt-prop bytes ns = hlevel (props, IsAt-prop)
 
 -- a node stands at this place of the package
@@ -70,23 +70,23 @@ has_statement bytes place = has_node bytes place && is_statement (node_in bytes 
 ancestor_prop : (a b : Ancestor) → IsProp (a ≡ b)
 ancestor_prop a b = hlevel (props, forest_prop)
 
-placed_prop : (n m : Placed) → IsProp (n ≡ m)
+placed_prop : (n m : Node) → IsProp (n ≡ m)
 placed_prop n m = hlevel (props, forest_prop, ancestor_prop)
 
-pub nodes_prop : (ns ms : List Placed) → IsProp (ns ≡ ms)
+pub nodes_prop : (ns ms : List Node) → IsProp (ns ≡ ms)
 nodes_prop ns ms = hlevel (props, forest_prop, ancestor_prop, placed_prop)
 
 -- the node is the one at its place in the package
-abbrev pub IsNodeOf : List ℕ → Placed → Type 0
+abbrev pub IsNodeOf : List ℕ → Node → Type 0
 IsNodeOf bytes n = node_at (nodes_of bytes) n.place ≡ Some n
 
-pub IsNodeOf-prop : (bytes : List ℕ) (n : Placed) → IsProp (IsNodeOf bytes n)
+pub IsNodeOf-prop : (bytes : List ℕ) (n : Node) → IsProp (IsNodeOf bytes n)
 IsNodeOf-prop bytes n = hlevel (props, forest_prop, ancestor_prop, placed_prop)
 
-abbrev pub AreNodesOf : List ℕ → List Placed → Type 0
+abbrev pub AreNodesOf : List ℕ → List Node → Type 0
 AreNodesOf bytes ns = All (λ n. IsNodeOf bytes n) ns
 
-pub AreNodesOf-prop : (bytes : List ℕ) (ns : List Placed) → IsProp (AreNodesOf bytes ns)
+pub AreNodesOf-prop : (bytes : List ℕ) (ns : List Node) → IsProp (AreNodesOf bytes ns)
 AreNodesOf-prop bytes ns = hlevel (props, IsNodeOf-prop)
 
 pub IsAccepted-prop : (bytes : List ℕ) → IsProp (IsAccepted bytes)

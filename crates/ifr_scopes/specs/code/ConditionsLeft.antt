@@ -1,11 +1,11 @@
 -- What the iterator over the conditions of a question has before it.
 use Rattle.std.specs.Prelude.{◌==◌, List, filter, map}
 use Rattle.std.specs.List.{take_while}
-use Rattle.ifr_opcodes.specs.Forest.{Placed}
+use Rattle.ifr_opcodes.specs.Forest.{Node}
 use Rattle.ifr_scopes.specs.code.Checked.{node_in}
 use Rattle.ifr_scopes.specs.declared.conditions_of.ConditionsOf.{ConditionsOf}
 
-abbrev pub conditions_of_left : ConditionsOf → List Placed
+abbrev pub conditions_of_left : ConditionsOf → List Node
 conditions_of_left it = map (λ kept. node_in it.ifr.now kept.place)
     (filter (λ kept. kept.code == it.code)
     (take_while (λ kept. kept.question == it.question) it.kept.now))

@@ -1,17 +1,17 @@
 -- Guards as they are kept: each as its place and the question in whose scope it stands.
 use Rattle.std.specs.Prelude.{◌≡◌, ℕ, true, All, List, map}
 use Rattle.std.proofs.Props.{props}
-use Rattle.ifr_opcodes.specs.Forest.{Placed}
+use Rattle.ifr_opcodes.specs.Forest.{Node}
 use Rattle.ifr_scopes.specs.code.Checked.{node_in, has_guard}
 use Rattle.ifr_scopes.specs.Guards.{guards}
 use Rattle.ifr_scopes.specs.Nodes.{this_of}
 use Rattle.ifr_scopes.specs.declared.guard_place.GuardPlace.{GuardPlace}
 
-abbrev pub kept_guard : Placed → GuardPlace
+abbrev pub kept_guard : Node → GuardPlace
 kept_guard guard = record { place = guard.place; this = this_of guard }
 
 -- the guards of a node, the outermost first
-abbrev pub kept_guards : Placed → List GuardPlace
+abbrev pub kept_guards : Node → List GuardPlace
 kept_guards n = map kept_guard (guards n)
 
 -- A guard stands at the place in the package, and in the scope of this question.

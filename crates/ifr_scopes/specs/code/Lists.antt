@@ -1,6 +1,6 @@
 -- What the iterators over a package have before them.
 use Rattle.std.specs.Prelude.{ℕ, List, drop, filter, map, reverse}
-use Rattle.ifr_opcodes.specs.Forest.{Placed}
+use Rattle.ifr_opcodes.specs.Forest.{Node}
 use Rattle.ifr_opcodes.specs.declared.op.Op.{Op}
 use Rattle.ifr_scopes.specs.code.Checked.{node_in}
 use Rattle.ifr_opcodes.specs.Statements.{is_statement_number}
@@ -28,16 +28,16 @@ use Rattle.ifr_scopes.specs.declared.statement.StatementKind.TheVariants as kind
 use Rattle.ifr_scopes.specs.declared.statement.Statements.{Statements}
 
 -- a guard, a form, a rule and a statement as nodes
-abbrev pub guard_node : Guard → Placed
+abbrev pub guard_node : Guard → Node
 guard_node guard = node_in guard.ifr.now guard.place
 
-abbrev pub form_node : Form → Placed
+abbrev pub form_node : Form → Node
 form_node form = node_of form.node
 
-abbrev pub rule_node : RuleView → Placed
+abbrev pub rule_node : RuleView → Node
 rule_node rule = node_of rule.node
 
-abbrev pub statement_node : Statement → Placed
+abbrev pub statement_node : Statement → Node
 statement_node statement = node_of statement.node
 
 -- the bytes of the package of a guard, of a form and of a statement
@@ -50,33 +50,33 @@ form_package form = form.node.ifr.now
 abbrev pub statement_package : Statement → List ℕ
 statement_package statement = statement.node.ifr.now
 
-abbrev pub guards_left : GuardsAt → List Placed
+abbrev pub guards_left : GuardsAt → List Node
 guards_left it = map (guard_of_number (nodes_of it.ifr.now)) (reverse it.numbers.items)
 
-abbrev pub outward_left : GuardsOutward → List Placed
+abbrev pub outward_left : GuardsOutward → List Node
 outward_left it = reverse (guards_from (nodes_of it.ifr.now) it.next)
 
-abbrev pub guards_of_left : GuardsOf → List Placed
+abbrev pub guards_of_left : GuardsOf → List Node
 guards_of_left it = map (λ guard. node_in it.ifr.now guard.place) (drop it.next it.kept.items)
 
-abbrev pub forms_left : FormViews → List Placed
+abbrev pub forms_left : FormViews → List Node
 forms_left it = filter is_form (nodes_left it.nodes)
 
-abbrev pub rules_left : RuleViews → List Placed
+abbrev pub rules_left : RuleViews → List Node
 rules_left it = map (node_in it.ifr.now) it.places.now
 
-abbrev pub statements_left : Statements → List Placed
+abbrev pub statements_left : Statements → List Node
 statements_left it = filter is_statement (nodes_left it.nodes)
 
-abbrev pub all_statements_left : AllStatements → List Placed
+abbrev pub all_statements_left : AllStatements → List Node
 all_statements_left it =
     map (λ entry. node_in it.ifr.now entry.place)
     (filter (λ entry. is_statement_number entry.code) it.entries.now)
 
-abbrev pub form_set_node : FormSet → Placed
+abbrev pub form_set_node : FormSet → Node
 form_set_node form_set = node_of form_set.node
 
-abbrev pub store_node : Varstore → Placed
+abbrev pub store_node : Varstore → Node
 store_node store = node_of store.node
 
 -- the opcode of a store, and of a statement
@@ -100,8 +100,8 @@ kind_op (kind.Time view) = view.op
 kind_op (kind.Action view) = view.op
 kind_op (kind.Ref view) = view.op
 
-abbrev pub stores_left : Varstores → List Placed
+abbrev pub stores_left : Varstores → List Node
 stores_left it = map (node_in it.ifr.now) it.places.now
 
-abbrev pub all_guards_left : GuardViews → List Placed
+abbrev pub all_guards_left : GuardViews → List Node
 all_guards_left it = map (λ guard. node_in it.ifr.now guard.place) it.guards.now

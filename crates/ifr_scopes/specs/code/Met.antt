@@ -4,7 +4,7 @@ use Rattle.std.specs.List.{list_any}
 use Rattle.hii_bytes.specs.code.NumberSets.{has_number}
 use Rattle.hii_bytes.specs.code.FirstFaults.{first_cause}
 use Rattle.hii_bytes.specs.declared.cause.Cause.{Cause}
-use Rattle.ifr_opcodes.specs.Forest.{Placed}
+use Rattle.ifr_opcodes.specs.Forest.{Node as Placed}
 use Rattle.ifr_scopes.specs.code.Checked.{node_in}
 use Rattle.ifr_scopes.specs.Nodes.{nodes_of, end_of}
 use Rattle.ifr_scopes.specs.code.KeptRules.{AreKeptRules}

@@ -1,7 +1,7 @@
 -- What the iterators over a question's scope have before them.
 use Rattle.std.specs.Prelude.{ℕ, List}
 use Rattle.ifr_opcodes.specs.declared.op.Op.{Op}
-use Rattle.ifr_opcodes.specs.Forest.{Placed}
+use Rattle.ifr_opcodes.specs.Forest.{Node}
 use Rattle.ifr_scopes.specs.code.Views.{node_of}
 use Rattle.ifr_scopes.specs.declared.condition_view.ConditionOp.{ConditionOp}
 use Rattle.ifr_scopes.specs.declared.condition_view.ConditionOp.TheVariants as condition
@@ -13,19 +13,19 @@ use Rattle.ifr_scopes.specs.declared.option_view.Options.{Options}
 use Rattle.ifr_scopes.specs.declared.default_view.DefaultView.{DefaultView}
 use Rattle.ifr_scopes.specs.declared.default_view.Defaults.{Defaults}
 
-abbrev pub option_node : OptionView → Placed
+abbrev pub option_node : OptionView → Node
 option_node option = node_of option.node
 
 abbrev pub option_package : OptionView → List ℕ
 option_package option = option.node.ifr.now
 
-abbrev pub options_left : Options → List Placed
+abbrev pub options_left : Options → List Node
 options_left it = parts_left it.nodes
 
-abbrev pub default_node : DefaultView → Placed
+abbrev pub default_node : DefaultView → Node
 default_node default = node_of default.node
 
-abbrev pub defaults_left : Defaults → List Placed
+abbrev pub defaults_left : Defaults → List Node
 defaults_left it = parts_left it.nodes
 
 -- the opcode of a condition
@@ -34,11 +34,11 @@ condition_op (condition.InconsistentIf view) = view.op
 condition_op (condition.NoSubmitIf view) = view.op
 condition_op (condition.WarningIf view) = view.op
 
-abbrev pub condition_node : ConditionView → Placed
+abbrev pub condition_node : ConditionView → Node
 condition_node condition = node_of condition.node
 
 abbrev pub condition_package : ConditionView → List ℕ
 condition_package condition = condition.node.ifr.now
 
-abbrev pub conditions_left : ConditionViews → List Placed
+abbrev pub conditions_left : ConditionViews → List Node
 conditions_left it = parts_left it.nodes

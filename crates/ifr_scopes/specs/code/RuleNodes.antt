@@ -5,14 +5,14 @@ use Rattle.hii_bytes.specs.Faults.{HasNone}
 use Rattle.ifr_opcodes.specs.declared.codes.TheConstants.{RULE}
 use Rattle.ifr_opcodes.specs.Opcode.{number}
 use Rattle.ifr_opcodes.specs.Operators.{is_operator}
-use Rattle.ifr_opcodes.specs.Forest.{Forest, none, node, Ancestor, Placed}
+use Rattle.ifr_opcodes.specs.Forest.{Forest, none, node, Ancestor, Node}
 use Rattle.ifr_expr.specs.Faults.{IsExpressionFault}
 use Rattle.ifr_expr.specs.Trees.{expression}
 use Rattle.ifr_scopes.specs.Nodes.{end_of}
 use Rattle.ifr_scopes.specs.Rules.{expression_place, forms_among, form_end}
 
 -- A rule has an expression without fault and nothing beside it, and stands in one form and in no rule.
-pub record IsRuleNode (n : Placed) : Type 0 where
+pub record IsRuleNode (n : Node) : Type 0 where
   pub op : List ℕ
   pub inner : Forest
   pub children : n.children ≡ node op inner none
@@ -24,7 +24,7 @@ pub record IsRuleNode (n : Placed) : Type 0 where
   pub outermost : filter (λ a. number a.op == RULE) n.path ≡ []
 
 -- Rules, of which the latest stands first, end one after the other, and so do their forms.
-abbrev pub Descend : List Placed → Type 0
+abbrev pub Descend : List Node → Type 0
 Descend [] = ⊤
 Descend (n ∷ earlier) =
     AllByRecursion (λ q. (end_of q < end_of n) × (form_end q.path ≤ form_end n.path)) earlier

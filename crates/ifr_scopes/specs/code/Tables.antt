@@ -6,7 +6,7 @@ use Rattle.std.proofs.Props.{props}
 use Rattle.hii_bytes.specs.code.IdTables.{number_with}
 use Rattle.hii_bytes.specs.declared.id_table.IdEntry.{IdEntry}
 use Rattle.ifr_opcodes.specs.Fields.{form_id}
-use Rattle.ifr_opcodes.specs.Forest.{Ancestor, Placed}
+use Rattle.ifr_opcodes.specs.Forest.{Ancestor, Node}
 use Rattle.ifr_opcodes.specs.Opcode.{number}
 use Rattle.ifr_scopes.specs.Guards.{is_guard, guards, guards_among}
 use Rattle.ifr_scopes.specs.Kinds.{is_condition_number}
@@ -28,29 +28,29 @@ option_prop a b = hlevel props
 -- ---- the numbers of guards
 
 -- how many guards stand before a place
-abbrev pub guards_before : List Placed → ℕ → ℕ
+abbrev pub guards_before : List Node → ℕ → ℕ
 guards_before ns place = length (filter (λ n. nat_lt n.place place) (guards_among ns))
 
 -- the number of the innermost guard on a path
-abbrev pub inner_guard : List Placed → List Ancestor → Option ℕ
+abbrev pub inner_guard : List Node → List Ancestor → Option ℕ
 inner_guard ns path =
     option_map (λ a. guards_before ns a.place)
     (last_or None (filter (λ a. is_guard (number a.op)) path))
 
 -- the guard of a number
-unfoldable pub guard_of_number : List Placed → ℕ → Placed
+unfoldable pub guard_of_number : List Node → ℕ → Node
 guard_of_number ns k = or_empty (slice_get (guards_among ns) k)
 
 -- the guard of a number, if there is one, and those around it, the outermost first
-abbrev pub guards_from : List Placed → Option ℕ → List Placed
+abbrev pub guards_from : List Node → Option ℕ → List Node
 guards_from ns None = []
 guards_from ns (Some k) = guards (guard_of_number ns k) ++ guard_of_number ns k ∷ []
 
 -- It is the number of a guard, if it is one; and all of these are.
-abbrev pub IsNumber : List Placed → Option ℕ → Type 0
+abbrev pub IsNumber : List Node → Option ℕ → Type 0
 IsNumber ns number = IfSome number (λ k. k < length (guards_among ns))
 
-abbrev pub AreNumbers : List Placed → List ℕ → Type 0
+abbrev pub AreNumbers : List Node → List ℕ → Type 0
 AreNumbers ns numbers = All (λ k. k < length (guards_among ns)) numbers
 
 -- There are so many, if it is told how many.
@@ -62,17 +62,17 @@ AreTold-prop None count = hlevel props
 AreTold-prop (Some k) count = hlevel props
 
 -- So many guards stand before this place, if it is told how many.
-abbrev pub AreBefore : List Placed → Option ℕ → ℕ → Type 0
+abbrev pub AreBefore : List Node → Option ℕ → ℕ → Type 0
 AreBefore ns told place = AreTold told (guards_before ns place)
 
-pub AreBefore-prop : (ns : List Placed) (told : Option ℕ) (place : ℕ) → IsProp (AreBefore ns told place)
+pub AreBefore-prop : (ns : List Node) (told : Option ℕ) (place : ℕ) → IsProp (AreBefore ns told place)
 AreBefore-prop ns told place = AreTold-prop told (guards_before ns place)
 
-pub IsNumber-prop : (ns : List Placed) (number : Option ℕ) → IsProp (IsNumber ns number)
+pub IsNumber-prop : (ns : List Node) (number : Option ℕ) → IsProp (IsNumber ns number)
 IsNumber-prop ns None = hlevel props
 IsNumber-prop ns (Some k) = hlevel props
 
-pub AreNumbers-prop : (ns : List Placed) (numbers : List ℕ) → IsProp (AreNumbers ns numbers)
+pub AreNumbers-prop : (ns : List Node) (numbers : List ℕ) → IsProp (AreNumbers ns numbers)
 AreNumbers-prop ns numbers = hlevel props
 
 -- the last of the numbers along a path
@@ -82,7 +82,7 @@ inner_last numbers = option_flatten (slice_get numbers (length numbers - 1))
 -- ---- the tables
 
 -- a guard, with the number of the innermost around it
-abbrev pub guard_entry : Option ℕ → Placed → GuardEntry
+abbrev pub guard_entry : Option ℕ → Node → GuardEntry
 guard_entry outer n =
     record {
       place = n.place;
@@ -92,7 +92,7 @@ guard_entry outer n =
       ends = expression_end n;
     }
 
-abbrev pub guard_table : List Placed → List GuardEntry
+abbrev pub guard_table : List Node → List GuardEntry
 guard_table ns = map (λ n. guard_entry (inner_guard ns n.path) n) (guards_among ns)
 
 -- A guard of this number stands at the place in the package, in the scope of this question, and its condition ends there.
@@ -113,15 +113,15 @@ pub AreGuardEntries-prop : (bytes : List ℕ) (guards : List GuardEntry)
 AreGuardEntries-prop bytes guards = hlevel (props, IsGuardEntry-prop)
 
 -- a form, a statement or an option, with the innermost guard around it, as long as nothing is known that locks it
-abbrev pub entry_of_node : Option ℕ → Placed → Entry
+abbrev pub entry_of_node : Option ℕ → Node → Entry
 entry_of_node guard n =
     record { place = n.place; code = number n.op; guard = guard; lock = None }
 
-abbrev pub entries_unlocked : List Placed → List Entry
+abbrev pub entries_unlocked : List Node → List Entry
 entries_unlocked ns = map (λ n. entry_of_node (inner_guard ns n.path) n) (filter is_indexed ns)
 
 -- the same, with the LOCKED that decides for it
-abbrev pub kept_entry : List Placed → Placed → Entry
+abbrev pub kept_entry : List Node → Node → Entry
 kept_entry ns n =
     record {
       place = n.place;
@@ -130,7 +130,7 @@ kept_entry ns n =
       lock = lock_place ns n;
     }
 
-abbrev pub entry_table : List Placed → List Entry
+abbrev pub entry_table : List Node → List Entry
 entry_table ns = map (kept_entry ns) (filter is_indexed ns)
 
 -- A form, a statement or an option of this number stands at the place in the package.
@@ -148,51 +148,51 @@ pub AreEntries-prop : (bytes : List ℕ) (entries : List Entry) → IsProp (AreE
 AreEntries-prop bytes entries = hlevel (props, IsEntry-prop)
 
 -- the places of the nodes of a kind
-abbrev pub places_of : (Placed → Bool) → List Placed → List ℕ
+abbrev pub places_of : (Node → Bool) → List Node → List ℕ
 places_of is ns = map (λ n. n.place) (filter is ns)
 
 -- A node of a kind stands at the place in the package, and at all of these.
-pub record IsOfKind (is : Placed → Bool) (bytes : List ℕ) (place : ℕ) : Type 0 where
+pub record IsOfKind (is : Node → Bool) (bytes : List ℕ) (place : ℕ) : Type 0 where
   pub there : has_node bytes place ≡ true
   pub kind : is (node_in bytes place) ≡ true
 
-pub IsOfKind-prop : (is : Placed → Bool) (bytes : List ℕ) (place : ℕ)
+pub IsOfKind-prop : (is : Node → Bool) (bytes : List ℕ) (place : ℕ)
     → IsProp (IsOfKind is bytes place)
 IsOfKind-prop is bytes place = hlevel props
 
-abbrev pub AreOfKind : (Placed → Bool) → List ℕ → List ℕ → Type 0
+abbrev pub AreOfKind : (Node → Bool) → List ℕ → List ℕ → Type 0
 AreOfKind is bytes places = All (λ place. IsOfKind is bytes place) places
 
-pub AreOfKind-prop : (is : Placed → Bool) (bytes places : List ℕ) → IsProp (AreOfKind is bytes places)
+pub AreOfKind-prop : (is : Node → Bool) (bytes places : List ℕ) → IsProp (AreOfKind is bytes places)
 AreOfKind-prop is bytes places = hlevel (props, IsOfKind-prop)
 
 -- the number of the innermost guard around the form, statement or option at a place
-abbrev pub innermost_at : List Placed → ℕ → Option ℕ
+abbrev pub innermost_at : List Node → ℕ → Option ℕ
 innermost_at ns place = entry_at (λ n. inner_guard ns n.path) ns place
 
 -- whether a node is a condition of a question
-abbrev pub is_question_condition : Placed → Bool
+abbrev pub is_question_condition : Node → Bool
 is_question_condition n = is_condition_number (number n.op)
 
 -- the place of what a node stands in, 0 where it stands in nothing
-abbrev pub parent_place : Placed → ℕ
+abbrev pub parent_place : Node → ℕ
 parent_place n = unwrap_or (option_map (λ a. a.place) (parent n)) 0
 
 -- how many conditions of questions stand before a place
-abbrev pub conditions_before : List Placed → ℕ → ℕ
+abbrev pub conditions_before : List Node → ℕ → ℕ
 conditions_before ns place =
     length (filter (λ n. nat_lt n.place place) (filter is_question_condition ns))
 
 -- So many of them stand before this place, if it is told how many.
-abbrev pub AreConditionsBefore : List Placed → Option ℕ → ℕ → Type 0
+abbrev pub AreConditionsBefore : List Node → Option ℕ → ℕ → Type 0
 AreConditionsBefore ns told place = AreTold told (conditions_before ns place)
 
-pub AreConditionsBefore-prop : (ns : List Placed) (told : Option ℕ) (place : ℕ)
+pub AreConditionsBefore-prop : (ns : List Node) (told : Option ℕ) (place : ℕ)
     → IsProp (AreConditionsBefore ns told place)
 AreConditionsBefore-prop ns told place = AreTold-prop told (conditions_before ns place)
 
 -- one of them, with the number of the innermost guard around it, and its own
-abbrev pub condition_entry : Option ℕ → ℕ → Placed → ConditionEntry
+abbrev pub condition_entry : Option ℕ → ℕ → Node → ConditionEntry
 condition_entry guard own n =
     record {
       place = n.place;
@@ -204,14 +204,14 @@ condition_entry guard own n =
       ends = expression_end n;
     }
 
-abbrev pub kept_condition : List Placed → Placed → ConditionEntry
+abbrev pub kept_condition : List Node → Node → ConditionEntry
 kept_condition ns n = condition_entry (inner_guard ns n.path) (conditions_before ns n.place) n
 
 -- those among some nodes, and among all
-abbrev pub conditions_among : List Placed → List Placed → List ConditionEntry
+abbrev pub conditions_among : List Node → List Node → List ConditionEntry
 conditions_among ns its = map (kept_condition ns) (filter is_question_condition its)
 
-abbrev pub condition_table : List Placed → List ConditionEntry
+abbrev pub condition_table : List Node → List ConditionEntry
 condition_table ns = conditions_among ns ns
 
 -- A condition of a question stands at the place in the package, and this is its entry.
@@ -237,15 +237,15 @@ pub AreConditionEntries-prop : (bytes : List ℕ) (kept : List ConditionEntry)
 AreConditionEntries-prop bytes kept = hlevel (props, IsConditionEntry-prop)
 
 -- a form with its place
-abbrev pub form_entry : Placed → IdEntry
+abbrev pub form_entry : Node → IdEntry
 form_entry n = record { id = form_id n.op; number = n.place }
 
 -- these are the places of the forms of a package by their ids
-abbrev pub AreFormEntries : List Placed → List IdEntry → Type 0
+abbrev pub AreFormEntries : List Node → List IdEntry → Type 0
 AreFormEntries ns forms = (id : ℕ) → number_with forms id ≡ form_place_with ns id
 
 -- These are the tables of a package's nodes.
-pub record IsIndexOf (ns : List Placed) (index : Index) : Type 0 where
+pub record IsIndexOf (ns : List Node) (index : Index) : Type 0 where
   pub entries : index.entries.items ≡ entry_table ns
   pub guards : index.guards.items ≡ guard_table ns
   pub conditions : index.conditions.items ≡ condition_table ns

@@ -1,6 +1,6 @@
 -- What the views of a package stand for.
 use Rattle.std.specs.Prelude.{List, map}
-use Rattle.ifr_opcodes.specs.Forest.{Placed}
+use Rattle.ifr_opcodes.specs.Forest.{Node as Placed}
 use Rattle.ifr_scopes.specs.code.Checked.{node_in}
 use Rattle.ifr_scopes.specs.code.Visits.{left}
 use Rattle.ifr_scopes.specs.declared.node.Node.{Node}

@@ -1,6 +1,6 @@
 -- What a walk meets.
 use Rattle.std.specs.Prelude.{◌≡◌, ◌≤◌, List, ◌∷◌, ◌++◌, length, map, take, drop}
-use Rattle.ifr_opcodes.specs.Forest.{Mark, Ancestor, Placed}
+use Rattle.ifr_opcodes.specs.Forest.{Mark, Ancestor, Node}
 use Rattle.ifr_opcodes.specs.code.Marks.{mark, ancestor_at, inside}
 use Rattle.ifr_opcodes.specs.Reading.{opcodes_in}
 use Rattle.ifr_opcodes.specs.code.Ops.{bytes_of, op_of}
@@ -9,14 +9,14 @@ use Rattle.ifr_scopes.specs.declared.walk.Visit.{Visit}
 use Rattle.ifr_scopes.specs.declared.walk.Walk.{Walk}
 
 -- a node inside of further scopes
-abbrev pub under : List Ancestor → Placed → Placed
+abbrev pub under : List Ancestor → Node → Node
 under path n = record { place = n.place; op = n.op; path = path ++ n.path; children = n.children }
 
 abbrev pub view : Visit → Mark
 view visit = op_of visit.op
 
 -- the nodes that a walk has before it, each with those of its ancestors whose scopes the walk enters
-abbrev pub left : Walk → List Placed
+abbrev pub left : Walk → List Node
 left walk = nodes_left walk.bytes.now walk.at walk.around.items
 
 -- their places and opcodes
@@ -25,7 +25,7 @@ sights walk = map mark (left walk)
 
 -- The walk meets the next node, and goes on behind its opcode.
 pub record Meets (old : Walk) (visit : Visit) (new : Walk) : Type 0 where
-  pub node : Placed
+  pub node : Node
   pub next : left old ≡ node ∷ left new
   pub shown : view visit ≡ mark node
   pub path : node.path ≡ map (ancestor_at new.bytes.now) (take visit.depth new.around.items)

@@ -4,12 +4,12 @@ use Rattle.std.specs.List.{concat, AllByRecursion, AllByRecursion-prop}
 use Rattle.std.proofs.Props.{props}
 use Rattle.ifr_opcodes.specs.Opcode.{has_scope, is_end, IsWhole}
 use Rattle.ifr_opcodes.specs.code.Props.{IsWhole-prop}
-use Rattle.ifr_opcodes.specs.Forest.{Ancestor, Placed}
+use Rattle.ifr_opcodes.specs.Forest.{Ancestor, Node}
 use Rattle.ifr_opcodes.specs.Reading.{opcodes_in}
 use Rattle.ifr_opcodes.specs.code.Marks.{inside, mark_at, ancestor_at}
 
 -- the nodes that stand first in these opcodes, inside of path, up to the END of the scope around them all
-unfoldable pub scan : ℕ → List Ancestor → List (List ℕ) → List Placed
+unfoldable pub scan : ℕ → List Ancestor → List (List ℕ) → List Node
 scan at path [] = []
 scan at path (op ∷ ops) =
     if is_end op then (if length path == 0 then []
@@ -27,7 +27,7 @@ is_shallow depth (op ∷ ops) =
     else is_shallow depth ops)
 
 -- the nodes from a place on, inside of the scopes of the nodes at these places
-abbrev pub nodes_left : List ℕ → ℕ → List ℕ → List Placed
+abbrev pub nodes_left : List ℕ → ℕ → List ℕ → List Node
 nodes_left bytes at around = scan at (map (ancestor_at bytes) around) (opcodes_in (drop at bytes))
 
 -- From a place on there are whole opcodes, which open few scopes more than those around it.

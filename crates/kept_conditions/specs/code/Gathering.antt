@@ -1,7 +1,7 @@
 -- How the readers of a package and what they name are gathered.
 use Rattle.std.specs.Prelude.{◌≡◌, ℕ, ◌<◌, ◌==◌, ◌&&◌, ◌||◌, nat_lt, Bool, All, ⊤, List, length, map, take}
 use Rattle.ifr_opcodes.specs.declared.codes.TheConstants.{SUPPRESS_IF, GRAY_OUT_IF}
-use Rattle.ifr_opcodes.specs.Forest.{Placed}
+use Rattle.ifr_opcodes.specs.Forest.{Node}
 use Rattle.ifr_opcodes.specs.Opcode.{number}
 use Rattle.ifr_expr.specs.code.Expressions.{tree_of}
 use Rattle.ifr_expr.specs.declared.names.Name.{Name}
@@ -16,11 +16,11 @@ use Rattle.kept_conditions.specs.declared.reader_expression.ReaderExpression.{Re
 use Rattle.kept_conditions.specs.declared.readers.Reader.{Reader}
 
 -- a SUPPRESS_IF or a GRAY_OUT_IF
-abbrev pub is_kept_guard : Placed → Bool
+abbrev pub is_kept_guard : Node → Bool
 is_kept_guard n = number n.op == SUPPRESS_IF || number n.op == GRAY_OUT_IF
 
 -- This is the expression of a reader.
-pub record IsExpressionOf (n : Placed) (reader : ReaderExpression) : Type 0 where
+pub record IsExpressionOf (n : Node) (reader : ReaderExpression) : Type 0 where
   pub tree : tree_of reader.expression ≡ expression_tree n
   pub this : reader.this ≡ this_in n
   pub rule : reader.is_rule ≡ is_rule n
@@ -34,13 +34,13 @@ IsBefore ends (name.Rule r) = r.place < ends
 -- ---- what is gathered
 
 -- Readings and links are those of readers of a package.
-pub record AreSound (ns : List Placed) (it : Gathered) : Type 0 where
+pub record AreSound (ns : List Node) (it : Gathered) : Type 0 where
   pub numbers : HaveNumbers (length (reader_nodes ns)) it.readings.items
   pub small : AreSmall it.readings.items
   pub linked : All (IsLink ns) it.links.items
 
 -- It is added that the reader of a number depends on the questions of some ids.
-pub record Adds (ns : List Placed) (number : ℕ) (ids : List ℕ) (old new : Gathered) : Type 0 where
+pub record Adds (ns : List Node) (number : ℕ) (ids : List ℕ) (old new : Gathered) : Type 0 where
   pub list : new.list ≡ old.list
   pub sound : AreSound ns old → AreSound ns new
   pub found : (bytes : ℕ → ℕ → Bool) (k : ℕ)
@@ -49,7 +49,7 @@ pub record Adds (ns : List Placed) (number : ℕ) (ids : List ℕ) (old new : Ga
       || (number == k && some_has_byte ns bytes ids))
 
 -- a reader that was not met yet
-abbrev pub entry : (ℕ → Bool) → Placed → Reader
+abbrev pub entry : (ℕ → Bool) → Node → Reader
 entry holding n = record {
   place = n.place;
   round = 0;
@@ -58,7 +58,7 @@ entry holding n = record {
 }
 
 -- These are the first readers of a package, and what they name.
-pub record AreGathered (ns : List Placed) (holding : ℕ → Bool) (count : ℕ) (it : Gathered) : Type 0 where
+pub record AreGathered (ns : List Node) (holding : ℕ → Bool) (count : ℕ) (it : Gathered) : Type 0 where
   pub list : it.list.items ≡ map (entry holding) (take count (reader_nodes ns))
   pub sound : AreSound ns it
   pub found : (bytes : ℕ → ℕ → Bool) (k : ℕ)

@@ -3,7 +3,7 @@ use Rattle.std.specs.Prelude.{◌≡◌, ℕ, ◌<◌, ◌≤◌, ◌==◌, ◌&
 use Rattle.std.specs.List.{list_any}
 use Rattle.std.specs.Vec.{vec_capacity}
 use Rattle.hii_bytes.specs.code.FirstFaults.{Rise}
-use Rattle.ifr_opcodes.specs.Forest.{Placed}
+use Rattle.ifr_opcodes.specs.Forest.{Node}
 use Rattle.ifr_scopes.specs.Nodes.{nodes_of, end_of}
 use Rattle.ifr_scopes.specs.Rules.{is_rule}
 use Rattle.kept_conditions.specs.Kept.{Told}
@@ -24,12 +24,12 @@ abbrev pub is_used : (ℕ → Bool) → ℕ → Link → Bool
 is_used touched k l = l.user == k && touched l.rule
 
 -- the reader of a number reads one of these bytes, or names a rule that depends on one
-abbrev pub finds : List Placed → (ℕ → ℕ → Bool) → List Reading → List Link → ℕ → Bool
+abbrev pub finds : List Node → (ℕ → ℕ → Bool) → List Reading → List Link → ℕ → Bool
 finds ns bytes readings links k =
     reads bytes readings k || list_any (is_used (is_touched ns bytes) k) links
 
 -- A link leads from a rule to a reader, which ends behind it if it is a rule, too.
-pub record IsLink (ns : List Placed) (l : Link) : Type 0 where
+pub record IsLink (ns : List Node) (l : Link) : Type 0 where
   pub rule : l.rule < length (reader_nodes ns)
   pub user : l.user < length (reader_nodes ns)
   pub named : is_rule (reader_node ns l.rule) ≡ true
@@ -46,7 +46,7 @@ values_of rs = map value_of (filter is_condition rs.list.items)
 -- The readers of a package are kept, and so is what they read and which rules they name.
 pub record IsIndex (ifr : List ℕ) (readers : Readers) (index : Index) : Type 0 where
   pub placed : map (λ (r : Reader). r.place) readers.list.items
-      ≡ map (λ (n : Placed). n.place) (reader_nodes (nodes_of ifr))
+      ≡ map (λ (n : Node). n.place) (reader_nodes (nodes_of ifr))
   pub kinds : map (λ (r : Reader). r.is_rule) readers.list.items
       ≡ map is_rule (reader_nodes (nodes_of ifr))
   pub rise : Rise (λ (x : ℕ). x) 0 (map (λ (r : Reader). r.place) readers.list.items)

@@ -1,6 +1,6 @@
 -- Stores with what is kept over them, and what a set of new bytes comes to.
 use Rattle.std.specs.Prelude.{◌≡◌, Some, None, Result, Ok, Err}
-use Rattle.ifr_opcodes.specs.Forest.{Placed}
+use Rattle.ifr_opcodes.specs.Forest.{Node}
 use Rattle.hii_varstore.specs.code.Table.{AreBuffers}
 use Rattle.hii_varstore.specs.Stores.{StoreMap, shape_of, with_bytes}
 use Rattle.hii_questions.specs.code.NewBytes.{new_bytes}
@@ -25,7 +25,7 @@ put_in it field =
 
 -- The new bytes of a field are put, and no INCONSISTENT_IF of the question holds over the stores with them; or one does, and all is
 -- as it was.
-abbrev pub SetsField : Policy → Placed → Field → KeptMap → KeptMap → Result (Unit {0}) Denial → Type 0
+abbrev pub SetsField : Policy → Node → Field → KeptMap → KeptMap → Result (Unit {0}) Denial → Type 0
 SetsField policy n field old new (Ok done) =
     (new ≡ put_in old field) × (inconsistent (world policy new.stores) n ≡ None)
 SetsField policy n field old new (Err denial) =

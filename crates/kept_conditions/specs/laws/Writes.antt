@@ -1,6 +1,6 @@
 -- Writes into stores, and the conditions that they do not touch (own rule).
 use Rattle.std.specs.Prelude.{◌≡◌, ℕ, Bool, false, List, length}
-use Rattle.ifr_opcodes.specs.Forest.{Placed}
+use Rattle.ifr_opcodes.specs.Forest.{Node}
 use Rattle.hii_varstore.specs.Stores.{StoreMap, shape_of, byte_of, with_bytes}
 use Rattle.guard_policy.specs.World.{is_met_over}
 use Rattle.kept_conditions.specs.Touching.{difference, range_of, touches}
@@ -14,7 +14,7 @@ pub record IsWrite (written : ℕ → ℕ → Bool) (old new : StoreMap) : Type 
 -- A write leaves the conditions as they were that it does not touch.
 abbrev pub LeavesUntouched : Type 0
 LeavesUntouched =
-    (ns : List Placed) (written : ℕ → ℕ → Bool) (old new : StoreMap) (c : Placed)
+    (ns : List Node) (written : ℕ → ℕ → Bool) (old new : StoreMap) (c : Node)
     → IsWrite written old new → touches ns written c ≡ false
     → is_met_over ns new c ≡ is_met_over ns old c
 

@@ -1,19 +1,19 @@
 -- Which guards of a package depend on the answer to a question.
 use Rattle.std.specs.Prelude.{ℕ, Bool, ◌&&◌, List, map}
-use Rattle.ifr_opcodes.specs.Forest.{Placed}
+use Rattle.ifr_opcodes.specs.Forest.{Node}
 use Rattle.ifr_opcodes.specs.Operators.{is_among}
 use Rattle.ifr_scopes.specs.Guards.{guards_among}
 use Rattle.guard_policy.specs.Conditions.{condition_ids}
 use Rattle.question_audit.specs.Dependences.{may_forbid}
 
 -- whether the condition of a guard depends on the answer to the question of an id
-abbrev pub names : List Placed → ℕ → Placed → Bool
+abbrev pub names : List Node → ℕ → Node → Bool
 names ns id g = is_among id (condition_ids ns g)
 
 -- this of each guard, by place
-abbrev pub naming : List Placed → ℕ → List Bool
+abbrev pub naming : List Node → ℕ → List Bool
 naming ns id = map (names ns id) (guards_among ns)
 
 -- whether a guard may forbid a change by such a condition
-abbrev pub counts : List Placed → ℕ → Placed → Bool
+abbrev pub counts : List Node → ℕ → Node → Bool
 counts ns id g = may_forbid g && names ns id g

@@ -2,7 +2,7 @@
 use Rattle.std.specs.Prelude.{◌≡◌, ℕ, List, None, Some}
 use Rattle.std.specs.List.{find, flat_map}
 use Rattle.hii_bytes.specs.declared.cause.Cause.TheVariants.{OutOfMemory}
-use Rattle.ifr_opcodes.specs.Forest.{Placed}
+use Rattle.ifr_opcodes.specs.Forest.{Node}
 use Rattle.hii_varstore.specs.Image.{image_of}
 use Rattle.hii_varstore.specs.StoreNodes.{layout_of}
 use Rattle.browser_core.specs.Texts.{refused_text}
@@ -12,12 +12,12 @@ use Rattle.setup_audit.specs.declared.ended.Ended.{Ended}
 use Rattle.setup_audit.specs.declared.ended.Ended.TheVariants.{Done, Refused, WriteOut, NoMemory}
 
 -- All of them are fit, and the bytes are their image.
-abbrev pub AreFit : List Placed → List Filling → List ℕ → List ℕ → Type 0
+abbrev pub AreFit : List Node → List Filling → List ℕ → List ℕ → Type 0
 AreFit ns fillings bytes text =
     (find is_unfit fillings ≡ None) × (text ≡ flat_map filling_text fillings)
     × (bytes ≡ image_of (stores_of (layout_of ns).guid fillings))
 
-abbrev pub SaysFillings : List Placed → List Filling → List ℕ → Ended → List ℕ → Type 0
+abbrev pub SaysFillings : List Node → List Filling → List ℕ → Ended → List ℕ → Type 0
 SaysFillings ns fillings bytes Done text = AreFit ns fillings bytes text
 SaysFillings ns fillings bytes WriteOut text = AreFit ns fillings bytes text
 SaysFillings ns fillings bytes Refused text =

@@ -1,6 +1,6 @@
 -- How a store is seen that is filled.
 use Rattle.std.specs.Prelude.{ℕ, Bool, not, List, [], map}
-use Rattle.ifr_opcodes.specs.Forest.{Placed}
+use Rattle.ifr_opcodes.specs.Forest.{Node}
 use Rattle.ifr_scopes.specs.Stores.{store_id}
 use Rattle.ifr_scopes.specs.code.Lists.{store_node}
 use Rattle.hii_varstore.specs.Stores.{Store, StoreMap, with_bytes}
@@ -10,14 +10,14 @@ use Rattle.store_audit.specs.declared.fillings.Filling.{Filling}
 use Rattle.store_audit.specs.declared.fillings.Source.{Source}
 use Rattle.store_audit.specs.declared.fillings.Source.TheVariants.{File}
 
-abbrev pub filling_node : Filling → Placed
+abbrev pub filling_node : Filling → Node
 filling_node f = store_node f.store
 
 -- how many bytes the store holds
 abbrev pub wanted : Filling → ℕ
 wanted f = wanted_of (filling_node f)
 
-abbrev pub buffer_in : Placed → Buffer
+abbrev pub buffer_in : Node → Buffer
 buffer_in n = record { id = store_id n.op; size = wanted_of n }
 
 abbrev pub filling_buffer : Filling → Buffer

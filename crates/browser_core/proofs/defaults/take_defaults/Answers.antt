@@ -1,6 +1,6 @@
 use Rattle.std.proofs.Common.{ℕ, List, Bool, true, false, rules, sym, ap, subst, ◌∙◌, arith, length}
 use Rattle.std.proofs.lemmas.List.Elements.{All-head, All-tail}
-use Rattle.ifr_opcodes.specs.Forest.{Placed}
+use Rattle.ifr_opcodes.specs.Forest.{Node}
 use Rattle.ifr_scopes.specs.code.Checked.{IsNodeOf, AreNodesOf}
 use Rattle.ifr_scopes.specs.code.Lists.{statement_node, statements_left}
 use Rattle.browser_core.specs.Step.{taken}
@@ -20,7 +20,7 @@ loop-statement-preserved-then-take_default c =
     let ns = statements_left c.next.new.self in
     let steps = c.in-Some.ensures.steps in
     let few = c.loop-statement.invariant.few in
-    let fewer = ap (λ (l : List Placed). length l) steps in
+    let fewer = ap (λ (l : List Node). length l) steps in
     let takes = c.take_default.ensures in
     record {
       can = search rules;
@@ -38,7 +38,7 @@ loop-statement-preserved c =
     let ns = statements_left c.next.new.self in
     let steps = c.in-Some.ensures.steps in
     let few = c.loop-statement.invariant.few in
-    let fewer = ap (λ (l : List Placed). length l) steps in
+    let fewer = ap (λ (l : List Node). length l) steps in
     let takes = c.take_default.ensures in
     record {
       can = search rules;

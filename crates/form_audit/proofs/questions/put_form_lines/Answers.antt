@@ -5,7 +5,7 @@ use Rattle.hii_bytes.specs.Watching.{Writes, pen_of}
 use Rattle.hii_bytes.specs.code.NumberSets.{has_number}
 use Rattle.hii_bytes.specs.code.Writing.{Stands}
 use Rattle.hii_bytes.proofs.WritingLemmas.{◌⨾◌, past_piece}
-use Rattle.ifr_opcodes.specs.Forest.{Placed}
+use Rattle.ifr_opcodes.specs.Forest.{Node}
 use Rattle.ifr_scopes.specs.Nodes.{is_question, nodes_of}
 use Rattle.ifr_scopes.specs.code.Checked.{AreNodesOf, IsNodeOf}
 use Rattle.ifr_scopes.specs.code.Lists.{form_node, statement_node}
@@ -28,7 +28,7 @@ pub loop-statement-init : goal.loop-statement-init
 loop-statement-init g c =
     let page = c.args.page in
     let bytes = bytes_of page.policy in
-    let told : Placed → List ℕ = λ n. question_line (audited page) (asked (nodes_of bytes) n) in
+    let told : Node → List ℕ = λ n. question_line (audited page) (asked (nodes_of bytes) n) in
     let front = codes "FORM " ++ form_text (audited page) (has_number c.args.reached.now) (form_node c.args.form) ++ codes "\n" in
     record {
       can = search rules;
@@ -37,7 +37,7 @@ loop-statement-init g c =
       same = c.requires.same;
       text = record {
         front = front;
-        parts = ap (λ (ns : List Placed). front ++ flat_map told (filter is_question ns)) (sym c.statements_of-statements.ensures);
+        parts = ap (λ (ns : List Node). front ++ flat_map told (filter is_question ns)) (sym c.statements_of-statements.ensures);
         written = c.put.ensures ⨾ c.put_form.ensures ⨾ c.put-2.ensures;
       };
     }
@@ -49,7 +49,7 @@ question-requires g c =
     (first_of (bytes_of c.args.page.policy) (statements_of_left c.loop-statement.statements) n (statements_of_left c.next.new.self) c.in-Some.ensures.steps c.loop-statement.invariant.nodes)
 
 -- the question that a statement is, over the package of another policy that is the same
-pub said_of : (n : Placed) (q : Asked) (other policy : Policy) → other ≡ policy → Some q ≡ (if is_question n then Some (asked (nodes_of (bytes_of other)) n) else None)
+pub said_of : (n : Node) (q : Asked) (other policy : Policy) → other ≡ policy → Some q ≡ (if is_question n then Some (asked (nodes_of (bytes_of other)) n) else None)
     → (is_question n ≡ true) × (q ≡ asked (nodes_of (bytes_of policy)) n)
 said_of n q other policy same e =
     question_of (is_question n) q (asked (nodes_of (bytes_of policy)) n)
@@ -60,7 +60,7 @@ put_question-requires-clause-node g c =
     let page = c.args.page in
     let n = statement_node c.in-Some.statement in
     let said = said_of n (question_view c.in-Some-question.question) c.policy-in-Some.result page.policy c.policy-in-Some.ensures c.in-Some-question.ensures in
-    subst (λ (m : Placed). IsNodeOf (bytes_of page.policy) m) (sym (ap (λ (q : Asked). q.node) said.1))
+    subst (λ (m : Node). IsNodeOf (bytes_of page.policy) m) (sym (ap (λ (q : Asked). q.node) said.1))
     (first_of (bytes_of page.policy) (statements_of_left c.loop-statement.statements) n (statements_of_left c.next.new.self) c.in-Some.ensures.steps c.loop-statement.invariant.nodes)
 
 pub put_question-requires-clause-lies : goal.put_question-requires-clause-lies
@@ -79,7 +79,7 @@ loop-statement-preserved-in-Some-question g c =
     let after = statements_of_left c.next.new.self in
     let n = statement_node c.in-Some.statement in
     let e = c.in-Some.ensures.steps in
-    let told : Placed → List ℕ = λ n. question_line (audited page) (asked (nodes_of bytes) n) in
+    let told : Node → List ℕ = λ n. question_line (audited page) (asked (nodes_of bytes) n) in
     let said = said_of n (question_view c.in-Some-question.question) c.policy-in-Some.result page.policy c.policy-in-Some.ensures c.in-Some-question.ensures in
     record {
       can = search rules;
@@ -98,7 +98,7 @@ loop-statement-preserved g c =
     let after = statements_of_left c.next.new.self in
     let n = statement_node c.in-Some.statement in
     let e = c.in-Some.ensures.steps in
-    let told : Placed → List ℕ = λ n. question_line (audited page) (asked (nodes_of bytes) n) in
+    let told : Node → List ℕ = λ n. question_line (audited page) (asked (nodes_of bytes) n) in
     let is = no_question_of (is_question n) (asked (nodes_of (bytes_of c.policy-in-Some.result)) n) c.in_default-question.ensures in
     record {
       can = search rules;

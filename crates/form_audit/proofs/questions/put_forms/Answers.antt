@@ -3,7 +3,7 @@ use Rattle.std.specs.Prelude.{filter}
 use Rattle.std.specs.List.{flat_map}
 use Rattle.hii_bytes.specs.code.NumberSets.{has_number}
 use Rattle.hii_bytes.proofs.WritingLemmas.{writes_nil, past_piece}
-use Rattle.ifr_opcodes.specs.Forest.{Placed}
+use Rattle.ifr_opcodes.specs.Forest.{Node}
 use Rattle.ifr_scopes.specs.Nodes.{is_form, nodes_of}
 use Rattle.ifr_scopes.specs.code.Checked.{AreNodesOf}
 use Rattle.ifr_scopes.specs.code.Lists.{form_node, forms_left}
@@ -18,7 +18,7 @@ pub loop-form-init : goal.loop-form-init
 loop-form-init g c =
     let page = c.args.page in
     let bytes = bytes_of page.policy in
-    let told : Placed → List ℕ = form_lines (audited page) (has_number c.args.reached.now) in
+    let told : Node → List ℕ = form_lines (audited page) (has_number c.args.reached.now) in
     let all = c.forms-forms.ensures ∙ ap (λ (b : List ℕ). filter is_form (nodes_of b)) (c.forms.ensures ∙ ap bytes_of c.policy.ensures) in
     record {
       can = search rules;
@@ -43,7 +43,7 @@ loop-form-preserved g c =
     let after = forms_left c.next.new.self in
     let n = form_node c.in-Some.form in
     let e = c.in-Some.ensures.steps in
-    let told : Placed → List ℕ = form_lines (audited page) (has_number c.args.reached.now) in
+    let told : Node → List ℕ = form_lines (audited page) (has_number c.args.reached.now) in
     record {
       can = search rules;
       ends = search rules;

@@ -1,7 +1,7 @@
 use Rattle.std.proofs.Common.{◌≡◌, ℕ, List, ap, subst, sym, ◌∙◌}
 use Rattle.std.specs.Prelude.{filter}
 use Rattle.hii_bytes.proofs.WritingLemmas.{◌⨾◌, writes_nil}
-use Rattle.ifr_opcodes.specs.Forest.{Placed}
+use Rattle.ifr_opcodes.specs.Forest.{Node}
 use Rattle.ifr_scopes.specs.Nodes.{nodes_of}
 use Rattle.ifr_scopes.specs.code.Index.{guards_of_indexed}
 use Rattle.ifr_scopes.specs.code.Lists.{guard_node, guards_left, statement_node}
@@ -23,7 +23,7 @@ found g c =
     let own : c.forms.result.now ≡ bytes_of page.policy = c.forms.ensures ∙ ap bytes_of c.policy.ensures in
     let looked_up = subst (λ (bytes : List ℕ). left ≡ guards_of_indexed (nodes_of bytes) c.place.result) own c.guards_at.ensures.guards in
     let there = guards_there (bytes_of page.policy) n c.place.result left page.policy.accepted.checked.spelled c.requires (of_statement n c.args.statement.statement) (sym c.place.ensures) looked_up in
-    ap (λ (gs : List Placed). filter (is_undefined_guard (audited page)) gs) (sym there)
+    ap (λ (gs : List Node). filter (is_undefined_guard (audited page)) gs) (sym there)
 
 pub returns-in-Some : goal.returns-in-Some
 returns-in-Some g c =

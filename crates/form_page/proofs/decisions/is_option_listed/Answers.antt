@@ -1,6 +1,6 @@
 use Rattle.std.proofs.Common.{◌≡◌, ◌∙◌, ap}
 use Rattle.std.specs.Prelude.{is_ok}
-use Rattle.ifr_opcodes.specs.Forest.{Placed}
+use Rattle.ifr_opcodes.specs.Forest.{Node}
 use Rattle.ifr_scopes.specs.code.Parts.{option_node}
 use Rattle.guard_policy.specs.Policy.{hidden}
 use Rattle.guard_policy.specs.laws.Support.{suppressing, graying_out}
@@ -19,5 +19,5 @@ returns g c =
     let n = option_node c.args.option in
     let holding = g.C.Conditions.holding page.conditions.now in
     let around = around_told (bytes_of page.policy) page.policy.removed.now stores holding page.policy.accepted page.told n c.requires in
-    let tells = front (λ (m : Placed). holding m.place ≡ is_met w m) (suppressing n) (graying_out n) around in
+    let tells = front (λ (m : Node). holding m.place ≡ is_met w m) (suppressing n) (graying_out n) around in
     c.is_ok.ensures.value ∙ ap is_ok (c.option_listed_by.ensures stores tells) ∙ allowed (hidden w n)

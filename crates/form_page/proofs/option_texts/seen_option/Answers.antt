@@ -2,7 +2,7 @@ use Rattle.std.proofs.Common.{◌∙◌, refl, sym, ap, List, Some}
 use Rattle.std.specs.Prelude.{◌==◌, ◌&&◌, is_none}
 use Rattle.std.proofs.lemmas.Bool.{cond-true, cond-false}
 use Rattle.ifr_opcodes.specs.Fields.{option_value}
-use Rattle.ifr_opcodes.specs.Forest.{Placed}
+use Rattle.ifr_opcodes.specs.Forest.{Node}
 use Rattle.ifr_scopes.specs.code.Lists.{statement_node}
 use Rattle.ifr_scopes.specs.code.OptionsLeft.{options_of_left}
 use Rattle.ifr_scopes.specs.code.Parts.{option_node}
@@ -27,7 +27,7 @@ returns-then-is_choice g c =
     let value = c.args.value in
     let rest = option_with w (options_of_left c.next.new.self) value in
     let found = cond-true ((option_value o.op == value) && is_none (hidden w o)) (Some o) rest (sym c.is_choice.ensures ∙ c.if-is_choice.true) in
-    sym (sym c.loop-option.invariant.0 ∙ ap (λ (l : List Placed). option_with w l value) c.in-Some.ensures.steps ∙ found)
+    sym (sym c.loop-option.invariant.0 ∙ ap (λ (l : List Node). option_with w l value) c.in-Some.ensures.steps ∙ found)
 
 pub loop-option-preserved : goal.loop-option-preserved
 loop-option-preserved g c =
@@ -35,4 +35,4 @@ loop-option-preserved g c =
     let o = option_node c.in-Some.option in
     let value = c.args.value in
     let passed = cond-false ((option_value o.op == value) && is_none (hidden w o)) (Some o) (option_with w (options_of_left c.next.new.self) value) (sym c.is_choice.ensures ∙ c.if-is_choice.false) in
-    (sym passed ∙ sym (ap (λ (l : List Placed). option_with w l value) c.in-Some.ensures.steps) ∙ c.loop-option.invariant.0, rest_of _ _ _ _ c.in-Some.ensures.steps c.loop-option.invariant.1)
+    (sym passed ∙ sym (ap (λ (l : List Node). option_with w l value) c.in-Some.ensures.steps) ∙ c.loop-option.invariant.0, rest_of _ _ _ _ c.in-Some.ensures.steps c.loop-option.invariant.1)

@@ -3,7 +3,7 @@ use Rattle.std.specs.Prelude.{Contains, filter}
 use Rattle.std.specs.List.{flat_map}
 use Rattle.std.proofs.lemmas.Result.{err_from_is_err_and}
 use Rattle.ifr_opcodes.specs.Fields.{question_id, question_store}
-use Rattle.ifr_opcodes.specs.Forest.{Mark, Placed}
+use Rattle.ifr_opcodes.specs.Forest.{Mark, Node}
 use Rattle.ifr_opcodes.specs.code.Marks.{mark}
 use Rattle.ifr_scopes.specs.code.Checked.{node_in}
 use Rattle.ifr_scopes.specs.code.Lists.{statement_node, all_statements_left}
@@ -33,11 +33,11 @@ loop-statement-init c =
     let it = c.into_iter-statement-iterator.result in
     let all : all_statements_left it ≡ filter is_statement ns = ap all_statements_left c.into_iter-statement-iterator.ensures.into_iter_gives ∙ c.statements-statement-items.ensures in
     let left : map (asked ns) (filter is_question (all_statements_left it)) ≡ questions ns =
-    ap (λ (l : List Placed). map (asked ns) (filter is_question l)) all ∙ ap (map (asked ns)) (among_statements ns) in
+    ap (λ (l : List Node). map (asked ns) (filter is_question l)) all ∙ ap (map (asked ns)) (among_statements ns) in
     record {
       can = tt;
       ends = tt;
-      within = λ n there. (passing is_statement ns n (subst (λ (l : List Placed). Contains l n) all there)).0;
+      within = λ n there. (passing is_statement ns n (subst (λ (l : List Node). Contains l n) all there)).0;
       kept = rw c.new-by_place.ensures.items (λ k d lt. absurd (omega (arith, lt)));
       found = ap (λ (es : List QuestionEntry). map (entry_view ifr) es ++ map (asked ns) (filter is_question (all_statements_left it))) c.new-by_place.ensures.items ∙ left;
       numbered = c.new-numbers.ensures.items ∙ ap (λ (es : List QuestionEntry). ids_from 0 (map (entry_view ifr) es)) (sym c.new-by_place.ensures.items);
@@ -93,7 +93,7 @@ loop-statement-preserved-in-Continue-branch-4 c =
     let left = all_statements_left c.loop-statement.statement-iterator in
     let rest = all_statements_left c.next.new.self in
     let steps : left ≡ n ∷ rest = c.in-Some.ensures.steps in
-    let here : Contains left n = subst (λ (l : List Placed). Contains l n) (sym steps) (0, omega arith, refl) in
+    let here : Contains left n = subst (λ (l : List Node). Contains l n) (sym steps) (0, omega arith, refl) in
     let within = c.loop-statement.invariant.within n here in
     let e = c.of-entry.result in
     let at = goal.at.loop-statement-preserved-in-Continue-branch-4 c in
@@ -106,7 +106,7 @@ loop-statement-preserved-in-Continue-branch-4 c =
     record {
       can = tt;
       ends = tt;
-      within = λ m there. c.loop-statement.invariant.within m (subst (λ (l : List Placed). Contains l m) (sym steps) (further n rest m there));
+      within = λ m there. c.loop-statement.invariant.within m (subst (λ (l : List Node). Contains l m) (sym steps) (further n rest m there));
       kept = rw c.in_ok-push-2.ensures.items (all_more (λ x. IsQuestionEntry ifr x) es e c.loop-statement.invariant.kept (entry_kept ifr (layout_of ns) n e s within of));
       found = ap (λ (l : List QuestionEntry). map (entry_view ifr) l ++ map (asked ns) (filter is_question rest)) c.in_ok-push-2.ensures.items
           ∙ push_question ifr (layout_of ns) es e n left rest (questions ns) s within of steps c.loop-statement.invariant.found;
@@ -128,7 +128,7 @@ loop-statement-preserved-else-is_password c =
     let left = all_statements_left c.loop-statement.statement-iterator in
     let rest = all_statements_left c.next.new.self in
     let steps : left ≡ n ∷ rest = c.in-Some.ensures.steps in
-    let here : Contains left n = subst (λ (l : List Placed). Contains l n) (sym steps) (0, omega arith, refl) in
+    let here : Contains left n = subst (λ (l : List Node). Contains l n) (sym steps) (0, omega arith, refl) in
     let within = c.loop-statement.invariant.within n here in
     let e = c.of-entry.result in
     let at = goal.at.loop-statement-preserved-else-is_password c in
@@ -141,7 +141,7 @@ loop-statement-preserved-else-is_password c =
     record {
       can = tt;
       ends = tt;
-      within = λ m there. c.loop-statement.invariant.within m (subst (λ (l : List Placed). Contains l m) (sym steps) (further n rest m there));
+      within = λ m there. c.loop-statement.invariant.within m (subst (λ (l : List Node). Contains l m) (sym steps) (further n rest m there));
       kept = rw c.in_ok-push-2.ensures.items (all_more (λ x. IsQuestionEntry ifr x) es e c.loop-statement.invariant.kept (entry_kept ifr (layout_of ns) n e s within of));
       found = ap (λ (l : List QuestionEntry). map (entry_view ifr) l ++ map (asked ns) (filter is_question rest)) c.in_ok-push-2.ensures.items
           ∙ push_question ifr (layout_of ns) es e n left rest (questions ns) s within of steps c.loop-statement.invariant.found;
@@ -165,7 +165,7 @@ loop-statement-preserved c =
     record {
       can = tt;
       ends = tt;
-      within = λ m there. c.loop-statement.invariant.within m (subst (λ (l : List Placed). Contains l m) (sym steps) (further n rest m there));
+      within = λ m there. c.loop-statement.invariant.within m (subst (λ (l : List Node). Contains l m) (sym steps) (further n rest m there));
       kept = c.loop-statement.invariant.kept;
       found = ap (λ (l : List Asked). map (entry_view c.args.forms.now) c.loop-statement.by_place.items ++ l) passed ∙ c.loop-statement.invariant.found;
       numbered = c.loop-statement.invariant.numbered;

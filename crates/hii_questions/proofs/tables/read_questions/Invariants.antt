@@ -1,7 +1,7 @@
 use Rattle.std.proofs.Common.{◌≡◌, ◌++◌, map}
 use Rattle.std.specs.Prelude.{Contains, filter}
 use Rattle.std.specs.List.{flat_map}
-use Rattle.ifr_opcodes.specs.Forest.{Placed}
+use Rattle.ifr_opcodes.specs.Forest.{Node}
 use Rattle.ifr_scopes.specs.code.Checked.{node_in}
 use Rattle.ifr_scopes.specs.code.Lists.{all_statements_left}
 use Rattle.ifr_scopes.specs.Nodes.{nodes_of, is_question}
@@ -19,7 +19,7 @@ abbrev pub invariant-loop-statement : goal.invariant-loop-statement
 invariant-loop-statement l = record {
   can : goal.iterator-loop-statement.can_next l.statement-iterator;
   ends : goal.iterator-loop-statement.is_finite l.statement-iterator;
-  within : (n : Placed) → Contains (all_statements_left l.statement-iterator) n → Contains (nodes_of l.forms) n;
+  within : (n : Node) → Contains (all_statements_left l.statement-iterator) n → Contains (nodes_of l.forms) n;
   kept : AreQuestionEntries l.forms l.by_place.items;
   found : map (entry_view l.forms) l.by_place.items ++ map (asked (nodes_of l.forms)) (filter is_question (all_statements_left l.statement-iterator)) ≡ questions (nodes_of l.forms);
   numbered : l.numbers.items ≡ ids_from 0 (map (entry_view l.forms) l.by_place.items);

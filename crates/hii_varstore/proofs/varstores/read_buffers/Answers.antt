@@ -1,6 +1,6 @@
 use Rattle.std.proofs.Common.{◌≡◌, ◌++◌, ◌∷◌, [], List, Some, None, true, false, sym, ap, subst, ◌∙◌, arith, inr}
 use Rattle.std.proofs.lemmas.Grind.{common_steps}
-use Rattle.ifr_opcodes.specs.Forest.{Placed}
+use Rattle.ifr_opcodes.specs.Forest.{Node}
 use Rattle.ifr_scopes.specs.code.Lists.{store_node, stores_left}
 use Rattle.ifr_scopes.specs.Stores.{store_id}
 use Rattle.hii_varstore.specs.StoreNodes.{declared_buffer, is_taken}
@@ -17,7 +17,7 @@ loop-store-init c = record {
 pub returns-then-meets_again-clause-refused : goal.returns-then-meets_again-clause-refused
 returns-then-meets_again-clause-refused c =
     let n = store_node c.in-Some.store in
-    let met = subst (λ (ns : List Placed). HasMet (stores_left c.args.stores) ns c.loop-store.ids c.loop-store.buffers.items) c.in-Some.ensures.steps c.loop-store.invariant.met in
+    let met = subst (λ (ns : List Node). HasMet (stores_left c.args.stores) ns c.loop-store.ids c.loop-store.buffers.items) c.in-Some.ensures.steps c.loop-store.invariant.met in
     let taken : is_taken (store_id n.op) met.before ≡ true = ap (λ id. is_taken id met.before) (sym c.id.ensures) ∙ sym (c.meets_again.ensures.told met.before met.known) ∙ c.if-meets_again.true in
     let first = refused_among (stores_left c.args.stores) _ c.requires (met_again _ _ n _ _ met taken) in
     rw (c.at.ensures, c.from.ensures, c.place.ensures) (inr first)
@@ -26,7 +26,7 @@ pub loop-store-preserved-in-Continue-branch-2 : goal.loop-store-preserved-in-Con
 loop-store-preserved-in-Continue-branch-2 c =
     let n = store_node c.in-Some.store in
     let b = c.in-Some-read_buffer.buffer in
-    let met = subst (λ (ns : List Placed). HasMet (stores_left c.args.stores) ns c.loop-store.ids c.loop-store.buffers.items) c.in-Some.ensures.steps c.loop-store.invariant.met in
+    let met = subst (λ (ns : List Node). HasMet (stores_left c.args.stores) ns c.loop-store.ids c.loop-store.buffers.items) c.in-Some.ensures.steps c.loop-store.invariant.met in
     let free : is_taken (store_id n.op) met.before ≡ false = ap (λ id. is_taken id met.before) (sym c.id.ensures) ∙ sym (c.meets_again.ensures.told met.before met.known) ∙ c.if-meets_again.false in
     let new : c.meets_again.result ≡ false = c.if-meets_again.false in
     let known = c.meets_again.ensures.met new met.before n (sym c.id.ensures) met.known in
@@ -37,7 +37,7 @@ loop-store-preserved-in-Continue-branch-2 c =
 pub loop-store-preserved : goal.loop-store-preserved
 loop-store-preserved c =
     let n = store_node c.in-Some.store in
-    let met = subst (λ (ns : List Placed). HasMet (stores_left c.args.stores) ns c.loop-store.ids c.loop-store.buffers.items) c.in-Some.ensures.steps c.loop-store.invariant.met in
+    let met = subst (λ (ns : List Node). HasMet (stores_left c.args.stores) ns c.loop-store.ids c.loop-store.buffers.items) c.in-Some.ensures.steps c.loop-store.invariant.met in
     let free : is_taken (store_id n.op) met.before ≡ false = ap (λ id. is_taken id met.before) (sym c.id.ensures) ∙ sym (c.meets_again.ensures.told met.before met.known) ∙ c.if-meets_again.false in
     let new : c.meets_again.result ≡ false = c.if-meets_again.false in
     let known = c.meets_again.ensures.met new met.before n (sym c.id.ensures) met.known in

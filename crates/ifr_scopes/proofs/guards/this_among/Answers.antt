@@ -2,7 +2,7 @@ use Rattle.std.proofs.Common.{◌≡◌, ℕ, true, false, All, None, List, [], 
 use Rattle.std.specs.List.{last_or}
 use Rattle.ifr_opcodes.specs.Fields.{question_id}
 use Rattle.ifr_opcodes.specs.Opcode.{IsWhole, number}
-use Rattle.ifr_opcodes.specs.Forest.{Ancestor, Placed}
+use Rattle.ifr_opcodes.specs.Forest.{Ancestor, Node}
 use Rattle.ifr_opcodes.specs.Statements.{is_question_number}
 use Rattle.ifr_opcodes.specs.code.Marks.{mark_at, ancestor_at}
 use Rattle.ifr_scopes.specs.Nodes.{is_question, questions_among, id_or_0}
@@ -40,7 +40,7 @@ returns-then-is_question c =
     let all : questions_among (map (ancestor_at bytes) c.args.places.now) ≡ questions_among (map (ancestor_at bytes) outer) ++ ancestor_at bytes place ∷ [] =
     sym c.loop-place.invariant.same ∙ ap (λ (l : List ℕ). questions_among (map (ancestor_at bytes) l)) c.in-Some.ensures.cases.0 ∙ last_passes (λ a. is_question_number (number a.op)) bytes outer place asks in
     let last = ap (λ (l : List Ancestor). id_or_0 (last_or None l)) all ∙ ap id_or_0 (last_or-push None (questions_among (map (ancestor_at bytes) outer)) (ancestor_at bytes place)) in
-    c.id.ensures ∙ ap question_id c.question.ensures.bytes ∙ ap (λ (n : Placed). question_id n.op) c.node_at.ensures.node ∙ ap (λ (a : Ancestor). question_id a.op) (stands k).is ∙ sym last
+    c.id.ensures ∙ ap question_id c.question.ensures.bytes ∙ ap (λ (n : Node). question_id n.op) c.node_at.ensures.node ∙ ap (λ (a : Ancestor). question_id a.op) (stands k).is ∙ sym last
 
 pub loop-place-preserved : goal.loop-place-preserved
 loop-place-preserved c =

@@ -2,7 +2,7 @@ use Rattle.std.proofs.Common.{◌≡◌, ℕ, List, [], ◌∷◌, ◌++◌, app
 use Rattle.hii_bytes.specs.declared.cause.Cause.{Cause}
 use Rattle.hii_bytes.specs.declared.cause.Fault.{Fault}
 use Rattle.hii_bytes.specs.code.FirstFaults.{fault_or, first_cause}
-use Rattle.ifr_opcodes.specs.Forest.{Placed}
+use Rattle.ifr_opcodes.specs.Forest.{Node}
 use Rattle.ifr_opcodes.specs.Reading.{tree_of}
 use Rattle.ifr_scopes.specs.code.Met.{AreOf}
 use Rattle.ifr_scopes.specs.Nodes.{nodes_of}
@@ -35,7 +35,7 @@ of_package c = c.in-Some.ensures.some.1.of_package ∙ c.step.ensures.kept ∙ c
 split : (c : After-meet) → c.loop-next.invariant.has_met.before ++ node_of c.in-Some.next.node ∷ left c.step.new.self.walk ≡ nodes_of c.args.ifr.now
 split c =
     let so_far = c.loop-next.invariant.has_met in
-    ap (λ (l : List Placed). so_far.before ++ l) (sym c.in-Some.ensures.some.0) ∙ so_far.split
+    ap (λ (l : List Node). so_far.before ++ l) (sym c.in-Some.ensures.some.0) ∙ so_far.split
 
 known : (c : After-meet) → AreOf c.in-Some.next.node.ifr.now c.loop-next.invariant.has_met.before c.loop-next.met
 known c = let so_far = c.loop-next.invariant.has_met in subst (λ (b : List ℕ). AreOf b so_far.before c.loop-next.met) (sym (of_package c)) so_far.known

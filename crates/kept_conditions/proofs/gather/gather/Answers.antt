@@ -1,6 +1,6 @@
 use Rattle.std.proofs.Common.{◌≡◌, ℕ, List, length, sym, ap, ◌∙◌, subst, arith}
 use Rattle.std.proofs.lemmas.List.{length-map}
-use Rattle.ifr_opcodes.specs.Forest.{Placed}
+use Rattle.ifr_opcodes.specs.Forest.{Node}
 use Rattle.ifr_scopes.specs.Nodes.{nodes_of}
 use Rattle.hii_varstore.specs.Stores.{StoreMap}
 use Rattle.guard_policy.specs.code.Views.{world}
@@ -21,7 +21,7 @@ loop-number-init c = record {
 pub returns : goal.returns
 returns c =
     let bytes = c.forms-forms.result.now in
-    let long : length c.in_ok-places.places.items ≡ length (reader_nodes (nodes_of bytes)) = ap (λ (l : List ℕ). length l) c.in_ok-places.ensures ∙ length-map (reader_nodes (nodes_of bytes)) (λ (n : Placed). n.place) in
+    let long : length c.in_ok-places.places.items ≡ length (reader_nodes (nodes_of bytes)) = ap (λ (l : List ℕ). length l) c.in_ok-places.ensures ∙ length-map (reader_nodes (nodes_of bytes)) (λ (n : Node). n.place) in
     let size : c.loop-number.number ≡ length (reader_nodes (nodes_of bytes)) =
     omega (arith, c.loop-number-test.false, c.loop-number.auto.number-end, c.len-number-end.ensures, c.in_ok-places.places.ok.0, long) in
     let all : AreGathered (nodes_of bytes) (λ place. is_met_at (world c.over-now.result.policy c.over-now.result.stores.now) place) c.loop-number.number c.loop-number.gathered = c.loop-number.invariant.gathered in

@@ -1,7 +1,7 @@
 use Rattle.std.proofs.Common.{◌≡◌, ℕ, List, ◌++◌, map, filter, sym, ap, ◌∙◌, subst}
 use Rattle.std.proofs.lemmas.List.{append-nil}
 use Rattle.hii_bytes.specs.code.FirstFaults.{Rise}
-use Rattle.ifr_opcodes.specs.Forest.{Placed}
+use Rattle.ifr_opcodes.specs.Forest.{Node}
 use Rattle.ifr_scopes.specs.code.Tables.{is_question_condition}
 use Rattle.ifr_scopes.specs.Nodes.{nodes_of}
 use Rattle.ifr_scopes.specs.code.AllConditionsLeft.{all_conditions_left}
@@ -12,14 +12,14 @@ use Rattle.kept_conditions.proofs.place_readers.condition_readers.Goals.{After-d
 
 pub loop-condition-init : goal.loop-condition-init
 loop-condition-init c =
-    ap (λ (l : List ℕ). l ++ map (λ (n : Placed). n.place) (all_conditions_left c.conditions-conditions.result)) c.in_ok-numbers.ensures.items
-    ∙ ap (map (λ (n : Placed). n.place)) (c.conditions-conditions.ensures.conditions ∙ ap (λ (b : List ℕ). filter is_question_condition (nodes_of b)) c.forms-forms.ensures)
+    ap (λ (l : List ℕ). l ++ map (λ (n : Node). n.place) (all_conditions_left c.conditions-conditions.result)) c.in_ok-numbers.ensures.items
+    ∙ ap (map (λ (n : Node). n.place)) (c.conditions-conditions.ensures.conditions ∙ ap (λ (b : List ℕ). filter is_question_condition (nodes_of b)) c.forms-forms.ensures)
 
 -- the places of all conditions of questions
-places : (c : After-deref_mut) → c.deref_mut.result.now ≡ map (λ (n : Placed). n.place) (filter is_question_condition (nodes_of (bytes_of c.args.policy)))
+places : (c : After-deref_mut) → c.deref_mut.result.now ≡ map (λ (n : Node). n.place) (filter is_question_condition (nodes_of (bytes_of c.args.policy)))
 places c =
     let its = c.loop-condition.numbers.items in
-    c.deref_mut.ensures.value ∙ sym (append-nil its) ∙ ap (λ (l : List Placed). its ++ map (λ (n : Placed). n.place) l) (sym c.in_default.ensures.steps.0) ∙ c.loop-condition.invariant
+    c.deref_mut.ensures.value ∙ sym (append-nil its) ∙ ap (λ (l : List Node). its ++ map (λ (n : Node). n.place) l) (sym c.in_default.ensures.steps.0) ∙ c.loop-condition.invariant
 
 pub number_readers-requires-clause-places : goal.number_readers-requires-clause-places
 number_readers-requires-clause-places c = subst (Rise (λ (p : ℕ). p) 0) (sym (places c)) (kind_rises (bytes_of c.args.policy) is_question_condition c.args.policy.accepted)

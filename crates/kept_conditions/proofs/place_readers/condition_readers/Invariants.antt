@@ -1,5 +1,5 @@
 use Rattle.std.proofs.Common.{◌≡◌, ◌++◌, length, map, filter}
-use Rattle.ifr_opcodes.specs.Forest.{Placed}
+use Rattle.ifr_opcodes.specs.Forest.{Node}
 use Rattle.ifr_scopes.specs.code.Tables.{is_question_condition}
 use Rattle.ifr_scopes.specs.Nodes.{nodes_of}
 use Rattle.ifr_scopes.specs.code.AllConditionsLeft.{all_conditions_left}
@@ -9,8 +9,8 @@ use Rattle.kept_conditions.proofs.place_readers.condition_readers.Given as goal
 -- the places so far, with those of the conditions that are left
 abbrev pub invariant-loop-condition : goal.invariant-loop-condition
 invariant-loop-condition l =
-    l.numbers.items ++ map (λ (n : Placed). n.place) (all_conditions_left l.conditions)
-    ≡ map (λ (n : Placed). n.place) (filter is_question_condition (nodes_of (bytes_of l.policy)))
+    l.numbers.items ++ map (λ (n : Node). n.place) (all_conditions_left l.conditions)
+    ≡ map (λ (n : Node). n.place) (filter is_question_condition (nodes_of (bytes_of l.policy)))
 
 abbrev pub decreases-loop-condition : goal.decreases-loop-condition
 decreases-loop-condition l = length (all_conditions_left l.conditions)

@@ -1,5 +1,5 @@
 use Rattle.std.proofs.Common.{◌≡◌, ◌++◌, length, map}
-use Rattle.ifr_opcodes.specs.Forest.{Placed}
+use Rattle.ifr_opcodes.specs.Forest.{Node}
 use Rattle.ifr_scopes.specs.Guards.{guards_among}
 use Rattle.ifr_scopes.specs.Nodes.{nodes_of}
 use Rattle.ifr_scopes.specs.code.Lists.{all_guards_left}
@@ -9,8 +9,8 @@ use Rattle.kept_conditions.proofs.place_readers.guard_readers.Given as goal
 -- the places so far, with those of the guards that are left
 abbrev pub invariant-loop-guard : goal.invariant-loop-guard
 invariant-loop-guard l =
-    l.numbers.items ++ map (λ (n : Placed). n.place) (all_guards_left l.guards)
-    ≡ map (λ (n : Placed). n.place) (guards_among (nodes_of (bytes_of l.policy)))
+    l.numbers.items ++ map (λ (n : Node). n.place) (all_guards_left l.guards)
+    ≡ map (λ (n : Node). n.place) (guards_among (nodes_of (bytes_of l.policy)))
 
 abbrev pub decreases-loop-guard : goal.decreases-loop-guard
 decreases-loop-guard l = length (all_guards_left l.guards)

@@ -1,5 +1,5 @@
 use Rattle.std.proofs.Common.{List, ◌++◌, map, filter, ap, ◌∙◌}
-use Rattle.ifr_opcodes.specs.Forest.{Placed}
+use Rattle.ifr_opcodes.specs.Forest.{Node}
 use Rattle.ifr_scopes.specs.Nodes.{nodes_of}
 use Rattle.kept_conditions.specs.code.Gathering.{is_kept_guard}
 use Rattle.kept_conditions.proofs.PlaceLemmas.{guards_kept}
@@ -8,5 +8,5 @@ use Rattle.kept_conditions.proofs.places.add_guards.Goals as goal
 pub loop-guard-init : goal.loop-guard-init
 loop-guard-init c =
     let before = c.args.places.now.items in
-    ap (λ (l : List Placed). before ++ map (λ (n : Placed). n.place) (filter is_kept_guard l)) c.guards-guards.ensures.guards
-    ∙ ap (λ (l : List Placed). before ++ map (λ (n : Placed). n.place) l) (guards_kept (nodes_of c.args.forms.now))
+    ap (λ (l : List Node). before ++ map (λ (n : Node). n.place) (filter is_kept_guard l)) c.guards-guards.ensures.guards
+    ∙ ap (λ (l : List Node). before ++ map (λ (n : Node). n.place) l) (guards_kept (nodes_of c.args.forms.now))

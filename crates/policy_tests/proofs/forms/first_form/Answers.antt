@@ -1,14 +1,14 @@
 use Rattle.std.proofs.Common.{◌≡◌, ℕ, Option, Some, None, List, [], ◌∷◌, IfSome, subst, arith}
 use Rattle.std.specs.Prelude.{MatchOption}
 use Rattle.std.proofs.lemmas.List.Elements.{All-filter, All-contains_itself}
-use Rattle.ifr_opcodes.specs.Forest.{Placed}
+use Rattle.ifr_opcodes.specs.Forest.{Node}
 use Rattle.ifr_scopes.specs.code.Checked.{IsNodeOf, AreNodesOf}
 use Rattle.ifr_scopes.specs.code.Lists.{form_node, forms_left}
 use Rattle.ifr_scopes.specs.Nodes.{nodes_of, is_form}
 use Rattle.ifr_scopes.specs.declared.form.Form.{Form}
 use Rattle.policy_tests.proofs.forms.first_form.Goals as goal
 
-first_of : (bytes : List ℕ) (left : List Placed) (first : Option Form) (rest : List Placed) → MatchOption first ((left ≡ []) × (rest ≡ [])) (λ form. left ≡ form_node form ∷ rest)
+first_of : (bytes : List ℕ) (left : List Node) (first : Option Form) (rest : List Node) → MatchOption first ((left ≡ []) × (rest ≡ [])) (λ form. left ≡ form_node form ∷ rest)
     → AreNodesOf bytes left → IfSome first (λ form. IsNodeOf bytes (form_node form))
 first_of bytes left None rest none all = tt
 first_of bytes left (Some form) rest steps all = subst (AreNodesOf bytes) steps all 0 (form_node form) (omega arith)

@@ -1,6 +1,6 @@
 use Rattle.std.proofs.Common.{◌≡◌, ℕ, Option, Some, None, List, [], ◌∷◌, IfSome, sym, ap, ◌∙◌, subst}
 use Rattle.std.specs.Prelude.{MatchOption}
-use Rattle.ifr_opcodes.specs.Forest.{Placed}
+use Rattle.ifr_opcodes.specs.Forest.{Node}
 use Rattle.ifr_scopes.specs.code.Checked.{IsNodeOf, AreNodesOf}
 use Rattle.ifr_scopes.specs.Nodes.{options}
 use Rattle.ifr_scopes.specs.code.Parts.{option_node}
@@ -9,7 +9,7 @@ use Rattle.hii_questions.specs.code.Views.{question_node}
 use Rattle.guard_policy.proofs.OptionLemmas.{options_are_nodes, first_of}
 use Rattle.policy_tests.proofs.policies.first_option.Goals as goal
 
-first_node : (bytes : List ℕ) (left : List Placed) (first : Option OptionView) (rest : List Placed) → MatchOption first ((left ≡ []) × (rest ≡ [])) (λ o. left ≡ option_node o ∷ rest)
+first_node : (bytes : List ℕ) (left : List Node) (first : Option OptionView) (rest : List Node) → MatchOption first ((left ≡ []) × (rest ≡ [])) (λ o. left ≡ option_node o ∷ rest)
     → AreNodesOf bytes left → IfSome first (λ o. IsNodeOf bytes (option_node o))
 first_node bytes left None rest none all = tt
 first_node bytes left (Some o) rest steps all = first_of bytes left (option_node o) rest steps all

@@ -3,7 +3,7 @@ use Rattle.std.specs.Prelude.{◌==◌, filter}
 use Rattle.std.proofs.lemmas.Bool.{eq-eqb}
 use Rattle.hii_bytes.specs.Watching.{pen_of}
 use Rattle.ifr_opcodes.specs.Fields.{question_id}
-use Rattle.ifr_opcodes.specs.Forest.{Placed}
+use Rattle.ifr_opcodes.specs.Forest.{Node}
 use Rattle.ifr_opcodes.specs.Opcode.{number}
 use Rattle.ifr_scopes.specs.Kinds.{is_condition_number}
 use Rattle.ifr_scopes.specs.Nodes.{nodes_of, this_of}
@@ -18,10 +18,10 @@ use Rattle.question_audit.proofs.BeginningLemmas.{at_error, stands_begun}
 use Rattle.question_audit.proofs.FactLemmas.{all_left, filter_both, past_passing}
 use Rattle.question_audit.proofs.condition_facts.put_checks.Goals as goal
 
-abbrev is_of : ℕ → Placed → Bool
+abbrev is_of : ℕ → Node → Bool
 is_of id n = this_of n == id
 
-abbrev is_condition : Placed → Bool
+abbrev is_condition : Node → Bool
 is_condition n = is_condition_number (number n.op)
 
 pub loop-check-init : goal.loop-check-init

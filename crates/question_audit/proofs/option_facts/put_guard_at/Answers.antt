@@ -3,7 +3,7 @@ use Rattle.std.specs.Prelude.{◌==◌, filter}
 use Rattle.std.proofs.lemmas.Bool.{eq-eqb}
 use Rattle.hii_bytes.specs.Watching.{pen_of}
 use Rattle.hii_bytes.proofs.WritingLemmas.{◌⨾◌}
-use Rattle.ifr_opcodes.specs.Forest.{Placed}
+use Rattle.ifr_opcodes.specs.Forest.{Node}
 use Rattle.ifr_scopes.specs.Guards.{guards}
 use Rattle.ifr_scopes.specs.code.Lists.{guard_node, guards_left}
 use Rattle.ifr_scopes.specs.code.Parts.{option_node}
@@ -14,10 +14,10 @@ use Rattle.question_audit.proofs.BeginningLemmas.{at_error, stands_begun}
 use Rattle.question_audit.proofs.FactLemmas.{all_left, past_passing}
 use Rattle.question_audit.proofs.option_facts.put_guard_at.Goals as goal
 
-abbrev words : Placed → List ℕ
+abbrev words : Node → List ℕ
 words n = codes ": " ++ condition_words n
 
-abbrev is_at : ℕ → Placed → Bool
+abbrev is_at : ℕ → Node → Bool
 is_at place n = n.place == place
 
 pub loop-guard-init : goal.loop-guard-init

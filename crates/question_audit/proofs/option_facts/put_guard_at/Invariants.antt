@@ -3,14 +3,14 @@ use Rattle.std.specs.Prelude.{◌==◌, filter}
 use Rattle.std.specs.List.{flat_map}
 use Rattle.hii_bytes.specs.Watching.{pen_of}
 use Rattle.hii_bytes.specs.code.Writing.{Stands}
-use Rattle.ifr_opcodes.specs.Forest.{Placed}
+use Rattle.ifr_opcodes.specs.Forest.{Node}
 use Rattle.ifr_scopes.specs.Guards.{guards}
 use Rattle.ifr_scopes.specs.code.Lists.{guards_left}
 use Rattle.ifr_scopes.specs.code.Parts.{option_node}
 use Rattle.question_audit.specs.ConditionFacts.{condition_words}
 use Rattle.question_audit.proofs.option_facts.put_guard_at.Given as goal
 
-abbrev pub texts_at : ℕ → List Placed → List ℕ
+abbrev pub texts_at : ℕ → List Node → List ℕ
 texts_at place gs = flat_map (λ g. codes ": " ++ condition_words g) (filter (λ g. g.place == place) gs)
 
 -- the guards at the place before those that are left were written

@@ -8,9 +8,9 @@ use Rattle.hii_questions.specs.code.Views.{question_node}
 use Rattle.guard_policy.specs.code.Views.{bytes_of}
 use Rattle.condition_text.proofs.WriteLemmas.{written_as}
 use Rattle.form_audit.specs.code.Pages.{audited}
-use Rattle.question_audit.specs.Beginnings.{Begins}
 use Rattle.question_audit.specs.ConditionFacts.{guard_facts, option_facts}
 use Rattle.question_audit.specs.Dependences.{depends_facts}
+use Rattle.question_audit.specs.code.Beginnings.{Begins}
 use Rattle.question_audit.proofs.BeginningLemmas.{at_error, begun_before, begun_behind, first_begun}
 use Rattle.question_audit.proofs.question_facts.put_question_facts.Goals as goal
 

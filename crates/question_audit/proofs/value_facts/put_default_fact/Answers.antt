@@ -2,7 +2,7 @@ use Rattle.std.proofs.Common.{Some, ap, subst, sym, ◌∙◌}
 use Rattle.hii_bytes.specs.Watching.{pen_of}
 use Rattle.hii_bytes.proofs.WritingLemmas.{writes_nil}
 use Rattle.ifr_expr.specs.Values.{Value}
-use Rattle.ifr_opcodes.specs.Forest.{Placed}
+use Rattle.ifr_opcodes.specs.Forest.{Node}
 use Rattle.ifr_scopes.specs.code.Checked.{IsNodeOf}
 use Rattle.hii_questions.specs.code.Views.{question_node, question_view}
 use Rattle.guard_policy.specs.code.Views.{bytes_of}
@@ -13,7 +13,7 @@ use Rattle.question_audit.specs.QuestionFacts.{named_default}
 use Rattle.question_audit.proofs.value_facts.put_default_fact.Goals as goal
 
 pub put_named_default-requires-clause-node : goal.put_named_default-requires-clause-node
-put_named_default-requires-clause-node g c = subst (λ (n : Placed). IsNodeOf (bytes_of c.args.page.policy) n) (sym c.statement.ensures) c.requires.node
+put_named_default-requires-clause-node g c = subst (λ (n : Node). IsNodeOf (bytes_of c.args.page.policy) n) (sym c.statement.ensures) c.requires.node
 
 pub put_named_default-requires-clause-whole : goal.put_named_default-requires-clause-whole
 put_named_default-requires-clause-whole g c = λ units e.

@@ -1,5 +1,5 @@
 use Rattle.std.proofs.Common.{◌≡◌, List, ℕ, Option, Some, sym, ap, subst, ◌∙◌}
-use Rattle.ifr_opcodes.specs.Forest.{Placed}
+use Rattle.ifr_opcodes.specs.Forest.{Node}
 use Rattle.ifr_scopes.specs.code.Checked.{IsNodeOf}
 use Rattle.hii_questions.specs.code.Offers.{offer_of}
 use Rattle.hii_questions.specs.code.Views.{question_node}
@@ -15,7 +15,7 @@ returns c =
     let found = c.in_ok-question.ensures in
     let sets = c.in_ok-change.ensures in
     let same : c.change.new.self.state.ifr ≡ s.ifr = ap (λ (o : Outcome). o.state.ifr) (sym sets.0) ∙ (set_keeps s offer (Some n)).ifr in (
-      ap (λ (o : Option Placed). set_question s o offer) found.1 ∙ sets.0,
+      ap (λ (o : Option Node). set_question s o offer) found.1 ∙ sets.0,
       found.1,
       sets.1,
       subst (λ (ifr : List ℕ). IsNodeOf ifr n) (sym same) found.0.node,

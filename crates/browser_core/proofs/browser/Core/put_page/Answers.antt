@@ -1,6 +1,6 @@
 use Rattle.std.proofs.Common.{ℕ, List, Option, sym, subst}
 use Rattle.hii_bytes.specs.Watching.{pen_of, Writes}
-use Rattle.ifr_opcodes.specs.Forest.{Placed}
+use Rattle.ifr_opcodes.specs.Forest.{Node}
 use Rattle.ifr_scopes.specs.code.Lists.{form_node}
 use Rattle.hii_varstore.specs.Stores.{StoreMap}
 use Rattle.guard_policy.specs.World.{World}
@@ -20,4 +20,4 @@ returns g c =
     let by_texts = subst (λ (t : ℕ → List ℕ). Writes a b (page_text t (pages.world_of page) page.stores.now form)) c.page.ensures.texts c.put_page.ensures in
     let by_world = subst (λ (w : World). Writes a b (page_text (texts s) w page.stores.now form)) c.page.ensures.world by_texts in
     let by_stores = subst (λ (m : StoreMap). Writes a b (page_text (texts s) (world_of s) m form)) c.page.ensures.stores by_world in
-    subst (λ (o : Option Placed). Writes a b (page_at s o)) (sym c.page.ensures.form) by_stores
+    subst (λ (o : Option Node). Writes a b (page_at s o)) (sym c.page.ensures.form) by_stores

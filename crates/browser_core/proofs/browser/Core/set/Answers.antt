@@ -1,7 +1,7 @@
 use Rattle.std.proofs.Common.{List, sym, ap, subst, ◌∙◌}
 use Rattle.hii_bytes.specs.Watching.{pen_of, Writes}
 use Rattle.hii_bytes.proofs.WritingLemmas.{◌⨾◌}
-use Rattle.ifr_opcodes.specs.Forest.{Placed}
+use Rattle.ifr_opcodes.specs.Forest.{Node}
 use Rattle.ifr_scopes.specs.Nodes.{nodes_of}
 use Rattle.hii_questions.specs.Fields.{question_with}
 use Rattle.browser_core.specs.Renewed.{Shown, field_writes, named_if}
@@ -22,4 +22,4 @@ returns-in-Err-clause-renewed g c =
     let s = c.args.self.now.state in
     let o = question_with (nodes_of s.ifr) c.args.id in
     ap (λ (t : Shown). t.renewed) c.in-Err.ensures.1
-    ∙ sym (ap (λ (qs : List Placed). counted_all c.args.self.now.renewed (nodes_of s.ifr) (field_writes (nodes_of s.ifr) qs)) (ap (named_if o) c.deny.ensures.reply ∙ names_nothing o c.in-Err.denial))
+    ∙ sym (ap (λ (qs : List Node). counted_all c.args.self.now.renewed (nodes_of s.ifr) (field_writes (nodes_of s.ifr) qs)) (ap (named_if o) c.deny.ensures.reply ∙ names_nothing o c.in-Err.denial))

@@ -3,7 +3,7 @@ use Rattle.std.specs.List.Sorted.{IsSortedByKey, IsPartitionPoint}
 use Rattle.std.specs.Ordering.{nat_cmp}
 use Rattle.std.proofs.lemmas.List.{get_or_default}
 use Rattle.std.proofs.lemmas.List.Sorted.{IsPartitionPoint-from_clause}
-use Rattle.ifr_opcodes.specs.Forest.{Placed}
+use Rattle.ifr_opcodes.specs.Forest.{Node}
 use Rattle.ifr_scopes.specs.Nodes.{nodes_of}
 use Rattle.ifr_scopes.specs.Stores.{store_id}
 use Rattle.ifr_scopes.specs.code.Lists.{store_node}
@@ -29,7 +29,7 @@ split_stores c =
 -- the first of an id among them is that of the package
 of_package : (c : After-partition_point-first) → option_map store_node (find (λ s. id_of s == c.args.id) c.as_slice-stores.result.now) ≡ store_with (nodes_of c.args.self.now) c.args.id
 of_package c =
-    let test = λ (n : Placed). store_id n.op == c.args.id in
+    let test = λ (n : Node). store_id n.op == c.args.id in
     sym (found_mapped store_node test c.as_slice-stores.result.now)
     ∙ ap (λ (xs : List Varstore). find test (map store_node xs)) c.as_slice-stores.ensures.value
     ∙ c.self.invariant.first c.args.id ∙ ap (λ (bytes : List ℕ). store_with (nodes_of bytes) c.args.id) c.self.view_is

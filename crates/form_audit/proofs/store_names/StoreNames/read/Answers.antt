@@ -1,7 +1,7 @@
 use Rattle.std.proofs.Common.{◌≡◌, ◌==◌, ◌∙◌, ap, sym, map, option_map, find, rules, List, Option}
 use Rattle.std.specs.Prelude.{filter}
 use Rattle.std.proofs.lemmas.List.Sorted.{answers_always}
-use Rattle.ifr_opcodes.specs.Forest.{Placed}
+use Rattle.ifr_opcodes.specs.Forest.{Node}
 use Rattle.ifr_scopes.specs.Nodes.{nodes_of, is_store}
 use Rattle.ifr_scopes.specs.Stores.{store_id}
 use Rattle.ifr_scopes.specs.code.Lists.{store_node}
@@ -20,8 +20,8 @@ invariant_of-result c =
     record {
       sorted = c.in_ok-sort_by_key.ensures.sorted id_of (answers_always _ _ _ (λ e a r g called. search rules));
       first = λ id.
-          found_mapped store_node (λ (n : Placed). store_id n.op == id) after
+          found_mapped store_node (λ (n : Node). store_id n.op == id) after
           ∙ ap (λ (o : Option Varstore). option_map store_node o) (same_first id_of before after id (c.in_ok-sort_by_key.ensures.stable id_of (answers_always _ _ _ (λ e a r g called. search rules))))
-          ∙ sym (found_mapped store_node (λ (n : Placed). store_id n.op == id) before)
-          ∙ ap (λ (ns : List Placed). find (λ n. store_id n.op == id) ns) (all ∙ ap (λ bytes. filter is_store (nodes_of bytes)) (sym same));
+          ∙ sym (found_mapped store_node (λ (n : Node). store_id n.op == id) before)
+          ∙ ap (λ (ns : List Node). find (λ n. store_id n.op == id) ns) (all ∙ ap (λ bytes. filter is_store (nodes_of bytes)) (sym same));
     }

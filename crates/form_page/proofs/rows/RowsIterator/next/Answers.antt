@@ -1,5 +1,5 @@
 use Rattle.std.proofs.Common.{◌≡◌, ℕ, ◌+◌, List, ◌∷◌, length, refl, sym, ap, ◌∙◌, arith}
-use Rattle.ifr_opcodes.specs.Forest.{Placed}
+use Rattle.ifr_opcodes.specs.Forest.{Node}
 use Rattle.ifr_scopes.specs.code.Lists.{statement_node}
 use Rattle.form_page.specs.Pages.{row_of, rows_from}
 use Rattle.form_page.specs.code.ListedViews.{all_left, listed_left}
@@ -35,7 +35,7 @@ invariant_of-self g c =
     let old_left = ap (λ (page : Page _ _). listed_among (world_of page) (all_left it.listed)) same in
     let new_left = ap (λ (page : Page _ _). listed_among (world_of page) (all_left new)) (c.in-Some.ensures.page ∙ same) in
     let its = first g (goal.at.invariant_of-self g c).In-Some-row_of in
-    let count : length (listed_left it.listed) ≡ length (statement_node c.in-Some.statement ∷ listed_left new) = ap length (old_left ∙ its.listed ∙ ap (λ (l : List Placed). statement_node c.in-Some.statement ∷ l) (sym new_left)) in
+    let count : length (listed_left it.listed) ≡ length (statement_node c.in-Some.statement ∷ listed_left new) = ap length (old_left ∙ its.listed ∙ ap (λ (l : List Node). statement_node c.in-Some.statement ∷ l) (sym new_left)) in
     record { few = omega (arith, it.few, count) }
 
 -- the row that is given, and those behind it

@@ -2,7 +2,7 @@ use Rattle.std.proofs.Common.{◌≡◌, ◌∙◌, sym, ap, subst, List}
 use Rattle.std.specs.Prelude.{filter, ◌==◌}
 use Rattle.std.specs.List.{flat_map}
 use Rattle.ifr_opcodes.specs.Fields.{option_value}
-use Rattle.ifr_opcodes.specs.Forest.{Placed}
+use Rattle.ifr_opcodes.specs.Forest.{Node}
 use Rattle.ifr_scopes.specs.code.Checked.{AreNodesOf}
 use Rattle.ifr_scopes.specs.Nodes.{options}
 use Rattle.ifr_scopes.specs.code.OptionsLeft.{options_of_left}
@@ -21,4 +21,4 @@ pub returns : goal.returns
 returns c =
     let q = question_node c.args.question in
     let all : options_of_left c.options_of-options.result ≡ options q = c.options_of-options.ensures ∙ ap options c.statement.ensures in
-    ap (λ (os : List Placed). flat_map around (filter (λ o. option_value o.op == c.args.value) os)) all
+    ap (λ (os : List Node). flat_map around (filter (λ o. option_value o.op == c.args.value) os)) all

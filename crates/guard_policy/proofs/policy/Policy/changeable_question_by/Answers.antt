@@ -1,5 +1,5 @@
 use Rattle.std.proofs.Common.{sym, ap, ◌∙◌}
-use Rattle.ifr_opcodes.specs.Forest.{Placed}
+use Rattle.ifr_opcodes.specs.Forest.{Node}
 use Rattle.guard_policy.specs.Policy.{fixed}
 use Rattle.guard_policy.specs.code.Answers.{unless}
 use Rattle.guard_policy.specs.code.Surroundings.{answer_of}
@@ -12,6 +12,6 @@ pub returns-clause-answer : goal.returns-clause-answer
 returns-clause-answer g c = λ statement same.
     let policy = c.args.self.now in
     let holding = g.C.Conditions.holding c.args.conditions.now in
-    let w = world_by policy (λ (n : Placed). holding n.place) in
+    let w = world_by policy (λ (n : Node). holding n.place) in
     decided policy holding (Changeable statement) (answer_of c.changeable_question_with.result)
-    (c.changeable_question_with.ensures.answer ∙ ap (λ (n : Placed). unless (fixed w n)) (sym same))
+    (c.changeable_question_with.ensures.answer ∙ ap (λ (n : Node). unless (fixed w n)) (sym same))

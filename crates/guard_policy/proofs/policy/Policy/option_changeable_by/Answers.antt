@@ -1,5 +1,5 @@
 use Rattle.std.proofs.Common.{ap, ◌∙◌}
-use Rattle.ifr_opcodes.specs.Forest.{Placed}
+use Rattle.ifr_opcodes.specs.Forest.{Node}
 use Rattle.ifr_scopes.specs.code.Parts.{option_node}
 use Rattle.guard_policy.specs.code.Answers.{unless}
 use Rattle.guard_policy.specs.code.Views.{world}
@@ -12,4 +12,4 @@ returns g c =
     let holding = g.C.Conditions.holding c.args.conditions.now in
     λ stores told.
     c.option_selectable.ensures
-    ∙ ap unless (fixed_same (world c.args.self.now stores) (λ (m : Placed). holding m.place) n told)
+    ∙ ap unless (fixed_same (world c.args.self.now stores) (λ (m : Node). holding m.place) n told)

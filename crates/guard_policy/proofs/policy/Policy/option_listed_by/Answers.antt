@@ -1,5 +1,5 @@
 use Rattle.std.proofs.Common.{ap, sym, ◌∙◌}
-use Rattle.ifr_opcodes.specs.Forest.{Placed}
+use Rattle.ifr_opcodes.specs.Forest.{Node}
 use Rattle.ifr_scopes.specs.code.Parts.{option_node}
 use Rattle.guard_policy.specs.code.Answers.{unless}
 use Rattle.guard_policy.specs.code.Views.{world}
@@ -13,4 +13,4 @@ returns g c =
     let holding = g.C.Conditions.holding c.args.conditions.now in
     λ stores told.
     c.seen_at.ensures n c.requires (of_option n c.args.option.option) (sym c.place.ensures)
-    ∙ ap unless (hidden_same (world c.args.self.now stores) (λ (m : Placed). holding m.place) n told)
+    ∙ ap unless (hidden_same (world c.args.self.now stores) (λ (m : Node). holding m.place) n told)

@@ -2,7 +2,7 @@ use Rattle.std.proofs.Common.{◌≡◌, ◌∙◌, refl, sym, ap, subst, List, 
 use Rattle.std.specs.Prelude.{filter, ◌==◌}
 use Rattle.std.proofs.lemmas.Bool.{cond-true, cond-false, eq-eqb, ne_eqb}
 use Rattle.ifr_opcodes.specs.Fields.{option_value}
-use Rattle.ifr_opcodes.specs.Forest.{Placed}
+use Rattle.ifr_opcodes.specs.Forest.{Node}
 use Rattle.ifr_scopes.specs.code.Checked.{AreNodesOf}
 use Rattle.ifr_scopes.specs.Nodes.{options}
 use Rattle.ifr_scopes.specs.code.OptionsLeft.{options_of_left}
@@ -25,7 +25,7 @@ loop-option-init g c =
       can = search rules;
       ends = search rules;
       nodes = subst (AreNodesOf c.args.self.now.forms.now) (sym all) (options_are_nodes c.args.self.now.forms.now q c.args.self.now.accepted.checked.spelled c.requires.node);
-      same = ap (λ (os : List Placed). all_fixed w (filter (λ o. option_value o.op == c.args.value) os)) all;
+      same = ap (λ (os : List Node). all_fixed w (filter (λ o. option_value o.op == c.args.value) os)) all;
     }
 
 pub option_selectable-requires : goal.option_selectable-requires
@@ -36,10 +36,10 @@ returns-in-Ok g c =
     let w = world_by c.args.self.now (g.V.Verdicts.met c.args.verdicts.now) in
     let o = option_node c.in-Some.option in
     let told : c.value.result ≡ option_value o.op = c.value.ensures ∙ ap option_value c.op.ensures.bytes in
-    let rest = filter (λ (p : Placed). option_value p.op == c.args.value) (options_of_left c.next.new.self) in
+    let rest = filter (λ (p : Node). option_value p.op == c.args.value) (options_of_left c.next.new.self) in
     let split = cond-true (option_value o.op == c.args.value) (o ∷ rest) rest (eq-eqb (option_value o.op) c.args.value (sym told ∙ c.if-value.true)) in
     let free = none_of (fixed w o) (sym c.option_selectable.ensures ∙ c.in-Ok.is) in
-    let none = ap (standing w c.loop-option.first) (ap (filter (λ (p : Placed). option_value p.op == c.args.value)) c.in-Some.ensures.steps ∙ split) ∙ open_one w c.loop-option.first o rest free in
+    let none = ap (standing w c.loop-option.first) (ap (filter (λ (p : Node). option_value p.op == c.args.value)) c.in-Some.ensures.steps ∙ split) ∙ open_one w c.loop-option.first o rest free in
     ap unless (sym none ∙ c.loop-option.invariant.same)
 
 pub loop-option-preserved-in-Err : goal.loop-option-preserved-in-Err
@@ -47,10 +47,10 @@ loop-option-preserved-in-Err g c =
     let w = world_by c.args.self.now (g.V.Verdicts.met c.args.verdicts.now) in
     let o = option_node c.in-Some.option in
     let told : c.value.result ≡ option_value o.op = c.value.ensures ∙ ap option_value c.op.ensures.bytes in
-    let rest = filter (λ (p : Placed). option_value p.op == c.args.value) (options_of_left c.next.new.self) in
+    let rest = filter (λ (p : Node). option_value p.op == c.args.value) (options_of_left c.next.new.self) in
     let split = cond-true (option_value o.op == c.args.value) (o ∷ rest) rest (eq-eqb (option_value o.op) c.args.value (sym told ∙ c.if-value.true)) in
     let why = some_of (fixed w o) c.in-Err.denial (sym c.option_selectable.ensures ∙ c.in-Err.is) in
-    let more = ap (standing w c.loop-option.first) (ap (filter (λ (p : Placed). option_value p.op == c.args.value)) c.in-Some.ensures.steps ∙ split) ∙ fixed_one w c.loop-option.first o rest c.in-Err.denial why in
+    let more = ap (standing w c.loop-option.first) (ap (filter (λ (p : Node). option_value p.op == c.args.value)) c.in-Some.ensures.steps ∙ split) ∙ fixed_one w c.loop-option.first o rest c.in-Err.denial why in
     record {
       can = search rules;
       ends = search rules;
@@ -63,9 +63,9 @@ loop-option-preserved g c =
     let w = world_by c.args.self.now (g.V.Verdicts.met c.args.verdicts.now) in
     let o = option_node c.in-Some.option in
     let told : c.value.result ≡ option_value o.op = c.value.ensures ∙ ap option_value c.op.ensures.bytes in
-    let rest = filter (λ (p : Placed). option_value p.op == c.args.value) (options_of_left c.next.new.self) in
+    let rest = filter (λ (p : Node). option_value p.op == c.args.value) (options_of_left c.next.new.self) in
     let split = cond-false (option_value o.op == c.args.value) (o ∷ rest) rest (ne_eqb (option_value o.op) c.args.value (λ e. c.if-value.false (told ∙ e))) in
-    let passed = ap (standing w c.loop-option.first) (ap (filter (λ (p : Placed). option_value p.op == c.args.value)) c.in-Some.ensures.steps ∙ split) in
+    let passed = ap (standing w c.loop-option.first) (ap (filter (λ (p : Node). option_value p.op == c.args.value)) c.in-Some.ensures.steps ∙ split) in
     record {
       can = search rules;
       ends = search rules;

@@ -1,7 +1,7 @@
 use Rattle.std.proofs.Common.{◌≡◌, Option, Err, sym, ap, ◌∙◌}
 use Rattle.std.specs.Prelude.{option_map}
 use Rattle.std.specs.List.{find}
-use Rattle.ifr_opcodes.specs.Forest.{Placed}
+use Rattle.ifr_opcodes.specs.Forest.{Node}
 use Rattle.ifr_scopes.specs.Guards.{guards}
 use Rattle.ifr_scopes.specs.code.AroundViews.{around_guards}
 use Rattle.ifr_scopes.specs.code.Lists.{guard_node, statement_node}
@@ -27,7 +27,7 @@ pub returns-in-Some-clause-listed : goal.returns-in-Some-clause-listed
 returns-in-Some-clause-listed g c =
     let w = world_by c.args.self.now (g.V.Verdicts.met c.args.verdicts.now) in
     let found = ap (option_map guard_node) (sym c.in-Some.is) ∙ c.effects-effects.ensures.hides ∙ ap (find (hides w)) (there g (goal.at.returns-in-Some-clause-listed g c).After-around_at-around) in
-    ap (λ (d : Denial). Err d) c.hiding.ensures ∙ ap (λ (o : Option Placed). unless (option_map hiding o)) found
+    ap (λ (d : Denial). Err d) c.hiding.ensures ∙ ap (λ (o : Option Node). unless (option_map hiding o)) found
 
 pub returns-in-Some-clause-changeable : goal.returns-in-Some-clause-changeable
 returns-in-Some-clause-changeable g c =
@@ -39,7 +39,7 @@ pub returns-clause-listed : goal.returns-clause-listed
 returns-clause-listed g c =
     let w = world_by c.args.self.now (g.V.Verdicts.met c.args.verdicts.now) in
     let none = ap (option_map guard_node) (sym c.in_default.is) ∙ c.effects-effects.ensures.hides ∙ ap (find (hides w)) (there g (goal.at.returns-clause-listed g c).After-around_at-around) in
-    ap (λ (o : Option Placed). unless (option_map hiding o)) none
+    ap (λ (o : Option Node). unless (option_map hiding o)) none
 
 pub returns-clause-changeable : goal.returns-clause-changeable
 returns-clause-changeable g c =

@@ -1,5 +1,5 @@
 use Rattle.std.proofs.Common.{ap, ◌∙◌, List, Option}
-use Rattle.ifr_opcodes.specs.Forest.{Placed}
+use Rattle.ifr_opcodes.specs.Forest.{Node}
 use Rattle.ifr_scopes.specs.Guards.{guards}
 use Rattle.ifr_scopes.specs.code.AroundViews.{around_lock}
 use Rattle.guard_policy.specs.Policy.{covered_by}
@@ -15,4 +15,4 @@ returns g c = λ n node indexed at.
     let spelled = policy.accepted.checked.spelled in
     let gs = guards_there policy.forms.now n c.args.place _ spelled node indexed at c.around_at.ensures.guards in
     let lock = lock_there policy.forms.now n c.args.place _ spelled node indexed at c.around_at.ensures.lock in
-    c.unless_covered.ensures ∙ ap (λ (its : List Placed). unless (covered_by w its (around_lock c.around_at.result))) gs ∙ ap (λ (o : Option Placed). unless (covered_by w (guards n) o)) lock
+    c.unless_covered.ensures ∙ ap (λ (its : List Node). unless (covered_by w its (around_lock c.around_at.result))) gs ∙ ap (λ (o : Option Node). unless (covered_by w (guards n) o)) lock

@@ -1,7 +1,7 @@
 use Rattle.std.proofs.Common.{◌+◌, List, [], ◌++◌, length, map, sym, ap, ◌∙◌, subst}
 use Rattle.std.specs.Prelude.{filter}
 use Rattle.std.proofs.lemmas.List.{append-nil}
-use Rattle.ifr_opcodes.specs.Forest.{Placed, flat}
+use Rattle.ifr_opcodes.specs.Forest.{Node, flat}
 use Rattle.ifr_opcodes.specs.Reading.{tree_of}
 use Rattle.ifr_scopes.specs.Nodes.{nodes_of}
 use Rattle.ifr_scopes.proofs.PlaceLemmas.{nodes_within}
@@ -13,7 +13,7 @@ use Rattle.guard_policy.proofs.removed.Removed.at_open.Goals as goal
 pub loop-guard-init : goal.loop-guard-init
 loop-guard-init c =
     let ns = nodes_of c.args.forms.now in
-    rw (c.new-places.ensures.items, c.guards-guards.ensures.guards) (ap (map (λ (n : Placed). n.place)) (of_guards (is_met_over ns c.args.stores.now) ns))
+    rw (c.new-places.ensures.items, c.guards-guards.ensures.guards) (ap (map (λ (n : Node). n.place)) (of_guards (is_met_over ns c.args.stores.now) ns))
 
 pub invariant_of-result : goal.invariant_of-result
 invariant_of-result c =
@@ -21,6 +21,6 @@ invariant_of-result c =
     let ns = nodes_of c.args.forms.now in
     let items = c.loop-guard.places.items in
     let which = is_disabling ns c.args.stores.now in
-    let all = sym (append-nil items) ∙ ap (λ (left : List Placed). items ++ map (λ (n : Placed). n.place) (filter which left)) (sym c.in_default.ensures.steps.0) ∙ c.loop-guard.invariant in
+    let all = sym (append-nil items) ∙ ap (λ (left : List Node). items ++ map (λ (n : Node). n.place) (filter which left)) (sym c.in_default.ensures.steps.0) ∙ c.loop-guard.invariant in
     let rise = rising ns 4 (4 + length (flat f)) (nodes_within f 4 [] c.guards-guards.ensures.accepted.checked.spelled.are_nodes) in
     subst (Ascend 0) (sym all) (from_zero 4 _ (places_ascend which 4 ns rise))

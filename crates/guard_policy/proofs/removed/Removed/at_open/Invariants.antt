@@ -1,6 +1,6 @@
 use Rattle.std.proofs.Common.{◌≡◌, ◌++◌, length, map}
 use Rattle.std.specs.Prelude.{filter}
-use Rattle.ifr_opcodes.specs.Forest.{Placed}
+use Rattle.ifr_opcodes.specs.Forest.{Node}
 use Rattle.ifr_scopes.specs.code.Lists.{all_guards_left}
 use Rattle.ifr_scopes.specs.Nodes.{nodes_of}
 use Rattle.guard_policy.specs.World.{is_disabling, removed_at}
@@ -10,7 +10,7 @@ use Rattle.guard_policy.proofs.removed.Removed.at_open.Given as goal
 abbrev pub invariant-loop-guard : goal.invariant-loop-guard
 invariant-loop-guard l =
     let ns = nodes_of l.forms in
-    l.places.items ++ map (λ (n : Placed). n.place) (filter (is_disabling ns l.stores) (all_guards_left l.guards)) ≡ removed_at ns l.stores
+    l.places.items ++ map (λ (n : Node). n.place) (filter (is_disabling ns l.stores) (all_guards_left l.guards)) ≡ removed_at ns l.stores
 
 abbrev pub decreases-loop-guard : goal.decreases-loop-guard
 decreases-loop-guard l = length (all_guards_left l.guards)

@@ -1,7 +1,7 @@
 use Rattle.std.proofs.Common.{Some, ap, sym, subst, ◌∙◌}
 use Rattle.std.specs.Prelude.{option_map}
 use Rattle.std.proofs.lemmas.Bool.{and_parts}
-use Rattle.ifr_opcodes.specs.Forest.{Placed}
+use Rattle.ifr_opcodes.specs.Forest.{Node}
 use Rattle.ifr_scopes.specs.Locks.{is_locked}
 use Rattle.ifr_scopes.specs.code.Checked.{node_in}
 use Rattle.ifr_scopes.specs.code.Locked.{IsLockedPlace}
@@ -18,4 +18,4 @@ invariant_of-result c =
     record { locked = ap is_locked c.node_at.ensures.node ∙ (and_parts _ _ (subst (IsLockedPlace ifr) c.in_ok-place.was c.args.self.locked)).1 }
 
 pub returns : goal.returns
-returns c = ap (λ (n : Placed). Some n) c.node_at.ensures.node ∙ ap (option_map (node_in c.args.self.guards.ifr.now)) (sym c.in_ok-place.was)
+returns c = ap (λ (n : Node). Some n) c.node_at.ensures.node ∙ ap (option_map (node_in c.args.self.guards.ifr.now)) (sym c.in_ok-place.was)

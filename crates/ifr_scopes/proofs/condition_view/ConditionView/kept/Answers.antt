@@ -1,6 +1,6 @@
 use Rattle.std.proofs.Common.{◌≡◌, ℕ, List, sym, ap, ◌∙◌}
 use Rattle.ifr_opcodes.specs.Opcode.{number}
-use Rattle.ifr_opcodes.specs.Forest.{Placed}
+use Rattle.ifr_opcodes.specs.Forest.{Node}
 use Rattle.ifr_scopes.specs.Kinds.{is_condition_number}
 use Rattle.ifr_scopes.specs.Nodes.{nodes_of, this_of}
 use Rattle.ifr_scopes.specs.code.Ends.{expression_end}
@@ -14,9 +14,9 @@ invariant_of-result c =
     let kept = c.requires.kept in
     let view = c.node_at.result in
     let node = c.node_at.ensures.node in
-    let place : view.op.place ≡ c.args.condition.place = sym view.stands.placed ∙ ap (λ (n : Placed). n.place) node ∙ (stands_there bytes c.args.condition.place c.requires.checked.spelled kept.there).1 in
+    let place : view.op.place ≡ c.args.condition.place = sym view.stands.placed ∙ ap (λ (n : Node). n.place) node ∙ (stands_there bytes c.args.condition.place c.requires.checked.spelled kept.there).1 in
     record {
-      condition = ap (λ (n : Placed). is_condition_number (number n.op)) node ∙ ap is_condition_number (sym kept.code) ∙ kept.condition;
+      condition = ap (λ (n : Node). is_condition_number (number n.op)) node ∙ ap is_condition_number (sym kept.code) ∙ kept.condition;
       within = kept.within ∙ ap this_of (sym node);
       ended = kept.ends ∙ ap expression_end (sym node);
       counted = kept.before ∙ ap (conditions_before (nodes_of bytes)) (sym place) ∙ ap (λ (b : List ℕ). conditions_before (nodes_of b) view.op.place) (sym c.node_at.ensures.kept);

@@ -1,6 +1,6 @@
 use Rattle.std.proofs.Common.{◌≡◌, List, ◌∷◌, length, sym, ap, ◌∙◌, arith}
 use Rattle.std.proofs.lemmas.Bool.{eq-eqb, ne_eqb}
-use Rattle.ifr_opcodes.specs.Forest.{Placed}
+use Rattle.ifr_opcodes.specs.Forest.{Node}
 use Rattle.ifr_scopes.specs.code.ConditionsLeft.{conditions_of_left}
 use Rattle.ifr_scopes.specs.code.Parts.{condition_node}
 use Rattle.ifr_scopes.proofs.ConditionsLeftLemmas.{left_of, left_first, left_passed}
@@ -14,7 +14,7 @@ given c =
     let first = c.in-Some.first.now in
     let rest = left_of it.ifr.now it.question it.code c.in-Some.kept.now in
     sym c.loop-first.invariant ∙ left_first it.ifr.now it.question it.code first it.kept.now c.in-Some.kept.now c.in-Some.ensures.cases.0 (eq-eqb first.question it.question c.if-first-self.false) (eq-eqb first.code it.code c.if-first-self-2.true)
-    ∙ ap (λ (n : Placed). n ∷ rest) (sym c.kept.ensures.node)
+    ∙ ap (λ (n : Node). n ∷ rest) (sym c.kept.ensures.node)
 
 pub returns-then-first-self-2-clause-steps : goal.returns-then-first-self-2-clause-steps
 returns-then-first-self-2-clause-steps c = given (goal.at.returns-then-first-self-2-clause-steps c).After-kept
@@ -22,7 +22,7 @@ returns-then-first-self-2-clause-steps c = given (goal.at.returns-then-first-sel
 pub returns-then-first-self-2-clause-goes : goal.returns-then-first-self-2-clause-goes
 returns-then-first-self-2-clause-goes c =
     let e = given (goal.at.returns-then-first-self-2-clause-goes c).After-kept in
-    record { on = λ _. (tt, tt, omega (arith, ap (λ (l : List Placed). length l) e)); keeps = tt; rests = λ _. tt }
+    record { on = λ _. (tt, tt, omega (arith, ap (λ (l : List Node). length l) e)); keeps = tt; rests = λ _. tt }
 
 pub loop-first-preserved : goal.loop-first-preserved
 loop-first-preserved c =

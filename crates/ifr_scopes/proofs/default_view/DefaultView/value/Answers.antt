@@ -1,6 +1,6 @@
 use Rattle.std.proofs.Common.{◌≡◌, ℕ, ◌+◌, true, Some, List, length, sym, ap, ◌∙◌, arith}
 use Rattle.ifr_opcodes.specs.Opcode.{number}
-use Rattle.ifr_opcodes.specs.Forest.{Placed}
+use Rattle.ifr_opcodes.specs.Forest.{Node}
 use Rattle.ifr_opcodes.specs.code.Ops.{bytes_of}
 use Rattle.ifr_scopes.specs.Conditions.{expression_tree}
 use Rattle.ifr_scopes.specs.Table.{wants_expression, wants_value}
@@ -29,9 +29,9 @@ node_at-value-requires-clause-there c = (behind (goal.at.node_at-value-requires-
 pub expression-requires : goal.expression-requires
 expression-requires c =
     let b = behind (goal.at.expression-requires c).After-len in
-    ap (λ (n : Placed). wants_expression (number n.op)) c.node_at-value.ensures.node ∙ b.wants
+    ap (λ (n : Node). wants_expression (number n.op)) c.node_at-value.ensures.node ∙ b.wants
 
 pub returns : goal.returns
 returns c =
     let b = behind (goal.at.returns c).After-len in
-    ap (λ t. Some t) c.expression.ensures ∙ ap (λ (n : Placed). Some (expression_tree n)) c.node_at-value.ensures.node ∙ b.tree
+    ap (λ t. Some t) c.expression.ensures ∙ ap (λ (n : Node). Some (expression_tree n)) c.node_at-value.ensures.node ∙ b.tree

@@ -1,7 +1,7 @@
 use Rattle.std.proofs.Common.{ℕ, List, sym, ap, ◌∙◌}
 use Rattle.ifr_scopes.specs.Nodes.{nodes_of}
 use Rattle.ifr_scopes.specs.code.Index.{indexed_at, guards_of_indexed, lock_of_indexed}
-use Rattle.ifr_opcodes.specs.Forest.{Placed}
+use Rattle.ifr_opcodes.specs.Forest.{Node}
 use Rattle.std.specs.Prelude.{option_map}
 use Rattle.ifr_scopes.specs.code.Tables.{innermost_at}
 use Rattle.ifr_scopes.proofs.KeptLockLemmas.{IsKeptLock, lock_kept, lock_told}
@@ -23,7 +23,7 @@ lock_is c =
     let bytes = c.self.inside.ifr.now in
     let ns = nodes_of c.args.self.now in
     let told = lock_told ns (indexed_at ns c.args.place) c.entry_at-entry.result c.lock_place.result c.entry_at-entry.ensures c.lock_place.ensures in
-    lock_kept bytes c.args.place c.lock_place.result c.self.invariant.accepted.checked.spelled (told ∙ ap (λ (b : List ℕ). option_map (λ (l : Placed). l.place) (lock_of_indexed (nodes_of b) c.args.place)) (sym c.self.view_is))
+    lock_kept bytes c.args.place c.lock_place.result c.self.invariant.accepted.checked.spelled (told ∙ ap (λ (b : List ℕ). option_map (λ (l : Node). l.place) (lock_of_indexed (nodes_of b) c.args.place)) (sym c.self.view_is))
 
 pub invariant_of-result : goal.invariant_of-result
 invariant_of-result c =

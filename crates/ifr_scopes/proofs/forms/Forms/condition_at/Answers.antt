@@ -1,6 +1,6 @@
 use Rattle.std.proofs.Common.{◌≡◌, List, ℕ, Some, refl, ap, sym, ◌∙◌}
 use Rattle.std.specs.Prelude.{option_map}
-use Rattle.ifr_opcodes.specs.Forest.{Placed}
+use Rattle.ifr_opcodes.specs.Forest.{Node}
 use Rattle.ifr_opcodes.specs.Opcode.{number}
 use Rattle.ifr_scopes.specs.Guards.{is_guard}
 use Rattle.ifr_scopes.specs.Nodes.{nodes_of}
@@ -31,7 +31,7 @@ pub returns-in-Some : goal.returns-in-Some
 returns-in-Some c =
     let is = sym c.in-Some.is ∙ guard_is (goal.at.returns-in-Some c).After-guard_at in
     let its = guard_some c.self.inside.ifr.now c.args.place c.in-Some.guard c.self.invariant.accepted.checked.spelled is in
-    ap (λ (n : Placed). Some n) c.kept.ensures.node ∙ sym its.is ∙ ap (λ (b : List ℕ). conditional_at (nodes_of b) c.args.place) c.self.view_is
+    ap (λ (n : Node). Some n) c.kept.ensures.node ∙ sym its.is ∙ ap (λ (b : List ℕ). conditional_at (nodes_of b) c.args.place) c.self.view_is
 
 -- or the condition
 condition_is : (c : After-condition_at) → c.condition_at.result ≡ option_map (kept_condition (nodes_of c.self.inside.ifr.now)) (kind_at is_question_condition (nodes_of c.self.inside.ifr.now) c.args.place)
@@ -59,4 +59,4 @@ returns c =
     let at = goal.at.returns c in
     let its = condition_some c.self.inside.ifr.now c.args.place c.in_ok-condition.condition c.self.invariant.accepted.checked.spelled (sym c.in_default.is ∙ guard_is at.After-guard_at)
     (sym c.in_ok-condition.was ∙ condition_is at.After-condition_at) in
-    ap (λ (n : Placed). Some n) c.kept-2.ensures.node ∙ sym its.is ∙ ap (λ (b : List ℕ). conditional_at (nodes_of b) c.args.place) c.self.view_is
+    ap (λ (n : Node). Some n) c.kept-2.ensures.node ∙ sym its.is ∙ ap (λ (b : List ℕ). conditional_at (nodes_of b) c.args.place) c.self.view_is

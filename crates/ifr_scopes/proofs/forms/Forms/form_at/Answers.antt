@@ -1,5 +1,5 @@
 use Rattle.std.proofs.Common.{◌≡◌, ℕ, List, true, rules, sym, ap, subst, ◌∙◌}
-use Rattle.ifr_opcodes.specs.Forest.{Placed}
+use Rattle.ifr_opcodes.specs.Forest.{Node}
 use Rattle.ifr_opcodes.specs.Reading.{tree_of}
 use Rattle.ifr_scopes.specs.code.Checked.{IsNodeOf, has_node, node_in}
 use Rattle.ifr_scopes.specs.code.Views.{node_of}
@@ -12,7 +12,7 @@ pub returns-clause-place : goal.returns-clause-place
 returns-clause-place c =
     let ifr = c.self.inside.ifr.now in
     let there : has_node ifr c.args.place ≡ true = search rules in
-    ap (λ (n : Placed). n.place) c.node_at.ensures.node ∙ (stands_there ifr c.args.place c.self.invariant.accepted.checked.spelled there).1
+    ap (λ (n : Node). n.place) c.node_at.ensures.node ∙ (stands_there ifr c.args.place c.self.invariant.accepted.checked.spelled there).1
 
 pub returns-clause-node : goal.returns-clause-node
 returns-clause-node c =

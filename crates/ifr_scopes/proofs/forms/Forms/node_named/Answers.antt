@@ -1,5 +1,5 @@
 use Rattle.std.proofs.Common.{ap, sym, subst, ◌∙◌, List, ℕ, Some}
-use Rattle.ifr_opcodes.specs.Forest.{Placed}
+use Rattle.ifr_opcodes.specs.Forest.{Node}
 use Rattle.ifr_expr.specs.code.Rules.{AreOrdered}
 use Rattle.ifr_scopes.specs.Nodes.{nodes_of}
 use Rattle.ifr_scopes.specs.Rules.{is_rule, rule_nodes}
@@ -38,4 +38,4 @@ returns-clause-rule c = ap is_rule c.node_at.ensures.node ∙ (its (goal.at.retu
 pub returns-clause-named : goal.returns-clause-named
 returns-clause-named c =
     let found = its (goal.at.returns-clause-named c).In_ok-rule in
-    ap (λ (n : Placed). Some n) c.node_at.ensures.node ∙ sym found.is ∙ ap (λ (b : List ℕ). named_node (rule_nodes (nodes_of b)) c.args.id c.args.place) c.self.view_is
+    ap (λ (n : Node). Some n) c.node_at.ensures.node ∙ sym found.is ∙ ap (λ (b : List ℕ). named_node (rule_nodes (nodes_of b)) c.args.id c.args.place) c.self.view_is

@@ -1,7 +1,7 @@
 use Rattle.std.proofs.Common.{ℕ, Some, List, [], ◌∷◌, map, refl, sym, ap, ◌∙◌}
 use Rattle.std.specs.Prelude.{reverse}
 use Rattle.std.proofs.lemmas.List.{reverse-append}
-use Rattle.ifr_opcodes.specs.Forest.{Placed}
+use Rattle.ifr_opcodes.specs.Forest.{Node}
 use Rattle.ifr_scopes.specs.Nodes.{nodes_of}
 use Rattle.ifr_scopes.specs.code.Tables.{guard_of_number, guards_before}
 use Rattle.ifr_scopes.proofs.NumberLemmas.{leads_on, last_number}
@@ -28,4 +28,4 @@ returns-clause-steps c =
     let rest = c.pop.new.self.items in
     let on = leads_on it.ifr.now it.guards.now (Some k) k _ it.checked.spelled it.table refl (last_number ns it.numbers.items rest k c.in_ok-number.ensures.items it.numbered) in
     ap (λ (l : List ℕ). map (guard_of_number ns) (reverse l)) c.in_ok-number.ensures.items ∙ ap (map (guard_of_number ns)) (reverse-append rest (k ∷ []))
-    ∙ ap (λ (n : Placed). n ∷ map (guard_of_number ns) (reverse rest)) (sym (c.numbered.ensures.node ∙ c.kept-guard.ensures.node ∙ on.is))
+    ∙ ap (λ (n : Node). n ∷ map (guard_of_number ns) (reverse rest)) (sym (c.numbered.ensures.node ∙ c.kept-guard.ensures.node ∙ on.is))

@@ -1,6 +1,6 @@
 use Rattle.std.proofs.Common.{ℕ, List, ◌∷◌, get_or, sym, ap, ◌∙◌, arith}
 use Rattle.std.specs.Prelude.{reverse}
-use Rattle.ifr_opcodes.specs.Forest.{Placed}
+use Rattle.ifr_opcodes.specs.Forest.{Node}
 use Rattle.ifr_scopes.specs.Nodes.{nodes_of}
 use Rattle.ifr_scopes.specs.code.Tables.{guards_before, guards_from}
 use Rattle.ifr_scopes.proofs.NumberLemmas.{no_guard, leads_on, number_within, turned}
@@ -21,7 +21,7 @@ pub returns-clause-steps : goal.returns-clause-steps
 returns-clause-steps c =
     let it = c.args.self.now in
     let on = leads_on it.ifr.now it.guards.now it.next c.in_ok-number.number no_guard it.checked.spelled it.table c.in_ok-number.was (number_within (nodes_of it.ifr.now) it.next c.in_ok-number.number c.in_ok-number.was it.numbered) in
-    turned it.ifr.now it.next c.in_ok-number.number _ on ∙ ap (λ (n : Placed). n ∷ reverse (guards_from (nodes_of it.ifr.now) (get_or it.guards.now c.in_ok-number.number no_guard).outer)) (sym (c.numbered.ensures.node ∙ c.kept-view.ensures.node))
+    turned it.ifr.now it.next c.in_ok-number.number _ on ∙ ap (λ (n : Node). n ∷ reverse (guards_from (nodes_of it.ifr.now) (get_or it.guards.now c.in_ok-number.number no_guard).outer)) (sym (c.numbered.ensures.node ∙ c.kept-view.ensures.node))
 
 pub numbered-requires : goal.numbered-requires
 numbered-requires c =

@@ -1,5 +1,5 @@
 use Rattle.std.proofs.Common.{List, map, sym, ap, ◌∙◌, subst}
-use Rattle.ifr_opcodes.specs.Forest.{Placed}
+use Rattle.ifr_opcodes.specs.Forest.{Node}
 use Rattle.ifr_scopes.specs.Checked.{IsChecked}
 use Rattle.ifr_scopes.specs.code.Checked.{AreAt, node_in}
 use Rattle.ifr_scopes.specs.Nodes.{nodes_of}
@@ -18,4 +18,4 @@ invariant_of-result c =
 pub returns-clause-all : goal.returns-clause-all
 returns-clause-all c =
     let bytes = c.args.ifr.now in
-    ap (λ b. map (λ n. node_in b n.place) (left c.over.result)) c.over.ensures.kept ∙ ap (λ (l : List Placed). map (λ n. node_in bytes n.place) l) c.over.ensures.nodes ∙ all_found bytes (nodes_of bytes) c.requires.spelled (λ n w. w)
+    ap (λ b. map (λ n. node_in b n.place) (left c.over.result)) c.over.ensures.kept ∙ ap (λ (l : List Node). map (λ n. node_in bytes n.place) l) c.over.ensures.nodes ∙ all_found bytes (nodes_of bytes) c.requires.spelled (λ n w. w)

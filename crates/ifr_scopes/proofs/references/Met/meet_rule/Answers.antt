@@ -1,5 +1,5 @@
 use Rattle.std.proofs.Common.{◌≡◌, List, ◌∷◌, ◌++◌, sym, ap, ◌∙◌, subst}
-use Rattle.ifr_opcodes.specs.Forest.{Placed}
+use Rattle.ifr_opcodes.specs.Forest.{Node}
 use Rattle.ifr_expr.specs.Trees.{Tree}
 use Rattle.ifr_scopes.specs.code.KeptRules.{AreKeptRules}
 use Rattle.ifr_scopes.specs.code.Met.{AreOf}
@@ -19,7 +19,7 @@ form_end-form_ends-requires-clause-there c =
     (form_around view.ifr.now (node_of view) c.args.form view.checked (is_node view.ifr.now view.op.place _ view.checked view.stands) c.requires.form).there
 
 -- what the table tells of its size
-its : (c : After-size_of) (before rest : List Placed) → before ++ node_of c.args.rule ∷ rest ≡ nodes_of c.args.rule.ifr.now → AreOf c.args.rule.ifr.now before c.args.self.now
+its : (c : After-size_of) (before rest : List Node) → before ++ node_of c.args.rule ∷ rest ≡ nodes_of c.args.rule.ifr.now → AreOf c.args.rule.ifr.now before c.args.self.now
     → c.size_of.result ≡ fitting_size (size (rules_among before) (as_rule (node_of c.args.rule)))
 its c before rest split known =
     let kept = subst (AreKeptRules before) (sym c.form_end-form_ends.ensures.stays.3) known.rules in

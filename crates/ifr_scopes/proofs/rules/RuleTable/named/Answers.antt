@@ -1,7 +1,7 @@
 use Rattle.std.proofs.Common.{◌≡◌, ltb, Option, Some, None, List, sym, ap, ◌∙◌, ℕ, rules}
 use Rattle.std.proofs.lemmas.Bool.{le-ltb, lt-ltb, cond-true, cond-false}
 use Rattle.std.proofs.lemmas.Map.Entries.{option_filter}
-use Rattle.ifr_opcodes.specs.Forest.{Placed}
+use Rattle.ifr_opcodes.specs.Forest.{Node}
 use Rattle.ifr_scopes.specs.Rules.{rule_nodes}
 use Rattle.ifr_scopes.specs.code.KeptRules.{AreKeptRules, kept_named}
 use Rattle.ifr_scopes.specs.code.RuleNodes.{Descend}
@@ -15,7 +15,7 @@ abbrev going_on : ℕ → Option KeptRule → Option KeptRule
 going_on place found = option_filter (λ (r : KeptRule). ltb place r.form_ends) found
 
 -- what the last that ended tells
-its : (c : After-last_ended) (ns : List Placed) → AreKeptRules ns c.args.self.now → Descend (rule_nodes ns)
+its : (c : After-last_ended) (ns : List Node) → AreKeptRules ns c.args.self.now → Descend (rule_nodes ns)
     → kept_named (rule_nodes ns) c.args.id c.args.place ≡ going_on c.args.place c.last_ended.result
 its c ns kept descend = named_found (rule_nodes ns) c.args.id c.args.place c.of_id.result.now c.last_ended.result descend (c.of_id.ensures ∙ kept c.args.id) c.last_ended.ensures
 

@@ -1,6 +1,6 @@
 use Rattle.std.proofs.Common.{◌≡◌, ℕ, [], ◌∷◌, List, Option, Some, None, IfNone, IfSome, sym, ap, ◌∙◌, subst, arith}
 use Rattle.std.proofs.lemmas.List.Elements.{All-tail}
-use Rattle.ifr_opcodes.specs.Forest.{Placed}
+use Rattle.ifr_opcodes.specs.Forest.{Node}
 use Rattle.ifr_opcodes.specs.code.Ops.{bytes_of}
 use Rattle.ifr_scopes.specs.Checked.{IsChecked}
 use Rattle.ifr_scopes.specs.code.Checked.{IsAt, IsNodeOf, AreNodesOf, node_in}
@@ -42,10 +42,10 @@ returns-in-Some-clause-some c =
     let is = is_met old.walk.bytes.now c.in-Some.visit met.node _ _ old.checked.spelled old.nodes met.next met.shown in
     let same = c.bytes.ensures ∙ c.step.ensures.kept in
     let here = ap (λ b. node_in b c.in-Some.visit.op.place) same ∙ is.is in (
-      met.next ∙ ap (λ (n : Placed). n ∷ left c.step.new.self) (sym here),
+      met.next ∙ ap (λ (n : Node). n ∷ left c.step.new.self) (sym here),
       record {
         of_package = c.bytes.ensures;
         within = met.within;
-        path = ap (λ (n : Placed). n.path) here ∙ met.path;
+        path = ap (λ (n : Node). n.path) here ∙ met.path;
       },
     )

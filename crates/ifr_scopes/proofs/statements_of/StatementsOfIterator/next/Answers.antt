@@ -1,7 +1,7 @@
 use Rattle.std.proofs.Common.{◌≡◌, List, ◌∷◌, length, sym, ap, ◌∙◌, arith}
 use Rattle.std.proofs.lemmas.Bool.{ne_eqb}
 use Rattle.ifr_opcodes.specs.declared.codes.TheConstants.{FORM}
-use Rattle.ifr_opcodes.specs.Forest.{Placed}
+use Rattle.ifr_opcodes.specs.Forest.{Node}
 use Rattle.ifr_scopes.specs.code.StatementsLeft.{statements_of_left}
 use Rattle.ifr_scopes.specs.code.Views.{node_of}
 use Rattle.ifr_scopes.proofs.StatementsOfLemmas.{first_statements, first_taken}
@@ -16,7 +16,7 @@ given c =
     let rest = first_statements it.ifr.now c.in-Some.kept.now in
     sym c.loop-first.invariant
     ∙ first_taken it.ifr.now first it.kept.now c.in-Some.kept.now c.in-Some.ensures.cases.0 (ne_eqb first.code FORM c.if-first-eq-FORM.false) (sym c.is_statement.ensures ∙ c.if-is_statement.true)
-    ∙ ap (λ (n : Placed). n ∷ rest) (sym c.node_at.ensures.node)
+    ∙ ap (λ (n : Node). n ∷ rest) (sym c.node_at.ensures.node)
 
 pub returns-then-is_statement-clause-steps : goal.returns-then-is_statement-clause-steps
 returns-then-is_statement-clause-steps c = given (goal.at.returns-then-is_statement-clause-steps c).After-node_at
@@ -24,4 +24,4 @@ returns-then-is_statement-clause-steps c = given (goal.at.returns-then-is_statem
 pub returns-then-is_statement-clause-goes : goal.returns-then-is_statement-clause-goes
 returns-then-is_statement-clause-goes c =
     let e = given (goal.at.returns-then-is_statement-clause-goes c).After-node_at in
-    record { on = λ _. (tt, tt, omega (arith, ap (λ (l : List Placed). length l) e)); keeps = tt; rests = λ _. tt }
+    record { on = λ _. (tt, tt, omega (arith, ap (λ (l : List Node). length l) e)); keeps = tt; rests = λ _. tt }

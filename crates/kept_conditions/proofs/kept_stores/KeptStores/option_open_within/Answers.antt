@@ -1,5 +1,5 @@
 use Rattle.std.proofs.Common.{refl, ◌∙◌}
-use Rattle.ifr_opcodes.specs.Forest.{Placed}
+use Rattle.ifr_opcodes.specs.Forest.{Node}
 use Rattle.guard_policy.specs.code.Views.{world}
 use Rattle.guard_policy.specs.declared.support.Decision.TheVariants.{Changeable, OptionOpen}
 use Rattle.guard_policy.proofs.SupportLemmas.{denial_same}
@@ -11,7 +11,7 @@ pub option_open_within_by-requires-clause-free : goal.option_open_within_by-requ
 option_open_within_by-requires-clause-free c =
     let statement = c.args.question.statement in
     let kept = c.kept.result.now in
-    denial_same (world c.args.policy c.args.self.now.stores) (λ (n : Placed). held kept.values n.place) (Changeable statement)
+    denial_same (world c.args.policy c.args.self.now.stores) (λ (n : Node). held kept.values n.place) (Changeable statement)
     (kept_tells c.args.policy kept c.args.self.now.ifr c.args.self.now.stores (Changeable statement)
     c.args.policy.accepted c.requires.package c.kept.ensures c.requires.node refl) ∙ c.requires.free
 

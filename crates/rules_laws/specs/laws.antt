@@ -1,0 +1,14 @@
+-- What the contracts say, in the words of the chapters.
+pub mod Commands
+pub mod Configuration
+pub mod Defaults
+pub mod Faults
+pub mod Opcodes
+pub mod Packages
+pub mod Pages
+pub mod Policy
+pub mod Questions
+pub mod References
+pub mod Stores
+pub mod Strings
+pub mod Structure

@@ -1,0 +1,65 @@
+-- Denials and worlds of the contracts, as the chapters have them.
+use Rattle.std.specs.Prelude.{◌≡◌, ℕ, true, if◌then◌else◌, Some, None, List, Contains}
+use Rattle.browser_rules.specs.Opcodes.{wants_expression}
+use Rattle.browser_rules.specs.Policy as chapter
+use Rattle.browser_rules.specs.Questions as questions
+use Rattle.browser_rules.specs.Stores.{Stores}
+use Rattle.ifr_opcodes.specs.Forest.{Node}
+use Rattle.ifr_scopes.specs.Nodes.{nodes_of}
+use Rattle.hii_varstore.specs.Stores.{StoreMap}
+use Rattle.hii_questions.specs.Answers.{answers}
+use Rattle.hii_questions.specs.Denials.{has_text}
+use Rattle.hii_questions.specs.declared.denial.DenialKind.{DenialKind}
+use Rattle.hii_questions.specs.declared.denial.DenialKind.TheVariants.{DisableIf, SuppressIf, GrayOutIf, Locked, ReadOnly, Outside, Kind, Range, NoOption, Length, Repeat, EmptySet, BadText, InconsistentIf, NoSubmitIf, NoQuestion, NotRef, NotButton, NoRow, NoBack, DeepHistory, NoStore, NoField, Password}
+use Rattle.guard_policy.specs.World.{World}
+use Rattle.guard_policy.specs.declared.denial.Denial.{Denial}
+use Rattle.rules_laws.specs.laws.Opcodes.{value_for, IsSmall}
+
+abbrev pub kind_for : DenialKind → questions.DenialKind
+kind_for DisableIf = questions.DisableIf
+kind_for SuppressIf = questions.SuppressIf
+kind_for GrayOutIf = questions.GrayOutIf
+kind_for Locked = questions.Locked
+kind_for ReadOnly = questions.ReadOnly
+kind_for Outside = questions.Outside
+kind_for Kind = questions.Kind
+kind_for Range = questions.Range
+kind_for NoOption = questions.NoOption
+kind_for Length = questions.Length
+kind_for Repeat = questions.Repeat
+kind_for EmptySet = questions.EmptySet
+kind_for BadText = questions.BadText
+kind_for InconsistentIf = questions.InconsistentIf
+kind_for NoSubmitIf = questions.NoSubmitIf
+kind_for NoQuestion = questions.NoQuestion
+kind_for NotRef = questions.NotRef
+kind_for NotButton = questions.NotButton
+kind_for NoRow = questions.NoRow
+kind_for NoBack = questions.NoBack
+kind_for DeepHistory = questions.DeepHistory
+kind_for NoStore = questions.NoStore
+kind_for NoField = questions.NoField
+kind_for Password = questions.Password
+
+-- a denial; its message counts where its kind is told with a text
+abbrev pub denial_for : Denial → chapter.Denial
+denial_for d =
+    record {
+      kind = kind_for d.kind;
+      place = d.place;
+      message = if has_text d.kind then Some d.message else None;
+    }
+
+-- Two worlds have the nodes of one package. The same was removed in them, and of the nodes whose scopes begin with a condition the
+-- same are met.
+pub record AreAlike (bytes : List ℕ) (w : chapter.World) (v : World) : Type 0 where
+  pub nodes : w.nodes ≡ nodes_of bytes
+  pub same_nodes : v.nodes ≡ nodes_of bytes
+  pub removed : w.removed ≡ v.removed
+  pub met : (n : Node) → Contains (nodes_of bytes) n → wants_expression n.op ≡ true
+      → chapter.is_met w n ≡ v.met n
+
+-- Over these stores questions answer the same, and numbers have at most 64 bits.
+pub record AnswerAlike (ns : List Node) (stores : Stores) (held : StoreMap) : Type 0 where
+  pub same : (id : ℕ) → questions.answers ns stores id ≡ value_for (answers ns held id)
+  pub small : (id : ℕ) → IsSmall (answers ns held id)

@@ -1,0 +1,19 @@
+//! That the chapters of `browser_rules` say what the contracts of the crates say, part by part. Laws alone, no code that runs.
+#![tactic(auto)]
+
+pub mod commands;
+pub mod configuration;
+pub mod defaults;
+pub mod framing;
+pub mod nodes;
+pub mod opcodes;
+pub mod packages;
+pub mod pages;
+pub mod policy;
+pub mod question_faults;
+pub mod questions;
+pub mod reference_faults;
+pub mod store_faults;
+pub mod stores;
+pub mod strings;
+pub mod structure_faults;
