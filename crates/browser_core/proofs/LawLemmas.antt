@@ -19,7 +19,7 @@ use Rattle.ifr_scopes.proofs.OptionsOfLemmas.{passes}
 use Rattle.ifr_scopes.proofs.ViewLemmas.{below_within, contains_found, further}
 use Rattle.hii_varstore.specs.Stores.{StoreMap, shape_of, are_same_bytes, bytes_of, byte_of}
 use Rattle.hii_varstore.proofs.WriteLemmas.{byte_after}
-use Rattle.config_text.specs.Grammar.{Named, Area}
+use Rattle.browser_rules.specs.Configuration.{Header, Block}
 use Rattle.config_text.specs.Reading.{configuration_in}
 use Rattle.config_text.specs.declared.kind.TextKind.TheVariants.{Ask, Tell}
 use Rattle.hii_bytes.specs.declared.cause.Cause.{Cause}
@@ -37,7 +37,8 @@ use Rattle.ifr_defaults.specs.Defaults.{default_of}
 use Rattle.guard_policy.specs.Policy.{denied_by, fixed, unsubmitted}
 use Rattle.guard_policy.specs.World.{World}
 use Rattle.guard_policy.specs.declared.denial.Denial.{Denial}
-use Rattle.hii_commands.specs.Orders.{Order, ShowPage, SetValue, OrderElements, SetText, FollowReference, GoBack, PressButton, TakeDefaults, ExtractConfiguration, RouteConfiguration, AskWhy, ChooseLanguage, SubmitChanges, DiscardChanges}
+use Rattle.browser_rules.specs.Script as script
+use Rattle.browser_rules.specs.Script.{Command}
 use Rattle.browser_core.specs.Configuration.{store_named, block_field, block_bytes, first_question, first_free, question_of_field}
 use Rattle.browser_core.specs.State.{State, world_of}
 use Rattle.browser_core.specs.Texts.{count_text}
@@ -330,10 +331,10 @@ set_field_keeps s None bytes store at none = itself s store at
 set_field_keeps s (Some q) bytes store at none = password_keeps s q bytes store at (is_password q) none
 
 -- the blocks behind the first, where all are set
-abbrev AllSet : State → List ℕ → ℕ → State → List Area → Type 0
+abbrev AllSet : State → List ℕ → ℕ → State → List Block → Type 0
 AllSet before text id s blocks = (set_blocks before text id s blocks).reply ≡ Accepted
 
-next_set : (before s next : State) (text : List ℕ) (id : ℕ) (blocks : List Area) (r : Reply) → (go_on before r (set_blocks before text id next blocks)).reply ≡ Accepted
+next_set : (before s next : State) (text : List ℕ) (id : ℕ) (blocks : List Block) (r : Reply) → (go_on before r (set_blocks before text id next blocks)).reply ≡ Accepted
     → (r ≡ Accepted) × AllSet before text id next blocks
 next_set before s next text id blocks Accepted e = (refl, e)
 next_set before s next text id blocks (Denied d) e = absurd cc
@@ -348,7 +349,7 @@ block_none s field fields r store at none n f c found here from inside =
     let same : field ≡ f = cc in
     none n f it.0 it.1 found (0, omega arith, same) here from inside
 
-blocks_keep : (before s : State) (text : List ℕ) (id : ℕ) (blocks : List Area) (store at : ℕ) → AllSet before text id s blocks → NoneNamed s.ifr (map (block_field id) blocks) store at
+blocks_keep : (before s : State) (text : List ℕ) (id : ℕ) (blocks : List Block) (store at : ℕ) → AllSet before text id s blocks → NoneNamed s.ifr (map (block_field id) blocks) store at
     → KeepsByte s (set_blocks before text id s blocks).state store at
 blocks_keep before s text id [] store at all none = itself s store at
 blocks_keep before s text id (block ∷ blocks) store at all none =
@@ -367,7 +368,7 @@ is_accepted Accepted = inl refl
 is_accepted (Denied d) = inr (λ e. absurd cc)
 is_accepted (Refused cause) = inr (λ e. absurd cc)
 
-routed_keep : (s : State) (blocks : List Area) (store at : ℕ) (o : Option ℕ) → NoneNamed s.ifr (where_accepted (route_to s blocks o).reply (block_fields blocks o)) store at → KeepsByte s (route_to s blocks o).state store at
+routed_keep : (s : State) (blocks : List Block) (store at : ℕ) (o : Option ℕ) → NoneNamed s.ifr (where_accepted (route_to s blocks o).reply (block_fields blocks o)) store at → KeepsByte s (route_to s blocks o).state store at
 routed_keep s blocks store at None none = itself s store at
 routed_keep s blocks store at (Some id) none =
     let text = count_text (length blocks) in
@@ -377,7 +378,7 @@ routed_keep s blocks store at (Some id) none =
       | inr not_all ↦ subst (λ (t : State). KeepsByte s t store at) (sym (blocks_leave s s text id blocks not_all)) (itself s store at)
     ]
 
-route_keeps : (s : State) (r : Result (Named × List Area) Cause) (store at : ℕ) → NoneNamed s.ifr (where_accepted (route_reading s r).reply (response_fields s r)) store at → KeepsByte s (route_reading s r).state store at
+route_keeps : (s : State) (r : Result (Header × List Block) Cause) (store at : ℕ) → NoneNamed s.ifr (where_accepted (route_reading s r).reply (response_fields s r)) store at → KeepsByte s (route_reading s r).state store at
 route_keeps s (Err cause) store at none = itself s store at
 route_keeps s (Ok (named, blocks)) store at none = routed_keep s blocks store at (store_named (nodes_of s.ifr) s.path named) none
 
@@ -391,8 +392,8 @@ why_keeps s None store at = itself s store at
 why_keeps s (Some denial) store at = itself s store at
 
 -- A command leaves a byte that lies in no field of a question that it sets, or it is submit or discard.
-abbrev LeavesOrCopies : State → Order → ℕ → ℕ → Type 0
-LeavesOrCopies s order store at = KeepsByte s (step s order).state store at ⊎ ((order ≡ SubmitChanges) ⊎ (order ≡ DiscardChanges))
+abbrev LeavesOrCopies : State → Command → ℕ → ℕ → Type 0
+LeavesOrCopies s command store at = KeepsByte s (step s command).state store at ⊎ ((command ≡ script.Submit) ⊎ (command ≡ script.Discard))
 
 named_keeps : (s : State) (id : ℕ) (offer : Offer) (store at : ℕ)
     → NoneNamed s.ifr (fields_of (nodes_of s.ifr) (named_if (question_with (nodes_of s.ifr) id) (set_question s (question_with (nodes_of s.ifr) id) offer).reply)) store at
@@ -402,23 +403,23 @@ named_keeps s id offer store at none =
     let reply = (set_question s o offer).reply in
     setting_keeps s o offer store at (none_has s.ifr (named_if o reply) store at (named_are s.ifr id reply) none)
 
-step_keeps : (s : State) (order : Order) (store at : ℕ) → (SetsFields order → NoneNamed s.ifr (named_fields s order) store at) → LeavesOrCopies s order store at
-step_keeps s ShowPage store at none = inl (itself s store at)
-step_keeps s (SetValue id value) store at none = inl (named_keeps s id (whole value) store at (none tt))
-step_keeps s (OrderElements id numbers) store at none = inl (named_keeps s id (listed numbers) store at (none tt))
-step_keeps s (SetText id text) store at none = inl (named_keeps s id (utf8 text) store at (none tt))
-step_keeps s (FollowReference id) store at none = inl (leaves_keep s _ store at (follow_leaves s (question_with (nodes_of s.ifr) id)))
-step_keeps s GoBack store at none = inl (leaves_keep s _ store at (back_leaves s (slice_get s.history (length s.history - 1))))
-step_keeps s (PressButton row) store at none =
+step_keeps : (s : State) (command : Command) (store at : ℕ) → (SetsFields command → NoneNamed s.ifr (named_fields s command) store at) → LeavesOrCopies s command store at
+step_keeps s script.Page store at none = inl (itself s store at)
+step_keeps s (script.Set id value) store at none = inl (named_keeps s id (whole value) store at (none tt))
+step_keeps s (script.Order id numbers) store at none = inl (named_keeps s id (listed numbers) store at (none tt))
+step_keeps s (script.Text id text) store at none = inl (named_keeps s id (utf8 text) store at (none tt))
+step_keeps s (script.Go id) store at none = inl (leaves_keep s _ store at (follow_leaves s (question_with (nodes_of s.ifr) id)))
+step_keeps s script.Back store at none = inl (leaves_keep s _ store at (back_leaves s (slice_get s.history (length s.history - 1))))
+step_keeps s (script.Press row) store at none =
     let o = row_of_form s row (form_of s) in
     inl (press_keeps s store at o (none_has s.ifr (pressed_if s o (press_statement s o).reply) store at (pressed_are s o (press_statement s o).reply) (none tt)))
-step_keeps s (TakeDefaults class) store at none = inl (defaults_keep s class store at (none_has s.ifr (taken s class).questions store at (taken_are s class) (none tt)))
-step_keeps s (ExtractConfiguration request) store at none = inl (leaves_keep s _ store at (extract_leaves s (configuration_in Ask request)))
-step_keeps s (RouteConfiguration response) store at none = inl (route_keeps s (configuration_in Tell response) store at (none tt))
-step_keeps s (ChooseLanguage language) store at none = inl (record { ifr = refl; committed = refl; working = refl })
-step_keeps s (AskWhy id) store at none = inl (why_keeps s (question_denial s (question_with (nodes_of s.ifr) id)) store at)
-step_keeps s SubmitChanges store at none = inr (inl refl)
-step_keeps s DiscardChanges store at none = inr (inr refl)
+step_keeps s (script.Defaults class) store at none = inl (defaults_keep s class store at (none_has s.ifr (taken s class).questions store at (taken_are s class) (none tt)))
+step_keeps s (script.Extract request) store at none = inl (leaves_keep s _ store at (extract_leaves s (configuration_in Ask request)))
+step_keeps s (script.Route response) store at none = inl (route_keeps s (configuration_in Tell response) store at (none tt))
+step_keeps s (script.Lang language) store at none = inl (record { ifr = refl; committed = refl; working = refl })
+step_keeps s (script.Why id) store at none = inl (why_keeps s (question_denial s (question_with (nodes_of s.ifr) id)) store at)
+step_keeps s script.Submit store at none = inr (inl refl)
+step_keeps s script.Discard store at none = inr (inr refl)
 
 -- ---- bytes that are submitted as they stand
 
@@ -429,21 +430,21 @@ submit_same : (s : State) (o : Option Denial) (store at : ℕ) → byte_of s.wor
 submit_same s (Some denial) store at same = (same, refl)
 submit_same s None store at same = (same, same)
 
-step_same : (s : State) (order : Order) (store at : ℕ) → byte_of s.working store at ≡ byte_of s.committed store at → (SetsByte s order store at → ⊥) → Keeps s (step s order).state store at
-step_same s order store at same none =
-    elim (step_keeps s order store at (λ sets n field there asks found c here from inside. none (sets, (field, c, here, from, inside)))) [
+step_same : (s : State) (command : Command) (store at : ℕ) → byte_of s.working store at ≡ byte_of s.committed store at → (SetsByte s command store at → ⊥) → Keeps s (step s command).state store at
+step_same s command store at same none =
+    elim (step_keeps s command store at (λ sets n field there asks found c here from inside. none (sets, (field, c, here, from, inside)))) [
       | inl kept ↦ (kept.working ∙ same, ap (λ m. byte_of m store at) kept.committed)
       | inr copies ↦ elim copies [
-        | inl e ↦ subst (λ (o : Order). Keeps s (step s o).state store at) (sym e) (submit_same s (unsubmitted (world_of s)) store at same)
-        | inr e ↦ subst (λ (o : Order). Keeps s (step s o).state store at) (sym e) (refl, refl)
+        | inl e ↦ subst (λ (o : Command). Keeps s (step s o).state store at) (sym e) (submit_same s (unsubmitted (world_of s)) store at same)
+        | inr e ↦ subst (λ (o : Command). Keeps s (step s o).state store at) (sym e) (refl, refl)
       ]
     ]
 
 pub keeps : KeepsOtherBytes
 keeps s [] store at same none = (same, refl)
-keeps s (order ∷ orders) store at same none =
-    let first = step_same s order store at same (λ sets. none (inl sets)) in
-    let later = keeps (step s order).state orders store at (first.0 ∙ sym first.1) (λ sets. none (inr sets)) in
+keeps s (command ∷ commands) store at same none =
+    let first = step_same s command store at same (λ sets. none (inl sets)) in
+    let later = keeps (step s command).state commands store at (first.0 ∙ sym first.1) (λ sets. none (inr sets)) in
     (later.0 ∙ first.1, later.1 ∙ first.1)
 
 -- ---- bytes in fields that a command names
@@ -462,24 +463,24 @@ submit_apart : (s : State) (o : Option Denial) (store at : ℕ) → byte_of s.wo
 submit_apart s (Some denial) store at same = same
 submit_apart s None store at same = refl
 
-same_after : (s : State) (order : Order) (store at : ℕ) → IsApart s → (IsOfQuestion s.ifr store at → ⊥) → byte_of (step s order).state.working store at ≡ byte_of (step s order).state.committed store at
-same_after s order store at apart none =
+same_after : (s : State) (command : Command) (store at : ℕ) → IsApart s → (IsOfQuestion s.ifr store at → ⊥) → byte_of (step s command).state.working store at ≡ byte_of (step s command).state.committed store at
+same_after s command store at apart none =
     let same = apart.same store at none in
-    elim (step_keeps s order store at (λ sets n field there asks found c here from inside. none (n, field, there, asks, found, here, from, inside))) [
+    elim (step_keeps s command store at (λ sets n field there asks found c here from inside. none (n, field, there, asks, found, here, from, inside))) [
       | inl kept ↦ kept.working ∙ same ∙ ap (λ m. byte_of m store at) (sym kept.committed)
       | inr copies ↦ elim copies [
-        | inl e ↦ subst (λ (o : Order). byte_of (step s o).state.working store at ≡ byte_of (step s o).state.committed store at) (sym e) (submit_apart s (unsubmitted (world_of s)) store at same)
-        | inr e ↦ subst (λ (o : Order). byte_of (step s o).state.working store at ≡ byte_of (step s o).state.committed store at) (sym e) refl
+        | inl e ↦ subst (λ (o : Command). byte_of (step s o).state.working store at ≡ byte_of (step s o).state.committed store at) (sym e) (submit_apart s (unsubmitted (world_of s)) store at same)
+        | inr e ↦ subst (λ (o : Command). byte_of (step s o).state.working store at ≡ byte_of (step s o).state.committed store at) (sym e) refl
       ]
     ]
 
-apart_after : (s : State) (orders : List Order) → IsApart s → IsApart (state_with s orders)
+apart_after : (s : State) (commands : List Command) → IsApart s → IsApart (state_with s commands)
 apart_after s [] apart = apart
-apart_after s (order ∷ orders) apart =
-    let shapes = step_keeps_shapes s order apart.shapes in
-    apart_after (step s order).state orders (record {
+apart_after s (command ∷ commands) apart =
+    let shapes = step_keeps_shapes s command apart.shapes in
+    apart_after (step s command).state commands (record {
       shapes = shapes.committed ∙ apart.shapes ∙ sym shapes.working;
-      same = λ store at none. same_after s order store at apart (λ is. none (subst (λ (ifr : List ℕ). IsOfQuestion ifr store at) (sym shapes.ifr) is));
+      same = λ store at none. same_after s command store at apart (λ is. none (subst (λ (ifr : List ℕ). IsOfQuestion ifr store at) (sym shapes.ifr) is));
     })
 
 -- where two ranges hold the same, so does each byte of them
@@ -551,21 +552,21 @@ submit_stays : (s : State) (o : Option Denial) (store at : ℕ) → IsApart s �
 submit_stays s (Some denial) store at apart none = (refl, refl)
 submit_stays s None store at apart none = (refl, unchanged_byte s store at apart none)
 
-step_stays : (s : State) (order : Order) (store at : ℕ) → IsApart s → (HaveByte (named_fields s order) store at → ⊥) → Stays s (step s order).state store at
-step_stays s order store at apart none =
-    elim (step_keeps s order store at (λ sets n field there asks found c here from inside. none (field, c, here, from, inside))) [
+step_stays : (s : State) (command : Command) (store at : ℕ) → IsApart s → (HaveByte (named_fields s command) store at → ⊥) → Stays s (step s command).state store at
+step_stays s command store at apart none =
+    elim (step_keeps s command store at (λ sets n field there asks found c here from inside. none (field, c, here, from, inside))) [
       | inl kept ↦ (kept.working, ap (λ m. byte_of m store at) kept.committed)
       | inr copies ↦ elim copies [
         | inl e ↦
-            let unnamed = subst (λ (o : Order). HaveByte (named_fields s o) store at → ⊥) e none in
-            subst (λ (o : Order). Stays s (step s o).state store at) (sym e) (submit_stays s (unsubmitted (world_of s)) store at apart unnamed)
+            let unnamed = subst (λ (o : Command). HaveByte (named_fields s o) store at → ⊥) e none in
+            subst (λ (o : Command). Stays s (step s o).state store at) (sym e) (submit_stays s (unsubmitted (world_of s)) store at apart unnamed)
         | inr e ↦
-            let unnamed = subst (λ (o : Order). HaveByte (named_fields s o) store at → ⊥) e none in
-            subst (λ (o : Order). Stays s (step s o).state store at) (sym e) (sym (unchanged_byte s store at apart unnamed), refl)
+            let unnamed = subst (λ (o : Command). HaveByte (named_fields s o) store at → ⊥) e none in
+            subst (λ (o : Command). Stays s (step s o).state store at) (sym e) (sym (unchanged_byte s store at apart unnamed), refl)
       ]
     ]
 
 pub changes_alone : ChangesNamedBytesAlone
-changes_alone start orders order store at same none =
+changes_alone start commands command store at same none =
     let apart : IsApart start = record { shapes = ap shape_of same; same = λ id k none. ap (λ m. byte_of m id k) (sym same) } in
-    step_stays (state_with start orders) order store at (apart_after start orders apart) none
+    step_stays (state_with start commands) command store at (apart_after start commands apart) none

@@ -2,7 +2,7 @@
 use Rattle.std.proofs.Common.{◌≡◌, ℕ, ◌-◌, ◌==◌, Bool, true, false, cond, Option, Some, None, Result, Ok, Err, List, [], ◌∷◌, ◌++◌, length, slice_get, refl}
 use Rattle.std.specs.Prelude.{option_and_then, nat_lt}
 use Rattle.hii_bytes.specs.declared.cause.Cause.{Cause}
-use Rattle.config_text.specs.Grammar.{Named, Area}
+use Rattle.browser_rules.specs.Configuration.{Header, Block}
 use Rattle.config_text.specs.Reading.{configuration_in}
 use Rattle.config_text.specs.declared.kind.TextKind.TheVariants.{Ask, Tell}
 use Rattle.ifr_opcodes.specs.Fields.{ref_target}
@@ -20,10 +20,9 @@ use Rattle.hii_questions.specs.declared.denial.DenialKind.{DenialKind}
 use Rattle.hii_questions.specs.declared.denial.DenialKind.TheVariants.{NotRef, NotButton, DeepHistory}
 use Rattle.guard_policy.specs.Policy.{denied_by, hidden, fixed, unsubmitted}
 use Rattle.guard_policy.specs.declared.denial.Denial.{Denial}
-use Rattle.hii_commands.specs.Line.{without_return}
-use Rattle.hii_commands.specs.Orders.{Order, ShowPage, SetValue, OrderElements, SetText, FollowReference, GoBack, PressButton, TakeDefaults, ExtractConfiguration, RouteConfiguration, AskWhy, ChooseLanguage, SubmitChanges, DiscardChanges}
-use Rattle.hii_commands.specs.Reading.{reading_of}
-use Rattle.hii_commands.specs.declared.command.BadLine.{BadLine}
+use Rattle.browser_rules.specs.Script as script
+use Rattle.browser_rules.specs.Script.{Command, command_of, without_return}
+use Rattle.browser_rules.specs.Words as words
 use Rattle.browser_core.specs.Configuration.{store_named}
 use Rattle.browser_core.specs.State.{State, world_of}
 use Rattle.browser_core.specs.Step.{Outcome, accepted, denied, denied_by_none, form_of, told_why, question_denial, set_question, set_unless_fixed, set_unless_forbidden, set_fitting, value_denial, press_unless_fixed, press_statement, row_of_form, show_unless_hidden, go_to, go_unless_fixed, follow, go_back_to, set_block, set_blocks, go_on, route_to, route_reading, submit_unless, step, step_reading, step_text, step_line}
@@ -113,17 +112,17 @@ on_leaves before (Denied d) next later none = refl
 on_leaves before (Refused cause) next later none = refl
 
 -- blocks that are not all set leave what was there before them
-pub blocks_leave : (before s : State) (text : List ℕ) (store : ℕ) (blocks : List Area) → Leaves before (set_blocks before text store s blocks)
+pub blocks_leave : (before s : State) (text : List ℕ) (store : ℕ) (blocks : List Block) → Leaves before (set_blocks before text store s blocks)
 blocks_leave before s text store [] none = absurd (none refl)
 blocks_leave before s text store (block ∷ blocks) none =
     let next = (set_block s store block).state in
     on_leaves before (set_block s store block).reply (set_blocks before text store next blocks) (blocks_leave before next text store blocks) none
 
-routed_leaves : (s : State) (blocks : List Area) (o : Option ℕ) → Leaves s (route_to s blocks o)
+routed_leaves : (s : State) (blocks : List Block) (o : Option ℕ) → Leaves s (route_to s blocks o)
 routed_leaves s blocks None none = refl
 routed_leaves s blocks (Some store) none = blocks_leave s s (count_text (length blocks)) store blocks none
 
-route_leaves : (s : State) (r : Result (Named × List Area) Cause) → Leaves s (route_reading s r)
+route_leaves : (s : State) (r : Result (Header × List Block) Cause) → Leaves s (route_reading s r)
 route_leaves s (Err cause) none = refl
 route_leaves s (Ok (named, blocks)) none = routed_leaves s blocks (store_named (nodes_of s.ifr) s.path named) none
 
@@ -133,29 +132,29 @@ submit_leaves : (s : State) (o : Option Denial) → Leaves s (submit_unless s o)
 submit_leaves s (Some denial) none = refl
 submit_leaves s None none = absurd (none refl)
 
-pub step_leaves : (s : State) (order : Order) → Leaves s (step s order)
-step_leaves s ShowPage none = refl
-step_leaves s (SetValue id value) none = set_leaves s (question_with (nodes_of s.ifr) id) (whole value) none
-step_leaves s (OrderElements id numbers) none = set_leaves s (question_with (nodes_of s.ifr) id) (listed numbers) none
-step_leaves s (SetText id text) none = set_leaves s (question_with (nodes_of s.ifr) id) (utf8 text) none
-step_leaves s (FollowReference id) none = follow_leaves s (question_with (nodes_of s.ifr) id) none
-step_leaves s GoBack none = back_leaves s (slice_get s.history (length s.history - 1)) none
-step_leaves s (PressButton row) none = press_leaves s (row_of_form s row (form_of s)) none
-step_leaves s (TakeDefaults class) none = absurd (none refl)
-step_leaves s (ExtractConfiguration request) none = extract_state s (configuration_in Ask request)
-step_leaves s (RouteConfiguration response) none = route_leaves s (configuration_in Tell response) none
-step_leaves s (AskWhy id) none = why_leaves s (question_denial s (question_with (nodes_of s.ifr) id)) none
-step_leaves s (ChooseLanguage language) none = absurd (none refl)
-step_leaves s SubmitChanges none = submit_leaves s (unsubmitted (world_of s)) none
-step_leaves s DiscardChanges none = absurd (none refl)
+pub step_leaves : (s : State) (command : Command) → Leaves s (step s command)
+step_leaves s script.Page none = refl
+step_leaves s (script.Set id value) none = set_leaves s (question_with (nodes_of s.ifr) id) (whole value) none
+step_leaves s (script.Order id numbers) none = set_leaves s (question_with (nodes_of s.ifr) id) (listed numbers) none
+step_leaves s (script.Text id text) none = set_leaves s (question_with (nodes_of s.ifr) id) (utf8 text) none
+step_leaves s (script.Go id) none = follow_leaves s (question_with (nodes_of s.ifr) id) none
+step_leaves s script.Back none = back_leaves s (slice_get s.history (length s.history - 1)) none
+step_leaves s (script.Press row) none = press_leaves s (row_of_form s row (form_of s)) none
+step_leaves s (script.Defaults class) none = absurd (none refl)
+step_leaves s (script.Extract request) none = extract_state s (configuration_in Ask request)
+step_leaves s (script.Route response) none = route_leaves s (configuration_in Tell response) none
+step_leaves s (script.Why id) none = why_leaves s (question_denial s (question_with (nodes_of s.ifr) id)) none
+step_leaves s (script.Lang language) none = absurd (none refl)
+step_leaves s script.Submit none = submit_leaves s (unsubmitted (world_of s)) none
+step_leaves s script.Discard none = absurd (none refl)
 
-reading_leaves : (s : State) (r : Result Order BadLine) → Leaves s (step_reading s r)
-reading_leaves s (Ok order) none = step_leaves s order none
-reading_leaves s (Err bad) none = refl
+reading_leaves : (s : State) (r : Result Command words.Cause) → Leaves s (step_reading s r)
+reading_leaves s (Ok command) none = step_leaves s command none
+reading_leaves s (Err cause) none = refl
 
 text_leaves : (s : State) (line text : List ℕ) → Leaves s (step_text s line text)
 text_leaves s line [] none = refl
-text_leaves s line (b ∷ text) none = reading_leaves s (reading_of line) none
+text_leaves s line (b ∷ text) none = reading_leaves s (command_of line) none
 
 pub line_leaves : (s : State) (line : List ℕ) → Leaves s (step_line s line)
 line_leaves s line none = text_leaves s line (without_return line) none

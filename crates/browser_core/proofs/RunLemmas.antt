@@ -1,22 +1,23 @@
 -- Lines carried out one after the other.
-use Rattle.std.proofs.Common.{length-append, ◌-◌, ◌==◌, slice_index, if◌then◌else◌, Bool, ◌≡◌, ◌≢◌, ℕ, ◌+◌, ◌<◌, ◌≤◌, true, false, Option, None, Some, IfSome, IfOk, Result, Ok, Err, List, [], ◌∷◌, ◌++◌, length, take, min, refl, sym, ap, ◌∙◌, subst, append-nil, append_assoc, arith, inl, inr}
+use Rattle.std.proofs.Common.{length-append, ◌-◌, ◌==◌, slice_index, if◌then◌else◌, Bool, ◌≡◌, ◌≢◌, ℕ, ◌+◌, ◌<◌, ◌≤◌, true, false, Option, None, Some, IfSome, IfOk, Result, Ok, Err, List, [], ◌∷◌, ◌++◌, length, take, drop, min, refl, sym, ap, ◌∙◌, subst, append-nil, append_assoc, arith, inl, inr}
 use Rattle.std.proofs.lemmas.Bool.{cond-true, cond-false, lt-ltb, le-ltb, cases_lt, cases_Bool}
-use Rattle.std.proofs.lemmas.List.{take-take, take_all, length-take, take-append-le}
+use Rattle.std.proofs.lemmas.List.{take-take, take_all, take-append-drop, length-take, take-append-le}
 use Rattle.std.proofs.Math.Seq.{take-append-add}
 use Rattle.std.proofs.KnownBytes.{Consumes-nil, Consumes-trans, Consumes-kept, Appends-kept, Keeps-refl}
 use Rattle.std.specs.Io.KnownBytes.{Consumes, Appends, IsAtEnd, Keeps}
 use Rattle.hii_bytes.specs.Watching.{Pen, Writes, Flushes, BreaksWithin}
 use Rattle.hii_bytes.proofs.WritingLemmas.{writes_trans, writes_past, writes_nil, appended_whole}
-use Rattle.hii_commands.specs.Script.{whole_lines, rest_of, last_line, lines_of, lines_run}
 use Rattle.hii_commands.specs.laws.Lines.{IsWithinLine}
-use Rattle.hii_commands.specs.code.Held.{Held, held_of}
-use Rattle.hii_commands.specs.Line.{without_return}
-use Rattle.hii_commands.specs.Orders.{Order}
-use Rattle.hii_commands.specs.Reading.{reading_of}
+use Rattle.hii_commands.specs.Meaning.{cause_meant, cause_of}
 use Rattle.hii_commands.specs.declared.command.BadLine.{BadLine}
 use Rattle.hii_commands.specs.declared.command.BadLine.TheVariants as bad
-use Rattle.hii_commands.specs.declared.limits.TheConstants.{LINE_LIMIT, SCRIPT_LIMIT}
+use Rattle.hii_commands.specs.code.Held.{Held, held_of}
+use Rattle.hii_commands.specs.code.Lines.{whole_lines, rest_of, last_line, lines_of}
+use Rattle.browser_rules.specs.Script.{SCRIPT_LIMIT, Command, command_of, lines_run, without_return}
+use Rattle.browser_rules.specs.Words as words
+use Rattle.hii_commands.specs.declared.limits.TheConstants.{LINE_LIMIT}
 use Rattle.hii_bytes.specs.declared.cause.Cause.TheVariants.{LineTooLong}
+use Rattle.hii_commands.proofs.ReadingLemmas.{long_line as too_long}
 use Rattle.hii_commands.proofs.ScriptLemmas.{cut-within, cut-ended, whole_lines-front}
 use Rattle.browser_core.specs.Renewed.{Shown, renewed_reading, renewed_text, shown_line}
 use Rattle.browser_core.specs.State.{State}
@@ -24,7 +25,7 @@ use Rattle.browser_core.specs.Step.{Outcome, accepted, refused, step_reading, st
 use Rattle.browser_core.specs.declared.reply.RunFault.{RunFault}
 use Rattle.browser_core.specs.declared.reply.End.{End}
 use Rattle.browser_core.specs.declared.reply.End.TheVariants.{Done, TooLong}
-use Rattle.browser_core.specs.Run.{shown_after_lines, text_of, StopsAtLine, StopsAtLimit, Runs, Finishes, BreaksOff, Overflows, ScriptOutcome, outcome_of, too_long_text}
+use Rattle.browser_core.specs.Run.{shown_after_lines, text_of, PIECE, lines_due, StopsAtLine, StopsAtLimit, Runs, Finishes, BreaksOff, Overflows, ScriptOutcome, outcome_of, too_long_text}
 use Rattle.browser_core.specs.code.Reading.{Stands}
 
 -- ---- a writer that passes on what it took
@@ -70,7 +71,7 @@ breaks_flushed {a} {b} {c} {s} u p flushed broken e = subst (λ u. (w : BreaksWi
 pub blank_line : (s : State) (line : List ℕ) → without_return line ≡ [] → step_line s line ≡ accepted s []
 blank_line s line blank = ap (step_text s line) blank
 
-text_read : (s : State) (line text : List ℕ) → text ≢ [] → step_text s line text ≡ step_reading s (reading_of line)
+text_read : (s : State) (line text : List ℕ) → text ≢ [] → step_text s line text ≡ step_reading s (command_of line)
 text_read s line [] some = absurd (some refl)
 text_read s line (b ∷ text) some = refl
 
@@ -78,7 +79,7 @@ pub some_line : (line : List ℕ) (blank : Bool) → (without_return line ≡ []
 some_line line blank is_blank not_blank = λ none. let bad : true ≡ false = sym (is_blank none) ∙ not_blank in (cc)
 
 -- a line that is not blank is carried out as it is read
-pub line_read : (s : State) (line : List ℕ) (reading : Result Order BadLine) → without_return line ≢ [] → reading_of line ≡ reading → step_line s line ≡ step_reading s reading
+pub line_read : (s : State) (line : List ℕ) (reading : Result Command words.Cause) → without_return line ≢ [] → command_of line ≡ reading → step_line s line ≡ step_reading s reading
 line_read s line reading some is = text_read s line (without_return line) some ∙ ap (step_reading s) is
 
 long_is_some : (line : List ℕ) → LINE_LIMIT < length line → without_return line ≢ []
@@ -95,17 +96,17 @@ long_is_some line long = λ blank.
     ]
 
 pub long_line : (s : State) (line : List ℕ) → LINE_LIMIT < length line → step_line s line ≡ refused s LineTooLong
-long_line s line long = line_read s line (Err bad.LineTooLong) (long_is_some line long) (cond-true _ _ _ (lt-ltb LINE_LIMIT (length line) long))
+long_line s line long = line_read s line (Err words.LineTooLong) (long_is_some line long) (too_long line long)
 
 -- what a session shows after a line
 pub blank_shown : (s : Shown) (line : List ℕ) → without_return line ≡ [] → shown_line s line ≡ s
 blank_shown s line blank = ap (λ (text : List ℕ). record { state = (step_text s.state line text).state; renewed = renewed_text s line text }) blank
 
-text_shown : (s : Shown) (line text : List ℕ) → text ≢ [] → renewed_text s line text ≡ renewed_reading s (reading_of line)
+text_shown : (s : Shown) (line text : List ℕ) → text ≢ [] → renewed_text s line text ≡ renewed_reading s (command_of line)
 text_shown s line [] some = absurd (some refl)
 text_shown s line (b ∷ text) some = refl
 
-pub line_shown : (s : Shown) (line : List ℕ) (reading : Result Order BadLine) → without_return line ≢ [] → reading_of line ≡ reading
+pub line_shown : (s : Shown) (line : List ℕ) (reading : Result Command words.Cause) → without_return line ≢ [] → command_of line ≡ reading
     → shown_line s line ≡ record { state = (step_reading s.state reading).state; renewed = renewed_reading s reading }
 line_shown s line reading some is =
     let state = ap (λ (o : Outcome). o.state) (line_read s.state line reading some is) in
@@ -113,7 +114,16 @@ line_shown s line reading some is =
     rw (state, count) refl
 
 pub long_shown : (s : Shown) (line : List ℕ) → LINE_LIMIT < length line → shown_line s line ≡ s
-long_shown s line long = line_shown s line (Err bad.LineTooLong) (long_is_some line long) (cond-true _ _ _ (lt-ltb LINE_LIMIT (length line) long))
+long_shown s line long = line_shown s line (Err words.LineTooLong) (long_is_some line long) (too_long line long)
+
+-- a line that is no command is refused by its cause, and changes nothing
+pub bad_line : (s : State) (line : List ℕ) (why : BadLine) → without_return line ≢ [] → command_of line ≡ Err (cause_meant why) → step_line s line ≡ refused s (cause_of why)
+bad_line s line bad.BadCommand some is = line_read s line (Err words.BadCommand) some is
+bad_line s line bad.LineTooLong some is = line_read s line (Err words.LineTooLong) some is
+
+pub bad_shown : (s : Shown) (line : List ℕ) (why : BadLine) → without_return line ≢ [] → command_of line ≡ Err (cause_meant why) → shown_line s line ≡ s
+bad_shown s line bad.BadCommand some is = line_shown s line (Err words.BadCommand) some is
+bad_shown s line bad.LineTooLong some is = line_shown s line (Err words.LineTooLong) some is
 
 -- ---- lines, one after the other
 
@@ -169,11 +179,70 @@ stands_passing start now pen mid new bytes line stands flushed sound =
     let h = stands (sound_before mid new flushed sound) in
     record { shown = h.shown; text = writes_flushed h.text flushed sound; line_is = h.line_is; sound = sound }
 
+-- ---- the lines that are run
+
+lines_run_within : (script : List ℕ) → length script ≤ SCRIPT_LIMIT → lines_run script ≡ lines_of script
+lines_run_within script within = cond-false _ _ _ (le-ltb SCRIPT_LIMIT (length script) within)
+
+pub lines_run_past : (script : List ℕ) → SCRIPT_LIMIT < length script → lines_run script ≡ whole_lines (take SCRIPT_LIMIT script)
+lines_run_past script past = cond-true _ _ _ (lt-ltb SCRIPT_LIMIT (length script) past)
+
+-- ---- how soon lines are carried out
+
+-- more bytes end no fewer lines
+pub whole_lines-more : (bytes more : List ℕ) → length (whole_lines bytes) ≤ length (whole_lines (bytes ++ more))
+whole_lines-more bytes more =
+    let front = whole_lines-front bytes more in
+    omega (arith, ap length front.1, length-append (whole_lines bytes) front.0)
+
+whole_lines-few : (n : ℕ) (bytes : List ℕ) → length (whole_lines (take n bytes)) ≤ length (whole_lines bytes)
+whole_lines-few n bytes =
+    subst (λ b. length (whole_lines (take n bytes)) ≤ length (whole_lines b)) (take-append-drop n bytes) (whole_lines-more (take n bytes) (drop n bytes))
+
+-- the lines that are due are among those of all bytes, and among those that are run
+pub lines_due-few : (bytes : List ℕ) → lines_due bytes ≤ length (whole_lines bytes)
+lines_due-few bytes = whole_lines-few (length bytes - PIECE) bytes
+
+-- the lines that ended before a piece came
+lines_due-piece : (bytes piece : List ℕ) → length piece ≤ PIECE → lines_due (bytes ++ piece) ≤ length (whole_lines bytes)
+lines_due-piece bytes piece few =
+    let n = length (bytes ++ piece) - PIECE in
+    let within : n ≤ length bytes = omega (arith, few, length-append bytes piece) in
+    subst (λ b. length (whole_lines b) ≤ length (whole_lines bytes)) (sym (take-append-le n bytes piece within)) (whole_lines-few n bytes)
+
+pub lines_due-run : (bytes : List ℕ) → length bytes ≤ SCRIPT_LIMIT + 1 → lines_due bytes ≤ length (lines_run bytes)
+lines_due-run bytes few = elim (cases_lt SCRIPT_LIMIT (length bytes)) [
+  | inl past ↦
+      let n = length bytes - PIECE in
+      let front : take n (take SCRIPT_LIMIT bytes) ≡ take n bytes = take-take n SCRIPT_LIMIT bytes (omega (arith, few)) in
+      rw (lines_run_past bytes past, ← front) (whole_lines-few n (take SCRIPT_LIMIT bytes))
+  | inr within ↦
+      let all : lines_run bytes ≡ whole_lines bytes ++ last_line (rest_of bytes) = lines_run_within bytes within in
+      omega (arith, ap length all, length-append (whole_lines bytes) (last_line (rest_of bytes)), lines_due-few bytes)
+]
+
+-- fewer lines are due
+pub stops_sooner : (start now : Shown) (pen new : Pen) (due least : ℕ) (lines : List (List ℕ)) → StopsAtLine start pen due lines now new → least ≤ due → StopsAtLine start pen least lines now new
+stops_sooner start now pen new due least lines h few = record {
+  before = h.before;
+  last = h.last;
+  later = h.later;
+  one = h.one;
+  front = h.front;
+  soon = omega (arith, h.soon, few);
+  shown = h.shown;
+  text = h.text;
+  all_before = h.all_before;
+  after_fault = h.after_fault;
+}
+
+-- ---- a writer that fails at a line
+
 -- the writer fails at one more line or at none, or as it passes on the answers
 pub stops_after : (start now stepped : Shown) (pen mid after new : Pen) (before last later : List (List ℕ)) → length last ≤ 1
     → now ≡ shown_after_lines start before → Writes pen mid (text_of start before) → mid.broken ≡ false
     → stepped ≡ shown_after_lines now last → Writes mid after (text_of now last) → Flushes after new → new.broken ≡ true
-    → StopsAtLine start pen ((before ++ last) ++ later) stepped new
+    → StopsAtLine start pen (length before) ((before ++ last) ++ later) stepped new
 stops_after start now stepped pen mid after new before last later one state text was_sound next told flushed broken =
     let both : text_of start (before ++ last) ≡ text_of start before ++ text_of now last = text_of-append start before last ∙ ap (λ n. text_of start before ++ text_of n last) (sym state) in
     let past = writes_past (text_of start before ++ text_of now last) text told was_sound refl in
@@ -184,6 +253,7 @@ stops_after start now stepped pen mid after new before last later one state text
       later = later;
       one = one;
       front = refl;
+      soon = omega (arith, length-append before last);
       shown = next ∙ ap (λ n. shown_after_lines n last) state ∙ sym (shown_after_lines-append start before last);
       text = breaks.0;
       all_before = omega (arith, past.1, breaks.1);
@@ -194,7 +264,7 @@ stops_after start now stepped pen mid after new before last later one state text
 stops_line : (start now stepped : Shown) (pen mid new : Pen) (lines later : List (List ℕ)) (line : List ℕ)
     → now ≡ shown_after_lines start lines → Writes pen mid (text_of start lines) → mid.broken ≡ false
     → stepped ≡ shown_line now line → Writes mid new (step_line now.state line).text
-    → new.broken ≡ true → StopsAtLine start pen ((lines ++ line ∷ []) ++ later) stepped new
+    → new.broken ≡ true → StopsAtLine start pen (length lines) ((lines ++ line ∷ []) ++ later) stepped new
 stops_line start now stepped pen mid new lines later line state text was_sound next told broken =
     stops_after start now stepped pen mid new new lines (line ∷ []) later (omega arith) state text was_sound next
     (subst (Writes mid new) (sym (append-nil (step_line now.state line).text)) told) (flushes_none new) broken
@@ -203,20 +273,14 @@ stops_line start now stepped pen mid new lines later line state text was_sound n
 pub stops_piece : (start now stepped : Shown) (pen mid new : Pen) (bytes p more all : List ℕ) → IsWithinLine p
     → now ≡ shown_after_lines start (whole_lines bytes) → Writes pen mid (text_of start (whole_lines bytes)) → mid.broken ≡ false
     → stepped ≡ shown_line now (rest_of bytes ++ p) → Writes mid new (step_line now.state (rest_of bytes ++ p)).text → new.broken ≡ true
-    → all ≡ (bytes ++ (p ++ 10 ∷ [])) ++ more → StopsAtLine start pen (whole_lines all) stepped new
+    → all ≡ (bytes ++ (p ++ 10 ∷ [])) ++ more → StopsAtLine start pen (length (whole_lines bytes)) (whole_lines all) stepped new
 stops_piece start now stepped pen mid new bytes p more all within state text was_sound next told broken e =
     let whole : whole_lines (bytes ++ (p ++ 10 ∷ [])) ≡ whole_lines bytes ++ (rest_of bytes ++ p) ∷ [] = ap (λ (c : List (List ℕ) × List ℕ). c.0) (cut-ended bytes p within) in
     let later = whole_lines-front (bytes ++ (p ++ 10 ∷ [])) more in
-    subst (λ l. StopsAtLine start pen l stepped new) (sym (ap whole_lines e ∙ later.1 ∙ ap (λ l. l ++ later.0) whole))
+    subst (λ l. StopsAtLine start pen (length (whole_lines bytes)) l stepped new) (sym (ap whole_lines e ∙ later.1 ∙ ap (λ l. l ++ later.0) whole))
     (stops_line start now stepped pen mid new (whole_lines bytes) later.0 (rest_of bytes ++ p) state text was_sound next told broken)
 
 -- ---- the whole script
-
-lines_run_within : (script : List ℕ) → length script ≤ SCRIPT_LIMIT → lines_run script ≡ lines_of script
-lines_run_within script within = cond-false _ _ _ (le-ltb SCRIPT_LIMIT (length script) within)
-
-lines_run_past : (script : List ℕ) → SCRIPT_LIMIT < length script → lines_run script ≡ whole_lines (take SCRIPT_LIMIT script)
-lines_run_past script past = cond-true _ _ _ (lt-ltb SCRIPT_LIMIT (length script) past)
 
 -- what these lines leave and write, and whether more bytes stand behind them
 abbrev pub outcome_at : Shown → List (List ℕ) → Bool → ScriptOutcome
@@ -251,13 +315,14 @@ last_line-few : (rest : List ℕ) → length (last_line rest) ≤ 1
 last_line-few [] = omega arith
 last_line-few (b ∷ rest) = omega arith
 
-pub stops_flushed : (start now : Shown) (pen mid new : Pen) (lines : List (List ℕ)) → StopsAtLine start pen lines now mid → Flushes mid new → StopsAtLine start pen lines now new
-stops_flushed start now pen mid new lines h flushed = record {
+pub stops_flushed : (start now : Shown) (pen mid new : Pen) (due : ℕ) (lines : List (List ℕ)) → StopsAtLine start pen due lines now mid → Flushes mid new → StopsAtLine start pen due lines now new
+stops_flushed start now pen mid new due lines h flushed = record {
   before = h.before;
   last = h.last;
   later = h.later;
   one = h.one;
   front = h.front;
+  soon = h.soon;
   shown = h.shown;
   text = record {
     part = h.text.part;
@@ -274,21 +339,29 @@ stops_flushed start now pen mid new lines h flushed = record {
 stops_last : (start now stepped : Shown) (pen mid after new : Pen) (bytes rest : List ℕ)
     → now ≡ shown_after_lines start (whole_lines bytes) → Writes pen mid (text_of start (whole_lines bytes)) → mid.broken ≡ false
     → stepped ≡ shown_line now rest → Writes mid after (step_line now.state rest).text → Flushes after new → new.broken ≡ true
-    → StopsAtLine start pen (whole_lines bytes ++ last_line rest) stepped new
+    → StopsAtLine start pen (length (whole_lines bytes)) (whole_lines bytes ++ last_line rest) stepped new
 stops_last start now stepped pen mid after new bytes rest state text was_sound next told flushed broken =
-    subst (λ l. StopsAtLine start pen l stepped new) (append-nil (whole_lines bytes ++ last_line rest))
+    subst (λ l. StopsAtLine start pen (length (whole_lines bytes)) l stepped new) (append-nil (whole_lines bytes ++ last_line rest))
     (stops_after start now stepped pen mid after new (whole_lines bytes) (last_line rest) [] (last_line-few rest) state text was_sound
     (next ∙ sym (shown_after_lines-last_line now rest)) (subst (Writes mid after) (sym (text_of-last_line now rest)) told) flushed broken)
 
+-- the writer fails as it passes on the answers to all of these lines
+pub stops_behind : (start now : Shown) (pen mid new : Pen) (due : ℕ) (lines : List (List ℕ)) → due ≤ length lines → now ≡ shown_after_lines start lines → Writes pen mid (text_of start lines)
+    → mid.broken ≡ false → Flushes mid new → new.broken ≡ true → StopsAtLine start pen due lines now new
+stops_behind start now pen mid new due lines few state text was_sound flushed broken =
+    subst (λ l. StopsAtLine start pen due l now new) (append-nil (lines ++ []) ∙ append-nil lines)
+    (stops_sooner start now pen new (length lines) due ((lines ++ []) ++ [])
+    (stops_after start now now pen mid mid new lines [] [] (omega arith) state text was_sound refl (writes_nil mid) flushed broken) few)
+
 -- the writer fails at a line of a piece, or as it passes on the answers of all of them
-pub stops_passing : (start now : Shown) (pen mid new : Pen) (bytes : List ℕ) (line : Held) → (mid.broken ≡ false → Stands start pen bytes now line mid)
-    → (mid.broken ≡ true → StopsAtLine start pen (whole_lines bytes) now mid) → Flushes mid new → new.broken ≡ true → StopsAtLine start pen (whole_lines bytes) now new
-stops_passing start now pen mid new bytes line stands stops flushed broken = elim (cases_Bool mid.broken) [
-  | inl was_broken ↦ stops_flushed start now pen mid new (whole_lines bytes) (stops was_broken) flushed
+pub stops_passing : (start now : Shown) (pen mid new : Pen) (bytes piece : List ℕ) (line : Held) → (mid.broken ≡ false → Stands start pen (bytes ++ piece) now line mid)
+    → (mid.broken ≡ true → StopsAtLine start pen (length (whole_lines bytes)) (whole_lines (bytes ++ piece)) now mid) → Flushes mid new → new.broken ≡ true
+    → StopsAtLine start pen (length (whole_lines bytes)) (whole_lines (bytes ++ piece)) now new
+stops_passing start now pen mid new bytes piece line stands stops flushed broken = elim (cases_Bool mid.broken) [
+  | inl was_broken ↦ stops_flushed start now pen mid new (length (whole_lines bytes)) (whole_lines (bytes ++ piece)) (stops was_broken) flushed
   | inr sound ↦
       let h = stands sound in
-      subst (λ l. StopsAtLine start pen l now new) (append-nil (whole_lines bytes ++ []) ∙ append-nil (whole_lines bytes))
-      (stops_after start now now pen mid mid new (whole_lines bytes) [] [] (omega arith) h.shown h.text sound refl (writes_nil mid) flushed broken)
+      stops_behind start now pen mid new (length (whole_lines bytes)) (whole_lines (bytes ++ piece)) (whole_lines-more bytes piece) h.shown h.text sound flushed broken
 ]
 
 -- the writer fails before the first byte
@@ -305,6 +378,7 @@ overflows_at_once start pen new reader flushed broken =
         later = [];
         one = omega arith;
         front = refl;
+        soon = omega arith;
         shown = refl;
         text = breaks.0;
         all_before = omega arith;
@@ -356,7 +430,13 @@ overflows_last start now stepped pen mid after new reader left bytes line consum
   bytes = bytes;
   consumed = consumed;
   few = omega arith;
-  stops = inr (inl (at_end, subst (λ l. StopsAtLine start pen l stepped new) (sym (lines_run_within bytes few)) (stops_last start now stepped pen mid after new bytes (rest_of bytes) stands.shown stands.text stands.sound next told flushed broken)));
+  stops =
+      let stops = stops_last start now stepped pen mid after new bytes (rest_of bytes) stands.shown stands.text stands.sound next told flushed broken in
+      inr (inl (
+        at_end,
+        subst (λ l. StopsAtLine start pen (lines_due bytes) l stepped new) (sym (lines_run_within bytes few))
+            (stops_sooner start stepped pen new (length (whole_lines bytes)) (lines_due bytes) (lines_of bytes) stops (lines_due-few bytes)),
+      ));
 }
 
 -- the part of a read that stands within the limit
@@ -413,9 +493,9 @@ reads_more start now stepped pen mid new reader left after count n part buf line
 }
 
 pub overflows_piece : (start now stepped : Shown) (pen mid new : Pen) (reader left after : Option (List ℕ)) (count n part : ℕ) (buf : List ℕ) (line : Held)
-    → (h : Reads start pen reader count now line mid left) → count ≤ SCRIPT_LIMIT → n ≤ length buf → count + n ≤ SCRIPT_LIMIT + 1 → part ≡ min n (SCRIPT_LIMIT - count) → Consumes left after (take n buf)
-    → StopsAtLine start pen (whole_lines (h.bytes ++ take part buf)) stepped new → Overflows start pen reader stepped new after
-overflows_piece start now stepped pen mid new reader left after count n part buf line h within room few least consumed stops =
+    → (h : Reads start pen reader count now line mid left) → count ≤ SCRIPT_LIMIT → n ≤ length buf → count + n ≤ SCRIPT_LIMIT + 1 → n ≤ PIECE → part ≡ min n (SCRIPT_LIMIT - count) → Consumes left after (take n buf)
+    → StopsAtLine start pen (length (whole_lines h.bytes)) (whole_lines (h.bytes ++ take part buf)) stepped new → Overflows start pen reader stepped new after
+overflows_piece start now stepped pen mid new reader left after count n part buf line h within room few one least consumed stops =
     let all = h.bytes ++ take n buf in
     let counted : length all ≡ count + n = omega (arith, length-append h.bytes (take n buf), length-take n buf, h.counted) in
     let same : part ≡ min n (SCRIPT_LIMIT - length h.bytes) = omega (arith, h.counted, least) in
@@ -424,7 +504,11 @@ overflows_piece start now stepped pen mid new reader left after count n part buf
       bytes = all;
       consumed = Consumes-trans reader left after h.bytes (take n buf) h.consumed consumed;
       few = omega (arith, counted);
-      stops = inl (subst (λ b. StopsAtLine start pen (whole_lines b) stepped new) (ap (λ k. h.bytes ++ take k buf) same ∙ sym (read_more n SCRIPT_LIMIT h.bytes buf size)) stops);
+      stops =
+          let due = lines_due-piece h.bytes (take n buf) (omega (arith, one, length-take n buf)) in
+          let lines = whole_lines (h.bytes ++ take part buf) in
+          inl (subst (λ b. StopsAtLine start pen (lines_due all) (whole_lines b) stepped new) (ap (λ k. h.bytes ++ take k buf) same ∙ sym (read_more n SCRIPT_LIMIT h.bytes buf size))
+          (stops_sooner start stepped pen new (length (whole_lines h.bytes)) (lines_due all) lines stops due));
     }
 
 -- past the limit

@@ -15,7 +15,7 @@ use Rattle.hii_varstore.specs.Layout.{Shape, size_of}
 use Rattle.hii_varstore.specs.Stores.{StoreMap, shape_of, bytes_of, overwritten}
 use Rattle.hii_varstore.proofs.WriteLemmas.{bytes_after, shape_after, sizes}
 use Rattle.hii_questions.specs.Answers.{answers, answer_of, value_of_field, value_of_bytes}
-use Rattle.config_text.specs.Grammar.{Named, Area}
+use Rattle.browser_rules.specs.Configuration.{Header, Block}
 use Rattle.config_text.specs.Reading.{configuration_in}
 use Rattle.config_text.specs.declared.kind.TextKind.TheVariants.{Ask, Tell}
 use Rattle.hii_bytes.specs.declared.cause.Cause.{Cause}
@@ -34,7 +34,8 @@ use Rattle.guard_policy.specs.Warned.{warning_of}
 use Rattle.guard_policy.specs.World.{World, is_met_over, world_over}
 use Rattle.guard_policy.specs.declared.denial.Denial.{Denial}
 use Rattle.guard_policy.proofs.SupportLemmas.{front, back, all_alike, fixed_same, closed_same, inconsistent_same, warned_same}
-use Rattle.hii_commands.specs.Orders.{Order, ShowPage, SetValue, OrderElements, SetText, FollowReference, GoBack, PressButton, TakeDefaults, ExtractConfiguration, RouteConfiguration, AskWhy, ChooseLanguage, SubmitChanges, DiscardChanges}
+use Rattle.browser_rules.specs.Script as script
+use Rattle.browser_rules.specs.Script.{Command}
 use Rattle.browser_core.specs.laws.Bytes.{state_with, answers_to}
 use Rattle.browser_core.specs.Opening.{layout_in}
 use Rattle.browser_core.specs.laws.Sealed.{deciding, IsSealed, HoldAlike, AreAlike, IsLaid, SessionsAreLaid, IsOn, SealedQuestionsAnswerAlike}
@@ -222,33 +223,33 @@ module _ (s : State) (ids : List ℕ) (committed working : StoreMap) (form : ℕ
     set_alike offer (Some q) is =
         subst (λ d. Answer (set_question s (Some q) offer) (set_unless_fixed beside q offer d)) (sym (denial_alike (Some q) is)) (unless_alike q offer (fixed (world_of s) q) is)
 
-  pub step_beside : (order : Order) → IsOn ids order → Answer (step s order) (step beside order)
-  step_beside (SetValue id value) on = set_alike id on (whole value) (question_with ns id) refl
-  step_beside (OrderElements id numbers) on = set_alike id on (listed numbers) (question_with ns id) refl
-  step_beside (SetText id text) on = set_alike id on (utf8 text) (question_with ns id) refl
-  step_beside (AskWhy id) on = why_alike id on (question_with ns id) refl
-  step_beside DiscardChanges on = (refl, record { ifr = refl; removed = refl; spoken = refl; language = refl; committed = submitted; working = submitted })
-  step_beside ShowPage on = absurd on
-  step_beside (FollowReference id) on = absurd on
-  step_beside GoBack on = absurd on
-  step_beside (PressButton row) on = absurd on
-  step_beside (TakeDefaults class) on = absurd on
-  step_beside (ExtractConfiguration request) on = absurd on
-  step_beside (RouteConfiguration response) on = absurd on
-  step_beside (ChooseLanguage language) on = absurd on
-  step_beside SubmitChanges on = absurd on
+  pub step_beside : (command : Command) → IsOn ids command → Answer (step s command) (step beside command)
+  step_beside (script.Set id value) on = set_alike id on (whole value) (question_with ns id) refl
+  step_beside (script.Order id numbers) on = set_alike id on (listed numbers) (question_with ns id) refl
+  step_beside (script.Text id text) on = set_alike id on (utf8 text) (question_with ns id) refl
+  step_beside (script.Why id) on = why_alike id on (question_with ns id) refl
+  step_beside script.Discard on = (refl, record { ifr = refl; removed = refl; spoken = refl; language = refl; committed = submitted; working = submitted })
+  step_beside script.Page on = absurd on
+  step_beside (script.Go id) on = absurd on
+  step_beside script.Back on = absurd on
+  step_beside (script.Press row) on = absurd on
+  step_beside (script.Defaults class) on = absurd on
+  step_beside (script.Extract request) on = absurd on
+  step_beside (script.Route response) on = absurd on
+  step_beside (script.Lang language) on = absurd on
+  step_beside script.Submit on = absurd on
 
 -- the second session is the first one over its own stores
 beside_is : (s t : State) → s.ifr ≡ t.ifr → s.removed ≡ t.removed → s.spoken ≡ t.spoken → s.language ≡ t.language → record s { committed = t.committed; working = t.working; form = t.form; history = t.history; path = t.path } ≡ t
 beside_is s t ifr removed spoken language = rw (ifr, removed, spoken, language) refl
 
-step_alike : (s t : State) (ids : List ℕ) (order : Order) → IsLaid s → IsLaid t → IsSealed (nodes_of s.ifr) ids → AreAlike ids s t → IsOn ids order
-    → ((step s order).text ≡ (step t order).text) × AreAlike ids (step s order).state (step t order).state
-step_alike s t ids order laid also sealed alike on =
+step_alike : (s t : State) (ids : List ℕ) (command : Command) → IsLaid s → IsLaid t → IsSealed (nodes_of s.ifr) ids → AreAlike ids s t → IsOn ids command
+    → ((step s command).text ≡ (step t command).text) × AreAlike ids (step s command).state (step t command).state
+step_alike s t ids command laid also sealed alike on =
     let shapes = laid.working ∙ ap layout_in alike.ifr ∙ sym also.working in
-    subst (λ (u : State). ((step s order).text ≡ (step u order).text) × AreAlike ids (step s order).state (step u order).state)
+    subst (λ (u : State). ((step s command).text ≡ (step u command).text) × AreAlike ids (step s command).state (step u command).state)
     (beside_is s t alike.ifr alike.removed alike.spoken alike.language)
-    (step_beside s ids t.committed t.working t.form t.history t.path sealed shapes alike.committed alike.working order on)
+    (step_beside s ids t.committed t.working t.form t.history t.path sealed shapes alike.committed alike.working command on)
 
 -- ---- sessions are laid
 
@@ -320,16 +321,16 @@ pub set_field_keeps : (s : State) (o : Option Node) (bytes : List ℕ) → Keeps
 set_field_keeps s None bytes = keeps_all s
 set_field_keeps s (Some q) bytes = field_keeps s q bytes (is_password q)
 
-block_keeps : (before s : State) (store : ℕ) (block : Area) → Keeps before s → Keeps before (set_block s store block).state
+block_keeps : (before s : State) (store : ℕ) (block : Block) → Keeps before s → Keeps before (set_block s store block).state
 block_keeps before s store block keeps =
     let next = set_field_keeps s (question_of_field (world_of s) (nodes_of s.ifr) (block_field store block)) (block_bytes block) in
     record { ifr = next.ifr ∙ keeps.ifr; committed = next.committed ∙ keeps.committed; working = next.working ∙ keeps.working }
 
-routed_keeps : (s : State) (blocks : List Area) (o : Option ℕ) → Keeps s (route_to s blocks o).state
+routed_keeps : (s : State) (blocks : List Block) (o : Option ℕ) → Keeps s (route_to s blocks o).state
 routed_keeps s blocks None = keeps_all s
 routed_keeps s blocks (Some store) = blocks_end (Keeps s) s s (count_text (length blocks)) store blocks (keeps_all s) (keeps_all s) (λ t block keeps. block_keeps s t store block keeps)
 
-route_keeps : (s : State) (r : Result (Named × List Area) Cause) → Keeps s (route_reading s r).state
+route_keeps : (s : State) (r : Result (Header × List Block) Cause) → Keeps s (route_reading s r).state
 route_keeps s (Err cause) = keeps_all s
 route_keeps s (Ok (named, blocks)) = routed_keeps s blocks (store_named (nodes_of s.ifr) s.path named)
 
@@ -338,47 +339,47 @@ submit_keeps s None same = record { ifr = refl; committed = sym same; working = 
 submit_keeps s (Some d) same = keeps_all s
 
 -- a command leaves the package and the shape of the stores
-pub step_keeps : (s : State) (order : Order) → shape_of s.committed ≡ shape_of s.working → Keeps s (step s order).state
-step_keeps s (SetValue id value) same = set_keeps s (whole value) (question_with (nodes_of s.ifr) id)
-step_keeps s (OrderElements id numbers) same = set_keeps s (listed numbers) (question_with (nodes_of s.ifr) id)
-step_keeps s (SetText id text) same = set_keeps s (utf8 text) (question_with (nodes_of s.ifr) id)
-step_keeps s (AskWhy id) same = why_keeps s (question_denial s (question_with (nodes_of s.ifr) id))
-step_keeps s (FollowReference id) same = leaves_keep s _ (follow_leaves s (question_with (nodes_of s.ifr) id))
-step_keeps s GoBack same = leaves_keep s _ (back_leaves s (slice_get s.history (length s.history - 1)))
-step_keeps s (PressButton row) same = press_keeps s (row_of_form s row (form_of s))
-step_keeps s (TakeDefaults class) same = defaults_keep s class
-step_keeps s (ExtractConfiguration request) same = leaves_keep s _ (extract_leaves s (configuration_in Ask request))
-step_keeps s (RouteConfiguration response) same = route_keeps s (configuration_in Tell response)
-step_keeps s ShowPage same = keeps_all s
-step_keeps s (ChooseLanguage language) same = record { ifr = refl; committed = refl; working = refl }
-step_keeps s SubmitChanges same = submit_keeps s (unsubmitted (world_of s)) same
-step_keeps s DiscardChanges same = record { ifr = refl; committed = refl; working = same }
+pub step_keeps : (s : State) (command : Command) → shape_of s.committed ≡ shape_of s.working → Keeps s (step s command).state
+step_keeps s (script.Set id value) same = set_keeps s (whole value) (question_with (nodes_of s.ifr) id)
+step_keeps s (script.Order id numbers) same = set_keeps s (listed numbers) (question_with (nodes_of s.ifr) id)
+step_keeps s (script.Text id text) same = set_keeps s (utf8 text) (question_with (nodes_of s.ifr) id)
+step_keeps s (script.Why id) same = why_keeps s (question_denial s (question_with (nodes_of s.ifr) id))
+step_keeps s (script.Go id) same = leaves_keep s _ (follow_leaves s (question_with (nodes_of s.ifr) id))
+step_keeps s script.Back same = leaves_keep s _ (back_leaves s (slice_get s.history (length s.history - 1)))
+step_keeps s (script.Press row) same = press_keeps s (row_of_form s row (form_of s))
+step_keeps s (script.Defaults class) same = defaults_keep s class
+step_keeps s (script.Extract request) same = leaves_keep s _ (extract_leaves s (configuration_in Ask request))
+step_keeps s (script.Route response) same = route_keeps s (configuration_in Tell response)
+step_keeps s script.Page same = keeps_all s
+step_keeps s (script.Lang language) same = record { ifr = refl; committed = refl; working = refl }
+step_keeps s script.Submit same = submit_keeps s (unsubmitted (world_of s)) same
+step_keeps s script.Discard same = record { ifr = refl; committed = refl; working = same }
 
-laid_keeps : (s : State) (order : Order) → IsLaid s → Keeps s (step s order).state
-laid_keeps s order laid = step_keeps s order (laid.committed ∙ sym laid.working)
+laid_keeps : (s : State) (command : Command) → IsLaid s → Keeps s (step s command).state
+laid_keeps s command laid = step_keeps s command (laid.committed ∙ sym laid.working)
 
-step_laid : (s : State) (order : Order) → IsLaid s → IsLaid (step s order).state
-step_laid s order laid =
-    let keeps = laid_keeps s order laid in
+step_laid : (s : State) (command : Command) → IsLaid s → IsLaid (step s command).state
+step_laid s command laid =
+    let keeps = laid_keeps s command laid in
     record {
       committed = keeps.committed ∙ laid.committed ∙ ap layout_in (sym keeps.ifr);
       working = keeps.working ∙ laid.working ∙ ap layout_in (sym keeps.ifr);
     }
 
-laid_after : (s : State) (orders : List Order) → IsLaid s → IsLaid (state_with s orders)
+laid_after : (s : State) (commands : List Command) → IsLaid s → IsLaid (state_with s commands)
 laid_after s [] laid = laid
-laid_after s (order ∷ orders) laid = laid_after (step s order).state orders (step_laid s order laid)
+laid_after s (command ∷ commands) laid = laid_after (step s command).state commands (step_laid s command laid)
 
 pub are_laid : SessionsAreLaid
-are_laid list n image language start orders opens =
-    laid_after start orders record { committed = ap shape_of opens.submitted ∙ opens.stores.laid; working = opens.stores.laid }
+are_laid list n image language start commands opens =
+    laid_after start commands record { committed = ap shape_of opens.submitted ∙ opens.stores.laid; working = opens.stores.laid }
 
 -- ---- some commands
 
 pub sessions_alike : SealedQuestionsAnswerAlike
 sessions_alike s t ids [] laid also sealed alike on = (refl, alike)
-sessions_alike s t ids (order ∷ orders) laid also sealed alike on =
-    let first = step_alike s t ids order laid also sealed alike on.0 in
-    let still = subst (λ (ifr : List ℕ). IsSealed (nodes_of ifr) ids) (sym (laid_keeps s order laid).ifr) sealed in
-    let later = sessions_alike (step s order).state (step t order).state ids orders (step_laid s order laid) (step_laid t order also) still first.1 on.1 in
-    (ap (λ (text : List ℕ). text ∷ answers_to (step s order).state orders) first.0 ∙ ap (λ (texts : List (List ℕ)). (step t order).text ∷ texts) later.0, later.1)
+sessions_alike s t ids (command ∷ commands) laid also sealed alike on =
+    let first = step_alike s t ids command laid also sealed alike on.0 in
+    let still = subst (λ (ifr : List ℕ). IsSealed (nodes_of ifr) ids) (sym (laid_keeps s command laid).ifr) sealed in
+    let later = sessions_alike (step s command).state (step t command).state ids commands (step_laid s command laid) (step_laid t command also) still first.1 on.1 in
+    (ap (λ (text : List ℕ). text ∷ answers_to (step s command).state commands) first.0 ∙ ap (λ (texts : List (List ℕ)). (step t command).text ∷ texts) later.0, later.1)

@@ -4,8 +4,8 @@ use Rattle.std.specs.Prelude.{IfSome, option_copied}
 use Rattle.std.specs.List.{AllByRecursion}
 use Rattle.std.specs.Option.{ok_or, unwrap_or}
 use Rattle.std.proofs.lemmas.Bool.{cases_Bool, cases_lt, lt-ltb}
-use Rattle.config_text.specs.Grammar.{Named, Area}
-use Rattle.config_text.specs.Written.{AreInside, blocks_asked}
+use Rattle.browser_rules.specs.Configuration.{Header, Block, blocks_asked}
+use Rattle.config_text.specs.Written.{AreInside}
 use Rattle.ifr_opcodes.specs.Forest.{Node}
 use Rattle.ifr_scopes.specs.Nodes.{nodes_of}
 use Rattle.hii_varstore.specs.code.Table.{AreBuffers}
@@ -26,25 +26,25 @@ both_none None b e = (refl, e)
 both_none (Some d) b e = absurd cc
 
 -- a block that is told lies in the store
-inside : (ns : List Node) (store size : ℕ) (block : Area) → telling_denial ns store size block ≡ None → block.offset + block.width ≤ size
+inside : (ns : List Node) (store size : ℕ) (block : Block) → telling_denial ns store size block ≡ None → block.offset + block.width ≤ size
 inside ns store size block e = elim (cases_lt size (block.offset + block.width)) [
   | inl past ↦ let out : leaves_store size block ≡ true = lt-ltb _ _ past in let bad = rw out at e in absurd (cc)
   | inr within ↦ within
 ]
 
-all_inside : (ns : List Node) (store size : ℕ) (blocks : List Area) → first_untold ns store size blocks ≡ None → AreInside blocks size
+all_inside : (ns : List Node) (store size : ℕ) (blocks : List Block) → first_untold ns store size blocks ≡ None → AreInside blocks size
 all_inside ns store size [] e = tt
 all_inside ns store size (block ∷ blocks) e =
     let both = both_none (telling_denial ns store size block) (first_untold ns store size blocks) e in
     (inside ns store size block both.0, all_inside ns store size blocks both.1)
 
 -- the blocks of a request that is answered lie in the store
-pub asked_inside : (ns : List Node) (store size : ℕ) (areas : List Area) → first_untold ns store size (blocks_asked areas size) ≡ None → AreInside areas size
+pub asked_inside : (ns : List Node) (store size : ℕ) (areas : List Block) → first_untold ns store size (blocks_asked areas size) ≡ None → AreInside areas size
 asked_inside ns store size [] e = tt
 asked_inside ns store size (area ∷ areas) e = all_inside ns store size (area ∷ areas) e
 
 -- the first of some blocks that may not be told
-pub first_denies : (ns : List Node) (store size : ℕ) (block : Area) (left rest all : List Area) (denial : Denial) → left ≡ block ∷ rest → first_untold ns store size left ≡ first_untold ns store size all
+pub first_denies : (ns : List Node) (store size : ℕ) (block : Block) (left rest all : List Block) (denial : Denial) → left ≡ block ∷ rest → first_untold ns store size left ≡ first_untold ns store size all
     → Err denial ≡ unless (telling_denial ns store size block) → Err denial ≡ unless (first_untold ns store size all)
 first_denies ns store size block left rest all denial e same why =
     let some = some_of (telling_denial ns store size block) denial (sym why) in
@@ -81,7 +81,7 @@ bytes_there (Some b) d = refl
 
 -- ---- what is answered
 
-pub is_told : (s : State) (request : Named × List Area) (store : ℕ) (bytes : List ℕ) → store_named (nodes_of s.ifr) s.path request.0 ≡ Some store → bytes ≡ unwrap_or (bytes_of s.committed store) []
+pub is_told : (s : State) (request : Header × List Block) (store : ℕ) (bytes : List ℕ) → store_named (nodes_of s.ifr) s.path request.0 ≡ Some store → bytes ≡ unwrap_or (bytes_of s.committed store) []
     → length bytes < 2 ^ 16 → first_untold (nodes_of s.ifr) store (length bytes) (blocks_asked request.1 (length bytes)) ≡ None → IsTold s request bytes
 is_told s request store bytes named same small none = record {
   small = small;
@@ -89,7 +89,7 @@ is_told s request store bytes named same small none = record {
   answer = ap (extract_from s request) named ∙ ap (extract_bytes s request store) (sym same) ∙ ap (extract_unless s (configuration_text request bytes)) none;
 }
 
-pub is_untold : (s : State) (request : Named × List Area) (store : ℕ) (bytes : List ℕ) (denial : Denial) → store_named (nodes_of s.ifr) s.path request.0 ≡ Some store → bytes ≡ unwrap_or (bytes_of s.committed store) []
+pub is_untold : (s : State) (request : Header × List Block) (store : ℕ) (bytes : List ℕ) (denial : Denial) → store_named (nodes_of s.ifr) s.path request.0 ≡ Some store → bytes ≡ unwrap_or (bytes_of s.committed store) []
     → first_untold (nodes_of s.ifr) store (length bytes) (blocks_asked request.1 (length bytes)) ≡ Some denial → IsUntold s request denial
 is_untold s request store bytes denial named same some =
     ap (extract_from s request) named ∙ ap (extract_bytes s request store) (sym same) ∙ ap (extract_unless s (configuration_text request bytes)) some

@@ -3,7 +3,7 @@ use Rattle.std.proofs.Common.{◌≡◌, ℕ, zero, suc, ◌+◌, None, Some, Li
 use Rattle.std.specs.Prelude.{Contains, replicate, codes}
 use Rattle.std.specs.Fmt.{digits}
 use Rattle.hii_bytes.specs.Numbers.{number_in}
-use Rattle.ifr_opcodes.specs.Operators.{operands}
+use Rattle.ifr_opcodes.specs.Rows.{row_of, operands, is_question_number, is_statement_number}
 use Rattle.ifr_opcodes.specs.Reading.{cut, levels, tree_of}
 use Rattle.ifr_expr.specs.Dependence.{rule_ids}
 use Rattle.ifr_expr.specs.Meaning.{leaf_value}
@@ -12,7 +12,6 @@ use Rattle.ifr_expr.specs.Support.{ids_of}
 use Rattle.ifr_expr.specs.Values.{constant_value, binary_value, number_value}
 use Rattle.unicode_width.proofs.Computing.{unicode_width}
 use Rattle.sibt_strings.specs.Units.{chars_of_units}
-use Rattle.ifr_opcodes.specs.Statements.{is_question_number, is_statement_number}
 use Rattle.ifr_scopes.specs.Kinds.{is_store_number}
 use Rattle.ifr_scopes.specs.Nodes.{nodes_of}
 use Rattle.hii_languages.specs.Languages.{Spoken}
@@ -78,7 +77,7 @@ one_checkbox = (75 ∷ 0 ∷ 0 ∷ 2 ∷ []) ++ before ++ checkbox 1 0 ++ end ++
 
 a_checkbox_is_set : (outcome_of (opened (started one_checkbox (0 ∷ 0 ∷ []))) (codes "page\nset 1 1\nsubmit\n")).text
     ≡ codes "FORM 1 #2\n  1 *     1 #3                       [ ]\nOK\nOK 1\nCHANGED 1\n"
-unfolding cut levels tree_of number_in with_bytes digits unicode_width is_question_number is_statement_number is_store_number
+unfolding cut levels tree_of number_in with_bytes digits unicode_width is_question_number is_statement_number is_store_number row_of
 a_checkbox_is_set = refl
 
 -- the image that is written then
@@ -86,7 +85,7 @@ abbrev set_image : List ℕ
 set_image = codes "HVS2" ++ replicate 16 0x22 ++ (1 ∷ 0 ∷ 1 ∷ 0 ∷ 2 ∷ 0 ∷ 1 ∷ 0 ∷ [])
 
 a_set_checkbox_is_submitted : image_of (outcome_of (opened (started one_checkbox (0 ∷ 0 ∷ []))) (codes "page\nset 1 1\nsubmit\n")).shown.state.committed ≡ set_image
-unfolding cut levels tree_of number_in with_bytes digits unicode_width image_of is_question_number is_statement_number is_store_number
+unfolding cut levels tree_of number_in with_bytes digits unicode_width image_of is_question_number is_statement_number is_store_number row_of
 a_set_checkbox_is_submitted = refl
 
 -- ---- the prompt of a checkbox in two languages
@@ -100,7 +99,7 @@ in_english = record (started one_checkbox (0 ∷ 0 ∷ [])) { spoken = speaking 
 
 a_prompt_is_shown : (outcome_of (opened in_english) (codes "page\nlang DE-at\npage\n")).text
     ≡ codes "FORM 1 #2\n  1 *     1 A                        [ ]\nOK\nFORM 1 #2\n  1 *     1 B                        [ ]\n"
-unfolding cut levels tree_of number_in with_bytes digits unicode_width chars_of_units is_question_number is_statement_number is_store_number
+unfolding cut levels tree_of number_in with_bytes digits unicode_width chars_of_units is_question_number is_statement_number is_store_number row_of
 a_prompt_is_shown = refl
 
 -- ---- a checkbox is hidden while another one is set
@@ -110,7 +109,7 @@ two_checkboxes = (99 ∷ 0 ∷ 0 ∷ 2 ∷ []) ++ before ++ suppress_if ++ equal
 
 a_hidden_checkbox_is_denied : (outcome_of (opened (started two_checkboxes (0 ∷ 1 ∷ []))) (codes "page\nset 1 1\nset 2 0\npage\n")).text
     ≡ codes "FORM 1 #2\n  1 *     2 #4                       [x]\nDENIED suppressif at 00000039\nOK\nFORM 1 #2\n  1 *     1 #3                       [ ]\n  2 *     2 #4                       [ ]\n"
-unfolding cut levels tree_of number_in with_bytes digits unicode_width operands trees_of tree_of_opcodes leaf_value is_question_number is_statement_number is_store_number
+unfolding cut levels tree_of number_in with_bytes digits unicode_width operands trees_of tree_of_opcodes leaf_value is_question_number is_statement_number is_store_number row_of
 a_hidden_checkbox_is_denied = refl
 
 -- ---- a checkbox that hides itself
@@ -119,11 +118,11 @@ abbrev hiding_itself : List ℕ
 hiding_itself = (85 ∷ 0 ∷ 0 ∷ 2 ∷ []) ++ before ++ suppress_if ++ equal_to 1 1 ++ checkbox 1 0 ++ end ++ end ++ end
 
 an_unset_one_is_seen : (outcome_of (opened (started hiding_itself (0 ∷ 0 ∷ []))) (codes "page\n")).text ≡ codes "FORM 1 #2\n  1 *     1 #3                       [ ]\n"
-unfolding cut levels tree_of number_in with_bytes digits unicode_width operands trees_of tree_of_opcodes leaf_value is_question_number is_statement_number is_store_number
+unfolding cut levels tree_of number_in with_bytes digits unicode_width operands trees_of tree_of_opcodes leaf_value is_question_number is_statement_number is_store_number row_of
 an_unset_one_is_seen = refl
 
 a_set_one_is_not_seen : (outcome_of (opened (started hiding_itself (1 ∷ 0 ∷ []))) (codes "page\n")).text ≡ codes "FORM 1 #2\n"
-unfolding cut levels tree_of number_in with_bytes digits unicode_width operands trees_of tree_of_opcodes leaf_value is_question_number is_statement_number is_store_number
+unfolding cut levels tree_of number_in with_bytes digits unicode_width operands trees_of tree_of_opcodes leaf_value is_question_number is_statement_number is_store_number row_of
 a_set_one_is_not_seen = refl
 
 -- ---- a checkbox is hidden before it is grayed out, and locked by what stands behind it
@@ -132,15 +131,15 @@ abbrev guarded_twice : List ℕ
 guarded_twice = (111 ∷ 0 ∷ 0 ∷ 2 ∷ []) ++ before ++ gray_out_if ++ equal_to 2 1 ++ suppress_if ++ equal_to 1 1 ++ checkbox 1 0 ++ end ++ end ++ checkbox 2 1 ++ locked ++ end ++ end
 
 what_hides_is_named : (outcome_of (opened (started guarded_twice (1 ∷ 1 ∷ []))) (codes "why 1\n")).text ≡ codes "DENIED suppressif at 00000041\n"
-unfolding cut levels tree_of number_in with_bytes digits unicode_width operands trees_of tree_of_opcodes leaf_value is_question_number is_statement_number is_store_number
+unfolding cut levels tree_of number_in with_bytes digits unicode_width operands trees_of tree_of_opcodes leaf_value is_question_number is_statement_number is_store_number row_of
 what_hides_is_named = refl
 
 what_grays_out_is_named : (outcome_of (opened (started guarded_twice (0 ∷ 1 ∷ []))) (codes "why 1\n")).text ≡ codes "DENIED grayoutif at 00000039\n"
-unfolding cut levels tree_of number_in with_bytes digits unicode_width operands trees_of tree_of_opcodes leaf_value is_question_number is_statement_number is_store_number
+unfolding cut levels tree_of number_in with_bytes digits unicode_width operands trees_of tree_of_opcodes leaf_value is_question_number is_statement_number is_store_number row_of
 what_grays_out_is_named = refl
 
 what_locks_is_named : (outcome_of (opened (started guarded_twice (0 ∷ 0 ∷ []))) (codes "why 1\nset 2 1\n")).text ≡ codes "DENIED locked at 00000069\nDENIED locked at 00000069\n"
-unfolding cut levels tree_of number_in with_bytes digits unicode_width operands trees_of tree_of_opcodes leaf_value is_question_number is_statement_number is_store_number
+unfolding cut levels tree_of number_in with_bytes digits unicode_width operands trees_of tree_of_opcodes leaf_value is_question_number is_statement_number is_store_number row_of
 what_locks_is_named = refl
 
 -- ---- a condition of a hidden checkbox forbids a submission
@@ -149,7 +148,7 @@ abbrev forbidding : List ℕ
 forbidding = (99 ∷ 0 ∷ 0 ∷ 2 ∷ []) ++ before ++ suppress_if ++ equal_to 1 0 ++ (0x06 ∷ 0x8E ∷ 3 ∷ 0 ∷ 0 ∷ 0 ∷ 1 ∷ 0 ∷ 1 ∷ 0 ∷ 0 ∷ 0 ∷ 0 ∷ 0 ∷ []) ++ no_submit_if 7 ++ equal_to 1 0 ++ end ++ end ++ end ++ end ++ end
 
 a_hidden_one_forbids : (outcome_of (opened (started forbidding (0 ∷ 0 ∷ []))) (codes "page\nsubmit\n")).text ≡ codes "FORM 1 #2\nDENIED nosubmitif at 0000004f #7\n"
-unfolding cut levels tree_of number_in with_bytes digits unicode_width operands trees_of tree_of_opcodes leaf_value is_question_number is_statement_number is_store_number
+unfolding cut levels tree_of number_in with_bytes digits unicode_width operands trees_of tree_of_opcodes leaf_value is_question_number is_statement_number is_store_number row_of
 a_hidden_one_forbids = refl
 
 -- ---- a reference is followed, a button pressed, and the first form shown again
@@ -160,7 +159,7 @@ two_forms = (106 ∷ 0 ∷ 0 ∷ 2 ∷ []) ++ before ++ (0x0F ∷ 0x0F ∷ 8 ∷
 
 a_form_is_entered_and_left : (outcome_of (opened (started two_forms (0 ∷ 0 ∷ []))) (codes "defaults 0\ngo 5\npage\npress 1\npress 2\npress 3\nback\nback\n")).text
     ≡ codes "OK 0\nOK\nFORM 2 #9\n  1 *     - #10                      [reset]\n  2 *     1 #3                       [ ]\nOK 1\nDENIED notbutton at 00000058\nDENIED norow at 00000000\nOK\nDENIED noback at 00000000\n"
-unfolding cut levels tree_of number_in with_bytes digits unicode_width is_question_number is_statement_number is_store_number
+unfolding cut levels tree_of number_in with_bytes digits unicode_width is_question_number is_statement_number is_store_number row_of
 a_form_is_entered_and_left = refl
 
 -- ---- a number has a default, and another that an expression says
@@ -171,7 +170,7 @@ adding = (107 ∷ 0 ∷ 0 ∷ 2 ∷ []) ++ before ++ (0x07 ∷ 0x91 ∷ 3 ∷ 0 
 
 a_default_is_taken : (outcome_of (opened (started adding (0 ∷ 0 ∷ []))) (codes "defaults 0\npage\ndefaults 1\npage\ndefaults 2\n")).text
     ≡ codes "OK 1\nFORM 1 #2\n  1 *     1 #3                       [5]\nOK 1\nFORM 1 #2\n  1 *     1 #3                       [7]\nOK 0\n"
-unfolding cut levels tree_of number_in with_bytes digits unicode_width operands trees_of tree_of_opcodes leaf_value constant_value binary_value number_value is_question_number is_statement_number is_store_number
+unfolding cut levels tree_of number_in with_bytes digits unicode_width operands trees_of tree_of_opcodes leaf_value constant_value binary_value number_value is_question_number is_statement_number is_store_number row_of
 a_default_is_taken = refl
 
 -- ---- a response is denied at its second block, and sets nothing
@@ -189,13 +188,13 @@ guarding_itself = (99 ∷ 0 ∷ 0 ∷ 2 ∷ []) ++ before ++ checkbox 1 0 ++ (0x
 a_denied_response_sets_nothing : (outcome_of (opened (started guarding_itself (0 ∷ 0 ∷ [])))
     (codes "route " ++ header ++ codes "&OFFSET=0&WIDTH=1&VALUE=1&OFFSET=1&WIDTH=1&VALUE=1\nsubmit\nroute " ++ header ++ codes "&OFFSET=0&WIDTH=1&VALUE=01\nroute " ++ header ++ codes "\nroute " ++ header ++ codes "&OFFSET=0&WIDTH=1&VALUE=100\nroute " ++ header ++ codes "&OFFSET=0&WIDTH=2&VALUE=1\n")).text
     ≡ codes "DENIED inconsistentif at 00000055 #7\nOK 0\nOK 1\nOK 0\nREFUSED 83 ValueWidth\nDENIED nofield at 00000000\n"
-unfolding cut levels tree_of number_in with_bytes digits unicode_width operands trees_of tree_of_opcodes leaf_value is_question_number is_statement_number is_store_number
+unfolding cut levels tree_of number_in with_bytes digits unicode_width operands trees_of tree_of_opcodes leaf_value is_question_number is_statement_number is_store_number row_of
 a_denied_response_sets_nothing = refl
 
 -- ---- the first question there is sealed by itself: what the other one holds changes no answer about it
 
 decided_by_none : option_map (λ q. support_over (nodes_of guarding_itself) (deciding q)) (question_with (nodes_of guarding_itself) 1) ≡ Some []
-unfolding cut levels tree_of number_in rule_ids ids_of is_question_number is_statement_number is_store_number
+unfolding cut levels tree_of number_in rule_ids ids_of is_question_number is_statement_number is_store_number row_of
 decided_by_none = refl
 
 the_first_is_sealed : IsSealed (nodes_of guarding_itself) (1 ∷ [])
@@ -211,11 +210,11 @@ abbrev on_the_first : ℕ → List ℕ
 on_the_first other = (outcome_of (opened (started guarding_itself (0 ∷ other ∷ []))) (codes "set 1 1\nwhy 1\ndiscard\nwhy 1\n")).text
 
 all_is_carried_out : on_the_first 0 ≡ codes "OK\nOK\nOK\nOK\n"
-unfolding cut levels tree_of number_in with_bytes digits unicode_width operands trees_of tree_of_opcodes leaf_value is_question_number is_statement_number is_store_number
+unfolding cut levels tree_of number_in with_bytes digits unicode_width operands trees_of tree_of_opcodes leaf_value is_question_number is_statement_number is_store_number row_of
 all_is_carried_out = refl
 
 over_another_byte_too : on_the_first 1 ≡ on_the_first 0
-unfolding cut levels tree_of number_in with_bytes digits unicode_width operands trees_of tree_of_opcodes leaf_value is_question_number is_statement_number is_store_number
+unfolding cut levels tree_of number_in with_bytes digits unicode_width operands trees_of tree_of_opcodes leaf_value is_question_number is_statement_number is_store_number row_of
 over_another_byte_too = refl
 
 -- ---- of two questions with one field a block sets the one that is not fixed, and the committed stores are told
@@ -228,11 +227,11 @@ sharing flags =
 
 the_one_that_is_not_fixed_is_set : (outcome_of (opened (started (sharing 0) (0 ∷ 1 ∷ []))) (codes "route " ++ header ++ codes "&OFFSET=0&WIDTH=1&VALUE=1\nextract " ++ header ++ codes "\nsubmit\nextract " ++ header ++ codes "&OFFSET=0&WIDTH=1\n")).text
     ≡ codes "OK 1\nCONFIG " ++ header ++ codes "&OFFSET=0000&WIDTH=0002&VALUE=0100\nOK 2\nCHANGED 1\nCHANGED 3\nCONFIG " ++ header ++ codes "&OFFSET=0000&WIDTH=0001&VALUE=01\n"
-unfolding cut levels tree_of number_in with_bytes digits unicode_width operands trees_of tree_of_opcodes leaf_value is_question_number is_statement_number is_store_number
+unfolding cut levels tree_of number_in with_bytes digits unicode_width operands trees_of tree_of_opcodes leaf_value is_question_number is_statement_number is_store_number row_of
 the_one_that_is_not_fixed_is_set = refl
 
 the_first_denies_where_all_are_fixed : (outcome_of (opened (started (sharing 1) (0 ∷ 1 ∷ []))) (codes "route " ++ header ++ codes "&OFFSET=0&WIDTH=1&VALUE=1\n")).text ≡ codes "DENIED suppressif at 00000039\n"
-unfolding cut levels tree_of number_in with_bytes digits unicode_width operands trees_of tree_of_opcodes leaf_value is_question_number is_statement_number is_store_number
+unfolding cut levels tree_of number_in with_bytes digits unicode_width operands trees_of tree_of_opcodes leaf_value is_question_number is_statement_number is_store_number row_of
 the_first_denies_where_all_are_fixed = refl
 
 -- ---- conditions are evaluated anew where bytes are written that they read, whichever question writes them
@@ -242,27 +241,27 @@ abbrev sharing_a_byte : List ℕ
 sharing_a_byte = (113 ∷ 0 ∷ 0 ∷ 2 ∷ []) ++ before ++ suppress_if ++ equal_to 2 1 ++ checkbox 1 0 ++ end ++ checkbox 2 1 ++ checkbox 3 1 ++ end ++ end
 
 another_byte_renews_nothing : (outcome_of (opened (started sharing_a_byte (0 ∷ 0 ∷ []))) (codes "set 1 1\n")).shown.renewed ≡ 0
-unfolding cut levels tree_of number_in with_bytes digits unicode_width operands trees_of tree_of_opcodes leaf_value rule_ids ids_of is_question_number is_statement_number is_store_number
+unfolding cut levels tree_of number_in with_bytes digits unicode_width operands trees_of tree_of_opcodes leaf_value rule_ids ids_of is_question_number is_statement_number is_store_number row_of
 another_byte_renews_nothing = refl
 
 the_same_byte_renews_the_condition : (outcome_of (opened (started sharing_a_byte (0 ∷ 0 ∷ []))) (codes "set 1 1\nset 3 1\n")).shown.renewed ≡ 1
-unfolding cut levels tree_of number_in with_bytes digits unicode_width operands trees_of tree_of_opcodes leaf_value rule_ids ids_of is_question_number is_statement_number is_store_number
+unfolding cut levels tree_of number_in with_bytes digits unicode_width operands trees_of tree_of_opcodes leaf_value rule_ids ids_of is_question_number is_statement_number is_store_number row_of
 the_same_byte_renews_the_condition = refl
 
 -- a response that is denied writes, and gives back
 a_denied_response_renews_twice : (outcome_of (opened (started two_checkboxes (0 ∷ 0 ∷ []))) (codes "route " ++ header ++ codes "&OFFSET=1&WIDTH=1&VALUE=1&OFFSET=0&WIDTH=1&VALUE=1\n")).shown.renewed ≡ 2
-unfolding cut levels tree_of number_in with_bytes digits unicode_width operands trees_of tree_of_opcodes leaf_value rule_ids ids_of is_question_number is_statement_number is_store_number
+unfolding cut levels tree_of number_in with_bytes digits unicode_width operands trees_of tree_of_opcodes leaf_value rule_ids ids_of is_question_number is_statement_number is_store_number row_of
 a_denied_response_renews_twice = refl
 
 -- what was there before is written too, and what is asked alone writes nothing
 the_same_value_renews : (outcome_of (opened (started two_checkboxes (0 ∷ 0 ∷ []))) (codes "set 2 1\nset 2 1\n")).shown.renewed ≡ 1
-unfolding cut levels tree_of number_in with_bytes digits unicode_width operands trees_of tree_of_opcodes leaf_value rule_ids ids_of is_question_number is_statement_number is_store_number
+unfolding cut levels tree_of number_in with_bytes digits unicode_width operands trees_of tree_of_opcodes leaf_value rule_ids ids_of is_question_number is_statement_number is_store_number row_of
 the_same_value_renews = refl
 
 a_question_renews_nothing : (outcome_of (opened (started two_checkboxes (0 ∷ 0 ∷ []))) (codes "set 2 1\nwhy 1\n")).shown.renewed ≡ 0
-unfolding cut levels tree_of number_in with_bytes digits unicode_width operands trees_of tree_of_opcodes leaf_value rule_ids ids_of is_question_number is_statement_number is_store_number
+unfolding cut levels tree_of number_in with_bytes digits unicode_width operands trees_of tree_of_opcodes leaf_value rule_ids ids_of is_question_number is_statement_number is_store_number row_of
 a_question_renews_nothing = refl
 
 a_discard_renews : (outcome_of (opened (started two_checkboxes (0 ∷ 0 ∷ []))) (codes "set 2 1\ndiscard\n")).shown.renewed ≡ 1
-unfolding cut levels tree_of number_in with_bytes digits unicode_width operands trees_of tree_of_opcodes leaf_value rule_ids ids_of is_question_number is_statement_number is_store_number
+unfolding cut levels tree_of number_in with_bytes digits unicode_width operands trees_of tree_of_opcodes leaf_value rule_ids ids_of is_question_number is_statement_number is_store_number row_of
 a_discard_renews = refl

@@ -6,7 +6,7 @@ use Rattle.std.specs.Option.{option_or}
 use Rattle.std.specs.Str.{bytes_eq}
 use Rattle.std.specs.Str.Parse.{digits_value}
 use Rattle.byteorder.specs.Endian.{little_bytes}
-use Rattle.config_text.specs.Grammar.{Named, Area}
+use Rattle.browser_rules.specs.Configuration.{Header, Block}
 use Rattle.ifr_opcodes.specs.Forest.{Node}
 use Rattle.ifr_scopes.specs.Nodes.{is_store}
 use Rattle.ifr_scopes.specs.Stores.{store_guid, store_id, store_name, store_size}
@@ -17,25 +17,25 @@ use Rattle.guard_policy.specs.World.{World}
 -- ---- stores
 
 -- A header names a store of bytes by its GUID and its name, each byte of it a character, and by the list's device path.
-abbrev pub names_store : Named → List ℕ → Node → Bool
+abbrev pub names_store : Header → List ℕ → Node → Bool
 names_store named path n =
     is_some (store_size n.op)
     && (bytes_eq named.guid (store_guid n.op)
     && (bytes_eq named.name (store_name n.op) && bytes_eq named.path path))
 
 -- the id of the first store by place that a header names
-abbrev pub store_named : List Node → List ℕ → Named → Option ℕ
+abbrev pub store_named : List Node → List ℕ → Header → Option ℕ
 store_named ns path named =
     option_map (λ n. store_id n.op) (find (names_store named path) (filter is_store ns))
 
 -- ---- blocks
 
 -- the bytes of a store that a block names
-abbrev pub block_field : ℕ → Area → Field
+abbrev pub block_field : ℕ → Block → Field
 block_field store block = record { store = store; offset = block.offset; width = block.width }
 
 -- A block leaves a store of so many bytes.
-abbrev pub leaves_store : ℕ → Area → Bool
+abbrev pub leaves_store : ℕ → Block → Bool
 leaves_store size block = nat_lt size (block.offset + block.width)
 
 -- the first password by place whose field a block meets
@@ -43,7 +43,7 @@ abbrev pub password_in : List Node → Field → Option Asked
 password_in ns field = find (is_password_in field) (questions ns)
 
 -- the bytes of a block's value, the lowest first
-abbrev pub block_bytes : Area → List ℕ
+abbrev pub block_bytes : Block → List ℕ
 block_bytes block = little_bytes block.width (digits_value 16 block.digits)
 
 -- the first of some questions

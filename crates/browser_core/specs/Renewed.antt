@@ -1,7 +1,7 @@
 -- What commands write into the stores that they change, and how many conditions are evaluated anew after that (own rule).
 use Rattle.std.specs.Prelude.{ℕ, ◌-◌, ◌^◌, min, Bool, Option, Some, None, Result, Ok, Err, List, [], ◌∷◌, ◌++◌}
 use Rattle.std.specs.List.{flat_map, sum_by}
-use Rattle.config_text.specs.Grammar.{Named, Area}
+use Rattle.browser_rules.specs.Configuration.{Header, Block}
 use Rattle.config_text.specs.Reading.{configuration_in}
 use Rattle.config_text.specs.declared.kind.TextKind.TheVariants.{Tell}
 use Rattle.hii_bytes.specs.declared.cause.Cause.{Cause}
@@ -9,10 +9,9 @@ use Rattle.ifr_opcodes.specs.Fields.{reset_default}
 use Rattle.ifr_opcodes.specs.Forest.{Node}
 use Rattle.ifr_scopes.specs.Nodes.{nodes_of}
 use Rattle.hii_questions.specs.Fields.{Field, field_of, question_with}
-use Rattle.hii_commands.specs.Line.{without_return}
-use Rattle.hii_commands.specs.Orders.{Order, SetValue, OrderElements, SetText, PressButton, TakeDefaults, RouteConfiguration, DiscardChanges}
-use Rattle.hii_commands.specs.Reading.{reading_of}
-use Rattle.hii_commands.specs.declared.command.BadLine.{BadLine}
+use Rattle.browser_rules.specs.Script as script
+use Rattle.browser_rules.specs.Script.{Command, command_of, without_return}
+use Rattle.browser_rules.specs.Words as words
 use Rattle.kept_conditions.specs.Touching.{difference, range_of_field, renewals}
 use Rattle.browser_core.specs.State.{State, world_of}
 use Rattle.browser_core.specs.Configuration.{store_named, block_field, question_of_field}
@@ -57,7 +56,7 @@ and_then s (Some q) Accepted next =
     record { writes = field_write (nodes_of s.ifr) q ++ next.writes; state = next.state }
 and_then s _ _ next = record { writes = []; state = s }
 
-abbrev pub written_by : State → ℕ → List Area → Blocks
+abbrev pub written_by : State → ℕ → List Block → Blocks
 written_by s store [] = record { writes = []; state = s }
 written_by s store (block ∷ blocks) =
     and_then s (question_of_field (world_of s) (nodes_of s.ifr) (block_field store block))
@@ -69,39 +68,39 @@ abbrev pub and_back : State → Blocks → Reply → List Write
 and_back s blocks Accepted = blocks.writes
 and_back s blocks _ = blocks.writes ++ difference blocks.state.working s.working ∷ []
 
-abbrev pub route_writes : State → List Area → Option ℕ → List Write
+abbrev pub route_writes : State → List Block → Option ℕ → List Write
 route_writes s blocks None = []
 route_writes s blocks (Some store) =
     and_back s (written_by s store blocks) (route_to s blocks (Some store)).reply
 
-abbrev pub response_writes : State → Result (Named × List Area) Cause → List Write
+abbrev pub response_writes : State → Result (Header × List Block) Cause → List Write
 response_writes s (Err cause) = []
 response_writes s (Ok (named, blocks)) =
     route_writes s blocks (store_named (nodes_of s.ifr) s.path named)
 
 -- the writes of a command, in their order
-abbrev pub writes_of : State → Order → List Write
-writes_of s (SetValue id value) =
+abbrev pub writes_of : State → Command → List Write
+writes_of s (script.Set id value) =
     field_writes (nodes_of s.ifr)
-    (named_if (question_with (nodes_of s.ifr) id) (step s (SetValue id value)).reply)
-writes_of s (OrderElements id numbers) =
+    (named_if (question_with (nodes_of s.ifr) id) (step s (script.Set id value)).reply)
+writes_of s (script.Order id numbers) =
     field_writes (nodes_of s.ifr)
-    (named_if (question_with (nodes_of s.ifr) id) (step s (OrderElements id numbers)).reply)
-writes_of s (SetText id text) =
+    (named_if (question_with (nodes_of s.ifr) id) (step s (script.Order id numbers)).reply)
+writes_of s (script.Text id text) =
     field_writes (nodes_of s.ifr)
-    (named_if (question_with (nodes_of s.ifr) id) (step s (SetText id text)).reply)
-writes_of s (PressButton row) =
+    (named_if (question_with (nodes_of s.ifr) id) (step s (script.Text id text)).reply)
+writes_of s (script.Press row) =
     field_writes (nodes_of s.ifr) (pressed_if s (row_of_form s row (form_of s)) (press s row).reply)
-writes_of s (TakeDefaults class) = field_writes (nodes_of s.ifr) (taken s class).questions
-writes_of s (RouteConfiguration response) = response_writes s (configuration_in Tell response)
-writes_of s DiscardChanges = difference s.working s.committed ∷ []
+writes_of s (script.Defaults class) = field_writes (nodes_of s.ifr) (taken s class).questions
+writes_of s (script.Route response) = response_writes s (configuration_in Tell response)
+writes_of s script.Discard = difference s.working s.committed ∷ []
 writes_of s _ = []
 
 -- ---- conditions that are evaluated anew
 
 -- For each write of a command those that it touches; 2^64 - 1 where there are more.
-abbrev pub renewed_by : State → Order → ℕ
-renewed_by s order = min (sum_by (renewals (nodes_of s.ifr)) (writes_of s order)) (2 ^ 64 - 1)
+abbrev pub renewed_by : State → Command → ℕ
+renewed_by s command = min (sum_by (renewals (nodes_of s.ifr)) (writes_of s command)) (2 ^ 64 - 1)
 
 -- what a session shows: the state of the run, and how many conditions the last command evaluated anew
 pub record Shown : Type 0 where
@@ -113,18 +112,18 @@ abbrev pub opened : State → Shown
 opened s = record { state = s; renewed = 0 }
 
 -- and after a command
-abbrev pub shown_after : Shown → Order → Shown
-shown_after shown order =
-    record { state = (step shown.state order).state; renewed = renewed_by shown.state order }
+abbrev pub shown_after : Shown → Command → Shown
+shown_after shown command =
+    record { state = (step shown.state command).state; renewed = renewed_by shown.state command }
 
 -- An empty line and one that is no command leave the number.
-abbrev pub renewed_reading : Shown → Result Order BadLine → ℕ
-renewed_reading shown (Ok order) = renewed_by shown.state order
-renewed_reading shown (Err bad) = shown.renewed
+abbrev pub renewed_reading : Shown → Result Command words.Cause → ℕ
+renewed_reading shown (Ok command) = renewed_by shown.state command
+renewed_reading shown (Err cause) = shown.renewed
 
 abbrev pub renewed_text : Shown → List ℕ → List ℕ → ℕ
 renewed_text shown line [] = shown.renewed
-renewed_text shown line (b ∷ bytes) = renewed_reading shown (reading_of line)
+renewed_text shown line (b ∷ bytes) = renewed_reading shown (command_of line)
 
 abbrev pub shown_line : Shown → List ℕ → Shown
 shown_line shown line = record {

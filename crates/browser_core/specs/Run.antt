@@ -1,10 +1,9 @@
 -- What a script leaves and writes (own rule).
-use Rattle.std.specs.Prelude.{◌≡◌, ℕ, ◌+◌, ◌<◌, ◌≤◌, ◌⊎◌, true, false, List, [], ◌∷◌, ◌++◌, length, take, if◌then◌else◌, Option, Result, Ok, Err}
+use Rattle.std.specs.Prelude.{◌≡◌, ℕ, ◌+◌, ◌-◌, ◌<◌, ◌≤◌, ◌⊎◌, true, false, List, [], ◌∷◌, ◌++◌, length, take, if◌then◌else◌, Option, Result, Ok, Err}
 use Rattle.std.specs.Io.KnownBytes.{Consumes, IsAtEnd}
 use Rattle.hii_bytes.specs.Watching.{Pen, Writes, BreaksWithin}
 use Rattle.hii_bytes.specs.declared.cause.Cause.TheVariants.{ScriptTooLong}
-use Rattle.hii_commands.specs.declared.limits.TheConstants.{SCRIPT_LIMIT}
-use Rattle.hii_commands.specs.Script.{whole_lines, is_too_long, lines_run}
+use Rattle.browser_rules.specs.Script.{SCRIPT_LIMIT, cut_lines, is_too_long, lines_run}
 use Rattle.browser_core.specs.Renewed.{Shown, shown_line}
 use Rattle.browser_core.specs.Step.{step_line}
 use Rattle.browser_core.specs.Texts.{refused_text}
@@ -41,15 +40,28 @@ outcome_of s script = record {
   end = if is_too_long script then TooLong else Done;
 }
 
--- Some lines were carried out, and then the writer failed: at the answer of the last of them, or as it passed answers on. All
--- texts before that one's were taken whole.
-pub record StopsAtLine (start : Shown) (pen : Pen) (lines : List (List ℕ)) (now : Shown)
+-- ---- how soon lines are carried out
+
+-- the most bytes of a script that are read before the lines in them are carried out
+abbrev pub PIECE : ℕ
+PIECE = 512
+
+-- how many lines at least were carried out, where these bytes were read: those whose LF stands before the last PIECE of them
+abbrev pub lines_due : List ℕ → ℕ
+lines_due bytes = length (cut_lines (take (length bytes - PIECE) bytes)).0
+
+-- ---- how a script ends
+
+-- Of these lines some were carried out, so many at least, and then the writer failed: at the answer of the last of them, or as it
+-- passed answers on. All texts before that one's were taken whole.
+pub record StopsAtLine (start : Shown) (pen : Pen) (due : ℕ) (lines : List (List ℕ)) (now : Shown)
     (new : Pen) : Type 0 where
   pub before : List (List ℕ)
   pub last : List (List ℕ)
   pub later : List (List ℕ)
   pub one : length last ≤ 1
   pub front : lines ≡ (before ++ last) ++ later
+  pub soon : due ≤ length (before ++ last)
   pub shown : now ≡ shown_after_lines start (before ++ last)
   pub text : BreaksWithin pen new (text_of start (before ++ last))
   pub all_before : length (text_of start before) ≤ text.part
@@ -81,19 +93,20 @@ pub record BreaksOff (start : Shown) (pen : Pen) (reader : Option (List ℕ)) (n
   pub bytes : List ℕ
   pub consumed : Consumes reader left bytes
   pub few : length bytes ≤ SCRIPT_LIMIT
-  pub shown : now ≡ shown_after_lines start (whole_lines bytes)
-  pub text : Writes pen new (text_of start (whole_lines bytes))
+  pub shown : now ≡ shown_after_lines start (cut_lines bytes).0
+  pub text : Writes pen new (text_of start (cut_lines bytes).0)
   pub sound : new.broken ≡ false
 
 -- The writer failed after these bytes were read: at a line whose LF stands among them, within the limit; or, where the script ended
--- there, at one of its lines, of which the last needs no LF; or at the answer that they are too many.
+-- there, at one of its lines, of which the last needs no LF; or at the answer that they are too many. Each line whose LF stands
+-- before the last PIECE bytes was carried out.
 pub record Overflows (start : Shown) (pen : Pen) (reader : Option (List ℕ)) (now : Shown)
     (new : Pen) (left : Option (List ℕ)) : Type 0 where
   pub bytes : List ℕ
   pub consumed : Consumes reader left bytes
   pub few : length bytes ≤ SCRIPT_LIMIT + 1
-  pub stops : StopsAtLine start pen (whole_lines (take SCRIPT_LIMIT bytes)) now new
-      ⊎ ((IsAtEnd left × StopsAtLine start pen (lines_run bytes) now new)
+  pub stops : StopsAtLine start pen (lines_due bytes) (cut_lines (take SCRIPT_LIMIT bytes)).0 now new
+      ⊎ ((IsAtEnd left × StopsAtLine start pen (lines_due bytes) (lines_run bytes) now new)
       ⊎ ((SCRIPT_LIMIT < length bytes) × StopsAtLimit start pen (lines_run bytes) now new))
 
 abbrev pub Runs : Shown → Pen → Option (List ℕ) → Result End RunFault → Shown → Pen

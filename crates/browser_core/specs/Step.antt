@@ -2,11 +2,12 @@
 use Rattle.std.specs.Prelude.{ℕ, ◌-◌, ◌==◌, ◌&&◌, Bool, not, nat_lt, if◌then◌else◌, Option, Some, None, option_and_then, option_map, Result, Ok, Err, List, [], ◌∷◌, ◌++◌, length, slice_get, take, map, filter, codes}
 use Rattle.std.specs.List.{flat_map}
 use Rattle.std.specs.Option.{unwrap_or}
-use Rattle.config_text.specs.Grammar.{Named, Area}
+use Rattle.browser_rules.specs.Configuration.{Header, Block, blocks_asked}
 use Rattle.config_text.specs.Reading.{configuration_in}
-use Rattle.config_text.specs.Written.{blocks_asked, response_text}
+use Rattle.config_text.specs.Written.{response_to}
 use Rattle.config_text.specs.declared.kind.TextKind.TheVariants.{Ask, Tell}
 use Rattle.hii_bytes.specs.declared.cause.Cause.{Cause}
+use Rattle.hii_bytes.specs.declared.cause.Cause.TheVariants.{BadCommand, LineTooLong}
 use Rattle.ifr_opcodes.specs.Forest.{Node, node_at}
 use Rattle.ifr_opcodes.specs.Fields.{question_id, ref_target, reset_default}
 use Rattle.ifr_opcodes.specs.Opcode.{number}
@@ -31,11 +32,9 @@ use Rattle.guard_policy.specs.Warned.{warning_of}
 use Rattle.guard_policy.specs.World.{World, world_over}
 use Rattle.guard_policy.specs.declared.denial.Denial.{Denial}
 use Rattle.form_page.specs.Pages.{page_text, statement_in_row}
-use Rattle.hii_commands.specs.Orders.{Order, ShowPage, SetValue, OrderElements, SetText, FollowReference, GoBack, PressButton, TakeDefaults, ExtractConfiguration, RouteConfiguration, AskWhy, ChooseLanguage, SubmitChanges, DiscardChanges}
-use Rattle.hii_commands.specs.Meaning.{cause_of}
-use Rattle.hii_commands.specs.Reading.{reading_of}
-use Rattle.hii_commands.specs.declared.command.BadLine.{BadLine}
-use Rattle.hii_commands.specs.Line.{without_return}
+use Rattle.browser_rules.specs.Script as script
+use Rattle.browser_rules.specs.Script.{Command, command_of, without_return}
+use Rattle.browser_rules.specs.Words as words
 use Rattle.browser_core.specs.State.{State, world_with, world_of, texts}
 use Rattle.browser_core.specs.Configuration.{store_named, block_field, leaves_store, password_in, block_bytes, question_of_field}
 use Rattle.browser_core.specs.Texts.{ok_text, count_text, changed_text, denied_text, warning_line, refused_text}
@@ -240,36 +239,36 @@ go_back s = go_back_to s (slice_get s.history (length s.history - 1))
 -- Grammar; what is not told is an own rule)
 
 -- what forbids that a block of a store of so many bytes is told
-abbrev pub telling_denial : List Node → ℕ → ℕ → Area → Option Denial
+abbrev pub telling_denial : List Node → ℕ → ℕ → Block → Option Denial
 telling_denial ns store size block =
     if leaves_store size block then Some (denied_by_none NoField)
     else option_map (λ q. denied_by Password q.node) (password_in ns (block_field store block))
 
 -- the first block that may not be told denies
-abbrev pub first_untold : List Node → ℕ → ℕ → List Area → Option Denial
+abbrev pub first_untold : List Node → ℕ → ℕ → List Block → Option Denial
 first_untold ns store size [] = None
 first_untold ns store size (block ∷ blocks) =
     or_else (telling_denial ns store size block) (first_untold ns store size blocks)
 
-abbrev pub configuration_text : Named × List Area → List ℕ → List ℕ
-configuration_text request bytes = codes "CONFIG " ++ response_text request bytes ++ codes "\n"
+abbrev pub configuration_text : Header × List Block → List ℕ → List ℕ
+configuration_text request bytes = codes "CONFIG " ++ response_to request bytes ++ codes "\n"
 
 abbrev pub extract_unless : State → List ℕ → Option Denial → Outcome
 extract_unless s text (Some denial) = denied s denial
 extract_unless s text None = accepted s text
 
 -- the blocks of a request, over the bytes of the store
-abbrev pub extract_bytes : State → Named × List Area → ℕ → List ℕ → Outcome
+abbrev pub extract_bytes : State → Header × List Block → ℕ → List ℕ → Outcome
 extract_bytes s request store bytes =
     extract_unless s (configuration_text request bytes)
     (first_untold (nodes_of s.ifr) store (length bytes) (blocks_asked request.1 (length bytes)))
 
-abbrev pub extract_from : State → Named × List Area → Option ℕ → Outcome
+abbrev pub extract_from : State → Header × List Block → Option ℕ → Outcome
 extract_from s request None = denied s (denied_by_none NoStore)
 extract_from s request (Some store) =
     extract_bytes s request store (unwrap_or (bytes_of s.committed store) [])
 
-abbrev pub extract_reading : State → Result (Named × List Area) Cause → Outcome
+abbrev pub extract_reading : State → Result (Header × List Block) Cause → Outcome
 extract_reading s (Err cause) = refused s cause
 extract_reading s (Ok request) =
     extract_from s request (store_named (nodes_of s.ifr) s.path request.0)
@@ -286,7 +285,7 @@ set_field s (Some q) bytes =
     if is_password q then denied s (denied_by Password q)
     else set_question s (Some q) (inputs.field bytes)
 
-abbrev pub set_block : State → ℕ → Area → Outcome
+abbrev pub set_block : State → ℕ → Block → Outcome
 set_block s store block =
     set_field s (question_of_field (world_of s) (nodes_of s.ifr) (block_field store block))
     (block_bytes block)
@@ -298,17 +297,17 @@ go_on before (Denied denial) next = denied before denial
 go_on before (Refused cause) next = refused before cause
 
 -- each block is set over the stores that the blocks before it have left
-abbrev pub set_blocks : State → List ℕ → ℕ → State → List Area → Outcome
+abbrev pub set_blocks : State → List ℕ → ℕ → State → List Block → Outcome
 set_blocks before text store s [] = accepted s text
 set_blocks before text store s (block ∷ blocks) =
     go_on before (set_block s store block).reply
     (set_blocks before text store (set_block s store block).state blocks)
 
-abbrev pub route_to : State → List Area → Option ℕ → Outcome
+abbrev pub route_to : State → List Block → Option ℕ → Outcome
 route_to s blocks None = denied s (denied_by_none NoStore)
 route_to s blocks (Some store) = set_blocks s (count_text (length blocks)) store s blocks
 
-abbrev pub route_reading : State → Result (Named × List Area) Cause → Outcome
+abbrev pub route_reading : State → Result (Header × List Block) Cause → Outcome
 route_reading s (Err cause) = refused s cause
 route_reading s (Ok (named, blocks)) =
     route_to s blocks (store_named (nodes_of s.ifr) s.path named)
@@ -346,34 +345,39 @@ submitted s = submit_unless s (unsubmitted (world_of s))
 
 -- ---- a command
 
-abbrev pub step : State → Order → Outcome
-step s ShowPage = show_page s
-step s (SetValue id value) = set_question s (question_with (nodes_of s.ifr) id) (whole value)
-step s (OrderElements id numbers) =
+abbrev pub step : State → Command → Outcome
+step s script.Page = show_page s
+step s (script.Set id value) = set_question s (question_with (nodes_of s.ifr) id) (whole value)
+step s (script.Order id numbers) =
     set_question s (question_with (nodes_of s.ifr) id) (listed numbers)
-step s (SetText id text) = set_question s (question_with (nodes_of s.ifr) id) (utf8 text)
-step s (FollowReference id) = follow s (question_with (nodes_of s.ifr) id)
-step s GoBack = go_back s
-step s (PressButton row) = press s row
-step s (TakeDefaults class) = take_defaults s class
-step s (ExtractConfiguration request) = extract s request
-step s (RouteConfiguration response) = route s response
-step s (AskWhy id) = why_question s (question_with (nodes_of s.ifr) id)
-step s (ChooseLanguage language) =
+step s (script.Text id text) = set_question s (question_with (nodes_of s.ifr) id) (utf8 text)
+step s (script.Go id) = follow s (question_with (nodes_of s.ifr) id)
+step s script.Back = go_back s
+step s (script.Press row) = press s row
+step s (script.Defaults class) = take_defaults s class
+step s (script.Extract request) = extract s request
+step s (script.Route response) = route s response
+step s (script.Why id) = why_question s (question_with (nodes_of s.ifr) id)
+step s (script.Lang language) =
     accepted (record s { language = chosen s.spoken language }) ok_text
-step s SubmitChanges = submitted s
-step s DiscardChanges = accepted (record s { working = s.committed }) ok_text
+step s script.Submit = submitted s
+step s script.Discard = accepted (record s { working = s.committed }) ok_text
 
 -- ---- a line of a script
 
-abbrev pub step_reading : State → Result Order BadLine → Outcome
-step_reading s (Ok order) = step s order
-step_reading s (Err bad) = refused s (cause_of bad)
+-- A line is no command because it is too long, or by BadCommand.
+abbrev pub line_cause : words.Cause → Cause
+line_cause words.LineTooLong = LineTooLong
+line_cause _ = BadCommand
+
+abbrev pub step_reading : State → Result Command words.Cause → Outcome
+step_reading s (Ok command) = step s command
+step_reading s (Err cause) = refused s (line_cause cause)
 
 -- An empty line, or a CR alone, does nothing.
 abbrev pub step_text : State → List ℕ → List ℕ → Outcome
 step_text s line [] = accepted s []
-step_text s line (b ∷ bytes) = step_reading s (reading_of line)
+step_text s line (b ∷ bytes) = step_reading s (command_of line)
 
 abbrev pub step_line : State → List ℕ → Outcome
 step_line s line = step_text s line (without_return line)

@@ -12,9 +12,9 @@ ghost use Rattle.ifr_scopes.specs.code.Lists.{form_node, statement_node};
 ghost use Rattle.ifr_scopes.specs.Nodes.{nodes_of, is_form};
 ghost use Rattle.ifr_scopes.specs.References.{form_with};
 ghost use Rattle.ifr_defaults.specs.Defaults as defaults;
-ghost use Rattle.hii_commands.specs.Meaning.{order_of, HasList};
+ghost use Rattle.hii_commands.specs.Meaning.{command_meant, HasList};
 ghost use Rattle.hii_languages.specs.code.Views.{choice_of};
-ghost use Rattle.hii_commands.specs.Orders.{DiscardChanges};
+ghost use Rattle.browser_rules.specs.Script as script;
 ghost use Rattle.hii_varstore.specs.Stores.{shape_of};
 ghost use Rattle.hii_questions.specs.Changes.{field_bytes};
 ghost use Rattle.hii_questions.specs.Fields.{question_with, questions};
@@ -189,10 +189,10 @@ impl<'a> Core<'a> {
         out: &mut Watched<W>,
     ) -> Reply
         requires { HasList command }
-        ensures shown { self.new ≡ shown_after self.old (order_of command.entry) }
+        ensures shown { self.new ≡ shown_after self.old (command_meant command.entry) }
         ensures text { Puts W.contents out.old out.new
-            (step self.old.state (order_of command.entry)).text }
-        ensures reply { result ≡ (step self.old.state (order_of command.entry)).reply }
+            (step self.old.state (command_meant command.entry)).text }
+        ensures reply { result ≡ (step self.old.state (command_meant command.entry)).reply }
     {
         self.count_anew();
         self.obey(command, out)
@@ -208,13 +208,13 @@ impl<'a> Core<'a> {
     // Carries the command out, writes its text and counts on.
     fn obey<W: Write>(&mut self, command: Command<'_>, out: &mut Watched<W>) -> Reply
         requires { HasList command }
-        ensures state { self.new.state ≡ (step self.old.state (order_of command.entry)).state }
+        ensures state { self.new.state ≡ (step self.old.state (command_meant command.entry)).state }
         ensures text { Puts W.contents out.old out.new
-            (step self.old.state (order_of command.entry)).text }
-        ensures reply { result ≡ (step self.old.state (order_of command.entry)).reply }
+            (step self.old.state (command_meant command.entry)).text }
+        ensures reply { result ≡ (step self.old.state (command_meant command.entry)).reply }
         ensures renewed { self.new.renewed ≡ counted_all self.old.renewed
             (nodes_of self.old.state.ifr)
-            (writes_of self.old.state (order_of command.entry)) }
+            (writes_of self.old.state (command_meant command.entry)) }
     {
         match command {
             Command::Page => {
@@ -656,9 +656,9 @@ impl<'a> Core<'a> {
 
     // Goes back to the stores as they were last submitted.
     fn discard(&mut self)
-        ensures state { self.new.state ≡ (step self.old.state DiscardChanges).state }
+        ensures state { self.new.state ≡ (step self.old.state script.Discard).state }
         ensures renewed { self.new.renewed ≡ counted_all self.old.renewed
-            (nodes_of self.old.state.ifr) (writes_of self.old.state DiscardChanges) }
+            (nodes_of self.old.state.ifr) (writes_of self.old.state script.Discard) }
     {
         let policy = Policy::new(&self.forms, &self.questions, &self.removed);
         self.working.copy_from(policy, &self.spare, &self.committed);

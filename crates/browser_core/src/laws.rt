@@ -2,7 +2,7 @@
 
 ghost use Rattle.std.specs.Prelude.{◌≡◌, ◌≢◌, ℕ, List};
 ghost use Rattle.hii_bytes.specs.Faults.{HasNone};
-ghost use Rattle.hii_commands.specs.Orders.{Order};
+ghost use Rattle.browser_rules.specs.Script.{Command};
 ghost use Rattle.browser_core.specs.laws.Bytes.{ChangesNamedBytesAlone, KeepsOtherBytes};
 ghost use Rattle.browser_core.specs.Opening.{AreGood, Opens, IsOpenFault};
 ghost use Rattle.browser_core.specs.laws.Sealed.{DecidingHasAll, DecidingHasNoOthers, SealedQuestionsAnswerAlike, SessionsAreLaid};
@@ -74,8 +74,8 @@ pub fn bytes_open_one_state()
 
 /// A command or a line that is not carried out changes nothing.
 pub fn refused_commands_change_nothing()
-    ensures commands { (s : State) (order : Order) → (step s order).reply ≢ Reply.Accepted
-        → (step s order).state ≡ s }
+    ensures commands { (s : State) (command : Command) → (step s command).reply ≢ Reply.Accepted
+        → (step s command).state ≡ s }
     ensures lines { (s : State) (line : List ℕ) → (step_line s line).reply ≢ Reply.Accepted
         → (step_line s line).state ≡ s }
 {}

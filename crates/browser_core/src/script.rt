@@ -1,11 +1,11 @@
 //! The lines of a script, one after the other.
 
-ghost use Rattle.std.specs.Prelude.{◌≡◌, ◌++◌, ℕ, List, IfOk, OnOk, IsErr, true, false, not, Err, is_err};
+ghost use Rattle.std.specs.Prelude.{◌≡◌, ◌++◌, ℕ, List, length, IfOk, OnOk, IsErr, true, false, not, Err, is_err};
 ghost use Rattle.std.specs.Io.{ReadsAtMost};
 ghost use Rattle.std.specs.Io.KnownBytes.{ReadConsumes};
 ghost use Rattle.hii_bytes.specs.Watching.{Pen, pen_of, inner_of, has_failed, has_passed_on, Puts, Flushes};
 ghost use Rattle.hii_commands.specs.code.Held.{held_of};
-ghost use Rattle.hii_commands.specs.Script.{whole_lines};
+ghost use Rattle.hii_commands.specs.code.Lines.{whole_lines};
 ghost use Rattle.browser_core.specs.Renewed.{Shown, shown_line};
 ghost use Rattle.browser_core.specs.Step.{step_line};
 ghost use Rattle.browser_core.specs.Run.{Runs, StopsAtLine};
@@ -51,9 +51,8 @@ pub(crate) fn run_all<R: Read, W: Write>(
     while count <= LIMIT {
         let room = (LIMIT + 1 - count).min(PIECE);
         let buf = &mut piece[..room];
-        let n = match read_piece(script, buf, out) {
-            Ok(n) => n,
-            Err(_) => return Err(RunFault::Read),
+        let Ok(n) = read_piece(script, buf, out) else {
+            return Err(RunFault::Read);
         };
         if n == 0 {
             run_line(core, line, out);
@@ -117,8 +116,8 @@ fn run_piece<W: Write>(
     ensures stops { (start : Shown) (pen : Pen) (bytes : List ℕ)
         → Stands start pen bytes core.old line.old (pen_of W.contents out.old)
         → has_failed out.new ≡ true
-        → StopsAtLine start pen (whole_lines (bytes ++ piece.now)) core.new
-        (pen_of W.contents out.new) }
+        → StopsAtLine start pen (length (whole_lines bytes)) (whole_lines (bytes ++ piece.now))
+        core.new (pen_of W.contents out.new) }
 {
     let mut rest = piece;
     while !rest.is_empty() {

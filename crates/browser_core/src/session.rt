@@ -4,7 +4,7 @@ ghost use Rattle.std.specs.Prelude.{◌≡◌, true, false, Err, Some, IfOk, IfE
 ghost use Rattle.std.specs.Io.KnownBytes.{Appends};
 ghost use Rattle.hii_bytes.specs.Faults.{Refuses, out_of_memory};
 ghost use Rattle.hii_bytes.specs.Watching.{pen_of, inner_of, has_failed, has_passed_on, Tells};
-ghost use Rattle.hii_commands.specs.Meaning.{order_of, HasList};
+ghost use Rattle.hii_commands.specs.Meaning.{command_meant, HasList};
 ghost use Rattle.hii_languages.specs.code.Views.{choice_of};
 ghost use Rattle.ifr_scopes.specs.Nodes.{nodes_of};
 ghost use Rattle.ifr_scopes.specs.code.Lists.{form_node};
@@ -114,11 +114,11 @@ impl<'a> Session<'a> {
         out: &mut Watched<W>,
     ) -> Result<Reply, WriteFault>
         requires { HasList command }
-        ensures shown { self.new ≡ shown_after self.old (order_of command.entry) }
+        ensures shown { self.new ≡ shown_after self.old (command_meant command.entry) }
         ensures text { Tells (pen_of W.contents out.old) (pen_of W.contents out.new) result
-            (step self.old.state (order_of command.entry)).text }
+            (step self.old.state (command_meant command.entry)).text }
         ensures reply { IfOk result (λ reply. reply
-            ≡ (step self.old.state (order_of command.entry)).reply) }
+            ≡ (step self.old.state (command_meant command.entry)).reply) }
     {
         out.restart();
         let reply = self.core.carry_out(command, out);

@@ -17,15 +17,15 @@ pub record IsPartOf (text written : List ℕ) : Type 0 where
   pub are : written ≡ take part text
 
 -- the answers to lines, one by one
-abbrev answers_from : State → List (List ℕ) → List (List ℕ)
+abbrev pub answers_from : State → List (List ℕ) → List (List ℕ)
 answers_from s [] = []
 answers_from s (line ∷ lines) = (step_line s line).text ∷ answers_from (step_line s line).state lines
 
 -- the lines in what was read of a script, which may end there; the answers to these, that it is too long being one
-abbrev lines_in : Bool → List ℕ → List (List ℕ)
+abbrev pub lines_in : Bool → List ℕ → List (List ℕ)
 lines_in has_ended read = if has_ended then lines_run read else (cut_lines (take SCRIPT_LIMIT read)).0
 
-abbrev answers_in : State → Bool → List ℕ → List (List ℕ)
+abbrev pub answers_in : State → Bool → List ℕ → List (List ℕ)
 answers_in s has_ended read =
     answers_from s (lines_in has_ended read) ++ (if is_too_long read then refused_text ScriptTooLong ∷ [] else [])
 
@@ -47,7 +47,7 @@ pub record AtWriteFault (s : State) (has_ended : Bool) (read : List ℕ) (left :
 
 -- ---- the program: over what it was given, where so many bytes of the script were read
 
-abbrev BeginsRefusal : Given → List ℕ → Type 0
+abbrev pub BeginsRefusal : Given → List ℕ → Type 0
 BeginsRefusal given written =
     IsPartOf (refused_text OutOfMemory) written
     ⊎ ((fault : Fault) × IsLeast (open_faults given.list given.number given.image) fault

@@ -13,7 +13,7 @@ pub record Mark : Type 0 where
   pub place : ℕ
   pub op : List ℕ
 
-abbrev siblings : ℕ → Forest → List Mark
+abbrev pub siblings : ℕ → Forest → List Mark
 siblings at none = []
 siblings at (node op children rest) =
     record { place = at; op = op } ∷ siblings (at + length (flat (node op children none))) rest
@@ -31,7 +31,7 @@ expression_in at (node op children rest) = expression at op children
 abbrev pub sense_of : List ℕ → Sense
 sense_of op = unwrap_or (option_map (λ r. r.sense) (row_of (number op))) no_operator
 
-abbrev pushed : Sense → Around → List ℕ → List Value → List Value
+abbrev pub pushed : Sense → Around → List ℕ → List Value → List Value
 pushed (leaf makes) around op values = makes around op ∷ values
 pushed (one makes) around op (v ∷ values) = makes v ∷ values
 pushed (two makes) around op (right ∷ left ∷ values) = makes left right ∷ values
@@ -44,7 +44,7 @@ stack_over answers rules this values (m ∷ ms) =
     let around : Around = record { answers = answers; rule = λ id. rules id m.place; this = this } in
     stack_over answers rules this (pushed (sense_of m.op) around m.op values) ms
 
-abbrev value_over : (ℕ → Value) → (ℕ → ℕ → Value) → ℕ → List Mark → Value
+abbrev pub value_over : (ℕ → Value) → (ℕ → ℕ → Value) → ℕ → List Mark → Value
 value_over answers rules this ms = unwrap_or (first (stack_over answers rules this [] ms)) undefined
 
 -- ---- rules: the id of each, where its scope ends, where that of its form does, and its expression

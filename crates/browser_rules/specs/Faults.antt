@@ -26,14 +26,14 @@ pub record Fault : Type 0 where
   pub place : ℕ
 
 -- the fault of a cause at a place; none unless a test holds; where a part has none, those of the parts behind it
-abbrev fault_at : Cause → ℕ → List Fault
+abbrev pub fault_at : Cause → ℕ → List Fault
 fault_at cause place = record { cause = cause; place = place } ∷ []
 
-abbrev fault_if : Bool → Cause → ℕ → List Fault
+abbrev pub fault_if : Bool → Cause → ℕ → List Fault
 fault_if true cause place = fault_at cause place
 fault_if false cause place = []
 
-abbrev then_faults : List Fault → List Fault → List Fault
+abbrev pub then_faults : List Fault → List Fault → List Fault
 then_faults [] behind = behind
 then_faults faults behind = faults
 
@@ -67,17 +67,17 @@ number_faults list n = fault_if (is_none (forms_package list n)) Cause.NoForms 0
 
 -- ---- the string packages (Strings), each a part; places are those in the list
 
-abbrev fault_of_texts : Result Texts (Cause × ℕ) → List Fault
+abbrev pub fault_of_texts : Result Texts (Cause × ℕ) → List Fault
 fault_of_texts (Ok texts) = []
 fault_of_texts (Err (cause, place)) = fault_at cause place
 
-abbrev string_package_faults : Package → List Fault
+abbrev pub string_package_faults : Package → List Fault
 string_package_faults p =
     if nat_lt (length p.bytes) 46 || nat_lt (info_offset p.bytes) 46 || nat_lt (length p.bytes) (info_offset p.bytes)
     then fault_at Cause.StringHeader p.place
     else fault_if (is_none (language_of p)) Cause.LanguageText (p.place + 46) ++ fault_of_texts (texts_of p)
 
-abbrev each_package : List Package → List Fault
+abbrev pub each_package : List Package → List Fault
 each_package [] = []
 each_package (p ∷ ps) = then_faults (string_package_faults p) (each_package ps)
 
@@ -87,7 +87,7 @@ string_faults list = each_package (packages_with STRINGS list)
 -- ---- the framing of the forms package (Forest); from here on places are those in the forms package, up to the image
 
 -- A whole opcode stands at the front: it has the length that it tells, and an END is `29 02`.
-abbrev is_whole : List ℕ → Bool
+abbrev pub is_whole : List ℕ → Bool
 is_whole bytes =
     nat_le 2 (stated_length bytes) && nat_le (stated_length bytes) (length bytes)
     && (not (number bytes == END) || slice_index bytes 1 == 2)
@@ -109,61 +109,61 @@ framing_faults ifr = framing_from (length ifr) 4 0 (drop 4 ifr)
 -- ---- the nodes of the forest by themselves (Opcodes, Nodes)
 
 -- the class of the innermost scope of a path
-abbrev class_along : Class → List Ancestor → Class
+abbrev pub class_along : Class → List Ancestor → Class
 class_along class [] = class
 class_along class (a ∷ path) = class_along (class_inside class (number a.op)) path
 
 -- A node stands first in the scope around it, of which a test holds.
-abbrev is_first_in : (List ℕ → Bool) → Node → Bool
+abbrev pub is_first_in : (List ℕ → Bool) → Node → Bool
 is_first_in test n = is_some_and (λ a. test a.op && n.place == a.place + length a.op) (last n.path)
 
 -- It is none of what its scope admits, and not what that begins with.
-abbrev is_misplaced : Node → Bool
+abbrev pub is_misplaced : Node → Bool
 is_misplaced n =
     not (length n.path == 0) && not (is_first_in (λ op. wants_expression op || wants_value op) n)
     && not (admits (class_along of_nothing n.path) (number n.op))
 
 -- It has Scope and may not, or has none and must.
-abbrev has_wrong_scope : Node → Bool
+abbrev pub has_wrong_scope : Node → Bool
 has_wrong_scope n =
     let is_operand = is_some_and (λ a. is_a an_operator a.op) (last n.path) in
     is_some_and (λ r. is_wrong_scope r.scope is_operand n.op) (row_of (number n.op))
 
 -- A scope does not begin with what it wants: it is empty, or begins with another opcode, if that is known.
-abbrev begins_with_other : (List ℕ → Bool) → Forest → Bool
+abbrev pub begins_with_other : (List ℕ → Bool) → Forest → Bool
 begins_with_other is_wanted none = true
 begins_with_other is_wanted (node op children rest) = is_some (row_of (number op)) && not (is_wanted op)
 
-abbrev lacks_expression : Node → Bool
+abbrev pub lacks_expression : Node → Bool
 lacks_expression n =
     wants_expression n.op && begins_with_other (is_a an_operator) n.children
     || wants_value n.op && begins_with_other (is_the VALUE) n.children
 
 -- an opcode of an expression at a place that has no fault by itself
-abbrev is_good_operator : ℕ → Mark → Bool
+abbrev pub is_good_operator : ℕ → Mark → Bool
 is_good_operator at m =
     is_a an_operator m.op && not (is_outside m.op) && not (is_short m.op) && (not (has_scope m.op) || m.place == at)
 
-abbrev operands : Sense → ℕ
+abbrev pub operands : Sense → ℕ
 operands (one makes) = 1
 operands (two makes) = 2
 operands sense = 0
 
 -- of an expression of these: an operator has too few operands, a 65th value comes, several values are left at the end
-abbrev order_faults : ℕ → ℕ → List Mark → List Fault
+abbrev pub order_faults : ℕ → ℕ → List Mark → List Fault
 order_faults at values [] = fault_if (nat_lt 1 values) Cause.ExprShape at
 order_faults at values (m ∷ ms) =
     if nat_lt values (operands (sense_of m.op)) then fault_at Cause.ExprShape m.place
     else if operands (sense_of m.op) == 0 && nat_le 64 values then fault_at Cause.ExprDepth m.place
     else order_faults at (values - operands (sense_of m.op) + 1) ms
 
-abbrev expression_faults : Node → List Fault
+abbrev pub expression_faults : Node → List Fault
 expression_faults n =
     let opcodes = expression n.place n.op n.children in
     if is_first_in wants_expression n && list_all (is_good_operator n.place) opcodes then order_faults n.place 0 opcodes
     else []
 
-abbrev node_faults : Node → List Fault
+abbrev pub node_faults : Node → List Fault
 node_faults n =
     fault_if (n.place == 4 && not (is FORM_SET n)) Cause.NotFormSet n.place
     ++ fault_if (length n.path == 0 && not (n.place == 4)) Cause.AfterFormSet n.place
@@ -181,7 +181,7 @@ structure_faults ns = flat_map node_faults ns
 -- ---- the nodes among each other (Nodes)
 
 -- each with those before it
-abbrev ranked : List Node → List Node → List (List Node × Node)
+abbrev pub ranked : List Node → List Node → List (List Node × Node)
 ranked before [] = []
 ranked before (n ∷ ns) = (before, n) ∷ ranked (before ++ n ∷ []) ns
 
@@ -190,7 +190,7 @@ pub record Size : Type 0 where
   pub depth : ℕ
   pub weight : ℕ
 
-abbrev size_over : (ℕ → ℕ → Size) → List Mark → Size
+abbrev pub size_over : (ℕ → ℕ → Size) → List Mark → Size
 size_over sizes ms =
     let named = map (λ m. sizes (field RULE_REF "RuleId" m.op) m.place) (filter (λ m. is_the RULE_REF m.op) ms) in
     record { depth = 1 + fold max 0 (map (λ s. s.depth) named); weight = length ms + sum (map (λ s. s.weight) named) }
@@ -200,10 +200,10 @@ sizes_of [] id place = record { depth = 0; weight = 0 }
 sizes_of (r ∷ earlier) id place =
     if is_named id place r then size_over (sizes_of earlier) r.opcodes else sizes_of earlier id place
 
-abbrev is_large : Size → Bool
+abbrev pub is_large : Size → Bool
 is_large s = nat_lt 16 s.depth || nat_lt 4096 s.weight
 
-abbrev ranked_faults : List Node → List Node × Node → List Fault
+abbrev pub ranked_faults : List Node → List Node × Node → List Fault
 ranked_faults ns (before, n) =
     let is_second : Node → Bool = λ m. is_question m && not (question_id n == 0) && question_id m == question_id n in
     let size = size_over (sizes_of (rules_of before)) (expression_of n) in
@@ -218,7 +218,7 @@ reference_faults ns =
 
 -- ---- the stores (Stores): one of any kind has the id 0, or that of one of any kind before it
 
-abbrev store_fault : List Node × Node → List Fault
+abbrev pub store_fault : List Node × Node → List Fault
 store_fault (before, n) =
     fault_if (store_id n == 0 || list_any (λ m. store_id m == store_id n) before) Cause.DuplicateVarstore n.place
 
@@ -227,14 +227,14 @@ store_faults ns = flat_map store_fault (ranked [] (store_nodes ns))
 
 -- ---- the questions and their options (Questions)
 
-abbrev option_faults : Node → Node → List Fault
+abbrev pub option_faults : Node → Node → List Fault
 option_faults q o =
     let width = number_width (field_in FLAGGED_QUESTION "Flags" q.op) in
     let is_of_other_type : Node → Bool = λ p. not (option_type o == option_type p) in
     fault_if (is ONE_OF q && nat_le (256 ^ width) (option_value o)) Cause.OptionRange o.place
     ++ fault_if (is ORDERED_LIST q && is_some_and is_of_other_type (first (options q))) Cause.MixedOptions o.place
 
-abbrev question_faults_of : List Node → Node → List Fault
+abbrev pub question_faults_of : List Node → Node → List Fault
 question_faults_of ns q =
     let store = field_in QUESTION_HEADER "VarStoreId" q.op in
     let is_too_long : Field → Bool = λ f. is_some_and (λ size. nat_lt size (f.offset + f.width)) (size_of ns f.store) in
@@ -253,11 +253,11 @@ pub data Part : Type 0 where
   these : List ℕ → Cause → Part
   any : ℕ → Part
 
-abbrev part_width : Part → ℕ
+abbrev pub part_width : Part → ℕ
 part_width (these bytes cause) = length bytes
 part_width (any width) = width
 
-abbrev part_faults : ℕ → Part → List ℕ → List Fault
+abbrev pub part_faults : ℕ → Part → List ℕ → List Fault
 part_faults at (these wanted cause) found = fault_if (not (bytes_eq wanted found)) cause at
 part_faults at (any width) found = []
 
@@ -269,12 +269,12 @@ image_faults_from at (part ∷ parts) image =
     else then_faults (part_faults at part (take (part_width part) image))
     (image_faults_from (at + part_width part) parts (drop (part_width part) image))
 
-abbrev head_parts : List ℕ → List ℕ → List Part
+abbrev pub head_parts : List ℕ → List ℕ → List Part
 head_parts guid image =
     if bytes_eq (take 4 image) (codes "HVS1") then any 4 ∷ []
     else these (codes "HVS2") Cause.StoreMagic ∷ these guid Cause.StoreFormSet ∷ []
 
-abbrev buffer_parts : ℕ × ℕ → List Part
+abbrev pub buffer_parts : ℕ × ℕ → List Part
 buffer_parts (id, size) =
     these (little_bytes 2 id) Cause.StoreId ∷ these (little_bytes 2 size) Cause.StoreSize ∷ any size ∷ []
 

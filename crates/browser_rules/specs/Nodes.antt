@@ -23,7 +23,8 @@ question_id n = field_in QUESTION_HEADER "QuestionId" n.op
 abbrev pub form_with : List Node → ℕ → Option Node
 form_with ns id = find (λ n. is FORM n && field FORM "FormId" n.op == id) ns
 
--- the form of this form set to which a reference leads: it has 15 to 32 bytes, and a form id that is not 0 (own rule)
+-- the form of this form set to which a reference leads: it has 15 to 32 bytes, and a form id that is not 0 (own rule);
+-- a shorter one names none (EFI_IFR_REF5), a longer one names a form set (EFI_IFR_REF3 and REF4)
 abbrev pub ref_target : Node → Option ℕ
 ref_target n =
     let form_id = field_in (QUESTION_HEADER ++ ("FormId", 2) ∷ []) "FormId" n.op in
@@ -44,7 +45,7 @@ options q = in_question (λ n. is_a an_option n.op) q
 abbrev pub expression_of : Node → List Mark
 expression_of n = expression_in (n.place + length n.op) n.children
 
-abbrev expression_behind : ℕ → Forest → List Mark
+abbrev pub expression_behind : ℕ → Forest → List Mark
 expression_behind at none = []
 expression_behind at (node op children rest) = expression_in (at + length op) children
 
@@ -62,7 +63,7 @@ this_of n =
     0
 
 -- the guards around it, outermost first, each as a node
-abbrev as_nodes : List Ancestor → List Ancestor → List Node
+abbrev pub as_nodes : List Ancestor → List Ancestor → List Node
 as_nodes around [] = []
 as_nodes around (a ∷ path) =
     record { place = a.place; op = a.op; path = around; children = a.children } ∷ as_nodes (around ++ a ∷ []) path
@@ -79,10 +80,10 @@ lock_of ns n =
 
 -- ---- the rules among nodes, the latest first
 
-abbrev form_end : List Ancestor → ℕ
+abbrev pub form_end : List Ancestor → ℕ
 form_end path = unwrap_or (option_map end_of (last (filter (λ a. is_the FORM a.op) path))) 0
 
-abbrev as_rule : Node → Rule
+abbrev pub as_rule : Node → Rule
 as_rule n = record {
   id = field RULE "RuleId" n.op;
   ends = end_of (as_ancestor n);

@@ -59,7 +59,7 @@ pub record Row : Type 0 where
 -- ---- fields
 
 -- where a field stands, in bytes from the opcode's first, and how many it has; where none has the name, where all end
-abbrev span_from : ℕ → Layout → String → ℕ × ℕ
+abbrev pub span_from : ℕ → Layout → String → ℕ × ℕ
 span_from at [] name = (at, 0)
 span_from at (part ∷ layout) name =
     if eqt part.0 name then (at, part.1) else span_from (at + part.1) layout name
@@ -118,7 +118,7 @@ pub data Opcode : Type 0 where
   GREATER_THAN GREATER_EQUAL LESS_THAN LESS_EQUAL BITWISE_AND BITWISE_OR SHIFT_LEFT SHIFT_RIGHT : Opcode
   ADD SUBTRACT MULTIPLY DIVIDE MODULO : Opcode
 
-abbrev opcode : ℕ → Layout → Tail → OpcodeKind → ScopeRule → Class → Row
+abbrev pub opcode : ℕ → Layout → Tail → OpcodeKind → ScopeRule → Class → Row
 opcode number layout tail kind scope opens = record {
   number = number;
   layout = layout;
@@ -130,18 +130,18 @@ opcode number layout tail kind scope opens = record {
   sense = no_operator;
 }
 
-abbrev refused_where : (List ℕ → Bool) → Row → Row
+abbrev pub refused_where : (List ℕ → Bool) → Row → Row
 refused_where refused r = record r { refused = refused }
 
-abbrev operator : ℕ → Layout → Tail → Sense → Row
+abbrev pub operator : ℕ → Layout → Tail → Sense → Row
 operator number layout tail sense =
     record (opcode number layout tail an_operator unless_operand of_expression) { sense = sense }
 
 -- an operator that holds a number; the numbers of two bytes that an EQ_ID_VAL_LIST holds
-abbrev uint : ℕ → ℕ → Row
+abbrev pub uint : ℕ → ℕ → Row
 uint number bytes = operator number (("Value", bytes) ∷ []) nothing (leaf λ around op. natural (number_in op 2 bytes))
 
-abbrev two_byte_numbers : List ℕ → List ℕ
+abbrev pub two_byte_numbers : List ℕ → List ℕ
 two_byte_numbers (low ∷ high ∷ rest) = (low + 256 * high) ∷ two_byte_numbers rest
 two_byte_numbers _ = []
 
@@ -289,14 +289,14 @@ abbrev pub is_outside : List ℕ → Bool
 is_outside op = not (is_some_and (λ r. not (r.refused op)) (row_of (number op)))
 
 -- how many bytes an opcode has at least, if fewer than its fields those of these; for a name without NUL one too many
-abbrev tail_length : Layout → Tail → List ℕ → ℕ
+abbrev pub tail_length : Layout → Tail → List ℕ → ℕ
 tail_length layout nothing op = 0
 tail_length layout three_numbers op = 3 * number_width (field_in layout "Flags" op)
 tail_length layout typed_value op = type_width (field_in layout "Type" op)
 tail_length layout counted op = 2 * field_in layout "ListLength" op
 tail_length layout a_name op = length (name_behind layout op) + 1
 
-abbrev least_length : Row → List ℕ → ℕ
+abbrev pub least_length : Row → List ℕ → ℕ
 least_length r op =
     fields_end r.layout + (if nat_lt (length op) (fields_end r.layout) then 0 else tail_length r.layout r.tail op)
 
@@ -304,7 +304,7 @@ abbrev pub is_short : List ℕ → Bool
 is_short op = is_some_and (λ r. nat_lt (length op) (least_length r op)) (row_of (number op))
 
 -- in which scopes each kind may stand, but for what a scope begins with
-abbrev classes_for : OpcodeKind → List Class
+abbrev pub classes_for : OpcodeKind → List Class
 classes_for a_form_set = []
 classes_for a_form = of_form_set ∷ []
 classes_for a_default_store = of_form_set ∷ []
@@ -326,7 +326,7 @@ admits class code = is_some_and (λ r. list_any (λ c. so (same_class class c)) 
 
 -- the class of a scope in one of a class: a guard admits what may stand around it, but among options nothing else that
 -- a question has
-abbrev opened_by : Class → OpcodeKind → Class → Class
+abbrev pub opened_by : Class → OpcodeKind → Class → Class
 opened_by of_choice a_guard opens = of_options
 opened_by around a_guard opens = around
 opened_by around kind opens = opens

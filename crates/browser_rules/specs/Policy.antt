@@ -23,7 +23,7 @@ pub record World : Type 0 where
   pub stores : Stores
 
 -- The condition of a node is met, which is the expression that its scope begins with.
-abbrev is_met_over : List Node → Stores → Node → Bool
+abbrev pub is_met_over : List Node → Stores → Node → Bool
 is_met_over ns stores n = holds (value_of (rules_of ns) (answers ns stores) (this_of n) (expression_of n))
 
 abbrev pub is_met : World → Node → Bool
@@ -34,7 +34,7 @@ is_met w n = is_met_over w.nodes w.stores n
 abbrev pub removed_at : List Node → Stores → List ℕ
 removed_at ns stores = map (λ n. n.place) (filter (λ n. is DISABLE_IF n && is_met_over ns stores n) ns)
 
-abbrev is_removed : World → Node → Bool
+abbrev pub is_removed : World → Node → Bool
 is_removed w guard = is DISABLE_IF guard && is_among guard.place w.removed
 
 -- ---- denials: the kind, the place of the opcode that decides, or 0, and the string id of the text that it tells
@@ -47,7 +47,7 @@ pub record Denial : Type 0 where
 abbrev pub denied_by : DenialKind → Node → Denial
 denied_by kind n = record { kind = kind; place = n.place; message = None }
 
-abbrev denied_with_text : DenialKind → Node → Denial
+abbrev pub denied_with_text : DenialKind → Node → Denial
 denied_with_text kind n = record { kind = kind; place = n.place; message = Some (field_in WITH_ERROR "Error" n.op) }
 
 -- ---- hidden: the outermost guard that is a removed DISABLE_IF or a SUPPRESS_IF that is met decides
@@ -61,7 +61,7 @@ hidden_by w n =
 -- its flag READ_ONLY (33.3.8.2.2, EFI_IFR_FLAG_READ_ONLY); else that it is outside: a reference that leads to no form
 -- of this form set, any other question without a field
 
-abbrev fixed_itself : List Node → Node → Option Denial
+abbrev pub fixed_itself : List Node → Node → Option Denial
 fixed_itself ns q =
     if has_flag (field_in QUESTION_HEADER "QuestionFlags" q.op) 0x01 then Some (denied_by ReadOnly q)
     else if (if is REF q then is_none (ref_target q) else is_none (field_of ns q)) then Some (denied_by Outside q)
@@ -77,7 +77,7 @@ fixed_by w n =
 -- ---- the values of options: where all options of a value are fixed, the first of these by place denies it; of several
 -- values the first that is denied counts
 
-abbrev all_fixed_by : World → List Node → Option Denial
+abbrev pub all_fixed_by : World → List Node → Option Denial
 all_fixed_by w [] = None
 all_fixed_by w (o ∷ os) = if list_any (λ p. is_none (fixed_by w p)) (o ∷ os) then None else fixed_by w o
 

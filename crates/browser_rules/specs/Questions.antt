@@ -46,7 +46,7 @@ abbrev pub element_width : Node → ℕ
 element_width q = unwrap_or (option_map (λ o. type_width (option_type o)) (first (options q))) 1
 
 -- the numbers behind the fields of a NUMERIC: the least (0), the greatest (1), the step (2), which is no condition
-abbrev bound : ℕ → Node → ℕ
+abbrev pub bound : ℕ → Node → ℕ
 bound n q =
     let width = number_width (field_in FLAGGED_QUESTION "Flags" q.op) in
     little_number width (drop (fields_end FLAGGED_QUESTION + n * width) q.op)
@@ -114,7 +114,7 @@ with_field stores (Some f) bytes = with_bytes stores f.store f.offset bytes
 -- ---- answers
 
 -- the numbers of `width` bytes each
-abbrev numbers_from : ℕ → ℕ → List ℕ → List ℕ
+abbrev pub numbers_from : ℕ → ℕ → List ℕ → List ℕ
 numbers_from zero width bytes = []
 numbers_from (suc n) width bytes = little_number width bytes ∷ numbers_from n width (drop width bytes)
 
@@ -126,7 +126,7 @@ abbrev pub bytes_of_items : ℕ → List ℕ → List ℕ
 bytes_of_items width bytes = take (length (items width bytes) * width) bytes
 
 -- A checkbox is true where it is not 0, a number has no sign, a text ends at its first zero unit, a list is all bytes.
-abbrev answer_in : FieldType → List ℕ → Value
+abbrev pub answer_in : FieldType → List ℕ → Value
 answer_in a_flag bytes = boolean (not (slice_index bytes 0 == 0))
 answer_in (a_number signed width minimum maximum) bytes = natural (little_number width bytes)
 answer_in (a_choice width offered) bytes = natural (little_number width bytes)
@@ -162,7 +162,7 @@ pub data Offer : Type 0 where
   elements : (bytes : List ℕ) → Offer
   in_field : (bytes : List ℕ) → Offer
 
-abbrev read_as : FieldType → Offer → Offer
+abbrev pub read_as : FieldType → Offer → Offer
 read_as (a_text minimum maximum) (in_field bytes) = units bytes
 read_as (a_list width most unique some offered) (in_field bytes) = elements bytes
 read_as t (in_field bytes) = raw (little_number (width_of t) bytes)
@@ -175,47 +175,47 @@ abbrev pub number_of_bits : Bool → ℕ → ℕ → ℤ
 number_of_bits signed width bits =
     if signed && nat_le (256 ^ width / 2) bits then pos bits -ℤ pos (256 ^ width) else pos bits
 
-abbrev bits_of : Bool → ℕ → ℤ → Option ℕ
+abbrev pub bits_of : Bool → ℕ → ℤ → Option ℕ
 bits_of signed width (pos n) =
     if nat_lt n (if signed then 256 ^ width / 2 else 256 ^ width) then Some n else None
 bits_of signed width (negsuc n) =
     if signed && nat_lt n (256 ^ width / 2) then Some (256 ^ width - suc n) else None
 
 -- a number in its bounds, where all three have a sign or none has
-abbrev number_fit : Bool → ℕ → ℕ → ℕ → Option ℕ → Result (List ℕ) DenialKind
+abbrev pub number_fit : Bool → ℕ → ℕ → ℕ → Option ℕ → Result (List ℕ) DenialKind
 number_fit signed width minimum maximum None = Err Range
 number_fit signed width minimum maximum (Some bits) =
     let number = number_of_bits signed width in
     if int_lt (number bits) (number minimum) || int_lt (number maximum) (number bits) then Err Range
     else Ok (little_bytes width bits)
 
-abbrev choice_fit : ℕ → List ℕ → ℤ → Result (List ℕ) DenialKind
+abbrev pub choice_fit : ℕ → List ℕ → ℤ → Result (List ℕ) DenialKind
 choice_fit width offered (pos n) = if is_among n offered then Ok (little_bytes width n) else Err NoOption
 choice_fit width offered (negsuc n) = Err NoOption
 
 -- a flag is 0 or 1
-abbrev flag_fit : ℤ → Result (List ℕ) DenialKind
+abbrev pub flag_fit : ℤ → Result (List ℕ) DenialKind
 flag_fit (pos n) = if nat_lt n 2 then Ok (n ∷ []) else Err Range
 flag_fit (negsuc n) = Err Range
 
 -- bytes with zeros behind them
-abbrev filled : ℕ → List ℕ → List ℕ
+abbrev pub filled : ℕ → List ℕ → List ℕ
 filled size bytes = bytes ++ replicate (size - length bytes) 0
 
-abbrev text_fit : ℕ → ℕ → List ℕ → Result (List ℕ) DenialKind
+abbrev pub text_fit : ℕ → ℕ → List ℕ → Result (List ℕ) DenialKind
 text_fit minimum maximum us =
     if nat_lt (length us) minimum || nat_lt maximum (length us) then Err Length
     else Ok (filled (2 * maximum) (flat_map (little_bytes 2) us))
 
 -- the first element that may not be: it is 0, or no option has it, or it comes again
-abbrev element_denial : Bool → List ℕ → List ℕ → List ℕ → Option DenialKind
+abbrev pub element_denial : Bool → List ℕ → List ℕ → List ℕ → Option DenialKind
 element_denial unique offered before [] = None
 element_denial unique offered before (n ∷ ns) =
     if n == 0 || not (is_among n offered) then Some NoOption
     else if unique && is_among n before then Some Repeat
     else element_denial unique offered (before ++ n ∷ []) ns
 
-abbrev list_fit : ℕ → ℕ → Bool → Bool → List ℕ → List ℕ → Result (List ℕ) DenialKind
+abbrev pub list_fit : ℕ → ℕ → Bool → Bool → List ℕ → List ℕ → Result (List ℕ) DenialKind
 list_fit width most unique some offered ns =
     if nat_lt most (length ns) then Err Length
     else if some && length ns == 0 then Err EmptySet
@@ -223,10 +223,10 @@ list_fit width most unique some offered ns =
     (Ok (filled (most * width) (flat_map (little_bytes width) ns)))
 
 -- UTF-8 of characters that are a unit each, which is not 0
-abbrev is_text : List ℕ → Bool
+abbrev pub is_text : List ℕ → Bool
 is_text bytes = is_utf8 bytes && not (list_any (λ c. c == 0 || nat_lt 0xffff c) (chars bytes))
 
-abbrev fit : FieldType → Offer → Result (List ℕ) DenialKind
+abbrev pub fit : FieldType → Offer → Result (List ℕ) DenialKind
 fit a_flag (whole n) = flag_fit n
 fit a_flag (raw bits) = Ok ((if bits == 0 then 0 else 1) ∷ [])
 fit (a_number signed width minimum maximum) (whole n) =
@@ -250,7 +250,7 @@ fits ns q offer =
     if is_none (field_of ns q) then Err Kind else unwrap_or taken (Err Kind)
 
 -- the values of options that an offer names
-abbrev values_in : FieldType → Offer → List ℕ
+abbrev pub values_in : FieldType → Offer → List ℕ
 values_in (a_choice width offered) (whole (pos n)) = n ∷ []
 values_in (a_choice width offered) (raw bits) = bits ∷ []
 values_in (a_list width most unique some offered) (listed ns) = ns
@@ -264,7 +264,7 @@ values_offered q offer = unwrap_or (option_map (λ t. values_in t (read_as t off
 
 -- what a DEFAULT gives, by its Type: a number (0 to 3); a Boolean (4), true but for 0; the text of a string id (7), if
 -- it has one; the value of its expression (8), if a Boolean or a number; the elements of a buffer (0B); else nothing
-abbrev given : List Node → Stores → (ℕ → Option (List ℕ)) → Node → Node → Option Offer
+abbrev pub given : List Node → Stores → (ℕ → Option (List ℕ)) → Node → Node → Option Offer
 given ns stores texts q d =
     let kind = field DEFAULT "Type" d.op in
     let number = little_number (type_width kind) (drop 5 d.op) in
@@ -278,7 +278,7 @@ given ns stores texts q d =
 
 -- what flags give for the standard class 0 and the manufacturing class 1: EFI_IFR_OPTION_DEFAULT, or _DEFAULT_MFG, of
 -- the first option of a ONE_OF that has it, whatever guards it; EFI_IFR_CHECKBOX_DEFAULT, or _DEFAULT_MFG
-abbrev flagged : Node → ℕ → Option Offer
+abbrev pub flagged : Node → ℕ → Option Offer
 flagged q class =
     let option_flag = if class == 0 then 0x10 else 0x20 in
     let is_default : Node → Bool = λ o. has_flag (field ONE_OF_OPTION "Flags" o.op) option_flag in

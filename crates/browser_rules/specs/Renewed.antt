@@ -20,7 +20,7 @@ use Rattle.browser_rules.specs.Session.{defaults_taken}
 
 -- ---- support: the ids of the questions that a condition's opcodes name, and those of the rules that it names
 
-abbrev ids_of : (ℕ → ℕ → List ℕ) → ℕ → Mark → List ℕ
+abbrev pub ids_of : (ℕ → ℕ → List ℕ) → ℕ → Mark → List ℕ
 ids_of rules this m =
     if is_the RULE_REF m.op then rules (field RULE_REF "RuleId" m.op) m.place
     else if is_the THIS m.op then this ∷ []
@@ -40,18 +40,18 @@ support ns n = flat_map (ids_of (rule_ids (rules_of ns)) (this_of n)) (expressio
 
 -- ---- writes: which bytes each has, by a store's id and an offset
 
-abbrev Write : Type 0
+abbrev pub Write : Type 0
 Write = ℕ → ℕ → Bool
 
 -- that of a question's whole field
-abbrev of_field : Field → Write
+abbrev pub of_field : Field → Write
 of_field f store at = store == f.store && nat_le f.offset at && nat_lt at (f.offset + f.width)
 
-abbrev of_fields : State → Node → List Write
+abbrev pub of_fields : State → Node → List Write
 of_fields s q = unwrap_or (option_map (λ f. of_field f ∷ []) (field_of (nodes s) q)) []
 
 -- that of the bytes in which stores differ
-abbrev difference : Stores → Stores → Write
+abbrev pub difference : Stores → Stores → Write
 difference old new store at = not (alike (byte old) (byte new))
   where
     byte : Stores → Option ℕ
@@ -63,37 +63,37 @@ difference old new store at = not (alike (byte old) (byte new))
     alike _ _ = false
 
 -- the blocks of a route that were set, also before one that was denied, and then the giving back
-abbrev of_block : State → State → List Write → List Write → Reply → List Write
+abbrev pub of_block : State → State → List Write → List Write → Reply → List Write
 of_block before s own others Accepted = own ++ others
 of_block before s own others _ = difference s.working before.working ∷ []
 
-abbrev of_blocks : State → ℕ → List Block → State → List Write
+abbrev pub of_blocks : State → ℕ → List Block → State → List Write
 of_blocks before store [] s = []
 of_blocks before store (b ∷ blocks) s =
     of_block before s (unwrap_or (option_map (of_fields s) (question_of_block s store b)) [])
     (of_blocks before store blocks (set_block s store b).state) (set_block s store b).reply
 
-abbrev of_route : State → Result (Header × List Block) Cause → List Write
+abbrev pub of_route : State → Result (Header × List Block) Cause → List Write
 of_route s (Err cause) = []
 of_route s (Ok (header, blocks)) =
     unwrap_or (option_map (λ store. of_blocks s store blocks s) (store_named (nodes s) s.path header)) []
 
 -- what an accepted command writes, and one that is denied or refused does not
-abbrev writes_if : Reply → List Write → List Write
+abbrev pub writes_if : Reply → List Write → List Write
 writes_if Accepted writes = writes
 writes_if _ writes = []
 
-abbrev of_set : State → ℕ → List Write
+abbrev pub of_set : State → ℕ → List Write
 of_set s id = unwrap_or (option_map (of_fields s) (question_with (nodes s) id)) []
 
-abbrev of_defaults : State → ℕ → List Write
+abbrev pub of_defaults : State → ℕ → List Write
 of_defaults s class = flat_map (of_fields s) (defaults_taken s class).1
 
-abbrev of_press : State → ℕ → List Write
+abbrev pub of_press : State → ℕ → List Write
 of_press s n =
     unwrap_or (option_map (λ button. of_defaults s (field RESET_BUTTON "DefaultId" button.op)) (row_at s n)) []
 
-abbrev writes_of : State → Command → List Write
+abbrev pub writes_of : State → Command → List Write
 writes_of s (Set id n) = writes_if (step s (Set id n)).reply (of_set s id)
 writes_of s (Order id ns) = writes_if (step s (Order id ns)).reply (of_set s id)
 writes_of s (Text id text) = writes_if (step s (Text id text)).reply (of_set s id)
@@ -105,11 +105,11 @@ writes_of s _ = []
 
 -- ---- the number: for each write the kept conditions of whose support a field has one of its bytes; at most 2^64 - 1
 
-abbrev has_byte : Write → ℕ → ℕ → ℕ → Bool
+abbrev pub has_byte : Write → ℕ → ℕ → ℕ → Bool
 has_byte write store at zero = false
 has_byte write store at (suc width) = write store at || has_byte write store (at + 1) width
 
-abbrev touches : List Node → Write → Node → Bool
+abbrev pub touches : List Node → Write → Node → Bool
 touches ns write n =
     let has_one : Field → Bool = λ f. has_byte write f.store f.offset f.width in
     list_any (λ id. is_some_and has_one (option_and_then (field_of ns) (question_with ns id))) (support ns n)

@@ -10,7 +10,7 @@ use Rattle.browser_rules.specs.Words.{Cause, BadCommand, LineTooLong, number_bel
 
 -- ---- lines: each ends with LF, which only the last may lack, if it is not empty
 
-abbrev in_front : ℕ → List (List ℕ) × List ℕ → List (List ℕ) × List ℕ
+abbrev pub in_front : ℕ → List (List ℕ) × List ℕ → List (List ℕ) × List ℕ
 in_front byte ([], rest) = ([], byte ∷ rest)
 in_front byte (line ∷ lines, rest) = ((byte ∷ line) ∷ lines, rest)
 
@@ -48,22 +48,22 @@ pub data Command : Type 0 where
 
 -- what stands behind a command's word: nothing; a number of at most so many digits, below a limit; a word that a test
 -- holds of; the id of a question and a value; the id and a list, or the id alone; the id and a text, or the id alone
-pub data Form : Type 0 where
-  alone : Command → Form
-  with_number : (most limit : ℕ) → (ℕ → Command) → Form
-  with_word : (List ℕ → Bool) → (List ℕ → Command) → Form
-  with_value : (ℕ → ℤ → Command) → Form
-  with_list with_text : (ℕ → List ℕ → Command) → Form
+pub data Arguments : Type 0 where
+  alone : Command → Arguments
+  with_number : (most limit : ℕ) → (ℕ → Command) → Arguments
+  with_word : (List ℕ → Bool) → (List ℕ → Command) → Arguments
+  with_value : (ℕ → ℤ → Command) → Arguments
+  with_list with_text : (ℕ → List ℕ → Command) → Arguments
 
 -- at most 63 letters, digits and hyphens; any bytes but a space
-abbrev is_language : List ℕ → Bool
+abbrev pub is_language : List ℕ → Bool
 is_language word = nat_lt (length word) 64 && list_all (λ byte. is_ascii_alphanumeric byte || byte == 45) word
 
-abbrev is_word : List ℕ → Bool
+abbrev pub is_word : List ℕ → Bool
 is_word word = list_all (λ byte. not (byte == 32)) word
 
-abbrev forms : List (String × Form)
-forms =
+abbrev pub commands : List (String × Arguments)
+commands =
     ("page", alone Page)
     ∷ ("set", with_value Set)
     ∷ ("order", with_list Order)
@@ -81,39 +81,39 @@ forms =
     ∷ []
 
 -- the bytes before the first space, and what is behind it, where there is one
-abbrev cut_word : List ℕ → List ℕ × Option (List ℕ)
+abbrev pub cut_word : List ℕ → List ℕ × Option (List ℕ)
 cut_word [] = ([], None)
 cut_word (byte ∷ text) =
     if byte == 32 then ([], Some text) else (byte ∷ (cut_word text).0, (cut_word text).1)
 
 -- a value, of a magnitude below 2^64: `-` and 1 to 20 digits, `0x` and 1 to 16 hex digits, or 1 to 20 digits
-abbrev begins_with : String → List ℕ → Bool
+abbrev pub begins_with : String → List ℕ → Bool
 begins_with front text = bytes_eq (take (length (codes front)) text) (codes front)
 
-abbrev value_in : List ℕ → Option ℤ
+abbrev pub value_in : List ℕ → Option ℤ
 value_in text =
     if begins_with "-" text then option_map (λ n. neg_ℤ (pos n)) (number_below (2 ^ 64) 10 20 (drop 1 text))
     else if begins_with "0x" text then option_map pos (number_below (2 ^ 64) 16 16 (drop 2 text))
     else option_map pos (number_below (2 ^ 64) 10 20 text)
 
 -- a list: numbers below 2^64 with a comma between
-abbrev numbers_in : List (List ℕ) → Option (List ℕ)
+abbrev pub numbers_in : List (List ℕ) → Option (List ℕ)
 numbers_in [] = Some []
 numbers_in (part ∷ parts) =
     option_and_then (λ n. option_map (λ ns. n ∷ ns) (numbers_in parts)) (number_below (2 ^ 64) 10 20 part)
 
-abbrev list_in : Option (List ℕ) → Option (List ℕ)
+abbrev pub list_in : Option (List ℕ) → Option (List ℕ)
 list_in None = Some []
 list_in (Some list) = numbers_in (slice_split (λ byte. byte == 44) list)
 
-abbrev on_question : {X : Type 0} → (ℕ → X → Command) → (Option (List ℕ) → Option X) → List ℕ → Option Command
+abbrev pub on_question : {X : Type 0} → (ℕ → X → Command) → (Option (List ℕ) → Option X) → List ℕ → Option Command
 on_question command read text =
     option_and_then (λ id. option_map (command id) (read (cut_word text).1)) (number_below 65536 10 5 (cut_word text).0)
 
-abbrev command_in : Form → Option (List ℕ) → Option Command
+abbrev pub command_in : Arguments → Option (List ℕ) → Option Command
 command_in (alone command) None = Some command
 command_in (alone command) (Some text) = None
-command_in form None = None
+command_in arguments None = None
 command_in (with_number most limit command) (Some text) = option_map command (number_below limit 10 most text)
 command_in (with_word test command) (Some text) =
     if nat_lt 0 (length text) && test text then Some (command text) else None
@@ -130,6 +130,6 @@ without_return line =
 abbrev pub command_of : List ℕ → Result Command Cause
 command_of line =
     let text = without_return line in
-    let form = find (λ f. bytes_eq (cut_word text).0 (codes f.0)) forms in
+    let found = find (λ c. bytes_eq (cut_word text).0 (codes c.0)) commands in
     if nat_lt 4096 (length line) then Err LineTooLong
-    else ok_or (option_and_then (λ f. command_in f.1 (cut_word text).1) form) BadCommand
+    else ok_or (option_and_then (λ c. command_in c.1 (cut_word text).1) found) BadCommand

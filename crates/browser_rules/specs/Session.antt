@@ -66,29 +66,29 @@ pub record Outcome : Type 0 where
 abbrev pub nodes : State → List Node
 nodes s = nodes_of s.ifr
 
-abbrev over : State → Stores → World
+abbrev pub over : State → Stores → World
 over s stores = record { nodes = nodes s; removed = s.removed; stores = stores }
 
 abbrev pub now : State → World
 now s = over s s.working
 
-abbrev texts : State → ℕ → List ℕ
+abbrev pub texts : State → ℕ → List ℕ
 texts s id = shown s.spoken s.language id
 
-abbrev current_form : State → Option Node
+abbrev pub current_form : State → Option Node
 current_form s = node_at (nodes s) s.form
 
-abbrev accepted : State → List ℕ → Outcome
+abbrev pub accepted : State → List ℕ → Outcome
 accepted s text = record { state = s; text = text; reply = Accepted }
 
-abbrev ok : State → Outcome
+abbrev pub ok : State → Outcome
 ok s = accepted s (codes "OK\n")
 
-abbrev count_text : ℕ → List ℕ
+abbrev pub count_text : ℕ → List ℕ
 count_text n = codes "OK " ++ decimal n ++ codes "\n"
 
 -- What is denied or refused changes nothing.
-abbrev denied : State → Denial → Outcome
+abbrev pub denied : State → Denial → Outcome
 denied s d = record {
   state = s;
   text = codes "DENIED " ++ kind_name d.kind ++ codes " at " ++ place_text d.place
@@ -96,38 +96,38 @@ denied s d = record {
   reply = Denied d;
 }
 
-abbrev denied_by_none : State → DenialKind → Outcome
+abbrev pub denied_by_none : State → DenialKind → Outcome
 denied_by_none s kind = denied s record { kind = kind; place = 0; message = None }
 
-abbrev refused : State → Cause → Outcome
+abbrev pub refused : State → Cause → Outcome
 refused s cause = record { state = s; text = refused_text cause; reply = Refused cause }
 
 -- denied, or else; with what is there, or denied; with what was read, or refused; with the question of an id
-abbrev unless : State → Option Denial → Outcome → Outcome
+abbrev pub unless : State → Option Denial → Outcome → Outcome
 unless s None outcome = outcome
 unless s (Some d) outcome = denied s d
 
-abbrev with_some : {X : Type 0} → State → DenialKind → Option X → (X → Outcome) → Outcome
+abbrev pub with_some : {X : Type 0} → State → DenialKind → Option X → (X → Outcome) → Outcome
 with_some s denial None next = denied_by_none s denial
 with_some s denial (Some x) next = next x
 
-abbrev with_read : {X : Type 0} → State → Result X Cause → (X → Outcome) → Outcome
+abbrev pub with_read : {X : Type 0} → State → Result X Cause → (X → Outcome) → Outcome
 with_read s (Err cause) next = refused s cause
 with_read s (Ok x) next = next x
 
-abbrev with_question : State → ℕ → (Node → Outcome) → Outcome
+abbrev pub with_question : State → ℕ → (Node → Outcome) → Outcome
 with_question s id next = with_some s NoQuestion (question_with (nodes s) id) next
 
--- ---- set, order, text: the question is not fixed and takes the value, not all options of the value are fixed, and
--- none of its INCONSISTENT_IFs is met over the stores with the new field; the WARNING_IFs that are met over these are
--- told
+-- ---- set, order, text: over the stores as they were the question is not fixed and takes the value, whose options are
+-- not all fixed; over those with the new field none of its INCONSISTENT_IFs is met, and the WARNING_IFs that are met
+-- are told, which `defaults`, `press` and `route` leave out
 
-abbrev warning_text : State → Node → List ℕ
+abbrev pub warning_text : State → Node → List ℕ
 warning_text s n =
     codes "WARNING at " ++ place_text n.place ++ codes " "
     ++ in_utf8 (texts s (field WARNING_IF "Warning" n.op)) ++ codes "\n"
 
-abbrev with_fit : State → Node → Result (List ℕ) DenialKind → (List ℕ → Outcome) → Outcome
+abbrev pub with_fit : State → Node → Result (List ℕ) DenialKind → (List ℕ → Outcome) → Outcome
 with_fit s q (Err kind) next = denied s (denied_by kind q)
 with_fit s q (Ok bytes) next = next bytes
 
@@ -142,16 +142,16 @@ set s q offer =
 -- ---- defaults: the questions of the current form, by place, take their defaults of a class, each over the stores that
 -- those before it left; one that has none, or may not take it, stays as it is, of which nothing is told (33.2.5.8)
 
-abbrev if_accepted : State × List Node → Node → Outcome → Reply → State × List Node
+abbrev pub if_accepted : State × List Node → Node → Outcome → Reply → State × List Node
 if_accepted (s, qs) q outcome Accepted = (outcome.state, qs ++ q ∷ [])
 if_accepted before q outcome reply = before
 
-abbrev take_default : ℕ → State × List Node → Node → State × List Node
+abbrev pub take_default : ℕ → State × List Node → Node → State × List Node
 take_default class (s, qs) q =
     let offered = default_of (nodes s) s.working (text_of s.spoken s.language) q class in
     unwrap_or (option_map (λ offer. if_accepted (s, qs) q (set s q offer) (set s q offer).reply) offered) (s, qs)
 
-abbrev take_defaults : ℕ → State × List Node → List Node → State × List Node
+abbrev pub take_defaults : ℕ → State × List Node → List Node → State × List Node
 take_defaults class before [] = before
 take_defaults class before (q ∷ qs) = take_defaults class (take_default class before q) qs
 
@@ -161,7 +161,7 @@ defaults_taken s class =
     take_defaults class (s, [])
     (unwrap_or (option_map (λ form. filter is_question (statements form)) (current_form s)) [])
 
-abbrev defaults : State → ℕ → Outcome
+abbrev pub defaults : State → ℕ → Outcome
 defaults s class = accepted (defaults_taken s class).0 (count_text (length (defaults_taken s class).1))
 
 -- ---- press: the button in a row of the page
@@ -170,49 +170,50 @@ abbrev pub row_at : State → ℕ → Option Node
 row_at s n =
     if n == 0 then None else option_and_then (λ form. slice_get (rows_of (now s) form) (n - 1)) (current_form s)
 
-abbrev press : State → ℕ → Outcome
+abbrev pub press : State → ℕ → Outcome
 press s n = with_some s NoRow (row_at s n) λ button.
     if not (is RESET_BUTTON button) then denied s (denied_by NotButton button)
     else unless s (fixed_by (now s) button) (defaults s (field RESET_BUTTON "DefaultId" button.op))
 
 -- ---- go, back: a reference that is not fixed leads to a form that is not hidden, where fewer than 32 forms were left
--- before (33.3.8.3, EFI_IFR_REF); back leads to the form that was left last, whatever hides it
+-- before (33.3.8.3, EFI_IFR_REF); back leads to the form that was left last, whatever hides it. That a reference leads
+-- to no form is told by `fixed_by`, or as a fault at opening, so that the last case of `go` does not come.
 
-abbrev enter : State → Node → Outcome
+abbrev pub enter : State → Node → Outcome
 enter s form =
     unless s (hidden_by (now s) form)
     (if nat_lt (length s.history) 32 then ok (record s { form = form.place; history = s.history ++ s.form ∷ [] })
     else denied_by_none s DeepHistory)
 
-abbrev go : State → Node → Outcome
+abbrev pub go : State → Node → Outcome
 go s q =
     let target = option_and_then (form_with (nodes s)) (ref_target q) in
     if not (is REF q) then denied s (denied_by NotRef q)
     else unless s (fixed_by (now s) q) (unwrap_or (option_map (enter s) target) (denied s (denied_by Outside q)))
 
-abbrev back : State → Outcome
+abbrev pub back : State → Outcome
 back s = with_some s NoBack (slice_get s.history (length s.history - 1)) λ place.
     ok (record s { form = place; history = take (length s.history - 1) s.history })
 
 -- ---- extract: the bytes of blocks as last submitted, of which none has a byte of a password (34.2.1)
 
-abbrev has_field : List Node → (Field → Bool) → Node → Bool
+abbrev pub has_field : List Node → (Field → Bool) → Node → Bool
 has_field ns test q = is_some_and test (field_of ns q)
 
-abbrev as_field : ℕ → Block → Field
+abbrev pub as_field : ℕ → Block → Field
 as_field store b = record { store = store; offset = b.offset; width = b.width }
 
-abbrev block_denied_by : State → ℕ → ℕ → Block → Option Denial
+abbrev pub block_denied_by : State → ℕ → ℕ → Block → Option Denial
 block_denied_by s store size b =
     if nat_lt size (b.offset + b.width) then Some record { kind = NoField; place = 0; message = None }
     else option_map (denied_by Password)
     (find (λ q. is PASSWORD q && has_field (nodes s) (meets (as_field store b)) q) (questions (nodes s)))
 
-abbrev first_denied_by : (Block → Option Denial) → List Block → Option Denial
+abbrev pub first_denied_by : (Block → Option Denial) → List Block → Option Denial
 first_denied_by by [] = None
 first_denied_by by (b ∷ blocks) = option_or (by b) (first_denied_by by blocks)
 
-abbrev extract : State → List ℕ → Outcome
+abbrev pub extract : State → List ℕ → Outcome
 extract s text = with_read s (request_in text) λ (header, blocks).
     with_some s NoStore (store_named (nodes s) s.path header) λ store.
     let bytes = unwrap_or (bytes_of s.committed store) [] in
@@ -220,7 +221,7 @@ extract s text = with_read s (request_in text) λ (header, blocks).
     unless s (first_denied_by (block_denied_by s store (length bytes)) asked)
     (accepted s (codes "CONFIG " ++ response_text header asked bytes ++ codes "\n"))
 
--- ---- route: the questions of all blocks take their values, one after the other, or none does (own rule)
+-- ---- route: the questions of all blocks take their values, each over what those before it left, or none (own rule)
 
 -- of the questions that have exactly a block's field the first by place that is not fixed, or else the first
 abbrev pub question_of_block : State → ℕ → Block → Option Node
@@ -234,17 +235,17 @@ set_block s store b = with_some s NoField (question_of_block s store b) λ q.
     else set s q (in_field (little_bytes b.width (digits_value 16 b.digits)))
 
 -- What is denied gives back the state from before all blocks.
-abbrev or_back : State → Reply → Outcome → Outcome
+abbrev pub or_back : State → Reply → Outcome → Outcome
 or_back before Accepted next = next
 or_back before (Denied d) next = denied before d
 or_back before (Refused cause) next = refused before cause
 
-abbrev set_blocks : State → ℕ → ℕ → List Block → State → Outcome
+abbrev pub set_blocks : State → ℕ → ℕ → List Block → State → Outcome
 set_blocks before count store [] s = accepted s (count_text count)
 set_blocks before count store (b ∷ blocks) s =
     or_back before (set_block s store b).reply (set_blocks before count store blocks (set_block s store b).state)
 
-abbrev route : State → List ℕ → Outcome
+abbrev pub route : State → List ℕ → Outcome
 route s text = with_read s (response_in text) λ (header, blocks).
     with_some s NoStore (store_named (nodes s) s.path header) λ store.
     set_blocks s (length blocks) store blocks s
@@ -252,12 +253,12 @@ route s text = with_read s (response_in text) λ (header, blocks).
 -- ---- submit: what commands left is submitted; the questions whose fields differed are told by place, each of several
 -- over one field, and one of id 0 too
 
-abbrev is_changed : State → Node → Bool
+abbrev pub is_changed : State → Node → Bool
 is_changed s q =
     let held : Stores → Field → List ℕ = λ stores f. unwrap_or (field_bytes stores f) [] in
     has_field (nodes s) (λ f. not (bytes_eq (held s.committed f) (held s.working f))) q
 
-abbrev submit : State → Outcome
+abbrev pub submit : State → Outcome
 submit s =
     let changed = filter (is_changed s) (questions (nodes s)) in
     unless s (submission_denied_by (now s))

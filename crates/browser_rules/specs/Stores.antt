@@ -11,7 +11,7 @@ use Rattle.browser_rules.specs.Forest.{Node}
 
 -- ---- the stores that a form set declares, whatever guards them; one of names and values has no bytes and no name
 
-abbrev layout_of : List ℕ → Layout
+abbrev pub layout_of : List ℕ → Layout
 layout_of op =
     if is_the VARSTORE op then (row VARSTORE).layout
     else if is_the VARSTORE_EFI op then (row VARSTORE_EFI).layout else (row VARSTORE_NAME_VALUE).layout
@@ -54,7 +54,7 @@ abbrev pub bytes_of : Stores → ℕ → Option (List ℕ)
 bytes_of stores id = option_map (λ s. s.1) (find (λ s. s.0 == id) stores)
 
 -- with new bytes in place of those from an offset on, as far as the old ones reach
-abbrev overwritten : List ℕ → ℕ → List ℕ → List ℕ
+abbrev pub overwritten : List ℕ → ℕ → List ℕ → List ℕ
 overwritten old offset new = take (length old) (take offset old ++ new ++ drop (offset + length new) old)
 
 unfoldable pub with_bytes : Stores → ℕ → ℕ → List ℕ → Stores
@@ -63,10 +63,10 @@ with_bytes stores id offset new = map (λ s. if s.0 == id then (s.0, overwritten
 -- ---- the image: a mark, in the form that is written the form set's GUID, the number of stores, and of each its id,
 -- its size and its bytes; numbers have two bytes
 
-abbrev store_image : ℕ × List ℕ → List ℕ
+abbrev pub store_image : ℕ × List ℕ → List ℕ
 store_image (id, bytes) = little_bytes 2 id ++ little_bytes 2 (length bytes) ++ bytes
 
-abbrev image_behind : List ℕ → Stores → List ℕ
+abbrev pub image_behind : List ℕ → Stores → List ℕ
 image_behind head stores = head ++ little_bytes 2 (length stores) ++ flat_map store_image stores
 
 unfoldable pub image_of : List ℕ → Stores → List ℕ

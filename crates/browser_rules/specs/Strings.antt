@@ -41,11 +41,11 @@ pub data Front : Type 0 where
   block : (added : Texts) (rest : List ℕ) → Front
   cut_block no_block : Front
 
-abbrev texts_block : Option (List (List ℕ) × List ℕ) → Front
+abbrev pub texts_block : Option (List (List ℕ) × List ℕ) → Front
 texts_block cut = unwrap_or (option_map (λ c. block (map (λ text. Some text) c.0) c.1) cut) cut_block
 
 -- an extension, whose length counts from the block's first byte (own rule)
-abbrev extension : ℕ → ℕ → List ℕ → Front
+abbrev pub extension : ℕ → ℕ → List ℕ → Front
 extension header size bytes =
     if nat_lt size header || nat_lt (length bytes) size then no_block else block [] (drop size bytes)
 
@@ -53,24 +53,24 @@ extension header size bytes =
 -- duplicate has the text of an id before its own, if that has one, else none (own rule).
 unfoldable pub front_of : Texts → List ℕ → Front
 front_of texts bytes =
-    if is 0x00 1 then end_block
-    else if is 0x14 1 then texts_block (cut_texts 1 (drop 1 bytes))  -- STRING_UCS2
-    else if is 0x15 2 then texts_block (cut_texts 1 (drop 2 bytes))  -- STRING_UCS2_FONT
-    else if is 0x16 3 then texts_block (cut_texts (number_in bytes 1 2) (drop 3 bytes))  -- STRINGS_UCS2
-    else if is 0x17 4 then texts_block (cut_texts (number_in bytes 2 2) (drop 4 bytes))  -- STRINGS_UCS2_FONT
-    else if is 0x20 3 then block (text_at texts (number_in bytes 1 2) ∷ []) (drop 3 bytes)  -- DUPLICATE
-    else if is 0x21 3 then block (replicate (number_in bytes 1 2) None) (drop 3 bytes)  -- SKIP2
-    else if is 0x22 2 then block (replicate (slice_index bytes 1) None) (drop 2 bytes)  -- SKIP1
-    else if is 0x30 3 then extension 3 (slice_index bytes 2) bytes  -- EXT1
-    else if is 0x31 4 then extension 4 (number_in bytes 2 2) bytes  -- EXT2
-    else if is 0x32 6 then extension 6 (number_in bytes 2 4) bytes  -- EXT4
+    if begins 0x00 1 then end_block
+    else if begins 0x14 1 then texts_block (cut_texts 1 (drop 1 bytes))  -- STRING_UCS2
+    else if begins 0x15 2 then texts_block (cut_texts 1 (drop 2 bytes))  -- STRING_UCS2_FONT
+    else if begins 0x16 3 then texts_block (cut_texts (number_in bytes 1 2) (drop 3 bytes))  -- STRINGS_UCS2
+    else if begins 0x17 4 then texts_block (cut_texts (number_in bytes 2 2) (drop 4 bytes))  -- STRINGS_UCS2_FONT
+    else if begins 0x20 3 then block (text_at texts (number_in bytes 1 2) ∷ []) (drop 3 bytes)  -- DUPLICATE
+    else if begins 0x21 3 then block (replicate (number_in bytes 1 2) None) (drop 3 bytes)  -- SKIP2
+    else if begins 0x22 2 then block (replicate (slice_index bytes 1) None) (drop 2 bytes)  -- SKIP1
+    else if begins 0x30 3 then extension 3 (slice_index bytes 2) bytes  -- EXT1
+    else if begins 0x31 4 then extension 4 (number_in bytes 2 2) bytes  -- EXT2
+    else if begins 0x32 6 then extension 6 (number_in bytes 2 4) bytes  -- EXT4
     else no_block
   where
-    is : ℕ → ℕ → Bool
-    is number header = nat_le header (length bytes) && slice_index bytes 0 == number
+    begins : ℕ → ℕ → Bool
+    begins number header = nat_le header (length bytes) && slice_index bytes 0 == number
 
 -- the texts of n blocks at most, up to the end block; or the cause and the place for which there are none
-abbrev with_front : Texts → ℕ → Front → (Texts → List ℕ → Result Texts (Cause × ℕ)) → Result Texts (Cause × ℕ)
+abbrev pub with_front : Texts → ℕ → Front → (Texts → List ℕ → Result Texts (Cause × ℕ)) → Result Texts (Cause × ℕ)
 with_front texts at end_block next = Ok texts
 with_front texts at (block added rest) next = next (texts ++ added) rest
 with_front texts at cut_block next = Err (StringText, at)
@@ -88,7 +88,7 @@ abbrev pub info_offset : List ℕ → ℕ
 info_offset bytes = number_in bytes 8 4
 
 -- bytes up to the first NUL, of which none is above 7E
-abbrev language_in : List ℕ → Option (List ℕ)
+abbrev pub language_in : List ℕ → Option (List ℕ)
 language_in [] = None
 language_in (byte ∷ bytes) =
     if byte == 0 then Some []
@@ -106,7 +106,7 @@ pub record Spoken : Type 0 where
   pub language : List ℕ
   pub texts : Texts
 
-abbrev spoken_by : Package → Spoken
+abbrev pub spoken_by : Package → Spoken
 spoken_by p = record { language = unwrap_or (language_of p) []; texts = result_unwrap_or (texts_of p) [] }
 
 abbrev pub spoken_in : List ℕ → List Spoken
@@ -114,7 +114,7 @@ spoken_in list = map spoken_by (packages_with STRINGS list)
 
 -- The number, from 0 on, of the package for a language: the first that has it, ignoring ASCII case; else the first that
 -- has its part before the first hyphen; else the first.
-abbrev primary : List ℕ → List ℕ
+abbrev pub primary : List ℕ → List ℕ
 primary language = before_first (λ byte. byte == 45) language
 
 abbrev pub chosen : List Spoken → List ℕ → Option ℕ
@@ -124,7 +124,7 @@ chosen spoken language =
     (if length spoken == 0 then None else Some 0))
 
 -- the text of a string id: that of the chosen package, else that of the first
-abbrev text_in : List Spoken → ℕ → Option ℕ → Option (List ℕ)
+abbrev pub text_in : List Spoken → ℕ → Option ℕ → Option (List ℕ)
 text_in spoken id number = option_and_then (λ s. text_at s.texts id) (option_and_then (slice_get spoken) number)
 
 abbrev pub text_of : List Spoken → Option ℕ → ℕ → Option (List ℕ)
@@ -133,7 +133,7 @@ text_of spoken choice id = option_or (text_in spoken id choice) (text_in spoken 
 -- ---- what is shown
 
 -- the characters for a unit: a space for a control, U+FFFD for a surrogate, none for FFF0 to FFF2, else its own
-abbrev shown_unit : ℕ → List ℕ
+abbrev pub shown_unit : ℕ → List ℕ
 shown_unit unit =
     if nat_lt unit 0x20 || nat_le 0x7f unit && nat_lt unit 0xa0 then 0x20 ∷ []
     else if nat_le 0xd800 unit && nat_lt unit 0xe000 then 0xfffd ∷ []

@@ -112,7 +112,7 @@ number_and_name BadElement = (81, "BadElement")
 number_and_name BadNumber = (82, "BadNumber")
 number_and_name ValueWidth = (83, "ValueWidth")
 
-abbrev cause_text : Cause → List ℕ
+abbrev pub cause_text : Cause → List ℕ
 cause_text cause =
     codes "REFUSED " ++ decimal (number_and_name cause).0 ++ codes " " ++ codes (number_and_name cause).1
 

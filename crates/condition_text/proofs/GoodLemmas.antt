@@ -1,5 +1,5 @@
 -- The senses of checked expressions are good.
-use Rattle.std.proofs.Common.{◌≡◌, ℕ, zero, suc, ◌+◌, ◌*◌, ◌^◌, ◌<◌, ◌%◌, Bool, true, false, cond, if◌then◌else◌, Option, Some, None, List, [], ◌∷◌, ◌++◌, get_or, take, drop, refl, sym, ap, subst, ◌∙◌, arith}
+use Rattle.std.proofs.Common.{◌≡◌, ℕ, zero, suc, ◌+◌, ◌*◌, ◌^◌, ◌<◌, ◌%◌, Bool, true, false, if◌then◌else◌, Some, List, [], ◌∷◌, ◌++◌, get_or, take, drop, refl, sym, ap, subst, ◌∙◌, arith}
 use Rattle.std.specs.List.{AllByRecursion}
 use Rattle.hii_bytes.specs.Numbers.{number_in}
 use Rattle.hii_bytes.proofs.NumberLemmas.{number_in-lt}
@@ -7,7 +7,9 @@ use Rattle.ifr_opcodes.specs.declared.codes.TheConstants.{UINT8, UINT16, UINT32,
 use Rattle.ifr_opcodes.specs.Fields.{pairs, uint_width}
 use Rattle.ifr_opcodes.specs.Forest.{Mark}
 use Rattle.ifr_opcodes.specs.Opcode.{number}
-use Rattle.ifr_opcodes.specs.Operators.{operands, is_among, without_operands, with_one_operand, with_two_operands}
+use Rattle.ifr_opcodes.specs.Rows.{operands, is_among}
+use Rattle.ifr_opcodes.specs.code.Tables.{without_operands}
+use Rattle.ifr_opcodes.proofs.OperatorLemmas.{takes_none}
 use Rattle.ifr_expr.specs.Trees.{Tree, leaf, one, two, post, IsFitting}
 use Rattle.condition_text.specs.Senses.{leaf_sense, sense, alone, IsGood}
 use Rattle.condition_text.proofs.WordLemmas.{of_each}
@@ -46,36 +48,6 @@ small_pairs (b ∷ []) small = tt
 small_pairs (low ∷ high ∷ bytes) small = (omega (arith, small.0, small.1.0), small_pairs bytes small.1.1)
 
 -- ---- operators
-
-none_wanted : (code : ℕ) → operands code ≡ Some 0 → is_among code without_operands ≡ true
-unfolding operands
-none_wanted code h = go (is_among code without_operands) (is_among code with_one_operand) (is_among code with_two_operands) h
-  where
-    go : (a b c : Bool) → cond {A = Option ℕ} a (Some 0) (cond b (Some 1) (cond c (Some 2) None)) ≡ Some 0 → a ≡ true
-    go true b c h = refl
-    go false true c h = cc
-    go false false true h = cc
-    go false false false h = cc
-
-one_wanted : (code : ℕ) → operands code ≡ Some 1 → is_among code with_one_operand ≡ true
-unfolding operands
-one_wanted code h = go (is_among code without_operands) (is_among code with_one_operand) (is_among code with_two_operands) h
-  where
-    go : (a b c : Bool) → cond {A = Option ℕ} a (Some 0) (cond b (Some 1) (cond c (Some 2) None)) ≡ Some 1 → b ≡ true
-    go true b c h = cc
-    go false true c h = refl
-    go false false true h = cc
-    go false false false h = cc
-
-two_wanted : (code : ℕ) → operands code ≡ Some 2 → is_among code with_two_operands ≡ true
-unfolding operands
-two_wanted code h = go (is_among code without_operands) (is_among code with_one_operand) (is_among code with_two_operands) h
-  where
-    go : (a b c : Bool) → cond {A = Option ℕ} a (Some 0) (cond b (Some 1) (cond c (Some 2) None)) ≡ Some 2 → c ≡ true
-    go true b c h = cc
-    go false true c h = cc
-    go false false true h = refl
-    go false false false h = cc
 
 uint_good : (op : List ℕ) (code width : ℕ) → is_among code (UINT8 ∷ UINT16 ∷ UINT32 ∷ UINT64 ∷ []) ≡ true → uint_width code ≡ width → is_among (8 * width) (8 ∷ 16 ∷ 32 ∷ 64 ∷ []) ≡ true → 256 ^ width < 2 ^ 64 + 1
     → AreSmall op → number op ≡ code → IsGood (leaf_sense op)
@@ -137,7 +109,7 @@ leaf_good op takes small =
         ),
       ),
     )
-    (none_wanted (number op) takes) refl
+    (takes_none (number op) takes) refl
 
 abbrev pub HaveSmall : List Mark → Type 0
 HaveSmall ops = AllByRecursion (λ op. AreSmall op.op) ops
@@ -152,10 +124,10 @@ back_small (x ∷ xs) ys all = back_small xs ys all.1
 
 pub tree_good : (t : Tree) → IsFitting t → HaveSmall (post t) → IsGood (sense t)
 tree_good (leaf op) fit all = leaf_good op.op fit all.0
-tree_good (one op operand) fit all = (one_wanted (number op.op) fit.0, tree_good operand fit.1 (front_small (post operand) (op ∷ []) all))
+tree_good (one op operand) fit all = (fit.0, tree_good operand fit.1 (front_small (post operand) (op ∷ []) all))
 tree_good (two op left right) fit all =
     let behind = back_small (post left) (post right ++ op ∷ []) all in (
-      two_wanted (number op.op) fit.0,
+      fit.0,
       (tree_good left fit.1.0 (front_small (post left) (post right ++ op ∷ []) all), tree_good right fit.1.1 (front_small (post right) (op ∷ []) behind)),
     )
 

@@ -9,9 +9,9 @@ use Rattle.ifr_opcodes.specs.declared.operators.Constant.TheVariants as constant
 use Rattle.ifr_opcodes.specs.code.Codes.{constant_code}
 use Rattle.ifr_opcodes.specs.code.Ops.{bytes_of}
 use Rattle.ifr_opcodes.specs.code.Views.{leaf_operator}
-use Rattle.ifr_opcodes.specs.Fields.{eq_id_val_question, eq_id_val_value, eq_id_id_first, eq_id_id_second, eq_id_val_list_question, eq_id_val_list_values, question_ref_question, rule_ref_rule, uint_width, uint_value}
+use Rattle.ifr_opcodes.specs.Fields.{eq_id_val_question, eq_id_val_value, eq_id_id_first, eq_id_id_second, eq_id_val_list_question, eq_id_val_list_values, question_ref_question, rule_ref_rule, uint_width, uint_value, uints}
 use Rattle.ifr_opcodes.specs.Opcode.{number}
-use Rattle.ifr_opcodes.specs.Operators.{is_among, uints}
+use Rattle.ifr_opcodes.specs.Rows.{is_among}
 use Rattle.condition_text.specs.Senses.{Sense, eq_id_val, eq_id_id, eq_id_val_list, question_ref, rule_ref, uint, constant, leaf_sense, alone}
 use Rattle.condition_text.proofs.WordLemmas.{of_each}
 

@@ -3,7 +3,7 @@ use Rattle.std.proofs.Common.{◌≡◌, ◌==◌, ℕ, zero, suc, ◌+◌, ◌^
 use Rattle.std.specs.Prelude.{codes, decimal}
 use Rattle.std.specs.List.{AllByRecursion, flat_map}
 use Rattle.std.proofs.lemmas.Bool.{cases_Bool, cond-true, cond-false, eqb-true, true≢false}
-use Rattle.ifr_opcodes.specs.Operators.{is_among}
+use Rattle.ifr_opcodes.specs.Rows.{is_among}
 use Rattle.condition_text.specs.Senses.{Sense, eq_id_val, eq_id_id, eq_id_val_list, question_ref, rule_ref, uint, constant, unary, binary, IsGood}
 use Rattle.condition_text.specs.Texts.{text, as_operand, is_short, word_in, constant_words, unary_words, binary_words}
 use Rattle.condition_text.proofs.SplitLemmas.{AtStop, split_all, no_digit, is_digit, head, read_number, number_read, digit_head}

@@ -4,7 +4,8 @@ use Rattle.std.specs.Prelude.{◌==◌}
 use Rattle.std.proofs.lemmas.Bool.{cases_Bool, eqb-true}
 use Rattle.ifr_opcodes.specs.Forest.{Mark}
 use Rattle.ifr_opcodes.specs.Opcode.{number}
-use Rattle.ifr_opcodes.specs.Operators.{is_among, uints}
+use Rattle.ifr_opcodes.specs.Rows.{is_among}
+use Rattle.ifr_opcodes.specs.Fields.{uints}
 use Rattle.ifr_opcodes.specs.declared.codes.TheConstants.{EQ_ID_VAL, EQ_ID_ID, EQ_ID_VAL_LIST, QUESTION_REF1, RULE_REF, THIS}
 use Rattle.ifr_expr.specs.Meaning.{leaf_value, value_over}
 use Rattle.ifr_expr.specs.Trees.{Tree, leaf, one, two}

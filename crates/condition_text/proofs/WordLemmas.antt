@@ -2,7 +2,9 @@
 use Rattle.std.proofs.Common.{◌≡◌, ◌==◌, ℕ, true, false, Some, List, [], ◌∷◌, ◌++◌, refl, subst, inl, inr}
 use Rattle.std.specs.List.{AllByRecursion, list_any}
 use Rattle.std.proofs.lemmas.Bool.{cases_Bool, eqb-true, false≢true, true≢false}
-use Rattle.ifr_opcodes.specs.Operators.{is_among, with_one_operand, with_two_operands}
+use Rattle.ifr_opcodes.specs.Rows.{is_among, operands}
+use Rattle.ifr_opcodes.specs.code.Tables.{with_one_operand, with_two_operands}
+use Rattle.ifr_opcodes.proofs.OperatorLemmas.{takes_one, takes_two}
 use Rattle.condition_text.specs.Senses.{alone}
 use Rattle.condition_text.specs.Texts.{word_in, constant_words, unary_words, binary_words}
 use Rattle.condition_text.proofs.SplitLemmas.{split}
@@ -29,8 +31,8 @@ pub record IsBinaryWord (code : ℕ) : Type 0 where
   pub told : code_in binary_words (word_in binary_words code) ≡ Some code
   pub goes_on : list_any ends_word (word_in binary_words code) ≡ false
 
-pub binary_word : (code : ℕ) → is_among code with_two_operands ≡ true → IsBinaryWord code
-binary_word code among = of_each IsBinaryWord with_two_operands code (record { told = refl; goes_on = refl }, (record { told = refl; goes_on = refl }, (record { told = refl; goes_on = refl }, (record { told = refl; goes_on = refl }, (record { told = refl; goes_on = refl }, (record { told = refl; goes_on = refl }, (record { told = refl; goes_on = refl }, (record { told = refl; goes_on = refl }, (record { told = refl; goes_on = refl }, (record { told = refl; goes_on = refl }, (record { told = refl; goes_on = refl }, (record { told = refl; goes_on = refl }, (record { told = refl; goes_on = refl }, (record { told = refl; goes_on = refl }, (record { told = refl; goes_on = refl }, (record { told = refl; goes_on = refl }, (record { told = refl; goes_on = refl }, tt))))))))))))))))) among
+pub binary_word : (code : ℕ) → operands code ≡ Some 2 → IsBinaryWord code
+binary_word code takes = of_each IsBinaryWord with_two_operands code (record { told = refl; goes_on = refl }, (record { told = refl; goes_on = refl }, (record { told = refl; goes_on = refl }, (record { told = refl; goes_on = refl }, (record { told = refl; goes_on = refl }, (record { told = refl; goes_on = refl }, (record { told = refl; goes_on = refl }, (record { told = refl; goes_on = refl }, (record { told = refl; goes_on = refl }, (record { told = refl; goes_on = refl }, (record { told = refl; goes_on = refl }, (record { told = refl; goes_on = refl }, (record { told = refl; goes_on = refl }, (record { told = refl; goes_on = refl }, (record { told = refl; goes_on = refl }, (record { told = refl; goes_on = refl }, (record { told = refl; goes_on = refl }, tt))))))))))))))))) (takes_two code takes)
 
 -- A word that stands alone is told by its bytes, none of which ends it, and its first byte shows that it is a word.
 pub record IsConstantWord (code : ℕ) : Type 0 where
@@ -43,8 +45,8 @@ pub constant_word : (code : ℕ) → is_among code alone ≡ true → IsConstant
 constant_word code among = of_each IsConstantWord alone code (record { told = refl; goes_on = refl; operand = λ inner rest. refl; expression = λ inner rest. refl }, (record { told = refl; goes_on = refl; operand = λ inner rest. refl; expression = λ inner rest. refl }, (record { told = refl; goes_on = refl; operand = λ inner rest. refl; expression = λ inner rest. refl }, (record { told = refl; goes_on = refl; operand = λ inner rest. refl; expression = λ inner rest. refl }, (record { told = refl; goes_on = refl; operand = λ inner rest. refl; expression = λ inner rest. refl }, (record { told = refl; goes_on = refl; operand = λ inner rest. refl; expression = λ inner rest. refl }, (record { told = refl; goes_on = refl; operand = λ inner rest. refl; expression = λ inner rest. refl }, tt))))))) among
 
 -- the word of an operator with one operand is told
-pub unary_word : (code : ℕ) → is_among code with_one_operand ≡ true → (inner : List ℕ → Read) (rest : List ℕ)
+pub unary_word : (code : ℕ) → operands code ≡ Some 1 → (inner : List ℕ → Read) (rest : List ℕ)
     → read_by inner (word_in unary_words code ++ rest) ≡ said code (read_operand inner rest)
-unary_word code among =
+unary_word code takes =
     of_each (λ code. (inner : List ℕ → Read) (rest : List ℕ) → read_by inner (word_in unary_words code ++ rest) ≡ said code (read_operand inner rest))
-    with_one_operand code (λ inner rest. refl, (λ inner rest. refl, tt)) among
+    with_one_operand code (λ inner rest. refl, (λ inner rest. refl, tt)) (takes_one code takes)

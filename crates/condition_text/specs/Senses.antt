@@ -1,10 +1,10 @@
 -- What expressions say (UEFI 2.8, 33.2.5.7 Expressions).
-use Rattle.std.specs.Prelude.{◌≡◌, ℕ, ◌*◌, ◌^◌, ◌<◌, ◌==◌, true, if◌then◌else◌, List, [], ◌∷◌}
+use Rattle.std.specs.Prelude.{◌≡◌, ℕ, ◌*◌, ◌^◌, ◌<◌, ◌==◌, true, if◌then◌else◌, Some, List, [], ◌∷◌}
 use Rattle.std.specs.List.{AllByRecursion}
 use Rattle.ifr_opcodes.specs.declared.codes.TheConstants.{EQ_ID_VAL, EQ_ID_ID, EQ_ID_VAL_LIST, QUESTION_REF1, RULE_REF, THIS}
-use Rattle.ifr_opcodes.specs.Fields.{eq_id_val_question, eq_id_val_value, eq_id_id_first, eq_id_id_second, eq_id_val_list_question, eq_id_val_list_values, question_ref_question, rule_ref_rule, uint_width, uint_value}
+use Rattle.ifr_opcodes.specs.Fields.{eq_id_val_question, eq_id_val_value, eq_id_id_first, eq_id_id_second, eq_id_val_list_question, eq_id_val_list_values, question_ref_question, rule_ref_rule, uint_width, uint_value, constants, uints}
 use Rattle.ifr_opcodes.specs.Opcode.{number}
-use Rattle.ifr_opcodes.specs.Operators.{constants, uints, with_one_operand, with_two_operands, is_among}
+use Rattle.ifr_opcodes.specs.Rows.{is_among, operands}
 use Rattle.ifr_expr.specs.Trees.{Tree, leaf, one, two}
 
 -- What an expression says, without its place and without bytes that its operators ignore. Operators that have no fields are
@@ -52,6 +52,6 @@ IsGood (question_ref question) = question < 2 ^ 16
 IsGood (rule_ref rule) = rule < 2 ^ 8
 IsGood (uint bits value) = (is_among bits (8 ∷ 16 ∷ 32 ∷ 64 ∷ []) ≡ true) × (value < 2 ^ 64)
 IsGood (constant code) = is_among code alone ≡ true
-IsGood (unary code operand) = (is_among code with_one_operand ≡ true) × IsGood operand
+IsGood (unary code operand) = (operands code ≡ Some 1) × IsGood operand
 IsGood (binary code left right) =
-    (is_among code with_two_operands ≡ true) × (IsGood left × IsGood right)
+    (operands code ≡ Some 2) × (IsGood left × IsGood right)

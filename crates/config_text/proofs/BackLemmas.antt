@@ -14,10 +14,14 @@ use Rattle.byteorder.specs.Numbers.{little_from-cons}
 use Rattle.hii_bytes.specs.Numbers.{number_in}
 use Rattle.hii_bytes.specs.Digits.{IsNumber}
 use Rattle.hii_bytes.specs.Texts.{hex_of}
-use Rattle.config_text.specs.Numbers.{AreGroups, fits_width}
-use Rattle.config_text.specs.Grammar.{Named, Area, IsHeader, IsBlock, IsConfiguration, all_parts}
+use Rattle.config_text.specs.laws.Numbers.{AreGroups}
+use Rattle.config_text.specs.code.PartReading.{fits_width}
+use Rattle.browser_rules.specs.Configuration.{Header, Block, blocks_asked}
+use Rattle.config_text.specs.laws.Grammar.{IsHeader, IsBlock, IsConfiguration, all_parts}
 use Rattle.hex.specs.Hex.{IsBytes}
-use Rattle.config_text.specs.Written.{four_digits, header_text, value_digits, bytes_of_area, block_text, whole_store, blocks_asked, response_text, AreInside}
+use Rattle.config_text.specs.code.Written.{four_digits, header_text, value_digits, bytes_of_area, block_text, whole_store}
+use Rattle.config_text.specs.Written.{response_to, AreInside}
+use Rattle.config_text.proofs.WriteLemmas.{asked_whole}
 use Rattle.config_text.specs.laws.Texts.{area_with_value, areas_with_values}
 use Rattle.config_text.specs.declared.kind.TextKind.TheVariants.{Ask, Tell}
 
@@ -102,11 +106,11 @@ words_written (n ∷ numbers) h =
     (four_digits n, flat_map four_digits numbers, refl, record { digits = word_digits n h.0; sized = refl; value = word_value n h.0 }, words_written numbers h.1)
 
 -- the parts of a written header, before others
-abbrev written_header : Named → List (List ℕ) → List (List ℕ)
+abbrev written_header : Header → List (List ℕ) → List (List ℕ)
 written_header named rest =
     (codes "GUID=" ++ flat_map hex_of named.guid) ∷ (codes "NAME=" ++ flat_map four_digits named.name) ∷ (codes "PATH=" ++ flat_map hex_of named.path) ∷ rest
 
-header_again : (parts : List (List ℕ)) (named : Named) → IsHeader parts named → IsHeader (written_header named []) named
+header_again : (parts : List (List ℕ)) (named : Header) → IsHeader parts named → IsHeader (written_header named []) named
 header_again parts named h = record {
   guid_digits = flat_map hex_of named.guid;
   name_digits = flat_map four_digits named.name;
@@ -149,20 +153,20 @@ value_number bytes h = number_of bytes (below_each 256 bytes h)
 
 -- ---- elements
 
-record IsSound (size : ℕ) (area : Area) : Type 0 where
+record IsSound (size : ℕ) (area : Block) : Type 0 where
   offset : area.offset < 65536
   width : area.width < 65536
   some : 1 ≤ area.width
   inside : area.offset + area.width ≤ size
 
-abbrev AreSound : ℕ → List Area → Type 0
+abbrev AreSound : ℕ → List Block → Type 0
 AreSound size [] = Unit {0}
 AreSound size (area ∷ areas) = IsSound size area × AreSound size areas
 
-abbrev written_element : List ℕ → Area → List (List ℕ)
+abbrev written_element : List ℕ → Block → List (List ℕ)
 written_element store area = (codes "OFFSET=" ++ four_digits area.offset) ∷ (codes "WIDTH=" ++ four_digits area.width) ∷ (codes "VALUE=" ++ value_digits (bytes_of_area store area)) ∷ []
 
-element_again : (store : List ℕ) (area : Area) → Below 256 store → IsSound (length store) area → IsBlock Tell (written_element store area) (area_with_value store area)
+element_again : (store : List ℕ) (area : Block) → Below 256 store → IsSound (length store) area → IsBlock Tell (written_element store area) (area_with_value store area)
 element_again store area bytes h =
     let start = area.offset in
     let count = area.offset + area.width - area.offset in
@@ -175,12 +179,12 @@ element_again store area bytes h =
     let fit : fits_width area.width digits ≡ true = ap (λ k. list_all (λ digit. digit == 48) (take k digits)) none in
     (four_digits area.offset, four_digits area.width, refl, word_number area.offset h.offset, (word_number area.width h.width, h.some), ((some, all), fit))
 
-elements_again : (store : List ℕ) (areas : List Area) → Below 256 store → AreSound (length store) areas
+elements_again : (store : List ℕ) (areas : List Block) → Below 256 store → AreSound (length store) areas
     → AllZip (IsBlock Tell) (map (written_element store) areas) (map (area_with_value store) areas)
 elements_again store [] bytes h = tt
 elements_again store (area ∷ areas) bytes h = (element_again store area bytes h.0, elements_again store areas bytes h.1)
 
-sound_own : (size : ℕ) (elements : List (List (List ℕ))) (areas : List Area) → AllZip (IsBlock Ask) elements areas → AreInside areas size → AreSound size areas
+sound_own : (size : ℕ) (elements : List (List (List ℕ))) (areas : List Block) → AllZip (IsBlock Ask) elements areas → AreInside areas size → AreSound size areas
 sound_own size elements [] h k = tt
 sound_own size [] (area ∷ areas) h k = absurd h
 sound_own size (element ∷ elements) (area ∷ areas) ((offset, width, whole, o, w, none), others) k =
@@ -190,8 +194,8 @@ sound_whole : (size : ℕ) → size < 65536 → AreSound size (whole_store size)
 sound_whole zero h = tt
 sound_whole (suc n) h = (record { offset = omega arith; width = h; some = omega arith; inside = omega arith }, tt)
 
-sound_asked : (size : ℕ) (areas : List Area) → size < 65536 → AreSound size areas → AreSound size (blocks_asked areas size)
-sound_asked size [] h k = sound_whole size h
+sound_asked : (size : ℕ) (areas : List Block) → size < 65536 → AreSound size areas → AreSound size (blocks_asked areas size)
+sound_asked size [] h k = subst (AreSound size) (asked_whole size) (sound_whole size h)
 sound_asked size (area ∷ areas) h k = k
 
 -- ---- the text
@@ -204,12 +208,12 @@ join_each : (part : List ℕ) (parts : List (List ℕ)) → join_with_byte 38 (p
 join_each part [] = sym (append-nil part)
 join_each part (next ∷ parts) = ap (λ l. part ++ 38 ∷ l) (join_each next parts)
 
-element_text : (store : List ℕ) (area : Area) → with_each (written_element store area) ≡ block_text store area
+element_text : (store : List ℕ) (area : Block) → with_each (written_element store area) ≡ block_text store area
 element_text store area =
     let front : List ℕ = codes "&OFFSET=" ++ four_digits area.offset ++ codes "&WIDTH=" ++ four_digits area.width ++ codes "&VALUE=" in
     ap (λ l. front ++ l) (append-nil (value_digits (bytes_of_area store area)))
 
-elements_text : (store : List ℕ) (areas : List Area) → with_each (all_parts (map (written_element store) areas)) ≡ flat_map (block_text store) areas
+elements_text : (store : List ℕ) (areas : List Block) → with_each (all_parts (map (written_element store) areas)) ≡ flat_map (block_text store) areas
 elements_text store [] = refl
 elements_text store (area ∷ areas) =
     flat_map-append (λ part. 38 ∷ part) (written_element store area) (all_parts (map (written_element store) areas))
@@ -220,13 +224,13 @@ five : (a b c d e f : List ℕ) → ((((a ++ b) ++ c) ++ d) ++ e) ++ f ≡ a ++ 
 five a b c d e f =
     append_assoc (((a ++ b) ++ c) ++ d) e f ∙ append_assoc ((a ++ b) ++ c) d (e ++ f) ∙ append_assoc (a ++ b) c (d ++ (e ++ f)) ∙ append_assoc a b (c ++ (d ++ (e ++ f)))
 
-header_again_text : (named : Named) (rest : List (List ℕ)) → header_text named ++ with_each rest ≡ join_with_byte 38 (written_header named rest)
+header_again_text : (named : Header) (rest : List (List ℕ)) → header_text named ++ with_each rest ≡ join_with_byte 38 (written_header named rest)
 header_again_text named rest =
     five (codes "GUID=" ++ flat_map hex_of named.guid) (codes "&NAME=") (flat_map four_digits named.name) (codes "&PATH=") (flat_map hex_of named.path) (with_each rest)
     ∙ sym (join_each (codes "GUID=" ++ flat_map hex_of named.guid) ((codes "NAME=" ++ flat_map four_digits named.name) ∷ (codes "PATH=" ++ flat_map hex_of named.path) ∷ rest))
 
-pub read_back : (text : List ℕ) (named : Named) (areas : List Area) (store : List ℕ) → IsConfiguration Ask text named areas → IsBytes store → length store < 2 ^ 16 → AreInside areas (length store)
-    → IsConfiguration Tell (response_text (named, areas) store) named (areas_with_values areas store)
+pub read_back : (text : List ℕ) (named : Header) (areas : List Block) (store : List ℕ) → IsConfiguration Ask text named areas → IsBytes store → length store < 2 ^ 16 → AreInside areas (length store)
+    → IsConfiguration Tell (response_to (named, areas) store) named (areas_with_values areas store)
 read_back text named areas store h bytes few inside =
     let all = blocks_asked areas (length store) in
     let small : length store < 65536 = few in

@@ -3,12 +3,10 @@ use Rattle.std.proofs.Common.{ℕ, ◌+◌, ◌≤◌, ◌&&◌, Bool, true, fal
 use Rattle.std.proofs.lemmas.List.Splits.{length-slice_split}
 use Rattle.std.proofs.lemmas.List.Sums.{count_by-le-length}
 use Rattle.hii_bytes.specs.declared.cause.Cause.{Cause}
-use Rattle.config_text.specs.Faults.{Wanted, wants_offset, wants_width, wants_value, key_of}
-use Rattle.config_text.specs.Grammar.{Area}
-use Rattle.config_text.specs.Numbers.{fits_width}
-use Rattle.config_text.specs.PartReading.{body_in, offset_in, width_in, are_hex}
-use Rattle.config_text.specs.Parts.{is_between}
-use Rattle.config_text.specs.Reading.{PartStep, number_step, width_step, step_of, part_step, areas_before, then_areas, at_end, areas_in}
+use Rattle.config_text.specs.code.Reading.{Wanted, wants_offset, wants_width, wants_value, key_of, PartStep, number_step, width_step, step_of, part_step, areas_before, then_areas, at_end, areas_in}
+use Rattle.browser_rules.specs.Configuration.{Block}
+use Rattle.config_text.specs.code.PartReading.{fits_width, body_in, offset_in, width_in, are_hex}
+use Rattle.config_text.specs.code.Parts.{is_between}
 use Rattle.config_text.specs.code.Elements.{parts_behind, areas_or_none, areas_of}
 use Rattle.config_text.specs.declared.kind.TextKind.{TextKind}
 use Rattle.config_text.specs.declared.kind.TextKind.TheVariants.{Ask, Tell}
@@ -43,11 +41,11 @@ few_part kind wanted None = tt
 few_part kind wanted (Some body) = few_body kind wanted body
 
 -- blocks before others
-few_before : (areas : List Area) (others : Result (List Area) Cause) (n : ℕ) → length areas ≤ 1 → length (areas_or_none others) ≤ n → length (areas_or_none (areas_before areas others)) ≤ n + 1
+few_before : (areas : List Block) (others : Result (List Block) Cause) (n : ℕ) → length areas ≤ 1 → length (areas_or_none others) ≤ n → length (areas_or_none (areas_before areas others)) ≤ n + 1
 few_before areas (Err cause) n one few = omega arith
 few_before areas (Ok others) n one few = omega (arith, one, few, length-append areas others)
 
-few_then : (r : Result PartStep Cause) (follow : Wanted → Result (List Area) Cause) (n : ℕ) → FewOf r → ((wanted : Wanted) → length (areas_or_none (follow wanted)) ≤ n) → length (areas_or_none (then_areas r follow)) ≤ n + 1
+few_then : (r : Result PartStep Cause) (follow : Wanted → Result (List Block) Cause) (n : ℕ) → FewOf r → ((wanted : Wanted) → length (areas_or_none (follow wanted)) ≤ n) → length (areas_or_none (then_areas r follow)) ≤ n + 1
 few_then (Err cause) follow n one few = omega arith
 few_then (Ok step) follow n one few = few_before step.areas (follow step.wanted) n one (few step.wanted)
 

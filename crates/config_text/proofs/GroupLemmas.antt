@@ -4,10 +4,10 @@ use Rattle.std.specs.Str.Parse.{AllDigits, digits_value}
 use Rattle.std.specs.List.{flat_map}
 use Rattle.std.proofs.lemmas.Bool.{and_parts, and_from, eqb-true}
 use Rattle.hii_bytes.specs.Texts.{hex_of}
-use Rattle.config_text.specs.Written.{four_digits}
+use Rattle.config_text.specs.code.Written.{four_digits}
 use Rattle.std.proofs.lemmas.List.{drop-drop}
 use Rattle.std.proofs.lemmas.Grind.{same_number_lists}
-use Rattle.config_text.specs.PartReading.{are_hex, is_grouped, groups_from, group_numbers}
+use Rattle.config_text.specs.code.PartReading.{are_hex, is_grouped, groups_from, group_numbers}
 use Rattle.config_text.proofs.ReadLemmas.{hex-to, hex_parts, length_groups, total, total_2, total_4}
 
 -- how long a group is

@@ -1,9 +1,10 @@
 -- What is read of a header is what the grammar says of it.
 use Rattle.std.proofs.Common.{◌≡◌, ℕ, true, List, [], ◌∷◌, ◌++◌, length, Option, Some, None, codes, option_map, refl, sym, ap, subst, ◌∙◌, arith, eq-eqb, inl, inr}
 use Rattle.std.proofs.lemmas.Bool.{and_parts, and_from, cases_Bool, cond-true, cond-false, eqb-true}
-use Rattle.config_text.specs.PartReading.{body_in, body_first, group_numbers}
-use Rattle.config_text.specs.Grammar.{Named, IsHeader}
-use Rattle.config_text.specs.Reading.{Head, are_header_digits, named_by, path_behind, name_behind, guid_behind, head_in}
+use Rattle.config_text.specs.code.PartReading.{body_in, body_first, group_numbers}
+use Rattle.browser_rules.specs.Configuration.{Header}
+use Rattle.config_text.specs.laws.Grammar.{IsHeader}
+use Rattle.config_text.specs.code.Reading.{Head, are_header_digits, named_by, path_behind, name_behind, guid_behind, head_in}
 use Rattle.config_text.proofs.ReadLemmas.{some_is, body_in-of, body_in-is, pairs-is, pairs-from, quads-is, quads-from, length_pairs}
 
 abbrev First : Type 0
@@ -92,7 +93,7 @@ header-is guid name path good =
     }
 
 -- what a header of the grammar is read as
-pub record IsRead (header : List (List ℕ)) (named : Named) : Type 0 where
+pub record IsRead (header : List (List ℕ)) (named : Header) : Type 0 where
   pub guid : List ℕ
   pub name : List ℕ
   pub path : List ℕ
@@ -100,7 +101,7 @@ pub record IsRead (header : List (List ℕ)) (named : Named) : Type 0 where
   pub good : are_header_digits guid name path ≡ true
   pub same : named_by guid name path ≡ named
 
-pub header-from : (header : List (List ℕ)) (named : Named) → IsHeader header named → IsRead header named
+pub header-from : (header : List (List ℕ)) (named : Header) → IsHeader header named → IsRead header named
 header-from header named h =
     let g = pairs-from h.guid_digits named.guid h.guid in
     let n = quads-from h.name_digits named.name h.name in

@@ -10,7 +10,7 @@ use Rattle.hex.specs.Hex.{decode_pairs, decode_sized, digit_or_error, encode_low
 use Rattle.hex.specs.declared.error.FromHexError.{FromHexError}
 use Rattle.hex.proofs.Pairs.{cons_byte, decode_pairs-ok_pair}
 use Rattle.hii_bytes.specs.Texts.{hex_of}
-use Rattle.config_text.specs.Written.{four_digits}
+use Rattle.config_text.specs.code.Written.{four_digits}
 
 -- ---- read
 

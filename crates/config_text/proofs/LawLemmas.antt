@@ -9,12 +9,13 @@ use Rattle.std.proofs.lemmas.List.Folds.{list_all-append}
 use Rattle.std.proofs.lemmas.List.Splits.{slice_split_none, slice_split_at}
 use Rattle.hii_bytes.specs.declared.cause.Cause.{Cause}
 use Rattle.hii_bytes.specs.declared.cause.Cause.TheVariants.{BadNumber, ValueWidth}
-use Rattle.config_text.specs.Parts.{is_between, text_parts}
-use Rattle.config_text.specs.Numbers.{IsOffset, IsWidth, AreValueDigits, fits_width}
-use Rattle.config_text.specs.PartReading.{are_hex, offset_in, width_in}
-use Rattle.config_text.specs.Grammar.{Named, Area, IsHeader, IsBlock, IsConfiguration, all_parts}
-use Rattle.config_text.specs.Faults.{Wanted, wants_offset, wants_width, wants_value, key_of, IsBegun, IsBadBody, IsBadFirst, IsConfigurationFault}
-use Rattle.config_text.specs.Reading.{PartStep, Head, number_step, width_step, step_of, part_step, areas_before, then_areas, areas_in, named_by, named_areas, head_areas, head_in, configuration_in, are_header_digits}
+use Rattle.config_text.specs.code.Parts.{is_between, text_parts}
+use Rattle.config_text.specs.laws.Numbers.{IsOffset, IsWidth, AreValueDigits}
+use Rattle.config_text.specs.code.PartReading.{fits_width, are_hex, offset_in, width_in}
+use Rattle.browser_rules.specs.Configuration.{Header, Block}
+use Rattle.config_text.specs.laws.Grammar.{IsHeader, IsBlock, IsConfiguration, all_parts}
+use Rattle.config_text.specs.code.Reading.{Wanted, wants_offset, wants_width, wants_value, key_of, PartStep, Head, number_step, width_step, step_of, part_step, areas_before, then_areas, areas_in, named_by, named_areas, head_areas, head_in, reading_of, are_header_digits}
+use Rattle.config_text.specs.laws.Faults.{IsBegun, IsBadBody, IsBadFirst, IsConfigurationFault}
 use Rattle.config_text.specs.declared.kind.TextKind.{TextKind}
 use Rattle.config_text.specs.declared.kind.TextKind.TheVariants.{Ask, Tell}
 use Rattle.config_text.proofs.StepLemmas.{areas_before_nil, areas_before_more}
@@ -54,9 +55,9 @@ value_read n m body parts h =
 
 -- ---- elements
 
-element_read : (kind : TextKind) (element parts : List (List ℕ)) (area : Area) → IsBlock kind element area → areas_in kind wants_offset (element ++ parts) ≡ areas_before (area ∷ []) (areas_in kind wants_offset parts)
+element_read : (kind : TextKind) (element parts : List (List ℕ)) (area : Block) → IsBlock kind element area → areas_in kind wants_offset (element ++ parts) ≡ areas_before (area ∷ []) (areas_in kind wants_offset parts)
 element_read Ask element parts area (offset, width, whole, o, w, none) =
-    let plain : List ℕ → Area = λ digits. record { offset = area.offset; width = area.width; digits = digits } in
+    let plain : List ℕ → Block = λ digits. record { offset = area.offset; width = area.width; digits = digits } in
     ap (λ ps. areas_in Ask wants_offset (ps ++ parts)) whole
     ∙ offset_read Ask offset area.offset ((codes "WIDTH=" ++ width) ∷ parts) o
     ∙ width_read Ask area.offset width area.width parts w
@@ -68,7 +69,7 @@ element_read Tell element parts area (offset, width, whole, o, w, v) =
     ∙ areas_before_nil (areas_in Tell (wants_value area.offset area.width) ((codes "VALUE=" ++ area.digits) ∷ parts))
     ∙ value_read area.offset area.width area.digits parts v
 
-elements_read : (kind : TextKind) (elements : List (List (List ℕ))) (rest : List (List ℕ)) (areas : List Area) → AllZip (IsBlock kind) elements areas
+elements_read : (kind : TextKind) (elements : List (List (List ℕ))) (rest : List (List ℕ)) (areas : List Block) → AllZip (IsBlock kind) elements areas
     → areas_in kind wants_offset (all_parts elements ++ rest) ≡ areas_before areas (areas_in kind wants_offset rest)
 elements_read kind [] rest [] h = sym (areas_before_nil (areas_in kind wants_offset rest))
 elements_read kind [] rest (area ∷ areas) h = absurd h
@@ -117,15 +118,15 @@ first_bad kind wanted (part ∷ parts) cause (inr (body, is, bad)) =
 -- ---- the header before
 
 -- what is named, with blocks
-abbrev named_result : Named → Result (List Area) Cause → Result (Named × List Area) Cause
+abbrev named_result : Header → Result (List Block) Cause → Result (Header × List Block) Cause
 named_result named (Err cause) = Err cause
 named_result named (Ok areas) = Ok (named, areas)
 
-named_same : (head : Head) (named : Named) (r : Result (List Area) Cause) → named_by head.guid head.name head.path ≡ named → named_areas head r ≡ named_result named r
+named_same : (head : Head) (named : Header) (r : Result (List Block) Cause) → named_by head.guid head.name head.path ≡ named → named_areas head r ≡ named_result named r
 named_same head named (Ok areas) e = ap (λ n. Ok (n, areas)) e
 named_same head named (Err cause) e = refl
 
-header_read : (kind : TextKind) (header rest : List (List ℕ)) (named : Named) (parts : List (List ℕ)) (r : Result (List Area) Cause) → IsHeader header named → parts ≡ header ++ rest
+header_read : (kind : TextKind) (header rest : List (List ℕ)) (named : Header) (parts : List (List ℕ)) (r : Result (List Block) Cause) → IsHeader header named → parts ≡ header ++ rest
     → areas_in kind wants_offset rest ≡ r → head_areas kind (head_in parts) ≡ named_result named r
 header_read kind header rest named parts r h whole e =
     let is = header-from header named h in
@@ -133,7 +134,7 @@ header_read kind header rest named parts r h whole e =
     let head : Head = record { guid = is.guid; name = is.name; path = is.path; rest = rest } in
     ap (head_areas kind) (ap head_in same ∙ head-of is.guid is.name is.path rest is.good) ∙ ap (named_areas head) e ∙ named_same head named r is.same
 
-pub fault_read : (kind : TextKind) (text : List ℕ) (cause : Cause) → IsConfigurationFault kind text cause → configuration_in kind text ≡ Err cause
+pub fault_read : (kind : TextKind) (text : List ℕ) (cause : Cause) → IsConfigurationFault kind text cause → reading_of kind text ≡ Err cause
 fault_read kind text cause (inl (is, none)) = go (head_in (text_parts text)) refl
   where
     go : (o : Option Head) → head_in (text_parts text) ≡ o → head_areas kind o ≡ Err cause
@@ -190,20 +191,20 @@ clean_header guid name path good =
     let d = and_parts _ _ r.1 in
     and_from _ _ (clean_digits guid (hex-to guid g.0)) (and_from _ _ (clean_digits name (hex-to name n.0)) (and_from _ _ (clean_digits path (hex-to path d.0)) refl))
 
-clean_element : (kind : TextKind) (element : List (List ℕ)) (area : Area) → IsBlock kind element area → are_clean element ≡ true
+clean_element : (kind : TextKind) (element : List (List ℕ)) (area : Block) → IsBlock kind element area → are_clean element ≡ true
 clean_element Ask element area (offset, width, whole, o, w, none) =
     ap are_clean whole ∙ and_from _ _ (clean_digits offset o.digits.1) (and_from _ _ (clean_digits width w.0.digits.1) refl)
 clean_element Tell element area (offset, width, whole, o, w, v) =
     ap are_clean whole ∙ and_from _ _ (clean_digits offset o.digits.1) (and_from _ _ (clean_digits width w.0.digits.1) (and_from _ _ (clean_digits area.digits v.0.1) refl))
 
-clean_elements : (kind : TextKind) (elements : List (List (List ℕ))) (areas : List Area) → AllZip (IsBlock kind) elements areas → are_clean (all_parts elements) ≡ true
+clean_elements : (kind : TextKind) (elements : List (List (List ℕ))) (areas : List Block) → AllZip (IsBlock kind) elements areas → are_clean (all_parts elements) ≡ true
 clean_elements kind [] [] h = refl
 clean_elements kind [] (area ∷ areas) h = absurd h
 clean_elements kind (element ∷ elements) [] h = absurd h
 clean_elements kind (element ∷ elements) (area ∷ areas) h =
     list_all-append is_clean element (all_parts elements) ∙ and_from _ _ (clean_element kind element area h.0) (clean_elements kind elements areas h.1)
 
-pub text_read : (kind : TextKind) (text : List ℕ) (named : Named) (areas : List Area) → IsConfiguration kind text named areas → configuration_in kind text ≡ Ok (named, areas)
+pub text_read : (kind : TextKind) (text : List ℕ) (named : Header) (areas : List Block) → IsConfiguration kind text named areas → reading_of kind text ≡ Ok (named, areas)
 text_read kind text named areas h =
     let is = header-from h.header named h.is_header in
     let elements = all_parts h.blocks in
@@ -221,7 +222,7 @@ text_read kind text named areas h =
 -- ---- one reading
 
 abbrev View : Type 0
-View = Named × List Area
+View = Header × List Block
 
 -- what a result gives, or another view
 abbrev view_or : View → Result View Cause → View
@@ -232,7 +233,7 @@ abbrev cause_or : Cause → Result View Cause → Cause
 cause_or other (Ok view) = other
 cause_or other (Err cause) = cause
 
-pub one_text : (kind : TextKind) (text : List ℕ) (named other : Named) (areas others : List Area) → IsConfiguration kind text named areas → IsConfiguration kind text other others → (named ≡ other) × (areas ≡ others)
+pub one_text : (kind : TextKind) (text : List ℕ) (named other : Header) (areas others : List Block) → IsConfiguration kind text named areas → IsConfiguration kind text other others → (named ≡ other) × (areas ≡ others)
 one_text kind text named other areas others h k =
     let e : ◌≡◌ {A = Result View Cause} (Ok (named, areas)) (Ok (other, others)) = sym (text_read kind text named areas h) ∙ text_read kind text other others k in
     (ap (λ r. (view_or (named, areas) r).0) e, ap (λ r. (view_or (named, areas) r).1) e)
@@ -242,6 +243,6 @@ one_fault kind text cause other h k =
     let e : ◌≡◌ {A = Result View Cause} (Err cause) (Err other) = sym (fault_read kind text cause h) ∙ fault_read kind text other k in
     ap (λ r. cause_or cause r) e
 
-pub no_fault : (kind : TextKind) (text : List ℕ) (cause : Cause) (named : Named) (areas : List Area) → IsConfigurationFault kind text cause → IsConfiguration kind text named areas → ⊥
+pub no_fault : (kind : TextKind) (text : List ℕ) (cause : Cause) (named : Header) (areas : List Block) → IsConfigurationFault kind text cause → IsConfiguration kind text named areas → ⊥
 no_fault kind text cause named areas h k =
     let bad : ◌≡◌ {A = Result View Cause} (Err cause) (Ok (named, areas)) = sym (fault_read kind text cause h) ∙ text_read kind text named areas k in (cc)

@@ -10,3 +10,4 @@ pub mod ValueLemmas
 pub mod LawLemmas
 pub mod BackLemmas
 pub mod FewLemmas
+pub mod RuleLemmas

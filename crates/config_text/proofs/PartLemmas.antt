@@ -5,7 +5,7 @@ use Rattle.std.specs.List.{position, position_or_len, onto_first}
 use Rattle.std.proofs.lemmas.Bool.{cases_Bool, cond-true, cond-false, cases_lt, lt-ltb, le-ltb}
 use Rattle.std.proofs.lemmas.List.Sums.{fails_before_first}
 use Rattle.std.proofs.lemmas.List.Splits.{slice_split_none, slice_split_first}
-use Rattle.config_text.specs.Parts.{is_between, text_parts}
+use Rattle.config_text.specs.code.Parts.{is_between, text_parts}
 use Rattle.config_text.specs.code.Elements.{parts_behind}
 
 -- ---- the first part

@@ -11,8 +11,8 @@ use Rattle.std.proofs.Math.Seq.{take-append_seam, drop-append_seam}
 use Rattle.std.proofs.lemmas.Slice.Eq.{bytes_eq-Decides}
 use Rattle.hii_bytes.specs.Digits.{number_below}
 use Rattle.hii_bytes.proofs.DigitLemmas.{number_below-from, number_below-is}
-use Rattle.config_text.specs.PartReading.{body_in, offset_in, width_in, positive, are_hex, is_grouped, groups_from, group_numbers}
-use Rattle.config_text.specs.Numbers.{IsOffset, IsWidth, AreGroups}
+use Rattle.config_text.specs.code.PartReading.{body_in, offset_in, width_in, positive, are_hex, is_grouped, groups_from, group_numbers}
+use Rattle.config_text.specs.laws.Numbers.{IsOffset, IsWidth, AreGroups}
 
 -- two values of options that are the same
 pub some_is : {A : Type 0} (a b : A) → ◌≡◌ {A = Option A} (Some a) (Some b) → a ≡ b

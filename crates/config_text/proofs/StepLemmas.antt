@@ -2,10 +2,9 @@
 use Rattle.std.proofs.Common.{◌≡◌, ℕ, ◌<◌, List, [], ◌∷◌, ◌++◌, length, Option, Some, None, Result, Ok, Err, refl, sym, ap, ◌∙◌, append_assoc, arith, option_map}
 use Rattle.hii_bytes.specs.declared.cause.Cause.{Cause}
 use Rattle.hii_bytes.specs.declared.cause.Cause.TheVariants.{BadElement}
-use Rattle.config_text.specs.PartReading.{body_in, body_first}
-use Rattle.config_text.specs.Grammar.{Area}
-use Rattle.config_text.specs.Faults.{wants_offset, key_of}
-use Rattle.config_text.specs.Reading.{areas_in, then_areas, part_step, areas_before}
+use Rattle.config_text.specs.code.PartReading.{body_in, body_first}
+use Rattle.browser_rules.specs.Configuration.{Block}
+use Rattle.config_text.specs.code.Reading.{wants_offset, key_of, areas_in, then_areas, part_step, areas_before}
 use Rattle.config_text.specs.code.Elements.{areas_behind}
 use Rattle.config_text.specs.declared.kind.TextKind.{TextKind}
 
@@ -23,24 +22,24 @@ areas_lack_offset kind (part ∷ parts) e some = go (body_in (key_of wants_offse
     go (Some b) e = (cc)
 
 -- no blocks before others
-pub areas_before_nil : (r : Result (List Area) Cause) → areas_before [] r ≡ r
+pub areas_before_nil : (r : Result (List Block) Cause) → areas_before [] r ≡ r
 areas_before_nil (Ok areas) = refl
 areas_before_nil (Err cause) = refl
 
-pub areas_before_more : (areas others : List Area) (r : Result (List Area) Cause) → areas_before areas (areas_before others r) ≡ areas_before (areas ++ others) r
+pub areas_before_more : (areas others : List Block) (r : Result (List Block) Cause) → areas_before areas (areas_before others r) ≡ areas_before (areas ++ others) r
 areas_before_more areas others (Ok rest) = ap Ok (sym (append_assoc areas others rest))
 areas_before_more areas others (Err cause) = refl
 
 -- ---- what is read of a text is what is read of its rest, behind some blocks
 
 pub record Behind (kind : TextKind) (text rest : List ℕ) : Type 0 where
-  pub areas : List Area
+  pub areas : List Block
   pub same : areas_behind kind text ≡ areas_before areas (areas_behind kind rest)
 
 pub Behind-start : (kind : TextKind) (text : List ℕ) → Behind kind text text
 Behind-start kind text = record { areas = []; same = sym (areas_before_nil (areas_behind kind text)) }
 
-pub Behind-more : (kind : TextKind) (text rest behind : List ℕ) (area : Area) → Behind kind text rest → areas_behind kind rest ≡ areas_before (area ∷ []) (areas_behind kind behind) → Behind kind text behind
+pub Behind-more : (kind : TextKind) (text rest behind : List ℕ) (area : Block) → Behind kind text rest → areas_behind kind rest ≡ areas_before (area ∷ []) (areas_behind kind behind) → Behind kind text behind
 Behind-more kind text rest behind area h e = record {
   areas = h.areas ++ area ∷ [];
   same = h.same ∙ ap (areas_before h.areas) e ∙ areas_before_more h.areas (area ∷ []) (areas_behind kind behind);

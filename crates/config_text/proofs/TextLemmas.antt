@@ -1,20 +1,18 @@
 -- What is read of a text is what the grammar says of it.
-use Rattle.std.proofs.Common.{◌≡◌, ◌&&◌, ◌<◌, arith, is_ok, ℕ, ltb, true, false, List, [], ◌∷◌, ◌++◌, length, Option, Some, None, Result, Ok, Err, MatchResult, codes, refl, sym, ap, subst, ◌∙◌, inl, inr, append_assoc, if◌then◌else◌}
+use Rattle.std.proofs.Common.{◌≡◌, ◌&&◌, ◌<◌, arith, is_ok, ℕ, ltb, true, false, List, [], ◌∷◌, ◌++◌, length, Option, Some, None, Result, Ok, Err, codes, refl, sym, ap, subst, ◌∙◌, inl, inr, append_assoc, if◌then◌else◌}
 use Rattle.std.specs.List.{AllZip, join_with_byte}
 use Rattle.std.proofs.lemmas.Bool.{cases_Bool, cond-true, cond-false}
 use Rattle.std.proofs.lemmas.List.Splits.{join_with_byte-slice_split}
 use Rattle.hii_bytes.specs.declared.cause.Cause.{Cause}
 use Rattle.hii_bytes.specs.declared.cause.Cause.TheVariants.{BadElement, BadNumber, ValueWidth}
-use Rattle.config_text.specs.Parts.{text_parts}
-use Rattle.config_text.specs.PartReading.{body_in, are_hex, offset_in, width_in}
-use Rattle.config_text.specs.Numbers.{fits_width}
-use Rattle.config_text.specs.Grammar.{Named, Area, IsBlock, IsConfiguration, all_parts}
-use Rattle.config_text.specs.Faults.{Wanted, wants_offset, wants_width, wants_value, key_of, IsBegun, IsBadFirst, BeginsWithHeader, IsConfigurationFault}
-use Rattle.config_text.specs.Written.{blocks_asked}
+use Rattle.config_text.specs.code.Parts.{text_parts}
+use Rattle.config_text.specs.code.PartReading.{body_in, are_hex, offset_in, width_in, fits_width}
+use Rattle.browser_rules.specs.Configuration.{Header, Block, blocks_asked}
+use Rattle.config_text.specs.laws.Grammar.{IsBlock, IsConfiguration, all_parts}
+use Rattle.config_text.specs.code.Reading.{Wanted, wants_offset, wants_width, wants_value, key_of, PartStep, Head, number_step, width_step, step_of, part_step, areas_before, then_areas, at_end, areas_in, named_by, named_areas, head_areas, head_in, reading_of}
+use Rattle.config_text.specs.laws.Faults.{IsBegun, IsBadFirst, BeginsWithHeader, IsConfigurationFault}
 use Rattle.config_text.specs.code.Elements.{parts_behind, areas_behind, are_elements, areas_or_none, areas_of}
 use Rattle.config_text.proofs.PartLemmas.{behind_some}
-use Rattle.config_text.specs.Reading.{PartStep, Head, number_step, width_step, step_of, part_step, areas_before, then_areas, at_end, areas_in, named_by, named_areas, head_areas, head_in, configuration_in}
-use Rattle.config_text.specs.Grammar.{IsConfigurationOf}
 use Rattle.config_text.specs.declared.kind.TextKind.{TextKind}
 use Rattle.config_text.specs.declared.kind.TextKind.TheVariants.{Ask, Tell}
 use Rattle.config_text.proofs.StepLemmas.{areas_before_nil}
@@ -28,20 +26,20 @@ record IsBad (kind : TextKind) (parts : List (List ℕ)) (cause : Cause) : Type 
   elements : List (List (List ℕ))
   begun : List (List ℕ)
   rest : List (List ℕ)
-  areas : List Area
+  areas : List Block
   wanted : Wanted
   whole : parts ≡ all_parts elements ++ (begun ++ rest)
   are_blocks : AllZip (IsBlock kind) elements areas
   is_begun : IsBegun kind begun wanted
   bad : IsBadFirst wanted rest cause
 
-record AreAreas (kind : TextKind) (parts : List (List ℕ)) (areas : List Area) : Type 0 where
+record AreAreas (kind : TextKind) (parts : List (List ℕ)) (areas : List Block) : Type 0 where
   elements : List (List (List ℕ))
   whole : parts ≡ all_parts elements
   are_blocks : AllZip (IsBlock kind) elements areas
 
 -- what a result says of the parts
-abbrev Told : TextKind → List (List ℕ) → Result (List Area) Cause → Type 0
+abbrev Told : TextKind → List (List ℕ) → Result (List Block) Cause → Type 0
 Told kind parts (Ok areas) = AreAreas kind parts areas
 Told kind parts (Err cause) = IsBad kind parts cause
 
@@ -60,7 +58,7 @@ told_bad kind begun rest wanted cause h bad = record {
 }
 
 -- an element before others
-told_more : (kind : TextKind) (element parts : List (List ℕ)) (area : Area) (r : Result (List Area) Cause) → IsBlock kind element area → Told kind parts r
+told_more : (kind : TextKind) (element parts : List (List ℕ)) (area : Block) (r : Result (List Block) Cause) → IsBlock kind element area → Told kind parts r
     → Told kind (element ++ parts) (areas_before (area ∷ []) r)
 told_more kind element parts area (Ok areas) h told = record {
   elements = element ∷ told.elements;
@@ -84,7 +82,7 @@ abbrev Follow : TextKind → List (List ℕ) → Type 0
 Follow kind parts = (wanted : Wanted) (begun : List (List ℕ)) → IsBegun kind begun wanted → Told kind (begun ++ parts) (areas_in kind wanted parts)
 
 -- the result of a part and of those behind it
-abbrev result_of : TextKind → Wanted → List ℕ → List (List ℕ) → Result (List Area) Cause
+abbrev result_of : TextKind → Wanted → List ℕ → List (List ℕ) → Result (List Block) Cause
 result_of kind wanted body parts = then_areas (step_of kind wanted body) (λ next. areas_in kind next parts)
 
 told_offset : (kind : TextKind) (part body : List ℕ) (parts begun : List (List ℕ)) → part ≡ codes "OFFSET=" ++ body → begun ≡ [] → Follow kind parts
@@ -115,8 +113,8 @@ told_width kind n part body parts begun is (offset, one, number) follow = go kin
         (inr (body, is, (refl, λ m h. let bad : ◌≡◌ {A = Option ℕ} None (Some m) = sym e ∙ width-from body m h in (cc))))
     go Ask follow (Some m) e =
         let element : List (List ℕ) = (codes "OFFSET=" ++ offset) ∷ (codes "WIDTH=" ++ body) ∷ [] in
-        let area : Area = record { offset = n; width = m; digits = [] } in
-        let result : Result (List Area) Cause = areas_before (area ∷ []) (areas_in Ask wants_offset parts) in
+        let area : Block = record { offset = n; width = m; digits = [] } in
+        let result : Result (List Block) Cause = areas_before (area ∷ []) (areas_in Ask wants_offset parts) in
         subst (λ ps. Told Ask ps result) (sym (width_parts part body offset parts begun is one))
         (told_more Ask element parts area (areas_in Ask wants_offset parts) (offset, body, refl, number, width-is body m e, refl) (follow wants_offset [] refl))
     go Tell follow (Some m) e =
@@ -130,10 +128,10 @@ told_value : (kind : TextKind) (n m : ℕ) (part body : List ℕ) (parts begun :
 told_value Ask n m part body parts begun is h follow = let bad : ◌≡◌ {A = TextKind} Ask Tell = h.0 in (cc)
 told_value Tell n m part body parts begun is (tells, offset, width, two, number, number_2) follow =
     let numeral = ltb 0 (length body) && are_hex body in
-    let area : Area = record { offset = n; width = m; digits = body } in
+    let area : Block = record { offset = n; width = m; digits = body } in
     let good : Result PartStep Cause = Ok record { areas = area ∷ []; wanted = wants_offset } in
     let inner : Result PartStep Cause = (if fits_width m body then good else Err ValueWidth) in
-    let rest : List (List ℕ) → Result (List Area) Cause = λ ps. areas_before (area ∷ []) (areas_in Tell wants_offset ps) in
+    let rest : List (List ℕ) → Result (List Block) Cause = λ ps. areas_before (area ∷ []) (areas_in Tell wants_offset ps) in
     let begins : IsBegun Tell begun (wants_value n m) = (tells, offset, width, two, number, number_2) in
     let told : Result PartStep Cause → Type 0 = λ step. Told Tell (begun ++ part ∷ parts) (then_areas step (λ next. areas_in Tell next parts)) in
     elim (cases_Bool numeral) [
@@ -177,7 +175,7 @@ told kind [] = told_end kind
 told kind (part ∷ parts) = λ wanted begun h. told_part kind wanted part parts begun h (told kind parts)
 
 -- what a result says of a text
-abbrev pub Outcome : TextKind → List ℕ → Result (Named × List Area) Cause → Type 0
+abbrev pub Outcome : TextKind → List ℕ → Result (Header × List Block) Cause → Type 0
 Outcome kind text (Ok (named, areas)) = IsConfiguration kind text named areas
 Outcome kind text (Err cause) = IsConfigurationFault kind text cause
 
@@ -189,7 +187,7 @@ no_header parts e h =
     let bad : ◌≡◌ {A = Option Head} None (Some record { guid = r.guid; name = r.name; path = r.path; rest = rest }) = sym e ∙ ap head_in same ∙ head-of r.guid r.name r.path rest r.good in
     (cc)
 
-outcome_head : (kind : TextKind) (text : List ℕ) (head : Head) (r : Result (List Area) Cause) → head_in (text_parts text) ≡ Some head → Told kind head.rest r
+outcome_head : (kind : TextKind) (text : List ℕ) (head : Head) (r : Result (List Block) Cause) → head_in (text_parts text) ≡ Some head → Told kind head.rest r
     → Outcome kind text (named_areas head r)
 outcome_head kind text head (Ok areas) e told =
     let is = head-is (text_parts text) head e in
@@ -219,23 +217,17 @@ outcome_head kind text head (Err cause) e told =
       bad = told.bad;
     })
 
-pub outcome : (kind : TextKind) (text : List ℕ) → Outcome kind text (configuration_in kind text)
+pub outcome : (kind : TextKind) (text : List ℕ) → Outcome kind text (reading_of kind text)
 outcome kind text = go (head_in (text_parts text)) refl
   where
     go : (o : Option Head) → head_in (text_parts text) ≡ o → Outcome kind text (head_areas kind o)
     go None e = inl (refl, no_header (text_parts text) e)
     go (Some head) e = outcome_head kind text head (areas_in kind wants_offset head.rest) e (told kind head.rest wants_offset [] refl)
 
-pub read_whole : {X : Type 0} (kind : TextKind) (text : List ℕ) (view : X → Named × List Area) (r : Result X Cause)
-    → MatchResult r (λ x. configuration_in kind text ≡ Ok (view x)) (λ cause. configuration_in kind text ≡ Err cause)
-    → MatchResult r (λ x. IsConfigurationOf kind text (view x)) (IsConfigurationFault kind text)
-read_whole kind text view (Ok x) e = subst (Outcome kind text) e (outcome kind text)
-read_whole kind text view (Err cause) e = subst (Outcome kind text) e (outcome kind text)
-
-pub read_good : (kind : TextKind) (text : List ℕ) (named : Named) (areas : List Area) → configuration_in kind text ≡ Ok (named, areas) → IsConfiguration kind text named areas
+pub read_good : (kind : TextKind) (text : List ℕ) (named : Header) (areas : List Block) → reading_of kind text ≡ Ok (named, areas) → IsConfiguration kind text named areas
 read_good kind text named areas e = subst (Outcome kind text) e (outcome kind text)
 
-pub read_bad : (kind : TextKind) (text : List ℕ) (cause : Cause) → configuration_in kind text ≡ Err cause → IsConfigurationFault kind text cause
+pub read_bad : (kind : TextKind) (text : List ℕ) (cause : Cause) → reading_of kind text ≡ Err cause → IsConfigurationFault kind text cause
 read_bad kind text cause e = subst (Outcome kind text) e (outcome kind text)
 
 -- ---- a request that asks for blocks of its own
@@ -247,7 +239,7 @@ no_blocks (block ∷ blocks) h = absurd h
 pub asked_own : (text : List ℕ) (size : ℕ) → are_elements Ask text ≡ true → 0 < length text → blocks_asked (areas_of Ask text) size ≡ areas_of Ask text
 asked_own text size sound some = go (areas_behind Ask text) sound (told Ask (parts_behind text) wants_offset [] refl)
   where
-    go : (r : Result (List Area) Cause) → is_ok r ≡ true → Told Ask (parts_behind text) r → blocks_asked (areas_or_none r) size ≡ areas_or_none r
+    go : (r : Result (List Block) Cause) → is_ok r ≡ true → Told Ask (parts_behind text) r → blocks_asked (areas_or_none r) size ≡ areas_or_none r
     go (Err cause) ok h = let bad : false ≡ true = ok in (cc)
     go (Ok []) ok h =
         let none : length (parts_behind text) ≡ 0 = ap length (h.whole ∙ no_blocks h.elements h.are_blocks) in

@@ -8,8 +8,7 @@ use Rattle.std.proofs.lemmas.Bool.{and_parts, eqb-true}
 use Rattle.std.proofs.lemmas.List.{take-append-drop, get_or-set_same, get_or-set_other}
 use Rattle.std.proofs.lemmas.Int.Digits.{digits_value-lt}
 use Rattle.byteorder.specs.Endian.{little_from, little_number}
-use Rattle.config_text.specs.Numbers.{fits_width}
-use Rattle.config_text.specs.PartReading.{are_hex}
+use Rattle.config_text.specs.code.PartReading.{fits_width, are_hex}
 use Rattle.config_text.proofs.ReadLemmas.{hex-to, hex_parts}
 
 -- ---- the last two digits

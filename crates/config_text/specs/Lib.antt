@@ -1,8 +1,3 @@
-pub mod Parts
-pub mod Numbers
-pub mod Grammar
-pub mod Faults
-pub mod PartReading
 pub mod Reading
 pub mod Written
 pub mod code

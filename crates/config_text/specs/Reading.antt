@@ -1,111 +1,24 @@
--- What a configuration text is read as, as a function of the text (own rule). Laws say that it is the grammar.
-use Rattle.std.specs.Prelude.{ℕ, ◌==◌, nat_lt, ◌&&◌, if◌then◌else◌, Bool, List, [], ◌∷◌, ◌++◌, length, codes, Option, Some, None, Result, Ok, Err}
+-- What a configuration text is read as: what the rules say, with its cause as one of the code.
+use Rattle.std.specs.Prelude.{ℕ, List, Result, Ok, Err}
+use Rattle.browser_rules.specs.Configuration.{Header, Block, request_in, response_in}
+use Rattle.browser_rules.specs.Words as words
 use Rattle.hii_bytes.specs.declared.cause.Cause.{Cause}
 use Rattle.hii_bytes.specs.declared.cause.Cause.TheVariants.{BadHeader, BadElement, BadNumber, ValueWidth}
-use Rattle.config_text.specs.Parts.{text_parts}
-use Rattle.config_text.specs.PartReading.{body_in, body_first, offset_in, width_in, are_hex, is_grouped, group_numbers}
-use Rattle.config_text.specs.Numbers.{fits_width}
-use Rattle.config_text.specs.Grammar.{Named, Area}
-use Rattle.config_text.specs.Faults.{Wanted, wants_offset, wants_width, wants_value, key_of}
 use Rattle.config_text.specs.declared.kind.TextKind.{TextKind}
 use Rattle.config_text.specs.declared.kind.TextKind.TheVariants.{Ask, Tell}
 
--- whether digits are those of a header
-abbrev pub are_header_digits : List ℕ → List ℕ → List ℕ → Bool
-are_header_digits guid name path =
-    (is_grouped 2 guid && length guid == 32) && (is_grouped 4 name && is_grouped 2 path)
+-- A text is refused by BadHeader or by one of the other three.
+abbrev pub text_cause : words.Cause → Cause
+text_cause words.BadElement = BadElement
+text_cause words.BadNumber = BadNumber
+text_cause words.ValueWidth = ValueWidth
+text_cause _ = BadHeader
 
--- what the digits of a header name
-abbrev pub named_by : List ℕ → List ℕ → List ℕ → Named
-named_by guid name path =
-    record { guid = group_numbers 2 guid; name = group_numbers 4 name; path = group_numbers 2 path }
+abbrev pub as_told : {X : Type 0} → Result X words.Cause → Result X Cause
+as_told (Ok x) = Ok x
+as_told (Err cause) = Err (text_cause cause)
 
--- the digits of a header, with the parts behind it
-pub record Head : Type 0 where
-  pub guid : List ℕ
-  pub name : List ℕ
-  pub path : List ℕ
-  pub rest : List (List ℕ)
-
-abbrev pub path_behind : List ℕ → List ℕ → Option (List ℕ × List (List ℕ)) → Option Head
-path_behind guid name None = None
-path_behind guid name (Some (path, rest)) =
-    if are_header_digits guid name path then Some record { guid = guid; name = name; path = path; rest = rest }
-    else None
-
-abbrev pub name_behind : List ℕ → Option (List ℕ × List (List ℕ)) → Option Head
-name_behind guid None = None
-name_behind guid (Some (name, parts)) = path_behind guid name (body_first (codes "PATH=") parts)
-
-abbrev pub guid_behind : Option (List ℕ × List (List ℕ)) → Option Head
-guid_behind None = None
-guid_behind (Some (guid, parts)) = name_behind guid (body_first (codes "NAME=") parts)
-
--- the header at the front of the parts
-abbrev pub head_in : List (List ℕ) → Option Head
-head_in parts = guid_behind (body_first (codes "GUID=") parts)
-
--- What a part that is as wanted gives: the blocks that end with it, and what is wanted then.
-pub record PartStep : Type 0 where
-  pub areas : List Area
-  pub wanted : Wanted
-
--- the step of a number
-abbrev pub number_step : (ℕ → PartStep) → Option ℕ → Result PartStep Cause
-number_step step None = Err BadNumber
-number_step step (Some n) = Ok (step n)
-
--- the step of a width: it ends a block of a request, and wants a value in a response
-abbrev pub width_step : TextKind → ℕ → ℕ → PartStep
-width_step Ask offset width =
-    record { areas = record { offset = offset; width = width; digits = [] } ∷ []; wanted = wants_offset }
-width_step Tell offset width = record { areas = []; wanted = wants_value offset width }
-
--- the step of what stands behind the key that is wanted
-abbrev pub step_of : TextKind → Wanted → List ℕ → Result PartStep Cause
-step_of kind wants_offset body = number_step (λ n. record { areas = []; wanted = wants_width n }) (offset_in body)
-step_of kind (wants_width offset) body = number_step (width_step kind offset) (width_in body)
-step_of kind (wants_value offset width) body =
-    if nat_lt 0 (length body) && are_hex body then
-    if fits_width width body then
-    Ok record { areas = record { offset = offset; width = width; digits = body } ∷ []; wanted = wants_offset }
-    else Err ValueWidth
-    else Err BadNumber
-
-abbrev pub part_step : TextKind → Wanted → Option (List ℕ) → Result PartStep Cause
-part_step kind wanted None = Err BadElement
-part_step kind wanted (Some body) = step_of kind wanted body
-
--- blocks before others
-abbrev pub areas_before : List Area → Result (List Area) Cause → Result (List Area) Cause
-areas_before areas (Err cause) = Err cause
-areas_before areas (Ok others) = Ok (areas ++ others)
-
-abbrev pub then_areas : Result PartStep Cause → (Wanted → Result (List Area) Cause) → Result (List Area) Cause
-then_areas (Err cause) follow = Err cause
-then_areas (Ok step) follow = areas_before step.areas (follow step.wanted)
-
--- no more parts
-abbrev pub at_end : Wanted → Result (List Area) Cause
-at_end wants_offset = Ok []
-at_end (wants_width offset) = Err BadElement
-at_end (wants_value offset width) = Err BadElement
-
--- the blocks of parts, or the first fault
-abbrev pub areas_in : TextKind → Wanted → List (List ℕ) → Result (List Area) Cause
-areas_in kind wanted [] = at_end wanted
-areas_in kind wanted (part ∷ parts) =
-    then_areas (part_step kind wanted (body_in (key_of wanted) part)) (λ next. areas_in kind next parts)
-
--- what is named, with the blocks
-abbrev pub named_areas : Head → Result (List Area) Cause → Result (Named × List Area) Cause
-named_areas head (Err cause) = Err cause
-named_areas head (Ok areas) = Ok (named_by head.guid head.name head.path, areas)
-
-abbrev pub head_areas : TextKind → Option Head → Result (Named × List Area) Cause
-head_areas kind None = Err BadHeader
-head_areas kind (Some head) = named_areas head (areas_in kind wants_offset head.rest)
-
--- what a text is read as: what its header names and its blocks, or its leftmost fault
-abbrev pub configuration_in : TextKind → List ℕ → Result (Named × List Area) Cause
-configuration_in kind text = head_areas kind (head_in (text_parts text))
+-- its header and its blocks, or its leftmost fault
+abbrev pub configuration_in : TextKind → List ℕ → Result (Header × List Block) Cause
+configuration_in Ask text = as_told (request_in text)
+configuration_in Tell text = as_told (response_in text)

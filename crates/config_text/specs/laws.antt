@@ -1,2 +1,5 @@
 -- What the laws of the crate say, and the words that they alone need.
+pub mod Numbers
+pub mod Grammar
+pub mod Faults
 pub mod Texts

@@ -1,8 +1,7 @@
 //! A block of a configuration text.
 
 ghost use Rattle.std.specs.Prelude.{◌≡◌, ◌≤◌, ◌&&◌, true, length};
-ghost use Rattle.config_text.specs.Numbers.{fits_width};
-ghost use Rattle.config_text.specs.PartReading.{are_hex};
+ghost use Rattle.config_text.specs.code.PartReading.{fits_width, are_hex};
 
 use crate::digits::split_byte;
 

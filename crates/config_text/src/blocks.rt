@@ -20,7 +20,8 @@ pub struct Blocks<'a> {
 impl<'a> Blocks<'a> {
     ghost use Rattle.std.specs.Prelude.{◌≡◌, true};
     ghost use Rattle.std.specs.Bool.{Decides};
-    ghost use Rattle.config_text.specs.Written.{AreInside, whole_store};
+    ghost use Rattle.config_text.specs.Written.{AreInside};
+    ghost use Rattle.config_text.specs.code.Written.{whole_store};
     ghost use Rattle.config_text.specs.code.Elements.{are_elements, areas_of};
     ghost use Rattle.config_text.specs.code.BlocksLeft.{blocks_left};
 

@@ -2,7 +2,7 @@
 
 ghost use Rattle.std.specs.Prelude.{◌≡◌, ◌+◌, ◌*◌, ◌^◌, ◌<◌, ◌≤◌, true, length};
 ghost use Rattle.std.specs.Str.Parse.{digits_value};
-ghost use Rattle.config_text.specs.PartReading.{are_hex};
+ghost use Rattle.config_text.specs.code.PartReading.{are_hex};
 
 use hex::decode_to_slice;
 

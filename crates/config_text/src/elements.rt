@@ -1,10 +1,8 @@
 //! The text behind a header, block by block.
 
 ghost use Rattle.std.specs.Prelude.{◌≡◌, ◌<◌, ◌≤◌, ◌&&◌, ◌∷◌, [], ℕ, true, Ok, Err, IfOk, IfErr, IfSome, OnOk, MatchResult, length};
-ghost use Rattle.config_text.specs.Numbers.{fits_width};
-ghost use Rattle.config_text.specs.PartReading.{are_hex, offset_in, width_in};
-ghost use Rattle.config_text.specs.Faults.{wants_offset, wants_width, wants_value};
-ghost use Rattle.config_text.specs.Reading.{areas_in, areas_before, then_areas, width_step};
+ghost use Rattle.config_text.specs.code.PartReading.{fits_width, are_hex, offset_in, width_in};
+ghost use Rattle.config_text.specs.code.Reading.{wants_offset, wants_width, wants_value, areas_in, areas_before, then_areas, width_step};
 ghost use Rattle.config_text.specs.code.Elements.{parts_behind, areas_behind, are_elements};
 ghost use Rattle.config_text.specs.code.Views.{block_view};
 ghost use Rattle.config_text.specs.declared.kind.TextKind.{TextKind};

@@ -2,7 +2,7 @@
 
 ghost use Rattle.std.specs.Prelude.{◌≡◌, ◌<◌, ◌⊎◌, ◌/◌, ◌^◌, true, length, slice_index};
 ghost use Rattle.std.specs.Bool.{Decides};
-ghost use Rattle.config_text.specs.PartReading as parts;
+ghost use Rattle.config_text.specs.code.PartReading as parts;
 
 use crate::digits::number_of_four;
 

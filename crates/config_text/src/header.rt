@@ -1,7 +1,7 @@
 //! The header of a configuration text.
 
 ghost use Rattle.std.specs.Prelude.{◌≡◌, true};
-ghost use Rattle.config_text.specs.Reading.{are_header_digits};
+ghost use Rattle.config_text.specs.code.Reading.{are_header_digits};
 
 use crate::groups::{are_groups, are_numbers};
 use crate::parts::{split_first, split_next};
@@ -21,9 +21,9 @@ pub struct Header<'a> {
 impl<'a> Header<'a> {
     ghost use Rattle.std.specs.Prelude.{◌≡◌, option_map};
     ghost use Rattle.std.specs.Bool.{Decides};
-    ghost use Rattle.config_text.specs.Parts.{text_parts};
-    ghost use Rattle.config_text.specs.Reading.{head_in};
-    ghost use Rattle.config_text.specs.Written.{header_text};
+    ghost use Rattle.config_text.specs.code.Parts.{text_parts};
+    ghost use Rattle.config_text.specs.code.Reading.{head_in};
+    ghost use Rattle.config_text.specs.code.Written.{header_text};
     ghost use Rattle.config_text.specs.code.Views.{head_of, header_view};
     ghost use Rattle.hii_bytes.specs.Watching.{Puts};
 

@@ -2,18 +2,23 @@
 
 ghost use Rattle.std.specs.Prelude.{◌≡◌, ◌<◌, ◌^◌, length};
 ghost use Rattle.config_text.specs.code.TextViews.{response_view};
-ghost use Rattle.config_text.specs.laws.Texts.{ReadsTexts, TellsFaults, SaysOneThing, HasOneFault, HasNoFault, ReadsResponsesBack, WritesNumbers};
+ghost use Rattle.config_text.specs.laws.Texts.{ReadsTexts, TellsFaults, RefusesByFour, SaysOneThing, HasOneFault, HasNoFault, ReadsResponsesBack, WritesNumbers};
 
 use crate::response::Response;
 
-/// The function `configuration_in` reads just the texts of the grammar.
+/// The rules read just the texts of the grammar.
 pub fn texts_are_read()
     ensures { ReadsTexts }
 {}
 
-/// It tells just the leftmost fault of the others.
+/// They tell just the leftmost fault of the others.
 pub fn faults_are_told()
     ensures { TellsFaults }
+{}
+
+/// They refuse a text by one of four causes, so that `text_cause` takes each for the one of its name.
+pub fn texts_are_refused_by_four_causes()
+    ensures { RefusesByFour }
 {}
 
 /// A text has one header and one list of blocks.

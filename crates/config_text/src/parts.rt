@@ -1,8 +1,8 @@
 //! The parts of a text between its `&`.
 
 ghost use Rattle.std.specs.Prelude.{◌≡◌, ◌∷◌, ◌≤◌, ◌<◌, IfSome, option_map, length};
-ghost use Rattle.config_text.specs.Parts.{text_parts};
-ghost use Rattle.config_text.specs.PartReading.{body_in, body_first};
+ghost use Rattle.config_text.specs.code.Parts.{text_parts};
+ghost use Rattle.config_text.specs.code.PartReading.{body_in, body_first};
 ghost use Rattle.config_text.specs.code.Elements.{parts_behind};
 
 use hii_bytes::first_place;

@@ -4,8 +4,8 @@ ghost use Rattle.std.specs.Prelude.{◌≡◌, true};
 ghost use Rattle.std.specs.List.{flat_map};
 ghost use Rattle.hii_bytes.specs.Texts.{hex_of};
 ghost use Rattle.hii_bytes.specs.Watching.{Puts};
-ghost use Rattle.config_text.specs.PartReading.{is_grouped, group_numbers};
-ghost use Rattle.config_text.specs.Written.{four_digits, value_digits};
+ghost use Rattle.config_text.specs.code.PartReading.{is_grouped, group_numbers};
+ghost use Rattle.config_text.specs.code.Written.{four_digits, value_digits};
 
 use crate::groups::group_at;
 use hex::encode_to_slice;

@@ -20,16 +20,16 @@ pub struct Request<'a> {
 
 impl<'a> Request<'a> {
     ghost use Rattle.std.specs.Prelude.{◌≡◌, ◌<◌, ◌^◌, Ok, Err, MatchResult};
-    ghost use Rattle.config_text.specs.Reading.{configuration_in};
-    ghost use Rattle.config_text.specs.Written.{blocks_asked};
+    ghost use Rattle.config_text.specs.code.Reading.{reading_of};
+    ghost use Rattle.browser_rules.specs.Configuration.{blocks_asked};
     ghost use Rattle.config_text.specs.code.BlocksLeft.{blocks_left};
     ghost use Rattle.config_text.specs.code.TextViews.{request_view};
     ghost use Rattle.config_text.specs.code.Views.{header_view};
 
     // The request that a text is.
     pub(crate) fn read(text: &'a [u8]) -> Result<Request<'a>, Cause>
-        ensures { MatchResult result (λ request. configuration_in Ask text.entry.now ≡ Ok (request_view request))
-            (λ cause. configuration_in Ask text.entry.now ≡ Err cause) }
+        ensures { MatchResult result (λ request. reading_of Ask text.entry.now ≡ Ok (request_view request))
+            (λ cause. reading_of Ask text.entry.now ≡ Err cause) }
     {
         let (header, elements) = Header::split(text).ok_or(Cause::BadHeader)?;
         check_elements(TextKind::Ask, elements)?;

@@ -20,15 +20,15 @@ pub struct Response<'a> {
 
 impl<'a> Response<'a> {
     ghost use Rattle.std.specs.Prelude.{◌≡◌, Ok, Err, MatchResult};
-    ghost use Rattle.config_text.specs.Reading.{configuration_in};
+    ghost use Rattle.config_text.specs.code.Reading.{reading_of};
     ghost use Rattle.config_text.specs.code.BlocksLeft.{blocks_left};
     ghost use Rattle.config_text.specs.code.TextViews.{response_view};
     ghost use Rattle.config_text.specs.code.Views.{header_view};
 
     // The response that a text is.
     pub(crate) fn read(text: &'a [u8]) -> Result<Response<'a>, Cause>
-        ensures { MatchResult result (λ response. configuration_in Tell text.entry.now ≡ Ok (response_view response))
-            (λ cause. configuration_in Tell text.entry.now ≡ Err cause) }
+        ensures { MatchResult result (λ response. reading_of Tell text.entry.now ≡ Ok (response_view response))
+            (λ cause. reading_of Tell text.entry.now ≡ Err cause) }
     {
         let (header, elements) = Header::split(text).ok_or(Cause::BadHeader)?;
         check_elements(TextKind::Tell, elements)?;

@@ -3,8 +3,9 @@
 ghost use Rattle.std.specs.Prelude.{◌≡◌, ◌+◌, ◌<◌, ◌≤◌, ◌^◌, length};
 ghost use Rattle.std.specs.List.{flat_map};
 ghost use Rattle.hii_bytes.specs.Watching.{pen_of, Puts, Tells};
-ghost use Rattle.config_text.specs.Grammar.{Area};
-ghost use Rattle.config_text.specs.Written.{AreInside, block_text, response_text};
+ghost use Rattle.browser_rules.specs.Configuration.{Block};
+ghost use Rattle.config_text.specs.Written.{AreInside, response_to};
+ghost use Rattle.config_text.specs.code.Written.{block_text};
 ghost use Rattle.config_text.specs.code.BlocksLeft.{blocks_left};
 ghost use Rattle.config_text.specs.code.TextViews.{request_view};
 
@@ -24,7 +25,7 @@ pub fn write_response<W: Write>(
 ) -> Result<(), WriteFault>
     requires small { length store.now < 2 ^ 16 }
     requires inside { AreInside (request_view request.now).1 (length store.now) }
-    ensures { Tells (pen_of W.contents out.old) (pen_of W.contents out.new) result (response_text (request_view request.now) store.now) }
+    ensures { Tells (pen_of W.contents out.old) (pen_of W.contents out.new) result (response_to (request_view request.now) store.now) }
 {
     out.restart();
     put_response(out, request, store);
@@ -40,7 +41,7 @@ pub fn write_response<W: Write>(
 pub fn put_response<W: Write>(out: &mut Watched<W>, request: &Request<'_>, store: &[u8])
     requires small { length store.now < 2 ^ 16 }
     requires inside { AreInside (request_view request.now).1 (length store.now) }
-    ensures { Puts W.contents out.old out.new (response_text (request_view request.now) store.now) }
+    ensures { Puts W.contents out.old out.new (response_to (request_view request.now) store.now) }
 {
     request.header().put(out);
     put_blocks(out, request.blocks_asked(store.len()), store);
@@ -58,7 +59,7 @@ fn put_blocks<W: Write>(out: &mut Watched<W>, blocks: Blocks<'_>, store: &[u8])
 
 fn put_block<W: Write>(out: &mut Watched<W>, offset: u16, width: u16, store: &[u8])
     requires { offset + width ≤ length store.now }
-    ensures { (area : Area) → area.offset ≡ offset → area.width ≡ width →
+    ensures { (area : Block) → area.offset ≡ offset → area.width ≡ width →
         Puts W.contents out.old out.new (block_text store.now area) }
 {
     let start = offset as usize;

@@ -1,14 +1,15 @@
 -- Nodes that have no fault, and whose expressions have none.
 use Rattle.std.proofs.Common.{◌≡◌, ℕ, zero, suc, ◌+◌, Bool, true, false, cond, Option, List, [], ◌∷◌, ◌++◌, length, refl, sym, ap, subst, ◌∙◌, arith, inl, inr}
 use Rattle.std.specs.Prelude.{Contains, not, ⊤}
-use Rattle.std.proofs.lemmas.Bool.{false≢true, or_from, or_parts, le-ltb, ltb-false, not_from_true, not-false, false_from_ne_true}
+use Rattle.std.proofs.lemmas.Bool.{false≢true, not_from_true, not-false, false_from_ne_true}
 use Rattle.std.proofs.lemmas.List.Elements.{Contains-append_cases, Contains-append_left, Contains-append_right}
 use Rattle.hii_bytes.specs.Faults.{HasNone}
 use Rattle.hii_bytes.specs.declared.cause.Cause.{Cause}
 use Rattle.hii_bytes.specs.declared.cause.Cause.TheVariants.{NotFormSet, AfterFormSet, OpOutside, OpSize, Misplaced, ScopeBit, ExprShape}
 use Rattle.ifr_opcodes.specs.Forest.{Forest, none, node, flat, Ancestor, Node, nodes_at, nodes}
 use Rattle.ifr_opcodes.specs.Opcode.{number, has_scope}
-use Rattle.ifr_opcodes.specs.Rows.{least_length, is_listed, is_left_out, is_outside, is_short}
+use Rattle.ifr_opcodes.specs.Rows.{is_outside, is_short}
+use Rattle.ifr_opcodes.proofs.RowLemmas.{inside_parts}
 use Rattle.ifr_expr.specs.Faults.{IsExpressionFault}
 use Rattle.ifr_expr.specs.Trees.{expression}
 use Rattle.ifr_scopes.specs.Structure.{is_operand, is_wrong_scope, has_wrong_scope, lacks_wanted, has_structure_fault, is_expression, IsStructureFault}
@@ -108,25 +109,16 @@ not_wrong Never op e = e
 not_wrong Outermost op e = tt
 not_wrong WithValue op e = value_with (wants_value op) (has_scope op) e
 
-pub good_inside : (op : List ℕ) → IsGoodOpcode op → is_outside op ≡ false
-good_inside op g = or_from (not (is_listed (number op))) (is_left_out op) (not_from_true (is_listed (number op)) g.listed) g.kept
-
-pub good_long : (op : List ℕ) → IsGoodOpcode op → is_short op ≡ false
-good_long op g = le-ltb (length op) (least_length op) g.long
-
 pub good_scope : (n : Node) → IsGoodOpcode n.op → is_operand n ≡ false → has_structure_fault n ScopeBit ≡ false
 good_scope n g free =
     ap (λ (r : Option Row). has_wrong_scope r (is_operand n) n.op) g.found ∙ ap (λ (b : Bool). is_wrong_scope g.in_table.scope b n.op) free ∙ fitting g.in_table.scope n.op g.scoped
 
 pub clean_good : (n : Node) → IsClean n → is_operand n ≡ false → IsGoodOpcode n.op
 clean_good n c free =
-    let known = or_parts (not (is_listed (number n.op))) (is_left_out n.op) (c.fault OpOutside) in
-    let is : is_listed (number n.op) ≡ true = not-false (is_listed (number n.op)) known.0 in
-    let r = listed_row (number n.op) is in
+    let r = listed_row (number n.op) (inside_parts n.op (c.fault OpOutside)).0 in
     record {
-      listed = is;
-      kept = known.1;
-      long = ltb-false (length n.op) (least_length n.op) (c.fault OpSize);
+      known = c.fault OpOutside;
+      long = c.fault OpSize;
       in_table = r.0;
       found = r.1;
       scoped = not_wrong r.0.scope n.op (ap (λ (b : Bool). is_wrong_scope r.0.scope b n.op) (sym free) ∙ ap (λ (o : Option Row). has_wrong_scope o (is_operand n) n.op) (sym r.1) ∙ c.fault ScopeBit);

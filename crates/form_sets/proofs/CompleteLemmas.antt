@@ -1,13 +1,13 @@
 -- Nodes without fault are those of a well-formed form set.
 use Rattle.std.proofs.Common.{◌≡◌, ℕ, ◌+◌, Bool, true, false, List, [], ◌∷◌, ◌++◌, length, refl, sym, ap, subst, ◌∙◌, arith, inl, inr}
 use Rattle.std.specs.Prelude.{◌==◌, ◌&&◌, not}
-use Rattle.std.proofs.lemmas.Bool.{false≢true, and_from, and_cases, or_from, or_parts, not_from_false, not-false, eqb-true}
+use Rattle.std.proofs.lemmas.Bool.{false≢true, and_from, and_cases, or_from, not_from_false, not-false, eqb-true}
 use Rattle.hii_bytes.specs.declared.cause.Cause.TheVariants.{OpOutside, Misplaced, ExprShape}
 use Rattle.ifr_opcodes.specs.declared.codes.TheConstants.{VALUE}
 use Rattle.ifr_opcodes.specs.Forest.{Forest, none, node, flat, Ancestor, AreNodes}
 use Rattle.ifr_opcodes.specs.Opcode.{number}
-use Rattle.ifr_opcodes.specs.Operators.{is_operator}
-use Rattle.ifr_opcodes.specs.Rows.{is_listed, is_left_out}
+use Rattle.ifr_opcodes.specs.Rows.{is_operator, is_listed}
+use Rattle.ifr_opcodes.proofs.RowLemmas.{inside_parts}
 use Rattle.ifr_scopes.specs.Structure.{is_wanted, is_condition}
 use Rattle.ifr_scopes.specs.Table.{class_around, admits}
 use Rattle.ifr_scopes.specs.declared.table.Class.{Class}
@@ -26,7 +26,7 @@ begins_with false is e lacking = absurd (false≢true e)
 
 module _ (place : ℕ) (op : List ℕ) (children : Forest) (outer : List Ancestor) (a : Ancestor) (c : IsClean (there place op children outer a)) where
   is_known : is_listed (number op) ≡ true
-  is_known = not-false (is_listed (number op)) (or_parts (not (is_listed (number op))) (is_left_out op) (c.fault OpOutside)).0
+  is_known = (inside_parts op (c.fault OpOutside)).0
 
   its_good : is_operator (number a.op) ≡ false → IsGoodOpcode op
   its_good other = clean_good (there place op children outer a) c (in_operator place op children outer a ∙ other)

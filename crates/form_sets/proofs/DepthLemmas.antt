@@ -8,7 +8,7 @@ use Rattle.std.proofs.lemmas.List.Elements.{filter-append, Contains-append_right
 use Rattle.ifr_opcodes.specs.Fields.{rule_id, rule_ref_rule}
 use Rattle.ifr_opcodes.specs.Forest.{Node, below}
 use Rattle.ifr_opcodes.specs.Reading.{tree_of}
-use Rattle.ifr_opcodes.proofs.StatementLemmas.{and_first}
+use Rattle.ifr_opcodes.proofs.TableLemmas.{and_first}
 use Rattle.ifr_expr.specs.Meaning.{Rule, names}
 use Rattle.ifr_expr.specs.References.{references}
 use Rattle.ifr_expr.specs.declared.references.RuleReference.{RuleReference}

@@ -1,15 +1,14 @@
 -- A good expression is one that has no fault.
 use Rattle.std.proofs.Common.{◌≡◌, ℕ, zero, suc, ◌+◌, ◌≤◌, ◌<◌, true, false, Option, Some, is_some, Result, Ok, Err, List, [], ◌∷◌, ◌++◌, length, refl, sym, ap, subst, ◌∙◌, arith, add-one, inl, inr}
 use Rattle.std.specs.Prelude.{Contains, ◌==◌, slice_index_or}
-use Rattle.std.proofs.lemmas.Bool.{cases_Bool, false≢true, eqb-true, eq-eqb, le-ltb, ltb-false, and_cases, and_left, and_right, not_from_true, not-false}
+use Rattle.std.proofs.lemmas.Bool.{cases_Bool, false≢true, eqb-true, eq-eqb, and_cases, and_left, and_right, not_from_true, not-false}
 use Rattle.std.proofs.lemmas.List.Elements.{Contains-append_cases, Contains-push_cases, Contains-get_or, recursion_from_All}
 use Rattle.hii_bytes.specs.Faults.{HasNone}
 use Rattle.hii_bytes.specs.declared.cause.Cause.{Cause}
 use Rattle.hii_bytes.specs.declared.cause.Cause.TheVariants.{OpOutside, OpSize, Misplaced, ScopeBit, ExprShape}
 use Rattle.hii_bytes.specs.declared.cause.Fault.{Fault}
 use Rattle.ifr_opcodes.specs.Opcode.{number, has_scope}
-use Rattle.ifr_opcodes.specs.Operators.{is_operator}
-use Rattle.ifr_opcodes.specs.Rows.{least_length}
+use Rattle.ifr_opcodes.specs.Rows.{is_operator, is_short}
 use Rattle.ifr_opcodes.specs.Forest.{Forest, none, node, flat, AreNodes, Mark}
 use Rattle.ifr_opcodes.proofs.RowLemmas.{operator_inside}
 use Rattle.ifr_expr.specs.Trees.{Tree, leaf, one, two, post, takes, need, IsFitting, Means, siblings, expression}
@@ -51,7 +50,7 @@ are_operators place op children m g w = of_tree g.tree m g.means.fitting (subst 
 -- ---- a good expression has no fault
 
 record IsPlain (m : Mark) : Type 0 where
-  long : least_length m.op ≤ length m.op
+  long : is_short m.op ≡ false
   plain : has_scope m.op ≡ false
 
 plain_siblings : (at : ℕ) (f : Forest) (m : Mark) → AreFurther f → Contains (siblings at f) m → IsPlain m
@@ -59,9 +58,9 @@ plain_siblings at none m h (k, lt, e) = absurd (omega arith)
 plain_siblings at (node op c rest) m h (zero, lt, e) = subst IsPlain e (record { long = h.0; plain = h.1.0 })
 plain_siblings at (node op c rest) m h (suc k, lt, e) = plain_siblings (at + length (flat (node op c none))) rest m h.1.1 (k, omega arith, e)
 
-clear : (at : ℕ) (m : Mark) (cause : Cause) → is_operator (number m.op) ≡ true → least_length m.op ≤ length m.op → has_opcode_fault at m ScopeBit ≡ false → has_opcode_fault at m cause ≡ false
+clear : (at : ℕ) (m : Mark) (cause : Cause) → is_operator (number m.op) ≡ true → is_short m.op ≡ false → has_opcode_fault at m ScopeBit ≡ false → has_opcode_fault at m cause ≡ false
 clear at m OpOutside known long scope = operator_inside m.op known
-clear at m OpSize known long scope = le-ltb (length m.op) (least_length m.op) long
+clear at m OpSize known long scope = long
 clear at m Misplaced known long scope = not_from_true (is_operator (number m.op)) known
 clear at m ScopeBit known long scope = scope
 clear at m _ known long scope = refl
@@ -94,7 +93,7 @@ further_of start at (node op c rest) h lt free =
       | inr e ↦ absurd (omega (arith, eqb-true at start (not-false (at == start) e)))
     ] in
     let more : start < at + length (flat (node op c none)) = omega arith in
-    (ltb-false (length op) (least_length op) (free m OpSize here), (plain, further_of start (at + length (flat (node op c none))) rest h.1.1 more (λ n cause w. free n cause (behind m (siblings (at + length (flat (node op c none))) rest) n w))))
+    (free m OpSize here, (plain, further_of start (at + length (flat (node op c none))) rest h.1.1 more (λ n cause w. free n cause (behind m (siblings (at + length (flat (node op c none))) rest) n w))))
 
 one_left : (place : ℕ) (marks : List Mark) (count : ℕ) → 0 < length marks → HasNone (IsShapeFault place marks) → Grown marks count → count ≡ 1
 one_left place marks count some free g = go g.trees g.spell g.long
@@ -110,7 +109,7 @@ grown place marks (Err fault) some free says = absurd (free fault.cause fault.pl
 
 pub clear_is_good : (place : ℕ) (op : List ℕ) (children : Forest) → AreNodes (node op children none) → HasNone (IsExpressionFault place (expression place op children)) → IsGoodExpression place op children
 clear_is_good place op children h sound = record {
-  long = ltb-false (length op) (least_length op) (free (record { place = place; op = op }) OpSize (0, omega arith, refl));
+  long = free (record { place = place; op = op }) OpSize (0, omega arith, refl);
   further = further_of place (place + length op) children h.1.0 (omega (arith, h.0.whole.long)) (λ m cause w. free m cause (behind (record { place = place; op = op }) (siblings (place + length op) children) m w));
   tree = tree_of_opcodes marks;
   means = value.0;

@@ -7,7 +7,7 @@ use Rattle.hii_bytes.specs.declared.cause.Cause.TheVariants.{NotFormSet, AfterFo
 use Rattle.ifr_opcodes.specs.declared.codes.TheConstants.{FORM_SET, DEFAULT}
 use Rattle.ifr_opcodes.specs.Forest.{Forest, none, node, flat, Node, AreNodes, nodes}
 use Rattle.ifr_opcodes.specs.Opcode.{number}
-use Rattle.ifr_opcodes.specs.Operators.{is_operator}
+use Rattle.ifr_opcodes.specs.Rows.{is_operator}
 use Rattle.ifr_scopes.specs.Guards.{is_guard}
 use Rattle.ifr_scopes.specs.Structure.{IsStructureFault}
 use Rattle.ifr_scopes.specs.Table.{row, class_of, wants_expression, wants_value}
@@ -15,7 +15,7 @@ use Rattle.ifr_scopes.specs.declared.table.Class.TheVariants.{OfFormSet}
 use Rattle.ifr_scopes.proofs.ClassLemmas.{class-other}
 use Rattle.form_sets.specs.WellFormed.{Beginning, nothing_first, wanted_by, IsGoodOpcode, IsFormSet}
 use Rattle.form_sets.proofs.RowLemmas.{form_set_facts}
-use Rattle.form_sets.proofs.CleanLemmas.{IsClean, AreClean, no_fault, good_inside, good_long, good_scope, clean_good, clean_without_fault, without_fault_clean}
+use Rattle.form_sets.proofs.CleanLemmas.{IsClean, AreClean, no_fault, good_scope, clean_good, clean_without_fault, without_fault_clean}
 use Rattle.form_sets.proofs.StandLemmas.{lacks, lacks_as_wanted, Stands, some_bytes}
 use Rattle.form_sets.proofs.SoundLemmas.{clean_inside}
 use Rattle.form_sets.proofs.CompleteLemmas.{stands_inside}
@@ -43,7 +43,7 @@ first_place op children is long = record {
 
 root_clean : (op : List ℕ) (children : Forest) → number op ≡ FORM_SET → IsGoodOpcode op → IsClean (record { place = 4; op = op; path = []; children = children })
 root_clean op children is g = record {
-  fault = no_fault n (not_from_true (number op == FORM_SET) (eq-eqb (number op) FORM_SET is)) refl (good_inside op g) (good_long op g) refl (good_scope n g refl)
+  fault = no_fault n (not_from_true (number op == FORM_SET) (eq-eqb (number op) FORM_SET is)) refl g.known g.long refl (good_scope n g refl)
       (lacks_as_wanted op children ∙ ap (λ (w : Beginning). lacks w children) (nothing_wanted op is));
   expression = λ e. absurd (false≢true e);
 }

@@ -8,7 +8,7 @@ use Rattle.hii_bytes.specs.declared.cause.Cause.{Cause}
 use Rattle.hii_bytes.specs.declared.cause.Cause.TheVariants.{DuplicateForm, DuplicateQuestion, NoForm, RuleTooLarge}
 use Rattle.ifr_opcodes.specs.Fields.{form_id, question_id, ref_target}
 use Rattle.ifr_opcodes.specs.Forest.{Node}
-use Rattle.ifr_opcodes.proofs.StatementLemmas.{and_first, and_second}
+use Rattle.ifr_opcodes.proofs.TableLemmas.{and_first, and_second}
 use Rattle.ifr_scopes.specs.Checked.{IsChecked}
 use Rattle.ifr_scopes.specs.Nodes.{nodes_of, is_form, is_question, is_reference}
 use Rattle.ifr_scopes.specs.References.{Ranked, ranked, has_form_id, has_question_id, has_reference_fault, is_lost, IsReferenceFault}

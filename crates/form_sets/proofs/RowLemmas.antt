@@ -5,11 +5,12 @@ use Rattle.std.specs.List.{list_all}
 use Rattle.std.proofs.lemmas.Bool.{cases_Bool, cond-true, cond-false, eqb-true, not-true, false≢true, or_cases}
 use Rattle.ifr_opcodes.specs.declared.codes.TheConstants.{FORM_SET, VALUE, DEFAULT}
 use Rattle.ifr_opcodes.specs.Opcode.{number}
-use Rattle.ifr_opcodes.specs.Operators.{without_operands, with_one_operand, with_two_operands, is_among, operands, is_operator}
-use Rattle.ifr_opcodes.specs.Rows.{listed, is_listed}
-use Rattle.ifr_opcodes.specs.Statements.{is_question_number, is_statement_number}
+use Rattle.ifr_opcodes.specs.code.Tables.{without_operands, with_one_operand, with_two_operands, others}
+use Rattle.ifr_opcodes.specs.Rows.{is_among, operands, is_operator, row_of, is_listed, is_question_number, is_statement_number}
+use Rattle.ifr_opcodes.proofs.OperatorLemmas.{takes_few, takes_none, takes_one, takes_two}
+use Rattle.ifr_opcodes.proofs.RowLemmas.{known}
 use Rattle.ifr_opcodes.specs.Forest.{Ancestor}
-use Rattle.ifr_opcodes.proofs.StatementLemmas.{and_first, and_second, of_each}
+use Rattle.ifr_opcodes.proofs.TableLemmas.{and_first, and_second, of_each}
 use Rattle.ifr_scopes.specs.Guards.{is_guard}
 use Rattle.ifr_scopes.specs.Kinds.{is_store_number, is_condition_number, is_ignored}
 use Rattle.ifr_scopes.specs.Table.{scope_rows, row_in, row, class_of, guarded, admits, wants_expression, wants_value, class_around}
@@ -35,8 +36,8 @@ some_row (Some r) e = (r, refl)
 pub listed_row : (code : ℕ) → is_listed code ≡ true → (r : Row) × (row code ≡ Some r)
 listed_row code is = elim (cases_Bool (is_operator code)) [
   | inl operator ↦ (record { scope = Outermost; class = OfExpression }, operator_row code operator)
-  | inr other ↦ elim (or_cases (is_among code listed) (is_operator code) is) [
-    | inl among ↦ some_row (row code) (ap (λ (o : Option Row). is_some o) (other_row code other) ∙ of_each (λ c. is_some (row_in scope_rows c)) listed code refl among)
+  | inr other ↦ elim (or_cases (is_among code others) (is_operator code) (sym (known code) ∙ is)) [
+    | inl among ↦ some_row (row code) (ap (λ (o : Option Row). is_some o) (other_row code other) ∙ of_each (λ c. is_some (row_in scope_rows c)) others code refl among)
     | inr operator ↦ absurd (false≢true (sym other ∙ operator))
   ]
 ]
@@ -50,20 +51,16 @@ is_plain _ = true
 
 -- what holds of each operator's number holds of an operator
 of_operator : (holds : ℕ → Bool) → list_all holds without_operands ≡ true → list_all holds with_one_operand ≡ true → list_all holds with_two_operands ≡ true → (code : ℕ) → is_operator code ≡ true → holds code ≡ true
-unfolding operands
-of_operator holds without one two code is = elim (cases_Bool (is_among code without_operands)) [
-  | inl here ↦ of_each holds without_operands code without here
-  | inr a ↦ elim (cases_Bool (is_among code with_one_operand)) [
-    | inl here ↦ of_each holds with_one_operand code one here
-    | inr b ↦ elim (cases_Bool (is_among code with_two_operands)) [
-      | inl here ↦ of_each holds with_two_operands code two here
-      | inr c ↦ let none : is_operator code ≡ false = rw (a, b, c) refl in absurd (false≢true (sym none ∙ is))
-    ]
+of_operator holds without one two code is = elim (takes_few code is) [
+  | inl takes ↦ of_each holds without_operands code without (takes_none code takes)
+  | inr more ↦ elim more [
+    | inl takes ↦ of_each holds with_one_operand code one (takes_one code takes)
+    | inr takes ↦ of_each holds with_two_operands code two (takes_two code takes)
   ]
 ]
 
 refused : (c : Class) (code : ℕ) → is_plain c ≡ true → is_operator code ≡ true → not (admits c code) ≡ true
-unfolding is_statement_number is_question_number is_store_number is_condition_number is_ignored
+unfolding row_of is_statement_number is_question_number is_store_number is_condition_number is_ignored
 refused OfFormSet code plain is = of_operator (λ k. not (admits OfFormSet k)) refl refl refl code is
 refused OfForm code plain is = of_operator (λ k. not (admits OfForm k)) refl refl refl code is
 refused OfText code plain is = of_operator (λ k. not (admits OfText k)) refl refl refl code is
@@ -118,11 +115,11 @@ class_around-inside path a = elim (cases_Bool (is_guard (number a.op))) [
 -- ---- some opcodes
 
 pub form_set_facts : (row FORM_SET ≡ Some (record { scope = Always; class = OfFormSet })) × (is_operator FORM_SET ≡ false) × (wants_expression FORM_SET ≡ false)
-unfolding row operands is_condition_number
+unfolding row row_of operands is_condition_number
 form_set_facts = (refl, refl, refl)
 
 pub value_facts : (class_of (row VALUE) ≡ OfNothing) × (is_operator VALUE ≡ false)
-unfolding row operands
+unfolding row row_of operands
 value_facts = (refl, refl)
 
 default_wants : wants_expression DEFAULT ≡ false

@@ -1,15 +1,14 @@
 -- The nodes of a well-formed form set have no fault.
-use Rattle.std.proofs.Common.{◌≡◌, ℕ, ◌+◌, ◌≤◌, ◌<◌, Bool, true, false, Option, List, [], ◌∷◌, ◌++◌, length, refl, sym, ap, subst, ◌∙◌, arith}
+use Rattle.std.proofs.Common.{◌≡◌, ℕ, ◌+◌, ◌<◌, Bool, true, false, Option, List, [], ◌∷◌, ◌++◌, length, refl, sym, ap, subst, ◌∙◌, arith}
 use Rattle.std.specs.Prelude.{Contains, ◌&&◌}
-use Rattle.std.proofs.lemmas.Bool.{cond-true, false≢true, and_left, and_right, or_from, or_left, or_right, not_from_true, le-ltb, eq-eqb, ne_eqb}
+use Rattle.std.proofs.lemmas.Bool.{cond-true, false≢true, and_left, and_right, or_from, or_left, or_right, not_from_true, eq-eqb, ne_eqb}
 use Rattle.hii_bytes.specs.declared.cause.Cause.TheVariants.{Misplaced}
 use Rattle.ifr_opcodes.specs.declared.codes.TheConstants.{VALUE}
 use Rattle.ifr_opcodes.specs.Forest.{Forest, none, node, flat, Mark, Ancestor, Node, AreNodes}
 use Rattle.ifr_opcodes.specs.Opcode.{number, has_scope}
-use Rattle.ifr_opcodes.specs.Operators.{is_operator}
-use Rattle.ifr_opcodes.specs.Rows.{least_length, is_listed}
+use Rattle.ifr_opcodes.specs.Rows.{is_operator, is_listed, is_short}
 use Rattle.ifr_opcodes.proofs.RowLemmas.{operator_inside}
-use Rattle.ifr_opcodes.proofs.StatementLemmas.{and_first}
+use Rattle.ifr_opcodes.proofs.TableLemmas.{and_first}
 use Rattle.ifr_expr.specs.Trees.{siblings}
 use Rattle.ifr_scopes.specs.Structure.{has_structure_fault, has_wrong_scope, is_condition, is_wanted, is_operand, lacks_wanted}
 use Rattle.ifr_scopes.specs.Table.{row, class_of, class_around, admits, wants_expression}
@@ -22,7 +21,7 @@ use Rattle.form_sets.specs.Expressions.{AreFurther, IsGoodExpression}
 use Rattle.form_sets.specs.WellFormed.{Beginning, an_expression, a_value, nothing_first, wanted_by, class_inside, IsGoodOpcode, StandsIn}
 use Rattle.form_sets.proofs.ExpressionLemmas.{behind, are_operators, good_is_clear}
 use Rattle.form_sets.proofs.RowLemmas.{admitted_plain, value_facts}
-use Rattle.form_sets.proofs.CleanLemmas.{IsClean, AreClean, no_fault, good_inside, good_long, good_scope}
+use Rattle.form_sets.proofs.CleanLemmas.{IsClean, AreClean, no_fault, good_scope}
 use Rattle.form_sets.proofs.StandLemmas.{lacks, lacks_as_wanted, Stands, some_bytes, later, first_of, there, no_root, in_operator, as_condition, as_value}
 
 -- ---- operators
@@ -35,11 +34,11 @@ operator_scope : (n : Node) (operand : Bool) → is_operator (number n.op) ≡ t
 operator_scope n operand known is free =
     ap (λ (r : Option Row). has_wrong_scope r (is_operand n) n.op) (operator_row (number n.op) known) ∙ ap (λ (b : Bool). b && has_scope n.op) is ∙ free
 
-operator_clean : (place : ℕ) (op : List ℕ) (children : Forest) (outer : List Ancestor) (a : Ancestor) → 4 < place → is_operator (number op) ≡ true → least_length op ≤ length op
+operator_clean : (place : ℕ) (op : List ℕ) (children : Forest) (outer : List Ancestor) (a : Ancestor) → 4 < place → is_operator (number op) ≡ true → is_short op ≡ false
     → has_structure_fault (there place op children outer a) Misplaced ≡ false → (is_operator (number a.op) && has_scope op) ≡ false → (is_condition (there place op children outer a) ≡ true → IsGoodExpression place op children)
     → IsClean (there place op children outer a)
 operator_clean place op children outer a low known long placed scoped good = record {
-  fault = no_fault (there place op children outer a) (and_left _ _ (ne_eqb place 4 (λ e. omega arith))) (and_left _ _ (no_root place op children outer a)) (operator_inside op known) (le-ltb (length op) (least_length op) long) placed
+  fault = no_fault (there place op children outer a) (and_left _ _ (ne_eqb place 4 (λ e. omega arith))) (and_left _ _ (no_root place op children outer a)) (operator_inside op known) long placed
       (operator_scope (there place op children outer a) (is_operator (number a.op)) known (in_operator place op children outer a) scoped)
       (begins_nothing op children known);
   expression = λ is. good_is_clear place op children (good (and_first _ _ is));
@@ -87,7 +86,7 @@ not_lacking a_value class place (node op children rest) i = and_right (is_listed
 other_clean : (place : ℕ) (op : List ℕ) (children : Forest) (outer : List Ancestor) (a : Ancestor) (wanted : Beginning) (class : Class) (around : Class) → Stands wanted class place outer a → IsGoodOpcode op → is_operator (number op) ≡ false
     → has_structure_fault (there place op children outer a) Misplaced ≡ false → StandsIn (wanted_by op) around (place + length op) children → IsClean (there place op children outer a)
 other_clean place op children outer a wanted class around s g other placed inner = record {
-  fault = no_fault (there place op children outer a) (and_left _ _ (ne_eqb place 4 (λ e. omega (arith, e, s.low)))) (and_left _ _ (no_root place op children outer a)) (good_inside op g) (good_long op g) placed
+  fault = no_fault (there place op children outer a) (and_left _ _ (ne_eqb place 4 (λ e. omega (arith, e, s.low)))) (and_left _ _ (no_root place op children outer a)) g.known g.long placed
       (good_scope (there place op children outer a) g (in_operator place op children outer a ∙ s.other))
       (lacks_as_wanted op children ∙ not_lacking (wanted_by op) around (place + length op) children inner);
   expression = λ is. absurd (false≢true (sym (and_right _ _ other) ∙ is));

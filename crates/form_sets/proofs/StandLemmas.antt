@@ -4,7 +4,7 @@ use Rattle.std.specs.Prelude.{◌&&◌, ◌||◌}
 use Rattle.std.proofs.lemmas.Bool.{true≢false, and_right, eq-eqb, ne_eqb}
 use Rattle.ifr_opcodes.specs.Forest.{Forest, none, node, flat, Mark, Ancestor, Node, AreNodes}
 use Rattle.ifr_opcodes.specs.Opcode.{number}
-use Rattle.ifr_opcodes.specs.Operators.{is_operator}
+use Rattle.ifr_opcodes.specs.Rows.{is_operator}
 use Rattle.ifr_opcodes.proofs.ForestLemmas.{takes}
 use Rattle.ifr_scopes.specs.Structure.{begins_scope, begins_with_value, stands_first, is_root, is_condition, is_operand, parent, is_operator_scope, first_number, lacks_expression, lacks_value, lacks_wanted}
 use Rattle.ifr_scopes.specs.Table.{class_around, wants_expression, wants_value}

@@ -1,10 +1,10 @@
 -- A well-formed form set, said of each node by its parent and its children (UEFI 2.8, 33.3.8.3 Opcode Reference; what may stand
 -- where is an own rule, read off the tables).
-use Rattle.std.specs.Prelude.{◌≡◌, ℕ, ◌+◌, ◌≤◌, true, false, Some, if◌then◌else◌, List, length, ⊤}
+use Rattle.std.specs.Prelude.{◌≡◌, ℕ, ◌+◌, true, false, Some, if◌then◌else◌, List, length, ⊤}
 use Rattle.ifr_opcodes.specs.declared.codes.TheConstants.{FORM_SET, VALUE}
 use Rattle.ifr_opcodes.specs.Forest.{Forest, none, node, flat}
 use Rattle.ifr_opcodes.specs.Opcode.{number, has_scope}
-use Rattle.ifr_opcodes.specs.Rows.{least_length, is_listed, is_left_out}
+use Rattle.ifr_opcodes.specs.Rows.{is_outside, is_short}
 use Rattle.ifr_scopes.specs.Guards.{is_guard}
 use Rattle.ifr_scopes.specs.Table.{row, admits, class_of, guarded, wants_expression, wants_value}
 use Rattle.ifr_scopes.specs.declared.table.Class.{Class}
@@ -22,11 +22,10 @@ FitsScope Never op = has_scope op ≡ false
 FitsScope Outermost op = ⊤
 FitsScope WithValue op = has_scope op ≡ wants_value op
 
--- An opcode is listed and not left out, has all its fields, and has Scope as its row says.
+-- An opcode is known and not left out, has all its fields, and has Scope as its row says.
 pub record IsGoodOpcode (op : List ℕ) : Type 0 where
-  pub listed : is_listed (number op) ≡ true
-  pub kept : is_left_out op ≡ false
-  pub long : least_length op ≤ length op
+  pub known : is_outside op ≡ false
+  pub long : is_short op ≡ false
   pub in_table : Row
   pub found : row (number op) ≡ Some in_table
   pub scoped : FitsScope in_table.scope op

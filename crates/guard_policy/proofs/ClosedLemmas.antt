@@ -7,7 +7,7 @@ use Rattle.std.proofs.lemmas.Bool.{eqb-true}
 use Rattle.ifr_opcodes.specs.declared.codes.TheConstants.{ONE_OF_OPTION}
 use Rattle.ifr_opcodes.specs.Forest.{Node}
 use Rattle.ifr_opcodes.specs.Opcode.{number}
-use Rattle.ifr_opcodes.specs.Statements.{is_question_number}
+use Rattle.ifr_opcodes.specs.Rows.{row_of, is_question_number}
 use Rattle.ifr_scopes.specs.Nodes.{is_option, is_question}
 use Rattle.guard_policy.specs.Policy.{covered, fixed, all_fixed}
 use Rattle.guard_policy.specs.World.{World}
@@ -15,7 +15,7 @@ use Rattle.guard_policy.specs.declared.denial.Denial.{Denial}
 use Rattle.guard_policy.proofs.DenialLemmas.{or_nothing}
 
 no_question : is_question_number ONE_OF_OPTION ≡ false
-unfolding is_question_number
+unfolding is_question_number row_of
 no_question = refl
 
 -- an option is fixed by what stands around it alone

@@ -9,7 +9,7 @@ use Rattle.hii_bytes.specs.code.FirstFaults.{Rise}
 use Rattle.ifr_opcodes.specs.declared.codes.TheConstants.{DISABLE_IF}
 use Rattle.ifr_opcodes.specs.Forest.{Node}
 use Rattle.ifr_opcodes.specs.Opcode.{number}
-use Rattle.ifr_opcodes.specs.Operators.{is_among}
+use Rattle.ifr_opcodes.specs.Rows.{is_among}
 use Rattle.ifr_scopes.specs.Guards.{is_guard}
 
 -- numbers that rise

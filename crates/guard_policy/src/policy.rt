@@ -2,7 +2,7 @@
 
 ghost use Rattle.std.specs.Prelude.{◌≡◌, if◌then◌else◌, Some, None, option_map};
 ghost use Rattle.hii_bytes.specs.Numbers.{AreBytes};
-ghost use Rattle.ifr_opcodes.specs.Operators.{is_among};
+ghost use Rattle.ifr_opcodes.specs.Rows.{is_among};
 ghost use Rattle.ifr_scopes.specs.Accepted.{IsAccepted};
 ghost use Rattle.ifr_scopes.specs.code.Checked.{IsAccepted-prop};
 ghost use Rattle.ifr_scopes.specs.code.Checked.{IsNodeOf};

@@ -92,6 +92,7 @@ impl<W: Write + Drop> Watched<BufWriter<W>> {
         ensures bytes { Keeps (writer_contents W.contents (inner_of self.old))
             (writer_contents W.contents (inner_of self.new)) }
         ensures empty { OnOk result (writer_buffer (inner_of self.new) ≡ []) }
+        ensures passed_on { OnOk result (has_passed_on self.new ≡ true) }
         ensures counted { taken_of self.new ≡ taken_of self.old }
         ensures fault { has_failed self.new ≡ is_err result }
         ensures stays { has_failed self.old ≡ true → IsErr result }

@@ -2,5 +2,6 @@ pub mod CutLemmas
 pub mod ScriptLemmas
 pub mod HeldLemmas
 pub mod WordLemmas
-pub mod OrderLemmas
+pub mod CommandLemmas
+pub mod ReadingLemmas
 pub mod Examples

@@ -3,9 +3,15 @@ use Rattle.std.proofs.Common.{append-nil, ◌≡◌, ◌≢◌, ◌↔◌, ℕ, 
 use Rattle.std.proofs.lemmas.Bool.{cond-true, cond-false, cases_Bool, eqb-true, eqb-false, ne_eqb}
 use Rattle.std.proofs.lemmas.List.{drop_all}
 use Rattle.std.specs.List.{AllByRecursion, position, before_first, concat}
-use Rattle.hii_commands.specs.Script.{ends_line, in_front, cut_lines, whole_lines, rest_of}
+use Rattle.browser_rules.specs.Script.{cut_lines}
+use Rattle.hii_commands.specs.code.Lines.{ends_line, whole_lines, rest_of}
 use Rattle.hii_commands.specs.laws.Lines.{AreLines, cut_pieces, joined, IsWithinLine}
 use Rattle.hii_commands.proofs.CutLemmas.{Lacks-before_first, piece_whole, piece_at}
+
+-- the byte in front of the first line, or of what stands after the last LF
+abbrev in_front : ℕ → List (List ℕ) × List ℕ → List (List ℕ) × List ℕ
+in_front b ([], rest) = ([], b ∷ rest)
+in_front b (line ∷ lines, rest) = ((b ∷ line) ∷ lines, rest)
 
 in_front-rest : (b : ℕ) (c : List (List ℕ) × List ℕ) (p : List ℕ) → in_front b (c.0, c.1 ++ p) ≡ ((in_front b c).0, (in_front b c).1 ++ p)
 in_front-rest b ([], r) p = refl

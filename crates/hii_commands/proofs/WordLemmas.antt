@@ -11,7 +11,7 @@ use Rattle.std.proofs.Math.Nat.{pow-le-pow_right}
 use Rattle.hii_bytes.specs.Digits.{number_below}
 use Rattle.hii_bytes.proofs.DigitLemmas.{number_below-from, number_below-is}
 use Rattle.hii_commands.specs.laws.Lines.{Lacks}
-use Rattle.hii_commands.specs.Reading.{begins_with, cut_word}
+use Rattle.hii_commands.specs.code.Reading.{begins_with, cut_word}
 use Rattle.hii_commands.proofs.CutLemmas.{Lacks-before_first, piece_whole, piece_at}
 
 -- ---- words

@@ -3,12 +3,12 @@
 ghost use Rattle.std.specs.Prelude.{◌≡◌, ◌↔◌, ◌<◌, ◌==◌, [], Some, None, Ok, Err, IsTrue, MatchResult, IfOk, IfSome, option_map};
 ghost use Rattle.std.specs.List.{list_all};
 ghost use Rattle.std.specs.Str.{bytes_eq};
+ghost use Rattle.browser_rules.specs.Script as script;
+ghost use Rattle.browser_rules.specs.Script.{command_of, without_return};
 ghost use Rattle.hii_bytes.specs.NumberList.{IsList, numbers_of};
-ghost use Rattle.hii_commands.specs.Line.{without_return};
-ghost use Rattle.hii_commands.specs.Orders as orders;
-ghost use Rattle.hii_commands.specs.laws.Asking.{Means, IsRefused};
-ghost use Rattle.hii_commands.specs.Meaning.{HasList, order_of, cause_of};
-ghost use Rattle.hii_commands.specs.Reading.{order_in, reading_of, set_in, elements_in, text_in, list_in, is_one_word, why_in, go_in, press_in, defaults_in, numbered_in, worded_in, word_order, lang_in, plain_in, value_in, question_in, default_class_in, row_number_in, cut_word};
+ghost use Rattle.hii_commands.specs.Meaning.{HasList, command_meant, cause_meant, cause_of};
+ghost use Rattle.hii_commands.specs.code.Reading as reading;
+ghost use Rattle.hii_commands.specs.code.Reading.{command_in, set_in, order_in, text_in, list_in, is_one_word, why_in, go_in, press_in, defaults_in, numbered_in, worded_in, word_command, lang_in, plain_in, value_in, question_in, default_class_in, row_number_in, cut_word};
 
 use crate::limits::LINE_LIMIT;
 use hii_bytes::{Cause, first_place, is_number_list, number_of_digits};
@@ -72,12 +72,9 @@ impl BadLine {
 /// Refuses by LineTooLong a line of more than 4,096 bytes, the CR counted, and by BadCommand one that is no command, as
 /// the empty line.
 pub fn read_line(line: &[u8]) -> Result<Command<'_>, BadLine>
-    ensures means { MatchResult result (λ command. Means line.now (order_of command))
-        (IsRefused line.now) }
+    ensures means { MatchResult result (λ command. command_of line.now ≡ Ok (command_meant command))
+        (λ bad. command_of line.now ≡ Err (cause_meant bad)) }
     ensures list { IfOk result HasList }
-    // The answer is the function `reading_of` of the line.
-    ensures reads { MatchResult result (λ command. reading_of line.now ≡ Ok (order_of command))
-        (λ bad. reading_of line.now ≡ Err bad) }
 {
     if line.len() > LINE_LIMIT {
         return Err(BadLine::LineTooLong);
@@ -108,7 +105,7 @@ fn drop_return(line: &[u8]) -> &[u8]
 }
 
 fn command_in(text: &[u8]) -> Option<Command<'_>>
-    ensures order { option_map order_of result ≡ order_in text.now }
+    ensures command { option_map command_meant result ≡ command_in text.now }
     ensures list { IfSome result HasList }
 {
     match split_word(text) {
@@ -144,7 +141,7 @@ fn split_word(text: &[u8]) -> (&[u8], Option<&[u8]>)
 }
 
 fn plain_command(word: &[u8]) -> Option<Command<'_>>
-    ensures order { option_map order_of result ≡ plain_in word.now }
+    ensures command { option_map command_meant result ≡ plain_in word.now }
     ensures list { IfSome result HasList }
 {
     if is_word(word, b"page") {
@@ -161,7 +158,7 @@ fn plain_command(word: &[u8]) -> Option<Command<'_>>
 }
 
 fn set_command(rest: &[u8]) -> Option<Command<'_>>
-    ensures order { option_map order_of result ≡ set_in (cut_word rest.now) }
+    ensures command { option_map command_meant result ≡ set_in (cut_word rest.now) }
     ensures list { IfSome result HasList }
 {
     let (question, value) = split_word(rest);
@@ -171,7 +168,7 @@ fn set_command(rest: &[u8]) -> Option<Command<'_>>
 }
 
 fn order_command(rest: &[u8]) -> Option<Command<'_>>
-    ensures order { option_map order_of result ≡ elements_in (cut_word rest.now) }
+    ensures command { option_map command_meant result ≡ order_in (cut_word rest.now) }
     ensures list { IfSome result HasList }
 {
     let (question, list) = split_word(rest);
@@ -194,7 +191,7 @@ fn list_of(rest: Option<&[u8]>) -> Option<&[u8]>
 }
 
 fn text_command(rest: &[u8]) -> Option<Command<'_>>
-    ensures order { option_map order_of result ≡ text_in (cut_word rest.now) }
+    ensures command { option_map command_meant result ≡ text_in (cut_word rest.now) }
     ensures list { IfSome result HasList }
 {
     let (question, text) = split_word(rest);
@@ -207,7 +204,7 @@ fn text_command(rest: &[u8]) -> Option<Command<'_>>
 
 // The command of a word that one word follows.
 fn worded_command<'a>(word: &[u8], rest: &'a [u8]) -> Option<Command<'a>>
-    ensures order { option_map order_of result ≡ worded_in word.now rest.now }
+    ensures command { option_map command_meant result ≡ worded_in word.now rest.now }
     ensures list { IfSome result HasList }
 {
     if is_word(word, b"lang") {
@@ -222,8 +219,7 @@ fn worded_command<'a>(word: &[u8], rest: &'a [u8]) -> Option<Command<'a>>
 }
 
 fn extract_command(rest: &[u8]) -> Option<Command<'_>>
-    ensures order { option_map order_of result
-        ≡ word_order orders.ExtractConfiguration rest.now }
+    ensures command { option_map command_meant result ≡ word_command script.Extract rest.now }
     ensures list { IfSome result HasList }
 {
     if is_one_word(rest) {
@@ -234,7 +230,7 @@ fn extract_command(rest: &[u8]) -> Option<Command<'_>>
 }
 
 fn route_command(rest: &[u8]) -> Option<Command<'_>>
-    ensures order { option_map order_of result ≡ word_order orders.RouteConfiguration rest.now }
+    ensures command { option_map command_meant result ≡ word_command script.Route rest.now }
     ensures list { IfSome result HasList }
 {
     if is_one_word(rest) {
@@ -252,20 +248,20 @@ fn is_one_word(text: &[u8]) -> bool
 }
 
 fn are_word_bytes(text: &[u8]) -> bool
-    ensures { result ≡ list_all orders.is_word_byte text.now }
+    ensures { result ≡ list_all reading.is_word_byte text.now }
 {
     text.iter().all(|byte| is_word_byte(*byte))
 }
 
 fn is_word_byte(byte: u8) -> bool
-    ensures { result ≡ orders.is_word_byte byte }
+    ensures { result ≡ reading.is_word_byte byte }
 {
     byte != b' '
 }
 
 // The command of a word that one number follows.
 fn numbered_command<'a>(word: &[u8], rest: &'a [u8]) -> Option<Command<'a>>
-    ensures order { option_map order_of result ≡ numbered_in word.now rest.now }
+    ensures command { option_map command_meant result ≡ numbered_in word.now rest.now }
     ensures list { IfSome result HasList }
 {
     if is_word(word, b"why") {
@@ -282,7 +278,7 @@ fn numbered_command<'a>(word: &[u8], rest: &'a [u8]) -> Option<Command<'a>>
 }
 
 fn why_command(rest: &[u8]) -> Option<Command<'_>>
-    ensures order { option_map order_of result ≡ why_in rest.now }
+    ensures command { option_map command_meant result ≡ why_in rest.now }
     ensures list { IfSome result HasList }
 {
     let question = question_of(rest)?;
@@ -290,7 +286,7 @@ fn why_command(rest: &[u8]) -> Option<Command<'_>>
 }
 
 fn go_command(rest: &[u8]) -> Option<Command<'_>>
-    ensures order { option_map order_of result ≡ go_in rest.now }
+    ensures command { option_map command_meant result ≡ go_in rest.now }
     ensures list { IfSome result HasList }
 {
     let question = question_of(rest)?;
@@ -298,7 +294,7 @@ fn go_command(rest: &[u8]) -> Option<Command<'_>>
 }
 
 fn press_command(rest: &[u8]) -> Option<Command<'_>>
-    ensures order { option_map order_of result ≡ press_in rest.now }
+    ensures command { option_map command_meant result ≡ press_in rest.now }
     ensures list { IfSome result HasList }
 {
     let row = row_of(rest)?;
@@ -306,7 +302,7 @@ fn press_command(rest: &[u8]) -> Option<Command<'_>>
 }
 
 fn defaults_command(rest: &[u8]) -> Option<Command<'_>>
-    ensures order { option_map order_of result ≡ defaults_in rest.now }
+    ensures command { option_map command_meant result ≡ defaults_in rest.now }
     ensures list { IfSome result HasList }
 {
     let class = class_of(rest)?;
@@ -317,7 +313,7 @@ fn defaults_command(rest: &[u8]) -> Option<Command<'_>>
 const LANGUAGE_LIMIT: usize = 63;
 
 fn lang_command(rest: &[u8]) -> Option<Command<'_>>
-    ensures order { option_map order_of result ≡ lang_in rest.now }
+    ensures command { option_map command_meant result ≡ lang_in rest.now }
     ensures list { IfSome result HasList }
 {
     if 1 <= rest.len() && rest.len() <= LANGUAGE_LIMIT && are_language_bytes(rest) {
@@ -328,13 +324,13 @@ fn lang_command(rest: &[u8]) -> Option<Command<'_>>
 }
 
 fn are_language_bytes(text: &[u8]) -> bool
-    ensures { result ≡ list_all orders.is_language_byte text.now }
+    ensures { result ≡ list_all reading.is_language_byte text.now }
 {
     text.iter().all(|byte| is_language_byte(*byte))
 }
 
 fn is_language_byte(byte: u8) -> bool
-    ensures { result ≡ orders.is_language_byte byte }
+    ensures { result ≡ reading.is_language_byte byte }
 {
     byte.is_ascii_alphanumeric() || byte == b'-'
 }

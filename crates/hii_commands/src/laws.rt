@@ -1,27 +1,29 @@
 //! Laws of the definitions that the contracts cite.
 
-ghost use Rattle.std.specs.Prelude.{◌≡◌, ◌↔◌, ◌++◌, ℕ, List, Some};
+ghost use Rattle.std.specs.Prelude.{◌≡◌, ◌↔◌, ◌++◌, ℕ, List, Ok, Err};
 ghost use Rattle.std.specs.List.{concat};
+ghost use Rattle.browser_rules.specs.Script.{Command, command_of, cut_lines};
+ghost use Rattle.hii_commands.specs.Meaning.{cause_meant};
+ghost use Rattle.hii_commands.specs.declared.command.BadLine.{BadLine};
+ghost use Rattle.hii_commands.specs.laws.Asking.{Asks, Means, IsRefused};
 ghost use Rattle.hii_commands.specs.laws.Limits.{HaveLimits};
-ghost use Rattle.hii_commands.specs.Orders.{Order};
-ghost use Rattle.hii_commands.specs.laws.Asking.{Asks};
-ghost use Rattle.hii_commands.specs.Reading.{order_in};
 ghost use Rattle.hii_commands.specs.laws.Lines.{AreLines, cut_pieces, joined};
-ghost use Rattle.hii_commands.specs.Script.{cut_lines};
 
-/// Lines and scripts have their limits (own rule).
+/// Lines and scripts have the limits of the rules.
 pub fn lines_and_scripts_have_their_limits()
     ensures { HaveLimits }
 {}
 
-/// A text asks for one order at most.
-pub fn one_order_is_asked()
-    ensures { (text : List ℕ) (a b : Order) → Asks text a → Asks text b → a ≡ b }
+/// A text has the form of one command at most.
+pub fn one_command_is_asked()
+    ensures { (text : List ℕ) (a b : Command) → Asks text a → Asks text b → a ≡ b }
 {}
 
-/// The function `order_in` finds exactly the order that a text asks for.
-pub fn asked_orders_are_found()
-    ensures { (text : List ℕ) (order : Order) → Asks text order ↔ (order_in text ≡ Some order) }
+/// The rules find exactly the command whose form a line has, and refuse exactly the lines that are too long or have the
+/// form of none.
+pub fn asked_commands_are_found()
+    ensures good { (line : List ℕ) (command : Command) → Means line command ↔ (command_of line ≡ Ok command) }
+    ensures bad { (line : List ℕ) (bad : BadLine) → IsRefused line bad ↔ (command_of line ≡ Err (cause_meant bad)) }
 {}
 
 /// The bytes are cut into exactly the lines with an LF behind them and what is left.

@@ -3,7 +3,7 @@
 ghost use Rattle.std.specs.Prelude.{◌≡◌, ◌≤◌, ◌<◌, ◌+◌, ℕ, List, [], ◌++◌, true, false, length, IfOk, IfErr, MatchOption, MatchResult};
 ghost use Rattle.std.specs.List.{position, before_first};
 ghost use Rattle.hii_bytes.specs.Faults.{out_of_memory};
-ghost use Rattle.hii_commands.specs.Script.{ends_line};
+ghost use Rattle.hii_commands.specs.code.Lines.{ends_line};
 ghost use Rattle.hii_commands.specs.code.Held.{held_of};
 
 use crate::command::BadLine;

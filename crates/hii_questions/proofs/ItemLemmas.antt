@@ -1,10 +1,11 @@
 -- The items in bytes, one after the other.
-use Rattle.std.proofs.Common.{◌≡◌, ◌⊎◌, ℕ, zero, suc, ◌+◌, ◌-◌, ◌*◌, ◌/◌, ◌%◌, ◌<◌, ◌≤◌, true, false, eqb, List, [], ◌∷◌, length, take, drop, refl, sym, ap, ◌∙◌, arith, inl, inr, length-drop, length-take}
+use Rattle.std.proofs.Common.{◌≡◌, ◌⊎◌, ◌==◌, ℕ, zero, suc, ◌+◌, ◌-◌, ◌*◌, ◌/◌, ◌%◌, ◌<◌, ◌≤◌, true, false, cond, eqb, List, [], ◌∷◌, length, take, drop, refl, sym, ap, ◌∙◌, arith, inl, inr, length-drop, length-take}
 use Rattle.std.proofs.Math.Nat.{div-add-mod', mod-lt, mul-le-mul_right, div-mul-le_self}
 use Rattle.std.proofs.lemmas.Nat.{div-mul-add, div_below}
 use Rattle.std.proofs.lemmas.Bool.{cases_Bool, eqb-true}
 use Rattle.std.specs.List.{take_while, prefix_len}
 use Rattle.byteorder.specs.Endian.{little_number}
+use Rattle.ifr_opcodes.specs.Fields.{type_width}
 use Rattle.hii_questions.specs.Items.{numbers, numbers_in, is_item, items_in}
 use Rattle.hii_questions.specs.code.Widths.{is_width}
 
@@ -20,6 +21,15 @@ widths w h = elim (cases_Bool (eqb w 1)) [
     ]
   ]
 ]
+
+-- a value that is a number or a Boolean has one of them
+pub kind_widths : (kind : ℕ) → kind ≤ 4 → type_width kind ≡ cond (kind == 1) 2 (cond (kind == 2) 4 (cond (kind == 3) 8 1))
+kind_widths zero few = refl
+kind_widths (suc zero) few = refl
+kind_widths (suc (suc zero)) few = refl
+kind_widths (suc (suc (suc zero))) few = refl
+kind_widths (suc (suc (suc (suc zero)))) few = refl
+kind_widths (suc (suc (suc (suc (suc n))))) few = absurd (omega arith)
 
 pub width_bounds : (w : ℕ) → is_width w ≡ true → (0 < w) × (w ≤ 8)
 width_bounds w h = elim (widths w h) [

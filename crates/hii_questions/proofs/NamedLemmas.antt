@@ -9,7 +9,7 @@ use Rattle.hii_bytes.specs.Faults.{HasNone}
 use Rattle.hii_bytes.specs.declared.cause.Cause.TheVariants.{MixedOptions}
 use Rattle.hii_bytes.proofs.NumberLemmas.{number_in-lt}
 use Rattle.hii_bytes.specs.Numbers.{AreBytes}
-use Rattle.ifr_opcodes.specs.Fields.{kind_width, option_kind}
+use Rattle.ifr_opcodes.specs.Fields.{type_width, option_kind}
 use Rattle.ifr_opcodes.specs.Forest.{Node, SpellsForest, flat, node, none, below}
 use Rattle.ifr_opcodes.specs.Opcode.{number}
 use Rattle.ifr_opcodes.specs.Reading.{tree_of}
@@ -64,14 +64,14 @@ option_below n o offered = elim (cases_Bool (is_question n)) [
 pub values_fit : (ifr : List ℕ) (n : Node) → AreBytes ifr → IsAccepted ifr → Contains (nodes_of ifr) n → ValuesFit (options n)
 values_fit ifr n are accepted within o offered =
     let spells = accepted.checked.spelled in
-    number_in-lt o.op 6 (kind_width (option_kind o.op)) (opcode_bytes ifr o are spells (below_within (tree_of ifr) 4 [] n o within (option_below n o offered)))
+    number_in-lt o.op 6 (type_width (option_kind o.op)) (opcode_bytes ifr o are spells (below_within (tree_of ifr) 4 [] n o within (option_below n o offered)))
 
 -- ---- the values of the options of an ORDERED_LIST fit its elements
 
-alike : (os : List Node) (o : Node) → Contains os o → is_of_another_type (first_kind os) (option_kind o.op) ≡ false → width_of_kind (first_kind os) ≡ kind_width (option_kind o.op)
+alike : (os : List Node) (o : Node) → Contains os o → is_of_another_type (first_kind os) (option_kind o.op) ≡ false → width_of_kind (first_kind os) ≡ type_width (option_kind o.op)
 alike [] o (k, lt, e) same = absurd (omega arith)
 alike (first ∷ os) o there same =
-    ap kind_width (sym (eqb-true (option_kind o.op) (option_kind first.op) (not-false (eqb (option_kind o.op) (option_kind first.op)) same)))
+    ap type_width (sym (eqb-true (option_kind o.op) (option_kind first.op) (not-false (eqb (option_kind o.op) (option_kind first.op)) same)))
 
 elements_small : (ns : List Node) (n : Node) → HasNone (IsQuestionFault ns) → Contains ns n → is_question n ≡ true → ValuesFit (options n)
     → eqb (number n.op) ORDERED_LIST ≡ true → (v : ℕ) → is_offered (option_values (options n)) v ≡ true → v < 256 ^ element_width n
@@ -79,7 +79,7 @@ elements_small ns n faultless within is fit code v offers =
     let o = with_value (options n) v offers in
     let sound : is_mixed n o.0 ≡ false = option_sound ns n o.0 MixedOptions faultless within is o.1 in
     let same = alike (options n) o.0 o.1 (sym (rw code refl) ∙ sound) in
-    subst (λ (w : ℕ). v < 256 ^ w) (sym same) (subst (λ (m : ℕ). m < 256 ^ kind_width (option_kind o.0.op)) o.2 (fit o.0 o.1))
+    subst (λ (w : ℕ). v < 256 ^ w) (sym same) (subst (λ (m : ℕ). m < 256 ^ type_width (option_kind o.0.op)) o.2 (fit o.0 o.1))
 
 -- the values of the options of a list fit its elements
 abbrev pub ElementsFit : Option FieldType → Type 0

@@ -2,10 +2,11 @@
 use Rattle.std.proofs.Common.{◌≡◌, ℕ, Bool, true, false, eqb, cond, Some, None, List, [], ◌∷◌, map, refl, sym, ap, ◌∙◌, inl, inr}
 use Rattle.std.specs.Prelude.{◌&&◌, ◌==◌, option_map, filter}
 use Rattle.std.specs.List.{find}
-use Rattle.std.proofs.lemmas.Bool.{cases_Bool, cond-false, or_right}
+use Rattle.std.proofs.lemmas.Bool.{cases_Bool, cond-false}
 use Rattle.ifr_opcodes.specs.Fields.{question_id}
 use Rattle.ifr_opcodes.specs.Forest.{Node}
-use Rattle.ifr_opcodes.specs.Statements.{is_statement_number}
+use Rattle.ifr_opcodes.specs.Opcode.{number}
+use Rattle.ifr_opcodes.proofs.StatementLemmas.{question_is_statement as number_is_statement}
 use Rattle.ifr_scopes.specs.Nodes.{is_question, is_statement}
 use Rattle.hii_varstore.specs.Layout.{Shape}
 use Rattle.hii_questions.specs.Fields.{Asked, asked_at, question_with}
@@ -47,8 +48,7 @@ filter_twice p q (n ∷ ns) stronger = elim (cases_Bool (q n)) [
 
 -- a question is a statement
 pub question_is_statement : (n : Node) → is_question n ≡ true → is_statement n ≡ true
-unfolding is_statement_number
-question_is_statement n is = or_right _ (is_question n) is
+question_is_statement n is = number_is_statement (number n.op) is
 
 pub among_statements : (ns : List Node) → filter is_question (filter is_statement ns) ≡ filter is_question ns
 among_statements ns = filter_twice is_statement is_question ns question_is_statement

@@ -2,7 +2,7 @@
 use Rattle.std.specs.Prelude.{ℕ, Bool, true, false, ◌==◌, if◌then◌else◌, Option, Some, None, List, [], ◌∷◌, map}
 use Rattle.ifr_opcodes.specs.Opcode.{number}
 use Rattle.ifr_opcodes.specs.Forest.{Node}
-use Rattle.ifr_opcodes.specs.Fields.{kind_width, display, numeric_width, numeric_minimum, numeric_maximum, one_of_width, string_minimum, string_maximum, password_minimum, password_maximum, ordered_list_containers, is_unique_set, has_no_empty_set, option_kind, option_value}
+use Rattle.ifr_opcodes.specs.Fields.{type_width, display, numeric_width, numeric_minimum, numeric_maximum, one_of_width, string_minimum, string_maximum, password_minimum, password_maximum, ordered_list_containers, is_unique_set, has_no_empty_set, option_kind, option_value}
 use Rattle.ifr_opcodes.specs.declared.codes.TheConstants.{CHECKBOX, NUMERIC, ONE_OF, STRING, PASSWORD, ORDERED_LIST}
 use Rattle.ifr_opcodes.specs.declared.numbers.Display.{Display}
 use Rattle.ifr_opcodes.specs.declared.numbers.Display.TheVariants.{Signed, Unsigned, Hexadecimal}
@@ -24,7 +24,7 @@ first_kind (o ∷ opts) = Some (option_kind o.op)
 
 abbrev pub width_of_kind : Option ℕ → ℕ
 width_of_kind None = 1
-width_of_kind (Some kind) = kind_width kind
+width_of_kind (Some kind) = type_width kind
 
 -- The elements of a list are as wide as its first option; without options they have a byte (own rule).
 abbrev pub element_width : Node → ℕ

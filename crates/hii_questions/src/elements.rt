@@ -20,6 +20,7 @@ pub(crate) fn first_kind(statement: Statement<'_>) -> Option<u8>
 }
 
 /// How many bytes each element of a list has: 1, 2, 4 or 8.
+#[tactic(auto, using(crate::proofs::ItemLemmas::kind_widths))]
 pub fn element_width(statement: Statement<'_>) -> usize
     ensures value { result ≡ types.element_width (statement_node statement.entry) }
     ensures wide { is_width result ≡ true }

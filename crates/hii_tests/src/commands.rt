@@ -46,7 +46,7 @@ fn commands_of_lines(rt: HostRuntime) {
         assert_eq!(rt; read_line(line), wanted);
     }
     laws::lines_and_scripts_have_their_limits();
-    laws::one_order_is_asked();
+    laws::one_command_is_asked();
 }
 
 #[test]

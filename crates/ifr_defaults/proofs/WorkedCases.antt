@@ -3,9 +3,8 @@ use Rattle.std.proofs.Common.{◌≡◌, ℕ, ◌+◌, ◌==◌, None, Some, Opt
 use Rattle.std.specs.Prelude.{if◌then◌else◌, option_and_then, replicate}
 use Rattle.hii_bytes.specs.Numbers.{number_in}
 use Rattle.ifr_opcodes.specs.Forest.{node_at}
-use Rattle.ifr_opcodes.specs.Operators.{operands}
+use Rattle.ifr_opcodes.specs.Rows.{row_of, operands, is_question_number}
 use Rattle.ifr_opcodes.specs.Reading.{cut, levels, tree_of}
-use Rattle.ifr_opcodes.specs.Statements.{is_question_number}
 use Rattle.ifr_expr.specs.Meaning.{leaf_value}
 use Rattle.ifr_expr.specs.Reading.{trees_of, tree_of_opcodes}
 use Rattle.ifr_expr.specs.Values.{undefined, natural, constant_value, binary_value, number_value}
@@ -77,19 +76,19 @@ both : List ℕ
 both = numeric ++ default_op 0 0 1 (5 ∷ []) ++ default_value 1 four_and_three ++ end
 
 of_class : (default_in both 0 ≡ Some (raw 5)) × (default_in both 1 ≡ Some (raw 7)) × (default_in both 2 ≡ None)
-unfolding both cut levels tree_of number_in is_question_number operands trees_of tree_of_opcodes leaf_value constant_value binary_value number_value
+unfolding both cut levels tree_of number_in is_question_number operands trees_of tree_of_opcodes leaf_value constant_value binary_value number_value row_of
 of_class = (refl, refl, refl)
 
 -- THIS is the question, and an expression without a value gives nothing
 evaluated : (default_in (numeric ++ default_value 0 this ++ end) 0 ≡ Some (raw 9)) × (default_in (numeric ++ default_value 0 nothing ++ end) 0 ≡ None)
-unfolding cut levels tree_of number_in is_question_number operands trees_of tree_of_opcodes leaf_value constant_value
+unfolding cut levels tree_of number_in is_question_number operands trees_of tree_of_opcodes leaf_value constant_value row_of
 evaluated = (refl, refl)
 
 -- numbers of two bytes, Booleans, texts, and a Type that gives nothing
 by_type : (default_in (numeric ++ default_op 0 1 2 (2 ∷ 1 ∷ []) ++ end) 0 ≡ Some (raw 258)) × (default_in (numeric ++ default_op 0 4 1 (2 ∷ []) ++ end) 0 ≡ Some (raw 1))
     × (default_in (numeric ++ default_op 0 4 1 (0 ∷ []) ++ end) 0 ≡ Some (raw 0)) × (default_in (numeric ++ default_op 0 7 2 (7 ∷ 0 ∷ []) ++ end) 0 ≡ Some (units (0x41 ∷ 0 ∷ [])))
     × (default_in (numeric ++ default_op 0 7 2 (8 ∷ 0 ∷ []) ++ end) 0 ≡ None) × (default_in (numeric ++ default_op 0 5 3 (1 ∷ 2 ∷ 3 ∷ []) ++ end) 0 ≡ None)
-unfolding cut levels tree_of number_in is_question_number
+unfolding cut levels tree_of number_in is_question_number row_of
 by_type = (refl, refl, refl, refl, refl, refl)
 
 -- the elements of a list before the first that is 0, and without one that is cut
@@ -98,7 +97,7 @@ list_of bytes = ordered_list ++ option 0x10 6 ++ default_op 0 11 5 bytes ++ end
 
 elements_of : (default_in (list_of (3 ∷ 0 ∷ 4 ∷ 0 ∷ 5 ∷ [])) 0 ≡ Some (elements (3 ∷ 0 ∷ 4 ∷ 0 ∷ []))) × (default_in (list_of (3 ∷ 0 ∷ 0 ∷ 0 ∷ 5 ∷ [])) 0 ≡ Some (elements (3 ∷ 0 ∷ [])))
     × (default_in (list_of (3 ∷ 0 ∷ 0 ∷ 0 ∷ 5 ∷ [])) 1 ≡ None)
-unfolding list_of cut levels tree_of number_in is_question_number
+unfolding list_of cut levels tree_of number_in is_question_number row_of
 elements_of = (refl, refl, refl)
 
 -- ---- flags
@@ -109,9 +108,9 @@ chosen more = one_of ++ option 0 4 ++ option 0x10 5 ++ option 0x30 6 ++ more ++ 
 
 of_options : (default_in (chosen []) 0 ≡ Some (raw 5)) × (default_in (chosen []) 1 ≡ Some (raw 6)) × (default_in (chosen []) 2 ≡ None)
     × (default_in (chosen (default_op 0 1 2 (4 ∷ 0 ∷ []))) 0 ≡ Some (raw 4)) × (default_in (chosen (default_value 0 nothing)) 0 ≡ None)
-unfolding chosen cut levels tree_of number_in is_question_number operands trees_of tree_of_opcodes leaf_value constant_value
+unfolding chosen cut levels tree_of number_in is_question_number operands trees_of tree_of_opcodes leaf_value constant_value row_of
 of_options = (refl, refl, refl, refl, refl)
 
 of_checkboxes : (default_in (checkbox 1 ++ end) 0 ≡ Some (raw 1)) × (default_in (checkbox 1 ++ end) 1 ≡ None) × (default_in (checkbox 2 ++ end) 1 ≡ Some (raw 1)) × (default_in (checkbox 3 ++ end) 2 ≡ None)
-unfolding cut levels tree_of number_in is_question_number
+unfolding cut levels tree_of number_in is_question_number row_of
 of_checkboxes = (refl, refl, refl, refl)

@@ -13,7 +13,7 @@ use Rattle.hii_bytes.proofs.FirstFaultLemmas.{first_among, none_among}
 use Rattle.hii_bytes.proofs.FaultLemmas.{then_first, then_second}
 use Rattle.ifr_opcodes.specs.declared.codes.TheConstants.{END}
 use Rattle.ifr_opcodes.specs.Opcode.{number, has_scope, end}
-use Rattle.ifr_opcodes.specs.Operators.{is_operator}
+use Rattle.ifr_opcodes.specs.Rows.{is_operator}
 use Rattle.ifr_opcodes.specs.Forest.{Forest, none, node, opcodes, flat, AreNodes, Mark}
 use Rattle.ifr_opcodes.specs.Reading.{opcodes_in}
 use Rattle.ifr_opcodes.proofs.ForestLemmas.{opcodes_scoped, opcodes_plain, all_whole, opcodes_in_spelled, takes as takes_bytes}

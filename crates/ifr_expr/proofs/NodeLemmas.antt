@@ -4,7 +4,7 @@ use Rattle.std.specs.List.{concat}
 use Rattle.std.proofs.lemmas.List.{append-nil, take_at, drop_at}
 use Rattle.std.proofs.lemmas.Bool.{cases_Bool}
 use Rattle.ifr_opcodes.specs.Opcode.{number, has_scope, stated_length, end}
-use Rattle.ifr_opcodes.specs.Operators.{is_operator}
+use Rattle.ifr_opcodes.specs.Rows.{is_operator}
 use Rattle.ifr_opcodes.specs.Forest.{Forest, none, node, opcodes, flat, AreNodes}
 use Rattle.ifr_opcodes.specs.Reading.{opcodes_in, levels}
 use Rattle.ifr_opcodes.specs.code.Marks.{inside}

@@ -4,7 +4,7 @@ use Rattle.hii_bytes.specs.Faults.{IsFaultOf, Then}
 use Rattle.hii_bytes.specs.declared.cause.Cause.{Cause}
 use Rattle.hii_bytes.specs.declared.cause.Cause.TheVariants.{OpOutside, OpSize, Misplaced, ScopeBit, ExprShape, ExprDepth}
 use Rattle.ifr_opcodes.specs.Opcode.{number, has_scope}
-use Rattle.ifr_opcodes.specs.Operators.{is_operator}
+use Rattle.ifr_opcodes.specs.Rows.{is_operator}
 use Rattle.ifr_opcodes.specs.Fields.{is_outside, is_short}
 use Rattle.ifr_opcodes.specs.Forest.{Mark}
 use Rattle.ifr_expr.specs.Counting.{Spell, wanted}

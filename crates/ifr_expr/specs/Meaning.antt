@@ -2,9 +2,9 @@
 use Rattle.std.specs.Prelude.{ℕ, Bool, ◌==◌, ◌&&◌, nat_le, nat_lt, if◌then◌else◌, List, [], ◌∷◌}
 use Rattle.ifr_opcodes.specs.declared.codes.TheConstants.{EQ_ID_VAL, EQ_ID_ID, EQ_ID_VAL_LIST, QUESTION_REF1, RULE_REF, THIS}
 use Rattle.ifr_opcodes.specs.Opcode.{number}
-use Rattle.ifr_opcodes.specs.Fields.{eq_id_val_question, eq_id_val_value, eq_id_id_first, eq_id_id_second, eq_id_val_list_question, eq_id_val_list_values, question_ref_question, rule_ref_rule, uint_value}
+use Rattle.ifr_opcodes.specs.Fields.{eq_id_val_question, eq_id_val_value, eq_id_id_first, eq_id_id_second, eq_id_val_list_question, eq_id_val_list_values, question_ref_question, rule_ref_rule, uint_value, uints}
 use Rattle.ifr_opcodes.specs.Forest.{Mark}
-use Rattle.ifr_opcodes.specs.Operators.{is_among, uints}
+use Rattle.ifr_opcodes.specs.Rows.{is_among}
 use Rattle.ifr_expr.specs.Trees.{Tree, leaf, one, two}
 use Rattle.ifr_expr.specs.Values.{Value, undefined, natural, are_same, is_one_of, constant_value, unary_value, binary_value}
 

@@ -1,7 +1,7 @@
 -- Expressions as trees of operators (UEFI 2.8, 33.2.5.7 Expressions).
 use Rattle.std.specs.Prelude.{◌≡◌, ℕ, ◌+◌, max, Option, Some, List, [], ◌∷◌, ◌++◌, length}
 use Rattle.ifr_opcodes.specs.Opcode.{number}
-use Rattle.ifr_opcodes.specs.Operators.{operands}
+use Rattle.ifr_opcodes.specs.Rows.{operands}
 use Rattle.ifr_opcodes.specs.Forest.{Forest, none, node, flat, Mark}
 
 -- An operator with the trees of its operands, the left one first.

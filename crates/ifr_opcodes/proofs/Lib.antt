@@ -1,7 +1,9 @@
 pub mod OpcodeLemmas
 pub mod ForestLemmas
 pub mod FieldLemmas
+pub mod TableLemmas
+pub mod RowLemmas
+pub mod SizeLemmas
+pub mod StatementLemmas
 pub mod OperatorLemmas
 pub mod OperandLemmas
-pub mod RowLemmas
-pub mod StatementLemmas

@@ -1,6 +1,8 @@
 -- How many operands the operators of views take.
 use Rattle.std.proofs.Common.{◌≡◌, ◌==◌, ◌||◌, ℕ, Bool, true, false, Some, refl, sym, ap, ◌∙◌}
 use Rattle.std.proofs.lemmas.Bool.{eqb-true, false≢true}
+use Rattle.browser_rules.specs.Opcodes.{row_of}
+use Rattle.browser_rules.specs.Words.{is_among}
 use Rattle.ifr_opcodes.specs.declared.codes.TheConstants.{UINT8, UINT16, UINT32, UINT64}
 use Rattle.ifr_opcodes.specs.declared.expressions.LeafOp.{LeafOp}
 use Rattle.ifr_opcodes.specs.declared.expressions.LeafOp.TheVariants as leaf
@@ -14,11 +16,12 @@ use Rattle.ifr_opcodes.specs.declared.operators.Unary.TheVariants as unary
 use Rattle.ifr_opcodes.specs.declared.operators.Binary.{Binary}
 use Rattle.ifr_opcodes.specs.declared.operators.Binary.TheVariants as binary
 use Rattle.ifr_opcodes.specs.code.Codes.{constant_code, unary_code, binary_code}
-use Rattle.ifr_opcodes.specs.Operators.{operands, is_among, uints}
+use Rattle.ifr_opcodes.specs.ExpressionFields.{uints}
+use Rattle.ifr_opcodes.specs.Rows.{operands}
 use Rattle.ifr_opcodes.specs.code.Views.{leaf_operator}
 
 constant_takes : (c : Constant) → operands (constant_code c) ≡ Some 0
-unfolding operands
+unfolding operands row_of
 constant_takes constant.True = refl
 constant_takes constant.False = refl
 constant_takes constant.Zero = refl
@@ -27,12 +30,12 @@ constant_takes constant.Ones = refl
 constant_takes constant.Undefined = refl
 
 unary_takes : (u : Unary) → operands (unary_code u) ≡ Some 1
-unfolding operands
+unfolding operands row_of
 unary_takes unary.Not = refl
 unary_takes unary.BitwiseNot = refl
 
 binary_takes : (b : Binary) → operands (binary_code b) ≡ Some 2
-unfolding operands
+unfolding operands row_of
 binary_takes binary.And = refl
 binary_takes binary.Or = refl
 binary_takes binary.Equal = refl
@@ -55,7 +58,7 @@ same_takes : (n code : ℕ) → (n == code) ≡ true → operands n ≡ Some 0 �
 same_takes n code e h = ap operands (sym (eqb-true n code e)) ∙ h
 
 uint_takes : (code : ℕ) → is_among code uints ≡ true → operands code ≡ Some 0
-unfolding operands
+unfolding operands row_of
 uint_takes code h = go (UINT8 == code) (UINT16 == code) (UINT32 == code) (UINT64 == code) refl refl refl refl h
   where
     go : (a b c d : Bool) → (UINT8 == code) ≡ a → (UINT16 == code) ≡ b → (UINT32 == code) ≡ c → (UINT64 == code) ≡ d → (a || (b || (c || (d || false)))) ≡ true → operands code ≡ Some 0
@@ -67,7 +70,7 @@ uint_takes code h = go (UINT8 == code) (UINT16 == code) (UINT32 == code) (UINT64
 
 -- an operator without operands
 pub leaf_takes : (op : LeafOp) → operands (leaf_operator op).code ≡ Some 0
-unfolding operands
+unfolding operands row_of
 leaf_takes (leaf.EqIdVal view) = rw view.coded refl
 leaf_takes (leaf.EqIdId view) = rw view.coded refl
 leaf_takes (leaf.EqIdValList view) = rw view.coded refl
@@ -78,7 +81,7 @@ leaf_takes (leaf.This view) = rw view.coded refl
 
 -- a reference to a rule
 pub rule_ref_takes : (op : RuleRefOp) → operands op.op.code ≡ Some 0
-unfolding operands
+unfolding operands row_of
 rule_ref_takes op = rw op.coded refl
 
 -- an operator with one operand, and one with two

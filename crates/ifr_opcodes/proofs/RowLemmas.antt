@@ -1,40 +1,163 @@
--- What is known of an opcode of a row.
-use Rattle.std.proofs.Common.{◌≡◌, ◌==◌, ℕ, true, false, not, List, refl, sym, ap, ◌∙◌}
-use Rattle.std.proofs.lemmas.Bool.{and_from, or_from, or_right, eq-eqb, ne_eqb, not_from_true, not_from_false, false≢true}
+-- The rows know the opcodes that the tables list, refuse the same of them, and have the same operators and statements.
+use Rattle.std.proofs.Common.{◌≡◌, ◌==◌, ◌≤◌, ℕ, Bool, true, false, not, Option, Some, None, is_some, List, [], ◌∷◌, length, refl, sym, ap, ◌∙◌, map}
+use Rattle.std.specs.Prelude.{◌&&◌, ◌||◌, nat_lt, nat_le, if◌then◌else◌, slice_index}
+use Rattle.std.proofs.lemmas.Bool.{and_from, and_parts, eqb-true, le-leb, ltb-false, not-true, or_from, or_parts, or_right, eq-eqb, ne_eqb, not-false, not_from_true, not_from_false, false≢true}
+use Rattle.browser_rules.specs.Opcodes.{Row, row_of, is_a, an_operator}
+use Rattle.browser_rules.specs.Words.{is_among, is_some_and}
+use Rattle.ifr_opcodes.specs.Opcode.{number, has_scope}
+use Rattle.ifr_opcodes.specs.OptionFields.{option_kind, default_kind}
+use Rattle.ifr_opcodes.specs.Rows.{is_question_number, is_statement_number, operands, is_operator, is_listed, is_left_out, is_outside, is_row}
+use Rattle.ifr_opcodes.specs.code.Tables.{plain_statements, questions_without_options, questions_with_options, is_among_questions, is_among_statements, without_operands, with_one_operand, with_two_operands, operands_among, others}
 use Rattle.ifr_opcodes.specs.declared.codes.TheConstants.{GUID, VARSTORE_EFI, ONE_OF_OPTION, DEFAULT}
-use Rattle.ifr_opcodes.specs.Opcode.{number}
-use Rattle.ifr_opcodes.specs.Operators.{is_among, is_operator}
-use Rattle.ifr_opcodes.specs.Rows.{listed, is_listed, is_left_out, is_outside, is_row}
+use Rattle.ifr_opcodes.proofs.FieldLemmas.{number_of_byte}
+use Rattle.ifr_opcodes.proofs.TableLemmas.{numbers, agree, not_this, not_among}
 
-pub row_of : (op : List ℕ) (code : ℕ) → number op ≡ code → is_left_out op ≡ false → is_row code op ≡ true
-row_of op code same stays = and_from (number op == code) (not (is_left_out op)) (eq-eqb (number op) code same) (not_from_false (is_left_out op) stays)
+-- ---- operators
+
+none_among : (code : ℕ) → row_of code ≡ None → operands_among code ≡ None
+none_among code none =
+    rw (not_among without_operands code refl none, not_among with_one_operand code refl none, not_among with_two_operands code refl none) refl
+
+takes_in_rows : map operands numbers ≡ map operands_among numbers
+unfolding operands row_of
+takes_in_rows = refl
+
+pub none_takes : (code : ℕ) → row_of code ≡ None → operands code ≡ None
+unfolding operands
+none_takes code none = rw none refl
+
+pub takes : (code : ℕ) → operands code ≡ operands_among code
+takes code = agree operands operands_among takes_in_rows (λ c none. none_takes c none ∙ sym (none_among c none)) code
+
+operator_in_rows : map (λ c. is_a an_operator (c ∷ [])) numbers ≡ map is_operator numbers
+unfolding row_of operands
+operator_in_rows = refl
+
+pub operator_same : (code : ℕ) → is_a an_operator (code ∷ []) ≡ is_operator code
+operator_same code = agree (λ c. is_a an_operator (c ∷ [])) is_operator operator_in_rows (λ c none. rw (none, none_takes c none) refl) code
+
+-- ---- which are known
+
+known_in_rows : map is_listed numbers ≡ map (λ c. is_among c others || is_operator c) numbers
+unfolding operands row_of
+known_in_rows = refl
+
+pub known : (code : ℕ) → is_listed code ≡ is_among code others || is_operator code
+known code =
+    agree is_listed (λ c. is_among c others || is_operator c) known_in_rows
+    (λ c none. rw (none, not_among others c refl none, none_takes c none) refl) code
+
+-- ---- which are refused
+
+-- as the numbers of some opcodes are, by their bytes
+left_out : List ℕ → ℕ → Bool
+left_out op code =
+    if code == GUID then has_scope op
+    else (if code == VARSTORE_EFI then length op == 24
+    else (if code == ONE_OF_OPTION then nat_le 6 (length op) && nat_lt 4 (slice_index op 5)
+    else (if code == DEFAULT then nat_le 5 (length op) && nat_lt 0x0c (slice_index op 4)
+    else false)))
+
+is_refused : List ℕ → ℕ → Bool
+is_refused op code = is_some_and (λ r. r.refused op) (row_of code)
+
+refused_in_rows : (op : List ℕ) → map (is_refused op) numbers ≡ map (left_out op) numbers
+unfolding left_out is_refused row_of
+refused_in_rows op = refl
+
+none_refused : (op : List ℕ) (code : ℕ) → row_of code ≡ None → is_refused op code ≡ left_out op code
+unfolding left_out is_refused
+none_refused op code none =
+    rw (none, not_this GUID code refl none, not_this VARSTORE_EFI code refl none, not_this ONE_OF_OPTION code refl none, not_this DEFAULT code refl none) refl
+
+pub refused : (op : List ℕ) → is_left_out op ≡ (if number op == GUID then has_scope op
+    else (if number op == VARSTORE_EFI then length op == 24
+    else (if number op == ONE_OF_OPTION then nat_le 6 (length op) && nat_lt 4 (option_kind op)
+    else (if number op == DEFAULT then nat_le 5 (length op) && nat_lt 0x0c (default_kind op)
+    else false))))
+unfolding left_out is_refused
+refused op =
+    let option : slice_index op 5 ≡ option_kind op = number_of_byte op 5 in
+    let default : slice_index op 4 ≡ default_kind op = number_of_byte op 4 in
+    agree (is_refused op) (left_out op) (refused_in_rows op) (none_refused op) (number op) ∙ rw (option, default) refl
+
+-- It is outside where it has no row, or its row refuses it.
+or_refused : (op : List ℕ) (o : Option Row) → not (is_some_and (λ r. not (r.refused op)) o) ≡ not (is_some o) || is_some_and (λ r. r.refused op) o
+or_refused op None = refl
+or_refused op (Some r) = not_not (r.refused op)
+  where
+    not_not : (b : Bool) → not (not b) ≡ b
+    not_not true = refl
+    not_not false = refl
+
+pub outside : (op : List ℕ) → is_outside op ≡ not (is_listed (number op)) || is_left_out op
+outside op = or_refused op (row_of (number op))
+
+pub inside : (op : List ℕ) → is_listed (number op) ≡ true → is_left_out op ≡ false → is_outside op ≡ false
+inside op there stays = outside op ∙ or_from (not (is_listed (number op))) (is_left_out op) (not_from_true (is_listed (number op)) there) stays
+
+pub inside_parts : (op : List ℕ) → is_outside op ≡ false → (is_listed (number op) ≡ true) × (is_left_out op ≡ false)
+inside_parts op e =
+    let parts = or_parts (not (is_listed (number op))) (is_left_out op) (sym (outside op) ∙ e) in
+    (not-false (is_listed (number op)) parts.0, parts.1)
+
+pub row_from : (op : List ℕ) (code : ℕ) → number op ≡ code → is_left_out op ≡ false → is_row code op ≡ true
+row_from op code same stays = and_from (number op == code) (not (is_left_out op)) (eq-eqb (number op) code same) (not_from_false (is_left_out op) stays)
+
+-- an option of its row has a value that is a number or a Boolean, and a default of its row a Type that is defined
+kind_within : (there : Bool) (kind most : ℕ) → there ≡ true → there && nat_lt most kind ≡ false → kind ≤ most
+kind_within true kind most is e = ltb-false most kind e
+kind_within false kind most is e = absurd (false≢true is)
+
+pub option_numeric : (op : List ℕ) → is_row ONE_OF_OPTION op ≡ true → 6 ≤ length op → option_kind op ≤ 4
+option_numeric op is long =
+    let parts = and_parts (number op == ONE_OF_OPTION) (not (is_left_out op)) is in
+    let same : number op ≡ ONE_OF_OPTION = eqb-true (number op) ONE_OF_OPTION parts.0 in
+    kind_within (nat_le 6 (length op)) (option_kind op) 4 (le-leb 6 (length op) long) (rw same at (sym (refused op) ∙ not-true (is_left_out op) parts.1))
+
+pub default_known : (op : List ℕ) → is_row DEFAULT op ≡ true → 5 ≤ length op → default_kind op ≤ 0x0c
+default_known op is long =
+    let parts = and_parts (number op == DEFAULT) (not (is_left_out op)) is in
+    let same : number op ≡ DEFAULT = eqb-true (number op) DEFAULT parts.0 in
+    kind_within (nat_le 5 (length op)) (default_kind op) 0x0c (le-leb 5 (length op) long) (rw same at (sym (refused op) ∙ not-true (is_left_out op) parts.1))
+
+-- ---- no operator is refused by its number
 
 other : (code n : ℕ) → is_operator n ≡ false → is_operator code ≡ true → (code == n) ≡ false
 other code n none known = ne_eqb code n (λ e. false≢true (sym none ∙ ap is_operator (sym e) ∙ known))
 
-no_guid : is_operator GUID ≡ false
-unfolding Rattle.ifr_opcodes.specs.Operators.operands
-no_guid = refl
+plain : (is_operator GUID ≡ false) × (is_operator VARSTORE_EFI ≡ false) × (is_operator ONE_OF_OPTION ≡ false) × (is_operator DEFAULT ≡ false)
+unfolding operands row_of
+plain = (refl, refl, refl, refl)
 
-no_store : is_operator VARSTORE_EFI ≡ false
-unfolding Rattle.ifr_opcodes.specs.Operators.operands
-no_store = refl
-
-no_option : is_operator ONE_OF_OPTION ≡ false
-unfolding Rattle.ifr_opcodes.specs.Operators.operands
-no_option = refl
-
-no_default : is_operator DEFAULT ≡ false
-unfolding Rattle.ifr_opcodes.specs.Operators.operands
-no_default = refl
-
--- no operator is left out
-pub operator_stays : (op : List ℕ) → is_operator (number op) ≡ true → is_left_out op ≡ false
-operator_stays op known =
-    rw (other (number op) GUID no_guid known, other (number op) VARSTORE_EFI no_store known, other (number op) ONE_OF_OPTION no_option known, other (number op) DEFAULT no_default known) refl
-
--- so none is refused by its number
 pub operator_inside : (op : List ℕ) → is_operator (number op) ≡ true → is_outside op ≡ false
-operator_inside op known =
-    let there : is_listed (number op) ≡ true = or_right (is_among (number op) listed) (is_operator (number op)) known in
-    or_from (not (is_listed (number op))) (is_left_out op) (not_from_true (is_listed (number op)) there) (operator_stays op known)
+operator_inside op is =
+    let there : is_listed (number op) ≡ true = known (number op) ∙ or_right (is_among (number op) others) (is_operator (number op)) is in
+    let stays : is_left_out op ≡ false =
+    refused op ∙ rw (other (number op) GUID plain.0 is, other (number op) VARSTORE_EFI plain.1 is, other (number op) ONE_OF_OPTION plain.2 is, other (number op) DEFAULT plain.3 is) refl in
+    inside op there stays
+
+-- ---- statements and questions
+
+questions_in_rows : map is_question_number numbers ≡ map is_among_questions numbers
+unfolding row_of is_question_number
+questions_in_rows = refl
+
+none_asks : (code : ℕ) → row_of code ≡ None → is_question_number code ≡ is_among_questions code
+unfolding is_question_number
+none_asks code none = rw (none, not_among questions_without_options code refl none, not_among questions_with_options code refl none) refl
+
+pub asks : (code : ℕ) → is_question_number code ≡ is_among_questions code
+asks code = agree is_question_number is_among_questions questions_in_rows none_asks code
+
+statements_in_rows : map is_statement_number numbers ≡ map is_among_statements numbers
+unfolding row_of is_statement_number
+statements_in_rows = refl
+
+none_states : (code : ℕ) → row_of code ≡ None → is_statement_number code ≡ is_among_statements code
+unfolding is_statement_number
+none_states code none =
+    rw (none, not_among plain_statements code refl none, not_among questions_without_options code refl none, not_among questions_with_options code refl none) refl
+
+pub states : (code : ℕ) → is_statement_number code ≡ is_among_statements code
+states code = agree is_statement_number is_among_statements statements_in_rows none_states code

@@ -2,7 +2,7 @@
 use Rattle.std.specs.Prelude.{ℕ, ◌+◌, ◌*◌, ◌==◌, if◌then◌else◌, List, [], ◌∷◌, slice_range}
 use Rattle.browser_rules.specs.Opcodes.{field, EQ_ID_ID, EQ_ID_VAL, EQ_ID_VAL_LIST, QUESTION_REF1, RULE_REF}
 use Rattle.hii_bytes.specs.Numbers.{number_in}
-use Rattle.ifr_opcodes.specs.declared.codes.TheConstants.{UINT8, UINT16, UINT32}
+use Rattle.ifr_opcodes.specs.declared.codes.TheConstants.{UINT8, UINT16, UINT32, UINT64, TRUE, FALSE, ZERO, ONE, ONES, UNDEFINED}
 use Rattle.ifr_opcodes.specs.Opcode.{number}
 
 -- EFI_IFR_EQ_ID_VAL
@@ -41,7 +41,14 @@ question_ref_question op = field QUESTION_REF1 "QuestionId" op
 abbrev pub rule_ref_rule : List ℕ → ℕ
 rule_ref_rule op = field RULE_REF "RuleId" op
 
--- EFI_IFR_UINT8, EFI_IFR_UINT16, EFI_IFR_UINT32 and EFI_IFR_UINT64
+-- the operators that are their own value: EFI_IFR_TRUE and the like
+abbrev pub constants : List ℕ
+constants = TRUE ∷ FALSE ∷ ZERO ∷ ONE ∷ ONES ∷ UNDEFINED ∷ []
+
+-- the operators that hold a number: EFI_IFR_UINT8, EFI_IFR_UINT16, EFI_IFR_UINT32 and EFI_IFR_UINT64
+abbrev pub uints : List ℕ
+uints = UINT8 ∷ UINT16 ∷ UINT32 ∷ UINT64 ∷ []
+
 abbrev pub uint_width : ℕ → ℕ
 uint_width code =
     if code == UINT8 then 1 else (if code == UINT16 then 2 else (if code == UINT32 then 4 else 8))

@@ -1,9 +1,6 @@
 pub mod Opcode
 pub mod Forest
 pub mod Reading
-pub mod Operators
-pub mod Statements
-pub mod Kinds
 pub mod StoreFields
 pub mod QuestionFields
 pub mod OptionFields

@@ -1,8 +1,7 @@
 -- The fields of options and defaults (UEFI 2.8, 33.3.8.3 Opcode Reference, under the name of each).
 use Rattle.std.specs.Prelude.{ℕ, Bool, ◌==◌, if◌then◌else◌, List, take, drop}
-use Rattle.browser_rules.specs.Opcodes.{field, DEFAULT, ONE_OF_OPTION}
+use Rattle.browser_rules.specs.Opcodes.{field, type_width, DEFAULT, ONE_OF_OPTION}
 use Rattle.hii_bytes.specs.Numbers.{number_in}
-use Rattle.ifr_opcodes.specs.Kinds.{kind_width}
 use Rattle.ifr_opcodes.specs.QuestionFields.{has_flag}
 use Rattle.ifr_opcodes.specs.declared.kinds.TheConstants.{TYPE_BUFFER}
 
@@ -17,7 +16,7 @@ abbrev pub option_kind : List ℕ → ℕ
 option_kind op = field ONE_OF_OPTION "Type" op
 
 abbrev pub option_value : List ℕ → ℕ
-option_value op = number_in op 6 (kind_width (option_kind op))
+option_value op = number_in op 6 (type_width (option_kind op))
 
 -- EFI_IFR_OPTION_DEFAULT
 abbrev pub is_default_option : List ℕ → Bool
@@ -37,4 +36,4 @@ default_kind op = field DEFAULT "Type" op
 abbrev pub default_value : List ℕ → List ℕ
 default_value op =
     if default_kind op == TYPE_BUFFER then drop 5 op
-    else take (kind_width (default_kind op)) (drop 5 op)
+    else take (type_width (default_kind op)) (drop 5 op)

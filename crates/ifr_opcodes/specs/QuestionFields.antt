@@ -1,9 +1,9 @@
 -- The fields of statements and questions (UEFI 2.8, 33.3.8.3 Opcode Reference, under the name of each).
 use Rattle.std.specs.Prelude.{ℕ, ◌+◌, ◌*◌, Bool, not, ◌==◌, ◌||◌, nat_lt, nat_le, if◌then◌else◌, Option, Some, None, List, length, slice_range, bit_and}
-use Rattle.browser_rules.specs.Opcodes.{field, field_in, CHECKBOX, DATE, NUMERIC, ORDERED_LIST, PASSWORD, QUESTION_HEADER, RESET_BUTTON, STATEMENT_HEADER, STRING, SUBTITLE, TEXT, TIME}
+use Rattle.browser_rules.specs.Opcodes.{field, field_in, number_width, CHECKBOX, DATE, NUMERIC, ORDERED_LIST, PASSWORD, QUESTION_HEADER, RESET_BUTTON, STATEMENT_HEADER, STRING, SUBTITLE, TEXT, TIME}
 use Rattle.hii_bytes.specs.Numbers.{number_in}
-use Rattle.ifr_opcodes.specs.Kinds.{width_of_flags, display_of_flags}
 use Rattle.ifr_opcodes.specs.declared.numbers.Display.{Display}
+use Rattle.ifr_opcodes.specs.declared.numbers.Display.TheVariants.{Signed, Unsigned, Hexadecimal}
 
 -- whether a bit of flags is set
 abbrev pub has_flag : ℕ → ℕ → Bool
@@ -67,7 +67,14 @@ abbrev pub numeric_flags : List ℕ → ℕ
 numeric_flags op = field NUMERIC "Flags" op
 
 abbrev pub numeric_width : List ℕ → ℕ
-numeric_width op = width_of_flags (numeric_flags op)
+numeric_width op = number_width (numeric_flags op)
+
+-- how the number of a question is shown, by its flags (EFI_IFR_DISPLAY); 0x30 is unsigned (own rule)
+abbrev pub display_of_flags : ℕ → Display
+display_of_flags flags =
+    if bit_and flags 0x30 == 0x00 then Signed
+    else (if bit_and flags 0x30 == 0x20 then Hexadecimal
+    else Unsigned)
 
 abbrev pub display : List ℕ → Display
 display op = display_of_flags (numeric_flags op)

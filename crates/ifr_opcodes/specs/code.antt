@@ -3,4 +3,5 @@ pub mod Codes
 pub mod Marks
 pub mod Ops
 pub mod Props
+pub mod Tables
 pub mod Views

@@ -3,7 +3,7 @@
 ghost use Rattle.std.specs.Prelude.{◌≡◌, ◌≤◌, ◌+◌, length};
 ghost use Rattle.ifr_opcodes.specs.declared.codes.TheConstants.{DEFAULT};
 ghost use Rattle.ifr_opcodes.specs.declared.kinds.TheConstants.{TYPE_REF};
-ghost use Rattle.ifr_opcodes.specs.Kinds.{kind_width as width_of_kind};
+ghost use Rattle.browser_rules.specs.Opcodes.{type_width};
 ghost use Rattle.ifr_opcodes.specs.Fields.{default_kind};
 ghost use Rattle.ifr_opcodes.specs.code.Ops.{bytes_of};
 
@@ -17,7 +17,7 @@ use hii_bytes::Fault;
 pub struct DefaultOp<'a> {
     pub op: Op<'a>,
     pub ghost coded: { op.code ≡ DEFAULT },
-    pub ghost sized: { 5 + width_of_kind (default_kind (bytes_of op)) ≤ length (bytes_of op) },
+    pub ghost sized: { 5 + type_width (default_kind (bytes_of op)) ≤ length (bytes_of op) },
     pub ghost known: { default_kind (bytes_of op) ≤ TYPE_REF },
 }
 
@@ -28,6 +28,7 @@ impl<'a> DefaultOp<'a> {
 
     /// Another opcode, and one whose Type is not defined, is refused by OpOutside, one that lacks its Type or bytes of its
     /// value by OpSize, each at its place.
+    #[tactic(auto, using(crate::proofs::RowLemmas::default_known))]
     pub fn read(op: Op<'a>) -> Result<DefaultOp<'a>, Fault>
         ensures { Reads (is_row DEFAULT) (λ view. view.op) op.entry result }
     {

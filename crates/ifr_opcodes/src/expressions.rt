@@ -1,10 +1,10 @@
 //! The operators of expressions.
 
-ghost use Rattle.std.specs.Prelude.{◌≡◌, ◌+◌, ◌≤◌, length, true};
+ghost use Rattle.std.specs.Prelude.{◌≡◌, ◌+◌, ◌≤◌, length, true, false};
 ghost use Rattle.ifr_opcodes.specs.declared.codes.TheConstants.{RULE_REF, THIS};
 ghost use Rattle.ifr_opcodes.specs.code.Codes.{constant_code, unary_code, binary_code};
-ghost use Rattle.ifr_opcodes.specs.Fields.{uint_width};
-ghost use Rattle.ifr_opcodes.specs.Operators.{is_among, uints};
+ghost use Rattle.browser_rules.specs.Words.{is_among};
+ghost use Rattle.ifr_opcodes.specs.Fields.{uints, uint_width};
 ghost use Rattle.ifr_opcodes.specs.code.Ops.{bytes_of};
 
 use crate::codes::{
@@ -35,8 +35,7 @@ pub enum ExprOp<'a> {
 
 impl<'a> ExprOp<'a> {
     ghost use Rattle.ifr_opcodes.specs.Opcode.{number};
-    ghost use Rattle.ifr_opcodes.specs.Operators.{is_operator, operands};
-    ghost use Rattle.ifr_opcodes.specs.Fields.{least_length};
+    ghost use Rattle.ifr_opcodes.specs.Rows.{is_operator, is_short};
     ghost use Rattle.ifr_opcodes.specs.code.Ops.{op_of};
     ghost use Rattle.ifr_opcodes.specs.code.Views.{Reads, operator};
 
@@ -48,18 +47,19 @@ impl<'a> ExprOp<'a> {
         if !is_operator(op.code) {
             return Err(op.fault(Cause::OpOutside));
         }
-        op.check_length(least_len(op))?;
+        op.check_size()?;
         Ok(ExprOp::of(op))
     }
 
     /// The view of an operator's opcode that has all its fields.
     #[inline(always)]
-    #[tactic(auto, unfolding(crate::specs::Operators::operands))]
     pub fn of(op: Op<'a>) -> ExprOp<'a>
         requires known { is_operator op.code ≡ true }
-        requires sized { least_length (bytes_of op) ≤ length (bytes_of op) }
+        requires sized { is_short (bytes_of op) ≡ false }
         ensures { op_of (operator result) ≡ op_of op.entry }
     {
+        // The views below ask for the bytes of their fields.
+        prove!(least_len(op) <= op.len());
         match op.code {
             EQ_ID_VAL => ExprOp::Leaf(LeafOp::EqIdVal(EqIdValOp { op })),
             EQ_ID_ID => ExprOp::Leaf(LeafOp::EqIdId(EqIdIdOp { op })),

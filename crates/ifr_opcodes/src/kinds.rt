@@ -1,7 +1,7 @@
 //! The Types of values, of options and defaults (UEFI 2.8, 33.3.8.3, EFI_IFR_ONE_OF_OPTION).
 
 ghost use Rattle.std.specs.Prelude.{◌≡◌};
-ghost use Rattle.ifr_opcodes.specs.Kinds.{kind_width as width_of_kind};
+ghost use Rattle.browser_rules.specs.Opcodes.{type_width};
 
 /// EFI_IFR_TYPE_NUM_SIZE_8, a number of 1 byte.
 pub const TYPE_NUM_SIZE_8: u8 = 0x00;
@@ -37,8 +37,9 @@ pub const TYPE_BUFFER: u8 = 0x0b;
 pub const TYPE_REF: u8 = 0x0c;
 
 // How many bytes a value of a Type takes; of a buffer, which takes the rest of its opcode, and from TYPE_OTHER on, 0.
+#[tactic(auto, using(crate::proofs::SizeLemmas::none_asked))]
 pub(crate) fn kind_width(kind: u8) -> usize
-    ensures { result ≡ width_of_kind kind }
+    ensures { result ≡ type_width kind }
 {
     match kind {
         TYPE_NUM_SIZE_8 => 1,

@@ -1,7 +1,8 @@
 //! How wide the numbers of questions are, and how they are shown.
 
 ghost use Rattle.std.specs.Prelude.{◌≡◌, ◌⊎◌};
-ghost use Rattle.ifr_opcodes.specs.Kinds as kinds;
+ghost use Rattle.browser_rules.specs.Opcodes.{number_width};
+ghost use Rattle.ifr_opcodes.specs.QuestionFields as fields;
 
 /// How the number of a question is shown (UEFI 2.8, 33.3.8.3, EFI_IFR_DISPLAY).
 #[derive(Clone, Copy, Debug, PartialEq, Eq)]
@@ -15,8 +16,9 @@ pub enum Display {
 }
 
 // How many bytes each number of a question has, by its flags (UEFI 2.8, 33.3.8.3, EFI_IFR_NUMERIC_SIZE).
+#[tactic(auto, using(crate::proofs::SizeLemmas::number_widths))]
 pub(crate) fn width_of_flags(flags: u8) -> usize
-    ensures width { result ≡ kinds.width_of_flags flags }
+    ensures width { result ≡ number_width flags }
     ensures wide { (result ≡ 1) ⊎ (result ≡ 2) ⊎ (result ≡ 4) ⊎ (result ≡ 8) }
 {
     match flags & 0x03 {
@@ -29,7 +31,7 @@ pub(crate) fn width_of_flags(flags: u8) -> usize
 
 // How the number of a question is shown, by its flags.
 pub(crate) fn display_of_flags(flags: u8) -> Display
-    ensures { result ≡ kinds.display_of_flags flags }
+    ensures { result ≡ fields.display_of_flags flags }
 {
     match flags & 0x30 {
         0x00 => Display::Signed,

@@ -1,6 +1,6 @@
 //! Questions for one of several values.
 
-ghost use Rattle.std.specs.Prelude.{◌≡◌, ◌≤◌, ◌+◌, ◌*◌, length};
+ghost use Rattle.std.specs.Prelude.{◌≡◌, ◌≤◌, ◌+◌, ◌*◌, ◌⊎◌, length};
 ghost use Rattle.ifr_opcodes.specs.declared.codes.TheConstants.{ONE_OF};
 ghost use Rattle.ifr_opcodes.specs.Fields.{one_of_width};
 ghost use Rattle.ifr_opcodes.specs.code.Ops.{bytes_of, op_of};
@@ -33,7 +33,7 @@ impl<'a> OneOfOp<'a> {
     }
 
     /// What it has as a question.
-    #[tactic(auto, unfolding(crate::specs::Statements::is_question_number))]
+    #[tactic(auto, unfolding(crate::specs::Rows::is_question_number, browser_rules::specs::Opcodes::row_of))]
     pub fn question(self) -> QuestionOp<'a>
         ensures { op_of result.op ≡ op_of self.entry.op }
     {
@@ -49,7 +49,8 @@ impl<'a> OneOfOp<'a> {
 
     /// How many bytes its value has: 1, 2, 4 or 8.
     pub fn width(self) -> usize
-        ensures { result ≡ one_of_width (bytes_of self.entry.op) }
+        ensures width { result ≡ one_of_width (bytes_of self.entry.op) }
+        ensures wide { (result ≡ 1) ⊎ (result ≡ 2) ⊎ (result ≡ 4) ⊎ (result ≡ 8) }
     {
         width_of_flags(self.flags())
     }

@@ -3,7 +3,7 @@
 ghost use Rattle.ifr_opcodes.specs.code.Props.{spelled, IsWhole-prop};
 ghost use Rattle.ifr_opcodes.specs.Opcode.{IsWhole};
 
-use crate::rows::{is_left_out, least_len};
+use crate::rows::{is_left_out, is_short};
 use crate::split::rest_from;
 use hii_bytes::{Cause, Fault, Guid, number_at, u16_at, u32_at};
 
@@ -22,12 +22,14 @@ pub struct Op<'a> {
 }
 
 impl<'a> Op<'a> {
-    ghost use Rattle.std.specs.Prelude.{◌≡◌, ◌+◌, ◌<◌, ◌≤◌, ◌⊎◌, true, length, drop, slice_range, OnOk, IfErr};
+    ghost use Rattle.std.specs.Prelude.{◌≡◌, ◌+◌, ◌<◌, ◌≤◌, ◌⊎◌, true, false, length, drop, slice_range, OnOk, IfErr};
     ghost use Rattle.hii_bytes.specs.Faults.{IsLeast};
     ghost use Rattle.hii_bytes.specs.Numbers.{number_in};
     ghost use Rattle.ifr_opcodes.specs.Fields.{number_where};
-    ghost use Rattle.ifr_opcodes.specs.Rows.{row_length, is_row, IsMisread, IsShort};
+    ghost use Rattle.ifr_opcodes.specs.Rows as rows;
+    ghost use Rattle.ifr_opcodes.specs.Rows.{is_row, IsMisread, IsShort};
     ghost use Rattle.ifr_opcodes.specs.code.Ops.{bytes_of, op_of};
+    ghost use Rattle.ifr_opcodes.specs.code.Tables.{row_length, least_length};
 
     /// How many bytes it has, from 2 to 127.
     pub fn len(self) -> usize
@@ -114,21 +116,23 @@ impl<'a> Op<'a> {
     pub(crate) fn check_row(self, code: u8) -> Result<(), Fault>
         ensures read { OnOk result ((self.entry.code ≡ code)
             × (is_row code (bytes_of self.entry) ≡ true)
+            × (rows.is_short (bytes_of self.entry) ≡ false)
             × (row_length code (bytes_of self.entry) ≤ length (bytes_of self.entry))) }
         ensures refused { IfErr result (IsLeast (IsMisread (is_row code) (op_of self.entry))) }
     {
         if self.code != code || is_left_out(self) {
             return Err(self.fault(Cause::OpOutside));
         }
-        self.check_length(least_len(self))
+        self.check_size()
     }
 
-    /// Refuses an opcode of less than these bytes by OpSize.
-    pub(crate) fn check_length(self, least: usize) -> Result<(), Fault>
-        ensures read { OnOk result (least ≤ length (bytes_of self.entry)) }
-        ensures refused { IfErr result (IsLeast (IsShort least (op_of self.entry))) }
+    /// Refuses an opcode that lacks bytes of its fields by OpSize.
+    pub(crate) fn check_size(self) -> Result<(), Fault>
+        ensures read { OnOk result ((rows.is_short (bytes_of self.entry) ≡ false)
+            × (least_length (bytes_of self.entry) ≤ length (bytes_of self.entry))) }
+        ensures refused { IfErr result (IsLeast (IsShort (op_of self.entry))) }
     {
-        if self.len() < least {
+        if is_short(self) {
             return Err(self.fault(Cause::OpSize));
         }
         Ok(())

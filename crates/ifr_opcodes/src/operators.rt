@@ -1,8 +1,11 @@
 //! The operators of expressions by how many operands they take.
 
-ghost use Rattle.std.specs.Prelude.{◌≡◌, Some, true};
-ghost use Rattle.ifr_opcodes.specs.Operators.{operands as operands_of, is_operator as is_operator_spec, constants, is_among};
+ghost use Rattle.std.specs.Prelude.{◌≡◌, true};
+ghost use Rattle.browser_rules.specs.Words.{is_among};
+ghost use Rattle.ifr_opcodes.specs.ExpressionFields.{constants};
+ghost use Rattle.ifr_opcodes.specs.Rows as rows;
 ghost use Rattle.ifr_opcodes.specs.code.Codes.{constant_code, unary_code, binary_code};
+ghost use Rattle.ifr_opcodes.specs.code.Tables.{with_one_operand, with_two_operands, operands_among};
 
 use crate::codes::{
     ADD, AND, BITWISE_AND, BITWISE_NOT, BITWISE_OR, DIVIDE, EQ_ID_ID, EQ_ID_VAL, EQ_ID_VAL_LIST,
@@ -12,9 +15,16 @@ use crate::codes::{
 };
 
 /// How many operands the operator of a number takes, if it is one.
-#[tactic(auto, unfolding(crate::specs::Operators::operands))]
+#[tactic(auto, using(crate::proofs::RowLemmas::takes))]
 pub fn operands(code: u8) -> Option<usize>
-    ensures { result ≡ operands_of code }
+    ensures { result ≡ rows.operands code }
+{
+    listed_operands(code)
+}
+
+// The same, by the lists of those that take none, one and two.
+fn listed_operands(code: u8) -> Option<usize>
+    ensures { result ≡ operands_among code }
 {
     match code {
         EQ_ID_VAL
@@ -57,7 +67,7 @@ pub fn operands(code: u8) -> Option<usize>
 
 /// Whether this is the number of an operator.
 pub fn is_operator(code: u8) -> bool
-    ensures { result ≡ is_operator_spec code }
+    ensures { result ≡ rows.is_operator code }
 {
     operands(code).is_some()
 }
@@ -148,10 +158,9 @@ impl Constant {
 
 impl Unary {
     // The operator of a number that takes one operand.
-    #[tactic(auto, unfolding(crate::specs::Operators::operands))]
     #[inline(always)]
     pub(crate) fn of(code: u8) -> Unary
-        requires { operands_of code ≡ Some 1 }
+        requires { is_among code with_one_operand ≡ true }
         ensures { unary_code result ≡ code }
     {
         match code {
@@ -164,10 +173,9 @@ impl Unary {
 
 impl Binary {
     // The operator of a number that takes two operands.
-    #[tactic(auto, unfolding(crate::specs::Operators::operands))]
     #[inline(always)]
     pub(crate) fn of(code: u8) -> Binary
-        requires { operands_of code ≡ Some 2 }
+        requires { is_among code with_two_operands ≡ true }
         ensures { binary_code result ≡ code }
     {
         match code {

@@ -3,7 +3,7 @@
 ghost use Rattle.std.specs.Prelude.{◌≡◌, ◌≤◌, ◌+◌, length};
 ghost use Rattle.ifr_opcodes.specs.declared.codes.TheConstants.{ONE_OF_OPTION};
 ghost use Rattle.ifr_opcodes.specs.declared.kinds.TheConstants.{TYPE_BOOLEAN};
-ghost use Rattle.ifr_opcodes.specs.Kinds.{kind_width as width_of_kind};
+ghost use Rattle.browser_rules.specs.Opcodes.{type_width};
 ghost use Rattle.ifr_opcodes.specs.Fields.{option_kind};
 ghost use Rattle.ifr_opcodes.specs.code.Ops.{bytes_of};
 
@@ -23,7 +23,7 @@ const OPTION_DEFAULT_MFG: u8 = 0x20;
 pub struct OptionOp<'a> {
     pub op: Op<'a>,
     pub ghost coded: { op.code ≡ ONE_OF_OPTION },
-    pub ghost sized: { 6 + width_of_kind (option_kind (bytes_of op)) ≤ length (bytes_of op) },
+    pub ghost sized: { 6 + type_width (option_kind (bytes_of op)) ≤ length (bytes_of op) },
     pub ghost numeric: { option_kind (bytes_of op) ≤ TYPE_BOOLEAN },
 }
 
@@ -34,6 +34,7 @@ impl<'a> OptionOp<'a> {
 
     /// Another opcode, and one whose Type is neither a number nor a Boolean, is refused by OpOutside, one that lacks its
     /// Type or bytes of its value by OpSize, each at its place.
+    #[tactic(auto, using(crate::proofs::RowLemmas::option_numeric))]
     pub fn read(op: Op<'a>) -> Result<OptionOp<'a>, Fault>
         ensures { Reads (is_row ONE_OF_OPTION) (λ view. view.op) op.entry result }
     {

@@ -4,11 +4,10 @@ ghost use Rattle.std.specs.Prelude.{◌≡◌, ◌≤◌, length, true};
 ghost use Rattle.ifr_opcodes.specs.declared.codes.TheConstants.{CHECKBOX};
 ghost use Rattle.ifr_opcodes.specs.Opcode.{number};
 ghost use Rattle.ifr_opcodes.specs.code.Ops.{bytes_of, op_of};
-ghost use Rattle.ifr_opcodes.specs.Statements.{is_question_number, is_statement_number};
+ghost use Rattle.ifr_opcodes.specs.Rows.{is_question_number, is_statement_number};
 
 use crate::codes::CHECKBOX;
 use crate::op::Op;
-use crate::rows::least_len;
 use crate::statements::{is_question, is_statement};
 use hii_bytes::{Cause, Fault};
 
@@ -42,7 +41,7 @@ impl<'a> StatementOp<'a> {
         if !is_statement(op.code) {
             return Err(op.fault(Cause::OpOutside));
         }
-        op.check_length(least_len(op))?;
+        op.check_size()?;
         Ok(StatementOp { op })
     }
 
@@ -82,7 +81,7 @@ impl<'a> QuestionOp<'a> {
         if !is_question(op.code) {
             return Err(op.fault(Cause::OpOutside));
         }
-        op.check_length(least_len(op))?;
+        op.check_size()?;
         Ok(QuestionOp { op })
     }
 
@@ -152,7 +151,7 @@ impl<'a> CheckboxOp<'a> {
     }
 
     /// What it has as a question.
-    #[tactic(auto, unfolding(crate::specs::Statements::is_question_number))]
+    #[tactic(auto, unfolding(crate::specs::Rows::is_question_number, browser_rules::specs::Opcodes::row_of))]
     pub fn question(self) -> QuestionOp<'a>
         ensures { op_of result.op ≡ op_of self.entry.op }
     {

@@ -2,9 +2,11 @@
 
 ghost use Rattle.std.specs.Prelude.{◌≡◌, ◌+◌, ◌*◌, nat_lt, if◌then◌else◌, length};
 ghost use Rattle.ifr_opcodes.specs.Rows as rows;
-ghost use Rattle.ifr_opcodes.specs.Kinds.{kind_width as width_of_kind};
+ghost use Rattle.browser_rules.specs.Opcodes.{type_width};
+ghost use Rattle.browser_rules.specs.Words.{is_among};
 ghost use Rattle.ifr_opcodes.specs.Fields as fields;
 ghost use Rattle.ifr_opcodes.specs.code.Ops.{bytes_of};
+ghost use Rattle.ifr_opcodes.specs.code.Tables as tables;
 
 use crate::codes::{
     ACTION, ANIMATION, CHECKBOX, DATE, DEFAULT, DEFAULTSTORE, DISABLE_IF, EQ_ID_ID, EQ_ID_VAL,
@@ -21,7 +23,7 @@ use crate::stores::before_nul;
 
 // How many bytes an opcode has at least: those of its fields and the two in front of them (UEFI 2.8, 33.3.8.3).
 pub(crate) fn least_len(op: Op) -> usize
-    ensures { result ≡ rows.least_length (bytes_of op.entry) }
+    ensures { result ≡ tables.least_length (bytes_of op.entry) }
 {
     match op.code {
         VARSTORE => 23 + before_nul(op.bytes_from(22)).len(),
@@ -37,7 +39,7 @@ pub(crate) fn least_len(op: Op) -> usize
 
 // The least length of an opcode whose fields always take as many bytes.
 fn fixed_len(code: u8) -> usize
-    ensures { result ≡ rows.bytes_in rows.fixed_rows code }
+    ensures { result ≡ tables.bytes_in tables.fixed_rows code }
 {
     match code {
         FORM_SET => 23,
@@ -85,7 +87,7 @@ fn numeric_len(op: Op) -> usize
 // The least length of an option, whose Type tells how many bytes its value has.
 fn option_len(op: Op) -> usize
     ensures { result ≡ (if nat_lt (length (bytes_of op.entry)) 6 then 6
-        else 6 + width_of_kind (fields.option_kind (bytes_of op.entry))) }
+        else 6 + type_width (fields.option_kind (bytes_of op.entry))) }
 {
     if op.len() < 6 {
         return 6;
@@ -96,7 +98,7 @@ fn option_len(op: Op) -> usize
 // The least length of a default, whose Type tells how many bytes its value has.
 fn default_len(op: Op) -> usize
     ensures { result ≡ (if nat_lt (length (bytes_of op.entry)) 5 then 5
-        else 5 + width_of_kind (fields.default_kind (bytes_of op.entry))) }
+        else 5 + type_width (fields.default_kind (bytes_of op.entry))) }
 {
     if op.len() < 5 {
         return 5;
@@ -116,15 +118,16 @@ fn list_len(op: Op) -> usize
 }
 
 /// Whether an opcode lacks bytes of its fields.
+#[tactic(auto, using(crate::proofs::SizeLemmas::short))]
 pub fn is_short(op: Op) -> bool
     ensures { result ≡ rows.is_short (bytes_of op.entry) }
 {
     op.len() < least_len(op)
 }
 
-/// Whether opcodes of this number are known.
-pub fn is_listed(code: u8) -> bool
-    ensures { result ≡ rows.is_listed code }
+// Whether opcodes of this number are known and no operators.
+fn is_other(code: u8) -> bool
+    ensures { result ≡ is_among code tables.others }
 {
     match code {
         FORM_SET | FORM | SUBTITLE | TEXT | RESET_BUTTON => true,
@@ -135,12 +138,21 @@ pub fn is_listed(code: u8) -> bool
         SUPPRESS_IF | GRAY_OUT_IF | DISABLE_IF | LOCKED | RULE => true,
         INCONSISTENT_IF | NO_SUBMIT_IF | WARNING_IF => true,
         GUID | IMAGE | ANIMATION | REFRESH | REFRESH_ID | MODAL_TAG => true,
-        _ => is_operator(code),
+        _ => false,
     }
+}
+
+/// Whether opcodes of this number are known.
+#[tactic(auto, using(crate::proofs::RowLemmas::known))]
+pub fn is_listed(code: u8) -> bool
+    ensures { result ≡ rows.is_listed code }
+{
+    is_other(code) || is_operator(code)
 }
 
 /// Whether an opcode of a known number is refused all the same: a GUID with Scope, a VARSTORE_EFI of 24 bytes, an option
 /// whose Type is neither a number nor a Boolean, a default whose Type is not defined.
+#[tactic(auto, using(crate::proofs::RowLemmas::refused))]
 pub(crate) fn is_left_out(op: Op) -> bool
     ensures { result ≡ rows.is_left_out (bytes_of op.entry) }
 {
@@ -154,6 +166,7 @@ pub(crate) fn is_left_out(op: Op) -> bool
 }
 
 /// Whether an opcode is refused by OpOutside: its number is not known, or it is left out.
+#[tactic(auto, using(crate::proofs::RowLemmas::outside))]
 pub fn is_outside(op: Op) -> bool
     ensures { result ≡ rows.is_outside (bytes_of op.entry) }
 {

@@ -31,7 +31,7 @@ impl<'a> SubtitleOp<'a> {
     }
 
     /// What it has as a statement.
-    #[tactic(auto, unfolding(crate::specs::Statements::is_statement_number))]
+    #[tactic(auto, unfolding(crate::specs::Rows::is_statement_number, browser_rules::specs::Opcodes::row_of))]
     pub fn statement(self) -> StatementOp<'a>
         ensures { op_of result.op ≡ op_of self.entry.op }
     {

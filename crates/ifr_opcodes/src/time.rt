@@ -31,7 +31,7 @@ impl<'a> TimeOp<'a> {
     }
 
     /// What it has as a question.
-    #[tactic(auto, unfolding(crate::specs::Statements::is_question_number))]
+    #[tactic(auto, unfolding(crate::specs::Rows::is_question_number, browser_rules::specs::Opcodes::row_of))]
     pub fn question(self) -> QuestionOp<'a>
         ensures { op_of result.op ≡ op_of self.entry.op }
     {

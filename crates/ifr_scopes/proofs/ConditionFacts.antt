@@ -5,12 +5,11 @@ use Rattle.std.specs.List.{list_all}
 use Rattle.std.proofs.lemmas.Bool.{cases_Bool, eqb-true, ne_eqb, false≢true}
 use Rattle.ifr_opcodes.specs.declared.codes.TheConstants.{FORM_SET, VALUE, SUPPRESS_IF, GRAY_OUT_IF, DISABLE_IF}
 use Rattle.ifr_opcodes.specs.Opcode.{number}
-use Rattle.ifr_opcodes.specs.Operators.{is_operator, operands}
+use Rattle.ifr_opcodes.specs.Rows.{row_of, is_operator, operands, is_question_number, is_statement_number}
 use Rattle.ifr_opcodes.specs.Forest.{Mark, Ancestor, Node, as_ancestor, below}
 use Rattle.ifr_scopes.specs.Checked.{IsChecked}
 use Rattle.ifr_scopes.specs.Guards.{is_guard, guards}
 use Rattle.ifr_scopes.specs.code.Tables.{parent_place, is_question_condition}
-use Rattle.ifr_opcodes.specs.Statements.{is_question_number, is_statement_number}
 use Rattle.ifr_scopes.specs.Kinds.{is_store_number, conditions, is_condition_number, is_ignored}
 use Rattle.ifr_scopes.specs.Nodes.{nodes_of, is_question}
 use Rattle.ifr_scopes.specs.Structure.{innermost, is_root, is_wanted}
@@ -32,7 +31,7 @@ is_of_question OfChoice = true
 is_of_question _ = false
 
 no_condition_held : (c : Class) → is_of_question c ≡ false → list_all (λ code. not (admits c code)) conditions ≡ true
-unfolding is_statement_number is_question_number is_store_number is_condition_number is_ignored operands
+unfolding is_statement_number is_question_number is_store_number is_condition_number is_ignored operands row_of
 no_condition_held OfFormSet e = refl
 no_condition_held OfForm e = refl
 no_condition_held OfText e = refl
@@ -52,7 +51,7 @@ holds_condition c code is e = elim (cases_Bool (is_of_question c)) [
 
 -- a question has its number
 question_class : (code : ℕ) → is_of_question (class_of (row code)) ≡ true → is_question_number code ≡ true
-unfolding is_question_number
+unfolding is_question_number row_of
 question_class code e =
     let one : not (is_of_question (class_of (row code))) || is_question_number code ≡ true = class_fact (λ c class. not (is_of_question class) || is_question_number c) (λ c. refl) (λ c. refl) refl code in
     ap (λ (b : Bool). not b || is_question_number code) (sym e) ∙ one
@@ -89,7 +88,7 @@ other_than : (code other : ℕ) → is_condition_number code ≡ true → is_con
 other_than code other is plain = ne_eqb code other (λ e. false≢true (sym plain ∙ ap is_condition_number (sym e) ∙ is))
 
 plain_numbers : (is_condition_number FORM_SET ≡ false) × (is_condition_number VALUE ≡ false) × (list_all (λ c. not (is_operator c)) conditions ≡ true)
-unfolding is_condition_number operands
+unfolding is_condition_number operands row_of
 plain_numbers = (refl, refl, refl)
 
 no_operator : (code : ℕ) → is_condition_number code ≡ true → is_operator code ≡ false

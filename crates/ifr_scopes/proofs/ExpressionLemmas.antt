@@ -9,7 +9,7 @@ use Rattle.hii_bytes.specs.declared.cause.Cause.TheVariants.{NotFormSet, AfterFo
 use Rattle.ifr_opcodes.specs.Opcode.{number, has_scope}
 use Rattle.ifr_opcodes.specs.Forest.{Forest, none, node, flat, AreNodes, SpellsForest, Mark, Ancestor, Node, as_ancestor, nodes}
 use Rattle.ifr_opcodes.specs.code.Marks.{mark}
-use Rattle.ifr_opcodes.specs.Operators.{is_operator}
+use Rattle.ifr_opcodes.specs.Rows.{is_operator}
 use Rattle.ifr_opcodes.proofs.ForestLemmas.{takes}
 use Rattle.ifr_expr.specs.code.Checked.{IsSized, AreSized}
 use Rattle.ifr_expr.specs.Faults as expr
@@ -29,7 +29,7 @@ use Rattle.ifr_scopes.proofs.ClassLemmas.{class-other}
 use Rattle.ifr_scopes.proofs.InnermostLemmas.{last_or-push}
 use Rattle.ifr_scopes.proofs.PlaceLemmas.{node_stands}
 use Rattle.ifr_opcodes.proofs.RowLemmas.{operator_inside}
-use Rattle.ifr_opcodes.proofs.StatementLemmas.{and_first, and_second}
+use Rattle.ifr_opcodes.proofs.TableLemmas.{and_first, and_second}
 use Rattle.ifr_scopes.proofs.TableLemmas.{operator_row, guards_no_operator, wants_no_operator, wants_no_value}
 use Rattle.ifr_scopes.proofs.ViewLemmas.{further, below_within}
 

@@ -12,7 +12,7 @@ use Rattle.ifr_opcodes.specs.Reading.{tree_of}
 use Rattle.ifr_scopes.specs.Checked.{IsChecked}
 use Rattle.ifr_scopes.specs.code.Checked.{node_in, has_node}
 use Rattle.ifr_scopes.specs.Nodes.{nodes_of, is_form, is_question, is_reference, end_of}
-use Rattle.ifr_opcodes.specs.Statements.{is_question_number}
+use Rattle.ifr_opcodes.specs.Rows.{row_of, is_question_number}
 use Rattle.ifr_scopes.specs.References.{has_reference_fault, has_form_id, has_question_id}
 use Rattle.ifr_scopes.specs.code.Causes.{reference_causes}
 use Rattle.ifr_scopes.specs.Rules.{is_rule, as_rule, forms_among, form_end, end_or_0, rules_among, size, is_rule_too_large, scope_end}
@@ -69,7 +69,7 @@ no_form : (n : Node) → is_rule n ≡ true → is_form n ≡ false
 no_form n is = ap (λ (k : ℕ). eqb k FORM) (eqb-true (number n.op) RULE is)
 
 no_question_rule : is_question_number RULE ≡ false
-unfolding is_question_number
+unfolding is_question_number row_of
 no_question_rule = refl
 
 no_question : (n : Node) → is_rule n ≡ true → is_question n ≡ false

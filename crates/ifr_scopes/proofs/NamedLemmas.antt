@@ -15,7 +15,7 @@ use Rattle.ifr_scopes.specs.Rules.{as_rule, form_end}
 use Rattle.ifr_scopes.specs.code.RuleNodes.{Descend}
 use Rattle.ifr_scopes.specs.code.KeptRules.{kept_rule, kept_rules, kept_named}
 use Rattle.ifr_scopes.specs.declared.rules.KeptRule.{KeptRule}
-use Rattle.ifr_opcodes.proofs.StatementLemmas.{and_first, and_second}
+use Rattle.ifr_opcodes.proofs.TableLemmas.{and_first, and_second}
 use Rattle.ifr_scopes.proofs.ViewLemmas.{further}
 
 -- ---- lists

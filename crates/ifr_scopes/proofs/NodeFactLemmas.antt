@@ -1,16 +1,16 @@
 -- What the nodes of a checked package have: all their fields, and an expression where they want one.
-use Rattle.std.proofs.Common.{◌≡◌, ℕ, ◌+◌, ◌≤◌, Bool, true, false, cond, eqb, ltb, leb, Some, List, [], ◌∷◌, ◌++◌, length, refl, sym, ap, subst, ◌∙◌, arith, inl, inr}
+use Rattle.std.proofs.Common.{◌≡◌, ℕ, ◌+◌, ◌≤◌, Bool, true, false, cond, eqb, ltb, Some, List, [], ◌∷◌, ◌++◌, length, refl, sym, ap, subst, ◌∙◌, arith, inl, inr}
 use Rattle.std.specs.Prelude.{◌&&◌, not, Contains}
-use Rattle.std.proofs.lemmas.Bool.{cases_Bool, eqb-true, eq-eqb, ltb-true, ltb-false, le-leb, false≢true, and_from, or_parts}
+use Rattle.std.proofs.lemmas.Bool.{cases_Bool, eqb-true, eq-eqb, ltb-true, false≢true, and_from, or_parts}
 use Rattle.hii_bytes.specs.Faults.{HasNone}
 use Rattle.hii_bytes.specs.declared.cause.Cause.{Cause}
 use Rattle.hii_bytes.specs.declared.cause.Cause.TheVariants.{NotFormSet, OpOutside, OpSize, ExprShape}
-use Rattle.ifr_opcodes.specs.Opcode.{number, has_scope}
-use Rattle.ifr_opcodes.specs.Fields.{row_length, least_length, is_listed, is_left_out, option_kind, default_kind}
-use Rattle.ifr_opcodes.specs.Operators.{is_operator}
-use Rattle.ifr_opcodes.specs.declared.codes.TheConstants.{GUID, VARSTORE_EFI, ONE_OF_OPTION, DEFAULT, VALUE}
+use Rattle.ifr_opcodes.specs.Opcode.{number}
+use Rattle.ifr_opcodes.specs.code.Tables.{row_length, least_length}
+use Rattle.ifr_opcodes.specs.Fields.{is_listed, is_left_out, option_kind, default_kind}
+use Rattle.ifr_opcodes.specs.declared.codes.TheConstants.{ONE_OF_OPTION, DEFAULT, VALUE}
 use Rattle.ifr_opcodes.specs.declared.kinds.TheConstants.{TYPE_BOOLEAN, TYPE_REF}
-use Rattle.ifr_opcodes.specs.Statements.{is_question_number, is_statement_number}
+use Rattle.ifr_opcodes.specs.Rows.{is_operator, is_question_number, is_statement_number}
 use Rattle.ifr_opcodes.specs.Forest.{Forest, none, node, Node as Placed, as_ancestor, nodes_at, nodes, below}
 use Rattle.ifr_opcodes.specs.code.Marks.{mark}
 use Rattle.ifr_opcodes.specs.Reading.{tree_of}
@@ -24,7 +24,11 @@ use Rattle.ifr_scopes.specs.code.Checked.{IsAt, node_in}
 use Rattle.ifr_scopes.specs.code.Views.{node_of}
 use Rattle.ifr_scopes.specs.declared.node.Node.{Node}
 use Rattle.ifr_scopes.proofs.ExpressionLemmas.{innermost-push}
+use Rattle.ifr_opcodes.proofs.RowLemmas as rows
+use Rattle.ifr_opcodes.proofs.RowLemmas.{inside_parts, row_from}
+use Rattle.ifr_opcodes.proofs.SizeLemmas.{all_there}
 use Rattle.ifr_opcodes.proofs.StatementLemmas.{question_row, statement_row}
+use Rattle.ifr_scopes.proofs.PlaceLemmas.{node_stands}
 use Rattle.ifr_scopes.proofs.ViewLemmas.{node_there, below_within}
 
 -- the node of a view is one of the package
@@ -41,7 +45,7 @@ no_fault bytes n cause checked within = elim (cases_Bool (has_structure_fault n 
 
 -- a node has all the fields of its opcode
 pub long_enough : (bytes : List ℕ) (n : Placed) → IsChecked bytes → Contains (nodes_of bytes) n → least_length n.op ≤ length n.op
-long_enough bytes n checked within = ltb-false (length n.op) (least_length n.op) (no_fault bytes n OpSize checked within)
+long_enough bytes n checked within = all_there n.op (node_stands bytes (tree_of bytes) n checked.spelled within).2.0.whole.long (no_fault bytes n OpSize checked within)
 
 -- so has that of a view, whose number was tested
 pub record HasFields (code : ℕ) (op : List ℕ) : Type 0 where
@@ -73,22 +77,18 @@ asked false shaped is e = absurd (false≢true is)
 -- it is not left out
 kept : (bytes : List ℕ) (place : ℕ) (op : List ℕ) → IsChecked bytes → IsAt bytes place op → is_left_out op ≡ false
 kept bytes place op checked at =
-    ap is_left_out (sym at.opcode) ∙ (or_parts _ _ (no_fault bytes (node_in bytes place) OpOutside checked (is_node bytes place op checked at))).1
+    ap is_left_out (sym at.opcode) ∙ (inside_parts (node_in bytes place).op (no_fault bytes (node_in bytes place) OpOutside checked (is_node bytes place op checked at))).1
 
 -- an option's value is a number or a Boolean, and a default's Type is defined
 pub option_numeric : (bytes : List ℕ) (place : ℕ) (op : List ℕ) → IsChecked bytes → IsAt bytes place op → eqb (number (node_in bytes place).op) ONE_OF_OPTION ≡ true → option_kind op ≤ TYPE_BOOLEAN
 option_numeric bytes place op checked at is =
     let has = has_fields bytes place op ONE_OF_OPTION checked at is in
-    let long : 6 ≤ length op = omega (arith, past_front 6 _ _ has.sized) in
-    let inside = subst (λ (k : ℕ). cond (eqb k GUID) (has_scope op) (cond (eqb k VARSTORE_EFI) (eqb (length op) 24) (cond (eqb k ONE_OF_OPTION) (leb 6 (length op) && ltb TYPE_BOOLEAN (option_kind op)) (cond (eqb k DEFAULT) (leb 5 (length op) && ltb TYPE_REF (default_kind op)) false))) ≡ false) has.coded (kept bytes place op checked at) in
-    ltb-false TYPE_BOOLEAN (option_kind op) (asked (leb 6 (length op)) _ (le-leb 6 (length op) long) inside)
+    rows.option_numeric op (row_from op ONE_OF_OPTION has.coded (kept bytes place op checked at)) (omega (arith, past_front 6 _ _ has.sized))
 
 pub default_known : (bytes : List ℕ) (place : ℕ) (op : List ℕ) → IsChecked bytes → IsAt bytes place op → eqb (number (node_in bytes place).op) DEFAULT ≡ true → default_kind op ≤ TYPE_REF
 default_known bytes place op checked at is =
     let has = has_fields bytes place op DEFAULT checked at is in
-    let long : 5 ≤ length op = omega (arith, past_front 5 _ _ has.sized) in
-    let inside = subst (λ (k : ℕ). cond (eqb k GUID) (has_scope op) (cond (eqb k VARSTORE_EFI) (eqb (length op) 24) (cond (eqb k ONE_OF_OPTION) (leb 6 (length op) && ltb TYPE_BOOLEAN (option_kind op)) (cond (eqb k DEFAULT) (leb 5 (length op) && ltb TYPE_REF (default_kind op)) false))) ≡ false) has.coded (kept bytes place op checked at) in
-    ltb-false TYPE_REF (default_kind op) (asked (leb 5 (length op)) _ (le-leb 5 (length op) long) inside)
+    rows.default_known op (row_from op DEFAULT has.coded (kept bytes place op checked at)) (omega (arith, past_front 5 _ _ has.sized))
 
 -- a question has the bytes of its header, and a statement
 pub question_long : (bytes : List ℕ) (place : ℕ) (op : List ℕ) → IsChecked bytes → IsAt bytes place op → is_question_number (number (node_in bytes place).op) ≡ true → 13 ≤ length op
@@ -122,10 +122,10 @@ begins none lacks = absurd (false≢true (sym lacks))
 begins (node op children rest) lacks = (op, children, rest, refl)
 
 -- a known number where an expression is wanted is an operator's
-is_wanted : (known operator : Bool) → known && not operator ≡ false → not known ≡ false → operator ≡ true
+is_wanted : (known operator : Bool) → known && not operator ≡ false → known ≡ true → operator ≡ true
 is_wanted true true lacks listed = refl
 is_wanted true false lacks listed = absurd (false≢true (sym lacks))
-is_wanted false operator lacks listed = absurd (false≢true (sym listed))
+is_wanted false operator lacks listed = absurd (false≢true listed)
 
 pub has_condition : (bytes : List ℕ) (n : Placed) → IsChecked bytes → Contains (nodes_of bytes) n → wants_expression (number n.op) ≡ true → HasCondition bytes n
 has_condition bytes n checked within wants =
@@ -136,7 +136,7 @@ has_condition bytes n checked within wants =
     let child : Placed = record { place = from; op = op; path = n.path ++ as_ancestor n ∷ []; children = first.1 } in
     let below_it : Contains (below n) child = subst (λ (f : Forest). Contains (nodes_at from (n.path ++ as_ancestor n ∷ []) f) child) (sym first.3) (0, omega arith, refl) in
     let there : Contains (nodes_of bytes) child = below_within (tree_of bytes) 4 [] n child within below_it in
-    let operator : is_operator (number op) ≡ true = is_wanted (is_listed (number op)) (is_operator (number op)) (ap (λ (f : Forest). lacks_expression (first_number f)) (sym first.3) ∙ lacks) (or_parts _ _ (no_fault bytes child OpOutside checked there)).0 in
+    let operator : is_operator (number op) ≡ true = is_wanted (is_listed (number op)) (is_operator (number op)) (ap (λ (f : Forest). lacks_expression (first_number f)) (sym first.3) ∙ lacks) (inside_parts op (no_fault bytes child OpOutside checked there)).0 in
     let around : parent child ≡ Some (mark n) = innermost-push n.path (as_ancestor n) in
     let begins_it : is_condition child ≡ true = ap (begins_scope from) around ∙ and_from _ _ wants (eq-eqb from from refl) in
     record {
@@ -177,7 +177,7 @@ has_value bytes n checked within wants =
       children = first.1;
       rest = first.2;
       first = first.3;
-      is_value = eqb-true (number op) VALUE (is_wanted (is_listed (number op)) (eqb (number op) VALUE) (ap (λ (f : Forest). lacks_value (first_number f)) (sym first.3) ∙ lacks) (or_parts _ _ (no_fault bytes child OpOutside checked there)).0);
+      is_value = eqb-true (number op) VALUE (is_wanted (is_listed (number op)) (eqb (number op) VALUE) (ap (λ (f : Forest). lacks_value (first_number f)) (sym first.3) ∙ lacks) (inside_parts op (no_fault bytes child OpOutside checked there)).0);
       within = there;
     }
 

@@ -4,10 +4,9 @@ use Rattle.std.specs.Prelude.{◌||◌, not, Contains}
 use Rattle.std.proofs.lemmas.Bool.{cases_Bool, cases_lt, eqb-true, false≢true}
 use Rattle.ifr_opcodes.specs.declared.codes.TheConstants.{FORM_SET, VALUE, ONE_OF_OPTION}
 use Rattle.ifr_opcodes.specs.Opcode.{number}
-use Rattle.ifr_opcodes.specs.Operators.{is_operator, operands}
+use Rattle.ifr_opcodes.specs.Rows.{row_of, is_operator, operands, is_question_number, is_statement_number}
 use Rattle.ifr_opcodes.specs.Forest.{none, Ancestor, Node, as_ancestor, below}
 use Rattle.ifr_opcodes.specs.Reading.{tree_of}
-use Rattle.ifr_opcodes.specs.Statements.{is_question_number, is_statement_number}
 use Rattle.ifr_opcodes.proofs.ForestLemmas.{takes}
 use Rattle.ifr_scopes.specs.Checked.{IsChecked}
 use Rattle.ifr_scopes.specs.Guards.{is_guard}
@@ -36,7 +35,7 @@ is_of_options OfOptions = true
 is_of_options _ = false
 
 holds_option : (c : Class) → admits c ONE_OF_OPTION ≡ true → is_of_options c ≡ true
-unfolding is_statement_number is_question_number is_store_number is_condition_number is_ignored operands
+unfolding is_statement_number is_question_number is_store_number is_condition_number is_ignored operands row_of
 holds_option OfFormSet e = absurd (false≢true e)
 holds_option OfForm e = absurd (false≢true e)
 holds_option OfText e = absurd (false≢true e)
@@ -49,7 +48,7 @@ holds_option OfNothing e = absurd (false≢true e)
 
 -- what is no guard and has such a scope is a question
 options_class : (code : ℕ) → is_of_options (class_of (row code)) ≡ true → is_question_number code ≡ true
-unfolding is_question_number
+unfolding is_question_number row_of
 options_class code e =
     let one : not (is_of_options (class_of (row code))) || is_question_number code ≡ true = class_fact (λ c class. not (is_of_options class) || is_question_number c) (λ c. refl) (λ c. refl) refl code in
     ap (λ (b : Bool). not b || is_question_number code) (sym e) ∙ one
@@ -101,7 +100,7 @@ in_options bytes (suc k) n checked within le is = elim (inside_node bytes n with
 ]
 
 no_operator : is_operator ONE_OF_OPTION ≡ false
-unfolding operands
+unfolding operands row_of
 no_operator = refl
 
 pub option_question : (bytes : List ℕ) (n : Node) → IsChecked bytes → Contains (nodes_of bytes) n → is_option n ≡ true → IsBelowQuestion bytes n

@@ -4,11 +4,10 @@ use Rattle.std.specs.Prelude.{Contains, ◌||◌}
 use Rattle.std.proofs.lemmas.Bool.{cases_Bool, ne_eqb, false≢true}
 use Rattle.ifr_opcodes.specs.declared.codes.TheConstants.{FORM}
 use Rattle.ifr_opcodes.specs.Opcode.{number}
-use Rattle.ifr_opcodes.specs.Operators.{is_among}
+use Rattle.ifr_opcodes.specs.Rows.{is_among, is_question_number}
 use Rattle.ifr_opcodes.specs.Forest.{Ancestor, Node, as_ancestor}
 use Rattle.ifr_scopes.specs.Checked.{IsChecked}
 use Rattle.ifr_scopes.specs.Guards.{is_guard}
-use Rattle.ifr_opcodes.specs.Statements.{is_question_number}
 use Rattle.ifr_scopes.specs.Nodes.{nodes_of, is_form, is_question, is_statement}
 use Rattle.ifr_scopes.specs.Structure.{parent, is_condition, begins_with_value, is_wanted, is_root}
 use Rattle.ifr_scopes.specs.Table.{class_around}

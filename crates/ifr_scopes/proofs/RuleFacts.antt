@@ -8,11 +8,11 @@ use Rattle.std.proofs.lemmas.List.Elements.{filter-append, Contains-append_right
 use Rattle.hii_bytes.specs.declared.cause.Cause.TheVariants.{NotFormSet, AfterFormSet, Misplaced}
 use Rattle.ifr_opcodes.specs.declared.codes.TheConstants.{FORM_SET, FORM, SUBTITLE, VALUE, RULE}
 use Rattle.ifr_opcodes.specs.Opcode.{number}
-use Rattle.ifr_opcodes.specs.Operators.{is_operator, operands}
+use Rattle.ifr_opcodes.specs.Rows.{row_of, is_operator, operands}
 use Rattle.ifr_opcodes.specs.Forest.{Forest, none, node, flat, Ancestor, Node, as_ancestor, nodes_at, node_at, AreNodes}
 use Rattle.ifr_opcodes.specs.Reading.{tree_of}
 use Rattle.ifr_opcodes.proofs.ForestLemmas.{takes}
-use Rattle.ifr_opcodes.proofs.StatementLemmas.{and_first, and_second}
+use Rattle.ifr_opcodes.proofs.TableLemmas.{and_first, and_second}
 use Rattle.ifr_scopes.specs.Checked.{IsChecked}
 use Rattle.ifr_scopes.specs.Guards.{is_guard}
 use Rattle.ifr_scopes.specs.Nodes.{nodes_of}
@@ -241,7 +241,7 @@ in_form bytes (suc k) n checked within le e = elim (around_it bytes n checked wi
 -- ---- what stands in a rule
 
 of_rule : class_of (row RULE) ≡ OfNothing
-unfolding row operands
+unfolding row operands row_of
 of_rule = refl
 
 wants_of_rule : wants_expression RULE ≡ true

@@ -11,7 +11,7 @@ use Rattle.ifr_opcodes.specs.code.Marks.{mark}
 use Rattle.ifr_opcodes.specs.code.Ops.{bytes_of}
 use Rattle.ifr_opcodes.specs.Reading.{tree_of}
 use Rattle.ifr_opcodes.specs.code.Marks.{ancestor_at}
-use Rattle.ifr_opcodes.specs.Statements.{is_question_number}
+use Rattle.ifr_opcodes.specs.Rows.{is_question_number}
 use Rattle.ifr_scopes.specs.Nodes.{nodes_of, questions_among, id_or_0, this_among}
 use Rattle.ifr_scopes.specs.Checked.{IsChecked}
 use Rattle.ifr_scopes.specs.code.Checked.{IsAt, IsNodeOf, AreNodesOf, node_in}

@@ -14,7 +14,7 @@ use Rattle.hii_bytes.proofs.FirstFaultLemmas.{first_among, none_among}
 use Rattle.ifr_opcodes.specs.Forest.{Forest, none, node, flat, Mark, Ancestor, Node, as_ancestor, nodes, AreNodes, SpellsForest}
 use Rattle.ifr_opcodes.specs.code.Marks.{mark}
 use Rattle.ifr_opcodes.specs.Opcode.{number, has_scope}
-use Rattle.ifr_opcodes.specs.Operators.{is_operator}
+use Rattle.ifr_opcodes.specs.Rows.{is_operator}
 use Rattle.ifr_opcodes.specs.code.Ops.{bytes_of}
 use Rattle.ifr_opcodes.specs.Reading.{tree_of, opcodes_in}
 use Rattle.ifr_opcodes.specs.code.Marks.{ancestor_at, inside}
@@ -33,7 +33,7 @@ use Rattle.ifr_scopes.specs.code.Visits.{Meets, left}
 use Rattle.ifr_scopes.specs.declared.walk.Visit.{Visit}
 use Rattle.ifr_scopes.specs.declared.walk.Walk.{Walk}
 use Rattle.ifr_opcodes.proofs.ForestLemmas.{takes}
-use Rattle.ifr_opcodes.proofs.StatementLemmas.{and_first, and_second}
+use Rattle.ifr_opcodes.proofs.TableLemmas.{and_first, and_second}
 use Rattle.ifr_scopes.proofs.BehindLemmas.{Inside, are_inside, below_or_behind, at_or_in, siblings_inside}
 use Rattle.ifr_scopes.proofs.ExpressionLemmas.{IsIn, IsRead, StandsFrom, stands_from, fault_inside, shape_late, node_early, own_fault, inner_fault, in_is_no_condition, read_fault}
 use Rattle.ifr_scopes.proofs.PlaceLemmas.{Within, nodes_within}

@@ -5,10 +5,11 @@ use Rattle.std.specs.List.{list_all}
 use Rattle.std.proofs.lemmas.Bool.{cases_Bool, cond-true, cond-false, eqb-true, ne_eqb, false≢true}
 use Rattle.ifr_opcodes.specs.declared.codes.TheConstants.{FORM_SET, FORM, SUBTITLE, DEFAULT, VALUE, RULE, SUPPRESS_IF, GRAY_OUT_IF, DISABLE_IF}
 use Rattle.ifr_opcodes.specs.Opcode.{number}
-use Rattle.ifr_opcodes.specs.Operators.{is_among, is_operator, operands}
-use Rattle.ifr_opcodes.proofs.StatementLemmas.{and_first, and_second, of_each}
+use Rattle.ifr_opcodes.specs.Rows.{row_of, is_among, is_operator, operands, is_question_number, is_statement_number}
+use Rattle.ifr_opcodes.proofs.TableLemmas.{and_first, and_second, of_each}
 use Rattle.ifr_scopes.specs.Guards.{is_guard}
-use Rattle.ifr_opcodes.specs.Statements.{plain_statements, questions_without_options, questions_with_options, is_question_number, is_statement_number}
+use Rattle.ifr_opcodes.specs.code.Tables.{plain_statements, questions_without_options, questions_with_options, is_among_statements}
+use Rattle.ifr_opcodes.proofs.RowLemmas.{states}
 use Rattle.ifr_scopes.specs.Kinds.{is_store_number, conditions, is_condition_number, is_ignored}
 use Rattle.ifr_scopes.specs.Table.{scope_rows, row_in, row, wants_expression, wants_value, class_of, guarded, admits}
 use Rattle.ifr_scopes.specs.declared.table.Row.{Row}
@@ -83,7 +84,7 @@ of_form code e =
     ]
 
 pub holds_form_set : (c : Class) → admits c FORM_SET ≡ true → ⊥
-unfolding is_statement_number is_question_number is_store_number is_condition_number is_ignored operands
+unfolding is_statement_number is_question_number is_store_number is_condition_number is_ignored operands row_of
 holds_form_set OfFormSet e = false≢true e
 holds_form_set OfForm e = false≢true e
 holds_form_set OfText e = false≢true e
@@ -95,7 +96,7 @@ holds_form_set OfExpression e = false≢true e
 holds_form_set OfNothing e = false≢true e
 
 pub holds_form : (c : Class) → admits c FORM ≡ true → c ≡ OfFormSet
-unfolding is_statement_number is_question_number is_store_number is_condition_number is_ignored operands
+unfolding is_statement_number is_question_number is_store_number is_condition_number is_ignored operands row_of
 holds_form OfFormSet e = refl
 holds_form OfForm e = absurd (false≢true e)
 holds_form OfText e = absurd (false≢true e)
@@ -107,7 +108,7 @@ holds_form OfExpression e = absurd (false≢true e)
 holds_form OfNothing e = absurd (false≢true e)
 
 pub holds_rule : (c : Class) → admits c RULE ≡ true → c ≡ OfForm
-unfolding is_statement_number is_question_number is_store_number is_condition_number is_ignored operands
+unfolding is_statement_number is_question_number is_store_number is_condition_number is_ignored operands row_of
 holds_rule OfFormSet e = absurd (false≢true e)
 holds_rule OfForm e = refl
 holds_rule OfText e = absurd (false≢true e)
@@ -121,14 +122,15 @@ holds_rule OfNothing e = absurd (false≢true e)
 -- what holds of the number of each statement holds of a statement
 of_statement : (holds : ℕ → Bool) → list_all holds plain_statements ≡ true → list_all holds questions_without_options ≡ true → list_all holds questions_with_options ≡ true
     → (code : ℕ) → is_statement_number code ≡ true → holds code ≡ true
-unfolding is_statement_number is_question_number
-of_statement holds plain without with_them code is = elim (cases_Bool (is_among code plain_statements)) [
-  | inl here ↦ of_each holds plain_statements code plain here
-  | inr more ↦ elim (cases_Bool (is_among code questions_without_options)) [
-    | inl here ↦ of_each holds questions_without_options code without here
-    | inr last ↦ of_each holds questions_with_options code with_them (ap (λ (b : Bool). b || is_among code questions_with_options) (sym last) ∙ ap (λ (b : Bool). b || (is_among code questions_without_options || is_among code questions_with_options)) (sym more) ∙ is)
-  ]
-]
+of_statement holds plain without with_them code is =
+    let among : is_among_statements code ≡ true = sym (states code) ∙ is in
+    elim (cases_Bool (is_among code plain_statements)) [
+      | inl here ↦ of_each holds plain_statements code plain here
+      | inr more ↦ elim (cases_Bool (is_among code questions_without_options)) [
+        | inl here ↦ of_each holds questions_without_options code without here
+        | inr last ↦ of_each holds questions_with_options code with_them (ap (λ (b : Bool). b || is_among code questions_with_options) (sym last) ∙ ap (λ (b : Bool). b || (is_among code questions_without_options || is_among code questions_with_options)) (sym more) ∙ among)
+      ]
+    ]
 
 none_held : (c : Class) → list_all (λ k. not (admits c k)) plain_statements ≡ true → list_all (λ k. not (admits c k)) questions_without_options ≡ true → list_all (λ k. not (admits c k)) questions_with_options ≡ true
     → (code : ℕ) → is_statement_number code ≡ true → admits c code ≡ true → ⊥
@@ -136,7 +138,7 @@ none_held c plain without with_them code is held = false≢true (ap not (sym hel
 
 -- a statement stands in the scope of a form alone, or of a subtitle
 pub holds_statement : (c : Class) (code : ℕ) → is_statement_number code ≡ true → admits c code ≡ true → c ≡ OfForm
-unfolding is_question_number is_store_number is_condition_number is_ignored operands is_statement_number
+unfolding is_question_number is_store_number is_condition_number is_ignored operands is_statement_number row_of
 holds_statement OfFormSet code is held = absurd (none_held OfFormSet refl refl refl code is held)
 holds_statement OfForm code is held = refl
 holds_statement OfText code is held = absurd (none_held OfText refl refl refl code is held)
@@ -148,7 +150,7 @@ holds_statement OfExpression code is held = absurd (none_held OfExpression refl 
 holds_statement OfNothing code is held = absurd (none_held OfNothing refl refl refl code is held)
 
 pub holds_subtitle : (c : Class) → admits c SUBTITLE ≡ true → c ≡ OfForm
-unfolding is_statement_number is_question_number is_store_number is_condition_number is_ignored operands
+unfolding is_statement_number is_question_number is_store_number is_condition_number is_ignored operands row_of
 holds_subtitle OfFormSet e = absurd (false≢true e)
 holds_subtitle OfForm e = refl
 holds_subtitle OfText e = absurd (false≢true e)
@@ -184,11 +186,11 @@ guarded_form OfNothing e = e
 -- ---- operators
 
 pub no_operators : (is_operator FORM_SET ≡ false) × (is_operator FORM ≡ false) × (is_operator RULE ≡ false) × (is_operator SUBTITLE ≡ false) × (is_operator VALUE ≡ false)
-unfolding operands
+unfolding operands row_of
 no_operators = (refl, refl, refl, refl, refl)
 
 no_guards : (is_operator SUPPRESS_IF ≡ false) × (is_operator GRAY_OUT_IF ≡ false) × (is_operator DISABLE_IF ≡ false) × (is_operator DEFAULT ≡ false) × (list_all (λ c. not (is_operator c)) conditions ≡ true)
-unfolding operands
+unfolding operands row_of
 no_guards = (refl, refl, refl, refl, refl)
 
 -- the number of an operator is not that of something else
@@ -224,7 +226,7 @@ abbrev pub outer : List ℕ
 outer = FORM_SET ∷ FORM ∷ plain_statements ++ questions_without_options ++ questions_with_options
 
 not_admitted : (c : Class) → is_inner c ≡ true → list_all (λ code. not (admits c code)) outer ≡ true
-unfolding is_statement_number is_question_number is_store_number is_condition_number is_ignored operands
+unfolding is_statement_number is_question_number is_store_number is_condition_number is_ignored operands row_of
 not_admitted OfFormSet e = absurd (false≢true e)
 not_admitted OfForm e = absurd (false≢true e)
 not_admitted OfText e = absurd (false≢true e)
@@ -261,7 +263,7 @@ other_is_inner code other =
 
 -- so is that of a question
 pub question_is_inner : (code : ℕ) → is_question_number code ≡ true → is_inner (class_of (row code)) ≡ true
-unfolding is_question_number
+unfolding is_question_number row_of
 question_is_inner code is =
     let one : is_inner (class_of (row code)) || not (is_question_number code) ≡ true = class_fact (λ c class. is_inner class || not (is_question_number c)) (λ c. refl) (λ c. refl) refl code in
     elim (cases_Bool (is_inner (class_of (row code)))) [
@@ -278,7 +280,7 @@ no_statement code other = elim (cases_Bool (is_statement_number code)) [
 
 -- an operator and a VALUE are none of them
 apart_outer : list_all (λ c. not (is_operator c)) outer ≡ true
-unfolding operands
+unfolding operands row_of
 apart_outer = refl
 
 pub operator_is_inner : (code : ℕ) → is_operator code ≡ true → is_among code outer ≡ false
@@ -300,7 +302,7 @@ no_guard code is = elim (cases_Bool (is_guard code)) [
 -- ---- what a statement is not
 
 no_form_set : is_statement_number FORM_SET ≡ false
-unfolding is_statement_number is_question_number
+unfolding is_statement_number is_question_number row_of
 no_form_set = refl
 
 -- a statement is no form set, no operator and no VALUE

@@ -10,7 +10,7 @@ use Rattle.ifr_opcodes.specs.Forest.{Ancestor, Node as Placed, as_ancestor, belo
 use Rattle.ifr_opcodes.specs.Reading.{tree_of}
 use Rattle.ifr_scopes.specs.Checked.{IsChecked}
 use Rattle.ifr_scopes.specs.code.Checked.{IsNodeOf}
-use Rattle.ifr_opcodes.specs.Statements.{is_question_number}
+use Rattle.ifr_opcodes.specs.Rows.{is_question_number}
 use Rattle.ifr_scopes.specs.Nodes.{nodes_of, is_question, of_question, questions_among, id_or_0, this_of}
 use Rattle.ifr_scopes.specs.code.PartsLeft.{HaveThis}
 use Rattle.ifr_scopes.specs.code.Views.{node_of}

@@ -1,6 +1,6 @@
 -- Stores, conditions of questions, and opcodes of no effect (UEFI 2.8, 33.3.8.3 Opcode Reference, under the name of each).
 use Rattle.std.specs.Prelude.{ℕ, Bool, List, [], ◌∷◌}
-use Rattle.ifr_opcodes.specs.Operators.{is_among}
+use Rattle.ifr_opcodes.specs.Rows.{is_among}
 use Rattle.ifr_opcodes.specs.declared.codes.TheConstants.{VARSTORE, VARSTORE_EFI, VARSTORE_NAME_VALUE, GUID, IMAGE, ANIMATION, REFRESH, REFRESH_ID, MODAL_TAG, INCONSISTENT_IF, NO_SUBMIT_IF, WARNING_IF}
 
 -- the stores

@@ -7,7 +7,7 @@ use Rattle.hii_bytes.specs.declared.cause.Cause.{Cause}
 use Rattle.hii_bytes.specs.declared.cause.Cause.TheVariants.{NotFormSet, AfterFormSet, OpOutside, OpSize, Misplaced, ScopeBit, ExprShape}
 use Rattle.ifr_opcodes.specs.Opcode.{number, has_scope}
 use Rattle.ifr_opcodes.specs.Fields.{is_listed, is_outside, is_short}
-use Rattle.ifr_opcodes.specs.Operators.{is_operator}
+use Rattle.ifr_opcodes.specs.Rows.{is_operator}
 use Rattle.ifr_opcodes.specs.Forest.{Forest, none, node, Mark, Ancestor, Node}
 use Rattle.ifr_opcodes.specs.declared.codes.TheConstants.{FORM_SET, VALUE}
 use Rattle.ifr_expr.specs.Faults.{IsExpressionFault}

@@ -4,12 +4,11 @@ use Rattle.std.specs.Prelude.{ℕ, nat_le, length, Bool, false, not, ◌==◌, �
 use Rattle.std.specs.List.{last_or}
 use Rattle.ifr_opcodes.specs.Fields.{default_kind}
 use Rattle.ifr_opcodes.specs.Opcode.{number}
-use Rattle.ifr_opcodes.specs.Operators.{is_among, is_operator}
+use Rattle.ifr_opcodes.specs.Rows.{is_among, is_operator, is_statement_number}
 use Rattle.ifr_opcodes.specs.Forest.{Ancestor}
-use Rattle.ifr_opcodes.specs.declared.codes.TheConstants.{FORM_SET, FORM, SUBTITLE, TEXT, RESET_BUTTON, ONE_OF_OPTION, DEFAULT, DEFAULTSTORE, VALUE, RULE, LOCKED, SUPPRESS_IF, GRAY_OUT_IF, DISABLE_IF}
+use Rattle.ifr_opcodes.specs.declared.codes.TheConstants.{FORM_SET, FORM, SUBTITLE, TEXT, RESET_BUTTON, CHECKBOX, NUMERIC, ONE_OF, ORDERED_LIST, STRING, PASSWORD, DATE, TIME, ACTION, REF, ONE_OF_OPTION, DEFAULT, DEFAULTSTORE, VALUE, RULE, LOCKED, SUPPRESS_IF, GRAY_OUT_IF, DISABLE_IF}
 use Rattle.ifr_opcodes.specs.declared.kinds.TheConstants.{TYPE_OTHER}
 use Rattle.ifr_scopes.specs.Guards.{is_guard}
-use Rattle.ifr_opcodes.specs.Statements.{questions_without_options, questions_with_options, is_statement_number}
 use Rattle.ifr_scopes.specs.Kinds.{stores, is_store_number, conditions, is_condition_number, ignored, is_ignored}
 use Rattle.ifr_scopes.specs.declared.table.Row.{Row}
 use Rattle.ifr_scopes.specs.declared.table.Scope.{Scope}
@@ -27,8 +26,8 @@ scope_rows =
     ∷ (FORM ∷ [], opens Always OfForm)
     ∷ (SUBTITLE ∷ [], opens Sometimes OfForm)
     ∷ (TEXT ∷ RESET_BUTTON ∷ [], opens Sometimes OfText)
-    ∷ (questions_without_options, opens Sometimes OfQuestion)
-    ∷ (questions_with_options, opens Sometimes OfChoice)
+    ∷ (CHECKBOX ∷ NUMERIC ∷ STRING ∷ PASSWORD ∷ DATE ∷ TIME ∷ ACTION ∷ REF ∷ [], opens Sometimes OfQuestion)
+    ∷ (ONE_OF ∷ ORDERED_LIST ∷ [], opens Sometimes OfChoice)
     ∷ (ONE_OF_OPTION ∷ [], opens Sometimes OfOption)
     ∷ (DEFAULT ∷ [], opens WithValue OfNothing)
     ∷ (VALUE ∷ RULE ∷ SUPPRESS_IF ∷ GRAY_OUT_IF ∷ DISABLE_IF ∷ conditions, opens Always OfNothing)

@@ -33,7 +33,7 @@ pub enum ConditionOp<'a> {
 
 impl<'a> ConditionOp<'a> {
     ghost use Rattle.std.specs.Prelude.{◌≤◌, length};
-    ghost use Rattle.ifr_opcodes.specs.Fields.{least_length};
+    ghost use Rattle.ifr_opcodes.specs.code.Tables.{least_length};
     ghost use Rattle.ifr_opcodes.specs.code.Ops.{bytes_of};
     ghost use Rattle.ifr_scopes.specs.Conditions.{message};
     ghost use Rattle.ifr_scopes.specs.code.Parts.{condition_op};

@@ -5,7 +5,7 @@ ghost use Rattle.std.specs.BTreeMap.{get};
 ghost use Rattle.std.specs.Ordering.{nat_cmp};
 ghost use Rattle.ifr_opcodes.specs.Forest.{Node as Placed};
 ghost use Rattle.ifr_opcodes.specs.Opcode.{number, has_scope};
-ghost use Rattle.ifr_opcodes.specs.Statements.{is_statement_number};
+ghost use Rattle.ifr_opcodes.specs.Rows.{is_statement_number};
 ghost use Rattle.ifr_opcodes.specs.declared.codes.TheConstants as codes;
 ghost use Rattle.ifr_scopes.specs.Checked.{IsChecked};
 ghost use Rattle.ifr_scopes.specs.Guards.{guards_among};

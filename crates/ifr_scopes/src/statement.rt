@@ -57,15 +57,13 @@ pub enum StatementKind<'a> {
 
 impl<'a> StatementKind<'a> {
     ghost use Rattle.std.specs.Prelude.{◌≤◌, length};
-    ghost use Rattle.ifr_opcodes.specs.Fields.{least_length};
     ghost use Rattle.ifr_opcodes.specs.code.Ops.{bytes_of};
-    ghost use Rattle.ifr_opcodes.specs.Statements.{is_statement_number};
+    ghost use Rattle.ifr_opcodes.specs.code.Tables.{is_among_statements, least_length};
     ghost use Rattle.ifr_scopes.specs.code.Lists.{kind_op};
 
     // The view of an opcode that has all its fields.
-    #[tactic(auto, unfolding(ifr_opcodes::specs::Statements::is_statement_number, ifr_opcodes::specs::Statements::is_question_number))]
     fn of(op: Op<'a>) -> StatementKind<'a>
-        requires statement { is_statement_number op.code ≡ true }
+        requires statement { is_among_statements op.code ≡ true }
         requires sized { least_length (bytes_of op) ≤ length (bytes_of op) }
         ensures { kind_op result ≡ op.entry }
     {

@@ -27,7 +27,7 @@ pub enum StoreOp<'a> {
 
 impl<'a> StoreOp<'a> {
     ghost use Rattle.std.specs.Prelude.{◌≤◌, length};
-    ghost use Rattle.ifr_opcodes.specs.Fields.{least_length};
+    ghost use Rattle.ifr_opcodes.specs.code.Tables.{least_length};
     ghost use Rattle.ifr_opcodes.specs.code.Ops.{bytes_of};
     ghost use Rattle.ifr_scopes.specs.Kinds.{is_store_number};
     ghost use Rattle.ifr_scopes.specs.code.Lists.{store_op};

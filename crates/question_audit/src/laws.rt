@@ -2,7 +2,7 @@
 
 ghost use Rattle.std.specs.Prelude.{◌≡◌, ℕ, List};
 ghost use Rattle.ifr_opcodes.specs.Forest.{Node};
-ghost use Rattle.ifr_opcodes.specs.Operators.{is_among};
+ghost use Rattle.ifr_opcodes.specs.Rows.{is_among};
 ghost use Rattle.guard_policy.specs.laws.Support.{around, support_over};
 ghost use Rattle.question_audit.specs.Dependences.{depends_on};
 

@@ -12,7 +12,7 @@ use Rattle.browser_rules.specs.Questions as chapter
 use Rattle.browser_rules.specs.Stores.{Stores}
 use Rattle.browser_rules.specs.Values as rules
 use Rattle.browser_rules.specs.Words.{first}
-use Rattle.ifr_opcodes.specs.Fields.{checkbox_flags, default_id, default_kind, default_value, is_default_option, is_manufacturing_option, kind_width, option_flags, option_value}
+use Rattle.ifr_opcodes.specs.Fields.{checkbox_flags, default_id, default_kind, default_value, is_default_option, is_manufacturing_option, option_flags, option_value}
 use Rattle.ifr_opcodes.specs.Forest.{Node, below}
 use Rattle.ifr_opcodes.specs.Opcode.{number}
 use Rattle.ifr_opcodes.specs.declared.codes.TheConstants.{CHECKBOX, DEFAULT, ONE_OF}
@@ -33,7 +33,6 @@ use Rattle.rules_laws.specs.laws.Defaults.{HasSameValue}
 use Rattle.rules_laws.specs.laws.Opcodes.{value_for}
 use Rattle.rules_laws.specs.laws.Questions.{offer_for}
 use Rattle.rules_laws.proofs.NodeLemmas.{defaults_same, options_same}
-use Rattle.rules_laws.proofs.OpcodeSizeLemmas.{type_width_same}
 use Rattle.rules_laws.proofs.QuestionLemmas.{element_same, find_among, many, value_same}
 
 -- ---- what the chapters say of this, which has no name outside of it
@@ -76,8 +75,7 @@ number_taken (suc w) (b ∷ bytes) =
 
 number_given : (op : List ℕ) → (default_kind op == TYPE_BUFFER) ≡ false → little_number (type_width (default_kind op)) (drop 5 op) ≡ value_number (default_value op)
 number_given op other =
-    ap (λ w. little_number w (drop 5 op)) (type_width_same (default_kind op))
-    ∙ rw other (sym (number_taken (kind_width (default_kind op)) (drop 5 op)))
+    rw other (sym (number_taken (type_width (default_kind op)) (drop 5 op)))
 
 no_buffer : (kind : ℕ) → kind < 11 → (kind == TYPE_BUFFER) ≡ false
 no_buffer kind less = ne_eqb kind TYPE_BUFFER (λ e. omega (arith, less, e))
@@ -149,7 +147,7 @@ given_same ns stores s q d is same =
     (λ here. ap (λ n. option_map chapter.units (s.texts n)) (number_given d.op (of_type kind TYPE_STRING here (omega arith))) ∙ units_same (s.texts (value_number (default_value d.op))))
     (λ here. expression_same ns stores s q d same)
     (λ here. ap (λ w. Some (chapter.elements (bytes_of_items w (drop 5 d.op)))) (element_same q is)
-    ∙ ap (λ bytes. Some (chapter.elements (bytes_of_items (element_width q) bytes))) (sym (cond-true (kind == TYPE_BUFFER) (drop 5 d.op) (take (kind_width kind) (drop 5 d.op)) here)))
+    ∙ ap (λ bytes. Some (chapter.elements (bytes_of_items (element_width q) bytes))) (sym (cond-true (kind == TYPE_BUFFER) (drop 5 d.op) (take (type_width kind) (drop 5 d.op)) here)))
     (λ here. of_type kind TYPE_OTHER here (omega arith))
 
 -- ---- what flags give

@@ -10,14 +10,9 @@ use Rattle.hii_bytes.specs.Faults.{IsFaultOf}
 use Rattle.ifr_opcodes.specs.Forest.{Node}
 use Rattle.ifr_scopes.specs.References.{Ranked, ranked}
 use Rattle.browser_rules.specs.Words as chapter
-use Rattle.browser_rules.specs.Faults.{Fault}
+use Rattle.browser_rules.specs.Faults.{Fault, fault_if, ranked as chapter_ranked}
 use Rattle.rules_laws.specs.laws.Faults.{cause_for, AreFaults}
 use Rattle.rules_laws.proofs.PackageLemmas.{both_kinds, one_fault, no_faults}
-
--- as the chapters have it
-abbrev pub fault_if : Bool → chapter.Cause → ℕ → List Fault
-fault_if true cause place = record { cause = cause; place = place } ∷ []
-fault_if false cause place = []
 
 -- ---- one thing
 
@@ -57,11 +52,6 @@ each_fault {X} faults place has (x ∷ xs) one =
     ]
 
 -- ---- nodes with those before them
-
--- as the chapters have them
-abbrev pub chapter_ranked : List Node → List Node → List (List Node × Node)
-chapter_ranked before [] = []
-chapter_ranked before (n ∷ ns) = (before, n) ∷ chapter_ranked (before ++ n ∷ []) ns
 
 abbrev pair_of : Ranked → List Node × Node
 pair_of r = (r.before, r.node)

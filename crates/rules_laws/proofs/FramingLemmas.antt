@@ -1,6 +1,6 @@
 -- The chapters finds the faults of framing that the contracts say.
-use Rattle.std.proofs.Common.{◌≡◌, ◌≢◌, ◌↔◌, ℕ, zero, suc, ◌+◌, ◌-◌, ◌<◌, ◌≤◌, ◌%◌, Bool, true, false, List, [], ◌∷◌, ◌++◌, length, take, drop, refl, ap, sym, ◌∙◌, subst, inl, inr, arith, length-append}
-use Rattle.std.specs.Prelude.{◌==◌, nat_lt, nat_le, not, ◌&&◌, ◌||◌, slice_index}
+use Rattle.std.proofs.Common.{◌≡◌, ◌≢◌, ◌↔◌, ℕ, zero, suc, ◌+◌, ◌-◌, ◌<◌, ◌≤◌, ◌%◌, true, false, List, [], ◌∷◌, ◌++◌, length, take, drop, refl, ap, sym, ◌∙◌, subst, inl, inr, arith, length-append}
+use Rattle.std.specs.Prelude.{◌==◌, nat_lt, nat_le, slice_index}
 use Rattle.std.proofs.lemmas.List.{take-append-drop, length-drop, length-take-le, get_or-take, get_or_append_left, nil_from_length}
 use Rattle.std.proofs.lemmas.Bool.{cases_Bool, cases_lt, cases_eq, true≢false, eq-eqb, ne_eqb, lt-ltb}
 use Rattle.std.proofs.lemmas.Bool.Decides.{nat_tests}
@@ -13,17 +13,11 @@ use Rattle.ifr_opcodes.proofs.OpcodeLemmas.{stated_at}
 use Rattle.ifr_scopes.specs.Framing.{IsFramingFault}
 use Rattle.ifr_scopes.proofs.RunLemmas.{Stands, from_start, is_spelled, none_where_spelled, no_opcode, extra_end, too_deep, still_open, past_end, past_scope, past_plain}
 use Rattle.ifr_scopes.proofs.RunLemmas as run
-use Rattle.browser_rules.specs.Faults.{Fault, framing_from, framing_faults}
+use Rattle.browser_rules.specs.Faults.{Fault, framing_from, framing_faults, is_whole}
 use Rattle.rules_laws.specs.laws.Faults.{fault_for, AreFaults}
 use Rattle.rules_laws.proofs.PackageLemmas.{where_same, one_fault, no_faults, same_none}
 
 -- ---- a whole opcode stands at the front
-
--- as the chapters have it
-abbrev is_whole : List ℕ → Bool
-is_whole bytes =
-    nat_le 2 (stated_length bytes) && nat_le (stated_length bytes) (length bytes)
-    && (not (number bytes == 0x29) || slice_index bytes 1 == 2)
 
 long_where : (bytes : List ℕ) → is_whole bytes ≡ true → 2 ≤ stated_length bytes
 long_where bytes e = grind (arith, nat_tests)

@@ -1,13 +1,9 @@
 pub mod PackageLemmas
 pub mod StringLemmas
-pub mod CommandLemmas
-pub mod ConfigurationLemmas
 pub mod OpcodeExpressionLemmas
 pub mod OpcodeListLemmas
 pub mod OpcodeScopeLemmas
-pub mod OpcodeSizeLemmas
 pub mod OpcodeSmallLemmas
-pub mod OpcodeTableLemmas
 pub mod OpcodeValueLemmas
 pub mod NodeLemmas
 pub mod StoreLemmas
@@ -24,3 +20,4 @@ pub mod PageLemmas
 pub mod ShapeFaultLemmas
 pub mod StructureFaultLemmas
 pub mod StructureLeastLemmas
+pub mod OpeningFaultLemmas

@@ -12,14 +12,16 @@ use Rattle.browser_rules.specs.Values as rules
 use Rattle.browser_rules.specs.Words.{first}
 use Rattle.ifr_opcodes.specs.Forest.{Forest, none, node, flat, Mark}
 use Rattle.ifr_opcodes.specs.Opcode.{number}
-use Rattle.ifr_opcodes.specs.Operators.{operands, without_operands, with_one_operand, with_two_operands}
+use Rattle.ifr_opcodes.specs.Rows.{operands}
+use Rattle.ifr_opcodes.specs.code.Tables.{without_operands, with_one_operand, with_two_operands}
+use Rattle.ifr_opcodes.proofs.OperatorLemmas.{takes_none, takes_one, takes_two}
 use Rattle.ifr_expr.specs.Meaning.{Rule, names, rule_values, value, value_over}
 use Rattle.ifr_expr.specs.Trees.{Tree, leaf, one, two, post, expression, IsFitting, Means}
 use Rattle.ifr_expr.specs.Values as values
 use Rattle.ifr_expr.specs.Values.{Value}
 use Rattle.rules_laws.specs.laws.Opcodes.{mark_for, rule_for, value_for, made_of_none, made_of_one, made_of_two, AreGoodRules, AreOfBytes, IsSmall}
-use Rattle.rules_laws.proofs.OpcodeTableLemmas.{and_assoc}
-use Rattle.rules_laws.proofs.OpcodeValueLemmas.{each, same_of_none, same_of_one, same_of_two, takes_none, takes_one, takes_two}
+use Rattle.std.proofs.Math.Bool.{and_assoc}
+use Rattle.rules_laws.proofs.OpcodeValueLemmas.{each, same_of_none, same_of_one, same_of_two}
 use Rattle.rules_laws.proofs.OpcodeSmallLemmas.{small_of_none, small_of_one, small_of_two}
 
 -- ---- what an operator puts on the stack

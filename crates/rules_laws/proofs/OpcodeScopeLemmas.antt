@@ -9,11 +9,10 @@ use Rattle.browser_rules.specs.Opcodes.{row_of, is_a, a_condition, a_default, a_
 use Rattle.ifr_opcodes.specs.Forest.{Ancestor}
 use Rattle.ifr_opcodes.specs.Opcode.{number}
 use Rattle.ifr_opcodes.specs.OptionFields.{default_kind}
-use Rattle.ifr_opcodes.specs.Operators.{is_among, operands}
-use Rattle.ifr_opcodes.specs.Statements.{is_question_number, is_statement_number}
+use Rattle.ifr_opcodes.specs.Rows.{is_among, operands, is_question_number, is_statement_number}
 use Rattle.ifr_opcodes.specs.declared.codes.TheConstants.{FORM, ONE_OF_OPTION, DEFAULT, DEFAULTSTORE, VALUE, RULE, LOCKED, SUPPRESS_IF, GRAY_OUT_IF, DISABLE_IF}
 use Rattle.ifr_opcodes.specs.declared.kinds.TheConstants.{TYPE_OTHER}
-use Rattle.ifr_opcodes.proofs.StatementLemmas.{and_first, and_second}
+use Rattle.ifr_opcodes.proofs.TableLemmas.{and_first, and_second}
 use Rattle.ifr_scopes.specs.Guards.{is_guard}
 use Rattle.ifr_scopes.specs.Kinds.{stores, is_store_number, conditions, is_condition_number, ignored, is_ignored}
 use Rattle.ifr_scopes.specs.Structure.{has_wrong_scope}
@@ -23,8 +22,10 @@ use Rattle.ifr_scopes.specs.declared.table.Class.{Class}
 use Rattle.ifr_scopes.specs.declared.table.Class.TheVariants.{OfFormSet, OfForm, OfText, OfQuestion, OfChoice, OfOptions, OfOption, OfExpression, OfNothing}
 use Rattle.ifr_scopes.proofs.ClassLemmas.{class-guard, class-other}
 use Rattle.rules_laws.specs.laws.Opcodes.{class_for}
-use Rattle.rules_laws.proofs.OpcodeTableLemmas.{numbers, agree, and_assoc, not_this, not_among}
-use Rattle.rules_laws.proofs.OpcodeListLemmas.{none_takes, none_states}
+use Rattle.std.proofs.Math.Bool.{and_assoc}
+use Rattle.ifr_opcodes.proofs.TableLemmas.{numbers, agree, not_this, not_among}
+use Rattle.ifr_opcodes.proofs.RowLemmas.{none_takes}
+use Rattle.rules_laws.proofs.OpcodeListLemmas.{none_states}
 
 -- ---- kinds
 

@@ -8,7 +8,8 @@ use Rattle.hii_bytes.proofs.NumberLemmas.{number_in-lt}
 use Rattle.ifr_opcodes.specs.ExpressionFields.{eq_id_val_question, eq_id_val_value, eq_id_id_first, eq_id_id_second, eq_id_val_list_question, eq_id_val_list_values, question_ref_question, rule_ref_rule, uint_width, uint_value}
 use Rattle.ifr_opcodes.specs.Forest.{Mark}
 use Rattle.ifr_opcodes.specs.Opcode.{number}
-use Rattle.ifr_opcodes.specs.Operators.{is_among, uints}
+use Rattle.ifr_opcodes.specs.Rows.{is_among}
+use Rattle.ifr_opcodes.specs.Fields.{uints}
 use Rattle.ifr_opcodes.specs.declared.codes.TheConstants.{EQ_ID_VAL, EQ_ID_ID, EQ_ID_VAL_LIST, AND, OR, NOT, EQUAL, NOT_EQUAL, GREATER_THAN, GREATER_EQUAL, LESS_THAN, LESS_EQUAL, BITWISE_AND, BITWISE_OR, BITWISE_NOT, SHIFT_LEFT, SHIFT_RIGHT, ADD, SUBTRACT, MULTIPLY, DIVIDE, MODULO, RULE_REF, QUESTION_REF1, UINT8, UINT16, UINT32, TRUE, FALSE, ZERO, ONE, ONES, THIS}
 use Rattle.ifr_expr.specs.Meaning.{answered, leaf_value}
 use Rattle.ifr_expr.specs.Values as values

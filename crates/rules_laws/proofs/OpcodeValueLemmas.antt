@@ -1,5 +1,5 @@
 -- Operators make the same values.
-use Rattle.std.proofs.Common.{◌≡◌, ◌==◌, ℕ, ◌/◌, ◌^◌, ◌<◌, Bool, true, false, cond, Option, Some, None, List, [], ◌∷◌, refl, sym, ap, subst, ◌∙◌, arith, inl, inr}
+use Rattle.std.proofs.Common.{◌≡◌, ◌==◌, ℕ, ◌/◌, ◌^◌, ◌<◌, Bool, true, false, cond, Some, List, [], ◌∷◌, refl, sym, ap, subst, ◌∙◌, arith, inl, inr}
 use Rattle.std.specs.Prelude.{◌&&◌, ◌||◌, nat_lt, if◌then◌else◌}
 use Rattle.std.specs.List.{AllByRecursion}
 use Rattle.std.proofs.Math.Nat.{div-le_self, mod-eq_of_lt}
@@ -10,13 +10,15 @@ use Rattle.browser_rules.specs.Values as rules
 use Rattle.ifr_opcodes.specs.ExpressionFields.{eq_id_val_question, eq_id_val_value, eq_id_id_first, eq_id_id_second, eq_id_val_list_question, eq_id_val_list_values, question_ref_question}
 use Rattle.ifr_opcodes.specs.Forest.{Mark}
 use Rattle.ifr_opcodes.specs.Opcode.{number}
-use Rattle.ifr_opcodes.specs.Operators.{is_among, operands, without_operands, with_one_operand, with_two_operands}
+use Rattle.ifr_opcodes.specs.Rows.{is_among, operands}
+use Rattle.ifr_opcodes.specs.code.Tables.{without_operands, with_one_operand, with_two_operands}
 use Rattle.ifr_opcodes.specs.declared.codes.TheConstants.{EQ_ID_VAL, EQ_ID_ID, EQ_ID_VAL_LIST, QUESTION_REF1, SHIFT_RIGHT}
 use Rattle.ifr_expr.specs.Meaning.{answered, leaf_value}
 use Rattle.ifr_expr.specs.Values as values
 use Rattle.ifr_expr.specs.Values.{Value, as_number, on_numbers, on_booleans, is_one_of, unary_value, number_value, binary_value, constant_value}
 use Rattle.rules_laws.specs.laws.Opcodes.{value_for, around_at, made_of_none, made_of_one, made_of_two, IsSmall}
-use Rattle.rules_laws.proofs.OpcodeSizeLemmas.{listed_same}
+use Rattle.rules_laws.proofs.OpcodeListLemmas.{listed_same}
+use Rattle.ifr_opcodes.proofs.OperatorLemmas.{takes_none, takes_one, takes_two}
 
 -- ---- what is made of two numbers, of two Booleans, of an answer
 
@@ -166,16 +168,6 @@ of_each_two left right = (
   ),
 )
 
-pub takes_two : (code : ℕ) → operands code ≡ Some 2 → is_among code with_two_operands ≡ true
-unfolding operands
-takes_two code e = go (is_among code without_operands) (is_among code with_one_operand) (is_among code with_two_operands) e
-  where
-    go : (a b c : Bool) → cond {A = Option ℕ} a (Some 0) (cond b (Some 1) (cond c (Some 2) None)) ≡ Some 2 → c ≡ true
-    go true b c e = absurd cc
-    go false true c e = absurd cc
-    go false false true e = refl
-    go false false false e = absurd cc
-
 pub same_of_two : (op : List ℕ) (left right : Value) → operands (number op) ≡ Some 2 → (number op ≡ SHIFT_RIGHT → IsSmall left)
     → made_of_two (sense_of op) (value_for left) (value_for right) ≡ value_for (binary_value (number op) left right)
 same_of_two op left right takes small = each (IsSameOfTwo left right) with_two_operands (number op) (of_each_two left right) (takes_two (number op) takes) small
@@ -188,16 +180,6 @@ IsSameOfOne v code = made_of_one (sense_of (code ∷ [])) (value_for v) ≡ valu
 of_each_one : (v : Value) → AllByRecursion (IsSameOfOne v) with_one_operand
 unfolding row_of unary_value
 of_each_one v = (negated_same v, (both_numbers _ _ v v (λ x y e. refl), tt))
-
-pub takes_one : (code : ℕ) → operands code ≡ Some 1 → is_among code with_one_operand ≡ true
-unfolding operands
-takes_one code e = go (is_among code without_operands) (is_among code with_one_operand) (is_among code with_two_operands) e
-  where
-    go : (a b c : Bool) → cond {A = Option ℕ} a (Some 0) (cond b (Some 1) (cond c (Some 2) None)) ≡ Some 1 → b ≡ true
-    go true b c e = absurd cc
-    go false true c e = refl
-    go false false true e = absurd cc
-    go false false false e = absurd cc
 
 pub same_of_one : (op : List ℕ) (v : Value) → operands (number op) ≡ Some 1 → made_of_one (sense_of op) (value_for v) ≡ value_for (unary_value (number op) v)
 same_of_one op v takes = each (IsSameOfOne v) with_one_operand (number op) (of_each_one v) (takes_one (number op) takes)
@@ -266,16 +248,6 @@ of_each_none named answers this place rest =
         ),
       ),
     )
-
-pub takes_none : (code : ℕ) → operands code ≡ Some 0 → is_among code without_operands ≡ true
-unfolding operands
-takes_none code e = go (is_among code without_operands) (is_among code with_one_operand) (is_among code with_two_operands) e
-  where
-    go : (a b c : Bool) → cond {A = Option ℕ} a (Some 0) (cond b (Some 1) (cond c (Some 2) None)) ≡ Some 0 → a ≡ true
-    go true b c e = refl
-    go false true c e = absurd cc
-    go false false true e = absurd cc
-    go false false false e = absurd cc
 
 same_at : (named : ℕ → ℕ → Value) (answers : ℕ → Value) (this place : ℕ) (op : List ℕ) → operands (number op) ≡ Some 0
     → made_of_none (sense_of op) (around_at named answers this place) op ≡ value_for (leaf_value named answers this (record { place = place; op = op }))

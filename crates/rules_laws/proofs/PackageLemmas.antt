@@ -35,8 +35,8 @@ use Rattle.hii_packages.proofs.SpellLemmas.{end_from_spells, one_spelled}
 use Rattle.browser_rules.specs.Words as chapter
 use Rattle.browser_rules.specs.Words.{number_and_name}
 use Rattle.browser_rules.specs.Packages.{Package, is_bad, package_length, package_type, packages_from, packages_with, forms_package, forms_bytes, device_path}
-use Rattle.browser_rules.specs.Faults.{Fault, IsLeast, faults_of_packages, list_faults, number_faults}
-use Rattle.rules_laws.specs.laws.Faults.{cause_for, fault_for, AreFaults, in_turn}
+use Rattle.browser_rules.specs.Faults.{Fault, IsLeast, faults_of_packages, list_faults, number_faults, then_faults}
+use Rattle.rules_laws.specs.laws.Faults.{cause_for, fault_for, AreFaults}
 use Rattle.rules_laws.specs.laws.Packages.{package_for}
 
 -- ---- causes
@@ -118,7 +118,7 @@ of_old f = ap (λ (c : chapter.Cause). (let r : Fault = record { cause = c; plac
 at_front : (f : Fault) (fs : List Fault) → Contains (f ∷ fs) f
 at_front f fs = (0, omega arith, refl)
 
-some_faults : (f : Fault) (fs : List Fault) → f ∷ fs ≡ [] → ⊥
+pub some_faults : (f : Fault) (fs : List Fault) → f ∷ fs ≡ [] → ⊥
 some_faults f fs e = cc
 
 none_there : (f : Fault) → Contains [] f → ⊥
@@ -163,7 +163,7 @@ same_none faults IsFault are = (
 
 -- two parts, of which the second counts only where the first has none
 pub same_parts : (first second : List Fault) (First Second : Cause → ℕ → Type 0) → AreFaults first First → (first ≡ [] → AreFaults second Second)
-    → AreFaults (in_turn first second) (Then First Second)
+    → AreFaults (then_faults first second) (Then First Second)
 same_parts [] second First Second are behind c p = (λ among. inr ((same_none [] First are).0 refl, (behind refl c p).0 among), by)
   where
     by : Then First Second c p → Contains second (fault_for c p)
@@ -175,13 +175,13 @@ same_parts (f ∷ fs) second First Second are behind c p = (λ among. inl ((are 
     by (inl a) = (are c p).1 a
     by (inr b) = absurd (b.0 (code_of f.cause) f.place (told (f ∷ fs) First f are (at_front f fs)))
 
-in_turn_none : (first second : List Fault) → in_turn first second ≡ [] → (first ≡ []) × (second ≡ [])
-in_turn_none [] second e = (refl, e)
-in_turn_none (f ∷ fs) second e = absurd (some_faults f fs e)
+pub then_faults_none : (first second : List Fault) → then_faults first second ≡ [] → (first ≡ []) × (second ≡ [])
+then_faults_none [] second e = (refl, e)
+then_faults_none (f ∷ fs) second e = absurd (some_faults f fs e)
 
-in_turn-in_turn : (first second third : List Fault) → in_turn (in_turn first second) third ≡ in_turn first (in_turn second third)
-in_turn-in_turn [] second third = refl
-in_turn-in_turn (f ∷ fs) second third = refl
+pub then_faults-then_faults : (first second third : List Fault) → then_faults (then_faults first second) third ≡ then_faults first (then_faults second third)
+then_faults-then_faults [] second third = refl
+then_faults-then_faults (f ∷ fs) second third = refl
 
 -- the faults of two kinds
 pub both_kinds : (xs ys : List Fault) (F G H : Cause → ℕ → Type 0) → AreFaults xs F → AreFaults ys G
@@ -744,7 +744,7 @@ spelled_where_none list = (
   λ s. (same_none (list_faults list) (IsListFault list) (same_list_faults list)).1 (no_fault list _ (end_from_spells list _ s)),
 )
 
-missing_faults : (list : List ℕ) (n : ℕ) → forms_package list n ≡ None → number_faults list n ≡ fault_for NoForms 0 ∷ []
+pub missing_faults : (list : List ℕ) (n : ℕ) → forms_package list n ≡ None → number_faults list n ≡ fault_for NoForms 0 ∷ []
 missing_faults list n none = rw none refl
 
 found_faults : (list : List ℕ) (n : ℕ) (p : Package) → forms_package list n ≡ Some p → number_faults list n ≡ []
@@ -771,13 +771,13 @@ same_number_faults list ps n s = by (nth_forms ps n) refl
 pub number_faults_behind : (list : List ℕ) (n : ℕ) → list_faults list ≡ [] → AreFaults (number_faults list n) (IsFormsFault list n)
 number_faults_behind list n none = same_number_faults list _ n ((spelled_where_none list).0 none)
 
-pub same_source_faults : (list : List ℕ) (n : ℕ) → AreFaults (in_turn (list_faults list) (number_faults list n)) (Then (IsListFault list) (IsFormsFault list n))
+pub same_source_faults : (list : List ℕ) (n : ℕ) → AreFaults (then_faults (list_faults list) (number_faults list n)) (Then (IsListFault list) (IsFormsFault list n))
 same_source_faults list n = same_parts (list_faults list) (number_faults list n) (IsListFault list) (IsFormsFault list n) (same_list_faults list) (number_faults_behind list n)
 
 -- what counts only where these have none
 pub behind_source : (list : List ℕ) (n : ℕ) (later : List Fault) (Later : Cause → ℕ → Type 0) → (list_faults list ≡ [] → number_faults list n ≡ [] → AreFaults later Later)
-    → AreFaults (in_turn (list_faults list) (in_turn (number_faults list n) later)) (Then (Then (IsListFault list) (IsFormsFault list n)) Later)
+    → AreFaults (then_faults (list_faults list) (then_faults (number_faults list n) later)) (Then (Then (IsListFault list) (IsFormsFault list n)) Later)
 behind_source list n later Later are =
-    where_same (Then (Then (IsListFault list) (IsFormsFault list n)) Later) (sym (in_turn-in_turn (list_faults list) (number_faults list n) later))
-    (same_parts (in_turn (list_faults list) (number_faults list n)) later (Then (IsListFault list) (IsFormsFault list n)) Later (same_source_faults list n)
-    (λ none. let both = in_turn_none (list_faults list) (number_faults list n) none in are both.0 both.1))
+    where_same (Then (Then (IsListFault list) (IsFormsFault list n)) Later) (sym (then_faults-then_faults (list_faults list) (number_faults list n) later))
+    (same_parts (then_faults (list_faults list) (number_faults list n)) later (Then (IsListFault list) (IsFormsFault list n)) Later (same_source_faults list n)
+    (λ none. let both = then_faults_none (list_faults list) (number_faults list n) none in are both.0 both.1))

@@ -15,9 +15,8 @@ use Rattle.browser_rules.specs.Strings.{characters}
 use Rattle.browser_rules.specs.Values as values
 use Rattle.browser_rules.specs.Words.{right_aligned}
 use Rattle.hii_bytes.specs.Faults.{HasNone}
-use Rattle.ifr_opcodes.specs.Fields.{numeric_flags, option_text, option_value, question_id, ref_target, statement_prompt, text_second}
+use Rattle.ifr_opcodes.specs.Fields.{numeric_flags, option_text, option_value, question_id, ref_target, statement_prompt, text_second, display_of_flags}
 use Rattle.ifr_opcodes.specs.Forest.{Node, below}
-use Rattle.ifr_opcodes.specs.Kinds.{display_of_flags, width_of_flags}
 use Rattle.ifr_opcodes.specs.Opcode.{number}
 use Rattle.ifr_opcodes.specs.Reading.{tree_of}
 use Rattle.ifr_opcodes.specs.declared.codes.TheConstants as numbers
@@ -47,7 +46,6 @@ use Rattle.rules_laws.specs.laws.Pages.{EachAnswersAlike}
 use Rattle.rules_laws.specs.laws.Policy.{AreAlike, denial_for}
 use Rattle.rules_laws.specs.laws.Stores.{stores_for}
 use Rattle.rules_laws.proofs.NodeLemmas.{is_question_same, options_same, statements_same}
-use Rattle.rules_laws.proofs.OpcodeSizeLemmas.{number_width_same}
 use Rattle.rules_laws.proofs.PolicyLemmas.{fixed_same, hidden_same, same_kept, same_find, none_same}
 use Rattle.rules_laws.proofs.QuestionLemmas.{answer_same, element_same, value_same, whole_there}
 use Rattle.rules_laws.proofs.StringLemmas.{same_characters}
@@ -152,10 +150,9 @@ number_by true c wide n = refl
 number_by false true wide n = refl
 number_by false false wide n = refl
 
-number_same : (flags n : ℕ) → chapter_number flags n ≡ number_text (display_of_flags flags) (width_of_flags flags) n
+number_same : (flags n : ℕ) → chapter_number flags n ≡ number_text (display_of_flags flags) (number_width flags) n
 number_same flags n =
-    ap (λ (wide : ℕ). if bit_and flags 0x30 == 0 then signed_decimal (questions.number_of_bits true wide n) else if bit_and flags 0x30 == 0x20 then codes "0x" ++ hex_digits (2 * wide) n else decimal n) (number_width_same flags)
-    ∙ number_by (bit_and flags 0x30 == 0) (bit_and flags 0x30 == 0x20) (width_of_flags flags) n
+    number_by (bit_and flags 0x30 == 0) (bit_and flags 0x30 == 0x20) (number_width flags) n
 
 text_of_found : (texts : ℕ → List ℕ) (o : Option Node) → unwrap_or (option_map (λ (n : Node). texts (option_text n.op)) o) (codes "?") ≡ choice_text (option_map (λ (n : Node). texts (option_text n.op)) o)
 text_of_found texts None = refl

@@ -17,7 +17,7 @@ use Rattle.hii_bytes.specs.Faults.{HasNone}
 use Rattle.hii_bytes.specs.Numbers.{AreBytes}
 use Rattle.ifr_opcodes.specs.Forest.{Forest, none, node, flat, AreNodes, Ancestor, Mark, Node, SpellsForest, as_ancestor}
 use Rattle.ifr_opcodes.specs.Opcode.{number}
-use Rattle.ifr_opcodes.specs.Operators.{is_operator}
+use Rattle.ifr_opcodes.specs.Rows.{is_operator}
 use Rattle.ifr_opcodes.specs.Reading.{tree_of}
 use Rattle.ifr_opcodes.specs.declared.codes.TheConstants as numbers
 use Rattle.ifr_expr.specs.Faults.{IsExpressionFault}
@@ -51,7 +51,7 @@ use Rattle.rules_laws.proofs.OpcodeScopeLemmas.{wanted_same}
 
 -- ---- the opcodes of a package are bytes
 
-front_bytes : (xs ys : List ℕ) → AreBytes (xs ++ ys) → AreBytes xs
+pub front_bytes : (xs ys : List ℕ) → AreBytes (xs ++ ys) → AreBytes xs
 front_bytes [] ys are k = lit< tt
 front_bytes (x ∷ xs) ys are zero = are 0
 front_bytes (x ∷ xs) ys are (suc k) = front_bytes xs ys (λ i. are (suc i)) k

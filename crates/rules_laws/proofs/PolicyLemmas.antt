@@ -1,16 +1,15 @@
 -- What is seen, changed and submitted by the chapters.
-use Rattle.std.proofs.Common.{◌≡◌, ◌==◌, ℕ, zero, suc, ◌+◌, Bool, true, false, Option, Some, None, List, [], ◌∷◌, ◌++◌, drop, map, refl, sym, ap, subst, ◌∙◌, arith, inl, inr}
+use Rattle.std.proofs.Common.{◌≡◌, ◌==◌, ℕ, zero, suc, ◌+◌, Bool, true, false, Option, Some, None, List, [], ◌∷◌, ◌++◌, map, refl, sym, ap, subst, ◌∙◌, arith, inl, inr}
 use Rattle.std.specs.Prelude.{◌&&◌, ◌||◌, not, if◌then◌else◌, Contains, filter, option_map, is_none}
 use Rattle.std.specs.List.{find, list_any}
 use Rattle.std.specs.Option.{option_or}
 use Rattle.std.proofs.lemmas.Bool.{cases_Bool, cond-true, eqb-true, false≢true}
-use Rattle.byteorder.specs.Endian.{little_number}
 use Rattle.browser_rules.specs.Nodes as rows
 use Rattle.browser_rules.specs.Opcodes.{a_condition, a_guard, a_rule, a_value, an_option, field_in, is_a, wants_expression, CHECKBOX, DISABLE_IF, GRAY_OUT_IF, INCONSISTENT_IF, NO_SUBMIT_IF, NUMERIC, ONE_OF, ORDERED_LIST, PASSWORD, QUESTION_HEADER, REF, STRING, SUPPRESS_IF, WARNING_IF, WITH_ERROR}
 use Rattle.browser_rules.specs.Policy as chapter
 use Rattle.browser_rules.specs.Questions as questions
 use Rattle.browser_rules.specs.Words.{is_among, number_in}
-use Rattle.ifr_opcodes.specs.Fields.{inconsistent_error, no_submit_error, warning_message, option_kind, option_value, question_offset, question_store, ref_target}
+use Rattle.ifr_opcodes.specs.Fields.{inconsistent_error, no_submit_error, warning_message, option_value, question_offset, question_store, ref_target}
 use Rattle.ifr_opcodes.specs.Forest.{Ancestor, Node, as_ancestor, below}
 use Rattle.ifr_opcodes.specs.Opcode.{number}
 use Rattle.ifr_opcodes.specs.Reading.{tree_of}
@@ -37,10 +36,10 @@ use Rattle.guard_policy.specs.Policy as policy
 use Rattle.guard_policy.specs.Policy.{all_fixed, closed, denied_by, denies_submission, first_closed, fixed, fixed_itself, grays_out, hidden, hides, hiding, inconsistent, or_else, told, unsubmitted, warned}
 use Rattle.guard_policy.specs.World.{World, is_disabling, is_met_over, removed_at, world_over}
 use Rattle.guard_policy.specs.declared.denial.Denial.{Denial}
-use Rattle.rules_laws.specs.laws.Policy.{AreAlike, denial_for, kind_for}
+use Rattle.rules_laws.specs.laws.Policy.{AreAlike, denial_for}
+use Rattle.rules_laws.specs.laws.Questions.{kind_for}
 use Rattle.rules_laws.proofs.NodeLemmas.{guards_same, inconsistents_same, is_question_same, lock_same, options_same, same_filter, warnings_same}
 use Rattle.rules_laws.proofs.OpcodeScopeLemmas.{condition_same, guard_same}
-use Rattle.rules_laws.proofs.OpcodeSizeLemmas.{type_width_same}
 use Rattle.rules_laws.proofs.StoreLemmas.{size_of_same}
 
 -- ---- lists
@@ -344,7 +343,7 @@ all_same bytes w v (o ∷ os) alike within =
 
 value_same : (o : Node) → questions.option_value o ≡ option_value o.op
 unfolding number_in
-value_same o = ap (λ (width : ℕ). little_number width (drop 6 o.op)) (type_width_same (option_kind o.op))
+value_same o = refl
 
 of_value_same : (q : Node) (value : ℕ) → node.is_question q ≡ true → filter (λ o. questions.option_value o == value) (rows.options q) ≡ filter (λ (o : Node). option_value o.op == value) (node.options q)
 of_value_same q value is =

@@ -1,5 +1,5 @@
 -- The chapters find the faults of questions and of their options that the contracts say.
-use Rattle.std.proofs.Common.{◌≡◌, ◌⊎◌, ◌==◌, ℕ, ◌+◌, ◌^◌, Bool, true, false, Option, Some, None, List, [], ◌∷◌, ◌++◌, map, refl, ap, sym, ◌∙◌, inl, inr}
+use Rattle.std.proofs.Common.{◌≡◌, ◌⊎◌, ◌==◌, ℕ, ◌+◌, ◌^◌, Bool, true, Option, Some, None, List, [], ◌∷◌, ◌++◌, map, refl, ap, sym, ◌∙◌, inl, inr}
 use Rattle.std.specs.Prelude.{◌&&◌, nat_lt, nat_le, not, filter, option_map}
 use Rattle.std.specs.List.{flat_map, list_any}
 use Rattle.std.proofs.lemmas.Grind.{flat_map-append}
@@ -17,7 +17,7 @@ use Rattle.hii_varstore.specs.StoreNodes.{layout_of}
 use Rattle.hii_questions.specs.Faults.{QuestionPart, itself, option, IsQuestionFault, has_question_fault, is_field_outside, is_known, is_mixed, is_of_another_type, is_option_too_large, is_past, lacks_store, parts_of, place_of}
 use Rattle.hii_questions.specs.Fields.{Field, Asked, asked, field_of, questions}
 use Rattle.hii_questions.specs.Types.{first_kind}
-use Rattle.browser_rules.specs.Faults.{Fault, question_faults}
+use Rattle.browser_rules.specs.Faults.{Fault, question_faults, fault_if}
 use Rattle.browser_rules.specs.Nodes as chapter_nodes
 use Rattle.browser_rules.specs.Opcodes.{number_width}
 use Rattle.browser_rules.specs.Questions as chapter
@@ -25,9 +25,8 @@ use Rattle.browser_rules.specs.Stores as stores
 use Rattle.browser_rules.specs.Words.{first, is_some_and}
 use Rattle.rules_laws.specs.laws.Faults.{cause_for, AreFaults}
 use Rattle.rules_laws.specs.laws.Questions.{field_for}
-use Rattle.rules_laws.proofs.FaultLemmas.{fault_if, said_as, if_fault, either_kind, each_fault}
+use Rattle.rules_laws.proofs.FaultLemmas.{said_as, if_fault, either_kind, each_fault}
 use Rattle.rules_laws.proofs.NodeLemmas.{options_same, same_flat}
-use Rattle.rules_laws.proofs.OpcodeSizeLemmas.{number_width_same}
 use Rattle.rules_laws.proofs.PackageLemmas.{where_same}
 use Rattle.rules_laws.proofs.QuestionLemmas.{field_same, questions_same, value_same}
 use Rattle.rules_laws.proofs.StoreLemmas.{id_same, size_of_same, stores_same}
@@ -83,8 +82,7 @@ chapter_mixed q o os =
 
 large_same : (q o : Node) → chapter_too_large q o ≡ is_option_too_large q o
 large_same q o =
-    ap (λ w. number q.op == ONE_OF && nat_le (256 ^ w) (chapter.option_value o)) (number_width_same (numeric_flags q.op))
-    ∙ ap (λ v. number q.op == ONE_OF && nat_le (256 ^ one_of_width q.op) v) (value_same o)
+    ap (λ v. number q.op == ONE_OF && nat_le (256 ^ one_of_width q.op) v) (value_same o)
 
 other_type : (o : Node) (os : List Node) → is_some_and (λ p. not (chapter.option_type o == chapter.option_type p)) (first os) ≡ is_of_another_type (first_kind os) (option_kind o.op)
 other_type o [] = refl

@@ -13,11 +13,10 @@ use Rattle.browser_rules.specs.Values as rules
 use Rattle.browser_rules.specs.Words.{first, is_among}
 use Rattle.hii_bytes.specs.Faults.{HasNone}
 use Rattle.hii_bytes.specs.Numbers.{number_in}
-use Rattle.ifr_opcodes.specs.Fields.{question_id, question_store, question_offset, numeric_flags, option_kind, option_value}
+use Rattle.ifr_opcodes.specs.Fields.{question_id, question_store, question_offset, numeric_flags, option_kind, option_value, display_of_flags}
 use Rattle.ifr_opcodes.specs.Forest.{Node}
-use Rattle.ifr_opcodes.specs.Kinds.{display_of_flags, width_of_flags}
 use Rattle.ifr_opcodes.specs.Opcode.{number}
-use Rattle.ifr_opcodes.specs.Statements.{is_question_number}
+use Rattle.ifr_opcodes.specs.Rows.{row_of, is_question_number}
 use Rattle.ifr_opcodes.specs.declared.codes.TheConstants.{CHECKBOX, NUMERIC, ONE_OF, STRING, PASSWORD, ORDERED_LIST}
 use Rattle.ifr_opcodes.specs.declared.numbers.Display.TheVariants.{Signed, Unsigned, Hexadecimal}
 use Rattle.ifr_scopes.specs.Nodes as node
@@ -40,17 +39,16 @@ use Rattle.hii_questions.specs.declared.denial.DenialKind.{DenialKind}
 use Rattle.hii_questions.specs.declared.denial.DenialKind.TheVariants.{BadText, EmptySet, Length, NoOption, Range, Repeat}
 use Rattle.hii_questions.proofs.LawLemmas.{finds_questions, holds_fields}
 use Rattle.rules_laws.specs.laws.Opcodes.{value_for}
-use Rattle.rules_laws.specs.laws.Questions.{HoldsWhole, bytes_or_denial, denial_for, field_for, offer_for, type_for}
+use Rattle.rules_laws.specs.laws.Questions.{HoldsWhole, bytes_or_denial, kind_for, field_for, offer_for, type_for}
 use Rattle.rules_laws.specs.laws.Stores.{stores_for}
 use Rattle.rules_laws.proofs.NodeLemmas.{is_question_same, options_same, same_filter}
-use Rattle.rules_laws.proofs.OpcodeSizeLemmas.{number_width_same, type_width_same}
 use Rattle.rules_laws.proofs.StoreLemmas.{bytes_same, size_of_same, written_same}
 
 -- ---- what a question holds
 
 width_of_first : (os : List Node) → unwrap_or (option_map (λ (o : Node). type_width (option_kind o.op)) (first os)) 1 ≡ width_of_kind (first_kind os)
 width_of_first [] = refl
-width_of_first (o ∷ os) = type_width_same (option_kind o.op)
+width_of_first (o ∷ os) = refl
 
 pub element_same : (q : Node) → is_question q ≡ true → chapter.element_width q ≡ element_width q
 element_same q is =
@@ -59,7 +57,7 @@ element_same q is =
 
 pub value_same : (o : Node) → chapter.option_value o ≡ option_value o.op
 unfolding number_in
-value_same o = ap (λ w. little_number w (drop 6 o.op)) (type_width_same (option_kind o.op))
+value_same o = refl
 
 values_of_all : (os : List Node) → map chapter.option_value os ≡ option_values os
 values_of_all [] = refl
@@ -84,17 +82,15 @@ number_holds : (op : List ℕ) →
     let flags = numeric_flags op in
     let width = number_width flags in
     Some (chapter.a_number (bit_and flags 0x30 == 0) width (little_number width (drop (14 + 0 * width) op)) (little_number width (drop (14 + 1 * width) op)))
-    ≡ option_map type_for (Some (numeric (is_signed (display_of_flags flags)) (width_of_flags flags) (number_in op 14 (width_of_flags flags)) (number_in op (14 + width_of_flags flags) (width_of_flags flags))))
+    ≡ option_map type_for (Some (numeric (is_signed (display_of_flags flags)) (number_width flags) (number_in op 14 (number_width flags)) (number_in op (14 + number_width flags) (number_width flags))))
 unfolding number_in
 number_holds op =
     let flags = numeric_flags op in
-    let w = width_of_flags flags in
-    let e : number_width flags ≡ w = number_width_same flags in
+    let w = number_width flags in
     let low : 14 + 0 * w ≡ 14 = omega arith in
     let high : 14 + 1 * w ≡ 14 + w = omega arith in
-    alike_number _ _ _ _ _ _ _ _ (signed_same (bit_and flags 0x30 == 0) (bit_and flags 0x30 == 0x20)) e
-    (ap (λ n. little_number n (drop (14 + 0 * n) op)) e ∙ ap (λ at. little_number w (drop at op)) low)
-    (ap (λ n. little_number n (drop (14 + 1 * n) op)) e ∙ ap (λ at. little_number w (drop at op)) high)
+    alike_number _ _ _ _ _ _ _ _ (signed_same (bit_and flags 0x30 == 0) (bit_and flags 0x30 == 0x20)) refl
+    (ap (λ at. little_number w (drop at op)) low) (ap (λ at. little_number w (drop at op)) high)
 
 alike_choice : (w w' : ℕ) (vs vs' : List ℕ) → w ≡ w' → vs ≡ vs' → Some (chapter.a_choice w vs) ≡ Some (chapter.a_choice w' vs')
 alike_choice w w' vs vs' a b = rw (a, b) refl
@@ -112,17 +108,20 @@ unless_test : {X Y : Type 0} (f : X → Y) (b : Bool) (x : Option X) (x' : Optio
 unless_test f true x x' here = here refl
 unless_test f false x x' here = refl
 
+choices_ask : (is_question_number ONE_OF ≡ true) × (is_question_number ORDERED_LIST ≡ true)
+unfolding is_question_number row_of
+choices_ask = (refl, refl)
+
 pub type_same : (q : Node) → chapter.type_of q ≡ option_map type_for (type_of q)
-unfolding is_question_number
 type_same q =
     by_test type_for (number q.op == CHECKBOX) _ _ _ _ (λ is. refl) (λ other.
     by_test type_for (number q.op == NUMERIC) _ _ _ _ (λ is. number_holds q.op) (λ other.
     by_test type_for (number q.op == ONE_OF) _ _ _ _
-    (λ is. alike_choice _ _ _ _ (number_width_same (numeric_flags q.op)) (offered_same q (asks (number q.op) ONE_OF is refl))) (λ other.
+    (λ is. alike_choice _ _ _ _ refl (offered_same q (asks (number q.op) ONE_OF is choices_ask.0))) (λ other.
     by_test type_for (number q.op == STRING) _ _ _ _ (λ is. refl) (λ other.
     by_test type_for (number q.op == PASSWORD) _ _ _ _ (λ is. refl) (λ other.
     unless_test type_for (number q.op == ORDERED_LIST) _ _
-    (λ is. alike_list _ _ _ _ _ _ _ (element_same q (asks (number q.op) ORDERED_LIST is refl)) (offered_same q (asks (number q.op) ORDERED_LIST is refl))))))))
+    (λ is. alike_list _ _ _ _ _ _ _ (element_same q (asks (number q.op) ORDERED_LIST is choices_ask.1)) (offered_same q (asks (number q.op) ORDERED_LIST is choices_ask.1))))))))
 
 pub wide_same : (t : FieldType) → chapter.width_of (type_for t) ≡ size_of_type t
 wide_same checkbox = refl
@@ -300,21 +299,21 @@ text_same mn mx us =
 
 -- an element, and those behind it
 element_by : (a b : Bool) (rest : Option chapter.DenialKind) (why : Element → Option DenialKind) (e : Element) (o : Option Element)
-    → why e ≡ (if a then Some NoOption else if b then Some Repeat else None) → rest ≡ option_map denial_for (option_and_then why o)
-    → (if a then Some chapter.NoOption else if b then Some chapter.Repeat else rest) ≡ option_map denial_for (option_and_then why (if is_some (why e) then Some e else o))
-element_by true b rest why e o is same = rw is (ap (option_map denial_for) (sym is))
-element_by false true rest why e o is same = rw is (ap (option_map denial_for) (sym is))
+    → why e ≡ (if a then Some NoOption else if b then Some Repeat else None) → rest ≡ option_map kind_for (option_and_then why o)
+    → (if a then Some chapter.NoOption else if b then Some chapter.Repeat else rest) ≡ option_map kind_for (option_and_then why (if is_some (why e) then Some e else o))
+element_by true b rest why e o is same = rw is (ap (option_map kind_for) (sym is))
+element_by false true rest why e o is same = rw is (ap (option_map kind_for) (sym is))
 element_by false false rest why e o is same = rw is same
 
 denial_same : (unique : Bool) (vs before ns : List ℕ) → chapter_element_denial unique vs before ns
-    ≡ option_map denial_for (option_and_then (denial_of vs unique) (find (λ e. is_some (denial_of vs unique e)) (elements_behind before ns)))
+    ≡ option_map kind_for (option_and_then (denial_of vs unique) (find (λ e. is_some (denial_of vs unique e)) (elements_behind before ns)))
 denial_same unique vs before [] = refl
 denial_same unique vs before (n ∷ ns) =
     element_by (n == 0 || not (is_offered vs n)) (unique && is_offered before n) _ (denial_of vs unique) (record { before = before; number = n }) _ refl
     (denial_same unique vs (before ++ n ∷ []) ns)
 
 list_by : (a b : Bool) (why : Option DenialKind) (bytes : List ℕ)
-    → (if a then Err chapter.Length else if b then Err chapter.EmptySet else unwrap_or (option_map (λ kind. Err kind) (option_map denial_for why)) (Ok bytes))
+    → (if a then Err chapter.Length else if b then Err chapter.EmptySet else unwrap_or (option_map (λ kind. Err kind) (option_map kind_for why)) (Ok bytes))
     ≡ bytes_or_denial (bytes_unless (if a then Some Length else if b then Some EmptySet else why) bytes)
 list_by true b why bytes = refl
 list_by false true why bytes = refl

@@ -11,7 +11,7 @@ use Rattle.hii_bytes.specs.declared.cause.Cause.TheVariants.{DuplicateForm, Dupl
 use Rattle.ifr_opcodes.specs.Fields.{form_id, question_id, ref_target, rule_ref_rule}
 use Rattle.ifr_opcodes.specs.Forest.{Forest, none, node, flat, AreNodes, Ancestor, Mark, Node, as_ancestor}
 use Rattle.ifr_opcodes.specs.Opcode.{number}
-use Rattle.ifr_opcodes.specs.Operators.{is_operator}
+use Rattle.ifr_opcodes.specs.Rows.{is_operator}
 use Rattle.ifr_opcodes.specs.Reading.{tree_of}
 use Rattle.ifr_expr.specs.Faults.{IsExpressionFault}
 use Rattle.ifr_expr.specs.Meaning.{Rule, names}
@@ -35,7 +35,7 @@ use Rattle.ifr_scopes.proofs.PlaceLemmas.{node_stands}
 use Rattle.ifr_scopes.proofs.RuleFacts.{rule_fact}
 use Rattle.browser_rules.specs.Expressions as expressions
 use Rattle.browser_rules.specs.Expressions.{is_named}
-use Rattle.browser_rules.specs.Faults.{Fault, Size, sizes_of, reference_faults}
+use Rattle.browser_rules.specs.Faults.{Fault, Size, sizes_of, reference_faults, is_large, fault_if, size_over as chapter_size_over, ranked_faults as chapter_fault}
 use Rattle.browser_rules.specs.Forest.{end_of}
 use Rattle.browser_rules.specs.Nodes as chapter
 use Rattle.browser_rules.specs.Opcodes.{field, is_the, FORM, REF, RULE, RULE_REF}
@@ -44,7 +44,7 @@ use Rattle.browser_rules.specs.Words.{is_some_and, last}
 use Rattle.rules_laws.specs.laws.Faults.{AreFaults}
 use Rattle.rules_laws.specs.laws.Opcodes.{mark_for, rule_for}
 use Rattle.rules_laws.specs.laws.References.{IsWholeRule}
-use Rattle.rules_laws.proofs.FaultLemmas.{fault_if, said_as, if_fault, either_kind, each_fault, flat_ranked, same_ranked}
+use Rattle.rules_laws.proofs.FaultLemmas.{said_as, if_fault, either_kind, each_fault, flat_ranked, same_ranked}
 use Rattle.rules_laws.proofs.NodeLemmas.{is_question_same, last_same}
 use Rattle.rules_laws.proofs.PackageLemmas.{both_kinds, where_same}
 
@@ -89,12 +89,6 @@ sized depth weight = record { depth = depth; weight = weight }
 
 abbrev size_for : RuleSize → Size
 size_for s = sized s.depth s.weight
-
--- as the chapters have it
-abbrev chapter_size_over : (ℕ → ℕ → Size) → List expressions.Mark → Size
-chapter_size_over sizes ms =
-    let named = map (λ m. sizes (field RULE_REF "RuleId" m.op) m.place) (filter (λ m. is_the RULE_REF m.op) ms) in
-    record { depth = 1 + fold max 0 (map (λ s. s.depth) named); weight = length ms + sum (map (λ s. s.weight) named) }
 
 -- the sizes that opcodes name
 abbrev named_on_page : (ℕ → ℕ → Size) → List expressions.Mark → List Size
@@ -216,19 +210,6 @@ size_same before n all whole is =
     ∙ over_same (sizes_of (map rule_for (rules_among before))) (rule_sizes (rules_among before)) (sizes_same (rules_among before)) (tree_in (expression_place n) n.children)
 
 -- ---- a node with those before it
-
--- as the chapters have it
-abbrev is_large : Size → Bool
-is_large s = nat_lt 16 s.depth || nat_lt 4096 s.weight
-
-abbrev chapter_fault : List Node → List Node × Node → List Fault
-chapter_fault ns (before, n) =
-    let is_second : Node → Bool = λ m. chapter.is_question m && not (chapter.question_id n == 0) && chapter.question_id m == chapter.question_id n in
-    let size = chapter_size_over (sizes_of (chapter.rules_of before)) (chapter.expression_of n) in
-    fault_if (chapter.is FORM n && is_some (chapter.form_with before (field FORM "FormId" n.op))) words.DuplicateForm n.place
-    ++ fault_if (chapter.is_question n && list_any is_second before) words.DuplicateQuestion n.place
-    ++ fault_if (chapter.is REF n && is_some_and (λ id. is_none (chapter.form_with ns id)) (chapter.ref_target n)) words.NoForm n.place
-    ++ fault_if (chapter.is RULE n && is_large size) words.RuleTooLarge n.place
 
 abbrev four : Bool → Bool → Bool → Bool → ℕ → List Fault
 four form question reference rule place =

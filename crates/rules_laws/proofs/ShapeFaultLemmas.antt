@@ -8,11 +8,9 @@ use Rattle.hii_bytes.specs.declared.cause.Cause.{Cause}
 use Rattle.hii_bytes.specs.declared.cause.Cause.TheVariants.{OpOutside, OpSize, Misplaced, ScopeBit, ExprShape}
 use Rattle.hii_bytes.specs.declared.cause.Fault.{Fault as CodeFault}
 use Rattle.hii_bytes.specs.Faults.{HasNone}
-use Rattle.ifr_opcodes.specs.Fields.{is_listed, is_outside, is_short}
 use Rattle.ifr_opcodes.specs.Forest.{Mark}
 use Rattle.ifr_opcodes.specs.Opcode.{number, has_scope}
-use Rattle.ifr_opcodes.specs.Operators.{is_among, is_operator}
-use Rattle.ifr_opcodes.specs.Rows.{listed}
+use Rattle.ifr_opcodes.specs.Rows.{is_operator, is_outside, is_short, operands_of}
 use Rattle.ifr_expr.specs.Counting.{or_zero, posts, wanted}
 use Rattle.ifr_expr.specs.Faults.{has_opcode_fault, IsOpcodeFault, IsShapeFault}
 use Rattle.ifr_expr.specs.Trees.{Tree}
@@ -22,48 +20,17 @@ use Rattle.ifr_expr.proofs.CountLemmas.{count_step, count_none, count_stays, aft
 use Rattle.ifr_expr.proofs.ShapeLemmas.{Says, says_all, fault_told, told_by}
 use Rattle.browser_rules.specs.Expressions as rules
 use Rattle.browser_rules.specs.Expressions.{sense_of}
-use Rattle.browser_rules.specs.Faults.{Fault}
+use Rattle.browser_rules.specs.Faults.{Fault, is_good_operator, operands, order_faults, fault_if}
 use Rattle.browser_rules.specs.Opcodes as chapter
-use Rattle.browser_rules.specs.Opcodes.{Sense, is_a, an_operator, no_operator, leaf, one, two}
+use Rattle.browser_rules.specs.Opcodes.{Sense, no_operator, leaf, one, two}
 use Rattle.browser_rules.specs.Words as words
 use Rattle.rules_laws.specs.laws.Faults.{fault_for, AreFaults}
-use Rattle.rules_laws.specs.laws.Opcodes.{mark_for, operands_of}
-use Rattle.rules_laws.proofs.FaultLemmas.{fault_if}
+use Rattle.rules_laws.specs.laws.Opcodes.{mark_for}
 use Rattle.rules_laws.proofs.PackageLemmas.{one_fault, no_faults, where_same}
-use Rattle.rules_laws.proofs.OpcodeListLemmas.{operator_same, outside_same, takes_same}
-use Rattle.rules_laws.proofs.OpcodeSizeLemmas.{short_same}
-
--- ---- as the chapters have it
-
-abbrev pub is_good_operator : ℕ → rules.Mark → Bool
-is_good_operator at m =
-    is_a an_operator m.op && not (chapter.is_outside m.op) && not (chapter.is_short m.op)
-    && (not (has_scope m.op) || m.place == at)
-
-abbrev operands : Sense → ℕ
-operands (one makes) = 1
-operands (two makes) = 2
-operands sense = 0
-
-abbrev pub order_faults : ℕ → ℕ → List rules.Mark → List Fault
-order_faults at values [] = fault_if (nat_lt 1 values) words.ExprShape at
-order_faults at values (m ∷ ms) =
-    if nat_lt values (operands (sense_of m.op)) then (record { cause = words.ExprShape; place = m.place }) ∷ []
-    else if operands (sense_of m.op) == 0 && nat_le 64 values
-    then (record { cause = words.ExprDepth; place = m.place }) ∷ []
-    else order_faults at (values - operands (sense_of m.op) + 1) ms
+use Rattle.ifr_opcodes.proofs.RowLemmas.{operator_same}
+use Rattle.rules_laws.proofs.OpcodeListLemmas.{takes_same}
 
 -- ---- opcodes by themselves
-
-listed_operator : (code : ℕ) → is_operator code ≡ true → is_listed code ≡ true
-listed_operator code is = either (is_among code listed) (is_operator code) is
-  where
-    either : (a b : Bool) → b ≡ true → (a || b) ≡ true
-    either true b e = refl
-    either false b e = e
-
-short_operator : (op : List ℕ) → is_operator (number op) ≡ true → chapter.is_short op ≡ is_short op
-short_operator op is = short_same op ∙ ap (λ (b : Bool). b && is_short op) (listed_operator (number op) is)
 
 -- as the contracts have it
 abbrev is_clean : ℕ → Mark → Bool
@@ -71,16 +38,7 @@ is_clean at m = is_operator (number m.op) && not (is_outside m.op) && not (is_sh
 
 good_same : (at : ℕ) (m : Mark) → is_good_operator at (mark_for m) ≡ is_clean at m
 good_same at m =
-    ap (λ (b : Bool). b && not (chapter.is_outside m.op) && not (chapter.is_short m.op) && last) (operator_same (number m.op))
-    ∙ ap (λ (b : Bool). is_operator (number m.op) && not b && not (chapter.is_short m.op) && last) (outside_same m.op)
-    ∙ by (is_operator (number m.op)) (λ is. short_operator m.op is)
-  where
-    last : Bool
-    last = not (has_scope m.op) || m.place == at
-
-    by : (b : Bool) → (b ≡ true → chapter.is_short m.op ≡ is_short m.op) → (b && not (is_outside m.op) && not (chapter.is_short m.op) && last) ≡ (b && not (is_outside m.op) && not (is_short m.op) && last)
-    by true short = ap (λ (s : Bool). not (is_outside m.op) && not s && last) (short refl)
-    by false short = refl
+    ap (λ (b : Bool). b && not (is_outside m.op) && not (is_short m.op) && (not (has_scope m.op) || m.place == at)) (operator_same (number m.op))
 
 all_clean : (at : ℕ) (ms : List Mark) → list_all (is_good_operator at) (map mark_for ms) ≡ list_all (is_clean at) ms
 all_clean at [] = refl

@@ -1,6 +1,6 @@
 -- The chapters finds the faults of stores and of an image that the contracts say.
 use Rattle.std.proofs.Common.{◌≡◌, ◌≢◌, ◌==◌, ℕ, ◌+◌, ◌<◌, ◌≤◌, Bool, true, false, List, [], ◌∷◌, ◌++◌, length, take, drop, map, refl, ap, sym, ◌∙◌, inl, inr, arith}
-use Rattle.std.specs.Prelude.{◌||◌, if◌then◌else◌, nat_lt, filter, codes, bytes_eq}
+use Rattle.std.specs.Prelude.{if◌then◌else◌, nat_lt, filter, codes, bytes_eq}
 use Rattle.std.specs.List.{AllByRecursion, flat_map, list_any}
 use Rattle.std.proofs.lemmas.List.{length-map, length-take}
 use Rattle.std.proofs.lemmas.Slice.Eq.{bytes_eq-Decides}
@@ -16,12 +16,12 @@ use Rattle.ifr_opcodes.specs.Forest.{Node}
 use Rattle.ifr_scopes.specs.Nodes.{is_store}
 use Rattle.ifr_scopes.specs.References.{Ranked, ranked}
 use Rattle.ifr_scopes.specs.Stores as node
-use Rattle.browser_rules.specs.Faults.{Fault, Part, these, any, image_faults, image_faults_from, store_faults}
+use Rattle.browser_rules.specs.Faults.{Fault, Part, these, any, image_faults, image_faults_from, store_faults, buffer_parts, fault_if, ranked as chapter_ranked, store_fault as chapter_fault}
 use Rattle.browser_rules.specs.Stores as chapter
 use Rattle.browser_rules.specs.Words as words
 use Rattle.rules_laws.specs.laws.Faults.{cause_for, fault_for, AreFaults}
 use Rattle.rules_laws.specs.laws.Stores.{buffer_for, shape_for}
-use Rattle.rules_laws.proofs.FaultLemmas.{fault_if, said_as, if_fault, each_fault, chapter_ranked, flat_ranked, same_ranked}
+use Rattle.rules_laws.proofs.FaultLemmas.{said_as, if_fault, each_fault, flat_ranked, same_ranked}
 use Rattle.rules_laws.proofs.PackageLemmas.{where_same, one_fault, no_faults}
 use Rattle.rules_laws.proofs.StoreLemmas.{id_same, stores_same}
 
@@ -42,9 +42,6 @@ any_same [] id are = refl
 any_same (n ∷ ns) id are = rw (id_same n are.0, any_same ns id are.1) refl
 
 -- the fault of a store with those before it, as the chapters and as the contracts have its id
-abbrev chapter_fault : List Node × Node → List Fault
-chapter_fault (before, n) =
-    fault_if (chapter.store_id n == 0 || list_any (λ m. chapter.store_id m == chapter.store_id n) before) words.DuplicateVarstore n.place
 
 abbrev old_fault : Ranked → List Fault
 old_fault r = fault_if (repeats_store r DuplicateVarstore) words.DuplicateVarstore r.node.place
@@ -167,14 +164,6 @@ part_faults_same at (Told wanted cause ∷ parts) image = elim (cases_lt (length
 -- ---- an image
 
 -- as the chapters have them
-abbrev head_parts : List ℕ → List ℕ → List Part
-head_parts guid image =
-    if bytes_eq (take 4 image) (codes "HVS1") then any 4 ∷ []
-    else these (codes "HVS2") words.StoreMagic ∷ these guid words.StoreFormSet ∷ []
-
-abbrev buffer_parts : ℕ × ℕ → List Part
-buffer_parts (id, size) =
-    these (little_bytes 2 id) words.StoreId ∷ these (little_bytes 2 size) words.StoreSize ∷ any size ∷ []
 
 abbrev chapter_parts : chapter.Shape → List Part
 chapter_parts shape = these (little_bytes 2 (length shape.buffers)) words.StoreCount ∷ flat_map buffer_parts shape.buffers

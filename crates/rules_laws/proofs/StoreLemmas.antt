@@ -19,6 +19,7 @@ use Rattle.hii_varstore.specs.Image.{SpellsImage, store_image, stores_image, ima
 use Rattle.hii_varstore.specs.Layout.{Shape, size_of}
 use Rattle.hii_varstore.specs.StoreNodes.{layout_of, guid_of, declared_buffer}
 use Rattle.hii_varstore.specs.Stores.{Store, StoreMap, bytes_of, with_bytes, store_with, buffer_of}
+use Rattle.browser_rules.specs.Stores.{image_behind}
 use Rattle.rules_laws.specs.laws.Stores.{buffer_for, shape_for, store_for, stores_for}
 use Rattle.rules_laws.proofs.NodeLemmas.{same_filter}
 use Rattle.rules_laws.proofs.OpcodeScopeLemmas.{store_same}
@@ -161,9 +162,6 @@ written_same m id offset new = puts_alike id offset new m.stores
 
 abbrev image_of_store : ℕ × List ℕ → List ℕ
 image_of_store (id, bytes) = little_bytes 2 id ++ little_bytes 2 (length bytes) ++ bytes
-
-abbrev image_behind : List ℕ → chapter.Stores → List ℕ
-image_behind head stores = head ++ little_bytes 2 (length stores) ++ flat_map image_of_store stores
 
 images_same : (ss : List Store) → flat_map image_of_store (map store_for ss) ≡ flat_map store_image ss
 images_same ss = flat_map-map image_of_store store_for ss

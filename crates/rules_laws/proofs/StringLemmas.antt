@@ -35,8 +35,8 @@ use Rattle.browser_rules.specs.Words as words
 use Rattle.browser_rules.specs.Packages.{Package, packages_with}
 use Rattle.browser_rules.specs.Strings.{cut_text, cut_texts, front_of, texts_from, chosen, text_of, characters}
 use Rattle.browser_rules.specs.Strings as chapter
-use Rattle.browser_rules.specs.Faults.{Fault, IsLeast, list_faults, number_faults, string_faults}
-use Rattle.rules_laws.specs.laws.Faults.{fault_for, AreFaults, in_turn}
+use Rattle.browser_rules.specs.Faults.{Fault, IsLeast, list_faults, number_faults, string_faults, then_faults}
+use Rattle.rules_laws.specs.laws.Faults.{fault_for, AreFaults}
 use Rattle.rules_laws.specs.laws.Packages.{package_for}
 use Rattle.rules_laws.specs.laws.Strings.{spoken_for, added_by, front_with}
 use Rattle.rules_laws.proofs.PackageLemmas.{where_same, same_parts, both_kinds, same_none, same_least, one_fault, no_faults, packages_of_type, spelled_where_none, behind_source}
@@ -685,7 +685,7 @@ package_has e =
 -- the faults of packages, as the chapters say them
 abbrev faults_in_each : List Package → List Fault
 faults_in_each [] = []
-faults_in_each (p ∷ ps) = in_turn (faults_in p) (faults_in_each ps)
+faults_in_each (p ∷ ps) = then_faults (faults_in p) (faults_in_each ps)
 
 each_has : (es : List Entry) → AreFaults (faults_in_each (map package_for es)) (IsStringsFault es)
 each_has [] = no_faults (IsStringsFault []) (λ c p f. f)
@@ -759,5 +759,5 @@ pub text_faults_behind : (list : List ℕ) → list_faults list ≡ [] → AreFa
 text_faults_behind list none = same_string_faults list (pieces_of (drop 20 list)) ((spelled_where_none list).0 none)
 
 pub same_opening_faults : (list : List ℕ) (n : ℕ)
-    → AreFaults (in_turn (list_faults list) (in_turn (number_faults list n) (string_faults list))) (Then (Then (IsListFault list) (IsFormsFault list n)) (IsTextFaultOf list))
+    → AreFaults (then_faults (list_faults list) (then_faults (number_faults list n) (string_faults list))) (Then (Then (IsListFault list) (IsFormsFault list n)) (IsTextFaultOf list))
 same_opening_faults list n = behind_source list n (string_faults list) (IsTextFaultOf list) (λ none no_number. text_faults_behind list none)

@@ -1,5 +1,5 @@
 -- The chapters find the faults of nodes by themselves that the contracts say.
-use Rattle.std.proofs.Common.{◌≡◌, ◌⊎◌, ◌==◌, ℕ, ◌+◌, ◌≤◌, Bool, true, false, not, Option, Some, None, is_some, List, [], ◌∷◌, ◌++◌, length, map, refl, ap, sym, subst, ◌∙◌, inl, inr, arith, append_assoc}
+use Rattle.std.proofs.Common.{◌≡◌, ◌⊎◌, ◌==◌, ℕ, ◌+◌, Bool, true, false, not, Option, Some, None, List, [], ◌∷◌, ◌++◌, length, map, refl, ap, sym, subst, ◌∙◌, inl, inr, arith, append_assoc}
 use Rattle.std.specs.Prelude.{◌||◌, ◌&&◌, if◌then◌else◌, option_map, Contains}
 use Rattle.std.specs.List.{flat_map, last_or, list_all}
 use Rattle.std.proofs.lemmas.Bool.{true≢false, false≢true}
@@ -10,66 +10,32 @@ use Rattle.hii_bytes.specs.declared.cause.Cause.TheVariants.{NotFormSet, AfterFo
 use Rattle.ifr_opcodes.specs.Fields.{is_listed}
 use Rattle.ifr_opcodes.specs.Forest.{Ancestor, Forest, none, node, Node}
 use Rattle.ifr_opcodes.specs.Opcode.{number}
-use Rattle.ifr_opcodes.specs.Operators.{is_operator}
+use Rattle.ifr_opcodes.specs.Rows.{is_operator}
 use Rattle.ifr_expr.specs.Faults.{IsShapeFault}
 use Rattle.ifr_expr.specs.Trees.{siblings}
 use Rattle.ifr_scopes.specs.Structure as tree
 use Rattle.ifr_scopes.specs.Structure.{is_root, is_condition, is_wanted, is_operand, begins_scope, begins_with_value, is_operator_scope, first_number, has_structure_fault, IsStructureFault}
 use Rattle.ifr_scopes.specs.Table.{admits, class_around, wants_value, wants_expression}
 use Rattle.browser_rules.specs.Expressions as rules
-use Rattle.browser_rules.specs.Faults.{Fault, structure_faults}
+use Rattle.browser_rules.specs.Faults.{Fault, structure_faults, class_along, is_first_in, is_misplaced, has_wrong_scope, begins_with_other, lacks_expression, fault_if, is_good_operator, order_faults, expression_faults, node_faults}
 use Rattle.browser_rules.specs.Nodes.{is}
 use Rattle.browser_rules.specs.Opcodes as chapter
-use Rattle.browser_rules.specs.Opcodes.{Class, of_nothing, is_a, is_the, an_operator, row_of, class_inside, FORM_SET, VALUE}
+use Rattle.browser_rules.specs.Opcodes.{Class, of_nothing, is_a, is_the, an_operator, row_of, FORM_SET, VALUE}
 use Rattle.browser_rules.specs.Words as words
 use Rattle.browser_rules.specs.Words.{last, is_some_and}
 use Rattle.rules_laws.specs.laws.Faults.{cause_for, AreFaults}
 use Rattle.rules_laws.specs.laws.Opcodes.{class_for, mark_for}
-use Rattle.rules_laws.specs.laws.Structure.{HaveHeaders, opcodes_at, HasShapeFault, IsOwnFault, AreToldAtNodes}
-use Rattle.rules_laws.proofs.FaultLemmas.{fault_if, said_as, if_fault, either_kind, first_there}
+use Rattle.rules_laws.specs.laws.Structure.{opcodes_at, HasShapeFault, IsOwnFault, AreToldAtNodes}
+use Rattle.rules_laws.proofs.FaultLemmas.{said_as, if_fault, either_kind, first_there}
 use Rattle.rules_laws.proofs.NodeLemmas.{last_same}
 use Rattle.rules_laws.proofs.PackageLemmas.{both_kinds, one_fault, no_faults, where_same}
 use Rattle.rules_laws.proofs.OpcodeExpressionLemmas.{opcodes_same}
-use Rattle.rules_laws.proofs.OpcodeListLemmas.{known_same, operator_same, outside_same}
+use Rattle.ifr_opcodes.proofs.RowLemmas.{operator_same}
 use Rattle.rules_laws.proofs.OpcodeScopeLemmas.{admits_same, inside_same, value_wanted_same, wanted_same, wrong_same}
-use Rattle.rules_laws.proofs.OpcodeSizeLemmas.{long_same}
-use Rattle.rules_laws.proofs.OpcodeTableLemmas.{and_assoc}
-use Rattle.rules_laws.proofs.ShapeFaultLemmas.{is_good_operator, order_faults, no_opcode_fault, good_where, shape_faults}
+use Rattle.std.proofs.Math.Bool.{and_assoc}
+use Rattle.rules_laws.proofs.ShapeFaultLemmas.{no_opcode_fault, good_where, shape_faults}
 
--- ---- as the chapters have it
-
-abbrev class_along : Class → List Ancestor → Class
-class_along class [] = class
-class_along class (a ∷ path) = class_along (class_inside class (number a.op)) path
-
-abbrev is_first_in : (List ℕ → Bool) → Node → Bool
-is_first_in test n = is_some_and (λ a. test a.op && n.place == a.place + length a.op) (last n.path)
-
-abbrev is_misplaced : Node → Bool
-is_misplaced n =
-    not (length n.path == 0) && not (is_first_in (λ op. chapter.wants_expression op || chapter.wants_value op) n)
-    && not (chapter.admits (class_along of_nothing n.path) (number n.op))
-
-abbrev has_wrong_scope : Node → Bool
-has_wrong_scope n =
-    let is_operand = is_some_and (λ (a : Ancestor). is_a an_operator a.op) (last n.path) in
-    is_some_and (λ r. chapter.is_wrong_scope r.scope is_operand n.op) (row_of (number n.op))
-
-abbrev begins_with_other : (List ℕ → Bool) → Forest → Bool
-begins_with_other is_wanted none = true
-begins_with_other is_wanted (node op children rest) = is_some (row_of (number op)) && not (is_wanted op)
-
-abbrev lacks_expression : Node → Bool
-lacks_expression n =
-    chapter.wants_expression n.op && begins_with_other (is_a an_operator) n.children
-    || chapter.wants_value n.op && begins_with_other (is_the VALUE) n.children
-
-abbrev expression_faults : Node → List Fault
-expression_faults n =
-    let opcodes = rules.expression n.place n.op n.children in
-    if is_first_in chapter.wants_expression n && list_all (is_good_operator n.place) opcodes
-    then order_faults n.place 0 opcodes
-    else []
+-- ---- the faults of a node but those of its expression
 
 abbrev own_faults : Node → List Fault
 own_faults n =
@@ -80,9 +46,6 @@ own_faults n =
     ++ fault_if (is_misplaced n) words.Misplaced n.place
     ++ fault_if (has_wrong_scope n) words.ScopeBit n.place
     ++ fault_if (lacks_expression n) words.ExprShape n.place
-
-abbrev node_faults : Node → List Fault
-node_faults n = own_faults n ++ expression_faults n
 
 -- ---- what is tested
 
@@ -143,12 +106,11 @@ scope_same n =
 other_expression : (f : Forest) → begins_with_other (is_a an_operator) f ≡ tree.lacks_expression (first_number f)
 other_expression none = refl
 other_expression (node op children rest) =
-    ap (λ (b : Bool). b && not (is_a an_operator op)) (known_same (number op))
-    ∙ ap (λ (b : Bool). is_listed (number op) && not b) (operator_same (number op))
+    ap (λ (b : Bool). is_listed (number op) && not b) (operator_same (number op))
 
 other_value : (f : Forest) → begins_with_other (is_the VALUE) f ≡ tree.lacks_value (first_number f)
 other_value none = refl
-other_value (node op children rest) = ap (λ (b : Bool). b && not (is_the VALUE op)) (known_same (number op))
+other_value (node op children rest) = refl
 
 lacks_same : (n : Node) → lacks_expression n ≡ has_structure_fault n ExprShape
 lacks_same n =
@@ -213,21 +175,19 @@ own_by n outside short misplaced scope lacks =
     ++ fault_if scope words.ScopeBit n.place
     ++ fault_if lacks words.ExprShape n.place
 
-own_same : (n : Node) → 2 ≤ length n.op → own_faults n ≡ told_in (has_structure_fault n) n.place [] causes
+own_same : (n : Node) → own_faults n ≡ told_in (has_structure_fault n) n.place [] causes
 unfolding own_by
-own_same n long =
-    ap (λ (b : Bool). own_by n b (chapter.is_short n.op) (is_misplaced n) (has_wrong_scope n) (lacks_expression n)) (outside_same n.op)
-    ∙ ap (λ (b : Bool). own_by n (has_structure_fault n OpOutside) b (is_misplaced n) (has_wrong_scope n) (lacks_expression n)) (long_same n.op long)
-    ∙ ap (λ (b : Bool). own_by n (has_structure_fault n OpOutside) (has_structure_fault n OpSize) b (has_wrong_scope n) (lacks_expression n)) (misplaced_same n)
+own_same n =
+    ap (λ (b : Bool). own_by n (has_structure_fault n OpOutside) (has_structure_fault n OpSize) b (has_wrong_scope n) (lacks_expression n)) (misplaced_same n)
     ∙ ap (λ (b : Bool). own_by n (has_structure_fault n OpOutside) (has_structure_fault n OpSize) (has_structure_fault n Misplaced) b (lacks_expression n)) (scope_same n)
     ∙ ap (λ (b : Bool). own_by n (has_structure_fault n OpOutside) (has_structure_fault n OpSize) (has_structure_fault n Misplaced) (has_structure_fault n ScopeBit) b) (lacks_same n)
 
 abbrev HasOwn : Node → Cause → ℕ → Type 0
 HasOwn n c p = (n.place ≡ p) × (has_structure_fault n c ≡ true)
 
-own_are : (n : Node) → 2 ≤ length n.op → AreFaults (own_faults n) (HasOwn n)
-own_are n long =
-    where_same (HasOwn n) (own_same n long)
+own_are : (n : Node) → AreFaults (own_faults n) (HasOwn n)
+own_are n =
+    where_same (HasOwn n) (own_same n)
     (said_as (told_in (has_structure_fault n) n.place [] causes) (λ c p. ⊥ ⊎ (Contains causes c × (n.place ≡ p) × (has_structure_fault n c ≡ true))) (HasOwn n)
     (told_all (has_structure_fault n) n.place [] (λ c p. ⊥) causes (no_faults (λ c p. ⊥) (λ c p bad. bad)))
     (λ c p. (λ is. elim is [ inl bad ↦ absurd bad | inr t ↦ (t.1, t.2) ], λ is. inr (among n c is.1, is.0, is.1))))
@@ -281,19 +241,19 @@ each_of {X} faults Has (x ∷ xs) one =
 abbrev HasEither : Node → Cause → ℕ → Type 0
 HasEither n c p = HasOwn n c p ⊎ HasShapeFault n c p
 
-node_are : (n : Node) → 2 ≤ length n.op → AreFaults (node_faults n) (HasEither n)
-node_are n long = either_kind (own_faults n) (expression_faults n) (HasOwn n) (HasShapeFault n) (own_are n long) (expression_are n)
+node_are : (n : Node) → AreFaults (node_faults n) (HasEither n)
+node_are n = either_kind (own_faults n) (expression_faults n) (HasOwn n) (HasShapeFault n) (own_are n) (expression_are n)
 
-pub same_own_faults : (ns : List Node) → HaveHeaders ns → AreFaults (structure_faults ns) (IsOwnFault ns)
-same_own_faults [] long = one_fault (IsOwnFault []) NotFormSet 4 (inl (refl, refl, refl)) only
+pub same_own_faults : (ns : List Node) → AreFaults (structure_faults ns) (IsOwnFault ns)
+same_own_faults [] = one_fault (IsOwnFault []) NotFormSet 4 (inl (refl, refl, refl)) only
   where
     only : (c : Cause) (p : ℕ) → IsOwnFault [] c p → (c ≡ NotFormSet) × (p ≡ 4)
     only c p (inl a) = (a.1, a.2)
     only c p (inr (inl b)) = absurd (omega (arith, b.1.1))
     only c p (inr (inr b)) = absurd (omega (arith, b.1.1))
-same_own_faults (n ∷ ns) long =
+same_own_faults (n ∷ ns) =
     said_as (flat_map node_faults (n ∷ ns)) (λ c p. (m : Node) × Contains (n ∷ ns) m × HasEither m c p) (IsOwnFault (n ∷ ns))
-    (each_of node_faults HasEither (n ∷ ns) (λ m there. node_are m (long m there)))
+    (each_of node_faults HasEither (n ∷ ns) (λ m there. node_are m))
     (λ c p. (to c p, from c p))
   where
     to : (c : Cause) (p : ℕ) → (m : Node) × Contains (n ∷ ns) m × HasEither m c p → IsOwnFault (n ∷ ns) c p
@@ -308,8 +268,8 @@ same_own_faults (n ∷ ns) long =
     from c p (inr (inl (m, there, e, has))) = (m, there, inl (e, has))
     from c p (inr (inr (m, there, shape))) = (m, there, inr shape)
 
-pub same_structure_faults : (ns : List Node) → HaveHeaders ns → AreToldAtNodes ns → AreFaults (structure_faults ns) (IsStructureFault ns)
-same_structure_faults ns long at_nodes = said_as (structure_faults ns) (IsOwnFault ns) (IsStructureFault ns) (same_own_faults ns long) (λ c p. (to c p, from c p))
+pub same_structure_faults : (ns : List Node) → AreToldAtNodes ns → AreFaults (structure_faults ns) (IsStructureFault ns)
+same_structure_faults ns at_nodes = said_as (structure_faults ns) (IsOwnFault ns) (IsStructureFault ns) (same_own_faults ns) (λ c p. (to c p, from c p))
   where
     to : (c : Cause) (p : ℕ) → IsOwnFault ns c p → IsStructureFault ns c p
     to c p (inl a) = inl a

@@ -9,10 +9,10 @@ use Rattle.hii_bytes.specs.declared.cause.Cause.TheVariants.{OpOutside, OpSize, 
 use Rattle.hii_bytes.specs.declared.cause.Fault.{Fault as CodeFault}
 use Rattle.ifr_opcodes.specs.Forest.{SpellsForest, Mark, Node, as_ancestor}
 use Rattle.ifr_opcodes.specs.Opcode.{number, has_scope}
-use Rattle.ifr_opcodes.specs.Operators.{is_operator}
+use Rattle.ifr_opcodes.specs.Rows.{is_operator}
 use Rattle.ifr_opcodes.specs.Reading.{tree_of}
 use Rattle.ifr_opcodes.specs.code.Marks.{mark}
-use Rattle.ifr_opcodes.proofs.StatementLemmas.{and_first, and_second}
+use Rattle.ifr_opcodes.proofs.TableLemmas.{and_first, and_second}
 use Rattle.ifr_expr.specs.Faults.{has_opcode_fault, IsOpcodeFault}
 use Rattle.ifr_scopes.specs.Nodes.{nodes_of}
 use Rattle.ifr_scopes.specs.Structure.{begins_scope, begins_with_value, has_structure_fault, has_wrong_scope, innermost, is_condition, is_expression, is_operand, is_operator_scope, is_root, is_wanted, parent, IsNodeFault, IsStructureFault}
@@ -23,12 +23,11 @@ use Rattle.ifr_scopes.specs.declared.table.Row.{Row}
 use Rattle.ifr_scopes.proofs.BehindLemmas.{is_node_of}
 use Rattle.ifr_scopes.proofs.ClassLemmas.{class-other}
 use Rattle.ifr_scopes.proofs.ExpressionLemmas.{IsIn, innermost-push, own_fault}
-use Rattle.ifr_scopes.proofs.PlaceLemmas.{node_stands}
 use Rattle.ifr_scopes.proofs.TableLemmas.{guards_no_operator, operator_row, wants_no_operator, wants_no_value}
 use Rattle.ifr_scopes.proofs.ViewLemmas.{below_within}
 use Rattle.browser_rules.specs.Faults.{IsLeast, structure_faults}
 use Rattle.rules_laws.specs.laws.Faults.{fault_for}
-use Rattle.rules_laws.specs.laws.Structure.{HaveHeaders, opcodes_at, IsOwnFault}
+use Rattle.rules_laws.specs.laws.Structure.{opcodes_at, IsOwnFault}
 use Rattle.rules_laws.proofs.PackageLemmas.{same_least, same_none}
 use Rattle.rules_laws.proofs.StructureFaultLemmas.{same_own_faults}
 
@@ -71,9 +70,6 @@ inner n p ScopeBit i h = elim (cases_Bool (is_operator (number n.op))) [
 inner n p _ i h = absurd (false≢true h)
 
 -- ---- the nodes of a package
-
-headers : (bytes : List ℕ) → SpellsForest bytes (tree_of bytes) → HaveHeaders (nodes_of bytes)
-headers bytes spells n there = (node_stands bytes (tree_of bytes) n spells there).2.0.whole.long
 
 -- It is one of these faults, or it is of Scope and that of a misplaced opcode is one.
 abbrev Covered : (Cause → ℕ → Type 0) → Cause → ℕ → Type 0
@@ -137,21 +133,21 @@ least_told bytes fault l = record {
 
 pub same_least_structure : (bytes : List ℕ) (fault : CodeFault) → SpellsForest bytes (tree_of bytes) → (IsLeast (structure_faults (nodes_of bytes)) (fault_for fault.cause fault.place) ↔ IsLeastOf (IsStructureFault (nodes_of bytes)) fault)
 same_least_structure bytes fault spells =
-    let same = same_least (structure_faults (nodes_of bytes)) (IsOwnFault (nodes_of bytes)) fault (same_own_faults (nodes_of bytes) (headers bytes spells)) in
+    let same = same_least (structure_faults (nodes_of bytes)) (IsOwnFault (nodes_of bytes)) fault (same_own_faults (nodes_of bytes)) in
     (λ is. least_own bytes fault (same.0 is), λ is. same.1 (least_told bytes fault is))
 
 pub same_sound : (bytes : List ℕ) → SpellsForest bytes (tree_of bytes) → ((structure_faults (nodes_of bytes) ≡ []) ↔ HasNone (IsStructureFault (nodes_of bytes)))
 same_sound bytes spells =
-    let same = same_none (structure_faults (nodes_of bytes)) (IsOwnFault (nodes_of bytes)) (same_own_faults (nodes_of bytes) (headers bytes spells)) in
+    let same = same_none (structure_faults (nodes_of bytes)) (IsOwnFault (nodes_of bytes)) (same_own_faults (nodes_of bytes)) in
     (λ e c p is. elim (covered bytes c p is) [ inl own ↦ same.0 e c p own | inr t ↦ same.0 e Misplaced p t.1 ], λ none. same.1 (λ c p own. none c p (own_told bytes c p own)))
 
 -- ---- fault by fault
 
 pub told_structure : (bytes : List ℕ) (c : Cause) (p : ℕ) → SpellsForest bytes (tree_of bytes) → Contains (structure_faults (nodes_of bytes)) (fault_for c p) → IsStructureFault (nodes_of bytes) c p
-told_structure bytes c p spells among = own_told bytes c p ((same_own_faults (nodes_of bytes) (headers bytes spells) c p).0 among)
+told_structure bytes c p spells among = own_told bytes c p ((same_own_faults (nodes_of bytes) c p).0 among)
 
 pub found_structure : (bytes : List ℕ) (c : Cause) (p : ℕ) → SpellsForest bytes (tree_of bytes) → IsStructureFault (nodes_of bytes) c p
     → Contains (structure_faults (nodes_of bytes)) (fault_for c p) ⊎ ((c ≡ ScopeBit) × Contains (structure_faults (nodes_of bytes)) (fault_for Misplaced p))
 found_structure bytes c p spells is =
-    let are = same_own_faults (nodes_of bytes) (headers bytes spells) in
+    let are = same_own_faults (nodes_of bytes) in
     elim (covered bytes c p is) [ inl own ↦ inl ((are c p).1 own) | inr t ↦ inr (t.0, (are Misplaced p).1 t.1) ]

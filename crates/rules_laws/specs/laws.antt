@@ -1,6 +1,4 @@
 -- What the contracts say, in the words of the chapters.
-pub mod Commands
-pub mod Configuration
 pub mod Defaults
 pub mod Faults
 pub mod Opcodes

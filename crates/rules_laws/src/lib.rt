@@ -1,12 +1,11 @@
 //! That the chapters of `browser_rules` say what the contracts of the crates say, part by part. Laws alone, no code that runs.
 #![tactic(auto)]
 
-pub mod commands;
-pub mod configuration;
 pub mod defaults;
 pub mod framing;
 pub mod nodes;
 pub mod opcodes;
+pub mod opening;
 pub mod packages;
 pub mod pages;
 pub mod policy;

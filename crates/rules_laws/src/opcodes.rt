@@ -1,18 +1,17 @@
-//! Laws of opcodes: their rows say what the lists of opcodes say.
+//! Laws of opcodes: their rows say of kinds, scopes and operators what the contracts say.
 
-ghost use Rattle.std.specs.Prelude.{◌≡◌, ◌≤◌, ◌==◌, ◌&&◌, ◌++◌, ◌∷◌, ◌||◌, [], is_some, length, map, Bool, List, ℕ, Some};
+ghost use Rattle.std.specs.Prelude.{◌≡◌, ◌==◌, ◌++◌, ◌∷◌, [], map, Bool, List, ℕ, Some};
 ghost use Rattle.browser_rules.specs.Expressions as expressions;
 ghost use Rattle.browser_rules.specs.Expressions.{sense_of, value_of};
 ghost use Rattle.browser_rules.specs.Opcodes as rules;
-ghost use Rattle.browser_rules.specs.Opcodes.{a_condition, a_default, a_guard, a_question, a_statement, a_store, an_operator, an_option, ignored, is_a, listed_values, number_width, row_of, type_width};
+ghost use Rattle.browser_rules.specs.Opcodes.{a_condition, a_default, a_guard, a_store, an_operator, an_option, ignored, is_a, listed_values, row_of};
 ghost use Rattle.browser_rules.specs.Values as values;
 ghost use Rattle.browser_rules.specs.Words.{is_some_and};
 ghost use Rattle.hii_bytes.specs.Numbers.{AreBytes};
-ghost use Rattle.ifr_opcodes.specs.Fields.{eq_id_val_list_values, is_listed, is_outside, is_short, kind_width, width_of_flags};
+ghost use Rattle.ifr_opcodes.specs.Fields.{eq_id_val_list_values};
 ghost use Rattle.ifr_opcodes.specs.Forest.{Ancestor, Forest, Mark};
 ghost use Rattle.ifr_opcodes.specs.Opcode.{number};
-ghost use Rattle.ifr_opcodes.specs.Operators.{is_operator, operands};
-ghost use Rattle.ifr_opcodes.specs.Statements.{is_question_number, is_statement_number};
+ghost use Rattle.ifr_opcodes.specs.Rows.{is_operator, operands};
 ghost use Rattle.ifr_opcodes.specs.declared.codes.TheConstants.{DEFAULT, ONE_OF_OPTION, SHIFT_RIGHT};
 ghost use Rattle.ifr_expr.specs.Meaning.{Rule, leaf_value, value};
 ghost use Rattle.ifr_expr.specs.Trees.{Means, Tree, expression};
@@ -22,35 +21,16 @@ ghost use Rattle.ifr_scopes.specs.Kinds.{is_condition_number, is_ignored, is_sto
 ghost use Rattle.ifr_scopes.specs.Structure.{has_wrong_scope};
 ghost use Rattle.ifr_scopes.specs.Table.{admits, class_around, row, wants_expression, wants_value};
 ghost use Rattle.ifr_scopes.specs.declared.table.Class.{Class};
-ghost use Rattle.rules_laws.specs.laws.Opcodes.{AreGoodRules, AreOfBytes, IsSmall, around_at, class_for, mark_for, rule_for, value_for, made_of_none, made_of_one, made_of_two, operands_of};
+ghost use Rattle.rules_laws.specs.laws.Opcodes.{AreGoodRules, AreOfBytes, IsSmall, around_at, class_for, mark_for, rule_for, value_for, made_of_none, made_of_one, made_of_two};
 
-/// A number has a row exactly where it is known, and the same opcodes are refused as if they were not.
-pub fn the_rows_know_the_same_opcodes()
-    ensures known { (code : ℕ) → is_some (row_of code) ≡ is_listed code }
-    ensures outside { (op : List ℕ) → rules.is_outside op ≡ is_outside op }
+/// A list holds the same numbers.
+pub fn lists_hold_the_same_numbers()
+    ensures { (op : List ℕ) → listed_values op ≡ eq_id_val_list_values op }
 {}
 
-/// Numbers and values are as wide, and lists hold the same numbers. An opcode that is known is short alike; one that is not known is
-/// not short, as it is not where it has its first two bytes.
-pub fn the_rows_want_the_same_bytes()
-    ensures numbers { (flags : ℕ) → number_width flags ≡ width_of_flags flags }
-    ensures values { (kind : ℕ) → type_width kind ≡ kind_width kind }
-    ensures lists { (op : List ℕ) → listed_values op ≡ eq_id_val_list_values op }
-    ensures known { (op : List ℕ) → rules.is_short op ≡ (is_listed (number op) && is_short op) }
-    ensures whole { (op : List ℕ) → 2 ≤ length op → rules.is_short op ≡ is_short op }
-{}
-
-/// Operators are the same, and take as many operands.
-pub fn the_rows_have_the_same_operators()
-    ensures operators { (op : List ℕ) → is_a an_operator op ≡ is_operator (number op) }
-    ensures operands { (op : List ℕ) → operands_of (sense_of op) ≡ operands (number op) }
-{}
-
-/// Questions are the same, and so are statements.
-pub fn the_rows_have_the_same_statements()
-    ensures questions { (op : List ℕ) → is_a a_question op ≡ is_question_number (number op) }
-    ensures statements { (op : List ℕ) → (is_a a_statement op || is_a a_question op)
-        ≡ is_statement_number (number op) }
+/// The opcodes that make something of operands are the operators.
+pub fn operators_take_operands()
+    ensures { (op : List ℕ) → is_a an_operator op ≡ is_operator (number op) }
 {}
 
 /// Options, defaults, guards, conditions of questions, stores and opcodes of no effect are the same.

@@ -9,8 +9,8 @@ ghost use Rattle.hii_packages.specs.Packages.{SpellsPackages, placed, pieces, pi
 ghost use Rattle.hii_packages.specs.Faults.{IsListFault, IsFormsFault, IsBadLength};
 ghost use Rattle.browser_rules.specs.Words.{Cause, number_and_name};
 ghost use Rattle.browser_rules.specs.Packages.{list_length, is_bad, packages_from, packages_with, forms_package, forms_bytes, device_path};
-ghost use Rattle.browser_rules.specs.Faults.{IsLeast, list_faults, number_faults};
-ghost use Rattle.rules_laws.specs.laws.Faults.{cause_for, fault_for, AreFaults, in_turn};
+ghost use Rattle.browser_rules.specs.Faults.{IsLeast, list_faults, number_faults, then_faults};
+ghost use Rattle.rules_laws.specs.laws.Faults.{cause_for, fault_for, AreFaults};
 ghost use Rattle.rules_laws.specs.laws.Packages.{package_for};
 
 /// A cause of the contracts has the number and the name that the chapters give it.
@@ -97,5 +97,5 @@ pub fn faults_of_a_number_are_the_same()
 /// The faults of a list, and then of the number of its forms package, are the same by the chapters and by the contracts.
 pub fn faults_of_a_list_and_a_number_are_the_same()
     ensures { (list : List ℕ) (n : ℕ)
-        → AreFaults (in_turn (list_faults list) (number_faults list n)) (Then (IsListFault list) (IsFormsFault list n)) }
+        → AreFaults (then_faults (list_faults list) (number_faults list n)) (Then (IsListFault list) (IsFormsFault list n)) }
 {}

@@ -11,8 +11,8 @@ ghost use Rattle.sibt_strings.specs.Units.{chars_of_units};
 ghost use Rattle.hii_languages.specs.Languages.{chosen as code_chosen, string_packages, AreSpoken, IsStringsFault};
 ghost use Rattle.hii_languages.specs.Shown.{text_under, shown_text};
 ghost use Rattle.browser_rules.specs.Strings.{cut_text, Texts, front_of, language_of, texts_of, spoken_in, chosen, text_at, text_of, characters, shown};
-ghost use Rattle.browser_rules.specs.Faults.{IsLeast, list_faults, number_faults, string_faults};
-ghost use Rattle.rules_laws.specs.laws.Faults.{fault_for, AreFaults, in_turn};
+ghost use Rattle.browser_rules.specs.Faults.{IsLeast, list_faults, number_faults, string_faults, then_faults};
+ghost use Rattle.rules_laws.specs.laws.Faults.{fault_for, AreFaults};
 ghost use Rattle.rules_laws.specs.laws.Packages.{package_for};
 ghost use Rattle.rules_laws.specs.laws.Strings.{spoken_for, front_with};
 
@@ -109,7 +109,7 @@ pub fn string_packages_without_fault_speak()
 /// the contracts.
 pub fn faults_up_to_the_string_packages_are_the_same()
     ensures { (list : List ℕ) (n : ℕ)
-        → AreFaults (in_turn (list_faults list) (in_turn (number_faults list n) (string_faults list)))
+        → AreFaults (then_faults (list_faults list) (then_faults (number_faults list n) (string_faults list)))
         (Then (Then (IsListFault list) (IsFormsFault list n))
         (IsStringsFault (string_packages (pieces_of (drop 20 list))))) }
 {}

@@ -11,17 +11,17 @@ ghost use Rattle.ifr_scopes.specs.Nodes.{nodes_of};
 ghost use Rattle.ifr_scopes.specs.Structure.{IsStructureFault};
 ghost use Rattle.browser_rules.specs.Faults.{IsLeast, structure_faults};
 ghost use Rattle.rules_laws.specs.laws.Faults.{AreFaults, fault_for};
-ghost use Rattle.rules_laws.specs.laws.Structure.{AreToldAtNodes, HaveHeaders, IsOwnFault};
+ghost use Rattle.rules_laws.specs.laws.Structure.{AreToldAtNodes, IsOwnFault};
 
-/// Nodes with their headers have, by the chapters, exactly the faults that the contracts say of nodes, and those of the shape of each
+/// Nodes have, by the chapters, exactly the faults that the contracts say of nodes, and those of the shape of each
 /// expression whose opcodes have none: the faults of an expression's opcodes the chapters tell at the nodes of these opcodes alone.
 pub fn faults_of_nodes_are_the_same()
-    ensures { (ns : List Node) → HaveHeaders ns → AreFaults (structure_faults ns) (IsOwnFault ns) }
+    ensures { (ns : List Node) → AreFaults (structure_faults ns) (IsOwnFault ns) }
 {}
 
 /// They have exactly the faults that the contracts say, where each fault of an expression's opcodes is that of a node as well.
 pub fn faults_of_structure_are_the_same()
-    ensures { (ns : List Node) → HaveHeaders ns → AreToldAtNodes ns
+    ensures { (ns : List Node) → AreToldAtNodes ns
         → AreFaults (structure_faults ns) (IsStructureFault ns) }
 {}
 

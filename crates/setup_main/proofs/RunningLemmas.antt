@@ -4,16 +4,15 @@ use Rattle.std.proofs.lemmas.Bool.{ltb-true}
 use Rattle.std.proofs.lemmas.List.{take_all}
 use Rattle.std.proofs.KnownBytes.{Appends-kept}
 use Rattle.hii_bytes.specs.Watching.{Pen, Writes, Flushes}
-use Rattle.hii_bytes.proofs.WritingLemmas.{writes_nil}
-use Rattle.hii_commands.specs.Script.{whole_lines, is_too_long, lines_run}
-use Rattle.hii_commands.specs.declared.limits.TheConstants.{SCRIPT_LIMIT}
+use Rattle.browser_rules.specs.Script.{SCRIPT_LIMIT, is_too_long, lines_run}
+use Rattle.hii_commands.specs.code.Lines.{whole_lines}
 use Rattle.browser_core.specs.Renewed.{Shown}
-use Rattle.browser_core.specs.Run.{shown_after_lines, text_of, too_long_text, StopsAtLine, StopsAtLimit, Finishes, Overflows, Runs}
+use Rattle.browser_core.specs.Run.{text_of, too_long_text, lines_due, StopsAtLine, StopsAtLimit, Finishes, Overflows, Runs}
 use Rattle.browser_core.specs.declared.reply.End.{End}
 use Rattle.browser_core.specs.declared.reply.End.TheVariants.{Done, TooLong}
 use Rattle.browser_core.specs.declared.reply.RunFault.{RunFault}
 use Rattle.browser_core.specs.declared.reply.RunFault.TheVariants.{Read, Write}
-use Rattle.browser_core.proofs.RunLemmas.{writes_flushed, breaks_flushed, stops_after, stops_flushed}
+use Rattle.browser_core.proofs.RunLemmas.{writes_flushed, breaks_flushed, lines_due-few, lines_due-run, stops_behind, stops_flushed}
 
 overflows_broken : (start now : Shown) (pen new : Pen) (reader left : Option (List ℕ)) → Overflows start pen reader now new left → new.broken ≡ true
 overflows_broken start now pen new reader left h = elim h.stops [
@@ -48,13 +47,6 @@ runs_passed start now pen mid new (Err Write) reader left h flushed sound =
     let bad : true ≡ false = sym (flushed.after_fault (overflows_broken start now pen mid reader left h)) ∙ sound in (cc)
 
 -- ---- the answers fail as they are passed on
-
--- all of these lines were answered
-stops_behind : (start now : Shown) (pen mid new : Pen) (lines : List (List ℕ)) → now ≡ shown_after_lines start lines → Writes pen mid (text_of start lines) → mid.broken ≡ false
-    → Flushes mid new → new.broken ≡ true → StopsAtLine start pen lines now new
-stops_behind start now pen mid new lines state text was_sound flushed broken =
-    subst (λ l. StopsAtLine start pen l now new) (append-nil (lines ++ []) ∙ append-nil lines)
-    (stops_after start now now pen mid mid new lines [] [] (omega arith) state text was_sound refl (writes_nil mid) flushed broken)
 
 done_short : (b : Bool) → Done ≡ (if b then TooLong else Done) → b ≡ false
 done_short true e = cc
@@ -92,7 +84,7 @@ done_broken start now pen mid new reader left h flushed broken =
       bytes = h.script;
       consumed = h.consumed;
       few = h.few;
-      stops = inr (inl (h.at_end refl, stops_behind start now pen mid new lines h.shown text h.sound flushed broken));
+      stops = inr (inl (h.at_end refl, stops_behind start now pen mid new (lines_due h.script) lines (lines_due-run h.script h.few) h.shown text h.sound flushed broken));
     }
 
 past_broken : (start now : Shown) (pen mid new : Pen) (reader left : Option (List ℕ)) → Finishes start pen reader TooLong now mid left → Flushes mid new → new.broken ≡ true
@@ -128,15 +120,17 @@ runs_broken start now pen mid new (Err Read) reader left h flushed broken =
       bytes = h.bytes;
       consumed = h.consumed;
       few = omega (arith, h.few);
-      stops = inl (subst (λ b. StopsAtLine start pen (whole_lines b) now new) (sym all) (stops_behind start now pen mid new (whole_lines h.bytes) h.shown h.text h.sound flushed broken));
+      stops =
+          let stops = stops_behind start now pen mid new (lines_due h.bytes) (whole_lines h.bytes) (lines_due-few h.bytes) h.shown h.text h.sound flushed broken in
+          inl (subst (λ b. StopsAtLine start pen (lines_due h.bytes) (whole_lines b) now new) (sym all) stops);
     }
 runs_broken start now pen mid new (Err Write) reader left h flushed broken = record {
   bytes = h.bytes;
   consumed = h.consumed;
   few = h.few;
   stops = elim h.stops [
-    | inl stops ↦ inl (stops_flushed start now pen mid new _ stops flushed)
-    | inr (inl stops) ↦ inr (inl (stops.0, stops_flushed start now pen mid new _ stops.1 flushed))
+    | inl stops ↦ inl (stops_flushed start now pen mid new _ _ stops flushed)
+    | inr (inl stops) ↦ inr (inl (stops.0, stops_flushed start now pen mid new _ _ stops.1 flushed))
     | inr (inr stops) ↦ inr (inr (stops.0, limit_flushed start now pen mid new _ stops.1 flushed))
   ];
 }

@@ -1,5 +1,5 @@
 -- What a run of the program leaves, by how it ended (own rule).
-use Rattle.std.specs.Prelude.{◌≡◌, ◌+◌, ◌≤◌, ◌⊎◌, ℕ, Bool, true, false, List, [], length, take, drop, codes, Option, Some, None}
+use Rattle.std.specs.Prelude.{◌≡◌, ◌+◌, ◌-◌, ◌≤◌, ◌⊎◌, ℕ, Bool, true, false, List, [], length, take, drop, codes, Option, Some, None}
 use Rattle.std.specs.Io.Buffered.{writer_buffer, writer_inner}
 use Rattle.std.specs.Io.KnownBytes.{Appends, append_known}
 use Rattle.std.specs.declared.io.buffered.BufWriter.{BufWriter}
@@ -8,12 +8,11 @@ use Rattle.hii_bytes.specs.declared.cause.Fault.{Fault}
 use Rattle.hii_bytes.specs.declared.watched.Watched.{Watched}
 use Rattle.hii_bytes.specs.Faults.{IsLeast}
 use Rattle.hii_bytes.specs.Watching.{Pen, pen_of, inner_of, BreaksWithin}
-use Rattle.hii_commands.specs.Script.{whole_lines}
-use Rattle.hii_commands.specs.declared.limits.TheConstants.{SCRIPT_LIMIT}
+use Rattle.browser_rules.specs.Script.{SCRIPT_LIMIT, cut_lines, lines_run}
 use Rattle.hii_varstore.specs.Image.{image_of}
 use Rattle.browser_core.specs.Renewed.{Shown}
 use Rattle.browser_core.specs.Opening.{Opens, IsOpenFault}
-use Rattle.browser_core.specs.Run.{text_of, outcome_of, Finishes, BreaksOff, Overflows}
+use Rattle.browser_core.specs.Run.{text_of, outcome_of, lines_due, Finishes, BreaksOff, Overflows}
 use Rattle.browser_core.specs.Texts.{refused_text, refused_at_text}
 use Rattle.browser_core.specs.declared.reply.End.{End}
 use Rattle.browser_core.specs.declared.reply.End.TheVariants as end
@@ -155,9 +154,10 @@ pub record StopsReading (given : Given) (script : List ℕ) (before after : Ends
   pub read : IsRead script count after.script
   pub few : count ≤ SCRIPT_LIMIT
   pub text : IsWritten before.answers after.answers
-      (text_of start (whole_lines (take count script)))
+      (text_of start (cut_lines (take count script)).0)
 
--- A session over what is given runs the script until the answers fail, with the front of the text of the whole script.
+-- A session over what is given runs the script until the answers fail, with the front of the text of the whole script. Each line
+-- whose LF stands before the last PIECE bytes that were read was carried out, and all of their answers but the last are in it.
 pub record StopsAnswering (given : Given) (script : List ℕ) (before after : Ends) : Type 0 where
   pub start : Shown
   pub starts : Starts given start
@@ -165,6 +165,8 @@ pub record StopsAnswering (given : Given) (script : List ℕ) (before after : En
   pub read : IsRead script count after.script
   pub few : count ≤ SCRIPT_LIMIT + 1
   pub text : BreaksWithin before.answers (with_held after) (outcome_of start script).text
+  pub soon : length (text_of start (take (lines_due (take count script) - 1) (lines_run script)))
+      ≤ text.part
 
 -- What a run over a script leaves. The image is that of the stores that were last submitted, and is begun only after a whole script.
 abbrev pub ServesAll : Given → List ℕ → Ends → Ended → Ends → Type 0

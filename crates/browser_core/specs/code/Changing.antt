@@ -1,7 +1,7 @@
 -- What the steps of a change of stores come to.
 use Rattle.std.specs.Prelude.{◌≡◌, ℕ, false, List, [], ◌∷◌, ◌++◌, length, map, take, Option, Some, None, Result, Ok, Err, IfOk}
 use Rattle.std.specs.List.{AllByRecursion}
-use Rattle.config_text.specs.Grammar.{Area}
+use Rattle.browser_rules.specs.Configuration.{Block}
 use Rattle.ifr_opcodes.specs.Forest.{Node}
 use Rattle.ifr_scopes.specs.Nodes.{nodes_of}
 use Rattle.ifr_scopes.specs.declared.around.Around.{Around}
@@ -84,7 +84,7 @@ SetsValue policy q offer old new (Err denial) =
 -- ---- blocks of configuration texts
 
 -- the field of a block as the code tells it
-abbrev pub range_of_block : ℕ → Area → FieldRange
+abbrev pub range_of_block : ℕ → Block → FieldRange
 range_of_block store block = record { store = store; offset = block.offset; width = block.width }
 
 -- A question of the package has this field.
@@ -120,7 +120,7 @@ Chooses policy working field (Err denial) =
 
 -- The stores after a block, which differ in its field alone, with the conditions counted that it touches; or why it is denied, and
 -- nothing is changed.
-abbrev pub SetsBlock : Policy → ℕ → Area → KeptMap → KeptMap → Result (Unit {0}) Denial → Type 0
+abbrev pub SetsBlock : Policy → ℕ → Block → KeptMap → KeptMap → Result (Unit {0}) Denial → Type 0
 SetsBlock policy store block old new (Ok done) =
     HasRange (shape_of old.stores) store block.offset block.width
     × (new ≡ written old (range_of_field (block_field store block)) new.stores)
@@ -136,17 +136,17 @@ SetsBlock policy store block old new (Err denial) =
     × ((s : State) → IsOver policy old.stores s → set_block s store block ≡ denied s denial)
 
 -- Each of some blocks lies in a store.
-abbrev pub HaveRanges : Shape → ℕ → List Area → Type 0
+abbrev pub HaveRanges : Shape → ℕ → List Block → Type 0
 HaveRanges shape store blocks =
     AllByRecursion (λ block. HasRange shape store block.offset block.width) blocks
 
 -- A byte lies in none of some blocks.
-abbrev pub NoneHasByte : ℕ → List Area → ℕ → ℕ → Type 0
+abbrev pub NoneHasByte : ℕ → List Block → ℕ → ℕ → Type 0
 NoneHasByte store blocks other at =
     AllByRecursion (λ block. LiesWithin (range_of_block store block) other at → ⊥) blocks
 
 -- Stores that were as others outside of some blocks of a store are so everywhere.
-pub record CopiesBlocks (store : ℕ) (blocks : List Area) (from old new : StoreMap) : Type 0 where
+pub record CopiesBlocks (store : ℕ) (blocks : List Block) (from old new : StoreMap) : Type 0 where
   pub shape : shape_of new ≡ shape_of old
   pub alike : (other at : ℕ) → (NoneHasByte store blocks other at → AgreeAt old from other at)
       → AgreeAt new from other at
@@ -156,7 +156,7 @@ abbrev pub fields_left : BlockFields → List FieldRange
 fields_left it = map (range_of_block it.store) (take it.count (blocks_left it.blocks))
 
 -- What some blocks come to: so many are set, or one is denied.
-abbrev pub BlocksGive : Policy → ℕ → List Area → KeptMap → KeptMap → Result ℕ Denial → Type 0
+abbrev pub BlocksGive : Policy → ℕ → List Block → KeptMap → KeptMap → Result ℕ Denial → Type 0
 BlocksGive policy store blocks working now (Ok count) =
     (count ≡ length blocks)
     × ((before s : State) (text : List ℕ) → IsOver policy working.stores s
@@ -172,7 +172,7 @@ BlocksGive policy store blocks working now (Err denial) =
     ++ difference (written_by s store blocks).state.working working.stores ∷ [])))
 
 -- The stores after some blocks, which the spare ones follow; or why one is denied.
-pub record SetsBlocks (policy : Policy) (store : ℕ) (blocks : List Area) (working now : KeptMap)
+pub record SetsBlocks (policy : Policy) (store : ℕ) (blocks : List Block) (working now : KeptMap)
     (kept : StoreMap) (result : Result ℕ Denial) : Type 0 where
   pub same_package : now.ifr ≡ working.ifr
   pub shape : shape_of now.stores ≡ shape_of working.stores

@@ -1,8 +1,8 @@
 -- How far a script was read.
 use Rattle.std.specs.Prelude.{◌≡◌, ℕ, false, List}
 use Rattle.hii_bytes.specs.Watching.{Pen, Writes}
-use Rattle.hii_commands.specs.Script.{whole_lines, rest_of}
 use Rattle.hii_commands.specs.code.Held.{Held, held_of}
+use Rattle.hii_commands.specs.code.Lines.{whole_lines, rest_of}
 use Rattle.browser_core.specs.Renewed.{Shown}
 use Rattle.browser_core.specs.Run.{shown_after_lines, text_of}
 

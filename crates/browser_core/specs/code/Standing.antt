@@ -1,6 +1,6 @@
 -- What holds of a session at all times, and what the steps of a command come to.
 use Rattle.std.specs.Prelude.{◌≡◌, ℕ, Bool, true, if◌then◌else◌, ◌<◌, ◌^◌, All, List, [], ◌∷◌, ◌++◌, length, Option, Some, None, Result, Ok, Err}
-use Rattle.config_text.specs.Grammar.{Named, Area}
+use Rattle.browser_rules.specs.Configuration.{Header, Block}
 use Rattle.config_text.specs.Written.{AreInside}
 use Rattle.ifr_opcodes.specs.Forest.{Node}
 use Rattle.ifr_scopes.specs.code.Checked.{IsNodeOf, has_form}
@@ -116,19 +116,19 @@ Leads s id (Ok form) =
 Leads s id (Err denial) = follow s (fields.question_with (nodes_of s.ifr) id) ≡ denied s denial
 
 -- A request is answered by these bytes of the store that it names, in which its blocks lie.
-pub record IsTold (s : State) (request : Named × List Area) (bytes : List ℕ) : Type 0 where
+pub record IsTold (s : State) (request : Header × List Block) (bytes : List ℕ) : Type 0 where
   pub small : length bytes < 2 ^ 16
   pub inside : AreInside request.1 (length bytes)
   pub answer : extract_from s request (store_named (nodes_of s.ifr) s.path request.0)
       ≡ accepted s (configuration_text request bytes)
 
 -- A request is denied.
-abbrev pub IsUntold : State → Named × List Area → Denial → Type 0
+abbrev pub IsUntold : State → Header × List Block → Denial → Type 0
 IsUntold s request denial =
     extract_from s request (store_named (nodes_of s.ifr) s.path request.0) ≡ denied s denial
 
 -- The questions of all blocks of a response are set, or why none is.
-abbrev pub Routes : Shown → Named × List Area → Shown → Result ℕ Denial → Type 0
+abbrev pub Routes : Shown → Header × List Block → Shown → Result ℕ Denial → Type 0
 Routes s response now (Ok count) =
     (route_to s.state response.1 (store_named (nodes_of s.state.ifr) s.state.path response.0)
     ≡ accepted now.state (count_text count))

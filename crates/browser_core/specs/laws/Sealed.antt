@@ -12,7 +12,8 @@ use Rattle.guard_policy.specs.laws.Support.{around, conditions, support_over}
 use Rattle.guard_policy.specs.World.{World}
 use Rattle.guard_policy.specs.declared.support.Decision.{Decision}
 use Rattle.guard_policy.specs.declared.support.Decision.TheVariants.{Changeable, OptionOpen, Consistent, Warnings}
-use Rattle.hii_commands.specs.Orders.{Order, SetValue, OrderElements, SetText, AskWhy, DiscardChanges}
+use Rattle.browser_rules.specs.Script as script
+use Rattle.browser_rules.specs.Script.{Command}
 use Rattle.browser_core.specs.laws.Bytes.{state_with, answers_to}
 use Rattle.browser_core.specs.Opening.{layout_in, Opens}
 use Rattle.browser_core.specs.State.{State}
@@ -77,23 +78,23 @@ pub record IsLaid (s : State) : Type 0 where
 -- A session is laid from its opening on.
 abbrev pub SessionsAreLaid : Type 0
 SessionsAreLaid =
-    (list : List ℕ) (n : ℕ) (image language : List ℕ) (start : State) (orders : List Order)
-    → Opens list n image language start → IsLaid (state_with start orders)
+    (list : List ℕ) (n : ℕ) (image language : List ℕ) (start : State) (commands : List Command)
+    → Opens list n image language start → IsLaid (state_with start commands)
 
 -- a set, order, text or why of one of these questions, or a discard
-abbrev pub IsOn : List ℕ → Order → Type 0
-IsOn ids (SetValue id value) = Contains ids id
-IsOn ids (OrderElements id numbers) = Contains ids id
-IsOn ids (SetText id text) = Contains ids id
-IsOn ids (AskWhy id) = Contains ids id
-IsOn ids DiscardChanges = ⊤
+abbrev pub IsOn : List ℕ → Command → Type 0
+IsOn ids (script.Set id value) = Contains ids id
+IsOn ids (script.Order id numbers) = Contains ids id
+IsOn ids (script.Text id text) = Contains ids id
+IsOn ids (script.Why id) = Contains ids id
+IsOn ids script.Discard = ⊤
 IsOn ids _ = ⊥
 
 -- Two sessions that hold the same in sealed questions answer all commands on these with the same texts, and hold the same in
 -- them afterwards.
 abbrev pub SealedQuestionsAnswerAlike : Type 0
 SealedQuestionsAnswerAlike =
-    (s t : State) (ids : List ℕ) (orders : List Order) → IsLaid s → IsLaid t
-    → IsSealed (nodes_of s.ifr) ids → AreAlike ids s t → AllByRecursion (IsOn ids) orders
-    → (answers_to s orders ≡ answers_to t orders)
-    × AreAlike ids (state_with s orders) (state_with t orders)
+    (s t : State) (ids : List ℕ) (commands : List Command) → IsLaid s → IsLaid t
+    → IsSealed (nodes_of s.ifr) ids → AreAlike ids s t → AllByRecursion (IsOn ids) commands
+    → (answers_to s commands ≡ answers_to t commands)
+    × AreAlike ids (state_with s commands) (state_with t commands)

@@ -1,13 +1,13 @@
 -- Which lines ask for a command (own rule).
-use Rattle.std.specs.Prelude.{◌≡◌, ◌⊎◌, ℕ, ℤ, pos, neg_ℤ, ◌^◌, ◌≤◌, true, List, [], ◌∷◌, ◌++◌, length, codes, ◌<◌}
+use Rattle.std.specs.Prelude.{◌≡◌, ◌⊎◌, ℕ, ℤ, pos, neg_ℤ, ◌==◌, ◌||◌, ◌^◌, ◌≤◌, true, List, [], ◌∷◌, ◌++◌, length, codes, ◌<◌}
+use Rattle.std.specs.Char.{is_ascii_alphanumeric}
 use Rattle.std.specs.List.{list_all}
+use Rattle.browser_rules.specs.Script.{Command, Page, Set, Order, Text, Why, Go, Back, Press, Defaults, Extract, Route, Lang, Submit, Discard, without_return}
 use Rattle.hii_bytes.specs.Digits.{IsNumber}
 use Rattle.hii_bytes.specs.NumberList.{IsNumberList}
-use Rattle.hii_commands.specs.Orders.{Order, ShowPage, SetValue, OrderElements, SetText, AskWhy, FollowReference, GoBack, PressButton, TakeDefaults, ExtractConfiguration, RouteConfiguration, ChooseLanguage, SubmitChanges, DiscardChanges, is_language_byte}
 use Rattle.hii_commands.specs.declared.limits.TheConstants.{LINE_LIMIT}
 use Rattle.hii_commands.specs.declared.command.BadLine.{BadLine}
 use Rattle.hii_commands.specs.declared.command.BadLine.TheVariants.{BadCommand, LineTooLong}
-use Rattle.hii_commands.specs.Line.{without_return}
 use Rattle.hii_commands.specs.laws.Lines.{Lacks}
 
 -- a question's id: 1 to 5 decimal digits, at most 65535
@@ -38,49 +38,49 @@ list_word (b ∷ list) = codes " " ++ b ∷ list
 pub record IsLanguage (text : List ℕ) : Type 0 where
   pub some : 1 ≤ length text
   pub few : length text ≤ 63
-  pub each : list_all is_language_byte text ≡ true
+  pub each : list_all (λ byte. is_ascii_alphanumeric byte || byte == 45) text ≡ true
 
 -- one word: at least one byte, and no space
 pub record IsOneWord (text : List ℕ) : Type 0 where
   pub some : 1 ≤ length text
   pub whole : Lacks 32 text
 
--- The text has the form of the command that asks for this: its words, with one space between them. The new text of a
+-- The text has the form of this command: its words, with one space between them. The new text of a
 -- question is all that stands after one space, or empty.
-abbrev pub Asks : List ℕ → Order → Type 0
-Asks text ShowPage = text ≡ codes "page"
-Asks text (SetValue q z) =
+abbrev pub Asks : List ℕ → Command → Type 0
+Asks text Page = text ≡ codes "page"
+Asks text (Set q z) =
     (question value : List ℕ) × (text ≡ codes "set " ++ (question ++ (codes " " ++ value)))
     × IsQuestion question q × IsValue value z
-Asks text (OrderElements q numbers) =
+Asks text (Order q numbers) =
     (question list : List ℕ) × (text ≡ codes "order " ++ (question ++ list_word list))
     × IsQuestion question q × IsNumberList list numbers
-Asks text (SetText q rest) = (question : List ℕ) × IsQuestion question q
+Asks text (Text q rest) = (question : List ℕ) × IsQuestion question q
     × ((text ≡ codes "text " ++ (question ++ (codes " " ++ rest)))
     ⊎ ((text ≡ codes "text " ++ question) × (rest ≡ [])))
-Asks text (AskWhy q) =
+Asks text (Why q) =
     (question : List ℕ) × (text ≡ codes "why " ++ question) × IsQuestion question q
-Asks text (FollowReference q) =
+Asks text (Go q) =
     (question : List ℕ) × (text ≡ codes "go " ++ question) × IsQuestion question q
-Asks text GoBack = text ≡ codes "back"
-Asks text (PressButton row) =
+Asks text Back = text ≡ codes "back"
+Asks text (Press row) =
     (digits : List ℕ) × (text ≡ codes "press " ++ digits) × IsRow digits row
-Asks text (TakeDefaults class) =
+Asks text (Defaults class) =
     (digits : List ℕ) × (text ≡ codes "defaults " ++ digits) × IsClass digits class
-Asks text (ExtractConfiguration request) =
+Asks text (Extract request) =
     (text ≡ codes "extract " ++ request) × IsOneWord request
-Asks text (RouteConfiguration response) =
+Asks text (Route response) =
     (text ≡ codes "route " ++ response) × IsOneWord response
-Asks text (ChooseLanguage language) = (text ≡ codes "lang " ++ language) × IsLanguage language
-Asks text SubmitChanges = text ≡ codes "submit"
-Asks text DiscardChanges = text ≡ codes "discard"
+Asks text (Lang language) = (text ≡ codes "lang " ++ language) × IsLanguage language
+Asks text Submit = text ≡ codes "submit"
+Asks text Discard = text ≡ codes "discard"
 
--- The line, without its LF, is not too long, and without the CR at its end it asks for this.
-abbrev pub Means : List ℕ → Order → Type 0
-Means line order = (length line ≤ LINE_LIMIT) × Asks (without_return line) order
+-- The line, without its LF, is not too long, and without the CR at its end it has the form of this command.
+abbrev pub Means : List ℕ → Command → Type 0
+Means line command = (length line ≤ LINE_LIMIT) × Asks (without_return line) command
 
--- why the line means no order
+-- why the line means no command
 abbrev pub IsRefused : List ℕ → BadLine → Type 0
 IsRefused line LineTooLong = LINE_LIMIT < length line
 IsRefused line BadCommand =
-    (length line ≤ LINE_LIMIT) × ((order : Order) → Asks (without_return line) order → ⊥)
+    (length line ≤ LINE_LIMIT) × ((command : Command) → Asks (without_return line) command → ⊥)

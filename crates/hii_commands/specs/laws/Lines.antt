@@ -1,7 +1,7 @@
 -- How a script is cut into lines, from any pieces (own rule).
 use Rattle.std.specs.Prelude.{◌≡◌, ◌≢◌, ℕ, List, [], ◌∷◌, ◌++◌, map}
 use Rattle.std.specs.List.{AllByRecursion, concat}
-use Rattle.hii_commands.specs.Script.{cut_lines}
+use Rattle.browser_rules.specs.Script.{cut_lines}
 
 -- none of the bytes is this one
 abbrev pub Lacks : ℕ → List ℕ → Type 0

@@ -1,6 +1,6 @@
 -- What the check of a value tells.
 use Rattle.std.specs.Prelude.{◌≡◌, ◌<◌, ◌^◌, Some, Result, Ok, Err, List, Contains}
-use Rattle.ifr_opcodes.specs.Fields.{kind_width, option_kind, option_value}
+use Rattle.ifr_opcodes.specs.Fields.{type_width, option_kind, option_value}
 use Rattle.ifr_opcodes.specs.Forest.{Node}
 use Rattle.hii_questions.specs.Fields as fields
 use Rattle.hii_questions.specs.Fields.{Asked}
@@ -26,7 +26,7 @@ Checks q offer (Err denial) =
 -- The value of each of these options fits the width of its Type, as that of every option of a package does (UEFI 2.8,
 -- 33.3.8.3, EFI_IFR_ONE_OF_OPTION).
 abbrev pub ValuesFit : List Node → Type 0
-ValuesFit os = (o : Node) → Contains os o → option_value o.op < 256 ^ kind_width (option_kind o.op)
+ValuesFit os = (o : Node) → Contains os o → option_value o.op < 256 ^ type_width (option_kind o.op)
 
 -- The items of new bytes are the values of options that were offered.
 abbrev pub NamesItems : Asked → Offer → Field → Type 0

@@ -2,7 +2,7 @@
 use Rattle.std.specs.Prelude.{◌≡◌, ℕ, ◌+◌, true, if◌then◌else◌, List, [], ◌∷◌, length, take, drop}
 use Rattle.std.specs.List.{concat, AllByRecursion}
 use Rattle.ifr_opcodes.specs.Opcode.{stated_length, number, is_end, IsWhole}
-use Rattle.ifr_opcodes.specs.Operators.{is_operator}
+use Rattle.ifr_opcodes.specs.Rows.{is_operator}
 use Rattle.ifr_opcodes.specs.Forest.{Forest, none, node, flat, AreNodes, Mark}
 use Rattle.ifr_opcodes.specs.Reading.{opcodes_in}
 use Rattle.ifr_opcodes.specs.code.Marks.{inside}

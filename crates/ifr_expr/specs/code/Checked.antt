@@ -5,7 +5,7 @@ use Rattle.std.specs.Coded.{×_prop}
 use Rattle.std.proofs.Props.{props}
 use Rattle.ifr_opcodes.specs.Opcode.{number, IsWhole}
 use Rattle.ifr_opcodes.specs.code.Props.{IsWhole-prop}
-use Rattle.ifr_opcodes.specs.Operators.{is_operator}
+use Rattle.ifr_opcodes.specs.Rows.{is_operator}
 use Rattle.ifr_opcodes.specs.Fields.{is_short}
 use Rattle.ifr_opcodes.specs.Forest.{Mark}
 use Rattle.ifr_opcodes.specs.Reading.{opcodes_in}

@@ -1,8 +1,8 @@
 -- What a typed view of an opcode is read from.
-use Rattle.std.specs.Prelude.{◌≡◌, ℕ, ◌≤◌, Bool, true, List, length, Result, Ok, Err}
+use Rattle.std.specs.Prelude.{◌≡◌, ℕ, Bool, true, false, List, Result, Ok, Err}
 use Rattle.hii_bytes.specs.declared.cause.Fault.{Fault}
 use Rattle.hii_bytes.specs.Faults.{IsLeast}
-use Rattle.ifr_opcodes.specs.Fields.{least_length, pairs, IsMisread}
+use Rattle.ifr_opcodes.specs.Fields.{is_short, pairs, IsMisread}
 use Rattle.ifr_opcodes.specs.code.Ops.{bytes_of, op_of}
 use Rattle.ifr_opcodes.specs.declared.expressions.ExprOp.{ExprOp}
 use Rattle.ifr_opcodes.specs.declared.expressions.ExprOp.TheVariants.{Leaf, RuleRef, Unary, Binary}
@@ -15,7 +15,7 @@ use Rattle.ifr_opcodes.specs.declared.op.Op.{Op}
 abbrev pub Reads : {View : Type 0} → (List ℕ → Bool) → (View → Op) → Op → Result View Fault → Type 0
 Reads wanted op_in op (Ok view) =
     (op_of (op_in view) ≡ op_of op) × (wanted (bytes_of op) ≡ true)
-    × (least_length (bytes_of op) ≤ length (bytes_of op))
+    × (is_short (bytes_of op) ≡ false)
 Reads wanted op_in op (Err fault) = IsLeast (IsMisread wanted (op_of op)) fault
 
 -- the opcode of an operator

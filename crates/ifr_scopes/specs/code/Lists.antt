@@ -3,7 +3,7 @@ use Rattle.std.specs.Prelude.{ℕ, List, drop, filter, map, reverse}
 use Rattle.ifr_opcodes.specs.Forest.{Node}
 use Rattle.ifr_opcodes.specs.declared.op.Op.{Op}
 use Rattle.ifr_scopes.specs.code.Checked.{node_in}
-use Rattle.ifr_opcodes.specs.Statements.{is_statement_number}
+use Rattle.ifr_opcodes.specs.Rows.{is_statement_number}
 use Rattle.ifr_scopes.specs.Nodes.{nodes_of, is_form, is_statement}
 use Rattle.ifr_scopes.specs.code.Tables.{guard_of_number, guards_from}
 use Rattle.ifr_scopes.specs.code.Views.{node_of, nodes_left}

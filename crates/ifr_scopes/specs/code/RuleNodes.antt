@@ -4,7 +4,7 @@ use Rattle.std.specs.List.{AllByRecursion}
 use Rattle.hii_bytes.specs.Faults.{HasNone}
 use Rattle.ifr_opcodes.specs.declared.codes.TheConstants.{RULE}
 use Rattle.ifr_opcodes.specs.Opcode.{number}
-use Rattle.ifr_opcodes.specs.Operators.{is_operator}
+use Rattle.ifr_opcodes.specs.Rows.{is_operator}
 use Rattle.ifr_opcodes.specs.Forest.{Forest, none, node, Ancestor, Node}
 use Rattle.ifr_expr.specs.Faults.{IsExpressionFault}
 use Rattle.ifr_expr.specs.Trees.{expression}

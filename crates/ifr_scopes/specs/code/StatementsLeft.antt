@@ -3,7 +3,7 @@ use Rattle.std.specs.Prelude.{◌==◌, not, List, filter, map}
 use Rattle.std.specs.List.{take_while}
 use Rattle.ifr_opcodes.specs.declared.codes.TheConstants.{FORM}
 use Rattle.ifr_opcodes.specs.Forest.{Node}
-use Rattle.ifr_opcodes.specs.Statements.{is_statement_number}
+use Rattle.ifr_opcodes.specs.Rows.{is_statement_number}
 use Rattle.ifr_scopes.specs.code.Checked.{node_in}
 use Rattle.ifr_scopes.specs.declared.statements_of.StatementsOf.{StatementsOf}
 

@@ -1,5 +1,5 @@
 -- Causes and faults of the contracts, in the words of the chapters.
-use Rattle.std.specs.Prelude.{ℕ, ◌↔◌, List, [], Contains}
+use Rattle.std.specs.Prelude.{ℕ, ◌↔◌, List, Contains}
 use Rattle.hii_bytes.specs.declared.cause.Cause.{Cause}
 use Rattle.hii_bytes.specs.declared.cause.Cause.TheVariants.{ListShort, ListLength, PackageLength, NoEnd, AfterEnd}
 use Rattle.hii_bytes.specs.declared.cause.Cause.TheVariants.{NoForms, StringHeader, StringBlock, StringText}
@@ -72,8 +72,3 @@ fault_for cause place = record { cause = cause_for cause; place = place }
 -- These are the faults of a kind: a cause has a fault at a place exactly where one stands among them.
 abbrev pub AreFaults : List Fault → (Cause → ℕ → Type 0) → Type 0
 AreFaults faults IsFault = (cause : Cause) (place : ℕ) → Contains faults (fault_for cause place) ↔ IsFault cause place
-
--- the faults of two parts, as the chapters have them: those of the second count only where the first has none
-abbrev pub in_turn : List Fault → List Fault → List Fault
-in_turn [] behind = behind
-in_turn faults behind = faults

@@ -1,9 +1,9 @@
 -- Values, scopes and operators of the crates as the chapters have them.
-use Rattle.std.specs.Prelude.{ℕ, ◌<◌, ◌^◌, Option, Some, None, List, map, ⊤}
+use Rattle.std.specs.Prelude.{ℕ, ◌<◌, ◌^◌, List, map, ⊤}
 use Rattle.std.specs.List.{AllByRecursion}
 use Rattle.browser_rules.specs.Expressions as expressions
 use Rattle.browser_rules.specs.Opcodes as rows
-use Rattle.browser_rules.specs.Opcodes.{Sense, no_operator, leaf, one, two}
+use Rattle.browser_rules.specs.Opcodes.{Sense, leaf, one, two}
 use Rattle.browser_rules.specs.Values as rules
 use Rattle.browser_rules.specs.Values.{Around}
 use Rattle.hii_bytes.specs.Numbers.{AreBytes}
@@ -14,13 +14,6 @@ use Rattle.ifr_expr.specs.Values as values
 use Rattle.ifr_expr.specs.Values.{Value}
 use Rattle.ifr_scopes.specs.declared.table.Class.{Class}
 use Rattle.ifr_scopes.specs.declared.table.Class.TheVariants.{OfFormSet, OfForm, OfText, OfQuestion, OfChoice, OfOptions, OfOption, OfExpression, OfNothing}
-
--- how many operands an operator takes that makes this of them
-abbrev pub operands_of : Sense → Option ℕ
-operands_of no_operator = None
-operands_of (leaf makes) = Some 0
-operands_of (one makes) = Some 1
-operands_of (two makes) = Some 2
 
 -- a value as one of the chapters
 abbrev pub value_for : Value → rules.Value

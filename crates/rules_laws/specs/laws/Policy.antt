@@ -9,37 +9,10 @@ use Rattle.ifr_scopes.specs.Nodes.{nodes_of}
 use Rattle.hii_varstore.specs.Stores.{StoreMap}
 use Rattle.hii_questions.specs.Answers.{answers}
 use Rattle.hii_questions.specs.Denials.{has_text}
-use Rattle.hii_questions.specs.declared.denial.DenialKind.{DenialKind}
-use Rattle.hii_questions.specs.declared.denial.DenialKind.TheVariants.{DisableIf, SuppressIf, GrayOutIf, Locked, ReadOnly, Outside, Kind, Range, NoOption, Length, Repeat, EmptySet, BadText, InconsistentIf, NoSubmitIf, NoQuestion, NotRef, NotButton, NoRow, NoBack, DeepHistory, NoStore, NoField, Password}
 use Rattle.guard_policy.specs.World.{World}
 use Rattle.guard_policy.specs.declared.denial.Denial.{Denial}
 use Rattle.rules_laws.specs.laws.Opcodes.{value_for, IsSmall}
-
-abbrev pub kind_for : DenialKind → questions.DenialKind
-kind_for DisableIf = questions.DisableIf
-kind_for SuppressIf = questions.SuppressIf
-kind_for GrayOutIf = questions.GrayOutIf
-kind_for Locked = questions.Locked
-kind_for ReadOnly = questions.ReadOnly
-kind_for Outside = questions.Outside
-kind_for Kind = questions.Kind
-kind_for Range = questions.Range
-kind_for NoOption = questions.NoOption
-kind_for Length = questions.Length
-kind_for Repeat = questions.Repeat
-kind_for EmptySet = questions.EmptySet
-kind_for BadText = questions.BadText
-kind_for InconsistentIf = questions.InconsistentIf
-kind_for NoSubmitIf = questions.NoSubmitIf
-kind_for NoQuestion = questions.NoQuestion
-kind_for NotRef = questions.NotRef
-kind_for NotButton = questions.NotButton
-kind_for NoRow = questions.NoRow
-kind_for NoBack = questions.NoBack
-kind_for DeepHistory = questions.DeepHistory
-kind_for NoStore = questions.NoStore
-kind_for NoField = questions.NoField
-kind_for Password = questions.Password
+use Rattle.rules_laws.specs.laws.Questions.{kind_for}
 
 -- a denial; its message counts where its kind is told with a text
 abbrev pub denial_for : Denial → chapter.Denial

@@ -28,35 +28,35 @@ offer_for (listed ns) = chapter.listed ns
 offer_for (elements bytes) = chapter.elements bytes
 offer_for (field bytes) = chapter.in_field bytes
 
-abbrev pub denial_for : DenialKind → chapter.DenialKind
-denial_for DisableIf = chapter.DisableIf
-denial_for SuppressIf = chapter.SuppressIf
-denial_for GrayOutIf = chapter.GrayOutIf
-denial_for Locked = chapter.Locked
-denial_for ReadOnly = chapter.ReadOnly
-denial_for Outside = chapter.Outside
-denial_for Kind = chapter.Kind
-denial_for Range = chapter.Range
-denial_for NoOption = chapter.NoOption
-denial_for Length = chapter.Length
-denial_for Repeat = chapter.Repeat
-denial_for EmptySet = chapter.EmptySet
-denial_for BadText = chapter.BadText
-denial_for InconsistentIf = chapter.InconsistentIf
-denial_for NoSubmitIf = chapter.NoSubmitIf
-denial_for NoQuestion = chapter.NoQuestion
-denial_for NotRef = chapter.NotRef
-denial_for NotButton = chapter.NotButton
-denial_for NoRow = chapter.NoRow
-denial_for NoBack = chapter.NoBack
-denial_for DeepHistory = chapter.DeepHistory
-denial_for NoStore = chapter.NoStore
-denial_for NoField = chapter.NoField
-denial_for Password = chapter.Password
+abbrev pub kind_for : DenialKind → chapter.DenialKind
+kind_for DisableIf = chapter.DisableIf
+kind_for SuppressIf = chapter.SuppressIf
+kind_for GrayOutIf = chapter.GrayOutIf
+kind_for Locked = chapter.Locked
+kind_for ReadOnly = chapter.ReadOnly
+kind_for Outside = chapter.Outside
+kind_for Kind = chapter.Kind
+kind_for Range = chapter.Range
+kind_for NoOption = chapter.NoOption
+kind_for Length = chapter.Length
+kind_for Repeat = chapter.Repeat
+kind_for EmptySet = chapter.EmptySet
+kind_for BadText = chapter.BadText
+kind_for InconsistentIf = chapter.InconsistentIf
+kind_for NoSubmitIf = chapter.NoSubmitIf
+kind_for NoQuestion = chapter.NoQuestion
+kind_for NotRef = chapter.NotRef
+kind_for NotButton = chapter.NotButton
+kind_for NoRow = chapter.NoRow
+kind_for NoBack = chapter.NoBack
+kind_for DeepHistory = chapter.DeepHistory
+kind_for NoStore = chapter.NoStore
+kind_for NoField = chapter.NoField
+kind_for Password = chapter.Password
 
 abbrev pub bytes_or_denial : Result (List ℕ) DenialKind → Result (List ℕ) chapter.DenialKind
 bytes_or_denial (Ok bytes) = Ok bytes
-bytes_or_denial (Err kind) = Err (denial_for kind)
+bytes_or_denial (Err kind) = Err (kind_for kind)
 
 -- Where stores hold bytes of a question's field, they hold all of them.
 abbrev pub HoldsWhole : StoreMap → Asked → Type 0

@@ -1,5 +1,5 @@
 -- The faults of nodes by themselves, where those of an expression's opcodes are left to their nodes.
-use Rattle.std.specs.Prelude.{◌≡◌, ◌⊎◌, ℕ, ◌≤◌, true, List, [], length, Contains}
+use Rattle.std.specs.Prelude.{◌≡◌, ◌⊎◌, ℕ, true, List, [], Contains}
 use Rattle.hii_bytes.specs.Faults.{HasNone}
 use Rattle.hii_bytes.specs.declared.cause.Cause.{Cause}
 use Rattle.hii_bytes.specs.declared.cause.Cause.TheVariants.{NotFormSet}
@@ -7,10 +7,6 @@ use Rattle.ifr_opcodes.specs.Forest.{Mark, Node}
 use Rattle.ifr_expr.specs.Faults.{IsOpcodeFault, IsShapeFault}
 use Rattle.ifr_expr.specs.Trees.{expression}
 use Rattle.ifr_scopes.specs.Structure.{is_expression, IsNodeFault}
-
--- Each node has the two bytes of its header.
-abbrev pub HaveHeaders : List Node → Type 0
-HaveHeaders ns = (n : Node) → Contains ns n → 2 ≤ length n.op
 
 -- the opcodes of the expression at a node
 abbrev pub opcodes_at : Node → List Mark

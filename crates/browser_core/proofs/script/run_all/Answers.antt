@@ -1,5 +1,6 @@
 use Rattle.std.proofs.Common.{◌≡◌, refl, inl, inr, ◌+◌, ◌-◌, ◌≤◌, ◌<◌, ◌∙◌, min, not, length, arith, ap, rules}
-use Rattle.hii_commands.specs.declared.limits.TheConstants.{SCRIPT_LIMIT}
+use Rattle.browser_rules.specs.Script.{SCRIPT_LIMIT}
+use Rattle.browser_core.specs.Run.{PIECE}
 use Rattle.browser_core.proofs.RunLemmas.{writes_flushed, stands_passing, stops_passing, overflows_at_once, reads_none, consumes_none, reads_within, reads_more, breaks_off, finishes, overflows_last, overflows_piece, finishes_past, overflows_past}
 use Rattle.browser_core.proofs.script.run_all.Goals as goal
 
@@ -28,11 +29,11 @@ loop-count-preserved g c =
       c.passes_on-in-loop-count.ensures.passed_on c.if-not-passes_on-2.false,
     )
 
-pub returns-in-Err-clause-run : goal.returns-in-Err-clause-run
-returns-in-Err-clause-run g c =
+pub returns-in_default-clause-run : goal.returns-in_default-clause-run
+returns-in_default-clause-run g c =
     let so_far = c.loop-count.invariant.0 in
     let within : c.loop-count.count ≤ SCRIPT_LIMIT = omega (arith, c.loop-count-test.true) in
-    breaks_off _ _ _ _ _ _ _ so_far.bytes _ so_far.consumed (omega (arith, so_far.counted)) (reads_within _ _ _ _ _ _ _ _ so_far within) c.in-Err.ensures.bytes
+    breaks_off _ _ _ _ _ _ _ so_far.bytes _ so_far.consumed (omega (arith, so_far.counted)) (reads_within _ _ _ _ _ _ _ _ so_far within) c.in_default.ensures.bytes
 
 pub returns-else-passes_on-clause-run : goal.returns-else-passes_on-clause-run
 returns-else-passes_on-clause-run g c =
@@ -64,10 +65,11 @@ returns-then-not-passes_on-2-clause-run g c =
     let room : c.in-Ok.n ≤ length c.read_piece.new.buf = c.in-Ok.ensures.bound.0 in
     let long : length c.read_piece.new.buf ≡ c.min-room.result = search rules in
     let few : c.loop-count.count + c.in-Ok.n ≤ (SCRIPT_LIMIT + 1) = omega (arith, room, long, c.min-room.ensures, within) in
+    let one : c.in-Ok.n ≤ PIECE = omega (arith, room, long, c.min-room.ensures) in
     let least : c.min-within.result ≡ min c.in-Ok.n (SCRIPT_LIMIT - c.loop-count.count) = c.min-within.ensures in
     let stands = reads_within _ _ _ _ _ _ _ _ so_far within in
-    overflows_piece _ _ _ _ _ _ _ _ _ c.loop-count.count c.in-Ok.n c.min-within.result c.read_piece.new.buf _ so_far within room few least c.in-Ok.ensures.bytes.0
-    (stops_passing _ _ _ _ _ _ _ (c.run_piece.ensures.stands _ _ so_far.bytes stands) (c.run_piece.ensures.stops _ _ so_far.bytes stands)
+    overflows_piece _ _ _ _ _ _ _ _ _ c.loop-count.count c.in-Ok.n c.min-within.result c.read_piece.new.buf _ so_far within room few one least c.in-Ok.ensures.bytes.0
+    (stops_passing _ _ _ _ _ so_far.bytes _ _ (c.run_piece.ensures.stands _ _ so_far.bytes stands) (c.run_piece.ensures.stops _ _ so_far.bytes stands)
     c.passes_on-in-loop-count.ensures.flushes (c.passes_on-in-loop-count.ensures.fault ∙ ap not c.if-not-passes_on-2.true))
 
 pub returns-else-passes_on-2-clause-run : goal.returns-else-passes_on-2-clause-run

@@ -1,5 +1,5 @@
 use Rattle.std.proofs.Common.{◌≡◌, ◌⊎◌, ◌+◌, ◌-◌, true, false}
-use Rattle.hii_commands.specs.declared.limits.TheConstants.{SCRIPT_LIMIT}
+use Rattle.browser_rules.specs.Script.{SCRIPT_LIMIT}
 use Rattle.hii_bytes.specs.Watching.{pen_of, inner_of, has_failed, has_passed_on}
 use Rattle.browser_core.proofs.RunLemmas.{Reads}
 use Rattle.browser_core.proofs.script.run_all.Given as goal

@@ -3,7 +3,7 @@ use Rattle.hii_bytes.specs.Watching.{Writes, pen_of}
 use Rattle.hii_bytes.proofs.WritingLemmas.{writes_nil}
 use Rattle.browser_core.specs.Step.{Outcome}
 use Rattle.browser_core.specs.Texts.{refused_text}
-use Rattle.browser_core.proofs.RunLemmas.{blank_line, blank_shown, some_line, line_read, line_shown}
+use Rattle.browser_core.proofs.RunLemmas.{blank_line, blank_shown, some_line, line_read, line_shown, bad_line, bad_shown}
 use Rattle.browser_core.proofs.script.run_bytes.Goals as goal
 
 pub returns-then-is_blank-clause-shown : goal.returns-then-is_blank-clause-shown
@@ -17,22 +17,22 @@ returns-then-is_blank-clause-text g c =
 pub returns-in-Ok-clause-shown : goal.returns-in-Ok-clause-shown
 returns-in-Ok-clause-shown g c =
     let some = some_line c.args.line.now c.is_blank.result c.is_blank.ensures.1 c.if-is_blank.false in
-    c.carry_out.ensures.shown ∙ sym (line_shown c.args.core.now c.args.line.now _ some c.in-Ok.ensures.reads)
+    c.carry_out.ensures.shown ∙ sym (line_shown c.args.core.now c.args.line.now _ some c.in-Ok.ensures.means)
 
 pub returns-in-Ok-clause-text : goal.returns-in-Ok-clause-text
 returns-in-Ok-clause-text g c =
     let some = some_line c.args.line.now c.is_blank.result c.is_blank.ensures.1 c.if-is_blank.false in
     subst (Writes (pen_of g.W.Write.contents c.args.out.now) (pen_of g.W.Write.contents c.carry_out.new.out))
-    (sym (ap (λ (o : Outcome). o.text) (line_read c.args.core.now.state c.args.line.now _ some c.in-Ok.ensures.reads))) c.carry_out.ensures.text
+    (sym (ap (λ (o : Outcome). o.text) (line_read c.args.core.now.state c.args.line.now _ some c.in-Ok.ensures.means))) c.carry_out.ensures.text
 
 pub returns-in-Err-clause-shown : goal.returns-in-Err-clause-shown
 returns-in-Err-clause-shown g c =
     let some = some_line c.args.line.now c.is_blank.result c.is_blank.ensures.1 c.if-is_blank.false in
-    sym (line_shown c.args.core.now c.args.line.now _ some c.in-Err.ensures.reads)
+    sym (bad_shown c.args.core.now c.args.line.now _ some c.in-Err.ensures.means)
 
 pub returns-in-Err-clause-text : goal.returns-in-Err-clause-text
 returns-in-Err-clause-text g c =
     let some = some_line c.args.line.now c.is_blank.result c.is_blank.ensures.1 c.if-is_blank.false in
     subst (Writes (pen_of g.W.Write.contents c.args.out.now) (pen_of g.W.Write.contents c.put_refusal.new.out))
-    (ap refused_text c.cause.ensures ∙ sym (ap (λ (o : Outcome). o.text) (line_read c.args.core.now.state c.args.line.now _ some c.in-Err.ensures.reads)))
+    (ap refused_text c.cause.ensures ∙ sym (ap (λ (o : Outcome). o.text) (bad_line c.args.core.now.state c.args.line.now _ some c.in-Err.ensures.means)))
     c.put_refusal.ensures

@@ -2,10 +2,10 @@ use Rattle.std.proofs.Common.{rules, ◌≡◌, [], ◌∷◌, ◌++◌, drop, t
 use Rattle.std.proofs.lemmas.List.{take_rest, nil_from_length}
 use Rattle.std.specs.List.{before_first}
 use Rattle.hii_bytes.specs.Watching.{pen_of}
-use Rattle.hii_commands.specs.Script.{ends_line, rest_of}
+use Rattle.hii_commands.specs.code.Lines.{ends_line, rest_of}
 use Rattle.hii_commands.proofs.ScriptLemmas.{fed_rest, fed_line, IsWithinLine-before_first}
 use Rattle.browser_core.specs.code.Reading.{Stands}
-use Rattle.browser_core.proofs.RunLemmas.{stands_within, stands_line, stops_piece}
+use Rattle.browser_core.proofs.RunLemmas.{stands_within, stands_line, stops_piece, stops_sooner, whole_lines-more}
 use Rattle.browser_core.proofs.script.run_piece.Goals as goal
 
 pub loop-rest-init : goal.loop-rest-init
@@ -54,10 +54,11 @@ returns-then-failed-clause-stops g c = λ start pen bytes h broken.
     let fed = fed_line rest c.feed-fed.result.taken c.feed-fed.result.complete c.feed-fed.ensures.taken c.if-fed.true in
     let stands = so_far.2 start pen bytes h in
     let held = c.feed-fed.ensures.held (rest_of (bytes ++ so_far.0)) stands.line_is in
-    stops_piece start c.loop-rest.core c.run_line.new.core pen pen_now pen_then (bytes ++ so_far.0) line (drop c.feed-fed.result.taken rest) _ (IsWithinLine-before_first rest)
+    let stops = stops_piece start c.loop-rest.core c.run_line.new.core pen pen_now pen_then (bytes ++ so_far.0) line (drop c.feed-fed.result.taken rest) _ (IsWithinLine-before_first rest)
     stands.shown stands.text stands.sound (c.run_line.ensures.shown _ held) (c.run_line.ensures.text _ held) broken
     (ap (λ l. bytes ++ l) (so_far.1 ∙ ap (λ l. so_far.0 ++ l) fed) ∙ sym (append_assoc bytes so_far.0 ((line ++ 10 ∷ []) ++ drop c.feed-fed.result.taken rest))
-    ∙ sym (append_assoc (bytes ++ so_far.0) (line ++ 10 ∷ []) (drop c.feed-fed.result.taken rest)))
+    ∙ sym (append_assoc (bytes ++ so_far.0) (line ++ 10 ∷ []) (drop c.feed-fed.result.taken rest))) in
+    stops_sooner _ _ _ _ _ _ _ stops (whole_lines-more bytes so_far.0)
 
 pub returns-clause-stands : goal.returns-clause-stands
 returns-clause-stands g c = λ start pen bytes h sound.

@@ -4,14 +4,14 @@ use Rattle.std.specs.Str.{bytes_eq}
 use Rattle.std.proofs.lemmas.Bool.{and_from, and_parts}
 use Rattle.std.proofs.lemmas.Bool.Decides.{same_from_decides}
 use Rattle.std.proofs.lemmas.Slice.Eq.{bytes_eq-Decides}
-use Rattle.config_text.specs.Grammar.{Named}
+use Rattle.browser_rules.specs.Configuration.{Header}
 use Rattle.config_text.specs.code.Views.{header_view}
 use Rattle.ifr_scopes.specs.Stores.{store_guid, store_name, store_size}
 use Rattle.ifr_scopes.specs.code.Lists.{store_node}
 use Rattle.browser_core.proofs.varstores.is_named.Goals as goal
 
 -- a header has three parts where each of them is its own
-has_parts : (h : Named) (guid name path : List ℕ) → Decides (bytes_eq h.guid guid && (bytes_eq h.name name && bytes_eq h.path path)) (h ≡ record { guid = guid; name = name; path = path })
+has_parts : (h : Header) (guid name path : List ℕ) → Decides (bytes_eq h.guid guid && (bytes_eq h.name name && bytes_eq h.path path)) (h ≡ record { guid = guid; name = name; path = path })
 has_parts h guid name path = (
   λ e.
       let first = and_parts (bytes_eq h.guid guid) (bytes_eq h.name name && bytes_eq h.path path) e in
@@ -21,8 +21,8 @@ has_parts h guid name path = (
       let its_path = (bytes_eq-Decides h.path path).0 second.1 in
       λ i. record { guid = its_guid i; name = its_name i; path = its_path i },
   λ e.
-      and_from (bytes_eq h.guid guid) (bytes_eq h.name name && bytes_eq h.path path) ((bytes_eq-Decides h.guid guid).1 (ap (λ (n : Named). n.guid) e))
-      (and_from (bytes_eq h.name name) (bytes_eq h.path path) ((bytes_eq-Decides h.name name).1 (ap (λ (n : Named). n.name) e)) ((bytes_eq-Decides h.path path).1 (ap (λ (n : Named). n.path) e))),
+      and_from (bytes_eq h.guid guid) (bytes_eq h.name name && bytes_eq h.path path) ((bytes_eq-Decides h.guid guid).1 (ap (λ (n : Header). n.guid) e))
+      (and_from (bytes_eq h.name name) (bytes_eq h.path path) ((bytes_eq-Decides h.name name).1 (ap (λ (n : Header). n.name) e)) ((bytes_eq-Decides h.path path).1 (ap (λ (n : Header). n.path) e))),
 )
 
 pub returns-then-is_some : goal.returns-then-is_some

@@ -1,5 +1,5 @@
 use Rattle.std.proofs.Common.{◌≡◌, ℕ, ◌<◌, get_or}
-use Rattle.config_text.specs.PartReading.{group_numbers}
+use Rattle.config_text.specs.code.PartReading.{group_numbers}
 use Rattle.config_text.proofs.groups.are_numbers.Given as goal
 
 -- the numbers so far are those of the groups

@@ -1,6 +1,6 @@
 use Rattle.std.proofs.Common.{◌/◌, ◌<◌, ◌≤◌, length, arith}
 use Rattle.hii_bytes.specs.Texts.{hex_of}
-use Rattle.config_text.specs.PartReading.{group_numbers}
+use Rattle.config_text.specs.code.PartReading.{group_numbers}
 use Rattle.config_text.proofs.ReadLemmas.{length_groups}
 use Rattle.config_text.proofs.WriteLemmas.{one_more, all_written}
 use Rattle.config_text.proofs.put_digits.put_pairs.Goals as goal

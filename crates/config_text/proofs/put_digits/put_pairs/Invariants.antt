@@ -2,7 +2,7 @@ use Rattle.std.proofs.Common.{take}
 use Rattle.std.specs.List.{flat_map}
 use Rattle.hii_bytes.specs.Watching.{pen_of, Writes}
 use Rattle.hii_bytes.specs.Texts.{hex_of}
-use Rattle.config_text.specs.PartReading.{group_numbers}
+use Rattle.config_text.specs.code.PartReading.{group_numbers}
 use Rattle.config_text.proofs.put_digits.put_pairs.Given as goal
 
 -- the numbers so far were written

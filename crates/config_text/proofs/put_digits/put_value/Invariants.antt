@@ -1,7 +1,7 @@
 use Rattle.std.proofs.Common.{length}
 use Rattle.hii_bytes.specs.Watching.{pen_of}
 use Rattle.hii_bytes.specs.code.Writing.{Stands}
-use Rattle.config_text.specs.Written.{value_digits}
+use Rattle.config_text.specs.code.Written.{value_digits}
 use Rattle.config_text.proofs.put_digits.put_value.Given as goal
 
 -- the bytes behind those that are left were written

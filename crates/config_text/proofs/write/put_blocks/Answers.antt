@@ -2,7 +2,7 @@ use Rattle.std.proofs.Common.{length, refl, ap}
 use Rattle.std.specs.List.{flat_map}
 use Rattle.hii_bytes.proofs.WritingLemmas.{Stands-start, past_piece}
 use Rattle.config_text.specs.code.Views.{block_view}
-use Rattle.config_text.specs.Written.{block_text}
+use Rattle.config_text.specs.code.Written.{block_text}
 use Rattle.config_text.proofs.WriteLemmas.{inside_some}
 use Rattle.config_text.proofs.write.put_blocks.Goals as goal
 

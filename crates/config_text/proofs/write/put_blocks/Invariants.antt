@@ -3,7 +3,8 @@ use Rattle.std.specs.List.{flat_map}
 use Rattle.hii_bytes.specs.Watching.{pen_of}
 use Rattle.hii_bytes.specs.code.Writing.{Stands}
 use Rattle.config_text.specs.code.BlocksLeft.{blocks_left}
-use Rattle.config_text.specs.Written.{AreInside, block_text}
+use Rattle.config_text.specs.Written.{AreInside}
+use Rattle.config_text.specs.code.Written.{block_text}
 use Rattle.config_text.proofs.write.put_blocks.Given as goal
 
 -- the blocks before those that are left were written

@@ -3,7 +3,7 @@ use Rattle.std.specs.List.{last_or}
 use Rattle.ifr_opcodes.specs.Fields.{question_id}
 use Rattle.ifr_opcodes.specs.Opcode.{IsWhole, number}
 use Rattle.ifr_opcodes.specs.Forest.{Ancestor, Node}
-use Rattle.ifr_opcodes.specs.Statements.{is_question_number}
+use Rattle.ifr_opcodes.specs.Rows.{is_question_number}
 use Rattle.ifr_opcodes.specs.code.Marks.{mark_at, ancestor_at}
 use Rattle.ifr_scopes.specs.Nodes.{is_question, questions_among, id_or_0}
 use Rattle.ifr_scopes.specs.code.Scopes.{IsScope}

@@ -1,7 +1,7 @@
 use Rattle.std.proofs.Common.{ap, subst, ◌∙◌, List, ℕ}
 use Rattle.std.specs.List.Sorted.{IsBinarySearchResult}
 use Rattle.std.specs.Ordering.{nat_cmp}
-use Rattle.ifr_opcodes.specs.Operators.{is_among}
+use Rattle.ifr_opcodes.specs.Rows.{is_among}
 use Rattle.guard_policy.proofs.RemovedLemmas.{is_there}
 use Rattle.guard_policy.proofs.removed.Removed.has.Goals as goal
 

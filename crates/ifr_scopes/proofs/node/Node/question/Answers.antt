@@ -1,6 +1,6 @@
 use Rattle.std.proofs.Common.{sym, ap, ◌∙◌}
 use Rattle.ifr_opcodes.specs.Opcode.{number}
-use Rattle.ifr_opcodes.specs.Statements.{is_question_number}
+use Rattle.ifr_opcodes.specs.Rows.{is_question_number}
 use Rattle.ifr_scopes.proofs.NodeFactLemmas.{question_long}
 use Rattle.ifr_scopes.proofs.node.Node.question.Goals as goal
 

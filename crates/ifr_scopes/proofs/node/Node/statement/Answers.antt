@@ -1,6 +1,6 @@
 use Rattle.std.proofs.Common.{sym, ap, ◌∙◌}
 use Rattle.ifr_opcodes.specs.Opcode.{number}
-use Rattle.ifr_opcodes.specs.Statements.{is_statement_number}
+use Rattle.ifr_opcodes.specs.Rows.{is_statement_number}
 use Rattle.ifr_scopes.proofs.NodeFactLemmas.{statement_long}
 use Rattle.ifr_scopes.proofs.node.Node.statement.Goals as goal
 
