@@ -39,18 +39,19 @@ use Rattle.guard_policy.specs.World.{World}
 use Rattle.guard_policy.specs.declared.denial.Denial.{Denial}
 use Rattle.browser_rules.specs.Script as script
 use Rattle.browser_rules.specs.Script.{Command}
-use Rattle.browser_core.specs.Configuration.{store_named, block_field, block_bytes, first_question, first_free, question_of_field}
-use Rattle.browser_core.specs.State.{State, world_of}
-use Rattle.browser_core.specs.Texts.{count_text}
-use Rattle.browser_core.specs.Step.{Outcome, Taken, step, denied, form_of, told_why, question_denial, set_question, set_unless_fixed, set_unless_forbidden, set_fitting, value_denial, submit_unless, is_other, is_changed, changed, sources, taken_if, take_offer, take_default, take_each, questions_in, taken, take_defaults, press_unless_fixed, press_statement, row_of_form, set_field, set_block, set_blocks, go_on, route_to, route_reading}
-use Rattle.browser_core.specs.declared.reply.Reply.{Reply}
-use Rattle.browser_core.specs.declared.reply.Reply.TheVariants.{Accepted, Denied, Refused}
-use Rattle.browser_core.specs.Renewed.{named_if, pressed_if}
+use Rattle.session_steps.specs.Configuration.{store_named, block_field, block_bytes, first_question, first_free, question_of_field}
+use Rattle.session_steps.specs.State.{State, world_of}
+use Rattle.session_steps.specs.Texts.{count_text}
+use Rattle.session_steps.specs.Step.{Outcome, Taken, step, denied, form_of, told_why, question_denial, set_question, set_unless_fixed, set_unless_forbidden, set_fitting, value_denial, submit_unless, is_other, is_changed, changed, sources, taken_if, take_offer, take_default, take_each, questions_in, taken, take_defaults, press_unless_fixed, press_statement, row_of_form, set_field, set_block, set_blocks, go_on, route_to, route_reading}
+use Rattle.session_steps.specs.declared.reply.Reply.{Reply}
+use Rattle.session_steps.specs.declared.reply.Reply.TheVariants.{Accepted, Denied, Refused}
+use Rattle.session_steps.specs.Renewed.{named_if, pressed_if}
 use Rattle.browser_core.specs.laws.Bytes.{state_with, fields_of, block_fields, response_fields, where_accepted, named_fields, HaveByte, SetsFields, SetsByte, KeepsOtherBytes, ChangesNamedBytesAlone}
-use Rattle.browser_core.proofs.GoLemmas.{LeavesStores, follow_leaves, back_leaves}
+use Rattle.session_steps.proofs.GoLemmas.{LeavesStores, follow_leaves, back_leaves}
 use Rattle.browser_core.proofs.RefusedLemmas.{blocks_leave}
-use Rattle.browser_core.proofs.RoutedLemmas.{extract_leaves}
-use Rattle.browser_core.proofs.SealedLemmas.{element, range_of, length_of, lengths_alike, set_keeps as set_keeps_package, step_keeps as step_keeps_shapes}
+use Rattle.session_steps.proofs.RoutedLemmas.{extract_leaves}
+use Rattle.browser_core.proofs.SealedLemmas.{element, range_of, length_of, lengths_alike}
+use Rattle.session_steps.proofs.KeepLemmas.{set_keeps as set_keeps_package, step_keeps as step_keeps_shapes}
 
 -- ---- one command
 

@@ -5,14 +5,22 @@ use Rattle.hii_packages.specs.Packages.{Entry, nth_forms, device_path_of}
 use Rattle.hii_packages.proofs.SpellLemmas.{one_spelled}
 use Rattle.hii_languages.specs.Languages.{Spoken, string_packages, AreSpoken, chosen}
 use Rattle.hii_languages.proofs.SpokenLemmas.{spoken_once}
-use Rattle.ifr_opcodes.specs.Forest.{places}
+use Rattle.ifr_opcodes.specs.Forest.{Node, places}
+use Rattle.browser_rules.specs.Headline.{start}
+use Rattle.browser_rules.specs.Packages.{forms_bytes}
+use Rattle.browser_rules.specs.Session as chapter
+use Rattle.browser_rules.specs.Stores as held
+use Rattle.hii_varstore.specs.StoreNodes.{layout_of}
+use Rattle.rules_laws.specs.laws.Stores.{shape_for, stores_for}
+use Rattle.rules_laws.proofs.StoreLemmas.{shape_same, spelled_back}
+use Rattle.browser_core.specs.Opening as rules
 use Rattle.ifr_scopes.specs.Nodes.{nodes_of, is_form}
 use Rattle.hii_varstore.specs.Image.{SpellsImage}
 use Rattle.hii_varstore.specs.Stores.{StoreMap}
 use Rattle.hii_varstore.proofs.LawLemmas.{one_map}
 use Rattle.guard_policy.specs.World.{removed_at}
-use Rattle.browser_core.specs.State.{State}
-use Rattle.browser_core.specs.Opening.{HasSource, HasTexts, HasPath, layout_in, Opens}
+use Rattle.session_steps.specs.State.{State}
+use Rattle.session_steps.specs.Opening.{HasSource, HasTexts, HasPath, layout_in, Opens}
 
 one_value : {X : Type 0} (o : Option X) (a b : X) → o ≡ Some a → o ≡ Some b → a ≡ b
 one_value o a b first second = let both : Some a ≡ Some b = sym first ∙ second in cc
@@ -48,3 +56,17 @@ one_state list n image language a b o p =
     same_state b a.ifr a.path a.removed a.spoken a.language a.committed a.working a.form a.history ifr (one_path list a.path b.path o.path p.path) removed spoken
     (o.language_is ∙ ap (λ (s : List Spoken). chosen s language) spoken ∙ sym p.language_is) (o.submitted ∙ working ∙ sym p.submitted) working
     (one_place a.ifr b.ifr a.form b.form o.others p.others ifr o.forms p.forms) (o.history ∙ sym p.history)
+
+-- ---- by the chapters
+
+one_spelled_by_rules : (ns : List Node) (image : List ℕ) (a b : held.Stores) → held.SpellsImage (held.shape_of ns) image a → held.SpellsImage (held.shape_of ns) image b → a ≡ b
+one_spelled_by_rules ns image a b first second =
+    let to : (stores : held.Stores) → held.SpellsImage (held.shape_of ns) image stores → held.SpellsImage (shape_for (layout_of ns)) image stores =
+    λ stores spelled. subst (λ (shape : held.Shape). held.SpellsImage shape image stores) (shape_same ns) spelled in
+    let m = spelled_back (layout_of ns) image a (to a first) in
+    let n = spelled_back (layout_of ns) image b (to b second) in
+    sym m.1 ∙ ap stores_for (one_map (layout_of ns) image m.0 n.0 m.2 n.2) ∙ n.1
+
+pub one_begun : (list : List ℕ) (n : ℕ) (image language : List ℕ) (a b : chapter.State) → rules.Opens list n image language a → rules.Opens list n image language b → a ≡ b
+one_begun list n image language a b first second =
+    first.begins ∙ ap (start list n language) (one_spelled_by_rules (nodes_of (forms_bytes list n)) image first.stores second.stores first.spelled second.spelled) ∙ sym second.begins

@@ -23,13 +23,13 @@ use Rattle.guard_policy.specs.declared.denial.Denial.{Denial}
 use Rattle.browser_rules.specs.Script as script
 use Rattle.browser_rules.specs.Script.{Command, command_of, without_return}
 use Rattle.browser_rules.specs.Words as words
-use Rattle.browser_core.specs.Configuration.{store_named}
-use Rattle.browser_core.specs.State.{State, world_of}
-use Rattle.browser_core.specs.Step.{Outcome, accepted, denied, denied_by_none, form_of, told_why, question_denial, set_question, set_unless_fixed, set_unless_forbidden, set_fitting, value_denial, press_unless_fixed, press_statement, row_of_form, show_unless_hidden, go_to, go_unless_fixed, follow, go_back_to, set_block, set_blocks, go_on, route_to, route_reading, submit_unless, step, step_reading, step_text, step_line}
-use Rattle.browser_core.specs.Texts.{ok_text, count_text}
-use Rattle.browser_core.specs.declared.reply.Reply.{Reply}
-use Rattle.browser_core.specs.declared.reply.Reply.TheVariants.{Accepted, Denied, Refused}
-use Rattle.browser_core.proofs.RoutedLemmas.{extract_state}
+use Rattle.session_steps.specs.Configuration.{store_named}
+use Rattle.session_steps.specs.State.{State, world_of}
+use Rattle.session_steps.specs.Step.{Outcome, accepted, denied, denied_by_none, form_of, told_why, question_denial, set_question, set_unless_fixed, set_unless_forbidden, set_fitting, value_denial, press_unless_fixed, press_statement, row_of_form, show_unless_hidden, go_to, go_unless_fixed, follow, go_back_to, set_block, set_blocks, go_on, route_to, route_reading, submit_unless, step, step_reading, step_text, step_line}
+use Rattle.session_steps.specs.Texts.{ok_text, count_text}
+use Rattle.session_steps.specs.declared.reply.Reply.{Reply}
+use Rattle.session_steps.specs.declared.reply.Reply.TheVariants.{Accepted, Denied, Refused}
+use Rattle.session_steps.proofs.RoutedLemmas.{extract_state}
 
 -- An outcome leaves the state, unless it is that of a command that is carried out.
 abbrev Leaves : State → Outcome → Type 0

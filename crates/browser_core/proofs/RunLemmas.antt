@@ -1,129 +1,26 @@
 -- Lines carried out one after the other.
-use Rattle.std.proofs.Common.{length-append, ◌-◌, ◌==◌, slice_index, if◌then◌else◌, Bool, ◌≡◌, ◌≢◌, ℕ, ◌+◌, ◌<◌, ◌≤◌, true, false, Option, None, Some, IfSome, IfOk, Result, Ok, Err, List, [], ◌∷◌, ◌++◌, length, take, drop, min, refl, sym, ap, ◌∙◌, subst, append-nil, append_assoc, arith, inl, inr}
+use Rattle.std.proofs.Common.{length-append, ◌-◌, if◌then◌else◌, Bool, ◌≡◌, ℕ, ◌+◌, ◌<◌, ◌≤◌, true, false, Option, None, Some, IfSome, IfOk, Result, Ok, Err, List, [], ◌∷◌, ◌++◌, length, take, drop, min, refl, sym, ap, ◌∙◌, subst, append-nil, append_assoc, arith, inl, inr}
 use Rattle.std.proofs.lemmas.Bool.{cond-true, cond-false, lt-ltb, le-ltb, cases_lt, cases_Bool}
 use Rattle.std.proofs.lemmas.List.{take-take, take_all, take-append-drop, length-take, take-append-le}
 use Rattle.std.proofs.Math.Seq.{take-append-add}
-use Rattle.std.proofs.KnownBytes.{Consumes-nil, Consumes-trans, Consumes-kept, Appends-kept, Keeps-refl}
+use Rattle.std.proofs.KnownBytes.{Consumes-nil, Consumes-trans, Consumes-kept, Appends-kept}
 use Rattle.std.specs.Io.KnownBytes.{Consumes, Appends, IsAtEnd, Keeps}
-use Rattle.hii_bytes.specs.Watching.{Pen, Writes, Flushes, BreaksWithin}
+use Rattle.hii_bytes.specs.Watching.{Pen, Writes, Flushes}
 use Rattle.hii_bytes.proofs.WritingLemmas.{writes_trans, writes_past, writes_nil, appended_whole}
 use Rattle.hii_commands.specs.laws.Lines.{IsWithinLine}
-use Rattle.hii_commands.specs.Meaning.{cause_meant, cause_of}
-use Rattle.hii_commands.specs.declared.command.BadLine.{BadLine}
-use Rattle.hii_commands.specs.declared.command.BadLine.TheVariants as bad
 use Rattle.hii_commands.specs.code.Held.{Held, held_of}
 use Rattle.hii_commands.specs.code.Lines.{whole_lines, rest_of, last_line, lines_of}
-use Rattle.browser_rules.specs.Script.{SCRIPT_LIMIT, Command, command_of, lines_run, without_return}
-use Rattle.browser_rules.specs.Words as words
-use Rattle.hii_commands.specs.declared.limits.TheConstants.{LINE_LIMIT}
-use Rattle.hii_bytes.specs.declared.cause.Cause.TheVariants.{LineTooLong}
-use Rattle.hii_commands.proofs.ReadingLemmas.{long_line as too_long}
+use Rattle.browser_rules.specs.Script.{SCRIPT_LIMIT, lines_run}
 use Rattle.hii_commands.proofs.ScriptLemmas.{cut-within, cut-ended, whole_lines-front}
-use Rattle.browser_core.specs.Renewed.{Shown, renewed_reading, renewed_text, shown_line}
-use Rattle.browser_core.specs.State.{State}
-use Rattle.browser_core.specs.Step.{Outcome, accepted, refused, step_reading, step_text, step_line}
-use Rattle.browser_core.specs.declared.reply.RunFault.{RunFault}
-use Rattle.browser_core.specs.declared.reply.End.{End}
-use Rattle.browser_core.specs.declared.reply.End.TheVariants.{Done, TooLong}
-use Rattle.browser_core.specs.Run.{shown_after_lines, text_of, PIECE, lines_due, StopsAtLine, StopsAtLimit, Runs, Finishes, BreaksOff, Overflows, ScriptOutcome, outcome_of, too_long_text}
+use Rattle.browser_core.specs.Shown.{Shown, shown_line}
+use Rattle.browser_rules.specs.Session.{step_line}
+use Rattle.session_steps.specs.declared.reply.RunFault.{RunFault}
+use Rattle.session_steps.specs.declared.reply.End.{End}
+use Rattle.session_steps.specs.declared.reply.End.TheVariants.{Done, TooLong}
+use Rattle.browser_rules.specs.Headline.{after_lines, text_of_script}
+use Rattle.browser_core.specs.Run.{end_of, shown_after_lines, text_of, PIECE, lines_due, StopsAtLine, StopsAtLimit, Runs, Finishes, BreaksOff, Overflows, ScriptOutcome, outcome_of, too_long_text}
 use Rattle.browser_core.specs.code.Reading.{Stands}
-
--- ---- a writer that passes on what it took
-
-flushes_none : (a : Pen) → Flushes a a
-flushes_none a = record { kept = Keeps-refl a.known; counted = refl; after_fault = λ h. h }
-
-sound_before : (a b : Pen) → Flushes a b → b.broken ≡ false → a.broken ≡ false
-sound_before a b flushed sound = elim (cases_Bool a.broken) [
-  | inl broken ↦ let bad : true ≡ false = sym (flushed.after_fault broken) ∙ sound in (cc)
-  | inr unbroken ↦ unbroken
-]
-
--- a text is passed on
-pub writes_flushed : {a b c : Pen} {s : List ℕ} → Writes a b s → Flushes b c → c.broken ≡ false → Writes a c s
-writes_flushed {a} {b} {c} {s} p flushed sound = record {
-  part = p.part;
-  within = p.within;
-  appended = Appends-kept a.known b.known c.known (take p.part s) p.appended flushed.kept;
-  counted = flushed.counted ∙ p.counted;
-  after_fault = λ h. let e = p.after_fault h in (e.0, flushed.after_fault e.1);
-  whole = λ _. p.whole (sound_before b c flushed sound);
-  short = λ _ broken. let bad : true ≡ false = sym broken ∙ sound in (cc);
-}
-
--- the writer fails at a text, or as it passes the text on
-pub breaks_flushed : {a b c : Pen} {s : List ℕ} (u : List ℕ) (p : Writes a b s) → Flushes b c → c.broken ≡ true → u ≡ s
-    → (w : BreaksWithin a c u) × (w.part ≡ p.part) × (a.broken ≡ true → w.part ≡ 0)
-breaks_flushed {a} {b} {c} {s} u p flushed broken e = subst (λ u. (w : BreaksWithin a c u) × (w.part ≡ p.part) × (a.broken ≡ true → w.part ≡ 0)) (sym e) (
-  record {
-    part = p.part;
-    within = p.within;
-    appended = Appends-kept a.known b.known c.known (take p.part s) p.appended flushed.kept;
-    counted = flushed.counted ∙ p.counted;
-    broken = broken;
-  },
-  refl,
-  λ h. (p.after_fault h).0,
-)
-
--- ---- one line
-
-pub blank_line : (s : State) (line : List ℕ) → without_return line ≡ [] → step_line s line ≡ accepted s []
-blank_line s line blank = ap (step_text s line) blank
-
-text_read : (s : State) (line text : List ℕ) → text ≢ [] → step_text s line text ≡ step_reading s (command_of line)
-text_read s line [] some = absurd (some refl)
-text_read s line (b ∷ text) some = refl
-
-pub some_line : (line : List ℕ) (blank : Bool) → (without_return line ≡ [] → blank ≡ true) → blank ≡ false → without_return line ≢ []
-some_line line blank is_blank not_blank = λ none. let bad : true ≡ false = sym (is_blank none) ∙ not_blank in (cc)
-
--- a line that is not blank is carried out as it is read
-pub line_read : (s : State) (line : List ℕ) (reading : Result Command words.Cause) → without_return line ≢ [] → command_of line ≡ reading → step_line s line ≡ step_reading s reading
-line_read s line reading some is = text_read s line (without_return line) some ∙ ap (step_reading s) is
-
-long_is_some : (line : List ℕ) → LINE_LIMIT < length line → without_return line ≢ []
-long_is_some line long = λ blank.
-    elim (cases_Bool (slice_index line (length line - 1) == 13)) [
-      | inl e ↦
-          let front : take (length line - 1) line ≡ [] = sym (cond-true _ _ _ e) ∙ blank in
-          let none : length (take (length line - 1) line) ≡ 0 = ap length front in
-          absurd (omega (arith, none, long, length-take (length line - 1) line))
-      | inr e ↦
-          let all : line ≡ [] = sym (cond-false _ _ _ e) ∙ blank in
-          let none : length line ≡ 0 = ap length all in
-          absurd (omega (arith, none, long))
-    ]
-
-pub long_line : (s : State) (line : List ℕ) → LINE_LIMIT < length line → step_line s line ≡ refused s LineTooLong
-long_line s line long = line_read s line (Err words.LineTooLong) (long_is_some line long) (too_long line long)
-
--- what a session shows after a line
-pub blank_shown : (s : Shown) (line : List ℕ) → without_return line ≡ [] → shown_line s line ≡ s
-blank_shown s line blank = ap (λ (text : List ℕ). record { state = (step_text s.state line text).state; renewed = renewed_text s line text }) blank
-
-text_shown : (s : Shown) (line text : List ℕ) → text ≢ [] → renewed_text s line text ≡ renewed_reading s (command_of line)
-text_shown s line [] some = absurd (some refl)
-text_shown s line (b ∷ text) some = refl
-
-pub line_shown : (s : Shown) (line : List ℕ) (reading : Result Command words.Cause) → without_return line ≢ [] → command_of line ≡ reading
-    → shown_line s line ≡ record { state = (step_reading s.state reading).state; renewed = renewed_reading s reading }
-line_shown s line reading some is =
-    let state = ap (λ (o : Outcome). o.state) (line_read s.state line reading some is) in
-    let count = text_shown s line (without_return line) some ∙ ap (renewed_reading s) is in
-    rw (state, count) refl
-
-pub long_shown : (s : Shown) (line : List ℕ) → LINE_LIMIT < length line → shown_line s line ≡ s
-long_shown s line long = line_shown s line (Err words.LineTooLong) (long_is_some line long) (too_long line long)
-
--- a line that is no command is refused by its cause, and changes nothing
-pub bad_line : (s : State) (line : List ℕ) (why : BadLine) → without_return line ≢ [] → command_of line ≡ Err (cause_meant why) → step_line s line ≡ refused s (cause_of why)
-bad_line s line bad.BadCommand some is = line_read s line (Err words.BadCommand) some is
-bad_line s line bad.LineTooLong some is = line_read s line (Err words.LineTooLong) some is
-
-pub bad_shown : (s : Shown) (line : List ℕ) (why : BadLine) → without_return line ≢ [] → command_of line ≡ Err (cause_meant why) → shown_line s line ≡ s
-bad_shown s line bad.BadCommand some is = line_shown s line (Err words.BadCommand) some is
-bad_shown s line bad.LineTooLong some is = line_shown s line (Err words.LineTooLong) some is
+use Rattle.session_steps.proofs.FlushLemmas.{breaks_flushed, flushes_none, sound_before, writes_flushed}
 
 -- ---- lines, one after the other
 
@@ -579,8 +476,15 @@ finishes_known start now pen new end (Some xs) (Some ys) h =
     let same = outcome_of_all start xs h.script ys end h.consumed h.end_is h.at_end in
     (h.end_is ∙ sym (ap (λ (o : ScriptOutcome). o.end) same), h.shown ∙ sym (ap (λ (o : ScriptOutcome). o.shown) same), subst (Appends pen.known new.known) (sym (ap (λ (o : ScriptOutcome). o.text) same)) (appended_whole h.text h.sound))
 
+state_after : (shown : Shown) (lines : List (List ℕ)) → (shown_after_lines shown lines).state ≡ after_lines shown.state lines
+state_after shown [] = refl
+state_after shown (line ∷ lines) = state_after (shown_line shown line) lines
+
 pub runs_known : (start now : Shown) (pen new : Pen) (result : Result End RunFault) (reader left : Option (List ℕ)) → Runs start pen reader result now new left
-    → IfSome reader (λ script. IfOk result (λ end. (end ≡ (outcome_of start script).end) × (now ≡ (outcome_of start script).shown) × Appends pen.known new.known (outcome_of start script).text))
-runs_known start now pen new (Ok end) reader left h = finishes_known start now pen new end reader left h
+    → IfSome reader (λ script. IfOk result (λ end. (end ≡ end_of script) × (now.state ≡ after_lines start.state (lines_run script)) × Appends pen.known new.known (text_of_script start.state script)))
+runs_known start now pen new (Ok end) None left h = tt
+runs_known start now pen new (Ok end) (Some xs) left h =
+    let known = finishes_known start now pen new end (Some xs) left h in
+    (known.0, ap (λ (shown : Shown). shown.state) known.1 ∙ state_after start (lines_run xs), known.2)
 runs_known start now pen new (Err e) None left h = tt
 runs_known start now pen new (Err e) (Some xs) left h = tt

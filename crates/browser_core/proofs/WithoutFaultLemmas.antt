@@ -17,9 +17,10 @@ use Rattle.hii_varstore.specs.Image.{SpellsImage}
 use Rattle.hii_varstore.specs.StoreNodes.{IsStoreFault}
 use Rattle.hii_varstore.specs.Faults.{IsImageFault}
 use Rattle.hii_questions.specs.Faults.{IsQuestionFault}
-use Rattle.browser_core.specs.Opening.{layout_in, IsSourceFault, IsTextFault, IsFormSetFault, IsBrowsingFault, IsOpenFault, AreGood}
-use Rattle.browser_core.specs.code.Browsable.{IsBrowsable}
-use Rattle.browser_core.proofs.OpeningLemmas.{source_bytes, spelled_pieces, good_where_browsable}
+use Rattle.session_steps.specs.Opening.{layout_in, IsSourceFault, IsTextFault, IsFormSetFault, IsBrowsingFault, IsOpenFault, AreGood}
+use Rattle.session_steps.specs.code.Browsable.{IsBrowsable}
+use Rattle.browser_commands.proofs.OpeningLemmas.{good_where_browsable}
+use Rattle.session_steps.proofs.SourceLemmas.{source_bytes, spelled_pieces}
 
 -- ---- two parts without a fault
 

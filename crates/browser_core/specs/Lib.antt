@@ -1,9 +1,5 @@
-pub mod State
-pub mod Texts
-pub mod Configuration
-pub mod Step
-pub mod Renewed
-pub mod Run
+pub mod Shown
 pub mod Opening
+pub mod Run
 pub mod code
 pub mod laws

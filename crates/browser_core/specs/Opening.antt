@@ -1,101 +1,27 @@
--- Which bytes open a session, and with which faults they do not (own rule).
-use Rattle.std.specs.Prelude.{◌≡◌, ℕ, List, [], ◌∷◌, drop, filter, Option, Some, None}
-use Rattle.hii_bytes.specs.Faults.{Then}
-use Rattle.hii_bytes.specs.declared.cause.Cause.{Cause}
-use Rattle.hii_packages.specs.Packages.{Entry, SpellsPackages, pieces_of, nth_forms, device_path_of}
-use Rattle.hii_packages.specs.Faults.{IsListFault, IsFormsFault}
-use Rattle.hii_languages.specs.Languages.{Spoken, string_packages, AreSpoken, IsStringsFault, chosen}
-use Rattle.ifr_opcodes.specs.Forest.{places}
-use Rattle.form_sets.specs.Packages.{IsGoodPackage}
-use Rattle.ifr_scopes.specs.Accepted.{IsPackageFault}
-use Rattle.ifr_scopes.specs.Nodes.{nodes_of, is_form}
-use Rattle.hii_varstore.specs.Layout.{Shape}
-use Rattle.hii_varstore.specs.Stores.{StoreMap}
-use Rattle.hii_varstore.specs.StoreNodes.{layout_of, IsStoreFault}
-use Rattle.hii_varstore.specs.Image.{SpellsImage}
-use Rattle.hii_varstore.specs.Faults.{IsImageFault}
-use Rattle.hii_questions.specs.Faults.{IsQuestionFault}
-use Rattle.guard_policy.specs.World.{removed_at}
-use Rattle.browser_core.specs.State.{State}
+-- Which bytes open a session, and by which fault others are refused (own rule).
+use Rattle.std.specs.Prelude.{◌≡◌, ◌⊎◌, ℕ, List, []}
+use Rattle.hii_bytes.specs.declared.cause.Cause.TheVariants.{OutOfMemory}
+use Rattle.hii_bytes.specs.declared.cause.Fault.{Fault}
+use Rattle.browser_rules.specs.Faults.{IsLeast, open_faults}
+use Rattle.browser_rules.specs.Forest.{nodes_of}
+use Rattle.browser_rules.specs.Headline.{start}
+use Rattle.browser_rules.specs.Packages.{forms_bytes}
+use Rattle.browser_rules.specs.Session.{State}
+use Rattle.browser_rules.specs.Stores.{Stores, SpellsImage, shape_of}
+use Rattle.rules_laws.specs.Causes.{fault_for}
 
--- the bytes of a package, none where it is not there
-abbrev pub bytes_or_none : Option Entry → List ℕ
-bytes_or_none None = []
-bytes_or_none (Some source) = source.bytes
+-- The bytes have no fault, and a session begins over the stores that the image spells.
+pub record Opens (list : List ℕ) (n : ℕ) (image language : List ℕ) (begun : State) : Type 0 where
+  pub stores : Stores
+  pub sound : open_faults list n image ≡ []
+  pub spelled : SpellsImage (shape_of (nodes_of (forms_bytes list n))) image stores
+  pub begins : begun ≡ start list n language stores
 
--- the bytes of the forms package of a number, or none (UEFI 2.8, 33.3.1: a list's packages stand behind its header of 20 bytes)
-unfoldable pub forms_bytes : List ℕ → ℕ → List ℕ
-forms_bytes list n = bytes_or_none (nth_forms (pieces_of (drop 20 list)) n)
+-- An allocation failed.
+abbrev pub IsOfMemory : Fault → Type 0
+IsOfMemory fault = fault ≡ record { cause = OutOfMemory; place = 0 }
 
--- The list spells packages, and this is its forms package of the number.
-abbrev pub HasSource : List ℕ → ℕ → Entry → Type 0
-HasSource list n source =
-    (packages : List (List ℕ)) × SpellsPackages list packages × (nth_forms packages n ≡ Some source)
-
--- The list spells packages, and its string packages say this.
-abbrev pub HasTexts : List ℕ → List Spoken → Type 0
-HasTexts list spoken =
-    (packages : List (List ℕ)) × SpellsPackages list packages
-    × AreSpoken (string_packages packages) spoken
-
--- The list spells packages, and this is its device path.
-abbrev pub HasPath : List ℕ → List ℕ → Type 0
-HasPath list path =
-    (packages : List (List ℕ)) × SpellsPackages list packages × (path ≡ device_path_of packages)
-
--- the faults of the string packages of a list, in their order
-abbrev pub IsTextFault : List ℕ → Cause → ℕ → Type 0
-IsTextFault list = IsStringsFault (string_packages (pieces_of (drop 20 list)))
-
--- the stores that a package declares
-abbrev pub layout_in : List ℕ → Shape
-layout_in ifr = layout_of (nodes_of ifr)
-
--- the faults of a list's packages, then that there is no forms package of the number
-abbrev pub IsSourceFault : List ℕ → ℕ → Cause → ℕ → Type 0
-IsSourceFault list n = Then (IsListFault list) (IsFormsFault list n)
-
--- the faults of a forms package, then of its stores, then of its questions
-abbrev pub IsFormSetFault : List ℕ → Cause → ℕ → Type 0
-IsFormSetFault ifr =
-    Then (IsPackageFault ifr) (Then (IsStoreFault (nodes_of ifr)) (IsQuestionFault (nodes_of ifr)))
-
--- the faults of a forms package, then of the image of its stores
-abbrev pub IsBrowsingFault : List ℕ → List ℕ → Cause → ℕ → Type 0
-IsBrowsingFault ifr image = Then (IsFormSetFault ifr) (IsImageFault (layout_in ifr) image)
-
--- The faults of a session's bytes: of the list, then of its string packages, then of the forms package of the number, then
--- of the image of its stores.
-abbrev pub IsOpenFault : List ℕ → ℕ → List ℕ → Cause → ℕ → Type 0
-IsOpenFault list n image =
-    Then (IsSourceFault list n)
-    (Then (IsTextFault list) (IsBrowsingFault (forms_bytes list n) image))
-
--- What the bytes are that open a session in any language: the list spells packages, among them a good forms package of the
--- number, its string packages say texts, and the image spells the stores that the forms package declares.
-pub record AreGood (list : List ℕ) (n : ℕ) (image : List ℕ) : Type 0 where
-  pub source : Entry
-  pub found : HasSource list n source
-  pub spoken : List Spoken
-  pub texts : HasTexts list spoken
-  pub good : IsGoodPackage source.bytes
-  pub stores : StoreMap
-  pub image_is : SpellsImage (layout_in source.bytes) image stores
-
--- The list spells packages, among them a good forms package of the number; its string packages say texts, of which those for the
--- language are shown; the image spells its stores, with which a session begins, at the first form; the DISABLE_IFs that hold over
--- these stores are removed.
-pub record Opens (list : List ℕ) (n : ℕ) (image language : List ℕ) (start : State) : Type 0 where
-  pub source : Entry
-  pub found : HasSource list n source
-  pub bytes : start.ifr ≡ source.bytes
-  pub path : HasPath list start.path
-  pub texts : HasTexts list start.spoken
-  pub language_is : start.language ≡ chosen start.spoken language
-  pub good : IsGoodPackage start.ifr
-  pub stores : SpellsImage (layout_in start.ifr) image start.working
-  pub submitted : start.committed ≡ start.working
-  pub removed : start.removed ≡ removed_at (nodes_of start.ifr) start.working
-  pub others : List ℕ
-  pub forms : places (filter is_form (nodes_of start.ifr)) ≡ start.form ∷ others
-  pub history : start.history ≡ []
+-- An allocation failed, or the fault is the least one of these bytes.
+abbrev pub RefusesOpening : List ℕ → ℕ → List ℕ → Fault → Type 0
+RefusesOpening list n image fault =
+    IsOfMemory fault ⊎ IsLeast (open_faults list n image) (fault_for fault.cause fault.place)

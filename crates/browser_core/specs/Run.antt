@@ -2,15 +2,14 @@
 use Rattle.std.specs.Prelude.{◌≡◌, ℕ, ◌+◌, ◌-◌, ◌<◌, ◌≤◌, ◌⊎◌, true, false, List, [], ◌∷◌, ◌++◌, length, take, if◌then◌else◌, Option, Result, Ok, Err}
 use Rattle.std.specs.Io.KnownBytes.{Consumes, IsAtEnd}
 use Rattle.hii_bytes.specs.Watching.{Pen, Writes, BreaksWithin}
-use Rattle.hii_bytes.specs.declared.cause.Cause.TheVariants.{ScriptTooLong}
 use Rattle.browser_rules.specs.Script.{SCRIPT_LIMIT, cut_lines, is_too_long, lines_run}
-use Rattle.browser_core.specs.Renewed.{Shown, shown_line}
-use Rattle.browser_core.specs.Step.{step_line}
-use Rattle.browser_core.specs.Texts.{refused_text}
-use Rattle.browser_core.specs.declared.reply.End.{End}
-use Rattle.browser_core.specs.declared.reply.End.TheVariants.{Done, TooLong}
-use Rattle.browser_core.specs.declared.reply.RunFault.{RunFault}
-use Rattle.browser_core.specs.declared.reply.RunFault.TheVariants.{Read, Write}
+use Rattle.browser_rules.specs.Headline.{text_of_lines, text_of_script}
+use Rattle.browser_rules.specs.Words.{ScriptTooLong, refused_text}
+use Rattle.browser_core.specs.Shown.{Shown, shown_line}
+use Rattle.session_steps.specs.declared.reply.End.{End}
+use Rattle.session_steps.specs.declared.reply.End.TheVariants.{Done, TooLong}
+use Rattle.session_steps.specs.declared.reply.RunFault.{RunFault}
+use Rattle.session_steps.specs.declared.reply.RunFault.TheVariants.{Read, Write}
 
 -- what a session shows after these lines
 abbrev pub shown_after_lines : Shown → List (List ℕ) → Shown
@@ -19,13 +18,14 @@ shown_after_lines shown (line ∷ lines) = shown_after_lines (shown_line shown l
 
 -- the texts of these lines, one after the other
 abbrev pub text_of : Shown → List (List ℕ) → List ℕ
-text_of shown [] = []
-text_of shown (line ∷ lines) =
-    (step_line shown.state line).text ++ text_of (shown_line shown line) lines
+text_of shown lines = text_of_lines shown.state lines
 
 -- how a script that is too long is answered, after its lines
 abbrev pub too_long_text : List ℕ
 too_long_text = refused_text ScriptTooLong
+
+abbrev pub end_of : List ℕ → End
+end_of script = if is_too_long script then TooLong else Done
 
 -- what a script leaves, writes and ends with
 pub record ScriptOutcome : Type 0 where
@@ -36,8 +36,8 @@ pub record ScriptOutcome : Type 0 where
 abbrev pub outcome_of : Shown → List ℕ → ScriptOutcome
 outcome_of s script = record {
   shown = shown_after_lines s (lines_run script);
-  text = text_of s (lines_run script) ++ (if is_too_long script then too_long_text else []);
-  end = if is_too_long script then TooLong else Done;
+  text = text_of_script s.state script;
+  end = end_of script;
 }
 
 -- ---- how soon lines are carried out

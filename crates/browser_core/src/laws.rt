@@ -4,19 +4,19 @@ ghost use Rattle.std.specs.Prelude.{◌≡◌, ◌≢◌, ℕ, List};
 ghost use Rattle.hii_bytes.specs.Faults.{HasNone};
 ghost use Rattle.browser_rules.specs.Script.{Command};
 ghost use Rattle.browser_core.specs.laws.Bytes.{ChangesNamedBytesAlone, KeepsOtherBytes};
-ghost use Rattle.browser_core.specs.Opening.{AreGood, Opens, IsOpenFault};
+ghost use Rattle.session_steps.specs.Opening.{AreGood, Opens, IsOpenFault};
 ghost use Rattle.browser_core.specs.laws.Sealed.{DecidingHasAll, DecidingHasNoOthers, SealedQuestionsAnswerAlike, SessionsAreLaid};
-ghost use Rattle.browser_core.specs.Renewed.{opened};
-ghost use Rattle.browser_core.specs.Run.{outcome_of};
-ghost use Rattle.browser_core.specs.State.{State};
-ghost use Rattle.browser_core.specs.Step.{step, step_line};
+ghost use Rattle.browser_rules.specs.Session as chapter;
+ghost use Rattle.browser_core.specs.Opening as rules;
+ghost use Rattle.session_steps.specs.State.{State};
+ghost use Rattle.session_steps.specs.Step.{step, step_line};
 
-use crate::reply::Reply;
 use hii_languages::laws::packages_without_fault_speak;
 use hii_packages::PackageList;
 use hii_packages::laws::spelled_bytes_have_no_fault;
 use hii_varstore::laws::images_without_fault_are_spelled;
 use ifr_scopes::laws::bytes_without_framing_fault_are_spelled;
+use session_steps::Reply;
 
 /// Good bytes have no fault.
 pub fn good_bytes_have_no_fault()
@@ -63,13 +63,12 @@ pub fn bytes_without_fault_open(list: &[u8], forms: usize, image: &[u8], languag
     good_bytes_open();
 }
 
-/// Bytes open one state at most, so a script has one outcome over them.
+/// Bytes open one state at most, by the code's words and by the chapters, so a script has one outcome over them.
 pub fn bytes_open_one_state()
     ensures state { (list : List ℕ) (n : ℕ) (image language : List ℕ) (a b : State)
         → Opens list n image language a → Opens list n image language b → a ≡ b }
-    ensures outcome { (list : List ℕ) (n : ℕ) (image language script : List ℕ) (a b : State)
-        → Opens list n image language a → Opens list n image language b
-        → outcome_of (opened a) script ≡ outcome_of (opened b) script }
+    ensures begun { (list : List ℕ) (n : ℕ) (image language : List ℕ) (a b : chapter.State)
+        → rules.Opens list n image language a → rules.Opens list n image language b → a ≡ b }
 {}
 
 /// A command or a line that is not carried out changes nothing.

@@ -3,19 +3,17 @@
 ghost use Rattle.std.specs.Prelude.{◌≡◌, ◌++◌, ℕ, List, length, IfOk, OnOk, IsErr, true, false, not, Err, is_err};
 ghost use Rattle.std.specs.Io.{ReadsAtMost};
 ghost use Rattle.std.specs.Io.KnownBytes.{ReadConsumes};
-ghost use Rattle.hii_bytes.specs.Watching.{Pen, pen_of, inner_of, has_failed, has_passed_on, Puts, Flushes};
-ghost use Rattle.hii_commands.specs.code.Held.{held_of};
+ghost use Rattle.hii_bytes.specs.Watching.{Pen, pen_of, inner_of, has_failed, has_passed_on, Flushes};
 ghost use Rattle.hii_commands.specs.code.Lines.{whole_lines};
-ghost use Rattle.browser_core.specs.Renewed.{Shown, shown_line};
-ghost use Rattle.browser_core.specs.Step.{step_line};
+ghost use Rattle.browser_core.specs.Shown.{Shown};
 ghost use Rattle.browser_core.specs.Run.{Runs, StopsAtLine};
 ghost use Rattle.browser_core.specs.code.Reading.{Stands};
 
-use crate::browser::Core;
-use crate::reply::{End, RunFault};
-use crate::texts::put_refusal;
+use crate::browsed::Browsed;
+use browser_commands::put_refusal;
 use hii_bytes::{Cause, Watched};
-use hii_commands::{LineBuffer, SCRIPT_LIMIT, is_blank, read_line};
+use hii_commands::{LineBuffer, SCRIPT_LIMIT};
+use session_steps::{End, RunFault};
 use std::io;
 use std::io::{Read, Write};
 
@@ -28,7 +26,7 @@ const PIECE: usize = 512;
 /// Runs the lines of a script. A line that is not empty at the script's end needs no LF. The answers are passed on before
 /// each read and at the end.
 pub(crate) fn run_all<R: Read, W: Write>(
-    core: &mut Core<'_>,
+    core: &mut Browsed<'_>,
     line: &mut LineBuffer,
     script: &mut Watched<R>,
     out: &mut Watched<W>,
@@ -55,7 +53,7 @@ pub(crate) fn run_all<R: Read, W: Write>(
             return Err(RunFault::Read);
         };
         if n == 0 {
-            run_line(core, line, out);
+            core.run_line(line, out);
             return if passes_on(out) {
                 Ok(End::Done)
             } else {
@@ -104,7 +102,7 @@ fn read_piece<R: Read, W: Write>(
 
 // Feeds the piece, and runs each line that it ends, unless the writer fails.
 fn run_piece<W: Write>(
-    core: &mut Core<'_>,
+    core: &mut Browsed<'_>,
     line: &mut LineBuffer,
     piece: &[u8],
     out: &mut Watched<W>,
@@ -124,40 +122,11 @@ fn run_piece<W: Write>(
         let fed = line.feed(rest);
         rest = &rest[fed.taken..];
         if fed.complete {
-            run_line(core, line, out);
+            core.run_line(line, out);
             line.clear();
             if out.failed() {
                 return;
             }
         }
-    }
-}
-
-// Runs the line that is held.
-fn run_line<W: Write>(core: &mut Core<'_>, line: &LineBuffer, out: &mut Watched<W>)
-    ensures shown { (bytes : List ℕ) → line.now ≡ held_of bytes
-        → core.new ≡ shown_line core.old bytes }
-    ensures text { (bytes : List ℕ) → line.now ≡ held_of bytes
-        → Puts W.contents out.old out.new (step_line core.old.state bytes).text }
-{
-    match line.line() {
-        Ok(bytes) => run_bytes(core, bytes, out),
-        Err(bad) => put_refusal(bad.cause(), out),
-    }
-}
-
-// Runs a line, of which nothing is done where it is blank.
-fn run_bytes<W: Write>(core: &mut Core<'_>, line: &[u8], out: &mut Watched<W>)
-    ensures shown { core.new ≡ shown_line core.old line.now }
-    ensures text { Puts W.contents out.old out.new (step_line core.old.state line.now).text }
-{
-    if is_blank(line) {
-        return;
-    }
-    match read_line(line) {
-        Ok(command) => {
-            core.carry_out(command, out);
-        }
-        Err(bad) => put_refusal(bad.cause(), out),
     }
 }

@@ -1,32 +1,42 @@
 //! A session over a package list and the image of its stores.
 
-ghost use Rattle.std.specs.Prelude.{◌≡◌, true, false, Err, Some, IfOk, IfErr, IfSome, OnOk};
+ghost use Rattle.std.specs.Prelude.{◌≡◌, [], true, false, Err, Some, IfOk, IfErr, IfSome, OnOk};
 ghost use Rattle.std.specs.Io.KnownBytes.{Appends};
-ghost use Rattle.hii_bytes.specs.Faults.{Refuses, out_of_memory};
+ghost use Rattle.browser_rules.specs.Faults.{open_faults};
+ghost use Rattle.browser_rules.specs.Forest.{nodes_of};
+ghost use Rattle.browser_rules.specs.Headline.{after_lines, text_of_script};
+ghost use Rattle.browser_rules.specs.Script as script;
+ghost use Rattle.browser_rules.specs.Script.{lines_run};
+ghost use Rattle.browser_rules.specs.Session.{step};
+ghost use Rattle.browser_rules.specs.Stores as stores;
 ghost use Rattle.hii_bytes.specs.Watching.{pen_of, inner_of, has_failed, has_passed_on, Tells};
 ghost use Rattle.hii_commands.specs.Meaning.{command_meant, HasList};
 ghost use Rattle.hii_languages.specs.code.Views.{choice_of};
-ghost use Rattle.ifr_scopes.specs.Nodes.{nodes_of};
-ghost use Rattle.ifr_scopes.specs.code.Lists.{form_node};
-ghost use Rattle.hii_varstore.specs.Stores.{shape_of};
 ghost use Rattle.hii_questions.specs.Fields.{questions};
 ghost use Rattle.hii_questions.specs.code.LyingIn.{LieIn};
+ghost use Rattle.hii_varstore.specs.Image.{image_of};
+ghost use Rattle.hii_varstore.specs.Stores.{shape_of};
+ghost use Rattle.ifr_scopes.specs.code.Lists.{form_node};
 ghost use Rattle.guard_policy.specs.code.Views.{bytes_of};
+ghost use Rattle.form_page.specs.Pages.{page_text};
 ghost use Rattle.form_page.specs.code.PageViews as pages;
-ghost use Rattle.browser_core.specs.Renewed.{shown_after};
-ghost use Rattle.browser_core.specs.State.{State, texts, world_of};
-ghost use Rattle.browser_core.specs.Step.{form_of, step};
-ghost use Rattle.browser_core.specs.Opening.{Opens, IsOpenFault};
-ghost use Rattle.browser_core.specs.Run.{Runs, outcome_of};
+ghost use Rattle.rules_laws.specs.laws.Stores.{stores_for};
+ghost use Rattle.session_steps.specs.State.{State, texts, world_of};
+ghost use Rattle.session_steps.specs.Step.{form_of};
+ghost use Rattle.session_laws.specs.laws.Session.{state_for};
+ghost use Rattle.session_laws.specs.Replies.{reply_for};
+ghost use Rattle.browser_core.specs.Opening.{IsOfMemory, Opens, RefusesOpening};
+ghost use Rattle.browser_core.specs.Run.{Runs, end_of};
+ghost use Rattle.browser_core.specs.Shown.{shown_after};
 
-use crate::browser::Core;
-use crate::reply::{End, Reply, RunFault};
+use crate::browsed::Browsed;
 use crate::script::run_all;
 use form_page::Page;
 use hii_bytes::{Fault, Watched, WriteFault};
 use hii_commands::{Command, LineBuffer};
 use hii_varstore::Stores;
 use kept_conditions::Kept;
+use session_steps::{End, Reply, RunFault};
 use std::alloc::Global;
 use std::io::{Read, Write};
 use std::marker::Model;
@@ -35,12 +45,12 @@ use std::marker::Model;
 /// current form.
 #[derive(Drop)]
 pub struct Session<'a> {
-    core: Core<'a>,
+    core: Browsed<'a>,
     line: LineBuffer,
 }
 
 impl<'a> Model for Session<'a> {
-    ghost use Rattle.browser_core.specs.Renewed.{Shown};
+    ghost use Rattle.browser_core.specs.Shown.{Shown};
 
     ghost Value = { Shown };
 
@@ -59,26 +69,29 @@ impl<'a> Session<'a> {
     ) -> Result<Session<'a>, Fault>
         ensures opened { IfOk result (λ session. Opens list.entry.now forms stores.now lang.now
             session.state × (session.renewed ≡ 0)) }
-        ensures refused { IfErr result (Refuses (IsOpenFault list.entry.now forms stores.now)) }
-        // Where the bytes open a session, nothing but an allocation that fails refuses it.
-        ensures accepted { (start : State) → Opens list.entry.now forms stores.now lang.now start
-            → IfErr result (λ fault. fault ≡ out_of_memory) }
+        ensures refused { IfErr result (RefusesOpening list.entry.now forms stores.now) }
+        // Where the bytes have no fault, nothing but an allocation that fails refuses them.
+        ensures accepted { open_faults list.entry.now forms stores.now ≡ []
+            → IfErr result IsOfMemory }
     {
-        let core = Core::open(alloc, list, forms, stores, lang)?;
+        let core = Browsed::open(alloc, list, forms, stores, lang)?;
         let line = LineBuffer::new(alloc)?;
         Ok(Session { core, line })
     }
 
     /// The stores as they were last submitted, or opened.
     pub fn committed(&self) -> &Stores
-        ensures { result.now ≡ self.now.state.committed }
+        ensures held { stores_for result.now ≡ self.now.state.committed }
+        ensures image { image_of result.now
+            ≡ stores.image_of (stores.shape_of (nodes_of self.now.state.ifr)).guid
+            self.now.state.committed }
     {
         self.core.committed()
     }
 
     /// The stores that commands read and change.
     pub fn working(&self) -> &Stores
-        ensures { result.now ≡ self.now.state.working }
+        ensures { stores_for result.now ≡ self.now.state.working }
     {
         self.core.working()
     }
@@ -93,15 +106,18 @@ impl<'a> Session<'a> {
 
     /// The page of the current form over the working stores.
     pub fn page(&self) -> Page<'a, '_, Kept<'a>>
-        ensures form { form_of self.now.state ≡ Some (form_node result.form) }
-        ensures bytes { bytes_of result.policy ≡ self.now.state.ifr }
-        ensures world { pages.world_of result ≡ world_of self.now.state }
-        ensures stores { result.stores.now ≡ self.now.state.working }
-        ensures texts { pages.texts_of result ≡ texts self.now.state }
-        ensures spoken { result.languages.now ≡ self.now.state.spoken }
-        ensures language { choice_of result.choice ≡ self.now.state.language }
-        ensures fields { LieIn (shape_of self.now.state.working)
-            (questions (nodes_of self.now.state.ifr)) }
+        ensures text { page_text (pages.texts_of result) (pages.world_of result) result.stores.now
+            (form_node result.form)
+            ≡ (step self.now.state script.Page).text }
+        ensures shows { (s : State) × (self.now.state ≡ state_for s)
+            × (form_of s ≡ Some (form_node result.form))
+            × (bytes_of result.policy ≡ s.ifr)
+            × (pages.world_of result ≡ world_of s)
+            × (result.stores.now ≡ s.working)
+            × (pages.texts_of result ≡ texts s)
+            × (result.languages.now ≡ s.spoken)
+            × (choice_of result.choice ≡ s.language)
+            × LieIn (shape_of s.working) (questions (nodes_of s.ifr)) }
     {
         self.core.page()
     }
@@ -117,7 +133,7 @@ impl<'a> Session<'a> {
         ensures shown { self.new ≡ shown_after self.old (command_meant command.entry) }
         ensures text { Tells (pen_of W.contents out.old) (pen_of W.contents out.new) result
             (step self.old.state (command_meant command.entry)).text }
-        ensures reply { IfOk result (λ reply. reply
+        ensures reply { IfOk result (λ reply. reply_for reply
             ≡ (step self.old.state (command_meant command.entry)).reply) }
     {
         out.restart();
@@ -139,9 +155,9 @@ impl<'a> Session<'a> {
     ) -> Result<End, RunFault>
         // The whole run, where the script's bytes are known.
         ensures whole { IfSome (R.remaining (inner_of script.old)) (λ bytes. IfOk result (λ end.
-            (end ≡ (outcome_of self.old bytes).end) × (self.new ≡ (outcome_of self.old bytes).shown)
+            (end ≡ end_of bytes) × (self.new.state ≡ after_lines self.old.state (lines_run bytes))
             × Appends (W.contents (inner_of out.old)) (W.contents (inner_of out.new))
-            (outcome_of self.old bytes).text)) }
+            (text_of_script self.old.state bytes))) }
         // At any reader and writer, and at their faults.
         ensures run { Runs self.old (pen_of W.contents out.old)
             (R.remaining (inner_of script.old)) result

@@ -11,7 +11,8 @@ use Rattle.ifr_opcodes.specs.Forest.{Node}
 use Rattle.ifr_scopes.specs.References.{Ranked, ranked}
 use Rattle.browser_rules.specs.Words as chapter
 use Rattle.browser_rules.specs.Faults.{Fault, fault_if, ranked as chapter_ranked}
-use Rattle.rules_laws.specs.laws.Faults.{cause_for, AreFaults}
+use Rattle.rules_laws.specs.laws.Faults.{AreFaults}
+use Rattle.rules_laws.specs.Causes.{cause_for}
 use Rattle.rules_laws.proofs.PackageLemmas.{both_kinds, one_fault, no_faults}
 
 -- ---- one thing

@@ -20,4 +20,3 @@ pub mod PageLemmas
 pub mod ShapeFaultLemmas
 pub mod StructureFaultLemmas
 pub mod StructureLeastLemmas
-pub mod OpeningFaultLemmas

@@ -36,7 +36,8 @@ use Rattle.browser_rules.specs.Words as chapter
 use Rattle.browser_rules.specs.Words.{number_and_name}
 use Rattle.browser_rules.specs.Packages.{Package, is_bad, package_length, package_type, packages_from, packages_with, forms_package, forms_bytes, device_path}
 use Rattle.browser_rules.specs.Faults.{Fault, IsLeast, faults_of_packages, list_faults, number_faults, then_faults}
-use Rattle.rules_laws.specs.laws.Faults.{cause_for, fault_for, AreFaults}
+use Rattle.rules_laws.specs.laws.Faults.{AreFaults}
+use Rattle.rules_laws.specs.Causes.{cause_for, fault_for}
 use Rattle.rules_laws.specs.laws.Packages.{package_for}
 
 -- ---- causes

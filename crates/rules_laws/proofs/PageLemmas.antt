@@ -43,7 +43,8 @@ use Rattle.form_page.specs.RowValues.{checkbox_text, choice, choice_text, hex_di
 use Rattle.form_page.specs.Texts.{columns, columns_or, cut_to, in_columns, utf8, width}
 use Rattle.rules_laws.specs.laws.Opcodes.{value_for}
 use Rattle.rules_laws.specs.laws.Pages.{EachAnswersAlike}
-use Rattle.rules_laws.specs.laws.Policy.{AreAlike, denial_for}
+use Rattle.rules_laws.specs.laws.Policy.{AreAlike}
+use Rattle.rules_laws.specs.Denials.{denial_for}
 use Rattle.rules_laws.specs.laws.Stores.{stores_for}
 use Rattle.rules_laws.proofs.NodeLemmas.{is_question_same, options_same, statements_same}
 use Rattle.rules_laws.proofs.PolicyLemmas.{fixed_same, hidden_same, same_kept, same_find, none_same}

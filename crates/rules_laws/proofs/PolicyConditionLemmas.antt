@@ -10,6 +10,7 @@ use Rattle.browser_rules.specs.Nodes as rows
 use Rattle.browser_rules.specs.Opcodes.{field, is_the, FORM, RULE}
 use Rattle.browser_rules.specs.Opcodes as table
 use Rattle.browser_rules.specs.Policy as decisions
+use Rattle.browser_rules.specs.Questions as questions
 use Rattle.browser_rules.specs.Stores.{Stores}
 use Rattle.browser_rules.specs.Values as values
 use Rattle.browser_rules.specs.Words.{last}
@@ -165,29 +166,41 @@ rule_meant bytes checked are n there =
     let found = rule_there (nodes_of bytes) n there in
     is_meant bytes n checked are found.0 (rule_wants (number n.op) found.1)
 
--- ---- whether a condition is met
+-- ---- the rules of a package, and the opcodes of a node's expression
 
-abbrev met_by : List chapter.Rule → (ℕ → values.Value) → ℕ → List chapter.Mark → Bool
-met_by rs told this marks = values.holds (chapter.value_of rs told this marks)
+pub rules_same : (bytes : List ℕ) → IsChecked bytes → AreBytes bytes → rows.rules_of (nodes_of bytes) ≡ map rule_for (rules_among (nodes_of bytes))
+rules_same bytes checked are = maps_same (rule_nodes (nodes_of bytes)) (rule_meant bytes checked are)
 
-met_same : (bytes removed : List ℕ) (stores : Stores) (held : StoreMap) → IsChecked bytes → AreBytes bytes → AnswerAlike (nodes_of bytes) stores held → (n : Node) → Contains (nodes_of bytes) n → table.wants_expression n.op ≡ true
-    → decisions.is_met (record { nodes = nodes_of bytes; removed = removed; stores = stores }) n ≡ is_met_over (nodes_of bytes) held n
-met_same bytes removed stores held checked are alike n within wants =
-    ap (λ (told : ℕ → values.Value). met_by (rows.rules_of (nodes_of bytes)) told (rows.this_of n) (rows.expression_of n)) (fun_ext alike.same)
-    ∙ ap (λ (rs : List chapter.Rule). met_by rs told (rows.this_of n) (rows.expression_of n)) (maps_same (rule_nodes (nodes_of bytes)) (rule_meant bytes checked are))
-    ∙ ap (λ (this : ℕ). met_by (map rule_for rs) told this (rows.expression_of n)) (this_same n)
-    ∙ ap (λ (marks : List chapter.Mark). met_by (map rule_for rs) told (this_of n) marks) m.opcodes
-    ∙ ap values.holds (value_same rs (answers (nodes_of bytes) held) (this_of n) (post (expression_tree n)) (expression_tree n) alike.small (are_good (rule_nodes (nodes_of bytes)) (rule_meant bytes checked are)) (record { spelled = refl; fitting = m.fitting }) m.of_bytes)
-    ∙ holds_same (value rs (answers (nodes_of bytes) held) (this_of n) (expression_tree n))
+pub expression_same : (bytes : List ℕ) (n : Node) → IsChecked bytes → AreBytes bytes → Contains (nodes_of bytes) n → wants_expression (number n.op) ≡ true
+    → rows.expression_of n ≡ map mark_for (post (expression_tree n))
+expression_same bytes n checked are within wants = (is_meant bytes n checked are within wants).opcodes
+
+-- ---- the value of a node's expression, and whether a condition is met
+
+pub meant_same : (bytes : List ℕ) (stores : Stores) (held : StoreMap) → IsChecked bytes → AreBytes bytes → AnswerAlike (nodes_of bytes) stores held → (this : ℕ) (n : Node) → Contains (nodes_of bytes) n
+    → wants_expression (number n.op) ≡ true
+    → chapter.value_of (rows.rules_of (nodes_of bytes)) (questions.answers (nodes_of bytes) stores) this (rows.expression_of n) ≡ value_for (value (rules_among (nodes_of bytes)) (answers (nodes_of bytes) held) this (expression_tree n))
+meant_same bytes stores held checked are alike this n within wants =
+    ap (λ (told : ℕ → values.Value). chapter.value_of (rows.rules_of (nodes_of bytes)) told this (rows.expression_of n)) (fun_ext alike.same)
+    ∙ ap (λ (rs : List chapter.Rule). chapter.value_of rs told this (rows.expression_of n)) (maps_same (rule_nodes (nodes_of bytes)) (rule_meant bytes checked are))
+    ∙ ap (λ (marks : List chapter.Mark). chapter.value_of (map rule_for rs) told this marks) m.opcodes
+    ∙ value_same rs (answers (nodes_of bytes) held) this (post (expression_tree n)) (expression_tree n) alike.small (are_good (rule_nodes (nodes_of bytes)) (rule_meant bytes checked are)) (record { spelled = refl; fitting = m.fitting }) m.of_bytes
   where
     m : IsMeant n
-    m = is_meant bytes n checked are within (sym (wanted_same (number n.op)) ∙ wants)
+    m = is_meant bytes n checked are within wants
 
     rs : List Rule
     rs = rules_among (nodes_of bytes)
 
     told : ℕ → values.Value
     told = λ id. value_for (answers (nodes_of bytes) held id)
+
+met_same : (bytes removed : List ℕ) (stores : Stores) (held : StoreMap) → IsChecked bytes → AreBytes bytes → AnswerAlike (nodes_of bytes) stores held → (n : Node) → Contains (nodes_of bytes) n → table.wants_expression n.op ≡ true
+    → decisions.is_met (record { nodes = nodes_of bytes; removed = removed; stores = stores }) n ≡ is_met_over (nodes_of bytes) held n
+met_same bytes removed stores held checked are alike n within wants =
+    ap (λ (this : ℕ). values.holds (chapter.value_of (rows.rules_of (nodes_of bytes)) (questions.answers (nodes_of bytes) stores) this (rows.expression_of n))) (this_same n)
+    ∙ ap values.holds (meant_same bytes stores held checked are alike (this_of n) n within (sym (wanted_same (number n.op)) ∙ wants))
+    ∙ holds_same (value (rules_among (nodes_of bytes)) (answers (nodes_of bytes) held) (this_of n) (expression_tree n))
 
 pub worlds_alike : (bytes removed : List ℕ) (stores : Stores) (held : StoreMap) → IsChecked bytes → AreBytes bytes → AnswerAlike (nodes_of bytes) stores held
     → AreAlike bytes (record { nodes = nodes_of bytes; removed = removed; stores = stores }) (world_over (nodes_of bytes) removed held)

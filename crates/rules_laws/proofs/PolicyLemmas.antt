@@ -36,8 +36,8 @@ use Rattle.guard_policy.specs.Policy as policy
 use Rattle.guard_policy.specs.Policy.{all_fixed, closed, denied_by, denies_submission, first_closed, fixed, fixed_itself, grays_out, hidden, hides, hiding, inconsistent, or_else, told, unsubmitted, warned}
 use Rattle.guard_policy.specs.World.{World, is_disabling, is_met_over, removed_at, world_over}
 use Rattle.guard_policy.specs.declared.denial.Denial.{Denial}
-use Rattle.rules_laws.specs.laws.Policy.{AreAlike, denial_for}
-use Rattle.rules_laws.specs.laws.Questions.{kind_for}
+use Rattle.rules_laws.specs.laws.Policy.{AreAlike}
+use Rattle.rules_laws.specs.Denials.{denial_for, kind_for}
 use Rattle.rules_laws.proofs.NodeLemmas.{guards_same, inconsistents_same, is_question_same, lock_same, options_same, same_filter, warnings_same}
 use Rattle.rules_laws.proofs.OpcodeScopeLemmas.{condition_same, guard_same}
 use Rattle.rules_laws.proofs.StoreLemmas.{size_of_same}
@@ -154,14 +154,14 @@ guard_there bytes n m within there =
     let kept = passing (λ (g : Node). is_guard (number g.op)) (nodes_on [] n.path) m there in
     (on_path (nodes_of bytes) [] n.path (path_nests bytes n within) m kept.0, kept.1)
 
-inside_there : (bytes : List ℕ) (test : Node → Bool) (q m : Node) → Contains (nodes_of bytes) q → Contains (rows.in_question test q) m → Contains (nodes_of bytes) m × (test m ≡ true)
+pub inside_there : (bytes : List ℕ) (test : Node → Bool) (q m : Node) → Contains (nodes_of bytes) q → Contains (rows.in_question test q) m → Contains (nodes_of bytes) m × (test m ≡ true)
 inside_there bytes test q m within there =
     let kept = passing test (below q) m there in
     (below_within (tree_of bytes) 4 [] q m within kept.0, kept.1)
 
 -- ---- denials
 
-or_same : (a b : Option Denial) → option_or (option_map denial_for a) (option_map denial_for b) ≡ option_map denial_for (or_else a b)
+pub or_same : (a b : Option Denial) → option_or (option_map denial_for a) (option_map denial_for b) ≡ option_map denial_for (or_else a b)
 or_same None b = refl
 or_same (Some d) b = refl
 

@@ -23,7 +23,8 @@ use Rattle.browser_rules.specs.Opcodes.{number_width}
 use Rattle.browser_rules.specs.Questions as chapter
 use Rattle.browser_rules.specs.Stores as stores
 use Rattle.browser_rules.specs.Words.{first, is_some_and}
-use Rattle.rules_laws.specs.laws.Faults.{cause_for, AreFaults}
+use Rattle.rules_laws.specs.laws.Faults.{AreFaults}
+use Rattle.rules_laws.specs.Causes.{cause_for}
 use Rattle.rules_laws.specs.laws.Questions.{field_for}
 use Rattle.rules_laws.proofs.FaultLemmas.{said_as, if_fault, either_kind, each_fault}
 use Rattle.rules_laws.proofs.NodeLemmas.{options_same, same_flat}

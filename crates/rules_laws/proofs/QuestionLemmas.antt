@@ -39,7 +39,8 @@ use Rattle.hii_questions.specs.declared.denial.DenialKind.{DenialKind}
 use Rattle.hii_questions.specs.declared.denial.DenialKind.TheVariants.{BadText, EmptySet, Length, NoOption, Range, Repeat}
 use Rattle.hii_questions.proofs.LawLemmas.{finds_questions, holds_fields}
 use Rattle.rules_laws.specs.laws.Opcodes.{value_for}
-use Rattle.rules_laws.specs.laws.Questions.{HoldsWhole, bytes_or_denial, kind_for, field_for, offer_for, type_for}
+use Rattle.rules_laws.specs.laws.Questions.{HoldsWhole, bytes_or_denial, field_for, offer_for, type_for}
+use Rattle.rules_laws.specs.Denials.{kind_for}
 use Rattle.rules_laws.specs.laws.Stores.{stores_for}
 use Rattle.rules_laws.proofs.NodeLemmas.{is_question_same, options_same, same_filter}
 use Rattle.rules_laws.proofs.StoreLemmas.{bytes_same, size_of_same, written_same}

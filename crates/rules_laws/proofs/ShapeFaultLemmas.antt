@@ -24,7 +24,8 @@ use Rattle.browser_rules.specs.Faults.{Fault, is_good_operator, operands, order_
 use Rattle.browser_rules.specs.Opcodes as chapter
 use Rattle.browser_rules.specs.Opcodes.{Sense, no_operator, leaf, one, two}
 use Rattle.browser_rules.specs.Words as words
-use Rattle.rules_laws.specs.laws.Faults.{fault_for, AreFaults}
+use Rattle.rules_laws.specs.laws.Faults.{AreFaults}
+use Rattle.rules_laws.specs.Causes.{fault_for}
 use Rattle.rules_laws.specs.laws.Opcodes.{mark_for}
 use Rattle.rules_laws.proofs.PackageLemmas.{one_fault, no_faults, where_same}
 use Rattle.ifr_opcodes.proofs.RowLemmas.{operator_same}

@@ -36,7 +36,8 @@ use Rattle.browser_rules.specs.Packages.{Package, packages_with}
 use Rattle.browser_rules.specs.Strings.{cut_text, cut_texts, front_of, texts_from, chosen, text_of, characters}
 use Rattle.browser_rules.specs.Strings as chapter
 use Rattle.browser_rules.specs.Faults.{Fault, IsLeast, list_faults, number_faults, string_faults, then_faults}
-use Rattle.rules_laws.specs.laws.Faults.{fault_for, AreFaults}
+use Rattle.rules_laws.specs.laws.Faults.{AreFaults}
+use Rattle.rules_laws.specs.Causes.{fault_for}
 use Rattle.rules_laws.specs.laws.Packages.{package_for}
 use Rattle.rules_laws.specs.laws.Strings.{spoken_for, added_by, front_with}
 use Rattle.rules_laws.proofs.PackageLemmas.{where_same, same_parts, both_kinds, same_none, same_least, one_fault, no_faults, packages_of_type, spelled_where_none, behind_source}

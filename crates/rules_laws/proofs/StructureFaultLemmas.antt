@@ -23,7 +23,8 @@ use Rattle.browser_rules.specs.Opcodes as chapter
 use Rattle.browser_rules.specs.Opcodes.{Class, of_nothing, is_a, is_the, an_operator, row_of, FORM_SET, VALUE}
 use Rattle.browser_rules.specs.Words as words
 use Rattle.browser_rules.specs.Words.{last, is_some_and}
-use Rattle.rules_laws.specs.laws.Faults.{cause_for, AreFaults}
+use Rattle.rules_laws.specs.laws.Faults.{AreFaults}
+use Rattle.rules_laws.specs.Causes.{cause_for}
 use Rattle.rules_laws.specs.laws.Opcodes.{class_for, mark_for}
 use Rattle.rules_laws.specs.laws.Structure.{opcodes_at, HasShapeFault, IsOwnFault, AreToldAtNodes}
 use Rattle.rules_laws.proofs.FaultLemmas.{said_as, if_fault, either_kind, first_there}

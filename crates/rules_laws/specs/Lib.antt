@@ -1,1 +1,3 @@
+pub mod Causes
+pub mod Denials
 pub mod laws

@@ -5,7 +5,6 @@ pub mod defaults;
 pub mod framing;
 pub mod nodes;
 pub mod opcodes;
-pub mod opening;
 pub mod packages;
 pub mod pages;
 pub mod policy;

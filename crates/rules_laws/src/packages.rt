@@ -10,7 +10,8 @@ ghost use Rattle.hii_packages.specs.Faults.{IsListFault, IsFormsFault, IsBadLeng
 ghost use Rattle.browser_rules.specs.Words.{Cause, number_and_name};
 ghost use Rattle.browser_rules.specs.Packages.{list_length, is_bad, packages_from, packages_with, forms_package, forms_bytes, device_path};
 ghost use Rattle.browser_rules.specs.Faults.{IsLeast, list_faults, number_faults, then_faults};
-ghost use Rattle.rules_laws.specs.laws.Faults.{cause_for, fault_for, AreFaults};
+ghost use Rattle.rules_laws.specs.laws.Faults.{AreFaults};
+ghost use Rattle.rules_laws.specs.Causes.{cause_for, fault_for};
 ghost use Rattle.rules_laws.specs.laws.Packages.{package_for};
 
 /// A cause of the contracts has the number and the name that the chapters give it.

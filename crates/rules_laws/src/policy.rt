@@ -12,8 +12,8 @@ ghost use Rattle.hii_questions.specs.Denials.{kind_name};
 ghost use Rattle.hii_questions.specs.declared.denial.DenialKind.{DenialKind};
 ghost use Rattle.guard_policy.specs.Policy.{first_closed, fixed, hidden, inconsistent, unsubmitted, warned};
 ghost use Rattle.guard_policy.specs.World.{World, removed_at, world_over};
-ghost use Rattle.rules_laws.specs.laws.Policy.{AnswerAlike, AreAlike, denial_for};
-ghost use Rattle.rules_laws.specs.laws.Questions.{kind_for};
+ghost use Rattle.rules_laws.specs.laws.Policy.{AnswerAlike, AreAlike};
+ghost use Rattle.rules_laws.specs.Denials.{denial_for, kind_for};
 
 /// The kinds of denials have the names of the chapters.
 pub fn denials_have_the_names_of_the_chapters()

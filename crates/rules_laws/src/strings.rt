@@ -12,7 +12,8 @@ ghost use Rattle.hii_languages.specs.Languages.{chosen as code_chosen, string_pa
 ghost use Rattle.hii_languages.specs.Shown.{text_under, shown_text};
 ghost use Rattle.browser_rules.specs.Strings.{cut_text, Texts, front_of, language_of, texts_of, spoken_in, chosen, text_at, text_of, characters, shown};
 ghost use Rattle.browser_rules.specs.Faults.{IsLeast, list_faults, number_faults, string_faults, then_faults};
-ghost use Rattle.rules_laws.specs.laws.Faults.{fault_for, AreFaults};
+ghost use Rattle.rules_laws.specs.laws.Faults.{AreFaults};
+ghost use Rattle.rules_laws.specs.Causes.{fault_for};
 ghost use Rattle.rules_laws.specs.laws.Packages.{package_for};
 ghost use Rattle.rules_laws.specs.laws.Strings.{spoken_for, front_with};
 

@@ -10,7 +10,8 @@ ghost use Rattle.ifr_opcodes.specs.Reading.{tree_of};
 ghost use Rattle.ifr_scopes.specs.Nodes.{nodes_of};
 ghost use Rattle.ifr_scopes.specs.Structure.{IsStructureFault};
 ghost use Rattle.browser_rules.specs.Faults.{IsLeast, structure_faults};
-ghost use Rattle.rules_laws.specs.laws.Faults.{AreFaults, fault_for};
+ghost use Rattle.rules_laws.specs.laws.Faults.{AreFaults};
+ghost use Rattle.rules_laws.specs.Causes.{fault_for};
 ghost use Rattle.rules_laws.specs.laws.Structure.{AreToldAtNodes, IsOwnFault};
 
 /// Nodes have, by the chapters, exactly the faults that the contracts say of nodes, and those of the shape of each

@@ -14,8 +14,8 @@ use Rattle.hii_bytes.specs.declared.watched.Watched.{Watched}
 use Rattle.hii_bytes.specs.declared.writing.WriteFault.{WriteFault}
 use Rattle.hii_bytes.specs.Watching.{Flushes, Pen, Tells as Wrote, Writes, has_failed, inner_of, pen_of}
 use Rattle.hii_bytes.proofs.WritingLemmas.{appended_whole, writes_nil, ◌⨾◌}
-use Rattle.browser_core.specs.Texts.{refused_at_text, refused_text}
-use Rattle.browser_core.proofs.RunLemmas.{breaks_flushed, writes_flushed}
+use Rattle.session_steps.specs.Texts.{refused_at_text, refused_text}
+use Rattle.session_steps.proofs.FlushLemmas.{breaks_flushed, writes_flushed}
 use Rattle.setup_audit.specs.declared.ended.Ended.{Ended}
 use Rattle.setup_audit.specs.declared.ended.Ended.TheVariants.{Done, Refused, WriteAnswers, WriteOut, NoMemory}
 use Rattle.setup_audit.specs.Endings.{IsLeft, IsPassedOn, IsRefusal, StopsIn, Tells, TellsAndWrites}

@@ -12,8 +12,8 @@ use Rattle.hii_bytes.specs.Numbers.{AreBytes}
 use Rattle.hii_packages.specs.Packages.{Entry, nth_forms}
 use Rattle.ifr_opcodes.specs.Forest.{Node}
 use Rattle.ifr_scopes.specs.Stores.{store_guid, store_name}
-use Rattle.browser_core.specs.Opening.{HasSource}
-use Rattle.browser_core.proofs.OpeningLemmas.{spelled_pieces}
+use Rattle.session_steps.specs.Opening.{HasSource}
+use Rattle.session_steps.proofs.SourceLemmas.{spelled_pieces}
 use Rattle.audit_options.specs.declared.tasks.StoreFile.{StoreFile}
 use Rattle.audit_text.specs.Texts.{digits_of, guid_text}
 use Rattle.setup_audit.specs.Sources.{is_slash, last_given, variable_path}

@@ -1,10 +1,10 @@
 -- What `questions` and `question` say over bytes (own rule).
 use Rattle.std.specs.Prelude.{◌≡◌, ◌⊎◌, ℕ, Bool, true, false, List, [], ◌++◌}
 use Rattle.hii_bytes.specs.declared.cause.Cause.TheVariants.{OutOfMemory}
-use Rattle.browser_core.specs.Opening.{IsOpenFault, Opens}
-use Rattle.browser_core.specs.State.{State, texts, world_of}
-use Rattle.browser_core.specs.Step.{sources}
-use Rattle.browser_core.specs.Texts.{refused_text}
+use Rattle.session_steps.specs.Opening.{IsOpenFault, Opens}
+use Rattle.session_steps.specs.State.{State, texts, world_of}
+use Rattle.session_steps.specs.Step.{sources}
+use Rattle.session_steps.specs.Texts.{refused_text}
 use Rattle.form_audit.specs.Audited.{Audited}
 use Rattle.form_audit.specs.FormLines.{questions_text}
 use Rattle.form_audit.specs.Reach.{TellsReached}

@@ -8,7 +8,7 @@ use Rattle.hii_bytes.specs.declared.cause.Fault.{Fault}
 use Rattle.hii_bytes.specs.declared.watched.Watched.{Watched}
 use Rattle.hii_bytes.specs.Faults.{IsLeast}
 use Rattle.hii_bytes.specs.Watching.{has_failed, has_passed_on, inner_of}
-use Rattle.browser_core.specs.Texts.{refused_at_text}
+use Rattle.session_steps.specs.Texts.{refused_at_text}
 use Rattle.setup_files.specs.declared.endings.Status.{Status}
 use Rattle.setup_files.specs.declared.endings.Status.TheVariants as status
 use Rattle.setup_audit.specs.declared.ended.Ended.{Ended}

@@ -7,7 +7,7 @@ use Rattle.ifr_scopes.specs.Nodes.{nodes_of}
 use Rattle.hii_varstore.specs.Image.{image_of}
 use Rattle.hii_varstore.specs.Layout.{Shape, size_of}
 use Rattle.hii_varstore.specs.StoreNodes.{layout_of}
-use Rattle.browser_core.specs.Texts.{refused_text}
+use Rattle.session_steps.specs.Texts.{refused_text}
 use Rattle.audit_options.specs.declared.tasks.ImageOptions.{ImageOptions}
 use Rattle.audit_options.specs.declared.tasks.StoreFile.{StoreFile}
 use Rattle.store_audit.specs.Declaring.{IsDeclaredFault}

@@ -2,7 +2,7 @@
 use Rattle.std.specs.Prelude.{◌≡◌, ℕ, List, ◌++◌, Option, Some, None}
 use Rattle.hii_bytes.specs.declared.cause.Cause.TheVariants.{OutOfMemory}
 use Rattle.hii_dumps.specs.Dumps.{Entry, SpellsDump, nth_list}
-use Rattle.browser_core.specs.Texts.{refused_text}
+use Rattle.session_steps.specs.Texts.{refused_text}
 use Rattle.dump_audit.specs.Findings.{Finding, IsFound}
 use Rattle.dump_audit.specs.Lines.{BeginsSplitText, IsSplitText, line}
 use Rattle.dump_audit.specs.Taking.{no_list_text}

@@ -4,8 +4,8 @@ use Rattle.hii_bytes.specs.declared.cause.Cause.TheVariants.{OutOfMemory}
 use Rattle.hii_bytes.specs.Faults.{HasNone}
 use Rattle.hii_packages.specs.Packages.{Entry}
 use Rattle.ifr_scopes.specs.Nodes.{nodes_of}
-use Rattle.browser_core.specs.Opening.{HasSource}
-use Rattle.browser_core.specs.Texts.{refused_text}
+use Rattle.session_steps.specs.Opening.{HasSource}
+use Rattle.session_steps.specs.Texts.{refused_text}
 use Rattle.store_audit.specs.Declaring.{IsDeclaredFault}
 use Rattle.store_audit.specs.StoreLines.{stores_text}
 use Rattle.setup_audit.specs.Endings.{IsRefusal}

@@ -6,7 +6,7 @@ ghost use Rattle.setup_audit.specs.Endings.{status_of};
 ghost use Rattle.setup_audit.specs.code.Endings.{Commits, Passes, RefusesBy};
 
 use crate::ended::Ended;
-use browser_core::{put_refusal, put_refusal_at};
+use browser_commands::{put_refusal, put_refusal_at};
 use hii_bytes::{Cause, Fault, Watched};
 use setup_files::{Noted, OutFile, STANDARD_OUTPUT, Status, Terminals, fault, refused};
 use std::io;

@@ -3,11 +3,11 @@
 ghost use Rattle.std.specs.Prelude.{◌≡◌, ◌≢◌, ℕ, List, IfOk, OnOk, OnErr, IfErr};
 ghost use Rattle.hii_bytes.specs.Faults.{Refuses};
 ghost use Rattle.hii_bytes.specs.Watching.{Puts};
-ghost use Rattle.browser_core.specs.Opening.{IsOpenFault};
+ghost use Rattle.session_steps.specs.Opening.{IsOpenFault};
 ghost use Rattle.setup_audit.specs.Auditing.{Audits, AuditsQuestion, BeginsAuditsQuestion};
 ghost use Rattle.setup_audit.specs.code.Givens.{asked};
 
-use browser_core::Session;
+use browser_commands::Browser;
 use form_audit::put_questions;
 use hii_bytes::{Cause, Fault, Watched};
 use question_audit::put_question_with_id;
@@ -28,8 +28,8 @@ pub fn put_audit<W: Write>(
     ensures refused { IfErr result (Refuses (IsOpenFault given.entry.list.now given.entry.forms given.entry.stores.now)) }
     ensures nothing { OnErr result (out.new ≡ out.old) }
 {
-    let session = Session::open(alloc, given.list, given.forms, given.stores, given.lang)?;
-    put_questions(alloc, session.page(), out)
+    let browser = Browser::open(alloc, given.list, given.forms, given.stores, given.lang)?;
+    put_questions(alloc, browser.page(), out)
 }
 
 /// Writes what is known of the question of an id over the image, or that there is none, and tells whether there is one; or gives the
@@ -55,6 +55,6 @@ pub fn put_question_audit<W: Write>(
         lang,
     } = given;
     let package = forms_package(list, forms)?;
-    let session = Session::open(alloc, list, forms, stores, lang)?;
-    put_question_with_id(alloc, session.page(), package.place, id, out)
+    let browser = Browser::open(alloc, list, forms, stores, lang)?;
+    put_question_with_id(alloc, browser.page(), package.place, id, out)
 }

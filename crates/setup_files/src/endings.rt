@@ -2,12 +2,12 @@
 
 ghost use Rattle.std.specs.Prelude.{◌≡◌, ◌≢◌, ◌⊎◌};
 ghost use Rattle.hii_bytes.specs.Watching.{has_failed, Puts};
-ghost use Rattle.browser_core.specs.Texts.{refused_text};
+ghost use Rattle.session_steps.specs.Texts.{refused_text};
 ghost use Rattle.setup_files.specs.Statuses.{status_of_refusal};
 
 use crate::noted::Noted;
 use crate::terminal::{STANDARD_OUTPUT, Terminals};
-use browser_core::put_refusal;
+use browser_commands::put_refusal;
 use hii_bytes::{Cause, Watched};
 use std::fmt::Display;
 use std::io;

@@ -9,10 +9,10 @@ use Rattle.hii_bytes.proofs.WritingLemmas.{appended_whole}
 use Rattle.browser_rules.specs.Script.{SCRIPT_LIMIT, is_too_long, lines_run}
 use Rattle.hii_commands.specs.code.Lines.{whole_lines, rest_of, last_line}
 use Rattle.hii_commands.proofs.ScriptLemmas.{whole_lines-front}
-use Rattle.browser_core.specs.Renewed.{Shown}
+use Rattle.browser_core.specs.Shown.{Shown}
 use Rattle.browser_core.specs.Run.{shown_after_lines, text_of, outcome_of, too_long_text, ScriptOutcome, lines_due, StopsAtLine, StopsAtLimit, Finishes, BreaksOff, Overflows}
-use Rattle.browser_core.specs.declared.reply.End.{End}
-use Rattle.browser_core.specs.declared.reply.End.TheVariants.{Done, TooLong}
+use Rattle.session_steps.specs.declared.reply.End.{End}
+use Rattle.session_steps.specs.declared.reply.End.TheVariants.{Done, TooLong}
 use Rattle.browser_core.proofs.RunLemmas.{finishes_known, lines_due-run, lines_run_past, outcome_of-front, text_of-append}
 use Rattle.setup_files.specs.declared.given.Given.{Given}
 use Rattle.setup_main.specs.Serving.{Ends, IsRead, IsWritten, Starts, RunsAll, StopsReading, StopsAnswering, left_of, with_held}
@@ -25,13 +25,13 @@ pub consumed_known : (script bytes : List ℕ) (left : Option (List ℕ)) → Co
 consumed_known script bytes None h = absurd h
 consumed_known script bytes (Some rest) h = (rest, refl, h)
 
-read_front : (script bytes rest : List ℕ) → script ≡ bytes ++ rest → take (length bytes) script ≡ bytes
+pub read_front : (script bytes rest : List ℕ) → script ≡ bytes ++ rest → take (length bytes) script ≡ bytes
 read_front script bytes rest e = ap (take (length bytes)) e ∙ take_at bytes rest (length bytes) refl
 
 read_behind : (script bytes rest : List ℕ) → script ≡ bytes ++ rest → drop (length bytes) script ≡ rest
 read_behind script bytes rest e = ap (drop (length bytes)) e ∙ drop_at bytes rest (length bytes) refl
 
-is_read : (script bytes rest : List ℕ) (left : Option (List ℕ)) → left ≡ Some rest → script ≡ bytes ++ rest → IsRead script (length bytes) left
+pub is_read : (script bytes rest : List ℕ) (left : Option (List ℕ)) → left ≡ Some rest → script ≡ bytes ++ rest → IsRead script (length bytes) left
 is_read script bytes rest left is e = record {
   within = omega (arith, ap length e, length-append bytes rest);
   left_is = is ∙ ap Some (sym (read_behind script bytes rest e));

@@ -6,13 +6,14 @@ use Rattle.std.proofs.KnownBytes.{Appends-kept}
 use Rattle.hii_bytes.specs.Watching.{Pen, Writes, Flushes}
 use Rattle.browser_rules.specs.Script.{SCRIPT_LIMIT, is_too_long, lines_run}
 use Rattle.hii_commands.specs.code.Lines.{whole_lines}
-use Rattle.browser_core.specs.Renewed.{Shown}
+use Rattle.browser_core.specs.Shown.{Shown}
 use Rattle.browser_core.specs.Run.{text_of, too_long_text, lines_due, StopsAtLine, StopsAtLimit, Finishes, Overflows, Runs}
-use Rattle.browser_core.specs.declared.reply.End.{End}
-use Rattle.browser_core.specs.declared.reply.End.TheVariants.{Done, TooLong}
-use Rattle.browser_core.specs.declared.reply.RunFault.{RunFault}
-use Rattle.browser_core.specs.declared.reply.RunFault.TheVariants.{Read, Write}
-use Rattle.browser_core.proofs.RunLemmas.{writes_flushed, breaks_flushed, lines_due-few, lines_due-run, stops_behind, stops_flushed}
+use Rattle.session_steps.specs.declared.reply.End.{End}
+use Rattle.session_steps.specs.declared.reply.End.TheVariants.{Done, TooLong}
+use Rattle.session_steps.specs.declared.reply.RunFault.{RunFault}
+use Rattle.session_steps.specs.declared.reply.RunFault.TheVariants.{Read, Write}
+use Rattle.browser_core.proofs.RunLemmas.{lines_due-few, lines_due-run, stops_behind, stops_flushed}
+use Rattle.session_steps.proofs.FlushLemmas.{writes_flushed, breaks_flushed}
 
 overflows_broken : (start now : Shown) (pen new : Pen) (reader left : Option (List ℕ)) → Overflows start pen reader now new left → new.broken ≡ true
 overflows_broken start now pen new reader left h = elim h.stops [

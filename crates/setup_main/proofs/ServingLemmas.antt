@@ -1,26 +1,33 @@
 -- What a run leaves, by how it ended.
-use Rattle.std.proofs.Common.{◌≡◌, ◌≢◌, ℕ, Bool, true, false, List, [], ◌++◌, Option, None, Some, IfSome, Result, refl, ap, ◌∙◌, subst, append-nil, inl, inr}
+use Rattle.std.proofs.Common.{◌≡◌, ◌≢◌, ℕ, Bool, true, false, List, [], ◌∷◌, ◌++◌, Option, None, Some, IfSome, Result, refl, sym, ap, ◌∙◌, subst, append-nil, inl, inr}
 use Rattle.std.specs.Io.Buffered.{writer_buffer, writer_inner}
 use Rattle.std.specs.Io.KnownBytes.{append_known}
 use Rattle.std.specs.declared.io.buffered.BufWriter.{BufWriter}
 use Rattle.hii_bytes.specs.declared.cause.Cause.TheVariants.{OutOfMemory}
 use Rattle.hii_bytes.specs.declared.cause.Fault.{Fault}
-use Rattle.hii_bytes.specs.Faults.{Refuses}
 use Rattle.hii_bytes.specs.Watching.{Pen, Flushes, BreaksWithin, inner_of, has_failed}
 use Rattle.hii_bytes.specs.code.Writing.{taken_of}
 use Rattle.hii_bytes.specs.declared.watched.Watched.{Watched}
-use Rattle.hii_varstore.specs.Image.{image_of}
-use Rattle.browser_core.specs.Opening.{IsOpenFault}
-use Rattle.browser_core.specs.Renewed.{Shown}
-use Rattle.browser_core.specs.Run.{outcome_of, Finishes, BreaksOff, Overflows, Runs}
-use Rattle.browser_core.specs.Texts.{refused_text, refused_at_text}
-use Rattle.browser_core.specs.declared.reply.End.{End}
-use Rattle.browser_core.specs.declared.reply.End.TheVariants as end
-use Rattle.browser_core.specs.declared.reply.RunFault.{RunFault}
+use Rattle.browser_rules.specs.Forest.{nodes_of}
+use Rattle.browser_rules.specs.Packages.{forms_bytes}
+use Rattle.browser_rules.specs.Script.{lines_run}
+use Rattle.browser_rules.specs.Stores.{image_of, shape_of}
+use Rattle.browser_rules.specs.Words as words
+use Rattle.rules_laws.specs.Causes.{cause_for, fault_for}
+use Rattle.browser_core.specs.Shown.{Shown, shown_line}
+use Rattle.browser_rules.specs.Session.{State}
+use Rattle.browser_core.specs.Run.{shown_after_lines, outcome_of, Finishes, BreaksOff, Overflows, Runs}
+use Rattle.session_steps.specs.Texts.{refused_text, refused_at_text}
+use Rattle.session_laws.proofs.OutcomeLemmas.{refusal_same, refusal_at_same}
+use Rattle.session_laws.proofs.StayLemmas.{package_stays_behind}
+use Rattle.browser_core.specs.Opening.{RefusesOpening}
+use Rattle.session_steps.specs.declared.reply.End.{End}
+use Rattle.session_steps.specs.declared.reply.End.TheVariants as end
+use Rattle.session_steps.specs.declared.reply.RunFault.{RunFault}
 use Rattle.setup_files.specs.declared.given.Given.{Given}
 use Rattle.setup_main.specs.declared.serve.Ended.{Ended}
 use Rattle.setup_main.specs.declared.serve.Ended.TheVariants.{Done, Refused, ReadScript, WriteAnswers, WriteOut, NoMemory}
-use Rattle.setup_main.specs.Serving.{Starts, IsRefusedBy, IsWritten, FailsWithin, IsNamed, RunsAll, ServesAll, Ends, Finished, Serves, begins, ends_of, with_held}
+use Rattle.setup_main.specs.Serving.{Starts, IsRefusedBy, IsWritten, FailsWithin, IsNamed, RunsAll, ServesAll, Ends, Finished, Serves, begins, ends_of, image_left, with_held}
 use Rattle.setup_main.specs.code.Endings.{IsTold, IsImageTold}
 use Rattle.setup_main.proofs.KnownLemmas.{runs_all, stops_reading, stops_answering}
 use Rattle.setup_main.proofs.RunningLemmas.{runs_passed, runs_broken}
@@ -49,21 +56,21 @@ begins_new remaining answered written script answers out s a o s_is a_is a_empty
 
 -- ---- a refused opening
 
-not_memory : (given : Given) (fault : Fault) → fault.cause ≢ OutOfMemory → Refuses (IsOpenFault given.list.now given.forms given.stores.now) fault → IsRefusedBy given fault
+not_memory : (given : Given) (fault : Fault) → fault.cause ≢ OutOfMemory → RefusesOpening given.list.now given.forms given.stores.now fault → IsRefusedBy given (fault_for fault.cause fault.place)
 not_memory given fault other (inl none) = absurd (other (ap (λ (f : Fault). f.cause) none))
 not_memory given fault other (inr least) = least
 
 -- the session was not opened, and why was told
 pub refused_serves : (given : Given) (before after : Ends) (ended : Ended) (fault : Fault) → before.held ≡ [] → (ended ≢ WriteAnswers → after.held ≡ []) → after.script ≡ before.script → after.out ≡ before.out
-    → Refuses (IsOpenFault given.list.now given.forms given.stores.now) fault → IsTold fault (with_held before) ended (with_held after) → Serves given before ended after
+    → RefusesOpening given.list.now given.forms given.stores.now fault → IsTold fault (with_held before) ended (with_held after) → Serves given before ended after
 refused_serves given before after Done fault empty passed unread untouched why told = absurd told
 refused_serves given before after Refused fault empty passed unread untouched why told = (
   untouched,
   inl (record {
-    fault = fault;
+    fault = fault_for fault.cause fault.place;
     least = not_memory given fault told.0 why;
     unread = unread;
-    text = behind before after (λ old new. IsWritten old new (refused_at_text fault)) empty (passed (λ e. cc)) told.1;
+    text = subst (IsWritten before.answers after.answers) (sym (refusal_at_same fault)) (behind before after (λ old new. IsWritten old new (refused_at_text fault)) empty (passed (λ e. cc)) told.1);
   }),
 )
 refused_serves given before after ReadScript fault empty passed unread untouched why told = absurd told
@@ -72,13 +79,13 @@ refused_serves given before after WriteAnswers fault empty passed unread untouch
   inl (elim told [
     | inl line ↦ record {
       text = refused_at_text fault;
-      line = inl (fault, not_memory given fault line.0 why, refl);
+      line = inl (fault_for fault.cause fault.place, not_memory given fault line.0 why, sym (refusal_at_same fault));
       unread = unread;
       breaks = subst (λ pen. BreaksWithin pen (with_held after) (refused_at_text fault)) (with_held-nil before empty) line.1;
     }
     | inr line ↦ record {
       text = refused_text OutOfMemory;
-      line = inr refl;
+      line = inr (sym (refusal_same OutOfMemory));
       unread = unread;
       breaks = subst (λ pen. BreaksWithin pen (with_held after) (refused_text OutOfMemory)) (with_held-nil before empty) line;
     }
@@ -87,7 +94,10 @@ refused_serves given before after WriteAnswers fault empty passed unread untouch
 refused_serves given before after WriteOut fault empty passed unread untouched why told = absurd told
 refused_serves given before after NoMemory fault empty passed unread untouched why told = (
   untouched,
-  record { unread = unread; text = behind before after (λ old new. IsWritten old new (refused_text OutOfMemory)) empty (passed (λ e. cc)) told.1 },
+  record {
+    unread = unread;
+    text = subst (IsWritten before.answers after.answers) (sym (refusal_same OutOfMemory)) (behind before after (λ old new. IsWritten old new (refused_text OutOfMemory)) empty (passed (λ e. cc)) told.1);
+  },
 )
 
 -- the answers failed, or nothing did
@@ -124,8 +134,21 @@ broken_serves given start now before mid after ran starts empty untouched runs f
   ),
 )
 
+-- the lines of a script leave the forms package
+package_left : (shown : Shown) (lines : List (List ℕ)) → (shown_after_lines shown lines).state.ifr ≡ shown.state.ifr
+package_left shown [] = refl
+package_left shown (line ∷ lines) = package_left (shown_line shown line) lines ∙ package_stays_behind shown.state line
+
+-- the image of a session that was opened over what is given
+pub image_is : (given : Given) (before after : Ends) (ended : End) (run : Finished given before ended after) → image_of (shape_of (nodes_of run.now.state.ifr)).guid run.now.state.committed ≡ image_left given run.now
+image_is given before after ended run =
+    let script = run.finishes.script in
+    let ifr : run.now.state.ifr ≡ forms_bytes given.list.now given.forms =
+    ap (λ (shown : Shown). shown.state.ifr) run.finishes.shown ∙ package_left run.start (lines_run script) ∙ ap (λ (s : State). s.ifr) run.starts.0.begins in
+    ap (λ (ifr : List ℕ). image_of (shape_of (nodes_of ifr)).guid run.now.state.committed) ifr
+
 -- the image was written, or its writer failed
-pub image_serves : (given : Given) (before after : Ends) (ended : Ended) (run : Finished given before end.Done after) → IsImageTold (image_of run.now.state.committed) before.out ended after.out
+pub image_serves : (given : Given) (before after : Ends) (ended : Ended) (run : Finished given before end.Done after) → IsImageTold (image_left given run.now) before.out ended after.out
     → Serves given before ended after
 image_serves given before after Done run told = (run, told)
 image_serves given before after Refused run told = absurd told
@@ -144,11 +167,11 @@ image_named image NoMemory old new script answers read passed told = absurd told
 
 -- ---- a known script
 
-if_known : (known : Option (List ℕ)) (P : List ℕ → Type 0) → ((script : List ℕ) → known ≡ Some script → P script) → IfSome known P
+pub if_known : (known : Option (List ℕ)) (P : List ℕ → Type 0) → ((script : List ℕ) → known ≡ Some script → P script) → IfSome known P
 if_known None P each = tt
 if_known (Some script) P each = each script refl
 
-of_finished : (given : Given) (before after : Ends) (ended : End) (run : Finished given before ended after) (script : List ℕ) → before.script ≡ Some script
+pub of_finished : (given : Given) (before after : Ends) (ended : End) (run : Finished given before ended after) (script : List ℕ) → before.script ≡ Some script
     → (all : RunsAll given script ended before after) × (run.now ≡ (outcome_of all.start script).shown)
 of_finished given before after ended run script known =
     runs_all given run.start run.now ended before after script run.starts (subst (λ reader. Finishes run.start before.answers reader ended run.now after.answers after.script) known run.finishes)
@@ -156,7 +179,7 @@ of_finished given before after ended run script known =
 known_serves : (given : Given) (before after : Ends) (ended : Ended) (script : List ℕ) → before.script ≡ Some script → Serves given before ended after → ServesAll given script before ended after
 known_serves given before after Done script known h =
     let all = of_finished given before after end.Done h.0 script known in
-    (all.0, subst (λ (s : Shown). IsWritten before.out after.out (image_of s.state.committed)) all.1 h.1)
+    (all.0, subst (λ (s : Shown). IsWritten before.out after.out (image_left given s)) all.1 h.1)
 known_serves given before after Refused script known h = (
   h.0,
   elim h.1 [
@@ -175,7 +198,7 @@ known_serves given before after WriteAnswers script known h = (
 )
 known_serves given before after WriteOut script known h =
     let all = of_finished given before after end.Done h.0 script known in
-    (all.0, subst (λ (s : Shown). FailsWithin before.out after.out (image_of s.state.committed)) all.1 h.1)
+    (all.0, subst (λ (s : Shown). FailsWithin before.out after.out (image_left given s)) all.1 h.1)
 known_serves given before after NoMemory script known h = h
 
 -- where the script's bytes are known, a run is that of all of them

@@ -3,19 +3,19 @@ use Rattle.std.specs.Prelude.{◌≡◌, ◌+◌, ◌-◌, ◌≤◌, ◌⊎◌,
 use Rattle.std.specs.Io.Buffered.{writer_buffer, writer_inner}
 use Rattle.std.specs.Io.KnownBytes.{Appends, append_known}
 use Rattle.std.specs.declared.io.buffered.BufWriter.{BufWriter}
-use Rattle.hii_bytes.specs.declared.cause.Cause.TheVariants.{OutOfMemory}
-use Rattle.hii_bytes.specs.declared.cause.Fault.{Fault}
 use Rattle.hii_bytes.specs.declared.watched.Watched.{Watched}
-use Rattle.hii_bytes.specs.Faults.{IsLeast}
 use Rattle.hii_bytes.specs.Watching.{Pen, pen_of, inner_of, BreaksWithin}
+use Rattle.browser_rules.specs.Faults.{Fault, IsLeast, open_faults}
+use Rattle.browser_rules.specs.Forest.{nodes_of}
+use Rattle.browser_rules.specs.Packages.{forms_bytes}
 use Rattle.browser_rules.specs.Script.{SCRIPT_LIMIT, cut_lines, lines_run}
-use Rattle.hii_varstore.specs.Image.{image_of}
-use Rattle.browser_core.specs.Renewed.{Shown}
-use Rattle.browser_core.specs.Opening.{Opens, IsOpenFault}
+use Rattle.browser_rules.specs.Stores.{image_of, shape_of}
+use Rattle.browser_rules.specs.Words.{OutOfMemory, refused_text, refused_at_text}
+use Rattle.browser_core.specs.Opening.{Opens}
+use Rattle.browser_core.specs.Shown.{Shown}
 use Rattle.browser_core.specs.Run.{text_of, outcome_of, lines_due, Finishes, BreaksOff, Overflows}
-use Rattle.browser_core.specs.Texts.{refused_text, refused_at_text}
-use Rattle.browser_core.specs.declared.reply.End.{End}
-use Rattle.browser_core.specs.declared.reply.End.TheVariants as end
+use Rattle.session_steps.specs.declared.reply.End.{End}
+use Rattle.session_steps.specs.declared.reply.End.TheVariants as end
 use Rattle.setup_files.specs.declared.endings.Status.{Status}
 use Rattle.setup_files.specs.declared.endings.Status.TheVariants as status
 use Rattle.setup_files.specs.declared.given.Given.{Given}
@@ -30,7 +30,12 @@ Starts given start =
 
 -- the least fault of what is given
 abbrev pub IsRefusedBy : Given → Fault → Type 0
-IsRefusedBy given fault = IsLeast (IsOpenFault given.list.now given.forms given.stores.now) fault
+IsRefusedBy given fault = IsLeast (open_faults given.list.now given.forms given.stores.now) fault
+
+-- the image of the stores that a session over what is given submitted last
+abbrev pub image_left : Given → Shown → List ℕ
+image_left given now =
+    image_of (shape_of (nodes_of (forms_bytes given.list.now given.forms))).guid now.state.committed
 
 -- A text is written whole, and its writer has not failed.
 abbrev pub IsWritten : Pen → Pen → List ℕ → Type 0
@@ -110,7 +115,7 @@ pub record IsRefused (given : Given) (before after : Ends) : Type 0 where
   pub fault : Fault
   pub least : IsRefusedBy given fault
   pub unread : after.script ≡ before.script
-  pub text : IsWritten before.answers after.answers (refused_at_text fault)
+  pub text : IsWritten before.answers after.answers (refused_at_text fault.cause fault.place)
 
 -- An allocation failed, which is told. Nothing is read.
 pub record LacksMemory (before after : Ends) : Type 0 where
@@ -121,7 +126,7 @@ pub record LacksMemory (before after : Ends) : Type 0 where
 -- read.
 pub record FailsAtOnce (given : Given) (before after : Ends) : Type 0 where
   pub text : List ℕ
-  pub line : ((fault : Fault) × IsRefusedBy given fault × (text ≡ refused_at_text fault))
+  pub line : ((fault : Fault) × IsRefusedBy given fault × (text ≡ refused_at_text fault.cause fault.place))
       ⊎ (text ≡ refused_text OutOfMemory)
   pub unread : after.script ≡ before.script
   pub breaks : BreaksWithin before.answers (with_held after) text
@@ -172,7 +177,7 @@ pub record StopsAnswering (given : Given) (script : List ℕ) (before after : En
 abbrev pub ServesAll : Given → List ℕ → Ends → Ended → Ends → Type 0
 ServesAll given script before Done after =
     (run : RunsAll given script end.Done before after)
-    × IsWritten before.out after.out (image_of (outcome_of run.start script).shown.state.committed)
+    × IsWritten before.out after.out (image_left given (outcome_of run.start script).shown)
 ServesAll given script before Refused after =
     (after.out ≡ before.out) × (IsRefused given before after
     ⊎ RunsAll given script end.TooLong before after)
@@ -184,7 +189,7 @@ ServesAll given script before WriteAnswers after =
 ServesAll given script before WriteOut after =
     (run : RunsAll given script end.Done before after)
     × FailsWithin before.out after.out
-    (image_of (outcome_of run.start script).shown.state.committed)
+    (image_left given (outcome_of run.start script).shown)
 ServesAll given script before NoMemory after = (after.out ≡ before.out) × LacksMemory before after
 
 -- ---- any reader and writers
@@ -199,7 +204,7 @@ pub record Finished (given : Given) (before : Ends) (end : End) (after : Ends) :
 abbrev pub Serves : Given → Ends → Ended → Ends → Type 0
 Serves given before Done after =
     (run : Finished given before end.Done after)
-    × IsWritten before.out after.out (image_of run.now.state.committed)
+    × IsWritten before.out after.out (image_left given run.now)
 Serves given before Refused after =
     (after.out ≡ before.out) × (IsRefused given before after
     ⊎ Finished given before end.TooLong after)
@@ -213,5 +218,5 @@ Serves given before WriteAnswers after =
     × Overflows start before.answers before.script now (with_held after) after.script))
 Serves given before WriteOut after =
     (run : Finished given before end.Done after)
-    × FailsWithin before.out after.out (image_of run.now.state.committed)
+    × FailsWithin before.out after.out (image_left given run.now)
 Serves given before NoMemory after = (after.out ≡ before.out) × LacksMemory before after

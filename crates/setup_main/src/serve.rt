@@ -5,6 +5,7 @@ ghost use Rattle.std.specs.Io.Buffered.{writer_buffer, writer_contents};
 ghost use Rattle.hii_bytes.specs.Watching.{pen_of, inner_of, has_failed, has_passed_on};
 ghost use Rattle.hii_varstore.specs.Image.{image_of};
 ghost use Rattle.setup_files.specs.declared.given.Given.{Given};
+ghost use Rattle.setup_main.specs.Headline.{LeavesBytes, ServesBytes};
 ghost use Rattle.setup_main.specs.Serving.{Starts, Serves, ServesAll, IsNamed, begins, ends_of, fault_of, status_of};
 ghost use Rattle.setup_main.specs.code.Endings.{IsTold, IsImageTold};
 
@@ -81,7 +82,17 @@ pub fn serve<R: Read + Drop, A: Write + Drop, O: Write + Drop>(
     answers: A,
     out: O,
 ) -> Option<Served<R, A, O>>
-    // Where the script's bytes are known.
+    // Where the script's bytes are known, and no reader or writer fails.
+    ensures headline { IfSome result (λ served. IfSome (R.remaining script) (λ bytes.
+        ServesBytes given.entry bytes
+        (begins (R.remaining script) (A.contents answers) (O.contents out)) served.ended
+        (ends_of R.remaining A.contents O.contents served.script served.answers served.out))) }
+    // Where the script's bytes are known, and a reader or a writer fails.
+    ensures at_fault { IfSome result (λ served. IfSome (R.remaining script) (λ bytes.
+        LeavesBytes given.entry bytes
+        (begins (R.remaining script) (A.contents answers) (O.contents out)) served.ended
+        (ends_of R.remaining A.contents O.contents served.script served.answers served.out))) }
+    // Where the script's bytes are known, with what is left of it.
     ensures whole { IfSome result (λ served. IfSome (R.remaining script) (λ bytes.
         ServesAll given.entry bytes
         (begins (R.remaining script) (A.contents answers) (O.contents out)) served.ended

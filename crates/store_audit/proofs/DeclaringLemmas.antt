@@ -4,8 +4,9 @@ use Rattle.hii_bytes.specs.declared.cause.Fault.{Fault}
 use Rattle.hii_bytes.specs.Faults.{HasNone, Refuses}
 use Rattle.hii_bytes.proofs.FaultLemmas.{then_none}
 use Rattle.hii_packages.specs.Packages.{Entry}
-use Rattle.browser_core.specs.Opening.{forms_bytes, HasSource, IsSourceFault, IsFormSetFault}
-use Rattle.browser_core.proofs.OpeningLemmas.{source_bytes, no_source_fault, refuses_second}
+use Rattle.session_steps.specs.Opening.{forms_bytes, HasSource, IsSourceFault, IsFormSetFault}
+use Rattle.browser_commands.proofs.OpeningLemmas.{no_source_fault, refuses_second}
+use Rattle.session_steps.proofs.SourceLemmas.{source_bytes}
 use Rattle.store_audit.specs.Declaring.{IsDeclaredFault}
 
 pub form_set_refuses : (list : List ℕ) (n : ℕ) (source : Entry) (fault : Fault) → HasSource list n source → Refuses (IsFormSetFault source.bytes) fault → Refuses (IsDeclaredFault list n) fault

@@ -2,7 +2,7 @@
 use Rattle.std.specs.Prelude.{ℕ, List}
 use Rattle.hii_bytes.specs.Faults.{Then}
 use Rattle.hii_bytes.specs.declared.cause.Cause.{Cause}
-use Rattle.browser_core.specs.Opening.{forms_bytes, IsSourceFault, IsFormSetFault}
+use Rattle.session_steps.specs.Opening.{forms_bytes, IsSourceFault, IsFormSetFault}
 
 -- The faults of a list's packages and that there is no forms package of the number, then those of this forms package, of its
 -- stores and of its questions.

@@ -7,7 +7,7 @@ ghost use Rattle.hii_packages.specs.code.Package.{entry_of};
 ghost use Rattle.ifr_scopes.specs.Nodes.{nodes_of};
 ghost use Rattle.hii_varstore.specs.StoreNodes.{layout_of};
 ghost use Rattle.form_sets.specs.Packages.{IsGoodPackage};
-ghost use Rattle.browser_core.specs.Opening.{HasSource, IsSourceFault, IsFormSetFault};
+ghost use Rattle.session_steps.specs.Opening.{HasSource, IsSourceFault, IsFormSetFault};
 ghost use Rattle.store_audit.specs.Declaring.{IsDeclaredFault};
 
 use hii_bytes::Fault;

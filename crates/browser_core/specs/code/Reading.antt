@@ -3,7 +3,7 @@ use Rattle.std.specs.Prelude.{◌≡◌, ℕ, false, List}
 use Rattle.hii_bytes.specs.Watching.{Pen, Writes}
 use Rattle.hii_commands.specs.code.Held.{Held, held_of}
 use Rattle.hii_commands.specs.code.Lines.{whole_lines, rest_of}
-use Rattle.browser_core.specs.Renewed.{Shown}
+use Rattle.browser_core.specs.Shown.{Shown}
 use Rattle.browser_core.specs.Run.{shown_after_lines, text_of}
 
 -- The lines whose LF has come are carried out, and what stands after the last LF is held.

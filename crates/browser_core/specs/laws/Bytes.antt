@@ -11,12 +11,12 @@ use Rattle.hii_varstore.specs.Stores.{byte_of}
 use Rattle.hii_questions.specs.Fields.{Field, field_of, question_with}
 use Rattle.browser_rules.specs.Script as script
 use Rattle.browser_rules.specs.Script.{Command}
-use Rattle.browser_core.specs.State.{State}
-use Rattle.browser_core.specs.Configuration.{store_named, block_field}
-use Rattle.browser_core.specs.Renewed.{named_if, pressed_if}
-use Rattle.browser_core.specs.Step.{form_of, taken, row_of_form, press, route, changed, submitted, step}
-use Rattle.browser_core.specs.declared.reply.Reply.{Reply}
-use Rattle.browser_core.specs.declared.reply.Reply.TheVariants.{Accepted}
+use Rattle.session_steps.specs.State.{State}
+use Rattle.session_steps.specs.Configuration.{store_named, block_field}
+use Rattle.session_steps.specs.Renewed.{named_if, pressed_if}
+use Rattle.session_steps.specs.Step.{form_of, taken, row_of_form, press, route, changed, submitted, step}
+use Rattle.session_steps.specs.declared.reply.Reply.{Reply}
+use Rattle.session_steps.specs.declared.reply.Reply.TheVariants.{Accepted}
 
 -- the state after some commands
 abbrev pub state_with : State → List Command → State

@@ -15,8 +15,8 @@ use Rattle.guard_policy.specs.declared.support.Decision.TheVariants.{Changeable,
 use Rattle.browser_rules.specs.Script as script
 use Rattle.browser_rules.specs.Script.{Command}
 use Rattle.browser_core.specs.laws.Bytes.{state_with, answers_to}
-use Rattle.browser_core.specs.Opening.{layout_in, Opens}
-use Rattle.browser_core.specs.State.{State}
+use Rattle.session_steps.specs.Opening.{layout_in, Opens}
+use Rattle.session_steps.specs.State.{State}
 use Rattle.hii_questions.specs.Changes.{field_bytes}
 
 -- ---- on which questions the changes of one depend

@@ -1,5 +1,5 @@
 -- Denials and worlds of the contracts, as the chapters have them.
-use Rattle.std.specs.Prelude.{◌≡◌, ℕ, true, if◌then◌else◌, Some, None, List, Contains}
+use Rattle.std.specs.Prelude.{◌≡◌, ℕ, true, List, Contains}
 use Rattle.browser_rules.specs.Opcodes.{wants_expression}
 use Rattle.browser_rules.specs.Policy as chapter
 use Rattle.browser_rules.specs.Questions as questions
@@ -8,20 +8,8 @@ use Rattle.ifr_opcodes.specs.Forest.{Node}
 use Rattle.ifr_scopes.specs.Nodes.{nodes_of}
 use Rattle.hii_varstore.specs.Stores.{StoreMap}
 use Rattle.hii_questions.specs.Answers.{answers}
-use Rattle.hii_questions.specs.Denials.{has_text}
 use Rattle.guard_policy.specs.World.{World}
-use Rattle.guard_policy.specs.declared.denial.Denial.{Denial}
 use Rattle.rules_laws.specs.laws.Opcodes.{value_for, IsSmall}
-use Rattle.rules_laws.specs.laws.Questions.{kind_for}
-
--- a denial; its message counts where its kind is told with a text
-abbrev pub denial_for : Denial → chapter.Denial
-denial_for d =
-    record {
-      kind = kind_for d.kind;
-      place = d.place;
-      message = if has_text d.kind then Some d.message else None;
-    }
 
 -- Two worlds have the nodes of one package. The same was removed in them, and of the nodes whose scopes begin with a condition the
 -- same are met.

@@ -7,7 +7,7 @@ use Rattle.hii_questions.specs.Fields.{Field, Asked}
 use Rattle.hii_questions.specs.FieldTypes.{FieldType, checkbox, numeric, one_of, text, ordered_list}
 use Rattle.hii_questions.specs.Inputs.{Offer, whole, raw, utf8, units, listed, elements, field}
 use Rattle.hii_questions.specs.declared.denial.DenialKind.{DenialKind}
-use Rattle.hii_questions.specs.declared.denial.DenialKind.TheVariants.{DisableIf, SuppressIf, GrayOutIf, Locked, ReadOnly, Outside, Kind, Range, NoOption, Length, Repeat, EmptySet, BadText, InconsistentIf, NoSubmitIf, NoQuestion, NotRef, NotButton, NoRow, NoBack, DeepHistory, NoStore, NoField, Password}
+use Rattle.rules_laws.specs.Denials.{kind_for}
 
 abbrev pub type_for : FieldType → chapter.FieldType
 type_for checkbox = chapter.a_flag
@@ -27,32 +27,6 @@ offer_for (units bytes) = chapter.units bytes
 offer_for (listed ns) = chapter.listed ns
 offer_for (elements bytes) = chapter.elements bytes
 offer_for (field bytes) = chapter.in_field bytes
-
-abbrev pub kind_for : DenialKind → chapter.DenialKind
-kind_for DisableIf = chapter.DisableIf
-kind_for SuppressIf = chapter.SuppressIf
-kind_for GrayOutIf = chapter.GrayOutIf
-kind_for Locked = chapter.Locked
-kind_for ReadOnly = chapter.ReadOnly
-kind_for Outside = chapter.Outside
-kind_for Kind = chapter.Kind
-kind_for Range = chapter.Range
-kind_for NoOption = chapter.NoOption
-kind_for Length = chapter.Length
-kind_for Repeat = chapter.Repeat
-kind_for EmptySet = chapter.EmptySet
-kind_for BadText = chapter.BadText
-kind_for InconsistentIf = chapter.InconsistentIf
-kind_for NoSubmitIf = chapter.NoSubmitIf
-kind_for NoQuestion = chapter.NoQuestion
-kind_for NotRef = chapter.NotRef
-kind_for NotButton = chapter.NotButton
-kind_for NoRow = chapter.NoRow
-kind_for NoBack = chapter.NoBack
-kind_for DeepHistory = chapter.DeepHistory
-kind_for NoStore = chapter.NoStore
-kind_for NoField = chapter.NoField
-kind_for Password = chapter.Password
 
 abbrev pub bytes_or_denial : Result (List ℕ) DenialKind → Result (List ℕ) chapter.DenialKind
 bytes_or_denial (Ok bytes) = Ok bytes

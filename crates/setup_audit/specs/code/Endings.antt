@@ -6,7 +6,7 @@ use Rattle.hii_bytes.specs.declared.cause.Cause.TheVariants.{OutOfMemory}
 use Rattle.hii_bytes.specs.declared.cause.Fault.{Fault}
 use Rattle.hii_bytes.specs.declared.watched.Watched.{Watched}
 use Rattle.hii_bytes.specs.Watching.{Flushes, Pen, Writes, has_failed, has_passed_on, inner_of, pen_of}
-use Rattle.browser_core.specs.Texts.{refused_at_text, refused_text}
+use Rattle.session_steps.specs.Texts.{refused_at_text, refused_text}
 use Rattle.setup_audit.specs.declared.ended.Ended.{Ended}
 use Rattle.setup_audit.specs.declared.ended.Ended.TheVariants.{Done, Refused, WriteAnswers, WriteOut, NoMemory}
 

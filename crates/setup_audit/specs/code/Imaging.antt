@@ -5,7 +5,7 @@ use Rattle.hii_bytes.specs.declared.cause.Cause.TheVariants.{OutOfMemory}
 use Rattle.ifr_opcodes.specs.Forest.{Node}
 use Rattle.hii_varstore.specs.Image.{image_of}
 use Rattle.hii_varstore.specs.StoreNodes.{layout_of}
-use Rattle.browser_core.specs.Texts.{refused_text}
+use Rattle.session_steps.specs.Texts.{refused_text}
 use Rattle.store_audit.specs.code.Fillings.{filling_text, is_unfit, stores_of, unfit_text}
 use Rattle.store_audit.specs.declared.fillings.Filling.{Filling}
 use Rattle.setup_audit.specs.declared.ended.Ended.{Ended}

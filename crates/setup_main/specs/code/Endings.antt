@@ -3,7 +3,7 @@ use Rattle.std.specs.Prelude.{◌≡◌, ◌≢◌, ◌⊎◌, List, ℕ}
 use Rattle.hii_bytes.specs.declared.cause.Cause.TheVariants.{OutOfMemory}
 use Rattle.hii_bytes.specs.declared.cause.Fault.{Fault}
 use Rattle.hii_bytes.specs.Watching.{Pen, BreaksWithin}
-use Rattle.browser_core.specs.Texts.{refused_text, refused_at_text}
+use Rattle.session_steps.specs.Texts.{refused_text, refused_at_text}
 use Rattle.setup_main.specs.declared.serve.Ended.{Ended}
 use Rattle.setup_main.specs.declared.serve.Ended.TheVariants.{Done, Refused, WriteAnswers, WriteOut, NoMemory}
 use Rattle.setup_main.specs.Serving.{IsWritten, FailsWithin}

@@ -1,7 +1,8 @@
 use Rattle.std.proofs.Common.{◌≡◌, refl, inl, inr, ◌+◌, ◌-◌, ◌≤◌, ◌<◌, ◌∙◌, min, not, length, arith, ap, rules}
 use Rattle.browser_rules.specs.Script.{SCRIPT_LIMIT}
 use Rattle.browser_core.specs.Run.{PIECE}
-use Rattle.browser_core.proofs.RunLemmas.{writes_flushed, stands_passing, stops_passing, overflows_at_once, reads_none, consumes_none, reads_within, reads_more, breaks_off, finishes, overflows_last, overflows_piece, finishes_past, overflows_past}
+use Rattle.browser_core.proofs.RunLemmas.{stands_passing, stops_passing, overflows_at_once, reads_none, consumes_none, reads_within, reads_more, breaks_off, finishes, overflows_last, overflows_piece, finishes_past, overflows_past}
+use Rattle.session_steps.proofs.FlushLemmas.{writes_flushed}
 use Rattle.browser_core.proofs.script.run_all.Goals as goal
 
 pub returns-then-not-passes_on-clause-run : goal.returns-then-not-passes_on-clause-run

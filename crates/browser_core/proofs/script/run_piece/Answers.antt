@@ -39,8 +39,8 @@ loop-rest-preserved-else-failed g c =
       λ start pen bytes h.
           let stands = so_far.2 start pen bytes h in
           let held = c.feed-fed.ensures.held (rest_of (bytes ++ so_far.0)) stands.line_is in
-          subst (λ b. Stands start pen b c.run_line.new.core c.clear.new.self pen_then) (append_assoc bytes so_far.0 (line ++ 10 ∷ []))
-          (stands_line start c.loop-rest.core c.run_line.new.core pen pen_now pen_then (bytes ++ so_far.0) line c.clear.new.self (IsWithinLine-before_first rest)
+          subst (λ b. Stands start pen b c.run_line.new.self c.clear.new.self pen_then) (append_assoc bytes so_far.0 (line ++ 10 ∷ []))
+          (stands_line start c.loop-rest.core c.run_line.new.self pen pen_now pen_then (bytes ++ so_far.0) line c.clear.new.self (IsWithinLine-before_first rest)
           stands.shown stands.text (c.run_line.ensures.shown _ held) (c.run_line.ensures.text _ held) c.clear.ensures (sym c.failed.ensures ∙ c.if-failed.false)),
     )
 
@@ -54,7 +54,7 @@ returns-then-failed-clause-stops g c = λ start pen bytes h broken.
     let fed = fed_line rest c.feed-fed.result.taken c.feed-fed.result.complete c.feed-fed.ensures.taken c.if-fed.true in
     let stands = so_far.2 start pen bytes h in
     let held = c.feed-fed.ensures.held (rest_of (bytes ++ so_far.0)) stands.line_is in
-    let stops = stops_piece start c.loop-rest.core c.run_line.new.core pen pen_now pen_then (bytes ++ so_far.0) line (drop c.feed-fed.result.taken rest) _ (IsWithinLine-before_first rest)
+    let stops = stops_piece start c.loop-rest.core c.run_line.new.self pen pen_now pen_then (bytes ++ so_far.0) line (drop c.feed-fed.result.taken rest) _ (IsWithinLine-before_first rest)
     stands.shown stands.text stands.sound (c.run_line.ensures.shown _ held) (c.run_line.ensures.text _ held) broken
     (ap (λ l. bytes ++ l) (so_far.1 ∙ ap (λ l. so_far.0 ++ l) fed) ∙ sym (append_assoc bytes so_far.0 ((line ++ 10 ∷ []) ++ drop c.feed-fed.result.taken rest))
     ∙ sym (append_assoc (bytes ++ so_far.0) (line ++ 10 ∷ []) (drop c.feed-fed.result.taken rest))) in

@@ -1,6 +1,6 @@
 use Rattle.std.proofs.Common.{◌≡◌, ◌++◌, List, ℕ, length}
 use Rattle.hii_bytes.specs.Watching.{Pen, pen_of}
-use Rattle.browser_core.specs.Renewed.{Shown}
+use Rattle.browser_core.specs.Shown.{Shown}
 use Rattle.browser_core.specs.code.Reading.{Stands}
 use Rattle.browser_core.proofs.script.run_piece.Given as goal
 

@@ -12,7 +12,7 @@ put_questions-requires g c = rw (c.page.ensures.stores, c.page.ensures.bytes) c.
 
 pub returns-clause-told : goal.returns-clause-told
 returns-clause-told g c =
-    let s = c.in_ok-session.session.state in
+    let s = c.in_ok-browser.browser.state in
     let same : audited c.page.result ≡ audited_at s =
     rw (c.page.ensures.world, c.page.ensures.spoken, c.page.ensures.language, c.page.ensures.stores, c.page.ensures.bytes) refl in
     on_ok_weaker c.put_questions.result
@@ -20,7 +20,7 @@ returns-clause-told g c =
       questions_text (audited_at s) w.0,
       record {
         start = s;
-        opens = c.in_ok-session.ensures.opened.0;
+        opens = c.in_ok-browser.ensures.opened.0;
         is_reached = w.0;
         reached = subst (λ d. TellsReached d w.0) c.page.ensures.world w.1;
         told = refl;

@@ -12,15 +12,15 @@ use Rattle.setup_audit.proofs.auditing.put_question_audit.Goals as goal
 
 pub put_question_with_id-requires-clause-in_list : goal.put_question_with_id-requires-clause-in_list
 put_question_with_id-requires-clause-in_list g c =
-    let opens = c.in_ok-session.ensures.opened.0 in
+    let opens = c.in_ok-browser.ensures.opened.0 in
     let its = c.in_ok-package.package in
     let source = one_source c.args.given.list.now c.args.given.forms (entry_of its) opens.source c.in_ok-package.ensures.found opens.found in
     rw (c.page.ensures.bytes, opens.bytes, sym (ap (λ (e : Entry). e.bytes) source)) its.in_list
 
 pub returns-clause-told : goal.returns-clause-told
 returns-clause-told g c =
-    let s = c.in_ok-session.session.state in
-    let opens = c.in_ok-session.ensures.opened.0 in
+    let s = c.in_ok-browser.browser.state in
+    let opens = c.in_ok-browser.ensures.opened.0 in
     let its = c.in_ok-package.package in
     let source = one_source c.args.given.list.now c.args.given.forms (entry_of its) opens.source c.in_ok-package.ensures.found opens.found in
     let same : audited c.page.result ≡ audited_at s =
@@ -47,8 +47,8 @@ returns-clause-nothing g c =
 
 pub returns-clause-begun : goal.returns-clause-begun
 returns-clause-begun g c =
-    let s = c.in_ok-session.session.state in
-    let opens = c.in_ok-session.ensures.opened.0 in
+    let s = c.in_ok-browser.browser.state in
+    let opens = c.in_ok-browser.ensures.opened.0 in
     let its = c.in_ok-package.package in
     let source = one_source c.args.given.list.now c.args.given.forms (entry_of its) opens.source c.in_ok-package.ensures.found opens.found in
     let same : audited c.page.result ≡ audited_at s =

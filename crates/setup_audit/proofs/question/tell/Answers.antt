@@ -1,6 +1,6 @@
 use Rattle.std.proofs.Common.{◌≡◌, [], true, false, inl, inr, refl, subst}
 use Rattle.std.specs.Io.Buffered.{writer_contents}
-use Rattle.browser_core.specs.Texts.{refused_at_text}
+use Rattle.session_steps.specs.Texts.{refused_at_text}
 use Rattle.setup_audit.specs.Auditing.{Asked, AuditsQuestion, BeginsAuditsQuestion, IsOpenRefusal, SaysQuestion, asked_of}
 use Rattle.setup_audit.specs.code.Givens.{asked}
 use Rattle.setup_audit.specs.declared.ended.Ended.TheVariants.{Done, Refused}

@@ -2,7 +2,7 @@ use Rattle.std.proofs.Common.{◌≢◌, rules, refl, inl}
 use Rattle.std.specs.Io.Buffered.{writer_contents}
 use Rattle.hii_bytes.specs.Watching.{Flushes, pen_of}
 use Rattle.hii_bytes.specs.declared.cause.Cause.TheVariants.{OutOfMemory}
-use Rattle.browser_core.proofs.RunLemmas.{breaks_flushed}
+use Rattle.session_steps.proofs.FlushLemmas.{breaks_flushed}
 use Rattle.setup_main.proofs.serve.refuse.Goals as goal
 
 pub returns-in-Err-pass_on-clause-told : goal.returns-in-Err-pass_on-clause-told

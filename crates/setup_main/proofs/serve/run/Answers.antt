@@ -1,12 +1,11 @@
-use Rattle.std.proofs.Common.{◌≡◌, true, false, refl, subst, inr, Ok, Err}
+use Rattle.std.proofs.Common.{◌≡◌, true, false, refl, subst, ◌∙◌, inr, Ok, Err}
 use Rattle.hii_bytes.specs.Watching.{Flushes}
-use Rattle.hii_varstore.specs.Image.{image_of}
 use Rattle.browser_core.specs.Run.{Runs}
-use Rattle.browser_core.specs.declared.reply.End.TheVariants.{Done, TooLong}
-use Rattle.browser_core.specs.declared.reply.RunFault.TheVariants.{Read}
-use Rattle.setup_main.specs.Serving.{ends_of, with_held}
+use Rattle.session_steps.specs.declared.reply.End.TheVariants.{Done, TooLong}
+use Rattle.session_steps.specs.declared.reply.RunFault.TheVariants.{Read}
+use Rattle.setup_main.specs.Serving.{Finished, ends_of, with_held}
 use Rattle.setup_main.specs.code.Endings.{IsImageTold}
-use Rattle.setup_main.proofs.ServingLemmas.{broken_serves, image_serves, passed}
+use Rattle.setup_main.proofs.ServingLemmas.{broken_serves, image_is, image_serves, passed}
 use Rattle.setup_main.proofs.serve.run.Goals as goal
 
 pub returns-in_default-clause-serves : goal.returns-in_default-clause-serves
@@ -37,15 +36,15 @@ returns-in-Ok-Done-clause-serves g c = λ given starts.
     } in
     let is : c.in-Ok-Done.field-0 ≡ Done = rw c.in-Ok-Done.is at c.in-Ok-Done.field-0-is in
     let runs = passed c.args.session.now ran.new.self before mid after ran.result c.requires.empty c.in-Ok.ensures.empty ran.ensures.run flushed c.in-Ok.ensures.fault in
-    image_serves given before after c.write_image.result
-    (record {
+    let finished : Finished given before Done after = record {
       start = c.args.session.now;
       starts = starts;
       now = ran.new.self;
       finishes = subst (λ e. Runs c.args.session.now before.answers before.script (Ok e) ran.new.self after.answers after.script) is
           (subst (λ r. Runs c.args.session.now before.answers before.script r ran.new.self after.answers after.script) c.in-Ok-Done.is runs);
-    })
-    (subst (λ stores. IsImageTold (image_of stores) before.out c.write_image.result after.out) c.committed.ensures c.write_image.ensures.told)
+    } in
+    image_serves given before after c.write_image.result finished
+    (subst (λ image. IsImageTold image before.out c.write_image.result after.out) (c.committed.ensures.image ∙ image_is given before after Done finished) c.write_image.ensures.told)
 
 pub returns-in-Ok-TooLong-clause-serves : goal.returns-in-Ok-TooLong-clause-serves
 returns-in-Ok-TooLong-clause-serves g c = λ given starts.

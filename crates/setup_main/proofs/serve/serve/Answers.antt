@@ -1,6 +1,8 @@
 use Rattle.std.proofs.Common.{◌≡◌, [], rules, subst, ◌∙◌, ap}
 use Rattle.std.specs.Io.Buffered.{writer_buffer, writer_inner}
 use Rattle.setup_main.specs.Serving.{Serves, begins, ends_of}
+use Rattle.setup_main.proofs.AtFaultLemmas.{leaves_bytes}
+use Rattle.setup_main.proofs.HeadlineLemmas.{serves_headline}
 use Rattle.setup_main.proofs.ServingLemmas.{begins_new, serves_known}
 use Rattle.setup_main.proofs.serve.serve.Goals as goal
 
@@ -23,4 +25,16 @@ pub returns-clause-whole : goal.returns-clause-whole
 returns-clause-whole g c =
     let now = c.serve_watched-ended.new in
     serves_known c.args.given (begins (g.R.Read.remaining c.args.script) (g.A.Write.contents c.args.answers) (g.O.Write.contents c.args.out))
+    (ends_of g.R.Read.remaining g.A.Write.contents g.O.Write.contents now.script now.answers now.out) c.serve_watched-ended.result (returns-clause-serves g c)
+
+pub returns-clause-headline : goal.returns-clause-headline
+returns-clause-headline g c =
+    let now = c.serve_watched-ended.new in
+    serves_headline c.args.given (begins (g.R.Read.remaining c.args.script) (g.A.Write.contents c.args.answers) (g.O.Write.contents c.args.out))
+    (ends_of g.R.Read.remaining g.A.Write.contents g.O.Write.contents now.script now.answers now.out) c.serve_watched-ended.result (g.R.Read.remaining c.args.script) (returns-clause-whole g c)
+
+pub returns-clause-at_fault : goal.returns-clause-at_fault
+returns-clause-at_fault g c =
+    let now = c.serve_watched-ended.new in
+    leaves_bytes c.args.given (begins (g.R.Read.remaining c.args.script) (g.A.Write.contents c.args.answers) (g.O.Write.contents c.args.out))
     (ends_of g.R.Read.remaining g.A.Write.contents g.O.Write.contents now.script now.answers now.out) c.serve_watched-ended.result (returns-clause-serves g c)

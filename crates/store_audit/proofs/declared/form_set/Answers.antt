@@ -1,7 +1,7 @@
 use Rattle.std.proofs.lemmas.Result.{err_from_is_err_and}
 use Rattle.hii_bytes.specs.Faults.{HasNone}
-use Rattle.browser_core.specs.Opening.{IsFormSetFault}
-use Rattle.browser_core.proofs.OpeningLemmas.{browsable_no_fault, good_where_browsable, package_refuses, stores_refuse, questions_refuse}
+use Rattle.session_steps.specs.Opening.{IsFormSetFault}
+use Rattle.browser_commands.proofs.OpeningLemmas.{browsable_no_fault, good_where_browsable, package_refuses, stores_refuse, questions_refuse}
 use Rattle.std.proofs.Common.{subst}
 use Rattle.store_audit.proofs.declared.form_set.Goals as goal
 

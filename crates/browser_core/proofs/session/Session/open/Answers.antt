@@ -5,7 +5,7 @@ use Rattle.browser_core.proofs.session.Session.open.Goals as goal
 pub returns-in_err-core-clause-accepted : goal.returns-in_err-core-clause-accepted
 returns-in_err-core-clause-accepted c =
     let p = err_from_is_err_and c.from_residual.result c.from_residual.ensures.1 in
-    λ start o. rw (p.1, p.2) (c.in_err-core.ensures.accepted start o)
+    λ sound. rw (p.1, p.2) (c.in_err-core.ensures.accepted sound)
 
 pub returns-in_err-line-clause-refused : goal.returns-in_err-line-clause-refused
 returns-in_err-line-clause-refused c =
@@ -15,4 +15,4 @@ returns-in_err-line-clause-refused c =
 pub returns-in_err-line-clause-accepted : goal.returns-in_err-line-clause-accepted
 returns-in_err-line-clause-accepted c =
     let p = err_from_is_err_and c.from_residual-in_err-line.result c.from_residual-in_err-line.ensures.1 in
-    λ start o. rw (p.1, p.2) c.in_err-line.ensures.memory
+    λ sound. rw (p.1, p.2) c.in_err-line.ensures.memory

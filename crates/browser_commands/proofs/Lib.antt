@@ -1,0 +1,15 @@
+pub mod Browsers
+pub mod FormLemmas
+pub mod OpeningLemmas
+pub mod AgreeLemmas
+pub mod ByteLemmas
+pub mod SetLemmas
+pub mod BlockLemmas
+pub mod RouteLemmas
+pub mod TellingLemmas
+pub mod ChangeLemmas
+pub mod DefaultLemmas
+pub mod FollowLemmas
+pub mod CountLemmas
+pub mod FieldLemmas
+pub mod LineLemmas

@@ -1,0 +1,235 @@
+-- Which bytes open a session, and with which faults they do not.
+use Rattle.std.proofs.Common.{◌≡◌, ℕ, List, [], ◌∷◌, Option, Some, refl, sym, ap, subst, ◌∙◌, inl, inr}
+use Rattle.std.specs.Prelude.{filter}
+use Rattle.std.specs.Option.{IsSome}
+use Rattle.hii_bytes.specs.declared.cause.Cause.{Cause}
+use Rattle.hii_bytes.specs.declared.cause.Fault.{Fault}
+use Rattle.hii_bytes.specs.Faults.{HasNone, IsLeast, Refuses, Then, out_of_memory}
+use Rattle.hii_bytes.proofs.FaultLemmas.{then_first, then_second, then_none}
+use Rattle.hii_packages.specs.Packages.{Entry, SpellsPackages, nth_forms, device_path_of}
+use Rattle.hii_packages.specs.Faults.{IsListFault, IsFormsFault}
+use Rattle.hii_packages.proofs.SpellLemmas.{end_from_spells}
+use Rattle.hii_packages.proofs.PlaceLemmas as list_places
+use Rattle.hii_packages.proofs.FormsLemmas.{there_without_fault}
+use Rattle.hii_languages.specs.Languages.{Spoken, string_packages, AreSpoken, IsStringsFault, chosen}
+use Rattle.hii_languages.proofs.SpokenLemmas.{spoken_sound}
+use Rattle.ifr_opcodes.specs.Forest.{Node, places}
+use Rattle.ifr_scopes.specs.Accepted.{IsAccepted, IsPackageFault}
+use Rattle.ifr_scopes.specs.Nodes.{nodes_of, is_form}
+use Rattle.ifr_scopes.proofs.AcceptedLemmas.{accepted_no_fault}
+use Rattle.hii_varstore.specs.Layout.{Shape}
+use Rattle.hii_varstore.specs.Image.{SpellsImage}
+use Rattle.hii_varstore.specs.StoreNodes.{IsStoreFault}
+use Rattle.hii_varstore.specs.Faults.{IsImageFault}
+use Rattle.hii_varstore.proofs.FaultLemmas as image_faults
+use Rattle.hii_questions.specs.Faults.{IsQuestionFault}
+use Rattle.form_sets.specs.Packages.{IsGoodPackage}
+use Rattle.form_sets.proofs.PackageLemmas.{accepted_where_good, stored_where_good, asked_where_good, good_where_accepted}
+use Rattle.guard_policy.specs.World.{removed_at}
+use Rattle.session_steps.specs.State.{State}
+use Rattle.browser_commands.proofs.FormLemmas.{first_of}
+use Rattle.session_steps.specs.Opening.{forms_bytes, HasSource, HasTexts, layout_in, IsSourceFault, IsTextFault, IsFormSetFault, IsBrowsingFault, IsOpenFault, AreGood, Opens}
+use Rattle.session_steps.specs.code.Browsable.{IsBrowsable}
+use Rattle.session_steps.proofs.SourceLemmas.{source_bytes, spelled_pieces}
+
+-- ---- the forms package of a number
+
+some_is : (o : Option Entry) (source : Entry) → o ≡ Some source → IsSome o
+some_is o source e = subst IsSome (sym e) refl
+
+pub no_source_fault : (list : List ℕ) (n : ℕ) (source : Entry) → HasSource list n source → HasNone (IsSourceFault list n)
+no_source_fault list n source (packages, s, found) =
+    then_none (IsListFault list) (IsFormsFault list n) (list_places.no_fault list _ (end_from_spells list packages s))
+    ((there_without_fault list packages n s).1 (some_is (nth_forms packages n) source found))
+
+-- ---- what can be browsed has no fault
+
+-- the faults of a forms package behind those of the package itself
+abbrev Later : List ℕ → Cause → ℕ → Type 0
+Later ifr = Then (IsStoreFault (nodes_of ifr)) (IsQuestionFault (nodes_of ifr))
+
+pub browsable_no_fault : (ifr : List ℕ) → IsBrowsable ifr → HasNone (IsFormSetFault ifr)
+browsable_no_fault ifr b =
+    then_none (IsPackageFault ifr) (Later ifr) (accepted_no_fault ifr b.accepted)
+    (then_none (IsStoreFault (nodes_of ifr)) (IsQuestionFault (nodes_of ifr)) b.stores b.questions)
+
+-- the list's forms package of the number is found, these are its bytes, and the list's string packages say this
+pub record IsFound (list : List ℕ) (n : ℕ) (ifr : List ℕ) : Type 0 where
+  pub source : Entry
+  pub found : HasSource list n source
+  pub is : ifr ≡ source.bytes
+  pub spoken : List Spoken
+  pub texts : HasTexts list spoken
+
+pub is_found : (list : List ℕ) (n : ℕ) (packages : List (List ℕ)) (source : Entry) (ifr : List ℕ) (spoken : List Spoken) → SpellsPackages list packages → nth_forms packages n ≡ Some source → ifr ≡ source.bytes
+    → AreSpoken (string_packages packages) spoken → IsFound list n ifr
+is_found list n packages source ifr spoken s found is says = record { source = source; found = (packages, s, found); is = is; spoken = spoken; texts = (packages, s, says) }
+
+no_text_fault : (list : List ℕ) (spoken : List Spoken) → HasTexts list spoken → HasNone (IsTextFault list)
+no_text_fault list spoken (packages, s, says) =
+    subst (λ ps. HasNone (IsStringsFault (string_packages ps))) (sym (spelled_pieces list packages s)) (spoken_sound (string_packages packages) spoken says)
+
+-- what is good can be browsed, and the other way round
+browsable_where_good : (ifr : List ℕ) → IsGoodPackage ifr → IsBrowsable ifr
+browsable_where_good ifr g = record { accepted = accepted_where_good ifr g; stores = stored_where_good ifr g; questions = asked_where_good ifr g }
+
+pub good_where_browsable : (ifr : List ℕ) → IsBrowsable ifr → IsGoodPackage ifr
+good_where_browsable ifr b = good_where_accepted ifr b.accepted b.stores b.questions
+
+-- good bytes have no fault
+pub good_no_fault : (list : List ℕ) (n : ℕ) (image : List ℕ) → AreGood list n image → HasNone (IsOpenFault list n image)
+good_no_fault list n image g =
+    let ifr = g.source.bytes in
+    then_none (IsSourceFault list n) (Then (IsTextFault list) (IsBrowsingFault (forms_bytes list n) image)) (no_source_fault list n g.source g.found)
+    (then_none (IsTextFault list) (IsBrowsingFault (forms_bytes list n) image) (no_text_fault list g.spoken g.texts)
+    (subst (λ ifr. HasNone (IsBrowsingFault ifr image)) (sym (source_bytes list n g.source g.found))
+    (then_none (IsFormSetFault ifr) (IsImageFault (layout_in ifr) image) (browsable_no_fault ifr (browsable_where_good ifr g.good)) (image_faults.no_fault (layout_in ifr) image g.stores g.image_is))))
+
+-- bytes that open a session are good
+pub opens_good : (list : List ℕ) (n : ℕ) (image language : List ℕ) (start : State) → Opens list n image language start → AreGood list n image
+opens_good list n image language start o = record {
+  source = o.source;
+  found = o.found;
+  spoken = start.spoken;
+  texts = o.texts;
+  good = subst IsGoodPackage o.bytes o.good;
+  stores = start.working;
+  image_is = subst (λ ifr. SpellsImage (layout_in ifr) image start.working) o.bytes o.stores;
+}
+
+pub opens_no_fault : (list : List ℕ) (n : ℕ) (stores language : List ℕ) (start : State) → Opens list n stores language start → HasNone (IsOpenFault list n stores)
+opens_no_fault list n stores language start o = good_no_fault list n stores (opens_good list n stores language start o)
+
+-- good bytes open a session
+pub opens_where_good : (list : List ℕ) (n : ℕ) (image language : List ℕ) → AreGood list n image → (start : State) × Opens list n image language start
+opens_where_good list n image language g =
+    let ifr = g.source.bytes in
+    let first = first_of ifr (accepted_where_good ifr g.good) in
+    let start : State = record {
+      ifr = ifr;
+      path = device_path_of g.found.0;
+      removed = removed_at (nodes_of ifr) g.stores;
+      spoken = g.spoken;
+      language = chosen g.spoken language;
+      committed = g.stores;
+      working = g.stores;
+      form = first.0.place;
+      history = [];
+    } in (
+      start,
+      record {
+        source = g.source;
+        found = g.found;
+        bytes = refl;
+        path = (g.found.0, g.found.1, refl);
+        texts = g.texts;
+        language_is = refl;
+        good = g.good;
+        stores = g.image_is;
+        submitted = refl;
+        removed = refl;
+        others = places first.1;
+        forms = ap places first.2;
+        history = refl;
+      },
+    )
+
+-- where the bytes open a session, the only fault is out of memory
+pub only_memory : (list : List ℕ) (n : ℕ) (stores language : List ℕ) (start : State) (fault : Fault) → Opens list n stores language start → Refuses (IsOpenFault list n stores) fault → fault ≡ out_of_memory
+only_memory list n stores language start fault o (inl memory) = memory
+only_memory list n stores language start fault o (inr least) = absurd (opens_no_fault list n stores language start o fault.cause fault.place least.told)
+
+-- ---- the part that refuses
+
+refuses_first : (First Second : Cause → ℕ → Type 0) (fault : Fault) → Refuses First fault → Refuses (Then First Second) fault
+refuses_first First Second fault (inl memory) = inl memory
+refuses_first First Second fault (inr least) = inr (then_first First Second fault least)
+
+pub refuses_second : (First Second : Cause → ℕ → Type 0) (fault : Fault) → HasNone First → Refuses Second fault → Refuses (Then First Second) fault
+refuses_second First Second fault none (inl memory) = inl memory
+refuses_second First Second fault none (inr least) = inr (then_second First Second fault none least)
+
+-- a part of the forms package refuses, where those before it have no fault
+pub package_refuses : (ifr : List ℕ) (fault : Fault) → Refuses (IsPackageFault ifr) fault → Refuses (IsFormSetFault ifr) fault
+package_refuses ifr fault r = refuses_first (IsPackageFault ifr) (Later ifr) fault r
+
+pub stores_refuse : (ifr : List ℕ) (fault : Fault) → IsAccepted ifr → Refuses (IsStoreFault (nodes_of ifr)) fault → Refuses (IsFormSetFault ifr) fault
+stores_refuse ifr fault a r =
+    refuses_second (IsPackageFault ifr) (Later ifr) fault (accepted_no_fault ifr a)
+    (refuses_first (IsStoreFault (nodes_of ifr)) (IsQuestionFault (nodes_of ifr)) fault r)
+
+pub questions_refuse : (ifr : List ℕ) (fault : Fault) → IsAccepted ifr → HasNone (IsStoreFault (nodes_of ifr)) → Refuses (IsQuestionFault (nodes_of ifr)) fault → Refuses (IsFormSetFault ifr) fault
+questions_refuse ifr fault a sound r =
+    refuses_second (IsPackageFault ifr) (Later ifr) fault (accepted_no_fault ifr a)
+    (refuses_second (IsStoreFault (nodes_of ifr)) (IsQuestionFault (nodes_of ifr)) fault sound r)
+
+-- the list refuses
+pub refuses_source : (list : List ℕ) (n : ℕ) (stores : List ℕ) (fault : Fault) → IsLeast (IsSourceFault list n) fault → Refuses (IsOpenFault list n stores) fault
+refuses_source list n stores fault least = refuses_first (IsSourceFault list n) _ fault (inr least)
+
+-- the list's string packages refuse
+pub refuses_texts : (list : List ℕ) (n : ℕ) (stores : List ℕ) (packages : List (List ℕ)) (source : Entry) (fault : Fault) → SpellsPackages list packages → nth_forms packages n ≡ Some source
+    → Refuses (IsStringsFault (string_packages packages)) fault → Refuses (IsOpenFault list n stores) fault
+refuses_texts list n stores packages source fault s found r =
+    refuses_second (IsSourceFault list n) (Then (IsTextFault list) (IsBrowsingFault (forms_bytes list n) stores)) fault (no_source_fault list n source (packages, s, found))
+    (refuses_first (IsTextFault list) (IsBrowsingFault (forms_bytes list n) stores) fault
+    (subst (λ ps. Refuses (IsStringsFault (string_packages ps)) fault) (sym (spelled_pieces list packages s)) r))
+
+-- the list's forms package refuses, or the image
+refuses_later : (list : List ℕ) (n : ℕ) (stores ifr : List ℕ) (fault : Fault) → IsFound list n ifr → Refuses (IsBrowsingFault ifr stores) fault → Refuses (IsOpenFault list n stores) fault
+refuses_later list n stores ifr fault f r =
+    refuses_second (IsSourceFault list n) (Then (IsTextFault list) (IsBrowsingFault (forms_bytes list n) stores)) fault (no_source_fault list n f.source f.found)
+    (refuses_second (IsTextFault list) (IsBrowsingFault (forms_bytes list n) stores) fault (no_text_fault list f.spoken f.texts)
+    (subst (λ ifr. Refuses (IsBrowsingFault ifr stores) fault) (f.is ∙ sym (source_bytes list n f.source f.found)) r))
+
+refuses_form_set : (list : List ℕ) (n : ℕ) (stores ifr : List ℕ) (fault : Fault) → IsFound list n ifr → Refuses (IsFormSetFault ifr) fault → Refuses (IsOpenFault list n stores) fault
+refuses_form_set list n stores ifr fault f r =
+    refuses_later list n stores ifr fault f (refuses_first (IsFormSetFault ifr) (IsImageFault (layout_in ifr) stores) fault r)
+
+pub refuses_package : (list : List ℕ) (n : ℕ) (stores ifr : List ℕ) (fault : Fault) → IsFound list n ifr → Refuses (IsPackageFault ifr) fault → Refuses (IsOpenFault list n stores) fault
+refuses_package list n stores ifr fault f r = refuses_form_set list n stores ifr fault f (package_refuses ifr fault r)
+
+pub refuses_stores : (list : List ℕ) (n : ℕ) (stores ifr : List ℕ) (fault : Fault) → IsFound list n ifr → IsAccepted ifr → Refuses (IsStoreFault (nodes_of ifr)) fault → Refuses (IsOpenFault list n stores) fault
+refuses_stores list n stores ifr fault f a r = refuses_form_set list n stores ifr fault f (stores_refuse ifr fault a r)
+
+pub refuses_questions : (list : List ℕ) (n : ℕ) (stores ifr : List ℕ) (shape : Shape) (fault : Fault) → IsFound list n ifr → IsAccepted ifr
+    → HasNone (IsStoreFault (nodes_of ifr)) → shape ≡ layout_in ifr → Refuses (IsQuestionFault (nodes_of ifr)) fault → Refuses (IsOpenFault list n stores) fault
+refuses_questions list n stores ifr shape fault f a sound laid r =
+    refuses_form_set list n stores ifr fault f (questions_refuse ifr fault a sound r)
+
+-- a package that can be browsed, of its parts
+pub browsable : (ifr : List ℕ) (shape : Shape) → IsAccepted ifr → HasNone (IsStoreFault (nodes_of ifr)) → shape ≡ layout_in ifr → HasNone (IsQuestionFault (nodes_of ifr)) → IsBrowsable ifr
+browsable ifr shape a sound laid questions = record {
+  accepted = a;
+  stores = sound;
+  questions = questions;
+}
+
+pub refuses_image : (list : List ℕ) (n : ℕ) (stores ifr : List ℕ) (shape : Shape) (fault : Fault) → IsFound list n ifr → IsBrowsable ifr
+    → shape ≡ layout_in ifr → Refuses (IsImageFault shape stores) fault → Refuses (IsOpenFault list n stores) fault
+refuses_image list n stores ifr shape fault f b laid r =
+    refuses_later list n stores ifr fault f
+    (refuses_second (IsFormSetFault ifr) (IsImageFault (layout_in ifr) stores) fault (browsable_no_fault ifr b)
+    (subst (λ shape. Refuses (IsImageFault shape stores) fault) laid r))
+
+-- what the bytes open
+pub opened : (list : List ℕ) (n : ℕ) (stores language : List ℕ) (packages : List (List ℕ)) (source : Entry) (start : State) (shape : Shape) (first : Node) (others : List Node)
+    → SpellsPackages list packages → nth_forms packages n ≡ Some source → start.ifr ≡ source.bytes → AreSpoken (string_packages packages) start.spoken → start.language ≡ chosen start.spoken language
+    → IsBrowsable start.ifr → shape ≡ layout_in start.ifr → SpellsImage shape stores start.committed
+    → start.working ≡ start.committed → start.removed ≡ removed_at (nodes_of start.ifr) start.working → filter is_form (nodes_of start.ifr) ≡ first ∷ others → start.form ≡ first.place → start.history ≡ [] → start.path ≡ device_path_of packages
+    → Opens list n stores language start
+opened list n stores language packages source start shape first others s found is says chose b laid spelled same removed forms place none path = record {
+  source = source;
+  found = (packages, s, found);
+  bytes = is;
+  path = (packages, s, path);
+  texts = (packages, s, says);
+  language_is = chose;
+  good = good_where_browsable start.ifr b;
+  stores = subst (SpellsImage (layout_in start.ifr) stores) (sym same) (subst (λ shape. SpellsImage shape stores start.committed) laid spelled);
+  submitted = sym same;
+  removed = removed;
+  others = places others;
+  forms = ap places forms ∙ ap (λ (p : ℕ). p ∷ places others) (sym place);
+  history = none;
+}

@@ -1,0 +1,4 @@
+-- How structs, iterators and tables of the code are seen. No module outside of this folder and of laws cites one of it.
+pub mod Standing
+pub mod Changing
+pub mod Counting

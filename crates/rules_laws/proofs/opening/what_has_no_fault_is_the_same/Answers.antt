@@ -1,5 +1,0 @@
-use Rattle.rules_laws.proofs.OpeningFaultLemmas.{same_sound_opening}
-use Rattle.rules_laws.proofs.opening.what_has_no_fault_is_the_same.Goals as goal
-
-pub returns : goal.returns
-returns c = same_sound_opening

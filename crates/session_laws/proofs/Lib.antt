@@ -1,0 +1,13 @@
+pub mod StayLemmas
+pub mod OpeningFaultLemmas
+pub mod StoredLemmas
+pub mod OutcomeLemmas
+pub mod SeenLemmas
+pub mod ChangeLemmas
+pub mod TakenLemmas
+pub mod RequestLemmas
+pub mod SessionLemmas
+pub mod BeginLemmas
+pub mod OpenedLemmas
+pub mod TouchLemmas
+pub mod RenewedLemmas

@@ -1,0 +1,2 @@
+-- Sessions of the contracts, in the words of the chapters.
+pub mod Session

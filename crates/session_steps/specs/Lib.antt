@@ -1,0 +1,7 @@
+pub mod State
+pub mod Texts
+pub mod Configuration
+pub mod Step
+pub mod Renewed
+pub mod Opening
+pub mod code
