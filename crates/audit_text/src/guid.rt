@@ -13,7 +13,7 @@ use hii_bytes::{Guid, Watched};
 use std::io::Write;
 
 /// How the hex digits above 9 are written.
-#[derive(Clone, Copy, Debug, PartialEq, Eq)]
+#[derive(Clone, Copy, PartialEq, Eq)]
 pub enum Case {
     /// As `A` to `F`.
     Upper,

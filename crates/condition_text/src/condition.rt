@@ -15,7 +15,7 @@ use std::alloc::{AllocError, Global};
 use std::io::Write;
 
 /// What an expression says in words.
-#[derive(Debug, Drop)]
+#[derive(Drop)]
 pub struct ConditionText<'a> {
     expr: Expr<'a>,
     // The pieces of the text, the last first.

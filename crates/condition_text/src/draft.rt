@@ -11,7 +11,7 @@ use ifr_opcodes::{Binary, Unary};
 use std::alloc::{AllocError, Global};
 
 /// What is to be put down.
-#[derive(Clone, Copy, Debug)]
+#[derive(Clone, Copy)]
 enum Task {
     /// The text of an operand.
     Operand,
@@ -46,7 +46,7 @@ impl Task {
 }
 
 /// The pieces of a text from its end on, and what is to be put down before them, the nearest last.
-#[derive(Debug, Drop)]
+#[derive(Drop)]
 pub(crate) struct Draft {
     tasks: Vec<Task>,
     pub(crate) pieces: Vec<Piece>,

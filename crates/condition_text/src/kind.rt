@@ -12,7 +12,7 @@ use ifr_opcodes::{Binary, ExprOp, LeafOp, Unary};
 use std::alloc::{AllocError, Global};
 
 /// What an operator is, without its fields and its operands.
-#[derive(Clone, Copy, Debug)]
+#[derive(Clone, Copy)]
 pub(crate) enum Kind {
     /// It takes no operands, and stands as an operand without parentheses.
     Value,

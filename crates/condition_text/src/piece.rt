@@ -14,7 +14,7 @@ use std::io::Write;
 
 /// A piece of a text. Operators that take no operands stand in it as they do in the expression, so that a piece need not say
 /// which one it is.
-#[derive(Clone, Copy, Debug)]
+#[derive(Clone, Copy)]
 pub(crate) enum Piece {
     /// The text of the next operator that takes no operands.
     Leaf,

@@ -7,7 +7,7 @@ use crate::digits::split_byte;
 
 /// A block of a store (UEFI 2.8, 34.2.1 String Grammar): its first byte, how many bytes it has, at least 1, and the hex
 /// digits of their value, the highest first, of which a request has none.
-#[derive(Clone, Copy, Debug)]
+#[derive(Clone, Copy)]
 pub struct Block<'a> {
     pub offset: u16,
     pub width: u16,

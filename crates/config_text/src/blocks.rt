@@ -8,7 +8,7 @@ use crate::elements::split_block;
 use crate::kind::TextKind;
 
 /// The blocks that are left of a text or of a whole store, from the first on.
-#[derive(Clone, Copy, Debug)]
+#[derive(Clone, Copy)]
 pub struct Blocks<'a> {
     // The bytes of a whole store that stands before the blocks of the text, or 0.
     whole: u16,

@@ -10,7 +10,7 @@ use hii_bytes::Watched;
 use std::io::Write;
 
 /// A header (UEFI 2.8, 34.2.1 String Grammar): a GUID, a store's name and a device path, in hex digits of either case.
-#[derive(Clone, Copy, Debug)]
+#[derive(Clone, Copy)]
 pub struct Header<'a> {
     guid: &'a [u8],
     name: &'a [u8],

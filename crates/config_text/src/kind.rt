@@ -1,7 +1,7 @@
 //! The two kinds of configuration texts.
 
 /// Whether the blocks of a text ask for values or tell them.
-#[derive(Clone, Copy, Debug, PartialEq, Eq)]
+#[derive(Clone, Copy, PartialEq, Eq)]
 pub(crate) enum TextKind {
     /// A request: its blocks have no value.
     Ask,

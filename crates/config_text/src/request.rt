@@ -11,7 +11,7 @@ use crate::kind::TextKind;
 use hii_bytes::Cause;
 
 /// A request (UEFI 2.8, 34.2.1 String Grammar): a header, and blocks without values.
-#[derive(Clone, Copy, Debug)]
+#[derive(Clone, Copy)]
 pub struct Request<'a> {
     header: Header<'a>,
     elements: &'a [u8],

@@ -11,7 +11,7 @@ use crate::kind::TextKind;
 use hii_bytes::Cause;
 
 /// A response (UEFI 2.8, 34.2.1 String Grammar): a header, and blocks with their values.
-#[derive(Clone, Copy, Debug)]
+#[derive(Clone, Copy)]
 pub struct Response<'a> {
     header: Header<'a>,
     pub(crate) elements: &'a [u8],

@@ -15,7 +15,7 @@ use ifr_opcodes::FORM_SET;
 use std::io::Write;
 
 /// What names a form set, and the string id of its title.
-#[derive(Clone, Copy, Debug)]
+#[derive(Clone, Copy)]
 struct FormSet<'a> {
     guid: Guid<'a>,
     title: u16,

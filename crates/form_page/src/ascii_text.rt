@@ -11,7 +11,7 @@ use itoa::Buffer;
 const MOST: usize = 40;
 
 /// Characters of ASCII, of which some are left.
-#[derive(Debug, Drop)]
+#[derive(Drop)]
 pub(crate) struct Ascii {
     pub(crate) text: ArrayVec<u8, MOST>,
     pub(crate) next: usize,

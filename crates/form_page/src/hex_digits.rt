@@ -3,7 +3,7 @@
 ghost use Rattle.std.specs.Prelude.{◌≤◌};
 
 /// The lower-case hexadecimal digits of a number that are left, the lowest of them last.
-#[derive(Clone, Copy, Debug)]
+#[derive(Clone, Copy)]
 pub(crate) struct HexDigits {
     pub(crate) number: u64,
     pub(crate) count: u32,

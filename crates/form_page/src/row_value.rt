@@ -40,7 +40,7 @@ pub enum RowValue<'a, 's, C: Conditions> {
 }
 
 /// A number that is shown in two hexadecimal digits for each of its bytes.
-#[derive(Clone, Copy, Debug)]
+#[derive(Clone, Copy)]
 pub struct Hexadecimal {
     pub number: u64,
     /// How many bytes it has.

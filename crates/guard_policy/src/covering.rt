@@ -26,7 +26,7 @@ use ifr_opcodes::{DISABLE_IF, GRAY_OUT_IF, SUPPRESS_IF};
 use ifr_scopes::{AnyCondition, Around, Guard, LockView, NoSubmit};
 
 /// Of the guards around a form, a statement or an option, of each effect the outermost that has it.
-#[derive(Clone, Copy, Debug)]
+#[derive(Clone, Copy)]
 pub(crate) struct Effects<'a> {
     pub(crate) hides: Option<Guard<'a>>,
     pub(crate) grays_out: Option<Guard<'a>>,

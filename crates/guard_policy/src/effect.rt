@@ -10,7 +10,7 @@ use ifr_opcodes::DISABLE_IF;
 use ifr_scopes::Guard;
 
 /// What a guard may do.
-#[derive(Clone, Copy, Debug)]
+#[derive(Clone, Copy)]
 pub(crate) enum Effect {
     /// It hides: a DISABLE_IF that was removed, or a SUPPRESS_IF whose condition holds.
     Hides,

@@ -24,7 +24,7 @@ use hii_questions::Question;
 use ifr_scopes::{Guard, LockView, Statement};
 
 /// What there is to know of a statement that is seen.
-#[derive(Clone, Copy, Debug)]
+#[derive(Clone, Copy)]
 pub struct SeenStatement<'a> {
     /// The question that it is, if it is one.
     pub question: Option<Question<'a>>,
@@ -33,7 +33,7 @@ pub struct SeenStatement<'a> {
 }
 
 /// How a statement stands.
-#[derive(Clone, Copy, Debug)]
+#[derive(Clone, Copy)]
 pub enum Standing<'a> {
     /// It is not seen, and so may not be changed.
     Hidden(Denial),

@@ -4,7 +4,7 @@ use hii_questions::Question;
 use ifr_scopes::{Form, Statement};
 
 /// What is decided, and of what: each is a call of the policy.
-#[derive(Clone, Copy, Debug)]
+#[derive(Clone, Copy)]
 pub enum Decision<'a> {
     /// Whether a statement is seen.
     Listed(Statement<'a>),

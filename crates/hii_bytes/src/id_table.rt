@@ -11,14 +11,14 @@ use std::alloc::{AllocError, Global};
 use std::marker::Model;
 
 /// An id, and the number that is kept with it.
-#[derive(Clone, Copy, Debug)]
+#[derive(Clone, Copy)]
 pub struct IdEntry {
     pub id: u16,
     pub number: u32,
 }
 
 /// Numbers by ids of 16 bits, in a sorted list that is searched by halves (own rule). It is seen as this list.
-#[derive(Debug, Drop)]
+#[derive(Drop)]
 pub struct IdTable {
     entries: Vec<IdEntry>,
 }

@@ -12,7 +12,7 @@ use crate::digits::number_of_digits;
 const MOST_DIGITS: usize = 20;
 
 /// The numbers that are left of a text that is a list of numbers, from the first on.
-#[derive(Clone, Copy, Debug)]
+#[derive(Clone, Copy)]
 pub struct NumberList<'a> {
     rest: &'a [u8],
     ghost listed: { lists.is_number_list rest.now ≡ true },

@@ -10,7 +10,7 @@ use hii_bytes::u32_at;
 use std::marker::Model;
 
 /// A dump, seen as its lists and its rest.
-#[derive(Debug, Drop)]
+#[derive(Drop)]
 pub struct Dump<'a> {
     lists: &'a [u8],
     rest: &'a [u8],

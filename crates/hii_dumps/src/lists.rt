@@ -8,7 +8,7 @@ use hii_bytes::u32_at;
 use std::marker::Model;
 
 /// A package list in a dump: its place in bytes from the dump's first one, and its bytes.
-#[derive(Clone, Copy, Debug)]
+#[derive(Clone, Copy)]
 pub struct DumpedList<'a> {
     /// The place in the dump.
     pub place: u64,
@@ -17,7 +17,7 @@ pub struct DumpedList<'a> {
 }
 
 /// The lists that are left of a dump, seen as a list of entries.
-#[derive(Debug, Drop)]
+#[derive(Drop)]
 pub struct Lists<'a> {
     rest: &'a [u8],
     place: u64,

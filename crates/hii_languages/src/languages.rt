@@ -17,7 +17,7 @@ use std::alloc::Global;
 use std::marker::Model;
 
 /// The string packages of a list, seen as what each says, in order.
-#[derive(Debug, Drop)]
+#[derive(Drop)]
 pub struct Languages<'a> {
     tables: Vec<StringTable<'a>>,
 }

@@ -7,7 +7,7 @@ use itoa::Buffer;
 use sibt_strings::{UnitChars, Units};
 
 /// What is shown of a string id (own rule; ids and texts are those of UEFI 2.8, 33.3.6 String Package).
-#[derive(Clone, Copy, Debug, PartialEq, Eq)]
+#[derive(Clone, Copy, PartialEq, Eq)]
 pub enum Shown<'a> {
     /// The string id 0.
     Nothing,
@@ -45,7 +45,7 @@ impl<'a> Shown<'a> {
 }
 
 /// The characters that are left of a shown text.
-#[derive(Debug, Drop)]
+#[derive(Drop)]
 pub struct ShownChars<'a> {
     // A missing text's number sign and digits, and which of them is next.
     missing: ArrayVec<u8, 6>,

@@ -13,7 +13,7 @@ use hii_bytes::{Cause, Fault, u24_at, u32_at};
 use std::marker::Model;
 
 /// The packages of a list, seen as their bytes in order.
-#[derive(Debug, Drop)]
+#[derive(Drop)]
 pub struct PackageList<'a> {
     body: &'a [u8],
 }

@@ -16,7 +16,7 @@ pub const END: u8 = 0xDF;
 
 /// A package of a list (UEFI 2.8, 33.3.1): its place in bytes from the list's front, its Type, and all of its bytes
 /// with the header of four. A package has less than 2^24 bytes.
-#[derive(Clone, Copy, Debug)]
+#[derive(Clone, Copy)]
 pub struct Package<'a> {
     pub place: u64,
     pub kind: u8,

@@ -9,7 +9,7 @@ use hii_bytes::u24_at;
 use std::marker::Model;
 
 /// The packages that are left of a list, seen as a list of entries.
-#[derive(Debug, Drop)]
+#[derive(Drop)]
 pub struct Packages<'a> {
     rest: &'a [u8],
     place: u64,

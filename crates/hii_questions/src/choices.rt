@@ -7,7 +7,7 @@ ghost use Rattle.hii_questions.specs.code.ChoiceViews.{choice_values};
 use ifr_scopes::Statement;
 
 /// What a question lets choose from: the values of its options.
-#[derive(Clone, Copy, Debug)]
+#[derive(Clone, Copy)]
 pub(crate) struct Choices<'a> {
     pub(crate) question: Statement<'a>,
 }

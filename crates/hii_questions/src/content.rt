@@ -9,7 +9,7 @@ use crate::items::Items;
 use byteorder::{ByteOrder, LittleEndian};
 
 /// What a field is to hold: items of `width` bytes each, and zeros behind them.
-#[derive(Clone, Copy, Debug)]
+#[derive(Clone, Copy)]
 pub(crate) struct Content<'i> {
     pub(crate) items: Items<'i>,
     pub(crate) width: usize,

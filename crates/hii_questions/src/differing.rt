@@ -13,7 +13,7 @@ use crate::question::Question;
 use hii_varstore::Stores;
 
 /// The questions that are left of a form set, by place, whose fields hold other bytes in the second stores than in the first.
-#[derive(Clone, Copy, Debug)]
+#[derive(Clone, Copy)]
 pub struct DifferingQuestions<'q, 'a> {
     pub(crate) ifr: &'a [u8],
     pub(crate) entries: &'q [QuestionEntry],

@@ -15,7 +15,7 @@ use ifr_opcodes::QuestionOp;
 use ifr_scopes::Statement;
 
 /// Where a field lies, in less room than a `FieldRange` takes.
-#[derive(Clone, Copy, Debug)]
+#[derive(Clone, Copy)]
 pub(crate) struct FieldEntry {
     pub(crate) store: u16,
     pub(crate) offset: u16,
@@ -36,7 +36,7 @@ impl FieldEntry {
 }
 
 /// A question.
-#[derive(Clone, Copy, Debug)]
+#[derive(Clone, Copy)]
 pub(crate) struct QuestionEntry {
     /// The place of the question, in bytes from the package's header.
     pub(crate) place: u32,

@@ -10,7 +10,7 @@ use crate::items::Items;
 use hii_varstore::Stores;
 
 /// New bytes for the field of a question (UEFI 2.8, 33.2.5.6 Storage).
-#[derive(Clone, Copy, Debug)]
+#[derive(Clone, Copy)]
 pub struct Field<'i> {
     /// The id of the store.
     pub store: u16,

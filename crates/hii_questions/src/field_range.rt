@@ -5,7 +5,7 @@
 pub const WIDEST_FIELD: usize = 2040;
 
 /// Where the field of a question lies. Fields follow one another by store, offset and width.
-#[derive(Clone, Copy, Debug, PartialEq, Eq, PartialOrd, Ord)]
+#[derive(Clone, Copy, PartialEq, Eq, PartialOrd, Ord)]
 pub struct FieldRange {
     /// The id of the store.
     pub store: u16,

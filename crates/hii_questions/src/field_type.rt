@@ -9,7 +9,7 @@ use ifr_opcodes::Display;
 use ifr_scopes::{Statement, StatementKind};
 
 /// A number of `width` bytes, signed or not, within bounds (UEFI 2.8, 33.3.8.3, EFI_IFR_NUMERIC).
-#[derive(Clone, Copy, Debug)]
+#[derive(Clone, Copy)]
 pub(crate) struct NumericType {
     pub(crate) signed: bool,
     pub(crate) width: usize,
@@ -19,7 +19,7 @@ pub(crate) struct NumericType {
 }
 
 /// A number of `width` bytes, the value of an option (UEFI 2.8, 33.3.8.3, EFI_IFR_ONE_OF).
-#[derive(Clone, Copy, Debug)]
+#[derive(Clone, Copy)]
 pub(crate) struct OneOfType<'a> {
     pub(crate) width: usize,
     pub(crate) choices: Choices<'a>,
@@ -27,14 +27,14 @@ pub(crate) struct OneOfType<'a> {
 }
 
 /// From `minimum` to `maximum` characters (UEFI 2.8, 33.3.8.3, EFI_IFR_STRING and EFI_IFR_PASSWORD).
-#[derive(Clone, Copy, Debug)]
+#[derive(Clone, Copy)]
 pub(crate) struct TextType {
     pub(crate) minimum: u16,
     pub(crate) maximum: u16,
 }
 
 /// At most `most` values of options (UEFI 2.8, 33.3.8.3, EFI_IFR_ORDERED_LIST).
-#[derive(Clone, Copy, Debug)]
+#[derive(Clone, Copy)]
 pub(crate) struct ListType<'a> {
     pub(crate) most: u8,
     /// None may come twice.
@@ -57,7 +57,7 @@ impl<'a> ListType<'a> {
 }
 
 /// What a field holds.
-#[derive(Clone, Copy, Debug)]
+#[derive(Clone, Copy)]
 pub(crate) enum FieldType<'a> {
     Checkbox,
     Numeric(NumericType),

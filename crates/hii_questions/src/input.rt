@@ -9,7 +9,7 @@ use crate::field_type::FieldType;
 use crate::numbers::number_of;
 
 /// A value that is offered to a question.
-#[derive(Clone, Copy, Debug)]
+#[derive(Clone, Copy)]
 pub enum Input<'i> {
     /// A number.
     Number(i128),

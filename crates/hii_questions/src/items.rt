@@ -8,7 +8,7 @@ use crate::stored_items::StoredItems;
 use hii_bytes::NumberList;
 
 /// The items of a field that are left, from the first to the last.
-#[derive(Clone, Copy, Debug)]
+#[derive(Clone, Copy)]
 pub enum Items<'i> {
     /// A number, if it is left.
     Number(Option<u64>),

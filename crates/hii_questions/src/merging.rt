@@ -6,7 +6,7 @@ ghost use Rattle.hii_questions.specs.code.Steps.{StepsRise, value_at};
 use std::alloc::{AllocError, Global};
 
 /// From a byte on, up to that of the next step, the number of the first field that has it.
-#[derive(Clone, Copy, Debug)]
+#[derive(Clone, Copy)]
 pub(crate) struct Step {
     /// The number of the byte among those of all stores.
     pub(crate) from: u64,
@@ -15,7 +15,7 @@ pub(crate) struct Step {
 }
 
 /// The steps that are left of a list, and the number of the one before them.
-#[derive(Clone, Copy, Debug)]
+#[derive(Clone, Copy)]
 struct Cursor<'s> {
     first: usize,
     steps: &'s [Step],

@@ -13,7 +13,7 @@ use ifr_opcodes::{PASSWORD, QuestionOp};
 use ifr_scopes::Statement;
 
 /// A question (UEFI 2.8, 33.2.5.4 Questions), and where its field lies.
-#[derive(Clone, Copy, Debug)]
+#[derive(Clone, Copy)]
 pub struct Question<'a> {
     pub(crate) statement: Statement<'a>,
     pub(crate) op: QuestionOp<'a>,

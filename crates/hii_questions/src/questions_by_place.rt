@@ -8,7 +8,7 @@ use crate::entry::QuestionEntry;
 use crate::question::Question;
 
 /// The questions that are left of some of a form set, by place.
-#[derive(Debug, Drop)]
+#[derive(Drop)]
 pub struct QuestionsByPlace<'q, 'a> {
     pub(crate) ifr: &'a [u8],
     pub(crate) entries: &'q [QuestionEntry],

@@ -6,7 +6,7 @@ ghost use Rattle.hii_questions.specs.code.Widths.{is_width};
 use hii_bytes::number_at;
 
 /// The numbers of `width` bytes each that are left of some bytes, up to the first that is 0.
-#[derive(Clone, Copy, Debug)]
+#[derive(Clone, Copy)]
 pub struct StoredItems<'i> {
     pub(crate) bytes: &'i [u8],
     pub(crate) width: usize,

@@ -16,7 +16,7 @@ use std::alloc::Global;
 use std::marker::Model;
 
 /// The GUID of a form set, and its buffer stores by place.
-#[derive(Debug, Drop)]
+#[derive(Drop)]
 pub struct Layout<'a> {
     guid: Guid<'a>,
     table: Table,
@@ -39,6 +39,7 @@ impl<'a> Layout<'a> {
     pub fn read(alloc: Global, forms: &Forms<'a>) -> Result<Layout<'a>, Fault>
         ensures read { IfOk result (λ layout. layout ≡ layout_of (nodes_of forms.now)) }
         ensures sound { IfOk result (λ layout. HasNone (IsStoreFault (nodes_of forms.now))) }
+        ensures apart { IfOk result (λ layout. AreBuffers layout.buffers) }
         ensures refused { IfErr result (Refuses (IsStoreFault (nodes_of forms.now))) }
     {
         let guid = forms.formset().op().guid();

@@ -23,7 +23,7 @@ use std::marker::Model;
 
 /// The bytes of the buffer stores of a form set, by the ids of the stores (UEFI 2.8, 33.2.5.6 Storage), and the form set's
 /// GUID. The image in which they are kept is an own rule.
-#[derive(Debug, Drop)]
+#[derive(Drop)]
 pub struct Stores {
     guid: [u8; 16],
     table: Table,

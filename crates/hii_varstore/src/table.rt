@@ -9,7 +9,7 @@ use std::alloc::{AllocError, Global};
 use std::marker::Model;
 
 /// The buffer stores by place, with an index by id.
-#[derive(Debug, Drop)]
+#[derive(Drop)]
 pub(crate) struct Table {
     buffers: Vec<Buffer>,
     places: IdTable,

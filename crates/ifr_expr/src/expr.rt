@@ -14,7 +14,7 @@ use crate::value::{Answers, Value};
 use hii_bytes::{Cause, Fault};
 
 /// An expression that was checked (UEFI 2.8, 33.2.5.7 Expressions).
-#[derive(Clone, Copy, Debug)]
+#[derive(Clone, Copy)]
 pub struct Expr<'a> {
     bytes: &'a [u8],
     place: u32,

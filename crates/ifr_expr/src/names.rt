@@ -23,7 +23,7 @@ pub enum Name {
 }
 
 /// What one operator names.
-#[derive(Clone, Copy, Debug, PartialEq, Eq)]
+#[derive(Clone, Copy, PartialEq, Eq)]
 enum Named {
     Nothing,
     One(Name),
@@ -50,7 +50,7 @@ fn named_by(op: ExprOp) -> Named
 }
 
 /// What an expression names, as far as it is left, by place.
-#[derive(Clone, Debug, Drop)]
+#[derive(Clone, Drop)]
 pub struct Names<'a> {
     pub(crate) ops: Operators<'a>,
     pub(crate) second: Option<u16>,

@@ -7,7 +7,7 @@ ghost use Rattle.ifr_expr.specs.code.Checked.{AreOpcodes-prop};
 use ifr_opcodes::{END, Op, split_opcode};
 
 /// The opcodes that are left up to the first END.
-#[derive(Clone, Copy, Debug)]
+#[derive(Clone, Copy)]
 pub struct Opcodes<'a> {
     rest: &'a [u8],
     place: u32,

@@ -7,7 +7,7 @@ use crate::opcodes::Opcodes;
 use ifr_opcodes::{ExprOp, Op};
 
 /// The operators that are left of an expression, by place.
-#[derive(Clone, Copy, Debug)]
+#[derive(Clone, Copy)]
 pub struct Operators<'a> {
     pub(crate) ops: Opcodes<'a>,
     pub ghost sized: { AreSized (opcodes_left ops) } by { AreSized-prop (opcodes_left ops) },

@@ -34,7 +34,7 @@ fn reference_in(op: Op) -> Option<RuleReference>
 }
 
 /// The references to rules that are left of an expression, by place.
-#[derive(Clone, Debug, Drop)]
+#[derive(Clone, Drop)]
 pub struct RuleReferences<'a> {
     pub(crate) ops: Operators<'a>,
 }

@@ -3,7 +3,7 @@
 use crate::names::{Name, Names};
 
 /// The ids of the questions that an expression names, those that are left, by place.
-#[derive(Clone, Debug, Drop)]
+#[derive(Clone, Drop)]
 pub struct Support<'a> {
     pub(crate) names: Names<'a>,
 }

@@ -1,7 +1,7 @@
 //! Values of expressions and of questions.
 
 /// The value of an expression, or what a question answers (UEFI 2.8, 33.2.5.7 Expressions).
-#[derive(Clone, Copy, Debug)]
+#[derive(Clone, Copy)]
 pub enum Value<'v> {
     /// No value: the question has no answer, or the operands do not suit the operator.
     Undefined,
@@ -16,7 +16,7 @@ pub enum Value<'v> {
 }
 
 /// What an operator makes of values.
-#[derive(Clone, Copy, Debug, PartialEq, Eq)]
+#[derive(Clone, Copy, PartialEq, Eq)]
 pub(crate) enum Outcome {
     Undefined,
     Boolean(bool),
@@ -40,7 +40,7 @@ impl Outcome {
 }
 
 /// A value that waits for its operator.
-#[derive(Clone, Copy, Debug)]
+#[derive(Clone, Copy)]
 pub(crate) enum Operand {
     Made(Outcome),
     /// What the question of an id answers.

@@ -13,7 +13,7 @@ use crate::op::Op;
 use hii_bytes::Fault;
 
 /// A question's default of a class (UEFI 2.8, 33.3.8.3, EFI_IFR_DEFAULT).
-#[derive(Clone, Copy, Debug)]
+#[derive(Clone, Copy)]
 pub struct DefaultOp<'a> {
     pub op: Op<'a>,
     pub ghost coded: { op.code ≡ DEFAULT },

@@ -7,7 +7,7 @@ ghost use Rattle.ifr_opcodes.specs.code.Ops.{bytes_of};
 use crate::op::Op;
 
 /// Whether the values of two questions are equal (UEFI 2.8, 33.3.8.3, EFI_IFR_EQ_ID_ID).
-#[derive(Clone, Copy, Debug)]
+#[derive(Clone, Copy)]
 pub struct EqIdIdOp<'a> {
     pub op: Op<'a>,
     pub ghost coded: { op.code ≡ EQ_ID_ID },

@@ -8,7 +8,7 @@ ghost use Rattle.ifr_opcodes.specs.code.Ops.{bytes_of};
 use crate::op::Op;
 
 /// Whether a question's value is one of several numbers (UEFI 2.8, 33.3.8.3, EFI_IFR_EQ_ID_VAL_LIST).
-#[derive(Clone, Copy, Debug)]
+#[derive(Clone, Copy)]
 pub struct EqIdValListOp<'a> {
     pub op: Op<'a>,
     pub ghost coded: { op.code ≡ EQ_ID_VAL_LIST },
@@ -46,7 +46,7 @@ impl<'a> EqIdValListOp<'a> {
 }
 
 /// The numbers that are left of an EQ_ID_VAL_LIST.
-#[derive(Clone, Debug, Drop)]
+#[derive(Clone, Drop)]
 pub struct ListValues<'a> {
     rest: &'a [u8],
 }

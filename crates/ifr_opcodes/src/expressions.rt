@@ -21,7 +21,7 @@ use crate::rows::least_len;
 use hii_bytes::{Cause, Fault};
 
 /// An operator of an expression, by how many operands it takes.
-#[derive(Clone, Copy, Debug)]
+#[derive(Clone, Copy)]
 pub enum ExprOp<'a> {
     /// None.
     Leaf(LeafOp<'a>),
@@ -102,7 +102,7 @@ impl<'a> ExprOp<'a> {
 }
 
 /// An operator that takes no operands and is no reference to a rule.
-#[derive(Clone, Copy, Debug)]
+#[derive(Clone, Copy)]
 pub enum LeafOp<'a> {
     /// EQ_ID_VAL: whether a question's answer is a number.
     EqIdVal(EqIdValOp<'a>),
@@ -141,7 +141,7 @@ impl<'a> LeafOp<'a> {
 }
 
 /// A number of 1, 2, 4 or 8 bytes (UEFI 2.8, 33.3.8.3, EFI_IFR_UINT8 to EFI_IFR_UINT64).
-#[derive(Clone, Copy, Debug)]
+#[derive(Clone, Copy)]
 pub struct UintOp<'a> {
     pub op: Op<'a>,
     pub ghost coded: { is_among op.code uints ≡ true },
@@ -165,7 +165,7 @@ impl<'a> UintOp<'a> {
 }
 
 /// A value that stands in its number (UEFI 2.8, 33.3.8.3, EFI_IFR_TRUE and the like).
-#[derive(Clone, Copy, Debug)]
+#[derive(Clone, Copy)]
 pub struct ConstantOp<'a> {
     pub op: Op<'a>,
     pub constant: Constant,
@@ -173,14 +173,14 @@ pub struct ConstantOp<'a> {
 }
 
 /// The value of the question in whose scope it stands (UEFI 2.8, 33.3.8.3, EFI_IFR_THIS).
-#[derive(Clone, Copy, Debug)]
+#[derive(Clone, Copy)]
 pub struct ThisOp<'a> {
     pub op: Op<'a>,
     pub ghost coded: { op.code ≡ THIS },
 }
 
 /// An operator that takes one operand (UEFI 2.8, 33.3.8.3, EFI_IFR_NOT and EFI_IFR_BITWISE_NOT).
-#[derive(Clone, Copy, Debug)]
+#[derive(Clone, Copy)]
 pub struct UnaryOp<'a> {
     pub op: Op<'a>,
     pub operator: Unary,
@@ -188,7 +188,7 @@ pub struct UnaryOp<'a> {
 }
 
 /// An operator that takes two operands, of which the left one stands first (UEFI 2.8, 33.3.8.3, EFI_IFR_AND and the like).
-#[derive(Clone, Copy, Debug)]
+#[derive(Clone, Copy)]
 pub struct BinaryOp<'a> {
     pub op: Op<'a>,
     pub operator: Binary,

@@ -1,33 +1,17 @@
-//! Form sets and forms.
+//! Form sets, forms and rules.
 
-ghost use Rattle.std.specs.Prelude.{◌≡◌, ◌≤◌, length};
-ghost use Rattle.ifr_opcodes.specs.declared.codes.TheConstants.{FORM, FORM_SET};
+ghost use Rattle.std.specs.Prelude.{◌≡◌};
 ghost use Rattle.ifr_opcodes.specs.code.Ops.{bytes_of};
 
-use crate::codes::{FORM, FORM_SET};
-use crate::op::Op;
-use hii_bytes::{Fault, Guid};
+use crate::codes::{FORM, FORM_SET, RULE};
+use crate::row_view::RowView;
+use hii_bytes::Guid;
 
-/// A form set (UEFI 2.8, 33.3.8.3, EFI_IFR_FORM_SET).
-#[derive(Clone, Copy, Debug)]
-pub struct FormSetOp<'a> {
-    pub op: Op<'a>,
-    pub ghost coded: { op.code ≡ FORM_SET },
-    pub ghost sized: { 23 ≤ length (bytes_of op) },
-}
+/// A form set (UEFI 2.8, 33.3.8.3, EFI_IFR_FORM_SET), of 23 bytes and more.
+pub type FormSetOp<'a> = RowView<'a, FORM_SET>;
 
 impl<'a> FormSetOp<'a> {
     ghost use Rattle.ifr_opcodes.specs.Fields.{form_set_guid, form_set_title, form_set_help, form_set_flags};
-    ghost use Rattle.ifr_opcodes.specs.Rows.{is_row};
-    ghost use Rattle.ifr_opcodes.specs.code.Views.{Reads};
-
-    /// Another opcode is refused by OpOutside, one of less than 23 bytes by OpSize, each at its place.
-    pub fn read(op: Op<'a>) -> Result<FormSetOp<'a>, Fault>
-        ensures { Reads (is_row FORM_SET) (λ view. view.op) op.entry result }
-    {
-        op.check_row(FORM_SET)?;
-        Ok(FormSetOp { op })
-    }
 
     /// What names the form set.
     pub fn guid(self) -> Guid<'a>
@@ -58,26 +42,11 @@ impl<'a> FormSetOp<'a> {
     }
 }
 
-/// A form (UEFI 2.8, 33.3.8.3, EFI_IFR_FORM).
-#[derive(Clone, Copy, Debug)]
-pub struct FormOp<'a> {
-    pub op: Op<'a>,
-    pub ghost coded: { op.code ≡ FORM },
-    pub ghost sized: { 6 ≤ length (bytes_of op) },
-}
+/// A form (UEFI 2.8, 33.3.8.3, EFI_IFR_FORM), of 6 bytes and more.
+pub type FormOp<'a> = RowView<'a, FORM>;
 
 impl<'a> FormOp<'a> {
     ghost use Rattle.ifr_opcodes.specs.Fields.{form_id, form_title};
-    ghost use Rattle.ifr_opcodes.specs.Rows.{is_row};
-    ghost use Rattle.ifr_opcodes.specs.code.Views.{Reads};
-
-    /// Another opcode is refused by OpOutside, one of less than 6 bytes by OpSize, each at its place.
-    pub fn read(op: Op<'a>) -> Result<FormOp<'a>, Fault>
-        ensures { Reads (is_row FORM) (λ view. view.op) op.entry result }
-    {
-        op.check_row(FORM)?;
-        Ok(FormOp { op })
-    }
 
     /// The form's id.
     pub fn id(self) -> u16
@@ -91,5 +60,19 @@ impl<'a> FormOp<'a> {
         ensures { result ≡ form_title (bytes_of self.entry.op) }
     {
         self.op.u16_at(4)
+    }
+}
+
+/// A rule, an expression with an id (UEFI 2.8, 33.3.8.3, EFI_IFR_RULE), of 3 bytes and more.
+pub type RuleOp<'a> = RowView<'a, RULE>;
+
+impl<'a> RuleOp<'a> {
+    ghost use Rattle.ifr_opcodes.specs.Fields.{rule_id};
+
+    /// The rule's id.
+    pub fn id(self) -> u8
+        ensures { result ≡ rule_id (bytes_of self.entry.op) }
+    {
+        self.op.u8_at(2)
     }
 }

@@ -12,7 +12,7 @@ use crate::questions::QuestionOp;
 use hii_bytes::Fault;
 
 /// A question for a number (UEFI 2.8, 33.3.8.3, EFI_IFR_NUMERIC).
-#[derive(Clone, Copy, Debug)]
+#[derive(Clone, Copy)]
 pub struct NumericOp<'a> {
     pub op: Op<'a>,
     pub ghost coded: { op.code ≡ NUMERIC },

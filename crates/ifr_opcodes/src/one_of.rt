@@ -12,7 +12,7 @@ use crate::questions::QuestionOp;
 use hii_bytes::Fault;
 
 /// A question for the value of one of its options (UEFI 2.8, 33.3.8.3, EFI_IFR_ONE_OF).
-#[derive(Clone, Copy, Debug)]
+#[derive(Clone, Copy)]
 pub struct OneOfOp<'a> {
     pub op: Op<'a>,
     pub ghost coded: { op.code ≡ ONE_OF },

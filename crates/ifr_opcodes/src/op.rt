@@ -8,7 +8,7 @@ use crate::split::rest_from;
 use hii_bytes::{Cause, Fault, Guid, number_at, u16_at, u32_at};
 
 /// A whole opcode of a forms package (UEFI 2.8, 33.3.8.2.1 EFI_IFR_OP_HEADER).
-#[derive(Clone, Copy, Debug)]
+#[derive(Clone, Copy)]
 pub struct Op<'a> {
     /// Where it begins, in bytes from the package's header.
     pub place: u32,

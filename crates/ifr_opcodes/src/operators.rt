@@ -90,7 +90,7 @@ pub enum Constant {
 }
 
 /// An operator that takes one operand.
-#[derive(Clone, Copy, Debug, PartialEq, Eq)]
+#[derive(Clone, Copy, PartialEq, Eq)]
 pub enum Unary {
     /// The other Boolean.
     Not,
@@ -99,7 +99,7 @@ pub enum Unary {
 }
 
 /// An operator that takes two operands.
-#[derive(Clone, Copy, Debug, PartialEq, Eq)]
+#[derive(Clone, Copy, PartialEq, Eq)]
 pub enum Binary {
     /// Whether both Booleans are true.
     And,

@@ -19,7 +19,7 @@ const OPTION_DEFAULT: u8 = 0x10;
 const OPTION_DEFAULT_MFG: u8 = 0x20;
 
 /// A value that a question may take (UEFI 2.8, 33.3.8.3, EFI_IFR_ONE_OF_OPTION).
-#[derive(Clone, Copy, Debug)]
+#[derive(Clone, Copy)]
 pub struct OptionOp<'a> {
     pub op: Op<'a>,
     pub ghost coded: { op.code ≡ ONE_OF_OPTION },

@@ -16,7 +16,7 @@ const UNIQUE_SET: u8 = 0x01;
 const NO_EMPTY_SET: u8 = 0x02;
 
 /// A question for a list of values of its options (UEFI 2.8, 33.3.8.3, EFI_IFR_ORDERED_LIST).
-#[derive(Clone, Copy, Debug)]
+#[derive(Clone, Copy)]
 pub struct OrderedListOp<'a> {
     pub op: Op<'a>,
     pub ghost coded: { op.code ≡ ORDERED_LIST },

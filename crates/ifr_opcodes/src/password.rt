@@ -1,34 +1,17 @@
 //! Questions for a password.
 
-ghost use Rattle.std.specs.Prelude.{◌≡◌, ◌≤◌, length};
-ghost use Rattle.ifr_opcodes.specs.declared.codes.TheConstants.{PASSWORD};
+ghost use Rattle.std.specs.Prelude.{◌≡◌};
 ghost use Rattle.ifr_opcodes.specs.code.Ops.{bytes_of, op_of};
 
 use crate::codes::PASSWORD;
-use crate::op::Op;
 use crate::questions::QuestionOp;
-use hii_bytes::Fault;
+use crate::row_view::RowView;
 
-/// A question for a password (UEFI 2.8, 33.3.8.3, EFI_IFR_PASSWORD).
-#[derive(Clone, Copy, Debug)]
-pub struct PasswordOp<'a> {
-    pub op: Op<'a>,
-    pub ghost coded: { op.code ≡ PASSWORD },
-    pub ghost sized: { 17 ≤ length (bytes_of op) },
-}
+/// A question for a password (UEFI 2.8, 33.3.8.3, EFI_IFR_PASSWORD), of 17 bytes and more.
+pub type PasswordOp<'a> = RowView<'a, PASSWORD>;
 
 impl<'a> PasswordOp<'a> {
     ghost use Rattle.ifr_opcodes.specs.Fields.{password_minimum, password_maximum};
-    ghost use Rattle.ifr_opcodes.specs.Rows.{is_row};
-    ghost use Rattle.ifr_opcodes.specs.code.Views.{Reads};
-
-    /// Another opcode is refused by OpOutside, one of less than 17 bytes by OpSize, each at its place.
-    pub fn read(op: Op<'a>) -> Result<PasswordOp<'a>, Fault>
-        ensures { Reads (is_row PASSWORD) (λ view. view.op) op.entry result }
-    {
-        op.check_row(PASSWORD)?;
-        Ok(PasswordOp { op })
-    }
 
     /// What it has as a question.
     #[tactic(auto, unfolding(crate::specs::Rows::is_question_number, browser_rules::specs::Opcodes::row_of))]

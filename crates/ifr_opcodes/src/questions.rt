@@ -21,7 +21,7 @@ const CHECKBOX_DEFAULT: u8 = 0x01;
 const CHECKBOX_DEFAULT_MFG: u8 = 0x02;
 
 /// What the opcodes of all statements have (UEFI 2.8, 33.3.8.2.3 EFI_IFR_STATEMENT_HEADER).
-#[derive(Clone, Copy, Debug)]
+#[derive(Clone, Copy)]
 pub struct StatementOp<'a> {
     pub op: Op<'a>,
     pub ghost coded: { is_statement_number op.code ≡ true },
@@ -61,7 +61,7 @@ impl<'a> StatementOp<'a> {
 }
 
 /// What the opcodes of all questions have (UEFI 2.8, 33.3.8.2.2 EFI_IFR_QUESTION_HEADER).
-#[derive(Clone, Copy, Debug)]
+#[derive(Clone, Copy)]
 pub struct QuestionOp<'a> {
     pub op: Op<'a>,
     pub ghost coded: { is_question_number op.code ≡ true },
@@ -130,7 +130,7 @@ impl<'a> QuestionOp<'a> {
 }
 
 /// A question with two answers (UEFI 2.8, 33.3.8.3, EFI_IFR_CHECKBOX).
-#[derive(Clone, Copy, Debug)]
+#[derive(Clone, Copy)]
 pub struct CheckboxOp<'a> {
     pub op: Op<'a>,
     pub ghost coded: { op.code ≡ CHECKBOX },

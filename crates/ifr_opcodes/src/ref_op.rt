@@ -1,34 +1,18 @@
 //! References to forms.
 
-ghost use Rattle.std.specs.Prelude.{◌≡◌, ◌≤◌, length, option_map};
-ghost use Rattle.ifr_opcodes.specs.declared.codes.TheConstants.{REF};
+ghost use Rattle.std.specs.Prelude.{◌≡◌, option_map};
 ghost use Rattle.ifr_opcodes.specs.code.Ops.{bytes_of, op_of};
 
 use crate::codes::REF;
-use crate::op::Op;
 use crate::questions::QuestionOp;
-use hii_bytes::{Fault, Guid};
+use crate::row_view::RowView;
+use hii_bytes::Guid;
 
-/// A question that leads to a form (UEFI 2.8, 33.3.8.3, EFI_IFR_REF).
-#[derive(Clone, Copy, Debug)]
-pub struct RefOp<'a> {
-    pub op: Op<'a>,
-    pub ghost coded: { op.code ≡ REF },
-    pub ghost sized: { 13 ≤ length (bytes_of op) },
-}
+/// A question that leads to a form (UEFI 2.8, 33.3.8.3, EFI_IFR_REF), of 13 bytes and more.
+pub type RefOp<'a> = RowView<'a, REF>;
 
 impl<'a> RefOp<'a> {
     ghost use Rattle.ifr_opcodes.specs.Fields.{ref_form_id, ref_question_id, ref_form_set, ref_device_path, ref_target};
-    ghost use Rattle.ifr_opcodes.specs.Rows.{is_row};
-    ghost use Rattle.ifr_opcodes.specs.code.Views.{Reads};
-
-    /// Another opcode is refused by OpOutside, one of less than 13 bytes by OpSize, each at its place.
-    pub fn read(op: Op<'a>) -> Result<RefOp<'a>, Fault>
-        ensures { Reads (is_row REF) (λ view. view.op) op.entry result }
-    {
-        op.check_row(REF)?;
-        Ok(RefOp { op })
-    }
 
     /// What it has as a question.
     #[tactic(auto, unfolding(crate::specs::Rows::is_question_number, browser_rules::specs::Opcodes::row_of))]

@@ -7,7 +7,7 @@ ghost use Rattle.ifr_opcodes.specs.code.Ops.{bytes_of};
 use crate::op::Op;
 
 /// A question's value (UEFI 2.8, 33.3.8.3, EFI_IFR_QUESTION_REF1).
-#[derive(Clone, Copy, Debug)]
+#[derive(Clone, Copy)]
 pub struct QuestionRefOp<'a> {
     pub op: Op<'a>,
     pub ghost coded: { op.code ≡ QUESTION_REF1 },
@@ -26,7 +26,7 @@ impl<'a> QuestionRefOp<'a> {
 }
 
 /// A rule's value (UEFI 2.8, 33.3.8.3, EFI_IFR_RULE_REF).
-#[derive(Clone, Copy, Debug)]
+#[derive(Clone, Copy)]
 pub struct RuleRefOp<'a> {
     pub op: Op<'a>,
     pub ghost coded: { op.code ≡ RULE_REF },

@@ -10,7 +10,7 @@ use crate::questions::QuestionOp;
 use hii_bytes::Fault;
 
 /// A question for a text (UEFI 2.8, 33.3.8.3, EFI_IFR_STRING).
-#[derive(Clone, Copy, Debug)]
+#[derive(Clone, Copy)]
 pub struct StringOp<'a> {
     pub op: Op<'a>,
     pub ghost coded: { op.code ≡ STRING },

@@ -11,7 +11,7 @@ use crate::guard::Guard;
 use ifr_expr::Expr;
 
 /// A condition of a package: that of a guard, or one of a question (UEFI 2.8, 33.3.8.3).
-#[derive(Clone, Copy, Debug)]
+#[derive(Clone, Copy)]
 pub enum AnyCondition<'a> {
     /// The condition of a guard.
     Guard(Guard<'a>),

@@ -10,7 +10,7 @@ use crate::locks::LockView;
 use crate::places::node_at;
 
 /// What stands around a form, a statement or an option: its guards, and the LOCKED that decides for it.
-#[derive(Clone, Copy, Debug)]
+#[derive(Clone, Copy)]
 pub struct Around<'s, 'a> {
     pub(crate) guards: GuardsOutward<'s, 'a>,
     // The place of the LOCKED that decides, if it is locked.

@@ -21,7 +21,7 @@ use ifr_opcodes::{
 };
 
 /// The opcode of a question's condition.
-#[derive(Clone, Copy, Debug)]
+#[derive(Clone, Copy)]
 pub enum ConditionOp<'a> {
     /// INCONSISTENT_IF, which denies a value.
     InconsistentIf(InconsistentIfOp<'a>),
@@ -67,7 +67,7 @@ impl<'a> ConditionOp<'a> {
 
 /// A condition in the scope of a question (UEFI 2.8, 33.3.8.3, EFI_IFR_INCONSISTENT_IF, EFI_IFR_NO_SUBMIT_IF and
 /// EFI_IFR_WARNING_IF).
-#[derive(Clone, Copy, Debug)]
+#[derive(Clone, Copy)]
 pub struct ConditionView<'a> {
     pub(crate) node: Node<'a>,
     pub(crate) this: u16,

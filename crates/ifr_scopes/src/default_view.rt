@@ -13,7 +13,7 @@ use ifr_expr::Expr;
 use ifr_opcodes::DefaultOp;
 
 /// A default of a question (UEFI 2.8, 33.3.8.3, EFI_IFR_DEFAULT).
-#[derive(Clone, Copy, Debug)]
+#[derive(Clone, Copy)]
 pub struct DefaultView<'a> {
     pub(crate) node: Node<'a>,
     pub ghost default: { is_default (node_of node) ≡ true },

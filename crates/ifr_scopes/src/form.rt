@@ -11,7 +11,7 @@ use crate::statement::Statements;
 use ifr_opcodes::FormOp;
 
 /// A form (UEFI 2.8, 33.2.5.2 Forms).
-#[derive(Clone, Copy, Debug)]
+#[derive(Clone, Copy)]
 pub struct Form<'a> {
     pub(crate) node: Node<'a>,
     pub ghost form: { is_form (node_of node) ≡ true },

@@ -29,7 +29,7 @@ pub(crate) fn form_among(bytes: &[u8], places: &[u32]) -> Option<u32>
 }
 
 /// A form, by its place, and where it ends: both in bytes from the package's header.
-#[derive(Clone, Copy, Debug)]
+#[derive(Clone, Copy)]
 pub(crate) struct FormEnd {
     pub(crate) place: u32,
     pub(crate) ends: u32,

@@ -8,7 +8,7 @@ use crate::node::Node;
 use ifr_opcodes::FormSetOp;
 
 /// The form set of a package (UEFI 2.8, 33.2.5.1 Form Sets).
-#[derive(Clone, Copy, Debug)]
+#[derive(Clone, Copy)]
 pub struct FormSet<'a> {
     pub(crate) node: Node<'a>,
     pub ghost form_set: { is_form_set (node_of node) ≡ true },

@@ -18,7 +18,7 @@ use ifr_opcodes::Op;
 
 /// A guard: a SUPPRESS_IF, GRAY_OUT_IF or DISABLE_IF (UEFI 2.8, 33.3.8.3, under the name of each). Its opcode is decoded only where
 /// it is asked for.
-#[derive(Clone, Copy, Debug)]
+#[derive(Clone, Copy)]
 pub struct Guard<'a> {
     pub(crate) ifr: &'a [u8],
     pub(crate) place: u32,

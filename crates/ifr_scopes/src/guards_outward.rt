@@ -12,7 +12,7 @@ use crate::index::GuardEntry;
 use arrayvec::ArrayVec;
 
 /// The guards of a form, a statement or an option that are left, the innermost first.
-#[derive(Clone, Copy, Debug)]
+#[derive(Clone, Copy)]
 pub struct GuardsOutward<'s, 'a> {
     pub(crate) ifr: &'a [u8],
     pub(crate) guards: &'s [GuardEntry],

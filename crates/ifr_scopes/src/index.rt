@@ -8,7 +8,7 @@ ghost use Rattle.hii_bytes.specs.code.FirstFaults.{Rise};
 use hii_bytes::IdTable;
 
 /// A form, a statement or an option. Places are in bytes from the package's header.
-#[derive(Clone, Copy, Debug)]
+#[derive(Clone, Copy)]
 pub struct Entry {
     pub(crate) place: u32,
     /// The number of its opcode.
@@ -20,7 +20,7 @@ pub struct Entry {
 }
 
 /// A guard. Its number is how many guards stand before it.
-#[derive(Clone, Copy, Debug)]
+#[derive(Clone, Copy)]
 pub struct GuardEntry {
     pub(crate) place: u32,
     /// The number of its opcode.
@@ -34,7 +34,7 @@ pub struct GuardEntry {
 }
 
 /// A condition of a question. Its number is how many of them stand before it.
-#[derive(Clone, Copy, Debug)]
+#[derive(Clone, Copy)]
 pub struct ConditionEntry {
     pub(crate) place: u32,
     /// The number of its opcode.

@@ -13,7 +13,7 @@ use ifr_opcodes::{LOCKED, Op};
 
 /// A LOCKED (UEFI 2.8, 33.3.8.3, EFI_IFR_LOCKED). It locks the node in whose scope it stands, and all inside of it (own
 /// rule).
-#[derive(Clone, Copy, Debug)]
+#[derive(Clone, Copy)]
 pub struct LockView<'a> {
     pub(crate) node: Node<'a>,
     pub ghost locked: { is_locked (node_of node) ≡ true },

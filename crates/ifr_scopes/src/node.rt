@@ -14,7 +14,7 @@ use ifr_opcodes::{
 };
 
 /// A node of a package whose nodes were checked.
-#[derive(Clone, Copy, Debug)]
+#[derive(Clone, Copy)]
 pub struct Node<'a> {
     pub(crate) ifr: &'a [u8],
     pub(crate) op: Op<'a>,

@@ -12,7 +12,7 @@ use crate::nodes_of::NodesOf;
 use ifr_opcodes::OptionOp;
 
 /// An option of a question (UEFI 2.8, 33.3.8.3, EFI_IFR_ONE_OF_OPTION).
-#[derive(Clone, Copy, Debug)]
+#[derive(Clone, Copy)]
 pub struct OptionView<'a> {
     pub(crate) node: Node<'a>,
     pub ghost option: { is_option (node_of node) ≡ true },

@@ -13,7 +13,7 @@ use crate::rules::expression_of;
 use ifr_expr::Expr;
 
 /// A rule (UEFI 2.8, 33.3.8.3, EFI_IFR_RULE).
-#[derive(Clone, Copy, Debug)]
+#[derive(Clone, Copy)]
 pub struct RuleView<'a> {
     pub(crate) node: Node<'a>,
     pub ghost rule: { is_rule (node_of node) ≡ true },

@@ -25,7 +25,7 @@ const MAX_DEPTH: u8 = 16;
 const MAX_WEIGHT: usize = 4096;
 
 /// How large a rule is.
-#[derive(Clone, Copy, Debug, PartialEq, Eq)]
+#[derive(Clone, Copy, PartialEq, Eq)]
 pub(crate) struct RuleSize {
     /// One more than the greatest depth of the rules that it names.
     pub(crate) depth: u8,
@@ -34,7 +34,7 @@ pub(crate) struct RuleSize {
 }
 
 /// A rule as it is kept. Places are in bytes from the package's header.
-#[derive(Clone, Copy, Debug, PartialEq, Eq)]
+#[derive(Clone, Copy, PartialEq, Eq)]
 pub(crate) struct KeptRule {
     pub(crate) place: u32,
     /// Where it ends.

@@ -14,7 +14,7 @@ use crate::walk::Walk;
 use arrayvec::ArrayVec;
 
 /// A node, and how many scopes are around it.
-#[derive(Clone, Copy, Debug)]
+#[derive(Clone, Copy)]
 pub(crate) struct ScopedNode<'a> {
     pub(crate) node: Node<'a>,
     pub(crate) depth: usize,

@@ -25,7 +25,7 @@ use ifr_opcodes::{
 };
 
 /// The opcode of a statement, by what it is.
-#[derive(Clone, Copy, Debug)]
+#[derive(Clone, Copy)]
 pub enum StatementKind<'a> {
     /// SUBTITLE, a heading.
     Subtitle(SubtitleOp<'a>),
@@ -87,7 +87,7 @@ impl<'a> StatementKind<'a> {
 }
 
 /// A statement (UEFI 2.8, 33.2.5.3 Statements), which may be a question (33.2.5.4 Questions).
-#[derive(Clone, Copy, Debug)]
+#[derive(Clone, Copy)]
 pub struct Statement<'a> {
     pub(crate) node: Node<'a>,
     // At which position of the index it is looked for first.

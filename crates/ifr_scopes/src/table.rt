@@ -16,7 +16,7 @@ use ifr_opcodes::{
 };
 
 /// Whether an opcode opens a scope.
-#[derive(Clone, Copy, Debug, PartialEq, Eq)]
+#[derive(Clone, Copy, PartialEq, Eq)]
 pub enum Scope {
     Always,
     Sometimes,
@@ -28,7 +28,7 @@ pub enum Scope {
 }
 
 /// What may stand in a scope.
-#[derive(Clone, Copy, Debug, PartialEq, Eq)]
+#[derive(Clone, Copy, PartialEq, Eq)]
 pub enum Class {
     OfFormSet,
     OfForm,
@@ -47,7 +47,7 @@ pub enum Class {
 }
 
 /// A row of the table of opcodes.
-#[derive(Clone, Copy, Debug, PartialEq, Eq)]
+#[derive(Clone, Copy, PartialEq, Eq)]
 pub struct Row {
     /// Whether it opens a scope.
     pub scope: Scope,

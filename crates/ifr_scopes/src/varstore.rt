@@ -15,7 +15,7 @@ use ifr_opcodes::{
 };
 
 /// The opcode of a store.
-#[derive(Clone, Copy, Debug)]
+#[derive(Clone, Copy)]
 pub enum StoreOp<'a> {
     /// VARSTORE, a buffer of bytes.
     Varstore(VarstoreOp<'a>),
@@ -49,7 +49,7 @@ impl<'a> StoreOp<'a> {
 }
 
 /// A store (UEFI 2.8, 33.2.5.6 Storage).
-#[derive(Clone, Copy, Debug)]
+#[derive(Clone, Copy)]
 pub struct Varstore<'a> {
     pub(crate) node: Node<'a>,
     pub ghost store: { is_store (node_of node) ≡ true },

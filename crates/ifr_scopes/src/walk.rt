@@ -13,7 +13,7 @@ use arrayvec::ArrayVec;
 use ifr_opcodes::{END, Op, op_at, split_opcode};
 
 /// A node that a walk meets.
-#[derive(Clone, Copy, Debug)]
+#[derive(Clone, Copy)]
 pub struct Visit<'a> {
     /// The opcode of the node.
     pub op: Op<'a>,

@@ -4,7 +4,7 @@ ghost use Rattle.std.specs.Prelude.{◌≡◌, ◌==◌, filter};
 ghost use Rattle.kept_conditions.specs.code.Links.{RulesRise};
 
 /// A rule and a reader that names it, by their numbers. Links follow one another by rule and user.
-#[derive(Clone, Copy, Debug, PartialEq, Eq, PartialOrd, Ord)]
+#[derive(Clone, Copy, PartialEq, Eq, PartialOrd, Ord)]
 pub(crate) struct Link {
     pub(crate) rule: u32,
     pub(crate) user: u32,

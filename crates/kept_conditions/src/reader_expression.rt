@@ -12,7 +12,7 @@ use ifr_expr::Expr;
 use ifr_scopes::RuleViews;
 
 /// The expression of a reader.
-#[derive(Clone, Copy, Debug)]
+#[derive(Clone, Copy)]
 pub(crate) struct ReaderExpression<'a> {
     pub(crate) expression: Expr<'a>,
     /// The id of the question in whose scope it stands, or 0.

@@ -8,7 +8,7 @@ use guard_policy::Conditions;
 use std::alloc::{AllocError, Global};
 
 /// A condition that is kept, or a rule.
-#[derive(Clone, Copy, Debug, Default)]
+#[derive(Clone, Copy, Default)]
 pub(crate) struct Reader {
     /// Where its opcode stands, in bytes from the header of the forms package.
     pub(crate) place: u32,

@@ -6,7 +6,7 @@ ghost use Rattle.kept_conditions.specs.code.Readings.{first_of, behind_of, meets
 use hii_questions::FieldRange;
 
 /// Bytes that a reader reads: those of the field of a question that it names. Readings follow one another by field and reader.
-#[derive(Clone, Copy, Debug, PartialEq, Eq, PartialOrd, Ord)]
+#[derive(Clone, Copy, PartialEq, Eq, PartialOrd, Ord)]
 pub(crate) struct Reading {
     pub(crate) range: FieldRange,
     /// The number of the reader.

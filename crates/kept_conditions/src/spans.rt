@@ -7,7 +7,7 @@ use crate::readings::Reading;
 use std::alloc::{AllocError, Global};
 
 /// How many readings up to one are summed up, and the greatest end of these.
-#[derive(Clone, Copy, Debug, Default)]
+#[derive(Clone, Copy, Default)]
 pub(crate) struct Span {
     pub(crate) len: usize,
     pub(crate) top: u64,

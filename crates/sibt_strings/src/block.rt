@@ -4,7 +4,7 @@ ghost use Rattle.std.specs.Prelude.{◌≡◌, is_some, true};
 ghost use Rattle.sibt_strings.specs.Blocks.{texts_in};
 
 /// So many texts, one after the other, at the front of the bytes.
-#[derive(Clone, Copy, Debug)]
+#[derive(Clone, Copy)]
 pub(crate) struct Texts<'a> {
     pub(crate) count: u16,
     pub(crate) bytes: &'a [u8],
@@ -12,7 +12,7 @@ pub(crate) struct Texts<'a> {
 }
 
 /// What a block says of the string ids that follow.
-#[derive(Clone, Copy, Debug)]
+#[derive(Clone, Copy)]
 pub(crate) enum Block<'a> {
     Texts(Texts<'a>),
     /// One id has the text of this one.

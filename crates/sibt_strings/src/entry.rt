@@ -9,7 +9,7 @@ use crate::front::{skip_texts, split_block, split_text};
 use crate::units::Units;
 
 /// What is told of one string id.
-#[derive(Clone, Copy, Debug)]
+#[derive(Clone, Copy)]
 pub(crate) enum Entry<'a> {
     Text(Units<'a>),
     /// The text of this id, which stands before it.

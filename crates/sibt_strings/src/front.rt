@@ -14,7 +14,7 @@ use crate::units::Units;
 use hii_bytes::{u16_at, u32_at};
 
 /// What stands at the front of the bytes of blocks, before its texts are split.
-#[derive(Clone, Copy, Debug)]
+#[derive(Clone, Copy)]
 pub(crate) enum Head<'a> {
     End,
     /// A block of so many texts, which stand at the front of the bytes if they are whole.
@@ -28,7 +28,7 @@ pub(crate) enum Head<'a> {
 }
 
 /// What stands at the front of the bytes of blocks.
-#[derive(Clone, Copy, Debug)]
+#[derive(Clone, Copy)]
 pub(crate) enum Front<'a> {
     End,
     /// A whole block, and the bytes behind it.

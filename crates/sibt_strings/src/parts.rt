@@ -12,7 +12,7 @@ use hii_packages::Package;
 
 /// The parts of a string package with a whole fixed part: its language, if that is one, and the bytes from its first block
 /// on.
-#[derive(Clone, Copy, Debug)]
+#[derive(Clone, Copy)]
 pub(crate) struct Parts<'a> {
     source: Package<'a>,
     language: Option<&'a [u8]>,

@@ -4,7 +4,7 @@ ghost use Rattle.std.specs.Prelude.{◌≡◌, ℕ};
 ghost use Rattle.sibt_strings.specs.code.Table.{place_of, Rises};
 
 /// The place of a string id's text: that of its first unit, in bytes from the first block.
-#[derive(Clone, Copy, Debug)]
+#[derive(Clone, Copy)]
 pub(crate) struct TextPlace {
     pub(crate) id: u16,
     pub(crate) place: u32,

@@ -19,7 +19,7 @@ struct TextPlaces {
 }
 
 /// What a step over the front of the bytes of blocks comes to.
-#[derive(Clone, Copy, Debug)]
+#[derive(Clone, Copy)]
 enum Step<'a> {
     End,
     /// The bytes behind a whole block.

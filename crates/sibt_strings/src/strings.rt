@@ -14,7 +14,7 @@ use hii_packages::Package;
 use std::marker::Model;
 
 /// The strings of a package, seen as its language and the text of each string id.
-#[derive(Debug, Drop)]
+#[derive(Drop)]
 pub struct Strings<'a> {
     pub(crate) language: &'a [u8],
     pub(crate) block_bytes: &'a [u8],

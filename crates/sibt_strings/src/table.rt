@@ -16,7 +16,7 @@ use std::alloc::Global;
 use std::marker::Model;
 
 /// The strings of a package with a table of its texts, seen as the language and the text of each string id.
-#[derive(Debug, Drop)]
+#[derive(Drop)]
 pub struct StringTable<'a> {
     language: &'a [u8],
     block_bytes: &'a [u8],

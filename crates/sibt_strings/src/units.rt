@@ -5,7 +5,7 @@ ghost use Rattle.std.specs.Option.{option_to_list};
 ghost use Rattle.sibt_strings.specs.Units.{shown_unit};
 
 /// The units of a text, two bytes each, the low byte first (UEFI 2.8, 33.2.6 Strings).
-#[derive(Clone, Copy, Debug, PartialEq, Eq)]
+#[derive(Clone, Copy, PartialEq, Eq)]
 pub struct Units<'a> {
     pub bytes: &'a [u8],
     pub ghost even: { length bytes.now % 2 ≡ 0 },
@@ -33,7 +33,7 @@ impl<'a> Units<'a> {
 }
 
 /// The characters that are left of a text.
-#[derive(Clone, Debug, Drop)]
+#[derive(Clone, Drop)]
 pub struct UnitChars<'a> {
     rest: &'a [u8],
 }
