@@ -1,9 +1,13 @@
 -- What a form set that is browsed is seen as, for proofs that look into it.
 use Rattle.ifr_scopes.specs.code.Lists.{form_node}
 use Rattle.hii_languages.specs.code.Views.{choice_of}
-use Rattle.std.proofs.Common.{◌≡◌, ap}
+use Rattle.std.proofs.Common.{◌≡◌, sym, ap, ◌∙◌}
+use Rattle.hii_varstore.specs.Stores.{StoreMap, shape_of}
+use Rattle.kept_conditions.specs.Kept.{KeptMap}
+use Rattle.session_steps.specs.Opening.{layout_in}
 use Rattle.session_steps.specs.Renewed.{Shown}
 use Rattle.session_steps.specs.State.{State}
+use Rattle.browser_commands.specs.code.Standing.{Stands}
 use Rattle.browser_commands.specs.declared.browser.Browser.TheInside.{Inside}
 
 abbrev pub state_in : Inside → State
@@ -17,6 +21,53 @@ state_in c = record {
   working = c.working.stores;
   form = (form_node c.form).place;
   history = c.history.items;
+}
+
+abbrev pub shown_in : Inside → Shown
+shown_in c = record { state = state_in c; renewed = c.working.renewed }
+
+-- what holds of a browser at all times
+abbrev pub IsStanding : Inside → Type 0
+IsStanding c =
+    Stands c.forms c.varstores c.questions c.committed c.working c.spare (form_node c.form) c.history.items
+
+-- what it is seen as with other working stores
+abbrev pub with_stores : Inside → KeptMap → Shown
+with_stores c now = record { state = record (state_in c) { working = now.stores }; renewed = now.renewed }
+
+-- what holds of it with other working and spare stores
+abbrev pub IsStandingWith : Inside → KeptMap → StoreMap → Type 0
+IsStandingWith c now spare =
+    Stands c.forms c.varstores c.questions c.committed now spare (form_node c.form) c.history.items
+
+-- It holds where both are as they were,
+pub stands_still : (c : Inside) (now : KeptMap) → IsStanding c → now.ifr ≡ c.working.ifr → now.stores ≡ c.working.stores → IsStandingWith c now c.spare
+stands_still c now stands same_package stores = record {
+  named_stores = stands.named_stores;
+  buffers = stands.buffers;
+  together = stands.together;
+  browsable = stands.browsable;
+  submitted = stands.submitted;
+  kept = same_package ∙ stands.kept;
+  laid = ap shape_of stores ∙ stands.laid;
+  same = stands.same ∙ sym stores;
+  node = stands.node;
+  left = stands.left;
+}
+
+-- and where both are of the layout and the same.
+pub stands_with : (c : Inside) (now : KeptMap) (spare : StoreMap) → IsStanding c → now.ifr ≡ c.working.ifr → shape_of spare ≡ layout_in c.forms → spare ≡ now.stores → IsStandingWith c now spare
+stands_with c now spare stands same_package laid same = record {
+  named_stores = stands.named_stores;
+  buffers = stands.buffers;
+  together = stands.together;
+  browsable = stands.browsable;
+  submitted = stands.submitted;
+  kept = same_package ∙ stands.kept;
+  laid = sym (ap shape_of same) ∙ laid;
+  same = same;
+  node = stands.node;
+  left = stands.left;
 }
 
 -- what is seen of the state alone

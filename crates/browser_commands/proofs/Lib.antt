@@ -4,6 +4,8 @@ pub mod OpeningLemmas
 pub mod AgreeLemmas
 pub mod ByteLemmas
 pub mod SetLemmas
+pub mod ValueLemmas
+pub mod CommandLemmas
 pub mod BlockLemmas
 pub mod RouteLemmas
 pub mod TellingLemmas

@@ -163,6 +163,13 @@ questions_refuse ifr fault a sound r =
     refuses_second (IsPackageFault ifr) (Later ifr) fault (accepted_no_fault ifr a)
     (refuses_second (IsStoreFault (nodes_of ifr)) (IsQuestionFault (nodes_of ifr)) fault sound r)
 
+-- likewise, where it is these bytes
+pub stores_refuse_in : (ifr bytes : List ℕ) (fault : Fault) → ifr ≡ bytes → IsAccepted ifr → Refuses (IsStoreFault (nodes_of ifr)) fault → Refuses (IsFormSetFault bytes) fault
+stores_refuse_in ifr bytes fault is a r = subst (λ bytes. Refuses (IsFormSetFault bytes) fault) is (stores_refuse ifr fault a r)
+
+pub questions_refuse_in : (ifr bytes : List ℕ) (fault : Fault) → ifr ≡ bytes → IsAccepted ifr → HasNone (IsStoreFault (nodes_of ifr)) → Refuses (IsQuestionFault (nodes_of ifr)) fault → Refuses (IsFormSetFault bytes) fault
+questions_refuse_in ifr bytes fault is a sound r = subst (λ bytes. Refuses (IsFormSetFault bytes) fault) is (questions_refuse ifr fault a sound r)
+
 -- the list refuses
 pub refuses_source : (list : List ℕ) (n : ℕ) (stores : List ℕ) (fault : Fault) → IsLeast (IsSourceFault list n) fault → Refuses (IsOpenFault list n stores) fault
 refuses_source list n stores fault least = refuses_first (IsSourceFault list n) _ fault (inr least)
@@ -182,7 +189,7 @@ refuses_later list n stores ifr fault f r =
     (refuses_second (IsTextFault list) (IsBrowsingFault (forms_bytes list n) stores) fault (no_text_fault list f.spoken f.texts)
     (subst (λ ifr. Refuses (IsBrowsingFault ifr stores) fault) (f.is ∙ sym (source_bytes list n f.source f.found)) r))
 
-refuses_form_set : (list : List ℕ) (n : ℕ) (stores ifr : List ℕ) (fault : Fault) → IsFound list n ifr → Refuses (IsFormSetFault ifr) fault → Refuses (IsOpenFault list n stores) fault
+pub refuses_form_set : (list : List ℕ) (n : ℕ) (stores ifr : List ℕ) (fault : Fault) → IsFound list n ifr → Refuses (IsFormSetFault ifr) fault → Refuses (IsOpenFault list n stores) fault
 refuses_form_set list n stores ifr fault f r =
     refuses_later list n stores ifr fault f (refuses_first (IsFormSetFault ifr) (IsImageFault (layout_in ifr) stores) fault r)
 

@@ -1,5 +1,5 @@
 -- Setting a question to a value.
-use Rattle.std.proofs.Common.{◌≡◌, ◌⊎◌, ℕ, ◌+◌, ◌<◌, ◌≤◌, Bool, true, false, List, [], length, Option, Some, None, ◌++◌, Ok, Err, refl, sym, ap, ◌∙◌, subst, arith, inl, inr}
+use Rattle.std.proofs.Common.{◌≡◌, ◌⊎◌, ℕ, ◌+◌, ◌<◌, ◌≤◌, Bool, true, false, List, [], length, Option, Some, None, ◌++◌, Result, Ok, Err, refl, sym, ap, ◌∙◌, subst, arith, inl, inr}
 use Rattle.std.specs.Prelude.{option_map, if◌then◌else◌}
 use Rattle.std.proofs.lemmas.Bool.{cases_lt}
 use Rattle.ifr_opcodes.specs.Forest.{Node}
@@ -35,7 +35,7 @@ use Rattle.kept_conditions.specs.Kept.{KeptMap}
 use Rattle.kept_conditions.specs.code.Setting.{put_in}
 use Rattle.session_steps.specs.Texts.{ok_text}
 use Rattle.session_steps.specs.Step.{accepted, denied, warned_text, set_unless_fixed, set_unless_forbidden, set_question, commit, submitted}
-use Rattle.browser_commands.specs.code.Changing.{IsOver, TakesField, SetsValue}
+use Rattle.browser_commands.specs.code.Changing.{IsOver, TakesField, SetsQuestion, SetsValue}
 use Rattle.session_steps.specs.Opening.{layout_in}
 use Rattle.session_steps.specs.code.Browsable.{IsBrowsable}
 use Rattle.browser_commands.specs.code.Standing.{IsQuestionIn}
@@ -201,6 +201,15 @@ denies_value policy q offer old new field denial takes is why = (
 -- a question that takes no value leaves the stores
 pub leaves_all : (policy : Policy) (q : Asked) (offer : Offer) (old : KeptMap) (denial : Denial) → TakesField policy old.stores q offer (Err denial) → SetsValue policy q offer old old (Err denial)
 leaves_all policy q offer old denial takes = (refl, takes)
+
+-- a question that is not fixed
+freed : (policy : Policy) (q : Asked) (offer : Offer) (m : StoreMap) (s : State) → fixed (world policy m) q.node ≡ None → IsOver policy m s → set_question s (Some q.node) offer ≡ set_unless_fixed s q.node offer None
+freed policy q offer m s free over = ap (set_unless_fixed s q.node offer) (subst (λ (w : World). fixed w q.node ≡ None) (over_world policy m s over) free)
+
+pub sets_free : (policy : Policy) (q : Asked) (offer : Offer) (old new : KeptMap) (result : Result Field Denial) → fixed (world policy old.stores) q.node ≡ None → SetsValue policy q offer old new result
+    → SetsQuestion policy q offer old new result
+sets_free policy q offer old new (Ok field) free sets = (sets.0, sets.1, sets.2, λ s over. freed policy q offer old.stores s free over ∙ sets.3 s over, sets.4)
+sets_free policy q offer old new (Err denial) free sets = (sets.0, λ s over. freed policy q offer old.stores s free over ∙ sets.1 s over)
 
 -- ---- whether the stores may be submitted
 

@@ -7,9 +7,7 @@ ghost use Rattle.hii_questions.specs.code.Ranges.{range_in};
 ghost use Rattle.hii_varstore.specs.code.Ranges.{HasRange};
 ghost use Rattle.hii_varstore.specs.Stores.{bytes_of_field, shape_of};
 ghost use Rattle.guard_policy.specs.code.Views.{bytes_of};
-ghost use Rattle.session_steps.specs.Opening.{layout_in};
-ghost use Rattle.session_steps.specs.code.Browsable.{IsBrowsable};
-ghost use Rattle.browser_commands.specs.code.Changing.{Chooses, CopiesBlocks, FirstChoice, HaveRanges, SetsBlock, SetsBlocks, range_of_block};
+ghost use Rattle.browser_commands.specs.code.Changing.{Chooses, CopiesBlocks, FirstChoice, HaveRanges, IsBrowsed, SetsBlock, SetsBlocks, range_of_block};
 
 use crate::change::set_value;
 use config_text::{Block, Blocks};
@@ -32,9 +30,7 @@ pub(crate) fn set_blocks<'a>(
     spare: &mut Stores,
 ) -> Result<u64, Denial>
     requires together { questions.now.ifr ≡ bytes_of policy }
-    requires package { working.old.ifr ≡ bytes_of policy }
-    requires browsable { IsBrowsable (bytes_of policy) }
-    requires laid { shape_of working.old.stores ≡ layout_in (bytes_of policy) }
+    requires browsed { IsBrowsed policy working.old }
     requires same { spare.old ≡ working.old.stores }
     requires few { length (blocks_left blocks) < 2 ^ 64 }
     ensures { SetsBlocks policy.entry store (blocks_left blocks.entry) working.old working.new
@@ -122,9 +118,7 @@ fn set_block<'a>(
     working: &mut KeptStores<'a>,
 ) -> Result<(), Denial>
     requires together { questions.now.ifr ≡ bytes_of policy }
-    requires package { working.old.ifr ≡ bytes_of policy }
-    requires browsable { IsBrowsable (bytes_of policy) }
-    requires laid { shape_of working.old.stores ≡ layout_in (bytes_of policy) }
+    requires browsed { IsBrowsed policy working.old }
     ensures { SetsBlock policy.entry store (block_view block.entry) working.old working.new result }
 {
     let range = field_of(store, block);
@@ -158,8 +152,7 @@ fn question_with<'a, 's>(
     working: &KeptStores<'a>,
 ) -> Result<(Question<'a>, Around<'s, 'a>), Denial>
     requires together { questions.now.ifr ≡ bytes_of policy }
-    requires package { working.now.ifr ≡ bytes_of policy }
-    requires browsable { IsBrowsable (bytes_of policy) }
+    requires browsed { IsBrowsed policy working.now }
     ensures { Chooses policy.entry working.now.stores (range_in field) result }
 {
     let Some((question, free)) = first_choice(policy, questions, field, working) else {
@@ -180,8 +173,7 @@ fn first_choice<'a, 's>(
     working: &KeptStores<'a>,
 ) -> Option<(Question<'a>, Result<Around<'s, 'a>, Denial>)>
     requires together { questions.now.ifr ≡ bytes_of policy }
-    requires package { working.now.ifr ≡ bytes_of policy }
-    requires browsable { IsBrowsable (bytes_of policy) }
+    requires browsed { IsBrowsed policy working.now }
     ensures { FirstChoice policy.entry working.now.stores (range_in field) result }
 {
     let mut first = None;

@@ -1,24 +1,44 @@
 //! New values of questions.
 
-ghost use Rattle.std.specs.Prelude.{◌≡◌, None};
+ghost use Rattle.std.specs.Prelude.{◌≡◌, option_copied};
+ghost use Rattle.hii_questions.specs.Changes.{field_bytes};
 ghost use Rattle.hii_questions.specs.code.ItemsLeft.{items_left};
+ghost use Rattle.hii_questions.specs.code.LyingIn.{LiesIn};
 ghost use Rattle.hii_questions.specs.code.Offers.{offer_of, IsGiven};
 ghost use Rattle.hii_questions.specs.code.Views.{question_node, question_view};
 ghost use Rattle.hii_varstore.specs.Stores.{shape_of};
-ghost use Rattle.guard_policy.specs.Policy.{first_closed, fixed};
+ghost use Rattle.guard_policy.specs.Policy.{first_closed};
 ghost use Rattle.guard_policy.specs.code.Answers.{unless};
-ghost use Rattle.guard_policy.specs.code.Surroundings.{IsAroundNode};
 ghost use Rattle.guard_policy.specs.code.Views.{bytes_of, world};
-ghost use Rattle.ifr_scopes.specs.code.Checked.{IsNodeOf};
-ghost use Rattle.session_steps.specs.Opening.{layout_in};
-ghost use Rattle.session_steps.specs.code.Browsable.{IsBrowsable};
-ghost use Rattle.browser_commands.specs.code.Changing.{IsHeld, TakesField, SetsValue};
-ghost use Rattle.browser_commands.specs.code.Standing.{IsQuestionIn};
+ghost use Rattle.browser_commands.specs.code.Changing.{IsBrowsed, IsFreeQuestion, IsHeld, TakesField, SetsQuestion, SetsValue};
+ghost use Rattle.browser_commands.specs.code.Standing.{IsOffered, IsQuestionIn};
 
 use guard_policy::{Denial, Policy};
 use hii_questions::{Field, Input, Items, Question, check_value};
+use hii_varstore::Stores;
 use ifr_scopes::Around;
 use kept_conditions::KeptStores;
+
+/// Gives a question a value, or tells why it may not have it. The working stores then hold what they held, as the spare ones do,
+/// or new bytes in the question's field.
+pub(crate) fn give_value<'a, 'i>(
+    policy: Policy<'a, '_>,
+    question: Question<'a>,
+    input: Input<'i>,
+    working: &mut KeptStores<'a>,
+    spare: &Stores,
+) -> Result<Field<'i>, Denial>
+    requires question { IsQuestionIn (bytes_of policy) (question_view question) }
+    requires browsed { IsBrowsed policy working.old }
+    requires same { spare.now ≡ working.old.stores }
+    requires input { IsOffered input }
+    ensures { SetsQuestion policy.entry (question_view question.entry) (offer_of input.entry)
+        working.old working.new result }
+{
+    let around = working.changeable_question(policy, question)?;
+    let old = held_in(spare, question);
+    set_value(policy, question, around, input, working, old)
+}
 
 /// Gives a question that is not fixed, around which this stands, a value, or tells why it may not have it. `old` are the bytes of
 /// its field, if it has one. The working stores then hold what they held, or new bytes in this field.
@@ -30,12 +50,7 @@ pub(crate) fn set_value<'a, 's, 'i>(
     working: &mut KeptStores<'a>,
     old: &[u8],
 ) -> Result<Field<'i>, Denial>
-    requires question { IsQuestionIn (bytes_of policy) (question_view question) }
-    requires browsable { IsBrowsable (bytes_of policy) }
-    requires package { working.old.ifr ≡ bytes_of policy }
-    requires laid { shape_of working.old.stores ≡ layout_in (bytes_of policy) }
-    requires around { IsAroundNode (bytes_of policy) (question_node question) around }
-    requires free { fixed (world policy working.old.stores) (question_node question) ≡ None }
+    requires free { IsFreeQuestion policy working.old question around }
     requires held { IsHeld working.old.stores (question_view question) old.now }
     requires input { IsGiven (question_view question).field input }
     ensures { SetsValue policy.entry (question_view question.entry) (offer_of input.entry)
@@ -54,12 +69,7 @@ fn new_field<'a, 's, 'i>(
     input: Input<'i>,
     working: &KeptStores<'a>,
 ) -> Result<Field<'i>, Denial>
-    requires question { IsQuestionIn (bytes_of policy) (question_view question) }
-    requires browsable { IsBrowsable (bytes_of policy) }
-    requires package { working.now.ifr ≡ bytes_of policy }
-    requires laid { shape_of working.now.stores ≡ layout_in (bytes_of policy) }
-    requires around { IsAroundNode (bytes_of policy) (question_node question) around }
-    requires free { fixed (world policy working.now.stores) (question_node question) ≡ None }
+    requires free { IsFreeQuestion policy working.now question around }
     requires input { IsGiven (question_view question).field input }
     ensures { TakesField policy.entry working.now.stores (question_view question.entry)
         (offer_of input.entry) result }
@@ -77,10 +87,7 @@ fn options_open<'a, 's>(
     values: Items<'_>,
     working: &KeptStores<'a>,
 ) -> Result<(), Denial>
-    requires package { working.now.ifr ≡ bytes_of policy }
-    requires node { IsNodeOf (bytes_of policy) (question_node question) }
-    requires around { IsAroundNode (bytes_of policy) (question_node question) around }
-    requires free { fixed (world policy working.now.stores) (question_node question) ≡ None }
+    requires { IsFreeQuestion policy working.now question around }
     ensures { result
         ≡ unless (first_closed (world policy.entry working.now.stores) (question_node question.entry)
         (items_left values.entry)) }
@@ -90,4 +97,24 @@ fn options_open<'a, 's>(
         working.option_open_within(policy, question, value, around)?;
     }
     Ok(())
+}
+
+// The bytes of the field of a question, if it has one.
+pub(crate) fn bytes_in<'s>(stores: &'s Stores, question: Question<'_>) -> Option<&'s [u8]>
+    requires { LiesIn (shape_of stores.now) (question_view question) }
+    ensures { option_copied result ≡ field_bytes stores.now (question_view question.entry).field }
+{
+    let field = question.field()?;
+    stores.field(field.store, usize::from(field.offset), field.width)
+}
+
+// The bytes of the field of a question, none if it has no field.
+fn held_in<'s>(stores: &'s Stores, question: Question<'_>) -> &'s [u8]
+    requires { LiesIn (shape_of stores.now) (question_view question) }
+    ensures { IsHeld stores.now (question_view question.entry) result.now }
+{
+    match bytes_in(stores, question) {
+        Some(bytes) => bytes,
+        None => &[],
+    }
 }

@@ -5,10 +5,16 @@
 mod blocks;
 mod browser;
 mod change;
+mod commands;
+mod configuration;
 mod defaults;
+mod forms;
 mod history;
+mod opening;
+mod submitting;
 mod telling;
 mod texts;
+mod values;
 mod varstores;
 
 pub use browser::Browser;

@@ -1,5 +1,5 @@
 -- What a form set that is browsed does, by the chapters.
-use Rattle.std.proofs.Common.{◌≡◌, ℕ, List, [], Some, sym, ap, ◌∙◌, inl, inr}
+use Rattle.std.proofs.Common.{◌≡◌, ℕ, List, [], Some, sym, ap, subst, ◌∙◌, inl, inr}
 use Rattle.browser_rules.specs.Faults.{open_faults}
 use Rattle.browser_rules.specs.Forest.{nodes_of}
 use Rattle.browser_rules.specs.Script as script
@@ -98,10 +98,20 @@ image_of_stores ifr m stored =
     ∙ ap (λ (shape : Shape). held.image_of shape.guid (stores_for m)) stored.laid
     ∙ ap (λ (shape : held.Shape). held.image_of shape.guid (stores_for m)) (sym (shape_same (nodes_of ifr)))
 
-pub image_by_rules : (shown : counted.Shown) (now : Shown) (m : StoreMap) → Stands shown.state → shown_for shown ≡ now → m ≡ shown.state.committed
+image_as_shown : (shown : counted.Shown) (now : Shown) (m : StoreMap) → shown_for shown ≡ now → AreStored shown.state.ifr m → image_of m ≡ held.image_of (held.shape_of (nodes_of now.state.ifr)).guid (stores_for m)
+image_as_shown shown now m seen stored =
+    image_of_stores shown.state.ifr m stored
+    ∙ ap (λ (ifr : List ℕ). held.image_of (held.shape_of (nodes_of ifr)).guid (stores_for m)) (sym (ifr_is shown.state))
+    ∙ ap (λ (t : Shown). held.image_of (held.shape_of (nodes_of t.state.ifr)).guid (stores_for m)) seen
+
+pub committed_image_by_rules : (shown : counted.Shown) (now : Shown) (m : StoreMap) → Stands shown.state → shown_for shown ≡ now → m ≡ shown.state.committed
     → image_of m ≡ held.image_of (held.shape_of (nodes_of now.state.ifr)).guid now.state.committed
-image_by_rules shown now m stands seen is =
-    ap image_of is ∙ image_of_stores shown.state.ifr shown.state.committed stands.committed
-    ∙ ap (λ (stores : held.Stores). held.image_of (held.shape_of (nodes_of shown.state.ifr)).guid stores) (sym (committed_is shown.state))
-    ∙ ap (λ (ifr : List ℕ). held.image_of (held.shape_of (nodes_of ifr)).guid (state_for shown.state).committed) (sym (ifr_is shown.state))
-    ∙ ap (λ (t : Shown). held.image_of (held.shape_of (nodes_of t.state.ifr)).guid t.state.committed) seen
+committed_image_by_rules shown now m stands seen is =
+    image_as_shown shown now m seen (subst (AreStored shown.state.ifr) (sym is) stands.committed)
+    ∙ ap (held.image_of (held.shape_of (nodes_of now.state.ifr)).guid) (committed_by_rules shown now m seen is)
+
+pub working_image_by_rules : (shown : counted.Shown) (now : Shown) (m : StoreMap) → Stands shown.state → shown_for shown ≡ now → m ≡ shown.state.working
+    → image_of m ≡ held.image_of (held.shape_of (nodes_of now.state.ifr)).guid now.state.working
+working_image_by_rules shown now m stands seen is =
+    image_as_shown shown now m seen (subst (AreStored shown.state.ifr) (sym is) stands.working)
+    ∙ ap (held.image_of (held.shape_of (nodes_of now.state.ifr)).guid) (working_by_rules shown now m seen is)

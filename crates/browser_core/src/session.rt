@@ -91,7 +91,10 @@ impl<'a> Session<'a> {
 
     /// The stores that commands read and change.
     pub fn working(&self) -> &Stores
-        ensures { stores_for result.now ≡ self.now.state.working }
+        ensures held { stores_for result.now ≡ self.now.state.working }
+        ensures image { image_of result.now
+            ≡ stores.image_of (stores.shape_of (nodes_of self.now.state.ifr)).guid
+            self.now.state.working }
     {
         self.core.working()
     }

@@ -25,7 +25,7 @@ use std::alloc::Global;
 use std::io::{BufWriter, Write};
 
 /// Where the bytes of a store come from.
-#[derive(Debug, Drop)]
+#[derive(Drop)]
 pub enum Source {
     /// A file of this path, which has these bytes.
     File { path: String, bytes: Vec<u8> },

@@ -31,8 +31,10 @@ use Rattle.kept_conditions.specs.Touching.{difference, range_of_field}
 use Rattle.session_steps.specs.Configuration.{block_field, question_of_field}
 use Rattle.session_steps.specs.Renewed.{written_by}
 use Rattle.session_steps.specs.State.{State, world_of, world_with}
-use Rattle.session_steps.specs.Step.{accepted, denied, warned_text, set_unless_fixed, set_unless_forbidden, set_field, set_block, set_blocks}
+use Rattle.session_steps.specs.Step.{Outcome, accepted, denied, warned_text, set_question, set_unless_fixed, set_unless_forbidden, set_field, set_block, set_blocks}
 use Rattle.session_steps.specs.Texts.{ok_text}
+use Rattle.session_steps.specs.Opening.{layout_in}
+use Rattle.session_steps.specs.code.Browsable.{IsBrowsable}
 use Rattle.browser_commands.specs.code.Counting.{counted_all}
 use Rattle.browser_commands.specs.code.Standing.{IsQuestionIn}
 use Rattle.browser_commands.specs.declared.blocks.BlockFields.{BlockFields}
@@ -66,20 +68,41 @@ IsHeld stores q bytes =
     (f : fields.Field) → q.field ≡ Some f
     → bytes_of_field stores f.store f.offset f.width ≡ Some bytes
 
--- The stores after a set of a question that is not fixed, with the conditions counted that its field touches; or why it is denied,
--- and nothing is changed.
-abbrev pub SetsValue : Policy → Asked → Offer → KeptMap → KeptMap → Result Field Denial → Type 0
-SetsValue policy q offer old new (Ok field) =
+-- The package that a policy decides over can be browsed, and these stores are its own.
+pub record IsBrowsed (policy : Policy) (working : KeptMap) : Type 0 where
+  pub browsable : IsBrowsable (bytes_of policy)
+  pub its_package : working.ifr ≡ bytes_of policy
+  pub laid : shape_of working.stores ≡ layout_in (bytes_of policy)
+
+-- The question is one of the package that is browsed, is not fixed over these stores, and this stands around it.
+pub record IsFreeQuestion (policy : Policy) (working : KeptMap) (q : Question) (near : Around) : Type 0 where
+  pub browsed : IsBrowsed policy working
+  pub question : IsQuestionIn (bytes_of policy) (question_view q)
+  pub around : IsAroundNode (bytes_of policy) (question_node q) near
+  pub free : fixed (world policy working.stores) (question_node q) ≡ None
+
+-- The stores after a set that comes to an outcome, with the conditions counted that the question's field touches; or why it is
+-- denied, and nothing is changed.
+abbrev pub SetsTo : (State → Outcome) → Policy → Asked → KeptMap → KeptMap → Result Field Denial → Type 0
+SetsTo outcome policy q old new (Ok field) =
     (new ≡ put_in old field)
     × (length (new_bytes field) ≡ field.width)
     × (q.field ≡ Some (range_of field))
-    × ((s : State) → IsOver policy old.stores s → set_unless_fixed s q.node offer None
+    × ((s : State) → IsOver policy old.stores s → outcome s
     ≡ accepted (record s { working = new.stores }) (ok_text ++ warned_text s new.stores q.node))
     × HasRange (shape_of old.stores) field.store field.offset field.width
-SetsValue policy q offer old new (Err denial) =
-    (new ≡ old)
-    × ((s : State) → IsOver policy old.stores s
-    → set_unless_fixed s q.node offer None ≡ denied s denial)
+SetsTo outcome policy q old new (Err denial) =
+    (new ≡ old) × ((s : State) → IsOver policy old.stores s → outcome s ≡ denied s denial)
+
+-- So it is with a question that is not fixed,
+abbrev pub SetsValue : Policy → Asked → Offer → KeptMap → KeptMap → Result Field Denial → Type 0
+SetsValue policy q offer old new result =
+    SetsTo (λ s. set_unless_fixed s q.node offer None) policy q old new result
+
+-- and with one that may be.
+abbrev pub SetsQuestion : Policy → Asked → Offer → KeptMap → KeptMap → Result Field Denial → Type 0
+SetsQuestion policy q offer old new result =
+    SetsTo (λ s. set_question s (Some q.node) offer) policy q old new result
 
 -- ---- blocks of configuration texts
 

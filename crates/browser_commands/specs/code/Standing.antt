@@ -19,7 +19,7 @@ use Rattle.hii_questions.specs.declared.input.Input.{Input}
 use Rattle.guard_policy.specs.declared.denial.Denial.{Denial}
 use Rattle.session_steps.specs.Configuration.{store_named}
 use Rattle.kept_conditions.specs.Kept.{KeptMap}
-use Rattle.session_steps.specs.Renewed.{Shown, Write, field_write, pressed_if, route_writes}
+use Rattle.session_steps.specs.Renewed.{Shown, Write, field_write, field_writes, named_if, pressed_if, route_writes}
 use Rattle.session_steps.specs.State.{State}
 use Rattle.browser_commands.specs.code.Counting.{counted_all}
 use Rattle.session_steps.specs.declared.reply.Reply.TheVariants.{Accepted}
@@ -76,18 +76,19 @@ Changes s n offer now (Ok done) =
 Changes s n offer now (Err denial) =
     (set_question s.state (Some n) offer ≡ denied s.state denial) × (now ≡ s)
 
--- So it is with the question of an id.
-abbrev pub Sets : Shown → ℕ → Offer → Shown → Result Question Denial → Type 0
-Sets s id offer now (Ok question) =
-    (set_question s.state (fields.question_with (nodes_of s.state.ifr) id) offer
-    ≡ accepted now.state
-    (ok_text ++ warned_text now.state now.state.working (question_node question)))
-    × (fields.question_with (nodes_of s.state.ifr) id ≡ Some (question_node question))
-    × Counts s (field_write (nodes_of s.state.ifr) (question_node question)) now
-    × IsNodeOf now.state.ifr (question_node question)
-Sets s id offer now (Err denial) =
-    (set_question s.state (fields.question_with (nodes_of s.state.ifr) id) offer
-    ≡ denied s.state denial) × (now ≡ s)
+-- What a set that is carried out writes; of one that is denied nothing is written here.
+abbrev pub written_of : Outcome → Result (Unit {0}) Denial → List ℕ
+written_of o (Ok done) = o.text
+written_of o (Err denial) = []
+
+-- A question, if it is there, has a value; or why it may not have it, and nothing is changed.
+abbrev pub Sets : Shown → Option Node → Offer → Shown → Result (Unit {0}) Denial → Type 0
+Sets s q offer now (Ok done) =
+    ((set_question s.state q offer).state ≡ now.state)
+    × ((set_question s.state q offer).reply ≡ Accepted)
+    × Counts s (field_writes (nodes_of s.state.ifr) (named_if q Accepted)) now
+Sets s q offer now (Err denial) =
+    (set_question s.state q offer ≡ denied s.state denial) × (now ≡ s)
 
 -- a statement takes its default, where it is a question
 abbrev pub take_statement : ℕ → Taken → Node → Taken

@@ -11,7 +11,7 @@ use Rattle.browser_commands.proofs.BlockLemmas.{choice_start, choice_found, choi
 use Rattle.browser_commands.proofs.blocks.first_choice.Goals as goal
 
 pub loop-question-init : goal.loop-question-init
-loop-question-init c = choice_start c.args.policy c.args.working.now.stores (range_in c.args.field) c.args.questions.now.ifr _ c.requires.browsable.accepted c.requires.together c.with_field-sharing.ensures
+loop-question-init c = choice_start c.args.policy c.args.working.now.stores (range_in c.args.field) c.args.questions.now.ifr _ c.requires.browsed.browsable.accepted c.requires.together c.with_field-sharing.ensures
 
 pub changeable_question-requires-clause-node : goal.changeable_question-requires-clause-node
 changeable_question-requires-clause-node c =

@@ -3,6 +3,7 @@ use Rattle.std.proofs.lemmas.Result.{err_from_is_err_and}
 use Rattle.config_text.specs.code.Views.{block_view}
 use Rattle.hii_varstore.specs.code.Ranges.{HasRange}
 use Rattle.hii_varstore.specs.Stores.{StoreMap, shape_of}
+use Rattle.hii_questions.specs.code.Ranges.{range_in}
 use Rattle.hii_questions.specs.declared.field_range.FieldRange.{FieldRange}
 use Rattle.session_steps.specs.Configuration.{block_field}
 use Rattle.browser_commands.specs.code.Changing.{Chooses}
@@ -22,9 +23,21 @@ keep_field-requires-clause-range c =
     let q = c.in_ok-question.question in
     let around = c.in_ok-question.around in
     let chosen : Chooses c.args.policy c.args.working.now.stores (block_field c.args.store block) (Ok (q, around)) = rw c.field_of-range.ensures at c.in_ok-question.ensures in
-    let within = block_range c.args.policy c.args.working.now.stores c.args.store block q around chosen c.requires.browsable c.requires.laid in
+    let within = block_range c.args.policy c.args.working.now.stores c.args.store block q around chosen c.requires.browsed.browsable c.requires.browsed.laid in
     subst (λ (r : FieldRange). HasRange (shape_of c.stores.result.now) r.store r.offset r.width) (sym c.field_of-range.ensures)
     (subst (λ (m : StoreMap). HasRange (shape_of m) c.args.store block.offset block.width) (sym c.stores.ensures) within)
+
+pub set_value-requires-clause-free : goal.set_value-requires-clause-free
+set_value-requires-clause-free c =
+    let q = c.in_ok-question.question in
+    let around = c.in_ok-question.around in
+    let chosen : Chooses c.args.policy c.args.working.now.stores (range_in c.field_of-range.result) (Ok (q, around)) = c.in_ok-question.ensures in
+    record {
+      browsed = c.requires.browsed;
+      question = chosen.0.0;
+      around = chosen.4;
+      free = chosen.3;
+    }
 
 pub returns-in_err-set_value : goal.returns-in_err-set_value
 returns-in_err-set_value c =
@@ -44,4 +57,4 @@ returns c =
     let chosen : Chooses c.args.policy c.args.working.now.stores (block_field c.args.store block) (Ok (q, around)) = rw c.field_of-range.ensures at c.in_ok-question.ensures in
     let bytes = bytes_of_number _ block.width _ c.are_bytes.ensures c.value_into.ensures.sized c.value_into.ensures.number in
     block_is_set c.args.policy c.args.working.now c.set_value.new.working c.args.store block q around _ c.in_ok-set_value.field-0 chosen bytes
-    (block_range c.args.policy c.args.working.now.stores c.args.store block q around chosen c.requires.browsable c.requires.laid) c.in_ok-set_value.ensures
+    (block_range c.args.policy c.args.working.now.stores c.args.store block q around chosen c.requires.browsed.browsable c.requires.browsed.laid) c.in_ok-set_value.ensures

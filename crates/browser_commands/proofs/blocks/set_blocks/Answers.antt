@@ -14,9 +14,19 @@ loop-block-init c = (set_start c.args.policy c.args.store (blocks_left c.args.bl
 pub loop-block-preserved : goal.loop-block-preserved
 loop-block-preserved c = (
   set_next c.args.policy c.args.store (blocks_left c.args.blocks) (blocks_left c.loop-block.left) (blocks_left c.next.new.self) (block_view c.in-Some.block) c.args.working.now c.loop-block.working c.set_block.new.working c.loop-block.count
-      c.requires.package c.in-Some.ensures.steps c.loop-block.invariant.0 c.in-Ok.ensures,
+      c.requires.browsed.its_package c.in-Some.ensures.steps c.loop-block.invariant.0 c.in-Ok.ensures,
   c.loop-block.invariant.1,
 )
+
+pub set_block-requires-clause-browsed : goal.set_block-requires-clause-browsed
+set_block-requires-clause-browsed c = record {
+  browsable = c.requires.browsed.browsable;
+  its_package = c.loop-block.invariant.0.same_package ∙ c.requires.browsed.its_package;
+  laid = c.loop-block.invariant.0.shape ∙ c.requires.browsed.laid;
+}
+
+pub set_block-requires-clause-together : goal.set_block-requires-clause-together
+set_block-requires-clause-together c = c.requires.together
 
 pub give_back-requires-clause-inside : goal.give_back-requires-clause-inside
 give_back-requires-clause-inside c =
@@ -34,7 +44,7 @@ give_back-requires-clause-alike c = λ other at none.
 pub returns-in-Err : goal.returns-in-Err
 returns-in-Err c =
     all_back c.args.policy c.args.store (blocks_left c.args.blocks) (blocks_left c.loop-block.left) (blocks_left c.next.new.self) (block_view c.in-Some.block) c.args.working.now c.loop-block.working c.set_block.new.working c.give_back.new.self
-    c.loop-block.spare c.give_back.new.before c.loop-block.count c.in-Err.denial c.requires.package c.in-Some.ensures.steps (c.loop-block.invariant.1 ∙ c.requires.same) c.loop-block.invariant.0 c.in-Err.ensures
+    c.loop-block.spare c.give_back.new.before c.loop-block.count c.in-Err.denial c.requires.browsed.its_package c.in-Some.ensures.steps (c.loop-block.invariant.1 ∙ c.requires.same) c.loop-block.invariant.0 c.in-Err.ensures
     c.give_back.ensures.these c.give_back.ensures.shape c.give_back.ensures.same
 
 pub returns : goal.returns

@@ -11,6 +11,7 @@ use Rattle.browser_commands.specs.code.Changing.{IsOver}
 use Rattle.browser_commands.proofs.Browsers.{state_in, seen}
 use Rattle.browser_commands.proofs.RouteLemmas.{kept_alike, routes}
 use Rattle.browser_commands.proofs.TellingLemmas.{no_store, some_store}
+use Rattle.browser_commands.proofs.ValueLemmas.{browsed}
 use Rattle.browser_commands.proofs.browser.Browser.set_blocks.Goals as goal
 
 pub returns-in_err-store : goal.returns-in_err-store
@@ -47,3 +48,12 @@ returns c =
     let over : IsOver c.new-policy.result c.self.inside.working.stores s =
     record { ifr = c.new-policy.ensures.forms ∙ ap (λ (t : State). t.ifr) (seen c.self.view_is); removed = c.new-policy.ensures.removed ∙ ap (λ (t : State). t.removed) (seen c.self.view_is); working_is = ap (λ (t : State). t.working) (seen c.self.view_is) } in
     routes c.new-policy.result inside c.args.self.now response store c.self.inside.working c.set_blocks.new.working c.set_blocks.new.spare c.set_blocks.result c.self.view_is refl refl named over (rw c.blocks-2.ensures at c.set_blocks.ensures)
+
+pub set_blocks-requires-clause-browsed : goal.set_blocks-requires-clause-browsed
+set_blocks-requires-clause-browsed c = browsed c.new-policy.result c.self.inside c.self.invariant c.new-policy.ensures.forms
+
+pub set_blocks-requires-clause-together : goal.set_blocks-requires-clause-together
+set_blocks-requires-clause-together c = c.self.invariant.together ∙ sym c.new-policy.ensures.forms
+
+pub set_blocks-requires-clause-same : goal.set_blocks-requires-clause-same
+set_blocks-requires-clause-same c = c.self.invariant.same

@@ -4,7 +4,7 @@ use Rattle.hii_varstore.specs.code.Ranges.{IsCut}
 use Rattle.hii_questions.specs.code.Views.{question_view}
 use Rattle.hii_questions.specs.Changes.{field_bytes}
 use Rattle.browser_commands.proofs.ChangeLemmas.{in_store}
-use Rattle.browser_commands.proofs.browser.held_in.Goals as goal
+use Rattle.browser_commands.proofs.change.held_in.Goals as goal
 
 pub returns-in-Some : goal.returns-in-Some
 returns-in-Some c = λ f has. sym (c.in-Some.ensures ∙ ap (field_bytes c.args.stores.now) has)

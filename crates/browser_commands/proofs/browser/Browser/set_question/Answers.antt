@@ -1,0 +1,70 @@
+use Rattle.std.proofs.Common.{List, ℕ, sym, ap, subst}
+use Rattle.std.proofs.lemmas.Result.{err_from_is_err_and}
+use Rattle.hii_bytes.specs.Watching.{pen_of, Writes}
+use Rattle.hii_bytes.proofs.WritingLemmas.{writes_nil, ◌⨾◌}
+use Rattle.ifr_scopes.specs.code.Checked.{IsNodeOf}
+use Rattle.hii_varstore.specs.Layout.{Shape}
+use Rattle.hii_varstore.specs.Stores.{shape_of}
+use Rattle.hii_varstore.specs.code.Ranges.{HasRange}
+use Rattle.hii_questions.specs.code.Offers.{offer_of}
+use Rattle.hii_questions.specs.code.Views.{question_node, question_view}
+use Rattle.session_steps.specs.Step.{Outcome}
+use Rattle.kept_conditions.specs.Kept.{KeptMap}
+use Rattle.browser_commands.specs.code.Standing.{IsQuestionIn}
+use Rattle.browser_commands.proofs.Browsers.{seen, stands_still}
+use Rattle.browser_commands.proofs.ValueLemmas.{browsed, changes, denies, over, stands_set}
+use Rattle.browser_commands.proofs.browser.Browser.set_question.Goals as goal
+
+pub give_value-requires-clause-question : goal.give_value-requires-clause-question
+give_value-requires-clause-question g c =
+    let its = over c.new-policy.result c.self.inside c.args.self.now.state (seen c.self.view_is) c.new-policy.ensures.forms c.new-policy.ensures.removed in
+    subst (λ (ifr : List ℕ). IsQuestionIn ifr (question_view c.args.question)) (sym its.ifr) c.requires.question
+
+pub give_value-requires-clause-browsed : goal.give_value-requires-clause-browsed
+give_value-requires-clause-browsed g c = browsed c.new-policy.result c.self.inside c.self.invariant c.new-policy.ensures.forms
+
+pub give_value-requires-clause-same : goal.give_value-requires-clause-same
+give_value-requires-clause-same g c = c.self.invariant.same
+
+pub give_value-requires-clause-input : goal.give_value-requires-clause-input
+give_value-requires-clause-input g c = c.requires.input
+
+pub returns-in_err-field-clause-changes : goal.returns-in_err-field-clause-changes
+returns-in_err-field-clause-changes g c =
+    let its = over c.new-policy.result c.self.inside c.args.self.now.state (seen c.self.view_is) c.new-policy.ensures.forms c.new-policy.ensures.removed in
+    let p = err_from_is_err_and c.from_residual.result c.from_residual.ensures.1 in
+    rw (p.1, p.2) (denies c.new-policy.result c.self.inside c.args.self.now (question_view c.args.question) (offer_of c.args.input) c.give_value.new.working _ c.self.view_is its c.in_err-field.ensures)
+
+pub returns-in_err-field-clause-text : goal.returns-in_err-field-clause-text
+returns-in_err-field-clause-text g c =
+    let p = err_from_is_err_and c.from_residual.result c.from_residual.ensures.1 in
+    rw p.1 (writes_nil _)
+
+pub warnings-warnings-requires : goal.warnings-warnings-requires
+warnings-warnings-requires g c =
+    let its = over c.new-policy.result c.self.inside c.args.self.now.state (seen c.self.view_is) c.new-policy.ensures.forms c.new-policy.ensures.removed in
+    subst (λ (ifr : List ℕ). IsNodeOf ifr (question_node c.args.question)) (sym its.ifr) c.requires.question.node
+
+pub put-requires-2 : goal.put-requires-2
+put-requires-2 g c =
+    let field = c.in_ok-field.field in
+    subst (λ (sh : Shape). HasRange sh field.store field.offset field.width) (ap shape_of (sym c.self.invariant.same)) c.in_ok-field.ensures.4
+
+pub returns-clause-changes : goal.returns-clause-changes
+returns-clause-changes g c =
+    let its = over c.new-policy.result c.self.inside c.args.self.now.state (seen c.self.view_is) c.new-policy.ensures.forms c.new-policy.ensures.removed in
+    changes c.new-policy.result c.self.inside c.args.self.now (question_view c.args.question) (offer_of c.args.input) c.give_value.new.working c.in_ok-field.field c.self.view_is c.self.invariant.kept c.requires.question its c.in_ok-field.ensures
+
+-- the warnings are those over the stores with the new value
+pub returns-clause-text : goal.returns-clause-text
+returns-clause-text g c =
+    let its = over c.new-policy.result c.self.inside c.args.self.now.state (seen c.self.view_is) c.new-policy.ensures.forms c.new-policy.ensures.removed in
+    let made = changes c.new-policy.result c.self.inside c.args.self.now (question_view c.args.question) (offer_of c.args.input) c.give_value.new.working c.in_ok-field.field c.self.view_is c.self.invariant.kept c.requires.question its c.in_ok-field.ensures in
+    let told = rw (c.warnings-warnings.ensures, c.stores.ensures, c.new-policy.ensures.forms, c.new-policy.ensures.removed) at c.put_warnings.ensures in
+    subst (λ (o : Outcome). Writes (pen_of g.W.Write.contents c.args.out.now) (pen_of g.W.Write.contents c.put_warnings.new.out) o.text) (sym made.0) (c.put.ensures ⨾ told)
+
+pub invariant_of-self : goal.invariant_of-self
+invariant_of-self g c = stands_still c.self.inside c.give_value.new.working c.self.invariant (ap (λ (m : KeptMap). m.ifr) c.in_err-field.ensures.0) (ap (λ (m : KeptMap). m.stores) c.in_err-field.ensures.0)
+
+pub invariant_of-self-2 : goal.invariant_of-self-2
+invariant_of-self-2 g c = stands_set c.self.inside c.give_value.new.working c.put-2.new.stores c.in_ok-field.field c.self.invariant c.in_ok-field.ensures.0 c.put-2.ensures.written c.put-2.ensures.shape

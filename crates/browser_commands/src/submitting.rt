@@ -1,0 +1,77 @@
+//! What is submitted, and what is discarded.
+
+ghost use Rattle.std.specs.Prelude.{◌≡◌, map};
+ghost use Rattle.hii_bytes.specs.Watching.{Puts};
+ghost use Rattle.ifr_scopes.specs.Nodes.{nodes_of};
+ghost use Rattle.browser_rules.specs.Script as script;
+ghost use Rattle.hii_questions.specs.code.Differing.{differing_left};
+ghost use Rattle.guard_policy.specs.Policy.{unsubmitted};
+ghost use Rattle.guard_policy.specs.code.Answers.{unless};
+ghost use Rattle.session_steps.specs.Renewed.{writes_of};
+ghost use Rattle.session_steps.specs.State.{world_of};
+ghost use Rattle.browser_commands.specs.code.Counting.{counted_all};
+ghost use Rattle.session_steps.specs.Step.{step, changed, commit, submitted};
+
+use crate::browser::Browser;
+use crate::texts::{put_changed, put_count};
+use guard_policy::{Denial, Policy};
+use hii_bytes::Watched;
+use hii_questions::DifferingQuestions;
+use session_steps::Reply;
+use std::io::Write;
+
+impl<'a> Browser<'a> {
+    // Goes back to the stores as they were last submitted.
+    pub(crate) fn discard(&mut self)
+        ensures state { self.new.state ≡ (step self.old.state script.Discard).state }
+        ensures renewed { self.new.renewed ≡ counted_all self.old.renewed
+            (nodes_of self.old.state.ifr) (writes_of self.old.state script.Discard) }
+    {
+        let policy = Policy::new(&self.forms, &self.questions, &self.removed);
+        self.working.copy_from(policy, &self.spare, &self.committed);
+        self.spare.copy_from(&self.committed);
+    }
+
+    // Whether the working stores may be submitted.
+    fn may_submit(&self) -> Result<(), Denial>
+        ensures { result ≡ unless (unsubmitted (world_of self.now.state)) }
+    {
+        self.working.may_submit(self.policy())
+    }
+
+    // Submits the working stores, or writes why they may not be submitted.
+    pub(crate) fn submit<W: Write>(&mut self, out: &mut Watched<W>) -> Reply
+        ensures state { self.new.state ≡ (submitted self.old.state).state }
+        ensures text { Puts W.contents out.old out.new (submitted self.old.state).text }
+        ensures reply { result ≡ (submitted self.old.state).reply }
+        ensures renewed { self.new.renewed ≡ self.old.renewed }
+    {
+        match self.may_submit() {
+            Ok(()) => {
+                self.put_submitted(out);
+                self.committed.copy_from(self.working.stores());
+                Reply::Accepted
+            }
+            Err(denial) => self.deny(denial, out),
+        }
+    }
+
+    // Writes how many questions have other bytes than when they were last submitted, and each of them by place.
+    fn put_submitted<W: Write>(&self, out: &mut Watched<W>)
+        ensures { Puts W.contents out.old out.new (commit self.now.state).text }
+    {
+        let changed = self.changed_questions();
+        put_count(changed.number(), out);
+        for question in changed {
+            put_changed(question.id(), out);
+        }
+    }
+
+    // The questions that have other bytes than when they were last submitted, by place.
+    fn changed_questions(&self) -> DifferingQuestions<'_, 'a>
+        ensures { map (λ q. q.node) (differing_left result) ≡ changed self.now.state }
+    {
+        self.questions
+            .differing(&self.committed, self.working.stores())
+    }
+}
