@@ -6,7 +6,7 @@ ghost use Rattle.setup_audit.specs.Endings.{fault_of, status_of};
 use setup_files::Status;
 
 /// How a run ended.
-#[derive(Clone, Copy, Debug, PartialEq, Eq)]
+#[derive(Clone, Copy, PartialEq, Eq)]
 pub enum Ended {
     /// The answers are passed on, and the file of `--out` is written, where there is one.
     Done,

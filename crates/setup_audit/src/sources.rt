@@ -24,7 +24,7 @@ use store_audit::{Declared, Filling, Source};
 const ATTRIBUTES: usize = 4;
 
 /// Why a store has no source.
-#[derive(Clone, Copy, Debug)]
+#[derive(Clone, Copy)]
 pub enum Unsourced {
     /// A file was not read, and the program ends with this status.
     Unread(Status),

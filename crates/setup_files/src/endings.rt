@@ -14,7 +14,7 @@ use std::io;
 use std::io::Write;
 
 /// The status with which a program ends (own rule).
-#[derive(Clone, Copy, Debug, PartialEq, Eq)]
+#[derive(Clone, Copy, PartialEq, Eq)]
 pub enum Status {
     /// The run was whole.
     Done = 0,

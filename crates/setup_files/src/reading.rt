@@ -8,7 +8,7 @@ use std::alloc::Global;
 use std::io::Read;
 
 /// Why a file was not read.
-#[derive(Clone, Copy, Debug, PartialEq, Eq)]
+#[derive(Clone, Copy, PartialEq, Eq)]
 pub enum ReadError {
     /// The file has more bytes than the limit.
     TooLong,

@@ -17,8 +17,9 @@ use Rattle.browser_core.specs.Run.{BreaksOff, Overflows, StopsAtLimit, StopsAtLi
 use Rattle.browser_core.specs.Shown.{Shown}
 use Rattle.browser_core.proofs.RunLemmas.{lines_due-run, lines_run_past}
 use Rattle.setup_files.specs.declared.given.Given.{Given}
-use Rattle.setup_main.specs.Headline.{IsBroken, LeavesBytes, given_for}
-use Rattle.setup_main.specs.Serving.{Ends, FailsAtOnce, FailsWithin, RunsAll, Serves, Starts, StopsReading, image_left, with_held}
+use Rattle.setup_main.specs.AtFault.{IsBroken, LeavesBytes}
+use Rattle.setup_main.specs.Headline.{given_for}
+use Rattle.setup_main.specs.Serving.{Ends, FailsAtOnce, FailsWithin, RunsAll, RunLeaves, Starts, StopsReading, image_submitted, with_held}
 use Rattle.setup_main.specs.declared.serve.Ended.{Ended}
 use Rattle.setup_main.specs.declared.serve.Ended.TheVariants.{Done, Refused, ReadScript, WriteAnswers, WriteOut, NoMemory}
 use Rattle.setup_main.proofs.HeadlineLemmas.{image_same, is_done, state_after}
@@ -233,10 +234,10 @@ answers_fail given start now before after script untouched starts h =
     }
 
 image_fails : (given : Given) (before after : Ends) (script : List ℕ) (run : RunsAll given script end.Done before after)
-    → FailsWithin before.out after.out (image_left given (outcome_of run.start script).shown) → IsBroken (given_for given script) chapter.WriteImage before after
+    → FailsWithin before.out after.out (image_submitted given (outcome_of run.start script).shown) → IsBroken (given_for given script) chapter.WriteImage before after
 image_fails given before after script run broke =
     let opens = run.starts.0 in
-    let image = image_left given (outcome_of run.start script).shown in
+    let image = image_submitted given (outcome_of run.start script).shown in
     let written = take broke.part image in
     record {
       read = length script;
@@ -260,7 +261,7 @@ image_fails given before after script run broke =
     drop_all [] = refl
     drop_all (x ∷ xs) = drop_all xs
 
-at_fault : (given : Given) (before after : Ends) (ended : Ended) (script : List ℕ) → before.script ≡ Some script → Serves given before ended after → LeavesBytes given script before ended after
+at_fault : (given : Given) (before after : Ends) (ended : Ended) (script : List ℕ) → before.script ≡ Some script → RunLeaves given before ended after → LeavesBytes given script before ended after
 at_fault given before after Done script known h = tt
 at_fault given before after Refused script known h = tt
 at_fault given before after NoMemory script known h = tt
@@ -272,7 +273,7 @@ at_fault given before after WriteAnswers script known h = elim h.1 [
 ]
 at_fault given before after WriteOut script known h =
     let all = of_finished given before after end.Done h.0 script known in
-    image_fails given before after script all.0 (subst (λ (s : Shown). FailsWithin before.out after.out (image_left given s)) all.1 h.1)
+    image_fails given before after script all.0 (subst (λ (s : Shown). FailsWithin before.out after.out (image_submitted given s)) all.1 h.1)
 
-pub leaves_bytes : (given : Given) (before after : Ends) (ended : Ended) → Serves given before ended after → IfSome before.script (λ script. LeavesBytes given script before ended after)
+pub leaves_bytes : (given : Given) (before after : Ends) (ended : Ended) → RunLeaves given before ended after → IfSome before.script (λ script. LeavesBytes given script before ended after)
 leaves_bytes given before after ended h = if_known before.script _ (λ script known. at_fault given before after ended script known h)

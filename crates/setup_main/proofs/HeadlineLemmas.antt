@@ -14,7 +14,7 @@ use Rattle.browser_core.specs.Run.{outcome_of, shown_after_lines}
 use Rattle.browser_core.specs.Shown.{Shown, shown_line}
 use Rattle.setup_files.specs.declared.given.Given.{Given}
 use Rattle.setup_main.specs.Headline.{ServesBytes, given_for}
-use Rattle.setup_main.specs.Serving.{Ends, IsWritten, ServesAll, image_left}
+use Rattle.setup_main.specs.Serving.{Ends, IsWritten, ScriptLeaves, image_submitted}
 use Rattle.setup_main.specs.declared.serve.Ended.{Ended}
 use Rattle.setup_main.specs.declared.serve.Ended.TheVariants.{Done, Refused, ReadScript, WriteAnswers, WriteOut, NoMemory}
 
@@ -32,7 +32,7 @@ is_cut true e = refl
 is_cut false e = absurd (cc)
 
 pub image_same : (given : Given) (script : List ℕ) (stores : Stores) (shown : Shown) → shown.state ≡ chapter.begins (given_for given script) stores
-    → image_left given (outcome_of shown script).shown ≡ chapter.image_left (given_for given script) stores
+    → image_submitted given (outcome_of shown script).shown ≡ chapter.image_left (given_for given script) stores
 image_same given script stores shown begins =
     let guid = (shape_of (nodes_of (forms_bytes given.list.now given.forms))).guid in
     ap (λ (s : State). image_of guid s.committed) (state_after shown (lines_run script)) ∙ ap (λ (s : State). image_of guid (after_lines s (lines_run script)).committed) begins
@@ -49,7 +49,7 @@ runs given script ended shown image opens how left = record {
   image = left;
 }
 
-pub serves_bytes : (given : Given) (script : List ℕ) (before after : Ends) (ended : Ended) → ServesAll given script before ended after → ServesBytes given script before ended after
+pub serves_bytes : (given : Given) (script : List ℕ) (before after : Ends) (ended : Ended) → ScriptLeaves given script before ended after → ServesBytes given script before ended after
 serves_bytes given script before after Done h =
     let run = h.0 in
     let opens = run.starts.0 in
@@ -89,6 +89,6 @@ serves_bytes given script before after NoMemory (untouched, lacks) = record {
   left = untouched;
 }
 
-pub serves_headline : (given : Given) (before after : Ends) (ended : Ended) (known : Option (List ℕ)) → IfSome known (λ script. ServesAll given script before ended after) → IfSome known (λ script. ServesBytes given script before ended after)
+pub serves_headline : (given : Given) (before after : Ends) (ended : Ended) (known : Option (List ℕ)) → IfSome known (λ script. ScriptLeaves given script before ended after) → IfSome known (λ script. ServesBytes given script before ended after)
 serves_headline given before after ended None h = tt
 serves_headline given before after ended (Some script) h = serves_bytes given script before after ended h

@@ -27,7 +27,7 @@ use Rattle.session_steps.specs.declared.reply.RunFault.{RunFault}
 use Rattle.setup_files.specs.declared.given.Given.{Given}
 use Rattle.setup_main.specs.declared.serve.Ended.{Ended}
 use Rattle.setup_main.specs.declared.serve.Ended.TheVariants.{Done, Refused, ReadScript, WriteAnswers, WriteOut, NoMemory}
-use Rattle.setup_main.specs.Serving.{Starts, IsRefusedBy, IsWritten, FailsWithin, IsNamed, RunsAll, ServesAll, Ends, Finished, Serves, begins, ends_of, image_left, with_held}
+use Rattle.setup_main.specs.Serving.{Starts, IsRefusedBy, IsWritten, FailsWithin, IsNamed, RunsAll, ScriptLeaves, Ends, Finished, RunLeaves, ends_before, ends_of, image_submitted, with_held}
 use Rattle.setup_main.specs.code.Endings.{IsTold, IsImageTold}
 use Rattle.setup_main.proofs.KnownLemmas.{runs_all, stops_reading, stops_answering}
 use Rattle.setup_main.proofs.RunningLemmas.{runs_passed, runs_broken}
@@ -50,7 +50,7 @@ behind before after P empty none h =
 pub begins_new : {R A O Z : Type 0} (remaining : R → Option (List ℕ)) (answered : A → Option (List ℕ)) (written : O → Option (List ℕ)) (script : R) (answers : A) (out : O)
     (s : Watched R) (a : Watched (BufWriter A Z)) (o : Watched O) → inner_of s ≡ script → writer_inner (inner_of a) ≡ answers → writer_buffer (inner_of a) ≡ []
     → has_failed a ≡ false → taken_of a ≡ 0 → inner_of o ≡ out → has_failed o ≡ false → taken_of o ≡ 0
-    → ends_of remaining answered written s a o ≡ begins (remaining script) (answered answers) (written out)
+    → ends_of remaining answered written s a o ≡ ends_before (remaining script) (answered answers) (written out)
 begins_new remaining answered written script answers out s a o s_is a_is a_empty a_sound a_none o_is o_sound o_none =
     rw (s_is, a_is, a_empty, a_sound, a_none, o_is, o_sound, o_none) refl
 
@@ -62,7 +62,7 @@ not_memory given fault other (inr least) = least
 
 -- the session was not opened, and why was told
 pub refused_serves : (given : Given) (before after : Ends) (ended : Ended) (fault : Fault) → before.held ≡ [] → (ended ≢ WriteAnswers → after.held ≡ []) → after.script ≡ before.script → after.out ≡ before.out
-    → RefusesOpening given.list.now given.forms given.stores.now fault → IsTold fault (with_held before) ended (with_held after) → Serves given before ended after
+    → RefusesOpening given.list.now given.forms given.stores.now fault → IsTold fault (with_held before) ended (with_held after) → RunLeaves given before ended after
 refused_serves given before after Done fault empty passed unread untouched why told = absurd told
 refused_serves given before after Refused fault empty passed unread untouched why told = (
   untouched,
@@ -122,7 +122,7 @@ passed start now before mid after ran empty none runs flushed sound =
 -- the answers failed as they were passed on, or before
 pub broken_serves : (given : Given) (start now : Shown) (before mid after : Ends) (ran : Result End RunFault) → Starts given start → before.held ≡ [] → after.out ≡ before.out
     → Runs start (with_held before) before.script ran now (with_held mid) after.script → Flushes (with_held mid) (with_held after) → after.answers.broken ≡ true
-    → Serves given before WriteAnswers after
+    → RunLeaves given before WriteAnswers after
 broken_serves given start now before mid after ran starts empty untouched runs flushed broken = (
   untouched,
   inr (
@@ -140,7 +140,7 @@ package_left shown [] = refl
 package_left shown (line ∷ lines) = package_left (shown_line shown line) lines ∙ package_stays_behind shown.state line
 
 -- the image of a session that was opened over what is given
-pub image_is : (given : Given) (before after : Ends) (ended : End) (run : Finished given before ended after) → image_of (shape_of (nodes_of run.now.state.ifr)).guid run.now.state.committed ≡ image_left given run.now
+pub image_is : (given : Given) (before after : Ends) (ended : End) (run : Finished given before ended after) → image_of (shape_of (nodes_of run.now.state.ifr)).guid run.now.state.committed ≡ image_submitted given run.now
 image_is given before after ended run =
     let script = run.finishes.script in
     let ifr : run.now.state.ifr ≡ forms_bytes given.list.now given.forms =
@@ -148,8 +148,8 @@ image_is given before after ended run =
     ap (λ (ifr : List ℕ). image_of (shape_of (nodes_of ifr)).guid run.now.state.committed) ifr
 
 -- the image was written, or its writer failed
-pub image_serves : (given : Given) (before after : Ends) (ended : Ended) (run : Finished given before end.Done after) → IsImageTold (image_left given run.now) before.out ended after.out
-    → Serves given before ended after
+pub image_serves : (given : Given) (before after : Ends) (ended : Ended) (run : Finished given before end.Done after) → IsImageTold (image_submitted given run.now) before.out ended after.out
+    → RunLeaves given before ended after
 image_serves given before after Done run told = (run, told)
 image_serves given before after Refused run told = absurd told
 image_serves given before after ReadScript run told = absurd told
@@ -176,10 +176,10 @@ pub of_finished : (given : Given) (before after : Ends) (ended : End) (run : Fin
 of_finished given before after ended run script known =
     runs_all given run.start run.now ended before after script run.starts (subst (λ reader. Finishes run.start before.answers reader ended run.now after.answers after.script) known run.finishes)
 
-known_serves : (given : Given) (before after : Ends) (ended : Ended) (script : List ℕ) → before.script ≡ Some script → Serves given before ended after → ServesAll given script before ended after
+known_serves : (given : Given) (before after : Ends) (ended : Ended) (script : List ℕ) → before.script ≡ Some script → RunLeaves given before ended after → ScriptLeaves given script before ended after
 known_serves given before after Done script known h =
     let all = of_finished given before after end.Done h.0 script known in
-    (all.0, subst (λ (s : Shown). IsWritten before.out after.out (image_left given s)) all.1 h.1)
+    (all.0, subst (λ (s : Shown). IsWritten before.out after.out (image_submitted given s)) all.1 h.1)
 known_serves given before after Refused script known h = (
   h.0,
   elim h.1 [
@@ -198,10 +198,10 @@ known_serves given before after WriteAnswers script known h = (
 )
 known_serves given before after WriteOut script known h =
     let all = of_finished given before after end.Done h.0 script known in
-    (all.0, subst (λ (s : Shown). FailsWithin before.out after.out (image_left given s)) all.1 h.1)
+    (all.0, subst (λ (s : Shown). FailsWithin before.out after.out (image_submitted given s)) all.1 h.1)
 known_serves given before after NoMemory script known h = h
 
 -- where the script's bytes are known, a run is that of all of them
-pub serves_known : (given : Given) (before after : Ends) (ended : Ended) → Serves given before ended after
-    → IfSome before.script (λ script. ServesAll given script before ended after)
+pub serves_known : (given : Given) (before after : Ends) (ended : Ended) → RunLeaves given before ended after
+    → IfSome before.script (λ script. ScriptLeaves given script before ended after)
 serves_known given before after ended h = if_known before.script _ (λ script known. known_serves given before after ended script known h)

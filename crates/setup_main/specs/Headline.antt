@@ -1,13 +1,11 @@
--- What a run leaves by the chapter Headline of `browser_rules`, and by AtFault where a reader or a writer fails (own rule).
+-- What a run leaves by the chapter Headline of `browser_rules` (own rule).
 use Rattle.std.specs.Prelude.{◌≡◌, ◌⊎◌, ℕ, List, Option, Some, None, ⊤}
-use Rattle.std.specs.Io.KnownBytes.{Appends}
 use Rattle.hii_bytes.specs.Watching.{Pen}
-use Rattle.browser_rules.specs.AtFault.{Leaves}
 use Rattle.browser_rules.specs.Headline as chapter
 use Rattle.setup_files.specs.declared.given.Given.{Given}
-use Rattle.setup_main.specs.Serving.{Ends, IsRead, IsWritten, with_held}
+use Rattle.setup_main.specs.Serving.{Ends, IsWritten}
 use Rattle.setup_main.specs.declared.serve.Ended.{Ended}
-use Rattle.setup_main.specs.declared.serve.Ended.TheVariants.{Done, Refused, ReadScript, WriteAnswers, WriteOut, NoMemory}
+use Rattle.setup_main.specs.declared.serve.Ended.TheVariants.{Done, Refused, NoMemory}
 
 -- the bytes that are given, and those of a script
 abbrev pub given_for : Given → List ℕ → chapter.Given
@@ -41,36 +39,3 @@ ServesBytes given script before Refused after =
 ServesBytes given script before NoMemory after =
     IsServed (given_for given script) chapter.NoMemory before after
 ServesBytes given script before _ after = ⊤
-
--- ---- a reader or a writer that fails
-
--- The answers are what their writer was told: with what the buffer in front of it holds back, where it is the one that failed.
-abbrev pub teller : chapter.Ended → Ends → Pen
-teller chapter.WriteAnswers ends = with_held ends
-teller _ ends = ends.answers
-
--- An image is written as far as it goes; where there is none, its writer stays as it was.
-abbrev pub IsBegun : Option (List ℕ) → Pen → Pen → Type 0
-IsBegun None old new = new ≡ old
-IsBegun (Some image) old new = Appends old.known new.known image
-
--- So many bytes of the script were read, or none.
-pub record IsBroken (given : chapter.Given) (ended : chapter.Ended) (before after : Ends) : Type 0 where
-  pub read : ℕ
-  pub answers : List ℕ
-  pub image : Option (List ℕ)
-  pub script : IsRead given.script read after.script ⊎ (after.script ≡ before.script)
-  pub leaves :
-      Leaves given read record { ended = ended; answers = answers; image = image } ended
-  pub told : Appends before.answers.known (teller ended after).known answers
-  pub left : IsBegun image before.out after.out
-
--- What was given and a script of known bytes leave what the chapter AtFault says, where a reader or a writer fails.
-abbrev pub LeavesBytes : Given → List ℕ → Ends → Ended → Ends → Type 0
-LeavesBytes given script before ReadScript after =
-    IsBroken (given_for given script) chapter.ReadScript before after
-LeavesBytes given script before WriteAnswers after =
-    IsBroken (given_for given script) chapter.WriteAnswers before after
-LeavesBytes given script before WriteOut after =
-    IsBroken (given_for given script) chapter.WriteImage before after
-LeavesBytes given script before _ after = ⊤

@@ -1,3 +1,4 @@
+pub mod AtFault
 pub mod Headline
 pub mod Serving
 pub mod code

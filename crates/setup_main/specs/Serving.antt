@@ -33,8 +33,8 @@ abbrev pub IsRefusedBy : Given → Fault → Type 0
 IsRefusedBy given fault = IsLeast (open_faults given.list.now given.forms given.stores.now) fault
 
 -- the image of the stores that a session over what is given submitted last
-abbrev pub image_left : Given → Shown → List ℕ
-image_left given now =
+abbrev pub image_submitted : Given → Shown → List ℕ
+image_submitted given now =
     image_of (shape_of (nodes_of (forms_bytes given.list.now given.forms))).guid now.state.committed
 
 -- A text is written whole, and its writer has not failed.
@@ -51,13 +51,13 @@ pub record FailsWithin (old new : Pen) (text : List ℕ) : Type 0 where
 -- ---- endings
 
 -- the status with which the program ends
-abbrev pub status_of : Ended → Status
-status_of Done = status.Done
-status_of Refused = status.Refused
-status_of ReadScript = status.Fault
-status_of WriteAnswers = status.Fault
-status_of WriteOut = status.Fault
-status_of NoMemory = status.NoMemory
+abbrev pub exit_status : Ended → Status
+exit_status Done = status.Done
+exit_status Refused = status.Refused
+exit_status ReadScript = status.Fault
+exit_status WriteAnswers = status.Fault
+exit_status WriteOut = status.Fault
+exit_status NoMemory = status.NoMemory
 
 -- which read or write failed
 abbrev pub fault_of : Ended → Option (List ℕ)
@@ -104,8 +104,8 @@ abbrev pub fresh : Option (List ℕ) → Pen
 fresh known = record { known = known; broken = false; count = 0 }
 
 -- what a run begins with
-abbrev pub begins : Option (List ℕ) → Option (List ℕ) → Option (List ℕ) → Ends
-begins script answers out =
+abbrev pub ends_before : Option (List ℕ) → Option (List ℕ) → Option (List ℕ) → Ends
+ends_before script answers out =
     record { script = script; answers = fresh answers; held = []; out = fresh out }
 
 -- ---- what is told without a session
@@ -174,23 +174,23 @@ pub record StopsAnswering (given : Given) (script : List ℕ) (before after : En
       ≤ text.part
 
 -- What a run over a script leaves. The image is that of the stores that were last submitted, and is begun only after a whole script.
-abbrev pub ServesAll : Given → List ℕ → Ends → Ended → Ends → Type 0
-ServesAll given script before Done after =
+abbrev pub ScriptLeaves : Given → List ℕ → Ends → Ended → Ends → Type 0
+ScriptLeaves given script before Done after =
     (run : RunsAll given script end.Done before after)
-    × IsWritten before.out after.out (image_left given (outcome_of run.start script).shown)
-ServesAll given script before Refused after =
+    × IsWritten before.out after.out (image_submitted given (outcome_of run.start script).shown)
+ScriptLeaves given script before Refused after =
     (after.out ≡ before.out) × (IsRefused given before after
     ⊎ RunsAll given script end.TooLong before after)
-ServesAll given script before ReadScript after =
+ScriptLeaves given script before ReadScript after =
     (after.out ≡ before.out) × StopsReading given script before after
-ServesAll given script before WriteAnswers after =
+ScriptLeaves given script before WriteAnswers after =
     (after.out ≡ before.out) × (FailsAtOnce given before after
     ⊎ StopsAnswering given script before after)
-ServesAll given script before WriteOut after =
+ScriptLeaves given script before WriteOut after =
     (run : RunsAll given script end.Done before after)
     × FailsWithin before.out after.out
-    (image_left given (outcome_of run.start script).shown)
-ServesAll given script before NoMemory after = (after.out ≡ before.out) × LacksMemory before after
+    (image_submitted given (outcome_of run.start script).shown)
+ScriptLeaves given script before NoMemory after = (after.out ≡ before.out) × LacksMemory before after
 
 -- ---- any reader and writers
 
@@ -201,22 +201,22 @@ pub record Finished (given : Given) (before : Ends) (end : End) (after : Ends) :
   pub now : Shown
   pub finishes : Finishes start before.answers before.script end now after.answers after.script
 
-abbrev pub Serves : Given → Ends → Ended → Ends → Type 0
-Serves given before Done after =
+abbrev pub RunLeaves : Given → Ends → Ended → Ends → Type 0
+RunLeaves given before Done after =
     (run : Finished given before end.Done after)
-    × IsWritten before.out after.out (image_left given run.now)
-Serves given before Refused after =
+    × IsWritten before.out after.out (image_submitted given run.now)
+RunLeaves given before Refused after =
     (after.out ≡ before.out) × (IsRefused given before after
     ⊎ Finished given before end.TooLong after)
-Serves given before ReadScript after =
+RunLeaves given before ReadScript after =
     (after.out ≡ before.out) × (start now : Shown) × Starts given start
     × BreaksOff start before.answers before.script now after.answers after.script
-Serves given before WriteAnswers after =
+RunLeaves given before WriteAnswers after =
     (after.out ≡ before.out)
     × (FailsAtOnce given before after
     ⊎ ((start now : Shown) × Starts given start
     × Overflows start before.answers before.script now (with_held after) after.script))
-Serves given before WriteOut after =
+RunLeaves given before WriteOut after =
     (run : Finished given before end.Done after)
-    × FailsWithin before.out after.out (image_left given run.now)
-Serves given before NoMemory after = (after.out ≡ before.out) × LacksMemory before after
+    × FailsWithin before.out after.out (image_submitted given run.now)
+RunLeaves given before NoMemory after = (after.out ≡ before.out) × LacksMemory before after

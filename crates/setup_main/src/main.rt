@@ -2,11 +2,9 @@
 #![tactic(auto)]
 
 ghost use Rattle.std.specs.Prelude.{◌≡◌};
-ghost use Rattle.setup_main.specs.Serving.{status_of};
+ghost use Rattle.setup_main.specs.Serving.{exit_status};
 
 mod serve;
-#[cfg(test)]
-mod tests;
 
 use clap::Error;
 use clap::error::ErrorKind;
@@ -99,7 +97,7 @@ fn told<R: Files + Input + Print + Eprint>(
     path: &str,
     served: Served<Noted<R::Reader>, Noted<Printer<'_, R>>, OutFile<'_, R>>,
 ) -> Status
-    ensures { result ≡ status_of served.entry.ended }
+    ensures { result ≡ exit_status served.entry.ended }
 {
     let Served {
         ended,

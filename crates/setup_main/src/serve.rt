@@ -5,8 +5,9 @@ ghost use Rattle.std.specs.Io.Buffered.{writer_buffer, writer_contents};
 ghost use Rattle.hii_bytes.specs.Watching.{pen_of, inner_of, has_failed, has_passed_on};
 ghost use Rattle.hii_varstore.specs.Image.{image_of};
 ghost use Rattle.setup_files.specs.declared.given.Given.{Given};
-ghost use Rattle.setup_main.specs.Headline.{LeavesBytes, ServesBytes};
-ghost use Rattle.setup_main.specs.Serving.{Starts, Serves, ServesAll, IsNamed, begins, ends_of, fault_of, status_of};
+ghost use Rattle.setup_main.specs.AtFault.{LeavesBytes};
+ghost use Rattle.setup_main.specs.Headline.{ServesBytes};
+ghost use Rattle.setup_main.specs.Serving.{Starts, RunLeaves, ScriptLeaves, IsNamed, ends_before, ends_of, fault_of, exit_status};
 ghost use Rattle.setup_main.specs.code.Endings.{IsTold, IsImageTold};
 
 use browser_core::{End, RunFault, Session, put_refusal, put_refusal_at};
@@ -17,7 +18,7 @@ use std::alloc::Global;
 use std::io::{BufWriter, Read, Write};
 
 /// How a run ended.
-#[derive(Clone, Copy, Debug, PartialEq, Eq)]
+#[derive(Clone, Copy, PartialEq, Eq)]
 pub enum Ended {
     /// The script was run, and the image of its last submitted stores is written and passed on.
     Done,
@@ -36,7 +37,7 @@ pub enum Ended {
 impl Ended {
     /// The status with which the program ends.
     pub fn status(self) -> Status
-        ensures { result ≡ status_of self }
+        ensures { result ≡ exit_status self }
     {
         match self {
             Ended::Done => Status::Done,
@@ -85,21 +86,21 @@ pub fn serve<R: Read + Drop, A: Write + Drop, O: Write + Drop>(
     // Where the script's bytes are known, and no reader or writer fails.
     ensures headline { IfSome result (λ served. IfSome (R.remaining script) (λ bytes.
         ServesBytes given.entry bytes
-        (begins (R.remaining script) (A.contents answers) (O.contents out)) served.ended
+        (ends_before (R.remaining script) (A.contents answers) (O.contents out)) served.ended
         (ends_of R.remaining A.contents O.contents served.script served.answers served.out))) }
     // Where the script's bytes are known, and a reader or a writer fails.
     ensures at_fault { IfSome result (λ served. IfSome (R.remaining script) (λ bytes.
         LeavesBytes given.entry bytes
-        (begins (R.remaining script) (A.contents answers) (O.contents out)) served.ended
+        (ends_before (R.remaining script) (A.contents answers) (O.contents out)) served.ended
         (ends_of R.remaining A.contents O.contents served.script served.answers served.out))) }
     // Where the script's bytes are known, with what is left of it.
     ensures whole { IfSome result (λ served. IfSome (R.remaining script) (λ bytes.
-        ServesAll given.entry bytes
-        (begins (R.remaining script) (A.contents answers) (O.contents out)) served.ended
+        ScriptLeaves given.entry bytes
+        (ends_before (R.remaining script) (A.contents answers) (O.contents out)) served.ended
         (ends_of R.remaining A.contents O.contents served.script served.answers served.out))) }
     // At any reader and writers, and at their faults.
-    ensures serves { IfSome result (λ served. Serves given.entry
-        (begins (R.remaining script) (A.contents answers) (O.contents out)) served.ended
+    ensures serves { IfSome result (λ served. RunLeaves given.entry
+        (ends_before (R.remaining script) (A.contents answers) (O.contents out)) served.ended
         (ends_of R.remaining A.contents O.contents served.script served.answers served.out)) }
     // Which of them have failed.
     ensures named { IfSome result (λ served. IsNamed served.ended
@@ -125,7 +126,7 @@ pub fn serve<R: Read + Drop, A: Write + Drop, O: Write + Drop>(
     })
 }
 
-// Serves over a reader and writers of which none has failed, and with an empty buffer.
+// RunLeaves over a reader and writers of which none has failed, and with an empty buffer.
 fn serve_watched<R: Read, A: Write + Drop, O: Write>(
     alloc: Global,
     given: Given<'_>,
@@ -136,7 +137,7 @@ fn serve_watched<R: Read, A: Write + Drop, O: Write>(
     requires script { has_failed script.old ≡ false }
     requires empty { writer_buffer (inner_of answers.old) ≡ [] }
     requires out { has_failed out.old ≡ false }
-    ensures serves { Serves given.entry
+    ensures serves { RunLeaves given.entry
         (ends_of R.remaining A.contents O.contents script.old answers.old out.old) result
         (ends_of R.remaining A.contents O.contents script.new answers.new out.new) }
     ensures named { IsNamed result
@@ -160,7 +161,7 @@ fn run<R: Read, A: Write + Drop, O: Write>(
 ) -> Ended
     requires empty { writer_buffer (inner_of answers.old) ≡ [] }
     requires out { has_failed out.old ≡ false }
-    ensures serves { (given : Given) → Starts given session.old → Serves given
+    ensures serves { (given : Given) → Starts given session.old → RunLeaves given
         (ends_of R.remaining A.contents O.contents script.old answers.old out.old) result
         (ends_of R.remaining A.contents O.contents script.new answers.new out.new) }
     ensures named { IsNamed result

@@ -1,4 +1,4 @@
-use Rattle.std.proofs.Common.{◌≡◌, false, map, string_bytes, drop}
+use Rattle.std.proofs.Common.{◌≡◌, map, string_bytes, drop}
 use Rattle.audit_options.specs.CommandLine.{has_hyphen_behind, has_hyphen_language}
 use Rattle.audit_options.proofs.reading.has_hyphen_language.Given as goal
 
