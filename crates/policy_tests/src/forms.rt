@@ -1,15 +1,19 @@
-//! The forms packages of the cases.
+//! The forms packages of the cases, and what is read of them.
 
-ghost use Rattle.std.specs.Prelude.{◌≡◌, ◌≤◌, ◌<◌, ◌^◌, ◌+◌, length, IfOk, IfSome};
+ghost use Rattle.std.specs.Prelude.{◌≡◌, IfOk, IfSome};
 ghost use Rattle.ifr_scopes.specs.Accepted.{IsAccepted};
 ghost use Rattle.ifr_scopes.specs.code.Checked.{IsNodeOf};
 ghost use Rattle.ifr_scopes.specs.code.Lists.{form_node};
 
-use hii_bytes::Fault;
+use crate::images::image_of;
+use hii_bytes::{Cause, Fault};
 use hii_packages::{FORMS, Package};
+use hii_questions::Questions;
+use hii_varstore::{Layout, Stores};
 use ifr_scopes::laws::a_node_is_that_of_its_place;
 use ifr_scopes::{Form, Forms};
-use std::alloc::Global;
+use std::alloc::{AllocError, Global};
+use std::test::Fail;
 
 // A package's header, a form set, and a store of the id 1, without its size.
 const FRONT: [u8; 51] = [
@@ -19,44 +23,53 @@ const FRONT: [u8; 51] = [
     0x24, 24, 1, 2, 3, 4, 5, 6, 7, 8, 9, 10, 11, 12, 13, 14, 15, 16, 1, 0, 0, 0, b'A', 0, // VARSTORE, at 27
 ];
 
-// The front, without the values of its bytes.
-fn front() -> &'static [u8]
-    ensures { length result.now ≡ 51 }
-{
-    FRONT.as_slice()
+fn front() -> &'static [u8] {
+    &FRONT
 }
 
-// A forms package with a store of the id 1 and so many bytes, which has nothing behind it yet.
-fn started(size: u8) -> [u8; 512] {
-    let mut bytes = [0u8; 512];
-    bytes[..51].copy_from_slice(front());
-    bytes[47] = size;
-    bytes
+// A forms package with a store of the id 1 and so many bytes, and these opcodes behind it, from 51 on. It has no clause, so that no
+// proof computes with its bytes.
+pub(crate) fn package_of(alloc: Global, size: u8, opcodes: &[u8]) -> Result<Vec<u8>, AllocError> {
+    let mut bytes = Vec::from_slice(alloc, front())?;
+    if let Some(low) = bytes.get_mut(47) {
+        *low = size;
+    }
+    bytes.extend_from_slice(opcodes)?;
+    Ok(bytes)
 }
 
-// A forms package with a store of the id 1 and so many bytes, and these opcodes behind it, from 51 on; and how long it is.
-pub(crate) fn package_of(size: u8, opcodes: &[u8]) -> ([u8; 512], usize)
-    requires { length opcodes.now ≤ 400 }
-    ensures { result.1 ≡ 51 + length opcodes.now }
-{
-    let mut bytes = started(size);
-    let end = 51 + opcodes.len();
-    bytes[51..end].copy_from_slice(opcodes);
-    (bytes, end)
-}
-
-// The form set of a forms package.
+// The form set of these bytes, which are a package where they are as many as one may have.
 pub(crate) fn forms_of(alloc: Global, bytes: &[u8]) -> Result<Forms<'_>, Fault>
-    requires header { 4 ≤ length bytes.now }
-    requires small { length bytes.now < 2 ^ 24 }
     ensures { IfOk result IsAccepted }
 {
+    if bytes.len() < 4 || bytes.len() >= 1 << 24 {
+        return Err(Fault {
+            cause: Cause::PackageLength,
+            place: 0,
+        });
+    }
     let source = Package {
         place: 0,
         kind: FORMS,
         bytes,
     };
     Forms::read(alloc, source)
+}
+
+// The questions of a form set.
+pub(crate) fn questions_of<'a>(alloc: Global, forms: &Forms<'a>) -> Result<Questions<'a>, Fault>
+    ensures { IfOk result (λ questions. questions.ifr ≡ forms.now) }
+{
+    let layout = Layout::read(alloc, forms)?;
+    Questions::read(alloc, forms, &layout)
+}
+
+// Stores of a form set in which the store 1 has these bytes.
+pub(crate) fn stores_of(alloc: Global, forms: &Forms<'_>, bytes: &[u8]) -> Result<Stores, Fail> {
+    let layout = Layout::read(alloc, forms)?;
+    let image = image_of(alloc, bytes)?;
+    let stores = Stores::read(alloc, &layout, &image)?;
+    Ok(stores)
 }
 
 pub(crate) fn first_form<'a>(forms: &Forms<'a>) -> Option<Form<'a>>

@@ -1,4 +1,4 @@
-//! Worked cases over stores, questions, decisions and pages, by public calls alone; and what those over sessions need of them.
+//! Worked cases over stores, questions, decisions and pages, by public calls alone.
 #![tactic(auto)]
 
 #[cfg(test)]
@@ -7,7 +7,8 @@ mod defaults;
 mod fields;
 #[cfg(test)]
 mod forms;
-pub mod images;
+#[cfg(test)]
+mod images;
 #[cfg(test)]
 mod pages;
 #[cfg(test)]
@@ -16,4 +17,3 @@ mod policies;
 mod questions;
 #[cfg(test)]
 mod stores;
-pub mod writers;

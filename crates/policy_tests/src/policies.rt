@@ -1,20 +1,20 @@
-ghost use Rattle.guard_policy.specs.code.Views.{bytes_of};
+//! Decisions, each with the place that decides.
+
 ghost use Rattle.std.specs.Prelude.{◌≡◌, ◌==◌, IfSome};
 ghost use Rattle.ifr_scopes.specs.Accepted.{IsAccepted};
 ghost use Rattle.ifr_scopes.specs.code.Checked.{IsNodeOf};
 ghost use Rattle.ifr_scopes.specs.code.Lists.{form_node};
 ghost use Rattle.ifr_scopes.specs.code.Parts.{option_node};
 ghost use Rattle.hii_questions.specs.code.Views.{question_node};
+ghost use Rattle.guard_policy.specs.code.Views.{bytes_of};
 
-use crate::forms::{first_form, forms_of, package_of};
-use crate::images::image_of;
-use guard_policy::{Conditions, Decision, Denial, Policy, Removed, Warning};
+use crate::forms::{first_form, forms_of, package_of, questions_of, stores_of};
+use guard_policy::{Conditions, Decision, Denial, Policy, Removed};
 use hii_questions::laws::questions_of_ids_are_questions;
 use hii_questions::{DenialKind, Question, Questions};
-use hii_varstore::{Layout, Stores};
+use hii_varstore::Stores;
 use ifr_scopes::laws::a_node_is_that_of_its_place;
 use ifr_scopes::{Form, Forms, OptionView};
-use std::alloc::Global;
 use std::process::Abort;
 use std::test::Fail;
 
@@ -59,11 +59,8 @@ const FORM: [u8; 202] = [
     0x29, 0x02, // END, at 251
 ];
 
-// The forms package; and how long it is.
-fn package() -> ([u8; 512], usize)
-    ensures { result.1 ≡ 253 }
-{
-    package_of(3, &FORM)
+fn form() -> &'static [u8] {
+    &FORM
 }
 
 fn question_of<'a>(questions: &Questions<'a>, id: u16) -> Option<Question<'a>>
@@ -83,159 +80,123 @@ fn first_option<'a>(questions: &Questions<'a>, question: Question<'a>) -> Option
     question.statement().options().next()
 }
 
-fn denial(kind: DenialKind, place: u32) -> Result<(), Denial> {
-    Err(Denial {
-        kind,
-        place,
-        message: 0,
-    })
+// The first option of the question of an id.
+fn option_of<'a>(questions: &Questions<'a>, id: u16) -> Option<OptionView<'a>>
+    requires { IsAccepted questions.now.ifr }
+    ensures { IfSome result (λ option. IsNodeOf questions.now.ifr (option_node option)) }
+{
+    first_option(questions, question_of(questions, id)?)
 }
 
-// Whether the statement of a question is listed and may be changed.
+// What decides, and where, if something does.
+fn by(decided: Result<(), Denial>) -> Option<(DenialKind, u32)> {
+    let denial = decided.err()?;
+    Some((denial.kind, denial.place))
+}
+
+// Each of what follows asks a policy for one decision, or for those of one thing. None has a clause, so that no test carries more than
+// the contracts of one.
+
+fn form_decided<'a>(
+    policy: Policy<'a, '_>,
+    questions: &Questions<'a>,
+    form: Form<'a>,
+    stores: &Stores,
+) -> Option<(DenialKind, u32)>
+    requires accepted { IsAccepted questions.now.ifr }
+    requires together { bytes_of policy ≡ questions.now.ifr }
+    requires node { IsNodeOf questions.now.ifr (form_node form) }
+{
+    by(policy.opens(form, stores))
+}
+
 fn statement_decided<'a>(
     policy: Policy<'a, '_>,
     questions: &Questions<'a>,
     stores: &Stores,
     id: u16,
-) -> Option<[Result<(), Denial>; 2]>
+) -> [Option<(DenialKind, u32)>; 2]
     requires accepted { IsAccepted questions.now.ifr }
     requires together { bytes_of policy ≡ questions.now.ifr }
 {
-    let statement = question_of(questions, id)?.statement();
-    Some([
-        policy.listed(statement, stores),
-        policy.changeable(statement, stores),
-    ])
+    let Some(question) = question_of(questions, id) else {
+        return [None; 2];
+    };
+    let statement = question.statement();
+    [
+        by(policy.listed(statement, stores)),
+        by(policy.changeable(statement, stores)),
+    ]
 }
 
-fn statements_are_denied<'a>(
+fn option_decided<'a>(
+    policy: Policy<'a, '_>,
+    questions: &Questions<'a>,
+    stores: &Stores,
+    value: u64,
+) -> Option<(DenialKind, u32)>
+    requires accepted { IsAccepted questions.now.ifr }
+    requires together { bytes_of policy ≡ questions.now.ifr }
+{
+    by(policy.option_open(question_of(questions, 5)?, value, stores))
+}
+
+fn value_decided<'a>(
+    policy: Policy<'a, '_>,
+    questions: &Questions<'a>,
+    stores: &Stores,
+) -> Option<(DenialKind, u32)>
+    requires accepted { IsAccepted questions.now.ifr }
+    requires together { bytes_of policy ≡ questions.now.ifr }
+{
+    by(policy.consistent(question_of(questions, 7)?, stores))
+}
+
+fn warned_at<'a>(policy: Policy<'a, '_>, questions: &Questions<'a>, stores: &Stores) -> Option<u32>
+    requires accepted { IsAccepted questions.now.ifr }
+    requires together { bytes_of policy ≡ questions.now.ifr }
+{
+    let warning = policy.warnings(question_of(questions, 7)?, stores).next()?;
+    Some(warning.place)
+}
+
+fn supported_by<'a>(policy: Policy<'a, '_>, questions: &Questions<'a>) -> Option<u16>
+    requires accepted { IsAccepted questions.now.ifr }
+    requires together { bytes_of policy ≡ questions.now.ifr }
+{
+    policy
+        .support_of(Decision::Consistent(question_of(questions, 7)?))
+        .next()
+}
+
+fn decisions_are_told<'a>(
     rt: &impl Abort,
     policy: Policy<'a, '_>,
     questions: &Questions<'a>,
     stores: &Stores,
-)
-    requires accepted { IsAccepted questions.now.ifr }
-    requires together { bytes_of policy ≡ questions.now.ifr }
-{
-    for (id, listed, changeable) in [
-        (7, Ok(()), Ok(())),
-        (8, Ok(()), denial(DenialKind::ReadOnly, 118)),
-        (9, Ok(()), denial(DenialKind::Outside, 132)),
-        (
-            6,
-            denial(DenialKind::SuppressIf, 146),
-            denial(DenialKind::SuppressIf, 146),
-        ),
-        (
-            4,
-            denial(DenialKind::DisableIf, 170),
-            denial(DenialKind::DisableIf, 170),
-        ),
-        (3, Ok(()), denial(DenialKind::Locked, 243)),
-    ] {
-        let wanted = Some([listed, changeable]);
-        assert_eq!(rt; statement_decided(policy, questions, stores, id), wanted);
-    }
-}
-
-fn options_are_denied<'a>(
-    rt: &impl Abort,
-    policy: Policy<'a, '_>,
-    questions: &Questions<'a>,
-    stores: &Stores,
-)
-    requires accepted { IsAccepted questions.now.ifr }
-    requires together { bytes_of policy ≡ questions.now.ifr }
-{
-    let choice = question_of(questions, 5).expect(rt, "a question");
-    for (value, open) in [
-        (1, denial(DenialKind::GrayOutIf, 207)),
-        (2, Ok(())),
-        (3, Ok(())),
-    ] {
-        assert_eq!(rt; policy.option_open(choice, value, stores), open);
-    }
-}
-
-fn values_are_denied<'a>(
-    rt: &impl Abort,
-    policy: Policy<'a, '_>,
-    questions: &Questions<'a>,
-    stores: &Stores,
-)
-    requires accepted { IsAccepted questions.now.ifr }
-    requires together { bytes_of policy ≡ questions.now.ifr }
-{
-    let question = question_of(questions, 7).expect(rt, "a question");
-    let inconsistent = Denial {
-        kind: DenialKind::InconsistentIf,
-        place: 79,
-        message: 4,
-    };
-    assert_eq!(rt; policy.consistent(question, stores), Err(inconsistent));
-    let unsubmitted = Denial {
-        kind: DenialKind::NoSubmitIf,
-        place: 91,
-        message: 5,
-    };
-    assert_eq!(rt; policy.may_submit(stores), Err(unsubmitted));
-    let mut warnings = policy.warnings(question, stores);
-    let warning = Warning {
-        place: 103,
-        message: 6,
-    };
-    assert_eq!(rt; (warnings.next(), warnings.next()), (Some(warning), None));
-}
-
-// All conditions hold, or none.
-#[derive(Drop)]
-struct All {
-    hold: bool,
-}
-
-impl Conditions for All {
-    ghost holding = { λ all _. all.hold };
-
-    fn holds(&self, _place: u32) -> bool {
-        self.hold
-    }
-}
-
-// What is decided where all conditions hold, or none: of the form, of a submission, and of the question 8.
-fn decided_by<'a>(
-    policy: Policy<'a, '_>,
-    questions: &Questions<'a>,
     form: Form<'a>,
-    all: &All,
-) -> Option<[Result<(), Denial>; 4]>
+)
     requires accepted { IsAccepted questions.now.ifr }
     requires together { bytes_of policy ≡ questions.now.ifr }
     requires node { IsNodeOf questions.now.ifr (form_node form) }
 {
-    let statement = question_of(questions, 8)?.statement();
-    Some([
-        policy.opens_by(form, all),
-        policy.may_submit_by(all),
-        policy.listed_by(statement, all),
-        policy.changeable_by(statement, all),
-    ])
-}
-
-// And of the first option of the question 5.
-fn option_decided_by<'a>(
-    policy: Policy<'a, '_>,
-    questions: &Questions<'a>,
-    all: &All,
-) -> Option<[Result<(), Denial>; 2]>
-    requires accepted { IsAccepted questions.now.ifr }
-    requires together { bytes_of policy ≡ questions.now.ifr }
-{
-    let choice = question_of(questions, 5)?;
-    let option = first_option(questions, choice)?;
-    Some([
-        policy.option_open_by(choice, 1, all),
-        policy.option_listed_by(option, all),
-    ])
+    assert_eq!(rt; form_decided(policy, questions, form, stores), None);
+    let hidden = Some((DenialKind::SuppressIf, 146));
+    assert_eq!(rt;
+        statement_decided(policy, questions, stores, 6),
+        [hidden; 2]
+    );
+    assert_eq!(rt; statement_decided(policy, questions, stores, 7), [None; 2]);
+    let grayed = Some((DenialKind::GrayOutIf, 207));
+    assert_eq!(rt; option_decided(policy, questions, stores, 1), grayed);
+    let inconsistent = Some((DenialKind::InconsistentIf, 79));
+    assert_eq!(rt; value_decided(policy, questions, stores), inconsistent);
+    assert_eq!(rt;
+        by(policy.may_submit(stores)),
+        Some((DenialKind::NoSubmitIf, 91))
+    );
+    assert_eq!(rt; warned_at(policy, questions, stores), Some(103));
+    assert_eq!(rt; supported_by(policy, questions), Some(5));
 }
 
 // The condition at a place holds alone.
@@ -252,45 +213,69 @@ impl Conditions for Alone {
     }
 }
 
-// Whether the first option of the question 5 is shown and may be chosen, by the condition at a place alone.
-fn option_decided_at<'a>(
+fn form_decided_by<'a>(
     policy: Policy<'a, '_>,
     questions: &Questions<'a>,
-    place: u32,
-) -> Option<[Result<(), Denial>; 2]>
+    form: Form<'a>,
+    alone: &Alone,
+) -> [Option<(DenialKind, u32)>; 2]
+    requires accepted { IsAccepted questions.now.ifr }
+    requires together { bytes_of policy ≡ questions.now.ifr }
+    requires node { IsNodeOf questions.now.ifr (form_node form) }
+{
+    [
+        by(policy.opens_by(form, alone)),
+        by(policy.may_submit_by(alone)),
+    ]
+}
+
+fn statement_decided_by<'a>(
+    policy: Policy<'a, '_>,
+    questions: &Questions<'a>,
+    alone: &Alone,
+) -> [Option<(DenialKind, u32)>; 2]
     requires accepted { IsAccepted questions.now.ifr }
     requires together { bytes_of policy ≡ questions.now.ifr }
 {
-    let choice = question_of(questions, 5)?;
-    let option = first_option(questions, choice)?;
-    let alone = Alone { place };
-    Some([
-        policy.option_listed_by(option, &alone),
-        policy.option_changeable_by(option, &alone),
-    ])
+    let Some(question) = question_of(questions, 8) else {
+        return [None; 2];
+    };
+    let statement = question.statement();
+    [
+        by(policy.listed_by(statement, alone)),
+        by(policy.changeable_by(statement, alone)),
+    ]
 }
 
-fn options_are_shown_and_chosen<'a>(
-    rt: &impl Abort,
+fn option_decided_by<'a>(
     policy: Policy<'a, '_>,
     questions: &Questions<'a>,
-)
+    alone: &Alone,
+) -> [Option<(DenialKind, u32)>; 2]
     requires accepted { IsAccepted questions.now.ifr }
     requires together { bytes_of policy ≡ questions.now.ifr }
 {
-    let suppressed = denial(DenialKind::SuppressIf, 51);
-    let grayed = denial(DenialKind::GrayOutIf, 207);
-    for (place, seen, open) in [
-        (51, suppressed, suppressed),
-        (207, Ok(()), grayed),
-        (146, Ok(()), Ok(())),
-    ] {
-        let decided = option_decided_at(policy, questions, place);
-        assert_eq!(rt; decided, Some([seen, open]));
-    }
+    let Some(option) = option_of(questions, 5) else {
+        return [None; 2];
+    };
+    [
+        by(policy.option_listed_by(option, alone)),
+        by(policy.option_changeable_by(option, alone)),
+    ]
 }
 
-fn kept_conditions_decide<'a>(
+fn value_decided_by<'a>(
+    policy: Policy<'a, '_>,
+    questions: &Questions<'a>,
+    alone: &Alone,
+) -> Option<(DenialKind, u32)>
+    requires accepted { IsAccepted questions.now.ifr }
+    requires together { bytes_of policy ≡ questions.now.ifr }
+{
+    by(policy.option_open_by(question_of(questions, 5)?, 1, alone))
+}
+
+fn conditions_decide<'a>(
     rt: &impl Abort,
     policy: Policy<'a, '_>,
     questions: &Questions<'a>,
@@ -300,101 +285,34 @@ fn kept_conditions_decide<'a>(
     requires together { bytes_of policy ≡ questions.now.ifr }
     requires node { IsNodeOf questions.now.ifr (form_node form) }
 {
-    let suppressed = denial(DenialKind::SuppressIf, 51);
-    let unsubmitted = Err(Denial {
-        kind: DenialKind::NoSubmitIf,
-        place: 91,
-        message: 5,
-    });
-    for (hold, seen, changeable, submitted) in [
-        (false, Ok(()), denial(DenialKind::ReadOnly, 118), Ok(())),
-        (true, suppressed, suppressed, unsubmitted),
-    ] {
-        let all = All { hold };
-        let wanted = Some([seen, submitted, seen, changeable]);
-        assert_eq!(rt; decided_by(policy, questions, form, &all), wanted);
-        let wanted = Some([seen, seen]);
-        assert_eq!(rt; option_decided_by(policy, questions, &all), wanted);
-    }
-}
-
-fn decisions_depend_on_questions<'a>(
-    rt: &impl Abort,
-    policy: Policy<'a, '_>,
-    questions: &Questions<'a>,
-)
-    requires accepted { IsAccepted questions.now.ifr }
-    requires together { bytes_of policy ≡ questions.now.ifr }
-{
-    let question = question_of(questions, 7).expect(rt, "a question");
-    let mut ids = policy.support_of(Decision::Changeable(question.statement()));
-    assert_eq!(rt; (ids.next(), ids.next()), (Some(7), None));
-    let mut ids = policy.support_of(Decision::Consistent(question));
-    assert_eq!(rt; (ids.next(), ids.next()), (Some(5), None));
-    let mut ids = policy.support_of(Decision::MaySubmit);
-    assert_eq!(rt; (ids.next(), ids.next()), (Some(5), None));
-    let choice = question_of(questions, 5).expect(rt, "a question");
-    let mut ids = policy.support_of(Decision::OptionOpen(choice, 1));
-    assert_eq!(rt; (ids.next(), ids.next()), (Some(7), None));
+    let suppressed = Some((DenialKind::SuppressIf, 51));
+    let alone = Alone { place: 51 };
+    assert_eq!(rt;
+        form_decided_by(policy, questions, form, &alone),
+        [suppressed, None]
+    );
+    assert_eq!(rt;
+        statement_decided_by(policy, questions, &alone),
+        [suppressed; 2]
+    );
+    assert_eq!(rt;
+        option_decided_by(policy, questions, &alone),
+        [suppressed; 2]
+    );
+    assert_eq!(rt; value_decided_by(policy, questions, &alone), suppressed);
 }
 
 fn conditions_are_found<'a>(rt: &impl Abort, policy: Policy<'a, '_>, stores: &Stores) {
-    let conditions = policy.over(stores);
-    for (place, holds) in [(51, false), (91, true), (146, true), (65, false)] {
-        assert_eq!(rt; conditions.holds(place), holds);
-    }
-    for (place, question) in [(51, Some(7)), (91, Some(5)), (170, None), (65, None)] {
-        assert_eq!(rt; policy.support_at(place).next(), question);
-    }
-}
-
-// What a policy decides over these stores.
-fn policy_decides<'a, R: Abort>(
-    rt: &R,
-    policy: Policy<'a, '_>,
-    questions: &Questions<'a>,
-    stores: &Stores,
-    form: Form<'a>,
-)
-    requires accepted { IsAccepted questions.now.ifr }
-    requires together { bytes_of policy ≡ questions.now.ifr }
-    requires node { IsNodeOf questions.now.ifr (form_node form) }
-{
-    let (bytes, len) = package();
-    assert_eq!(rt; policy.forms().bytes(), &bytes[..len]);
+    assert!(rt; policy.over(stores).holds(91));
+    assert_eq!(rt; policy.support_at(51).next(), Some(7));
     assert_eq!(rt; (policy.removed(170), policy.removed(146)), (true, false));
-    assert_eq!(rt; policy.opens(form, stores), Ok(()));
-    statements_are_denied(rt, policy, questions, stores);
-    options_are_denied(rt, policy, questions, stores);
-    values_are_denied(rt, policy, questions, stores);
-    kept_conditions_decide(rt, policy, questions, form);
-    options_are_shown_and_chosen(rt, policy, questions);
-    decisions_depend_on_questions(rt, policy, questions);
-    conditions_are_found(rt, policy, stores);
-}
-
-fn form_is_suppressed<'a, R: Abort + AllocGlobal>(
-    rt: &R,
-    policy: Policy<'a, '_>,
-    layout: &Layout<'a>,
-    form: Form<'a>,
-) -> Result<(), Fail>
-    requires { IsNodeOf (bytes_of policy) (form_node form) }
-{
-    let image = image_of(rt.alloc(), &[0, 1, 0])?;
-    let stores = Stores::read(rt.alloc(), layout, &image)?;
-    assert_eq!(rt;
-        policy.opens(form, &stores),
-        denial(DenialKind::SuppressIf, 51)
-    );
-    Ok(())
+    assert_eq!(rt; policy.forms().bytes().len(), 253);
 }
 
 // What is decided over stores in which the question 5 is 2 and the others are 0.
 fn is_decided_over<'a, R: Abort + AllocGlobal>(
     rt: &R,
     forms: &Forms<'a>,
-    layout: &Layout<'a>,
     questions: &Questions<'a>,
     stores: &Stores,
 ) -> Result<(), Fail>
@@ -404,35 +322,17 @@ fn is_decided_over<'a, R: Abort + AllocGlobal>(
     let removed = Removed::at_open(rt.alloc(), forms, questions, stores)?;
     let policy = Policy::new(forms, questions, &removed);
     let form = first_form(forms).expect(rt, "a form");
-    policy_decides(rt, policy, questions, stores, form);
-    form_is_suppressed(rt, policy, layout, form)
-}
-
-fn is_decided<'a, R: Abort + AllocGlobal>(
-    rt: &R,
-    forms: &Forms<'a>,
-    layout: &Layout<'a>,
-    questions: &Questions<'a>,
-) -> Result<(), Fail>
-    requires accepted { IsAccepted forms.now }
-    requires together { questions.now.ifr ≡ forms.now }
-{
-    let image = image_of(rt.alloc(), &[0, 0, 2])?;
-    let stores = Stores::read(rt.alloc(), layout, &image)?;
-    is_decided_over(rt, forms, layout, questions, &stores)
-}
-
-fn of_forms<'a, R: Abort + AllocGlobal>(rt: &R, forms: &Forms<'a>) -> Result<(), Fail>
-    requires { IsAccepted forms.now }
-{
-    let layout = Layout::read(rt.alloc(), forms)?;
-    let questions = Questions::read(rt.alloc(), forms, &layout)?;
-    is_decided(rt, forms, &layout, &questions)
+    decisions_are_told(rt, policy, questions, stores, form);
+    conditions_decide(rt, policy, questions, form);
+    conditions_are_found(rt, policy, stores);
+    Ok(())
 }
 
 #[test]
 fn denials_name_what_decides(rt: HostRuntime) -> Result<(), Fail> {
-    let (bytes, len) = package();
-    let forms = forms_of(rt.alloc(), &bytes[..len])?;
-    of_forms(&rt, &forms)
+    let bytes = package_of(rt.alloc(), 3, form())?;
+    let forms = forms_of(rt.alloc(), bytes.as_slice())?;
+    let questions = questions_of(rt.alloc(), &forms)?;
+    let stores = stores_of(rt.alloc(), &forms, &[0, 0, 2])?;
+    is_decided_over(&rt, &forms, &questions, &stores)
 }

@@ -2,10 +2,6 @@
 #![tactic(auto)]
 
 #[cfg(test)]
-mod configurations;
-#[cfg(test)]
 mod pieces;
-#[cfg(test)]
-mod renewals;
 #[cfg(test)]
 mod sessions;

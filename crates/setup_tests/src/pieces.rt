@@ -93,15 +93,15 @@ impl Read for Looking<'_> {
 
 // Whether a session ends where a script does, and how many bytes of the answers are written then, while a buffer still stands before
 // the writer.
-fn ended<R: Abort + AllocGlobal>(
+fn ended<R: AllocGlobal>(
     rt: &R,
     script: &mut Watched<Looking<'_>>,
     answers: &[u8],
     written: &RefCell<Vec<u8>>,
 ) -> Result<(bool, Option<usize>), Fail> {
     let mut out = Watched::new(BufWriter::new(rt.alloc(), Shown { written })?);
-    let ran = after(rt, script, &mut out)?;
-    Ok((ran.end == Ok(End::Done), answered(answers, written)))
+    let (end, _) = after(rt.alloc(), script, &mut out)?;
+    Ok((end == Ok(End::Done), answered(answers, written)))
 }
 
 // All lines of a script of so many bytes were answered at each read that had come before it.
