@@ -8,17 +8,18 @@ use Rattle.clap.specs.declared.builder.arg.Arg.{Arg}
 use Rattle.clap.specs.declared.builder.command.Command.{Command}
 use Rattle.clap.specs.declared.builder.texts.Texts.TheVariants.{One}
 use Rattle.audit_options.specs.CommandLine.{IsArg, IsCommand, IsProgram}
+use Rattle.audit_options.specs.code.Building.{with_argument, with_command}
 
-pub with_arg : (shape : Shape) (rule : Rule) (old : Command) (arg : Arg) (new : Command) → IsCommand shape old → IsArg rule arg → AddsArg old arg new
-    → IsCommand (record shape { rules = shape.rules ++ rule ∷ [] }) new
-with_arg shape rule old arg new command option adds = record {
+pub argument_added : (shape : Shape) (rule : Rule) (old : Command) (arg : Arg) (new : Command) → IsCommand shape old → IsArg rule arg → AddsArg old arg new
+    → IsCommand (with_argument shape rule) new
+argument_added shape rule old arg new command option adds = record {
   read_as = adds.shape option.local ∙ ap₂ with_rule command.read_as option.read_by;
   local = rw (adds.globals, command.local, option.local) refl;
 }
 
-pub with_command : (app : App) (shape : Shape) (old sub new : Command) → IsProgram app old → IsCommand shape sub → AddsSubcommand old sub new
-    → IsProgram (with_subcommand app shape) new
-with_command app shape old sub new program command adds = record {
+pub command_added : (app : App) (shape : Shape) (old sub new : Command) → IsProgram app old → IsCommand shape sub → AddsSubcommand old sub new
+    → IsProgram (with_command app shape) new
+command_added app shape old sub new program command adds = record {
   read_as = adds.shape command.local ∙ ap₂ with_subcommand program.read_as (ap (λ (a : App). a.top) command.read_as);
   local = rw (adds.globals, program.local, command.local) refl;
 }

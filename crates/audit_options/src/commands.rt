@@ -1,8 +1,10 @@
 //! The commands and options, in the order in which help lists them.
 
 ghost use Rattle.std.specs.Prelude.{IfOk, codes};
+ghost use Rattle.clap.specs.Words.{App, Rule, Shape};
 ghost use Rattle.audit_options.specs.CommandLine as spec;
 ghost use Rattle.audit_options.specs.CommandLine.{IsArg, IsCommand, IsProgram};
+ghost use Rattle.audit_options.specs.code.Building.{bare, with_argument, with_command};
 
 use clap::{Arg, ArgAction, Command};
 use std::alloc::{AllocError, Global};
@@ -50,17 +52,46 @@ pub(crate) fn command<'a>(
 ) -> Result<Command<'a>, AllocError>
     ensures { IfOk result (IsProgram (spec.program takes_hyphen)) }
 {
-    Command::new(alloc, "setup_audit")
-        .bin_name("setup_audit")?
+    let command = program(alloc, version);
+    let command = with_command(command, split(alloc));
+    let command = with_command(command, stores(alloc));
+    let command = with_command(command, image(alloc));
+    let command = with_command(command, questions(alloc, takes_hyphen));
+    with_command(command, question(alloc, takes_hyphen))
+}
+
+// The program without its commands.
+fn program<'a>(alloc: Global, version: &'static str) -> Result<Command<'a>, AllocError>
+    ensures { IfOk result (IsProgram bare) }
+{
+    let command = Command::new(alloc, "setup_audit")
         .version(version)
         .about(ABOUT)
         .after_help(STATUSES)
-        .subcommand_required(true)
-        .subcommand(split(alloc)?)?
-        .subcommand(stores(alloc)?)?
-        .subcommand(image(alloc)?)?
-        .subcommand(questions(alloc, takes_hyphen)?)?
-        .subcommand(question(alloc, takes_hyphen)?)
+        .subcommand_required(true);
+    command.bin_name("setup_audit")
+}
+
+// A program with one more command.
+fn with_command<'a>(
+    program: Result<Command<'a>, AllocError>,
+    command: Result<Command<'a>, AllocError>,
+) -> Result<Command<'a>, AllocError>
+    ensures { (app : App) (shape : Shape) → IfOk program.entry (IsProgram app)
+        → IfOk command.entry (IsCommand shape) → IfOk result (IsProgram (with_command app shape)) }
+{
+    program?.subcommand(command?)
+}
+
+// A command with one more argument.
+fn with_arg<'a>(
+    command: Result<Command<'a>, AllocError>,
+    arg: Arg<'a>,
+) -> Result<Command<'a>, AllocError>
+    ensures { (shape : Shape) (rule : Rule) → IfOk command.entry (IsCommand shape) → IsArg rule arg.entry
+        → IfOk result (IsCommand (with_argument shape rule)) }
+{
+    command?.arg(arg)
 }
 
 /// `split` alone, to say how it is called.
@@ -80,22 +111,20 @@ fn split<'a>(alloc: Global) -> Result<Command<'a>, AllocError>
     )
     .value_parser(clap::value_parser!(u64).range(1..));
     let out = option(alloc, "out", "F", "File for the list that is taken");
-    Command::new(alloc, "split")
-        .about(ABOUT_SPLIT)
-        .arg(dump)?
-        .arg(take)?
-        .arg(out)
+    let command = Command::new(alloc, "split").about(ABOUT_SPLIT);
+    let command = command.arg(dump);
+    let command = with_arg(command, take);
+    with_arg(command, out)
 }
 
 fn questions<'a>(alloc: Global, takes_hyphen: bool) -> Result<Command<'a>, AllocError>
     ensures { IfOk result (IsCommand (spec.questions takes_hyphen)) }
 {
-    Command::new(alloc, "questions")
-        .about(ABOUT_QUESTIONS)
-        .arg(list(alloc))?
-        .arg(image_of_stores(alloc))?
-        .arg(forms(alloc))?
-        .arg(lang(alloc, takes_hyphen))
+    let command = Command::new(alloc, "questions").about(ABOUT_QUESTIONS);
+    let command = command.arg(list(alloc));
+    let command = with_arg(command, image_of_stores(alloc));
+    let command = with_arg(command, forms(alloc));
+    with_arg(command, lang(alloc, takes_hyphen))
 }
 
 fn question<'a>(alloc: Global, takes_hyphen: bool) -> Result<Command<'a>, AllocError>
@@ -104,13 +133,12 @@ fn question<'a>(alloc: Global, takes_hyphen: bool) -> Result<Command<'a>, AllocE
     let id = option(alloc, "id", "Q", "Id of the question")
         .required(true)
         .value_parser(clap::value_parser!(u16));
-    Command::new(alloc, "question")
-        .about(ABOUT_QUESTION)
-        .arg(list(alloc))?
-        .arg(image_of_stores(alloc))?
-        .arg(id)?
-        .arg(forms(alloc))?
-        .arg(lang(alloc, takes_hyphen))
+    let command = Command::new(alloc, "question").about(ABOUT_QUESTION);
+    let command = command.arg(list(alloc));
+    let command = with_arg(command, image_of_stores(alloc));
+    let command = with_arg(command, id);
+    let command = with_arg(command, forms(alloc));
+    with_arg(command, lang(alloc, takes_hyphen))
 }
 
 fn stores<'a>(alloc: Global) -> Result<Command<'a>, AllocError>
@@ -142,14 +170,14 @@ fn image<'a>(alloc: Global) -> Result<Command<'a>, AllocError>
         .long("zero")
         .help("Fill stores that are given no file with zeros")
         .action(ArgAction::SetTrue);
-    Command::new(alloc, "image")
-        .about(ABOUT_IMAGE)
-        .arg(list(alloc))?
-        .arg(option(alloc, "out", "F", "Image that is written").required(true))?
-        .arg(store)?
-        .arg(efivars)?
-        .arg(zero)?
-        .arg(forms(alloc))
+    let out = option(alloc, "out", "F", "Image that is written").required(true);
+    let command = Command::new(alloc, "image").about(ABOUT_IMAGE);
+    let command = command.arg(list(alloc));
+    let command = with_arg(command, out);
+    let command = with_arg(command, store);
+    let command = with_arg(command, efivars);
+    let command = with_arg(command, zero);
+    with_arg(command, forms(alloc))
 }
 
 fn list(alloc: Global) -> Arg<'static>

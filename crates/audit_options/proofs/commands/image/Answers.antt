@@ -3,17 +3,18 @@ use Rattle.std.proofs.lemmas.Result.{IfOk-weaker}
 use Rattle.clap.specs.Words.{Rule}
 use Rattle.clap.specs.declared.builder.ArgAction.TheVariants.{Append}
 use Rattle.audit_options.specs.CommandLine.{IsArg, IsCommand, command_of, required_option, store, zero}
-use Rattle.audit_options.proofs.BuildingLemmas.{with_arg}
+use Rattle.audit_options.proofs.BuildingLemmas.{argument_added}
 use Rattle.audit_options.proofs.commands.image.Goals as goal
 
 pub returns : goal.returns
 returns c =
-    let bare : IsCommand (command_of (codes "image") []) c.about.result = record { read_as = search rules; local = search rules } in
+    let bare : IsCommand (command_of (codes "image") []) c.about-command.result = record { read_as = search rules; local = search rules } in
     let is_store : IsArg store c.action-store.result = rw c.action-store.ensures record { read_by = ap (λ (r : Rule). record r { action = Some Append }) c.option.ensures.read_by; local = c.option.ensures.local } in
     let is_zero : IsArg zero c.action-zero.result = record { read_by = search rules; local = rw (c.action-zero.ensures, c.help.ensures, c.long.ensures) c.new.ensures.optional.1 } in
-    let with_0 = with_arg _ _ _ _ _ bare c.list.ensures c.in_ok-arg.ensures in
-    let with_1 = with_arg _ (required_option (codes "out")) _ _ _ with_0 record { read_by = search rules; local = search rules } c.in_ok-arg-2.ensures in
-    let with_2 = with_arg _ _ _ _ _ with_1 is_store c.in_ok-arg-3.ensures in
-    let with_3 = with_arg _ _ _ _ _ with_2 c.option-efivars.ensures c.in_ok-arg-4.ensures in
-    let with_4 = with_arg _ _ _ _ _ with_3 is_zero c.in_ok-arg-5.ensures in
-    IfOk-weaker c.arg-6.result _ _ (λ r adds. with_arg _ _ _ _ _ with_4 c.forms.ensures adds) c.arg-6.ensures
+    let is_out : IsArg (required_option (codes "out")) c.required-out.result = record { read_by = search rules; local = search rules } in
+    let with_list = IfOk-weaker c.arg-command.result _ _ (λ r adds. argument_added _ _ _ _ _ bare c.list.ensures adds) c.arg-command.ensures in
+    let with_out = c.with_arg-command.ensures _ _ with_list is_out in
+    let with_store = c.with_arg-command-2.ensures _ _ with_out is_store in
+    let with_efivars = c.with_arg-command-3.ensures _ _ with_store c.option-efivars.ensures in
+    let with_zero = c.with_arg-command-4.ensures _ _ with_efivars is_zero in
+    c.with_arg.ensures _ _ with_zero c.forms.ensures
