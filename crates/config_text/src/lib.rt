@@ -24,6 +24,3 @@ pub use read::{read_request, read_response};
 pub use request::Request;
 pub use response::Response;
 pub use write::{put_response, write_response};
-
-#[cfg(test)]
-mod tests;
