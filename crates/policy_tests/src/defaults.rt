@@ -43,36 +43,64 @@ fn default_number<'a>(
     }
 }
 
-// The numbers of the questions 1 and 2 for a class, over stores that hold zeros.
+// The numbers of the questions 1 and 2 for a class.
+fn numbers_of<'a>(
+    questions: &Questions<'a>,
+    stores: &Stores,
+    forms: &Forms<'a>,
+    languages: &Languages<'_>,
+    class: u16,
+) -> Option<[Option<u64>; 2]> {
+    let first = questions.find(1)?;
+    let second = questions.find(2)?;
+    Some([
+        default_number(first, class, questions, stores, forms, languages),
+        default_number(second, class, questions, stores, forms, languages),
+    ])
+}
+
+// The same over stores that hold zeros.
+fn numbers_over_zeros<'a>(
+    alloc: Global,
+    questions: &Questions<'a>,
+    forms: &Forms<'a>,
+    languages: &Languages<'_>,
+    class: u16,
+) -> Result<Option<[Option<u64>; 2]>, Fail> {
+    let stores = stores_of(alloc, forms, &[0, 0])?;
+    Ok(numbers_of(questions, &stores, forms, languages, class))
+}
+
 fn default_numbers(
     alloc: Global,
     forms: &Forms<'_>,
     languages: &Languages<'_>,
     class: u16,
-) -> Result<[Option<u64>; 2], Fail> {
+) -> Result<Option<[Option<u64>; 2]>, Fail> {
     let questions = questions_of(alloc, forms)?;
-    let stores = stores_of(alloc, forms, &[0, 0])?;
-    let mut numbers = [None; 2];
-    for (number, id) in numbers.iter_mut().zip([1, 2]) {
-        let question = questions.find(id).ok_or("no question")?;
-        *number = default_number(question, class, &questions, &stores, forms, languages);
-    }
-    Ok(numbers)
+    numbers_over_zeros(alloc, &questions, forms, languages, class)
+}
+
+fn has_defaults<R: Abort + AllocGlobal>(
+    rt: &R,
+    forms: &Forms<'_>,
+    languages: &Languages<'_>,
+) -> Result<(), Fail> {
+    let standard = default_numbers(rt.alloc(), forms, languages, DEFAULT_CLASS_STANDARD)?;
+    assert_eq!(rt; standard, Some([Some(1), Some(5)]));
+    let manufacturing = default_numbers(rt.alloc(), forms, languages, DEFAULT_CLASS_MANUFACTURING)?;
+    assert_eq!(rt; manufacturing, Some([None, Some(7)]));
+    Ok(())
+}
+
+fn a_form_has_defaults<R: Abort + AllocGlobal>(rt: &R, forms: &Forms<'_>) -> Result<(), Fail> {
+    let languages = languages(rt.alloc())?;
+    has_defaults(rt, forms, &languages)
 }
 
 #[test]
 fn a_question_has_a_default_for_each_class(rt: HostRuntime) -> Result<(), Fail> {
     let bytes = package_of(rt.alloc(), 2, form())?;
     let forms = forms_of(rt.alloc(), bytes.as_slice())?;
-    let languages = languages(rt.alloc())?;
-    for (class, numbers) in [
-        (DEFAULT_CLASS_STANDARD, [Some(1), Some(5)]),
-        (DEFAULT_CLASS_MANUFACTURING, [None, Some(7)]),
-    ] {
-        assert_eq!(rt;
-            default_numbers(rt.alloc(), &forms, &languages, class)?,
-            numbers
-        );
-    }
-    Ok(())
+    a_form_has_defaults(&rt, &forms)
 }

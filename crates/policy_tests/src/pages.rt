@@ -215,11 +215,26 @@ fn first_page_is_shown<'a, R: Abort + AllocGlobal>(
     page_is_shown(rt, form, policy, &questions, stores, languages)
 }
 
+fn a_page_of_texts_is_shown<R: Abort + AllocGlobal>(
+    rt: &R,
+    forms: &Forms<'_>,
+    stores: &Stores,
+) -> Result<(), Fail> {
+    let languages = languages(rt.alloc())?;
+    first_page_is_shown(rt, forms, stores, &languages)
+}
+
+fn a_page_of_values_is_shown<R: Abort + AllocGlobal>(
+    rt: &R,
+    forms: &Forms<'_>,
+) -> Result<(), Fail> {
+    let stores = stores_of(rt.alloc(), forms, fields())?;
+    a_page_of_texts_is_shown(rt, forms, &stores)
+}
+
 #[test]
 fn a_page_has_rows_and_is_written(rt: HostRuntime) -> Result<(), Fail> {
     let bytes = package_of(rt.alloc(), 24, form())?;
     let forms = forms_of(rt.alloc(), bytes.as_slice())?;
-    let stores = stores_of(rt.alloc(), &forms, fields())?;
-    let languages = languages(rt.alloc())?;
-    first_page_is_shown(&rt, &forms, &stores, &languages)
+    a_page_of_values_is_shown(&rt, &forms)
 }

@@ -328,11 +328,28 @@ fn is_decided_over<'a, R: Abort + AllocGlobal>(
     Ok(())
 }
 
+fn questions_are_decided<'a, R: Abort + AllocGlobal>(
+    rt: &R,
+    forms: &Forms<'a>,
+    questions: &Questions<'a>,
+) -> Result<(), Fail>
+    requires accepted { IsAccepted forms.now }
+    requires together { questions.now.ifr ≡ forms.now }
+{
+    let stores = stores_of(rt.alloc(), forms, &[0, 0, 2])?;
+    is_decided_over(rt, forms, questions, &stores)
+}
+
+fn a_form_is_decided<R: Abort + AllocGlobal>(rt: &R, forms: &Forms<'_>) -> Result<(), Fail>
+    requires { IsAccepted forms.now }
+{
+    let questions = questions_of(rt.alloc(), forms)?;
+    questions_are_decided(rt, forms, &questions)
+}
+
 #[test]
 fn denials_name_what_decides(rt: HostRuntime) -> Result<(), Fail> {
     let bytes = package_of(rt.alloc(), 3, form())?;
     let forms = forms_of(rt.alloc(), bytes.as_slice())?;
-    let questions = questions_of(rt.alloc(), &forms)?;
-    let stores = stores_of(rt.alloc(), &forms, &[0, 0, 2])?;
-    is_decided_over(&rt, &forms, &questions, &stores)
+    a_form_is_decided(&rt, &forms)
 }

@@ -83,16 +83,21 @@ fn laid_stores(alloc: Global, layout: &Layout<'_>) -> Result<Stores, Fail>
     Ok(stores)
 }
 
-// The byte 1 of the store 1, when the question 8 was given -2.
+// The second byte of the store 1.
+fn second_byte(stores: &Stores) -> Option<u8> {
+    stores.bytes(1)?.get(1).copied()
+}
+
+// The second byte of the store 1, when the question 8 was given -2.
 fn given_byte(alloc: Global, forms: &Forms<'_>) -> Result<Option<u8>, Fail> {
     let layout = Layout::read(alloc, forms)?;
     let questions = Questions::read(alloc, forms, &layout)?;
     let mut stores = laid_stores(alloc, &layout)?;
-    put_number(&questions, &mut stores, 8, -2)
-        .ok()
-        .ok_or("denied")?;
-    let bytes = stores.bytes(1).ok_or("no store")?;
-    Ok(bytes.get(1).copied())
+    let byte = match put_number(&questions, &mut stores, 8, -2) {
+        Ok(()) => second_byte(&stores),
+        Err(_) => None,
+    };
+    Ok(byte)
 }
 
 // The place, the ids and the width of the field of a question, and the place of its statement.
@@ -135,18 +140,41 @@ fn width_of(questions: &Questions<'_>, id: u16) -> Option<usize> {
     Some(element_width(questions.find(id)?.statement()))
 }
 
+// What questions tell without stores.
+fn questions_are_told(rt: &impl Abort, questions: &Questions<'_>) {
+    questions_are_found(rt, questions);
+    a_denial_names_its_question(rt, questions);
+    assert_eq!(rt; width_of(questions, 9), Some(2));
+}
+
+// What they tell over stores.
+fn are_told_over_stores<R: Abort + AllocGlobal>(
+    rt: &R,
+    forms: &Forms<'_>,
+    questions: &Questions<'_>,
+) -> Result<(), Fail> {
+    let stores = stores_of(rt.alloc(), forms, fields())?;
+    values_are_read(rt, questions, &stores);
+    Ok(())
+}
+
+fn values_are_told<R: Abort + AllocGlobal>(rt: &R, forms: &Forms<'_>) -> Result<(), Fail> {
+    let questions = questions_of(rt.alloc(), forms)?;
+    questions_are_told(rt, &questions);
+    are_told_over_stores(rt, forms, &questions)
+}
+
+fn a_number_is_given<R: Abort + AllocGlobal>(rt: &R, forms: &Forms<'_>) -> Result<(), Fail> {
+    assert_eq!(rt; given_byte(rt.alloc(), forms)?, Some(0xfe));
+    Ok(())
+}
+
 #[test]
 fn questions_have_values(rt: HostRuntime) -> Result<(), Fail> {
     let bytes = package_of(rt.alloc(), 10, form())?;
     let forms = forms_of(rt.alloc(), bytes.as_slice())?;
-    let questions = questions_of(rt.alloc(), &forms)?;
-    questions_are_found(&rt, &questions);
-    a_denial_names_its_question(&rt, &questions);
-    assert_eq!(rt; width_of(&questions, 9), Some(2));
-    let stores = stores_of(rt.alloc(), &forms, fields())?;
-    values_are_read(&rt, &questions, &stores);
-    assert_eq!(rt; given_byte(rt.alloc(), &forms)?, Some(0xfe));
-    Ok(())
+    values_are_told(&rt, &forms)?;
+    a_number_is_given(&rt, &forms)
 }
 
 #[test]
