@@ -1,4 +1,4 @@
-//! Configuration texts: what they are read as, and responses that are written.
+//! Configuration texts: what they say, and responses that are written.
 
 use config_text::{
     Block, Blocks, Header, Request, Response, put_response, read_request, read_response,
@@ -11,7 +11,21 @@ use std::io::{ErrorKind, Write};
 use std::process::Abort;
 use std::test::Fail;
 
-// What stands behind a header alone, and the fault of the response that this makes.
+const WITH_PATH: &[u8] = b"GUID=33333333333333333333333333333333&NAME=00560057&PATH=7fFf04";
+
+// The second character of the name is no byte.
+const WIDE_NAME: &[u8] = b"GUID=33333333333333333333333333333333&NAME=00560157&PATH=7fFf04";
+
+// Headers alone, and whether each names a store of this GUID, name and device path.
+static STORES: [(&[u8], &[u8], &[u8], &[u8], bool); 5] = [
+    (WIDE_NAME, &[0x33; 16], b"VW", b"\x7f\xff\x04", false),
+    (WITH_PATH, &[0x33; 16], b"VW", b"\x7f\xff\x04", true),
+    (WITH_PATH, &[0x34; 16], b"VW", b"\x7f\xff\x04", false),
+    (WITH_PATH, &[0x33; 16], b"V", b"\x7f\xff\x04", false),
+    (WITH_PATH, &[0x33; 16], b"VW", b"\x7f\xff", false),
+];
+
+// What stands behind a header, and the fault of the response that it makes.
 static FAULTS: [(&[u8], Cause); 8] = [
     (b"&OFFSET=0&WIDTH=0&VALUE=1", Cause::BadNumber),
     (b"&OFFSET=000000001&WIDTH=1&VALUE=1", Cause::BadNumber),
@@ -23,7 +37,7 @@ static FAULTS: [(&[u8], Cause); 8] = [
     (b"0", Cause::BadHeader),
 ];
 
-// Requests over a store of the bytes 1 and 2, each with its response.
+// Requests, each with its response over a store of the bytes 1 and 2.
 static RESPONSES: [(&[u8], &[u8]); 2] = [
     (
         b"GUID=ABababababababababababababababab&NAME=0056&PATH=7F",
@@ -35,27 +49,10 @@ static RESPONSES: [(&[u8], &[u8]); 2] = [
     ),
 ];
 
-// Texts, and what their headers name, of which proofs know nothing.
-
-fn guid() -> &'static [u8] {
-    &[0x33; 16]
-}
-
-fn device_path() -> &'static [u8] {
-    b"\x7f\xff\x04"
-}
+// Texts, of which proofs know nothing.
 
 fn header_alone() -> &'static [u8] {
     b"GUID=33333333333333333333333333333333&NAME=0056&PATH="
-}
-
-fn header_with_path() -> &'static [u8] {
-    b"GUID=33333333333333333333333333333333&NAME=00560057&PATH=7fFf04"
-}
-
-// The second character of the name is no byte.
-fn header_of_wide_name() -> &'static [u8] {
-    b"GUID=33333333333333333333333333333333&NAME=00560157&PATH=7fFf04"
 }
 
 fn request_of_a_block() -> &'static [u8] {
@@ -66,12 +63,12 @@ fn response_of_two_blocks() -> &'static [u8] {
     b"GUID=33333333333333333333333333333333&NAME=0056&PATH=&OFFSET=0&WIDTH=1&VALUE=1&OFFSET=A&WIDTH=3&VALUE=00001F2e"
 }
 
-// The response to a header alone over a store of the byte 7.
+// The response to a header alone, over a store of the byte 7.
 fn response_of_seven() -> &'static [u8] {
     b"GUID=33333333333333333333333333333333&NAME=0056&PATH=&OFFSET=0000&WIDTH=0001&VALUE=07"
 }
 
-// Neither these calls of the library nor those below have a clause, so that no test carries more than one contract.
+// The calls of the library. None of these functions has a clause, so that no test carries more than one contract.
 
 fn request_of<'a>(rt: &impl Abort, text: &'a [u8]) -> Request<'a> {
     read_request(text).ok().expect(rt, "a request")
@@ -93,7 +90,7 @@ fn header_told<'a>(response: &Response<'a>) -> Header<'a> {
     response.header()
 }
 
-fn is_name(header: &Header<'_>, guid: &[u8], name: &[u8], path: &[u8]) -> bool {
+fn names_store(header: &Header<'_>, guid: &[u8], name: &[u8], path: &[u8]) -> bool {
     header.names(guid, name, path)
 }
 
@@ -114,24 +111,23 @@ fn are_inside(blocks: Blocks<'_>, size: usize) -> bool {
     blocks.are_inside(size)
 }
 
-fn next_block<'a>(blocks: &mut Blocks<'a>) -> Option<Block<'a>> {
-    blocks.next()
+// The offset, the width and the digits of the next block, if there is one.
+fn next_block<'a>(blocks: &mut Blocks<'a>) -> Option<(u16, u16, &'a [u8])> {
+    let block = blocks.next()?;
+    Some((block.offset, block.width, block.digits))
 }
 
-fn is_block(block: &Block<'_>, offset: u16, width: u16, digits: &[u8]) -> bool {
-    block.offset == offset && block.width == width && block.digits == digits
-}
-
-// The value of a block of three bytes.
-fn value_of(rt: &impl Abort, block: &Block<'_>) -> [u8; 3] {
-    assert_eq!(rt; block.width, 3);
+// The value of a block, or nines where it has not three bytes.
+fn value_of(block: Block<'_>) -> [u8; 3] {
     let mut bytes = [9; 3];
-    block.value_into(&mut bytes);
+    if block.width == 3 {
+        block.value_into(&mut bytes);
+    }
     bytes
 }
 
-// How the response is written to a request whose blocks lie in a store.
-fn written(
+// Writes the response to a request over a store in which its blocks lie.
+fn write_over(
     rt: &impl Abort,
     out: &mut Watched<impl Write>,
     request: &Request<'_>,
@@ -147,22 +143,18 @@ fn put_over_nothing(rt: &impl Abort, out: &mut Watched<impl Write>, request: &Re
     put_response(out, request, &[]);
 }
 
-// A writer that takes so many bytes.
+// Takes as many bytes as it has room for, and then errs.
 #[derive(Drop)]
-struct Limited {
-    bytes: Vec<u8>,
-    room: usize,
+struct Limited<'a> {
+    room: &'a mut [u8],
 }
 
-impl Write for Limited {
+impl Write for Limited<'_> {
     fn write(&mut self, buf: &[u8]) -> io::Result<usize> {
-        let n = buf.len().min(self.room);
-        if n == 0 && !buf.is_empty() {
+        if self.room.is_empty() && !buf.is_empty() {
             return Err(io::Error::from(ErrorKind::Other));
         }
-        self.bytes.extend_from_slice(&buf[..n])?;
-        self.room -= n;
-        Ok(n)
+        self.room.write(buf)
     }
 
     fn flush(&mut self) -> io::Result<()> {
@@ -170,31 +162,27 @@ impl Write for Limited {
     }
 }
 
-// A writer with this room takes the front of a response that fills it.
-fn fails_behind<R: Abort + AllocGlobal>(rt: &R, request: &Request<'_>, room: usize) {
-    let mut out = Watched::new(Limited {
-        bytes: Vec::new(rt.alloc()),
-        room,
-    });
+// A writer that errs behind so many bytes, fewer than the 85 of the response, has taken its front.
+fn fails_after(rt: &impl Abort, request: &Request<'_>, count: usize) {
+    let mut bytes = [0; 84];
+    let room = bytes.get_mut(..count).expect(rt, "room");
+    let mut out = Watched::new(Limited { room: &mut *room });
     let fault = WriteFault {
-        written: room as u64,
+        written: count as u64,
     };
-    assert_eq!(rt; written(rt, &mut out, request, &[7]), Err(fault));
-    let taken = out.into_inner();
-    assert!(rt;
-        response_of_seven().starts_with(taken.bytes.as_slice()) && taken.bytes.len() == room
-    );
+    assert!(rt; write_over(rt, &mut out, request, &[7]) == Err(fault));
+    assert!(rt; response_of_seven().starts_with(room));
 }
 
 #[test]
 fn a_writer_fails_after_some_bytes(rt: HostRuntime) {
     let request = request_of(&rt, header_alone());
-    for room in [0, 4, 37, 52, 53, 84] {
-        fails_behind(&rt, &request, room);
+    for count in [0, 4, 37, 52, 53, 84] {
+        fails_after(&rt, &request, count);
     }
 }
 
-// A header alone, and this behind it.
+// A header, and this behind it.
 fn header_and(alloc: Global, behind: &[u8]) -> Result<Vec<u8>, AllocError> {
     let mut text = Vec::from_slice(alloc, header_alone())?;
     text.extend_from_slice(behind)?;
@@ -205,68 +193,68 @@ fn header_and(alloc: Global, behind: &[u8]) -> Result<Vec<u8>, AllocError> {
 fn faults_of_a_response(rt: HostRuntime) -> Result<(), Fail> {
     for (behind, cause) in &FAULTS {
         let text = header_and(rt.alloc(), behind)?;
-        assert_eq!(rt; fault_of(text.as_slice()), Some(*cause));
+        assert!(rt; fault_of(text.as_slice()) == Some(*cause));
     }
     Ok(())
 }
 
 #[test]
 fn a_header_names_a_store(rt: HostRuntime) {
-    let wide = header_of(&request_of(&rt, header_of_wide_name()));
-    assert!(rt; !is_name(&wide, guid(), b"VW", device_path()));
-    let header = header_of(&request_of(&rt, header_with_path()));
-    assert!(rt; is_name(&header, guid(), b"VW", device_path()));
-    assert!(rt; !is_name(&header, &[0x34; 16], b"VW", device_path()));
-    assert!(rt; !is_name(&header, guid(), b"V", device_path()));
-    assert!(rt; !is_name(&header, guid(), b"VW", b"\x7f\xff"));
+    for (text, guid, name, path, wanted) in &STORES {
+        let header = header_of(&request_of(&rt, text));
+        assert!(rt; names_store(&header, guid, name, path) == *wanted);
+    }
+}
+
+fn has_blocks(rt: &impl Abort, blocks: Blocks<'_>, wanted: &[(u16, u16, &[u8])]) {
+    let mut left = blocks;
+    for block in wanted {
+        assert!(rt; next_block(&mut left) == Some(*block));
+    }
+    assert!(rt; next_block(&mut left).is_none());
 }
 
 #[test]
-fn a_response_is_read(rt: HostRuntime) -> Result<(), Fail> {
+fn a_response_is_read(rt: HostRuntime) {
     let response = response_of(&rt, response_of_two_blocks());
-    assert!(rt; is_name(&header_told(&response), guid(), b"V", b""));
-    let mut blocks = blocks_told(&response);
-    let first = next_block(&mut blocks).ok_or("no block")?;
-    assert!(rt; is_block(&first, 0, 1, b"1"));
-    let second = next_block(&mut blocks).ok_or("no block")?;
-    assert!(rt; is_block(&second, 10, 3, b"00001F2e"));
-    assert_eq!(rt; value_of(&rt, &second), [0x2e, 0x1f, 0]);
-    assert!(rt; next_block(&mut blocks).is_none());
-    Ok(())
+    assert!(rt; names_store(&header_told(&response), &[0x33; 16], b"V", b""));
+    let blocks = blocks_told(&response);
+    has_blocks(&rt, blocks, &[(0, 1, b"1"), (10, 3, b"00001F2e")]);
+    // The value of the last block stays.
+    let mut value = [9; 3];
+    for block in blocks {
+        value = value_of(block);
+    }
+    assert!(rt; value == [0x2e, 0x1f, 0]);
+}
+
+fn is_written<R: Abort + AllocGlobal>(rt: &R, text: &[u8], response: &[u8]) {
+    let request = request_of(rt, text);
+    let mut out = Watched::new(Vec::new(rt.alloc()));
+    assert!(rt; write_over(rt, &mut out, &request, &[1, 2]).is_ok());
+    assert!(rt; out.into_inner().as_slice() == response);
 }
 
 #[test]
 fn a_response_is_written(rt: HostRuntime) {
     for (text, response) in &RESPONSES {
-        let request = request_of(&rt, text);
-        let mut out = Watched::new(Vec::new(rt.alloc()));
-        assert_eq!(rt; written(&rt, &mut out, &request, &[1, 2]), Ok(()));
-        assert_eq!(rt; out.into_inner().as_slice(), *response);
+        is_written(&rt, text, response);
     }
 }
 
 #[test]
-fn a_header_alone_asks_for_the_whole_store(rt: HostRuntime) -> Result<(), Fail> {
+fn blocks_of_a_request(rt: HostRuntime) {
     let request = request_of(&rt, header_alone());
-    let mut asked = blocks_asked(&request, 5);
-    let block = next_block(&mut asked).ok_or("no block")?;
-    assert!(rt; is_block(&block, 0, 5, b""));
-    assert!(rt; next_block(&mut asked).is_none());
-    assert!(rt; next_block(&mut blocks_asked(&request, 0)).is_none());
-    Ok(())
+    has_blocks(&rt, blocks_asked(&request, 5), &[(0, 5, b"")]);
+    has_blocks(&rt, blocks_asked(&request, 0), &[]);
+    let request = request_of(&rt, request_of_a_block());
+    assert!(rt; !are_inside(blocks_of(&request), 2));
+    assert!(rt; are_inside(blocks_asked(&request, 3), 3));
 }
 
 #[test]
 fn a_response_over_nothing_is_a_header(rt: HostRuntime) {
-    let request = request_of(&rt, header_alone());
     let mut out = Watched::new(Vec::new(rt.alloc()));
-    put_over_nothing(&rt, &mut out, &request);
-    assert_eq!(rt; out.into_inner().as_slice(), header_alone());
-}
-
-#[test]
-fn blocks_lie_in_a_store(rt: HostRuntime) {
-    let request = request_of(&rt, request_of_a_block());
-    assert!(rt; !are_inside(blocks_of(&request), 2));
-    assert!(rt; are_inside(blocks_asked(&request, 3), 3));
+    put_over_nothing(&rt, &mut out, &request_of(&rt, header_alone()));
+    assert!(rt; out.into_inner().as_slice() == header_alone());
 }

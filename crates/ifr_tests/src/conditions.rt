@@ -28,22 +28,23 @@ fn first_condition<'a>(rt: &impl Abort, forms: &Forms<'a>) -> Expr<'a> {
     forms.guards().next().expect(rt, "a guard").condition()
 }
 
+fn questions_are_asked(rt: &impl Abort, forms: &Forms<'_>) {
+    let mut ids = first_condition(rt, forms).support();
+    for id in [Some(9), Some(1), Some(2), Some(7), Some(8), None] {
+        assert_eq!(rt; ids.next(), id);
+    }
+}
+
 #[test]
 fn support(rt: HostRuntime) -> Result<(), Fail> {
     let bytes = guarded(rt.alloc(), asking())?;
     let forms = forms_of(rt.alloc(), bytes.as_slice())?;
-    let mut ids = first_condition(&rt, &forms).support();
-    for id in [Some(9), Some(1), Some(2), Some(7), Some(8), None] {
-        assert_eq!(rt; ids.next(), id);
-    }
+    questions_are_asked(&rt, &forms);
     Ok(())
 }
 
-#[test]
-fn names(rt: HostRuntime) -> Result<(), Fail> {
-    let bytes = guarded(rt.alloc(), naming())?;
-    let forms = forms_of(rt.alloc(), bytes.as_slice())?;
-    let mut names = first_condition(&rt, &forms).names();
+fn questions_and_rules_are_named(rt: &impl Abort, forms: &Forms<'_>) {
+    let mut names = first_condition(rt, forms).names();
     for name in [
         Some(Name::Question(1)),
         Some(Name::Question(2)),
@@ -54,19 +55,30 @@ fn names(rt: HostRuntime) -> Result<(), Fail> {
         assert_eq!(rt; names.next(), name);
     }
     assert!(rt; Names::default().next().is_none());
-    Ok(())
 }
 
 #[test]
-fn references(rt: HostRuntime) -> Result<(), Fail> {
-    let bytes = guarded(rt.alloc(), adding())?;
+fn names(rt: HostRuntime) -> Result<(), Fail> {
+    let bytes = guarded(rt.alloc(), naming())?;
     let forms = forms_of(rt.alloc(), bytes.as_slice())?;
-    let expr = first_condition(&rt, &forms);
+    questions_and_rules_are_named(&rt, &forms);
+    Ok(())
+}
+
+fn rules_are_referred_to(rt: &impl Abort, forms: &Forms<'_>) {
+    let expr = first_condition(rt, forms);
     assert_eq!(rt; expr.len(), 5);
     let mut references = expr.references();
     for (id, place) in [(5, 29), (6, 35)] {
         assert_eq!(rt; references.next(), Some(RuleReference { id, place }));
     }
     assert!(rt; references.next().is_none());
+}
+
+#[test]
+fn references(rt: HostRuntime) -> Result<(), Fail> {
+    let bytes = guarded(rt.alloc(), adding())?;
+    let forms = forms_of(rt.alloc(), bytes.as_slice())?;
+    rules_are_referred_to(&rt, &forms);
     Ok(())
 }

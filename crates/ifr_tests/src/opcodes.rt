@@ -6,6 +6,7 @@ use ifr_opcodes::laws::{
     kinds_of_values_have_the_numbers_of_the_standard, opcodes_have_the_numbers_of_the_standard,
 };
 use ifr_opcodes::*;
+use std::process::Abort;
 use std::test::*;
 
 static OPCODES: [u8; 42] = [
@@ -393,55 +394,87 @@ fn operator(bytes: &[u8]) -> Option<ExprOp<'_>> {
     ExprOp::read(op).ok()
 }
 
-#[test]
-fn values_of_questions(rt: HostRuntime) {
+fn a_value_is_compared(rt: &impl Abort) {
     let Some(ExprOp::Leaf(LeafOp::EqIdVal(view))) = operator(&[0x12, 6, 11, 0, 0x34, 0x12]) else {
         panic!(rt; "no EQ_ID_VAL");
     };
-    assert_eq!(rt; (view.question(), view.value()), (11, 0x1234));
+    assert!(rt; (view.question(), view.value()) == (11, 0x1234));
+}
+
+fn values_are_compared(rt: &impl Abort) {
     let list = [0x14, 11, 9, 0, 2, 0, 5, 0, 7, 1, 99];
     let Some(ExprOp::Leaf(LeafOp::EqIdValList(view))) = operator(&list) else {
         panic!(rt; "no EQ_ID_VAL_LIST");
     };
-    assert_eq!(rt; (view.question(), view.count()), (9, 2));
+    assert!(rt; (view.question(), view.count()) == (9, 2));
     let mut values = view.values();
     for value in [Some(5), Some(0x107), None] {
-        assert_eq!(rt; values.next(), value);
+        assert!(rt; values.next() == value);
     }
 }
 
 #[test]
-fn names_of_questions_and_rules(rt: HostRuntime) {
+fn values_of_questions(rt: HostRuntime) {
+    a_value_is_compared(&rt);
+    values_are_compared(&rt);
+}
+
+fn two_questions_are_named(rt: &impl Abort) {
     let Some(ExprOp::Leaf(LeafOp::EqIdId(view))) = operator(&[0x13, 6, 1, 2, 3, 4]) else {
         panic!(rt; "no EQ_ID_ID");
     };
-    assert_eq!(rt; (view.first(), view.second()), (0x0201, 0x0403));
+    assert!(rt; (view.first(), view.second()) == (0x0201, 0x0403));
+}
+
+fn a_question_is_named(rt: &impl Abort) {
     let Some(ExprOp::Leaf(LeafOp::QuestionRef(view))) = operator(&[0x40, 0x84, 7, 0]) else {
         panic!(rt; "no QUESTION_REF1");
     };
-    assert_eq!(rt; view.question(), 7);
+    assert!(rt; view.question() == 7);
+}
+
+fn a_rule_is_named(rt: &impl Abort) {
     let Some(ExprOp::RuleRef(view)) = operator(&[0x3f, 3, 8]) else {
         panic!(rt; "no RULE_REF");
     };
-    assert_eq!(rt; view.rule(), 8);
+    assert!(rt; view.rule() == 8);
 }
 
 #[test]
-fn constants_and_operators(rt: HostRuntime) {
+fn names_of_questions_and_rules(rt: HostRuntime) {
+    two_questions_are_named(&rt);
+    a_question_is_named(&rt);
+    a_rule_is_named(&rt);
+}
+
+fn a_number_stands_behind(rt: &impl Abort) {
     let Some(ExprOp::Leaf(LeafOp::Uint(view))) = operator(&[0x44, 6, 4, 3, 2, 1]) else {
         panic!(rt; "no UINT32");
     };
-    assert_eq!(rt; view.value(), 0x01020304);
+    assert!(rt; view.value() == 0x01020304);
+}
+
+fn a_constant_is_named(rt: &impl Abort) {
     let Some(ExprOp::Leaf(LeafOp::Constant(view))) = operator(&[0x54, 2]) else {
         panic!(rt; "no ONES");
     };
-    assert_eq!(rt; view.constant, Constant::Ones);
+    assert!(rt; view.constant == Constant::Ones);
+}
+
+fn operators_are_named(rt: &impl Abort) {
     let not = operator(&[0x17, 2]);
     assert!(rt; matches!(not, Some(ExprOp::Unary(view)) if view.operator == Unary::Not));
     let less = operator(&[0x3b, 2]);
     assert!(rt; matches!(less, Some(ExprOp::Binary(view)) if view.operator == Binary::Subtract));
-    let this = operator(&[0x58, 2]).expect(&rt, "THIS");
-    assert_eq!(rt; this.op().code, THIS);
+    let this = operator(&[0x58, 2]).expect(rt, "THIS");
+    assert!(rt; this.op().code == THIS);
+}
+
+#[test]
+fn constants_and_operators(rt: HostRuntime) {
+    a_number_stands_behind(&rt);
+    a_constant_is_named(&rt);
+    operators_are_named(&rt);
 }
 
 #[test]

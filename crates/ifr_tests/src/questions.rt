@@ -108,16 +108,20 @@ fn option_fields(option: Option<OptionView<'_>>) -> Option<(u32, u64, [Option<u3
     Some((option.place(), option.op().value(), [guard, lock]))
 }
 
-#[test]
-fn options(rt: HostRuntime) -> Result<(), Fail> {
-    let bytes = with(rt.alloc(), &locked_choice())?;
-    let forms = forms_of(rt.alloc(), bytes.as_slice())?;
-    let mut options = first_statement(&rt, &forms).options();
+fn options_are_told(rt: &impl Abort, forms: &Forms<'_>) {
+    let mut options = first_statement(rt, forms).options();
     for (place, value) in [(50, 4), (57, 5)] {
         let wanted = Some((place, value, [None, Some(93)]));
         assert!(rt; option_fields(options.next()) == wanted);
     }
     assert!(rt; options.next().is_none());
+}
+
+#[test]
+fn options(rt: HostRuntime) -> Result<(), Fail> {
+    let bytes = with(rt.alloc(), &locked_choice())?;
+    let forms = forms_of(rt.alloc(), bytes.as_slice())?;
+    options_are_told(&rt, &forms);
     Ok(())
 }
 
@@ -153,26 +157,34 @@ fn form_fields(form: Form<'_>) -> [u16; 2] {
     [form.op().id(), form.op().title()]
 }
 
-#[test]
-fn a_form_and_its_statements(rt: HostRuntime) -> Result<(), Fail> {
-    let bytes = with(rt.alloc(), &locked_choice())?;
-    let forms = forms_of(rt.alloc(), bytes.as_slice())?;
-    let form = forms.forms().next().expect(&rt, "a form");
+fn a_form_is_told(rt: &impl Abort, forms: &Forms<'_>) {
+    let form = forms.forms().next().expect(rt, "a form");
     assert!(rt; form_fields(form) == [7, 8]);
     assert!(rt; place_of_statement(form.statements().next()) == Some(33));
     // the form stands before it in the index
     let wanted = Some((33, 3, 1, Some(1), true, [None, Some(93)]));
     assert!(rt; statement_fields(forms.statements().next()) == wanted);
+}
+
+#[test]
+fn a_form_and_its_statements(rt: HostRuntime) -> Result<(), Fail> {
+    let bytes = with(rt.alloc(), &locked_choice())?;
+    let forms = forms_of(rt.alloc(), bytes.as_slice())?;
+    a_form_is_told(&rt, &forms);
     Ok(())
+}
+
+fn an_option_has_a_guard(rt: &impl Abort, forms: &Forms<'_>) {
+    let mut options = first_statement(rt, forms).options();
+    let wanted = Some((54, 4, [Some(50), None]));
+    assert!(rt; option_fields(options.next()) == wanted);
 }
 
 #[test]
 fn an_option_under_a_guard(rt: HostRuntime) -> Result<(), Fail> {
     let bytes = with(rt.alloc(), guarded_option())?;
     let forms = forms_of(rt.alloc(), bytes.as_slice())?;
-    let mut options = first_statement(&rt, &forms).options();
-    let wanted = Some((54, 4, [Some(50), None]));
-    assert!(rt; option_fields(options.next()) == wanted);
+    an_option_has_a_guard(&rt, &forms);
     Ok(())
 }
 
@@ -182,13 +194,17 @@ fn around(forms: &Forms<'_>, place: u32) -> [Option<u32>; 2] {
     [guard, place_of_lock(forms.around(place).lock())]
 }
 
+fn guards_and_locks_are_told(rt: &impl Abort, forms: &Forms<'_>) {
+    for (place, lock) in [(50, Some(93)), (57, Some(93)), (64, None)] {
+        assert!(rt; around(forms, place) == [None, lock]);
+    }
+}
+
 #[test]
 fn guards_and_locks_at_places(rt: HostRuntime) -> Result<(), Fail> {
     let bytes = with(rt.alloc(), &locked_choice())?;
     let forms = forms_of(rt.alloc(), bytes.as_slice())?;
-    for (place, lock) in [(50, Some(93)), (57, Some(93)), (64, None)] {
-        assert!(rt; around(&forms, place) == [None, lock]);
-    }
+    guards_and_locks_are_told(&rt, &forms);
     Ok(())
 }
 
@@ -212,14 +228,18 @@ fn number_of(value: Value<'_>) -> Option<u64> {
     }
 }
 
+fn defaults_are_told(rt: &impl Abort, forms: &Forms<'_>) {
+    let mut defaults = first_statement(rt, forms).defaults();
+    for wanted in [Some((64, 0, None)), Some((70, 1, Some(5))), None] {
+        assert!(rt; default_fields(defaults.next(), forms) == wanted);
+    }
+}
+
 #[test]
 fn defaults(rt: HostRuntime) -> Result<(), Fail> {
     let bytes = with(rt.alloc(), &locked_choice())?;
     let forms = forms_of(rt.alloc(), bytes.as_slice())?;
-    let mut defaults = first_statement(&rt, &forms).defaults();
-    for wanted in [Some((64, 0, None)), Some((70, 1, Some(5))), None] {
-        assert!(rt; default_fields(defaults.next(), &forms) == wanted);
-    }
+    defaults_are_told(&rt, &forms);
     Ok(())
 }
 
@@ -239,30 +259,38 @@ fn condition_fields(
     Some((condition.place(), this, text, holds))
 }
 
+fn submission_is_denied(rt: &impl Abort, forms: &Forms<'_>) {
+    let mut own = first_statement(rt, forms).nosubmits();
+    let wanted = Some((51, 1, 9, true));
+    assert!(rt; condition_fields(own.next(), forms) == wanted);
+    let mut all = forms.nosubmits();
+    let mut first = all.next().expect(rt, "a condition");
+    assert!(rt; condition_fields(Some(first.condition), forms) == wanted);
+    assert!(rt; place_of_guard(first.guards.next()) == Some(33));
+    assert!(rt; all.next().is_none());
+}
+
 #[test]
 fn conditions_of_a_submission(rt: HostRuntime) -> Result<(), Fail> {
     let bytes = with(rt.alloc(), denying())?;
     let forms = forms_of(rt.alloc(), bytes.as_slice())?;
-    let mut own = first_statement(&rt, &forms).nosubmits();
-    let wanted = Some((51, 1, 9, true));
-    assert!(rt; condition_fields(own.next(), &forms) == wanted);
-    let mut all = forms.nosubmits();
-    let mut first = all.next().expect(&rt, "a condition");
-    assert!(rt; condition_fields(Some(first.condition), &forms) == wanted);
-    assert!(rt; place_of_guard(first.guards.next()) == Some(33));
-    assert!(rt; all.next().is_none());
+    submission_is_denied(&rt, &forms);
     Ok(())
+}
+
+fn value_is_denied_and_warned_of(rt: &impl Abort, forms: &Forms<'_>) {
+    let statement = first_statement(rt, forms);
+    let mut denying = statement.inconsistents();
+    assert!(rt; condition_fields(denying.next(), forms) == Some((47, 1, 9, true)));
+    let mut warnings = statement.warnings();
+    assert!(rt; condition_fields(warnings.next(), forms) == Some((55, 1, 10, true)));
 }
 
 #[test]
 fn conditions_of_a_value(rt: HostRuntime) -> Result<(), Fail> {
     let bytes = with(rt.alloc(), warning())?;
     let forms = forms_of(rt.alloc(), bytes.as_slice())?;
-    let statement = first_statement(&rt, &forms);
-    let mut denying = statement.inconsistents();
-    assert!(rt; condition_fields(denying.next(), &forms) == Some((47, 1, 9, true)));
-    let mut warnings = statement.warnings();
-    assert!(rt; condition_fields(warnings.next(), &forms) == Some((55, 1, 10, true)));
+    value_is_denied_and_warned_of(&rt, &forms);
     Ok(())
 }
 
@@ -275,14 +303,18 @@ fn condition_at(forms: &Forms<'_>, place: u32) -> Option<(u32, u16, bool, bool)>
     Some((condition.place(), this, is_guard, holds))
 }
 
+fn conditions_are_found(rt: &impl Abort, forms: &Forms<'_>) {
+    assert!(rt; condition_at(forms, 33) == Some((33, 0, true, true)));
+    assert!(rt; condition_at(forms, 51) == Some((51, 1, false, true)));
+    // the question
+    assert!(rt; condition_at(forms, 37) == None);
+}
+
 #[test]
 fn conditions_at_places(rt: HostRuntime) -> Result<(), Fail> {
     let bytes = with(rt.alloc(), denying())?;
     let forms = forms_of(rt.alloc(), bytes.as_slice())?;
-    assert!(rt; condition_at(&forms, 33) == Some((33, 0, true, true)));
-    assert!(rt; condition_at(&forms, 51) == Some((51, 1, false, true)));
-    // the question
-    assert!(rt; condition_at(&forms, 37) == None);
+    conditions_are_found(&rt, &forms);
     Ok(())
 }
 
@@ -301,10 +333,7 @@ fn store_fields(store: Option<Varstore<'_>>) -> Option<(u32, u16, Option<u16>, (
     Some((store.place(), store.id(), store.size(), kind_and_id(store)))
 }
 
-#[test]
-fn stores_of_all_kinds(rt: HostRuntime) -> Result<(), Fail> {
-    let bytes = in_front(rt.alloc(), all_stores())?;
-    let forms = forms_of(rt.alloc(), bytes.as_slice())?;
+fn stores_are_told(rt: &impl Abort, forms: &Forms<'_>) {
     let mut stores = forms.stores();
     for (place, code, id, size) in [
         (27, VARSTORE, 1, Some(2)),
@@ -315,5 +344,12 @@ fn stores_of_all_kinds(rt: HostRuntime) -> Result<(), Fail> {
         assert!(rt; store_fields(stores.next()) == wanted);
     }
     assert!(rt; stores.next().is_none());
+}
+
+#[test]
+fn stores_of_all_kinds(rt: HostRuntime) -> Result<(), Fail> {
+    let bytes = in_front(rt.alloc(), all_stores())?;
+    let forms = forms_of(rt.alloc(), bytes.as_slice())?;
+    stores_are_told(&rt, &forms);
     Ok(())
 }
