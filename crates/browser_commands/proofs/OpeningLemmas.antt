@@ -1,17 +1,12 @@
 -- Which bytes open a session, and with which faults they do not.
-use Rattle.std.proofs.Common.{◌≡◌, ℕ, List, [], ◌∷◌, Option, Some, refl, sym, ap, subst, ◌∙◌, inl, inr}
+use Rattle.std.proofs.Common.{◌≡◌, ℕ, List, [], ◌∷◌, refl, sym, ap, subst, ◌∙◌, inl, inr}
 use Rattle.std.specs.Prelude.{filter}
-use Rattle.std.specs.Option.{IsSome}
+use Rattle.browser_rules.specs.Packages.{Package, STRINGS, device_path, packages_with}
 use Rattle.hii_bytes.specs.declared.cause.Cause.{Cause}
 use Rattle.hii_bytes.specs.declared.cause.Fault.{Fault}
 use Rattle.hii_bytes.specs.Faults.{HasNone, IsLeast, Refuses, Then, out_of_memory}
 use Rattle.hii_bytes.proofs.FaultLemmas.{then_first, then_second, then_none}
-use Rattle.hii_packages.specs.Packages.{Entry, SpellsPackages, nth_forms, device_path_of}
-use Rattle.hii_packages.specs.Faults.{IsListFault, IsFormsFault}
-use Rattle.hii_packages.proofs.SpellLemmas.{end_from_spells}
-use Rattle.hii_packages.proofs.PlaceLemmas as list_places
-use Rattle.hii_packages.proofs.FormsLemmas.{there_without_fault}
-use Rattle.hii_languages.specs.Languages.{Spoken, string_packages, AreSpoken, IsStringsFault, chosen}
+use Rattle.hii_languages.specs.Languages.{Spoken, chosen}
 use Rattle.hii_languages.proofs.SpokenLemmas.{spoken_sound}
 use Rattle.ifr_opcodes.specs.Forest.{Node, places}
 use Rattle.ifr_scopes.specs.Accepted.{IsAccepted, IsPackageFault}
@@ -30,17 +25,7 @@ use Rattle.session_steps.specs.State.{State}
 use Rattle.browser_commands.proofs.FormLemmas.{first_of}
 use Rattle.session_steps.specs.Opening.{forms_bytes, HasSource, HasTexts, layout_in, IsSourceFault, IsTextFault, IsFormSetFault, IsBrowsingFault, IsOpenFault, AreGood, Opens}
 use Rattle.session_steps.specs.code.Browsable.{IsBrowsable}
-use Rattle.session_steps.proofs.SourceLemmas.{source_bytes, spelled_pieces}
-
--- ---- the forms package of a number
-
-some_is : (o : Option Entry) (source : Entry) → o ≡ Some source → IsSome o
-some_is o source e = subst IsSome (sym e) refl
-
-pub no_source_fault : (list : List ℕ) (n : ℕ) (source : Entry) → HasSource list n source → HasNone (IsSourceFault list n)
-no_source_fault list n source (packages, s, found) =
-    then_none (IsListFault list) (IsFormsFault list n) (list_places.no_fault list _ (end_from_spells list packages s))
-    ((there_without_fault list packages n s).1 (some_is (nth_forms packages n) source found))
+use Rattle.session_steps.proofs.SourceLemmas.{no_source_fault, source_bytes}
 
 -- ---- what can be browsed has no fault
 
@@ -55,19 +40,19 @@ browsable_no_fault ifr b =
 
 -- the list's forms package of the number is found, these are its bytes, and the list's string packages say this
 pub record IsFound (list : List ℕ) (n : ℕ) (ifr : List ℕ) : Type 0 where
-  pub source : Entry
+  pub source : Package
   pub found : HasSource list n source
   pub is : ifr ≡ source.bytes
   pub spoken : List Spoken
   pub texts : HasTexts list spoken
 
-pub is_found : (list : List ℕ) (n : ℕ) (packages : List (List ℕ)) (source : Entry) (ifr : List ℕ) (spoken : List Spoken) → SpellsPackages list packages → nth_forms packages n ≡ Some source → ifr ≡ source.bytes
-    → AreSpoken (string_packages packages) spoken → IsFound list n ifr
-is_found list n packages source ifr spoken s found is says = record { source = source; found = (packages, s, found); is = is; spoken = spoken; texts = (packages, s, says) }
+-- of the packages of the list, as they are seen
+pub is_found : (list seen : List ℕ) (n : ℕ) (source : Package) (ifr : List ℕ) (spoken : List Spoken) → seen ≡ list → HasSource list n source → ifr ≡ source.bytes → HasTexts seen spoken → IsFound list n ifr
+is_found list seen n source ifr spoken same found is says =
+    record { source = source; found = found; is = is; spoken = spoken; texts = subst (λ (bytes : List ℕ). HasTexts bytes spoken) same says }
 
 no_text_fault : (list : List ℕ) (spoken : List Spoken) → HasTexts list spoken → HasNone (IsTextFault list)
-no_text_fault list spoken (packages, s, says) =
-    subst (λ ps. HasNone (IsStringsFault (string_packages ps))) (sym (spelled_pieces list packages s)) (spoken_sound (string_packages packages) spoken says)
+no_text_fault list spoken says = spoken_sound (packages_with STRINGS list) spoken says
 
 -- what is good can be browsed, and the other way round
 browsable_where_good : (ifr : List ℕ) → IsGoodPackage ifr → IsBrowsable ifr
@@ -107,7 +92,7 @@ opens_where_good list n image language g =
     let first = first_of ifr (accepted_where_good ifr g.good) in
     let start : State = record {
       ifr = ifr;
-      path = device_path_of g.found.0;
+      path = device_path list;
       removed = removed_at (nodes_of ifr) g.stores;
       spoken = g.spoken;
       language = chosen g.spoken language;
@@ -121,7 +106,7 @@ opens_where_good list n image language g =
         source = g.source;
         found = g.found;
         bytes = refl;
-        path = (g.found.0, g.found.1, refl);
+        path = refl;
         texts = g.texts;
         language_is = refl;
         good = g.good;
@@ -175,12 +160,10 @@ pub refuses_source : (list : List ℕ) (n : ℕ) (stores : List ℕ) (fault : Fa
 refuses_source list n stores fault least = refuses_first (IsSourceFault list n) _ fault (inr least)
 
 -- the list's string packages refuse
-pub refuses_texts : (list : List ℕ) (n : ℕ) (stores : List ℕ) (packages : List (List ℕ)) (source : Entry) (fault : Fault) → SpellsPackages list packages → nth_forms packages n ≡ Some source
-    → Refuses (IsStringsFault (string_packages packages)) fault → Refuses (IsOpenFault list n stores) fault
-refuses_texts list n stores packages source fault s found r =
-    refuses_second (IsSourceFault list n) (Then (IsTextFault list) (IsBrowsingFault (forms_bytes list n) stores)) fault (no_source_fault list n source (packages, s, found))
-    (refuses_first (IsTextFault list) (IsBrowsingFault (forms_bytes list n) stores) fault
-    (subst (λ ps. Refuses (IsStringsFault (string_packages ps)) fault) (sym (spelled_pieces list packages s)) r))
+pub refuses_texts : (list seen : List ℕ) (n : ℕ) (stores : List ℕ) (source : Package) (fault : Fault) → seen ≡ list → HasSource list n source → Refuses (IsTextFault seen) fault → Refuses (IsOpenFault list n stores) fault
+refuses_texts list seen n stores source fault same found r =
+    refuses_second (IsSourceFault list n) (Then (IsTextFault list) (IsBrowsingFault (forms_bytes list n) stores)) fault (no_source_fault list n source found)
+    (refuses_first (IsTextFault list) (IsBrowsingFault (forms_bytes list n) stores) fault (subst (λ (bytes : List ℕ). Refuses (IsTextFault bytes) fault) same r))
 
 -- the list's forms package refuses, or the image
 refuses_later : (list : List ℕ) (n : ℕ) (stores ifr : List ℕ) (fault : Fault) → IsFound list n ifr → Refuses (IsBrowsingFault ifr stores) fault → Refuses (IsOpenFault list n stores) fault
@@ -220,17 +203,17 @@ refuses_image list n stores ifr shape fault f b laid r =
     (subst (λ shape. Refuses (IsImageFault shape stores) fault) laid r))
 
 -- what the bytes open
-pub opened : (list : List ℕ) (n : ℕ) (stores language : List ℕ) (packages : List (List ℕ)) (source : Entry) (start : State) (shape : Shape) (first : Node) (others : List Node)
-    → SpellsPackages list packages → nth_forms packages n ≡ Some source → start.ifr ≡ source.bytes → AreSpoken (string_packages packages) start.spoken → start.language ≡ chosen start.spoken language
+pub opened : (list seen : List ℕ) (n : ℕ) (stores language : List ℕ) (source : Package) (start : State) (shape : Shape) (first : Node) (others : List Node)
+    → seen ≡ list → HasSource list n source → start.ifr ≡ source.bytes → HasTexts seen start.spoken → start.language ≡ chosen start.spoken language
     → IsBrowsable start.ifr → shape ≡ layout_in start.ifr → SpellsImage shape stores start.committed
-    → start.working ≡ start.committed → start.removed ≡ removed_at (nodes_of start.ifr) start.working → filter is_form (nodes_of start.ifr) ≡ first ∷ others → start.form ≡ first.place → start.history ≡ [] → start.path ≡ device_path_of packages
+    → start.working ≡ start.committed → start.removed ≡ removed_at (nodes_of start.ifr) start.working → filter is_form (nodes_of start.ifr) ≡ first ∷ others → start.form ≡ first.place → start.history ≡ [] → start.path ≡ device_path seen
     → Opens list n stores language start
-opened list n stores language packages source start shape first others s found is says chose b laid spelled same removed forms place none path = record {
+opened list seen n stores language source start shape first others read found is says chose b laid spelled same removed forms place none path = record {
   source = source;
-  found = (packages, s, found);
+  found = found;
   bytes = is;
-  path = (packages, s, path);
-  texts = (packages, s, says);
+  path = path ∙ ap device_path read;
+  texts = subst (λ (bytes : List ℕ). HasTexts bytes start.spoken) read says;
   language_is = chose;
   good = good_where_browsable start.ifr b;
   stores = subst (SpellsImage (layout_in start.ifr) stores) (sym same) (subst (λ shape. SpellsImage shape stores start.committed) laid spelled);

@@ -1,9 +1,8 @@
 //! A form set that is browsed.
 
-ghost use Rattle.std.specs.Prelude.{◌≡◌, ◌∷◌, List, Some, filter, IfOk, IfErr};
+ghost use Rattle.std.specs.Prelude.{◌≡◌, ◌∷◌, List, filter, IfOk, IfErr};
 ghost use Rattle.hii_bytes.specs.Faults.{Refuses, IsLeast, out_of_memory};
-ghost use Rattle.hii_packages.specs.code.Package.{entry_of};
-ghost use Rattle.hii_packages.specs.Packages.{SpellsPackages, nth_forms};
+ghost use Rattle.hii_packages.specs.code.Package.{package_of};
 ghost use Rattle.ifr_opcodes.specs.Forest.{Node};
 ghost use Rattle.ifr_scopes.specs.Accepted.{IsAccepted};
 ghost use Rattle.ifr_scopes.specs.code.Checked.{IsNodeOf};
@@ -13,7 +12,7 @@ ghost use Rattle.hii_languages.specs.code.Views.{choice_of};
 ghost use Rattle.guard_policy.specs.code.Views.{bytes_of};
 ghost use Rattle.session_steps.specs.Renewed.{Shown, opened};
 ghost use Rattle.session_steps.specs.State.{State};
-ghost use Rattle.session_steps.specs.Opening.{Opens, IsOpenFault, IsSourceFault};
+ghost use Rattle.session_steps.specs.Opening.{HasSource, Opens, IsOpenFault, IsSourceFault};
 
 use crate::history::History;
 use crate::opening::{hold_stores, read_form_set};
@@ -21,7 +20,6 @@ use crate::varstores::Varstores;
 use guard_policy::{Policy, Removed};
 use hii_bytes::Fault;
 use hii_languages::{Choice, Languages};
-use hii_packages::laws::spelled_bytes_have_no_fault;
 use hii_packages::{Package, PackageList};
 use hii_questions::Questions;
 use hii_varstore::Stores;
@@ -153,15 +151,13 @@ struct Source<'a> {
     forms: Package<'a>,
 }
 
-// The packages that a list spells, with the forms package of a number.
+// The packages of a list, with the forms package of a number.
 fn find_source(list: &[u8], number: usize) -> Result<Source<'_>, Fault>
-    ensures spelled { IfOk result (λ source. SpellsPackages list.now source.packages) }
-    ensures found { IfOk result (λ source. nth_forms source.packages number
-        ≡ Some (entry_of source.forms)) }
+    ensures read { IfOk result (λ source. source.packages ≡ list.now) }
+    ensures found { IfOk result (λ source. HasSource list.now number (package_of source.forms)) }
     ensures refused { IfErr result (IsLeast (IsSourceFault list.now number)) }
 {
     let packages = PackageList::read(list)?;
-    spelled_bytes_have_no_fault();
     let forms = packages.forms(number)?;
     Ok(Source { packages, forms })
 }

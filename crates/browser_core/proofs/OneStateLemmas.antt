@@ -1,13 +1,11 @@
 -- Bytes open one state.
-use Rattle.std.proofs.Common.{◌≡◌, ℕ, List, ◌∷◌, Option, Some, refl, sym, ap, subst, ◌∙◌}
+use Rattle.std.proofs.Common.{◌≡◌, ℕ, List, ◌∷◌, Option, refl, sym, ap, subst, ◌∙◌}
 use Rattle.std.specs.Prelude.{filter}
-use Rattle.hii_packages.specs.Packages.{Entry, nth_forms, device_path_of}
-use Rattle.hii_packages.proofs.SpellLemmas.{one_spelled}
-use Rattle.hii_languages.specs.Languages.{Spoken, string_packages, AreSpoken, chosen}
+use Rattle.hii_languages.specs.Languages.{Spoken, chosen}
 use Rattle.hii_languages.proofs.SpokenLemmas.{spoken_once}
 use Rattle.ifr_opcodes.specs.Forest.{Node, places}
 use Rattle.browser_rules.specs.Headline.{start}
-use Rattle.browser_rules.specs.Packages.{forms_bytes}
+use Rattle.browser_rules.specs.Packages.{Package, STRINGS, forms_bytes, packages_with}
 use Rattle.browser_rules.specs.Session as chapter
 use Rattle.browser_rules.specs.Stores as held
 use Rattle.hii_varstore.specs.StoreNodes.{layout_of}
@@ -20,20 +18,11 @@ use Rattle.hii_varstore.specs.Stores.{StoreMap}
 use Rattle.hii_varstore.proofs.LawLemmas.{one_map}
 use Rattle.guard_policy.specs.World.{removed_at}
 use Rattle.session_steps.specs.State.{State}
-use Rattle.session_steps.specs.Opening.{HasSource, HasTexts, HasPath, layout_in, Opens}
-
-one_value : {X : Type 0} (o : Option X) (a b : X) → o ≡ Some a → o ≡ Some b → a ≡ b
-one_value o a b first second = let both : Some a ≡ Some b = sym first ∙ second in cc
-
-one_source : (list : List ℕ) (n : ℕ) (a b : Entry) → HasSource list n a → HasSource list n b → a ≡ b
-one_source list n a b (ps, p, first) (qs, q, second) = one_value (nth_forms ps n) a b first (ap (λ l. nth_forms l n) (one_spelled list ps qs p q) ∙ second)
-
-one_path : (list a b : List ℕ) → HasPath list a → HasPath list b → a ≡ b
-one_path list a b (ps, p, first) (qs, q, second) = first ∙ ap device_path_of (one_spelled list ps qs p q) ∙ sym second
+use Rattle.session_steps.specs.Opening.{HasTexts, layout_in, Opens}
+use Rattle.session_steps.proofs.SourceLemmas.{one_source}
 
 one_speech : (list : List ℕ) (a b : List Spoken) → HasTexts list a → HasTexts list b → a ≡ b
-one_speech list a b (ps, p, first) (qs, q, second) =
-    spoken_once (string_packages qs) a b (subst (λ (l : List (List ℕ)). AreSpoken (string_packages l) a) (one_spelled list ps qs p q) first) second
+one_speech list a b first second = spoken_once (packages_with STRINGS list) a b first second
 
 one_place : (ifr other : List ℕ) (a b : ℕ) (later rest : List ℕ) → ifr ≡ other → places (filter is_form (nodes_of ifr)) ≡ a ∷ later → places (filter is_form (nodes_of other)) ≡ b ∷ rest → a ≡ b
 one_place ifr other a b later rest same first second =
@@ -47,13 +36,13 @@ same_state t ifr path removed spoken language committed working form history a b
 
 pub one_state : (list : List ℕ) (n : ℕ) (image language : List ℕ) (a b : State) → Opens list n image language a → Opens list n image language b → a ≡ b
 one_state list n image language a b o p =
-    let ifr : a.ifr ≡ b.ifr = o.bytes ∙ ap (λ (e : Entry). e.bytes) (one_source list n o.source p.source o.found p.found) ∙ sym p.bytes in
+    let ifr : a.ifr ≡ b.ifr = o.bytes ∙ ap (λ (p : Package). p.bytes) (one_source list n o.source p.source o.found p.found) ∙ sym p.bytes in
     let spoken : a.spoken ≡ b.spoken = one_speech list a.spoken b.spoken o.texts p.texts in
     let working : a.working ≡ b.working =
     one_map (layout_in a.ifr) image a.working b.working o.stores (subst (λ (bytes : List ℕ). SpellsImage (layout_in bytes) image b.working) (sym ifr) p.stores) in
     let removed : a.removed ≡ b.removed =
     o.removed ∙ ap (λ (bytes : List ℕ). removed_at (nodes_of bytes) a.working) ifr ∙ ap (removed_at (nodes_of b.ifr)) working ∙ sym p.removed in
-    same_state b a.ifr a.path a.removed a.spoken a.language a.committed a.working a.form a.history ifr (one_path list a.path b.path o.path p.path) removed spoken
+    same_state b a.ifr a.path a.removed a.spoken a.language a.committed a.working a.form a.history ifr (o.path ∙ sym p.path) removed spoken
     (o.language_is ∙ ap (λ (s : List Spoken). chosen s language) spoken ∙ sym p.language_is) (o.submitted ∙ working ∙ sym p.submitted) working
     (one_place a.ifr b.ifr a.form b.form o.others p.others ifr o.forms p.forms) (o.history ∙ sym p.history)
 

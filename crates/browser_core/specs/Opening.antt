@@ -8,7 +8,7 @@ use Rattle.browser_rules.specs.Headline.{start}
 use Rattle.browser_rules.specs.Packages.{forms_bytes}
 use Rattle.browser_rules.specs.Session.{State}
 use Rattle.browser_rules.specs.Stores.{Stores, SpellsImage, shape_of}
-use Rattle.rules_laws.specs.Causes.{fault_for}
+use Rattle.hii_bytes.specs.Causes.{fault_for}
 
 -- The bytes have no fault, and a session begins over the stores that the image spells.
 pub record Opens (list : List ℕ) (n : ℕ) (image language : List ℕ) (begun : State) : Type 0 where

@@ -13,7 +13,6 @@ ghost use Rattle.session_steps.specs.Step.{step, step_line};
 
 use hii_languages::laws::packages_without_fault_speak;
 use hii_packages::PackageList;
-use hii_packages::laws::spelled_bytes_have_no_fault;
 use hii_varstore::laws::images_without_fault_are_spelled;
 use ifr_scopes::laws::bytes_without_framing_fault_are_spelled;
 use session_steps::Reply;

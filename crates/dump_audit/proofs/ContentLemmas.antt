@@ -5,14 +5,13 @@ use Rattle.std.specs.List.{flat_map}
 use Rattle.std.specs.Option.{option_or}
 use Rattle.std.proofs.lemmas.List.{map-append}
 use Rattle.std.proofs.lemmas.Bool.{cases_Bool, cond-true}
+use Rattle.browser_rules.specs.Packages.{FORMS, Package}
 use Rattle.hii_bytes.specs.declared.cause.Fault.{Fault}
 use Rattle.hii_bytes.specs.Faults.{Refuses}
-use Rattle.hii_packages.specs.Packages.{Entry, forms_in}
-use Rattle.hii_packages.specs.declared.package.TheConstants.{FORMS}
 use Rattle.sibt_strings.specs.Strings.{Speaks, IsStringFaultIn}
 use Rattle.hii_languages.specs.Languages.{Spoken, first_package, IsStringsFault}
 use Rattle.hii_languages.specs.Shown.{shown_text, characters, Nothing, text_or_missing}
-use Rattle.dump_audit.specs.Contents.{begins_with_form_set}
+use Rattle.dump_audit.specs.Contents.{begins_with_form_set, forms_in}
 use Rattle.dump_audit.specs.code.Heard.{shown_in_first}
 use Rattle.hii_languages.proofs.SpokenLemmas.{IsRead, is_strings, read_more, read_fault}
 
@@ -31,13 +30,13 @@ first_stays [] s = refl
 first_stays (t ∷ ts) s = refl
 
 -- Some string packages are read, and of what they say this is kept.
-pub record Gathers (all left : List Entry) (languages : List (List ℕ)) (first : Option Spoken) : Type 0 where
+pub record Gathers (all left : List Package) (languages : List (List ℕ)) (first : Option Spoken) : Type 0 where
   pub said : List Spoken
   pub read : IsRead all said left
   pub languages_kept : languages ≡ map (λ s. s.language) said
   pub first_kept : first ≡ slice_get said 0
 
-pub gathers_more : {all left later : List Entry} {languages : List (List ℕ)} {first : Option Spoken} (e : Entry) (s : Spoken) → Gathers all left languages first → left ≡ e ∷ later → is_strings e ≡ true → Speaks e.bytes s
+pub gathers_more : {all left later : List Package} {languages : List (List ℕ)} {first : Option Spoken} (e : Package) (s : Spoken) → Gathers all left languages first → left ≡ e ∷ later → is_strings e ≡ true → Speaks e.bytes s
     → Gathers all later (languages ++ s.language ∷ []) (option_or first (Some s))
 gathers_more {all} {left} {later} {languages} {first} e s g steps strings speaks = record {
   said = g.said ++ s ∷ [];
@@ -47,7 +46,7 @@ gathers_more {all} {left} {later} {languages} {first} e s g steps strings speaks
 }
 
 -- the least fault of a string package is that of all, where those before it say something
-pub gathers_fault : {all left later : List Entry} {languages : List (List ℕ)} {first : Option Spoken} (e : Entry) (fault : Fault) → Gathers all left languages first → left ≡ e ∷ later → is_strings e ≡ true
+pub gathers_fault : {all left later : List Package} {languages : List (List ℕ)} {first : Option Spoken} (e : Package) (fault : Fault) → Gathers all left languages first → left ≡ e ∷ later → is_strings e ≡ true
     → Refuses (IsStringFaultIn e.bytes e.place) fault → Refuses (IsStringsFault (filter is_strings all)) fault
 gathers_fault {all} {left} {later} e fault g steps strings refuses = elim refuses [
   | inl memory ↦ inl memory
@@ -65,12 +64,12 @@ shown_first (s ∷ ss) id = ap (λ (o : Option (List ℕ)). characters (if id ==
 
 -- ---- forms packages
 
-pub sets_more : (es later : List Entry) (e : Entry) → es ≡ e ∷ later → begins_with_form_set e ≡ true → filter begins_with_form_set es ≡ e ∷ filter begins_with_form_set later
+pub sets_more : (es later : List Package) (e : Package) → es ≡ e ∷ later → begins_with_form_set e ≡ true → filter begins_with_form_set es ≡ e ∷ filter begins_with_form_set later
 sets_more es later e steps begins = ap (filter begins_with_form_set) steps ∙ cond-true (begins_with_form_set e) _ _ begins
 
 pub or_some : (o : Option ℕ) (x : ℕ) (rest : Option ℕ) → option_or (option_or o (Some x)) rest ≡ option_or o (Some x)
 or_some None x rest = refl
 or_some (Some y) x rest = refl
 
-pub one_counted : (es later : List Entry) (e : Entry) → es ≡ e ∷ later → e.kind ≡ FORMS → length (forms_in es) ≡ suc (length (forms_in later))
-one_counted es later e steps forms = ap (λ (l : List Entry). length (forms_in l)) steps ∙ (rw forms refl)
+pub one_counted : (es later : List Package) (e : Package) → es ≡ e ∷ later → e.kind ≡ FORMS → length (forms_in es) ≡ suc (length (forms_in later))
+one_counted es later e steps forms = ap (λ (l : List Package). length (forms_in l)) steps ∙ (rw forms refl)

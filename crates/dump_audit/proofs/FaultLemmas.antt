@@ -1,25 +1,24 @@
 -- The faults of a list.
-use Rattle.std.proofs.Common.{ℕ, List, subst, inl, inr}
+use Rattle.std.proofs.Common.{◌≡◌, ℕ, List, [], subst, inl, inr}
+use Rattle.browser_rules.specs.Faults.{list_faults}
+use Rattle.browser_rules.specs.Packages.{STRINGS, packages_with}
 use Rattle.hii_bytes.specs.declared.cause.Fault.{Fault}
-use Rattle.hii_bytes.specs.Faults.{IsLeast, Refuses}
-use Rattle.hii_bytes.proofs.FaultLemmas.{then_second}
-use Rattle.hii_packages.specs.Packages.{SpellsPackages}
-use Rattle.hii_packages.specs.Faults.{IsListFault}
-use Rattle.hii_packages.proofs.PlaceLemmas.{no_fault}
-use Rattle.hii_packages.proofs.SpellLemmas.{end_from_spells, one_spelled}
-use Rattle.hii_languages.specs.Languages.{string_packages, IsStringsFault}
+use Rattle.hii_bytes.specs.Faults.{IsAmong, IsLeast, IsLeastAmong, Refuses}
+use Rattle.hii_bytes.proofs.ChapterFaultLemmas.{least_among, none_among}
+use Rattle.hii_bytes.proofs.FaultLemmas.{then_first, then_second}
+use Rattle.hii_languages.specs.Languages.{IsStringsFault}
 use Rattle.dump_audit.specs.Findings.{IsTextFault, IsListOrTextFault}
 
-text_least : (list : List ℕ) (packages : List (List ℕ)) (fault : Fault) → SpellsPackages list packages → IsLeast (IsStringsFault (string_packages packages)) fault → IsLeast (IsListOrTextFault list) fault
-text_least list packages fault spells least =
-    then_second (IsListFault list) (IsTextFault list) fault (no_fault list _ (end_from_spells list packages spells)) (record {
-      told = (packages, spells, least.told);
-      least = λ cause place other. least.least cause place (subst (λ ps. IsStringsFault (string_packages ps) cause place) (one_spelled list other.0 packages other.1 spells) other.2);
-    })
+-- what refuses the packages of a list refuses the list
+pub list_refuses : (list : List ℕ) (fault : Fault) → IsLeastAmong (list_faults list) fault → Refuses (IsListOrTextFault list) fault
+list_refuses list fault least = inr (then_first (IsAmong (list_faults list)) (IsTextFault list) fault ((least_among (list_faults list) fault).0 least))
 
--- what refuses the string packages of a list that spells packages refuses the list
-pub text_refuses : (list : List ℕ) (packages : List (List ℕ)) (fault : Fault) → SpellsPackages list packages → Refuses (IsStringsFault (string_packages packages)) fault → Refuses (IsListOrTextFault list) fault
-text_refuses list packages fault spells refuses = elim refuses [
+text_least : (list : List ℕ) (fault : Fault) → list_faults list ≡ [] → IsLeast (IsTextFault list) fault → IsLeast (IsListOrTextFault list) fault
+text_least list fault sound least = then_second (IsAmong (list_faults list)) (IsTextFault list) fault ((none_among (list_faults list)).0 sound) least
+
+-- what refuses the string packages of a list that has no fault refuses the list
+pub text_refuses : (list seen : List ℕ) (fault : Fault) → seen ≡ list → list_faults list ≡ [] → Refuses (IsStringsFault (packages_with STRINGS seen)) fault → Refuses (IsListOrTextFault list) fault
+text_refuses list seen fault same sound refuses = elim (subst (λ (bytes : List ℕ). Refuses (IsTextFault bytes) fault) same refuses) [
   | inl memory ↦ inl memory
-  | inr least ↦ inr (text_least list packages fault spells least)
+  | inr least ↦ inr (text_least list fault sound least)
 ]

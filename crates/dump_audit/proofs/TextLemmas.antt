@@ -1,18 +1,17 @@
 -- A dump has one text.
 use Rattle.std.proofs.Common.{◌≡◌, ℕ, List, [], ◌∷◌, ◌++◌, length, map, refl, sym, ap, subst, ◌∙◌, arith, inl, inr}
 use Rattle.std.specs.List.{AllByRecursion, concat}
+use Rattle.browser_rules.specs.Faults.{list_faults}
+use Rattle.browser_rules.specs.Packages.{Package, STRINGS, packages_with}
 use Rattle.hii_bytes.specs.declared.cause.Cause.{Cause}
 use Rattle.hii_bytes.specs.declared.cause.Fault.{Fault}
 use Rattle.hii_bytes.specs.Cause.{number_of}
-use Rattle.hii_bytes.specs.Faults.{IsLeast, HasNone}
+use Rattle.hii_bytes.specs.Faults.{IsAmong, IsLeast, HasNone}
+use Rattle.hii_bytes.proofs.ChapterFaultLemmas.{none_among}
 use Rattle.hii_bytes.proofs.FaultLemmas.{then_none}
 use Rattle.hii_dumps.specs.Dumps.{Entry, placed}
 use Rattle.hii_dumps.proofs.ListLemmas.{one_split}
-use Rattle.hii_packages.specs.Packages.{SpellsPackages}
-use Rattle.hii_packages.specs.Faults.{IsListFault}
-use Rattle.hii_packages.proofs.PlaceLemmas.{no_fault}
-use Rattle.hii_packages.proofs.SpellLemmas.{end_from_spells, one_spelled}
-use Rattle.hii_languages.specs.Languages.{Spoken, string_packages, AreSpoken, IsStringsFault}
+use Rattle.hii_languages.specs.Languages.{Spoken, AreSpoken}
 use Rattle.hii_languages.proofs.SpokenLemmas.{spoken_once, spoken_sound}
 use Rattle.dump_audit.specs.Findings.{Finding, Contents, Refused, IsFound, IsTextFault, IsListOrTextFault}
 use Rattle.dump_audit.specs.Lines.{Told, IsTold, lines, rest_line, IsSplitText}
@@ -36,22 +35,15 @@ one_least IsFault f g l m =
     let place = same.place in
     λ i. record { cause = cause i; place = place i }
 
-no_text_fault : (list : List ℕ) (packages : List (List ℕ)) (spoken : List Spoken) → SpellsPackages list packages → AreSpoken (string_packages packages) spoken → HasNone (IsTextFault list)
-no_text_fault list packages spoken spells are cause place fault =
-    spoken_sound (string_packages packages) spoken are cause place
-    (subst (λ ps. IsStringsFault (string_packages ps) cause place) (one_spelled list fault.0 packages fault.1 spells) fault.2)
-
-no_fault_of : (list : List ℕ) (packages : List (List ℕ)) (spoken : List Spoken) → SpellsPackages list packages → AreSpoken (string_packages packages) spoken → HasNone (IsListOrTextFault list)
-no_fault_of list packages spoken spells are =
-    then_none (IsListFault list) (IsTextFault list) (no_fault list _ (end_from_spells list packages spells)) (no_text_fault list packages spoken spells are)
+no_fault_of : (list : List ℕ) (spoken : List Spoken) → list_faults list ≡ [] → AreSpoken (packages_with STRINGS list) spoken → HasNone (IsListOrTextFault list)
+no_fault_of list spoken sound are =
+    then_none (IsAmong (list_faults list)) (IsTextFault list) ((none_among (list_faults list)).0 sound) (spoken_sound (packages_with STRINGS list) spoken are)
 
 one_finding : (list : List ℕ) (a b : Finding) → IsFound list a → IsFound list b → a ≡ b
 one_finding list (Contents ps ss) (Contents qs ts) f h =
-    let packages = one_spelled list ps qs f.0 h.0 in
-    let spoken = spoken_once (string_packages qs) ss ts (subst (λ (xs : List (List ℕ)). AreSpoken (string_packages xs) ss) packages f.1) h.1 in
-    ap (λ (xs : List (List ℕ)). Contents xs ss) packages ∙ ap (λ (xs : List Spoken). Contents qs xs) spoken
-one_finding list (Contents ps ss) (Refused fault) f h = absurd (no_fault_of list ps ss f.0 f.1 fault.cause fault.place h.told)
-one_finding list (Refused fault) (Contents ps ss) f h = absurd (no_fault_of list ps ss h.0 h.1 fault.cause fault.place f.told)
+    ap (λ (xs : List Package). Contents xs ss) (f.1 ∙ sym h.1) ∙ ap (λ (xs : List Spoken). Contents qs xs) (spoken_once (packages_with STRINGS list) ss ts f.2 h.2)
+one_finding list (Contents ps ss) (Refused fault) f h = absurd (no_fault_of list ss f.0 f.2 fault.cause fault.place h.told)
+one_finding list (Refused fault) (Contents ps ss) f h = absurd (no_fault_of list ss h.0 h.2 fault.cause fault.place f.told)
 one_finding list (Refused fault) (Refused other) f h = ap Refused (one_least (IsListOrTextFault list) fault other f h)
 
 one_entry : (t u : Told) → IsTold t → IsTold u → t.entry ≡ u.entry → t ≡ u

@@ -1,13 +1,13 @@
 -- The lines of a dump (own rule).
 use Rattle.std.specs.Prelude.{◌≡◌, ℕ, suc, Option, None, Some, List, [], ◌∷◌, ◌++◌, length, map, codes, decimal, encode_utf8}
 use Rattle.std.specs.List.{AllByRecursion, concat, flat_map}
+use Rattle.browser_rules.specs.Packages.{Package}
 use Rattle.hii_bytes.specs.Texts.{place_text, fault_text}
 use Rattle.hii_dumps.specs.Dumps.{Entry, SpellsDump, placed}
-use Rattle.hii_packages.specs.Packages.{entries, forms_in}
 use Rattle.hii_languages.specs.Languages.{Spoken, first_package}
 use Rattle.hii_languages.specs.Shown.{shown_text}
 use Rattle.audit_text.specs.Texts.{joined}
-use Rattle.dump_audit.specs.Contents.{form_sets, guid_word, first_title}
+use Rattle.dump_audit.specs.Contents.{form_sets, forms_in, guid_word, first_title}
 use Rattle.dump_audit.specs.Findings.{Finding, Contents, Refused, IsFound}
 
 -- which list a line is of: its number, its place in the dump and its length in bytes
@@ -27,9 +27,9 @@ title_text spoken (Some id) =
     codes " " ++ flat_map encode_utf8 (shown_text spoken (first_package spoken) id)
 
 -- how many forms packages there are, the GUIDs of the form sets with which they begin, the languages, the first form set's title
-abbrev pub contents_text : List (List ℕ) → List Spoken → List ℕ
+abbrev pub contents_text : List Package → List Spoken → List ℕ
 contents_text packages spoken =
-    codes "forms " ++ decimal (length (forms_in (entries packages)))
+    codes "forms " ++ decimal (length (forms_in packages))
     ++ flat_map guid_word (form_sets packages) ++ codes " strings " ++ languages_text spoken
     ++ title_text spoken (first_title (form_sets packages))
 

@@ -2,6 +2,7 @@
 
 ghost use Rattle.std.specs.Prelude.{◌≡◌, List, IfOk, IfErr};
 ghost use Rattle.hii_bytes.specs.Faults.{IsLeast, Refuses};
+ghost use Rattle.hii_packages.specs.Packages.{packages_of};
 ghost use Rattle.hii_languages.specs.Languages.{Spoken};
 ghost use Rattle.dump_audit.specs.Findings.{Contents as Found, IsFound, IsListOrTextFault};
 ghost use Rattle.dump_audit.specs.code.Heard.{heard_of};
@@ -21,7 +22,7 @@ pub(crate) struct Contents<'a> {
 // The contents of a list, or its least fault, or that an allocation failed.
 fn read_list(alloc: Global, bytes: &[u8]) -> Result<Contents<'_>, Fault>
     ensures found { IfOk result (λ contents. (spoken : List Spoken)
-        × IsFound bytes.entry.now (Found contents.packages spoken)
+        × IsFound bytes.entry.now (Found (packages_of contents.packages) spoken)
         × (contents.strings ≡ heard_of spoken)) }
     ensures refused { IfErr result (Refuses (IsListOrTextFault bytes.entry.now)) }
 {
@@ -33,7 +34,7 @@ fn read_list(alloc: Global, bytes: &[u8]) -> Result<Contents<'_>, Fault>
 /// The contents of a list, or its least fault: that of its packages, else that of its string packages.
 pub(crate) fn find(alloc: Global, bytes: &[u8]) -> Result<Result<Contents<'_>, Fault>, AllocError>
     ensures found { IfOk result (λ found. IfOk found (λ contents. (spoken : List Spoken)
-        × IsFound bytes.entry.now (Found contents.packages spoken)
+        × IsFound bytes.entry.now (Found (packages_of contents.packages) spoken)
         × (contents.strings ≡ heard_of spoken))) }
     ensures refused { IfOk result (λ found. IfErr found
         (IsLeast (IsListOrTextFault bytes.entry.now))) }

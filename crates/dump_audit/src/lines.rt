@@ -4,6 +4,7 @@ ghost use Rattle.std.specs.Prelude.{◌≡◌, ℕ, List, length, OnOk, OnErr};
 ghost use Rattle.std.specs.List.{concat};
 ghost use Rattle.hii_bytes.specs.Watching.{Puts};
 ghost use Rattle.hii_dumps.specs.code.Lists.{entry_of};
+ghost use Rattle.hii_packages.specs.Packages.{packages_of};
 ghost use Rattle.hii_languages.specs.Languages.{Spoken};
 ghost use Rattle.dump_audit.specs.Findings.{Finding, IsFound};
 ghost use Rattle.dump_audit.specs.Lines.{contents_text, head_text, line, rest_line, IsSplitText, BeginsSplitText};
@@ -20,7 +21,7 @@ use std::io::Write;
 // Writes what the packages of a list are.
 fn put_contents<W: Write>(contents: &Contents<'_>, out: &mut Watched<W>)
     ensures { (spoken : List Spoken) → contents.now.strings ≡ heard_of spoken
-        → Puts W.contents out.old out.new (contents_text contents.now.packages spoken) }
+        → Puts W.contents out.old out.new (contents_text (packages_of contents.now.packages) spoken) }
 {
     out.put(b"forms ");
     out.put_decimal(forms_count(&contents.packages));

@@ -1,46 +1,40 @@
--- What the tables of opcodes say of numbers that are listed, and of operators.
-use Rattle.std.proofs.Common.{◌≡◌, ℕ, Bool, true, false, Option, Some, None, is_some, List, [], ◌∷◌, ◌++◌, refl, sym, ap, ◌∙◌, inl, inr}
-use Rattle.std.specs.Prelude.{◌==◌, not}
-use Rattle.std.specs.List.{list_all}
-use Rattle.std.proofs.lemmas.Bool.{cases_Bool, cond-true, cond-false, eqb-true, not-true, false≢true, or_cases}
+-- What the rows of opcodes say of numbers that are listed, and of operators.
+use Rattle.std.proofs.Common.{◌≡◌, ℕ, Bool, true, false, Option, Some, None, is_some, List, [], ◌∷◌, ◌++◌, map, refl, sym, ap, ◌∙◌, inl, inr}
+use Rattle.std.specs.Prelude.{◌==◌, ◌||◌, not}
+use Rattle.std.proofs.lemmas.Bool.{cases_Bool, cond-true, cond-false, eqb-true, false≢true}
 use Rattle.ifr_opcodes.specs.declared.codes.TheConstants.{FORM_SET, VALUE, DEFAULT}
 use Rattle.ifr_opcodes.specs.Opcode.{number}
-use Rattle.ifr_opcodes.specs.code.Tables.{without_operands, with_one_operand, with_two_operands, others}
-use Rattle.ifr_opcodes.specs.Rows.{is_among, operands, is_operator, row_of, is_listed, is_question_number, is_statement_number}
-use Rattle.ifr_opcodes.proofs.OperatorLemmas.{takes_few, takes_none, takes_one, takes_two}
-use Rattle.ifr_opcodes.proofs.RowLemmas.{known}
+use Rattle.ifr_opcodes.specs.Rows.{operands, is_operator, row_of, is_listed, is_question_number, is_statement_number}
+use Rattle.ifr_opcodes.proofs.RowLemmas.{none_takes}
 use Rattle.ifr_opcodes.specs.Forest.{Ancestor}
-use Rattle.ifr_opcodes.proofs.TableLemmas.{and_first, and_second, of_each}
+use Rattle.ifr_opcodes.proofs.TableLemmas.{numbers, and_first, of_kind, not_of_kind}
 use Rattle.ifr_scopes.specs.Guards.{is_guard}
 use Rattle.ifr_scopes.specs.Kinds.{is_store_number, is_condition_number, is_ignored}
-use Rattle.ifr_scopes.specs.Table.{scope_rows, row_in, row, class_of, guarded, admits, wants_expression, wants_value, class_around}
+use Rattle.ifr_scopes.specs.Table.{row, class_of, guarded, admits, wants_expression, wants_value, class_around}
 use Rattle.ifr_scopes.specs.declared.table.Class.{Class}
 use Rattle.ifr_scopes.specs.declared.table.Class.TheVariants.{OfFormSet, OfForm, OfText, OfQuestion, OfChoice, OfOptions, OfOption, OfExpression, OfNothing}
 use Rattle.ifr_scopes.specs.declared.table.Row.{Row}
-use Rattle.ifr_scopes.specs.declared.table.Scope.TheVariants.{Always, Outermost}
+use Rattle.ifr_scopes.specs.declared.table.Scope.TheVariants.{Always}
 use Rattle.ifr_scopes.proofs.ClassLemmas.{class-guard, class-other}
-use Rattle.ifr_scopes.proofs.TableLemmas.{operator_row}
+use Rattle.ifr_scopes.proofs.TableLemmas.{class_fact}
 use Rattle.form_sets.specs.WellFormed.{class_inside}
 
 -- ---- rows
-
-other_row : (code : ℕ) → is_operator code ≡ false → row code ≡ row_in scope_rows code
-unfolding row
-other_row code other = cond-false (is_operator code) _ _ other
 
 some_row : (o : Option Row) → is_some o ≡ true → (r : Row) × (o ≡ Some r)
 some_row None e = absurd (false≢true e)
 some_row (Some r) e = (r, refl)
 
+listed_open : map (λ c. not (is_listed c) || is_some (row c)) numbers ≡ map (λ c. true) numbers
+unfolding row row_of
+listed_open = refl
+
+none_listed : (code : ℕ) → row_of code ≡ None → is_listed code ≡ false
+none_listed code none = rw none refl
+
 -- a number that is known has a row
 pub listed_row : (code : ℕ) → is_listed code ≡ true → (r : Row) × (row code ≡ Some r)
-listed_row code is = elim (cases_Bool (is_operator code)) [
-  | inl operator ↦ (record { scope = Outermost; class = OfExpression }, operator_row code operator)
-  | inr other ↦ elim (or_cases (is_among code others) (is_operator code) (sym (known code) ∙ is)) [
-    | inl among ↦ some_row (row code) (ap (λ (o : Option Row). is_some o) (other_row code other) ∙ of_each (λ c. is_some (row_in scope_rows c)) others code refl among)
-    | inr operator ↦ absurd (false≢true (sym other ∙ operator))
-  ]
-]
+listed_row code is = some_row (row code) (of_kind is_listed (λ c. is_some (row c)) listed_open none_listed code is)
 
 -- ---- scopes that are not an operator's
 
@@ -49,34 +43,24 @@ abbrev pub is_plain : Class → Bool
 is_plain OfExpression = false
 is_plain _ = true
 
--- what holds of each operator's number holds of an operator
-of_operator : (holds : ℕ → Bool) → list_all holds without_operands ≡ true → list_all holds with_one_operand ≡ true → list_all holds with_two_operands ≡ true → (code : ℕ) → is_operator code ≡ true → holds code ≡ true
-of_operator holds without one two code is = elim (takes_few code is) [
-  | inl takes ↦ of_each holds without_operands code without (takes_none code takes)
-  | inr more ↦ elim more [
-    | inl takes ↦ of_each holds with_one_operand code one (takes_one code takes)
-    | inr takes ↦ of_each holds with_two_operands code two (takes_two code takes)
-  ]
-]
+none_operates : (code : ℕ) → row_of code ≡ None → is_operator code ≡ false
+none_operates code none = ap (λ (o : Option ℕ). is_some o) (none_takes code none)
 
-refused : (c : Class) (code : ℕ) → is_plain c ≡ true → is_operator code ≡ true → not (admits c code) ≡ true
-unfolding row_of is_statement_number is_question_number is_store_number is_condition_number is_ignored
-refused OfFormSet code plain is = of_operator (λ k. not (admits OfFormSet k)) refl refl refl code is
-refused OfForm code plain is = of_operator (λ k. not (admits OfForm k)) refl refl refl code is
-refused OfText code plain is = of_operator (λ k. not (admits OfText k)) refl refl refl code is
-refused OfQuestion code plain is = of_operator (λ k. not (admits OfQuestion k)) refl refl refl code is
-refused OfChoice code plain is = of_operator (λ k. not (admits OfChoice k)) refl refl refl code is
-refused OfOptions code plain is = of_operator (λ k. not (admits OfOptions k)) refl refl refl code is
-refused OfOption code plain is = of_operator (λ k. not (admits OfOption k)) refl refl refl code is
-refused OfExpression code plain is = absurd (false≢true plain)
-refused OfNothing code plain is = refl
+no_operators_held : (c : Class) → is_plain c ≡ true → map (λ k. not (is_operator k) || not (admits c k)) numbers ≡ map (λ k. true) numbers
+unfolding operands row_of is_statement_number is_question_number is_store_number is_condition_number is_ignored
+no_operators_held OfFormSet plain = refl
+no_operators_held OfForm plain = refl
+no_operators_held OfText plain = refl
+no_operators_held OfQuestion plain = refl
+no_operators_held OfChoice plain = refl
+no_operators_held OfOptions plain = refl
+no_operators_held OfOption plain = refl
+no_operators_held OfExpression plain = absurd (false≢true plain)
+no_operators_held OfNothing plain = refl
 
 -- none admits an operator
 pub admitted_plain : (c : Class) (code : ℕ) → is_plain c ≡ true → admits c code ≡ true → is_operator code ≡ false
-admitted_plain c code plain admitted = elim (cases_Bool (is_operator code)) [
-  | inr e ↦ e
-  | inl is ↦ absurd (false≢true (sym (not-true (admits c code) (refused c code plain is)) ∙ admitted))
-]
+admitted_plain c code plain admitted = not_of_kind is_operator (admits c) (no_operators_held c plain) none_operates code admitted
 
 guarded_plain : (c : Class) → is_plain c ≡ true → is_plain (guarded c) ≡ true
 guarded_plain OfFormSet e = e
@@ -89,20 +73,24 @@ guarded_plain OfOption e = e
 guarded_plain OfExpression e = e
 guarded_plain OfNothing e = e
 
-rows_plain : (table : List (List ℕ × Row)) (code : ℕ) → list_all (λ e. is_plain e.1.class) table ≡ true → is_plain (class_of (row_in table code)) ≡ true
-rows_plain [] code all = refl
-rows_plain ((codes, r) ∷ more) code all = elim (cases_Bool (is_among code codes)) [
-  | inl here ↦ ap (λ (o : Option Row). is_plain (class_of o)) (cond-true (is_among code codes) (Some r) (row_in more code) here) ∙ and_first _ _ all
-  | inr other ↦ ap (λ (o : Option Row). is_plain (class_of o)) (cond-false (is_among code codes) (Some r) (row_in more code) other) ∙ rows_plain more code (and_second _ _ all)
-]
+plain_or_operator : map (λ c. is_plain (class_of (row c)) || is_operator c) numbers ≡ map (λ c. true) numbers
+unfolding row operands row_of
+plain_or_operator = refl
+
+class_plain : (code : ℕ) → is_operator code ≡ false → is_plain (class_of (row code)) ≡ true
+class_plain code other =
+    let one : is_plain (class_of (row code)) || is_operator code ≡ true = class_fact (λ c class. is_plain class || is_operator c) plain_or_operator (λ c. refl) code in
+    elim (cases_Bool (is_plain (class_of (row code)))) [
+      | inl e ↦ e
+      | inr e ↦ absurd (false≢true (sym other ∙ ap (λ (b : Bool). b || is_operator code) (sym e) ∙ one))
+    ]
 
 -- so none stands in another's scope, where that is none of an operator
 pub inside_plain : (c : Class) (op : List ℕ) → is_plain c ≡ true → is_operator (number op) ≡ false → is_plain (class_inside c op) ≡ true
 inside_plain c op plain other = elim (cases_Bool (is_guard (number op))) [
   | inl guards ↦ ap is_plain (cond-true (is_guard (number op)) (guarded c) (class_of (row (number op))) guards) ∙ guarded_plain c plain
   | inr free ↦
-      ap is_plain (cond-false (is_guard (number op)) (guarded c) (class_of (row (number op))) free)
-      ∙ ap (λ (o : Option Row). is_plain (class_of o)) (other_row (number op) other) ∙ rows_plain scope_rows (number op) refl
+      ap is_plain (cond-false (is_guard (number op)) (guarded c) (class_of (row (number op))) free) ∙ class_plain (number op) other
 ]
 
 -- the class of a scope, by what is around it

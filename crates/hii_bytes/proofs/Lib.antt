@@ -4,6 +4,7 @@ pub mod NumberListLemmas
 pub mod NumberSetLemmas
 pub mod SearchLemmas
 pub mod FaultLemmas
+pub mod ChapterFaultLemmas
 pub mod WritingLemmas
 pub mod FirstFaultLemmas
 mod WorkedTexts

@@ -1,6 +1,7 @@
 pub mod Numbers
 pub mod Digits
 pub mod NumberList
+pub mod Causes
 pub mod Cause
 pub mod Faults
 pub mod Watching

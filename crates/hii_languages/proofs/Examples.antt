@@ -2,7 +2,7 @@
 use Rattle.std.proofs.Common.{◌≡◌, List, [], ◌∷◌, Some, None, refl}
 use Rattle.std.specs.Prelude.{codes, decimal}
 use Rattle.sibt_strings.specs.Units.{chars_of_units}
-use Rattle.hii_languages.specs.Languages.{Spoken, string_packages, primary_subtag, chosen}
+use Rattle.hii_languages.specs.Languages.{Spoken, primary_subtag, chosen}
 use Rattle.hii_languages.specs.Shown.{Nothing, Units, Missing, shown, shown_text}
 
 -- French has the texts F of id 1 and G of id 2, English the text E of id 1 alone.
@@ -34,7 +34,3 @@ texts = (refl, refl, refl, refl, refl, refl)
 text_characters : (shown_text spoken (Some 1) 1 ≡ codes "E") × (shown_text spoken (Some 1) 17 ≡ 35 ∷ decimal 17) × (shown_text spoken (Some 1) 0 ≡ [])
 unfolding spoken chars_of_units
 text_characters = (refl, refl, refl)
-
--- the packages of Type 4
-packages : string_packages ((4 ∷ 0 ∷ 0 ∷ 2 ∷ []) ∷ (5 ∷ 0 ∷ 0 ∷ 4 ∷ 7 ∷ []) ∷ []) ≡ record { place = 24; kind = 4; bytes = 5 ∷ 0 ∷ 0 ∷ 4 ∷ 7 ∷ [] } ∷ []
-packages = refl

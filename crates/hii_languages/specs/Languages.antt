@@ -1,32 +1,27 @@
--- The string packages of a list, and which of them is chosen for a language (UEFI 2.8, 33.3.6 String Package; how one is
+-- What string packages say, and which of them is chosen for a language (UEFI 2.8, 33.3.6 String Package; how one is
 -- chosen is an own rule).
-use Rattle.std.specs.Prelude.{ℕ, ◌==◌, List, [], ◌∷◌, filter, position, Option, None, Some}
+use Rattle.std.specs.Prelude.{ℕ, ◌==◌, List, [], ◌∷◌, position, Option, None, Some}
 use Rattle.std.specs.List.{before_first}
 use Rattle.std.specs.Option.{option_or}
 use Rattle.std.specs.Str.{str_eq_ignore_ascii_case}
+use Rattle.browser_rules.specs.Packages.{Package}
 use Rattle.hii_bytes.specs.declared.cause.Cause.{Cause}
 use Rattle.hii_bytes.specs.Faults.{Then}
-use Rattle.hii_packages.specs.Packages.{Entry, entries}
-use Rattle.hii_packages.specs.declared.package.TheConstants.{STRINGS}
 use Rattle.sibt_strings.specs.Strings.{Speaks, IsStringFaultIn}
 pub use Rattle.sibt_strings.specs.Strings.{Spoken}
 
--- the string packages of a list, in order
-abbrev pub string_packages : List (List ℕ) → List Entry
-string_packages packages = filter (λ e. e.kind == STRINGS) (entries packages)
-
 -- The faults of string packages, one part for each, in order: those of a package count only where the ones before it have none.
-abbrev pub IsStringsFault : List Entry → Cause → ℕ → Type 0
+abbrev pub IsStringsFault : List Package → Cause → ℕ → Type 0
 IsStringsFault [] cause place = ⊥
-IsStringsFault (e ∷ es) cause place =
-    Then (IsStringFaultIn e.bytes e.place) (IsStringsFault es) cause place
+IsStringsFault (p ∷ ps) cause place =
+    Then (IsStringFaultIn p.bytes p.place) (IsStringsFault ps) cause place
 
 -- Each string package says this.
-abbrev pub AreSpoken : List Entry → List Spoken → Type 0
+abbrev pub AreSpoken : List Package → List Spoken → Type 0
 AreSpoken [] [] = Unit {0}
 AreSpoken [] (s ∷ ss) = ⊥
-AreSpoken (e ∷ es) [] = ⊥
-AreSpoken (e ∷ es) (s ∷ ss) = Speaks e.bytes s × AreSpoken es ss
+AreSpoken (p ∷ ps) [] = ⊥
+AreSpoken (p ∷ ps) (s ∷ ss) = Speaks p.bytes s × AreSpoken ps ss
 
 -- the part of a language before its first hyphen, or all of it
 abbrev pub primary_subtag : List ℕ → List ℕ

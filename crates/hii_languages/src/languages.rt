@@ -2,9 +2,10 @@
 
 ghost use Rattle.std.specs.Prelude.{◌≡◌, ◌==◌, List, IfOk, IfErr, option_map, position};
 ghost use Rattle.std.specs.Str.{str_eq_ignore_ascii_case};
+ghost use Rattle.browser_rules.specs.Packages as chapter;
 ghost use Rattle.hii_bytes.specs.Faults.{Refuses, out_of_memory};
 ghost use Rattle.sibt_strings.specs.code.Views.{units_in};
-ghost use Rattle.hii_languages.specs.Languages.{Spoken, string_packages, AreSpoken, IsStringsFault, primary_subtag, first_package, chosen};
+ghost use Rattle.hii_languages.specs.Languages.{Spoken, AreSpoken, IsStringsFault, primary_subtag, first_package, chosen};
 ghost use Rattle.hii_languages.specs.Shown.{shown, shown_text, text_in_package, text_under};
 ghost use Rattle.hii_languages.specs.code.Views.{choice_of, seen, text_of};
 
@@ -53,10 +54,10 @@ impl<'a> Languages<'a> {
     /// StringBlock or StringText, at its place in bytes from the list's front. OutOfMemory (60) at 0 where an
     /// allocation fails.
     pub fn read(alloc: Global, list: &PackageList<'a>) -> Result<Languages<'a>, Fault>
-        ensures read { IfOk result (AreSpoken (string_packages list.now)) }
-        ensures refused { IfErr result (Refuses (IsStringsFault (string_packages list.now))) }
+        ensures read { IfOk result (AreSpoken (chapter.packages_with chapter.STRINGS list.now)) }
+        ensures refused { IfErr result (Refuses (IsStringsFault (chapter.packages_with chapter.STRINGS list.now))) }
         // Where each string package says something they are read, unless an allocation fails.
-        ensures accepted { (spoken : List Spoken) → AreSpoken (string_packages list.now) spoken
+        ensures accepted { (spoken : List Spoken) → AreSpoken (chapter.packages_with chapter.STRINGS list.now) spoken
             → IfErr result (λ fault. fault ≡ out_of_memory) }
     {
         let mut tables = Vec::new(alloc);

@@ -1,5 +1,6 @@
-pub mod PackageLemmas
+pub mod FrontLemmas
+pub mod LeftLemmas
+pub mod ListLemmas
 pub mod SpellLemmas
 pub mod PlaceLemmas
-pub mod FormsLemmas
 pub mod Examples

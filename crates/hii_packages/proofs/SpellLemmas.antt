@@ -1,149 +1,231 @@
--- A list spells the packages that stand from its header to its end package.
-use Rattle.std.proofs.Common.{true, ◌≡◌, ℕ, zero, suc, ◌+◌, ◌-◌, ◌<◌, ◌≤◌, List, [], ◌∷◌, ◌++◌, length, take, drop, get_or, refl, ap, sym, ◌∙◌, subst, arith, append_assoc, length-append, add-zero}
-use Rattle.std.specs.List.{AllByRecursion, concat, slice_range}
-use Rattle.std.proofs.Math.Seq.{take-add}
-use Rattle.std.proofs.lemmas.List.{take-append-drop, drop-drop, length-drop, length-take-le, get_or-take, get_or-drop, append-nil, take_at, drop_at, get_or_append_left}
-use Rattle.std.proofs.lemmas.List.Folds.{concat-append, drop_split}
-use Rattle.std.proofs.lemmas.List.Prefix.{at_from_reads}
-use Rattle.std.proofs.lemmas.Bool.Decides.{nat_tests}
-use Rattle.hii_bytes.specs.Numbers.{number_in}
-use Rattle.hii_bytes.proofs.NumberLemmas.{number_in-append, number_in-drop}
-use Rattle.hii_packages.specs.declared.package.TheConstants.{END}
-use Rattle.hii_packages.specs.Packages.{IsPackage, SpellsPackages, placed, entries, pieces, pieces_of, stops, end_package}
+-- A list has no fault exactly where it spells packages, and then these are read.
+use Rattle.std.proofs.Common.{◌≡◌, ◌≢◌, ℕ, zero, suc, ◌+◌, ◌-◌, ◌<◌, ◌≤◌, false, List, [], ◌∷◌, ◌++◌, length, take, drop, map, refl, ap, sym, ◌∙◌, subst, inl, inr, arith, append_assoc, length-append, lit≤}
+use Rattle.std.specs.Prelude.{filter, ◌==◌}
+use Rattle.std.specs.List.{AllByRecursion, concat}
+use Rattle.std.proofs.lemmas.List.{take-append-drop, drop-drop, drop-take, length-drop, length-take-le, get_or-take, take_at, drop_at, get_or_append_left}
+use Rattle.std.proofs.lemmas.Bool.{cases_Bool, cases_lt, cases_eq}
+use Rattle.browser_rules.specs.Faults.{Fault, fault_at, faults_of_packages, list_faults}
+use Rattle.browser_rules.specs.Packages.{Package, END_PACKAGE, is_bad, list_length, package_length, package_type, packages_from, packages_with}
+use Rattle.browser_rules.specs.Words.{Cause, number_in}
+use Rattle.hii_bytes.proofs.ChapterFaultLemmas.{some_faults}
+use Rattle.hii_bytes.proofs.NumberLemmas.{number_in-append}
+use Rattle.hii_packages.specs.Packages.{packages_of}
+use Rattle.hii_packages.specs.laws.Faults.{HasHeader}
 use Rattle.hii_packages.specs.laws.Places.{LiesIn}
-use Rattle.hii_packages.specs.code.Ends.{ArePackages}
-use Rattle.hii_packages.specs.Faults.{list_length, size_at, kind_at, IsWholePackage, IsAfter, Begins}
-use Rattle.hii_packages.specs.code.Ends.{EndsAt}
-use Rattle.hii_packages.proofs.PackageLemmas.{pieces-concat, pieces_of-concat, number_in-package}
-use Rattle.hii_packages.proofs.PlaceLemmas.{begins_from}
+use Rattle.hii_packages.specs.laws.Spelling.{IsPackage, SpellsPackages, end_package, placed}
+use Rattle.hii_packages.proofs.FrontLemmas.{front, good_header, good_end, is_good, at_zero, at_no_bytes, at_bad, at_end, at_last, at_whole, none_at_end, one_at_whole}
+use Rattle.hii_packages.proofs.LeftLemmas.{left}
+use Rattle.hii_packages.proofs.ListLemmas.{behind_header, body, body_cut, body_length, has_header}
 
-AllByRecursion-push : (P : List ℕ → Type 0) (xs : List (List ℕ)) (x : List ℕ) → AllByRecursion P xs → P x → AllByRecursion P (xs ++ x ∷ [])
-AllByRecursion-push P [] x each last = (last, tt)
-AllByRecursion-push P (y ∷ ys) x each last = (each.0, AllByRecursion-push P ys x each.1 last)
+-- ---- a package that is spelled at the front
 
--- the header of the package at a place, in the bytes from there on
-size_from : (list : List ℕ) (place : ℕ) → number_in (drop place list) 0 3 ≡ size_at list place
-size_from list place = number_in-drop list place 0 3 ∙ ap (λ x. number_in list x 3) (add-zero place)
+record IsFront (p tail : List ℕ) : Type 0 where
+  good : is_bad (p ++ tail) ≡ false
+  other : package_type (p ++ tail) ≢ END_PACKAGE
+  size : package_length (p ++ tail) ≡ length p
+  kind : package_type (p ++ tail) ≡ package_type p
+  first : take (package_length (p ++ tail)) (p ++ tail) ≡ p
+  behind : left (p ++ tail) ≡ tail
 
--- the bytes of a whole package at a place are a package
-package_at : (list : List ℕ) (place : ℕ) → list_length list ≤ length list → IsWholePackage list place → IsPackage (take (size_at list place) (drop place list))
-package_at list place inside w =
-    let size = size_at list place in
-    let rest = drop place list in
-    let long : length (take size rest) ≡ size = length-take-le size rest (omega (arith, length-drop place list, w.inside)) in
-    let same = number_in-append (take size rest) (drop size rest) 0 3 (omega (arith, long, w.header)) in
+is_front : (p tail : List ℕ) → IsPackage p → IsFront p tail
+is_front p tail h =
+    let size : package_length (p ++ tail) ≡ length p = number_in-append p tail 0 3 (omega (arith, h.header)) ∙ h.sized in
+    let kind : package_type (p ++ tail) ≡ package_type p = get_or_append_left p tail 0 3 (omega (arith, h.header)) in
     record {
-      header = omega (arith, long, w.header);
-      sized = sym same ∙ ap (λ b. number_in b 0 3) (take-append-drop size rest) ∙ size_from list place ∙ sym long;
-      kind = λ e. w.kind (sym (get_or-drop place list 3 0) ∙ sym (get_or-take size rest 3 0 (omega (arith, w.header))) ∙ e);
+      good = good_header (p ++ tail) (omega (arith, size, h.header)) (omega (arith, size, length-append p tail)) (λ e. h.kind (sym kind ∙ e));
+      other = λ e. h.kind (sym kind ∙ e);
+      size = size;
+      kind = kind;
+      first = ap (λ (n : ℕ). take n (p ++ tail)) size ∙ take_at p tail (length p) refl;
+      behind = ap (λ (n : ℕ). drop n (p ++ tail)) size ∙ drop_at p tail (length p) refl;
     }
 
--- the bytes up to a place where a package begins are packages
-cut_at : (list : List ℕ) (n place : ℕ) → list_length list ≤ length list → IsAfter list n place → (ps : List (List ℕ)) × AllByRecursion IsPackage ps × (slice_range list 20 place ≡ concat ps)
-cut_at list zero place inside e = ([], tt, ap (slice_range list 20) e)
-cut_at list (suc n) place inside (before, after, whole, e) =
-    let r = cut_at list n before inside after in
-    let from = begins_from list before (n, after) in
-    let p = take (size_at list before) (drop before list) in
-    let size : place - 20 ≡ (before - 20) + size_at list before = omega (arith, e, from) in
-    let back : 20 + (before - 20) ≡ before = omega (arith, from) in (
-      r.0 ++ p ∷ [],
-      AllByRecursion-push IsPackage r.0 p r.1 (package_at list before inside whole),
-      ap (λ k. take k (drop 20 list)) size ∙ take-add (before - 20) (size_at list before) (drop 20 list)
-          ∙ ap (λ x. x ++ take (size_at list before) (drop (before - 20) (drop 20 list))) r.2
-          ∙ ap (λ x. concat r.0 ++ take (size_at list before) x) (drop-drop (before - 20) 20 list ∙ ap (λ k. drop k list) back)
-          ∙ sym (concat-append r.0 (p ∷ []) ∙ ap (λ x. concat r.0 ++ x) (append-nil p)),
-    )
+abbrev package_at : ℕ → List ℕ → Package
+package_at at p = record { place = at; kind = package_type p; bytes = p }
 
--- the cells of the end package at a place
-end_cell : (list : List ℕ) (place : ℕ) → ((i : ℕ) → get_or list i 0 < 256) → kind_at list place ≡ END → size_at list place ≡ 4 → (i : ℕ) → i < 4 → get_or list (place + i) 0 ≡ get_or end_package i 0
+front_is : (at : ℕ) (p tail : List ℕ) → IsPackage p → front at (p ++ tail) ≡ package_at at p
+front_is at p tail h =
+    let f = is_front p tail h in
+    let kind = f.kind in
+    let first = f.first in
+    λ i. record { place = at; kind = kind i; bytes = first i }
+
+-- ---- packages that are spelled
+
+more : (p : List ℕ) (ps : List (List ℕ)) (n : ℕ) → IsPackage p → length (concat (p ∷ ps)) ≤ suc n → length (concat ps) ≤ n
+more p ps n h few = omega (arith, h.header, length-append p (concat ps), few)
+
+placed_read : (n at : ℕ) (ps : List (List ℕ)) (tail : List ℕ) → AllByRecursion IsPackage ps → package_type tail ≡ END_PACKAGE → length (concat ps) ≤ n
+    → packages_from n at (concat ps ++ tail) ≡ placed at ps
+placed_read n at [] tail each end few = none_at_end n at tail end
+placed_read zero at (p ∷ ps) tail each end few = absurd (omega (arith, each.0.header, length-append p (concat ps), few))
+placed_read (suc n) at (p ∷ ps) tail each end few =
+    let rest = concat ps ++ tail in
+    let f = is_front p rest each.0 in
+    let again = placed_read n (at + length p) ps tail each.1 end (more p ps n each.0 few) in
+    ap (packages_from (suc n) at) (append_assoc p (concat ps) tail)
+    ∙ one_at_whole n at (p ++ rest) f.good f.other
+    ∙ ap (λ (q : Package). q ∷ packages_from n (at + package_length (p ++ rest)) (left (p ++ rest))) (front_is at p rest each.0)
+    ∙ ap (λ (qs : List Package). package_at at p ∷ qs)
+    (ap (λ (k : ℕ). packages_from n (at + k) (left (p ++ rest))) f.size ∙ ap (packages_from n (at + length p)) f.behind ∙ again)
+
+size_of_end : package_length end_package ≡ 4
 unfolding number_in
-end_cell list place bytes kind size i lt =
-    let x = get_or-drop place list 0 0 in
-    let y = get_or-drop place list 1 0 in
-    let z = get_or-drop place list 2 0 in
-    let fx = bytes (place + 0) in
-    let fy = bytes (place + 1) in
-    let fz = bytes (place + 2) in
-    go i lt (omega arith) (omega arith) (omega arith) kind
-  where
-    go : (i : ℕ) → i < 4 → get_or list (place + 0) 0 ≡ 4 → get_or list (place + 1) 0 ≡ 0 → get_or list (place + 2) 0 ≡ 0 → get_or list (place + 3) 0 ≡ END → get_or list (place + i) 0 ≡ get_or end_package i 0
-    go zero lt x y z k = x
-    go (suc zero) lt x y z k = y
-    go (suc (suc zero)) lt x y z k = z
-    go (suc (suc (suc zero))) lt x y z k = k
-    go (suc (suc (suc (suc i)))) lt x y z k = absurd (omega arith)
+size_of_end = refl
 
--- the end package at a place, and what follows
-end_at : (list : List ℕ) (place : ℕ) → ((i : ℕ) → get_or list i 0 < 256) → place + 4 ≤ length list → kind_at list place ≡ END → size_at list place ≡ 4 → drop place list ≡ end_package ++ drop (place + 4) list
-end_at list place bytes inside kind size = at_from_reads 0 list end_package place inside (end_cell list place bytes kind size)
+placed_sound : (n at : ℕ) (ps : List (List ℕ)) → AllByRecursion IsPackage ps → 4 + length (concat ps) ≤ n → faults_of_packages n at (concat ps ++ end_package) ≡ []
+placed_sound zero at ps each few = absurd (omega (arith, few))
+placed_sound (suc n) at [] each few = at_last n at end_package refl (good_end end_package (lit≤ tt) size_of_end) refl
+placed_sound (suc n) at (p ∷ ps) each few =
+    let rest = concat ps ++ end_package in
+    let f = is_front p rest each.0 in
+    let again = placed_sound n (at + length p) ps each.1 (omega (arith, each.0.header, length-append p (concat ps), few)) in
+    ap (faults_of_packages (suc n) at) (append_assoc p (concat ps) end_package)
+    ∙ at_whole n at (p ++ rest) (omega (arith, each.0.header, length-append p rest)) f.good f.other
+    ∙ ap (λ (k : ℕ). faults_of_packages n (at + k) (left (p ++ rest))) f.size
+    ∙ ap (faults_of_packages n (at + length p)) f.behind
+    ∙ again
 
--- a list whose packages end where it ends spells the packages up to there
-pub spells_from_end : (list : List ℕ) (end : ℕ) → ((i : ℕ) → get_or list i 0 < 256) → EndsAt list end → ArePackages (slice_range list 20 end) × SpellsPackages list (pieces_of (slice_range list 20 end))
-spells_from_end list end bytes e =
-    let r = cut_at list e.begins.0 end e.inside e.begins.1 in
-    let from = begins_from list end e.begins in
-    let cut : pieces_of (slice_range list 20 end) ≡ r.0 = ap pieces_of r.2 ∙ pieces_of-concat r.0 r.1 in
-    let stand : length (slice_range list 20 end) ≡ end - 20 = length-take-le (end - 20) (drop 20 list) (omega (arith, length-drop 20 list, e.last, e.inside)) in
-    let spelled : SpellsPackages list r.0 = record {
-      each = r.1;
-      rest = drop (end + 4) list;
-      whole = drop_split list 20 end from ∙ ap (λ x. x ++ drop end list) r.2 ∙ ap (λ x. concat r.0 ++ x) (end_at list end bytes (omega (arith, e.last, e.inside)) e.kind e.size);
-      list_length = omega (arith, e.last, stand, ap length r.2, from);
-    } in
-    ((r.0, r.1, r.2), subst (SpellsPackages list) (sym cut) spelled)
+-- ---- a list that spells packages
 
--- where packages stand from a place on, as many whole ones follow
-after_packages : (list tail : List ℕ) (ps : List (List ℕ)) (n place : ℕ) → AllByRecursion IsPackage ps → drop place list ≡ concat ps ++ tail → IsAfter list n place → place + length (concat ps) ≤ list_length list → Begins list (place + length (concat ps))
-after_packages list tail [] n place each stand after inside = (n, subst (IsAfter list n) (sym (add-zero place)) after)
-after_packages list tail (p ∷ ps) n place each stand after inside =
-    let front : drop place list ≡ p ++ (concat ps ++ tail) = stand ∙ append_assoc p (concat ps) tail in
-    let size : size_at list place ≡ length p = sym (size_from list place) ∙ ap (λ b. number_in b 0 3) front ∙ number_in-package p (concat ps ++ tail) each.0 in
-    let kind : kind_at list place ≡ get_or p 3 0 = sym (get_or-drop place list 3 0) ∙ ap (λ b. get_or b 3 0) front ∙ get_or_append_left p (concat ps ++ tail) 0 3 (omega (arith, each.0.header)) in
-    let both = length-append p (concat ps) in
-    let whole : IsWholePackage list place = record { header = omega (arith, size, each.0.header); inside = omega (arith, size, both, inside); kind = λ e. each.0.kind (sym kind ∙ e) } in
-    let next : drop (place + length p) list ≡ concat ps ++ tail = sym (drop-drop (length p) place list) ∙ ap (drop (length p)) front ∙ drop_at p (concat ps ++ tail) (length p) refl in
-    let rest = after_packages list tail ps (suc n) (place + length p) each.1 next (place, after, whole, ap (λ k. place + k) (sym size)) (omega (arith, both, inside)) in
-    subst (Begins list) (omega (arith, both)) rest
+record IsSpelled (list : List ℕ) (ps : List (List ℕ)) : Type 0 where
+  header : HasHeader list
+  enough : 4 + length (concat ps) ≤ length list
+  parts : body list ≡ concat ps ++ end_package
 
-size_of_end : (rest : List ℕ) → number_in (end_package ++ rest) 0 3 ≡ 4
-unfolding number_in
-size_of_end rest = refl
-
-stops_end : (rest : List ℕ) → stops (end_package ++ rest) ≡ true
-stops_end rest = let size = size_of_end rest in grind (arith, nat_tests)
-
--- a list that spells packages ends where it says
-pub end_from_spells : (list : List ℕ) (ps : List (List ℕ)) → SpellsPackages list ps → EndsAt list (20 + length (concat ps))
-end_from_spells list ps s =
-    let tail = end_package ++ s.rest in
-    let long : length list - 20 ≡ length (concat ps) + (4 + length s.rest) = omega (arith, length-drop 20 list, ap length s.whole, length-append (concat ps) tail) in
-    let at_end : drop (20 + length (concat ps)) list ≡ tail = sym (drop-drop (length (concat ps)) 20 list) ∙ ap (drop (length (concat ps))) s.whole ∙ drop_at (concat ps) tail _ refl in
-    let end = 20 + length (concat ps) in
+is_spelled : (list : List ℕ) (ps : List (List ℕ)) → SpellsPackages list ps → IsSpelled list ps
+is_spelled list ps s =
+    let packages = concat ps ++ end_package in
+    let long : length list - 20 ≡ length (concat ps) + (4 + length s.rest) = omega (arith, length-drop 20 list, ap length s.whole, length-append (concat ps) (end_package ++ s.rest)) in
+    let size : length packages ≡ 4 + length (concat ps) = omega (arith, length-append (concat ps) end_package) in
+    let told : list_length list ≡ 20 + (4 + length (concat ps)) = omega (arith, s.list_length) in
     record {
-      begins = after_packages list tail ps 0 20 s.each s.whole refl (omega (arith, s.list_length));
-      kind = sym (get_or-drop end list 3 0) ∙ ap (λ b. get_or b 3 0) at_end;
-      size = sym (size_from list end) ∙ ap (λ b. number_in b 0 3) at_end ∙ size_of_end s.rest;
-      last = omega (arith, s.list_length);
-      inside = omega (arith, s.list_length, long);
+      header = record { header = omega (arith, long); low = omega (arith, told); high = omega (arith, told, long) };
+      enough = omega (arith, long);
+      parts = ap (λ (n : ℕ). drop 20 (take n list)) told
+          ∙ drop-take 20 (4 + length (concat ps)) list
+          ∙ ap (take (4 + length (concat ps))) (s.whole ∙ sym (append_assoc (concat ps) end_package s.rest))
+          ∙ take_at packages s.rest (4 + length (concat ps)) size;
     }
 
--- a list spells one list of packages at most
+pub spelled_sound : (list : List ℕ) (ps : List (List ℕ)) → SpellsPackages list ps → list_faults list ≡ []
+spelled_sound list ps s =
+    let is = is_spelled list ps s in
+    behind_header list is.header ∙ ap (faults_of_packages (length list) 20) is.parts ∙ placed_sound (length list) 20 ps s.each is.enough
+
+pub spelled_read : (list : List ℕ) (ps : List (List ℕ)) → SpellsPackages list ps → packages_of list ≡ placed 20 ps
+spelled_read list ps s =
+    let is = is_spelled list ps s in
+    ap (packages_from (length list) 20) is.parts ∙ placed_read (length list) 20 ps end_package s.each refl (omega (arith, is.enough))
+
+pub spelled_of_type : (list : List ℕ) (ps : List (List ℕ)) (kind : ℕ) → SpellsPackages list ps → packages_with kind list ≡ filter (λ (p : Package). p.kind == kind) (placed 20 ps)
+spelled_of_type list ps kind s = ap (filter (λ (p : Package). p.kind == kind)) (spelled_read list ps s)
+
+-- the bytes of packages
+abbrev bytes_of : Package → List ℕ
+bytes_of p = p.bytes
+
+bytes_of_placed : (at : ℕ) (ps : List (List ℕ)) → map bytes_of (placed at ps) ≡ ps
+bytes_of_placed at [] = refl
+bytes_of_placed at (p ∷ ps) = ap (λ (qs : List (List ℕ)). p ∷ qs) (bytes_of_placed (at + length p) ps)
+
 pub one_spelled : (list : List ℕ) (ps qs : List (List ℕ)) → SpellsPackages list ps → SpellsPackages list qs → ps ≡ qs
 one_spelled list ps qs s t =
-    let n = length (concat ps) + length (concat qs) in
-    sym (pieces-concat n ps _ s.each (stops_end s.rest) (omega arith)) ∙ ap (pieces n) (sym s.whole ∙ t.whole) ∙ pieces-concat n qs _ t.each (stops_end t.rest) (omega arith)
+    sym (bytes_of_placed 20 ps) ∙ ap (map bytes_of) (sym (spelled_read list ps s) ∙ spelled_read list qs t) ∙ bytes_of_placed 20 qs
 
--- packages that stand from a place on lie where they are placed
+-- ---- a list without a fault
+
+-- The bytes are these packages and the end package.
+record IsCut (bytes : List ℕ) (packages : List Package) : Type 0 where
+  each : AllByRecursion IsPackage (map bytes_of packages)
+  whole : bytes ≡ concat (map bytes_of packages) ++ end_package
+
+front_package : (bytes : List ℕ) → is_bad bytes ≡ false → package_type bytes ≢ END_PACKAGE → IsPackage (take (package_length bytes) bytes)
+front_package bytes good other =
+    let g = is_good bytes good in
+    let n = package_length bytes in
+    let long : length (take n bytes) ≡ n = length-take-le n bytes g.high in
+    record {
+      header = omega (arith, long, g.low);
+      sized = sym (number_in-append (take n bytes) (drop n bytes) 0 3 (omega (arith, long, g.low))) ∙ ap (λ (b : List ℕ). number_in b 0 3) (take-append-drop n bytes) ∙ sym long;
+      kind = λ e. other (sym (get_or-take n bytes 3 0 (omega (arith, g.low))) ∙ e);
+    }
+
+end_where : (bytes : List ℕ) → length bytes ≡ 4 → package_length bytes ≡ 4 → package_type bytes ≡ END_PACKAGE → bytes ≡ end_package
+unfolding number_in
+end_where [] four size kind = absurd (omega (arith, four))
+end_where (x ∷ []) four size kind = absurd (omega (arith, four))
+end_where (x ∷ y ∷ []) four size kind = absurd (omega (arith, four))
+end_where (x ∷ y ∷ z ∷ []) four size kind = absurd (omega (arith, four))
+end_where (x ∷ y ∷ z ∷ k ∷ []) four size kind =
+    let first : x ≡ 4 = omega (arith, size) in
+    let second : y ≡ 0 = omega (arith, size) in
+    let third : z ≡ 0 = omega (arith, size) in
+    let last : k ≡ END_PACKAGE = kind in
+    λ i. first i ∷ second i ∷ third i ∷ last i ∷ []
+end_where (x ∷ y ∷ z ∷ k ∷ b ∷ bytes) four size kind = absurd (omega (arith, four))
+
+some_fault : (cause : Cause) (place : ℕ) → fault_at cause place ≡ [] → ⊥
+some_fault cause place e = some_faults (record { cause = cause; place = place }) [] e
+
+cut : (n at : ℕ) (bytes : List ℕ) → faults_of_packages n at bytes ≡ [] → IsCut bytes (packages_from n at bytes)
+cut zero at bytes none = absurd (some_fault Cause.NoEnd at (sym (at_zero at bytes) ∙ none))
+cut (suc n) at bytes none =
+    elim (cases_lt 0 (length bytes)) [
+      | inr empty ↦ absurd (some_fault Cause.NoEnd at (sym (at_no_bytes (suc n) at bytes (omega arith)) ∙ none))
+      | inl some ↦ elim (cases_Bool (is_bad bytes)) [
+        | inl bad ↦ absurd (some_fault Cause.PackageLength at (sym (at_bad n at bytes some bad) ∙ none))
+        | inr good ↦ elim (cases_eq (package_type bytes) END_PACKAGE) [
+          | inl end ↦ elim (cases_lt 4 (length bytes)) [
+            | inl more ↦ absurd (some_fault Cause.AfterEnd (at + 4) (sym (at_end n at bytes more good end) ∙ none))
+            | inr last ↦ (
+                let g = is_good bytes good in
+                let is : IsCut bytes [] = record { each = tt; whole = end_where bytes (omega (arith, last, g.header)) (g.end end) end } in
+                subst (IsCut bytes) (sym (none_at_end (suc n) at bytes end)) is)
+          ]
+          | inr other ↦ (
+              let size = package_length bytes in
+              let rest = cut n (at + size) (left bytes) (sym (at_whole n at bytes some good other) ∙ none) in
+              let is : IsCut bytes (front at bytes ∷ packages_from n (at + size) (left bytes)) = record {
+                each = (front_package bytes good other, rest.each);
+                whole = sym (take-append-drop size bytes)
+                    ∙ ap (λ (b : List ℕ). take size bytes ++ b) rest.whole
+                    ∙ sym (append_assoc (take size bytes) (concat (map bytes_of (packages_from n (at + size) (left bytes)))) end_package);
+              } in
+              subst (IsCut bytes) (sym (one_at_whole n at bytes good other)) is)
+        ]
+      ]
+    ]
+
+pub spelled_where_sound : (list : List ℕ) → list_faults list ≡ [] → SpellsPackages list (map bytes_of (packages_of list))
+spelled_where_sound list none =
+    let h = has_header list none in
+    let is = cut (length list) 20 (body list) (sym (behind_header list h) ∙ none) in
+    let ps = map bytes_of (packages_of list) in
+    let whole : body list ≡ concat ps ++ end_package = is.whole in
+    let rest = drop (list_length list - 20) (drop 20 list) in
+    record {
+      each = is.each;
+      rest = rest;
+      whole = sym (take-append-drop (list_length list - 20) (drop 20 list))
+          ∙ ap (λ (b : List ℕ). b ++ rest) (sym (body_cut list h) ∙ whole)
+          ∙ append_assoc (concat ps) end_package rest;
+      list_length = omega (arith, body_length list h, ap length whole, length-append (concat ps) end_package, h.low);
+    }
+
+-- ---- where packages lie
+
 placed_lie : (list tail : List ℕ) (ps : List (List ℕ)) (place : ℕ) → drop place list ≡ concat ps ++ tail → AllByRecursion (LiesIn list) (placed place ps)
 placed_lie list tail [] place stand = tt
 placed_lie list tail (p ∷ ps) place stand =
     let size : place + length p - place ≡ length p = omega arith in
-    let front : drop place list ≡ p ++ (concat ps ++ tail) = stand ∙ append_assoc p (concat ps) tail in
-    let here : take (length p) (drop place list) ≡ p = ap (take (length p)) front ∙ take_at p (concat ps ++ tail) (length p) refl in
-    let next : drop (place + length p) list ≡ concat ps ++ tail = sym (drop-drop (length p) place list) ∙ ap (drop (length p)) front ∙ drop_at p (concat ps ++ tail) (length p) refl in
-    ((ap (λ n. take n (drop place list)) size ∙ here, refl), placed_lie list tail ps (place + length p) next)
+    let first : drop place list ≡ p ++ (concat ps ++ tail) = stand ∙ append_assoc p (concat ps) tail in
+    let here : take (length p) (drop place list) ≡ p = ap (take (length p)) first ∙ take_at p (concat ps ++ tail) (length p) refl in
+    let next : drop (place + length p) list ≡ concat ps ++ tail = sym (drop-drop (length p) place list) ∙ ap (drop (length p)) first ∙ drop_at p (concat ps ++ tail) (length p) refl in
+    ((ap (λ (n : ℕ). take n (drop place list)) size ∙ here, refl), placed_lie list tail ps (place + length p) next)
 
--- the packages that a list spells lie at their places
-pub spelled_lie : (list : List ℕ) (ps : List (List ℕ)) → SpellsPackages list ps → AllByRecursion (LiesIn list) (entries ps)
-spelled_lie list ps s = placed_lie list (end_package ++ s.rest) ps 20 s.whole
+pub read_lie : (list : List ℕ) → list_faults list ≡ [] → AllByRecursion (LiesIn list) (packages_of list)
+read_lie list none =
+    let s = spelled_where_sound list none in
+    let ps = map bytes_of (packages_of list) in
+    subst (AllByRecursion (LiesIn list)) (sym (spelled_read list ps s)) (placed_lie list (end_package ++ s.rest) ps 20 s.whole)

@@ -1,3 +1,3 @@
 -- How structs, iterators and tables of the code are seen. No module outside of this folder and of laws cites one of it.
-pub mod Ends
 pub mod Package
+pub mod Sound

@@ -1,47 +1,49 @@
 //! A list of packages, read from its bytes.
 
-ghost use Rattle.std.specs.Prelude.{◌≡◌, ◌+◌, ◌^◌, ◌<◌, ◌≤◌, ℕ, List, length, IfOk, IfErr, IsOk, Some, None};
-ghost use Rattle.hii_bytes.specs.Faults.{IsLeast};
-ghost use Rattle.hii_packages.specs.Packages.{SpellsPackages, entries, nth_forms, device_path_of};
-ghost use Rattle.hii_packages.specs.code.Package.{entry_of};
-ghost use Rattle.hii_packages.specs.Faults.{list_length, IsListFault, IsFormsFault, HasHeader};
-ghost use Rattle.hii_packages.specs.code.Ends.{EndsAt};
+ghost use Rattle.std.specs.Prelude.{◌≡◌, ◌+◌, ◌^◌, ◌<◌, [], true, false, length, IfOk, IfErr, IsOk, Some, None, MatchOption};
+ghost use Rattle.browser_rules.specs.Faults.{fault_at, faults_of_packages, list_faults, number_faults};
+ghost use Rattle.browser_rules.specs.Packages.{device_path, forms_package, is_bad, package_length};
+ghost use Rattle.hii_bytes.specs.Causes.{cause_for};
+ghost use Rattle.hii_bytes.specs.Faults.{IsLeastAmong};
+ghost use Rattle.hii_packages.specs.Packages.{packages_of};
+ghost use Rattle.hii_packages.specs.code.Package.{package_of};
 
 use crate::package::{DEVICE_PATH, END, FORMS, Package};
 use crate::packages::Packages;
 use hii_bytes::{Cause, Fault, u24_at, u32_at};
 use std::marker::Model;
 
-/// The packages of a list, seen as their bytes in order.
+/// The packages of a list, seen as the bytes of the list.
 #[derive(Drop)]
 pub struct PackageList<'a> {
-    body: &'a [u8],
+    list: &'a [u8],
+    // the length that the list tells
+    size: usize,
 }
 
 impl<'a> Model for PackageList<'a> {
-    ghost use Rattle.std.specs.Prelude.{ℕ, List, ◌+◌, ◌<◌, ◌^◌, length};
-    ghost use Rattle.hii_packages.specs.Packages.{pieces_of};
-    ghost use Rattle.hii_packages.specs.code.Ends.{ArePackages};
+    ghost use Rattle.std.specs.Prelude.{ℕ, List};
+    ghost use Rattle.hii_packages.specs.code.Sound.{IsSound};
 
-    ghost Value = { List (List ℕ) };
+    ghost Value = { List ℕ };
 
-    ghost view = { λ s. pieces_of s.body.now };
+    ghost view = { λ s. s.list.now };
 
-    ghost invariant = { λ s. ArePackages s.body.now × (20 + length s.body.now < 2 ^ 64) };
+    ghost invariant = { λ s. IsSound s.list.now s.size };
 }
 
 impl<'a> PackageList<'a> {
-    /// The packages that the bytes spell (UEFI 2.8, 33.3.1), or the least fault, at its place in bytes from the first one:
-    /// ListShort at 0 where there are fewer than 20, ListLength at 16 where the list's own length is below 20 or above
-    /// their number, PackageLength at a package whose header is cut or whose length is below 4, passes the list's or is not
-    /// 4 at the end package, NoEnd at the list's end where no end package came, AfterEnd behind an end package that comes
+    /// The packages of a list (UEFI 2.8, 33.3.1), or the least fault, at its place in bytes from the first one: ListShort
+    /// at 0 where there are fewer than 20, ListLength at 16 where the list's own length is below 20 or above their
+    /// number, PackageLength at a package whose header is cut or whose length is below 4, passes the list's or is not 4
+    /// at the end package, NoEnd at the list's end where no end package came, AfterEnd behind an end package that comes
     /// before it. Bytes behind the list's own length are not looked at (own rule).
     pub fn read(list: &'a [u8]) -> Result<PackageList<'a>, Fault>
-        ensures spelled { IfOk result (λ packages. SpellsPackages list.now packages) }
-        ensures refused { IfErr result (IsLeast (IsListFault list.now)) }
-        // Where the bytes spell packages, they are read.
-        ensures accepted { (packages : List (List ℕ)) → SpellsPackages list.now packages
-            → IsOk result }
+        ensures read { IfOk result (λ packages. packages ≡ list.now) }
+        ensures sound { IfOk result (λ _. list_faults list.now ≡ []) }
+        ensures refused { IfErr result (IsLeastAmong (list_faults list.now)) }
+        // A list without a fault is read.
+        ensures accepted { list_faults list.now ≡ [] → IsOk result }
     {
         if list.len() < 20 {
             return Err(Fault::at(Cause::ListShort, 0));
@@ -50,29 +52,25 @@ impl<'a> PackageList<'a> {
         if size < 20 || list.len() < size {
             return Err(Fault::at(Cause::ListLength, 16));
         }
-        let end = end_place(list, size)?;
-        Ok(PackageList {
-            body: &list[20..end],
-        })
+        check_packages(&list[20..size], 20)?;
+        Ok(PackageList { list, size })
     }
 
     /// The packages in order, without the end package. Their places are in bytes from the list's first byte.
     pub fn packages(&self) -> Packages<'a>
-        ensures all { result ≡ entries self.now }
+        ensures all { result ≡ packages_of self.now }
         ensures few { length result < 2 ^ 62 }
     {
-        Packages::from(self.body, 20)
+        Packages::from(&self.list[20..self.size], 20)
     }
 
     /// The forms package of a number (UEFI 2.8, 33.3.8 Forms Package), counted from 1 in the order of the list, or
     /// NoForms at the place 0 where none has it, as none has the number 0.
     pub fn forms(&self, n: usize) -> Result<Package<'a>, Fault>
-        ensures found { IfOk result (λ found. nth_forms self.now n ≡ Some (entry_of found)) }
-        ensures missing { IfErr result (λ fault. (nth_forms self.now n ≡ None)
+        ensures found { IfOk result (λ found. forms_package self.now n ≡ Some (package_of found)) }
+        ensures missing { IfErr result (λ fault. (forms_package self.now n ≡ None)
             × (fault ≡ record { cause = Cause.NoForms; place = 0 })) }
-        // Of the bytes that spell these packages it is the least fault.
-        ensures refused { IfErr result (λ fault. (list : List ℕ) → SpellsPackages list self.now
-            → IsLeast (IsFormsFault list n) fault) }
+        ensures refused { IfErr result (IsLeastAmong (number_faults self.now n)) }
     {
         let missing = Fault::at(Cause::NoForms, 0);
         if n == 0 {
@@ -92,7 +90,7 @@ impl<'a> PackageList<'a> {
 
     /// The body of the first package that tells a device path (UEFI 2.8, 33.3.4 Device Path Package), or no bytes.
     pub fn device_path(&self) -> &'a [u8]
-        ensures { result.now ≡ device_path_of self.now }
+        ensures { result.now ≡ device_path self.now }
     {
         for found in self.packages() {
             if found.kind == DEVICE_PATH {
@@ -103,32 +101,42 @@ impl<'a> PackageList<'a> {
     }
 }
 
-// The place of the end package of a list of this size.
-fn end_place(list: &[u8], size: usize) -> Result<usize, Fault>
-    requires header { HasHeader list.now }
-    requires told { size ≡ list_length list.now }
-    ensures end { IfOk result (EndsAt list.now) }
-    ensures behind { IfOk result (λ end. 20 ≤ end) }
-    ensures before { IfOk result (λ end. end + 4 ≤ length list.now) }
-    ensures fault { IfErr result (λ fault. IsListFault list.now fault.cause fault.place) }
+// The length of the package at the front of bytes, if a whole one stands there.
+fn whole_length(bytes: &[u8]) -> Option<usize>
+    ensures { MatchOption result (is_bad bytes.now ≡ true)
+        (λ size. (is_bad bytes.now ≡ false) × (size ≡ package_length bytes.now)) }
 {
-    let mut place = 20;
-    while place < size {
-        if size - place < 4 {
-            return Err(Fault::at(Cause::PackageLength, place as u64));
-        }
-        let length = u24_at(list, place).unwrap() as usize;
-        let kind = list[place + 3];
-        if length < 4 || size - place < length || (kind == END && length != 4) {
-            return Err(Fault::at(Cause::PackageLength, place as u64));
-        }
-        if kind == END {
-            if place + 4 < size {
-                return Err(Fault::at(Cause::AfterEnd, place as u64 + 4));
-            }
-            return Ok(place);
-        }
-        place += length;
+    if bytes.len() < 4 {
+        return None;
     }
-    Err(Fault::at(Cause::NoEnd, place as u64))
+    let length = u24_at(bytes, 0).unwrap() as usize;
+    if length < 4 || bytes.len() < length || (bytes[3] == END && length != 4) {
+        return None;
+    }
+    Some(length)
+}
+
+// The fault of bytes that are to be packages and the end package, of which the first stands at this place.
+fn check_packages(packages: &[u8], place: u64) -> Result<(), Fault>
+    requires { place + length packages.now < 2 ^ 64 }
+    ensures sound { IfOk result (λ _. faults_of_packages (length packages.now) place packages.now ≡ []) }
+    ensures fault { IfErr result (λ fault. faults_of_packages (length packages.now) place packages.now
+        ≡ fault_at (cause_for fault.cause) fault.place) }
+{
+    let mut rest = packages;
+    let mut at = place;
+    while !rest.is_empty() {
+        let Some(size) = whole_length(rest) else {
+            return Err(Fault::at(Cause::PackageLength, at));
+        };
+        if rest[3] == END {
+            if rest.len() > 4 {
+                return Err(Fault::at(Cause::AfterEnd, at + 4));
+            }
+            return Ok(());
+        }
+        rest = &rest[size..];
+        at += size as u64;
+    }
+    Err(Fault::at(Cause::NoEnd, at))
 }

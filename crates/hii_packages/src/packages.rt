@@ -1,75 +1,73 @@
 //! The packages of a list, one after the other.
 
-ghost use Rattle.std.specs.Prelude.{◌≡◌, ◌+◌, ◌<◌, ◌^◌, ◌++◌, ◌∷◌, length};
-ghost use Rattle.hii_packages.specs.Packages.{IsPackage, placed, pieces_of};
-ghost use Rattle.hii_packages.specs.code.Ends.{ArePackages};
+ghost use Rattle.std.specs.Prelude.{◌≡◌, ◌<◌, ◌^◌, false, length, take, drop};
+ghost use Rattle.browser_rules.specs.Packages.{is_bad, package_length, packages_from};
+ghost use Rattle.hii_packages.specs.code.Sound.{AreWhole};
 
-use crate::package::Package;
+use crate::package::{END, Package};
 use hii_bytes::u24_at;
 use std::marker::Model;
 
-/// The packages that are left of a list, seen as a list of entries.
+/// The packages that are left of a list, seen as these in order.
 #[derive(Drop)]
 pub struct Packages<'a> {
+    // the packages and the end package
     rest: &'a [u8],
     place: u64,
 }
 
 impl<'a> Model for Packages<'a> {
-    ghost use Rattle.std.specs.Prelude.{List, ◌+◌, ◌<◌, ◌^◌, length};
-    ghost use Rattle.hii_packages.specs.Packages.{Entry, placed, pieces_of};
-    ghost use Rattle.hii_packages.specs.code.Ends.{ArePackages};
+    ghost use Rattle.std.specs.Prelude.{List, length};
+    ghost use Rattle.browser_rules.specs.Packages as chapter;
+    ghost use Rattle.hii_packages.specs.code.Sound.{AreWhole};
 
-    ghost Value = { List Entry };
+    ghost Value = { List chapter.Package };
 
-    ghost view = { λ s. placed s.place (pieces_of s.rest.now) };
+    ghost view = { λ s. chapter.packages_from (length s.rest.now) s.place s.rest.now };
 
-    ghost invariant = { λ s. ArePackages s.rest.now × (s.place + length s.rest.now < 2 ^ 64) };
+    ghost invariant = { λ s. AreWhole s.place s.rest.now };
 }
 
 impl<'a> Packages<'a> {
-    // The packages that these bytes are, of which the first has this place in the list.
+    // The packages up to the end package with which these bytes end, of which the first has this place in the list.
     pub(crate) fn from(rest: &'a [u8], place: u64) -> Packages<'a>
-        requires packages { ArePackages rest.now }
-        requires in_list { place + length rest.now < 2 ^ 64 }
-        ensures { result ≡ placed place (pieces_of rest.entry.now) }
+        requires { AreWhole place rest.now }
+        ensures { result ≡ packages_from (length rest.entry.now) place rest.entry.now }
     {
         Packages { rest, place }
     }
 }
 
-// The first of some packages, and the bytes after it.
-fn split_first(rest: &[u8]) -> (&[u8], &[u8])
-    requires packages { ArePackages rest.now }
-    requires some { 0 < length rest.now }
-    ensures first { IsPackage result.0.now }
+// The package at the front of bytes, and the bytes behind it.
+fn split_first(bytes: &[u8]) -> (&[u8], &[u8])
+    requires { is_bad bytes.now ≡ false }
+    ensures first { result.0.now ≡ take (package_length bytes.now) bytes.now }
+    ensures behind { result.1.now ≡ drop (package_length bytes.now) bytes.now }
     ensures small { length result.0.now < 2 ^ 24 }
-    ensures after { ArePackages result.1.now }
-    ensures whole { rest.now ≡ result.0.now ++ result.1.now }
-    ensures pieces { pieces_of rest.now ≡ result.0.now ∷ pieces_of result.1.now }
 {
-    let size = u24_at(rest, 0).unwrap() as usize;
-    rest.split_at(size)
+    let size = u24_at(bytes, 0).unwrap() as usize;
+    bytes.split_at(size)
 }
 
 impl<'a> Iterator for Packages<'a> {
     ghost use Rattle.std.specs.Iterator.{YieldsFirstBy, item_count};
-    ghost use Rattle.hii_packages.specs.code.Package.{entry_of};
+    ghost use Rattle.hii_packages.specs.code.Package.{package_of};
 
     type Item = Package<'a>;
 
-    ghost next_gives = { YieldsFirstBy entry_of (λ left. left) };
+    ghost next_gives = { YieldsFirstBy package_of (λ left. left) };
 
     ghost remaining = { item_count (λ left. left) };
 
     fn next(&mut self) -> Option<Package<'a>> {
-        if self.rest.is_empty() {
+        let kind = self.rest[3];
+        if kind == END {
             return None;
         }
         let (bytes, rest) = split_first(self.rest);
         let package = Package {
             place: self.place,
-            kind: bytes[3],
+            kind,
             bytes,
         };
         self.place += bytes.len() as u64;

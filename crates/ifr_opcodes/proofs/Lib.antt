@@ -2,6 +2,7 @@ pub mod OpcodeLemmas
 pub mod ForestLemmas
 pub mod FieldLemmas
 pub mod TableLemmas
+pub mod ColumnLemmas
 pub mod RowLemmas
 pub mod SizeLemmas
 pub mod StatementLemmas

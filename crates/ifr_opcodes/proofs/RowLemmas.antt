@@ -1,13 +1,13 @@
--- The rows know the opcodes that the tables list, refuse the same of them, and have the same operators and statements.
+-- The rows refuse the same opcodes as the code, and have the operators that the tables list.
 use Rattle.std.proofs.Common.{◌≡◌, ◌==◌, ◌≤◌, ℕ, Bool, true, false, not, Option, Some, None, is_some, List, [], ◌∷◌, length, refl, sym, ap, ◌∙◌, map}
-use Rattle.std.specs.Prelude.{◌&&◌, ◌||◌, nat_lt, nat_le, if◌then◌else◌, slice_index}
-use Rattle.std.proofs.lemmas.Bool.{and_from, and_parts, eqb-true, le-leb, ltb-false, not-true, or_from, or_parts, or_right, eq-eqb, ne_eqb, not-false, not_from_true, not_from_false, false≢true}
-use Rattle.browser_rules.specs.Opcodes.{Row, row_of, is_a, an_operator}
+use Rattle.std.specs.Prelude.{◌&&◌, ◌||◌, nat_lt, nat_le, if◌then◌else◌, slice_index, option_map, unwrap_or}
+use Rattle.std.proofs.lemmas.Bool.{and_from, and_parts, eqb-true, le-leb, ltb-false, not-true, or_from, or_parts, eq-eqb, ne_eqb, not-false, not_from_true, not_from_false, false≢true}
+use Rattle.browser_rules.specs.Opcodes.{Row, row_of, is_a, an_operator, no_operator}
 use Rattle.browser_rules.specs.Words.{is_among, is_some_and}
 use Rattle.ifr_opcodes.specs.Opcode.{number, has_scope}
 use Rattle.ifr_opcodes.specs.OptionFields.{option_kind, default_kind}
-use Rattle.ifr_opcodes.specs.Rows.{is_question_number, is_statement_number, operands, is_operator, is_listed, is_left_out, is_outside, is_row}
-use Rattle.ifr_opcodes.specs.code.Tables.{plain_statements, questions_without_options, questions_with_options, is_among_questions, is_among_statements, without_operands, with_one_operand, with_two_operands, operands_among, others}
+use Rattle.ifr_opcodes.specs.Rows.{operands_of, operands, is_operator, is_listed, is_left_out, is_outside, is_row}
+use Rattle.ifr_opcodes.specs.code.Tables.{without_operands, with_one_operand, with_two_operands, operands_among}
 use Rattle.ifr_opcodes.specs.declared.codes.TheConstants.{GUID, VARSTORE_EFI, ONE_OF_OPTION, DEFAULT}
 use Rattle.ifr_opcodes.proofs.FieldLemmas.{number_of_byte}
 use Rattle.ifr_opcodes.proofs.TableLemmas.{numbers, agree, not_this, not_among}
@@ -35,17 +35,6 @@ operator_in_rows = refl
 
 pub operator_same : (code : ℕ) → is_a an_operator (code ∷ []) ≡ is_operator code
 operator_same code = agree (λ c. is_a an_operator (c ∷ [])) is_operator operator_in_rows (λ c none. rw (none, none_takes c none) refl) code
-
--- ---- which are known
-
-known_in_rows : map is_listed numbers ≡ map (λ c. is_among c others || is_operator c) numbers
-unfolding operands row_of
-known_in_rows = refl
-
-pub known : (code : ℕ) → is_listed code ≡ is_among code others || is_operator code
-known code =
-    agree is_listed (λ c. is_among c others || is_operator c) known_in_rows
-    (λ c none. rw (none, not_among others c refl none, none_takes c none) refl) code
 
 -- ---- which are refused
 
@@ -130,34 +119,17 @@ plain : (is_operator GUID ≡ false) × (is_operator VARSTORE_EFI ≡ false) × 
 unfolding operands row_of
 plain = (refl, refl, refl, refl)
 
+operator_known : (code : ℕ) → is_operator code ≡ true → is_listed code ≡ true
+unfolding operands
+operator_known code is = go (row_of code) is
+  where
+    go : (o : Option Row) → is_some (operands_of (unwrap_or (option_map (λ r. r.sense) o) no_operator)) ≡ true → is_some o ≡ true
+    go None e = e
+    go (Some r) e = refl
+
 pub operator_inside : (op : List ℕ) → is_operator (number op) ≡ true → is_outside op ≡ false
 operator_inside op is =
-    let there : is_listed (number op) ≡ true = known (number op) ∙ or_right (is_among (number op) others) (is_operator (number op)) is in
+    let there : is_listed (number op) ≡ true = operator_known (number op) is in
     let stays : is_left_out op ≡ false =
     refused op ∙ rw (other (number op) GUID plain.0 is, other (number op) VARSTORE_EFI plain.1 is, other (number op) ONE_OF_OPTION plain.2 is, other (number op) DEFAULT plain.3 is) refl in
     inside op there stays
-
--- ---- statements and questions
-
-questions_in_rows : map is_question_number numbers ≡ map is_among_questions numbers
-unfolding row_of is_question_number
-questions_in_rows = refl
-
-none_asks : (code : ℕ) → row_of code ≡ None → is_question_number code ≡ is_among_questions code
-unfolding is_question_number
-none_asks code none = rw (none, not_among questions_without_options code refl none, not_among questions_with_options code refl none) refl
-
-pub asks : (code : ℕ) → is_question_number code ≡ is_among_questions code
-asks code = agree is_question_number is_among_questions questions_in_rows none_asks code
-
-statements_in_rows : map is_statement_number numbers ≡ map is_among_statements numbers
-unfolding row_of is_statement_number
-statements_in_rows = refl
-
-none_states : (code : ℕ) → row_of code ≡ None → is_statement_number code ≡ is_among_statements code
-unfolding is_statement_number
-none_states code none =
-    rw (none, not_among plain_statements code refl none, not_among questions_without_options code refl none, not_among questions_with_options code refl none) refl
-
-pub states : (code : ℕ) → is_statement_number code ≡ is_among_statements code
-states code = agree is_statement_number is_among_statements statements_in_rows none_states code

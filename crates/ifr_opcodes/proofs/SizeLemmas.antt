@@ -1,18 +1,18 @@
 -- The rows want as many bytes of each opcode as the code asks for.
-use Rattle.std.proofs.Common.{◌≡◌, ◌==◌, ℕ, zero, suc, ◌+◌, ◌*◌, ◌^◌, ◌≤◌, ◌<◌, Bool, true, false, cond, Option, Some, None, is_some, List, [], ◌∷◌, length, refl, sym, ap, ◌∙◌, map, arith, inl, inr}
+use Rattle.std.proofs.Common.{◌≡◌, ◌==◌, ℕ, zero, suc, ◌+◌, ◌*◌, ◌^◌, ◌≤◌, ◌<◌, Bool, true, false, cond, Option, Some, None, is_some, List, [], ◌∷◌, length, refl, sym, ap, ◌∙◌, map, arith, add-zero, inl, inr}
 use Rattle.std.specs.Prelude.{◌&&◌, ◌||◌, nat_lt, if◌then◌else◌, bit_and}
+use Rattle.std.specs.List.{find}
 use Rattle.std.proofs.lemmas.Bool.{cases_Bool, lt-ltb, le-ltb, ltb-true, ltb-false, false≢true}
 use Rattle.std.proofs.lemmas.Nat.{and_le_r}
-use Rattle.browser_rules.specs.Opcodes.{Row, row_of, number_width, type_width}
-use Rattle.browser_rules.specs.Words.{is_among}
+use Rattle.browser_rules.specs.Opcodes.{Row, rows, row_of, number_width, type_width}
 use Rattle.ifr_opcodes.specs.StoreFields.{varstore_name, varstore_efi_name}
 use Rattle.ifr_opcodes.specs.QuestionFields.{numeric_flags}
 use Rattle.ifr_opcodes.specs.OptionFields.{option_kind, default_kind}
 use Rattle.ifr_opcodes.specs.ExpressionFields.{eq_id_val_list_count}
 use Rattle.ifr_opcodes.specs.Rows.{is_listed, is_short}
-use Rattle.ifr_opcodes.specs.code.Tables.{bytes_in, fixed_rows, row_length, least_length}
+use Rattle.ifr_opcodes.specs.code.Tables.{fields_in, fields_length, row_length, least_length}
 use Rattle.ifr_opcodes.specs.declared.codes.TheConstants.{VARSTORE, VARSTORE_EFI, NUMERIC, ONE_OF, ONE_OF_OPTION, DEFAULT, EQ_ID_VAL_LIST}
-use Rattle.ifr_opcodes.proofs.TableLemmas.{numbers, agree, not_this, not_among}
+use Rattle.ifr_opcodes.proofs.TableLemmas.{numbers, agree, not_this}
 
 -- ---- widths
 
@@ -69,7 +69,7 @@ asked op code =
     else (if code == ONE_OF_OPTION then behind op 6 (type_width (option_kind op))
     else (if code == DEFAULT then behind op 5 (type_width (default_kind op))
     else (if code == EQ_ID_VAL_LIST then behind op 6 (2 * eq_id_val_list_count op)
-    else behind op (bytes_in fixed_rows code) 0)))))
+    else behind op (fields_length code) 0)))))
 
 either : (f : ℕ → Bool) (b : Bool) (x x' y y' : ℕ) → f x ≡ f x' → f y ≡ f y' → f (cond b x y) ≡ f (cond b x' y')
 either f true x x' y y' here there = here
@@ -83,7 +83,7 @@ asked_same op code =
     let f : ℕ → Bool = λ n. nat_lt long n in
     let store : 22 + (length (varstore_name op) + 1) ≡ 23 + length (varstore_name op) = omega arith in
     let efi : 26 + (length (varstore_efi_name op) + 1) ≡ 27 + length (varstore_efi_name op) = omega arith in
-    let fixed : bytes_in fixed_rows code + 0 ≡ bytes_in fixed_rows code = omega arith in
+    let fixed : fields_length code + 0 ≡ fields_length code = add-zero (fields_length code) in
     either f (code == VARSTORE) _ _ _ _ (short_behind long 22 _ ∙ ap f store)
     (either f (code == VARSTORE_EFI) _ _ _ _ (short_behind long 26 _ ∙ ap f efi)
     (either f (code == NUMERIC || code == ONE_OF) _ _ _ _
@@ -94,7 +94,7 @@ asked_same op code =
     (short_behind long 5 _ ∙ sym (short_or long 5 (type_width (default_kind op))))
     (either f (code == EQ_ID_VAL_LIST) _ _ _ _
     (short_behind long 6 _ ∙ sym (short_or long 6 (2 * eq_id_val_list_count op)))
-    (short_behind long (bytes_in fixed_rows code) 0 ∙ ap f fixed))))))
+    (short_behind long (fields_length code) 0 ∙ ap f fixed))))))
 
 short_in_rows : (rest : List ℕ) → map (λ c. is_short (c ∷ rest)) numbers ≡ map (λ c. is_listed c && nat_lt (length (c ∷ rest)) (asked (c ∷ rest) c)) numbers
 unfolding row_of asked behind
@@ -111,17 +111,21 @@ known_short code rest =
 
 -- ---- of an opcode that is not known two bytes are asked for
 
-bytes_none : (table : List (ℕ × ℕ)) (code : ℕ) → is_among code (map (λ r. r.0) table) ≡ false → bytes_in table code ≡ 2
-bytes_none [] code none = refl
-bytes_none (r ∷ table) code none = elim (cases_Bool (r.0 == code)) [
-  | inl here ↦ absurd (false≢true (sym none ∙ rw here refl))
-  | inr other ↦ rw other (bytes_none table code (sym (ap (λ (b : Bool). b || is_among code (map (λ r. r.0) table)) other) ∙ none))
+none_in : (table : List Row) (code : ℕ) → find (λ r. r.number == code) table ≡ None → fields_in table code ≡ 2
+none_in [] code none = refl
+none_in (r ∷ table) code none = elim (cases_Bool (r.number == code)) [
+  | inl here ↦ absurd (let found = rw here at none in cc)
+  | inr other ↦ rw other (none_in table code (rw other at none))
 ]
+
+none_fields : (code : ℕ) → row_of code ≡ None → fields_length code ≡ 2
+unfolding row_of
+none_fields code none = none_in rows code none
 
 none_wants : (op : List ℕ) (code : ℕ) → row_of code ≡ None → row_length code op ≡ 2
 none_wants op code none =
     rw (not_this VARSTORE code refl none, not_this VARSTORE_EFI code refl none, not_this NUMERIC code refl none, not_this ONE_OF code refl none, not_this ONE_OF_OPTION code refl none, not_this DEFAULT code refl none, not_this EQ_ID_VAL_LIST code refl none)
-    (bytes_none fixed_rows code (not_among (map (λ r. r.0) fixed_rows) code refl none))
+    (none_fields code none)
 
 no_row : (o : Option Row) → is_some o ≡ false → o ≡ None
 no_row None e = refl

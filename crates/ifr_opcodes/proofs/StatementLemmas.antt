@@ -1,38 +1,44 @@
 -- The opcodes of statements and questions are long enough for what they share.
-use Rattle.std.proofs.Common.{◌≡◌, ℕ, ◌+◌, ◌*◌, ◌≤◌, Bool, true, cond, ltb, leb, List, length, refl, sym, ap, ◌∙◌, arith, inl, inr}
-use Rattle.std.specs.Prelude.{◌||◌}
-use Rattle.std.proofs.lemmas.Bool.{cases_Bool, leb-true, le-leb}
-use Rattle.browser_rules.specs.Opcodes.{number_width}
-use Rattle.browser_rules.specs.Words.{is_among}
+use Rattle.std.proofs.Common.{◌≡◌, ℕ, ◌+◌, ◌*◌, ◌≤◌, true, false, cond, ltb, leb, None, List, [], ◌∷◌, length, map, refl, arith, inl, inr}
+use Rattle.std.specs.Prelude.{◌||◌, not}
+use Rattle.std.proofs.lemmas.Bool.{cases_Bool, leb-true, le-leb, or_right}
+use Rattle.browser_rules.specs.Opcodes.{row_of, is_a, a_question, a_statement, number_width}
 use Rattle.ifr_opcodes.specs.QuestionFields.{numeric_flags}
 use Rattle.ifr_opcodes.specs.Rows.{is_question_number, is_statement_number}
-use Rattle.ifr_opcodes.specs.code.Tables.{plain_statements, questions_without_options, questions_with_options, is_among_questions, row_length}
-use Rattle.ifr_opcodes.proofs.RowLemmas.{asks, states}
-use Rattle.ifr_opcodes.proofs.TableLemmas.{of_each}
+use Rattle.ifr_opcodes.specs.code.Tables.{row_length}
+use Rattle.ifr_opcodes.proofs.TableLemmas.{numbers, of_kind}
 
 -- a question is a statement
 pub question_is_statement : (code : ℕ) → is_question_number code ≡ true → is_statement_number code ≡ true
-question_is_statement code is = states code ∙ elim (cases_Bool (is_among code plain_statements)) [
-  | inl plain ↦ ap (λ (b : Bool). b || is_among_questions code) plain
-  | inr other ↦ ap (λ (b : Bool). b || is_among_questions code) other ∙ sym (asks code) ∙ is
+unfolding is_question_number is_statement_number
+question_is_statement code is = or_right (is_a a_statement (code ∷ [])) (is_a a_question (code ∷ [])) is
+
+numeric_long : (least : ℕ) (op : List ℕ) → least ≤ 14 → leb least (cond (ltb (length op) 14) 14 (14 + 3 * number_width (numeric_flags op))) ≡ true
+numeric_long least op few = elim (cases_Bool (ltb (length op) 14)) [
+  | inl short ↦ rw short (le-leb least 14 few)
+  | inr long ↦ rw long (le-leb least (14 + 3 * number_width (numeric_flags op)) (omega arith))
 ]
-
-numeric_long : (op : List ℕ) → leb 13 (cond (ltb (length op) 14) 14 (14 + 3 * number_width (numeric_flags op))) ≡ true
-numeric_long op = elim (cases_Bool (ltb (length op) 14)) [ inl short ↦ rw short refl | inr long ↦ rw long (le-leb 13 (14 + 3 * number_width (numeric_flags op)) (omega arith)) ]
-
-among_questions : (op : List ℕ) (code : ℕ) → is_among_questions code ≡ true → 13 ≤ row_length code op
-among_questions op code is = leb-true 13 (row_length code op) (elim (cases_Bool (is_among code questions_without_options)) [
-  | inl without ↦ of_each (λ c. leb 13 (row_length c op)) questions_without_options code (rw (numeric_long op) refl) without
-  | inr other ↦ of_each (λ c. leb 13 (row_length c op)) questions_with_options code (rw (numeric_long op) refl) (ap (λ (b : Bool). b || is_among code questions_with_options) (sym other) ∙ is)
-])
 
 -- a question has the bytes of its header
+questions_long : (op : List ℕ) → map (λ c. not (is_question_number c) || leb 13 (row_length c op)) numbers ≡ map (λ c. true) numbers
+unfolding is_question_number row_of
+questions_long op = rw (numeric_long 13 op (omega arith)) refl
+
+pub none_asks : (code : ℕ) → row_of code ≡ None → is_question_number code ≡ false
+unfolding is_question_number
+none_asks code none = rw none refl
+
 pub question_row : (op : List ℕ) (code : ℕ) → is_question_number code ≡ true → 13 ≤ row_length code op
-question_row op code is = among_questions op code (sym (asks code) ∙ is)
+question_row op code is = leb-true 13 (row_length code op) (of_kind is_question_number (λ c. leb 13 (row_length c op)) (questions_long op) none_asks code is)
 
 -- and a statement
+statements_long : (op : List ℕ) → map (λ c. not (is_statement_number c) || leb 6 (row_length c op)) numbers ≡ map (λ c. true) numbers
+unfolding is_statement_number row_of
+statements_long op = rw (numeric_long 6 op (omega arith)) refl
+
+pub none_states : (code : ℕ) → row_of code ≡ None → is_statement_number code ≡ false
+unfolding is_statement_number
+none_states code none = rw none refl
+
 pub statement_row : (op : List ℕ) (code : ℕ) → is_statement_number code ≡ true → 6 ≤ row_length code op
-statement_row op code is = elim (cases_Bool (is_among code plain_statements)) [
-  | inl plain ↦ leb-true 6 (row_length code op) (of_each (λ c. leb 6 (row_length c op)) plain_statements code refl plain)
-  | inr other ↦ omega (arith, among_questions op code (ap (λ (b : Bool). b || is_among_questions code) (sym other) ∙ sym (states code) ∙ is))
-]
+statement_row op code is = leb-true 6 (row_length code op) (of_kind is_statement_number (λ c. leb 6 (row_length c op)) (statements_long op) none_states code is)

@@ -1,6 +1,6 @@
 -- What holds of the number of each row, and of a number without a row, holds of every number.
 use Rattle.std.proofs.Common.{◌≡◌, ◌==◌, ℕ, Bool, true, false, eqb, Option, None, is_some, List, [], ◌∷◌, map, refl, sym, ap, ◌∙◌, inl, inr}
-use Rattle.std.specs.Prelude.{◌&&◌, ◌||◌}
+use Rattle.std.specs.Prelude.{◌&&◌, ◌||◌, not}
 use Rattle.std.specs.List.{list_all, find}
 use Rattle.std.proofs.lemmas.Bool.{cases_Bool, eqb-true, ne_eqb, false≢true}
 use Rattle.browser_rules.specs.Opcodes.{Row, rows, row_of}
@@ -44,6 +44,21 @@ over_rows f g (r ∷ table) code same other = elim (cases_Bool (r.number == code
 pub agree : {A : Type 0} (f g : ℕ → A) → map f numbers ≡ map g numbers → ((code : ℕ) → row_of code ≡ None → f code ≡ g code) → (code : ℕ) → f code ≡ g code
 unfolding row_of
 agree f g same other code = over_rows f g rows code same (other code)
+
+-- what holds of the number of each row of a kind holds of each number of the kind
+pub of_kind : (is holds : ℕ → Bool) → map (λ c. not (is c) || holds c) numbers ≡ map (λ c. true) numbers → ((code : ℕ) → row_of code ≡ None → is code ≡ false)
+    → (code : ℕ) → is code ≡ true → holds code ≡ true
+of_kind is holds each none code it =
+    ap (λ (b : Bool). not b || holds code) (sym it)
+    ∙ agree (λ c. not (is c) || holds c) (λ c. true) each (λ c missing. ap (λ (b : Bool). not b || holds c) (none c missing)) code
+
+-- so a number with what none of a kind has is not of the kind
+pub not_of_kind : (is has : ℕ → Bool) → map (λ c. not (is c) || not (has c)) numbers ≡ map (λ c. true) numbers → ((code : ℕ) → row_of code ≡ None → is code ≡ false)
+    → (code : ℕ) → has code ≡ true → is code ≡ false
+not_of_kind is has each none code it = elim (cases_Bool (is code)) [
+  | inr other ↦ other
+  | inl e ↦ absurd (false≢true (ap not (sym it) ∙ of_kind is (λ c. not (has c)) each none code e))
+]
 
 -- A number without a row is none that has one.
 known_in : (table : List Row) (code : ℕ) → is_some (find (λ r. r.number == code) table) ≡ is_among code (map (λ r. r.number) table)

@@ -3,5 +3,6 @@ pub mod Codes
 pub mod Marks
 pub mod Ops
 pub mod Props
+pub mod Roles
 pub mod Tables
 pub mod Views

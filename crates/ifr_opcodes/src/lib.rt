@@ -4,6 +4,7 @@
 
 mod action;
 mod codes;
+mod columns;
 mod conditions;
 mod dates;
 mod default_op;
@@ -26,6 +27,7 @@ mod plain_statements;
 mod questions;
 mod ref_op;
 mod references;
+mod role;
 mod row_view;
 mod rows;
 mod split;

@@ -5,64 +5,21 @@ ghost use Rattle.browser_rules.specs.Words.{is_among};
 ghost use Rattle.ifr_opcodes.specs.ExpressionFields.{constants};
 ghost use Rattle.ifr_opcodes.specs.Rows as rows;
 ghost use Rattle.ifr_opcodes.specs.code.Codes.{constant_code, unary_code, binary_code};
-ghost use Rattle.ifr_opcodes.specs.code.Tables.{with_one_operand, with_two_operands, operands_among};
+ghost use Rattle.ifr_opcodes.specs.code.Tables.{with_one_operand, with_two_operands};
 
 use crate::codes::{
-    ADD, AND, BITWISE_AND, BITWISE_NOT, BITWISE_OR, DIVIDE, EQ_ID_ID, EQ_ID_VAL, EQ_ID_VAL_LIST,
-    EQUAL, FALSE, GREATER_EQUAL, GREATER_THAN, LESS_EQUAL, LESS_THAN, MODULO, MULTIPLY, NOT,
-    NOT_EQUAL, ONE, ONES, OR, QUESTION_REF1, RULE_REF, SHIFT_LEFT, SHIFT_RIGHT, SUBTRACT, THIS,
-    TRUE, UINT8, UINT16, UINT32, UINT64, UNDEFINED, ZERO,
+    ADD, AND, BITWISE_AND, BITWISE_NOT, BITWISE_OR, DIVIDE, EQUAL, FALSE, GREATER_EQUAL,
+    GREATER_THAN, LESS_EQUAL, LESS_THAN, MODULO, MULTIPLY, NOT, NOT_EQUAL, ONE, ONES, OR,
+    SHIFT_LEFT, SHIFT_RIGHT, SUBTRACT, TRUE, UNDEFINED, ZERO,
 };
+use crate::role::Role;
 
 /// How many operands the operator of a number takes, if it is one.
-#[tactic(auto, using(crate::proofs::RowLemmas::takes))]
+#[tactic(auto, using(crate::proofs::ColumnLemmas::operands_at))]
 pub fn operands(code: u8) -> Option<usize>
     ensures { result ≡ rows.operands code }
 {
-    listed_operands(code)
-}
-
-// The same, by the lists of those that take none, one and two.
-fn listed_operands(code: u8) -> Option<usize>
-    ensures { result ≡ operands_among code }
-{
-    match code {
-        EQ_ID_VAL
-        | EQ_ID_ID
-        | EQ_ID_VAL_LIST
-        | RULE_REF
-        | QUESTION_REF1
-        | UINT8
-        | UINT16
-        | UINT32
-        | UINT64
-        | TRUE
-        | FALSE
-        | ZERO
-        | ONE
-        | ONES
-        | UNDEFINED
-        | THIS => Some(0),
-        NOT | BITWISE_NOT => Some(1),
-        AND
-        | OR
-        | EQUAL
-        | NOT_EQUAL
-        | GREATER_THAN
-        | GREATER_EQUAL
-        | LESS_THAN
-        | LESS_EQUAL
-        | BITWISE_AND
-        | BITWISE_OR
-        | SHIFT_LEFT
-        | SHIFT_RIGHT
-        | ADD
-        | SUBTRACT
-        | MULTIPLY
-        | DIVIDE
-        | MODULO => Some(2),
-        _ => None,
-    }
+    Role::of(code).operands()
 }
 
 /// Whether this is the number of an operator.

@@ -3,27 +3,20 @@
 ghost use Rattle.std.specs.Prelude.{◌≡◌};
 ghost use Rattle.ifr_opcodes.specs.Rows as rows;
 
-use crate::codes::{
-    ACTION, CHECKBOX, DATE, NUMERIC, ONE_OF, ORDERED_LIST, PASSWORD, REF, RESET_BUTTON, STRING,
-    SUBTITLE, TEXT, TIME,
-};
+use crate::role::Role;
 
 /// Whether this is the number of a question.
-#[tactic(auto, using(crate::proofs::RowLemmas::asks))]
+#[tactic(auto, using(crate::proofs::ColumnLemmas::question_at))]
 pub fn is_question(code: u8) -> bool
     ensures { result ≡ rows.is_question_number code }
 {
-    match code {
-        CHECKBOX | NUMERIC | STRING | PASSWORD | DATE | TIME | ACTION | REF => true,
-        ONE_OF | ORDERED_LIST => true,
-        _ => false,
-    }
+    Role::of(code).is_question()
 }
 
 /// Whether this is the number of a statement.
-#[tactic(auto, using(crate::proofs::RowLemmas::states, crate::proofs::RowLemmas::asks))]
+#[tactic(auto, using(crate::proofs::ColumnLemmas::statement_at))]
 pub fn is_statement(code: u8) -> bool
     ensures { result ≡ rows.is_statement_number code }
 {
-    code == SUBTITLE || code == TEXT || code == RESET_BUTTON || is_question(code)
+    Role::of(code).is_statement()
 }

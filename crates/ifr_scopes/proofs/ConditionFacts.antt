@@ -1,5 +1,5 @@
 -- A condition of a checked package stands right in the scope of a question.
-use Rattle.std.proofs.Common.{◌≡◌, ℕ, Bool, true, false, eqb, Option, List, [], ◌∷◌, ◌++◌, refl, sym, ap, ◌∙◌, inl, inr}
+use Rattle.std.proofs.Common.{◌≡◌, ℕ, Bool, true, false, eqb, Option, List, [], ◌∷◌, ◌++◌, map, refl, sym, ap, ◌∙◌, inl, inr}
 use Rattle.std.specs.Prelude.{◌||◌, not, Contains, option_map, unwrap_or}
 use Rattle.std.specs.List.{list_all}
 use Rattle.std.proofs.lemmas.Bool.{cases_Bool, eqb-true, ne_eqb, false≢true}
@@ -7,6 +7,7 @@ use Rattle.ifr_opcodes.specs.declared.codes.TheConstants.{FORM_SET, VALUE, SUPPR
 use Rattle.ifr_opcodes.specs.Opcode.{number}
 use Rattle.ifr_opcodes.specs.Rows.{row_of, is_operator, operands, is_question_number, is_statement_number}
 use Rattle.ifr_opcodes.specs.Forest.{Mark, Ancestor, Node, as_ancestor, below}
+use Rattle.ifr_opcodes.proofs.TableLemmas.{numbers}
 use Rattle.ifr_scopes.specs.Checked.{IsChecked}
 use Rattle.ifr_scopes.specs.Guards.{is_guard, guards}
 use Rattle.ifr_scopes.specs.code.Tables.{parent_place, is_question_condition}
@@ -50,10 +51,13 @@ holds_condition c code is e = elim (cases_Bool (is_of_question c)) [
 ]
 
 -- a question has its number
+questions_open : map (λ c. not (is_of_question (class_of (row c))) || is_question_number c) numbers ≡ map (λ c. true) numbers
+unfolding row is_question_number row_of
+questions_open = refl
+
 question_class : (code : ℕ) → is_of_question (class_of (row code)) ≡ true → is_question_number code ≡ true
-unfolding is_question_number row_of
 question_class code e =
-    let one : not (is_of_question (class_of (row code))) || is_question_number code ≡ true = class_fact (λ c class. not (is_of_question class) || is_question_number c) (λ c. refl) (λ c. refl) refl code in
+    let one : not (is_of_question (class_of (row code))) || is_question_number code ≡ true = class_fact (λ c class. not (is_of_question class) || is_question_number c) questions_open (λ c. refl) code in
     ap (λ (b : Bool). not b || is_question_number code) (sym e) ∙ one
 
 -- a guard in the scope of a question with options covers options alone

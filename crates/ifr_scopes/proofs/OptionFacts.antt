@@ -1,5 +1,5 @@
 -- An option of a checked package stands in the scope of a question, with guards alone between them.
-use Rattle.std.proofs.Common.{◌≡◌, ◌⊎◌, ℕ, zero, suc, ◌+◌, ◌<◌, ◌≤◌, Bool, true, false, eqb, List, [], ◌∷◌, ◌++◌, append_assoc, length, refl, sym, ap, ◌∙◌, inl, inr, arith, length-append}
+use Rattle.std.proofs.Common.{◌≡◌, ◌⊎◌, ℕ, zero, suc, ◌+◌, ◌<◌, ◌≤◌, Bool, true, false, eqb, List, [], ◌∷◌, ◌++◌, append_assoc, length, map, refl, sym, ap, ◌∙◌, inl, inr, arith, length-append}
 use Rattle.std.specs.Prelude.{◌||◌, not, Contains}
 use Rattle.std.proofs.lemmas.Bool.{cases_Bool, cases_lt, eqb-true, false≢true}
 use Rattle.ifr_opcodes.specs.declared.codes.TheConstants.{FORM_SET, VALUE, ONE_OF_OPTION}
@@ -8,6 +8,7 @@ use Rattle.ifr_opcodes.specs.Rows.{row_of, is_operator, operands, is_question_nu
 use Rattle.ifr_opcodes.specs.Forest.{none, Ancestor, Node, as_ancestor, below}
 use Rattle.ifr_opcodes.specs.Reading.{tree_of}
 use Rattle.ifr_opcodes.proofs.ForestLemmas.{takes}
+use Rattle.ifr_opcodes.proofs.TableLemmas.{numbers}
 use Rattle.ifr_scopes.specs.Checked.{IsChecked}
 use Rattle.ifr_scopes.specs.Guards.{is_guard}
 use Rattle.ifr_scopes.specs.Kinds.{is_store_number, is_condition_number, is_ignored}
@@ -47,10 +48,13 @@ holds_option OfExpression e = absurd (false≢true e)
 holds_option OfNothing e = absurd (false≢true e)
 
 -- what is no guard and has such a scope is a question
+questions_open : map (λ c. not (is_of_options (class_of (row c))) || is_question_number c) numbers ≡ map (λ c. true) numbers
+unfolding row is_question_number row_of
+questions_open = refl
+
 options_class : (code : ℕ) → is_of_options (class_of (row code)) ≡ true → is_question_number code ≡ true
-unfolding is_question_number row_of
 options_class code e =
-    let one : not (is_of_options (class_of (row code))) || is_question_number code ≡ true = class_fact (λ c class. not (is_of_options class) || is_question_number c) (λ c. refl) (λ c. refl) refl code in
+    let one : not (is_of_options (class_of (row code))) || is_question_number code ≡ true = class_fact (λ c class. not (is_of_options class) || is_question_number c) questions_open (λ c. refl) code in
     ap (λ (b : Bool). not b || is_question_number code) (sym e) ∙ one
 
 guarded_options : (c : Class) → is_of_options (guarded c) ≡ true → is_of_options c ≡ true

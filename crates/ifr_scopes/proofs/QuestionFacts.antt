@@ -4,7 +4,7 @@ use Rattle.std.specs.Prelude.{Contains, ◌||◌}
 use Rattle.std.proofs.lemmas.Bool.{cases_Bool, ne_eqb, false≢true}
 use Rattle.ifr_opcodes.specs.declared.codes.TheConstants.{FORM}
 use Rattle.ifr_opcodes.specs.Opcode.{number}
-use Rattle.ifr_opcodes.specs.Rows.{is_among, is_question_number}
+use Rattle.ifr_opcodes.specs.Rows.{is_question_number}
 use Rattle.ifr_opcodes.specs.Forest.{Ancestor, Node, as_ancestor}
 use Rattle.ifr_scopes.specs.Checked.{IsChecked}
 use Rattle.ifr_scopes.specs.Guards.{is_guard}
@@ -13,20 +13,20 @@ use Rattle.ifr_scopes.specs.Structure.{parent, is_condition, begins_with_value, 
 use Rattle.ifr_scopes.specs.Table.{class_around}
 use Rattle.ifr_scopes.proofs.ClassLemmas.{class-guard, class-other}
 use Rattle.ifr_scopes.proofs.RuleFacts.{split_last, around_it, is_operator_there, is_value_there, held}
-use Rattle.ifr_scopes.proofs.TableLemmas.{is_inner, outer, inner_is_not_outer, guarded_inner, other_is_inner, question_is_inner, no_statement, operator_is_inner, value_is_inner, no_guard}
+use Rattle.ifr_scopes.proofs.TableLemmas.{is_inner, is_outer, inner_is_not_outer, guarded_inner, other_is_inner, question_is_inner, no_statement, operator_is_inner, value_is_inner, no_guard}
 use Rattle.ifr_opcodes.proofs.StatementLemmas.{question_is_statement}
 
 -- what begins a scope is no statement, nor does one stand in its own
-wanted_is_inner : (bytes : List ℕ) (n : Node) → IsChecked bytes → Contains (nodes_of bytes) n → is_wanted n ≡ true → is_among (number n.op) outer ≡ false
+wanted_is_inner : (bytes : List ℕ) (n : Node) → IsChecked bytes → Contains (nodes_of bytes) n → is_wanted n ≡ true → is_outer (number n.op) ≡ false
 wanted_is_inner bytes n checked within is = elim (cases_Bool (is_condition n)) [
   | inl condition ↦ operator_is_inner (number n.op) (is_operator_there bytes n checked within condition)
   | inr other ↦
       let value : begins_with_value n.place (parent n) ≡ true = ap (λ (b : Bool). b || begins_with_value n.place (parent n)) (sym other) ∙ is in
-      ap (λ (k : ℕ). is_among k outer) (is_value_there bytes n checked within value) ∙ value_is_inner
+      ap (λ (k : ℕ). is_outer k) (is_value_there bytes n checked within value) ∙ value_is_inner
 ]
 
 -- a node in such a scope is no statement, nor what one stands in
-node_is_inner : (bytes : List ℕ) (n : Node) → IsChecked bytes → Contains (nodes_of bytes) n → is_root n ≡ false → is_inner (class_around n.path) ≡ true → is_among (number n.op) outer ≡ false
+node_is_inner : (bytes : List ℕ) (n : Node) → IsChecked bytes → Contains (nodes_of bytes) n → is_root n ≡ false → is_inner (class_around n.path) ≡ true → is_outer (number n.op) ≡ false
 node_is_inner bytes n checked within root inner = elim (cases_Bool (is_wanted n)) [
   | inl is ↦ wanted_is_inner bytes n checked within is
   | inr other ↦ inner_is_not_outer (class_around n.path) (number n.op) inner (held bytes n checked within other root)
@@ -83,7 +83,7 @@ inner_class bytes (suc k) q n inside checked within is le e = elim (split_last i
 ]
 
 -- no statement stands in the scope of a question, nor what one stands in
-inside_is_inner : (bytes : List ℕ) (q n : Node) (inside : List Ancestor) → IsChecked bytes → Contains (nodes_of bytes) n → is_question q ≡ true → n.path ≡ q.path ++ as_ancestor q ∷ inside → is_among (number n.op) outer ≡ false
+inside_is_inner : (bytes : List ℕ) (q n : Node) (inside : List Ancestor) → IsChecked bytes → Contains (nodes_of bytes) n → is_question q ≡ true → n.path ≡ q.path ++ as_ancestor q ∷ inside → is_outer (number n.op) ≡ false
 inside_is_inner bytes q n inside checked within is e =
     node_is_inner bytes n checked within (some_root n q.path inside (as_ancestor q) e) (inner_class bytes (length inside) q n inside checked within is (omega arith) e)
 
@@ -92,4 +92,4 @@ no_statement_inside bytes q n inside checked within is e = no_statement (number 
 
 pub no_form_inside : (bytes : List ℕ) (q n : Node) (inside : List Ancestor) → IsChecked bytes → Contains (nodes_of bytes) n → is_question q ≡ true → n.path ≡ q.path ++ as_ancestor q ∷ inside → is_form n ≡ false
 no_form_inside bytes q n inside checked within is e =
-    ne_eqb (number n.op) FORM (λ form. false≢true (sym (inside_is_inner bytes q n inside checked within is e) ∙ ap (λ (k : ℕ). is_among k outer) form))
+    ne_eqb (number n.op) FORM (λ form. false≢true (sym (inside_is_inner bytes q n inside checked within is e) ∙ ap (λ (k : ℕ). is_outer k) form))

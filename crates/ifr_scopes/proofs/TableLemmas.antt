@@ -1,17 +1,17 @@
--- What the table of opcodes says of a number, told once over its rows.
-use Rattle.std.proofs.Common.{◌≡◌, ◌⊎◌, ℕ, Bool, true, false, eqb, Option, Some, None, List, [], ◌∷◌, ◌++◌, refl, sym, ap, subst, ◌∙◌, inl, inr}
+-- What the rows of opcodes say of scopes, told once over the rows.
+use Rattle.std.proofs.Common.{◌≡◌, ◌⊎◌, ℕ, Bool, true, false, cond, eqb, Option, Some, None, is_some, List, map, refl, sym, ap, ◌∙◌, inl, inr}
 use Rattle.std.specs.Prelude.{◌||◌, ◌==◌, not}
 use Rattle.std.specs.List.{list_all}
-use Rattle.std.proofs.lemmas.Bool.{cases_Bool, cond-true, cond-false, eqb-true, ne_eqb, false≢true}
+use Rattle.std.proofs.lemmas.Bool.{cases_Bool, cond-true, cond-false, eqb-true, ne_eqb, or_parts, false≢true}
 use Rattle.ifr_opcodes.specs.declared.codes.TheConstants.{FORM_SET, FORM, SUBTITLE, DEFAULT, VALUE, RULE, SUPPRESS_IF, GRAY_OUT_IF, DISABLE_IF}
 use Rattle.ifr_opcodes.specs.Opcode.{number}
 use Rattle.ifr_opcodes.specs.Rows.{row_of, is_among, is_operator, operands, is_question_number, is_statement_number}
-use Rattle.ifr_opcodes.proofs.TableLemmas.{and_first, and_second, of_each}
+use Rattle.ifr_opcodes.proofs.RowLemmas.{none_takes}
+use Rattle.ifr_opcodes.proofs.StatementLemmas.{none_states}
+use Rattle.ifr_opcodes.proofs.TableLemmas.{numbers, agree, not_of_kind, not_this, of_each}
 use Rattle.ifr_scopes.specs.Guards.{is_guard}
-use Rattle.ifr_opcodes.specs.code.Tables.{plain_statements, questions_without_options, questions_with_options, is_among_statements}
-use Rattle.ifr_opcodes.proofs.RowLemmas.{states}
 use Rattle.ifr_scopes.specs.Kinds.{is_store_number, conditions, is_condition_number, is_ignored}
-use Rattle.ifr_scopes.specs.Table.{scope_rows, row_in, row, wants_expression, wants_value, class_of, guarded, admits}
+use Rattle.ifr_scopes.specs.Table.{row, wants_expression, wants_value, class_of, guarded, admits}
 use Rattle.ifr_scopes.specs.declared.table.Row.{Row}
 use Rattle.ifr_scopes.specs.declared.table.Class.{Class}
 use Rattle.ifr_scopes.specs.declared.table.Class.TheVariants.{OfFormSet, OfForm, OfText, OfQuestion, OfChoice, OfOptions, OfOption, OfExpression, OfNothing}
@@ -28,39 +28,28 @@ none_among has codes code all is = elim (cases_Bool (is_among code codes)) [
 
 -- ---- the rows
 
-cases_Row : (o : Option Row) → (o ≡ None) ⊎ ((r : Row) × (o ≡ Some r))
-cases_Row None = inl refl
-cases_Row (Some r) = inr (r, refl)
+pub none_opens : (code : ℕ) → row_of code ≡ None → row code ≡ None
+unfolding row
+none_opens code none = rw none refl
 
--- what holds of each number and the class of its row holds of one that is found
-found_row : (holds : ℕ → Class → Bool) (table : List (List ℕ × Row)) → list_all (λ e. list_all (λ c. holds c e.1.class) e.0) table ≡ true
-    → (code : ℕ) (r : Row) → row_in table code ≡ Some r → holds code r.class ≡ true
-found_row holds [] all code r e = absurd cc
-found_row holds ((codes, r) ∷ more) all code found e = elim (cases_Bool (is_among code codes)) [
-  | inl here ↦
-      let same : r ≡ found = cc (sym (cond-true (is_among code codes) (Some r) (row_in more code) here) ∙ e) in
-      subst (λ (x : Row). holds code x.class ≡ true) same (of_each (λ c. holds c r.class) codes code (and_first _ _ all) here)
-  | inr other ↦ found_row holds more (and_second _ _ all) code found (sym (cond-false (is_among code codes) (Some r) (row_in more code) other) ∙ e)
-]
+abbrev as_operator : Option Row
+as_operator = Some (record { scope = Outermost; class = OfExpression })
+
+operators_open : map (λ c. cond (is_operator c) (row c) as_operator) numbers ≡ map (λ c. as_operator) numbers
+unfolding row operands row_of
+operators_open = refl
 
 pub operator_row : (code : ℕ) → is_operator code ≡ true → row code ≡ Some (record { scope = Outermost; class = OfExpression })
-unfolding row
-operator_row code operator = cond-true (is_operator code) _ _ operator
+operator_row code operator =
+    sym (cond-true (is_operator code) (row code) as_operator operator)
+    ∙ agree (λ c. cond (is_operator c) (row c) as_operator) (λ c. as_operator) operators_open
+    (λ c none. cond-false (is_operator c) (row c) as_operator (ap (λ (o : Option ℕ). is_some o) (none_takes c none))) code
 
-other_row : (code : ℕ) → is_operator code ≡ false → row code ≡ row_in scope_rows code
-unfolding row
-other_row code other = cond-false (is_operator code) _ _ other
-
--- what holds of each number of the table and the class of its scope holds of any number
-pub class_fact : (holds : ℕ → Class → Bool) → ((code : ℕ) → holds code OfExpression ≡ true) → ((code : ℕ) → holds code OfNothing ≡ true)
-    → list_all (λ e. list_all (λ c. holds c e.1.class) e.0) scope_rows ≡ true → (code : ℕ) → holds code (class_of (row code)) ≡ true
-class_fact holds of_expression of_nothing all code = elim (cases_Bool (is_operator code)) [
-  | inl operator ↦ ap (λ (o : Option Row). holds code (class_of o)) (operator_row code operator) ∙ of_expression code
-  | inr other ↦ elim (cases_Row (row_in scope_rows code)) [
-    | inl missing ↦ ap (λ (o : Option Row). holds code (class_of o)) (other_row code other ∙ missing) ∙ of_nothing code
-    | inr (r, found) ↦ ap (λ (o : Option Row). holds code (class_of o)) (other_row code other ∙ found) ∙ found_row holds scope_rows all code r found
-  ]
-]
+-- what holds of the number of each row and the class of its scope holds of any number, where it does of a number without a row
+pub class_fact : (holds : ℕ → Class → Bool) → map (λ c. holds c (class_of (row c))) numbers ≡ map (λ c. true) numbers → ((code : ℕ) → holds code OfNothing ≡ true)
+    → (code : ℕ) → holds code (class_of (row code)) ≡ true
+class_fact holds each of_nothing code =
+    agree (λ c. holds c (class_of (row c))) (λ c. true) each (λ c none. ap (λ (o : Option Row). holds c (class_of o)) (none_opens c none) ∙ of_nothing c) code
 
 -- ---- the classes of the form set and of forms
 
@@ -72,12 +61,20 @@ abbrev is_of_form : Class → Bool
 is_of_form OfForm = true
 is_of_form _ = false
 
+form_sets_open : map (λ c. not (is_of_form_set (class_of (row c))) || (c == FORM_SET)) numbers ≡ map (λ c. true) numbers
+unfolding row row_of
+form_sets_open = refl
+
 pub of_form_set : (code : ℕ) → class_of (row code) ≡ OfFormSet → code ≡ FORM_SET
-of_form_set code e = eqb-true code FORM_SET (ap (λ (c : Class). not (is_of_form_set c) || (code == FORM_SET)) (sym e) ∙ class_fact (λ c class. not (is_of_form_set class) || (c == FORM_SET)) (λ c. refl) (λ c. refl) refl code)
+of_form_set code e = eqb-true code FORM_SET (ap (λ (c : Class). not (is_of_form_set c) || (code == FORM_SET)) (sym e) ∙ class_fact (λ c class. not (is_of_form_set class) || (c == FORM_SET)) form_sets_open (λ c. refl) code)
+
+forms_open : map (λ c. not (is_of_form (class_of (row c))) || ((c == FORM) || (c == SUBTITLE))) numbers ≡ map (λ c. true) numbers
+unfolding row row_of
+forms_open = refl
 
 pub of_form : (code : ℕ) → class_of (row code) ≡ OfForm → (code ≡ FORM) ⊎ (code ≡ SUBTITLE)
 of_form code e =
-    let one : (code == FORM) || (code == SUBTITLE) ≡ true = ap (λ (c : Class). not (is_of_form c) || ((code == FORM) || (code == SUBTITLE))) (sym e) ∙ class_fact (λ c class. not (is_of_form class) || ((c == FORM) || (c == SUBTITLE))) (λ c. refl) (λ c. refl) refl code in
+    let one : (code == FORM) || (code == SUBTITLE) ≡ true = ap (λ (c : Class). not (is_of_form c) || ((code == FORM) || (code == SUBTITLE))) (sym e) ∙ class_fact (λ c class. not (is_of_form class) || ((c == FORM) || (c == SUBTITLE))) forms_open (λ c. refl) code in
     elim (cases_Bool (code == FORM)) [
       | inl form ↦ inl (eqb-true code FORM form)
       | inr other ↦ inr (eqb-true code SUBTITLE (ap (λ (b : Bool). b || (code == SUBTITLE)) (sym other) ∙ one))
@@ -119,35 +116,21 @@ holds_rule OfOption e = absurd (false≢true e)
 holds_rule OfExpression e = absurd (false≢true e)
 holds_rule OfNothing e = absurd (false≢true e)
 
--- what holds of the number of each statement holds of a statement
-of_statement : (holds : ℕ → Bool) → list_all holds plain_statements ≡ true → list_all holds questions_without_options ≡ true → list_all holds questions_with_options ≡ true
-    → (code : ℕ) → is_statement_number code ≡ true → holds code ≡ true
-of_statement holds plain without with_them code is =
-    let among : is_among_statements code ≡ true = sym (states code) ∙ is in
-    elim (cases_Bool (is_among code plain_statements)) [
-      | inl here ↦ of_each holds plain_statements code plain here
-      | inr more ↦ elim (cases_Bool (is_among code questions_without_options)) [
-        | inl here ↦ of_each holds questions_without_options code without here
-        | inr last ↦ of_each holds questions_with_options code with_them (ap (λ (b : Bool). b || is_among code questions_with_options) (sym last) ∙ ap (λ (b : Bool). b || (is_among code questions_without_options || is_among code questions_with_options)) (sym more) ∙ among)
-      ]
-    ]
-
-none_held : (c : Class) → list_all (λ k. not (admits c k)) plain_statements ≡ true → list_all (λ k. not (admits c k)) questions_without_options ≡ true → list_all (λ k. not (admits c k)) questions_with_options ≡ true
-    → (code : ℕ) → is_statement_number code ≡ true → admits c code ≡ true → ⊥
-none_held c plain without with_them code is held = false≢true (ap not (sym held) ∙ of_statement (λ k. not (admits c k)) plain without with_them code is)
+none_held : (c : Class) → map (λ k. not (is_statement_number k) || not (admits c k)) numbers ≡ map (λ k. true) numbers → (code : ℕ) → is_statement_number code ≡ true → admits c code ≡ true → ⊥
+none_held c each code is held = false≢true (sym (not_of_kind is_statement_number (admits c) each none_states code held) ∙ is)
 
 -- a statement stands in the scope of a form alone, or of a subtitle
 pub holds_statement : (c : Class) (code : ℕ) → is_statement_number code ≡ true → admits c code ≡ true → c ≡ OfForm
 unfolding is_question_number is_store_number is_condition_number is_ignored operands is_statement_number row_of
-holds_statement OfFormSet code is held = absurd (none_held OfFormSet refl refl refl code is held)
+holds_statement OfFormSet code is held = absurd (none_held OfFormSet refl code is held)
 holds_statement OfForm code is held = refl
-holds_statement OfText code is held = absurd (none_held OfText refl refl refl code is held)
-holds_statement OfQuestion code is held = absurd (none_held OfQuestion refl refl refl code is held)
-holds_statement OfChoice code is held = absurd (none_held OfChoice refl refl refl code is held)
-holds_statement OfOptions code is held = absurd (none_held OfOptions refl refl refl code is held)
-holds_statement OfOption code is held = absurd (none_held OfOption refl refl refl code is held)
-holds_statement OfExpression code is held = absurd (none_held OfExpression refl refl refl code is held)
-holds_statement OfNothing code is held = absurd (none_held OfNothing refl refl refl code is held)
+holds_statement OfText code is held = absurd (none_held OfText refl code is held)
+holds_statement OfQuestion code is held = absurd (none_held OfQuestion refl code is held)
+holds_statement OfChoice code is held = absurd (none_held OfChoice refl code is held)
+holds_statement OfOptions code is held = absurd (none_held OfOptions refl code is held)
+holds_statement OfOption code is held = absurd (none_held OfOption refl code is held)
+holds_statement OfExpression code is held = absurd (none_held OfExpression refl code is held)
+holds_statement OfNothing code is held = absurd (none_held OfNothing refl code is held)
 
 pub holds_subtitle : (c : Class) → admits c SUBTITLE ≡ true → c ≡ OfForm
 unfolding is_statement_number is_question_number is_store_number is_condition_number is_ignored operands row_of
@@ -221,11 +204,14 @@ is_inner OfForm = false
 is_inner OfText = false
 is_inner _ = true
 
--- the numbers of statements, and of what they stand in
-abbrev pub outer : List ℕ
-outer = FORM_SET ∷ FORM ∷ plain_statements ++ questions_without_options ++ questions_with_options
+-- whether this is the number of a statement, or of what statements stand in
+abbrev pub is_outer : ℕ → Bool
+is_outer code = (code == FORM_SET) || ((code == FORM) || is_statement_number code)
 
-not_admitted : (c : Class) → is_inner c ≡ true → list_all (λ code. not (admits c code)) outer ≡ true
+none_outer : (code : ℕ) → row_of code ≡ None → is_outer code ≡ false
+none_outer code none = rw (not_this FORM_SET code refl none, not_this FORM code refl none, none_states code none) refl
+
+not_admitted : (c : Class) → is_inner c ≡ true → map (λ k. not (is_outer k) || not (admits c k)) numbers ≡ map (λ k. true) numbers
 unfolding is_statement_number is_question_number is_store_number is_condition_number is_ignored operands row_of
 not_admitted OfFormSet e = absurd (false≢true e)
 not_admitted OfForm e = absurd (false≢true e)
@@ -238,8 +224,8 @@ not_admitted OfExpression e = refl
 not_admitted OfNothing e = refl
 
 -- what is admitted there is none of them
-pub inner_is_not_outer : (c : Class) (code : ℕ) → is_inner c ≡ true → admits c code ≡ true → is_among code outer ≡ false
-inner_is_not_outer c code inner held = none_among (admits c) outer code (not_admitted c inner) held
+pub inner_is_not_outer : (c : Class) (code : ℕ) → is_inner c ≡ true → admits c code ≡ true → is_outer code ≡ false
+inner_is_not_outer c code inner held = not_of_kind is_outer (admits c) (not_admitted c inner) none_outer code held
 
 pub guarded_inner : (c : Class) → is_inner c ≡ true → is_inner (guarded c) ≡ true
 guarded_inner OfFormSet e = e
@@ -253,51 +239,56 @@ guarded_inner OfExpression e = e
 guarded_inner OfNothing e = e
 
 -- the scope of anything else is one of these classes
-pub other_is_inner : (code : ℕ) → is_among code outer ≡ false → is_inner (class_of (row code)) ≡ true
+inner_or_outer : map (λ c. is_inner (class_of (row c)) || is_outer c) numbers ≡ map (λ c. true) numbers
+unfolding row is_statement_number row_of
+inner_or_outer = refl
+
+pub other_is_inner : (code : ℕ) → is_outer code ≡ false → is_inner (class_of (row code)) ≡ true
 other_is_inner code other =
-    let one : is_inner (class_of (row code)) || is_among code outer ≡ true = class_fact (λ c class. is_inner class || is_among c outer) (λ c. refl) (λ c. refl) refl code in
+    let one : is_inner (class_of (row code)) || is_outer code ≡ true = class_fact (λ c class. is_inner class || is_outer c) inner_or_outer (λ c. refl) code in
     elim (cases_Bool (is_inner (class_of (row code)))) [
       | inl e ↦ e
-      | inr e ↦ absurd (false≢true (sym other ∙ ap (λ (b : Bool). b || is_among code outer) (sym e) ∙ one))
+      | inr e ↦ absurd (false≢true (sym other ∙ ap (λ (b : Bool). b || is_outer code) (sym e) ∙ one))
     ]
 
 -- so is that of a question
+questions_inner : map (λ c. is_inner (class_of (row c)) || not (is_question_number c)) numbers ≡ map (λ c. true) numbers
+unfolding row is_question_number row_of
+questions_inner = refl
+
 pub question_is_inner : (code : ℕ) → is_question_number code ≡ true → is_inner (class_of (row code)) ≡ true
-unfolding is_question_number row_of
 question_is_inner code is =
-    let one : is_inner (class_of (row code)) || not (is_question_number code) ≡ true = class_fact (λ c class. is_inner class || not (is_question_number c)) (λ c. refl) (λ c. refl) refl code in
+    let one : is_inner (class_of (row code)) || not (is_question_number code) ≡ true = class_fact (λ c class. is_inner class || not (is_question_number c)) questions_inner (λ c. refl) code in
     elim (cases_Bool (is_inner (class_of (row code)))) [
       | inl e ↦ e
       | inr e ↦ absurd (false≢true (ap not (sym is) ∙ ap (λ (b : Bool). b || not (is_question_number code)) (sym e) ∙ one))
     ]
 
 -- statements are among them
-pub no_statement : (code : ℕ) → is_among code outer ≡ false → is_statement_number code ≡ false
-no_statement code other = elim (cases_Bool (is_statement_number code)) [
-  | inr e ↦ e
-  | inl is ↦ absurd (false≢true (sym other ∙ of_statement (λ c. is_among c outer) refl refl refl code is))
-]
+pub no_statement : (code : ℕ) → is_outer code ≡ false → is_statement_number code ≡ false
+no_statement code other = (or_parts (code == FORM) (is_statement_number code) (or_parts (code == FORM_SET) ((code == FORM) || is_statement_number code) other).1).1
 
--- an operator and a VALUE are none of them
-apart_outer : list_all (λ c. not (is_operator c)) outer ≡ true
-unfolding operands row_of
+-- an operator, a VALUE and a guard are none of them
+apart_outer : map (λ c. not (is_outer c) || not (is_operator c)) numbers ≡ map (λ c. true) numbers
+unfolding is_statement_number operands row_of
 apart_outer = refl
 
-pub operator_is_inner : (code : ℕ) → is_operator code ≡ true → is_among code outer ≡ false
-operator_is_inner code operator = none_among is_operator outer code apart_outer operator
+pub operator_is_inner : (code : ℕ) → is_operator code ≡ true → is_outer code ≡ false
+operator_is_inner code operator = not_of_kind is_outer is_operator apart_outer none_outer code operator
 
-pub value_is_inner : is_among VALUE outer ≡ false
+pub value_is_inner : is_outer VALUE ≡ false
+unfolding is_statement_number row_of
 value_is_inner = refl
 
--- nor is a guard one
+guards_apart : map (λ c. not (is_outer c) || not (is_guard c)) numbers ≡ map (λ c. true) numbers
+unfolding is_statement_number row_of
+guards_apart = refl
+
 pub no_guard : (code : ℕ) → is_statement_number code ≡ true → is_guard code ≡ false
 no_guard code is = elim (cases_Bool (is_guard code)) [
   | inr e ↦ e
-  | inl guards ↦ absurd (false≢true (sym (no_statement code (guard_apart code guards)) ∙ is))
+  | inl guards ↦ absurd (false≢true (sym (no_statement code (not_of_kind is_outer is_guard guards_apart none_outer code guards)) ∙ is))
 ]
-  where
-    guard_apart : (c : ℕ) → is_guard c ≡ true → is_among c outer ≡ false
-    guard_apart c guards = none_among is_guard outer c refl guards
 
 -- ---- what a statement is not
 

@@ -1,45 +1,45 @@
--- The opcodes that are known, with a row for each: whether it opens a scope, and what may stand in that scope (UEFI 2.8,
--- 33.3.8.3 Opcode Reference; which opcodes are known and what may stand where are own rules).
-use Rattle.std.specs.Prelude.{ℕ, nat_le, length, Bool, false, not, ◌==◌, ◌||◌, ◌&&◌, if◌then◌else◌, Option, Some, None, List, [], ◌∷◌, ◌++◌, filter}
+-- What the rows of opcodes say of scopes: whether an opcode opens one, and what may stand in it (UEFI 2.8, 33.3.8.3 Opcode
+-- Reference; which opcodes are known and what may stand where are own rules).
+use Rattle.std.specs.Prelude.{ℕ, nat_le, length, Bool, false, not, ◌==◌, ◌||◌, ◌&&◌, if◌then◌else◌, Option, Some, None, option_map, List, filter}
 use Rattle.std.specs.List.{last_or}
+use Rattle.browser_rules.specs.Opcodes as rows
+use Rattle.browser_rules.specs.Opcodes.{ScopeRule, always, at_will, never, unless_operand, with_type_other, of_form_set, of_form, of_text, of_question, of_choice, of_options, of_option, of_expression, of_nothing, row_of}
 use Rattle.ifr_opcodes.specs.Fields.{default_kind}
 use Rattle.ifr_opcodes.specs.Opcode.{number}
-use Rattle.ifr_opcodes.specs.Rows.{is_among, is_operator, is_statement_number}
+use Rattle.ifr_opcodes.specs.Rows.{is_operator, is_statement_number}
 use Rattle.ifr_opcodes.specs.Forest.{Ancestor}
-use Rattle.ifr_opcodes.specs.declared.codes.TheConstants.{FORM_SET, FORM, SUBTITLE, TEXT, RESET_BUTTON, CHECKBOX, NUMERIC, ONE_OF, ORDERED_LIST, STRING, PASSWORD, DATE, TIME, ACTION, REF, ONE_OF_OPTION, DEFAULT, DEFAULTSTORE, VALUE, RULE, LOCKED, SUPPRESS_IF, GRAY_OUT_IF, DISABLE_IF}
+use Rattle.ifr_opcodes.specs.declared.codes.TheConstants.{FORM, ONE_OF_OPTION, DEFAULT, DEFAULTSTORE, VALUE, RULE, LOCKED}
 use Rattle.ifr_opcodes.specs.declared.kinds.TheConstants.{TYPE_OTHER}
 use Rattle.ifr_scopes.specs.Guards.{is_guard}
-use Rattle.ifr_scopes.specs.Kinds.{stores, is_store_number, conditions, is_condition_number, ignored, is_ignored}
+use Rattle.ifr_scopes.specs.Kinds.{is_store_number, is_condition_number, is_ignored}
 use Rattle.ifr_scopes.specs.declared.table.Row.{Row}
 use Rattle.ifr_scopes.specs.declared.table.Scope.{Scope}
 use Rattle.ifr_scopes.specs.declared.table.Scope.TheVariants.{Always, Sometimes, Never, Outermost, WithValue}
 use Rattle.ifr_scopes.specs.declared.table.Class.{Class}
 use Rattle.ifr_scopes.specs.declared.table.Class.TheVariants.{OfFormSet, OfForm, OfText, OfQuestion, OfChoice, OfOptions, OfOption, OfExpression, OfNothing}
 
-abbrev opens : Scope → Class → Row
-opens scope class = record { scope = scope; class = class }
+-- whether an opcode opens a scope, and what may stand in it, as the code has what a row says
+abbrev pub scope_for : ScopeRule → Scope
+scope_for always = Always
+scope_for at_will = Sometimes
+scope_for never = Never
+scope_for unless_operand = Outermost
+scope_for with_type_other = WithValue
 
--- opcodes with the row that they share
-abbrev pub scope_rows : List (List ℕ × Row)
-scope_rows =
-    (FORM_SET ∷ [], opens Always OfFormSet)
-    ∷ (FORM ∷ [], opens Always OfForm)
-    ∷ (SUBTITLE ∷ [], opens Sometimes OfForm)
-    ∷ (TEXT ∷ RESET_BUTTON ∷ [], opens Sometimes OfText)
-    ∷ (CHECKBOX ∷ NUMERIC ∷ STRING ∷ PASSWORD ∷ DATE ∷ TIME ∷ ACTION ∷ REF ∷ [], opens Sometimes OfQuestion)
-    ∷ (ONE_OF ∷ ORDERED_LIST ∷ [], opens Sometimes OfChoice)
-    ∷ (ONE_OF_OPTION ∷ [], opens Sometimes OfOption)
-    ∷ (DEFAULT ∷ [], opens WithValue OfNothing)
-    ∷ (VALUE ∷ RULE ∷ SUPPRESS_IF ∷ GRAY_OUT_IF ∷ DISABLE_IF ∷ conditions, opens Always OfNothing)
-    ∷ (DEFAULTSTORE ∷ LOCKED ∷ stores ++ ignored, opens Never OfNothing)
-    ∷ []
+abbrev pub class_for : rows.Class → Class
+class_for of_form_set = OfFormSet
+class_for of_form = OfForm
+class_for of_text = OfText
+class_for of_question = OfQuestion
+class_for of_choice = OfChoice
+class_for of_options = OfOptions
+class_for of_option = OfOption
+class_for of_expression = OfExpression
+class_for of_nothing = OfNothing
 
-abbrev pub row_in : List (List ℕ × Row) → ℕ → Option Row
-row_in [] code = None
-row_in ((codes, r) ∷ more) code = if is_among code codes then Some r else row_in more code
-
+-- the row of a number
 unfoldable pub row : ℕ → Option Row
-row code = if is_operator code then Some (opens Outermost OfExpression) else row_in scope_rows code
+row code = option_map (λ r. record { scope = scope_for r.scope; class = class_for r.opens }) (row_of code)
 
 -- whether an opcode of this number begins with an expression: a guard and another condition with what is to hold, a rule and
 -- a value with what they say

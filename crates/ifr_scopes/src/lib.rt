@@ -6,6 +6,7 @@ mod all_conditions;
 mod all_statements;
 mod any_condition;
 mod around;
+mod columns;
 mod condition_view;
 mod conditions_of;
 mod default_view;

@@ -58,12 +58,13 @@ pub enum StatementKind<'a> {
 impl<'a> StatementKind<'a> {
     ghost use Rattle.std.specs.Prelude.{◌≤◌, length};
     ghost use Rattle.ifr_opcodes.specs.code.Ops.{bytes_of};
-    ghost use Rattle.ifr_opcodes.specs.code.Tables.{is_among_statements, least_length};
-    ghost use Rattle.ifr_scopes.specs.code.Lists.{kind_op};
+    ghost use Rattle.ifr_opcodes.specs.Rows.{is_among};
+    ghost use Rattle.ifr_opcodes.specs.code.Tables.{least_length};
+    ghost use Rattle.ifr_scopes.specs.code.Lists.{kind_op, statement_numbers};
 
     // The view of an opcode that has all its fields.
     fn of(op: Op<'a>) -> StatementKind<'a>
-        requires statement { is_among_statements op.code ≡ true }
+        requires statement { is_among op.code statement_numbers ≡ true }
         requires sized { least_length (bytes_of op) ≤ length (bytes_of op) }
         ensures { kind_op result ≡ op.entry }
     {

@@ -4,15 +4,13 @@ ghost use Rattle.std.specs.Prelude.{◌≡◌};
 ghost use Rattle.ifr_opcodes.specs.code.Ops.{bytes_of};
 ghost use Rattle.ifr_scopes.specs.Table as table;
 
+use crate::columns::ROWS;
 use crate::guards::is_guard;
 use crate::kinds::{is_condition, is_ignored, is_store};
 use hii_bytes::number_at;
 use ifr_opcodes::{
-    ACTION, ANIMATION, CHECKBOX, DATE, DEFAULT, DEFAULTSTORE, DISABLE_IF, FORM, FORM_SET,
-    GRAY_OUT_IF, GUID, IMAGE, INCONSISTENT_IF, LOCKED, MODAL_TAG, NO_SUBMIT_IF, NUMERIC, ONE_OF,
-    ONE_OF_OPTION, ORDERED_LIST, Op, PASSWORD, REF, REFRESH, REFRESH_ID, RESET_BUTTON, RULE,
-    STRING, SUBTITLE, SUPPRESS_IF, TEXT, TIME, TYPE_OTHER, VALUE, VARSTORE, VARSTORE_EFI,
-    VARSTORE_NAME_VALUE, WARNING_IF, is_operator, is_statement,
+    DEFAULT, DEFAULTSTORE, FORM, LOCKED, ONE_OF_OPTION, Op, RULE, TYPE_OTHER, VALUE, is_operator,
+    is_statement,
 };
 
 /// Whether an opcode opens a scope.
@@ -56,44 +54,10 @@ pub struct Row {
 }
 
 /// The row of an opcode's number.
-#[tactic(auto, unfolding(crate::specs::Table::row))]
 pub(crate) fn row_of(code: u8) -> Option<Row>
     ensures { result ≡ table.row code }
 {
-    let (scope, class) = match code {
-        _ if is_operator(code) => (Scope::Outermost, Class::OfExpression),
-        FORM_SET => (Scope::Always, Class::OfFormSet),
-        FORM => (Scope::Always, Class::OfForm),
-        SUBTITLE => (Scope::Sometimes, Class::OfForm),
-        TEXT | RESET_BUTTON => (Scope::Sometimes, Class::OfText),
-        CHECKBOX | NUMERIC | STRING | PASSWORD | DATE | TIME | ACTION | REF => {
-            (Scope::Sometimes, Class::OfQuestion)
-        }
-        ONE_OF | ORDERED_LIST => (Scope::Sometimes, Class::OfChoice),
-        ONE_OF_OPTION => (Scope::Sometimes, Class::OfOption),
-        DEFAULT => (Scope::WithValue, Class::OfNothing),
-        VALUE
-        | RULE
-        | SUPPRESS_IF
-        | GRAY_OUT_IF
-        | DISABLE_IF
-        | INCONSISTENT_IF
-        | NO_SUBMIT_IF
-        | WARNING_IF => (Scope::Always, Class::OfNothing),
-        DEFAULTSTORE
-        | LOCKED
-        | VARSTORE
-        | VARSTORE_EFI
-        | VARSTORE_NAME_VALUE
-        | GUID
-        | IMAGE
-        | ANIMATION
-        | REFRESH
-        | REFRESH_ID
-        | MODAL_TAG => (Scope::Never, Class::OfNothing),
-        _ => return None,
-    };
-    Some(Row { scope, class })
+    ROWS[usize::from(code)]
 }
 
 /// Whether an opcode of this number may stand in a scope of this class.

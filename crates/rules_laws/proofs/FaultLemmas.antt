@@ -6,14 +6,13 @@ use Rattle.std.proofs.lemmas.List.Folds.{flat_map-map}
 use Rattle.std.proofs.lemmas.List.Elements.{Contains-append_right, Contains-append_cases}
 use Rattle.std.proofs.lemmas.Bool.{true≢false}
 use Rattle.hii_bytes.specs.declared.cause.Cause.{Cause}
-use Rattle.hii_bytes.specs.Faults.{IsFaultOf}
+use Rattle.hii_bytes.specs.Causes.{cause_for}
+use Rattle.hii_bytes.specs.Faults.{AreFaults, IsFaultOf}
+use Rattle.hii_bytes.proofs.ChapterFaultLemmas.{both_kinds, one_fault, no_faults}
 use Rattle.ifr_opcodes.specs.Forest.{Node}
 use Rattle.ifr_scopes.specs.References.{Ranked, ranked}
 use Rattle.browser_rules.specs.Words as chapter
 use Rattle.browser_rules.specs.Faults.{Fault, fault_if, ranked as chapter_ranked}
-use Rattle.rules_laws.specs.laws.Faults.{AreFaults}
-use Rattle.rules_laws.specs.Causes.{cause_for}
-use Rattle.rules_laws.proofs.PackageLemmas.{both_kinds, one_fault, no_faults}
 
 -- ---- one thing
 

@@ -14,9 +14,9 @@ use Rattle.ifr_scopes.specs.Framing.{IsFramingFault}
 use Rattle.ifr_scopes.proofs.RunLemmas.{Stands, from_start, is_spelled, none_where_spelled, no_opcode, extra_end, too_deep, still_open, past_end, past_scope, past_plain}
 use Rattle.ifr_scopes.proofs.RunLemmas as run
 use Rattle.browser_rules.specs.Faults.{Fault, framing_from, framing_faults, is_whole}
-use Rattle.rules_laws.specs.laws.Faults.{AreFaults}
-use Rattle.rules_laws.specs.Causes.{fault_for}
-use Rattle.rules_laws.proofs.PackageLemmas.{where_same, one_fault, no_faults, same_none}
+use Rattle.hii_bytes.specs.Faults.{AreFaults}
+use Rattle.hii_bytes.specs.Causes.{fault_for}
+use Rattle.hii_bytes.proofs.ChapterFaultLemmas.{where_same, one_fault, no_faults, same_none}
 
 -- ---- a whole opcode stands at the front
 

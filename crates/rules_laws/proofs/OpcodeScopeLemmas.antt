@@ -1,7 +1,6 @@
 -- The rows admit the same opcodes in a scope, and have the same guards, conditions, stores and opcodes of no effect.
 use Rattle.std.proofs.Common.{◌≡◌, ◌==◌, ℕ, Bool, true, false, None, List, [], ◌∷◌, ◌++◌, map, refl, sym, ap, ◌∙◌, inl, inr}
 use Rattle.std.specs.Prelude.{if◌then◌else◌, nat_le, length}
-use Rattle.std.specs.List.{list_all}
 use Rattle.std.proofs.lemmas.Bool.{cases_Bool}
 use Rattle.browser_rules.specs.Words.{is_some_and}
 use Rattle.browser_rules.specs.Opcodes as chapter
@@ -9,18 +8,17 @@ use Rattle.browser_rules.specs.Opcodes.{row_of, is_a, a_condition, a_default, a_
 use Rattle.ifr_opcodes.specs.Forest.{Ancestor}
 use Rattle.ifr_opcodes.specs.Opcode.{number}
 use Rattle.ifr_opcodes.specs.OptionFields.{default_kind}
-use Rattle.ifr_opcodes.specs.Rows.{is_among, operands, is_question_number, is_statement_number}
+use Rattle.ifr_opcodes.specs.Rows.{operands, is_question_number, is_statement_number}
 use Rattle.ifr_opcodes.specs.declared.codes.TheConstants.{FORM, ONE_OF_OPTION, DEFAULT, DEFAULTSTORE, VALUE, RULE, LOCKED, SUPPRESS_IF, GRAY_OUT_IF, DISABLE_IF}
 use Rattle.ifr_opcodes.specs.declared.kinds.TheConstants.{TYPE_OTHER}
-use Rattle.ifr_opcodes.proofs.TableLemmas.{and_first, and_second}
 use Rattle.ifr_scopes.specs.Guards.{is_guard}
 use Rattle.ifr_scopes.specs.Kinds.{stores, is_store_number, conditions, is_condition_number, ignored, is_ignored}
 use Rattle.ifr_scopes.specs.Structure.{has_wrong_scope}
-use Rattle.ifr_scopes.specs.Table.{scope_rows, row_in, row, wants_expression, wants_value, admits, class_of, guarded, class_around}
-use Rattle.ifr_scopes.specs.declared.table.Row.{Row}
+use Rattle.ifr_scopes.specs.Table.{row, wants_expression, wants_value, admits, class_of, guarded, class_around}
 use Rattle.ifr_scopes.specs.declared.table.Class.{Class}
 use Rattle.ifr_scopes.specs.declared.table.Class.TheVariants.{OfFormSet, OfForm, OfText, OfQuestion, OfChoice, OfOptions, OfOption, OfExpression, OfNothing}
 use Rattle.ifr_scopes.proofs.ClassLemmas.{class-guard, class-other}
+use Rattle.ifr_scopes.proofs.TableLemmas.{none_opens}
 use Rattle.rules_laws.specs.laws.Opcodes.{class_for}
 use Rattle.std.proofs.Math.Bool.{and_assoc}
 use Rattle.ifr_opcodes.proofs.TableLemmas.{numbers, agree, not_this, not_among}
@@ -136,15 +134,6 @@ pub admits_same : (class : Class) (code : ℕ) → chapter.admits (class_for cla
 admits_same class code = agree (chapter.admits (class_for class)) (admits class) (admits_in_rows class) (λ c none. rw (none, none_admitted class c none) refl) code
 
 -- ---- the rows of scopes
-
-row_among : (table : List (List ℕ × Row)) (code : ℕ) → list_all (λ e. list_all (λ c. is_among c numbers) e.0) table ≡ true → row_of code ≡ None → row_in table code ≡ None
-row_among [] code all none = refl
-row_among ((codes, r) ∷ table) code all none =
-    rw (not_among codes code (and_first _ _ all) none) (row_among table code (and_second _ _ all) none)
-
-none_opens : (code : ℕ) → row_of code ≡ None → row code ≡ None
-unfolding row
-none_opens code none = rw (none_takes code none) (row_among scope_rows code refl none)
 
 -- what may stand in the scope of an opcode, where it stands in one of a class
 inside : Class → ℕ → Class

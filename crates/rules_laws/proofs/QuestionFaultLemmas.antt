@@ -23,12 +23,12 @@ use Rattle.browser_rules.specs.Opcodes.{number_width}
 use Rattle.browser_rules.specs.Questions as chapter
 use Rattle.browser_rules.specs.Stores as stores
 use Rattle.browser_rules.specs.Words.{first, is_some_and}
-use Rattle.rules_laws.specs.laws.Faults.{AreFaults}
-use Rattle.rules_laws.specs.Causes.{cause_for}
+use Rattle.hii_bytes.specs.Faults.{AreFaults}
+use Rattle.hii_bytes.specs.Causes.{cause_for}
 use Rattle.rules_laws.specs.laws.Questions.{field_for}
 use Rattle.rules_laws.proofs.FaultLemmas.{said_as, if_fault, either_kind, each_fault}
 use Rattle.rules_laws.proofs.NodeLemmas.{options_same, same_flat}
-use Rattle.rules_laws.proofs.PackageLemmas.{where_same}
+use Rattle.hii_bytes.proofs.ChapterFaultLemmas.{where_same}
 use Rattle.rules_laws.proofs.QuestionLemmas.{field_same, questions_same, value_same}
 use Rattle.rules_laws.proofs.StoreLemmas.{id_same, size_of_same, stores_same}
 

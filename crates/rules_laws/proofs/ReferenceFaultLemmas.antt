@@ -5,7 +5,7 @@ use Rattle.std.specs.List.{AllByRecursion, find, flat_map, list_any, last_or}
 use Rattle.std.proofs.lemmas.List.{length-map, reverse-append}
 use Rattle.std.proofs.lemmas.List.Elements.{Contains-append_right}
 use Rattle.std.proofs.lemmas.Bool.{cases_Bool, true≢false}
-use Rattle.hii_bytes.specs.Faults.{HasNone}
+use Rattle.hii_bytes.specs.Faults.{AreFaults, HasNone}
 use Rattle.hii_bytes.specs.declared.cause.Cause.{Cause}
 use Rattle.hii_bytes.specs.declared.cause.Cause.TheVariants.{DuplicateForm, DuplicateQuestion, NoForm, RuleTooLarge}
 use Rattle.ifr_opcodes.specs.Fields.{form_id, question_id, ref_target, rule_ref_rule}
@@ -41,12 +41,11 @@ use Rattle.browser_rules.specs.Nodes as chapter
 use Rattle.browser_rules.specs.Opcodes.{field, is_the, FORM, REF, RULE, RULE_REF}
 use Rattle.browser_rules.specs.Words as words
 use Rattle.browser_rules.specs.Words.{is_some_and, last}
-use Rattle.rules_laws.specs.laws.Faults.{AreFaults}
 use Rattle.rules_laws.specs.laws.Opcodes.{mark_for, rule_for}
 use Rattle.rules_laws.specs.laws.References.{IsWholeRule}
 use Rattle.rules_laws.proofs.FaultLemmas.{said_as, if_fault, either_kind, each_fault, flat_ranked, same_ranked}
 use Rattle.rules_laws.proofs.NodeLemmas.{is_question_same, last_same}
-use Rattle.rules_laws.proofs.PackageLemmas.{both_kinds, where_same}
+use Rattle.hii_bytes.proofs.ChapterFaultLemmas.{both_kinds, where_same}
 
 -- ---- lists
 

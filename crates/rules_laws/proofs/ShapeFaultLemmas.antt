@@ -7,7 +7,7 @@ use Rattle.std.proofs.lemmas.Bool.Decides.{nat_tests}
 use Rattle.hii_bytes.specs.declared.cause.Cause.{Cause}
 use Rattle.hii_bytes.specs.declared.cause.Cause.TheVariants.{OpOutside, OpSize, Misplaced, ScopeBit, ExprShape}
 use Rattle.hii_bytes.specs.declared.cause.Fault.{Fault as CodeFault}
-use Rattle.hii_bytes.specs.Faults.{HasNone}
+use Rattle.hii_bytes.specs.Faults.{AreFaults, HasNone}
 use Rattle.ifr_opcodes.specs.Forest.{Mark}
 use Rattle.ifr_opcodes.specs.Opcode.{number, has_scope}
 use Rattle.ifr_opcodes.specs.Rows.{is_operator, is_outside, is_short, operands_of}
@@ -24,10 +24,9 @@ use Rattle.browser_rules.specs.Faults.{Fault, is_good_operator, operands, order_
 use Rattle.browser_rules.specs.Opcodes as chapter
 use Rattle.browser_rules.specs.Opcodes.{Sense, no_operator, leaf, one, two}
 use Rattle.browser_rules.specs.Words as words
-use Rattle.rules_laws.specs.laws.Faults.{AreFaults}
-use Rattle.rules_laws.specs.Causes.{fault_for}
+use Rattle.hii_bytes.specs.Causes.{fault_for}
 use Rattle.rules_laws.specs.laws.Opcodes.{mark_for}
-use Rattle.rules_laws.proofs.PackageLemmas.{one_fault, no_faults, where_same}
+use Rattle.hii_bytes.proofs.ChapterFaultLemmas.{one_fault, no_faults, where_same}
 use Rattle.ifr_opcodes.proofs.RowLemmas.{operator_same}
 use Rattle.rules_laws.proofs.OpcodeListLemmas.{takes_same}
 

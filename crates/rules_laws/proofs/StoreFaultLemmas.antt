@@ -19,11 +19,11 @@ use Rattle.ifr_scopes.specs.Stores as node
 use Rattle.browser_rules.specs.Faults.{Fault, Part, these, any, image_faults, image_faults_from, store_faults, buffer_parts, fault_if, ranked as chapter_ranked, store_fault as chapter_fault}
 use Rattle.browser_rules.specs.Stores as chapter
 use Rattle.browser_rules.specs.Words as words
-use Rattle.rules_laws.specs.laws.Faults.{AreFaults}
-use Rattle.rules_laws.specs.Causes.{cause_for, fault_for}
+use Rattle.hii_bytes.specs.Faults.{AreFaults}
+use Rattle.hii_bytes.specs.Causes.{cause_for, fault_for}
 use Rattle.rules_laws.specs.laws.Stores.{buffer_for, shape_for}
 use Rattle.rules_laws.proofs.FaultLemmas.{said_as, if_fault, each_fault, flat_ranked, same_ranked}
-use Rattle.rules_laws.proofs.PackageLemmas.{where_same, one_fault, no_faults}
+use Rattle.hii_bytes.proofs.ChapterFaultLemmas.{where_same, one_fault, no_faults}
 use Rattle.rules_laws.proofs.StoreLemmas.{id_same, stores_same}
 
 -- ---- stores

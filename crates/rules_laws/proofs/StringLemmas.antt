@@ -12,11 +12,10 @@ use Rattle.std.proofs.lemmas.Bool.Decides.{nat_tests}
 use Rattle.hii_bytes.specs.declared.cause.Cause.{Cause}
 use Rattle.hii_bytes.specs.declared.cause.Cause.TheVariants.{StringHeader, StringBlock, StringText, LanguageText}
 use Rattle.hii_bytes.specs.declared.cause.Fault.{Fault as CodeFault}
-use Rattle.hii_bytes.specs.Faults.{HasNone, Then, IsLeast as IsLeastOf}
+use Rattle.hii_bytes.specs.Causes.{fault_for}
+use Rattle.hii_bytes.specs.Faults.{AreFaults, HasNone, IsAmong, IsLeast, IsLeastAmong, Then}
+use Rattle.hii_bytes.proofs.ChapterFaultLemmas.{are_among, where_same, same_parts, both_kinds, same_none, same_least, one_fault, no_faults, then_faults-then_faults}
 use Rattle.hii_bytes.specs.Numbers.{number_in}
-use Rattle.hii_packages.specs.declared.package.TheConstants.{STRINGS}
-use Rattle.hii_packages.specs.Packages.{Entry, SpellsPackages, pieces_of}
-use Rattle.hii_packages.specs.Faults.{IsListFault, IsFormsFault}
 use Rattle.sibt_strings.specs.Units.{shown_unit, chars_of_units}
 use Rattle.sibt_strings.specs.Blocks.{texts_in}
 use Rattle.sibt_strings.specs.Blocks as old
@@ -26,21 +25,17 @@ use Rattle.sibt_strings.specs.code.Ends.{Stops}
 use Rattle.sibt_strings.proofs.TextLemmas.{cases_option}
 use Rattle.sibt_strings.proofs.BlockLemmas.{one_stop}
 use Rattle.sibt_strings.proofs.SpellingLemmas.{block_found, blocks_read, blocks_found}
-use Rattle.hii_languages.specs.Languages.{first_package, primary_subtag, string_packages, AreSpoken, IsStringsFault}
+use Rattle.hii_languages.specs.Languages.{first_package, primary_subtag, AreSpoken, IsStringsFault}
 use Rattle.hii_languages.specs.Languages as languages
 use Rattle.hii_languages.specs.Shown.{text_in_package, text_under, text_or_missing, shown_text}
 use Rattle.hii_languages.specs.Shown as shown
 use Rattle.hii_languages.proofs.SpokenLemmas.{spoken_sound}
 use Rattle.browser_rules.specs.Words as words
-use Rattle.browser_rules.specs.Packages.{Package, packages_with}
+use Rattle.browser_rules.specs.Packages.{Package, STRINGS, packages_with}
 use Rattle.browser_rules.specs.Strings.{cut_text, cut_texts, front_of, texts_from, chosen, text_of, characters}
 use Rattle.browser_rules.specs.Strings as chapter
-use Rattle.browser_rules.specs.Faults.{Fault, IsLeast, list_faults, number_faults, string_faults, then_faults}
-use Rattle.rules_laws.specs.laws.Faults.{AreFaults}
-use Rattle.rules_laws.specs.Causes.{fault_for}
-use Rattle.rules_laws.specs.laws.Packages.{package_for}
+use Rattle.browser_rules.specs.Faults.{Fault, list_faults, number_faults, string_faults, then_faults}
 use Rattle.rules_laws.specs.laws.Strings.{spoken_for, added_by, front_with}
-use Rattle.rules_laws.proofs.PackageLemmas.{where_same, same_parts, both_kinds, same_none, same_least, one_fault, no_faults, packages_of_type, spelled_where_none, behind_source}
 
 -- ---- what is shown
 
@@ -404,7 +399,7 @@ walk (suc n) texts at bytes enough = by (old.front_of bytes) refl (λ ts place r
         }
 
 -- the walk over the blocks of a package
-blocks_walked : (e : Entry) → Walked [] (e.place + info_offset e.bytes) (blocks_of e.bytes) (chapter.texts_of (package_for e))
+blocks_walked : (e : Package) → Walked [] (e.place + info_offset e.bytes) (blocks_of e.bytes) (chapter.texts_of e)
 blocks_walked e =
     walk (length e.bytes) [] (e.place + info_offset e.bytes) (blocks_of e.bytes) (omega (arith, length-drop (info_offset e.bytes) e.bytes))
 
@@ -412,7 +407,7 @@ end_stops : (f : old.Front) → f ≡ old.End → Stops f
 end_stops f e = subst Stops (sym e) tt
 
 -- whole blocks up to an end are those of the walk
-pub same_texts : (e : Entry) (blocks : List old.Block) → old.AreBlocks (blocks_of e.bytes) blocks → chapter.texts_of (package_for e) ≡ Ok (texts_of blocks)
+pub same_texts : (e : Package) (blocks : List old.Block) → old.AreBlocks (blocks_of e.bytes) blocks → chapter.texts_of e ≡ Ok (texts_of blocks)
 same_texts e blocks (rest, leads, end) =
     let w = blocks_walked e in
     elim w.ends [
@@ -437,13 +432,13 @@ same_texts e blocks (rest, leads, end) =
 
 -- ---- languages
 
-pub same_language : (e : Entry) → chapter.language_of (package_for e) ≡ language_of e.bytes
+pub same_language : (e : Package) → chapter.language_of e ≡ language_of e.bytes
 same_language e = refl
 
 -- ---- what a package says
 
-read_where_said : (e : Entry) (s : Spoken) → Speaks e.bytes s
-    → HasFixedPart e.bytes × (chapter.language_of (package_for e) ≡ Some s.language) × (chapter.texts_of (package_for e) ≡ Ok s.texts)
+read_where_said : (e : Package) (s : Spoken) → Speaks e.bytes s
+    → HasFixedPart e.bytes × (chapter.language_of e ≡ Some s.language) × (chapter.texts_of e ≡ Ok s.texts)
 read_where_said e s h = (
   h.fixed,
   same_language e ∙ h.language,
@@ -457,10 +452,10 @@ ok_is_no_err : (a : chapter.Texts) (b : words.Cause × ℕ) → ◌≡◌ {A = R
 ok_is_no_err a b e = cc
 
 -- the blocks that the chapters have read are spelled
-read_blocks : (e : Entry) (texts : chapter.Texts) → chapter.texts_of (package_for e) ≡ Ok texts → (blocks : List WholeBlock) × AreSpelled (blocks_of e.bytes) blocks × (texts ≡ texts_of (map said blocks))
+read_blocks : (e : Package) (texts : chapter.Texts) → chapter.texts_of e ≡ Ok texts → (blocks : List WholeBlock) × AreSpelled (blocks_of e.bytes) blocks × (texts ≡ texts_of (map said blocks))
 read_blocks e texts are = by (blocks_walked e)
   where
-    by : Walked [] (e.place + info_offset e.bytes) (blocks_of e.bytes) (chapter.texts_of (package_for e)) → (blocks : List WholeBlock) × AreSpelled (blocks_of e.bytes) blocks × (texts ≡ texts_of (map said blocks))
+    by : Walked [] (e.place + info_offset e.bytes) (blocks_of e.bytes) (chapter.texts_of e) → (blocks : List WholeBlock) × AreSpelled (blocks_of e.bytes) blocks × (texts ≡ texts_of (map said blocks))
     by w = elim w.ends [
       | inl x ↦ (
           let all = blocks_found (blocks_of e.bytes) w.blocks (w.rest, w.leads, x.0) in
@@ -468,13 +463,13 @@ read_blocks e texts are = by (blocks_walked e)
       | inr r ↦ elim r [ inl x ↦ absurd (ok_is_no_err _ _ (sym are ∙ x.1)) | inr x ↦ absurd (ok_is_no_err _ _ (sym are ∙ x.1)) ]
     ]
 
-said_where_read : (e : Entry) (s : Spoken) → HasFixedPart e.bytes → chapter.language_of (package_for e) ≡ Some s.language → chapter.texts_of (package_for e) ≡ Ok s.texts → Speaks e.bytes s
+said_where_read : (e : Package) (s : Spoken) → HasFixedPart e.bytes → chapter.language_of e ≡ Some s.language → chapter.texts_of e ≡ Ok s.texts → Speaks e.bytes s
 said_where_read e s fixed language texts =
     let all = read_blocks e s.texts texts in
     record { fixed = fixed; language = language; whole_blocks = all.0; are = all.1; texts = all.2 }
 
-pub same_speech : (e : Entry) (s : Spoken)
-    → (Speaks e.bytes s ↔ (HasFixedPart e.bytes × (chapter.language_of (package_for e) ≡ Some s.language) × (chapter.texts_of (package_for e) ≡ Ok s.texts)))
+pub same_speech : (e : Package) (s : Spoken)
+    → (Speaks e.bytes s ↔ (HasFixedPart e.bytes × (chapter.language_of e ≡ Some s.language) × (chapter.texts_of e ≡ Ok s.texts)))
 same_speech e s = (read_where_said e s, λ r. said_where_read e s r.0 r.1 r.2)
 
 -- ---- what the packages of a list say
@@ -483,27 +478,25 @@ same_speech e s = (read_where_said e s, λ r. said_where_read e s r.0 r.1 r.2)
 abbrev says : Package → chapter.Spoken
 says p = record { language = unwrap_or (chapter.language_of p) []; texts = result_unwrap_or (chapter.texts_of p) [] }
 
-one_says : (e : Entry) (s : Spoken) → Speaks e.bytes s → says (package_for e) ≡ spoken_for s
+one_says : (e : Package) (s : Spoken) → Speaks e.bytes s → says e ≡ spoken_for s
 one_says e s h =
     let r = read_where_said e s h in
-    ap (λ l. (let x : chapter.Spoken = record { language = unwrap_or l []; texts = result_unwrap_or (chapter.texts_of (package_for e)) [] } in x)) r.1
+    ap (λ l. (let x : chapter.Spoken = record { language = unwrap_or l []; texts = result_unwrap_or (chapter.texts_of e) [] } in x)) r.1
     ∙ ap (λ t. (let x : chapter.Spoken = record { language = s.language; texts = result_unwrap_or t [] } in x)) r.2
 
-each_says : (es : List Entry) (spoken : List Spoken) → AreSpoken es spoken → map says (map package_for es) ≡ map spoken_for spoken
+each_says : (es : List Package) (spoken : List Spoken) → AreSpoken es spoken → map says es ≡ map spoken_for spoken
 each_says [] [] are = refl
 each_says [] (s ∷ ss) are = absurd are
 each_says (e ∷ es) [] are = absurd are
-each_says (e ∷ es) (s ∷ ss) are = ap (λ x. x ∷ map says (map package_for es)) (one_says e s are.0) ∙ ap (λ xs. spoken_for s ∷ xs) (each_says es ss are.1)
+each_says (e ∷ es) (s ∷ ss) are = ap (λ x. x ∷ map says es) (one_says e s are.0) ∙ ap (λ xs. spoken_for s ∷ xs) (each_says es ss are.1)
 
-pub same_spoken : (list : List ℕ) (packages : List (List ℕ)) (spoken : List Spoken) → SpellsPackages list packages
-    → AreSpoken (string_packages packages) spoken → chapter.spoken_in list ≡ map spoken_for spoken
-same_spoken list packages spoken s are = ap (map says) (packages_of_type list packages STRINGS s) ∙ each_says (string_packages packages) spoken are
+pub same_spoken : (list : List ℕ) (spoken : List Spoken) → AreSpoken (packages_with STRINGS list) spoken → chapter.spoken_in list ≡ map spoken_for spoken
+same_spoken list spoken are = each_says (packages_with STRINGS list) spoken are
 
-pub shown_in_language : (list : List ℕ) (packages : List (List ℕ)) (spoken : List Spoken) (language : List ℕ) (id : ℕ) → SpellsPackages list packages
-    → AreSpoken (string_packages packages) spoken
+pub shown_in_language : (list : List ℕ) (spoken : List Spoken) (language : List ℕ) (id : ℕ) → AreSpoken (packages_with STRINGS list) spoken
     → chapter.shown (chapter.spoken_in list) (chosen (chapter.spoken_in list) language) id ≡ shown_text spoken (languages.chosen spoken language) id
-shown_in_language list packages spoken language id s are =
-    ap (λ said. chapter.shown said (chosen said language) id) (same_spoken list packages spoken s are)
+shown_in_language list spoken language id are =
+    ap (λ said. chapter.shown said (chosen said language) id) (same_spoken list spoken are)
     ∙ ap (λ choice. chapter.shown (map spoken_for spoken) choice id) (same_choice spoken language)
     ∙ same_shown spoken (languages.chosen spoken language) id
 
@@ -543,11 +536,11 @@ header_cases bytes =
 bad_test : (n m : ℕ) → (n < 46) ⊎ (m < 46) ⊎ (n < m) → (nat_lt n 46 || nat_lt m 46 || nat_lt n m) ≡ true
 bad_test n m bad = grind (arith, nat_tests)
 
-bad_header : (e : Entry) → IsBadHeader e.bytes → faults_in (package_for e) ≡ fault_for StringHeader e.place ∷ []
+bad_header : (e : Package) → IsBadHeader e.bytes → faults_in e ≡ fault_for StringHeader e.place ∷ []
 bad_header e bad = let is = bad_test (length e.bytes) (info_offset e.bytes) bad in rw is refl
 
-good_header : (e : Entry) → HasFixedPart e.bytes
-    → faults_in (package_for e) ≡ fault_where (is_none (language_of e.bytes)) words.LanguageText (e.place + 46) ++ fault_in (chapter.texts_of (package_for e))
+good_header : (e : Package) → HasFixedPart e.bytes
+    → faults_in e ≡ fault_where (is_none (language_of e.bytes)) words.LanguageText (e.place + 46) ++ fault_in (chapter.texts_of e)
 good_header e h =
     let long = le-ltb (length e.bytes) 46 h.long in
     let low = le-ltb (info_offset e.bytes) 46 h.low in
@@ -557,7 +550,7 @@ good_header e h =
 not_both : (bytes : List ℕ) → IsBadHeader bytes → HasFixedPart bytes → ⊥
 not_both bytes bad h = grind (arith, h.long, h.low, h.high)
 
-alone_header : (e : Entry) → IsBadHeader e.bytes → (c : Cause) (p : ℕ) → IsStringFaultIn e.bytes e.place c p → (c ≡ StringHeader) × (p ≡ e.place)
+alone_header : (e : Package) → IsBadHeader e.bytes → (c : Cause) (p : ℕ) → IsStringFaultIn e.bytes e.place c p → (c ≡ StringHeader) × (p ≡ e.place)
 alone_header e bad StringHeader p (at, f, is) = (refl, omega (arith, f.0, is))
 alone_header e bad StringBlock p (at, f, is) = absurd (not_both e.bytes bad f.0)
 alone_header e bad StringText p (at, f, is) = absurd (not_both e.bytes bad f.0)
@@ -565,17 +558,17 @@ alone_header e bad LanguageText p (at, f, is) = absurd (not_both e.bytes bad f.0
 alone_header e bad _ p (at, f, is) = absurd f
 
 -- the faults of the language, and the others
-abbrev IsLanguageFault : Entry → Cause → ℕ → Type 0
+abbrev IsLanguageFault : Package → Cause → ℕ → Type 0
 IsLanguageFault e c p = (c ≡ LanguageText) × IsStringFaultIn e.bytes e.place c p
 
-abbrev IsTextFault : Entry → Cause → ℕ → Type 0
+abbrev IsTextFault : Package → Cause → ℕ → Type 0
 IsTextFault e c p = (c ≢ LanguageText) × IsStringFaultIn e.bytes e.place c p
 
-which : (e : Entry) (c : Cause) (p : ℕ) → IsStringFaultIn e.bytes e.place c p → IsLanguageFault e c p ⊎ IsTextFault e c p
+which : (e : Package) (c : Cause) (p : ℕ) → IsStringFaultIn e.bytes e.place c p → IsLanguageFault e c p ⊎ IsTextFault e c p
 which e LanguageText p f = inl (refl, f)
 which e _ p f = inr ((λ same. (cc)), f)
 
-language_part : (e : Entry) → HasFixedPart e.bytes → AreFaults (fault_where (is_none (language_of e.bytes)) words.LanguageText (e.place + 46)) (IsLanguageFault e)
+language_part : (e : Package) → HasFixedPart e.bytes → AreFaults (fault_where (is_none (language_of e.bytes)) words.LanguageText (e.place + 46)) (IsLanguageFault e)
 language_part e h = by (language_of e.bytes) refl
   where
     here : (c : Cause) (p : ℕ) → IsLanguageFault e c p → (p ≡ e.place + 46) × (language_of e.bytes ≡ None)
@@ -591,7 +584,7 @@ language_part e h = by (language_of e.bytes) refl
     by (Some l) is = no_faults (IsLanguageFault e) (λ c p f. some_none l (sym is ∙ (here c p f).1))
 
 -- what stands at another stop of the blocks
-same_stop : (e : Entry) (w : Walked [] (e.place + info_offset e.bytes) (blocks_of e.bytes) (chapter.texts_of (package_for e))) (f : old.Front) (at : ℕ)
+same_stop : (e : Package) (w : Walked [] (e.place + info_offset e.bytes) (blocks_of e.bytes) (chapter.texts_of e)) (f : old.Front) (at : ℕ)
     → Stops (old.front_of w.rest) → Stops f → old.StandsAt (blocks_of e.bytes) f at → (old.front_of w.rest ≡ f) × (at + length w.rest ≡ length (blocks_of e.bytes))
 same_stop e w f at here there (bs, rest, leads, front, place) =
     let one = one_stop (blocks_of e.bytes) w.blocks bs w.rest rest w.leads leads here (subst Stops (sym front) there) in
@@ -607,10 +600,10 @@ cut_is_not_bad : old.CutText ≡ old.BadBlock → ⊥
 cut_is_not_bad e = cc
 
 -- the walk over the blocks of a package
-abbrev Walk : Entry → Type 0
-Walk e = Walked [] (e.place + info_offset e.bytes) (blocks_of e.bytes) (chapter.texts_of (package_for e))
+abbrev Walk : Package → Type 0
+Walk e = Walked [] (e.place + info_offset e.bytes) (blocks_of e.bytes) (chapter.texts_of e)
 
-no_text : (e : Entry) → HasFixedPart e.bytes → (w : Walk e) → old.front_of w.rest ≡ old.End → HasNone (IsTextFault e)
+no_text : (e : Package) → HasFixedPart e.bytes → (w : Walk e) → old.front_of w.rest ≡ old.End → HasNone (IsTextFault e)
 no_text e h w end StringHeader p (other, (at, f, is)) = not_both e.bytes f.1 h
 no_text e h w end StringBlock p (other, (at, (fixed, k, stands, place), is)) =
     end_is_not_bad (sym end ∙ (same_stop e w old.BadBlock k (end_stops (old.front_of w.rest) end) tt stands).0)
@@ -620,13 +613,13 @@ no_text e h w end LanguageText p (other, f) = other refl
 no_text e h w end _ p (other, (at, f, is)) = f
 
 -- the place of a walk's end
-abbrev stop_place : (e : Entry) → Walk e → ℕ
+abbrev stop_place : (e : Package) → Walk e → ℕ
 stop_place e w = e.place + info_offset e.bytes + (length (blocks_of e.bytes) - length w.rest)
 
-stands : (e : Entry) (w : Walk e) (f : old.Front) → old.front_of w.rest ≡ f → old.StandsAt (blocks_of e.bytes) f (length (blocks_of e.bytes) - length w.rest)
+stands : (e : Package) (w : Walk e) (f : old.Front) → old.front_of w.rest ≡ f → old.StandsAt (blocks_of e.bytes) f (length (blocks_of e.bytes) - length w.rest)
 stands e w f is = (w.blocks, w.rest, w.leads, is, omega (arith, w.less))
 
-alone_text : (e : Entry) → HasFixedPart e.bytes → (w : Walk e) → old.front_of w.rest ≡ old.CutText → (c : Cause) (p : ℕ) → IsTextFault e c p → (c ≡ StringText) × (p ≡ stop_place e w)
+alone_text : (e : Package) → HasFixedPart e.bytes → (w : Walk e) → old.front_of w.rest ≡ old.CutText → (c : Cause) (p : ℕ) → IsTextFault e c p → (c ≡ StringText) × (p ≡ stop_place e w)
 alone_text e h w cut StringHeader p (other, (at, f, is)) = absurd (not_both e.bytes f.1 h)
 alone_text e h w cut StringBlock p (other, (at, (fixed, k, stand, place), is)) =
     absurd (cut_is_not_bad (sym cut ∙ (same_stop e w old.BadBlock k (subst Stops (sym cut) tt) tt stand).0))
@@ -636,7 +629,7 @@ alone_text e h w cut StringText p (other, (at, (fixed, k, stand, place), is)) =
 alone_text e h w cut LanguageText p (other, f) = absurd (other refl)
 alone_text e h w cut _ p (other, (at, f, is)) = absurd f
 
-alone_block : (e : Entry) → HasFixedPart e.bytes → (w : Walk e) → old.front_of w.rest ≡ old.BadBlock → (c : Cause) (p : ℕ) → IsTextFault e c p → (c ≡ StringBlock) × (p ≡ stop_place e w)
+alone_block : (e : Package) → HasFixedPart e.bytes → (w : Walk e) → old.front_of w.rest ≡ old.BadBlock → (c : Cause) (p : ℕ) → IsTextFault e c p → (c ≡ StringBlock) × (p ≡ stop_place e w)
 alone_block e h w bad StringHeader p (other, (at, f, is)) = absurd (not_both e.bytes f.1 h)
 alone_block e h w bad StringBlock p (other, (at, (fixed, k, stand, place), is)) =
     let same = (same_stop e w old.BadBlock k (subst Stops (sym bad) tt) tt stand).1 in
@@ -646,12 +639,12 @@ alone_block e h w bad StringText p (other, (at, (fixed, k, stand, place), is)) =
 alone_block e h w bad LanguageText p (other, f) = absurd (other refl)
 alone_block e h w bad _ p (other, (at, f, is)) = absurd f
 
-told_cut : (e : Entry) → HasFixedPart e.bytes → (w : Walk e) → old.front_of w.rest ≡ old.CutText → IsStringFaultIn e.bytes e.place StringText (stop_place e w)
+told_cut : (e : Package) → HasFixedPart e.bytes → (w : Walk e) → old.front_of w.rest ≡ old.CutText → IsStringFaultIn e.bytes e.place StringText (stop_place e w)
 told_cut e h w cut =
     let k = length (blocks_of e.bytes) - length w.rest in
     (info_offset e.bytes + k, (h, k, stands e w old.CutText cut, refl), omega arith)
 
-told_bad : (e : Entry) → HasFixedPart e.bytes → (w : Walk e) → old.front_of w.rest ≡ old.BadBlock → IsStringFaultIn e.bytes e.place StringBlock (stop_place e w)
+told_bad : (e : Package) → HasFixedPart e.bytes → (w : Walk e) → old.front_of w.rest ≡ old.BadBlock → IsStringFaultIn e.bytes e.place StringBlock (stop_place e w)
 told_bad e h w bad =
     let k = length (blocks_of e.bytes) - length w.rest in
     (info_offset e.bytes + k, (h, k, stands e w old.BadBlock bad, refl), omega arith)
@@ -662,10 +655,10 @@ text_is_not_language e = cc
 block_is_not_language : StringBlock ≡ LanguageText → ⊥
 block_is_not_language e = cc
 
-text_part : (e : Entry) → HasFixedPart e.bytes → AreFaults (fault_in (chapter.texts_of (package_for e))) (IsTextFault e)
+text_part : (e : Package) → HasFixedPart e.bytes → AreFaults (fault_in (chapter.texts_of e)) (IsTextFault e)
 text_part e h = by (blocks_walked e)
   where
-    by : Walk e → AreFaults (fault_in (chapter.texts_of (package_for e))) (IsTextFault e)
+    by : Walk e → AreFaults (fault_in (chapter.texts_of e)) (IsTextFault e)
     by w = elim w.ends [
       | inl x ↦ where_same (IsTextFault e) (ap fault_in x.1) (no_faults (IsTextFault e) (no_text e h w x.0))
       | inr r ↦ elim r [
@@ -674,7 +667,7 @@ text_part e h = by (blocks_walked e)
       ]
     ]
 
-package_has : (e : Entry) → AreFaults (faults_in (package_for e)) (IsStringFaultIn e.bytes e.place)
+package_has : (e : Package) → AreFaults (faults_in e) (IsStringFaultIn e.bytes e.place)
 package_has e =
     elim (header_cases e.bytes) [
       | inl bad ↦ where_same (IsStringFaultIn e.bytes e.place) (bad_header e bad) (one_fault (IsStringFaultIn e.bytes e.place) StringHeader e.place (0, (refl, bad), omega arith) (alone_header e bad))
@@ -688,22 +681,19 @@ abbrev faults_in_each : List Package → List Fault
 faults_in_each [] = []
 faults_in_each (p ∷ ps) = then_faults (faults_in p) (faults_in_each ps)
 
-each_has : (es : List Entry) → AreFaults (faults_in_each (map package_for es)) (IsStringsFault es)
+each_has : (es : List Package) → AreFaults (faults_in_each es) (IsStringsFault es)
 each_has [] = no_faults (IsStringsFault []) (λ c p f. f)
 each_has (e ∷ es) =
-    same_parts (faults_in (package_for e)) (faults_in_each (map package_for es)) (IsStringFaultIn e.bytes e.place) (IsStringsFault es) (package_has e) (λ none. each_has es)
+    same_parts (faults_in e) (faults_in_each es) (IsStringFaultIn e.bytes e.place) (IsStringsFault es) (package_has e) (λ none. each_has es)
 
 string_faults_are : (list : List ℕ) → string_faults list ≡ faults_in_each (packages_with STRINGS list)
 string_faults_are list = refl
 
-pub same_string_faults : (list : List ℕ) (packages : List (List ℕ)) → SpellsPackages list packages → AreFaults (string_faults list) (IsStringsFault (string_packages packages))
-same_string_faults list packages s =
-    where_same (IsStringsFault (string_packages packages))
-    (string_faults_are list ∙ ap faults_in_each (packages_of_type list packages STRINGS s)) (each_has (string_packages packages))
+pub same_string_faults : (list : List ℕ) → AreFaults (string_faults list) (IsStringsFault (packages_with STRINGS list))
+same_string_faults list = where_same (IsStringsFault (packages_with STRINGS list)) (string_faults_are list) (each_has (packages_with STRINGS list))
 
-pub same_least_string : (list : List ℕ) (packages : List (List ℕ)) (fault : CodeFault) → SpellsPackages list packages
-    → (IsLeast (string_faults list) (fault_for fault.cause fault.place) ↔ IsLeastOf (IsStringsFault (string_packages packages)) fault)
-same_least_string list packages fault s = same_least (string_faults list) (IsStringsFault (string_packages packages)) fault (same_string_faults list packages s)
+pub same_least_string : (list : List ℕ) (fault : CodeFault) → (IsLeastAmong (string_faults list) fault ↔ IsLeast (IsStringsFault (packages_with STRINGS list)) fault)
+same_least_string list fault = same_least (string_faults list) (IsStringsFault (packages_with STRINGS list)) fault (same_string_faults list)
 
 -- ---- packages without a fault
 
@@ -711,7 +701,7 @@ some_text : (o : Option (List ℕ)) → (o ≡ None → ⊥) → (l : List ℕ) 
 some_text None some = absurd (some refl)
 some_text (Some l) some = (l, refl)
 
-whole_blocks : (e : Entry) → HasFixedPart e.bytes → HasNone (IsStringFaultIn e.bytes e.place) → (blocks : List old.Block) × old.AreBlocks (blocks_of e.bytes) blocks
+whole_blocks : (e : Package) → HasFixedPart e.bytes → HasNone (IsStringFaultIn e.bytes e.place) → (blocks : List old.Block) × old.AreBlocks (blocks_of e.bytes) blocks
 whole_blocks e h none = by (blocks_walked e)
   where
     by : Walk e → (blocks : List old.Block) × old.AreBlocks (blocks_of e.bytes) blocks
@@ -723,7 +713,7 @@ whole_blocks e h none = by (blocks_walked e)
       ]
     ]
 
-one_speaks : (e : Entry) → HasNone (IsStringFaultIn e.bytes e.place) → (s : Spoken) × Speaks e.bytes s
+one_speaks : (e : Package) → HasNone (IsStringFaultIn e.bytes e.place) → (s : Spoken) × Speaks e.bytes s
 one_speaks e none =
     elim (header_cases e.bytes) [
       | inl bad ↦ absurd (none StringHeader e.place (0, (refl, bad), omega arith))
@@ -736,7 +726,7 @@ one_speaks e none =
           ))
     ]
 
-each_speaks : (es : List Entry) → HasNone (IsStringsFault es) → (spoken : List Spoken) × AreSpoken es spoken
+each_speaks : (es : List Package) → HasNone (IsStringsFault es) → (spoken : List Spoken) × AreSpoken es spoken
 each_speaks [] none = ([], tt)
 each_speaks (e ∷ es) none =
     let first : HasNone (IsStringFaultIn e.bytes e.place) = λ c p f. none c p (inl f) in
@@ -744,21 +734,19 @@ each_speaks (e ∷ es) none =
     let others = each_speaks es (λ c p f. none c p (inr (first, f))) in
     (one.0 ∷ others.0, (one.1, others.1))
 
-pub spoken_where_none : (list : List ℕ) (packages : List (List ℕ)) → SpellsPackages list packages
-    → ((string_faults list ≡ []) ↔ ((spoken : List Spoken) × AreSpoken (string_packages packages) spoken))
-spoken_where_none list packages s =
-    let none = same_none (string_faults list) (IsStringsFault (string_packages packages)) (same_string_faults list packages s) in
-    (λ e. each_speaks (string_packages packages) (none.0 e), λ spoken. none.1 (spoken_sound (string_packages packages) spoken.0 spoken.1))
+pub spoken_where_none : (list : List ℕ) → ((string_faults list ≡ []) ↔ ((spoken : List Spoken) × AreSpoken (packages_with STRINGS list) spoken))
+spoken_where_none list =
+    let packages = packages_with STRINGS list in
+    let none = same_none (string_faults list) (IsStringsFault packages) (same_string_faults list) in
+    (λ e. each_speaks packages (none.0 e), λ spoken. none.1 (spoken_sound packages spoken.0 spoken.1))
 
 -- ---- what is opened, up to the string packages
 
--- the faults of the string packages that are cut off behind the header of a list
-abbrev IsTextFaultOf : List ℕ → Cause → ℕ → Type 0
-IsTextFaultOf list = IsStringsFault (string_packages (pieces_of (drop 20 list)))
-
-pub text_faults_behind : (list : List ℕ) → list_faults list ≡ [] → AreFaults (string_faults list) (IsTextFaultOf list)
-text_faults_behind list none = same_string_faults list (pieces_of (drop 20 list)) ((spelled_where_none list).0 none)
-
 pub same_opening_faults : (list : List ℕ) (n : ℕ)
-    → AreFaults (then_faults (list_faults list) (then_faults (number_faults list n) (string_faults list))) (Then (Then (IsListFault list) (IsFormsFault list n)) (IsTextFaultOf list))
-same_opening_faults list n = behind_source list n (string_faults list) (IsTextFaultOf list) (λ none no_number. text_faults_behind list none)
+    → AreFaults (then_faults (list_faults list) (then_faults (number_faults list n) (string_faults list)))
+    (Then (Then (IsAmong (list_faults list)) (IsAmong (number_faults list n))) (IsStringsFault (packages_with STRINGS list)))
+same_opening_faults list n =
+    let Source : Cause → ℕ → Type 0 = Then (IsAmong (list_faults list)) (IsAmong (number_faults list n)) in
+    let source = same_parts (list_faults list) (number_faults list n) (IsAmong (list_faults list)) (IsAmong (number_faults list n)) (are_among (list_faults list)) (λ none. are_among (number_faults list n)) in
+    where_same (Then Source (IsStringsFault (packages_with STRINGS list))) (sym (then_faults-then_faults (list_faults list) (number_faults list n) (string_faults list)))
+    (same_parts (then_faults (list_faults list) (number_faults list n)) (string_faults list) Source (IsStringsFault (packages_with STRINGS list)) source (λ none. same_string_faults list))

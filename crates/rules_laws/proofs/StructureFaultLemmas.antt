@@ -23,13 +23,13 @@ use Rattle.browser_rules.specs.Opcodes as chapter
 use Rattle.browser_rules.specs.Opcodes.{Class, of_nothing, is_a, is_the, an_operator, row_of, FORM_SET, VALUE}
 use Rattle.browser_rules.specs.Words as words
 use Rattle.browser_rules.specs.Words.{last, is_some_and}
-use Rattle.rules_laws.specs.laws.Faults.{AreFaults}
-use Rattle.rules_laws.specs.Causes.{cause_for}
+use Rattle.hii_bytes.specs.Faults.{AreFaults}
+use Rattle.hii_bytes.specs.Causes.{cause_for}
 use Rattle.rules_laws.specs.laws.Opcodes.{class_for, mark_for}
 use Rattle.rules_laws.specs.laws.Structure.{opcodes_at, HasShapeFault, IsOwnFault, AreToldAtNodes}
 use Rattle.rules_laws.proofs.FaultLemmas.{said_as, if_fault, either_kind, first_there}
 use Rattle.rules_laws.proofs.NodeLemmas.{last_same}
-use Rattle.rules_laws.proofs.PackageLemmas.{both_kinds, one_fault, no_faults, where_same}
+use Rattle.hii_bytes.proofs.ChapterFaultLemmas.{both_kinds, one_fault, no_faults, where_same}
 use Rattle.rules_laws.proofs.OpcodeExpressionLemmas.{opcodes_same}
 use Rattle.ifr_opcodes.proofs.RowLemmas.{operator_same}
 use Rattle.rules_laws.proofs.OpcodeScopeLemmas.{admits_same, inside_same, value_wanted_same, wanted_same, wrong_same}

@@ -26,9 +26,9 @@ use Rattle.ifr_scopes.proofs.ExpressionLemmas.{IsIn, innermost-push, own_fault}
 use Rattle.ifr_scopes.proofs.TableLemmas.{guards_no_operator, operator_row, wants_no_operator, wants_no_value}
 use Rattle.ifr_scopes.proofs.ViewLemmas.{below_within}
 use Rattle.browser_rules.specs.Faults.{IsLeast, structure_faults}
-use Rattle.rules_laws.specs.Causes.{fault_for}
+use Rattle.hii_bytes.specs.Causes.{fault_for}
 use Rattle.rules_laws.specs.laws.Structure.{opcodes_at, IsOwnFault}
-use Rattle.rules_laws.proofs.PackageLemmas.{same_least, same_none}
+use Rattle.hii_bytes.proofs.ChapterFaultLemmas.{same_least, same_none}
 use Rattle.rules_laws.proofs.StructureFaultLemmas.{same_own_faults}
 
 -- ---- a node in the scope of an operator

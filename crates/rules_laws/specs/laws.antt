@@ -1,8 +1,6 @@
 -- What the contracts say, in the words of the chapters.
 pub mod Defaults
-pub mod Faults
 pub mod Opcodes
-pub mod Packages
 pub mod Pages
 pub mod Policy
 pub mod Questions

@@ -5,7 +5,7 @@ ghost use Rattle.ifr_opcodes.specs.Forest.{SpellsForest};
 ghost use Rattle.ifr_opcodes.specs.Reading.{tree_of};
 ghost use Rattle.ifr_scopes.specs.Framing.{IsFramingFault};
 ghost use Rattle.browser_rules.specs.Faults.{framing_faults};
-ghost use Rattle.rules_laws.specs.laws.Faults.{AreFaults};
+ghost use Rattle.hii_bytes.specs.Faults.{AreFaults};
 
 /// The framing of a package has a fault of a cause at a place by the chapters exactly where it has it by the contracts.
 pub fn faults_of_framing_are_the_same()

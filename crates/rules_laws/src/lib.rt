@@ -5,7 +5,6 @@ pub mod defaults;
 pub mod framing;
 pub mod nodes;
 pub mod opcodes;
-pub mod packages;
 pub mod pages;
 pub mod policy;
 pub mod question_faults;

@@ -6,7 +6,7 @@ ghost use Rattle.ifr_scopes.specs.Checked.{IsChecked};
 ghost use Rattle.ifr_scopes.specs.Nodes.{nodes_of};
 ghost use Rattle.ifr_scopes.specs.References.{IsReferenceFault};
 ghost use Rattle.browser_rules.specs.Faults.{reference_faults};
-ghost use Rattle.rules_laws.specs.laws.Faults.{AreFaults};
+ghost use Rattle.hii_bytes.specs.Faults.{AreFaults};
 ghost use Rattle.rules_laws.specs.laws.References.{IsWholeRule};
 
 /// Nodes have a fault among each other of a cause at a place by the chapters exactly where they have it by the contracts, if the tree

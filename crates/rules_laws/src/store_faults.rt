@@ -6,7 +6,7 @@ ghost use Rattle.hii_varstore.specs.Faults.{IsImageFault};
 ghost use Rattle.hii_varstore.specs.Layout.{Shape};
 ghost use Rattle.hii_varstore.specs.StoreNodes.{IsStoreFault};
 ghost use Rattle.browser_rules.specs.Faults.{image_faults, store_faults};
-ghost use Rattle.rules_laws.specs.laws.Faults.{AreFaults};
+ghost use Rattle.hii_bytes.specs.Faults.{AreFaults};
 ghost use Rattle.rules_laws.specs.laws.Stores.{shape_for};
 
 /// The stores among nodes have a fault of a cause at a place by the chapters exactly where they have it by the contracts.

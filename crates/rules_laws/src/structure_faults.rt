@@ -1,17 +1,15 @@
 //! Nodes by themselves: which faults the chapters find in them, and which the contracts say.
 
-ghost use Rattle.std.specs.Prelude.{◌≡◌, ◌⊎◌, ◌↔◌, ℕ, List, [], Contains};
+ghost use Rattle.std.specs.Prelude.{◌≡◌, ◌⊎◌, ◌↔◌, ℕ, List, []};
 ghost use Rattle.hii_bytes.specs.declared.cause.Cause.{Cause};
 ghost use Rattle.hii_bytes.specs.declared.cause.Cause.TheVariants.{Misplaced, ScopeBit};
 ghost use Rattle.hii_bytes.specs.declared.cause.Fault.{Fault as CodeFault};
-ghost use Rattle.hii_bytes.specs.Faults.{HasNone, IsLeast as IsLeastOf};
+ghost use Rattle.hii_bytes.specs.Faults.{AreFaults, HasNone, IsAmong, IsLeast, IsLeastAmong};
 ghost use Rattle.ifr_opcodes.specs.Forest.{Node, SpellsForest};
 ghost use Rattle.ifr_opcodes.specs.Reading.{tree_of};
 ghost use Rattle.ifr_scopes.specs.Nodes.{nodes_of};
 ghost use Rattle.ifr_scopes.specs.Structure.{IsStructureFault};
-ghost use Rattle.browser_rules.specs.Faults.{IsLeast, structure_faults};
-ghost use Rattle.rules_laws.specs.laws.Faults.{AreFaults};
-ghost use Rattle.rules_laws.specs.Causes.{fault_for};
+ghost use Rattle.browser_rules.specs.Faults.{structure_faults};
 ghost use Rattle.rules_laws.specs.laws.Structure.{AreToldAtNodes, IsOwnFault};
 
 /// Nodes have, by the chapters, exactly the faults that the contracts say of nodes, and those of the shape of each
@@ -30,19 +28,19 @@ pub fn faults_of_structure_are_the_same()
 /// contracts tell the Scope of every opcode in an expression, and the chapters that of operators alone, where another is misplaced.
 pub fn faults_of_a_package_are_the_same_but_for_scope()
     ensures told { (bytes : List ℕ) (cause : Cause) (place : ℕ) → SpellsForest bytes (tree_of bytes)
-        → Contains (structure_faults (nodes_of bytes)) (fault_for cause place)
+        → IsAmong (structure_faults (nodes_of bytes)) cause place
         → IsStructureFault (nodes_of bytes) cause place }
     ensures found { (bytes : List ℕ) (cause : Cause) (place : ℕ) → SpellsForest bytes (tree_of bytes)
         → IsStructureFault (nodes_of bytes) cause place
-        → Contains (structure_faults (nodes_of bytes)) (fault_for cause place)
-        ⊎ ((cause ≡ ScopeBit) × Contains (structure_faults (nodes_of bytes)) (fault_for Misplaced place)) }
+        → IsAmong (structure_faults (nodes_of bytes)) cause place
+        ⊎ ((cause ≡ ScopeBit) × IsAmong (structure_faults (nodes_of bytes)) Misplaced place) }
 {}
 
 /// The least fault of the nodes of a package that spells a forest is the same by the chapters and by the contracts.
 pub fn the_least_fault_of_structure_is_the_same()
     ensures { (bytes : List ℕ) (fault : CodeFault) → SpellsForest bytes (tree_of bytes)
-        → (IsLeast (structure_faults (nodes_of bytes)) (fault_for fault.cause fault.place)
-        ↔ IsLeastOf (IsStructureFault (nodes_of bytes)) fault) }
+        → (IsLeastAmong (structure_faults (nodes_of bytes)) fault
+        ↔ IsLeast (IsStructureFault (nodes_of bytes)) fault) }
 {}
 
 /// The nodes of a package that spells a forest have no fault by the chapters exactly where they have none by the contracts.

@@ -6,36 +6,30 @@ use Rattle.std.proofs.lemmas.Bool.{cases_Bool}
 use Rattle.browser_rules.specs.Headline as headline
 use Rattle.browser_rules.specs.Nodes as rows
 use Rattle.browser_rules.specs.Opcodes.{FORM}
-use Rattle.browser_rules.specs.Packages.{device_path, forms_bytes}
+use Rattle.browser_rules.specs.Packages.{Package, device_path, forms_bytes}
 use Rattle.browser_rules.specs.Policy as policy
 use Rattle.browser_rules.specs.Session as chapter
 use Rattle.browser_rules.specs.Stores as held
 use Rattle.browser_rules.specs.Strings as strings
 use Rattle.browser_rules.specs.Strings.{spoken_in}
-use Rattle.hii_packages.specs.Packages.{Entry}
 use Rattle.ifr_opcodes.specs.Forest.{Node, places}
 use Rattle.ifr_scopes.specs.Nodes.{is_form, nodes_of}
 use Rattle.hii_languages.specs.Languages.{Spoken}
-use Rattle.session_steps.specs.Opening.{HasPath, HasSource, HasTexts, Opens, layout_in}
+use Rattle.session_steps.specs.Opening.{HasSource, HasTexts, Opens, layout_in}
 use Rattle.session_steps.specs.State.{State}
 use Rattle.session_laws.specs.laws.Session.{Stands, state_for}
 use Rattle.rules_laws.specs.laws.Stores.{stores_for}
 use Rattle.rules_laws.specs.laws.Strings.{spoken_for}
 use Rattle.session_laws.proofs.SeenLemmas.{alike_now}
-use Rattle.rules_laws.proofs.PackageLemmas.{device_path_read, forms_bytes_read}
 use Rattle.rules_laws.proofs.PolicyLemmas.{removed_at_same}
 use Rattle.rules_laws.proofs.StoreLemmas.{shape_same, spelled_same}
 use Rattle.rules_laws.proofs.StringLemmas.{same_choice, same_spoken}
 
-forms_same : (list : List ℕ) (n : ℕ) (source : Entry) → HasSource list n source → forms_bytes list n ≡ source.bytes
-forms_same list n source (packages, spells, nth) =
-    forms_bytes_read list packages n spells ∙ ap (λ (o : Option Entry). unwrap_or (option_map (λ (e : Entry). e.bytes) o) []) nth
-
-path_same : (list path : List ℕ) → HasPath list path → device_path list ≡ path
-path_same list path (packages, spells, is) = device_path_read list packages spells ∙ sym is
+forms_same : (list : List ℕ) (n : ℕ) (source : Package) → HasSource list n source → forms_bytes list n ≡ source.bytes
+forms_same list n source (_, found) = ap (λ (o : Option Package). unwrap_or (option_map (λ (p : Package). p.bytes) o) []) found
 
 said_same : (list : List ℕ) (spoken : List Spoken) → HasTexts list spoken → spoken_in list ≡ map spoken_for spoken
-said_same list spoken (packages, spells, are) = same_spoken list packages spoken spells are
+said_same list spoken are = same_spoken list spoken are
 
 first_form : (ns : List Node) (place : ℕ) (others : List ℕ) → places (filter is_form ns) ≡ place ∷ others → unwrap_or (option_map (λ (form : Node). form.place) (find (rows.is FORM) ns)) 0 ≡ place
 first_form [] place others e = let bad : ◌≡◌ {A = List ℕ} [] (place ∷ others) = e in absurd (cc)
@@ -82,7 +76,7 @@ pub begins : (list : List ℕ) (n : ℕ) (image language : List ℕ) (start : St
 unfolding state_for
 begins list n image language start opens stands =
     ap (λ (ifr : List ℕ). begun language stores ifr (device_path list) (spoken_in list)) (opened_bytes list n image language start opens)
-    ∙ ap (λ (path : List ℕ). begun language stores start.ifr path (spoken_in list)) (path_same list start.path opens.path)
+    ∙ ap (λ (path : List ℕ). begun language stores start.ifr path (spoken_in list)) (sym opens.path)
     ∙ ap (λ (said : List strings.Spoken). begun language stores start.ifr start.path said) (said_same list start.spoken opens.texts)
     ∙ ap (λ (removed : List ℕ). state_with start removed choice stores form []) (removed_at_same start.ifr start.removed (chapter.now (state_for start)) start.working (alike_now start stands) ∙ sym opens.removed)
     ∙ ap (λ (choice : Option ℕ). state_with start start.removed choice stores form []) (same_choice start.spoken language ∙ sym opens.language_is)

@@ -1,17 +1,20 @@
 -- The least fault of what a session is opened over, and that there is none.
-use Rattle.std.proofs.Common.{◌≡◌, ◌↔◌, ℕ, zero, suc, ◌+◌, ◌≤◌, ◌<◌, ◌==◌, ◌^◌, List, [], ◌∷◌, ◌++◌, length, drop, Option, Some, None, option_map, unwrap_or, refl, sym, ap, subst, ◌∙◌, arith, inl, inr, append_assoc}
-use Rattle.std.specs.Prelude.{slice_get, slice_index}
+use Rattle.std.proofs.Common.{◌≡◌, ◌↔◌, ℕ, zero, suc, ◌+◌, ◌≤◌, ◌<◌, ◌==◌, ◌^◌, List, [], ◌∷◌, ◌++◌, length, map, drop, Option, Some, None, option_map, unwrap_or, refl, sym, ap, subst, ◌∙◌, arith, inl, inr, append_assoc}
+use Rattle.std.specs.Prelude.{filter, slice_get, slice_index}
 use Rattle.std.specs.List.{AllByRecursion, concat}
 use Rattle.std.proofs.Math.Seq.{get_or-drop}
 use Rattle.std.proofs.lemmas.Bool.{cases_Bool}
-use Rattle.hii_bytes.specs.Faults.{HasNone, IsLeast as IsLeastOf, Then}
+use Rattle.hii_bytes.specs.Causes.{fault_for}
+use Rattle.hii_bytes.specs.Faults.{AreFaults, HasNone, IsAmong, IsLeast as IsLeastOf, Then}
 use Rattle.hii_bytes.specs.Numbers.{AreBytes}
 use Rattle.hii_bytes.specs.declared.cause.Cause.{Cause}
 use Rattle.hii_bytes.specs.declared.cause.Fault.{Fault as CodeFault}
 use Rattle.hii_bytes.proofs.FaultLemmas.{then_first, then_second, then_none}
 use Rattle.hii_bytes.proofs.NumberLemmas.{number_in-lt}
-use Rattle.hii_packages.specs.Packages.{Entry, IsPackage, SpellsPackages, end_package, forms_in, nth_forms, pieces_of, placed}
-use Rattle.hii_packages.specs.declared.package.TheConstants.{FORMS}
+use Rattle.hii_packages.specs.Packages.{packages_of}
+use Rattle.hii_packages.specs.laws.Spelling.{IsPackage, SpellsPackages, end_package, placed}
+use Rattle.hii_packages.proofs.ListLemmas.{missing_faults}
+use Rattle.hii_packages.proofs.SpellLemmas.{spelled_of_type, spelled_where_sound}
 use Rattle.ifr_scopes.specs.Accepted.{IsPackageFault}
 use Rattle.ifr_scopes.specs.Checked.{IsChecked}
 use Rattle.ifr_scopes.specs.Framing.{IsFramingFault}
@@ -25,19 +28,16 @@ use Rattle.session_steps.specs.Opening as session
 use Rattle.session_steps.specs.Opening.{layout_in, IsSourceFault, IsTextFault, IsFormSetFault, IsBrowsingFault, IsOpenFault}
 use Rattle.session_steps.proofs.SourceLemmas.{source_bytes}
 use Rattle.browser_rules.specs.Faults.{Fault, IsLeast, then_faults, list_faults, number_faults, string_faults, framing_faults, structure_faults, reference_faults, store_faults, question_faults, image_faults, open_faults}
-use Rattle.browser_rules.specs.Packages.{forms_bytes}
+use Rattle.browser_rules.specs.Packages.{FORMS, Package, forms_bytes, forms_package}
 use Rattle.browser_rules.specs.Stores.{shape_of}
-use Rattle.rules_laws.specs.laws.Faults.{AreFaults}
-use Rattle.rules_laws.specs.Causes.{fault_for}
-use Rattle.rules_laws.specs.laws.Packages.{package_for}
 use Rattle.rules_laws.proofs.FramingLemmas.{same_framing_faults, spelled_where_framed}
-use Rattle.rules_laws.proofs.PackageLemmas.{forms_bytes_read, forms_read, missing_faults, same_least, same_none, same_source_faults, some_faults, spelled_where_none, then_faults-then_faults, then_faults_none}
+use Rattle.hii_bytes.proofs.ChapterFaultLemmas.{are_among, same_least, same_none, same_parts, some_faults, then_faults-then_faults, then_faults_none}
 use Rattle.rules_laws.proofs.PolicyConditionLemmas.{front_bytes}
 use Rattle.rules_laws.proofs.QuestionFaultLemmas.{same_question_faults}
 use Rattle.rules_laws.proofs.ReferenceFaultLemmas.{same_checked_faults}
 use Rattle.rules_laws.proofs.StoreFaultLemmas.{same_image_faults, same_store_faults}
 use Rattle.rules_laws.proofs.StoreLemmas.{shape_same}
-use Rattle.rules_laws.proofs.StringLemmas.{text_faults_behind}
+use Rattle.rules_laws.proofs.StringLemmas.{same_string_faults}
 use Rattle.rules_laws.proofs.StructureLeastLemmas.{same_least_structure, same_sound}
 
 -- ---- parts that have the same least fault, and none where the other has none
@@ -140,7 +140,7 @@ each_bytes (p ∷ ps) rest are all =
     let there : AreBytes (p ++ (concat ps ++ rest)) = subst AreBytes (append_assoc p (concat ps) rest) are in
     ((all.0, front_bytes p (concat ps ++ rest) there), each_bytes ps rest (behind_bytes p (concat ps ++ rest) there) all.1)
 
-found_among : (P : List ℕ → Type 0) (place : ℕ) (ps : List (List ℕ)) (n : ℕ) (e : Entry) → AllByRecursion P ps → slice_get (forms_in (placed place ps)) n ≡ Some e → P e.bytes
+found_among : (P : List ℕ → Type 0) (place : ℕ) (ps : List (List ℕ)) (n : ℕ) (e : Package) → AllByRecursion P ps → slice_get (filter (λ (p : Package). p.kind == FORMS) (placed place ps)) n ≡ Some e → P e.bytes
 found_among P place [] n e all found = absurd cc
 found_among P place (p ∷ ps) zero e all found = elim (cases_Bool (slice_index p 3 == FORMS)) [
   | inl is ↦ (let first = rw is at found in let same : p ≡ e.bytes = cc in subst P same all.0)
@@ -157,38 +157,47 @@ fits p (is, are) = (is.header, (let few = number_in-lt p 0 3 are in let told = i
 -- ---- all parts
 
 -- the forms package of a number is one of the list's
-package_found : (packages : List (List ℕ)) (n : ℕ) (e : Entry) → AllByRecursion IsBytePackage packages → nth_forms packages n ≡ Some e → IsBytePackage e.bytes
-package_found packages zero e all found = absurd cc
-package_found packages (suc n) e all found = found_among IsBytePackage 20 packages n e all found
+package_found : (list : List ℕ) (packages : List (List ℕ)) (n : ℕ) (e : Package) → SpellsPackages list packages → AllByRecursion IsBytePackage packages → forms_package list n ≡ Some e → IsBytePackage e.bytes
+package_found list packages zero e s all found = absurd cc
+package_found list packages (suc n) e s all found =
+    found_among IsBytePackage 20 packages n e all (sym (ap (λ (ps : List Package). slice_get ps n) (spelled_of_type list packages FORMS s)) ∙ found)
 
--- where the list spells packages, and one is the forms package of the number
-behind_texts : (list : List ℕ) (n : ℕ) (image : List ℕ) → AreBytes list → SpellsPackages list (pieces_of (drop 20 list)) → number_faults list n ≡ []
+-- where the list and the number of the forms package have no fault
+behind_texts : (list : List ℕ) (n : ℕ) (image : List ℕ) → AreBytes list → list_faults list ≡ [] → number_faults list n ≡ []
     → AreAlike (browsing_faults (forms_bytes list n) image) (IsBrowsingFault (session.forms_bytes list n) image)
-behind_texts list n image are s numbered = by (nth_forms packages n) refl
+behind_texts list n image are sound numbered = by (forms_package list n) refl
   where
     packages : List (List ℕ)
-    packages = pieces_of (drop 20 list)
+    packages = map (λ (p : Package). p.bytes) (packages_of list)
+
+    spelled : SpellsPackages list packages
+    spelled = spelled_where_sound list sound
 
     behind_header : AreBytes (drop 20 list)
     behind_header = λ k. rw (get_or-drop 20 list k 0) (are (20 + k))
 
-    by : (o : Option Entry) → nth_forms packages n ≡ o → AreAlike (browsing_faults (forms_bytes list n) image) (IsBrowsingFault (session.forms_bytes list n) image)
-    by None missing = absurd (some_faults _ _ (sym (missing_faults list n (forms_read list packages n s ∙ ap (option_map package_for) missing)) ∙ numbered))
+    by : (o : Option Package) → forms_package list n ≡ o → AreAlike (browsing_faults (forms_bytes list n) image) (IsBrowsingFault (session.forms_bytes list n) image)
+    by None missing = absurd (some_faults _ _ (sym (missing_faults list n missing) ∙ numbered))
     by (Some e) found =
-        let its = fits e.bytes (package_found packages n e (each_bytes packages (end_package ++ s.rest) (subst AreBytes s.whole behind_header) s.each) found) in
-        let read : forms_bytes list n ≡ e.bytes = forms_bytes_read list packages n s ∙ ap (λ (o : Option Entry). unwrap_or (option_map (λ (e : Entry). e.bytes) o) []) found in
-        subst (λ (ifr : List ℕ). AreAlike (browsing_faults (forms_bytes list n) image) (IsBrowsingFault ifr image)) (sym (source_bytes list n e (packages, s, found)))
+        let each = each_bytes packages (end_package ++ spelled.rest) (subst AreBytes spelled.whole behind_header) spelled.each in
+        let its = fits e.bytes (package_found list packages n e spelled each found) in
+        let read : forms_bytes list n ≡ e.bytes = ap (λ (o : Option Package). unwrap_or (option_map (λ (p : Package). p.bytes) o) []) found in
+        subst (λ (ifr : List ℕ). AreAlike (browsing_faults (forms_bytes list n) image) (IsBrowsingFault ifr image)) (sym (source_bytes list n e (sound, found)))
         (alike_as (IsBrowsingFault e.bytes image) (ap (λ (ifr : List ℕ). browsing_faults ifr image) read) (browsing_alike e.bytes image its.0 its.1))
+
+source_faults : (list : List ℕ) (n : ℕ) → AreFaults (then_faults (list_faults list) (number_faults list n)) (IsSourceFault list n)
+source_faults list n =
+    same_parts (list_faults list) (number_faults list n) (IsAmong (list_faults list)) (IsAmong (number_faults list n)) (are_among (list_faults list)) (λ none. are_among (number_faults list n))
 
 open_alike : (list : List ℕ) (n : ℕ) (image : List ℕ) → AreBytes list → AreAlike (open_faults list n image) (IsOpenFault list n image)
 open_alike list n image are =
     let later = then_faults (string_faults list) (browsing_faults (forms_bytes list n) image) in
     let Later = Then (IsTextFault list) (IsBrowsingFault (session.forms_bytes list n) image) in
     alike_as (IsOpenFault list n image) (sym (then_faults-then_faults (list_faults list) (number_faults list n) later))
-    (alike_parts (then_faults (list_faults list) (number_faults list n)) later (IsSourceFault list n) Later (alike _ _ (same_source_faults list n)) λ none.
+    (alike_parts (then_faults (list_faults list) (number_faults list n)) later (IsSourceFault list n) Later (alike _ _ (source_faults list n)) λ none.
     let both = then_faults_none (list_faults list) (number_faults list n) none in
-    alike_parts (string_faults list) (browsing_faults (forms_bytes list n) image) (IsTextFault list) (IsBrowsingFault (session.forms_bytes list n) image) (alike _ _ (text_faults_behind list both.0))
-    (λ texts. behind_texts list n image are ((spelled_where_none list).0 both.0) both.1))
+    alike_parts (string_faults list) (browsing_faults (forms_bytes list n) image) (IsTextFault list) (IsBrowsingFault (session.forms_bytes list n) image) (alike _ _ (same_string_faults list))
+    (λ texts. behind_texts list n image are both.0 both.1))
 
 pub same_least_opening : (list : List ℕ) (n : ℕ) (image : List ℕ) (fault : CodeFault) → AreBytes list
     → (IsLeast (open_faults list n image) (fault_for fault.cause fault.place) ↔ IsLeastOf (IsOpenFault list n image) fault)

@@ -1,12 +1,11 @@
 -- Outcomes by the chapters: what is denied, what is refused, and how one is made over what is there.
 use Rattle.std.proofs.Common.{◌≡◌, ℕ, Bool, true, false, Option, Some, None, Result, Ok, Err, List, [], ◌++◌, refl, sym, ap, ◌∙◌}
-use Rattle.std.specs.Prelude.{if◌then◌else◌, option_map, unwrap_or, codes, decimal}
+use Rattle.std.specs.Prelude.{if◌then◌else◌, option_map, unwrap_or, codes}
 use Rattle.std.proofs.Math.Path.{fun_ext}
 use Rattle.browser_rules.specs.Pages.{in_utf8}
 use Rattle.browser_rules.specs.Session as chapter
 use Rattle.browser_rules.specs.Policy as policy
 use Rattle.browser_rules.specs.Words as words
-use Rattle.hii_bytes.specs.Cause.{number_of}
 use Rattle.hii_bytes.specs.Texts.{place_text}
 use Rattle.hii_bytes.specs.declared.cause.Cause.{Cause}
 use Rattle.hii_bytes.specs.declared.cause.Fault.{Fault}
@@ -17,10 +16,9 @@ use Rattle.form_page.specs.Texts.{utf8}
 use Rattle.session_steps.specs.State.{State, texts}
 use Rattle.session_steps.specs.Step.{Outcome, denied, denied_by_none, refused}
 use Rattle.session_steps.specs.Texts.{refused_at_text, refused_text}
-use Rattle.rules_laws.specs.Causes.{cause_for}
+use Rattle.hii_bytes.specs.Causes.{cause_for}
 use Rattle.rules_laws.specs.Denials.{denial_for, kind_for}
 use Rattle.session_laws.specs.laws.Session.{outcome_for, state_for}
-use Rattle.rules_laws.proofs.PackageLemmas.{same_names, same_numbers}
 use Rattle.rules_laws.proofs.PolicyLemmas.{names_same}
 use Rattle.rules_laws.proofs.StringLemmas.{same_shown}
 
@@ -61,23 +59,13 @@ plain_denied s kind place plain =
 -- ---- refused
 
 pub refusal_same : (cause : Cause) → words.refused_text (cause_for cause) ≡ refused_text cause
-refusal_same cause =
-    ap (λ (number : ℕ). with_text number (codes (words.number_and_name (cause_for cause)).1)) (same_numbers cause)
-    ∙ ap (λ (name : List ℕ). with_text (number_of cause) name) (same_names cause)
-  where
-    with_text : ℕ → List ℕ → List ℕ
-    with_text number name = codes "REFUSED " ++ decimal number ++ codes " " ++ name ++ codes "\n"
+refusal_same cause = refl
 
 pub refused_same : (s : State) (cause : Cause) → chapter.refused (state_for s) (cause_for cause) ≡ outcome_for (refused s cause)
 refused_same s cause = ap (λ (text : List ℕ). record { state = state_for s; text = text; reply = chapter.Refused (cause_for cause) }) (refusal_same cause)
 
 pub refusal_at_same : (fault : Fault) → words.refused_at_text (cause_for fault.cause) fault.place ≡ refused_at_text fault
-refusal_at_same fault =
-    ap (λ (number : ℕ). with_text number (codes (words.number_and_name (cause_for fault.cause)).1)) (same_numbers fault.cause)
-    ∙ ap (λ (name : List ℕ). with_text (number_of fault.cause) name) (same_names fault.cause)
-  where
-    with_text : ℕ → List ℕ → List ℕ
-    with_text number name = codes "REFUSED " ++ decimal number ++ codes " " ++ name ++ codes " at " ++ place_text fault.place ++ codes "\n"
+refusal_at_same fault = refl
 
 -- ---- over what denies, what is there and what was read
 

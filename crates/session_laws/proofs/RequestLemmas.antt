@@ -33,7 +33,7 @@ use Rattle.session_steps.specs.Configuration.{block_bytes, block_field, first_fr
 use Rattle.session_steps.specs.State.{State, world_of}
 use Rattle.session_steps.specs.Step.{Outcome, denied, denied_by_none, extract_bytes, extract_from, extract_reading, extract_unless, configuration_text, first_untold, go_on, route_reading, route_to, set_block, set_blocks, set_field, set_question, telling_denial}
 use Rattle.session_steps.specs.Texts.{count_text}
-use Rattle.rules_laws.specs.Causes.{cause_for}
+use Rattle.hii_bytes.specs.Causes.{cause_for}
 use Rattle.rules_laws.specs.Denials.{denial_for}
 use Rattle.rules_laws.specs.laws.Questions.{field_for, offer_for}
 use Rattle.session_laws.specs.laws.Session.{AreStored, Stands, outcome_for, state_for}

@@ -49,7 +49,7 @@ use Rattle.config_text.specs.declared.kind.TextKind.TheVariants.{Ask, Tell}
 use Rattle.session_steps.specs.State.{State, texts, world_of}
 use Rattle.session_steps.specs.Step.{Outcome, accepted, changed, denied, denied_by_none, follow, form_of, go_back_to, go_to, go_unless_fixed, is_other, page_at, press_statement, press_unless_fixed, question_denial, row_of_form, set_question, show_form, show_unless_hidden, step, step_line, step_reading, step_text, line_cause, submit_unless, told_why, why_question}
 use Rattle.session_steps.specs.Texts.{changed_text, count_text, ok_text}
-use Rattle.rules_laws.specs.Causes.{cause_for}
+use Rattle.hii_bytes.specs.Causes.{cause_for}
 use Rattle.rules_laws.specs.Denials.{denial_for}
 use Rattle.rules_laws.specs.laws.Questions.{field_for, offer_for}
 use Rattle.session_laws.specs.laws.Session.{Stands, outcome_for, state_for}

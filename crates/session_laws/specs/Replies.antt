@@ -1,6 +1,6 @@
 -- How the code answers a command, as the chapters say it.
 use Rattle.browser_rules.specs.Session as chapter
-use Rattle.rules_laws.specs.Causes.{cause_for}
+use Rattle.hii_bytes.specs.Causes.{cause_for}
 use Rattle.rules_laws.specs.Denials.{denial_for}
 use Rattle.session_steps.specs.declared.reply.Reply.{Reply}
 use Rattle.session_steps.specs.declared.reply.Reply.TheVariants.{Accepted, Denied, Refused}

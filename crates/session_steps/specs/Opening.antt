@@ -1,10 +1,11 @@
 -- Which bytes open a session, and with which faults they do not (own rule).
-use Rattle.std.specs.Prelude.{◌≡◌, ℕ, List, [], ◌∷◌, drop, filter, Option, Some, None}
-use Rattle.hii_bytes.specs.Faults.{Then}
+use Rattle.std.specs.Prelude.{◌≡◌, ℕ, List, [], ◌∷◌, filter, Some}
+use Rattle.browser_rules.specs.Faults.{list_faults, number_faults}
+use Rattle.browser_rules.specs.Packages as chapter
+use Rattle.browser_rules.specs.Packages.{Package, STRINGS, device_path, forms_package, packages_with}
+use Rattle.hii_bytes.specs.Faults.{IsAmong, Then}
 use Rattle.hii_bytes.specs.declared.cause.Cause.{Cause}
-use Rattle.hii_packages.specs.Packages.{Entry, SpellsPackages, pieces_of, nth_forms, device_path_of}
-use Rattle.hii_packages.specs.Faults.{IsListFault, IsFormsFault}
-use Rattle.hii_languages.specs.Languages.{Spoken, string_packages, AreSpoken, IsStringsFault, chosen}
+use Rattle.hii_languages.specs.Languages.{Spoken, AreSpoken, IsStringsFault, chosen}
 use Rattle.ifr_opcodes.specs.Forest.{places}
 use Rattle.form_sets.specs.Packages.{IsGoodPackage}
 use Rattle.ifr_scopes.specs.Accepted.{IsPackageFault}
@@ -18,34 +19,21 @@ use Rattle.hii_questions.specs.Faults.{IsQuestionFault}
 use Rattle.guard_policy.specs.World.{removed_at}
 use Rattle.session_steps.specs.State.{State}
 
--- the bytes of a package, none where it is not there
-abbrev pub bytes_or_none : Option Entry → List ℕ
-bytes_or_none None = []
-bytes_or_none (Some source) = source.bytes
-
--- the bytes of the forms package of a number, or none (UEFI 2.8, 33.3.1: a list's packages stand behind its header of 20 bytes)
+-- the bytes of the forms package of a number, or none, by the chapter Packages
 unfoldable pub forms_bytes : List ℕ → ℕ → List ℕ
-forms_bytes list n = bytes_or_none (nth_forms (pieces_of (drop 20 list)) n)
+forms_bytes list n = chapter.forms_bytes list n
 
--- The list spells packages, and this is its forms package of the number.
-abbrev pub HasSource : List ℕ → ℕ → Entry → Type 0
-HasSource list n source =
-    (packages : List (List ℕ)) × SpellsPackages list packages × (nth_forms packages n ≡ Some source)
+-- The list has no fault, and this is its forms package of the number.
+abbrev pub HasSource : List ℕ → ℕ → Package → Type 0
+HasSource list n source = (list_faults list ≡ []) × (forms_package list n ≡ Some source)
 
--- The list spells packages, and its string packages say this.
+-- The string packages of the list say this.
 abbrev pub HasTexts : List ℕ → List Spoken → Type 0
-HasTexts list spoken =
-    (packages : List (List ℕ)) × SpellsPackages list packages
-    × AreSpoken (string_packages packages) spoken
-
--- The list spells packages, and this is its device path.
-abbrev pub HasPath : List ℕ → List ℕ → Type 0
-HasPath list path =
-    (packages : List (List ℕ)) × SpellsPackages list packages × (path ≡ device_path_of packages)
+HasTexts list spoken = AreSpoken (packages_with STRINGS list) spoken
 
 -- the faults of the string packages of a list, in their order
 abbrev pub IsTextFault : List ℕ → Cause → ℕ → Type 0
-IsTextFault list = IsStringsFault (string_packages (pieces_of (drop 20 list)))
+IsTextFault list = IsStringsFault (packages_with STRINGS list)
 
 -- the stores that a package declares
 abbrev pub layout_in : List ℕ → Shape
@@ -53,7 +41,7 @@ layout_in ifr = layout_of (nodes_of ifr)
 
 -- the faults of a list's packages, then that there is no forms package of the number
 abbrev pub IsSourceFault : List ℕ → ℕ → Cause → ℕ → Type 0
-IsSourceFault list n = Then (IsListFault list) (IsFormsFault list n)
+IsSourceFault list n = Then (IsAmong (list_faults list)) (IsAmong (number_faults list n))
 
 -- the faults of a forms package, then of its stores, then of its questions
 abbrev pub IsFormSetFault : List ℕ → Cause → ℕ → Type 0
@@ -71,10 +59,10 @@ IsOpenFault list n image =
     Then (IsSourceFault list n)
     (Then (IsTextFault list) (IsBrowsingFault (forms_bytes list n) image))
 
--- What the bytes are that open a session in any language: the list spells packages, among them a good forms package of the
--- number, its string packages say texts, and the image spells the stores that the forms package declares.
+-- What the bytes are that open a session in any language: the list has no fault, its forms package of the number is a good one,
+-- its string packages say texts, and the image spells the stores that the forms package declares.
 pub record AreGood (list : List ℕ) (n : ℕ) (image : List ℕ) : Type 0 where
-  pub source : Entry
+  pub source : Package
   pub found : HasSource list n source
   pub spoken : List Spoken
   pub texts : HasTexts list spoken
@@ -82,14 +70,14 @@ pub record AreGood (list : List ℕ) (n : ℕ) (image : List ℕ) : Type 0 where
   pub stores : StoreMap
   pub image_is : SpellsImage (layout_in source.bytes) image stores
 
--- The list spells packages, among them a good forms package of the number; its string packages say texts, of which those for the
+-- The list has no fault, and its forms package of the number is a good one; its string packages say texts, of which those for the
 -- language are shown; the image spells its stores, with which a session begins, at the first form; the DISABLE_IFs that hold over
 -- these stores are removed.
 pub record Opens (list : List ℕ) (n : ℕ) (image language : List ℕ) (start : State) : Type 0 where
-  pub source : Entry
+  pub source : Package
   pub found : HasSource list n source
   pub bytes : start.ifr ≡ source.bytes
-  pub path : HasPath list start.path
+  pub path : start.path ≡ device_path list
   pub texts : HasTexts list start.spoken
   pub language_is : start.language ≡ chosen start.spoken language
   pub good : IsGoodPackage start.ifr

@@ -1,5 +1,5 @@
 -- Where the bytes of a store come from.
-use Rattle.std.proofs.Common.{◌≡◌, ◌≢◌, ◌∙◌, ◌++◌, ◌∷◌, ◌+◌, ◌<◌, ◌/◌, ◌%◌, ℕ, zero, suc, Bool, true, false, cond, nat_lt, eqb, List, [], Option, Some, None, drop, get_or, length, slice_index, slice_range, take, ap, arith, codes, inl, inr, refl, sym}
+use Rattle.std.proofs.Common.{◌≡◌, ◌≢◌, ◌∙◌, ◌++◌, ◌∷◌, ◌+◌, ◌<◌, ◌/◌, ◌%◌, ℕ, zero, suc, Bool, true, false, cond, nat_lt, eqb, List, [], Option, Some, None, drop, get_or, length, slice_index, slice_range, take, ap, arith, codes, inl, inr, refl}
 use Rattle.std.proofs.lemmas.Bool.{cases_Bool, eq-eqb, ne_eqb}
 use Rattle.std.proofs.lemmas.List.{take_more}
 use Rattle.std.proofs.lemmas.Str.{IsAscii-append, IsUtf8-from_ascii, IsUtf8-from_is_utf8, is_utf8-from_IsUtf8}
@@ -9,21 +9,11 @@ use Rattle.std.specs.List.{AllByRecursion, list_any}
 use Rattle.std.specs.Option.{option_or}
 use Rattle.std.specs.Str.{IsAscii, IsUtf8, is_utf8}
 use Rattle.hii_bytes.specs.Numbers.{AreBytes}
-use Rattle.hii_packages.specs.Packages.{Entry, nth_forms}
 use Rattle.ifr_opcodes.specs.Forest.{Node}
 use Rattle.ifr_scopes.specs.Stores.{store_guid, store_name}
-use Rattle.session_steps.specs.Opening.{HasSource}
-use Rattle.session_steps.proofs.SourceLemmas.{spelled_pieces}
 use Rattle.audit_options.specs.declared.tasks.StoreFile.{StoreFile}
 use Rattle.audit_text.specs.Texts.{digits_of, guid_text}
 use Rattle.setup_audit.specs.Sources.{is_slash, last_given, variable_path}
-
--- a list has one forms package of a number
-pub one_source : (list : List ℕ) (n : ℕ) (s t : Entry) → HasSource list n s → HasSource list n t → s ≡ t
-one_source list n s t (ps, spells, found) (qs, spells_too, found_too) =
-    let same : ps ≡ qs = sym (spelled_pieces list ps spells) ∙ spelled_pieces list qs spells_too in
-    let e : Some s ≡ Some t = sym found ∙ ap (λ (packages : List (List ℕ)). nth_forms packages n) same ∙ found_too in
-    cc
 
 -- ---- the last file that is given
 

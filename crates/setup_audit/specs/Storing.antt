@@ -1,8 +1,8 @@
 -- What `stores` says of a list (own rule).
 use Rattle.std.specs.Prelude.{◌≡◌, ℕ, List}
+use Rattle.browser_rules.specs.Packages.{Package}
 use Rattle.hii_bytes.specs.declared.cause.Cause.TheVariants.{OutOfMemory}
 use Rattle.hii_bytes.specs.Faults.{HasNone}
-use Rattle.hii_packages.specs.Packages.{Entry}
 use Rattle.ifr_scopes.specs.Nodes.{nodes_of}
 use Rattle.session_steps.specs.Opening.{HasSource}
 use Rattle.session_steps.specs.Texts.{refused_text}
@@ -14,7 +14,7 @@ use Rattle.setup_audit.specs.declared.ended.Ended.TheVariants.{Done, Refused, No
 
 -- These are the bytes of the forms package of a number, which has no fault of its own, of its stores or of its questions.
 pub record IsDeclaredBy (list : List ℕ) (number : ℕ) (ifr : List ℕ) : Type 0 where
-  pub source : Entry
+  pub source : Package
   pub found : HasSource list number source
   pub bytes : ifr ≡ source.bytes
   pub sound : HasNone (IsDeclaredFault list number)

@@ -1,9 +1,9 @@
 //! What a form set declares.
 
 ghost use Rattle.std.specs.Prelude.{◌≡◌, IfOk, IfErr};
+ghost use Rattle.browser_rules.specs.Packages as chapter;
 ghost use Rattle.hii_bytes.specs.Faults.{HasNone, IsLeast, Refuses};
-ghost use Rattle.hii_packages.specs.Packages.{Entry};
-ghost use Rattle.hii_packages.specs.code.Package.{entry_of};
+ghost use Rattle.hii_packages.specs.code.Package.{package_of};
 ghost use Rattle.ifr_scopes.specs.Nodes.{nodes_of};
 ghost use Rattle.hii_varstore.specs.StoreNodes.{layout_of};
 ghost use Rattle.form_sets.specs.Packages.{IsGoodPackage};
@@ -11,7 +11,6 @@ ghost use Rattle.session_steps.specs.Opening.{HasSource, IsSourceFault, IsFormSe
 ghost use Rattle.store_audit.specs.Declaring.{IsDeclaredFault};
 
 use hii_bytes::Fault;
-use hii_packages::laws::spelled_bytes_have_no_fault;
 use hii_packages::{Package, PackageList};
 use hii_questions::Questions;
 use hii_varstore::Layout;
@@ -43,7 +42,7 @@ impl<'a> Declared<'a> {
     /// is no such forms package (6), of the forms package (20 to 33, 39, 40), of its stores (34) or of its questions (35 to
     /// 38). String packages are not read. Where an allocation fails the fault is OutOfMemory (60) at 0.
     pub fn read(alloc: Global, list: &'a [u8], number: usize) -> Result<Declared<'a>, Fault>
-        ensures found { IfOk result (λ declared. (source : Entry)
+        ensures found { IfOk result (λ declared. (source : chapter.Package)
             × HasSource list.entry.now number source × (declared ≡ source.bytes)) }
         ensures good { IfOk result IsGoodPackage }
         ensures sound { IfOk result (λ declared. HasNone (IsDeclaredFault list.entry.now number)) }
@@ -71,11 +70,10 @@ impl<'a> Declared<'a> {
 /// The forms package of a number in a list, counted from 1, or the least fault of the list's packages (1 to 5), or that there is no
 /// such forms package (6).
 pub fn forms_package(list: &[u8], number: usize) -> Result<Package<'_>, Fault>
-    ensures found { IfOk result (λ source. HasSource list.entry.now number (entry_of source)) }
+    ensures found { IfOk result (λ source. HasSource list.entry.now number (package_of source)) }
     ensures refused { IfErr result (IsLeast (IsSourceFault list.entry.now number)) }
 {
     let packages = PackageList::read(list)?;
-    spelled_bytes_have_no_fault();
     packages.forms(number)
 }
 

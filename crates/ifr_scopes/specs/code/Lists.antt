@@ -1,6 +1,7 @@
 -- What the iterators over a package have before them.
-use Rattle.std.specs.Prelude.{ℕ, List, drop, filter, map, reverse}
+use Rattle.std.specs.Prelude.{ℕ, List, [], ◌∷◌, drop, filter, map, reverse}
 use Rattle.ifr_opcodes.specs.Forest.{Node}
+use Rattle.ifr_opcodes.specs.declared.codes.TheConstants.{SUBTITLE, TEXT, RESET_BUTTON, CHECKBOX, NUMERIC, ONE_OF, STRING, PASSWORD, ORDERED_LIST, DATE, TIME, ACTION, REF}
 use Rattle.ifr_opcodes.specs.declared.op.Op.{Op}
 use Rattle.ifr_scopes.specs.code.Checked.{node_in}
 use Rattle.ifr_opcodes.specs.Rows.{is_statement_number}
@@ -26,6 +27,12 @@ use Rattle.ifr_scopes.specs.declared.statement.Statement.{Statement}
 use Rattle.ifr_scopes.specs.declared.statement.StatementKind.{StatementKind}
 use Rattle.ifr_scopes.specs.declared.statement.StatementKind.TheVariants as kind
 use Rattle.ifr_scopes.specs.declared.statement.Statements.{Statements}
+
+-- the numbers of the statements that have a view
+abbrev pub statement_numbers : List ℕ
+statement_numbers =
+    SUBTITLE ∷ TEXT ∷ RESET_BUTTON ∷ CHECKBOX ∷ NUMERIC ∷ ONE_OF ∷ STRING ∷ PASSWORD ∷ ORDERED_LIST ∷ DATE ∷ TIME
+    ∷ ACTION ∷ REF ∷ []
 
 -- a guard, a form, a rule and a statement as nodes
 abbrev pub guard_node : Guard → Node

@@ -2,14 +2,14 @@ use Rattle.std.proofs.Common.{filter, sym, ap, ◌∙◌}
 use Rattle.std.specs.List.{flat_map}
 use Rattle.std.specs.Option.{option_or}
 use Rattle.hii_bytes.proofs.WritingLemmas.{◌⨾◌, past_piece}
-use Rattle.hii_packages.specs.code.Package.{entry_of}
+use Rattle.hii_packages.specs.code.Package.{package_of}
 use Rattle.dump_audit.specs.Contents.{begins_with_form_set, guid_word, first_title}
 use Rattle.dump_audit.proofs.ContentLemmas.{sets_more, or_some}
 use Rattle.dump_audit.proofs.contents.put_form_sets.Goals as goal
 
 pub loop-source-preserved-in-Some-form_set_of : goal.loop-source-preserved-in-Some-form_set_of
 loop-source-preserved-in-Some-form_set_of g c =
-    let e = entry_of c.in-Some.source in
+    let e = package_of c.in-Some.source in
     let later = c.next.new.self in
     let found = c.in-Some-form_set_of.ensures in
     let sets = sets_more c.loop-source.source-iterator later e c.in-Some.ensures.steps found.0 in

@@ -1,5 +1,5 @@
-use Rattle.hii_packages.proofs.SpellLemmas.{spelled_lie}
+use Rattle.hii_packages.proofs.SpellLemmas.{read_lie}
 use Rattle.hii_packages.proofs.laws.packages_lie_at_their_places.Goals as goal
 
 pub returns : goal.returns
-returns c = spelled_lie
+returns c = read_lie

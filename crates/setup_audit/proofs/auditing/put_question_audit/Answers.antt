@@ -1,28 +1,28 @@
 use Rattle.std.proofs.Common.{◌≡◌, ℕ, ap, subst, refl, sym, inl, inr}
 use Rattle.std.proofs.lemmas.Result.{IfErr-weaker, IfOk-weaker, on_err_weaker}
+use Rattle.browser_rules.specs.Packages.{Package}
 use Rattle.hii_bytes.specs.declared.cause.Fault.{Fault}
-use Rattle.hii_packages.specs.Packages.{Entry}
-use Rattle.hii_packages.specs.code.Package.{entry_of}
+use Rattle.hii_packages.specs.code.Package.{package_of}
 use Rattle.form_audit.specs.Audited.{Audited}
 use Rattle.form_audit.specs.code.Pages.{audited}
 use Rattle.question_audit.specs.QuestionFacts.{BeginsQuestionText, IsQuestionText}
 use Rattle.setup_audit.specs.Auditing.{audited_at}
-use Rattle.setup_audit.proofs.SourceLemmas.{one_source}
+use Rattle.session_steps.proofs.SourceLemmas.{one_source}
 use Rattle.setup_audit.proofs.auditing.put_question_audit.Goals as goal
 
 pub put_question_with_id-requires-clause-in_list : goal.put_question_with_id-requires-clause-in_list
 put_question_with_id-requires-clause-in_list g c =
     let opens = c.in_ok-browser.ensures.opened.0 in
     let its = c.in_ok-package.package in
-    let source = one_source c.args.given.list.now c.args.given.forms (entry_of its) opens.source c.in_ok-package.ensures.found opens.found in
-    rw (c.page.ensures.bytes, opens.bytes, sym (ap (λ (e : Entry). e.bytes) source)) its.in_list
+    let source = one_source c.args.given.list.now c.args.given.forms (package_of its) opens.source c.in_ok-package.ensures.found opens.found in
+    rw (c.page.ensures.bytes, opens.bytes, sym (ap (λ (p : Package). p.bytes) source)) its.in_list
 
 pub returns-clause-told : goal.returns-clause-told
 returns-clause-told g c =
     let s = c.in_ok-browser.browser.state in
     let opens = c.in_ok-browser.ensures.opened.0 in
     let its = c.in_ok-package.package in
-    let source = one_source c.args.given.list.now c.args.given.forms (entry_of its) opens.source c.in_ok-package.ensures.found opens.found in
+    let source = one_source c.args.given.list.now c.args.given.forms (package_of its) opens.source c.in_ok-package.ensures.found opens.found in
     let same : audited c.page.result ≡ audited_at s =
     rw (c.page.ensures.world, c.page.ensures.spoken, c.page.ensures.language, c.page.ensures.stores, c.page.ensures.bytes) refl in
     IfOk-weaker c.put_question_with_id.result _ _
@@ -31,7 +31,7 @@ returns-clause-told g c =
       record {
         start = s;
         opens = opens;
-        told = subst (λ (place : ℕ). IsQuestionText is_there (audited_at s) place c.args.id told.0) (ap (λ (e : Entry). e.place) source)
+        told = subst (λ (place : ℕ). IsQuestionText is_there (audited_at s) place c.args.id told.0) (ap (λ (p : Package). p.place) source)
             (subst (λ (a : Audited). IsQuestionText is_there a its.place c.args.id told.0) same told.1);
       },
       told.2,
@@ -50,7 +50,7 @@ returns-clause-begun g c =
     let s = c.in_ok-browser.browser.state in
     let opens = c.in_ok-browser.ensures.opened.0 in
     let its = c.in_ok-package.package in
-    let source = one_source c.args.given.list.now c.args.given.forms (entry_of its) opens.source c.in_ok-package.ensures.found opens.found in
+    let source = one_source c.args.given.list.now c.args.given.forms (package_of its) opens.source c.in_ok-package.ensures.found opens.found in
     let same : audited c.page.result ≡ audited_at s =
     rw (c.page.ensures.world, c.page.ensures.spoken, c.page.ensures.language, c.page.ensures.stores, c.page.ensures.bytes) refl in
     on_err_weaker c.put_question_with_id.result
@@ -59,7 +59,7 @@ returns-clause-begun g c =
       inr (
         s,
         opens,
-        subst (λ (place : ℕ). BeginsQuestionText (audited_at s) place c.args.id begun.0) (ap (λ (e : Entry). e.place) source)
+        subst (λ (place : ℕ). BeginsQuestionText (audited_at s) place c.args.id begun.0) (ap (λ (p : Package). p.place) source)
             (subst (λ (a : Audited). BeginsQuestionText a its.place c.args.id begun.0) same begun.1),
       ),
       begun.2,

@@ -3,36 +3,36 @@ use Rattle.std.proofs.lemmas.Bool.Decides.{nat_tests}
 use Rattle.std.proofs.lemmas.Grind.{common_steps}
 use Rattle.std.proofs.lemmas.Result.{err_from_is_err_and}
 use Rattle.hii_bytes.proofs.FirstFaultLemmas.{accepted_without}
-use Rattle.hii_packages.specs.code.Package.{entry_of}
-use Rattle.hii_packages.specs.Packages.{entries}
+use Rattle.hii_packages.specs.code.Package.{package_of}
+use Rattle.hii_packages.specs.Packages.{packages_of}
 use Rattle.hii_languages.proofs.SpokenLemmas.{is_strings, read_more, read_fault, spoken_sound}
 use Rattle.hii_languages.proofs.languages.Languages.read.Goals as goal
 
 pub returns-in_err-table-clause-refused : goal.returns-in_err-table-clause-refused
 returns-in_err-table-clause-refused c =
     let r = rw c.in-Some.ensures.steps at c.loop-source.invariant in
-    let strings : is_strings (entry_of c.in-Some.source) ≡ true = grind (arith, nat_tests) in
+    let strings : is_strings (package_of c.in-Some.source) ≡ true = grind (arith, nat_tests) in
     let p = err_from_is_err_and c.from_residual.result c.from_residual.ensures.1 in
     rw (p.1, p.2)
     (elim c.in_err-table.ensures.refused [
       | inl memory ↦ inl memory
-      | inr least ↦ inr (read_fault (entries c.args.list.now) c.loop-source.tables.items (entry_of c.in-Some.source) _ _ r strings least)
+      | inr least ↦ inr (read_fault (packages_of c.args.list.now) c.loop-source.tables.items (package_of c.in-Some.source) _ _ r strings least)
     ])
 
 pub returns-in_err-table-clause-accepted : goal.returns-in_err-table-clause-accepted
 returns-in_err-table-clause-accepted c = λ spoken are.
     let r = rw c.in-Some.ensures.steps at c.loop-source.invariant in
-    let strings : is_strings (entry_of c.in-Some.source) ≡ true = grind (arith, nat_tests) in
+    let strings : is_strings (package_of c.in-Some.source) ≡ true = grind (arith, nat_tests) in
     let p = err_from_is_err_and c.from_residual.result c.from_residual.ensures.1 in
     rw (p.1, p.2)
     (elim c.in_err-table.ensures.refused [
       | inl memory ↦ memory
-      | inr least ↦ absurd (accepted_without _ _ (read_fault (entries c.args.list.now) c.loop-source.tables.items (entry_of c.in-Some.source) _ _ r strings least) (spoken_sound _ spoken are))
+      | inr least ↦ absurd (accepted_without _ _ (read_fault (packages_of c.args.list.now) c.loop-source.tables.items (package_of c.in-Some.source) _ _ r strings least) (spoken_sound _ spoken are))
     ])
 
 pub loop-source-preserved-in-Continue-branch-2 : goal.loop-source-preserved-in-Continue-branch-2
 loop-source-preserved-in-Continue-branch-2 c =
     let r = rw c.in-Some.ensures.steps at c.loop-source.invariant in
-    let strings : is_strings (entry_of c.in-Some.source) ≡ true = grind (arith, nat_tests) in
+    let strings : is_strings (package_of c.in-Some.source) ≡ true = grind (arith, nat_tests) in
     let pushed : c.push.new.self.items ≡ c.loop-source.tables.items ++ c.in_ok-table.table ∷ [] = grind (arith, common_steps) in
-    rw pushed (read_more (entries c.args.list.now) c.loop-source.tables.items (entry_of c.in-Some.source) _ c.in_ok-table.table r strings c.in_ok-table.ensures.read)
+    rw pushed (read_more (packages_of c.args.list.now) c.loop-source.tables.items (package_of c.in-Some.source) _ c.in_ok-table.table r strings c.in_ok-table.ensures.read)

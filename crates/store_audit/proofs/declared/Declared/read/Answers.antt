@@ -1,10 +1,10 @@
 use Rattle.std.proofs.lemmas.Result.{IfOk-weaker, IfErr-weaker}
-use Rattle.hii_packages.specs.code.Package.{entry_of}
+use Rattle.hii_packages.specs.code.Package.{package_of}
 use Rattle.store_audit.proofs.DeclaringLemmas.{form_set_refuses, none_declared}
 use Rattle.store_audit.proofs.declared.Declared.read.Goals as goal
 
 pub returns-clause-found : goal.returns-clause-found
-returns-clause-found c = IfOk-weaker c.form_set.result _ _ (λ declared read. (entry_of c.in_ok-source.source, c.in_ok-source.ensures.found, read)) c.form_set.ensures.read
+returns-clause-found c = IfOk-weaker c.form_set.result _ _ (λ declared read. (package_of c.in_ok-source.source, c.in_ok-source.ensures.found, read)) c.form_set.ensures.read
 
 pub returns-clause-sound : goal.returns-clause-sound
 returns-clause-sound c = IfOk-weaker c.form_set.result _ _ (λ declared none. none_declared c.args.list.now c.args.number _ c.in_ok-source.ensures.found none) c.form_set.ensures.sound
