@@ -1,7 +1,9 @@
-//! Worked cases over dumps of package lists and over conditions in words, by public calls alone.
+//! Worked cases over dumps of package lists, over conditions in words and over images that are made, by public calls alone.
 #![tactic(auto)]
 
 #[cfg(test)]
 mod conditions;
 #[cfg(test)]
 mod dumps;
+#[cfg(test)]
+mod stores;

@@ -2,11 +2,10 @@
 use Rattle.std.proofs.Common.{◌≡◌, ℕ, zero, suc, ◌+◌, Some, List, [], ◌∷◌, ◌++◌, option_map, refl, sym, ap, ◌∙◌, subst, arith}
 use Rattle.std.specs.Prelude.{Contains, replicate}
 use Rattle.hii_bytes.specs.Numbers.{number_in}
-use Rattle.ifr_opcodes.specs.Rows.{row_of, is_question_number, is_statement_number}
+use Rattle.ifr_opcodes.specs.Rows.{row_of, is_question_number, is_statement_number, is_store_number}
 use Rattle.ifr_opcodes.specs.Reading.{cut, levels, tree_of}
 use Rattle.ifr_expr.specs.Dependence.{rule_ids}
 use Rattle.ifr_expr.specs.Support.{ids_of}
-use Rattle.ifr_scopes.specs.Kinds.{is_store_number}
 use Rattle.ifr_scopes.specs.Nodes.{nodes_of}
 use Rattle.hii_questions.specs.Fields.{question_with}
 use Rattle.guard_policy.specs.laws.Support.{support_over}

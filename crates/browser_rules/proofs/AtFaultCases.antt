@@ -42,6 +42,28 @@ unfolding computing
 a_line_with_its_end_is_run =
     (zeros, record at_first { working = ones }, opened, record { few = leb-true 13 1048576 refl; state = refl; answers = refl }, refl)
 
+-- The writer takes nothing: nothing is set.
+nothing_is_written : Leaves box 20 (served WriteAnswers 0) WriteAnswers
+unfolding computing
+nothing_is_written = (
+  refl,
+  inr (
+    zeros,
+    at_first,
+    true,
+    opened,
+    λ ended. leb-true 20 20 refl,
+    record {
+      few = leb-true 20 1048577 refl;
+      lines = 1;
+      soon = leb-true 0 1 refl;
+      state = refl;
+      part = record { part = 0; within = leb-true 0 51 refl; are = refl };
+      all_before = leb-true 0 0 refl;
+    },
+  ),
+)
+
 -- The writer takes the page and nothing behind it: the box is set then. One that takes the next answer too: it is
 -- submitted.
 a_line_whose_answer_is_not_written_is_run : Leaves box 20 (served WriteAnswers 51) WriteAnswers

@@ -3,3 +3,4 @@ mod CaseWords
 mod cases
 mod RenewedCases
 mod AtFaultCases
+mod SeriesCases

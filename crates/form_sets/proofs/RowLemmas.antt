@@ -4,12 +4,11 @@ use Rattle.std.specs.Prelude.{◌==◌, ◌||◌, not}
 use Rattle.std.proofs.lemmas.Bool.{cases_Bool, cond-true, cond-false, eqb-true, false≢true}
 use Rattle.ifr_opcodes.specs.declared.codes.TheConstants.{FORM_SET, VALUE, DEFAULT}
 use Rattle.ifr_opcodes.specs.Opcode.{number}
-use Rattle.ifr_opcodes.specs.Rows.{operands, is_operator, row_of, is_listed, is_question_number, is_statement_number}
+use Rattle.ifr_opcodes.specs.Rows.{operands, is_operator, row_of, is_listed, is_question_number, is_statement_number, is_store_number, is_condition_number, is_ignored}
 use Rattle.ifr_opcodes.proofs.RowLemmas.{none_takes}
 use Rattle.ifr_opcodes.specs.Forest.{Ancestor}
 use Rattle.ifr_opcodes.proofs.TableLemmas.{numbers, and_first, of_kind, not_of_kind}
 use Rattle.ifr_scopes.specs.Guards.{is_guard}
-use Rattle.ifr_scopes.specs.Kinds.{is_store_number, is_condition_number, is_ignored}
 use Rattle.ifr_scopes.specs.Table.{row, class_of, guarded, admits, wants_expression, wants_value, class_around}
 use Rattle.ifr_scopes.specs.declared.table.Class.{Class}
 use Rattle.ifr_scopes.specs.declared.table.Class.TheVariants.{OfFormSet, OfForm, OfText, OfQuestion, OfChoice, OfOptions, OfOption, OfExpression, OfNothing}
@@ -111,7 +110,7 @@ unfolding row row_of operands
 value_facts = (refl, refl)
 
 default_wants : wants_expression DEFAULT ≡ false
-unfolding is_condition_number
+unfolding is_condition_number row_of
 default_wants = refl
 
 -- what begins with a VALUE begins with no expression

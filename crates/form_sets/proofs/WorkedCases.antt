@@ -6,9 +6,8 @@ use Rattle.ifr_opcodes.specs.declared.codes.TheConstants.{FORM_SET, FORM, TEXT, 
 use Rattle.ifr_opcodes.specs.declared.kinds.TheConstants.{TYPE_OTHER}
 use Rattle.ifr_opcodes.specs.Forest.{Forest, none, node}
 use Rattle.ifr_opcodes.specs.Opcode.{number}
-use Rattle.ifr_opcodes.specs.Rows.{row_of, operands, is_question_number, is_statement_number}
+use Rattle.ifr_opcodes.specs.Rows.{row_of, operands, is_question_number, is_statement_number, is_store_number, is_condition_number, is_ignored}
 use Rattle.ifr_expr.specs.Trees.{leaf}
-use Rattle.ifr_scopes.specs.Kinds.{is_store_number, is_condition_number, is_ignored}
 use Rattle.ifr_scopes.specs.Table.{row}
 use Rattle.ifr_scopes.specs.declared.table.Class.TheVariants.{OfFormSet, OfForm, OfNothing, OfQuestion}
 use Rattle.ifr_scopes.specs.declared.table.Row.{Row}

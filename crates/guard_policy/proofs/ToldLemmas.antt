@@ -14,7 +14,7 @@ use Rattle.ifr_scopes.specs.Accepted.{IsAccepted}
 use Rattle.ifr_scopes.specs.code.Checked.{IsNodeOf, or_empty}
 use Rattle.ifr_scopes.specs.Guards.{is_guard, nodes_on, ancestors, guards}
 use Rattle.ifr_scopes.specs.code.Index.{is_conditional, kind_at}
-use Rattle.ifr_scopes.specs.Kinds.{is_condition_number}
+use Rattle.ifr_opcodes.specs.Rows.{row_of, is_condition_number}
 use Rattle.ifr_scopes.specs.code.Lists.{form_node, statement_node}
 use Rattle.ifr_scopes.specs.Nodes.{nodes_of, is_no_submit, options}
 use Rattle.ifr_scopes.proofs.PlaceLemmas.{is_found}
@@ -155,7 +155,7 @@ kind_found is (m ∷ ns) n e k = elim (cases_Bool (m.place == n.place)) [
 ]
 
 conditional_no_submit : (code : ℕ) → code ≡ NO_SUBMIT_IF → is_guard code || is_condition_number code ≡ true
-unfolding is_condition_number
+unfolding is_condition_number row_of
 conditional_no_submit code e = rw e refl
 
 pub kept_conditional : (g : Node) → is_kept g ≡ true → is_conditional g ≡ true

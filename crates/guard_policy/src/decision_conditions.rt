@@ -31,7 +31,7 @@ pub(crate) enum DecisionConditions<'a, 's> {
 
 impl<'a, 's> DecisionConditions<'a, 's> {
     /// The conditions of a decision of a policy.
-    #[tactic(auto, unfolding(ifr_scopes::specs::Kinds::is_condition_number))]
+    #[tactic(auto, using(ifr_opcodes::proofs::StatementLemmas::inconsistent_is, ifr_opcodes::proofs::StatementLemmas::warning_is))]
     pub(crate) fn of(policy: Policy<'a, 's>, decision: Decision<'a>) -> DecisionConditions<'a, 's>
         requires { IsSubjectOf policy.forms.now decision }
         ensures { (stores : StoreMap) → asked_left result

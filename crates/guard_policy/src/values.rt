@@ -57,7 +57,7 @@ impl<'a, 's> Policy<'a, 's> {
 
     /// Whether the value of a question of the package is consistent: no INCONSISTENT_IF of it holds over these stores. The
     /// denial, of the kind InconsistentIf, names the first by place, and its text.
-    #[tactic(auto, unfolding(ifr_scopes::specs::Kinds::is_condition_number))]
+    #[tactic(auto, using(ifr_opcodes::proofs::StatementLemmas::inconsistent_is))]
     pub fn consistent(&self, question: Question<'a>, stores: &Stores) -> Result<(), Denial>
         requires { IsNodeOf self.now.forms.now (question_node question) }
         ensures { result ≡ denying.unless
@@ -112,7 +112,7 @@ impl<'a, 's> Policy<'a, 's> {
     }
 
     /// Of what a question of the package warns over these stores: the WARNING_IFs of it that hold, by place.
-    #[tactic(auto, unfolding(ifr_scopes::specs::Kinds::is_condition_number))]
+    #[tactic(auto, using(ifr_opcodes::proofs::StatementLemmas::warning_is))]
     pub fn warnings(&self, question: Question<'a>, stores: &'s Stores) -> Warnings<'a, 's>
         requires { IsNodeOf self.now.forms.now (question_node question) }
         ensures { warnings_left result

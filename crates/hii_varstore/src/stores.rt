@@ -7,6 +7,7 @@ ghost use Rattle.hii_varstore.specs.Stores.{StoreMap, are_same_bytes, buffer_of,
 ghost use Rattle.hii_varstore.specs.code.Ranges.{IsCut};
 ghost use Rattle.hii_varstore.specs.code.Ranges.{HasRange};
 ghost use Rattle.hii_varstore.specs.code.Lending.{LendsField};
+ghost use Rattle.hii_varstore.specs.code.Table.{AreBuffers};
 ghost use Rattle.std.specs.Borrow.{sem};
 ghost use Rattle.hii_varstore.specs.Image.{image_of, SpellsImage};
 ghost use Rattle.hii_varstore.specs.Faults.{IsImageFault};
@@ -71,6 +72,8 @@ impl Stores {
     /// The stores of a layout with nothing but zeros in them, or OutOfMemory (60) at 0 where an allocation fails.
     pub fn zeros(alloc: Global, layout: &Layout<'_>) -> Result<Stores, Fault>
         ensures zeros { IfOk result (λ stores. stores ≡ zeros_of layout.now) }
+        // They have different ids.
+        ensures apart { IfOk result (λ stores. AreBuffers layout.now.buffers) }
         ensures refused { IfErr result (λ fault. fault ≡ out_of_memory) }
     {
         let table = layout.table().copy(alloc)?;

@@ -4,7 +4,7 @@ use Rattle.std.specs.List.{range_with_len}
 use Rattle.std.proofs.Math.ListN.{get_or-map}
 use Rattle.std.proofs.lemmas.List.FromFn.{get_or-map-range_with_len}
 use Rattle.browser_rules.specs.Opcodes.{row_of}
-use Rattle.ifr_opcodes.specs.Rows.{is_listed, is_question_number, is_statement_number, operands}
+use Rattle.ifr_opcodes.specs.Rows.{is_listed, is_question_number, is_statement_number, is_store_number, is_condition_number, is_ignored, operands}
 use Rattle.ifr_opcodes.specs.code.Roles as roles
 use Rattle.ifr_opcodes.specs.code.Roles.{role_of}
 use Rattle.ifr_opcodes.specs.code.Tables.{fields_length}
@@ -27,7 +27,7 @@ lengths = refl
 pub length_at : (code : ℕ) → code < 256 → fields_length code ≡ get_or LENGTHS code 0
 length_at code less = at_each (λ length. length) fields_length LENGTHS 256 lengths code 0 less
 
--- ---- which are known, which are questions and statements, and how many operands operators take
+-- ---- which are known, what they are, and how many operands operators take
 
 by_role : {B : Type 0} (read : Role → B) (says : ℕ → B) → map read ROLES ≡ map says (range_with_len 0 256) → (code : ℕ) → code < 256 → says code ≡ read (role_of code)
 unfolding role_of
@@ -53,6 +53,27 @@ statements = refl
 
 pub statement_at : (code : ℕ) → code < 256 → is_statement_number code ≡ roles.is_statement (role_of code)
 statement_at code less = by_role roles.is_statement is_statement_number statements code less
+
+stores : map roles.is_store ROLES ≡ map is_store_number (range_with_len 0 256)
+unfolding row_of is_store_number
+stores = refl
+
+pub store_at : (code : ℕ) → code < 256 → is_store_number code ≡ roles.is_store (role_of code)
+store_at code less = by_role roles.is_store is_store_number stores code less
+
+conditions : map roles.is_condition ROLES ≡ map is_condition_number (range_with_len 0 256)
+unfolding row_of is_condition_number
+conditions = refl
+
+pub condition_at : (code : ℕ) → code < 256 → is_condition_number code ≡ roles.is_condition (role_of code)
+condition_at code less = by_role roles.is_condition is_condition_number conditions code less
+
+of_no_effect : map roles.is_ignored ROLES ≡ map is_ignored (range_with_len 0 256)
+unfolding row_of is_ignored
+of_no_effect = refl
+
+pub ignored_at : (code : ℕ) → code < 256 → is_ignored code ≡ roles.is_ignored (role_of code)
+ignored_at code less = by_role roles.is_ignored is_ignored of_no_effect code less
 
 takers : map roles.operands ROLES ≡ map operands (range_with_len 0 256)
 unfolding row_of operands

@@ -4,7 +4,8 @@ use Rattle.std.specs.Prelude.{◌||◌, not}
 use Rattle.std.proofs.lemmas.Bool.{cases_Bool, leb-true, le-leb, or_right}
 use Rattle.browser_rules.specs.Opcodes.{row_of, is_a, a_question, a_statement, number_width}
 use Rattle.ifr_opcodes.specs.QuestionFields.{numeric_flags}
-use Rattle.ifr_opcodes.specs.Rows.{is_question_number, is_statement_number}
+use Rattle.ifr_opcodes.specs.declared.codes.TheConstants.{INCONSISTENT_IF, NO_SUBMIT_IF, WARNING_IF}
+use Rattle.ifr_opcodes.specs.Rows.{is_question_number, is_statement_number, is_store_number, is_condition_number, is_ignored}
 use Rattle.ifr_opcodes.specs.code.Tables.{row_length}
 use Rattle.ifr_opcodes.proofs.TableLemmas.{numbers, of_kind}
 
@@ -42,3 +43,31 @@ none_states code none = rw none refl
 
 pub statement_row : (op : List ℕ) (code : ℕ) → is_statement_number code ≡ true → 6 ≤ row_length code op
 statement_row op code is = leb-true 6 (row_length code op) (of_kind is_statement_number (λ c. leb 6 (row_length c op)) (statements_long op) none_states code is)
+
+-- ---- what a number without a row is not
+
+pub none_stores : (code : ℕ) → row_of code ≡ None → is_store_number code ≡ false
+unfolding is_store_number
+none_stores code none = rw none refl
+
+pub none_denies : (code : ℕ) → row_of code ≡ None → is_condition_number code ≡ false
+unfolding is_condition_number
+none_denies code none = rw none refl
+
+pub none_ignored : (code : ℕ) → row_of code ≡ None → is_ignored code ≡ false
+unfolding is_ignored
+none_ignored code none = rw none refl
+
+-- ---- the conditions of questions
+
+pub inconsistent_is : is_condition_number INCONSISTENT_IF ≡ true
+unfolding is_condition_number row_of
+inconsistent_is = refl
+
+pub no_submit_is : is_condition_number NO_SUBMIT_IF ≡ true
+unfolding is_condition_number row_of
+no_submit_is = refl
+
+pub warning_is : is_condition_number WARNING_IF ≡ true
+unfolding is_condition_number row_of
+warning_is = refl

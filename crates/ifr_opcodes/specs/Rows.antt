@@ -2,7 +2,7 @@
 -- an own rule).
 use Rattle.std.specs.Prelude.{◌≡◌, ℕ, Bool, true, false, not, ◌==◌, ◌||◌, ◌&&◌, Option, Some, None, is_some, List, [], ◌∷◌}
 use Rattle.browser_rules.specs.Expressions.{sense_of}
-use Rattle.browser_rules.specs.Opcodes.{number, is_a, a_question, a_statement, Sense, no_operator, leaf, one, two}
+use Rattle.browser_rules.specs.Opcodes.{number, is_a, a_question, a_statement, a_store, a_condition, ignored, Sense, no_operator, leaf, one, two}
 pub use Rattle.browser_rules.specs.Opcodes.{is_outside, is_short}
 unfoldable pub use Rattle.browser_rules.specs.Opcodes.{row_of}
 pub use Rattle.browser_rules.specs.Words.{is_among}
@@ -29,6 +29,16 @@ is_question_number code = is_a a_question (code ∷ [])
 
 unfoldable pub is_statement_number : ℕ → Bool
 is_statement_number code = is_a a_statement (code ∷ []) || is_a a_question (code ∷ [])
+
+-- whether this is the number of a store, of a condition that a question has beside its options, and of an opcode of no effect
+unfoldable pub is_store_number : ℕ → Bool
+is_store_number code = is_a a_store (code ∷ [])
+
+unfoldable pub is_condition_number : ℕ → Bool
+is_condition_number code = is_a a_condition (code ∷ [])
+
+unfoldable pub is_ignored : ℕ → Bool
+is_ignored code = is_a ignored (code ∷ [])
 
 -- how many operands an operator takes that makes this of them
 abbrev pub operands_of : Sense → Option ℕ

@@ -9,6 +9,15 @@ const N: Role = Role::Unknown;
 /// Known, and none of the following.
 const K: Role = Role::Other;
 
+/// A store.
+const V: Role = Role::Store;
+
+/// A condition that a question has beside its options.
+const C: Role = Role::Condition;
+
+/// An opcode of no effect.
+const I: Role = Role::Ignored;
+
 /// A statement that is no question.
 const S: Role = Role::Statement;
 
@@ -47,13 +56,13 @@ pub(crate) static LENGTHS: [u8; 256] = [
 
 /// What an opcode is.
 pub(crate) static ROLES: [Role; 256] = [
-    N, K, S, S, K, Q, Q, Q, Q, K, K, K, Q, S, K, Q, // 0x00
-    K, K, L, L, L, B, B, U, K, K, Q, Q, Q, K, K, K, // 0x10
-    N, N, N, Q, K, K, K, N, N, N, N, N, N, N, N, B, // 0x20
+    N, K, S, S, I, Q, Q, Q, Q, K, K, K, Q, S, K, Q, // 0x00
+    C, C, L, L, L, B, B, U, K, K, Q, Q, Q, I, K, I, // 0x10
+    N, N, N, Q, V, V, V, N, N, N, N, N, N, N, N, B, // 0x20
     B, B, B, B, B, B, B, U, B, B, B, B, B, B, B, L, // 0x30
     L, N, L, L, L, L, L, L, N, N, N, N, N, N, N, N, // 0x40
-    N, N, L, L, L, L, N, N, L, N, K, K, K, N, N, K, // 0x50
-    N, K, K, K, N, N, N, N, N, N, N, N, N, N, N, N, // 0x60
+    N, N, L, L, L, L, N, N, L, N, K, K, K, N, N, I, // 0x50
+    N, I, I, C, N, N, N, N, N, N, N, N, N, N, N, N, // 0x60
     N, N, N, N, N, N, N, N, N, N, N, N, N, N, N, N, // 0x70
     N, N, N, N, N, N, N, N, N, N, N, N, N, N, N, N, // 0x80
     N, N, N, N, N, N, N, N, N, N, N, N, N, N, N, N, // 0x90

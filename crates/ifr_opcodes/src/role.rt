@@ -12,6 +12,12 @@ pub(crate) enum Role {
     Unknown,
     /// It is known, and none of the following.
     Other,
+    /// A store.
+    Store,
+    /// A condition that a question has beside its options.
+    Condition,
+    /// An opcode of no effect.
+    Ignored,
     /// A statement that is no question.
     Statement,
     /// A question.
@@ -55,6 +61,27 @@ impl Role {
         ensures { result ≡ roles.is_statement self }
     {
         matches!(self, Role::Statement | Role::Question)
+    }
+
+    /// Whether it is a store.
+    pub(crate) fn is_store(self) -> bool
+        ensures { result ≡ roles.is_store self }
+    {
+        matches!(self, Role::Store)
+    }
+
+    /// Whether it is a condition that a question has beside its options.
+    pub(crate) fn is_condition(self) -> bool
+        ensures { result ≡ roles.is_condition self }
+    {
+        matches!(self, Role::Condition)
+    }
+
+    /// Whether it has no effect.
+    pub(crate) fn is_ignored(self) -> bool
+        ensures { result ≡ roles.is_ignored self }
+    {
+        matches!(self, Role::Ignored)
     }
 
     /// How many operands it takes, if it is an operator.

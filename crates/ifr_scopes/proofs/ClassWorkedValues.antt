@@ -3,8 +3,7 @@ use Rattle.std.proofs.Common.{◌≡◌, ℕ, Bool, true, false, List, [], ◌�
 use Rattle.hii_bytes.specs.declared.cause.Cause.TheVariants.{Misplaced}
 use Rattle.ifr_opcodes.specs.declared.codes.TheConstants.{FORM_SET, FORM, TEXT, ONE_OF, ONE_OF_OPTION, DEFAULT, GRAY_OUT_IF, SUPPRESS_IF}
 use Rattle.ifr_opcodes.specs.Forest.{none, Ancestor}
-use Rattle.ifr_opcodes.specs.Rows.{row_of, operands, is_question_number, is_statement_number}
-use Rattle.ifr_scopes.specs.Kinds.{is_store_number, is_condition_number, is_ignored}
+use Rattle.ifr_opcodes.specs.Rows.{row_of, operands, is_question_number, is_statement_number, is_store_number, is_condition_number, is_ignored}
 use Rattle.ifr_scopes.specs.Structure.{has_structure_fault}
 use Rattle.ifr_scopes.specs.Table.{row}
 

@@ -1,17 +1,16 @@
 -- A condition of a checked package stands right in the scope of a question.
 use Rattle.std.proofs.Common.{◌≡◌, ℕ, Bool, true, false, eqb, Option, List, [], ◌∷◌, ◌++◌, map, refl, sym, ap, ◌∙◌, inl, inr}
 use Rattle.std.specs.Prelude.{◌||◌, not, Contains, option_map, unwrap_or}
-use Rattle.std.specs.List.{list_all}
 use Rattle.std.proofs.lemmas.Bool.{cases_Bool, eqb-true, ne_eqb, false≢true}
 use Rattle.ifr_opcodes.specs.declared.codes.TheConstants.{FORM_SET, VALUE, SUPPRESS_IF, GRAY_OUT_IF, DISABLE_IF}
 use Rattle.ifr_opcodes.specs.Opcode.{number}
-use Rattle.ifr_opcodes.specs.Rows.{row_of, is_operator, operands, is_question_number, is_statement_number}
+use Rattle.ifr_opcodes.specs.Rows.{row_of, is_operator, operands, is_question_number, is_statement_number, is_store_number, is_condition_number, is_ignored}
 use Rattle.ifr_opcodes.specs.Forest.{Mark, Ancestor, Node, as_ancestor, below}
-use Rattle.ifr_opcodes.proofs.TableLemmas.{numbers}
+use Rattle.ifr_opcodes.proofs.StatementLemmas.{none_denies}
+use Rattle.ifr_opcodes.proofs.TableLemmas.{not_of_kind, numbers}
 use Rattle.ifr_scopes.specs.Checked.{IsChecked}
 use Rattle.ifr_scopes.specs.Guards.{is_guard, guards}
 use Rattle.ifr_scopes.specs.code.Tables.{parent_place, is_question_condition}
-use Rattle.ifr_scopes.specs.Kinds.{is_store_number, conditions, is_condition_number, is_ignored}
 use Rattle.ifr_scopes.specs.Nodes.{nodes_of, is_question}
 use Rattle.ifr_scopes.specs.Structure.{innermost, is_root, is_wanted}
 use Rattle.ifr_scopes.specs.Table.{row, class_of, guarded, class_around, admits}
@@ -21,7 +20,7 @@ use Rattle.ifr_scopes.proofs.ExpressionLemmas.{innermost-push}
 use Rattle.ifr_scopes.proofs.InsideLemmas.{inside_node}
 use Rattle.ifr_scopes.proofs.ClassLemmas.{class-guard, class-other}
 use Rattle.ifr_scopes.proofs.RuleFacts.{held, no_root, not_wanted}
-use Rattle.ifr_scopes.proofs.TableLemmas.{class_fact, guards_no_operator, none_among}
+use Rattle.ifr_scopes.proofs.TableLemmas.{class_fact, conditions_no_operator, guards_no_operator}
 
 -- ---- the scopes in which one may stand
 
@@ -31,7 +30,7 @@ is_of_question OfQuestion = true
 is_of_question OfChoice = true
 is_of_question _ = false
 
-no_condition_held : (c : Class) → is_of_question c ≡ false → list_all (λ code. not (admits c code)) conditions ≡ true
+no_condition_held : (c : Class) → is_of_question c ≡ false → map (λ k. not (is_condition_number k) || not (admits c k)) numbers ≡ map (λ k. true) numbers
 unfolding is_statement_number is_question_number is_store_number is_condition_number is_ignored operands row_of
 no_condition_held OfFormSet e = refl
 no_condition_held OfForm e = refl
@@ -44,10 +43,9 @@ no_condition_held OfExpression e = refl
 no_condition_held OfNothing e = refl
 
 holds_condition : (c : Class) (code : ℕ) → is_condition_number code ≡ true → admits c code ≡ true → is_of_question c ≡ true
-unfolding is_condition_number
 holds_condition c code is e = elim (cases_Bool (is_of_question c)) [
   | inl of ↦ of
-  | inr other ↦ absurd (false≢true (sym (none_among (admits c) conditions code (no_condition_held c other) e) ∙ is))
+  | inr other ↦ absurd (false≢true (sym (not_of_kind is_condition_number (admits c) (no_condition_held c other) none_denies code e) ∙ is))
 ]
 
 -- a question has its number
@@ -74,7 +72,7 @@ guarded_question OfNothing e = absurd (false≢true e)
 
 -- and in that of another there is none
 no_guard_held : (code : ℕ) → is_guard code ≡ true → admits OfQuestion code ≡ false
-unfolding is_condition_number is_ignored
+unfolding is_condition_number is_ignored row_of
 no_guard_held code guards = elim (cases_Bool (eqb code SUPPRESS_IF)) [
   | inl e ↦ ap (admits OfQuestion) (eqb-true code SUPPRESS_IF e)
   | inr a ↦ elim (cases_Bool (eqb code GRAY_OUT_IF)) [
@@ -91,15 +89,14 @@ no_guard_held code guards = elim (cases_Bool (eqb code SUPPRESS_IF)) [
 other_than : (code other : ℕ) → is_condition_number code ≡ true → is_condition_number other ≡ false → eqb code other ≡ false
 other_than code other is plain = ne_eqb code other (λ e. false≢true (sym plain ∙ ap is_condition_number (sym e) ∙ is))
 
-plain_numbers : (is_condition_number FORM_SET ≡ false) × (is_condition_number VALUE ≡ false) × (list_all (λ c. not (is_operator c)) conditions ≡ true)
-unfolding is_condition_number operands row_of
-plain_numbers = (refl, refl, refl)
+plain_numbers : (is_condition_number FORM_SET ≡ false) × (is_condition_number VALUE ≡ false)
+unfolding is_condition_number row_of
+plain_numbers = (refl, refl)
 
 no_operator : (code : ℕ) → is_condition_number code ≡ true → is_operator code ≡ false
-unfolding is_condition_number
 no_operator code is = elim (cases_Bool (is_operator code)) [
   | inr e ↦ e
-  | inl operator ↦ absurd (false≢true (sym (none_among is_operator conditions code plain_numbers.2 operator) ∙ is))
+  | inl operator ↦ absurd (false≢true (sym (conditions_no_operator code operator) ∙ is))
 ]
 
 class_there : (bytes : List ℕ) (n : Node) → IsChecked bytes → Contains (nodes_of bytes) n → is_question_condition n ≡ true → is_of_question (class_around n.path) ≡ true

@@ -11,7 +11,7 @@ use Rattle.ifr_opcodes.specs.Reading.{tree_of}
 use Rattle.ifr_opcodes.proofs.StatementLemmas.{question_is_statement}
 use Rattle.ifr_scopes.specs.Checked.{IsChecked}
 use Rattle.ifr_scopes.specs.code.Checked.{IsNodeOf}
-use Rattle.ifr_scopes.specs.Kinds.{is_condition_number}
+use Rattle.ifr_opcodes.specs.Rows.{is_condition_number}
 use Rattle.ifr_scopes.specs.Nodes.{nodes_of, is_question, of_question}
 use Rattle.ifr_scopes.specs.code.Tables.{IsConditionEntry, AreConditionEntries, is_question_condition, kept_condition, conditions_among, condition_table, parent_place}
 use Rattle.ifr_scopes.specs.declared.index.ConditionEntry.{ConditionEntry}

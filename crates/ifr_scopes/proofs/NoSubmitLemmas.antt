@@ -9,7 +9,7 @@ use Rattle.ifr_opcodes.specs.Forest.{Node, SpellsForest, node_at}
 use Rattle.ifr_opcodes.specs.Reading.{tree_of}
 use Rattle.ifr_scopes.specs.code.Checked.{has_node, node_in, or_empty}
 use Rattle.ifr_scopes.specs.code.Ends.{expression_end}
-use Rattle.ifr_scopes.specs.Kinds.{is_condition_number}
+use Rattle.ifr_opcodes.specs.Rows.{row_of, is_condition_number}
 use Rattle.ifr_scopes.specs.Nodes.{nodes_of, is_no_submit, this_of}
 use Rattle.ifr_scopes.specs.code.Tables.{inner_guard, parent_place, is_question_condition, kept_condition, conditions_among, condition_table, IsConditionEntry, AreConditionEntries}
 use Rattle.ifr_scopes.specs.declared.index.ConditionEntry.{ConditionEntry}
@@ -57,7 +57,7 @@ abbrev pub denying : List ℕ → List ConditionEntry → List Node
 denying bytes kept = of_number bytes NO_SUBMIT_IF kept
 
 pub all_again : (bytes : List ℕ) → SpellsForest bytes (tree_of bytes) → denying bytes (condition_table (nodes_of bytes)) ≡ filter is_no_submit (nodes_of bytes)
-unfolding is_condition_number
+unfolding is_condition_number row_of
 all_again bytes s = again bytes NO_SUBMIT_IF (nodes_of bytes) refl s (λ n w. w)
 
 -- ---- one of them

@@ -1,30 +1,19 @@
 -- What the rows of opcodes say of scopes, told once over the rows.
 use Rattle.std.proofs.Common.{◌≡◌, ◌⊎◌, ℕ, Bool, true, false, cond, eqb, Option, Some, None, is_some, List, map, refl, sym, ap, ◌∙◌, inl, inr}
 use Rattle.std.specs.Prelude.{◌||◌, ◌==◌, not}
-use Rattle.std.specs.List.{list_all}
 use Rattle.std.proofs.lemmas.Bool.{cases_Bool, cond-true, cond-false, eqb-true, ne_eqb, or_parts, false≢true}
 use Rattle.ifr_opcodes.specs.declared.codes.TheConstants.{FORM_SET, FORM, SUBTITLE, DEFAULT, VALUE, RULE, SUPPRESS_IF, GRAY_OUT_IF, DISABLE_IF}
 use Rattle.ifr_opcodes.specs.Opcode.{number}
-use Rattle.ifr_opcodes.specs.Rows.{row_of, is_among, is_operator, operands, is_question_number, is_statement_number}
+use Rattle.ifr_opcodes.specs.Rows.{row_of, is_operator, operands, is_question_number, is_statement_number, is_store_number, is_condition_number, is_ignored}
 use Rattle.ifr_opcodes.proofs.RowLemmas.{none_takes}
-use Rattle.ifr_opcodes.proofs.StatementLemmas.{none_states}
-use Rattle.ifr_opcodes.proofs.TableLemmas.{numbers, agree, not_of_kind, not_this, of_each}
+use Rattle.ifr_opcodes.proofs.StatementLemmas.{none_denies, none_states}
+use Rattle.ifr_opcodes.proofs.TableLemmas.{numbers, agree, not_of_kind, not_this}
 use Rattle.ifr_scopes.specs.Guards.{is_guard}
-use Rattle.ifr_scopes.specs.Kinds.{is_store_number, conditions, is_condition_number, is_ignored}
 use Rattle.ifr_scopes.specs.Table.{row, wants_expression, wants_value, class_of, guarded, admits}
 use Rattle.ifr_scopes.specs.declared.table.Row.{Row}
 use Rattle.ifr_scopes.specs.declared.table.Class.{Class}
 use Rattle.ifr_scopes.specs.declared.table.Class.TheVariants.{OfFormSet, OfForm, OfText, OfQuestion, OfChoice, OfOptions, OfOption, OfExpression, OfNothing}
 use Rattle.ifr_scopes.specs.declared.table.Scope.TheVariants.{Outermost}
-
--- ---- numbers among others
-
--- a number with what none of some numbers has is not among them
-pub none_among : (has : ℕ → Bool) (codes : List ℕ) (code : ℕ) → list_all (λ c. not (has c)) codes ≡ true → has code ≡ true → is_among code codes ≡ false
-none_among has codes code all is = elim (cases_Bool (is_among code codes)) [
-  | inr e ↦ e
-  | inl e ↦ absurd (false≢true (ap not (sym is) ∙ of_each (λ c. not (has c)) codes code all e))
-]
 
 -- ---- the rows
 
@@ -172,9 +161,9 @@ pub no_operators : (is_operator FORM_SET ≡ false) × (is_operator FORM ≡ fal
 unfolding operands row_of
 no_operators = (refl, refl, refl, refl, refl)
 
-no_guards : (is_operator SUPPRESS_IF ≡ false) × (is_operator GRAY_OUT_IF ≡ false) × (is_operator DISABLE_IF ≡ false) × (is_operator DEFAULT ≡ false) × (list_all (λ c. not (is_operator c)) conditions ≡ true)
+no_guards : (is_operator SUPPRESS_IF ≡ false) × (is_operator GRAY_OUT_IF ≡ false) × (is_operator DISABLE_IF ≡ false) × (is_operator DEFAULT ≡ false)
 unfolding operands row_of
-no_guards = (refl, refl, refl, refl, refl)
+no_guards = (refl, refl, refl, refl)
 
 -- the number of an operator is not that of something else
 other_number : (code other : ℕ) → is_operator other ≡ false → is_operator code ≡ true → eqb code other ≡ false
@@ -184,9 +173,12 @@ other_number code other plain operator = ne_eqb code other (λ e. false≢true (
 pub guards_no_operator : (code : ℕ) → is_operator code ≡ true → is_guard code ≡ false
 guards_no_operator code operator = rw (other_number code SUPPRESS_IF no_guards.0 operator, other_number code GRAY_OUT_IF no_guards.1 operator, other_number code DISABLE_IF no_guards.2 operator) refl
 
-conditions_no_operator : (code : ℕ) → is_operator code ≡ true → is_condition_number code ≡ false
-unfolding is_condition_number
-conditions_no_operator code operator = none_among is_operator conditions code no_guards.4 operator
+no_condition_operates : map (λ c. not (is_condition_number c) || not (is_operator c)) numbers ≡ map (λ c. true) numbers
+unfolding is_condition_number operands row_of
+no_condition_operates = refl
+
+pub conditions_no_operator : (code : ℕ) → is_operator code ≡ true → is_condition_number code ≡ false
+conditions_no_operator code operator = not_of_kind is_condition_number is_operator no_condition_operates none_denies code operator
 
 pub wants_no_operator : (code : ℕ) → is_operator code ≡ true → wants_expression code ≡ false
 wants_no_operator code operator =

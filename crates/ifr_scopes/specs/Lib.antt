@@ -1,6 +1,5 @@
 pub mod Framing
 pub mod Guards
-pub mod Kinds
 pub mod Stores
 pub mod Nodes
 pub mod Table

@@ -6,8 +6,7 @@ use Rattle.ifr_opcodes.specs.Opcode.{number}
 use Rattle.ifr_opcodes.specs.Forest.{node, none, flat, Ancestor, Node, nodes, below}
 use Rattle.ifr_opcodes.specs.Reading.{tree_of}
 use Rattle.ifr_opcodes.specs.declared.codes.TheConstants.{FORM_SET, FORM, REF, ONE_OF_OPTION, DEFAULT, INCONSISTENT_IF, NO_SUBMIT_IF, WARNING_IF}
-use Rattle.ifr_opcodes.specs.Rows.{is_question_number, is_statement_number}
-use Rattle.ifr_scopes.specs.Kinds.{is_store_number}
+use Rattle.ifr_opcodes.specs.Rows.{is_question_number, is_statement_number, is_store_number}
 
 -- The nodes of the forest that a package spells, by place. That `tree_of` gives this forest need not be believed: of a checked
 -- package `SpellsForest bytes (tree_of bytes)` is told (IsChecked), and the laws `one_forest_is_spelled` and

@@ -6,12 +6,11 @@ use Rattle.browser_rules.specs.Opcodes as rows
 use Rattle.browser_rules.specs.Opcodes.{ScopeRule, always, at_will, never, unless_operand, with_type_other, of_form_set, of_form, of_text, of_question, of_choice, of_options, of_option, of_expression, of_nothing, row_of}
 use Rattle.ifr_opcodes.specs.Fields.{default_kind}
 use Rattle.ifr_opcodes.specs.Opcode.{number}
-use Rattle.ifr_opcodes.specs.Rows.{is_operator, is_statement_number}
+use Rattle.ifr_opcodes.specs.Rows.{is_operator, is_statement_number, is_store_number, is_condition_number, is_ignored}
 use Rattle.ifr_opcodes.specs.Forest.{Ancestor}
 use Rattle.ifr_opcodes.specs.declared.codes.TheConstants.{FORM, ONE_OF_OPTION, DEFAULT, DEFAULTSTORE, VALUE, RULE, LOCKED}
 use Rattle.ifr_opcodes.specs.declared.kinds.TheConstants.{TYPE_OTHER}
 use Rattle.ifr_scopes.specs.Guards.{is_guard}
-use Rattle.ifr_scopes.specs.Kinds.{is_store_number, is_condition_number, is_ignored}
 use Rattle.ifr_scopes.specs.declared.table.Row.{Row}
 use Rattle.ifr_scopes.specs.declared.table.Scope.{Scope}
 use Rattle.ifr_scopes.specs.declared.table.Scope.TheVariants.{Always, Sometimes, Never, Outermost, WithValue}

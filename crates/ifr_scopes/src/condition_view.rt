@@ -2,7 +2,7 @@
 
 ghost use Rattle.std.specs.Prelude.{◌≡◌, true, Some};
 ghost use Rattle.ifr_opcodes.specs.Opcode.{number as opcode_number};
-ghost use Rattle.ifr_scopes.specs.Kinds.{is_condition_number};
+ghost use Rattle.ifr_opcodes.specs.Rows.{is_condition_number};
 ghost use Rattle.ifr_scopes.specs.Nodes.{nodes_of, of_question, this_of};
 ghost use Rattle.ifr_scopes.specs.Checked.{IsChecked};
 ghost use Rattle.ifr_scopes.specs.code.Checked.{node_in};
@@ -36,12 +36,12 @@ impl<'a> ConditionOp<'a> {
     ghost use Rattle.ifr_opcodes.specs.code.Tables.{least_length};
     ghost use Rattle.ifr_opcodes.specs.code.Ops.{bytes_of};
     ghost use Rattle.ifr_scopes.specs.Conditions.{message};
-    ghost use Rattle.ifr_scopes.specs.code.Parts.{condition_op};
+    ghost use Rattle.ifr_opcodes.specs.Rows.{is_among};
+    ghost use Rattle.ifr_scopes.specs.code.Parts.{condition_numbers, condition_op};
 
     // The view of an opcode that has all its fields.
-    #[tactic(auto, unfolding(crate::specs::Kinds::is_condition_number))]
     fn of(op: Op<'a>) -> ConditionOp<'a>
-        requires condition { is_condition_number op.code ≡ true }
+        requires condition { is_among op.code condition_numbers ≡ true }
         requires sized { least_length (bytes_of op) ≤ length (bytes_of op) }
         ensures { condition_op result ≡ op.entry }
     {

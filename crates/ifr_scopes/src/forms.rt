@@ -16,7 +16,7 @@ ghost use Rattle.ifr_scopes.specs.Guards.{is_guard};
 ghost use Rattle.ifr_scopes.specs.code.Index.{conditional_at, guards_of_indexed, indexed_at, lock_of_indexed};
 ghost use Rattle.ifr_scopes.specs.code.Lists.{form_node, form_set_node, rule_node, stores_left, all_guards_left, forms_left, rules_left, all_statements_left, statement_node, guards_left};
 ghost use Rattle.ifr_scopes.specs.code.AroundViews.{around_guards, around_lock, around_package};
-ghost use Rattle.ifr_scopes.specs.Kinds.{is_condition_number};
+ghost use Rattle.ifr_opcodes.specs.Rows.{is_condition_number};
 ghost use Rattle.ifr_scopes.specs.Nodes.{nodes_of, is_form, is_store, is_statement, is_no_submit, of_question, options, statements};
 ghost use Rattle.ifr_scopes.specs.code.NoSubmitsLeft.{no_submits_left};
 ghost use Rattle.ifr_scopes.specs.code.OptionsLeft.{options_of_left};

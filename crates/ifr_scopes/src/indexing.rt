@@ -19,12 +19,11 @@ ghost use Rattle.ifr_scopes.specs.code.Tables.{IsIndexOf, places_of, inner_last,
 ghost use Rattle.ifr_scopes.specs.code.Views.{node_of};
 
 use crate::index::{ConditionEntry, Entry, GuardEntry, Index};
-use crate::kinds::is_condition;
 use crate::node::Node;
 use crate::scoped_nodes::{ScopedNode, ScopedNodes};
 use arrayvec::ArrayVec;
 use hii_bytes::{IdEntry, IdTable};
-use ifr_opcodes::{FORM, LOCKED, ONE_OF_OPTION, is_statement};
+use ifr_opcodes::{FORM, LOCKED, ONE_OF_OPTION, is_condition, is_statement};
 use std::alloc::{AllocError, Global};
 use std::collections::BTreeMap;
 

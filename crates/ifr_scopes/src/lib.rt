@@ -25,7 +25,6 @@ mod guards_of;
 mod guards_outward;
 mod index;
 mod indexing;
-mod kinds;
 pub mod laws;
 mod locks;
 mod no_submits;

@@ -6,11 +6,10 @@ ghost use Rattle.ifr_scopes.specs.code.Checked.{IsChecked-prop, IsAt, IsAt-prop}
 
 use crate::ends::end_of;
 use crate::guards::is_guard;
-use crate::kinds;
 use ifr_expr::Expr;
 use ifr_opcodes::{
     DefaultOp, FORM, FORM_SET, FormOp, FormSetOp, Op, OptionOp, QuestionOp, REF, RULE, RefOp,
-    RuleOp, StatementOp, is_question, is_statement,
+    RuleOp, StatementOp, is_question, is_statement, is_store,
 };
 
 /// A node of a package whose nodes were checked.
@@ -62,7 +61,7 @@ impl<'a> Node<'a> {
     pub fn is_store(self) -> bool
         ensures { result ≡ nodes.is_store (node_of self.entry) }
     {
-        kinds::is_store(self.op.code)
+        is_store(self.op.code)
     }
 
     /// Whether it is a question.

@@ -201,7 +201,7 @@ impl<'a> Statement<'a> {
     }
 
     /// The conditions that deny the statement a value, by place.
-    #[tactic(auto, unfolding(crate::specs::Kinds::is_condition_number))]
+    #[tactic(auto, using(ifr_opcodes::proofs::StatementLemmas::inconsistent_is))]
     pub fn inconsistents(self) -> ConditionViews<'a>
         ensures { conditions_left result ≡ inconsistents (statement_node self.entry) }
     {
@@ -209,7 +209,7 @@ impl<'a> Statement<'a> {
     }
 
     /// The conditions of the statement that deny a submission, by place.
-    #[tactic(auto, unfolding(crate::specs::Kinds::is_condition_number))]
+    #[tactic(auto, using(ifr_opcodes::proofs::StatementLemmas::no_submit_is))]
     pub fn nosubmits(self) -> ConditionViews<'a>
         ensures { conditions_left result ≡ no_submits (statement_node self.entry) }
     {
@@ -217,7 +217,7 @@ impl<'a> Statement<'a> {
     }
 
     /// The conditions of the statement that warn, by place.
-    #[tactic(auto, unfolding(crate::specs::Kinds::is_condition_number))]
+    #[tactic(auto, using(ifr_opcodes::proofs::StatementLemmas::warning_is))]
     pub fn warnings(self) -> ConditionViews<'a>
         ensures { conditions_left result ≡ warnings (statement_node self.entry) }
     {

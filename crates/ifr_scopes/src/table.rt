@@ -6,11 +6,10 @@ ghost use Rattle.ifr_scopes.specs.Table as table;
 
 use crate::columns::ROWS;
 use crate::guards::is_guard;
-use crate::kinds::{is_condition, is_ignored, is_store};
 use hii_bytes::number_at;
 use ifr_opcodes::{
-    DEFAULT, DEFAULTSTORE, FORM, LOCKED, ONE_OF_OPTION, Op, RULE, TYPE_OTHER, VALUE, is_operator,
-    is_statement,
+    DEFAULT, DEFAULTSTORE, FORM, LOCKED, ONE_OF_OPTION, Op, RULE, TYPE_OTHER, VALUE, is_condition,
+    is_ignored, is_operator, is_statement, is_store,
 };
 
 /// Whether an opcode opens a scope.

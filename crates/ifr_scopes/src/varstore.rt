@@ -29,13 +29,12 @@ impl<'a> StoreOp<'a> {
     ghost use Rattle.std.specs.Prelude.{◌≤◌, length};
     ghost use Rattle.ifr_opcodes.specs.code.Tables.{least_length};
     ghost use Rattle.ifr_opcodes.specs.code.Ops.{bytes_of};
-    ghost use Rattle.ifr_scopes.specs.Kinds.{is_store_number};
-    ghost use Rattle.ifr_scopes.specs.code.Lists.{store_op};
+    ghost use Rattle.ifr_opcodes.specs.Rows.{is_among};
+    ghost use Rattle.ifr_scopes.specs.code.Lists.{store_numbers, store_op};
 
     // The view of an opcode that has all its fields.
-    #[tactic(auto, unfolding(crate::specs::Kinds::is_store_number))]
     fn of(op: Op<'a>) -> StoreOp<'a>
-        requires store { is_store_number op.code ≡ true }
+        requires store { is_among op.code store_numbers ≡ true }
         requires sized { least_length (bytes_of op) ≤ length (bytes_of op) }
         ensures { store_op result ≡ op.entry }
     {

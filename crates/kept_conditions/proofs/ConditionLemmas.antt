@@ -12,7 +12,7 @@ use Rattle.ifr_scopes.specs.code.Checked.{or_empty}
 use Rattle.ifr_scopes.specs.Guards.{is_guard}
 use Rattle.ifr_scopes.specs.code.Index.{is_conditional, conditional_at}
 use Rattle.ifr_scopes.specs.code.Lists.{rule_node, rules_left}
-use Rattle.ifr_scopes.specs.Kinds.{is_condition_number}
+use Rattle.ifr_opcodes.specs.Rows.{row_of, is_condition_number}
 use Rattle.ifr_scopes.specs.Nodes.{nodes_of}
 use Rattle.ifr_scopes.specs.Rules.{is_rule}
 use Rattle.ifr_scopes.specs.declared.rule.RuleView.{RuleView}
@@ -28,7 +28,7 @@ use Rattle.kept_conditions.proofs.ReaderLemmas.{node_is_reader, reader_kind}
 -- ---- kinds
 
 unconditional_rule : (code : ℕ) → code ≡ RULE → is_guard code || is_condition_number code ≡ false
-unfolding is_condition_number
+unfolding is_condition_number row_of
 unconditional_rule code e = rw e refl
 
 -- an iterator that has something left gives it

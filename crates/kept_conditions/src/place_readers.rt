@@ -5,7 +5,7 @@ ghost use Rattle.hii_bytes.specs.code.FirstFaults.{Rise};
 ghost use Rattle.ifr_opcodes.specs.Forest.{Node};
 ghost use Rattle.ifr_opcodes.specs.Opcode.{number};
 ghost use Rattle.ifr_scopes.specs.Guards.{guards_among};
-ghost use Rattle.ifr_scopes.specs.Kinds.{is_condition_number};
+ghost use Rattle.ifr_opcodes.specs.Rows.{is_condition_number};
 ghost use Rattle.ifr_scopes.specs.Nodes.{nodes_of};
 ghost use Rattle.guard_policy.specs.code.Views.{bytes_of};
 ghost use Rattle.kept_conditions.specs.code.PlaceReaders.{passed};

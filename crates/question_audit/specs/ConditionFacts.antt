@@ -10,7 +10,7 @@ use Rattle.ifr_expr.specs.Meaning.{value}
 use Rattle.ifr_expr.specs.Values.{Value, holds}
 use Rattle.ifr_scopes.specs.Conditions.{expression_tree}
 use Rattle.ifr_scopes.specs.Guards.{guards}
-use Rattle.ifr_scopes.specs.Kinds.{is_condition_number}
+use Rattle.ifr_opcodes.specs.Rows.{is_condition_number}
 use Rattle.ifr_scopes.specs.Nodes.{options, this_of}
 use Rattle.hii_questions.specs.Denials.{kind_name}
 use Rattle.guard_policy.specs.Policy.{fixed, is_removed}

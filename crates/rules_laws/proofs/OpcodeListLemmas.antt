@@ -1,9 +1,9 @@
 -- Operators and statements by their numbers are those of the rows, and a list holds the same numbers.
-use Rattle.std.proofs.Common.{◌≡◌, ℕ, zero, suc, ◌+◌, ◌*◌, ◌-◌, false, None, List, [], ◌∷◌, refl, sym, ap, ◌∙◌, take, drop, arith}
+use Rattle.std.proofs.Common.{◌≡◌, ℕ, zero, suc, ◌+◌, ◌*◌, ◌-◌, List, [], ◌∷◌, refl, sym, ap, ◌∙◌, take, drop, arith}
 use Rattle.std.specs.Prelude.{◌||◌}
 use Rattle.std.proofs.Math.Seq.{take-nil}
 use Rattle.browser_rules.specs.Expressions.{sense_of}
-use Rattle.browser_rules.specs.Opcodes.{row_of, is_a, a_statement, a_question, listed_values}
+use Rattle.browser_rules.specs.Opcodes.{is_a, a_statement, a_question, listed_values}
 use Rattle.hii_bytes.specs.Numbers.{number_in}
 use Rattle.ifr_opcodes.specs.ExpressionFields.{pairs, eq_id_val_list_count, eq_id_val_list_values}
 use Rattle.ifr_opcodes.specs.Rows.{is_question_number, is_statement_number, operands, operands_of}
@@ -19,10 +19,6 @@ question_same code = refl
 pub statement_same : (code : ℕ) → is_a a_statement (code ∷ []) || is_a a_question (code ∷ []) ≡ is_statement_number code
 unfolding is_statement_number
 statement_same code = refl
-
-pub none_states : (code : ℕ) → row_of code ≡ None → is_statement_number code ≡ false
-unfolding is_statement_number
-none_states code none = rw none refl
 
 -- ---- the numbers of a list
 

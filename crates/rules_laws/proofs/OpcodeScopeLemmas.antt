@@ -1,4 +1,4 @@
--- The rows admit the same opcodes in a scope, and have the same guards, conditions, stores and opcodes of no effect.
+-- The rows admit the same opcodes in a scope, and have the same guards, options and defaults.
 use Rattle.std.proofs.Common.{◌≡◌, ◌==◌, ℕ, Bool, true, false, None, List, [], ◌∷◌, ◌++◌, map, refl, sym, ap, ◌∙◌, inl, inr}
 use Rattle.std.specs.Prelude.{if◌then◌else◌, nat_le, length}
 use Rattle.std.proofs.lemmas.Bool.{cases_Bool}
@@ -8,11 +8,10 @@ use Rattle.browser_rules.specs.Opcodes.{row_of, is_a, a_condition, a_default, a_
 use Rattle.ifr_opcodes.specs.Forest.{Ancestor}
 use Rattle.ifr_opcodes.specs.Opcode.{number}
 use Rattle.ifr_opcodes.specs.OptionFields.{default_kind}
-use Rattle.ifr_opcodes.specs.Rows.{operands, is_question_number, is_statement_number}
+use Rattle.ifr_opcodes.specs.Rows.{operands, is_question_number, is_statement_number, is_store_number, is_condition_number, is_ignored}
 use Rattle.ifr_opcodes.specs.declared.codes.TheConstants.{FORM, ONE_OF_OPTION, DEFAULT, DEFAULTSTORE, VALUE, RULE, LOCKED, SUPPRESS_IF, GRAY_OUT_IF, DISABLE_IF}
 use Rattle.ifr_opcodes.specs.declared.kinds.TheConstants.{TYPE_OTHER}
 use Rattle.ifr_scopes.specs.Guards.{is_guard}
-use Rattle.ifr_scopes.specs.Kinds.{stores, is_store_number, conditions, is_condition_number, ignored, is_ignored}
 use Rattle.ifr_scopes.specs.Structure.{has_wrong_scope}
 use Rattle.ifr_scopes.specs.Table.{row, wants_expression, wants_value, admits, class_of, guarded, class_around}
 use Rattle.ifr_scopes.specs.declared.table.Class.{Class}
@@ -21,9 +20,9 @@ use Rattle.ifr_scopes.proofs.ClassLemmas.{class-guard, class-other}
 use Rattle.ifr_scopes.proofs.TableLemmas.{none_opens}
 use Rattle.rules_laws.specs.laws.Opcodes.{class_for}
 use Rattle.std.proofs.Math.Bool.{and_assoc}
-use Rattle.ifr_opcodes.proofs.TableLemmas.{numbers, agree, not_this, not_among}
+use Rattle.ifr_opcodes.proofs.TableLemmas.{numbers, agree, not_this}
 use Rattle.ifr_opcodes.proofs.RowLemmas.{none_takes}
-use Rattle.rules_laws.proofs.OpcodeListLemmas.{none_states}
+use Rattle.ifr_opcodes.proofs.StatementLemmas.{none_denies, none_ignored, none_states, none_stores}
 
 -- ---- kinds
 
@@ -37,38 +36,13 @@ none_guards code none = rw (not_this SUPPRESS_IF code refl none, not_this GRAY_O
 pub guard_same : (code : ℕ) → is_a a_guard (code ∷ []) ≡ is_guard code
 guard_same code = agree (λ c. is_a a_guard (c ∷ [])) is_guard guard_in_rows (λ c none. rw (none, none_guards c none) refl) code
 
-condition_in_rows : map (λ c. is_a a_condition (c ∷ [])) numbers ≡ map is_condition_number numbers
-unfolding row_of is_condition_number
-condition_in_rows = refl
-
-none_denies : (code : ℕ) → row_of code ≡ None → is_condition_number code ≡ false
-unfolding is_condition_number
-none_denies code none = not_among conditions code refl none
-
 pub condition_same : (code : ℕ) → is_a a_condition (code ∷ []) ≡ is_condition_number code
-condition_same code = agree (λ c. is_a a_condition (c ∷ [])) is_condition_number condition_in_rows (λ c none. rw (none, none_denies c none) refl) code
-
-store_in_rows : map (λ c. is_a a_store (c ∷ [])) numbers ≡ map is_store_number numbers
-unfolding row_of is_store_number
-store_in_rows = refl
-
-none_stores : (code : ℕ) → row_of code ≡ None → is_store_number code ≡ false
-unfolding is_store_number
-none_stores code none = not_among stores code refl none
+unfolding is_condition_number
+condition_same code = refl
 
 pub store_same : (code : ℕ) → is_a a_store (code ∷ []) ≡ is_store_number code
-store_same code = agree (λ c. is_a a_store (c ∷ [])) is_store_number store_in_rows (λ c none. rw (none, none_stores c none) refl) code
-
-ignored_in_rows : map (λ c. is_a chapter.ignored (c ∷ [])) numbers ≡ map is_ignored numbers
-unfolding row_of is_ignored
-ignored_in_rows = refl
-
-none_ignored : (code : ℕ) → row_of code ≡ None → is_ignored code ≡ false
-unfolding is_ignored
-none_ignored code none = not_among ignored code refl none
-
-pub ignored_same : (code : ℕ) → is_a chapter.ignored (code ∷ []) ≡ is_ignored code
-ignored_same code = agree (λ c. is_a chapter.ignored (c ∷ [])) is_ignored ignored_in_rows (λ c none. rw (none, none_ignored c none) refl) code
+unfolding is_store_number
+store_same code = refl
 
 option_in_rows : map (λ c. is_a an_option (c ∷ [])) numbers ≡ map (λ c. c == ONE_OF_OPTION) numbers
 unfolding row_of

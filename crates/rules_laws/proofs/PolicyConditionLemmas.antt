@@ -18,7 +18,7 @@ use Rattle.hii_bytes.specs.Faults.{HasNone}
 use Rattle.hii_bytes.specs.Numbers.{AreBytes}
 use Rattle.ifr_opcodes.specs.Forest.{Forest, none, node, flat, AreNodes, Ancestor, Mark, Node, SpellsForest, as_ancestor}
 use Rattle.ifr_opcodes.specs.Opcode.{number}
-use Rattle.ifr_opcodes.specs.Rows.{is_operator}
+use Rattle.ifr_opcodes.specs.Rows.{is_operator, is_condition_number}
 use Rattle.ifr_opcodes.specs.Reading.{tree_of}
 use Rattle.ifr_opcodes.specs.declared.codes.TheConstants as numbers
 use Rattle.ifr_expr.specs.Faults.{IsExpressionFault}
@@ -31,7 +31,6 @@ use Rattle.ifr_expr.proofs.NodeLemmas.{is_expression_node, opcodes_are}
 use Rattle.ifr_scopes.specs.Checked.{IsChecked}
 use Rattle.ifr_scopes.specs.Conditions.{expression_tree}
 use Rattle.ifr_scopes.specs.Guards.{is_guard}
-use Rattle.ifr_scopes.specs.Kinds.{is_condition_number}
 use Rattle.ifr_scopes.specs.Nodes.{nodes_of, this_of}
 use Rattle.ifr_scopes.specs.Rules.{end_or_0, form_end, forms_among, rule_nodes, rules_among}
 use Rattle.ifr_scopes.specs.Rules as rules

@@ -16,7 +16,8 @@ use Rattle.ifr_opcodes.specs.Reading.{tree_of}
 use Rattle.ifr_opcodes.specs.declared.codes.TheConstants as numbers
 use Rattle.ifr_scopes.specs.Conditions.{message}
 use Rattle.ifr_scopes.specs.Guards.{guards, is_guard, node_within, nodes_on}
-use Rattle.ifr_scopes.specs.Kinds.{is_condition_number}
+use Rattle.ifr_opcodes.specs.Rows.{is_condition_number}
+use Rattle.ifr_opcodes.proofs.StatementLemmas.{inconsistent_is, no_submit_is, warning_is}
 use Rattle.ifr_scopes.specs.Locks.{first_lock}
 use Rattle.ifr_scopes.specs.Nodes as node
 use Rattle.ifr_scopes.specs.Nodes.{nodes_of}
@@ -123,18 +124,6 @@ condition_wants : (code : ℕ) → is_condition_number code ≡ true → wants_e
 condition_wants code is = second_of_four (is_a a_guard (code ∷ [])) (is_a a_condition (code ∷ [])) (is_a a_rule (code ∷ [])) (is_a a_value (code ∷ [])) (condition_same code ∙ is)
 
 -- the conditions of questions
-inconsistent_is : is_condition_number numbers.INCONSISTENT_IF ≡ true
-unfolding is_condition_number
-inconsistent_is = refl
-
-no_submit_is : is_condition_number numbers.NO_SUBMIT_IF ≡ true
-unfolding is_condition_number
-no_submit_is = refl
-
-warning_is : is_condition_number numbers.WARNING_IF ≡ true
-unfolding is_condition_number
-warning_is = refl
-
 has_condition : (code other : ℕ) → (code == other) ≡ true → is_condition_number other ≡ true → wants_expression (code ∷ []) ≡ true
 has_condition code other is condition = condition_wants code (ap is_condition_number (eqb-true code other is) ∙ condition)
 

@@ -1,6 +1,6 @@
 -- The stores of the chapters are those of the contracts.
 use Rattle.std.proofs.Common.{◌≡◌, ◌⊎◌, ◌==◌, ℕ, ◌+◌, Bool, true, false, Option, Some, None, suc, List, [], ◌∷◌, ◌++◌, length, map, refl, sym, ap, ◌∙◌, inl, inr, append_assoc}
-use Rattle.std.specs.Prelude.{◌||◌, if◌then◌else◌, filter, option_map, unwrap_or, codes, take, drop}
+use Rattle.std.specs.Prelude.{◌||◌, not, if◌then◌else◌, filter, option_map, unwrap_or, codes, take, drop}
 use Rattle.std.specs.List.{filter_map, cons_option, find, flat_map}
 use Rattle.std.proofs.lemmas.Bool.{cases_Bool, eqb-true}
 use Rattle.std.proofs.lemmas.List.Folds.{flat_map-map}
@@ -11,7 +11,9 @@ use Rattle.browser_rules.specs.Stores as chapter
 use Rattle.browser_rules.specs.Words.{first}
 use Rattle.ifr_opcodes.specs.Opcode.{number}
 use Rattle.ifr_opcodes.specs.Forest.{Node}
-use Rattle.ifr_scopes.specs.Kinds.{is_store_number}
+use Rattle.ifr_opcodes.specs.Rows.{row_of, is_store_number}
+use Rattle.ifr_opcodes.proofs.StatementLemmas.{none_stores}
+use Rattle.ifr_opcodes.proofs.TableLemmas.{numbers, of_kind}
 use Rattle.ifr_scopes.specs.Nodes.{is_store}
 use Rattle.ifr_scopes.specs.Stores as node
 use Rattle.hii_varstore.specs.declared.buffer.Buffer.{Buffer}
@@ -36,11 +38,18 @@ data IsKind (code : ℕ) : Type 0 where
   efi : code ≡ 0x26 → IsKind code
   names : code ≡ 0x25 → IsKind code
 
+is_one : ℕ → Bool
+is_one code = 0x24 == code || 0x26 == code || 0x25 == code
+
+each_is_one : map (λ c. not (is_store_number c) || is_one c) numbers ≡ map (λ c. true) numbers
+unfolding is_store_number row_of is_one
+each_is_one = refl
+
 kind_of : (code : ℕ) → is_store_number code ≡ true → IsKind code
-unfolding is_store_number
-kind_of code is = by_tests (0x24 == code) (0x26 == code) (0x25 == code) refl refl refl is
+unfolding is_one
+kind_of code is = by_tests (0x24 == code) (0x26 == code) (0x25 == code) refl refl refl (of_kind is_store_number is_one each_is_one none_stores code is)
   where
-    by_tests : (a b c : Bool) → (0x24 == code) ≡ a → (0x26 == code) ≡ b → (0x25 == code) ≡ c → (a || (b || (c || false))) ≡ true → IsKind code
+    by_tests : (a b c : Bool) → (0x24 == code) ≡ a → (0x26 == code) ≡ b → (0x25 == code) ≡ c → (a || (b || c)) ≡ true → IsKind code
     by_tests true b c e f g told = buffer (sym (eqb-true 0x24 code e))
     by_tests false true c e f g told = efi (sym (eqb-true 0x26 code f))
     by_tests false false true e f g told = names (sym (eqb-true 0x25 code g))

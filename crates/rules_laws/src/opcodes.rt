@@ -4,7 +4,7 @@ ghost use Rattle.std.specs.Prelude.{◌≡◌, ◌==◌, ◌++◌, ◌∷◌, []
 ghost use Rattle.browser_rules.specs.Expressions as expressions;
 ghost use Rattle.browser_rules.specs.Expressions.{sense_of, value_of};
 ghost use Rattle.browser_rules.specs.Opcodes as rules;
-ghost use Rattle.browser_rules.specs.Opcodes.{a_condition, a_default, a_guard, a_store, an_operator, an_option, ignored, is_a, listed_values, row_of};
+ghost use Rattle.browser_rules.specs.Opcodes.{a_default, a_guard, an_operator, an_option, is_a, listed_values, row_of};
 ghost use Rattle.browser_rules.specs.Values as values;
 ghost use Rattle.browser_rules.specs.Words.{is_some_and};
 ghost use Rattle.hii_bytes.specs.Numbers.{AreBytes};
@@ -17,7 +17,6 @@ ghost use Rattle.ifr_expr.specs.Meaning.{Rule, leaf_value, value};
 ghost use Rattle.ifr_expr.specs.Trees.{Means, Tree, expression};
 ghost use Rattle.ifr_expr.specs.Values.{Value, binary_value, holds, unary_value};
 ghost use Rattle.ifr_scopes.specs.Guards.{is_guard};
-ghost use Rattle.ifr_scopes.specs.Kinds.{is_condition_number, is_ignored, is_store_number};
 ghost use Rattle.ifr_scopes.specs.Structure.{has_wrong_scope};
 ghost use Rattle.ifr_scopes.specs.Table.{admits, class_around, row, wants_expression, wants_value};
 ghost use Rattle.ifr_scopes.specs.declared.table.Class.{Class};
@@ -33,14 +32,11 @@ pub fn operators_take_operands()
     ensures { (op : List ℕ) → is_a an_operator op ≡ is_operator (number op) }
 {}
 
-/// Options, defaults, guards, conditions of questions, stores and opcodes of no effect are the same.
+/// Options, defaults and guards are the same.
 pub fn the_rows_have_the_same_kinds()
     ensures options { (op : List ℕ) → is_a an_option op ≡ (number op == ONE_OF_OPTION) }
     ensures defaults { (op : List ℕ) → is_a a_default op ≡ (number op == DEFAULT) }
     ensures guards { (op : List ℕ) → is_a a_guard op ≡ is_guard (number op) }
-    ensures conditions { (op : List ℕ) → is_a a_condition op ≡ is_condition_number (number op) }
-    ensures stores { (op : List ℕ) → is_a a_store op ≡ is_store_number (number op) }
-    ensures ignored { (op : List ℕ) → is_a ignored op ≡ is_ignored (number op) }
 {}
 
 /// A scope admits the same opcodes. The scope of an opcode in another is of the same class, and outside of all nothing is admitted.

@@ -27,7 +27,7 @@ use Rattle.ifr_expr.specs.Support.{ids_of}
 use Rattle.ifr_expr.specs.Trees.{post}
 use Rattle.ifr_scopes.specs.Checked.{IsChecked}
 use Rattle.ifr_scopes.specs.Conditions.{expression_tree}
-use Rattle.ifr_scopes.specs.Kinds.{is_condition_number}
+use Rattle.ifr_opcodes.specs.Rows.{row_of, is_condition_number}
 use Rattle.ifr_scopes.specs.Nodes.{nodes_of, this_of}
 use Rattle.ifr_scopes.specs.Rules.{rules_among}
 use Rattle.ifr_scopes.specs.Table.{wants_expression}
@@ -163,7 +163,7 @@ touches_same bytes write n checked are within wants =
 -- ---- how many of those that are kept
 
 kept_wants : (code : ℕ) → (code == SUPPRESS_IF || code == GRAY_OUT_IF || code == NO_SUBMIT_IF) ≡ true → wants_expression code ≡ true
-unfolding is_condition_number
+unfolding is_condition_number row_of
 kept_wants code is = by_tests (code == SUPPRESS_IF) (code == GRAY_OUT_IF) (code == NO_SUBMIT_IF) refl refl refl is
   where
     by_tests : (a b c : Bool) → (code == SUPPRESS_IF) ≡ a → (code == GRAY_OUT_IF) ≡ b → (code == NO_SUBMIT_IF) ≡ c → (a || b || c) ≡ true → wants_expression code ≡ true

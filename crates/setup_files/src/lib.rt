@@ -8,11 +8,7 @@ mod given;
 mod noted;
 mod reading;
 mod replacing;
-#[cfg(test)]
-mod replacing_tests;
 mod terminal;
-#[cfg(test)]
-mod tests;
 mod version;
 
 pub use arguments::words;

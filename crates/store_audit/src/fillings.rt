@@ -192,8 +192,6 @@ fn filled(alloc: Global, declared: &Declared<'_>, fillings: &[Filling<'_>]) -> R
     images_are_read_back();
     one_map_is_spelled();
     let layout = declared.layout();
-    // The buffer stores have different ids.
-    layout.buffers();
     let mut stores = Stores::zeros(alloc, layout)?;
     for filling in fillings {
         fill(&mut stores, filling);

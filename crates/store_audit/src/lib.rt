@@ -5,8 +5,6 @@
 mod declared;
 mod fillings;
 mod store_lines;
-#[cfg(test)]
-mod tests;
 
 pub use declared::{Declared, forms_package};
 pub use fillings::{Filling, Source, put_image};

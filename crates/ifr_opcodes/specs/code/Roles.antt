@@ -2,7 +2,7 @@
 use Rattle.std.specs.Prelude.{ℕ, Bool, true, false, Option, Some, None, slice_index_or}
 use Rattle.ifr_opcodes.specs.declared.columns.TheConstants.{ROLES}
 use Rattle.ifr_opcodes.specs.declared.role.Role.{Role}
-use Rattle.ifr_opcodes.specs.declared.role.Role.TheVariants.{Unknown, Statement, Question, Leaf, Unary, Binary}
+use Rattle.ifr_opcodes.specs.declared.role.Role.TheVariants.{Unknown, Store, Condition, Ignored, Statement, Question, Leaf, Unary, Binary}
 
 -- the role of a number
 unfoldable pub role_of : ℕ → Role
@@ -22,6 +22,19 @@ abbrev pub is_statement : Role → Bool
 is_statement Statement = true
 is_statement Question = true
 is_statement _ = false
+
+-- whether it is a store, a condition that a question has beside its options, or of no effect
+abbrev pub is_store : Role → Bool
+is_store Store = true
+is_store _ = false
+
+abbrev pub is_condition : Role → Bool
+is_condition Condition = true
+is_condition _ = false
+
+abbrev pub is_ignored : Role → Bool
+is_ignored Ignored = true
+is_ignored _ = false
 
 -- how many operands it takes, if it is an operator
 abbrev pub operands : Role → Option ℕ

@@ -5,7 +5,7 @@ use Rattle.std.specs.List.{find}
 use Rattle.ifr_opcodes.specs.Forest.{Node}
 use Rattle.ifr_opcodes.specs.Opcode.{number}
 use Rattle.ifr_scopes.specs.Guards.{is_guard, guards}
-use Rattle.ifr_scopes.specs.Kinds.{is_condition_number}
+use Rattle.ifr_opcodes.specs.Rows.{is_condition_number}
 use Rattle.ifr_scopes.specs.Locks.{first_lock}
 use Rattle.ifr_scopes.specs.Nodes.{is_form, is_statement, is_option}
 use Rattle.ifr_scopes.specs.References.{form_with}

@@ -1,7 +1,7 @@
 -- What the iterators over a package have before them.
 use Rattle.std.specs.Prelude.{ℕ, List, [], ◌∷◌, drop, filter, map, reverse}
 use Rattle.ifr_opcodes.specs.Forest.{Node}
-use Rattle.ifr_opcodes.specs.declared.codes.TheConstants.{SUBTITLE, TEXT, RESET_BUTTON, CHECKBOX, NUMERIC, ONE_OF, STRING, PASSWORD, ORDERED_LIST, DATE, TIME, ACTION, REF}
+use Rattle.ifr_opcodes.specs.declared.codes.TheConstants.{SUBTITLE, TEXT, RESET_BUTTON, CHECKBOX, NUMERIC, ONE_OF, STRING, PASSWORD, ORDERED_LIST, DATE, TIME, ACTION, REF, VARSTORE, VARSTORE_EFI, VARSTORE_NAME_VALUE}
 use Rattle.ifr_opcodes.specs.declared.op.Op.{Op}
 use Rattle.ifr_scopes.specs.code.Checked.{node_in}
 use Rattle.ifr_opcodes.specs.Rows.{is_statement_number}
@@ -33,6 +33,10 @@ abbrev pub statement_numbers : List ℕ
 statement_numbers =
     SUBTITLE ∷ TEXT ∷ RESET_BUTTON ∷ CHECKBOX ∷ NUMERIC ∷ ONE_OF ∷ STRING ∷ PASSWORD ∷ ORDERED_LIST ∷ DATE ∷ TIME
     ∷ ACTION ∷ REF ∷ []
+
+-- the numbers of the stores that have a view
+abbrev pub store_numbers : List ℕ
+store_numbers = VARSTORE ∷ VARSTORE_EFI ∷ VARSTORE_NAME_VALUE ∷ []
 
 -- a guard, a form, a rule and a statement as nodes
 abbrev pub guard_node : Guard → Node

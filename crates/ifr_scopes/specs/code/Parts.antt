@@ -1,5 +1,6 @@
 -- What the iterators over a question's scope have before them.
-use Rattle.std.specs.Prelude.{ℕ, List}
+use Rattle.std.specs.Prelude.{ℕ, List, [], ◌∷◌}
+use Rattle.ifr_opcodes.specs.declared.codes.TheConstants.{INCONSISTENT_IF, NO_SUBMIT_IF, WARNING_IF}
 use Rattle.ifr_opcodes.specs.declared.op.Op.{Op}
 use Rattle.ifr_opcodes.specs.Forest.{Node}
 use Rattle.ifr_scopes.specs.code.Views.{node_of}
@@ -27,6 +28,10 @@ default_node default = node_of default.node
 
 abbrev pub defaults_left : Defaults → List Node
 defaults_left it = parts_left it.nodes
+
+-- the numbers of the conditions that have a view
+abbrev pub condition_numbers : List ℕ
+condition_numbers = INCONSISTENT_IF ∷ NO_SUBMIT_IF ∷ WARNING_IF ∷ []
 
 -- the opcode of a condition
 abbrev pub condition_op : ConditionOp → Op

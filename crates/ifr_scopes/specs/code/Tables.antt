@@ -9,7 +9,7 @@ use Rattle.ifr_opcodes.specs.Fields.{form_id}
 use Rattle.ifr_opcodes.specs.Forest.{Ancestor, Node}
 use Rattle.ifr_opcodes.specs.Opcode.{number}
 use Rattle.ifr_scopes.specs.Guards.{is_guard, guards, guards_among}
-use Rattle.ifr_scopes.specs.Kinds.{is_condition_number}
+use Rattle.ifr_opcodes.specs.Rows.{is_condition_number}
 use Rattle.ifr_scopes.specs.Nodes.{nodes_of, this_of, is_store}
 use Rattle.ifr_scopes.specs.Rules.{is_rule}
 use Rattle.ifr_scopes.specs.Structure.{parent}

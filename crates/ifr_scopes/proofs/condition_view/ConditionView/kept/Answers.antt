@@ -1,7 +1,7 @@
 use Rattle.std.proofs.Common.{◌≡◌, ℕ, List, sym, ap, ◌∙◌}
 use Rattle.ifr_opcodes.specs.Opcode.{number}
 use Rattle.ifr_opcodes.specs.Forest.{Node}
-use Rattle.ifr_scopes.specs.Kinds.{is_condition_number}
+use Rattle.ifr_opcodes.specs.Rows.{is_condition_number}
 use Rattle.ifr_scopes.specs.Nodes.{nodes_of, this_of}
 use Rattle.ifr_scopes.specs.code.Ends.{expression_end}
 use Rattle.ifr_scopes.specs.code.Tables.{conditions_before}

@@ -2,7 +2,7 @@ use Rattle.std.proofs.Common.{◌≡◌, ◌==◌, true, sym, ap, subst, ◌∙�
 use Rattle.std.proofs.lemmas.Bool.{false≢true}
 use Rattle.ifr_opcodes.specs.Fields.{question_id}
 use Rattle.ifr_opcodes.specs.Opcode.{number}
-use Rattle.ifr_scopes.specs.Kinds.{is_condition_number}
+use Rattle.ifr_opcodes.specs.Rows.{is_condition_number}
 use Rattle.ifr_scopes.specs.Nodes.{is_question}
 use Rattle.ifr_scopes.specs.code.PartsLeft.{HaveThis}
 use Rattle.ifr_scopes.specs.code.Views.{node_of}

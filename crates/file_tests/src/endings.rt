@@ -1,10 +1,9 @@
 //! Files of the greatest length, files that fail, and what is told of them.
 
-use crate::endings::{Status, shown, tell_refused};
-use crate::noted::Noted;
-use crate::reading::{FILE_LIMIT, ReadError, read_whole};
-use crate::terminal::Terminals;
 use hii_bytes::{Cause, Watched};
+use setup_files::{
+    FILE_LIMIT, Noted, ReadError, Status, Terminals, read_whole, shown, tell_refused,
+};
 use std::alloc::Global;
 use std::io;
 use std::io::{ErrorKind, Read};

@@ -1,6 +1,6 @@
 //! The steps by which a file takes the place of another one, each of which may fail.
 
-use crate::replacing::{is_same_file, out_file};
+use setup_files::{is_same_file, out_file};
 use std::alloc::{Allocator, Global};
 use std::cell::{Cell, RefCell};
 use std::fs::{FileTimes, Metadata, OpenFile, OpenOptions, Permissions};

@@ -5,15 +5,13 @@ ghost use Rattle.ifr_scopes.specs.Nodes.{nodes_of};
 ghost use Rattle.store_audit.specs.Fillings.{buffer_stores};
 ghost use Rattle.store_audit.specs.code.Fillings.{filling_node};
 
-use crate::declared::Declared;
-use crate::fillings::{Filling, Source, put_image};
-use crate::store_lines::put_stores;
 use hii_bytes::Watched;
 use ifr_scopes::Varstore;
 use std::alloc::Global;
 use std::io::BufWriter;
 use std::process::Abort;
 use std::test::Fail;
+use store_audit::{Declared, Filling, Source, put_image, put_stores};
 
 /// A list with a forms package of one form and three stores: two bytes, a variable of three bytes, and one of names and values.
 const LIST: &[u8] = b"\x11\x11\x11\x11\x11\x11\x11\x11\x11\x11\x11\x11\x11\x11\x11\x11\x86\0\0\0\

@@ -4,7 +4,7 @@ use Rattle.ifr_scopes.specs.Nodes.{nodes_of}
 use Rattle.ifr_scopes.specs.code.Lists.{stores_left}
 use Rattle.store_audit.specs.Fillings.{has_bytes, buffer_stores}
 use Rattle.store_audit.specs.code.Fillings.{filling_node}
-use Rattle.store_audit.proofs.tests.fillings.Given as goal
+use Rattle.audit_tests.proofs.stores.fillings.Given as goal
 
 -- the stores so far, and those that hold bytes of the stores that are left, are all
 abbrev pub invariant-loop-store : goal.invariant-loop-store
