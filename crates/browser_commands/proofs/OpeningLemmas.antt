@@ -1,13 +1,14 @@
 -- Which bytes open a session, and with which faults they do not.
 use Rattle.std.proofs.Common.{◌≡◌, ℕ, List, [], ◌∷◌, refl, sym, ap, subst, ◌∙◌, inl, inr}
 use Rattle.std.specs.Prelude.{filter}
-use Rattle.browser_rules.specs.Packages.{Package, STRINGS, device_path, packages_with}
+use Rattle.browser_rules.specs.Faults.{string_faults}
+use Rattle.browser_rules.specs.Packages.{Package, device_path}
+use Rattle.browser_rules.specs.Strings.{Spoken, chosen}
 use Rattle.hii_bytes.specs.declared.cause.Cause.{Cause}
 use Rattle.hii_bytes.specs.declared.cause.Fault.{Fault}
-use Rattle.hii_bytes.specs.Faults.{HasNone, IsLeast, Refuses, Then, out_of_memory}
+use Rattle.hii_bytes.specs.Faults.{HasNone, IsAmong, IsLeast, Refuses, RefusesAmong, Then, out_of_memory}
+use Rattle.hii_bytes.proofs.ChapterFaultLemmas.{are_among, none_among, same_refusal}
 use Rattle.hii_bytes.proofs.FaultLemmas.{then_first, then_second, then_none}
-use Rattle.hii_languages.specs.Languages.{Spoken, chosen}
-use Rattle.hii_languages.proofs.SpokenLemmas.{spoken_sound}
 use Rattle.ifr_opcodes.specs.Forest.{Node, places}
 use Rattle.ifr_scopes.specs.Accepted.{IsAccepted, IsPackageFault}
 use Rattle.ifr_scopes.specs.Nodes.{nodes_of, is_form}
@@ -52,7 +53,7 @@ is_found list seen n source ifr spoken same found is says =
     record { source = source; found = found; is = is; spoken = spoken; texts = subst (λ (bytes : List ℕ). HasTexts bytes spoken) same says }
 
 no_text_fault : (list : List ℕ) (spoken : List Spoken) → HasTexts list spoken → HasNone (IsTextFault list)
-no_text_fault list spoken says = spoken_sound (packages_with STRINGS list) spoken says
+no_text_fault list spoken says = (none_among (string_faults list)).0 says.0
 
 -- what is good can be browsed, and the other way round
 browsable_where_good : (ifr : List ℕ) → IsGoodPackage ifr → IsBrowsable ifr
@@ -160,10 +161,10 @@ pub refuses_source : (list : List ℕ) (n : ℕ) (stores : List ℕ) (fault : Fa
 refuses_source list n stores fault least = refuses_first (IsSourceFault list n) _ fault (inr least)
 
 -- the list's string packages refuse
-pub refuses_texts : (list seen : List ℕ) (n : ℕ) (stores : List ℕ) (source : Package) (fault : Fault) → seen ≡ list → HasSource list n source → Refuses (IsTextFault seen) fault → Refuses (IsOpenFault list n stores) fault
+pub refuses_texts : (list seen : List ℕ) (n : ℕ) (stores : List ℕ) (source : Package) (fault : Fault) → seen ≡ list → HasSource list n source → RefusesAmong (string_faults seen) fault → Refuses (IsOpenFault list n stores) fault
 refuses_texts list seen n stores source fault same found r =
     refuses_second (IsSourceFault list n) (Then (IsTextFault list) (IsBrowsingFault (forms_bytes list n) stores)) fault (no_source_fault list n source found)
-    (refuses_first (IsTextFault list) (IsBrowsingFault (forms_bytes list n) stores) fault (subst (λ (bytes : List ℕ). Refuses (IsTextFault bytes) fault) same r))
+    (refuses_first (IsTextFault list) (IsBrowsingFault (forms_bytes list n) stores) fault (subst (λ (bytes : List ℕ). Refuses (IsTextFault bytes) fault) same ((same_refusal (string_faults seen) (IsAmong (string_faults seen)) fault (are_among (string_faults seen))).0 r)))
 
 -- the list's forms package refuses, or the image
 refuses_later : (list : List ℕ) (n : ℕ) (stores ifr : List ℕ) (fault : Fault) → IsFound list n ifr → Refuses (IsBrowsingFault ifr stores) fault → Refuses (IsOpenFault list n stores) fault

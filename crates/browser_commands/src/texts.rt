@@ -3,7 +3,7 @@
 ghost use Rattle.std.specs.Prelude.{◌≡◌};
 ghost use Rattle.hii_bytes.specs.Watching.{Puts, Writes};
 ghost use Rattle.std.specs.List.{flat_map};
-ghost use Rattle.hii_languages.specs.Shown.{shown_text};
+ghost use Rattle.browser_rules.specs.Strings.{shown};
 ghost use Rattle.hii_languages.specs.code.Views.{chars_left, choice_of};
 ghost use Rattle.guard_policy.specs.code.WarningsLeft.{warnings_left};
 ghost use Rattle.session_steps.specs.Texts.{count_text, changed_text, message_text, denied_text, warning_text, warning_line, refused_text, refused_at_text};
@@ -87,7 +87,7 @@ pub(crate) fn put_warnings<W: Write>(
     out: &mut Watched<W>,
 )
     ensures { Puts W.contents out.old out.new
-        (flat_map (warning_line (shown_text languages.now (choice_of language)))
+        (flat_map (warning_line (shown languages.now (choice_of language)))
         (warnings_left warnings.entry)) }
 {
     let mut warnings = warnings;

@@ -1,13 +1,12 @@
 -- Bytes open one state.
 use Rattle.std.proofs.Common.{◌≡◌, ℕ, List, ◌∷◌, Option, refl, sym, ap, subst, ◌∙◌}
 use Rattle.std.specs.Prelude.{filter}
-use Rattle.hii_languages.specs.Languages.{Spoken, chosen}
-use Rattle.hii_languages.proofs.SpokenLemmas.{spoken_once}
 use Rattle.ifr_opcodes.specs.Forest.{Node, places}
 use Rattle.browser_rules.specs.Headline.{start}
-use Rattle.browser_rules.specs.Packages.{Package, STRINGS, forms_bytes, packages_with}
+use Rattle.browser_rules.specs.Packages.{Package, forms_bytes}
 use Rattle.browser_rules.specs.Session as chapter
 use Rattle.browser_rules.specs.Stores as held
+use Rattle.browser_rules.specs.Strings.{Spoken, chosen}
 use Rattle.hii_varstore.specs.StoreNodes.{layout_of}
 use Rattle.rules_laws.specs.laws.Stores.{shape_for, stores_for}
 use Rattle.rules_laws.proofs.StoreLemmas.{shape_same, spelled_back}
@@ -22,7 +21,7 @@ use Rattle.session_steps.specs.Opening.{HasTexts, layout_in, Opens}
 use Rattle.session_steps.proofs.SourceLemmas.{one_source}
 
 one_speech : (list : List ℕ) (a b : List Spoken) → HasTexts list a → HasTexts list b → a ≡ b
-one_speech list a b first second = spoken_once (packages_with STRINGS list) a b first second
+one_speech list a b first second = first.1 ∙ sym second.1
 
 one_place : (ifr other : List ℕ) (a b : ℕ) (later rest : List ℕ) → ifr ≡ other → places (filter is_form (nodes_of ifr)) ≡ a ∷ later → places (filter is_form (nodes_of other)) ≡ b ∷ rest → a ≡ b
 one_place ifr other a b later rest same first second =

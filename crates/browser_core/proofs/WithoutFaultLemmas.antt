@@ -1,9 +1,11 @@
 -- What bytes without a fault open.
-use Rattle.std.proofs.Common.{◌≡◌, ℕ, ◌≤◌, ◌<◌, ◌^◌, List, length, sym, subst, inl, inr}
+use Rattle.std.proofs.Common.{◌≡◌, ℕ, ◌≤◌, ◌<◌, ◌^◌, List, length, refl, sym, subst, inl, inr}
+use Rattle.browser_rules.specs.Faults.{string_faults}
 use Rattle.browser_rules.specs.Packages.{Package}
+use Rattle.browser_rules.specs.Strings.{spoken_in}
 use Rattle.hii_bytes.specs.declared.cause.Cause.{Cause}
 use Rattle.hii_bytes.specs.Faults.{HasNone, Then}
-use Rattle.hii_languages.specs.Languages.{Spoken}
+use Rattle.hii_bytes.proofs.ChapterFaultLemmas.{none_among}
 use Rattle.ifr_opcodes.specs.Forest as forest
 use Rattle.ifr_opcodes.proofs.ForestLemmas.{is_tree_of}
 use Rattle.ifr_scopes.specs.Accepted.{IsAccepted, IsPackageFault}
@@ -17,7 +19,7 @@ use Rattle.hii_varstore.specs.Image.{SpellsImage}
 use Rattle.hii_varstore.specs.StoreNodes.{IsStoreFault}
 use Rattle.hii_varstore.specs.Faults.{IsImageFault}
 use Rattle.hii_questions.specs.Faults.{IsQuestionFault}
-use Rattle.session_steps.specs.Opening.{HasSource, HasTexts, layout_in, IsSourceFault, IsTextFault, IsFormSetFault, IsBrowsingFault, IsOpenFault, AreGood}
+use Rattle.session_steps.specs.Opening.{HasSource, layout_in, IsSourceFault, IsTextFault, IsFormSetFault, IsBrowsingFault, IsOpenFault, AreGood}
 use Rattle.session_steps.specs.code.Browsable.{IsBrowsable}
 use Rattle.browser_commands.proofs.OpeningLemmas.{good_where_browsable}
 use Rattle.session_steps.proofs.SourceLemmas.{source_bytes}
@@ -58,25 +60,24 @@ browsable_without ifr accepts none =
 
 -- ---- a session
 
--- bytes without a fault are good, where string packages, frames and images without a fault are what they are to be
-pub good_without_fault : (list seen : List ℕ) (n : ℕ) (image : List ℕ) (source : Package) → seen ≡ list → HasSource list n source
+-- bytes without a fault are good, where frames and images without a fault are what they are to be
+pub good_without_fault : (list : List ℕ) (n : ℕ) (image : List ℕ) (source : Package) → HasSource list n source
     → 4 ≤ length source.bytes → length source.bytes < 2 ^ 32
-    → (HasNone (IsTextFault seen) → (spoken : List Spoken) × HasTexts seen spoken)
     → (HasNone (IsFramingFault source.bytes) → (f : forest.Forest) × forest.SpellsForest source.bytes f)
     → ((shape : Shape) (image : List ℕ) → HasNone (IsImageFault shape image) → (m : StoreMap) × SpellsImage shape image m)
     → HasNone (IsOpenFault list n image) → AreGood list n image
-good_without_fault list seen n image source read found header small speak frames images none =
+good_without_fault list n image source found header small frames images none =
     let same = source_bytes list n source found in
     let later = none_second (IsSourceFault list n) (Then (IsTextFault list) (IsBrowsingFault _ image)) none in
     let browsing = subst (λ ifr. HasNone (IsBrowsingFault ifr image)) same (none_second (IsTextFault list) (IsBrowsingFault _ image) later) in
-    let texts = speak (subst (λ (bytes : List ℕ). HasNone (IsTextFault bytes)) (sym read) (none_first (IsTextFault list) (IsBrowsingFault _ image) later)) in
+    let texts = (none_among (string_faults list)).1 (none_first (IsTextFault list) (IsBrowsingFault _ image) later) in
     let accepts = accepted_without source.bytes header small frames in
     let stores = images (layout_in source.bytes) image (none_second (IsFormSetFault source.bytes) (IsImageFault (layout_in source.bytes) image) browsing) in
     record {
       source = source;
       found = found;
-      spoken = texts.0;
-      texts = subst (λ (bytes : List ℕ). HasTexts bytes texts.0) read texts.1;
+      spoken = spoken_in list;
+      texts = (texts, refl);
       good = good_where_browsable source.bytes (browsable_without source.bytes accepts (none_first (IsFormSetFault source.bytes) (IsImageFault (layout_in source.bytes) image) browsing));
       stores = stores.0;
       image_is = stores.1;

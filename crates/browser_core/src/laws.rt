@@ -11,7 +11,6 @@ ghost use Rattle.browser_core.specs.Opening as rules;
 ghost use Rattle.session_steps.specs.State.{State};
 ghost use Rattle.session_steps.specs.Step.{step, step_line};
 
-use hii_languages::laws::packages_without_fault_speak;
 use hii_packages::PackageList;
 use hii_varstore::laws::images_without_fault_are_spelled;
 use ifr_scopes::laws::bytes_without_framing_fault_are_spelled;
@@ -34,7 +33,6 @@ pub fn bytes_without_fault_are_good(list: &[u8], forms: usize, image: &[u8])
     let Ok(source) = packages.forms(forms) else {
         return;
     };
-    packages_without_fault_speak(&packages);
     bytes_without_framing_fault_are_spelled(source.bytes);
     images_without_fault_are_spelled();
 }

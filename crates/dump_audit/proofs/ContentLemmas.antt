@@ -1,16 +1,15 @@
 -- What packages tell is written package by package.
 use Rattle.std.proofs.Common.{◌≡◌, ℕ, suc, ◌≤◌, Bool, true, ◌==◌, Option, Some, None, List, [], ◌∷◌, ◌++◌, length, filter, map, if◌then◌else◌, refl, sym, ap, subst, ◌∙◌, arith, inl, inr}
-use Rattle.std.specs.Prelude.{codes, slice_get}
+use Rattle.std.specs.Prelude.{codes, slice_get, decimal, option_map, unwrap_or}
 use Rattle.std.specs.List.{flat_map}
 use Rattle.std.specs.Option.{option_or}
 use Rattle.std.proofs.lemmas.List.{map-append}
 use Rattle.std.proofs.lemmas.Bool.{cases_Bool, cond-true}
 use Rattle.browser_rules.specs.Packages.{FORMS, Package}
 use Rattle.hii_bytes.specs.declared.cause.Fault.{Fault}
-use Rattle.hii_bytes.specs.Faults.{Refuses}
-use Rattle.sibt_strings.specs.Strings.{Speaks, IsStringFaultIn}
-use Rattle.hii_languages.specs.Languages.{Spoken, first_package, IsStringsFault}
-use Rattle.hii_languages.specs.Shown.{shown_text, characters, Nothing, text_or_missing}
+use Rattle.browser_rules.specs.Faults.{string_package_faults, each_package}
+use Rattle.browser_rules.specs.Strings.{Spoken, spoken_by, characters, shown}
+use Rattle.hii_bytes.specs.Faults.{RefusesAmong}
 use Rattle.dump_audit.specs.Contents.{begins_with_form_set, forms_in}
 use Rattle.dump_audit.specs.code.Heard.{shown_in_first}
 use Rattle.hii_languages.proofs.SpokenLemmas.{IsRead, is_strings, read_more, read_fault}
@@ -36,18 +35,18 @@ pub record Gathers (all left : List Package) (languages : List (List ℕ)) (firs
   pub languages_kept : languages ≡ map (λ s. s.language) said
   pub first_kept : first ≡ slice_get said 0
 
-pub gathers_more : {all left later : List Package} {languages : List (List ℕ)} {first : Option Spoken} (e : Package) (s : Spoken) → Gathers all left languages first → left ≡ e ∷ later → is_strings e ≡ true → Speaks e.bytes s
+pub gathers_more : {all left later : List Package} {languages : List (List ℕ)} {first : Option Spoken} (e : Package) (s : Spoken) → Gathers all left languages first → left ≡ e ∷ later → is_strings e ≡ true → s ≡ spoken_by e → string_package_faults e ≡ []
     → Gathers all later (languages ++ s.language ∷ []) (option_or first (Some s))
-gathers_more {all} {left} {later} {languages} {first} e s g steps strings speaks = record {
+gathers_more {all} {left} {later} {languages} {first} e s g steps strings says none = record {
   said = g.said ++ s ∷ [];
-  read = read_more all g.said e later s (subst (IsRead all g.said) steps g.read) strings speaks;
+  read = read_more all g.said e later s (subst (IsRead all g.said) steps g.read) strings says none;
   languages_kept = ap (λ (ls : List (List ℕ)). ls ++ s.language ∷ []) g.languages_kept ∙ sym (map-append (λ (t : Spoken). t.language) g.said (s ∷ []));
   first_kept = ap (λ (o : Option Spoken). option_or o (Some s)) g.first_kept ∙ first_stays g.said s;
 }
 
 -- the least fault of a string package is that of all, where those before it say something
 pub gathers_fault : {all left later : List Package} {languages : List (List ℕ)} {first : Option Spoken} (e : Package) (fault : Fault) → Gathers all left languages first → left ≡ e ∷ later → is_strings e ≡ true
-    → Refuses (IsStringFaultIn e.bytes e.place) fault → Refuses (IsStringsFault (filter is_strings all)) fault
+    → RefusesAmong (string_package_faults e) fault → RefusesAmong (each_package (filter is_strings all)) fault
 gathers_fault {all} {left} {later} e fault g steps strings refuses = elim refuses [
   | inl memory ↦ inl memory
   | inr least ↦ inr (read_fault all g.said e later fault (subst (IsRead all g.said) steps g.read) strings least)
@@ -58,9 +57,9 @@ same_twice None = refl
 same_twice (Some x) = refl
 
 -- what the first package has is what is shown in its language
-pub shown_first : (spoken : List Spoken) (id : ℕ) → shown_in_first (slice_get spoken 0) id ≡ shown_text spoken (first_package spoken) id
+pub shown_first : (spoken : List Spoken) (id : ℕ) → shown_in_first (slice_get spoken 0) id ≡ shown spoken (Some 0) id
 shown_first [] id = refl
-shown_first (s ∷ ss) id = ap (λ (o : Option (List ℕ)). characters (if id == 0 then Nothing else text_or_missing id o)) (same_twice _)
+shown_first (s ∷ ss) id = ap (λ (o : Option (List ℕ)). if id == 0 then [] else unwrap_or (option_map characters o) (35 ∷ decimal id)) (same_twice _)
 
 -- ---- forms packages
 

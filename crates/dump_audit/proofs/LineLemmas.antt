@@ -8,7 +8,7 @@ use Rattle.hii_bytes.proofs.WritingLemmas.{writes_trans}
 use Rattle.hii_bytes.specs.Texts.{place_text}
 use Rattle.hii_dumps.specs.Dumps.{Entry, IsList, placed}
 use Rattle.dump_audit.specs.Lines.{Told, IsTold, line, lines, rest_line, title_text}
-use Rattle.hii_languages.specs.Languages.{Spoken}
+use Rattle.browser_rules.specs.Strings.{Spoken}
 
 all_more : (told : List Told) (t : Told) → AllByRecursion IsTold told → IsTold t → AllByRecursion IsTold (told ++ t ∷ [])
 all_more [] t each is = (is, tt)

@@ -1,19 +1,17 @@
 -- A dump has one text.
 use Rattle.std.proofs.Common.{◌≡◌, ℕ, List, [], ◌∷◌, ◌++◌, length, map, refl, sym, ap, subst, ◌∙◌, arith, inl, inr}
 use Rattle.std.specs.List.{AllByRecursion, concat}
-use Rattle.browser_rules.specs.Faults.{list_faults}
-use Rattle.browser_rules.specs.Packages.{Package, STRINGS, packages_with}
+use Rattle.browser_rules.specs.Packages.{Package}
+use Rattle.browser_rules.specs.Strings.{Spoken}
 use Rattle.hii_bytes.specs.declared.cause.Cause.{Cause}
 use Rattle.hii_bytes.specs.declared.cause.Fault.{Fault}
 use Rattle.hii_bytes.specs.Cause.{number_of}
-use Rattle.hii_bytes.specs.Faults.{IsAmong, IsLeast, HasNone}
-use Rattle.hii_bytes.proofs.ChapterFaultLemmas.{none_among}
-use Rattle.hii_bytes.proofs.FaultLemmas.{then_none}
+use Rattle.hii_bytes.specs.Faults.{IsAmong, IsLeast}
+use Rattle.hii_bytes.proofs.ChapterFaultLemmas.{least_among}
 use Rattle.hii_dumps.specs.Dumps.{Entry, placed}
 use Rattle.hii_dumps.proofs.ListLemmas.{one_split}
-use Rattle.hii_languages.specs.Languages.{Spoken, AreSpoken}
-use Rattle.hii_languages.proofs.SpokenLemmas.{spoken_once, spoken_sound}
-use Rattle.dump_audit.specs.Findings.{Finding, Contents, Refused, IsFound, IsTextFault, IsListOrTextFault}
+use Rattle.sibt_strings.proofs.FaultLemmas.{some_least}
+use Rattle.dump_audit.specs.Findings.{Finding, Contents, Refused, IsFound, list_or_text_faults}
 use Rattle.dump_audit.specs.Lines.{Told, IsTold, lines, rest_line, IsSplitText}
 use Rattle.dump_audit.proofs.CauseLemmas.{same_cause}
 
@@ -35,16 +33,14 @@ one_least IsFault f g l m =
     let place = same.place in
     λ i. record { cause = cause i; place = place i }
 
-no_fault_of : (list : List ℕ) (spoken : List Spoken) → list_faults list ≡ [] → AreSpoken (packages_with STRINGS list) spoken → HasNone (IsListOrTextFault list)
-no_fault_of list spoken sound are =
-    then_none (IsAmong (list_faults list)) (IsTextFault list) ((none_among (list_faults list)).0 sound) (spoken_sound (packages_with STRINGS list) spoken are)
-
 one_finding : (list : List ℕ) (a b : Finding) → IsFound list a → IsFound list b → a ≡ b
 one_finding list (Contents ps ss) (Contents qs ts) f h =
-    ap (λ (xs : List Package). Contents xs ss) (f.1 ∙ sym h.1) ∙ ap (λ (xs : List Spoken). Contents qs xs) (spoken_once (packages_with STRINGS list) ss ts f.2 h.2)
-one_finding list (Contents ps ss) (Refused fault) f h = absurd (no_fault_of list ss f.0 f.2 fault.cause fault.place h.told)
-one_finding list (Refused fault) (Contents ps ss) f h = absurd (no_fault_of list ss h.0 h.2 fault.cause fault.place f.told)
-one_finding list (Refused fault) (Refused other) f h = ap Refused (one_least (IsListOrTextFault list) fault other f h)
+    ap (λ (xs : List Package). Contents xs ss) (f.1 ∙ sym h.1) ∙ ap (λ (xs : List Spoken). Contents qs xs) (f.2 ∙ sym h.2)
+one_finding list (Contents ps ss) (Refused fault) f h = absurd (some_least (list_or_text_faults list) fault h f.0)
+one_finding list (Refused fault) (Contents ps ss) f h = absurd (some_least (list_or_text_faults list) fault f h.0)
+one_finding list (Refused fault) (Refused other) f h =
+    let faults = list_or_text_faults list in
+    ap Refused (one_least (IsAmong faults) fault other ((least_among faults fault).0 f) ((least_among faults other).0 h))
 
 one_entry : (t u : Told) → IsTold t → IsTold u → t.entry ≡ u.entry → t ≡ u
 one_entry t u is was same =

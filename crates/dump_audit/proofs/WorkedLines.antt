@@ -5,8 +5,7 @@ use Rattle.std.specs.Fmt.{digits}
 use Rattle.browser_rules.specs.Words.{number_in}
 use Rattle.hii_bytes.specs.declared.cause.Cause.TheVariants.{StringBlock}
 use Rattle.hii_packages.specs.laws.Spelling.{placed}
-use Rattle.sibt_strings.specs.Units.{chars_of_units}
-use Rattle.hii_languages.specs.Languages.{Spoken}
+use Rattle.browser_rules.specs.Strings.{Spoken, characters}
 use Rattle.dump_audit.specs.Findings.{Refused}
 use Rattle.dump_audit.specs.Lines.{contents_text, line, rest_line}
 use Rattle.dump_audit.specs.Taking.{no_list_text}
@@ -26,7 +25,7 @@ abbrev german : Spoken
 german = record { language = codes "de-DE"; texts = None ∷ [] }
 
 a_form_set_in_two_languages : contents_text (placed 20 (forms ∷ [])) (english ∷ german ∷ []) ≡ codes "forms 1 6D1E5A10-7C4B-4E0A-9A31-225C60880F01 strings en-US,de-DE Rx"
-unfolding number_in digits chars_of_units lib.Utf8.encode
+unfolding number_in digits characters lib.Utf8.encode
 a_form_set_in_two_languages = refl
 
 a_title_without_a_text : contents_text (placed 20 (cut ∷ forms ∷ [])) (german ∷ english ∷ []) ≡ codes "forms 2 6D1E5A10-7C4B-4E0A-9A31-225C60880F01 strings de-DE,en-US #1"

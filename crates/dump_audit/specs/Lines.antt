@@ -4,8 +4,7 @@ use Rattle.std.specs.List.{AllByRecursion, concat, flat_map}
 use Rattle.browser_rules.specs.Packages.{Package}
 use Rattle.hii_bytes.specs.Texts.{place_text, fault_text}
 use Rattle.hii_dumps.specs.Dumps.{Entry, SpellsDump, placed}
-use Rattle.hii_languages.specs.Languages.{Spoken, first_package}
-use Rattle.hii_languages.specs.Shown.{shown_text}
+use Rattle.browser_rules.specs.Strings.{Spoken, shown}
 use Rattle.audit_text.specs.Texts.{joined}
 use Rattle.dump_audit.specs.Contents.{form_sets, forms_in, guid_word, first_title}
 use Rattle.dump_audit.specs.Findings.{Finding, Contents, Refused, IsFound}
@@ -24,7 +23,7 @@ languages_text spoken = joined (codes ",") (map (λ s. s.language) spoken)
 abbrev pub title_text : List Spoken → Option ℕ → List ℕ
 title_text spoken None = []
 title_text spoken (Some id) =
-    codes " " ++ flat_map encode_utf8 (shown_text spoken (first_package spoken) id)
+    codes " " ++ flat_map encode_utf8 (shown spoken (Some 0) id)
 
 -- how many forms packages there are, the GUIDs of the form sets with which they begin, the languages, the first form set's title
 abbrev pub contents_text : List Package → List Spoken → List ℕ

@@ -1,10 +1,10 @@
 //! What is found of a list.
 
 ghost use Rattle.std.specs.Prelude.{◌≡◌, List, IfOk, IfErr};
-ghost use Rattle.hii_bytes.specs.Faults.{IsLeast, Refuses};
+ghost use Rattle.hii_bytes.specs.Faults.{IsLeastAmong, RefusesAmong};
 ghost use Rattle.hii_packages.specs.Packages.{packages_of};
-ghost use Rattle.hii_languages.specs.Languages.{Spoken};
-ghost use Rattle.dump_audit.specs.Findings.{Contents as Found, IsFound, IsListOrTextFault};
+ghost use Rattle.browser_rules.specs.Strings.{Spoken};
+ghost use Rattle.dump_audit.specs.Findings.{Contents as Found, IsFound, list_or_text_faults};
 ghost use Rattle.dump_audit.specs.code.Heard.{heard_of};
 
 use crate::strings::ListStrings;
@@ -24,7 +24,7 @@ fn read_list(alloc: Global, bytes: &[u8]) -> Result<Contents<'_>, Fault>
     ensures found { IfOk result (λ contents. (spoken : List Spoken)
         × IsFound bytes.entry.now (Found (packages_of contents.packages) spoken)
         × (contents.strings ≡ heard_of spoken)) }
-    ensures refused { IfErr result (Refuses (IsListOrTextFault bytes.entry.now)) }
+    ensures refused { IfErr result (RefusesAmong (list_or_text_faults bytes.entry.now)) }
 {
     let packages = PackageList::read(bytes)?;
     let strings = ListStrings::read(alloc, &packages)?;
@@ -37,7 +37,7 @@ pub(crate) fn find(alloc: Global, bytes: &[u8]) -> Result<Result<Contents<'_>, F
         × IsFound bytes.entry.now (Found (packages_of contents.packages) spoken)
         × (contents.strings ≡ heard_of spoken))) }
     ensures refused { IfOk result (λ found. IfErr found
-        (IsLeast (IsListOrTextFault bytes.entry.now))) }
+        (IsLeastAmong (list_or_text_faults bytes.entry.now))) }
 {
     match read_list(alloc, bytes) {
         Err(fault) if fault.cause == Cause::OutOfMemory => Err(AllocError),

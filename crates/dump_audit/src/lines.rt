@@ -5,7 +5,7 @@ ghost use Rattle.std.specs.List.{concat};
 ghost use Rattle.hii_bytes.specs.Watching.{Puts};
 ghost use Rattle.hii_dumps.specs.code.Lists.{entry_of};
 ghost use Rattle.hii_packages.specs.Packages.{packages_of};
-ghost use Rattle.hii_languages.specs.Languages.{Spoken};
+ghost use Rattle.browser_rules.specs.Strings.{Spoken};
 ghost use Rattle.dump_audit.specs.Findings.{Finding, IsFound};
 ghost use Rattle.dump_audit.specs.Lines.{contents_text, head_text, line, rest_line, IsSplitText, BeginsSplitText};
 ghost use Rattle.dump_audit.specs.code.Heard.{heard_of};

@@ -33,11 +33,11 @@ impl<'a> Model for ListStrings<'a> {
 }
 
 impl<'a> ListStrings<'a> {
-    ghost use Rattle.std.specs.Prelude.{List, IfOk, IfErr, option_map};
-    ghost use Rattle.browser_rules.specs.Packages as chapter;
-    ghost use Rattle.hii_bytes.specs.Faults.{Refuses};
+    ghost use Rattle.std.specs.Prelude.{◌≡◌, [], IfOk, IfErr, option_map};
+    ghost use Rattle.browser_rules.specs.Faults.{string_faults};
+    ghost use Rattle.browser_rules.specs.Strings.{spoken_in};
+    ghost use Rattle.hii_bytes.specs.Faults.{RefusesAmong};
     ghost use Rattle.sibt_strings.specs.code.Views.{units_in};
-    ghost use Rattle.hii_languages.specs.Languages.{Spoken, AreSpoken, IsStringsFault};
     ghost use Rattle.hii_languages.specs.code.Views.{text_of};
     ghost use Rattle.audit_text.specs.Texts.{joined};
     ghost use Rattle.dump_audit.specs.code.Heard.{heard_of, text_in_first, shown_in_first};
@@ -45,9 +45,9 @@ impl<'a> ListStrings<'a> {
     /// Reads each string package once, in memory for the texts of two at most; or gives the least fault of the first that has one,
     /// or OutOfMemory (60) at 0 where an allocation fails.
     pub(crate) fn read(alloc: Global, list: &PackageList<'a>) -> Result<ListStrings<'a>, Fault>
-        ensures read { IfOk result (λ strings. (spoken : List Spoken)
-            × AreSpoken (chapter.packages_with chapter.STRINGS list.now) spoken × (strings ≡ heard_of spoken)) }
-        ensures refused { IfErr result (Refuses (IsStringsFault (chapter.packages_with chapter.STRINGS list.now))) }
+        ensures read { IfOk result (λ strings. strings ≡ heard_of (spoken_in list.now)) }
+        ensures sound { IfOk result (λ _. string_faults list.now ≡ []) }
+        ensures refused { IfErr result (RefusesAmong (string_faults list.now)) }
     {
         let mut languages = Vec::new(alloc);
         let mut first = None;

@@ -1,7 +1,7 @@
 -- Values as scripts take them (own rule).
 use Rattle.std.specs.Prelude.{ℕ, ◌==◌, if◌then◌else◌, Option, Some, None, option_and_then, Result, Ok, Err, List, [], ◌∷◌, ◌++◌, codes, decimal}
 use Rattle.std.specs.List.{flat_map}
-use Rattle.sibt_strings.specs.Units.{chars_of_units}
+use Rattle.browser_rules.specs.Strings.{characters}
 use Rattle.ifr_opcodes.specs.declared.codes.TheConstants.{CHECKBOX, NUMERIC, ONE_OF, STRING, ORDERED_LIST}
 use Rattle.ifr_opcodes.specs.Fields.{display, numeric_width}
 use Rattle.ifr_opcodes.specs.Forest.{Node}
@@ -42,7 +42,7 @@ one_of_script _ = None
 
 -- a text as a page shows it
 abbrev pub string_script : Value → Option (List ℕ)
-string_script (text units) = Some (utf8 (chars_of_units units))
+string_script (text units) = Some (utf8 (characters units))
 string_script _ = None
 
 abbrev pub list_script : Value → Node → Option (List ℕ)

@@ -2,7 +2,7 @@
 use Rattle.std.specs.Prelude.{ℕ, zero, suc, ◌*◌, ◌/◌, ◌%◌, ◌^◌, true, false, Bool, ◌==◌, ◌&&◌, if◌then◌else◌, Option, Some, None, option_map, is_none, List, [], ◌∷◌, ◌++◌, map, codes, decimal}
 use Rattle.std.specs.List.{find, flat_map}
 use Rattle.std.specs.Fmt.{digit_glyph, signed_decimal}
-use Rattle.sibt_strings.specs.Units.{chars_of_units}
+use Rattle.browser_rules.specs.Strings.{characters}
 use Rattle.ifr_opcodes.specs.declared.codes.TheConstants.{CHECKBOX, NUMERIC, ONE_OF, STRING, PASSWORD, ORDERED_LIST, REF, RESET_BUTTON, TEXT}
 use Rattle.ifr_opcodes.specs.declared.numbers.Display.{Display}
 use Rattle.ifr_opcodes.specs.declared.numbers.Display.TheVariants.{Signed, Unsigned, Hexadecimal}
@@ -81,7 +81,7 @@ list_shown texts w n _ = []
 
 -- EFI_IFR_STRING: its characters
 abbrev pub string_shown : Value → List ℕ
-string_shown (text units) = chars_of_units units
+string_shown (text units) = characters units
 string_shown _ = []
 
 -- EFI_IFR_PASSWORD: only whether it is empty

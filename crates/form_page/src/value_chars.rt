@@ -4,7 +4,7 @@ ghost use Rattle.std.specs.Prelude.{◌≡◌, ◌≤◌, ◌++◌, [], length, 
 ghost use Rattle.ifr_opcodes.specs.declared.numbers.Display.TheVariants.{Hexadecimal as AsHexadecimal};
 ghost use Rattle.std.specs.Iterator.{YieldsFirstBy};
 ghost use Rattle.hii_languages.specs.code.Views.{text_of, chars_left};
-ghost use Rattle.sibt_strings.specs.Units.{chars_of_units};
+ghost use Rattle.browser_rules.specs.Strings.{characters};
 ghost use Rattle.sibt_strings.specs.code.Views.{units_in};
 ghost use Rattle.form_page.specs.code.CharViews.{behind_text, texts_left, value_chars_left};
 ghost use Rattle.form_page.specs.code.Elements.{elements_left};
@@ -111,7 +111,7 @@ impl<'a, 's, C: Conditions> RowValueChars<'a, 's, C> {
 
     /// A text of a store.
     pub(crate) fn units(units: Units<'s>) -> RowValueChars<'a, 's, C>
-        ensures { value_chars_left result ≡ chars_of_units (units_in units.entry) }
+        ensures { value_chars_left result ≡ characters (units_in units.entry) }
     {
         RowValueChars {
             ascii: Ascii::empty(),

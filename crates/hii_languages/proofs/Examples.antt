@@ -1,9 +1,7 @@
 -- Worked values of the definitions.
 use Rattle.std.proofs.Common.{◌≡◌, List, [], ◌∷◌, Some, None, refl}
 use Rattle.std.specs.Prelude.{codes, decimal}
-use Rattle.sibt_strings.specs.Units.{chars_of_units}
-use Rattle.hii_languages.specs.Languages.{Spoken, primary_subtag, chosen}
-use Rattle.hii_languages.specs.Shown.{Nothing, Units, Missing, shown, shown_text}
+use Rattle.browser_rules.specs.Strings.{Spoken, primary, chosen, text_of, characters, shown}
 
 -- French has the texts F of id 1 and G of id 2, English the text E of id 1 alone.
 spoken : List Spoken
@@ -22,15 +20,15 @@ equal_first : (chosen (record { language = codes "en-GB"; texts = [] } ∷ recor
     × (chosen (record { language = codes "fr"; texts = [] } ∷ record { language = []; texts = [] } ∷ []) (codes "-") ≡ Some 1)
 equal_first = (refl, refl)
 
-subtags : (primary_subtag (codes "en-US-x") ≡ codes "en") × (primary_subtag (codes "en") ≡ codes "en") × (primary_subtag (codes "-") ≡ [])
+subtags : (primary (codes "en-US-x") ≡ codes "en") × (primary (codes "en") ≡ codes "en") × (primary (codes "-") ≡ [])
 subtags = (refl, refl, refl)
 
--- the chosen package's text, the first one's, or the id
-texts : (shown spoken (Some 1) 1 ≡ Units (0x45 ∷ 0 ∷ [])) × (shown spoken (Some 1) 2 ≡ Units (0x47 ∷ 0 ∷ [])) × (shown spoken (Some 1) 3 ≡ Missing 3)
-    × (shown spoken (Some 1) 0 ≡ Nothing) × (shown spoken None 1 ≡ Units (0x46 ∷ 0 ∷ [])) × (shown [] None 1 ≡ Missing 1)
+-- the chosen package's text, the first one's, or none
+texts : (text_of spoken (Some 1) 1 ≡ Some (0x45 ∷ 0 ∷ [])) × (text_of spoken (Some 1) 2 ≡ Some (0x47 ∷ 0 ∷ [])) × (text_of spoken (Some 1) 3 ≡ None)
+    × (text_of spoken None 1 ≡ Some (0x46 ∷ 0 ∷ [])) × (text_of [] None 1 ≡ None)
 unfolding spoken
-texts = (refl, refl, refl, refl, refl, refl)
+texts = (refl, refl, refl, refl, refl)
 
-text_characters : (shown_text spoken (Some 1) 1 ≡ codes "E") × (shown_text spoken (Some 1) 17 ≡ 35 ∷ decimal 17) × (shown_text spoken (Some 1) 0 ≡ [])
-unfolding spoken chars_of_units
+text_characters : (shown spoken (Some 1) 1 ≡ codes "E") × (shown spoken (Some 1) 17 ≡ 35 ∷ decimal 17) × (shown spoken (Some 1) 0 ≡ [])
+unfolding spoken characters
 text_characters = (refl, refl, refl)

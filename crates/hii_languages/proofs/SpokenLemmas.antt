@@ -1,49 +1,59 @@
 -- What string packages say, and their faults.
-use Rattle.std.proofs.Common.{◌≡◌, ℕ, ◌==◌, Bool, true, List, [], ◌∷◌, ◌++◌, filter, length, take, nat_lt, Option, Some, None, inl, inr, arith, refl, ap, sym, ◌∙◌, subst, append_assoc}
-use Rattle.std.proofs.lemmas.List.{take_all}
+use Rattle.std.proofs.Common.{◌≡◌, ℕ, ◌==◌, Bool, true, List, [], ◌∷◌, ◌++◌, filter, map, length, take, nat_lt, Option, Some, None, inl, inr, arith, refl, ap, sym, ◌∙◌, subst, append_assoc}
+use Rattle.std.proofs.lemmas.List.{append-nil, map-append, take_all}
 use Rattle.std.proofs.lemmas.Bool.{cases_Bool, cond-true, cond-false}
 use Rattle.std.proofs.lemmas.Bool.Decides.{nat_tests}
 use Rattle.std.specs.List.{position, position_or_len, before_first}
 use Rattle.browser_rules.specs.Packages.{Package, STRINGS}
-use Rattle.hii_bytes.specs.declared.cause.Fault.{Fault}
-use Rattle.hii_bytes.specs.Faults.{IsLeast, HasNone}
-use Rattle.hii_bytes.proofs.FaultLemmas.{then_first, then_second, then_none}
-use Rattle.sibt_strings.specs.Strings.{Spoken, Speaks, IsStringFaultIn}
-use Rattle.sibt_strings.proofs.FaultLemmas.{one_spoken, no_string_fault}
-use Rattle.hii_languages.specs.Languages.{AreSpoken, IsStringsFault}
+use Rattle.browser_rules.specs.Strings.{Spoken, spoken_by}
+use Rattle.browser_rules.specs.Faults.{Fault, string_package_faults, each_package, then_faults}
+use Rattle.hii_bytes.specs.declared.cause.Fault.{Fault as CodeFault}
+use Rattle.hii_bytes.specs.Faults.{IsLeastAmong}
+use Rattle.hii_bytes.proofs.ChapterFaultLemmas.{then_faults_none}
+use Rattle.sibt_strings.proofs.FaultLemmas.{some_least, speech_read, read_speech}
+use Rattle.hii_languages.specs.laws.Speaking.{AreSpoken}
 
--- a string package that says something has no fault
-no_fault_in : (e : Package) (spoken : Spoken) → Speaks e.bytes spoken → HasNone (IsStringFaultIn e.bytes e.place)
-no_fault_in e spoken speaks cause place fault = no_string_fault e.bytes spoken speaks cause fault.0 fault.1
+-- ---- what is said
 
-pub spoken_once : (es : List Package) (spoken other : List Spoken) → AreSpoken es spoken → AreSpoken es other → spoken ≡ other
-spoken_once [] [] [] a b = refl
-spoken_once [] [] (t ∷ ts) a b = absurd b
-spoken_once [] (s ∷ ss) ts a b = absurd a
-spoken_once (e ∷ es) [] ts a b = absurd a
-spoken_once (e ∷ es) (s ∷ ss) [] a b = absurd b
-spoken_once (e ∷ es) (s ∷ ss) (t ∷ ts) a b = ap (λ x. x ∷ ss) (one_spoken e.bytes s t a.0 b.0) ∙ ap (λ xs. t ∷ xs) (spoken_once es ss ts a.1 b.1)
+-- what is said of packages
+pub record AreRead (ps : List Package) (spoken : List Spoken) : Type 0 where
+  pub said : spoken ≡ map spoken_by ps
+  pub sound : each_package ps ≡ []
 
-pub spoken_sound : (es : List Package) (spoken : List Spoken) → AreSpoken es spoken → HasNone (IsStringsFault es)
-spoken_sound [] [] a = λ cause place fault. fault
-spoken_sound [] (s ∷ ss) a = absurd a
-spoken_sound (e ∷ es) [] a = absurd a
-spoken_sound (e ∷ es) (s ∷ ss) a = then_none (IsStringFaultIn e.bytes e.place) (IsStringsFault es) (no_fault_in e s a.0) (spoken_sound es ss a.1)
+pub speech_of_each : (ps : List Package) (spoken : List Spoken) → AreSpoken ps spoken → AreRead ps spoken
+speech_of_each [] [] a = record { said = refl; sound = refl }
+speech_of_each [] (s ∷ ss) a = absurd a
+speech_of_each (p ∷ ps) [] a = absurd a
+speech_of_each (p ∷ ps) (s ∷ ss) a =
+    let first = speech_read p s a.0 in
+    let others = speech_of_each ps ss a.1 in
+    record {
+      said = ap (λ x. x ∷ ss) first.0 ∙ ap (λ xs. spoken_by p ∷ xs) others.said;
+      sound = ap (λ fs. then_faults fs (each_package ps)) first.1 ∙ others.sound;
+    }
 
-pub spoken_push : (es : List Package) (spoken : List Spoken) (e : Package) (s : Spoken) → AreSpoken es spoken → Speaks e.bytes s → AreSpoken (es ++ e ∷ []) (spoken ++ s ∷ [])
-spoken_push [] [] e s a speaks = (speaks, tt)
-spoken_push [] (t ∷ ts) e s a speaks = absurd a
-spoken_push (f ∷ es) [] e s a speaks = absurd a
-spoken_push (f ∷ es) (t ∷ ts) e s a speaks = (a.0, spoken_push es ts e s a.1 speaks)
+pub one_speech_of_each : (ps : List Package) (spoken other : List Spoken) → AreSpoken ps spoken → AreSpoken ps other → spoken ≡ other
+one_speech_of_each ps spoken other a b = (speech_of_each ps spoken a).said ∙ sym (speech_of_each ps other b).said
 
--- the least fault of a package is that of all, where those before it say something
-pub least_behind : (es : List Package) (spoken : List Spoken) (e : Package) (later : List Package) (fault : Fault) → AreSpoken es spoken →
-    IsLeast (IsStringFaultIn e.bytes e.place) fault → IsLeast (IsStringsFault (es ++ e ∷ later)) fault
-least_behind [] [] e later fault a least = then_first (IsStringFaultIn e.bytes e.place) (IsStringsFault later) fault least
-least_behind [] (s ∷ ss) e later fault a least = absurd a
-least_behind (f ∷ es) [] e later fault a least = absurd a
-least_behind (f ∷ es) (s ∷ ss) e later fault a least =
-    then_second (IsStringFaultIn f.bytes f.place) (IsStringsFault (es ++ e ∷ later)) fault (no_fault_in f s a.0) (least_behind es ss e later fault a.1 least)
+pub each_speech : (ps : List Package) → each_package ps ≡ [] → AreSpoken ps (map spoken_by ps)
+each_speech [] none = tt
+each_speech (p ∷ ps) none =
+    let parts = then_faults_none (string_package_faults p) (each_package ps) none in
+    (read_speech p parts.0, each_speech ps parts.1)
+
+-- ---- packages that are read one by one
+
+-- the faults behind packages that have none
+faults_later : (ps later : List Package) → each_package ps ≡ [] → each_package (ps ++ later) ≡ each_package later
+faults_later [] later none = refl
+faults_later (p ∷ ps) later none =
+    let parts = then_faults_none (string_package_faults p) (each_package ps) none in
+    ap (λ fs. then_faults fs (each_package (ps ++ later))) parts.0 ∙ faults_later ps later parts.1
+
+-- the faults of a part that has one are all
+pub first_faults : (faults behind : List Fault) → (faults ≡ [] → ⊥) → then_faults faults behind ≡ faults
+first_faults [] behind some = absurd (some refl)
+first_faults (f ∷ fs) behind some = refl
 
 abbrev pub is_strings : Package → Bool
 is_strings e = e.kind == STRINGS
@@ -52,20 +62,27 @@ is_strings e = e.kind == STRINGS
 pub record IsRead (all : List Package) (spoken : List Spoken) (left : List Package) : Type 0 where
   pub done : List Package
   pub parts : filter is_strings all ≡ done ++ filter is_strings left
-  pub spoken_by : AreSpoken done spoken
+  pub read : AreRead done spoken
 
-pub read_more : (all : List Package) (spoken : List Spoken) (e : Package) (left : List Package) (s : Spoken) → IsRead all spoken (e ∷ left) → is_strings e ≡ true → Speaks e.bytes s → IsRead all (spoken ++ s ∷ []) left
-read_more all spoken e left s r strings speaks = record {
+pub read_more : (all : List Package) (spoken : List Spoken) (e : Package) (left : List Package) (s : Spoken) → IsRead all spoken (e ∷ left) → is_strings e ≡ true
+    → s ≡ spoken_by e → string_package_faults e ≡ [] → IsRead all (spoken ++ s ∷ []) left
+read_more all spoken e left s r strings says none = record {
   done = r.done ++ e ∷ [];
   parts = r.parts ∙ ap (λ es. r.done ++ es) (rw strings refl) ∙ sym (append_assoc r.done (e ∷ []) (filter is_strings left));
-  spoken_by = spoken_push r.done spoken e s r.spoken_by speaks;
+  read = record {
+    said = ap (λ ss. ss ++ s ∷ []) r.read.said ∙ ap (λ x. map spoken_by r.done ++ x ∷ []) says ∙ sym (map-append spoken_by r.done (e ∷ []));
+    sound = faults_later r.done (e ∷ []) r.read.sound ∙ ap (λ fs. then_faults fs []) none;
+  };
 }
 
-pub read_fault : (all : List Package) (spoken : List Spoken) (e : Package) (left : List Package) (fault : Fault) → IsRead all spoken (e ∷ left) → is_strings e ≡ true →
-    IsLeast (IsStringFaultIn e.bytes e.place) fault → IsLeast (IsStringsFault (filter is_strings all)) fault
+-- the least fault of a package is that of all, where those before it have none
+pub read_fault : (all : List Package) (spoken : List Spoken) (e : Package) (left : List Package) (fault : CodeFault) → IsRead all spoken (e ∷ left) → is_strings e ≡ true
+    → IsLeastAmong (string_package_faults e) fault → IsLeastAmong (each_package (filter is_strings all)) fault
 read_fault all spoken e left fault r strings least =
     let parts = r.parts ∙ ap (λ es. r.done ++ es) (rw strings refl) in
-    subst (λ es. IsLeast (IsStringsFault es) fault) (sym parts) (least_behind r.done spoken e (filter is_strings left) fault r.spoken_by least)
+    let faults = ap each_package parts ∙ faults_later r.done (e ∷ filter is_strings left) r.read.sound
+    ∙ first_faults (string_package_faults e) (each_package (filter is_strings left)) (some_least (string_package_faults e) fault least) in
+    subst (λ (fs : List Fault). IsLeastAmong fs fault) (sym faults) least
 
 -- what stands before the first of the bytes that pass a test, by their place
 pub before_first-some : (p : ℕ → Bool) (xs : List ℕ) (n : ℕ) → Some n ≡ position p xs → take n xs ≡ before_first p xs

@@ -1,3 +1,2 @@
-pub mod Languages
-pub mod Shown
 pub mod code
+pub mod laws

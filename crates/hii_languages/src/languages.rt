@@ -1,13 +1,13 @@
 //! The string packages of a list.
 
-ghost use Rattle.std.specs.Prelude.{◌≡◌, ◌==◌, List, IfOk, IfErr, option_map, position};
+ghost use Rattle.std.specs.Prelude.{◌≡◌, ◌==◌, if◌then◌else◌, [], length, Some, None, IfOk, IfErr, option_map, position};
 ghost use Rattle.std.specs.Str.{str_eq_ignore_ascii_case};
-ghost use Rattle.browser_rules.specs.Packages as chapter;
-ghost use Rattle.hii_bytes.specs.Faults.{Refuses, out_of_memory};
+ghost use Rattle.browser_rules.specs.Faults.{string_faults};
+ghost use Rattle.browser_rules.specs.Strings.{spoken_in, primary, chosen, shown};
+ghost use Rattle.browser_rules.specs.Strings as chapter;
+ghost use Rattle.hii_bytes.specs.Faults.{RefusesAmong, out_of_memory};
 ghost use Rattle.sibt_strings.specs.code.Views.{units_in};
-ghost use Rattle.hii_languages.specs.Languages.{Spoken, AreSpoken, IsStringsFault, primary_subtag, first_package, chosen};
-ghost use Rattle.hii_languages.specs.Shown.{shown, shown_text, text_in_package, text_under};
-ghost use Rattle.hii_languages.specs.code.Views.{choice_of, seen, text_of};
+ghost use Rattle.hii_languages.specs.code.Views.{choice_of, text_of, Tells};
 
 use crate::choice::Choice;
 use crate::shown::Shown;
@@ -25,7 +25,7 @@ pub struct Languages<'a> {
 
 impl<'a> Model for Languages<'a> {
     ghost use Rattle.std.specs.Prelude.{List};
-    ghost use Rattle.hii_languages.specs.Languages.{Spoken};
+    ghost use Rattle.browser_rules.specs.Strings.{Spoken};
 
     ghost Value = { List Spoken };
 
@@ -34,7 +34,7 @@ impl<'a> Model for Languages<'a> {
 
 // The part of a language before its first hyphen, or all of it.
 fn primary_subtag_of(language: &[u8]) -> &[u8]
-    ensures { result.now ≡ primary_subtag language.now }
+    ensures { result.now ≡ primary language.now }
 {
     match first_place(language, b'-') {
         Some(hyphen) => &language[..hyphen],
@@ -54,11 +54,11 @@ impl<'a> Languages<'a> {
     /// StringBlock or StringText, at its place in bytes from the list's front. OutOfMemory (60) at 0 where an
     /// allocation fails.
     pub fn read(alloc: Global, list: &PackageList<'a>) -> Result<Languages<'a>, Fault>
-        ensures read { IfOk result (AreSpoken (chapter.packages_with chapter.STRINGS list.now)) }
-        ensures refused { IfErr result (Refuses (IsStringsFault (chapter.packages_with chapter.STRINGS list.now))) }
-        // Where each string package says something they are read, unless an allocation fails.
-        ensures accepted { (spoken : List Spoken) → AreSpoken (chapter.packages_with chapter.STRINGS list.now) spoken
-            → IfErr result (λ fault. fault ≡ out_of_memory) }
+        ensures read { IfOk result (λ spoken. spoken ≡ spoken_in list.now) }
+        ensures sound { IfOk result (λ _. string_faults list.now ≡ []) }
+        ensures refused { IfErr result (RefusesAmong (string_faults list.now)) }
+        // Where the string packages have no fault they are read, unless an allocation fails.
+        ensures accepted { string_faults list.now ≡ [] → IfErr result (λ fault. fault ≡ out_of_memory) }
     {
         let mut tables = Vec::new(alloc);
         for source in list.packages() {
@@ -105,8 +105,8 @@ impl<'a> Languages<'a> {
     // The first string package of a language with the same primary subtag.
     fn with_primary_subtag(&self, language: &[u8]) -> Option<usize>
         ensures { result
-            ≡ position (λ s. str_eq_ignore_ascii_case (primary_subtag s.language)
-            (primary_subtag language.now)) self.now }
+            ≡ position (λ s. str_eq_ignore_ascii_case (primary s.language)
+            (primary language.now)) self.now }
     {
         let primary = primary_subtag_of(language);
         self.tables.iter().position(|table| is_same(primary_subtag_of(table.language()), primary))
@@ -114,7 +114,7 @@ impl<'a> Languages<'a> {
 
     // The first string package.
     fn first(&self) -> Option<usize>
-        ensures { result ≡ first_package self.now }
+        ensures { result ≡ (if length self.now == 0 then None else Some 0) }
     {
         if self.tables.is_empty() {
             None
@@ -125,7 +125,7 @@ impl<'a> Languages<'a> {
 
     // The text of a string id in the string package of a number.
     fn text_in(&self, number: Option<usize>, id: u16) -> Option<Units<'a>>
-        ensures { option_map units_in result ≡ text_in_package self.now number id }
+        ensures { option_map units_in result ≡ chapter.text_in self.now id number }
     {
         self.tables.get(number?)?.text(id)
     }
@@ -133,7 +133,7 @@ impl<'a> Languages<'a> {
     /// The text of a string id: that of the chosen string package, else that of the first one (own rule), which is asked only
     /// where the chosen one has none.
     pub fn units(&self, choice: Choice, id: u16) -> Option<Units<'a>>
-        ensures { option_map units_in result ≡ text_under self.now (choice_of choice) id }
+        ensures { option_map units_in result ≡ chapter.text_of self.now (choice_of choice) id }
     {
         match self.text_in(choice.number, id) {
             Some(units) => Some(units),
@@ -144,8 +144,8 @@ impl<'a> Languages<'a> {
     /// What is shown of a string id: nothing of the id 0; else the text of the chosen string package, else that of the
     /// first one, else the id (own rule).
     pub fn text(&self, choice: Choice, id: u16) -> Shown<'a>
-        ensures kind { seen result ≡ shown self.now (choice_of choice) id }
-        ensures characters { text_of result ≡ shown_text self.now (choice_of choice) id }
+        ensures kind { Tells id (chapter.text_of self.now (choice_of choice) id) result }
+        ensures characters { text_of result ≡ shown self.now (choice_of choice) id }
     {
         if id == 0 {
             return Shown::Nothing;

@@ -1,36 +1,25 @@
 //! Laws of the definitions that the contracts cite.
 
-ghost use Rattle.std.specs.Prelude.{◌≡◌, List};
-ghost use Rattle.browser_rules.specs.Packages as chapter;
-ghost use Rattle.hii_bytes.specs.Faults.{HasNone};
-ghost use Rattle.hii_languages.specs.Languages.{Spoken, AreSpoken, IsStringsFault};
+ghost use Rattle.std.specs.Prelude.{◌≡◌, List, [], map};
+ghost use Rattle.browser_rules.specs.Faults.{each_package};
+ghost use Rattle.browser_rules.specs.Packages.{Package};
+ghost use Rattle.browser_rules.specs.Strings.{Spoken, spoken_by};
+ghost use Rattle.hii_languages.specs.laws.Speaking.{AreSpoken};
 
-use hii_packages::{PackageList, STRINGS};
-use sibt_strings::Strings;
-
-/// String packages say one thing at most.
+/// String packages say one thing at most, which is what is read.
 pub fn packages_say_one_thing()
-    ensures { (ps : List chapter.Package) (spoken other : List Spoken) → AreSpoken ps spoken
+    ensures one { (ps : List Package) (spoken other : List Spoken) → AreSpoken ps spoken
         → AreSpoken ps other → spoken ≡ other }
+    ensures read { (ps : List Package) (spoken : List Spoken) → AreSpoken ps spoken
+        → spoken ≡ map spoken_by ps }
 {}
 
 /// String packages that say something have no fault.
 pub fn packages_that_speak_have_no_fault()
-    ensures { (ps : List chapter.Package) (spoken : List Spoken) → AreSpoken ps spoken
-        → HasNone (IsStringsFault ps) }
+    ensures { (ps : List Package) (spoken : List Spoken) → AreSpoken ps spoken → each_package ps ≡ [] }
 {}
 
-/// String packages of a list that have no fault say something.
-pub fn packages_without_fault_speak(list: &PackageList<'_>)
-    ensures { HasNone (IsStringsFault (chapter.packages_with chapter.STRINGS list.now)) → (spoken : List Spoken)
-        × AreSpoken (chapter.packages_with chapter.STRINGS list.now) spoken }
-{
-    for source in list.packages() {
-        if source.kind == STRINGS {
-            match Strings::read(source) {
-                Ok(_strings) => {}
-                Err(_fault) => return,
-            }
-        }
-    }
-}
+/// String packages that have no fault say what is read.
+pub fn packages_without_fault_speak()
+    ensures { (ps : List Package) → each_package ps ≡ [] → AreSpoken ps (map spoken_by ps) }
+{}

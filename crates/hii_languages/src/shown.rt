@@ -54,12 +54,12 @@ pub struct ShownChars<'a> {
 }
 
 impl<'a> ShownChars<'a> {
-    ghost use Rattle.sibt_strings.specs.Units.{chars_of_units};
+    ghost use Rattle.browser_rules.specs.Strings.{characters};
     ghost use Rattle.sibt_strings.specs.code.Views.{units_in};
     ghost use Rattle.hii_languages.specs.code.Views.{chars_left};
 
     fn new(missing: ArrayVec<u8, 6>, units: Units<'a>) -> ShownChars<'a>
-        ensures { chars_left result ≡ missing.items ++ chars_of_units (units_in units.entry) }
+        ensures { chars_left result ≡ missing.items ++ characters (units_in units.entry) }
     {
         ShownChars {
             missing,

@@ -7,7 +7,7 @@ ghost use Rattle.ifr_scopes.specs.code.Parts.{default_node};
 ghost use Rattle.hii_questions.specs.Fields.{Field};
 ghost use Rattle.hii_questions.specs.code.Offers.{offer_of, IsGiven};
 ghost use Rattle.hii_questions.specs.code.Views.{question_node};
-ghost use Rattle.hii_languages.specs.Shown.{text_under};
+ghost use Rattle.browser_rules.specs.Strings as chapter;
 ghost use Rattle.hii_languages.specs.code.Views.{choice_of};
 ghost use Rattle.ifr_defaults.specs.Defaults as spec;
 ghost use Rattle.ifr_defaults.specs.code.Views.{sources_of};
@@ -37,7 +37,7 @@ fn number_of(bytes: &[u8]) -> u64
 fn text_of<'a>(bytes: &[u8], languages: &Languages<'a>, choice: Choice) -> Option<&'a [u8]>
     requires { length bytes.now ≡ 2 }
     ensures { option_map (λ units. units.now) result
-        ≡ text_under languages.now (choice_of choice) (spec.value_number bytes.now) }
+        ≡ chapter.text_of languages.now (choice_of choice) (spec.value_number bytes.now) }
 {
     let units = languages.units(choice, u16_at(bytes, 0).unwrap())?;
     Some(units.bytes)

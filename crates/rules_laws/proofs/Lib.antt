@@ -1,4 +1,3 @@
-pub mod StringLemmas
 pub mod OpcodeExpressionLemmas
 pub mod OpcodeListLemmas
 pub mod OpcodeScopeLemmas

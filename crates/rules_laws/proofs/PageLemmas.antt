@@ -49,7 +49,6 @@ use Rattle.rules_laws.specs.laws.Stores.{stores_for}
 use Rattle.rules_laws.proofs.NodeLemmas.{is_question_same, options_same, statements_same}
 use Rattle.rules_laws.proofs.PolicyLemmas.{fixed_same, hidden_same, same_kept, same_find, none_same}
 use Rattle.rules_laws.proofs.QuestionLemmas.{answer_same, element_same, value_same, whole_there}
-use Rattle.rules_laws.proofs.StringLemmas.{same_characters}
 
 -- ---- columns
 
@@ -223,7 +222,7 @@ stored_same texts bytes w v q held alike within is =
     by_test texts w q held (number q.op == numbers.ONE_OF) _ _ _ _
     (λ here. of_type texts w q held _ _ refl (λ bs. cond-true (rows.is ONE_OF q) _ _ here ∙ ap (λ (t : List ℕ). codes "<" ++ t ++ codes ">") (choice_same texts bytes w v q alike within is _))) (λ other.
     by_test texts w q held (number q.op == numbers.STRING) _ _ _ _
-    (λ here. of_type texts w q held _ _ refl (λ bs. cond-true (not (rows.is PASSWORD q)) _ _ (ap not (other_code (number q.op) numbers.STRING numbers.PASSWORD here refl)) ∙ same_characters _)) (λ other.
+    (λ here. of_type texts w q held _ _ refl (λ bs. cond-true (not (rows.is PASSWORD q)) _ _ (ap not (other_code (number q.op) numbers.STRING numbers.PASSWORD here refl)))) (λ other.
     by_test texts w q held (number q.op == numbers.PASSWORD) _ _ _ _
     (λ here. of_type texts w q held _ _ refl (λ bs. cond-false (not (rows.is PASSWORD q)) _ _ (ap not here) ∙ password_same _)) (λ other.
     by_test texts w q held (number q.op == numbers.ORDERED_LIST) _ _ _ _

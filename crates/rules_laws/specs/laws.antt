@@ -6,5 +6,4 @@ pub mod Policy
 pub mod Questions
 pub mod References
 pub mod Stores
-pub mod Strings
 pub mod Structure

@@ -12,5 +12,4 @@ pub mod questions;
 pub mod reference_faults;
 pub mod store_faults;
 pub mod stores;
-pub mod strings;
 pub mod structure_faults;

@@ -11,25 +11,19 @@ use Rattle.browser_rules.specs.Policy as policy
 use Rattle.browser_rules.specs.Session as chapter
 use Rattle.browser_rules.specs.Stores as held
 use Rattle.browser_rules.specs.Strings as strings
-use Rattle.browser_rules.specs.Strings.{spoken_in}
+use Rattle.browser_rules.specs.Strings.{Spoken, spoken_in}
 use Rattle.ifr_opcodes.specs.Forest.{Node, places}
 use Rattle.ifr_scopes.specs.Nodes.{is_form, nodes_of}
-use Rattle.hii_languages.specs.Languages.{Spoken}
 use Rattle.session_steps.specs.Opening.{HasSource, HasTexts, Opens, layout_in}
 use Rattle.session_steps.specs.State.{State}
 use Rattle.session_laws.specs.laws.Session.{Stands, state_for}
 use Rattle.rules_laws.specs.laws.Stores.{stores_for}
-use Rattle.rules_laws.specs.laws.Strings.{spoken_for}
 use Rattle.session_laws.proofs.SeenLemmas.{alike_now}
 use Rattle.rules_laws.proofs.PolicyLemmas.{removed_at_same}
 use Rattle.rules_laws.proofs.StoreLemmas.{shape_same, spelled_same}
-use Rattle.rules_laws.proofs.StringLemmas.{same_choice, same_spoken}
 
 forms_same : (list : List ℕ) (n : ℕ) (source : Package) → HasSource list n source → forms_bytes list n ≡ source.bytes
 forms_same list n source (_, found) = ap (λ (o : Option Package). unwrap_or (option_map (λ (p : Package). p.bytes) o) []) found
-
-said_same : (list : List ℕ) (spoken : List Spoken) → HasTexts list spoken → spoken_in list ≡ map spoken_for spoken
-said_same list spoken are = same_spoken list spoken are
 
 first_form : (ns : List Node) (place : ℕ) (others : List ℕ) → places (filter is_form ns) ≡ place ∷ others → unwrap_or (option_map (λ (form : Node). form.place) (find (rows.is FORM) ns)) 0 ≡ place
 first_form [] place others e = let bad : ◌≡◌ {A = List ℕ} [] (place ∷ others) = e in absurd (cc)
@@ -42,7 +36,7 @@ first_form (n ∷ ns) place others e = elim (cases_Bool (is_form n)) [
 ]
 
 -- where a session begins in a package, with a device path and texts
-abbrev begun : List ℕ → held.Stores → List ℕ → List ℕ → List strings.Spoken → chapter.State
+abbrev begun : List ℕ → held.Stores → List ℕ → List ℕ → List Spoken → chapter.State
 begun language stores ifr path said = record {
   ifr = ifr;
   path = path;
@@ -60,7 +54,7 @@ state_with s removed language committed form history = record {
   ifr = s.ifr;
   path = s.path;
   removed = removed;
-  spoken = map spoken_for s.spoken;
+  spoken = s.spoken;
   language = language;
   committed = committed;
   working = stores_for s.working;
@@ -77,9 +71,9 @@ unfolding state_for
 begins list n image language start opens stands =
     ap (λ (ifr : List ℕ). begun language stores ifr (device_path list) (spoken_in list)) (opened_bytes list n image language start opens)
     ∙ ap (λ (path : List ℕ). begun language stores start.ifr path (spoken_in list)) (sym opens.path)
-    ∙ ap (λ (said : List strings.Spoken). begun language stores start.ifr start.path said) (said_same list start.spoken opens.texts)
+    ∙ ap (λ (said : List Spoken). begun language stores start.ifr start.path said) (sym opens.texts.1)
     ∙ ap (λ (removed : List ℕ). state_with start removed choice stores form []) (removed_at_same start.ifr start.removed (chapter.now (state_for start)) start.working (alike_now start stands) ∙ sym opens.removed)
-    ∙ ap (λ (choice : Option ℕ). state_with start start.removed choice stores form []) (same_choice start.spoken language ∙ sym opens.language_is)
+    ∙ ap (λ (choice : Option ℕ). state_with start start.removed choice stores form []) (sym opens.language_is)
     ∙ ap (λ (committed : held.Stores). state_with start start.removed start.language committed form []) (ap stores_for (sym opens.submitted))
     ∙ ap (λ (place : ℕ). state_with start start.removed start.language (stores_for start.committed) place []) (first_form (nodes_of start.ifr) start.form opens.others opens.forms)
     ∙ ap (λ (history : List ℕ). state_with start start.removed start.language (stores_for start.committed) start.form history) (sym opens.history)
@@ -88,7 +82,7 @@ begins list n image language start opens stands =
     stores = stores_for start.working
 
     choice : Option ℕ
-    choice = strings.chosen (map spoken_for start.spoken) language
+    choice = strings.chosen start.spoken language
 
     form : ℕ
     form = unwrap_or (option_map (λ (form : Node). form.place) (find (rows.is FORM) (nodes_of start.ifr))) 0

@@ -37,7 +37,6 @@ use Rattle.rules_laws.proofs.QuestionFaultLemmas.{same_question_faults}
 use Rattle.rules_laws.proofs.ReferenceFaultLemmas.{same_checked_faults}
 use Rattle.rules_laws.proofs.StoreFaultLemmas.{same_image_faults, same_store_faults}
 use Rattle.rules_laws.proofs.StoreLemmas.{shape_same}
-use Rattle.rules_laws.proofs.StringLemmas.{same_string_faults}
 use Rattle.rules_laws.proofs.StructureLeastLemmas.{same_least_structure, same_sound}
 
 -- ---- parts that have the same least fault, and none where the other has none
@@ -196,7 +195,7 @@ open_alike list n image are =
     alike_as (IsOpenFault list n image) (sym (then_faults-then_faults (list_faults list) (number_faults list n) later))
     (alike_parts (then_faults (list_faults list) (number_faults list n)) later (IsSourceFault list n) Later (alike _ _ (source_faults list n)) λ none.
     let both = then_faults_none (list_faults list) (number_faults list n) none in
-    alike_parts (string_faults list) (browsing_faults (forms_bytes list n) image) (IsTextFault list) (IsBrowsingFault (session.forms_bytes list n) image) (alike _ _ (same_string_faults list))
+    alike_parts (string_faults list) (browsing_faults (forms_bytes list n) image) (IsTextFault list) (IsBrowsingFault (session.forms_bytes list n) image) (alike _ _ (are_among (string_faults list)))
     (λ texts. behind_texts list n image are both.0 both.1))
 
 pub same_least_opening : (list : List ℕ) (n : ℕ) (image : List ℕ) (fault : CodeFault) → AreBytes list

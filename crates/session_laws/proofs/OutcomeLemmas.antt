@@ -20,13 +20,12 @@ use Rattle.hii_bytes.specs.Causes.{cause_for}
 use Rattle.rules_laws.specs.Denials.{denial_for, kind_for}
 use Rattle.session_laws.specs.laws.Session.{outcome_for, state_for}
 use Rattle.rules_laws.proofs.PolicyLemmas.{names_same}
-use Rattle.rules_laws.proofs.StringLemmas.{same_shown}
 
 -- ---- denied
 
 pub shown_same : (s : State) → chapter.texts (state_for s) ≡ texts s
 unfolding state_for
-shown_same s = fun_ext (same_shown s.spoken s.language)
+shown_same s = refl
 
 message_same : (told : Bool) (shows : ℕ → List ℕ) (id : ℕ) → unwrap_or (option_map (λ (id : ℕ). codes " " ++ in_utf8 (shows id)) (if told then Some id else None)) []
     ≡ (if told then codes " " ++ utf8 (shows id) else [])

@@ -15,7 +15,6 @@ use Rattle.browser_rules.specs.Session as chapter
 use Rattle.browser_rules.specs.Opcodes.{field, REF, RESET_BUTTON}
 use Rattle.browser_rules.specs.Stores as held
 use Rattle.browser_rules.specs.Strings.{chosen}
-use Rattle.hii_languages.specs.Languages as languages
 use Rattle.hii_questions.specs.Denials.{has_text}
 use Rattle.hii_questions.specs.declared.denial.DenialKind.{DenialKind}
 use Rattle.rules_laws.specs.Denials.{kind_for}
@@ -63,7 +62,6 @@ use Rattle.rules_laws.proofs.PolicyLemmas.{fixed_same, hidden_same, inside_there
 use Rattle.rules_laws.proofs.QuestionLemmas.{by_id_same, field_same, questions_same, read_same as bytes_read}
 use Rattle.session_laws.proofs.RequestLemmas.{extract_same, extract_stands, route_same, route_stands}
 use Rattle.session_laws.proofs.StoredLemmas.{either}
-use Rattle.rules_laws.proofs.StringLemmas.{same_choice}
 use Rattle.session_laws.proofs.TakenLemmas.{defaults_alike, defaults_stand, found_at, not_some, same_some}
 
 -- ---- page
@@ -325,14 +323,9 @@ submit_alike s stands =
 
 -- ---- a command
 
-spoken_same : (s : State) (language : List ℕ) → chosen (state_for s).spoken language ≡ languages.chosen s.spoken language
-unfolding state_for
-spoken_same s language = same_choice s.spoken language
-
 lang_alike : (s : State) (language : List ℕ) → chapter.step (state_for s) (script.Lang language) ≡ outcome_for (step s (script.Lang language))
-lang_alike s language =
-    ap (λ (choice : Option ℕ). chapter.ok (let t = state_for s in record t { language = choice })) (spoken_same s language)
-    ∙ ap (λ (t : chapter.State). chapter.ok t) (with_language s (languages.chosen s.spoken language))
+unfolding state_for
+lang_alike s language = ap (λ (t : chapter.State). chapter.ok t) (with_language s (chosen s.spoken language))
 
 discard_alike : (s : State) → chapter.step (state_for s) script.Discard ≡ outcome_for (step s script.Discard)
 discard_alike s = ap (λ (t : chapter.State). chapter.ok t) (with_discarded s)

@@ -42,7 +42,6 @@ use Rattle.rules_laws.proofs.NodeLemmas.{is_question_same, same_filter, statemen
 use Rattle.rules_laws.proofs.OpcodeScopeLemmas.{value_wanted_same}
 use Rattle.rules_laws.proofs.PolicyConditionLemmas.{meant_same}
 use Rattle.rules_laws.proofs.PolicyLemmas.{inside_there}
-use Rattle.rules_laws.proofs.StringLemmas.{same_text}
 
 -- ---- what is there
 
@@ -110,8 +109,7 @@ same_default : (s : State) (q : Node) (class : ℕ) → Stands s → Contains (n
     → questions.default_of (chapter.nodes (state_for s)) (state_for s).working (strings.text_of (state_for s).spoken (state_for s).language) q class ≡ option_map offer_for (default_of (sources s) q class)
 unfolding state_for
 same_default s q class stands within is =
-    ap (λ (texts : ℕ → Option (List ℕ)). questions.default_of (nodes_of s.ifr) (stores_for s.working) texts q class) (fun_ext (same_text s.spoken s.language))
-    ∙ default_same (nodes_of s.ifr) (stores_for s.working) (sources s) q class is (of_found (default_with q class) refl)
+    default_same (nodes_of s.ifr) (stores_for s.working) (sources s) q class is (of_found (default_with q class) refl)
   where
     of_found : (o : Option Node) → default_with q class ≡ o → IfSome o (HasSameValue (nodes_of s.ifr) (stores_for s.working) (sources s) q)
     of_found None at = tt

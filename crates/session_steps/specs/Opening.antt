@@ -1,11 +1,11 @@
 -- Which bytes open a session, and with which faults they do not (own rule).
 use Rattle.std.specs.Prelude.{◌≡◌, ℕ, List, [], ◌∷◌, filter, Some}
-use Rattle.browser_rules.specs.Faults.{list_faults, number_faults}
+use Rattle.browser_rules.specs.Faults.{list_faults, number_faults, string_faults}
 use Rattle.browser_rules.specs.Packages as chapter
-use Rattle.browser_rules.specs.Packages.{Package, STRINGS, device_path, forms_package, packages_with}
+use Rattle.browser_rules.specs.Packages.{Package, device_path, forms_package}
+use Rattle.browser_rules.specs.Strings.{Spoken, spoken_in, chosen}
 use Rattle.hii_bytes.specs.Faults.{IsAmong, Then}
 use Rattle.hii_bytes.specs.declared.cause.Cause.{Cause}
-use Rattle.hii_languages.specs.Languages.{Spoken, AreSpoken, IsStringsFault, chosen}
 use Rattle.ifr_opcodes.specs.Forest.{places}
 use Rattle.form_sets.specs.Packages.{IsGoodPackage}
 use Rattle.ifr_scopes.specs.Accepted.{IsPackageFault}
@@ -27,13 +27,13 @@ forms_bytes list n = chapter.forms_bytes list n
 abbrev pub HasSource : List ℕ → ℕ → Package → Type 0
 HasSource list n source = (list_faults list ≡ []) × (forms_package list n ≡ Some source)
 
--- The string packages of the list say this.
+-- The string packages of the list have no fault, and say this.
 abbrev pub HasTexts : List ℕ → List Spoken → Type 0
-HasTexts list spoken = AreSpoken (packages_with STRINGS list) spoken
+HasTexts list spoken = (string_faults list ≡ []) × (spoken ≡ spoken_in list)
 
 -- the faults of the string packages of a list, in their order
 abbrev pub IsTextFault : List ℕ → Cause → ℕ → Type 0
-IsTextFault list = IsStringsFault (packages_with STRINGS list)
+IsTextFault list = IsAmong (string_faults list)
 
 -- the stores that a package declares
 abbrev pub layout_in : List ℕ → Shape

@@ -1,7 +1,6 @@
 -- What a session holds (own rule).
 use Rattle.std.specs.Prelude.{ℕ, Option, List}
-use Rattle.hii_languages.specs.Languages.{Spoken}
-use Rattle.hii_languages.specs.Shown.{shown_text}
+use Rattle.browser_rules.specs.Strings.{Spoken, shown}
 use Rattle.ifr_scopes.specs.Nodes.{nodes_of}
 use Rattle.hii_varstore.specs.Stores.{StoreMap}
 use Rattle.guard_policy.specs.World.{World, world_over}
@@ -30,4 +29,4 @@ world_of s = world_with s s.working
 
 -- the characters that are shown of a string id
 abbrev pub texts : State → ℕ → List ℕ
-texts s id = shown_text s.spoken s.language id
+texts s id = shown s.spoken s.language id

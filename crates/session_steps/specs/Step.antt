@@ -15,8 +15,7 @@ use Rattle.ifr_opcodes.specs.declared.codes.TheConstants.{RESET_BUTTON}
 use Rattle.ifr_scopes.specs.Nodes.{nodes_of, is_question, is_reference, statements}
 use Rattle.ifr_scopes.specs.References.{form_with}
 use Rattle.ifr_scopes.specs.Rules.{rules_among}
-use Rattle.hii_languages.specs.Languages.{chosen}
-use Rattle.hii_languages.specs.Shown.{text_under}
+use Rattle.browser_rules.specs.Strings.{chosen, text_of}
 use Rattle.hii_varstore.specs.Stores.{StoreMap, are_same_bytes, bytes_of}
 use Rattle.hii_questions.specs.Answers.{answers}
 use Rattle.hii_questions.specs.Changes.{field_bytes, with_field}
@@ -143,7 +142,7 @@ abbrev pub sources : State → Sources
 sources s = record {
   rules = rules_among (nodes_of s.ifr);
   answers = answers (nodes_of s.ifr) s.working;
-  texts = text_under s.spoken s.language;
+  texts = text_of s.spoken s.language;
 }
 
 abbrev pub taken_if : List Node → Node → Reply → List Node

@@ -1,6 +1,6 @@
 -- Where blocks lead to.
 use Rattle.std.proofs.Common.{◌≡◌, ℕ, zero, suc, ◌+◌, ◌<◌, ◌≤◌, List, [], ◌∷◌, ◌++◌, length, Option, None, Some, refl, ap, sym, ◌∙◌, subst, arith, length-append}
-use Rattle.sibt_strings.specs.Blocks.{Block, End, Whole, front_of, Leads, AreBlocks}
+use Rattle.sibt_strings.specs.code.Blocks.{Block, End, Whole, front_of, Leads, AreBlocks}
 use Rattle.sibt_strings.specs.code.Ends.{Stops}
 use Rattle.sibt_strings.specs.code.Views.{blocks_in, blocks_from, HoldsBlocks}
 
@@ -14,18 +14,6 @@ pub leads_more : (bytes : List ℕ) (blocks : List Block) (rest : List ℕ) (blo
     Leads bytes blocks rest → front_of rest ≡ Whole block behind → Leads bytes (blocks ++ block ∷ []) behind
 leads_more bytes [] rest block behind same front = (behind, ap front_of (sym same) ∙ front, refl)
 leads_more bytes (b ∷ blocks) rest block behind (next, here, leads) front = (next, here, leads_more next blocks rest block behind leads front)
-
--- blocks lead to one stop, and they are the same
-pub one_stop : (bytes : List ℕ) (bs cs : List Block) (r s : List ℕ) → Leads bytes bs r → Leads bytes cs s → Stops (front_of r) → Stops (front_of s) → (r ≡ s) × (bs ≡ cs)
-one_stop bytes [] [] r s a b x y = (a ∙ sym b, refl)
-one_stop bytes [] (c ∷ cs) r s same (mid, here, leads) x y = absurd (subst Stops (ap front_of same ∙ here) x)
-one_stop bytes (b ∷ bs) [] r s (mid, here, leads) same x y = absurd (subst Stops (ap front_of same ∙ here) y)
-one_stop bytes (b ∷ bs) (c ∷ cs) r s (mid, here, leads) (mid', here', leads') x y =
-    let same : Whole b mid ≡ Whole c mid' = sym here ∙ here' in
-    let step : mid' ≡ mid = cc in
-    let first : b ≡ c = cc in
-    let rest = one_stop mid bs cs r s leads (subst (λ m. Leads m cs s) step leads') x y in
-    (rest.0, ap (λ f. f ∷ bs) first ∙ ap (λ bs. c ∷ bs) rest.1)
 
 -- the blocks up to the end, computed
 pub blocks_in-leads : (fuel : ℕ) (bytes : List ℕ) (bs : List Block) (rest : List ℕ) → length bs ≤ fuel → Leads bytes bs rest → front_of rest ≡ End → blocks_in fuel bytes ≡ bs
@@ -77,8 +65,3 @@ blocks_behind bytes (b ∷ bs) block behind (rest, (mid, here, leads), end) fron
 pub blocks_none : (bytes : List ℕ) (bs : List Block) → AreBlocks bytes bs → Stops (front_of bytes) → bs ≡ []
 blocks_none bytes [] are stops = refl
 blocks_none bytes (b ∷ bs) (rest, (mid, here, leads), end) stops = absurd (subst Stops here stops)
-
--- one list of blocks is spelled
-pub one_reading : (bytes : List ℕ) (bs cs : List Block) → AreBlocks bytes bs → AreBlocks bytes cs → bs ≡ cs
-one_reading bytes bs cs (r, leads, end) (s, leads', end') =
-    (one_stop bytes bs cs r s leads leads' (subst Stops (sym end) tt) (subst Stops (sym end') tt)).1

@@ -1,10 +1,9 @@
 -- Worked values of the definitions.
 use Rattle.std.proofs.Common.{◌≡◌, ℕ, List, [], ◌∷◌, ◌++◌, replicate, Option, Some, None, refl, lit≤}
 use Rattle.hii_bytes.specs.Numbers.{number_in}
-use Rattle.sibt_strings.specs.Blocks.{Texts, Duplicate, Extension, End, Whole, CutText, BadBlock, cut_text, texts_in, front_of}
-use Rattle.sibt_strings.specs.Spelling.{string_ucs2, skip1, duplicate}
-use Rattle.sibt_strings.specs.Strings.{Speaks, text_at, texts_of}
-use Rattle.sibt_strings.specs.Units.{chars_of_units}
+use Rattle.sibt_strings.specs.code.Blocks.{Texts, Duplicate, Extension, End, Whole, CutText, BadBlock, front_of, texts_said}
+use Rattle.browser_rules.specs.Strings.{cut_text, cut_texts, text_at, characters}
+use Rattle.sibt_strings.specs.laws.Spelling.{string_ucs2, skip1, duplicate, Speaks}
 
 -- a text, three skipped ids, a text of U+D800, U+FFF1 and B, a duplicate of the first id and one of an id that comes later
 blocks : List ℕ
@@ -20,8 +19,8 @@ texts = Some (0x41 ∷ 0 ∷ []) ∷ None ∷ None ∷ None ∷ Some (0x00 ∷ 0
 bytes : List ℕ
 bytes = (75 ∷ 0 ∷ 0 ∷ 4 ∷ 46 ∷ 0 ∷ 0 ∷ 0 ∷ 52 ∷ 0 ∷ 0 ∷ 0 ∷ []) ++ replicate 34 0 ++ (0x65 ∷ 0x6E ∷ 0x2D ∷ 0x55 ∷ 0x53 ∷ 0 ∷ []) ++ blocks
 
-says : Speaks bytes (record { language = 0x65 ∷ 0x6E ∷ 0x2D ∷ 0x55 ∷ 0x53 ∷ []; texts = texts })
-unfolding number_in cut_text texts_in front_of bytes blocks texts
+says : Speaks (record { place = 0; kind = 4; bytes = bytes }) (record { language = 0x65 ∷ 0x6E ∷ 0x2D ∷ 0x55 ∷ 0x53 ∷ []; texts = texts })
+unfolding number_in cut_text cut_texts front_of bytes blocks texts
 says = record {
   fixed = record { long = lit≤ tt; low = lit≤ tt; high = lit≤ tt };
   language = refl;
@@ -39,17 +38,17 @@ unfolding texts
 no_text = (refl, refl, refl, refl)
 
 -- U+D800 shows as U+FFFD, U+FFF1 as nothing
-fifth_shown : chars_of_units (0x00 ∷ 0xD8 ∷ 0xF1 ∷ 0xFF ∷ 0x42 ∷ 0 ∷ []) ≡ 0xFFFD ∷ 0x42 ∷ []
-unfolding chars_of_units
+fifth_shown : characters (0x00 ∷ 0xD8 ∷ 0xF1 ∷ 0xFF ∷ 0x42 ∷ 0 ∷ []) ≡ 0xFFFD ∷ 0x42 ∷ []
+unfolding characters
 fifth_shown = refl
 
 -- a tab, a delete and U+0080 show as spaces, U+E000 and U+FFFF as they are
-controls_shown : chars_of_units (9 ∷ 0 ∷ 0x7F ∷ 0 ∷ 0x80 ∷ 0 ∷ 0x00 ∷ 0xE0 ∷ 0xFF ∷ 0xFF ∷ []) ≡ 0x20 ∷ 0x20 ∷ 0x20 ∷ 0xE000 ∷ 0xFFFF ∷ []
-unfolding chars_of_units
+controls_shown : characters (9 ∷ 0 ∷ 0x7F ∷ 0 ∷ 0x80 ∷ 0 ∷ 0x00 ∷ 0xE0 ∷ 0xFF ∷ 0xFF ∷ []) ≡ 0x20 ∷ 0x20 ∷ 0x20 ∷ 0xE000 ∷ 0xFFFF ∷ []
+unfolding characters
 controls_shown = refl
 
 -- a duplicate of a duplicate, one of itself, one of an id without text
-chains : texts_of (Texts ((1 ∷ 1 ∷ []) ∷ []) ∷ Duplicate 1 ∷ Duplicate 2 ∷ Duplicate 4 ∷ Duplicate 4 ∷ Extension ∷ []) ≡ Some (1 ∷ 1 ∷ []) ∷ Some (1 ∷ 1 ∷ []) ∷ Some (1 ∷ 1 ∷ []) ∷ None ∷ None ∷ []
+chains : texts_said (Texts ((1 ∷ 1 ∷ []) ∷ []) ∷ Duplicate 1 ∷ Duplicate 2 ∷ Duplicate 4 ∷ Duplicate 4 ∷ Extension ∷ []) ≡ Some (1 ∷ 1 ∷ []) ∷ Some (1 ∷ 1 ∷ []) ∷ Some (1 ∷ 1 ∷ []) ∷ None ∷ None ∷ []
 chains = refl
 
 -- what stands at the front: no text, half a unit, a font without a text, a cut count, two texts, an extension
@@ -57,5 +56,5 @@ fronts : (front_of (0x14 ∷ []) ≡ CutText) × (front_of (0x14 ∷ 1 ∷ 0 ∷
     × (front_of (0x16 ∷ 2 ∷ 0 ∷ 1 ∷ 0 ∷ 0 ∷ 0 ∷ 0 ∷ 0 ∷ 7 ∷ []) ≡ Whole (Texts ((1 ∷ 0 ∷ []) ∷ [] ∷ [])) (7 ∷ []))
     × (front_of (0x30 ∷ 0 ∷ 4 ∷ 9 ∷ 7 ∷ []) ≡ Whole Extension (7 ∷ [])) × (front_of (0x30 ∷ 0 ∷ 2 ∷ []) ≡ BadBlock)
     × (front_of (0x10 ∷ []) ≡ BadBlock) × (front_of [] ≡ BadBlock) × (front_of (0 ∷ 7 ∷ []) ≡ End)
-unfolding front_of texts_in cut_text number_in
+unfolding front_of cut_texts cut_text number_in
 fronts = (refl, refl, refl, refl, refl, refl, refl, refl, refl, refl)

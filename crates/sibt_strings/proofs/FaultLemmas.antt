@@ -1,111 +1,169 @@
--- The least fault of a string package.
-use Rattle.std.proofs.Common.{◌≡◌, ◌≢◌, ◌⊎◌, ℕ, ◌+◌, ◌<◌, ◌≤◌, List, length, map, Option, None, Some, true, false, refl, ap, sym, ◌∙◌, subst, inl, inr, arith}
-use Rattle.std.proofs.lemmas.Bool.{false≢true, true≢false}
+-- The faults of a string package, and what one without a fault says.
+use Rattle.std.proofs.Common.{◌≡◌, ◌≢◌, ◌⊎◌, ℕ, zero, suc, ◌+◌, ◌<◌, ◌≤◌, List, [], ◌∷◌, ◌++◌, length, Option, None, Some, Result, Ok, Err, true, false, refl, ap, sym, ◌∙◌, subst, inl, inr, arith}
+use Rattle.std.specs.Prelude.{◌||◌, nat_lt, is_none, unwrap_or, Contains}
 use Rattle.std.specs.Option.{option_map, is_some}
-use Rattle.hii_bytes.specs.declared.cause.Cause.{Cause}
-use Rattle.hii_bytes.specs.declared.cause.Cause.TheVariants.{StringHeader, StringBlock, StringText, LanguageText}
-use Rattle.hii_bytes.specs.declared.cause.Fault.{Fault}
+use Rattle.std.specs.Result.{result_unwrap_or}
+use Rattle.std.proofs.lemmas.Bool.{false≢true, true≢false, cases_lt, le-ltb}
+use Rattle.std.proofs.lemmas.Bool.Decides.{nat_tests}
+use Rattle.std.proofs.lemmas.List.{length-drop}
+use Rattle.browser_rules.specs.Words as chapter
+use Rattle.browser_rules.specs.Packages.{Package}
+use Rattle.browser_rules.specs.Strings.{Spoken, Texts, info_offset, language_of, texts_of, spoken_by}
+use Rattle.browser_rules.specs.Faults.{Fault, fault_at, fault_if, fault_of_texts, string_package_faults}
+use Rattle.hii_bytes.specs.Causes.{cause_for, fault_for}
 use Rattle.hii_bytes.specs.Cause.{number_of}
-use Rattle.hii_bytes.specs.Faults.{IsLeast, HasNone}
-use Rattle.sibt_strings.specs.Blocks.{Block, Front, End, CutText, BadBlock, front_of, AreBlocks, StandsAt}
-use Rattle.sibt_strings.specs.Spelling.{said}
-use Rattle.sibt_strings.specs.code.Ends.{Stops}
-use Rattle.sibt_strings.specs.Strings.{Spoken, Speaks, texts_of, HasFixedPart, IsStringFault, IsStringFaultIn, info_offset, blocks_of, language_of}
-use Rattle.sibt_strings.specs.code.Views.{blocks_in, spoken_in, HoldsBlocks}
-use Rattle.sibt_strings.proofs.BlockLemmas.{one_stop, one_reading, held_are}
-use Rattle.sibt_strings.proofs.SpellingLemmas.{blocks_read, blocks_found}
+use Rattle.hii_bytes.specs.Faults.{IsLeastAmong}
+use Rattle.hii_bytes.specs.declared.cause.Cause.TheVariants.{StringHeader, LanguageText}
+use Rattle.hii_bytes.specs.declared.cause.Fault.{Fault as CodeFault}
+use Rattle.hii_bytes.proofs.ChapterFaultLemmas.{least_alone, some_faults}
+use Rattle.sibt_strings.specs.laws.Spelling.{Speaks}
+use Rattle.sibt_strings.specs.code.Blocks.{texts_said}
+use Rattle.sibt_strings.specs.code.Parts.{HasFixedPart, blocks_of}
+use Rattle.sibt_strings.specs.code.Views.{blocks_in, spoken_in, HoldsBlocks, IsBlockFault}
+use Rattle.sibt_strings.proofs.BlockLemmas.{held_are}
+use Rattle.sibt_strings.proofs.ReadLemmas.{blocks_texts, stop_read, all_read, all_spelled}
+use Rattle.sibt_strings.proofs.TextLemmas.{cases_option}
 
--- whole blocks lead to one place, and one thing stands there
-same_stand : (blocks : List ℕ) (f g : Front) (a b : ℕ) → StandsAt blocks f a → StandsAt blocks g b → Stops f → Stops g → (a ≡ b) × (f ≡ g)
-same_stand blocks f g a b (cs, r, leads, front, place) (ds, s, leads', front', place') x y =
-    let one = one_stop blocks cs ds r s leads leads' (subst Stops (sym front) x) (subst Stops (sym front') y) in
-    (omega (arith, place, place', ap length one.0), sym front ∙ ap front_of one.0 ∙ front')
+-- ---- the fixed part
 
-not_ended : (blocks : List ℕ) (whole : List Block) (f : Front) (a : ℕ) → AreBlocks blocks whole → StandsAt blocks f a → Stops f → f ≡ End
-not_ended blocks whole f a (r, leads, front) (ds, s, leads', front', place') y =
-    let one = one_stop blocks whole ds r s leads leads' (subst Stops (sym front) tt) (subst Stops (sym front') y) in
-    sym front' ∙ sym (ap front_of one.0) ∙ front
+abbrev IsBadHeader : List ℕ → Type 0
+IsBadHeader bytes = (length bytes < 46) ⊎ (info_offset bytes < 46) ⊎ (length bytes < info_offset bytes)
 
--- the faults behind a whole fixed part
-pub record BlockFault (bytes : List ℕ) (cause : Cause) (place : ℕ) : Type 0 where
-  pub front : Front
-  pub at : ℕ
-  pub stands : StandsAt (blocks_of bytes) front at
-  pub place_is : place ≡ info_offset bytes + at
-  pub why : ((cause ≡ StringBlock) × (front ≡ BadBlock)) ⊎ ((cause ≡ StringText) × (front ≡ CutText))
-
-other_fault : (bytes : List ℕ) (cause : Cause) (place : ℕ) → HasFixedPart bytes → IsStringFault bytes cause place → BlockFault bytes cause place ⊎ ((cause ≡ LanguageText) × (place ≡ 46) × (language_of bytes ≡ None))
-other_fault bytes StringHeader place fixed f = absurd (grind (arith, f.1, fixed.long, fixed.low, fixed.high))
-other_fault bytes StringBlock place fixed (_, at, stands, e) = inl (record { front = BadBlock; at = at; stands = stands; place_is = e; why = inl (refl, refl) })
-other_fault bytes StringText place fixed (_, at, stands, e) = inl (record { front = CutText; at = at; stands = stands; place_is = e; why = inr (refl, refl) })
-other_fault bytes LanguageText place fixed f = inr (refl, f.1, f.2)
-other_fault bytes _ place fixed f = absurd f
-
-stops_fault : (bytes : List ℕ) (cause : Cause) (place : ℕ) (f : BlockFault bytes cause place) → Stops f.front
-stops_fault bytes cause place f = elim f.why [ inl x ↦ subst Stops (sym x.1) tt | inr x ↦ subst Stops (sym x.1) tt ]
-
-one_block_fault : (bytes : List ℕ) (c d : Cause) (p q : ℕ) → BlockFault bytes c p → BlockFault bytes d q → (p ≡ q) × (number_of c ≡ number_of d)
-one_block_fault bytes c d p q f g =
-    let same = same_stand (blocks_of bytes) f.front g.front f.at g.at f.stands g.stands (stops_fault bytes c p f) (stops_fault bytes d q g) in (
-      omega (arith, f.place_is, g.place_is, same.0),
-      elim f.why [
-        | inl x ↦ elim g.why [ inl y ↦ ap number_of (x.0 ∙ sym y.0) | inr y ↦ apart (sym x.1 ∙ same.1 ∙ y.1) ]
-        | inr x ↦ elim g.why [ inl y ↦ apart (sym y.1 ∙ sym same.1 ∙ x.1) | inr y ↦ ap number_of (x.0 ∙ sym y.0) ]
-      ],
-    )
-  where
-    apart : {A : Type 0} → BadBlock ≡ CutText → A
-    apart e = cc
-
--- a fault of the blocks is the least, unless the language has one before it
-pub least_block : (bytes : List ℕ) (start at : ℕ) (cause : Cause) → HasFixedPart bytes →
-    ((cause ≡ StringBlock) × StandsAt (blocks_of bytes) BadBlock at) ⊎ ((cause ≡ StringText) × StandsAt (blocks_of bytes) CutText at) →
-    (language_of bytes ≢ None) ⊎ (info_offset bytes + at ≤ 46) →
-    IsLeast (IsStringFaultIn bytes start) (record { cause = cause; place = start + (info_offset bytes + at) })
-least_block bytes start at cause fixed why first =
-    let here : BlockFault bytes cause (info_offset bytes + at) = elim why [
-      | inl x ↦ record { front = BadBlock; at = at; stands = x.1; place_is = refl; why = inl (x.0, refl) }
-      | inr x ↦ record { front = CutText; at = at; stands = x.1; place_is = refl; why = inr (x.0, refl) }
-    ] in
-    let told : IsStringFault bytes cause (info_offset bytes + at) = elim why [
-      | inl x ↦ subst (λ c. IsStringFault bytes c (info_offset bytes + at)) (sym x.0) (fixed, at, x.1, refl)
-      | inr x ↦ subst (λ c. IsStringFault bytes c (info_offset bytes + at)) (sym x.0) (fixed, at, x.1, refl)
-    ] in
-    let small : number_of cause ≤ 9 = elim why [ inl x ↦ omega (arith, ap number_of x.0) | inr x ↦ omega (arith, ap number_of x.0) ] in
-    record {
-      told = (info_offset bytes + at, told, refl);
-      least = λ other place (q, fault, e). elim (other_fault bytes other q fixed fault) [
-        | inl g ↦ (let one = one_block_fault bytes cause other (info_offset bytes + at) q here g in inr (omega (arith, one.0, e), omega (arith, one.1)))
-        | inr x ↦ elim first [
-          | inl some ↦ absurd (some x.2)
-          | inr early ↦ inr (omega (arith, early, x.1, e, fixed.low), omega (arith, small, ap number_of x.0))
+header_cases : (bytes : List ℕ) → IsBadHeader bytes ⊎ HasFixedPart bytes
+header_cases bytes =
+    elim (cases_lt (length bytes) 46) [
+      | inl short ↦ inl (inl short)
+      | inr long ↦ elim (cases_lt (info_offset bytes) 46) [
+        | inl low ↦ inl (inr (inl low))
+        | inr low ↦ elim (cases_lt (length bytes) (info_offset bytes)) [
+          | inl high ↦ inl (inr (inr high))
+          | inr high ↦ inr (record { long = long; low = low; high = high })
         ]
-      ];
-    }
+      ]
+    ]
 
--- a fault of the language is the least, unless the blocks have one before it
-pub least_language : (bytes : List ℕ) (start : ℕ) → HasFixedPart bytes → language_of bytes ≡ None →
-    ((cause : Cause) (place : ℕ) → BlockFault bytes cause place → 46 < place) →
-    IsLeast (IsStringFaultIn bytes start) (record { cause = LanguageText; place = start + 46 })
-least_language bytes start fixed none later = record {
-  told = (46, (fixed, refl, none), refl);
-  least = λ other place (q, fault, e). elim (other_fault bytes other q fixed fault) [
-    | inl g ↦ inl (omega (arith, later other q g, e))
-    | inr x ↦ inr (omega (arith, x.1, e), omega (arith, ap number_of x.0))
+bad_test : (n m : ℕ) → (n < 46) ⊎ (m < 46) ⊎ (n < m) → (nat_lt n 46 || nat_lt m 46 || nat_lt n m) ≡ true
+bad_test n m bad = grind (arith, nat_tests)
+
+header_fault : (p : Package) → IsBadHeader p.bytes → string_package_faults p ≡ fault_at chapter.StringHeader p.place
+header_fault p bad = let is = bad_test (length p.bytes) (info_offset p.bytes) bad in rw is refl
+
+pub least_header : (p : Package) → IsBadHeader p.bytes → IsLeastAmong (string_package_faults p) (record { cause = StringHeader; place = p.place })
+least_header p bad = least_alone (string_package_faults p) (record { cause = StringHeader; place = p.place }) (header_fault p bad)
+
+-- the faults behind a fixed part
+abbrev faults_behind : ℕ → Option (List ℕ) → Result Texts (chapter.Cause × ℕ) → List Fault
+faults_behind place language texts = fault_if (is_none language) chapter.LanguageText (place + 46) ++ fault_of_texts texts
+
+behind_header : (p : Package) → HasFixedPart p.bytes → string_package_faults p ≡ faults_behind p.place (language_of p) (texts_of p)
+behind_header p h =
+    let long = le-ltb (length p.bytes) 46 h.long in
+    let low = le-ltb (info_offset p.bytes) 46 h.low in
+    let high = le-ltb (length p.bytes) (info_offset p.bytes) h.high in
+    rw (long, low, high) refl
+
+faults_are : (p : Package) → HasFixedPart p.bytes → (language : Option (List ℕ)) (texts : Result Texts (chapter.Cause × ℕ)) → language_of p ≡ language → texts_of p ≡ texts
+    → string_package_faults p ≡ faults_behind p.place language texts
+faults_are p h language texts l t = behind_header p h ∙ ap (λ l. faults_behind p.place l (texts_of p)) l ∙ ap (faults_behind p.place language) t
+
+-- ---- the texts
+
+few_blocks : (p : Package) → length (blocks_of p.bytes) ≤ length p.bytes
+few_blocks p = omega (arith, length-drop (info_offset p.bytes) p.bytes)
+
+texts_are : (p : Package) (held : HoldsBlocks (blocks_of p.bytes)) → texts_of p ≡ Ok (texts_said (blocks_in (length (blocks_of p.bytes)) (blocks_of p.bytes)))
+texts_are p held =
+    blocks_texts (length p.bytes) (p.place + info_offset p.bytes) (blocks_of p.bytes) (blocks_in (length (blocks_of p.bytes)) (blocks_of p.bytes)) (few_blocks p)
+    (held_are (blocks_of p.bytes) held)
+
+texts_fault : (p : Package) (fault : CodeFault) → IsBlockFault (blocks_of p.bytes) fault → texts_of p ≡ Err (cause_for fault.cause, p.place + (info_offset p.bytes + fault.place))
+texts_fault p fault bad = told ∙ ap (λ q. Err (cause_for fault.cause, q)) place
+  where
+    place : p.place + info_offset p.bytes + fault.place ≡ p.place + (info_offset p.bytes + fault.place)
+    place = omega arith
+
+    told : texts_of p ≡ Err (cause_for fault.cause, p.place + info_offset p.bytes + fault.place)
+    told = elim bad [
+      | inl x ↦ stop_read (length p.bytes) (p.place + info_offset p.bytes) fault.place (blocks_of p.bytes) _ (cause_for fault.cause) (few_blocks p) x.1 (inl (refl, ap cause_for x.0))
+      | inr x ↦ stop_read (length p.bytes) (p.place + info_offset p.bytes) fault.place (blocks_of p.bytes) _ (cause_for fault.cause) (few_blocks p) x.1 (inr (refl, ap cause_for x.0))
+    ]
+
+-- ---- the least fault
+
+abbrev listed : CodeFault → Fault
+listed f = fault_for f.cause f.place
+
+-- where one is told there is one
+pub some_least : (faults : List Fault) (fault : CodeFault) → IsLeastAmong faults fault → faults ≡ [] → ⊥
+some_least faults fault least none = omega (arith, (subst (λ (fs : List Fault). Contains fs (listed fault)) none least.among).1)
+
+one_of_two : (f g h : Fault) → Contains (f ∷ g ∷ []) h → (f ≡ h) ⊎ (g ≡ h)
+one_of_two f g h (zero, within, e) = inl e
+one_of_two f g h (suc zero, within, e) = inr e
+one_of_two f g h (suc (suc k), within, e) = absurd (omega (arith, within))
+
+-- a fault comes before another
+abbrev IsBefore : CodeFault → CodeFault → Type 0
+IsBefore f g = (f.place < g.place) ⊎ ((f.place ≡ g.place) × (number_of f.cause ≤ number_of g.cause))
+
+least_first : (f g : CodeFault) → IsBefore f g → IsLeastAmong (listed f ∷ listed g ∷ []) f
+least_first f g before = record {
+  among = (0, omega arith, refl);
+  least = λ other among. elim (one_of_two (listed f) (listed g) other among) [
+    | inl same ↦ subst (λ (h : Fault). (f.place < h.place) ⊎ ((f.place ≡ h.place) × (number_of f.cause ≤ (chapter.number_and_name h.cause).0))) same (inr (refl, omega arith))
+    | inr same ↦ subst (λ (h : Fault). (f.place < h.place) ⊎ ((f.place ≡ h.place) × (number_of f.cause ≤ (chapter.number_and_name h.cause).0))) same before
   ];
 }
 
--- whole blocks have no fault
-pub no_block_fault : (bytes : List ℕ) (whole : List Block) → AreBlocks (blocks_of bytes) whole → (cause : Cause) (place : ℕ) → BlockFault bytes cause place → ⊥
-no_block_fault bytes whole blocks cause place g =
-    let ended = not_ended (blocks_of bytes) whole g.front g.at blocks g.stands (stops_fault bytes cause place g) in
-    elim g.why [ inl x ↦ bad (sym x.1 ∙ ended) | inr x ↦ cut (sym x.1 ∙ ended) ]
-  where
-    bad : BadBlock ≡ End → ⊥
-    bad e = cc
+least_second : (f g : CodeFault) → IsBefore g f → IsLeastAmong (listed f ∷ listed g ∷ []) g
+least_second f g before = record {
+  among = (1, omega arith, refl);
+  least = λ other among. elim (one_of_two (listed f) (listed g) other among) [
+    | inl same ↦ subst (λ (h : Fault). (g.place < h.place) ⊎ ((g.place ≡ h.place) × (number_of g.cause ≤ (chapter.number_and_name h.cause).0))) same before
+    | inr same ↦ subst (λ (h : Fault). (g.place < h.place) ⊎ ((g.place ≡ h.place) × (number_of g.cause ≤ (chapter.number_and_name h.cause).0))) same (inr (refl, omega arith))
+  ];
+}
 
-    cut : CutText ≡ End → ⊥
-    cut e = cc
+abbrev fault_of_language : Package → CodeFault
+fault_of_language p = record { cause = LanguageText; place = p.place + 46 }
+
+abbrev fault_of_block : Package → CodeFault → CodeFault
+fault_of_block p fault = record { cause = fault.cause; place = p.place + (info_offset p.bytes + fault.place) }
+
+-- the fault of the language where the blocks are whole
+pub only_language : (p : Package) (blocks : List ℕ) → HasFixedPart p.bytes → blocks ≡ blocks_of p.bytes → language_of p ≡ None → HoldsBlocks blocks
+    → IsLeastAmong (string_package_faults p) (fault_of_language p)
+only_language p blocks fixed same none held =
+    least_alone (string_package_faults p) (fault_of_language p) (faults_are p fixed None _ none (texts_are p (subst HoldsBlocks same held)))
+
+-- the fault of the language where that of a block is behind it
+pub least_language : (p : Package) (blocks : List ℕ) (fault : CodeFault) → HasFixedPart p.bytes → blocks ≡ blocks_of p.bytes → language_of p ≡ None → IsBlockFault blocks fault
+    → 46 < info_offset p.bytes + fault.place → IsLeastAmong (string_package_faults p) (fault_of_language p)
+least_language p blocks fault fixed same none bad later =
+    subst (λ (fs : List Fault). IsLeastAmong fs (fault_of_language p)) (sym (faults_are p fixed None _ none (texts_fault p fault (subst (λ b. IsBlockFault b fault) same bad))))
+    (least_first (fault_of_language p) (fault_of_block p fault) (inl (omega (arith, later))))
+
+-- the fault of a block, unless the language has one before it
+pub least_block : (p : Package) (blocks : List ℕ) (fault : CodeFault) → HasFixedPart p.bytes → blocks ≡ blocks_of p.bytes → IsBlockFault blocks fault
+    → (language_of p ≢ None) ⊎ (info_offset p.bytes + fault.place ≤ 46) → IsLeastAmong (string_package_faults p) (fault_of_block p fault)
+least_block p blocks fault fixed same bad first =
+    elim (cases_option (language_of p)) [
+      | inr some ↦ least_alone (string_package_faults p) (fault_of_block p fault) (faults_are p fixed (Some some.0) _ some.1 texts)
+      | inl none ↦ subst (λ (fs : List Fault). IsLeastAmong fs (fault_of_block p fault)) (sym (faults_are p fixed None _ none texts))
+          (least_second (fault_of_language p) (fault_of_block p fault) (before none))
+    ]
+  where
+    texts : texts_of p ≡ Err (cause_for fault.cause, p.place + (info_offset p.bytes + fault.place))
+    texts = texts_fault p fault (subst (λ b. IsBlockFault b fault) same bad)
+
+    small : number_of fault.cause ≤ 9
+    small = elim bad [ inl x ↦ omega (arith, ap number_of x.0) | inr x ↦ omega (arith, ap number_of x.0) ]
+
+    before : language_of p ≡ None → IsBefore (fault_of_block p fault) (fault_of_language p)
+    before none = elim first [
+      | inl some ↦ absurd (some none)
+      | inr early ↦ inr (omega (arith, early, fixed.low), omega (arith, small))
+    ]
 
 -- nothing is read where there is nothing
 pub none_mapped : {X Y : Type 0} (f : X → Y) (r : Option X) (l : Option Y) → option_map f r ≡ l → is_some r ≡ false → l ≡ None
@@ -119,58 +177,53 @@ some_mapped f (Some x) l e h = λ n. some_none (f x) (e ∙ n)
     some_none : {Y : Type 0} (y : Y) → Some y ≡ None → ⊥
     some_none y e = cc
 
--- a string package that says something has no fault
-pub no_string_fault : (bytes : List ℕ) (spoken : Spoken) → Speaks bytes spoken → HasNone (IsStringFault bytes)
-no_string_fault bytes spoken h cause place f = elim (other_fault bytes cause place h.fixed f) [
-  | inl g ↦ no_block_fault bytes (map said h.whole_blocks) (blocks_read (blocks_of bytes) h.whole_blocks h.are) cause place g
-  | inr x ↦ some_none spoken.language (sym h.language ∙ x.2)
-]
-  where
-    some_none : (y : List ℕ) → Some y ≡ None → ⊥
-    some_none y e = cc
+-- ---- what is said
 
--- what says something is not refused
-pub refused_unspoken : (bytes : List ℕ) (start : ℕ) (spoken : Spoken) (fault : Fault) → Speaks bytes spoken → IsLeast (IsStringFaultIn bytes start) fault → ⊥
-refused_unspoken bytes start spoken fault speaks least = no_string_fault bytes spoken speaks fault.cause least.told.0 least.told.1
+-- a package with this language and these texts has no fault, and they are what it says
+said_is : (p : Package) (spoken : Spoken) → HasFixedPart p.bytes → language_of p ≡ Some spoken.language → texts_of p ≡ Ok spoken.texts
+    → (spoken ≡ spoken_by p) × (string_package_faults p ≡ [])
+said_is p spoken fixed language texts = (
+  sym (ap (λ l. (let s : Spoken = record { language = unwrap_or l []; texts = result_unwrap_or (texts_of p) [] } in s)) language
+      ∙ ap (λ t. (let s : Spoken = record { language = spoken.language; texts = result_unwrap_or t [] } in s)) texts),
+  faults_are p fixed (Some spoken.language) (Ok spoken.texts) language texts,
+)
 
--- a language and whole blocks say something
-pub spoken_by_parts : (bytes language blocks : List ℕ) → HasFixedPart bytes → blocks ≡ blocks_of bytes → language_of bytes ≡ Some language → HoldsBlocks blocks → Speaks bytes (spoken_in language blocks)
-spoken_by_parts bytes language blocks fixed same language_is held =
-    let spelled = blocks_found (blocks_of bytes) (blocks_in (length blocks) blocks) (subst (λ b. AreBlocks b (blocks_in (length blocks) blocks)) same (held_are blocks held)) in
-    record { fixed = fixed; language = language_is; whole_blocks = spelled.spelled; are = spelled.are; texts = ap texts_of (sym spelled.say) }
+-- a language and whole blocks are what is said
+pub parts_say : (p : Package) (language blocks : List ℕ) → HasFixedPart p.bytes → blocks ≡ blocks_of p.bytes → language_of p ≡ Some language → HoldsBlocks blocks
+    → (spoken_in language blocks ≡ spoken_by p) × (string_package_faults p ≡ [])
+parts_say p language blocks fixed same language_is held =
+    subst (λ b. (spoken_in language b ≡ spoken_by p) × (string_package_faults p ≡ [])) (sym same)
+    (said_is p (spoken_in language (blocks_of p.bytes)) fixed language_is (texts_are p (subst HoldsBlocks same held)))
 
--- the one fault where the blocks are whole
-pub only_language : (bytes blocks : List ℕ) (start : ℕ) → HasFixedPart bytes → blocks ≡ blocks_of bytes → language_of bytes ≡ None → HoldsBlocks blocks →
-    IsLeast (IsStringFaultIn bytes start) (record { cause = LanguageText; place = start + 46 })
-only_language bytes blocks start fixed same none held =
-    least_language bytes start fixed none (λ cause place f. absurd (no_block_fault bytes held.0 (subst (λ b. AreBlocks b held.0) same held.1) cause place f))
+-- what is spelled is read
+pub speech_read : (p : Package) (spoken : Spoken) → Speaks p spoken → (spoken ≡ spoken_by p) × (string_package_faults p ≡ [])
+speech_read p spoken h =
+    let texts = all_read (blocks_of p.bytes) h.whole_blocks (length p.bytes) (p.place + info_offset p.bytes) h.are (few_blocks p) in
+    said_is p spoken h.fixed h.language (texts ∙ ap (λ t. Ok t) (sym h.texts))
 
--- what is bad among these blocks, where they are those of a package
-pub bad_at : (blocks bytes : List ℕ) (cause : Cause) (at : ℕ) → blocks ≡ blocks_of bytes →
-    ((cause ≡ StringBlock) × StandsAt blocks BadBlock at) ⊎ ((cause ≡ StringText) × StandsAt blocks CutText at) →
-    ((cause ≡ StringBlock) × StandsAt (blocks_of bytes) BadBlock at) ⊎ ((cause ≡ StringText) × StandsAt (blocks_of bytes) CutText at)
-bad_at blocks bytes cause at same (inl x) = inl (x.0, subst (λ b. StandsAt b BadBlock at) same x.1)
-bad_at blocks bytes cause at same (inr x) = inr (x.0, subst (λ b. StandsAt b CutText at) same x.1)
+pub one_speech : (p : Package) (spoken other : Spoken) → Speaks p spoken → Speaks p other → spoken ≡ other
+one_speech p spoken other h g = (speech_read p spoken h).0 ∙ sym (speech_read p other g).0
 
-pub block_fault_of : (bytes : List ℕ) (cause : Cause) (at : ℕ) →
-    ((cause ≡ StringBlock) × StandsAt (blocks_of bytes) BadBlock at) ⊎ ((cause ≡ StringText) × StandsAt (blocks_of bytes) CutText at) →
-    BlockFault bytes cause (info_offset bytes + at)
-block_fault_of bytes cause at (inl x) = record { front = BadBlock; at = at; stands = x.1; place_is = refl; why = inl (x.0, refl) }
-block_fault_of bytes cause at (inr x) = record { front = CutText; at = at; stands = x.1; place_is = refl; why = inr (x.0, refl) }
+-- where there is no fault the language and the texts are there
+parts_there : (place : ℕ) (language : Option (List ℕ)) (texts : Result Texts (chapter.Cause × ℕ)) → faults_behind place language texts ≡ []
+    → (l : List ℕ) × (ts : Texts) × (language ≡ Some l) × (texts ≡ Ok ts)
+parts_there place None texts e = absurd (some_faults _ _ e)
+parts_there place (Some l) (Ok ts) e = (l, ts, refl, refl)
+parts_there place (Some l) (Err (cause, at)) e = absurd (some_faults _ _ e)
 
--- that fault is the one fault of the blocks
-pub later_than : (bytes : List ℕ) (cause : Cause) (at : ℕ) →
-    ((cause ≡ StringBlock) × StandsAt (blocks_of bytes) BadBlock at) ⊎ ((cause ≡ StringText) × StandsAt (blocks_of bytes) CutText at) →
-    46 < info_offset bytes + at → (other : Cause) (place : ℕ) → BlockFault bytes other place → 46 < place
-later_than bytes cause at bad later other place f =
-    omega (arith, later, (one_block_fault bytes cause other (info_offset bytes + at) place (block_fault_of bytes cause at bad) f).0)
-
--- a string package says one thing
-pub one_spoken : (bytes : List ℕ) (spoken other : Spoken) → Speaks bytes spoken → Speaks bytes other → spoken ≡ other
-one_spoken bytes spoken other a b =
-    let language : spoken.language ≡ other.language = same_some (sym a.language ∙ b.language) in
-    let texts : spoken.texts ≡ other.texts = a.texts ∙ ap texts_of (one_reading (blocks_of bytes) (map said a.whole_blocks) (map said b.whole_blocks) (blocks_read (blocks_of bytes) a.whole_blocks a.are) (blocks_read (blocks_of bytes) b.whole_blocks b.are)) ∙ sym b.texts in
-    ap (λ l. record { language = l; texts = spoken.texts }) language ∙ ap (λ t. record { language = other.language; texts = t }) texts
-  where
-    same_some : {x y : List ℕ} → Some x ≡ Some y → x ≡ y
-    same_some e = cc
+-- what is read without a fault is spelled
+pub read_speech : (p : Package) → string_package_faults p ≡ [] → Speaks p (spoken_by p)
+read_speech p none =
+    elim (header_cases p.bytes) [
+      | inl bad ↦ absurd (some_faults _ _ (sym (header_fault p bad) ∙ none))
+      | inr fixed ↦ (
+          let parts = parts_there p.place (language_of p) (texts_of p) (sym (behind_header p fixed) ∙ none) in
+          let all = all_spelled (blocks_of p.bytes) parts.1 (length p.bytes) (p.place + info_offset p.bytes) parts.3 in
+          record {
+            fixed = fixed;
+            language = parts.2 ∙ ap (λ l. Some (unwrap_or l [])) (sym parts.2);
+            whole_blocks = all.0;
+            are = all.1;
+            texts = ap (λ t. result_unwrap_or t []) parts.3 ∙ sym all.2;
+          })
+    ]

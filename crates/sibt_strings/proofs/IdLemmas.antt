@@ -3,9 +3,9 @@ use Rattle.std.proofs.Common.{◌≡◌, ℕ, zero, suc, ◌+◌, ◌<◌, ◌�
 use Rattle.std.specs.List.{slice_get}
 use Rattle.std.specs.Option.{unwrap_or}
 use Rattle.std.proofs.lemmas.List.{append-nil, length-map, length-replicate}
-use Rattle.sibt_strings.specs.Blocks.{Block, Texts, Duplicate, Skip, Extension, Whole, front_of, AreBlocks}
+use Rattle.sibt_strings.specs.code.Blocks.{Block, Texts, Duplicate, Skip, Extension, Whole, front_of, AreBlocks, added_by, with_block, with_blocks, texts_said}
 use Rattle.sibt_strings.specs.code.Ends.{Stops}
-use Rattle.sibt_strings.specs.Strings.{text_at, with_block, with_blocks, texts_of}
+use Rattle.browser_rules.specs.Strings.{text_at}
 use Rattle.sibt_strings.specs.code.Views.{count_of, TellsOf}
 use Rattle.sibt_strings.specs.declared.entry.Entry.{Entry}
 use Rattle.sibt_strings.specs.declared.entry.Entry.TheVariants as entry
@@ -47,36 +47,21 @@ pub text_at-past : (texts : List OptionText) (id : ℕ) → length texts < id �
 text_at-past texts zero lt = absurd (omega arith)
 text_at-past texts (suc n) lt = ap (λ t. unwrap_or t None) (get_past texts n (omega arith))
 
--- the texts of one block more
-pub more_of : List OptionText → Block → List OptionText
-more_of texts (Texts more) = map Some more
-more_of texts (Duplicate id) = text_at texts id ∷ []
-more_of texts (Skip count) = replicate count None
-more_of texts Extension = []
-
-pub with_block-more : (texts : List OptionText) (block : Block) → with_block texts block ≡ texts ++ more_of texts block
-unfolding more_of
-with_block-more texts (Texts more) = refl
-with_block-more texts (Duplicate id) = refl
-with_block-more texts (Skip count) = refl
-with_block-more texts Extension = sym (append-nil texts)
-
-length-more_of : (texts : List OptionText) (block : Block) → length (more_of texts block) ≡ count_of block
-unfolding more_of
-length-more_of texts (Texts more) = length-map more Some
-length-more_of texts (Duplicate id) = refl
-length-more_of texts (Skip count) = length-replicate count None
-length-more_of texts Extension = refl
+length-added_by : (texts : List OptionText) (block : Block) → length (added_by texts block) ≡ count_of block
+length-added_by texts (Texts more) = length-map more Some
+length-added_by texts (Duplicate id) = refl
+length-added_by texts (Skip count) = length-replicate count None
+length-added_by texts Extension = refl
 
 pub length-with_block : (texts : List OptionText) (block : Block) → length (with_block texts block) ≡ length texts + count_of block
-length-with_block texts block = omega (arith, ap length (with_block-more texts block), length-append texts (more_of texts block), length-more_of texts block)
+length-with_block texts block = omega (arith, length-append texts (added_by texts block), length-added_by texts block)
 
 -- the texts so far stay in front
 pub with_blocks-more : (texts : List OptionText) (blocks : List Block) → (more : List OptionText) × (with_blocks texts blocks ≡ texts ++ more)
 with_blocks-more texts [] = ([], sym (append-nil texts))
 with_blocks-more texts (b ∷ blocks) =
     let r = with_blocks-more (with_block texts b) blocks in
-    (more_of texts b ++ r.0, r.1 ∙ ap (λ front. front ++ r.0) (with_block-more texts b) ∙ append_assoc texts (more_of texts b) r.0)
+    (added_by texts b ++ r.0, r.1 ∙ append_assoc texts (added_by texts b) r.0)
 
 get_map-some : (xs : List (List ℕ)) (n : ℕ) (x : List ℕ) → slice_get xs n ≡ Some x → unwrap_or (slice_get (map Some xs) n) None ≡ Some x
 get_map-some [] n x e = absurd (none_some x e)
@@ -126,7 +111,7 @@ pub record Left (rest : List ℕ) (count : ℕ) (whole : List Block) : Type 0 wh
   pub left : List Block
   pub are : AreBlocks rest left
   pub counted : length done ≡ count
-  pub same : with_blocks done left ≡ texts_of whole
+  pub same : with_blocks done left ≡ texts_said whole
 
 unfoldable pub left_all : (bytes : List ℕ) (whole : List Block) → AreBlocks bytes whole → Left bytes 0 whole
 left_all bytes whole are = record { done = []; left = whole; are = are; counted = refl; same = refl }
@@ -148,15 +133,15 @@ left_behind rest count whole block behind l front =
 
 -- what a block tells of one of its ids
 pub left_here : (rest : List ℕ) (count : ℕ) (whole : List Block) (block : Block) (behind : List ℕ) (id : ℕ) (found : Entry) (l : Left rest count whole) → front_of rest ≡ Whole block behind →
-    id ≤ count + count_of block → TellsOf (with_block l.done block) id found → TellsOf (texts_of whole) id found
+    id ≤ count + count_of block → TellsOf (with_block l.done block) id found → TellsOf (texts_said whole) id found
 left_here rest count whole block behind id found l front within told =
     let later = left_behind rest count whole block behind l front in
     let more = with_blocks-more later.0.done later.0.left in
-    let texts : texts_of whole ≡ with_block l.done block ++ more.0 = sym later.0.same ∙ more.1 ∙ ap (λ front. front ++ more.0) later.1 in
+    let texts : texts_said whole ≡ with_block l.done block ++ more.0 = sym later.0.same ∙ more.1 ∙ ap (λ front. front ++ more.0) later.1 in
     subst (λ t. TellsOf t id found) (sym texts) (tells_more (with_block l.done block) more.0 id found (omega (arith, length-with_block l.done block, l.counted)) told)
 
 -- an id behind all blocks has no text
-pub left_none : (rest : List ℕ) (count : ℕ) (whole : List Block) (id : ℕ) → Left rest count whole → Stops (front_of rest) → count < id → text_at (texts_of whole) id ≡ None
+pub left_none : (rest : List ℕ) (count : ℕ) (whole : List Block) (id : ℕ) → Left rest count whole → Stops (front_of rest) → count < id → text_at (texts_said whole) id ≡ None
 left_none rest count whole id l stops past =
-    let texts : texts_of whole ≡ l.done = sym l.same ∙ ap (with_blocks l.done) (blocks_none rest l.left l.are stops) in
+    let texts : texts_said whole ≡ l.done = sym l.same ∙ ap (with_blocks l.done) (blocks_none rest l.left l.are stops) in
     ap (λ t. text_at t id) texts ∙ text_at-past l.done id (omega (arith, l.counted))

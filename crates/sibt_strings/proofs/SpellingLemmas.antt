@@ -7,8 +7,9 @@ use Rattle.std.proofs.lemmas.Bool.{cond-false, eqb-true, and_parts, ltb-false, l
 use Rattle.std.proofs.lemmas.List.{append-nil, take-append-drop, drop_at, length-take-le}
 use Rattle.std.proofs.Math.Seq.{drop-append-add}
 use Rattle.hii_bytes.specs.Numbers.{number_in}
-use Rattle.sibt_strings.specs.Blocks.{Block, Texts, Duplicate, Skip, Extension, Front, End, Whole, BadBlock, cut_text, texts_in, texts_block, with_fields, extension_block, front_of, Leads, AreBlocks}
-use Rattle.sibt_strings.specs.Spelling.{WholeBlock, string_ucs2, string_ucs2_font, strings_ucs2, strings_ucs2_font, duplicate, skip2, skip1, ext1, ext2, ext4, IsText, SpellsNumber, HasGoodFields, spell_text, spell_texts, spell, said, AreSpelled}
+use Rattle.sibt_strings.specs.code.Blocks.{Block, Texts, Duplicate, Skip, Extension, Front, End, Whole, BadBlock, texts_block, with_fields, extension_block, front_of, Leads, AreBlocks}
+use Rattle.browser_rules.specs.Strings.{cut_text, cut_texts}
+use Rattle.sibt_strings.specs.laws.Spelling.{WholeBlock, string_ucs2, string_ucs2_font, strings_ucs2, strings_ucs2_font, duplicate, skip2, skip1, ext1, ext2, ext4, IsText, SpellsNumber, HasGoodFields, spell_text, spell_texts, spell, said, AreSpelled}
 use Rattle.sibt_strings.specs.declared.block_types.TheConstants.{END, STRING_UCS2, STRING_UCS2_FONT, STRINGS_UCS2, STRINGS_UCS2_FONT, DUPLICATE, SKIP2, SKIP1, EXT1, EXT2, EXT4}
 
 -- what one of two branches gives
@@ -66,11 +67,11 @@ cut_back (low ∷ high ∷ bytes) text rest e = elim (branch ((low == 0) && (hig
 text_spelled : (text rest : List ℕ) → spell_text text ++ rest ≡ text ++ 0 ∷ 0 ∷ rest
 text_spelled text rest = append_assoc text (0 ∷ 0 ∷ []) rest
 
-texts_cut : (texts : List (List ℕ)) (rest : List ℕ) → AllByRecursion IsText texts → texts_in (length texts) (spell_texts texts ++ rest) ≡ Some (texts, rest)
-unfolding texts_in
+texts_cut : (texts : List (List ℕ)) (rest : List ℕ) → AllByRecursion IsText texts → cut_texts (length texts) (spell_texts texts ++ rest) ≡ Some (texts, rest)
+unfolding cut_texts
 texts_cut [] rest are = refl
 texts_cut (text ∷ texts) rest (is, are) =
-    ap (λ bytes. texts_in (suc (length texts)) bytes) (append_assoc (spell_text text) (spell_texts texts) rest ∙ text_spelled text (spell_texts texts ++ rest))
+    ap (λ bytes. cut_texts (suc (length texts)) bytes) (append_assoc (spell_text text) (spell_texts texts) rest ∙ text_spelled text (spell_texts texts ++ rest))
     ∙ rw (text_cut text (spell_texts texts ++ rest) is, texts_cut texts rest are) refl
 
 -- What is cut off are so many texts with their zero units.
@@ -79,15 +80,15 @@ record AreCut (n : ℕ) (bytes : List ℕ) (texts : List (List ℕ)) (rest : Lis
   many : length texts ≡ n
   whole : bytes ≡ spell_texts texts ++ rest
 
-texts_back : (n : ℕ) (bytes : List ℕ) (texts : List (List ℕ)) (rest : List ℕ) → texts_in n bytes ≡ Some (texts, rest) → AreCut n bytes texts rest
-unfolding texts_in
+texts_back : (n : ℕ) (bytes : List ℕ) (texts : List (List ℕ)) (rest : List ℕ) → cut_texts n bytes ≡ Some (texts, rest) → AreCut n bytes texts rest
+unfolding cut_texts
 texts_back zero bytes texts rest e =
     let texts_is : [] ≡ texts = ap (λ (t : List (List ℕ) × List ℕ). t.0) (same_some e) in
     let rest_is : bytes ≡ rest = ap (λ (t : List (List ℕ) × List ℕ). t.1) (same_some e) in
     record { are = subst (AllByRecursion IsText) texts_is tt; many = ap length (sym texts_is); whole = rest_is ∙ ap (λ ts. spell_texts ts ++ rest) texts_is }
 texts_back (suc n) bytes texts rest e = first (λ bytes texts rest here. texts_back n bytes texts rest here) (cut_text bytes) refl e
   where
-    others : ((bytes : List ℕ) (texts : List (List ℕ)) (rest : List ℕ) → texts_in n bytes ≡ Some (texts, rest) → AreCut n bytes texts rest) → (t : List ℕ × List ℕ) → cut_text bytes ≡ Some t → (ts : Option (List (List ℕ) × List ℕ)) → texts_in n t.1 ≡ ts
+    others : ((bytes : List ℕ) (texts : List (List ℕ)) (rest : List ℕ) → cut_texts n bytes ≡ Some (texts, rest) → AreCut n bytes texts rest) → (t : List ℕ × List ℕ) → cut_text bytes ≡ Some t → (ts : Option (List (List ℕ) × List ℕ)) → cut_texts n t.1 ≡ ts
         → option_map {U = List (List ℕ) × List ℕ} (λ ts. (t.0 ∷ ts.0, ts.1)) ts ≡ Some (texts, rest) → AreCut (suc n) bytes texts rest
     others more t here None behind same = absurd cc
     others more_back t here (Some ts) behind same =
@@ -103,10 +104,10 @@ texts_back (suc n) bytes texts rest e = first (λ bytes texts rest here. texts_b
               ∙ sym (append_assoc (spell_text t.0) (spell_texts ts.0) ts.1) ∙ ap (λ r. spell_texts (t.0 ∷ ts.0) ++ r) rest_is ∙ ap (λ x. spell_texts x ++ rest) texts_is;
         }
 
-    first : ((bytes : List ℕ) (texts : List (List ℕ)) (rest : List ℕ) → texts_in n bytes ≡ Some (texts, rest) → AreCut n bytes texts rest) → (t : Option (List ℕ × List ℕ)) → cut_text bytes ≡ t → option_and_then {U = List (List ℕ) × List ℕ} (λ t. option_map (λ ts. (t.0 ∷ ts.0, ts.1)) (texts_in n t.1)) t ≡ Some (texts, rest)
+    first : ((bytes : List ℕ) (texts : List (List ℕ)) (rest : List ℕ) → cut_texts n bytes ≡ Some (texts, rest) → AreCut n bytes texts rest) → (t : Option (List ℕ × List ℕ)) → cut_text bytes ≡ t → option_and_then {U = List (List ℕ) × List ℕ} (λ t. option_map (λ ts. (t.0 ∷ ts.0, ts.1)) (cut_texts n t.1)) t ≡ Some (texts, rest)
         → AreCut (suc n) bytes texts rest
     first more None here same = absurd cc
-    first more (Some t) here same = others more t here (texts_in n t.1) refl same
+    first more (Some t) here same = others more t here (cut_texts n t.1) refl same
 
 -- ---- blocks
 
@@ -138,13 +139,13 @@ strings_read : (a b : ℕ) (texts : List (List ℕ)) (rest : List ℕ) → numbe
     → front_of (STRINGS_UCS2 ∷ a ∷ b ∷ spell_texts texts ++ rest) ≡ Whole (Texts texts) rest
 unfolding front_of number_in
 strings_read a b texts rest is are =
-    there 2 (a ∷ b ∷ spell_texts texts ++ rest) _ (omega arith) ∙ ap (λ n. texts_block (texts_in n (spell_texts texts ++ rest))) is ∙ ap texts_block (texts_cut texts rest are)
+    there 2 (a ∷ b ∷ spell_texts texts ++ rest) _ (omega arith) ∙ ap (λ n. texts_block (cut_texts n (spell_texts texts ++ rest))) is ∙ ap texts_block (texts_cut texts rest are)
 
 font_strings_read : (font a b : ℕ) (texts : List (List ℕ)) (rest : List ℕ) → number_in (a ∷ b ∷ []) 0 2 ≡ length texts → AllByRecursion IsText texts
     → front_of (STRINGS_UCS2_FONT ∷ font ∷ a ∷ b ∷ spell_texts texts ++ rest) ≡ Whole (Texts texts) rest
 unfolding front_of number_in
 font_strings_read font a b texts rest is are =
-    there 3 (font ∷ a ∷ b ∷ spell_texts texts ++ rest) _ (omega arith) ∙ ap (λ n. texts_block (texts_in n (spell_texts texts ++ rest))) is ∙ ap texts_block (texts_cut texts rest are)
+    there 3 (font ∷ a ∷ b ∷ spell_texts texts ++ rest) _ (omega arith) ∙ ap (λ n. texts_block (cut_texts n (spell_texts texts ++ rest))) is ∙ ap texts_block (texts_cut texts rest are)
 
 duplicate_read : (a b : ℕ) (rest : List ℕ) → front_of (DUPLICATE ∷ a ∷ b ∷ rest) ≡ Whole (Duplicate (number_in (a ∷ b ∷ []) 0 2)) rest
 unfolding front_of number_in
@@ -168,10 +169,10 @@ extension4_read kind a b c d body rest is =
 
 -- a block that is spelled is read
 pub block_read : (block : WholeBlock) (rest : List ℕ) → HasGoodFields block → front_of (spell block ++ rest) ≡ Whole (said block) rest
-unfolding front_of texts_in
-block_read (string_ucs2 text) rest is = ap (λ bytes. texts_block (texts_in 1 bytes)) (text_spelled text rest) ∙ rw (text_cut text rest is) refl
+unfolding front_of cut_texts
+block_read (string_ucs2 text) rest is = ap (λ bytes. texts_block (cut_texts 1 bytes)) (text_spelled text rest) ∙ rw (text_cut text rest is) refl
 block_read (string_ucs2_font font text) rest is =
-    there 1 (font ∷ spell_text text ++ rest) _ (omega arith) ∙ ap (λ bytes. texts_block (texts_in 1 bytes)) (text_spelled text rest) ∙ rw (text_cut text rest is) refl
+    there 1 (font ∷ spell_text text ++ rest) _ (omega arith) ∙ ap (λ bytes. texts_block (cut_texts 1 bytes)) (text_spelled text rest) ∙ rw (text_cut text rest is) refl
 block_read (strings_ucs2 count texts) rest (number, are) =
     let (a, b, e) = two_bytes count number.long in
     rw e (strings_read a b texts rest (subst (λ x. number_in x 0 2 ≡ length texts) e number.is) are)
@@ -205,11 +206,11 @@ pub record IsSpelled (bytes : List ℕ) (block : Block) (rest : List ℕ) : Type
   pub whole : bytes ≡ spell spelled ++ rest
 
 -- what texts are at the front of the bytes behind the block's fields, where they are whole
-texts_found : (n : ℕ) (bytes : List ℕ) (block : Block) (rest : List ℕ) → texts_block (texts_in n bytes) ≡ Whole block rest
+texts_found : (n : ℕ) (bytes : List ℕ) (block : Block) (rest : List ℕ) → texts_block (cut_texts n bytes) ≡ Whole block rest
     → (texts : List (List ℕ)) × (block ≡ Texts texts) × AreCut n bytes texts rest
-texts_found n bytes block rest e = found (texts_in n bytes) refl e
+texts_found n bytes block rest e = found (cut_texts n bytes) refl e
   where
-    found : (t : Option (List (List ℕ) × List ℕ)) → texts_in n bytes ≡ t → texts_block t ≡ Whole block rest → (texts : List (List ℕ)) × (block ≡ Texts texts) × AreCut n bytes texts rest
+    found : (t : Option (List (List ℕ) × List ℕ)) → cut_texts n bytes ≡ t → texts_block t ≡ Whole block rest → (texts : List (List ℕ)) × (block ≡ Texts texts) × AreCut n bytes texts rest
     found None here same = absurd cc
     found (Some t) here same =
         let rest_is : t.1 ≡ rest = cc in
@@ -264,7 +265,7 @@ begins_with_five (a ∷ b ∷ c ∷ d ∷ []) le = absurd (omega (arith, le))
 -- a block of one text
 one_text : (bytes front body : List ℕ) (block : Block) (rest : List ℕ) (spelled : List ℕ → WholeBlock) → bytes ≡ front ++ body
     → ((text : List ℕ) → IsText text → HasGoodFields (spelled text)) → ((text : List ℕ) → (said (spelled text) ≡ Texts (text ∷ [])) × (spell (spelled text) ≡ front ++ spell_text text))
-    → texts_block (texts_in 1 body) ≡ Whole block rest → IsSpelled bytes block rest
+    → texts_block (cut_texts 1 body) ≡ Whole block rest → IsSpelled bytes block rest
 one_text bytes front body block rest spelled is fits spells e =
     let found = texts_found 1 body block rest e in
     one found.0 found.1 found.2
@@ -285,7 +286,7 @@ one_text bytes front body block rest spelled is fits spells e =
 some_texts : (bytes front body : List ℕ) (a b : ℕ) (block : Block) (rest : List ℕ) (spelled : List ℕ → List (List ℕ) → WholeBlock) → bytes ≡ front ++ a ∷ b ∷ body
     → ((count : List ℕ) (texts : List (List ℕ)) → SpellsNumber count 2 (length texts) → AllByRecursion IsText texts → HasGoodFields (spelled count texts))
     → ((count : List ℕ) (texts : List (List ℕ)) → (said (spelled count texts) ≡ Texts texts) × (spell (spelled count texts) ≡ front ++ (count ++ spell_texts texts)))
-    → texts_block (texts_in (number_in (a ∷ b ∷ []) 0 2) body) ≡ Whole block rest → IsSpelled bytes block rest
+    → texts_block (cut_texts (number_in (a ∷ b ∷ []) 0 2) body) ≡ Whole block rest → IsSpelled bytes block rest
 some_texts bytes front body a b block rest spelled is fits spells e =
     let (texts, same, cut) = texts_found (number_in (a ∷ b ∷ []) 0 2) body block rest e in
     record {
@@ -320,29 +321,29 @@ some_extension bytes front body size block rest spelled is fits spells e =
 
 -- ---- what the fields of each kind of block give
 
-font_text_found : (body : List ℕ) (block : Block) (rest : List ℕ) → with_fields 1 body (texts_block (texts_in 1 (drop 1 body))) ≡ Whole block rest → IsSpelled (STRING_UCS2_FONT ∷ body) block rest
+font_text_found : (body : List ℕ) (block : Block) (rest : List ℕ) → with_fields 1 body (texts_block (cut_texts 1 (drop 1 body))) ≡ Whole block rest → IsSpelled (STRING_UCS2_FONT ∷ body) block rest
 font_text_found body block rest e =
     let (long, same) = fields_found 1 body _ block rest e in
     let (font, more, is) = begins_with_one body long in
     one_text (STRING_UCS2_FONT ∷ body) (STRING_UCS2_FONT ∷ font ∷ []) more block rest (string_ucs2_font font) (ap (λ b. STRING_UCS2_FONT ∷ b) is) (λ text is. is) (λ text. (refl, refl))
-    (subst (λ b. texts_block (texts_in 1 (drop 1 b)) ≡ Whole block rest) is same)
+    (subst (λ b. texts_block (cut_texts 1 (drop 1 b)) ≡ Whole block rest) is same)
 
-texts_found_in : (body : List ℕ) (block : Block) (rest : List ℕ) → with_fields 2 body (texts_block (texts_in (number_in body 0 2) (drop 2 body))) ≡ Whole block rest → IsSpelled (STRINGS_UCS2 ∷ body) block rest
+texts_found_in : (body : List ℕ) (block : Block) (rest : List ℕ) → with_fields 2 body (texts_block (cut_texts (number_in body 0 2) (drop 2 body))) ≡ Whole block rest → IsSpelled (STRINGS_UCS2 ∷ body) block rest
 unfolding number_in
 texts_found_in body block rest e =
     let (long, same) = fields_found 2 body _ block rest e in
     let (a, b, more, is) = begins_with_two body long in
     some_texts (STRINGS_UCS2 ∷ body) (STRINGS_UCS2 ∷ []) more a b block rest strings_ucs2 (ap (λ b. STRINGS_UCS2 ∷ b) is) (λ count texts number are. (number, are)) (λ count texts. (refl, refl))
-    (subst (λ b. texts_block (texts_in (number_in b 0 2) (drop 2 b)) ≡ Whole block rest) is same)
+    (subst (λ b. texts_block (cut_texts (number_in b 0 2) (drop 2 b)) ≡ Whole block rest) is same)
 
-font_texts_found : (body : List ℕ) (block : Block) (rest : List ℕ) → with_fields 3 body (texts_block (texts_in (number_in body 1 2) (drop 3 body))) ≡ Whole block rest
+font_texts_found : (body : List ℕ) (block : Block) (rest : List ℕ) → with_fields 3 body (texts_block (cut_texts (number_in body 1 2) (drop 3 body))) ≡ Whole block rest
     → IsSpelled (STRINGS_UCS2_FONT ∷ body) block rest
 unfolding number_in
 font_texts_found body block rest e =
     let (long, same) = fields_found 3 body _ block rest e in
     let (font, a, b, more, is) = begins_with_three body long in
     some_texts (STRINGS_UCS2_FONT ∷ body) (STRINGS_UCS2_FONT ∷ font ∷ []) more a b block rest (strings_ucs2_font font) (ap (λ b. STRINGS_UCS2_FONT ∷ b) is) (λ count texts number are. (number, are))
-    (λ count texts. (refl, refl)) (subst (λ b. texts_block (texts_in (number_in b 1 2) (drop 3 b)) ≡ Whole block rest) is same)
+    (λ count texts. (refl, refl)) (subst (λ b. texts_block (cut_texts (number_in b 1 2) (drop 3 b)) ≡ Whole block rest) is same)
 
 duplicate_found : (body : List ℕ) (block : Block) (rest : List ℕ) → with_fields 2 body (Whole (Duplicate (number_in body 0 2)) (drop 2 body)) ≡ Whole block rest → IsSpelled (DUPLICATE ∷ body) block rest
 unfolding number_in
@@ -405,10 +406,10 @@ if_cases P true x y of_true of_false = of_true refl
 if_cases P false x y of_true of_false = of_false refl
 
 -- what holds of what each kind of block gives holds of what stands at the front
-front_all : (P : Front → Type 0) (kind : ℕ) (body : List ℕ) → (kind == END ≡ true → P End) → (kind == STRING_UCS2 ≡ true → P (texts_block (texts_in 1 body)))
-    → (kind == STRING_UCS2_FONT ≡ true → P (with_fields 1 body (texts_block (texts_in 1 (drop 1 body)))))
-    → (kind == STRINGS_UCS2 ≡ true → P (with_fields 2 body (texts_block (texts_in (number_in body 0 2) (drop 2 body)))))
-    → (kind == STRINGS_UCS2_FONT ≡ true → P (with_fields 3 body (texts_block (texts_in (number_in body 1 2) (drop 3 body)))))
+front_all : (P : Front → Type 0) (kind : ℕ) (body : List ℕ) → (kind == END ≡ true → P End) → (kind == STRING_UCS2 ≡ true → P (texts_block (cut_texts 1 body)))
+    → (kind == STRING_UCS2_FONT ≡ true → P (with_fields 1 body (texts_block (cut_texts 1 (drop 1 body)))))
+    → (kind == STRINGS_UCS2 ≡ true → P (with_fields 2 body (texts_block (cut_texts (number_in body 0 2) (drop 2 body)))))
+    → (kind == STRINGS_UCS2_FONT ≡ true → P (with_fields 3 body (texts_block (cut_texts (number_in body 1 2) (drop 3 body)))))
     → (kind == DUPLICATE ≡ true → P (with_fields 2 body (Whole (Duplicate (number_in body 0 2)) (drop 2 body))))
     → (kind == SKIP2 ≡ true → P (with_fields 2 body (Whole (Skip (number_in body 0 2)) (drop 2 body)))) → (kind == SKIP1 ≡ true → P (with_fields 1 body (Whole (Skip (slice_index body 0)) (drop 1 body))))
     → (kind == EXT1 ≡ true → P (with_fields 2 body (extension_block 3 (slice_index body 1) (kind ∷ body))))
@@ -485,8 +486,8 @@ extension_no_end header size bytes e = elim (branch (nat_lt size header) _ _ _ e
   | inr (_, more) ↦ elim (branch (nat_lt (length bytes) size) _ _ _ more) [ inl (_, same) ↦ cc | inr (_, same) ↦ cc ]
 ]
 
-field_texts_no_end : (n : ℕ) (body : List ℕ) (count : ℕ) (bytes : List ℕ) → with_fields n body (texts_block (texts_in count bytes)) ≡ End → ⊥
-field_texts_no_end n body count bytes = fields_no_end n body (texts_block (texts_in count bytes)) (texts_no_end (texts_in count bytes))
+field_texts_no_end : (n : ℕ) (body : List ℕ) (count : ℕ) (bytes : List ℕ) → with_fields n body (texts_block (cut_texts count bytes)) ≡ End → ⊥
+field_texts_no_end n body count bytes = fields_no_end n body (texts_block (cut_texts count bytes)) (texts_no_end (cut_texts count bytes))
 
 field_block_no_end : (n : ℕ) (body : List ℕ) (block : Block) (rest : List ℕ) → with_fields n body (Whole block rest) ≡ End → ⊥
 field_block_no_end n body block rest = fields_no_end n body (Whole block rest) (whole_no_end block rest)
@@ -500,7 +501,7 @@ unfolding front_of
 end_found [] e = absurd cc
 end_found (kind ∷ body) e = (
   body,
-  front_all (λ f. f ≡ End → kind ∷ body ≡ END ∷ body) kind body (λ is e. ap (λ k. k ∷ body) (eqb-true kind END is)) (λ is e. absurd (texts_no_end (texts_in 1 body) e))
+  front_all (λ f. f ≡ End → kind ∷ body ≡ END ∷ body) kind body (λ is e. ap (λ k. k ∷ body) (eqb-true kind END is)) (λ is e. absurd (texts_no_end (cut_texts 1 body) e))
       (λ is e. absurd (field_texts_no_end 1 body 1 (drop 1 body) e)) (λ is e. absurd (field_texts_no_end 2 body (number_in body 0 2) (drop 2 body) e))
       (λ is e. absurd (field_texts_no_end 3 body (number_in body 1 2) (drop 3 body) e)) (λ is e. absurd (field_block_no_end 2 body (Duplicate (number_in body 0 2)) (drop 2 body) e))
       (λ is e. absurd (field_block_no_end 2 body (Skip (number_in body 0 2)) (drop 2 body) e)) (λ is e. absurd (field_block_no_end 1 body (Skip (slice_index body 0)) (drop 1 body) e))

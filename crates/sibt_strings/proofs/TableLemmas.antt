@@ -8,8 +8,8 @@ use Rattle.std.proofs.lemmas.List.{append-nil, drop_all, map_push}
 use Rattle.std.proofs.lemmas.List.Sorted.{IsNonDecreasingBy-from_default}
 use Rattle.std.proofs.lemmas.Bool.{cases_eq, cases_lt, cond-true, cond-false}
 use Rattle.std.proofs.lemmas.Bool.Decides.{nat_tests}
-use Rattle.sibt_strings.specs.Blocks.{Block, Texts, Duplicate, Skip, End, Whole, cut_text, texts_in, front_of}
-use Rattle.sibt_strings.specs.Strings.{text_at, texts_of, with_block, with_blocks}
+use Rattle.sibt_strings.specs.code.Blocks.{Block, Texts, Duplicate, Skip, End, Whole, front_of, texts_said, with_block, with_blocks}
+use Rattle.browser_rules.specs.Strings.{cut_text, cut_texts, text_at}
 use Rattle.sibt_strings.specs.code.Views.{EndsWith, HoldsBlocks}
 use Rattle.sibt_strings.specs.code.Table.{place_of, text_of_place, Rises, IsTable, HasTable, IsNext, IsTabled, Adds, StepsTo}
 use Rattle.sibt_strings.specs.declared.place.TextPlace.{TextPlace}
@@ -213,7 +213,7 @@ texts_before seen (Some t) = Some (seen ++ t.0, t.1)
 pub record Node (blocks bytes : List ℕ) (count : ℕ) (old : TextPlaces) (n : ℕ) (rest : List ℕ) (new : TextPlaces) : Type 0 where
   pub seen : List (List ℕ)
   pub inside : EndsWith bytes rest
-  pub same : texts_before seen (texts_in (count - n) rest) ≡ texts_in count bytes
+  pub same : texts_before seen (cut_texts (count - n) rest) ≡ cut_texts count bytes
   pub adds : Adds blocks (Texts seen) old new
 
 module _ {blocks bytes : List ℕ} {count : ℕ} {old : TextPlaces} {n : ℕ} {rest : List ℕ} {new : TextPlaces} (p : Node blocks bytes count old n rest new) where
@@ -230,7 +230,7 @@ module _ {blocks bytes : List ℕ} {count : ℕ} {old : TextPlaces} {n : ℕ} {r
       record {
         seen = p.seen ++ text ∷ [];
         inside = ends_trans p.inside (cut_ends rest text behind found);
-        same = moved (texts_in (count - (n + 1)) behind) ∙ ap (texts_before p.seen) (sym (texts_first (count - (n + 1)) rest text behind found) ∙ ap (λ k. texts_in k rest) (sym (left less))) ∙ p.same;
+        same = moved (cut_texts (count - (n + 1)) behind) ∙ ap (texts_before p.seen) (sym (texts_first (count - (n + 1)) rest text behind found) ∙ ap (λ k. cut_texts k rest) (sym (left less))) ∙ p.same;
         adds = λ texts t.
             let pushed = subst (λ text. IsTabled blocks ((texts ++ map Some p.seen) ++ text ∷ []) newer.next newer.places.items) here (added (texts ++ map Some p.seen) (p.adds texts t)) in
             subst (λ texts. IsTabled blocks texts newer.next newer.places.items) (append_assoc texts (map Some p.seen) (Some text ∷ []) ∙ ap (λ more. texts ++ more) (sym (map_push Some p.seen text))) pushed;
@@ -241,15 +241,15 @@ module _ {blocks bytes : List ℕ} {count : ℕ} {old : TextPlaces} {n : ℕ} {r
       moved (Some t) = ap (λ texts. Some (texts, t.1)) (append_assoc p.seen (text ∷ []) t.0)
 
   -- one of the texts is cut
-  pub placed_cut : n < count → cut_text rest ≡ None → texts_in count bytes ≡ None
-  placed_cut less cut = sym p.same ∙ ap (texts_before p.seen) (ap (λ k. texts_in k rest) (left less) ∙ texts_none (count - (n + 1)) rest cut)
+  pub placed_cut : n < count → cut_text rest ≡ None → cut_texts count bytes ≡ None
+  placed_cut less cut = sym p.same ∙ ap (texts_before p.seen) (ap (λ k. cut_texts k rest) (left less) ∙ texts_none (count - (n + 1)) rest cut)
 
   -- all have places
-  pub placed_all : count ≤ n → texts_in count bytes ≡ Some (p.seen, rest)
-  unfolding texts_in
+  pub placed_all : count ≤ n → cut_texts count bytes ≡ Some (p.seen, rest)
+  unfolding cut_texts
   placed_all all =
       let none : count - n ≡ 0 = omega arith in
-      sym p.same ∙ ap (λ k. texts_before p.seen (texts_in k rest)) none ∙ ap (λ texts. Some (texts, rest)) (append-nil p.seen)
+      sym p.same ∙ ap (λ k. texts_before p.seen (cut_texts k rest)) none ∙ ap (λ texts. Some (texts, rest)) (append-nil p.seen)
 
 with_blocks-push : (texts : List OptionText) (blocks : List Block) (block : Block) → with_blocks texts (blocks ++ block ∷ []) ≡ with_block (with_blocks texts blocks) block
 with_blocks-push texts [] block = refl
@@ -259,7 +259,7 @@ with_blocks-push texts (b ∷ blocks) block = with_blocks-push (with_block texts
 pub record Walked (blocks rest : List ℕ) (found : TextPlaces) : Type 0 where
   pub leads : LeadsTo blocks rest
   pub inside : EndsWith blocks rest
-  pub tabled : IsTabled blocks (texts_of leads.blocks) found.next found.places.items
+  pub tabled : IsTabled blocks (texts_said leads.blocks) found.next found.places.items
 
 pub walked_none : (blocks : List ℕ) (found : TextPlaces) → IsTabled blocks [] found.next found.places.items → Walked blocks blocks found
 unfolding leads_start
@@ -273,7 +273,7 @@ module _ {blocks rest : List ℕ} {old : TextPlaces} (w : Walked blocks rest old
   walked_on new block behind front adds inside less = record {
     leads = leads_on blocks rest block behind w.leads front less;
     inside = ends_trans w.inside inside;
-    tabled = subst (λ texts. IsTabled blocks texts new.next new.places.items) (sym (with_blocks-push [] w.leads.blocks block)) (adds (texts_of w.leads.blocks) w.tabled);
+    tabled = subst (λ texts. IsTabled blocks texts new.next new.places.items) (sym (with_blocks-push [] w.leads.blocks block)) (adds (texts_said w.leads.blocks) w.tabled);
   }
 
   -- the end
@@ -282,7 +282,7 @@ module _ {blocks rest : List ℕ} {old : TextPlaces} (w : Walked blocks rest old
 
   pub walked_table : front_of rest ≡ End → HasTable blocks old.places.items
   unfolding walked_whole
-  walked_table end = subst (λ whole. IsTable blocks (texts_of whole) old.places.items) (sym (held_blocks blocks (walked_whole end))) w.tabled.table
+  walked_table end = subst (λ whole. IsTable blocks (texts_said whole) old.places.items) (sym (held_blocks blocks (walked_whole end))) w.tabled.table
 
 -- what a step leaves stands at the end of what it began with
 pub steps_behind : {bytes more : List ℕ} (found : Step) → EndsWith bytes more → StepsTo (EndsWith more) found → StepsTo (EndsWith bytes) found

@@ -4,7 +4,7 @@ use Rattle.std.specs.Option.{option_map, is_some}
 use Rattle.std.specs.List.{slice_get}
 use Rattle.std.proofs.lemmas.Bool.{false≢true}
 use Rattle.std.proofs.lemmas.List.{append-nil, take_at}
-use Rattle.sibt_strings.specs.Blocks.{cut_text, texts_in}
+use Rattle.browser_rules.specs.Strings.{cut_text, cut_texts}
 use Rattle.sibt_strings.specs.code.Views.{EndsWith, whole_texts}
 
 -- a text with these bytes in front
@@ -65,60 +65,60 @@ rest_front bytes rest r =
 
 -- the bytes behind this many texts
 abbrev pub rest_of_texts : ℕ → List ℕ → Option (List ℕ)
-rest_of_texts n bytes = option_map (λ t. t.1) (texts_in n bytes)
+rest_of_texts n bytes = option_map (λ t. t.1) (cut_texts n bytes)
 
 -- behind the first text stand the others
 pub rest_of_texts-found : (n m : ℕ) (bytes text rest : List ℕ) → n ≡ suc m → cut_text bytes ≡ Some (text, rest) → rest_of_texts n bytes ≡ rest_of_texts m rest
-unfolding texts_in
-rest_of_texts-found n m bytes text rest count e = ap (λ k. rest_of_texts k bytes) count ∙ rw e (go (texts_in m rest))
+unfolding cut_texts
+rest_of_texts-found n m bytes text rest count e = ap (λ k. rest_of_texts k bytes) count ∙ rw e (go (cut_texts m rest))
   where
     go : (t : Option (List (List ℕ) × List ℕ)) → option_map (λ (x : List (List ℕ) × List ℕ). x.1) (option_map (λ (ts : List (List ℕ) × List ℕ). (text ∷ ts.0, ts.1)) t) ≡ option_map (λ (x : List (List ℕ) × List ℕ). x.1) t
     go None = refl
     go (Some t) = refl
 
 pub rest_of_texts-none : (n m : ℕ) (bytes : List ℕ) → n ≡ suc m → cut_text bytes ≡ None → rest_of_texts n bytes ≡ None
-unfolding texts_in
+unfolding cut_texts
 rest_of_texts-none n m bytes count e = ap (λ k. rest_of_texts k bytes) count ∙ rw e refl
 
 pub rest_of_texts-all : (n : ℕ) (bytes : List ℕ) → n ≡ 0 → rest_of_texts n bytes ≡ Some bytes
-unfolding texts_in
+unfolding cut_texts
 rest_of_texts-all n bytes count = ap (λ k. rest_of_texts k bytes) count
 
 pub cases_option : {A : Type 0} (o : Option A) → (o ≡ None) ⊎ ((x : A) × (o ≡ Some x))
 cases_option None = inl refl
 cases_option (Some x) = inr (x, refl)
 
-pub texts_none : (n : ℕ) (bytes : List ℕ) → cut_text bytes ≡ None → texts_in (suc n) bytes ≡ None
-unfolding texts_in
+pub texts_none : (n : ℕ) (bytes : List ℕ) → cut_text bytes ≡ None → cut_texts (suc n) bytes ≡ None
+unfolding cut_texts
 texts_none n bytes e = rw e refl
 
 -- the others stand behind the first
-pub texts_first : (n : ℕ) (bytes text behind : List ℕ) → cut_text bytes ≡ Some (text, behind) → texts_in (suc n) bytes ≡ option_map (λ ts. (text ∷ ts.0, ts.1)) (texts_in n behind)
-unfolding texts_in
+pub texts_first : (n : ℕ) (bytes text behind : List ℕ) → cut_text bytes ≡ Some (text, behind) → cut_texts (suc n) bytes ≡ option_map (λ ts. (text ∷ ts.0, ts.1)) (cut_texts n behind)
+unfolding cut_texts
 texts_first n bytes text behind e = rw e refl
 
-texts_cons : (n : ℕ) (bytes : List ℕ) (t : List ℕ × List ℕ) (ts : List (List ℕ) × List ℕ) → cut_text bytes ≡ Some t → texts_in n t.1 ≡ Some ts → texts_in (suc n) bytes ≡ Some (t.0 ∷ ts.0, ts.1)
-unfolding texts_in
+texts_cons : (n : ℕ) (bytes : List ℕ) (t : List ℕ × List ℕ) (ts : List (List ℕ) × List ℕ) → cut_text bytes ≡ Some t → cut_texts n t.1 ≡ Some ts → cut_texts (suc n) bytes ≡ Some (t.0 ∷ ts.0, ts.1)
+unfolding cut_texts
 texts_cons n bytes t ts e f = rw (e, f) refl
 
-texts_cons_none : (n : ℕ) (bytes : List ℕ) (t : List ℕ × List ℕ) → cut_text bytes ≡ Some t → texts_in n t.1 ≡ None → texts_in (suc n) bytes ≡ None
-unfolding texts_in
+texts_cons_none : (n : ℕ) (bytes : List ℕ) (t : List ℕ × List ℕ) → cut_text bytes ≡ Some t → cut_texts n t.1 ≡ None → cut_texts (suc n) bytes ≡ None
+unfolding cut_texts
 texts_cons_none n bytes t e f = rw (e, f) refl
 
 -- the first of several whole texts, and the others
-pub texts_split : (n : ℕ) (bytes : List ℕ) → is_some (texts_in (suc n) bytes) ≡ true →
-    (t : List ℕ × List ℕ) × (ts : List (List ℕ) × List ℕ) × (cut_text bytes ≡ Some t) × (texts_in n t.1 ≡ Some ts) × (texts_in (suc n) bytes ≡ Some (t.0 ∷ ts.0, ts.1))
+pub texts_split : (n : ℕ) (bytes : List ℕ) → is_some (cut_texts (suc n) bytes) ≡ true →
+    (t : List ℕ × List ℕ) × (ts : List (List ℕ) × List ℕ) × (cut_text bytes ≡ Some t) × (cut_texts n t.1 ≡ Some ts) × (cut_texts (suc n) bytes ≡ Some (t.0 ∷ ts.0, ts.1))
 texts_split n bytes whole = elim (cases_option (cut_text bytes)) [
   | inl none ↦ absurd (false≢true (sym (ap is_some (texts_none n bytes none)) ∙ whole))
-  | inr t ↦ elim (cases_option (texts_in n t.0.1)) [
+  | inr t ↦ elim (cases_option (cut_texts n t.0.1)) [
     | inl none ↦ absurd (false≢true (sym (ap is_some (texts_cons_none n bytes t.0 t.1 none)) ∙ whole))
     | inr ts ↦ (t.0, ts.0, t.1, ts.1, texts_cons n bytes t.0 ts.0 t.1 ts.1)
   ]
 ]
 
 -- one of several whole texts
-nth_text_found : (n i : ℕ) (bytes : List ℕ) → i < n → is_some (texts_in n bytes) ≡ true →
-    (rest : List ℕ) × (text : List ℕ × List ℕ) × (rest_of_texts i bytes ≡ Some rest) × (cut_text rest ≡ Some text) × (slice_get (whole_texts (texts_in n bytes)) i ≡ Some text.0)
+nth_text_found : (n i : ℕ) (bytes : List ℕ) → i < n → is_some (cut_texts n bytes) ≡ true →
+    (rest : List ℕ) × (text : List ℕ × List ℕ) × (rest_of_texts i bytes ≡ Some rest) × (cut_text rest ≡ Some text) × (slice_get (whole_texts (cut_texts n bytes)) i ≡ Some text.0)
 nth_text_found zero i bytes lt whole = absurd (omega arith)
 nth_text_found (suc n) zero bytes lt whole =
     let s = texts_split n bytes whole in
@@ -133,20 +133,20 @@ nth_text_found (suc n) (suc i) bytes lt whole =
       ap (λ t. slice_get (whole_texts t) (suc i)) s.4 ∙ sym (ap (λ t. slice_get (whole_texts t) i) s.3) ∙ r.4,
     )
 
-pub nth_rest : (n i : ℕ) (bytes : List ℕ) → i < n → is_some (texts_in n bytes) ≡ true → is_some (rest_of_texts i bytes) ≡ true
+pub nth_rest : (n i : ℕ) (bytes : List ℕ) → i < n → is_some (cut_texts n bytes) ≡ true → is_some (rest_of_texts i bytes) ≡ true
 nth_rest n i bytes lt whole = ap is_some (nth_text_found n i bytes lt whole).2
 
 -- one of several whole texts, by what was read
-pub nth_text_read : (n i : ℕ) (bytes rest : List ℕ) → i < n → is_some (texts_in n bytes) ≡ true → rest_of_texts i bytes ≡ Some rest →
-    (text : List ℕ × List ℕ) × (cut_text rest ≡ Some text) × (slice_get (whole_texts (texts_in n bytes)) i ≡ Some text.0)
+pub nth_text_read : (n i : ℕ) (bytes rest : List ℕ) → i < n → is_some (cut_texts n bytes) ≡ true → rest_of_texts i bytes ≡ Some rest →
+    (text : List ℕ × List ℕ) × (cut_text rest ≡ Some text) × (slice_get (whole_texts (cut_texts n bytes)) i ≡ Some text.0)
 nth_text_read n i bytes rest lt whole read =
     let f = nth_text_found n i bytes lt whole in
     let same : f.0 ≡ rest = cc in
     (f.1, subst (λ r. cut_text r ≡ Some f.1) same f.3, f.4)
 
 -- whole texts are as many as they are counted
-pub length-whole_texts : (n : ℕ) (bytes : List ℕ) → is_some (texts_in n bytes) ≡ true → length (whole_texts (texts_in n bytes)) ≡ n
-unfolding texts_in
+pub length-whole_texts : (n : ℕ) (bytes : List ℕ) → is_some (cut_texts n bytes) ≡ true → length (whole_texts (cut_texts n bytes)) ≡ n
+unfolding cut_texts
 length-whole_texts zero bytes whole = refl
 length-whole_texts (suc n) bytes whole =
     let s = texts_split n bytes whole in

@@ -1,2 +1,3 @@
 -- What the laws of the crate say, and the words that they alone need.
 pub mod Numbers
+pub mod Spelling

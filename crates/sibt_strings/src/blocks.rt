@@ -1,7 +1,7 @@
 //! The parts of a string package behind its fixed part.
 
 ghost use Rattle.std.specs.Prelude.{◌≡◌, IfErr, OnOk, option_map};
-ghost use Rattle.sibt_strings.specs.Strings.{language_in};
+ghost use Rattle.browser_rules.specs.Strings.{language_in};
 ghost use Rattle.sibt_strings.specs.code.Views.{HoldsBlocks, IsBlockFault};
 
 use crate::front::{Front, front_at};

@@ -1,8 +1,9 @@
 //! What the blocks of a string package tell of one string id.
 
 ghost use Rattle.std.specs.Prelude.{◌≡◌, ◌+◌, ◌<◌, ℕ, List, Option, length, Some, slice_get};
-ghost use Rattle.sibt_strings.specs.Blocks as spec;
-ghost use Rattle.sibt_strings.specs.Strings.{texts_of, with_block};
+ghost use Rattle.browser_rules.specs.Strings.{cut_texts};
+ghost use Rattle.sibt_strings.specs.code.Blocks as spec;
+ghost use Rattle.sibt_strings.specs.code.Blocks.{texts_said, with_block};
 
 use crate::block::{Block, Texts};
 use crate::front::{skip_texts, split_block, split_text};
@@ -22,7 +23,7 @@ ghost use Rattle.sibt_strings.specs.code.Views.{units_in, whole_texts, block_see
 // One of several texts, counted from 0.
 fn nth_text(texts: Texts<'_>, n: u16) -> Units<'_>
     requires { n < texts.count }
-    ensures { slice_get (whole_texts (spec.texts_in texts.entry.count texts.entry.bytes.now)) n
+    ensures { slice_get (whole_texts (cut_texts texts.entry.count texts.entry.bytes.now)) n
         ≡ Some (units_in result) }
 {
     let rest = skip_texts(n, texts.bytes).unwrap();
@@ -64,7 +65,7 @@ fn entry_in(block: Block<'_>, n: u16, id: u16) -> Entry<'_>
 /// What the blocks tell of a string id.
 pub(crate) fn entry_at(blocks: &[u8], id: u16) -> Entry<'_>
     ensures { (whole : List spec.Block) → spec.AreBlocks blocks.now whole
-        → TellsOf (texts_of whole) id result }
+        → TellsOf (texts_said whole) id result }
 {
     if id == 0 {
         return Entry::Nothing;

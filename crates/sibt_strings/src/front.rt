@@ -1,7 +1,8 @@
 //! The block at the front of the bytes of blocks.
 
 ghost use Rattle.std.specs.Prelude.{◌≡◌, ◌+◌, ◌<◌, length, IfSome, MatchOption, option_map};
-ghost use Rattle.sibt_strings.specs.Blocks.{cut_text, texts_in, front_of, texts_block, extension_block};
+ghost use Rattle.browser_rules.specs.Strings.{cut_text, cut_texts};
+ghost use Rattle.sibt_strings.specs.code.Blocks.{front_of, texts_block, extension_block};
 ghost use Rattle.sibt_strings.specs.code.Ends.{Stops};
 ghost use Rattle.sibt_strings.specs.code.Views.{units_in, head_seen, head_or_bad, front_seen, EndsWith, HasBehind, LiesIn, LeavesLess, SplitsInto};
 
@@ -55,7 +56,7 @@ pub(crate) fn split_text(bytes: &[u8]) -> Option<(Units<'_>, &[u8])>
 /// The bytes behind so many texts.
 pub(crate) fn skip_texts(count: u16, bytes: &[u8]) -> Option<&[u8]>
     ensures behind { option_map (λ rest. rest.now) result
-        ≡ option_map (λ t. t.1) (texts_in count bytes.now) }
+        ≡ option_map (λ t. t.1) (cut_texts count bytes.now) }
     ensures rest { IfSome result (λ rest. EndsWith bytes.now rest.now) }
 {
     let mut rest = bytes;
@@ -68,7 +69,7 @@ pub(crate) fn skip_texts(count: u16, bytes: &[u8]) -> Option<&[u8]>
 
 // A block of so many texts.
 fn texts_front(count: u16, bytes: &[u8]) -> Front<'_>
-    ensures front { front_seen result ≡ texts_block (texts_in count bytes.now) }
+    ensures front { front_seen result ≡ texts_block (cut_texts count bytes.now) }
     ensures inside { LiesIn result bytes.now }
     ensures shorter { LeavesLess result (length bytes.now + 1) }
 {
@@ -93,7 +94,7 @@ fn extension_head(header: usize, size: usize, bytes: &[u8]) -> Option<Head<'_>>
 }
 
 // What stands at the front of the bytes of blocks; none where that is no known block or its fields are cut.
-#[tactic(auto, unfolding(crate::specs::Blocks::front_of))]
+#[tactic(auto, unfolding(crate::specs::code::Blocks::front_of))]
 fn known_head(bytes: &[u8]) -> Option<Head<'_>>
     ensures head { head_or_bad result ≡ front_of bytes.now }
     ensures inside { IfSome result (λ head. HasBehind head (EndsWith bytes.now)) }

@@ -1,9 +1,12 @@
 //! The parts of a string package.
 
 ghost use Rattle.std.specs.Prelude.{◌≡◌, ◌+◌, ◌<◌, Some, IfOk, IfErr, option_map};
-ghost use Rattle.hii_bytes.specs.Faults.{IsLeast};
+ghost use Rattle.browser_rules.specs.Faults.{string_package_faults};
+ghost use Rattle.hii_bytes.specs.Faults.{IsLeastAmong};
+ghost use Rattle.hii_packages.specs.code.Package.{package_of};
 ghost use Rattle.hii_bytes.specs.declared.cause.Cause.TheVariants.{LanguageText};
-ghost use Rattle.sibt_strings.specs.Strings.{HasFixedPart, IsStringFaultIn, info_offset, language_of, blocks_of};
+ghost use Rattle.sibt_strings.specs.code.Parts.{HasFixedPart, blocks_of};
+ghost use Rattle.browser_rules.specs.Strings.{info_offset, language_of};
 ghost use Rattle.sibt_strings.specs.code.Views.{HoldsBlocks, IsBlockFault};
 
 use crate::blocks::language_at;
@@ -21,7 +24,7 @@ pub(crate) struct Parts<'a> {
     pub(crate) ghost fixed: { HasFixedPart source.bytes.now },
     pub(crate) ghost offset_is: { offset ≡ info_offset source.bytes.now },
     pub(crate) ghost language_is: { option_map (λ language. language.now) language
-        ≡ language_of source.bytes.now },
+        ≡ language_of (package_of source) },
     pub(crate) ghost blocks_are: { block_bytes.now ≡ blocks_of source.bytes.now },
 }
 
@@ -30,7 +33,7 @@ impl<'a> Parts<'a> {
     pub(crate) fn of(source: Package<'a>) -> Result<Parts<'a>, Fault>
         ensures parts { IfOk result (λ parts. parts.source ≡ source.entry) }
         ensures refused { IfErr result
-            (IsLeast (IsStringFaultIn source.entry.bytes.now source.entry.place)) }
+            (IsLeastAmong (string_package_faults (package_of source.entry))) }
     {
         let bytes = source.bytes;
         if bytes.len() < 46 {
@@ -59,9 +62,9 @@ impl<'a> Parts<'a> {
     pub(crate) fn language(self) -> Result<&'a [u8], Fault>
         requires { HoldsBlocks self.block_bytes.now }
         ensures language { IfOk result (λ language.
-            language_of self.entry.source.bytes.now ≡ Some language.now) }
+            language_of (package_of self.entry.source) ≡ Some language.now) }
         ensures refused { IfErr result
-            (IsLeast (IsStringFaultIn self.entry.source.bytes.now self.entry.source.place)) }
+            (IsLeastAmong (string_package_faults (package_of self.entry.source))) }
     {
         self.language.ok_or(self.bad_language())
     }
@@ -69,8 +72,7 @@ impl<'a> Parts<'a> {
     /// The least fault of a package with a bad block, whose fault is given by its place from the first block.
     pub(crate) fn least_fault(self, bad_block: Fault) -> Fault
         requires { IsBlockFault self.block_bytes.now bad_block }
-        ensures { IsLeast (IsStringFaultIn self.entry.source.bytes.now self.entry.source.place)
-            result }
+        ensures { IsLeastAmong (string_package_faults (package_of self.entry.source)) result }
     {
         let at = self.offset as u64 + bad_block.place;
         if self.language.is_none() && 46 < at {

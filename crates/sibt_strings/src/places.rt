@@ -1,7 +1,8 @@
 //! The places of the texts of string ids, gathered in a walk over blocks.
 
 ghost use Rattle.std.specs.Prelude.{◌+◌, ◌<◌, ◌^◌, ℕ, List, [], ◌∷◌, ◌++◌, Option, Some, length, IfOk, IfErr, OnOk};
-ghost use Rattle.sibt_strings.specs.Blocks as spec;
+ghost use Rattle.browser_rules.specs.Strings.{cut_texts};
+ghost use Rattle.sibt_strings.specs.code.Blocks as spec;
 ghost use Rattle.sibt_strings.specs.code.Views.{EndsWith, HoldsBlocks, IsBlockFault};
 ghost use Rattle.sibt_strings.specs.code.Table.{text_of_place, IsNext, IsTabled, Adds, HasTable, Steps, StepsTo};
 
@@ -75,7 +76,7 @@ impl TextPlaces {
         requires small { length blocks.now < 2 ^ 24 }
         requires inside { EndsWith blocks.now texts.now }
         ensures steps { IfOk result (λ step. Steps blocks.now
-            (spec.texts_block (spec.texts_in count texts.entry.now)) step self.old self.new) }
+            (spec.texts_block (cut_texts count texts.entry.now)) step self.old self.new) }
         ensures inside { IfOk result (StepsTo (EndsWith texts.entry.now)) }
     {
         let mut rest = texts;

@@ -1,8 +1,10 @@
 //! The strings of a package, read from its bytes.
 
-ghost use Rattle.std.specs.Prelude.{◌≡◌, ◌<◌, ◌^◌, length, IfOk, IfErr, IsOk, option_map};
-ghost use Rattle.hii_bytes.specs.Faults.{IsLeast};
-ghost use Rattle.sibt_strings.specs.Strings.{Spoken, Speaks, IsStringFaultIn, text_at};
+ghost use Rattle.std.specs.Prelude.{◌≡◌, [], IfOk, IfErr, IsOk, option_map};
+ghost use Rattle.browser_rules.specs.Faults.{string_package_faults};
+ghost use Rattle.hii_bytes.specs.Faults.{IsLeastAmong};
+ghost use Rattle.hii_packages.specs.code.Package.{package_of};
+ghost use Rattle.browser_rules.specs.Strings.{spoken_by, text_at};
 ghost use Rattle.sibt_strings.specs.code.Views.{units_in};
 
 use crate::blocks::check_blocks;
@@ -22,7 +24,7 @@ pub struct Strings<'a> {
 
 impl<'a> Model for Strings<'a> {
     ghost use Rattle.std.specs.Prelude.{◌<◌, ◌^◌, length};
-    ghost use Rattle.sibt_strings.specs.Strings.{Spoken};
+    ghost use Rattle.browser_rules.specs.Strings.{Spoken};
 
     ghost Value = { Spoken };
 
@@ -39,11 +41,11 @@ impl<'a> Strings<'a> {
     /// LanguageText where the language has no NUL or a byte above 0x7E before it, StringBlock at a block that is unknown
     /// or cut and where the end block is missing, StringText at a block with a text without a zero unit.
     pub fn read(source: Package<'a>) -> Result<Strings<'a>, Fault>
-        ensures spoken { IfOk result (Speaks source.entry.bytes.now) }
-        ensures refused { IfErr result
-            (IsLeast (IsStringFaultIn source.entry.bytes.now source.entry.place)) }
-        // What says something is read.
-        ensures accepted { (spoken : Spoken) → Speaks source.entry.bytes.now spoken → IsOk result }
+        ensures spoken { IfOk result (λ spoken. spoken ≡ spoken_by (package_of source.entry)) }
+        ensures sound { IfOk result (λ _. string_package_faults (package_of source.entry) ≡ []) }
+        ensures refused { IfErr result (IsLeastAmong (string_package_faults (package_of source.entry))) }
+        // A package without a fault is read.
+        ensures accepted { string_package_faults (package_of source.entry) ≡ [] → IsOk result }
     {
         let parts = Parts::of(source)?;
         match check_blocks(parts.block_bytes) {

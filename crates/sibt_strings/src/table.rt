@@ -1,8 +1,10 @@
 //! A table of the texts of a string package.
 
-ghost use Rattle.std.specs.Prelude.{◌≡◌, IfOk, IfErr, option_map};
-ghost use Rattle.hii_bytes.specs.Faults.{Refuses, out_of_memory};
-ghost use Rattle.sibt_strings.specs.Strings.{Spoken, Speaks, IsStringFaultIn, text_at};
+ghost use Rattle.std.specs.Prelude.{◌≡◌, [], IfOk, IfErr, option_map};
+ghost use Rattle.browser_rules.specs.Faults.{string_package_faults};
+ghost use Rattle.hii_bytes.specs.Faults.{RefusesAmong, out_of_memory};
+ghost use Rattle.hii_packages.specs.code.Package.{package_of};
+ghost use Rattle.browser_rules.specs.Strings.{spoken_by, text_at};
 ghost use Rattle.sibt_strings.specs.code.Views.{units_in};
 
 use crate::front::split_text;
@@ -25,7 +27,7 @@ pub struct StringTable<'a> {
 }
 
 impl<'a> Model for StringTable<'a> {
-    ghost use Rattle.sibt_strings.specs.Strings.{Spoken};
+    ghost use Rattle.browser_rules.specs.Strings.{Spoken};
 
     ghost Value = { Spoken };
 
@@ -41,11 +43,11 @@ impl<'a> StringTable<'a> {
     /// A table of the texts of a string package, or its least fault: those of Strings::read, and OutOfMemory (60) at 0
     /// where an allocation fails. It takes 8 bytes for each string id that has a text.
     pub fn of_package(alloc: Global, source: Package<'a>) -> Result<StringTable<'a>, Fault>
-        ensures read { IfOk result (Speaks source.entry.bytes.now) }
-        ensures refused { IfErr result
-            (Refuses (IsStringFaultIn source.entry.bytes.now source.entry.place)) }
-        // What says something is read, unless an allocation fails.
-        ensures accepted { (spoken : Spoken) → Speaks source.entry.bytes.now spoken
+        ensures read { IfOk result (λ spoken. spoken ≡ spoken_by (package_of source.entry)) }
+        ensures sound { IfOk result (λ _. string_package_faults (package_of source.entry) ≡ []) }
+        ensures refused { IfErr result (RefusesAmong (string_package_faults (package_of source.entry))) }
+        // A package without a fault is read, unless an allocation fails.
+        ensures accepted { string_package_faults (package_of source.entry) ≡ []
             → IfErr result (λ fault. fault ≡ out_of_memory) }
     {
         let parts = Parts::of(source)?;

@@ -2,7 +2,7 @@
 
 ghost use Rattle.std.specs.Prelude.{◌≡◌, ◌%◌, length};
 ghost use Rattle.std.specs.Option.{option_to_list};
-ghost use Rattle.sibt_strings.specs.Units.{shown_unit};
+ghost use Rattle.browser_rules.specs.Strings.{shown_unit};
 
 /// The units of a text, two bytes each, the low byte first (UEFI 2.8, 33.2.6 Strings).
 #[derive(Clone, Copy, PartialEq, Eq)]
@@ -12,7 +12,7 @@ pub struct Units<'a> {
 }
 
 impl<'a> Units<'a> {
-    ghost use Rattle.sibt_strings.specs.Units.{chars_of_units};
+    ghost use Rattle.browser_rules.specs.Strings.{characters};
     ghost use Rattle.sibt_strings.specs.code.Views.{units_in, chars_left};
 
     /// The units that the bytes are, of which there is an even number.
@@ -26,7 +26,7 @@ impl<'a> Units<'a> {
     /// The characters that are shown of the text (own rule): a unit of a surrogate as U+FFFD, a control as a space,
     /// 0xFFF0 to 0xFFF2 as nothing, any other unit as its character.
     pub fn chars(self) -> UnitChars<'a>
-        ensures { chars_left result ≡ chars_of_units (units_in self.entry) }
+        ensures { chars_left result ≡ characters (units_in self.entry) }
     {
         UnitChars { rest: self.bytes }
     }

@@ -1,8 +1,6 @@
 -- What is kept of the string packages of a list.
-use Rattle.std.specs.Prelude.{ℕ, ◌==◌, if◌then◌else◌, Option, None, Some, List, map, slice_get}
-use Rattle.sibt_strings.specs.Strings.{text_at}
-use Rattle.hii_languages.specs.Languages.{Spoken}
-use Rattle.hii_languages.specs.Shown.{Nothing, characters, text_or_missing}
+use Rattle.std.specs.Prelude.{ℕ, ◌==◌, if◌then◌else◌, Option, None, Some, option_map, unwrap_or, List, [], ◌∷◌, map, slice_get, decimal}
+use Rattle.browser_rules.specs.Strings.{Spoken, text_at, characters}
 
 -- the languages of the string packages, in order, and what the first says
 pub record Heard : Type 0 where
@@ -23,4 +21,4 @@ text_in_first (Some spoken) id = text_at spoken.texts id
 -- the characters that are shown of a string id by it
 abbrev pub shown_in_first : Option Spoken → ℕ → List ℕ
 shown_in_first first id =
-    characters (if id == 0 then Nothing else text_or_missing id (text_in_first first id))
+    if id == 0 then [] else unwrap_or (option_map characters (text_in_first first id)) (35 ∷ decimal id)

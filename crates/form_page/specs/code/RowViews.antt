@@ -1,7 +1,7 @@
 -- What the values of rows stand for.
 use Rattle.std.specs.Prelude.{ℕ, if◌then◌else◌, option_map, List, [], codes, decimal}
 use Rattle.std.specs.Fmt.{signed_decimal}
-use Rattle.sibt_strings.specs.Units.{chars_of_units}
+use Rattle.browser_rules.specs.Strings.{characters}
 use Rattle.sibt_strings.specs.code.Views.{units_in}
 use Rattle.ifr_opcodes.specs.declared.numbers.Display.TheVariants as display
 use Rattle.hii_languages.specs.code.Views.{text_of}
@@ -20,7 +20,7 @@ value_text (value.Signed n) = signed_decimal n
 value_text (value.Hexadecimal n) = number_text display.Hexadecimal n.width n.number
 value_text (value.OneOf option) = one_of_text (option_map text_of option)
 value_text (value.OrderedList elements) = list_text (elements_left elements)
-value_text (value.String units) = chars_of_units (units_in units)
+value_text (value.String units) = characters (units_in units)
 value_text (value.Password is_there) = if is_there then codes "****" else []
 value_text (value.Reference form) = reference_text form
 value_text value.ResetButton = codes "reset"

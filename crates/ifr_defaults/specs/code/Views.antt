@@ -2,8 +2,7 @@
 use Rattle.std.specs.Prelude.{ℕ, Option, List}
 use Rattle.ifr_expr.specs.Values.{Value}
 use Rattle.ifr_scopes.specs.code.Rules.{rules_of}
-use Rattle.hii_languages.specs.Languages.{Spoken}
-use Rattle.hii_languages.specs.Shown.{text_under}
+use Rattle.browser_rules.specs.Strings.{Spoken, text_of}
 use Rattle.ifr_defaults.specs.Defaults.{Sources}
 
 -- the rules of a forms package, what questions answer, and the texts of string packages of which one is chosen
@@ -11,5 +10,5 @@ abbrev pub sources_of : List ℕ → (ℕ → Value) → List Spoken → Option 
 sources_of forms answers languages choice = record {
   rules = rules_of forms;
   answers = answers;
-  texts = text_under languages choice;
+  texts = text_of languages choice;
 }

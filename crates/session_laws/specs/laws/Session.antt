@@ -10,14 +10,13 @@ use Rattle.session_steps.specs.Step.{Outcome}
 use Rattle.session_steps.specs.code.Browsable.{IsBrowsable}
 use Rattle.session_laws.specs.Replies.{reply_for}
 use Rattle.rules_laws.specs.laws.Stores.{stores_for}
-use Rattle.rules_laws.specs.laws.Strings.{spoken_for}
 
 unfoldable pub state_for : State → chapter.State
 state_for s = record {
   ifr = s.ifr;
   path = s.path;
   removed = s.removed;
-  spoken = map spoken_for s.spoken;
+  spoken = s.spoken;
   language = s.language;
   committed = stores_for s.committed;
   working = stores_for s.working;

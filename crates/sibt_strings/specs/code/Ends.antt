@@ -1,5 +1,5 @@
 -- Where the blocks of a string package end.
-use Rattle.sibt_strings.specs.Blocks.{Front, End, Whole, CutText, BadBlock}
+use Rattle.sibt_strings.specs.code.Blocks.{Front, End, Whole, CutText, BadBlock}
 
 -- no whole block
 abbrev pub Stops : Front → Type 0

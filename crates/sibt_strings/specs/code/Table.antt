@@ -1,8 +1,8 @@
 -- Where the texts of string ids stand (own rule; the ids and texts are those of UEFI 2.8, 33.3.6.2 String Information).
 use Rattle.std.specs.Prelude.{◌≡◌, ◌⊎◌, ℕ, ◌+◌, ◌<◌, ◌≤◌, ◌^◌, ◌==◌, if◌then◌else◌, List, [], ◌∷◌, length, drop, Option, None, Some, option_map}
 use Rattle.hii_bytes.specs.declared.cause.Cause.TheVariants.{StringBlock, StringText}
-use Rattle.sibt_strings.specs.Blocks.{Block, Front, End, Whole, CutText, BadBlock, cut_text}
-use Rattle.sibt_strings.specs.Strings.{text_at, texts_of, with_block}
+use Rattle.browser_rules.specs.Strings.{cut_text, text_at}
+use Rattle.sibt_strings.specs.code.Blocks.{Block, Front, End, Whole, CutText, BadBlock, texts_said, with_block}
 use Rattle.sibt_strings.specs.code.Views.{blocks_in}
 use Rattle.sibt_strings.specs.declared.place.TextPlace.{TextPlace}
 use Rattle.sibt_strings.specs.declared.places.TextPlaces.{TextPlaces}
@@ -32,7 +32,7 @@ pub record IsTable (bytes : List ℕ) (texts : List (Option (List ℕ)))
 
 -- the places of the texts of these blocks
 abbrev pub HasTable : List ℕ → List TextPlace → Type 0
-HasTable bytes places = IsTable bytes (texts_of (blocks_in (length bytes) bytes)) places
+HasTable bytes places = IsTable bytes (texts_said (blocks_in (length bytes) bytes)) places
 
 -- the next id, if a number of 16 bits names it
 abbrev pub IsNext : Option ℕ → ℕ → Type 0

@@ -2,9 +2,8 @@
 use Rattle.std.specs.Prelude.{◌≡◌, ◌⊎◌, ℕ, zero, suc, ◌<◌, ◌≤◌, length, List, [], ◌∷◌, ◌++◌, Option, None, Some}
 use Rattle.hii_bytes.specs.declared.cause.Cause.TheVariants.{StringBlock, StringText}
 use Rattle.hii_bytes.specs.declared.cause.Fault.{Fault}
-use Rattle.sibt_strings.specs.Blocks as spec
-use Rattle.sibt_strings.specs.Strings.{Spoken, text_at, texts_of}
-use Rattle.sibt_strings.specs.Units.{chars_of_units}
+use Rattle.browser_rules.specs.Strings.{Spoken, characters, cut_texts, text_at}
+use Rattle.sibt_strings.specs.code.Blocks as spec
 use Rattle.sibt_strings.specs.declared.block.Block.{Block}
 use Rattle.sibt_strings.specs.declared.block.Block.TheVariants as block
 use Rattle.sibt_strings.specs.declared.front.Head.{Head}
@@ -22,7 +21,7 @@ units_in units = units.bytes.now
 
 -- the characters that are left
 abbrev pub chars_left : UnitChars → List ℕ
-chars_left it = chars_of_units it.rest.now
+chars_left it = characters it.rest.now
 
 abbrev pub whole_texts : Option (List (List ℕ) × List ℕ) → List (List ℕ)
 whole_texts None = []
@@ -30,7 +29,7 @@ whole_texts (Some t) = t.0
 
 abbrev pub block_seen : Block → spec.Block
 block_seen (block.Texts texts) =
-    spec.Texts (whole_texts (spec.texts_in texts.count texts.bytes.now))
+    spec.Texts (whole_texts (cut_texts texts.count texts.bytes.now))
 block_seen (block.Duplicate id) = spec.Duplicate id
 block_seen (block.Skip count) = spec.Skip count
 block_seen block.Extension = spec.Extension
@@ -43,7 +42,7 @@ front_seen front.BadBlock = spec.BadBlock
 
 abbrev pub head_seen : Head → spec.Front
 head_seen head.End = spec.End
-head_seen (head.Texts count bytes) = spec.texts_block (spec.texts_in count bytes.now)
+head_seen (head.Texts count bytes) = spec.texts_block (cut_texts count bytes.now)
 head_seen (head.Duplicate id rest) = spec.Whole (spec.Duplicate id) rest.now
 head_seen (head.Skip count rest) = spec.Whole (spec.Skip count) rest.now
 head_seen (head.Extension rest) = spec.Whole spec.Extension rest.now
@@ -124,7 +123,7 @@ blocks_in (suc n) bytes = blocks_from (spec.front_of bytes) (λ behind. blocks_i
 -- what a language and the bytes of blocks say
 abbrev pub spoken_in : List ℕ → List ℕ → Spoken
 spoken_in language bytes =
-    record { language = language; texts = texts_of (blocks_in (length bytes) bytes) }
+    record { language = language; texts = spec.texts_said (blocks_in (length bytes) bytes) }
 
 -- the bytes are blocks up to an end block, of which there are no more than bytes
 abbrev pub HoldsBlocks : List ℕ → Type 0

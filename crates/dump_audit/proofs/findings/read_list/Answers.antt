@@ -1,9 +1,9 @@
-use Rattle.std.proofs.Common.{ℕ, List, ap, subst}
+use Rattle.std.proofs.Common.{ap, sym, ◌∙◌}
 use Rattle.std.proofs.lemmas.Result.{err_from_is_err_and}
-use Rattle.browser_rules.specs.Packages.{STRINGS, packages_with}
+use Rattle.browser_rules.specs.Faults.{string_faults}
+use Rattle.browser_rules.specs.Strings.{spoken_in}
 use Rattle.hii_packages.specs.Packages.{packages_of}
-use Rattle.hii_languages.specs.Languages.{AreSpoken}
-use Rattle.dump_audit.proofs.FaultLemmas.{list_refuses, text_refuses}
+use Rattle.dump_audit.proofs.FaultLemmas.{list_refuses, text_faults, text_refuses}
 use Rattle.dump_audit.proofs.findings.read_list.Goals as goal
 
 pub returns-in_err-packages-clause-refused : goal.returns-in_err-packages-clause-refused
@@ -19,6 +19,5 @@ returns-in_err-strings-clause-refused c =
 pub returns-clause-found : goal.returns-clause-found
 returns-clause-found c =
     let read = c.in_ok-packages.ensures.read in
-    let said = c.in_ok-strings.ensures.read in
-    let spoken = subst (λ (list : List ℕ). AreSpoken (packages_with STRINGS list) said.0) read said.1 in
-    (said.0, (c.in_ok-packages.ensures.sound, ap packages_of read, spoken), said.2)
+    let sound = text_faults c.args.bytes.now c.in_ok-packages.ensures.sound ∙ sym (ap string_faults read) ∙ c.in_ok-strings.ensures.sound in
+    (spoken_in c.in_ok-packages.packages, (sound, ap packages_of read, ap spoken_in read), c.in_ok-strings.ensures.read)

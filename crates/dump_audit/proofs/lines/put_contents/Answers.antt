@@ -1,7 +1,6 @@
-use Rattle.std.proofs.Common.{◌≡◌, sym, ap, ◌∙◌}
+use Rattle.std.proofs.Common.{◌≡◌, Some, sym, ap, ◌∙◌}
 use Rattle.hii_bytes.proofs.WritingLemmas.{◌⨾◌}
-use Rattle.hii_languages.specs.Languages.{first_package}
-use Rattle.hii_languages.specs.Shown.{shown_text}
+use Rattle.browser_rules.specs.Strings as chapter
 use Rattle.hii_languages.specs.code.Views.{chars_left}
 use Rattle.dump_audit.specs.code.Heard.{Heard, shown_in_first}
 use Rattle.dump_audit.proofs.ContentLemmas.{shown_first}
@@ -11,7 +10,7 @@ use Rattle.dump_audit.proofs.lines.put_contents.Goals as goal
 pub returns-in-Some : goal.returns-in-Some
 returns-in-Some g c = λ spoken kept.
     let id = c.in-Some.id in
-    let shown : chars_left c.chars.result ≡ shown_text spoken (first_package spoken) id =
+    let shown : chars_left c.chars.result ≡ chapter.shown spoken (Some 0) id =
     c.chars.ensures ∙ c.shown.ensures ∙ ap (λ (h : Heard). shown_in_first h.first id) kept ∙ shown_first spoken id in
     let languages = rw (ap (λ (h : Heard). h.languages) kept) at c.put_languages.ensures in
     let before = rw c.forms_count.ensures at (c.put.ensures ⨾ c.put_decimal.ensures ⨾ c.put_form_sets-title.ensures.text ⨾ c.put-2.ensures ⨾ languages) in

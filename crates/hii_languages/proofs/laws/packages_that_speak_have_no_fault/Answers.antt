@@ -1,5 +1,5 @@
-use Rattle.hii_languages.proofs.SpokenLemmas.{spoken_sound}
+use Rattle.hii_languages.proofs.SpokenLemmas.{speech_of_each}
 use Rattle.hii_languages.proofs.laws.packages_that_speak_have_no_fault.Goals as goal
 
 pub returns : goal.returns
-returns c = spoken_sound
+returns c = λ ps spoken are. (speech_of_each ps spoken are).sound

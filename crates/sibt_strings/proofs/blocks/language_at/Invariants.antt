@@ -1,5 +1,5 @@
 use Rattle.std.proofs.Common.{◌≡◌, take, drop}
-use Rattle.sibt_strings.specs.Strings.{language_in}
+use Rattle.browser_rules.specs.Strings.{language_in}
 use Rattle.sibt_strings.proofs.BlockLemmas.{language_behind}
 use Rattle.sibt_strings.proofs.blocks.language_at.Given as goal
 

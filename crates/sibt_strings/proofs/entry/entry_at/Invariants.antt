@@ -1,5 +1,5 @@
 use Rattle.std.proofs.Common.{◌+◌, ◌-◌, ◌≤◌, List, length}
-use Rattle.sibt_strings.specs.Blocks.{Block, AreBlocks}
+use Rattle.sibt_strings.specs.code.Blocks.{Block, AreBlocks}
 use Rattle.sibt_strings.proofs.IdLemmas.{Left}
 use Rattle.sibt_strings.proofs.entry.entry_at.Given as goal
 

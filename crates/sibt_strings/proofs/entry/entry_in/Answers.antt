@@ -1,5 +1,5 @@
 use Rattle.std.proofs.Common.{sym, ap, subst, arith}
-use Rattle.sibt_strings.specs.Strings.{with_block}
+use Rattle.sibt_strings.specs.code.Blocks.{with_block}
 use Rattle.sibt_strings.specs.code.Views.{block_seen, count_of, TellsOf}
 use Rattle.sibt_strings.specs.declared.entry.Entry.TheVariants as entry
 use Rattle.sibt_strings.proofs.TextLemmas.{length-whole_texts}

@@ -1,5 +1,5 @@
-use Rattle.hii_bytes.proofs.FirstFaultLemmas.{accepted_without}
+use Rattle.sibt_strings.proofs.FaultLemmas.{read_speech}
 use Rattle.sibt_strings.proofs.laws.packages_without_fault_speak.Goals as goal
 
-pub returns-in-Err : goal.returns-in-Err
-returns-in-Err c = λ none. absurd (accepted_without _ _ c.in-Err.ensures.refused none)
+pub returns : goal.returns
+returns c = read_speech

@@ -28,22 +28,22 @@ returns-in_err-languages-clause-accepted c =
 pub returns-in_err-parts-clause-refused : goal.returns-in_err-parts-clause-refused
 returns-in_err-parts-clause-refused c =
     let p = err_from_is_err_and c.from_residual-in_err-parts.result c.from_residual-in_err-parts.ensures.1 in
-    rw (p.1, p.2) (refuses_form_set c.args.list.now c.args.forms c.args.stores.now c.in_ok-found.found.forms.bytes.now _ (is_found c.args.list.now c.in_ok-found.found.packages c.args.forms (package_of c.in_ok-found.found.forms) _ c.in_ok-languages.languages c.in_ok-found.ensures.read c.in_ok-found.ensures.found refl c.in_ok-languages.ensures.read) c.in_err-parts.ensures.refused)
+    rw (p.1, p.2) (refuses_form_set c.args.list.now c.args.forms c.args.stores.now c.in_ok-found.found.forms.bytes.now _ (is_found c.args.list.now c.in_ok-found.found.packages c.args.forms (package_of c.in_ok-found.found.forms) _ c.in_ok-languages.languages c.in_ok-found.ensures.read c.in_ok-found.ensures.found refl (c.in_ok-languages.ensures.sound, c.in_ok-languages.ensures.read)) c.in_err-parts.ensures.refused)
 
 pub returns-in_err-parts-clause-accepted : goal.returns-in_err-parts-clause-accepted
 returns-in_err-parts-clause-accepted c =
     let p = err_from_is_err_and c.from_residual-in_err-parts.result c.from_residual-in_err-parts.ensures.1 in
-    λ start o. rw (p.1, p.2) (only_memory c.args.list.now c.args.forms c.args.stores.now c.args.lang.now start _ o (refuses_form_set c.args.list.now c.args.forms c.args.stores.now c.in_ok-found.found.forms.bytes.now _ (is_found c.args.list.now c.in_ok-found.found.packages c.args.forms (package_of c.in_ok-found.found.forms) _ c.in_ok-languages.languages c.in_ok-found.ensures.read c.in_ok-found.ensures.found refl c.in_ok-languages.ensures.read) c.in_err-parts.ensures.refused))
+    λ start o. rw (p.1, p.2) (only_memory c.args.list.now c.args.forms c.args.stores.now c.args.lang.now start _ o (refuses_form_set c.args.list.now c.args.forms c.args.stores.now c.in_ok-found.found.forms.bytes.now _ (is_found c.args.list.now c.in_ok-found.found.packages c.args.forms (package_of c.in_ok-found.found.forms) _ c.in_ok-languages.languages c.in_ok-found.ensures.read c.in_ok-found.ensures.found refl (c.in_ok-languages.ensures.sound, c.in_ok-languages.ensures.read)) c.in_err-parts.ensures.refused))
 
 pub returns-in_err-held-clause-refused : goal.returns-in_err-held-clause-refused
 returns-in_err-held-clause-refused c =
     let p = err_from_is_err_and c.from_residual-in_err-held.result c.from_residual-in_err-held.ensures.1 in
-    rw (p.1, p.2) (refuses_image c.args.list.now c.args.forms c.args.stores.now c.in_ok-parts.parts.forms _ _ (is_found c.args.list.now c.in_ok-found.found.packages c.args.forms (package_of c.in_ok-found.found.forms) _ c.in_ok-languages.languages c.in_ok-found.ensures.read c.in_ok-found.ensures.found c.in_ok-parts.ensures.forms c.in_ok-languages.ensures.read) c.in_ok-parts.ensures.read.browsable refl c.in_err-held.ensures.refused)
+    rw (p.1, p.2) (refuses_image c.args.list.now c.args.forms c.args.stores.now c.in_ok-parts.parts.forms _ _ (is_found c.args.list.now c.in_ok-found.found.packages c.args.forms (package_of c.in_ok-found.found.forms) _ c.in_ok-languages.languages c.in_ok-found.ensures.read c.in_ok-found.ensures.found c.in_ok-parts.ensures.forms (c.in_ok-languages.ensures.sound, c.in_ok-languages.ensures.read)) c.in_ok-parts.ensures.read.browsable refl c.in_err-held.ensures.refused)
 
 pub returns-in_err-held-clause-accepted : goal.returns-in_err-held-clause-accepted
 returns-in_err-held-clause-accepted c =
     let p = err_from_is_err_and c.from_residual-in_err-held.result c.from_residual-in_err-held.ensures.1 in
-    λ start o. rw (p.1, p.2) (only_memory c.args.list.now c.args.forms c.args.stores.now c.args.lang.now start _ o (refuses_image c.args.list.now c.args.forms c.args.stores.now c.in_ok-parts.parts.forms _ _ (is_found c.args.list.now c.in_ok-found.found.packages c.args.forms (package_of c.in_ok-found.found.forms) _ c.in_ok-languages.languages c.in_ok-found.ensures.read c.in_ok-found.ensures.found c.in_ok-parts.ensures.forms c.in_ok-languages.ensures.read) c.in_ok-parts.ensures.read.browsable refl c.in_err-held.ensures.refused))
+    λ start o. rw (p.1, p.2) (only_memory c.args.list.now c.args.forms c.args.stores.now c.args.lang.now start _ o (refuses_image c.args.list.now c.args.forms c.args.stores.now c.in_ok-parts.parts.forms _ _ (is_found c.args.list.now c.in_ok-found.found.packages c.args.forms (package_of c.in_ok-found.found.forms) _ c.in_ok-languages.languages c.in_ok-found.ensures.read c.in_ok-found.ensures.found c.in_ok-parts.ensures.forms (c.in_ok-languages.ensures.sound, c.in_ok-languages.ensures.read)) c.in_ok-parts.ensures.read.browsable refl c.in_err-held.ensures.refused))
 
 pub invariant_of-result : goal.invariant_of-result
 invariant_of-result c =
@@ -68,7 +68,7 @@ returns-clause-opened c =
     let held = c.in_ok-held.ensures.held in
     let working = ap (λ (it : KeptMap). it.stores) held.working in (
       opened c.args.list.now c.in_ok-found.found.packages c.args.forms c.args.stores.now c.args.lang.now (package_of c.in_ok-found.found.forms) _ _ (form_node c.first_form-form.result) c.first_form-form.ensures.first.0
-          c.in_ok-found.ensures.read c.in_ok-found.ensures.found c.in_ok-parts.ensures.forms c.in_ok-languages.ensures.read c.choose-language.ensures
+          c.in_ok-found.ensures.read c.in_ok-found.ensures.found c.in_ok-parts.ensures.forms (c.in_ok-languages.ensures.sound, c.in_ok-languages.ensures.read) c.choose-language.ensures
           read.browsable refl held.spelled working (held.removed ∙ ap (removed_at (nodes_of c.in_ok-parts.parts.forms)) (sym working)) c.first_form-form.ensures.first.1 refl c.new.ensures c.device_path.ensures,
       ap (λ (it : KeptMap). it.renewed) held.working,
     )

@@ -20,4 +20,4 @@ loop-source-preserved-then-source-eq-STRINGS c =
     let now : Bor (List ℕ) → List ℕ = λ language. language.now in
     let pushed : c.push.new.self.items ≡ c.loop-source.languages.items ++ c.language.result ∷ [] = grind (arith, common_steps) in
     let languages = ap (map now) pushed ∙ map-append now c.loop-source.languages.items (c.language.result ∷ []) ∙ ap (λ (l : List ℕ). map now c.loop-source.languages.items ++ l ∷ []) c.language.ensures in
-    rw (languages, c.or-first.ensures) (gathers_more (package_of c.in-Some.source) c.in_ok-table.table c.loop-source.invariant c.in-Some.ensures.steps strings c.in_ok-table.ensures.read)
+    rw (languages, c.or-first.ensures) (gathers_more (package_of c.in-Some.source) c.in_ok-table.table c.loop-source.invariant c.in-Some.ensures.steps strings c.in_ok-table.ensures.read c.in_ok-table.ensures.sound)

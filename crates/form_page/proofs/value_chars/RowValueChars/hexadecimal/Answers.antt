@@ -1,9 +1,9 @@
 use Rattle.std.proofs.Common.{◌∙◌, ap, List, ℕ, ◌++◌, ◌*◌}
-use Rattle.sibt_strings.specs.Units.{chars_of_units}
+use Rattle.browser_rules.specs.Strings.{characters}
 use Rattle.form_page.proofs.PieceLemmas.{digits_alone}
 use Rattle.form_page.specs.RowValues.{hex_digits}
 use Rattle.form_page.proofs.value_chars.RowValueChars.hexadecimal.Goals as goal
 
 pub returns : goal.returns
-unfolding chars_of_units
-returns g c = digits_alone _ _ _ _ c.chars.ensures (c.chars-2.ensures ∙ ap chars_of_units c.new.ensures) ∙ ap (λ (front : List ℕ). front ++ hex_digits (2 * c.args.number.width) c.args.number.number) c.of.ensures
+unfolding characters
+returns g c = digits_alone _ _ _ _ c.chars.ensures (c.chars-2.ensures ∙ ap characters c.new.ensures) ∙ ap (λ (front : List ℕ). front ++ hex_digits (2 * c.args.number.width) c.args.number.number) c.of.ensures

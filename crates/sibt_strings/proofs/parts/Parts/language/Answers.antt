@@ -1,8 +1,9 @@
 use Rattle.std.proofs.Common.{◌≡◌, Option, None, Some, refl, sym}
 use Rattle.std.specs.Option.{ok_or}
 use Rattle.std.specs.Result.{IfErr}
-use Rattle.hii_bytes.specs.Faults.{IsLeast}
-use Rattle.sibt_strings.specs.Strings.{IsStringFaultIn}
+use Rattle.browser_rules.specs.Faults.{string_package_faults}
+use Rattle.hii_bytes.specs.Faults.{IsLeastAmong}
+use Rattle.hii_packages.specs.code.Package.{package_of}
 use Rattle.sibt_strings.proofs.FaultLemmas.{only_language}
 use Rattle.sibt_strings.proofs.parts.Parts.language.Goals as goal
 
@@ -14,8 +15,7 @@ or_fault P (Some x) fault p = tt
 pub returns-clause-refused : goal.returns-clause-refused
 returns-clause-refused c =
     let p = c.args.self in
-    let bytes = p.source.bytes.now in
-    let least = IsLeast (IsStringFaultIn bytes p.source.place) in
+    let source = package_of p.source in
     rw c.ok_or.ensures.value
-    (or_fault least p.language c.bad_language.result
-    (λ none. rw c.bad_language.ensures (only_language bytes p.block_bytes.now p.source.place p.fixed p.blocks_are (sym (rw none at p.language_is)) c.requires)))
+    (or_fault (IsLeastAmong (string_package_faults source)) p.language c.bad_language.result
+    (λ none. rw c.bad_language.ensures (only_language source p.block_bytes.now p.fixed p.blocks_are (sym (rw none at p.language_is)) c.requires)))

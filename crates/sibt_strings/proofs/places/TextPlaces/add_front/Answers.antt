@@ -1,6 +1,6 @@
 use Rattle.std.proofs.Common.{sym}
 use Rattle.std.proofs.lemmas.Result.{IfOk-weaker}
-use Rattle.sibt_strings.specs.Blocks.{Duplicate, Skip}
+use Rattle.sibt_strings.specs.code.Blocks.{Duplicate, Skip}
 use Rattle.sibt_strings.proofs.EndLemmas.{ends_trans}
 use Rattle.sibt_strings.proofs.TableLemmas.{steps_behind}
 use Rattle.sibt_strings.proofs.places.TextPlaces.add_front.Goals as goal

@@ -1,5 +1,5 @@
 use Rattle.std.proofs.Common.{◌-◌, inr, length, refl, ap, sym, arith}
-use Rattle.sibt_strings.specs.Blocks.{Texts, texts_block}
+use Rattle.sibt_strings.specs.code.Blocks.{Texts, texts_block}
 use Rattle.sibt_strings.proofs.TableLemmas.{placed_more, placed_cut, placed_all}
 use Rattle.sibt_strings.proofs.places.TextPlaces.add_texts.Goals as goal
 

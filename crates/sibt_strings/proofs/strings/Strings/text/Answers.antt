@@ -1,5 +1,5 @@
 use Rattle.std.proofs.Common.{◌∙◌, sym, ap}
-use Rattle.sibt_strings.specs.Strings.{text_at}
+use Rattle.browser_rules.specs.Strings.{text_at}
 use Rattle.sibt_strings.proofs.BlockLemmas.{held_are}
 use Rattle.sibt_strings.proofs.strings.Strings.text.Goals as goal
 

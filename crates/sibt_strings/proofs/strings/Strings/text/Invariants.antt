@@ -1,5 +1,5 @@
 use Rattle.std.proofs.Common.{◌≡◌}
-use Rattle.sibt_strings.specs.Strings.{text_at}
+use Rattle.browser_rules.specs.Strings.{text_at}
 use Rattle.sibt_strings.proofs.strings.Strings.text.Given as goal
 
 -- the id that is looked for has the text

@@ -1,6 +1,6 @@
 use Rattle.std.proofs.Common.{◌≡◌, Some, ap, sym, subst, ◌∙◌, arith}
 use Rattle.std.specs.Option.{option_map}
-use Rattle.sibt_strings.specs.Strings.{text_at}
+use Rattle.browser_rules.specs.Strings.{text_at}
 use Rattle.sibt_strings.specs.code.Table.{place_of, Rises}
 use Rattle.sibt_strings.specs.code.Views.{units_in}
 use Rattle.sibt_strings.proofs.TableLemmas.{table_past}

@@ -1,21 +1,10 @@
--- The blocks of a string package (UEFI 2.8, 33.3.6.2 String Information; that a block is refused, and as what, is an own rule).
-use Rattle.std.specs.Prelude.{◌≡◌, ℕ, zero, suc, ◌+◌, ◌==◌, ◌&&◌, if◌then◌else◌, nat_lt, List, [], ◌∷◌, length, drop, slice_index, Option, None, Some, option_map, option_and_then}
+-- The blocks of a string package before it is known what texts stand before them, and the blocks of the chapter Strings (UEFI 2.8,
+-- 33.3.6.2 String Information).
+use Rattle.std.specs.Prelude.{◌≡◌, ℕ, ◌+◌, ◌==◌, if◌then◌else◌, nat_lt, List, [], ◌∷◌, ◌++◌, length, drop, map, replicate, slice_index, Option, None, Some}
+use Rattle.browser_rules.specs.Strings.{cut_texts, text_at}
+use Rattle.browser_rules.specs.Strings as chapter
 use Rattle.hii_bytes.specs.Numbers.{number_in}
 use Rattle.sibt_strings.specs.declared.block_types.TheConstants.{END, STRING_UCS2, STRING_UCS2_FONT, STRINGS_UCS2, STRINGS_UCS2_FONT, DUPLICATE, SKIP2, SKIP1, EXT1, EXT2, EXT4}
-
--- the bytes of a text up to its zero unit, and the bytes behind that unit; a unit has two bytes
-unfoldable pub cut_text : List ℕ → Option (List ℕ × List ℕ)
-cut_text [] = None
-cut_text (low ∷ []) = None
-cut_text (low ∷ high ∷ rest) =
-    if (low == 0) && (high == 0) then Some ([], rest)
-    else option_map (λ t. (low ∷ high ∷ t.0, t.1)) (cut_text rest)
-
--- this many texts, one after the other, and the bytes behind them
-unfoldable pub texts_in : ℕ → List ℕ → Option (List (List ℕ) × List ℕ)
-texts_in zero bytes = Some ([], bytes)
-texts_in (suc n) bytes =
-    option_and_then (λ t. option_map (λ ts. (t.0 ∷ ts.0, ts.1)) (texts_in n t.1)) (cut_text bytes)
 
 -- What a block says of the string ids that follow: their texts, that one has the text of another, that so many have none, nothing.
 pub data Block : Type 0 where
@@ -52,13 +41,13 @@ unfoldable pub front_of : List ℕ → Front
 front_of [] = BadBlock
 front_of (kind ∷ body) =
     if kind == END then End
-    else if kind == STRING_UCS2 then texts_block (texts_in 1 body)
+    else if kind == STRING_UCS2 then texts_block (cut_texts 1 body)
     else if kind == STRING_UCS2_FONT
-    then with_fields 1 body (texts_block (texts_in 1 (drop 1 body)))
+    then with_fields 1 body (texts_block (cut_texts 1 (drop 1 body)))
     else if kind == STRINGS_UCS2
-    then with_fields 2 body (texts_block (texts_in (number_in body 0 2) (drop 2 body)))
+    then with_fields 2 body (texts_block (cut_texts (number_in body 0 2) (drop 2 body)))
     else if kind == STRINGS_UCS2_FONT
-    then with_fields 3 body (texts_block (texts_in (number_in body 1 2) (drop 3 body)))
+    then with_fields 3 body (texts_block (cut_texts (number_in body 1 2) (drop 3 body)))
     else if kind == DUPLICATE
     then with_fields 2 body (Whole (Duplicate (number_in body 0 2)) (drop 2 body))
     else if kind == SKIP2 then with_fields 2 body (Whole (Skip (number_in body 0 2)) (drop 2 body))
@@ -86,3 +75,31 @@ abbrev pub StandsAt : List ℕ → Front → ℕ → Type 0
 StandsAt bytes front place =
     (blocks : List Block) × (rest : List ℕ) × Leads bytes blocks rest × (front_of rest ≡ front)
     × (place + length rest ≡ length bytes)
+
+-- ---- with the texts before them
+
+-- the texts that a block adds to those before it
+abbrev pub added_by : chapter.Texts → Block → chapter.Texts
+added_by texts (Texts more) = map Some more
+added_by texts (Duplicate id) = text_at texts id ∷ []
+added_by texts (Skip count) = replicate count None
+added_by texts Extension = []
+
+-- the texts so far, and those of one block more
+abbrev pub with_block : chapter.Texts → Block → chapter.Texts
+with_block texts block = texts ++ added_by texts block
+
+abbrev pub with_blocks : chapter.Texts → List Block → chapter.Texts
+with_blocks texts [] = texts
+with_blocks texts (block ∷ blocks) = with_blocks (with_block texts block) blocks
+
+-- the text of each id from 1 on, or nothing, by the blocks
+abbrev pub texts_said : List Block → chapter.Texts
+texts_said blocks = with_blocks [] blocks
+
+-- what stands at the front of bytes, behind these texts
+abbrev pub front_with : chapter.Texts → Front → chapter.Front
+front_with texts End = chapter.end_block
+front_with texts (Whole block rest) = chapter.block (added_by texts block) rest
+front_with texts CutText = chapter.cut_block
+front_with texts BadBlock = chapter.no_block

@@ -1,8 +1,12 @@
 -- The blocks of a string package, and the bytes that spell them (UEFI 2.8, 33.3.6.2 String Information).
-use Rattle.std.specs.Prelude.{◌≡◌, ℕ, ◌+◌, false, ◌==◌, ◌&&◌, List, [], ◌∷◌, ◌++◌, length, ⊤}
+use Rattle.std.specs.Prelude.{◌≡◌, ℕ, ◌+◌, false, ◌==◌, ◌&&◌, List, [], ◌∷◌, ◌++◌, length, map, Some, ⊤}
 use Rattle.std.specs.List.{AllByRecursion, flat_map}
 use Rattle.hii_bytes.specs.Numbers.{number_in}
-use Rattle.sibt_strings.specs.Blocks.{Block, Texts, Duplicate, Skip, Extension}
+use Rattle.browser_rules.specs.Packages.{Package}
+use Rattle.browser_rules.specs.Strings.{Spoken, language_of}
+use Rattle.browser_rules.specs.Strings as chapter
+use Rattle.sibt_strings.specs.code.Blocks.{Block, Texts, Duplicate, Skip, Extension, added_by, texts_said}
+use Rattle.sibt_strings.specs.code.Parts.{HasFixedPart, blocks_of}
 use Rattle.sibt_strings.specs.declared.block_types.TheConstants.{END, STRING_UCS2, STRING_UCS2_FONT, STRINGS_UCS2, STRINGS_UCS2_FONT, DUPLICATE, SKIP2, SKIP1, EXT1, EXT2, EXT4}
 
 -- A block with its fields: texts without their zero units, and the bytes of each number.
@@ -78,8 +82,20 @@ said (ext1 kind size body) = Extension
 said (ext2 kind size body) = Extension
 said (ext4 kind size body) = Extension
 
+-- the texts that a block adds to those before it
+abbrev pub added : chapter.Texts → WholeBlock → chapter.Texts
+added texts block = added_by texts (said block)
+
 -- The bytes are these blocks, one after the other, and an end block; bytes behind it are ignored (own rule).
 pub record AreSpelled (bytes : List ℕ) (blocks : List WholeBlock) : Type 0 where
   pub fitting : AllByRecursion HasGoodFields blocks
   pub rest : List ℕ
   pub whole : bytes ≡ flat_map spell blocks ++ END ∷ rest
+
+-- A string package that says this: its language, and the texts of the blocks that are spelled in it.
+pub record Speaks (p : Package) (spoken : Spoken) : Type 0 where
+  pub fixed : HasFixedPart p.bytes
+  pub language : language_of p ≡ Some spoken.language
+  pub whole_blocks : List WholeBlock
+  pub are : AreSpelled (blocks_of p.bytes) whole_blocks
+  pub texts : spoken.texts ≡ texts_said (map said whole_blocks)
