@@ -5,7 +5,7 @@ use Rattle.browser_rules.specs.Configuration.{Block}
 use Rattle.hii_varstore.specs.Layout.{Shape}
 use Rattle.hii_varstore.specs.code.Ranges.{HasRange}
 use Rattle.hii_questions.specs.declared.field_range.FieldRange.{FieldRange}
-use Rattle.kept_conditions.specs.code.Ranges as ranges
+use Rattle.kept_conditions.specs.code.Invalidation as ranges
 use Rattle.browser_commands.specs.code.Changing.{HaveRanges, NoneHasByte, range_of_block}
 
 of_blocks : (P : FieldRange → Type 0) (store : ℕ) (blocks : List Block) → AllByRecursion (λ b. P (range_of_block store b)) blocks → AllByRecursion P (map (range_of_block store) blocks)

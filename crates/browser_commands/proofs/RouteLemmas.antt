@@ -16,7 +16,7 @@ use Rattle.hii_questions.specs.Fields.{Asked, field_of}
 use Rattle.kept_conditions.specs.Kept as kept
 use Rattle.kept_conditions.specs.Kept.{KeptMap, written, changed_to}
 use Rattle.kept_conditions.specs.Touching.{difference, range_of_field, renewals}
-use Rattle.kept_conditions.specs.code.Ranges.{LiesWithin}
+use Rattle.kept_conditions.specs.code.Invalidation.{LiesWithin}
 use Rattle.kept_conditions.proofs.CopyLemmas.{copied_agree}
 use Rattle.hii_questions.specs.Inputs.{field}
 use Rattle.hii_questions.specs.code.Checks.{range_of}

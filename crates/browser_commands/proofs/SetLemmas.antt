@@ -32,7 +32,7 @@ use Rattle.guard_policy.specs.declared.denial.Denial.{Denial}
 use Rattle.session_steps.specs.Renewed.{named_if}
 use Rattle.session_steps.specs.State.{State, world_of, world_with}
 use Rattle.kept_conditions.specs.Kept.{KeptMap}
-use Rattle.kept_conditions.specs.code.Setting.{put_in}
+use Rattle.kept_conditions.specs.code.Cache.{put_in}
 use Rattle.session_steps.specs.Texts.{ok_text}
 use Rattle.session_steps.specs.Step.{accepted, denied, warned_text, set_unless_fixed, set_unless_forbidden, set_question, commit, submitted}
 use Rattle.browser_commands.specs.code.Changing.{IsOver, TakesField, SetsQuestion, SetsValue}

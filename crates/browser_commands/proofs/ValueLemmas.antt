@@ -14,7 +14,7 @@ use Rattle.guard_policy.specs.declared.denial.Denial.{Denial}
 use Rattle.guard_policy.specs.declared.policy.Policy.{Policy}
 use Rattle.kept_conditions.specs.Kept.{KeptMap, counted}
 use Rattle.kept_conditions.specs.Touching.{range_of_field, renewals}
-use Rattle.kept_conditions.specs.code.Setting.{put_in}
+use Rattle.kept_conditions.specs.code.Cache.{put_in}
 use Rattle.session_steps.specs.Opening.{layout_in}
 use Rattle.session_steps.specs.Renewed.{Shown, Write, field_write, write_of}
 use Rattle.session_steps.specs.State.{State}

@@ -6,12 +6,12 @@ use Rattle.std.proofs.lemmas.Bool.{cases_Bool, cases_lt, ne_eqb, eq-eqb, eqb-tru
 use Rattle.std.proofs.lemmas.Option.{slice_get-get_or, slice_get_cases}
 use Rattle.hii_varstore.specs.Layout.{Shape, size_of}
 use Rattle.hii_varstore.specs.Stores.{StoreMap, shape_of, bytes_of, byte_of, with_bytes}
-use Rattle.hii_questions.specs.Items.{filled}
 use Rattle.hii_varstore.proofs.WriteLemmas.{sizes, byte_after, shape_after}
-use Rattle.kept_conditions.specs.code.Differing.{other_at, other_bytes}
+use Rattle.hii_questions.specs.Items.{filled}
+use Rattle.kept_conditions.specs.code.Invalidation.{other_at, other_bytes}
 use Rattle.kept_conditions.specs.Touching.{has_one, is_same, difference, range_of}
 use Rattle.kept_conditions.specs.laws.Writes.{IsWrite, PutsAreWrites}
-use Rattle.kept_conditions.proofs.RangeLemmas.{has_some}
+use Rattle.kept_conditions.proofs.OverlapLemmas.{has_some}
 
 pub none_one : (bytes : ℕ → ℕ → Bool) (store width offset : ℕ) → ((at : ℕ) → offset ≤ at → at < offset + width → bytes store at ≡ false) → has_one bytes store offset width ≡ false
 none_one bytes store zero offset none = refl

@@ -1,5 +1,5 @@
--- The places of readers.
-use Rattle.std.proofs.Common.{◌≡◌, ℕ, suc, ◌+◌, ◌<◌, ◌≤◌, ◌==◌, ◌||◌, ◌++◌, Bool, true, false, cond, List, [], ◌∷◌, length, map, filter, get_or, count_by, refl, sym, ap, ◌∙◌, inl, inr, arith}
+-- The places of dependents.
+use Rattle.std.proofs.Common.{◌≡◌, ℕ, suc, ◌+◌, ◌<◌, ◌≤◌, ◌==◌, ◌||◌, ◌++◌, Bool, true, false, List, [], ◌∷◌, length, map, filter, get_or, count_by, refl, sym, ap, ◌∙◌, inl, inr, arith}
 use Rattle.std.specs.List.Sorted.{IsPermutation, IsSorted}
 use Rattle.std.specs.Ordering.{nat_cmp}
 use Rattle.std.proofs.lemmas.Bool.{cases_Bool, cases_lt, eqb-true, eq-eqb, ne_eqb}
@@ -16,10 +16,9 @@ use Rattle.ifr_scopes.specs.Rules.{is_rule}
 use Rattle.ifr_scopes.proofs.PlaceLemmas.{nodes_within}
 use Rattle.ifr_scopes.proofs.StructureLemmas.{rising}
 use Rattle.guard_policy.proofs.RemovedLemmas.{Ascend, places_ascend, from_zero}
-use Rattle.kept_conditions.specs.code.Gathering.{is_kept_guard}
-use Rattle.kept_conditions.specs.code.Nodes.{is_reader, reader_nodes}
-use Rattle.kept_conditions.proofs.CountLemmas.{count_either, count_joined, filter_narrower}
-use Rattle.kept_conditions.proofs.ReaderLemmas.{kept_no_rule}
+use Rattle.kept_conditions.specs.code.Collection.{is_kept_guard, is_dependent, dependent_nodes}
+use Rattle.kept_conditions.proofs.FilterLemmas.{count_either, count_joined, filter_narrower, one}
+use Rattle.kept_conditions.proofs.DependentLemmas.{kept_no_rule}
 
 -- ---- kinds
 
@@ -39,9 +38,6 @@ pub guards_kept : (ns : List Node) → filter is_kept_guard (filter (λ n. is_gu
 guards_kept ns = filter_narrower is_kept_guard (λ n. is_guard (number n.op)) (λ n e. guarding (number n.op) e) ns
 
 -- ---- numbers in order are told by how often each comes
-
-abbrev one : Bool → ℕ
-one b = cond b 1 0
 
 -- numbers that do not fall
 abbrev Up : ℕ → List ℕ → Type 0
@@ -122,19 +118,19 @@ no_rule n e = kept_no_rule n e
 
 pub sorted_places : (bytes places : List ℕ) → IsAccepted bytes
     → IsPermutation (map (λ (n : Node). n.place) (filter is_kept_guard (nodes_of bytes)) ++ map (λ (n : Node). n.place) (filter is_no_submit (nodes_of bytes)) ++ map (λ (n : Node). n.place) (filter is_rule (nodes_of bytes))) places → IsSorted nat_cmp places
-    → places ≡ map (λ (n : Node). n.place) (reader_nodes (nodes_of bytes))
+    → places ≡ map (λ (n : Node). n.place) (dependent_nodes (nodes_of bytes))
 sorted_places bytes places accepted same sorted =
     let ns = nodes_of bytes in
     let place : Node → ℕ = λ n. n.place in
     let gs = filter is_kept_guard ns in
     let cs = filter is_no_submit ns in
     let rs = filter is_rule ns in
-    let readers = map place (reader_nodes ns) in
+    let dependents = map place (dependent_nodes ns) in
     let rise = rising ns 4 (4 + length (flat (tree_of bytes))) (nodes_within (tree_of bytes) 4 [] accepted.checked.spelled.are_nodes) in
     let order = IsNonDecreasingBy-from_sort (λ (x : ℕ). x) places sorted in
-    same_numbers 0 0 places readers
+    same_numbers 0 0 places dependents
     (up_from 0 places (λ k less. omega arith) (λ i j le less. order i j 0 le less))
-    (up 0 readers (from_zero 4 readers (places_ascend is_reader 4 ns rise)))
+    (up 0 dependents (from_zero 4 dependents (places_ascend is_dependent 4 ns rise)))
     (λ v.
     let all : times v places ≡ times v (map place gs ++ map place cs ++ map place rs) = sum_by-IsPermutation (λ x. one (x == v)) (map place gs ++ map place cs ++ map place rs) places same in
     let parts : times v (map place gs ++ map place cs ++ map place rs) ≡ times v (map place gs) + times v (map place cs) + times v (map place rs) =
@@ -146,7 +142,7 @@ sorted_places bytes places accepted same sorted =
     let rules = times_mapped v rs in
     let first : count_by (λ (n : Node). n.place == v) gs + count_by (λ (n : Node). n.place == v) cs ≡ count_by (λ (n : Node). n.place == v) (filter is_guard_or_submit ns) =
     sym (count_joined (λ (n : Node). n.place == v) gs cs) ∙ count_either (λ (n : Node). n.place == v) is_kept_guard is_no_submit (λ n e. no_guard (number n.op) e) ns in
-    let second : count_by (λ (n : Node). n.place == v) (filter is_guard_or_submit ns) + count_by (λ (n : Node). n.place == v) rs ≡ count_by (λ (n : Node). n.place == v) (reader_nodes ns) =
+    let second : count_by (λ (n : Node). n.place == v) (filter is_guard_or_submit ns) + count_by (λ (n : Node). n.place == v) rs ≡ count_by (λ (n : Node). n.place == v) (dependent_nodes ns) =
     sym (count_joined (λ (n : Node). n.place == v) (filter is_guard_or_submit ns) rs) ∙ count_either (λ (n : Node). n.place == v) is_guard_or_submit is_rule no_rule ns in
-    let whole = times_mapped v (reader_nodes ns) in
+    let whole = times_mapped v (dependent_nodes ns) in
     omega (arith, all, parts, guards, submits, rules, first, second, whole))

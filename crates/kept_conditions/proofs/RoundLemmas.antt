@@ -1,10 +1,11 @@
--- A round over the readers of a package.
-use Rattle.std.proofs.Common.{◌≡◌, ℕ, ◌+◌, ◌<◌, ◌==◌, ◌||◌, Bool, true, false, cond, List, [], ◌∷◌, length, map, filter, get_or, refl, sym, ap, ◌∙◌, subst, inl, inr, arith}
+-- A round over the dependents of a package.
+use Rattle.std.proofs.Common.{◌≡◌, ℕ, ◌+◌, ◌<◌, ◌==◌, ◌||◌, Bool, true, false, List, [], ◌∷◌, length, map, filter, get_or, refl, sym, ap, ◌∙◌, subst, inl, inr, arith}
 use Rattle.std.specs.Prelude.{All}
 use Rattle.std.specs.List.{list_any}
 use Rattle.std.specs.Vec.{vec_capacity}
 use Rattle.std.proofs.lemmas.Bool.{cases_Bool, cond-true, cond-false, ne_eqb, false≢true}
 use Rattle.std.proofs.lemmas.List.Sums.{sum_by-cons}
+use Rattle.std.proofs.Math.Bool.{or-false}
 use Rattle.hii_bytes.specs.code.FirstFaults.{Rise}
 use Rattle.ifr_opcodes.specs.Forest.{Node}
 use Rattle.ifr_scopes.specs.Nodes.{nodes_of}
@@ -15,29 +16,29 @@ use Rattle.guard_policy.specs.code.Views.{bytes_of, world}
 use Rattle.guard_policy.specs.code.Worlds.{is_met_at}
 use Rattle.guard_policy.specs.declared.policy.Policy.{Policy}
 use Rattle.kept_conditions.specs.Kept.{told_over}
-use Rattle.kept_conditions.specs.code.Index.{IsIndex, value_of, values_of}
-use Rattle.kept_conditions.specs.code.Links.{RulesRise}
-use Rattle.kept_conditions.specs.code.Nodes.{reader_nodes, is_touched}
-use Rattle.kept_conditions.specs.code.Readers.{at_number, is_condition, timeless, rules_in, was_met, AreBefore, AreLinks, Follow, Goes, HasRoom, KeepsSound}
-use Rattle.kept_conditions.specs.code.Readings.{reads}
+use Rattle.kept_conditions.specs.code.Cache.{IsIndex, value_of, values_of}
+use Rattle.kept_conditions.specs.code.Index.{RulesRise, depends_on}
+use Rattle.kept_conditions.specs.code.Collection.{dependent_nodes, is_touched}
+use Rattle.kept_conditions.specs.code.Dependents.{at_number, is_condition, timeless, rules_in, was_visited, AreBefore, AreRuleUses, Follow, VisitsSome, HasRoom, KeepsSound}
 use Rattle.kept_conditions.specs.laws.Writes.{IsWrite}
 use Rattle.kept_conditions.specs.Touching.{renewals}
 use Rattle.kept_conditions.specs.declared.index.Index.{Index}
-use Rattle.kept_conditions.specs.declared.links.Link.{Link}
-use Rattle.kept_conditions.specs.declared.readers.Reader.{Reader}
-use Rattle.kept_conditions.specs.declared.readers.Readers.{Readers}
-use Rattle.kept_conditions.proofs.GoesLemmas.{AreMet, goes_then, links_kept}
+use Rattle.kept_conditions.specs.declared.index.RuleUse.{RuleUse}
+use Rattle.kept_conditions.specs.declared.dependents.Dependent.{Dependent}
+use Rattle.kept_conditions.specs.declared.dependents.Dependents.{Dependents}
+use Rattle.kept_conditions.proofs.VisitsSomeLemmas.{AreVisited, visits_then, rule_uses_kept}
 use Rattle.kept_conditions.proofs.KeptLemmas.{counted, kinds_after, places_after, round_after, values_after}
-use Rattle.kept_conditions.proofs.ReaderLemmas.{TellsOver, many, rule_at, told_kept}
-use Rattle.kept_conditions.proofs.TouchLemmas.{met_touched, read_touched, users_touched}
+use Rattle.kept_conditions.proofs.DependentLemmas.{TellsOver, many, rule_at, told_kept}
+use Rattle.kept_conditions.proofs.TouchLemmas.{visited_touched, depending_touched, dependents_touched}
+use Rattle.kept_conditions.proofs.FilterLemmas.{one}
 
 -- ---- what does not tell of rounds
 
-timeless_map : {X : Type 0} (f : Reader → X) → ((r : Reader) → f (timeless r) ≡ f r) → (rs : List Reader) → map f rs ≡ map f (map timeless rs)
+timeless_map : {X : Type 0} (f : Dependent → X) → ((r : Dependent) → f (timeless r) ≡ f r) → (rs : List Dependent) → map f rs ≡ map f (map timeless rs)
 timeless_map f same [] = refl
 timeless_map f same (r ∷ rs) = ap (λ x. x ∷ map f rs) (sym (same r)) ∙ ap (λ l. f (timeless r) ∷ l) (timeless_map f same rs)
 
-timeless_values : (rs : List Reader) → map value_of (filter is_condition rs) ≡ map value_of (filter is_condition (map timeless rs))
+timeless_values : (rs : List Dependent) → map value_of (filter is_condition rs) ≡ map value_of (filter is_condition (map timeless rs))
 timeless_values [] = refl
 timeless_values (r ∷ rs) = elim (cases_Bool (is_condition r)) [
   | inl takes ↦
@@ -48,44 +49,37 @@ timeless_values (r ∷ rs) = elim (cases_Bool (is_condition r)) [
       ∙ sym (ap (map value_of) (cond-false (is_condition r) (timeless r ∷ filter is_condition (map timeless rs)) (filter is_condition (map timeless rs)) leaves))
 ]
 
-abbrev one : Bool → ℕ
-one b = cond b 1 0
-
-timeless_rules : (rs : List Reader) → rules_in rs ≡ rules_in (map timeless rs)
+timeless_rules : (rs : List Dependent) → rules_in rs ≡ rules_in (map timeless rs)
 timeless_rules [] = refl
 timeless_rules (r ∷ rs) =
     let behind = timeless_rules rs in
-    let left = sum_by-cons (λ (x : Reader). one x.is_rule) r rs in
-    let right = sum_by-cons (λ (x : Reader). one x.is_rule) (timeless r) (map timeless rs) in
+    let left = sum_by-cons (λ (x : Dependent). one x.is_rule) r rs in
+    let right = sum_by-cons (λ (x : Dependent). one x.is_rule) (timeless r) (map timeless rs) in
     omega (arith, behind, left, right)
 
-same_map : {X : Type 0} (f : Reader → X) → ((r : Reader) → f (timeless r) ≡ f r) → (xs ys : List Reader) → map timeless xs ≡ map timeless ys → map f xs ≡ map f ys
+same_map : {X : Type 0} (f : Dependent → X) → ((r : Dependent) → f (timeless r) ≡ f r) → (xs ys : List Dependent) → map timeless xs ≡ map timeless ys → map f xs ≡ map f ys
 same_map f same xs ys e = timeless_map f same xs ∙ ap (map f) e ∙ sym (timeless_map f same ys)
-
-or_false : (b : Bool) → b || false ≡ b
-or_false true = refl
-or_false false = refl
 
 -- ---- the parts of a round
 
 -- it begins
-pub record Begins (ifr : List ℕ) (start fresh : Readers) (index : Index) : Type 0 where
+pub record Begins (ifr : List ℕ) (start fresh : Dependents) (index : Index) : Type 0 where
   pub is : IsIndex ifr start index
   pub before : AreBefore fresh.round fresh.list.items
   pub same : map timeless fresh.list.items ≡ map timeless start.list.items
-  pub waiting : fresh.waiting ≡ start.waiting
+  pub pending : fresh.pending ≡ start.pending
 
--- those are met that read what was written
-pub record Meets (holding : ℕ → Bool) (written : ℕ → ℕ → Bool) (index : Index) (fresh mid : Readers) (some : ℕ) : Type 0 where
-  pub met : AreMet holding (reads written index.readings.items) fresh mid some
+-- those are visited that depend on what was written
+pub record VisitsTouched (holding : ℕ → Bool) (written : ℕ → ℕ → Bool) (index : Index) (fresh mid : Dependents) (some : ℕ) : Type 0 where
+  pub visited : AreVisited holding (depends_on written index.dependencies.items) fresh mid some
 
--- and those that name rules
-pub record Settles (holding : ℕ → Bool) (index : Index) (links : List Link) (mid settled : Readers) (others : ℕ) : Type 0 where
-  pub links_are : links ≡ index.links.items
-  pub goes : Goes holding mid settled others
-  pub idle : settled.waiting.items ≡ []
-  pub follow : Follow (λ _. false) links settled
-  pub sound : KeepsSound links mid settled
+-- and the dependents of rules
+pub record Ends (holding : ℕ → Bool) (index : Index) (rule_uses : List RuleUse) (mid finished : Dependents) (others : ℕ) : Type 0 where
+  pub rule_uses_are : rule_uses ≡ index.rule_uses.items
+  pub visits : VisitsSome holding mid finished others
+  pub idle : finished.pending.items ≡ []
+  pub follow : Follow (λ _. false) rule_uses finished
+  pub sound : KeepsSound rule_uses mid finished
 
 -- the conditions are evaluated by a policy over the stores
 pub told_by : (policy over : Policy) (now stores : StoreMap) → over ≡ policy → stores ≡ now → TellsAll (is_met_at (world policy now)) (world policy now) → TellsOver (is_met_at (world over stores)) (nodes_of (bytes_of policy)) now
@@ -95,117 +89,117 @@ told_by policy over now stores same alike tells =
     (subst (λ (m : StoreMap). TellsOver (is_met_at (world policy m)) ns now) (sym alike)
     (told_kept (is_met_at (world policy now)) ns policy.removed.now now tells))
 
-module _ {ifr : List ℕ} {start fresh : Readers} {index : Index} (begun : Begins ifr start fresh index) where
+module _ {ifr : List ℕ} {start fresh : Dependents} {index : Index} (begun : Begins ifr start fresh index) where
   is : IsIndex ifr start index
   is = begun.is
 
   abbrev ns : List Node
   ns = nodes_of ifr
 
-  fresh_placed : map (λ (r : Reader). r.place) fresh.list.items ≡ map (λ (n : Node). n.place) (reader_nodes ns)
+  fresh_placed : map (λ (r : Dependent). r.place) fresh.list.items ≡ map (λ (n : Node). n.place) (dependent_nodes ns)
   fresh_placed = same_map (λ r. r.place) (λ r. refl) fresh.list.items start.list.items begun.same ∙ is.placed
 
-  fresh_kinds : map (λ (r : Reader). r.is_rule) fresh.list.items ≡ map is_rule (reader_nodes ns)
+  fresh_kinds : map (λ (r : Dependent). r.is_rule) fresh.list.items ≡ map is_rule (dependent_nodes ns)
   fresh_kinds = same_map (λ r. r.is_rule) (λ r. refl) fresh.list.items start.list.items begun.same ∙ is.kinds
 
   fresh_values : values_of fresh ≡ values_of start
   fresh_values = timeless_values fresh.list.items ∙ ap (λ l. map value_of (filter is_condition l)) begun.same ∙ sym (timeless_values start.list.items)
 
-  fresh_size : length fresh.list.items ≡ length (reader_nodes ns)
+  fresh_size : length fresh.list.items ≡ length (dependent_nodes ns)
   fresh_size = many ns fresh.list.items fresh_placed fresh_kinds
 
-  fresh_idle : fresh.waiting.items ≡ []
-  fresh_idle = ap (λ v. v.items) begun.waiting ∙ is.idle
+  fresh_idle : fresh.pending.items ≡ []
+  fresh_idle = ap (λ v. v.items) begun.pending ∙ is.idle
 
-  never_met : (k : ℕ) → k < length fresh.list.items → was_met fresh k ≡ false
-  never_met k less = ne_eqb (at_number fresh.list.items k).round fresh.round (λ e. omega (arith, e, begun.before k less))
+  never_visited : (k : ℕ) → k < length fresh.list.items → was_visited fresh k ≡ false
+  never_visited k less = ne_eqb (at_number fresh.list.items k).round fresh.round (λ e. omega (arith, e, begun.before k less))
 
   pub fresh_room : HasRoom fresh
   fresh_room = record {
-    met = λ k e. absurd (false≢true (sym (ap (list_any (λ n. n == k)) fresh_idle) ∙ e));
+    visited = λ k e. absurd (false≢true (sym (ap (list_any (λ n. n == k)) fresh_idle) ∙ e));
     some = omega (arith, ap (λ (l : List ℕ). length l) fresh_idle);
-    all = omega (arith, is.room, timeless_rules fresh.list.items, timeless_rules start.list.items, ap rules_in begun.same, ap (λ v. vec_capacity v) begun.waiting);
+    all = omega (arith, is.room, timeless_rules fresh.list.items, timeless_rules start.list.items, ap rules_in begun.same, ap (λ v. vec_capacity v) begun.pending);
   }
 
-  fresh_links : AreLinks fresh.list.items index.links.items
-  fresh_links k d less =
-      let l = get_or index.links.items k d in
-      let link = is.linked k d less in
-      let inside : l.rule < length fresh.list.items = omega (arith, link.rule, fresh_size) in
-      (inside, rule_at ns fresh.list.items fresh_placed fresh_kinds l.rule inside ∙ link.named, omega (arith, link.user, fresh_size))
+  fresh_rule_uses : AreRuleUses fresh.list.items index.rule_uses.items
+  fresh_rule_uses k d less =
+      let l = get_or index.rule_uses.items k d in
+      let rule_use = is.are_uses k d less in
+      let inside : l.rule < length fresh.list.items = omega (arith, rule_use.rule, fresh_size) in
+      (inside, rule_at ns fresh.list.items fresh_placed fresh_kinds l.rule inside ∙ rule_use.named, omega (arith, rule_use.dependent, fresh_size))
 
-  fresh_follow : Follow (λ _. false) index.links.items fresh
-  fresh_follow k d less e = absurd (false≢true (sym (never_met (get_or index.links.items k d).rule (let link = fresh_links k d less in link.0)) ∙ e))
+  fresh_follow : Follow (λ _. false) index.rule_uses.items fresh
+  fresh_follow k d less e = absurd (false≢true (sym (never_visited (get_or index.rule_uses.items k d).rule (let rule_use = fresh_rule_uses k d less in rule_use.0)) ∙ e))
 
-  -- ---- those that read what was written
+  -- ---- those that depend on what was written
 
-  module _ {holding : ℕ → Bool} {written : ℕ → ℕ → Bool} {mid : Readers} {some : ℕ} (meets : Meets holding written index fresh mid some) where
+  module _ {holding : ℕ → Bool} {written : ℕ → ℕ → Bool} {mid : Dependents} {some : ℕ} (touching : VisitsTouched holding written index fresh mid some) where
     -- what the next part asks
-    pub mid_ready : (links : List Link) → links ≡ index.links.items → record { sorted : RulesRise links; linked : AreLinks mid.list.items links; room : HasRoom mid; follow : Follow (λ _. false) links mid }
-    mid_ready links same = record {
+    pub mid_ready : (rule_uses : List RuleUse) → rule_uses ≡ index.rule_uses.items → record { sorted : RulesRise rule_uses; are_uses : AreRuleUses mid.list.items rule_uses; room : HasRoom mid; follow : Follow (λ _. false) rule_uses mid }
+    mid_ready rule_uses same = record {
       sorted = subst RulesRise (sym same) is.by_rule;
-      linked = subst (AreLinks mid.list.items) (sym same) (links_kept holding fresh mid some meets.met.goes index.links.items fresh_links);
-      room = meets.met.goes.room fresh_room;
-      follow = subst (λ (l : List Link). Follow (λ _. false) l mid) (sym same) (meets.met.follows (λ _. false) index.links.items fresh_links fresh_follow);
+      are_uses = subst (AreRuleUses mid.list.items) (sym same) (rule_uses_kept holding fresh mid some touching.visited.visits index.rule_uses.items fresh_rule_uses);
+      room = touching.visited.visits.room fresh_room;
+      follow = subst (λ (l : List RuleUse). Follow (λ _. false) l mid) (sym same) (touching.visited.follows (λ _. false) index.rule_uses.items fresh_rule_uses fresh_follow);
     }
 
-    -- ---- and those that name rules
+    -- ---- and the dependents of rules
 
-    module _ {links : List Link} {settled : Readers} {others : ℕ} (settles : Settles holding index links mid settled others) where
-      all_goes : Goes holding fresh settled (some + others)
-      all_goes = goes_then holding fresh mid some meets.met.goes settled others settles.goes
+    module _ {rule_uses : List RuleUse} {finished : Dependents} {others : ℕ} (ending : Ends holding index rule_uses mid finished others) where
+      all_visits : VisitsSome holding fresh finished (some + others)
+      all_visits = visits_then holding fresh mid some touching.visited.visits finished others ending.visits
 
-      mid_size : length mid.list.items ≡ length (reader_nodes ns)
-      mid_size = meets.met.goes.size ∙ fresh_size
+      mid_size : length mid.list.items ≡ length (dependent_nodes ns)
+      mid_size = touching.visited.visits.size ∙ fresh_size
 
-      met_mid : (k : ℕ) → k < length (reader_nodes ns) → was_met mid k ≡ reads written index.readings.items k
-      met_mid k less =
+      visited_mid : (k : ℕ) → k < length (dependent_nodes ns) → was_visited mid k ≡ depends_on written index.dependencies.items k
+      visited_mid k less =
           let inside : k < length fresh.list.items = omega (arith, less, fresh_size) in
-          meets.met.reaches k inside ∙ ap (λ b. reads written index.readings.items k || b) (never_met k inside) ∙ or_false (reads written index.readings.items k)
+          touching.visited.reaches k inside ∙ ap (λ b. depends_on written index.dependencies.items k || b) (never_visited k inside) ∙ or-false (depends_on written index.dependencies.items k)
 
-      follow : Follow (λ _. false) index.links.items settled
-      follow = subst (λ (l : List Link). Follow (λ _. false) l settled) settles.links_are settles.follow
+      follow : Follow (λ _. false) index.rule_uses.items finished
+      follow = subst (λ (l : List RuleUse). Follow (λ _. false) l finished) ending.rule_uses_are ending.follow
 
-      sound : KeepsSound index.links.items mid settled
-      sound = subst (λ (l : List Link). KeepsSound l mid settled) settles.links_are settles.sound
+      sound : KeepsSound index.rule_uses.items mid finished
+      sound = subst (λ (l : List RuleUse). KeepsSound l mid finished) ending.rule_uses_are ending.sound
 
-      closed : All (λ (l : Link). was_met settled l.rule ≡ true → was_met settled l.user ≡ true) index.links.items
+      closed : All (λ (l : RuleUse). was_visited finished l.rule ≡ true → was_visited finished l.dependent ≡ true) index.rule_uses.items
       closed k d less e =
-          let l = get_or index.links.items k d in
-          let either : (was_met settled l.user || list_any (λ n. n == l.rule) settled.waiting.items) ≡ true = follow k d less e in
-          sym (or_false (was_met settled l.user)) ∙ sym (ap (λ ws. was_met settled l.user || list_any (λ n. n == l.rule) ws) settles.idle) ∙ either
+          let l = get_or index.rule_uses.items k d in
+          let either : (was_visited finished l.dependent || list_any (λ n. n == l.rule) finished.pending.items) ≡ true = follow k d less e in
+          sym (or-false (was_visited finished l.dependent)) ∙ sym (ap (λ ws. was_visited finished l.dependent || list_any (λ n. n == l.rule) ws) ending.idle) ∙ either
 
-      touched : (k : ℕ) → k < length fresh.list.items → was_met settled k ≡ is_touched ns written k
+      touched : (k : ℕ) → k < length fresh.list.items → was_visited finished k ≡ is_touched ns written k
       touched k less =
-          met_touched ns written index.readings.items index.links.items is.linked (is.found written) (was_met settled)
-          (λ j inside e. settles.goes.more j (omega (arith, inside, mid_size)) (met_mid j inside ∙ e)) closed
-          (λ j inside e. sound (is_touched ns written) (users_touched ns written index.readings.items index.links.items is.linked (is.found written))
-          (λ i within met. read_touched ns written index.readings.items index.links.items is.linked (is.found written) i (omega (arith, within, mid_size)) (sym (met_mid i (omega (arith, within, mid_size))) ∙ met)) j (omega (arith, inside, mid_size)) e)
+          visited_touched ns written index.dependencies.items index.rule_uses.items is.are_uses (is.found written) (was_visited finished)
+          (λ j inside e. ending.visits.more j (omega (arith, inside, mid_size)) (visited_mid j inside ∙ e)) closed
+          (λ j inside e. sound (is_touched ns written) (dependents_touched ns written index.dependencies.items index.rule_uses.items is.are_uses (is.found written))
+          (λ i within visited. depending_touched ns written index.dependencies.items index.rule_uses.items is.are_uses (is.found written) i (omega (arith, within, mid_size)) (sym (visited_mid i (omega (arith, within, mid_size))) ∙ visited)) j (omega (arith, inside, mid_size)) e)
           k (omega (arith, less, fresh_size))
 
-      pub settled_count : some + others ≡ renewals ns written
-      settled_count = counted ns holding written fresh settled (some + others) fresh_placed fresh_kinds begun.before all_goes touched
+      pub finished_count : some + others ≡ renewals ns written
+      finished_count = counted ns holding written fresh finished (some + others) fresh_placed fresh_kinds begun.before all_visits touched
 
-      pub settled_values : (stores now : StoreMap) → IsWrite written stores now → TellsOver holding ns now → values_of start ≡ told_over ifr stores → values_of settled ≡ told_over ifr now
-      settled_values stores now write tells were = values_after ns holding written fresh settled (some + others) fresh_placed fresh_kinds begun.before all_goes touched stores now write (fresh_values ∙ were) tells
+      pub finished_values : (stores now : StoreMap) → IsWrite written stores now → TellsOver holding ns now → values_of start ≡ told_over ifr stores → values_of finished ≡ told_over ifr now
+      finished_values stores now write tells were = values_after ns holding written fresh finished (some + others) fresh_placed fresh_kinds begun.before all_visits touched stores now write (fresh_values ∙ were) tells
 
-      pub settled_index : IsIndex ifr settled index
-      settled_index = record {
-        placed = settled_placed;
-        kinds = kinds_after ns holding written fresh settled (some + others) fresh_placed fresh_kinds begun.before all_goes touched;
-        rise = subst (Rise (λ (x : ℕ). x) 0) (is.placed ∙ sym settled_placed) is.rise;
-        rounds = λ k less. round_after ns holding written fresh settled (some + others) fresh_placed fresh_kinds begun.before all_goes touched k (omega (arith, less, all_goes.size));
-        idle = settles.idle;
-        room = (all_goes.room fresh_room).all;
+      pub finished_index : IsIndex ifr finished index
+      finished_index = record {
+        placed = finished_placed;
+        kinds = kinds_after ns holding written fresh finished (some + others) fresh_placed fresh_kinds begun.before all_visits touched;
+        rise = subst (Rise (λ (x : ℕ). x) 0) (is.placed ∙ sym finished_placed) is.rise;
+        rounds = λ k less. round_after ns holding written fresh finished (some + others) fresh_placed fresh_kinds begun.before all_visits touched k (omega (arith, less, all_visits.size));
+        idle = ending.idle;
+        room = (all_visits.room fresh_room).all;
         sorted = is.sorted;
         all = is.all;
-        spanned = is.spanned;
+        summed = is.summed;
         numbers = is.numbers;
         small = is.small;
         by_rule = is.by_rule;
-        linked = is.linked;
+        are_uses = is.are_uses;
         found = is.found;
       }
         where
-          settled_placed : map (λ (r : Reader). r.place) settled.list.items ≡ map (λ (n : Node). n.place) (reader_nodes ns)
-          settled_placed = places_after ns holding written fresh settled (some + others) fresh_placed fresh_kinds begun.before all_goes touched
+          finished_placed : map (λ (r : Dependent). r.place) finished.list.items ≡ map (λ (n : Node). n.place) (dependent_nodes ns)
+          finished_placed = places_after ns holding written fresh finished (some + others) fresh_placed fresh_kinds begun.before all_visits touched

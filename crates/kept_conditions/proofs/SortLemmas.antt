@@ -14,11 +14,9 @@ use Rattle.std.proofs.lemmas.List.Filters.{All-dedup, dedup_is}
 use Rattle.std.proofs.lemmas.List.Kept.{Contains-from_dedup}
 use Rattle.std.proofs.lemmas.List.Sorted.{Contains-permutation, IsPermutation-sym, IsNonDecreasingBy-from_all_adjacent, list_any-IsPermutation}
 use Rattle.hii_questions.specs.code.ByField.{range_cmp}
-use Rattle.kept_conditions.specs.code.Indexing.{HasSame}
-use Rattle.kept_conditions.specs.code.Links.{RulesRise}
-use Rattle.kept_conditions.specs.code.Readings.{first_of, AreSmall, AreSorted}
-use Rattle.kept_conditions.specs.declared.links.Link.{Link}
-use Rattle.kept_conditions.specs.declared.readings.Reading.{Reading}
+use Rattle.kept_conditions.specs.code.Index.{HasSame, RulesRise, first_of, AreSmall, AreSorted}
+use Rattle.kept_conditions.specs.declared.index.RuleUse.{RuleUse}
+use Rattle.kept_conditions.specs.declared.index.Dependency.{Dependency}
 
 -- ---- each once
 
@@ -85,10 +83,10 @@ module _ {X : Type 0} (E : X → X → Bool) where
 pub all_same : {X : Type 0} (P : X → Type 0) (olds news : List X) → HasSame olds news → All P olds → All P news
 all_same P olds news same all k d less = All-contains P olds (get_or news k d) all (same.within (get_or news k d) (Contains-get_or news k d less))
 
--- ---- readings
+-- ---- dependencies
 
-abbrev pub reading_cmp : Reading → Reading → Ordering
-reading_cmp a b = ordering_then (range_cmp a.range b.range) (nat_cmp a.reader b.reader)
+abbrev pub dependency_cmp : Dependency → Dependency → Ordering
+dependency_cmp a b = ordering_then (range_cmp a.range b.range) (nat_cmp a.dependent b.dependent)
 
 less_first : (a b : ℕ) (o : Ordering) → a < b → is_lt (ordering_then (nat_cmp a b) o) ≡ true
 less_first a b o less = ap (λ r. is_lt (ordering_then r o)) (sym (nat_cmp_is a b Less less))
@@ -101,52 +99,52 @@ less_then Less o e = refl
 less_then Equal o e = absurd (false≢true e)
 less_then Greater o e = absurd (false≢true e)
 
-not_below : (y x : Reading) → y.range.offset < 65536 → x.range.offset < 65536 → is_lt (reading_cmp y x) ≡ false → first_of x ≤ first_of y
+not_below : (y x : Dependency) → y.range.offset < 65536 → x.range.offset < 65536 → is_lt (dependency_cmp y x) ≡ false → first_of x ≤ first_of y
 not_below y x small small' e = elim (cases_lt y.range.store x.range.store) [
-  | inl less ↦ absurd (false≢true (sym e ∙ less_then (range_cmp y.range x.range) (nat_cmp y.reader x.reader) (less_first y.range.store x.range.store _ less)))
+  | inl less ↦ absurd (false≢true (sym e ∙ less_then (range_cmp y.range x.range) (nat_cmp y.dependent x.dependent) (less_first y.range.store x.range.store _ less)))
   | inr from ↦ elim (cases_eq y.range.store x.range.store) [
     | inl same ↦ elim (cases_lt y.range.offset x.range.offset) [
-      | inl less ↦ absurd (false≢true (sym e ∙ less_then (range_cmp y.range x.range) (nat_cmp y.reader x.reader) (less_second y.range.store x.range.store _ same (less_first y.range.offset x.range.offset _ less))))
+      | inl less ↦ absurd (false≢true (sym e ∙ less_then (range_cmp y.range x.range) (nat_cmp y.dependent x.dependent) (less_second y.range.store x.range.store _ same (less_first y.range.offset x.range.offset _ less))))
       | inr up ↦ omega (arith, same, up)
     ]
     | inr other ↦ let more : x.range.store < y.range.store = grind (arith) in omega (arith, more, small')
   ]
 ]
 
-pub readings_rise : (rs : List Reading) → AreSmall rs → IsSorted reading_cmp rs → AreSorted rs
-readings_rise rs small sorted = IsNonDecreasingBy-from_all_adjacent first_of rs (λ k d less. not_below (get_or rs (k + 1) d) (get_or rs k d) (small (k + 1) d less) (small k d (omega (arith, less))) (sorted k d (omega arith) less))
+pub dependencies_rise : (rs : List Dependency) → AreSmall rs → IsSorted dependency_cmp rs → AreSorted rs
+dependencies_rise rs small sorted = IsNonDecreasingBy-from_all_adjacent first_of rs (λ k d less. not_below (get_or rs (k + 1) d) (get_or rs k d) (small (k + 1) d less) (small k d (omega (arith, less))) (sorted k d (omega arith) less))
 
-abbrev pub reading_eq : Reading → Reading → Bool
-reading_eq a b = (a.range.store == b.range.store && (a.range.offset == b.range.offset && a.range.width == b.range.width)) && a.reader == b.reader
+abbrev pub dependency_eq : Dependency → Dependency → Bool
+dependency_eq a b = (a.range.store == b.range.store && (a.range.offset == b.range.offset && a.range.width == b.range.width)) && a.dependent == b.dependent
 
-pub same_reading : (x y : Reading) → reading_eq x y ≡ true → x ≡ y
-same_reading x y e =
-    let whole = and_parts (x.range.store == y.range.store && (x.range.offset == y.range.offset && x.range.width == y.range.width)) (x.reader == y.reader) e in
+pub same_dependency : (x y : Dependency) → dependency_eq x y ≡ true → x ≡ y
+same_dependency x y e =
+    let whole = and_parts (x.range.store == y.range.store && (x.range.offset == y.range.offset && x.range.width == y.range.width)) (x.dependent == y.dependent) e in
     let first = and_parts (x.range.store == y.range.store) (x.range.offset == y.range.offset && x.range.width == y.range.width) whole.0 in
     let second = and_parts (x.range.offset == y.range.offset) (x.range.width == y.range.width) first.1 in
-    ap (λ (n : ℕ). record { range = record { store = n; offset = x.range.offset; width = x.range.width }; reader = x.reader }) (eqb-true x.range.store y.range.store first.0)
-    ∙ ap (λ (n : ℕ). record { range = record { store = y.range.store; offset = n; width = x.range.width }; reader = x.reader }) (eqb-true x.range.offset y.range.offset second.0)
-    ∙ ap (λ (n : ℕ). record { range = record { store = y.range.store; offset = y.range.offset; width = n }; reader = x.reader }) (eqb-true x.range.width y.range.width second.1)
-    ∙ ap (λ (n : ℕ). record { range = y.range; reader = n }) (eqb-true x.reader y.reader whole.1)
+    ap (λ (n : ℕ). record { range = record { store = n; offset = x.range.offset; width = x.range.width }; dependent = x.dependent }) (eqb-true x.range.store y.range.store first.0)
+    ∙ ap (λ (n : ℕ). record { range = record { store = y.range.store; offset = n; width = x.range.width }; dependent = x.dependent }) (eqb-true x.range.offset y.range.offset second.0)
+    ∙ ap (λ (n : ℕ). record { range = record { store = y.range.store; offset = y.range.offset; width = n }; dependent = x.dependent }) (eqb-true x.range.width y.range.width second.1)
+    ∙ ap (λ (n : ℕ). record { range = y.range; dependent = n }) (eqb-true x.dependent y.dependent whole.1)
 
--- ---- links
+-- ---- rule uses
 
-abbrev pub link_eq : Link → Link → Bool
-link_eq a b = a.rule == b.rule && a.user == b.user
+abbrev pub rule_use_eq : RuleUse → RuleUse → Bool
+rule_use_eq a b = a.rule == b.rule && a.dependent == b.dependent
 
-pub same_link : (x y : Link) → link_eq x y ≡ true → x ≡ y
-same_link x y e =
-    let both = and_parts (x.rule == y.rule) (x.user == y.user) e in
-    ap (λ (n : ℕ). record { rule = n; user = x.user }) (eqb-true x.rule y.rule both.0) ∙ ap (λ (n : ℕ). record { rule = y.rule; user = n }) (eqb-true x.user y.user both.1)
+pub same_rule_use : (x y : RuleUse) → rule_use_eq x y ≡ true → x ≡ y
+same_rule_use x y e =
+    let both = and_parts (x.rule == y.rule) (x.dependent == y.dependent) e in
+    ap (λ (n : ℕ). record { rule = n; dependent = x.dependent }) (eqb-true x.rule y.rule both.0) ∙ ap (λ (n : ℕ). record { rule = y.rule; dependent = n }) (eqb-true x.dependent y.dependent both.1)
 
-abbrev pub link_cmp : Link → Link → Ordering
-link_cmp a b = ordering_then (nat_cmp a.rule b.rule) (nat_cmp a.user b.user)
+abbrev pub rule_use_cmp : RuleUse → RuleUse → Ordering
+rule_use_cmp a b = ordering_then (nat_cmp a.rule b.rule) (nat_cmp a.dependent b.dependent)
 
-link_not_below : (y x : Link) → is_lt (link_cmp y x) ≡ false → x.rule ≤ y.rule
-link_not_below y x e = elim (cases_lt y.rule x.rule) [
+rule_use_not_below : (y x : RuleUse) → is_lt (rule_use_cmp y x) ≡ false → x.rule ≤ y.rule
+rule_use_not_below y x e = elim (cases_lt y.rule x.rule) [
   | inl less ↦ absurd (false≢true (sym e ∙ less_first y.rule x.rule _ less))
   | inr from ↦ from
 ]
 
-pub links_rise : (links : List Link) → IsSorted link_cmp links → RulesRise links
-links_rise links sorted = IsNonDecreasingBy-from_all_adjacent (λ (l : Link). l.rule) links (λ k d less. link_not_below (get_or links (k + 1) d) (get_or links k d) (sorted k d (omega arith) less))
+pub rule_uses_rise : (rule_uses : List RuleUse) → IsSorted rule_use_cmp rule_uses → RulesRise rule_uses
+rule_uses_rise rule_uses sorted = IsNonDecreasingBy-from_all_adjacent (λ (l : RuleUse). l.rule) rule_uses (λ k d less. rule_use_not_below (get_or rule_uses (k + 1) d) (get_or rule_uses k d) (sorted k d (omega arith) less))

@@ -7,8 +7,8 @@ use Rattle.ifr_opcodes.specs.Reading.{tree_of}
 use Rattle.ifr_scopes.specs.Nodes.{nodes_of}
 use Rattle.ifr_scopes.proofs.PlaceLemmas.{nodes_within}
 use Rattle.ifr_scopes.proofs.StructureLemmas.{rising}
-use Rattle.hii_varstore.specs.Stores.{StoreMap}
 use Rattle.ifr_scopes.specs.Accepted.{IsAccepted}
+use Rattle.hii_varstore.specs.Stores.{StoreMap}
 use Rattle.guard_policy.specs.laws.Support.{IsSubjectOf, conditions}
 use Rattle.guard_policy.specs.Conditions.{is_kept}
 use Rattle.guard_policy.specs.code.KeptConditions.{Tells, TellsAll, is_by_kept}

@@ -14,9 +14,9 @@ use Rattle.ifr_scopes.specs.Conditions.{expression_tree}
 use Rattle.ifr_scopes.specs.Nodes.{this_of}
 use Rattle.ifr_scopes.specs.Rules.{rules_among}
 use Rattle.hii_varstore.specs.Layout.{Shape, size_of}
-use Rattle.hii_varstore.specs.Stores as stores
 use Rattle.hii_varstore.specs.Stores.{StoreMap}
 use Rattle.hii_varstore.proofs.WriteLemmas.{sizes}
+use Rattle.hii_varstore.specs.Stores as stores
 use Rattle.hii_questions.specs.Answers.{answers, answer_of, value_of_field, value_of_bytes}
 use Rattle.hii_questions.specs.Fields.{Field, field_of, question_with}
 use Rattle.hii_questions.specs.Types.{type_of}

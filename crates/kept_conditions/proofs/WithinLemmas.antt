@@ -3,21 +3,19 @@ use Rattle.std.proofs.Common.{◌≡◌, ℕ, zero, suc, min, max, ◌+◌, ◌-
 use Rattle.std.specs.Prelude.{slice_get, option_and_then}
 use Rattle.std.specs.List.{AllWithin}
 use Rattle.std.proofs.lemmas.List.{drop_more, drop_all}
-use Rattle.std.proofs.lemmas.Bool.{cases_Bool, cases_lt, and_from, and_parts, eqb-true, eq-eqb, leb-true, le-leb, ltb-true, lt-ltb, false≢true}
+use Rattle.std.proofs.lemmas.Bool.{cases_lt, and_from, and_parts, eqb-true, eq-eqb, leb-true, le-leb, ltb-true, lt-ltb, false≢true, and_right, false_from_ne_true}
+use Rattle.std.proofs.Math.Bool.{and-true}
 use Rattle.hii_varstore.specs.Stores.{StoreMap, shape_of, bytes_of, byte_of}
 use Rattle.hii_questions.specs.code.Numbers.{first_of, behind_of}
 use Rattle.hii_questions.specs.declared.field_range.FieldRange.{FieldRange}
-use Rattle.kept_conditions.specs.code.Differing.{common, other_at, other_bytes}
-use Rattle.kept_conditions.specs.code.Ranges.{LiesWithin}
-use Rattle.kept_conditions.specs.code.Readings as readings
-use Rattle.kept_conditions.specs.code.Readings.{AreSmall, NoneMeets, at_place, is_read, meets, no_reading, reads}
-use Rattle.kept_conditions.specs.code.Within.{AreAlike, in_range}
+use Rattle.kept_conditions.specs.code.Invalidation.{common, other_at, other_bytes, LiesWithin, AreAlike, in_range}
+use Rattle.kept_conditions.specs.code.Index.{AreSmall, NoneOverlaps, at_place, is_dependency, overlaps, no_dependency, depends_on}
 use Rattle.kept_conditions.specs.Touching.{difference, has_one, is_same}
-use Rattle.kept_conditions.specs.declared.readings.Reading.{Reading}
+use Rattle.kept_conditions.specs.declared.index.Dependency.{Dependency}
+use Rattle.kept_conditions.specs.code.Index as dependencies
 use Rattle.kept_conditions.proofs.DifferenceLemmas.{equal_behind, none_one, one_size}
 use Rattle.kept_conditions.proofs.UntouchedLemmas.{none_has}
-use Rattle.kept_conditions.proofs.RangeLemmas.{alike, has_some, meets_range, some_has}
-use Rattle.kept_conditions.proofs.HitLemmas.{skip, unmet_behind}
+use Rattle.kept_conditions.proofs.OverlapLemmas.{alike, has_some, overlaps_range, some_has, skip, unmet_behind}
 
 -- ---- a byte of a range
 
@@ -33,23 +31,16 @@ lies_in r store at e =
     (eqb-true store r.store first.0, leb-true r.offset at second.0, ltb-true at (r.offset + r.width) second.1)
 
 pub not_in : (r : FieldRange) (store at : ℕ) → (LiesWithin r store at → ⊥) → in_range r store at ≡ false
-not_in r store at away = elim (cases_Bool (in_range r store at)) [
-  | inl is ↦ absurd (away (lies_in r store at is))
-  | inr other ↦ other
-]
+not_in r store at away = false_from_ne_true (in_range r store at) (λ is. away (lies_in r store at is))
 
 pub lies_out : (r : FieldRange) (store at : ℕ) → in_range r store at ≡ false → LiesWithin r store at → ⊥
 lies_out r store at away lies = false≢true (sym away ∙ is_in r store at lies)
 
 -- ---- bytes that are among two sets
 
-and_none : (a b : Bool) → b ≡ false → a && b ≡ false
-and_none true b e = e
-and_none false b e = refl
-
 pub other_store : (bytes : ℕ → ℕ → Bool) (field within : FieldRange) → (field.store ≡ within.store → ⊥) → has_one (common bytes (in_range within)) field.store field.offset field.width ≡ false
 other_store bytes field within other =
-    none_one (common bytes (in_range within)) field.store field.width field.offset (λ at from before. and_none (bytes field.store at) (in_range within field.store at) (not_in within field.store at (λ w. other w.0)))
+    none_one (common bytes (in_range within)) field.store field.width field.offset (λ at from before. and_right (bytes field.store at) (in_range within field.store at) (not_in within field.store at (λ w. other w.0)))
 
 pub fewer_bytes : (bytes others : ℕ → ℕ → Bool) (store offset width : ℕ) → has_one bytes store offset width ≡ false → has_one (common bytes others) store offset width ≡ false
 fewer_bytes bytes others store offset width none =
@@ -113,12 +104,12 @@ module _ (bytes some others : ℕ → ℕ → Bool) (is : (store at : ℕ) → b
       turned false true false y = refl
       turned false false x y = refl
 
-  pub split_reads : (rs : List Reading) (k : ℕ) → reads bytes rs k ≡ (reads some rs k || reads others rs k)
-  split_reads [] k = refl
-  split_reads (r ∷ rs) k =
-      ap (λ b. (r.reader == k && b) || reads bytes rs k) (split_one r.range.store r.range.width r.range.offset)
-      ∙ ap (λ b. (r.reader == k && (has_one some r.range.store r.range.offset r.range.width || has_one others r.range.store r.range.offset r.range.width)) || b) (split_reads rs k)
-      ∙ turned (r.reader == k) (has_one some r.range.store r.range.offset r.range.width) (has_one others r.range.store r.range.offset r.range.width) (reads some rs k) (reads others rs k)
+  pub split_depends_on : (rs : List Dependency) (k : ℕ) → depends_on bytes rs k ≡ (depends_on some rs k || depends_on others rs k)
+  split_depends_on [] k = refl
+  split_depends_on (r ∷ rs) k =
+      ap (λ b. (r.dependent == k && b) || depends_on bytes rs k) (split_one r.range.store r.range.width r.range.offset)
+      ∙ ap (λ b. (r.dependent == k && (has_one some r.range.store r.range.offset r.range.width || has_one others r.range.store r.range.offset r.range.width)) || b) (split_depends_on rs k)
+      ∙ turned (r.dependent == k) (has_one some r.range.store r.range.offset r.range.width) (has_one others r.range.store r.range.offset r.range.width) (depends_on some rs k) (depends_on others rs k)
     where
       turned : (n a b x y : Bool) → ((n && (a || b)) || (x || y)) ≡ (((n && a) || x) || ((n && b) || y))
       turned false a b x y = refl
@@ -127,12 +118,12 @@ module _ (bytes some others : ℕ → ℕ → Bool) (is : (store at : ℕ) → b
       turned true false true false y = refl
       turned true false false x y = refl
 
--- nothing reads no byte
-pub reads_nothing : (bytes : ℕ → ℕ → Bool) → ((store at : ℕ) → bytes store at ≡ false) → (rs : List Reading) (k : ℕ) → reads bytes rs k ≡ false
-reads_nothing bytes none [] k = refl
-reads_nothing bytes none (r ∷ rs) k =
-    ap (λ b. (r.reader == k && b) || reads bytes rs k) (none_one bytes r.range.store r.range.width r.range.offset (λ at from before. none r.range.store at))
-    ∙ ap (λ b. b || reads bytes rs k) (and_none (r.reader == k) false refl) ∙ reads_nothing bytes none rs k
+-- nothing depends on no byte
+pub depends_on_nothing : (bytes : ℕ → ℕ → Bool) → ((store at : ℕ) → bytes store at ≡ false) → (rs : List Dependency) (k : ℕ) → depends_on bytes rs k ≡ false
+depends_on_nothing bytes none [] k = refl
+depends_on_nothing bytes none (r ∷ rs) k =
+    ap (λ b. (r.dependent == k && b) || depends_on bytes rs k) (none_one bytes r.range.store r.range.width r.range.offset (λ at from before. none r.range.store at))
+    ∙ ap (λ b. b || depends_on bytes rs k) (and_right (r.dependent == k) false refl) ∙ depends_on_nothing bytes none rs k
 
 -- ---- bytes that are the same
 
@@ -143,51 +134,47 @@ same_byte (Some b) = eq-eqb b b refl
 pub alike_nowhere : (old new : StoreMap) → AreAlike old new → (store at : ℕ) → difference old new store at ≡ false
 alike_nowhere old new same store at = ap (λ o. not (is_same o (byte_of new store at))) (same store at) ∙ ap not (same_byte (byte_of new store at))
 
--- a reading that has no byte of a range has none that is among others, too
-pub unmet_reading : (bytes : ℕ → ℕ → Bool) (range : FieldRange) (r : Reading) (k : ℕ) → range.offset < 65536 → r.range.offset < 65536 → meets (first_of range) (behind_of range) r ≡ false → is_read (common bytes (in_range range)) k r ≡ false
-unmet_reading bytes range r k small small' none =
-    let away : has_one (in_range range) r.range.store r.range.offset r.range.width ≡ false = sym (meets_range range r small small') ∙ none in
-    and_none (r.reader == k) (has_one (common bytes (in_range range)) r.range.store r.range.offset r.range.width)
+-- a dependency that has no byte of a range has none that is among others, too
+pub apart_dependency : (bytes : ℕ → ℕ → Bool) (range : FieldRange) (r : Dependency) (k : ℕ) → range.offset < 65536 → r.range.offset < 65536 → overlaps (first_of range) (behind_of range) r ≡ false → is_dependency (common bytes (in_range range)) k r ≡ false
+apart_dependency bytes range r k small small' none =
+    let away : has_one (in_range range) r.range.store r.range.offset r.range.width ≡ false = sym (overlaps_range range r small small') ∙ none in
+    and_right (r.dependent == k) (has_one (common bytes (in_range range)) r.range.store r.range.offset r.range.width)
     (none_one (common bytes (in_range range)) r.range.store r.range.width r.range.offset (λ at from before.
-    and_none (bytes r.range.store at) (in_range range r.range.store at) (none_has (in_range range) r.range.store r.range.width r.range.offset at away from before)))
+    and_right (bytes r.range.store at) (in_range range r.range.store at) (none_has (in_range range) r.range.store r.range.width r.range.offset at away from before)))
 
--- whether a reading is that of a reader, by whether it has one of the bytes
-pub unread_reading : (bytes : ℕ → ℕ → Bool) (r : Reading) (k : ℕ) → has_one bytes r.range.store r.range.offset r.range.width ≡ false → is_read bytes k r ≡ false
-unread_reading bytes r k none = and_none (r.reader == k) (has_one bytes r.range.store r.range.offset r.range.width) none
+-- whether a dependency is that of a dependent, by whether it has one of the bytes
+pub other_dependency : (bytes : ℕ → ℕ → Bool) (r : Dependency) (k : ℕ) → has_one bytes r.range.store r.range.offset r.range.width ≡ false → is_dependency bytes k r ≡ false
+other_dependency bytes r k none = and_right (r.dependent == k) (has_one bytes r.range.store r.range.offset r.range.width) none
 
-pub read_reading : (bytes : ℕ → ℕ → Bool) (r : Reading) (k : ℕ) → has_one bytes r.range.store r.range.offset r.range.width ≡ true → is_read bytes k r ≡ (r.reader == k)
-read_reading bytes r k has = ap (λ b. r.reader == k && b) has ∙ and_true (r.reader == k)
-  where
-    and_true : (b : Bool) → b && true ≡ b
-    and_true true = refl
-    and_true false = refl
+pub its_dependency : (bytes : ℕ → ℕ → Bool) (r : Dependency) (k : ℕ) → has_one bytes r.range.store r.range.offset r.range.width ≡ true → is_dependency bytes k r ≡ (r.dependent == k)
+its_dependency bytes r k has = ap (λ b. r.dependent == k && b) has ∙ and-true (r.dependent == k)
 
--- ---- readings, from the last one on, of which those are told that meet the bytes between two numbers, which are those of a range
+-- ---- dependencies, from the last one on, of which those are told that overlap a range
 
-module _ (bytes : ℕ → ℕ → Bool) (range : FieldRange) (rs : List Reading) (from behind : ℕ) (first : from ≡ first_of range) (last : behind ≡ behind_of range) (small : range.offset < 65536) (all : AreSmall rs) where
-  pub reads_skip : (low high k : ℕ) → low ≤ high → high ≤ length rs → NoneMeets from behind rs low high → reads (common bytes (in_range range)) (drop low rs) k ≡ reads (common bytes (in_range range)) (drop high rs) k
-  reads_skip low high k ordered within none =
-      skip (is_read (common bytes (in_range range)) k) rs no_reading (high - low) low high (omega (arith, ordered)) within
+module _ (bytes : ℕ → ℕ → Bool) (range : FieldRange) (rs : List Dependency) (from behind : ℕ) (first : from ≡ first_of range) (last : behind ≡ behind_of range) (small : range.offset < 65536) (all : AreSmall rs) where
+  pub depends_skip : (low high k : ℕ) → low ≤ high → high ≤ length rs → NoneOverlaps from behind rs low high → depends_on (common bytes (in_range range)) (drop low rs) k ≡ depends_on (common bytes (in_range range)) (drop high rs) k
+  depends_skip low high k ordered within none =
+      skip (is_dependency (common bytes (in_range range)) k) rs no_dependency (high - low) low high (omega (arith, ordered)) within
       (λ j above below.
       let r = at_place rs j in
-      unmet_reading bytes range r k small (all j no_reading (omega (arith, below, within))) (sym (ap (λ n. meets n behind r) first ∙ ap (λ n. meets (first_of range) n r) last) ∙ none j above below))
+      apart_dependency bytes range r k small (all j no_dependency (omega (arith, below, within))) (sym (ap (λ n. overlaps n behind r) first ∙ ap (λ n. overlaps (first_of range) n r) last) ∙ none j above below))
 
-  pub reads_behind : (place k : ℕ) → place ≤ length rs → AllWithin (λ (r : Reading). nat_lt (readings.first_of r) behind ≡ false) rs place (length rs) → reads (common bytes (in_range range)) (drop place rs) k ≡ false
-  reads_behind place k within none =
-      reads_skip place (length rs) k within (omega arith) (λ j above below. unmet_behind from behind (at_place rs j) (none j no_reading above below))
-      ∙ ap (λ l. reads (common bytes (in_range range)) l k) (drop_all (length rs) rs (omega arith))
+  pub depends_behind : (place k : ℕ) → place ≤ length rs → AllWithin (λ (r : Dependency). nat_lt (dependencies.first_of r) behind ≡ false) rs place (length rs) → depends_on (common bytes (in_range range)) (drop place rs) k ≡ false
+  depends_behind place k within none =
+      depends_skip place (length rs) k within (omega arith) (λ j above below. unmet_behind from behind (at_place rs j) (none j no_dependency above below))
+      ∙ ap (λ l. depends_on (common bytes (in_range range)) l k) (drop_all (length rs) rs (omega arith))
 
-  -- the one at a place and those behind it, where none meets them up to another place
-  module _ (at before k : ℕ) (less : at < before) (within : before ≤ length rs) (none : NoneMeets from behind rs (at + 1) before) where
-    reads_next : reads (common bytes (in_range range)) (drop at rs) k ≡ (is_read (common bytes (in_range range)) k (at_place rs at) || reads (common bytes (in_range range)) (drop before rs) k)
-    reads_next =
-        ap (λ l. reads (common bytes (in_range range)) l k) (drop_more rs at no_reading (omega (arith, less, within)))
-        ∙ ap (λ b. is_read (common bytes (in_range range)) k (at_place rs at) || b) (reads_skip (at + 1) before k (omega (arith, less)) within none)
+  -- the one at a place and those behind it, where none overlaps them up to another place
+  module _ (at before k : ℕ) (less : at < before) (within : before ≤ length rs) (none : NoneOverlaps from behind rs (at + 1) before) where
+    depends_next : depends_on (common bytes (in_range range)) (drop at rs) k ≡ (is_dependency (common bytes (in_range range)) k (at_place rs at) || depends_on (common bytes (in_range range)) (drop before rs) k)
+    depends_next =
+        ap (λ l. depends_on (common bytes (in_range range)) l k) (drop_more rs at no_dependency (omega (arith, less, within)))
+        ∙ ap (λ b. is_dependency (common bytes (in_range range)) k (at_place rs at) || b) (depends_skip (at + 1) before k (omega (arith, less)) within none)
 
-    pub reads_past : has_one (common bytes (in_range range)) (at_place rs at).range.store (at_place rs at).range.offset (at_place rs at).range.width ≡ false
-        → reads (common bytes (in_range range)) (drop at rs) k ≡ reads (common bytes (in_range range)) (drop before rs) k
-    reads_past away = reads_next ∙ ap (λ b. b || reads (common bytes (in_range range)) (drop before rs) k) (unread_reading (common bytes (in_range range)) (at_place rs at) k away)
+    pub depends_past : has_one (common bytes (in_range range)) (at_place rs at).range.store (at_place rs at).range.offset (at_place rs at).range.width ≡ false
+        → depends_on (common bytes (in_range range)) (drop at rs) k ≡ depends_on (common bytes (in_range range)) (drop before rs) k
+    depends_past away = depends_next ∙ ap (λ b. b || depends_on (common bytes (in_range range)) (drop before rs) k) (other_dependency (common bytes (in_range range)) (at_place rs at) k away)
 
-    pub reads_more : has_one (common bytes (in_range range)) (at_place rs at).range.store (at_place rs at).range.offset (at_place rs at).range.width ≡ true
-        → reads (common bytes (in_range range)) (drop at rs) k ≡ ((at_place rs at).reader == k || reads (common bytes (in_range range)) (drop before rs) k)
-    reads_more has = reads_next ∙ ap (λ b. b || reads (common bytes (in_range range)) (drop before rs) k) (read_reading (common bytes (in_range range)) (at_place rs at) k has)
+    pub depends_more : has_one (common bytes (in_range range)) (at_place rs at).range.store (at_place rs at).range.offset (at_place rs at).range.width ≡ true
+        → depends_on (common bytes (in_range range)) (drop at rs) k ≡ ((at_place rs at).dependent == k || depends_on (common bytes (in_range range)) (drop before rs) k)
+    depends_more has = depends_next ∙ ap (λ b. b || depends_on (common bytes (in_range range)) (drop before rs) k) (its_dependency (common bytes (in_range range)) (at_place rs at) k has)

@@ -1,4 +1,7 @@
 //! Decisions over stores by what is kept over them.
+//!
+//! Each gives what is kept to the call of the policy that decides by such values: so a command goes over the guards around its
+//! statement and evaluates none of their conditions. The answer is that of the policy over the stores.
 
 ghost use Rattle.std.specs.Prelude.{◌≡◌, IfOk, None};
 ghost use Rattle.ifr_scopes.specs.code.Checked.{IsNodeOf};
@@ -11,7 +14,7 @@ ghost use Rattle.guard_policy.specs.code.Answers.{unless};
 ghost use Rattle.guard_policy.specs.code.Surroundings.{IsAroundNode, answer_of};
 ghost use Rattle.guard_policy.specs.code.Views.{bytes_of, world};
 
-use crate::kept_stores::KeptStores;
+use crate::cache::KeptStores;
 use guard_policy::{Denial, Policy};
 use hii_questions::Question;
 use ifr_scopes::{Around, Form, Statement};

@@ -1,67 +1,198 @@
-//! How it is found which readers a write touches.
+//! The index of dependencies: on which bytes of stores and on which rules each dependent depends.
+//!
+//! Dependencies stand by their first byte, each with a summary of a block that it ends: how far that block reaches. So a search
+//! for those that overlap some bytes passes over whole blocks, and a write costs a few steps for each dependency that it hits,
+//! however many there are. On what a rule depends is kept once, and not again for each that uses the rule.
 
-ghost use Rattle.std.specs.Prelude.{◌≡◌, IfOk, length};
-ghost use Rattle.kept_conditions.specs.code.Indexing.{HasSame};
-ghost use Rattle.kept_conditions.specs.code.Links.{RulesRise};
-ghost use Rattle.kept_conditions.specs.code.Readings.{AreSmall, AreSorted, AreSpans};
+ghost use Rattle.std.specs.Prelude.{nat_lt, false, ◌≡◌, ◌==◌, filter, ◌<◌, ◌≤◌, ◌+◌, length, IfOk, Some, None};
+ghost use Rattle.std.specs.List.{AllWithin};
+ghost use Rattle.kept_conditions.specs.code.Index.{first_of, behind_of, overlaps, RulesRise, IsSummary, AreSummaries, IsLastOverlapping, HasSame, AreSmall, AreSorted};
 
-use crate::links::Link;
-use crate::readings::Reading;
-use crate::spans::{Span, spans_of};
+use hii_questions::FieldRange;
 use std::alloc::{AllocError, Global};
 
-/// What readers read and which rules they name, each once.
+/// Bytes on which a dependent depends: those of the field of a question that it names. Dependencies follow one another by field and
+/// dependent.
+#[derive(Clone, Copy, PartialEq, Eq, PartialOrd, Ord)]
+pub(crate) struct Dependency {
+    pub(crate) range: FieldRange,
+    /// The number of the dependent.
+    pub(crate) dependent: u32,
+}
+
+impl Dependency {
+    /// The number of the first byte.
+    pub(crate) fn first(self) -> u64
+        ensures { result ≡ first_of self }
+    {
+        self.range.first()
+    }
+
+    /// The number behind the last.
+    pub(crate) fn behind(self) -> u64
+        ensures { result ≡ behind_of self }
+    {
+        self.range.behind()
+    }
+
+    /// Whether one of these bytes is among those from a number on up to before another.
+    pub(crate) fn overlaps(self, from: u64, end: u64) -> bool
+        ensures { result ≡ overlaps from end self }
+    {
+        let first = self.first();
+        let behind = self.behind();
+        from < end && first < behind && first < end && from < behind
+    }
+}
+
+/// A rule and a dependent that uses it, by their numbers. Rule uses follow one another by rule and dependent.
+#[derive(Clone, Copy, PartialEq, Eq, PartialOrd, Ord)]
+pub(crate) struct RuleUse {
+    pub(crate) rule: u32,
+    pub(crate) dependent: u32,
+}
+
+/// The uses of the rule of a number.
+pub(crate) fn uses_of(rule_uses: &[RuleUse], rule: u32) -> &[RuleUse]
+    requires { RulesRise rule_uses.now }
+    ensures { result.now ≡ filter (λ l. l.rule == rule) rule_uses.now }
+{
+    let first = rule_uses.partition_point(|rule_use| rule_use.rule < rule);
+    let from = &rule_uses[first..];
+    let count = from.partition_point(|rule_use| rule_use.rule <= rule);
+    &from[..count]
+}
+
+/// A block of dependencies that ends with one: how many they are, and the greatest end of these.
+#[derive(Clone, Copy, Default)]
+pub(crate) struct Summary {
+    pub(crate) len: usize,
+    pub(crate) max_end: u64,
+}
+
+// The summary of the dependency at a place behind others that have theirs: blocks of the same length are joined.
+fn summary_at(dependencies: &[Dependency], summaries: &[Summary], at: usize) -> Summary
+    requires inside { at < length dependencies.now }
+    requires behind { length summaries.now ≡ at }
+    requires summaries { AreSummaries dependencies.now summaries.now }
+    ensures { IsSummary dependencies.now at result }
+{
+    let mut max_end = dependencies[at].behind();
+    let mut len = 1;
+    while len <= at && summaries[at - len].len == len {
+        let before = summaries[at - len];
+        max_end = max_end.max(before.max_end);
+        len += before.len;
+    }
+    Summary { len, max_end }
+}
+
+/// The summaries of some dependencies.
+pub(crate) fn summaries_of(
+    alloc: Global,
+    dependencies: &[Dependency],
+) -> Result<Vec<Summary>, AllocError>
+    ensures { IfOk result (λ summaries.
+        (length summaries.items ≡ length dependencies.now) × AreSummaries dependencies.now summaries.items) }
+{
+    let mut summaries = Vec::with_capacity(alloc, dependencies.len())?;
+    for at in 0..dependencies.len() {
+        let summary = summary_at(dependencies, &summaries, at);
+        summaries.push(summary)?;
+    }
+    Ok(summaries)
+}
+
+/// How many dependencies begin before a number.
+pub(crate) fn beginning_before(dependencies: &[Dependency], end: u64) -> usize
+    requires { AreSorted dependencies.now }
+    ensures bound { result ≤ length dependencies.now }
+    ensures behind { AllWithin (λ (r : Dependency). nat_lt (first_of r) end ≡ false)
+        dependencies.now result (length dependencies.now) }
+{
+    dependencies.partition_point(|dependency| dependency.first() < end)
+}
+
+/// The last dependency before a place that overlaps the bytes from a number on up to before another.
+pub(crate) fn last_overlapping(
+    dependencies: &[Dependency],
+    summaries: &[Summary],
+    from: u64,
+    end: u64,
+    before: usize,
+) -> Option<usize>
+    requires inside { before ≤ length dependencies.now }
+    requires all { length summaries.now ≡ length dependencies.now }
+    requires summaries { AreSummaries dependencies.now summaries.now }
+    ensures { IsLastOverlapping from end dependencies.now before result }
+{
+    let mut left = before;
+    while left > 0 {
+        let at = left - 1;
+        if summaries[at].max_end <= from {
+            // None of the block reaches so far.
+            left -= summaries[at].len;
+        } else if dependencies[at].overlaps(from, end) {
+            return Some(at);
+        } else {
+            left = at;
+        }
+    }
+    None
+}
+
+/// On what dependents depend, each once.
 #[derive(Drop)]
 pub(crate) struct Index {
     /// By the first byte.
-    pub(crate) readings: Vec<Reading>,
-    /// One for each reading.
-    pub(crate) spans: Vec<Span>,
+    pub(crate) dependencies: Vec<Dependency>,
+    /// One for each dependency.
+    pub(crate) summaries: Vec<Summary>,
     /// By the number of the rule.
-    pub(crate) links: Vec<Link>,
+    pub(crate) rule_uses: Vec<RuleUse>,
 }
 
-// Puts readings into the order of their first bytes, each once.
-fn order_readings(readings: &mut Vec<Reading>)
-    requires { AreSmall readings.old.items }
-    ensures sorted { AreSorted readings.new.items }
-    ensures same { HasSame readings.old.items readings.new.items }
+// Puts dependencies into the order of their first bytes, each once.
+fn order_dependencies(dependencies: &mut Vec<Dependency>)
+    requires { AreSmall dependencies.old.items }
+    ensures sorted { AreSorted dependencies.new.items }
+    ensures same { HasSame dependencies.old.items dependencies.new.items }
 {
-    readings.sort_unstable();
-    readings.dedup();
+    dependencies.sort_unstable();
+    dependencies.dedup();
 }
 
-// Puts links into the order of their rules, each once.
-fn order_links(links: &mut Vec<Link>)
-    ensures sorted { RulesRise links.new.items }
-    ensures same { HasSame links.old.items links.new.items }
+// Puts rule uses into the order of their rules, each once.
+fn order_rule_uses(rule_uses: &mut Vec<RuleUse>)
+    ensures sorted { RulesRise rule_uses.new.items }
+    ensures same { HasSame rule_uses.old.items rule_uses.new.items }
 {
-    links.sort_unstable();
-    links.dedup();
+    rule_uses.sort_unstable();
+    rule_uses.dedup();
 }
 
-/// The index over some readings and links.
+/// The index over some dependencies and rule uses.
 pub(crate) fn index_over(
     alloc: Global,
-    readings: Vec<Reading>,
-    links: Vec<Link>,
+    dependencies: Vec<Dependency>,
+    rule_uses: Vec<RuleUse>,
 ) -> Result<Index, AllocError>
-    requires { AreSmall readings.items }
-    ensures sorted { IfOk result (λ index. AreSorted index.readings.items) }
-    ensures all { IfOk result (λ index. length index.spans.items ≡ length index.readings.items) }
-    ensures spanned { IfOk result (λ index. AreSpans index.readings.items index.spans.items) }
-    ensures rise { IfOk result (λ index. RulesRise index.links.items) }
-    ensures readings { IfOk result (λ index. HasSame readings.items index.readings.items) }
-    ensures links { IfOk result (λ index. HasSame links.items index.links.items) }
+    requires { AreSmall dependencies.items }
+    ensures sorted { IfOk result (λ index. AreSorted index.dependencies.items) }
+    ensures all { IfOk result (λ index. length index.summaries.items ≡ length index.dependencies.items) }
+    ensures summed { IfOk result (λ index. AreSummaries index.dependencies.items index.summaries.items) }
+    ensures rise { IfOk result (λ index. RulesRise index.rule_uses.items) }
+    ensures dependencies { IfOk result (λ index. HasSame dependencies.items index.dependencies.items) }
+    ensures rule_uses { IfOk result (λ index. HasSame rule_uses.items index.rule_uses.items) }
 {
-    let mut readings = readings;
-    let mut links = links;
-    order_readings(&mut readings);
-    order_links(&mut links);
-    let spans = spans_of(alloc, &readings)?;
+    let mut dependencies = dependencies;
+    let mut rule_uses = rule_uses;
+    order_dependencies(&mut dependencies);
+    order_rule_uses(&mut rule_uses);
+    let summaries = summaries_of(alloc, &dependencies)?;
     Ok(Index {
-        readings,
-        spans,
-        links,
+        dependencies,
+        summaries,
+        rule_uses,
     })
 }

@@ -1,4 +1,7 @@
 //! Laws of the definitions of what is kept.
+//!
+//! Each is a function without a body that nobody calls, and its contract a statement of `specs/laws`: why it is enough to renew
+//! what a write touches, and why decisions by what is kept are those over the stores.
 
 ghost use Rattle.kept_conditions.specs.laws.Tells.{KeptTells};
 ghost use Rattle.kept_conditions.specs.laws.Writes.{ChangesAreWrites, LeavesUntouched, PutsAreWrites};

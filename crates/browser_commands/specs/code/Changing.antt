@@ -25,8 +25,8 @@ use Rattle.guard_policy.specs.declared.policy.Policy.{Policy}
 use Rattle.config_text.specs.code.BlocksLeft.{blocks_left}
 use Rattle.hii_questions.specs.declared.field_range.FieldRange.{FieldRange}
 use Rattle.kept_conditions.specs.Kept.{KeptMap, written}
-use Rattle.kept_conditions.specs.code.Ranges.{LiesWithin}
-use Rattle.kept_conditions.specs.code.Setting.{put_in}
+use Rattle.kept_conditions.specs.code.Invalidation.{LiesWithin}
+use Rattle.kept_conditions.specs.code.Cache.{put_in}
 use Rattle.kept_conditions.specs.Touching.{difference, range_of_field}
 use Rattle.session_steps.specs.Configuration.{block_field, question_of_field}
 use Rattle.session_steps.specs.Renewed.{written_by}

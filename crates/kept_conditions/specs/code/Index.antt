@@ -1,66 +1,97 @@
--- How it is found on which bytes the readers of a package depend.
-use Rattle.std.specs.Prelude.{◌≡◌, ℕ, ◌<◌, ◌≤◌, ◌==◌, ◌&&◌, ◌||◌, Bool, true, All, List, [], length, map, filter}
+-- Bytes and rules on which dependents depend, in order, and how those are found that overlap a write.
+use Rattle.std.specs.Prelude.{◌≡◌, ℕ, ◌+◌, ◌<◌, ◌≤◌, ◌==◌, ◌&&◌, nat_lt, Bool, true, false, All, Option, Some, None, List, length, slice_index_or, Contains}
 use Rattle.std.specs.List.{list_any}
-use Rattle.std.specs.Vec.{vec_capacity}
-use Rattle.hii_bytes.specs.code.FirstFaults.{Rise}
-use Rattle.ifr_opcodes.specs.Forest.{Node}
-use Rattle.ifr_scopes.specs.Nodes.{nodes_of, end_of}
-use Rattle.ifr_scopes.specs.Rules.{is_rule}
-use Rattle.kept_conditions.specs.Kept.{Told}
-use Rattle.kept_conditions.specs.code.Links.{RulesRise}
-use Rattle.kept_conditions.specs.code.Nodes.{reader_nodes, reader_node, is_touched}
-use Rattle.kept_conditions.specs.code.Readers.{at_number, is_condition, rules_in}
-use Rattle.kept_conditions.specs.code.Readings.{AreSorted, AreSpans, AreSmall, HaveNumbers, reads}
-use Rattle.kept_conditions.specs.declared.index.Index.{Index}
-use Rattle.kept_conditions.specs.declared.links.Link.{Link}
-use Rattle.kept_conditions.specs.declared.readers.Reader.{Reader}
-use Rattle.kept_conditions.specs.declared.readers.Readers.{Readers}
-use Rattle.kept_conditions.specs.declared.readings.Reading.{Reading}
+use Rattle.std.specs.List.Sorted.{IsNonDecreasingBy}
+use Rattle.hii_questions.specs.code.Numbers as numbers
+use Rattle.kept_conditions.specs.Touching.{has_one}
+use Rattle.kept_conditions.specs.declared.index.Dependency.{Dependency}
+use Rattle.kept_conditions.specs.declared.index.Summary.{Summary}
+use Rattle.kept_conditions.specs.declared.index.RuleUse.{RuleUse}
 
--- ---- what is found
+-- the number of its first byte, and the one behind the last
+abbrev pub first_of : Dependency → ℕ
+first_of r = numbers.first_of r.range
 
--- a link from a rule that depends on one of these bytes to the reader of a number
-abbrev pub is_used : (ℕ → Bool) → ℕ → Link → Bool
-is_used touched k l = l.user == k && touched l.rule
+abbrev pub behind_of : Dependency → ℕ
+behind_of r = numbers.behind_of r.range
 
--- the reader of a number reads one of these bytes, or names a rule that depends on one
-abbrev pub finds : List Node → (ℕ → ℕ → Bool) → List Reading → List Link → ℕ → Bool
-finds ns bytes readings links k =
-    reads bytes readings k || list_any (is_used (is_touched ns bytes) k) links
+-- a byte of the dependency is among those from a number on up to before another
+abbrev pub overlaps : ℕ → ℕ → Dependency → Bool
+overlaps from end r =
+    nat_lt from end
+    && (nat_lt (first_of r) (behind_of r)
+    && (nat_lt (first_of r) end && nat_lt from (behind_of r)))
 
--- A link leads from a rule to a reader, which ends behind it if it is a rule, too.
-pub record IsLink (ns : List Node) (l : Link) : Type 0 where
-  pub rule : l.rule < length (reader_nodes ns)
-  pub user : l.user < length (reader_nodes ns)
-  pub named : is_rule (reader_node ns l.rule) ≡ true
-  pub before : is_rule (reader_node ns l.user) ≡ true
-      → end_of (reader_node ns l.rule) < end_of (reader_node ns l.user)
+-- a dependency of nothing, and the dependency at a place
+abbrev pub no_dependency : Dependency
+no_dependency = record { range = record { store = 0; offset = 0; width = 0 }; dependent = 0 }
 
--- what is kept of a condition
-abbrev pub value_of : Reader → Told
-value_of r = record { place = r.place; holds = r.holds }
+abbrev pub at_place : List Dependency → ℕ → Dependency
+at_place rs k = slice_index_or rs k no_dependency
 
-abbrev pub values_of : Readers → List Told
-values_of rs = map value_of (filter is_condition rs.list.items)
+-- No dependency of a block that is summed up ends behind its `max_end`.
+pub record IsSummary (rs : List Dependency) (at : ℕ) (summary : Summary) : Type 0 where
+  pub some : 1 ≤ summary.len
+  pub within : summary.len ≤ at + 1
+  pub below : (j : ℕ) → j ≤ at → at < j + summary.len → behind_of (at_place rs j) ≤ summary.max_end
 
--- The readers of a package are kept, and so is what they read and which rules they name.
-pub record IsIndex (ifr : List ℕ) (readers : Readers) (index : Index) : Type 0 where
-  pub placed : map (λ (r : Reader). r.place) readers.list.items
-      ≡ map (λ (n : Node). n.place) (reader_nodes (nodes_of ifr))
-  pub kinds : map (λ (r : Reader). r.is_rule) readers.list.items
-      ≡ map is_rule (reader_nodes (nodes_of ifr))
-  pub rise : Rise (λ (x : ℕ). x) 0 (map (λ (r : Reader). r.place) readers.list.items)
-  pub rounds : (k : ℕ) → k < length readers.list.items
-      → (at_number readers.list.items k).round ≤ readers.round
-  pub idle : readers.waiting.items ≡ []
-  pub room : rules_in readers.list.items ≤ vec_capacity readers.waiting
-  pub sorted : AreSorted index.readings.items
-  pub all : length index.spans.items ≡ length index.readings.items
-  pub spanned : AreSpans index.readings.items index.spans.items
-  pub numbers : HaveNumbers (length (reader_nodes (nodes_of ifr))) index.readings.items
-  pub small : AreSmall index.readings.items
-  pub by_rule : RulesRise index.links.items
-  pub linked : All (IsLink (nodes_of ifr)) index.links.items
-  pub found : (bytes : ℕ → ℕ → Bool) (k : ℕ) → k < length (reader_nodes (nodes_of ifr))
-      → finds (nodes_of ifr) bytes index.readings.items index.links.items k
-      ≡ is_touched (nodes_of ifr) bytes k
+abbrev pub AreSummaries : List Dependency → List Summary → Type 0
+AreSummaries rs summaries =
+    (k : ℕ) → k < length summaries
+    → IsSummary rs k (slice_index_or summaries k record { len = 0; max_end = 0 })
+
+-- None of the dependencies from a place on up to before another overlaps these bytes.
+abbrev pub NoneOverlaps : ℕ → ℕ → List Dependency → ℕ → ℕ → Type 0
+NoneOverlaps from end rs low high =
+    (j : ℕ) → low ≤ j → j < high → overlaps from end (at_place rs j) ≡ false
+
+-- the last dependency before a place that overlaps these bytes, if one does
+abbrev pub IsLastOverlapping : ℕ → ℕ → List Dependency → ℕ → Option ℕ → Type 0
+IsLastOverlapping from end rs before None = NoneOverlaps from end rs 0 before
+IsLastOverlapping from end rs before (Some k) =
+    (k < before) × (overlaps from end (at_place rs k) ≡ true) × NoneOverlaps from end rs (k + 1) before
+
+-- The first bytes of the dependencies do not fall.
+abbrev pub AreSorted : List Dependency → Type 0
+AreSorted rs = IsNonDecreasingBy first_of rs
+
+-- Each dependency is one of so many dependents.
+abbrev pub HaveNumbers : ℕ → List Dependency → Type 0
+HaveNumbers count rs = All (λ (r : Dependency). r.dependent < count) rs
+
+-- Offsets have two bytes.
+abbrev pub AreSmall : List Dependency → Type 0
+AreSmall rs = All (λ (r : Dependency). r.range.offset < 65536) rs
+
+-- ---- which dependents
+
+-- the dependent of a number has a dependency that overlaps these bytes
+abbrev pub is_hit : ℕ → ℕ → ℕ → Dependency → Bool
+is_hit from end k r = r.dependent == k && overlaps from end r
+
+abbrev pub hits : ℕ → ℕ → List Dependency → ℕ → Bool
+hits from end rs k = list_any (is_hit from end k) rs
+
+-- the dependent of a number depends on one of some bytes
+abbrev pub is_dependency : (ℕ → ℕ → Bool) → ℕ → Dependency → Bool
+is_dependency bytes k r = r.dependent == k && has_one bytes r.range.store r.range.offset r.range.width
+
+abbrev pub depends_on : (ℕ → ℕ → Bool) → List Dependency → ℕ → Bool
+depends_on bytes rs k = list_any (is_dependency bytes k) rs
+
+-- ---- rule uses
+
+-- The numbers of the rules do not fall.
+abbrev pub RulesRise : List RuleUse → Type 0
+RulesRise rule_uses = IsNonDecreasingBy (λ (l : RuleUse). l.rule) rule_uses
+
+-- the dependent of a number uses a rule
+abbrev pub uses : List RuleUse → ℕ → ℕ → Bool
+uses rule_uses rule k = list_any (λ (l : RuleUse). l.rule == rule && l.dependent == k) rule_uses
+
+-- ---- lists with the same elements
+
+-- The new list has the elements of the old one, some of them less often.
+pub record HasSame {X : Type 0} (old new : List X) : Type 0 where
+  pub passes : (p : X → Bool) → list_any p new ≡ list_any p old
+  pub within : (x : X) → Contains new x → Contains old x

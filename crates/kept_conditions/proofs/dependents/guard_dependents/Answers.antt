@@ -1,0 +1,31 @@
+use Rattle.std.proofs.Common.{◌≡◌, ℕ, List, ◌++◌, map, sym, ap, ◌∙◌, subst}
+use Rattle.std.proofs.lemmas.List.{append-nil}
+use Rattle.hii_bytes.specs.code.FirstFaults.{Rise}
+use Rattle.ifr_opcodes.specs.Forest.{Node}
+use Rattle.ifr_opcodes.specs.Opcode.{number}
+use Rattle.ifr_scopes.specs.Guards.{is_guard, guards_among}
+use Rattle.ifr_scopes.specs.Nodes.{nodes_of}
+use Rattle.ifr_scopes.specs.code.Lists.{all_guards_left}
+use Rattle.guard_policy.specs.code.Views.{bytes_of}
+use Rattle.kept_conditions.proofs.LookupLemmas.{kind_rises, numbered_slice}
+use Rattle.kept_conditions.proofs.dependents.guard_dependents.Goals.{After-deref_mut}
+use Rattle.kept_conditions.proofs.dependents.guard_dependents.Goals as goal
+
+pub loop-guard-init : goal.loop-guard-init
+loop-guard-init c =
+    ap (λ (l : List ℕ). l ++ map (λ (n : Node). n.place) (all_guards_left c.guards-guards.result)) c.in_ok-numbers.ensures.items
+    ∙ ap (map (λ (n : Node). n.place)) (c.guards-guards.ensures.guards ∙ ap (λ (b : List ℕ). guards_among (nodes_of b)) c.forms-forms.ensures)
+
+-- the places of all guards
+places : (c : After-deref_mut) → c.deref_mut.result.now ≡ map (λ (n : Node). n.place) (guards_among (nodes_of (bytes_of c.args.policy)))
+places c =
+    let its = c.loop-guard.numbers.items in
+    c.deref_mut.ensures.value ∙ sym (append-nil its) ∙ ap (λ (l : List Node). its ++ map (λ (n : Node). n.place) l) (sym c.in_default.ensures.steps.0) ∙ c.loop-guard.invariant
+
+pub number_dependents-requires-clause-places : goal.number_dependents-requires-clause-places
+number_dependents-requires-clause-places c = subst (Rise (λ (p : ℕ). p) 0) (sym (places c)) (kind_rises (bytes_of c.args.policy) (λ n. is_guard (number n.op)) c.args.policy.accepted)
+
+pub returns : goal.returns
+returns c =
+    let at = (goal.at.returns c).After-deref_mut in
+    numbered_slice c.args.dependents.now (guards_among (nodes_of (bytes_of c.args.policy))) c.loop-guard.numbers.len c.deref_mut.result.now c.number_dependents.new.places c.loop-guard.numbers.items c.deref_mut.ensures.len (places at) c.number_dependents.ensures

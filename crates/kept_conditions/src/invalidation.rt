@@ -1,0 +1,313 @@
+//! Which dependents a write touches, and their renewal.
+//!
+//! A write of a field looks up the dependencies that overlap it. Where other stores are taken over, only bytes in which they
+//! differ count; and where these lie in known ranges, as those that a denied `route` gives back, only dependencies that overlap
+//! one are asked. So a text over few fields of a large store costs what it names, and not what the store holds.
+
+ghost use Rattle.std.specs.Prelude.{◌≡◌, ◌+◌, ◌-◌, ◌≤◌, length, min};
+ghost use Rattle.ifr_scopes.specs.Nodes.{nodes_of};
+ghost use Rattle.hii_varstore.specs.Stores.{shape_of, StoreMap};
+ghost use Rattle.guard_policy.specs.code.Views.{bytes_of};
+ghost use Rattle.kept_conditions.specs.Touching.{difference, has_one, range_of, renewals};
+ghost use Rattle.kept_conditions.specs.Kept.{told_over};
+ghost use Rattle.kept_conditions.specs.laws.Writes.{IsWrite};
+ghost use Rattle.kept_conditions.specs.code.Invalidation.{common, other_bytes, HaveRanges, AreAlike, AreAlikeOutside, in_range};
+ghost use Rattle.kept_conditions.specs.code.Dependents.{VisitsSome, HasRoom, KeepsFollowing, Reaches};
+ghost use Rattle.kept_conditions.specs.code.Index.{hits, AreSummaries, AreSorted, HaveNumbers, depends_on, AreSmall};
+ghost use Rattle.kept_conditions.specs.code.Cache.{IsIndex, values_of};
+
+use crate::dependents::{Dependents, visit_pending};
+use crate::index::{Dependency, Index, Summary, beginning_before, last_overlapping};
+use guard_policy::{Conditions, Policy};
+use hii_questions::FieldRange;
+use hii_varstore::Stores;
+
+/// Ranges of bytes of stores, one after the other.
+pub trait Ranges: Drop {
+    ghost use Rattle.std.specs.Prelude.{List};
+    ghost use Rattle.std.specs.Iterator.{YieldsFirstBy};
+    ghost use Rattle.hii_questions.specs.declared.field_range.FieldRange.{FieldRange};
+
+    /// The ranges that are left.
+    ghost ranges: { Self → List FieldRange };
+
+    /// The next range.
+    fn next(&mut self) -> Option<FieldRange>
+        ensures { YieldsFirstBy (λ r. r) ranges self.old result self.new };
+}
+
+// ---- differences
+
+// The end of a range in a store of so many bytes, as far as it has them.
+fn end_within(len: usize, range: FieldRange) -> usize
+    ensures { result ≡ min (range.offset + range.width) len }
+{
+    usize::from(range.offset)
+        .saturating_add(range.width)
+        .min(len)
+}
+
+// Whether two stores of one size differ in one of the bytes from an offset on up to before another.
+fn bytes_differ(old: &[u8], new: &[u8], from: usize, end: usize) -> bool
+    requires same { length old.now ≡ length new.now }
+    requires inside { end ≤ length old.now }
+    ensures { result ≡ other_bytes old.now new.now from (end - from) }
+{
+    for at in from..end {
+        if old[at] != new[at] {
+            return true;
+        }
+    }
+    false
+}
+
+// Whether two sets of stores of a layout differ in one of the bytes of a field that lie within a range.
+fn differ(old: &Stores, new: &Stores, field: FieldRange, within: FieldRange) -> bool
+    requires { shape_of old.now ≡ shape_of new.now }
+    ensures { result ≡ has_one
+        (common (difference old.now new.now) (range_of within.store within.offset within.width))
+        field.store field.offset field.width }
+{
+    if field.store != within.store {
+        return false;
+    }
+    match (old.bytes(field.store), new.bytes(field.store)) {
+        (Some(old), Some(new)) => {
+            let from = field.offset.max(within.offset);
+            let end = end_within(old.len(), field).min(end_within(old.len(), within));
+            bytes_differ(old, new, usize::from(from), end)
+        }
+        _ => false,
+    }
+}
+
+// ---- visits
+
+// Visits the dependents with a dependency that overlaps the bytes from a number on up to before another, and counts the conditions
+// that it evaluates.
+fn visit_overlapping<C: Conditions>(
+    dependents: &mut Dependents,
+    dependencies: &[Dependency],
+    summaries: &[Summary],
+    from: u64,
+    end: u64,
+    now: &C,
+) -> usize
+    requires sorted { AreSorted dependencies.now }
+    requires all { length summaries.now ≡ length dependencies.now }
+    requires summaries { AreSummaries dependencies.now summaries.now }
+    requires numbers { HaveNumbers (length dependents.old.list.items) dependencies.now }
+    requires room { HasRoom dependents.old }
+    ensures visits { VisitsSome (C.holding now.now) dependents.old dependents.new result }
+    ensures reaches { Reaches (hits from end dependencies.now) dependents.old dependents.new }
+    ensures follows { KeepsFollowing dependents.old dependents.new }
+{
+    let mut before = beginning_before(dependencies, end);
+    let mut count = 0;
+    while let Some(at) = last_overlapping(dependencies, summaries, from, end, before) {
+        if dependents.visit(dependencies[at].dependent, now) {
+            count += 1;
+        }
+        before = at;
+    }
+    count
+}
+
+// Visits the dependents that depend on one of the bytes in which two sets of stores differ, and counts the conditions that it
+// evaluates.
+fn visit_differing<C: Conditions>(
+    dependents: &mut Dependents,
+    dependencies: &[Dependency],
+    old: &Stores,
+    new: &Stores,
+    now: &C,
+) -> usize
+    requires numbers { HaveNumbers (length dependents.old.list.items) dependencies.now }
+    requires room { HasRoom dependents.old }
+    requires shape { shape_of old.now ≡ shape_of new.now }
+    ensures visits { VisitsSome (C.holding now.now) dependents.old dependents.new result }
+    ensures reaches { Reaches (depends_on (difference old.now new.now) dependencies.now)
+        dependents.old dependents.new }
+    ensures follows { KeepsFollowing dependents.old dependents.new }
+{
+    let mut count = 0;
+    for dependency in dependencies {
+        if !differ(old, new, dependency.range, dependency.range) {
+            continue;
+        }
+        if dependents.visit(dependency.dependent, now) {
+            count += 1;
+        }
+    }
+    count
+}
+
+// Visits the dependents that depend on one of the bytes of a range in which two sets of stores differ, and counts the conditions
+// that it evaluates.
+fn visit_range<C: Conditions>(
+    dependents: &mut Dependents,
+    dependencies: &[Dependency],
+    summaries: &[Summary],
+    range: FieldRange,
+    old: &Stores,
+    new: &Stores,
+    now: &C,
+) -> usize
+    requires sorted { AreSorted dependencies.now }
+    requires all { length summaries.now ≡ length dependencies.now }
+    requires summaries { AreSummaries dependencies.now summaries.now }
+    requires numbers { HaveNumbers (length dependents.old.list.items) dependencies.now }
+    requires small { AreSmall dependencies.now }
+    requires room { HasRoom dependents.old }
+    requires shape { shape_of old.now ≡ shape_of new.now }
+    ensures visits { VisitsSome (C.holding now.now) dependents.old dependents.new result }
+    ensures reaches { Reaches
+        (depends_on (common (difference old.now new.now) (in_range range)) dependencies.now)
+        dependents.old dependents.new }
+    ensures follows { KeepsFollowing dependents.old dependents.new }
+{
+    let from = range.first();
+    let end = range.behind();
+    let mut before = beginning_before(dependencies, end);
+    let mut count = 0;
+    while let Some(at) = last_overlapping(dependencies, summaries, from, end, before) {
+        before = at;
+        let dependency = dependencies[at];
+        if !differ(old, new, dependency.range, range) {
+            continue;
+        }
+        if dependents.visit(dependency.dependent, now) {
+            count += 1;
+        }
+    }
+    count
+}
+
+// Visits the dependents that depend on one of the bytes in which two sets of stores differ, which do so in some ranges alone, and
+// counts the conditions that it evaluates. The old stores become as the new ones are.
+fn visit_ranges<R: Ranges, C: Conditions>(
+    dependents: &mut Dependents,
+    index: &Index,
+    old: &mut Stores,
+    new: &Stores,
+    ranges: R,
+    now: &C,
+) -> usize
+    requires sorted { AreSorted index.now.dependencies.items }
+    requires all { length index.now.summaries.items ≡ length index.now.dependencies.items }
+    requires summaries { AreSummaries index.now.dependencies.items index.now.summaries.items }
+    requires numbers { HaveNumbers (length dependents.old.list.items) index.now.dependencies.items }
+    requires small { AreSmall index.now.dependencies.items }
+    requires room { HasRoom dependents.old }
+    requires shape { shape_of old.old ≡ shape_of new.now }
+    requires inside { HaveRanges (shape_of new.now) (R.ranges ranges) }
+    requires alike { AreAlikeOutside (R.ranges ranges) old.old new.now }
+    ensures visits { VisitsSome (C.holding now.now) dependents.old dependents.new result }
+    ensures reaches { Reaches (depends_on (difference old.old new.now) index.now.dependencies.items)
+        dependents.old dependents.new }
+    ensures follows { KeepsFollowing dependents.old dependents.new }
+    ensures shape { shape_of old.new ≡ shape_of old.old }
+    ensures same { AreAlike old.new new.now }
+{
+    let mut ranges = ranges;
+    let mut count = 0;
+    while let Some(range) = ranges.next() {
+        count += visit_range(
+            dependents,
+            &index.dependencies,
+            &index.summaries,
+            range,
+            old,
+            new,
+            now,
+        );
+        old.copy_range(new, range.store, usize::from(range.offset), range.width);
+    }
+    count
+}
+
+// ---- renewal
+
+/// Evaluates the conditions anew, over the stores after a write of so many bytes, that depend on one of these bytes, each once,
+/// and counts them.
+pub(crate) fn renew(
+    dependents: &mut Dependents,
+    index: &Index,
+    policy: Policy<'_, '_>,
+    stores: &Stores,
+    written: FieldRange,
+) -> usize
+    requires { IsIndex (bytes_of policy) dependents.old index.now }
+    ensures index { IsIndex (bytes_of policy.entry) dependents.new index.now }
+    ensures values { (old : StoreMap)
+        → IsWrite (range_of written.store written.offset written.width) old stores.now
+        → values_of dependents.old ≡ told_over (bytes_of policy.entry) old
+        → values_of dependents.new ≡ told_over (bytes_of policy.entry) stores.now }
+    ensures count { result ≡ renewals (nodes_of (bytes_of policy.entry))
+        (range_of written.store written.offset written.width) }
+{
+    let now = policy.over(stores);
+    dependents.next_round();
+    let from = written.first();
+    let end = written.behind();
+    let count = visit_overlapping(
+        dependents,
+        &index.dependencies,
+        &index.summaries,
+        from,
+        end,
+        &now,
+    );
+    count + visit_pending(dependents, &index.rule_uses, &now)
+}
+
+/// Evaluates the conditions anew, over new stores, that depend on one of the bytes in which these differ from the old ones, each
+/// once, and counts them.
+pub(crate) fn renew_between(
+    dependents: &mut Dependents,
+    index: &Index,
+    policy: Policy<'_, '_>,
+    old: &Stores,
+    new: &Stores,
+) -> usize
+    requires index { IsIndex (bytes_of policy) dependents.old index.now }
+    requires shape { shape_of old.now ≡ shape_of new.now }
+    ensures index { IsIndex (bytes_of policy.entry) dependents.new index.now }
+    ensures values { values_of dependents.old ≡ told_over (bytes_of policy.entry) old.now
+        → values_of dependents.new ≡ told_over (bytes_of policy.entry) new.now }
+    ensures count { result ≡ renewals (nodes_of (bytes_of policy.entry))
+        (difference old.now new.now) }
+{
+    let now = policy.over(new);
+    dependents.next_round();
+    let count = visit_differing(dependents, &index.dependencies, old, new, &now);
+    count + visit_pending(dependents, &index.rule_uses, &now)
+}
+
+/// Evaluates the conditions anew, over new stores, that depend on one of the bytes in which these differ from the old ones, each
+/// once, and counts them. They differ in some ranges alone, and the old stores become as the new ones are.
+pub(crate) fn renew_within<R: Ranges>(
+    dependents: &mut Dependents,
+    index: &Index,
+    policy: Policy<'_, '_>,
+    old: &mut Stores,
+    new: &Stores,
+    ranges: R,
+) -> usize
+    requires index { IsIndex (bytes_of policy) dependents.old index.now }
+    requires shape { shape_of old.old ≡ shape_of new.now }
+    requires inside { HaveRanges (shape_of new.now) (R.ranges ranges) }
+    requires alike { AreAlikeOutside (R.ranges ranges) old.old new.now }
+    ensures index { IsIndex (bytes_of policy.entry) dependents.new index.now }
+    ensures values { values_of dependents.old ≡ told_over (bytes_of policy.entry) old.old
+        → values_of dependents.new ≡ told_over (bytes_of policy.entry) new.now }
+    ensures count { result ≡ renewals (nodes_of (bytes_of policy.entry))
+        (difference old.old new.now) }
+    ensures shape { shape_of old.new ≡ shape_of old.old }
+    ensures same { AreAlike old.new new.now }
+{
+    let now = policy.over(new);
+    dependents.next_round();
+    let count = visit_ranges(dependents, index, old, new, ranges, &now);
+    count + visit_pending(dependents, &index.rule_uses, &now)
+}
