@@ -2,17 +2,7 @@
 //! a form set with what forbids their change (own rule).
 #![tactic(auto)]
 
-mod answers;
-mod auditing;
-mod ended;
-mod image;
-mod question;
-mod questions;
-mod sources;
-mod split;
-mod store_files;
-mod stores;
-
+use audit_commands::{image, question, questions, split, stores};
 use audit_options::{Task, read_words};
 use clap::Error;
 use clap::error::ErrorKind;

@@ -2,19 +2,17 @@
 #![tactic(auto)]
 
 ghost use Rattle.std.specs.Prelude.{◌≡◌};
-ghost use Rattle.setup_main.specs.Serving.{exit_status};
-
-mod serve;
+ghost use Rattle.setup_serving.specs.Serving.{exit_status};
 
 use clap::Error;
 use clap::error::ErrorKind;
 use hii_bytes::Cause;
-use serve::{Ended, Served, serve};
 use setup_files::{
     FormSetFiles, Noted, OutFile, STANDARD_INPUT, STANDARD_OUTPUT, Status, Terminals, VERSION,
     fault, is_same_file, out_file, refused, shown, usage, words,
 };
 use setup_options::{Options, names_script, read_words};
+pub use setup_serving::{Ended, Served, serve};
 use std::io;
 use std::io::Printer;
 use std::process::ExitCode;

@@ -1,0 +1,67 @@
+use Rattle.std.proofs.Common.{◌≡◌, ℕ, ap, subst, refl, sym, inl, inr}
+use Rattle.std.proofs.lemmas.Result.{IfErr-weaker, IfOk-weaker, on_err_weaker}
+use Rattle.browser_rules.specs.Packages.{Package}
+use Rattle.hii_bytes.specs.declared.cause.Fault.{Fault}
+use Rattle.hii_packages.specs.code.Package.{package_of}
+use Rattle.form_audit.specs.Audited.{Audited}
+use Rattle.form_audit.specs.code.Pages.{audited}
+use Rattle.question_audit.specs.QuestionFacts.{BeginsQuestionText, IsQuestionText}
+use Rattle.audit_commands.specs.Auditing.{audited_at}
+use Rattle.session_steps.proofs.SourceLemmas.{one_source}
+use Rattle.audit_commands.proofs.auditing.put_question_audit.Goals as goal
+
+pub put_question_with_id-requires-clause-in_list : goal.put_question_with_id-requires-clause-in_list
+put_question_with_id-requires-clause-in_list g c =
+    let opens = c.in_ok-browser.ensures.opened.0 in
+    let its = c.in_ok-package.package in
+    let source = one_source c.args.given.list.now c.args.given.forms (package_of its) opens.source c.in_ok-package.ensures.found opens.found in
+    rw (c.page.ensures.bytes, opens.bytes, sym (ap (λ (p : Package). p.bytes) source)) its.in_list
+
+pub returns-clause-told : goal.returns-clause-told
+returns-clause-told g c =
+    let s = c.in_ok-browser.browser.state in
+    let opens = c.in_ok-browser.ensures.opened.0 in
+    let its = c.in_ok-package.package in
+    let source = one_source c.args.given.list.now c.args.given.forms (package_of its) opens.source c.in_ok-package.ensures.found opens.found in
+    let same : audited c.page.result ≡ audited_at s =
+    rw (c.page.ensures.world, c.page.ensures.spoken, c.page.ensures.language, c.page.ensures.stores, c.page.ensures.bytes) refl in
+    IfOk-weaker c.put_question_with_id.result _ _
+    (λ is_there told. (
+      told.0,
+      record {
+        start = s;
+        opens = opens;
+        told = subst (λ (place : ℕ). IsQuestionText is_there (audited_at s) place c.args.id told.0) (ap (λ (p : Package). p.place) source)
+            (subst (λ (a : Audited). IsQuestionText is_there a its.place c.args.id told.0) same told.1);
+      },
+      told.2,
+    ))
+    c.put_question_with_id.ensures.told
+
+pub returns-clause-refused : goal.returns-clause-refused
+returns-clause-refused g c = IfErr-weaker c.put_question_with_id.result _ _ (λ fault e. inl e) c.put_question_with_id.ensures.refused
+
+pub returns-clause-nothing : goal.returns-clause-nothing
+returns-clause-nothing g c =
+    IfErr-weaker c.put_question_with_id.result _ _ (λ fault e other. absurd (other (ap (λ (f : Fault). f.cause) e))) c.put_question_with_id.ensures.refused
+
+pub returns-clause-begun : goal.returns-clause-begun
+returns-clause-begun g c =
+    let s = c.in_ok-browser.browser.state in
+    let opens = c.in_ok-browser.ensures.opened.0 in
+    let its = c.in_ok-package.package in
+    let source = one_source c.args.given.list.now c.args.given.forms (package_of its) opens.source c.in_ok-package.ensures.found opens.found in
+    let same : audited c.page.result ≡ audited_at s =
+    rw (c.page.ensures.world, c.page.ensures.spoken, c.page.ensures.language, c.page.ensures.stores, c.page.ensures.bytes) refl in
+    on_err_weaker c.put_question_with_id.result
+    (λ begun. (
+      begun.0,
+      inr (
+        s,
+        opens,
+        subst (λ (place : ℕ). BeginsQuestionText (audited_at s) place c.args.id begun.0) (ap (λ (p : Package). p.place) source)
+            (subst (λ (a : Audited). BeginsQuestionText a its.place c.args.id begun.0) same begun.1),
+      ),
+      begun.2,
+    ))
+    c.put_question_with_id.ensures.begun

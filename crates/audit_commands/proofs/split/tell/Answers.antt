@@ -1,0 +1,17 @@
+use Rattle.std.proofs.Common.{ap, refl}
+use Rattle.hii_bytes.specs.declared.cause.Fault.{Fault}
+use Rattle.audit_commands.specs.Splitting.{SaysLists}
+use Rattle.audit_commands.specs.declared.ended.Ended.TheVariants.{Done}
+use Rattle.audit_commands.proofs.EndingLemmas.{tells, tells_refusal}
+use Rattle.audit_commands.proofs.split.tell.Goals as goal
+
+pub returns-in-Ok : goal.returns-in-Ok
+returns-in-Ok g c =
+    let told = rw c.as_slice.ensures.value at c.in-Ok.ensures.told in
+    tells (SaysLists c.args.dump.now.bytes.items) g.A.Write.contents c.args.answers.now c.finish.new.answers _ Done c.finish.result told.0 told.1 told.2 c.finish.ensures
+
+pub returns-in-Err : goal.returns-in-Err
+returns-in-Err g c =
+    let begun = rw c.as_slice.ensures.value at c.in-Err.ensures.begun in
+    tells_refusal (SaysLists c.args.dump.now.bytes.items) g.A.Write.contents c.args.answers.now c.put_split.new.out c.refuse.new.answers _ c.refuse.result
+    (λ other. absurd (other (ap (λ (f : Fault). f.cause) c.from.ensures))) (λ memory. (begun.0, begun.2, (begun.0, begun.1, refl))) c.refuse.ensures

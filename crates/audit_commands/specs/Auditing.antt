@@ -1,0 +1,86 @@
+-- What `questions` and `question` say over bytes (own rule).
+use Rattle.std.specs.Prelude.{◌≡◌, ◌⊎◌, ℕ, Bool, true, false, List, [], ◌++◌}
+use Rattle.hii_bytes.specs.declared.cause.Cause.TheVariants.{OutOfMemory}
+use Rattle.session_steps.specs.Opening.{IsOpenFault, Opens}
+use Rattle.session_steps.specs.State.{State, texts, world_of}
+use Rattle.session_steps.specs.Step.{sources}
+use Rattle.session_steps.specs.Texts.{refused_text}
+use Rattle.form_audit.specs.Audited.{Audited}
+use Rattle.form_audit.specs.FormLines.{questions_text}
+use Rattle.form_audit.specs.Reach.{TellsReached}
+use Rattle.question_audit.specs.QuestionFacts.{BeginsQuestionText, IsQuestionText}
+use Rattle.audit_options.specs.declared.tasks.FormSetOptions.{FormSetOptions}
+use Rattle.setup_files.specs.declared.given.FormSetFiles.{FormSetFiles}
+use Rattle.audit_commands.specs.Endings.{IsRefusal}
+use Rattle.audit_commands.specs.declared.ended.Ended.{Ended}
+use Rattle.audit_commands.specs.declared.ended.Ended.TheVariants.{Done, Refused, NoMemory}
+
+-- what an audit looks at, of what a session begins with
+abbrev pub audited_at : State → Audited
+audited_at s = record {
+  texts = texts s;
+  world = world_of s;
+  stores = s.working;
+  sources = sources s;
+}
+
+-- what an audit is asked for: the bytes of a list, the number of a forms package, an image of its stores, a language
+pub record Asked : Type 0 where
+  pub list : List ℕ
+  pub forms : ℕ
+  pub stores : List ℕ
+  pub lang : List ℕ
+
+abbrev pub asked_of : FormSetOptions → FormSetFiles → Asked
+asked_of options files = record {
+  list = files.list.bytes.items;
+  forms = options.list.forms;
+  stores = files.stores.bytes.items;
+  lang = options.lang.now;
+}
+
+-- A session opens over what is asked for.
+abbrev pub Starts : Asked → State → Type 0
+Starts asked start = Opens asked.list asked.forms asked.stores asked.lang start
+
+-- The bytes open a session, and this text tells its forms and questions, so that a verdict is the one with which the session answers
+-- `why` at first.
+pub record Audits (asked : Asked) (text : List ℕ) : Type 0 where
+  pub start : State
+  pub opens : Starts asked start
+  pub is_reached : ℕ → Bool
+  pub reached : TellsReached (world_of start) is_reached
+  pub told : text ≡ questions_text (audited_at start) is_reached
+
+-- The bytes open a session, and this text tells what is known of the question of an id, with its place in the list; or that there is
+-- none.
+pub record AuditsQuestion (is_there : Bool) (asked : Asked) (id : ℕ) (text : List ℕ) : Type 0 where
+  pub start : State
+  pub opens : Starts asked start
+  pub told : IsQuestionText is_there (audited_at start) opens.source.place id text
+
+-- Nothing is told; or the bytes open a session, and this text begins to tell that.
+abbrev pub BeginsAuditsQuestion : Asked → ℕ → List ℕ → Type 0
+BeginsAuditsQuestion asked id text =
+    (text ≡ [])
+    ⊎ ((start : State)
+    × (opens : Starts asked start)
+    × BeginsQuestionText (audited_at start) opens.source.place id text)
+
+-- the text tells the least fault of what is asked for
+abbrev pub IsOpenRefusal : Asked → List ℕ → Type 0
+IsOpenRefusal asked = IsRefusal (IsOpenFault asked.list asked.forms asked.stores)
+
+abbrev pub SaysQuestions : Asked → Ended → List ℕ → Type 0
+SaysQuestions asked Done text = Audits asked text
+SaysQuestions asked Refused text = IsOpenRefusal asked text
+SaysQuestions asked NoMemory text = text ≡ refused_text OutOfMemory
+SaysQuestions asked _ text = ⊥
+
+abbrev pub SaysQuestion : Asked → ℕ → Ended → List ℕ → Type 0
+SaysQuestion asked id Done text = AuditsQuestion true asked id text
+SaysQuestion asked id Refused text = AuditsQuestion false asked id text ⊎ IsOpenRefusal asked text
+SaysQuestion asked id NoMemory text =
+    (begun : List ℕ) × BeginsAuditsQuestion asked id begun
+    × (text ≡ begun ++ refused_text OutOfMemory)
+SaysQuestion asked id _ text = ⊥

@@ -1,0 +1,75 @@
+-- What `image` says, and the image that it makes (own rule).
+use Rattle.std.specs.Prelude.{◌≡◌, ◌⊎◌, ℕ, Bool, is_none, not, Option, Some, None, List, ◌++◌, codes, decimal, map}
+use Rattle.std.specs.List.{AllByRecursion, find, flat_map}
+use Rattle.hii_bytes.specs.declared.cause.Cause.TheVariants.{OutOfMemory}
+use Rattle.ifr_opcodes.specs.Forest.{Node}
+use Rattle.ifr_scopes.specs.Nodes.{nodes_of}
+use Rattle.hii_varstore.specs.Image.{image_of}
+use Rattle.hii_varstore.specs.Layout.{Shape, size_of}
+use Rattle.hii_varstore.specs.StoreNodes.{layout_of}
+use Rattle.session_steps.specs.Texts.{refused_text}
+use Rattle.audit_options.specs.declared.tasks.ImageOptions.{ImageOptions}
+use Rattle.audit_options.specs.declared.tasks.StoreFile.{StoreFile}
+use Rattle.store_audit.specs.Declaring.{IsDeclaredFault}
+use Rattle.store_audit.specs.Fillings.{are_fit, buffer_stores, filled_line, refused_line, store_from, wanted_of}
+use Rattle.store_audit.specs.declared.fillings.Source.{Source}
+use Rattle.audit_commands.specs.Endings.{IsRefusal}
+use Rattle.audit_commands.specs.Files.{Known}
+use Rattle.audit_commands.specs.Sources.{IsSource}
+use Rattle.audit_commands.specs.Storing.{IsDeclaredBy}
+use Rattle.audit_commands.specs.declared.ended.Ended.{Ended}
+use Rattle.audit_commands.specs.declared.ended.Ended.TheVariants.{Done, Refused, WriteOut, NoMemory}
+
+-- the first file that is given to a store which is not there, or which holds no bytes
+abbrev pub unknown_file : Shape → List StoreFile → Option StoreFile
+unknown_file layout files = find (λ file. is_none (size_of layout file.id)) files
+
+abbrev pub no_store_text : ℕ → List ℕ
+no_store_text id = codes "no store " ++ decimal id ++ codes "\n"
+
+-- a store, and where its bytes come from
+pub record Supply : Type 0 where
+  pub node : Node
+  pub source : Source
+
+abbrev pub is_unfit : Supply → Bool
+is_unfit s = not (are_fit (wanted_of s.node) s.source)
+
+-- Each store of a forms package that holds bytes has a source, by place, and no file is given to another store.
+pub record AreSupplies (known : List ℕ → Known) (options : ImageOptions) (ifr : List ℕ) (supplies : List Supply) : Type 0 where
+  pub none_unknown : unknown_file (layout_of (nodes_of ifr)) options.files.items ≡ None
+  pub stores : map (λ s. s.node) supplies ≡ buffer_stores (nodes_of ifr)
+  pub sources : AllByRecursion (λ s. IsSource known options s.node s.source) supplies
+
+-- Each store is given what it holds; the text has a line for each, and the bytes are the image.
+pub record IsFilled (known : List ℕ → Known) (options : ImageOptions) (ifr bytes text : List ℕ) : Type 0 where
+  pub supplies : List Supply
+  pub given : AreSupplies known options ifr supplies
+  pub fit : find is_unfit supplies ≡ None
+  pub lines : text ≡ flat_map (λ s. filled_line s.node s.source) supplies
+  pub image : bytes ≡ image_of record {
+    guid = (layout_of (nodes_of ifr)).guid;
+    stores = map (λ s. store_from s.node s.source) supplies;
+  }
+
+-- The text tells of the first file that is given to no store, or of the first store that is not given what it holds.
+abbrev pub IsUnfilled : (List ℕ → Known) → ImageOptions → List ℕ → List ℕ → Type 0
+IsUnfilled known options ifr text =
+    ((file : StoreFile) × (unknown_file (layout_of (nodes_of ifr)) options.files.items ≡ Some file)
+    × (text ≡ no_store_text file.id))
+    ⊎ ((supplies : List Supply) × AreSupplies known options ifr supplies
+    × (unfit : Supply) × (find is_unfit supplies ≡ Some unfit)
+    × (text ≡ refused_line unfit.node unfit.source))
+
+-- a line for each store, and the image; or why it is refused
+abbrev pub SaysImage : (List ℕ → Known) → ImageOptions → List ℕ → List ℕ → Ended → List ℕ → Type 0
+SaysImage known options list bytes Done text =
+    (ifr : List ℕ) × IsDeclaredBy list options.list.forms ifr × IsFilled known options ifr bytes text
+SaysImage known options list bytes WriteOut text =
+    (ifr : List ℕ) × IsDeclaredBy list options.list.forms ifr × IsFilled known options ifr bytes text
+SaysImage known options list bytes Refused text =
+    IsRefusal (IsDeclaredFault list options.list.forms) text
+    ⊎ ((ifr : List ℕ) × IsDeclaredBy list options.list.forms ifr
+    × IsUnfilled known options ifr text)
+SaysImage known options list bytes NoMemory text = text ≡ refused_text OutOfMemory
+SaysImage known options list bytes _ text = ⊥

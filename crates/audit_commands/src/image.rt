@@ -1,0 +1,148 @@
+//! `image`: an image of the stores of a form set, made of given bytes.
+
+ghost use Rattle.std.specs.Prelude.{◌≡◌, ◌≢◌, ℕ, List, map, option_copied, IfErr, OnErr, IfOk};
+ghost use Rattle.ifr_scopes.specs.Nodes.{nodes_of};
+ghost use Rattle.store_audit.specs.Fillings.{buffer_stores};
+ghost use Rattle.store_audit.specs.code.Fillings.{filling_node};
+ghost use Rattle.audit_commands.specs.Endings.{TellsAndWrites};
+ghost use Rattle.audit_commands.specs.Imaging.{SaysImage, unknown_file};
+ghost use Rattle.audit_commands.specs.Storing.{IsDeclaredBy};
+ghost use Rattle.audit_commands.specs.code.Imaging.{SaysFillings};
+
+use crate::answers::{Answers, answers, commit, finish, refuse, told_with_file};
+use crate::ended::Ended;
+use crate::sources::{Unsourced, fillings};
+use crate::store_files::{StoreFiles, SystemFiles};
+use audit_options::{ImageOptions, StoreFile};
+use hii_bytes::{Cause, Fault, Watched};
+use hii_varstore::Layout;
+use setup_files::{Status, Terminals, WholeFile, file, is_same_file, out_file, refused, usage};
+use std::alloc::Global;
+use std::io::Write;
+use std::rt::Files;
+use store_audit::{Declared, Filling, put_image};
+
+const LIST_AS_OUT: &str = "error: --out is the file of --list, which would be lost\n";
+
+const STORE_AS_OUT: &str = "error: --out is a file of --store, which would be lost\n";
+
+/// Makes the image of the stores of a list, and tells where the bytes of each come from.
+pub fn run<R: Files + Print + Eprint + AllocGlobal>(
+    rt: &R,
+    terminals: Terminals,
+    options: &ImageOptions<'_>,
+) -> Result<Status, Status>
+    ensures { IfErr result (λ status. status ≢ Status.Done) }
+{
+    if is_same_file(rt, options.list.path, options.out) {
+        return Err(usage(rt, &LIST_AS_OUT));
+    }
+    if is_store_file(rt, options) {
+        return Err(usage(rt, &STORE_AS_OUT));
+    }
+    let Ok(out) = out_file(rt, options.out) else {
+        return Err(refused(rt, terminals, Cause::OutOfMemory));
+    };
+    let list = file(rt, terminals, options.list.path, "read list")?;
+    let files = SystemFiles::new(rt, terminals, options.out);
+    let mut answers = answers(rt, terminals)?;
+    let mut out = Watched::new(out);
+    let ended = make(rt.alloc(), options, &list, &files, &mut answers, &mut out)?;
+    Ok(told_with_file(rt, terminals, ended, answers, options.out, out))
+}
+
+// Whether the file of `--out` is one of those that are given to stores.
+fn is_store_file<R: Files>(rt: &R, options: &ImageOptions<'_>) -> bool {
+    for file in options.files.as_slice() {
+        if is_same_file(rt, file.path, options.out) {
+            return true;
+        }
+    }
+    false
+}
+
+// Makes the image of the stores that a list declares. What is refused leaves no image. Where a file is not read this is
+// the status with which the program ends, and nothing is written.
+fn make<F: StoreFiles, A: Write + Drop, O: Write>(
+    alloc: Global,
+    options: &ImageOptions<'_>,
+    list: &WholeFile<'_>,
+    files: &F,
+    answers: &mut Answers<A>,
+    out: &mut Watched<O>,
+) -> Result<Ended, Status>
+    requires { list.now.path.now ≡ options.now.list.path.now }
+    ensures told { IfOk result (λ ended. TellsAndWrites
+        (SaysImage (F.known files.now) options.now list.now.bytes.items)
+        A.contents O.contents answers.old out.old ended answers.new out.new) }
+    ensures unread { OnErr result ((answers.new ≡ answers.old) × (out.new ≡ out.old)) }
+    ensures err { IfErr result (λ status. status ≢ Status.Done) }
+{
+    match Declared::read(
+        alloc,
+        list.bytes.as_slice(),
+        usize::from(options.list.forms),
+    ) {
+        Ok(declared) => fill(alloc, options, &declared, files, answers, out),
+        Err(fault) => Ok(refuse(fault, answers)),
+    }
+}
+
+// Makes the image of the stores that are declared.
+fn fill<F: StoreFiles, A: Write + Drop, O: Write>(
+    alloc: Global,
+    options: &ImageOptions<'_>,
+    declared: &Declared<'_>,
+    files: &F,
+    answers: &mut Answers<A>,
+    out: &mut Watched<O>,
+) -> Result<Ended, Status>
+    ensures told { IfOk result (λ ended. (list : List ℕ)
+        → IsDeclaredBy list options.now.list.forms declared.now
+        → TellsAndWrites (SaysImage (F.known files.now) options.now list)
+        A.contents O.contents answers.old out.old ended answers.new out.new) }
+    ensures unread { OnErr result ((answers.new ≡ answers.old) × (out.new ≡ out.old)) }
+    ensures err { IfErr result (λ status. status ≢ Status.Done) }
+{
+    if let Some(file) = unknown_file(declared.layout(), options.files.as_slice()) {
+        answers.put(b"no store ");
+        answers.put_decimal(u64::from(file.id));
+        answers.put(b"\n");
+        return Ok(finish(Ended::Refused, answers));
+    }
+    let fillings = match fillings(alloc, files, declared, options) {
+        Ok(fillings) => fillings,
+        Err(Unsourced::NoMemory) => return Ok(refuse(Fault::out_of_memory(), answers)),
+        Err(Unsourced::Unread(status)) => return Err(status),
+    };
+    Ok(write(alloc, declared, fillings.as_slice(), answers, out))
+}
+
+// Writes the image of stores that are given what they hold, behind a line for each.
+fn write<A: Write + Drop, O: Write>(
+    alloc: Global,
+    declared: &Declared<'_>,
+    fillings: &[Filling<'_>],
+    answers: &mut Answers<A>,
+    out: &mut Watched<O>,
+) -> Ended
+    requires { map filling_node fillings.now ≡ buffer_stores (nodes_of declared.now) }
+    ensures { TellsAndWrites (SaysFillings (nodes_of declared.now) fillings.now)
+        A.contents O.contents answers.old out.old result answers.new out.new }
+{
+    match put_image(alloc, declared, fillings, answers, out) {
+        Ok(true) => commit(answers, out),
+        Ok(false) => finish(Ended::Refused, answers),
+        Err(fault) => refuse(fault, answers),
+    }
+}
+
+// The first file that is given to a store which is not there, or which holds no bytes.
+fn unknown_file<'f, 'a>(
+    layout: &Layout<'_>,
+    files: &'f [StoreFile<'a>],
+) -> Option<&'f StoreFile<'a>>
+    ensures { option_copied result ≡ unknown_file layout.now files.entry.now }
+{
+    files.iter().find(|file| layout.size(file.id).is_none())
+}

@@ -1,0 +1,188 @@
+//! Where the bytes of an image come from.
+
+ghost use Rattle.std.specs.Prelude.{◌≡◌, IfErr, IfOk, drop, map, option_copied, option_map, string_bytes};
+ghost use Rattle.std.specs.List.{AllByRecursion};
+ghost use Rattle.ifr_scopes.specs.Nodes.{nodes_of};
+ghost use Rattle.ifr_scopes.specs.code.Lists.{store_node};
+ghost use Rattle.store_audit.specs.Fillings.{buffer_stores};
+ghost use Rattle.store_audit.specs.code.Fillings.{filling_node};
+ghost use Rattle.audit_commands.specs.Files.{IsFile};
+ghost use Rattle.audit_commands.specs.Sources.{IsSource, IsVariable, filler, last_given, variable_path};
+ghost use Rattle.audit_commands.specs.code.Sources.{IsUnsourced};
+
+use crate::store_files::StoreFiles;
+use audit_options::{ImageOptions, StoreFile};
+use audit_text::{Case, guid_digits};
+use hii_bytes::laws::are_bytes;
+use ifr_scopes::Varstore;
+use setup_files::Status;
+use std::alloc::{AllocError, Global};
+use std::str;
+use store_audit::{Declared, Filling, Source};
+
+// How many bytes a variable's attributes take in its file.
+const ATTRIBUTES: usize = 4;
+
+/// Why a store has no source.
+#[derive(Clone, Copy)]
+pub enum Unsourced {
+    /// A file was not read, and the program ends with this status.
+    Unread(Status),
+    /// An allocation failed.
+    NoMemory,
+}
+
+impl From<AllocError> for Unsourced {
+    ghost use Rattle.audit_commands.specs.declared.sources.Unsourced.TheVariants.{NoMemory};
+
+    ghost from_gives = { λ _ unsourced. unsourced ≡ NoMemory };
+
+    fn from(_failed: AllocError) -> Unsourced {
+        Unsourced::NoMemory
+    }
+}
+
+/// The stores that hold bytes, by place, and where the bytes of each come from.
+pub fn fillings<'a, F: StoreFiles>(
+    alloc: Global,
+    files: &F,
+    declared: &Declared<'a>,
+    options: &ImageOptions<'_>,
+) -> Result<Vec<Filling<'a>>, Unsourced>
+    ensures all { IfOk result (λ fillings. map filling_node fillings.items
+        ≡ buffer_stores (nodes_of declared.now)) }
+    ensures sources { IfOk result (λ fillings.
+        AllByRecursion (λ f. IsSource (F.known files.now) options.now (filling_node f) f.source)
+        fillings.items) }
+    ensures err { IfErr result IsUnsourced }
+{
+    let mut fillings = Vec::new(alloc);
+    let mut stores = declared.forms().stores();
+    while let Some(store) = stores.next() {
+        if store.size().is_some() {
+            let source = source(alloc, files, options, store)?;
+            if fillings.push(Filling { store, source }).is_err() {
+                return Err(Unsourced::NoMemory);
+            }
+        }
+    }
+    Ok(fillings)
+}
+
+// Where the bytes of a store come from: the last file that is given to it, else the file of its variable, else zeros.
+fn source<F: StoreFiles>(
+    alloc: Global,
+    files: &F,
+    options: &ImageOptions<'_>,
+    store: Varstore<'_>,
+) -> Result<Source, Unsourced>
+    ensures source { IfOk result
+        (IsSource (F.known files.now) options.now (store_node store.entry)) }
+    ensures err { IfErr result IsUnsourced }
+{
+    if let Some(given) = last_given(options.files.as_slice(), store.id()) {
+        return file_from(alloc, files, given.path, 0);
+    }
+    let path = match options.efivars {
+        Some(folder) => variable_path(alloc, folder, store)?,
+        None => None,
+    };
+    variable(alloc, files, path, options.zero)
+}
+
+// The file of a variable without its attributes, where there is one, and else zeros or nothing.
+fn variable<F: StoreFiles>(
+    alloc: Global,
+    files: &F,
+    path: Option<String>,
+    zero: bool,
+) -> Result<Source, Unsourced>
+    ensures source { IfOk result
+        (IsVariable (F.known files.now) (option_map string_bytes path) zero) }
+    ensures err { IfErr result IsUnsourced }
+{
+    match path {
+        Some(path) if files.is_there(path.as_str()) => {
+            file_from(alloc, files, path.as_str(), ATTRIBUTES)
+        }
+        _ => Ok(filler(zero)),
+    }
+}
+
+fn filler(zero: bool) -> Source
+    ensures { result ≡ filler zero }
+{
+    if zero { Source::Zeros } else { Source::Missing }
+}
+
+// The last file that is given to the store of an id.
+fn last_given<'f, 'a>(files: &'f [StoreFile<'a>], id: u16) -> Option<&'f StoreFile<'a>>
+    ensures { option_copied result ≡ last_given files.entry.now id }
+{
+    let mut last = None;
+    for file in files {
+        if file.id == id {
+            last = Some(file);
+        }
+    }
+    last
+}
+
+// The bytes of a file, without the first ones.
+fn file_from<F: StoreFiles>(
+    alloc: Global,
+    files: &F,
+    path: &str,
+    skipped: usize,
+) -> Result<Source, Unsourced>
+    ensures file { IfOk result (IsFile (F.known files.now) path.now skipped) }
+    ensures err { IfErr result IsUnsourced }
+{
+    let file = match files.read(path) {
+        Ok(file) => file,
+        Err(status) => return Err(Unsourced::Unread(status)),
+    };
+    let path = String::from_str(alloc, file.path)?;
+    let mut bytes = file.bytes;
+    remove_front(&mut bytes, skipped);
+    Ok(Source::File { path, bytes })
+}
+
+// Removes the first bytes, or all where there are no more.
+fn remove_front(bytes: &mut Vec<u8>, count: usize)
+    ensures { bytes.new.items ≡ drop count bytes.old.items }
+{
+    let len = bytes.len();
+    let from = count.min(len);
+    bytes.copy_within(from..len, 0);
+    bytes.truncate(len - from);
+}
+
+// The path of the file of a variable, unless its name is none of a file.
+fn variable_path(
+    alloc: Global,
+    folder: &str,
+    store: Varstore<'_>,
+) -> Result<Option<String>, AllocError>
+    ensures { IfOk result (λ path. option_map string_bytes path
+        ≡ variable_path folder.now (store_node store.entry)) }
+{
+    let guid = store.guid();
+    are_bytes(guid.bytes());
+    let digits = guid_digits(guid, Case::Lower);
+    let (Ok(name), Ok(guid)) = (
+        str::from_utf8(store.name()),
+        str::from_utf8(digits.as_slice()),
+    ) else {
+        return Ok(None);
+    };
+    if store.name().contains(&b'/') {
+        return Ok(None);
+    }
+    let mut path = String::from_str(alloc, folder)?;
+    path.push_str("/")?;
+    path.push_str(name)?;
+    path.push_str("-")?;
+    path.push_str(guid)?;
+    Ok(Some(path))
+}
