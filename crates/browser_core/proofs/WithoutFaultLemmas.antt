@@ -1,10 +1,11 @@
 -- What bytes without a fault open.
-use Rattle.std.proofs.Common.{◌≡◌, ℕ, ◌≤◌, ◌<◌, ◌^◌, List, length, refl, sym, subst, inl, inr}
-use Rattle.browser_rules.specs.Faults.{string_faults}
+use Rattle.std.proofs.Common.{◌≡◌, ℕ, ◌≤◌, ◌<◌, ◌^◌, List, [], length, refl, sym, subst, inl, inr}
+use Rattle.browser_rules.specs.Faults.{list_faults, number_faults, string_faults}
 use Rattle.browser_rules.specs.Packages.{Package}
 use Rattle.browser_rules.specs.Strings.{spoken_in}
 use Rattle.hii_bytes.specs.declared.cause.Cause.{Cause}
-use Rattle.hii_bytes.specs.Faults.{HasNone, Then}
+use Rattle.hii_bytes.specs.declared.cause.Fault.{Fault}
+use Rattle.hii_bytes.specs.Faults.{HasNone, IsLeastAmong, Then}
 use Rattle.hii_bytes.proofs.ChapterFaultLemmas.{none_among}
 use Rattle.ifr_opcodes.specs.Forest as forest
 use Rattle.ifr_opcodes.proofs.ForestLemmas.{is_tree_of}
@@ -22,7 +23,7 @@ use Rattle.hii_questions.specs.Faults.{IsQuestionFault}
 use Rattle.session_steps.specs.Opening.{HasSource, layout_in, IsSourceFault, IsTextFault, IsFormSetFault, IsBrowsingFault, IsOpenFault, AreGood}
 use Rattle.session_steps.specs.code.Browsable.{IsBrowsable}
 use Rattle.browser_commands.proofs.OpeningLemmas.{good_where_browsable}
-use Rattle.session_steps.proofs.SourceLemmas.{source_bytes}
+use Rattle.session_steps.proofs.SourceLemmas.{list_refuses, number_refuses, source_bytes}
 
 -- ---- two parts without a fault
 
@@ -82,3 +83,13 @@ good_without_fault list n image source found header small frames images none =
       stores = stores.0;
       image_is = stores.1;
     }
+
+-- Where the list or the number is refused there is a fault.
+pub where_list_refuses : (list : List ℕ) (n : ℕ) (image : List ℕ) (fault : Fault) → IsLeastAmong (list_faults list) fault → HasNone (IsOpenFault list n image) → AreGood list n image
+where_list_refuses list n image fault least none = absurd (none fault.cause fault.place (inl (list_refuses list n fault least).told))
+
+pub where_number_refuses : (list seen : List ℕ) (n : ℕ) (image : List ℕ) (fault : Fault) → seen ≡ list → list_faults list ≡ [] → IsLeastAmong (number_faults seen n) fault
+    → HasNone (IsOpenFault list n image) → AreGood list n image
+where_number_refuses list seen n image fault same sound least none =
+    let refused = number_refuses list n fault sound (subst (λ (bytes : List ℕ). IsLeastAmong (number_faults bytes n) fault) same least) in
+    absurd (none fault.cause fault.place (inl refused.told))

@@ -53,7 +53,6 @@ fn texts_of_a_choice(rt: HostRuntime) -> Result<(), Fail> {
 fn fault_of(alloc: Global, english: &[u8]) -> Result<Option<Fault>, Fail> {
     let list = french_and(alloc, english)?;
     let list = PackageList::read(list.as_slice())?;
-    laws::packages_without_fault_speak(&list);
     Ok(Languages::read(alloc, &list).err())
 }
 
@@ -63,5 +62,6 @@ fn fault_of_a_later_package(rt: HostRuntime) -> Result<(), Fail> {
     assert!(rt; fault.map(|fault| (fault.cause, fault.place)) == Some((Cause::StringText, 137)));
     laws::packages_say_one_thing();
     laws::packages_that_speak_have_no_fault();
+    laws::packages_without_fault_speak();
     Ok(())
 }

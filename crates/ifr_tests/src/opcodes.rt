@@ -484,4 +484,7 @@ fn numbers_of_opcodes(rt: HostRuntime) {
     assert_eq!(rt; (operands(MODULO), operands(FORM)), (Some(2), None));
     assert!(rt; is_operator(THIS) && is_listed(FORM) && !is_operator(FORM));
     assert!(rt; is_statement(TEXT) && is_question(CHECKBOX) && !is_question(TEXT));
+    assert!(rt;
+        is_store(VARSTORE) && is_condition(WARNING_IF) && is_ignored(GUID) && !is_ignored(TEXT)
+    );
 }

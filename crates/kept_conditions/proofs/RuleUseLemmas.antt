@@ -53,7 +53,7 @@ found_between rule rule_uses rest from count is below within =
     sym (ap (filter (is_at rule)) (sym (take-append-drop from rule_uses)) ∙ filter-append (is_at rule) (take from rule_uses) (drop from rule_uses) ∙ ap (λ l. l ++ filter (is_at rule) (drop from rule_uses)) before
     ∙ ap (filter (is_at rule)) (sym is) ∙ second)
 
--- ---- those that name it
+-- ---- its dependents
 
 pub dependents_among : (rule k : ℕ) (rule_uses : List RuleUse) → list_any (λ (l : RuleUse). l.dependent == k) (filter (is_at rule) rule_uses) ≡ uses rule_uses rule k
 dependents_among rule k [] = refl

@@ -154,7 +154,7 @@ module _ (holding : ℕ → Bool) (a b : Dependents) (rule : ℕ) (list : b.list
     left = omega (arith, fewer_turns);
   }
 
-  -- those that name it may follow later
+  -- its dependents may follow later
   pub taken_follows : (rule_uses : List RuleUse) → Follow (λ _. false) rule_uses a → Follow (λ k. rule == k) rule_uses b
   taken_follows rule_uses follow k d less e =
       let l = get_or rule_uses k d in

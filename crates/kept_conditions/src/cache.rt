@@ -97,7 +97,7 @@ impl<'a> Kept<'a> {
         }
     }
 
-    // Whether the condition at a place holds, whose dependent these tell for a number: where it is another one, it is searched for.
+    // Whether the condition at a place holds, whose dependent these tell for a number. Where that is another, it is searched for.
     fn holds_by(&self, dependents: &[u32], number: u32, place: u32) -> bool
         ensures { result ≡ held self.now.values place }
     {

@@ -169,7 +169,7 @@ fn dependent_places(alloc: Global, forms: &Forms<'_>) -> Result<Vec<u32>, AllocE
     Ok(places)
 }
 
-/// The dependents of a package, and what they name.
+/// The dependents of a package, and on what they depend.
 #[derive(Drop)]
 pub(crate) struct Collected {
     pub(crate) list: Vec<Dependent>,
@@ -191,7 +191,7 @@ impl Collected {
         Ok(())
     }
 
-    // Adds that a dependent names the question of an id.
+    // Adds that a dependent depends on the question of an id.
     fn add_question(
         &mut self,
         number: u32,
@@ -208,7 +208,7 @@ impl Collected {
         Ok(())
     }
 
-    // Adds that a dependent names the question in whose scope it stands.
+    // Adds that a dependent depends on the question in whose scope it stands.
     fn add_this(
         &mut self,
         number: u32,
@@ -225,7 +225,7 @@ impl Collected {
         self.add_question(number, this, source)
     }
 
-    // Adds that a dependent names a rule.
+    // Adds that a dependent uses a rule.
     fn add_rule(
         &mut self,
         number: u32,
@@ -248,7 +248,7 @@ impl Collected {
         Ok(())
     }
 
-    // Adds what a dependent names, which stands in the scope of the question of an id, or of 0 for none.
+    // Adds that a dependent depends on what a name stands for. It stands in the scope of the question of an id, or of 0 for none.
     fn add_name(
         &mut self,
         number: u32,
@@ -269,7 +269,7 @@ impl Collected {
         }
     }
 
-    // Adds what the expression of a dependent names.
+    // Adds that a dependent depends on what its expression names.
     fn add_names(
         &mut self,
         number: u32,
@@ -290,7 +290,7 @@ impl Collected {
     }
 }
 
-// Adds the dependent of a number, with what it names.
+// Adds the dependent of a number, and on what it depends.
 fn add_dependent<'a, C: Conditions>(
     collected: &mut Collected,
     source: Source<'_, '_, 'a>,
@@ -321,7 +321,7 @@ fn add_dependent<'a, C: Conditions>(
     Ok(())
 }
 
-/// The dependents of a package by place, the conditions with their values over some stores, and what they name.
+/// The dependents of a package by place, the conditions with their values over some stores, and on what they depend.
 pub(crate) fn collect<'a, 's>(
     alloc: Global,
     policy: Policy<'a, 's>,

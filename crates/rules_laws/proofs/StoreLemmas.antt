@@ -39,7 +39,7 @@ data IsKind (code : ℕ) : Type 0 where
   names : code ≡ 0x25 → IsKind code
 
 is_one : ℕ → Bool
-is_one code = 0x24 == code || 0x26 == code || 0x25 == code
+is_one code = (0x24 == code) || ((0x26 == code) || (0x25 == code))
 
 each_is_one : map (λ c. not (is_store_number c) || is_one c) numbers ≡ map (λ c. true) numbers
 unfolding is_store_number row_of is_one

@@ -1,5 +1,5 @@
 -- A session begins where the chapters say.
-use Rattle.std.proofs.Common.{◌≡◌, ℕ, Option, List, [], ◌∷◌, map, refl, sym, ap, subst, ◌∙◌, inl, inr}
+use Rattle.std.proofs.Common.{◌≡◌, ℕ, Option, List, [], ◌∷◌, refl, sym, ap, subst, ◌∙◌, inl, inr}
 use Rattle.std.specs.Prelude.{option_map, unwrap_or, filter}
 use Rattle.std.specs.List.{find}
 use Rattle.std.proofs.lemmas.Bool.{cases_Bool}
@@ -14,7 +14,7 @@ use Rattle.browser_rules.specs.Strings as strings
 use Rattle.browser_rules.specs.Strings.{Spoken, spoken_in}
 use Rattle.ifr_opcodes.specs.Forest.{Node, places}
 use Rattle.ifr_scopes.specs.Nodes.{is_form, nodes_of}
-use Rattle.session_steps.specs.Opening.{HasSource, HasTexts, Opens, layout_in}
+use Rattle.session_steps.specs.Opening.{HasSource, Opens, layout_in}
 use Rattle.session_steps.specs.State.{State}
 use Rattle.session_laws.specs.laws.Session.{Stands, state_for}
 use Rattle.rules_laws.specs.laws.Stores.{stores_for}

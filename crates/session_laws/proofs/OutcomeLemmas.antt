@@ -1,7 +1,6 @@
 -- Outcomes by the chapters: what is denied, what is refused, and how one is made over what is there.
 use Rattle.std.proofs.Common.{◌≡◌, ℕ, Bool, true, false, Option, Some, None, Result, Ok, Err, List, [], ◌++◌, refl, sym, ap, ◌∙◌}
 use Rattle.std.specs.Prelude.{if◌then◌else◌, option_map, unwrap_or, codes}
-use Rattle.std.proofs.Math.Path.{fun_ext}
 use Rattle.browser_rules.specs.Pages.{in_utf8}
 use Rattle.browser_rules.specs.Session as chapter
 use Rattle.browser_rules.specs.Policy as policy

@@ -1,5 +1,5 @@
 -- A writer that passes on what it took.
-use Rattle.std.proofs.Common.{◌-◌, ◌≡◌, ℕ, true, false, List, take, refl, sym, ◌∙◌, subst, inl, inr}
+use Rattle.std.proofs.Common.{◌≡◌, ℕ, true, false, List, take, refl, sym, ◌∙◌, subst, inl, inr}
 use Rattle.std.proofs.lemmas.Bool.{cases_Bool}
 use Rattle.std.proofs.KnownBytes.{Appends-kept, Keeps-refl}
 use Rattle.hii_bytes.specs.Watching.{Pen, Writes, Flushes, BreaksWithin}

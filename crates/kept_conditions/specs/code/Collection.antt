@@ -106,7 +106,7 @@ entry holding n = record {
   holds = holding n.place;
 }
 
--- These are the first dependents of a package, and what they name.
+-- These are the first dependents of a package, and on what they depend.
 pub record AreCollected (ns : List Node) (holding : ℕ → Bool) (count : ℕ) (it : Collected) : Type 0 where
   pub list : it.list.items ≡ map (entry holding) (take count (dependent_nodes ns))
   pub sound : AreSound ns it

@@ -1,5 +1,5 @@
 -- Sessions of the contracts, in the words of the chapters.
-use Rattle.std.specs.Prelude.{◌≡◌, ℕ, List, map}
+use Rattle.std.specs.Prelude.{◌≡◌, ℕ, List}
 use Rattle.std.specs.List.{AllByRecursion}
 use Rattle.browser_rules.specs.Session as chapter
 use Rattle.hii_bytes.specs.Numbers.{AreBytes}

@@ -1,5 +1,5 @@
 use Rattle.std.proofs.Common.{◌≡◌, subst, refl, inl}
-use Rattle.std.proofs.lemmas.Result.{IfErr-weaker, on_ok_weaker}
+use Rattle.std.proofs.lemmas.Result.{IfErr-weaker, err_from_is_err_and, on_ok_weaker}
 use Rattle.hii_bytes.specs.Watching.{Writes, pen_of}
 use Rattle.form_audit.specs.FormLines.{questions_text}
 use Rattle.form_audit.specs.Reach.{TellsReached}
@@ -9,6 +9,11 @@ use Rattle.audit_commands.proofs.auditing.put_audit.Goals as goal
 
 pub put_questions-requires : goal.put_questions-requires
 put_questions-requires g c = rw (c.page.ensures.stores, c.page.ensures.bytes) c.page.ensures.fields
+
+pub returns-in_err-browser-clause-refused : goal.returns-in_err-browser-clause-refused
+returns-in_err-browser-clause-refused g c =
+    let p = err_from_is_err_and c.from_residual.result c.from_residual.ensures.1 in
+    rw (p.1, p.2) c.in_err-browser.ensures.refused
 
 pub returns-clause-told : goal.returns-clause-told
 returns-clause-told g c =

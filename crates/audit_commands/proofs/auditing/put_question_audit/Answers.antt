@@ -1,12 +1,18 @@
-use Rattle.std.proofs.Common.{◌≡◌, ℕ, ap, subst, refl, sym, inl, inr}
-use Rattle.std.proofs.lemmas.Result.{IfErr-weaker, IfOk-weaker, on_err_weaker}
+use Rattle.std.proofs.Common.{◌≡◌, ℕ, [], ap, subst, refl, sym, inl, inr}
+use Rattle.std.proofs.lemmas.Result.{IfErr-weaker, IfOk-weaker, err_from_is_err_and, on_err_weaker}
 use Rattle.browser_rules.specs.Packages.{Package}
+use Rattle.hii_bytes.specs.Watching.{pen_of}
+use Rattle.hii_bytes.specs.Faults.{Then}
 use Rattle.hii_bytes.specs.declared.cause.Fault.{Fault}
+use Rattle.hii_bytes.proofs.FaultLemmas.{then_first}
+use Rattle.hii_bytes.proofs.WritingLemmas.{writes_nil}
 use Rattle.hii_packages.specs.code.Package.{package_of}
 use Rattle.form_audit.specs.Audited.{Audited}
 use Rattle.form_audit.specs.code.Pages.{audited}
+use Rattle.question_audit.proofs.BeginningLemmas.{at_error}
 use Rattle.question_audit.specs.QuestionFacts.{BeginsQuestionText, IsQuestionText}
 use Rattle.audit_commands.specs.Auditing.{audited_at}
+use Rattle.session_steps.specs.Opening.{forms_bytes, IsBrowsingFault, IsSourceFault, IsTextFault}
 use Rattle.session_steps.proofs.SourceLemmas.{one_source}
 use Rattle.audit_commands.proofs.auditing.put_question_audit.Goals as goal
 
@@ -16,6 +22,21 @@ put_question_with_id-requires-clause-in_list g c =
     let its = c.in_ok-package.package in
     let source = one_source c.args.given.list.now c.args.given.forms (package_of its) opens.source c.in_ok-package.ensures.found opens.found in
     rw (c.page.ensures.bytes, opens.bytes, sym (ap (λ (p : Package). p.bytes) source)) its.in_list
+
+pub returns-in_err-package-clause-refused : goal.returns-in_err-package-clause-refused
+returns-in_err-package-clause-refused g c =
+    let p = err_from_is_err_and c.from_residual.result c.from_residual.ensures.1 in
+    let list = c.args.given.list.now in
+    let n = c.args.given.forms in
+    rw (p.1, p.2) (inr (then_first (IsSourceFault list n) (Then (IsTextFault list) (IsBrowsingFault (forms_bytes list n) c.args.given.stores.now)) _ c.in_err-package.ensures.refused))
+
+pub returns-in_err-package-clause-begun : goal.returns-in_err-package-clause-begun
+returns-in_err-package-clause-begun g c = at_error c.from_residual.result ([], inl refl, writes_nil (pen_of g.W.Write.contents c.args.out.now))
+
+pub returns-in_err-browser-clause-refused : goal.returns-in_err-browser-clause-refused
+returns-in_err-browser-clause-refused g c =
+    let p = err_from_is_err_and c.from_residual-in_err-browser.result c.from_residual-in_err-browser.ensures.1 in
+    rw (p.1, p.2) c.in_err-browser.ensures.refused
 
 pub returns-clause-told : goal.returns-clause-told
 returns-clause-told g c =

@@ -9,7 +9,7 @@ use Rattle.hii_varstore.specs.Stores.{Store, StoreMap, shape_of, zeros_in, zeros
 use Rattle.store_audit.specs.code.Fillings.{filling_buffer, stores_of}
 use Rattle.store_audit.proofs.FillingLemmas.{all_filled, all_fit, all_buffers, filled_more, room, filled_laid, bytes_filled, apart_in}
 use Rattle.store_audit.proofs.fillings.filled.Goals as goal
-use Rattle.store_audit.proofs.fillings.filled.Goals.{After-in_ok-stores, After-loop-filling}
+use Rattle.store_audit.proofs.fillings.filled.Goals.{In_ok-stores, After-loop-filling}
 
 pub loop-filling-init : goal.loop-filling-init
 loop-filling-init c =
@@ -18,7 +18,7 @@ loop-filling-init c =
     ∙ ap (λ (bs : List Buffer). record { guid = guid_of ns; stores = map zeros_in bs }) (sym (all_buffers ns c.args.fillings.now c.requires.all))
 
 -- the stores have different ids
-apart : (c : After-in_ok-stores) → IsDistinct nat_eq (map (λ (b : Buffer). b.id) (map filling_buffer c.args.fillings.now))
+apart : (c : In_ok-stores) → IsDistinct nat_eq (map (λ (b : Buffer). b.id) (map filling_buffer c.args.fillings.now))
 apart c =
     let ns = nodes_of c.args.declared.now in
     let all : map filling_buffer c.args.fillings.now ≡ c.layout-layout.result.now.buffers = all_buffers ns c.args.fillings.now c.requires.all ∙ sym (ap (λ (s : Shape). s.buffers) c.layout-layout.ensures) in
@@ -28,14 +28,14 @@ pub fill-requires : goal.fill-requires
 fill-requires c =
     let fs = c.args.fillings.now in
     let guid = guid_of (nodes_of c.args.declared.now) in
-    let space = room guid fs c.loop-filling.filling-index c.filling-item.result (apart (goal.at.fill-requires c).After-in_ok-stores) (all_fit fs c.requires.fit) (omega arith) in
+    let space = room guid fs c.loop-filling.filling-index c.filling-item.result (apart (goal.at.fill-requires c).In_ok-stores) (all_fit fs c.requires.fit) (omega arith) in
     rw c.loop-filling.invariant (rw (← c.filling-item.is) at space)
 
 pub loop-filling-preserved : goal.loop-filling-preserved
 loop-filling-preserved c =
     let fs = c.args.fillings.now in
     let guid = guid_of (nodes_of c.args.declared.now) in
-    let more = filled_more guid fs c.loop-filling.filling-index c.filling-item.result (apart (goal.at.loop-filling-preserved c).After-in_ok-stores) (all_fit fs c.requires.fit) (omega arith) in
+    let more = filled_more guid fs c.loop-filling.filling-index c.filling-item.result (apart (goal.at.loop-filling-preserved c).In_ok-stores) (all_fit fs c.requires.fit) (omega arith) in
     c.fill.ensures ∙ rw c.loop-filling.invariant (rw (← c.filling-item.is) at more)
 
 -- the stores as they are returned

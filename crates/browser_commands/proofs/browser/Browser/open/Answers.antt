@@ -10,6 +10,11 @@ use Rattle.kept_conditions.specs.Kept.{KeptMap}
 use Rattle.browser_commands.proofs.OpeningLemmas.{only_memory, refuses_source, refuses_texts, refuses_form_set, refuses_image, is_found, opened}
 use Rattle.browser_commands.proofs.browser.Browser.open.Goals as goal
 
+pub returns-in_err-found-clause-refused : goal.returns-in_err-found-clause-refused
+returns-in_err-found-clause-refused c =
+    let p = err_from_is_err_and c.from_residual.result c.from_residual.ensures.1 in
+    rw (p.1, p.2) (refuses_source c.args.list.now c.args.forms c.args.stores.now _ c.in_err-found.ensures.refused)
+
 pub returns-in_err-found-clause-accepted : goal.returns-in_err-found-clause-accepted
 returns-in_err-found-clause-accepted c =
     let p = err_from_is_err_and c.from_residual.result c.from_residual.ensures.1 in
