@@ -22,8 +22,7 @@ use Rattle.hii_questions.specs.Faults.{IsQuestionFault}
 use Rattle.hii_questions.specs.code.LyingIn.{LiesIn, LieIn}
 use Rattle.hii_questions.proofs.LawLemmas.{holds_fields}
 use Rattle.session_steps.specs.State.{State}
-use Rattle.session_steps.specs.Opening.{layout_in}
-use Rattle.session_steps.specs.code.Browsable.{IsBrowsable}
+use Rattle.session_steps.specs.Opening.{layout_in, IsBrowsable}
 use Rattle.session_steps.specs.Step.{is_other, is_changed, changed, commit}
 use Rattle.session_steps.specs.Texts.{count_text, changed_text}
 

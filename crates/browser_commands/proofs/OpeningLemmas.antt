@@ -15,17 +15,14 @@ use Rattle.ifr_scopes.specs.Nodes.{nodes_of, is_form}
 use Rattle.ifr_scopes.proofs.AcceptedLemmas.{accepted_no_fault}
 use Rattle.hii_varstore.specs.Layout.{Shape}
 use Rattle.hii_varstore.specs.Image.{SpellsImage}
+use Rattle.hii_varstore.specs.Stores.{StoreMap}
 use Rattle.hii_varstore.specs.StoreNodes.{IsStoreFault}
 use Rattle.hii_varstore.specs.Faults.{IsImageFault}
 use Rattle.hii_varstore.proofs.FaultLemmas as image_faults
 use Rattle.hii_questions.specs.Faults.{IsQuestionFault}
-use Rattle.form_sets.specs.Packages.{IsGoodPackage}
-use Rattle.form_sets.proofs.PackageLemmas.{accepted_where_good, stored_where_good, asked_where_good, good_where_accepted}
 use Rattle.guard_policy.specs.World.{removed_at}
 use Rattle.session_steps.specs.State.{State}
-use Rattle.browser_commands.proofs.FormLemmas.{first_of}
-use Rattle.session_steps.specs.Opening.{forms_bytes, HasSource, HasTexts, layout_in, IsSourceFault, IsTextFault, IsFormSetFault, IsBrowsingFault, IsOpenFault, AreGood, Opens}
-use Rattle.session_steps.specs.code.Browsable.{IsBrowsable}
+use Rattle.session_steps.specs.Opening.{forms_bytes, HasSource, HasTexts, layout_in, IsSourceFault, IsTextFault, IsFormSetFault, IsBrowsingFault, IsOpenFault, Opens, IsBrowsable}
 use Rattle.session_steps.proofs.SourceLemmas.{no_source_fault, source_bytes}
 
 -- ---- what can be browsed has no fault
@@ -55,70 +52,21 @@ is_found list seen n source ifr spoken same found is says =
 no_text_fault : (list : List ℕ) (spoken : List Spoken) → HasTexts list spoken → HasNone (IsTextFault list)
 no_text_fault list spoken says = (none_among (string_faults list)).0 says.0
 
--- what is good can be browsed, and the other way round
-browsable_where_good : (ifr : List ℕ) → IsGoodPackage ifr → IsBrowsable ifr
-browsable_where_good ifr g = record { accepted = accepted_where_good ifr g; stores = stored_where_good ifr g; questions = asked_where_good ifr g }
+-- Where the list and its string packages have no fault, the forms package of the number can be browsed and the image spells its
+-- stores, there is no fault.
+pub sound_no_fault : (list : List ℕ) (n : ℕ) (image : List ℕ) (source : Package) (spoken : List Spoken) (stores : StoreMap) → HasSource list n source → HasTexts list spoken
+    → IsBrowsable source.bytes → SpellsImage (layout_in source.bytes) image stores → HasNone (IsOpenFault list n image)
+sound_no_fault list n image source spoken stores found says browsable is =
+    let ifr = source.bytes in
+    then_none (IsSourceFault list n) (Then (IsTextFault list) (IsBrowsingFault (forms_bytes list n) image)) (no_source_fault list n source found)
+    (then_none (IsTextFault list) (IsBrowsingFault (forms_bytes list n) image) (no_text_fault list spoken says)
+    (subst (λ ifr. HasNone (IsBrowsingFault ifr image)) (sym (source_bytes list n source found))
+    (then_none (IsFormSetFault ifr) (IsImageFault (layout_in ifr) image) (browsable_no_fault ifr browsable) (image_faults.no_fault (layout_in ifr) image stores is))))
 
-pub good_where_browsable : (ifr : List ℕ) → IsBrowsable ifr → IsGoodPackage ifr
-good_where_browsable ifr b = good_where_accepted ifr b.accepted b.stores b.questions
-
--- good bytes have no fault
-pub good_no_fault : (list : List ℕ) (n : ℕ) (image : List ℕ) → AreGood list n image → HasNone (IsOpenFault list n image)
-good_no_fault list n image g =
-    let ifr = g.source.bytes in
-    then_none (IsSourceFault list n) (Then (IsTextFault list) (IsBrowsingFault (forms_bytes list n) image)) (no_source_fault list n g.source g.found)
-    (then_none (IsTextFault list) (IsBrowsingFault (forms_bytes list n) image) (no_text_fault list g.spoken g.texts)
-    (subst (λ ifr. HasNone (IsBrowsingFault ifr image)) (sym (source_bytes list n g.source g.found))
-    (then_none (IsFormSetFault ifr) (IsImageFault (layout_in ifr) image) (browsable_no_fault ifr (browsable_where_good ifr g.good)) (image_faults.no_fault (layout_in ifr) image g.stores g.image_is))))
-
--- bytes that open a session are good
-pub opens_good : (list : List ℕ) (n : ℕ) (image language : List ℕ) (start : State) → Opens list n image language start → AreGood list n image
-opens_good list n image language start o = record {
-  source = o.source;
-  found = o.found;
-  spoken = start.spoken;
-  texts = o.texts;
-  good = subst IsGoodPackage o.bytes o.good;
-  stores = start.working;
-  image_is = subst (λ ifr. SpellsImage (layout_in ifr) image start.working) o.bytes o.stores;
-}
-
-pub opens_no_fault : (list : List ℕ) (n : ℕ) (stores language : List ℕ) (start : State) → Opens list n stores language start → HasNone (IsOpenFault list n stores)
-opens_no_fault list n stores language start o = good_no_fault list n stores (opens_good list n stores language start o)
-
--- good bytes open a session
-pub opens_where_good : (list : List ℕ) (n : ℕ) (image language : List ℕ) → AreGood list n image → (start : State) × Opens list n image language start
-opens_where_good list n image language g =
-    let ifr = g.source.bytes in
-    let first = first_of ifr (accepted_where_good ifr g.good) in
-    let start : State = record {
-      ifr = ifr;
-      path = device_path list;
-      removed = removed_at (nodes_of ifr) g.stores;
-      spoken = g.spoken;
-      language = chosen g.spoken language;
-      committed = g.stores;
-      working = g.stores;
-      form = first.0.place;
-      history = [];
-    } in (
-      start,
-      record {
-        source = g.source;
-        found = g.found;
-        bytes = refl;
-        path = refl;
-        texts = g.texts;
-        language_is = refl;
-        good = g.good;
-        stores = g.image_is;
-        submitted = refl;
-        removed = refl;
-        others = places first.1;
-        forms = ap places first.2;
-        history = refl;
-      },
-    )
+pub opens_no_fault : (list : List ℕ) (n : ℕ) (image language : List ℕ) (start : State) → Opens list n image language start → HasNone (IsOpenFault list n image)
+opens_no_fault list n image language start o =
+    sound_no_fault list n image o.source start.spoken start.working o.found o.texts (subst IsBrowsable o.bytes o.browsable)
+    (subst (λ ifr. SpellsImage (layout_in ifr) image start.working) o.bytes o.stores)
 
 -- where the bytes open a session, the only fault is out of memory
 pub only_memory : (list : List ℕ) (n : ℕ) (stores language : List ℕ) (start : State) (fault : Fault) → Opens list n stores language start → Refuses (IsOpenFault list n stores) fault → fault ≡ out_of_memory
@@ -216,7 +164,7 @@ opened list seen n stores language source start shape first others read found is
   path = path ∙ ap device_path read;
   texts = subst (λ (bytes : List ℕ). HasTexts bytes start.spoken) read says;
   language_is = chose;
-  good = good_where_browsable start.ifr b;
+  browsable = b;
   stores = subst (SpellsImage (layout_in start.ifr) stores) (sym same) (subst (λ shape. SpellsImage shape stores start.committed) laid spelled);
   submitted = sym same;
   removed = removed;

@@ -32,8 +32,7 @@ use Rattle.guard_policy.specs.declared.denial.Denial.{Denial}
 use Rattle.guard_policy.specs.declared.policy.Policy.{Policy}
 use Rattle.ifr_scopes.proofs.ViewLemmas.{contains_found}
 use Rattle.hii_questions.proofs.LawLemmas.{holds_fields}
-use Rattle.session_steps.specs.Opening.{layout_in}
-use Rattle.session_steps.specs.code.Browsable.{IsBrowsable}
+use Rattle.session_steps.specs.Opening.{layout_in, IsBrowsable}
 use Rattle.session_steps.specs.Configuration.{block_field, block_bytes, store_named, question_of_field}
 use Rattle.session_steps.specs.Renewed.{Shown, Write, Blocks, and_then, and_back, route_writes, write_of, written_by}
 use Rattle.browser_commands.specs.code.Counting.{counted_all}

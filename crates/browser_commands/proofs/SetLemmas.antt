@@ -36,8 +36,7 @@ use Rattle.kept_conditions.specs.code.Cache.{put_in}
 use Rattle.session_steps.specs.Texts.{ok_text}
 use Rattle.session_steps.specs.Step.{accepted, denied, warned_text, set_unless_fixed, set_unless_forbidden, set_question, commit, submitted}
 use Rattle.browser_commands.specs.code.Changing.{IsOver, TakesField, SetsQuestion, SetsValue}
-use Rattle.session_steps.specs.Opening.{layout_in}
-use Rattle.session_steps.specs.code.Browsable.{IsBrowsable}
+use Rattle.session_steps.specs.Opening.{layout_in, IsBrowsable}
 use Rattle.browser_commands.specs.code.Standing.{IsQuestionIn}
 use Rattle.hii_questions.specs.code.LyingIn.{LiesIn}
 use Rattle.session_steps.specs.declared.reply.Reply.TheVariants.{Denied}

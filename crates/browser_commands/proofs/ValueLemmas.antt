@@ -15,12 +15,11 @@ use Rattle.guard_policy.specs.declared.policy.Policy.{Policy}
 use Rattle.kept_conditions.specs.Kept.{KeptMap, counted}
 use Rattle.kept_conditions.specs.Touching.{range_of_field, renewals}
 use Rattle.kept_conditions.specs.code.Cache.{put_in}
-use Rattle.session_steps.specs.Opening.{layout_in}
+use Rattle.session_steps.specs.Opening.{layout_in, IsBrowsable}
 use Rattle.session_steps.specs.Renewed.{Shown, Write, field_write, write_of}
 use Rattle.session_steps.specs.State.{State}
 use Rattle.session_steps.specs.Step.{Outcome, accepted, no_question, warned_text}
 use Rattle.session_steps.specs.Texts.{ok_text}
-use Rattle.session_steps.specs.code.Browsable.{IsBrowsable}
 use Rattle.browser_commands.specs.code.Changing.{IsBrowsed, IsOver, SetsQuestion}
 use Rattle.browser_commands.specs.code.Counting.{counted_all}
 use Rattle.browser_commands.specs.code.Standing.{Changes, IsQuestionIn, Sets}

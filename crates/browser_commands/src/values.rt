@@ -16,8 +16,7 @@ ghost use Rattle.session_steps.specs.State.{world_of};
 ghost use Rattle.browser_commands.specs.code.Counting.{counted_all};
 ghost use Rattle.session_steps.specs.Step.{why_question, set_question};
 ghost use Rattle.browser_commands.specs.code.Standing.{IsQuestionIn, Finds, Changes, Sets, IsOffered, answered, written_of};
-ghost use Rattle.session_steps.specs.Opening.{layout_in};
-ghost use Rattle.session_steps.specs.code.Browsable.{IsBrowsable};
+ghost use Rattle.session_steps.specs.Opening.{layout_in, IsBrowsable};
 
 use crate::browser::Browser;
 use crate::change::give_value;

@@ -30,7 +30,6 @@ use Rattle.hii_questions.specs.Inputs as inputs
 use Rattle.hii_questions.specs.Inputs.{Offer, whole, listed, utf8}
 use Rattle.hii_questions.proofs.FieldLemmas.{passing, have_the_field}
 use Rattle.hii_questions.proofs.LawLemmas.{fits_wide}
-use Rattle.form_sets.proofs.FoundLemmas.{given}
 use Rattle.hii_questions.specs.declared.denial.DenialKind.{DenialKind}
 use Rattle.hii_questions.specs.declared.denial.DenialKind.TheVariants.{NotButton, Password}
 use Rattle.ifr_defaults.specs.Defaults.{default_of}
@@ -47,6 +46,7 @@ use Rattle.session_steps.specs.declared.reply.Reply.{Reply}
 use Rattle.session_steps.specs.declared.reply.Reply.TheVariants.{Accepted, Denied, Refused}
 use Rattle.session_steps.specs.Renewed.{named_if, pressed_if}
 use Rattle.browser_core.specs.laws.Bytes.{state_with, fields_of, block_fields, response_fields, where_accepted, named_fields, HaveByte, SetsFields, SetsByte, KeepsOtherBytes, ChangesNamedBytesAlone}
+use Rattle.rules_laws.proofs.FoundLemmas.{given}
 use Rattle.session_steps.proofs.GoLemmas.{LeavesStores, follow_leaves, back_leaves}
 use Rattle.browser_core.proofs.RefusedLemmas.{blocks_leave}
 use Rattle.session_steps.proofs.RoutedLemmas.{extract_leaves}

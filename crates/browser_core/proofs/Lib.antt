@@ -1,5 +1,6 @@
 pub mod BrowsedLemmas
 pub mod RunLemmas
+pub mod GoodBytesLemmas
 pub mod WithoutFaultLemmas
 pub mod RefusedLemmas
 pub mod OneStateLemmas

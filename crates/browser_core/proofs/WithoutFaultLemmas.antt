@@ -20,9 +20,9 @@ use Rattle.hii_varstore.specs.Image.{SpellsImage}
 use Rattle.hii_varstore.specs.StoreNodes.{IsStoreFault}
 use Rattle.hii_varstore.specs.Faults.{IsImageFault}
 use Rattle.hii_questions.specs.Faults.{IsQuestionFault}
-use Rattle.session_steps.specs.Opening.{HasSource, layout_in, IsSourceFault, IsTextFault, IsFormSetFault, IsBrowsingFault, IsOpenFault, AreGood}
-use Rattle.session_steps.specs.code.Browsable.{IsBrowsable}
-use Rattle.browser_commands.proofs.OpeningLemmas.{good_where_browsable}
+use Rattle.session_steps.specs.Opening.{HasSource, layout_in, IsSourceFault, IsTextFault, IsFormSetFault, IsBrowsingFault, IsOpenFault, IsBrowsable}
+use Rattle.browser_core.specs.laws.Good.{AreGood}
+use Rattle.browser_core.proofs.GoodBytesLemmas.{good_where_browsable}
 use Rattle.session_steps.proofs.SourceLemmas.{list_refuses, number_refuses, source_bytes}
 
 -- ---- two parts without a fault

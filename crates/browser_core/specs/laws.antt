@@ -1,3 +1,4 @@
 -- What the laws of the crate say, and the words that they alone need.
 pub mod Bytes
+pub mod Good
 pub mod Sealed

@@ -3,8 +3,9 @@
 ghost use Rattle.std.specs.Prelude.{◌≡◌, ◌≢◌, ℕ, List};
 ghost use Rattle.hii_bytes.specs.Faults.{HasNone};
 ghost use Rattle.browser_rules.specs.Script.{Command};
+ghost use Rattle.browser_core.specs.laws.Good.{AreGood};
 ghost use Rattle.browser_core.specs.laws.Bytes.{ChangesNamedBytesAlone, KeepsOtherBytes};
-ghost use Rattle.session_steps.specs.Opening.{AreGood, Opens, IsOpenFault};
+ghost use Rattle.session_steps.specs.Opening.{Opens, IsOpenFault};
 ghost use Rattle.browser_core.specs.laws.Sealed.{DecidingHasAll, DecidingHasNoOthers, SealedQuestionsAnswerAlike, SessionsAreLaid};
 ghost use Rattle.browser_rules.specs.Session as chapter;
 ghost use Rattle.browser_core.specs.Opening as rules;
@@ -22,8 +23,8 @@ pub fn good_bytes_have_no_fault()
         → HasNone (IsOpenFault list n image) }
 {}
 
-/// Bytes without a fault are good: the list spells packages, the string packages say texts, the forms package of the number is
-/// there, spells a well-formed form set and has good ids, stores and questions, and the image spells its stores.
+/// Bytes without a fault are good: the list has none, its string packages say texts, its forms package of the number is there,
+/// spells a well-formed form set and has good ids, stores and questions, and the image spells its stores.
 pub fn bytes_without_fault_are_good(list: &[u8], forms: usize, image: &[u8])
     ensures { HasNone (IsOpenFault list.now forms image.now) → AreGood list.now forms image.now }
 {

@@ -1,7 +1,9 @@
-//! That the chapters of `browser_rules` say what the contracts of the crates say, part by part. Laws alone, no code that runs.
+//! That the chapters of `browser_rules` say what the contracts of the crates say, part by part; and that a forms package has no
+//! fault exactly where it is a good one. Laws alone, no code that runs.
 #![tactic(auto)]
 
 pub mod defaults;
+pub mod form_sets;
 pub mod framing;
 pub mod nodes;
 pub mod opcodes;

@@ -8,7 +8,6 @@ use Rattle.hii_bytes.specs.Numbers.{AreBytes}
 use Rattle.hii_varstore.specs.Image.{SpellsImage, image_of, older_image_of, store_image, stores_image}
 use Rattle.hii_varstore.specs.Layout.{Shape}
 use Rattle.hii_varstore.specs.Stores.{Store, StoreMap}
-use Rattle.form_sets.proofs.PackageLemmas.{accepted_where_good, asked_where_good, stored_where_good}
 use Rattle.session_steps.specs.Opening.{Opens, layout_in}
 use Rattle.session_steps.specs.State.{State}
 use Rattle.session_laws.specs.laws.Session.{AreStored, Stands}
@@ -80,7 +79,7 @@ package_bytes list (suc n) are k =
 
 pub stands_opened : (list : List ℕ) (n : ℕ) (image language : List ℕ) (start : State) → Opens list n image language start → AreBytes list → AreBytes image → Stands start
 stands_opened list n image language start opens are images = record {
-  browsable = record { accepted = accepted_where_good start.ifr opens.good; stores = stored_where_good start.ifr opens.good; questions = asked_where_good start.ifr opens.good };
+  browsable = opens.browsable;
   are_bytes = subst AreBytes (opened_bytes list n image language start opens) (package_bytes list n are);
   committed = subst (AreStored start.ifr) (sym opens.submitted) its;
   working = its;

@@ -4,4 +4,3 @@ pub mod Configuration
 pub mod Step
 pub mod Renewed
 pub mod Opening
-pub mod code

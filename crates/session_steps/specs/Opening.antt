@@ -4,14 +4,12 @@ use Rattle.browser_rules.specs.Faults.{list_faults, number_faults, string_faults
 use Rattle.browser_rules.specs.Packages as chapter
 use Rattle.browser_rules.specs.Packages.{Package, device_path, forms_package}
 use Rattle.browser_rules.specs.Strings.{Spoken, spoken_in, chosen}
-use Rattle.hii_bytes.specs.Faults.{IsAmong, Then}
+use Rattle.hii_bytes.specs.Faults.{HasNone, IsAmong, Then}
 use Rattle.hii_bytes.specs.declared.cause.Cause.{Cause}
 use Rattle.ifr_opcodes.specs.Forest.{places}
-use Rattle.form_sets.specs.Packages.{IsGoodPackage}
-use Rattle.ifr_scopes.specs.Accepted.{IsPackageFault}
+use Rattle.ifr_scopes.specs.Accepted.{IsAccepted, IsPackageFault}
 use Rattle.ifr_scopes.specs.Nodes.{nodes_of, is_form}
 use Rattle.hii_varstore.specs.Layout.{Shape}
-use Rattle.hii_varstore.specs.Stores.{StoreMap}
 use Rattle.hii_varstore.specs.StoreNodes.{layout_of, IsStoreFault}
 use Rattle.hii_varstore.specs.Image.{SpellsImage}
 use Rattle.hii_varstore.specs.Faults.{IsImageFault}
@@ -59,18 +57,13 @@ IsOpenFault list n image =
     Then (IsSourceFault list n)
     (Then (IsTextFault list) (IsBrowsingFault (forms_bytes list n) image))
 
--- What the bytes are that open a session in any language: the list has no fault, its forms package of the number is a good one,
--- its string packages say texts, and the image spells the stores that the forms package declares.
-pub record AreGood (list : List ℕ) (n : ℕ) (image : List ℕ) : Type 0 where
-  pub source : Package
-  pub found : HasSource list n source
-  pub spoken : List Spoken
-  pub texts : HasTexts list spoken
-  pub good : IsGoodPackage source.bytes
-  pub stores : StoreMap
-  pub image_is : SpellsImage (layout_in source.bytes) image stores
+-- A forms package can be browsed: it is accepted, and neither its stores nor its questions have a fault.
+pub record IsBrowsable (ifr : List ℕ) : Type 0 where
+  pub accepted : IsAccepted ifr
+  pub stores : HasNone (IsStoreFault (nodes_of ifr))
+  pub questions : HasNone (IsQuestionFault (nodes_of ifr))
 
--- The list has no fault, and its forms package of the number is a good one; its string packages say texts, of which those for the
+-- The list has no fault, and its forms package of the number can be browsed; its string packages say texts, of which those for the
 -- language are shown; the image spells its stores, with which a session begins, at the first form; the DISABLE_IFs that hold over
 -- these stores are removed.
 pub record Opens (list : List ℕ) (n : ℕ) (image language : List ℕ) (start : State) : Type 0 where
@@ -80,7 +73,7 @@ pub record Opens (list : List ℕ) (n : ℕ) (image language : List ℕ) (start 
   pub path : start.path ≡ device_path list
   pub texts : HasTexts list start.spoken
   pub language_is : start.language ≡ chosen start.spoken language
-  pub good : IsGoodPackage start.ifr
+  pub browsable : IsBrowsable start.ifr
   pub stores : SpellsImage (layout_in start.ifr) image start.working
   pub submitted : start.committed ≡ start.working
   pub removed : start.removed ≡ removed_at (nodes_of start.ifr) start.working

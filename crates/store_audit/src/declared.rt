@@ -6,8 +6,7 @@ ghost use Rattle.hii_bytes.specs.Faults.{HasNone, IsLeast, Refuses};
 ghost use Rattle.hii_packages.specs.code.Package.{package_of};
 ghost use Rattle.ifr_scopes.specs.Nodes.{nodes_of};
 ghost use Rattle.hii_varstore.specs.StoreNodes.{layout_of};
-ghost use Rattle.form_sets.specs.Packages.{IsGoodPackage};
-ghost use Rattle.session_steps.specs.Opening.{HasSource, IsSourceFault, IsFormSetFault};
+ghost use Rattle.session_steps.specs.Opening.{HasSource, IsBrowsable, IsSourceFault, IsFormSetFault};
 ghost use Rattle.store_audit.specs.Declaring.{IsDeclaredFault};
 
 use hii_bytes::Fault;
@@ -44,7 +43,7 @@ impl<'a> Declared<'a> {
     pub fn read(alloc: Global, list: &'a [u8], number: usize) -> Result<Declared<'a>, Fault>
         ensures found { IfOk result (λ declared. (source : chapter.Package)
             × HasSource list.entry.now number source × (declared ≡ source.bytes)) }
-        ensures good { IfOk result IsGoodPackage }
+        ensures browsable { IfOk result IsBrowsable }
         ensures sound { IfOk result (λ declared. HasNone (IsDeclaredFault list.entry.now number)) }
         ensures refused { IfErr result (Refuses (IsDeclaredFault list.entry.now number)) }
     {
@@ -80,7 +79,7 @@ pub fn forms_package(list: &[u8], number: usize) -> Result<Package<'_>, Fault>
 // What a forms package declares.
 fn form_set<'a>(alloc: Global, source: Package<'a>) -> Result<Declared<'a>, Fault>
     ensures read { IfOk result (λ declared. declared ≡ source.entry.bytes.now) }
-    ensures good { IfOk result IsGoodPackage }
+    ensures browsable { IfOk result IsBrowsable }
     ensures sound { IfOk result (λ declared. HasNone (IsFormSetFault source.entry.bytes.now)) }
     ensures refused { IfErr result (Refuses (IsFormSetFault source.entry.bytes.now)) }
 {

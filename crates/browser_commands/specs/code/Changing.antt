@@ -33,8 +33,7 @@ use Rattle.session_steps.specs.Renewed.{written_by}
 use Rattle.session_steps.specs.State.{State, world_of, world_with}
 use Rattle.session_steps.specs.Step.{Outcome, accepted, denied, warned_text, set_question, set_unless_fixed, set_unless_forbidden, set_field, set_block, set_blocks}
 use Rattle.session_steps.specs.Texts.{ok_text}
-use Rattle.session_steps.specs.Opening.{layout_in}
-use Rattle.session_steps.specs.code.Browsable.{IsBrowsable}
+use Rattle.session_steps.specs.Opening.{layout_in, IsBrowsable}
 use Rattle.browser_commands.specs.code.Counting.{counted_all}
 use Rattle.browser_commands.specs.code.Standing.{IsQuestionIn}
 use Rattle.browser_commands.specs.declared.blocks.BlockFields.{BlockFields}

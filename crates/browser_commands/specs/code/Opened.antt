@@ -4,8 +4,7 @@ use Rattle.hii_varstore.specs.Image.{SpellsImage}
 use Rattle.hii_varstore.specs.code.Table.{AreBuffers}
 use Rattle.ifr_scopes.specs.Nodes.{nodes_of}
 use Rattle.guard_policy.specs.World.{removed_at}
-use Rattle.session_steps.specs.Opening.{layout_in}
-use Rattle.session_steps.specs.code.Browsable.{IsBrowsable}
+use Rattle.session_steps.specs.Opening.{layout_in, IsBrowsable}
 use Rattle.browser_commands.specs.declared.opening.FormSetParts.{FormSetParts}
 use Rattle.browser_commands.specs.declared.opening.HeldStores.{HeldStores}
 

@@ -23,8 +23,7 @@ use Rattle.session_steps.specs.Renewed.{Shown, Write, field_write, field_writes,
 use Rattle.session_steps.specs.State.{State}
 use Rattle.browser_commands.specs.code.Counting.{counted_all}
 use Rattle.session_steps.specs.declared.reply.Reply.TheVariants.{Accepted}
-use Rattle.session_steps.specs.Opening.{layout_in}
-use Rattle.session_steps.specs.code.Browsable.{IsBrowsable}
+use Rattle.session_steps.specs.Opening.{layout_in, IsBrowsable}
 use Rattle.session_steps.specs.Texts.{ok_text, count_text}
 use Rattle.session_steps.specs.Step.{Outcome, Taken, accepted, denied, no_question, warned_text, set_question, take_default, take_defaults, taken, row_of_form, form_of, press, show_form, follow, configuration_text, extract_from, route_to}
 

@@ -4,10 +4,9 @@ use Rattle.std.specs.List.{AllByRecursion}
 use Rattle.browser_rules.specs.Session as chapter
 use Rattle.hii_bytes.specs.Numbers.{AreBytes}
 use Rattle.hii_varstore.specs.Stores.{StoreMap, shape_of}
-use Rattle.session_steps.specs.Opening.{layout_in}
+use Rattle.session_steps.specs.Opening.{layout_in, IsBrowsable}
 use Rattle.session_steps.specs.State.{State}
 use Rattle.session_steps.specs.Step.{Outcome}
-use Rattle.session_steps.specs.code.Browsable.{IsBrowsable}
 use Rattle.session_laws.specs.Replies.{reply_for}
 use Rattle.rules_laws.specs.laws.Stores.{stores_for}
 

@@ -1,4 +1,4 @@
-use Rattle.browser_commands.proofs.OpeningLemmas.{opens_where_good, opens_good}
+use Rattle.browser_core.proofs.GoodBytesLemmas.{opens_where_good, opens_good}
 use Rattle.browser_core.proofs.laws.good_bytes_open.Goals as goal
 
 pub returns-clause-opens : goal.returns-clause-opens

@@ -1,7 +1,7 @@
 use Rattle.std.proofs.lemmas.Result.{err_from_is_err_and}
 use Rattle.hii_bytes.specs.Faults.{HasNone}
 use Rattle.session_steps.specs.Opening.{IsFormSetFault}
-use Rattle.browser_commands.proofs.OpeningLemmas.{browsable_no_fault, good_where_browsable, package_refuses, stores_refuse, questions_refuse}
+use Rattle.browser_commands.proofs.OpeningLemmas.{browsable_no_fault, package_refuses, stores_refuse, questions_refuse}
 use Rattle.std.proofs.Common.{subst}
 use Rattle.store_audit.proofs.declared.form_set.Goals as goal
 
@@ -20,9 +20,9 @@ returns-in_err-read-clause-refused c =
     let p = err_from_is_err_and c.from_residual-in_err-read.result c.from_residual-in_err-read.ensures.1 in
     rw (p.1, p.2, ← c.in_ok-forms.ensures.read) (questions_refuse _ _ c.in_ok-forms.ensures.accepted c.in_ok-layout.ensures.sound c.in_err-read.ensures.refused)
 
-pub returns-clause-good : goal.returns-clause-good
-returns-clause-good c =
-    good_where_browsable _ (record { accepted = c.in_ok-forms.ensures.accepted; stores = c.in_ok-layout.ensures.sound; questions = c.in_ok-read.ensures.sound })
+pub returns-clause-browsable : goal.returns-clause-browsable
+returns-clause-browsable c =
+    record { accepted = c.in_ok-forms.ensures.accepted; stores = c.in_ok-layout.ensures.sound; questions = c.in_ok-read.ensures.sound }
 
 pub returns-clause-sound : goal.returns-clause-sound
 returns-clause-sound c =

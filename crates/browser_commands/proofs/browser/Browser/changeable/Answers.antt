@@ -5,9 +5,8 @@ use Rattle.guard_policy.specs.code.Answers.{unless}
 use Rattle.hii_varstore.specs.Stores.{shape_of}
 use Rattle.ifr_scopes.specs.code.Lists.{statement_node}
 use Rattle.ifr_scopes.specs.code.Checked.{IsNodeOf}
-use Rattle.session_steps.specs.Opening.{layout_in}
+use Rattle.session_steps.specs.Opening.{layout_in, IsBrowsable}
 use Rattle.session_steps.specs.State.{State}
-use Rattle.session_steps.specs.code.Browsable.{IsBrowsable}
 use Rattle.browser_commands.specs.code.Changing.{IsOver}
 use Rattle.browser_commands.proofs.Browsers.{seen}
 use Rattle.browser_commands.proofs.SetLemmas.{over_world}

@@ -7,9 +7,8 @@ use Rattle.hii_questions.specs.Fields.{asked}
 use Rattle.hii_questions.specs.code.Views.{question_node, question_view}
 use Rattle.ifr_scopes.specs.Nodes.{nodes_of}
 use Rattle.ifr_scopes.specs.code.Checked.{IsNodeOf}
-use Rattle.session_steps.specs.Opening.{layout_in}
+use Rattle.session_steps.specs.Opening.{layout_in, IsBrowsable}
 use Rattle.session_steps.specs.State.{State}
-use Rattle.session_steps.specs.code.Browsable.{IsBrowsable}
 use Rattle.browser_commands.specs.code.Changing.{IsOver}
 use Rattle.browser_commands.proofs.Browsers.{seen}
 use Rattle.browser_commands.proofs.SetLemmas.{over_world}
