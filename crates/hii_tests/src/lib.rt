@@ -1,14 +1,10 @@
-//! Worked cases over numbers, streams, packages, strings, languages, commands and configuration texts, by public calls alone.
+//! Worked cases over numbers, streams, packages, strings, commands and configuration texts, by public calls alone.
 #![tactic(auto)]
 
 #[cfg(test)]
 mod commands;
 #[cfg(test)]
 mod configuration_texts;
-#[cfg(test)]
-mod languages;
-#[cfg(test)]
-mod lists;
 #[cfg(test)]
 mod numbers;
 #[cfg(test)]

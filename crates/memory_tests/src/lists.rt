@@ -40,8 +40,3 @@ pub(crate) fn list() -> &'static [u8] {
 pub(crate) fn image() -> &'static [u8] {
     b"HVS1\x01\0\x01\0\x02\0\x02\0"
 }
-
-// The page of the form: the one-of shows neither option, and the checkbox was removed.
-pub(crate) fn page() -> &'static [u8] {
-    b"FORM 1 #2\n  1 *     1 #3                       [<?>]\n"
-}

@@ -4,11 +4,9 @@
 #[cfg(test)]
 mod defaults;
 #[cfg(test)]
-mod fields;
-#[cfg(test)]
 mod forms;
 #[cfg(test)]
-mod images;
+mod opened;
 #[cfg(test)]
 mod pages;
 #[cfg(test)]
