@@ -4,7 +4,7 @@ use Rattle.std.specs.Io.Buffered.{writer_buffer, writer_contents}
 use Rattle.std.specs.declared.io.BufWriter.{BufWriter}
 use Rattle.hii_bytes.specs.declared.watched.Watched.{Watched}
 use Rattle.hii_bytes.specs.Watching.{has_failed, inner_of, pen_of}
-use Rattle.ifr_scopes.specs.Nodes.{nodes_of}
+use Rattle.ifr_nodes.specs.Nodes.{nodes_of}
 use Rattle.hii_varstore.specs.Image.{image_of}
 use Rattle.hii_varstore.specs.StoreNodes.{layout_of}
 use Rattle.std.specs.List.{AllByRecursion, find, flat_map}

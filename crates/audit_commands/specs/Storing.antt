@@ -3,7 +3,7 @@ use Rattle.std.specs.Prelude.{◌≡◌, ℕ, List}
 use Rattle.browser_rules.specs.Packages.{Package}
 use Rattle.hii_bytes.specs.declared.cause.Cause.TheVariants.{OutOfMemory}
 use Rattle.hii_bytes.specs.Faults.{HasNone}
-use Rattle.ifr_scopes.specs.Nodes.{nodes_of}
+use Rattle.ifr_nodes.specs.Nodes.{nodes_of}
 use Rattle.session_steps.specs.Opening.{HasSource}
 use Rattle.session_steps.specs.Texts.{refused_text}
 use Rattle.store_audit.specs.Declaring.{IsDeclaredFault}

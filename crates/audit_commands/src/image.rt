@@ -1,7 +1,7 @@
 //! `image`: an image of the stores of a form set, made of given bytes.
 
 ghost use Rattle.std.specs.Prelude.{◌≡◌, ◌≢◌, ℕ, List, map, option_copied, IfErr, OnErr, IfOk};
-ghost use Rattle.ifr_scopes.specs.Nodes.{nodes_of};
+ghost use Rattle.ifr_nodes.specs.Nodes.{nodes_of};
 ghost use Rattle.store_audit.specs.Fillings.{buffer_stores};
 ghost use Rattle.store_audit.specs.code.Fillings.{filling_node};
 ghost use Rattle.audit_commands.specs.Endings.{TellsAndWrites};

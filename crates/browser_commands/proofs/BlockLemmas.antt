@@ -6,11 +6,11 @@ use Rattle.std.specs.Option.{option_or}
 use Rattle.std.proofs.lemmas.Bool.{cases_Bool, cond-false, and_parts, eqb-true}
 use Rattle.ifr_opcodes.specs.Forest.{Node}
 use Rattle.ifr_opcodes.specs.Reading.{tree_of}
-use Rattle.ifr_scopes.specs.Accepted.{IsAccepted}
-use Rattle.ifr_scopes.specs.Nodes.{nodes_of, is_question}
+use Rattle.ifr_nodes.specs.Accepted.{IsAccepted}
+use Rattle.ifr_nodes.specs.Nodes.{nodes_of, is_question}
 use Rattle.ifr_scopes.specs.declared.around.Around.{Around}
-use Rattle.ifr_scopes.proofs.PlaceLemmas.{is_found}
-use Rattle.ifr_scopes.proofs.ViewLemmas.{further}
+use Rattle.ifr_nodes.proofs.PlaceLemmas.{is_found}
+use Rattle.ifr_nodes.proofs.ViewLemmas.{further}
 use Rattle.hii_varstore.specs.Stores.{StoreMap}
 use Rattle.hii_questions.specs.Fields.{Field, Asked, asked, questions, field_passes, is_same_field, has_field, is_password}
 use Rattle.hii_questions.specs.Inputs.{field}

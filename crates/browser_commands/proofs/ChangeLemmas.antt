@@ -10,8 +10,8 @@ use Rattle.hii_bytes.specs.code.Writing.{Stands}
 use Rattle.hii_bytes.proofs.WritingLemmas.{writes_trans}
 use Rattle.ifr_opcodes.specs.Fields.{question_id}
 use Rattle.ifr_opcodes.specs.Forest.{Node}
-use Rattle.ifr_scopes.specs.Nodes.{nodes_of, is_question}
-use Rattle.ifr_scopes.proofs.ViewLemmas.{further}
+use Rattle.ifr_nodes.specs.Nodes.{nodes_of, is_question}
+use Rattle.ifr_nodes.proofs.ViewLemmas.{further}
 use Rattle.hii_varstore.specs.Stores.{StoreMap, shape_of, bytes_of, bytes_of_field}
 use Rattle.hii_varstore.specs.code.Ranges.{HasRange, IsCut}
 use Rattle.hii_varstore.proofs.WriteLemmas.{sizes}

@@ -3,7 +3,7 @@ use Rattle.std.proofs.Common.{◌≡◌, ℕ, List, Result, Ok, Err, refl, sym, 
 use Rattle.hii_bytes.specs.Watching.{Pen, Writes}
 use Rattle.hii_commands.specs.Meaning.{command_meant}
 use Rattle.hii_commands.specs.declared.command.Command.{Command}
-use Rattle.ifr_scopes.specs.Nodes.{nodes_of}
+use Rattle.ifr_nodes.specs.Nodes.{nodes_of}
 use Rattle.guard_policy.specs.declared.denial.Denial.{Denial}
 use Rattle.session_steps.specs.Renewed.{Shown, Write, writes_of}
 use Rattle.session_steps.specs.State.{State}

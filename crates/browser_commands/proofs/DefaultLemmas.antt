@@ -3,10 +3,10 @@ use Rattle.std.proofs.Common.{◌≡◌, ℕ, ◌+◌, Bool, true, false, cond, 
 use Rattle.std.specs.Prelude.{filter}
 use Rattle.std.proofs.lemmas.Bool.{cond-true}
 use Rattle.ifr_opcodes.specs.Forest.{Node}
-use Rattle.ifr_scopes.specs.Nodes.{is_question}
+use Rattle.ifr_nodes.specs.Nodes.{is_question}
 use Rattle.ifr_defaults.specs.Defaults.{default_of}
 use Rattle.session_steps.proofs.KeepLemmas.{offer_keeps}
-use Rattle.ifr_scopes.specs.Nodes.{nodes_of}
+use Rattle.ifr_nodes.specs.Nodes.{nodes_of}
 use Rattle.session_steps.specs.Renewed.{Shown, Write, field_write, field_writes}
 use Rattle.hii_questions.specs.Inputs.{Offer}
 use Rattle.guard_policy.specs.declared.denial.Denial.{Denial}

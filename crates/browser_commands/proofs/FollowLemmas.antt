@@ -8,12 +8,12 @@ use Rattle.ifr_opcodes.specs.Forest.{Node}
 use Rattle.ifr_opcodes.specs.Opcode.{number}
 use Rattle.ifr_opcodes.specs.Reading.{tree_of}
 use Rattle.ifr_opcodes.specs.declared.codes.TheConstants.{RESET_BUTTON}
-use Rattle.ifr_scopes.specs.Accepted.{IsAccepted}
-use Rattle.ifr_scopes.specs.Nodes.{nodes_of, is_form, is_reference}
-use Rattle.ifr_scopes.specs.References.{has_form_id, form_with}
-use Rattle.ifr_scopes.specs.code.Checked.{IsNodeOf, has_form, node_in, or_empty}
+use Rattle.ifr_nodes.specs.Accepted.{IsAccepted}
+use Rattle.ifr_nodes.specs.Nodes.{nodes_of, is_form, is_reference}
+use Rattle.ifr_nodes.specs.ReferenceFaults.{has_form_id, form_with}
+use Rattle.ifr_nodes.specs.code.Checked.{IsNodeOf, has_form, node_in, or_empty}
 use Rattle.ifr_scopes.proofs.FormPlaceLemmas.{found}
-use Rattle.ifr_scopes.proofs.PlaceLemmas.{is_found}
+use Rattle.ifr_nodes.proofs.PlaceLemmas.{is_found}
 use Rattle.hii_questions.specs.declared.denial.DenialKind.TheVariants.{NotRef, Outside}
 use Rattle.guard_policy.specs.Policy.{denied_by, hidden, fixed}
 use Rattle.guard_policy.specs.code.Answers.{unless}

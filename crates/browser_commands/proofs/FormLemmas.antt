@@ -6,9 +6,9 @@ use Rattle.std.specs.Iterator.{YieldsFirstBy}
 use Rattle.std.proofs.lemmas.Bool.{cases_Bool}
 use Rattle.hii_bytes.specs.declared.cause.Cause.TheVariants.{NoForm}
 use Rattle.ifr_opcodes.specs.Forest.{Node}
-use Rattle.ifr_scopes.specs.Accepted.{IsAccepted}
-use Rattle.ifr_scopes.specs.Nodes.{nodes_of, is_form}
-use Rattle.ifr_scopes.proofs.ViewLemmas.{further}
+use Rattle.ifr_nodes.specs.Accepted.{IsAccepted}
+use Rattle.ifr_nodes.specs.Nodes.{nodes_of, is_form}
+use Rattle.ifr_nodes.proofs.ViewLemmas.{further}
 
 pub yields_some : {S X N : Type 0} (f : X → N) (left : S → List N) (old : S) (o : Option X) (new : S) → YieldsFirstBy f left old o new → (left old ≡ [] → ⊥) → IsSome o
 yields_some f left old None new y none = absurd (none y.0)

@@ -1,5 +1,5 @@
 -- Which bytes open a session, and with which faults they do not.
-use Rattle.std.proofs.Common.{◌≡◌, ℕ, List, [], ◌∷◌, refl, sym, ap, subst, ◌∙◌, inl, inr}
+use Rattle.std.proofs.Common.{◌≡◌, ℕ, List, [], ◌∷◌, sym, ap, subst, ◌∙◌, inl, inr}
 use Rattle.std.specs.Prelude.{filter}
 use Rattle.browser_rules.specs.Faults.{string_faults}
 use Rattle.browser_rules.specs.Packages.{Package, device_path}
@@ -10,9 +10,9 @@ use Rattle.hii_bytes.specs.Faults.{HasNone, IsAmong, IsLeast, Refuses, RefusesAm
 use Rattle.hii_bytes.proofs.ChapterFaultLemmas.{are_among, none_among, same_refusal}
 use Rattle.hii_bytes.proofs.FaultLemmas.{then_first, then_second, then_none}
 use Rattle.ifr_opcodes.specs.Forest.{Node, places}
-use Rattle.ifr_scopes.specs.Accepted.{IsAccepted, IsPackageFault}
-use Rattle.ifr_scopes.specs.Nodes.{nodes_of, is_form}
-use Rattle.ifr_scopes.proofs.AcceptedLemmas.{accepted_no_fault}
+use Rattle.ifr_nodes.specs.Accepted.{IsAccepted, IsPackageFault}
+use Rattle.ifr_nodes.specs.Nodes.{nodes_of, is_form}
+use Rattle.ifr_nodes.proofs.AcceptedLemmas.{accepted_no_fault}
 use Rattle.hii_varstore.specs.Layout.{Shape}
 use Rattle.hii_varstore.specs.Image.{SpellsImage}
 use Rattle.hii_varstore.specs.Stores.{StoreMap}

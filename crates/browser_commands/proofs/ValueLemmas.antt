@@ -1,7 +1,7 @@
 -- Questions that take a value in a form set that is browsed.
 use Rattle.std.proofs.Common.{◌≡◌, ℕ, List, ◌++◌, Option, Some, None, Result, Ok, Err, refl, sym, ap, subst, ◌∙◌, append-nil}
 use Rattle.ifr_opcodes.specs.Forest.{Node}
-use Rattle.ifr_scopes.specs.Nodes.{nodes_of}
+use Rattle.ifr_nodes.specs.Nodes.{nodes_of}
 use Rattle.hii_varstore.specs.Stores.{StoreMap, shape_of, with_bytes}
 use Rattle.hii_questions.specs.Fields as fields
 use Rattle.hii_questions.specs.Fields.{Asked, field_of}

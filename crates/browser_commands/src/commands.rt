@@ -2,7 +2,7 @@
 
 ghost use Rattle.std.specs.Prelude.{◌≡◌, ◌⊎◌, ℕ, List};
 ghost use Rattle.hii_bytes.specs.Watching.{Puts};
-ghost use Rattle.ifr_scopes.specs.Nodes.{nodes_of};
+ghost use Rattle.ifr_nodes.specs.Nodes.{nodes_of};
 ghost use Rattle.hii_commands.specs.Meaning.{command_meant, HasList};
 ghost use Rattle.hii_commands.specs.code.Held.{held_of};
 ghost use Rattle.browser_rules.specs.Script as script;

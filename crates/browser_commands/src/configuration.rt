@@ -2,7 +2,7 @@
 
 ghost use Rattle.std.specs.Prelude.{◌≡◌, Some, MatchResult};
 ghost use Rattle.hii_bytes.specs.Watching.{Puts};
-ghost use Rattle.ifr_scopes.specs.Nodes.{nodes_of};
+ghost use Rattle.ifr_nodes.specs.Nodes.{nodes_of};
 ghost use Rattle.session_steps.specs.Renewed.{response_writes};
 ghost use Rattle.browser_commands.specs.code.Counting.{counted_all};
 ghost use Rattle.session_steps.specs.Step as steps;

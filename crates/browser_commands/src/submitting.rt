@@ -2,7 +2,7 @@
 
 ghost use Rattle.std.specs.Prelude.{◌≡◌, map};
 ghost use Rattle.hii_bytes.specs.Watching.{Puts};
-ghost use Rattle.ifr_scopes.specs.Nodes.{nodes_of};
+ghost use Rattle.ifr_nodes.specs.Nodes.{nodes_of};
 ghost use Rattle.browser_rules.specs.Script as script;
 ghost use Rattle.hii_questions.specs.code.Differing.{differing_left};
 ghost use Rattle.guard_policy.specs.Policy.{unsubmitted};

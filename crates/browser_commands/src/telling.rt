@@ -3,7 +3,7 @@
 ghost use Rattle.std.specs.Prelude.{◌≡◌};
 ghost use Rattle.config_text.specs.code.BlocksLeft.{blocks_left};
 ghost use Rattle.config_text.specs.code.Views.{block_view};
-ghost use Rattle.ifr_scopes.specs.Nodes.{nodes_of};
+ghost use Rattle.ifr_nodes.specs.Nodes.{nodes_of};
 ghost use Rattle.guard_policy.specs.code.Answers.{unless};
 ghost use Rattle.session_steps.specs.Step.{telling_denial, first_untold};
 

@@ -2,9 +2,9 @@
 
 ghost use Rattle.std.specs.Prelude.{◌≡◌, Some};
 ghost use Rattle.hii_bytes.specs.Watching.{Puts};
-ghost use Rattle.ifr_scopes.specs.code.Checked.{IsNodeOf};
+ghost use Rattle.ifr_nodes.specs.code.Checked.{IsNodeOf};
 ghost use Rattle.ifr_scopes.specs.code.Lists.{statement_node};
-ghost use Rattle.ifr_scopes.specs.Nodes.{nodes_of};
+ghost use Rattle.ifr_nodes.specs.Nodes.{nodes_of};
 ghost use Rattle.hii_varstore.specs.Stores.{shape_of};
 ghost use Rattle.hii_questions.specs.Fields.{question_with};
 ghost use Rattle.hii_questions.specs.code.Offers.{offer_of};

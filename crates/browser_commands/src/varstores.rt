@@ -2,7 +2,7 @@
 
 ghost use Rattle.std.specs.Prelude.{◌≡◌, IfOk};
 ghost use Rattle.config_text.specs.code.Views.{header_view};
-ghost use Rattle.ifr_scopes.specs.Nodes.{nodes_of};
+ghost use Rattle.ifr_nodes.specs.Nodes.{nodes_of};
 ghost use Rattle.ifr_scopes.specs.code.Lists.{store_node};
 ghost use Rattle.session_steps.specs.Configuration.{names_store, store_named};
 
@@ -20,7 +20,7 @@ pub(crate) struct Varstores<'a> {
 
 impl<'a> Model for Varstores<'a> {
     ghost use Rattle.std.specs.Prelude.{◌≡◌, ℕ, List, map, filter};
-    ghost use Rattle.ifr_scopes.specs.Nodes.{nodes_of, is_store};
+    ghost use Rattle.ifr_nodes.specs.Nodes.{nodes_of, is_store};
     ghost use Rattle.ifr_scopes.specs.code.Lists.{store_node};
 
     ghost Value = { List ℕ };

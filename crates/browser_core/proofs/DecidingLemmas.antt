@@ -6,10 +6,10 @@ use Rattle.std.proofs.lemmas.Bool.{eq-eqb}
 use Rattle.std.proofs.lemmas.List.Elements.{Contains-append_left, Contains-append_right, Contains-append_cases}
 use Rattle.ifr_opcodes.specs.Fields.{option_value}
 use Rattle.ifr_opcodes.specs.Forest.{Node}
-use Rattle.ifr_scopes.specs.Nodes.{options, inconsistents, warnings}
+use Rattle.ifr_nodes.specs.Nodes.{options, inconsistents, warnings}
 use Rattle.ifr_scopes.proofs.OptionsOfLemmas.{passes}
 use Rattle.ifr_scopes.proofs.PathLemmas.{kept}
-use Rattle.ifr_scopes.proofs.ViewLemmas.{further}
+use Rattle.ifr_nodes.proofs.ViewLemmas.{further}
 use Rattle.hii_questions.specs.code.Views.{question_node}
 use Rattle.hii_questions.specs.declared.question.Question.{Question}
 use Rattle.guard_policy.specs.laws.Support.{around, conditions}

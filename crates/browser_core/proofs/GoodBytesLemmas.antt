@@ -4,7 +4,7 @@ use Rattle.browser_rules.specs.Packages.{device_path}
 use Rattle.browser_rules.specs.Strings.{chosen}
 use Rattle.hii_bytes.specs.Faults.{HasNone}
 use Rattle.ifr_opcodes.specs.Forest.{places}
-use Rattle.ifr_scopes.specs.Nodes.{nodes_of}
+use Rattle.ifr_nodes.specs.Nodes.{nodes_of}
 use Rattle.hii_varstore.specs.Image.{SpellsImage}
 use Rattle.guard_policy.specs.World.{removed_at}
 use Rattle.session_steps.specs.Opening.{layout_in, IsBrowsable, IsOpenFault, Opens}

@@ -13,10 +13,10 @@ use Rattle.ifr_opcodes.specs.Opcode.{number}
 use Rattle.ifr_opcodes.specs.declared.codes.TheConstants.{RESET_BUTTON}
 use Rattle.ifr_opcodes.specs.Forest.{Node, below, node_at}
 use Rattle.ifr_opcodes.specs.Reading.{tree_of}
-use Rattle.ifr_scopes.specs.Nodes.{nodes_of, is_question, is_statement, statements}
+use Rattle.ifr_nodes.specs.Nodes.{nodes_of, is_question, is_statement, statements}
 use Rattle.ifr_scopes.proofs.FormPlaceLemmas.{found}
 use Rattle.ifr_scopes.proofs.OptionsOfLemmas.{passes}
-use Rattle.ifr_scopes.proofs.ViewLemmas.{below_within, contains_found, further}
+use Rattle.ifr_nodes.proofs.ViewLemmas.{below_within, contains_found, further}
 use Rattle.hii_varstore.specs.Stores.{StoreMap, shape_of, are_same_bytes, bytes_of, byte_of}
 use Rattle.hii_varstore.proofs.WriteLemmas.{byte_after}
 use Rattle.browser_rules.specs.Configuration.{Header, Block}

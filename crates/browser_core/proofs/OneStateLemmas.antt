@@ -11,7 +11,7 @@ use Rattle.hii_varstore.specs.StoreNodes.{layout_of}
 use Rattle.rules_laws.specs.laws.Stores.{shape_for, stores_for}
 use Rattle.rules_laws.proofs.StoreLemmas.{shape_same, spelled_back}
 use Rattle.browser_core.specs.Opening as rules
-use Rattle.ifr_scopes.specs.Nodes.{nodes_of, is_form}
+use Rattle.ifr_nodes.specs.Nodes.{nodes_of, is_form}
 use Rattle.hii_varstore.specs.Image.{SpellsImage}
 use Rattle.hii_varstore.specs.Stores.{StoreMap}
 use Rattle.hii_varstore.proofs.LawLemmas.{one_map}

@@ -6,7 +6,7 @@ use Rattle.ifr_opcodes.specs.Rows.{row_of, is_question_number, is_statement_numb
 use Rattle.ifr_opcodes.specs.Reading.{cut, levels, tree_of}
 use Rattle.ifr_expr.specs.Dependence.{rule_ids}
 use Rattle.ifr_expr.specs.Support.{ids_of}
-use Rattle.ifr_scopes.specs.Nodes.{nodes_of}
+use Rattle.ifr_nodes.specs.Nodes.{nodes_of}
 use Rattle.hii_questions.specs.Fields.{question_with}
 use Rattle.guard_policy.specs.laws.Support.{support_over}
 use Rattle.browser_core.specs.laws.Sealed.{deciding, IsSealed}

@@ -6,8 +6,8 @@ use Rattle.std.proofs.lemmas.List.{places, same_lists}
 use Rattle.ifr_opcodes.specs.Forest.{Node}
 use Rattle.ifr_expr.specs.Meaning.{answered}
 use Rattle.ifr_expr.specs.Values.{Value, undefined}
-use Rattle.ifr_scopes.specs.Nodes.{nodes_of, options, inconsistents, warnings}
-use Rattle.ifr_scopes.proofs.ViewLemmas.{further}
+use Rattle.ifr_nodes.specs.Nodes.{nodes_of, options, inconsistents, warnings}
+use Rattle.ifr_nodes.proofs.ViewLemmas.{further}
 use Rattle.hii_varstore.specs.Layout.{Shape, size_of}
 use Rattle.hii_varstore.specs.Stores.{StoreMap, shape_of, bytes_of, overwritten}
 use Rattle.hii_varstore.proofs.WriteLemmas.{bytes_after, sizes}

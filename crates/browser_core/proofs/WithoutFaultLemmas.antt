@@ -9,11 +9,11 @@ use Rattle.hii_bytes.specs.Faults.{HasNone, IsLeastAmong, Then}
 use Rattle.hii_bytes.proofs.ChapterFaultLemmas.{none_among}
 use Rattle.ifr_opcodes.specs.Forest as forest
 use Rattle.ifr_opcodes.proofs.ForestLemmas.{is_tree_of}
-use Rattle.ifr_scopes.specs.Accepted.{IsAccepted, IsPackageFault}
-use Rattle.ifr_scopes.specs.Framing.{IsFramingFault}
-use Rattle.ifr_scopes.specs.Structure.{IsStructureFault}
-use Rattle.ifr_scopes.specs.References.{IsReferenceFault}
-use Rattle.ifr_scopes.specs.Nodes.{nodes_of}
+use Rattle.ifr_nodes.specs.Accepted.{IsAccepted, IsPackageFault}
+use Rattle.ifr_nodes.specs.Framing.{IsFramingFault}
+use Rattle.ifr_nodes.specs.Structure.{IsStructureFault}
+use Rattle.ifr_nodes.specs.ReferenceFaults.{IsReferenceFault}
+use Rattle.ifr_nodes.specs.Nodes.{nodes_of}
 use Rattle.hii_varstore.specs.Layout.{Shape}
 use Rattle.hii_varstore.specs.Stores.{StoreMap}
 use Rattle.hii_varstore.specs.Image.{SpellsImage}

@@ -9,11 +9,11 @@ use Rattle.hii_bytes.specs.Faults.{HasNone, IsFaultOf}
 use Rattle.hii_bytes.specs.declared.cause.Cause.TheVariants.{DuplicateForm}
 use Rattle.ifr_opcodes.specs.Fields.{ref_target}
 use Rattle.ifr_opcodes.specs.Forest.{Node}
-use Rattle.ifr_scopes.specs.Accepted.{IsAccepted}
-use Rattle.ifr_scopes.specs.Nodes.{nodes_of, is_form, is_reference}
-use Rattle.ifr_scopes.specs.References.{Ranked, ranked, has_form_id, has_reference_fault, form_with}
+use Rattle.ifr_nodes.specs.Accepted.{IsAccepted}
+use Rattle.ifr_nodes.specs.Nodes.{nodes_of, is_form, is_reference}
+use Rattle.ifr_nodes.specs.ReferenceFaults.{Ranked, ranked, has_form_id, has_reference_fault, form_with}
 use Rattle.ifr_scopes.proofs.FormPlaceLemmas.{found}
-use Rattle.ifr_scopes.proofs.ViewLemmas.{further}
+use Rattle.ifr_nodes.proofs.ViewLemmas.{further}
 use Rattle.hii_questions.proofs.FieldLemmas.{passing}
 use Rattle.guard_policy.specs.Policy.{fixed}
 use Rattle.guard_policy.specs.World.{World}

@@ -10,15 +10,15 @@ use Rattle.ifr_opcodes.specs.Opcode.{number}
 use Rattle.ifr_opcodes.specs.Forest.{Forest, none, node, flat, Ancestor, Node, as_ancestor, nodes_at, places}
 use Rattle.ifr_opcodes.specs.Reading.{tree_of}
 use Rattle.ifr_opcodes.proofs.StatementLemmas.{question_is_statement}
-use Rattle.ifr_scopes.specs.Accepted.{IsAccepted}
-use Rattle.ifr_scopes.specs.Checked.{IsChecked}
-use Rattle.ifr_scopes.specs.Nodes.{nodes_of, is_form, is_question}
-use Rattle.ifr_scopes.specs.Rules.{forms_among}
+use Rattle.ifr_nodes.specs.Accepted.{IsAccepted}
+use Rattle.ifr_nodes.specs.Checked.{IsChecked}
+use Rattle.ifr_nodes.specs.Nodes.{nodes_of, is_form, is_question}
+use Rattle.ifr_nodes.specs.Rules.{forms_among}
 use Rattle.ifr_scopes.proofs.FormFacts.{statement_form}
-use Rattle.ifr_scopes.proofs.PlaceLemmas.{nodes_within, rise}
-use Rattle.ifr_scopes.proofs.RuleFacts.{no_form_around}
-use Rattle.ifr_scopes.proofs.ScopeLemmas.{path_inside}
-use Rattle.ifr_scopes.proofs.ViewLemmas.{further}
+use Rattle.ifr_nodes.proofs.PlaceLemmas.{nodes_within, rise}
+use Rattle.ifr_nodes.proofs.RuleFacts.{no_form_around}
+use Rattle.ifr_nodes.proofs.ScopeLemmas.{path_inside}
+use Rattle.ifr_nodes.proofs.ViewLemmas.{further}
 use Rattle.hii_questions.proofs.OrderLemmas.{filter_none}
 use Rattle.hii_questions.proofs.PartLemmas.{some_within}
 use Rattle.hii_questions.proofs.QuestionLemmas.{among_statements}

@@ -5,11 +5,11 @@ use Rattle.std.specs.List.{flat_map}
 use Rattle.std.proofs.lemmas.Bool.{cases_Bool}
 use Rattle.std.proofs.lemmas.List.Elements.{All-filter}
 use Rattle.ifr_opcodes.specs.Forest.{Node}
-use Rattle.ifr_scopes.specs.Accepted.{IsAccepted}
-use Rattle.ifr_scopes.specs.Nodes.{is_form, is_question, nodes_of}
-use Rattle.ifr_scopes.specs.code.Checked.{AreNodesOf, IsNodeOf}
-use Rattle.ifr_scopes.proofs.ScopeLemmas.{all_nodes}
-use Rattle.ifr_scopes.proofs.ViewLemmas.{contains_found}
+use Rattle.ifr_nodes.specs.Accepted.{IsAccepted}
+use Rattle.ifr_nodes.specs.Nodes.{is_form, is_question, nodes_of}
+use Rattle.ifr_nodes.specs.code.Checked.{AreNodesOf, IsNodeOf}
+use Rattle.ifr_nodes.proofs.ScopeLemmas.{all_nodes}
+use Rattle.ifr_nodes.proofs.ViewLemmas.{contains_found}
 use Rattle.hii_varstore.specs.Layout.{Shape}
 use Rattle.hii_questions.specs.Fields.{Asked, asked, questions}
 use Rattle.hii_questions.specs.code.LyingIn.{LieIn, LiesIn}

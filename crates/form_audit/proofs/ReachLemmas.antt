@@ -6,12 +6,12 @@ use Rattle.std.proofs.lemmas.Bool.{cases_Bool, cases_lt, eqb-true, eq-eqb, false
 use Rattle.std.proofs.lemmas.Option.{slice_get_within}
 use Rattle.ifr_opcodes.specs.Forest.{Node, SpellsForest}
 use Rattle.ifr_opcodes.specs.Reading.{tree_of}
-use Rattle.ifr_scopes.specs.Nodes.{nodes_of, is_form, statements}
-use Rattle.ifr_scopes.specs.References.{has_form_id}
-use Rattle.ifr_scopes.specs.code.Checked.{IsNodeOf}
+use Rattle.ifr_nodes.specs.Nodes.{nodes_of, is_form, statements}
+use Rattle.ifr_nodes.specs.ReferenceFaults.{has_form_id}
+use Rattle.ifr_nodes.specs.code.Checked.{IsNodeOf}
 use Rattle.ifr_scopes.proofs.FormPlaceLemmas.{found}
-use Rattle.ifr_scopes.proofs.PlaceLemmas.{is_found}
-use Rattle.ifr_scopes.proofs.ViewLemmas.{further}
+use Rattle.ifr_nodes.proofs.PlaceLemmas.{is_found}
+use Rattle.ifr_nodes.proofs.ViewLemmas.{further}
 use Rattle.guard_policy.specs.World.{World}
 use Rattle.form_audit.specs.Reach.{IsChain, IsReached, Leads, TellsReached, led_to}
 use Rattle.form_audit.specs.code.Meeting.{has_id, led_by, with_form, with_forms}

@@ -4,7 +4,7 @@ use Rattle.std.specs.List.{flat_map}
 use Rattle.hii_bytes.specs.Texts.{place_text}
 use Rattle.ifr_opcodes.specs.Fields.{form_id, form_title}
 use Rattle.ifr_opcodes.specs.Forest.{Node}
-use Rattle.ifr_scopes.specs.Nodes.{is_form, is_question, statements}
+use Rattle.ifr_nodes.specs.Nodes.{is_form, is_question, statements}
 use Rattle.hii_questions.specs.Denials.{kind_name}
 use Rattle.hii_questions.specs.Fields.{asked}
 use Rattle.guard_policy.specs.Policy.{hidden}

@@ -8,9 +8,9 @@ use Rattle.ifr_opcodes.specs.Opcode.{number}
 use Rattle.ifr_opcodes.specs.declared.codes.TheConstants.{REF}
 use Rattle.ifr_expr.specs.Meaning.{value}
 use Rattle.ifr_expr.specs.Values.{Value, undefined}
-use Rattle.ifr_scopes.specs.Conditions.{expression_tree}
-use Rattle.ifr_scopes.specs.Guards.{guards}
-use Rattle.ifr_scopes.specs.Nodes.{is_store, this_of}
+use Rattle.ifr_nodes.specs.NodeExpressions.{expression_tree}
+use Rattle.ifr_nodes.specs.Guards.{guards}
+use Rattle.ifr_nodes.specs.Nodes.{is_store, this_of}
 use Rattle.ifr_scopes.specs.Stores.{store_id, store_name}
 use Rattle.hii_questions.specs.Denials.{kind_name}
 use Rattle.hii_questions.specs.Fields.{Asked, Field}

@@ -2,8 +2,8 @@
 use Rattle.std.specs.Prelude.{◌≡◌, ℕ, Bool, true, ◌&&◌, if◌then◌else◌, is_none, Contains, Option, Some, None, option_and_then, List, [], ◌∷◌, filter}
 use Rattle.ifr_opcodes.specs.Fields.{form_id, ref_target}
 use Rattle.ifr_opcodes.specs.Forest.{Node}
-use Rattle.ifr_scopes.specs.Nodes.{is_form, is_reference, statements}
-use Rattle.ifr_scopes.specs.References.{form_with}
+use Rattle.ifr_nodes.specs.Nodes.{is_form, is_reference, statements}
+use Rattle.ifr_nodes.specs.ReferenceFaults.{form_with}
 use Rattle.guard_policy.specs.Policy.{fixed}
 use Rattle.guard_policy.specs.World.{World}
 

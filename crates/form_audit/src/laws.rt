@@ -3,7 +3,7 @@
 ghost use Rattle.std.specs.Prelude.{◌≡◌, ℕ, ◌<◌, filter, length, slice_index};
 ghost use Rattle.std.specs.List.{flat_map};
 ghost use Rattle.ifr_opcodes.specs.Forest.{places};
-ghost use Rattle.ifr_scopes.specs.Nodes.{is_form, is_question, nodes_of};
+ghost use Rattle.ifr_nodes.specs.Nodes.{is_form, is_question, nodes_of};
 ghost use Rattle.form_audit.specs.FormLines.{form_questions};
 
 use ifr_scopes::Forms;

@@ -2,8 +2,8 @@
 
 ghost use Rattle.std.specs.Prelude.{◌≡◌};
 ghost use Rattle.hii_bytes.specs.Watching.{Puts};
-ghost use Rattle.ifr_scopes.specs.Nodes.{nodes_of};
-ghost use Rattle.ifr_scopes.specs.code.Checked.{IsNodeOf};
+ghost use Rattle.ifr_nodes.specs.Nodes.{nodes_of};
+ghost use Rattle.ifr_nodes.specs.code.Checked.{IsNodeOf};
 ghost use Rattle.ifr_scopes.specs.code.Lists.{statement_node};
 ghost use Rattle.hii_questions.specs.Fields.{asked};
 ghost use Rattle.hii_questions.specs.code.LyingIn.{LiesIn};

@@ -2,8 +2,8 @@
 
 ghost use Rattle.std.specs.Prelude.{◌≡◌, IfOk, is_none, map, option_map};
 ghost use Rattle.hii_bytes.specs.code.NumberSets.{has_number};
-ghost use Rattle.ifr_scopes.specs.Nodes.{statements};
-ghost use Rattle.ifr_scopes.specs.code.Checked.{IsNodeOf};
+ghost use Rattle.ifr_nodes.specs.Nodes.{statements};
+ghost use Rattle.ifr_nodes.specs.code.Checked.{IsNodeOf};
 ghost use Rattle.ifr_scopes.specs.code.Lists.{form_node, statement_node};
 ghost use Rattle.guard_policy.specs.Policy.{fixed};
 ghost use Rattle.guard_policy.specs.code.Views.{bytes_of};

@@ -6,8 +6,8 @@ use Rattle.std.proofs.lemmas.Option.{slice_get_within, get_or_from_slice_get}
 use Rattle.std.proofs.lemmas.List.Elements.{All-filter}
 use Rattle.std.proofs.lemmas.Bool.{cond-true, cond-false, cases_Bool}
 use Rattle.ifr_opcodes.specs.Forest.{Node}
-use Rattle.ifr_scopes.specs.Nodes.{is_question}
-use Rattle.ifr_scopes.specs.code.Checked.{IsNodeOf, AreNodesOf}
+use Rattle.ifr_nodes.specs.Nodes.{is_question}
+use Rattle.ifr_nodes.specs.code.Checked.{IsNodeOf, AreNodesOf}
 use Rattle.hii_questions.specs.Fields.{Asked, asked}
 use Rattle.guard_policy.proofs.OptionLemmas.{first_of, rest_of}
 use Rattle.guard_policy.specs.Policy.{hidden}

@@ -7,7 +7,7 @@ use Rattle.ifr_opcodes.specs.Forest.{Node}
 use Rattle.ifr_opcodes.specs.Fields.{form_id, form_title, statement_prompt, question_id}
 use Rattle.ifr_opcodes.specs.Opcode.{number}
 use Rattle.ifr_opcodes.specs.declared.codes.TheConstants.{SUBTITLE, TEXT}
-use Rattle.ifr_scopes.specs.Nodes.{statements, is_question}
+use Rattle.ifr_nodes.specs.Nodes.{statements, is_question}
 use Rattle.hii_varstore.specs.Stores.{StoreMap}
 use Rattle.guard_policy.specs.Policy.{hidden, fixed}
 use Rattle.guard_policy.specs.World.{World}

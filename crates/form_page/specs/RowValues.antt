@@ -10,7 +10,7 @@ use Rattle.ifr_opcodes.specs.Opcode.{number}
 use Rattle.ifr_opcodes.specs.Fields.{display, numeric_width, option_text, option_value, ref_target, text_second}
 use Rattle.ifr_opcodes.specs.Forest.{Node}
 use Rattle.ifr_expr.specs.Values.{Value, boolean, natural, text, buffer}
-use Rattle.ifr_scopes.specs.Nodes.{options, is_question}
+use Rattle.ifr_nodes.specs.Nodes.{options, is_question}
 use Rattle.hii_varstore.specs.Stores.{StoreMap}
 use Rattle.hii_questions.specs.Answers.{value_of_field}
 use Rattle.hii_questions.specs.Fields.{field_of}

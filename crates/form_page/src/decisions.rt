@@ -1,10 +1,10 @@
 //! What a page decides, by what is kept of conditions.
 
 ghost use Rattle.std.specs.Prelude.{◌≡◌, is_err, is_none, is_ok, is_some};
-ghost use Rattle.ifr_scopes.specs.code.Checked.{IsNodeOf};
+ghost use Rattle.ifr_nodes.specs.code.Checked.{IsNodeOf};
 ghost use Rattle.ifr_scopes.specs.code.Lists.{statement_node};
 ghost use Rattle.ifr_scopes.specs.code.Parts.{option_node};
-ghost use Rattle.ifr_scopes.specs.Nodes.{nodes_of};
+ghost use Rattle.ifr_nodes.specs.Nodes.{nodes_of};
 ghost use Rattle.guard_policy.specs.Policy.{hidden, fixed};
 ghost use Rattle.guard_policy.specs.code.Standings.{TellsQuestion, changeable_answer, listed_answer};
 ghost use Rattle.guard_policy.specs.code.Views.{bytes_of};

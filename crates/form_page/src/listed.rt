@@ -1,7 +1,7 @@
 //! The statements of a form that its page shows.
 
 ghost use Rattle.std.specs.Prelude.{◌≡◌, IfSome};
-ghost use Rattle.ifr_scopes.specs.code.Checked.{IsNodeOf, AreNodesOf, AreNodesOf-prop};
+ghost use Rattle.ifr_nodes.specs.code.Checked.{IsNodeOf, AreNodesOf, AreNodesOf-prop};
 ghost use Rattle.ifr_scopes.specs.code.Lists.{statement_node};
 ghost use Rattle.ifr_scopes.specs.code.StatementsLeft.{statements_of_left};
 ghost use Rattle.guard_policy.specs.code.Views.{bytes_of};

@@ -2,10 +2,10 @@
 
 ghost use Rattle.std.specs.Prelude.{◌≡◌, ◌==◌, ◌&&◌, is_none, option_map};
 ghost use Rattle.ifr_opcodes.specs.Fields.{option_value};
-ghost use Rattle.ifr_scopes.specs.Nodes.{options};
+ghost use Rattle.ifr_nodes.specs.Nodes.{options};
 ghost use Rattle.ifr_scopes.specs.code.Parts.{option_node};
 ghost use Rattle.guard_policy.specs.Policy.{hidden};
-ghost use Rattle.ifr_scopes.specs.code.Checked.{IsNodeOf, IsNodeOf-prop};
+ghost use Rattle.ifr_nodes.specs.code.Checked.{IsNodeOf, IsNodeOf-prop};
 ghost use Rattle.ifr_scopes.specs.code.Lists.{statement_node};
 ghost use Rattle.hii_languages.specs.code.Views.{text_of};
 ghost use Rattle.guard_policy.specs.code.Views.{bytes_of};

@@ -2,7 +2,7 @@
 
 ghost use Rattle.std.specs.Prelude.{◌≡◌, IfSome, option_map};
 ghost use Rattle.ifr_opcodes.specs.Fields.{form_title};
-ghost use Rattle.ifr_scopes.specs.code.Checked.{IsNodeOf, IsNodeOf-prop};
+ghost use Rattle.ifr_nodes.specs.code.Checked.{IsNodeOf, IsNodeOf-prop};
 ghost use Rattle.ifr_scopes.specs.code.Lists.{form_node, statement_node};
 ghost use Rattle.hii_languages.specs.code.Views.{choice_of, text_of};
 ghost use Rattle.guard_policy.specs.code.KeptConditions.{TellsAll, TellsAll-prop};

@@ -2,9 +2,9 @@
 
 ghost use Rattle.std.specs.Prelude.{◌≡◌, if◌then◌else◌, Some, None, is_err, is_none, is_some, option_map};
 ghost use Rattle.ifr_opcodes.specs.code.Ops.{bytes_of as op_bytes};
-ghost use Rattle.ifr_scopes.specs.code.Checked.{IsNodeOf};
+ghost use Rattle.ifr_nodes.specs.code.Checked.{IsNodeOf};
 ghost use Rattle.ifr_scopes.specs.code.Lists.{statement_node, kind_op};
-ghost use Rattle.ifr_scopes.specs.Nodes.{nodes_of, is_question};
+ghost use Rattle.ifr_nodes.specs.Nodes.{nodes_of, is_question};
 ghost use Rattle.hii_questions.specs.Fields.{asked};
 ghost use Rattle.hii_questions.specs.code.Views.{question_view};
 ghost use Rattle.guard_policy.specs.Policy.{fixed, hidden};

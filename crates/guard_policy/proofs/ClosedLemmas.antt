@@ -8,7 +8,7 @@ use Rattle.ifr_opcodes.specs.declared.codes.TheConstants.{ONE_OF_OPTION}
 use Rattle.ifr_opcodes.specs.Forest.{Node}
 use Rattle.ifr_opcodes.specs.Opcode.{number}
 use Rattle.ifr_opcodes.specs.Rows.{row_of, is_question_number}
-use Rattle.ifr_scopes.specs.Nodes.{is_option, is_question}
+use Rattle.ifr_nodes.specs.Nodes.{is_option, is_question}
 use Rattle.guard_policy.specs.Policy.{covered, fixed, all_fixed}
 use Rattle.guard_policy.specs.World.{World}
 use Rattle.guard_policy.specs.declared.denial.Denial.{Denial}

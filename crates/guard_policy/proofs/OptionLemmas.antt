@@ -5,11 +5,11 @@ use Rattle.std.proofs.lemmas.Bool.{cases_Bool, cond-true, cond-false}
 use Rattle.std.proofs.lemmas.List.Elements.{Contains-get_or}
 use Rattle.ifr_opcodes.specs.Forest.{Node, below, SpellsForest}
 use Rattle.ifr_opcodes.specs.Reading.{tree_of}
-use Rattle.ifr_scopes.specs.code.Checked.{IsNodeOf, AreNodesOf}
-use Rattle.ifr_scopes.specs.Nodes.{nodes_of, is_option, is_question, options}
+use Rattle.ifr_nodes.specs.code.Checked.{IsNodeOf, AreNodesOf}
+use Rattle.ifr_nodes.specs.Nodes.{nodes_of, is_option, is_question, options}
 use Rattle.ifr_scopes.proofs.PathLemmas.{kept}
-use Rattle.ifr_scopes.proofs.PlaceLemmas.{is_found}
-use Rattle.ifr_scopes.proofs.ViewLemmas.{below_within, contains_found}
+use Rattle.ifr_nodes.proofs.PlaceLemmas.{is_found}
+use Rattle.ifr_nodes.proofs.ViewLemmas.{below_within, contains_found}
 
 options_within : (q n : Node) → Contains (options q) n → Contains (below q) n
 options_within q n w = elim (cases_Bool (is_question q)) [

@@ -4,10 +4,10 @@ use Rattle.std.specs.Prelude.{Contains, if◌then◌else◌, filter}
 use Rattle.std.proofs.lemmas.Bool.{cases_Bool, eq-eqb, eqb-true, cond-true, cond-false}
 use Rattle.ifr_opcodes.specs.Forest.{Node, node_at, SpellsForest}
 use Rattle.ifr_opcodes.specs.Reading.{tree_of}
-use Rattle.ifr_scopes.specs.code.Checked.{IsNodeOf}
-use Rattle.ifr_scopes.specs.Nodes.{nodes_of, is_question}
-use Rattle.ifr_scopes.proofs.PlaceLemmas.{is_found}
-use Rattle.ifr_scopes.proofs.ViewLemmas.{contains_found, further}
+use Rattle.ifr_nodes.specs.code.Checked.{IsNodeOf}
+use Rattle.ifr_nodes.specs.Nodes.{nodes_of, is_question}
+use Rattle.ifr_nodes.proofs.PlaceLemmas.{is_found}
+use Rattle.ifr_nodes.proofs.ViewLemmas.{contains_found, further}
 use Rattle.hii_questions.specs.Fields.{Asked, asked, questions}
 use Rattle.hii_questions.specs.code.Tables.{first_at}
 

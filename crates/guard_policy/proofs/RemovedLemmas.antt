@@ -10,7 +10,7 @@ use Rattle.ifr_opcodes.specs.declared.codes.TheConstants.{DISABLE_IF}
 use Rattle.ifr_opcodes.specs.Forest.{Node}
 use Rattle.ifr_opcodes.specs.Opcode.{number}
 use Rattle.ifr_opcodes.specs.Rows.{is_among}
-use Rattle.ifr_scopes.specs.Guards.{is_guard}
+use Rattle.ifr_nodes.specs.Guards.{is_guard}
 
 -- numbers that rise
 abbrev pub Ascend : ℕ → List ℕ → Type 0

@@ -11,12 +11,12 @@ use Rattle.ifr_opcodes.specs.Opcode.{number}
 use Rattle.ifr_expr.specs.Meaning.{answered}
 use Rattle.ifr_expr.specs.Values.{holds}
 use Rattle.ifr_expr.proofs.DependenceLemmas.{depends}
-use Rattle.ifr_scopes.specs.Conditions.{expression_tree}
-use Rattle.ifr_scopes.specs.Guards.{guards}
+use Rattle.ifr_nodes.specs.NodeExpressions.{expression_tree}
+use Rattle.ifr_nodes.specs.Guards.{guards}
 use Rattle.ifr_scopes.specs.code.Lists.{form_node, statement_node}
-use Rattle.ifr_scopes.specs.Locks.{first_lock}
-use Rattle.ifr_scopes.specs.Nodes.{is_no_submit, options, inconsistents, warnings, this_of}
-use Rattle.ifr_scopes.specs.Rules.{rules_among}
+use Rattle.ifr_nodes.specs.Locks.{first_lock}
+use Rattle.ifr_nodes.specs.Nodes.{is_no_submit, options, inconsistents, warnings, this_of}
+use Rattle.ifr_nodes.specs.Rules.{rules_among}
 use Rattle.hii_varstore.specs.Stores.{StoreMap}
 use Rattle.hii_questions.specs.Answers.{answers}
 use Rattle.hii_questions.specs.code.Views.{question_node}

@@ -10,15 +10,15 @@ use Rattle.ifr_opcodes.specs.Fields.{option_value}
 use Rattle.ifr_opcodes.specs.Forest.{Ancestor, Node, node_at}
 use Rattle.ifr_opcodes.specs.Opcode.{number}
 use Rattle.ifr_opcodes.specs.Reading.{tree_of}
-use Rattle.ifr_scopes.specs.Accepted.{IsAccepted}
-use Rattle.ifr_scopes.specs.code.Checked.{IsNodeOf, or_empty}
-use Rattle.ifr_scopes.specs.Guards.{is_guard, nodes_on, ancestors, guards}
+use Rattle.ifr_nodes.specs.Accepted.{IsAccepted}
+use Rattle.ifr_nodes.specs.code.Checked.{IsNodeOf, or_empty}
+use Rattle.ifr_nodes.specs.Guards.{is_guard, nodes_on, ancestors, guards}
 use Rattle.ifr_scopes.specs.code.Index.{is_conditional, kind_at}
 use Rattle.ifr_opcodes.specs.Rows.{row_of, is_condition_number}
 use Rattle.ifr_scopes.specs.code.Lists.{form_node, statement_node}
-use Rattle.ifr_scopes.specs.Nodes.{nodes_of, is_no_submit, options}
-use Rattle.ifr_scopes.proofs.PlaceLemmas.{is_found}
-use Rattle.ifr_scopes.proofs.ScopeLemmas.{ancestor_node}
+use Rattle.ifr_nodes.specs.Nodes.{nodes_of, is_no_submit, options}
+use Rattle.ifr_nodes.proofs.PlaceLemmas.{is_found}
+use Rattle.ifr_nodes.proofs.ScopeLemmas.{ancestor_node}
 use Rattle.hii_varstore.specs.Stores.{StoreMap}
 use Rattle.hii_questions.specs.code.Views.{question_node}
 use Rattle.guard_policy.specs.laws.Support.{IsSubjectOf, around, conditions, counts, graying_out, suppressing}

@@ -4,9 +4,9 @@ use Rattle.ifr_opcodes.specs.declared.codes.TheConstants.{SUPPRESS_IF, GRAY_OUT_
 use Rattle.ifr_opcodes.specs.Forest.{Node}
 use Rattle.ifr_opcodes.specs.Opcode.{number}
 use Rattle.ifr_expr.specs.Dependence.{dependence}
-use Rattle.ifr_scopes.specs.Conditions.{expression_tree}
-use Rattle.ifr_scopes.specs.Nodes.{is_no_submit, this_of}
-use Rattle.ifr_scopes.specs.Rules.{rules_among}
+use Rattle.ifr_nodes.specs.NodeExpressions.{expression_tree}
+use Rattle.ifr_nodes.specs.Nodes.{is_no_submit, this_of}
+use Rattle.ifr_nodes.specs.Rules.{rules_among}
 
 -- the conditions that may be kept: those of SUPPRESS_IF, GRAY_OUT_IF and NO_SUBMIT_IF
 abbrev pub is_kept : Node → Bool

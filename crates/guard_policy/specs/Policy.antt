@@ -7,10 +7,10 @@ use Rattle.ifr_opcodes.specs.Opcode.{number}
 use Rattle.ifr_opcodes.specs.Rows.{is_among}
 use Rattle.ifr_opcodes.specs.Forest.{Node}
 use Rattle.ifr_opcodes.specs.Fields.{is_read_only, option_value, ref_target}
-use Rattle.ifr_scopes.specs.Conditions.{message}
-use Rattle.ifr_scopes.specs.Guards.{guards}
-use Rattle.ifr_scopes.specs.Locks.{first_lock}
-use Rattle.ifr_scopes.specs.Nodes.{is_question, is_reference, is_no_submit, options, inconsistents, warnings}
+use Rattle.ifr_nodes.specs.NodeExpressions.{message}
+use Rattle.ifr_nodes.specs.Guards.{guards}
+use Rattle.ifr_nodes.specs.Locks.{first_lock}
+use Rattle.ifr_nodes.specs.Nodes.{is_question, is_reference, is_no_submit, options, inconsistents, warnings}
 use Rattle.hii_questions.specs.Fields.{Asked, asked}
 use Rattle.hii_questions.specs.declared.denial.DenialKind.{DenialKind}
 use Rattle.hii_questions.specs.declared.denial.DenialKind.TheVariants.{DisableIf, SuppressIf, GrayOutIf, Locked, ReadOnly, Outside, InconsistentIf, NoSubmitIf}

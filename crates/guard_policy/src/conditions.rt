@@ -4,7 +4,7 @@ ghost use Rattle.std.specs.Prelude.{◌≡◌};
 ghost use Rattle.ifr_scopes.specs.code.AnyConditions.{any_condition_node};
 ghost use Rattle.ifr_scopes.specs.code.Lists.{guard_node};
 ghost use Rattle.ifr_scopes.specs.code.Parts.{condition_node};
-ghost use Rattle.ifr_scopes.specs.Nodes.{nodes_of};
+ghost use Rattle.ifr_nodes.specs.Nodes.{nodes_of};
 ghost use Rattle.guard_policy.specs.World.{is_met_over};
 
 use crate::policy::Policy;

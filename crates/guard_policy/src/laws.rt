@@ -2,9 +2,9 @@
 
 ghost use Rattle.std.specs.Prelude.{◌≡◌, ℕ, Bool, List, true, Some};
 ghost use Rattle.ifr_opcodes.specs.Forest.{Node};
-ghost use Rattle.ifr_scopes.specs.Accepted.{IsAccepted};
-ghost use Rattle.ifr_scopes.specs.code.Checked.{IsNodeOf};
-ghost use Rattle.ifr_scopes.specs.Nodes.{nodes_of};
+ghost use Rattle.ifr_nodes.specs.Accepted.{IsAccepted};
+ghost use Rattle.ifr_nodes.specs.code.Checked.{IsNodeOf};
+ghost use Rattle.ifr_nodes.specs.Nodes.{nodes_of};
 ghost use Rattle.hii_varstore.specs.Stores.{StoreMap};
 ghost use Rattle.guard_policy.specs.laws.Support.{AnswersAgree, IsSubjectOf, around, conditions, denial, is_by_first, support, support_over, until_met, warning_of};
 ghost use Rattle.guard_policy.specs.code.KeptConditions.{Tells, TellsAll, is_by_kept};

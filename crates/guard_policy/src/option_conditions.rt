@@ -1,6 +1,6 @@
 //! The conditions around the options of questions.
 
-ghost use Rattle.ifr_scopes.specs.code.Checked.{AreNodesOf, AreNodesOf-prop};
+ghost use Rattle.ifr_nodes.specs.code.Checked.{AreNodesOf, AreNodesOf-prop};
 ghost use Rattle.ifr_scopes.specs.code.OptionsLeft.{options_of_left};
 
 use crate::around::{Around, next_around};
@@ -23,10 +23,10 @@ impl<'a, 's> OptionConditions<'a, 's> {
     ghost use Rattle.std.specs.Iterator.{YieldsFirstBy};
     ghost use Rattle.std.specs.List.{flat_map};
     ghost use Rattle.ifr_opcodes.specs.Fields.{option_value};
-    ghost use Rattle.ifr_scopes.specs.Accepted.{IsAccepted};
-    ghost use Rattle.ifr_scopes.specs.code.Checked.{IsNodeOf};
+    ghost use Rattle.ifr_nodes.specs.Accepted.{IsAccepted};
+    ghost use Rattle.ifr_nodes.specs.code.Checked.{IsNodeOf};
     ghost use Rattle.ifr_scopes.specs.code.Lists.{guard_node};
-    ghost use Rattle.ifr_scopes.specs.Nodes.{options};
+    ghost use Rattle.ifr_nodes.specs.Nodes.{options};
     ghost use Rattle.ifr_scopes.specs.code.Parts.{option_node};
     ghost use Rattle.hii_questions.specs.code.Views.{question_node};
     ghost use Rattle.guard_policy.specs.code.AskedLeft.{options_of_value, around_options_left};

@@ -3,11 +3,11 @@
 ghost use Rattle.std.specs.Prelude.{◌≡◌, if◌then◌else◌, Some, None, option_map};
 ghost use Rattle.hii_bytes.specs.Numbers.{AreBytes};
 ghost use Rattle.ifr_opcodes.specs.Rows.{is_among};
-ghost use Rattle.ifr_scopes.specs.Accepted.{IsAccepted};
-ghost use Rattle.ifr_scopes.specs.code.Checked.{IsAccepted-prop};
-ghost use Rattle.ifr_scopes.specs.code.Checked.{IsNodeOf};
+ghost use Rattle.ifr_nodes.specs.Accepted.{IsAccepted};
+ghost use Rattle.ifr_nodes.specs.code.Checked.{IsAccepted-prop};
+ghost use Rattle.ifr_nodes.specs.code.Checked.{IsNodeOf};
 ghost use Rattle.ifr_scopes.specs.code.Lists.{statement_node};
-ghost use Rattle.ifr_scopes.specs.Nodes.{nodes_of, is_question};
+ghost use Rattle.ifr_nodes.specs.Nodes.{nodes_of, is_question};
 ghost use Rattle.hii_questions.specs.Fields.{asked};
 ghost use Rattle.hii_questions.specs.code.Views.{question_view};
 ghost use Rattle.guard_policy.specs.code.Bytes.{AreBytes-prop};

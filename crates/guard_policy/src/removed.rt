@@ -3,7 +3,7 @@
 ghost use Rattle.std.specs.Prelude.{◌≡◌, IfOk, IfErr};
 ghost use Rattle.hii_bytes.specs.Faults.{out_of_memory};
 ghost use Rattle.ifr_opcodes.specs.Rows.{is_among};
-ghost use Rattle.ifr_scopes.specs.Nodes.{nodes_of};
+ghost use Rattle.ifr_nodes.specs.Nodes.{nodes_of};
 ghost use Rattle.guard_policy.specs.World.{removed_at};
 
 use crate::conditions::condition_holds;

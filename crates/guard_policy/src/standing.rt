@@ -1,10 +1,10 @@
 //! How statements stand: whether each is seen, and whether it may be changed.
 
 ghost use Rattle.std.specs.Prelude.{◌≡◌, option_and_then, option_map};
-ghost use Rattle.ifr_scopes.specs.code.Checked.{IsNodeOf};
+ghost use Rattle.ifr_nodes.specs.code.Checked.{IsNodeOf};
 ghost use Rattle.ifr_scopes.specs.code.Lists.{guard_node, statement_node};
 ghost use Rattle.ifr_scopes.specs.code.LocksLeft.{lock_node};
-ghost use Rattle.ifr_scopes.specs.Nodes.{nodes_of};
+ghost use Rattle.ifr_nodes.specs.Nodes.{nodes_of};
 ghost use Rattle.hii_questions.specs.code.Views.{question_view};
 ghost use Rattle.hii_questions.specs.declared.denial.DenialKind.TheVariants.{GrayOutIf, Locked};
 ghost use Rattle.guard_policy.specs.Policy as spec;

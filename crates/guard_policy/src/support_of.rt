@@ -4,7 +4,7 @@ ghost use Rattle.std.specs.Prelude.{◌≡◌};
 ghost use Rattle.std.specs.Iterator.{YieldsFirstBy};
 ghost use Rattle.ifr_scopes.specs.code.AnyConditions.{any_condition_node};
 ghost use Rattle.ifr_scopes.specs.code.DependenceLeft.{dependence_left};
-ghost use Rattle.ifr_scopes.specs.Nodes.{nodes_of};
+ghost use Rattle.ifr_nodes.specs.Nodes.{nodes_of};
 ghost use Rattle.hii_varstore.specs.Stores.{StoreMap};
 ghost use Rattle.guard_policy.specs.Conditions.{condition_ids};
 ghost use Rattle.guard_policy.specs.laws.Support.{IsSubjectOf, support, support_at};

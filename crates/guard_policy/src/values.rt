@@ -2,7 +2,7 @@
 
 ghost use Rattle.std.specs.Prelude.{◌≡◌, map, option_map};
 ghost use Rattle.std.specs.List.{find};
-ghost use Rattle.ifr_scopes.specs.code.Checked.{IsNodeOf};
+ghost use Rattle.ifr_nodes.specs.code.Checked.{IsNodeOf};
 ghost use Rattle.ifr_scopes.specs.code.ConditionsLeft.{conditions_of_left};
 ghost use Rattle.ifr_scopes.specs.code.NoSubmitsLeft.{no_submit_node};
 ghost use Rattle.ifr_scopes.specs.code.Parts.{condition_node};

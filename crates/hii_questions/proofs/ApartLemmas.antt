@@ -4,11 +4,11 @@ use Rattle.std.specs.Prelude.{Contains, filter}
 use Rattle.std.proofs.lemmas.Bool.{cases_Bool, false≢true}
 use Rattle.ifr_opcodes.specs.Forest.{Node, as_ancestor, below}
 use Rattle.ifr_opcodes.specs.Reading.{tree_of}
-use Rattle.ifr_scopes.specs.Checked.{IsChecked}
-use Rattle.ifr_scopes.specs.Nodes.{nodes_of, is_question}
+use Rattle.ifr_nodes.specs.Checked.{IsChecked}
+use Rattle.ifr_nodes.specs.Nodes.{nodes_of, is_question}
 use Rattle.ifr_scopes.proofs.QuestionFacts.{no_statement_inside}
-use Rattle.ifr_scopes.proofs.ScopeLemmas.{path_inside}
-use Rattle.ifr_scopes.proofs.ViewLemmas.{below_within, further}
+use Rattle.ifr_nodes.proofs.ScopeLemmas.{path_inside}
+use Rattle.ifr_nodes.proofs.ViewLemmas.{below_within, further}
 use Rattle.hii_questions.proofs.QuestionLemmas.{question_is_statement}
 
 -- none of some nodes passes a test

@@ -7,13 +7,13 @@ use Rattle.std.proofs.lemmas.List.Elements.{All-append}
 use Rattle.std.proofs.lemmas.List.Sums.{length-filter, count_by-le-length}
 use Rattle.ifr_opcodes.specs.Forest.{Node, SpellsForest}
 use Rattle.ifr_opcodes.specs.Reading.{tree_of}
-use Rattle.ifr_scopes.specs.Accepted.{IsAccepted}
-use Rattle.ifr_scopes.specs.Nodes.{nodes_of, is_question, is_statement}
-use Rattle.ifr_scopes.specs.code.Checked.{has_node, has_statement, node_in}
-use Rattle.ifr_scopes.proofs.EndLemmas.{stands_there}
-use Rattle.ifr_scopes.proofs.PlaceLemmas.{is_found}
-use Rattle.ifr_scopes.proofs.ViewLemmas.{node_in_place}
-use Rattle.ifr_scopes.proofs.WalkLemmas.{at_first, few_left}
+use Rattle.ifr_nodes.specs.Accepted.{IsAccepted}
+use Rattle.ifr_nodes.specs.Nodes.{nodes_of, is_question, is_statement}
+use Rattle.ifr_nodes.specs.code.Checked.{has_node, has_statement, node_in}
+use Rattle.ifr_nodes.proofs.EndLemmas.{stands_there}
+use Rattle.ifr_nodes.proofs.PlaceLemmas.{is_found}
+use Rattle.ifr_nodes.proofs.ViewLemmas.{node_in_place}
+use Rattle.ifr_nodes.proofs.WalkLemmas.{at_first, few_left}
 use Rattle.hii_varstore.specs.Layout.{Shape}
 use Rattle.hii_questions.specs.Fields.{Asked, asked, asked_at, questions}
 use Rattle.hii_questions.specs.code.Entries.{IsEntryOf, IsQuestionEntry, entry_field, entry_view}

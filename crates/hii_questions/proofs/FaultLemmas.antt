@@ -11,7 +11,7 @@ use Rattle.hii_varstore.specs.Layout.{Shape}
 use Rattle.ifr_opcodes.specs.Forest.{Node}
 use Rattle.ifr_opcodes.specs.Opcode.{number}
 use Rattle.ifr_opcodes.specs.declared.codes.TheConstants.{ONE_OF, ORDERED_LIST}
-use Rattle.ifr_scopes.specs.Nodes.{options}
+use Rattle.ifr_nodes.specs.Nodes.{options}
 use Rattle.hii_questions.specs.Fields.{Asked}
 use Rattle.hii_questions.specs.Faults.{QuestionPart, option, place_of, has_question_fault, has_field_fault, has_option_fault, parts_of}
 use Rattle.hii_questions.specs.code.Causes.{question_causes}

@@ -6,7 +6,7 @@ use Rattle.std.proofs.lemmas.List.{get_or-map, length-map}
 use Rattle.hii_bytes.specs.code.IdTables.{number_with}
 use Rattle.hii_bytes.specs.declared.id_table.IdEntry.{IdEntry}
 use Rattle.ifr_opcodes.specs.Fields.{question_id}
-use Rattle.ifr_scopes.specs.Nodes.{nodes_of}
+use Rattle.ifr_nodes.specs.Nodes.{nodes_of}
 use Rattle.hii_varstore.specs.StoreNodes.{layout_of}
 use Rattle.hii_questions.specs.Fields.{Asked, asked, question_with, questions}
 use Rattle.hii_questions.specs.code.Entries.{entry_view}

@@ -11,9 +11,9 @@ use Rattle.ifr_opcodes.specs.Fields.{question_id, question_store, question_offse
 use Rattle.ifr_opcodes.specs.Forest.{Node}
 use Rattle.ifr_opcodes.specs.Opcode.{number}
 use Rattle.ifr_opcodes.specs.declared.codes.TheConstants.{CHECKBOX, NUMERIC, ONE_OF, STRING, PASSWORD, ORDERED_LIST}
-use Rattle.ifr_scopes.specs.Nodes.{is_question, options}
+use Rattle.ifr_nodes.specs.Nodes.{is_question, options}
 use Rattle.ifr_scopes.proofs.FormPlaceLemmas.{found}
-use Rattle.ifr_scopes.proofs.ViewLemmas.{further}
+use Rattle.ifr_nodes.proofs.ViewLemmas.{further}
 use Rattle.hii_varstore.specs.Layout.{size_of}
 use Rattle.hii_varstore.specs.code.Ranges.{HasRange}
 use Rattle.hii_varstore.specs.StoreNodes.{layout_of}

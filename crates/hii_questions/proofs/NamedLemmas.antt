@@ -14,11 +14,11 @@ use Rattle.ifr_opcodes.specs.Forest.{Node, SpellsForest, flat, node, none, below
 use Rattle.ifr_opcodes.specs.Opcode.{number}
 use Rattle.ifr_opcodes.specs.Reading.{tree_of}
 use Rattle.ifr_opcodes.specs.declared.codes.TheConstants.{ORDERED_LIST}
-use Rattle.ifr_scopes.specs.Accepted.{IsAccepted}
-use Rattle.ifr_scopes.specs.Nodes.{nodes_of, is_option, is_question, options}
+use Rattle.ifr_nodes.specs.Accepted.{IsAccepted}
+use Rattle.ifr_nodes.specs.Nodes.{nodes_of, is_option, is_question, options}
 use Rattle.ifr_scopes.proofs.PathLemmas.{kept}
-use Rattle.ifr_scopes.proofs.PlaceLemmas.{node_stands}
-use Rattle.ifr_scopes.proofs.ViewLemmas.{below_within}
+use Rattle.ifr_nodes.proofs.PlaceLemmas.{node_stands}
+use Rattle.ifr_nodes.proofs.ViewLemmas.{below_within}
 use Rattle.hii_questions.specs.Answers.{answer_in, value_of_bytes}
 use Rattle.hii_questions.specs.Faults.{IsQuestionFault, is_mixed, is_of_another_type}
 use Rattle.hii_varstore.specs.code.Ranges.{HasRange}

@@ -11,10 +11,10 @@ use Rattle.hii_bytes.specs.declared.cause.Cause.TheVariants.{UnknownVarstore, Fi
 use Rattle.ifr_opcodes.specs.Forest.{Forest, none, node, flat, AreNodes, Ancestor, Node, nodes_at, below}
 use Rattle.ifr_opcodes.specs.Reading.{tree_of}
 use Rattle.ifr_opcodes.proofs.ForestLemmas.{takes}
-use Rattle.ifr_scopes.specs.Accepted.{IsAccepted}
-use Rattle.ifr_scopes.specs.Nodes.{nodes_of, is_question, is_option, options}
-use Rattle.ifr_scopes.proofs.PlaceLemmas.{Within, nodes_within}
-use Rattle.ifr_scopes.proofs.ViewLemmas.{further}
+use Rattle.ifr_nodes.specs.Accepted.{IsAccepted}
+use Rattle.ifr_nodes.specs.Nodes.{nodes_of, is_question, is_option, options}
+use Rattle.ifr_nodes.proofs.PlaceLemmas.{Within, nodes_within}
+use Rattle.ifr_nodes.proofs.ViewLemmas.{further}
 use Rattle.hii_questions.proofs.ApartLemmas.{no_question_below}
 use Rattle.hii_varstore.specs.Layout.{Shape}
 use Rattle.hii_questions.specs.Fields.{Asked, asked_at}

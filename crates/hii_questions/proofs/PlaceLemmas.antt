@@ -7,11 +7,11 @@ use Rattle.std.specs.Ordering.{nat_cmp}
 use Rattle.hii_bytes.specs.code.FirstFaults.{Rise}
 use Rattle.ifr_opcodes.specs.Forest.{Node, SpellsForest, flat}
 use Rattle.ifr_opcodes.specs.Reading.{tree_of}
-use Rattle.ifr_scopes.specs.Accepted.{IsAccepted}
-use Rattle.ifr_scopes.specs.Nodes.{nodes_of, is_question}
-use Rattle.ifr_scopes.specs.code.Checked.{node_in}
+use Rattle.ifr_nodes.specs.Accepted.{IsAccepted}
+use Rattle.ifr_nodes.specs.Nodes.{nodes_of, is_question}
+use Rattle.ifr_nodes.specs.code.Checked.{node_in}
 use Rattle.hii_bytes.proofs.SearchLemmas.{searched, not_found}
-use Rattle.ifr_scopes.proofs.PlaceLemmas.{Within, nodes_within}
+use Rattle.ifr_nodes.proofs.PlaceLemmas.{Within, nodes_within}
 use Rattle.hii_varstore.specs.Layout.{Shape}
 use Rattle.hii_varstore.specs.StoreNodes.{layout_of}
 use Rattle.hii_questions.specs.Fields.{Asked, asked_at, questions}

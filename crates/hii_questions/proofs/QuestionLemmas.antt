@@ -7,7 +7,7 @@ use Rattle.ifr_opcodes.specs.Fields.{question_id}
 use Rattle.ifr_opcodes.specs.Forest.{Node}
 use Rattle.ifr_opcodes.specs.Opcode.{number}
 use Rattle.ifr_opcodes.proofs.StatementLemmas.{question_is_statement as number_is_statement}
-use Rattle.ifr_scopes.specs.Nodes.{is_question, is_statement}
+use Rattle.ifr_nodes.specs.Nodes.{is_question, is_statement}
 use Rattle.hii_varstore.specs.Layout.{Shape}
 use Rattle.hii_questions.specs.Fields.{Asked, asked_at, question_with}
 use Rattle.hii_questions.specs.code.Tables.{first_with}

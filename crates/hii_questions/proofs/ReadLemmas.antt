@@ -10,9 +10,9 @@ use Rattle.hii_bytes.specs.declared.cause.Fault.{Fault}
 use Rattle.hii_bytes.specs.declared.id_table.IdEntry.{IdEntry}
 use Rattle.ifr_opcodes.specs.Fields.{question_id, question_store, question_offset}
 use Rattle.ifr_opcodes.specs.Forest.{Mark, Node}
-use Rattle.ifr_scopes.specs.Accepted.{IsAccepted}
-use Rattle.ifr_scopes.specs.code.Checked.{node_in}
-use Rattle.ifr_scopes.specs.Nodes.{is_question, is_store, nodes_of, options}
+use Rattle.ifr_nodes.specs.Accepted.{IsAccepted}
+use Rattle.ifr_nodes.specs.code.Checked.{node_in}
+use Rattle.ifr_nodes.specs.Nodes.{is_question, is_store, nodes_of, options}
 use Rattle.ifr_scopes.specs.Stores.{store_id, store_size}
 use Rattle.hii_varstore.specs.Layout.{Shape, size_of}
 use Rattle.hii_varstore.specs.StoreNodes.{declared_buffer, layout_of}

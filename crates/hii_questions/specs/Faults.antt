@@ -8,7 +8,7 @@ use Rattle.ifr_opcodes.specs.Forest.{Node}
 use Rattle.ifr_opcodes.specs.Fields.{question_store, one_of_width, option_kind, option_value}
 use Rattle.ifr_opcodes.specs.Opcode.{number}
 use Rattle.ifr_opcodes.specs.declared.codes.TheConstants.{ONE_OF, ORDERED_LIST}
-use Rattle.ifr_scopes.specs.Nodes.{is_store, options}
+use Rattle.ifr_nodes.specs.Nodes.{is_store, options}
 use Rattle.ifr_scopes.specs.Stores.{store_id}
 use Rattle.hii_varstore.specs.Layout.{Shape, size_of}
 use Rattle.hii_varstore.specs.StoreNodes.{layout_of}

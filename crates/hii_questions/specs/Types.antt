@@ -6,7 +6,7 @@ use Rattle.ifr_opcodes.specs.Fields.{type_width, display, numeric_width, numeric
 use Rattle.ifr_opcodes.specs.declared.codes.TheConstants.{CHECKBOX, NUMERIC, ONE_OF, STRING, PASSWORD, ORDERED_LIST}
 use Rattle.ifr_opcodes.specs.declared.numbers.Display.{Display}
 use Rattle.ifr_opcodes.specs.declared.numbers.Display.TheVariants.{Signed, Unsigned, Hexadecimal}
-use Rattle.ifr_scopes.specs.Nodes.{options}
+use Rattle.ifr_nodes.specs.Nodes.{options}
 use Rattle.hii_questions.specs.FieldTypes.{FieldType, checkbox, numeric, one_of, text, ordered_list}
 
 abbrev pub is_signed : Display → Bool

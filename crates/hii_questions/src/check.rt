@@ -4,7 +4,7 @@ ghost use Rattle.std.specs.Prelude.{◌≡◌, ◌⊎◌, IfOk, MatchResult, Non
 ghost use Rattle.hii_bytes.specs.Faults.{out_of_memory};
 ghost use Rattle.hii_bytes.specs.code.FirstFaults.{first_cause};
 ghost use Rattle.ifr_opcodes.specs.Fields.{question_store};
-ghost use Rattle.ifr_scopes.specs.Nodes.{nodes_of, options};
+ghost use Rattle.ifr_nodes.specs.Nodes.{nodes_of, options};
 ghost use Rattle.ifr_scopes.specs.code.Parts.{option_node};
 ghost use Rattle.hii_varstore.specs.Layout.{size_of};
 ghost use Rattle.hii_varstore.specs.StoreNodes.{layout_of};

@@ -1,8 +1,8 @@
 //! Questions that hold other bytes in some stores than in others.
 
 ghost use Rattle.std.specs.Prelude.{◌≡◌, ℕ, List, map};
-ghost use Rattle.ifr_scopes.specs.Accepted.{IsAccepted};
-ghost use Rattle.ifr_scopes.specs.code.Checked.{IsAccepted-prop};
+ghost use Rattle.ifr_nodes.specs.Accepted.{IsAccepted};
+ghost use Rattle.ifr_nodes.specs.code.Checked.{IsAccepted-prop};
 ghost use Rattle.hii_varstore.specs.Stores.{shape_of};
 ghost use Rattle.hii_questions.specs.Changes.{holds_others};
 ghost use Rattle.hii_questions.specs.code.Entries.{AreQuestionEntries, AreQuestionEntries-prop, entry_view};

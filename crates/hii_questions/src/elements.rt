@@ -3,7 +3,7 @@
 ghost use Rattle.std.specs.Prelude.{◌≡◌, ◌≤◌, true, IfSome};
 ghost use Rattle.ifr_opcodes.specs.declared.kinds.TheConstants.{TYPE_BOOLEAN};
 ghost use Rattle.ifr_scopes.specs.code.Lists.{statement_node};
-ghost use Rattle.ifr_scopes.specs.Nodes.{options};
+ghost use Rattle.ifr_nodes.specs.Nodes.{options};
 ghost use Rattle.hii_questions.specs.code.Widths.{is_width};
 ghost use Rattle.hii_questions.specs.Types as types;
 

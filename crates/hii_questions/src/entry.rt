@@ -5,7 +5,7 @@ ghost use Rattle.ifr_opcodes.specs.Fields.{question_store};
 ghost use Rattle.ifr_opcodes.specs.code.Marks.{mark};
 ghost use Rattle.ifr_opcodes.specs.code.Ops.{op_of};
 ghost use Rattle.ifr_scopes.specs.code.Lists.{statement_node};
-ghost use Rattle.ifr_scopes.specs.Nodes.{is_question};
+ghost use Rattle.ifr_nodes.specs.Nodes.{is_question};
 ghost use Rattle.hii_varstore.specs.Layout.{Shape, size_of};
 ghost use Rattle.hii_questions.specs.code.Entries.{IsEntryOf, entry_field, entry_range};
 

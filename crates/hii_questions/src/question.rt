@@ -4,7 +4,7 @@ ghost use Rattle.std.specs.Prelude.{◌≡◌, true};
 ghost use Rattle.ifr_opcodes.specs.code.Marks.{mark};
 ghost use Rattle.ifr_opcodes.specs.code.Ops.{op_of};
 ghost use Rattle.ifr_scopes.specs.code.Lists.{statement_node};
-ghost use Rattle.ifr_scopes.specs.Nodes.{is_question};
+ghost use Rattle.ifr_nodes.specs.Nodes.{is_question};
 ghost use Rattle.hii_questions.specs.code.Ranges.{HasWidth, HasWidth-prop, IsNarrow, IsNarrow-prop};
 
 use crate::entry::QuestionEntry;
@@ -28,7 +28,7 @@ impl<'a> Question<'a> {
     ghost use Rattle.std.specs.Prelude.{option_map};
     ghost use Rattle.ifr_opcodes.specs.Fields.{question_id};
     ghost use Rattle.ifr_opcodes.specs.code.Ops.{bytes_of};
-    ghost use Rattle.ifr_scopes.specs.Accepted.{IsAccepted};
+    ghost use Rattle.ifr_nodes.specs.Accepted.{IsAccepted};
     ghost use Rattle.hii_questions.specs.Fields.{is_password};
     ghost use Rattle.hii_questions.specs.code.Entries.{IsQuestionEntry, entry_field, entry_view};
     ghost use Rattle.hii_questions.specs.code.Ranges.{range_in};

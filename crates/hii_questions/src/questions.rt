@@ -3,7 +3,7 @@
 ghost use Rattle.std.specs.Prelude.{◌≡◌, IfOk, IfErr, filter, option_map};
 ghost use Rattle.std.specs.List.{find};
 ghost use Rattle.hii_bytes.specs.Faults.{HasNone, Refuses, out_of_memory};
-ghost use Rattle.ifr_scopes.specs.Nodes.{nodes_of};
+ghost use Rattle.ifr_nodes.specs.Nodes.{nodes_of};
 ghost use Rattle.ifr_scopes.specs.code.Lists.{statement_node};
 ghost use Rattle.hii_varstore.specs.StoreNodes.{layout_of};
 ghost use Rattle.hii_varstore.specs.Stores.{shape_of};

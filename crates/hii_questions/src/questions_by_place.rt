@@ -1,7 +1,7 @@
 //! Some questions of a form set, one after the other.
 
-ghost use Rattle.ifr_scopes.specs.Accepted.{IsAccepted};
-ghost use Rattle.ifr_scopes.specs.code.Checked.{IsAccepted-prop};
+ghost use Rattle.ifr_nodes.specs.Accepted.{IsAccepted};
+ghost use Rattle.ifr_nodes.specs.code.Checked.{IsAccepted-prop};
 ghost use Rattle.hii_questions.specs.code.Entries.{AreQuestionEntries, AreQuestionEntries-prop};
 
 use crate::entry::QuestionEntry;

@@ -2,7 +2,7 @@
 
 ghost use Rattle.std.specs.Prelude.{◌≡◌, ℕ, IfOk};
 ghost use Rattle.hii_bytes.specs.code.NumberSets.{has_number};
-ghost use Rattle.ifr_scopes.specs.Nodes.{nodes_of};
+ghost use Rattle.ifr_nodes.specs.Nodes.{nodes_of};
 ghost use Rattle.hii_questions.specs.Faults.{is_known};
 ghost use Rattle.hii_questions.specs.code.Gathered.{AreGathered};
 

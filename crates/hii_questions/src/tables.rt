@@ -3,9 +3,9 @@
 ghost use Rattle.std.specs.Prelude.{◌≡◌, ◌⊎◌, IfOk, IfErr, None, Some, filter, map};
 ghost use Rattle.std.specs.List.{flat_map};
 ghost use Rattle.hii_bytes.specs.Faults.{out_of_memory};
-ghost use Rattle.ifr_scopes.specs.Accepted.{IsAccepted};
-ghost use Rattle.ifr_scopes.specs.Nodes.{nodes_of};
-ghost use Rattle.ifr_scopes.specs.code.Checked.{node_in};
+ghost use Rattle.ifr_nodes.specs.Accepted.{IsAccepted};
+ghost use Rattle.ifr_nodes.specs.Nodes.{nodes_of};
+ghost use Rattle.ifr_nodes.specs.code.Checked.{node_in};
 ghost use Rattle.hii_varstore.specs.StoreNodes.{layout_of};
 ghost use Rattle.hii_questions.specs.Faults.{is_known, parts_of};
 ghost use Rattle.hii_questions.specs.Fields.{is_password, questions};

@@ -13,9 +13,9 @@ use Rattle.hii_bytes.specs.declared.cause.Cause.TheVariants.{DuplicateVarstore}
 use Rattle.hii_bytes.specs.declared.cause.Fault.{Fault}
 use Rattle.hii_bytes.proofs.FirstFaultLemmas.{first_among, none_among}
 use Rattle.ifr_opcodes.specs.Forest.{Node}
-use Rattle.ifr_scopes.specs.Accepted.{IsAccepted}
-use Rattle.ifr_scopes.specs.Nodes.{nodes_of, is_store}
-use Rattle.ifr_scopes.specs.References.{Ranked, ranked}
+use Rattle.ifr_nodes.specs.Accepted.{IsAccepted}
+use Rattle.ifr_nodes.specs.Nodes.{nodes_of, is_store}
+use Rattle.ifr_nodes.specs.ReferenceFaults.{Ranked, ranked}
 use Rattle.ifr_scopes.specs.Stores.{store_id, store_size}
 use Rattle.ifr_scopes.proofs.IndexLemmas.{nodes_rise}
 use Rattle.hii_varstore.specs.declared.buffer.Buffer.{Buffer}

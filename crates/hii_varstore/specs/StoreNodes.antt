@@ -7,8 +7,8 @@ use Rattle.hii_bytes.specs.declared.cause.Cause.{Cause}
 use Rattle.hii_bytes.specs.declared.cause.Cause.TheVariants.{DuplicateVarstore}
 use Rattle.ifr_opcodes.specs.Fields.{form_set_guid}
 use Rattle.ifr_opcodes.specs.Forest.{Node}
-use Rattle.ifr_scopes.specs.Nodes.{is_store}
-use Rattle.ifr_scopes.specs.References.{Ranked, ranked}
+use Rattle.ifr_nodes.specs.Nodes.{is_store}
+use Rattle.ifr_nodes.specs.ReferenceFaults.{Ranked, ranked}
 use Rattle.ifr_scopes.specs.Stores.{store_id, store_size}
 use Rattle.hii_varstore.specs.declared.buffer.Buffer.{Buffer}
 use Rattle.hii_varstore.specs.Layout.{Shape}

@@ -2,7 +2,7 @@
 
 ghost use Rattle.std.specs.Prelude.{◌≡◌, IfOk, IfErr};
 ghost use Rattle.hii_bytes.specs.Faults.{HasNone, Refuses, out_of_memory};
-ghost use Rattle.ifr_scopes.specs.Nodes.{nodes_of};
+ghost use Rattle.ifr_nodes.specs.Nodes.{nodes_of};
 ghost use Rattle.hii_varstore.specs.Layout.{size_of};
 ghost use Rattle.hii_varstore.specs.StoreNodes.{layout_of, IsStoreFault};
 ghost use Rattle.hii_varstore.specs.code.Table.{AreBuffers};

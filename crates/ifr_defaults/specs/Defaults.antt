@@ -11,8 +11,8 @@ use Rattle.ifr_opcodes.specs.Opcode.{number}
 use Rattle.ifr_expr.specs.Meaning.{Rule, value}
 use Rattle.ifr_expr.specs.Trees.{Tree}
 use Rattle.ifr_expr.specs.Values.{Value, as_number}
-use Rattle.ifr_scopes.specs.Conditions.{value_tree}
-use Rattle.ifr_scopes.specs.Nodes.{options, defaults}
+use Rattle.ifr_nodes.specs.NodeExpressions.{value_tree}
+use Rattle.ifr_nodes.specs.Nodes.{options, defaults}
 use Rattle.hii_questions.specs.Inputs.{Offer, raw, units, elements}
 use Rattle.hii_questions.specs.Items.{bytes_of_items}
 use Rattle.hii_questions.specs.Types.{element_width}

@@ -4,7 +4,7 @@ ghost use Rattle.std.specs.Prelude.{◌≡◌, option_map};
 ghost use Rattle.std.specs.List.{find};
 ghost use Rattle.ifr_opcodes.specs.Fields.{option_value};
 ghost use Rattle.ifr_opcodes.specs.code.Ops.{bytes_of};
-ghost use Rattle.ifr_scopes.specs.Nodes.{options};
+ghost use Rattle.ifr_nodes.specs.Nodes.{options};
 ghost use Rattle.ifr_scopes.specs.code.Lists.{statement_node};
 ghost use Rattle.ifr_defaults.specs.Defaults as spec;
 

@@ -2,12 +2,12 @@
 use Rattle.std.proofs.Common.{◌≡◌, ℕ, true, List, sym, ap, subst}
 use Rattle.ifr_opcodes.specs.Forest.{Node, node_at, SpellsForest}
 use Rattle.ifr_opcodes.specs.Reading.{tree_of}
-use Rattle.ifr_scopes.specs.Guards.{guards as guards_of_node}
-use Rattle.ifr_scopes.specs.code.Kept.{kept_guards}
-use Rattle.ifr_scopes.specs.Nodes.{nodes_of}
-use Rattle.ifr_scopes.specs.code.Checked.{or_empty, node_in, has_node}
-use Rattle.ifr_scopes.specs.declared.guard_place.GuardPlace.{GuardPlace}
-use Rattle.ifr_scopes.proofs.ViewLemmas.{some_there, contains_found}
+use Rattle.ifr_nodes.specs.Guards.{guards as guards_of_node}
+use Rattle.ifr_nodes.specs.code.Kept.{kept_guards}
+use Rattle.ifr_nodes.specs.Nodes.{nodes_of}
+use Rattle.ifr_nodes.specs.code.Checked.{or_empty, node_in, has_node}
+use Rattle.ifr_nodes.specs.declared.guard_place.GuardPlace.{GuardPlace}
+use Rattle.ifr_nodes.proofs.ViewLemmas.{some_there, contains_found}
 use Rattle.ifr_scopes.proofs.PathLemmas.{Keeps, keeps}
 
 pub around : (bytes : List ℕ) (place : ℕ) (kept : List GuardPlace) → SpellsForest bytes (tree_of bytes) → has_node bytes place ≡ true → kept ≡ kept_guards (node_in bytes place) → Keeps bytes kept (guards_of_node (node_in bytes place))

@@ -7,9 +7,9 @@ use Rattle.hii_bytes.specs.code.FirstFaults.{Rise}
 use Rattle.ifr_opcodes.specs.Opcode.{number}
 use Rattle.ifr_opcodes.specs.Forest.{Node, SpellsForest}
 use Rattle.ifr_opcodes.specs.Reading.{tree_of}
-use Rattle.ifr_scopes.specs.Guards.{is_guard}
-use Rattle.ifr_scopes.specs.Nodes.{nodes_of}
-use Rattle.ifr_scopes.specs.code.Checked.{node_in}
+use Rattle.ifr_nodes.specs.Guards.{is_guard}
+use Rattle.ifr_nodes.specs.Nodes.{nodes_of}
+use Rattle.ifr_nodes.specs.code.Checked.{node_in}
 use Rattle.ifr_scopes.specs.code.Index.{kind_at, conditional_at}
 use Rattle.ifr_scopes.specs.code.Tables.{inner_guard, guard_entry, is_question_condition, kept_condition, IsGuardEntry, IsConditionEntry}
 use Rattle.ifr_scopes.specs.declared.index.GuardEntry.{GuardEntry}
@@ -18,7 +18,7 @@ use Rattle.ifr_scopes.proofs.IndexLemmas.{behind, nodes_rise}
 use Rattle.ifr_scopes.proofs.NoSubmitLemmas.{is_entry}
 use Rattle.ifr_scopes.proofs.NumberLemmas.{is_guard_entry}
 use Rattle.ifr_scopes.proofs.PathLemmas.{find_within}
-use Rattle.ifr_scopes.proofs.ViewLemmas.{node_in_place}
+use Rattle.ifr_nodes.proofs.ViewLemmas.{node_in_place}
 
 abbrev place_of : Node → ℕ
 place_of n = n.place

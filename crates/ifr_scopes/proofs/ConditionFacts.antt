@@ -8,19 +8,19 @@ use Rattle.ifr_opcodes.specs.Rows.{row_of, is_operator, operands, is_question_nu
 use Rattle.ifr_opcodes.specs.Forest.{Mark, Ancestor, Node, as_ancestor, below}
 use Rattle.ifr_opcodes.proofs.StatementLemmas.{none_denies}
 use Rattle.ifr_opcodes.proofs.TableLemmas.{not_of_kind, numbers}
-use Rattle.ifr_scopes.specs.Checked.{IsChecked}
-use Rattle.ifr_scopes.specs.Guards.{is_guard, guards}
+use Rattle.ifr_nodes.specs.Checked.{IsChecked}
+use Rattle.ifr_nodes.specs.Guards.{is_guard, guards}
 use Rattle.ifr_scopes.specs.code.Tables.{parent_place, is_question_condition}
-use Rattle.ifr_scopes.specs.Nodes.{nodes_of, is_question}
-use Rattle.ifr_scopes.specs.Structure.{innermost, is_root, is_wanted}
-use Rattle.ifr_scopes.specs.Table.{row, class_of, guarded, class_around, admits}
-use Rattle.ifr_scopes.specs.declared.table.Class.{Class}
-use Rattle.ifr_scopes.specs.declared.table.Class.TheVariants.{OfFormSet, OfForm, OfText, OfQuestion, OfChoice, OfOptions, OfOption, OfExpression, OfNothing}
-use Rattle.ifr_scopes.proofs.ExpressionLemmas.{innermost-push}
+use Rattle.ifr_nodes.specs.Nodes.{nodes_of, is_question}
+use Rattle.ifr_nodes.specs.Structure.{innermost, is_root, is_wanted}
+use Rattle.ifr_nodes.specs.Table.{row, class_of, guarded, class_around, admits}
+use Rattle.ifr_nodes.specs.declared.table.Class.{Class}
+use Rattle.ifr_nodes.specs.declared.table.Class.TheVariants.{OfFormSet, OfForm, OfText, OfQuestion, OfChoice, OfOptions, OfOption, OfExpression, OfNothing}
+use Rattle.ifr_nodes.proofs.ExpressionLemmas.{innermost-push}
 use Rattle.ifr_scopes.proofs.InsideLemmas.{inside_node}
-use Rattle.ifr_scopes.proofs.ClassLemmas.{class-guard, class-other}
-use Rattle.ifr_scopes.proofs.RuleFacts.{held, no_root, not_wanted}
-use Rattle.ifr_scopes.proofs.TableLemmas.{class_fact, conditions_no_operator, guards_no_operator}
+use Rattle.ifr_nodes.proofs.ClassLemmas.{class-guard, class-other}
+use Rattle.ifr_nodes.proofs.RuleFacts.{held, no_root, not_wanted}
+use Rattle.ifr_nodes.proofs.TableLemmas.{class_fact, conditions_no_operator, guards_no_operator}
 
 -- ---- the scopes in which one may stand
 

@@ -4,7 +4,7 @@ use Rattle.std.specs.List.{take_while}
 use Rattle.std.proofs.lemmas.Bool.{cond-true, cond-false}
 use Rattle.std.proofs.lemmas.List.Sums.{take_while-cons}
 use Rattle.ifr_opcodes.specs.Forest.{Node}
-use Rattle.ifr_scopes.specs.code.Checked.{node_in}
+use Rattle.ifr_nodes.specs.code.Checked.{node_in}
 use Rattle.ifr_scopes.specs.declared.index.ConditionEntry.{ConditionEntry}
 use Rattle.ifr_scopes.proofs.NoSubmitLemmas.{of_number}
 

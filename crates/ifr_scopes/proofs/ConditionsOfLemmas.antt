@@ -9,10 +9,10 @@ use Rattle.ifr_opcodes.specs.Opcode.{number, has_scope}
 use Rattle.ifr_opcodes.specs.Forest.{Ancestor, Node, as_ancestor, nodes_at, below}
 use Rattle.ifr_opcodes.specs.Reading.{tree_of}
 use Rattle.ifr_opcodes.proofs.StatementLemmas.{question_is_statement}
-use Rattle.ifr_scopes.specs.Checked.{IsChecked}
-use Rattle.ifr_scopes.specs.code.Checked.{IsNodeOf}
+use Rattle.ifr_nodes.specs.Checked.{IsChecked}
+use Rattle.ifr_nodes.specs.code.Checked.{IsNodeOf}
 use Rattle.ifr_opcodes.specs.Rows.{is_condition_number}
-use Rattle.ifr_scopes.specs.Nodes.{nodes_of, is_question, of_question}
+use Rattle.ifr_nodes.specs.Nodes.{nodes_of, is_question, of_question}
 use Rattle.ifr_scopes.specs.code.Tables.{IsConditionEntry, AreConditionEntries, is_question_condition, kept_condition, conditions_among, condition_table, parent_place}
 use Rattle.ifr_scopes.specs.declared.index.ConditionEntry.{ConditionEntry}
 use Rattle.ifr_scopes.proofs.BehindPlaceLemmas.{apart, entries_behind, front, no_front}
@@ -21,11 +21,11 @@ use Rattle.ifr_scopes.proofs.InsideLemmas.{behind_node}
 use Rattle.ifr_scopes.proofs.ConditionFacts.{has_question, question_place}
 use Rattle.ifr_scopes.proofs.NoSubmitLemmas.{again, all_entries, of_number}
 use Rattle.ifr_scopes.proofs.PathLemmas.{kept}
-use Rattle.ifr_scopes.proofs.PlaceLemmas.{node_stands}
+use Rattle.ifr_nodes.proofs.PlaceLemmas.{node_stands}
 use Rattle.ifr_scopes.proofs.QuestionFacts.{last_of, no_statement_inside}
-use Rattle.ifr_scopes.proofs.RuleFacts.{one_place, split_last}
-use Rattle.ifr_scopes.proofs.ScopeLemmas.{path_inside}
-use Rattle.ifr_scopes.proofs.ViewLemmas.{below_within, contains_found}
+use Rattle.ifr_nodes.proofs.RuleFacts.{one_place, split_last}
+use Rattle.ifr_nodes.proofs.ScopeLemmas.{path_inside}
+use Rattle.ifr_nodes.proofs.ViewLemmas.{below_within, contains_found}
 
 -- the place of the question of a condition that stands below a question is that question's
 its_place : (bytes : List ℕ) (q n : Node) → IsChecked bytes → Contains (nodes_of bytes) q → is_question q ≡ true → Contains (below q) n → is_question_condition n ≡ true → parent_place n ≡ q.place

@@ -6,14 +6,14 @@ use Rattle.std.proofs.lemmas.Bool.{cases_Bool}
 use Rattle.std.proofs.lemmas.List.Elements.{All-from_recursion}
 use Rattle.ifr_opcodes.specs.Forest.{Node, SpellsForest}
 use Rattle.ifr_opcodes.specs.Reading.{tree_of}
-use Rattle.ifr_scopes.specs.code.Checked.{node_in}
+use Rattle.ifr_nodes.specs.code.Checked.{node_in}
 use Rattle.ifr_scopes.specs.code.Tables.{IsGuardEntry, AreGuardEntries, guard_entry, guard_table, inner_guard}
-use Rattle.ifr_scopes.specs.Guards.{guards_among, is_guard}
-use Rattle.ifr_scopes.specs.Nodes.{nodes_of}
+use Rattle.ifr_nodes.specs.Guards.{guards_among, is_guard}
+use Rattle.ifr_nodes.specs.Nodes.{nodes_of}
 use Rattle.ifr_opcodes.specs.Opcode.{number}
 use Rattle.ifr_scopes.specs.declared.index.GuardEntry.{GuardEntry}
 use Rattle.ifr_scopes.proofs.NumberLemmas.{is_guard_entry}
-use Rattle.ifr_scopes.proofs.ViewLemmas.{further, node_in_place}
+use Rattle.ifr_nodes.proofs.ViewLemmas.{further, node_in_place}
 
 all_kept : {E : Type 0} (P : E → Type 0) (test : Node → Bool) (entry : Node → E) (ns : List Node)
     → ((n : Node) → Contains ns n → test n ≡ true → P (entry n)) → AllByRecursion P (map entry (filter test ns))

@@ -6,19 +6,19 @@ use Rattle.std.proofs.lemmas.List.Elements.{filter-append}
 use Rattle.ifr_opcodes.specs.declared.codes.TheConstants.{FORM}
 use Rattle.ifr_opcodes.specs.Opcode.{number}
 use Rattle.ifr_opcodes.specs.Forest.{Ancestor, Node, as_ancestor, below}
-use Rattle.ifr_scopes.specs.Checked.{IsChecked}
-use Rattle.ifr_scopes.specs.Guards.{is_guard}
-use Rattle.ifr_scopes.specs.Nodes.{nodes_of, is_form, is_statement}
-use Rattle.ifr_scopes.specs.Rules.{forms_among}
-use Rattle.ifr_scopes.specs.Table.{row, class_of, guarded, class_around}
-use Rattle.ifr_scopes.specs.declared.table.Class.TheVariants.{OfForm, OfNothing}
-use Rattle.ifr_scopes.proofs.ClassLemmas.{class-guard, class-other}
+use Rattle.ifr_nodes.specs.Checked.{IsChecked}
+use Rattle.ifr_nodes.specs.Guards.{is_guard}
+use Rattle.ifr_nodes.specs.Nodes.{nodes_of, is_form, is_statement}
+use Rattle.ifr_nodes.specs.Rules.{forms_among}
+use Rattle.ifr_nodes.specs.Table.{row, class_of, guarded, class_around}
+use Rattle.ifr_nodes.specs.declared.table.Class.TheVariants.{OfForm, OfNothing}
+use Rattle.ifr_nodes.proofs.ClassLemmas.{class-guard, class-other}
 use Rattle.ifr_scopes.proofs.InsideLemmas.{inside_node}
 use Rattle.ifr_scopes.proofs.OptionFacts.{between, holder_there}
-use Rattle.ifr_scopes.proofs.RuleFacts.{around_subtitle, held, no_form_around, no_root, not_wanted}
-use Rattle.ifr_scopes.proofs.ScopeLemmas.{path_inside}
-use Rattle.ifr_scopes.proofs.TableLemmas.{guarded_form, holds_statement, of_form, statement_apart}
-use Rattle.ifr_scopes.proofs.ViewLemmas.{below_within}
+use Rattle.ifr_nodes.proofs.RuleFacts.{around_subtitle, held, no_form_around, no_root, not_wanted}
+use Rattle.ifr_nodes.proofs.ScopeLemmas.{path_inside}
+use Rattle.ifr_nodes.proofs.TableLemmas.{guarded_form, holds_statement, of_form, statement_apart}
+use Rattle.ifr_nodes.proofs.ViewLemmas.{below_within}
 
 -- ---- the form of a statement
 

@@ -6,12 +6,12 @@ use Rattle.std.proofs.lemmas.Bool.{and_parts}
 use Rattle.ifr_opcodes.specs.Fields.{form_id}
 use Rattle.ifr_opcodes.specs.Forest.{Node, SpellsForest, node_at}
 use Rattle.ifr_opcodes.specs.Reading.{tree_of}
-use Rattle.ifr_scopes.specs.Nodes.{nodes_of, is_form}
-use Rattle.ifr_scopes.specs.References.{has_form_id, form_with}
-use Rattle.ifr_scopes.specs.code.Checked.{IsNodeOf, has_form}
-use Rattle.ifr_scopes.specs.code.Index.{form_place_with}
-use Rattle.ifr_scopes.proofs.PlaceLemmas.{is_found}
-use Rattle.ifr_scopes.proofs.ViewLemmas.{further, node_in_place}
+use Rattle.ifr_nodes.specs.Nodes.{nodes_of, is_form}
+use Rattle.ifr_nodes.specs.ReferenceFaults.{has_form_id, form_with}
+use Rattle.ifr_nodes.specs.code.Checked.{IsNodeOf, has_form}
+use Rattle.ifr_nodes.specs.code.FormIds.{form_place_with}
+use Rattle.ifr_nodes.proofs.PlaceLemmas.{is_found}
+use Rattle.ifr_nodes.proofs.ViewLemmas.{further, node_in_place}
 
 -- what is found is among those that are searched, and passes the test
 pub found : {X : Type 0} (p : X → Bool) (xs : List X) (x : X) → find p xs ≡ Some x → Contains xs x × (p x ≡ true)

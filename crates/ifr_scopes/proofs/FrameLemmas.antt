@@ -23,9 +23,9 @@ use Rattle.ifr_expr.specs.declared.names.Name.TheVariants as name
 use Rattle.ifr_expr.specs.declared.references.RuleReference.{RuleReference}
 use Rattle.ifr_expr.proofs.DependenceLemmas.{found_ids, no_ids}
 use Rattle.ifr_scopes.specs.code.Frames.{ids_by, frame_ids, depth_by, frame_depth, HaveRoom}
-use Rattle.ifr_scopes.specs.Rules.{rule_sizes, size_over, greatest}
+use Rattle.ifr_nodes.specs.Rules.{rule_sizes, size_over, greatest}
 use Rattle.ifr_scopes.specs.declared.dependence.Frame.{Frame}
-use Rattle.ifr_scopes.specs.declared.rules.RuleSize.{RuleSize}
+use Rattle.ifr_nodes.specs.declared.rules.RuleSize.{RuleSize}
 use Rattle.ifr_scopes.proofs.NamedSizeLemmas.{AreShallow, found_size}
 
 -- ---- the questions behind names are those behind opcodes

@@ -2,10 +2,10 @@
 use Rattle.std.proofs.Common.{◌≡◌, ℕ, true, Option, List, ap, ◌∙◌}
 use Rattle.std.proofs.lemmas.Bool.{and_parts}
 use Rattle.ifr_opcodes.specs.Forest.{Node, node_at}
-use Rattle.ifr_scopes.specs.Nodes.{nodes_of}
-use Rattle.ifr_scopes.specs.code.Checked.{or_empty, node_in, has_guard}
-use Rattle.ifr_scopes.proofs.PlaceLemmas.{found_place}
-use Rattle.ifr_scopes.proofs.ViewLemmas.{some_there}
+use Rattle.ifr_nodes.specs.Nodes.{nodes_of}
+use Rattle.ifr_nodes.specs.code.Checked.{or_empty, node_in, has_guard}
+use Rattle.ifr_nodes.proofs.PlaceLemmas.{found_place}
+use Rattle.ifr_nodes.proofs.ViewLemmas.{some_there}
 
 pub is_placed : (bytes : List ℕ) (place : ℕ) → has_guard bytes place ≡ true → (node_in bytes place).place ≡ place
 unfolding node_in

@@ -7,10 +7,10 @@ use Rattle.hii_bytes.specs.code.FirstFaults.{Rise}
 use Rattle.ifr_opcodes.specs.Forest.{Node, SpellsForest, flat}
 use Rattle.ifr_opcodes.specs.Reading.{tree_of}
 use Rattle.ifr_scopes.specs.code.Index.{kind_at}
-use Rattle.ifr_scopes.specs.Nodes.{nodes_of}
+use Rattle.ifr_nodes.specs.Nodes.{nodes_of}
 use Rattle.ifr_scopes.proofs.BehindPlaceLemmas.{lower}
-use Rattle.ifr_scopes.proofs.PlaceLemmas.{nodes_within}
-use Rattle.ifr_scopes.proofs.StructureLemmas.{rising}
+use Rattle.ifr_nodes.proofs.PlaceLemmas.{nodes_within}
+use Rattle.ifr_nodes.proofs.StructureLemmas.{rising}
 
 -- ---- the nodes of a package
 

@@ -14,18 +14,19 @@ use Rattle.ifr_opcodes.specs.Opcode.{number, has_scope}
 use Rattle.ifr_opcodes.specs.Forest.{Forest, none, node, flat, height, AreNodes, Ancestor, Node, as_ancestor, nodes_at, SpellsForest}
 use Rattle.ifr_opcodes.specs.code.Marks.{ancestor_at}
 use Rattle.ifr_opcodes.specs.Reading.{tree_of}
-use Rattle.ifr_scopes.specs.Checked.{IsChecked}
-use Rattle.ifr_scopes.specs.Guards.{is_guard, guards_among}
-use Rattle.ifr_scopes.specs.Nodes.{nodes_of, is_form, is_store}
-use Rattle.ifr_scopes.specs.Rules.{is_rule}
+use Rattle.ifr_nodes.specs.Checked.{IsChecked}
+use Rattle.ifr_nodes.specs.Guards.{is_guard, guards_among}
+use Rattle.ifr_nodes.specs.Nodes.{nodes_of, is_form, is_store}
+use Rattle.ifr_nodes.specs.Rules.{is_rule}
 use Rattle.ifr_scopes.specs.code.Index.{is_indexed}
 use Rattle.ifr_scopes.specs.code.LockIndex.{Finds, first_place}
-use Rattle.ifr_scopes.specs.code.Tables.{guards_before, inner_guard, inner_last, guard_entry, guard_table, entry_of_node, entries_unlocked, is_question_condition, conditions_before, condition_entry, kept_condition, conditions_among, condition_table, form_entry, places_of, entry_table, kept_entry}
+use Rattle.ifr_scopes.specs.code.Tables.{guards_before, inner_guard, inner_last, guard_entry, guard_table, entry_of_node, entries_unlocked, is_question_condition, conditions_before, condition_entry, kept_condition, conditions_among, condition_table, places_of, entry_table, kept_entry}
+use Rattle.ifr_nodes.specs.code.FormIds.{form_entry}
 use Rattle.ifr_scopes.specs.declared.index.Entry.{Entry}
 use Rattle.ifr_scopes.specs.declared.index.GuardEntry.{GuardEntry}
 use Rattle.ifr_scopes.specs.declared.index.ConditionEntry.{ConditionEntry}
 use Rattle.hii_bytes.specs.declared.id_table.IdEntry.{IdEntry}
-use Rattle.ifr_scopes.proofs.WalkLemmas.{at_first, few_left}
+use Rattle.ifr_nodes.proofs.WalkLemmas.{at_first, few_left}
 use Rattle.ifr_scopes.proofs.NumberLemmas.{inner_guard-push, inner_guard-other, so_many_before}
 
 abbrev place_of : Node → ℕ

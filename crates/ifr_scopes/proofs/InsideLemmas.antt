@@ -5,10 +5,10 @@ use Rattle.std.proofs.lemmas.List.Elements.{Contains-append_cases, Contains-appe
 use Rattle.hii_bytes.specs.code.FirstFaults.{Rise}
 use Rattle.ifr_opcodes.specs.Forest.{Forest, none, node, flat, Ancestor, Node, as_ancestor, nodes_at, below, SpellsForest}
 use Rattle.ifr_opcodes.specs.Reading.{tree_of}
-use Rattle.ifr_scopes.specs.Nodes.{nodes_of}
+use Rattle.ifr_nodes.specs.Nodes.{nodes_of}
 use Rattle.ifr_scopes.proofs.BehindPlaceLemmas.{behind_one, rise_behind}
 use Rattle.ifr_scopes.proofs.IndexLemmas.{nodes_rise}
-use Rattle.ifr_scopes.proofs.ViewLemmas.{further}
+use Rattle.ifr_nodes.proofs.ViewLemmas.{further}
 
 -- A node stands right in the scope of another.
 pub record IsInside (ns : List Node) (n : Node) : Type 0 where

@@ -6,13 +6,13 @@ use Rattle.ifr_opcodes.specs.Opcode.{number}
 use Rattle.ifr_opcodes.specs.Forest.{Node, SpellsForest}
 use Rattle.ifr_opcodes.specs.Reading.{tree_of}
 use Rattle.ifr_opcodes.specs.Rows.{is_statement_number}
-use Rattle.ifr_scopes.specs.Nodes.{nodes_of, is_form, is_statement}
-use Rattle.ifr_scopes.specs.code.Checked.{node_in}
+use Rattle.ifr_nodes.specs.Nodes.{nodes_of, is_form, is_statement}
+use Rattle.ifr_nodes.specs.code.Checked.{node_in}
 use Rattle.ifr_scopes.specs.code.Index.{is_indexed}
 use Rattle.ifr_scopes.specs.code.Tables.{AreEntries, AreOfKind, IsEntry, IsOfKind, entry_table, kept_entry, places_of}
 use Rattle.ifr_scopes.specs.declared.index.Entry.{Entry}
 use Rattle.ifr_scopes.proofs.EntryLemmas.{all_entries_are, nodes_again}
-use Rattle.ifr_scopes.proofs.ViewLemmas.{further, is_at, node_in_place}
+use Rattle.ifr_nodes.proofs.ViewLemmas.{further, is_at, node_in_place}
 
 -- ---- by their places
 

@@ -5,7 +5,7 @@ use Rattle.std.specs.List.{flat_map}
 use Rattle.std.specs.Option.{option_or}
 use Rattle.std.proofs.lemmas.List.{at_drop_more}
 use Rattle.ifr_opcodes.specs.Forest.{Node}
-use Rattle.ifr_scopes.specs.Locks.{locked_in, chain, first_of_nodes}
+use Rattle.ifr_nodes.specs.Locks.{locked_in, chain, first_of_nodes}
 use Rattle.ifr_scopes.specs.code.LockIndex.{first_place, lock_place, first_some}
 
 -- ---- the first along the places of a node

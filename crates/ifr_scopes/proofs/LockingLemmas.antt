@@ -9,7 +9,7 @@ use Rattle.std.proofs.lemmas.List.Elements.{filter-append}
 use Rattle.ifr_opcodes.specs.Opcode.{number}
 use Rattle.ifr_opcodes.specs.Forest.{Node}
 use Rattle.ifr_opcodes.specs.Opcode.{number}
-use Rattle.ifr_scopes.specs.Locks.{chain}
+use Rattle.ifr_nodes.specs.Locks.{chain}
 use Rattle.ifr_scopes.specs.code.Index.{is_indexed}
 use Rattle.ifr_scopes.specs.code.LockIndex.{first_place, first_some, lock_place}
 use Rattle.ifr_scopes.specs.code.Tables.{inner_guard, entry_of_node, entries_unlocked, kept_entry, entry_table}

@@ -14,14 +14,14 @@ use Rattle.ifr_expr.specs.References.{references, references_among}
 use Rattle.ifr_expr.specs.Trees.{Tree, post}
 use Rattle.ifr_expr.specs.declared.references.RuleReference.{RuleReference}
 use Rattle.ifr_expr.proofs.RuleLemmas.{Below, found_by}
-use Rattle.ifr_scopes.specs.Accepted.{IsAccepted}
-use Rattle.ifr_scopes.specs.Nodes.{nodes_of}
-use Rattle.ifr_scopes.specs.References.{Ranked, ranked}
-use Rattle.ifr_scopes.specs.Rules.{is_rule, as_rule, rules_among, rule_sizes, size, size_over, greatest}
-use Rattle.ifr_scopes.specs.code.Rules.{rules_of}
-use Rattle.ifr_scopes.specs.declared.rules.RuleSize.{RuleSize}
-use Rattle.ifr_scopes.proofs.KeptRuleLemmas.{one_rule, no_rule}
-use Rattle.ifr_scopes.proofs.ViewLemmas.{further}
+use Rattle.ifr_nodes.specs.Accepted.{IsAccepted}
+use Rattle.ifr_nodes.specs.Nodes.{nodes_of}
+use Rattle.ifr_nodes.specs.ReferenceFaults.{Ranked, ranked}
+use Rattle.ifr_nodes.specs.Rules.{is_rule, as_rule, rules_among, rule_sizes, size, size_over, greatest}
+use Rattle.ifr_nodes.specs.code.Rules.{rules_of}
+use Rattle.ifr_nodes.specs.declared.rules.RuleSize.{RuleSize}
+use Rattle.ifr_nodes.proofs.KeptRuleLemmas.{one_rule, no_rule}
+use Rattle.ifr_nodes.proofs.ViewLemmas.{further}
 
 -- ---- the rule that a reference names
 

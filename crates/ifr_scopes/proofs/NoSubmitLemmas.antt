@@ -7,14 +7,14 @@ use Rattle.ifr_opcodes.specs.declared.codes.TheConstants.{NO_SUBMIT_IF}
 use Rattle.ifr_opcodes.specs.Opcode.{number}
 use Rattle.ifr_opcodes.specs.Forest.{Node, SpellsForest, node_at}
 use Rattle.ifr_opcodes.specs.Reading.{tree_of}
-use Rattle.ifr_scopes.specs.code.Checked.{has_node, node_in, or_empty}
-use Rattle.ifr_scopes.specs.code.Ends.{expression_end}
+use Rattle.ifr_nodes.specs.code.Checked.{has_node, node_in, or_empty}
+use Rattle.ifr_nodes.specs.code.Ends.{expression_end}
 use Rattle.ifr_opcodes.specs.Rows.{row_of, is_condition_number}
-use Rattle.ifr_scopes.specs.Nodes.{nodes_of, is_no_submit, this_of}
+use Rattle.ifr_nodes.specs.Nodes.{nodes_of, is_no_submit, this_of}
 use Rattle.ifr_scopes.specs.code.Tables.{inner_guard, parent_place, is_question_condition, kept_condition, conditions_among, condition_table, IsConditionEntry, AreConditionEntries}
 use Rattle.ifr_scopes.specs.declared.index.ConditionEntry.{ConditionEntry}
 use Rattle.ifr_scopes.proofs.EntryLemmas.{all_entries_are, nodes_again}
-use Rattle.ifr_scopes.proofs.ViewLemmas.{contains_found, further, is_at, node_in_place, some_there}
+use Rattle.ifr_nodes.proofs.ViewLemmas.{contains_found, further, is_at, node_in_place, some_there}
 
 pub is_entry : (bytes : List ℕ) (n : Node) → SpellsForest bytes (tree_of bytes) → Contains (nodes_of bytes) n → is_question_condition n ≡ true → IsConditionEntry bytes (kept_condition (nodes_of bytes) n)
 is_entry bytes n s within is =

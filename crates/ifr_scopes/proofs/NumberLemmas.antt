@@ -12,18 +12,18 @@ use Rattle.hii_bytes.specs.code.FirstFaults.{Rise}
 use Rattle.ifr_opcodes.specs.Opcode.{number}
 use Rattle.ifr_opcodes.specs.Forest.{Ancestor, Node, as_ancestor, SpellsForest}
 use Rattle.ifr_opcodes.specs.Reading.{tree_of}
-use Rattle.ifr_scopes.specs.Guards.{is_guard, node_within, nodes_on, guards, guards_among}
-use Rattle.ifr_scopes.specs.Nodes.{nodes_of, this_of}
-use Rattle.ifr_scopes.specs.code.Checked.{node_in, or_empty}
-use Rattle.ifr_scopes.specs.code.Ends.{expression_end}
+use Rattle.ifr_nodes.specs.Guards.{is_guard, node_within, nodes_on, guards, guards_among}
+use Rattle.ifr_nodes.specs.Nodes.{nodes_of, this_of}
+use Rattle.ifr_nodes.specs.code.Checked.{node_in, or_empty}
+use Rattle.ifr_nodes.specs.code.Ends.{expression_end}
 use Rattle.ifr_scopes.specs.code.Tables.{guards_before, inner_guard, guard_of_number, guards_from, IsNumber, AreNumbers, guard_entry, guard_table, IsGuardEntry}
 use Rattle.ifr_scopes.specs.declared.index.GuardEntry.{GuardEntry}
 use Rattle.ifr_scopes.proofs.IndexLemmas.{nodes_rise}
-use Rattle.ifr_scopes.proofs.InnermostLemmas.{last_or-push}
+use Rattle.ifr_nodes.proofs.InnermostLemmas.{last_or-push}
 use Rattle.ifr_scopes.proofs.PathLemmas.{kept}
-use Rattle.ifr_scopes.proofs.ScopeLemmas.{ancestor_node}
-use Rattle.ifr_scopes.proofs.PlaceLemmas.{is_found}
-use Rattle.ifr_scopes.proofs.ViewLemmas.{contains_found, is_at, node_in_place}
+use Rattle.ifr_nodes.proofs.ScopeLemmas.{ancestor_node}
+use Rattle.ifr_nodes.proofs.PlaceLemmas.{is_found}
+use Rattle.ifr_nodes.proofs.ViewLemmas.{contains_found, is_at, node_in_place}
 
 abbrev place_of : Node → ℕ
 place_of n = n.place

@@ -9,22 +9,22 @@ use Rattle.ifr_opcodes.specs.Forest.{none, Ancestor, Node, as_ancestor, below}
 use Rattle.ifr_opcodes.specs.Reading.{tree_of}
 use Rattle.ifr_opcodes.proofs.ForestLemmas.{takes}
 use Rattle.ifr_opcodes.proofs.TableLemmas.{numbers}
-use Rattle.ifr_scopes.specs.Checked.{IsChecked}
-use Rattle.ifr_scopes.specs.Guards.{is_guard}
-use Rattle.ifr_scopes.specs.Nodes.{nodes_of, end_of, is_question, is_statement, is_option}
-use Rattle.ifr_scopes.specs.Structure.{is_root, is_wanted}
-use Rattle.ifr_scopes.specs.Table.{row, class_of, guarded, class_around, admits}
-use Rattle.ifr_scopes.specs.declared.table.Class.{Class}
-use Rattle.ifr_scopes.specs.declared.table.Class.TheVariants.{OfFormSet, OfForm, OfText, OfQuestion, OfChoice, OfOptions, OfOption, OfExpression, OfNothing}
-use Rattle.ifr_scopes.proofs.BehindLemmas.{are_inside, below_or_behind}
-use Rattle.ifr_scopes.proofs.ClassLemmas.{class-guard, class-other}
+use Rattle.ifr_nodes.specs.Checked.{IsChecked}
+use Rattle.ifr_nodes.specs.Guards.{is_guard}
+use Rattle.ifr_nodes.specs.Nodes.{nodes_of, end_of, is_question, is_statement, is_option}
+use Rattle.ifr_nodes.specs.Structure.{is_root, is_wanted}
+use Rattle.ifr_nodes.specs.Table.{row, class_of, guarded, class_around, admits}
+use Rattle.ifr_nodes.specs.declared.table.Class.{Class}
+use Rattle.ifr_nodes.specs.declared.table.Class.TheVariants.{OfFormSet, OfForm, OfText, OfQuestion, OfChoice, OfOptions, OfOption, OfExpression, OfNothing}
+use Rattle.ifr_nodes.proofs.BehindLemmas.{are_inside, below_or_behind}
+use Rattle.ifr_nodes.proofs.ClassLemmas.{class-guard, class-other}
 use Rattle.ifr_scopes.proofs.InsideLemmas.{inside_node}
-use Rattle.ifr_scopes.proofs.PlaceLemmas.{node_stands}
+use Rattle.ifr_nodes.proofs.PlaceLemmas.{node_stands}
 use Rattle.ifr_scopes.proofs.QuestionFacts.{no_statement_inside}
-use Rattle.ifr_scopes.proofs.RuleFacts.{held, no_root, not_wanted, one_place}
-use Rattle.ifr_scopes.proofs.ScopeLemmas.{path_inside}
-use Rattle.ifr_scopes.proofs.TableLemmas.{class_fact}
-use Rattle.ifr_scopes.proofs.ViewLemmas.{below_within}
+use Rattle.ifr_nodes.proofs.RuleFacts.{held, no_root, not_wanted, one_place}
+use Rattle.ifr_nodes.proofs.ScopeLemmas.{path_inside}
+use Rattle.ifr_nodes.proofs.TableLemmas.{class_fact}
+use Rattle.ifr_nodes.proofs.ViewLemmas.{below_within}
 
 -- ---- the scopes in which one may stand
 

@@ -12,10 +12,10 @@ use Rattle.ifr_opcodes.specs.Opcode.{number, has_scope}
 use Rattle.ifr_opcodes.specs.Forest.{Node, as_ancestor, below}
 use Rattle.ifr_opcodes.specs.Reading.{tree_of}
 use Rattle.ifr_opcodes.proofs.StatementLemmas.{question_is_statement}
-use Rattle.ifr_scopes.specs.Checked.{IsChecked}
-use Rattle.ifr_scopes.specs.code.Checked.{IsNodeOf, node_in}
+use Rattle.ifr_nodes.specs.Checked.{IsChecked}
+use Rattle.ifr_nodes.specs.code.Checked.{IsNodeOf, node_in}
 use Rattle.ifr_scopes.specs.code.Index.{is_indexed}
-use Rattle.ifr_scopes.specs.Nodes.{nodes_of, is_form, is_question, is_statement, is_option, options}
+use Rattle.ifr_nodes.specs.Nodes.{nodes_of, is_form, is_question, is_statement, is_option, options}
 use Rattle.ifr_scopes.specs.code.Tables.{IsEntry, AreEntries, kept_entry, entry_table}
 use Rattle.ifr_scopes.specs.declared.index.Entry.{Entry}
 use Rattle.ifr_scopes.proofs.BehindPlaceLemmas.{apart, rise_rest, entries_behind, front, HasBefore, past, none_before}
@@ -26,8 +26,8 @@ use Rattle.ifr_scopes.proofs.OptionFacts.{option_question, not_below, behind_que
 use Rattle.ifr_scopes.proofs.KindLemmas.{all_are_entries}
 use Rattle.ifr_scopes.proofs.PathLemmas.{kept}
 use Rattle.ifr_scopes.proofs.QuestionFacts.{no_form_inside, no_statement_inside}
-use Rattle.ifr_scopes.proofs.ScopeLemmas.{path_inside}
-use Rattle.ifr_scopes.proofs.ViewLemmas.{further, below_within, contains_found}
+use Rattle.ifr_nodes.proofs.ScopeLemmas.{path_inside}
+use Rattle.ifr_nodes.proofs.ViewLemmas.{further, below_within, contains_found}
 
 -- the nodes of the options that come first
 abbrev pub first_options : List ℕ → List Entry → List Node

@@ -3,9 +3,9 @@ use Rattle.std.proofs.Common.{◌≡◌, ◌≤◌, ℕ, Option, Some, None, Lis
 use Rattle.std.specs.Prelude.{Contains, option_and_then, option_map}
 use Rattle.ifr_opcodes.specs.Forest.{Node, SpellsForest}
 use Rattle.ifr_opcodes.specs.Reading.{tree_of}
-use Rattle.ifr_scopes.specs.Guards.{guards}
-use Rattle.ifr_scopes.specs.Nodes.{nodes_of}
-use Rattle.ifr_scopes.specs.code.Checked.{node_in}
+use Rattle.ifr_nodes.specs.Guards.{guards}
+use Rattle.ifr_nodes.specs.Nodes.{nodes_of}
+use Rattle.ifr_nodes.specs.code.Checked.{node_in}
 use Rattle.ifr_scopes.specs.code.Index.{is_indexed, indexed_at, entry_of, or_none, guards_of_indexed}
 use Rattle.ifr_scopes.specs.code.Tables.{inner_guard, guards_from, IsNumber, innermost_at, kept_entry, IsConditionEntry}
 use Rattle.ifr_scopes.specs.declared.index.Entry.{Entry}

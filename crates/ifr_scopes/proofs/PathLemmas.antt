@@ -7,16 +7,16 @@ use Rattle.std.proofs.lemmas.List.Elements.{All-from_recursion, Contains-get_or}
 use Rattle.ifr_opcodes.specs.Opcode.{number}
 use Rattle.ifr_opcodes.specs.Forest.{flat, Ancestor, Node, as_ancestor, below, SpellsForest}
 use Rattle.ifr_opcodes.specs.Reading.{tree_of}
-use Rattle.ifr_scopes.specs.Guards.{is_guard, node_within, nodes_on, guards, guards_among}
+use Rattle.ifr_nodes.specs.Guards.{is_guard, node_within, nodes_on, guards, guards_among}
 use Rattle.ifr_scopes.specs.code.Index.{is_indexed, kind_at, indexed_at, entry_of, or_none, guards_of_indexed, lock_of_indexed}
-use Rattle.ifr_scopes.specs.code.Kept.{IsKept, AreKept, kept_guard, kept_guards}
-use Rattle.ifr_scopes.specs.Locks.{first_lock}
-use Rattle.ifr_scopes.specs.Nodes.{nodes_of, is_statement, statements, this_of}
-use Rattle.ifr_scopes.specs.code.Checked.{IsNodeOf, AreNodesOf, node_in}
-use Rattle.ifr_scopes.specs.declared.guard_place.GuardPlace.{GuardPlace}
-use Rattle.ifr_scopes.proofs.ScopeLemmas.{IsScopeOf, Nest, path_nests}
-use Rattle.ifr_scopes.proofs.ViewLemmas.{is_at, node_in_place, further, below_within, contains_found}
-use Rattle.ifr_scopes.proofs.PlaceLemmas.{Within, above, is_found, nodes_within}
+use Rattle.ifr_nodes.specs.code.Kept.{IsKept, AreKept, kept_guard, kept_guards}
+use Rattle.ifr_nodes.specs.Locks.{first_lock}
+use Rattle.ifr_nodes.specs.Nodes.{nodes_of, is_statement, statements, this_of}
+use Rattle.ifr_nodes.specs.code.Checked.{IsNodeOf, AreNodesOf, node_in}
+use Rattle.ifr_nodes.specs.declared.guard_place.GuardPlace.{GuardPlace}
+use Rattle.ifr_nodes.proofs.ScopeLemmas.{IsScopeOf, Nest, path_nests}
+use Rattle.ifr_nodes.proofs.ViewLemmas.{is_at, node_in_place, further, below_within, contains_found}
+use Rattle.ifr_nodes.proofs.PlaceLemmas.{Within, above, is_found, nodes_within}
 
 -- one of these nodes, from what it is around others
 node_of_scope : (ns : List Node) (around : List Ancestor) (a : Ancestor) → IsScopeOf ns around a → Contains ns (node_within around a)

@@ -6,14 +6,14 @@ use Rattle.ifr_opcodes.specs.declared.codes.TheConstants.{FORM}
 use Rattle.ifr_opcodes.specs.Opcode.{number}
 use Rattle.ifr_opcodes.specs.Rows.{is_question_number}
 use Rattle.ifr_opcodes.specs.Forest.{Ancestor, Node, as_ancestor}
-use Rattle.ifr_scopes.specs.Checked.{IsChecked}
-use Rattle.ifr_scopes.specs.Guards.{is_guard}
-use Rattle.ifr_scopes.specs.Nodes.{nodes_of, is_form, is_question, is_statement}
-use Rattle.ifr_scopes.specs.Structure.{parent, is_condition, begins_with_value, is_wanted, is_root}
-use Rattle.ifr_scopes.specs.Table.{class_around}
-use Rattle.ifr_scopes.proofs.ClassLemmas.{class-guard, class-other}
-use Rattle.ifr_scopes.proofs.RuleFacts.{split_last, around_it, is_operator_there, is_value_there, held}
-use Rattle.ifr_scopes.proofs.TableLemmas.{is_inner, is_outer, inner_is_not_outer, guarded_inner, other_is_inner, question_is_inner, no_statement, operator_is_inner, value_is_inner, no_guard}
+use Rattle.ifr_nodes.specs.Checked.{IsChecked}
+use Rattle.ifr_nodes.specs.Guards.{is_guard}
+use Rattle.ifr_nodes.specs.Nodes.{nodes_of, is_form, is_question, is_statement}
+use Rattle.ifr_nodes.specs.Structure.{parent, is_condition, begins_with_value, is_wanted, is_root}
+use Rattle.ifr_nodes.specs.Table.{class_around}
+use Rattle.ifr_nodes.proofs.ClassLemmas.{class-guard, class-other}
+use Rattle.ifr_nodes.proofs.RuleFacts.{split_last, around_it, is_operator_there, is_value_there, held}
+use Rattle.ifr_nodes.proofs.TableLemmas.{is_inner, is_outer, inner_is_not_outer, guarded_inner, other_is_inner, question_is_inner, no_statement, operator_is_inner, value_is_inner, no_guard}
 use Rattle.ifr_opcodes.proofs.StatementLemmas.{question_is_statement}
 
 -- what begins a scope is no statement, nor does one stand in its own

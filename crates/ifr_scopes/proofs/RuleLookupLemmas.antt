@@ -7,17 +7,17 @@ use Rattle.ifr_opcodes.specs.Forest.{Node}
 use Rattle.ifr_opcodes.specs.Reading.{tree_of}
 use Rattle.ifr_expr.specs.Meaning.{names}
 use Rattle.ifr_expr.specs.code.Rules.{named}
-use Rattle.ifr_scopes.specs.Checked.{IsChecked}
-use Rattle.ifr_scopes.specs.code.Checked.{node_in, has_node}
-use Rattle.ifr_scopes.specs.code.KeptRules.{kept_rule, kept_named}
-use Rattle.ifr_scopes.specs.Nodes.{nodes_of, end_of}
-use Rattle.ifr_scopes.specs.Rules.{is_rule, as_rule, rule_nodes}
-use Rattle.ifr_scopes.specs.declared.rules.KeptRule.{KeptRule}
+use Rattle.ifr_nodes.specs.Checked.{IsChecked}
+use Rattle.ifr_nodes.specs.code.Checked.{node_in, has_node}
+use Rattle.ifr_nodes.specs.code.KeptRules.{kept_rule, kept_named}
+use Rattle.ifr_nodes.specs.Nodes.{nodes_of, end_of}
+use Rattle.ifr_nodes.specs.Rules.{is_rule, as_rule, rule_nodes}
+use Rattle.ifr_nodes.specs.declared.rules.KeptRule.{KeptRule}
 use Rattle.ifr_scopes.proofs.FormPlaceLemmas.{found}
-use Rattle.ifr_scopes.proofs.NamedLemmas.{is_named}
-use Rattle.ifr_scopes.proofs.PlaceLemmas.{is_found}
-use Rattle.ifr_scopes.proofs.RuleOrderLemmas.{rule_there}
-use Rattle.ifr_scopes.proofs.ViewLemmas.{further, node_in_place}
+use Rattle.ifr_nodes.proofs.NamedLemmas.{is_named}
+use Rattle.ifr_nodes.proofs.PlaceLemmas.{is_found}
+use Rattle.ifr_nodes.proofs.RuleOrderLemmas.{rule_there}
+use Rattle.ifr_nodes.proofs.ViewLemmas.{further, node_in_place}
 
 -- the node of the rule that a reference names
 abbrev pub named_node : List Node → ℕ → ℕ → Option Node

@@ -10,14 +10,14 @@ use Rattle.ifr_expr.specs.code.Rules.{AreOrdered}
 use Rattle.ifr_expr.specs.Reading.{over, trees_of, first_tree, tree_of_opcodes}
 use Rattle.ifr_expr.specs.Trees.{Tree, post, siblings, expression}
 use Rattle.ifr_expr.specs.Trees as trees
-use Rattle.ifr_scopes.specs.Checked.{IsChecked}
-use Rattle.ifr_scopes.specs.Nodes.{nodes_of, end_of}
-use Rattle.ifr_scopes.specs.Rules.{is_rule, as_rule, rule_nodes, expression_place, form_end}
-use Rattle.ifr_scopes.specs.code.Rules.{rules_of}
-use Rattle.ifr_scopes.specs.code.RuleNodes.{Descend}
-use Rattle.ifr_scopes.proofs.RuleExpressionLemmas.{holds}
-use Rattle.ifr_scopes.proofs.RuleOrderLemmas.{descend_of, rule_there}
-use Rattle.ifr_scopes.proofs.ViewLemmas.{further}
+use Rattle.ifr_nodes.specs.Checked.{IsChecked}
+use Rattle.ifr_nodes.specs.Nodes.{nodes_of, end_of}
+use Rattle.ifr_nodes.specs.Rules.{is_rule, as_rule, rule_nodes, expression_place, form_end}
+use Rattle.ifr_nodes.specs.code.Rules.{rules_of}
+use Rattle.ifr_nodes.specs.code.RuleNodes.{Descend}
+use Rattle.ifr_nodes.proofs.RuleExpressionLemmas.{holds}
+use Rattle.ifr_nodes.proofs.RuleOrderLemmas.{descend_of, rule_there}
+use Rattle.ifr_nodes.proofs.ViewLemmas.{further}
 
 -- ---- places in an expression
 

@@ -8,20 +8,20 @@ use Rattle.ifr_opcodes.specs.Fields.{question_id}
 use Rattle.ifr_opcodes.specs.Opcode.{number}
 use Rattle.ifr_opcodes.specs.Forest.{Ancestor, Node as Placed, as_ancestor, below}
 use Rattle.ifr_opcodes.specs.Reading.{tree_of}
-use Rattle.ifr_scopes.specs.Checked.{IsChecked}
-use Rattle.ifr_scopes.specs.code.Checked.{IsNodeOf}
+use Rattle.ifr_nodes.specs.Checked.{IsChecked}
+use Rattle.ifr_nodes.specs.code.Checked.{IsNodeOf}
 use Rattle.ifr_opcodes.specs.Rows.{is_question_number}
-use Rattle.ifr_scopes.specs.Nodes.{nodes_of, is_question, of_question, questions_among, id_or_0, this_of}
-use Rattle.ifr_scopes.specs.code.PartsLeft.{HaveThis}
-use Rattle.ifr_scopes.specs.code.Views.{node_of}
-use Rattle.ifr_scopes.specs.declared.node.Node.{Node}
+use Rattle.ifr_nodes.specs.Nodes.{nodes_of, is_question, of_question, questions_among, id_or_0, this_of}
+use Rattle.ifr_nodes.specs.code.PartsLeft.{HaveThis}
+use Rattle.ifr_nodes.specs.code.Views.{node_of}
+use Rattle.ifr_nodes.specs.declared.node.Node.{Node}
 use Rattle.ifr_scopes.proofs.PathLemmas.{kept}
-use Rattle.ifr_scopes.proofs.PlaceLemmas.{is_found}
+use Rattle.ifr_nodes.proofs.PlaceLemmas.{is_found}
 use Rattle.ifr_scopes.proofs.QuestionFacts.{no_statement_inside}
-use Rattle.ifr_scopes.proofs.InnermostLemmas.{last_or-push}
-use Rattle.ifr_scopes.proofs.ScopeLemmas.{ancestor_node, path_inside}
+use Rattle.ifr_nodes.proofs.InnermostLemmas.{last_or-push}
+use Rattle.ifr_nodes.proofs.ScopeLemmas.{ancestor_node, path_inside}
 use Rattle.ifr_opcodes.proofs.StatementLemmas.{question_is_statement}
-use Rattle.ifr_scopes.proofs.ViewLemmas.{below_within, contains_found}
+use Rattle.ifr_nodes.proofs.ViewLemmas.{below_within, contains_found}
 
 -- no question among what stands between a question and a node in its scope
 silent : (bytes : List ℕ) (q n : Placed) (before after : List Ancestor) → IsChecked bytes → IsNodeOf bytes n → is_question q ≡ true

@@ -1,13 +1,2 @@
-pub mod Framing
-pub mod Guards
 pub mod Stores
-pub mod Nodes
-pub mod Table
-pub mod Structure
-pub mod Locks
-pub mod Conditions
-pub mod References
-pub mod Checked
-pub mod Rules
-pub mod Accepted
 pub mod code

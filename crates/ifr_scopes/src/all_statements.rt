@@ -1,12 +1,12 @@
 //! All statements of a package.
 
-ghost use Rattle.ifr_scopes.specs.Checked.{IsChecked};
-ghost use Rattle.ifr_scopes.specs.code.Checked.{IsChecked-prop};
+ghost use Rattle.ifr_nodes.specs.Checked.{IsChecked};
+ghost use Rattle.ifr_nodes.specs.code.Checked.{IsChecked-prop};
 ghost use Rattle.ifr_scopes.specs.code.Tables.{AreEntries, AreEntries-prop};
 
 use crate::index::Entry;
-use crate::places::node_at;
 use crate::statement::Statement;
+use ifr_nodes::node_at;
 use ifr_opcodes::is_statement;
 
 /// The statements that are left of all of a package, by place, found in the index.

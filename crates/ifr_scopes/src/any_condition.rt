@@ -3,8 +3,8 @@
 ghost use Rattle.std.specs.Prelude.{◌≡◌};
 ghost use Rattle.ifr_expr.specs.code.Expressions.{tree_of};
 ghost use Rattle.ifr_scopes.specs.code.AnyConditions.{any_condition_node};
-ghost use Rattle.ifr_scopes.specs.Conditions.{expression_tree};
-ghost use Rattle.ifr_scopes.specs.Nodes.{this_of};
+ghost use Rattle.ifr_nodes.specs.NodeExpressions.{expression_tree};
+ghost use Rattle.ifr_nodes.specs.Nodes.{this_of};
 
 use crate::condition_view::ConditionView;
 use crate::guard::Guard;

@@ -7,7 +7,7 @@ ghost use Rattle.ifr_scopes.specs.code.Locked.{IsLockedPlace, IsLockedPlace-prop
 use crate::guards_outward::GuardsOutward;
 use crate::index::Entry;
 use crate::locks::LockView;
-use crate::places::node_at;
+use ifr_nodes::node_at;
 
 /// What stands around a form, a statement or an option: its guards, and the LOCKED that decides for it.
 #[derive(Clone, Copy)]

@@ -3,19 +3,17 @@
 ghost use Rattle.std.specs.Prelude.{◌≡◌, true, Some};
 ghost use Rattle.ifr_opcodes.specs.Opcode.{number as opcode_number};
 ghost use Rattle.ifr_opcodes.specs.Rows.{is_condition_number};
-ghost use Rattle.ifr_scopes.specs.Nodes.{nodes_of, of_question, this_of};
-ghost use Rattle.ifr_scopes.specs.Checked.{IsChecked};
-ghost use Rattle.ifr_scopes.specs.code.Checked.{node_in};
-ghost use Rattle.ifr_scopes.specs.code.Ends.{expression_end};
-ghost use Rattle.ifr_scopes.specs.code.PartsLeft.{parts_left, HaveThis, HaveThis-prop};
+ghost use Rattle.ifr_nodes.specs.Nodes.{nodes_of, of_question, this_of};
+ghost use Rattle.ifr_nodes.specs.Checked.{IsChecked};
+ghost use Rattle.ifr_nodes.specs.code.Checked.{node_in};
+ghost use Rattle.ifr_nodes.specs.code.Ends.{expression_end};
+ghost use Rattle.ifr_nodes.specs.code.PartsLeft.{parts_left, HaveThis, HaveThis-prop};
 ghost use Rattle.ifr_scopes.specs.code.Tables.{AreConditionsBefore, AreConditionsBefore-prop, IsConditionEntry};
-ghost use Rattle.ifr_scopes.specs.code.Views.{node_of};
+ghost use Rattle.ifr_nodes.specs.code.Views.{node_of};
 
 use crate::index::ConditionEntry;
-use crate::node::Node;
-use crate::nodes_of::NodesOf;
-use crate::places::node_at;
 use ifr_expr::Expr;
+use ifr_nodes::{Node, NodesOf, node_at};
 use ifr_opcodes::{
     INCONSISTENT_IF, InconsistentIfOp, NO_SUBMIT_IF, NoSubmitIfOp, Op, WARNING_IF, WarningIfOp,
 };
@@ -35,7 +33,7 @@ impl<'a> ConditionOp<'a> {
     ghost use Rattle.std.specs.Prelude.{◌≤◌, length};
     ghost use Rattle.ifr_opcodes.specs.code.Tables.{least_length};
     ghost use Rattle.ifr_opcodes.specs.code.Ops.{bytes_of};
-    ghost use Rattle.ifr_scopes.specs.Conditions.{message};
+    ghost use Rattle.ifr_nodes.specs.NodeExpressions.{message};
     ghost use Rattle.ifr_opcodes.specs.Rows.{is_among};
     ghost use Rattle.ifr_scopes.specs.code.Parts.{condition_numbers, condition_op};
 
@@ -84,7 +82,7 @@ pub struct ConditionView<'a> {
 impl<'a> ConditionView<'a> {
     ghost use Rattle.ifr_opcodes.specs.code.Ops.{bytes_of};
     ghost use Rattle.ifr_expr.specs.code.Expressions.{tree_of};
-    ghost use Rattle.ifr_scopes.specs.Conditions.{expression_tree};
+    ghost use Rattle.ifr_nodes.specs.NodeExpressions.{expression_tree};
     ghost use Rattle.ifr_scopes.specs.code.Parts.{condition_node, condition_op, condition_package};
 
     /// A condition of an index.

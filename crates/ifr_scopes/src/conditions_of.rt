@@ -1,7 +1,7 @@
 //! The conditions of one question, found in the index.
 
-ghost use Rattle.ifr_scopes.specs.Checked.{IsChecked};
-ghost use Rattle.ifr_scopes.specs.code.Checked.{IsChecked-prop};
+ghost use Rattle.ifr_nodes.specs.Checked.{IsChecked};
+ghost use Rattle.ifr_nodes.specs.code.Checked.{IsChecked-prop};
 ghost use Rattle.ifr_scopes.specs.code.Tables.{AreConditionEntries, AreConditionEntries-prop};
 
 use crate::condition_view::ConditionView;

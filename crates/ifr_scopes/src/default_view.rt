@@ -2,14 +2,11 @@
 
 ghost use Rattle.std.specs.Prelude.{◌≡◌, true, option_map};
 ghost use Rattle.ifr_opcodes.specs.declared.codes.TheConstants.{DEFAULT};
-ghost use Rattle.ifr_scopes.specs.Nodes.{is_default};
-ghost use Rattle.ifr_scopes.specs.code.Views.{node_of};
+ghost use Rattle.ifr_nodes.specs.Nodes.{is_default};
+ghost use Rattle.ifr_nodes.specs.code.Views.{node_of};
 
-use crate::node::Node;
-use crate::nodes_of::NodesOf;
-use crate::places::node_at;
-use crate::table::wants_value;
 use ifr_expr::Expr;
+use ifr_nodes::{Node, NodesOf, node_at, wants_value};
 use ifr_opcodes::DefaultOp;
 
 /// A default of a question (UEFI 2.8, 33.3.8.3, EFI_IFR_DEFAULT).
@@ -22,7 +19,7 @@ pub struct DefaultView<'a> {
 impl<'a> DefaultView<'a> {
     ghost use Rattle.ifr_opcodes.specs.code.Ops.{bytes_of};
     ghost use Rattle.ifr_expr.specs.code.Expressions.{tree_of};
-    ghost use Rattle.ifr_scopes.specs.Conditions.{value_tree};
+    ghost use Rattle.ifr_nodes.specs.NodeExpressions.{value_tree};
     ghost use Rattle.ifr_scopes.specs.code.Parts.{default_node};
 
     /// The place of the default, in bytes from the package's header.

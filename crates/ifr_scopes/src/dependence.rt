@@ -2,7 +2,7 @@
 
 ghost use Rattle.std.specs.Prelude.{reverse};
 ghost use Rattle.ifr_scopes.specs.code.Frames.{HaveRoom, HaveRoom-prop};
-ghost use Rattle.ifr_scopes.specs.code.Rules.{rules_of};
+ghost use Rattle.ifr_nodes.specs.code.Rules.{rules_of};
 
 use crate::forms::Forms;
 use arrayvec::ArrayVec;

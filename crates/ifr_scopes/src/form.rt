@@ -1,13 +1,12 @@
 //! Forms.
 
 ghost use Rattle.std.specs.Prelude.{◌≡◌, true};
-ghost use Rattle.ifr_scopes.specs.Nodes.{is_form};
-ghost use Rattle.ifr_scopes.specs.code.Views.{node_of};
+ghost use Rattle.ifr_nodes.specs.Nodes.{is_form};
+ghost use Rattle.ifr_nodes.specs.code.Views.{node_of};
 
 use crate::guards_of::GuardsOf;
-use crate::node::Node;
-use crate::nodes::Nodes;
 use crate::statement::Statements;
+use ifr_nodes::{Node, Nodes};
 use ifr_opcodes::FormOp;
 
 /// A form (UEFI 2.8, 33.2.5.2 Forms).
@@ -19,8 +18,8 @@ pub struct Form<'a> {
 
 impl<'a> Form<'a> {
     ghost use Rattle.ifr_opcodes.specs.code.Ops.{bytes_of};
-    ghost use Rattle.ifr_scopes.specs.Nodes.{statements};
-    ghost use Rattle.ifr_scopes.specs.Guards.{guards};
+    ghost use Rattle.ifr_nodes.specs.Nodes.{statements};
+    ghost use Rattle.ifr_nodes.specs.Guards.{guards};
     ghost use Rattle.ifr_scopes.specs.code.Lists.{guards_of_left, form_node, form_package, statements_left};
 
     /// The place of the form, in bytes from the package's header.

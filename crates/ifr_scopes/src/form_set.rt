@@ -1,10 +1,10 @@
 //! The form set of a package.
 
 ghost use Rattle.std.specs.Prelude.{◌≡◌, true};
-ghost use Rattle.ifr_scopes.specs.Nodes.{is_form_set};
-ghost use Rattle.ifr_scopes.specs.code.Views.{node_of};
+ghost use Rattle.ifr_nodes.specs.Nodes.{is_form_set};
+ghost use Rattle.ifr_nodes.specs.code.Views.{node_of};
 
-use crate::node::Node;
+use ifr_nodes::Node;
 use ifr_opcodes::FormSetOp;
 
 /// The form set of a package (UEFI 2.8, 33.2.5.1 Form Sets).

@@ -7,25 +7,25 @@ ghost use Rattle.ifr_opcodes.specs.Forest.{Node as Placed};
 ghost use Rattle.ifr_opcodes.specs.Opcode.{number, has_scope};
 ghost use Rattle.ifr_expr.specs.Meaning.{names};
 ghost use Rattle.ifr_expr.specs.code.Rules.{AreOrdered};
-ghost use Rattle.ifr_scopes.specs.Accepted.{IsAccepted, IsPackageFault};
+ghost use Rattle.ifr_nodes.specs.Accepted.{IsAccepted, IsPackageFault};
 ghost use Rattle.ifr_scopes.specs.code.AllConditionsLeft.{all_conditions_left};
 ghost use Rattle.ifr_scopes.specs.code.AnyConditions.{any_condition_node};
-ghost use Rattle.ifr_scopes.specs.code.Checked.{IsNodeOf, has_form};
+ghost use Rattle.ifr_nodes.specs.code.Checked.{IsNodeOf, has_form};
 ghost use Rattle.ifr_scopes.specs.code.ConditionsLeft.{conditions_of_left};
-ghost use Rattle.ifr_scopes.specs.Guards.{is_guard};
+ghost use Rattle.ifr_nodes.specs.Guards.{is_guard};
 ghost use Rattle.ifr_scopes.specs.code.Index.{conditional_at, guards_of_indexed, indexed_at, lock_of_indexed};
 ghost use Rattle.ifr_scopes.specs.code.Lists.{form_node, form_set_node, rule_node, stores_left, all_guards_left, forms_left, rules_left, all_statements_left, statement_node, guards_left};
 ghost use Rattle.ifr_scopes.specs.code.AroundViews.{around_guards, around_lock, around_package};
 ghost use Rattle.ifr_opcodes.specs.Rows.{is_condition_number};
-ghost use Rattle.ifr_scopes.specs.Nodes.{nodes_of, is_form, is_store, is_statement, is_no_submit, of_question, options, statements};
+ghost use Rattle.ifr_nodes.specs.Nodes.{nodes_of, is_form, is_store, is_statement, is_no_submit, of_question, options, statements};
 ghost use Rattle.ifr_scopes.specs.code.NoSubmitsLeft.{no_submits_left};
 ghost use Rattle.ifr_scopes.specs.code.OptionsLeft.{options_of_left};
 ghost use Rattle.ifr_scopes.specs.code.StatementsLeft.{statements_of_left};
-ghost use Rattle.ifr_scopes.specs.References.{form_with};
-ghost use Rattle.ifr_scopes.specs.Rules.{is_rule, as_rule, rule_nodes};
-ghost use Rattle.ifr_scopes.specs.code.Rules.{rules_of};
+ghost use Rattle.ifr_nodes.specs.ReferenceFaults.{form_with};
+ghost use Rattle.ifr_nodes.specs.Rules.{is_rule, as_rule, rule_nodes};
+ghost use Rattle.ifr_nodes.specs.code.Rules.{rules_of};
 ghost use Rattle.ifr_scopes.specs.code.Tables.{kept_entry, condition_table, entry_table};
-ghost use Rattle.ifr_scopes.specs.code.Views.{node_of};
+ghost use Rattle.ifr_nodes.specs.code.Views.{node_of};
 
 use crate::all_conditions::AllConditions;
 use crate::all_statements::AllStatements;
@@ -35,7 +35,6 @@ use crate::condition_view::ConditionView;
 use crate::conditions_of::ConditionsOf;
 use crate::form::{Form, FormViews};
 use crate::form_set::FormSet;
-use crate::framing::check_framing;
 use crate::guard::{Guard, GuardViews};
 use crate::guards_at::GuardsAt;
 use crate::guards_outward::GuardsOutward;
@@ -45,20 +44,18 @@ use crate::index::{
 };
 use crate::indexing::index_of;
 use crate::no_submits::NoSubmits;
-use crate::node::Node;
-use crate::nodes::Nodes;
 use crate::options_of::OptionsOf;
-use crate::places::node_at;
-use crate::references::check_references;
 use crate::rule::{RuleView, RuleViews};
-use crate::rules::{RuleTable, expression_of};
 use crate::statement::Statement;
 use crate::statements_of::StatementsOf;
-use crate::structure::check_structure;
 use crate::varstore::Varstores;
 use hii_bytes::Fault;
 use hii_packages::Package;
 use ifr_expr::{Expr, Rules};
+use ifr_nodes::{
+    Node, Nodes, RuleTable, check_framing, check_references, check_structure, expression_of,
+    node_at,
+};
 use std::alloc::Global;
 use std::marker::Model;
 

@@ -2,18 +2,17 @@
 
 ghost use Rattle.std.specs.Prelude.{◌≡◌, Some, None, true};
 ghost use Rattle.ifr_opcodes.specs.Opcode.{number as opcode_number};
-ghost use Rattle.ifr_scopes.specs.Guards.{is_guard};
-ghost use Rattle.ifr_scopes.specs.Nodes.{nodes_of, this_of};
-ghost use Rattle.ifr_scopes.specs.Checked.{IsChecked};
-ghost use Rattle.ifr_scopes.specs.code.Checked.{IsChecked-prop, has_guard, node_in};
-ghost use Rattle.ifr_scopes.specs.code.Ends.{expression_end};
+ghost use Rattle.ifr_nodes.specs.Guards.{is_guard};
+ghost use Rattle.ifr_nodes.specs.Nodes.{nodes_of, this_of};
+ghost use Rattle.ifr_nodes.specs.Checked.{IsChecked};
+ghost use Rattle.ifr_nodes.specs.code.Checked.{IsChecked-prop, has_guard, node_in};
+ghost use Rattle.ifr_nodes.specs.code.Ends.{expression_end};
 ghost use Rattle.ifr_scopes.specs.code.Tables.{AreBefore, AreBefore-prop, AreGuardEntries, AreGuardEntries-prop, IsGuardEntry, guards_before};
-ghost use Rattle.ifr_scopes.specs.code.Views.{node_of};
+ghost use Rattle.ifr_nodes.specs.code.Views.{node_of};
 
 use crate::index::GuardEntry;
-use crate::node::Node;
-use crate::places::node_at;
 use ifr_expr::Expr;
+use ifr_nodes::{Node, node_at};
 use ifr_opcodes::Op;
 
 /// A guard: a SUPPRESS_IF, GRAY_OUT_IF or DISABLE_IF (UEFI 2.8, 33.3.8.3, under the name of each). Its opcode is decoded only where
@@ -39,7 +38,7 @@ pub struct Guard<'a> {
 
 impl<'a> Guard<'a> {
     ghost use Rattle.ifr_opcodes.specs.code.Ops.{bytes_of};
-    ghost use Rattle.ifr_scopes.specs.Conditions.{expression_tree};
+    ghost use Rattle.ifr_nodes.specs.NodeExpressions.{expression_tree};
     ghost use Rattle.ifr_scopes.specs.code.Lists.{guard_node, guard_package};
     ghost use Rattle.ifr_expr.specs.code.Expressions.{tree_of};
 

@@ -1,9 +1,9 @@
 //! The guards at places, from the outermost inwards.
 
 ghost use Rattle.std.specs.Prelude.{◌≡◌, true, IfSome, is_some};
-ghost use Rattle.ifr_scopes.specs.Checked.{IsChecked};
-ghost use Rattle.ifr_scopes.specs.Nodes.{nodes_of};
-ghost use Rattle.ifr_scopes.specs.code.Checked.{IsChecked-prop};
+ghost use Rattle.ifr_nodes.specs.Checked.{IsChecked};
+ghost use Rattle.ifr_nodes.specs.Nodes.{nodes_of};
+ghost use Rattle.ifr_nodes.specs.code.Checked.{IsChecked-prop};
 ghost use Rattle.ifr_scopes.specs.code.Tables.{IsGuardTable, IsGuardTable-prop, AreNumbers, AreNumbers-prop};
 
 use crate::guard::Guard;

@@ -1,16 +1,14 @@
 //! The guards around one node, found by a walk.
 
 ghost use Rattle.std.specs.Prelude.{◌≡◌, true, IfSome};
-ghost use Rattle.ifr_scopes.specs.Checked.{IsChecked};
-ghost use Rattle.ifr_scopes.specs.code.Checked.{IsChecked-prop, has_node, node_in};
-ghost use Rattle.ifr_scopes.specs.Guards.{guards as guards_of_node};
-ghost use Rattle.ifr_scopes.specs.code.Kept.{AreKept, AreKept-prop, kept_guards};
+ghost use Rattle.ifr_nodes.specs.Checked.{IsChecked};
+ghost use Rattle.ifr_nodes.specs.code.Checked.{IsChecked-prop, has_node, node_in};
+ghost use Rattle.ifr_nodes.specs.Guards.{guards as guards_of_node};
+ghost use Rattle.ifr_nodes.specs.code.Kept.{AreKept, AreKept-prop, kept_guards};
 
 use crate::guard::Guard;
-use crate::guard_place::GuardPlace;
-use crate::places::node_at;
-use crate::scoped_nodes::ScopedNodes;
 use arrayvec::ArrayVec;
+use ifr_nodes::{GuardPlace, ScopedNodes, node_at};
 
 /// The guards of a form, a statement or an option that are left, the outermost first.
 #[derive(Drop)]

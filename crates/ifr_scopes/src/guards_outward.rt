@@ -1,9 +1,9 @@
 //! The guards at places, from the innermost outwards.
 
 ghost use Rattle.std.specs.Prelude.{◌≡◌, ◌≤◌, IfSome, length, reverse};
-ghost use Rattle.ifr_scopes.specs.Checked.{IsChecked};
-ghost use Rattle.ifr_scopes.specs.Nodes.{nodes_of};
-ghost use Rattle.ifr_scopes.specs.code.Checked.{IsChecked-prop};
+ghost use Rattle.ifr_nodes.specs.Checked.{IsChecked};
+ghost use Rattle.ifr_nodes.specs.Nodes.{nodes_of};
+ghost use Rattle.ifr_nodes.specs.code.Checked.{IsChecked-prop};
 ghost use Rattle.ifr_scopes.specs.code.Tables.{IsGuardTable, IsGuardTable-prop, IsNumber, IsNumber-prop, guards_from};
 
 use crate::guard::Guard;

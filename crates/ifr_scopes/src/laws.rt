@@ -5,18 +5,18 @@ ghost use Rattle.hii_bytes.specs.Faults.{HasNone};
 ghost use Rattle.hii_bytes.specs.declared.cause.Cause.{Cause};
 ghost use Rattle.ifr_opcodes.specs.Forest.{Forest, none, node, flat, AreNodes, SpellsForest, Ancestor, Node, as_ancestor, nodes, places};
 ghost use Rattle.ifr_opcodes.specs.Reading.{tree_of};
-ghost use Rattle.ifr_scopes.specs.Framing.{IsFramingFault};
-ghost use Rattle.ifr_scopes.specs.code.Checked.{AreNodesOf, IsNodeOf};
-ghost use Rattle.ifr_scopes.specs.Guards.{guards};
+ghost use Rattle.ifr_nodes.specs.Framing.{IsFramingFault};
+ghost use Rattle.ifr_nodes.specs.code.Checked.{AreNodesOf, IsNodeOf};
+ghost use Rattle.ifr_nodes.specs.Guards.{guards};
 ghost use Rattle.ifr_scopes.specs.code.Index.{is_indexed, guards_of_indexed, lock_of_indexed};
-ghost use Rattle.ifr_scopes.specs.Accepted.{IsAccepted};
+ghost use Rattle.ifr_nodes.specs.Accepted.{IsAccepted};
 ghost use Rattle.ifr_scopes.specs.code.Lists.{form_node, form_package, statement_node, statement_package};
-ghost use Rattle.ifr_scopes.specs.Locks.{first_lock};
-ghost use Rattle.ifr_scopes.specs.Nodes.{nodes_of, statements};
+ghost use Rattle.ifr_nodes.specs.Locks.{first_lock};
+ghost use Rattle.ifr_nodes.specs.Nodes.{nodes_of, statements};
 ghost use Rattle.ifr_scopes.specs.declared.form.Form.{Form};
 ghost use Rattle.ifr_scopes.specs.declared.statement.Statement.{Statement};
 
-use crate::framing::check_framing;
+use ifr_nodes::check_framing;
 
 /// A package spells one forest at most.
 pub fn one_forest_is_spelled()

@@ -1,25 +1,19 @@
-//! The nodes of a forms package: its framing, and walks over them (UEFI 2.8, 33.3.8 Forms Package; what is refused, and as what,
-//! what a LOCKED locks and how rules are found are own rules).
+//! A forms package that was read: its forms, statements, guards, conditions and rules, and what stands around each (UEFI 2.8, 33.3.8
+//! Forms Package; what a LOCKED locks and how rules are found are own rules).
 #![tactic(auto)]
 
 mod all_conditions;
 mod all_statements;
 mod any_condition;
 mod around;
-mod columns;
 mod condition_view;
 mod conditions_of;
 mod default_view;
 mod dependence;
-mod ends;
 mod form;
-mod form_end;
 mod form_set;
 mod forms;
-mod framing;
 mod guard;
-mod guard_place;
-mod guards;
 mod guards_at;
 mod guards_of;
 mod guards_outward;
@@ -28,22 +22,12 @@ mod indexing;
 pub mod laws;
 mod locks;
 mod no_submits;
-mod node;
-mod nodes;
-mod nodes_of;
 mod option_view;
 mod options_of;
-mod places;
-mod references;
 mod rule;
-mod rules;
-mod scoped_nodes;
 mod statement;
 mod statements_of;
-mod structure;
-mod table;
 mod varstore;
-mod walk;
 
 pub use all_conditions::AllConditions;
 pub use all_statements::AllStatements;

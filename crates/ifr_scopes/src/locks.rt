@@ -1,14 +1,13 @@
 //! The LOCKED of nodes, found by walks from the package's start.
 
 ghost use Rattle.std.specs.Prelude.{◌≡◌, true};
-ghost use Rattle.ifr_scopes.specs.Checked.{IsChecked};
-ghost use Rattle.ifr_scopes.specs.code.Checked.{IsChecked-prop, has_node, node_in};
-ghost use Rattle.ifr_scopes.specs.Locks.{is_locked, chain as chain_spec};
-ghost use Rattle.ifr_scopes.specs.code.Views.{node_of};
+ghost use Rattle.ifr_nodes.specs.Checked.{IsChecked};
+ghost use Rattle.ifr_nodes.specs.code.Checked.{IsChecked-prop, has_node, node_in};
+ghost use Rattle.ifr_nodes.specs.Locks.{is_locked, chain as chain_spec};
+ghost use Rattle.ifr_nodes.specs.code.Views.{node_of};
 
-use crate::node::Node;
-use crate::scoped_nodes::ScopedNodes;
 use arrayvec::ArrayVec;
+use ifr_nodes::{Node, ScopedNodes};
 use ifr_opcodes::{LOCKED, Op};
 
 /// A LOCKED (UEFI 2.8, 33.3.8.3, EFI_IFR_LOCKED). It locks the node in whose scope it stands, and all inside of it (own
@@ -53,10 +52,10 @@ pub struct Locks<'a> {
 
 impl<'a> Locks<'a> {
     ghost use Rattle.std.specs.Prelude.{◌∷◌, [], IfNone, IfSome, filter};
-    ghost use Rattle.ifr_scopes.specs.Locks.{locks, locks_scope};
+    ghost use Rattle.ifr_nodes.specs.Locks.{locks, locks_scope};
     ghost use Rattle.ifr_scopes.specs.code.LocksLeft.{lock_node, locks_left};
-    ghost use Rattle.ifr_scopes.specs.Nodes.{nodes_of};
-    ghost use Rattle.ifr_scopes.specs.code.Visits.{left};
+    ghost use Rattle.ifr_nodes.specs.Nodes.{nodes_of};
+    ghost use Rattle.ifr_nodes.specs.code.Visits.{left};
 
     /// The LOCKED of the node at a place of a checked package.
     pub(crate) fn around(ifr: &'a [u8], place: u32) -> Locks<'a>

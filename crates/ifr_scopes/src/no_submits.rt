@@ -1,9 +1,9 @@
 //! The conditions that deny a submission, of all questions.
 
 ghost use Rattle.std.specs.Prelude.{◌≡◌, reverse};
-ghost use Rattle.ifr_scopes.specs.Checked.{IsChecked};
-ghost use Rattle.ifr_scopes.specs.code.Checked.{IsChecked-prop, nodes_prop};
-ghost use Rattle.ifr_scopes.specs.Guards.{guards as guards_of_node};
+ghost use Rattle.ifr_nodes.specs.Checked.{IsChecked};
+ghost use Rattle.ifr_nodes.specs.code.Checked.{IsChecked-prop, nodes_prop};
+ghost use Rattle.ifr_nodes.specs.Guards.{guards as guards_of_node};
 ghost use Rattle.ifr_scopes.specs.code.Lists.{outward_left};
 ghost use Rattle.ifr_scopes.specs.code.Parts.{condition_node};
 ghost use Rattle.ifr_scopes.specs.code.Tables.{AreConditionEntries, AreConditionEntries-prop, IsGuardTable, IsGuardTable-prop};

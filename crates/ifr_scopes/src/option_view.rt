@@ -2,13 +2,12 @@
 
 ghost use Rattle.std.specs.Prelude.{◌≡◌, true};
 ghost use Rattle.ifr_opcodes.specs.declared.codes.TheConstants.{ONE_OF_OPTION};
-ghost use Rattle.ifr_scopes.specs.Nodes.{is_option};
-ghost use Rattle.ifr_scopes.specs.code.Views.{node_of};
+ghost use Rattle.ifr_nodes.specs.Nodes.{is_option};
+ghost use Rattle.ifr_nodes.specs.code.Views.{node_of};
 
 use crate::guards_of::GuardsOf;
 use crate::locks::Locks;
-use crate::node::Node;
-use crate::nodes_of::NodesOf;
+use ifr_nodes::{Node, NodesOf};
 use ifr_opcodes::OptionOp;
 
 /// An option of a question (UEFI 2.8, 33.3.8.3, EFI_IFR_ONE_OF_OPTION).
@@ -20,10 +19,10 @@ pub struct OptionView<'a> {
 
 impl<'a> OptionView<'a> {
     ghost use Rattle.ifr_opcodes.specs.code.Ops.{bytes_of};
-    ghost use Rattle.ifr_scopes.specs.Guards.{guards};
-    ghost use Rattle.ifr_scopes.specs.Locks.{locks};
+    ghost use Rattle.ifr_nodes.specs.Guards.{guards};
+    ghost use Rattle.ifr_nodes.specs.Locks.{locks};
     ghost use Rattle.ifr_scopes.specs.code.LocksLeft.{locks_left};
-    ghost use Rattle.ifr_scopes.specs.Nodes.{nodes_of};
+    ghost use Rattle.ifr_nodes.specs.Nodes.{nodes_of};
     ghost use Rattle.ifr_scopes.specs.code.Lists.{guards_of_left};
     ghost use Rattle.ifr_scopes.specs.code.Parts.{option_node, option_package};
 

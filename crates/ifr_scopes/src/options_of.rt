@@ -1,12 +1,12 @@
 //! The options of one question, found in the index.
 
-ghost use Rattle.ifr_scopes.specs.Checked.{IsChecked};
-ghost use Rattle.ifr_scopes.specs.code.Checked.{IsChecked-prop};
+ghost use Rattle.ifr_nodes.specs.Checked.{IsChecked};
+ghost use Rattle.ifr_nodes.specs.code.Checked.{IsChecked-prop};
 ghost use Rattle.ifr_scopes.specs.code.Tables.{AreEntries, AreEntries-prop};
 
 use crate::index::Entry;
 use crate::option_view::OptionView;
-use crate::places::node_at;
+use ifr_nodes::node_at;
 use ifr_opcodes::ONE_OF_OPTION;
 
 /// The options that are left of a question, by place.

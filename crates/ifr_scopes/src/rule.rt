@@ -1,16 +1,14 @@
 //! Rules.
 
 ghost use Rattle.std.specs.Prelude.{◌≡◌, true};
-ghost use Rattle.ifr_scopes.specs.Checked.{IsChecked};
-ghost use Rattle.ifr_scopes.specs.Rules.{is_rule};
-ghost use Rattle.ifr_scopes.specs.code.Checked.{IsChecked-prop};
+ghost use Rattle.ifr_nodes.specs.Checked.{IsChecked};
+ghost use Rattle.ifr_nodes.specs.Rules.{is_rule};
+ghost use Rattle.ifr_nodes.specs.code.Checked.{IsChecked-prop};
 ghost use Rattle.ifr_scopes.specs.code.Tables.{AreOfKind, AreOfKind-prop};
-ghost use Rattle.ifr_scopes.specs.code.Views.{node_of};
+ghost use Rattle.ifr_nodes.specs.code.Views.{node_of};
 
-use crate::node::Node;
-use crate::places::node_at;
-use crate::rules::expression_of;
 use ifr_expr::Expr;
+use ifr_nodes::{Node, expression_of, node_at};
 
 /// A rule (UEFI 2.8, 33.3.8.3, EFI_IFR_RULE).
 #[derive(Clone, Copy)]
@@ -21,7 +19,7 @@ pub struct RuleView<'a> {
 
 impl<'a> RuleView<'a> {
     ghost use Rattle.ifr_expr.specs.code.Expressions.{tree_of};
-    ghost use Rattle.ifr_scopes.specs.Rules.{as_rule};
+    ghost use Rattle.ifr_nodes.specs.Rules.{as_rule};
     ghost use Rattle.ifr_scopes.specs.code.Lists.{rule_node};
 
     /// The place of the rule, in bytes from the package's header.

@@ -3,20 +3,17 @@
 ghost use Rattle.std.specs.Prelude.{◌≡◌, true, Some, None, option_map, if◌then◌else◌};
 ghost use Rattle.ifr_opcodes.specs.code.Marks.{mark};
 ghost use Rattle.ifr_opcodes.specs.code.Ops.{op_of};
-ghost use Rattle.ifr_scopes.specs.Accepted.{IsAccepted};
-ghost use Rattle.ifr_scopes.specs.Nodes.{is_statement, is_question, options, defaults, inconsistents, no_submits, warnings};
-ghost use Rattle.ifr_scopes.specs.code.Checked.{has_statement, node_in};
-ghost use Rattle.ifr_scopes.specs.code.Views.{node_of};
+ghost use Rattle.ifr_nodes.specs.Accepted.{IsAccepted};
+ghost use Rattle.ifr_nodes.specs.Nodes.{is_statement, is_question, options, defaults, inconsistents, no_submits, warnings};
+ghost use Rattle.ifr_nodes.specs.code.Checked.{has_statement, node_in};
+ghost use Rattle.ifr_nodes.specs.code.Views.{node_of};
 
 use crate::condition_view::ConditionViews;
 use crate::default_view::Defaults;
 use crate::guards_of::GuardsOf;
 use crate::locks::Locks;
-use crate::node::Node;
-use crate::nodes::Nodes;
-use crate::nodes_of::NodesOf;
 use crate::option_view::Options;
-use crate::places::node_at;
+use ifr_nodes::{Node, Nodes, NodesOf, node_at};
 use ifr_opcodes::{
     ACTION, ActionOp, CHECKBOX, CheckboxOp, DATE, DEFAULT, DateOp, INCONSISTENT_IF, NO_SUBMIT_IF,
     NUMERIC, NumericOp, ONE_OF, ONE_OF_OPTION, ORDERED_LIST, OneOfOp, Op, OrderedListOp, PASSWORD,
@@ -98,10 +95,10 @@ pub struct Statement<'a> {
 
 impl<'a> Statement<'a> {
     ghost use Rattle.ifr_opcodes.specs.code.Ops.{bytes_of};
-    ghost use Rattle.ifr_scopes.specs.Guards.{guards};
-    ghost use Rattle.ifr_scopes.specs.Locks.{locks};
+    ghost use Rattle.ifr_nodes.specs.Guards.{guards};
+    ghost use Rattle.ifr_nodes.specs.Locks.{locks};
     ghost use Rattle.ifr_scopes.specs.code.LocksLeft.{locks_left};
-    ghost use Rattle.ifr_scopes.specs.Nodes.{nodes_of};
+    ghost use Rattle.ifr_nodes.specs.Nodes.{nodes_of};
     ghost use Rattle.ifr_scopes.specs.code.Lists.{guards_of_left, statement_node, statement_package, kind_op};
     ghost use Rattle.ifr_scopes.specs.code.Parts.{options_left, defaults_left, conditions_left};
 

@@ -1,12 +1,12 @@
 //! The statements of one form, found in the index.
 
-ghost use Rattle.ifr_scopes.specs.Checked.{IsChecked};
-ghost use Rattle.ifr_scopes.specs.code.Checked.{IsChecked-prop};
+ghost use Rattle.ifr_nodes.specs.Checked.{IsChecked};
+ghost use Rattle.ifr_nodes.specs.code.Checked.{IsChecked-prop};
 ghost use Rattle.ifr_scopes.specs.code.Tables.{AreEntries, AreEntries-prop};
 
 use crate::index::Entry;
-use crate::places::node_at;
 use crate::statement::Statement;
+use ifr_nodes::node_at;
 use ifr_opcodes::{FORM, is_statement};
 
 /// The statements that are left of a form, by place.

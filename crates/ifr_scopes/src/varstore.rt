@@ -1,15 +1,14 @@
 //! The stores that a form set declares.
 
 ghost use Rattle.std.specs.Prelude.{◌≡◌, true};
-ghost use Rattle.ifr_scopes.specs.Checked.{IsChecked};
-ghost use Rattle.ifr_scopes.specs.Nodes.{is_store};
-ghost use Rattle.ifr_scopes.specs.code.Checked.{IsChecked-prop};
+ghost use Rattle.ifr_nodes.specs.Checked.{IsChecked};
+ghost use Rattle.ifr_nodes.specs.Nodes.{is_store};
+ghost use Rattle.ifr_nodes.specs.code.Checked.{IsChecked-prop};
 ghost use Rattle.ifr_scopes.specs.code.Tables.{AreOfKind, AreOfKind-prop};
-ghost use Rattle.ifr_scopes.specs.code.Views.{node_of};
+ghost use Rattle.ifr_nodes.specs.code.Views.{node_of};
 
-use crate::node::Node;
-use crate::places::node_at;
 use hii_bytes::Guid;
+use ifr_nodes::{Node, node_at};
 use ifr_opcodes::{
     Op, VARSTORE, VARSTORE_EFI, VARSTORE_NAME_VALUE, VarstoreEfiOp, VarstoreNameValueOp, VarstoreOp,
 };

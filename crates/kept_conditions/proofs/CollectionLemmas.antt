@@ -20,16 +20,16 @@ use Rattle.ifr_expr.specs.code.Names.{names_of, names_among}
 use Rattle.ifr_expr.specs.declared.names.Name.{Name}
 use Rattle.ifr_expr.proofs.DependenceLemmas.{found_ids, no_ids}
 use Rattle.ifr_expr.specs.declared.names.Name.TheVariants as name
-use Rattle.ifr_scopes.specs.Accepted.{IsAccepted}
-use Rattle.ifr_scopes.specs.code.Checked.{or_empty}
-use Rattle.ifr_scopes.specs.Conditions.{expression_tree}
-use Rattle.ifr_scopes.specs.Nodes.{nodes_of, end_of}
-use Rattle.ifr_scopes.specs.Rules.{is_rule, as_rule, rule_nodes, rules_among}
+use Rattle.ifr_nodes.specs.Accepted.{IsAccepted}
+use Rattle.ifr_nodes.specs.code.Checked.{or_empty}
+use Rattle.ifr_nodes.specs.NodeExpressions.{expression_tree}
+use Rattle.ifr_nodes.specs.Nodes.{nodes_of, end_of}
+use Rattle.ifr_nodes.specs.Rules.{is_rule, as_rule, rule_nodes, rules_among}
 use Rattle.ifr_scopes.specs.code.Frames.{ids_by}
 use Rattle.ifr_scopes.proofs.FormPlaceLemmas.{found}
 use Rattle.ifr_scopes.proofs.FrameLemmas.{ids_of_names}
 use Rattle.ifr_scopes.proofs.RuleLookupLemmas.{named_node, named_none, named_some, named_before}
-use Rattle.ifr_scopes.proofs.RuleOrderLemmas.{rule_there}
+use Rattle.ifr_nodes.proofs.RuleOrderLemmas.{rule_there}
 use Rattle.ifr_scopes.proofs.RulesOrderedLemmas.{are_ordered}
 use Rattle.hii_questions.specs.code.Ranges.{range_in}
 use Rattle.kept_conditions.specs.code.Collection.{Adds, AreCollected, IsBefore, entry, IsRuleUse, finds, is_used, dependent_nodes, dependent_node, this_in, dependency_ids, is_touched, some_has_byte}

@@ -13,14 +13,14 @@ use Rattle.ifr_opcodes.specs.Forest.{Node, flat}
 use Rattle.ifr_opcodes.specs.Opcode.{number}
 use Rattle.ifr_opcodes.specs.Reading.{tree_of}
 use Rattle.ifr_expr.specs.Dependence.{dependence}
-use Rattle.ifr_scopes.specs.code.Checked.{or_empty, node_in}
-use Rattle.ifr_scopes.specs.Conditions.{expression_tree}
-use Rattle.ifr_scopes.specs.Nodes.{this_of, nodes_of}
-use Rattle.ifr_scopes.specs.Rules.{is_rule, rules_among}
-use Rattle.ifr_scopes.specs.Accepted.{IsAccepted}
-use Rattle.ifr_scopes.proofs.PlaceLemmas.{nodes_within}
-use Rattle.ifr_scopes.proofs.StructureLemmas.{rising}
-use Rattle.ifr_scopes.proofs.ViewLemmas.{node_in_place}
+use Rattle.ifr_nodes.specs.code.Checked.{or_empty, node_in}
+use Rattle.ifr_nodes.specs.NodeExpressions.{expression_tree}
+use Rattle.ifr_nodes.specs.Nodes.{this_of, nodes_of}
+use Rattle.ifr_nodes.specs.Rules.{is_rule, rules_among}
+use Rattle.ifr_nodes.specs.Accepted.{IsAccepted}
+use Rattle.ifr_nodes.proofs.PlaceLemmas.{nodes_within}
+use Rattle.ifr_nodes.proofs.StructureLemmas.{rising}
+use Rattle.ifr_nodes.proofs.ViewLemmas.{node_in_place}
 use Rattle.hii_varstore.specs.Stores.{StoreMap}
 use Rattle.guard_policy.specs.Conditions.{condition_ids, is_kept}
 use Rattle.guard_policy.specs.code.KeptConditions.{TellsAll}

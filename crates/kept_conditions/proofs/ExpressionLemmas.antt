@@ -7,18 +7,18 @@ use Rattle.ifr_opcodes.specs.declared.codes.TheConstants.{RULE}
 use Rattle.ifr_opcodes.specs.Forest.{Node}
 use Rattle.ifr_opcodes.specs.Opcode.{number}
 use Rattle.ifr_opcodes.specs.Reading.{tree_of}
-use Rattle.ifr_scopes.specs.Accepted.{IsAccepted}
-use Rattle.ifr_scopes.specs.code.Checked.{or_empty}
-use Rattle.ifr_scopes.specs.Guards.{is_guard}
+use Rattle.ifr_nodes.specs.Accepted.{IsAccepted}
+use Rattle.ifr_nodes.specs.code.Checked.{or_empty}
+use Rattle.ifr_nodes.specs.Guards.{is_guard}
 use Rattle.ifr_scopes.specs.code.Index.{is_conditional, conditional_at}
 use Rattle.ifr_scopes.specs.code.Lists.{rule_node, rules_left}
 use Rattle.ifr_opcodes.specs.Rows.{row_of, is_condition_number}
-use Rattle.ifr_scopes.specs.Nodes.{nodes_of}
-use Rattle.ifr_scopes.specs.Rules.{is_rule}
+use Rattle.ifr_nodes.specs.Nodes.{nodes_of}
+use Rattle.ifr_nodes.specs.Rules.{is_rule}
 use Rattle.ifr_scopes.specs.declared.rule.RuleView.{RuleView}
 use Rattle.ifr_scopes.specs.declared.rule.RuleViews.{RuleViews}
 use Rattle.ifr_scopes.proofs.FormPlaceLemmas.{found}
-use Rattle.ifr_scopes.proofs.PlaceLemmas.{is_found}
+use Rattle.ifr_nodes.proofs.PlaceLemmas.{is_found}
 use Rattle.guard_policy.specs.Conditions.{is_kept}
 use Rattle.guard_policy.proofs.ToldLemmas.{kept_conditional, kind_found}
 use Rattle.kept_conditions.specs.code.Collection.{dependent_nodes, dependent_node}

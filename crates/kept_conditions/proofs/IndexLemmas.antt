@@ -6,12 +6,12 @@ use Rattle.std.proofs.lemmas.Bool.{lt-ltb}
 use Rattle.std.proofs.lemmas.List.{get_or-map, length-map, take_all}
 use Rattle.ifr_opcodes.specs.Forest.{Node, flat}
 use Rattle.ifr_opcodes.specs.Reading.{tree_of}
-use Rattle.ifr_scopes.specs.Accepted.{IsAccepted}
-use Rattle.ifr_scopes.specs.code.Checked.{or_empty}
-use Rattle.ifr_scopes.specs.Nodes.{nodes_of}
-use Rattle.ifr_scopes.specs.Rules.{is_rule}
-use Rattle.ifr_scopes.proofs.PlaceLemmas.{nodes_within}
-use Rattle.ifr_scopes.proofs.StructureLemmas.{rising}
+use Rattle.ifr_nodes.specs.Accepted.{IsAccepted}
+use Rattle.ifr_nodes.specs.code.Checked.{or_empty}
+use Rattle.ifr_nodes.specs.Nodes.{nodes_of}
+use Rattle.ifr_nodes.specs.Rules.{is_rule}
+use Rattle.ifr_nodes.proofs.PlaceLemmas.{nodes_within}
+use Rattle.ifr_nodes.proofs.StructureLemmas.{rising}
 use Rattle.hii_varstore.specs.Stores.{StoreMap}
 use Rattle.guard_policy.proofs.RemovedLemmas.{Ascend, places_ascend, from_zero}
 use Rattle.guard_policy.specs.Conditions.{is_kept}

@@ -11,8 +11,8 @@ use Rattle.std.proofs.Math.Seq.{take-append_seam}
 use Rattle.hii_bytes.specs.code.FirstFaults.{Rise}
 use Rattle.hii_bytes.proofs.SearchLemmas.{searched, not_found}
 use Rattle.ifr_opcodes.specs.Forest.{Node}
-use Rattle.ifr_scopes.specs.Accepted.{IsAccepted}
-use Rattle.ifr_scopes.specs.Nodes.{nodes_of}
+use Rattle.ifr_nodes.specs.Accepted.{IsAccepted}
+use Rattle.ifr_nodes.specs.Nodes.{nodes_of}
 use Rattle.ifr_scopes.proofs.IndexLemmas.{nodes_rise}
 use Rattle.guard_policy.proofs.RemovedLemmas.{Ascend, from_zero, places_ascend}
 use Rattle.kept_conditions.specs.Kept.{Told, held, holds_if}

@@ -9,12 +9,12 @@ use Rattle.ifr_opcodes.specs.declared.codes.TheConstants.{SUPPRESS_IF, GRAY_OUT_
 use Rattle.ifr_opcodes.specs.Forest.{Node, flat}
 use Rattle.ifr_opcodes.specs.Opcode.{number}
 use Rattle.ifr_opcodes.specs.Reading.{tree_of}
-use Rattle.ifr_scopes.specs.Accepted.{IsAccepted}
-use Rattle.ifr_scopes.specs.Guards.{is_guard}
-use Rattle.ifr_scopes.specs.Nodes.{nodes_of, is_no_submit}
-use Rattle.ifr_scopes.specs.Rules.{is_rule}
-use Rattle.ifr_scopes.proofs.PlaceLemmas.{nodes_within}
-use Rattle.ifr_scopes.proofs.StructureLemmas.{rising}
+use Rattle.ifr_nodes.specs.Accepted.{IsAccepted}
+use Rattle.ifr_nodes.specs.Guards.{is_guard}
+use Rattle.ifr_nodes.specs.Nodes.{nodes_of, is_no_submit}
+use Rattle.ifr_nodes.specs.Rules.{is_rule}
+use Rattle.ifr_nodes.proofs.PlaceLemmas.{nodes_within}
+use Rattle.ifr_nodes.proofs.StructureLemmas.{rising}
 use Rattle.guard_policy.proofs.RemovedLemmas.{Ascend, places_ascend, from_zero}
 use Rattle.kept_conditions.specs.code.Collection.{is_kept_guard, is_dependent, dependent_nodes}
 use Rattle.kept_conditions.proofs.FilterLemmas.{count_either, count_joined, filter_narrower, one}

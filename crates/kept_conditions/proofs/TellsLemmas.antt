@@ -4,10 +4,10 @@ use Rattle.std.specs.List.{AllByRecursion, find}
 use Rattle.std.proofs.lemmas.Bool.{cond-true, cond-false, eq-eqb, ne_eqb}
 use Rattle.ifr_opcodes.specs.Forest.{Node, flat}
 use Rattle.ifr_opcodes.specs.Reading.{tree_of}
-use Rattle.ifr_scopes.specs.Nodes.{nodes_of}
-use Rattle.ifr_scopes.proofs.PlaceLemmas.{nodes_within}
-use Rattle.ifr_scopes.proofs.StructureLemmas.{rising}
-use Rattle.ifr_scopes.specs.Accepted.{IsAccepted}
+use Rattle.ifr_nodes.specs.Nodes.{nodes_of}
+use Rattle.ifr_nodes.proofs.PlaceLemmas.{nodes_within}
+use Rattle.ifr_nodes.proofs.StructureLemmas.{rising}
+use Rattle.ifr_nodes.specs.Accepted.{IsAccepted}
 use Rattle.hii_varstore.specs.Stores.{StoreMap}
 use Rattle.guard_policy.specs.laws.Support.{IsSubjectOf, conditions}
 use Rattle.guard_policy.specs.Conditions.{is_kept}

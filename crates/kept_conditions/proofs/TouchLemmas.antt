@@ -6,8 +6,8 @@ use Rattle.std.proofs.lemmas.Bool.{cases_Bool, and_parts, eqb-true, eq-eqb, fals
 use Rattle.std.proofs.lemmas.List.Folds.{list_any_at}
 use Rattle.std.proofs.Math.Bool.{or-true}
 use Rattle.ifr_opcodes.specs.Forest.{Node}
-use Rattle.ifr_scopes.specs.Nodes.{end_of}
-use Rattle.ifr_scopes.specs.Rules.{is_rule}
+use Rattle.ifr_nodes.specs.Nodes.{end_of}
+use Rattle.ifr_nodes.specs.Rules.{is_rule}
 use Rattle.kept_conditions.specs.code.Collection.{IsRuleUse, finds, is_used, dependent_nodes, dependent_node, is_touched}
 use Rattle.kept_conditions.specs.code.Index.{depends_on}
 use Rattle.kept_conditions.specs.declared.index.RuleUse.{RuleUse}

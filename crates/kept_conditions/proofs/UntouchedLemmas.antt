@@ -10,9 +10,9 @@ use Rattle.ifr_expr.specs.laws.Agreement.{Agree}
 use Rattle.ifr_expr.specs.Meaning.{answered}
 use Rattle.ifr_expr.specs.Values.{Value, undefined, holds}
 use Rattle.ifr_expr.proofs.DependenceLemmas.{depends}
-use Rattle.ifr_scopes.specs.Conditions.{expression_tree}
-use Rattle.ifr_scopes.specs.Nodes.{this_of}
-use Rattle.ifr_scopes.specs.Rules.{rules_among}
+use Rattle.ifr_nodes.specs.NodeExpressions.{expression_tree}
+use Rattle.ifr_nodes.specs.Nodes.{this_of}
+use Rattle.ifr_nodes.specs.Rules.{rules_among}
 use Rattle.hii_varstore.specs.Layout.{Shape, size_of}
 use Rattle.hii_varstore.specs.Stores.{StoreMap}
 use Rattle.hii_varstore.proofs.WriteLemmas.{sizes}

@@ -7,10 +7,10 @@
 ghost use Rattle.std.specs.Prelude.{◌≡◌, ◌<◌, ◌≤◌, length, map, option_map, ◌+◌, drop, filter, ◌++◌, IfOk, ◌∷◌, ℕ, List, [], true, OnOk, Some};
 ghost use Rattle.ifr_opcodes.specs.Forest.{Node};
 ghost use Rattle.ifr_expr.specs.Dependence.{own, rule_ids};
-ghost use Rattle.ifr_scopes.specs.Accepted.{IsAccepted};
-ghost use Rattle.ifr_scopes.specs.code.Checked.{IsAccepted-prop};
-ghost use Rattle.ifr_scopes.specs.Nodes.{nodes_of, is_no_submit, end_of};
-ghost use Rattle.ifr_scopes.specs.Rules.{is_rule, rules_among};
+ghost use Rattle.ifr_nodes.specs.Accepted.{IsAccepted};
+ghost use Rattle.ifr_nodes.specs.code.Checked.{IsAccepted-prop};
+ghost use Rattle.ifr_nodes.specs.Nodes.{nodes_of, is_no_submit, end_of};
+ghost use Rattle.ifr_nodes.specs.Rules.{is_rule, rules_among};
 ghost use Rattle.ifr_scopes.specs.code.Lists.{rules_left};
 ghost use Rattle.ifr_scopes.specs.code.Frames.{ids_by};
 ghost use Rattle.hii_questions.specs.code.Ranges.{range_in};

@@ -5,7 +5,7 @@
 //! one are asked. So a text over few fields of a large store costs what it names, and not what the store holds.
 
 ghost use Rattle.std.specs.Prelude.{◌≡◌, ◌+◌, ◌-◌, ◌≤◌, length, min};
-ghost use Rattle.ifr_scopes.specs.Nodes.{nodes_of};
+ghost use Rattle.ifr_nodes.specs.Nodes.{nodes_of};
 ghost use Rattle.hii_varstore.specs.Stores.{shape_of, StoreMap};
 ghost use Rattle.guard_policy.specs.code.Views.{bytes_of};
 ghost use Rattle.kept_conditions.specs.Touching.{difference, has_one, range_of, renewals};

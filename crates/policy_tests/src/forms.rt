@@ -1,8 +1,8 @@
 //! The form set of the cases, and what is read of it.
 
 ghost use Rattle.std.specs.Prelude.{◌≡◌, IfOk, IfSome};
-ghost use Rattle.ifr_scopes.specs.Accepted.{IsAccepted};
-ghost use Rattle.ifr_scopes.specs.code.Checked.{IsNodeOf};
+ghost use Rattle.ifr_nodes.specs.Accepted.{IsAccepted};
+ghost use Rattle.ifr_nodes.specs.code.Checked.{IsNodeOf};
 ghost use Rattle.ifr_scopes.specs.code.Lists.{form_node};
 
 use hii_bytes::{Cause, Fault};

@@ -1,7 +1,7 @@
 //! A form set is opened once, over stores and texts, and what is told of it is looked at part by part.
 
 ghost use Rattle.std.specs.Prelude.{◌≡◌};
-ghost use Rattle.ifr_scopes.specs.Accepted.{IsAccepted};
+ghost use Rattle.ifr_nodes.specs.Accepted.{IsAccepted};
 
 use crate::defaults::a_default_is_told;
 use crate::forms::{first_form, read_forms, read_languages, read_questions, read_stores};

@@ -1,8 +1,8 @@
 //! Decisions, each with the place that decides.
 
 ghost use Rattle.std.specs.Prelude.{◌≡◌, ◌==◌, IfSome};
-ghost use Rattle.ifr_scopes.specs.Accepted.{IsAccepted};
-ghost use Rattle.ifr_scopes.specs.code.Checked.{IsNodeOf};
+ghost use Rattle.ifr_nodes.specs.Accepted.{IsAccepted};
+ghost use Rattle.ifr_nodes.specs.code.Checked.{IsNodeOf};
 ghost use Rattle.ifr_scopes.specs.code.Lists.{form_node};
 ghost use Rattle.ifr_scopes.specs.code.Parts.{option_node};
 ghost use Rattle.hii_questions.specs.code.Views.{question_node};

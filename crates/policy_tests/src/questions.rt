@@ -2,7 +2,7 @@
 
 ghost use Rattle.std.specs.Prelude.{◌≡◌, IfOk};
 ghost use Rattle.hii_bytes.specs.Faults.{HasNone};
-ghost use Rattle.ifr_scopes.specs.Nodes.{nodes_of};
+ghost use Rattle.ifr_nodes.specs.Nodes.{nodes_of};
 ghost use Rattle.hii_varstore.specs.StoreNodes.{layout_of};
 ghost use Rattle.hii_varstore.specs.Stores.{shape_of};
 ghost use Rattle.hii_questions.specs.Faults.{IsQuestionFault};

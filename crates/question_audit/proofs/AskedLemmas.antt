@@ -4,10 +4,10 @@ use Rattle.std.specs.Prelude.{filter, option_map}
 use Rattle.std.proofs.lemmas.List.Elements.{All-filter}
 use Rattle.ifr_opcodes.specs.Forest.{Node, SpellsForest}
 use Rattle.ifr_opcodes.specs.Reading.{tree_of}
-use Rattle.ifr_scopes.specs.Nodes.{is_question, nodes_of}
-use Rattle.ifr_scopes.specs.code.Checked.{AreNodesOf, IsNodeOf}
-use Rattle.ifr_scopes.proofs.PlaceLemmas.{is_found}
-use Rattle.ifr_scopes.proofs.ScopeLemmas.{all_nodes}
+use Rattle.ifr_nodes.specs.Nodes.{is_question, nodes_of}
+use Rattle.ifr_nodes.specs.code.Checked.{AreNodesOf, IsNodeOf}
+use Rattle.ifr_nodes.proofs.PlaceLemmas.{is_found}
+use Rattle.ifr_nodes.proofs.ScopeLemmas.{all_nodes}
 use Rattle.hii_questions.specs.Fields.{Asked, asked, question_with, questions}
 use Rattle.hii_questions.proofs.LawLemmas.{finds_questions}
 

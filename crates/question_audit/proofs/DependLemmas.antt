@@ -8,7 +8,7 @@ use Rattle.ifr_opcodes.specs.declared.codes.TheConstants.{SUPPRESS_IF, GRAY_OUT_
 use Rattle.ifr_opcodes.specs.Forest.{Node}
 use Rattle.ifr_opcodes.specs.Opcode.{number}
 use Rattle.ifr_opcodes.specs.Rows.{is_among}
-use Rattle.ifr_scopes.specs.Guards.{ancestors, guards, guards_among, is_guard}
+use Rattle.ifr_nodes.specs.Guards.{ancestors, guards, guards_among, is_guard}
 use Rattle.guard_policy.specs.Conditions.{condition_ids}
 use Rattle.guard_policy.specs.laws.Support.{around, graying_out, support_over, suppressing}
 use Rattle.question_audit.specs.Dependences.{depends_on, may_forbid}

@@ -9,13 +9,13 @@ use Rattle.hii_bytes.specs.code.FirstFaults.{Rise}
 use Rattle.ifr_opcodes.specs.Forest.{Node, SpellsForest, node_at}
 use Rattle.ifr_opcodes.specs.Opcode.{number}
 use Rattle.ifr_opcodes.specs.Reading.{tree_of}
-use Rattle.ifr_scopes.specs.Guards.{guards_among, is_guard}
-use Rattle.ifr_scopes.specs.Nodes.{nodes_of}
-use Rattle.ifr_scopes.specs.code.Checked.{has_guard, node_in, or_empty}
+use Rattle.ifr_nodes.specs.Guards.{guards_among, is_guard}
+use Rattle.ifr_nodes.specs.Nodes.{nodes_of}
+use Rattle.ifr_nodes.specs.code.Checked.{has_guard, node_in, or_empty}
 use Rattle.ifr_scopes.specs.code.Tables.{guards_before}
 use Rattle.ifr_scopes.proofs.IndexLemmas.{nodes_rise}
 use Rattle.ifr_scopes.proofs.NumberLemmas.{so_many_before}
-use Rattle.ifr_scopes.proofs.ViewLemmas.{contains_found, some_there}
+use Rattle.ifr_nodes.proofs.ViewLemmas.{contains_found, some_there}
 
 abbrev guarding : Node → Bool
 guarding n = is_guard (number n.op)

@@ -8,10 +8,10 @@ use Rattle.ifr_opcodes.specs.Opcode.{number}
 use Rattle.ifr_opcodes.specs.declared.codes.TheConstants.{DISABLE_IF}
 use Rattle.ifr_expr.specs.Meaning.{value}
 use Rattle.ifr_expr.specs.Values.{Value, holds}
-use Rattle.ifr_scopes.specs.Conditions.{expression_tree}
-use Rattle.ifr_scopes.specs.Guards.{guards}
+use Rattle.ifr_nodes.specs.NodeExpressions.{expression_tree}
+use Rattle.ifr_nodes.specs.Guards.{guards}
 use Rattle.ifr_opcodes.specs.Rows.{is_condition_number}
-use Rattle.ifr_scopes.specs.Nodes.{options, this_of}
+use Rattle.ifr_nodes.specs.Nodes.{options, this_of}
 use Rattle.hii_questions.specs.Denials.{kind_name}
 use Rattle.guard_policy.specs.Policy.{fixed, is_removed}
 use Rattle.guard_policy.specs.declared.denial.Denial.{Denial}

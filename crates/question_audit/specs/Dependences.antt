@@ -6,7 +6,7 @@ use Rattle.ifr_opcodes.specs.Forest.{Node}
 use Rattle.ifr_opcodes.specs.Opcode.{number}
 use Rattle.ifr_opcodes.specs.Rows.{is_among}
 use Rattle.ifr_opcodes.specs.declared.codes.TheConstants.{DISABLE_IF}
-use Rattle.ifr_scopes.specs.Guards.{guards}
+use Rattle.ifr_nodes.specs.Guards.{guards}
 use Rattle.hii_questions.specs.Answers.{value_of_field}
 use Rattle.hii_questions.specs.Fields.{Asked, asked, question_with, questions}
 use Rattle.guard_policy.specs.Conditions.{condition_ids}

@@ -8,7 +8,7 @@ use Rattle.ifr_opcodes.specs.Forest.{Node}
 use Rattle.ifr_opcodes.specs.Opcode.{number}
 use Rattle.ifr_opcodes.specs.declared.codes.TheConstants.{ONE_OF}
 use Rattle.ifr_expr.specs.Values.{Value, natural}
-use Rattle.ifr_scopes.specs.Nodes.{is_form, statements}
+use Rattle.ifr_nodes.specs.Nodes.{is_form, statements}
 use Rattle.ifr_scopes.specs.Stores.{store_guid}
 use Rattle.hii_questions.specs.Answers.{value_of_field}
 use Rattle.hii_questions.specs.Fields.{Asked, Field, asked, question_with}

@@ -6,7 +6,7 @@ ghost use Rattle.ifr_opcodes.specs.Opcode.{number};
 ghost use Rattle.ifr_opcodes.specs.code.Ops.{bytes_of as op_bytes};
 ghost use Rattle.ifr_expr.specs.code.Views.{value_of};
 ghost use Rattle.ifr_scopes.specs.code.AnyConditions.{any_condition_node};
-ghost use Rattle.ifr_scopes.specs.code.Checked.{IsNodeOf};
+ghost use Rattle.ifr_nodes.specs.code.Checked.{IsNodeOf};
 ghost use Rattle.ifr_scopes.specs.code.Lists.{guard_node, statement_node};
 ghost use Rattle.ifr_scopes.specs.code.Parts.{condition_node, condition_op};
 ghost use Rattle.hii_questions.specs.code.Views.{question_node};

@@ -3,8 +3,8 @@
 ghost use Rattle.std.specs.Prelude.{◌≡◌, ◌+◌, ◌<◌, ◌^◌, IfSome, option_map};
 ghost use Rattle.hii_bytes.specs.Watching.{Puts};
 ghost use Rattle.hii_bytes.specs.code.NumberSets.{has_number};
-ghost use Rattle.ifr_scopes.specs.Nodes.{nodes_of};
-ghost use Rattle.ifr_scopes.specs.code.Checked.{IsNodeOf};
+ghost use Rattle.ifr_nodes.specs.Nodes.{nodes_of};
+ghost use Rattle.ifr_nodes.specs.code.Checked.{IsNodeOf};
 ghost use Rattle.ifr_scopes.specs.code.Lists.{form_node, statement_node};
 ghost use Rattle.hii_languages.specs.code.Views.{text_of};
 ghost use Rattle.hii_questions.specs.code.Ranges.{range_in};

@@ -3,8 +3,8 @@
 ghost use Rattle.std.specs.Prelude.{◌≡◌, ◌⊎◌, ◌+◌, ◌<◌, ◌^◌, ℕ, Bool, OnOk, OnErr, IfOk, IfErr, length};
 ghost use Rattle.hii_bytes.specs.Faults.{out_of_memory};
 ghost use Rattle.hii_bytes.specs.Watching.{Puts, pen_of};
-ghost use Rattle.ifr_scopes.specs.Nodes.{nodes_of};
-ghost use Rattle.ifr_scopes.specs.code.Checked.{IsNodeOf};
+ghost use Rattle.ifr_nodes.specs.Nodes.{nodes_of};
+ghost use Rattle.ifr_nodes.specs.code.Checked.{IsNodeOf};
 ghost use Rattle.hii_questions.specs.Fields.{asked, questions};
 ghost use Rattle.hii_questions.specs.code.LyingIn.{LiesIn, LieIn};
 ghost use Rattle.hii_questions.specs.code.Views.{question_node, question_view};

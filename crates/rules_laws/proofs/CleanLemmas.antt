@@ -12,12 +12,12 @@ use Rattle.ifr_opcodes.specs.Rows.{is_outside, is_short}
 use Rattle.ifr_opcodes.proofs.RowLemmas.{inside_parts}
 use Rattle.ifr_expr.specs.Faults.{IsExpressionFault}
 use Rattle.ifr_expr.specs.Trees.{expression}
-use Rattle.ifr_scopes.specs.Structure.{is_operand, is_wrong_scope, has_wrong_scope, lacks_wanted, has_structure_fault, is_expression, IsStructureFault}
-use Rattle.ifr_scopes.specs.Table.{wants_value}
-use Rattle.ifr_scopes.specs.declared.table.Row.{Row}
-use Rattle.ifr_scopes.specs.declared.table.Scope.{Scope}
-use Rattle.ifr_scopes.specs.declared.table.Scope.TheVariants.{Always, Sometimes, Never, Outermost, WithValue}
-use Rattle.ifr_scopes.proofs.ViewLemmas.{further}
+use Rattle.ifr_nodes.specs.Structure.{is_operand, is_wrong_scope, has_wrong_scope, lacks_wanted, has_structure_fault, is_expression, IsStructureFault}
+use Rattle.ifr_nodes.specs.Table.{wants_value}
+use Rattle.ifr_nodes.specs.declared.table.OpcodeRow.{OpcodeRow}
+use Rattle.ifr_nodes.specs.declared.table.Scope.{Scope}
+use Rattle.ifr_nodes.specs.declared.table.Scope.TheVariants.{Always, Sometimes, Never, Outermost, WithValue}
+use Rattle.ifr_nodes.proofs.ViewLemmas.{further}
 use Rattle.rules_laws.specs.laws.WellFormed.{FitsScope, IsGoodOpcode}
 use Rattle.rules_laws.proofs.RowLemmas.{listed_row}
 
@@ -111,7 +111,7 @@ not_wrong WithValue op e = value_with (wants_value op) (has_scope op) e
 
 pub good_scope : (n : Node) → IsGoodOpcode n.op → is_operand n ≡ false → has_structure_fault n ScopeBit ≡ false
 good_scope n g free =
-    ap (λ (r : Option Row). has_wrong_scope r (is_operand n) n.op) g.found ∙ ap (λ (b : Bool). is_wrong_scope g.in_table.scope b n.op) free ∙ fitting g.in_table.scope n.op g.scoped
+    ap (λ (r : Option OpcodeRow). has_wrong_scope r (is_operand n) n.op) g.found ∙ ap (λ (b : Bool). is_wrong_scope g.in_table.scope b n.op) free ∙ fitting g.in_table.scope n.op g.scoped
 
 pub clean_good : (n : Node) → IsClean n → is_operand n ≡ false → IsGoodOpcode n.op
 clean_good n c free =
@@ -121,5 +121,5 @@ clean_good n c free =
       long = c.fault OpSize;
       in_table = r.0;
       found = r.1;
-      scoped = not_wrong r.0.scope n.op (ap (λ (b : Bool). is_wrong_scope r.0.scope b n.op) (sym free) ∙ ap (λ (o : Option Row). has_wrong_scope o (is_operand n) n.op) (sym r.1) ∙ c.fault ScopeBit);
+      scoped = not_wrong r.0.scope n.op (ap (λ (b : Bool). is_wrong_scope r.0.scope b n.op) (sym free) ∙ ap (λ (o : Option OpcodeRow). has_wrong_scope o (is_operand n) n.op) (sym r.1) ∙ c.fault ScopeBit);
     }

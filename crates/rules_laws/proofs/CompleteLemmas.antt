@@ -8,10 +8,10 @@ use Rattle.ifr_opcodes.specs.Forest.{Forest, none, node, flat, Ancestor, AreNode
 use Rattle.ifr_opcodes.specs.Opcode.{number}
 use Rattle.ifr_opcodes.specs.Rows.{is_operator, is_listed}
 use Rattle.ifr_opcodes.proofs.RowLemmas.{inside_parts}
-use Rattle.ifr_scopes.specs.Structure.{is_wanted, is_condition}
-use Rattle.ifr_scopes.specs.Table.{class_around, admits}
-use Rattle.ifr_scopes.specs.declared.table.Class.{Class}
-use Rattle.ifr_scopes.specs.declared.table.Class.TheVariants.{OfNothing}
+use Rattle.ifr_nodes.specs.Structure.{is_wanted, is_condition}
+use Rattle.ifr_nodes.specs.Table.{class_around, admits}
+use Rattle.ifr_nodes.specs.declared.table.Class.{Class}
+use Rattle.ifr_nodes.specs.declared.table.Class.TheVariants.{OfNothing}
 use Rattle.rules_laws.specs.laws.WellFormed.{Beginning, an_expression, a_value, nothing_first, wanted_by, class_inside, IsGoodOpcode, StandsIn}
 use Rattle.rules_laws.proofs.ExpressionLemmas.{clear_is_good}
 use Rattle.rules_laws.proofs.RowLemmas.{admitted_plain}

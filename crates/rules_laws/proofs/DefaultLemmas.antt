@@ -21,10 +21,10 @@ use Rattle.ifr_expr.specs.Meaning.{value}
 use Rattle.ifr_expr.specs.Trees.{Tree}
 use Rattle.ifr_expr.specs.Values as values
 use Rattle.ifr_expr.specs.Values.{Value, as_number, undefined}
-use Rattle.ifr_scopes.specs.Conditions.{tree_of_value, value_tree}
-use Rattle.ifr_scopes.specs.Nodes as node
-use Rattle.ifr_scopes.specs.Nodes.{is_question}
-use Rattle.ifr_scopes.specs.Table.{wants_value}
+use Rattle.ifr_nodes.specs.NodeExpressions.{tree_of_value, value_tree}
+use Rattle.ifr_nodes.specs.Nodes as node
+use Rattle.ifr_nodes.specs.Nodes.{is_question}
+use Rattle.ifr_nodes.specs.Table.{wants_value}
 use Rattle.hii_questions.specs.Inputs.{Offer, raw, units}
 use Rattle.hii_questions.specs.Items.{bytes_of_items}
 use Rattle.hii_questions.specs.Types.{element_width}

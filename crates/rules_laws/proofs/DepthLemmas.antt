@@ -12,19 +12,19 @@ use Rattle.ifr_opcodes.proofs.TableLemmas.{and_first}
 use Rattle.ifr_expr.specs.Meaning.{Rule, names}
 use Rattle.ifr_expr.specs.References.{references}
 use Rattle.ifr_expr.specs.declared.references.RuleReference.{RuleReference}
-use Rattle.ifr_scopes.specs.Checked.{IsChecked}
-use Rattle.ifr_scopes.specs.Nodes.{nodes_of, end_of}
-use Rattle.ifr_scopes.specs.Rules.{is_rule, as_rule, form_end, rule_nodes, rules_among, rule_sizes, size, size_over, greatest}
-use Rattle.ifr_scopes.specs.code.RuleNodes.{Descend}
-use Rattle.ifr_scopes.specs.code.Rules.{rules_of}
-use Rattle.ifr_scopes.specs.declared.rules.RuleSize.{RuleSize}
-use Rattle.ifr_scopes.proofs.KeptRuleLemmas.{one_rule}
-use Rattle.ifr_scopes.proofs.NamedLemmas.{each}
+use Rattle.ifr_nodes.specs.Checked.{IsChecked}
+use Rattle.ifr_nodes.specs.Nodes.{nodes_of, end_of}
+use Rattle.ifr_nodes.specs.Rules.{is_rule, as_rule, form_end, rule_nodes, rules_among, rule_sizes, size, size_over, greatest}
+use Rattle.ifr_nodes.specs.code.RuleNodes.{Descend}
+use Rattle.ifr_nodes.specs.code.Rules.{rules_of}
+use Rattle.ifr_nodes.specs.declared.rules.RuleSize.{RuleSize}
+use Rattle.ifr_nodes.proofs.KeptRuleLemmas.{one_rule}
+use Rattle.ifr_nodes.proofs.NamedLemmas.{each}
 use Rattle.ifr_scopes.proofs.NamedSizeLemmas.{found_size}
 use Rattle.ifr_scopes.proofs.OptionFacts.{between}
-use Rattle.ifr_scopes.proofs.RuleOrderLemmas.{descend_of}
+use Rattle.ifr_nodes.proofs.RuleOrderLemmas.{descend_of}
 use Rattle.ifr_scopes.proofs.RulesOrderedLemmas.{are_ordered}
-use Rattle.ifr_scopes.proofs.ViewLemmas.{below_within, further}
+use Rattle.ifr_nodes.proofs.ViewLemmas.{below_within, further}
 use Rattle.hii_questions.proofs.FieldLemmas.{passing}
 use Rattle.rules_laws.specs.laws.Naming.{is_rule_reference, is_nameable, named_rule, references_in, HasDepth, weight, weight_of_named}
 use Rattle.rules_laws.proofs.FoundLemmas.{first_or_later, given, gives, map_alike, last_is_there}

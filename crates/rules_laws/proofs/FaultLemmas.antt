@@ -10,7 +10,7 @@ use Rattle.hii_bytes.specs.Causes.{cause_for}
 use Rattle.hii_bytes.specs.Faults.{AreFaults, IsFaultOf}
 use Rattle.hii_bytes.proofs.ChapterFaultLemmas.{both_kinds, one_fault, no_faults}
 use Rattle.ifr_opcodes.specs.Forest.{Node}
-use Rattle.ifr_scopes.specs.References.{Ranked, ranked}
+use Rattle.ifr_nodes.specs.ReferenceFaults.{Ranked, ranked}
 use Rattle.browser_rules.specs.Words as chapter
 use Rattle.browser_rules.specs.Faults.{Fault, fault_if, ranked as chapter_ranked}
 

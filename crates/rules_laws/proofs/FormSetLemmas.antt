@@ -8,11 +8,11 @@ use Rattle.ifr_opcodes.specs.declared.codes.TheConstants.{FORM_SET, DEFAULT}
 use Rattle.ifr_opcodes.specs.Forest.{Forest, none, node, flat, Node, AreNodes, nodes}
 use Rattle.ifr_opcodes.specs.Opcode.{number}
 use Rattle.ifr_opcodes.specs.Rows.{is_operator}
-use Rattle.ifr_scopes.specs.Guards.{is_guard}
-use Rattle.ifr_scopes.specs.Structure.{IsStructureFault}
-use Rattle.ifr_scopes.specs.Table.{row, class_of, wants_expression, wants_value}
-use Rattle.ifr_scopes.specs.declared.table.Class.TheVariants.{OfFormSet}
-use Rattle.ifr_scopes.proofs.ClassLemmas.{class-other}
+use Rattle.ifr_nodes.specs.Guards.{is_guard}
+use Rattle.ifr_nodes.specs.Structure.{IsStructureFault}
+use Rattle.ifr_nodes.specs.Table.{row, class_of, wants_expression, wants_value}
+use Rattle.ifr_nodes.specs.declared.table.Class.TheVariants.{OfFormSet}
+use Rattle.ifr_nodes.proofs.ClassLemmas.{class-other}
 use Rattle.rules_laws.specs.laws.WellFormed.{Beginning, nothing_first, wanted_by, IsGoodOpcode, IsFormSet}
 use Rattle.rules_laws.proofs.RowLemmas.{form_set_facts}
 use Rattle.rules_laws.proofs.CleanLemmas.{IsClean, AreClean, no_fault, good_scope, clean_good, clean_without_fault, without_fault_clean}

@@ -10,9 +10,9 @@ use Rattle.ifr_opcodes.specs.Opcode.{number, has_scope, stated_length, end, IsWh
 use Rattle.ifr_opcodes.specs.Forest.{SpellsForest}
 use Rattle.ifr_opcodes.specs.Reading.{tree_of}
 use Rattle.ifr_opcodes.proofs.OpcodeLemmas.{stated_at}
-use Rattle.ifr_scopes.specs.Framing.{IsFramingFault}
-use Rattle.ifr_scopes.proofs.RunLemmas.{Stands, from_start, is_spelled, none_where_spelled, no_opcode, extra_end, too_deep, still_open, past_end, past_scope, past_plain}
-use Rattle.ifr_scopes.proofs.RunLemmas as run
+use Rattle.ifr_nodes.specs.Framing.{IsFramingFault}
+use Rattle.ifr_nodes.proofs.RunLemmas.{Stands, from_start, is_spelled, none_where_spelled, no_opcode, extra_end, too_deep, still_open, past_end, past_scope, past_plain}
+use Rattle.ifr_nodes.proofs.RunLemmas as run
 use Rattle.browser_rules.specs.Faults.{Fault, framing_from, framing_faults, is_whole}
 use Rattle.hii_bytes.specs.Faults.{AreFaults}
 use Rattle.hii_bytes.specs.Causes.{fault_for}

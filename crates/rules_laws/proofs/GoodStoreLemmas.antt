@@ -7,8 +7,8 @@ use Rattle.hii_bytes.specs.Faults.{HasNone}
 use Rattle.hii_bytes.specs.declared.cause.Cause.{Cause}
 use Rattle.hii_bytes.specs.declared.cause.Cause.TheVariants.{DuplicateVarstore}
 use Rattle.ifr_opcodes.specs.Forest.{Node}
-use Rattle.ifr_scopes.specs.Nodes.{is_store}
-use Rattle.ifr_scopes.specs.References.{Ranked}
+use Rattle.ifr_nodes.specs.Nodes.{is_store}
+use Rattle.ifr_nodes.specs.ReferenceFaults.{Ranked}
 use Rattle.ifr_scopes.specs.Stores.{store_id}
 use Rattle.hii_varstore.specs.StoreNodes.{is_taken, repeats_store, IsStoreFault}
 use Rattle.rules_laws.specs.laws.Ids.{AreStores}

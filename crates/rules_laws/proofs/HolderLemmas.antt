@@ -8,17 +8,17 @@ use Rattle.ifr_opcodes.specs.Opcode.{number}
 use Rattle.ifr_opcodes.specs.Forest.{Ancestor, Node, as_ancestor, below}
 use Rattle.ifr_opcodes.specs.Reading.{tree_of}
 use Rattle.ifr_opcodes.specs.declared.codes.TheConstants.{FORM}
-use Rattle.ifr_scopes.specs.Checked.{IsChecked}
-use Rattle.ifr_scopes.specs.Nodes.{nodes_of, end_of}
-use Rattle.ifr_scopes.specs.Rules.{is_rule, forms_among}
-use Rattle.ifr_scopes.proofs.BehindLemmas.{are_inside, below_or_behind}
+use Rattle.ifr_nodes.specs.Checked.{IsChecked}
+use Rattle.ifr_nodes.specs.Nodes.{nodes_of, end_of}
+use Rattle.ifr_nodes.specs.Rules.{is_rule, forms_among}
+use Rattle.ifr_nodes.proofs.BehindLemmas.{are_inside, below_or_behind}
 use Rattle.ifr_scopes.proofs.FormFacts.{IsBelowForm, behind_form, form_there}
 use Rattle.ifr_scopes.proofs.InsideLemmas.{inside_node}
 use Rattle.ifr_scopes.proofs.OptionFacts.{between}
 use Rattle.ifr_scopes.proofs.OptionsOfLemmas.{passes}
-use Rattle.ifr_scopes.proofs.RuleFacts.{one_place, rule_fact}
-use Rattle.ifr_scopes.proofs.ScopeLemmas.{path_inside}
-use Rattle.ifr_scopes.proofs.ViewLemmas.{below_within}
+use Rattle.ifr_nodes.proofs.RuleFacts.{one_place, rule_fact}
+use Rattle.ifr_nodes.proofs.ScopeLemmas.{path_inside}
+use Rattle.ifr_nodes.proofs.ViewLemmas.{below_within}
 use Rattle.hii_questions.proofs.FieldLemmas.{passing}
 use Rattle.rules_laws.specs.laws.Naming.{place_or_0, form_around, is_inside}
 use Rattle.rules_laws.proofs.FoundLemmas.{nothing, any_passes, some_passes, last_is_there, some_last}

@@ -9,11 +9,11 @@ use Rattle.hii_bytes.specs.declared.cause.Cause.TheVariants.{DuplicateForm, Dupl
 use Rattle.ifr_opcodes.specs.Fields.{form_id, question_id, ref_target}
 use Rattle.ifr_opcodes.specs.Forest.{Node}
 use Rattle.ifr_opcodes.proofs.TableLemmas.{and_first, and_second}
-use Rattle.ifr_scopes.specs.Checked.{IsChecked}
-use Rattle.ifr_scopes.specs.Nodes.{nodes_of, is_form, is_question, is_reference}
-use Rattle.ifr_scopes.specs.References.{Ranked, ranked, has_form_id, has_question_id, has_reference_fault, is_lost, IsReferenceFault}
-use Rattle.ifr_scopes.specs.Rules.{is_rule, as_rule, rules_among, size, is_rule_too_large}
-use Rattle.ifr_scopes.specs.declared.rules.RuleSize.{RuleSize}
+use Rattle.ifr_nodes.specs.Checked.{IsChecked}
+use Rattle.ifr_nodes.specs.Nodes.{nodes_of, is_form, is_question, is_reference}
+use Rattle.ifr_nodes.specs.ReferenceFaults.{Ranked, ranked, has_form_id, has_question_id, has_reference_fault, is_lost, IsReferenceFault}
+use Rattle.ifr_nodes.specs.Rules.{is_rule, as_rule, rules_among, size, is_rule_too_large}
+use Rattle.ifr_nodes.specs.declared.rules.RuleSize.{RuleSize}
 use Rattle.ifr_scopes.proofs.OptionsOfLemmas.{passes}
 use Rattle.hii_questions.proofs.FieldLemmas.{passing}
 use Rattle.rules_laws.specs.laws.Ids.{AreReferred, form_ids, is_id, question_ids}

@@ -8,10 +8,10 @@ use Rattle.ifr_opcodes.specs.Forest.{Node}
 use Rattle.ifr_opcodes.specs.Reading.{tree_of}
 use Rattle.ifr_opcodes.proofs.TableLemmas.{and_first, and_second}
 use Rattle.ifr_expr.specs.Meaning.{names}
-use Rattle.ifr_scopes.specs.Checked.{IsChecked}
-use Rattle.ifr_scopes.specs.Nodes.{nodes_of, end_of}
-use Rattle.ifr_scopes.specs.Rules.{is_rule, as_rule, rules_among, form_end, end_or_0}
-use Rattle.ifr_scopes.proofs.BehindLemmas.{below_or_behind}
+use Rattle.ifr_nodes.specs.Checked.{IsChecked}
+use Rattle.ifr_nodes.specs.Nodes.{nodes_of, end_of}
+use Rattle.ifr_nodes.specs.Rules.{is_rule, as_rule, rules_among, form_end, end_or_0}
+use Rattle.ifr_nodes.proofs.BehindLemmas.{below_or_behind}
 use Rattle.ifr_scopes.proofs.FormFacts.{IsBelowForm, behind_form}
 use Rattle.ifr_scopes.proofs.OptionFacts.{between}
 use Rattle.rules_laws.specs.laws.Naming.{place_or_0, form_around, is_inside, is_nameable, named_rule}

@@ -10,10 +10,10 @@ use Rattle.ifr_opcodes.specs.Fields.{question_id}
 use Rattle.ifr_opcodes.specs.Forest.{Ancestor, Node, below}
 use Rattle.ifr_opcodes.specs.Opcode.{number}
 use Rattle.ifr_opcodes.specs.Rows.{is_question_number}
-use Rattle.ifr_scopes.specs.Guards.{guards, is_guard, nodes_on}
-use Rattle.ifr_scopes.specs.Locks.{chain, first_lock, has_place, is_locked, locked_in, locks_scope}
-use Rattle.ifr_scopes.specs.Nodes as node
-use Rattle.ifr_scopes.specs.Nodes.{id_or_0, is_option, is_default, questions_among}
+use Rattle.ifr_nodes.specs.Guards.{guards, is_guard, nodes_on}
+use Rattle.ifr_nodes.specs.Locks.{chain, first_lock, has_place, is_locked, locked_in, locks_scope}
+use Rattle.ifr_nodes.specs.Nodes as node
+use Rattle.ifr_nodes.specs.Nodes.{id_or_0, is_option, is_default, questions_among}
 use Rattle.ifr_opcodes.proofs.TableLemmas.{numbers, agree, not_this}
 use Rattle.rules_laws.proofs.OpcodeListLemmas.{question_same, statement_same}
 use Rattle.rules_laws.proofs.OpcodeScopeLemmas.{guard_same}

@@ -11,13 +11,13 @@ use Rattle.ifr_opcodes.specs.OptionFields.{default_kind}
 use Rattle.ifr_opcodes.specs.Rows.{operands, is_question_number, is_statement_number, is_store_number, is_condition_number, is_ignored}
 use Rattle.ifr_opcodes.specs.declared.codes.TheConstants.{FORM, ONE_OF_OPTION, DEFAULT, DEFAULTSTORE, VALUE, RULE, LOCKED, SUPPRESS_IF, GRAY_OUT_IF, DISABLE_IF}
 use Rattle.ifr_opcodes.specs.declared.kinds.TheConstants.{TYPE_OTHER}
-use Rattle.ifr_scopes.specs.Guards.{is_guard}
-use Rattle.ifr_scopes.specs.Structure.{has_wrong_scope}
-use Rattle.ifr_scopes.specs.Table.{row, wants_expression, wants_value, admits, class_of, guarded, class_around}
-use Rattle.ifr_scopes.specs.declared.table.Class.{Class}
-use Rattle.ifr_scopes.specs.declared.table.Class.TheVariants.{OfFormSet, OfForm, OfText, OfQuestion, OfChoice, OfOptions, OfOption, OfExpression, OfNothing}
-use Rattle.ifr_scopes.proofs.ClassLemmas.{class-guard, class-other}
-use Rattle.ifr_scopes.proofs.TableLemmas.{none_opens}
+use Rattle.ifr_nodes.specs.Guards.{is_guard}
+use Rattle.ifr_nodes.specs.Structure.{has_wrong_scope}
+use Rattle.ifr_nodes.specs.Table.{row, wants_expression, wants_value, admits, class_of, guarded, class_around}
+use Rattle.ifr_nodes.specs.declared.table.Class.{Class}
+use Rattle.ifr_nodes.specs.declared.table.Class.TheVariants.{OfFormSet, OfForm, OfText, OfQuestion, OfChoice, OfOptions, OfOption, OfExpression, OfNothing}
+use Rattle.ifr_nodes.proofs.ClassLemmas.{class-guard, class-other}
+use Rattle.ifr_nodes.proofs.TableLemmas.{none_opens}
 use Rattle.rules_laws.specs.laws.Opcodes.{class_for}
 use Rattle.std.proofs.Math.Bool.{and_assoc}
 use Rattle.ifr_opcodes.proofs.TableLemmas.{numbers, agree, not_this}

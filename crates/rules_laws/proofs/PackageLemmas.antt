@@ -4,9 +4,9 @@ use Rattle.hii_bytes.specs.Faults.{HasNone}
 use Rattle.ifr_opcodes.specs.Forest.{Forest, SpellsForest, nodes}
 use Rattle.ifr_opcodes.specs.Reading.{tree_of}
 use Rattle.ifr_opcodes.proofs.ForestLemmas.{is_tree_of}
-use Rattle.ifr_scopes.specs.Accepted.{IsAccepted}
-use Rattle.ifr_scopes.specs.Checked.{IsChecked}
-use Rattle.ifr_scopes.specs.Nodes.{nodes_of}
+use Rattle.ifr_nodes.specs.Accepted.{IsAccepted}
+use Rattle.ifr_nodes.specs.Checked.{IsChecked}
+use Rattle.ifr_nodes.specs.Nodes.{nodes_of}
 use Rattle.hii_varstore.specs.StoreNodes.{IsStoreFault}
 use Rattle.hii_questions.specs.Faults.{IsQuestionFault}
 use Rattle.rules_laws.specs.laws.Ids.{AreReferred, AreStores}

@@ -22,9 +22,9 @@ use Rattle.ifr_opcodes.specs.Reading.{tree_of}
 use Rattle.ifr_opcodes.specs.declared.codes.TheConstants as numbers
 use Rattle.ifr_opcodes.specs.declared.numbers.Display.TheVariants.{Signed, Unsigned, Hexadecimal}
 use Rattle.ifr_expr.specs.Values.{Value, undefined}
-use Rattle.ifr_scopes.specs.Nodes as node
-use Rattle.ifr_scopes.specs.Nodes.{nodes_of}
-use Rattle.ifr_scopes.proofs.ViewLemmas.{below_within, further}
+use Rattle.ifr_nodes.specs.Nodes as node
+use Rattle.ifr_nodes.specs.Nodes.{nodes_of}
+use Rattle.ifr_nodes.proofs.ViewLemmas.{below_within, further}
 use Rattle.hii_varstore.specs.StoreNodes.{layout_of}
 use Rattle.hii_varstore.specs.Stores.{StoreMap, shape_of}
 use Rattle.hii_questions.specs.Answers.{answer_in, value_of_bytes, value_of_field}

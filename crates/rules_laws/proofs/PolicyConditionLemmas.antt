@@ -28,18 +28,18 @@ use Rattle.ifr_expr.specs.Trees.{Tree, Means, IsFitting, expression, post}
 use Rattle.ifr_expr.specs.code.Bytes.{opcodes_of}
 use Rattle.ifr_expr.proofs.CheckLemmas.{done_where_sound, one_value}
 use Rattle.ifr_expr.proofs.NodeLemmas.{is_expression_node, opcodes_are}
-use Rattle.ifr_scopes.specs.Checked.{IsChecked}
-use Rattle.ifr_scopes.specs.Conditions.{expression_tree}
-use Rattle.ifr_scopes.specs.Guards.{is_guard}
-use Rattle.ifr_scopes.specs.Nodes.{nodes_of, this_of}
-use Rattle.ifr_scopes.specs.Rules.{end_or_0, form_end, forms_among, rule_nodes, rules_among}
-use Rattle.ifr_scopes.specs.Rules as rules
-use Rattle.ifr_scopes.specs.Table.{wants_expression}
-use Rattle.ifr_scopes.proofs.BehindLemmas.{is_node_of}
-use Rattle.ifr_scopes.proofs.NodeFactLemmas.{HasCondition, has_condition}
-use Rattle.ifr_scopes.proofs.PlaceLemmas.{node_stands}
-use Rattle.ifr_scopes.proofs.RuleOrderLemmas.{rule_there}
-use Rattle.ifr_scopes.proofs.ViewLemmas.{below_within, further}
+use Rattle.ifr_nodes.specs.Checked.{IsChecked}
+use Rattle.ifr_nodes.specs.NodeExpressions.{expression_tree}
+use Rattle.ifr_nodes.specs.Guards.{is_guard}
+use Rattle.ifr_nodes.specs.Nodes.{nodes_of, this_of}
+use Rattle.ifr_nodes.specs.Rules.{end_or_0, form_end, forms_among, rule_nodes, rules_among}
+use Rattle.ifr_nodes.specs.Rules as rules
+use Rattle.ifr_nodes.specs.Table.{wants_expression}
+use Rattle.ifr_nodes.proofs.BehindLemmas.{is_node_of}
+use Rattle.ifr_nodes.proofs.NodeFactLemmas.{HasCondition, has_condition}
+use Rattle.ifr_nodes.proofs.PlaceLemmas.{node_stands}
+use Rattle.ifr_nodes.proofs.RuleOrderLemmas.{rule_there}
+use Rattle.ifr_nodes.proofs.ViewLemmas.{below_within, further}
 use Rattle.hii_varstore.specs.Stores.{StoreMap}
 use Rattle.hii_questions.specs.Answers.{answers}
 use Rattle.guard_policy.specs.World.{is_met_over, world_over}

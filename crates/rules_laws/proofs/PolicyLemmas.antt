@@ -14,15 +14,15 @@ use Rattle.ifr_opcodes.specs.Forest.{Ancestor, Node, as_ancestor, below}
 use Rattle.ifr_opcodes.specs.Opcode.{number}
 use Rattle.ifr_opcodes.specs.Reading.{tree_of}
 use Rattle.ifr_opcodes.specs.declared.codes.TheConstants as numbers
-use Rattle.ifr_scopes.specs.Conditions.{message}
-use Rattle.ifr_scopes.specs.Guards.{guards, is_guard, node_within, nodes_on}
+use Rattle.ifr_nodes.specs.NodeExpressions.{message}
+use Rattle.ifr_nodes.specs.Guards.{guards, is_guard, node_within, nodes_on}
 use Rattle.ifr_opcodes.specs.Rows.{is_condition_number}
 use Rattle.ifr_opcodes.proofs.StatementLemmas.{inconsistent_is, no_submit_is, warning_is}
-use Rattle.ifr_scopes.specs.Locks.{first_lock}
-use Rattle.ifr_scopes.specs.Nodes as node
-use Rattle.ifr_scopes.specs.Nodes.{nodes_of}
-use Rattle.ifr_scopes.proofs.ScopeLemmas.{IsScopeOf, Nest, path_nests}
-use Rattle.ifr_scopes.proofs.ViewLemmas.{below_within, further}
+use Rattle.ifr_nodes.specs.Locks.{first_lock}
+use Rattle.ifr_nodes.specs.Nodes as node
+use Rattle.ifr_nodes.specs.Nodes.{nodes_of}
+use Rattle.ifr_nodes.proofs.ScopeLemmas.{IsScopeOf, Nest, path_nests}
+use Rattle.ifr_nodes.proofs.ViewLemmas.{below_within, further}
 use Rattle.hii_varstore.specs.Layout.{size_of}
 use Rattle.hii_varstore.specs.StoreNodes.{layout_of}
 use Rattle.hii_varstore.specs.Stores.{StoreMap}

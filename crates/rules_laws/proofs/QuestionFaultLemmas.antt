@@ -11,7 +11,7 @@ use Rattle.ifr_opcodes.specs.Fields.{question_store, numeric_flags, one_of_width
 use Rattle.ifr_opcodes.specs.Forest.{Node}
 use Rattle.ifr_opcodes.specs.Opcode.{number}
 use Rattle.ifr_opcodes.specs.declared.codes.TheConstants.{ONE_OF, ORDERED_LIST}
-use Rattle.ifr_scopes.specs.Nodes.{is_question, is_store, options}
+use Rattle.ifr_nodes.specs.Nodes.{is_question, is_store, options}
 use Rattle.hii_varstore.specs.Layout.{size_of}
 use Rattle.hii_varstore.specs.StoreNodes.{layout_of}
 use Rattle.hii_questions.specs.Faults.{QuestionPart, itself, option, IsQuestionFault, has_question_fault, is_field_outside, is_known, is_mixed, is_of_another_type, is_option_too_large, is_past, lacks_store, parts_of, place_of}

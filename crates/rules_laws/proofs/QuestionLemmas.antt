@@ -19,8 +19,8 @@ use Rattle.ifr_opcodes.specs.Opcode.{number}
 use Rattle.ifr_opcodes.specs.Rows.{row_of, is_question_number}
 use Rattle.ifr_opcodes.specs.declared.codes.TheConstants.{CHECKBOX, NUMERIC, ONE_OF, STRING, PASSWORD, ORDERED_LIST}
 use Rattle.ifr_opcodes.specs.declared.numbers.Display.TheVariants.{Signed, Unsigned, Hexadecimal}
-use Rattle.ifr_scopes.specs.Nodes as node
-use Rattle.ifr_scopes.specs.Nodes.{is_question}
+use Rattle.ifr_nodes.specs.Nodes as node
+use Rattle.ifr_nodes.specs.Nodes.{is_question}
 use Rattle.hii_varstore.specs.Layout.{size_of}
 use Rattle.hii_varstore.specs.code.Ranges.{HasRange}
 use Rattle.hii_varstore.specs.StoreNodes.{layout_of}

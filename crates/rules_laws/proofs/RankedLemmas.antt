@@ -6,10 +6,10 @@ use Rattle.std.proofs.lemmas.Bool.{cases_Bool, or_parts, or_from, and_left, and_
 use Rattle.std.proofs.lemmas.List.{append-nil}
 use Rattle.std.proofs.lemmas.List.Elements.{Contains-append_right}
 use Rattle.ifr_opcodes.specs.Forest.{Node}
-use Rattle.ifr_scopes.specs.References.{Ranked, ranked}
-use Rattle.ifr_scopes.proofs.NamedLemmas.{each}
+use Rattle.ifr_nodes.specs.ReferenceFaults.{Ranked, ranked}
+use Rattle.ifr_nodes.proofs.NamedLemmas.{each}
 use Rattle.ifr_scopes.proofs.OptionsOfLemmas.{passes}
-use Rattle.ifr_scopes.proofs.ViewLemmas.{further}
+use Rattle.ifr_nodes.proofs.ViewLemmas.{further}
 use Rattle.hii_questions.proofs.FieldLemmas.{passing}
 use Rattle.rules_laws.proofs.FoundLemmas.{nothing, first_or_later, gives, given, any_passes, some_passes}
 

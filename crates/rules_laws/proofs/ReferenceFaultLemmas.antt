@@ -24,15 +24,15 @@ use Rattle.ifr_expr.specs.declared.references.RuleReference.{RuleReference}
 use Rattle.ifr_expr.proofs.CheckLemmas.{done_where_sound, means_node}
 use Rattle.ifr_expr.proofs.NodeLemmas.{is_expression_node, opcodes_are}
 use Rattle.ifr_expr.proofs.TreeLemmas.{is_tree_of}
-use Rattle.ifr_scopes.specs.Checked.{IsChecked}
-use Rattle.ifr_scopes.specs.Nodes as nodes
-use Rattle.ifr_scopes.specs.Nodes.{is_form, is_reference, nodes_of}
-use Rattle.ifr_scopes.specs.References.{Ranked, ranked, has_form_id, has_question_id, is_lost, has_reference_fault, IsRankedFault, IsReferenceFault}
-use Rattle.ifr_scopes.specs.Rules.{is_rule, forms_among, end_or_0, form_end, expression_place, rules_among, size, size_over, rule_sizes, greatest, is_rule_too_large}
-use Rattle.ifr_scopes.specs.Rules as rules
-use Rattle.ifr_scopes.specs.declared.rules.RuleSize.{RuleSize}
-use Rattle.ifr_scopes.proofs.PlaceLemmas.{node_stands}
-use Rattle.ifr_scopes.proofs.RuleFacts.{rule_fact}
+use Rattle.ifr_nodes.specs.Checked.{IsChecked}
+use Rattle.ifr_nodes.specs.Nodes as nodes
+use Rattle.ifr_nodes.specs.Nodes.{is_form, is_reference, nodes_of}
+use Rattle.ifr_nodes.specs.ReferenceFaults.{Ranked, ranked, has_form_id, has_question_id, is_lost, has_reference_fault, IsRankedFault, IsReferenceFault}
+use Rattle.ifr_nodes.specs.Rules.{is_rule, forms_among, end_or_0, form_end, expression_place, rules_among, size, size_over, rule_sizes, greatest, is_rule_too_large}
+use Rattle.ifr_nodes.specs.Rules as rules
+use Rattle.ifr_nodes.specs.declared.rules.RuleSize.{RuleSize}
+use Rattle.ifr_nodes.proofs.PlaceLemmas.{node_stands}
+use Rattle.ifr_nodes.proofs.RuleFacts.{rule_fact}
 use Rattle.browser_rules.specs.Expressions as expressions
 use Rattle.browser_rules.specs.Expressions.{is_named}
 use Rattle.browser_rules.specs.Faults.{Fault, Size, sizes_of, reference_faults, is_large, fault_if, size_over as chapter_size_over, ranked_faults as chapter_fault}

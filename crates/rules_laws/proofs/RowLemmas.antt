@@ -8,19 +8,19 @@ use Rattle.ifr_opcodes.specs.Rows.{operands, is_operator, row_of, is_listed, is_
 use Rattle.ifr_opcodes.proofs.RowLemmas.{none_takes}
 use Rattle.ifr_opcodes.specs.Forest.{Ancestor}
 use Rattle.ifr_opcodes.proofs.TableLemmas.{numbers, and_first, of_kind, not_of_kind}
-use Rattle.ifr_scopes.specs.Guards.{is_guard}
-use Rattle.ifr_scopes.specs.Table.{row, class_of, guarded, admits, wants_expression, wants_value, class_around}
-use Rattle.ifr_scopes.specs.declared.table.Class.{Class}
-use Rattle.ifr_scopes.specs.declared.table.Class.TheVariants.{OfFormSet, OfForm, OfText, OfQuestion, OfChoice, OfOptions, OfOption, OfExpression, OfNothing}
-use Rattle.ifr_scopes.specs.declared.table.Row.{Row}
-use Rattle.ifr_scopes.specs.declared.table.Scope.TheVariants.{Always}
-use Rattle.ifr_scopes.proofs.ClassLemmas.{class-guard, class-other}
-use Rattle.ifr_scopes.proofs.TableLemmas.{class_fact}
+use Rattle.ifr_nodes.specs.Guards.{is_guard}
+use Rattle.ifr_nodes.specs.Table.{row, class_of, guarded, admits, wants_expression, wants_value, class_around}
+use Rattle.ifr_nodes.specs.declared.table.Class.{Class}
+use Rattle.ifr_nodes.specs.declared.table.Class.TheVariants.{OfFormSet, OfForm, OfText, OfQuestion, OfChoice, OfOptions, OfOption, OfExpression, OfNothing}
+use Rattle.ifr_nodes.specs.declared.table.OpcodeRow.{OpcodeRow}
+use Rattle.ifr_nodes.specs.declared.table.Scope.TheVariants.{Always}
+use Rattle.ifr_nodes.proofs.ClassLemmas.{class-guard, class-other}
+use Rattle.ifr_nodes.proofs.TableLemmas.{class_fact}
 use Rattle.rules_laws.specs.laws.WellFormed.{class_inside}
 
 -- ---- rows
 
-some_row : (o : Option Row) → is_some o ≡ true → (r : Row) × (o ≡ Some r)
+some_row : (o : Option OpcodeRow) → is_some o ≡ true → (r : OpcodeRow) × (o ≡ Some r)
 some_row None e = absurd (false≢true e)
 some_row (Some r) e = (r, refl)
 
@@ -32,7 +32,7 @@ none_listed : (code : ℕ) → row_of code ≡ None → is_listed code ≡ false
 none_listed code none = rw none refl
 
 -- a number that is known has a row
-pub listed_row : (code : ℕ) → is_listed code ≡ true → (r : Row) × (row code ≡ Some r)
+pub listed_row : (code : ℕ) → is_listed code ≡ true → (r : OpcodeRow) × (row code ≡ Some r)
 listed_row code is = some_row (row code) (of_kind is_listed (λ c. is_some (row c)) listed_open none_listed code is)
 
 -- ---- scopes that are not an operator's

@@ -10,13 +10,13 @@ use Rattle.ifr_opcodes.specs.Rows.{is_operator, is_listed, is_short}
 use Rattle.ifr_opcodes.proofs.RowLemmas.{operator_inside}
 use Rattle.ifr_opcodes.proofs.TableLemmas.{and_first}
 use Rattle.ifr_expr.specs.Trees.{siblings}
-use Rattle.ifr_scopes.specs.Structure.{has_structure_fault, has_wrong_scope, is_condition, is_wanted, is_operand, lacks_wanted}
-use Rattle.ifr_scopes.specs.Table.{row, class_of, class_around, admits, wants_expression}
-use Rattle.ifr_scopes.specs.declared.table.Class.{Class}
-use Rattle.ifr_scopes.specs.declared.table.Class.TheVariants.{OfExpression, OfNothing}
-use Rattle.ifr_scopes.specs.declared.table.Row.{Row}
-use Rattle.ifr_scopes.proofs.ClassLemmas.{class-other}
-use Rattle.ifr_scopes.proofs.TableLemmas.{operator_row, guards_no_operator, wants_no_operator, wants_no_value}
+use Rattle.ifr_nodes.specs.Structure.{has_structure_fault, has_wrong_scope, is_condition, is_wanted, is_operand, lacks_wanted}
+use Rattle.ifr_nodes.specs.Table.{row, class_of, class_around, admits, wants_expression}
+use Rattle.ifr_nodes.specs.declared.table.Class.{Class}
+use Rattle.ifr_nodes.specs.declared.table.Class.TheVariants.{OfExpression, OfNothing}
+use Rattle.ifr_nodes.specs.declared.table.OpcodeRow.{OpcodeRow}
+use Rattle.ifr_nodes.proofs.ClassLemmas.{class-other}
+use Rattle.ifr_nodes.proofs.TableLemmas.{operator_row, guards_no_operator, wants_no_operator, wants_no_value}
 use Rattle.rules_laws.specs.laws.Expressions.{AreFurther, IsGoodExpression}
 use Rattle.rules_laws.specs.laws.WellFormed.{Beginning, an_expression, a_value, nothing_first, wanted_by, class_inside, IsGoodOpcode, StandsIn}
 use Rattle.rules_laws.proofs.ExpressionLemmas.{behind, are_operators, good_is_clear}
@@ -32,7 +32,7 @@ begins_nothing op children known = or_from _ _ (and_left _ _ (wants_no_operator 
 -- the scope of an operator, which opens none in another's
 operator_scope : (n : Node) (operand : Bool) → is_operator (number n.op) ≡ true → is_operand n ≡ operand → (operand && has_scope n.op) ≡ false → has_wrong_scope (row (number n.op)) (is_operand n) n.op ≡ false
 operator_scope n operand known is free =
-    ap (λ (r : Option Row). has_wrong_scope r (is_operand n) n.op) (operator_row (number n.op) known) ∙ ap (λ (b : Bool). b && has_scope n.op) is ∙ free
+    ap (λ (r : Option OpcodeRow). has_wrong_scope r (is_operand n) n.op) (operator_row (number n.op) known) ∙ ap (λ (b : Bool). b && has_scope n.op) is ∙ free
 
 operator_clean : (place : ℕ) (op : List ℕ) (children : Forest) (outer : List Ancestor) (a : Ancestor) → 4 < place → is_operator (number op) ≡ true → is_short op ≡ false
     → has_structure_fault (there place op children outer a) Misplaced ≡ false → (is_operator (number a.op) && has_scope op) ≡ false → (is_condition (there place op children outer a) ≡ true → IsGoodExpression place op children)

@@ -6,10 +6,10 @@ use Rattle.ifr_opcodes.specs.Forest.{Forest, none, node, flat, Mark, Ancestor, N
 use Rattle.ifr_opcodes.specs.Opcode.{number}
 use Rattle.ifr_opcodes.specs.Rows.{is_operator}
 use Rattle.ifr_opcodes.proofs.ForestLemmas.{takes}
-use Rattle.ifr_scopes.specs.Structure.{begins_scope, begins_with_value, stands_first, is_root, is_condition, is_operand, parent, is_operator_scope, first_number, lacks_expression, lacks_value, lacks_wanted}
-use Rattle.ifr_scopes.specs.Table.{class_around, wants_expression, wants_value}
-use Rattle.ifr_scopes.specs.declared.table.Class.{Class}
-use Rattle.ifr_scopes.proofs.ExpressionLemmas.{innermost-push}
+use Rattle.ifr_nodes.specs.Structure.{begins_scope, begins_with_value, stands_first, is_root, is_condition, is_operand, parent, is_operator_scope, first_number, lacks_expression, lacks_value, lacks_wanted}
+use Rattle.ifr_nodes.specs.Table.{class_around, wants_expression, wants_value}
+use Rattle.ifr_nodes.specs.declared.table.Class.{Class}
+use Rattle.ifr_nodes.proofs.ExpressionLemmas.{innermost-push}
 use Rattle.rules_laws.specs.laws.WellFormed.{Beginning, an_expression, a_value, nothing_first, wanted_by, class_inside}
 use Rattle.rules_laws.proofs.RowLemmas.{is_plain, inside_plain, class_around-inside, value_alone}
 

@@ -13,8 +13,8 @@ use Rattle.hii_varstore.specs.Layout.{Shape}
 use Rattle.hii_varstore.specs.StoreNodes.{repeats_store, IsStoreFault}
 use Rattle.hii_varstore.specs.declared.buffer.Buffer.{Buffer}
 use Rattle.ifr_opcodes.specs.Forest.{Node}
-use Rattle.ifr_scopes.specs.Nodes.{is_store}
-use Rattle.ifr_scopes.specs.References.{Ranked, ranked}
+use Rattle.ifr_nodes.specs.Nodes.{is_store}
+use Rattle.ifr_nodes.specs.ReferenceFaults.{Ranked, ranked}
 use Rattle.ifr_scopes.specs.Stores as node
 use Rattle.browser_rules.specs.Faults.{Fault, Part, these, any, image_faults, image_faults_from, store_faults, buffer_parts, fault_if, ranked as chapter_ranked, store_fault as chapter_fault}
 use Rattle.browser_rules.specs.Stores as chapter

@@ -14,7 +14,7 @@ use Rattle.ifr_opcodes.specs.Forest.{Node}
 use Rattle.ifr_opcodes.specs.Rows.{row_of, is_store_number}
 use Rattle.ifr_opcodes.proofs.StatementLemmas.{none_stores}
 use Rattle.ifr_opcodes.proofs.TableLemmas.{numbers, of_kind}
-use Rattle.ifr_scopes.specs.Nodes.{is_store}
+use Rattle.ifr_nodes.specs.Nodes.{is_store}
 use Rattle.ifr_scopes.specs.Stores as node
 use Rattle.hii_varstore.specs.declared.buffer.Buffer.{Buffer}
 use Rattle.hii_varstore.specs.Image.{SpellsImage, store_image, stores_image, image_of, older_image_of}

@@ -13,9 +13,9 @@ use Rattle.ifr_opcodes.specs.Opcode.{number}
 use Rattle.ifr_opcodes.specs.Rows.{is_operator}
 use Rattle.ifr_expr.specs.Faults.{IsShapeFault}
 use Rattle.ifr_expr.specs.Trees.{siblings}
-use Rattle.ifr_scopes.specs.Structure as tree
-use Rattle.ifr_scopes.specs.Structure.{is_root, is_condition, is_wanted, is_operand, begins_scope, begins_with_value, is_operator_scope, first_number, has_structure_fault, IsStructureFault}
-use Rattle.ifr_scopes.specs.Table.{admits, class_around, wants_value, wants_expression}
+use Rattle.ifr_nodes.specs.Structure as tree
+use Rattle.ifr_nodes.specs.Structure.{is_root, is_condition, is_wanted, is_operand, begins_scope, begins_with_value, is_operator_scope, first_number, has_structure_fault, IsStructureFault}
+use Rattle.ifr_nodes.specs.Table.{admits, class_around, wants_value, wants_expression}
 use Rattle.browser_rules.specs.Expressions as rules
 use Rattle.browser_rules.specs.Faults.{Fault, structure_faults, class_along, is_first_in, is_misplaced, has_wrong_scope, begins_with_other, lacks_expression, fault_if, is_good_operator, order_faults, expression_faults, node_faults}
 use Rattle.browser_rules.specs.Nodes.{is}

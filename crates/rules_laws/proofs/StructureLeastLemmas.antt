@@ -14,17 +14,17 @@ use Rattle.ifr_opcodes.specs.Reading.{tree_of}
 use Rattle.ifr_opcodes.specs.code.Marks.{mark}
 use Rattle.ifr_opcodes.proofs.TableLemmas.{and_first, and_second}
 use Rattle.ifr_expr.specs.Faults.{has_opcode_fault, IsOpcodeFault}
-use Rattle.ifr_scopes.specs.Nodes.{nodes_of}
-use Rattle.ifr_scopes.specs.Structure.{begins_scope, begins_with_value, has_structure_fault, has_wrong_scope, innermost, is_condition, is_expression, is_operand, is_operator_scope, is_root, is_wanted, parent, IsNodeFault, IsStructureFault}
-use Rattle.ifr_scopes.specs.Table.{admits, class_around, class_of}
-use Rattle.ifr_scopes.specs.declared.table.Class.{Class}
-use Rattle.ifr_scopes.specs.declared.table.Class.TheVariants.{OfExpression}
-use Rattle.ifr_scopes.specs.declared.table.Row.{Row}
-use Rattle.ifr_scopes.proofs.BehindLemmas.{is_node_of}
-use Rattle.ifr_scopes.proofs.ClassLemmas.{class-other}
-use Rattle.ifr_scopes.proofs.ExpressionLemmas.{IsIn, innermost-push, own_fault}
-use Rattle.ifr_scopes.proofs.TableLemmas.{guards_no_operator, operator_row, wants_no_operator, wants_no_value}
-use Rattle.ifr_scopes.proofs.ViewLemmas.{below_within}
+use Rattle.ifr_nodes.specs.Nodes.{nodes_of}
+use Rattle.ifr_nodes.specs.Structure.{begins_scope, begins_with_value, has_structure_fault, has_wrong_scope, innermost, is_condition, is_expression, is_operand, is_operator_scope, is_root, is_wanted, parent, IsNodeFault, IsStructureFault}
+use Rattle.ifr_nodes.specs.Table.{admits, class_around, class_of}
+use Rattle.ifr_nodes.specs.declared.table.Class.{Class}
+use Rattle.ifr_nodes.specs.declared.table.Class.TheVariants.{OfExpression}
+use Rattle.ifr_nodes.specs.declared.table.OpcodeRow.{OpcodeRow}
+use Rattle.ifr_nodes.proofs.BehindLemmas.{is_node_of}
+use Rattle.ifr_nodes.proofs.ClassLemmas.{class-other}
+use Rattle.ifr_nodes.proofs.ExpressionLemmas.{IsIn, innermost-push, own_fault}
+use Rattle.ifr_nodes.proofs.TableLemmas.{guards_no_operator, operator_row, wants_no_operator, wants_no_value}
+use Rattle.ifr_nodes.proofs.ViewLemmas.{below_within}
 use Rattle.browser_rules.specs.Faults.{IsLeast, structure_faults}
 use Rattle.hii_bytes.specs.Causes.{fault_for}
 use Rattle.rules_laws.specs.laws.Structure.{opcodes_at, IsOwnFault}
@@ -55,7 +55,7 @@ misplaced n p i other =
 
 scoped : (n p : Node) → IsIn n p → is_operator (number n.op) ≡ true → has_scope n.op ≡ true → has_structure_fault n ScopeBit ≡ true
 scoped n p i operator scope =
-    ap (λ (r : Option Row). has_wrong_scope r (is_operand n) n.op) (operator_row (number n.op) operator)
+    ap (λ (r : Option OpcodeRow). has_wrong_scope r (is_operand n) n.op) (operator_row (number n.op) operator)
     ∙ and_from (is_operand n) (has_scope n.op) (ap is_operator_scope (its_parent n p i) ∙ i.operator) scope
 
 -- What its opcode has in the expression, the node has as well, but for Scope: where that is no operator's, it is misplaced.

@@ -22,13 +22,13 @@ use Rattle.ifr_expr.specs.declared.references.RuleReference.{RuleReference}
 use Rattle.ifr_expr.proofs.CheckLemmas.{done_where_sound, means_node}
 use Rattle.ifr_expr.proofs.NodeLemmas.{is_expression_node, opcodes_are}
 use Rattle.ifr_expr.proofs.TreeLemmas.{is_tree_of}
-use Rattle.ifr_scopes.specs.Checked.{IsChecked}
-use Rattle.ifr_scopes.specs.Nodes.{nodes_of}
-use Rattle.ifr_scopes.specs.Rules.{is_rule, as_rule, expression_place}
-use Rattle.ifr_scopes.proofs.BehindLemmas.{siblings_inside}
-use Rattle.ifr_scopes.proofs.PlaceLemmas.{node_stands}
-use Rattle.ifr_scopes.proofs.RuleFacts.{rule_fact}
-use Rattle.ifr_scopes.proofs.ViewLemmas.{further}
+use Rattle.ifr_nodes.specs.Checked.{IsChecked}
+use Rattle.ifr_nodes.specs.Nodes.{nodes_of}
+use Rattle.ifr_nodes.specs.Rules.{is_rule, as_rule, expression_place}
+use Rattle.ifr_nodes.proofs.BehindLemmas.{siblings_inside}
+use Rattle.ifr_nodes.proofs.PlaceLemmas.{node_stands}
+use Rattle.ifr_nodes.proofs.RuleFacts.{rule_fact}
+use Rattle.ifr_nodes.proofs.ViewLemmas.{further}
 use Rattle.rules_laws.specs.laws.Naming.{is_rule_reference, references_in}
 
 -- ---- nodes of which none has a scope

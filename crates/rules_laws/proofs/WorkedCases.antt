@@ -8,10 +8,10 @@ use Rattle.ifr_opcodes.specs.Forest.{Forest, none, node}
 use Rattle.ifr_opcodes.specs.Opcode.{number}
 use Rattle.ifr_opcodes.specs.Rows.{row_of, operands, is_question_number, is_statement_number, is_store_number, is_condition_number, is_ignored}
 use Rattle.ifr_expr.specs.Trees.{leaf}
-use Rattle.ifr_scopes.specs.Table.{row}
-use Rattle.ifr_scopes.specs.declared.table.Class.TheVariants.{OfFormSet, OfForm, OfNothing, OfQuestion}
-use Rattle.ifr_scopes.specs.declared.table.Row.{Row}
-use Rattle.ifr_scopes.specs.declared.table.Scope.TheVariants.{Always, Sometimes, Never}
+use Rattle.ifr_nodes.specs.Table.{row}
+use Rattle.ifr_nodes.specs.declared.table.Class.TheVariants.{OfFormSet, OfForm, OfNothing, OfQuestion}
+use Rattle.ifr_nodes.specs.declared.table.OpcodeRow.{OpcodeRow}
+use Rattle.ifr_nodes.specs.declared.table.Scope.TheVariants.{Always, Sometimes, Never}
 use Rattle.rules_laws.specs.laws.Expressions.{IsGoodExpression}
 use Rattle.rules_laws.specs.laws.WellFormed.{an_expression, a_value, nothing_first, FitsScope, IsGoodOpcode, IsFormSet}
 use Rattle.rules_laws.proofs.ExpressionLemmas.{are_operators}
@@ -38,10 +38,10 @@ form f = form_set (around FORM 6 f none)
 
 -- ---- one that is well-formed
 
-scope_fits : (o : List ℕ) (r : Row) → IsGoodOpcode o → row (number o) ≡ Some r → FitsScope r.scope o
+scope_fits : (o : List ℕ) (r : OpcodeRow) → IsGoodOpcode o → row (number o) ≡ Some r → FitsScope r.scope o
 scope_fits o r g found =
     let same : g.in_table ≡ r = cc (sym g.found ∙ found) in
-    subst (λ (x : Row). FitsScope x.scope o) same g.scoped
+    subst (λ (x : OpcodeRow). FitsScope x.scope o) same g.scoped
 
 -- a checkbox, and a guard with its condition around another
 guarded_checkbox : IsFormSet (form (single CHECKBOX 14 (around SUPPRESS_IF 2 (single TRUE 2 (single CHECKBOX 14 none)) none)))

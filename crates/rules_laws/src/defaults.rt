@@ -6,7 +6,7 @@ ghost use Rattle.browser_rules.specs.Stores.{Stores};
 ghost use Rattle.ifr_opcodes.specs.Fields.{default_kind};
 ghost use Rattle.ifr_opcodes.specs.Forest.{Node};
 ghost use Rattle.ifr_opcodes.specs.declared.kinds.TheConstants.{TYPE_OTHER};
-ghost use Rattle.ifr_scopes.specs.Nodes.{is_question};
+ghost use Rattle.ifr_nodes.specs.Nodes.{is_question};
 ghost use Rattle.ifr_defaults.specs.Defaults.{Sources, default_of, default_with};
 ghost use Rattle.rules_laws.specs.laws.Defaults.{HasSameValue};
 ghost use Rattle.rules_laws.specs.laws.Questions.{offer_for};

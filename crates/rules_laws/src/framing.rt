@@ -3,7 +3,7 @@
 ghost use Rattle.std.specs.Prelude.{◌≡◌, ◌↔◌, ℕ, List, []};
 ghost use Rattle.ifr_opcodes.specs.Forest.{SpellsForest};
 ghost use Rattle.ifr_opcodes.specs.Reading.{tree_of};
-ghost use Rattle.ifr_scopes.specs.Framing.{IsFramingFault};
+ghost use Rattle.ifr_nodes.specs.Framing.{IsFramingFault};
 ghost use Rattle.browser_rules.specs.Faults.{framing_faults};
 ghost use Rattle.hii_bytes.specs.Faults.{AreFaults};
 

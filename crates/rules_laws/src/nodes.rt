@@ -6,10 +6,10 @@ ghost use Rattle.browser_rules.specs.Nodes as chapter;
 ghost use Rattle.browser_rules.specs.Opcodes as rows;
 ghost use Rattle.ifr_opcodes.specs.Fields.{question_id, ref_target};
 ghost use Rattle.ifr_opcodes.specs.Forest.{Node};
-ghost use Rattle.ifr_scopes.specs.Guards.{guards};
-ghost use Rattle.ifr_scopes.specs.Locks.{first_lock};
-ghost use Rattle.ifr_scopes.specs.Nodes as node;
-ghost use Rattle.ifr_scopes.specs.References.{form_with};
+ghost use Rattle.ifr_nodes.specs.Guards.{guards};
+ghost use Rattle.ifr_nodes.specs.Locks.{first_lock};
+ghost use Rattle.ifr_nodes.specs.Nodes as node;
+ghost use Rattle.ifr_nodes.specs.ReferenceFaults.{form_with};
 
 /// The nodes of a package are those of the chapters, and each ends where it does there.
 pub fn a_package_has_the_nodes_of_the_chapters()

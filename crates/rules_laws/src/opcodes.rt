@@ -16,10 +16,10 @@ ghost use Rattle.ifr_opcodes.specs.declared.codes.TheConstants.{DEFAULT, ONE_OF_
 ghost use Rattle.ifr_expr.specs.Meaning.{Rule, leaf_value, value};
 ghost use Rattle.ifr_expr.specs.Trees.{Means, Tree, expression};
 ghost use Rattle.ifr_expr.specs.Values.{Value, binary_value, holds, unary_value};
-ghost use Rattle.ifr_scopes.specs.Guards.{is_guard};
-ghost use Rattle.ifr_scopes.specs.Structure.{has_wrong_scope};
-ghost use Rattle.ifr_scopes.specs.Table.{admits, class_around, row, wants_expression, wants_value};
-ghost use Rattle.ifr_scopes.specs.declared.table.Class.{Class};
+ghost use Rattle.ifr_nodes.specs.Guards.{is_guard};
+ghost use Rattle.ifr_nodes.specs.Structure.{has_wrong_scope};
+ghost use Rattle.ifr_nodes.specs.Table.{admits, class_around, row, wants_expression, wants_value};
+ghost use Rattle.ifr_nodes.specs.declared.table.Class.{Class};
 ghost use Rattle.rules_laws.specs.laws.Opcodes.{AreGoodRules, AreOfBytes, IsSmall, around_at, class_for, mark_for, rule_for, value_for, made_of_none, made_of_one, made_of_two};
 
 /// A list holds the same numbers.

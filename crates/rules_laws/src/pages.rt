@@ -5,7 +5,7 @@ ghost use Rattle.browser_rules.specs.Pages as chapter;
 ghost use Rattle.browser_rules.specs.Policy.{World as ChapterWorld};
 ghost use Rattle.hii_bytes.specs.Faults.{HasNone};
 ghost use Rattle.ifr_opcodes.specs.Forest.{Node};
-ghost use Rattle.ifr_scopes.specs.Nodes.{nodes_of};
+ghost use Rattle.ifr_nodes.specs.Nodes.{nodes_of};
 ghost use Rattle.hii_varstore.specs.StoreNodes.{layout_of};
 ghost use Rattle.hii_varstore.specs.Stores.{StoreMap, shape_of};
 ghost use Rattle.hii_questions.specs.Faults.{IsQuestionFault};

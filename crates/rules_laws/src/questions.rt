@@ -5,7 +5,7 @@ ghost use Rattle.browser_rules.specs.Questions as chapter;
 ghost use Rattle.hii_bytes.specs.Faults.{HasNone};
 ghost use Rattle.ifr_opcodes.specs.Fields as opcode;
 ghost use Rattle.ifr_opcodes.specs.Forest.{Node};
-ghost use Rattle.ifr_scopes.specs.Nodes.{is_question};
+ghost use Rattle.ifr_nodes.specs.Nodes.{is_question};
 ghost use Rattle.hii_varstore.specs.StoreNodes.{layout_of};
 ghost use Rattle.hii_varstore.specs.Stores.{StoreMap, shape_of};
 ghost use Rattle.hii_questions.specs.Answers.{answer_of, answers};

@@ -2,9 +2,9 @@
 
 ghost use Rattle.std.specs.Prelude.{ℕ, List, Contains};
 ghost use Rattle.ifr_opcodes.specs.Forest.{Node};
-ghost use Rattle.ifr_scopes.specs.Checked.{IsChecked};
-ghost use Rattle.ifr_scopes.specs.Nodes.{nodes_of};
-ghost use Rattle.ifr_scopes.specs.References.{IsReferenceFault};
+ghost use Rattle.ifr_nodes.specs.Checked.{IsChecked};
+ghost use Rattle.ifr_nodes.specs.Nodes.{nodes_of};
+ghost use Rattle.ifr_nodes.specs.ReferenceFaults.{IsReferenceFault};
 ghost use Rattle.browser_rules.specs.Faults.{reference_faults};
 ghost use Rattle.hii_bytes.specs.Faults.{AreFaults};
 ghost use Rattle.rules_laws.specs.laws.References.{IsWholeRule};

@@ -3,7 +3,7 @@
 ghost use Rattle.std.specs.Prelude.{◌≡◌, ℕ, List, filter, true};
 ghost use Rattle.browser_rules.specs.Stores as chapter;
 ghost use Rattle.ifr_opcodes.specs.Forest.{Node};
-ghost use Rattle.ifr_scopes.specs.Nodes.{is_store};
+ghost use Rattle.ifr_nodes.specs.Nodes.{is_store};
 ghost use Rattle.ifr_scopes.specs.Stores as node;
 ghost use Rattle.hii_varstore.specs.Image.{SpellsImage, image_of};
 ghost use Rattle.hii_varstore.specs.Layout.{Shape, size_of};

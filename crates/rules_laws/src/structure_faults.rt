@@ -7,8 +7,8 @@ ghost use Rattle.hii_bytes.specs.declared.cause.Fault.{Fault as CodeFault};
 ghost use Rattle.hii_bytes.specs.Faults.{AreFaults, HasNone, IsAmong, IsLeast, IsLeastAmong};
 ghost use Rattle.ifr_opcodes.specs.Forest.{Node, SpellsForest};
 ghost use Rattle.ifr_opcodes.specs.Reading.{tree_of};
-ghost use Rattle.ifr_scopes.specs.Nodes.{nodes_of};
-ghost use Rattle.ifr_scopes.specs.Structure.{IsStructureFault};
+ghost use Rattle.ifr_nodes.specs.Nodes.{nodes_of};
+ghost use Rattle.ifr_nodes.specs.Structure.{IsStructureFault};
 ghost use Rattle.browser_rules.specs.Faults.{structure_faults};
 ghost use Rattle.rules_laws.specs.laws.Structure.{AreToldAtNodes, IsOwnFault};
 

@@ -13,7 +13,7 @@ use Rattle.browser_rules.specs.Stores as held
 use Rattle.browser_rules.specs.Strings as strings
 use Rattle.browser_rules.specs.Strings.{Spoken, spoken_in}
 use Rattle.ifr_opcodes.specs.Forest.{Node, places}
-use Rattle.ifr_scopes.specs.Nodes.{is_form, nodes_of}
+use Rattle.ifr_nodes.specs.Nodes.{is_form, nodes_of}
 use Rattle.session_steps.specs.Opening.{HasSource, Opens, layout_in}
 use Rattle.session_steps.specs.State.{State}
 use Rattle.session_laws.specs.laws.Session.{Stands, state_for}

@@ -16,9 +16,9 @@ use Rattle.ifr_opcodes.specs.Fields.{inconsistent_error, no_submit_error, warnin
 use Rattle.ifr_opcodes.specs.Forest.{Node, below}
 use Rattle.ifr_opcodes.specs.Opcode.{number}
 use Rattle.ifr_opcodes.specs.declared.codes.TheConstants as numbers
-use Rattle.ifr_scopes.specs.Conditions.{message}
-use Rattle.ifr_scopes.specs.Nodes.{is_question, nodes_of}
-use Rattle.ifr_scopes.proofs.ViewLemmas.{further}
+use Rattle.ifr_nodes.specs.NodeExpressions.{message}
+use Rattle.ifr_nodes.specs.Nodes.{is_question, nodes_of}
+use Rattle.ifr_nodes.proofs.ViewLemmas.{further}
 use Rattle.hii_varstore.specs.Stores.{StoreMap}
 use Rattle.hii_questions.specs.Changes.{with_field}
 use Rattle.hii_questions.specs.Fields.{field_of}

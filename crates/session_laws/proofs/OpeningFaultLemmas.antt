@@ -15,12 +15,12 @@ use Rattle.hii_packages.specs.Packages.{packages_of}
 use Rattle.hii_packages.specs.laws.Spelling.{IsPackage, SpellsPackages, end_package, placed}
 use Rattle.hii_packages.proofs.ListLemmas.{missing_faults}
 use Rattle.hii_packages.proofs.SpellLemmas.{spelled_of_type, spelled_where_sound}
-use Rattle.ifr_scopes.specs.Accepted.{IsPackageFault}
-use Rattle.ifr_scopes.specs.Checked.{IsChecked}
-use Rattle.ifr_scopes.specs.Framing.{IsFramingFault}
-use Rattle.ifr_scopes.specs.Nodes.{nodes_of}
-use Rattle.ifr_scopes.specs.References.{IsReferenceFault}
-use Rattle.ifr_scopes.specs.Structure.{IsStructureFault}
+use Rattle.ifr_nodes.specs.Accepted.{IsPackageFault}
+use Rattle.ifr_nodes.specs.Checked.{IsChecked}
+use Rattle.ifr_nodes.specs.Framing.{IsFramingFault}
+use Rattle.ifr_nodes.specs.Nodes.{nodes_of}
+use Rattle.ifr_nodes.specs.ReferenceFaults.{IsReferenceFault}
+use Rattle.ifr_nodes.specs.Structure.{IsStructureFault}
 use Rattle.hii_questions.specs.Faults.{IsQuestionFault}
 use Rattle.hii_varstore.specs.Faults.{IsImageFault}
 use Rattle.hii_varstore.specs.StoreNodes.{IsStoreFault}

@@ -14,7 +14,7 @@ use Rattle.browser_rules.specs.Session as session
 use Rattle.browser_rules.specs.Words as words
 use Rattle.ifr_opcodes.specs.Fields.{reset_default}
 use Rattle.ifr_opcodes.specs.Forest.{Node}
-use Rattle.ifr_scopes.specs.Nodes.{nodes_of}
+use Rattle.ifr_nodes.specs.Nodes.{nodes_of}
 use Rattle.hii_varstore.specs.Stores.{StoreMap}
 use Rattle.hii_questions.specs.Fields.{Field, field_of, is_password, question_with}
 use Rattle.hii_questions.specs.Inputs as inputs

@@ -16,7 +16,7 @@ use Rattle.browser_rules.specs.Words as words
 use Rattle.browser_rules.specs.Words.{first, is_some_and}
 use Rattle.hii_bytes.specs.declared.cause.Cause.{Cause}
 use Rattle.ifr_opcodes.specs.Forest.{Node}
-use Rattle.ifr_scopes.specs.Nodes.{is_question, is_store, nodes_of}
+use Rattle.ifr_nodes.specs.Nodes.{is_question, is_store, nodes_of}
 use Rattle.ifr_scopes.specs.Stores as node
 use Rattle.ifr_scopes.proofs.FormPlaceLemmas.{found}
 use Rattle.hii_varstore.specs.Stores.{StoreMap, bytes_of}

@@ -1,7 +1,7 @@
 -- What a session is seen as by the chapters, part by part.
 use Rattle.std.proofs.Common.{◌≡◌, ℕ, Option, List, refl}
 use Rattle.browser_rules.specs.Session as chapter
-use Rattle.ifr_scopes.specs.Nodes.{nodes_of}
+use Rattle.ifr_nodes.specs.Nodes.{nodes_of}
 use Rattle.hii_varstore.specs.Stores.{StoreMap}
 use Rattle.rules_laws.specs.laws.Policy.{AnswerAlike, AreAlike}
 use Rattle.rules_laws.specs.laws.Stores.{stores_for}

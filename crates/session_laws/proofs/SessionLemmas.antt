@@ -26,11 +26,11 @@ use Rattle.ifr_opcodes.specs.Fields.{ref_target, reset_default}
 use Rattle.ifr_opcodes.specs.Forest.{Node}
 use Rattle.ifr_opcodes.specs.Opcode.{number}
 use Rattle.ifr_opcodes.specs.declared.codes.TheConstants as numbers
-use Rattle.ifr_scopes.specs.Nodes as node
-use Rattle.ifr_scopes.specs.Nodes.{is_question, is_reference, nodes_of, statements}
-use Rattle.ifr_scopes.specs.References.{form_with}
+use Rattle.ifr_nodes.specs.Nodes as node
+use Rattle.ifr_nodes.specs.Nodes.{is_question, is_reference, nodes_of, statements}
+use Rattle.ifr_nodes.specs.ReferenceFaults.{form_with}
 use Rattle.ifr_scopes.proofs.FormPlaceLemmas.{found}
-use Rattle.ifr_scopes.proofs.ViewLemmas.{further}
+use Rattle.ifr_nodes.proofs.ViewLemmas.{further}
 use Rattle.hii_varstore.specs.Layout.{Shape}
 use Rattle.hii_varstore.specs.Stores.{Store, StoreMap, are_same_bytes, buffer_of, bytes_of, bytes_of_field, shape_of}
 use Rattle.hii_varstore.specs.declared.buffer.Buffer.{Buffer}

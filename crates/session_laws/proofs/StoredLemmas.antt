@@ -14,7 +14,7 @@ use Rattle.browser_rules.specs.Opcodes.{number_width}
 use Rattle.ifr_opcodes.specs.Opcode.{number}
 use Rattle.ifr_opcodes.specs.declared.codes.TheConstants.{CHECKBOX, NUMERIC, ONE_OF, STRING, PASSWORD, ORDERED_LIST}
 use Rattle.ifr_expr.specs.Values.{undefined}
-use Rattle.ifr_scopes.specs.Nodes.{options}
+use Rattle.ifr_nodes.specs.Nodes.{options}
 use Rattle.hii_varstore.specs.Stores.{Store, StoreMap, bytes_of, bytes_of_field, overwritten, store_with, with_bytes}
 use Rattle.hii_varstore.proofs.WriteLemmas.{shape_after}
 use Rattle.hii_questions.specs.Answers.{answers, answer_in, answer_of, value_of_bytes, value_of_field}

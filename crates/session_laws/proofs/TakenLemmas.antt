@@ -16,13 +16,13 @@ use Rattle.ifr_opcodes.specs.Forest.{Forest, none, node, Node, as_ancestor, belo
 use Rattle.ifr_expr.specs.Meaning.{value}
 use Rattle.ifr_expr.specs.Trees.{Tree}
 use Rattle.ifr_expr.specs.Values.{undefined}
-use Rattle.ifr_scopes.specs.Conditions.{tree_of_value}
-use Rattle.ifr_scopes.specs.Nodes as nodes
-use Rattle.ifr_scopes.specs.Nodes.{defaults, is_question, nodes_of, statements}
-use Rattle.ifr_scopes.specs.Table.{wants_expression, wants_value}
+use Rattle.ifr_nodes.specs.NodeExpressions.{tree_of_value}
+use Rattle.ifr_nodes.specs.Nodes as nodes
+use Rattle.ifr_nodes.specs.Nodes.{defaults, is_question, nodes_of, statements}
+use Rattle.ifr_nodes.specs.Table.{wants_expression, wants_value}
 use Rattle.ifr_scopes.proofs.FormPlaceLemmas.{found}
-use Rattle.ifr_scopes.proofs.NodeFactLemmas.{has_value}
-use Rattle.ifr_scopes.proofs.ViewLemmas.{further}
+use Rattle.ifr_nodes.proofs.NodeFactLemmas.{has_value}
+use Rattle.ifr_nodes.proofs.ViewLemmas.{further}
 use Rattle.hii_questions.specs.Inputs.{Offer}
 use Rattle.hii_questions.proofs.FieldLemmas.{passing}
 use Rattle.hii_varstore.specs.Stores.{StoreMap}

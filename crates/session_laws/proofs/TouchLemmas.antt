@@ -25,12 +25,12 @@ use Rattle.ifr_expr.specs.Dependence.{ids_behind, own, rule_ids}
 use Rattle.ifr_expr.specs.Meaning.{Rule, names}
 use Rattle.ifr_expr.specs.Support.{ids_of}
 use Rattle.ifr_expr.specs.Trees.{post}
-use Rattle.ifr_scopes.specs.Checked.{IsChecked}
-use Rattle.ifr_scopes.specs.Conditions.{expression_tree}
+use Rattle.ifr_nodes.specs.Checked.{IsChecked}
+use Rattle.ifr_nodes.specs.NodeExpressions.{expression_tree}
 use Rattle.ifr_opcodes.specs.Rows.{row_of, is_condition_number}
-use Rattle.ifr_scopes.specs.Nodes.{nodes_of, this_of}
-use Rattle.ifr_scopes.specs.Rules.{rules_among}
-use Rattle.ifr_scopes.specs.Table.{wants_expression}
+use Rattle.ifr_nodes.specs.Nodes.{nodes_of, this_of}
+use Rattle.ifr_nodes.specs.Rules.{rules_among}
+use Rattle.ifr_nodes.specs.Table.{wants_expression}
 use Rattle.hii_varstore.specs.Stores.{StoreMap, byte_of}
 use Rattle.hii_questions.specs.Fields.{Field, field_of, question_with}
 use Rattle.hii_questions.proofs.FieldLemmas.{passing}

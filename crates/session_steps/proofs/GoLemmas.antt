@@ -3,8 +3,8 @@ use Rattle.std.proofs.Common.{◌≡◌, ℕ, Bool, true, false, cond, Option, S
 use Rattle.std.specs.Prelude.{option_and_then, nat_lt}
 use Rattle.ifr_opcodes.specs.Fields.{ref_target}
 use Rattle.ifr_opcodes.specs.Forest.{Node}
-use Rattle.ifr_scopes.specs.Nodes.{nodes_of, is_reference}
-use Rattle.ifr_scopes.specs.References.{form_with}
+use Rattle.ifr_nodes.specs.Nodes.{nodes_of, is_reference}
+use Rattle.ifr_nodes.specs.ReferenceFaults.{form_with}
 use Rattle.hii_questions.specs.declared.denial.DenialKind.TheVariants.{NotRef, DeepHistory}
 use Rattle.guard_policy.specs.Policy.{denied_by, hidden, fixed}
 use Rattle.guard_policy.specs.declared.denial.Denial.{Denial}

@@ -4,7 +4,7 @@ use Rattle.ifr_opcodes.specs.Fields.{reset_default}
 use Rattle.ifr_opcodes.specs.Forest.{Node}
 use Rattle.ifr_opcodes.specs.Opcode.{number}
 use Rattle.ifr_opcodes.specs.declared.codes.TheConstants.{RESET_BUTTON}
-use Rattle.ifr_scopes.specs.Nodes.{nodes_of}
+use Rattle.ifr_nodes.specs.Nodes.{nodes_of}
 use Rattle.hii_varstore.specs.Stores.{StoreMap, shape_of}
 use Rattle.hii_varstore.proofs.WriteLemmas.{shape_after}
 use Rattle.browser_rules.specs.Configuration.{Header, Block}

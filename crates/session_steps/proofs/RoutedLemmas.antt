@@ -2,7 +2,7 @@
 use Rattle.std.proofs.Common.{◌≡◌, ℕ, List, [], ◌∷◌, Option, Some, None, Result, Ok, Err, refl, sym, subst, length}
 use Rattle.hii_bytes.specs.declared.cause.Cause.{Cause}
 use Rattle.browser_rules.specs.Configuration.{Header, Block, blocks_asked}
-use Rattle.ifr_scopes.specs.Nodes.{nodes_of}
+use Rattle.ifr_nodes.specs.Nodes.{nodes_of}
 use Rattle.hii_varstore.specs.Stores.{bytes_of}
 use Rattle.std.specs.Option.{unwrap_or}
 use Rattle.guard_policy.specs.declared.denial.Denial.{Denial}

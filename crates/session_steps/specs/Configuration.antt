@@ -8,7 +8,7 @@ use Rattle.std.specs.Str.Parse.{digits_value}
 use Rattle.byteorder.specs.Endian.{little_bytes}
 use Rattle.browser_rules.specs.Configuration.{Header, Block}
 use Rattle.ifr_opcodes.specs.Forest.{Node}
-use Rattle.ifr_scopes.specs.Nodes.{is_store}
+use Rattle.ifr_nodes.specs.Nodes.{is_store}
 use Rattle.ifr_scopes.specs.Stores.{store_guid, store_id, store_name, store_size}
 use Rattle.hii_questions.specs.Fields.{Field, Asked, questions, has_field, is_password_in}
 use Rattle.guard_policy.specs.Policy.{fixed}

@@ -7,8 +7,8 @@ use Rattle.browser_rules.specs.Strings.{Spoken, spoken_in, chosen}
 use Rattle.hii_bytes.specs.Faults.{HasNone, IsAmong, Then}
 use Rattle.hii_bytes.specs.declared.cause.Cause.{Cause}
 use Rattle.ifr_opcodes.specs.Forest.{places}
-use Rattle.ifr_scopes.specs.Accepted.{IsAccepted, IsPackageFault}
-use Rattle.ifr_scopes.specs.Nodes.{nodes_of, is_form}
+use Rattle.ifr_nodes.specs.Accepted.{IsAccepted, IsPackageFault}
+use Rattle.ifr_nodes.specs.Nodes.{nodes_of, is_form}
 use Rattle.hii_varstore.specs.Layout.{Shape}
 use Rattle.hii_varstore.specs.StoreNodes.{layout_of, IsStoreFault}
 use Rattle.hii_varstore.specs.Image.{SpellsImage}

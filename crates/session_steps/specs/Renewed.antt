@@ -7,7 +7,7 @@ use Rattle.config_text.specs.declared.kind.TextKind.TheVariants.{Tell}
 use Rattle.hii_bytes.specs.declared.cause.Cause.{Cause}
 use Rattle.ifr_opcodes.specs.Fields.{reset_default}
 use Rattle.ifr_opcodes.specs.Forest.{Node}
-use Rattle.ifr_scopes.specs.Nodes.{nodes_of}
+use Rattle.ifr_nodes.specs.Nodes.{nodes_of}
 use Rattle.hii_questions.specs.Fields.{Field, field_of, question_with}
 use Rattle.browser_rules.specs.Script as script
 use Rattle.browser_rules.specs.Script.{Command, command_of, without_return}

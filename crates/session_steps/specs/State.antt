@@ -1,7 +1,7 @@
 -- What a session holds (own rule).
 use Rattle.std.specs.Prelude.{ℕ, Option, List}
 use Rattle.browser_rules.specs.Strings.{Spoken, shown}
-use Rattle.ifr_scopes.specs.Nodes.{nodes_of}
+use Rattle.ifr_nodes.specs.Nodes.{nodes_of}
 use Rattle.hii_varstore.specs.Stores.{StoreMap}
 use Rattle.guard_policy.specs.World.{World, world_over}
 

@@ -12,9 +12,9 @@ use Rattle.ifr_opcodes.specs.Forest.{Node, node_at}
 use Rattle.ifr_opcodes.specs.Fields.{question_id, ref_target, reset_default}
 use Rattle.ifr_opcodes.specs.Opcode.{number}
 use Rattle.ifr_opcodes.specs.declared.codes.TheConstants.{RESET_BUTTON}
-use Rattle.ifr_scopes.specs.Nodes.{nodes_of, is_question, is_reference, statements}
-use Rattle.ifr_scopes.specs.References.{form_with}
-use Rattle.ifr_scopes.specs.Rules.{rules_among}
+use Rattle.ifr_nodes.specs.Nodes.{nodes_of, is_question, is_reference, statements}
+use Rattle.ifr_nodes.specs.ReferenceFaults.{form_with}
+use Rattle.ifr_nodes.specs.Rules.{rules_among}
 use Rattle.browser_rules.specs.Strings.{chosen, text_of}
 use Rattle.hii_varstore.specs.Stores.{StoreMap, are_same_bytes, bytes_of}
 use Rattle.hii_questions.specs.Answers.{answers}

@@ -1,7 +1,7 @@
 -- The stores of a form set that hold bytes, and what they are filled with (own rule).
 use Rattle.std.specs.Prelude.{ℕ, ◌==◌, Bool, true, false, List, [], ◌++◌, filter, is_some, length, replicate, unwrap_or, codes, decimal, string_bytes}
 use Rattle.ifr_opcodes.specs.Forest.{Node}
-use Rattle.ifr_scopes.specs.Nodes.{is_store}
+use Rattle.ifr_nodes.specs.Nodes.{is_store}
 use Rattle.ifr_scopes.specs.Stores.{store_id, store_name, store_size}
 use Rattle.audit_text.specs.Texts.{ascii_name}
 use Rattle.hii_varstore.specs.Stores.{Store}

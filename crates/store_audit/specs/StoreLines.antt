@@ -3,7 +3,7 @@ use Rattle.std.specs.Prelude.{ℕ, true, List, ◌++◌, Option, Some, None, fil
 use Rattle.hii_bytes.specs.Texts.{right_aligned}
 use Rattle.ifr_opcodes.specs.Forest.{Node}
 use Rattle.ifr_opcodes.specs.Opcode.{number}
-use Rattle.ifr_scopes.specs.Nodes.{is_store}
+use Rattle.ifr_nodes.specs.Nodes.{is_store}
 use Rattle.ifr_scopes.specs.Stores.{store_guid, store_id, store_name, store_size}
 use Rattle.audit_text.specs.Stores.{store_attributes}
 use Rattle.audit_text.specs.Texts.{left_aligned, guid_text, ascii_name}

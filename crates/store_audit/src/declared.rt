@@ -4,7 +4,7 @@ ghost use Rattle.std.specs.Prelude.{◌≡◌, IfOk, IfErr};
 ghost use Rattle.browser_rules.specs.Packages as chapter;
 ghost use Rattle.hii_bytes.specs.Faults.{HasNone, IsLeast, Refuses};
 ghost use Rattle.hii_packages.specs.code.Package.{package_of};
-ghost use Rattle.ifr_scopes.specs.Nodes.{nodes_of};
+ghost use Rattle.ifr_nodes.specs.Nodes.{nodes_of};
 ghost use Rattle.hii_varstore.specs.StoreNodes.{layout_of};
 ghost use Rattle.session_steps.specs.Opening.{HasSource, IsBrowsable, IsSourceFault, IsFormSetFault};
 ghost use Rattle.store_audit.specs.Declaring.{IsDeclaredFault};
@@ -26,7 +26,7 @@ pub struct Declared<'a> {
 
 impl<'a> Model for Declared<'a> {
     ghost use Rattle.std.specs.Prelude.{◌≡◌, ℕ, List};
-    ghost use Rattle.ifr_scopes.specs.Nodes.{nodes_of};
+    ghost use Rattle.ifr_nodes.specs.Nodes.{nodes_of};
     ghost use Rattle.hii_varstore.specs.StoreNodes.{layout_of};
 
     ghost Value = { List ℕ };

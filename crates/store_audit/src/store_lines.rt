@@ -2,7 +2,7 @@
 
 ghost use Rattle.hii_bytes.specs.Watching.{Puts};
 ghost use Rattle.hii_bytes.specs.Texts.{right_aligned};
-ghost use Rattle.ifr_scopes.specs.Nodes.{nodes_of};
+ghost use Rattle.ifr_nodes.specs.Nodes.{nodes_of};
 ghost use Rattle.ifr_scopes.specs.code.Lists.{store_node};
 ghost use Rattle.store_audit.specs.StoreLines.{size_text, store_line, stores_text};
 

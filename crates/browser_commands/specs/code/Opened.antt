@@ -2,7 +2,7 @@
 use Rattle.std.specs.Prelude.{◌≡◌, List, ℕ}
 use Rattle.hii_varstore.specs.Image.{SpellsImage}
 use Rattle.hii_varstore.specs.code.Table.{AreBuffers}
-use Rattle.ifr_scopes.specs.Nodes.{nodes_of}
+use Rattle.ifr_nodes.specs.Nodes.{nodes_of}
 use Rattle.guard_policy.specs.World.{removed_at}
 use Rattle.session_steps.specs.Opening.{layout_in, IsBrowsable}
 use Rattle.browser_commands.specs.declared.opening.FormSetParts.{FormSetParts}

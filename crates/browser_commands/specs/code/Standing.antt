@@ -3,10 +3,10 @@ use Rattle.std.specs.Prelude.{◌≡◌, ℕ, Bool, true, if◌then◌else◌, �
 use Rattle.browser_rules.specs.Configuration.{Header, Block}
 use Rattle.config_text.specs.Written.{AreInside}
 use Rattle.ifr_opcodes.specs.Forest.{Node}
-use Rattle.ifr_scopes.specs.code.Checked.{IsNodeOf, has_form}
+use Rattle.ifr_nodes.specs.code.Checked.{IsNodeOf, has_form}
 use Rattle.ifr_scopes.specs.code.Lists.{form_node}
 use Rattle.ifr_scopes.specs.declared.form.Form.{Form}
-use Rattle.ifr_scopes.specs.Nodes.{nodes_of, is_question}
+use Rattle.ifr_nodes.specs.Nodes.{nodes_of, is_question}
 use Rattle.hii_varstore.specs.code.Table.{AreBuffers}
 use Rattle.hii_varstore.specs.Stores.{StoreMap, shape_of}
 use Rattle.hii_questions.specs.Fields as fields

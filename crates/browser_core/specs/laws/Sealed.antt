@@ -3,7 +3,7 @@ use Rattle.std.specs.Prelude.{◌≡◌, ℕ, Contains, Some, List, ◌++◌, �
 use Rattle.std.specs.List.{AllByRecursion, flat_map}
 use Rattle.ifr_opcodes.specs.Forest.{Node}
 use Rattle.ifr_scopes.specs.code.Lists.{statement_node}
-use Rattle.ifr_scopes.specs.Nodes.{nodes_of, options, inconsistents, warnings}
+use Rattle.ifr_nodes.specs.Nodes.{nodes_of, options, inconsistents, warnings}
 use Rattle.hii_varstore.specs.Stores.{StoreMap, shape_of}
 use Rattle.hii_questions.specs.Fields.{field_of, question_with}
 use Rattle.hii_questions.specs.code.Views.{question_node}

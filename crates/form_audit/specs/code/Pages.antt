@@ -1,7 +1,7 @@
 -- What a page of the code stands for in an audit.
 use Rattle.hii_questions.specs.Answers.{answers}
 use Rattle.hii_languages.specs.code.Views.{choice_of}
-use Rattle.ifr_scopes.specs.Nodes.{nodes_of}
+use Rattle.ifr_nodes.specs.Nodes.{nodes_of}
 use Rattle.ifr_defaults.specs.code.Views.{sources_of}
 use Rattle.guard_policy.specs.code.Views.{bytes_of}
 use Rattle.guard_policy.specs.declared.conditions.Conditions.{Ghosts}

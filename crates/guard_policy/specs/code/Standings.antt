@@ -1,7 +1,7 @@
 -- What the standing of a statement tells.
 use Rattle.std.specs.Prelude.{◌≡◌, if◌then◌else◌, Some, None, option_map, Result, Ok, Err, List, ⊤}
 use Rattle.ifr_opcodes.specs.Forest.{Node}
-use Rattle.ifr_scopes.specs.Nodes.{is_question}
+use Rattle.ifr_nodes.specs.Nodes.{is_question}
 use Rattle.hii_questions.specs.Fields.{asked}
 use Rattle.hii_questions.specs.code.Views.{question_view}
 use Rattle.guard_policy.specs.declared.denial.Denial.{Denial}

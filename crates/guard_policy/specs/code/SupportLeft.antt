@@ -1,7 +1,7 @@
 -- What the iterators over the questions on which decisions and conditions depend have before them.
 use Rattle.std.specs.Prelude.{ℕ, Option, Some, None, List, [], ◌++◌}
 use Rattle.ifr_scopes.specs.code.DependenceLeft.{dependence_left}
-use Rattle.ifr_scopes.specs.Nodes.{nodes_of}
+use Rattle.ifr_nodes.specs.Nodes.{nodes_of}
 use Rattle.ifr_scopes.specs.declared.dependence.Dependence.{Dependence}
 use Rattle.guard_policy.specs.code.AskedLeft.{asked_left}
 use Rattle.guard_policy.specs.laws.Support.{support_over}

@@ -1,9 +1,9 @@
 -- What stands around nodes, as it is handed on.
 use Rattle.std.specs.Prelude.{◌≡◌, ℕ, List, None, Result, Ok, Err}
 use Rattle.ifr_opcodes.specs.Forest.{Node}
-use Rattle.ifr_scopes.specs.Guards.{guards}
-use Rattle.ifr_scopes.specs.Locks.{first_lock}
-use Rattle.ifr_scopes.specs.Nodes.{nodes_of}
+use Rattle.ifr_nodes.specs.Guards.{guards}
+use Rattle.ifr_nodes.specs.Locks.{first_lock}
+use Rattle.ifr_nodes.specs.Nodes.{nodes_of}
 use Rattle.ifr_scopes.specs.code.AroundViews.{around_guards, around_lock, around_package}
 use Rattle.ifr_scopes.specs.declared.around.Around.{Around}
 use Rattle.guard_policy.specs.Policy.{covered_by}

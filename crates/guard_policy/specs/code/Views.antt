@@ -1,7 +1,7 @@
 -- What a policy decides over.
 use Rattle.std.specs.Prelude.{ℕ, Bool, List}
 use Rattle.ifr_opcodes.specs.Forest.{Node}
-use Rattle.ifr_scopes.specs.Nodes.{nodes_of}
+use Rattle.ifr_nodes.specs.Nodes.{nodes_of}
 use Rattle.hii_varstore.specs.Stores.{StoreMap}
 use Rattle.guard_policy.specs.World.{World, world_over}
 use Rattle.guard_policy.specs.declared.policy.Policy.{Policy}

@@ -6,11 +6,11 @@ use Rattle.ifr_opcodes.specs.Fields.{option_value}
 use Rattle.ifr_opcodes.specs.Forest.{Node}
 use Rattle.ifr_opcodes.specs.Opcode.{number}
 use Rattle.ifr_expr.specs.laws.Agreement.{Agree}
-use Rattle.ifr_scopes.specs.code.Checked.{IsNodeOf}
-use Rattle.ifr_scopes.specs.Guards.{guards}
+use Rattle.ifr_nodes.specs.code.Checked.{IsNodeOf}
+use Rattle.ifr_nodes.specs.Guards.{guards}
 use Rattle.ifr_scopes.specs.code.Index.{conditional_at}
 use Rattle.ifr_scopes.specs.code.Lists.{form_node, statement_node}
-use Rattle.ifr_scopes.specs.Nodes.{is_no_submit, options, inconsistents, warnings}
+use Rattle.ifr_nodes.specs.Nodes.{is_no_submit, options, inconsistents, warnings}
 use Rattle.hii_varstore.specs.Stores.{StoreMap}
 use Rattle.hii_questions.specs.Answers.{answers}
 use Rattle.hii_questions.specs.code.Views.{question_node}

@@ -1,7 +1,7 @@
 -- What the options of the code stand for.
 use Rattle.std.specs.Prelude.{ℕ, List}
 use Rattle.ifr_scopes.specs.code.Lists.{statement_node}
-use Rattle.ifr_scopes.specs.Nodes.{options}
+use Rattle.ifr_nodes.specs.Nodes.{options}
 use Rattle.hii_questions.specs.Types.{option_values}
 use Rattle.hii_questions.specs.declared.choices.Choices.{Choices}
 

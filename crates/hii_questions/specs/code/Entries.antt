@@ -2,8 +2,8 @@
 use Rattle.std.specs.Prelude.{◌≡◌, true, ℕ, Option, option_map, All, List}
 use Rattle.std.proofs.Props.{props}
 use Rattle.ifr_opcodes.specs.Forest.{Node}
-use Rattle.ifr_scopes.specs.Nodes.{is_question}
-use Rattle.ifr_scopes.specs.code.Checked.{has_statement, node_in}
+use Rattle.ifr_nodes.specs.Nodes.{is_question}
+use Rattle.ifr_nodes.specs.code.Checked.{has_statement, node_in}
 use Rattle.hii_varstore.specs.Layout.{Shape}
 use Rattle.hii_questions.specs.Fields.{Asked, field_at}
 use Rattle.hii_questions.specs.code.Ranges.{range_in, HasWidth, HasWidth-prop, IsNarrow, IsNarrow-prop}

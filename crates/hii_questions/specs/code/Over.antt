@@ -1,7 +1,7 @@
 -- What an `Over` of the code answers.
 use Rattle.std.specs.Prelude.{ℕ}
 use Rattle.ifr_expr.specs.Values.{Value}
-use Rattle.ifr_scopes.specs.Nodes.{nodes_of}
+use Rattle.ifr_nodes.specs.Nodes.{nodes_of}
 use Rattle.hii_questions.specs.Answers.{answers}
 use Rattle.hii_questions.specs.declared.over.Over.{Over}
 

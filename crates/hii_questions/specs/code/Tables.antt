@@ -3,9 +3,9 @@ use Rattle.std.specs.Prelude.{◌≡◌, ℕ, ◌==◌, Option, List, map, filte
 use Rattle.std.specs.List.{find}
 use Rattle.hii_bytes.specs.code.FirstFaults.{Rise}
 use Rattle.ifr_opcodes.specs.Fields.{question_id}
-use Rattle.ifr_scopes.specs.Accepted.{IsAccepted}
-use Rattle.ifr_scopes.specs.Nodes.{nodes_of}
-use Rattle.ifr_scopes.specs.code.Checked.{node_in}
+use Rattle.ifr_nodes.specs.Accepted.{IsAccepted}
+use Rattle.ifr_nodes.specs.Nodes.{nodes_of}
+use Rattle.ifr_nodes.specs.code.Checked.{node_in}
 use Rattle.hii_questions.specs.Fields.{Asked, questions, is_password}
 use Rattle.hii_questions.specs.code.ByField.{AreByField}
 use Rattle.hii_questions.specs.code.Entries.{AreQuestionEntries, entry_view}

@@ -1,7 +1,7 @@
 -- What the values of the code stand for.
 use Rattle.std.specs.Prelude.{ℕ, Option, List}
 use Rattle.ifr_expr.specs.Values.{Value}
-use Rattle.ifr_scopes.specs.code.Rules.{rules_of}
+use Rattle.ifr_nodes.specs.code.Rules.{rules_of}
 use Rattle.browser_rules.specs.Strings.{Spoken, text_of}
 use Rattle.ifr_defaults.specs.Defaults.{Sources}
 

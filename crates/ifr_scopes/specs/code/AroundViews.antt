@@ -1,8 +1,8 @@
 -- What stands around a form, a statement or an option.
 use Rattle.std.specs.Prelude.{◌≡◌, ℕ, Option, option_map, List}
 use Rattle.ifr_opcodes.specs.Forest.{Node}
-use Rattle.ifr_scopes.specs.Nodes.{nodes_of}
-use Rattle.ifr_scopes.specs.code.Checked.{node_in}
+use Rattle.ifr_nodes.specs.Nodes.{nodes_of}
+use Rattle.ifr_nodes.specs.code.Checked.{node_in}
 use Rattle.ifr_scopes.specs.code.Tables.{guards_from}
 use Rattle.ifr_scopes.specs.declared.around.Around.{Around}
 

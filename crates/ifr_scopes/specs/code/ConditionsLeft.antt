@@ -2,7 +2,7 @@
 use Rattle.std.specs.Prelude.{◌==◌, List, filter, map}
 use Rattle.std.specs.List.{take_while}
 use Rattle.ifr_opcodes.specs.Forest.{Node}
-use Rattle.ifr_scopes.specs.code.Checked.{node_in}
+use Rattle.ifr_nodes.specs.code.Checked.{node_in}
 use Rattle.ifr_scopes.specs.declared.conditions_of.ConditionsOf.{ConditionsOf}
 
 abbrev pub conditions_of_left : ConditionsOf → List Node

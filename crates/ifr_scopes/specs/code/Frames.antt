@@ -8,7 +8,7 @@ use Rattle.ifr_expr.specs.Meaning.{Rule}
 use Rattle.ifr_expr.specs.code.NamesLeft.{names_left}
 use Rattle.ifr_expr.specs.declared.names.Name.{Name}
 use Rattle.ifr_expr.specs.declared.names.Name.TheVariants as name
-use Rattle.ifr_scopes.specs.Rules.{rule_sizes, greatest}
+use Rattle.ifr_nodes.specs.Rules.{rule_sizes, greatest}
 use Rattle.ifr_scopes.specs.declared.dependence.Frame.{Frame}
 
 -- the questions behind a name that stands in the scope of this one

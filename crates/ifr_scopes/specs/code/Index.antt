@@ -4,11 +4,10 @@ use Rattle.std.specs.Prelude.{ℕ, Bool, ◌==◌, ◌&&◌, ◌||◌, Option, S
 use Rattle.std.specs.List.{find}
 use Rattle.ifr_opcodes.specs.Forest.{Node}
 use Rattle.ifr_opcodes.specs.Opcode.{number}
-use Rattle.ifr_scopes.specs.Guards.{is_guard, guards}
+use Rattle.ifr_nodes.specs.Guards.{is_guard, guards}
 use Rattle.ifr_opcodes.specs.Rows.{is_condition_number}
-use Rattle.ifr_scopes.specs.Locks.{first_lock}
-use Rattle.ifr_scopes.specs.Nodes.{is_form, is_statement, is_option}
-use Rattle.ifr_scopes.specs.References.{form_with}
+use Rattle.ifr_nodes.specs.Locks.{first_lock}
+use Rattle.ifr_nodes.specs.Nodes.{is_form, is_statement, is_option}
 
 abbrev pub is_indexed : Node → Bool
 is_indexed n = is_form n || is_statement n || is_option n
@@ -48,7 +47,3 @@ lock_of_indexed ns place = entry_at (first_lock ns) ns place
 -- the node with a condition at a place
 abbrev pub conditional_at : List Node → ℕ → Option Node
 conditional_at ns place = kind_at is_conditional ns place
-
--- the place of the form of an id
-abbrev pub form_place_with : List Node → ℕ → Option ℕ
-form_place_with ns id = option_map (λ n. n.place) (form_with ns id)

@@ -3,11 +3,11 @@ use Rattle.std.specs.Prelude.{ℕ, List, [], ◌∷◌, drop, filter, map, rever
 use Rattle.ifr_opcodes.specs.Forest.{Node}
 use Rattle.ifr_opcodes.specs.declared.codes.TheConstants.{SUBTITLE, TEXT, RESET_BUTTON, CHECKBOX, NUMERIC, ONE_OF, STRING, PASSWORD, ORDERED_LIST, DATE, TIME, ACTION, REF, VARSTORE, VARSTORE_EFI, VARSTORE_NAME_VALUE}
 use Rattle.ifr_opcodes.specs.declared.op.Op.{Op}
-use Rattle.ifr_scopes.specs.code.Checked.{node_in}
+use Rattle.ifr_nodes.specs.code.Checked.{node_in}
 use Rattle.ifr_opcodes.specs.Rows.{is_statement_number}
-use Rattle.ifr_scopes.specs.Nodes.{nodes_of, is_form, is_statement}
+use Rattle.ifr_nodes.specs.Nodes.{nodes_of, is_form, is_statement}
 use Rattle.ifr_scopes.specs.code.Tables.{guard_of_number, guards_from}
-use Rattle.ifr_scopes.specs.code.Views.{node_of, nodes_left}
+use Rattle.ifr_nodes.specs.code.Views.{node_of, nodes_left}
 use Rattle.ifr_scopes.specs.declared.all_statements.AllStatements.{AllStatements}
 use Rattle.ifr_scopes.specs.declared.guard.Guard.{Guard}
 use Rattle.ifr_scopes.specs.declared.guard.GuardViews.{GuardViews}

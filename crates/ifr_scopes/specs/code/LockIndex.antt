@@ -2,7 +2,7 @@
 use Rattle.std.specs.Prelude.{◌≡◌, ℕ, Option, None, List, [], ◌∷◌, option_map}
 use Rattle.std.specs.Option.{option_or}
 use Rattle.ifr_opcodes.specs.Forest.{Node}
-use Rattle.ifr_scopes.specs.Locks.{locked_in, first_of_nodes, first_lock}
+use Rattle.ifr_nodes.specs.Locks.{locked_in, first_of_nodes, first_lock}
 
 -- the place of the LOCKED that decides
 abbrev pub lock_place : List Node → Node → Option ℕ

@@ -1,8 +1,8 @@
 -- The LOCKED at places of a package.
 use Rattle.std.specs.Prelude.{◌≡◌, ℕ, Bool, true, ◌&&◌, Option, Some, None, IfSome, List}
 use Rattle.std.proofs.Props.{props}
-use Rattle.ifr_scopes.specs.Locks.{is_locked}
-use Rattle.ifr_scopes.specs.code.Checked.{node_in, has_node}
+use Rattle.ifr_nodes.specs.Locks.{is_locked}
+use Rattle.ifr_nodes.specs.code.Checked.{node_in, has_node}
 
 -- a LOCKED stands at this place of the package
 abbrev pub has_locked : List ℕ → ℕ → Bool

@@ -3,12 +3,12 @@ use Rattle.std.specs.Prelude.{ℕ, List, [], ◌∷◌}
 use Rattle.ifr_opcodes.specs.declared.codes.TheConstants.{INCONSISTENT_IF, NO_SUBMIT_IF, WARNING_IF}
 use Rattle.ifr_opcodes.specs.declared.op.Op.{Op}
 use Rattle.ifr_opcodes.specs.Forest.{Node}
-use Rattle.ifr_scopes.specs.code.Views.{node_of}
+use Rattle.ifr_nodes.specs.code.Views.{node_of}
 use Rattle.ifr_scopes.specs.declared.condition_view.ConditionOp.{ConditionOp}
 use Rattle.ifr_scopes.specs.declared.condition_view.ConditionOp.TheVariants as condition
 use Rattle.ifr_scopes.specs.declared.condition_view.ConditionView.{ConditionView}
 use Rattle.ifr_scopes.specs.declared.condition_view.ConditionViews.{ConditionViews}
-pub use Rattle.ifr_scopes.specs.code.PartsLeft.{parts_left}
+pub use Rattle.ifr_nodes.specs.code.PartsLeft.{parts_left}
 use Rattle.ifr_scopes.specs.declared.option_view.OptionView.{OptionView}
 use Rattle.ifr_scopes.specs.declared.option_view.Options.{Options}
 use Rattle.ifr_scopes.specs.declared.default_view.DefaultView.{DefaultView}

@@ -4,7 +4,7 @@ use Rattle.std.specs.List.{take_while}
 use Rattle.ifr_opcodes.specs.declared.codes.TheConstants.{FORM}
 use Rattle.ifr_opcodes.specs.Forest.{Node}
 use Rattle.ifr_opcodes.specs.Rows.{is_statement_number}
-use Rattle.ifr_scopes.specs.code.Checked.{node_in}
+use Rattle.ifr_nodes.specs.code.Checked.{node_in}
 use Rattle.ifr_scopes.specs.declared.statements_of.StatementsOf.{StatementsOf}
 
 abbrev pub statements_of_left : StatementsOf → List Node

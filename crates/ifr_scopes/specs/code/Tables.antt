@@ -3,19 +3,17 @@ use Rattle.std.specs.Prelude.{◌≡◌, ◌<◌, ℕ, ◌-◌, Bool, true, nat_
 use Rattle.std.specs.List.{last_or, slice_get}
 use Rattle.std.specs.Option.{option_flatten}
 use Rattle.std.proofs.Props.{props}
-use Rattle.hii_bytes.specs.code.IdTables.{number_with}
-use Rattle.hii_bytes.specs.declared.id_table.IdEntry.{IdEntry}
-use Rattle.ifr_opcodes.specs.Fields.{form_id}
 use Rattle.ifr_opcodes.specs.Forest.{Ancestor, Node}
 use Rattle.ifr_opcodes.specs.Opcode.{number}
-use Rattle.ifr_scopes.specs.Guards.{is_guard, guards, guards_among}
+use Rattle.ifr_nodes.specs.Guards.{is_guard, guards, guards_among}
 use Rattle.ifr_opcodes.specs.Rows.{is_condition_number}
-use Rattle.ifr_scopes.specs.Nodes.{nodes_of, this_of, is_store}
-use Rattle.ifr_scopes.specs.Rules.{is_rule}
-use Rattle.ifr_scopes.specs.Structure.{parent}
-use Rattle.ifr_scopes.specs.code.Checked.{or_empty, node_in, has_node, has_guard}
-use Rattle.ifr_scopes.specs.code.Ends.{expression_end}
-use Rattle.ifr_scopes.specs.code.Index.{is_indexed, entry_at, form_place_with}
+use Rattle.ifr_nodes.specs.Nodes.{nodes_of, this_of, is_store}
+use Rattle.ifr_nodes.specs.Rules.{is_rule}
+use Rattle.ifr_nodes.specs.Structure.{parent}
+use Rattle.ifr_nodes.specs.code.Checked.{or_empty, node_in, has_node, has_guard}
+use Rattle.ifr_nodes.specs.code.Ends.{expression_end}
+use Rattle.ifr_scopes.specs.code.Index.{is_indexed, entry_at}
+use Rattle.ifr_nodes.specs.code.FormIds.{AreFormEntries}
 use Rattle.ifr_scopes.specs.code.LockIndex.{lock_place}
 use Rattle.ifr_scopes.specs.declared.index.Index.{Index}
 use Rattle.ifr_scopes.specs.declared.index.Entry.{Entry}
@@ -235,14 +233,6 @@ AreConditionEntries bytes kept = All (λ one. IsConditionEntry bytes one) kept
 pub AreConditionEntries-prop : (bytes : List ℕ) (kept : List ConditionEntry)
     → IsProp (AreConditionEntries bytes kept)
 AreConditionEntries-prop bytes kept = hlevel (props, IsConditionEntry-prop)
-
--- a form with its place
-abbrev pub form_entry : Node → IdEntry
-form_entry n = record { id = form_id n.op; number = n.place }
-
--- these are the places of the forms of a package by their ids
-abbrev pub AreFormEntries : List Node → List IdEntry → Type 0
-AreFormEntries ns forms = (id : ℕ) → number_with forms id ≡ form_place_with ns id
 
 -- These are the tables of a package's nodes.
 pub record IsIndexOf (ns : List Node) (index : Index) : Type 0 where

@@ -3,8 +3,8 @@ use Rattle.std.specs.Prelude.{◌≡◌, ℕ, ◌<◌, ◌≤◌, Bool, All, Lis
 use Rattle.std.specs.Vec.{vec_capacity}
 use Rattle.hii_bytes.specs.code.FirstFaults.{Rise}
 use Rattle.ifr_opcodes.specs.Forest.{Node}
-use Rattle.ifr_scopes.specs.Nodes.{nodes_of}
-use Rattle.ifr_scopes.specs.Rules.{is_rule}
+use Rattle.ifr_nodes.specs.Nodes.{nodes_of}
+use Rattle.ifr_nodes.specs.Rules.{is_rule}
 use Rattle.hii_varstore.specs.code.Table.{AreBuffers}
 use Rattle.hii_varstore.specs.Stores.{StoreMap, shape_of, with_bytes}
 use Rattle.hii_questions.specs.code.NewBytes.{new_bytes}

@@ -8,10 +8,10 @@ use Rattle.ifr_expr.specs.Dependence.{dependence}
 use Rattle.ifr_expr.specs.code.Expressions.{tree_of}
 use Rattle.ifr_expr.specs.declared.names.Name.{Name}
 use Rattle.ifr_expr.specs.declared.names.Name.TheVariants as name
-use Rattle.ifr_scopes.specs.code.Checked.{or_empty}
-use Rattle.ifr_scopes.specs.Conditions.{expression_tree}
-use Rattle.ifr_scopes.specs.Nodes.{this_of, end_of}
-use Rattle.ifr_scopes.specs.Rules.{is_rule, rules_among}
+use Rattle.ifr_nodes.specs.code.Checked.{or_empty}
+use Rattle.ifr_nodes.specs.NodeExpressions.{expression_tree}
+use Rattle.ifr_nodes.specs.Nodes.{this_of, end_of}
+use Rattle.ifr_nodes.specs.Rules.{is_rule, rules_among}
 use Rattle.guard_policy.specs.Conditions.{is_kept}
 use Rattle.kept_conditions.specs.Touching.{has_byte, field_with}
 use Rattle.kept_conditions.specs.code.Index.{AreSmall, HaveNumbers, depends_on}

@@ -1,7 +1,7 @@
 -- What is kept over stores, and the conditions over them.
 use Rattle.std.specs.Prelude.{ℕ, List}
-use Rattle.ifr_scopes.specs.Accepted.{IsAccepted}
-use Rattle.ifr_scopes.specs.Nodes.{nodes_of}
+use Rattle.ifr_nodes.specs.Accepted.{IsAccepted}
+use Rattle.ifr_nodes.specs.Nodes.{nodes_of}
 use Rattle.hii_varstore.specs.Stores.{StoreMap}
 use Rattle.guard_policy.specs.code.KeptConditions.{TellsAll}
 use Rattle.guard_policy.specs.World.{world_over}

@@ -2,7 +2,7 @@
 use Rattle.std.specs.Prelude.{ℕ, Bool, ◌&&◌, List, map}
 use Rattle.ifr_opcodes.specs.Forest.{Node}
 use Rattle.ifr_opcodes.specs.Rows.{is_among}
-use Rattle.ifr_scopes.specs.Guards.{guards_among}
+use Rattle.ifr_nodes.specs.Guards.{guards_among}
 use Rattle.guard_policy.specs.Conditions.{condition_ids}
 use Rattle.question_audit.specs.Dependences.{may_forbid}
 

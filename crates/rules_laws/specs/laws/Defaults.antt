@@ -8,7 +8,7 @@ use Rattle.browser_rules.specs.Values as rules
 use Rattle.ifr_opcodes.specs.Forest.{Node}
 use Rattle.ifr_expr.specs.Meaning.{value}
 use Rattle.ifr_expr.specs.Values.{undefined}
-use Rattle.ifr_scopes.specs.Conditions.{value_tree}
+use Rattle.ifr_nodes.specs.NodeExpressions.{value_tree}
 use Rattle.ifr_defaults.specs.Defaults.{Sources}
 use Rattle.rules_laws.specs.laws.Opcodes.{value_for}
 

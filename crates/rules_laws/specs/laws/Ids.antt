@@ -4,8 +4,8 @@ use Rattle.std.specs.Prelude.{◌≡◌, ◌≢◌, ℕ, Bool, ◌==◌, not, na
 use Rattle.std.specs.List.{IsDistinct}
 use Rattle.ifr_opcodes.specs.Fields.{form_id, question_id, ref_target}
 use Rattle.ifr_opcodes.specs.Forest.{Node}
-use Rattle.ifr_scopes.specs.Nodes.{is_form, is_question, is_reference, is_store}
-use Rattle.ifr_scopes.specs.Rules.{is_rule}
+use Rattle.ifr_nodes.specs.Nodes.{is_form, is_question, is_reference, is_store}
+use Rattle.ifr_nodes.specs.Rules.{is_rule}
 use Rattle.ifr_scopes.specs.Stores.{store_id}
 use Rattle.rules_laws.specs.laws.Naming.{IsSmallRule}
 

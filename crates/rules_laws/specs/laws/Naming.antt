@@ -6,7 +6,7 @@ use Rattle.ifr_opcodes.specs.declared.codes.TheConstants.{RULE_REF}
 use Rattle.ifr_opcodes.specs.Opcode.{number}
 use Rattle.ifr_opcodes.specs.Fields.{rule_id, rule_ref_rule}
 use Rattle.ifr_opcodes.specs.Forest.{Ancestor, Node, below}
-use Rattle.ifr_scopes.specs.Rules.{is_rule, forms_among}
+use Rattle.ifr_nodes.specs.Rules.{is_rule, forms_among}
 
 abbrev pub is_rule_reference : Node → Bool
 is_rule_reference n = number n.op == RULE_REF

@@ -12,8 +12,8 @@ use Rattle.ifr_expr.specs.Meaning.{Rule}
 use Rattle.ifr_expr.specs.Trees.{post, IsFitting}
 use Rattle.ifr_expr.specs.Values as values
 use Rattle.ifr_expr.specs.Values.{Value}
-use Rattle.ifr_scopes.specs.declared.table.Class.{Class}
-use Rattle.ifr_scopes.specs.declared.table.Class.TheVariants.{OfFormSet, OfForm, OfText, OfQuestion, OfChoice, OfOptions, OfOption, OfExpression, OfNothing}
+use Rattle.ifr_nodes.specs.declared.table.Class.{Class}
+use Rattle.ifr_nodes.specs.declared.table.Class.TheVariants.{OfFormSet, OfForm, OfText, OfQuestion, OfChoice, OfOptions, OfOption, OfExpression, OfNothing}
 
 -- a value as one of the chapters
 abbrev pub value_for : Value → rules.Value

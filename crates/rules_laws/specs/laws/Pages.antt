@@ -3,7 +3,7 @@ use Rattle.std.specs.Prelude.{◌≡◌, List, Some, true, Contains}
 use Rattle.browser_rules.specs.Questions as questions
 use Rattle.browser_rules.specs.Stores.{Stores}
 use Rattle.ifr_opcodes.specs.Forest.{Node}
-use Rattle.ifr_scopes.specs.Nodes.{is_question}
+use Rattle.ifr_nodes.specs.Nodes.{is_question}
 use Rattle.hii_varstore.specs.Stores.{StoreMap}
 use Rattle.hii_questions.specs.Answers.{answer_of}
 use Rattle.rules_laws.specs.laws.Opcodes.{value_for}

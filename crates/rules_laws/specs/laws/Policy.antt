@@ -5,7 +5,7 @@ use Rattle.browser_rules.specs.Policy as chapter
 use Rattle.browser_rules.specs.Questions as questions
 use Rattle.browser_rules.specs.Stores.{Stores}
 use Rattle.ifr_opcodes.specs.Forest.{Node}
-use Rattle.ifr_scopes.specs.Nodes.{nodes_of}
+use Rattle.ifr_nodes.specs.Nodes.{nodes_of}
 use Rattle.hii_varstore.specs.Stores.{StoreMap}
 use Rattle.hii_questions.specs.Answers.{answers}
 use Rattle.guard_policy.specs.World.{World}

@@ -6,7 +6,7 @@ use Rattle.hii_bytes.specs.declared.cause.Cause.TheVariants.{NotFormSet}
 use Rattle.ifr_opcodes.specs.Forest.{Mark, Node}
 use Rattle.ifr_expr.specs.Faults.{IsOpcodeFault, IsShapeFault}
 use Rattle.ifr_expr.specs.Trees.{expression}
-use Rattle.ifr_scopes.specs.Structure.{is_expression, IsNodeFault}
+use Rattle.ifr_nodes.specs.Structure.{is_expression, IsNodeFault}
 
 -- the opcodes of the expression at a node
 abbrev pub opcodes_at : Node → List Mark

@@ -5,13 +5,13 @@ use Rattle.ifr_opcodes.specs.declared.codes.TheConstants.{FORM_SET, VALUE}
 use Rattle.ifr_opcodes.specs.Forest.{Forest, none, node, flat}
 use Rattle.ifr_opcodes.specs.Opcode.{number, has_scope}
 use Rattle.ifr_opcodes.specs.Rows.{is_outside, is_short}
-use Rattle.ifr_scopes.specs.Guards.{is_guard}
-use Rattle.ifr_scopes.specs.Table.{row, admits, class_of, guarded, wants_expression, wants_value}
-use Rattle.ifr_scopes.specs.declared.table.Class.{Class}
-use Rattle.ifr_scopes.specs.declared.table.Class.TheVariants.{OfFormSet, OfNothing}
-use Rattle.ifr_scopes.specs.declared.table.Row.{Row}
-use Rattle.ifr_scopes.specs.declared.table.Scope.{Scope}
-use Rattle.ifr_scopes.specs.declared.table.Scope.TheVariants.{Always, Sometimes, Never, Outermost, WithValue}
+use Rattle.ifr_nodes.specs.Guards.{is_guard}
+use Rattle.ifr_nodes.specs.Table.{row, admits, class_of, guarded, wants_expression, wants_value}
+use Rattle.ifr_nodes.specs.declared.table.Class.{Class}
+use Rattle.ifr_nodes.specs.declared.table.Class.TheVariants.{OfFormSet, OfNothing}
+use Rattle.ifr_nodes.specs.declared.table.OpcodeRow.{OpcodeRow}
+use Rattle.ifr_nodes.specs.declared.table.Scope.{Scope}
+use Rattle.ifr_nodes.specs.declared.table.Scope.TheVariants.{Always, Sometimes, Never, Outermost, WithValue}
 use Rattle.rules_laws.specs.laws.Expressions.{IsGoodExpression}
 
 -- The opcode has Scope, or has none, as its row says. That of an expression's first operator may have it.
@@ -26,7 +26,7 @@ FitsScope WithValue op = has_scope op ≡ wants_value op
 pub record IsGoodOpcode (op : List ℕ) : Type 0 where
   pub known : is_outside op ≡ false
   pub long : is_short op ≡ false
-  pub in_table : Row
+  pub in_table : OpcodeRow
   pub found : row (number op) ≡ Some in_table
   pub scoped : FitsScope in_table.scope op
 

@@ -2,7 +2,7 @@ use Rattle.std.proofs.Common.{◌∙◌, ap, inl, inr, refl, sym}
 use Rattle.std.specs.Option.{option_copied}
 use Rattle.hii_bytes.proofs.WritingLemmas.{◌⨾◌}
 use Rattle.hii_bytes.specs.declared.cause.Fault.{Fault}
-use Rattle.ifr_scopes.specs.Nodes.{nodes_of}
+use Rattle.ifr_nodes.specs.Nodes.{nodes_of}
 use Rattle.audit_commands.specs.Imaging.{SaysImage, no_store_text}
 use Rattle.audit_commands.specs.code.Imaging.{SaysFillings}
 use Rattle.audit_commands.proofs.EndingLemmas.{tells_and_writes_as, tells_fault, tells_refused}

@@ -1,7 +1,7 @@
 use Rattle.std.proofs.Common.{ap, refl, sym}
 use Rattle.hii_bytes.specs.declared.cause.Fault.{Fault}
 use Rattle.std.specs.List.{find}
-use Rattle.ifr_scopes.specs.Nodes.{nodes_of}
+use Rattle.ifr_nodes.specs.Nodes.{nodes_of}
 use Rattle.store_audit.specs.code.Fillings.{is_unfit}
 use Rattle.audit_commands.specs.code.Imaging.{SaysFillings}
 use Rattle.audit_commands.proofs.EndingLemmas.{tells_fault}

@@ -1,6 +1,6 @@
 use Rattle.std.proofs.Common.{◌≡◌, ◌++◌, map}
 use Rattle.std.specs.Prelude.{filter}
-use Rattle.ifr_scopes.specs.Nodes.{nodes_of}
+use Rattle.ifr_nodes.specs.Nodes.{nodes_of}
 use Rattle.ifr_scopes.specs.code.Lists.{stores_left}
 use Rattle.store_audit.specs.Fillings.{has_bytes, buffer_stores}
 use Rattle.store_audit.specs.code.Fillings.{filling_node}

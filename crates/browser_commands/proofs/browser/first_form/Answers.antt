@@ -1,8 +1,8 @@
 use Rattle.std.proofs.Common.{sym, ◌∙◌}
 use Rattle.ifr_scopes.specs.code.Lists.{form_node, forms_left}
 use Rattle.ifr_opcodes.specs.Reading.{tree_of}
-use Rattle.ifr_scopes.specs.Nodes.{nodes_of, is_form}
-use Rattle.ifr_scopes.proofs.PlaceLemmas.{is_found}
+use Rattle.ifr_nodes.specs.Nodes.{nodes_of, is_form}
+use Rattle.ifr_nodes.proofs.PlaceLemmas.{is_found}
 use Rattle.browser_commands.proofs.FormLemmas.{yields_some, some_form, first_within}
 use Rattle.browser_commands.proofs.browser.first_form.Goals as goal
 

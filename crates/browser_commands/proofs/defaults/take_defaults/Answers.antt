@@ -1,7 +1,7 @@
 use Rattle.std.proofs.Common.{ℕ, List, Bool, true, false, rules, sym, ap, subst, ◌∙◌, arith, length}
 use Rattle.std.proofs.lemmas.List.Elements.{All-head, All-tail}
 use Rattle.ifr_opcodes.specs.Forest.{Node}
-use Rattle.ifr_scopes.specs.code.Checked.{IsNodeOf, AreNodesOf}
+use Rattle.ifr_nodes.specs.code.Checked.{IsNodeOf, AreNodesOf}
 use Rattle.ifr_scopes.specs.code.Lists.{statement_node, statements_left}
 use Rattle.session_steps.specs.Step.{taken}
 use Rattle.browser_commands.specs.code.Standing.{TakesDefault}

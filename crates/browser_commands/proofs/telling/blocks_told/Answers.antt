@@ -1,7 +1,7 @@
 use Rattle.std.proofs.lemmas.Result.{err_from_is_err_and}
 use Rattle.config_text.specs.code.BlocksLeft.{blocks_left}
 use Rattle.config_text.specs.code.Views.{block_view}
-use Rattle.ifr_scopes.specs.Nodes.{nodes_of}
+use Rattle.ifr_nodes.specs.Nodes.{nodes_of}
 use Rattle.browser_commands.proofs.TellingLemmas.{first_denies}
 use Rattle.browser_commands.proofs.telling.blocks_told.Goals as goal
 

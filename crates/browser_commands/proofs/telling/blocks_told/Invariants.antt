@@ -1,6 +1,6 @@
 use Rattle.std.proofs.Common.{◌≡◌, length}
 use Rattle.config_text.specs.code.BlocksLeft.{blocks_left}
-use Rattle.ifr_scopes.specs.Nodes.{nodes_of}
+use Rattle.ifr_nodes.specs.Nodes.{nodes_of}
 use Rattle.session_steps.specs.Step.{first_untold}
 use Rattle.browser_commands.proofs.telling.blocks_told.Given as goal
 

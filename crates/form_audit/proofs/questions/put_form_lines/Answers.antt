@@ -6,8 +6,8 @@ use Rattle.hii_bytes.specs.code.NumberSets.{has_number}
 use Rattle.hii_bytes.specs.code.Writing.{Stands}
 use Rattle.hii_bytes.proofs.WritingLemmas.{◌⨾◌, past_piece}
 use Rattle.ifr_opcodes.specs.Forest.{Node}
-use Rattle.ifr_scopes.specs.Nodes.{is_question, nodes_of}
-use Rattle.ifr_scopes.specs.code.Checked.{AreNodesOf, IsNodeOf}
+use Rattle.ifr_nodes.specs.Nodes.{is_question, nodes_of}
+use Rattle.ifr_nodes.specs.code.Checked.{AreNodesOf, IsNodeOf}
 use Rattle.ifr_scopes.specs.code.Lists.{form_node, statement_node}
 use Rattle.ifr_scopes.specs.code.StatementsLeft.{statements_of_left}
 use Rattle.ifr_scopes.proofs.PathLemmas.{statements_of}

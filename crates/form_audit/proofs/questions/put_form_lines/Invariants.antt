@@ -3,8 +3,8 @@ use Rattle.std.specs.List.{flat_map}
 use Rattle.hii_bytes.specs.Watching.{pen_of}
 use Rattle.hii_bytes.specs.code.NumberSets.{has_number}
 use Rattle.hii_bytes.specs.code.Writing.{Stands}
-use Rattle.ifr_scopes.specs.Nodes.{is_question, nodes_of}
-use Rattle.ifr_scopes.specs.code.Checked.{AreNodesOf}
+use Rattle.ifr_nodes.specs.Nodes.{is_question, nodes_of}
+use Rattle.ifr_nodes.specs.code.Checked.{AreNodesOf}
 use Rattle.ifr_scopes.specs.code.Lists.{form_node}
 use Rattle.ifr_scopes.specs.code.StatementsLeft.{statements_of_left}
 use Rattle.hii_questions.specs.Fields.{asked}

@@ -2,7 +2,7 @@ use Rattle.std.proofs.Common.{ℕ, List, ap, refl, sym, ◌∙◌, arith}
 use Rattle.std.specs.Prelude.{filter}
 use Rattle.std.proofs.lemmas.Option.{slice_get_within}
 use Rattle.hii_bytes.specs.code.NumberSets.{has_number}
-use Rattle.ifr_scopes.specs.Nodes.{is_form, nodes_of}
+use Rattle.ifr_nodes.specs.Nodes.{is_form, nodes_of}
 use Rattle.ifr_scopes.specs.code.Lists.{form_node, forms_left}
 use Rattle.guard_policy.specs.code.Views.{bytes_of}
 use Rattle.form_page.specs.code.PageViews.{world_of}

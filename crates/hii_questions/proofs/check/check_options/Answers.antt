@@ -1,5 +1,5 @@
 use Rattle.std.proofs.Common.{sym, ◌∙◌}
-use Rattle.ifr_scopes.specs.Nodes.{options}
+use Rattle.ifr_nodes.specs.Nodes.{options}
 use Rattle.hii_questions.specs.code.Views.{question_node}
 use Rattle.hii_questions.proofs.FaultLemmas.{no_choice}
 use Rattle.hii_questions.proofs.check.check_options.Goals as goal

@@ -1,5 +1,5 @@
 use Rattle.std.proofs.Common.{◌≡◌}
-use Rattle.ifr_scopes.specs.Nodes.{options}
+use Rattle.ifr_nodes.specs.Nodes.{options}
 use Rattle.ifr_scopes.specs.code.Parts.{options_left}
 use Rattle.hii_questions.specs.code.FaultTells.{first_option_fault}
 use Rattle.hii_questions.specs.code.Views.{question_node}

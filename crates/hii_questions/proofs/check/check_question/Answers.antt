@@ -1,5 +1,5 @@
 use Rattle.std.proofs.Common.{sym, ◌∙◌}
-use Rattle.ifr_scopes.specs.Nodes.{nodes_of}
+use Rattle.ifr_nodes.specs.Nodes.{nodes_of}
 use Rattle.hii_varstore.specs.StoreNodes.{layout_of}
 use Rattle.hii_questions.specs.Faults.{is_known}
 use Rattle.hii_questions.specs.code.Views.{question_view}

@@ -2,7 +2,7 @@ use Rattle.std.proofs.Common.{◌≡◌, ap, sym, ◌∙◌}
 use Rattle.std.specs.Prelude.{is_some}
 use Rattle.ifr_opcodes.specs.Fields.{question_store}
 use Rattle.ifr_opcodes.specs.Forest.{Mark}
-use Rattle.ifr_scopes.specs.Nodes.{nodes_of}
+use Rattle.ifr_nodes.specs.Nodes.{nodes_of}
 use Rattle.hii_questions.specs.Faults.{is_known}
 use Rattle.hii_questions.specs.code.Views.{question_node}
 use Rattle.hii_questions.proofs.ReadLemmas.{none_lacked, size_known}

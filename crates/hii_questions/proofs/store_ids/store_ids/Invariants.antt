@@ -2,7 +2,7 @@ use Rattle.std.proofs.Common.{◌≡◌, ◌||◌, ◌==◌, ℕ}
 use Rattle.hii_bytes.specs.code.NumberSets.{has_number}
 use Rattle.std.specs.List.{list_any}
 use Rattle.ifr_scopes.specs.code.Lists.{stores_left}
-use Rattle.ifr_scopes.specs.Nodes.{nodes_of}
+use Rattle.ifr_nodes.specs.Nodes.{nodes_of}
 use Rattle.ifr_scopes.specs.Stores.{store_id}
 use Rattle.hii_questions.specs.Faults.{is_known}
 use Rattle.hii_questions.proofs.store_ids.store_ids.Given as goal

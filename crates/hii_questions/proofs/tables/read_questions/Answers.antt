@@ -5,10 +5,10 @@ use Rattle.std.proofs.lemmas.Result.{err_from_is_err_and}
 use Rattle.ifr_opcodes.specs.Fields.{question_id, question_store}
 use Rattle.ifr_opcodes.specs.Forest.{Mark, Node}
 use Rattle.ifr_opcodes.specs.code.Marks.{mark}
-use Rattle.ifr_scopes.specs.code.Checked.{node_in}
+use Rattle.ifr_nodes.specs.code.Checked.{node_in}
 use Rattle.ifr_scopes.specs.code.Lists.{statement_node, all_statements_left}
-use Rattle.ifr_scopes.specs.Nodes.{nodes_of, is_question, is_statement}
-use Rattle.ifr_scopes.proofs.ViewLemmas.{further, node_in_place}
+use Rattle.ifr_nodes.specs.Nodes.{nodes_of, is_question, is_statement}
+use Rattle.ifr_nodes.proofs.ViewLemmas.{further, node_in_place}
 use Rattle.hii_varstore.specs.Layout.{Shape, size_of}
 use Rattle.hii_varstore.specs.StoreNodes.{layout_of}
 use Rattle.hii_questions.specs.Fields.{Asked, asked, is_password, questions}

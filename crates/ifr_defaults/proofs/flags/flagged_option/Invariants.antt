@@ -1,6 +1,6 @@
 use Rattle.std.proofs.Common.{◌≡◌}
 use Rattle.std.specs.List.{find}
-use Rattle.ifr_scopes.specs.Nodes.{options}
+use Rattle.ifr_nodes.specs.Nodes.{options}
 use Rattle.ifr_scopes.specs.code.Lists.{statement_node}
 use Rattle.ifr_scopes.specs.code.Parts.{options_left}
 use Rattle.ifr_defaults.specs.Defaults.{is_chosen_for}

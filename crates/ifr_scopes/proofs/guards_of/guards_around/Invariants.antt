@@ -1,7 +1,7 @@
 use Rattle.std.proofs.Common.{◌≡◌, length}
 use Rattle.ifr_opcodes.specs.Forest.{node_at}
-use Rattle.ifr_scopes.specs.Nodes.{nodes_of}
-use Rattle.ifr_scopes.specs.code.Visits.{left}
+use Rattle.ifr_nodes.specs.Nodes.{nodes_of}
+use Rattle.ifr_nodes.specs.code.Visits.{left}
 use Rattle.ifr_scopes.proofs.guards_of.guards_around.Given as goal
 
 -- the node at the place is still to come

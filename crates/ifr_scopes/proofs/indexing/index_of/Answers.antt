@@ -3,10 +3,10 @@ use Rattle.std.specs.BTreeMap.{get}
 use Rattle.std.specs.Ordering.{nat_cmp}
 use Rattle.hii_bytes.specs.code.IdTables.{number_with}
 use Rattle.hii_bytes.specs.declared.id_table.IdEntry.{IdEntry}
-use Rattle.ifr_scopes.specs.Nodes.{nodes_of}
-use Rattle.ifr_scopes.specs.code.Views.{node_of}
-use Rattle.ifr_scopes.specs.code.Visits.{left}
-use Rattle.ifr_scopes.proofs.FormTableLemmas.{place_with}
+use Rattle.ifr_nodes.specs.Nodes.{nodes_of}
+use Rattle.ifr_nodes.specs.code.Views.{node_of}
+use Rattle.ifr_nodes.specs.code.Visits.{left}
+use Rattle.ifr_nodes.proofs.FormTableLemmas.{place_with}
 use Rattle.ifr_scopes.proofs.IndexLemmas.{nodes_rise}
 use Rattle.ifr_scopes.proofs.IndexingLemmas.{Made, made_start, made_next, made_all, few_made, path_depth}
 use Rattle.ifr_scopes.proofs.indexing.index_of.Goals as goal

@@ -1,11 +1,11 @@
 use Rattle.std.proofs.Common.{◌≡◌, true, false, rules, ap, ◌∙◌, subst}
 use Rattle.std.specs.BTreeMap.{get, btree_map_len}
 use Rattle.std.specs.Ordering.{nat_cmp}
-use Rattle.ifr_scopes.specs.Nodes.{nodes_of}
+use Rattle.ifr_nodes.specs.Nodes.{nodes_of}
 use Rattle.ifr_scopes.specs.code.Index.{is_indexed}
 use Rattle.ifr_scopes.specs.code.LockIndex.{first_some}
-use Rattle.ifr_scopes.specs.code.Views.{node_of}
-use Rattle.ifr_scopes.specs.code.Visits.{left}
+use Rattle.ifr_nodes.specs.code.Views.{node_of}
+use Rattle.ifr_nodes.specs.code.Visits.{left}
 use Rattle.ifr_scopes.specs.declared.index.Entry.{Entry}
 use Rattle.ifr_scopes.proofs.LockingLemmas.{Locking, no_entries, is_next, locking_one, locking_other, unlocked}
 use Rattle.ifr_scopes.proofs.indexing.lock_entries.Goals as goal

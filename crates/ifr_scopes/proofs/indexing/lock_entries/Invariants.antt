@@ -1,6 +1,6 @@
 use Rattle.std.proofs.Common.{◌≡◌, length}
-use Rattle.ifr_scopes.specs.Nodes.{nodes_of}
-use Rattle.ifr_scopes.specs.code.Visits.{left}
+use Rattle.ifr_nodes.specs.Nodes.{nodes_of}
+use Rattle.ifr_nodes.specs.code.Visits.{left}
 use Rattle.ifr_scopes.proofs.LockingLemmas.{Locking}
 use Rattle.ifr_scopes.proofs.indexing.lock_entries.Given as goal
 

@@ -1,6 +1,6 @@
 use Rattle.ifr_opcodes.specs.Reading.{tree_of}
-use Rattle.ifr_scopes.proofs.NodeFactLemmas.{is_node}
-use Rattle.ifr_scopes.proofs.PlaceLemmas.{is_found}
+use Rattle.ifr_nodes.proofs.NodeFactLemmas.{is_node}
+use Rattle.ifr_nodes.proofs.PlaceLemmas.{is_found}
 use Rattle.ifr_scopes.specs.code.Lists.{form_node}
 use Rattle.ifr_scopes.proofs.laws.a_form_is_a_node.Goals as goal
 

@@ -1,5 +1,5 @@
 use Rattle.ifr_opcodes.specs.Reading.{tree_of}
-use Rattle.ifr_scopes.proofs.PlaceLemmas.{is_found}
+use Rattle.ifr_nodes.proofs.PlaceLemmas.{is_found}
 use Rattle.ifr_scopes.proofs.laws.a_node_is_that_of_its_place.Goals as goal
 
 pub returns : goal.returns

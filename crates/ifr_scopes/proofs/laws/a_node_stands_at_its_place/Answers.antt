@@ -1,4 +1,4 @@
-use Rattle.ifr_scopes.proofs.PlaceLemmas.{node_stands}
+use Rattle.ifr_nodes.proofs.PlaceLemmas.{node_stands}
 use Rattle.ifr_scopes.proofs.laws.a_node_stands_at_its_place.Goals as goal
 
 pub returns : goal.returns

@@ -1,4 +1,4 @@
-use Rattle.ifr_scopes.proofs.ScopeLemmas.{ancestor_node}
+use Rattle.ifr_nodes.proofs.ScopeLemmas.{ancestor_node}
 use Rattle.ifr_scopes.proofs.laws.an_ancestor_is_a_node.Goals as goal
 
 pub returns : goal.returns

@@ -1,4 +1,4 @@
-use Rattle.ifr_scopes.proofs.RunLemmas.{one_fault}
+use Rattle.ifr_nodes.proofs.RunLemmas.{one_fault}
 use Rattle.ifr_scopes.proofs.laws.one_framing_fault.Goals as goal
 
 pub returns : goal.returns

@@ -1,4 +1,4 @@
-use Rattle.ifr_scopes.proofs.PlaceLemmas as lemmas
+use Rattle.ifr_nodes.proofs.PlaceLemmas as lemmas
 use Rattle.ifr_scopes.proofs.laws.places_rise.Goals as goal
 
 pub returns : goal.returns

@@ -1,7 +1,7 @@
 use Rattle.std.proofs.Common.{arith}
 use Rattle.ifr_opcodes.specs.Reading.{tree_of}
-use Rattle.ifr_scopes.proofs.NodeFactLemmas.{is_node}
-use Rattle.ifr_scopes.proofs.PlaceLemmas.{few_statements}
+use Rattle.ifr_nodes.proofs.NodeFactLemmas.{is_node}
+use Rattle.ifr_nodes.proofs.PlaceLemmas.{few_statements}
 use Rattle.ifr_scopes.specs.code.Lists.{form_node}
 use Rattle.ifr_scopes.proofs.laws.statements_are_few.Goals as goal
 

@@ -1,5 +1,5 @@
 use Rattle.std.proofs.Common.{◌≡◌, ◌==◌, ◌&&◌, ◌||◌, ◌++◌, ◌∷◌, Bool, List, [], map, take, sym, ap, ◌∙◌}
-use Rattle.ifr_scopes.specs.Nodes.{nodes_of}
+use Rattle.ifr_nodes.specs.Nodes.{nodes_of}
 use Rattle.kept_conditions.specs.code.Collection.{entry, dependent_node, dependent_nodes, is_touched}
 use Rattle.kept_conditions.specs.declared.dependents.Dependent.{Dependent}
 use Rattle.kept_conditions.proofs.CollectionLemmas.{entry_is, entry_more, upto}

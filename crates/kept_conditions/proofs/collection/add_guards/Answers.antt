@@ -1,6 +1,6 @@
 use Rattle.std.proofs.Common.{List, ◌++◌, map, filter, ap, ◌∙◌}
 use Rattle.ifr_opcodes.specs.Forest.{Node}
-use Rattle.ifr_scopes.specs.Nodes.{nodes_of}
+use Rattle.ifr_nodes.specs.Nodes.{nodes_of}
 use Rattle.kept_conditions.specs.code.Collection.{is_kept_guard}
 use Rattle.kept_conditions.proofs.PlaceLemmas.{guards_kept}
 use Rattle.kept_conditions.proofs.collection.add_guards.Goals as goal

@@ -1,7 +1,7 @@
 use Rattle.std.proofs.Common.{◌≡◌, ◌++◌, length, map, filter}
 use Rattle.ifr_opcodes.specs.Forest.{Node}
 use Rattle.ifr_scopes.specs.code.Lists.{all_guards_left}
-use Rattle.ifr_scopes.specs.Nodes.{nodes_of}
+use Rattle.ifr_nodes.specs.Nodes.{nodes_of}
 use Rattle.kept_conditions.specs.code.Collection.{is_kept_guard}
 use Rattle.kept_conditions.proofs.collection.add_guards.Given as goal
 

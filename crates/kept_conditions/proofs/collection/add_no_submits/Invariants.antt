@@ -1,7 +1,7 @@
 use Rattle.std.proofs.Common.{◌≡◌, ◌++◌, length, map, filter}
 use Rattle.ifr_opcodes.specs.Forest.{Node}
 use Rattle.ifr_scopes.specs.code.NoSubmitsLeft.{no_submits_left}
-use Rattle.ifr_scopes.specs.Nodes.{nodes_of, is_no_submit}
+use Rattle.ifr_nodes.specs.Nodes.{nodes_of, is_no_submit}
 use Rattle.kept_conditions.proofs.collection.add_no_submits.Given as goal
 
 -- the places so far, with those of the conditions that are left

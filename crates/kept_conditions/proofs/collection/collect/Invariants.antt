@@ -1,6 +1,6 @@
 use Rattle.std.proofs.Common.{◌≡◌, drop, filter}
-use Rattle.ifr_scopes.specs.Nodes.{nodes_of}
-use Rattle.ifr_scopes.specs.Rules.{is_rule}
+use Rattle.ifr_nodes.specs.Nodes.{nodes_of}
+use Rattle.ifr_nodes.specs.Rules.{is_rule}
 use Rattle.ifr_scopes.specs.code.Lists.{rules_left}
 use Rattle.guard_policy.specs.code.Views.{world}
 use Rattle.guard_policy.specs.code.Worlds.{is_met_at}

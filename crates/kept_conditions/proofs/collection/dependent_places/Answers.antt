@@ -1,8 +1,8 @@
 use Rattle.std.proofs.Common.{List, ℕ, ◌++◌, map, filter, ap, ◌∙◌, subst}
 use Rattle.std.specs.List.Sorted.{IsPermutation}
 use Rattle.ifr_opcodes.specs.Forest.{Node}
-use Rattle.ifr_scopes.specs.Nodes.{nodes_of, is_no_submit}
-use Rattle.ifr_scopes.specs.Rules.{is_rule}
+use Rattle.ifr_nodes.specs.Nodes.{nodes_of, is_no_submit}
+use Rattle.ifr_nodes.specs.Rules.{is_rule}
 use Rattle.kept_conditions.specs.code.Collection.{is_kept_guard}
 use Rattle.kept_conditions.proofs.PlaceLemmas.{sorted_places}
 use Rattle.kept_conditions.proofs.collection.dependent_places.Goals as goal

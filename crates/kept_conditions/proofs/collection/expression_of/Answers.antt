@@ -3,9 +3,9 @@ use Rattle.std.specs.Prelude.{IsSome}
 use Rattle.std.proofs.lemmas.Bool.{cond-true, cond-false}
 use Rattle.std.proofs.lemmas.Option.{same_Some}
 use Rattle.ifr_scopes.specs.code.Lists.{rule_node}
-use Rattle.ifr_scopes.specs.Conditions.{expression_tree}
-use Rattle.ifr_scopes.specs.Nodes.{nodes_of, this_of}
-use Rattle.ifr_scopes.specs.Rules.{is_rule}
+use Rattle.ifr_nodes.specs.NodeExpressions.{expression_tree}
+use Rattle.ifr_nodes.specs.Nodes.{nodes_of, this_of}
+use Rattle.ifr_nodes.specs.Rules.{is_rule}
 use Rattle.kept_conditions.specs.code.Collection.{dependent_node}
 use Rattle.kept_conditions.proofs.ExpressionLemmas.{condition_there, next_rule, rules_stay}
 use Rattle.kept_conditions.proofs.collection.expression_of.Goals as goal

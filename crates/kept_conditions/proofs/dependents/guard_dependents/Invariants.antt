@@ -1,7 +1,7 @@
 use Rattle.std.proofs.Common.{◌≡◌, ◌++◌, length, map}
 use Rattle.ifr_opcodes.specs.Forest.{Node}
-use Rattle.ifr_scopes.specs.Guards.{guards_among}
-use Rattle.ifr_scopes.specs.Nodes.{nodes_of}
+use Rattle.ifr_nodes.specs.Guards.{guards_among}
+use Rattle.ifr_nodes.specs.Nodes.{nodes_of}
 use Rattle.ifr_scopes.specs.code.Lists.{all_guards_left}
 use Rattle.guard_policy.specs.code.Views.{bytes_of}
 use Rattle.kept_conditions.proofs.dependents.guard_dependents.Given as goal

@@ -2,9 +2,9 @@ use Rattle.std.proofs.Common.{◌≡◌, ℕ, Option, Some, None, List, [], ◌�
 use Rattle.std.specs.Prelude.{MatchOption}
 use Rattle.std.proofs.lemmas.List.Elements.{All-filter, All-contains_itself}
 use Rattle.ifr_opcodes.specs.Forest.{Node}
-use Rattle.ifr_scopes.specs.code.Checked.{IsNodeOf, AreNodesOf}
+use Rattle.ifr_nodes.specs.code.Checked.{IsNodeOf, AreNodesOf}
 use Rattle.ifr_scopes.specs.code.Lists.{form_node, forms_left}
-use Rattle.ifr_scopes.specs.Nodes.{nodes_of, is_form}
+use Rattle.ifr_nodes.specs.Nodes.{nodes_of, is_form}
 use Rattle.ifr_scopes.specs.declared.form.Form.{Form}
 use Rattle.policy_tests.proofs.forms.first_form.Goals as goal
 

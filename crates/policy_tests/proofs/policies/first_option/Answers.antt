@@ -1,8 +1,8 @@
 use Rattle.std.proofs.Common.{◌≡◌, ℕ, Option, Some, None, List, [], ◌∷◌, IfSome, sym, ap, ◌∙◌, subst}
 use Rattle.std.specs.Prelude.{MatchOption}
 use Rattle.ifr_opcodes.specs.Forest.{Node}
-use Rattle.ifr_scopes.specs.code.Checked.{IsNodeOf, AreNodesOf}
-use Rattle.ifr_scopes.specs.Nodes.{options}
+use Rattle.ifr_nodes.specs.code.Checked.{IsNodeOf, AreNodesOf}
+use Rattle.ifr_nodes.specs.Nodes.{options}
 use Rattle.ifr_scopes.specs.code.Parts.{option_node}
 use Rattle.ifr_scopes.specs.declared.option_view.OptionView.{OptionView}
 use Rattle.hii_questions.specs.code.Views.{question_node}

@@ -1,6 +1,6 @@
 use Rattle.std.proofs.Common.{subst, sym}
 use Rattle.hii_bytes.specs.Faults.{HasNone}
-use Rattle.ifr_scopes.specs.Nodes.{nodes_of}
+use Rattle.ifr_nodes.specs.Nodes.{nodes_of}
 use Rattle.hii_questions.specs.Faults.{IsQuestionFault}
 use Rattle.hii_questions.specs.code.Survey.{Survey}
 use Rattle.policy_tests.proofs.questions.given_byte.Goals as goal

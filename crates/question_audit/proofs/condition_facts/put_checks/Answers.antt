@@ -6,7 +6,7 @@ use Rattle.ifr_opcodes.specs.Fields.{question_id}
 use Rattle.ifr_opcodes.specs.Forest.{Node}
 use Rattle.ifr_opcodes.specs.Opcode.{number}
 use Rattle.ifr_opcodes.specs.Rows.{is_condition_number}
-use Rattle.ifr_scopes.specs.Nodes.{nodes_of, this_of}
+use Rattle.ifr_nodes.specs.Nodes.{nodes_of, this_of}
 use Rattle.ifr_scopes.specs.code.AllConditionsLeft.{all_conditions_left}
 use Rattle.ifr_scopes.specs.code.Parts.{condition_node}
 use Rattle.hii_questions.specs.code.Views.{question_node}

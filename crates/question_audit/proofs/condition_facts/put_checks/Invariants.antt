@@ -4,7 +4,7 @@ use Rattle.std.specs.List.{flat_map}
 use Rattle.hii_bytes.specs.Watching.{pen_of}
 use Rattle.hii_bytes.specs.code.Writing.{Stands}
 use Rattle.ifr_opcodes.specs.Fields.{question_id}
-use Rattle.ifr_scopes.specs.Nodes.{this_of}
+use Rattle.ifr_nodes.specs.Nodes.{this_of}
 use Rattle.ifr_scopes.specs.code.AllConditionsLeft.{all_conditions_left}
 use Rattle.hii_questions.specs.code.Views.{question_node}
 use Rattle.form_audit.specs.code.Pages.{audited}

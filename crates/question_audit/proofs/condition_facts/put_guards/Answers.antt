@@ -1,6 +1,6 @@
 use Rattle.std.proofs.Common.{sym}
 use Rattle.hii_bytes.specs.Watching.{pen_of}
-use Rattle.ifr_scopes.specs.Guards.{guards}
+use Rattle.ifr_nodes.specs.Guards.{guards}
 use Rattle.ifr_scopes.specs.code.Lists.{guards_left, statement_node}
 use Rattle.guard_policy.proofs.IndexedLemmas.{of_statement}
 use Rattle.form_audit.specs.code.Pages.{audited}

@@ -4,7 +4,7 @@ use Rattle.std.proofs.lemmas.Bool.{ne_eqb}
 use Rattle.std.proofs.lemmas.Grind.{common_steps}
 use Rattle.ifr_opcodes.specs.declared.codes.TheConstants.{DISABLE_IF}
 use Rattle.ifr_opcodes.specs.Opcode.{number}
-use Rattle.ifr_scopes.specs.Nodes.{nodes_of}
+use Rattle.ifr_nodes.specs.Nodes.{nodes_of}
 use Rattle.ifr_scopes.specs.code.Lists.{guard_node, guard_package}
 use Rattle.ifr_scopes.specs.code.Tables.{guards_before}
 use Rattle.question_audit.specs.code.Naming.{names, naming}

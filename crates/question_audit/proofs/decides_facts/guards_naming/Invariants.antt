@@ -1,5 +1,5 @@
 use Rattle.std.proofs.Common.{◌≡◌, ◌++◌, length, map}
-use Rattle.ifr_scopes.specs.Nodes.{nodes_of}
+use Rattle.ifr_nodes.specs.Nodes.{nodes_of}
 use Rattle.ifr_scopes.specs.code.Lists.{all_guards_left}
 use Rattle.question_audit.specs.code.Naming.{names, naming}
 use Rattle.question_audit.proofs.decides_facts.guards_naming.Given as goal

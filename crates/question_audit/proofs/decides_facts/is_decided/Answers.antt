@@ -1,8 +1,8 @@
 use Rattle.std.proofs.Common.{◌≡◌, ℕ, Bool, false, List, length, sym, ap, ◌∙◌}
 use Rattle.std.specs.Prelude.{◌||◌}
 use Rattle.std.specs.List.{list_any}
-use Rattle.ifr_scopes.specs.Guards.{guards_among}
-use Rattle.ifr_scopes.specs.Nodes.{nodes_of}
+use Rattle.ifr_nodes.specs.Guards.{guards_among}
+use Rattle.ifr_nodes.specs.Nodes.{nodes_of}
 use Rattle.ifr_scopes.specs.code.Lists.{guard_node, guards_left}
 use Rattle.hii_questions.specs.code.Views.{question_node}
 use Rattle.guard_policy.specs.code.Views.{bytes_of}

@@ -1,6 +1,6 @@
 use Rattle.std.proofs.Common.{◌≡◌, ℕ, length}
 use Rattle.std.specs.List.{list_any}
-use Rattle.ifr_scopes.specs.Nodes.{nodes_of}
+use Rattle.ifr_nodes.specs.Nodes.{nodes_of}
 use Rattle.ifr_scopes.specs.code.Lists.{guards_left}
 use Rattle.hii_questions.specs.code.Views.{question_view}
 use Rattle.guard_policy.specs.code.Views.{bytes_of}

@@ -1,6 +1,6 @@
 use Rattle.std.proofs.Common.{◌≡◌, length}
 use Rattle.ifr_opcodes.specs.Rows.{is_among}
-use Rattle.ifr_scopes.specs.Nodes.{nodes_of}
+use Rattle.ifr_nodes.specs.Nodes.{nodes_of}
 use Rattle.ifr_scopes.specs.code.DependenceLeft.{dependence_left}
 use Rattle.ifr_scopes.specs.code.Lists.{guard_node}
 use Rattle.question_audit.specs.code.Naming.{names}

@@ -3,9 +3,9 @@ use Rattle.std.specs.Prelude.{filter}
 use Rattle.std.proofs.lemmas.List.{length-map}
 use Rattle.hii_bytes.specs.Watching.{pen_of}
 use Rattle.ifr_opcodes.specs.Fields.{question_id}
-use Rattle.ifr_scopes.specs.Guards.{guards_among}
-use Rattle.ifr_scopes.specs.Nodes.{nodes_of}
-use Rattle.ifr_scopes.specs.code.Checked.{AreNodesOf, IsNodeOf}
+use Rattle.ifr_nodes.specs.Guards.{guards_among}
+use Rattle.ifr_nodes.specs.Nodes.{nodes_of}
+use Rattle.ifr_nodes.specs.code.Checked.{AreNodesOf, IsNodeOf}
 use Rattle.hii_questions.specs.Fields.{Asked, questions}
 use Rattle.hii_questions.specs.code.Lists.{questions_left}
 use Rattle.hii_questions.specs.code.Views.{question_node, question_view}

@@ -3,7 +3,7 @@ use Rattle.std.specs.Prelude.{filter}
 use Rattle.std.specs.List.{flat_map, range_with_len}
 use Rattle.hii_bytes.specs.Watching.{pen_of}
 use Rattle.hii_bytes.specs.code.Writing.{Stands}
-use Rattle.ifr_scopes.specs.Nodes.{nodes_of}
+use Rattle.ifr_nodes.specs.Nodes.{nodes_of}
 use Rattle.ifr_scopes.specs.code.Lists.{statement_node}
 use Rattle.guard_policy.specs.code.Views.{bytes_of}
 use Rattle.form_audit.specs.code.Pages.{audited}

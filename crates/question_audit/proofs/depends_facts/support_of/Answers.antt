@@ -1,6 +1,6 @@
 use Rattle.std.proofs.Common.{ap, ◌∙◌}
 use Rattle.ifr_opcodes.specs.Rows.{is_among}
-use Rattle.ifr_scopes.specs.Nodes.{nodes_of}
+use Rattle.ifr_nodes.specs.Nodes.{nodes_of}
 use Rattle.ifr_scopes.specs.code.Lists.{statement_node}
 use Rattle.guard_policy.specs.laws.Support.{support}
 use Rattle.guard_policy.specs.code.Views.{bytes_of, world}

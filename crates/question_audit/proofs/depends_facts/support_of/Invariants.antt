@@ -2,7 +2,7 @@ use Rattle.std.proofs.Common.{◌≡◌, ℕ, length}
 use Rattle.std.specs.Prelude.{◌||◌}
 use Rattle.hii_bytes.specs.code.NumberSets.{has_number}
 use Rattle.ifr_opcodes.specs.Rows.{is_among}
-use Rattle.ifr_scopes.specs.Nodes.{nodes_of}
+use Rattle.ifr_nodes.specs.Nodes.{nodes_of}
 use Rattle.ifr_scopes.specs.code.Lists.{statement_node}
 use Rattle.guard_policy.specs.code.SupportLeft.{support_left}
 use Rattle.guard_policy.specs.code.Views.{bytes_of}

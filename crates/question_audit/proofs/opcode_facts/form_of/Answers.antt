@@ -3,10 +3,10 @@ use Rattle.std.specs.Prelude.{filter}
 use Rattle.std.specs.List.{find}
 use Rattle.std.proofs.lemmas.Bool.{cond-false}
 use Rattle.std.proofs.lemmas.List.Elements.{All-filter}
-use Rattle.ifr_scopes.specs.Nodes.{is_form, nodes_of}
-use Rattle.ifr_scopes.specs.code.Checked.{AreNodesOf, IsNodeOf}
+use Rattle.ifr_nodes.specs.Nodes.{is_form, nodes_of}
+use Rattle.ifr_nodes.specs.code.Checked.{AreNodesOf, IsNodeOf}
 use Rattle.ifr_scopes.specs.code.Lists.{form_node, forms_left, statement_node}
-use Rattle.ifr_scopes.proofs.ScopeLemmas.{all_nodes}
+use Rattle.ifr_nodes.proofs.ScopeLemmas.{all_nodes}
 use Rattle.guard_policy.specs.code.Views.{bytes_of}
 use Rattle.guard_policy.proofs.OptionLemmas.{first_of, rest_of}
 use Rattle.question_audit.specs.QuestionFacts.{has_within}

@@ -1,7 +1,7 @@
 use Rattle.std.proofs.Common.{Option, sym, ap}
 use Rattle.std.specs.Prelude.{option_map}
 use Rattle.hii_bytes.proofs.WritingLemmas.{◌⨾◌}
-use Rattle.ifr_scopes.specs.Nodes.{nodes_of}
+use Rattle.ifr_nodes.specs.Nodes.{nodes_of}
 use Rattle.hii_questions.specs.code.Ranges.{range_in}
 use Rattle.hii_questions.specs.declared.field_range.FieldRange.{FieldRange}
 use Rattle.condition_text.proofs.WriteLemmas.{written_as}

@@ -1,8 +1,8 @@
 use Rattle.std.proofs.Common.{ap, subst, ◌∙◌}
 use Rattle.hii_bytes.specs.code.NumberSets.{has_number}
 use Rattle.hii_bytes.proofs.WritingLemmas.{◌⨾◌}
-use Rattle.ifr_scopes.specs.Nodes.{nodes_of}
-use Rattle.ifr_scopes.specs.code.Checked.{IsNodeOf}
+use Rattle.ifr_nodes.specs.Nodes.{nodes_of}
+use Rattle.ifr_nodes.specs.code.Checked.{IsNodeOf}
 use Rattle.ifr_scopes.specs.code.Lists.{form_node, statement_node}
 use Rattle.guard_policy.specs.code.Views.{bytes_of}
 use Rattle.guard_policy.specs.declared.policy.Policy.{Policy}

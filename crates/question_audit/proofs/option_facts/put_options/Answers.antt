@@ -1,8 +1,8 @@
 use Rattle.std.proofs.Common.{ap, sym, subst}
 use Rattle.std.specs.List.{flat_map}
 use Rattle.hii_bytes.specs.Watching.{pen_of}
-use Rattle.ifr_scopes.specs.Nodes.{options}
-use Rattle.ifr_scopes.specs.code.Checked.{AreNodesOf}
+use Rattle.ifr_nodes.specs.Nodes.{options}
+use Rattle.ifr_nodes.specs.code.Checked.{AreNodesOf}
 use Rattle.ifr_scopes.specs.code.Lists.{statement_node}
 use Rattle.ifr_scopes.specs.code.OptionsLeft.{options_of_left}
 use Rattle.guard_policy.specs.code.Views.{bytes_of}

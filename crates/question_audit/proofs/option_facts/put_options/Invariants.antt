@@ -2,7 +2,7 @@ use Rattle.std.proofs.Common.{length}
 use Rattle.std.specs.List.{flat_map}
 use Rattle.hii_bytes.specs.Watching.{pen_of}
 use Rattle.hii_bytes.specs.code.Writing.{Stands}
-use Rattle.ifr_scopes.specs.code.Checked.{AreNodesOf}
+use Rattle.ifr_nodes.specs.code.Checked.{AreNodesOf}
 use Rattle.ifr_scopes.specs.code.Lists.{statement_node}
 use Rattle.ifr_scopes.specs.code.OptionsLeft.{options_of_left}
 use Rattle.guard_policy.specs.code.Views.{bytes_of}

@@ -1,9 +1,9 @@
 use Rattle.std.proofs.Common.{ap, arith, inr, subst}
 use Rattle.hii_bytes.specs.code.NumberSets.{has_number}
 use Rattle.hii_bytes.proofs.WritingLemmas.{◌⨾◌}
-use Rattle.ifr_scopes.specs.Nodes.{nodes_of}
-use Rattle.ifr_scopes.proofs.ConditionLemmas.{place_below}
-use Rattle.ifr_scopes.proofs.ViewLemmas.{contains_found}
+use Rattle.ifr_nodes.specs.Nodes.{nodes_of}
+use Rattle.ifr_nodes.proofs.ConditionLemmas.{place_below}
+use Rattle.ifr_nodes.proofs.ViewLemmas.{contains_found}
 use Rattle.hii_questions.specs.code.Views.{question_node}
 use Rattle.guard_policy.specs.code.Views.{bytes_of}
 use Rattle.condition_text.proofs.WriteLemmas.{written_as}

@@ -1,7 +1,7 @@
 use Rattle.std.proofs.Common.{[], ap, inl, inr, refl, subst, sym, ◌∙◌}
 use Rattle.hii_bytes.specs.Watching.{Writes, pen_of}
 use Rattle.hii_bytes.proofs.WritingLemmas.{writes_nil, ◌⨾◌}
-use Rattle.ifr_scopes.specs.Nodes.{nodes_of}
+use Rattle.ifr_nodes.specs.Nodes.{nodes_of}
 use Rattle.hii_varstore.specs.Stores.{shape_of}
 use Rattle.hii_questions.specs.code.LyingIn.{LiesIn}
 use Rattle.hii_questions.specs.code.Views.{question_view}

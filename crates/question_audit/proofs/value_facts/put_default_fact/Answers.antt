@@ -3,7 +3,7 @@ use Rattle.hii_bytes.specs.Watching.{pen_of}
 use Rattle.hii_bytes.proofs.WritingLemmas.{writes_nil}
 use Rattle.ifr_expr.specs.Values.{Value}
 use Rattle.ifr_opcodes.specs.Forest.{Node}
-use Rattle.ifr_scopes.specs.code.Checked.{IsNodeOf}
+use Rattle.ifr_nodes.specs.code.Checked.{IsNodeOf}
 use Rattle.hii_questions.specs.code.Views.{question_node, question_view}
 use Rattle.guard_policy.specs.code.Views.{bytes_of}
 use Rattle.condition_text.proofs.WriteLemmas.{written_as}

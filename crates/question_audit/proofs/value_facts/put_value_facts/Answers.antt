@@ -3,7 +3,7 @@ use Rattle.hii_bytes.proofs.WritingLemmas.{◌⨾◌}
 use Rattle.hii_varstore.specs.Stores.{StoreMap}
 use Rattle.ifr_expr.specs.code.Views.{value_of}
 use Rattle.ifr_opcodes.specs.Forest.{Node}
-use Rattle.ifr_scopes.specs.code.Checked.{IsNodeOf}
+use Rattle.ifr_nodes.specs.code.Checked.{IsNodeOf}
 use Rattle.hii_questions.specs.Answers.{value_of_field}
 use Rattle.hii_questions.specs.code.Views.{question_node, question_view}
 use Rattle.guard_policy.specs.code.Views.{bytes_of}

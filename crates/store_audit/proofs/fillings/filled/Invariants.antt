@@ -1,5 +1,5 @@
 use Rattle.std.proofs.Common.{◌≡◌}
-use Rattle.ifr_scopes.specs.Nodes.{nodes_of}
+use Rattle.ifr_nodes.specs.Nodes.{nodes_of}
 use Rattle.hii_varstore.specs.StoreNodes.{layout_of}
 use Rattle.store_audit.proofs.FillingLemmas.{filled_up_to}
 use Rattle.store_audit.proofs.fillings.filled.Given as goal

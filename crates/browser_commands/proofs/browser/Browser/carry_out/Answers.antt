@@ -1,5 +1,5 @@
 use Rattle.std.proofs.Common.{ap, ◌∙◌}
-use Rattle.ifr_scopes.specs.Nodes.{nodes_of}
+use Rattle.ifr_nodes.specs.Nodes.{nodes_of}
 use Rattle.hii_commands.specs.Meaning.{command_meant}
 use Rattle.session_steps.specs.Renewed.{Shown, shown_after, writes_of}
 use Rattle.session_steps.specs.Step.{step}

@@ -4,7 +4,7 @@ use Rattle.guard_policy.specs.World.{World}
 use Rattle.guard_policy.specs.code.Answers.{unless}
 use Rattle.hii_varstore.specs.Stores.{shape_of}
 use Rattle.ifr_scopes.specs.code.Lists.{statement_node}
-use Rattle.ifr_scopes.specs.code.Checked.{IsNodeOf}
+use Rattle.ifr_nodes.specs.code.Checked.{IsNodeOf}
 use Rattle.session_steps.specs.Opening.{layout_in, IsBrowsable}
 use Rattle.session_steps.specs.State.{State}
 use Rattle.browser_commands.specs.code.Changing.{IsOver}

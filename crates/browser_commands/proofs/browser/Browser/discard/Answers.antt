@@ -7,7 +7,7 @@ use Rattle.browser_rules.specs.Script as script
 use Rattle.session_steps.specs.Renewed.{Shown, writes_of}
 use Rattle.session_steps.specs.State.{State}
 use Rattle.session_steps.specs.Step.{step}
-use Rattle.ifr_scopes.specs.Nodes.{nodes_of}
+use Rattle.ifr_nodes.specs.Nodes.{nodes_of}
 use Rattle.browser_commands.specs.code.Counting.{counted_all}
 use Rattle.browser_commands.proofs.Browsers.{seen, stands_with, state_in}
 use Rattle.browser_commands.proofs.browser.Browser.discard.Goals as goal

@@ -2,7 +2,7 @@ use Rattle.std.proofs.Common.{Ok, subst}
 use Rattle.hii_questions.specs.code.Views.{question_view}
 use Rattle.session_steps.specs.State.{State}
 use Rattle.browser_commands.specs.code.Standing.{Finds}
-use Rattle.ifr_scopes.specs.Nodes.{nodes_of}
+use Rattle.ifr_nodes.specs.Nodes.{nodes_of}
 use Rattle.hii_questions.specs.Fields.{question_with}
 use Rattle.std.proofs.Common.{◌≡◌, None}
 use Rattle.browser_commands.proofs.SetLemmas.{is_question_of, no_question_of}

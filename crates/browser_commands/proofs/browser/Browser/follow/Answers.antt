@@ -1,5 +1,5 @@
 use Rattle.std.proofs.Common.{◌≡◌, ℕ, true, sym, subst}
-use Rattle.ifr_scopes.specs.code.Checked.{IsNodeOf, has_form}
+use Rattle.ifr_nodes.specs.code.Checked.{IsNodeOf, has_form}
 use Rattle.ifr_scopes.specs.code.Lists.{form_node}
 use Rattle.session_steps.specs.State.{State}
 use Rattle.browser_commands.proofs.FollowLemmas.{has_form_there, all_and_one}

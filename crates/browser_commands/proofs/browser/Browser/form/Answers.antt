@@ -1,5 +1,5 @@
 use Rattle.std.proofs.Common.{subst}
-use Rattle.ifr_scopes.specs.Accepted.{IsAccepted}
+use Rattle.ifr_nodes.specs.Accepted.{IsAccepted}
 use Rattle.session_steps.specs.State.{State}
 use Rattle.browser_commands.proofs.Browsers.{seen}
 use Rattle.browser_commands.proofs.browser.Browser.form.Goals as goal

@@ -1,9 +1,9 @@
 use Rattle.std.proofs.Common.{◌≡◌, ℕ, List, Option, Some, None, sym, subst}
 use Rattle.std.specs.Prelude.{IfSome, option_map}
-use Rattle.ifr_scopes.specs.Accepted.{IsAccepted}
-use Rattle.ifr_scopes.specs.Nodes.{nodes_of}
-use Rattle.ifr_scopes.specs.References.{form_with}
-use Rattle.ifr_scopes.specs.code.Checked.{IsNodeOf}
+use Rattle.ifr_nodes.specs.Accepted.{IsAccepted}
+use Rattle.ifr_nodes.specs.Nodes.{nodes_of}
+use Rattle.ifr_nodes.specs.ReferenceFaults.{form_with}
+use Rattle.ifr_nodes.specs.code.Checked.{IsNodeOf}
 use Rattle.ifr_scopes.specs.code.Lists.{form_node}
 use Rattle.ifr_scopes.specs.declared.form.Form.{Form}
 use Rattle.session_steps.specs.State.{State}

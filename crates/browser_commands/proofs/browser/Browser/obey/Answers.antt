@@ -3,7 +3,7 @@ use Rattle.config_text.specs.Reading.{configuration_in}
 use Rattle.config_text.specs.declared.kind.TextKind.TheVariants.{Ask}
 use Rattle.hii_bytes.specs.Watching.{pen_of, Writes}
 use Rattle.hii_questions.specs.Fields.{question_with}
-use Rattle.ifr_scopes.specs.Nodes.{nodes_of}
+use Rattle.ifr_nodes.specs.Nodes.{nodes_of}
 use Rattle.session_steps.proofs.RoutedLemmas.{extract_state}
 use Rattle.session_steps.specs.Renewed.{field_writes, named_if, pressed_if}
 use Rattle.session_steps.specs.Step.{Outcome, form_of, row_of_form}

@@ -3,7 +3,7 @@ use Rattle.std.proofs.lemmas.Result.{err_from_is_err_and}
 use Rattle.hii_packages.specs.code.Package.{package_of}
 use Rattle.ifr_scopes.specs.code.Lists.{form_node}
 use Rattle.hii_varstore.specs.Stores.{shape_of}
-use Rattle.ifr_scopes.specs.Nodes.{nodes_of}
+use Rattle.ifr_nodes.specs.Nodes.{nodes_of}
 use Rattle.guard_policy.specs.World.{removed_at}
 use Rattle.hii_questions.specs.code.Survey.{Survey}
 use Rattle.kept_conditions.specs.Kept.{KeptMap}

@@ -1,7 +1,7 @@
 use Rattle.std.proofs.Common.{List, sym, ap, subst, ◌∙◌}
 use Rattle.hii_bytes.specs.Watching.{pen_of, Writes}
 use Rattle.ifr_opcodes.specs.Forest.{Node}
-use Rattle.ifr_scopes.specs.Nodes.{nodes_of}
+use Rattle.ifr_nodes.specs.Nodes.{nodes_of}
 use Rattle.session_steps.specs.Renewed.{field_writes, pressed_if}
 use Rattle.session_steps.specs.Step.{Outcome, row_of_form, form_of}
 use Rattle.browser_commands.specs.code.Counting.{counted_all}

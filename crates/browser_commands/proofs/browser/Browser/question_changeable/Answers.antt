@@ -5,8 +5,8 @@ use Rattle.guard_policy.specs.code.Answers.{unless}
 use Rattle.hii_varstore.specs.Stores.{shape_of}
 use Rattle.hii_questions.specs.Fields.{asked}
 use Rattle.hii_questions.specs.code.Views.{question_node, question_view}
-use Rattle.ifr_scopes.specs.Nodes.{nodes_of}
-use Rattle.ifr_scopes.specs.code.Checked.{IsNodeOf}
+use Rattle.ifr_nodes.specs.Nodes.{nodes_of}
+use Rattle.ifr_nodes.specs.code.Checked.{IsNodeOf}
 use Rattle.session_steps.specs.Opening.{layout_in, IsBrowsable}
 use Rattle.session_steps.specs.State.{State}
 use Rattle.browser_commands.specs.code.Changing.{IsOver}

@@ -2,7 +2,7 @@ use Rattle.std.proofs.Common.{List, Result, sym, ap, subst, ◌∙◌}
 use Rattle.browser_rules.specs.Configuration.{Header, Block}
 use Rattle.hii_bytes.specs.Watching.{pen_of, Writes}
 use Rattle.hii_bytes.specs.declared.cause.Cause.{Cause}
-use Rattle.ifr_scopes.specs.Nodes.{nodes_of}
+use Rattle.ifr_nodes.specs.Nodes.{nodes_of}
 use Rattle.session_steps.specs.Renewed.{response_writes}
 use Rattle.session_steps.specs.State.{State}
 use Rattle.session_steps.specs.Step.{Outcome, denied, route_reading}

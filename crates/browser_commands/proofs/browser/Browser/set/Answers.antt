@@ -2,7 +2,7 @@ use Rattle.std.proofs.Common.{List, sym, ap, subst, ◌∙◌}
 use Rattle.hii_bytes.specs.Watching.{pen_of, Writes}
 use Rattle.hii_bytes.proofs.WritingLemmas.{◌⨾◌}
 use Rattle.ifr_opcodes.specs.Forest.{Node}
-use Rattle.ifr_scopes.specs.Nodes.{nodes_of}
+use Rattle.ifr_nodes.specs.Nodes.{nodes_of}
 use Rattle.hii_questions.specs.Fields.{question_with}
 use Rattle.session_steps.specs.Renewed.{Shown, field_writes, named_if}
 use Rattle.session_steps.specs.Step.{Outcome, denied}

@@ -2,7 +2,7 @@ use Rattle.std.proofs.Common.{List, ℕ, sym, ap, subst}
 use Rattle.std.proofs.lemmas.Result.{err_from_is_err_and}
 use Rattle.hii_bytes.specs.Watching.{pen_of, Writes}
 use Rattle.hii_bytes.proofs.WritingLemmas.{writes_nil, ◌⨾◌}
-use Rattle.ifr_scopes.specs.code.Checked.{IsNodeOf}
+use Rattle.ifr_nodes.specs.code.Checked.{IsNodeOf}
 use Rattle.hii_varstore.specs.Layout.{Shape}
 use Rattle.hii_varstore.specs.Stores.{shape_of}
 use Rattle.hii_varstore.specs.code.Ranges.{HasRange}

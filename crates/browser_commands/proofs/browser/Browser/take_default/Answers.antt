@@ -1,6 +1,6 @@
 use Rattle.std.proofs.Common.{◌≡◌, ℕ, List, Some, None, sym, subst}
 use Rattle.std.specs.Prelude.{if◌then◌else◌}
-use Rattle.ifr_scopes.specs.Nodes.{nodes_of, is_question}
+use Rattle.ifr_nodes.specs.Nodes.{nodes_of, is_question}
 use Rattle.ifr_scopes.specs.code.Lists.{statement_node}
 use Rattle.hii_questions.specs.Fields.{asked}
 use Rattle.ifr_opcodes.specs.Forest.{Node}

@@ -3,8 +3,8 @@ use Rattle.std.specs.Prelude.{option_and_then}
 use Rattle.std.proofs.lemmas.Result.{err_from_is_err_and}
 use Rattle.ifr_opcodes.specs.Fields.{ref_target}
 use Rattle.ifr_opcodes.specs.code.Ops.{bytes_of}
-use Rattle.ifr_scopes.specs.Nodes.{nodes_of, is_reference}
-use Rattle.ifr_scopes.specs.References.{form_with}
+use Rattle.ifr_nodes.specs.Nodes.{nodes_of, is_reference}
+use Rattle.ifr_nodes.specs.ReferenceFaults.{form_with}
 use Rattle.ifr_scopes.specs.code.Lists.{form_node}
 use Rattle.hii_questions.specs.Fields.{question_with}
 use Rattle.hii_questions.specs.code.Views.{question_node}

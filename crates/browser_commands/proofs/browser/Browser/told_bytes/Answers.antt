@@ -2,7 +2,7 @@ use Rattle.std.proofs.Common.{◌≡◌, ◌<◌, ◌^◌, ℕ, List, [], Some, 
 use Rattle.std.specs.Option.{unwrap_or}
 use Rattle.std.proofs.lemmas.Result.{err_from_is_err_and}
 use Rattle.config_text.specs.code.TextViews.{request_view}
-use Rattle.ifr_scopes.specs.Nodes.{nodes_of}
+use Rattle.ifr_nodes.specs.Nodes.{nodes_of}
 use Rattle.hii_varstore.specs.Layout.{Shape}
 use Rattle.hii_varstore.specs.Stores.{bytes_of}
 use Rattle.hii_varstore.specs.code.Table.{AreBuffers}

@@ -1,4 +1,4 @@
-use Rattle.ifr_scopes.specs.Nodes.{nodes_of}
+use Rattle.ifr_nodes.specs.Nodes.{nodes_of}
 use Rattle.hii_questions.specs.Fields.{question_with}
 use Rattle.hii_questions.specs.code.Views.{question_node}
 use Rattle.browser_commands.proofs.FollowLemmas.{why_answered}

@@ -1,4 +1,4 @@
-use Rattle.ifr_scopes.specs.Nodes.{statements}
+use Rattle.ifr_nodes.specs.Nodes.{statements}
 use Rattle.ifr_scopes.specs.code.Lists.{form_node, statement_node}
 use Rattle.ifr_scopes.specs.code.StatementsLeft.{statements_of_left}
 use Rattle.guard_policy.specs.code.Views.{bytes_of}

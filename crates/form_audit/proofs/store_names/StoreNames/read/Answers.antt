@@ -2,7 +2,7 @@ use Rattle.std.proofs.Common.{◌≡◌, ◌==◌, ◌∙◌, ap, sym, map, opti
 use Rattle.std.specs.Prelude.{filter}
 use Rattle.std.proofs.lemmas.List.Sorted.{answers_always}
 use Rattle.ifr_opcodes.specs.Forest.{Node}
-use Rattle.ifr_scopes.specs.Nodes.{nodes_of, is_store}
+use Rattle.ifr_nodes.specs.Nodes.{nodes_of, is_store}
 use Rattle.ifr_scopes.specs.Stores.{store_id}
 use Rattle.ifr_scopes.specs.code.Lists.{store_node}
 use Rattle.ifr_scopes.specs.declared.varstore.Varstore.{Varstore}

@@ -1,6 +1,6 @@
 use Rattle.std.proofs.Common.{◌≡◌, ◌++◌, map}
 use Rattle.std.specs.Prelude.{filter}
-use Rattle.ifr_scopes.specs.Nodes.{nodes_of, is_store}
+use Rattle.ifr_nodes.specs.Nodes.{nodes_of, is_store}
 use Rattle.ifr_scopes.specs.code.Lists.{store_node, stores_left}
 use Rattle.form_audit.proofs.store_names.StoreNames.read.Given as goal
 

@@ -2,7 +2,7 @@ use Rattle.std.proofs.Common.{length, ap, arith}
 use Rattle.std.specs.Prelude.{is_none}
 use Rattle.std.proofs.lemmas.List.Sums.{length-filter, count_by-le-length}
 use Rattle.ifr_opcodes.specs.Forest.{Node}
-use Rattle.ifr_scopes.specs.Nodes.{statements}
+use Rattle.ifr_nodes.specs.Nodes.{statements}
 use Rattle.ifr_scopes.specs.code.Lists.{form_node}
 use Rattle.guard_policy.specs.Policy.{hidden}
 use Rattle.form_page.specs.code.PageViews.{world_of}

@@ -1,5 +1,5 @@
 use Rattle.std.proofs.Common.{ap, sym, subst, ◌∙◌}
-use Rattle.ifr_scopes.specs.code.Checked.{IsNodeOf}
+use Rattle.ifr_nodes.specs.code.Checked.{IsNodeOf}
 use Rattle.ifr_scopes.specs.code.Lists.{form_node, statement_node}
 use Rattle.guard_policy.specs.laws.Support.{conditions, IsSubjectOf}
 use Rattle.guard_policy.specs.code.Views.{world}

@@ -3,8 +3,8 @@ use Rattle.std.specs.Prelude.{filter, ◌==◌}
 use Rattle.std.specs.List.{flat_map}
 use Rattle.ifr_opcodes.specs.Fields.{option_value}
 use Rattle.ifr_opcodes.specs.Forest.{Node}
-use Rattle.ifr_scopes.specs.code.Checked.{AreNodesOf}
-use Rattle.ifr_scopes.specs.Nodes.{options}
+use Rattle.ifr_nodes.specs.code.Checked.{AreNodesOf}
+use Rattle.ifr_nodes.specs.Nodes.{options}
 use Rattle.ifr_scopes.specs.code.OptionsLeft.{options_of_left}
 use Rattle.hii_questions.specs.code.Views.{question_node}
 use Rattle.guard_policy.specs.laws.Support.{around}

@@ -1,5 +1,5 @@
 use Rattle.std.proofs.Common.{rules}
-use Rattle.ifr_scopes.specs.Guards.{guards}
+use Rattle.ifr_nodes.specs.Guards.{guards}
 use Rattle.ifr_scopes.specs.code.Lists.{outward_left}
 use Rattle.ifr_scopes.specs.code.NoSubmitsLeft.{no_submit_node}
 use Rattle.guard_policy.specs.Policy.{is_removed}

@@ -1,7 +1,7 @@
 use Rattle.std.proofs.Common.{◌≡◌}
 use Rattle.std.specs.Prelude.{filter}
 use Rattle.std.specs.List.{find}
-use Rattle.ifr_scopes.specs.Nodes.{nodes_of, is_no_submit}
+use Rattle.ifr_nodes.specs.Nodes.{nodes_of, is_no_submit}
 use Rattle.ifr_scopes.specs.code.NoSubmitsLeft.{no_submits_left}
 use Rattle.guard_policy.specs.Policy.{denies_submission}
 use Rattle.guard_policy.specs.code.Views.{world_by}

@@ -1,7 +1,7 @@
 use Rattle.std.proofs.Common.{◌≡◌}
 use Rattle.std.specs.Prelude.{filter, ◌==◌}
 use Rattle.ifr_opcodes.specs.Fields.{option_value}
-use Rattle.ifr_scopes.specs.code.Checked.{AreNodesOf}
+use Rattle.ifr_nodes.specs.code.Checked.{AreNodesOf}
 use Rattle.ifr_scopes.specs.code.OptionsLeft.{options_of_left}
 use Rattle.hii_questions.specs.code.Views.{question_node}
 use Rattle.guard_policy.specs.Policy.{closed}

@@ -1,7 +1,7 @@
 use Rattle.std.proofs.Common.{None, sym, ap, ◌∙◌}
 use Rattle.std.proofs.lemmas.Bool.{cond-true}
 use Rattle.std.proofs.lemmas.Result.{err_from_is_err_and}
-use Rattle.ifr_scopes.specs.Nodes.{nodes_of, is_question}
+use Rattle.ifr_nodes.specs.Nodes.{nodes_of, is_question}
 use Rattle.hii_questions.specs.code.Views.{question_node}
 use Rattle.hii_questions.specs.Fields.{asked}
 use Rattle.guard_policy.specs.Policy.{covered, fixed_itself, fixed_question}

@@ -2,7 +2,7 @@ use Rattle.std.proofs.Common.{◌≡◌, Option, Err, sym, ap, ◌∙◌}
 use Rattle.std.specs.Prelude.{option_map}
 use Rattle.std.specs.List.{find}
 use Rattle.ifr_opcodes.specs.Forest.{Node}
-use Rattle.ifr_scopes.specs.Guards.{guards}
+use Rattle.ifr_nodes.specs.Guards.{guards}
 use Rattle.ifr_scopes.specs.code.AroundViews.{around_guards}
 use Rattle.ifr_scopes.specs.code.Lists.{guard_node, statement_node}
 use Rattle.ifr_scopes.specs.code.LocksLeft.{lock_node}

@@ -1,5 +1,5 @@
 use Rattle.std.proofs.Common.{ap}
-use Rattle.ifr_scopes.specs.Nodes.{nodes_of}
+use Rattle.ifr_nodes.specs.Nodes.{nodes_of}
 use Rattle.guard_policy.specs.laws.Support.{support_over}
 use Rattle.guard_policy.proofs.policy.Policy.support_of.Goals as goal
 

@@ -1,6 +1,6 @@
 use Rattle.std.proofs.Common.{ap, ◌∙◌, List, Option}
 use Rattle.ifr_opcodes.specs.Forest.{Node}
-use Rattle.ifr_scopes.specs.Guards.{guards}
+use Rattle.ifr_nodes.specs.Guards.{guards}
 use Rattle.ifr_scopes.specs.code.AroundViews.{around_lock}
 use Rattle.guard_policy.specs.Policy.{covered_by}
 use Rattle.guard_policy.specs.code.Answers.{unless}

@@ -1,7 +1,7 @@
 use Rattle.std.proofs.Common.{sym, ap, subst, ◌∙◌, List, Option}
 use Rattle.std.specs.Prelude.{IfSome}
 use Rattle.ifr_opcodes.specs.Forest.{Node}
-use Rattle.ifr_scopes.specs.Guards.{guards}
+use Rattle.ifr_nodes.specs.Guards.{guards}
 use Rattle.ifr_scopes.specs.code.AroundViews.{around_lock}
 use Rattle.ifr_scopes.specs.declared.around.Around.{Around}
 use Rattle.guard_policy.specs.Policy.{covered_by}

@@ -3,9 +3,9 @@ use Rattle.std.specs.Prelude.{filter}
 use Rattle.std.proofs.lemmas.List.{append-nil}
 use Rattle.ifr_opcodes.specs.Forest.{Node, flat}
 use Rattle.ifr_opcodes.specs.Reading.{tree_of}
-use Rattle.ifr_scopes.specs.Nodes.{nodes_of}
-use Rattle.ifr_scopes.proofs.PlaceLemmas.{nodes_within}
-use Rattle.ifr_scopes.proofs.StructureLemmas.{rising}
+use Rattle.ifr_nodes.specs.Nodes.{nodes_of}
+use Rattle.ifr_nodes.proofs.PlaceLemmas.{nodes_within}
+use Rattle.ifr_nodes.proofs.StructureLemmas.{rising}
 use Rattle.guard_policy.specs.World.{is_disabling, is_met_over}
 use Rattle.guard_policy.proofs.RemovedLemmas.{Ascend, places_ascend, from_zero, of_guards}
 use Rattle.guard_policy.proofs.removed.Removed.at_open.Goals as goal

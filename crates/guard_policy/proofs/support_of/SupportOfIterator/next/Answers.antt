@@ -1,5 +1,5 @@
 use Rattle.std.proofs.Common.{◌∙◌}
-use Rattle.ifr_scopes.specs.Nodes.{nodes_of}
+use Rattle.ifr_nodes.specs.Nodes.{nodes_of}
 use Rattle.ifr_scopes.specs.code.AnyConditions.{any_condition_node}
 use Rattle.guard_policy.specs.Conditions.{condition_ids}
 use Rattle.guard_policy.proofs.AskedLemmas.{next_piece}

@@ -1,7 +1,7 @@
 use Rattle.std.proofs.Common.{◌≡◌, ◌<◌, Some, length, option_map, ap, sym, subst, ◌∙◌, arith, rules}
 use Rattle.std.proofs.lemmas.Bool.{ne_eqb}
 use Rattle.hii_bytes.specs.code.IdTables.{number_with}
-use Rattle.ifr_scopes.specs.Nodes.{nodes_of}
+use Rattle.ifr_nodes.specs.Nodes.{nodes_of}
 use Rattle.hii_questions.specs.Fields.{Asked, asked, question_with}
 use Rattle.hii_questions.specs.code.Entries.{IsQuestionEntry, entry_view}
 use Rattle.hii_questions.specs.code.Survey.{Survey}

@@ -1,5 +1,5 @@
 use Rattle.std.proofs.Common.{◌≡◌, List, Some, find, option_map, ap, sym, ◌∙◌}
-use Rattle.ifr_scopes.specs.Nodes.{nodes_of}
+use Rattle.ifr_nodes.specs.Nodes.{nodes_of}
 use Rattle.hii_questions.specs.Fields.{Asked, is_password_in, questions}
 use Rattle.hii_questions.specs.code.Entries.{entry_field, entry_view}
 use Rattle.hii_questions.specs.code.Ranges.{range_in}

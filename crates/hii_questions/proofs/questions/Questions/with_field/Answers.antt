@@ -1,5 +1,5 @@
 use Rattle.std.proofs.Common.{List, map, filter, ap, sym, subst, ◌∙◌}
-use Rattle.ifr_scopes.specs.Nodes.{nodes_of}
+use Rattle.ifr_nodes.specs.Nodes.{nodes_of}
 use Rattle.hii_questions.specs.Fields.{has_field, questions}
 use Rattle.hii_questions.specs.code.ByField.{has_range}
 use Rattle.hii_questions.specs.code.Entries.{AreQuestionEntries, entry_view}

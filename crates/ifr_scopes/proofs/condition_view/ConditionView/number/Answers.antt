@@ -1,5 +1,5 @@
 use Rattle.std.proofs.Common.{sym, subst}
-use Rattle.ifr_scopes.specs.Nodes.{nodes_of}
+use Rattle.ifr_nodes.specs.Nodes.{nodes_of}
 use Rattle.ifr_scopes.specs.code.Tables.{AreConditionsBefore}
 use Rattle.ifr_scopes.proofs.condition_view.ConditionView.number.Goals as goal
 

@@ -5,7 +5,7 @@ use Rattle.ifr_opcodes.specs.Rows.{row_of, is_among, is_condition_number}
 use Rattle.ifr_opcodes.proofs.StatementLemmas.{none_denies}
 use Rattle.ifr_opcodes.proofs.TableLemmas.{numbers, of_kind}
 use Rattle.ifr_scopes.specs.code.Parts.{condition_numbers}
-use Rattle.ifr_scopes.proofs.NodeFactLemmas.{view_sized}
+use Rattle.ifr_nodes.proofs.NodeFactLemmas.{view_sized}
 use Rattle.ifr_scopes.proofs.condition_view.ConditionView.op.Goals as goal
 
 -- each condition of a question has a view

@@ -3,10 +3,10 @@ use Rattle.std.proofs.lemmas.Bool.{false≢true}
 use Rattle.ifr_opcodes.specs.Fields.{question_id}
 use Rattle.ifr_opcodes.specs.Opcode.{number}
 use Rattle.ifr_opcodes.specs.Rows.{is_condition_number}
-use Rattle.ifr_scopes.specs.Nodes.{is_question}
-use Rattle.ifr_scopes.specs.code.PartsLeft.{HaveThis}
-use Rattle.ifr_scopes.specs.code.Views.{node_of}
-use Rattle.ifr_scopes.proofs.NodeFactLemmas.{is_node}
+use Rattle.ifr_nodes.specs.Nodes.{is_question}
+use Rattle.ifr_nodes.specs.code.PartsLeft.{HaveThis}
+use Rattle.ifr_nodes.specs.code.Views.{node_of}
+use Rattle.ifr_nodes.proofs.NodeFactLemmas.{is_node}
 use Rattle.ifr_scopes.proofs.ThisLemmas.{have_this}
 use Rattle.ifr_scopes.proofs.condition_view.ConditionViews.question.Goals as goal
 use Rattle.ifr_scopes.proofs.condition_view.ConditionViews.question.Goals.{then-is_question, else-is_question}

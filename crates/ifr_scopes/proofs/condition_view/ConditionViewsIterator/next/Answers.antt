@@ -1,7 +1,7 @@
 use Rattle.std.proofs.Common.{sym, ap, subst, ◌∙◌, arith}
 use Rattle.ifr_opcodes.specs.Rows.{is_condition_number}
-use Rattle.ifr_scopes.specs.code.PartsLeft.{parts_left, HaveThis}
-use Rattle.ifr_scopes.specs.code.Views.{node_of}
+use Rattle.ifr_nodes.specs.code.PartsLeft.{parts_left, HaveThis}
+use Rattle.ifr_nodes.specs.code.Views.{node_of}
 use Rattle.ifr_scopes.proofs.ThisLemmas.{have_rest}
 use Rattle.ifr_scopes.proofs.condition_view.ConditionViewsIterator.next.Goals as goal
 

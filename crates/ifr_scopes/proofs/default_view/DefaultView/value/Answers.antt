@@ -2,11 +2,11 @@ use Rattle.std.proofs.Common.{◌≡◌, ℕ, ◌+◌, true, Some, List, length,
 use Rattle.ifr_opcodes.specs.Opcode.{number}
 use Rattle.ifr_opcodes.specs.Forest.{Node}
 use Rattle.ifr_opcodes.specs.code.Ops.{bytes_of}
-use Rattle.ifr_scopes.specs.Conditions.{expression_tree}
-use Rattle.ifr_scopes.specs.Table.{wants_expression, wants_value}
-use Rattle.ifr_scopes.specs.code.Views.{node_of}
-use Rattle.ifr_scopes.proofs.ConditionLemmas.{StandsValue, value_at}
-use Rattle.ifr_scopes.proofs.NodeFactLemmas.{is_node}
+use Rattle.ifr_nodes.specs.NodeExpressions.{expression_tree}
+use Rattle.ifr_nodes.specs.Table.{wants_expression, wants_value}
+use Rattle.ifr_nodes.specs.code.Views.{node_of}
+use Rattle.ifr_nodes.proofs.ConditionLemmas.{StandsValue, value_at}
+use Rattle.ifr_nodes.proofs.NodeFactLemmas.{is_node}
 use Rattle.ifr_scopes.proofs.default_view.DefaultView.value.Goals as goal
 use Rattle.ifr_scopes.proofs.default_view.DefaultView.value.Goals.{After-len}
 

@@ -5,7 +5,7 @@ use Rattle.ifr_expr.specs.code.NamesLeft.{names_left}
 use Rattle.ifr_expr.specs.declared.expr.Expr.{Expr}
 use Rattle.ifr_expr.specs.declared.names.Name.TheVariants.{Rule}
 use Rattle.ifr_expr.specs.declared.names.Names.{Names}
-use Rattle.ifr_scopes.specs.code.Rules.{rules_of}
+use Rattle.ifr_nodes.specs.code.Rules.{rules_of}
 use Rattle.ifr_scopes.specs.declared.dependence.Frame.{Frame}
 use Rattle.ifr_scopes.proofs.FrameLemmas.{ids, turns, GoesOn, goes_on, IsNamed, is_named, passed_over, fits_on, Enters, enters}
 use Rattle.ifr_scopes.proofs.dependence.Dependence.step.Goals as goal

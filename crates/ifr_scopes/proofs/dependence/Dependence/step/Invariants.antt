@@ -1,6 +1,6 @@
 use Rattle.std.proofs.Common.{◌≡◌, reverse}
 use Rattle.ifr_scopes.specs.code.DependenceLeft.{dependence_left}
-use Rattle.ifr_scopes.specs.code.Rules.{rules_of}
+use Rattle.ifr_nodes.specs.code.Rules.{rules_of}
 use Rattle.ifr_scopes.proofs.FrameLemmas.{turns}
 use Rattle.ifr_scopes.proofs.dependence.Dependence.step.Given as goal
 

@@ -1,6 +1,6 @@
 use Rattle.std.proofs.Common.{◌≡◌, length}
 use Rattle.ifr_scopes.specs.code.Lists.{forms_left}
-use Rattle.ifr_scopes.specs.code.Views.{nodes_left}
+use Rattle.ifr_nodes.specs.code.Views.{nodes_left}
 use Rattle.ifr_scopes.proofs.form.FormViewsIterator.next.Given as goal
 
 abbrev pub invariant-loop-node : goal.invariant-loop-node

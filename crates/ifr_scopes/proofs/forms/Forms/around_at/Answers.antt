@@ -1,5 +1,5 @@
 use Rattle.std.proofs.Common.{ℕ, List, sym, ap, ◌∙◌}
-use Rattle.ifr_scopes.specs.Nodes.{nodes_of}
+use Rattle.ifr_nodes.specs.Nodes.{nodes_of}
 use Rattle.ifr_scopes.specs.code.Index.{indexed_at, guards_of_indexed, lock_of_indexed}
 use Rattle.ifr_opcodes.specs.Forest.{Node}
 use Rattle.std.specs.Prelude.{option_map}

@@ -2,8 +2,8 @@ use Rattle.std.proofs.Common.{◌≡◌, List, ℕ, Some, refl, ap, sym, ◌∙�
 use Rattle.std.specs.Prelude.{option_map}
 use Rattle.ifr_opcodes.specs.Forest.{Node}
 use Rattle.ifr_opcodes.specs.Opcode.{number}
-use Rattle.ifr_scopes.specs.Guards.{is_guard}
-use Rattle.ifr_scopes.specs.Nodes.{nodes_of}
+use Rattle.ifr_nodes.specs.Guards.{is_guard}
+use Rattle.ifr_nodes.specs.Nodes.{nodes_of}
 use Rattle.ifr_scopes.specs.code.AnyConditions.{any_condition_node}
 use Rattle.ifr_scopes.specs.code.Index.{kind_at, conditional_at}
 use Rattle.ifr_scopes.specs.code.Tables.{inner_guard, guard_entry, is_question_condition, kept_condition}

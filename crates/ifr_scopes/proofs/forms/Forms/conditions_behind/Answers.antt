@@ -3,7 +3,7 @@ use Rattle.std.proofs.lemmas.Bool.{cond-true}
 use Rattle.hii_bytes.specs.code.FirstFaults.{Rise}
 use Rattle.ifr_opcodes.specs.Opcode.{has_scope}
 use Rattle.ifr_opcodes.proofs.OpcodeLemmas.{has_scope_spelled}
-use Rattle.ifr_scopes.specs.Nodes.{nodes_of}
+use Rattle.ifr_nodes.specs.Nodes.{nodes_of}
 use Rattle.ifr_scopes.specs.code.Lists.{statement_node}
 use Rattle.ifr_scopes.specs.code.Tables.{is_question_condition, kept_condition, condition_table}
 use Rattle.ifr_scopes.specs.declared.index.ConditionEntry.{ConditionEntry}

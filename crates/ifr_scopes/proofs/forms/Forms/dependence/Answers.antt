@@ -1,6 +1,6 @@
 use Rattle.std.proofs.Common.{◌≡◌, List, [], ◌∷◌, ◌++◌, ap, ◌∙◌}
 use Rattle.ifr_expr.specs.code.Expressions.{tree_of}
-use Rattle.ifr_scopes.specs.code.Rules.{rules_of}
+use Rattle.ifr_nodes.specs.code.Rules.{rules_of}
 use Rattle.ifr_scopes.specs.declared.dependence.Frame.{Frame}
 use Rattle.ifr_scopes.proofs.FrameLemmas.{first_room, first_ids}
 use Rattle.ifr_scopes.proofs.NamedSizeLemmas.{are_shallow}

@@ -1,6 +1,6 @@
 use Rattle.std.proofs.Common.{ℕ, List, refl, ap, ◌∙◌}
 use Rattle.std.specs.Prelude.{option_map}
-use Rattle.ifr_scopes.specs.Nodes.{nodes_of}
+use Rattle.ifr_nodes.specs.Nodes.{nodes_of}
 use Rattle.ifr_scopes.specs.code.Index.{is_indexed, indexed_at}
 use Rattle.ifr_scopes.specs.code.Tables.{kept_entry}
 use Rattle.ifr_scopes.specs.declared.index.Entry.{Entry}

@@ -1,10 +1,10 @@
 use Rattle.std.proofs.Common.{List, ℕ, ap, subst, ◌∙◌}
 use Rattle.std.specs.Prelude.{option_map}
-use Rattle.ifr_scopes.specs.Nodes.{nodes_of}
-use Rattle.ifr_scopes.specs.References.{form_with}
+use Rattle.ifr_nodes.specs.Nodes.{nodes_of}
+use Rattle.ifr_nodes.specs.ReferenceFaults.{form_with}
 use Rattle.ifr_scopes.specs.code.Lists.{form_node}
 use Rattle.ifr_scopes.proofs.FormPlaceLemmas.{IsFormWith, form_some, same_form}
-use Rattle.ifr_scopes.proofs.FormTableLemmas.{none_with}
+use Rattle.ifr_nodes.proofs.FormTableLemmas.{none_with}
 use Rattle.ifr_scopes.proofs.forms.Forms.form.Goals as goal
 
 pub returns-in_err-place : goal.returns-in_err-place

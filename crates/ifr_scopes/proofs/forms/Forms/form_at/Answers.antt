@@ -1,11 +1,11 @@
 use Rattle.std.proofs.Common.{◌≡◌, ℕ, List, true, rules, sym, ap, subst, ◌∙◌}
 use Rattle.ifr_opcodes.specs.Forest.{Node}
 use Rattle.ifr_opcodes.specs.Reading.{tree_of}
-use Rattle.ifr_scopes.specs.code.Checked.{IsNodeOf, has_node, node_in}
-use Rattle.ifr_scopes.specs.code.Views.{node_of}
-use Rattle.ifr_scopes.proofs.EndLemmas.{stands_there}
+use Rattle.ifr_nodes.specs.code.Checked.{IsNodeOf, has_node, node_in}
+use Rattle.ifr_nodes.specs.code.Views.{node_of}
+use Rattle.ifr_nodes.proofs.EndLemmas.{stands_there}
 use Rattle.ifr_scopes.proofs.NoSubmitLemmas.{stands}
-use Rattle.ifr_scopes.proofs.PlaceLemmas.{is_found}
+use Rattle.ifr_nodes.proofs.PlaceLemmas.{is_found}
 use Rattle.ifr_scopes.proofs.forms.Forms.form_at.Goals as goal
 
 pub returns-clause-place : goal.returns-clause-place

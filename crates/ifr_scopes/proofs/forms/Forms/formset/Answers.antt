@@ -1,7 +1,7 @@
 use Rattle.std.proofs.Common.{Option, Some, None, IfNone, IsSome, refl, sym, ap, ◌∙◌}
-use Rattle.ifr_scopes.specs.Nodes.{nodes_of}
-use Rattle.ifr_scopes.specs.code.Views.{nodes_left}
-use Rattle.ifr_scopes.proofs.NodeFactLemmas.{first_is_form_set, some_nodes}
+use Rattle.ifr_nodes.specs.Nodes.{nodes_of}
+use Rattle.ifr_nodes.specs.code.Views.{nodes_left}
+use Rattle.ifr_nodes.proofs.NodeFactLemmas.{first_is_form_set, some_nodes}
 use Rattle.ifr_scopes.proofs.forms.Forms.formset.Goals as goal
 
 is_there : {X : Type 0} (found : Option X) (P : Type 0) → IfNone found P → (P → ⊥) → IsSome found

@@ -1,11 +1,11 @@
 use Rattle.std.proofs.Common.{ap, sym, subst, ◌∙◌, List, ℕ, Some}
 use Rattle.ifr_opcodes.specs.Forest.{Node}
 use Rattle.ifr_expr.specs.code.Rules.{AreOrdered}
-use Rattle.ifr_scopes.specs.Nodes.{nodes_of}
-use Rattle.ifr_scopes.specs.Rules.{is_rule, rule_nodes}
-use Rattle.ifr_scopes.specs.code.Rules.{rules_of}
+use Rattle.ifr_nodes.specs.Nodes.{nodes_of}
+use Rattle.ifr_nodes.specs.Rules.{is_rule, rule_nodes}
+use Rattle.ifr_nodes.specs.code.Rules.{rules_of}
 use Rattle.ifr_scopes.proofs.RuleLookupLemmas.{IsFoundRule, named_node, found_rule, no_rule_named}
-use Rattle.ifr_scopes.proofs.RuleOrderLemmas.{descend_of}
+use Rattle.ifr_nodes.proofs.RuleOrderLemmas.{descend_of}
 use Rattle.ifr_scopes.proofs.RulesOrderedLemmas.{are_ordered}
 use Rattle.ifr_scopes.proofs.forms.Forms.node_named.Goals as goal
 use Rattle.ifr_scopes.proofs.forms.Forms.node_named.Goals.{In_ok-rule}

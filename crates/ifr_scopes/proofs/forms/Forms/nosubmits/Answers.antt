@@ -1,5 +1,5 @@
 use Rattle.std.proofs.Common.{◌≡◌, ℕ, List, filter, sym, ap, subst, ◌∙◌}
-use Rattle.ifr_scopes.specs.Nodes.{nodes_of, is_no_submit}
+use Rattle.ifr_nodes.specs.Nodes.{nodes_of, is_no_submit}
 use Rattle.ifr_scopes.specs.code.Tables.{AreConditionEntries}
 use Rattle.ifr_scopes.proofs.NoSubmitLemmas.{all_again, all_entries, denying}
 use Rattle.ifr_scopes.proofs.forms.Forms.nosubmits.Goals as goal

@@ -3,11 +3,11 @@ use Rattle.std.proofs.lemmas.Result.{err_from_is_err_and}
 use Rattle.hii_bytes.specs.Faults.{Then}
 use Rattle.hii_bytes.proofs.FaultLemmas.{then_first, then_second}
 use Rattle.ifr_opcodes.specs.Reading.{tree_of}
-use Rattle.ifr_scopes.specs.Framing.{IsFramingFault}
-use Rattle.ifr_scopes.specs.Structure.{IsStructureFault}
-use Rattle.ifr_scopes.specs.References.{IsReferenceFault}
-use Rattle.ifr_scopes.specs.Nodes.{nodes_of}
-use Rattle.ifr_scopes.proofs.RunLemmas.{none_where_spelled}
+use Rattle.ifr_nodes.specs.Framing.{IsFramingFault}
+use Rattle.ifr_nodes.specs.Structure.{IsStructureFault}
+use Rattle.ifr_nodes.specs.ReferenceFaults.{IsReferenceFault}
+use Rattle.ifr_nodes.specs.Nodes.{nodes_of}
+use Rattle.ifr_nodes.proofs.RunLemmas.{none_where_spelled}
 use Rattle.ifr_scopes.proofs.forms.Forms.read.Goals as goal
 
 pub returns-in_err-check_framing-clause-refused : goal.returns-in_err-check_framing-clause-refused

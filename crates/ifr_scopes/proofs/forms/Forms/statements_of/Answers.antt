@@ -1,8 +1,8 @@
 use Rattle.std.proofs.Common.{◌≡◌, ◌≤◌, ℕ, List, nat_lt, length, refl, sym, ap, subst, ◌∙◌, arith}
 use Rattle.std.specs.Prelude.{filter}
 use Rattle.hii_bytes.specs.code.FirstFaults.{Rise}
-use Rattle.ifr_scopes.specs.Nodes.{nodes_of}
-use Rattle.ifr_scopes.specs.code.Checked.{IsNodeOf}
+use Rattle.ifr_nodes.specs.Nodes.{nodes_of}
+use Rattle.ifr_nodes.specs.code.Checked.{IsNodeOf}
 use Rattle.ifr_scopes.specs.code.Index.{is_indexed}
 use Rattle.ifr_scopes.specs.code.Lists.{form_node}
 use Rattle.ifr_scopes.specs.code.Tables.{AreEntries, kept_entry, entry_table}

@@ -2,9 +2,9 @@ use Rattle.std.proofs.Common.{Some, sym, ap, ◌∙◌, arith}
 use Rattle.std.specs.Prelude.{option_map}
 use Rattle.ifr_expr.specs.Meaning.{Rule}
 use Rattle.ifr_expr.specs.Trees.{Tree}
-use Rattle.ifr_scopes.specs.Nodes.{nodes_of}
-use Rattle.ifr_scopes.specs.Rules.{rule_nodes}
-use Rattle.ifr_scopes.specs.code.Views.{node_of}
+use Rattle.ifr_nodes.specs.Nodes.{nodes_of}
+use Rattle.ifr_nodes.specs.Rules.{rule_nodes}
+use Rattle.ifr_nodes.specs.code.Views.{node_of}
 use Rattle.ifr_scopes.proofs.RuleLookupLemmas.{named_none, named_some, named_before}
 use Rattle.ifr_scopes.proofs.forms.FormsRules.rule.Goals as goal
 

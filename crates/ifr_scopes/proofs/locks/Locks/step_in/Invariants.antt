@@ -1,7 +1,7 @@
 use Rattle.std.proofs.Common.{◌≡◌, length}
 use Rattle.std.specs.Prelude.{filter}
-use Rattle.ifr_scopes.specs.Locks.{locks_scope}
-use Rattle.ifr_scopes.specs.code.Visits.{left}
+use Rattle.ifr_nodes.specs.Locks.{locks_scope}
+use Rattle.ifr_nodes.specs.code.Visits.{left}
 use Rattle.ifr_scopes.proofs.locks.Locks.step_in.Given as goal
 
 -- the nodes that were met are none of the scope

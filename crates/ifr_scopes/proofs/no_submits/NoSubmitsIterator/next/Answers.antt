@@ -1,8 +1,8 @@
 use Rattle.std.proofs.Common.{sym, ap, subst, ◌∙◌}
 use Rattle.std.specs.Prelude.{reverse}
 use Rattle.std.proofs.lemmas.List.Elements.{All-head}
-use Rattle.ifr_scopes.specs.code.Checked.{node_in}
-use Rattle.ifr_scopes.specs.Guards.{guards}
+use Rattle.ifr_nodes.specs.code.Checked.{node_in}
+use Rattle.ifr_nodes.specs.Guards.{guards}
 use Rattle.ifr_scopes.specs.code.Tables.{IsConditionEntry, AreConditionEntries}
 use Rattle.ifr_scopes.proofs.OutwardLemmas.{AreOutward, outward_at}
 use Rattle.ifr_scopes.proofs.no_submits.NoSubmitsIterator.next.Goals as goal

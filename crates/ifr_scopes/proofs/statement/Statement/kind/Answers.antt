@@ -5,7 +5,7 @@ use Rattle.ifr_opcodes.specs.Rows.{row_of, is_among, is_statement_number}
 use Rattle.ifr_opcodes.proofs.StatementLemmas.{none_states}
 use Rattle.ifr_opcodes.proofs.TableLemmas.{numbers, of_kind}
 use Rattle.ifr_scopes.specs.code.Lists.{statement_numbers}
-use Rattle.ifr_scopes.proofs.NodeFactLemmas.{view_sized}
+use Rattle.ifr_nodes.proofs.NodeFactLemmas.{view_sized}
 use Rattle.ifr_scopes.proofs.statement.Statement.kind.Goals as goal
 
 -- each statement has a view

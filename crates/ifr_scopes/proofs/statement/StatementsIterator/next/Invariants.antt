@@ -1,6 +1,6 @@
 use Rattle.std.proofs.Common.{◌≡◌, length}
 use Rattle.ifr_scopes.specs.code.Lists.{statements_left}
-use Rattle.ifr_scopes.specs.code.Views.{nodes_left}
+use Rattle.ifr_nodes.specs.code.Views.{nodes_left}
 use Rattle.ifr_scopes.proofs.statement.StatementsIterator.next.Given as goal
 
 abbrev pub invariant-loop-node : goal.invariant-loop-node

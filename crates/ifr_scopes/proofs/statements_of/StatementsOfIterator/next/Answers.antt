@@ -3,7 +3,7 @@ use Rattle.std.proofs.lemmas.Bool.{ne_eqb}
 use Rattle.ifr_opcodes.specs.declared.codes.TheConstants.{FORM}
 use Rattle.ifr_opcodes.specs.Forest.{Node}
 use Rattle.ifr_scopes.specs.code.StatementsLeft.{statements_of_left}
-use Rattle.ifr_scopes.specs.code.Views.{node_of}
+use Rattle.ifr_nodes.specs.code.Views.{node_of}
 use Rattle.ifr_scopes.proofs.StatementsOfLemmas.{first_statements, first_taken}
 use Rattle.ifr_scopes.proofs.statements_of.StatementsOfIterator.next.Goals as goal
 use Rattle.ifr_scopes.proofs.statements_of.StatementsOfIterator.next.Goals.{After-node_at}

@@ -5,7 +5,7 @@ use Rattle.ifr_opcodes.specs.Rows.{row_of, is_among, is_store_number}
 use Rattle.ifr_opcodes.proofs.StatementLemmas.{none_stores}
 use Rattle.ifr_opcodes.proofs.TableLemmas.{numbers, of_kind}
 use Rattle.ifr_scopes.specs.code.Lists.{store_numbers}
-use Rattle.ifr_scopes.proofs.NodeFactLemmas.{view_sized}
+use Rattle.ifr_nodes.proofs.NodeFactLemmas.{view_sized}
 use Rattle.ifr_scopes.proofs.varstore.Varstore.op.Goals as goal
 
 -- each store has a view

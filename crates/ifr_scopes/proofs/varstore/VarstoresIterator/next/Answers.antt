@@ -1,6 +1,6 @@
 use Rattle.std.proofs.Common.{subst}
 use Rattle.std.proofs.lemmas.List.Elements.{All-tail}
-use Rattle.ifr_scopes.specs.Nodes.{is_store}
+use Rattle.ifr_nodes.specs.Nodes.{is_store}
 use Rattle.ifr_scopes.specs.code.Tables.{AreOfKind, IsOfKind}
 use Rattle.ifr_scopes.proofs.varstore.VarstoresIterator.next.Goals as goal
 

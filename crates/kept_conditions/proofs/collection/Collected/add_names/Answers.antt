@@ -3,8 +3,8 @@ use Rattle.std.specs.List.{AllByRecursion, flat_map}
 use Rattle.ifr_expr.specs.code.Names.{names_among}
 use Rattle.ifr_expr.specs.code.NamesLeft.{names_left}
 use Rattle.ifr_expr.specs.Trees.{Tree, post}
-use Rattle.ifr_scopes.specs.Nodes.{end_of, nodes_of}
-use Rattle.ifr_scopes.specs.Rules.{rules_among}
+use Rattle.ifr_nodes.specs.Nodes.{end_of, nodes_of}
+use Rattle.ifr_nodes.specs.Rules.{rules_among}
 use Rattle.ifr_scopes.specs.code.Frames.{ids_by}
 use Rattle.kept_conditions.specs.code.Collection.{IsBefore, dependent_node}
 use Rattle.kept_conditions.proofs.CollectionLemmas.{adds_nothing, adds_then, ids_among, rule_names_before}

@@ -1,8 +1,8 @@
 use Rattle.std.proofs.Common.{◌≡◌, ◌++◌, ℕ, true, List, length}
 use Rattle.std.specs.List.{AllByRecursion, flat_map}
 use Rattle.ifr_expr.specs.code.NamesLeft.{names_left}
-use Rattle.ifr_scopes.specs.Nodes.{end_of, nodes_of}
-use Rattle.ifr_scopes.specs.Rules.{is_rule, rules_among}
+use Rattle.ifr_nodes.specs.Nodes.{end_of, nodes_of}
+use Rattle.ifr_nodes.specs.Rules.{is_rule, rules_among}
 use Rattle.ifr_scopes.specs.code.Frames.{ids_by}
 use Rattle.kept_conditions.specs.code.Collection.{Adds, IsBefore, dependency_ids, dependent_node}
 use Rattle.kept_conditions.proofs.collection.Collected.add_names.Given as goal

@@ -1,5 +1,5 @@
 use Rattle.std.proofs.Common.{sym}
-use Rattle.ifr_scopes.specs.Nodes.{nodes_of}
+use Rattle.ifr_nodes.specs.Nodes.{nodes_of}
 use Rattle.kept_conditions.proofs.collection.Collected.add_question.Goals as goal
 
 pub returns-in_ok-add_dependency : goal.returns-in_ok-add_dependency

@@ -1,5 +1,5 @@
 use Rattle.std.proofs.Common.{◌≤◌, ℕ, sym, subst}
-use Rattle.ifr_scopes.specs.Nodes.{nodes_of}
+use Rattle.ifr_nodes.specs.Nodes.{nodes_of}
 use Rattle.kept_conditions.proofs.ExpressionLemmas.{place_number}
 use Rattle.kept_conditions.proofs.DependentLemmas.{number_small}
 use Rattle.kept_conditions.proofs.collection.Source.place_of.Goals as goal

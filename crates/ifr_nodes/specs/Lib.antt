@@ -1,0 +1,12 @@
+pub mod Framing
+pub mod Guards
+pub mod Nodes
+pub mod Table
+pub mod Structure
+pub mod Locks
+pub mod NodeExpressions
+pub mod ReferenceFaults
+pub mod Checked
+pub mod Rules
+pub mod Accepted
+pub mod code

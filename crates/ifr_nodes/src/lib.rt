@@ -1,0 +1,32 @@
+//! The nodes of a forms package: walks over them, and by what a package is accepted: its framing, each node by where it stands, and
+//! references and rules among the nodes (UEFI 2.8, 33.3.8 Forms Package; what is refused, and as what, is an own rule).
+#![tactic(auto)]
+
+mod columns;
+mod ends;
+mod form_end;
+mod framing;
+mod guard_place;
+mod guards;
+mod node;
+mod nodes;
+mod nodes_of;
+mod places;
+mod references;
+mod rules;
+mod scoped_nodes;
+mod structure;
+mod table;
+mod walk;
+
+pub use framing::check_framing;
+pub use guard_place::GuardPlace;
+pub use node::Node;
+pub use nodes::Nodes;
+pub use nodes_of::NodesOf;
+pub use places::node_at;
+pub use references::check_references;
+pub use rules::{KeptRule, RuleSize, RuleTable, expression_of};
+pub use scoped_nodes::{ScopedNode, ScopedNodes};
+pub use structure::check_structure;
+pub use table::wants_value;
