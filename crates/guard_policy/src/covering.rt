@@ -1,6 +1,6 @@
 //! What guards and LOCKED do to what they stand around.
 
-ghost use Rattle.std.specs.Prelude.{◌≡◌, true, IfSome, if◌then◌else◌, Some, option_map};
+ghost use Rattle.std.specs.Prelude.{◌≡◌, true, IfSome, option_map};
 ghost use Rattle.std.specs.List.{find, list_any};
 ghost use Rattle.ifr_opcodes.specs.Forest.{Node};
 ghost use Rattle.ifr_nodes.specs.Guards.{guards};
@@ -11,7 +11,6 @@ ghost use Rattle.ifr_scopes.specs.code.Lists.{guard_node};
 ghost use Rattle.ifr_scopes.specs.code.LocksLeft.{lock_node};
 ghost use Rattle.ifr_scopes.specs.code.NoSubmitsLeft.{no_submit_node};
 ghost use Rattle.hii_questions.specs.declared.denial.DenialKind.TheVariants.{GrayOutIf, Locked};
-ghost use Rattle.guard_policy.specs.code.Effects.{acts};
 ghost use Rattle.guard_policy.specs.Policy as spec;
 ghost use Rattle.guard_policy.specs.code.Answers as denying;
 ghost use Rattle.guard_policy.specs.code.Surroundings.{IsFree};
@@ -19,30 +18,29 @@ ghost use Rattle.guard_policy.specs.code.Views.{world_by};
 
 use crate::conditions::Verdicts;
 use crate::denial::Denial;
-use crate::effect::{Effect, hiding};
 use crate::policy::Policy;
 use hii_questions::DenialKind;
 use ifr_opcodes::{DISABLE_IF, GRAY_OUT_IF, SUPPRESS_IF};
 use ifr_scopes::{AnyCondition, Around, Guard, LockView, NoSubmit};
 
-/// Of the guards around a form, a statement or an option, of each effect the outermost that has it.
+/// The denials of the guards around a form, a statement or an option: that of the outermost that hides, and that of the
+/// outermost that grays out.
 #[derive(Clone, Copy)]
-pub(crate) struct Effects<'a> {
-    pub(crate) hides: Option<Guard<'a>>,
-    pub(crate) grays_out: Option<Guard<'a>>,
+pub(crate) struct Effects {
+    pub(crate) hides: Option<Denial>,
+    pub(crate) grays_out: Option<Denial>,
 }
 
-/// What forbids that something is changed that is not hidden: the guard that grays it out, else the LOCKED.
+/// What forbids that something is changed that is not hidden: what grays it out, else the LOCKED.
 pub(crate) fn unless_grayed_out(
-    grays_out: Option<Guard<'_>>,
+    grays_out: Option<Denial>,
     lock: Option<LockView<'_>>,
 ) -> Result<(), Denial>
-    ensures { result ≡ denying.unless
-        (spec.or_else (option_map (spec.denied_by GrayOutIf) (option_map guard_node grays_out.entry))
+    ensures { result ≡ denying.unless (spec.or_else grays_out
         (option_map (spec.denied_by Locked) (option_map lock_node lock.entry))) }
 {
-    if let Some(guard) = grays_out {
-        return Err(Denial::by(DenialKind::GrayOutIf, guard.place()));
+    if let Some(denial) = grays_out {
+        return Err(denial);
     }
     match lock {
         Some(lock) => Err(Denial::by(DenialKind::Locked, lock.place())),
@@ -51,75 +49,61 @@ pub(crate) fn unless_grayed_out(
 }
 
 impl<'a, 's> Policy<'a, 's> {
-    // Whether a guard has an effect.
-    fn acts<V: Verdicts<'a>>(&self, effect: Effect, guard: Guard<'a>, verdicts: &V) -> bool
-        ensures { result ≡ acts effect (world_by self.now (V.met verdicts.now))
+    // Whether a guard hides.
+    fn hides<V: Verdicts<'a>>(&self, guard: Guard<'a>, verdicts: &V) -> bool
+        ensures { result ≡ spec.hides (world_by self.now (V.met verdicts.now))
             (guard_node guard.entry) }
     {
-        match (effect, guard.code()) {
-            (Effect::Hides, DISABLE_IF) => self.removed(guard.place()),
-            (Effect::Hides, SUPPRESS_IF) => verdicts.is_met(AnyCondition::Guard(guard)),
-            (Effect::GraysOut, GRAY_OUT_IF) => verdicts.is_met(AnyCondition::Guard(guard)),
+        match guard.code() {
+            DISABLE_IF => self.removed(guard.place()),
+            SUPPRESS_IF => verdicts.is_met(AnyCondition::Guard(guard)),
             _ => false,
         }
     }
 
-    // Of an effect the outermost guard that has it, where this guard stands around those of which it is known.
-    fn outermost<V: Verdicts<'a>>(
-        &self,
-        effect: Effect,
-        guard: Guard<'a>,
-        inner: Option<Guard<'a>>,
-        verdicts: &V,
-    ) -> Option<Guard<'a>>
-        ensures { option_map guard_node result
-            ≡ (if acts effect (world_by self.now (V.met verdicts.now)) (guard_node guard.entry)
-            then Some (guard_node guard.entry) else option_map guard_node inner.entry) }
+    // Whether a guard grays out.
+    fn grays_out<V: Verdicts<'a>>(&self, guard: Guard<'a>, verdicts: &V) -> bool
+        ensures { result ≡ spec.grays_out (world_by self.now (V.met verdicts.now))
+            (guard_node guard.entry) }
     {
-        if self.acts(effect, guard, verdicts) {
-            Some(guard)
-        } else {
-            inner
+        match guard.code() {
+            GRAY_OUT_IF => verdicts.is_met(AnyCondition::Guard(guard)),
+            _ => false,
         }
     }
 
-    // The outermost guard that hides.
-    fn hiding_guard<V: Verdicts<'a>>(
-        &self,
-        around: Around<'_, 'a>,
-        verdicts: &V,
-    ) -> Option<Guard<'a>>
-        ensures { option_map guard_node result
-            ≡ find (spec.hides (world_by self.now (V.met verdicts.now)))
+    // The denial of the outermost guard that hides.
+    fn hidden<V: Verdicts<'a>>(&self, around: Around<'_, 'a>, verdicts: &V) -> Option<Denial>
+        ensures { result ≡ spec.hidden_among (world_by self.now (V.met verdicts.now))
             (around_guards around.entry) }
     {
-        let mut hides = None;
+        let mut hidden = None;
         let mut guards = around.guards();
         while let Some(guard) = guards.next() {
-            hides = self.outermost(Effect::Hides, guard, hides, verdicts);
+            if self.hides(guard, verdicts) {
+                hidden = Some(Denial::hiding(guard));
+            }
         }
-        hides
+        hidden
     }
 
-    /// The outermost guards with each effect.
-    pub(crate) fn effects<V: Verdicts<'a>>(
-        &self,
-        around: Around<'_, 'a>,
-        verdicts: &V,
-    ) -> Effects<'a>
-        ensures hides { option_map guard_node result.hides
-            ≡ find (spec.hides (world_by self.now (V.met verdicts.now)))
-            (around_guards around.entry) }
-        ensures grays_out { option_map guard_node result.grays_out
-            ≡ find (spec.grays_out (world_by self.now (V.met verdicts.now)))
-            (around_guards around.entry) }
+    /// The denials of the outermost guards with each effect.
+    pub(crate) fn effects<V: Verdicts<'a>>(&self, around: Around<'_, 'a>, verdicts: &V) -> Effects
+        ensures hides { result.hides ≡ spec.hidden_among
+            (world_by self.now (V.met verdicts.now)) (around_guards around.entry) }
+        ensures grays_out { result.grays_out ≡ option_map (spec.denied_by GrayOutIf)
+            (find (spec.grays_out (world_by self.now (V.met verdicts.now)))
+            (around_guards around.entry)) }
     {
         let mut hides = None;
         let mut grays_out = None;
         let mut guards = around.guards();
         while let Some(guard) = guards.next() {
-            hides = self.outermost(Effect::Hides, guard, hides, verdicts);
-            grays_out = self.outermost(Effect::GraysOut, guard, grays_out, verdicts);
+            if self.hides(guard, verdicts) {
+                hides = Some(Denial::hiding(guard));
+            } else if self.grays_out(guard, verdicts) {
+                grays_out = Some(Denial::by(DenialKind::GrayOutIf, guard.place()));
+            }
         }
         Effects { hides, grays_out }
     }
@@ -149,8 +133,8 @@ impl<'a, 's> Policy<'a, 's> {
             → n.place ≡ place → result
             ≡ denying.unless (spec.hidden (world_by self.now (V.met verdicts.now)) n) }
     {
-        match self.hiding_guard(self.forms.around_at(place, position), verdicts) {
-            Some(guard) => Err(hiding(guard)),
+        match self.hidden(self.forms.around_at(place, position), verdicts) {
+            Some(denial) => Err(denial),
             None => Ok(()),
         }
     }
@@ -166,8 +150,8 @@ impl<'a, 's> Policy<'a, 's> {
             (around_guards around.entry) (around_lock around.entry)) }
     {
         let effects = self.effects(around, verdicts);
-        if let Some(guard) = effects.hides {
-            return Err(hiding(guard));
+        if let Some(denial) = effects.hides {
+            return Err(denial);
         }
         unless_grayed_out(effects.grays_out, around.lock())
     }

@@ -9,7 +9,6 @@ mod covering;
 mod decision_conditions;
 mod decisions;
 mod denial;
-mod effect;
 pub mod laws;
 mod option_conditions;
 mod policy;

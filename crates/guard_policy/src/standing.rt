@@ -2,11 +2,11 @@
 
 ghost use Rattle.std.specs.Prelude.{◌≡◌, option_and_then, option_map};
 ghost use Rattle.ifr_nodes.specs.code.Checked.{IsNodeOf};
-ghost use Rattle.ifr_scopes.specs.code.Lists.{guard_node, statement_node};
+ghost use Rattle.ifr_scopes.specs.code.Lists.{statement_node};
 ghost use Rattle.ifr_scopes.specs.code.LocksLeft.{lock_node};
 ghost use Rattle.ifr_nodes.specs.Nodes.{nodes_of};
 ghost use Rattle.hii_questions.specs.code.Views.{question_view};
-ghost use Rattle.hii_questions.specs.declared.denial.DenialKind.TheVariants.{GrayOutIf, Locked};
+ghost use Rattle.hii_questions.specs.declared.denial.DenialKind.TheVariants.{Locked};
 ghost use Rattle.guard_policy.specs.Policy as spec;
 ghost use Rattle.guard_policy.specs.code.Answers as denying;
 ghost use Rattle.guard_policy.specs.code.KeptConditions.{DecidesBy};
@@ -18,10 +18,9 @@ use crate::conditions::{ByConditions, Conditions, Verdicts};
 use crate::covering::unless_grayed_out;
 use crate::decisions::fixed_as_question;
 use crate::denial::Denial;
-use crate::effect::hiding;
 use crate::policy::Policy;
 use hii_questions::Question;
-use ifr_scopes::{Guard, LockView, Statement};
+use ifr_scopes::{LockView, Statement};
 
 /// What there is to know of a statement that is seen.
 #[derive(Clone, Copy)]
@@ -41,15 +40,14 @@ pub enum Standing<'a> {
     Seen(SeenStatement<'a>),
 }
 
-// What forbids that something is changed that is not hidden: the guard that grays it out, else the LOCKED, else itself.
+// What forbids that something is changed that is not hidden: what grays it out, else the LOCKED, else itself.
 fn unless_fixed(
-    grays_out: Option<Guard<'_>>,
+    grays_out: Option<Denial>,
     lock: Option<LockView<'_>>,
     question: Option<Question<'_>>,
 ) -> Result<(), Denial>
     ensures { result ≡ denying.unless
-        (spec.or_else
-        (spec.or_else (option_map (spec.denied_by GrayOutIf) (option_map guard_node grays_out.entry))
+        (spec.or_else (spec.or_else grays_out
         (option_map (spec.denied_by Locked) (option_map lock_node lock.entry)))
         (option_and_then spec.fixed_question (option_map question_view question.entry))) }
 {
@@ -73,8 +71,8 @@ impl<'a, 's> Policy<'a, 's> {
             .forms
             .around_at(statement.place(), statement.position());
         let effects = self.effects(around, verdicts);
-        if let Some(guard) = effects.hides {
-            return Standing::Hidden(hiding(guard));
+        if let Some(denial) = effects.hides {
+            return Standing::Hidden(denial);
         }
         let question = self.question(statement);
         Standing::Seen(SeenStatement {

@@ -1,10 +1,11 @@
-use Rattle.std.proofs.Common.{rules, ◌∙◌}
-use Rattle.std.specs.Prelude.{option_map}
+use Rattle.std.proofs.Common.{◌≡◌, ℕ, Some, rules, sym, ap, ◌∙◌, true, false}
+use Rattle.hii_questions.specs.declared.denial.DenialKind.TheVariants.{GrayOutIf}
 use Rattle.ifr_scopes.specs.code.AroundViews.{around_guards}
 use Rattle.ifr_scopes.specs.code.Lists.{guard_node, outward_left}
-use Rattle.guard_policy.specs.Policy.{hides, grays_out}
+use Rattle.guard_policy.specs.Policy.{denied_by, grays_out, hides, hiding}
 use Rattle.guard_policy.specs.code.Views.{world_by}
-use Rattle.guard_policy.proofs.CoveringLemmas.{all_come, met}
+use Rattle.guard_policy.specs.declared.denial.Denial.{Denial}
+use Rattle.guard_policy.proofs.CoveringLemmas.{all_come, does, does_not, hides_alone, outermost}
 use Rattle.guard_policy.proofs.policy.Policy.effects.Goals as goal
 
 pub loop-guard-init : goal.loop-guard-init
@@ -14,8 +15,39 @@ loop-guard-init g c =
     record {
       can = search rules;
       ends = search rules;
-      hiding = all_come (hides w) left (around_guards c.args.around) c.guards-guards.ensures.guards;
-      graying = all_come (grays_out w) left (around_guards c.args.around) c.guards-guards.ensures.guards;
+      hiding = all_come hiding (hides w) left (around_guards c.args.around) c.guards-guards.ensures.guards;
+      graying = all_come (denied_by GrayOutIf) (grays_out w) left (around_guards c.args.around) c.guards-guards.ensures.guards;
+    }
+
+pub loop-guard-preserved-then-hides : goal.loop-guard-preserved-then-hides
+loop-guard-preserved-then-hides g c =
+    let w = world_by c.args.self.now (g.V.Verdicts.met c.args.verdicts.now) in
+    let left = outward_left c.loop-guard.guards in
+    let rest = outward_left c.next.new.self in
+    let guard = guard_node c.in-Some.guard in
+    let is : hides w guard ≡ true = sym c.hides.ensures ∙ c.if-hides.true in
+    record {
+      can = search rules;
+      ends = search rules;
+      hiding = ap (λ (d : Denial). outermost hiding (hides w) rest (Some d)) c.hiding.ensures ∙ does hiding (hides w) left rest guard c.loop-guard.hides c.in-Some.ensures.steps is ∙ c.loop-guard.invariant.hiding;
+      graying = does_not (denied_by GrayOutIf) (grays_out w) left rest guard c.loop-guard.grays_out c.in-Some.ensures.steps (hides_alone w guard is) ∙ c.loop-guard.invariant.graying;
+    }
+
+pub loop-guard-preserved-then-grays_out : goal.loop-guard-preserved-then-grays_out
+loop-guard-preserved-then-grays_out g c =
+    let w = world_by c.args.self.now (g.V.Verdicts.met c.args.verdicts.now) in
+    let left = outward_left c.loop-guard.guards in
+    let rest = outward_left c.next.new.self in
+    let guard = guard_node c.in-Some.guard in
+    let other : hides w guard ≡ false = sym c.hides.ensures ∙ c.if-hides.false in
+    let is : grays_out w guard ≡ true = sym c.grays_out.ensures ∙ c.if-grays_out.true in
+    let at : ℕ → Denial = λ place. record { kind = GrayOutIf; place = place; message = 0 } in
+    let told = c.by.ensures ∙ ap at c.place.ensures in
+    record {
+      can = search rules;
+      ends = search rules;
+      hiding = does_not hiding (hides w) left rest guard c.loop-guard.hides c.in-Some.ensures.steps other ∙ c.loop-guard.invariant.hiding;
+      graying = ap (λ (d : Denial). outermost (denied_by GrayOutIf) (grays_out w) rest (Some d)) told ∙ does (denied_by GrayOutIf) (grays_out w) left rest guard c.loop-guard.grays_out c.in-Some.ensures.steps is ∙ c.loop-guard.invariant.graying;
     }
 
 pub loop-guard-preserved : goal.loop-guard-preserved
@@ -27,6 +59,6 @@ loop-guard-preserved g c =
     record {
       can = search rules;
       ends = search rules;
-      hiding = met (hides w) left rest guard (option_map guard_node c.loop-guard.hides) _ c.in-Some.ensures.steps c.outermost-hides.ensures ∙ c.loop-guard.invariant.hiding;
-      graying = met (grays_out w) left rest guard (option_map guard_node c.loop-guard.grays_out) _ c.in-Some.ensures.steps c.outermost-grays_out.ensures ∙ c.loop-guard.invariant.graying;
+      hiding = does_not hiding (hides w) left rest guard c.loop-guard.hides c.in-Some.ensures.steps (sym c.hides.ensures ∙ c.if-hides.false) ∙ c.loop-guard.invariant.hiding;
+      graying = does_not (denied_by GrayOutIf) (grays_out w) left rest guard c.loop-guard.grays_out c.in-Some.ensures.steps (sym c.grays_out.ensures ∙ c.if-grays_out.false) ∙ c.loop-guard.invariant.graying;
     }

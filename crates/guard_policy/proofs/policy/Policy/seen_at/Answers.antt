@@ -1,11 +1,7 @@
-use Rattle.std.proofs.Common.{Option, Err, ap, ◌∙◌}
-use Rattle.std.specs.Prelude.{option_map}
-use Rattle.std.specs.List.{find}
-use Rattle.ifr_opcodes.specs.Forest.{Node}
-use Rattle.guard_policy.specs.Policy.{hides, hiding}
+use Rattle.std.proofs.Common.{ap, ◌∙◌}
+use Rattle.guard_policy.specs.Policy.{hidden_among}
 use Rattle.guard_policy.specs.code.Answers.{unless}
 use Rattle.guard_policy.specs.code.Views.{world_by}
-use Rattle.guard_policy.specs.declared.denial.Denial.{Denial}
 use Rattle.guard_policy.proofs.IndexedLemmas.{guards_there}
 use Rattle.guard_policy.proofs.policy.Policy.seen_at.Goals as goal
 
@@ -14,11 +10,11 @@ returns-in-Some g c = λ n node indexed at.
     let policy = c.args.self.now in
     let w = world_by policy (g.V.Verdicts.met c.args.verdicts.now) in
     let there = guards_there policy.forms.now n c.args.place _ policy.accepted.checked.spelled node indexed at c.around_at.ensures.guards in
-    ap (λ (d : Denial). Err d) c.hiding.ensures ∙ ap (λ (o : Option Node). unless (option_map hiding o)) (c.in-Some.ensures ∙ ap (find (hides w)) there)
+    ap unless (c.in-Some.ensures ∙ ap (hidden_among w) there)
 
 pub returns-in-None : goal.returns-in-None
 returns-in-None g c = λ n node indexed at.
     let policy = c.args.self.now in
     let w = world_by policy (g.V.Verdicts.met c.args.verdicts.now) in
     let there = guards_there policy.forms.now n c.args.place _ policy.accepted.checked.spelled node indexed at c.around_at.ensures.guards in
-    ap (λ (o : Option Node). unless (option_map hiding o)) (c.in-None.ensures ∙ ap (find (hides w)) there)
+    ap unless (c.in-None.ensures ∙ ap (hidden_among w) there)
