@@ -1,5 +1,5 @@
 -- Bytes in which stores differ.
-use Rattle.std.proofs.Common.{◌&&◌, nat_le, nat_lt, ◌⊎◌, ◌≡◌, ℕ, zero, suc, min, ◌+◌, ◌<◌, ◌≤◌, ◌==◌, ◌||◌, not, Bool, true, false, Option, Some, None, List, length, get_or, refl, sym, ap, ◌∙◌, inl, inr, arith, ◌-◌, length-append, subst}
+use Rattle.std.proofs.Common.{◌&&◌, nat_le, nat_lt, ◌⊎◌, ◌≡◌, ℕ, zero, suc, ◌+◌, ◌<◌, ◌≤◌, ◌==◌, ◌||◌, not, Bool, true, false, Option, Some, None, List, length, get_or, refl, sym, ap, ◌∙◌, inl, inr, arith, ◌-◌, length-append, subst}
 use Rattle.std.proofs.lemmas.List.{length-replicate}
 use Rattle.std.specs.Prelude.{replicate, slice_get, option_map, option_and_then}
 use Rattle.std.proofs.lemmas.Bool.{cases_Bool, cases_lt, ne_eqb, eq-eqb, eqb-true, false≢true, le-leb, lt-ltb}
@@ -8,10 +8,9 @@ use Rattle.hii_varstore.specs.Layout.{Shape, size_of}
 use Rattle.hii_varstore.specs.Stores.{StoreMap, shape_of, bytes_of, byte_of, with_bytes}
 use Rattle.hii_varstore.proofs.WriteLemmas.{sizes, byte_after, shape_after}
 use Rattle.hii_questions.specs.Items.{filled}
-use Rattle.kept_conditions.specs.code.Invalidation.{other_at, other_bytes}
+use Rattle.kept_conditions.specs.code.Invalidation.{other_at}
 use Rattle.kept_conditions.specs.Touching.{has_one, is_same, difference, range_of}
 use Rattle.kept_conditions.specs.laws.Writes.{IsWrite, PutsAreWrites}
-use Rattle.kept_conditions.proofs.OverlapLemmas.{has_some}
 
 pub none_one : (bytes : ℕ → ℕ → Bool) (store width offset : ℕ) → ((at : ℕ) → offset ≤ at → at < offset + width → bytes store at ≡ false) → has_one bytes store offset width ≡ false
 none_one bytes store zero offset none = refl
@@ -41,15 +40,6 @@ pub equal_behind : (old new : List ℕ) (at : ℕ) → length old ≤ at → len
 equal_behind old new at behind behind' =
     ap (λ o. not (is_same o (slice_get new at))) (none_at old at behind) ∙ ap (λ o. not (is_same None o)) (none_at new at behind')
 
-pub differs_at : (old new : List ℕ) (offset width at : ℕ) → offset ≤ at → at < offset + width → other_at old new 0 at ≡ true → other_bytes old new offset width ≡ true
-differs_at old new offset width at from before e = has_some (other_at old new) 0 width offset at from before e
-
-pub differs_nowhere : (old new : List ℕ) (offset width : ℕ) → length old ≡ length new → ((at : ℕ) → offset ≤ at → at < min (offset + width) (length old) → other_at old new 0 at ≡ false) → other_bytes old new offset width ≡ false
-differs_nowhere old new offset width size same = none_one (other_at old new) 0 width offset (λ at from before. elim (cases_lt at (length old)) [
-  | inl within ↦ same at from (omega (arith, before, within))
-  | inr behind ↦ equal_behind old new at behind (omega (arith, behind, size))
-])
-
 -- ---- stores
 
 module _ (old new : StoreMap) (shape : shape_of old ≡ shape_of new) (store : ℕ) where
@@ -68,12 +58,20 @@ module _ (old new : StoreMap) (shape : shape_of old ≡ shape_of new) (store : �
   neither (Some xs) (Some ys) e (inl h) = absurd cc
   neither (Some xs) (Some ys) e (inr h) = absurd cc
 
-  pub none_differ : (offset width : ℕ) → (bytes_of old store ≡ None) ⊎ (bytes_of new store ≡ None) → has_one (difference old new) store offset width ≡ false
-  none_differ offset width h =
+  pub nowhere : (bytes_of old store ≡ None) ⊎ (bytes_of new store ≡ None) → (at : ℕ) → difference old new store at ≡ false
+  nowhere h at =
       let none = neither (bytes_of old store) (bytes_of new store) same_size h in
-      none_one (difference old new) store width offset (λ at from before.
       ap (λ (o : Option (List ℕ)). not (is_same (option_and_then (λ (bytes : List ℕ). slice_get bytes at) o) (option_and_then (λ (bytes : List ℕ). slice_get bytes at) (bytes_of new store)))) none.0
-      ∙ ap (λ (o : Option (List ℕ)). not (is_same None (option_and_then (λ (bytes : List ℕ). slice_get bytes at) o))) none.1)
+      ∙ ap (λ (o : Option (List ℕ)). not (is_same None (option_and_then (λ (bytes : List ℕ). slice_get bytes at) o))) none.1
+
+  pub none_differ : (offset width : ℕ) → (bytes_of old store ≡ None) ⊎ (bytes_of new store ≡ None) → has_one (difference old new) store offset width ≡ false
+  none_differ offset width h = none_one (difference old new) store width offset (λ at from before. nowhere h at)
+
+-- the bytes of a store in both, at an offset
+pub difference_at : (old new : StoreMap) (store : ℕ) (xs ys : List ℕ) → Some xs ≡ bytes_of old store → Some ys ≡ bytes_of new store → (at : ℕ) → other_at xs ys 0 at ≡ difference old new store at
+difference_at old new store xs ys e f at =
+    ap (λ (o : Option (List ℕ)). not (is_same (option_and_then (λ (b : List ℕ). slice_get b at) o) (slice_get ys at))) e
+    ∙ ap (λ (o : Option (List ℕ)). not (is_same (option_and_then (λ (b : List ℕ). slice_get b at) (bytes_of old store)) (option_and_then (λ (b : List ℕ). slice_get b at) o))) f
 
 -- ---- a change of stores is a write of the bytes in which they differ
 

@@ -2,6 +2,7 @@ pub mod UntouchedLemmas
 pub mod OverlapLemmas
 pub mod FilterLemmas
 pub mod DifferenceLemmas
+pub mod FirstLemmas
 pub mod WithinLemmas
 pub mod CopyLemmas
 pub mod TellsLemmas

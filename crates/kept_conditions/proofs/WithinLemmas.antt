@@ -1,6 +1,5 @@
 -- Bytes of fields that lie within ranges, and in which stores differ.
 use Rattle.std.proofs.Common.{◌≡◌, ℕ, zero, suc, min, max, ◌+◌, ◌-◌, ◌<◌, ◌≤◌, ◌==◌, ◌&&◌, ◌||◌, nat_le, nat_lt, not, Bool, true, false, Option, None, Some, List, [], ◌∷◌, length, drop, refl, sym, ap, ◌∙◌, inl, inr, arith}
-use Rattle.std.specs.Prelude.{slice_get, option_and_then}
 use Rattle.std.specs.List.{AllWithin}
 use Rattle.std.proofs.lemmas.List.{drop_more, drop_all}
 use Rattle.std.proofs.lemmas.Bool.{cases_lt, and_from, and_parts, eqb-true, eq-eqb, leb-true, le-leb, ltb-true, lt-ltb, false≢true, and_right, false_from_ne_true}
@@ -13,7 +12,7 @@ use Rattle.kept_conditions.specs.code.Index.{AreSmall, NoneOverlaps, at_place, i
 use Rattle.kept_conditions.specs.Touching.{difference, has_one, is_same}
 use Rattle.kept_conditions.specs.declared.index.Dependency.{Dependency}
 use Rattle.kept_conditions.specs.code.Index as dependencies
-use Rattle.kept_conditions.proofs.DifferenceLemmas.{equal_behind, none_one, one_size}
+use Rattle.kept_conditions.proofs.DifferenceLemmas.{difference_at, equal_behind, none_one, one_size}
 use Rattle.kept_conditions.proofs.UntouchedLemmas.{none_has}
 use Rattle.kept_conditions.proofs.OverlapLemmas.{alike, has_some, overlaps_range, some_has, skip, unmet_behind}
 
@@ -46,18 +45,6 @@ pub fewer_bytes : (bytes others : ℕ → ℕ → Bool) (store offset width : �
 fewer_bytes bytes others store offset width none =
     none_one (common bytes others) store width offset (λ at from before. ap (λ b. b && others store at) (none_has bytes store width offset at none from before))
 
--- all bytes of a field lie within it
-pub own_range : (bytes : ℕ → ℕ → Bool) (r : FieldRange) → has_one (common bytes (in_range r)) r.store r.offset r.width ≡ has_one bytes r.store r.offset r.width
-own_range bytes r =
-    alike (has_one (common bytes (in_range r)) r.store r.offset r.width) (has_one bytes r.store r.offset r.width)
-    (λ has.
-    let some = some_has (common bytes (in_range r)) r.store r.width r.offset has in
-    let two = and_parts (bytes r.store some.0) (in_range r r.store some.0) some.3 in
-    has_some bytes r.store r.width r.offset some.0 some.1 some.2 two.0)
-    (λ has.
-    let some = some_has bytes r.store r.width r.offset has in
-    has_some (common bytes (in_range r)) r.store r.width r.offset some.0 some.1 some.2 (and_from (bytes r.store some.0) (in_range r r.store some.0) some.3 (is_in r r.store some.0 (refl, some.1, some.2))))
-
 -- the bytes of a field that lie within a range and in which stores differ
 pub parts_differ : (old new : StoreMap) → shape_of old ≡ shape_of new → (field within : FieldRange) → field.store ≡ within.store → (xs ys : List ℕ) → Some xs ≡ bytes_of old field.store → Some ys ≡ bytes_of new field.store
     → other_bytes xs ys (max field.offset within.offset) (min (min (field.offset + field.width) (length xs)) (min (within.offset + within.width) (length xs)) - max field.offset within.offset)
@@ -67,9 +54,7 @@ parts_differ old new shape field within same xs ys e f =
     let to = min (min (field.offset + field.width) (length xs)) (min (within.offset + within.width) (length xs)) in
     let bytes = common (difference old new) (in_range within) in
     let size : length xs ≡ length ys = one_size old new shape field.store xs ys e f in
-    let is : (at : ℕ) → other_at xs ys 0 at ≡ difference old new field.store at = λ at.
-    ap (λ (o : Option (List ℕ)). not (is_same (option_and_then (λ (b : List ℕ). slice_get b at) o) (slice_get ys at))) e
-    ∙ ap (λ (o : Option (List ℕ)). not (is_same (option_and_then (λ (b : List ℕ). slice_get b at) (bytes_of old field.store)) (option_and_then (λ (b : List ℕ). slice_get b at) o))) f in
+    let is = difference_at old new field.store xs ys e f in
     alike (other_bytes xs ys from (to - from)) (has_one bytes field.store field.offset field.width)
     (λ has.
     let some = some_has (other_at xs ys) 0 (to - from) from has in

@@ -4,19 +4,20 @@
 //! differ count; and where these lie in known ranges, as those that a denied `route` gives back, only dependencies that overlap
 //! one are asked. So a text over few fields of a large store costs what it names, and not what the store holds.
 
-ghost use Rattle.std.specs.Prelude.{◌≡◌, ◌+◌, ◌-◌, ◌≤◌, length, min};
+ghost use Rattle.std.specs.Prelude.{◌≡◌, length};
 ghost use Rattle.ifr_nodes.specs.Nodes.{nodes_of};
 ghost use Rattle.hii_varstore.specs.Stores.{shape_of, StoreMap};
 ghost use Rattle.guard_policy.specs.code.Views.{bytes_of};
-ghost use Rattle.kept_conditions.specs.Touching.{difference, has_one, range_of, renewals};
+ghost use Rattle.kept_conditions.specs.Touching.{difference, range_of, renewals};
 ghost use Rattle.kept_conditions.specs.Kept.{told_over};
 ghost use Rattle.kept_conditions.specs.laws.Writes.{IsWrite};
-ghost use Rattle.kept_conditions.specs.code.Invalidation.{common, other_bytes, HaveRanges, AreAlike, AreAlikeOutside, in_range};
+ghost use Rattle.kept_conditions.specs.code.Invalidation.{common, HaveRanges, AreAlike, AreAlikeOutside, in_range};
 ghost use Rattle.kept_conditions.specs.code.Dependents.{VisitsSome, HasRoom, KeepsFollowing, Reaches};
 ghost use Rattle.kept_conditions.specs.code.Index.{hits, AreSummaries, AreSorted, HaveNumbers, depends_on, AreSmall};
 ghost use Rattle.kept_conditions.specs.code.Cache.{IsIndex, values_of};
 
 use crate::dependents::{Dependents, visit_pending};
+use crate::differences::{Differences, differ};
 use crate::index::{Dependency, Index, Summary, beginning_before, last_overlapping};
 use guard_policy::{Conditions, Policy};
 use hii_questions::FieldRange;
@@ -34,51 +35,6 @@ pub trait Ranges: Drop {
     /// The next range.
     fn next(&mut self) -> Option<FieldRange>
         ensures { YieldsFirstBy (λ r. r) ranges self.old result self.new };
-}
-
-// ---- differences
-
-// The end of a range in a store of so many bytes, as far as it has them.
-fn end_within(len: usize, range: FieldRange) -> usize
-    ensures { result ≡ min (range.offset + range.width) len }
-{
-    usize::from(range.offset)
-        .saturating_add(range.width)
-        .min(len)
-}
-
-// Whether two stores of one size differ in one of the bytes from an offset on up to before another.
-fn bytes_differ(old: &[u8], new: &[u8], from: usize, end: usize) -> bool
-    requires same { length old.now ≡ length new.now }
-    requires inside { end ≤ length old.now }
-    ensures { result ≡ other_bytes old.now new.now from (end - from) }
-{
-    for at in from..end {
-        if old[at] != new[at] {
-            return true;
-        }
-    }
-    false
-}
-
-// Whether two sets of stores of a layout differ in one of the bytes of a field that lie within a range.
-fn differ(old: &Stores, new: &Stores, field: FieldRange, within: FieldRange) -> bool
-    requires { shape_of old.now ≡ shape_of new.now }
-    ensures { result ≡ has_one
-        (common (difference old.now new.now) (range_of within.store within.offset within.width))
-        field.store field.offset field.width }
-{
-    if field.store != within.store {
-        return false;
-    }
-    match (old.bytes(field.store), new.bytes(field.store)) {
-        (Some(old), Some(new)) => {
-            let from = field.offset.max(within.offset);
-            let end = end_within(old.len(), field).min(end_within(old.len(), within));
-            bytes_differ(old, new, usize::from(from), end)
-        }
-        _ => false,
-    }
 }
 
 // ---- visits
@@ -130,9 +86,10 @@ fn visit_differing<C: Conditions>(
         dependents.old dependents.new }
     ensures follows { KeepsFollowing dependents.old dependents.new }
 {
+    let mut differences = Differences::between(old, new);
     let mut count = 0;
     for dependency in dependencies {
-        if !differ(old, new, dependency.range, dependency.range) {
+        if !differences.are_in(dependency.range) {
             continue;
         }
         if dependents.visit(dependency.dependent, now) {

@@ -5,6 +5,7 @@ mod cache;
 mod collection;
 mod decisions;
 mod dependents;
+mod differences;
 mod index;
 mod invalidation;
 pub mod laws;

@@ -1,6 +1,7 @@
 -- Ranges of bytes of stores, and bytes in which stores differ.
-use Rattle.std.specs.Prelude.{◌≡◌, ℕ, ◌+◌, ◌<◌, ◌≤◌, List, ◌&&◌, Bool, not, slice_get}
+use Rattle.std.specs.Prelude.{◌≡◌, ℕ, ◌+◌, ◌<◌, ◌≤◌, List, ◌&&◌, Bool, true, false, not, Option, Some, None, slice_get}
 use Rattle.std.specs.List.{AllByRecursion}
+use Rattle.std.proofs.Props.{props}
 use Rattle.hii_varstore.specs.Layout.{Shape}
 use Rattle.hii_varstore.specs.code.Ranges.{HasRange}
 use Rattle.hii_varstore.specs.Stores.{StoreMap, byte_of}
@@ -32,6 +33,19 @@ other_at old new store at = not (is_same (slice_get old at) (slice_get new at))
 -- and in one of so many bytes from an offset on
 abbrev pub other_bytes : List ℕ → List ℕ → ℕ → ℕ → Bool
 other_bytes old new offset width = has_one (other_at old new) 0 offset width
+
+-- No number from one on up to before another passes a test.
+abbrev pub NoneWithin : (ℕ → Bool) → ℕ → ℕ → Type 0
+NoneWithin p from to = (at : ℕ) → from ≤ at → at < to → p at ≡ false
+
+-- the first number from one on that passes a test, if one does
+abbrev pub IsFirstFrom : (ℕ → Bool) → ℕ → Option ℕ → Type 0
+IsFirstFrom p from None = (at : ℕ) → from ≤ at → p at ≡ false
+IsFirstFrom p from (Some first) = (from ≤ first) × (p first ≡ true) × NoneWithin p from first
+
+pub IsFirstFrom-prop : (p : ℕ → Bool) (from : ℕ) (first : Option ℕ) → IsProp (IsFirstFrom p from first)
+IsFirstFrom-prop p from None = hlevel props
+IsFirstFrom-prop p from (Some first) = hlevel props
 
 -- the bytes of a range
 abbrev pub in_range : FieldRange → ℕ → ℕ → Bool

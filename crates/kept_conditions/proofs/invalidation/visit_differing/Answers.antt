@@ -1,23 +1,37 @@
 use Rattle.std.proofs.Common.{◌≡◌, ◌+◌, ◌||◌, Bool, take, refl, sym, ap, ◌∙◌, arith}
-use Rattle.kept_conditions.specs.Touching.{difference}
+use Rattle.kept_conditions.specs.Touching.{difference, has_one}
 use Rattle.kept_conditions.specs.code.Index.{at_place, no_dependency, is_dependency, depends_on}
 use Rattle.kept_conditions.proofs.VisitsSomeLemmas.{any_more, none_visited, one_more, same_ones}
 use Rattle.kept_conditions.proofs.FilterLemmas.{one}
-use Rattle.kept_conditions.proofs.WithinLemmas.{own_range, its_dependency, other_dependency}
-use Rattle.kept_conditions.proofs.invalidation.visit_differing.Goals.{then-visit, else-visit}
+use Rattle.kept_conditions.proofs.WithinLemmas.{its_dependency, other_dependency}
+use Rattle.kept_conditions.proofs.invalidation.visit_differing.Given.{Over}
+use Rattle.kept_conditions.proofs.invalidation.visit_differing.Goals.{After-are_in, then-visit, else-visit}
 use Rattle.kept_conditions.proofs.invalidation.visit_differing.Goals as goal
 
 pub loop-dependency-init : goal.loop-dependency-init
-loop-dependency-init g c = none_visited _ _ c.args.dependents.now (λ k less. refl)
+loop-dependency-init g c = record {
+  one = c.between-differences.ensures.one;
+  other = c.between-differences.ensures.other;
+  visited = none_visited _ _ c.args.dependents.now (λ k less. refl);
+}
 
-pub loop-dependency-preserved-then-not-differ : goal.loop-dependency-preserved-then-not-differ
-loop-dependency-preserved-then-not-differ g c =
+-- whether the dependency has a byte in which the stores differ
+asked : (g : Over) (c : After-are_in g) → let r = (at_place c.args.dependencies.now c.loop-dependency.dependency-index).range in c.are_in.result ≡ has_one (difference c.args.old.now c.args.new.now) r.store r.offset r.width
+asked g c = rw (c.loop-dependency.invariant.one, c.loop-dependency.invariant.other) at c.are_in.ensures.differ
+
+pub loop-dependency-preserved-then-not-are_in : goal.loop-dependency-preserved-then-not-are_in
+loop-dependency-preserved-then-not-are_in g c =
     let rs = c.args.dependencies.now in
     let i = c.loop-dependency.dependency-index in
     let bytes = difference c.args.old.now c.args.new.now in
-    same_ones c.loop-dependency.invariant (λ k less.
-    any_more (is_dependency bytes k) rs i no_dependency c.loop-dependency-test.true
-    ∙ ap (λ (b : Bool). b || depends_on bytes (take i rs) k) (other_dependency bytes (at_place rs i) k (sym (own_range bytes (at_place rs i).range) ∙ sym c.differ.ensures ∙ c.if-not-differ.true)))
+    record {
+      one = c.are_in.ensures.one ∙ c.loop-dependency.invariant.one;
+      other = c.are_in.ensures.other ∙ c.loop-dependency.invariant.other;
+      visited = same_ones c.loop-dependency.invariant.visited (λ k less.
+          any_more (is_dependency bytes k) rs i no_dependency c.loop-dependency-test.true
+          ∙ ap (λ (b : Bool). b || depends_on bytes (take i rs) k)
+          (other_dependency bytes (at_place rs i) k (sym (asked g (goal.at.loop-dependency-preserved-then-not-are_in g c).After-are_in) ∙ c.if-not-are_in.true)));
+    }
 
 pub loop-dependency-preserved : goal.loop-dependency-preserved
 loop-dependency-preserved g c =
@@ -25,6 +39,11 @@ loop-dependency-preserved g c =
     let i = c.loop-dependency.dependency-index in
     let bytes = difference c.args.old.now c.args.new.now in
     let sum : c.if-visit.count ≡ c.loop-dependency.count + one c.visit.result = elim c.if-visit.branch [ then-visit w ↦ omega (arith, w.count-is, ap one w.if-visit.true) | else-visit w ↦ omega (arith, w.count-is, ap one w.if-visit.false) ] in
-    one_more c.loop-dependency.invariant (c.requires.numbers i no_dependency c.loop-dependency-test.true) c.visit.ensures sum (λ k less.
-    any_more (is_dependency bytes k) rs i no_dependency c.loop-dependency-test.true
-    ∙ ap (λ (b : Bool). b || depends_on bytes (take i rs) k) (its_dependency bytes (at_place rs i) k (sym (own_range bytes (at_place rs i).range) ∙ sym c.differ.ensures ∙ c.if-not-differ.false)))
+    record {
+      one = c.are_in.ensures.one ∙ c.loop-dependency.invariant.one;
+      other = c.are_in.ensures.other ∙ c.loop-dependency.invariant.other;
+      visited = one_more c.loop-dependency.invariant.visited (c.requires.numbers i no_dependency c.loop-dependency-test.true) c.visit.ensures sum (λ k less.
+          any_more (is_dependency bytes k) rs i no_dependency c.loop-dependency-test.true
+          ∙ ap (λ (b : Bool). b || depends_on bytes (take i rs) k)
+          (its_dependency bytes (at_place rs i) k (sym (asked g (goal.at.loop-dependency-preserved g c).After-are_in) ∙ c.if-not-are_in.false)));
+    }
