@@ -3,3 +3,7 @@ pub mod TextLemmas
 pub mod StatementLemmas
 pub mod WholeTexts
 pub mod PieceLemmas
+pub mod FrontLemmas
+pub mod ValueLemmas
+pub mod PasswordLemmas
+pub mod ColumnLemmas

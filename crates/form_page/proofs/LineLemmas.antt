@@ -43,6 +43,9 @@ whole_line a b c line full text none added told =
     let g = added a [] (record { front = []; parts = sym none; written = writes_nil a }) in
     subst (Writes a c) (sym g.parts) (writes_trans g.written told)
 
+pub nothing_added : (pen : Pen) (line : Line) → Adds pen line pen line []
+nothing_added pen line = λ start before g. subst (Gathers start pen line) (sym (append-nil before)) g
+
 -- ---- character by character
 
 -- what was added of a text so far, and what is left
@@ -52,7 +55,7 @@ pub record AddsFront (old now : Pen) (line longer : Line) (text left : List ℕ)
   pub added : Adds old line now longer front
 
 pub none_added : (pen : Pen) (line : Line) (text : List ℕ) → AddsFront pen pen line line text text
-none_added pen line text = record { front = []; parts = refl; added = λ start before g. subst (Gathers start pen line) (sym (append-nil before)) g }
+none_added pen line text = record { front = []; parts = refl; added = nothing_added pen line }
 
 pub one_added : (old mid now : Pen) (line longer full : Line) (text left front later : List ℕ) → left ≡ front ++ later → AddsFront old mid line longer text left → Adds mid longer now full front → AddsFront old now line full text later
 one_added old mid now line longer full text left front later e so_far more = record {

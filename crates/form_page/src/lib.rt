@@ -3,12 +3,14 @@
 #![tactic(auto)]
 
 mod ascii_text;
+mod columns;
 mod decisions;
 mod hex_digits;
 mod line;
 mod listed;
 mod option_texts;
 mod page;
+mod plain;
 mod print;
 mod row;
 mod row_value;
@@ -16,6 +18,7 @@ mod rows;
 mod shown;
 mod statement_row;
 mod statement_value;
+mod value_bytes;
 mod value_chars;
 
 pub use option_texts::{Elements, seen_option};

@@ -3,6 +3,7 @@
 ghost use Rattle.std.specs.Prelude.{◌≡◌, ◌≤◌, ◌<◌, [], ◌∷◌, decimal, replicate, encode_utf8};
 ghost use Rattle.hii_bytes.specs.Watching.{pen_of, Puts};
 ghost use Rattle.hii_bytes.specs.Texts.{right_aligned};
+ghost use Rattle.form_page.specs.Texts.{utf8};
 ghost use Rattle.form_page.specs.code.Lines.{Adds};
 
 use arrayvec::ArrayVec;
@@ -82,6 +83,16 @@ impl Line {
             (replicate count 32) }
     {
         self.put(&SPACES[..count], out);
+    }
+
+    /// Adds the number in decimal digits.
+    pub(crate) fn put_decimal<W: Write>(&mut self, n: u64, out: &mut Watched<W>)
+        ensures { Adds (pen_of W.contents out.old) self.old (pen_of W.contents out.new) self.new
+            (utf8 (decimal n)) }
+    {
+        let mut buffer = Buffer::new();
+        let digits = buffer.format(n).as_bytes();
+        self.put(digits, out);
     }
 
     /// Adds the number in decimal digits, after as many spaces as make it this wide, at most 24.

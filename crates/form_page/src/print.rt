@@ -20,7 +20,7 @@ fn put_rows<C: Conditions, W: Write>(rows: Rows<'_, '_, C>, out: &mut Watched<W>
 {
     let mut rows = rows;
     while let Some(row) = rows.next() {
-        put_row(row, out);
+        put_row(&row, out);
     }
 }
 

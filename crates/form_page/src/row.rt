@@ -1,5 +1,7 @@
 //! Rows of a page.
 
+ghost use Rattle.std.specs.Prelude.{decimal};
+ghost use Rattle.hii_bytes.specs.Texts.{right_aligned};
 ghost use Rattle.hii_bytes.specs.Watching.{pen_of, Puts};
 ghost use Rattle.form_page.specs.Texts.{utf8};
 ghost use Rattle.form_page.specs.Pages.{id_text, row_text};
@@ -7,9 +9,11 @@ ghost use Rattle.form_page.specs.code.Lines.{Adds};
 ghost use Rattle.form_page.specs.code.RowViews.{value_text};
 ghost use Rattle.form_page.specs.code.Views.{row_seen};
 
+use crate::columns::{five_columns, three_columns};
 use crate::line::Line;
 use crate::row_value::RowValue;
 use crate::shown::put_in_columns;
+use crate::value_bytes::put_value;
 use guard_policy::Conditions;
 use hii_bytes::Watched;
 use hii_languages::Shown;
@@ -30,27 +34,25 @@ pub struct Row<'a, 's, C: Conditions> {
     pub value: RowValue<'a, 's, C>,
 }
 
-fn put_value<C: Conditions, W: Write>(
-    value: RowValue<'_, '_, C>,
-    line: &mut Line,
-    out: &mut Watched<W>,
-)
-    ensures { Adds (pen_of W.contents out.old) line.old (pen_of W.contents out.new) line.new
-        (utf8 (value_text value.entry)) }
-{
-    let mut text = value.chars();
-    while let Some(c) = text.next() {
-        line.put_char(c, out);
-    }
-}
-
 /// Writes a value in UTF-8, as it stands between the brackets of a row.
 pub fn put_row_value<C: Conditions, W: Write>(value: RowValue<'_, '_, C>, out: &mut Watched<W>)
     ensures { Puts W.contents out.old out.new (utf8 (value_text value.entry)) }
 {
     let mut line = Line::new();
-    put_value(value, &mut line, out);
+    put_value(&value, &mut line, out);
     line.end(out);
+}
+
+// Adds the number of a row, in three columns at least.
+fn put_number<W: Write>(number: u32, line: &mut Line, out: &mut Watched<W>)
+    ensures { Adds (pen_of W.contents out.old) line.old (pen_of W.contents out.new) line.new
+        (right_aligned 3 (decimal number)) }
+{
+    if number < 1000 {
+        line.put(&three_columns(number), out);
+        return;
+    }
+    line.put_decimal_right(3, u64::from(number), out);
 }
 
 fn put_id<W: Write>(question: Option<u16>, line: &mut Line, out: &mut Watched<W>)
@@ -58,25 +60,25 @@ fn put_id<W: Write>(question: Option<u16>, line: &mut Line, out: &mut Watched<W>
         (id_text question) }
 {
     match question {
-        Some(id) => line.put_decimal_right(5, u64::from(id), out),
+        Some(id) => line.put(&five_columns(id), out),
         None => line.put(b"    -", out),
     }
 }
 
 /// Writes a row.
-pub(crate) fn put_row<C: Conditions, W: Write>(row: Row<'_, '_, C>, out: &mut Watched<W>)
-    ensures { Puts W.contents out.old out.new (row_text (row_seen row.entry)) }
+pub(crate) fn put_row<C: Conditions, W: Write>(row: &Row<'_, '_, C>, out: &mut Watched<W>)
+    ensures { Puts W.contents out.old out.new (row_text (row_seen row.now)) }
 {
     let mut line = Line::new();
-    line.put_decimal_right(3, u64::from(row.number), out);
+    put_number(row.number, &mut line, out);
     line.put_byte(b' ', out);
     line.put_byte(row.mark, out);
     line.put_byte(b' ', out);
     put_id(row.question, &mut line, out);
     line.put_byte(b' ', out);
-    put_in_columns(row.prompt.chars(), 24, &mut line, out);
+    put_in_columns(row.prompt, &mut line, out);
     line.put(b" [", out);
-    put_value(row.value, &mut line, out);
+    put_value(&row.value, &mut line, out);
     line.put(b"]\n", out);
     line.end(out);
 }

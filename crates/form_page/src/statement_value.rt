@@ -1,14 +1,15 @@
 //! What the rows of statements show.
 
-ghost use Rattle.std.specs.Prelude.{◌≡◌, ◌%◌, ℕ, if◌then◌else◌, Some, None, option_map, List, length};
+ghost use Rattle.std.specs.Prelude.{◌≡◌, ◌%◌, ℕ, if◌then◌else◌, true, false, Some, None, option_map, List, length};
 ghost use Rattle.ifr_opcodes.specs.code.Ops.{bytes_of as op_bytes};
 ghost use Rattle.ifr_expr.specs.Values.{text as text_value};
 ghost use Rattle.ifr_expr.specs.code.Views.{value_of};
 ghost use Rattle.ifr_nodes.specs.code.Checked.{IsNodeOf};
 ghost use Rattle.ifr_scopes.specs.code.Lists.{statement_node};
 ghost use Rattle.ifr_nodes.specs.Nodes.{nodes_of, is_question};
-ghost use Rattle.hii_questions.specs.Fields.{asked};
-ghost use Rattle.hii_questions.specs.code.Views.{question_view};
+ghost use Rattle.hii_questions.specs.Answers.{value_of_field};
+ghost use Rattle.hii_questions.specs.Fields.{asked, is_password};
+ghost use Rattle.hii_questions.specs.code.Views.{question_node, question_view};
 ghost use Rattle.guard_policy.specs.code.Views.{bytes_of};
 ghost use Rattle.form_page.specs.code.PageViews.{texts_of, world_of};
 ghost use Rattle.form_page.specs.RowValues as values;
@@ -19,6 +20,7 @@ use crate::page::Page;
 use crate::row_value::{Hexadecimal, RowValue};
 use guard_policy::Conditions;
 use hii_questions::{Question, StoredItems, element_width, read_value, shown};
+use hii_varstore::Stores;
 use ifr_expr::Value;
 use ifr_opcodes::{Display, NumericOp};
 use ifr_scopes::{Statement, StatementKind};
@@ -96,22 +98,32 @@ fn string_value<'a, 's, C: Conditions>(value: Value<'s>) -> RowValue<'a, 's, C>
     }
 }
 
-fn password_value<'a, 's, C: Conditions>(value: Value<'_>) -> RowValue<'a, 's, C>
-    ensures { value_text result ≡ values.password_shown (value_of value.entry) }
+// What is shown of the password of a question: whether its text has a first unit.
+fn password_value<'a, 's, C: Conditions>(
+    question: Question<'a>,
+    stores: &Stores,
+) -> RowValue<'a, 's, C>
+    requires { is_password (question_node question) ≡ true }
+    ensures { value_text result ≡ values.password_shown (value_of_field stores.now
+        (question_node question.entry) (question_view question.entry).field) }
 {
-    match value {
-        Value::Text(units) => RowValue::Password(!units.is_empty()),
-        _ => RowValue::Empty,
+    let Some(field) = question.field() else {
+        return RowValue::Empty;
+    };
+    match stores.field(field.store, usize::from(field.offset), field.width) {
+        Some(bytes) => RowValue::Password(StoredItems::new(bytes, 2).step().is_some()),
+        None => RowValue::Empty,
     }
 }
 
-// What is shown of the value of a question.
+// What is shown of the value of a question that is no password.
 fn stored_value<'a, 's, C: Conditions>(
     page: Page<'a, 's, C>,
     statement: Statement<'a>,
     value: Value<'s>,
 ) -> RowValue<'a, 's, C>
     requires node { IsNodeOf (bytes_of page.policy) (statement_node statement) }
+    requires open { is_password (statement_node statement) ≡ false }
     requires whole { (units : List ℕ) → value_of value ≡ text_value units → length units % 2 ≡ 0 }
     ensures { value_text result ≡ values.stored_shown (texts_of page.entry) (world_of page.entry)
         (statement_node statement.entry) (value_of value.entry) }
@@ -128,9 +140,6 @@ fn stored_value<'a, 's, C: Conditions>(
     }
     if let StatementKind::String(_) = kind {
         return string_value(value);
-    }
-    if let StatementKind::Password(_) = kind {
-        return password_value(value);
     }
     if let StatementKind::OrderedList(_) = kind {
         return list_value(page, statement, value);
@@ -152,6 +161,7 @@ fn question_value<'a, 's, C: Conditions>(
         (world_of page.entry) page.entry.stores.now (statement_node statement.entry) }
 {
     match question {
+        Some(question) if question.is_password() => password_value(question, page.stores),
         Some(question) => stored_value(page, statement, read_value(question, page.stores)),
         None => RowValue::Empty,
     }

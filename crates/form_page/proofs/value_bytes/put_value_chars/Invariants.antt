@@ -4,7 +4,7 @@ use Rattle.form_page.specs.Texts.{utf8}
 use Rattle.form_page.specs.code.CharViews.{value_chars_left}
 use Rattle.form_page.specs.code.RowViews.{value_text}
 use Rattle.form_page.proofs.LineLemmas.{AddsFront}
-use Rattle.form_page.proofs.row.put_value.Given as goal
+use Rattle.form_page.proofs.value_bytes.put_value_chars.Given as goal
 
 -- the characters before those that are left were added
 abbrev pub invariant-loop-c : goal.invariant-loop-c

@@ -1,6 +1,6 @@
 use Rattle.form_page.proofs.LineLemmas.{none_added}
 use Rattle.form_page.proofs.TextLemmas.{char_added}
-use Rattle.form_page.proofs.row.put_value.Goals as goal
+use Rattle.form_page.proofs.value_bytes.put_value_chars.Goals as goal
 
 pub loop-c-init : goal.loop-c-init
 loop-c-init g c = rw c.chars-text.ensures (none_added _ _ _)
