@@ -3,3 +3,4 @@ pub mod Opened
 pub mod Standing
 pub mod Changing
 pub mod Counting
+pub mod Defaulting

@@ -1,62 +1,39 @@
 //! Defaults of the questions of a form.
 
-ghost use Rattle.std.specs.Prelude.{◌≡◌, Some, IfSome, length, option_map};
+ghost use Rattle.std.specs.Prelude.{◌≡◌, ◌<◌, ◌^◌, [], IfSome, length, option_map};
 ghost use Rattle.hii_bytes.specs.Watching.{Puts};
-ghost use Rattle.ifr_nodes.specs.code.Checked.{IsNodeOf};
+ghost use Rattle.ifr_nodes.specs.code.Checked.{AreNodesOf, IsNodeOf};
 ghost use Rattle.ifr_scopes.specs.code.Lists.{statement_node};
+ghost use Rattle.ifr_scopes.specs.code.StatementsLeft.{statements_of_left};
 ghost use Rattle.ifr_nodes.specs.Nodes.{nodes_of};
-ghost use Rattle.ifr_defaults.specs.Defaults as defaults;
+ghost use Rattle.ifr_defaults.specs.code.DefaultSources.{gives};
 ghost use Rattle.hii_questions.specs.code.Offers.{offer_of};
 ghost use Rattle.hii_questions.specs.code.Views.{question_node};
+ghost use Rattle.guard_policy.specs.code.Views.{bytes_of};
 ghost use Rattle.session_steps.specs.Renewed.{field_writes, pressed_if};
+ghost use Rattle.browser_commands.specs.code.Changing.{IsBrowsed};
 ghost use Rattle.browser_commands.specs.code.Counting.{counted_all};
+ghost use Rattle.browser_commands.specs.code.Defaulting.{sources_over, TakeDefaults, TakesDefault};
 ghost use Rattle.session_steps.specs.Step as steps;
 ghost use Rattle.session_steps.specs.Step.{taken, take_defaults as defaults_taken};
-ghost use Rattle.browser_commands.specs.code.Standing.{Presses, TakesDefault, IsOffered};
+ghost use Rattle.browser_commands.specs.code.Standing.{Presses, IsOffered};
 
 use crate::browser::Browser;
+use crate::change::give_value;
+use crate::sources::Sources;
 use crate::texts::put_count;
-use guard_policy::Denial;
+use guard_policy::{Denial, Policy};
 use hii_bytes::Watched;
 use hii_questions::{DenialKind, Input, Question};
-use ifr_defaults::default_of;
+use hii_varstore::Stores;
+use ifr_defaults::{DefaultSource, default_source};
 use ifr_scopes::laws::{statements_are_few, statements_are_nodes};
-use ifr_scopes::{Statement, StatementKind};
+use ifr_scopes::{Statement, StatementKind, StatementsOf};
+use kept_conditions::KeptStores;
 use session_steps::Reply;
 use std::io::Write;
 
 impl<'a> Browser<'a> {
-    // The default of a question for a class, if it has one.
-    fn default_of(&self, question: Question<'a>, class: u16) -> Option<Input<'a>>
-        ensures default { option_map offer_of result ≡ defaults.default_of (steps.sources self.now.state)
-            (question_node question.entry) class }
-        ensures offered { IfSome result IsOffered }
-    {
-        let answers = self.questions.over(self.working.stores());
-        default_of(
-            question,
-            class,
-            &answers,
-            &self.forms,
-            &self.languages,
-            self.language,
-        )
-    }
-
-    /// Sets the question that a statement is to its default of a class, where it has one and may have it, and tells whether.
-    pub(crate) fn take_default(&mut self, statement: Statement<'a>, class: u16) -> bool
-        requires { IsNodeOf self.old.state.ifr (statement_node statement) }
-        ensures { TakesDefault self.old class (statement_node statement.entry) self.new result }
-    {
-        let Some(question) = self.policy().question(statement) else {
-            return false;
-        };
-        match self.default_of(question, class) {
-            Some(input) => self.change(question, input).is_ok(),
-            None => false,
-        }
-    }
-
     // Sets the questions of the current form to their defaults of a class, and writes how many took them.
     pub(crate) fn take_defaults<W: Write>(&mut self, class: u16, out: &mut Watched<W>) -> Reply
         ensures state { self.new.state ≡ (defaults_taken self.old.state class).state }
@@ -101,6 +78,91 @@ impl<'a> Browser<'a> {
     }
 }
 
+impl<'a, 's> Sources<'a, 's> {
+    // The default of a question that this gives over some stores, if it gives one.
+    fn given_by(
+        self,
+        source: DefaultSource<'a>,
+        question: Question<'a>,
+        stores: &Stores,
+    ) -> Option<Input<'a>>
+        ensures default { option_map offer_of result ≡ gives (sources_over self.entry stores.now)
+            (question_node question.entry) source.entry }
+        ensures offered { IfSome result IsOffered }
+    {
+        let answers = self.questions.over(stores);
+        source.input(
+            question,
+            &answers,
+            self.policy.forms(),
+            self.languages,
+            self.language,
+        )
+    }
+
+    // Sets the question that a statement is to its default of a class, where it has one and may have it, and tells
+    // whether. The spare stores, which hold what the working ones do, follow.
+    fn take_default(
+        self,
+        statement: Statement<'a>,
+        class: u16,
+        working: &mut KeptStores<'a>,
+        spare: &mut Stores,
+    ) -> bool
+        requires node { IsNodeOf (bytes_of self.policy) (statement_node statement) }
+        requires browsed { IsBrowsed self.policy working.old }
+        requires same { spare.old ≡ working.old.stores }
+        ensures takes { TakesDefault self.entry class (statement_node statement.entry)
+            working.old working.new result }
+        ensures same { spare.new ≡ working.new.stores }
+    {
+        let Some(source) = default_source(statement, class) else {
+            return false;
+        };
+        let Some(question) = self.policy.question(statement) else {
+            return false;
+        };
+        let Some(input) = self.given_by(source, question, working.stores()) else {
+            return false;
+        };
+        match give_value(self.policy, question, input, working, spare) {
+            Ok(field) => {
+                field.put(spare);
+                true
+            }
+            Err(_) => false,
+        }
+    }
+
+    // Sets the questions among some statements of the package to their defaults of a class, each over the stores that
+    // those before it have left, and tells how many took them. The spare stores, which hold what the working ones do,
+    // follow.
+    fn take_each(
+        self,
+        statements: StatementsOf<'_, 'a>,
+        class: u16,
+        working: &mut KeptStores<'a>,
+        spare: &mut Stores,
+    ) -> u64
+        requires nodes { AreNodesOf (bytes_of self.policy) (statements_of_left statements) }
+        requires few { length (statements_of_left statements) < 2 ^ 32 }
+        requires browsed { IsBrowsed self.policy working.old }
+        requires same { spare.old ≡ working.old.stores }
+        ensures take { TakeDefaults self.entry class (statements_of_left statements.entry) []
+            working.old working.new result }
+        ensures same { spare.new ≡ working.new.stores }
+    {
+        let mut left = statements;
+        let mut count = 0;
+        while let Some(statement) = left.next() {
+            if self.take_default(statement, class, working, spare) {
+                count += 1;
+            }
+        }
+        count
+    }
+}
+
 /// Sets the questions of the current form, by place, to their defaults of a class, each over the stores that those before it
 /// have left, and tells how many took them.
 pub(crate) fn take_defaults(core: &mut Browser<'_>, class: u16) -> u64
@@ -112,12 +174,12 @@ pub(crate) fn take_defaults(core: &mut Browser<'_>, class: u16) -> u64
 {
     statements_are_few();
     statements_are_nodes();
-    let mut count = 0;
-    let mut statements = core.form().statements();
-    while let Some(statement) = statements.next() {
-        if core.take_default(statement, class) {
-            count += 1;
-        }
-    }
-    count
+    let sources = Sources {
+        policy: Policy::new(&core.forms, &core.questions, &core.removed),
+        questions: &core.questions,
+        languages: &core.languages,
+        language: core.language,
+    };
+    let statements = core.forms.statements_of(core.form);
+    sources.take_each(statements, class, &mut core.working, &mut core.spare)
 }

@@ -2,7 +2,6 @@
 
 ghost use Rattle.std.specs.Prelude.{◌≡◌, Some, IfSome, option_and_then, option_map};
 ghost use Rattle.hii_bytes.specs.Watching.{Puts};
-ghost use Rattle.ifr_nodes.specs.Accepted.{IsAccepted};
 ghost use Rattle.ifr_nodes.specs.code.Checked.{IsNodeOf};
 ghost use Rattle.ifr_scopes.specs.code.Lists.{form_node, statement_node};
 ghost use Rattle.ifr_nodes.specs.Nodes.{nodes_of};
@@ -28,15 +27,6 @@ use kept_conditions::Kept;
 use std::io::Write;
 
 impl<'a> Browser<'a> {
-    /// The current form.
-    pub(crate) fn form(&self) -> Form<'a>
-        ensures form { steps.form_of self.now.state ≡ Some (form_node result) }
-        ensures node { IsNodeOf self.now.state.ifr (form_node result) }
-        ensures accepted { IsAccepted self.now.state.ifr }
-    {
-        self.form
-    }
-
     /// The page of the current form, by what is kept of conditions.
     pub fn page(&self) -> Page<'a, '_, Kept<'a>>
         ensures form { steps.form_of self.now.state ≡ Some (form_node result.form) }

@@ -11,6 +11,7 @@ mod defaults;
 mod forms;
 mod history;
 mod opening;
+mod sources;
 mod submitting;
 mod telling;
 mod texts;

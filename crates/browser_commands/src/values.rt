@@ -133,17 +133,4 @@ impl<'a> Browser<'a> {
         field.put(&mut self.spare);
         Ok(())
     }
-
-    // Gives a question a value, of which nothing is written, or tells why it may not have it.
-    pub(crate) fn change(&mut self, question: Question<'a>, input: Input<'_>) -> Result<(), Denial>
-        requires question { IsQuestionIn self.old.state.ifr (question_view question) }
-        requires input { IsOffered input }
-        ensures { Changes self.old (question_node question.entry) (offer_of input.entry) self.new
-            result }
-    {
-        let policy = Policy::new(&self.forms, &self.questions, &self.removed);
-        let field = give_value(policy, question, input, &mut self.working, &self.spare)?;
-        field.put(&mut self.spare);
-        Ok(())
-    }
 }

@@ -1,2 +1,3 @@
 -- How values of the code are seen. No module outside of this folder and of laws cites one of it.
+pub mod DefaultSources
 pub mod Views

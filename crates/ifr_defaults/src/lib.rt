@@ -8,4 +8,4 @@ mod given;
 pub mod laws;
 
 pub use classes::{DEFAULT_CLASS_MANUFACTURING, DEFAULT_CLASS_STANDARD};
-pub use defaults::default_of;
+pub use defaults::{DefaultSource, default_of, default_source};

@@ -1,5 +1,5 @@
 -- What holds of a session at all times, and what the steps of a command come to.
-use Rattle.std.specs.Prelude.{◌≡◌, ℕ, Bool, true, if◌then◌else◌, ◌<◌, ◌^◌, All, List, [], ◌∷◌, ◌++◌, length, Option, Some, None, Result, Ok, Err}
+use Rattle.std.specs.Prelude.{◌≡◌, ℕ, true, ◌<◌, ◌^◌, All, List, [], ◌++◌, length, Option, Some, None, Result, Ok, Err}
 use Rattle.browser_rules.specs.Configuration.{Header, Block}
 use Rattle.config_text.specs.Written.{AreInside}
 use Rattle.ifr_opcodes.specs.Forest.{Node}
@@ -25,7 +25,7 @@ use Rattle.browser_commands.specs.code.Counting.{counted_all}
 use Rattle.session_steps.specs.declared.reply.Reply.TheVariants.{Accepted}
 use Rattle.session_steps.specs.Opening.{layout_in, IsBrowsable}
 use Rattle.session_steps.specs.Texts.{ok_text, count_text}
-use Rattle.session_steps.specs.Step.{Outcome, Taken, accepted, denied, no_question, warned_text, set_question, take_default, take_defaults, taken, row_of_form, form_of, press, show_form, follow, configuration_text, extract_from, route_to}
+use Rattle.session_steps.specs.Step.{Outcome, accepted, denied, no_question, warned_text, set_question, take_defaults, taken, row_of_form, form_of, press, show_form, follow, configuration_text, extract_from, route_to}
 
 -- The package can be browsed, the questions, the stores and what is kept of conditions are its own, no two stores have one id,
 -- the spare stores are the working ones, and the form and those of the history are among its nodes.
@@ -88,18 +88,6 @@ Sets s q offer now (Ok done) =
     × Counts s (field_writes (nodes_of s.state.ifr) (named_if q Accepted)) now
 Sets s q offer now (Err denial) =
     (set_question s.state q offer ≡ denied s.state denial) × (now ≡ s)
-
--- a statement takes its default, where it is a question
-abbrev pub take_statement : ℕ → Taken → Node → Taken
-take_statement class t n = if is_question n then take_default class t n else t
-
--- What a statement leaves that takes its default, and whether it took one.
-abbrev pub TakesDefault : Shown → ℕ → Node → Shown → Bool → Type 0
-TakesDefault s class n now took =
-    ((qs : List Node)
-    → take_statement class record { state = s.state; questions = qs } n
-    ≡ record { state = now.state; questions = if took then qs ++ n ∷ [] else qs })
-    × Counts s (if took then field_write (nodes_of s.state.ifr) n else []) now
 
 -- The button in a row sets the defaults of a class, or why it does not.
 abbrev pub Presses : State → ℕ → Result ℕ Denial → Type 0

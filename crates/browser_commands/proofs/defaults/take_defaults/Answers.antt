@@ -1,51 +1,49 @@
-use Rattle.std.proofs.Common.{ℕ, List, Bool, true, false, rules, sym, ap, subst, ◌∙◌, arith, length}
-use Rattle.std.proofs.lemmas.List.Elements.{All-head, All-tail}
+use Rattle.std.proofs.Common.{List, refl, sym, ap, ◌∙◌, arith, length}
 use Rattle.ifr_opcodes.specs.Forest.{Node}
-use Rattle.ifr_nodes.specs.code.Checked.{IsNodeOf, AreNodesOf}
-use Rattle.ifr_scopes.specs.code.Lists.{statement_node, statements_left}
-use Rattle.session_steps.specs.Step.{taken}
-use Rattle.browser_commands.specs.code.Standing.{TakesDefault}
-use Rattle.browser_commands.proofs.DefaultLemmas.{takes_next, takes_package}
+use Rattle.ifr_scopes.specs.code.Lists.{form_node}
+use Rattle.hii_varstore.specs.Stores.{shape_of}
+use Rattle.browser_commands.proofs.Browsers.{stands_with}
+use Rattle.browser_commands.proofs.DefaultLemmas.{sources_in, takes_all}
+use Rattle.browser_commands.proofs.ValueLemmas.{browsed}
 use Rattle.browser_commands.proofs.defaults.take_defaults.Goals as goal
 
-pub take_default-requires : goal.take_default-requires
-take_default-requires c =
-    let n = statement_node c.in-Some.statement in
-    let all = subst (AreNodesOf c.args.core.now.state.ifr) c.in-Some.ensures.steps c.loop-statement.invariant.nodes in
-    subst (λ (ifr : List ℕ). IsNodeOf ifr n) (sym c.loop-statement.invariant.same) (All-head (λ m. IsNodeOf c.args.core.now.state.ifr m) n (statements_left c.next.new.self) all)
+pub invariant_of-sources : goal.invariant_of-sources
+invariant_of-sources c = record { together = c.core.invariant.together ∙ sym c.new.ensures.forms }
 
-pub loop-statement-preserved-then-take_default : goal.loop-statement-preserved-then-take_default
-loop-statement-preserved-then-take_default c =
-    let n = statement_node c.in-Some.statement in
-    let ns = statements_left c.next.new.self in
-    let steps = c.in-Some.ensures.steps in
-    let few = c.loop-statement.invariant.few in
-    let fewer = ap (λ (l : List Node). length l) steps in
-    let takes = c.take_default.ensures in
-    record {
-      can = search rules;
-      ends = search rules;
-      same = takes_package c.args.class c.loop-statement.core c.take_default.new.self n c.take_default.result takes ∙ c.loop-statement.invariant.same;
-      nodes = All-tail (λ m. IsNodeOf c.args.core.now.state.ifr m) n ns (subst (AreNodesOf c.args.core.now.state.ifr) steps c.loop-statement.invariant.nodes);
-      few = omega (arith, few, fewer);
-      left = takes_next c.args.class (taken c.args.core.now.state c.args.class) c.args.core.now c.loop-statement.core c.take_default.new.self c.loop-statement.count n ns (statements_left c.loop-statement.statements) true c.loop-statement.invariant.same steps
-          (subst (λ (b : Bool). TakesDefault c.loop-statement.core c.args.class n c.take_default.new.self b) c.if-take_default.true takes) c.loop-statement.invariant.left;
-    }
+pub take_each-requires-clause-nodes : goal.take_each-requires-clause-nodes
+take_each-requires-clause-nodes c =
+    let ifr = c.core.inside.forms in
+    let all = c.statements_are_nodes.ensures ifr (form_node c.core.inside.form) c.core.invariant.browsable.accepted c.core.invariant.node in
+    rw (c.new.ensures.forms, c.statements_of-statements.ensures) all
 
-pub loop-statement-preserved : goal.loop-statement-preserved
-loop-statement-preserved c =
-    let n = statement_node c.in-Some.statement in
-    let ns = statements_left c.next.new.self in
-    let steps = c.in-Some.ensures.steps in
-    let few = c.loop-statement.invariant.few in
-    let fewer = ap (λ (l : List Node). length l) steps in
-    let takes = c.take_default.ensures in
-    record {
-      can = search rules;
-      ends = search rules;
-      same = takes_package c.args.class c.loop-statement.core c.take_default.new.self n c.take_default.result takes ∙ c.loop-statement.invariant.same;
-      nodes = All-tail (λ m. IsNodeOf c.args.core.now.state.ifr m) n ns (subst (AreNodesOf c.args.core.now.state.ifr) steps c.loop-statement.invariant.nodes);
-      few = omega (arith, few, fewer);
-      left = takes_next c.args.class (taken c.args.core.now.state c.args.class) c.args.core.now c.loop-statement.core c.take_default.new.self c.loop-statement.count n ns (statements_left c.loop-statement.statements) false c.loop-statement.invariant.same steps
-          (subst (λ (b : Bool). TakesDefault c.loop-statement.core c.args.class n c.take_default.new.self b) c.if-take_default.false takes) c.loop-statement.invariant.left;
-    }
+pub take_each-requires-clause-few : goal.take_each-requires-clause-few
+take_each-requires-clause-few c =
+    let few = c.statements_are_few.ensures c.core.inside.form in
+    omega (arith, few, ap (λ (ns : List Node). length ns) c.statements_of-statements.ensures)
+
+pub take_each-requires-clause-browsed : goal.take_each-requires-clause-browsed
+take_each-requires-clause-browsed c = browsed c.new.result c.core.inside c.core.invariant c.new.ensures.forms
+
+pub invariant_of-core : goal.invariant_of-core
+invariant_of-core c =
+    let takes = c.take_each.ensures.take in
+    let shape = ap shape_of c.take_each.ensures.same ∙ takes.shape ∙ c.core.invariant.laid in
+    stands_with c.core.inside c.take_each.new.working c.take_each.new.spare c.core.invariant takes.same_package shape c.take_each.ensures.same
+
+pub returns-clause-state : goal.returns-clause-state
+returns-clause-state c =
+    let its = sources_in _ c.core.inside c.new.ensures.forms c.new.ensures.removed refl refl in
+    let takes = rw c.statements_of-statements.ensures at c.take_each.ensures.take in
+    (takes_all _ c.core.inside c.args.core.now c.args.class c.take_each.new.working c.take_each.result c.core.view_is c.core.invariant c.new.ensures.forms its takes).0
+
+pub returns-clause-count : goal.returns-clause-count
+returns-clause-count c =
+    let its = sources_in _ c.core.inside c.new.ensures.forms c.new.ensures.removed refl refl in
+    let takes = rw c.statements_of-statements.ensures at c.take_each.ensures.take in
+    (takes_all _ c.core.inside c.args.core.now c.args.class c.take_each.new.working c.take_each.result c.core.view_is c.core.invariant c.new.ensures.forms its takes).1
+
+pub returns-clause-renewed : goal.returns-clause-renewed
+returns-clause-renewed c =
+    let its = sources_in _ c.core.inside c.new.ensures.forms c.new.ensures.removed refl refl in
+    let takes = rw c.statements_of-statements.ensures at c.take_each.ensures.take in
+    (takes_all _ c.core.inside c.args.core.now c.args.class c.take_each.new.working c.take_each.result c.core.view_is c.core.invariant c.new.ensures.forms its takes).2
