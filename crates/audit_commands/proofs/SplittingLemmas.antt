@@ -6,7 +6,8 @@ use Rattle.hii_bytes.specs.declared.watched.Watched.{Watched}
 use Rattle.hii_bytes.specs.Watching.{has_failed, inner_of, pen_of}
 use Rattle.hii_dumps.specs.Dumps.{Entry, SpellsDump, nth_list}
 use Rattle.dump_audit.specs.Lines.{line}
-use Rattle.dump_audit.specs.Taking.{TakesBytes, TellsList, no_list_text}
+use Rattle.dump_audit.specs.Lines.{no_list_text}
+use Rattle.dump_audit.specs.Taking.{TakesBytes, TellsList}
 use Rattle.audit_commands.specs.declared.ended.Ended.{Ended}
 use Rattle.audit_commands.specs.declared.ended.Ended.TheVariants.{Refused, WriteAnswers}
 use Rattle.audit_commands.specs.Endings.{TellsAndWrites}

@@ -1,17 +1,17 @@
 -- What `split` says of a dump (own rule).
-use Rattle.std.specs.Prelude.{◌≡◌, ℕ, List, ◌++◌, Option, Some, None}
+use Rattle.std.specs.Prelude.{◌≡◌, ℕ, true, false, List, ◌++◌, Option, Some, None}
 use Rattle.hii_bytes.specs.declared.cause.Cause.TheVariants.{OutOfMemory}
 use Rattle.hii_dumps.specs.Dumps.{Entry, SpellsDump, nth_list}
 use Rattle.session_steps.specs.Texts.{refused_text}
 use Rattle.dump_audit.specs.Findings.{Finding, IsFound}
-use Rattle.dump_audit.specs.Lines.{BeginsSplitText, IsSplitText, line}
-use Rattle.dump_audit.specs.Taking.{no_list_text}
+use Rattle.dump_audit.specs.Lines.{BeginsSplitText, IsSplitText, line, no_list_text}
 use Rattle.audit_commands.specs.declared.ended.Ended.{Ended}
 use Rattle.audit_commands.specs.declared.ended.Ended.TheVariants.{Done, Refused, WriteOut, NoMemory}
 
--- a line for each list and one for the rest; where an allocation fails, those of the first lists
+-- a line for each list and one for the rest, or that there is no list; where an allocation fails, those of the first lists
 abbrev pub SaysLists : List ℕ → Ended → List ℕ → Type 0
-SaysLists dump Done text = IsSplitText dump text
+SaysLists dump Done text = IsSplitText true dump text
+SaysLists dump Refused text = IsSplitText false dump text
 SaysLists dump NoMemory text =
     (begun : List ℕ) × BeginsSplitText dump begun × (text ≡ begun ++ refused_text OutOfMemory)
 SaysLists dump _ text = ⊥

@@ -16,8 +16,11 @@ use crate::store_files::{StoreFiles, SystemFiles};
 use audit_options::{ImageOptions, StoreFile};
 use hii_bytes::{Cause, Fault, Watched};
 use hii_varstore::Layout;
-use setup_files::{Status, Terminals, WholeFile, file, is_same_file, out_file, refused, usage};
+use setup_files::{
+    Status, Terminals, WholeFile, fault, file, is_same_file, out_file, refused, usage,
+};
 use std::alloc::Global;
+use std::fs;
 use std::io::Write;
 use std::rt::Files;
 use store_audit::{Declared, Filling, put_image};
@@ -44,11 +47,26 @@ pub fn run<R: Files + Print + Eprint + AllocGlobal>(
         return Err(refused(rt, terminals, Cause::OutOfMemory));
     };
     let list = file(rt, terminals, options.list.path, "read list")?;
+    if let Some(folder) = options.efivars {
+        check_folder(rt, terminals, folder)?;
+    }
     let files = SystemFiles::new(rt, terminals, options.out);
     let mut answers = answers(rt, terminals)?;
     let mut out = Watched::new(out);
     let ended = make(rt.alloc(), options, &list, &files, &mut answers, &mut out)?;
     Ok(told_with_file(rt, terminals, ended, answers, options.out, out))
+}
+
+// Refuses what is no folder.
+fn check_folder<R: Files + Eprint>(rt: &R, terminals: Terminals, folder: &str) -> Result<(), Status>
+    ensures { IfErr result (λ status. status ≢ Status.Done) }
+{
+    let reason = match fs::metadata(rt, folder) {
+        Ok(found) if found.is_dir() => return Ok(()),
+        Ok(_) => None,
+        Err(reason) => Some(reason),
+    };
+    Err(fault(rt, terminals, "read efivars", folder, reason))
 }
 
 // Whether the file of `--out` is one of those that are given to stores.

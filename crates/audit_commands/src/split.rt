@@ -66,7 +66,8 @@ fn tell<A: Write + Drop>(
     ensures { Tells (SaysLists dump.now.bytes.items) A.contents answers.old result answers.new }
 {
     match put_split(alloc, dump.bytes.as_slice(), answers) {
-        Ok(()) => finish(Ended::Done, answers),
+        Ok(true) => finish(Ended::Done, answers),
+        Ok(false) => finish(Ended::Refused, answers),
         Err(failed) => refuse(Fault::from(failed), answers),
     }
 }

@@ -1,7 +1,7 @@
 -- Texts that were worked out by hand.
 use Rattle.std.proofs.Common.{◌≡◌, ℕ, true, false, List, [], ◌∷◌, refl}
 use Rattle.std.specs.Prelude.{codes}
-use Rattle.audit_text.specs.Texts.{guid_text, left_aligned, ascii_name}
+use Rattle.audit_text.specs.Texts.{guid_text, left_aligned, ascii_name, language_name, safe_text}
 use Rattle.audit_text.specs.Words.{opcode_name, attributes_text}
 
 -- the bytes of 6D1E5A10-7C4B-4E0A-9A31-225C60880F01
@@ -25,6 +25,13 @@ no_name = refl
 
 what_is_no_character_is_hidden : ascii_name (0x53 ∷ 0x0a ∷ 0x7e ∷ 0x7f ∷ 0xe4 ∷ []) ≡ codes "S?~??"
 what_is_no_character_is_hidden = refl
+
+languages_stay_apart : language_name (codes "en-US,x \n") ≡ codes "en-US?x??"
+languages_stay_apart = refl
+
+what_turns_a_line_is_a_number : safe_text (0x41 ∷ 0x9b ∷ 0x202e ∷ 0x5c ∷ []) ≡ codes "A\\u{9b}\\u{202e}\\"
+unfolding lib.Utf8.encode
+what_turns_a_line_is_a_number = refl
 
 an_opcode : opcode_name 0x23 ≡ codes "ORDERED_LIST"
 an_opcode = refl

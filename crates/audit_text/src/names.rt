@@ -2,7 +2,8 @@
 
 ghost use Rattle.std.specs.Prelude.{◌≡◌};
 ghost use Rattle.hii_bytes.specs.Watching.{Puts};
-ghost use Rattle.audit_text.specs.Texts.{ascii_name, shown_byte};
+ghost use Rattle.audit_text.specs.Texts.{ascii_name, language_name, name_by};
+ghost use Rattle.audit_text.specs.code.Names.{shown_in};
 ghost use Rattle.audit_text.specs.Words as spec;
 
 use hii_bytes::Watched;
@@ -13,19 +14,31 @@ use ifr_opcodes::{
 };
 use std::io::Write;
 
-fn visible(byte: u8) -> u8
-    ensures { result ≡ shown_byte byte }
-{
-    if 0x20 <= byte && byte <= 0x7e {
-        byte
-    } else {
-        b'?'
+/// What a name is of.
+#[derive(Clone, Copy)]
+pub(crate) enum Named {
+    /// A store.
+    Store,
+    /// A language, beside which others stand.
+    Language,
+}
+
+impl Named {
+    // The byte that shows for one of a name.
+    fn shown(self, byte: u8) -> u8
+        ensures { result ≡ shown_in self byte }
+    {
+        match self {
+            Named::Language if byte == b' ' || byte == b',' => b'?',
+            _ if 0x20 <= byte && byte <= 0x7e => byte,
+            _ => b'?',
+        }
     }
 }
 
-/// Writes the name of a store: a byte outside 0x20 to 0x7E shows as `?`, an empty name as `-`.
-pub fn put_ascii_name<W: Write>(out: &mut Watched<W>, name: &[u8])
-    ensures { Puts W.contents out.old out.new (ascii_name name.now) }
+// Writes a name.
+fn put_name<W: Write>(out: &mut Watched<W>, name: &[u8], named: Named)
+    ensures { Puts W.contents out.old out.new (name_by (shown_in named) name.now) }
 {
     if name.is_empty() {
         out.put(b"-");
@@ -33,9 +46,23 @@ pub fn put_ascii_name<W: Write>(out: &mut Watched<W>, name: &[u8])
     }
     let mut rest = name;
     while let [byte, behind @ ..] = rest {
-        out.put(&[visible(*byte)]);
+        out.put(&[named.shown(*byte)]);
         rest = behind;
     }
+}
+
+/// Writes the name of a store: a byte outside 0x20 to 0x7E shows as `?`, an empty name as `-`.
+pub fn put_ascii_name<W: Write>(out: &mut Watched<W>, name: &[u8])
+    ensures { Puts W.contents out.old out.new (ascii_name name.now) }
+{
+    put_name(out, name, Named::Store);
+}
+
+/// Writes the name of a language: a byte outside 0x21 to 0x7E and a comma show as `?`, an empty name as `-`.
+pub fn put_language<W: Write>(out: &mut Watched<W>, language: &[u8])
+    ensures { Puts W.contents out.old out.new (language_name language.now) }
+{
+    put_name(out, language, Named::Language);
 }
 
 /// The name of the opcode of a question, a guard, a check or a store by its number, and no bytes for another (UEFI 2.8, 33.3.8.3

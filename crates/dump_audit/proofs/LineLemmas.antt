@@ -1,13 +1,14 @@
 -- Lines are written list by list.
-use Rattle.std.proofs.Common.{◌≡◌, ℕ, suc, ◌+◌, ◌*◌, ◌≤◌, ◌<◌, Option, Some, None, List, [], ◌∷◌, ◌++◌, length, map, refl, sym, ap, ◌∙◌, subst, arith, append_assoc, length-append}
+use Rattle.std.proofs.Common.{◌≡◌, ℕ, suc, true, ◌+◌, ◌*◌, ◌≤◌, ◌<◌, Option, Some, None, List, [], ◌∷◌, ◌++◌, length, map, refl, sym, ap, ◌∙◌, subst, arith, append_assoc, length-append}
 use Rattle.std.specs.Prelude.{codes, decimal}
 use Rattle.std.specs.List.{AllByRecursion, concat}
+use Rattle.std.proofs.lemmas.Bool.{false≢true}
 use Rattle.std.proofs.lemmas.List.{append-nil, map-append}
 use Rattle.hii_bytes.specs.Watching.{Pen, Writes}
 use Rattle.hii_bytes.proofs.WritingLemmas.{writes_trans}
 use Rattle.hii_bytes.specs.Texts.{place_text}
 use Rattle.hii_dumps.specs.Dumps.{Entry, IsList, placed}
-use Rattle.dump_audit.specs.Lines.{Told, IsTold, line, lines, rest_line, title_text}
+use Rattle.dump_audit.specs.Lines.{Told, IsTold, has_lists, line, lines, no_lists_line, rest_line, title_text}
 use Rattle.browser_rules.specs.Strings.{Spoken}
 
 all_more : (told : List Told) (t : Told) → AllByRecursion IsTold told → IsTold t → AllByRecursion IsTold (told ++ t ∷ [])
@@ -40,6 +41,12 @@ goes_more {all} {left} {later} {number} {a} {b} {c} t g first is wrote =
       written = subst (Writes a c) (ap (λ n. lines 1 g.told ++ line n t) g.next ∙ sym (lines_more 1 g.told t)) (writes_trans g.written wrote);
     }
 
+-- at the end all are told
+pub all_told : {all left : List Entry} {number : ℕ} {a b : Pen} (g : Goes all left number a b) → left ≡ [] → map (λ t. t.entry) g.told ≡ all
+all_told {all} {left} g none =
+    let entries = map (λ (t : Told). t.entry) g.told in
+    sym (append-nil entries) ∙ ap (λ (es : List Entry). entries ++ es) (sym none) ∙ g.in_order
+
 -- there are fewer lists than bytes
 pub few_lists : (place : ℕ) (lists : List (List ℕ)) → AllByRecursion IsList lists → 20 * length (placed place lists) ≤ length (concat lists)
 few_lists place [] each = omega arith
@@ -57,6 +64,23 @@ told_fewer {all} {left} g =
     let size = length-append (map (λ t. t.entry) g.told) left in
     let whole : length (map (λ t. t.entry) g.told ++ left) ≡ length all = ap (λ (es : List Entry). length es) g.in_order in
     omega (arith, g.next, size, whole, length-entries g.told)
+
+-- whether there are lists is known by how many are told
+pub some_lists : (place : ℕ) (lists : List (List ℕ)) (told : List Told) → map (λ t. t.entry) told ≡ placed place lists → 1 ≤ length told → has_lists lists ≡ true
+some_lists place [] told order some =
+    let size : length (map (λ (t : Told). t.entry) told) ≡ 0 = ap (λ (es : List Entry). length es) order in
+    absurd (omega (arith, some, size, length-entries told))
+some_lists place (list ∷ lists) told order some = refl
+
+pub no_lists : (place : ℕ) (lists : List (List ℕ)) (told : List Told) → map (λ t. t.entry) told ≡ placed place lists → length told ≡ 0 → lists ≡ []
+no_lists place [] told order none = refl
+no_lists place (list ∷ lists) told order none =
+    let size : length (map (λ (t : Told). t.entry) told) ≡ suc (length (placed (place + length list) lists)) = ap (λ (es : List Entry). length es) order in
+    absurd (omega (arith, none, size, length-entries told))
+
+pub with_lists : (lists : List (List ℕ)) (text : List ℕ) → has_lists lists ≡ true → text ++ no_lists_line lists ≡ text
+with_lists [] text is = absurd (false≢true is)
+with_lists (list ∷ lists) text is = append-nil text
 
 pub rest_some : (place : ℕ) (rest : List ℕ) → 0 < length rest → rest_line place rest ≡ codes "REST " ++ place_text place ++ codes " " ++ decimal (length rest) ++ codes "\n"
 rest_some place [] some = absurd (none some)

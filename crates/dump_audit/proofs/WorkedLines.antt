@@ -7,8 +7,7 @@ use Rattle.hii_bytes.specs.declared.cause.Cause.TheVariants.{StringBlock}
 use Rattle.hii_packages.specs.laws.Spelling.{placed}
 use Rattle.browser_rules.specs.Strings.{Spoken, characters}
 use Rattle.dump_audit.specs.Findings.{Refused}
-use Rattle.dump_audit.specs.Lines.{contents_text, line, rest_line}
-use Rattle.dump_audit.specs.Taking.{no_list_text}
+use Rattle.dump_audit.specs.Lines.{contents_text, line, no_list_text, rest_line}
 
 -- a forms package with a FORM_SET and nothing else: its title has the string id 1
 abbrev forms : List ℕ
@@ -31,6 +30,14 @@ a_form_set_in_two_languages = refl
 a_title_without_a_text : contents_text (placed 20 (cut ∷ forms ∷ [])) (german ∷ english ∷ []) ≡ codes "forms 2 6D1E5A10-7C4B-4E0A-9A31-225C60880F01 strings de-DE,en-US #1"
 unfolding number_in digits lib.Utf8.encode
 a_title_without_a_text = refl
+
+-- its language would end a line, and its text turn it
+abbrev hostile : Spoken
+hostile = record { language = codes "x,y\nLIST"; texts = Some (0x2e ∷ 0x20 ∷ 0x78 ∷ 0 ∷ []) ∷ [] }
+
+no_text_breaks_a_line : contents_text (placed 20 (forms ∷ [])) (hostile ∷ []) ≡ codes "forms 1 6D1E5A10-7C4B-4E0A-9A31-225C60880F01 strings x?y?LIST \\u{202e}x"
+unfolding number_in digits characters lib.Utf8.encode
+no_text_breaks_a_line = refl
 
 no_packages : contents_text [] [] ≡ codes "forms 0 strings -"
 unfolding digits

@@ -1,11 +1,11 @@
 -- The lines of a dump (own rule).
-use Rattle.std.specs.Prelude.{◌≡◌, ℕ, suc, Option, None, Some, List, [], ◌∷◌, ◌++◌, length, map, codes, decimal, encode_utf8}
+use Rattle.std.specs.Prelude.{◌≡◌, ℕ, suc, Bool, true, false, Option, None, Some, List, [], ◌∷◌, ◌++◌, length, map, codes, decimal}
 use Rattle.std.specs.List.{AllByRecursion, concat, flat_map}
 use Rattle.browser_rules.specs.Packages.{Package}
 use Rattle.hii_bytes.specs.Texts.{place_text, fault_text}
 use Rattle.hii_dumps.specs.Dumps.{Entry, SpellsDump, placed}
 use Rattle.browser_rules.specs.Strings.{Spoken, shown}
-use Rattle.audit_text.specs.Texts.{joined}
+use Rattle.audit_text.specs.Texts.{joined, language_name, safe_text}
 use Rattle.dump_audit.specs.Contents.{form_sets, forms_in, guid_word, first_title}
 use Rattle.dump_audit.specs.Findings.{Finding, Contents, Refused, IsFound}
 
@@ -17,13 +17,13 @@ head_text number list =
 
 -- the languages of the string packages
 abbrev pub languages_text : List Spoken → List ℕ
-languages_text spoken = joined (codes ",") (map (λ s. s.language) spoken)
+languages_text spoken = joined (codes ",") (map language_name (map (λ s. s.language) spoken))
 
--- the text of a title's string id, where there is one, in UTF-8, as it is shown in the language of the first string package
+-- the text of a title's string id, where there is one, as it is shown in the language of the first string package
 abbrev pub title_text : List Spoken → Option ℕ → List ℕ
 title_text spoken None = []
 title_text spoken (Some id) =
-    codes " " ++ flat_map encode_utf8 (shown spoken (Some 0) id)
+    codes " " ++ safe_text (shown spoken (Some 0) id)
 
 -- how many forms packages there are, the GUIDs of the form sets with which they begin, the languages, the first form set's title
 abbrev pub contents_text : List Package → List Spoken → List ℕ
@@ -56,19 +56,34 @@ rest_line place [] = []
 rest_line place (byte ∷ bytes) =
     codes "REST " ++ place_text place ++ codes " " ++ decimal (length (byte ∷ bytes)) ++ codes "\n"
 
+-- that there is no list of a number
+abbrev pub no_list_text : ℕ → List ℕ
+no_list_text number = codes "NO LIST " ++ decimal number ++ codes "\n"
+
+abbrev pub has_lists : List (List ℕ) → Bool
+has_lists [] = false
+has_lists (list ∷ lists) = true
+
+-- where there is none at all, that is told behind the rest
+abbrev pub no_lists_line : List (List ℕ) → List ℕ
+no_lists_line [] = no_list_text 1
+no_lists_line (list ∷ lists) = []
+
 -- What is found of a list is told.
 abbrev pub IsTold : Told → Type 0
 IsTold told = IsFound told.entry.bytes told.finding
 
--- The text has a line for each list of the dump, in order and numbered from 1, and behind these one for its rest.
-pub record IsSplitText (dump text : List ℕ) : Type 0 where
+-- The text has a line for each list of the dump, in order and numbered from 1, and behind these one for its rest, and one where there is
+-- no list.
+pub record IsSplitText (is_some : Bool) (dump text : List ℕ) : Type 0 where
   pub lists : List (List ℕ)
   pub rest : List ℕ
   pub spelled : SpellsDump dump lists rest
   pub told : List Told
   pub each : AllByRecursion IsTold told
   pub in_order : map (λ t. t.entry) told ≡ placed 0 lists
-  pub written : text ≡ lines 1 told ++ rest_line (length (concat lists)) rest
+  pub some : is_some ≡ has_lists lists
+  pub written : text ≡ lines 1 told ++ rest_line (length (concat lists)) rest ++ no_lists_line lists
 
 -- The text has the lines of the first lists of the dump, in order and numbered from 1, and not yet that of the next one.
 pub record BeginsSplitText (dump text : List ℕ) : Type 0 where

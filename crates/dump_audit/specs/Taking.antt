@@ -1,14 +1,11 @@
 -- A list of a dump is taken by its number (own rule).
-use Rattle.std.specs.Prelude.{◌≡◌, ℕ, Bool, true, false, Option, None, Some, List, ◌++◌, codes, decimal}
+use Rattle.std.specs.Prelude.{◌≡◌, ℕ, Bool, true, false, Option, None, Some, List}
 use Rattle.hii_bytes.specs.declared.watched.Watched.{Watched}
 use Rattle.hii_bytes.specs.Watching.{Pen, Writes, Puts}
 use Rattle.audit_text.specs.Passing.{PassesOn}
 use Rattle.hii_dumps.specs.Dumps.{Entry}
 use Rattle.dump_audit.specs.Findings.{Finding, IsFound}
-use Rattle.dump_audit.specs.Lines.{line}
-
-abbrev pub no_list_text : ℕ → List ℕ
-no_list_text number = codes "NO LIST " ++ decimal number ++ codes "\n"
+use Rattle.dump_audit.specs.Lines.{line, no_list_text}
 
 -- The line of the list of a number was passed on; where there is no such list, that was written.
 abbrev pub TellsList : ℕ → Option Entry → Bool → Pen → Pen → Type 0

@@ -1,13 +1,13 @@
 //! The lines of a dump.
 
-ghost use Rattle.std.specs.Prelude.{◌≡◌, ℕ, List, length, OnOk, OnErr};
+ghost use Rattle.std.specs.Prelude.{◌≡◌, ℕ, List, length, IfOk, OnOk, OnErr};
 ghost use Rattle.std.specs.List.{concat};
 ghost use Rattle.hii_bytes.specs.Watching.{Puts};
 ghost use Rattle.hii_dumps.specs.code.Lists.{entry_of};
 ghost use Rattle.hii_packages.specs.Packages.{packages_of};
 ghost use Rattle.browser_rules.specs.Strings.{Spoken};
 ghost use Rattle.dump_audit.specs.Findings.{Finding, IsFound};
-ghost use Rattle.dump_audit.specs.Lines.{contents_text, head_text, line, rest_line, IsSplitText, BeginsSplitText};
+ghost use Rattle.dump_audit.specs.Lines.{contents_text, head_text, line, no_list_text, rest_line, IsSplitText, BeginsSplitText};
 ghost use Rattle.dump_audit.specs.code.Heard.{heard_of};
 
 use crate::contents::{forms_count, put_form_sets};
@@ -89,14 +89,23 @@ pub fn put_rest<W: Write>(dump: &Dump<'_>, out: &mut Watched<W>)
     out.put(b"\n");
 }
 
-/// Writes a line for each list of a dump, in order and numbered from 1, and one for its rest (own rule). Where an allocation fails
-/// these are the lines of the lists before the one that it was for.
+/// Writes that there is no list of a number (own rule).
+pub(crate) fn put_no_list<W: Write>(number: u64, out: &mut Watched<W>)
+    ensures { Puts W.contents out.old out.new (no_list_text number) }
+{
+    out.put(b"NO LIST ");
+    out.put_decimal(number);
+    out.put(b"\n");
+}
+
+/// Writes a line for each list of a dump, in order and numbered from 1, one for its rest, and one where there is no list. Tells whether
+/// there is one (own rule). Where an allocation fails these are the lines of the lists before the one that it was for.
 pub fn put_split<W: Write>(
     alloc: Global,
     dump: &[u8],
     out: &mut Watched<W>,
-) -> Result<(), AllocError>
-    ensures told { OnOk result ((text : List ℕ) × IsSplitText dump.now text
+) -> Result<bool, AllocError>
+    ensures told { IfOk result (λ is_some. (text : List ℕ) × IsSplitText is_some dump.now text
         × Puts W.contents out.old out.new text) }
     ensures begun { OnErr result ((text : List ℕ) × BeginsSplitText dump.now text
         × Puts W.contents out.old out.new text) }
@@ -108,5 +117,9 @@ pub fn put_split<W: Write>(
         number += 1;
     }
     put_rest(&split, out);
-    Ok(())
+    if number > 1 {
+        return Ok(true);
+    }
+    put_no_list(1, out);
+    Ok(false)
 }

@@ -1,10 +1,11 @@
 //! What the string packages of a list tell.
 
-ghost use Rattle.std.specs.Prelude.{◌≡◌, codes, encode_utf8};
-ghost use Rattle.std.specs.List.{flat_map};
+ghost use Rattle.std.specs.Prelude.{◌≡◌, codes};
+ghost use Rattle.audit_text.specs.Texts.{safe_text};
 ghost use Rattle.hii_bytes.specs.Watching.{Puts};
 ghost use Rattle.hii_languages.specs.code.Views.{chars_left};
 
+use audit_text::{put_language, put_safe_char};
 use hii_bytes::{Fault, Watched};
 use hii_languages::{Shown, ShownChars};
 use hii_packages::{PackageList, STRINGS};
@@ -33,13 +34,13 @@ impl<'a> Model for ListStrings<'a> {
 }
 
 impl<'a> ListStrings<'a> {
-    ghost use Rattle.std.specs.Prelude.{◌≡◌, [], IfOk, IfErr, option_map};
+    ghost use Rattle.std.specs.Prelude.{◌≡◌, [], IfOk, IfErr, map, option_map};
     ghost use Rattle.browser_rules.specs.Faults.{string_faults};
     ghost use Rattle.browser_rules.specs.Strings.{spoken_in};
     ghost use Rattle.hii_bytes.specs.Faults.{RefusesAmong};
     ghost use Rattle.sibt_strings.specs.code.Views.{units_in};
     ghost use Rattle.hii_languages.specs.code.Views.{text_of};
-    ghost use Rattle.audit_text.specs.Texts.{joined};
+    ghost use Rattle.audit_text.specs.Texts.{joined, language_name};
     ghost use Rattle.dump_audit.specs.code.Heard.{heard_of, text_in_first, shown_in_first};
 
     /// Reads each string package once, in memory for the texts of two at most; or gives the least fault of the first that has one,
@@ -63,16 +64,17 @@ impl<'a> ListStrings<'a> {
 
     /// Writes the languages, joined by commas, or a hyphen where there are none.
     pub(crate) fn put_languages<W: Write>(&self, out: &mut Watched<W>)
-        ensures { Puts W.contents out.old out.new (joined (codes ",") self.now.languages) }
+        ensures { Puts W.contents out.old out.new (joined (codes ",")
+            (map language_name self.now.languages)) }
     {
         let Some((first, others)) = self.languages.split_first() else {
             out.put(b"-");
             return;
         };
-        out.put(first);
+        put_language(out, first);
         for language in others {
             out.put(b",");
-            out.put(language);
+            put_language(out, language);
         }
     }
 
@@ -97,12 +99,12 @@ impl<'a> ListStrings<'a> {
     }
 }
 
-/// Writes a text in UTF-8.
+/// Writes a text, each character of which is safe in a line.
 pub(crate) fn put_chars<W: Write>(text: ShownChars<'_>, out: &mut Watched<W>)
-    ensures { Puts W.contents out.old out.new (flat_map encode_utf8 (chars_left text.entry)) }
+    ensures { Puts W.contents out.old out.new (safe_text (chars_left text.entry)) }
 {
     let mut text = text;
     while let Some(c) = text.next() {
-        out.put_char(c);
+        put_safe_char(out, c);
     }
 }

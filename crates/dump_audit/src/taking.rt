@@ -6,7 +6,7 @@ ghost use Rattle.hii_bytes.specs.Watching.{has_failed, inner_of, pen_of};
 ghost use Rattle.hii_dumps.specs.Dumps.{SpellsDump, nth_list};
 ghost use Rattle.dump_audit.specs.Taking.{TellsList, TakesBytes};
 
-use crate::lines::put_list;
+use crate::lines::{put_list, put_no_list};
 use hii_bytes::Watched;
 use hii_dumps::Dump;
 use std::alloc::{AllocError, Global};
@@ -34,9 +34,7 @@ pub fn put_taken<W: Write + Drop, F: Write>(
     ensures nothing_taken { OnErr result (file.new ≡ file.old) }
 {
     let Some(list) = Dump::read(dump).list(number) else {
-        out.put(b"NO LIST ");
-        out.put_decimal(number);
-        out.put(b"\n");
+        put_no_list(number, out);
         return Ok(false);
     };
     put_list(alloc, number, list, out)?;

@@ -1,9 +1,9 @@
 -- The stores of a form set that hold bytes, and what they are filled with (own rule).
-use Rattle.std.specs.Prelude.{ℕ, ◌==◌, Bool, true, false, List, [], ◌++◌, filter, is_some, length, replicate, unwrap_or, codes, decimal, string_bytes}
+use Rattle.std.specs.Prelude.{ℕ, ◌==◌, Bool, true, false, List, [], ◌++◌, filter, is_some, length, replicate, unwrap_or, chars, codes, decimal, string_bytes}
 use Rattle.ifr_opcodes.specs.Forest.{Node}
 use Rattle.ifr_nodes.specs.Nodes.{is_store}
 use Rattle.ifr_scopes.specs.Stores.{store_id, store_name, store_size}
-use Rattle.audit_text.specs.Texts.{ascii_name}
+use Rattle.audit_text.specs.Texts.{ascii_name, safe_text}
 use Rattle.hii_varstore.specs.Stores.{Store}
 use Rattle.store_audit.specs.declared.fillings.Source.{Source}
 use Rattle.store_audit.specs.declared.fillings.Source.TheVariants.{File, Zeros, Missing}
@@ -46,8 +46,9 @@ store_from n source = record { id = store_id n.op; bytes = bytes_given n source 
 abbrev pub names_text : Node → List ℕ
 names_text n = decimal (store_id n.op) ++ codes " " ++ ascii_name (store_name n.op)
 
+-- a path stands in a line as other texts do
 abbrev pub source_text : Source → List ℕ
-source_text (File path bytes) = string_bytes path
+source_text (File path bytes) = safe_text (chars (string_bytes path))
 source_text Zeros = codes "zeros"
 source_text Missing = codes "-"
 

@@ -16,7 +16,7 @@ ghost use Rattle.store_audit.specs.Images.{PutsImage};
 ghost use Rattle.store_audit.specs.code.Fillings as spec;
 
 use crate::declared::Declared;
-use audit_text::put_ascii_name;
+use audit_text::{put_ascii_name, put_safe_text};
 use hii_bytes::{Fault, Watched};
 use hii_varstore::Stores;
 use hii_varstore::laws::{images_are_read_back, one_map_is_spelled};
@@ -77,14 +77,14 @@ impl Filling<'_> {
         }
     }
 
-    // The path of the file, or a word for what is no file.
-    fn source_text(&self) -> &[u8]
-        ensures { result.now ≡ source_text self.now.source }
+    // Writes the path of the file, or a word for what is no file.
+    fn put_source<W: Write>(&self, out: &mut Watched<W>)
+        ensures { Puts W.contents out.old out.new (source_text self.now.source) }
     {
         match &self.source {
-            Source::File { path, .. } => path.as_bytes(),
-            Source::Zeros => b"zeros",
-            Source::Missing => b"-",
+            Source::File { path, .. } => put_safe_text(out, path.as_str()),
+            Source::Zeros => out.put(b"zeros"),
+            Source::Missing => out.put(b"-"),
         }
     }
 }
@@ -144,7 +144,7 @@ fn put_filling<W: Write>(filling: &Filling<'_>, out: &mut Watched<W>)
     out.put(b" ");
     out.put_decimal(filling.given() as u64);
     out.put(b" ");
-    out.put(filling.source_text());
+    filling.put_source(out);
     out.put(b"\n");
 }
 

@@ -1,14 +1,19 @@
 use Rattle.std.proofs.Common.{ap, refl}
 use Rattle.hii_bytes.specs.declared.cause.Fault.{Fault}
 use Rattle.audit_commands.specs.Splitting.{SaysLists}
-use Rattle.audit_commands.specs.declared.ended.Ended.TheVariants.{Done}
+use Rattle.audit_commands.specs.declared.ended.Ended.TheVariants.{Done, Refused}
 use Rattle.audit_commands.proofs.EndingLemmas.{tells, tells_refusal}
 use Rattle.audit_commands.proofs.split.tell.Goals as goal
 
-pub returns-in-Ok : goal.returns-in-Ok
-returns-in-Ok g c =
-    let told = rw c.as_slice.ensures.value at c.in-Ok.ensures.told in
+pub returns-in-Ok-true : goal.returns-in-Ok-true
+returns-in-Ok-true g c =
+    let told = rw (c.as_slice.ensures.value, c.in-Ok-true.field-0-test) at c.in-Ok-true.ensures.told in
     tells (SaysLists c.args.dump.now.bytes.items) g.A.Write.contents c.args.answers.now c.finish.new.answers _ Done c.finish.result told.0 told.1 told.2 c.finish.ensures
+
+pub returns-in-Ok-false : goal.returns-in-Ok-false
+returns-in-Ok-false g c =
+    let told = rw (c.as_slice.ensures.value, c.in-Ok-false.field-0-test) at c.in-Ok-false.ensures.told in
+    tells (SaysLists c.args.dump.now.bytes.items) g.A.Write.contents c.args.answers.now c.finish-in-Ok-false.new.answers _ Refused c.finish-in-Ok-false.result told.0 told.1 told.2 c.finish-in-Ok-false.ensures
 
 pub returns-in-Err : goal.returns-in-Err
 returns-in-Err g c =

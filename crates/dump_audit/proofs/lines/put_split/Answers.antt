@@ -1,10 +1,10 @@
-use Rattle.std.proofs.Common.{◌≤◌, ◌<◌, ◌^◌, ◌++◌, length, map, refl, sym, ap, ◌∙◌, arith, rules, length-append}
+use Rattle.std.proofs.Common.{◌≤◌, ◌<◌, ◌^◌, ◌++◌, length, refl, sym, ap, ◌∙◌, subst, arith, rules, length-append}
 use Rattle.std.specs.List.{concat}
-use Rattle.std.proofs.lemmas.List.{append-nil}
+use Rattle.hii_bytes.specs.Watching.{Writes}
 use Rattle.hii_bytes.proofs.WritingLemmas.{writes_trans}
 use Rattle.hii_dumps.specs.code.Lists.{entry_of}
-use Rattle.dump_audit.specs.Lines.{Told}
-use Rattle.dump_audit.proofs.LineLemmas.{goes_more, told_fewer, few_lists}
+use Rattle.dump_audit.specs.Lines.{has_lists, lines, no_lists_line, rest_line}
+use Rattle.dump_audit.proofs.LineLemmas.{all_told, few_lists, goes_more, no_lists, some_lists, told_fewer, with_lists}
 use Rattle.dump_audit.proofs.lines.put_split.Goals as goal
 
 pub overflow_add-number : goal.overflow_add-number
@@ -22,9 +22,26 @@ loop-list-preserved g c =
     let said = c.in_ok-put_list.ensures.told in
     goes_more (record { entry = entry_of c.in-Some.list; finding = said.0 }) c.loop-list.invariant c.in-Some.ensures.steps said.1 said.2
 
+pub returns-then-number-gt1-clause-told : goal.returns-then-number-gt1-clause-told
+returns-then-number-gt1-clause-told g c =
+    let goes = c.loop-list.invariant in
+    let lists = c.read-split.result.lists in
+    let order = all_told goes c.in-None.ensures.steps.0 in
+    let some = some_lists 0 lists goes.told order (omega (arith, goes.next, c.if-number-gt1.true)) in
+    let text = lines 1 goes.told ++ rest_line (length (concat lists)) c.read-split.result.rest in (
+      _,
+      record { lists = lists; rest = c.read-split.result.rest; spelled = c.read-split.ensures; told = goes.told; each = goes.each; in_order = order; some = sym some; written = refl },
+      subst (Writes _ _) (sym (with_lists lists text some)) (writes_trans goes.written c.put_rest.ensures),
+    )
+
 pub returns-clause-told : goal.returns-clause-told
 returns-clause-told g c =
     let goes = c.loop-list.invariant in
-    let entries = map (λ (t : Told). t.entry) goes.told in
-    let order = sym (append-nil entries) ∙ ap (λ es. entries ++ es) (sym c.in-None.ensures.steps.0) ∙ goes.in_order in
-    (_, record { lists = c.read-split.result.lists; rest = c.read-split.result.rest; spelled = c.read-split.ensures; told = goes.told; each = goes.each; in_order = order; written = refl }, writes_trans goes.written c.put_rest.ensures)
+    let lists = c.read-split.result.lists in
+    let order = all_told goes c.in-None.ensures.steps.0 in
+    let none = no_lists 0 lists goes.told order (omega (arith, goes.next, c.if-number-gt1.false)) in
+    let text = lines 1 goes.told ++ rest_line (length (concat lists)) c.read-split.result.rest in (
+      _,
+      record { lists = lists; rest = c.read-split.result.rest; spelled = c.read-split.ensures; told = goes.told; each = goes.each; in_order = order; some = sym (ap has_lists none); written = refl },
+      subst (Writes _ _) (ap (λ l. text ++ l) (sym (ap no_lists_line none))) (writes_trans (writes_trans goes.written c.put_rest.ensures) c.put_no_list.ensures),
+    )
