@@ -1,7 +1,8 @@
 -- What a form set that is browsed is seen as, for proofs that look into it.
 use Rattle.ifr_scopes.specs.code.Lists.{form_node}
 use Rattle.hii_languages.specs.code.Views.{choice_of}
-use Rattle.std.proofs.Common.{◌≡◌, sym, ap, ◌∙◌}
+use Rattle.std.proofs.Common.{◌≡◌, Bool, false, sym, ap, ◌∙◌}
+use Rattle.std.specs.Vec.{vec_capacity}
 use Rattle.hii_varstore.specs.Stores.{StoreMap, shape_of}
 use Rattle.kept_conditions.specs.Kept.{KeptMap}
 use Rattle.session_steps.specs.Opening.{layout_in}
@@ -29,20 +30,20 @@ shown_in c = record { state = state_in c; renewed = c.working.renewed }
 -- what holds of a browser at all times
 abbrev pub IsStanding : Inside → Type 0
 IsStanding c =
-    Stands c.forms c.varstores c.questions c.committed c.working c.spare (form_node c.form) c.history.items
+    Stands c.forms c.varstores c.questions c.committed c.working c.spare c.is_written (vec_capacity c.changed) (form_node c.form) c.history.items
 
 -- what it is seen as with other working stores
 abbrev pub with_stores : Inside → KeptMap → Shown
 with_stores c now = record { state = record (state_in c) { working = now.stores }; renewed = now.renewed }
 
--- what holds of it with other working and spare stores
-abbrev pub IsStandingWith : Inside → KeptMap → StoreMap → Type 0
-IsStandingWith c now spare =
-    Stands c.forms c.varstores c.questions c.committed now spare (form_node c.form) c.history.items
+-- what holds of it with other working and spare stores, which may have been written
+abbrev pub IsStandingWith : Inside → KeptMap → StoreMap → Bool → Type 0
+IsStandingWith c now spare is_written =
+    Stands c.forms c.varstores c.questions c.committed now spare is_written (vec_capacity c.changed) (form_node c.form) c.history.items
 
 -- It holds where both are as they were,
-pub stands_still : (c : Inside) (now : KeptMap) → IsStanding c → now.ifr ≡ c.working.ifr → now.stores ≡ c.working.stores → IsStandingWith c now c.spare
-stands_still c now stands same_package stores = record {
+pub stands_still : (c : Inside) (now : KeptMap) (is_written : Bool) → IsStanding c → now.ifr ≡ c.working.ifr → now.stores ≡ c.working.stores → (is_written ≡ false → c.is_written ≡ false) → IsStandingWith c now c.spare is_written
+stands_still c now is_written stands same_package stores unwritten = record {
   named_stores = stands.named_stores;
   buffers = stands.buffers;
   together = stands.together;
@@ -51,13 +52,15 @@ stands_still c now stands same_package stores = record {
   kept = same_package ∙ stands.kept;
   laid = ap shape_of stores ∙ stands.laid;
   same = stands.same ∙ sym stores;
+  unwritten = λ e. stands.unwritten (unwritten e) ∙ sym stores;
+  told = stands.told;
   node = stands.node;
   left = stands.left;
 }
 
 -- and where both are of the layout and the same.
-pub stands_with : (c : Inside) (now : KeptMap) (spare : StoreMap) → IsStanding c → now.ifr ≡ c.working.ifr → shape_of spare ≡ layout_in c.forms → spare ≡ now.stores → IsStandingWith c now spare
-stands_with c now spare stands same_package laid same = record {
+pub stands_with : (c : Inside) (now : KeptMap) (spare : StoreMap) (is_written : Bool) → IsStanding c → now.ifr ≡ c.working.ifr → shape_of spare ≡ layout_in c.forms → spare ≡ now.stores → (is_written ≡ false → c.committed ≡ now.stores) → IsStandingWith c now spare is_written
+stands_with c now spare is_written stands same_package laid same unwritten = record {
   named_stores = stands.named_stores;
   buffers = stands.buffers;
   together = stands.together;
@@ -66,6 +69,8 @@ stands_with c now spare stands same_package laid same = record {
   kept = same_package ∙ stands.kept;
   laid = sym (ap shape_of same) ∙ laid;
   same = same;
+  unwritten = unwritten;
+  told = stands.told;
   node = stands.node;
   left = stands.left;
 }

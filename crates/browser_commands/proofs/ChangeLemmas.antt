@@ -1,24 +1,26 @@
 -- Questions whose fields hold other bytes than when they were last submitted.
-use Rattle.std.proofs.Common.{Bor, ◌≡◌, ℕ, suc, map, ◌+◌, ◌≤◌, Bool, true, false, cond, Option, Some, None, option_map, List, [], ◌∷◌, ◌++◌, length, inl, inr, refl, sym, ap, ◌∙◌, arith, append_assoc, IsSome}
-use Rattle.std.specs.Prelude.{◌&&◌, Contains, filter, slice_range, option_copied, IsSomeAnd, MatchOption}
+use Rattle.std.proofs.Common.{Bor, ◌≡◌, ℕ, map, ◌+◌, ◌≤◌, Bool, true, false, cond, Option, Some, None, option_map, List, [], ◌∷◌, ◌++◌, length, inl, inr, refl, sym, ap, ◌∙◌, arith, append-nil, IsSome}
+use Rattle.std.specs.Prelude.{◌&&◌, not, Contains, filter, slice_range, option_copied, IsSomeAnd, MatchOption}
 use Rattle.std.specs.List.{flat_map}
-use Rattle.std.proofs.lemmas.Bool.{cases_Bool, eqb-false}
+use Rattle.std.proofs.lemmas.Bool.{and_right, cases_Bool, eqb-false}
+use Rattle.std.proofs.lemmas.List.{length-map}
+use Rattle.std.proofs.lemmas.Simd.{map-map}
 use Rattle.std.proofs.lemmas.List.Edits.{length-between}
+use Rattle.std.proofs.lemmas.List.Folds.{flat_map-map}
+use Rattle.std.proofs.lemmas.Slice.Eq.{bytes_eq-Decides}
 use Rattle.hii_bytes.specs.Faults.{HasNone}
-use Rattle.hii_bytes.specs.Watching.{Pen, Writes}
-use Rattle.hii_bytes.specs.code.Writing.{Stands}
-use Rattle.hii_bytes.proofs.WritingLemmas.{writes_trans}
 use Rattle.ifr_opcodes.specs.Fields.{question_id}
 use Rattle.ifr_opcodes.specs.Forest.{Node}
 use Rattle.ifr_nodes.specs.Nodes.{nodes_of, is_question}
 use Rattle.ifr_nodes.proofs.ViewLemmas.{further}
-use Rattle.hii_varstore.specs.Stores.{StoreMap, shape_of, bytes_of, bytes_of_field}
+use Rattle.hii_varstore.specs.Stores.{StoreMap, are_same_bytes, shape_of, bytes_of, bytes_of_field}
 use Rattle.hii_varstore.specs.code.Ranges.{HasRange, IsCut}
 use Rattle.hii_varstore.proofs.WriteLemmas.{sizes}
 use Rattle.hii_varstore.specs.StoreNodes.{layout_of}
 use Rattle.hii_questions.specs.Changes.{field_bytes, holds_others}
-use Rattle.hii_questions.specs.Fields.{Field, Asked, asked, questions}
+use Rattle.hii_questions.specs.Fields.{Field, Asked, asked, field_of, questions}
 use Rattle.hii_questions.specs.Faults.{IsQuestionFault}
+use Rattle.hii_questions.specs.code.Ids.{ids_of}
 use Rattle.hii_questions.specs.code.LyingIn.{LiesIn, LieIn}
 use Rattle.hii_questions.proofs.LawLemmas.{holds_fields}
 use Rattle.session_steps.specs.State.{State}
@@ -87,41 +89,40 @@ others s (n ∷ ns) = one_more s n ns (is_question n) (others s ns)
 pub changed_is : (s : State) → map (λ q. q.node) (filter (is_other_field s) (questions (nodes_of s.ifr))) ≡ changed s
 changed_is s = others s (nodes_of s.ifr)
 
-as_many : (qs : List Asked) → length (map (λ q. q.node) qs) ≡ length qs
-as_many [] = refl
-as_many (q ∷ qs) = ap (λ (n : ℕ). suc n) (as_many qs)
-
-same_texts : (qs : List Asked) → flat_map (λ q. changed_text (question_id q.node.op)) qs ≡ flat_map (λ n. changed_text (question_id n.op)) (map (λ q. q.node) qs)
-same_texts [] = refl
-same_texts (q ∷ qs) = ap (λ (l : List ℕ). changed_text (question_id q.node.op) ++ l) (same_texts qs)
-
 -- ---- their texts
 
--- the texts of some that have changed
-abbrev pub told : List Asked → List ℕ
-told qs = flat_map (λ q. changed_text (question_id q.node.op)) qs
+-- the ids of the questions that have changed
+changed_ids : (s : State) → ids_of (filter (is_other_field s) (questions (nodes_of s.ifr))) ≡ map (λ n. question_id n.op) (changed s)
+changed_ids s =
+    sym (map-map (λ (n : Node). question_id n.op) (λ (q : Asked). q.node) (filter (is_other_field s) (questions (nodes_of s.ifr))))
+    ∙ ap (map (λ (n : Node). question_id n.op)) (changed_is s)
 
--- how many they are
-counts : (s : State) (qs : List Asked) → map (λ q. q.node) qs ≡ changed s → length qs ≡ length (changed s)
-counts s qs are = sym (as_many qs) ∙ ap (λ (ns : List Node). length ns) are
+-- how many they are, and a line for each
+pub told : (s : State) (ids : List ℕ) → ids ≡ ids_of (filter (is_other_field s) (questions (nodes_of s.ifr))) → count_text (length ids) ++ flat_map changed_text ids ≡ (commit s).text
+told s ids are =
+    let id : Node → ℕ = λ n. question_id n.op in
+    ap (λ (l : List ℕ). count_text (length l) ++ flat_map changed_text l) (are ∙ changed_ids s)
+    ∙ ap (λ (n : ℕ). count_text n ++ flat_map changed_text (map id (changed s))) (length-map (changed s) id)
+    ∙ ap (λ (l : List ℕ). count_text (length (changed s)) ++ l) (flat_map-map changed_text id (changed s))
 
--- the count is written, and they stand to be written
-pub told_start : {a b : Pen} (s : State) (qs : List Asked) (count : ℕ) → count ≡ length qs → map (λ q. q.node) qs ≡ changed s → Writes a b (count_text count) → Stands a b (commit s).text (told qs)
-told_start {a} {b} s qs count counted are wrote =
-    let texts : flat_map (λ (n : Node). changed_text (question_id n.op)) (changed s) ≡ told qs = ap (λ (ns : List Node). flat_map (λ (n : Node). changed_text (question_id n.op)) ns) (sym are) ∙ sym (same_texts qs) in
-    let number = counted ∙ counts s qs are in
-    record {
-      front = count_text count;
-      parts = ap (λ (n : ℕ). count_text n ++ flat_map (λ (n : Node). changed_text (question_id n.op)) (changed s)) (sym number) ∙ ap (λ (l : List ℕ). count_text count ++ l) texts;
-      written = wrote;
-    }
+-- ---- where the stores are those that were last submitted
 
--- the next of them is written
-pub told_more : {a b c : Pen} {text : List ℕ} (q : Asked) (qs left : List Asked) (id : ℕ) → qs ≡ q ∷ left → id ≡ question_id q.node.op → Stands a b text (told qs) → Writes b c (changed_text id) → Stands a c text (told left)
-told_more {a} {b} {c} {text} q qs left id e same stands wrote =
-    let here : told qs ≡ changed_text id ++ told left = rw (e, same) refl in
-    record {
-      front = stands.front ++ changed_text id;
-      parts = stands.parts ∙ ap (λ (l : List ℕ). stands.front ++ l) here ∙ sym (append_assoc stands.front (changed_text id) (told left));
-      written = writes_trans stands.written wrote;
-    }
+same_bytes : (bytes : Option (List ℕ)) → are_same_bytes bytes bytes ≡ true
+same_bytes None = refl
+same_bytes (Some bytes) = (bytes_eq-Decides bytes bytes).1 refl
+
+unchanged : (s : State) → s.committed ≡ s.working → (n : Node) → is_changed s n ≡ false
+unchanged s same n =
+    let field = field_of (nodes_of s.ifr) n in
+    and_right (is_question n) (is_other s n) (ap (λ (m : StoreMap). not (are_same_bytes (field_bytes m field) (field_bytes s.working field))) same ∙ ap not (same_bytes (field_bytes s.working field)))
+
+none_passes : (p : Node → Bool) (ns : List Node) → ((n : Node) → p n ≡ false) → filter p ns ≡ []
+none_passes p [] none = refl
+none_passes p (n ∷ ns) none = rw (none n) (none_passes p ns none)
+
+-- no question has changed, so a submit tells none, and leaves the state
+pub none_told : (s : State) → s.committed ≡ s.working → count_text 0 ≡ (commit s).text
+none_told s same = rw (none_passes (is_changed s) (nodes_of s.ifr) (unchanged s same)) (sym (append-nil (count_text 0)))
+
+pub nothing_submitted : (s : State) → s.committed ≡ s.working → s ≡ (commit s).state
+nothing_submitted s same = ap (λ (m : StoreMap). record s { committed = m }) same

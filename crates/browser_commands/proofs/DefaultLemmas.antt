@@ -1,15 +1,19 @@
 -- The questions of a form take their defaults, one after the other.
-use Rattle.std.proofs.Common.{◌≡◌, ℕ, ◌+◌, Bool, true, false, cond, List, [], ◌∷◌, ◌++◌, length, refl, sym, ap, ◌∙◌, subst, arith, append-nil, append_assoc, length-append, Option, Some, Ok, Err}
+use Rattle.std.proofs.Common.{◌≡◌, ℕ, ◌+◌, Bool, true, false, cond, List, [], ◌∷◌, ◌++◌, length, refl, sym, ap, ◌∙◌, subst, arith, append-nil, append_assoc, length-append, Option, Some, Ok, Err, inl, inr}
 use Rattle.std.specs.Prelude.{filter}
-use Rattle.std.proofs.lemmas.Bool.{cond-true}
+use Rattle.std.proofs.lemmas.Bool.{cases_Bool, cond-true}
 use Rattle.ifr_opcodes.specs.Forest.{Node}
+use Rattle.ifr_opcodes.specs.Opcode.{number}
+use Rattle.ifr_opcodes.proofs.StatementLemmas.{question_is_statement}
 use Rattle.ifr_nodes.specs.Nodes.{nodes_of, is_question, statements}
+use Rattle.ifr_scopes.specs.code.Giving.{is_giving}
 use Rattle.ifr_scopes.specs.code.Lists.{form_node}
 use Rattle.hii_languages.specs.code.Views.{choice_of}
 use Rattle.ifr_defaults.specs.Defaults as defaults
 use Rattle.ifr_defaults.specs.Defaults.{default_of}
 use Rattle.ifr_defaults.specs.code.DefaultSources.{IsSource, gives}
 use Rattle.ifr_defaults.specs.declared.defaults.DefaultSource.{DefaultSource}
+use Rattle.ifr_defaults.proofs.NoSourceLemmas.{no_default}
 use Rattle.ifr_defaults.proofs.SourceLemmas.{gives_default}
 use Rattle.hii_varstore.specs.Stores.{StoreMap, shape_of}
 use Rattle.hii_questions.specs.Fields as fields
@@ -124,6 +128,32 @@ takes_next it class ns n rest left start old new count took e takes h =
     writes_next : (t : Bool) → field_writes (nodes_in it) (cond t (h.questions ++ n ∷ []) h.questions) ≡ field_writes (nodes_in it) h.questions ++ cond t (field_write (nodes_in it) n) []
     writes_next true = one_more (nodes_in it) h.questions n
     writes_next false = sym (append-nil (field_writes (nodes_in it) h.questions))
+
+-- those that do not give a default leave everything as it is
+giving_taken : (class : ℕ) (t : Taken) (ns : List Node) → take_each class t (filter is_question (filter is_giving ns)) ≡ take_each class t (filter is_question ns)
+giving_taken class t [] = refl
+giving_taken class t (n ∷ ns) = elim (cases_Bool (is_question n)) [
+  | inl asks ↦ elim (cases_Bool (is_giving n)) [
+    | inl is ↦ rw (is, asks) (giving_taken class (take_default class t n) ns)
+    | inr other ↦
+        let stays : take_default class t n ≡ t = ap (take_offer t n) (no_default (sources t.state) n class (question_is_statement (number n.op) asks) other) in
+        rw (other, asks) (giving_taken class t ns ∙ ap (λ (u : Taken). take_each class u (filter is_question ns)) (sym stays))
+  ]
+  | inr plain ↦ elim (cases_Bool (is_giving n)) [
+    | inl is ↦ rw (is, plain) (giving_taken class t ns)
+    | inr other ↦ rw (other, plain) (giving_taken class t ns)
+  ]
+]
+
+pub takes_giving : (it : Sources) (class : ℕ) (ns : List Node) (start now : KeptMap) (count : ℕ) → TakeDefaults it class (filter is_giving ns) [] start now count → TakeDefaults it class ns [] start now count
+takes_giving it class ns start now count h = record {
+  questions = h.questions;
+  counted = h.counted;
+  leaves = λ s its. sym (giving_taken class record { state = s; questions = [] } ns) ∙ h.leaves s its;
+  renewed = h.renewed;
+  same_package = h.same_package;
+  shape = h.shape;
+}
 
 -- it is still the package's
 pub still_browsed : (it : Sources) (class : ℕ) (ns left : List Node) (old new : KeptMap) (count : ℕ) → IsBrowsed it.policy old → TakeDefaults it class ns left old new count → IsBrowsed it.policy new

@@ -1,5 +1,5 @@
 -- Questions that take a value in a form set that is browsed.
-use Rattle.std.proofs.Common.{◌≡◌, ℕ, List, ◌++◌, Option, Some, None, Result, Ok, Err, refl, sym, ap, subst, ◌∙◌, append-nil}
+use Rattle.std.proofs.Common.{◌≡◌, ℕ, true, List, ◌++◌, Option, Some, None, Result, Ok, Err, refl, sym, ap, subst, ◌∙◌, append-nil}
 use Rattle.ifr_opcodes.specs.Forest.{Node}
 use Rattle.ifr_nodes.specs.Nodes.{nodes_of}
 use Rattle.hii_varstore.specs.Stores.{StoreMap, shape_of, with_bytes}
@@ -60,10 +60,11 @@ denies policy core shown q offer now denial same its sets = (sets.1 shown.state 
 
 -- the spare stores follow in the field
 pub stands_set : (core : Inside) (now : KeptMap) (spare : StoreMap) (field : Field) → IsStanding core → now ≡ put_in core.working field → spare ≡ with_bytes core.spare field.store field.offset (new_bytes field)
-    → shape_of spare ≡ shape_of core.spare → IsStandingWith core now spare
+    → shape_of spare ≡ shape_of core.spare → IsStandingWith core now spare true
 stands_set core now spare field stands is follows shape =
-    stands_with core now spare stands (ap (λ (m : KeptMap). m.ifr) is) (shape ∙ ap shape_of stands.same ∙ stands.laid)
+    stands_with core now spare true stands (ap (λ (m : KeptMap). m.ifr) is) (shape ∙ ap shape_of stands.same ∙ stands.laid)
     (follows ∙ ap (λ (m : StoreMap). with_bytes m field.store field.offset (new_bytes field)) stands.same ∙ sym (ap (λ (m : KeptMap). m.stores) is))
+    (λ e. absurd cc)
 
 -- so it is with the question of an id
 pub sets_named : (s now : Shown) (q : Option Node) (n : Node) (offer : Offer) (r : Result (Unit {0}) Denial) → q ≡ Some n → Changes s n offer now r → Sets s q offer now r

@@ -44,11 +44,16 @@ pub struct Browser<'a> {
     pub(crate) working: KeptStores<'a>,
     // what the working stores held before a command
     pub(crate) spare: Stores,
+    // whether the working stores may hold other bytes than when they were last submitted
+    pub(crate) is_written: bool,
+    // the ids of the questions that a submit tells, with room for all
+    pub(crate) changed: Vec<u16>,
     pub(crate) form: Form<'a>,
     pub(crate) history: History,
 }
 
 impl<'a> Model for Browser<'a> {
+    ghost use Rattle.std.specs.Prelude.{vec_capacity};
     ghost use Rattle.hii_languages.specs.code.Views.{choice_of};
     ghost use Rattle.ifr_scopes.specs.code.Lists.{form_node};
     ghost use Rattle.session_steps.specs.Renewed.{Shown};
@@ -72,7 +77,7 @@ impl<'a> Model for Browser<'a> {
     } };
 
     ghost invariant = { λ c. Stands c.forms c.varstores c.questions c.committed c.working c.spare
-        (form_node c.form) c.history.items };
+        c.is_written (vec_capacity c.changed) (form_node c.form) c.history.items };
 }
 
 impl<'a> Browser<'a> {
@@ -109,6 +114,8 @@ impl<'a> Browser<'a> {
             committed: held.committed,
             working: held.working,
             spare: held.spare,
+            is_written: false,
+            changed: held.changed,
             form,
             history: History::new(),
         })

@@ -4,7 +4,7 @@ ghost use Rattle.std.specs.Prelude.{◌≡◌, ◌<◌, ◌^◌, [], IfSome, len
 ghost use Rattle.hii_bytes.specs.Watching.{Puts};
 ghost use Rattle.ifr_nodes.specs.code.Checked.{AreNodesOf, IsNodeOf};
 ghost use Rattle.ifr_scopes.specs.code.Lists.{statement_node};
-ghost use Rattle.ifr_scopes.specs.code.StatementsLeft.{statements_of_left};
+ghost use Rattle.ifr_scopes.specs.code.GivingLeft.{giving_left};
 ghost use Rattle.ifr_nodes.specs.Nodes.{nodes_of};
 ghost use Rattle.ifr_defaults.specs.code.DefaultSources.{gives};
 ghost use Rattle.hii_questions.specs.code.Offers.{offer_of};
@@ -28,7 +28,7 @@ use hii_questions::{DenialKind, Input, Question};
 use hii_varstore::Stores;
 use ifr_defaults::{DefaultSource, default_source};
 use ifr_scopes::laws::{statements_are_few, statements_are_nodes};
-use ifr_scopes::{Statement, StatementKind, StatementsOf};
+use ifr_scopes::{GivingStatements, Statement, StatementKind};
 use kept_conditions::KeptStores;
 use session_steps::Reply;
 use std::io::Write;
@@ -139,16 +139,16 @@ impl<'a, 's> Sources<'a, 's> {
     // follow.
     fn take_each(
         self,
-        statements: StatementsOf<'_, 'a>,
+        statements: GivingStatements<'_, 'a>,
         class: u16,
         working: &mut KeptStores<'a>,
         spare: &mut Stores,
     ) -> u64
-        requires nodes { AreNodesOf (bytes_of self.policy) (statements_of_left statements) }
-        requires few { length (statements_of_left statements) < 2 ^ 32 }
+        requires nodes { AreNodesOf (bytes_of self.policy) (giving_left statements) }
+        requires few { length (giving_left statements) < 2 ^ 32 }
         requires browsed { IsBrowsed self.policy working.old }
         requires same { spare.old ≡ working.old.stores }
-        ensures take { TakeDefaults self.entry class (statements_of_left statements.entry) []
+        ensures take { TakeDefaults self.entry class (giving_left statements.entry) []
             working.old working.new result }
         ensures same { spare.new ≡ working.new.stores }
     {
@@ -164,7 +164,7 @@ impl<'a, 's> Sources<'a, 's> {
 }
 
 /// Sets the questions of the current form, by place, to their defaults of a class, each over the stores that those before it
-/// have left, and tells how many took them.
+/// have left, and tells how many took them. Only statements that give a default are asked.
 pub(crate) fn take_defaults(core: &mut Browser<'_>, class: u16) -> u64
     ensures state { core.new.state ≡ (taken core.old.state class).state }
     ensures count { result ≡ length (taken core.old.state class).questions }
@@ -174,12 +174,13 @@ pub(crate) fn take_defaults(core: &mut Browser<'_>, class: u16) -> u64
 {
     statements_are_few();
     statements_are_nodes();
+    core.is_written = true;
     let sources = Sources {
         policy: Policy::new(&core.forms, &core.questions, &core.removed),
         questions: &core.questions,
         languages: &core.languages,
         language: core.language,
     };
-    let statements = core.forms.statements_of(core.form);
+    let statements = core.forms.giving_statements_of(core.form);
     sources.take_each(statements, class, &mut core.working, &mut core.spare)
 }

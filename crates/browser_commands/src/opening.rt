@@ -25,13 +25,14 @@ pub(crate) struct FormSetParts<'a> {
     pub(crate) questions: Questions<'a>,
 }
 
-/// The stores that a session begins with, and what is removed over them.
+/// The stores that a session begins with, what is removed over them, and room for the ids of all questions.
 #[derive(Drop)]
 pub(crate) struct HeldStores<'a> {
     pub(crate) removed: Removed,
     pub(crate) committed: Stores,
     pub(crate) working: KeptStores<'a>,
     pub(crate) spare: Stores,
+    pub(crate) changed: Vec<u16>,
 }
 
 /// The parts of a forms package, or the least of its faults.
@@ -55,7 +56,7 @@ pub(crate) fn read_form_set<'a>(
     })
 }
 
-/// The stores that an image spells, as they are when a session begins, or the least fault of the image.
+/// The stores that an image spells and what a session holds beside them when it begins, or the least fault of the image.
 pub(crate) fn hold_stores<'a>(
     alloc: Global,
     parts: &FormSetParts<'a>,
@@ -65,6 +66,7 @@ pub(crate) fn hold_stores<'a>(
     ensures held { IfOk result (AreHeld parts.now.forms image.now) }
     ensures refused { IfErr result (Refuses (IsImageFault (layout_in parts.now.forms) image.now)) }
 {
+    let changed = Vec::with_capacity(alloc, parts.questions.count())?;
     let committed = Stores::read(alloc, &parts.layout, image)?;
     let removed = Removed::at_open(alloc, &parts.forms, &parts.questions, &committed)?;
     let policy = Policy::new(&parts.forms, &parts.questions, &removed);
@@ -75,5 +77,6 @@ pub(crate) fn hold_stores<'a>(
         committed,
         working,
         spare,
+        changed,
     })
 }

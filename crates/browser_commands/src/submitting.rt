@@ -1,22 +1,21 @@
 //! What is submitted, and what is discarded.
 
-ghost use Rattle.std.specs.Prelude.{◌≡◌, map};
+ghost use Rattle.std.specs.Prelude.{◌≡◌};
 ghost use Rattle.hii_bytes.specs.Watching.{Puts};
 ghost use Rattle.ifr_nodes.specs.Nodes.{nodes_of};
 ghost use Rattle.browser_rules.specs.Script as script;
-ghost use Rattle.hii_questions.specs.code.Differing.{differing_left};
 ghost use Rattle.guard_policy.specs.Policy.{unsubmitted};
 ghost use Rattle.guard_policy.specs.code.Answers.{unless};
 ghost use Rattle.session_steps.specs.Renewed.{writes_of};
 ghost use Rattle.session_steps.specs.State.{world_of};
 ghost use Rattle.browser_commands.specs.code.Counting.{counted_all};
-ghost use Rattle.session_steps.specs.Step.{step, changed, commit, submitted};
+ghost use Rattle.session_steps.specs.Step.{step, commit, submitted};
 
 use crate::browser::Browser;
-use crate::texts::{put_changed, put_count};
+use crate::texts::{put_changes, put_count};
 use guard_policy::{Denial, Policy};
 use hii_bytes::Watched;
-use hii_questions::DifferingQuestions;
+use kept_conditions::laws::the_same_stores_renew_nothing;
 use session_steps::Reply;
 use std::io::Write;
 
@@ -27,9 +26,14 @@ impl<'a> Browser<'a> {
         ensures renewed { self.new.renewed ≡ counted_all self.old.renewed
             (nodes_of self.old.state.ifr) (writes_of self.old.state script.Discard) }
     {
+        if !self.is_written {
+            the_same_stores_renew_nothing(&self.working);
+            return;
+        }
         let policy = Policy::new(&self.forms, &self.questions, &self.removed);
         self.working.copy_from(policy, &self.spare, &self.committed);
         self.spare.copy_from(&self.committed);
+        self.is_written = false;
     }
 
     // Whether the working stores may be submitted.
@@ -48,30 +52,29 @@ impl<'a> Browser<'a> {
     {
         match self.may_submit() {
             Ok(()) => {
-                self.put_submitted(out);
-                self.committed.copy_from(self.working.stores());
+                self.commit(out);
                 Reply::Accepted
             }
             Err(denial) => self.deny(denial, out),
         }
     }
 
-    // Writes how many questions have other bytes than when they were last submitted, and each of them by place.
-    fn put_submitted<W: Write>(&self, out: &mut Watched<W>)
-        ensures { Puts W.contents out.old out.new (commit self.now.state).text }
+    // Takes the working stores for those that were last submitted, and writes how many questions have other bytes than before,
+    // and each of them by place.
+    fn commit<W: Write>(&mut self, out: &mut Watched<W>)
+        ensures state { self.new.state ≡ (commit self.old.state).state }
+        ensures text { Puts W.contents out.old out.new (commit self.old.state).text }
+        ensures renewed { self.new.renewed ≡ self.old.renewed }
     {
-        let changed = self.changed_questions();
-        put_count(changed.number(), out);
-        for question in changed {
-            put_changed(question.id(), out);
+        if !self.is_written {
+            put_count(0, out);
+            return;
         }
-    }
-
-    // The questions that have other bytes than when they were last submitted, by place.
-    fn changed_questions(&self) -> DifferingQuestions<'_, 'a>
-        ensures { map (λ q. q.node) (differing_left result) ≡ changed self.now.state }
-    {
+        let working = self.working.stores();
         self.questions
-            .differing(&self.committed, self.working.stores())
+            .differing_into(&self.committed, working, &mut self.changed);
+        put_changes(&self.changed, out);
+        self.committed.copy_from(self.working.stores());
+        self.is_written = false;
     }
 }

@@ -1,6 +1,6 @@
 //! The lines of answers.
 
-ghost use Rattle.std.specs.Prelude.{◌≡◌};
+ghost use Rattle.std.specs.Prelude.{◌≡◌, ◌++◌, length};
 ghost use Rattle.hii_bytes.specs.Watching.{Puts, Writes};
 ghost use Rattle.std.specs.List.{flat_map};
 ghost use Rattle.browser_rules.specs.Strings.{shown};
@@ -39,11 +39,22 @@ fn changed_line(question: u16) -> ArrayVec<u8, 14>
     line
 }
 
-/// Writes `CHANGED q`.
-pub(crate) fn put_changed<W: Write>(question: u16, out: &mut Watched<W>)
+// Writes `CHANGED q`.
+fn put_changed<W: Write>(question: u16, out: &mut Watched<W>)
     ensures { Puts W.contents out.old out.new (changed_text question) }
 {
     out.put(changed_line(question).as_slice());
+}
+
+/// Writes how many questions have changed, and `CHANGED q` for the id of each.
+pub(crate) fn put_changes<W: Write>(ids: &[u16], out: &mut Watched<W>)
+    ensures { Puts W.contents out.old out.new
+        (count_text (length ids.now) ++ flat_map changed_text ids.now) }
+{
+    put_count(ids.len() as u64, out);
+    for id in ids {
+        put_changed(*id, out);
+    }
 }
 
 // Writes a text behind a space, where a denial of this kind has one.

@@ -125,6 +125,7 @@ impl<'a> Browser<'a> {
             (set_question self.old.state (Some (question_node question.entry)) (offer_of input.entry))
             result) }
     {
+        self.is_written = true;
         let policy = Policy::new(&self.forms, &self.questions, &self.removed);
         let field = give_value(policy, question, input, &mut self.working, &self.spare)?;
         out.put(b"OK\n");

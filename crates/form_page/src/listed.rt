@@ -4,11 +4,12 @@ ghost use Rattle.std.specs.Prelude.{◌≡◌, IfSome};
 ghost use Rattle.ifr_nodes.specs.code.Checked.{IsNodeOf, AreNodesOf, AreNodesOf-prop};
 ghost use Rattle.ifr_scopes.specs.code.Lists.{statement_node};
 ghost use Rattle.ifr_scopes.specs.code.StatementsLeft.{statements_of_left};
+ghost use Rattle.guard_policy.specs.code.Effects.{AreEffectsBy, AreEffectsBy-prop};
 ghost use Rattle.guard_policy.specs.code.Views.{bytes_of};
 
 use crate::decisions::is_listed;
 use crate::page::Page;
-use guard_policy::Conditions;
+use guard_policy::{Conditions, Effects};
 use ifr_scopes::{Statement, StatementsOf};
 
 /// The statements that are left of a page, by place: those of its form that are not hidden.
@@ -16,7 +17,10 @@ use ifr_scopes::{Statement, StatementsOf};
 pub(crate) struct Listed<'a, 's, C: Conditions> {
     pub(crate) page: Page<'a, 's, C>,
     pub(crate) statements: StatementsOf<'s, 'a>,
+    // The denials of the guards that were asked last.
+    pub(crate) last: Effects,
     pub ghost together: { AreNodesOf (bytes_of page.policy) (statements_of_left statements) } by { AreNodesOf-prop (bytes_of page.policy) (statements_of_left statements) },
+    pub ghost asked: { AreEffectsBy page.policy (C.holding page.conditions.now) last } by { AreEffectsBy-prop page.policy (C.holding page.conditions.now) last },
 }
 
 impl<'a, 's, C: Conditions> Listed<'a, 's, C> {
@@ -42,7 +46,7 @@ impl<'a, 's, C: Conditions> Listed<'a, 's, C> {
     {
         let page = self.page;
         while let Some(statement) = self.statements.next() {
-            if is_listed(page, statement) {
+            if is_listed(page, statement, &mut self.last) {
                 return Some(statement);
             }
         }

@@ -8,25 +8,33 @@ ghost use Rattle.guard_policy.specs.Policy.{hidden};
 ghost use Rattle.ifr_nodes.specs.code.Checked.{IsNodeOf, IsNodeOf-prop};
 ghost use Rattle.ifr_scopes.specs.code.Lists.{statement_node};
 ghost use Rattle.hii_languages.specs.code.Views.{text_of};
+ghost use Rattle.guard_policy.specs.code.Effects.{AreEffectsBy};
 ghost use Rattle.guard_policy.specs.code.Views.{bytes_of};
 ghost use Rattle.form_page.specs.code.PageViews.{texts_of, world_of};
 ghost use Rattle.form_page.specs.RowValues.{choice, option_with};
 
 use crate::decisions::is_option_listed;
 use crate::page::Page;
-use guard_policy::Conditions;
+use guard_policy::{Conditions, Effects};
 use hii_languages::Shown;
 use hii_questions::StoredItems;
 use ifr_scopes::{OptionView, Statement};
 use std::alloc::AllocError;
 
-// Whether an option has a value and is not hidden.
-fn is_choice<'a, C: Conditions>(page: Page<'a, '_, C>, option: OptionView<'a>, value: u64) -> bool
-    requires { IsNodeOf (bytes_of page.policy) (option_node option) }
-    ensures { result ≡ ((option_value (option_node option.entry).op == value)
+// Whether an option has a value and is not hidden, with the denials of the guards that were asked last.
+fn is_choice<'a, C: Conditions>(
+    page: Page<'a, '_, C>,
+    option: OptionView<'a>,
+    value: u64,
+    last: &mut Effects,
+) -> bool
+    requires node { IsNodeOf (bytes_of page.policy) (option_node option) }
+    requires last { AreEffectsBy page.policy (C.holding page.conditions.now) last.old }
+    ensures choice { result ≡ ((option_value (option_node option.entry).op == value)
         && is_none (hidden (world_of page.entry) (option_node option.entry))) }
+    ensures last { AreEffectsBy page.entry.policy (C.holding page.entry.conditions.now) last.new }
 {
-    option.op().value() == value && is_option_listed(page, option)
+    option.op().value() == value && is_option_listed(page, option, last)
 }
 
 /// The first option of a question, by place, that has a value and is not hidden.
@@ -39,9 +47,10 @@ pub fn seen_option<'a, C: Conditions>(
     ensures { option_map option_node result
         ≡ option_with (world_of page.entry) (options (statement_node statement.entry)) value }
 {
+    let mut last = Effects::none();
     let mut options = page.policy.forms().options_of(statement);
     while let Some(option) = options.next() {
-        if is_choice(page, option, value) {
+        if is_choice(page, option, value, &mut last) {
             return Some(option);
         }
     }

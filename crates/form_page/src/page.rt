@@ -13,7 +13,7 @@ use crate::listed::Listed;
 use crate::row_value::RowValue;
 use crate::rows::Rows;
 use crate::statement_value::statement_value;
-use guard_policy::{Conditions, Policy};
+use guard_policy::{Conditions, Effects, Policy};
 use hii_languages::{Choice, Languages, Shown};
 use hii_questions::Questions;
 use hii_varstore::Stores;
@@ -188,6 +188,7 @@ impl<'a, 's, C: Conditions> Page<'a, 's, C> {
         Listed {
             page: *self,
             statements: self.policy.forms().statements_of(self.form),
+            last: Effects::none(),
         }
     }
 }

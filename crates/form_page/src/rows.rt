@@ -29,7 +29,8 @@ impl<'a, 's, C: Conditions> Iterator for Rows<'a, 's, C> {
     fn next(&mut self) -> Option<Row<'a, 's, C>> {
         let page = self.listed.page;
         while let Some(statement) = self.listed.take_first() {
-            if let Some(row) = row_of(page, self.number, statement) {
+            let listed = &mut self.listed;
+            if let Some(row) = row_of(page, self.number, statement, &mut listed.last) {
                 self.number += 1;
                 return Some(row);
             }

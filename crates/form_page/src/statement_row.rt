@@ -8,6 +8,7 @@ ghost use Rattle.ifr_nodes.specs.Nodes.{nodes_of, is_question};
 ghost use Rattle.hii_questions.specs.Fields.{asked};
 ghost use Rattle.hii_questions.specs.code.Views.{question_view};
 ghost use Rattle.guard_policy.specs.Policy.{fixed, hidden};
+ghost use Rattle.guard_policy.specs.code.Effects.{AreEffectsBy};
 ghost use Rattle.guard_policy.specs.code.Views.{bytes_of};
 ghost use Rattle.form_page.specs.code.PageViews.{texts_of, world_of};
 ghost use Rattle.form_page.specs.Pages as pages;
@@ -17,7 +18,7 @@ use crate::decisions::standing;
 use crate::page::Page;
 use crate::row::Row;
 use crate::statement_value::statement_value;
-use guard_policy::{Conditions, SeenStatement, Standing};
+use guard_policy::{Conditions, Effects, SeenStatement, Standing};
 use ifr_scopes::{Statement, StatementKind};
 
 // The id of the question that a statement is.
@@ -65,19 +66,22 @@ fn seen_row<'a, 's, C: Conditions>(
     }
 }
 
-/// The row of a statement on a page, where it is seen.
+/// The row of a statement on a page, where it is seen, with the denials of the guards that were asked last.
 pub(crate) fn row_of<'a, 's, C: Conditions>(
     page: Page<'a, 's, C>,
     number: u32,
     statement: Statement<'a>,
+    last: &mut Effects,
 ) -> Option<Row<'a, 's, C>>
-    requires { IsNodeOf (bytes_of page.policy) (statement_node statement) }
-    ensures { option_map row_seen result
+    requires node { IsNodeOf (bytes_of page.policy) (statement_node statement) }
+    requires last { AreEffectsBy page.policy (C.holding page.conditions.now) last.old }
+    ensures row { option_map row_seen result
         ≡ (if is_none (hidden (world_of page.entry) (statement_node statement.entry))
         then Some (pages.row_of (texts_of page.entry) (world_of page.entry)
         page.entry.stores.now number (statement_node statement.entry)) else None) }
+    ensures last { AreEffectsBy page.entry.policy (C.holding page.entry.conditions.now) last.new }
 {
-    match standing(page, statement) {
+    match standing(page, statement, last) {
         Standing::Hidden(_) => None,
         Standing::Seen(seen) => Some(seen_row(page, number, statement, seen)),
     }

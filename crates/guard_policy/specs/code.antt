@@ -2,6 +2,7 @@
 pub mod Answers
 pub mod AskedLeft
 pub mod Bytes
+pub mod Effects
 pub mod KeptConditions
 pub mod Standings
 pub mod SupportLeft

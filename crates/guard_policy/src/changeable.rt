@@ -18,6 +18,7 @@ ghost use Rattle.guard_policy.specs.declared.support.Decision.TheVariants.{Chang
 use crate::conditions::{ByConditions, Conditions, Verdicts};
 use crate::decisions::fixed_question;
 use crate::denial::Denial;
+use crate::effects::Effects;
 use crate::policy::Policy;
 use hii_questions::Question;
 use ifr_scopes::Around;
@@ -83,6 +84,7 @@ impl<'a, 's> Policy<'a, 's> {
         ensures { DecidesBy (C.holding conditions.now) (world self.now)
             (OptionOpen question.entry value) result }
     {
-        self.option_open_with(question, value, Some(around), &ByConditions { conditions })
+        let free = Effects::free(around.innermost());
+        self.option_open_with(question, value, free, &ByConditions { conditions })
     }
 }

@@ -13,17 +13,18 @@ ghost use Rattle.guard_policy.specs.Policy as spec;
 ghost use Rattle.guard_policy.specs.code.Answers as denying;
 ghost use Rattle.guard_policy.specs.code.KeptConditions.{DecidesBy, Tells, TellsAll};
 ghost use Rattle.guard_policy.specs.laws.Support.{around, suppressing};
-ghost use Rattle.guard_policy.specs.code.Surroundings.{IsFree};
+ghost use Rattle.guard_policy.specs.code.Effects.{AreEffects, AreEffectsBy};
 ghost use Rattle.guard_policy.specs.code.Views.{world, world_by};
 ghost use Rattle.guard_policy.specs.code.Worlds.{is_met_at};
 ghost use Rattle.guard_policy.specs.declared.support.Decision.TheVariants.{Listed, Changeable, OptionOpen, Opens};
 
 use crate::conditions::{ByConditions, Conditions, Evaluated, Verdicts};
 use crate::denial::Denial;
+use crate::effects::Effects;
 use crate::policy::Policy;
 use hii_questions::{DenialKind, Question};
 use hii_varstore::Stores;
-use ifr_scopes::{Around, Form, OptionView, Statement, StatementKind};
+use ifr_scopes::{Form, OptionView, Statement, StatementKind};
 
 // Whether a question lacks what it needs to be changed: a reference a form to which it leads, another a field.
 fn is_outside(question: Question<'_>) -> bool
@@ -102,6 +103,27 @@ impl<'a, 's> Policy<'a, 's> {
         )
     }
 
+    /// The same beside other statements, with the denials of the guards that were asked last: at first those of none.
+    pub fn listed_beside_by<C: Conditions>(
+        &self,
+        statement: Statement<'a>,
+        last: &mut Effects,
+        conditions: &C,
+    ) -> Result<(), Denial>
+        requires node { IsNodeOf self.now.forms.now (statement_node statement) }
+        requires last { AreEffectsBy self.now (C.holding conditions.now) last.old }
+        ensures listed { DecidesBy (C.holding conditions.now) (world self.now)
+            (Listed statement.entry) result }
+        ensures last { AreEffectsBy self.now (C.holding conditions.now) last.new }
+    {
+        self.seen_beside(
+            statement.place(),
+            statement.position(),
+            last,
+            &ByConditions { conditions },
+        )
+    }
+
     /// Whether an option of a question is shown, by the rule of `listed` and by what is kept of conditions.
     pub fn option_listed_by<C: Conditions>(
         &self,
@@ -115,7 +137,35 @@ impl<'a, 's> Policy<'a, 's> {
             → result ≡ denying.unless
             (spec.hidden (world self.now stores) (option_node option.entry)) }
     {
-        self.seen_at(option.place(), 0, &ByConditions { conditions })
+        self.seen_at(
+            option.place(),
+            option.position(),
+            &ByConditions { conditions },
+        )
+    }
+
+    /// The same beside other options, with the denials of the guards that were asked last: at first those of none.
+    pub fn option_listed_beside_by<C: Conditions>(
+        &self,
+        option: OptionView<'a>,
+        last: &mut Effects,
+        conditions: &C,
+    ) -> Result<(), Denial>
+        requires node { IsNodeOf self.now.forms.now (option_node option) }
+        requires last { AreEffectsBy self.now (C.holding conditions.now) last.old }
+        ensures listed { (stores : StoreMap)
+            → Tells (C.holding conditions.now) (world self.now stores)
+            (suppressing (option_node option.entry))
+            → result ≡ denying.unless
+            (spec.hidden (world self.now stores) (option_node option.entry)) }
+        ensures last { AreEffectsBy self.now (C.holding conditions.now) last.new }
+    {
+        self.seen_beside(
+            option.place(),
+            option.position(),
+            last,
+            &ByConditions { conditions },
+        )
     }
 
     /// Whether a form is opened, by the rule of `listed`.
@@ -136,20 +186,20 @@ impl<'a, 's> Policy<'a, 's> {
     }
 
     // Whether an option may be chosen, as far as it goes: not where it is not shown, a GRAY_OUT_IF around it holds or it is
-    // locked.
+    // locked. It stands beside others, with the denials of the guards that were asked last.
     fn option_selectable<V: Verdicts<'a>>(
         &self,
         option: OptionView<'a>,
-        free: Option<Around<'s, 'a>>,
+        last: &mut Effects,
         verdicts: &V,
     ) -> Result<(), Denial>
         requires node { IsNodeOf self.now.forms.now (option_node option) }
-        requires free { IfSome free
-            (IsFree self.now.forms.now (world_by self.now (V.met verdicts.now))) }
-        ensures { result ≡ denying.unless
+        requires last { AreEffects (world_by self.now (V.met verdicts.now)) last.old }
+        ensures fixed { result ≡ denying.unless
             (spec.fixed (world_by self.now (V.met verdicts.now)) (option_node option.entry)) }
+        ensures last { AreEffects (world_by self.now (V.met verdicts.now)) last.new }
     {
-        self.uncovered_within(option.place(), 0, free, verdicts)
+        self.uncovered_beside(option.place(), option.position(), last, verdicts)
     }
 
     /// Whether an option of a question may be chosen, as far as it goes, by what is kept of conditions: not where it is not shown,
@@ -165,7 +215,7 @@ impl<'a, 's> Policy<'a, 's> {
             → result ≡ denying.unless
             (spec.fixed (world self.now stores) (option_node option.entry)) }
     {
-        self.option_selectable(option, None, &ByConditions { conditions })
+        self.option_selectable(option, &mut Effects::none(), &ByConditions { conditions })
     }
 
     // Whether a statement forbids a change by itself.
@@ -248,28 +298,27 @@ impl<'a, 's> Policy<'a, 's> {
         self.question_changeable_with(question, &ByConditions { conditions })
     }
 
-    /// Whether a question may be given a value of its options, by conditions from anywhere. What stands around something may be
-    /// at hand of which it is known that nothing of it lets that not be changed: an option around which the same stands may be
-    /// chosen.
+    /// Whether a question may be given a value of its options, by conditions from anywhere, with the denials of the guards
+    /// that were asked last.
     pub(crate) fn option_open_with<V: Verdicts<'a>>(
         &self,
         question: Question<'a>,
         value: u64,
-        free: Option<Around<'s, 'a>>,
+        last: Effects,
         verdicts: &V,
     ) -> Result<(), Denial>
         requires node { IsNodeOf self.now.forms.now (question_node question) }
-        requires free { IfSome free
-            (IsFree self.now.forms.now (world_by self.now (V.met verdicts.now))) }
+        requires last { AreEffects (world_by self.now (V.met verdicts.now)) last }
         ensures { result ≡ denying.unless
             (spec.closed (world_by self.now (V.met verdicts.now))
             (question_node question.entry) value) }
     {
         let mut first = None;
+        let mut last = last;
         let mut options = self.forms.options_of(question.statement());
         while let Some(option) = options.next() {
             if option.op().value() == value {
-                match self.option_selectable(option, free, verdicts) {
+                match self.option_selectable(option, &mut last, verdicts) {
                     Ok(()) => return Ok(()),
                     Err(denial) => first = first.or(Some(denial)),
                 }
@@ -293,7 +342,7 @@ impl<'a, 's> Policy<'a, 's> {
         ensures { result ≡ denying.unless
             (spec.closed (world self.now stores.now) (question_node question.entry) value) }
     {
-        self.option_open_with(question, value, None, &self.over(stores))
+        self.option_open_with(question, value, Effects::none(), &self.over(stores))
     }
 
     /// Whether a question of the package may be given a value of its options, by what is kept of conditions.
@@ -307,6 +356,11 @@ impl<'a, 's> Policy<'a, 's> {
         ensures { DecidesBy (C.holding conditions.now) (world self.now)
             (OptionOpen question.entry value) result }
     {
-        self.option_open_with(question, value, None, &ByConditions { conditions })
+        self.option_open_with(
+            question,
+            value,
+            Effects::none(),
+            &ByConditions { conditions },
+        )
     }
 }

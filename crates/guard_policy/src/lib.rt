@@ -9,6 +9,7 @@ mod covering;
 mod decision_conditions;
 mod decisions;
 mod denial;
+mod effects;
 pub mod laws;
 mod option_conditions;
 mod policy;
@@ -22,6 +23,7 @@ mod warnings;
 
 pub use conditions::{Conditions, Evaluated};
 pub use denial::Denial;
+pub use effects::Effects;
 pub use policy::Policy;
 pub use removed::Removed;
 pub use standing::{SeenStatement, Standing};

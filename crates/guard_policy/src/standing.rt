@@ -9,6 +9,7 @@ ghost use Rattle.hii_questions.specs.code.Views.{question_view};
 ghost use Rattle.hii_questions.specs.declared.denial.DenialKind.TheVariants.{Locked};
 ghost use Rattle.guard_policy.specs.Policy as spec;
 ghost use Rattle.guard_policy.specs.code.Answers as denying;
+ghost use Rattle.guard_policy.specs.code.Effects.{AreEffects, AreEffectsBy};
 ghost use Rattle.guard_policy.specs.code.KeptConditions.{DecidesBy};
 ghost use Rattle.guard_policy.specs.code.Standings.{TellsQuestion, changeable_answer, listed_answer};
 ghost use Rattle.guard_policy.specs.code.Views.{world, world_by};
@@ -18,6 +19,7 @@ use crate::conditions::{ByConditions, Conditions, Verdicts};
 use crate::covering::unless_grayed_out;
 use crate::decisions::fixed_as_question;
 use crate::denial::Denial;
+use crate::effects::Effects;
 use crate::policy::Policy;
 use hii_questions::Question;
 use ifr_scopes::{LockView, Statement};
@@ -56,9 +58,16 @@ fn unless_fixed(
 }
 
 impl<'a, 's> Policy<'a, 's> {
-    // How a statement stands, by conditions from anywhere.
-    fn standing_with<V: Verdicts<'a>>(&self, statement: Statement<'a>, verdicts: &V) -> Standing<'a>
-        requires { IsNodeOf self.now.forms.now (statement_node statement) }
+    // How a statement stands beside others, with the denials of the guards that were asked last, by conditions from
+    // anywhere.
+    fn standing_with<V: Verdicts<'a>>(
+        &self,
+        statement: Statement<'a>,
+        last: &mut Effects,
+        verdicts: &V,
+    ) -> Standing<'a>
+        requires node { IsNodeOf self.now.forms.now (statement_node statement) }
+        requires last { AreEffects (world_by self.now (V.met verdicts.now)) last.old }
         ensures listed { listed_answer result ≡ denying.unless
             (spec.hidden (world_by self.now (V.met verdicts.now))
             (statement_node statement.entry)) }
@@ -66,36 +75,41 @@ impl<'a, 's> Policy<'a, 's> {
             (spec.fixed (world_by self.now (V.met verdicts.now)) (statement_node statement.entry)) }
         ensures question { TellsQuestion (nodes_of self.now.forms.now)
             (statement_node statement.entry) result }
+        ensures last { AreEffects (world_by self.now (V.met verdicts.now)) last.new }
     {
         let around = self
             .forms
             .around_at(statement.place(), statement.position());
-        let effects = self.effects(around, verdicts);
-        if let Some(denial) = effects.hides {
+        self.effects_beside(around, last, verdicts);
+        if let Some(denial) = last.hides {
             return Standing::Hidden(denial);
         }
         let question = self.question(statement);
         Standing::Seen(SeenStatement {
             question,
-            changeable: unless_fixed(effects.grays_out, around.lock(), question),
+            changeable: unless_fixed(last.grays_out, around.lock(), question),
         })
     }
 
-    /// How a statement of the package stands, by what is kept of conditions: what `listed_by` and `changeable_by` answer, found
-    /// in one look at what stands around it, and where it is seen what `question` answers.
+    /// How a statement of the package stands beside others, with the denials of the guards that were asked last, by what is
+    /// kept of conditions: what `listed_by` and `changeable_by` answer, found in one look at what stands around it, and
+    /// where it is seen what `question` answers.
     pub fn standing_by<C: Conditions>(
         &self,
         statement: Statement<'a>,
+        last: &mut Effects,
         conditions: &C,
     ) -> Standing<'a>
-        requires { IsNodeOf self.now.forms.now (statement_node statement) }
+        requires node { IsNodeOf self.now.forms.now (statement_node statement) }
+        requires last { AreEffectsBy self.now (C.holding conditions.now) last.old }
         ensures listed { DecidesBy (C.holding conditions.now) (world self.now)
             (Listed statement.entry) (listed_answer result) }
         ensures changeable { DecidesBy (C.holding conditions.now) (world self.now)
             (Changeable statement.entry) (changeable_answer result) }
         ensures question { TellsQuestion (nodes_of self.now.forms.now)
             (statement_node statement.entry) result }
+        ensures last { AreEffectsBy self.now (C.holding conditions.now) last.new }
     {
-        self.standing_with(statement, &ByConditions { conditions })
+        self.standing_with(statement, last, &ByConditions { conditions })
     }
 }

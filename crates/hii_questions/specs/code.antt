@@ -4,7 +4,6 @@ pub mod Causes
 pub mod Checks
 pub mod ChoiceViews
 pub mod Contents
-pub mod Differing
 pub mod Entries
 pub mod FaultTells
 pub mod Fitting

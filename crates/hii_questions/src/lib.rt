@@ -34,7 +34,6 @@ mod texts;
 mod value;
 
 pub use denial::{DenialKind, ValueDenial};
-pub use differing::DifferingQuestions;
 pub use elements::element_width;
 pub use field::Field;
 pub use field_range::{FieldRange, WIDEST_FIELD};

@@ -1,7 +1,7 @@
 //! What questions answer over stores.
 
 use crate::questions::Questions;
-use crate::value::read_value;
+use crate::value::{read_number, read_value};
 use hii_varstore::Stores;
 use ifr_expr::{Answers, Value};
 
@@ -22,5 +22,9 @@ impl<'s, 'a> Answers<'s> for Over<'s, 'a> {
             Some(question) => read_value(question, self.stores),
             None => Value::Undefined,
         }
+    }
+
+    fn number(&self, question: u16) -> Option<u64> {
+        read_number(self.questions.find(question)?, self.stores)
     }
 }

@@ -1,6 +1,6 @@
 //! All questions of a form set.
 
-ghost use Rattle.std.specs.Prelude.{◌≡◌, IfOk, IfErr, filter, option_map};
+ghost use Rattle.std.specs.Prelude.{◌≡◌, ◌≤◌, IfOk, IfErr, filter, length, option_map, vec_capacity};
 ghost use Rattle.std.specs.List.{find};
 ghost use Rattle.hii_bytes.specs.Faults.{HasNone, Refuses, out_of_memory};
 ghost use Rattle.ifr_nodes.specs.Nodes.{nodes_of};
@@ -11,7 +11,7 @@ ghost use Rattle.hii_questions.specs.Answers.{answers};
 ghost use Rattle.hii_questions.specs.Faults.{IsQuestionFault};
 ghost use Rattle.hii_questions.specs.Fields.{questions, asked, question_with, has_field, is_password_in};
 ghost use Rattle.hii_questions.specs.Changes.{holds_others};
-ghost use Rattle.hii_questions.specs.code.Differing.{differing_left};
+ghost use Rattle.hii_questions.specs.code.Ids.{ids_of};
 ghost use Rattle.hii_questions.specs.code.Lists.{questions_left};
 ghost use Rattle.hii_questions.specs.code.LyingIn.{LieIn};
 ghost use Rattle.hii_questions.specs.code.Over.{answers_over};
@@ -20,7 +20,7 @@ ghost use Rattle.hii_questions.specs.code.Tables.{first_at};
 ghost use Rattle.hii_questions.specs.code.Views.{question_view};
 
 use crate::by_field::{questions_by_field, questions_with};
-use crate::differing::DifferingQuestions;
+use crate::differing::differs;
 use crate::entry::QuestionEntry;
 use crate::field_range::FieldRange;
 use crate::merging::Step;
@@ -170,18 +170,28 @@ impl<'a> Questions<'a> {
         QuestionsByPlace::over(self.ifr, &self.by_place)
     }
 
-    /// The questions whose fields hold other bytes in the second stores than in the first, by place. Both are of the form set.
-    pub fn differing<'s>(&'s self, one: &'s Stores, other: &'s Stores) -> DifferingQuestions<'s, 'a>
+    /// How many questions there are.
+    pub fn count(&self) -> usize
+        ensures { result ≡ length (questions (nodes_of self.now.ifr)) }
+    {
+        self.by_place.len()
+    }
+
+    /// Makes a list that of the ids of the questions, by place, whose fields hold other bytes in the second stores than in the
+    /// first. Both stores are of the form set, and the list has room for the ids of all questions.
+    pub fn differing_into(&self, one: &Stores, other: &Stores, ids: &mut Vec<u16>)
         requires same { shape_of one.now ≡ shape_of other.now }
         requires lie { LieIn (shape_of one.now) (questions (nodes_of self.now.ifr)) }
-        ensures { differing_left result
-            ≡ filter (holds_others one.now other.now) (questions (nodes_of self.now.ifr)) }
+        requires room { length (questions (nodes_of self.now.ifr)) ≤ vec_capacity ids.old }
+        ensures ids { ids.new.items ≡ ids_of
+            (filter (holds_others one.now other.now) (questions (nodes_of self.now.ifr))) }
+        ensures room { vec_capacity ids.new ≡ vec_capacity ids.old }
     {
-        DifferingQuestions {
-            ifr: self.ifr,
-            entries: &self.by_place,
-            one,
-            other,
+        ids.clear();
+        for entry in &self.by_place {
+            if differs(*entry, one, other) {
+                ids.push_reserved(Question::kept(self.ifr, *entry).id());
+            }
         }
     }
 

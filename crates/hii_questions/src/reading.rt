@@ -1,6 +1,7 @@
 //! The values of fields.
 
 ghost use Rattle.std.specs.Prelude.{◌≡◌, length};
+ghost use Rattle.ifr_expr.specs.Values.{as_number};
 ghost use Rattle.ifr_expr.specs.code.Views.{value_of};
 ghost use Rattle.hii_questions.specs.Answers.{answer_in};
 ghost use Rattle.hii_questions.specs.FieldTypes.{size_of_type};
@@ -22,5 +23,19 @@ pub(crate) fn value_in<'s>(field_type: FieldType<'_>, bytes: &'s [u8]) -> Value<
         FieldType::OneOf(one_of) => Value::Number(number_of(bytes, one_of.width)),
         FieldType::Text(_) => Value::Text(bytes_of_items(bytes, 2)),
         FieldType::OrderedList(_) => Value::Buffer(bytes),
+    }
+}
+
+/// The number that the bytes of a field are, if they are one; a checkbox counts as 0 or 1.
+pub(crate) fn number_in(field_type: FieldType<'_>, bytes: &[u8]) -> Option<u64>
+    requires { length bytes.now ≡ size_of_type (type_in field_type) }
+    ensures { result ≡ as_number (answer_in (type_in field_type.entry) bytes.now) }
+{
+    match field_type {
+        FieldType::Checkbox => Some(u64::from(bytes[0] != 0)),
+        FieldType::Numeric(numeric) => Some(number_of(bytes, numeric.width)),
+        FieldType::OneOf(one_of) => Some(number_of(bytes, one_of.width)),
+        FieldType::Text(_) => None,
+        FieldType::OrderedList(_) => None,
     }
 }

@@ -1,6 +1,7 @@
 //! The values of questions, and which they take.
 
 ghost use Rattle.std.specs.Prelude.{◌≡◌, IfOk};
+ghost use Rattle.ifr_expr.specs.Values.{as_number};
 ghost use Rattle.ifr_expr.specs.code.Views.{value_of};
 ghost use Rattle.hii_questions.specs.Answers.{value_of_field};
 ghost use Rattle.hii_questions.specs.code.Checks.{Checks, NamesItems};
@@ -13,7 +14,7 @@ use crate::field_type::FieldType;
 use crate::fitting::{content_of, names_options};
 use crate::input::Input;
 use crate::question::Question;
-use crate::reading::value_in;
+use crate::reading::{number_in, value_in};
 use hii_varstore::Stores;
 use ifr_expr::Value;
 
@@ -34,6 +35,18 @@ pub fn read_value<'s>(question: Question<'_>, stores: &'s Stores) -> Value<'s>
         Some(bytes) => value_in(field_type, bytes),
         None => Value::Undefined,
     }
+}
+
+/// The value that a question has in the stores (`read_value`), where a number is wanted. Of a text and a list nothing is
+/// read.
+pub(crate) fn read_number(question: Question<'_>, stores: &Stores) -> Option<u64>
+    ensures { result ≡ as_number (value_of_field stores.now (question_node question.entry)
+        (question_view question.entry).field) }
+{
+    let field = question.field?;
+    let field_type = FieldType::of(question.statement)?;
+    let bytes = stores.field(field.store, usize::from(field.offset), field.width)?;
+    number_in(field_type, bytes)
 }
 
 /// The new bytes of a question's field, where the question takes the value; else why not, at the question's place. A

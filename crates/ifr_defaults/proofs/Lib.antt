@@ -1,2 +1,3 @@
+pub mod NoSourceLemmas
 pub mod SourceLemmas
 mod WorkedCases

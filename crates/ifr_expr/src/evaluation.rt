@@ -13,7 +13,7 @@ ghost use Rattle.ifr_expr.specs.Trees.{takes};
 
 use crate::counting::MAX_VALUES;
 use crate::expr::Expr;
-use crate::operations::{as_number, binary, constant, same, unary};
+use crate::operations::{binary, constant, same_numbers, unary};
 use crate::operators::Operators;
 use crate::value::{Operand, Outcome, Value};
 use ifr_opcodes::{ExprOp, LeafOp, ListValues};
@@ -34,6 +34,10 @@ pub(crate) trait World {
     fn answer(&self, question: u16) -> Value<'_>
         ensures { value_of result ≡ meaning.answered (answers self.now) question };
 
+    /// What the question of an id answers where a number is wanted; id 0 has no answer.
+    fn number(&self, question: u16) -> Option<u64>
+        ensures { result ≡ spec.as_number (meaning.answered (answers self.now) question) };
+
     /// The expression of the rule that a reference names.
     fn rule(&self, id: u8, place: u32) -> Option<Expr<'_>>
         ensures ordered { ordering.AreOrdered (rules self.now) }
@@ -42,12 +46,11 @@ pub(crate) trait World {
         ensures before { IfSome result (λ expr. end_of expr ≤ place) };
 }
 
-// Whether an answer is one of some numbers.
-fn one_of(answer: Value<'_>, mut numbers: ListValues<'_>) -> Outcome
-    ensures { outcome_value result ≡ spec.is_one_of (value_of answer.entry)
-        (values_left numbers.entry) }
+// Whether an answer is one of some numbers, where it is a number.
+fn one_of(answer: Option<u64>, mut numbers: ListValues<'_>) -> Outcome
+    ensures { outcome_value result ≡ spec.is_in (values_left numbers.entry) answer }
 {
-    let Some(wanted) = as_number(answer) else {
+    let Some(wanted) = answer else {
         return Outcome::Undefined;
     };
     while let Some(number) = numbers.next() {
@@ -67,16 +70,16 @@ fn leaf<W: World>(world: &W, op: LeafOp<'_>, this: u16) -> Operand
         ≡ meaning.leaf_value rules (W.answers world.now) this (op_of (leaf_operator op.entry)) }
 {
     match op {
-        LeafOp::EqIdVal(op) => Operand::Made(same(
-            world.answer(op.question()),
-            Value::Number(u64::from(op.value())),
+        LeafOp::EqIdVal(op) => Operand::Made(same_numbers(
+            world.number(op.question()),
+            Some(u64::from(op.value())),
         )),
-        LeafOp::EqIdId(op) => Operand::Made(same(
-            world.answer(op.first()),
-            world.answer(op.second()),
+        LeafOp::EqIdId(op) => Operand::Made(same_numbers(
+            world.number(op.first()),
+            world.number(op.second()),
         )),
         LeafOp::EqIdValList(op) => {
-            Operand::Made(one_of(world.answer(op.question()), op.values()))
+            Operand::Made(one_of(world.number(op.question()), op.values()))
         }
         LeafOp::QuestionRef(op) => Operand::Answer(op.question()),
         LeafOp::This(_) => Operand::Answer(this),

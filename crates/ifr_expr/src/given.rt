@@ -4,6 +4,7 @@ ghost use Rattle.std.specs.Prelude.{◌≡◌};
 ghost use Rattle.ifr_expr.specs.code.Expressions.{tree_of};
 ghost use Rattle.ifr_expr.specs.Meaning as meaning;
 ghost use Rattle.ifr_expr.specs.Meaning.{answered};
+ghost use Rattle.ifr_expr.specs.Values as spec;
 ghost use Rattle.ifr_expr.specs.code.Views.{value_of};
 
 use crate::evaluation::{World, evaluate};
@@ -30,6 +31,16 @@ fn answer<'v, A: Answers<'v>>(answers: &A, question: u16) -> Value<'v>
     answers.answer(question)
 }
 
+// What the question of an id answers where a number is wanted; id 0 has no answer.
+fn number<'v, A: Answers<'v>>(answers: &A, question: u16) -> Option<u64>
+    ensures { result ≡ spec.as_number (answered (A.answers answers.now) question) }
+{
+    if question == 0 {
+        return None;
+    }
+    answers.number(question)
+}
+
 impl<'s, 'a, A: Answers<'a>, R: Rules<'a>> World for Given<'s, 'a, A, R> {
     ghost answers = { λ given. A.answers given.answers.now };
 
@@ -38,6 +49,10 @@ impl<'s, 'a, A: Answers<'a>, R: Rules<'a>> World for Given<'s, 'a, A, R> {
     fn answer(&self, question: u16) -> Value<'_> {
         let value: Value<'a> = answer(self.answers, question);
         value
+    }
+
+    fn number(&self, question: u16) -> Option<u64> {
+        number(self.answers, question)
     }
 
     fn rule(&self, id: u8, place: u32) -> Option<Expr<'_>> {

@@ -1,6 +1,6 @@
 //! What operators make of values.
 
-ghost use Rattle.std.specs.Prelude.{◌≡◌, ◌-◌, ◌*◌, ◌/◌, ◌%◌, ◌^◌, ◌&&◌, ◌||◌, nat_lt, if◌then◌else◌};
+ghost use Rattle.std.specs.Prelude.{◌≡◌, ◌==◌, ◌-◌, ◌*◌, ◌/◌, ◌%◌, ◌^◌, ◌&&◌, ◌||◌, nat_lt, if◌then◌else◌};
 ghost use Rattle.ifr_opcodes.specs.code.Codes.{constant_code, unary_code, binary_code};
 ghost use Rattle.ifr_expr.specs.Values as spec;
 ghost use Rattle.ifr_expr.specs.code.Views.{value_of, outcome_value, number_or};
@@ -8,8 +8,8 @@ ghost use Rattle.ifr_expr.specs.code.Views.{value_of, outcome_value, number_or};
 use crate::value::{Outcome, Value};
 use ifr_opcodes::{Binary, Constant, Unary};
 
-/// A value where a number is wanted: a Boolean counts as 0 or 1.
-pub(crate) fn as_number(value: Value<'_>) -> Option<u64>
+// A value where a number is wanted: a Boolean counts as 0 or 1.
+fn as_number(value: Value<'_>) -> Option<u64>
     ensures { result ≡ spec.as_number (value_of value.entry) }
 {
     match value {
@@ -89,14 +89,21 @@ fn either(left: Value<'_>, right: Value<'_>) -> Outcome
     }
 }
 
-/// Whether two values are equal as numbers.
-pub(crate) fn same(left: Value<'_>, right: Value<'_>) -> Outcome
-    ensures { outcome_value result ≡ spec.are_same (value_of left.entry) (value_of right.entry) }
+/// Whether two numbers are equal, where both are there.
+pub(crate) fn same_numbers(left: Option<u64>, right: Option<u64>) -> Outcome
+    ensures { outcome_value result ≡ spec.of_both (λ x y. spec.boolean (x == y)) left right }
 {
-    match (as_number(left), as_number(right)) {
+    match (left, right) {
         (Some(x), Some(y)) => Outcome::Boolean(x == y),
         _ => Outcome::Undefined,
     }
+}
+
+// Whether two values are equal as numbers.
+fn same(left: Value<'_>, right: Value<'_>) -> Outcome
+    ensures { outcome_value result ≡ spec.are_same (value_of left.entry) (value_of right.entry) }
+{
+    same_numbers(as_number(left), as_number(right))
 }
 
 fn equal(left: Value<'_>, right: Value<'_>) -> Outcome

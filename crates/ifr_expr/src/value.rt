@@ -59,4 +59,9 @@ pub trait Answers<'v> {
     /// What the question of an id answers, `Undefined` where there is none with a field.
     fn answer(&self, question: u16) -> Value<'v>
         ensures { value_of result ≡ answers self.now question };
+
+    /// What the question of an id answers where a number is wanted: a Boolean counts as 0 or 1, and a text and a buffer are
+    /// none.
+    fn number(&self, question: u16) -> Option<u64>
+        ensures { result ≡ spec.as_number (answers self.now question) };
 }

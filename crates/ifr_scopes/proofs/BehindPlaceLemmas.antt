@@ -63,6 +63,17 @@ module _ {X : Type 0} (place : X → ℕ) where
       let less : nat_lt (place x) (place y) ≡ false = le-ltb (place x) (place y) (omega arith) in
       rw less (behind_one (place y + 1) before x after r.1)
 
+  -- What follows the one at a position stands behind its place.
+  pub behind_at : (low i : ℕ) (xs : List X) (d : X) → Rise place low xs → i < length xs → drop (suc i) xs ≡ filter (λ x. nat_lt (place (get_or xs i d)) (place x)) xs
+  behind_at low i [] d r lt = absurd (omega arith)
+  behind_at low zero (x ∷ xs) d r lt =
+      let itself : nat_lt (place x) (place x) ≡ false = le-ltb (place x) (place x) (omega arith) in
+      rw itself (sym (behind_all (place x + 1) (place x) xs r.1 (omega arith)))
+  behind_at low (suc i) (x ∷ xs) d r lt =
+      let above : place x + 1 ≤ place (get_or xs i d) = lowest_at (place x + 1) xs i d r.1 (omega arith) in
+      let less : nat_lt (place (get_or xs i d)) (place x) ≡ false = le-ltb (place (get_or xs i d)) (place x) (omega arith) in
+      rw less (behind_at (place x + 1) i xs d r.1 (omega arith))
+
   pub rise_behind : (low : ℕ) (before : List X) (x : X) (after : List X) → Rise place low (before ++ x ∷ after) → Rise place (place x + 1) after
   rise_behind low [] x after r = r.1
   rise_behind low (y ∷ before) x after r = rise_behind (place y + 1) before x after r.1

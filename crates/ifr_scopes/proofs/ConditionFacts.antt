@@ -25,7 +25,7 @@ use Rattle.ifr_nodes.proofs.TableLemmas.{class_fact, conditions_no_operator, gua
 -- ---- the scopes in which one may stand
 
 -- whether a scope of the class is that of a question, and no guard's in it
-abbrev is_of_question : Class → Bool
+abbrev pub is_of_question : Class → Bool
 is_of_question OfQuestion = true
 is_of_question OfChoice = true
 is_of_question _ = false
@@ -123,13 +123,12 @@ pub record HasQuestion (bytes : List ℕ) (n : Node) : Type 0 where
   pub below : Contains (below question) n
   pub path : n.path ≡ question.path ++ as_ancestor question ∷ []
 
-pub has_question : (bytes : List ℕ) (n : Node) → IsChecked bytes → Contains (nodes_of bytes) n → is_question_condition n ≡ true → HasQuestion bytes n
-has_question bytes n checked within is = elim (inside_node bytes n within) [
-  | inl bare ↦ absurd (false≢true (ap (λ (l : List Ancestor). is_of_question (class_around l)) (sym bare) ∙ class_there bytes n checked within is))
+pub in_question : (bytes : List ℕ) (n : Node) → IsChecked bytes → Contains (nodes_of bytes) n → is_of_question (class_around n.path) ≡ true → HasQuestion bytes n
+in_question bytes n checked within there = elim (inside_node bytes n within) [
+  | inl bare ↦ absurd (false≢true (ap (λ (l : List Ancestor). is_of_question (class_around l)) (sym bare) ∙ there))
   | inr r ↦
       let m = r.outer in
       let a = as_ancestor m in
-      let there = class_there bytes n checked within is in
       elim (cases_Bool (is_guard (number m.op))) [
         | inl guards ↦
             let class : class_around n.path ≡ guarded (class_around m.path) = ap class_around r.path ∙ class-guard m.path a guards in
@@ -139,6 +138,9 @@ has_question bytes n checked within is = elim (inside_node bytes n within) [
             record { question = m; within = r.within; asks = question_class (number m.op) (ap is_of_question (sym class) ∙ there); below = r.below; path = r.path }
       ]
 ]
+
+pub has_question : (bytes : List ℕ) (n : Node) → IsChecked bytes → Contains (nodes_of bytes) n → is_question_condition n ≡ true → HasQuestion bytes n
+has_question bytes n checked within is = in_question bytes n checked within (class_there bytes n checked within is)
 
 -- its place is that of what the node stands in
 pub question_place : (bytes : List ℕ) (n : Node) (h : HasQuestion bytes n) → parent_place n ≡ h.question.place

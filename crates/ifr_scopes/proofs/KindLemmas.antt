@@ -35,7 +35,7 @@ all_are_entries bytes s =
 abbrev pub stated : List ℕ → List Entry → List Node
 stated bytes entries = map (λ entry. node_in bytes entry.place) (filter (λ entry. is_statement_number entry.code) entries)
 
-is_kept : (n : Node) → is_statement n ≡ true → is_indexed n ≡ true
+pub is_kept : (n : Node) → is_statement n ≡ true → is_indexed n ≡ true
 is_kept n is = elim (cases_Bool (is_form n)) [ inl form ↦ rw form refl | inr other ↦ rw (other, is) refl ]
 
 pub again : (bytes : List ℕ) (all ns : List Node) → SpellsForest bytes (tree_of bytes) → ((n : Node) → Contains ns n → Contains (nodes_of bytes) n)

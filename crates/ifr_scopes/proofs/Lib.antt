@@ -28,3 +28,6 @@ pub mod ConditionAtLemmas
 pub mod IndexingLemmas
 pub mod LockingLemmas
 pub mod OutwardLemmas
+pub mod GivingFacts
+pub mod GivingLemmas
+pub mod GivingOfLemmas

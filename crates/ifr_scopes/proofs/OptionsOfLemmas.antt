@@ -1,5 +1,5 @@
 -- The options of a question are the forms, statements and options behind it, up to the next that is no option.
-use Rattle.std.proofs.Common.{◌≡◌, ℕ, zero, suc, ◌+◌, ◌<◌, Bool, true, false, cond, nat_lt, List, [], ◌∷◌, ◌++◌, append_assoc, map, refl, sym, ap, ◌∙◌, subst, inl, inr, arith}
+use Rattle.std.proofs.Common.{◌≡◌, ℕ, zero, suc, ◌+◌, ◌<◌, ◌≤◌, length, Bool, true, false, cond, nat_lt, List, [], ◌∷◌, ◌++◌, append_assoc, map, refl, sym, ap, ◌∙◌, subst, inl, inr, arith}
 use Rattle.std.specs.Prelude.{◌==◌, ◌||◌, Contains, filter}
 use Rattle.std.specs.List.{take_while}
 use Rattle.std.proofs.lemmas.Bool.{cases_Bool, cond-true, cond-false, lt-ltb, ltb-true, false≢true}
@@ -21,6 +21,7 @@ use Rattle.ifr_scopes.specs.declared.index.Entry.{Entry}
 use Rattle.ifr_scopes.proofs.BehindPlaceLemmas.{apart, rise_rest, entries_behind, front, HasBefore, past, none_before}
 use Rattle.ifr_scopes.proofs.ConditionsOfLemmas.{none_inside}
 use Rattle.ifr_scopes.proofs.EntryLemmas.{nodes_again}
+use Rattle.ifr_scopes.proofs.IndexingLemmas.{few_of}
 use Rattle.ifr_scopes.proofs.InsideLemmas.{behind_node}
 use Rattle.ifr_scopes.proofs.OptionFacts.{option_question, not_below, behind_question, question_there}
 use Rattle.ifr_scopes.proofs.KindLemmas.{all_are_entries}
@@ -157,6 +158,13 @@ options_kept bytes m its checked is states e =
 -- what is kept behind a node
 pub are_behind : (bytes : List ℕ) (m : Node) → IsChecked bytes → AreEntries bytes (filter (λ (one : Entry). nat_lt m.place one.place) (entry_table (nodes_of bytes)))
 are_behind bytes m checked = All-filter (λ (one : Entry). nat_lt m.place one.place) (λ one. IsEntry bytes one) (entry_table (nodes_of bytes)) (all_are_entries bytes checked.spelled)
+
+-- It is a part of all.
+pub fewer_kept : (bytes : List ℕ) (m : Node) (its : List Entry) → its ≡ kept_behind bytes m → length its ≤ length (entry_table (nodes_of bytes))
+fewer_kept bytes m its e = elim (cases_Bool (has_scope m.op)) [
+  | inl scoped ↦ omega (arith, ap (λ (l : List Entry). length l) (e ∙ cond-true (has_scope m.op) _ _ scoped), few_of (λ (one : Entry). nat_lt m.place one.place) (entry_table (nodes_of bytes)))
+  | inr bare ↦ omega (arith, ap (λ (l : List Entry). length l) (e ∙ cond-false (has_scope m.op) _ _ bare))
+]
 
 pub entries_kept : (bytes : List ℕ) (m : Node) (its : List Entry) → IsChecked bytes → its ≡ kept_behind bytes m → AreEntries bytes its
 entries_kept bytes m its checked e = elim (cases_Bool (has_scope m.op)) [

@@ -5,6 +5,8 @@ pub mod AroundViews
 pub mod ConditionsLeft
 pub mod DependenceLeft
 pub mod Frames
+pub mod Giving
+pub mod GivingLeft
 pub mod Index
 pub mod Lists
 pub mod LockIndex

@@ -1,6 +1,6 @@
 //! What stands around forms, statements and options.
 
-ghost use Rattle.std.specs.Prelude.{◌≡◌, true, option_and_then, option_map, reverse};
+ghost use Rattle.std.specs.Prelude.{◌≡◌, option_and_then, option_map, reverse};
 ghost use Rattle.ifr_scopes.specs.declared.index.Entry.{Entry};
 ghost use Rattle.ifr_scopes.specs.code.Locked.{IsLockedPlace, IsLockedPlace-prop};
 
@@ -19,7 +19,7 @@ pub struct Around<'s, 'a> {
 }
 
 impl<'s, 'a> Around<'s, 'a> {
-    ghost use Rattle.ifr_scopes.specs.code.AroundViews.{IsSameAround, around_guards, around_lock, around_package};
+    ghost use Rattle.ifr_scopes.specs.code.AroundViews.{around_guards, around_innermost, around_lock, around_package};
     ghost use Rattle.ifr_scopes.specs.code.Lists.{outward_left};
     ghost use Rattle.ifr_scopes.specs.code.LocksLeft.{lock_node};
 
@@ -31,13 +31,11 @@ impl<'s, 'a> Around<'s, 'a> {
         self.guards
     }
 
-    /// Whether the innermost guards of both have the same number, if there are some, and the same LOCKED decides: where both are
-    /// of one package, their guards are the same.
-    pub fn is_same(self, other: Around<'_, '_>) -> bool
-        ensures same { result ≡ true → IsSameAround self.entry other.entry }
-        ensures other { IsSameAround self.entry other.entry → result ≡ true }
+    /// The number of the innermost guard, if there is one: in one package the same number stands for the same guards.
+    pub fn innermost(self) -> Option<u32>
+        ensures { result ≡ around_innermost self.entry }
     {
-        self.guards.next == other.guards.next && self.lock == other.lock
+        self.guards.next
     }
 
     /// The LOCKED that decides, if it is locked.

@@ -1,6 +1,6 @@
 //! A forms package that was read.
 
-ghost use Rattle.std.specs.Prelude.{◌≡◌, ◌==◌, ◌∷◌, [], true, nat_lt, if◌then◌else◌, List, IfOk, IfErr, IfSome, filter, length, option_map};
+ghost use Rattle.std.specs.Prelude.{◌≡◌, ◌-◌, ◌≤◌, ◌==◌, ◌∷◌, [], true, nat_lt, if◌then◌else◌, List, IfOk, IfErr, IfSome, filter, length, option_map};
 ghost use Rattle.std.specs.List.{find};
 ghost use Rattle.hii_bytes.specs.Faults.{Refuses};
 ghost use Rattle.ifr_opcodes.specs.Forest.{Node as Placed};
@@ -12,6 +12,8 @@ ghost use Rattle.ifr_scopes.specs.code.AllConditionsLeft.{all_conditions_left};
 ghost use Rattle.ifr_scopes.specs.code.AnyConditions.{any_condition_node};
 ghost use Rattle.ifr_nodes.specs.code.Checked.{IsNodeOf, has_form};
 ghost use Rattle.ifr_scopes.specs.code.ConditionsLeft.{conditions_of_left};
+ghost use Rattle.ifr_scopes.specs.code.Giving.{is_giving};
+ghost use Rattle.ifr_scopes.specs.code.GivingLeft.{giving_left};
 ghost use Rattle.ifr_nodes.specs.Guards.{is_guard};
 ghost use Rattle.ifr_scopes.specs.code.Index.{conditional_at, guards_of_indexed, indexed_at, lock_of_indexed};
 ghost use Rattle.ifr_scopes.specs.code.Lists.{form_node, form_set_node, rule_node, stores_left, all_guards_left, forms_left, rules_left, all_statements_left, statement_node, guards_left};
@@ -35,12 +37,13 @@ use crate::condition_view::ConditionView;
 use crate::conditions_of::ConditionsOf;
 use crate::form::{Form, FormViews};
 use crate::form_set::FormSet;
+use crate::giving::GivingStatements;
 use crate::guard::{Guard, GuardViews};
 use crate::guards_at::GuardsAt;
 use crate::guards_outward::GuardsOutward;
 use crate::index::{
     ConditionEntry, Entry, Index, condition_at, conditions_behind, entries_behind, entry_at,
-    guard_at,
+    guard_at, places_behind,
 };
 use crate::indexing::index_of;
 use crate::no_submits::NoSubmits;
@@ -211,17 +214,49 @@ impl<'a> Forms<'a> {
         }
     }
 
+    // How many forms, statements and options stand before these, which are the last of them.
+    fn position_of(&self, kept: &[Entry]) -> u32
+        requires { length kept.now ≤ length (entry_table (nodes_of self.now)) }
+        ensures { result ≡ length (entry_table (nodes_of self.now)) - length kept.now }
+    {
+        (self.index.entries.len() - kept.len()) as u32
+    }
+
+    // What the index has behind a form, and how many stand before it.
+    fn entries_from(&self, form: Form<'a>) -> (&[Entry], u32)
+        ensures { result.0.now ≡ filter (λ e. nat_lt (form_node form.entry).place e.place)
+            (entry_table (nodes_of self.now)) }
+    {
+        let entries = self.index.entries.as_slice();
+        let kept = entries_behind(entries, form.place(), 0);
+        (kept, (entries.len() - kept.len()) as u32)
+    }
+
     /// The statements of a form, by place, the first of them found in one search. Each knows its position.
     pub fn statements_of(&self, form: Form<'a>) -> StatementsOf<'_, 'a>
         requires node { IsNodeOf self.now (form_node form) }
         ensures { statements_of_left result ≡ statements (form_node form.entry) }
     {
-        let entries = self.index.entries.as_slice();
-        let kept = entries_behind(entries, form.place());
+        let (kept, position) = self.entries_from(form);
         StatementsOf {
             ifr: self.ifr,
             kept,
-            position: (entries.len() - kept.len()) as u32,
+            position,
+        }
+    }
+
+    /// The statements of a form, by place, that may have a default: a DEFAULT stands in their scope, or a flag gives one. Two
+    /// searches find where the form begins. Each knows its position.
+    pub fn giving_statements_of(&self, form: Form<'a>) -> GivingStatements<'_, 'a>
+        requires node { IsNodeOf self.now (form_node form) }
+        ensures { giving_left result ≡ filter is_giving (statements (form_node form.entry)) }
+    {
+        let (kept, position) = self.entries_from(form);
+        GivingStatements {
+            ifr: self.ifr,
+            kept,
+            position,
+            places: places_behind(&self.index.giving, form.place()),
         }
     }
 
@@ -265,21 +300,23 @@ impl<'a> Forms<'a> {
     {
         let op = statement.op().op;
         if op.scope {
-            entries_behind(&self.index.entries, op.place)
+            entries_behind(&self.index.entries, op.place, statement.position())
         } else {
             &[]
         }
     }
 
-    /// The options in the scope of the question that a statement is, by place, found in one search; none of a statement that is
-    /// none.
+    /// The options in the scope of the question that a statement is, by place, found with no search where the statement
+    /// knows its position; none of a statement that is none. Each knows its position.
     pub fn options_of(&self, statement: Statement<'a>) -> OptionsOf<'_, 'a>
         requires node { IsNodeOf self.now (statement_node statement) }
         ensures { options_of_left result ≡ options (statement_node statement.entry) }
     {
+        let kept = self.entries_behind(statement);
         OptionsOf {
             ifr: self.ifr,
-            kept: self.entries_behind(statement),
+            kept,
+            position: self.position_of(kept),
         }
     }
 

@@ -1,5 +1,6 @@
 //! An index of a package: by place its forms, statements and options with what is around them, its guards, the conditions of its
-//! questions, its stores and its rules, and its forms by their ids; and how its tables are searched.
+//! questions, its stores, its rules and the statements that give a default, and its forms by their ids; and how its tables are
+//! searched.
 
 ghost use Rattle.std.specs.Prelude.{◌≡◌, ◌==◌, ℕ, nat_lt, filter};
 ghost use Rattle.std.specs.List.{find};
@@ -65,6 +66,8 @@ pub struct Index {
     pub(crate) stores: Vec<u32>,
     /// The places of the rules.
     pub(crate) rules: Vec<u32>,
+    /// The places of the statements that give a default.
+    pub(crate) giving: Vec<u32>,
 }
 
 /// The form, statement or option at a place, which is looked for first at this position.
@@ -83,11 +86,15 @@ pub(crate) fn entry_at(entries: &[Entry], place: u32, position: u32) -> Option<E
     }
 }
 
-/// The forms, statements and options behind a place.
-pub(crate) fn entries_behind(entries: &[Entry], place: u32) -> &[Entry]
+/// The forms, statements and options behind a place. What stands there is looked for first at this position.
+pub(crate) fn entries_behind(entries: &[Entry], place: u32, position: u32) -> &[Entry]
     ensures { (low : ℕ) → Rise (λ (e : Entry). e.place) low entries.now
         → result.now ≡ filter (λ e. nat_lt place e.place) entries.now }
 {
+    let at = position as usize;
+    if at < entries.len() && entries[at].place == place {
+        return &entries[at + 1..];
+    }
     let first = entries.partition_point(|entry| entry.place <= place);
     &entries[first..]
 }
@@ -121,4 +128,13 @@ pub(crate) fn conditions_behind(conditions: &[ConditionEntry], place: u32) -> &[
 {
     let first = conditions.partition_point(|condition| condition.place <= place);
     &conditions[first..]
+}
+
+/// Those of some places that are behind another.
+pub(crate) fn places_behind(places: &[u32], place: u32) -> &[u32]
+    ensures { (low : ℕ) → Rise (λ (p : ℕ). p) low places.now
+        → result.now ≡ filter (λ p. nat_lt place p) places.now }
+{
+    let first = places.partition_point(|one| *one <= place);
+    &places[first..]
 }

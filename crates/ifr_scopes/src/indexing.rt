@@ -19,6 +19,7 @@ ghost use Rattle.ifr_scopes.specs.code.Tables.{IsIndexOf, places_of, inner_last,
 ghost use Rattle.ifr_nodes.specs.code.FormIds.{form_entry};
 ghost use Rattle.ifr_nodes.specs.code.Views.{node_of};
 
+use crate::giving::add_giving;
 use crate::index::{ConditionEntry, Entry, GuardEntry, Index};
 use arrayvec::ArrayVec;
 use hii_bytes::{IdEntry, IdTable};
@@ -238,6 +239,8 @@ pub(crate) fn index_of(alloc: Global, ifr: &[u8]) -> Result<Index, AllocError>
     let mut forms = Vec::new(alloc);
     let mut stores = Vec::new(alloc);
     let mut rules = Vec::new(alloc);
+    let mut giving = Vec::new(alloc);
+    let mut last = None;
     let mut locks = BTreeMap::new(alloc);
     let mut inner = ArrayVec::new();
     let mut nodes = ScopedNodes::over(ifr);
@@ -250,6 +253,7 @@ pub(crate) fn index_of(alloc: Global, ifr: &[u8]) -> Result<Index, AllocError>
         add_form(&mut forms, met.node)?;
         add_store(&mut stores, met.node)?;
         add_rule(&mut rules, met.node)?;
+        add_giving(&mut giving, &mut last, met.node)?;
         add_lock(&mut locks, &nodes, &met)?;
     }
     lock_entries(ifr, &locks, &mut entries);
@@ -260,5 +264,6 @@ pub(crate) fn index_of(alloc: Global, ifr: &[u8]) -> Result<Index, AllocError>
         forms: IdTable::of(forms)?,
         stores,
         rules,
+        giving,
     })
 }

@@ -14,6 +14,8 @@ use ifr_opcodes::OptionOp;
 #[derive(Clone, Copy)]
 pub struct OptionView<'a> {
     pub(crate) node: Node<'a>,
+    // At which position of the index it is looked for first.
+    pub(crate) position: u32,
     pub ghost option: { is_option (node_of node) ≡ true },
 }
 
@@ -25,6 +27,14 @@ impl<'a> OptionView<'a> {
     ghost use Rattle.ifr_nodes.specs.Nodes.{nodes_of};
     ghost use Rattle.ifr_scopes.specs.code.Lists.{guards_of_left};
     ghost use Rattle.ifr_scopes.specs.code.Parts.{option_node, option_package};
+
+    /// How many forms, statements and options stand before it, if it comes from an index, and else 0: where `Forms` looks
+    /// for it first. What is found there is compared with its place.
+    pub fn position(self) -> u32
+        ensures { result ≡ self.entry.position }
+    {
+        self.position
+    }
 
     /// The place of the option, in bytes from the package's header.
     pub fn place(self) -> u32
@@ -80,6 +90,6 @@ impl<'a> Iterator for Options<'a> {
 
     fn next(&mut self) -> Option<OptionView<'a>> {
         let node = self.nodes.step()?;
-        Some(OptionView { node })
+        Some(OptionView { node, position: 0 })
     }
 }

@@ -15,6 +15,8 @@ pub struct OptionsOf<'s, 'a> {
     pub(crate) ifr: &'a [u8],
     // First come the options that are left, then what is no option.
     pub(crate) kept: &'s [Entry],
+    // How many stand before these entries.
+    pub(crate) position: u32,
     pub ghost checked: { IsChecked ifr.now } by { IsChecked-prop ifr.now },
     pub ghost entries: { AreEntries ifr.now kept.now } by { AreEntries-prop ifr.now kept.now },
 }
@@ -35,8 +37,12 @@ impl<'s, 'a> Iterator for OptionsOf<'s, 'a> {
         if first.code != ONE_OF_OPTION {
             return None;
         }
-        let node = node_at(self.ifr, first.place);
+        let position = self.position;
         self.kept = kept;
-        Some(OptionView { node })
+        self.position = position.wrapping_add(1);
+        Some(OptionView {
+            node: node_at(self.ifr, first.place),
+            position,
+        })
     }
 }

@@ -72,6 +72,10 @@ impl<'v> Answers<'v> for Nobody {
     fn answer(&self, _question: u16) -> Value<'v> {
         Value::Undefined
     }
+
+    fn number(&self, _question: u16) -> Option<u64> {
+        None
+    }
 }
 
 // Whether the condition of a guard has a value, and whether it holds.

@@ -1,18 +1,23 @@
 -- Bytes of fields that lie within ranges, and in which stores differ.
-use Rattle.std.proofs.Common.{◌≡◌, ℕ, zero, suc, min, max, ◌+◌, ◌-◌, ◌<◌, ◌≤◌, ◌==◌, ◌&&◌, ◌||◌, nat_le, nat_lt, not, Bool, true, false, Option, None, Some, List, [], ◌∷◌, length, drop, refl, sym, ap, ◌∙◌, inl, inr, arith}
+use Rattle.std.proofs.Common.{◌≡◌, ℕ, zero, suc, min, max, ◌+◌, ◌-◌, ◌<◌, ◌≤◌, ◌==◌, ◌&&◌, ◌||◌, nat_le, nat_lt, not, Bool, true, false, Option, None, Some, List, [], ◌∷◌, length, drop, get_or, count_by, filter, refl, sym, ap, ◌∙◌, inl, inr, arith}
 use Rattle.std.specs.List.{AllWithin}
 use Rattle.std.proofs.lemmas.List.{drop_more, drop_all}
 use Rattle.std.proofs.lemmas.Bool.{cases_lt, and_from, and_parts, eqb-true, eq-eqb, leb-true, le-leb, ltb-true, lt-ltb, false≢true, and_right, false_from_ne_true}
 use Rattle.std.proofs.Math.Bool.{and-true}
+use Rattle.std.proofs.lemmas.List.Folds.{list_any_none}
+use Rattle.ifr_opcodes.specs.Forest.{Node}
 use Rattle.hii_varstore.specs.Stores.{StoreMap, shape_of, bytes_of, byte_of}
+use Rattle.hii_questions.specs.Fields.{Field}
 use Rattle.hii_questions.specs.code.Numbers.{first_of, behind_of}
 use Rattle.hii_questions.specs.declared.field_range.FieldRange.{FieldRange}
 use Rattle.kept_conditions.specs.code.Invalidation.{common, other_at, other_bytes, LiesWithin, AreAlike, in_range}
 use Rattle.kept_conditions.specs.code.Index.{AreSmall, NoneOverlaps, at_place, is_dependency, overlaps, no_dependency, depends_on}
-use Rattle.kept_conditions.specs.Touching.{difference, has_one, is_same}
+use Rattle.guard_policy.specs.Conditions.{condition_ids, is_kept}
+use Rattle.kept_conditions.specs.Touching.{difference, field_with, has_byte, has_one, is_same, renewals, touches}
 use Rattle.kept_conditions.specs.declared.index.Dependency.{Dependency}
 use Rattle.kept_conditions.specs.code.Index as dependencies
 use Rattle.kept_conditions.proofs.DifferenceLemmas.{difference_at, equal_behind, none_one, one_size}
+use Rattle.kept_conditions.proofs.FilterLemmas.{none_count}
 use Rattle.kept_conditions.proofs.UntouchedLemmas.{none_has}
 use Rattle.kept_conditions.proofs.OverlapLemmas.{alike, has_some, overlaps_range, some_has, skip, unmet_behind}
 
@@ -118,6 +123,21 @@ same_byte (Some b) = eq-eqb b b refl
 
 pub alike_nowhere : (old new : StoreMap) → AreAlike old new → (store at : ℕ) → difference old new store at ≡ false
 alike_nowhere old new same store at = ap (λ o. not (is_same o (byte_of new store at))) (same store at) ∙ ap not (same_byte (byte_of new store at))
+
+-- stores that take over what they hold touch no condition
+no_count : {X : Type 0} (p : X → Bool) (xs : List X) → ((x : X) → p x ≡ false) → count_by p xs ≡ 0
+no_count p [] none = refl
+no_count p (x ∷ xs) none = none_count p (x ∷ xs) x (λ k less. none (get_or (x ∷ xs) k x))
+
+untouched_field : (bytes : ℕ → ℕ → Bool) (field : Option Field) → ((store at : ℕ) → bytes store at ≡ false) → has_byte bytes field ≡ false
+untouched_field bytes None none = refl
+untouched_field bytes (Some f) none = none_one bytes f.store f.width f.offset (λ at from before. none f.store at)
+
+pub none_renewed : (ns : List Node) (m : StoreMap) → renewals ns (difference m m) ≡ 0
+none_renewed ns m =
+    let none = alike_nowhere m m (λ store at. refl) in
+    no_count (touches ns (difference m m)) (filter is_kept ns) (λ c.
+    list_any_none (λ id. has_byte (difference m m) (field_with ns id)) (condition_ids ns c) (λ k d less. untouched_field (difference m m) (field_with ns (get_or (condition_ids ns c) k d)) none))
 
 -- a dependency that has no byte of a range has none that is among others, too
 pub apart_dependency : (bytes : ℕ → ℕ → Bool) (range : FieldRange) (r : Dependency) (k : ℕ) → range.offset < 65536 → r.range.offset < 65536 → overlaps (first_of range) (behind_of range) r ≡ false → is_dependency (common bytes (in_range range)) k r ≡ false

@@ -1,5 +1,5 @@
 -- What holds of a session at all times, and what the steps of a command come to.
-use Rattle.std.specs.Prelude.{◌≡◌, ℕ, true, ◌<◌, ◌^◌, All, List, [], ◌++◌, length, Option, Some, None, Result, Ok, Err}
+use Rattle.std.specs.Prelude.{◌≡◌, ℕ, Bool, true, false, ◌<◌, ◌≤◌, ◌^◌, All, List, [], ◌++◌, length, Option, Some, None, Result, Ok, Err}
 use Rattle.browser_rules.specs.Configuration.{Header, Block}
 use Rattle.config_text.specs.Written.{AreInside}
 use Rattle.ifr_opcodes.specs.Forest.{Node}
@@ -28,10 +28,11 @@ use Rattle.session_steps.specs.Texts.{ok_text, count_text}
 use Rattle.session_steps.specs.Step.{Outcome, accepted, denied, no_question, warned_text, set_question, take_defaults, taken, row_of_form, form_of, press, show_form, follow, configuration_text, extract_from, route_to}
 
 -- The package can be browsed, the questions, the stores and what is kept of conditions are its own, no two stores have one id,
--- the spare stores are the working ones, and the form and those of the history are among its nodes.
+-- the spare stores are the working ones, these hold what was last submitted unless they were written, there is room for the ids of
+-- all questions, and the form and those of the history are among its nodes.
 pub record Stands (ifr : List ℕ) (varstores : List ℕ) (questions : Survey)
-    (committed : StoreMap) (working : KeptMap) (spare : StoreMap) (form : Node)
-    (history : List ℕ) : Type 0 where
+    (committed : StoreMap) (working : KeptMap) (spare : StoreMap) (is_written : Bool) (room : ℕ)
+    (form : Node) (history : List ℕ) : Type 0 where
   pub named_stores : varstores ≡ ifr
   pub buffers : AreBuffers (layout_in ifr).buffers
   pub together : questions.ifr ≡ ifr
@@ -40,6 +41,8 @@ pub record Stands (ifr : List ℕ) (varstores : List ℕ) (questions : Survey)
   pub kept : working.ifr ≡ ifr
   pub laid : shape_of working.stores ≡ layout_in ifr
   pub same : spare ≡ working.stores
+  pub unwritten : is_written ≡ false → committed ≡ working.stores
+  pub told : length (fields.questions (nodes_of ifr)) ≤ room
   pub node : IsNodeOf ifr form
   pub left : All (λ place. has_form ifr place ≡ true) history
 

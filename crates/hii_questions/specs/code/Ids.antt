@@ -1,9 +1,12 @@
--- The ids of questions, each with the number of its question.
-use Rattle.std.specs.Prelude.{◌≡◌, ℕ, ◌+◌, List, [], ◌∷◌}
+-- The ids of questions, alone and each with the number of its question.
+use Rattle.std.specs.Prelude.{◌≡◌, ℕ, ◌+◌, List, [], ◌∷◌, map}
 use Rattle.ifr_opcodes.specs.Fields.{question_id}
 use Rattle.hii_questions.specs.Fields.{Asked}
 use Rattle.hii_bytes.specs.code.IdTables.{number_with}
 use Rattle.hii_bytes.specs.declared.id_table.IdEntry.{IdEntry}
+
+abbrev pub ids_of : List Asked → List ℕ
+ids_of qs = map (λ q. question_id q.node.op) qs
 
 -- the ids of questions that are numbered from one on
 abbrev pub ids_from : ℕ → List Asked → List IdEntry

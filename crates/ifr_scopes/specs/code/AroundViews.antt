@@ -1,5 +1,5 @@
 -- What stands around a form, a statement or an option.
-use Rattle.std.specs.Prelude.{◌≡◌, ℕ, Option, option_map, List}
+use Rattle.std.specs.Prelude.{ℕ, Option, option_map, List}
 use Rattle.ifr_opcodes.specs.Forest.{Node}
 use Rattle.ifr_nodes.specs.Nodes.{nodes_of}
 use Rattle.ifr_nodes.specs.code.Checked.{node_in}
@@ -10,14 +10,14 @@ use Rattle.ifr_scopes.specs.declared.around.Around.{Around}
 abbrev pub around_package : Around → List ℕ
 around_package it = it.guards.ifr.now
 
+-- the number of the innermost guard
+abbrev pub around_innermost : Around → Option ℕ
+around_innermost it = it.guards.next
+
 -- the guards, the outermost first
 abbrev pub around_guards : Around → List Node
-around_guards it = guards_from (nodes_of it.guards.ifr.now) it.guards.next
+around_guards it = guards_from (nodes_of (around_package it)) (around_innermost it)
 
 -- the LOCKED that decides
 abbrev pub around_lock : Around → Option Node
-around_lock it = option_map (node_in it.guards.ifr.now) it.lock
-
--- The innermost guard has the same number, and the same LOCKED decides.
-abbrev pub IsSameAround : Around → Around → Type 0
-IsSameAround one other = (one.guards.next ≡ other.guards.next) × (one.lock ≡ other.lock)
+around_lock it = option_map (node_in (around_package it)) it.lock

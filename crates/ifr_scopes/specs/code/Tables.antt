@@ -14,6 +14,7 @@ use Rattle.ifr_nodes.specs.code.Checked.{or_empty, node_in, has_node, has_guard}
 use Rattle.ifr_nodes.specs.code.Ends.{expression_end}
 use Rattle.ifr_scopes.specs.code.Index.{is_indexed, entry_at}
 use Rattle.ifr_nodes.specs.code.FormIds.{AreFormEntries}
+use Rattle.ifr_scopes.specs.code.Giving.{is_giving}
 use Rattle.ifr_scopes.specs.code.LockIndex.{lock_place}
 use Rattle.ifr_scopes.specs.declared.index.Index.{Index}
 use Rattle.ifr_scopes.specs.declared.index.Entry.{Entry}
@@ -242,6 +243,7 @@ pub record IsIndexOf (ns : List Node) (index : Index) : Type 0 where
   pub forms : AreFormEntries ns index.forms
   pub stores : index.stores.items ≡ places_of is_store ns
   pub rules : index.rules.items ≡ places_of is_rule ns
+  pub giving : index.giving.items ≡ places_of is_giving ns
 
 guard_entry_prop : (a b : GuardEntry) → IsProp (a ≡ b)
 guard_entry_prop a b = hlevel (props, option_prop)

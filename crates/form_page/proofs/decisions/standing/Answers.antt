@@ -13,7 +13,7 @@ returns-clause-listed g c =
     let page = c.args.page in
     let stores = page.stores.now in
     let holding = g.C.Conditions.holding page.conditions.now in
-    let tells = decision_told (bytes_of page.policy) page.policy.removed.now stores holding page.policy.accepted page.told (Listed c.args.statement) c.requires refl in
+    let tells = decision_told (bytes_of page.policy) page.policy.removed.now stores holding page.policy.accepted page.told (Listed c.args.statement) c.requires.node refl in
     ap is_ok (c.standing_by.ensures.listed stores tells) ∙ allowed (hidden (world page.policy stores) (statement_node c.args.statement))
 
 pub returns-clause-fixed : goal.returns-clause-fixed
@@ -21,5 +21,5 @@ returns-clause-fixed g c =
     let page = c.args.page in
     let stores = page.stores.now in
     let holding = g.C.Conditions.holding page.conditions.now in
-    let tells = decision_told (bytes_of page.policy) page.policy.removed.now stores holding page.policy.accepted page.told (Changeable c.args.statement) c.requires refl in
+    let tells = decision_told (bytes_of page.policy) page.policy.removed.now stores holding page.policy.accepted page.told (Changeable c.args.statement) c.requires.node refl in
     ap is_err (c.standing_by.ensures.changeable stores tells) ∙ denied (fixed (world page.policy stores) (statement_node c.args.statement))

@@ -7,6 +7,7 @@ use Rattle.ifr_nodes.specs.Nodes.{nodes_of}
 use Rattle.ifr_nodes.specs.code.Views.{node_of}
 use Rattle.ifr_nodes.specs.code.Visits.{left}
 use Rattle.ifr_nodes.proofs.FormTableLemmas.{place_with}
+use Rattle.ifr_scopes.proofs.GivingLemmas.{HasAdded, added_next, all_added, none_added}
 use Rattle.ifr_scopes.proofs.IndexLemmas.{nodes_rise}
 use Rattle.ifr_scopes.proofs.IndexingLemmas.{Made, made_start, made_next, made_all, few_made, path_depth}
 use Rattle.ifr_scopes.proofs.indexing.index_of.Goals as goal
@@ -14,6 +15,7 @@ use Rattle.ifr_scopes.proofs.indexing.index_of.Goals as goal
 pub loop-met-init : goal.loop-met-init
 loop-met-init c = record {
   made = made_start c.args.ifr.now _ _ _ _ _ _ _ _ _ c.requires.spelled c.new-entries.ensures.items c.new-guards.ensures.items c.new-conditions.ensures.items c.new-forms.ensures.items c.new-stores.ensures.items c.new-rules.ensures.items (λ scope. search rules) c.new-inner.ensures c.over-nodes.ensures.all;
+  giving = none_added (nodes_of c.args.ifr.now) _ _ c.new-giving.ensures.items c.over-nodes.ensures.all;
   kept = c.over-nodes.ensures.kept;
 }
 
@@ -46,6 +48,7 @@ loop-met-preserved c =
           found (get nat_cmp c.add_lock.new.locks) old.inner.items c.descend-guard.new.inner.items n (left c.step.new.self.walk) c.in-Some.met.depth c.len.result c.len-own.result c.descend-guard.result
           (nodes_rise bytes c.requires.spelled) now (path_depth _ _ _ n around.within around.path) count next c.descend-guard.ensures.around c.descend-guard.ensures.inner
           c.in_ok-add_entry.ensures c.in_ok-add_guard.ensures c.in_ok-add_condition.ensures c.in_ok-add_form.ensures c.in_ok-add_store.ensures c.in_ok-add_rule.ensures c.in_ok-add_lock.ensures;
+      giving = added_next ns old.giving.items c.add_giving.new.places.items old.last c.add_giving.new.last n (left c.step.new.self.walk) (subst (HasAdded ns old.giving.items old.last) c.in-Some.ensures.some.0 old.invariant.giving) c.in_ok-add_giving.ensures.added c.in_ok-add_giving.ensures.last;
       kept = c.step.ensures.kept ∙ old.invariant.kept;
     }
 
@@ -60,4 +63,5 @@ returns c =
       forms = λ id. c.in_ok-of.ensures id ∙ ap (λ (l : List IdEntry). number_with l id) all.forms_are ∙ place_with ns id;
       stores = all.stores_are;
       rules = all.rules_are;
+      giving = all_added c.args.ifr.now _ _ (left c.loop-met.nodes.walk) c.requires c.loop-met.invariant.giving c.in_default.ensures.none.0;
     }

@@ -1,4 +1,4 @@
-use Rattle.std.proofs.Common.{List, sym, ap, ◌∙◌}
+use Rattle.std.proofs.Common.{false, List, sym, ap, ◌∙◌}
 use Rattle.ifr_opcodes.specs.Forest.{Node}
 use Rattle.hii_varstore.specs.Stores.{shape_of}
 use Rattle.kept_conditions.specs.Kept.{KeptMap, counted}
@@ -26,8 +26,9 @@ copy_from-requires-2 c = ap shape_of c.self.invariant.same ∙ c.self.invariant.
 
 pub invariant_of-self : goal.invariant_of-self
 invariant_of-self c =
-    stands_with c.self.inside c.copy_from.new.self c.copy_from-2.new.self c.self.invariant (ap (λ (m : KeptMap). m.ifr) c.copy_from.ensures) (ap shape_of c.copy_from-2.ensures ∙ c.self.invariant.submitted)
+    stands_with c.self.inside c.copy_from.new.self c.copy_from-2.new.self false c.self.invariant (ap (λ (m : KeptMap). m.ifr) c.copy_from.ensures) (ap shape_of c.copy_from-2.ensures ∙ c.self.invariant.submitted)
     (c.copy_from-2.ensures ∙ sym (ap (λ (m : KeptMap). m.stores) c.copy_from.ensures))
+    (λ _. sym (ap (λ (m : KeptMap). m.stores) c.copy_from.ensures))
 
 pub returns-clause-state : goal.returns-clause-state
 returns-clause-state c =

@@ -63,6 +63,8 @@ invariant_of-result c =
       kept = ap (λ (it : KeptMap). it.ifr) held.working;
       laid = ap (λ (it : KeptMap). shape_of it.stores) held.working ∙ held.spelled.laid;
       same = held.spare ∙ sym (ap (λ (it : KeptMap). it.stores) held.working);
+      unwritten = λ _. sym (ap (λ (it : KeptMap). it.stores) held.working);
+      told = held.room;
       node = c.first_form-form.ensures.node;
       left = search rules;
     }

@@ -34,6 +34,8 @@ invariant_of-self c =
       kept = c.set_blocks.ensures.same_package ∙ c.self.invariant.kept;
       laid = c.set_blocks.ensures.shape ∙ c.self.invariant.laid;
       same = kept_alike _ _ _ _ _ _ _ c.self.invariant.buffers c.self.invariant.laid c.set_blocks.ensures;
+      unwritten = λ e. absurd cc;
+      told = c.self.invariant.told;
       node = c.self.invariant.node;
       left = c.self.invariant.left;
     }

@@ -1,25 +1,21 @@
 use Rattle.std.proofs.Common.{◌≡◌, Ok, Err, refl, sym, ap, subst, ◌∙◌}
 use Rattle.hii_bytes.specs.Watching.{pen_of, Writes}
-use Rattle.hii_varstore.specs.Stores.{StoreMap, shape_of}
 use Rattle.guard_policy.specs.Policy.{unsubmitted}
 use Rattle.guard_policy.specs.code.Answers.{unless}
-use Rattle.browser_commands.proofs.Browsers.{state_in, seen}
-use Rattle.session_steps.specs.Renewed.{Shown}
-use Rattle.session_steps.specs.State.{State, world_of}
-use Rattle.session_steps.specs.Step.{Outcome, commit}
+use Rattle.session_steps.specs.State.{world_of}
+use Rattle.session_steps.specs.Step.{Outcome}
 use Rattle.browser_commands.proofs.SetLemmas.{submits, submits_nothing}
 use Rattle.browser_commands.proofs.browser.Browser.submit.Goals as goal
 
 pub returns-in-Ok-clause-state : goal.returns-in-Ok-clause-state
 returns-in-Ok-clause-state g c =
-    let inside : State = state_in c.self.inside in
     let free : unless (unsubmitted (world_of c.args.self.now.state)) ≡ Ok tt = sym c.may_submit.ensures ∙ c.in-Ok.is in
-    ap (λ (m : StoreMap). record inside { committed = m }) (c.copy_from.ensures ∙ c.stores.ensures) ∙ ap (λ (s : State). (commit s).state) (seen c.self.view_is) ∙ ap (λ (o : Outcome). o.state) (sym (submits c.args.self.now.state free))
+    c.commit.ensures.state ∙ ap (λ (o : Outcome). o.state) (sym (submits c.args.self.now.state free))
 
 pub returns-in-Ok-clause-text : goal.returns-in-Ok-clause-text
 returns-in-Ok-clause-text g c =
     let free : unless (unsubmitted (world_of c.args.self.now.state)) ≡ Ok tt = sym c.may_submit.ensures ∙ c.in-Ok.is in
-    subst (λ (o : Outcome). Writes (pen_of g.W.Write.contents c.args.out.now) (pen_of g.W.Write.contents c.put_submitted.new.out) o.text) (sym (submits c.args.self.now.state free)) c.put_submitted.ensures
+    subst (λ (o : Outcome). Writes (pen_of g.W.Write.contents c.args.out.now) (pen_of g.W.Write.contents c.commit.new.out) o.text) (sym (submits c.args.self.now.state free)) c.commit.ensures.text
 
 pub returns-in-Ok-clause-reply : goal.returns-in-Ok-clause-reply
 returns-in-Ok-clause-reply g c =
@@ -40,26 +36,6 @@ pub returns-in-Err-clause-reply : goal.returns-in-Err-clause-reply
 returns-in-Err-clause-reply g c =
     let why : unless (unsubmitted (world_of c.args.self.now.state)) ≡ Err c.in-Err.denial = sym c.may_submit.ensures ∙ c.in-Err.is in
     c.deny.ensures.reply ∙ ap (λ (o : Outcome). o.reply) (sym (submits_nothing c.args.self.now.state c.in-Err.denial why))
-
-pub copy_from-requires : goal.copy_from-requires
-copy_from-requires g c = c.self.invariant.submitted ∙ sym (ap shape_of c.stores.ensures ∙ c.self.invariant.laid)
-
-pub invariant_of-self : goal.invariant_of-self
-invariant_of-self g c = record {
-  named_stores = c.self.invariant.named_stores;
-  buffers = c.self.invariant.buffers;
-  together = c.self.invariant.together;
-  browsable = c.self.invariant.browsable;
-  submitted = ap shape_of (c.copy_from.ensures ∙ c.stores.ensures) ∙ c.self.invariant.laid;
-  kept = c.self.invariant.kept;
-  laid = c.self.invariant.laid;
-  same = c.self.invariant.same;
-  node = c.self.invariant.node;
-  left = c.self.invariant.left;
-}
-
-pub returns-in-Ok-clause-renewed : goal.returns-in-Ok-clause-renewed
-returns-in-Ok-clause-renewed g c = ap (λ (t : Shown). t.renewed) c.self.view_is
 
 pub returns-in-Err-clause-renewed : goal.returns-in-Err-clause-renewed
 returns-in-Err-clause-renewed g c = refl

@@ -3,7 +3,7 @@ use Rattle.std.proofs.lemmas.List.Elements.{All-head, All-tail}
 use Rattle.ifr_opcodes.specs.Forest.{Node}
 use Rattle.ifr_nodes.specs.code.Checked.{IsNodeOf, AreNodesOf}
 use Rattle.ifr_scopes.specs.code.Lists.{statement_node}
-use Rattle.ifr_scopes.specs.code.StatementsLeft.{statements_of_left}
+use Rattle.ifr_scopes.specs.code.GivingLeft.{giving_left}
 use Rattle.guard_policy.specs.code.Views.{bytes_of}
 use Rattle.browser_commands.proofs.DefaultLemmas.{takes_next, still_browsed}
 use Rattle.browser_commands.proofs.sources.Sources.take_each.Goals as goal
@@ -12,7 +12,7 @@ pub take_default-requires-clause-node : goal.take_default-requires-clause-node
 take_default-requires-clause-node c =
     let n = statement_node c.in-Some.statement in
     let all = subst (AreNodesOf (bytes_of c.args.self.policy)) c.in-Some.ensures.steps c.loop-statement.invariant.nodes in
-    All-head (λ m. IsNodeOf (bytes_of c.args.self.policy) m) n (statements_of_left c.next.new.self) all
+    All-head (λ m. IsNodeOf (bytes_of c.args.self.policy) m) n (giving_left c.next.new.self) all
 
 pub take_default-requires-clause-browsed : goal.take_default-requires-clause-browsed
 take_default-requires-clause-browsed c =
@@ -21,7 +21,7 @@ take_default-requires-clause-browsed c =
 pub loop-statement-preserved-then-take_default : goal.loop-statement-preserved-then-take_default
 loop-statement-preserved-then-take_default c =
     let n = statement_node c.in-Some.statement in
-    let ns = statements_of_left c.next.new.self in
+    let ns = giving_left c.next.new.self in
     let steps = c.in-Some.ensures.steps in
     let few = c.loop-statement.invariant.few in
     let fewer = ap (λ (l : List Node). length l) steps in
@@ -37,7 +37,7 @@ loop-statement-preserved-then-take_default c =
 pub loop-statement-preserved : goal.loop-statement-preserved
 loop-statement-preserved c =
     let n = statement_node c.in-Some.statement in
-    let ns = statements_of_left c.next.new.self in
+    let ns = giving_left c.next.new.self in
     let steps = c.in-Some.ensures.steps in
     let few = c.loop-statement.invariant.few in
     let fewer = ap (λ (l : List Node). length l) steps in

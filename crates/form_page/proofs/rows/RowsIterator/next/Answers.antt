@@ -17,7 +17,7 @@ first : (g : _) (c : In-Some-row_of g)
 first g c =
     let page = c.args.self.now.listed.page in
     first_row (texts_of page) (world_of page) page.stores.now c.loop-statement.self.number (all_left c.loop-statement.self.listed) (all_left c.take_first.new.self) (statement_node c.in-Some.statement) (row_seen c.in-Some-row_of.row)
-    c.in-Some.ensures.steps c.in-Some-row_of.ensures
+    c.in-Some.ensures.steps c.in-Some-row_of.ensures.row
 
 pub overflow_add-self : goal.overflow_add-self
 overflow_add-self g c =
@@ -74,7 +74,7 @@ passed g c =
     let same = c.loop-statement.invariant.same in
     let old_left = ap (λ (page : Page _ _). listed_among (world_of page) (all_left it.listed)) same in
     let new_left = ap (λ (page : Page _ _). listed_among (world_of page) (all_left new)) (c.in-Some.ensures.page ∙ same) in
-    new_left ∙ sym (no_row (world_of page) (all_left it.listed) (all_left new) n (row_of (texts_of page) (world_of page) page.stores.now it.number n) c.in-Some.ensures.steps c.in_default-row_of.ensures) ∙ sym old_left
+    new_left ∙ sym (no_row (world_of page) (all_left it.listed) (all_left new) n (row_of (texts_of page) (world_of page) page.stores.now it.number n) c.in-Some.ensures.steps c.in_default-row_of.ensures.row) ∙ sym old_left
 
 pub invariant_of-self-in_default-row_of : goal.invariant_of-self-in_default-row_of
 invariant_of-self-in_default-row_of g c =

@@ -11,5 +11,5 @@ returns g c =
     let n = option_node c.args.option in
     let holding = g.C.Conditions.holding c.args.conditions.now in
     λ stores told.
-    c.option_selectable.ensures
+    c.option_selectable.ensures.fixed
     ∙ ap unless (fixed_same (world c.args.self.now stores) (λ (m : Node). holding m.place) n told)

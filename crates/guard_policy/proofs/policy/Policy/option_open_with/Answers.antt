@@ -24,12 +24,13 @@ loop-option-init g c =
     record {
       can = search rules;
       ends = search rules;
+      last = c.requires.last;
       nodes = subst (AreNodesOf c.args.self.now.forms.now) (sym all) (options_are_nodes c.args.self.now.forms.now q c.args.self.now.accepted.checked.spelled c.requires.node);
       same = ap (λ (os : List Node). all_fixed w (filter (λ o. option_value o.op == c.args.value) os)) all;
     }
 
 pub option_selectable-requires : goal.option_selectable-requires
-option_selectable-requires g c = λ k. ((refl, tt), (first_of _ _ _ _ c.in-Some.ensures.steps c.loop-option.invariant.nodes, c.requires.free))
+option_selectable-requires g c = λ k. ((refl, tt), (first_of _ _ _ _ c.in-Some.ensures.steps c.loop-option.invariant.nodes, c.loop-option.invariant.last))
 
 pub returns-in-Ok : goal.returns-in-Ok
 returns-in-Ok g c =
@@ -38,7 +39,7 @@ returns-in-Ok g c =
     let told : c.value.result ≡ option_value o.op = c.value.ensures ∙ ap option_value c.op.ensures.bytes in
     let rest = filter (λ (p : Node). option_value p.op == c.args.value) (options_of_left c.next.new.self) in
     let split = cond-true (option_value o.op == c.args.value) (o ∷ rest) rest (eq-eqb (option_value o.op) c.args.value (sym told ∙ c.if-value.true)) in
-    let free = none_of (fixed w o) (sym c.option_selectable.ensures ∙ c.in-Ok.is) in
+    let free = none_of (fixed w o) (sym c.option_selectable.ensures.fixed ∙ c.in-Ok.is) in
     let none = ap (standing w c.loop-option.first) (ap (filter (λ (p : Node). option_value p.op == c.args.value)) c.in-Some.ensures.steps ∙ split) ∙ open_one w c.loop-option.first o rest free in
     ap unless (sym none ∙ c.loop-option.invariant.same)
 
@@ -49,11 +50,12 @@ loop-option-preserved-in-Err g c =
     let told : c.value.result ≡ option_value o.op = c.value.ensures ∙ ap option_value c.op.ensures.bytes in
     let rest = filter (λ (p : Node). option_value p.op == c.args.value) (options_of_left c.next.new.self) in
     let split = cond-true (option_value o.op == c.args.value) (o ∷ rest) rest (eq-eqb (option_value o.op) c.args.value (sym told ∙ c.if-value.true)) in
-    let why = some_of (fixed w o) c.in-Err.denial (sym c.option_selectable.ensures ∙ c.in-Err.is) in
+    let why = some_of (fixed w o) c.in-Err.denial (sym c.option_selectable.ensures.fixed ∙ c.in-Err.is) in
     let more = ap (standing w c.loop-option.first) (ap (filter (λ (p : Node). option_value p.op == c.args.value)) c.in-Some.ensures.steps ∙ split) ∙ fixed_one w c.loop-option.first o rest c.in-Err.denial why in
     record {
       can = search rules;
       ends = search rules;
+      last = c.option_selectable.ensures.last;
       nodes = rest_of _ _ _ _ c.in-Some.ensures.steps c.loop-option.invariant.nodes;
       same = rw c.or-first.ensures (sym more ∙ c.loop-option.invariant.same);
     }
@@ -69,6 +71,7 @@ loop-option-preserved g c =
     record {
       can = search rules;
       ends = search rules;
+      last = c.loop-option.invariant.last;
       nodes = rest_of _ _ _ _ c.in-Some.ensures.steps c.loop-option.invariant.nodes;
       same = sym passed ∙ c.loop-option.invariant.same;
     }

@@ -21,23 +21,23 @@ there : (g : _) (c : After-around_at-around g) → around_guards c.around_at-aro
 there g c =
     let policy = c.args.self.now in
     let n = statement_node c.args.statement in
-    guards_there policy.forms.now n c.place.result _ policy.accepted.checked.spelled c.requires (of_statement n c.args.statement.statement) (sym c.place.ensures) c.around_at-around.ensures.guards
+    guards_there policy.forms.now n c.place.result _ policy.accepted.checked.spelled c.requires.node (of_statement n c.args.statement.statement) (sym c.place.ensures) c.around_at-around.ensures.guards
 
 pub returns-in-Some-clause-listed : goal.returns-in-Some-clause-listed
 returns-in-Some-clause-listed g c =
     let w = world_by c.args.self.now (g.V.Verdicts.met c.args.verdicts.now) in
-    ap unless (sym c.in-Some.is ∙ c.effects-effects.ensures.hides ∙ ap (hidden_among w) (there g (goal.at.returns-in-Some-clause-listed g c).After-around_at-around))
+    ap unless (sym c.in-Some.is ∙ c.effects_beside.ensures.hides ∙ ap (hidden_among w) (there g (goal.at.returns-in-Some-clause-listed g c).After-around_at-around))
 
 pub returns-in-Some-clause-changeable : goal.returns-in-Some-clause-changeable
 returns-in-Some-clause-changeable g c =
     let w = world_by c.args.self.now (g.V.Verdicts.met c.args.verdicts.now) in
-    let found = sym c.in-Some.is ∙ c.effects-effects.ensures.hides ∙ ap (hidden_among w) (there g (goal.at.returns-in-Some-clause-changeable g c).After-around_at-around) in
+    let found = sym c.in-Some.is ∙ c.effects_beside.ensures.hides ∙ ap (hidden_among w) (there g (goal.at.returns-in-Some-clause-changeable g c).After-around_at-around) in
     ap unless (sym (fixed_hidden w (statement_node c.args.statement) c.in-Some.denial found))
 
 pub returns-clause-listed : goal.returns-clause-listed
 returns-clause-listed g c =
     let w = world_by c.args.self.now (g.V.Verdicts.met c.args.verdicts.now) in
-    ap unless (sym c.in_default.is ∙ c.effects-effects.ensures.hides ∙ ap (hidden_among w) (there g (goal.at.returns-clause-listed g c).After-around_at-around))
+    ap unless (sym c.in_default.is ∙ c.effects_beside.ensures.hides ∙ ap (hidden_among w) (there g (goal.at.returns-clause-listed g c).After-around_at-around))
 
 pub returns-clause-changeable : goal.returns-clause-changeable
 returns-clause-changeable g c =
@@ -45,8 +45,8 @@ returns-clause-changeable g c =
     let w = world_by policy (g.V.Verdicts.met c.args.verdicts.now) in
     let n = statement_node c.args.statement in
     let its = there g (goal.at.returns-clause-changeable g c).After-around_at-around in
-    let none = sym c.in_default.is ∙ c.effects-effects.ensures.hides ∙ ap (hidden_among w) its in
-    let grayed = c.effects-effects.ensures.grays_out ∙ ap (λ (gs : List Node). option_map (denied_by GrayOutIf) (find (grays_out w) gs)) its in
-    let locked = c.lock.ensures ∙ lock_there policy.forms.now n c.place.result _ policy.accepted.checked.spelled c.requires (of_statement n c.args.statement.statement) (sym c.place.ensures) c.around_at-around.ensures.lock in
+    let none = sym c.in_default.is ∙ c.effects_beside.ensures.hides ∙ ap (hidden_among w) its in
+    let grayed = c.effects_beside.ensures.grays_out ∙ ap (λ (gs : List Node). option_map (denied_by GrayOutIf) (find (grays_out w) gs)) its in
+    let locked = c.lock.ensures ∙ lock_there policy.forms.now n c.place.result _ policy.accepted.checked.spelled c.requires.node (of_statement n c.args.statement.statement) (sym c.place.ensures) c.around_at-around.ensures.lock in
     c.unless_fixed.ensures
-    ∙ ap unless (fixed_seen w n c.effects-effects.result.grays_out (option_map lock_node c.lock.result) (option_map question_view c.question-question.result) none grayed locked c.question-question.ensures)
+    ∙ ap unless (fixed_seen w n c.effects_beside.new.last.grays_out (option_map lock_node c.lock.result) (option_map question_view c.question-question.result) none grayed locked c.question-question.ensures)
