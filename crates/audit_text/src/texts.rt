@@ -2,10 +2,12 @@
 
 ghost use Rattle.std.specs.Prelude.{◌≡◌, chars};
 ghost use Rattle.hii_bytes.specs.Watching.{Puts};
+ghost use Rattle.hii_languages.specs.code.Views.{chars_left};
 ghost use Rattle.audit_text.specs.Texts.{is_between, is_unsafe, safe_char, safe_text};
 
 use crate::columns::put_hexadecimal;
 use hii_bytes::Watched;
+use hii_languages::ShownChars;
 use std::io::Write;
 
 fn is_between(c: u32, first: u32, last: u32) -> bool
@@ -51,6 +53,16 @@ pub fn put_safe_text<W: Write>(out: &mut Watched<W>, text: &str)
     ensures { Puts W.contents out.old out.new (safe_text (chars text.now)) }
 {
     for c in text.chars() {
+        put_safe_char(out, c);
+    }
+}
+
+/// Writes a text of a list as it is shown, each of its characters in this way.
+pub fn put_safe_shown<W: Write>(text: ShownChars<'_>, out: &mut Watched<W>)
+    ensures { Puts W.contents out.old out.new (safe_text (chars_left text.entry)) }
+{
+    let mut text = text;
+    while let Some(c) = text.next() {
         put_safe_char(out, c);
     }
 }

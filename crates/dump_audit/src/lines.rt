@@ -12,7 +12,7 @@ ghost use Rattle.dump_audit.specs.code.Heard.{heard_of};
 
 use crate::contents::{forms_count, put_form_sets};
 use crate::findings::{Contents, find};
-use crate::strings::put_chars;
+use audit_text::put_safe_shown;
 use hii_bytes::Watched;
 use hii_dumps::{Dump, DumpedList};
 use std::alloc::{AllocError, Global};
@@ -30,7 +30,7 @@ fn put_contents<W: Write>(contents: &Contents<'_>, out: &mut Watched<W>)
     contents.strings.put_languages(out);
     if let Some(id) = title {
         out.put(b" ");
-        put_chars(contents.strings.shown(id).chars(), out);
+        put_safe_shown(contents.strings.shown(id).chars(), out);
     }
 }
 

@@ -1,13 +1,11 @@
 //! What the string packages of a list tell.
 
 ghost use Rattle.std.specs.Prelude.{◌≡◌, codes};
-ghost use Rattle.audit_text.specs.Texts.{safe_text};
 ghost use Rattle.hii_bytes.specs.Watching.{Puts};
-ghost use Rattle.hii_languages.specs.code.Views.{chars_left};
 
-use audit_text::{put_language, put_safe_char};
+use audit_text::put_language;
 use hii_bytes::{Fault, Watched};
-use hii_languages::{Shown, ShownChars};
+use hii_languages::Shown;
 use hii_packages::{PackageList, STRINGS};
 use sibt_strings::{StringTable, Units};
 use std::alloc::Global;
@@ -96,15 +94,5 @@ impl<'a> ListStrings<'a> {
             Some(units) => Shown::Units(units),
             None => Shown::Missing(id),
         }
-    }
-}
-
-/// Writes a text, each character of which is safe in a line.
-pub(crate) fn put_chars<W: Write>(text: ShownChars<'_>, out: &mut Watched<W>)
-    ensures { Puts W.contents out.old out.new (safe_text (chars_left text.entry)) }
-{
-    let mut text = text;
-    while let Some(c) = text.next() {
-        put_safe_char(out, c);
     }
 }

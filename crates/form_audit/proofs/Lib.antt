@@ -9,3 +9,8 @@ pub mod TakingLemmas
 pub mod UndefinedLemmas
 pub mod QuestionsLemmas
 pub mod OneLineLemmas
+pub mod ClosingLemmas
+pub mod ShownLemmas
+pub mod FlagLemmas
+pub mod AroundLemmas
+pub mod TableLemmas

@@ -1,6 +1,6 @@
 -- The line of a question (own rule).
-use Rattle.std.specs.Prelude.{ℕ, ◌==◌, Bool, true, false, bytes_eq, if◌then◌else◌, Option, Some, None, List, [], ◌∷◌, ◌++◌, filter, replicate, codes, decimal}
-use Rattle.std.specs.List.{find, flat_map}
+use Rattle.std.specs.Prelude.{ℕ, ◌==◌, ◌&&◌, Bool, true, false, bytes_eq, if◌then◌else◌, Option, Some, None, List, [], ◌∷◌, ◌++◌, filter, replicate, codes, decimal}
+use Rattle.std.specs.List.{find, flat_map, list_any}
 use Rattle.hii_bytes.specs.Texts.{right_aligned, place_text}
 use Rattle.ifr_opcodes.specs.Fields.{has_flag, question_flags, question_id, ref_form_set, statement_prompt}
 use Rattle.ifr_opcodes.specs.Forest.{Node}
@@ -14,11 +14,12 @@ use Rattle.ifr_nodes.specs.Nodes.{is_store, this_of}
 use Rattle.ifr_scopes.specs.Stores.{store_id, store_name}
 use Rattle.hii_questions.specs.Denials.{kind_name}
 use Rattle.hii_questions.specs.Fields.{Asked, Field}
+use Rattle.guard_policy.specs.Conditions.{condition_ids}
 use Rattle.guard_policy.specs.Policy.{fixed}
+use Rattle.guard_policy.specs.World.{World}
 use Rattle.guard_policy.specs.declared.denial.Denial.{Denial}
 use Rattle.form_page.specs.RowValues.{value_shown}
-use Rattle.form_page.specs.Texts.{utf8}
-use Rattle.audit_text.specs.Texts.{ascii_name, guid_text, hex_text, left_aligned}
+use Rattle.audit_text.specs.Texts.{ascii_name, guid_text, hex_text, left_aligned, safe_text}
 use Rattle.audit_text.specs.Words.{opcode_name}
 use Rattle.form_audit.specs.Audited.{Audited}
 use Rattle.form_audit.specs.ScriptValues.{behind, default_value, stored_value}
@@ -70,6 +71,23 @@ form_set_text (Some guid) =
 abbrev pub led_text : List ℕ → List ℕ
 led_text op = if number op == REF then form_set_text (ref_form_set op) else []
 
+-- ---- whether it is a guard that forbids a change for good: its condition names no question, in the rules that it names neither
+
+abbrev pub names_none : List ℕ → Bool
+names_none [] = true
+names_none (id ∷ ids) = false
+
+abbrev pub is_constant_guard : List Node → Node → Bool
+is_constant_guard ns g = names_none (condition_ids ns g)
+
+-- the guard that decides is the one at the place of the denial
+abbrev pub is_constant_at : List Node → ℕ → Node → Bool
+is_constant_at ns place g = g.place == place && is_constant_guard ns g
+
+abbrev pub is_constant : List Node → Node → Option Denial → Bool
+is_constant ns n None = false
+is_constant ns n (Some denial) = list_any (is_constant_at ns denial.place) (guards n)
+
 -- ---- the guards around it whose conditions are undefined, the outermost first
 
 abbrev pub is_undefined : Value → Bool
@@ -100,16 +118,24 @@ columns_text a q =
     ++ left_aligned 12 (opcode_name (number q.node.op)) ++ codes " "
     ++ field_columns a.world.nodes q.field ++ codes " "
 
--- the whole prompt, and the value as a page shows it
+-- the same form set where no guard hides anything
+abbrev pub unguarded : World → World
+unguarded w = record { nodes = w.nodes; removed = []; met = λ n. false }
+
+-- the value as a page would show it there, so with the text of an option that is hidden
+abbrev pub told_value : Audited → Node → List ℕ
+told_value a n = safe_text (value_shown a.texts (unguarded a.world) a.stores n)
+
+-- the whole prompt, and the value
 abbrev pub shown_text : Audited → Node → List ℕ
 shown_text a n =
-    utf8 (a.texts (statement_prompt n.op))
-    ++ codes " [" ++ utf8 (value_shown a.texts a.world a.stores n) ++ codes "]"
+    safe_text (a.texts (statement_prompt n.op)) ++ codes " [" ++ told_value a n ++ codes "]"
 
 abbrev pub question_line : Audited → Asked → List ℕ
 question_line a q =
     columns_text a q ++ shown_text a q.node
     ++ behind (codes " value ") (stored_value a.stores q)
     ++ behind (codes " default ") (default_value a q 0)
+    ++ word_where (is_constant a.world.nodes q.node (fixed a.world q.node)) (codes " constant")
     ++ flags_text q.node.op ++ led_text q.node.op
     ++ undefined_text (undefined_guards a q.node) ++ codes "\n"

@@ -19,6 +19,7 @@ use Rattle.hii_questions.specs.declared.denial.DenialKind.{DenialKind}
 use Rattle.ifr_defaults.specs.Defaults.{default_of}
 use Rattle.form_page.specs.RowValues.{number_text}
 use Rattle.form_page.specs.Texts.{utf8}
+use Rattle.audit_text.specs.Texts.{safe_text}
 use Rattle.form_audit.specs.Audited.{Audited}
 
 -- numbers with commas between
@@ -40,9 +41,9 @@ abbrev pub one_of_script : Value → Option (List ℕ)
 one_of_script (natural n) = Some (decimal n)
 one_of_script _ = None
 
--- a text as a page shows it
+-- a text as it is shown
 abbrev pub string_script : Value → Option (List ℕ)
-string_script (text units) = Some (utf8 (characters units))
+string_script (text units) = Some (safe_text (characters units))
 string_script _ = None
 
 abbrev pub list_script : Value → Node → Option (List ℕ)

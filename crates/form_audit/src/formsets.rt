@@ -17,8 +17,8 @@ const CALLBACK: u8 = 0x04;
 
 const RESET_REQUIRED: u8 = 0x10;
 
-// Writes a word where something holds.
-fn put_word<W: Write>(holds: bool, word: &[u8], out: &mut Watched<W>)
+/// Writes a word where something holds.
+pub(crate) fn put_word<W: Write>(holds: bool, word: &[u8], out: &mut Watched<W>)
     ensures { Puts W.contents out.old out.new (word_where holds word.now) }
 {
     if holds {

@@ -1,21 +1,29 @@
 //! The questions of a form set, each with its reason (own rule; questions are those of UEFI 2.8, 33.2.5.4).
 #![tactic(auto)]
 
+mod constant;
 mod defaults;
 mod fields;
 mod formsets;
+mod guard_table;
 pub mod laws;
+mod numbered;
 mod question_line;
 mod questions;
 mod reach;
 mod script_values;
+mod shown_values;
 mod store_names;
+mod tables;
 mod undefined;
 mod verdicts;
+mod ways;
 
 pub use defaults::{give_back, take_default};
 pub use fields::put_field_text;
-pub use questions::{put_form, put_questions};
-pub use reach::reached_forms;
+pub use guard_table::flag_of;
+pub use questions::{put_denial, put_form, put_questions};
 pub use script_values::put_script_value;
+pub use shown_values::{option_of_value, put_told_value};
 pub use store_names::StoreNames;
+pub use ways::{Reach, Ways};

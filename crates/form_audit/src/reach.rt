@@ -119,7 +119,7 @@ impl<'a> Met<'a> {
 
 /// The ids of the forms to which references that are open lead from the first form on, each on a form that is reached itself; and
 /// that of the first form. The one error is that an allocation failed.
-pub fn reached_forms<'a, C: Conditions>(
+pub(crate) fn reached_forms<'a, C: Conditions>(
     alloc: Global,
     page: Page<'a, '_, C>,
 ) -> Result<NumberSet, AllocError>

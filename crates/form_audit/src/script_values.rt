@@ -10,9 +10,11 @@ ghost use Rattle.ifr_scopes.specs.code.Lists.{statement_node};
 ghost use Rattle.hii_questions.specs.code.StoredLeft.{stored_left};
 ghost use Rattle.form_audit.specs.ScriptValues.{behind, checkbox_script, list_script, list_text, numeric_script, one_of_script, script_value, string_script};
 
+use audit_text::put_safe_shown;
 use form_page::{RowValue, numeric_value, put_row_value};
 use guard_policy::Conditions;
 use hii_bytes::Watched;
+use hii_languages::Shown;
 use hii_questions::{StoredItems, element_width};
 use ifr_expr::Value;
 use ifr_opcodes::NumericOp;
@@ -56,15 +58,14 @@ fn put_one_of<W: Write>(before: &[u8], value: Value<'_>, out: &mut Watched<W>)
     }
 }
 
-fn put_string<C: Conditions, W: Write>(before: &[u8], value: Value<'_>, out: &mut Watched<W>)
+fn put_string<W: Write>(before: &[u8], value: Value<'_>, out: &mut Watched<W>)
     requires { (units : List ℕ) → value_of value ≡ text_value units → length units % 2 ≡ 0 }
     ensures { Puts W.contents out.old out.new
         (behind before.now (string_script (value_of value.entry))) }
 {
     if let Value::Text(units) = value {
         out.put(before);
-        let shown: RowValue<'_, '_, C> = RowValue::String(Units::new(units));
-        put_row_value(shown, out);
+        put_safe_shown(Shown::Units(Units::new(units)).chars(), out);
     }
 }
 
@@ -122,7 +123,7 @@ pub fn put_script_value<C: Conditions, W: Write>(
         StatementKind::Checkbox(_) => put_checkbox(before, value, out),
         StatementKind::Numeric(op) => put_numeric::<C, W>(before, op, value, out),
         StatementKind::OneOf(_) => put_one_of(before, value, out),
-        StatementKind::String(_) => put_string::<C, W>(before, value, out),
+        StatementKind::String(_) => put_string(before, value, out),
         StatementKind::OrderedList(_) => put_list(before, statement, value, out),
         _ => {}
     }

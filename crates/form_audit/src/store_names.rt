@@ -4,10 +4,20 @@ ghost use Rattle.std.specs.Prelude.{◌≡◌, IfOk, option_map};
 ghost use Rattle.ifr_nodes.specs.Nodes.{nodes_of};
 ghost use Rattle.ifr_scopes.specs.code.Lists.{store_node};
 ghost use Rattle.form_audit.specs.QuestionLines.{name_of, store_with};
+ghost use Rattle.form_audit.specs.code.Names.{id_of};
 
+use crate::numbered::{Numbered, first_with};
 use ifr_scopes::{Forms, Varstore};
 use std::alloc::{AllocError, Global};
 use std::marker::Model;
+
+impl<'a> Numbered for Varstore<'a> {
+    ghost number_of = { id_of };
+
+    fn number(&self) -> u16 {
+        self.id()
+    }
+}
 
 /// The stores of a form set, of any kind, which are found by their ids. They are seen as the forms package.
 #[derive(Drop)]
@@ -48,12 +58,7 @@ impl<'a> StoreNames<'a> {
     pub fn find(&self, id: u16) -> Option<Varstore<'a>>
         ensures { option_map store_node result ≡ store_with (nodes_of self.now) id }
     {
-        let stores = self.stores.as_slice();
-        let first = stores.partition_point(|store| store.id() < id);
-        if first < stores.len() && stores[first].id() == id {
-            return Some(stores[first]);
-        }
-        None
+        first_with(&self.stores, id)
     }
 
     /// The bytes of the name of the store of an id, or none where it has no name or is not there.

@@ -11,8 +11,11 @@ use Rattle.ifr_opcodes.specs.Rows.{is_among}
 use Rattle.ifr_nodes.specs.Guards.{ancestors, guards, guards_among, is_guard}
 use Rattle.guard_policy.specs.Conditions.{condition_ids}
 use Rattle.guard_policy.specs.laws.Support.{around, graying_out, support_over, suppressing}
-use Rattle.question_audit.specs.Dependences.{depends_on, may_forbid}
+use Rattle.question_audit.specs.Dependences.{depends_on}
+use Rattle.question_audit.specs.Times.{counts_when}
 use Rattle.question_audit.specs.code.Naming.{counts, names}
+use Rattle.question_audit.specs.declared.when.When.{When}
+use Rattle.question_audit.specs.declared.when.When.TheVariants.{AtCommands}
 
 any_flat : (f : Node → List ℕ) (id : ℕ) (gs : List Node) → is_among id (flat_map f gs) ≡ list_any (λ g. is_among id (f g)) gs
 any_flat f id [] = refl
@@ -54,15 +57,46 @@ any_counts p (m ∷ ms) = elim (cases_Bool (is_guard (number m.op))) [
 ]
 
 -- it is asked guard by guard
-pub any_guard : (ns : List Node) (id : ℕ) (n : Node) → is_among id (depends_on ns n) ≡ list_any (counts ns id) (guards n)
-any_guard ns id n = any_flat (condition_ids ns) id (filter may_forbid (guards n)) ∙ any_filter (names ns id) may_forbid (guards n)
+pub any_guard : (when : When) (ns : List Node) (id : ℕ) (n : Node) → is_among id (depends_on when ns n) ≡ list_any (counts when ns id) (guards n)
+any_guard when ns id n = any_flat (condition_ids ns) id (filter (counts_when when) (guards n)) ∙ any_filter (names ns id) (counts_when when) (guards n)
 
--- the ids of the support of whether it may be changed are these
-pub any_support : (ns : List Node) (id : ℕ) (n : Node) → is_among id (support_over ns (around n)) ≡ is_among id (depends_on ns n)
+-- the ids of the support of whether it may be changed are those at commands
+pub any_support : (ns : List Node) (id : ℕ) (n : Node) → is_among id (support_over ns (around n)) ≡ is_among id (depends_on AtCommands ns n)
 any_support ns id n =
     any_flat (condition_ids ns) id (around n)
     ∙ list_any-append (names ns id) (suppressing n) (graying_out n)
     ∙ ap (λ (b : Bool). b || list_any (names ns id) (graying_out n)) (any_filter (names ns id) (λ g. number g.op == SUPPRESS_IF) (guards n))
     ∙ ap (λ (b : Bool). list_any (λ g. (number g.op == SUPPRESS_IF) && names ns id g) (guards n) || b) (any_filter (names ns id) (λ g. number g.op == GRAY_OUT_IF) (guards n))
     ∙ any_counts (names ns id) (ancestors n)
-    ∙ sym (any_guard ns id n)
+    ∙ sym (any_guard AtCommands ns id n)
+
+-- ---- ids that are added guard by guard
+
+-- of ids that are taken one by one
+pub one_taken : (id named : ℕ) (left after : List ℕ) (had has all : Bool) → left ≡ named ∷ after → has ≡ (named == id || had) → had || is_among id left ≡ all → has || is_among id after ≡ all
+one_taken id named left after had has all e is so =
+    ap (λ (b : Bool). b || is_among id after) is ∙ in_turn (named == id) had (is_among id after) ∙ ap (λ (l : List ℕ). had || is_among id l) (sym e) ∙ so
+  where
+    in_turn : (a b c : Bool) → (a || b) || c ≡ b || (a || c)
+    in_turn true true c = refl
+    in_turn true false c = refl
+    in_turn false b c = refl
+
+-- the ids of the next guard are added, which counts
+pub ids_added : (f : Node → List ℕ) (test : Node → Bool) (id : ℕ) (left after : List Node) (g : Node) (had has all : Bool) → left ≡ g ∷ after → test g ≡ true → has ≡ had || is_among id (f g)
+    → had || is_among id (flat_map f (filter test left)) ≡ all → has || is_among id (flat_map f (filter test after)) ≡ all
+ids_added f test id left after g had has all e is added so =
+    let rest = flat_map f (filter test after) in
+    let next : is_among id (flat_map f (filter test left)) ≡ is_among id (f g) || is_among id rest = ap (λ (l : List Node). is_among id (flat_map f (filter test l))) e ∙ rw is (list_any-append (λ (m : ℕ). m == id) (f g) rest) in
+    ap (λ (b : Bool). b || is_among id rest) added ∙ grouped had (is_among id (f g)) (is_among id rest) ∙ ap (λ (b : Bool). had || b) (sym next) ∙ so
+  where
+    grouped : (a b c : Bool) → (a || b) || c ≡ a || (b || c)
+    grouped true b c = refl
+    grouped false b c = refl
+
+-- the next guard does not count
+pub ids_passed : (f : Node → List ℕ) (test : Node → Bool) (id : ℕ) (left after : List Node) (g : Node) (had all : Bool) → left ≡ g ∷ after → test g ≡ false
+    → had || is_among id (flat_map f (filter test left)) ≡ all → had || is_among id (flat_map f (filter test after)) ≡ all
+ids_passed f test id left after g had all e other so =
+    let next : is_among id (flat_map f (filter test left)) ≡ is_among id (flat_map f (filter test after)) = ap (λ (l : List Node). is_among id (flat_map f (filter test l))) e ∙ rw other refl in
+    ap (λ (b : Bool). had || b) (sym next) ∙ so

@@ -6,7 +6,7 @@ use Rattle.std.proofs.lemmas.Bool.{cases_Bool, cond-true, cond-false}
 use Rattle.hii_bytes.specs.Watching.{Pen, Writes}
 use Rattle.hii_bytes.specs.code.Writing.{Stands}
 use Rattle.hii_bytes.proofs.WritingLemmas.{Stands-start, Stands-all, past_piece}
-use Rattle.form_page.specs.Texts.{utf8}
+use Rattle.audit_text.specs.Texts.{safe_text}
 use Rattle.form_audit.specs.QuestionLines.{word_where}
 use Rattle.question_audit.specs.ConditionFacts.{fact}
 use Rattle.question_audit.specs.QuestionFacts.{help_fact}
@@ -39,7 +39,7 @@ filter_both p q (x ∷ xs) = elim (cases_Bool (p x)) [
 ]
 
 -- a help text that has a first character
-pub told_help : (text after : List ℕ) (r : Option ℕ) → MatchOption r ((text ≡ []) × (after ≡ [])) (λ c. text ≡ c ∷ after) → is_some r ≡ true → fact (codes "help") (utf8 text) ≡ help_fact text
+pub told_help : (text after : List ℕ) (r : Option ℕ) → MatchOption r ((text ≡ []) × (after ≡ [])) (λ c. text ≡ c ∷ after) → is_some r ≡ true → fact (codes "help") (safe_text text) ≡ help_fact text
 told_help text after None m e = absurd cc
 told_help text after (Some c) m e = rw m refl
 

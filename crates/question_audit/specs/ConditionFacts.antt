@@ -1,5 +1,5 @@
 -- Facts of conditions: of guards, of the checks of a question and of its options (own rule).
-use Rattle.std.specs.Prelude.{ℕ, Bool, ◌==◌, ◌&&◌, if◌then◌else◌, Option, Some, None, List, [], ◌++◌, filter, codes, decimal}
+use Rattle.std.specs.Prelude.{ℕ, ◌+◌, Bool, ◌==◌, ◌&&◌, if◌then◌else◌, Option, Some, None, List, [], ◌++◌, filter, codes, decimal}
 use Rattle.std.specs.List.{flat_map}
 use Rattle.hii_bytes.specs.Texts.{place_text}
 use Rattle.ifr_opcodes.specs.Fields.{option_text, option_value, question_id}
@@ -12,20 +12,23 @@ use Rattle.ifr_nodes.specs.NodeExpressions.{expression_tree}
 use Rattle.ifr_nodes.specs.Guards.{guards}
 use Rattle.ifr_opcodes.specs.Rows.{is_condition_number}
 use Rattle.ifr_nodes.specs.Nodes.{options, this_of}
-use Rattle.hii_questions.specs.Denials.{kind_name}
 use Rattle.guard_policy.specs.Policy.{fixed, is_removed}
 use Rattle.guard_policy.specs.declared.denial.Denial.{Denial}
-use Rattle.form_page.specs.Texts.{utf8}
-use Rattle.audit_text.specs.Texts.{left_aligned}
+use Rattle.audit_text.specs.Texts.{hex_text, left_aligned, safe_text}
 use Rattle.audit_text.specs.Words.{opcode_name}
 use Rattle.condition_text.specs.Senses.{sense}
 use Rattle.condition_text.specs.Texts as conditions
 use Rattle.form_audit.specs.Audited.{Audited}
+use Rattle.form_audit.specs.FormLines.{denial_text}
 use Rattle.form_audit.specs.QuestionLines.{is_undefined}
 
 -- a word in its column, eight wide, and a space
 abbrev pub column : List ℕ → List ℕ
 column word = left_aligned 8 word ++ codes " "
+
+-- an id in decimal and in hex digits
+abbrev pub id_text : ℕ → List ℕ
+id_text id = decimal id ++ codes " (0x" ++ hex_text id ++ codes ")"
 
 -- a line: a word in its column, and a text behind it
 abbrev pub fact : List ℕ → List ℕ → List ℕ
@@ -35,7 +38,7 @@ fact word its = column word ++ its ++ codes "\n"
 
 abbrev pub verdict_text : Option Denial → List ℕ
 verdict_text None = codes "open"
-verdict_text (Some denial) = kind_name denial.kind ++ codes " at " ++ place_text denial.place
+verdict_text (Some denial) = denial_text denial
 
 -- ---- conditions
 
@@ -59,29 +62,31 @@ guard_state a g =
 abbrev pub condition_words : Node → List ℕ
 condition_words c = conditions.text (sense (expression_tree c))
 
--- a condition by its opcode and its place, with its state and what it says
-abbrev pub condition_fact : List ℕ → Node → List ℕ → List ℕ
-condition_fact word c state =
+-- a condition by its opcode, its place in the forms package and its byte in the list, with its state and what it says
+abbrev pub condition_fact : List ℕ → ℕ → Node → List ℕ → List ℕ
+condition_fact word package_place c state =
     column word ++ opcode_name (number c.op) ++ codes " at " ++ place_text c.place
-    ++ codes " " ++ state ++ codes ": " ++ condition_words c ++ codes "\n"
+    ++ codes " (byte " ++ hex_text (package_place + c.place) ++ codes ") " ++ state
+    ++ codes ": " ++ condition_words c ++ codes "\n"
 
 -- the guards around a question, the outermost first
-abbrev pub guard_fact : Audited → Node → List ℕ
-guard_fact a g = condition_fact (codes "guard") g (guard_state a g)
+abbrev pub guard_fact : Audited → ℕ → Node → List ℕ
+guard_fact a package_place g = condition_fact (codes "guard") package_place g (guard_state a g)
 
-abbrev pub guard_facts : Audited → Node → List ℕ
-guard_facts a n = flat_map (guard_fact a) (guards n)
+abbrev pub guard_facts : Audited → ℕ → Node → List ℕ
+guard_facts a package_place n = flat_map (guard_fact a package_place) (guards n)
 
 -- the INCONSISTENT_IFs, NO_SUBMIT_IFs and WARNING_IFs in the scope of the question of an id, by place
 abbrev pub is_check_of : ℕ → Node → Bool
 is_check_of id c = is_condition_number (number c.op) && (this_of c == id)
 
-abbrev pub check_fact : Audited → Node → List ℕ
-check_fact a c = condition_fact (codes "check") c (state_text (value_at a c))
+abbrev pub check_fact : Audited → ℕ → Node → List ℕ
+check_fact a package_place c =
+    condition_fact (codes "check") package_place c (state_text (value_at a c))
 
-abbrev pub check_facts : Audited → Node → List ℕ
-check_facts a n =
-    flat_map (check_fact a) (filter (is_check_of (question_id n.op)) a.world.nodes)
+abbrev pub check_facts : Audited → ℕ → Node → List ℕ
+check_facts a package_place n =
+    flat_map (check_fact a package_place) (filter (is_check_of (question_id n.op)) a.world.nodes)
 
 -- ---- options
 
@@ -96,7 +101,7 @@ deciding o (Some denial) =
 abbrev pub option_fact : Audited → Node → List ℕ
 option_fact a o =
     fact (codes "option")
-    (decimal (option_value o.op) ++ codes " " ++ utf8 (a.texts (option_text o.op)) ++ codes ": "
+    (decimal (option_value o.op) ++ codes " " ++ safe_text (a.texts (option_text o.op)) ++ codes ": "
     ++ verdict_text (fixed a.world o) ++ deciding o (fixed a.world o))
 
 abbrev pub option_facts : Audited → Node → List ℕ

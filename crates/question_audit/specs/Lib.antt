@@ -1,4 +1,6 @@
 pub mod ConditionFacts
 pub mod Dependences
+pub mod Limits
+pub mod Times
 pub mod QuestionFacts
 pub mod code

@@ -14,27 +14,28 @@ use Rattle.hii_questions.specs.Answers.{value_of_field}
 use Rattle.hii_questions.specs.Fields.{Asked, Field, asked, question_with}
 use Rattle.guard_policy.specs.Policy.{fixed}
 use Rattle.form_page.specs.RowValues.{choice}
-use Rattle.form_page.specs.Texts.{utf8}
-use Rattle.audit_text.specs.Texts.{guid_text, hex_text}
+use Rattle.audit_text.specs.Texts.{guid_text, hex_text, safe_text}
 use Rattle.audit_text.specs.Words.{opcode_name}
 use Rattle.form_audit.specs.Audited.{Audited}
 use Rattle.form_audit.specs.FormLines.{form_text}
-use Rattle.form_audit.specs.QuestionLines.{field_text, is_undefined, store_with}
+use Rattle.form_audit.specs.QuestionLines.{field_text, is_undefined, store_with, unguarded}
 use Rattle.form_audit.specs.Reach.{TellsReached}
 use Rattle.form_audit.specs.ScriptValues.{behind, default_taken, script_value}
-use Rattle.question_audit.specs.ConditionFacts.{check_facts, fact, guard_facts, option_facts, verdict_text}
-use Rattle.question_audit.specs.Dependences.{decides_facts, depends_facts}
+use Rattle.question_audit.specs.ConditionFacts.{check_facts, fact, guard_facts, id_text, option_facts, verdict_text}
+use Rattle.question_audit.specs.Dependences.{all_decides_facts, depends_facts}
+use Rattle.question_audit.specs.Limits.{flags_fact, limits_fact, outside_fact}
+use Rattle.question_audit.specs.declared.when.When.TheVariants.{AtCommands, AtOpening}
 
 -- ---- what its opcode says
 
 abbrev pub prompt_line : Audited → Node → List ℕ
 prompt_line a n =
-    codes "QUESTION " ++ decimal (question_id n.op) ++ codes " "
-    ++ utf8 (a.texts (statement_prompt n.op)) ++ codes "\n"
+    codes "QUESTION " ++ id_text (question_id n.op) ++ codes " "
+    ++ safe_text (a.texts (statement_prompt n.op)) ++ codes "\n"
 
 abbrev pub help_fact : List ℕ → List ℕ
 help_fact [] = []
-help_fact (c ∷ text) = fact (codes "help") (utf8 (c ∷ text))
+help_fact (c ∷ text) = fact (codes "help") (safe_text (c ∷ text))
 
 -- the form in whose scope a question stands
 abbrev pub has_within : Node → Node → Bool
@@ -67,13 +68,13 @@ field_fact ns (Some field) =
 
 -- ---- its value and its defaults
 
--- the text of the option that a value of a ONE_OF is, if one is to be seen
+-- the text of the option that a value of a ONE_OF is, whether it is hidden or not
 abbrev pub behind_number : Option (List ℕ) → List ℕ
 behind_number None = []
-behind_number (Some text) = codes " " ++ utf8 text
+behind_number (Some text) = codes " " ++ safe_text text
 
 abbrev pub choice_behind : Audited → Node → Value → List ℕ
-choice_behind a n (natural m) = behind_number (choice a.texts a.world n m)
+choice_behind a n (natural m) = behind_number (choice a.texts (unguarded a.world) n m)
 choice_behind a n _ = []
 
 abbrev pub option_behind : Audited → Node → Value → List ℕ
@@ -114,6 +115,10 @@ opcode_facts a is_reached package_place q =
     ++ form_fact a is_reached (form_of a.world.nodes q.node)
     ++ opcode_fact package_place q.node ++ field_fact a.world.nodes q.field
 
+-- its flags, what it takes or where it leads, and why it has no value here
+abbrev pub kind_facts : Audited → Asked → List ℕ
+kind_facts a q = flags_fact q.node.op ++ limits_fact a q.node ++ outside_fact q
+
 -- its value, its defaults of the classes standard and manufacturing
 abbrev pub value_facts : Audited → Asked → List ℕ
 value_facts a q =
@@ -122,9 +127,11 @@ value_facts a q =
 
 abbrev pub question_facts : Audited → (ℕ → Bool) → ℕ → Asked → List ℕ
 question_facts a is_reached package_place q =
-    opcode_facts a is_reached package_place q ++ value_facts a q ++ verdict_fact a q.node
-    ++ guard_facts a q.node ++ check_facts a q.node ++ option_facts a q.node
-    ++ depends_facts a q.node ++ decides_facts a q.node
+    opcode_facts a is_reached package_place q ++ kind_facts a q ++ value_facts a q
+    ++ verdict_fact a q.node ++ guard_facts a package_place q.node
+    ++ check_facts a package_place q.node ++ option_facts a q.node
+    ++ depends_facts AtCommands a q.node ++ depends_facts AtOpening a q.node
+    ++ all_decides_facts a q.node
 
 -- ---- the question of an id
 

@@ -1,6 +1,6 @@
 //! The guards around questions and their checks.
 
-ghost use Rattle.std.specs.Prelude.{◌≡◌, OnOk, OnErr};
+ghost use Rattle.std.specs.Prelude.{◌≡◌, ◌+◌, ◌<◌, ◌^◌, OnOk, OnErr, length};
 ghost use Rattle.hii_bytes.specs.Watching.{Puts, pen_of};
 ghost use Rattle.ifr_opcodes.specs.Opcode.{number};
 ghost use Rattle.ifr_opcodes.specs.code.Ops.{bytes_of as op_bytes};
@@ -16,7 +16,7 @@ ghost use Rattle.question_audit.specs.ConditionFacts.{check_fact, check_facts, c
 ghost use Rattle.question_audit.specs.code.Beginnings.{Begins};
 
 use crate::facts::put_column;
-use audit_text::opcode_name;
+use audit_text::{opcode_name, put_hexadecimal};
 use condition_text::ConditionText;
 use form_page::Page;
 use guard_policy::Conditions;
@@ -56,28 +56,42 @@ fn state_of<'a, C: Conditions>(page: Page<'a, '_, C>, condition: AnyCondition<'a
     )
 }
 
-// Writes a condition behind a word: its opcode, by its number, its place, its state and what it says. Where an allocation fails
+/// How a condition is told, beside what it says.
+#[derive(Clone, Copy)]
+struct Heading<'t> {
+    word: &'t [u8],
+    /// The number of its opcode.
+    code: u8,
+    /// Where its forms package stands in the list, in bytes.
+    package_place: u64,
+    state: &'t [u8],
+}
+
+// Writes a condition: its word, its opcode, its place and its byte in the list, its state and what it says. Where an allocation fails
 // nothing is written.
 fn put_condition<W: Write>(
     alloc: Global,
-    word: &[u8],
-    code: u8,
+    heading: Heading<'_>,
     condition: AnyCondition<'_>,
-    state: &[u8],
     out: &mut Watched<W>,
 ) -> Result<(), AllocError>
-    requires { code ≡ number (any_condition_node condition).op }
+    requires code { heading.code ≡ number (any_condition_node condition).op }
+    requires in_list { heading.package_place + (any_condition_node condition).place < 2 ^ 64 }
     ensures told { OnOk result (Puts W.contents out.old out.new
-        (condition_fact word.now (any_condition_node condition.entry) state.now)) }
+        (condition_fact heading.entry.word.now heading.entry.package_place
+        (any_condition_node condition.entry) heading.entry.state.now)) }
     ensures nothing { OnErr result (out.new ≡ out.old) }
 {
     let text = ConditionText::of(alloc, condition.condition())?;
-    put_column(word, out);
-    out.put(opcode_name(code));
+    let place = u64::from(condition.place());
+    put_column(heading.word, out);
+    out.put(opcode_name(heading.code));
     out.put(b" at ");
-    out.put_place(u64::from(condition.place()));
-    out.put(b" ");
-    out.put(state);
+    out.put_place(place);
+    out.put(b" (byte ");
+    put_hexadecimal(out, heading.package_place + place);
+    out.put(b") ");
+    out.put(heading.state);
     out.put(b": ");
     text.put(out);
     out.put(b"\n");
@@ -102,40 +116,42 @@ fn guard_state<'a, C: Conditions>(page: Page<'a, '_, C>, guard: Guard<'a>) -> &'
 fn put_guard<'a, C: Conditions, W: Write>(
     alloc: Global,
     page: Page<'a, '_, C>,
+    package_place: u64,
     guard: Guard<'a>,
     out: &mut Watched<W>,
 ) -> Result<(), AllocError>
+    requires { package_place + (guard_node guard).place < 2 ^ 64 }
     ensures told { OnOk result (Puts W.contents out.old out.new
-        (guard_fact (audited page.entry) (guard_node guard.entry))) }
+        (guard_fact (audited page.entry) package_place (guard_node guard.entry))) }
     ensures nothing { OnErr result (out.new ≡ out.old) }
 {
-    let state = guard_state(page, guard);
-    put_condition(
-        alloc,
-        b"guard",
-        guard.code(),
-        AnyCondition::Guard(guard),
-        state,
-        out,
-    )
+    let heading = Heading {
+        word: b"guard",
+        code: guard.code(),
+        package_place,
+        state: guard_state(page, guard),
+    };
+    put_condition(alloc, heading, AnyCondition::Guard(guard), out)
 }
 
 /// Writes the guards around a statement, the outermost first. Where an allocation fails, the beginning of these lines may be written.
 pub(crate) fn put_guards<'a, C: Conditions, W: Write>(
     alloc: Global,
     page: Page<'a, '_, C>,
+    package_place: u64,
     statement: Statement<'a>,
     out: &mut Watched<W>,
 ) -> Result<(), AllocError>
-    requires { IsNodeOf (bytes_of page.policy) (statement_node statement) }
+    requires node { IsNodeOf (bytes_of page.policy) (statement_node statement) }
+    requires in_list { package_place + length (bytes_of page.policy) < 2 ^ 64 }
     ensures told { OnOk result (Puts W.contents out.old out.new
-        (guard_facts (audited page.entry) (statement_node statement.entry))) }
+        (guard_facts (audited page.entry) package_place (statement_node statement.entry))) }
     ensures begun { OnErr result (Begins (pen_of W.contents out.old) (pen_of W.contents out.new)
-        (guard_facts (audited page.entry) (statement_node statement.entry))) }
+        (guard_facts (audited page.entry) package_place (statement_node statement.entry))) }
 {
     let mut guards = page.policy().forms().guards_at(statement.place());
-    while let Some(guard) = guards.next() {
-        put_guard(alloc, page, guard, out)?;
+    while let Some(guard) = guards.step() {
+        put_guard(alloc, page, package_place, guard, out)?;
     }
     Ok(())
 }
@@ -155,34 +171,43 @@ fn code_of(op: ConditionOp<'_>) -> u8
 fn put_check<'a, C: Conditions, W: Write>(
     alloc: Global,
     page: Page<'a, '_, C>,
+    package_place: u64,
     check: ConditionView<'a>,
     out: &mut Watched<W>,
 ) -> Result<(), AllocError>
+    requires { package_place + (condition_node check).place < 2 ^ 64 }
     ensures told { OnOk result (Puts W.contents out.old out.new
-        (check_fact (audited page.entry) (condition_node check.entry))) }
+        (check_fact (audited page.entry) package_place (condition_node check.entry))) }
     ensures nothing { OnErr result (out.new ≡ out.old) }
 {
     let condition = AnyCondition::Question(check);
-    let state = state_of(page, condition);
-    put_condition(alloc, b"check", code_of(check.op()), condition, state, out)
+    let heading = Heading {
+        word: b"check",
+        code: code_of(check.op()),
+        package_place,
+        state: state_of(page, condition),
+    };
+    put_condition(alloc, heading, condition, out)
 }
 
 /// Writes the checks in the scope of a question, by place. Where an allocation fails, the beginning of these lines may be written.
 pub(crate) fn put_checks<'a, C: Conditions, W: Write>(
     alloc: Global,
     page: Page<'a, '_, C>,
+    package_place: u64,
     question: Question<'a>,
     out: &mut Watched<W>,
 ) -> Result<(), AllocError>
+    requires { package_place + length (bytes_of page.policy) < 2 ^ 64 }
     ensures told { OnOk result (Puts W.contents out.old out.new
-        (check_facts (audited page.entry) (question_node question.entry))) }
+        (check_facts (audited page.entry) package_place (question_node question.entry))) }
     ensures begun { OnErr result (Begins (pen_of W.contents out.old) (pen_of W.contents out.new)
-        (check_facts (audited page.entry) (question_node question.entry))) }
+        (check_facts (audited page.entry) package_place (question_node question.entry))) }
 {
     let mut checks = page.policy().forms().conditions();
     while let Some(check) = checks.next() {
         if check.this() == question.id() {
-            put_check(alloc, page, check, out)?;
+            put_check(alloc, page, package_place, check, out)?;
         }
     }
     Ok(())

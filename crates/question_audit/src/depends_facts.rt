@@ -1,131 +1,204 @@
 //! On which questions it depends whether a question may be changed.
 
-ghost use Rattle.std.specs.Prelude.{◌≡◌, ℕ, IfOk, OnOk, OnErr};
+ghost use Rattle.std.specs.Prelude.{◌≡◌, ◌||◌, ℕ, IfOk, OnOk, OnErr, option_map};
 ghost use Rattle.hii_bytes.specs.Watching.{Puts};
 ghost use Rattle.hii_bytes.specs.code.NumberSets.{has_number};
 ghost use Rattle.ifr_opcodes.specs.Rows.{is_among};
 ghost use Rattle.ifr_nodes.specs.Nodes.{nodes_of};
 ghost use Rattle.ifr_nodes.specs.code.Checked.{IsNodeOf};
-ghost use Rattle.ifr_scopes.specs.code.Lists.{statement_node};
-ghost use Rattle.hii_questions.specs.Fields.{question_with};
+ghost use Rattle.ifr_scopes.specs.code.Lists.{guard_node, statement_node};
+ghost use Rattle.hii_questions.specs.Fields.{asked, question_with};
+ghost use Rattle.hii_questions.specs.code.Ranges.{range_in};
 ghost use Rattle.hii_questions.specs.code.Views.{question_node, question_view};
+ghost use Rattle.guard_policy.specs.Conditions.{condition_ids};
 ghost use Rattle.guard_policy.specs.code.Views.{bytes_of};
 ghost use Rattle.form_audit.specs.QuestionLines.{word_where};
 ghost use Rattle.form_audit.specs.code.Pages.{audited};
-ghost use Rattle.question_audit.specs.Dependences.{answer_text, dependence_text, depends_fact, depends_facts, depends_on};
+ghost use Rattle.question_audit.specs.Dependences.{answer_text, dependence_text, depends_fact, depends_facts, depends_on, depends_word, field_behind};
 
-use crate::facts::put_column;
-use form_page::{Page, put_row_value, put_shown};
-use guard_policy::{Conditions, Decision};
+use crate::facts::{put_column, put_id, put_verdict_text};
+use crate::when::When;
+use audit_text::put_safe_shown;
+use form_audit::{StoreNames, put_field_text, put_script_value, put_told_value};
+use form_page::Page;
+use guard_policy::{Conditions, Policy};
 use hii_bytes::{NumberSet, Watched};
-use hii_questions::{Question, read_value};
+use hii_questions::{FieldRange, Question, read_value};
 use ifr_expr::Value;
-use ifr_scopes::Statement;
+use ifr_scopes::{Forms, Guard, Statement};
 use std::alloc::{AllocError, Global};
 use std::io::Write;
 
 // How many ids there are.
 const IDS: u32 = 65_536;
 
-// The ids of the questions on whose answers changing a statement depends.
-fn support_of<'a, C: Conditions>(
+// Adds the ids of the questions on whose answers the condition of a guard depends.
+fn add_named<'a>(forms: &Forms<'a>, guard: Guard<'a>, ids: &mut NumberSet)
+    ensures { (id : ℕ) → has_number ids.new id
+        ≡ (has_number ids.old id || is_among id (condition_ids (nodes_of forms.now) (guard_node guard.entry))) }
+{
+    let mut named = forms.dependence(guard.condition(), guard.this());
+    while let Some(id) = named.next() {
+        ids.insert(id);
+    }
+}
+
+// The ids of the questions on whose answers it depends then whether a statement may be changed.
+fn support_of<'a>(
     alloc: Global,
-    page: Page<'a, '_, C>,
+    policy: Policy<'a, '_>,
     statement: Statement<'a>,
+    when: When,
 ) -> Result<NumberSet, AllocError>
-    requires { IsNodeOf (bytes_of page.policy) (statement_node statement) }
+    requires { IsNodeOf (bytes_of policy) (statement_node statement) }
     ensures { IfOk result (λ ids. (id : ℕ) → has_number ids id
-        ≡ is_among id (depends_on (nodes_of (bytes_of page.entry.policy)) (statement_node statement.entry))) }
+        ≡ is_among id (depends_on when (nodes_of (bytes_of policy.entry)) (statement_node statement.entry))) }
 {
     let mut ids = NumberSet::new(alloc)?;
-    let mut support = page.policy().support_of(Decision::Changeable(statement));
-    while let Some(id) = support.next() {
-        ids.insert(id);
+    let forms = policy.forms();
+    let mut guards = forms.guards_at(statement.place());
+    while let Some(guard) = guards.next() {
+        if when.counts(guard) {
+            add_named(forms, guard, &mut ids);
+        }
     }
     Ok(ids)
 }
 
-// Writes what a question answers as a page shows it, or that it has no answer.
+// Writes where a field lies behind a space, if there is one.
+fn put_field_behind<W: Write>(
+    names: &StoreNames<'_>,
+    field: Option<FieldRange>,
+    out: &mut Watched<W>,
+)
+    ensures { Puts W.contents out.old out.new
+        (field_behind (nodes_of names.now) (option_map range_in field)) }
+{
+    if let Some(field) = field {
+        out.put(b" ");
+        put_field_text(names, field, out);
+    }
+}
+
+// Writes what a question answers, its field and whether it may be changed, or that it has no answer.
 fn put_answer<'a, C: Conditions, W: Write>(
     page: Page<'a, '_, C>,
+    names: &StoreNames<'a>,
     question: Question<'a>,
     out: &mut Watched<W>,
 )
-    requires { IsNodeOf (bytes_of page.policy) (question_node question) }
+    requires node { IsNodeOf (bytes_of page.policy) (question_node question) }
+    requires asked { question_view question
+        ≡ asked (nodes_of (bytes_of page.policy)) (question_node question) }
+    requires names { names.now ≡ bytes_of page.policy }
     ensures { Puts W.contents out.old out.new
         (answer_text (audited page.entry) (question_view question.entry)) }
 {
-    if let Value::Undefined = read_value(question, page.stores()) {
+    let value = read_value(question, page.stores());
+    if let Value::Undefined = value {
         out.put(b"has no answer here");
         return;
     }
     out.put(b"[");
-    put_row_value(page.value_of(question.statement()), out);
+    put_told_value(page, question, out);
     out.put(b"]");
+    put_script_value::<C, W>(b" value ", question.statement(), value, out);
+    put_field_behind(names, question.field(), out);
+    out.put(b" ");
+    let verdict = page
+        .policy()
+        .question_changeable_by(question, page.conditions());
+    put_verdict_text(verdict, out);
 }
 
 // Writes the prompt of the question of an id and its answer, or that there is no such question.
 fn put_question_with<'a, C: Conditions, W: Write>(
     page: Page<'a, '_, C>,
+    names: &StoreNames<'a>,
     id: u16,
     out: &mut Watched<W>,
 )
+    requires { names.now ≡ bytes_of page.policy }
     ensures { Puts W.contents out.old out.new
         (dependence_text (audited page.entry)
         (question_with (nodes_of (bytes_of page.entry.policy)) id)) }
 {
     match page.questions().find(id) {
         Some(question) => {
-            put_shown(page.text(question.statement().op().prompt()).chars(), out);
+            put_safe_shown(page.text(question.statement().op().prompt()).chars(), out);
             out.put(b" ");
-            put_answer(page, question, out);
+            put_answer(page, names, question, out);
         }
         None => out.put(b"no such question"),
     }
 }
 
-// Writes the question of an id with its answer.
-fn put_dependence<'a, C: Conditions, W: Write>(page: Page<'a, '_, C>, id: u16, out: &mut Watched<W>)
-    ensures { Puts W.contents out.old out.new (depends_fact (audited page.entry) id) }
+// The word before a question on which it depends.
+fn word_of(when: When) -> &'static [u8]
+    ensures { result.now ≡ depends_word when }
 {
-    put_column(b"depends", out);
-    out.put_decimal(u64::from(id));
+    match when {
+        When::AtCommands => b"depends",
+        When::AtOpening => b"opening",
+    }
+}
+
+// Writes the question of an id with its answer.
+fn put_dependence<'a, C: Conditions, W: Write>(
+    page: Page<'a, '_, C>,
+    names: &StoreNames<'a>,
+    when: When,
+    id: u16,
+    out: &mut Watched<W>,
+)
+    requires { names.now ≡ bytes_of page.policy }
+    ensures { Puts W.contents out.old out.new (depends_fact when (audited page.entry) id) }
+{
+    put_column(word_of(when), out);
+    put_id(id, out);
     out.put(b" ");
-    put_question_with(page, id, out);
+    put_question_with(page, names, id, out);
     out.put(b"\n");
 }
 
 // Writes the question of an id with its answer, if it is one of some ids.
 fn put_if_among<'a, C: Conditions, W: Write>(
     page: Page<'a, '_, C>,
+    names: &StoreNames<'a>,
+    when: When,
     ids: &NumberSet,
     id: u16,
     out: &mut Watched<W>,
 )
+    requires { names.now ≡ bytes_of page.policy }
     ensures { Puts W.contents out.old out.new
-        (word_where (has_number ids.now id) (depends_fact (audited page.entry) id)) }
+        (word_where (has_number ids.now id) (depends_fact when (audited page.entry) id)) }
 {
     if ids.contains(id) {
-        put_dependence(page, id, out);
+        put_dependence(page, names, when, id, out);
     }
 }
 
-/// Writes the questions on whose answers changing a statement depends, by rising ids. Where an allocation fails nothing is written.
+/// Writes the questions on whose answers it depends then whether a statement may be changed, by rising ids. Where an allocation fails
+/// nothing is written.
 pub(crate) fn put_depends<'a, C: Conditions, W: Write>(
     alloc: Global,
     page: Page<'a, '_, C>,
+    names: &StoreNames<'a>,
     statement: Statement<'a>,
+    when: When,
     out: &mut Watched<W>,
 ) -> Result<(), AllocError>
-    requires { IsNodeOf (bytes_of page.policy) (statement_node statement) }
+    requires node { IsNodeOf (bytes_of page.policy) (statement_node statement) }
+    requires names { names.now ≡ bytes_of page.policy }
     ensures told { OnOk result (Puts W.contents out.old out.new
-        (depends_facts (audited page.entry) (statement_node statement.entry))) }
+        (depends_facts when (audited page.entry) (statement_node statement.entry))) }
     ensures nothing { OnErr result (out.new ≡ out.old) }
 {
-    let ids = support_of(alloc, page, statement)?;
+    let ids = support_of(alloc, page.policy(), statement, when)?;
     let mut number = 0;
     while number < IDS {
-        put_if_among(page, &ids, number as u16, out);
+        put_if_among(page, names, when, &ids, number as u16, out);
         number += 1;
     }
     Ok(())

@@ -4,9 +4,10 @@ ghost use Rattle.std.specs.Prelude.{◌≡◌, Option};
 ghost use Rattle.hii_bytes.specs.Watching.{Puts};
 ghost use Rattle.guard_policy.specs.code.Answers.{unless};
 ghost use Rattle.guard_policy.specs.declared.denial.Denial.{Denial as Denied};
-ghost use Rattle.question_audit.specs.ConditionFacts.{column, verdict_text};
+ghost use Rattle.question_audit.specs.ConditionFacts.{column, id_text, verdict_text};
 
-use audit_text::put_left;
+use audit_text::{put_hexadecimal, put_left};
+use form_audit::put_denial;
 use guard_policy::Denial;
 use hii_bytes::Watched;
 use std::io::Write;
@@ -29,10 +30,16 @@ pub(crate) fn put_verdict_text<W: Write>(verdict: Result<(), Denial>, out: &mut 
 {
     match verdict {
         Ok(()) => out.put(b"open"),
-        Err(denial) => {
-            out.put(denial.kind.name().as_bytes());
-            out.put(b" at ");
-            out.put_place(u64::from(denial.place));
-        }
+        Err(denial) => put_denial(denial, out),
     }
+}
+
+/// Writes an id in decimal and in hex digits.
+pub(crate) fn put_id<W: Write>(id: u16, out: &mut Watched<W>)
+    ensures { Puts W.contents out.old out.new (id_text id) }
+{
+    out.put_decimal(u64::from(id));
+    out.put(b" (0x");
+    put_hexadecimal(out, u64::from(id));
+    out.put(b")");
 }

@@ -6,9 +6,11 @@ mod decides_facts;
 mod depends_facts;
 mod facts;
 pub mod laws;
+mod limits_facts;
 mod opcode_facts;
 mod option_facts;
 mod question_facts;
 mod value_facts;
+mod when;
 
 pub use question_facts::put_question_with_id;

@@ -10,16 +10,18 @@ ghost use Rattle.hii_languages.specs.code.Views.{text_of};
 ghost use Rattle.hii_questions.specs.code.Ranges.{range_in};
 ghost use Rattle.hii_questions.specs.code.Views.{question_node, question_view};
 ghost use Rattle.guard_policy.specs.code.Views.{bytes_of};
+ghost use Rattle.form_page.specs.code.PageViews.{world_of};
 ghost use Rattle.form_audit.specs.QuestionLines.{store_with};
+ghost use Rattle.form_audit.specs.code.Closings.{TellsWays};
 ghost use Rattle.form_audit.specs.code.Pages.{audited};
 ghost use Rattle.question_audit.specs.QuestionFacts.{field_fact, form_fact, form_of, guid_behind, has_within, help_fact, opcode_fact, opcode_facts, prompt_line};
 
-use crate::facts::put_column;
-use audit_text::{Case, opcode_name, put_guid, put_hexadecimal};
-use form_audit::{StoreNames, put_field_text, put_form};
-use form_page::{Page, put_shown};
+use crate::facts::{put_column, put_id};
+use audit_text::{Case, opcode_name, put_guid, put_hexadecimal, put_safe_shown};
+use form_audit::{StoreNames, Ways, put_field_text, put_form};
+use form_page::Page;
 use guard_policy::{Conditions, Policy};
-use hii_bytes::{NumberSet, Watched};
+use hii_bytes::Watched;
 use hii_languages::Shown;
 use hii_questions::{FieldRange, Question};
 use ifr_scopes::{Form, Forms, Statement};
@@ -35,9 +37,9 @@ fn put_prompt_line<'a, C: Conditions, W: Write>(
         (prompt_line (audited page.entry) (question_node question.entry)) }
 {
     out.put(b"QUESTION ");
-    out.put_decimal(u64::from(question.id()));
+    put_id(question.id(), out);
     out.put(b" ");
-    put_shown(page.text(question.statement().op().prompt()).chars(), out);
+    put_safe_shown(page.text(question.statement().op().prompt()).chars(), out);
     out.put(b"\n");
 }
 
@@ -47,7 +49,7 @@ fn put_help<W: Write>(help: Shown<'_>, out: &mut Watched<W>)
 {
     if help.chars().next().is_some() {
         put_column(b"help", out);
-        put_shown(help.chars(), out);
+        put_safe_shown(help.chars(), out);
         out.put(b"\n");
     }
 }
@@ -85,17 +87,18 @@ fn form_of<'a>(policy: Policy<'a, '_>, statement: Statement<'a>) -> Option<Form<
 // Writes the form of a statement with its reach, if it stands in one.
 fn put_form_fact<'a, C: Conditions, W: Write>(
     page: Page<'a, '_, C>,
-    reached: &NumberSet,
+    ways: &Ways,
     statement: Statement<'a>,
     out: &mut Watched<W>,
 )
+    requires { TellsWays (world_of page) ways.now }
     ensures { Puts W.contents out.old out.new
-        (form_fact (audited page.entry) (has_number reached.now)
+        (form_fact (audited page.entry) (has_number ways.now.reached)
         (form_of (nodes_of (bytes_of page.entry.policy)) (statement_node statement.entry))) }
 {
     if let Some(form) = form_of(page.policy(), statement) {
         put_column(b"form", out);
-        put_form(page, reached, form, out);
+        put_form(page, ways, form, out);
         out.put(b"\n");
     }
 }
@@ -145,22 +148,23 @@ fn put_field_fact<W: Write>(names: &StoreNames<'_>, field: Option<FieldRange>, o
 /// Writes what the opcode of a question says, with the place of its forms package in the list.
 pub(crate) fn put_opcode_facts<'a, C: Conditions, W: Write>(
     page: Page<'a, '_, C>,
-    reached: &NumberSet,
+    ways: &Ways,
     names: &StoreNames<'a>,
     package_place: u64,
     question: Question<'a>,
     out: &mut Watched<W>,
 )
+    requires ways { TellsWays (world_of page) ways.now }
     requires names { names.now ≡ bytes_of page.policy }
     requires in_list { package_place + (question_node question).place < 2 ^ 64 }
     ensures { Puts W.contents out.old out.new
-        (opcode_facts (audited page.entry) (has_number reached.now) package_place
+        (opcode_facts (audited page.entry) (has_number ways.now.reached) package_place
         (question_view question.entry)) }
 {
     let statement = question.statement();
     put_prompt_line(page, question, out);
     put_help(page.text(statement.op().help()), out);
-    put_form_fact(page, reached, statement, out);
+    put_form_fact(page, ways, statement, out);
     put_opcode_fact(package_place, question, out);
     put_field_fact(names, question.field(), out);
 }

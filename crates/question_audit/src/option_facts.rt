@@ -17,8 +17,9 @@ ghost use Rattle.question_audit.specs.ConditionFacts.{condition_words, deciding,
 ghost use Rattle.question_audit.specs.code.Beginnings.{Begins};
 
 use crate::facts::{put_column, put_verdict_text};
+use audit_text::put_safe_shown;
 use condition_text::ConditionText;
-use form_page::{Page, put_shown};
+use form_page::Page;
 use guard_policy::{Conditions, Denial};
 use hii_bytes::Watched;
 use ifr_scopes::{OptionView, Statement};
@@ -104,7 +105,7 @@ fn put_option<'a, C: Conditions, W: Write>(
     put_column(b"option", out);
     out.put_decimal(option.op().value());
     out.put(b" ");
-    put_shown(page.text(option.op().text()).chars(), out);
+    put_safe_shown(page.text(option.op().text()).chars(), out);
     out.put(b": ");
     put_verdict_text(verdict, out);
     put_deciding(alloc, page, option, verdict, out)?;

@@ -13,17 +13,19 @@ ghost use Rattle.guard_policy.specs.code.Views.{bytes_of};
 ghost use Rattle.form_page.specs.code.PageViews.{world_of};
 ghost use Rattle.form_audit.specs.Reach.{TellsReached};
 ghost use Rattle.form_audit.specs.code.Pages.{audited};
-ghost use Rattle.question_audit.specs.QuestionFacts.{BeginsQuestion, TellsQuestion, question_facts, verdict_fact};
+ghost use Rattle.question_audit.specs.QuestionFacts.{BeginsQuestion, TellsQuestion, kind_facts, question_facts, verdict_fact};
 ghost use Rattle.question_audit.specs.code.Beginnings.{Begins};
 
 use crate::condition_facts::{put_checks, put_guards};
 use crate::decides_facts::put_decides;
 use crate::depends_facts::put_depends;
 use crate::facts::{put_column, put_verdict_text};
+use crate::limits_facts::{put_flags_fact, put_limits_fact, put_outside_fact};
 use crate::opcode_facts::put_opcode_facts;
 use crate::option_facts::put_options;
 use crate::value_facts::put_value_facts;
-use form_audit::{StoreNames, reached_forms};
+use crate::when::When;
+use form_audit::{StoreNames, Ways};
 use form_page::Page;
 use guard_policy::Conditions;
 use hii_bytes::{Fault, Watched};
@@ -51,6 +53,20 @@ fn put_verdict_fact<'a, C: Conditions, W: Write>(
     out.put(b"\n");
 }
 
+// Writes the flags of a question, what it takes or where it leads, and why it has no value here.
+fn put_kind_facts<'a, C: Conditions, W: Write>(
+    page: Page<'a, '_, C>,
+    question: Question<'a>,
+    out: &mut Watched<W>,
+)
+    ensures { Puts W.contents out.old out.new
+        (kind_facts (audited page.entry) (question_view question.entry)) }
+{
+    put_flags_fact(question.op(), out);
+    put_limits_fact(page, question.statement(), out);
+    put_outside_fact(question, out);
+}
+
 // Writes what is known of a question, a line for each fact. Where an allocation fails, the beginning of these lines may be written.
 fn put_question_facts<'a, C: Conditions, W: Write>(
     alloc: Global,
@@ -75,17 +91,19 @@ fn put_question_facts<'a, C: Conditions, W: Write>(
         (question_view question.entry)))) }
     ensures refused { IfErr result (λ fault. fault ≡ out_of_memory) }
 {
-    let reached = reached_forms(alloc, page)?;
+    let ways = Ways::read(alloc, page)?;
     let names = StoreNames::read(alloc, page.policy().forms())?;
     let mut spare = page.stores().copy(alloc)?;
     let statement = question.statement();
-    put_opcode_facts(page, &reached, &names, package_place, question, out);
+    put_opcode_facts(page, &ways, &names, package_place, question, out);
+    put_kind_facts(page, question, out);
     put_value_facts(page, question, &mut spare, out);
     put_verdict_fact(page, question, out);
-    put_guards(alloc, page, statement, out)?;
-    put_checks(alloc, page, question, out)?;
+    put_guards(alloc, page, package_place, statement, out)?;
+    put_checks(alloc, page, package_place, question, out)?;
     put_options(alloc, page, statement, out)?;
-    put_depends(alloc, page, statement, out)?;
+    put_depends(alloc, page, &names, statement, When::AtCommands, out)?;
+    put_depends(alloc, page, &names, statement, When::AtOpening, out)?;
     put_decides(alloc, page, question, out)?;
     Ok(())
 }

@@ -15,8 +15,9 @@ ghost use Rattle.form_audit.specs.code.Pages.{audited};
 ghost use Rattle.question_audit.specs.QuestionFacts.{choice_behind, default_fact, named_default, option_behind, value_facts, value_line, value_text};
 
 use crate::facts::put_column;
-use form_audit::{give_back, put_script_value, take_default};
-use form_page::{Page, put_shown, seen_option};
+use audit_text::put_safe_shown;
+use form_audit::{give_back, option_of_value, put_script_value, take_default};
+use form_page::Page;
 use guard_policy::Conditions;
 use hii_bytes::Watched;
 use hii_questions::{Question, read_value};
@@ -27,7 +28,7 @@ use ifr_opcodes::ONE_OF;
 use ifr_scopes::{Statement, StatementKind};
 use std::io::Write;
 
-// Writes the text of the option that a number is, if one is to be seen, behind a space.
+// Writes the text of the option that a number is, if there is one, behind a space.
 fn put_choice<'a, C: Conditions, W: Write>(
     page: Page<'a, '_, C>,
     statement: Statement<'a>,
@@ -40,9 +41,9 @@ fn put_choice<'a, C: Conditions, W: Write>(
         (value_of value.entry)) }
 {
     if let Value::Number(number) = value {
-        if let Some(option) = seen_option(page, statement, number) {
+        if let Some(option) = option_of_value(page.policy().forms(), statement, number) {
             out.put(b" ");
-            put_shown(page.text(option.op().text()).chars(), out);
+            put_safe_shown(page.text(option.op().text()).chars(), out);
         }
     }
 }

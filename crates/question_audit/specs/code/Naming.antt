@@ -4,7 +4,8 @@ use Rattle.ifr_opcodes.specs.Forest.{Node}
 use Rattle.ifr_opcodes.specs.Rows.{is_among}
 use Rattle.ifr_nodes.specs.Guards.{guards_among}
 use Rattle.guard_policy.specs.Conditions.{condition_ids}
-use Rattle.question_audit.specs.Dependences.{may_forbid}
+use Rattle.question_audit.specs.Times.{counts_when}
+use Rattle.question_audit.specs.declared.when.When.{When}
 
 -- whether the condition of a guard depends on the answer to the question of an id
 abbrev pub names : List Node → ℕ → Node → Bool
@@ -14,6 +15,6 @@ names ns id g = is_among id (condition_ids ns g)
 abbrev pub naming : List Node → ℕ → List Bool
 naming ns id = map (names ns id) (guards_among ns)
 
--- whether a guard may forbid a change by such a condition
-abbrev pub counts : List Node → ℕ → Node → Bool
-counts ns id g = may_forbid g && names ns id g
+-- whether such a condition of a guard decides then
+abbrev pub counts : When → List Node → ℕ → Node → Bool
+counts when ns id g = counts_when when g && names ns id g

@@ -14,7 +14,7 @@ returns-in-Some g c = λ spoken kept.
     c.chars.ensures ∙ c.shown.ensures ∙ ap (λ (h : Heard). shown_in_first h.first id) kept ∙ shown_first spoken id in
     let languages = rw (ap (λ (h : Heard). h.languages) kept) at c.put_languages.ensures in
     let before = rw c.forms_count.ensures at (c.put.ensures ⨾ c.put_decimal.ensures ⨾ c.put_form_sets-title.ensures.text ⨾ c.put-2.ensures ⨾ languages) in
-    let title = rw shown at (c.put-in-Some.ensures ⨾ c.put_chars.ensures) in
+    let title = rw shown at (c.put-in-Some.ensures ⨾ c.put_safe_shown.ensures) in
     with_title spoken _ id (sym c.put_form_sets-title.ensures.title ∙ c.in-Some.is) before title
 
 pub returns-in_default : goal.returns-in_default

@@ -29,7 +29,7 @@ loop-statement-init g c =
     let page = c.args.page in
     let bytes = bytes_of page.policy in
     let told : Node → List ℕ = λ n. question_line (audited page) (asked (nodes_of bytes) n) in
-    let front = codes "FORM " ++ form_text (audited page) (has_number c.args.reached.now) (form_node c.args.form) ++ codes "\n" in
+    let front = codes "FORM " ++ form_text (audited page) (has_number c.args.tables.now.ways.reached) (form_node c.args.form) ++ codes "\n" in
     record {
       can = search rules;
       ends = search rules;
@@ -105,6 +105,6 @@ loop-statement-preserved g c =
       ends = search rules;
       nodes = rest_of bytes left n after e c.loop-statement.invariant.nodes;
       same = c.loop-statement.invariant.same;
-      text = subst (Stands (pen_of g.W.Write.contents c.args.out.now) (pen_of g.W.Write.contents c.loop-statement.out) (form_lines (audited page) (has_number c.args.reached.now) (form_node c.args.form)))
+      text = subst (Stands (pen_of g.W.Write.contents c.args.out.now) (pen_of g.W.Write.contents c.loop-statement.out) (form_lines (audited page) (has_number c.args.tables.now.ways.reached) (form_node c.args.form)))
           (without_question told n left after e is) c.loop-statement.invariant.text;
     }

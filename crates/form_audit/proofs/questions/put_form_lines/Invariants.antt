@@ -21,6 +21,6 @@ invariant-loop-statement g l = record {
   ends : (goal.iterator-loop-statement g).is_finite l.statements;
   nodes : AreNodesOf (bytes_of l.fn.page.policy) (statements_of_left l.statements);
   same : l.spare ≡ l.fn.page.stores.now;
-  text : Stands (pen_of g.W.Write.contents l.fn.out) (pen_of g.W.Write.contents l.out) (form_lines (audited l.fn.page) (has_number l.fn.reached) (form_node l.fn.form))
+  text : Stands (pen_of g.W.Write.contents l.fn.out) (pen_of g.W.Write.contents l.out) (form_lines (audited l.fn.page) (has_number l.fn.tables.ways.reached) (form_node l.fn.form))
       (flat_map (λ n. question_line (audited l.fn.page) (asked (nodes_of (bytes_of l.fn.page.policy)) n)) (filter is_question (statements_of_left l.statements)));
 }

@@ -18,7 +18,7 @@ pub loop-form-init : goal.loop-form-init
 loop-form-init g c =
     let page = c.args.page in
     let bytes = bytes_of page.policy in
-    let told : Node → List ℕ = form_lines (audited page) (has_number c.args.reached.now) in
+    let told : Node → List ℕ = form_lines (audited page) (has_number c.args.tables.now.ways.reached) in
     let all = c.forms-forms.ensures ∙ ap (λ (b : List ℕ). filter is_form (nodes_of b)) (c.forms.ensures ∙ ap bytes_of c.policy.ensures) in
     record {
       can = search rules;
@@ -43,7 +43,7 @@ loop-form-preserved g c =
     let after = forms_left c.next.new.self in
     let n = form_node c.in-Some.form in
     let e = c.in-Some.ensures.steps in
-    let told : Node → List ℕ = form_lines (audited page) (has_number c.args.reached.now) in
+    let told : Node → List ℕ = form_lines (audited page) (has_number c.args.tables.now.ways.reached) in
     record {
       can = search rules;
       ends = search rules;

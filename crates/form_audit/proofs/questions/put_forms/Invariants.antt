@@ -17,6 +17,6 @@ invariant-loop-form g l = record {
   ends : (goal.iterator-loop-form g).is_finite l.forms;
   nodes : AreNodesOf (bytes_of l.fn.page.policy) (forms_left l.forms);
   same : l.spare ≡ l.fn.page.stores.now;
-  text : Stands (pen_of g.W.Write.contents l.fn.out) (pen_of g.W.Write.contents l.out) (questions_text (audited l.fn.page) (has_number l.fn.reached))
-      (flat_map (form_lines (audited l.fn.page) (has_number l.fn.reached)) (forms_left l.forms));
+  text : Stands (pen_of g.W.Write.contents l.fn.out) (pen_of g.W.Write.contents l.out) (questions_text (audited l.fn.page) (has_number l.fn.tables.ways.reached))
+      (flat_map (form_lines (audited l.fn.page) (has_number l.fn.tables.ways.reached)) (forms_left l.forms));
 }

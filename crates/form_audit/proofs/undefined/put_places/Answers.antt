@@ -6,9 +6,12 @@ use Rattle.form_audit.proofs.UndefinedLemmas.{place_told}
 use Rattle.form_audit.proofs.undefined.put_places.Goals as goal
 
 pub loop-guard-init : goal.loop-guard-init
-loop-guard-init g c = Stands-start _ _
+loop-guard-init g c = record { written = Stands-start _ _; own = c.requires.own }
 
 pub loop-guard-preserved : goal.loop-guard-preserved
 loop-guard-preserved g c =
     let place = place_told c.from.result (guard_node c.in-Some.guard).place (c.from.ensures ∙ c.place.ensures) c.put_place.ensures in
-    past_piece _ _ _ _ _ _ _ (ap places_behind c.in-Some.ensures) c.loop-guard.invariant (c.put.ensures ⨾ place)
+    record {
+      written = past_piece _ _ _ _ _ _ _ (ap places_behind c.in-Some.ensures.found) c.loop-guard.invariant.written (c.put.ensures ⨾ place);
+      own = c.next_undefined.ensures.own;
+    }

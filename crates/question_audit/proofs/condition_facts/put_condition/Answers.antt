@@ -7,6 +7,7 @@ use Rattle.question_audit.proofs.condition_facts.put_condition.Goals as goal
 
 pub returns-clause-told : goal.returns-clause-told
 returns-clause-told g c =
-    let name : c.opcode_name.result.now ≡ opcode_name (number (any_condition_node c.args.condition).op) = c.opcode_name.ensures ∙ ap opcode_name c.requires in
-    rw (name, c.from.ensures, c.place.ensures, c.in_ok-text.ensures, c.condition.ensures) at
-    (c.put_column.ensures ⨾ c.put.ensures ⨾ c.put-2.ensures ⨾ c.put_place.ensures ⨾ c.put-3.ensures ⨾ c.put-4.ensures ⨾ c.put-5.ensures ⨾ c.put-6.ensures ⨾ c.put-7.ensures)
+    let name : c.opcode_name.result.now ≡ opcode_name (number (any_condition_node c.args.condition).op) = c.opcode_name.ensures ∙ ap opcode_name c.requires.code in
+    rw (name, c.from-place.ensures, c.place.ensures, c.in_ok-text.ensures, c.condition.ensures) at
+    (c.put_column.ensures ⨾ c.put.ensures ⨾ c.put-2.ensures ⨾ c.put_place.ensures ⨾ c.put-3.ensures ⨾ c.put_hexadecimal.ensures.text ⨾ c.put-4.ensures ⨾ c.put-5.ensures ⨾ c.put-6.ensures ⨾ c.put-7.ensures
+    ⨾ c.put-8.ensures)

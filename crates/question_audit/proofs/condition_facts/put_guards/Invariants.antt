@@ -1,8 +1,9 @@
-use Rattle.std.proofs.Common.{length}
+use Rattle.std.proofs.Common.{◌≡◌, length}
 use Rattle.std.specs.List.{flat_map}
 use Rattle.hii_bytes.specs.Watching.{pen_of}
 use Rattle.hii_bytes.specs.code.Writing.{Stands}
 use Rattle.ifr_scopes.specs.code.Lists.{guards_left, statement_node}
+use Rattle.guard_policy.specs.code.Views.{bytes_of}
 use Rattle.form_audit.specs.code.Pages.{audited}
 use Rattle.question_audit.specs.ConditionFacts.{guard_fact, guard_facts}
 use Rattle.question_audit.proofs.condition_facts.put_guards.Given as goal
@@ -11,7 +12,11 @@ use Rattle.question_audit.proofs.condition_facts.put_guards.Given as goal
 abbrev pub invariant-loop-guard : goal.invariant-loop-guard
 invariant-loop-guard g l =
     let a = audited l.page in
-    Stands (pen_of g.W.Write.contents l.fn.out) (pen_of g.W.Write.contents l.out) (guard_facts a (statement_node l.statement)) (flat_map (guard_fact a) (guards_left l.guards))
+    record {
+      written : Stands (pen_of g.W.Write.contents l.fn.out) (pen_of g.W.Write.contents l.out) (guard_facts a l.package_place (statement_node l.statement))
+          (flat_map (guard_fact a l.package_place) (guards_left l.guards));
+      own : l.guards.ifr.now ≡ bytes_of l.page.policy;
+    }
 
 abbrev pub decreases-loop-guard : goal.decreases-loop-guard
 decreases-loop-guard g l = length (guards_left l.guards)

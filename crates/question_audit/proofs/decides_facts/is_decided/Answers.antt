@@ -8,7 +8,7 @@ use Rattle.hii_questions.specs.code.Views.{question_node}
 use Rattle.guard_policy.specs.code.Views.{bytes_of}
 use Rattle.guard_policy.proofs.IndexedLemmas.{of_statement}
 use Rattle.question_audit.specs.code.Naming.{counts, naming}
-use Rattle.question_audit.proofs.AroundLemmas.{guards_found}
+use Rattle.form_audit.proofs.AroundLemmas.{guards_found}
 use Rattle.question_audit.proofs.DependLemmas.{any_guard}
 use Rattle.question_audit.proofs.decides_facts.is_decided.Goals as goal
 
@@ -19,7 +19,7 @@ loop-guard-init c =
     let ns = nodes_of (bytes_of policy) in
     let found = guards_found policy n _ c.place.result _ c.requires.node (of_statement n c.args.question.statement.statement) (sym c.place.ensures) c.forms.ensures c.guards_at-guards.ensures.guards in
     record {
-      any = λ id e. ap (list_any (counts ns id)) found ∙ sym (any_guard ns id n);
+      any = λ id e. ap (list_any (counts c.args.when ns id)) found ∙ sym (any_guard c.args.when ns id n);
       same = c.guards_at-guards.ensures.of_package ∙ c.forms.ensures;
     }
 
@@ -38,7 +38,7 @@ loop-guard-preserved c =
     record {
       any = λ id e.
           let told = c.counts.ensures id (e ∙ ap (λ (b : List ℕ). naming (nodes_of b) id) (sym same)) in
-          let not : counts ns id guard ≡ false = ap (λ (b : List ℕ). counts (nodes_of b) id guard) (sym same) ∙ sym told ∙ c.if-counts.false in
-          sym (ap (list_any (counts ns id)) c.in-Some.ensures.steps ∙ ap (λ (b : Bool). b || list_any (counts ns id) rest) not) ∙ i.any id e;
+          let not : counts c.args.when ns id guard ≡ false = ap (λ (b : List ℕ). counts c.args.when (nodes_of b) id guard) (sym same) ∙ sym told ∙ c.if-counts.false in
+          sym (ap (list_any (counts c.args.when ns id)) c.in-Some.ensures.steps ∙ ap (λ (b : Bool). b || list_any (counts c.args.when ns id) rest) not) ∙ i.any id e;
       same = c.in-Some.ensures.kept ∙ i.same;
     }

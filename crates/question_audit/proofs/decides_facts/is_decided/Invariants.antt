@@ -13,7 +13,7 @@ abbrev pub invariant-loop-guard : goal.invariant-loop-guard
 invariant-loop-guard l =
     let ns = nodes_of (bytes_of l.policy) in
     record {
-      any : (id : ℕ) → l.flags ≡ naming ns id → list_any (counts ns id) (guards_left l.guards) ≡ is_decided_by ns id (question_view l.question);
+      any : (id : ℕ) → l.flags ≡ naming ns id → list_any (counts l.when ns id) (guards_left l.guards) ≡ is_decided_by l.when ns id (question_view l.question);
       same : l.guards.ifr.now ≡ bytes_of l.policy;
     }
 

@@ -17,8 +17,8 @@ invariant-loop-number g l =
     let n = statement_node l.statement in
     record {
       few : l.number ≤ 65536;
-      written : Stands (pen_of g.W.Write.contents l.fn.out) (pen_of g.W.Write.contents l.out) (depends_facts a n)
-          (flat_map (depends_fact a) (filter (supports (nodes_of (bytes_of l.page.policy)) n) (range_with_len l.number (65536 - l.number))));
+      written : Stands (pen_of g.W.Write.contents l.fn.out) (pen_of g.W.Write.contents l.out) (depends_facts l.when a n)
+          (flat_map (depends_fact l.when a) (filter (supports l.when (nodes_of (bytes_of l.page.policy)) n) (range_with_len l.number (65536 - l.number))));
     }
 
 abbrev pub decreases-loop-number : goal.decreases-loop-number

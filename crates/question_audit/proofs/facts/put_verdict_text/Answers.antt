@@ -1,5 +1,4 @@
 use Rattle.std.proofs.Common.{sym, ap, ◌∙◌}
-use Rattle.hii_bytes.proofs.WritingLemmas.{◌⨾◌}
 use Rattle.condition_text.proofs.WriteLemmas.{written_as}
 use Rattle.guard_policy.proofs.DenialLemmas.{some_of}
 use Rattle.question_audit.specs.ConditionFacts.{verdict_text}
@@ -8,4 +7,4 @@ use Rattle.question_audit.proofs.facts.put_verdict_text.Goals as goal
 pub returns-in-Err : goal.returns-in-Err
 returns-in-Err g c = λ denied e.
     let is = some_of denied c.in-Err.denial (sym e ∙ c.in-Err.is) in
-    written_as (rw (c.as_bytes.ensures.value, c.name.ensures, c.from.ensures) at (c.put-in-Err.ensures ⨾ c.put-in-Err-2.ensures ⨾ c.put_place.ensures)) (ap verdict_text (sym is))
+    written_as c.put_denial.ensures (ap verdict_text (sym is))

@@ -11,11 +11,11 @@ use Rattle.form_audit.specs.code.Pages.{audited}
 use Rattle.question_audit.specs.QuestionFacts.{form_fact, form_of}
 use Rattle.question_audit.proofs.opcode_facts.put_form_fact.Goals as goal
 
-pub put_form-requires : goal.put_form-requires
-put_form-requires g c = subst (λ (p : Policy). IsNodeOf (bytes_of p) (form_node c.in-Some.form)) c.policy.ensures c.in-Some.ensures.node
+pub put_form-requires-clause-node : goal.put_form-requires-clause-node
+put_form-requires-clause-node g c = subst (λ (p : Policy). IsNodeOf (bytes_of p) (form_node c.in-Some.form)) c.policy.ensures c.in-Some.ensures.node
 
 pub returns-in-Some : goal.returns-in-Some
 returns-in-Some g c =
     let n = statement_node c.args.statement in
     written_as (c.put_column.ensures ⨾ c.put_form.ensures ⨾ c.put.ensures)
-    (ap (form_fact (audited c.args.page) (has_number c.args.reached.now)) (c.in-Some.ensures.form ∙ ap (λ (p : Policy). form_of (nodes_of (bytes_of p)) n) c.policy.ensures))
+    (ap (form_fact (audited c.args.page) (has_number c.args.ways.now.reached)) (c.in-Some.ensures.form ∙ ap (λ (p : Policy). form_of (nodes_of (bytes_of p)) n) c.policy.ensures))

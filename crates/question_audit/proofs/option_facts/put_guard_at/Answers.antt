@@ -9,7 +9,7 @@ use Rattle.ifr_scopes.specs.code.Lists.{guard_node, guards_left}
 use Rattle.ifr_scopes.specs.code.Parts.{option_node}
 use Rattle.guard_policy.proofs.IndexedLemmas.{of_option}
 use Rattle.question_audit.specs.ConditionFacts.{condition_words}
-use Rattle.question_audit.proofs.AroundLemmas.{guards_found, same_forms}
+use Rattle.form_audit.proofs.AroundLemmas.{guards_found, same_forms}
 use Rattle.question_audit.proofs.BeginningLemmas.{at_error, stands_begun}
 use Rattle.question_audit.proofs.FactLemmas.{all_left, past_passing}
 use Rattle.question_audit.proofs.option_facts.put_guard_at.Goals as goal

@@ -10,7 +10,7 @@ pub returns-clause-told : goal.returns-clause-told
 returns-clause-told g c =
     let denied = fixed (world_of c.args.page) (option_node c.args.option) in
     rw (c.value.ensures, c.op.ensures.bytes, c.chars.ensures, c.text-2.ensures, c.text.ensures, c.op-2.ensures.bytes) at
-    (c.put_column.ensures ⨾ c.put_decimal.ensures ⨾ c.put.ensures ⨾ c.put_shown.ensures ⨾ c.put-2.ensures
+    (c.put_column.ensures ⨾ c.put_decimal.ensures ⨾ c.put.ensures ⨾ c.put_safe_shown.ensures ⨾ c.put-2.ensures
     ⨾ c.put_verdict_text.ensures denied c.verdict_on-verdict.ensures ⨾ c.in_ok-put_deciding.ensures.told denied c.verdict_on-verdict.ensures ⨾ c.put-3.ensures)
 
 pub returns-in_err-put_deciding-clause-begun : goal.returns-in_err-put_deciding-clause-begun
@@ -20,6 +20,6 @@ returns-in_err-put_deciding-clause-begun g c =
     (rw (c.value.ensures, c.op.ensures.bytes, c.chars.ensures, c.text-2.ensures, c.text.ensures, c.op-2.ensures.bytes) at
     (begun_before (codes "\n")
     (begun_behind
-    (c.put_column.ensures ⨾ c.put_decimal.ensures ⨾ c.put.ensures ⨾ c.put_shown.ensures ⨾ c.put-2.ensures
+    (c.put_column.ensures ⨾ c.put_decimal.ensures ⨾ c.put.ensures ⨾ c.put_safe_shown.ensures ⨾ c.put-2.ensures
     ⨾ c.put_verdict_text.ensures denied c.verdict_on-verdict.ensures)
     (c.in_err-put_deciding.ensures.begun denied c.verdict_on-verdict.ensures))))

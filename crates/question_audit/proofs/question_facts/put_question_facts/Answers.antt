@@ -11,6 +11,7 @@ use Rattle.form_audit.specs.code.Pages.{audited}
 use Rattle.question_audit.specs.ConditionFacts.{guard_facts, option_facts}
 use Rattle.question_audit.specs.Dependences.{depends_facts}
 use Rattle.question_audit.specs.code.Beginnings.{Begins}
+use Rattle.question_audit.specs.declared.when.When.TheVariants.{AtCommands, AtOpening}
 use Rattle.question_audit.proofs.BeginningLemmas.{at_error, begun_before, begun_behind, first_begun}
 use Rattle.question_audit.proofs.question_facts.put_question_facts.Goals as goal
 
@@ -25,12 +26,12 @@ pub returns-clause-written : goal.returns-clause-written
 returns-clause-written g c =
     let a = audited c.args.page in
     let same = c.statement-statement.ensures in (
-      has_number c.in_ok-reached.reached,
-      c.in_ok-reached.ensures,
-      c.put_opcode_facts.ensures ⨾ c.put_value_facts.ensures ⨾ c.put_verdict_fact.ensures
-          ⨾ written_as c.in_ok-put_guards.ensures.told (ap (guard_facts a) same) ⨾ c.in_ok-put_checks.ensures.told
+      has_number c.in_ok-ways.ways.reached,
+      c.in_ok-ways.ensures.reached,
+      c.put_opcode_facts.ensures ⨾ c.put_kind_facts.ensures ⨾ c.put_value_facts.ensures ⨾ c.put_verdict_fact.ensures
+          ⨾ written_as c.in_ok-put_guards.ensures.told (ap (guard_facts a c.args.package_place) same) ⨾ c.in_ok-put_checks.ensures.told
           ⨾ written_as c.in_ok-put_options.ensures.told (ap (option_facts a) same)
-          ⨾ written_as c.in_ok-put_depends.ensures.told (ap (depends_facts a) same) ⨾ c.in_ok-put_decides.ensures.told,
+          ⨾ written_as c.in_ok-put_depends.ensures.told (ap (depends_facts AtCommands a) same) ⨾ written_as c.in_ok-put_depends-2.ensures.told (ap (depends_facts AtOpening a) same) ⨾ c.in_ok-put_decides.ensures.told,
     )
 
 pub returns-in_err-put_guards-clause-begun : goal.returns-in_err-put_guards-clause-begun
@@ -38,10 +39,10 @@ returns-in_err-put_guards-clause-begun g c =
     let a = audited c.args.page in
     let same = c.statement-statement.ensures in
     at_error c.from_residual-in_err-put_guards.result (inr (
-      has_number c.in_ok-reached.reached,
-      c.in_ok-reached.ensures,
-      begun_before _ (begun_before _ (begun_before _ (begun_before _ (begun_behind (c.put_opcode_facts.ensures ⨾ c.put_value_facts.ensures ⨾ c.put_verdict_fact.ensures)
-          (subst (Begins _ _) (ap (guard_facts a) same) c.in_err-put_guards.ensures.begun))))),
+      has_number c.in_ok-ways.ways.reached,
+      c.in_ok-ways.ensures.reached,
+      begun_before _ (begun_before _ (begun_before _ (begun_before _ (begun_before _ (begun_behind (c.put_opcode_facts.ensures ⨾ c.put_kind_facts.ensures ⨾ c.put_value_facts.ensures ⨾ c.put_verdict_fact.ensures)
+          (subst (Begins _ _) (ap (guard_facts a c.args.package_place) same) c.in_err-put_guards.ensures.begun)))))),
     ))
 
 pub returns-in_err-put_checks-clause-begun : goal.returns-in_err-put_checks-clause-begun
@@ -49,10 +50,10 @@ returns-in_err-put_checks-clause-begun g c =
     let a = audited c.args.page in
     let same = c.statement-statement.ensures in
     at_error c.from_residual-in_err-put_checks.result (inr (
-      has_number c.in_ok-reached.reached,
-      c.in_ok-reached.ensures,
-      begun_before _ (begun_before _ (begun_before _ (begun_behind (c.put_opcode_facts.ensures ⨾ c.put_value_facts.ensures ⨾ c.put_verdict_fact.ensures
-          ⨾ written_as c.in_ok-put_guards.ensures.told (ap (guard_facts a) same)) c.in_err-put_checks.ensures.begun))),
+      has_number c.in_ok-ways.ways.reached,
+      c.in_ok-ways.ensures.reached,
+      begun_before _ (begun_before _ (begun_before _ (begun_before _ (begun_behind (c.put_opcode_facts.ensures ⨾ c.put_kind_facts.ensures ⨾ c.put_value_facts.ensures ⨾ c.put_verdict_fact.ensures
+          ⨾ written_as c.in_ok-put_guards.ensures.told (ap (guard_facts a c.args.package_place) same)) c.in_err-put_checks.ensures.begun)))),
     ))
 
 pub returns-in_err-put_options-clause-begun : goal.returns-in_err-put_options-clause-begun
@@ -60,11 +61,11 @@ returns-in_err-put_options-clause-begun g c =
     let a = audited c.args.page in
     let same = c.statement-statement.ensures in
     at_error c.from_residual-in_err-put_options.result (inr (
-      has_number c.in_ok-reached.reached,
-      c.in_ok-reached.ensures,
-      begun_before _ (begun_before _ (begun_behind (c.put_opcode_facts.ensures ⨾ c.put_value_facts.ensures ⨾ c.put_verdict_fact.ensures
-          ⨾ written_as c.in_ok-put_guards.ensures.told (ap (guard_facts a) same) ⨾ c.in_ok-put_checks.ensures.told)
-          (subst (Begins _ _) (ap (option_facts a) same) c.in_err-put_options.ensures.begun))),
+      has_number c.in_ok-ways.ways.reached,
+      c.in_ok-ways.ensures.reached,
+      begun_before _ (begun_before _ (begun_before _ (begun_behind (c.put_opcode_facts.ensures ⨾ c.put_kind_facts.ensures ⨾ c.put_value_facts.ensures ⨾ c.put_verdict_fact.ensures
+          ⨾ written_as c.in_ok-put_guards.ensures.told (ap (guard_facts a c.args.package_place) same) ⨾ c.in_ok-put_checks.ensures.told)
+          (subst (Begins _ _) (ap (option_facts a) same) c.in_err-put_options.ensures.begun)))),
     ))
 
 pub returns-in_err-put_depends-clause-begun : goal.returns-in_err-put_depends-clause-begun
@@ -72,11 +73,22 @@ returns-in_err-put_depends-clause-begun g c =
     let a = audited c.args.page in
     let same = c.statement-statement.ensures in
     at_error c.from_residual-in_err-put_depends.result (inr (
-      has_number c.in_ok-reached.reached,
-      c.in_ok-reached.ensures,
-      rw c.in_err-put_depends.ensures.nothing (begun_before _ (first_begun _ (c.put_opcode_facts.ensures ⨾ c.put_value_facts.ensures ⨾ c.put_verdict_fact.ensures
-          ⨾ written_as c.in_ok-put_guards.ensures.told (ap (guard_facts a) same) ⨾ c.in_ok-put_checks.ensures.told
-          ⨾ written_as c.in_ok-put_options.ensures.told (ap (option_facts a) same)))),
+      has_number c.in_ok-ways.ways.reached,
+      c.in_ok-ways.ensures.reached,
+      rw c.in_err-put_depends.ensures.nothing (begun_before _ (begun_before _ (first_begun _ (c.put_opcode_facts.ensures ⨾ c.put_kind_facts.ensures ⨾ c.put_value_facts.ensures ⨾ c.put_verdict_fact.ensures
+          ⨾ written_as c.in_ok-put_guards.ensures.told (ap (guard_facts a c.args.package_place) same) ⨾ c.in_ok-put_checks.ensures.told ⨾ written_as c.in_ok-put_options.ensures.told (ap (option_facts a) same))))),
+    ))
+
+pub returns-in_err-put_depends-2-clause-begun : goal.returns-in_err-put_depends-2-clause-begun
+returns-in_err-put_depends-2-clause-begun g c =
+    let a = audited c.args.page in
+    let same = c.statement-statement.ensures in
+    at_error c.from_residual-in_err-put_depends-2.result (inr (
+      has_number c.in_ok-ways.ways.reached,
+      c.in_ok-ways.ensures.reached,
+      rw c.in_err-put_depends-2.ensures.nothing (begun_before _ (first_begun _ (c.put_opcode_facts.ensures ⨾ c.put_kind_facts.ensures ⨾ c.put_value_facts.ensures ⨾ c.put_verdict_fact.ensures
+          ⨾ written_as c.in_ok-put_guards.ensures.told (ap (guard_facts a c.args.package_place) same) ⨾ c.in_ok-put_checks.ensures.told ⨾ written_as c.in_ok-put_options.ensures.told (ap (option_facts a) same)
+          ⨾ written_as c.in_ok-put_depends.ensures.told (ap (depends_facts AtCommands a) same)))),
     ))
 
 pub returns-in_err-put_decides-clause-begun : goal.returns-in_err-put_decides-clause-begun
@@ -84,10 +96,9 @@ returns-in_err-put_decides-clause-begun g c =
     let a = audited c.args.page in
     let same = c.statement-statement.ensures in
     at_error c.from_residual-in_err-put_decides.result (inr (
-      has_number c.in_ok-reached.reached,
-      c.in_ok-reached.ensures,
-      rw c.in_err-put_decides.ensures.nothing (first_begun _ (c.put_opcode_facts.ensures ⨾ c.put_value_facts.ensures ⨾ c.put_verdict_fact.ensures
-          ⨾ written_as c.in_ok-put_guards.ensures.told (ap (guard_facts a) same) ⨾ c.in_ok-put_checks.ensures.told
-          ⨾ written_as c.in_ok-put_options.ensures.told (ap (option_facts a) same)
-          ⨾ written_as c.in_ok-put_depends.ensures.told (ap (depends_facts a) same))),
+      has_number c.in_ok-ways.ways.reached,
+      c.in_ok-ways.ensures.reached,
+      rw c.in_err-put_decides.ensures.nothing (first_begun _ (c.put_opcode_facts.ensures ⨾ c.put_kind_facts.ensures ⨾ c.put_value_facts.ensures ⨾ c.put_verdict_fact.ensures
+          ⨾ written_as c.in_ok-put_guards.ensures.told (ap (guard_facts a c.args.package_place) same) ⨾ c.in_ok-put_checks.ensures.told ⨾ written_as c.in_ok-put_options.ensures.told (ap (option_facts a) same)
+          ⨾ written_as c.in_ok-put_depends.ensures.told (ap (depends_facts AtCommands a) same) ⨾ written_as c.in_ok-put_depends-2.ensures.told (ap (depends_facts AtOpening a) same))),
     ))

@@ -1,0 +1,16 @@
+use Rattle.std.proofs.Common.{ℕ, List, ap, ◌∙◌}
+use Rattle.hii_bytes.proofs.WritingLemmas.{◌⨾◌}
+use Rattle.ifr_nodes.specs.Nodes.{nodes_of}
+use Rattle.ifr_nodes.specs.ReferenceFaults.{form_with}
+use Rattle.condition_text.proofs.WriteLemmas.{written_as}
+use Rattle.form_audit.specs.code.Pages.{audited}
+use Rattle.form_audit.proofs.AroundLemmas.{same_forms}
+use Rattle.question_audit.specs.Limits.{form_behind}
+use Rattle.question_audit.proofs.limits_facts.put_form_behind.Goals as goal
+
+pub returns-in-Some : goal.returns-in-Some
+returns-in-Some g c =
+    let page = c.args.page in
+    let own = same_forms c.forms.result.now c.policy.result page.policy c.forms.ensures c.policy.ensures in
+    written_as (rw (c.from.ensures, c.chars.ensures, c.text.ensures, c.title.ensures, c.op.ensures.bytes) at (c.put.ensures ⨾ c.put_decimal.ensures ⨾ c.put-in-Some.ensures ⨾ c.put_safe_shown.ensures))
+    (ap (form_behind (audited page) c.args.id) (c.in-Some.ensures ∙ ap (λ (b : List ℕ). form_with (nodes_of b) c.args.id) own))
