@@ -1,0 +1,29 @@
+# Completions of setup and setup_audit for bash.
+
+_setup_words() {
+    local word=${COMP_WORDS[COMP_CWORD]} before=${COMP_WORDS[COMP_CWORD - 1]}
+    case $before in
+        --list | --stores | --out | --dump) mapfile -t COMPREPLY < <(compgen -f -- "$word"); return ;;
+        --efivars) mapfile -t COMPREPLY < <(compgen -d -- "$word"); return ;;
+        --forms | --take | --id | --lang | --store) return ;;
+    esac
+    mapfile -t COMPREPLY < <(compgen -W "$1" -- "$word")
+}
+
+_setup() {
+    _setup_words "--list --stores --out --forms --lang --help --version"
+}
+
+_setup_audit() {
+    case ${COMP_WORDS[1]} in
+        split) _setup_words "--dump --take --out --help" ;;
+        stores) _setup_words "--list --forms --help" ;;
+        image) _setup_words "--list --out --store --efivars --zero --forms --help" ;;
+        questions) _setup_words "--list --stores --forms --lang --help" ;;
+        question) _setup_words "--list --stores --id --forms --lang --help" ;;
+        *) _setup_words "split stores image questions question help --help --version" ;;
+    esac
+}
+
+complete -o filenames -F _setup setup
+complete -o filenames -F _setup_audit setup_audit
