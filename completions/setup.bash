@@ -17,10 +17,10 @@ _setup() {
 _setup_audit() {
     case ${COMP_WORDS[1]} in
         split) _setup_words "--dump --take --out --help" ;;
-        stores) _setup_words "--list --forms --help" ;;
-        image) _setup_words "--list --out --store --efivars --zero --forms --help" ;;
-        questions) _setup_words "--list --stores --forms --lang --help" ;;
-        question) _setup_words "--list --stores --id --forms --lang --help" ;;
+        stores) _setup_words "--list --take --headers --forms --help" ;;
+        image) _setup_words "--list --take --out --store --efivars --zero --forms --help" ;;
+        questions) _setup_words "--list --take --stores --forms --lang --help" ;;
+        question) _setup_words "--list --take --stores --id --forms --lang --help" ;;
         *) _setup_words "split stores image questions question help --help --version" ;;
     esac
 }

@@ -63,6 +63,22 @@ def of_example(name):
         yield AuditRun("question %s of %s" % (id, name), ["question", *words, "--id", id], told("%s.question.%s" % (name, id)))
 
 
+def of_dump():
+    """Each list of the dump is opened by its number as it is alone; the bytes of a question are then those of the dump."""
+    for number, name in enumerate(NAMES, 1):
+        words = ["--list", DUMP, "--take", str(number)]
+        zeros = os.path.join(AUDIT, name + ".zero.image")
+        yield AuditRun("stores of list %d" % number, ["stores", *words], told(name + ".stores"))
+        yield AuditRun("image for list %d" % number, ["image", *words, "--zero"], told(name + ".image"), read(zeros), True)
+        yield AuditRun("questions of list %d" % number, ["questions", *words, "--stores", zeros], told(name + ".questions"))
+    yield AuditRun("headers of list 1", ["stores", "--list", DUMP, "--take", "1", "--headers"], told("station.headers"))
+    begin = len(read(os.path.join(EXAMPLES, NAMES[0], "list")))
+    byte = lambda found: b"byte %x%s" % (int(found[1], 16) + begin, found[2].replace(b"list", b"dump"))
+    alone = told("rules.question.19")
+    words = ["question", *words, "--stores", zeros, "--id", "0x13"]
+    yield AuditRun("question 19 of list 2", words, re.sub(rb"byte ([0-9a-f]+)(\)| of the list)", byte, alone))
+
+
 def images_of_files(folder):
     """Images of the stores of the station: the bytes of both stand in files, and those of the first in the file of a variable behind its
     attributes, where the second, which has none, is zeros."""
@@ -79,7 +95,7 @@ def images_of_files(folder):
 
 def audit_runs(folder):
     """All runs. The folder is for the files that are made for them."""
-    runs = [*splits(), *images_of_files(folder)]
+    runs = [*splits(), *of_dump(), *images_of_files(folder)]
     for name in NAMES:
         runs += of_example(name)
     station = os.path.join(EXAMPLES, "station")

@@ -1,4 +1,5 @@
 pub mod EndingLemmas
 pub mod ImagingLemmas
 pub mod SourceLemmas
+pub mod ListingLemmas
 pub mod SplittingLemmas

@@ -1,5 +1,5 @@
 -- What `questions` and `question` say over bytes (own rule).
-use Rattle.std.specs.Prelude.{◌≡◌, ◌⊎◌, ℕ, Bool, true, false, List, [], ◌++◌}
+use Rattle.std.specs.Prelude.{◌≡◌, ◌⊎◌, ◌+◌, ℕ, Bool, true, false, List, [], ◌++◌}
 use Rattle.hii_bytes.specs.declared.cause.Cause.TheVariants.{OutOfMemory}
 use Rattle.session_steps.specs.Opening.{IsOpenFault, Opens}
 use Rattle.session_steps.specs.State.{State, texts, world_of}
@@ -9,9 +9,11 @@ use Rattle.form_audit.specs.Audited.{Audited}
 use Rattle.form_audit.specs.FormLines.{questions_text}
 use Rattle.form_audit.specs.Reach.{TellsReached}
 use Rattle.question_audit.specs.QuestionFacts.{BeginsQuestionText, IsQuestionText}
+use Rattle.question_audit.specs.declared.origin.Origin.{Origin}
 use Rattle.audit_options.specs.declared.tasks.FormSetOptions.{FormSetOptions}
 use Rattle.setup_files.specs.declared.given.FormSetFiles.{FormSetFiles}
 use Rattle.audit_commands.specs.Endings.{IsRefusal}
+use Rattle.audit_commands.specs.Listing.{Listed}
 use Rattle.audit_commands.specs.declared.ended.Ended.{Ended}
 use Rattle.audit_commands.specs.declared.ended.Ended.TheVariants.{Done, Refused, NoMemory}
 
@@ -31,9 +33,9 @@ pub record Asked : Type 0 where
   pub stores : List ℕ
   pub lang : List ℕ
 
-abbrev pub asked_of : FormSetOptions → FormSetFiles → Asked
-asked_of options files = record {
-  list = files.list.bytes.items;
+abbrev pub asked_of : FormSetOptions → FormSetFiles → Listed → Asked
+asked_of options files list = record {
+  list = list.bytes;
   forms = options.list.forms;
   stores = files.stores.bytes.items;
   lang = options.lang.now;
@@ -52,20 +54,24 @@ pub record Audits (asked : Asked) (text : List ℕ) : Type 0 where
   pub reached : TellsReached (world_of start) is_reached
   pub told : text ≡ questions_text (audited_at start) is_reached
 
--- The bytes open a session, and this text tells what is known of the question of an id, with its place in the list; or that there is
--- none.
-pub record AuditsQuestion (is_there : Bool) (asked : Asked) (id : ℕ) (text : List ℕ) : Type 0 where
+-- the place of a package in the file, by that of its list
+abbrev pub placed_in : Origin → ℕ → Origin
+placed_in list place = record list { place = list.place + place }
+
+-- The bytes open a session, and this text tells what is known of the question of an id, with its byte in the file, where the list begins
+-- there; or that there is none.
+pub record AuditsQuestion (is_there : Bool) (asked : Asked) (origin : Origin) (id : ℕ) (text : List ℕ) : Type 0 where
   pub start : State
   pub opens : Starts asked start
-  pub told : IsQuestionText is_there (audited_at start) opens.source.place id text
+  pub told : IsQuestionText is_there (audited_at start) (placed_in origin opens.source.place) id text
 
 -- Nothing is told; or the bytes open a session, and this text begins to tell that.
-abbrev pub BeginsAuditsQuestion : Asked → ℕ → List ℕ → Type 0
-BeginsAuditsQuestion asked id text =
+abbrev pub BeginsAuditsQuestion : Asked → Origin → ℕ → List ℕ → Type 0
+BeginsAuditsQuestion asked origin id text =
     (text ≡ [])
     ⊎ ((start : State)
     × (opens : Starts asked start)
-    × BeginsQuestionText (audited_at start) opens.source.place id text)
+    × BeginsQuestionText (audited_at start) (placed_in origin opens.source.place) id text)
 
 -- the text tells the least fault of what is asked for
 abbrev pub IsOpenRefusal : Asked → List ℕ → Type 0
@@ -77,10 +83,11 @@ SaysQuestions asked Refused text = IsOpenRefusal asked text
 SaysQuestions asked NoMemory text = text ≡ refused_text OutOfMemory
 SaysQuestions asked _ text = ⊥
 
-abbrev pub SaysQuestion : Asked → ℕ → Ended → List ℕ → Type 0
-SaysQuestion asked id Done text = AuditsQuestion true asked id text
-SaysQuestion asked id Refused text = AuditsQuestion false asked id text ⊎ IsOpenRefusal asked text
-SaysQuestion asked id NoMemory text =
-    (begun : List ℕ) × BeginsAuditsQuestion asked id begun
+abbrev pub SaysQuestion : Asked → Origin → ℕ → Ended → List ℕ → Type 0
+SaysQuestion asked origin id Done text = AuditsQuestion true asked origin id text
+SaysQuestion asked origin id Refused text =
+    AuditsQuestion false asked origin id text ⊎ IsOpenRefusal asked text
+SaysQuestion asked origin id NoMemory text =
+    (begun : List ℕ) × BeginsAuditsQuestion asked origin id begun
     × (text ≡ begun ++ refused_text OutOfMemory)
-SaysQuestion asked id _ text = ⊥
+SaysQuestion asked origin id _ text = ⊥

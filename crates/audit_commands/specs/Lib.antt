@@ -1,5 +1,6 @@
 pub mod Endings
 pub mod Splitting
+pub mod Listing
 pub mod Storing
 pub mod Auditing
 pub mod Files

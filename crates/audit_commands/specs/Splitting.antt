@@ -1,10 +1,11 @@
 -- What `split` says of a dump (own rule).
-use Rattle.std.specs.Prelude.{◌≡◌, ℕ, true, false, List, ◌++◌, Option, Some, None}
+use Rattle.std.specs.Prelude.{◌≡◌, ℕ, true, false, List, ◌++◌, Some, None}
 use Rattle.hii_bytes.specs.declared.cause.Cause.TheVariants.{OutOfMemory}
-use Rattle.hii_dumps.specs.Dumps.{Entry, SpellsDump, nth_list}
+use Rattle.hii_dumps.specs.Dumps.{Entry}
 use Rattle.session_steps.specs.Texts.{refused_text}
 use Rattle.dump_audit.specs.Findings.{Finding, IsFound}
 use Rattle.dump_audit.specs.Lines.{BeginsSplitText, IsSplitText, line, no_list_text}
+use Rattle.dump_audit.specs.Taking.{IsNth}
 use Rattle.audit_commands.specs.declared.ended.Ended.{Ended}
 use Rattle.audit_commands.specs.declared.ended.Ended.TheVariants.{Done, Refused, WriteOut, NoMemory}
 
@@ -15,12 +16,6 @@ SaysLists dump Refused text = IsSplitText false dump text
 SaysLists dump NoMemory text =
     (begun : List ℕ) × BeginsSplitText dump begun × (text ≡ begun ++ refused_text OutOfMemory)
 SaysLists dump _ text = ⊥
-
--- This is the list of a number in the dump, or there is none.
-abbrev pub IsNth : List ℕ → ℕ → Option Entry → Type 0
-IsNth dump number list =
-    (lists : List (List ℕ)) × (rest : List ℕ) × SpellsDump dump lists rest
-    × (nth_list lists number ≡ list)
 
 -- The text is the line of the list of a number, and the bytes are its own.
 pub record IsTaken (dump : List ℕ) (number : ℕ) (bytes text : List ℕ) : Type 0 where

@@ -4,3 +4,4 @@ pub mod Endings
 pub mod Givens
 pub mod Imaging
 pub mod Sources
+pub mod Listing

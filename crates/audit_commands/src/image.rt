@@ -6,11 +6,13 @@ ghost use Rattle.store_audit.specs.Fillings.{buffer_stores};
 ghost use Rattle.store_audit.specs.code.Fillings.{filling_node};
 ghost use Rattle.audit_commands.specs.Endings.{TellsAndWrites};
 ghost use Rattle.audit_commands.specs.Imaging.{SaysImage, unknown_file};
+ghost use Rattle.audit_commands.specs.Listing.{SaysOfList};
 ghost use Rattle.audit_commands.specs.Storing.{IsDeclaredBy};
 ghost use Rattle.audit_commands.specs.code.Imaging.{SaysFillings};
 
 use crate::answers::{Answers, answers, commit, finish, refuse, told_with_file};
 use crate::ended::Ended;
+use crate::listing::{given_list, refuse_list};
 use crate::sources::{Unsourced, fillings};
 use crate::store_files::{StoreFiles, SystemFiles};
 use audit_options::{ImageOptions, StoreFile};
@@ -79,28 +81,46 @@ fn is_store_file<R: Files>(rt: &R, options: &ImageOptions<'_>) -> bool {
     false
 }
 
-// Makes the image of the stores that a list declares. What is refused leaves no image. Where a file is not read this is
+// Makes the image of the stores of the list that the options name. What is refused leaves no image. Where a file is not read this is
 // the status with which the program ends, and nothing is written.
 fn make<F: StoreFiles, A: Write + Drop, O: Write>(
     alloc: Global,
     options: &ImageOptions<'_>,
-    list: &WholeFile<'_>,
+    file: &WholeFile<'_>,
     files: &F,
     answers: &mut Answers<A>,
     out: &mut Watched<O>,
 ) -> Result<Ended, Status>
-    requires { list.now.path.now ≡ options.now.list.path.now }
+    requires { file.now.path.now ≡ options.now.list.path.now }
     ensures told { IfOk result (λ ended. TellsAndWrites
-        (SaysImage (F.known files.now) options.now list.now.bytes.items)
+        (λ bytes. SaysOfList options.now.list.take file.now.bytes.items
+        (λ list. SaysImage (F.known files.now) options.now list.bytes bytes))
         A.contents O.contents answers.old out.old ended answers.new out.new) }
     ensures unread { OnErr result ((answers.new ≡ answers.old) × (out.new ≡ out.old)) }
     ensures err { IfErr result (λ status. status ≢ Status.Done) }
 {
-    match Declared::read(
-        alloc,
-        list.bytes.as_slice(),
-        usize::from(options.list.forms),
-    ) {
+    match given_list(file.bytes.as_slice(), options.list) {
+        Ok(list) => make_of(alloc, options, list.bytes, files, answers, out),
+        Err(none) => Ok(refuse_list(none, answers)),
+    }
+}
+
+// Makes the image of the stores that a list declares.
+fn make_of<F: StoreFiles, A: Write + Drop, O: Write>(
+    alloc: Global,
+    options: &ImageOptions<'_>,
+    list: &[u8],
+    files: &F,
+    answers: &mut Answers<A>,
+    out: &mut Watched<O>,
+) -> Result<Ended, Status>
+    ensures told { IfOk result (λ ended. TellsAndWrites
+        (SaysImage (F.known files.now) options.now list.now)
+        A.contents O.contents answers.old out.old ended answers.new out.new) }
+    ensures unread { OnErr result ((answers.new ≡ answers.old) × (out.new ≡ out.old)) }
+    ensures err { IfErr result (λ status. status ≢ Status.Done) }
+{
+    match Declared::read(alloc, list, usize::from(options.list.forms)) {
         Ok(declared) => fill(alloc, options, &declared, files, answers, out),
         Err(fault) => Ok(refuse(fault, answers)),
     }

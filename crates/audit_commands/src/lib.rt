@@ -4,7 +4,9 @@
 mod answers;
 mod auditing;
 mod ended;
+mod given;
 pub mod image;
+mod listing;
 pub mod question;
 pub mod questions;
 mod sources;

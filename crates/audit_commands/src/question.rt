@@ -3,10 +3,14 @@
 ghost use Rattle.std.specs.Prelude.{◌≡◌, ◌≢◌, IfErr};
 ghost use Rattle.audit_commands.specs.Endings.{Tells};
 ghost use Rattle.audit_commands.specs.Auditing.{SaysQuestion, asked_of};
+ghost use Rattle.audit_commands.specs.Listing.{SaysOfList};
+ghost use Rattle.audit_commands.specs.code.Listing.{listed};
 
 use crate::answers::{Answers, answers, finish, refuse, told};
 use crate::auditing::put_question_audit;
 use crate::ended::Ended;
+use crate::given::GivenList;
+use crate::listing::{given_list, given_of, refuse_list};
 use audit_options::QuestionOptions;
 use setup_files::{FormSetFiles, Status, Terminals};
 use std::alloc::Global;
@@ -37,11 +41,29 @@ fn tell<A: Write + Drop>(
 ) -> Ended
     requires list { files.now.list.path.now ≡ options.form_set.list.path.now }
     requires stores { files.now.stores.path.now ≡ options.form_set.stores.now }
-    ensures { Tells (SaysQuestion (asked_of options.entry.form_set files.now) options.entry.id)
-        A.contents answers.old result answers.new }
+    ensures { Tells (SaysOfList options.entry.form_set.list.take files.now.list.bytes.items
+        (λ list. SaysQuestion (asked_of options.entry.form_set files.now list) list.origin
+        options.entry.id)) A.contents answers.old result answers.new }
 {
-    let given = files.given(options.form_set.list.forms, options.form_set.lang);
-    match put_question_audit(alloc, given, options.id, answers) {
+    match given_list(files.list.bytes.as_slice(), options.form_set.list) {
+        Ok(list) => tell_of(alloc, options, files, list, answers),
+        Err(none) => refuse_list(none, answers),
+    }
+}
+
+// Tells what is known of a question of a list.
+fn tell_of<A: Write + Drop>(
+    alloc: Global,
+    options: QuestionOptions<'_>,
+    files: &FormSetFiles<'_>,
+    list: GivenList<'_>,
+    answers: &mut Answers<A>,
+) -> Ended
+    ensures { Tells (SaysQuestion (asked_of options.entry.form_set files.now (listed list.entry))
+        list.entry.origin options.entry.id) A.contents answers.old result answers.new }
+{
+    let given = given_of(options.form_set, files, list);
+    match put_question_audit(alloc, given, list.origin, options.id, answers) {
         Ok(true) => finish(Ended::Done, answers),
         Ok(false) => finish(Ended::Refused, answers),
         Err(fault) => refuse(fault, answers),

@@ -81,19 +81,20 @@ fn source<F: StoreFiles>(
     ensures err { IfErr result IsUnsourced }
 {
     if let Some(given) = last_given(options.files.as_slice(), store.id()) {
-        return file_from(alloc, files, given.path, 0);
+        return file_from(alloc, files, store.id(), given.path, 0);
     }
     let path = match options.efivars {
         Some(folder) => variable_path(alloc, folder, store)?,
         None => None,
     };
-    variable(alloc, files, path, options.zero)
+    variable(alloc, files, store.id(), path, options.zero)
 }
 
-// The file of a variable without its attributes, where there is one, and else zeros or nothing.
+// The file of the variable of a store without its attributes, where there is one, and else zeros or nothing.
 fn variable<F: StoreFiles>(
     alloc: Global,
     files: &F,
+    id: u16,
     path: Option<String>,
     zero: bool,
 ) -> Result<Source, Unsourced>
@@ -103,7 +104,7 @@ fn variable<F: StoreFiles>(
 {
     match path {
         Some(path) if files.is_there(path.as_str()) => {
-            file_from(alloc, files, path.as_str(), ATTRIBUTES)
+            file_from(alloc, files, id, path.as_str(), ATTRIBUTES)
         }
         _ => Ok(filler(zero)),
     }
@@ -128,17 +129,18 @@ fn last_given<'f, 'a>(files: &'f [StoreFile<'a>], id: u16) -> Option<&'f StoreFi
     last
 }
 
-// The bytes of a file, without the first ones.
+// The bytes of a file for the store of an id, without the first ones.
 fn file_from<F: StoreFiles>(
     alloc: Global,
     files: &F,
+    id: u16,
     path: &str,
     skipped: usize,
 ) -> Result<Source, Unsourced>
     ensures file { IfOk result (IsFile (F.known files.now) path.now skipped) }
     ensures err { IfErr result IsUnsourced }
 {
-    let file = match files.read(path) {
+    let file = match files.read(path, id) {
         Ok(file) => file,
         Err(status) => return Err(Unsourced::Unread(status)),
     };

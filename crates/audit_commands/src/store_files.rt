@@ -3,7 +3,10 @@
 ghost use Rattle.std.specs.Prelude.{◌≡◌, ◌≢◌, ℕ, List, IfErr, IfOk};
 ghost use Rattle.audit_commands.specs.Files.{IsRead, IsThere, Known, Unknown};
 
-use setup_files::{Status, Terminals, WholeFile, file, is_same_file, usage};
+use hii_bytes::Cause;
+use itoa::Buffer;
+use setup_files::{Status, Terminals, WholeFile, file, is_same_file, refused, usage};
+use std::alloc::{AllocError, Global};
 use std::fs;
 use std::io::ErrorKind;
 use std::rt::Files;
@@ -15,8 +18,8 @@ pub trait StoreFiles {
     /// What is known of a path.
     ghost known: { Self → List ℕ → Known };
 
-    /// The file of a path, or the status with which the program ends, as is told then.
-    fn read<'p>(&self, path: &'p str) -> Result<WholeFile<'p>, Status>
+    /// The file of a path, whose bytes are of the store of an id, or the status with which the program ends, as is told then.
+    fn read<'p>(&self, path: &'p str, id: u16) -> Result<WholeFile<'p>, Status>
         ensures path { IfOk result (λ file. file.path.now ≡ path.entry.now) }
         ensures bytes { IfOk result (λ file. IsRead (known self.now path.entry.now) file.bytes.items) }
         ensures err { IfErr result (λ status. status ≢ Status.Done) };
@@ -44,11 +47,14 @@ impl<'a, R> SystemFiles<'a, R> {
 impl<R: Files + Print + Eprint + AllocGlobal> StoreFiles for SystemFiles<'_, R> {
     ghost known = { λ _ _. Unknown };
 
-    fn read<'p>(&self, path: &'p str) -> Result<WholeFile<'p>, Status> {
+    fn read<'p>(&self, path: &'p str, id: u16) -> Result<WholeFile<'p>, Status> {
         if is_same_file(self.rt, path, self.out) {
             return Err(usage(self.rt, &VARIABLE_AS_OUT));
         }
-        file(self.rt, self.terminals, path, "read store")
+        let Ok(what) = what_is_read(self.rt.alloc(), id) else {
+            return Err(refused(self.rt, self.terminals, Cause::OutOfMemory));
+        };
+        file(self.rt, self.terminals, path, what.as_str())
     }
 
     fn is_there(&self, path: &str) -> bool {
@@ -57,4 +63,12 @@ impl<R: Files + Print + Eprint + AllocGlobal> StoreFiles for SystemFiles<'_, R> 
             Err(e) => e.kind() != ErrorKind::NotFound,
         }
     }
+}
+
+// What is told of a read of the bytes of a store that fails.
+fn what_is_read(alloc: Global, id: u16) -> Result<String, AllocError> {
+    let mut what = String::from_str(alloc, "read store ")?;
+    let mut digits = Buffer::new();
+    what.push_str(digits.format(id))?;
+    Ok(what)
 }

@@ -1,2 +1,4 @@
 pub mod BuildingLemmas
+pub mod IdLemmas
 pub mod ReadingLemmas
+mod WorkedIds

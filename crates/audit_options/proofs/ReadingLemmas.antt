@@ -13,7 +13,7 @@ use Rattle.clap.specs.declared.parser.matches.ArgMatches.TheViews.{out-SubComman
 use Rattle.clap.specs.declared.parser.matches.Found.{Found}
 use Rattle.clap.specs.declared.parser.matches.SubCommand.{SubCommand}
 use Rattle.clap.proofs.WalkLemmas.{first_value-rows, one_text-rows, raw_values-rows}
-use Rattle.audit_options.specs.Asked.{AreStoreFiles, IsFlag, IsNumber, IsStoreFile, Reads, number_in, text_in}
+use Rattle.audit_options.specs.Asked.{AreStoreFiles, IsFlag, IsStoreFile, Reads, ReadsIfGiven, text_in}
 use Rattle.audit_options.specs.declared.tasks.StoreFile.{StoreFile}
 
 text_or : (o : Option (Bor Text)) (d : Bor Text) (found : Option Text) → option_map (λ s. s.now) o ≡ found → (unwrap_or o d).now ≡ unwrap_or found d.now
@@ -44,17 +44,15 @@ number_read bits f name o other r none value is =
     subst (Reads bits (one_of name (rows_of f)) other) (sym is)
     (subst (λ (found : Option Text). Reads bits found other (unwrap_or o other)) (one_text-rows f name) (number_of bits (one_text f name) o other none value))
 
--- a list that is taken by a number
-pub taken_number : (f : Found) (name : Text) (n : ℕ) → (one_text f name ≡ None → Some n ≡ None) → ((t : Text) → one_text f name ≡ Some t → ReadsOne (Unsigned 64) t (Some n))
-    → (text : Text) × (one_of name (rows_of f) ≡ Some text) × IsNumber 64 text × (n ≡ number_in text)
-taken_number f name n none value = go (one_text f name) refl
+-- a number that may be given
+pub given_read : (bits : ℕ) (f : Found) (name : Text) (o : Option ℕ) → (one_text f name ≡ None → o ≡ None) → ((t : Text) → one_text f name ≡ Some t → ReadsOne (Unsigned bits) t o)
+    → ReadsIfGiven bits (one_of name (rows_of f)) o
+given_read bits f name None none value = λ text is. (value text (one_text-rows f name ∙ is)).1.0
+given_read bits f name (Some n) none value = go (one_text f name) refl
   where
-    go : (found : Option Text) → one_text f name ≡ found → (text : Text) × (one_of name (rows_of f) ≡ Some text) × IsNumber 64 text × (n ≡ number_in text)
+    go : (found : Option Text) → one_text f name ≡ found → ReadsIfGiven bits (one_of name (rows_of f)) (Some n)
     go None e = let bad : Some n ≡ None = none e in cc
     go (Some t) e = let p = value t e in (t, sym (one_text-rows f name) ∙ e, p.0.0, p.0.1)
-
-pub no_number : (f : Found) (name : Text) → ((t : Text) → one_text f name ≡ Some t → ReadsOne (Unsigned 64) t None) → (text : Text) → one_of name (rows_of f) ≡ Some text → ¬ (IsNumber 64 text)
-no_number f name value text is = (value text (one_text-rows f name ∙ is)).1.0
 
 pub flag_read : (f : Found) (name : Text) (flag : Bool) → (one_text f name ≡ None → flag ≡ false) → (one_text f name ≡ Some (codes "true") → flag ≡ true)
     → (one_text f name ≡ Some (codes "false") → flag ≡ false) → IsFlag (one_of name (rows_of f)) flag

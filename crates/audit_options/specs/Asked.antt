@@ -6,8 +6,9 @@ use Rattle.std.specs.Str.Parse.{IsNumeral, digits_value, without_leading_plus}
 use Rattle.clap.specs.Words.{Row, Text, all_of, first_of, one_of}
 use Rattle.clap.specs.declared.error.ErrorKind.{ErrorKind}
 use Rattle.clap.specs.declared.error.ErrorKind.TheVariants as kind
+use Rattle.audit_options.specs.Ids.{id_in}
 use Rattle.audit_options.specs.declared.reading.Misuse.{Misuse}
-use Rattle.audit_options.specs.declared.reading.Misuse.TheVariants.{NoCommand, NoStoreFile, TakeWithoutOut}
+use Rattle.audit_options.specs.declared.reading.Misuse.TheVariants.{NoCommand, NoId, NoStoreFile, TakeWithoutOut}
 use Rattle.audit_options.specs.declared.tasks.Task.{Task}
 use Rattle.audit_options.specs.declared.tasks.Task.TheVariants.{Split, Stores, Image, Questions, Question}
 use Rattle.audit_options.specs.declared.tasks.TakenList.{TakenList}
@@ -17,6 +18,7 @@ use Rattle.audit_options.specs.declared.tasks.FormSetOptions.{FormSetOptions}
 use Rattle.audit_options.specs.declared.tasks.QuestionOptions.{QuestionOptions}
 use Rattle.audit_options.specs.declared.tasks.ImageOptions.{ImageOptions}
 use Rattle.audit_options.specs.declared.tasks.StoreFile.{StoreFile}
+use Rattle.audit_options.specs.declared.tasks.StoresOptions.{StoresOptions}
 
 -- ---- values
 
@@ -37,6 +39,12 @@ Reads bits None other number = number ≡ other
 Reads bits (Some text) other number =
     (IsNumber bits text × (number ≡ number_in text)) ⊎ (¬ (IsNumber bits text) × (number ≡ other))
 
+-- The number is that of a text; or there is no text, or none of a number.
+abbrev pub ReadsIfGiven : ℕ → Option Text → Option ℕ → Type 0
+ReadsIfGiven bits found None = (text : Text) → found ≡ Some text → ¬ (IsNumber bits text)
+ReadsIfGiven bits found (Some number) =
+    (text : Text) × (found ≡ Some text) × IsNumber bits text × (number ≡ number_in text)
+
 -- A flag is true where its text says so, and false where there is none.
 abbrev pub IsFlag : Option Text → Bool → Type 0
 IsFlag None flag = flag ≡ false
@@ -47,7 +55,12 @@ IsFlag (Some text) flag =
 
 pub record AsksList (rows : List Row) (o : ListOptions) : Type 0 where
   pub path : o.path.now ≡ text_in rows (codes "list") []
+  pub take : ReadsIfGiven 64 (one_of (codes "take") rows) o.take
   pub forms : Reads 16 (one_of (codes "forms") rows) 1 o.forms
+
+pub record AsksStores (rows : List Row) (o : StoresOptions) : Type 0 where
+  pub list : AsksList rows o.list
+  pub headers : IsFlag (one_of (codes "headers") rows) o.headers
 
 pub record AsksFormSet (rows : List Row) (o : FormSetOptions) : Type 0 where
   pub list : AsksList rows o.list
@@ -56,16 +69,15 @@ pub record AsksFormSet (rows : List Row) (o : FormSetOptions) : Type 0 where
 
 pub record AsksQuestion (rows : List Row) (o : QuestionOptions) : Type 0 where
   pub form_set : AsksFormSet rows o.form_set
-  pub id : Reads 16 (one_of (codes "id") rows) 0 o.id
+  pub id : id_in (text_in rows (codes "id") []) ≡ Some o.id
 
 -- The list of a number is taken into a file; or there is neither.
 abbrev pub AsksTaken : List Row → Option TakenList → Type 0
 AsksTaken rows None =
-    ((text : Text) → one_of (codes "take") rows ≡ Some text → ¬ (IsNumber 64 text))
-    × (first_of (codes "out") rows ≡ None)
+    ReadsIfGiven 64 (one_of (codes "take") rows) None × (first_of (codes "out") rows ≡ None)
 AsksTaken rows (Some taken) =
-    (text : Text) × (one_of (codes "take") rows ≡ Some text) × IsNumber 64 text
-    × (taken.number ≡ number_in text) × (first_of (codes "out") rows ≡ Some taken.out.now)
+    ReadsIfGiven 64 (one_of (codes "take") rows) (Some taken.number)
+    × (first_of (codes "out") rows ≡ Some taken.out.now)
 
 pub record AsksSplit (rows : List Row) (o : SplitOptions) : Type 0 where
   pub dump : o.dump.now ≡ text_in rows (codes "dump") []
@@ -77,8 +89,7 @@ is_equals_sign c = c == 61
 -- The word is an id and a file, as 16=station.bin.
 pub record IsStoreFile (word : Text) (file : StoreFile) : Type 0 where
   pub has_sign : position_or_len is_equals_sign word < length word
-  pub number : IsNumber 16 (before_first is_equals_sign word)
-  pub id : file.id ≡ number_in (before_first is_equals_sign word)
+  pub id : id_in (before_first is_equals_sign word) ≡ Some file.id
   pub path : file.path.now ≡ after_first is_equals_sign word
 
 abbrev pub AreStoreFiles : List Text → List StoreFile → Type 0
@@ -97,7 +108,7 @@ pub record AsksImage (rows : List Row) (o : ImageOptions) : Type 0 where
 abbrev pub Asks : Option (Text × List Row) → Task → Type 0
 Asks None task = ⊥
 Asks (Some met) (Split o) = (met.0 ≡ codes "split") × AsksSplit met.1 o
-Asks (Some met) (Stores o) = (met.0 ≡ codes "stores") × AsksList met.1 o
+Asks (Some met) (Stores o) = (met.0 ≡ codes "stores") × AsksStores met.1 o
 Asks (Some met) (Image o) = (met.0 ≡ codes "image") × AsksImage met.1 o
 Asks (Some met) (Questions o) = (met.0 ≡ codes "questions") × AsksFormSet met.1 o
 Asks (Some met) (Question o) = (met.0 ≡ codes "question") × AsksQuestion met.1 o
@@ -109,19 +120,24 @@ abbrev pub kind_of_misuse : Misuse → ErrorKind
 kind_of_misuse NoCommand = kind.MissingSubcommand
 kind_of_misuse TakeWithoutOut = kind.MissingRequiredArgument
 kind_of_misuse NoStoreFile = kind.ValueValidation
+kind_of_misuse NoId = kind.ValueValidation
 
 -- No list is taken by a number, though there is a file for it; or one is, and there is none.
 abbrev pub AreApart : List Row → Type 0
 AreApart rows =
     ((first_of (codes "out") rows ≡ None)
-    × ((text : Text) × (one_of (codes "take") rows ≡ Some text) × IsNumber 64 text))
+    × (number : ℕ) × ReadsIfGiven 64 (one_of (codes "take") rows) (Some number))
     ⊎ ((is_some (first_of (codes "out") rows) ≡ true)
-    × ((text : Text) → one_of (codes "take") rows ≡ Some text → ¬ (IsNumber 64 text)))
+    × ReadsIfGiven 64 (one_of (codes "take") rows) None)
 
 -- Some word that gives a file to a store is no id and file.
 abbrev pub HasNoStoreFile : List Row → Type 0
 HasNoStoreFile rows = (files : List StoreFile)
     → AreStoreFiles (unwrap_or (all_of (codes "store") rows) []) files → ⊥
+
+-- The word that gives an id is none.
+abbrev pub HasNoId : List Row → Type 0
+HasNoId rows = id_in (text_in rows (codes "id") []) ≡ None
 
 abbrev pub is_command : Text → Bool
 is_command name =
@@ -136,3 +152,4 @@ IsMisused None misuse = misuse ≡ NoCommand
 IsMisused (Some met) NoCommand = is_command met.0 ≡ false
 IsMisused (Some met) TakeWithoutOut = (met.0 ≡ codes "split") × AreApart met.1
 IsMisused (Some met) NoStoreFile = (met.0 ≡ codes "image") × HasNoStoreFile met.1
+IsMisused (Some met) NoId = (met.0 ≡ codes "question") × HasNoId met.1

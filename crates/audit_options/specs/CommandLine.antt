@@ -58,14 +58,12 @@ lang takes_hyphen = record (option (codes "lang")) {
 abbrev pub take : Rule
 take = record (option (codes "take")) { parser = Some (Unsigned 1 18446744073709551615) }
 
-abbrev pub id : Rule
-id = record (required_option (codes "id")) { parser = Some (Signed (pos 0) (pos 65535)) }
-
 abbrev pub store : Rule
 store = record (option (codes "store")) { action = Some Append }
 
-abbrev pub zero : Rule
-zero = record (new_rule (codes "zero")) { long = Some (codes "zero"); action = Some SetTrue }
+-- an option without a value
+abbrev pub flag : Text → Rule
+flag name = record (new_rule name) { long = Some name; action = Some SetTrue }
 
 -- ---- commands
 
@@ -77,19 +75,20 @@ split = command_of (codes "split")
     (required_option (codes "dump") ∷ take ∷ option (codes "out") ∷ [])
 
 abbrev pub stores : Shape
-stores = command_of (codes "stores") (list ∷ forms ∷ [])
+stores = command_of (codes "stores") (list ∷ take ∷ flag (codes "headers") ∷ forms ∷ [])
 
 abbrev pub image : Shape
 image = command_of (codes "image")
-    (list ∷ required_option (codes "out") ∷ store ∷ option (codes "efivars") ∷ zero ∷ forms ∷ [])
+    (list ∷ take ∷ required_option (codes "out") ∷ store ∷ option (codes "efivars")
+    ∷ flag (codes "zero") ∷ forms ∷ [])
 
 abbrev pub questions : Bool → Shape
 questions takes_hyphen = command_of (codes "questions")
-    (list ∷ stores_image ∷ forms ∷ lang takes_hyphen ∷ [])
+    (list ∷ take ∷ stores_image ∷ forms ∷ lang takes_hyphen ∷ [])
 
 abbrev pub question : Bool → Shape
 question takes_hyphen = command_of (codes "question")
-    (list ∷ stores_image ∷ id ∷ forms ∷ lang takes_hyphen ∷ [])
+    (list ∷ take ∷ stores_image ∷ required_option (codes "id") ∷ forms ∷ lang takes_hyphen ∷ [])
 
 -- all of it, where a language may begin with a hyphen or not
 abbrev pub program : Bool → App

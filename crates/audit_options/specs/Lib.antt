@@ -1,3 +1,4 @@
 pub mod CommandLine
+pub mod Ids
 pub mod Asked
 pub mod code

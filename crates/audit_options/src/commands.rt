@@ -103,13 +103,7 @@ fn split<'a>(alloc: Global) -> Result<Command<'a>, AllocError>
     ensures { IfOk result (IsCommand spec.split) }
 {
     let dump = option(alloc, "dump", "F", "Package lists, one after the other").required(true);
-    let take = option(
-        alloc,
-        "take",
-        "N",
-        "Number of the list that is taken, counted from 1",
-    )
-    .value_parser(clap::value_parser!(u64).range(1..));
+    let take = take(alloc, "Number of the list that is taken, counted from 1");
     let out = option(alloc, "out", "F", "File for the list that is taken");
     let command = Command::new(alloc, "split").about(ABOUT_SPLIT);
     let command = command.arg(dump);
@@ -122,6 +116,7 @@ fn questions<'a>(alloc: Global, takes_hyphen: bool) -> Result<Command<'a>, Alloc
 {
     let command = Command::new(alloc, "questions").about(ABOUT_QUESTIONS);
     let command = command.arg(list(alloc));
+    let command = with_arg(command, take_of_dump(alloc));
     let command = with_arg(command, image_of_stores(alloc));
     let command = with_arg(command, forms(alloc));
     with_arg(command, lang(alloc, takes_hyphen))
@@ -130,11 +125,10 @@ fn questions<'a>(alloc: Global, takes_hyphen: bool) -> Result<Command<'a>, Alloc
 fn question<'a>(alloc: Global, takes_hyphen: bool) -> Result<Command<'a>, AllocError>
     ensures { IfOk result (IsCommand (spec.question takes_hyphen)) }
 {
-    let id = option(alloc, "id", "Q", "Id of the question")
-        .required(true)
-        .value_parser(clap::value_parser!(u16));
+    let id = option(alloc, "id", "Q", "Id of the question, as 33 or 0x21").required(true);
     let command = Command::new(alloc, "question").about(ABOUT_QUESTION);
     let command = command.arg(list(alloc));
+    let command = with_arg(command, take_of_dump(alloc));
     let command = with_arg(command, image_of_stores(alloc));
     let command = with_arg(command, id);
     let command = with_arg(command, forms(alloc));
@@ -144,10 +138,16 @@ fn question<'a>(alloc: Global, takes_hyphen: bool) -> Result<Command<'a>, AllocE
 fn stores<'a>(alloc: Global) -> Result<Command<'a>, AllocError>
     ensures { IfOk result (IsCommand spec.stores) }
 {
-    Command::new(alloc, "stores")
-        .about(ABOUT_STORES)
-        .arg(list(alloc))?
-        .arg(forms(alloc))
+    let headers = flag(
+        alloc,
+        "headers",
+        "Tell of each store with bytes the header with which a configuration text names it",
+    );
+    let command = Command::new(alloc, "stores").about(ABOUT_STORES);
+    let command = command.arg(list(alloc));
+    let command = with_arg(command, take_of_dump(alloc));
+    let command = with_arg(command, headers);
+    with_arg(command, forms(alloc))
 }
 
 fn image<'a>(alloc: Global) -> Result<Command<'a>, AllocError>
@@ -157,7 +157,7 @@ fn image<'a>(alloc: Global) -> Result<Command<'a>, AllocError>
         alloc,
         "store",
         "ID=F",
-        "File of the bytes of the store with this id",
+        "File of the bytes of the store with this id, as 16 or 0x10",
     )
     .action(ArgAction::Append);
     let efivars = option(
@@ -166,13 +166,15 @@ fn image<'a>(alloc: Global) -> Result<Command<'a>, AllocError>
         "DIR",
         "Folder with a file NAME-guid for each variable: its attributes in four bytes, and its bytes",
     );
-    let zero = Arg::new(alloc, "zero")
-        .long("zero")
-        .help("Fill stores that are given no file with zeros")
-        .action(ArgAction::SetTrue);
+    let zero = flag(
+        alloc,
+        "zero",
+        "Fill stores that are given no file with zeros",
+    );
     let out = option(alloc, "out", "F", "Image that is written").required(true);
     let command = Command::new(alloc, "image").about(ABOUT_IMAGE);
     let command = command.arg(list(alloc));
+    let command = with_arg(command, take_of_dump(alloc));
     let command = with_arg(command, out);
     let command = with_arg(command, store);
     let command = with_arg(command, efivars);
@@ -184,6 +186,21 @@ fn list(alloc: Global) -> Arg<'static>
     ensures { IsArg spec.list result }
 {
     option(alloc, "list", "F", "Package list with the forms package").required(true)
+}
+
+fn take(alloc: Global, help: &'static str) -> Arg<'static>
+    ensures { IsArg spec.take result }
+{
+    option(alloc, "take", "N", help).value_parser(clap::value_parser!(u64).range(1..))
+}
+
+fn take_of_dump(alloc: Global) -> Arg<'static>
+    ensures { IsArg spec.take result }
+{
+    take(
+        alloc,
+        "Which list of F is opened, counted from 1, where F is a dump",
+    )
 }
 
 fn image_of_stores(alloc: Global) -> Arg<'static>
@@ -224,4 +241,13 @@ fn option(
         .value_name(value)
         .help(help)
         .action(ArgAction::Set)
+}
+
+fn flag(alloc: Global, name: &'static str, help: &'static str) -> Arg<'static>
+    ensures { IsArg (spec.flag name.entry.now) result }
+{
+    Arg::new(alloc, name)
+        .long(name)
+        .help(help)
+        .action(ArgAction::SetTrue)
 }

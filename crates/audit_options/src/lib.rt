@@ -2,11 +2,12 @@
 #![tactic(auto)]
 
 mod commands;
+mod ids;
 mod reading;
 mod tasks;
 
 pub use reading::read_words;
 pub use tasks::{
-    FormSetOptions, ImageOptions, ListOptions, QuestionOptions, SplitOptions, StoreFile, TakenList,
-    Task,
+    FormSetOptions, ImageOptions, ListOptions, QuestionOptions, SplitOptions, StoreFile,
+    StoresOptions, TakenList, Task,
 };

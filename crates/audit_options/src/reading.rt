@@ -4,12 +4,13 @@ ghost use Rattle.std.specs.Prelude.{◌≡◌, ◌≢◌, List, [], codes, false
 ghost use Rattle.clap.specs.Words.{all_of, found_of, kind_of, rows_of, subcommand_of, subcommand_rows_of, takes};
 ghost use Rattle.audit_options.specs.CommandLine as spec;
 ghost use Rattle.audit_options.specs.CommandLine.{has_hyphen_language, program};
-ghost use Rattle.audit_options.specs.Asked.{AreApart, AreStoreFiles, Asks, AsksFormSet, AsksImage, AsksList, AsksQuestion, AsksSplit, HasNoStoreFile, IsMisused, IsStoreFile, kind_of_misuse};
+ghost use Rattle.audit_options.specs.Asked.{AreApart, AreStoreFiles, Asks, AsksFormSet, AsksImage, AsksList, AsksQuestion, AsksSplit, AsksStores, HasNoId, HasNoStoreFile, IsMisused, IsStoreFile, kind_of_misuse};
 
 use crate::commands::{command, split_alone};
+use crate::ids::id_in;
 use crate::tasks::{
-    FormSetOptions, ImageOptions, ListOptions, QuestionOptions, SplitOptions, StoreFile, TakenList,
-    Task,
+    FormSetOptions, ImageOptions, ListOptions, QuestionOptions, SplitOptions, StoreFile,
+    StoresOptions, TakenList, Task,
 };
 use clap::error::ErrorKind;
 use clap::{ArgMatches, Command, Error};
@@ -21,6 +22,7 @@ enum Misuse {
     NoCommand,
     TakeWithoutOut,
     NoStoreFile,
+    NoId,
 }
 
 impl Misuse {
@@ -32,7 +34,7 @@ impl Misuse {
         match self {
             Misuse::NoCommand => ErrorKind::MissingSubcommand,
             Misuse::TakeWithoutOut => ErrorKind::MissingRequiredArgument,
-            Misuse::NoStoreFile => ErrorKind::ValueValidation,
+            Misuse::NoStoreFile | Misuse::NoId => ErrorKind::ValueValidation,
         }
     }
 
@@ -41,8 +43,9 @@ impl Misuse {
             Misuse::NoCommand => "a command is wanted",
             Misuse::TakeWithoutOut => "--take N and --out F go together",
             Misuse::NoStoreFile => {
-                "--store wants the id of a store and a file, as 16=station.bin"
+                "--store wants the id of a store and a file, as 16=station.bin or 0x10=station.bin"
             }
+            Misuse::NoId => "--id wants the id of a question, as 33 or 0x21",
         }
     }
 }
@@ -119,10 +122,10 @@ fn task_in<'a>(
     };
     Ok(match name {
         "split" => split_in(options).map(Task::Split),
-        "stores" => Ok(Task::Stores(list_in(options))),
+        "stores" => Ok(Task::Stores(stores_in(options))),
         "image" => image_in(alloc, options)?.map(Task::Image),
         "questions" => Ok(Task::Questions(form_set_in(options))),
-        "question" => Ok(Task::Question(question_in(options))),
+        "question" => question_in(options).map(Task::Question),
         _ => Err(Misuse::NoCommand),
     })
 }
@@ -149,7 +152,17 @@ fn list_in<'a>(options: &ArgMatches<'a>) -> ListOptions<'a>
 {
     ListOptions {
         path: options.get_str("list").unwrap_or(""),
+        take: options.get_one::<u64>("take"),
         forms: options.get_one::<u16>("forms").unwrap_or(1),
+    }
+}
+
+fn stores_in<'a>(options: &ArgMatches<'a>) -> StoresOptions<'a>
+    ensures { AsksStores (rows_of (found_of options.now)) result }
+{
+    StoresOptions {
+        list: list_in(options),
+        headers: options.get_flag("headers"),
     }
 }
 
@@ -163,13 +176,19 @@ fn form_set_in<'a>(options: &ArgMatches<'a>) -> FormSetOptions<'a>
     }
 }
 
-fn question_in<'a>(options: &ArgMatches<'a>) -> QuestionOptions<'a>
-    ensures { AsksQuestion (rows_of (found_of options.now)) result }
+// The question that is asked for, unless its id is none.
+fn question_in<'a>(options: &ArgMatches<'a>) -> Result<QuestionOptions<'a>, Misuse>
+    ensures asked { IfOk result (AsksQuestion (rows_of (found_of options.now))) }
+    ensures misused { IfErr result (λ misuse. (misuse ≡ Misuse.NoId)
+        × HasNoId (rows_of (found_of options.now))) }
 {
-    QuestionOptions {
+    let Some(id) = id_in(options.get_str("id").unwrap_or("")) else {
+        return Err(Misuse::NoId);
+    };
+    Ok(QuestionOptions {
         form_set: form_set_in(options),
-        id: options.get_one::<u16>("id").unwrap_or(0),
-    }
+        id,
+    })
 }
 
 fn image_in<'a>(
@@ -232,7 +251,7 @@ fn store_file(word: &str) -> Option<StoreFile<'_>>
 {
     let (id, path) = word.split_once('=')?;
     Some(StoreFile {
-        id: id.parse().ok()?,
+        id: id_in(id)?,
         path,
     })
 }

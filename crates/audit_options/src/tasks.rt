@@ -6,7 +6,7 @@ pub enum Task<'a> {
     /// The lists of a dump.
     Split(SplitOptions<'a>),
     /// A line for each store.
-    Stores(ListOptions<'a>),
+    Stores(StoresOptions<'a>),
     /// An image of the stores.
     Image(ImageOptions<'a>),
     /// A line for each form and each question.
@@ -36,10 +36,20 @@ pub struct TakenList<'a> {
 /// A forms package of a package list.
 #[derive(Clone, Copy)]
 pub struct ListOptions<'a> {
-    /// The file of the list.
+    /// The file of the list, or of a dump that has it.
     pub path: &'a str,
+    /// The number of the list in the dump, counted from 1; where it is none, the file is the list.
+    pub take: Option<u64>,
     /// Which forms package is opened, counted from 1.
     pub forms: u16,
+}
+
+/// The stores of a form set, and what is told of them.
+#[derive(Clone, Copy)]
+pub struct StoresOptions<'a> {
+    pub list: ListOptions<'a>,
+    /// Whether the headers of configuration texts are told.
+    pub headers: bool,
 }
 
 /// A form set over an image of its stores.

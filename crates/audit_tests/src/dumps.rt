@@ -1,7 +1,7 @@
 //! A dump of a list without packages and of two bytes.
 
 use audit_text::{put_hexadecimal, put_left};
-use dump_audit::{put_list, put_rest, put_split, put_taken};
+use dump_audit::{nth_list, put_list, put_no_list, put_rest, put_split, put_taken};
 use hii_bytes::Watched;
 use hii_dumps::Dump;
 use std::io::BufWriter;
@@ -43,6 +43,17 @@ fn a_list_is_found_by_its_number(rt: HostRuntime) -> Result<(), Fail> {
     put_list(rt.alloc(), 1, list, &mut out)?;
     let line = b"LIST 1 00000000 24 forms 0 strings -\n";
     assert!(rt; out.into_inner().as_slice() == line.as_slice());
+    Ok(())
+}
+
+#[test]
+fn a_list_that_is_not_there_is_told(rt: HostRuntime) -> Result<(), Fail> {
+    let list = nth_list(dump(), 1).ok_or("no list")?;
+    assert!(rt; list.place == 0 && list.bytes.len() == 24);
+    assert!(rt; nth_list(dump(), 0).is_none() && nth_list(dump(), 2).is_none());
+    let mut out = Watched::new(Vec::new(rt.alloc()));
+    put_no_list(2, &mut out);
+    assert!(rt; out.into_inner().as_slice() == b"NO LIST 2\n".as_slice());
     Ok(())
 }
 

@@ -10,7 +10,7 @@ use std::alloc::{AllocError, Global};
 use std::io::BufWriter;
 use std::process::Abort;
 use std::test::Fail;
-use store_audit::{Declared, Filling, Source, put_image, put_stores};
+use store_audit::{Declared, Filling, Source, device_path, put_headers, put_image, put_stores};
 
 // A list with a forms package of one form and a store of two bytes.
 static LIST: &[u8] = b"\x11\x11\x11\x11\x11\x11\x11\x11\x11\x11\x11\x11\x11\x11\x11\x11\x55\0\0\0\
@@ -24,6 +24,8 @@ static LIST: &[u8] = b"\x11\x11\x11\x11\x11\x11\x11\x11\x11\x11\x11\x11\x11\x11\
 static LINE: &[u8] =
     b"    1 VARSTORE                2 -        30313233-4041-5051-6061-707172737475 V\n";
 
+static HEADER: &[u8] = b"GUID=33323130414051506061707172737475&NAME=0056&PATH=\n";
+
 static IMAGE: &[u8] = b"HVS2\"\"\"\"\"\"\"\"\"\"\"\"\"\"\"\"\x01\0\x01\0\x02\0\0\0";
 
 // The bytes of the cases come from functions without clauses, so that no proof computes with them.
@@ -34,6 +36,10 @@ fn list() -> &'static [u8] {
 
 fn line() -> &'static [u8] {
     LINE
+}
+
+fn header() -> &'static [u8] {
+    HEADER
 }
 
 fn image() -> &'static [u8] {
@@ -47,6 +53,15 @@ fn stores_are_told(rt: HostRuntime) -> Result<(), Fail> {
     put_stores(declared.forms(), &mut out);
     assert!(rt; out.into_inner().as_slice() == line());
     assert!(rt; declared.layout().size(1) == Some(2));
+    Ok(())
+}
+
+#[test]
+fn headers_are_told(rt: HostRuntime) -> Result<(), Fail> {
+    let declared = Declared::read(rt.alloc(), list(), 1)?;
+    let mut out = Watched::new(Vec::new(rt.alloc()));
+    put_headers(declared.forms(), device_path(list())?, &mut out);
+    assert!(rt; out.into_inner().as_slice() == header());
     Ok(())
 }
 

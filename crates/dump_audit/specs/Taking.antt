@@ -3,9 +3,15 @@ use Rattle.std.specs.Prelude.{◌≡◌, ℕ, Bool, true, false, Option, None, S
 use Rattle.hii_bytes.specs.declared.watched.Watched.{Watched}
 use Rattle.hii_bytes.specs.Watching.{Pen, Writes, Puts}
 use Rattle.audit_text.specs.Passing.{PassesOn}
-use Rattle.hii_dumps.specs.Dumps.{Entry}
+use Rattle.hii_dumps.specs.Dumps.{Entry, SpellsDump, nth_list}
 use Rattle.dump_audit.specs.Findings.{Finding, IsFound}
 use Rattle.dump_audit.specs.Lines.{line, no_list_text}
+
+-- This is the list of a number, counted from 1, with its place in the dump; or there is none.
+abbrev pub IsNth : List ℕ → ℕ → Option Entry → Type 0
+IsNth dump number list =
+    (lists : List (List ℕ)) × (rest : List ℕ) × SpellsDump dump lists rest
+    × (nth_list lists number ≡ list)
 
 -- The line of the list of a number was passed on; where there is no such list, that was written.
 abbrev pub TellsList : ℕ → Option Entry → Bool → Pen → Pen → Type 0

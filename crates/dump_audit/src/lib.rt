@@ -8,5 +8,5 @@ mod lines;
 mod strings;
 mod taking;
 
-pub use lines::{put_list, put_rest, put_split};
-pub use taking::put_taken;
+pub use lines::{put_list, put_no_list, put_rest, put_split};
+pub use taking::{nth_list, put_taken};

@@ -90,7 +90,7 @@ pub fn put_rest<W: Write>(dump: &Dump<'_>, out: &mut Watched<W>)
 }
 
 /// Writes that there is no list of a number (own rule).
-pub(crate) fn put_no_list<W: Write>(number: u64, out: &mut Watched<W>)
+pub fn put_no_list<W: Write>(number: u64, out: &mut Watched<W>)
     ensures { Puts W.contents out.old out.new (no_list_text number) }
 {
     out.put(b"NO LIST ");

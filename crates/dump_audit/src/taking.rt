@@ -1,16 +1,25 @@
 //! One list of a dump, taken by its number.
 
-ghost use Rattle.std.specs.Prelude.{◌≡◌, ℕ, [], true, false, List, IfOk, OnErr};
+ghost use Rattle.std.specs.Prelude.{◌≡◌, [], true, false, Option, IfOk, OnErr, option_map};
 ghost use Rattle.std.specs.Io.Buffered.{writer_buffer, writer_contents};
 ghost use Rattle.hii_bytes.specs.Watching.{has_failed, inner_of, pen_of};
-ghost use Rattle.hii_dumps.specs.Dumps.{SpellsDump, nth_list};
-ghost use Rattle.dump_audit.specs.Taking.{TellsList, TakesBytes};
+ghost use Rattle.hii_dumps.specs.Dumps.{Entry};
+ghost use Rattle.hii_dumps.specs.code.Lists.{entry_of};
+ghost use Rattle.dump_audit.specs.Taking.{IsNth, TellsList, TakesBytes};
 
 use crate::lines::{put_list, put_no_list};
 use hii_bytes::Watched;
-use hii_dumps::Dump;
+use hii_dumps::{Dump, DumpedList};
 use std::alloc::{AllocError, Global};
 use std::io::{BufWriter, Write};
+
+/// The list of a number in a dump, counted from 1, with its place in bytes from the dump's first one. Of what the list is nothing is
+/// asked (own rule).
+pub fn nth_list(dump: &[u8], number: u64) -> Option<DumpedList<'_>>
+    ensures { IsNth dump.entry.now number (option_map entry_of result) }
+{
+    Dump::read(dump).list(number)
+}
 
 /// Writes the line of the list of a number, counted from 1, passes it on, and then writes the list's bytes into a file; or writes
 /// that there is no such list, and does not pass that on. Tells whether there is one (own rule). The file is not written where there
@@ -22,18 +31,17 @@ pub fn put_taken<W: Write + Drop, F: Write>(
     out: &mut Watched<BufWriter<W>>,
     file: &mut Watched<F>,
 ) -> Result<bool, AllocError>
-    ensures taken { IfOk result (λ is_there. (lists : List (List ℕ)) × (rest : List ℕ)
-        × SpellsDump dump.now lists rest
-        × TellsList number (nth_list lists number) is_there
+    ensures taken { IfOk result (λ is_there. (list : Option Entry) × IsNth dump.now number list
+        × TellsList number list is_there
         (pen_of (writer_contents W.contents) out.old)
         (pen_of (writer_contents W.contents) out.new)
-        × TakesBytes (nth_list lists number) (has_failed out.new) F.contents file.old file.new) }
+        × TakesBytes list (has_failed out.new) F.contents file.old file.new) }
     ensures none_held { IfOk result (λ is_there. is_there ≡ true → has_failed out.new ≡ false
         → writer_buffer (inner_of out.new) ≡ []) }
     ensures nothing_told { OnErr result (out.new ≡ out.old) }
     ensures nothing_taken { OnErr result (file.new ≡ file.old) }
 {
-    let Some(list) = Dump::read(dump).list(number) else {
+    let Some(list) = nth_list(dump, number) else {
         put_no_list(number, out);
         return Ok(false);
     };

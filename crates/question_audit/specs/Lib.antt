@@ -1,3 +1,4 @@
+pub mod Origins
 pub mod ConditionFacts
 pub mod Dependences
 pub mod Limits

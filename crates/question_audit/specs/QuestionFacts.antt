@@ -24,6 +24,8 @@ use Rattle.form_audit.specs.ScriptValues.{behind, default_taken, script_value}
 use Rattle.question_audit.specs.ConditionFacts.{check_facts, fact, guard_facts, id_text, option_facts, verdict_text}
 use Rattle.question_audit.specs.Dependences.{all_decides_facts, depends_facts}
 use Rattle.question_audit.specs.Limits.{flags_fact, limits_fact, outside_fact}
+use Rattle.question_audit.specs.Origins.{holder_text}
+use Rattle.question_audit.specs.declared.origin.Origin.{Origin}
 use Rattle.question_audit.specs.declared.when.When.TheVariants.{AtCommands, AtOpening}
 
 -- ---- what its opcode says
@@ -48,12 +50,12 @@ abbrev pub form_fact : Audited → (ℕ → Bool) → Option Node → List ℕ
 form_fact a is_reached None = []
 form_fact a is_reached (Some form) = fact (codes "form") (form_text a is_reached form)
 
--- the place of its opcode in its forms package, and in the list, where the package stands at a place
-abbrev pub opcode_fact : ℕ → Node → List ℕ
-opcode_fact package_place n =
+-- the place of its opcode in its forms package, and its byte in the file, where the package stands at a place
+abbrev pub opcode_fact : Origin → Node → List ℕ
+opcode_fact origin n =
     fact (codes "opcode")
     (opcode_name (number n.op) ++ codes " at " ++ place_text n.place
-    ++ codes ", byte " ++ hex_text (package_place + n.place) ++ codes " of the list")
+    ++ codes ", byte " ++ hex_text (origin.place + n.place) ++ holder_text origin.holder)
 
 abbrev pub guid_behind : Option Node → List ℕ
 guid_behind None = []
@@ -109,11 +111,11 @@ abbrev pub verdict_fact : Audited → Node → List ℕ
 verdict_fact a n = fact (codes "verdict") (verdict_text (fixed a.world n))
 
 -- what its opcode says, by what tells which forms are reached
-abbrev pub opcode_facts : Audited → (ℕ → Bool) → ℕ → Asked → List ℕ
-opcode_facts a is_reached package_place q =
+abbrev pub opcode_facts : Audited → (ℕ → Bool) → Origin → Asked → List ℕ
+opcode_facts a is_reached origin q =
     prompt_line a q.node ++ help_fact (a.texts (statement_help q.node.op))
     ++ form_fact a is_reached (form_of a.world.nodes q.node)
-    ++ opcode_fact package_place q.node ++ field_fact a.world.nodes q.field
+    ++ opcode_fact origin q.node ++ field_fact a.world.nodes q.field
 
 -- its flags, what it takes or where it leads, and why it has no value here
 abbrev pub kind_facts : Audited → Asked → List ℕ
@@ -125,11 +127,11 @@ value_facts a q =
     value_fact a q ++ default_fact a q 0 (codes "standard")
     ++ default_fact a q 1 (codes "manufacturing")
 
-abbrev pub question_facts : Audited → (ℕ → Bool) → ℕ → Asked → List ℕ
-question_facts a is_reached package_place q =
-    opcode_facts a is_reached package_place q ++ kind_facts a q ++ value_facts a q
-    ++ verdict_fact a q.node ++ guard_facts a package_place q.node
-    ++ check_facts a package_place q.node ++ option_facts a q.node
+abbrev pub question_facts : Audited → (ℕ → Bool) → Origin → Asked → List ℕ
+question_facts a is_reached origin q =
+    opcode_facts a is_reached origin q ++ kind_facts a q ++ value_facts a q
+    ++ verdict_fact a q.node ++ guard_facts a origin.place q.node
+    ++ check_facts a origin.place q.node ++ option_facts a q.node
     ++ depends_facts AtCommands a q.node ++ depends_facts AtOpening a q.node
     ++ all_decides_facts a q.node
 
@@ -139,28 +141,28 @@ abbrev pub no_question : ℕ → List ℕ
 no_question id = codes "NO QUESTION " ++ decimal id ++ codes "\n"
 
 -- There is one, and this is what is known of it, by what tells which forms are reached; or this says that there is none.
-abbrev pub IsQuestionText : Bool → Audited → ℕ → ℕ → List ℕ → Type 0
-IsQuestionText true a package_place id text =
+abbrev pub IsQuestionText : Bool → Audited → Origin → ℕ → List ℕ → Type 0
+IsQuestionText true a origin id text =
     (n : Node) × (question_with a.world.nodes id ≡ Some n) × (is_reached : ℕ → Bool)
     × TellsReached a.world is_reached
-    × (text ≡ question_facts a is_reached package_place (asked a.world.nodes n))
-IsQuestionText false a package_place id text =
+    × (text ≡ question_facts a is_reached origin (asked a.world.nodes n))
+IsQuestionText false a origin id text =
     (question_with a.world.nodes id ≡ None) × (text ≡ no_question id)
 
 -- That is written.
-abbrev pub TellsQuestion : Bool → Audited → ℕ → ℕ → Pen → Pen → Type 0
-TellsQuestion is_there a package_place id old new =
-    (text : List ℕ) × IsQuestionText is_there a package_place id text × Writes old new text
+abbrev pub TellsQuestion : Bool → Audited → Origin → ℕ → Pen → Pen → Type 0
+TellsQuestion is_there a origin id old new =
+    (text : List ℕ) × IsQuestionText is_there a origin id text × Writes old new text
 
 -- The text is the beginning of what is known of one, or nothing.
-abbrev pub BeginsQuestionText : Audited → ℕ → ℕ → List ℕ → Type 0
-BeginsQuestionText a package_place id text =
+abbrev pub BeginsQuestionText : Audited → Origin → ℕ → List ℕ → Type 0
+BeginsQuestionText a origin id text =
     (text ≡ [])
     ⊎ ((n : Node) × (question_with a.world.nodes id ≡ Some n) × (is_reached : ℕ → Bool)
     × TellsReached a.world is_reached × (rest : List ℕ)
-    × (question_facts a is_reached package_place (asked a.world.nodes n) ≡ text ++ rest))
+    × (question_facts a is_reached origin (asked a.world.nodes n) ≡ text ++ rest))
 
 -- That is written.
-abbrev pub BeginsQuestion : Audited → ℕ → ℕ → Pen → Pen → Type 0
-BeginsQuestion a package_place id old new =
-    (text : List ℕ) × BeginsQuestionText a package_place id text × Writes old new text
+abbrev pub BeginsQuestion : Audited → Origin → ℕ → Pen → Pen → Type 0
+BeginsQuestion a origin id old new =
+    (text : List ℕ) × BeginsQuestionText a origin id text × Writes old new text

@@ -9,8 +9,10 @@ pub mod laws;
 mod limits_facts;
 mod opcode_facts;
 mod option_facts;
+mod origin;
 mod question_facts;
 mod value_facts;
 mod when;
 
+pub use origin::{Holder, Origin};
 pub use question_facts::put_question_with_id;

@@ -17,6 +17,7 @@ ghost use Rattle.form_audit.specs.code.Pages.{audited};
 ghost use Rattle.question_audit.specs.QuestionFacts.{field_fact, form_fact, form_of, guid_behind, has_within, help_fact, opcode_fact, opcode_facts, prompt_line};
 
 use crate::facts::{put_column, put_id};
+use crate::origin::Origin;
 use audit_text::{Case, opcode_name, put_guid, put_hexadecimal, put_safe_shown};
 use form_audit::{StoreNames, Ways, put_field_text, put_form};
 use form_page::Page;
@@ -103,11 +104,11 @@ fn put_form_fact<'a, C: Conditions, W: Write>(
     }
 }
 
-// Writes the name of a question's opcode and its places, in its forms package and in the list.
-fn put_opcode_fact<W: Write>(package_place: u64, question: Question<'_>, out: &mut Watched<W>)
-    requires { package_place + (question_node question).place < 2 ^ 64 }
+// Writes the name of a question's opcode and its places, in its forms package and in the file.
+fn put_opcode_fact<W: Write>(origin: Origin, question: Question<'_>, out: &mut Watched<W>)
+    requires { origin.place + (question_node question).place < 2 ^ 64 }
     ensures { Puts W.contents out.old out.new
-        (opcode_fact package_place (question_node question.entry)) }
+        (opcode_fact origin (question_node question.entry)) }
 {
     let place = u64::from(question.place());
     put_column(b"opcode", out);
@@ -115,8 +116,8 @@ fn put_opcode_fact<W: Write>(package_place: u64, question: Question<'_>, out: &m
     out.put(b" at ");
     out.put_place(place);
     out.put(b", byte ");
-    put_hexadecimal(out, package_place + place);
-    out.put(b" of the list");
+    put_hexadecimal(out, origin.place + place);
+    out.put(origin.holder.text());
     out.put(b"\n");
 }
 
@@ -145,26 +146,26 @@ fn put_field_fact<W: Write>(names: &StoreNames<'_>, field: Option<FieldRange>, o
     }
 }
 
-/// Writes what the opcode of a question says, with the place of its forms package in the list.
+/// Writes what the opcode of a question says, with the place of its forms package in the file.
 pub(crate) fn put_opcode_facts<'a, C: Conditions, W: Write>(
     page: Page<'a, '_, C>,
     ways: &Ways,
     names: &StoreNames<'a>,
-    package_place: u64,
+    origin: Origin,
     question: Question<'a>,
     out: &mut Watched<W>,
 )
     requires ways { TellsWays (world_of page) ways.now }
     requires names { names.now ≡ bytes_of page.policy }
-    requires in_list { package_place + (question_node question).place < 2 ^ 64 }
+    requires in_list { origin.place + (question_node question).place < 2 ^ 64 }
     ensures { Puts W.contents out.old out.new
-        (opcode_facts (audited page.entry) (has_number ways.now.reached) package_place
+        (opcode_facts (audited page.entry) (has_number ways.now.reached) origin
         (question_view question.entry)) }
 {
     let statement = question.statement();
     put_prompt_line(page, question, out);
     put_help(page.text(statement.op().help()), out);
     put_form_fact(page, ways, statement, out);
-    put_opcode_fact(package_place, question, out);
+    put_opcode_fact(origin, question, out);
     put_field_fact(names, question.field(), out);
 }

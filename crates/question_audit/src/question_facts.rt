@@ -23,6 +23,7 @@ use crate::facts::{put_column, put_verdict_text};
 use crate::limits_facts::{put_flags_fact, put_limits_fact, put_outside_fact};
 use crate::opcode_facts::put_opcode_facts;
 use crate::option_facts::put_options;
+use crate::origin::Origin;
 use crate::value_facts::put_value_facts;
 use crate::when::When;
 use form_audit::{StoreNames, Ways};
@@ -71,7 +72,7 @@ fn put_kind_facts<'a, C: Conditions, W: Write>(
 fn put_question_facts<'a, C: Conditions, W: Write>(
     alloc: Global,
     page: Page<'a, '_, C>,
-    package_place: u64,
+    origin: Origin,
     question: Question<'a>,
     out: &mut Watched<W>,
 ) -> Result<(), Fault>
@@ -79,15 +80,15 @@ fn put_question_facts<'a, C: Conditions, W: Write>(
     requires asked { question_view question
         ≡ asked (nodes_of (bytes_of page.policy)) (question_node question) }
     requires lies { LiesIn (shape_of page.stores.now) (question_view question) }
-    requires in_list { package_place + length (bytes_of page.policy) < 2 ^ 64 }
+    requires in_list { origin.place + length (bytes_of page.policy) < 2 ^ 64 }
     ensures written { OnOk result ((is_reached : ℕ → Bool) × TellsReached (world_of page.entry) is_reached
         × Puts W.contents out.old out.new
-        (question_facts (audited page.entry) is_reached package_place
+        (question_facts (audited page.entry) is_reached origin
         (question_view question.entry))) }
     ensures begun { OnErr result ((out.new ≡ out.old)
         ⊎ ((is_reached : ℕ → Bool) × TellsReached (world_of page.entry) is_reached
         × Begins (pen_of W.contents out.old) (pen_of W.contents out.new)
-        (question_facts (audited page.entry) is_reached package_place
+        (question_facts (audited page.entry) is_reached origin
         (question_view question.entry)))) }
     ensures refused { IfErr result (λ fault. fault ≡ out_of_memory) }
 {
@@ -95,12 +96,12 @@ fn put_question_facts<'a, C: Conditions, W: Write>(
     let names = StoreNames::read(alloc, page.policy().forms())?;
     let mut spare = page.stores().copy(alloc)?;
     let statement = question.statement();
-    put_opcode_facts(page, &ways, &names, package_place, question, out);
+    put_opcode_facts(page, &ways, &names, origin, question, out);
     put_kind_facts(page, question, out);
     put_value_facts(page, question, &mut spare, out);
     put_verdict_fact(page, question, out);
-    put_guards(alloc, page, package_place, statement, out)?;
-    put_checks(alloc, page, package_place, question, out)?;
+    put_guards(alloc, page, origin.place, statement, out)?;
+    put_checks(alloc, page, origin.place, question, out)?;
     put_options(alloc, page, statement, out)?;
     put_depends(alloc, page, &names, statement, When::AtCommands, out)?;
     put_depends(alloc, page, &names, statement, When::AtOpening, out)?;
@@ -109,26 +110,26 @@ fn put_question_facts<'a, C: Conditions, W: Write>(
 }
 
 /// Writes what is known of the question of an id in the form set of a page, a line for each fact, over the stores of the page, or that
-/// there is no such question; and tells whether there is one. The forms package stands at a place of its list, in bytes. Where an
+/// there is no such question; and tells whether there is one. The forms package stands at a place of the file. Where an
 /// allocation fails, the beginning of these lines may be written.
 pub fn put_question_with_id<'a, C: Conditions, W: Write>(
     alloc: Global,
     page: Page<'a, '_, C>,
-    package_place: u64,
+    origin: Origin,
     id: u16,
     out: &mut Watched<W>,
 ) -> Result<bool, Fault>
     requires lie { LieIn (shape_of page.stores.now) (questions (nodes_of (bytes_of page.policy))) }
-    requires in_list { package_place + length (bytes_of page.policy) < 2 ^ 64 }
-    ensures told { IfOk result (λ is_there. TellsQuestion is_there (audited page.entry) package_place id
+    requires in_list { origin.place + length (bytes_of page.policy) < 2 ^ 64 }
+    ensures told { IfOk result (λ is_there. TellsQuestion is_there (audited page.entry) origin id
         (pen_of W.contents out.old) (pen_of W.contents out.new)) }
-    ensures begun { OnErr result (BeginsQuestion (audited page.entry) package_place id
+    ensures begun { OnErr result (BeginsQuestion (audited page.entry) origin id
         (pen_of W.contents out.old) (pen_of W.contents out.new)) }
     ensures refused { IfErr result (λ fault. fault ≡ out_of_memory) }
 {
     match page.questions().find(id) {
         Some(question) => {
-            put_question_facts(alloc, page, package_place, question, out)?;
+            put_question_facts(alloc, page, origin, question, out)?;
             Ok(true)
         }
         None => {

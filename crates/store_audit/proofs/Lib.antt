@@ -1,2 +1,3 @@
 pub mod DeclaringLemmas
 pub mod FillingLemmas
+pub mod HeaderLemmas

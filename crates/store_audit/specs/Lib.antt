@@ -1,5 +1,6 @@
 pub mod Declaring
 pub mod StoreLines
 pub mod Fillings
+pub mod HeaderLines
 pub mod Images
 pub mod code

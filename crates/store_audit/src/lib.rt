@@ -4,8 +4,10 @@
 
 mod declared;
 mod fillings;
+mod header_lines;
 mod store_lines;
 
 pub use declared::{Declared, forms_package};
 pub use fillings::{Filling, Source, put_image};
+pub use header_lines::{device_path, put_headers};
 pub use store_lines::put_stores;

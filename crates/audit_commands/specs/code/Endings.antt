@@ -41,3 +41,9 @@ Commits contents old ended new =
     Flushes (pen_of contents old) (pen_of contents new)
     × (((ended ≡ Done) × (has_failed new ≡ false) × (has_passed_on new ≡ true))
     ⊎ ((ended ≡ WriteOut) × (has_failed new ≡ true)))
+
+-- That was written, and then it was passed on: the run is refused.
+abbrev pub RefusesBehind : {A Z : Type 0} → List ℕ → (A → Option (List ℕ)) → Watched (BufWriter A Z) → Ended → Watched (BufWriter A Z) → Type 0
+RefusesBehind text contents old ended new =
+    (mid : Pen) × Writes (pen_of (writer_contents contents) old) mid text
+    × PassesFrom contents Refused mid ended new

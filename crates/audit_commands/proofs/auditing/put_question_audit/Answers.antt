@@ -1,4 +1,4 @@
-use Rattle.std.proofs.Common.{◌≡◌, ℕ, [], ap, subst, refl, sym, inl, inr}
+use Rattle.std.proofs.Common.{◌≡◌, ℕ, [], ap, arith, subst, refl, sym, inl, inr}
 use Rattle.std.proofs.lemmas.Result.{IfErr-weaker, IfOk-weaker, err_from_is_err_and, on_err_weaker}
 use Rattle.browser_rules.specs.Packages.{Package}
 use Rattle.hii_bytes.specs.Watching.{pen_of}
@@ -11,9 +11,10 @@ use Rattle.form_audit.specs.Audited.{Audited}
 use Rattle.form_audit.specs.code.Pages.{audited}
 use Rattle.question_audit.proofs.BeginningLemmas.{at_error}
 use Rattle.question_audit.specs.QuestionFacts.{BeginsQuestionText, IsQuestionText}
-use Rattle.audit_commands.specs.Auditing.{audited_at}
+use Rattle.audit_commands.specs.Auditing.{audited_at, placed_in}
 use Rattle.session_steps.specs.Opening.{forms_bytes, IsBrowsingFault, IsSourceFault, IsTextFault}
 use Rattle.session_steps.proofs.SourceLemmas.{one_source}
+use Rattle.audit_commands.proofs.ListingLemmas.{source_inside}
 use Rattle.audit_commands.proofs.auditing.put_question_audit.Goals as goal
 
 pub put_question_with_id-requires-clause-in_list : goal.put_question_with_id-requires-clause-in_list
@@ -21,7 +22,8 @@ put_question_with_id-requires-clause-in_list g c =
     let opens = c.in_ok-browser.ensures.opened.0 in
     let its = c.in_ok-package.package in
     let source = one_source c.args.given.list.now c.args.given.forms (package_of its) opens.source c.in_ok-package.ensures.found opens.found in
-    rw (c.page.ensures.bytes, opens.bytes, sym (ap (λ (p : Package). p.bytes) source)) its.in_list
+    let inside = source_inside c.args.given.list.now c.args.given.forms (package_of its) c.in_ok-package.ensures.found its.header in
+    rw (c.page.ensures.bytes, opens.bytes, sym (ap (λ (p : Package). p.bytes) source)) (omega (arith, inside, c.requires))
 
 pub returns-in_err-package-clause-refused : goal.returns-in_err-package-clause-refused
 returns-in_err-package-clause-refused g c =
@@ -32,6 +34,15 @@ returns-in_err-package-clause-refused g c =
 
 pub returns-in_err-package-clause-begun : goal.returns-in_err-package-clause-begun
 returns-in_err-package-clause-begun g c = at_error c.from_residual.result ([], inl refl, writes_nil (pen_of g.W.Write.contents c.args.out.now))
+
+pub returns-in_err-browser-clause-begun : goal.returns-in_err-browser-clause-begun
+returns-in_err-browser-clause-begun g c = at_error c.from_residual-in_err-browser.result ([], inl refl, writes_nil (pen_of g.W.Write.contents c.args.out.now))
+
+pub overflow_add-package : goal.overflow_add-package
+overflow_add-package g c =
+    let its = c.in_ok-package.package in
+    let inside = source_inside c.args.given.list.now c.args.given.forms (package_of its) c.in_ok-package.ensures.found its.header in
+    omega (arith, inside, c.requires)
 
 pub returns-in_err-browser-clause-refused : goal.returns-in_err-browser-clause-refused
 returns-in_err-browser-clause-refused g c =
@@ -52,8 +63,8 @@ returns-clause-told g c =
       record {
         start = s;
         opens = opens;
-        told = subst (λ (place : ℕ). IsQuestionText is_there (audited_at s) place c.args.id told.0) (ap (λ (p : Package). p.place) source)
-            (subst (λ (a : Audited). IsQuestionText is_there a its.place c.args.id told.0) same told.1);
+        told = subst (λ (place : ℕ). IsQuestionText is_there (audited_at s) (placed_in c.args.origin place) c.args.id told.0) (ap (λ (p : Package). p.place) source)
+            (subst (λ (a : Audited). IsQuestionText is_there a (placed_in c.args.origin its.place) c.args.id told.0) same told.1);
       },
       told.2,
     ))
@@ -80,8 +91,8 @@ returns-clause-begun g c =
       inr (
         s,
         opens,
-        subst (λ (place : ℕ). BeginsQuestionText (audited_at s) place c.args.id begun.0) (ap (λ (p : Package). p.place) source)
-            (subst (λ (a : Audited). BeginsQuestionText a its.place c.args.id begun.0) same begun.1),
+        subst (λ (place : ℕ). BeginsQuestionText (audited_at s) (placed_in c.args.origin place) c.args.id begun.0) (ap (λ (p : Package). p.place) source)
+            (subst (λ (a : Audited). BeginsQuestionText a (placed_in c.args.origin its.place) c.args.id begun.0) same begun.1),
       ),
       begun.2,
     ))

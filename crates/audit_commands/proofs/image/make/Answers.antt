@@ -1,17 +1,20 @@
-use Rattle.std.proofs.Common.{inl, refl}
+use Rattle.std.proofs.Common.{refl}
 use Rattle.std.proofs.lemmas.Result.{IfOk-weaker}
 use Rattle.audit_commands.specs.Imaging.{SaysImage}
-use Rattle.audit_commands.proofs.EndingLemmas.{is_refusal, tells_fault}
+use Rattle.audit_commands.specs.code.Listing.{listed}
+use Rattle.audit_commands.proofs.ListingLemmas.{writes_listed, writes_unlisted}
 use Rattle.audit_commands.proofs.image.make.Goals as goal
 
 pub returns-in-Ok-clause-told : goal.returns-in-Ok-clause-told
 returns-in-Ok-clause-told g c =
-    let found = rw (c.as_slice.ensures.value, c.from.ensures) at c.in-Ok.ensures.found in
-    let sound = rw (c.as_slice.ensures.value, c.from.ensures) at c.in-Ok.ensures.sound in
-    IfOk-weaker c.fill.result _ _ (λ ended told. told c.args.list.now.bytes.items (record { source = found.0; found = found.1; bytes = found.2; sound = sound })) c.fill.ensures.told
+    IfOk-weaker c.make_of.result _ _
+    (λ ended told.
+    writes_listed (λ list. SaysImage (g.F.StoreFiles.known c.args.files.now) c.args.options.now list.bytes) g.A.Write.contents g.O.Write.contents c.args.options.now.list.take
+    c.args.file.now.bytes.items c.args.answers.now c.make_of.new.answers c.args.out.now c.make_of.new.out ended (listed c.in-Ok.list) (rw c.as_slice.ensures.value at c.in-Ok.ensures.listed) told)
+    c.make_of.ensures.told
 
 pub returns-in-Err-clause-told : goal.returns-in-Err-clause-told
 returns-in-Err-clause-told g c =
-    let refused = rw (c.as_slice.ensures.value, c.from.ensures) at c.in-Err.ensures.refused in
-    tells_fault (SaysImage (g.F.StoreFiles.known c.args.files.now) c.args.options.now c.args.list.now.bytes.items) g.A.Write.contents g.O.Write.contents c.args.answers.now c.refuse.new.answers
-    c.args.out.now c.args.out.now c.in-Err.fault c.refuse.result (λ other. inl (is_refusal _ c.in-Err.fault refused other)) (λ memory. refl) c.refuse.ensures refl
+    writes_unlisted (λ list. SaysImage (g.F.StoreFiles.known c.args.files.now) c.args.options.now list.bytes) g.A.Write.contents g.O.Write.contents c.args.options.now.list.take
+    c.args.file.now.bytes.items c.args.answers.now c.refuse_list.new.answers c.args.out.now c.args.out.now c.refuse_list.result c.in-Err.none.number
+    (rw c.as_slice.ensures.value at c.in-Err.ensures.unlisted) c.refuse_list.ensures refl

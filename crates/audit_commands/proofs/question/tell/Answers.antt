@@ -1,38 +1,15 @@
-use Rattle.std.proofs.Common.{◌≡◌, [], true, false, inl, inr, refl, subst}
-use Rattle.std.specs.Io.Buffered.{writer_contents}
-use Rattle.session_steps.specs.Texts.{refused_at_text}
-use Rattle.audit_commands.specs.Auditing.{Asked, AuditsQuestion, BeginsAuditsQuestion, IsOpenRefusal, SaysQuestion, asked_of}
-use Rattle.audit_commands.specs.code.Givens.{asked}
-use Rattle.audit_commands.specs.declared.ended.Ended.TheVariants.{Done, Refused}
-use Rattle.audit_commands.proofs.EndingLemmas.{is_refusal, none_written, tells, tells_refusal}
+use Rattle.audit_commands.specs.Auditing.{SaysQuestion, asked_of}
+use Rattle.audit_commands.specs.code.Listing.{listed}
+use Rattle.audit_commands.proofs.ListingLemmas.{tells_listed, tells_unlisted}
 use Rattle.audit_commands.proofs.question.tell.Goals as goal
 
-pub returns-in-Ok-true : goal.returns-in-Ok-true
-returns-in-Ok-true g c =
-    let given = c.given-given.ensures in
-    let same : asked c.given-given.result ≡ asked_of c.args.options.form_set c.args.files.now = rw (given.list, given.forms, given.stores, given.lang) refl in
-    let told = rw c.in-Ok-true.field-0-test at c.in-Ok-true.ensures.told in
-    tells (SaysQuestion (asked_of c.args.options.form_set c.args.files.now) c.args.options.id) g.A.Write.contents c.args.answers.now c.finish.new.answers _ Done c.finish.result told.0
-    (subst (λ (a : Asked). AuditsQuestion true a c.args.options.id told.0) same told.1) told.2 c.finish.ensures
-
-pub returns-in-Ok-false : goal.returns-in-Ok-false
-returns-in-Ok-false g c =
-    let given = c.given-given.ensures in
-    let same : asked c.given-given.result ≡ asked_of c.args.options.form_set c.args.files.now = rw (given.list, given.forms, given.stores, given.lang) refl in
-    let told = rw c.in-Ok-false.field-0-test at c.in-Ok-false.ensures.told in
-    tells (SaysQuestion (asked_of c.args.options.form_set c.args.files.now) c.args.options.id) g.A.Write.contents c.args.answers.now c.finish-in-Ok-false.new.answers _ Refused
-    c.finish-in-Ok-false.result told.0 (inl (subst (λ (a : Asked). AuditsQuestion false a c.args.options.id told.0) same told.1)) told.2 c.finish-in-Ok-false.ensures
+pub returns-in-Ok : goal.returns-in-Ok
+returns-in-Ok g c =
+    tells_listed (λ list. SaysQuestion (asked_of c.args.options.form_set c.args.files.now list) list.origin c.args.options.id) g.A.Write.contents c.args.options.form_set.list.take
+    c.args.files.now.list.bytes.items c.args.answers.now c.tell_of.new.answers c.tell_of.result (listed c.in-Ok.list) (rw c.as_slice.ensures.value at c.in-Ok.ensures.listed) c.tell_of.ensures
 
 pub returns-in-Err : goal.returns-in-Err
 returns-in-Err g c =
-    let given = c.given-given.ensures in
-    let same : asked c.given-given.result ≡ asked_of c.args.options.form_set c.args.files.now = rw (given.list, given.forms, given.stores, given.lang) refl in
-    let begun = c.in-Err.ensures.begun in
-    tells_refusal (SaysQuestion (asked_of c.args.options.form_set c.args.files.now) c.args.options.id) g.A.Write.contents c.args.answers.now c.put_question_audit.new.out c.refuse.new.answers
-    c.in-Err.fault c.refuse.result
-    (λ other. (
-      [],
-      none_written (writer_contents g.A.Write.contents) c.args.answers.now c.put_question_audit.new.out (c.in-Err.ensures.nothing other),
-      inr (subst (λ (a : Asked). IsOpenRefusal a (refused_at_text c.in-Err.fault)) same (is_refusal _ c.in-Err.fault c.in-Err.ensures.refused other)),
-    ))
-    (λ memory. (begun.0, begun.2, (begun.0, subst (λ (a : Asked). BeginsAuditsQuestion a c.args.options.id begun.0) same begun.1, refl))) c.refuse.ensures
+    tells_unlisted (λ list. SaysQuestion (asked_of c.args.options.form_set c.args.files.now list) list.origin c.args.options.id) g.A.Write.contents c.args.options.form_set.list.take
+    c.args.files.now.list.bytes.items c.args.answers.now c.refuse_list.new.answers c.refuse_list.result c.in-Err.none.number (rw c.as_slice.ensures.value at c.in-Err.ensures.unlisted)
+    c.refuse_list.ensures

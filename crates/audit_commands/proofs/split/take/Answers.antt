@@ -1,6 +1,5 @@
 use Rattle.std.proofs.Common.{ap, refl}
 use Rattle.hii_bytes.specs.declared.cause.Fault.{Fault}
-use Rattle.hii_dumps.specs.Dumps.{nth_list}
 use Rattle.audit_commands.specs.Splitting.{SaysTaken}
 use Rattle.audit_commands.proofs.EndingLemmas.{tells_fault}
 use Rattle.audit_commands.proofs.SplittingLemmas.{takes, takes_none}
@@ -9,14 +8,14 @@ use Rattle.audit_commands.proofs.split.take.Goals as goal
 pub returns-in-Ok-true : goal.returns-in-Ok-true
 returns-in-Ok-true g c =
     let t = rw (c.as_slice.ensures.value, c.in-Ok-true.field-0-test) at c.in-Ok-true.ensures.taken in
-    takes g.A.Write.contents g.O.Write.contents c.args.dump.now.bytes.items c.args.taken.number t.0 t.1 t.2 c.args.answers.now c.put_taken.new.out c.args.out.now c.put_taken.new.file c.commit.new.out
-    c.commit.result (nth_list t.0 c.args.taken.number) refl t.3 t.4 (c.in-Ok-true.ensures.none_held c.in-Ok-true.field-0-test) c.commit.ensures.unwritten c.commit.ensures.written
+    takes g.A.Write.contents g.O.Write.contents c.args.dump.now.bytes.items c.args.taken.number c.args.answers.now c.put_taken.new.out c.args.out.now c.put_taken.new.file c.commit.new.out
+    c.commit.result t.0 t.1 t.2 t.3 (c.in-Ok-true.ensures.none_held c.in-Ok-true.field-0-test) c.commit.ensures.unwritten c.commit.ensures.written
 
 pub returns-in-Ok-false : goal.returns-in-Ok-false
 returns-in-Ok-false g c =
     let t = rw (c.as_slice.ensures.value, c.in-Ok-false.field-0-test) at c.in-Ok-false.ensures.taken in
-    takes_none g.A.Write.contents g.O.Write.contents c.args.dump.now.bytes.items c.args.taken.number t.0 t.1 t.2 c.args.answers.now c.put_taken.new.out c.finish.new.answers c.args.out.now
-    c.put_taken.new.file _ c.finish.result (nth_list t.0 c.args.taken.number) refl t.3 t.4 c.finish.ensures
+    takes_none g.A.Write.contents g.O.Write.contents c.args.dump.now.bytes.items c.args.taken.number c.args.answers.now c.put_taken.new.out c.finish.new.answers c.args.out.now
+    c.put_taken.new.file _ c.finish.result t.0 t.1 t.2 t.3 c.finish.ensures
 
 pub returns-in-Err : goal.returns-in-Err
 returns-in-Err g c =

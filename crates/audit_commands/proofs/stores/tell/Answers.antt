@@ -1,20 +1,14 @@
-use Rattle.std.proofs.Common.{[], refl}
-use Rattle.std.specs.Io.Buffered.{writer_contents}
-use Rattle.hii_bytes.proofs.WritingLemmas.{writes_nil}
 use Rattle.audit_commands.specs.Storing.{SaysStores}
-use Rattle.audit_commands.specs.declared.ended.Ended.TheVariants.{Done}
-use Rattle.audit_commands.proofs.EndingLemmas.{is_refusal, tells, tells_refusal}
+use Rattle.audit_commands.specs.code.Listing.{listed}
+use Rattle.audit_commands.proofs.ListingLemmas.{tells_listed, tells_unlisted}
 use Rattle.audit_commands.proofs.stores.tell.Goals as goal
 
 pub returns-in-Ok : goal.returns-in-Ok
 returns-in-Ok g c =
-    let found = rw (c.as_slice.ensures.value, c.from.ensures) at c.in-Ok.ensures.found in
-    let sound = rw (c.as_slice.ensures.value, c.from.ensures) at c.in-Ok.ensures.sound in
-    tells (SaysStores c.args.list.now.bytes.items c.args.options.forms) g.A.Write.contents c.args.answers.now c.finish.new.answers _ Done c.finish.result _
-    (c.in-Ok.declared, record { source = found.0; found = found.1; bytes = found.2; sound = sound }, refl) (rw c.forms.ensures at c.put_stores.ensures) c.finish.ensures
+    tells_listed (λ list. SaysStores c.args.options.headers list.bytes c.args.options.list.forms) g.A.Write.contents c.args.options.list.take c.args.file.now.bytes.items c.args.answers.now c.tell_of.new.answers
+    c.tell_of.result (listed c.in-Ok.list) (rw c.as_slice.ensures.value at c.in-Ok.ensures.listed) c.tell_of.ensures
 
 pub returns-in-Err : goal.returns-in-Err
 returns-in-Err g c =
-    let refused = rw (c.as_slice.ensures.value, c.from.ensures) at c.in-Err.ensures.refused in
-    tells_refusal (SaysStores c.args.list.now.bytes.items c.args.options.forms) g.A.Write.contents c.args.answers.now c.args.answers.now c.refuse.new.answers c.in-Err.fault c.refuse.result
-    (λ other. ([], writes_nil _, is_refusal _ c.in-Err.fault refused other)) (λ memory. ([], writes_nil _, refl)) c.refuse.ensures
+    tells_unlisted (λ list. SaysStores c.args.options.headers list.bytes c.args.options.list.forms) g.A.Write.contents c.args.options.list.take c.args.file.now.bytes.items c.args.answers.now c.refuse_list.new.answers
+    c.refuse_list.result c.in-Err.none.number (rw c.as_slice.ensures.value at c.in-Err.ensures.unlisted) c.refuse_list.ensures

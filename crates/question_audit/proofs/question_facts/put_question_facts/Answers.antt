@@ -29,7 +29,7 @@ returns-clause-written g c =
       has_number c.in_ok-ways.ways.reached,
       c.in_ok-ways.ensures.reached,
       c.put_opcode_facts.ensures ⨾ c.put_kind_facts.ensures ⨾ c.put_value_facts.ensures ⨾ c.put_verdict_fact.ensures
-          ⨾ written_as c.in_ok-put_guards.ensures.told (ap (guard_facts a c.args.package_place) same) ⨾ c.in_ok-put_checks.ensures.told
+          ⨾ written_as c.in_ok-put_guards.ensures.told (ap (guard_facts a c.args.origin.place) same) ⨾ c.in_ok-put_checks.ensures.told
           ⨾ written_as c.in_ok-put_options.ensures.told (ap (option_facts a) same)
           ⨾ written_as c.in_ok-put_depends.ensures.told (ap (depends_facts AtCommands a) same) ⨾ written_as c.in_ok-put_depends-2.ensures.told (ap (depends_facts AtOpening a) same) ⨾ c.in_ok-put_decides.ensures.told,
     )
@@ -42,7 +42,7 @@ returns-in_err-put_guards-clause-begun g c =
       has_number c.in_ok-ways.ways.reached,
       c.in_ok-ways.ensures.reached,
       begun_before _ (begun_before _ (begun_before _ (begun_before _ (begun_before _ (begun_behind (c.put_opcode_facts.ensures ⨾ c.put_kind_facts.ensures ⨾ c.put_value_facts.ensures ⨾ c.put_verdict_fact.ensures)
-          (subst (Begins _ _) (ap (guard_facts a c.args.package_place) same) c.in_err-put_guards.ensures.begun)))))),
+          (subst (Begins _ _) (ap (guard_facts a c.args.origin.place) same) c.in_err-put_guards.ensures.begun)))))),
     ))
 
 pub returns-in_err-put_checks-clause-begun : goal.returns-in_err-put_checks-clause-begun
@@ -53,7 +53,7 @@ returns-in_err-put_checks-clause-begun g c =
       has_number c.in_ok-ways.ways.reached,
       c.in_ok-ways.ensures.reached,
       begun_before _ (begun_before _ (begun_before _ (begun_before _ (begun_behind (c.put_opcode_facts.ensures ⨾ c.put_kind_facts.ensures ⨾ c.put_value_facts.ensures ⨾ c.put_verdict_fact.ensures
-          ⨾ written_as c.in_ok-put_guards.ensures.told (ap (guard_facts a c.args.package_place) same)) c.in_err-put_checks.ensures.begun)))),
+          ⨾ written_as c.in_ok-put_guards.ensures.told (ap (guard_facts a c.args.origin.place) same)) c.in_err-put_checks.ensures.begun)))),
     ))
 
 pub returns-in_err-put_options-clause-begun : goal.returns-in_err-put_options-clause-begun
@@ -64,7 +64,7 @@ returns-in_err-put_options-clause-begun g c =
       has_number c.in_ok-ways.ways.reached,
       c.in_ok-ways.ensures.reached,
       begun_before _ (begun_before _ (begun_before _ (begun_behind (c.put_opcode_facts.ensures ⨾ c.put_kind_facts.ensures ⨾ c.put_value_facts.ensures ⨾ c.put_verdict_fact.ensures
-          ⨾ written_as c.in_ok-put_guards.ensures.told (ap (guard_facts a c.args.package_place) same) ⨾ c.in_ok-put_checks.ensures.told)
+          ⨾ written_as c.in_ok-put_guards.ensures.told (ap (guard_facts a c.args.origin.place) same) ⨾ c.in_ok-put_checks.ensures.told)
           (subst (Begins _ _) (ap (option_facts a) same) c.in_err-put_options.ensures.begun)))),
     ))
 
@@ -76,7 +76,7 @@ returns-in_err-put_depends-clause-begun g c =
       has_number c.in_ok-ways.ways.reached,
       c.in_ok-ways.ensures.reached,
       rw c.in_err-put_depends.ensures.nothing (begun_before _ (begun_before _ (first_begun _ (c.put_opcode_facts.ensures ⨾ c.put_kind_facts.ensures ⨾ c.put_value_facts.ensures ⨾ c.put_verdict_fact.ensures
-          ⨾ written_as c.in_ok-put_guards.ensures.told (ap (guard_facts a c.args.package_place) same) ⨾ c.in_ok-put_checks.ensures.told ⨾ written_as c.in_ok-put_options.ensures.told (ap (option_facts a) same))))),
+          ⨾ written_as c.in_ok-put_guards.ensures.told (ap (guard_facts a c.args.origin.place) same) ⨾ c.in_ok-put_checks.ensures.told ⨾ written_as c.in_ok-put_options.ensures.told (ap (option_facts a) same))))),
     ))
 
 pub returns-in_err-put_depends-2-clause-begun : goal.returns-in_err-put_depends-2-clause-begun
@@ -87,7 +87,7 @@ returns-in_err-put_depends-2-clause-begun g c =
       has_number c.in_ok-ways.ways.reached,
       c.in_ok-ways.ensures.reached,
       rw c.in_err-put_depends-2.ensures.nothing (begun_before _ (first_begun _ (c.put_opcode_facts.ensures ⨾ c.put_kind_facts.ensures ⨾ c.put_value_facts.ensures ⨾ c.put_verdict_fact.ensures
-          ⨾ written_as c.in_ok-put_guards.ensures.told (ap (guard_facts a c.args.package_place) same) ⨾ c.in_ok-put_checks.ensures.told ⨾ written_as c.in_ok-put_options.ensures.told (ap (option_facts a) same)
+          ⨾ written_as c.in_ok-put_guards.ensures.told (ap (guard_facts a c.args.origin.place) same) ⨾ c.in_ok-put_checks.ensures.told ⨾ written_as c.in_ok-put_options.ensures.told (ap (option_facts a) same)
           ⨾ written_as c.in_ok-put_depends.ensures.told (ap (depends_facts AtCommands a) same)))),
     ))
 
@@ -99,6 +99,6 @@ returns-in_err-put_decides-clause-begun g c =
       has_number c.in_ok-ways.ways.reached,
       c.in_ok-ways.ensures.reached,
       rw c.in_err-put_decides.ensures.nothing (first_begun _ (c.put_opcode_facts.ensures ⨾ c.put_kind_facts.ensures ⨾ c.put_value_facts.ensures ⨾ c.put_verdict_fact.ensures
-          ⨾ written_as c.in_ok-put_guards.ensures.told (ap (guard_facts a c.args.package_place) same) ⨾ c.in_ok-put_checks.ensures.told ⨾ written_as c.in_ok-put_options.ensures.told (ap (option_facts a) same)
+          ⨾ written_as c.in_ok-put_guards.ensures.told (ap (guard_facts a c.args.origin.place) same) ⨾ c.in_ok-put_checks.ensures.told ⨾ written_as c.in_ok-put_options.ensures.told (ap (option_facts a) same)
           ⨾ written_as c.in_ok-put_depends.ensures.told (ap (depends_facts AtCommands a) same) ⨾ written_as c.in_ok-put_depends-2.ensures.told (ap (depends_facts AtOpening a) same))),
     ))

@@ -40,7 +40,7 @@ returns-in_ok-put_question_facts-in-Some-clause-told g c =
     let q = question_view c.in-Some.question in
     let found = found_with bytes _ c.args.id q policy.accepted.checked.spelled c.questions.ensures.own c.in-Some.ensures in
     let w = c.in_ok-put_question_facts-in-Some.ensures.written in
-    let text = ap (question_facts a w.0 c.args.package_place) found.own in
+    let text = ap (question_facts a w.0 c.args.origin) found.own in
     (_, (q.node, found.with_id, w.0, w.1, text), w.2)
 
 pub returns-in-None-clause-told : goal.returns-in-None-clause-told
@@ -58,6 +58,6 @@ returns-in_err-put_question_facts-in-Some-clause-begun g c =
     at_error c.from_residual.result (elim c.in_err-put_question_facts-in-Some.ensures.begun [
       | inl same ↦ ([], inl refl, subst (λ now. Writes (pen_of g.W.Write.contents c.args.out.now) (pen_of g.W.Write.contents now) []) (sym same) (writes_nil _))
       | inr w ↦
-          let text = ap (question_facts a w.0 c.args.package_place) found.own in
+          let text = ap (question_facts a w.0 c.args.origin) found.own in
           (w.2.front, inr (q.node, found.with_id, w.0, w.1, w.2.rest, sym text ∙ w.2.parts), w.2.written)
     ])
