@@ -2,7 +2,7 @@
 import os
 import re
 
-from packages import image
+from packages import END, FALSE, LOCKED, TRUE, form, form_set, grayed_out, image, list_of, one_of, option, rule, rule_ref, scoped, suppressed, varstore
 from running import EXAMPLES, OUT_OF_MEMORY, read
 
 AUDIT = os.path.join(EXAMPLES, "audit")
@@ -93,9 +93,43 @@ def images_of_files(folder):
     yield AuditRun("image of variables", words + ["--efivars", folder, "--zero"], lines(variable, "zeros"), made(held[0], bytes(4)), True)
 
 
+def reasons(folder):
+    """A choice that is hidden, grayed out, locked three times and read-only, with options that are denied by themselves; and rules, of which
+    the first is named by the second alone, and the third by none."""
+    options = [option(3, 0), LOCKED, grayed_out(TRUE, option(4, 1), LOCKED, suppressed(TRUE, option(5, 2)), option(6, 3)),
+               suppressed(FALSE, LOCKED, option(7, 4))]
+    guarded = suppressed(rule_ref(2), grayed_out(TRUE, scoped(one_of(5, 0, flags=1), *options), LOCKED))
+    rules = rule(1, TRUE), rule(2, rule_ref(1)), rule(3, FALSE)
+    opcodes = form_set() + varstore(1, 2) + scoped(form(1), *rules, guarded, LOCKED) + END
+    given = write(os.path.join(folder, "reasons"), list_of(opcodes)), write(os.path.join(folder, "no value"), image([(1, bytes(2))]))
+    yield AuditRun("all reasons", ["question", "--list", given[0], "--stores", given[1], "--id", "5"], b"""\
+QUESTION 5 (0x5) #7
+form     1 #2
+opcode   ONE_OF at 00000058, byte 6c of the list
+field    V:0x0(1), varstore 1 33333333-3333-3333-3333-333333333333
+flags    readonly
+value    0 #3
+verdict  suppressif at 0000004f
+also     grayoutif at 00000054
+also     locked at 000000ac
+also     locked at 000000a6
+also     locked at 00000070
+also     readonly at 00000058
+guard    SUPPRESS_IF at 0000004f (byte 63) holds: ruleref(2)
+guard    GRAY_OUT_IF at 00000054 (byte 68) holds: TRUE
+rule     1 at 00000039 (byte 4d): TRUE
+rule     2 at 00000040 (byte 54): ruleref(1)
+option   0 #3: as the question
+option   1 #4: grayoutif at 00000072: TRUE
+option   2 #5: suppressif at 0000007f: TRUE
+option   3 #6: grayoutif at 00000072
+option   4 #7: locked at 00000099
+""")
+
+
 def audit_runs(folder):
     """All runs. The folder is for the files that are made for them."""
-    runs = [*splits(), *of_dump(), *images_of_files(folder)]
+    runs = [*splits(), *of_dump(), *images_of_files(folder), *reasons(folder)]
     for name in NAMES:
         runs += of_example(name)
     station = os.path.join(EXAMPLES, "station")

@@ -4,3 +4,8 @@ pub mod DependLemmas
 pub mod ValueLemmas
 pub mod AskedLemmas
 pub mod RangeLemmas
+pub mod ReasonLemmas
+pub mod GuardLemmas
+pub mod NamingLemmas
+pub mod OwnLemmas
+pub mod OptionLemmas

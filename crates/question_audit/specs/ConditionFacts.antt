@@ -1,8 +1,8 @@
--- Facts of conditions: of guards, of the checks of a question and of its options (own rule).
-use Rattle.std.specs.Prelude.{ℕ, ◌+◌, Bool, ◌==◌, ◌&&◌, if◌then◌else◌, Option, Some, None, List, [], ◌++◌, filter, codes, decimal}
+-- Facts of conditions: of guards and of the checks of a question (own rule).
+use Rattle.std.specs.Prelude.{ℕ, ◌+◌, Bool, ◌==◌, ◌&&◌, if◌then◌else◌, Option, Some, None, List, ◌++◌, filter, codes, decimal}
 use Rattle.std.specs.List.{flat_map}
 use Rattle.hii_bytes.specs.Texts.{place_text}
-use Rattle.ifr_opcodes.specs.Fields.{option_text, option_value, question_id}
+use Rattle.ifr_opcodes.specs.Fields.{question_id}
 use Rattle.ifr_opcodes.specs.Forest.{Node}
 use Rattle.ifr_opcodes.specs.Opcode.{number}
 use Rattle.ifr_opcodes.specs.declared.codes.TheConstants.{DISABLE_IF}
@@ -11,10 +11,10 @@ use Rattle.ifr_expr.specs.Values.{Value, holds}
 use Rattle.ifr_nodes.specs.NodeExpressions.{expression_tree}
 use Rattle.ifr_nodes.specs.Guards.{guards}
 use Rattle.ifr_opcodes.specs.Rows.{is_condition_number}
-use Rattle.ifr_nodes.specs.Nodes.{options, this_of}
-use Rattle.guard_policy.specs.Policy.{fixed, is_removed}
+use Rattle.ifr_nodes.specs.Nodes.{this_of}
+use Rattle.guard_policy.specs.Policy.{is_removed}
 use Rattle.guard_policy.specs.declared.denial.Denial.{Denial}
-use Rattle.audit_text.specs.Texts.{hex_text, left_aligned, safe_text}
+use Rattle.audit_text.specs.Texts.{hex_text, left_aligned}
 use Rattle.audit_text.specs.Words.{opcode_name}
 use Rattle.condition_text.specs.Senses.{sense}
 use Rattle.condition_text.specs.Texts as conditions
@@ -87,22 +87,3 @@ check_fact a package_place c =
 abbrev pub check_facts : Audited → ℕ → Node → List ℕ
 check_facts a package_place n =
     flat_map (check_fact a package_place) (filter (is_check_of (question_id n.op)) a.world.nodes)
-
--- ---- options
-
--- the condition of a guard that decides, which is known by its place
-abbrev pub deciding : Node → Option Denial → List ℕ
-deciding o None = []
-deciding o (Some denial) =
-    flat_map (λ g. codes ": " ++ condition_words g)
-    (filter (λ g. g.place == denial.place) (guards o))
-
--- an option by its value and its text, and whether it may be chosen
-abbrev pub option_fact : Audited → Node → List ℕ
-option_fact a o =
-    fact (codes "option")
-    (decimal (option_value o.op) ++ codes " " ++ safe_text (a.texts (option_text o.op)) ++ codes ": "
-    ++ verdict_text (fixed a.world o) ++ deciding o (fixed a.world o))
-
-abbrev pub option_facts : Audited → Node → List ℕ
-option_facts a n = flat_map (option_fact a) (options n)

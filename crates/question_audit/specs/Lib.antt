@@ -2,6 +2,9 @@ pub mod Origins
 pub mod ConditionFacts
 pub mod Dependences
 pub mod Limits
+pub mod OptionFacts
+pub mod Reasons
+pub mod RuleFacts
 pub mod Times
 pub mod QuestionFacts
 pub mod code

@@ -21,10 +21,13 @@ use Rattle.form_audit.specs.FormLines.{form_text}
 use Rattle.form_audit.specs.QuestionLines.{field_text, is_undefined, store_with, unguarded}
 use Rattle.form_audit.specs.Reach.{TellsReached}
 use Rattle.form_audit.specs.ScriptValues.{behind, default_taken, script_value}
-use Rattle.question_audit.specs.ConditionFacts.{check_facts, fact, guard_facts, id_text, option_facts, verdict_text}
+use Rattle.question_audit.specs.ConditionFacts.{check_facts, fact, guard_facts, id_text, verdict_text}
 use Rattle.question_audit.specs.Dependences.{all_decides_facts, depends_facts}
 use Rattle.question_audit.specs.Limits.{flags_fact, limits_fact, outside_fact}
+use Rattle.question_audit.specs.OptionFacts.{option_facts}
 use Rattle.question_audit.specs.Origins.{holder_text}
+use Rattle.question_audit.specs.Reasons.{all_reasons, also_facts}
+use Rattle.question_audit.specs.RuleFacts.{rule_facts}
 use Rattle.question_audit.specs.declared.origin.Origin.{Origin}
 use Rattle.question_audit.specs.declared.when.When.TheVariants.{AtCommands, AtOpening}
 
@@ -107,8 +110,12 @@ default_fact a q class name = named_default a q.node name (default_taken a q cla
 
 -- ---- all that is known
 
+-- the verdict is the first of all reasons
 abbrev pub verdict_fact : Audited → Node → List ℕ
 verdict_fact a n = fact (codes "verdict") (verdict_text (fixed a.world n))
+
+abbrev pub verdict_facts : Audited → Asked → List ℕ
+verdict_facts a q = verdict_fact a q.node ++ also_facts (all_reasons a.world q)
 
 -- what its opcode says, by what tells which forms are reached
 abbrev pub opcode_facts : Audited → (ℕ → Bool) → Origin → Asked → List ℕ
@@ -127,13 +134,21 @@ value_facts a q =
     value_fact a q ++ default_fact a q 0 (codes "standard")
     ++ default_fact a q 1 (codes "manufacturing")
 
+-- the conditions around it and in it, the rules that they name, and its options
+abbrev pub condition_facts : Audited → ℕ → Node → List ℕ
+condition_facts a package_place n =
+    guard_facts a package_place n ++ check_facts a package_place n ++ rule_facts a package_place n
+    ++ option_facts a n
+
+-- on which questions it depends, and which depend on it
+abbrev pub dependence_facts : Audited → Node → List ℕ
+dependence_facts a n =
+    depends_facts AtCommands a n ++ depends_facts AtOpening a n ++ all_decides_facts a n
+
 abbrev pub question_facts : Audited → (ℕ → Bool) → Origin → Asked → List ℕ
 question_facts a is_reached origin q =
     opcode_facts a is_reached origin q ++ kind_facts a q ++ value_facts a q
-    ++ verdict_fact a q.node ++ guard_facts a origin.place q.node
-    ++ check_facts a origin.place q.node ++ option_facts a q.node
-    ++ depends_facts AtCommands a q.node ++ depends_facts AtOpening a q.node
-    ++ all_decides_facts a q.node
+    ++ verdict_facts a q ++ condition_facts a origin.place q.node ++ dependence_facts a q.node
 
 -- ---- the question of an id
 

@@ -1,14 +1,25 @@
 //! Laws of what is known of one question.
 
-ghost use Rattle.std.specs.Prelude.{◌≡◌, ℕ, List};
+ghost use Rattle.std.specs.Prelude.{◌≡◌, ℕ, List, true};
 ghost use Rattle.ifr_opcodes.specs.Forest.{Node};
 ghost use Rattle.ifr_opcodes.specs.Rows.{is_among};
+ghost use Rattle.ifr_nodes.specs.Nodes.{is_question};
+ghost use Rattle.hii_questions.specs.Fields.{asked};
+ghost use Rattle.guard_policy.specs.Policy.{fixed};
+ghost use Rattle.guard_policy.specs.World.{World};
 ghost use Rattle.guard_policy.specs.laws.Support.{around, support_over};
 ghost use Rattle.question_audit.specs.Dependences.{depends_on};
+ghost use Rattle.question_audit.specs.Reasons.{all_reasons, first_reason};
 ghost use Rattle.question_audit.specs.declared.when.When.TheVariants.{AtCommands};
 
 /// A change depends at commands on the answers that `Policy::support_of` gives for it, through rules too.
 pub fn depends_are_the_support_of_a_change()
     ensures { (ns : List Node) (id : ℕ) (n : Node) → is_among id (support_over ns (around n))
         ≡ is_among id (depends_on AtCommands ns n) }
+{}
+
+/// The first of all reasons why a question may not be changed is the one that `why` tells.
+pub fn the_first_reason_is_the_verdict()
+    ensures { (w : World) (n : Node) → is_question n ≡ true
+        → first_reason (all_reasons w (asked w.nodes n)) ≡ fixed w n }
 {}

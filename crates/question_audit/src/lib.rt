@@ -5,12 +5,18 @@ mod condition_facts;
 mod decides_facts;
 mod depends_facts;
 mod facts;
+mod guard_verdicts;
 pub mod laws;
 mod limits_facts;
 mod opcode_facts;
 mod option_facts;
 mod origin;
+mod own_denials;
+mod places;
 mod question_facts;
+mod reasons;
+mod rule_facts;
+mod scope_locks;
 mod value_facts;
 mod when;
 

@@ -227,8 +227,8 @@ fn put_outside<W: Write>(question: Question<'_>, out: &mut Watched<W>)
     }
 }
 
-// Whether a question can never be changed here.
-fn is_never_changed(question: Question<'_>) -> bool
+/// Whether a question can never be changed here.
+pub(crate) fn is_never_changed(question: Question<'_>) -> bool
     ensures { result ≡ is_never_changed (question_view question.entry) }
 {
     match question.statement().kind() {

@@ -1,42 +1,39 @@
 //! The options of questions.
 
-ghost use Rattle.std.specs.Prelude.{◌≡◌, ◌==◌, ◌++◌, Option, OnOk, OnErr, codes, filter};
-ghost use Rattle.std.specs.List.{flat_map};
+ghost use Rattle.std.specs.Prelude.{◌≡◌, ◌==◌, ℕ, List, OnOk, OnErr, is_some};
+ghost use Rattle.std.specs.BTreeMap.{get};
+ghost use Rattle.std.specs.Ordering.{nat_cmp};
 ghost use Rattle.hii_bytes.specs.Watching.{Puts, pen_of};
-ghost use Rattle.ifr_nodes.specs.Guards.{guards};
+ghost use Rattle.ifr_opcodes.specs.Rows.{is_among};
+ghost use Rattle.ifr_nodes.specs.Nodes.{nodes_of};
 ghost use Rattle.ifr_nodes.specs.code.Checked.{IsNodeOf};
-ghost use Rattle.ifr_scopes.specs.code.Lists.{statement_node};
+ghost use Rattle.ifr_scopes.specs.code.LockIndex.{first_place};
 ghost use Rattle.ifr_scopes.specs.code.Parts.{option_node};
+ghost use Rattle.hii_questions.specs.Fields.{asked};
+ghost use Rattle.hii_questions.specs.code.Views.{question_node, question_view};
 ghost use Rattle.guard_policy.specs.Policy.{fixed};
-ghost use Rattle.guard_policy.specs.code.Answers.{unless};
 ghost use Rattle.guard_policy.specs.code.Views.{bytes_of};
-ghost use Rattle.guard_policy.specs.declared.denial.Denial.{Denial as Denied};
 ghost use Rattle.form_page.specs.code.PageViews.{world_of};
 ghost use Rattle.form_audit.specs.code.Pages.{audited};
-ghost use Rattle.question_audit.specs.ConditionFacts.{condition_words, deciding, option_fact, option_facts};
+ghost use Rattle.question_audit.specs.OptionFacts.{deciding, option_fact, option_facts, option_verdict, own_denial as own_denial_of, with_place, words_at};
 ghost use Rattle.question_audit.specs.code.Beginnings.{Begins};
+ghost use Rattle.question_audit.specs.code.Places.{has_place};
 
-use crate::facts::{put_column, put_verdict_text};
+use crate::facts::put_column;
+use crate::own_denials::own_denial;
+use crate::places::add_place;
+use crate::scope_locks::scope_locks;
 use audit_text::put_safe_shown;
 use condition_text::ConditionText;
+use form_audit::put_denial;
 use form_page::Page;
 use guard_policy::{Conditions, Denial};
 use hii_bytes::Watched;
-use ifr_scopes::{OptionView, Statement};
+use hii_questions::Question;
+use ifr_scopes::OptionView;
 use std::alloc::{AllocError, Global};
+use std::collections::{BTreeMap, BTreeSet};
 use std::io::Write;
-
-// Whether an option may be chosen, as far as it goes.
-fn verdict_on<'a, C: Conditions>(
-    page: Page<'a, '_, C>,
-    option: OptionView<'a>,
-) -> Result<(), Denial>
-    requires { IsNodeOf (bytes_of page.policy) (option_node option) }
-    ensures { result ≡ unless (fixed (world_of page.entry) (option_node option.entry)) }
-{
-    page.policy()
-        .option_changeable_by(option, page.conditions())
-}
 
 // Writes what the guard at a place around an option says, behind a colon. Where an allocation fails, the beginning of it may be
 // written.
@@ -49,11 +46,9 @@ fn put_guard_at<'a, C: Conditions, W: Write>(
 ) -> Result<(), AllocError>
     requires { IsNodeOf (bytes_of page.policy) (option_node option) }
     ensures told { OnOk result (Puts W.contents out.old out.new
-        (flat_map (λ g. codes ": " ++ condition_words g)
-        (filter (λ g. g.place == place) (guards (option_node option.entry))))) }
+        (words_at place (option_node option.entry))) }
     ensures begun { OnErr result (Begins (pen_of W.contents out.old) (pen_of W.contents out.new)
-        (flat_map (λ g. codes ": " ++ condition_words g)
-        (filter (λ g. g.place == place) (guards (option_node option.entry))))) }
+        (words_at place (option_node option.entry))) }
 {
     let mut guards = page.policy().forms().guards_at(option.place());
     while let Some(guard) = guards.next() {
@@ -66,69 +61,138 @@ fn put_guard_at<'a, C: Conditions, W: Write>(
     Ok(())
 }
 
-// Writes what the guard that decides a verdict on an option says, if a guard does. Where an allocation fails, the beginning of it may
-// be written.
+// Writes what the guard that denies an option says, where it denies none before: these are the places of what does. Where an
+// allocation fails, the beginning of it may be written.
 fn put_deciding<'a, C: Conditions, W: Write>(
     alloc: Global,
     page: Page<'a, '_, C>,
     option: OptionView<'a>,
-    verdict: Result<(), Denial>,
+    denial: Option<Denial>,
+    told: &mut BTreeSet<u32>,
     out: &mut Watched<W>,
 ) -> Result<(), AllocError>
     requires { IsNodeOf (bytes_of page.policy) (option_node option) }
-    ensures told { OnOk result ((denied : Option Denied) → verdict ≡ unless denied
-        → Puts W.contents out.old out.new (deciding (option_node option.entry) denied)) }
-    ensures begun { OnErr result ((denied : Option Denied) → verdict ≡ unless denied
+    ensures told { OnOk result ((places : List ℕ)
+        → ((place : ℕ) → has_place told.old place ≡ is_among place places)
+        → Puts W.contents out.old out.new (deciding places (option_node option.entry) denial)) }
+    ensures places { OnOk result ((places : List ℕ)
+        → ((place : ℕ) → has_place told.old place ≡ is_among place places)
+        → (place : ℕ) → has_place told.new place ≡ is_among place (with_place denial places)) }
+    ensures begun { OnErr result ((places : List ℕ)
+        → ((place : ℕ) → has_place told.old place ≡ is_among place places)
         → Begins (pen_of W.contents out.old) (pen_of W.contents out.new)
-        (deciding (option_node option.entry) denied)) }
+        (deciding places (option_node option.entry) denial)) }
 {
-    match verdict {
-        Ok(()) => Ok(()),
-        Err(denial) => put_guard_at(alloc, page, option, denial.place, out),
+    let Some(denial) = denial else {
+        return Ok(());
+    };
+    if add_place(told, denial.place)? {
+        put_guard_at(alloc, page, option, denial.place, out)?;
+    }
+    Ok(())
+}
+
+// Writes what denies an option by itself, or else whether its question is denied.
+fn put_option_verdict<W: Write>(is_denied: bool, denial: Option<Denial>, out: &mut Watched<W>)
+    ensures { Puts W.contents out.old out.new (option_verdict is_denied denial) }
+{
+    match denial {
+        Some(denial) => put_denial(denial, out),
+        None => out.put(if is_denied {
+            b"as the question"
+        } else {
+            b"open"
+        }),
     }
 }
 
-// Writes an option. Where an allocation fails, the beginning of its line may be written.
+/// What the options of a question have in common.
+#[derive(Clone, Copy)]
+struct Common<'l> {
+    /// The place of the first LOCKED directly in each scope of the package.
+    locks: &'l BTreeMap<u32, u32>,
+    /// The place of the question.
+    place: u32,
+    /// Whether the question may not be changed.
+    is_denied: bool,
+}
+
+// Writes an option, behind others: these are the places of what denies them. Where an allocation fails, the beginning of its line
+// may be written.
 fn put_option<'a, C: Conditions, W: Write>(
     alloc: Global,
     page: Page<'a, '_, C>,
+    common: Common<'_>,
     option: OptionView<'a>,
+    told: &mut BTreeSet<u32>,
     out: &mut Watched<W>,
 ) -> Result<(), AllocError>
-    requires { IsNodeOf (bytes_of page.policy) (option_node option) }
-    ensures told { OnOk result (Puts W.contents out.old out.new
-        (option_fact (audited page.entry) (option_node option.entry))) }
-    ensures begun { OnErr result (Begins (pen_of W.contents out.old) (pen_of W.contents out.new)
-        (option_fact (audited page.entry) (option_node option.entry))) }
+    requires node { IsNodeOf (bytes_of page.policy) (option_node option) }
+    requires locks { (scope : ℕ)
+        → get nat_cmp common.locks.now scope ≡ first_place (nodes_of (bytes_of page.policy)) scope }
+    ensures told { OnOk result ((places : List ℕ)
+        → ((place : ℕ) → has_place told.old place ≡ is_among place places)
+        → Puts W.contents out.old out.new
+        (option_fact (audited page.entry) common.entry.place common.entry.is_denied places (option_node option.entry))) }
+    ensures places { OnOk result ((places : List ℕ)
+        → ((place : ℕ) → has_place told.old place ≡ is_among place places)
+        → (place : ℕ) → has_place told.new place ≡ is_among place
+        (with_place (own_denial_of (world_of page.entry) common.entry.place (option_node option.entry)) places)) }
+    ensures begun { OnErr result ((places : List ℕ)
+        → ((place : ℕ) → has_place told.old place ≡ is_among place places)
+        → Begins (pen_of W.contents out.old) (pen_of W.contents out.new)
+        (option_fact (audited page.entry) common.entry.place common.entry.is_denied places (option_node option.entry))) }
 {
-    let verdict = verdict_on(page, option);
+    let denial = own_denial(page, common.locks, common.place, option);
     put_column(b"option", out);
     out.put_decimal(option.op().value());
     out.put(b" ");
     put_safe_shown(page.text(option.op().text()).chars(), out);
     out.put(b": ");
-    put_verdict_text(verdict, out);
-    put_deciding(alloc, page, option, verdict, out)?;
+    put_option_verdict(common.is_denied, denial, out);
+    put_deciding(alloc, page, option, denial, told, out)?;
     out.put(b"\n");
     Ok(())
+}
+
+// Whether a question may not be changed.
+fn is_denied<'a, C: Conditions>(page: Page<'a, '_, C>, question: Question<'a>) -> bool
+    requires node { IsNodeOf (bytes_of page.policy) (question_node question) }
+    requires asked { question_view question
+        ≡ asked (nodes_of (bytes_of page.policy)) (question_node question) }
+    ensures { result ≡ is_some (fixed (world_of page.entry) (question_node question.entry)) }
+{
+    page.policy()
+        .question_changeable_by(question, page.conditions())
+        .is_err()
 }
 
 /// Writes the options of a question, by place. Where an allocation fails, the beginning of these lines may be written.
 pub(crate) fn put_options<'a, C: Conditions, W: Write>(
     alloc: Global,
     page: Page<'a, '_, C>,
-    statement: Statement<'a>,
+    question: Question<'a>,
     out: &mut Watched<W>,
 ) -> Result<(), AllocError>
-    requires { IsNodeOf (bytes_of page.policy) (statement_node statement) }
+    requires node { IsNodeOf (bytes_of page.policy) (question_node question) }
+    requires asked { question_view question
+        ≡ asked (nodes_of (bytes_of page.policy)) (question_node question) }
     ensures told { OnOk result (Puts W.contents out.old out.new
-        (option_facts (audited page.entry) (statement_node statement.entry))) }
+        (option_facts (audited page.entry) (question_node question.entry))) }
     ensures begun { OnErr result (Begins (pen_of W.contents out.old) (pen_of W.contents out.new)
-        (option_facts (audited page.entry) (statement_node statement.entry))) }
+        (option_facts (audited page.entry) (question_node question.entry))) }
 {
-    let mut options = page.policy().forms().options_of(statement);
+    let forms = page.policy().forms();
+    let locks = scope_locks(alloc, forms.bytes())?;
+    let common = Common {
+        locks: &locks,
+        place: question.place(),
+        is_denied: is_denied(page, question),
+    };
+    let mut told = BTreeSet::new(alloc);
+    let mut options = forms.options_of(question.statement());
     while let Some(option) = options.next() {
-        put_option(alloc, page, option, out)?;
+        put_option(alloc, page, common, option, &mut told, out)?;
     }
     Ok(())
 }

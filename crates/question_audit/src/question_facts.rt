@@ -13,7 +13,8 @@ ghost use Rattle.guard_policy.specs.code.Views.{bytes_of};
 ghost use Rattle.form_page.specs.code.PageViews.{world_of};
 ghost use Rattle.form_audit.specs.Reach.{TellsReached};
 ghost use Rattle.form_audit.specs.code.Pages.{audited};
-ghost use Rattle.question_audit.specs.QuestionFacts.{BeginsQuestion, TellsQuestion, kind_facts, question_facts, verdict_fact};
+ghost use Rattle.question_audit.specs.QuestionFacts.{BeginsQuestion, TellsQuestion, condition_facts, dependence_facts, kind_facts, question_facts, verdict_fact, verdict_facts};
+ghost use Rattle.question_audit.specs.Reasons.{all_reasons};
 ghost use Rattle.question_audit.specs.code.Beginnings.{Begins};
 
 use crate::condition_facts::{put_checks, put_guards};
@@ -24,14 +25,16 @@ use crate::limits_facts::{put_flags_fact, put_limits_fact, put_outside_fact};
 use crate::opcode_facts::put_opcode_facts;
 use crate::option_facts::put_options;
 use crate::origin::Origin;
+use crate::reasons::{put_also, reasons_of};
+use crate::rule_facts::put_rules;
 use crate::value_facts::put_value_facts;
 use crate::when::When;
 use form_audit::{StoreNames, Ways};
 use form_page::Page;
-use guard_policy::Conditions;
+use guard_policy::{Conditions, Denial};
 use hii_bytes::{Fault, Watched};
 use hii_questions::Question;
-use std::alloc::Global;
+use std::alloc::{AllocError, Global};
 use std::io::Write;
 
 // Writes whether a question may be changed.
@@ -68,6 +71,72 @@ fn put_kind_facts<'a, C: Conditions, W: Write>(
     put_outside_fact(question, out);
 }
 
+// Writes whether a question may be changed, and why else it may not be: these are all reasons.
+fn put_verdict_facts<'a, C: Conditions, W: Write>(
+    page: Page<'a, '_, C>,
+    question: Question<'a>,
+    reasons: &[Denial],
+    out: &mut Watched<W>,
+)
+    requires node { IsNodeOf (bytes_of page.policy) (question_node question) }
+    requires asked { question_view question
+        ≡ asked (nodes_of (bytes_of page.policy)) (question_node question) }
+    requires reasons { reasons.now ≡ all_reasons (world_of page) (question_view question) }
+    ensures { Puts W.contents out.old out.new
+        (verdict_facts (audited page.entry) (question_view question.entry)) }
+{
+    put_verdict_fact(page, question, out);
+    put_also(reasons, out);
+}
+
+// Writes the conditions around a question and in it, the rules that they name, and its options. Where an allocation fails, the
+// beginning of these lines may be written.
+fn put_condition_facts<'a, C: Conditions, W: Write>(
+    alloc: Global,
+    page: Page<'a, '_, C>,
+    package_place: u64,
+    question: Question<'a>,
+    out: &mut Watched<W>,
+) -> Result<(), AllocError>
+    requires node { IsNodeOf (bytes_of page.policy) (question_node question) }
+    requires asked { question_view question
+        ≡ asked (nodes_of (bytes_of page.policy)) (question_node question) }
+    requires in_list { package_place + length (bytes_of page.policy) < 2 ^ 64 }
+    ensures told { OnOk result (Puts W.contents out.old out.new
+        (condition_facts (audited page.entry) package_place (question_node question.entry))) }
+    ensures begun { OnErr result (Begins (pen_of W.contents out.old) (pen_of W.contents out.new)
+        (condition_facts (audited page.entry) package_place (question_node question.entry))) }
+{
+    put_guards(alloc, page, package_place, question.statement(), out)?;
+    put_checks(alloc, page, package_place, question, out)?;
+    put_rules(alloc, page, package_place, question, out)?;
+    put_options(alloc, page, question, out)?;
+    Ok(())
+}
+
+// Writes on which questions a question depends, and which depend on it. Where an allocation fails, the beginning of these lines may
+// be written.
+fn put_dependence_facts<'a, C: Conditions, W: Write>(
+    alloc: Global,
+    page: Page<'a, '_, C>,
+    names: &StoreNames<'a>,
+    question: Question<'a>,
+    out: &mut Watched<W>,
+) -> Result<(), AllocError>
+    requires node { IsNodeOf (bytes_of page.policy) (question_node question) }
+    requires names { names.now ≡ bytes_of page.policy }
+    ensures told { OnOk result (Puts W.contents out.old out.new
+        (dependence_facts (audited page.entry) (question_node question.entry))) }
+    ensures begun { OnErr result (Begins (pen_of W.contents out.old) (pen_of W.contents out.new)
+        (dependence_facts (audited page.entry) (question_node question.entry))) }
+{
+    let statement = question.statement();
+    put_depends(alloc, page, names, statement, When::AtCommands, out)?;
+    put_depends(alloc, page, names, statement, When::AtOpening, out)?;
+    put_decides(alloc, page, question, out)?;
+    Ok(())
+}
+
 // Writes what is known of a question, a line for each fact. Where an allocation fails, the beginning of these lines may be written.
 fn put_question_facts<'a, C: Conditions, W: Write>(
     alloc: Global,
@@ -95,17 +164,13 @@ fn put_question_facts<'a, C: Conditions, W: Write>(
     let ways = Ways::read(alloc, page)?;
     let names = StoreNames::read(alloc, page.policy().forms())?;
     let mut spare = page.stores().copy(alloc)?;
-    let statement = question.statement();
+    let reasons = reasons_of(alloc, page, question)?;
     put_opcode_facts(page, &ways, &names, origin, question, out);
     put_kind_facts(page, question, out);
     put_value_facts(page, question, &mut spare, out);
-    put_verdict_fact(page, question, out);
-    put_guards(alloc, page, origin.place, statement, out)?;
-    put_checks(alloc, page, origin.place, question, out)?;
-    put_options(alloc, page, statement, out)?;
-    put_depends(alloc, page, &names, statement, When::AtCommands, out)?;
-    put_depends(alloc, page, &names, statement, When::AtOpening, out)?;
-    put_decides(alloc, page, question, out)?;
+    put_verdict_facts(page, question, &reasons, out);
+    put_condition_facts(alloc, page, origin.place, question, out)?;
+    put_dependence_facts(alloc, page, &names, question, out)?;
     Ok(())
 }
 

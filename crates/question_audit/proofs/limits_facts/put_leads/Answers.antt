@@ -1,4 +1,4 @@
-use Rattle.std.proofs.Common.{ap, sym}
+use Rattle.std.proofs.Common.{ap}
 use Rattle.hii_bytes.proofs.WritingLemmas.{◌⨾◌}
 use Rattle.ifr_opcodes.specs.code.Ops.{bytes_of}
 use Rattle.condition_text.proofs.WriteLemmas.{written_as}

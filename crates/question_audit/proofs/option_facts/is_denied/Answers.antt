@@ -1,0 +1,20 @@
+use Rattle.std.proofs.Common.{◌∙◌, ap, refl}
+use Rattle.hii_questions.specs.code.Views.{question_node}
+use Rattle.guard_policy.specs.Policy.{fixed}
+use Rattle.guard_policy.specs.code.Answers.{unless}
+use Rattle.guard_policy.specs.code.Views.{world}
+use Rattle.guard_policy.specs.declared.policy.Policy.{Policy}
+use Rattle.guard_policy.specs.declared.support.Decision.TheVariants.{Changeable}
+use Rattle.form_audit.proofs.KeptLemmas.{kept_told}
+use Rattle.question_audit.proofs.OptionLemmas.{error_where_denied}
+use Rattle.question_audit.proofs.option_facts.is_denied.Goals as goal
+
+pub returns : goal.returns
+returns g c =
+    let page = c.args.page in
+    let stores = page.stores.now in
+    let n = question_node c.args.question in
+    let statement = c.args.question.statement in
+    let tells = kept_told page.policy c.policy.result stores (g.C.Conditions.holding c.conditions.result.now) (Changeable statement) c.policy.ensures c.conditions.ensures c.requires.node refl in
+    let verdict = c.question_changeable_by.ensures statement refl stores tells ∙ ap (λ (p : Policy). unless (fixed (world p stores) n)) c.policy.ensures in
+    c.is_err.ensures.value ∙ error_where_denied _ (fixed (world page.policy stores) n) verdict
