@@ -60,7 +60,7 @@ denies policy core shown q offer now denial same its sets = (sets.1 shown.state 
 
 -- the spare stores follow in the field
 pub stands_set : (core : Inside) (now : KeptMap) (spare : StoreMap) (field : Field) → IsStanding core → now ≡ put_in core.working field → spare ≡ with_bytes core.spare field.store field.offset (new_bytes field)
-    → shape_of spare ≡ shape_of core.spare → IsStandingWith core now spare true
+    → shape_of spare ≡ shape_of core.spare → IsStandingWith core now spare true None
 stands_set core now spare field stands is follows shape =
     stands_with core now spare true stands (ap (λ (m : KeptMap). m.ifr) is) (shape ∙ ap shape_of stands.same ∙ stands.laid)
     (follows ∙ ap (λ (m : StoreMap). with_bytes m field.store field.offset (new_bytes field)) stands.same ∙ sym (ap (λ (m : KeptMap). m.stores) is))

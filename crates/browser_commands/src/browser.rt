@@ -17,7 +17,7 @@ ghost use Rattle.session_steps.specs.Opening.{HasSource, Opens, IsOpenFault, IsS
 use crate::history::History;
 use crate::opening::{hold_stores, read_form_set};
 use crate::varstores::Varstores;
-use guard_policy::{Policy, Removed};
+use guard_policy::{Denial, Policy, Removed};
 use hii_bytes::Fault;
 use hii_languages::{Choice, Languages};
 use hii_packages::{Package, PackageList};
@@ -46,6 +46,8 @@ pub struct Browser<'a> {
     pub(crate) spare: Stores,
     // whether the working stores may hold other bytes than when they were last submitted
     pub(crate) is_written: bool,
+    // whether the working stores may be submitted, where this was asked since they were written
+    pub(crate) submission: Option<Result<(), Denial>>,
     // the ids of the questions that a submit tells, with room for all
     pub(crate) changed: Vec<u16>,
     pub(crate) form: Form<'a>,
@@ -77,7 +79,8 @@ impl<'a> Model for Browser<'a> {
     } };
 
     ghost invariant = { λ c. Stands c.forms c.varstores c.questions c.committed c.working c.spare
-        c.is_written (vec_capacity c.changed) (form_node c.form) c.history.items };
+        c.is_written (vec_capacity c.changed) (form_node c.form) c.history.items c.removed
+        c.submission };
 }
 
 impl<'a> Browser<'a> {
@@ -115,6 +118,7 @@ impl<'a> Browser<'a> {
             working: held.working,
             spare: held.spare,
             is_written: false,
+            submission: None,
             changed: held.changed,
             form,
             history: History::new(),

@@ -4,6 +4,7 @@ ghost use Rattle.std.specs.Prelude.{◌≡◌, option_copied};
 ghost use Rattle.hii_questions.specs.Changes.{field_bytes};
 ghost use Rattle.hii_questions.specs.code.ItemsLeft.{items_left};
 ghost use Rattle.hii_questions.specs.code.LyingIn.{LiesIn};
+ghost use Rattle.hii_questions.specs.code.NewBytes.{new_items};
 ghost use Rattle.hii_questions.specs.code.Offers.{offer_of, IsGiven};
 ghost use Rattle.hii_questions.specs.code.Views.{question_node, question_view};
 ghost use Rattle.hii_varstore.specs.Stores.{shape_of};
@@ -18,6 +19,9 @@ use hii_questions::{Field, Input, Items, Question, check_value};
 use hii_varstore::Stores;
 use ifr_scopes::Around;
 use kept_conditions::KeptStores;
+
+// Up to how many bytes a field has so few elements that each is looked for by itself: what is kept for many would take longer.
+const NARROW: usize = 8;
 
 /// Gives a question a value, or tells why it may not have it. The working stores then hold what they held, as the spare ones do,
 /// or new bytes in the question's field.
@@ -75,12 +79,12 @@ fn new_field<'a, 's, 'i>(
         (offer_of input.entry) result }
 {
     let field = check_value(question, input)?;
-    options_open(policy, question, around, field.items(), working)?;
+    options_open(policy, question, around, field, working)?;
     Ok(field)
 }
 
-// Whether an option of each of these values of a question that is not fixed may be chosen.
-fn options_open<'a, 's>(
+// Whether an option of each of these values of a question that is not fixed may be chosen: each is looked for by itself.
+fn each_option_open<'a, 's>(
     policy: Policy<'a, 's>,
     question: Question<'a>,
     around: Around<'s, 'a>,
@@ -97,6 +101,52 @@ fn options_open<'a, 's>(
         working.option_open_within(policy, question, value, around)?;
     }
     Ok(())
+}
+
+// The same, where one walk over the options finds the values of which an option may be chosen.
+fn all_options_open<'a, 's>(
+    policy: Policy<'a, 's>,
+    question: Question<'a>,
+    around: Around<'s, 'a>,
+    values: Items<'_>,
+    working: &KeptStores<'a>,
+) -> Result<(), Denial>
+    requires { IsFreeQuestion policy working.now question around }
+    ensures { result
+        ≡ unless (first_closed (world policy.entry working.now.stores) (question_node question.entry)
+        (items_left values.entry)) }
+{
+    let met = working.open_values(policy, question, values, around);
+    let mut values = values;
+    while let Some(value) = values.next() {
+        if !met.has_met(value) {
+            working.option_open_within(policy, question, value, around)?;
+        }
+    }
+    Ok(())
+}
+
+// Whether an option of each of the values that new bytes of a field name, of a question that is not fixed, may be chosen: of a number,
+// or of the elements of a list.
+fn options_open<'a, 's>(
+    policy: Policy<'a, 's>,
+    question: Question<'a>,
+    around: Around<'s, 'a>,
+    field: Field<'_>,
+    working: &KeptStores<'a>,
+) -> Result<(), Denial>
+    requires { IsFreeQuestion policy working.now question around }
+    ensures { result
+        ≡ unless (first_closed (world policy.entry working.now.stores) (question_node question.entry)
+        (new_items field.entry)) }
+{
+    let values = field.items();
+    match values {
+        Items::List(_) | Items::Stored(_) if field.width > NARROW => {
+            all_options_open(policy, question, around, values, working)
+        }
+        _ => each_option_open(policy, question, around, values, working),
+    }
 }
 
 // The bytes of the field of a question, if it has one.

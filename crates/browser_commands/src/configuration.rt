@@ -101,6 +101,7 @@ impl<'a> Browser<'a> {
         let store = self.store_named(response.header())?;
         blocks_are_few(response);
         self.is_written = true;
+        self.submission = None;
         let policy = Policy::new(&self.forms, &self.questions, &self.removed);
         set_blocks(
             policy,

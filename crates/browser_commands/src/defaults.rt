@@ -175,6 +175,7 @@ pub(crate) fn take_defaults(core: &mut Browser<'_>, class: u16) -> u64
     statements_are_few();
     statements_are_nodes();
     core.is_written = true;
+    core.submission = None;
     let sources = Sources {
         policy: Policy::new(&core.forms, &core.questions, &core.removed),
         questions: &core.questions,

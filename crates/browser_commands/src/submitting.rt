@@ -34,13 +34,27 @@ impl<'a> Browser<'a> {
         self.working.copy_from(policy, &self.spare, &self.committed);
         self.spare.copy_from(&self.committed);
         self.is_written = false;
+        self.submission = None;
     }
 
-    // Whether the working stores may be submitted.
+    // Whether the working stores may be submitted. No condition is asked where this was asked since they were written.
     fn may_submit(&self) -> Result<(), Denial>
         ensures { result ≡ unless (unsubmitted (world_of self.now.state)) }
     {
-        self.working.may_submit(self.policy())
+        match self.submission {
+            Some(answer) => answer,
+            None => self.working.may_submit(self.policy()),
+        }
+    }
+
+    // Whether the working stores may be submitted, which is kept until they are written.
+    fn ask_submission(&mut self) -> Result<(), Denial>
+        ensures answer { result ≡ unless (unsubmitted (world_of self.old.state)) }
+        ensures same { self.new ≡ self.old }
+    {
+        let answer = self.may_submit();
+        self.submission = Some(answer);
+        answer
     }
 
     // Submits the working stores, or writes why they may not be submitted.
@@ -50,7 +64,7 @@ impl<'a> Browser<'a> {
         ensures reply { result ≡ (submitted self.old.state).reply }
         ensures renewed { self.new.renewed ≡ self.old.renewed }
     {
-        match self.may_submit() {
+        match self.ask_submission() {
             Ok(()) => {
                 self.commit(out);
                 Reply::Accepted

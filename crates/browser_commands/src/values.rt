@@ -126,6 +126,7 @@ impl<'a> Browser<'a> {
             result) }
     {
         self.is_written = true;
+        self.submission = None;
         let policy = Policy::new(&self.forms, &self.questions, &self.removed);
         let field = give_value(policy, question, input, &mut self.working, &self.spare)?;
         out.put(b"OK\n");

@@ -5,5 +5,6 @@ pub mod WholeTexts
 pub mod PieceLemmas
 pub mod FrontLemmas
 pub mod ValueLemmas
+pub mod SeenLemmas
 pub mod PasswordLemmas
 pub mod ColumnLemmas

@@ -8,4 +8,5 @@ pub mod ListedViews
 pub mod PageViews
 pub mod Pieces
 pub mod RowViews
+pub mod SeenTexts
 pub mod Views

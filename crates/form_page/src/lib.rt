@@ -15,6 +15,7 @@ mod print;
 mod row;
 mod row_value;
 mod rows;
+mod seen_texts;
 mod shown;
 mod statement_row;
 mod statement_value;

@@ -11,10 +11,12 @@ ghost use Rattle.hii_languages.specs.code.Views.{text_of};
 ghost use Rattle.guard_policy.specs.code.Effects.{AreEffectsBy};
 ghost use Rattle.guard_policy.specs.code.Views.{bytes_of};
 ghost use Rattle.form_page.specs.code.PageViews.{texts_of, world_of};
+ghost use Rattle.form_page.specs.code.SeenTexts.{TellTexts};
 ghost use Rattle.form_page.specs.RowValues.{choice, option_with};
 
 use crate::decisions::is_option_listed;
 use crate::page::Page;
+use crate::seen_texts::SeenTexts;
 use guard_policy::{Conditions, Effects};
 use hii_languages::Shown;
 use hii_questions::StoredItems;
@@ -70,6 +72,27 @@ pub(crate) fn option_text<'a, C: Conditions>(
 {
     let option = seen_option(page, statement, value)?;
     Some(page.languages.text(page.choice, option.op().text()))
+}
+
+/// The text of the first option of a question, by place, that has a value and is not hidden, with the texts that were found for some
+/// values.
+pub(crate) fn text_among<'a, C: Conditions>(
+    page: Page<'a, '_, C>,
+    statement: Statement<'a>,
+    value: u64,
+    texts: &SeenTexts,
+) -> Option<Shown<'a>>
+    requires node { IsNodeOf (bytes_of page.policy) (statement_node statement) }
+    requires told { TellTexts (world_of page) (options (statement_node statement)) texts.now }
+    ensures { option_map text_of result
+        ≡ choice (texts_of page.entry) (world_of page.entry)
+        (statement_node statement.entry) value }
+{
+    if !texts.tells(value) {
+        return option_text(page, statement, value);
+    }
+    let text = texts.find(value)?;
+    Some(page.languages.text(page.choice, text))
 }
 
 /// The elements of a list that are left, each shown as the text of the option of its value.

@@ -10,13 +10,18 @@ ghost use Rattle.form_page.specs.code.Lines.{Adds};
 ghost use Rattle.form_page.specs.code.RowViews.{value_text};
 
 use crate::line::Line;
-use crate::option_texts::Elements;
+use crate::option_texts::{Elements, text_among};
 use crate::row_value::RowValue;
+use crate::seen_texts::SeenTexts;
 use crate::shown::{put_text, put_units};
 use guard_policy::Conditions;
 use hii_bytes::Watched;
 use hii_languages::Shown;
+use ifr_scopes::{Statement, StatementKind};
 use std::io::Write;
+
+// How many elements are few.
+const FEW: u8 = 8;
 
 // Adds the text of an option, or a question mark where none is to be seen.
 fn put_choice<W: Write>(choice: Option<Shown<'_>>, line: &mut Line, out: &mut Watched<W>)
@@ -39,8 +44,16 @@ fn put_one_of<W: Write>(option: Option<Shown<'_>>, line: &mut Line, out: &mut Wa
     line.put_byte(b'>', out);
 }
 
+// Whether a list has so few elements that each is looked for by itself: what is kept for many would take longer.
+fn has_few(statement: Statement<'_>) -> bool {
+    match statement.kind() {
+        StatementKind::OrderedList(list) => list.max_containers() <= FEW,
+        _ => false,
+    }
+}
+
 // Adds the texts of elements, with a comma and a space between.
-fn put_elements<C: Conditions, W: Write>(
+fn put_few<C: Conditions, W: Write>(
     elements: Elements<'_, '_, C>,
     line: &mut Line,
     out: &mut Watched<W>,
@@ -56,6 +69,45 @@ fn put_elements<C: Conditions, W: Write>(
     while let Some(next) = elements.step() {
         line.put(b", ", out);
         put_choice(next, line, out);
+    }
+}
+
+// The same, where one walk over the options finds the texts.
+fn put_many<C: Conditions, W: Write>(
+    elements: Elements<'_, '_, C>,
+    line: &mut Line,
+    out: &mut Watched<W>,
+)
+    ensures { Adds (pen_of W.contents out.old) line.old (pen_of W.contents out.new) line.new
+        (utf8 (list_text (elements_left elements.entry))) }
+{
+    let mut items = elements.items;
+    let texts = SeenTexts::of(elements.page, elements.statement, items);
+    let Some(first) = items.step() else {
+        return;
+    };
+    let choice = text_among(elements.page, elements.statement, first, &texts);
+    put_choice(choice, line, out);
+    while let Some(next) = items.step() {
+        line.put(b", ", out);
+        let choice = text_among(elements.page, elements.statement, next, &texts);
+        put_choice(choice, line, out);
+    }
+}
+
+// Adds the texts of elements, with a comma and a space between.
+fn put_elements<C: Conditions, W: Write>(
+    elements: Elements<'_, '_, C>,
+    line: &mut Line,
+    out: &mut Watched<W>,
+)
+    ensures { Adds (pen_of W.contents out.old) line.old (pen_of W.contents out.new) line.new
+        (utf8 (list_text (elements_left elements.entry))) }
+{
+    if has_few(elements.statement) {
+        put_few(elements, line, out);
+    } else {
+        put_many(elements, line, out);
     }
 }
 

@@ -4,6 +4,7 @@ pub mod AskedLeft
 pub mod Bytes
 pub mod Effects
 pub mod KeptConditions
+pub mod OpenValues
 pub mod Standings
 pub mod SupportLeft
 pub mod Surroundings

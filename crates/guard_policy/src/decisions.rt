@@ -185,9 +185,9 @@ impl<'a, 's> Policy<'a, 's> {
         self.seen_at(form.place(), 0, &ByConditions { conditions })
     }
 
-    // Whether an option may be chosen, as far as it goes: not where it is not shown, a GRAY_OUT_IF around it holds or it is
-    // locked. It stands beside others, with the denials of the guards that were asked last.
-    fn option_selectable<V: Verdicts<'a>>(
+    /// Whether an option may be chosen, as far as it goes: not where it is not shown, a GRAY_OUT_IF around it holds or it is
+    /// locked. It stands beside others, with the denials of the guards that were asked last.
+    pub(crate) fn option_selectable<V: Verdicts<'a>>(
         &self,
         option: OptionView<'a>,
         last: &mut Effects,

@@ -11,6 +11,7 @@ mod decisions;
 mod denial;
 mod effects;
 pub mod laws;
+mod open_values;
 mod option_conditions;
 mod policy;
 mod removed;

@@ -78,7 +78,7 @@ impl<'a, 's> Policy<'a, 's> {
             (no_submit_node nosubmit.entry) }
     {
         let condition = AnyCondition::Question(nosubmit.condition);
-        !self.is_removed(&nosubmit) && verdicts.is_met(condition)
+        verdicts.is_met(condition) && !self.is_removed(&nosubmit)
     }
 
     // Whether stores may be submitted, by conditions from anywhere.

@@ -19,3 +19,4 @@ pub mod NamedLemmas
 pub mod MergeLemmas
 pub mod StepLemmas
 pub mod ReadLemmas
+pub mod MetLemmas

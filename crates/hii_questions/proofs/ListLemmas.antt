@@ -1,5 +1,5 @@
 -- Elements one after the other.
-use Rattle.std.proofs.Common.{◌≡◌, ◌==◌, ℕ, zero, suc, ◌+◌, ◌-◌, ◌≤◌, Bool, true, false, cond, Option, Some, None, List, [], ◌∷◌, ◌++◌, length, take, sym, ap, ◌∙◌, arith, refl, length-append, append_assoc}
+use Rattle.std.proofs.Common.{◌≡◌, ◌==◌, ℕ, ◌+◌, ◌-◌, ◌≤◌, Bool, true, false, cond, Option, Some, None, List, [], ◌∷◌, ◌++◌, length, take, sym, ap, ◌∙◌, arith, refl, length-append, append_assoc, zero, suc}
 use Rattle.std.proofs.Common.{◌&&◌, ◌||◌, ◌*◌, not, leb, ltb, Ok, inl, inr}
 use Rattle.std.proofs.Math.Nat.{mul-le-mul_right}
 use Rattle.std.proofs.lemmas.Bool.{cases_Bool, ne_eqb, leb-true, le-ltb}
@@ -10,6 +10,7 @@ use Rattle.hii_questions.specs.Inputs.{is_offered, denial_of, elements_behind, e
 use Rattle.hii_questions.specs.Items.{spelled, filled}
 use Rattle.hii_questions.specs.code.Fitting.{denial_behind}
 use Rattle.hii_questions.specs.declared.denial.DenialKind.{DenialKind}
+use Rattle.hii_questions.specs.declared.denial.DenialKind.TheVariants.{NoOption}
 use Rattle.std.proofs.lemmas.List.{take_at}
 use Rattle.std.specs.List.{list_any, find}
 use Rattle.std.specs.Option.{is_some, option_and_then}
@@ -23,6 +24,10 @@ among_more wanted (suc n) item items rest is some other =
     let first = ne_eqb item wanted other in
     rw (is, less, first) refl
 
+-- the items before those that are left
+abbrev pub before_of : List ℕ → List ℕ → List ℕ
+before_of all left = take (length all - length left) all
+
 -- one more item before the others
 pub before_more : (count item : ℕ) (all items rest : List ℕ) → take count all ++ items ≡ all → items ≡ item ∷ rest → count + length items ≡ length all
     → take (count + 1) all ≡ take count all ++ item ∷ []
@@ -32,6 +37,24 @@ before_more count item all items rest whole is counted =
     let sum = length-append (take count all) items in
     let sized : length (take count all ++ item ∷ []) ≡ count + 1 = length-append (take count all) (item ∷ []) ∙ omega (arith, lengths, sum, counted) in
     ap (take (count + 1)) (sym e) ∙ take_at (take count all ++ item ∷ []) rest (count + 1) sized
+
+pub before_one : (item : ℕ) (all left rest : List ℕ) → before_of all left ++ left ≡ all → left ≡ item ∷ rest → length left ≤ length all
+    → before_of all rest ≡ before_of all left ++ item ∷ []
+before_one item all left rest whole is few =
+    let e = ap (length {A = ℕ}) is in
+    let next : length all - length rest ≡ (length all - length left) + 1 = omega (arith, e, few) in
+    ap (λ n. take n all) next ∙ before_more (length all - length left) item all left rest whole is (omega (arith, few))
+
+pub none_before : (all left : List ℕ) → left ≡ all → before_of all left ≡ []
+none_before all left is =
+    let e = ap (length {A = ℕ}) is in
+    let none : length all - length left ≡ 0 = omega (arith, e) in
+    ap (λ n. take n all) none
+
+-- an element that is 0, or that no option has
+pub element_denied : (values : List ℕ) (unique : Bool) (before : List ℕ) (item : ℕ) (rest : List ℕ) → ((item == 0) || not (is_offered values item)) ≡ true
+    → denial_behind values unique before (item ∷ rest) ≡ Some NoOption
+element_denied values unique before item rest bad = rw bad refl
 
 -- an element that is fine, and stands before others
 pub element_more : (values : List ℕ) (unique : Bool) (before : List ℕ) (item : ℕ) (rest : List ℕ) → (item ≡ 0 → ⊥) → is_offered values item ≡ true

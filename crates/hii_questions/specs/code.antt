@@ -13,6 +13,7 @@ pub mod ItemsLeft
 pub mod Lists
 pub mod LyingIn
 pub mod Merging
+pub mod MetValues
 pub mod NewBytes
 pub mod Numbers
 pub mod Offers

@@ -3,20 +3,24 @@
 //! Each gives what is kept to the call of the policy that decides by such values: so a command goes over the guards around its
 //! statement and evaluates none of their conditions. The answer is that of the policy over the stores.
 
-ghost use Rattle.std.specs.Prelude.{◌≡◌, IfOk, None};
+ghost use Rattle.std.specs.Prelude.{◌≡◌, ◌==◌, ◌&&◌, ℕ, IfOk, None, take};
+ghost use Rattle.std.specs.List.{list_any};
 ghost use Rattle.ifr_nodes.specs.code.Checked.{IsNodeOf};
 ghost use Rattle.ifr_scopes.specs.code.Lists.{form_node, statement_node};
-ghost use Rattle.ifr_nodes.specs.Nodes.{nodes_of};
+ghost use Rattle.ifr_nodes.specs.Nodes.{nodes_of, options};
 ghost use Rattle.hii_questions.specs.Fields.{asked};
+ghost use Rattle.hii_questions.specs.code.ItemsLeft.{items_left};
+ghost use Rattle.hii_questions.specs.code.MetValues.{is_met, is_sought};
 ghost use Rattle.hii_questions.specs.code.Views.{question_node, question_view};
 ghost use Rattle.guard_policy.specs.Policy.{closed, fixed, hidden, unsubmitted};
 ghost use Rattle.guard_policy.specs.code.Answers.{unless};
+ghost use Rattle.guard_policy.specs.code.OpenValues.{opens};
 ghost use Rattle.guard_policy.specs.code.Surroundings.{IsAroundNode, answer_of};
 ghost use Rattle.guard_policy.specs.code.Views.{bytes_of, world};
 
 use crate::cache::KeptStores;
 use guard_policy::{Denial, Policy};
-use hii_questions::Question;
+use hii_questions::{Items, MetValues, Question};
 use ifr_scopes::{Around, Form, Statement};
 
 impl<'a> KeptStores<'a> {
@@ -92,6 +96,29 @@ impl<'a> KeptStores<'a> {
             (closed (world policy.entry self.now.stores) (question_node question.entry) value) }
     {
         policy.option_open_within_by(question, value, around, self.kept())
+    }
+
+    /// Which of some values of its options a question may be given that may be changed over these stores, with what stands around
+    /// it at hand: of the first 255 of them those are met of which an option may be chosen, found in one walk over the options. Of
+    /// each other `option_open_within` tells what denies it.
+    pub fn open_values<'s>(
+        &self,
+        policy: Policy<'a, 's>,
+        question: Question<'a>,
+        values: Items<'_>,
+        around: Around<'s, 'a>,
+    ) -> MetValues
+        requires package { bytes_of policy ≡ self.now.ifr }
+        requires node { IsNodeOf (bytes_of policy) (question_node question) }
+        requires around { IsAroundNode (bytes_of policy) (question_node question) around }
+        requires free { fixed (world policy self.now.stores) (question_node question) ≡ None }
+        ensures sought { (v : ℕ) → is_sought result v
+            ≡ list_any (λ item. item == v) (take 255 (items_left values.entry)) }
+        ensures met { (v : ℕ) → is_met result v ≡ (is_sought result v
+            && list_any (opens (world policy.entry self.now.stores) v)
+            (options (question_node question.entry))) }
+    {
+        policy.open_values_by(question, values, around, self.kept())
     }
 
     /// Whether these stores may be submitted, as the policy decides it.

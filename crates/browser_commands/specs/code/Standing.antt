@@ -16,6 +16,9 @@ use Rattle.hii_questions.specs.code.Survey.{Survey}
 use Rattle.hii_questions.specs.code.Views.{question_node, question_view}
 use Rattle.hii_questions.specs.declared.question.Question.{Question}
 use Rattle.hii_questions.specs.declared.input.Input.{Input}
+use Rattle.guard_policy.specs.Policy.{unsubmitted}
+use Rattle.guard_policy.specs.World.{world_over}
+use Rattle.guard_policy.specs.code.Answers.{unless}
 use Rattle.guard_policy.specs.declared.denial.Denial.{Denial}
 use Rattle.session_steps.specs.Configuration.{store_named}
 use Rattle.kept_conditions.specs.Kept.{KeptMap}
@@ -29,10 +32,11 @@ use Rattle.session_steps.specs.Step.{Outcome, accepted, denied, no_question, war
 
 -- The package can be browsed, the questions, the stores and what is kept of conditions are its own, no two stores have one id,
 -- the spare stores are the working ones, these hold what was last submitted unless they were written, there is room for the ids of
--- all questions, and the form and those of the history are among its nodes.
+-- all questions, the form and those of the history are among its nodes, and what is known of a submission is what decides on it.
 pub record Stands (ifr : List ℕ) (varstores : List ℕ) (questions : Survey)
     (committed : StoreMap) (working : KeptMap) (spare : StoreMap) (is_written : Bool) (room : ℕ)
-    (form : Node) (history : List ℕ) : Type 0 where
+    (form : Node) (history : List ℕ) (removed : List ℕ)
+    (submission : Option (Result (Unit {0}) Denial)) : Type 0 where
   pub named_stores : varstores ≡ ifr
   pub buffers : AreBuffers (layout_in ifr).buffers
   pub together : questions.ifr ≡ ifr
@@ -45,6 +49,8 @@ pub record Stands (ifr : List ℕ) (varstores : List ℕ) (questions : Survey)
   pub told : length (fields.questions (nodes_of ifr)) ≤ room
   pub node : IsNodeOf ifr form
   pub left : All (λ place. has_form ifr place ≡ true) history
+  pub asked : (answer : Result (Unit {0}) Denial) → submission ≡ Some answer
+      → answer ≡ unless (unsubmitted (world_over (nodes_of ifr) removed working.stores))
 
 -- The question is one of the package.
 pub record IsQuestionIn (ifr : List ℕ) (q : fields.Asked) : Type 0 where

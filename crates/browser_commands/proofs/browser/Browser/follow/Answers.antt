@@ -22,4 +22,5 @@ invariant_of-self c =
       told = c.self.invariant.told;
       node = subst (λ (s : State). IsNodeOf s.ifr (form_node c.in_ok-form.form)) (sym (seen c.self.view_is)) c.in_ok-form.ensures.0;
       left = all_and_one (λ (p : ℕ). has_form c.self.inside.forms p ≡ true) c.self.inside.history.items c.push.new.self.items c.place.result c.self.invariant.left there c.push.ensures.items;
+      asked = c.self.invariant.asked;
     }

@@ -67,6 +67,7 @@ invariant_of-result c =
       told = held.room;
       node = c.first_form-form.ensures.node;
       left = search rules;
+      asked = λ answer e. absurd cc;
     }
 
 pub returns-clause-opened : goal.returns-clause-opened

@@ -38,6 +38,7 @@ invariant_of-self c =
       told = c.self.invariant.told;
       node = c.self.invariant.node;
       left = c.self.invariant.left;
+      asked = λ answer e. absurd cc;
     }
 
 pub returns : goal.returns

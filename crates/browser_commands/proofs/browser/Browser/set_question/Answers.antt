@@ -1,4 +1,4 @@
-use Rattle.std.proofs.Common.{true, List, ℕ, sym, ap, subst}
+use Rattle.std.proofs.Common.{true, None, List, ℕ, sym, ap, subst}
 use Rattle.std.proofs.lemmas.Result.{err_from_is_err_and}
 use Rattle.hii_bytes.specs.Watching.{pen_of, Writes}
 use Rattle.hii_bytes.proofs.WritingLemmas.{writes_nil, ◌⨾◌}
@@ -64,7 +64,7 @@ returns-clause-text g c =
     subst (λ (o : Outcome). Writes (pen_of g.W.Write.contents c.args.out.now) (pen_of g.W.Write.contents c.put_warnings.new.out) o.text) (sym made.0) (c.put.ensures ⨾ told)
 
 pub invariant_of-self : goal.invariant_of-self
-invariant_of-self g c = stands_still c.self.inside c.give_value.new.working true c.self.invariant (ap (λ (m : KeptMap). m.ifr) c.in_err-field.ensures.0) (ap (λ (m : KeptMap). m.stores) c.in_err-field.ensures.0) (λ e. absurd cc)
+invariant_of-self g c = stands_still c.self.inside c.give_value.new.working true None c.self.invariant (ap (λ (m : KeptMap). m.ifr) c.in_err-field.ensures.0) (ap (λ (m : KeptMap). m.stores) c.in_err-field.ensures.0) (λ e. absurd cc) (λ answer e. absurd cc)
 
 pub invariant_of-self-2 : goal.invariant_of-self-2
 invariant_of-self-2 g c = stands_set c.self.inside c.give_value.new.working c.put-2.new.stores c.in_ok-field.field c.self.invariant c.in_ok-field.ensures.0 c.put-2.ensures.written c.put-2.ensures.shape

@@ -1,0 +1,14 @@
+use Rattle.std.proofs.Common.{length}
+use Rattle.hii_bytes.specs.Watching.{pen_of}
+use Rattle.form_page.specs.RowValues.{later_text, list_text}
+use Rattle.form_page.specs.Texts.{utf8}
+use Rattle.form_page.specs.code.Elements.{elements_left}
+use Rattle.form_page.proofs.LineLemmas.{AddsFront}
+use Rattle.form_page.proofs.value_bytes.put_few.Given as goal
+
+-- the elements before those that are left were added
+abbrev pub invariant-loop-next : goal.invariant-loop-next
+invariant-loop-next g l = AddsFront (pen_of g.W.Write.contents l.fn.out) (pen_of g.W.Write.contents l.out) l.fn.line l.line (utf8 (list_text (elements_left l.fn.elements))) (utf8 (later_text (elements_left l.elements)))
+
+abbrev pub decreases-loop-next : goal.decreases-loop-next
+decreases-loop-next g l = length (elements_left l.elements)
