@@ -3,9 +3,9 @@
 _setup_words() {
     local word=${COMP_WORDS[COMP_CWORD]} before=${COMP_WORDS[COMP_CWORD - 1]}
     case $before in
-        --list | --stores | --out | --dump) mapfile -t COMPREPLY < <(compgen -f -- "$word"); return ;;
+        --list | --stores | --out | --dump | --config | --with) mapfile -t COMPREPLY < <(compgen -f -- "$word"); return ;;
         --efivars) mapfile -t COMPREPLY < <(compgen -d -- "$word"); return ;;
-        --forms | --take | --id | --lang | --store) return ;;
+        --forms | --take | --id | --lang | --store | --defaults) return ;;
     esac
     mapfile -t COMPREPLY < <(compgen -W "$1" -- "$word")
 }
@@ -17,11 +17,14 @@ _setup() {
 _setup_audit() {
     case ${COMP_WORDS[1]} in
         split) _setup_words "--dump --take --out --help" ;;
-        stores) _setup_words "--list --take --headers --forms --help" ;;
-        image) _setup_words "--list --take --out --store --efivars --zero --forms --help" ;;
+        stores) _setup_words "--list --take --headers --json --forms --help" ;;
+        opcodes) _setup_words "--list --take --json --forms --help" ;;
+        image) _setup_words "--list --take --out --store --efivars --config --zero --defaults --forms --lang --help" ;;
         questions) _setup_words "--list --take --stores --forms --lang --help" ;;
         question) _setup_words "--list --take --stores --id --forms --lang --help" ;;
-        *) _setup_words "split stores image questions question help --help --version" ;;
+        export) _setup_words "--list --take --stores --id --out --lines --with --forms --help" ;;
+        diff) _setup_words "--list --take --stores --with --forms --lang --help" ;;
+        *) _setup_words "split stores opcodes image questions question export diff help --help --version" ;;
     esac
 }
 

@@ -51,9 +51,12 @@ def splits():
 
 
 def of_example(name):
-    """The stores that a list declares, an image of zeros for it, and its questions over that image: all of them, and each that is told."""
+    """The stores that a list declares, its opcodes, an image of zeros for it, and its questions over that image: all of them, and each that is told."""
     words = ["--list", os.path.join(EXAMPLES, name, "list")]
     image = name + ".zero.image"
+    yield AuditRun("opcodes of " + name, ["opcodes", *words], told(name + ".opcodes"))
+    if name == "rules":
+        yield AuditRun("opcodes of rules as objects", ["opcodes", *words, "--json"], told("rules.opcodes.json"))
     yield AuditRun("stores of " + name, ["stores", *words], told(name + ".stores"))
     yield AuditRun("image for " + name, ["image", *words, "--zero"], told(name + ".image"), told(image), True)
     words += ["--stores", os.path.join(AUDIT, image)]
@@ -71,12 +74,32 @@ def of_dump():
         yield AuditRun("stores of list %d" % number, ["stores", *words], told(name + ".stores"))
         yield AuditRun("image for list %d" % number, ["image", *words, "--zero"], told(name + ".image"), read(zeros), True)
         yield AuditRun("questions of list %d" % number, ["questions", *words, "--stores", zeros], told(name + ".questions"))
+    for file, options in ("station.stores.json", ["--json"]), ("station.headers.json", ["--headers", "--json"]):
+        yield AuditRun(file, ["stores", "--list", DUMP, "--take", "1", *options], told(file))
     yield AuditRun("headers of list 1", ["stores", "--list", DUMP, "--take", "1", "--headers"], told("station.headers"))
     begin = len(read(os.path.join(EXAMPLES, NAMES[0], "list")))
     byte = lambda found: b"byte %x%s" % (int(found[1], 16) + begin, found[2].replace(b"list", b"dump"))
     alone = told("rules.question.19")
     words = ["question", *words, "--stores", zeros, "--id", "0x13"]
     yield AuditRun("question 19 of list 2", words, re.sub(rb"byte ([0-9a-f]+)(\)| of the list)", byte, alone))
+
+
+def image_of_stores(*stores):
+    """An image of the stores of the station."""
+    return image(list(zip((16, 17), stores)), told("station.zero.image")[4:20])
+
+
+def of_text():
+    """An image of a configuration text: a block over another, an alternative, and a store under another name."""
+    words = ["image", "--list", os.path.join(EXAMPLES, "station", "list"), "--config", os.path.join(AUDIT, "station.config")]
+    lines = b"STORE 16 Station 72 config\nSTORE 17 StationNv 4 config, where its name is Nv\n"
+    yield AuditRun("image of a configuration text", words, lines, image_of_stores(b"\1\1" + bytes(70), b"\1\2\3\4"), True)
+
+
+def of_defaults():
+    """An image of zeros over which the standard defaults are laid."""
+    words = ["image", "--list", os.path.join(EXAMPLES, "station", "list"), "--zero", "--defaults", "0"]
+    yield AuditRun("image of defaults", words, told("station.image") + b"DEFAULTS 11 of class 0\n", told("station.defaults.image"), True)
 
 
 def images_of_files(folder):
@@ -88,9 +111,18 @@ def images_of_files(folder):
     variable = file("Station-6d1e5a10-7c4b-4e0a-9a31-225c60880f01", b"\7\0\0\0" + held[0])
     words = ["image", "--list", os.path.join(EXAMPLES, "station", "list")]
     lines = lambda *sources: ("STORE 16 Station 72 %s\nSTORE 17 StationNv 4 %s\n" % sources).encode()
-    made = lambda *stores: image(list(zip((16, 17), stores)), told("station.zero.image")[4:20])
-    yield AuditRun("image of files", words + ["--store", "16=" + first, "--store", "17=" + second], lines(first, second), made(*held), True)
-    yield AuditRun("image of variables", words + ["--efivars", folder, "--zero"], lines(variable, "zeros"), made(held[0], bytes(4)), True)
+    yield AuditRun("image of files", words + ["--store", "16=" + first, "--store", "17=" + second], lines(first, second), image_of_stores(*held), True)
+    yield AuditRun("image of variables", words + ["--efivars", folder, "--zero"], lines(variable, "zeros"), image_of_stores(held[0], bytes(4)), True)
+
+
+def of_images():
+    """What the stores of the station hold behind its script: the bytes of the first, and what is other than before."""
+    list_, before, after = (os.path.join(EXAMPLES, "station", name) for name in ("list", "stores", "image"))
+    words = ["--list", list_, "--stores"]
+    held = read(after)[26:98]
+    yield AuditRun("export of a store", ["export", *words, after, "--id", "16"], b"STORE 16 Station 72\n", held, True)
+    yield AuditRun("lines of fields", ["export", *words, after, "--lines", "--with", before], told("station.lines"))
+    yield AuditRun("diff of images", ["diff", *words, before, "--with", after], told("station.diff"))
 
 
 def reasons(folder):
@@ -129,7 +161,7 @@ option   4 #7: locked at 00000099
 
 def audit_runs(folder):
     """All runs. The folder is for the files that are made for them."""
-    runs = [*splits(), *of_dump(), *images_of_files(folder), *reasons(folder)]
+    runs = [*splits(), *of_dump(), *of_text(), *of_defaults(), *images_of_files(folder), *of_images(), *reasons(folder)]
     for name in NAMES:
         runs += of_example(name)
     station = os.path.join(EXAMPLES, "station")

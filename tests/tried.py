@@ -4,7 +4,7 @@ import re
 import subprocess
 import tempfile
 
-from audits import NAMES, of_dump, of_example, splits
+from audits import NAMES, of_defaults, of_dump, of_example, of_images, of_text, splits
 from running import KEPT, cases_below, examples
 
 CRATES = os.path.join(os.path.dirname(os.path.dirname(os.path.abspath(__file__))), "crates")
@@ -20,7 +20,7 @@ def setup_runs():
 
 def audit_runs():
     """The words and the answers of what is told of the examples."""
-    for run in [*splits(), *of_dump(), *(run for name in NAMES for run in of_example(name))]:
+    for run in [*splits(), *of_dump(), *of_text(), *of_defaults(), *of_images(), *(run for name in NAMES for run in of_example(name))]:
         yield run.words("taken"), b"", run.expected[1]
 
 

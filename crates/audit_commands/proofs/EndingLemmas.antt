@@ -16,10 +16,12 @@ use Rattle.hii_bytes.specs.Watching.{Flushes, Pen, Tells as Wrote, Writes, has_f
 use Rattle.hii_bytes.proofs.WritingLemmas.{appended_whole, writes_nil, ◌⨾◌}
 use Rattle.session_steps.specs.Texts.{refused_at_text, refused_text}
 use Rattle.session_steps.proofs.FlushLemmas.{breaks_flushed, writes_flushed}
+use Rattle.audit_json.specs.declared.telling.Telling.{Telling}
+use Rattle.audit_json.specs.declared.telling.Telling.TheVariants.{Lines}
 use Rattle.audit_commands.specs.declared.ended.Ended.{Ended}
 use Rattle.audit_commands.specs.declared.ended.Ended.TheVariants.{Done, Refused, WriteAnswers, WriteOut, NoMemory}
-use Rattle.audit_commands.specs.Endings.{IsLeft, IsPassedOn, IsRefusal, StopsIn, Tells, TellsAndWrites}
-use Rattle.audit_commands.specs.code.Endings.{Commits, PassesFrom, RefusesBy, SaysFault}
+use Rattle.audit_commands.specs.Endings.{IsLeft, IsPassedOn, IsRefusal, IsRefusalAs, StopsIn, Tells, TellsAndWrites, refused_at_told, refused_told}
+use Rattle.audit_commands.specs.code.Endings.{Commits, PassesFrom, RefusesAs, RefusesBy, SaysFault}
 
 -- ---- answers
 
@@ -53,24 +55,34 @@ tells says contents start new mid meant ended text said written (flushes, inr (i
     inr (is, broken, meant, text, said, stopped (writer_contents contents) start new mid text written flushes broken)
 
 -- what was begun, and then a refusal, is passed on
+module _ {A Z : Type 0} (telling : Telling) (says : Ended → List ℕ → Type 0) (contents : A → Option (List ℕ)) (start old new : Watched (BufWriter A Z)) (fault : Fault) (ended : Ended) where
+  pub tells_refusal_as : (fault.cause ≢ OutOfMemory → (begun : List ℕ) × Writes (pen_of (writer_contents contents) start) (pen_of (writer_contents contents) old) begun × says Refused (begun ++ refused_at_told telling fault))
+      → (fault.cause ≡ OutOfMemory → (begun : List ℕ) × Writes (pen_of (writer_contents contents) start) (pen_of (writer_contents contents) old) begun × says NoMemory (begun ++ refused_told telling OutOfMemory))
+      → RefusesAs telling fault contents old ended new → Tells says contents start ended new
+  tells_refusal_as by_fault by_memory r = go r.meant r.said r.passed
+    where
+      go : (meant : Ended) → SaysFault telling fault meant r.text → PassesFrom contents meant r.mid ended new → Tells says contents start ended new
+      go Done said passed = absurd said
+      go Refused said passed =
+          let b = by_fault said.0 in
+          tells says contents start new r.mid Refused ended _ (subst (λ (t : List ℕ). says Refused (b.0 ++ t)) (sym said.1) b.2) (b.1 ⨾ r.written) passed
+      go WriteAnswers said passed = absurd said
+      go WriteOut said passed = absurd said
+      go NoMemory said passed =
+          let b = by_memory said.0 in
+          tells says contents start new r.mid NoMemory ended _ (subst (λ (t : List ℕ). says NoMemory (b.0 ++ t)) (sym said.1) b.2) (b.1 ⨾ r.written) passed
+
 pub tells_refusal : {A Z : Type 0} (says : Ended → List ℕ → Type 0) (contents : A → Option (List ℕ)) (start old new : Watched (BufWriter A Z)) (fault : Fault) (ended : Ended)
     → (fault.cause ≢ OutOfMemory → (begun : List ℕ) × Writes (pen_of (writer_contents contents) start) (pen_of (writer_contents contents) old) begun × says Refused (begun ++ refused_at_text fault))
     → (fault.cause ≡ OutOfMemory → (begun : List ℕ) × Writes (pen_of (writer_contents contents) start) (pen_of (writer_contents contents) old) begun × says NoMemory (begun ++ refused_text OutOfMemory))
     → RefusesBy fault contents old ended new → Tells says contents start ended new
-tells_refusal says contents start old new fault ended by_fault by_memory r = go r.meant r.said r.passed
-  where
-    go : (meant : Ended) → SaysFault fault meant r.text → PassesFrom contents meant r.mid ended new → Tells says contents start ended new
-    go Done said passed = absurd said
-    go Refused said passed =
-        let b = by_fault said.0 in
-        tells says contents start new r.mid Refused ended _ (subst (λ (t : List ℕ). says Refused (b.0 ++ t)) (sym said.1) b.2) (b.1 ⨾ r.written) passed
-    go WriteAnswers said passed = absurd said
-    go WriteOut said passed = absurd said
-    go NoMemory said passed =
-        let b = by_memory said.0 in
-        tells says contents start new r.mid NoMemory ended _ (subst (λ (t : List ℕ). says NoMemory (b.0 ++ t)) (sym said.1) b.2) (b.1 ⨾ r.written) passed
+tells_refusal says contents start old new fault ended by_fault by_memory r = tells_refusal_as Lines says contents start old new fault ended by_fault by_memory r
 
 -- the least fault is told
+pub is_refusal_as : (telling : Telling) (IsFault : Cause → ℕ → Type 0) (fault : Fault) → Refuses IsFault fault → fault.cause ≢ OutOfMemory → IsRefusalAs telling IsFault (refused_at_told telling fault)
+is_refusal_as telling IsFault fault (inl memory) other = absurd (other (ap (λ (f : Fault). f.cause) memory))
+is_refusal_as telling IsFault fault (inr least) other = (fault, least, refl)
+
 pub is_refusal : (IsFault : Cause → ℕ → Type 0) (fault : Fault) → Refuses IsFault fault → fault.cause ≢ OutOfMemory → IsRefusal IsFault (refused_at_text fault)
 is_refusal IsFault fault (inl memory) other = absurd (other (ap (λ (f : Fault). f.cause) memory))
 is_refusal IsFault fault (inr least) other = (fault, least, refl)
@@ -167,7 +179,7 @@ tells_fault says contents file start new old last fault ended by_fault by_memory
   go r.meant r.said r.passed,
 )
   where
-    go : (meant : Ended) → SaysFault fault meant r.text → PassesFrom contents meant r.mid ended new → IsLeft file [] old ended last
+    go : (meant : Ended) → SaysFault Lines fault meant r.text → PassesFrom contents meant r.mid ended new → IsLeft file [] old ended last
     go Done said passed = absurd said
     go Refused said passed = left_alone contents file [] old last r.mid Refused ended new passed same same
     go WriteAnswers said passed = absurd said

@@ -3,3 +3,7 @@ pub mod ImagingLemmas
 pub mod SourceLemmas
 pub mod ListingLemmas
 pub mod SplittingLemmas
+pub mod TextLemmas
+pub mod JudgingLemmas
+pub mod ExportingLemmas
+pub mod DifferingLemmas

@@ -1,20 +1,21 @@
 -- What is said of the list that options name.
-use Rattle.std.proofs.Common.{◌≡◌, ◌+◌, ◌-◌, ◌==◌, ◌≤◌, ℕ, zero, suc, List, [], ◌∷◌, Option, None, Some, ◌∙◌, ap, arith, inl, inr, drop, filter, length, length-append, length-drop, refl, slice_get, subst, sym, take}
+use Rattle.std.proofs.Common.{◌≡◌, ◌+◌, ◌-◌, ◌==◌, ◌≤◌, ℕ, zero, suc, List, [], ◌∷◌, ◌++◌, Option, None, Some, ◌∙◌, ap, arith, inl, inr, drop, filter, length, length-append, length-drop, refl, slice_get, subst, sym, take}
 use Rattle.std.specs.List.{AllByRecursion, concat}
 use Rattle.std.proofs.lemmas.Bool.{cases_Bool}
 use Rattle.std.proofs.lemmas.List.{length-take}
 use Rattle.browser_rules.specs.Packages.{FORMS, Package}
 use Rattle.std.specs.declared.io.BufWriter.{BufWriter}
 use Rattle.hii_bytes.specs.declared.watched.Watched.{Watched}
-use Rattle.hii_dumps.specs.Dumps.{Entry, placed}
+use Rattle.hii_dumps.specs.Dumps.{Entry, nth_list, placed}
 use Rattle.hii_packages.specs.Packages.{packages_of}
 use Rattle.hii_packages.specs.laws.Places.{LiesIn}
 use Rattle.hii_packages.proofs.SpellLemmas.{read_lie}
 use Rattle.session_steps.specs.Opening.{HasSource}
 use Rattle.dump_audit.specs.Lines.{no_list_text}
 use Rattle.dump_audit.specs.Taking.{IsNth}
+use Rattle.audit_json.specs.declared.telling.Telling.{Telling}
 use Rattle.audit_commands.specs.Endings.{Tells, TellsAndWrites}
-use Rattle.audit_commands.specs.Listing.{IsListed, IsUnlisted, Listed, SaysOfList}
+use Rattle.audit_commands.specs.Listing.{IsListed, IsUnlisted, Listed, SaysOfList, SaysOfListAs, no_list_told}
 use Rattle.audit_commands.specs.code.Endings.{RefusesBehind}
 use Rattle.audit_commands.specs.declared.ended.Ended.{Ended}
 use Rattle.audit_commands.specs.declared.ended.Ended.TheVariants.{Refused}
@@ -67,7 +68,14 @@ module _ {A Z : Type 0} (says : Listed → Ended → List ℕ → Type 0) (conte
   pub tells_listed : (list : Listed) → IsListed take file list → Tells (says list) contents start ended new → Tells (SaysOfList take file says) contents start ended new
   tells_listed list is told = tells_as (says list) (SaysOfList take file says) contents start new ended (λ ended text said. inl (list, is, said)) told
 
+  pub tells_listed_as : (telling : Telling) (list : Listed) → IsListed take file list → Tells (says list) contents start ended new → Tells (SaysOfListAs telling take file says) contents start ended new
+  tells_listed_as telling list is told = tells_as (says list) (SaysOfListAs telling take file says) contents start new ended (λ ended text said. inl (list, is, said)) told
+
   -- that there is none
+  pub tells_unlisted_as : (telling : Telling) (number : ℕ) → IsUnlisted take file number → RefusesBehind (no_list_told telling number) contents start ended new → Tells (SaysOfListAs telling take file says) contents start ended new
+  tells_unlisted_as telling number none (mid, written, passed) =
+      tells (SaysOfListAs telling take file says) contents start new mid Refused ended (no_list_told telling number) (inr (number, none, refl, refl)) written passed
+
   pub tells_unlisted : (number : ℕ) → IsUnlisted take file number → RefusesBehind (no_list_text number) contents start ended new → Tells (SaysOfList take file says) contents start ended new
   tells_unlisted number none (mid, written, passed) = tells (SaysOfList take file says) contents start new mid Refused ended (no_list_text number) (inr (number, none, refl, refl)) written passed
 

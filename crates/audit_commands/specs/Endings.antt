@@ -8,7 +8,11 @@ use Rattle.hii_bytes.specs.declared.cause.Fault.{Fault}
 use Rattle.hii_bytes.specs.declared.watched.Watched.{Watched}
 use Rattle.hii_bytes.specs.Faults.{IsLeast}
 use Rattle.hii_bytes.specs.Watching.{has_failed, has_passed_on, inner_of}
-use Rattle.session_steps.specs.Texts.{refused_at_text}
+use Rattle.session_steps.specs.Texts.{refused_at_text, refused_text}
+use Rattle.audit_json.specs.Objects.{refused_at_object, refused_object}
+use Rattle.audit_json.specs.Telling.{told_as}
+use Rattle.audit_json.specs.declared.telling.Telling.{Telling}
+use Rattle.audit_json.specs.declared.telling.Telling.TheVariants.{Lines}
 use Rattle.setup_files.specs.declared.endings.Status.{Status}
 use Rattle.setup_files.specs.declared.endings.Status.TheVariants as status
 use Rattle.audit_commands.specs.declared.ended.Ended.{Ended}
@@ -28,9 +32,20 @@ fault_of WriteAnswers = Some (codes "write answers")
 fault_of WriteOut = Some (codes "write out")
 fault_of _ = None
 
+-- by which fault a run is refused, and by which cause, where the cause has no place
+abbrev pub refused_at_told : Telling → Fault → List ℕ
+refused_at_told telling fault = told_as telling (refused_at_text fault) (refused_at_object fault)
+
+abbrev pub refused_told : Telling → Cause → List ℕ
+refused_told telling cause = told_as telling (refused_text cause) (refused_object cause)
+
 -- The text tells the least of these faults.
+abbrev pub IsRefusalAs : Telling → (Cause → ℕ → Type 0) → List ℕ → Type 0
+IsRefusalAs telling IsFault text =
+    (fault : Fault) × IsLeast IsFault fault × (text ≡ refused_at_told telling fault)
+
 abbrev pub IsRefusal : (Cause → ℕ → Type 0) → List ℕ → Type 0
-IsRefusal IsFault text = (fault : Fault) × IsLeast IsFault fault × (text ≡ refused_at_text fault)
+IsRefusal IsFault text = IsRefusalAs Lines IsFault text
 
 -- The writer of the answers got a text whole, behind what it had and what was held back; nothing is held back any more, and the
 -- answers have not failed.

@@ -1,6 +1,10 @@
 -- Which bytes are the list that options name, of those of the file of --list (own rule).
-use Rattle.std.specs.Prelude.{◌≡◌, ◌⊎◌, ℕ, List, Option, Some, None}
+use Rattle.std.specs.Prelude.{◌≡◌, ◌⊎◌, ℕ, List, ◌++◌, Option, Some, None, codes, decimal}
 use Rattle.hii_dumps.specs.Dumps.{Entry}
+use Rattle.audit_json.specs.Objects.{member, object}
+use Rattle.audit_json.specs.Telling.{told_as}
+use Rattle.audit_json.specs.declared.telling.Telling.{Telling}
+use Rattle.audit_json.specs.declared.telling.Telling.TheVariants.{Lines}
 use Rattle.dump_audit.specs.Lines.{no_list_text}
 use Rattle.dump_audit.specs.Taking.{IsNth}
 use Rattle.question_audit.specs.declared.origin.Holder.TheVariants as holder
@@ -32,9 +36,20 @@ IsListed (Some number) file list =
 abbrev pub IsUnlisted : Option ℕ → List ℕ → ℕ → Type 0
 IsUnlisted take file number = (take ≡ Some number) × IsNth file number None
 
+-- that there is none
+abbrev pub no_list_object : ℕ → List ℕ
+no_list_object number =
+    object (codes "error") (member (codes "text") (codes "\"NO LIST " ++ decimal number ++ codes "\""))
+
+abbrev pub no_list_told : Telling → ℕ → List ℕ
+no_list_told telling number = told_as telling (no_list_text number) (no_list_object number)
+
 -- This is said of the list; or there is none, and that is said.
-abbrev pub SaysOfList : Option ℕ → List ℕ → (Listed → Ended → List ℕ → Type 0) → Ended → List ℕ → Type 0
-SaysOfList take file says ended text =
+abbrev pub SaysOfListAs : Telling → Option ℕ → List ℕ → (Listed → Ended → List ℕ → Type 0) → Ended → List ℕ → Type 0
+SaysOfListAs telling take file says ended text =
     ((list : Listed) × IsListed take file list × says list ended text)
     ⊎ ((number : ℕ) × IsUnlisted take file number × (ended ≡ Refused)
-    × (text ≡ no_list_text number))
+    × (text ≡ no_list_told telling number))
+
+abbrev pub SaysOfList : Option ℕ → List ℕ → (Listed → Ended → List ℕ → Type 0) → Ended → List ℕ → Type 0
+SaysOfList take file says ended text = SaysOfListAs Lines take file says ended text

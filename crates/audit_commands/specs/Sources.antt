@@ -9,7 +9,10 @@ use Rattle.audit_text.specs.Texts.{guid_text}
 use Rattle.audit_options.specs.declared.tasks.ImageOptions.{ImageOptions}
 use Rattle.audit_options.specs.declared.tasks.StoreFile.{StoreFile}
 use Rattle.store_audit.specs.declared.fillings.Source.{Source}
-use Rattle.store_audit.specs.declared.fillings.Source.TheVariants.{Missing, Zeros}
+use Rattle.store_audit.specs.declared.fillings.Source.TheVariants.{Config, Missing, Zeros}
+use Rattle.exported_config.specs.Giving as Exported
+use Rattle.exported_config.specs.declared.giving.Given.{Given}
+use Rattle.store_audit.specs.Fillings.{wanted_of}
 use Rattle.audit_commands.specs.Files.{IsFile, IsThere, Known}
 
 -- the last file that is given to the store of an id
@@ -37,19 +40,32 @@ abbrev pub filler : Bool → Source
 filler true = Zeros
 filler false = Missing
 
--- the file of a variable without its attributes, where there is one, and else zeros or nothing
-abbrev pub IsVariable : (List ℕ → Known) → Option (List ℕ) → Bool → Source → Type 0
-IsVariable known None zero source = source ≡ filler zero
-IsVariable known (Some path) zero source =
+-- what a configuration text gives, else zeros or nothing
+abbrev pub IsConfig : Exported.Given → Source → Type 0
+IsConfig given source = (text : Given) × (source ≡ Config text) × (Exported.given_view text ≡ given)
+
+abbrev pub IsFallback : Option Exported.Given → Bool → Source → Type 0
+IsFallback None zero source = source ≡ filler zero
+IsFallback (Some given) zero source = IsConfig given source
+
+-- the file of a variable without its attributes, where there is one, and else what is left
+abbrev pub IsVariable : (List ℕ → Known) → Option (List ℕ) → (Source → Type 0) → Source → Type 0
+IsVariable known None IsElse source = IsElse source
+IsVariable known (Some path) IsElse source =
     (IsThere (known path) true × IsFile known path attributes source)
-    ⊎ (IsThere (known path) false × (source ≡ filler zero))
+    ⊎ (IsThere (known path) false × IsElse source)
 
 -- the last file that is given to the store, else that of its variable
-abbrev pub IsGiven : (List ℕ → Known) → Option StoreFile → Option (List ℕ) → Bool → Source → Type 0
-IsGiven known (Some file) variable zero source = IsFile known file.path.now 0 source
-IsGiven known None variable zero source = IsVariable known variable zero source
+abbrev pub IsGiven : (List ℕ → Known) → Option StoreFile → Option (List ℕ) → (Source → Type 0) → Source → Type 0
+IsGiven known (Some file) variable IsElse source = IsFile known file.path.now 0 source
+IsGiven known None variable IsElse source = IsVariable known variable IsElse source
 
-abbrev pub IsSource : (List ℕ → Known) → ImageOptions → Node → Source → Type 0
-IsSource known options n =
+-- what a configuration text gives to a store
+abbrev pub given_of : Exported.Exported → Node → Option Exported.Given
+given_of config n = Exported.given_to config (store_guid n.op) (store_name n.op) (wanted_of n)
+
+abbrev pub IsSource : (List ℕ → Known) → ImageOptions → Exported.Exported → Node → Source → Type 0
+IsSource known options config n =
     IsGiven known (last_given options.files.items (store_id n.op))
-    (option_and_then (λ folder. variable_path folder.now n) options.efivars) options.zero
+    (option_and_then (λ folder. variable_path folder.now n) options.efivars)
+    (IsFallback (given_of config n) options.zero)

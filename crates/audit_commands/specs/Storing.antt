@@ -6,11 +6,11 @@ use Rattle.hii_bytes.specs.Faults.{HasNone}
 use Rattle.ifr_nodes.specs.Nodes.{nodes_of}
 use Rattle.ifr_opcodes.specs.Forest.{Node}
 use Rattle.session_steps.specs.Opening.{HasSource}
-use Rattle.session_steps.specs.Texts.{refused_text}
 use Rattle.store_audit.specs.Declaring.{IsDeclaredFault}
 use Rattle.store_audit.specs.HeaderLines.{headers_text}
 use Rattle.store_audit.specs.StoreLines.{stores_text}
-use Rattle.audit_commands.specs.Endings.{IsRefusal}
+use Rattle.audit_json.specs.declared.telling.Telling.{Telling}
+use Rattle.audit_commands.specs.Endings.{IsRefusalAs, refused_told}
 use Rattle.audit_commands.specs.declared.ended.Ended.{Ended}
 use Rattle.audit_commands.specs.declared.ended.Ended.TheVariants.{Done, Refused, NoMemory}
 
@@ -21,16 +21,17 @@ pub record IsDeclaredBy (list : List ℕ) (number : ℕ) (ifr : List ℕ) : Type
   pub bytes : ifr ≡ source.bytes
   pub sound : HasNone (IsDeclaredFault list number)
 
--- a line for each store, or with `--headers` the header of each that holds bytes
-abbrev pub lines_told : Bool → List ℕ → List Node → List ℕ
-lines_told false list ns = stores_text ns
-lines_told true list ns = headers_text (device_path list) ns
+-- what is told of each store, or with `--headers` the header of each that holds bytes
+abbrev pub lines_told : Telling → Bool → List ℕ → List Node → List ℕ
+lines_told telling false list ns = stores_text telling ns
+lines_told telling true list ns = headers_text telling (device_path list) ns
 
--- these lines, or the least fault
-abbrev pub SaysStores : Bool → List ℕ → ℕ → Ended → List ℕ → Type 0
-SaysStores headers list number Done text =
+-- that of each, or the least fault
+abbrev pub SaysStores : Telling → Bool → List ℕ → ℕ → Ended → List ℕ → Type 0
+SaysStores telling headers list number Done text =
     (ifr : List ℕ) × IsDeclaredBy list number ifr
-    × (text ≡ lines_told headers list (nodes_of ifr))
-SaysStores headers list number Refused text = IsRefusal (IsDeclaredFault list number) text
-SaysStores headers list number NoMemory text = text ≡ refused_text OutOfMemory
-SaysStores headers list number _ text = ⊥
+    × (text ≡ lines_told telling headers list (nodes_of ifr))
+SaysStores telling headers list number Refused text =
+    IsRefusalAs telling (IsDeclaredFault list number) text
+SaysStores telling headers list number NoMemory text = text ≡ refused_told telling OutOfMemory
+SaysStores telling headers list number _ text = ⊥

@@ -3,9 +3,10 @@
 ghost use Rattle.std.specs.Prelude.{◌≡◌, ◌≢◌, false, true, IfErr};
 ghost use Rattle.hii_bytes.specs.Watching.{has_failed};
 ghost use Rattle.audit_commands.specs.Endings.{status_of};
-ghost use Rattle.audit_commands.specs.code.Endings.{Commits, Passes, RefusesBy};
+ghost use Rattle.audit_commands.specs.code.Endings.{Commits, Passes, RefusesAs, RefusesBy};
 
 use crate::ended::Ended;
+use audit_json::{Telling, put_refused, put_refused_at};
 use browser_commands::{put_refusal, put_refusal_at};
 use hii_bytes::{Cause, Fault, Watched};
 use setup_files::{Noted, OutFile, STANDARD_OUTPUT, Status, Terminals, fault, refused};
@@ -73,6 +74,29 @@ pub fn finish<A: Write + Drop>(ended: Ended, answers: &mut Answers<A>) -> Ended
     match answers.pass_on() {
         Ok(()) => ended,
         Err(_) => Ended::WriteAnswers,
+    }
+}
+
+/// Ends a run that a fault refuses, which is told so, behind what is written, at its place; want of memory has none.
+pub fn refuse_as<A: Write + Drop>(telling: Telling, fault: Fault, answers: &mut Answers<A>) -> Ended
+    ensures { RefusesAs telling fault A.contents answers.old result answers.new }
+{
+    match telling {
+        Telling::Lines => refuse(fault, answers),
+        Telling::Objects => refuse_object(fault, answers),
+    }
+}
+
+// Ends a run that a fault refuses, which is told as an object.
+fn refuse_object<A: Write + Drop>(fault: Fault, answers: &mut Answers<A>) -> Ended
+    ensures { RefusesAs Telling.Objects fault A.contents answers.old result answers.new }
+{
+    if fault.cause == Cause::OutOfMemory {
+        put_refused(Cause::OutOfMemory, answers);
+        finish(Ended::NoMemory, answers)
+    } else {
+        put_refused_at(fault, answers);
+        finish(Ended::Refused, answers)
     }
 }
 

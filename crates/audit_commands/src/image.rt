@@ -1,22 +1,32 @@
 //! `image`: an image of the stores of a form set, made of given bytes.
 
-ghost use Rattle.std.specs.Prelude.{◌≡◌, ◌≢◌, ℕ, List, map, option_copied, IfErr, OnErr, IfOk};
+ghost use Rattle.std.specs.Prelude.{◌≡◌, ◌≢◌, ℕ, List, None, Ok, map, option_copied, option_map, IfErr, OnErr, IfOk};
+ghost use Rattle.hii_varstore.specs.StoreNodes.{layout_of};
+ghost use Rattle.exported_config.specs.code.Views.{exported_view};
+ghost use Rattle.audit_commands.specs.Configured as spec;
+ghost use Rattle.audit_commands.specs.Configured.{IsText};
 ghost use Rattle.ifr_nodes.specs.Nodes.{nodes_of};
 ghost use Rattle.store_audit.specs.Fillings.{buffer_stores};
+ghost use Rattle.store_audit.specs.code.Defaulted.{defaults_view};
 ghost use Rattle.store_audit.specs.code.Fillings.{filling_node};
 ghost use Rattle.audit_commands.specs.Endings.{TellsAndWrites};
 ghost use Rattle.audit_commands.specs.Imaging.{SaysImage, unknown_file};
 ghost use Rattle.audit_commands.specs.Listing.{SaysOfList};
-ghost use Rattle.audit_commands.specs.Storing.{IsDeclaredBy};
+ghost use Rattle.audit_commands.specs.Defaulting.{IsMadeOf, defaults_asked};
+ghost use Rattle.audit_commands.specs.code.Defaulting.{AreTexts};
 ghost use Rattle.audit_commands.specs.code.Imaging.{SaysFillings};
 
 use crate::answers::{Answers, answers, commit, finish, refuse, told_with_file};
+use crate::config::{config_in, put_bad_response, text_of};
 use crate::ended::Ended;
 use crate::listing::{given_list, refuse_list};
 use crate::sources::{Unsourced, fillings};
 use crate::store_files::{StoreFiles, SystemFiles};
+use crate::texts::{defaults_of, texts_for};
 use audit_options::{ImageOptions, StoreFile};
+use exported_config::{ExportedConfig, Unread};
 use hii_bytes::{Cause, Fault, Watched};
+use hii_languages::Languages;
 use hii_varstore::Layout;
 use setup_files::{
     Status, Terminals, WholeFile, fault, file, is_same_file, out_file, refused, usage,
@@ -25,9 +35,11 @@ use std::alloc::Global;
 use std::fs;
 use std::io::Write;
 use std::rt::Files;
-use store_audit::{Declared, Filling, put_image};
+use store_audit::{Declared, Defaults, Filling, put_image};
 
 const LIST_AS_OUT: &str = "error: --out is the file of --list, which would be lost\n";
+
+const CONFIG_AS_OUT: &str = "error: --out is the file of --config, which would be lost\n";
 
 const STORE_AS_OUT: &str = "error: --out is a file of --store, which would be lost\n";
 
@@ -41,6 +53,11 @@ pub fn run<R: Files + Print + Eprint + AllocGlobal>(
 {
     if is_same_file(rt, options.list.path, options.out) {
         return Err(usage(rt, &LIST_AS_OUT));
+    }
+    if let Some(config) = options.config {
+        if is_same_file(rt, config, options.out) {
+            return Err(usage(rt, &CONFIG_AS_OUT));
+        }
     }
     if is_store_file(rt, options) {
         return Err(usage(rt, &STORE_AS_OUT));
@@ -120,23 +137,51 @@ fn make_of<F: StoreFiles, A: Write + Drop, O: Write>(
     ensures unread { OnErr result ((answers.new ≡ answers.old) × (out.new ≡ out.old)) }
     ensures err { IfErr result (λ status. status ≢ Status.Done) }
 {
+    match texts_for(alloc, list, options) {
+        Ok(texts) => make_over(alloc, options, list, texts.as_ref(), files, answers, out),
+        Err(fault) => Ok(refuse(fault, answers)),
+    }
+}
+
+// Makes the image of the stores that a list declares, where defaults are taken from its texts, if they are asked for.
+fn make_over<'a, F: StoreFiles, A: Write + Drop, O: Write>(
+    alloc: Global,
+    options: &ImageOptions<'_>,
+    list: &'a [u8],
+    texts: Option<&Languages<'a>>,
+    files: &F,
+    answers: &mut Answers<A>,
+    out: &mut Watched<O>,
+) -> Result<Ended, Status>
+    requires { AreTexts options.now.defaults list.now (option_map (λ texts. texts.now) texts) }
+    ensures told { IfOk result (λ ended. TellsAndWrites
+        (SaysImage (F.known files.now) options.now list.entry.now)
+        A.contents O.contents answers.old out.old ended answers.new out.new) }
+    ensures unread { OnErr result ((answers.new ≡ answers.old) × (out.new ≡ out.old)) }
+    ensures err { IfErr result (λ status. status ≢ Status.Done) }
+{
     match Declared::read(alloc, list, usize::from(options.list.forms)) {
-        Ok(declared) => fill(alloc, options, &declared, files, answers, out),
+        Ok(declared) => {
+            let defaults = defaults_of(options, texts);
+            fill(alloc, options, &declared, defaults, files, answers, out)
+        }
         Err(fault) => Ok(refuse(fault, answers)),
     }
 }
 
 // Makes the image of the stores that are declared.
-fn fill<F: StoreFiles, A: Write + Drop, O: Write>(
+fn fill<'a, F: StoreFiles, A: Write + Drop, O: Write>(
     alloc: Global,
     options: &ImageOptions<'_>,
-    declared: &Declared<'_>,
+    declared: &Declared<'a>,
+    defaults: Option<Defaults<'a, '_>>,
     files: &F,
     answers: &mut Answers<A>,
     out: &mut Watched<O>,
 ) -> Result<Ended, Status>
     ensures told { IfOk result (λ ended. (list : List ℕ)
-        → IsDeclaredBy list options.now.list.forms declared.now
+        → IsMadeOf options.now list declared.now
+        → option_map defaults_view defaults.entry ≡ defaults_asked options.now list
         → TellsAndWrites (SaysImage (F.known files.now) options.now list)
         A.contents O.contents answers.old out.old ended answers.new out.new) }
     ensures unread { OnErr result ((answers.new ≡ answers.old) × (out.new ≡ out.old)) }
@@ -148,27 +193,67 @@ fn fill<F: StoreFiles, A: Write + Drop, O: Write>(
         answers.put(b"\n");
         return Ok(finish(Ended::Refused, answers));
     }
-    let fillings = match fillings(alloc, files, declared, options) {
+    let text = match text_of(alloc, files, options) {
+        Ok(text) => text,
+        Err(Unsourced::NoMemory) => return Ok(refuse(Fault::out_of_memory(), answers)),
+        Err(Unsourced::Unread(status)) => return Err(status),
+    };
+    match config_in(alloc, declared, text.as_slice()) {
+        Ok(config) => fill_from(
+            alloc, options, declared, defaults, files, &config, answers, out,
+        ),
+        Err(Unread::NoMemory) => Ok(refuse(Fault::out_of_memory(), answers)),
+        Err(Unread::Bad(bad)) => {
+            put_bad_response(bad, answers);
+            Ok(finish(Ended::Refused, answers))
+        }
+    }
+}
+
+// Makes the image of the stores that are declared, none of whose files is given to another store, over a configuration text.
+fn fill_from<'a, F: StoreFiles, A: Write + Drop, O: Write>(
+    alloc: Global,
+    options: &ImageOptions<'_>,
+    declared: &Declared<'a>,
+    defaults: Option<Defaults<'a, '_>>,
+    files: &F,
+    config: &ExportedConfig<'_>,
+    answers: &mut Answers<A>,
+    out: &mut Watched<O>,
+) -> Result<Ended, Status>
+    ensures told { IfOk result (λ ended. (list text : List ℕ)
+        → IsMadeOf options.now list declared.now
+        → option_map defaults_view defaults.entry ≡ defaults_asked options.now list
+        → unknown_file (layout_of (nodes_of declared.now)) options.now.files.items ≡ None
+        → IsText (F.known files.now) (option_map (λ path. path.now) options.now.config) text
+        → spec.config_in declared.now text ≡ Ok (exported_view config.now)
+        → TellsAndWrites (SaysImage (F.known files.now) options.now list)
+        A.contents O.contents answers.old out.old ended answers.new out.new) }
+    ensures unread { OnErr result ((answers.new ≡ answers.old) × (out.new ≡ out.old)) }
+    ensures err { IfErr result (λ status. status ≢ Status.Done) }
+{
+    let fillings = match fillings(alloc, files, declared, options, config) {
         Ok(fillings) => fillings,
         Err(Unsourced::NoMemory) => return Ok(refuse(Fault::out_of_memory(), answers)),
         Err(Unsourced::Unread(status)) => return Err(status),
     };
-    Ok(write(alloc, declared, fillings.as_slice(), answers, out))
+    Ok(write(alloc, declared, fillings.as_slice(), defaults, answers, out))
 }
 
 // Writes the image of stores that are given what they hold, behind a line for each.
-fn write<A: Write + Drop, O: Write>(
+fn write<'a, A: Write + Drop, O: Write>(
     alloc: Global,
-    declared: &Declared<'_>,
+    declared: &Declared<'a>,
     fillings: &[Filling<'_>],
+    defaults: Option<Defaults<'a, '_>>,
     answers: &mut Answers<A>,
     out: &mut Watched<O>,
 ) -> Ended
     requires { map filling_node fillings.now ≡ buffer_stores (nodes_of declared.now) }
-    ensures { TellsAndWrites (SaysFillings (nodes_of declared.now) fillings.now)
+    ensures { TellsAndWrites (SaysFillings declared.now (option_map defaults_view defaults.entry) fillings.now)
         A.contents O.contents answers.old out.old result answers.new out.new }
 {
-    match put_image(alloc, declared, fillings, answers, out) {
+    match put_image(alloc, declared, fillings, defaults, answers, out) {
         Ok(true) => commit(answers, out),
         Ok(false) => finish(Ended::Refused, answers),
         Err(fault) => refuse(fault, answers),

@@ -3,13 +3,19 @@
 
 mod answers;
 mod auditing;
+mod config;
+pub mod difference;
 mod ended;
+pub mod export;
 mod given;
 pub mod image;
+mod judged;
 mod listing;
+pub mod opcodes;
 pub mod question;
 pub mod questions;
 mod sources;
 pub mod split;
 mod store_files;
 pub mod stores;
+mod texts;

@@ -1,9 +1,10 @@
 //! The list that options name.
 
 ghost use Rattle.std.specs.Prelude.{◌≡◌, IfErr, IfOk};
+ghost use Rattle.hii_bytes.specs.Watching.{Puts};
 ghost use Rattle.dump_audit.specs.Lines.{no_list_text};
 ghost use Rattle.audit_commands.specs.Auditing.{asked_of};
-ghost use Rattle.audit_commands.specs.Listing.{IsListed, IsUnlisted};
+ghost use Rattle.audit_commands.specs.Listing.{IsListed, IsUnlisted, no_list_object, no_list_told};
 ghost use Rattle.audit_commands.specs.code.Endings.{RefusesBehind};
 ghost use Rattle.audit_commands.specs.code.Givens.{asked};
 ghost use Rattle.audit_commands.specs.code.Listing.{listed};
@@ -11,8 +12,10 @@ ghost use Rattle.audit_commands.specs.code.Listing.{listed};
 use crate::answers::{Answers, finish};
 use crate::ended::Ended;
 use crate::given::{GivenList, NoList};
+use audit_json::{Telling, end_object, put_kind, put_member};
 use audit_options::{FormSetOptions, ListOptions};
 use dump_audit::{nth_list, put_no_list};
+use hii_bytes::Watched;
 use question_audit::{Holder, Origin};
 use setup_files::{FormSetFiles, Given};
 use std::io::Write;
@@ -58,6 +61,35 @@ pub fn given_of<'a>(
         list: list.bytes,
         ..files.given(options.list.forms, options.lang)
     }
+}
+
+/// Ends a run that is asked for a list which is not there, which is told so.
+pub fn refuse_list_as<A: Write + Drop>(
+    telling: Telling,
+    none: NoList,
+    answers: &mut Answers<A>,
+) -> Ended
+    ensures { RefusesBehind (no_list_told telling none.number) A.contents answers.old result answers.new }
+{
+    match telling {
+        Telling::Lines => refuse_list(none, answers),
+        Telling::Objects => {
+            put_no_list_object(none, answers);
+            finish(Ended::Refused, answers)
+        }
+    }
+}
+
+// Writes as an object that a list is not there.
+fn put_no_list_object<W: Write>(none: NoList, out: &mut Watched<W>)
+    ensures { Puts W.contents out.old out.new (no_list_object none.number) }
+{
+    put_kind(b"error", out);
+    put_member(b"text", out);
+    out.put(b"\"NO LIST ");
+    out.put_decimal(none.number);
+    out.put(b"\"");
+    end_object(out);
 }
 
 /// Ends a run that is asked for a list which is not there: that is told.

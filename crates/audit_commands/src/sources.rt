@@ -6,13 +6,16 @@ ghost use Rattle.ifr_nodes.specs.Nodes.{nodes_of};
 ghost use Rattle.ifr_scopes.specs.code.Lists.{store_node};
 ghost use Rattle.store_audit.specs.Fillings.{buffer_stores};
 ghost use Rattle.store_audit.specs.code.Fillings.{filling_node};
+ghost use Rattle.exported_config.specs.code.Views.{exported_view};
 ghost use Rattle.audit_commands.specs.Files.{IsFile};
-ghost use Rattle.audit_commands.specs.Sources.{IsSource, IsVariable, filler, last_given, variable_path};
+ghost use Rattle.audit_commands.specs.Sources.{IsFallback, IsSource, filler, given_of, last_given, variable_path};
 ghost use Rattle.audit_commands.specs.code.Sources.{IsUnsourced};
 
+use crate::config::name_of;
 use crate::store_files::StoreFiles;
 use audit_options::{ImageOptions, StoreFile};
 use audit_text::{Case, guid_digits};
+use exported_config::ExportedConfig;
 use hii_bytes::laws::are_bytes;
 use ifr_scopes::Varstore;
 use setup_files::Status;
@@ -48,11 +51,12 @@ pub fn fillings<'a, F: StoreFiles>(
     files: &F,
     declared: &Declared<'a>,
     options: &ImageOptions<'_>,
+    config: &ExportedConfig<'_>,
 ) -> Result<Vec<Filling<'a>>, Unsourced>
     ensures all { IfOk result (λ fillings. map filling_node fillings.items
         ≡ buffer_stores (nodes_of declared.now)) }
     ensures sources { IfOk result (λ fillings.
-        AllByRecursion (λ f. IsSource (F.known files.now) options.now (filling_node f) f.source)
+        AllByRecursion (λ f. IsSource (F.known files.now) options.now (exported_view config.now) (filling_node f) f.source)
         fillings.items) }
     ensures err { IfErr result IsUnsourced }
 {
@@ -60,7 +64,7 @@ pub fn fillings<'a, F: StoreFiles>(
     let mut stores = declared.forms().stores();
     while let Some(store) = stores.next() {
         if store.size().is_some() {
-            let source = source(alloc, files, options, store)?;
+            let source = source(alloc, files, options, config, store)?;
             if fillings.push(Filling { store, source }).is_err() {
                 return Err(Unsourced::NoMemory);
             }
@@ -69,15 +73,17 @@ pub fn fillings<'a, F: StoreFiles>(
     Ok(fillings)
 }
 
-// Where the bytes of a store come from: the last file that is given to it, else the file of its variable, else zeros.
+// Where the bytes of a store come from: the last file that is given to it, else the file of its variable, else the configuration
+// text, else zeros.
 fn source<F: StoreFiles>(
     alloc: Global,
     files: &F,
     options: &ImageOptions<'_>,
+    config: &ExportedConfig<'_>,
     store: Varstore<'_>,
 ) -> Result<Source, Unsourced>
     ensures source { IfOk result
-        (IsSource (F.known files.now) options.now (store_node store.entry)) }
+        (IsSource (F.known files.now) options.now (exported_view config.now) (store_node store.entry)) }
     ensures err { IfErr result IsUnsourced }
 {
     if let Some(given) = last_given(options.files.as_slice(), store.id()) {
@@ -87,26 +93,28 @@ fn source<F: StoreFiles>(
         Some(folder) => variable_path(alloc, folder, store)?,
         None => None,
     };
-    variable(alloc, files, store.id(), path, options.zero)
-}
-
-// The file of the variable of a store without its attributes, where there is one, and else zeros or nothing.
-fn variable<F: StoreFiles>(
-    alloc: Global,
-    files: &F,
-    id: u16,
-    path: Option<String>,
-    zero: bool,
-) -> Result<Source, Unsourced>
-    ensures source { IfOk result
-        (IsVariable (F.known files.now) (option_map string_bytes path) zero) }
-    ensures err { IfErr result IsUnsourced }
-{
     match path {
         Some(path) if files.is_there(path.as_str()) => {
-            file_from(alloc, files, id, path.as_str(), ATTRIBUTES)
+            file_from(alloc, files, store.id(), path.as_str(), ATTRIBUTES)
         }
-        _ => Ok(filler(zero)),
+        _ => fallback(alloc, config, store, options.zero),
+    }
+}
+
+// What the configuration text gives to a store, else zeros or nothing.
+fn fallback(
+    alloc: Global,
+    config: &ExportedConfig<'_>,
+    store: Varstore<'_>,
+    zero: bool,
+) -> Result<Source, Unsourced>
+    ensures source { IfOk result (IsFallback (given_of (exported_view config.now) (store_node store.entry)) zero) }
+    ensures err { IfErr result IsUnsourced }
+{
+    let size = store.size().unwrap_or(0);
+    match config.given_to(alloc, name_of(store), size)? {
+        Some(given) => Ok(Source::Config(given)),
+        None => Ok(filler(zero)),
     }
 }
 

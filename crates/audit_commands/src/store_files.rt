@@ -24,6 +24,11 @@ pub trait StoreFiles {
         ensures bytes { IfOk result (λ file. IsRead (known self.now path.entry.now) file.bytes.items) }
         ensures err { IfErr result (λ status. status ≢ Status.Done) };
 
+    /// The file of a configuration text, or the status with which the program ends, as is told then.
+    fn read_config<'p>(&self, path: &'p str) -> Result<WholeFile<'p>, Status>
+        ensures bytes { IfOk result (λ file. IsRead (known self.now path.entry.now) file.bytes.items) }
+        ensures err { IfErr result (λ status. status ≢ Status.Done) };
+
     /// Whether there is a file of a path.
     fn is_there(&self, path: &str) -> bool
         ensures { IsThere (known self.now path.now) result };
@@ -55,6 +60,10 @@ impl<R: Files + Print + Eprint + AllocGlobal> StoreFiles for SystemFiles<'_, R> 
             return Err(refused(self.rt, self.terminals, Cause::OutOfMemory));
         };
         file(self.rt, self.terminals, path, what.as_str())
+    }
+
+    fn read_config<'p>(&self, path: &'p str) -> Result<WholeFile<'p>, Status> {
+        file(self.rt, self.terminals, path, "read config")
     }
 
     fn is_there(&self, path: &str) -> bool {

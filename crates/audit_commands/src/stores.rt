@@ -5,13 +5,15 @@ ghost use Rattle.hii_bytes.specs.Faults.{Refuses};
 ghost use Rattle.hii_bytes.specs.Watching.{Puts};
 ghost use Rattle.ifr_nodes.specs.Nodes.{nodes_of};
 ghost use Rattle.store_audit.specs.Declaring.{IsDeclaredFault};
+ghost use Rattle.audit_json.specs.Telling.{asked};
 ghost use Rattle.audit_commands.specs.Endings.{Tells};
-ghost use Rattle.audit_commands.specs.Listing.{SaysOfList};
+ghost use Rattle.audit_commands.specs.Listing.{SaysOfListAs};
 ghost use Rattle.audit_commands.specs.Storing.{IsDeclaredBy, SaysStores, lines_told};
 
-use crate::answers::{Answers, answers, finish, refuse, told};
+use crate::answers::{Answers, answers, finish, refuse_as, told};
 use crate::ended::Ended;
-use crate::listing::{given_list, refuse_list};
+use crate::listing::{given_list, refuse_list_as};
+use audit_json::Telling;
 use audit_options::StoresOptions;
 use hii_bytes::{Fault, Watched};
 use setup_files::{Status, Terminals, WholeFile, file};
@@ -42,13 +44,13 @@ fn tell<A: Write + Drop>(
     answers: &mut Answers<A>,
 ) -> Ended
     requires { file.now.path.now ≡ options.list.path.now }
-    ensures { Tells (SaysOfList options.entry.list.take file.now.bytes.items
-        (λ list. SaysStores options.entry.headers list.bytes options.entry.list.forms))
+    ensures { Tells (SaysOfListAs (asked options.entry.json) options.entry.list.take file.now.bytes.items
+        (λ list. SaysStores (asked options.entry.json) options.entry.headers list.bytes options.entry.list.forms))
         A.contents answers.old result answers.new }
 {
     match given_list(file.bytes.as_slice(), options.list) {
         Ok(list) => tell_of(alloc, options, list.bytes, answers),
-        Err(none) => refuse_list(none, answers),
+        Err(none) => refuse_list_as(Telling::of(options.json), none, answers),
     }
 }
 
@@ -59,16 +61,16 @@ fn tell_of<A: Write + Drop>(
     list: &[u8],
     answers: &mut Answers<A>,
 ) -> Ended
-    ensures { Tells (SaysStores options.entry.headers list.now options.entry.list.forms)
+    ensures { Tells (SaysStores (asked options.entry.json) options.entry.headers list.now options.entry.list.forms)
         A.contents answers.old result answers.new }
 {
     match put_lines(alloc, options, list, answers) {
         Ok(()) => finish(Ended::Done, answers),
-        Err(fault) => refuse(fault, answers),
+        Err(fault) => refuse_as(Telling::of(options.json), fault, answers),
     }
 }
 
-// Writes a line for each store that a list declares, or the header of each that holds bytes; or gives the least fault by which the list
+// Tells each store that a list declares, or the header of each that holds bytes; or gives the least fault by which the list
 // is refused, or that an allocation failed. Then nothing is written.
 fn put_lines<W: Write>(
     alloc: Global,
@@ -77,16 +79,17 @@ fn put_lines<W: Write>(
     out: &mut Watched<W>,
 ) -> Result<(), Fault>
     ensures told { OnOk result ((ifr : List ℕ) × IsDeclaredBy list.now options.entry.list.forms ifr
-        × Puts W.contents out.old out.new (lines_told options.entry.headers list.now (nodes_of ifr))) }
+        × Puts W.contents out.old out.new (lines_told (asked options.entry.json) options.entry.headers list.now (nodes_of ifr))) }
     ensures refused { IfErr result (Refuses (IsDeclaredFault list.now options.entry.list.forms)) }
     ensures nothing { OnErr result (out.new ≡ out.old) }
 {
     let path = device_path(list)?;
     let declared = Declared::read(alloc, list, usize::from(options.list.forms))?;
+    let telling = Telling::of(options.json);
     if options.headers {
-        put_headers(declared.forms(), path, out);
+        put_headers(telling, declared.forms(), path, out);
     } else {
-        put_stores(declared.forms(), out);
+        put_stores(telling, declared.forms(), out);
     }
     Ok(())
 }

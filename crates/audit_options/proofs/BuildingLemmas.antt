@@ -1,5 +1,5 @@
 -- Commands that are built up of arguments and of subcommands.
-use Rattle.std.proofs.Common.{◌≡◌, ◌∙◌, ◌&&◌, ◌++◌, ◌∷◌, Bool, true, false, not, [], ap, ap₂, refl, is_some}
+use Rattle.std.proofs.Common.{◌≡◌, ◌∙◌, ◌&&◌, ◌∷◌, Bool, true, false, not, [], ap, ap₂, refl, is_some}
 use Rattle.std.specs.Borrow.{Bor}
 use Rattle.clap.specs.Built.{AddsArg, AddsSubcommand}
 use Rattle.clap.specs.Simple.{App, Shape, with_rule, with_subcommand}

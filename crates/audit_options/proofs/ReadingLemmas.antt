@@ -1,5 +1,5 @@
 -- What is read of options.
-use Rattle.std.proofs.Common.{◌≡◌, ◌∙◌, ◌++◌, ◌∷◌, ℕ, Bool, List, [], Option, Some, None, Result, refl, sym, ap, inl, inr, map, option_map, unwrap_or, subst, true, false, codes, ◌+◌, ◌<◌, length, get_or, take, zero, suc, arith}
+use Rattle.std.proofs.Common.{◌≡◌, ◌∙◌, ◌++◌, ◌∷◌, ℕ, Bool, List, [], Option, Some, None, is_none, Result, refl, sym, ap, inl, inr, map, option_map, unwrap_or, subst, true, false, codes, ◌+◌, ◌<◌, length, get_or, take, zero, suc, arith}
 use Rattle.std.proofs.lemmas.List.{map-append, take_more}
 use Rattle.std.specs.Borrow.{Bor}
 use Rattle.std.specs.Prelude.{Box}
@@ -7,13 +7,13 @@ use Rattle.std.specs.Box.{box_value}
 use Rattle.std.specs.Str.Parse.{ExplainsUnsignedError, HasUnsignedDigitsIfOk, ParsesUnsigned}
 use Rattle.std.specs.declared.num.ParseIntError.{ParseIntError}
 use Rattle.clap.specs.Matches.{ReadsOne, first_value, matched_of, one_text, raw_values}
-use Rattle.clap.specs.Walk.{Row, Text, all_of, one_of, rows_of}
+use Rattle.clap.specs.Walk.{Row, Text, all_of, first_of, one_of, rows_of}
 use Rattle.clap.specs.Simple.{subcommand_rows}
 use Rattle.clap.specs.declared.parser.matches.ArgMatches.TheViews.{out-SubCommand}
 use Rattle.clap.specs.declared.parser.matches.Found.{Found}
 use Rattle.clap.specs.declared.parser.matches.SubCommand.{SubCommand}
 use Rattle.clap.proofs.WalkLemmas.{first_value-rows, one_text-rows, raw_values-rows}
-use Rattle.audit_options.specs.Asked.{AreStoreFiles, IsFlag, IsStoreFile, Reads, ReadsIfGiven, text_in}
+use Rattle.audit_options.specs.Asked.{AreStoreFiles, HasNoPart, IsFlag, IsStoreFile, Reads, ReadsIfGiven, is_part, text_in}
 use Rattle.audit_options.specs.declared.tasks.StoreFile.{StoreFile}
 
 text_or : (o : Option (Bor Text)) (d : Bor Text) (found : Option Text) → option_map (λ s. s.now) o ≡ found → (unwrap_or o d).now ≡ unwrap_or found d.now
@@ -24,6 +24,49 @@ text_or (Some s) d found is = rw (← is) refl
 pub text_read : (f : Found) (name : Text) (o : Option (Bor Text)) (d r : Bor Text) → option_map (λ s. s.now) o ≡ first_value f name → r ≡ unwrap_or o d
     → r.now ≡ text_in (rows_of f) name d.now
 text_read f name o d r got is = ap (λ (s : Bor Text). s.now) is ∙ text_or o d _ (got ∙ first_value-rows f name)
+
+-- the first text of an option that is given, or is not
+pub text_given : (f : Found) (name : Text) (o : Option (Bor Text)) (s : Bor Text) → option_map (λ s. s.now) o ≡ first_value f name → o ≡ Some s → first_of name (rows_of f) ≡ Some s.now
+text_given f name o s got is = sym (first_value-rows f name) ∙ sym got ∙ ap (option_map (λ (s : Bor Text). s.now)) is
+
+pub none_given : (f : Found) (name : Text) (o : Option (Bor Text)) → option_map (λ s. s.now) o ≡ first_value f name → o ≡ None → first_of name (rows_of f) ≡ None
+none_given f name o got is = sym (first_value-rows f name) ∙ sym got ∙ ap (option_map (λ (s : Bor Text). s.now)) is
+
+pub none_where : (o : Option (Bor Text)) → is_none o ≡ true → o ≡ None
+none_where None is = refl
+none_where (Some s) is = let bad : false ≡ true = is in cc
+
+-- options of `export` that do not go together
+pub no_part : (f : Found) (id out with : Option (Bor Text)) (lines : Bool) → option_map (λ s. s.now) id ≡ first_value f (codes "id") → option_map (λ s. s.now) out ≡ first_value f (codes "out")
+    → option_map (λ s. s.now) with ≡ first_value f (codes "with") → IsFlag (one_of (codes "lines") (rows_of f)) lines
+    → is_part (option_map (λ s. s.now) id) (option_map (λ s. s.now) out) (option_map (λ s. s.now) with) lines ≡ false → HasNoPart (rows_of f)
+no_part f id out with lines has_id has_out has_with flag apart = (
+  lines,
+  flag,
+  rw (← first_value-rows f (codes "id"), ← first_value-rows f (codes "out"), ← first_value-rows f (codes "with"), ← has_id, ← has_out, ← has_with) apart,
+)
+
+pub part_of_lines : (id out with : Option (Bor Text)) (s : Bor Text) → id ≡ Some s → is_part (option_map (λ s. s.now) id) (option_map (λ s. s.now) out) (option_map (λ s. s.now) with) true ≡ false
+part_of_lines id out with s is = rw is refl
+
+pub part_of_with : (id out with : Option (Bor Text)) (lines : Bool) (s t : Bor Text) → id ≡ Some s → out ≡ Some t → is_none with ≡ false
+    → is_part (option_map (λ s. s.now) id) (option_map (λ s. s.now) out) (option_map (λ s. s.now) with) lines ≡ false
+part_of_with id out None lines s t has_id has_out is = let bad : true ≡ false = is in cc
+part_of_with id out (Some w) true s t has_id has_out is = rw has_id refl
+part_of_with id out (Some w) false s t has_id has_out is = rw (has_id, has_out) refl
+
+pub part_of_id : (id out with : Option (Bor Text)) (lines : Bool) (s : Bor Text) → id ≡ Some s → out ≡ None
+    → is_part (option_map (λ s. s.now) id) (option_map (λ s. s.now) out) (option_map (λ s. s.now) with) lines ≡ false
+part_of_id id out with true s has_id has_out = rw has_id refl
+part_of_id id out with false s has_id has_out = rw (has_id, has_out) refl
+
+pub part_of_none : (id out with : Option (Bor Text)) → id ≡ None → is_part (option_map (λ s. s.now) id) (option_map (λ s. s.now) out) (option_map (λ s. s.now) with) false ≡ false
+part_of_none id out with is = rw is refl
+
+pub part_of_out : (id out with : Option (Bor Text)) (lines : Bool) (s : Bor Text) → id ≡ None → out ≡ Some s
+    → is_part (option_map (λ s. s.now) id) (option_map (λ s. s.now) out) (option_map (λ s. s.now) with) lines ≡ false
+part_of_out id out with true s has_id has_out = rw (has_id, has_out) refl
+part_of_out id out with false s has_id has_out = rw has_id refl
 
 -- what an unsigned number of so many bits is read of
 abbrev pub Unsigned : ℕ → Text → Result ℕ ParseIntError → Type 0

@@ -1,5 +1,5 @@
 -- What the words of a command line ask for: each option is the first value of its name (own rule).
-use Rattle.std.specs.Prelude.{◌≡◌, ◌⊎◌, ◌<◌, ◌^◌, ◌==◌, ◌||◌, ◌∷◌, ℕ, Bool, true, false, ⊤, Option, Some, None, List, [], codes, is_some, length, option_map, unwrap_or}
+use Rattle.std.specs.Prelude.{◌≡◌, ◌⊎◌, ◌<◌, ◌^◌, ◌==◌, ◌&&◌, ◌||◌, ◌∷◌, ℕ, Bool, true, false, if◌then◌else◌, is_none, ⊤, Option, Some, None, List, [], codes, is_some, length, option_map, unwrap_or}
 use Rattle.std.specs.List.{after_first, before_first, position_or_len}
 use Rattle.std.specs.Str.{bytes_eq}
 use Rattle.std.specs.Str.Parse.{IsNumeral, digits_value, without_leading_plus}
@@ -8,14 +8,19 @@ use Rattle.clap.specs.declared.error.ErrorKind.{ErrorKind}
 use Rattle.clap.specs.declared.error.ErrorKind.TheVariants as kind
 use Rattle.audit_options.specs.Ids.{id_in}
 use Rattle.audit_options.specs.declared.reading.Misuse.{Misuse}
-use Rattle.audit_options.specs.declared.reading.Misuse.TheVariants.{NoCommand, NoId, NoStoreFile, TakeWithoutOut}
+use Rattle.audit_options.specs.declared.reading.Misuse.TheVariants.{NoCommand, NoId, NoPart, NoStoreFile, NoStoreId, TakeWithoutOut}
 use Rattle.audit_options.specs.declared.tasks.Task.{Task}
-use Rattle.audit_options.specs.declared.tasks.Task.TheVariants.{Split, Stores, Image, Questions, Question}
+use Rattle.audit_options.specs.declared.tasks.Task.TheVariants.{Split, Stores, Opcodes, Image, Questions, Question, Export, Diff}
 use Rattle.audit_options.specs.declared.tasks.TakenList.{TakenList}
 use Rattle.audit_options.specs.declared.tasks.SplitOptions.{SplitOptions}
 use Rattle.audit_options.specs.declared.tasks.ListOptions.{ListOptions}
+use Rattle.audit_options.specs.declared.tasks.OpcodesOptions.{OpcodesOptions}
 use Rattle.audit_options.specs.declared.tasks.FormSetOptions.{FormSetOptions}
 use Rattle.audit_options.specs.declared.tasks.QuestionOptions.{QuestionOptions}
+use Rattle.audit_options.specs.declared.tasks.DiffOptions.{DiffOptions}
+use Rattle.audit_options.specs.declared.tasks.ExportOptions.{ExportOptions}
+use Rattle.audit_options.specs.declared.tasks.ExportPart.{ExportPart}
+use Rattle.audit_options.specs.declared.tasks.ExportPart.TheVariants.{Store, Lines}
 use Rattle.audit_options.specs.declared.tasks.ImageOptions.{ImageOptions}
 use Rattle.audit_options.specs.declared.tasks.StoreFile.{StoreFile}
 use Rattle.audit_options.specs.declared.tasks.StoresOptions.{StoresOptions}
@@ -61,6 +66,11 @@ pub record AsksList (rows : List Row) (o : ListOptions) : Type 0 where
 pub record AsksStores (rows : List Row) (o : StoresOptions) : Type 0 where
   pub list : AsksList rows o.list
   pub headers : IsFlag (one_of (codes "headers") rows) o.headers
+  pub json : IsFlag (one_of (codes "json") rows) o.json
+
+pub record AsksOpcodes (rows : List Row) (o : OpcodesOptions) : Type 0 where
+  pub list : AsksList rows o.list
+  pub json : IsFlag (one_of (codes "json") rows) o.json
 
 pub record AsksFormSet (rows : List Row) (o : FormSetOptions) : Type 0 where
   pub list : AsksList rows o.list
@@ -70,6 +80,26 @@ pub record AsksFormSet (rows : List Row) (o : FormSetOptions) : Type 0 where
 pub record AsksQuestion (rows : List Row) (o : QuestionOptions) : Type 0 where
   pub form_set : AsksFormSet rows o.form_set
   pub id : id_in (text_in rows (codes "id") []) ≡ Some o.id
+
+-- A store's bytes go into a file, and no line is asked for; or lines are, and no store.
+abbrev pub AsksPart : List Row → ExportPart → Type 0
+AsksPart rows (Store id out) =
+    (text : Text) × (first_of (codes "id") rows ≡ Some text) × (id_in text ≡ Some id)
+    × (first_of (codes "out") rows ≡ Some out.now) × (first_of (codes "with") rows ≡ None)
+    × IsFlag (one_of (codes "lines") rows) false
+AsksPart rows (Lines with) =
+    (first_of (codes "id") rows ≡ None) × (first_of (codes "out") rows ≡ None)
+    × (option_map (λ file. file.now) with ≡ first_of (codes "with") rows)
+    × IsFlag (one_of (codes "lines") rows) true
+
+pub record AsksExport (rows : List Row) (o : ExportOptions) : Type 0 where
+  pub list : AsksList rows o.list
+  pub stores : o.stores.now ≡ text_in rows (codes "stores") []
+  pub part : AsksPart rows o.part
+
+pub record AsksDiff (rows : List Row) (o : DiffOptions) : Type 0 where
+  pub form_set : AsksFormSet rows o.form_set
+  pub with : o.with.now ≡ text_in rows (codes "with") []
 
 -- The list of a number is taken into a file; or there is neither.
 abbrev pub AsksTaken : List Row → Option TakenList → Type 0
@@ -102,16 +132,22 @@ pub record AsksImage (rows : List Row) (o : ImageOptions) : Type 0 where
   pub out : o.out.now ≡ text_in rows (codes "out") []
   pub files : AreStoreFiles (unwrap_or (all_of (codes "store") rows) []) o.files.items
   pub efivars : option_map (λ folder. folder.now) o.efivars ≡ first_of (codes "efivars") rows
+  pub config : option_map (λ file. file.now) o.config ≡ first_of (codes "config") rows
   pub zero : IsFlag (one_of (codes "zero") rows) o.zero
+  pub defaults : ReadsIfGiven 16 (one_of (codes "defaults") rows) o.defaults
+  pub lang : o.lang.now ≡ text_in rows (codes "lang") (codes "en-US")
 
 -- The command that the words name, with its options, asks for this.
 abbrev pub Asks : Option (Text × List Row) → Task → Type 0
 Asks None task = ⊥
 Asks (Some met) (Split o) = (met.0 ≡ codes "split") × AsksSplit met.1 o
 Asks (Some met) (Stores o) = (met.0 ≡ codes "stores") × AsksStores met.1 o
+Asks (Some met) (Opcodes o) = (met.0 ≡ codes "opcodes") × AsksOpcodes met.1 o
 Asks (Some met) (Image o) = (met.0 ≡ codes "image") × AsksImage met.1 o
 Asks (Some met) (Questions o) = (met.0 ≡ codes "questions") × AsksFormSet met.1 o
 Asks (Some met) (Question o) = (met.0 ≡ codes "question") × AsksQuestion met.1 o
+Asks (Some met) (Export o) = (met.0 ≡ codes "export") × AsksExport met.1 o
+Asks (Some met) (Diff o) = (met.0 ≡ codes "diff") × AsksDiff met.1 o
 
 -- ---- options that do not go together
 
@@ -121,6 +157,8 @@ kind_of_misuse NoCommand = kind.MissingSubcommand
 kind_of_misuse TakeWithoutOut = kind.MissingRequiredArgument
 kind_of_misuse NoStoreFile = kind.ValueValidation
 kind_of_misuse NoId = kind.ValueValidation
+kind_of_misuse NoStoreId = kind.ValueValidation
+kind_of_misuse NoPart = kind.ArgumentConflict
 
 -- No list is taken by a number, though there is a file for it; or one is, and there is none.
 abbrev pub AreApart : List Row → Type 0
@@ -139,12 +177,36 @@ HasNoStoreFile rows = (files : List StoreFile)
 abbrev pub HasNoId : List Row → Type 0
 HasNoId rows = id_in (text_in rows (codes "id") []) ≡ None
 
+-- whether options of `export` go together: an id and a file alone, or the flag for lines with another image or without
+abbrev pub is_part : Option Text → Option Text → Option Text → Bool → Bool
+is_part id out with lines =
+    if lines then is_none id && is_none out else is_some id && (is_some out && is_none with)
+
+-- They do not.
+abbrev pub HasNoPart : List Row → Type 0
+HasNoPart rows =
+    (lines : Bool) × IsFlag (one_of (codes "lines") rows) lines
+    × (is_part (first_of (codes "id") rows) (first_of (codes "out") rows)
+    (first_of (codes "with") rows) lines ≡ false)
+
+-- The word that gives the id of a store is none.
+abbrev pub HasNoStoreId : List Row → Type 0
+HasNoStoreId rows = (text : Text) × (first_of (codes "id") rows ≡ Some text) × (id_in text ≡ None)
+
+abbrev pub IsMisusedExport : List Row → Misuse → Type 0
+IsMisusedExport rows NoPart = HasNoPart rows
+IsMisusedExport rows NoStoreId = HasNoStoreId rows
+IsMisusedExport rows _ = ⊥
+
 abbrev pub is_command : Text → Bool
 is_command name =
     bytes_eq name (codes "split")
     || (bytes_eq name (codes "stores")
+    || (bytes_eq name (codes "opcodes")
     || (bytes_eq name (codes "image")
-    || (bytes_eq name (codes "questions") || bytes_eq name (codes "question"))))
+    || (bytes_eq name (codes "questions")
+    || (bytes_eq name (codes "question")
+    || (bytes_eq name (codes "export") || bytes_eq name (codes "diff")))))))
 
 -- The options of the command that the words name do not go together, or the words name none.
 abbrev pub IsMisused : Option (Text × List Row) → Misuse → Type 0
@@ -153,3 +215,5 @@ IsMisused (Some met) NoCommand = is_command met.0 ≡ false
 IsMisused (Some met) TakeWithoutOut = (met.0 ≡ codes "split") × AreApart met.1
 IsMisused (Some met) NoStoreFile = (met.0 ≡ codes "image") × HasNoStoreFile met.1
 IsMisused (Some met) NoId = (met.0 ≡ codes "question") × HasNoId met.1
+IsMisused (Some met) NoStoreId = (met.0 ≡ codes "export") × HasNoStoreId met.1
+IsMisused (Some met) NoPart = (met.0 ≡ codes "export") × HasNoPart met.1

@@ -58,12 +58,19 @@ lang takes_hyphen = record (option (codes "lang")) {
 abbrev pub take : Rule
 take = record (option (codes "take")) { parser = Some (Unsigned 1 18446744073709551615) }
 
+-- a class of defaults
+abbrev pub defaults : Rule
+defaults = record (option (codes "defaults")) { parser = Some (Signed (pos 0) (pos 65535)) }
+
 abbrev pub store : Rule
 store = record (option (codes "store")) { action = Some Append }
 
 -- an option without a value
 abbrev pub flag : Text → Rule
 flag name = record (new_rule name) { long = Some name; action = Some SetTrue }
+
+abbrev pub json : Rule
+json = flag (codes "json")
 
 -- ---- commands
 
@@ -75,12 +82,15 @@ split = command_of (codes "split")
     (required_option (codes "dump") ∷ take ∷ option (codes "out") ∷ [])
 
 abbrev pub stores : Shape
-stores = command_of (codes "stores") (list ∷ take ∷ flag (codes "headers") ∷ forms ∷ [])
+stores = command_of (codes "stores") (list ∷ take ∷ flag (codes "headers") ∷ json ∷ forms ∷ [])
 
-abbrev pub image : Shape
-image = command_of (codes "image")
+abbrev pub opcodes : Shape
+opcodes = command_of (codes "opcodes") (list ∷ take ∷ json ∷ forms ∷ [])
+
+abbrev pub image : Bool → Shape
+image takes_hyphen = command_of (codes "image")
     (list ∷ take ∷ required_option (codes "out") ∷ store ∷ option (codes "efivars")
-    ∷ flag (codes "zero") ∷ forms ∷ [])
+    ∷ option (codes "config") ∷ flag (codes "zero") ∷ defaults ∷ forms ∷ lang takes_hyphen ∷ [])
 
 abbrev pub questions : Bool → Shape
 questions takes_hyphen = command_of (codes "questions")
@@ -90,6 +100,15 @@ abbrev pub question : Bool → Shape
 question takes_hyphen = command_of (codes "question")
     (list ∷ take ∷ stores_image ∷ required_option (codes "id") ∷ forms ∷ lang takes_hyphen ∷ [])
 
+abbrev pub export : Shape
+export = command_of (codes "export")
+    (list ∷ take ∷ stores_image ∷ option (codes "id") ∷ option (codes "out")
+    ∷ flag (codes "lines") ∷ option (codes "with") ∷ forms ∷ [])
+
+abbrev pub diff : Bool → Shape
+diff takes_hyphen = command_of (codes "diff")
+    (list ∷ take ∷ stores_image ∷ required_option (codes "with") ∷ forms ∷ lang takes_hyphen ∷ [])
+
 -- all of it, where a language may begin with a hyphen or not
 abbrev pub program : Bool → App
 program takes_hyphen = record {
@@ -98,7 +117,8 @@ program takes_hyphen = record {
     has_version = true;
     subcommand_required = true;
   };
-  subs = split ∷ stores ∷ image ∷ questions takes_hyphen ∷ question takes_hyphen ∷ [];
+  subs = split ∷ stores ∷ opcodes ∷ image takes_hyphen ∷ questions takes_hyphen
+      ∷ question takes_hyphen ∷ export ∷ diff takes_hyphen ∷ [];
 }
 
 -- ---- what is built

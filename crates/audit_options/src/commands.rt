@@ -31,9 +31,15 @@ const ABOUT_STORES: &str = "\
 Tells each store: its id, its opcode, how many bytes it holds, its attributes,
 its GUID and its name";
 
+const ABOUT_OPCODES: &str = "\
+Tells each opcode of the forms package, as far as their lengths allow: its place,
+its byte in the file, its name, its fields, and its bytes; and why setup refuses
+the list, where it does";
+
 const ABOUT_IMAGE: &str = "\
 Makes an image of the stores that hold bytes, and tells where the bytes of each
-come from: its file, else the file of its variable, else zeros";
+come from: its file, else the file of its variable, else a configuration text, else
+zeros";
 
 const ABOUT_QUESTIONS: &str = "\
 Tells each form, and each of its questions: whether it may be changed over an
@@ -43,6 +49,14 @@ const ABOUT_QUESTION: &str = "\
 Tells what is known of one question: its opcode and field, its value and defaults,
 each guard and check around it in words, its options, on which questions it depends
 whether it may be changed, and for which questions it decides that";
+
+const ABOUT_EXPORT: &str = "\
+Writes the bytes of a store of an image into a file, or tells each field with its
+bytes as one number, as NAME:0xOFFSET(WIDTH)=0xVALUE";
+
+const ABOUT_DIFF: &str = "\
+Tells what another image holds differently: the values of questions, bytes that no
+question has, and verdicts";
 
 /// All commands. The word behind `--lang` may begin with a hyphen where `takes_hyphen` says so.
 pub(crate) fn command<'a>(
@@ -55,9 +69,12 @@ pub(crate) fn command<'a>(
     let command = program(alloc, version);
     let command = with_command(command, split(alloc));
     let command = with_command(command, stores(alloc));
-    let command = with_command(command, image(alloc));
+    let command = with_command(command, opcodes(alloc));
+    let command = with_command(command, image(alloc, takes_hyphen));
     let command = with_command(command, questions(alloc, takes_hyphen));
-    with_command(command, question(alloc, takes_hyphen))
+    let command = with_command(command, question(alloc, takes_hyphen));
+    let command = with_command(command, export(alloc));
+    with_command(command, diff(alloc, takes_hyphen))
 }
 
 // The program without its commands.
@@ -147,11 +164,22 @@ fn stores<'a>(alloc: Global) -> Result<Command<'a>, AllocError>
     let command = command.arg(list(alloc));
     let command = with_arg(command, take_of_dump(alloc));
     let command = with_arg(command, headers);
+    let command = with_arg(command, json(alloc));
     with_arg(command, forms(alloc))
 }
 
-fn image<'a>(alloc: Global) -> Result<Command<'a>, AllocError>
-    ensures { IfOk result (IsCommand spec.image) }
+fn opcodes<'a>(alloc: Global) -> Result<Command<'a>, AllocError>
+    ensures { IfOk result (IsCommand spec.opcodes) }
+{
+    let command = Command::new(alloc, "opcodes").about(ABOUT_OPCODES);
+    let command = command.arg(list(alloc));
+    let command = with_arg(command, take_of_dump(alloc));
+    let command = with_arg(command, json(alloc));
+    with_arg(command, forms(alloc))
+}
+
+fn image<'a>(alloc: Global, takes_hyphen: bool) -> Result<Command<'a>, AllocError>
+    ensures { IfOk result (IsCommand (spec.image takes_hyphen)) }
 {
     let store = option(
         alloc,
@@ -169,7 +197,13 @@ fn image<'a>(alloc: Global) -> Result<Command<'a>, AllocError>
     let zero = flag(
         alloc,
         "zero",
-        "Fill stores that are given no file with zeros",
+        "Fill stores that are given no bytes with zeros",
+    );
+    let config = option(
+        alloc,
+        "config",
+        "F",
+        "Text of the firmware's ExportConfig, with the bytes of stores that are given no file",
     );
     let out = option(alloc, "out", "F", "Image that is written").required(true);
     let command = Command::new(alloc, "image").about(ABOUT_IMAGE);
@@ -178,8 +212,69 @@ fn image<'a>(alloc: Global) -> Result<Command<'a>, AllocError>
     let command = with_arg(command, out);
     let command = with_arg(command, store);
     let command = with_arg(command, efivars);
+    let command = with_arg(command, config);
     let command = with_arg(command, zero);
+    let command = with_arg(command, defaults(alloc));
+    let command = with_arg(command, forms(alloc));
+    with_arg(command, lang(alloc, takes_hyphen))
+}
+
+fn defaults(alloc: Global) -> Arg<'static>
+    ensures { IsArg spec.defaults result }
+{
+    option(
+        alloc,
+        "defaults",
+        "D",
+        "Class of defaults that questions take over these bytes: 0 standard, 1 manufacturing",
+    )
+    .value_parser(clap::value_parser!(u16).range(0..))
+}
+
+fn json(alloc: Global) -> Arg<'static>
+    ensures { IsArg spec.json result }
+{
+    flag(
+        alloc,
+        "json",
+        "Tell each as an object of JSON on a line of its own",
+    )
+}
+
+fn export<'a>(alloc: Global) -> Result<Command<'a>, AllocError>
+    ensures { IfOk result (IsCommand spec.export) }
+{
+    let id = option(alloc, "id", "N", "Id of the store, as 16 or 0x10");
+    let out = option(alloc, "out", "F", "File for the bytes of the store");
+    let lines = flag(alloc, "lines", "Tell each field, but that of a password");
+    let with = option(
+        alloc,
+        "with",
+        "B",
+        "Image: tell the fields alone that differ from it",
+    );
+    let command = Command::new(alloc, "export").about(ABOUT_EXPORT);
+    let command = command.arg(list(alloc));
+    let command = with_arg(command, take_of_dump(alloc));
+    let command = with_arg(command, image_of_stores(alloc));
+    let command = with_arg(command, id);
+    let command = with_arg(command, out);
+    let command = with_arg(command, lines);
+    let command = with_arg(command, with);
     with_arg(command, forms(alloc))
+}
+
+fn diff<'a>(alloc: Global, takes_hyphen: bool) -> Result<Command<'a>, AllocError>
+    ensures { IfOk result (IsCommand (spec.diff takes_hyphen)) }
+{
+    let with = option(alloc, "with", "B", "The other image").required(true);
+    let command = Command::new(alloc, "diff").about(ABOUT_DIFF);
+    let command = command.arg(list(alloc));
+    let command = with_arg(command, take_of_dump(alloc));
+    let command = with_arg(command, image_of_stores(alloc));
+    let command = with_arg(command, with);
+    let command = with_arg(command, forms(alloc));
+    with_arg(command, lang(alloc, takes_hyphen))
 }
 
 fn list(alloc: Global) -> Arg<'static>

@@ -8,6 +8,6 @@ mod tasks;
 
 pub use reading::read_words;
 pub use tasks::{
-    FormSetOptions, ImageOptions, ListOptions, QuestionOptions, SplitOptions, StoreFile,
-    StoresOptions, TakenList, Task,
+    DiffOptions, ExportOptions, ExportPart, FormSetOptions, ImageOptions, ListOptions,
+    OpcodesOptions, QuestionOptions, SplitOptions, StoreFile, StoresOptions, TakenList, Task,
 };

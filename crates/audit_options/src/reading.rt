@@ -4,13 +4,13 @@ ghost use Rattle.std.specs.Prelude.{◌≡◌, ◌≢◌, List, [], codes, false
 ghost use Rattle.clap.specs.Words.{all_of, found_of, kind_of, rows_of, subcommand_of, subcommand_rows_of, takes};
 ghost use Rattle.audit_options.specs.CommandLine as spec;
 ghost use Rattle.audit_options.specs.CommandLine.{has_hyphen_language, program};
-ghost use Rattle.audit_options.specs.Asked.{AreApart, AreStoreFiles, Asks, AsksFormSet, AsksImage, AsksList, AsksQuestion, AsksSplit, AsksStores, HasNoId, HasNoStoreFile, IsMisused, IsStoreFile, kind_of_misuse};
+ghost use Rattle.audit_options.specs.Asked.{AreApart, AreStoreFiles, Asks, AsksDiff, AsksExport, AsksFormSet, AsksImage, AsksList, AsksOpcodes, AsksPart, AsksQuestion, AsksSplit, AsksStores, HasNoId, HasNoPart, HasNoStoreFile, IsMisused, IsMisusedExport, IsStoreFile, kind_of_misuse};
 
 use crate::commands::{command, split_alone};
 use crate::ids::id_in;
 use crate::tasks::{
-    FormSetOptions, ImageOptions, ListOptions, QuestionOptions, SplitOptions, StoreFile,
-    StoresOptions, TakenList, Task,
+    DiffOptions, ExportOptions, ExportPart, FormSetOptions, ImageOptions, ListOptions,
+    OpcodesOptions, QuestionOptions, SplitOptions, StoreFile, StoresOptions, TakenList, Task,
 };
 use clap::error::ErrorKind;
 use clap::{ArgMatches, Command, Error};
@@ -23,6 +23,8 @@ enum Misuse {
     TakeWithoutOut,
     NoStoreFile,
     NoId,
+    NoStoreId,
+    NoPart,
 }
 
 impl Misuse {
@@ -34,7 +36,8 @@ impl Misuse {
         match self {
             Misuse::NoCommand => ErrorKind::MissingSubcommand,
             Misuse::TakeWithoutOut => ErrorKind::MissingRequiredArgument,
-            Misuse::NoStoreFile | Misuse::NoId => ErrorKind::ValueValidation,
+            Misuse::NoStoreFile | Misuse::NoId | Misuse::NoStoreId => ErrorKind::ValueValidation,
+            Misuse::NoPart => ErrorKind::ArgumentConflict,
         }
     }
 
@@ -46,6 +49,10 @@ impl Misuse {
                 "--store wants the id of a store and a file, as 16=station.bin or 0x10=station.bin"
             }
             Misuse::NoId => "--id wants the id of a question, as 33 or 0x21",
+            Misuse::NoStoreId => "--id wants the id of a store, as 16 or 0x10",
+            Misuse::NoPart => {
+                "--id N and --out F go together, else --lines is wanted, alone or with --with B"
+            }
         }
     }
 }
@@ -123,9 +130,12 @@ fn task_in<'a>(
     Ok(match name {
         "split" => split_in(options).map(Task::Split),
         "stores" => Ok(Task::Stores(stores_in(options))),
+        "opcodes" => Ok(Task::Opcodes(opcodes_in(options))),
         "image" => image_in(alloc, options)?.map(Task::Image),
         "questions" => Ok(Task::Questions(form_set_in(options))),
         "question" => question_in(options).map(Task::Question),
+        "export" => export_in(options).map(Task::Export),
+        "diff" => Ok(Task::Diff(diff_in(options))),
         _ => Err(Misuse::NoCommand),
     })
 }
@@ -163,6 +173,16 @@ fn stores_in<'a>(options: &ArgMatches<'a>) -> StoresOptions<'a>
     StoresOptions {
         list: list_in(options),
         headers: options.get_flag("headers"),
+        json: options.get_flag("json"),
+    }
+}
+
+fn opcodes_in<'a>(options: &ArgMatches<'a>) -> OpcodesOptions<'a>
+    ensures { AsksOpcodes (rows_of (found_of options.now)) result }
+{
+    OpcodesOptions {
+        list: list_in(options),
+        json: options.get_flag("json"),
     }
 }
 
@@ -191,6 +211,44 @@ fn question_in<'a>(options: &ArgMatches<'a>) -> Result<QuestionOptions<'a>, Misu
     })
 }
 
+// What is told of an image, unless options do not go together, or the id is none.
+fn export_in<'a>(options: &ArgMatches<'a>) -> Result<ExportOptions<'a>, Misuse>
+    ensures asked { IfOk result (AsksExport (rows_of (found_of options.now))) }
+    ensures misused { IfErr result (IsMisusedExport (rows_of (found_of options.now))) }
+{
+    let part = part_in(options)?;
+    Ok(ExportOptions {
+        list: list_in(options),
+        stores: options.get_str("stores").unwrap_or(""),
+        part,
+    })
+}
+
+fn part_in<'a>(options: &ArgMatches<'a>) -> Result<ExportPart<'a>, Misuse>
+    ensures asked { IfOk result (AsksPart (rows_of (found_of options.now))) }
+    ensures misused { IfErr result (IsMisusedExport (rows_of (found_of options.now))) }
+{
+    let with = options.get_str("with");
+    let lines = options.get_flag("lines");
+    match (options.get_str("id"), options.get_str("out")) {
+        (Some(id), Some(out)) if with.is_none() && !lines => match id_in(id) {
+            Some(id) => Ok(ExportPart::Store { id, out }),
+            None => Err(Misuse::NoStoreId),
+        },
+        (None, None) if lines => Ok(ExportPart::Lines { with }),
+        _ => Err(Misuse::NoPart),
+    }
+}
+
+fn diff_in<'a>(options: &ArgMatches<'a>) -> DiffOptions<'a>
+    ensures { AsksDiff (rows_of (found_of options.now)) result }
+{
+    DiffOptions {
+        form_set: form_set_in(options),
+        with: options.get_str("with").unwrap_or(""),
+    }
+}
+
 fn image_in<'a>(
     alloc: Global,
     options: &ArgMatches<'a>,
@@ -207,7 +265,10 @@ fn image_in<'a>(
         out: options.get_str("out").unwrap_or(""),
         files,
         efivars: options.get_str("efivars"),
+        config: options.get_str("config"),
         zero: options.get_flag("zero"),
+        defaults: options.get_one::<u16>("defaults"),
+        lang: options.get_str("lang").unwrap_or("en-US"),
     }))
 }
 

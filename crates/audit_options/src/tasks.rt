@@ -7,12 +7,18 @@ pub enum Task<'a> {
     Split(SplitOptions<'a>),
     /// A line for each store.
     Stores(StoresOptions<'a>),
+    /// A line for each opcode.
+    Opcodes(OpcodesOptions<'a>),
     /// An image of the stores.
     Image(ImageOptions<'a>),
     /// A line for each form and each question.
     Questions(FormSetOptions<'a>),
     /// What is known of one question.
     Question(QuestionOptions<'a>),
+    /// What an image holds.
+    Export(ExportOptions<'a>),
+    /// What two images hold differently.
+    Diff(DiffOptions<'a>),
 }
 
 /// A dump, and what is told of it.
@@ -50,6 +56,16 @@ pub struct StoresOptions<'a> {
     pub list: ListOptions<'a>,
     /// Whether the headers of configuration texts are told.
     pub headers: bool,
+    /// Whether they are told as objects of JSON.
+    pub json: bool,
+}
+
+/// The opcodes of a forms package, and how they are told.
+#[derive(Clone, Copy)]
+pub struct OpcodesOptions<'a> {
+    pub list: ListOptions<'a>,
+    /// Whether they are told as objects of JSON.
+    pub json: bool,
 }
 
 /// A form set over an image of its stores.
@@ -70,6 +86,34 @@ pub struct QuestionOptions<'a> {
     pub id: u16,
 }
 
+/// An image of the stores of a form set, and what of it is told.
+#[derive(Clone, Copy)]
+pub struct ExportOptions<'a> {
+    pub list: ListOptions<'a>,
+    /// The file of the image.
+    pub stores: &'a str,
+    /// What is told.
+    pub part: ExportPart<'a>,
+}
+
+/// What is told of an image.
+#[derive(Clone, Copy)]
+pub enum ExportPart<'a> {
+    /// The bytes of the store of an id, into a file.
+    Store { id: u16, out: &'a str },
+    /// A line for each field; of those alone that differ from the image of another file, where one is given.
+    Lines { with: Option<&'a str> },
+}
+
+/// Two images of the stores of a form set.
+#[derive(Clone, Copy)]
+pub struct DiffOptions<'a> {
+    /// The form set over the first.
+    pub form_set: FormSetOptions<'a>,
+    /// The file of the second.
+    pub with: &'a str,
+}
+
 /// What an image is made of.
 #[derive(Drop)]
 pub struct ImageOptions<'a> {
@@ -80,8 +124,14 @@ pub struct ImageOptions<'a> {
     pub files: Vec<StoreFile<'a>>,
     /// The folder with files of variables.
     pub efivars: Option<&'a str>,
-    /// Whether stores that are given no file hold zeros.
+    /// The file of a configuration text.
+    pub config: Option<&'a str>,
+    /// Whether stores that are given no bytes hold zeros.
     pub zero: bool,
+    /// The class of the defaults that are laid over these bytes.
+    pub defaults: Option<u16>,
+    /// The language of the texts of defaults.
+    pub lang: &'a str,
 }
 
 /// A file that holds the bytes of a store.

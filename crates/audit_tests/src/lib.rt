@@ -6,4 +6,8 @@ mod conditions;
 #[cfg(test)]
 mod dumps;
 #[cfg(test)]
+mod objects;
+#[cfg(test)]
+mod opcodes;
+#[cfg(test)]
 mod stores;

@@ -5,6 +5,7 @@ ghost use Rattle.ifr_nodes.specs.Nodes.{nodes_of};
 ghost use Rattle.store_audit.specs.Fillings.{buffer_stores};
 ghost use Rattle.store_audit.specs.code.Fillings.{filling_node};
 
+use audit_json::Telling;
 use hii_bytes::Watched;
 use std::alloc::{AllocError, Global};
 use std::io::BufWriter;
@@ -50,7 +51,7 @@ fn image() -> &'static [u8] {
 fn stores_are_told(rt: HostRuntime) -> Result<(), Fail> {
     let declared = Declared::read(rt.alloc(), list(), 1)?;
     let mut out = Watched::new(Vec::new(rt.alloc()));
-    put_stores(declared.forms(), &mut out);
+    put_stores(Telling::Lines, declared.forms(), &mut out);
     assert!(rt; out.into_inner().as_slice() == line());
     assert!(rt; declared.layout().size(1) == Some(2));
     Ok(())
@@ -60,7 +61,12 @@ fn stores_are_told(rt: HostRuntime) -> Result<(), Fail> {
 fn headers_are_told(rt: HostRuntime) -> Result<(), Fail> {
     let declared = Declared::read(rt.alloc(), list(), 1)?;
     let mut out = Watched::new(Vec::new(rt.alloc()));
-    put_headers(declared.forms(), device_path(list())?, &mut out);
+    put_headers(
+        Telling::Lines,
+        declared.forms(),
+        device_path(list())?,
+        &mut out,
+    );
     assert!(rt; out.into_inner().as_slice() == header());
     Ok(())
 }
@@ -90,7 +96,16 @@ fn are_filled<R: Abort + AllocGlobal>(
 {
     let mut lines = Watched::new(BufWriter::new(rt.alloc(), Vec::new(rt.alloc()))?);
     let mut image_file = Watched::new(Vec::new(rt.alloc()));
-    assert!(rt; put_image(rt.alloc(), declared, fillings, &mut lines, &mut image_file)?);
+    assert!(rt;
+        put_image(
+            rt.alloc(),
+            declared,
+            fillings,
+            None,
+            &mut lines,
+            &mut image_file
+        )?
+    );
     assert!(rt; lines.has_passed_on());
     let told = lines.into_inner().into_parts().0;
     assert!(rt; told.as_slice() == b"STORE 1 V 2 zeros\n".as_slice());

@@ -1,5 +1,5 @@
 -- Texts that were worked out by hand.
-use Rattle.std.proofs.Common.{◌≡◌, ℕ, true, false, List, [], ◌∷◌, refl}
+use Rattle.std.proofs.Common.{◌≡◌, ℕ, true, false, List, [], ◌∷◌, ◌++◌, refl}
 use Rattle.std.specs.Prelude.{codes}
 use Rattle.audit_text.specs.Texts.{guid_text, left_aligned, ascii_name, language_name, safe_text}
 use Rattle.audit_text.specs.Words.{opcode_name, attributes_text}
@@ -36,8 +36,11 @@ what_turns_a_line_is_a_number = refl
 an_opcode : opcode_name 0x23 ≡ codes "ORDERED_LIST"
 an_opcode = refl
 
-an_opcode_without_a_name : opcode_name 0x29 ≡ []
-an_opcode_without_a_name = refl
+the_last_opcode : opcode_name 0x64 ≡ codes "MATCH2"
+the_last_opcode = refl
+
+numbers_without_a_name : opcode_name 0x00 ++ opcode_name 0x65 ≡ []
+numbers_without_a_name = refl
 
 two_attributes : attributes_text 0x3 ≡ codes "NV+BS"
 two_attributes = refl

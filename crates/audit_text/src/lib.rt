@@ -5,6 +5,7 @@
 mod columns;
 mod guid;
 mod names;
+mod opcode_names;
 mod stores;
 mod texts;
 
@@ -12,4 +13,4 @@ pub use columns::{put_hexadecimal, put_left};
 pub use guid::{Case, guid_digits, put_guid};
 pub use names::{attributes_text, opcode_name, put_ascii_name, put_language};
 pub use stores::{store_attributes, store_opcode_name};
-pub use texts::{put_safe_char, put_safe_shown, put_safe_text};
+pub use texts::{is_unsafe, put_safe_char, put_safe_shown, put_safe_text};

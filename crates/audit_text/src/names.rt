@@ -3,15 +3,11 @@
 ghost use Rattle.std.specs.Prelude.{◌≡◌};
 ghost use Rattle.hii_bytes.specs.Watching.{Puts};
 ghost use Rattle.audit_text.specs.Texts.{ascii_name, language_name, name_by};
-ghost use Rattle.audit_text.specs.code.Names.{shown_in};
+ghost use Rattle.audit_text.specs.code.Names.{shown_in, word_in};
 ghost use Rattle.audit_text.specs.Words as spec;
 
-use hii_bytes::Watched;
-use ifr_opcodes::{
-    ACTION, CHECKBOX, DATE, DISABLE_IF, GRAY_OUT_IF, INCONSISTENT_IF, NO_SUBMIT_IF, NUMERIC,
-    ONE_OF, ORDERED_LIST, PASSWORD, REF, STRING, SUPPRESS_IF, TIME, VARSTORE, VARSTORE_EFI,
-    VARSTORE_NAME_VALUE, WARNING_IF,
-};
+use crate::opcode_names::OPCODE_NAMES;
+use hii_bytes::{Watched, first_place};
 use std::io::Write;
 
 /// What a name is of.
@@ -65,32 +61,24 @@ pub fn put_language<W: Write>(out: &mut Watched<W>, language: &[u8])
     put_name(out, language, Named::Language);
 }
 
-/// The name of the opcode of a question, a guard, a check or a store by its number, and no bytes for another (UEFI 2.8, 33.3.8.3
-/// Opcode Reference, without `EFI_IFR_` and `_OP`).
+/// The name of an opcode by its number, and no bytes for a number without a name (UEFI 2.8, 33.3.8.3 Opcode Reference, without
+/// `EFI_IFR_` and `_OP`).
 pub fn opcode_name(code: u8) -> &'static [u8]
     ensures { result.now ≡ spec.opcode_name code }
 {
-    match code {
-        CHECKBOX => b"CHECKBOX",
-        NUMERIC => b"NUMERIC",
-        ONE_OF => b"ONE_OF",
-        STRING => b"STRING",
-        PASSWORD => b"PASSWORD",
-        ORDERED_LIST => b"ORDERED_LIST",
-        DATE => b"DATE",
-        TIME => b"TIME",
-        ACTION => b"ACTION",
-        REF => b"REF",
-        SUPPRESS_IF => b"SUPPRESS_IF",
-        GRAY_OUT_IF => b"GRAY_OUT_IF",
-        DISABLE_IF => b"DISABLE_IF",
-        INCONSISTENT_IF => b"INCONSISTENT_IF",
-        NO_SUBMIT_IF => b"NO_SUBMIT_IF",
-        WARNING_IF => b"WARNING_IF",
-        VARSTORE => b"VARSTORE",
-        VARSTORE_EFI => b"VARSTORE_EFI",
-        VARSTORE_NAME_VALUE => b"VARSTORE_NAME_VALUE",
-        _ => b"",
+    match OPCODE_NAMES.get(usize::from(code)) {
+        Some(padded) => unpadded(padded),
+        None => b"",
+    }
+}
+
+// A word without the spaces with which it is filled up in a table.
+fn unpadded(padded: &[u8]) -> &[u8]
+    ensures { result.now ≡ word_in padded.now }
+{
+    match first_place(padded, b' ') {
+        Some(end) => &padded[..end],
+        None => padded,
     }
 }
 

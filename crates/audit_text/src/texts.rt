@@ -16,8 +16,8 @@ fn is_between(c: u32, first: u32, last: u32) -> bool
     first <= c && c <= last
 }
 
-// Whether a character ends a line, begins an escape, turns the direction of what follows or does not show at all.
-fn is_unsafe(c: u32) -> bool
+/// Whether a character ends a line, begins an escape, turns the direction of what follows or does not show at all (own rule).
+pub fn is_unsafe(c: u32) -> bool
     ensures { result ≡ is_unsafe c }
 {
     is_between(c, 0x00, 0x1f)

@@ -2,7 +2,7 @@
 //! a form set with what forbids their change (own rule).
 #![tactic(auto)]
 
-use audit_commands::{image, question, questions, split, stores};
+use audit_commands::{difference, export, image, opcodes, question, questions, split, stores};
 use audit_options::{Task, read_words};
 use clap::Error;
 use clap::error::ErrorKind;
@@ -26,7 +26,10 @@ fn run<R: Env + Files + Print + Eprint + AllocGlobal>(
         Ok(Task::Questions(options)) => questions::run(rt, terminals, options),
         Ok(Task::Question(options)) => question::run(rt, terminals, options),
         Ok(Task::Stores(options)) => stores::run(rt, terminals, options),
+        Ok(Task::Opcodes(options)) => opcodes::run(rt, terminals, options),
         Ok(Task::Image(options)) => image::run(rt, terminals, &options),
+        Ok(Task::Export(options)) => export::run(rt, terminals, options),
+        Ok(Task::Diff(options)) => difference::run(rt, terminals, options),
         Err(e) => Ok(tell(rt, terminals, &e)),
     }
 }

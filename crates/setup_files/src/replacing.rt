@@ -18,7 +18,7 @@ const MOST_NAMES: u32 = 1000;
 const SUFFIX: usize = 8;
 
 /// A writer of the file of a path, through a buffer: its bytes take the place of the file at a flush, whole, and until then and
-/// at any failure the file is as it was. Nothing is made before the first bytes are written.
+/// at any failure the file is as it was. Nothing is made before the first bytes are written, or none are flushed.
 pub type OutFile<'a, R> = BufWriter<Noted<Replacing<'a, R>>>;
 
 /// The writer of the file of a path. It takes all memory that writing takes.
@@ -45,7 +45,7 @@ fn is_same(one: &fs::Metadata, other: &fs::Metadata) -> bool {
 // How far the bytes of a file are on their way.
 #[derive(Drop)]
 enum State<F> {
-    // Nothing was written.
+    // Nothing was written or flushed.
     Unmade,
     // They are written into a new file beside the one whose place it is to take.
     Beside(F),
@@ -86,7 +86,7 @@ impl<'a, R: Files> Replacing<'a, R> {
         })
     }
 
-    // Makes what the first bytes are written into.
+    // Makes what the first bytes are written into, or what stays empty.
     fn make(&mut self) -> io::Result<()> {
         let permissions = match OpenOptions::new().write(true).open(self.rt, self.path) {
             Ok(old) => {
@@ -180,6 +180,9 @@ impl<R: Files> Write for Replacing<'_, R> {
 
     // Where this fails the file is as it was.
     fn flush(&mut self) -> io::Result<()> {
+        if let State::Unmade = self.state {
+            self.make()?;
+        }
         match mem::replace(&mut self.state, State::GivenUp) {
             State::Beside(file) => {
                 let placed = self.place(&file);

@@ -3,7 +3,7 @@ use Rattle.std.proofs.Common.{◌≡◌, ℕ, zero, suc, add-one, ◌+◌, ◌<�
 use Rattle.std.specs.Prelude.{find, filter, filter_map, flat_map, is_some, unwrap_or}
 use Rattle.std.specs.List.{AllByRecursion, IsDistinct, cons_option}
 use Rattle.std.specs.Option.{IsSomeAnd}
-use Rattle.std.proofs.lemmas.Bool.{cases_Bool, eqb-true, eqb-false, ne_eqb, eq-eqb}
+use Rattle.std.proofs.lemmas.Bool.{and_parts, cases_Bool, eqb-true, eqb-false, ne_eqb, eq-eqb}
 use Rattle.std.proofs.lemmas.List.{length-replicate, places, same_lists, take_more, flat_map_more}
 use Rattle.ifr_opcodes.specs.Forest.{Node}
 use Rattle.ifr_nodes.specs.Nodes.{is_store}
@@ -16,7 +16,7 @@ use Rattle.hii_varstore.specs.code.Table.{AreBuffers}
 use Rattle.hii_varstore.proofs.TableLemmas.{zeros_laid}
 use Rattle.store_audit.specs.declared.fillings.Filling.{Filling}
 use Rattle.store_audit.specs.declared.fillings.Source.{Source}
-use Rattle.store_audit.specs.declared.fillings.Source.TheVariants.{File, Zeros, Missing}
+use Rattle.store_audit.specs.declared.fillings.Source.TheVariants.{File, Config, Zeros, Missing}
 use Rattle.store_audit.specs.Fillings.{has_bytes, buffer_stores, wanted_of, bytes_from, are_fit}
 use Rattle.store_audit.specs.code.Fillings.{filling_node, buffer_in, filling_text, filling_id, wanted, filling_buffer, filling_bytes, is_fit, is_unfit, file_bytes, filled_from, filled_with, filled_store, stores_of}
 
@@ -34,6 +34,7 @@ all_filled (f ∷ fs) = ap (λ ss. filled_store f ∷ ss) (all_filled fs)
 
 fit_bytes : (size : ℕ) (source : Source) → are_fit size source ≡ true → length (bytes_from size source) ≡ size
 fit_bytes size (File path bytes) fit = eqb-true (length bytes.items) size fit
+fit_bytes size (Config given) fit = eqb-true (length given.bytes.items) size (and_parts _ _ fit).1
 fit_bytes size Zeros fit = length-replicate size 0
 fit_bytes size Missing fit = let bad : false ≡ true = fit in cc
 
@@ -102,6 +103,11 @@ filled_next guid fs i d (File path bytes) is apart fit within =
     let size : length bytes.items ≡ wanted (get_or fs i d) = eqb-true _ _ (subst (λ (s : Source). are_fit (wanted (get_or fs i d)) s ≡ true) (sym is) (fit_at fs i d fit within)) in
     let given : bytes.items ≡ filling_bytes (get_or fs i d) = ap (bytes_from (wanted (get_or fs i d))) is in
     ap (λ (ss : List Store). record { guid = guid; stores = ss }) (fills_next fs i d bytes.items apart within size given)
+filled_next guid fs i d (Config text) is apart fit within =
+    let whole = subst (λ (s : Source). are_fit (wanted (get_or fs i d)) s ≡ true) (sym is) (fit_at fs i d fit within) in
+    let size : length text.bytes.items ≡ wanted (get_or fs i d) = eqb-true _ _ (and_parts _ _ whole).1 in
+    let given : text.bytes.items ≡ filling_bytes (get_or fs i d) = ap (bytes_from (wanted (get_or fs i d))) is in
+    ap (λ (ss : List Store). record { guid = guid; stores = ss }) (fills_next fs i d text.bytes.items apart within size given)
 filled_next guid fs i d Zeros is apart fit within = ap (λ (ss : List Store). record { guid = guid; stores = ss }) (zeros_next fs i d within is)
 filled_next guid fs i d Missing is apart fit within =
     let bad : false ≡ true = subst (λ (s : Source). are_fit (wanted (get_or fs i d)) s ≡ true) (sym is) (fit_at fs i d fit within) in cc
@@ -122,6 +128,7 @@ room_in (f ∷ fs) (suc i) d n apart within fits =
 
 file_within : (size : ℕ) (s : Source) → are_fit size s ≡ true → length (file_bytes s) ≤ size
 file_within size (File path bytes) fit = omega (arith, eqb-true (length bytes.items) size fit)
+file_within size (Config given) fit = let long : length given.bytes.items ≡ size = eqb-true _ _ (and_parts _ _ fit).1 in omega (arith, long)
 file_within size Zeros fit = omega arith
 file_within size Missing fit = omega arith
 

@@ -21,7 +21,8 @@ use Rattle.config_text.proofs.LawLemmas.{text_read}
 use Rattle.config_text.proofs.RuleLemmas.{reading_means}
 use Rattle.ifr_opcodes.specs.Forest.{Node}
 use Rattle.store_audit.specs.Fillings.{has_bytes}
-use Rattle.store_audit.specs.HeaderLines.{IsReadBack, header_line, header_text, naming}
+use Rattle.audit_json.specs.declared.telling.Telling.{Telling}
+use Rattle.store_audit.specs.HeaderLines.{IsReadBack, header_text, header_told, naming}
 
 -- ---- digits
 
@@ -131,8 +132,10 @@ pub one_more : (left behind all : List Node) (n : Node) (done : List Node) → l
 one_more left behind all n done steps holds met =
     append_assoc done (n ∷ []) (filter has_bytes behind) ∙ ap (λ ns. done ++ ns) (sym (ap (filter has_bytes) steps ∙ rw holds refl)) ∙ met
 
-pub lines_more : (path : List ℕ) (done : List Node) (n : Node) → flat_map (header_line path) done ++ header_line path n ≡ flat_map (header_line path) (done ++ n ∷ [])
-lines_more path done n = sym (flat_map-append (header_line path) done (n ∷ []) ∙ ap (λ text. flat_map (header_line path) done ++ text) (append-nil (header_line path n)))
+pub told_more : (telling : Telling) (path : List ℕ) (done : List Node) (n : Node) → flat_map (header_told telling path) done ++ header_told telling path n ≡ flat_map (header_told telling path) (done ++ n ∷ [])
+told_more telling path done n =
+    let told = header_told telling path in
+    sym (flat_map-append told done (n ∷ []) ∙ ap (λ text. flat_map told done ++ text) (append-nil (told n)))
 
 pub read_more : (path : List ℕ) (done : List Node) (n : Node) → AllByRecursion (λ n. IsReadBack (naming path n)) done → IsReadBack (naming path n) → AllByRecursion (λ n. IsReadBack (naming path n)) (done ++ n ∷ [])
 read_more path [] n all one = (one, tt)

@@ -1,12 +1,13 @@
 -- The stores of a form set that hold bytes, and what they are filled with (own rule).
-use Rattle.std.specs.Prelude.{ℕ, ◌==◌, Bool, true, false, List, [], ◌++◌, filter, is_some, length, replicate, unwrap_or, chars, codes, decimal, string_bytes}
+use Rattle.std.specs.Prelude.{ℕ, ◌==◌, ◌&&◌, Bool, true, false, List, [], ◌++◌, Option, Some, None, option_map, filter, is_some, length, replicate, unwrap_or, chars, codes, decimal, string_bytes}
 use Rattle.ifr_opcodes.specs.Forest.{Node}
 use Rattle.ifr_nodes.specs.Nodes.{is_store}
 use Rattle.ifr_scopes.specs.Stores.{store_id, store_name, store_size}
 use Rattle.audit_text.specs.Texts.{ascii_name, safe_text}
 use Rattle.hii_varstore.specs.Stores.{Store}
+use Rattle.exported_config.specs.declared.giving.Given.{Given}
 use Rattle.store_audit.specs.declared.fillings.Source.{Source}
-use Rattle.store_audit.specs.declared.fillings.Source.TheVariants.{File, Zeros, Missing}
+use Rattle.store_audit.specs.declared.fillings.Source.TheVariants.{File, Config, Zeros, Missing}
 
 -- a store of names and values holds no bytes (UEFI 2.8, 33.3.8.3, EFI_IFR_VARSTORE_NAME_VALUE)
 abbrev pub has_bytes : Node → Bool
@@ -23,12 +24,24 @@ wanted_of n = unwrap_or (store_size n.op) 0
 -- the bytes that a source gives to a store that holds so many
 abbrev pub bytes_from : ℕ → Source → List ℕ
 bytes_from size (File path bytes) = bytes.items
+bytes_from size (Config given) = given.bytes.items
 bytes_from size Zeros = replicate size 0
 bytes_from size Missing = []
+
+-- how many bytes a source gives: where a block of a text leaves the store, its end
+abbrev pub count_from : ℕ → Source → ℕ
+count_from size (File path bytes) = length bytes.items
+count_from size (Config given) = given.count
+count_from size Zeros = size
+count_from size Missing = 0
+
+abbrev pub is_whole : ℕ → Given → Bool
+is_whole size given = given.count == size && length given.bytes.items == size
 
 -- Bytes are given, and as many as the store holds.
 abbrev pub are_fit : ℕ → Source → Bool
 are_fit size (File path bytes) = length bytes.items == size
+are_fit size (Config given) = is_whole size given
 are_fit size Zeros = true
 are_fit size Missing = false
 
@@ -46,22 +59,31 @@ store_from n source = record { id = store_id n.op; bytes = bytes_given n source 
 abbrev pub names_text : Node → List ℕ
 names_text n = decimal (store_id n.op) ++ codes " " ++ ascii_name (store_name n.op)
 
+-- bytes that come from a text, with the name under which they stand there, where it is another one
+abbrev pub alias_text : Option (List ℕ) → List ℕ
+alias_text None = []
+alias_text (Some name) = codes ", where its name is " ++ ascii_name name
+
+abbrev pub config_text : Given → List ℕ
+config_text given = codes "config" ++ alias_text (option_map (λ name. name.items) given.alias)
+
 -- a path stands in a line as other texts do
 abbrev pub source_text : Source → List ℕ
 source_text (File path bytes) = safe_text (chars (string_bytes path))
+source_text (Config given) = config_text given
 source_text Zeros = codes "zeros"
 source_text Missing = codes "-"
 
 -- the line of a store that is filled
 abbrev pub filled_line : Node → Source → List ℕ
 filled_line n source =
-    codes "STORE " ++ names_text n ++ codes " " ++ decimal (length (bytes_given n source))
+    codes "STORE " ++ names_text n ++ codes " " ++ decimal (count_from (wanted_of n) source)
     ++ codes " " ++ source_text source ++ codes "\n"
 
 -- how many bytes a store is given, and how many it holds
 abbrev pub counts_text : Node → Source → List ℕ
 counts_text n source =
-    codes ": " ++ decimal (length (bytes_given n source)) ++ codes " bytes given, "
+    codes ": " ++ decimal (count_from (wanted_of n) source) ++ codes " bytes given, "
     ++ decimal (wanted_of n) ++ codes " wanted\n"
 
 -- why a store is not filled

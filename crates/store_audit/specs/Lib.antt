@@ -1,4 +1,5 @@
 pub mod Declaring
+pub mod Defaulted
 pub mod StoreLines
 pub mod Fillings
 pub mod HeaderLines

@@ -6,6 +6,8 @@ ghost use Rattle.hii_bytes.specs.Faults.{HasNone, IsLeast, Refuses};
 ghost use Rattle.hii_packages.specs.code.Package.{package_of};
 ghost use Rattle.ifr_nodes.specs.Nodes.{nodes_of};
 ghost use Rattle.hii_varstore.specs.StoreNodes.{layout_of};
+ghost use Rattle.hii_questions.specs.Fields.{questions as questions_of};
+ghost use Rattle.hii_questions.specs.code.LyingIn.{LieIn};
 ghost use Rattle.session_steps.specs.Opening.{HasSource, IsBrowsable, IsSourceFault, IsFormSetFault};
 ghost use Rattle.store_audit.specs.Declaring.{IsDeclaredFault};
 
@@ -17,23 +19,26 @@ use ifr_scopes::Forms;
 use std::alloc::Global;
 use std::marker::Model;
 
-/// The form set of a package list, whose questions are sound, and its buffer stores. They are seen as the forms package.
+/// The form set of a package list, its buffer stores, and its questions, which are sound. They are seen as the forms package.
 #[derive(Drop)]
 pub struct Declared<'a> {
     forms: Forms<'a>,
     layout: Layout<'a>,
+    questions: Questions<'a>,
 }
 
 impl<'a> Model for Declared<'a> {
     ghost use Rattle.std.specs.Prelude.{◌≡◌, ℕ, List};
     ghost use Rattle.ifr_nodes.specs.Nodes.{nodes_of};
     ghost use Rattle.hii_varstore.specs.StoreNodes.{layout_of};
+    ghost use Rattle.session_steps.specs.Opening.{IsBrowsable};
 
     ghost Value = { List ℕ };
 
     ghost view = { λ d. d.forms };
 
-    ghost invariant = { λ d. d.layout ≡ layout_of (nodes_of d.forms) };
+    ghost invariant = { λ d. (d.layout ≡ layout_of (nodes_of d.forms))
+        × (d.questions ≡ record { ifr = d.forms }) × IsBrowsable d.forms };
 }
 
 impl<'a> Declared<'a> {
@@ -64,6 +69,14 @@ impl<'a> Declared<'a> {
     {
         &self.layout
     }
+
+    /// The questions of the form set, whose fields lie in these stores.
+    pub fn questions(&self) -> &Questions<'a>
+        ensures same { result.now ≡ record { ifr = self.now } }
+        ensures lie { LieIn (layout_of (nodes_of self.now)) (questions_of (nodes_of self.now)) }
+    {
+        &self.questions
+    }
 }
 
 /// The forms package of a number in a list, counted from 1, or the least fault of the list's packages (1 to 5), or that there is no
@@ -85,6 +98,10 @@ fn form_set<'a>(alloc: Global, source: Package<'a>) -> Result<Declared<'a>, Faul
 {
     let forms = Forms::read(alloc, source)?;
     let layout = Layout::read(alloc, &forms)?;
-    Questions::read(alloc, &forms, &layout)?;
-    Ok(Declared { forms, layout })
+    let questions = Questions::read(alloc, &forms, &layout)?;
+    Ok(Declared {
+        forms,
+        layout,
+        questions,
+    })
 }

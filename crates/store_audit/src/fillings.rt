@@ -1,6 +1,6 @@
 //! Stores that are made of given bytes.
 
-ghost use Rattle.std.specs.Prelude.{◌≡◌, [], true, false, None, IfOk, IfErr, OnErr, OnOk, length, map, find, flat_map, option_copied, option_map};
+ghost use Rattle.std.specs.Prelude.{◌≡◌, ◌++◌, [], true, false, None, IfOk, IfErr, OnErr, OnOk, length, map, find, flat_map, option_copied, option_map};
 ghost use Rattle.std.specs.Io.Buffered.{writer_buffer, writer_contents};
 ghost use Rattle.hii_bytes.specs.Faults.{out_of_memory};
 ghost use Rattle.hii_bytes.specs.Watching.{Puts, has_failed, inner_of, pen_of};
@@ -10,13 +10,18 @@ ghost use Rattle.hii_varstore.specs.StoreNodes.{layout_of};
 ghost use Rattle.hii_varstore.specs.Stores.{StoreMap, shape_of, with_bytes};
 ghost use Rattle.hii_varstore.specs.code.Ranges.{HasRange};
 ghost use Rattle.ifr_scopes.specs.code.Lists.{store_node};
+ghost use Rattle.store_audit.specs.Defaulted.{defaults_text, left_by};
 ghost use Rattle.store_audit.specs.Fillings as lines;
 ghost use Rattle.store_audit.specs.Fillings.{buffer_stores};
 ghost use Rattle.store_audit.specs.Images.{PutsImage};
+ghost use Rattle.store_audit.specs.code.Defaulted.{defaults_view};
 ghost use Rattle.store_audit.specs.code.Fillings as spec;
 
 use crate::declared::Declared;
+use crate::defaults::Defaults;
+use crate::laying::put_defaults;
 use audit_text::{put_ascii_name, put_safe_text};
+use exported_config::Given;
 use hii_bytes::{Fault, Watched};
 use hii_varstore::Stores;
 use hii_varstore::laws::{images_are_read_back, one_map_is_spelled};
@@ -29,6 +34,8 @@ use std::io::{BufWriter, Write};
 pub enum Source {
     /// A file of this path, which has these bytes.
     File { path: String, bytes: Vec<u8> },
+    /// The text of a firmware's ExportConfig.
+    Config(Given),
     /// Zeros, as many as the store holds.
     Zeros,
     /// No bytes are given.
@@ -44,9 +51,27 @@ pub struct Filling<'a> {
     pub source: Source,
 }
 
+// Whether a text gives a store all of its bytes.
+fn is_whole(given: &Given, size: usize) -> bool
+    ensures { result ≡ lines.is_whole size given.now }
+{
+    given.count == size && given.bytes.len() == size
+}
+
+// Writes that bytes come from a text, and the name under which they stand there, where it is another one.
+fn put_config<W: Write>(given: &Given, out: &mut Watched<W>)
+    ensures { Puts W.contents out.old out.new (lines.config_text given.now) }
+{
+    out.put(b"config");
+    if let Some(name) = &given.alias {
+        out.put(b", where its name is ");
+        put_ascii_name(out, name);
+    }
+}
+
 impl Filling<'_> {
-    ghost use Rattle.store_audit.specs.Fillings.{source_text};
-    ghost use Rattle.store_audit.specs.code.Fillings.{is_fit, wanted, filling_bytes};
+    ghost use Rattle.store_audit.specs.Fillings.{count_from, source_text};
+    ghost use Rattle.store_audit.specs.code.Fillings.{is_fit, wanted};
 
     // How many bytes the store holds.
     fn wanted(&self) -> u16
@@ -57,10 +82,11 @@ impl Filling<'_> {
 
     // How many bytes it is given.
     fn given(&self) -> usize
-        ensures { result ≡ length (filling_bytes self.now) }
+        ensures { result ≡ count_from (wanted self.now) self.now.source }
     {
         match &self.source {
             Source::File { bytes, .. } => bytes.len(),
+            Source::Config(given) => given.count,
             Source::Zeros => usize::from(self.wanted()),
             Source::Missing => 0,
         }
@@ -72,6 +98,7 @@ impl Filling<'_> {
     {
         match &self.source {
             Source::File { bytes, .. } => bytes.len() == usize::from(self.wanted()),
+            Source::Config(given) => is_whole(given, usize::from(self.wanted())),
             Source::Zeros => true,
             Source::Missing => false,
         }
@@ -83,6 +110,7 @@ impl Filling<'_> {
     {
         match &self.source {
             Source::File { path, .. } => put_safe_text(out, path.as_str()),
+            Source::Config(given) => put_config(given, out),
             Source::Zeros => out.put(b"zeros"),
             Source::Missing => out.put(b"-"),
         }
@@ -130,6 +158,7 @@ fn put_unfit<W: Write>(filling: &Filling<'_>, out: &mut Watched<W>)
     put_names(filling.store, out);
     match &filling.source {
         Source::File { .. } => put_counts(filling, out),
+        Source::Config(_) => put_counts(filling, out),
         Source::Zeros => put_counts(filling, out),
         Source::Missing => out.put(b": no bytes given\n"),
     }
@@ -171,8 +200,10 @@ fn fill(stores: &mut Stores, filling: &Filling<'_>)
         (length (spec.file_bytes filling.now.source)) }
     ensures { stores.new ≡ spec.filled_with filling.now stores.old }
 {
-    if let Source::File { bytes, .. } = &filling.source {
-        put_bytes(stores, filling.store.id(), bytes);
+    match &filling.source {
+        Source::File { bytes, .. } => put_bytes(stores, filling.store.id(), bytes),
+        Source::Config(given) => put_bytes(stores, filling.store.id(), &given.bytes),
+        Source::Zeros | Source::Missing => {}
     }
 }
 
@@ -199,25 +230,55 @@ fn filled(alloc: Global, declared: &Declared<'_>, fillings: &[Filling<'_>]) -> R
     Ok(stores)
 }
 
-/// Fills the stores of a form set and writes their image: a line for each store, which is passed on, and then the image into a file.
+// Writes a line for each store that is filled, lays defaults over the stores, if they are asked for, and writes how many were taken.
+fn put_lines<'a, W: Write>(
+    declared: &Declared<'a>,
+    fillings: &[Filling<'_>],
+    defaults: Option<Defaults<'a, '_>>,
+    stores: &mut Stores,
+    out: &mut Watched<W>,
+)
+    requires { shape_of stores.old ≡ layout_of (nodes_of declared.now) }
+    ensures shape { shape_of stores.new ≡ shape_of stores.old }
+    ensures laid { stores.new ≡ left_by declared.now (option_map defaults_view defaults.entry) stores.old }
+    ensures text { Puts W.contents out.old out.new (flat_map spec.filling_text fillings.now
+        ++ defaults_text declared.now (option_map defaults_view defaults.entry) stores.old) }
+{
+    put_fillings(fillings, out);
+    put_defaults(declared, defaults, stores, out);
+}
+
+/// Fills the stores of a form set, lays defaults over them, if they are asked for, and writes their image: a line for each store and one
+/// for the defaults, which are passed on, and then the image into a file.
 /// Where a store is not given as many bytes as it holds, the line of the first such store is written and not passed on, and no image
 /// is; nor is it where the answers fail. Tells whether each store is given what it holds. OutOfMemory (60) at 0 where an allocation
 /// fails; then nothing is written.
-pub fn put_image<W: Write + Drop, F: Write>(
+pub fn put_image<'a, W: Write + Drop, F: Write>(
     alloc: Global,
-    declared: &Declared<'_>,
+    declared: &Declared<'a>,
     fillings: &[Filling<'_>],
+    defaults: Option<Defaults<'a, '_>>,
     out: &mut Watched<BufWriter<W>>,
     file: &mut Watched<F>,
 ) -> Result<bool, Fault>
     requires { map spec.filling_node fillings.now ≡ buffer_stores (nodes_of declared.now) }
     ensures done { IfOk result (λ is_filled. PutsImage F.contents
         (option_map spec.unfit_text (find spec.is_unfit fillings.now))
-        (spec.stores_of (layout_of (nodes_of declared.now)).guid fillings.now)
-        (flat_map spec.filling_text fillings.now) is_filled
+        (left_by declared.now (option_map defaults_view defaults.entry)
+        (spec.stores_of (layout_of (nodes_of declared.now)).guid fillings.now))
+        (flat_map spec.filling_text fillings.now
+        ++ defaults_text declared.now (option_map defaults_view defaults.entry)
+        (spec.stores_of (layout_of (nodes_of declared.now)).guid fillings.now)) is_filled
         (pen_of (writer_contents W.contents) out.old) (pen_of (writer_contents W.contents) out.new)
         file.old file.new) }
-    // What is read from the image are the given bytes, store by store.
+    // What is read from the image is what the defaults leave.
+    ensures laid_back { find spec.is_unfit fillings.now ≡ None → OnOk result ((read : StoreMap)
+        → SpellsImage (layout_of (nodes_of declared.now))
+        (image_of (left_by declared.now (option_map defaults_view defaults.entry)
+        (spec.stores_of (layout_of (nodes_of declared.now)).guid fillings.now))) read
+        → read ≡ left_by declared.now (option_map defaults_view defaults.entry)
+        (spec.stores_of (layout_of (nodes_of declared.now)).guid fillings.now)) }
+    // Without defaults these are the given bytes, store by store.
     ensures read_back { find spec.is_unfit fillings.now ≡ None → OnOk result ((read : StoreMap)
         → SpellsImage (layout_of (nodes_of declared.now))
         (image_of (spec.stores_of (layout_of (nodes_of declared.now)).guid fillings.now)) read
@@ -231,8 +292,10 @@ pub fn put_image<W: Write + Drop, F: Write>(
         put_unfit(filling, out);
         return Ok(false);
     }
-    let stores = filled(alloc, declared, fillings)?;
-    put_fillings(fillings, out);
+    images_are_read_back();
+    one_map_is_spelled();
+    let mut stores = filled(alloc, declared, fillings)?;
+    put_lines(declared, fillings, defaults, &mut stores, out);
     if out.pass_on().is_ok() {
         // A file that fails knows it.
         let _ = stores.image_into(file);

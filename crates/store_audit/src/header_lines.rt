@@ -11,8 +11,9 @@ ghost use Rattle.hii_bytes.specs.Watching.{Puts};
 ghost use Rattle.ifr_nodes.specs.Nodes.{nodes_of};
 ghost use Rattle.ifr_scopes.specs.code.Lists.{store_node};
 ghost use Rattle.store_audit.specs.Fillings.{buffer_stores};
-ghost use Rattle.store_audit.specs.HeaderLines.{IsReadBack, header_line, header_text, headers_text, naming};
+ghost use Rattle.store_audit.specs.HeaderLines.{IsReadBack, header_line, header_object, header_text, header_told, headers_text, naming};
 
+use audit_json::{Telling, end_object, put_kind, put_member, put_number};
 use hii_bytes::laws::are_bytes;
 use hii_bytes::{Fault, Watched};
 use hii_packages::PackageList;
@@ -68,27 +69,55 @@ fn put_header<W: Write>(store: Varstore<'_>, path: &[u8], out: &mut Watched<W>)
 
 // Writes the line of a store.
 fn put_header_line<W: Write>(store: Varstore<'_>, path: &[u8], out: &mut Watched<W>)
-    ensures line { Puts W.contents out.old out.new (header_line path.now (store_node store.entry)) }
+    ensures { Puts W.contents out.old out.new (header_line path.now (store_node store.entry)) }
+{
+    put_header(store, path, out);
+    out.put(b"\n");
+}
+
+// Writes the object of a store.
+fn put_header_object<W: Write>(store: Varstore<'_>, path: &[u8], out: &mut Watched<W>)
+    ensures { Puts W.contents out.old out.new (header_object path.now (store_node store.entry)) }
+{
+    put_kind(b"header", out);
+    put_number(b"id", u64::from(store.id()), out);
+    put_member(b"header", out);
+    out.put(b"\"");
+    put_header(store, path, out);
+    out.put(b"\"");
+    end_object(out);
+}
+
+// Tells the header of a store.
+fn put_header_told<W: Write>(
+    telling: Telling,
+    store: Varstore<'_>,
+    path: &[u8],
+    out: &mut Watched<W>,
+)
+    ensures text { Puts W.contents out.old out.new (header_told telling path.now (store_node store.entry)) }
     ensures read_back { IsReadBack (naming path.now (store_node store.entry)) }
 {
     are_bytes(store.guid().bytes());
     are_bytes(store.name());
     are_bytes(path);
-    put_header(store, path, out);
-    out.put(b"\n");
+    match telling {
+        Telling::Lines => put_header_line(store, path, out),
+        Telling::Objects => put_header_object(store, path, out),
+    }
 }
 
-/// Writes for each store that holds bytes, by place, the header with which a configuration text names it in a list with this device
-/// path. `extract` and `route` of a session read it as the store's GUID, name and device path.
-pub fn put_headers<W: Write>(forms: &Forms<'_>, path: &[u8], out: &mut Watched<W>)
-    ensures lines { Puts W.contents out.old out.new (headers_text path.now (nodes_of forms.now)) }
+/// Tells for each store that holds bytes, by place, the header with which a configuration text names it in a list with this device
+/// path: in a line, or in an object. `extract` and `route` of a session read it as the store's GUID, name and device path.
+pub fn put_headers<W: Write>(telling: Telling, forms: &Forms<'_>, path: &[u8], out: &mut Watched<W>)
+    ensures lines { Puts W.contents out.old out.new (headers_text telling path.now (nodes_of forms.now)) }
     ensures read_back { AllByRecursion (λ n. IsReadBack (naming path.now n))
         (buffer_stores (nodes_of forms.now)) }
 {
     let mut stores = forms.stores();
     while let Some(store) = stores.next() {
         if store.size().is_some() {
-            put_header_line(store, path, out);
+            put_header_told(telling, store, path, out);
         }
     }
 }

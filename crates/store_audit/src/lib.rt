@@ -3,11 +3,14 @@
 #![tactic(auto)]
 
 mod declared;
+mod defaults;
 mod fillings;
 mod header_lines;
+mod laying;
 mod store_lines;
 
 pub use declared::{Declared, forms_package};
+pub use defaults::Defaults;
 pub use fillings::{Filling, Source, put_image};
 pub use header_lines::{device_path, put_headers};
 pub use store_lines::put_stores;

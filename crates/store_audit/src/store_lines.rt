@@ -1,13 +1,17 @@
-//! A line for each store.
+//! A line or an object for each store.
 
 ghost use Rattle.hii_bytes.specs.Watching.{Puts};
 ghost use Rattle.hii_bytes.specs.Texts.{right_aligned};
 ghost use Rattle.ifr_nodes.specs.Nodes.{nodes_of};
 ghost use Rattle.ifr_scopes.specs.code.Lists.{store_node};
-ghost use Rattle.store_audit.specs.StoreLines.{size_text, store_line, stores_text};
+ghost use Rattle.store_audit.specs.StoreLines.{attributes_member, size_member, size_text, store_line, store_members, store_object, store_told, stores_text};
+ghost use Rattle.std.specs.Prelude.{codes, true};
+ghost use Rattle.audit_json.specs.Objects.{member, quoted};
+ghost use Rattle.audit_text.specs.Texts.{guid_text};
 
+use audit_json::{Telling, end_object, put_kind, put_member, put_number, put_string};
 use audit_text::{Case, put_ascii_name, put_guid, put_left, store_attributes, store_opcode_name};
-use hii_bytes::Watched;
+use hii_bytes::{Guid, Watched};
 use ifr_scopes::{Forms, Varstore};
 use std::io::Write;
 
@@ -39,12 +43,82 @@ fn put_store<W: Write>(store: Varstore<'_>, out: &mut Watched<W>)
     out.put(b"\n");
 }
 
-/// Writes a line for each store of a form set, by place.
-pub fn put_stores<W: Write>(forms: &Forms<'_>, out: &mut Watched<W>)
-    ensures { Puts W.contents out.old out.new (stores_text (nodes_of forms.now)) }
+// Writes a word as the value of a member.
+fn put_word<W: Write>(key: &[u8], word: &[u8], out: &mut Watched<W>)
+    ensures { Puts W.contents out.old out.new (member key.now (quoted word.now)) }
+{
+    put_member(key, out);
+    out.put(b"\"");
+    out.put(word);
+    out.put(b"\"");
+}
+
+// Writes the member that tells how many bytes a store holds, if it holds some.
+fn put_size_member<W: Write>(size: Option<u16>, out: &mut Watched<W>)
+    ensures { Puts W.contents out.old out.new (size_member size) }
+{
+    if let Some(size) = size {
+        put_number(b"size", u64::from(size), out);
+    }
+}
+
+// Writes the member that tells the attributes of a variable, if it has some.
+fn put_attributes_member<W: Write>(words: &[u8], out: &mut Watched<W>)
+    ensures { Puts W.contents out.old out.new (attributes_member words.now) }
+{
+    if words.len() != 1 {
+        put_word(b"attributes", words, out);
+    }
+}
+
+// Writes the member that tells the GUID of a store.
+fn put_guid_member<W: Write>(guid: Guid<'_>, out: &mut Watched<W>)
+    ensures { Puts W.contents out.old out.new (member (codes "guid") (quoted (guid_text true guid.entry.bytes.now))) }
+{
+    put_member(b"guid", out);
+    out.put(b"\"");
+    put_guid(out, guid, Case::Upper);
+    out.put(b"\"");
+}
+
+// Writes the members of a store.
+fn put_members<W: Write>(store: Varstore<'_>, out: &mut Watched<W>)
+    ensures { Puts W.contents out.old out.new (store_members (store_node store.entry)) }
+{
+    put_number(b"id", u64::from(store.id()), out);
+    put_word(b"opcode", store_opcode_name(store), out);
+    put_number(b"at", u64::from(store.place()), out);
+    put_size_member(store.size(), out);
+    put_attributes_member(store_attributes(store), out);
+    put_guid_member(store.guid(), out);
+    put_string(b"name", store.name(), out);
+}
+
+// Writes the object of a store.
+fn put_object<W: Write>(store: Varstore<'_>, out: &mut Watched<W>)
+    ensures { Puts W.contents out.old out.new (store_object (store_node store.entry)) }
+{
+    put_kind(b"store", out);
+    put_members(store, out);
+    end_object(out);
+}
+
+// Tells a store.
+fn put_told<W: Write>(telling: Telling, store: Varstore<'_>, out: &mut Watched<W>)
+    ensures { Puts W.contents out.old out.new (store_told telling (store_node store.entry)) }
+{
+    match telling {
+        Telling::Lines => put_store(store, out),
+        Telling::Objects => put_object(store, out),
+    }
+}
+
+/// Tells each store of a form set, by place: in a line, or as an object.
+pub fn put_stores<W: Write>(telling: Telling, forms: &Forms<'_>, out: &mut Watched<W>)
+    ensures { Puts W.contents out.old out.new (stores_text telling (nodes_of forms.now)) }
 {
     let mut stores = forms.stores();
     while let Some(store) = stores.next() {
-        put_store(store, out);
+        put_told(telling, store, out);
     }
 }

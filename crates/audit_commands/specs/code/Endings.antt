@@ -6,7 +6,9 @@ use Rattle.hii_bytes.specs.declared.cause.Cause.TheVariants.{OutOfMemory}
 use Rattle.hii_bytes.specs.declared.cause.Fault.{Fault}
 use Rattle.hii_bytes.specs.declared.watched.Watched.{Watched}
 use Rattle.hii_bytes.specs.Watching.{Flushes, Pen, Writes, has_failed, has_passed_on, inner_of, pen_of}
-use Rattle.session_steps.specs.Texts.{refused_at_text, refused_text}
+use Rattle.audit_json.specs.declared.telling.Telling.{Telling}
+use Rattle.audit_json.specs.declared.telling.Telling.TheVariants.{Lines}
+use Rattle.audit_commands.specs.Endings.{refused_at_told, refused_told}
 use Rattle.audit_commands.specs.declared.ended.Ended.{Ended}
 use Rattle.audit_commands.specs.declared.ended.Ended.TheVariants.{Done, Refused, WriteAnswers, WriteOut, NoMemory}
 
@@ -21,19 +23,24 @@ abbrev pub Passes : {A Z : Type 0} → (A → Option (List ℕ)) → Ended → W
 Passes contents meant old ended new = PassesFrom contents meant (pen_of (writer_contents contents) old) ended new
 
 -- what is said of a fault, and how the run ends by it
-abbrev pub SaysFault : Fault → Ended → List ℕ → Type 0
-SaysFault fault Refused text = (fault.cause ≢ OutOfMemory) × (text ≡ refused_at_text fault)
-SaysFault fault NoMemory text = (fault.cause ≡ OutOfMemory) × (text ≡ refused_text OutOfMemory)
-SaysFault fault _ text = ⊥
+abbrev pub SaysFault : Telling → Fault → Ended → List ℕ → Type 0
+SaysFault telling fault Refused text =
+    (fault.cause ≢ OutOfMemory) × (text ≡ refused_at_told telling fault)
+SaysFault telling fault NoMemory text =
+    (fault.cause ≡ OutOfMemory) × (text ≡ refused_told telling OutOfMemory)
+SaysFault telling fault _ text = ⊥
 
 -- That was written, and then it was passed on.
-pub record RefusesBy {A Z : Type 0} (fault : Fault) (contents : A → Option (List ℕ)) (old : Watched (BufWriter A Z)) (ended : Ended) (new : Watched (BufWriter A Z)) : Type 0 where
+pub record RefusesAs {A Z : Type 0} (telling : Telling) (fault : Fault) (contents : A → Option (List ℕ)) (old : Watched (BufWriter A Z)) (ended : Ended) (new : Watched (BufWriter A Z)) : Type 0 where
   pub meant : Ended
   pub text : List ℕ
-  pub said : SaysFault fault meant text
+  pub said : SaysFault telling fault meant text
   pub mid : Pen
   pub written : Writes (pen_of (writer_contents contents) old) mid text
   pub passed : PassesFrom contents meant mid ended new
+
+abbrev pub RefusesBy : {A Z : Type 0} → Fault → (A → Option (List ℕ)) → Watched (BufWriter A Z) → Ended → Watched (BufWriter A Z) → Type 0
+RefusesBy fault contents old ended new = RefusesAs Lines fault contents old ended new
 
 -- The file is flushed, or it has failed.
 abbrev pub Commits : {O : Type 0} → (O → Option (List ℕ)) → Watched O → Ended → Watched O → Type 0

@@ -1,5 +1,5 @@
 -- The steps in which the commands are built.
-use Rattle.std.specs.Prelude.{false, true, List, [], ◌∷◌, ◌++◌, codes}
+use Rattle.std.specs.Prelude.{false, true, [], ◌∷◌, ◌++◌, codes}
 use Rattle.clap.specs.Words.{App, Rule, Shape}
 use Rattle.clap.specs.Simple.{new_shape}
 

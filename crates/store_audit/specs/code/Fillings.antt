@@ -8,7 +8,7 @@ use Rattle.hii_varstore.specs.declared.buffer.Buffer.{Buffer}
 use Rattle.store_audit.specs.Fillings.{wanted_of, are_fit, bytes_given, store_from, filled_line, refused_line}
 use Rattle.store_audit.specs.declared.fillings.Filling.{Filling}
 use Rattle.store_audit.specs.declared.fillings.Source.{Source}
-use Rattle.store_audit.specs.declared.fillings.Source.TheVariants.{File}
+use Rattle.store_audit.specs.declared.fillings.Source.TheVariants.{File, Config}
 
 abbrev pub filling_node : Filling → Node
 filling_node f = store_node f.store
@@ -39,10 +39,12 @@ is_unfit f = not (is_fit f)
 -- the bytes of a file
 abbrev pub file_bytes : Source → List ℕ
 file_bytes (File path bytes) = bytes.items
+file_bytes (Config given) = given.bytes.items
 file_bytes _ = []
 
 abbrev pub filled_from : Source → ℕ → StoreMap → StoreMap
 filled_from (File path bytes) id m = with_bytes m id 0 bytes.items
+filled_from (Config given) id m = with_bytes m id 0 given.bytes.items
 filled_from _ id m = m
 
 -- the stores, with the bytes of a file in one of them

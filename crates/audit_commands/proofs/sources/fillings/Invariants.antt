@@ -5,6 +5,7 @@ use Rattle.ifr_nodes.specs.Nodes.{nodes_of}
 use Rattle.ifr_scopes.specs.code.Lists.{stores_left}
 use Rattle.store_audit.specs.Fillings.{has_bytes, buffer_stores}
 use Rattle.store_audit.specs.code.Fillings.{filling_node}
+use Rattle.exported_config.specs.code.Views.{exported_view}
 use Rattle.audit_commands.specs.Sources.{IsSource}
 use Rattle.audit_commands.proofs.sources.fillings.Given as goal
 
@@ -13,6 +14,6 @@ abbrev pub invariant-loop-store : goal.invariant-loop-store
 invariant-loop-store g l = record {
   can : (goal.iterator-loop-store g).can_next l.stores;
   ends : (goal.iterator-loop-store g).is_finite l.stores;
-  sources : AllByRecursion (λ f. IsSource (g.F.StoreFiles.known l.files) l.options (filling_node f) f.source) l.fillings.items;
+  sources : AllByRecursion (λ f. IsSource (g.F.StoreFiles.known l.files) l.options (exported_view l.config) (filling_node f) f.source) l.fillings.items;
   found : map filling_node l.fillings.items ++ filter has_bytes (stores_left l.stores) ≡ buffer_stores (nodes_of l.declared);
 }

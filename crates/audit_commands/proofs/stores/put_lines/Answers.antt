@@ -23,7 +23,7 @@ returns-clause-told g c =
       c.in_ok-declared.declared,
       record { source = found.0; found = found.1; bytes = found.2; sound = sound },
       elim c.if-options.branch [
-        | then-options w ↦ rw (w.out-is, w.if-options.true) (rw (w.forms.ensures, c.in_ok-path.ensures.path) at w.put_headers.ensures.lines)
-        | else-options w ↦ rw (w.out-is, w.if-options.false) (rw w.forms-else-options.ensures at w.put_stores.ensures)
+        | then-options w ↦ rw (w.out-is, w.if-options.true) (rw (w.forms.ensures, c.in_ok-path.ensures.path, c.of-telling.ensures) at w.put_headers.ensures.lines)
+        | else-options w ↦ rw (w.out-is, w.if-options.false) (rw (w.forms-else-options.ensures, c.of-telling.ensures) at w.put_stores.ensures)
       ],
     )

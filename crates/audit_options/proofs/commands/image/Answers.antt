@@ -16,5 +16,8 @@ returns c =
     let with_out = c.with_arg-command-2.ensures _ _ with_take is_out in
     let with_store = c.with_arg-command-3.ensures _ _ with_out is_store in
     let with_efivars = c.with_arg-command-4.ensures _ _ with_store c.option-efivars.ensures in
-    let with_zero = c.with_arg-command-5.ensures _ _ with_efivars c.flag-zero.ensures in
-    c.with_arg.ensures _ _ with_zero c.forms.ensures
+    let with_config = c.with_arg-command-5.ensures _ _ with_efivars c.option-config.ensures in
+    let with_zero = c.with_arg-command-6.ensures _ _ with_config c.flag-zero.ensures in
+    let with_defaults = c.with_arg-command-7.ensures _ _ with_zero c.defaults.ensures in
+    let with_forms = c.with_arg-command-8.ensures _ _ with_defaults c.forms.ensures in
+    c.with_arg.ensures _ _ with_forms c.lang.ensures

@@ -15,15 +15,15 @@ returns-in_err-layout-clause-refused c =
     let p = err_from_is_err_and c.from_residual-in_err-layout.result c.from_residual-in_err-layout.ensures.1 in
     rw (p.1, p.2, ← c.in_ok-forms.ensures.read) (stores_refuse _ _ c.in_ok-forms.ensures.accepted c.in_err-layout.ensures.refused)
 
-pub returns-in_err-read-clause-refused : goal.returns-in_err-read-clause-refused
-returns-in_err-read-clause-refused c =
-    let p = err_from_is_err_and c.from_residual-in_err-read.result c.from_residual-in_err-read.ensures.1 in
-    rw (p.1, p.2, ← c.in_ok-forms.ensures.read) (questions_refuse _ _ c.in_ok-forms.ensures.accepted c.in_ok-layout.ensures.sound c.in_err-read.ensures.refused)
+pub returns-in_err-questions-clause-refused : goal.returns-in_err-questions-clause-refused
+returns-in_err-questions-clause-refused c =
+    let p = err_from_is_err_and c.from_residual-in_err-questions.result c.from_residual-in_err-questions.ensures.1 in
+    rw (p.1, p.2, ← c.in_ok-forms.ensures.read) (questions_refuse _ _ c.in_ok-forms.ensures.accepted c.in_ok-layout.ensures.sound c.in_err-questions.ensures.refused)
 
 pub returns-clause-browsable : goal.returns-clause-browsable
 returns-clause-browsable c =
-    record { accepted = c.in_ok-forms.ensures.accepted; stores = c.in_ok-layout.ensures.sound; questions = c.in_ok-read.ensures.sound }
+    record { accepted = c.in_ok-forms.ensures.accepted; stores = c.in_ok-layout.ensures.sound; questions = c.in_ok-questions.ensures.sound }
 
 pub returns-clause-sound : goal.returns-clause-sound
 returns-clause-sound c =
-    subst (λ ifr. HasNone (IsFormSetFault ifr)) c.in_ok-forms.ensures.read (browsable_no_fault _ (record { accepted = c.in_ok-forms.ensures.accepted; stores = c.in_ok-layout.ensures.sound; questions = c.in_ok-read.ensures.sound }))
+    subst (λ ifr. HasNone (IsFormSetFault ifr)) c.in_ok-forms.ensures.read (browsable_no_fault _ (record { accepted = c.in_ok-forms.ensures.accepted; stores = c.in_ok-layout.ensures.sound; questions = c.in_ok-questions.ensures.sound }))

@@ -9,3 +9,6 @@ returns-in-Zeros g c = rw c.in-Zeros.is (rw c.in-Zeros.is at (c.put.ensures ⨾ 
 
 pub returns-in-Missing : goal.returns-in-Missing
 returns-in-Missing g c = rw c.in-Missing.is (c.put.ensures ⨾ c.put_names.ensures ⨾ c.put-in-Missing.ensures)
+
+pub returns-in-Config : goal.returns-in-Config
+returns-in-Config g c = rw c.in-Config.is (rw c.in-Config.is at (c.put.ensures ⨾ c.put_names.ensures ⨾ c.put_counts-in-Config.ensures))

@@ -3,7 +3,7 @@ use Rattle.hii_bytes.specs.Watching.{Writes}
 use Rattle.hii_bytes.proofs.WritingLemmas.{◌⨾◌, writes_nil}
 use Rattle.ifr_scopes.specs.code.Lists.{store_node}
 use Rattle.store_audit.specs.Fillings.{has_bytes}
-use Rattle.store_audit.proofs.HeaderLemmas.{lines_more, one_more, read_more}
+use Rattle.store_audit.proofs.HeaderLemmas.{told_more, one_more, read_more}
 use Rattle.store_audit.proofs.header_lines.put_headers.Goals as goal
 
 pub loop-store-init : goal.loop-store-init
@@ -26,6 +26,6 @@ loop-store-preserved-then-is_some g c =
       ends = tt;
       done = inv.done ++ n ∷ [];
       all = one_more _ _ _ n inv.done c.in-Some.ensures.steps holds inv.all;
-      text = subst (Writes _ _) (lines_more c.args.path.now inv.done n) (inv.text ⨾ c.put_header_line.ensures.line);
-      read = read_more c.args.path.now inv.done n inv.read c.put_header_line.ensures.read_back;
+      text = subst (Writes _ _) (told_more c.args.telling c.args.path.now inv.done n) (inv.text ⨾ c.put_header_told.ensures.text);
+      read = read_more c.args.path.now inv.done n inv.read c.put_header_told.ensures.read_back;
     }

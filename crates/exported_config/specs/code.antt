@@ -1,0 +1,2 @@
+-- What stands beside the code. No definition outside of this folder cites one of it.
+pub mod Views

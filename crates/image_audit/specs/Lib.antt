@@ -1,0 +1,3 @@
+pub mod Export
+pub mod Lines
+pub mod Difference

@@ -1,0 +1,12 @@
+use Rattle.std.proofs.Common.{drop, map}
+use Rattle.std.specs.List.{flat_map}
+use Rattle.hii_bytes.specs.Watching.{pen_of}
+use Rattle.hii_bytes.specs.code.Writing.{Stands}
+use Rattle.opcode_audit.specs.Words.{fact_text}
+use Rattle.opcode_audit.specs.code.Columns.{fact_of}
+use Rattle.opcode_audit.proofs.line.put_facts.Given as goal
+
+-- the fields before those that are left are written
+abbrev pub invariant-loop-fact : goal.invariant-loop-fact
+invariant-loop-fact g l =
+    Stands (pen_of g.W.Write.contents l.fn.out) (pen_of g.W.Write.contents l.out) (flat_map (fact_text l.strings) (map fact_of l.facts)) (flat_map (fact_text l.strings) (map fact_of (drop l.fact-index l.facts)))

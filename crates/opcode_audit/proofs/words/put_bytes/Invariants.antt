@@ -1,0 +1,12 @@
+use Rattle.std.proofs.Common.{length, false}
+use Rattle.hii_bytes.specs.Watching.{pen_of}
+use Rattle.hii_bytes.specs.code.Writing.{Stands}
+use Rattle.audit_text.specs.Texts.{digits_of}
+use Rattle.opcode_audit.proofs.words.put_bytes.Given as goal
+
+-- the digits of the bytes before the rest are written
+abbrev pub invariant-loop-rest : goal.invariant-loop-rest
+invariant-loop-rest g l = Stands (pen_of g.W.Write.contents l.fn.out) (pen_of g.W.Write.contents l.out) (digits_of false l.bytes) (digits_of false l.rest)
+
+abbrev pub decreases-loop-rest : goal.decreases-loop-rest
+decreases-loop-rest g l = length l.rest

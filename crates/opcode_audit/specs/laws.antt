@@ -1,0 +1,2 @@
+-- What is promised of the lines of opcodes.
+pub mod Telling

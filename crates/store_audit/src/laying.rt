@@ -1,0 +1,61 @@
+//! Defaults over the stores of a form set.
+
+ghost use Rattle.std.specs.Prelude.{◌≡◌, option_map};
+ghost use Rattle.hii_bytes.specs.Watching.{Puts};
+ghost use Rattle.ifr_nodes.specs.Nodes.{nodes_of};
+ghost use Rattle.hii_varstore.specs.StoreNodes.{layout_of};
+ghost use Rattle.hii_varstore.specs.Stores.{shape_of};
+ghost use Rattle.store_audit.specs.Defaulted as spec;
+ghost use Rattle.store_audit.specs.code.Defaulted.{defaults_view};
+
+use crate::declared::Declared;
+use crate::defaults::Defaults;
+use hii_bytes::Watched;
+use hii_varstore::Stores;
+use laid_defaults::{Setup, lay_defaults};
+use std::io::Write;
+
+// Lays the defaults of a class over stores, and writes how many were taken.
+fn put_laid<'a, W: Write>(
+    declared: &Declared<'a>,
+    defaults: Defaults<'a, '_>,
+    stores: &mut Stores,
+    out: &mut Watched<W>,
+)
+    requires { shape_of stores.old ≡ layout_of (nodes_of declared.now) }
+    ensures shape { shape_of stores.new ≡ shape_of stores.old }
+    ensures laid { stores.new ≡ (spec.laid_over declared.now (defaults_view defaults.entry) stores.old).stores }
+    ensures text { Puts W.contents out.old out.new
+        (spec.count_line (spec.laid_over declared.now (defaults_view defaults.entry) stores.old) defaults.entry.class) }
+{
+    let setup = Setup {
+        forms: declared.forms(),
+        questions: declared.questions(),
+        languages: defaults.languages,
+        choice: defaults.choice,
+    };
+    let count = lay_defaults(setup, defaults.class, stores);
+    out.put(b"DEFAULTS ");
+    out.put_decimal(count as u64);
+    out.put(b" of class ");
+    out.put_decimal(u64::from(defaults.class));
+    out.put(b"\n");
+}
+
+/// Lays defaults over stores, if they are asked for, and writes how many were taken.
+pub(crate) fn put_defaults<'a, W: Write>(
+    declared: &Declared<'a>,
+    defaults: Option<Defaults<'a, '_>>,
+    stores: &mut Stores,
+    out: &mut Watched<W>,
+)
+    requires { shape_of stores.old ≡ layout_of (nodes_of declared.now) }
+    ensures shape { shape_of stores.new ≡ shape_of stores.old }
+    ensures laid { stores.new ≡ spec.left_by declared.now (option_map defaults_view defaults.entry) stores.old }
+    ensures text { Puts W.contents out.old out.new
+        (spec.defaults_text declared.now (option_map defaults_view defaults.entry) stores.old) }
+{
+    if let Some(defaults) = defaults {
+        put_laid(declared, defaults, stores, out);
+    }
+}
