@@ -35,6 +35,7 @@ def corners_of_values():
 
     both = (option(5, 1), option(6, 2))
     talk("list_that_may_be_empty_but_not_repeat", listed(UNIQUE_SET, *both), bytes(3), [("order 1 1,1", denied("repeat")), ("order 1", OK)])
+    talk("list_that_repeats_its_second_element", listed(UNIQUE_SET, *both), bytes(3), [("order 1 1,2,2", denied("repeat"))])
     talk("list_that_may_repeat_but_not_be_empty", listed(NO_EMPTY_SET, *both), bytes(3), [
         ("order 1", denied("emptyset")), ("order 1 1,1", OK)])
     # The second element has no option, and the third comes again.
