@@ -16,15 +16,16 @@ _setup() {
 
 _setup_audit() {
     case ${COMP_WORDS[1]} in
-        split) _setup_words "--dump --take --out --help" ;;
+        split) _setup_words "--dump --take --out --json --help" ;;
         stores) _setup_words "--list --take --headers --json --forms --help" ;;
+        check) _setup_words "--list --take --json --help" ;;
         opcodes) _setup_words "--list --take --json --forms --help" ;;
-        image) _setup_words "--list --take --out --store --efivars --config --zero --defaults --forms --lang --help" ;;
-        questions) _setup_words "--list --take --stores --forms --lang --help" ;;
-        question) _setup_words "--list --take --stores --id --forms --lang --help" ;;
-        export) _setup_words "--list --take --stores --id --out --lines --with --forms --help" ;;
-        diff) _setup_words "--list --take --stores --with --forms --lang --help" ;;
-        *) _setup_words "split stores opcodes image questions question export diff help --help --version" ;;
+        image) _setup_words "--list --take --out --store --efivars --config --zero --defaults --json --forms --lang --help" ;;
+        questions) _setup_words "--list --take --stores --json --forms --lang --help" ;;
+        question) _setup_words "--list --take --stores --id --json --forms --lang --help" ;;
+        export) _setup_words "--list --take --stores --id --out --lines --with --json --forms --help" ;;
+        diff) _setup_words "--list --take --stores --with --json --forms --lang --help" ;;
+        *) _setup_words "split stores check opcodes image questions question export diff help --help --version" ;;
     esac
 }
 

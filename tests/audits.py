@@ -7,6 +7,7 @@ from running import EXAMPLES, OUT_OF_MEMORY, read
 
 AUDIT = os.path.join(EXAMPLES, "audit")
 DUMP = os.path.join(AUDIT, "both.dump")
+OUT_OF_MEMORY_OBJECT = b'{"kind":"refused","cause":60,"name":"OutOfMemory"}\n'
 # The lists of the dump, in its order.
 NAMES = ["station", "rules"]
 
@@ -26,8 +27,8 @@ class AuditRun:
     def is_out_of_memory(self, run):
         """Whether a run says that it is out of memory, behind a front of its answers, and has written no file."""
         status, answers, image = run
-        front = answers.removesuffix(OUT_OF_MEMORY[1])
-        return status == 4 and front != answers and self.expected[1].startswith(front) and image is None
+        fronts = [answers.removesuffix(ending) for ending in (OUT_OF_MEMORY[1], OUT_OF_MEMORY_OBJECT) if answers.endswith(ending)]
+        return status == 4 and image is None and any(self.expected[1].startswith(front) for front in fronts)
 
 
 def told(name):
@@ -45,6 +46,7 @@ def splits():
     """The lists of the dump: all of them told, and each taken out."""
     lines = told("both.split").splitlines(keepends=True)
     yield AuditRun("split", ["split", "--dump", DUMP], b"".join(lines))
+    yield AuditRun("split as objects", ["split", "--dump", DUMP, "--json"], told("both.split.json"))
     for number, name in enumerate(NAMES, 1):
         words = ["split", "--dump", DUMP, "--take", str(number)]
         yield AuditRun("split, list %d" % number, words, lines[number - 1], read(os.path.join(EXAMPLES, name, "list")), True)
@@ -123,6 +125,7 @@ def of_images():
     yield AuditRun("export of a store", ["export", *words, after, "--id", "16"], b"STORE 16 Station 72\n", held, True)
     yield AuditRun("lines of fields", ["export", *words, after, "--lines", "--with", before], told("station.lines"))
     yield AuditRun("diff of images", ["diff", *words, before, "--with", after], told("station.diff"))
+    yield AuditRun("diff of images as objects", ["diff", *words, before, "--with", after, "--json"], told("station.diff.json"))
 
 
 def reasons(folder):

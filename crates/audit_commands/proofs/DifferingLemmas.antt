@@ -13,7 +13,8 @@ use Rattle.session_steps.specs.State.{State}
 use Rattle.session_steps.proofs.SourceLemmas.{one_source}
 use Rattle.browser_commands.proofs.OpeningLemmas.{opens_no_fault, refuses_second}
 use Rattle.form_audit.specs.Audited.{Audited}
-use Rattle.image_audit.specs.Difference.{difference_text}
+use Rattle.audit_json.specs.declared.telling.Telling.{Telling}
+use Rattle.image_audit.specs.Difference.{difference_told}
 use Rattle.image_audit.proofs.EqualLemmas.{same_told, told_same}
 use Rattle.audit_commands.specs.Auditing.{Asked, Starts, audited_at}
 use Rattle.audit_commands.specs.Differing.{IsDiffFault, over}
@@ -44,11 +45,11 @@ audited_same asked image one other opens opens_other same =
     let removed : one.removed ≡ other.removed = opens.removed ∙ ap₂ (λ (ifr : List ℕ) (m : StoreMap). removed_at (nodes_of ifr) m) ifr same ∙ sym opens_other.removed in
     rw (ifr, spoken, language, removed, same) refl
 
-pub tells_equal : (asked : Asked) (image : List ℕ) (one other : State) → Starts asked one → Starts (over asked image) other
-    → (difference_text (audited_at one) (audited_at other) ≡ []) ↔ (one.working ≡ other.working)
-tells_equal asked image one other opens opens_other = (
+pub tells_equal : (telling : Telling) (asked : Asked) (image : List ℕ) (one other : State) → Starts asked one → Starts (over asked image) other
+    → (difference_told telling (audited_at one) (audited_at other) ≡ []) ↔ (one.working ≡ other.working)
+tells_equal telling asked image one other opens opens_other = (
   λ none.
       let package_same = one_package asked image one other opens opens_other in
-      told_same (audited_at one) (audited_at other) opens.stores.laid (opens_other.stores.laid ∙ ap layout_in package_same) opens.browsable.stores none,
-  λ same. subst (λ (b : Audited). difference_text (audited_at one) b ≡ []) (audited_same asked image one other opens opens_other same) (same_told (audited_at one)),
+      told_same telling (audited_at one) (audited_at other) opens.stores.laid (opens_other.stores.laid ∙ ap layout_in package_same) opens.browsable.stores none,
+  λ same. subst (λ (b : Audited). difference_told telling (audited_at one) b ≡ []) (audited_same asked image one other opens opens_other same) (same_told telling (audited_at one)),
 )

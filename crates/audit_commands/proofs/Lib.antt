@@ -1,9 +1,3 @@
-pub mod EndingLemmas
-pub mod ImagingLemmas
-pub mod SourceLemmas
-pub mod ListingLemmas
 pub mod SplittingLemmas
-pub mod TextLemmas
 pub mod JudgingLemmas
-pub mod ExportingLemmas
 pub mod DifferingLemmas

@@ -4,18 +4,19 @@ use Rattle.hii_bytes.specs.declared.cause.Cause.TheVariants.{OutOfMemory}
 use Rattle.session_steps.specs.Opening.{IsOpenFault, Opens}
 use Rattle.session_steps.specs.State.{State, texts, world_of}
 use Rattle.session_steps.specs.Step.{sources}
-use Rattle.session_steps.specs.Texts.{refused_text}
 use Rattle.form_audit.specs.Audited.{Audited}
 use Rattle.form_audit.specs.FormLines.{questions_text}
 use Rattle.form_audit.specs.Reach.{TellsReached}
 use Rattle.question_audit.specs.QuestionFacts.{BeginsQuestionText, IsQuestionText}
+use Rattle.audit_json.specs.declared.telling.Telling.{Telling}
+use Rattle.audit_json.specs.declared.telling.Telling.TheVariants.{Lines}
 use Rattle.question_audit.specs.declared.origin.Origin.{Origin}
 use Rattle.audit_options.specs.declared.tasks.FormSetOptions.{FormSetOptions}
 use Rattle.setup_files.specs.declared.given.FormSetFiles.{FormSetFiles}
-use Rattle.audit_commands.specs.Endings.{IsRefusal}
-use Rattle.audit_commands.specs.Listing.{Listed}
-use Rattle.audit_commands.specs.declared.ended.Ended.{Ended}
-use Rattle.audit_commands.specs.declared.ended.Ended.TheVariants.{Done, Refused, NoMemory}
+use Rattle.audit_answers.specs.Endings.{IsRefusal, refused_told}
+use Rattle.audit_answers.specs.Listing.{Listed}
+use Rattle.audit_answers.specs.declared.ended.Ended.{Ended}
+use Rattle.audit_answers.specs.declared.ended.Ended.TheVariants.{Done, Refused, NoMemory}
 
 -- what an audit looks at, of what a session begins with
 abbrev pub audited_at : State → Audited
@@ -45,6 +46,10 @@ asked_of options files list = record {
 abbrev pub Starts : Asked → State → Type 0
 Starts asked start = Opens asked.list asked.forms asked.stores asked.lang start
 
+-- the place of a package in the file, by that of its list
+abbrev pub placed_in : Origin → ℕ → Origin
+placed_in list place = record list { place = list.place + place }
+
 -- The bytes open a session, and this text tells its forms and questions, so that a verdict is the one with which the session answers
 -- `why` at first.
 pub record Audits (asked : Asked) (text : List ℕ) : Type 0 where
@@ -53,10 +58,6 @@ pub record Audits (asked : Asked) (text : List ℕ) : Type 0 where
   pub is_reached : ℕ → Bool
   pub reached : TellsReached (world_of start) is_reached
   pub told : text ≡ questions_text (audited_at start) is_reached
-
--- the place of a package in the file, by that of its list
-abbrev pub placed_in : Origin → ℕ → Origin
-placed_in list place = record list { place = list.place + place }
 
 -- The bytes open a session, and this text tells what is known of the question of an id, with its byte in the file, where the list begins
 -- there; or that there is none.
@@ -74,20 +75,20 @@ BeginsAuditsQuestion asked origin id text =
     × BeginsQuestionText (audited_at start) (placed_in origin opens.source.place) id text)
 
 -- the text tells the least fault of what is asked for
-abbrev pub IsOpenRefusal : Asked → List ℕ → Type 0
-IsOpenRefusal asked = IsRefusal (IsOpenFault asked.list asked.forms asked.stores)
+abbrev pub IsOpenRefusal : Telling → Asked → List ℕ → Type 0
+IsOpenRefusal telling asked = IsRefusal telling (IsOpenFault asked.list asked.forms asked.stores)
 
 abbrev pub SaysQuestions : Asked → Ended → List ℕ → Type 0
 SaysQuestions asked Done text = Audits asked text
-SaysQuestions asked Refused text = IsOpenRefusal asked text
-SaysQuestions asked NoMemory text = text ≡ refused_text OutOfMemory
+SaysQuestions asked Refused text = IsOpenRefusal Lines asked text
+SaysQuestions asked NoMemory text = text ≡ refused_told Lines OutOfMemory
 SaysQuestions asked _ text = ⊥
 
 abbrev pub SaysQuestion : Asked → Origin → ℕ → Ended → List ℕ → Type 0
 SaysQuestion asked origin id Done text = AuditsQuestion true asked origin id text
 SaysQuestion asked origin id Refused text =
-    AuditsQuestion false asked origin id text ⊎ IsOpenRefusal asked text
+    AuditsQuestion false asked origin id text ⊎ IsOpenRefusal Lines asked text
 SaysQuestion asked origin id NoMemory text =
     (begun : List ℕ) × BeginsAuditsQuestion asked origin id begun
-    × (text ≡ begun ++ refused_text OutOfMemory)
+    × (text ≡ begun ++ refused_told Lines OutOfMemory)
 SaysQuestion asked origin id _ text = ⊥

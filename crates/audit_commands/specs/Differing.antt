@@ -5,12 +5,12 @@ use Rattle.hii_bytes.specs.declared.cause.Cause.{Cause}
 use Rattle.hii_bytes.specs.declared.cause.Cause.TheVariants.{OutOfMemory}
 use Rattle.session_steps.specs.Opening.{IsOpenFault}
 use Rattle.session_steps.specs.State.{State}
-use Rattle.session_steps.specs.Texts.{refused_text}
-use Rattle.image_audit.specs.Difference.{difference_text}
+use Rattle.audit_json.specs.declared.telling.Telling.{Telling}
+use Rattle.image_audit.specs.Difference.{difference_told}
 use Rattle.audit_commands.specs.Auditing.{Asked, Starts, audited_at}
-use Rattle.audit_commands.specs.Endings.{IsRefusal}
-use Rattle.audit_commands.specs.declared.ended.Ended.{Ended}
-use Rattle.audit_commands.specs.declared.ended.Ended.TheVariants.{Done, Refused, NoMemory}
+use Rattle.audit_answers.specs.Endings.{IsRefusal, refused_told}
+use Rattle.audit_answers.specs.declared.ended.Ended.{Ended}
+use Rattle.audit_answers.specs.declared.ended.Ended.TheVariants.{Done, Refused, NoMemory}
 
 -- the same over another image
 abbrev pub over : Asked → List ℕ → Asked
@@ -23,16 +23,16 @@ IsDiffFault asked image =
 
 -- A session opens over each image, and this text tells what the stores of the second hold otherwise than those of the first; it is
 -- empty exactly where they hold the same.
-pub record TellsDifference (asked : Asked) (image text : List ℕ) : Type 0 where
+pub record TellsDifference (telling : Telling) (asked : Asked) (image text : List ℕ) : Type 0 where
   pub one : State
   pub opens : Starts asked one
   pub other : State
   pub opens_other : Starts (over asked image) other
-  pub told : text ≡ difference_text (audited_at one) (audited_at other)
+  pub told : text ≡ difference_told telling (audited_at one) (audited_at other)
   pub equal : (text ≡ []) ↔ (one.working ≡ other.working)
 
-abbrev pub SaysDifference : Asked → List ℕ → Ended → List ℕ → Type 0
-SaysDifference asked image Done text = TellsDifference asked image text
-SaysDifference asked image Refused text = IsRefusal (IsDiffFault asked image) text
-SaysDifference asked image NoMemory text = text ≡ refused_text OutOfMemory
-SaysDifference asked image _ text = ⊥
+abbrev pub SaysDifference : Telling → Asked → List ℕ → Ended → List ℕ → Type 0
+SaysDifference telling asked image Done text = TellsDifference telling asked image text
+SaysDifference telling asked image Refused text = IsRefusal telling (IsDiffFault asked image) text
+SaysDifference telling asked image NoMemory text = text ≡ refused_told telling OutOfMemory
+SaysDifference telling asked image _ text = ⊥

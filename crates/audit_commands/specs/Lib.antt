@@ -1,14 +1,6 @@
-pub mod Endings
 pub mod Splitting
-pub mod Listing
-pub mod Storing
 pub mod Opcodes
 pub mod Auditing
-pub mod Exporting
 pub mod Differing
-pub mod Files
-pub mod Configured
-pub mod Defaulting
-pub mod Sources
-pub mod Imaging
+pub mod Checking
 pub mod code

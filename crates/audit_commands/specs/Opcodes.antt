@@ -8,9 +8,9 @@ use Rattle.hii_bytes.specs.Faults.{HasNone, IsLeast, Then}
 use Rattle.session_steps.specs.Opening.{HasSource, IsFormSetFault, IsSourceFault, IsTextFault, forms_bytes}
 use Rattle.opcode_audit.specs.Lines.{opcodes_text, said_first}
 use Rattle.audit_json.specs.declared.telling.Telling.{Telling}
-use Rattle.audit_commands.specs.Endings.{IsRefusalAs, refused_at_told, refused_told}
-use Rattle.audit_commands.specs.declared.ended.Ended.{Ended}
-use Rattle.audit_commands.specs.declared.ended.Ended.TheVariants.{Done, Refused, NoMemory}
+use Rattle.audit_answers.specs.Endings.{IsRefusal, refused_at_told, refused_told}
+use Rattle.audit_answers.specs.declared.ended.Ended.{Ended}
+use Rattle.audit_answers.specs.declared.ended.Ended.TheVariants.{Done, Refused, NoMemory}
 
 -- the faults by which a session refuses a list, whatever the image of its stores
 abbrev pub IsListFault : List ℕ → ℕ → Cause → ℕ → Type 0
@@ -35,6 +35,6 @@ abbrev pub SaysOpcodes : Telling → List ℕ → ℕ → ℕ → Ended → List
 SaysOpcodes telling list n start Done text =
     ListsOpcodes telling list n start text × HasNone (IsListFault list n)
 SaysOpcodes telling list n start Refused text =
-    IsRefusalAs telling (IsSourceFault list n) text ⊎ ListsRefused telling list n start text
+    IsRefusal telling (IsSourceFault list n) text ⊎ ListsRefused telling list n start text
 SaysOpcodes telling list n start NoMemory text = text ≡ refused_told telling OutOfMemory
 SaysOpcodes telling list n start _ text = ⊥

@@ -2,34 +2,35 @@
 use Rattle.std.specs.Prelude.{◌≡◌, ℕ, true, false, List, ◌++◌, Some, None}
 use Rattle.hii_bytes.specs.declared.cause.Cause.TheVariants.{OutOfMemory}
 use Rattle.hii_dumps.specs.Dumps.{Entry}
-use Rattle.session_steps.specs.Texts.{refused_text}
 use Rattle.dump_audit.specs.Findings.{Finding, IsFound}
-use Rattle.dump_audit.specs.Lines.{BeginsSplitText, IsSplitText, line, no_list_text}
+use Rattle.dump_audit.specs.Lines.{BeginsSplitText, IsSplitText, list_told, no_list_told}
+use Rattle.audit_json.specs.declared.telling.Telling.{Telling}
+use Rattle.audit_answers.specs.Endings.{refused_told}
 use Rattle.dump_audit.specs.Taking.{IsNth}
-use Rattle.audit_commands.specs.declared.ended.Ended.{Ended}
-use Rattle.audit_commands.specs.declared.ended.Ended.TheVariants.{Done, Refused, WriteOut, NoMemory}
+use Rattle.audit_answers.specs.declared.ended.Ended.{Ended}
+use Rattle.audit_answers.specs.declared.ended.Ended.TheVariants.{Done, Refused, WriteOut, NoMemory}
 
--- a line for each list and one for the rest, or that there is no list; where an allocation fails, those of the first lists
-abbrev pub SaysLists : List ℕ → Ended → List ℕ → Type 0
-SaysLists dump Done text = IsSplitText true dump text
-SaysLists dump Refused text = IsSplitText false dump text
-SaysLists dump NoMemory text =
-    (begun : List ℕ) × BeginsSplitText dump begun × (text ≡ begun ++ refused_text OutOfMemory)
-SaysLists dump _ text = ⊥
+-- each list and the rest, or that there is no list; where an allocation fails, the first lists
+abbrev pub SaysLists : Telling → List ℕ → Ended → List ℕ → Type 0
+SaysLists telling dump Done text = IsSplitText telling true dump text
+SaysLists telling dump Refused text = IsSplitText telling false dump text
+SaysLists telling dump NoMemory text =
+    (begun : List ℕ) × BeginsSplitText telling dump begun × (text ≡ begun ++ refused_told telling OutOfMemory)
+SaysLists telling dump _ text = ⊥
 
--- The text is the line of the list of a number, and the bytes are its own.
-pub record IsTaken (dump : List ℕ) (number : ℕ) (bytes text : List ℕ) : Type 0 where
+-- The text tells the list of a number, and the bytes are its own.
+pub record IsTaken (telling : Telling) (dump : List ℕ) (number : ℕ) (bytes text : List ℕ) : Type 0 where
   pub list : Entry
   pub nth : IsNth dump number (Some list)
   pub finding : Finding
   pub found : IsFound list.bytes finding
-  pub line_is : text ≡ line number record { entry = list; finding = finding }
+  pub told_is : text ≡ list_told telling number record { entry = list; finding = finding }
   pub taken : bytes ≡ list.bytes
 
--- the line of the list whose bytes the file has, or that there is none
-abbrev pub SaysTaken : List ℕ → ℕ → List ℕ → Ended → List ℕ → Type 0
-SaysTaken dump number bytes Done text = IsTaken dump number bytes text
-SaysTaken dump number bytes WriteOut text = IsTaken dump number bytes text
-SaysTaken dump number bytes Refused text = IsNth dump number None × (text ≡ no_list_text number)
-SaysTaken dump number bytes NoMemory text = text ≡ refused_text OutOfMemory
-SaysTaken dump number bytes _ text = ⊥
+-- the list whose bytes the file has, or that there is none
+abbrev pub SaysTaken : Telling → List ℕ → ℕ → List ℕ → Ended → List ℕ → Type 0
+SaysTaken telling dump number bytes Done text = IsTaken telling dump number bytes text
+SaysTaken telling dump number bytes WriteOut text = IsTaken telling dump number bytes text
+SaysTaken telling dump number bytes Refused text = IsNth dump number None × (text ≡ no_list_told telling number)
+SaysTaken telling dump number bytes NoMemory text = text ≡ refused_told telling OutOfMemory
+SaysTaken telling dump number bytes _ text = ⊥

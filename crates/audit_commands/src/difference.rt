@@ -5,13 +5,14 @@ ghost use Rattle.hii_bytes.specs.Faults.{Refuses};
 ghost use Rattle.hii_bytes.specs.Watching.{Puts};
 ghost use Rattle.audit_commands.specs.Auditing.{asked_of};
 ghost use Rattle.audit_commands.specs.Differing.{IsDiffFault, SaysDifference, TellsDifference};
-ghost use Rattle.audit_commands.specs.Endings.{Tells};
-ghost use Rattle.audit_commands.specs.Listing.{SaysOfList};
-ghost use Rattle.audit_commands.specs.code.Givens.{asked};
+ghost use Rattle.audit_answers.specs.Endings.{Tells};
+ghost use Rattle.audit_answers.specs.Listing.{SaysOfList};
+ghost use Rattle.audit_commands.specs.code.Givens.{given_asked};
+ghost use Rattle.audit_json.specs.Telling.{asked};
 
-use crate::answers::{Answers, answers, finish, refuse, told};
-use crate::ended::Ended;
-use crate::listing::{given_list, given_of, refuse_list};
+use crate::givens::given_of;
+use audit_answers::{Answers, Ended, answers, finish, given_list, refuse, refuse_list, told};
+use audit_json::Telling;
 use audit_options::{DiffOptions, FormSetOptions};
 use browser_commands::Browser;
 use hii_bytes::{Fault, Watched};
@@ -47,45 +48,48 @@ fn tell<A: Write + Drop>(
 ) -> Ended
     requires list { files.now.list.path.now ≡ options.list.path.now }
     requires stores { files.now.stores.path.now ≡ options.stores.now }
-    ensures { Tells (SaysOfList options.entry.list.take files.now.list.bytes.items
-        (λ list. SaysDifference (asked_of options.entry files.now list) other.now.bytes.items))
+    ensures { Tells (SaysOfList (asked options.entry.json) options.entry.list.take files.now.list.bytes.items
+        (λ list. SaysDifference (asked options.entry.json) (asked_of options.entry files.now list) other.now.bytes.items))
         A.contents answers.old result answers.new }
 {
-    match given_list(files.list.bytes.as_slice(), options.list) {
+    let telling = Telling::of(options.json);
+    match given_list(files.list.bytes.as_slice(), options.list.take) {
         Ok(list) => {
             let given = given_of(options, files, list);
-            tell_of(alloc, given, other.bytes.as_slice(), answers)
+            tell_of(telling, alloc, given, other.bytes.as_slice(), answers)
         }
-        Err(none) => refuse_list(none, answers),
+        Err(none) => refuse_list(telling, none, answers),
     }
 }
 
 // Tells what another image holds otherwise.
 fn tell_of<A: Write + Drop>(
+    telling: Telling,
     alloc: Global,
     given: Given<'_>,
     other: &[u8],
     answers: &mut Answers<A>,
 ) -> Ended
-    ensures { Tells (SaysDifference (asked given.entry) other.now) A.contents answers.old result answers.new }
+    ensures { Tells (SaysDifference telling (given_asked given.entry) other.now) A.contents answers.old result answers.new }
 {
-    match put_lines(alloc, given, other, answers) {
+    match put_lines(telling, alloc, given, other, answers) {
         Ok(()) => finish(Ended::Done, answers),
-        Err(fault) => refuse(fault, answers),
+        Err(fault) => refuse(telling, fault, answers),
     }
 }
 
-// Writes what another image holds otherwise; or gives the least fault of what is given, or that an allocation failed. Then nothing is
+// Tells what another image holds otherwise; or gives the least fault of what is given, or that an allocation failed. Then nothing is
 // written.
 fn put_lines<W: Write>(
+    telling: Telling,
     alloc: Global,
     given: Given<'_>,
     other: &[u8],
     out: &mut Watched<W>,
 ) -> Result<(), Fault>
-    ensures told { OnOk result ((text : List ℕ) × TellsDifference (asked given.entry) other.now text
+    ensures told { OnOk result ((text : List ℕ) × TellsDifference telling (given_asked given.entry) other.now text
         × Puts W.contents out.old out.new text) }
-    ensures refused { IfErr result (Refuses (IsDiffFault (asked given.entry) other.now)) }
+    ensures refused { IfErr result (Refuses (IsDiffFault (given_asked given.entry) other.now)) }
     ensures nothing { OnErr result (out.new ≡ out.old) }
 {
     let Given {
@@ -96,5 +100,5 @@ fn put_lines<W: Write>(
     } = given;
     let one = Browser::open(alloc, list, forms, stores, lang)?;
     let other = Browser::open(alloc, list, forms, other, lang)?;
-    put_difference(alloc, one.page(), other.page(), out)
+    put_difference(telling, alloc, one.page(), other.page(), out)
 }

@@ -1,21 +1,14 @@
-//! The commands of `setup_audit`: each opens its files, and tells what it finds in their bytes (own rule).
+//! The commands of `setup_audit` that are about lists and questions: each opens its files, and tells what it finds in their bytes
+//! (own rule).
 #![tactic(auto)]
 
-mod answers;
 mod auditing;
-mod config;
+pub mod check;
 pub mod difference;
-mod ended;
-pub mod export;
-mod given;
-pub mod image;
+mod givens;
 mod judged;
-mod listing;
 pub mod opcodes;
+mod opened;
 pub mod question;
 pub mod questions;
-mod sources;
 pub mod split;
-mod store_files;
-pub mod stores;
-mod texts;

@@ -2,15 +2,14 @@
 
 ghost use Rattle.std.specs.Prelude.{◌≡◌, ◌≢◌, IfErr};
 ghost use Rattle.audit_json.specs.Telling.{asked};
-ghost use Rattle.audit_commands.specs.Endings.{Tells};
-ghost use Rattle.audit_commands.specs.Listing.{SaysOfListAs};
+ghost use Rattle.audit_answers.specs.Endings.{Tells};
+ghost use Rattle.audit_answers.specs.Listing.{SaysOfList};
 ghost use Rattle.audit_commands.specs.Opcodes.{SaysOpcodes};
 
-use crate::answers::{Answers, answers, finish, refuse_as, told};
-use crate::ended::Ended;
-use crate::given::GivenList;
 use crate::judged::JudgedPackage;
-use crate::listing::{given_list, refuse_list_as};
+use audit_answers::{
+    Answers, Ended, GivenList, answers, finish, given_list, refuse, refuse_list, told,
+};
 use audit_json::Telling;
 use audit_options::OpcodesOptions;
 use opcode_audit::put_opcodes;
@@ -41,14 +40,14 @@ fn tell<A: Write + Drop>(
     answers: &mut Answers<A>,
 ) -> Ended
     requires { file.now.path.now ≡ options.list.path.now }
-    ensures { Tells (SaysOfListAs (asked options.entry.json) options.entry.list.take file.now.bytes.items
+    ensures { Tells (SaysOfList (asked options.entry.json) options.entry.list.take file.now.bytes.items
         (λ list. SaysOpcodes (asked options.entry.json) list.bytes options.entry.list.forms list.origin.place))
         A.contents answers.old result answers.new }
 {
     let telling = Telling::of(options.json);
-    match given_list(file.bytes.as_slice(), options.list) {
+    match given_list(file.bytes.as_slice(), options.list.take) {
         Ok(list) => tell_list(alloc, telling, list, options.list.forms, answers),
-        Err(none) => refuse_list_as(telling, none, answers),
+        Err(none) => refuse_list(telling, none, answers),
     }
 }
 
@@ -68,10 +67,10 @@ fn tell_list<A: Write + Drop>(
             let base = list.origin.place + judged.source.place;
             put_opcodes(telling, &judged.strings, base, judged.source, answers);
             match judged.fault {
-                Some(fault) => refuse_as(telling, fault, answers),
+                Some(fault) => refuse(telling, fault, answers),
                 None => finish(Ended::Done, answers),
             }
         }
-        Err(fault) => refuse_as(telling, fault, answers),
+        Err(fault) => refuse(telling, fault, answers),
     }
 }

@@ -1,21 +1,25 @@
 //! `question`: what is known of one question.
 
 ghost use Rattle.std.specs.Prelude.{◌≡◌, ◌≢◌, IfErr};
-ghost use Rattle.audit_commands.specs.Endings.{Tells};
+ghost use Rattle.audit_json.specs.declared.telling.Telling.TheVariants.{Lines};
+ghost use Rattle.audit_answers.specs.Endings.{Tells};
 ghost use Rattle.audit_commands.specs.Auditing.{SaysQuestion, asked_of};
-ghost use Rattle.audit_commands.specs.Listing.{SaysOfList};
-ghost use Rattle.audit_commands.specs.code.Listing.{listed};
+ghost use Rattle.audit_answers.specs.Listing.{SaysOfList};
+ghost use Rattle.audit_answers.specs.code.Listing.{listed};
 
-use crate::answers::{Answers, answers, finish, refuse, told};
 use crate::auditing::put_question_audit;
-use crate::ended::Ended;
-use crate::given::GivenList;
-use crate::listing::{given_list, given_of, refuse_list};
+use crate::givens::given_of;
+use audit_answers::{
+    Answers, Ended, GivenList, answers, finish, given_list, refuse, refuse_list, told,
+};
+use audit_json::Telling;
 use audit_options::QuestionOptions;
-use setup_files::{FormSetFiles, Status, Terminals};
+use setup_files::{FormSetFiles, Status, Terminals, usage};
 use std::alloc::Global;
 use std::io::Write;
 use std::rt::Files;
+
+const NO_OBJECTS: &str = "error: question has no --json yet\n";
 
 /// Tells what is known of a question of a list over an image of its stores.
 pub fn run<R: Files + Print + Eprint + AllocGlobal>(
@@ -26,6 +30,9 @@ pub fn run<R: Files + Print + Eprint + AllocGlobal>(
     ensures { IfErr result (λ status. status ≢ Status.Done) }
 {
     let form_set = options.form_set;
+    if form_set.json {
+        return Err(usage(rt, &NO_OBJECTS));
+    }
     let files = FormSetFiles::read(rt, terminals, form_set.list.path, form_set.stores)?;
     let mut answers = answers(rt, terminals)?;
     let ended = tell(rt.alloc(), options, &files, &mut answers);
@@ -41,13 +48,13 @@ fn tell<A: Write + Drop>(
 ) -> Ended
     requires list { files.now.list.path.now ≡ options.form_set.list.path.now }
     requires stores { files.now.stores.path.now ≡ options.form_set.stores.now }
-    ensures { Tells (SaysOfList options.entry.form_set.list.take files.now.list.bytes.items
+    ensures { Tells (SaysOfList Lines options.entry.form_set.list.take files.now.list.bytes.items
         (λ list. SaysQuestion (asked_of options.entry.form_set files.now list) list.origin
         options.entry.id)) A.contents answers.old result answers.new }
 {
-    match given_list(files.list.bytes.as_slice(), options.form_set.list) {
+    match given_list(files.list.bytes.as_slice(), options.form_set.list.take) {
         Ok(list) => tell_of(alloc, options, files, list, answers),
-        Err(none) => refuse_list(none, answers),
+        Err(none) => refuse_list(Telling::Lines, none, answers),
     }
 }
 
@@ -66,6 +73,6 @@ fn tell_of<A: Write + Drop>(
     match put_question_audit(alloc, given, list.origin, options.id, answers) {
         Ok(true) => finish(Ended::Done, answers),
         Ok(false) => finish(Ended::Refused, answers),
-        Err(fault) => refuse(fault, answers),
+        Err(fault) => refuse(Telling::Lines, fault, answers),
     }
 }

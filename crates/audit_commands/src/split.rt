@@ -1,11 +1,12 @@
 //! `split`: the package lists of a dump.
 
 ghost use Rattle.std.specs.Prelude.{◌≡◌, ◌≢◌, IfErr};
-ghost use Rattle.audit_commands.specs.Endings.{Tells, TellsAndWrites};
+ghost use Rattle.audit_json.specs.Telling.{asked};
+ghost use Rattle.audit_answers.specs.Endings.{Tells, TellsAndWrites};
 ghost use Rattle.audit_commands.specs.Splitting.{SaysLists, SaysTaken};
 
-use crate::answers::{Answers, answers, commit, finish, refuse, told, told_with_file};
-use crate::ended::Ended;
+use audit_answers::{Answers, Ended, answers, commit, finish, refuse, told, told_with_file};
+use audit_json::Telling;
 use audit_options::{SplitOptions, TakenList};
 use dump_audit::{put_split, put_taken};
 use hii_bytes::{Cause, Fault, Watched};
@@ -14,7 +15,7 @@ use std::alloc::Global;
 use std::io::Write;
 use std::rt::Files;
 
-const DUMP_AS_OUT: &str = "error: --out is the file of --dump, which would be lost\n";
+const DUMP_AS_OUT: &str = "error: --out is the file of --dump\n";
 
 /// Tells the lists of a dump, or takes one of them.
 pub fn run<R: Files + Print + Eprint + AllocGlobal>(
@@ -63,12 +64,13 @@ fn tell<A: Write + Drop>(
     answers: &mut Answers<A>,
 ) -> Ended
     requires { dump.now.path.now ≡ options.dump.now }
-    ensures { Tells (SaysLists dump.now.bytes.items) A.contents answers.old result answers.new }
+    ensures { Tells (SaysLists (asked options.entry.json) dump.now.bytes.items) A.contents answers.old result answers.new }
 {
-    match put_split(alloc, dump.bytes.as_slice(), answers) {
+    let telling = Telling::of(options.json);
+    match put_split(telling, alloc, dump.bytes.as_slice(), answers) {
         Ok(true) => finish(Ended::Done, answers),
         Ok(false) => finish(Ended::Refused, answers),
-        Err(failed) => refuse(Fault::from(failed), answers),
+        Err(failed) => refuse(telling, Fault::from(failed), answers),
     }
 }
 
@@ -82,12 +84,14 @@ fn take<A: Write + Drop, O: Write>(
     out: &mut Watched<O>,
 ) -> Ended
     requires { dump.now.path.now ≡ options.dump.now }
-    ensures { TellsAndWrites (SaysTaken dump.now.bytes.items taken.entry.number)
+    ensures { TellsAndWrites (SaysTaken (asked options.entry.json) dump.now.bytes.items taken.entry.number)
         A.contents O.contents answers.old out.old result answers.new out.new }
 {
-    match put_taken(alloc, dump.bytes.as_slice(), taken.number, answers, out) {
+    let telling = Telling::of(options.json);
+    let bytes = dump.bytes.as_slice();
+    match put_taken(telling, alloc, bytes, taken.number, answers, out) {
         Ok(true) => commit(answers, out),
         Ok(false) => finish(Ended::Refused, answers),
-        Err(failed) => refuse(Fault::from(failed), answers),
+        Err(failed) => refuse(telling, Fault::from(failed), answers),
     }
 }

@@ -20,5 +20,9 @@ json_char c =
     if c == 34 || c == 92 then codes "\\" ++ encode_utf8 c
     else if is_unsafe c then escape c else encode_utf8 c
 
+-- a text within a string
+abbrev pub escaped : List ℕ → List ℕ
+escaped text = flat_map json_char text
+
 abbrev pub json_text : List ℕ → List ℕ
-json_text text = codes "\"" ++ flat_map json_char text ++ codes "\""
+json_text text = codes "\"" ++ escaped text ++ codes "\""

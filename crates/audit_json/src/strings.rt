@@ -1,11 +1,12 @@
 //! Texts as strings of JSON.
 
-ghost use Rattle.std.specs.Prelude.{◌≡◌, ◌<◌, ◌^◌};
+ghost use Rattle.std.specs.Prelude.{◌≡◌, ◌<◌, ◌^◌, chars, map};
 ghost use Rattle.hii_bytes.specs.Watching.{Puts};
 ghost use Rattle.hii_languages.specs.code.Views.{chars_left};
-ghost use Rattle.audit_json.specs.Json.{escape, json_char, json_text, unit_escape};
+ghost use Rattle.audit_json.specs.Json.{escape, escaped, json_char, json_text, unit_escape};
+ghost use Rattle.audit_text.specs.Texts.{ascii_name, shown_byte};
 
-use audit_text::is_unsafe;
+use audit_text::{is_unsafe, shown_byte};
 use hii_bytes::Watched;
 use hii_languages::ShownChars;
 use std::io::Write;
@@ -34,8 +35,8 @@ fn put_escape<W: Write>(out: &mut Watched<W>, c: u32)
     put_unit_escape(out, 0xdc00 + behind % 0x400);
 }
 
-// Writes a character as it stands in a string of JSON.
-fn put_json_char<W: Write>(out: &mut Watched<W>, c: char)
+/// Writes a character as it stands in a string of JSON.
+pub fn put_json_char<W: Write>(out: &mut Watched<W>, c: char)
     ensures { Puts W.contents out.old out.new (json_char c) }
 {
     if c == '"' || c == '\\' {
@@ -72,4 +73,42 @@ pub fn put_json_bytes<W: Write>(text: &[u8], out: &mut Watched<W>)
         put_json_char(out, char::from(*byte));
     }
     out.put(b"\"");
+}
+
+/// Writes a text as a string of JSON in this way.
+pub fn put_json_str<W: Write>(text: &str, out: &mut Watched<W>)
+    ensures { Puts W.contents out.old out.new (json_text (chars text.now)) }
+{
+    out.put(b"\"");
+    put_escaped_str(text, out);
+    out.put(b"\"");
+}
+
+// Writes a text as it stands within a string of JSON.
+fn put_escaped_str<W: Write>(text: &str, out: &mut Watched<W>)
+    ensures { Puts W.contents out.old out.new (escaped (chars text.now)) }
+{
+    for c in text.chars() {
+        put_json_char(out, c);
+    }
+}
+
+/// Writes the name of a store, as it stands in a line, within a string of JSON.
+pub fn put_escaped_name<W: Write>(name: &[u8], out: &mut Watched<W>)
+    ensures { Puts W.contents out.old out.new (escaped (ascii_name name.now)) }
+{
+    if name.is_empty() {
+        out.put(b"-");
+    } else {
+        put_escaped_bytes(name, out);
+    }
+}
+
+// Writes the bytes of the name of a store in this way.
+fn put_escaped_bytes<W: Write>(name: &[u8], out: &mut Watched<W>)
+    ensures { Puts W.contents out.old out.new (escaped (map shown_byte name.now)) }
+{
+    for byte in name {
+        put_json_char(out, char::from(shown_byte(*byte)));
+    }
 }

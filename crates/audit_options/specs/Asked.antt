@@ -10,10 +10,11 @@ use Rattle.audit_options.specs.Ids.{id_in}
 use Rattle.audit_options.specs.declared.reading.Misuse.{Misuse}
 use Rattle.audit_options.specs.declared.reading.Misuse.TheVariants.{NoCommand, NoId, NoPart, NoStoreFile, NoStoreId, TakeWithoutOut}
 use Rattle.audit_options.specs.declared.tasks.Task.{Task}
-use Rattle.audit_options.specs.declared.tasks.Task.TheVariants.{Split, Stores, Opcodes, Image, Questions, Question, Export, Diff}
+use Rattle.audit_options.specs.declared.tasks.Task.TheVariants.{Split, Stores, Check, Opcodes, Image, Questions, Question, Export, Diff}
 use Rattle.audit_options.specs.declared.tasks.TakenList.{TakenList}
 use Rattle.audit_options.specs.declared.tasks.SplitOptions.{SplitOptions}
 use Rattle.audit_options.specs.declared.tasks.ListOptions.{ListOptions}
+use Rattle.audit_options.specs.declared.tasks.CheckOptions.{CheckOptions}
 use Rattle.audit_options.specs.declared.tasks.OpcodesOptions.{OpcodesOptions}
 use Rattle.audit_options.specs.declared.tasks.FormSetOptions.{FormSetOptions}
 use Rattle.audit_options.specs.declared.tasks.QuestionOptions.{QuestionOptions}
@@ -68,6 +69,11 @@ pub record AsksStores (rows : List Row) (o : StoresOptions) : Type 0 where
   pub headers : IsFlag (one_of (codes "headers") rows) o.headers
   pub json : IsFlag (one_of (codes "json") rows) o.json
 
+pub record AsksCheck (rows : List Row) (o : CheckOptions) : Type 0 where
+  pub path : o.path.now ≡ text_in rows (codes "list") []
+  pub take : ReadsIfGiven 64 (one_of (codes "take") rows) o.take
+  pub json : IsFlag (one_of (codes "json") rows) o.json
+
 pub record AsksOpcodes (rows : List Row) (o : OpcodesOptions) : Type 0 where
   pub list : AsksList rows o.list
   pub json : IsFlag (one_of (codes "json") rows) o.json
@@ -75,6 +81,7 @@ pub record AsksOpcodes (rows : List Row) (o : OpcodesOptions) : Type 0 where
 pub record AsksFormSet (rows : List Row) (o : FormSetOptions) : Type 0 where
   pub list : AsksList rows o.list
   pub stores : o.stores.now ≡ text_in rows (codes "stores") []
+  pub json : IsFlag (one_of (codes "json") rows) o.json
   pub lang : o.lang.now ≡ text_in rows (codes "lang") (codes "en-US")
 
 pub record AsksQuestion (rows : List Row) (o : QuestionOptions) : Type 0 where
@@ -96,6 +103,7 @@ pub record AsksExport (rows : List Row) (o : ExportOptions) : Type 0 where
   pub list : AsksList rows o.list
   pub stores : o.stores.now ≡ text_in rows (codes "stores") []
   pub part : AsksPart rows o.part
+  pub json : IsFlag (one_of (codes "json") rows) o.json
 
 pub record AsksDiff (rows : List Row) (o : DiffOptions) : Type 0 where
   pub form_set : AsksFormSet rows o.form_set
@@ -112,6 +120,7 @@ AsksTaken rows (Some taken) =
 pub record AsksSplit (rows : List Row) (o : SplitOptions) : Type 0 where
   pub dump : o.dump.now ≡ text_in rows (codes "dump") []
   pub taken : AsksTaken rows o.taken
+  pub json : IsFlag (one_of (codes "json") rows) o.json
 
 abbrev pub is_equals_sign : ℕ → Bool
 is_equals_sign c = c == 61
@@ -135,6 +144,7 @@ pub record AsksImage (rows : List Row) (o : ImageOptions) : Type 0 where
   pub config : option_map (λ file. file.now) o.config ≡ first_of (codes "config") rows
   pub zero : IsFlag (one_of (codes "zero") rows) o.zero
   pub defaults : ReadsIfGiven 16 (one_of (codes "defaults") rows) o.defaults
+  pub json : IsFlag (one_of (codes "json") rows) o.json
   pub lang : o.lang.now ≡ text_in rows (codes "lang") (codes "en-US")
 
 -- The command that the words name, with its options, asks for this.
@@ -142,6 +152,7 @@ abbrev pub Asks : Option (Text × List Row) → Task → Type 0
 Asks None task = ⊥
 Asks (Some met) (Split o) = (met.0 ≡ codes "split") × AsksSplit met.1 o
 Asks (Some met) (Stores o) = (met.0 ≡ codes "stores") × AsksStores met.1 o
+Asks (Some met) (Check o) = (met.0 ≡ codes "check") × AsksCheck met.1 o
 Asks (Some met) (Opcodes o) = (met.0 ≡ codes "opcodes") × AsksOpcodes met.1 o
 Asks (Some met) (Image o) = (met.0 ≡ codes "image") × AsksImage met.1 o
 Asks (Some met) (Questions o) = (met.0 ≡ codes "questions") × AsksFormSet met.1 o
@@ -202,11 +213,12 @@ abbrev pub is_command : Text → Bool
 is_command name =
     bytes_eq name (codes "split")
     || (bytes_eq name (codes "stores")
+    || (bytes_eq name (codes "check")
     || (bytes_eq name (codes "opcodes")
     || (bytes_eq name (codes "image")
     || (bytes_eq name (codes "questions")
     || (bytes_eq name (codes "question")
-    || (bytes_eq name (codes "export") || bytes_eq name (codes "diff")))))))
+    || (bytes_eq name (codes "export") || bytes_eq name (codes "diff"))))))))
 
 -- The options of the command that the words name do not go together, or the words name none.
 abbrev pub IsMisused : Option (Text × List Row) → Misuse → Type 0

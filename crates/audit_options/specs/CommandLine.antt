@@ -79,10 +79,13 @@ command_of name rules = record (new_shape name) { rules = rules }
 
 abbrev pub split : Shape
 split = command_of (codes "split")
-    (required_option (codes "dump") ∷ take ∷ option (codes "out") ∷ [])
+    (required_option (codes "dump") ∷ take ∷ option (codes "out") ∷ json ∷ [])
 
 abbrev pub stores : Shape
 stores = command_of (codes "stores") (list ∷ take ∷ flag (codes "headers") ∷ json ∷ forms ∷ [])
+
+abbrev pub check : Shape
+check = command_of (codes "check") (list ∷ take ∷ json ∷ [])
 
 abbrev pub opcodes : Shape
 opcodes = command_of (codes "opcodes") (list ∷ take ∷ json ∷ forms ∷ [])
@@ -90,24 +93,24 @@ opcodes = command_of (codes "opcodes") (list ∷ take ∷ json ∷ forms ∷ [])
 abbrev pub image : Bool → Shape
 image takes_hyphen = command_of (codes "image")
     (list ∷ take ∷ required_option (codes "out") ∷ store ∷ option (codes "efivars")
-    ∷ option (codes "config") ∷ flag (codes "zero") ∷ defaults ∷ forms ∷ lang takes_hyphen ∷ [])
+    ∷ option (codes "config") ∷ flag (codes "zero") ∷ defaults ∷ json ∷ forms ∷ lang takes_hyphen ∷ [])
 
 abbrev pub questions : Bool → Shape
 questions takes_hyphen = command_of (codes "questions")
-    (list ∷ take ∷ stores_image ∷ forms ∷ lang takes_hyphen ∷ [])
+    (list ∷ take ∷ stores_image ∷ json ∷ forms ∷ lang takes_hyphen ∷ [])
 
 abbrev pub question : Bool → Shape
 question takes_hyphen = command_of (codes "question")
-    (list ∷ take ∷ stores_image ∷ required_option (codes "id") ∷ forms ∷ lang takes_hyphen ∷ [])
+    (list ∷ take ∷ stores_image ∷ required_option (codes "id") ∷ json ∷ forms ∷ lang takes_hyphen ∷ [])
 
 abbrev pub export : Shape
 export = command_of (codes "export")
     (list ∷ take ∷ stores_image ∷ option (codes "id") ∷ option (codes "out")
-    ∷ flag (codes "lines") ∷ option (codes "with") ∷ forms ∷ [])
+    ∷ flag (codes "lines") ∷ option (codes "with") ∷ json ∷ forms ∷ [])
 
 abbrev pub diff : Bool → Shape
 diff takes_hyphen = command_of (codes "diff")
-    (list ∷ take ∷ stores_image ∷ required_option (codes "with") ∷ forms ∷ lang takes_hyphen ∷ [])
+    (list ∷ take ∷ stores_image ∷ required_option (codes "with") ∷ json ∷ forms ∷ lang takes_hyphen ∷ [])
 
 -- all of it, where a language may begin with a hyphen or not
 abbrev pub program : Bool → App
@@ -117,7 +120,7 @@ program takes_hyphen = record {
     has_version = true;
     subcommand_required = true;
   };
-  subs = split ∷ stores ∷ opcodes ∷ image takes_hyphen ∷ questions takes_hyphen
+  subs = split ∷ stores ∷ check ∷ opcodes ∷ image takes_hyphen ∷ questions takes_hyphen
       ∷ question takes_hyphen ∷ export ∷ diff takes_hyphen ∷ [];
 }
 

@@ -31,6 +31,10 @@ const ABOUT_STORES: &str = "\
 Tells each store: its id, its opcode, how many bytes it holds, its attributes,
 its GUID and its name";
 
+const ABOUT_CHECK: &str = "\
+Tells of each forms package of the list whether setup opens it over an image of the
+right size; if not, why, what stands there, and what such a fault mostly comes from";
+
 const ABOUT_OPCODES: &str = "\
 Tells each opcode of the forms package, as far as their lengths allow: its place,
 its byte in the file, its name, its fields, and its bytes; and why setup refuses
@@ -69,6 +73,7 @@ pub(crate) fn command<'a>(
     let command = program(alloc, version);
     let command = with_command(command, split(alloc));
     let command = with_command(command, stores(alloc));
+    let command = with_command(command, check(alloc));
     let command = with_command(command, opcodes(alloc));
     let command = with_command(command, image(alloc, takes_hyphen));
     let command = with_command(command, questions(alloc, takes_hyphen));
@@ -125,7 +130,8 @@ fn split<'a>(alloc: Global) -> Result<Command<'a>, AllocError>
     let command = Command::new(alloc, "split").about(ABOUT_SPLIT);
     let command = command.arg(dump);
     let command = with_arg(command, take);
-    with_arg(command, out)
+    let command = with_arg(command, out);
+    with_arg(command, json(alloc))
 }
 
 fn questions<'a>(alloc: Global, takes_hyphen: bool) -> Result<Command<'a>, AllocError>
@@ -135,6 +141,7 @@ fn questions<'a>(alloc: Global, takes_hyphen: bool) -> Result<Command<'a>, Alloc
     let command = command.arg(list(alloc));
     let command = with_arg(command, take_of_dump(alloc));
     let command = with_arg(command, image_of_stores(alloc));
+    let command = with_arg(command, json(alloc));
     let command = with_arg(command, forms(alloc));
     with_arg(command, lang(alloc, takes_hyphen))
 }
@@ -148,6 +155,7 @@ fn question<'a>(alloc: Global, takes_hyphen: bool) -> Result<Command<'a>, AllocE
     let command = with_arg(command, take_of_dump(alloc));
     let command = with_arg(command, image_of_stores(alloc));
     let command = with_arg(command, id);
+    let command = with_arg(command, json(alloc));
     let command = with_arg(command, forms(alloc));
     with_arg(command, lang(alloc, takes_hyphen))
 }
@@ -166,6 +174,15 @@ fn stores<'a>(alloc: Global) -> Result<Command<'a>, AllocError>
     let command = with_arg(command, headers);
     let command = with_arg(command, json(alloc));
     with_arg(command, forms(alloc))
+}
+
+fn check<'a>(alloc: Global) -> Result<Command<'a>, AllocError>
+    ensures { IfOk result (IsCommand spec.check) }
+{
+    let command = Command::new(alloc, "check").about(ABOUT_CHECK);
+    let command = command.arg(list(alloc));
+    let command = with_arg(command, take_of_dump(alloc));
+    with_arg(command, json(alloc))
 }
 
 fn opcodes<'a>(alloc: Global) -> Result<Command<'a>, AllocError>
@@ -215,6 +232,7 @@ fn image<'a>(alloc: Global, takes_hyphen: bool) -> Result<Command<'a>, AllocErro
     let command = with_arg(command, config);
     let command = with_arg(command, zero);
     let command = with_arg(command, defaults(alloc));
+    let command = with_arg(command, json(alloc));
     let command = with_arg(command, forms(alloc));
     with_arg(command, lang(alloc, takes_hyphen))
 }
@@ -261,6 +279,7 @@ fn export<'a>(alloc: Global) -> Result<Command<'a>, AllocError>
     let command = with_arg(command, out);
     let command = with_arg(command, lines);
     let command = with_arg(command, with);
+    let command = with_arg(command, json(alloc));
     with_arg(command, forms(alloc))
 }
 
@@ -273,6 +292,7 @@ fn diff<'a>(alloc: Global, takes_hyphen: bool) -> Result<Command<'a>, AllocError
     let command = with_arg(command, take_of_dump(alloc));
     let command = with_arg(command, image_of_stores(alloc));
     let command = with_arg(command, with);
+    let command = with_arg(command, json(alloc));
     let command = with_arg(command, forms(alloc));
     with_arg(command, lang(alloc, takes_hyphen))
 }

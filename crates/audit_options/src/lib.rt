@@ -8,6 +8,7 @@ mod tasks;
 
 pub use reading::read_words;
 pub use tasks::{
-    DiffOptions, ExportOptions, ExportPart, FormSetOptions, ImageOptions, ListOptions,
-    OpcodesOptions, QuestionOptions, SplitOptions, StoreFile, StoresOptions, TakenList, Task,
+    CheckOptions, DiffOptions, ExportOptions, ExportPart, FormSetOptions, ImageOptions,
+    ListOptions, OpcodesOptions, QuestionOptions, SplitOptions, StoreFile, StoresOptions,
+    TakenList, Task,
 };

@@ -4,13 +4,14 @@ ghost use Rattle.std.specs.Prelude.{◌≡◌, ◌≢◌, List, [], codes, false
 ghost use Rattle.clap.specs.Words.{all_of, found_of, kind_of, rows_of, subcommand_of, subcommand_rows_of, takes};
 ghost use Rattle.audit_options.specs.CommandLine as spec;
 ghost use Rattle.audit_options.specs.CommandLine.{has_hyphen_language, program};
-ghost use Rattle.audit_options.specs.Asked.{AreApart, AreStoreFiles, Asks, AsksDiff, AsksExport, AsksFormSet, AsksImage, AsksList, AsksOpcodes, AsksPart, AsksQuestion, AsksSplit, AsksStores, HasNoId, HasNoPart, HasNoStoreFile, IsMisused, IsMisusedExport, IsStoreFile, kind_of_misuse};
+ghost use Rattle.audit_options.specs.Asked.{AreApart, AreStoreFiles, Asks, AsksCheck, AsksDiff, AsksExport, AsksFormSet, AsksImage, AsksList, AsksOpcodes, AsksPart, AsksQuestion, AsksSplit, AsksStores, HasNoId, HasNoPart, HasNoStoreFile, IsMisused, IsMisusedExport, IsStoreFile, kind_of_misuse};
 
 use crate::commands::{command, split_alone};
 use crate::ids::id_in;
 use crate::tasks::{
-    DiffOptions, ExportOptions, ExportPart, FormSetOptions, ImageOptions, ListOptions,
-    OpcodesOptions, QuestionOptions, SplitOptions, StoreFile, StoresOptions, TakenList, Task,
+    CheckOptions, DiffOptions, ExportOptions, ExportPart, FormSetOptions, ImageOptions,
+    ListOptions, OpcodesOptions, QuestionOptions, SplitOptions, StoreFile, StoresOptions,
+    TakenList, Task,
 };
 use clap::error::ErrorKind;
 use clap::{ArgMatches, Command, Error};
@@ -130,6 +131,7 @@ fn task_in<'a>(
     Ok(match name {
         "split" => split_in(options).map(Task::Split),
         "stores" => Ok(Task::Stores(stores_in(options))),
+        "check" => Ok(Task::Check(check_in(options))),
         "opcodes" => Ok(Task::Opcodes(opcodes_in(options))),
         "image" => image_in(alloc, options)?.map(Task::Image),
         "questions" => Ok(Task::Questions(form_set_in(options))),
@@ -154,6 +156,7 @@ fn split_in<'a>(options: &ArgMatches<'a>) -> Result<SplitOptions<'a>, Misuse>
     Ok(SplitOptions {
         dump: options.get_str("dump").unwrap_or(""),
         taken,
+        json: options.get_flag("json"),
     })
 }
 
@@ -177,6 +180,16 @@ fn stores_in<'a>(options: &ArgMatches<'a>) -> StoresOptions<'a>
     }
 }
 
+fn check_in<'a>(options: &ArgMatches<'a>) -> CheckOptions<'a>
+    ensures { AsksCheck (rows_of (found_of options.now)) result }
+{
+    CheckOptions {
+        path: options.get_str("list").unwrap_or(""),
+        take: options.get_one::<u64>("take"),
+        json: options.get_flag("json"),
+    }
+}
+
 fn opcodes_in<'a>(options: &ArgMatches<'a>) -> OpcodesOptions<'a>
     ensures { AsksOpcodes (rows_of (found_of options.now)) result }
 {
@@ -192,6 +205,7 @@ fn form_set_in<'a>(options: &ArgMatches<'a>) -> FormSetOptions<'a>
     FormSetOptions {
         list: list_in(options),
         stores: options.get_str("stores").unwrap_or(""),
+        json: options.get_flag("json"),
         lang: options.get_str("lang").unwrap_or("en-US"),
     }
 }
@@ -221,6 +235,7 @@ fn export_in<'a>(options: &ArgMatches<'a>) -> Result<ExportOptions<'a>, Misuse>
         list: list_in(options),
         stores: options.get_str("stores").unwrap_or(""),
         part,
+        json: options.get_flag("json"),
     })
 }
 
@@ -268,6 +283,7 @@ fn image_in<'a>(
         config: options.get_str("config"),
         zero: options.get_flag("zero"),
         defaults: options.get_one::<u16>("defaults"),
+        json: options.get_flag("json"),
         lang: options.get_str("lang").unwrap_or("en-US"),
     }))
 }

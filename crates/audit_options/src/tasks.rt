@@ -7,6 +7,8 @@ pub enum Task<'a> {
     Split(SplitOptions<'a>),
     /// A line for each store.
     Stores(StoresOptions<'a>),
+    /// Whether setup opens the forms packages of a list, and where and why it does not.
+    Check(CheckOptions<'a>),
     /// A line for each opcode.
     Opcodes(OpcodesOptions<'a>),
     /// An image of the stores.
@@ -28,6 +30,8 @@ pub struct SplitOptions<'a> {
     pub dump: &'a str,
     /// The list that is taken; where it is none, all are told.
     pub taken: Option<TakenList<'a>>,
+    /// Whether they are told as objects of JSON.
+    pub json: bool,
 }
 
 /// A list that is taken out of a dump.
@@ -60,6 +64,17 @@ pub struct StoresOptions<'a> {
     pub json: bool,
 }
 
+/// All forms packages of a package list, and how they are told.
+#[derive(Clone, Copy)]
+pub struct CheckOptions<'a> {
+    /// The file of the list, or of a dump that has it.
+    pub path: &'a str,
+    /// The number of the list in the dump, counted from 1; where it is none, the file is the list.
+    pub take: Option<u64>,
+    /// Whether they are told as objects of JSON.
+    pub json: bool,
+}
+
 /// The opcodes of a forms package, and how they are told.
 #[derive(Clone, Copy)]
 pub struct OpcodesOptions<'a> {
@@ -68,12 +83,14 @@ pub struct OpcodesOptions<'a> {
     pub json: bool,
 }
 
-/// A form set over an image of its stores.
+/// A form set over an image of its stores, and how it is told.
 #[derive(Clone, Copy)]
 pub struct FormSetOptions<'a> {
     pub list: ListOptions<'a>,
     /// The file of the image.
     pub stores: &'a str,
+    /// Whether it is told as objects of JSON.
+    pub json: bool,
     /// The language of the texts.
     pub lang: &'a str,
 }
@@ -94,6 +111,8 @@ pub struct ExportOptions<'a> {
     pub stores: &'a str,
     /// What is told.
     pub part: ExportPart<'a>,
+    /// Whether it is told as objects of JSON.
+    pub json: bool,
 }
 
 /// What is told of an image.
@@ -130,6 +149,8 @@ pub struct ImageOptions<'a> {
     pub zero: bool,
     /// The class of the defaults that are laid over these bytes.
     pub defaults: Option<u16>,
+    /// Whether the stores are told as objects of JSON.
+    pub json: bool,
     /// The language of the texts of defaults.
     pub lang: &'a str,
 }

@@ -1,5 +1,6 @@
 //! A dump of a list without packages and of two bytes.
 
+use audit_json::Telling;
 use audit_text::{put_hexadecimal, put_left};
 use dump_audit::{nth_list, put_list, put_no_list, put_rest, put_split, put_taken};
 use hii_bytes::Watched;
@@ -19,7 +20,7 @@ fn dump() -> &'static [u8] {
 #[test]
 fn a_dump_is_split(rt: HostRuntime) -> Result<(), Fail> {
     let mut out = Watched::new(Vec::new(rt.alloc()));
-    put_split(rt.alloc(), dump(), &mut out)?;
+    put_split(Telling::Lines, rt.alloc(), dump(), &mut out)?;
     let lines = b"LIST 1 00000000 24 forms 0 strings -\nREST 00000018 2\n";
     assert!(rt; out.into_inner().as_slice() == lines.as_slice());
     Ok(())
@@ -29,7 +30,8 @@ fn a_dump_is_split(rt: HostRuntime) -> Result<(), Fail> {
 fn a_list_is_taken(rt: HostRuntime) -> Result<(), Fail> {
     let mut out = Watched::new(BufWriter::new(rt.alloc(), Vec::new(rt.alloc()))?);
     let mut file = Watched::new(Vec::new(rt.alloc()));
-    assert!(rt; put_taken(rt.alloc(), dump(), 1, &mut out, &mut file)?);
+    let telling = Telling::Lines;
+    assert!(rt; put_taken(telling, rt.alloc(), dump(), 1, &mut out, &mut file)?);
     assert!(rt; file.into_inner().len() == 24);
     Ok(())
 }
@@ -40,9 +42,9 @@ fn a_list_is_found_by_its_number(rt: HostRuntime) -> Result<(), Fail> {
     assert!(rt; dump.lists().next().is_some());
     let list = dump.list(1).ok_or("no list")?;
     let mut out = Watched::new(Vec::new(rt.alloc()));
-    put_list(rt.alloc(), 1, list, &mut out)?;
-    let line = b"LIST 1 00000000 24 forms 0 strings -\n";
-    assert!(rt; out.into_inner().as_slice() == line.as_slice());
+    put_list(Telling::Objects, rt.alloc(), 1, list, &mut out)?;
+    let object = b"{\"kind\":\"list\",\"number\":1,\"at\":0,\"size\":24,\"forms\":0}\n";
+    assert!(rt; out.into_inner().as_slice() == object.as_slice());
     Ok(())
 }
 
@@ -52,8 +54,9 @@ fn a_list_that_is_not_there_is_told(rt: HostRuntime) -> Result<(), Fail> {
     assert!(rt; list.place == 0 && list.bytes.len() == 24);
     assert!(rt; nth_list(dump(), 0).is_none() && nth_list(dump(), 2).is_none());
     let mut out = Watched::new(Vec::new(rt.alloc()));
-    put_no_list(2, &mut out);
-    assert!(rt; out.into_inner().as_slice() == b"NO LIST 2\n".as_slice());
+    put_no_list(Telling::Objects, 2, &mut out);
+    let object = b"{\"kind\":\"error\",\"text\":\"NO LIST 2\"}\n";
+    assert!(rt; out.into_inner().as_slice() == object.as_slice());
     Ok(())
 }
 
@@ -62,8 +65,9 @@ fn the_rest_is_told(rt: HostRuntime) {
     let dump = Dump::read(dump());
     assert!(rt; dump.rest().len() == 2 && dump.rest_place() == 24);
     let mut out = Watched::new(Vec::new(rt.alloc()));
-    put_rest(&dump, &mut out);
-    assert!(rt; out.into_inner().as_slice() == b"REST 00000018 2\n".as_slice());
+    put_rest(Telling::Objects, &dump, &mut out);
+    let object = b"{\"kind\":\"rest\",\"at\":24,\"size\":2}\n";
+    assert!(rt; out.into_inner().as_slice() == object.as_slice());
 }
 
 #[test]

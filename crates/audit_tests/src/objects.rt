@@ -1,6 +1,6 @@
 //! How a run that is refused is told as an object.
 
-use audit_json::{Telling, put_refused, put_refused_at};
+use audit_json::{Telling, put_error, put_refused, put_refused_at};
 use hii_bytes::{Cause, Fault, Watched};
 
 #[test]
@@ -27,4 +27,14 @@ fn want_of_memory_has_no_place(rt: HostRuntime) {
 fn json_is_told_where_it_is_asked_for(rt: HostRuntime) {
     assert!(rt; Telling::of(true) == Telling::Objects);
     assert!(rt; Telling::of(false) == Telling::Lines);
+}
+
+#[test]
+fn a_line_of_its_own_is_escaped(rt: HostRuntime) {
+    let mut out = Watched::new(Vec::new(rt.alloc()));
+    put_error(b"a \"store\"", &mut out);
+    assert!(rt;
+        out.into_inner().as_slice()
+            == b"{\"kind\":\"error\",\"text\":\"a \\\"store\\\"\"}\n".as_slice()
+    );
 }

@@ -86,7 +86,7 @@ fn fillings<'a>(alloc: Global, declared: &Declared<'a>) -> Result<Vec<Filling<'a
     Ok(fillings)
 }
 
-// Fills the stores: the lines and the image.
+// Fills the stores: what is told and the image.
 fn are_filled<R: Abort + AllocGlobal>(
     rt: &R,
     declared: &Declared<'_>,
@@ -98,6 +98,7 @@ fn are_filled<R: Abort + AllocGlobal>(
     let mut image_file = Watched::new(Vec::new(rt.alloc()));
     assert!(rt;
         put_image(
+            Telling::Objects,
             rt.alloc(),
             declared,
             fillings,
@@ -108,7 +109,10 @@ fn are_filled<R: Abort + AllocGlobal>(
     );
     assert!(rt; lines.has_passed_on());
     let told = lines.into_inner().into_parts().0;
-    assert!(rt; told.as_slice() == b"STORE 1 V 2 zeros\n".as_slice());
+    assert!(rt;
+        told.as_slice()
+            == b"{\"kind\":\"store\",\"id\":1,\"name\":\"V\",\"size\":2,\"source\":\"zeros\"}\n".as_slice()
+    );
     assert!(rt; image_file.into_inner().as_slice() == image());
     Ok(())
 }

@@ -11,6 +11,6 @@ mod texts;
 
 pub use columns::{put_hexadecimal, put_left};
 pub use guid::{Case, guid_digits, put_guid};
-pub use names::{attributes_text, opcode_name, put_ascii_name, put_language};
+pub use names::{attributes_text, opcode_name, put_ascii_name, put_language, shown_byte};
 pub use stores::{store_attributes, store_opcode_name};
 pub use texts::{is_unsafe, put_safe_char, put_safe_shown, put_safe_text};

@@ -2,7 +2,7 @@
 
 ghost use Rattle.std.specs.Prelude.{◌≡◌};
 ghost use Rattle.hii_bytes.specs.Watching.{Puts};
-ghost use Rattle.audit_text.specs.Texts.{ascii_name, language_name, name_by};
+ghost use Rattle.audit_text.specs.Texts.{ascii_name, language_name, name_by, shown_byte};
 ghost use Rattle.audit_text.specs.code.Names.{shown_in, word_in};
 ghost use Rattle.audit_text.specs.Words as spec;
 
@@ -26,9 +26,19 @@ impl Named {
     {
         match self {
             Named::Language if byte == b' ' || byte == b',' => b'?',
-            _ if 0x20 <= byte && byte <= 0x7e => byte,
-            _ => b'?',
+            _ => shown_byte(byte),
         }
+    }
+}
+
+/// The byte that shows for one of the name of a store.
+pub fn shown_byte(byte: u8) -> u8
+    ensures { result ≡ shown_byte byte }
+{
+    if 0x20 <= byte && byte <= 0x7e {
+        byte
+    } else {
+        b'?'
     }
 }
 

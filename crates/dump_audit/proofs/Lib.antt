@@ -4,3 +4,4 @@ mod FaultLemmas
 mod LineLemmas
 mod TextLemmas
 mod WorkedLines
+pub mod FoundLemmas

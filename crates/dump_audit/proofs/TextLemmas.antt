@@ -12,7 +12,8 @@ use Rattle.hii_dumps.specs.Dumps.{Entry, placed}
 use Rattle.hii_dumps.proofs.ListLemmas.{one_split}
 use Rattle.sibt_strings.proofs.FaultLemmas.{some_least}
 use Rattle.dump_audit.specs.Findings.{Finding, Contents, Refused, IsFound, list_or_text_faults}
-use Rattle.dump_audit.specs.Lines.{Told, IsTold, lines, no_lists_line, rest_line, IsSplitText}
+use Rattle.audit_json.specs.declared.telling.Telling.{Telling}
+use Rattle.dump_audit.specs.Lines.{Told, IsTold, lists_told, no_lists_told, rest_told, IsSplitText}
 use Rattle.dump_audit.proofs.CauseLemmas.{same_cause}
 
 -- two least faults stand at one place, with one number
@@ -56,12 +57,12 @@ one_told (t ∷ ts) (u ∷ us) a b same =
     let more : map (λ x. x.entry) ts ≡ map (λ x. x.entry) us = cc in
     ap (λ (x : Told). x ∷ ts) (one_entry t u a.0 b.0 first) ∙ ap (λ (xs : List Told). u ∷ xs) (one_told ts us a.1 b.1 more)
 
-pub one_text : (is was : Bool) (dump text other : List ℕ) → IsSplitText is dump text → IsSplitText was dump other → text ≡ other
-one_text is was dump text other s t =
+pub one_text : (telling : Telling) (is was : Bool) (dump text other : List ℕ) → IsSplitText telling is dump text → IsSplitText telling was dump other → text ≡ other
+one_text telling is was dump text other s t =
     let same = one_split dump s.lists t.lists s.rest t.rest s.spelled t.spelled in
     let told = one_told s.told t.told s.each t.each (s.in_order ∙ ap (λ (ls : List (List ℕ)). placed 0 ls) same.0 ∙ sym t.in_order) in
     s.written
-    ∙ ap (λ (xs : List Told). lines 1 xs ++ rest_line (length (concat s.lists)) s.rest ++ no_lists_line s.lists) told
-    ∙ ap (λ (ls : List (List ℕ)). lines 1 t.told ++ rest_line (length (concat ls)) s.rest ++ no_lists_line ls) same.0
-    ∙ ap (λ (rest : List ℕ). lines 1 t.told ++ rest_line (length (concat t.lists)) rest ++ no_lists_line t.lists) same.1
+    ∙ ap (λ (xs : List Told). lists_told telling 1 xs ++ rest_told telling (length (concat s.lists)) s.rest ++ no_lists_told telling s.lists) told
+    ∙ ap (λ (ls : List (List ℕ)). lists_told telling 1 t.told ++ rest_told telling (length (concat ls)) s.rest ++ no_lists_told telling ls) same.0
+    ∙ ap (λ (rest : List ℕ). lists_told telling 1 t.told ++ rest_told telling (length (concat t.lists)) rest ++ no_lists_told telling t.lists) same.1
     ∙ sym t.written

@@ -1,4 +1,4 @@
--- The lines of a dump (own rule).
+-- What is told of a dump, in lines or in objects (own rule).
 use Rattle.std.specs.Prelude.{◌≡◌, ℕ, suc, Bool, true, false, Option, None, Some, List, [], ◌∷◌, ◌++◌, length, map, codes, decimal}
 use Rattle.std.specs.List.{AllByRecursion, concat, flat_map}
 use Rattle.browser_rules.specs.Packages.{Package}
@@ -6,8 +6,11 @@ use Rattle.hii_bytes.specs.Texts.{place_text, fault_text}
 use Rattle.hii_dumps.specs.Dumps.{Entry, SpellsDump, placed}
 use Rattle.browser_rules.specs.Strings.{Spoken, shown}
 use Rattle.audit_text.specs.Texts.{joined, language_name, safe_text}
+use Rattle.audit_json.specs.Telling.{told_as}
+use Rattle.audit_json.specs.declared.telling.Telling.{Telling}
 use Rattle.dump_audit.specs.Contents.{form_sets, forms_in, guid_word, first_title}
 use Rattle.dump_audit.specs.Findings.{Finding, Contents, Refused, IsFound}
+use Rattle.dump_audit.specs.Objects.{list_object, no_list_object, rest_object}
 
 -- which list a line is of: its number, its place in the dump and its length in bytes
 abbrev pub head_text : ℕ → Entry → List ℕ
@@ -45,10 +48,15 @@ pub record Told : Type 0 where
 abbrev pub line : ℕ → Told → List ℕ
 line number told = head_text number told.entry ++ finding_text told.finding ++ codes "\n"
 
--- the lines of lists, numbered from this number on
-abbrev pub lines : ℕ → List Told → List ℕ
-lines number [] = []
-lines number (told ∷ more) = line number told ++ lines (suc number) more
+abbrev pub list_told : Telling → ℕ → Told → List ℕ
+list_told telling number told =
+    told_as telling (line number told) (list_object number told.entry told.finding)
+
+-- lists, numbered from this number on
+abbrev pub lists_told : Telling → ℕ → List Told → List ℕ
+lists_told telling number [] = []
+lists_told telling number (told ∷ more) =
+    list_told telling number told ++ lists_told telling (suc number) more
 
 -- the line of the rest at a place of the dump, where it has some bytes
 abbrev pub rest_line : ℕ → List ℕ → List ℕ
@@ -56,26 +64,31 @@ rest_line place [] = []
 rest_line place (byte ∷ bytes) =
     codes "REST " ++ place_text place ++ codes " " ++ decimal (length (byte ∷ bytes)) ++ codes "\n"
 
+abbrev pub rest_told : Telling → ℕ → List ℕ → List ℕ
+rest_told telling place rest = told_as telling (rest_line place rest) (rest_object place rest)
+
 -- that there is no list of a number
 abbrev pub no_list_text : ℕ → List ℕ
 no_list_text number = codes "NO LIST " ++ decimal number ++ codes "\n"
+
+abbrev pub no_list_told : Telling → ℕ → List ℕ
+no_list_told telling number = told_as telling (no_list_text number) (no_list_object number)
 
 abbrev pub has_lists : List (List ℕ) → Bool
 has_lists [] = false
 has_lists (list ∷ lists) = true
 
 -- where there is none at all, that is told behind the rest
-abbrev pub no_lists_line : List (List ℕ) → List ℕ
-no_lists_line [] = no_list_text 1
-no_lists_line (list ∷ lists) = []
+abbrev pub no_lists_told : Telling → List (List ℕ) → List ℕ
+no_lists_told telling [] = no_list_told telling 1
+no_lists_told telling (list ∷ lists) = []
 
 -- What is found of a list is told.
 abbrev pub IsTold : Told → Type 0
 IsTold told = IsFound told.entry.bytes told.finding
 
--- The text has a line for each list of the dump, in order and numbered from 1, and behind these one for its rest, and one where there is
--- no list.
-pub record IsSplitText (is_some : Bool) (dump text : List ℕ) : Type 0 where
+-- The text tells each list of the dump, in order and numbered from 1, and behind these its rest, and where there is no list, that.
+pub record IsSplitText (telling : Telling) (is_some : Bool) (dump text : List ℕ) : Type 0 where
   pub lists : List (List ℕ)
   pub rest : List ℕ
   pub spelled : SpellsDump dump lists rest
@@ -83,10 +96,12 @@ pub record IsSplitText (is_some : Bool) (dump text : List ℕ) : Type 0 where
   pub each : AllByRecursion IsTold told
   pub in_order : map (λ t. t.entry) told ≡ placed 0 lists
   pub some : is_some ≡ has_lists lists
-  pub written : text ≡ lines 1 told ++ rest_line (length (concat lists)) rest ++ no_lists_line lists
+  pub written : text
+      ≡ lists_told telling 1 told ++ rest_told telling (length (concat lists)) rest
+      ++ no_lists_told telling lists
 
--- The text has the lines of the first lists of the dump, in order and numbered from 1, and not yet that of the next one.
-pub record BeginsSplitText (dump text : List ℕ) : Type 0 where
+-- The text tells the first lists of the dump, in order and numbered from 1, and not yet the next one.
+pub record BeginsSplitText (telling : Telling) (dump text : List ℕ) : Type 0 where
   pub lists : List (List ℕ)
   pub rest : List ℕ
   pub spelled : SpellsDump dump lists rest
@@ -95,4 +110,4 @@ pub record BeginsSplitText (dump text : List ℕ) : Type 0 where
   pub next : Entry
   pub later : List Entry
   pub in_order : map (λ t. t.entry) told ++ next ∷ later ≡ placed 0 lists
-  pub written : text ≡ lines 1 told
+  pub written : text ≡ lists_told telling 1 told

@@ -7,7 +7,11 @@ ghost use Rattle.hii_packages.specs.Packages.{packages_of};
 ghost use Rattle.ifr_opcodes.specs.Fields.{form_set_guid, form_set_title};
 ghost use Rattle.dump_audit.specs.Contents.{begins_with_form_set, form_sets, forms_in, opcodes_of, first_title, guid_word};
 ghost use Rattle.hii_packages.specs.code.Package.{package_of};
+ghost use Rattle.audit_json.specs.Objects.{quoted};
+ghost use Rattle.audit_text.specs.Texts.{guid_text};
+ghost use Rattle.dump_audit.specs.Objects.{guids_member};
 
+use audit_json::{put_array_end, put_before_item};
 use audit_text::{Case, put_guid};
 use hii_bytes::{Guid, Watched, u16_at};
 use hii_packages::{FORMS, Package, PackageList};
@@ -66,4 +70,40 @@ pub(crate) fn put_form_sets<W: Write>(list: &PackageList<'_>, out: &mut Watched<
         }
     }
     title
+}
+
+/// The string id of the title of the first form set with which a forms package begins.
+pub(crate) fn first_title(list: &PackageList<'_>) -> Option<u16>
+    ensures { result ≡ first_title (form_sets (packages_of list.now)) }
+{
+    for source in list.packages() {
+        if let Some(found) = form_set_of(source) {
+            return Some(found.title);
+        }
+    }
+    None
+}
+
+// Writes a GUID as a string of JSON.
+fn put_guid_value<W: Write>(guid: Guid<'_>, out: &mut Watched<W>)
+    ensures { Puts W.contents out.old out.new (quoted (guid_text true guid.entry.bytes.now)) }
+{
+    out.put(b"\"");
+    put_guid(out, guid, Case::Upper);
+    out.put(b"\"");
+}
+
+/// Writes the member that tells the GUIDs of the form sets with which forms packages begin.
+pub(crate) fn put_guids_member<W: Write>(list: &PackageList<'_>, out: &mut Watched<W>)
+    ensures { Puts W.contents out.old out.new (guids_member (packages_of list.now)) }
+{
+    let mut is_first = true;
+    for source in list.packages() {
+        if let Some(found) = form_set_of(source) {
+            put_before_item(b"guids", is_first, out);
+            put_guid_value(found.guid, out);
+            is_first = false;
+        }
+    }
+    put_array_end(is_first, out);
 }

@@ -1,10 +1,11 @@
-//! The package lists of a dump, told line by line (own rule; the formats are those of UEFI 2.8, 33.3 and 34.8).
+//! The package lists of a dump, told in lines or as objects (own rule; the formats are those of UEFI 2.8, 33.3 and 34.8).
 #![tactic(auto)]
 
 mod contents;
 mod findings;
 pub mod laws;
 mod lines;
+mod objects;
 mod strings;
 mod taking;
 

@@ -3,6 +3,7 @@
 ghost use Rattle.std.specs.Prelude.{◌≡◌, codes};
 ghost use Rattle.hii_bytes.specs.Watching.{Puts};
 
+use audit_json::{put_array_end, put_before_item, put_json_bytes};
 use audit_text::put_language;
 use hii_bytes::{Fault, Watched};
 use hii_languages::Shown;
@@ -39,6 +40,7 @@ impl<'a> ListStrings<'a> {
     ghost use Rattle.sibt_strings.specs.code.Views.{units_in};
     ghost use Rattle.hii_languages.specs.code.Views.{text_of};
     ghost use Rattle.audit_text.specs.Texts.{joined, language_name};
+    ghost use Rattle.dump_audit.specs.Objects.{languages_member};
     ghost use Rattle.dump_audit.specs.code.Heard.{heard_of, text_in_first, shown_in_first};
 
     /// Reads each string package once, in memory for the texts of two at most; or gives the least fault of the first that has one,
@@ -74,6 +76,19 @@ impl<'a> ListStrings<'a> {
             out.put(b",");
             put_language(out, language);
         }
+    }
+
+    /// Writes the member that tells the languages.
+    pub(crate) fn put_languages_member<W: Write>(&self, out: &mut Watched<W>)
+        ensures { Puts W.contents out.old out.new (languages_member self.now.languages) }
+    {
+        let mut is_first = true;
+        for language in self.languages.as_slice() {
+            put_before_item(b"languages", is_first, out);
+            put_json_bytes(language, out);
+            is_first = false;
+        }
+        put_array_end(is_first, out);
     }
 
     // The text of a string id in the first string package.

@@ -8,6 +8,7 @@ ghost use Rattle.hii_dumps.specs.code.Lists.{entry_of};
 ghost use Rattle.dump_audit.specs.Taking.{IsNth, TellsList, TakesBytes};
 
 use crate::lines::{put_list, put_no_list};
+use audit_json::Telling;
 use hii_bytes::Watched;
 use hii_dumps::{Dump, DumpedList};
 use std::alloc::{AllocError, Global};
@@ -21,10 +22,11 @@ pub fn nth_list(dump: &[u8], number: u64) -> Option<DumpedList<'_>>
     Dump::read(dump).list(number)
 }
 
-/// Writes the line of the list of a number, counted from 1, passes it on, and then writes the list's bytes into a file; or writes
+/// Tells the list of a number, counted from 1, passes that on, and then writes the list's bytes into a file; or writes
 /// that there is no such list, and does not pass that on. Tells whether there is one (own rule). The file is not written where there
 /// is none, where the answers fail, or where an allocation fails, and then no answer is written either.
 pub fn put_taken<W: Write + Drop, F: Write>(
+    telling: Telling,
     alloc: Global,
     dump: &[u8],
     number: u64,
@@ -32,7 +34,7 @@ pub fn put_taken<W: Write + Drop, F: Write>(
     file: &mut Watched<F>,
 ) -> Result<bool, AllocError>
     ensures taken { IfOk result (λ is_there. (list : Option Entry) × IsNth dump.now number list
-        × TellsList number list is_there
+        × TellsList telling number list is_there
         (pen_of (writer_contents W.contents) out.old)
         (pen_of (writer_contents W.contents) out.new)
         × TakesBytes list (has_failed out.new) F.contents file.old file.new) }
@@ -42,10 +44,10 @@ pub fn put_taken<W: Write + Drop, F: Write>(
     ensures nothing_taken { OnErr result (file.new ≡ file.old) }
 {
     let Some(list) = nth_list(dump, number) else {
-        put_no_list(number, out);
+        put_no_list(telling, number, out);
         return Ok(false);
     };
-    put_list(alloc, number, list, out)?;
+    put_list(telling, alloc, number, list, out)?;
     if out.pass_on().is_ok() {
         file.put(list.bytes);
     }

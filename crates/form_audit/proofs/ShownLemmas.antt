@@ -1,6 +1,6 @@
 -- Values where no guard hides anything.
-use Rattle.std.proofs.Common.{◌≡◌, arith, ℕ, Bool, true, false, codes, Option, Some, None, List, [], ◌∷◌, ◌++◌, map, refl, sym, ap, ◌∙◌, inl, inr}
-use Rattle.std.specs.Prelude.{◌==◌, ◌&&◌, ◌||◌, is_none, option_map}
+use Rattle.std.proofs.Common.{◌≡◌, arith, ℕ, Bool, true, false, codes, Option, Some, None, List, [], ◌∷◌, ◌++◌, map, refl, sym, ap, ◌∙◌, inl, inr, append-nil}
+use Rattle.std.specs.Prelude.{◌==◌, ◌&&◌, ◌||◌, MatchOption, is_none, is_some, not, option_map}
 use Rattle.std.specs.List.{find}
 use Rattle.std.proofs.lemmas.Bool.{cases_Bool}
 use Rattle.std.proofs.lemmas.List.Concat.{flat_map-append}
@@ -21,8 +21,10 @@ use Rattle.hii_varstore.specs.Stores.{StoreMap}
 use Rattle.guard_policy.specs.Policy.{hidden, hides, hiding}
 use Rattle.guard_policy.specs.World.{World}
 use Rattle.form_page.specs.RowValues.{choice, choice_text, later_text, list_text, one_of_text, option_with, value_shown}
-use Rattle.audit_text.specs.Texts.{safe_char, safe_text}
-use Rattle.form_audit.specs.QuestionLines.{unguarded}
+use Rattle.form_audit.specs.QuestionLines.{has_no_text, unguarded}
+use Rattle.form_audit.specs.code.Escaped.{escaped, escaped_text}
+use Rattle.form_audit.specs.declared.escaping.Escaping.{Escaping}
+use Rattle.form_audit.specs.declared.escaping.Escaping.TheVariants.{Line, Json}
 
 neither : (a b : Bool) → (a && false) || (b && false) ≡ false
 neither true true = refl
@@ -83,32 +85,79 @@ shown_choice texts w n value o e = ap (λ (p : Option Node). option_map (λ (m :
 
 -- ---- texts with others around them
 
-pub safe-append : (front behind : List ℕ) → safe_text (front ++ behind) ≡ safe_text front ++ safe_text behind
-safe-append front behind = flat_map-append safe_char front behind
+pub escaped-append : (how : Escaping) (front behind : List ℕ) → escaped_text how (front ++ behind) ≡ escaped_text how front ++ escaped_text how behind
+escaped-append how front behind = flat_map-append (escaped how) front behind
 
-pub safe_one_of : (its : Option (List ℕ)) → codes "<" ++ safe_text (choice_text its) ++ codes ">" ≡ safe_text (one_of_text its)
-safe_one_of its =
-    let text = safe_text (choice_text its) in
+less : (how : Escaping) → escaped how 60 ≡ codes "<"
+less Line = encode_ascii 60 (omega arith)
+less Json = encode_ascii 60 (omega arith)
+
+greater : (how : Escaping) → escaped how 62 ≡ codes ">"
+greater Line = encode_ascii 62 (omega arith)
+greater Json = encode_ascii 62 (omega arith)
+
+question : (how : Escaping) → escaped how 63 ≡ codes "?"
+question Line = encode_ascii 63 (omega arith)
+question Json = encode_ascii 63 (omega arith)
+
+comma : (how : Escaping) → escaped how 44 ≡ codes ","
+comma Line = encode_ascii 44 (omega arith)
+comma Json = encode_ascii 44 (omega arith)
+
+space : (how : Escaping) → escaped how 32 ≡ codes " "
+space Line = encode_ascii 32 (omega arith)
+space Json = encode_ascii 32 (omega arith)
+
+pub escaped_one_of : (how : Escaping) (its : Option (List ℕ)) → codes "<" ++ escaped_text how (choice_text its) ++ codes ">" ≡ escaped_text how (one_of_text its)
+escaped_one_of how its =
+    let text = escaped_text how (choice_text its) in
     sym (
-    safe-append (codes "<" ++ choice_text its) (codes ">") ∙ ap (λ (l : List ℕ). (l ++ text) ++ safe_text (codes ">")) (encode_ascii 60 (omega arith))
-    ∙ ap (λ (l : List ℕ). (codes "<" ++ text) ++ (l ++ [])) (encode_ascii 62 (omega arith))
+    escaped-append how (codes "<" ++ choice_text its) (codes ">") ∙ ap (λ (l : List ℕ). (l ++ text) ++ escaped_text how (codes ">")) (less how)
+    ∙ ap (λ (l : List ℕ). (codes "<" ++ text) ++ (l ++ [])) (greater how)
     )
 
 -- where there is no option
-pub safe_mark : codes "?" ≡ safe_text (codes "?")
-safe_mark = sym (ap (λ (l : List ℕ). l ++ []) (encode_ascii 63 (omega arith)))
+pub escaped_mark : (how : Escaping) → codes "?" ≡ escaped_text how (codes "?")
+escaped_mark how = sym (ap (λ (l : List ℕ). l ++ []) (question how))
 
-behind_comma : (text : List ℕ) → safe_text (codes ", " ++ text) ≡ codes ", " ++ safe_text text
-behind_comma text =
-    ap (λ (l : List ℕ). l ++ (safe_char 32 ++ safe_text text)) (encode_ascii 44 (omega arith)) ∙ ap (λ (l : List ℕ). codes "," ++ (l ++ safe_text text)) (encode_ascii 32 (omega arith))
+behind_comma : (how : Escaping) (text : List ℕ) → escaped_text how (codes ", " ++ text) ≡ codes ", " ++ escaped_text how text
+behind_comma how text =
+    ap (λ (l : List ℕ). l ++ (escaped how 32 ++ escaped_text how text)) (comma how) ∙ ap (λ (l : List ℕ). codes "," ++ (l ++ escaped_text how text)) (space how)
 
-pub safe_list : (told : ℕ → Option (List ℕ)) (items after : List ℕ) (item : ℕ) → items ≡ item ∷ after
-    → safe_text (list_text (map told items)) ≡ safe_text (choice_text (told item)) ++ safe_text (later_text (map told after))
-safe_list told items after item e =
-    ap (λ (l : List ℕ). safe_text (list_text (map told l))) e ∙ safe-append (choice_text (told item)) (later_text (map told after))
+pub escaped_list : (how : Escaping) (told : ℕ → Option (List ℕ)) (items after : List ℕ) (item : ℕ) → items ≡ item ∷ after
+    → escaped_text how (list_text (map told items)) ≡ escaped_text how (choice_text (told item)) ++ escaped_text how (later_text (map told after))
+escaped_list how told items after item e =
+    ap (λ (l : List ℕ). escaped_text how (list_text (map told l))) e ∙ escaped-append how (choice_text (told item)) (later_text (map told after))
 
-pub safe_later : (told : ℕ → Option (List ℕ)) (items after : List ℕ) (item : ℕ) → items ≡ item ∷ after
-    → safe_text (later_text (map told items)) ≡ (codes ", " ++ safe_text (choice_text (told item))) ++ safe_text (later_text (map told after))
-safe_later told items after item e =
-    ap (λ (l : List ℕ). safe_text (later_text (map told l))) e ∙ safe-append (codes ", " ++ choice_text (told item)) (later_text (map told after))
-    ∙ ap (λ (l : List ℕ). l ++ safe_text (later_text (map told after))) (behind_comma (choice_text (told item)))
+pub escaped_later : (how : Escaping) (told : ℕ → Option (List ℕ)) (items after : List ℕ) (item : ℕ) → items ≡ item ∷ after
+    → escaped_text how (later_text (map told items)) ≡ (codes ", " ++ escaped_text how (choice_text (told item))) ++ escaped_text how (later_text (map told after))
+escaped_later how told items after item e =
+    ap (λ (l : List ℕ). escaped_text how (later_text (map told l))) e ∙ escaped-append how (codes ", " ++ choice_text (told item)) (later_text (map told after))
+    ∙ ap (λ (l : List ℕ). l ++ escaped_text how (later_text (map told after))) (behind_comma how (choice_text (told item)))
+
+-- ---- whether a text has no character
+
+pub no_text : (text after : List ℕ) (r : Option ℕ) (none : Bool) → MatchOption r ((text ≡ []) × (after ≡ [])) (λ c. text ≡ c ∷ after) → is_some r ≡ not none → none ≡ has_no_text text
+no_text text after None true m e = rw m.0 refl
+no_text text after None false m e = absurd cc
+no_text text after (Some c) true m e = absurd cc
+no_text text after (Some c) false m e = rw m refl
+
+behind_some : (text behind : List ℕ) (c : ℕ) → has_no_text (text ++ c ∷ behind) ≡ false
+behind_some [] behind c = refl
+behind_some (d ∷ text) behind c = refl
+
+-- of a list of two elements something shows, and of one what shows of its option
+pub two_show : (told : ℕ → Option (List ℕ)) (items after more : List ℕ) (first second : ℕ) → items ≡ first ∷ after → after ≡ second ∷ more → has_no_text (list_text (map told items)) ≡ false
+two_show told items after more first second e f =
+    ap (λ (l : List ℕ). has_no_text (list_text (map told l))) (e ∙ ap (λ (l : List ℕ). first ∷ l) f)
+    ∙ behind_some (choice_text (told first)) _ 44
+
+pub more_show : (told : ℕ → Option (List ℕ)) (items after left : List ℕ) (first : ℕ) (r : Option ℕ) → items ≡ first ∷ after → MatchOption r ((after ≡ []) × (left ≡ [])) (λ second. after ≡ second ∷ left) → is_some r ≡ true
+    → has_no_text (list_text (map told items)) ≡ false
+more_show told items after left first None e m is = absurd cc
+more_show told items after left first (Some second) e m is = two_show told items after left first second e m
+
+pub one_shows : (told : ℕ → Option (List ℕ)) (items after : List ℕ) (first : ℕ) → items ≡ first ∷ after → after ≡ [] → has_no_text (list_text (map told items)) ≡ has_no_text (choice_text (told first))
+one_shows told items after first e f =
+    ap (λ (l : List ℕ). has_no_text (list_text (map told l))) (e ∙ ap (λ (l : List ℕ). first ∷ l) f) ∙ ap has_no_text (append-nil (choice_text (told first)))

@@ -63,10 +63,12 @@ flags_text op =
     ++ word_where (has_flag (question_flags op) 0x10) (codes " reset")
 
 -- the form set to which a reference leads, if it names one (UEFI 2.8, 33.3.8.3, EFI_IFR_REF3): zeros name none
+abbrev pub names_no_set : List ℕ → Bool
+names_no_set guid = bytes_eq guid (replicate 16 0)
+
 abbrev pub form_set_text : Option (List ℕ) → List ℕ
 form_set_text None = []
-form_set_text (Some guid) =
-    if bytes_eq guid (replicate 16 0) then [] else codes " formset " ++ guid_text true guid
+form_set_text (Some guid) = if names_no_set guid then [] else codes " formset " ++ guid_text true guid
 
 abbrev pub led_text : List ℕ → List ℕ
 led_text op = if number op == REF then form_set_text (ref_form_set op) else []
@@ -123,8 +125,16 @@ abbrev pub unguarded : World → World
 unguarded w = record { nodes = w.nodes; removed = []; met = λ n. false }
 
 -- the value as a page would show it there, so with the text of an option that is hidden
+abbrev pub value_told : Audited → Node → List ℕ
+value_told a n = value_shown a.texts (unguarded a.world) a.stores n
+
+-- whether a text has no character
+abbrev pub has_no_text : List ℕ → Bool
+has_no_text [] = true
+has_no_text (c ∷ text) = false
+
 abbrev pub told_value : Audited → Node → List ℕ
-told_value a n = safe_text (value_shown a.texts (unguarded a.world) a.stores n)
+told_value a n = safe_text (value_told a n)
 
 -- the whole prompt, and the value
 abbrev pub shown_text : Audited → Node → List ℕ

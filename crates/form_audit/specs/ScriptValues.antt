@@ -1,5 +1,5 @@
 -- Values as scripts take them (own rule).
-use Rattle.std.specs.Prelude.{ℕ, ◌==◌, if◌then◌else◌, Option, Some, None, option_and_then, Result, Ok, Err, List, [], ◌∷◌, ◌++◌, codes, decimal}
+use Rattle.std.specs.Prelude.{ℕ, ◌==◌, if◌then◌else◌, Option, Some, None, option_and_then, option_map, Result, Ok, Err, List, [], ◌∷◌, ◌++◌, codes, decimal}
 use Rattle.std.specs.List.{flat_map}
 use Rattle.browser_rules.specs.Strings.{characters}
 use Rattle.ifr_opcodes.specs.declared.codes.TheConstants.{CHECKBOX, NUMERIC, ONE_OF, STRING, ORDERED_LIST}
@@ -41,10 +41,13 @@ abbrev pub one_of_script : Value → Option (List ℕ)
 one_of_script (natural n) = Some (decimal n)
 one_of_script _ = None
 
--- a text as it is shown
+-- the characters of a text, and these as they stand in a line
+abbrev pub string_characters : Value → Option (List ℕ)
+string_characters (text units) = Some (characters units)
+string_characters _ = None
+
 abbrev pub string_script : Value → Option (List ℕ)
-string_script (text units) = Some (safe_text (characters units))
-string_script _ = None
+string_script its = option_map safe_text (string_characters its)
 
 abbrev pub list_script : Value → Node → Option (List ℕ)
 list_script (buffer bytes) n = Some (list_text (items_in (element_width n) bytes))

@@ -1,4 +1,4 @@
--- How structs of the code are seen. No definition outside of this folder cites one of it; contracts of question_audit do.
+-- How structs of the code are seen. No definition outside of this folder cites one of it; contracts of question_audit and question_objects do.
 pub mod Pages
 pub mod Names
 pub mod Taking
@@ -7,4 +7,5 @@ pub mod MetForms
 pub mod Closings
 pub mod GuardTables
 pub mod Choices
+pub mod Escaped
 pub mod Looking

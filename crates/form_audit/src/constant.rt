@@ -17,7 +17,7 @@ use guard_policy::{Conditions, Denial};
 use ifr_scopes::Statement;
 
 /// Whether what forbids that a statement is changed is a guard whose condition names no question, so that no change opens it.
-pub(crate) fn is_constant<'a, C: Conditions>(
+pub fn is_constant<'a, C: Conditions>(
     page: Page<'a, '_, C>,
     table: &GuardTable,
     statement: Statement<'a>,

@@ -18,7 +18,7 @@ use std::alloc::{AllocError, Global};
 
 /// What is known of each guard of a form set, by its number among them.
 #[derive(Drop)]
-pub(crate) struct GuardTable {
+pub struct GuardTable {
     /// Whether its condition is undefined.
     pub undefined: Vec<bool>,
     /// Whether its condition names no question.

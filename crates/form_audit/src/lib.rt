@@ -3,6 +3,7 @@
 
 mod constant;
 mod defaults;
+mod escaping;
 mod fields;
 mod formsets;
 mod guard_table;
@@ -19,11 +20,13 @@ mod undefined;
 mod verdicts;
 mod ways;
 
+pub use constant::is_constant;
 pub use defaults::{give_back, take_default};
 pub use fields::put_field_text;
-pub use guard_table::flag_of;
+pub use guard_table::{GuardTable, flag_of};
 pub use questions::{put_denial, put_form, put_questions};
 pub use script_values::put_script_value;
-pub use shown_values::{option_of_value, put_told_value};
+pub use shown_values::{option_of_value, put_json_value, put_told_value, shows_nothing};
 pub use store_names::StoreNames;
+pub use tables::Tables;
 pub use ways::{Reach, Ways};

@@ -14,7 +14,7 @@ use std::alloc::{AllocError, Global};
 
 /// What lines look up of a form set, found once for all of them.
 #[derive(Drop)]
-pub(crate) struct Tables<'a> {
+pub struct Tables<'a> {
     pub ways: Ways,
     pub names: StoreNames<'a>,
     pub guards: GuardTable,

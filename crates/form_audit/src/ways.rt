@@ -168,7 +168,7 @@ impl Ways {
     }
 
     /// How a form of the form set is reached.
-    pub(crate) fn to<'a, C: Conditions>(&self, page: Page<'a, '_, C>, form: Form<'a>) -> Reach
+    pub fn to<'a, C: Conditions>(&self, page: Page<'a, '_, C>, form: Form<'a>) -> Reach
         requires node { IsNodeOf (bytes_of page.policy) (form_node form) }
         requires told { TellsWays (world_of page) self.now }
         ensures { result ≡ reach_of (world_of page.entry) (has_number self.now.reached)

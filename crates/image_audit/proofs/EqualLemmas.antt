@@ -1,5 +1,5 @@
 -- Nothing is told of equal stores, and of no others.
-use Rattle.std.proofs.Common.{◌≡◌, ◌∙◌, ◌+◌, ◌==◌, not, ◌++◌, ◌∷◌, ℕ, Bool, true, false, List, [], Option, None, Some, nat_eq, map, length, ap, ap₂, arith, refl, sym, inl, inr, subst, option_map}
+use Rattle.std.proofs.Common.{◌≡◌, ◌∙◌, ◌+◌, ◌==◌, ◌&&◌, not, ◌++◌, ◌∷◌, ℕ, Bool, true, false, List, [], Option, None, Some, nat_eq, map, length, ap, ap₂, arith, refl, sym, inl, inr, subst, option_map}
 use Rattle.std.specs.Prelude.{filter}
 use Rattle.std.specs.Cmp.Lexicographic.{pointwise}
 use Rattle.std.specs.List.{AllByRecursion, IsDistinct, filter_map, find, flat_map}
@@ -20,7 +20,10 @@ use Rattle.guard_policy.specs.declared.denial.Denial.{Denial}
 use Rattle.hii_bytes.specs.Faults.{HasNone}
 use Rattle.form_audit.specs.Audited.{Audited}
 use Rattle.image_audit.proofs.DistinctLemmas.{stores_differ}
-use Rattle.image_audit.specs.Difference.{are_other_verdicts, bytes_text, decides_otherwise, difference_text, gaps_text, held_runs, runs_text, value_line, values_text, verdicts_text}
+use Rattle.audit_json.specs.declared.telling.Telling.TheVariants.{Lines, Objects}
+use Rattle.audit_json.specs.declared.telling.Telling.{Telling}
+use Rattle.form_audit.specs.QuestionLines.{word_where}
+use Rattle.image_audit.specs.Difference.{are_other_verdicts, bytes_told, decides_otherwise, difference_told, gaps_told, held_runs, run_told, runs_told, value_told_as, values_told, verdicts_told}
 
 front_nil : (xs ys : List ℕ) → xs ++ ys ≡ [] → xs ≡ []
 front_nil [] ys none = refl
@@ -32,27 +35,37 @@ behind_nil (x ∷ xs) ys none = absurd cc
 
 -- ---- runs
 
-module _ (ns : List Node) (store : ℕ) where
-  same_runs : (inside : Bool) (at : ℕ) (xs : List ℕ) → runs_text ns store inside at xs xs ≡ []
+some_told : (telling : Telling) (ns : List Node) (store at : ℕ) (xs ys rest : List ℕ) → run_told telling ns store at xs ys ++ rest ≡ [] → ⊥
+some_told Lines ns store at xs ys rest none = let bad = none in absurd cc
+some_told Objects ns store at xs ys rest none = let bad = none in absurd cc
+
+module _ (telling : Telling) (ns : List Node) (store : ℕ) where
+  same_runs : (inside : Bool) (at : ℕ) (xs : List ℕ) → runs_told telling ns store inside at xs xs ≡ []
   same_runs inside at [] = refl
   same_runs inside at (x ∷ xs) = let e : (x == x) ≡ true = eq-eqb x x refl in rw e (same_runs false (at + 1) xs)
 
-  no_runs : (at : ℕ) (xs ys : List ℕ) → length xs ≡ length ys → runs_text ns store false at xs ys ≡ [] → xs ≡ ys
+  some_run : (at : ℕ) (xs ys rest : List ℕ) → run_told telling ns store at xs ys ++ rest ≡ [] → ⊥
+  some_run at xs ys rest none = some_told telling ns store at xs ys rest none
+
+  no_runs : (at : ℕ) (xs ys : List ℕ) → length xs ≡ length ys → runs_told telling ns store false at xs ys ≡ [] → xs ≡ ys
   no_runs at [] [] size none = refl
   no_runs at [] (y ∷ ys) size none = absurd (omega (arith, size))
   no_runs at (x ∷ xs) [] size none = absurd (omega (arith, size))
   no_runs at (x ∷ xs) (y ∷ ys) size none = elim (cases_Bool (x == y)) [
     | inl e ↦ ap₂ (λ (h : ℕ) (t : List ℕ). h ∷ t) (eqb-true x y e) (no_runs (at + 1) xs ys (omega (arith, size)) (rw e at none))
-    | inr e ↦ let bad = rw e at none in absurd cc
+    | inr e ↦
+        let first = run_told telling ns store at (x ∷ xs) (y ∷ ys) in
+        let some = subst (λ (b : Bool). word_where (not b && not false) first ++ runs_told telling ns store (not b) (at + 1) xs ys ≡ []) e none in
+        absurd (some_run at (x ∷ xs) (y ∷ ys) (runs_told telling ns store true (at + 1) xs ys) some)
   ]
 
-  same_held : (held : Option (List ℕ)) → held_runs ns store held held ≡ []
+  same_held : (held : Option (List ℕ)) → held_runs telling ns store held held ≡ []
   same_held None = refl
   same_held (Some xs) = same_runs false 0 xs
 
-same_bytes_text : (ns all : List Node) (m : StoreMap) → flat_map (λ n. held_runs all (store_id n.op) (bytes_of m (store_id n.op)) (bytes_of m (store_id n.op))) ns ≡ []
-same_bytes_text [] all m = refl
-same_bytes_text (n ∷ ns) all m = rw (same_held all (store_id n.op) (bytes_of m (store_id n.op))) (same_bytes_text ns all m)
+same_bytes_text : (telling : Telling) (ns all : List Node) (m : StoreMap) → flat_map (λ n. held_runs telling all (store_id n.op) (bytes_of m (store_id n.op)) (bytes_of m (store_id n.op))) ns ≡ []
+same_bytes_text telling [] all m = refl
+same_bytes_text telling (n ∷ ns) all m = rw (same_held telling all (store_id n.op) (bytes_of m (store_id n.op))) (same_bytes_text telling ns all m)
 
 -- ---- tests
 
@@ -73,40 +86,41 @@ same_verdict None = refl
 same_verdict (Some denial) = rw (same_list (kind_name denial.kind), eq-eqb denial.place denial.place refl) refl
 
 -- of each question that differs there is a line
-no_values : (a b : Audited) (qs : List Asked) → flat_map (λ (q : Asked). value_line a b q.node) qs ≡ [] → qs ≡ []
-no_values a b [] none = refl
-no_values a b (q ∷ qs) none = let bad = none in absurd cc
+no_values : (telling : Telling) (a b : Audited) (qs : List Asked) → flat_map (value_told_as telling a b) qs ≡ [] → qs ≡ []
+no_values telling a b [] none = refl
+no_values Lines a b (q ∷ qs) none = let bad = none in absurd cc
+no_values Objects a b (q ∷ qs) none = let bad = none in absurd cc
 
-pub same_told : (a : Audited) → difference_text a a ≡ []
-same_told a =
+pub same_told : (telling : Telling) (a : Audited) → difference_told telling a a ≡ []
+same_told telling a =
     let qs = questions a.world.nodes in
     let values : filter (holds_others a.stores a.stores) qs ≡ [] = none_pass (holds_others a.stores a.stores) (λ q. ap not (same_is (field_bytes a.stores q.field))) qs in
     let verdicts : filter (decides_otherwise a a) qs ≡ [] = none_pass (decides_otherwise a a) (λ q. same_verdict (fixed a.world q.node)) qs in
-    rw (values, verdicts, same_bytes_text (filter is_store a.world.nodes) a.world.nodes a.stores) refl
+    rw (values, verdicts, same_bytes_text telling (filter is_store a.world.nodes) a.world.nodes a.stores) refl
 
 -- ---- stores
 
-module _ (all : List Node) (one other : StoreMap) where
+module _ (telling : Telling) (all : List Node) (one other : StoreMap) where
   abbrev line : Node → List ℕ
-  line n = held_runs all (store_id n.op) (bytes_of one (store_id n.op)) (bytes_of other (store_id n.op))
+  line n = held_runs telling all (store_id n.op) (bytes_of one (store_id n.op)) (bytes_of other (store_id n.op))
 
   -- no line is told of a store that holds bytes
   none_of_buffer : (ns : List Node) → flat_map line ns ≡ [] → (id : ℕ) (b : Buffer) → find (λ (b : Buffer). b.id == id) (filter_map declared_buffer ns) ≡ Some b
-      → held_runs all id (bytes_of one id) (bytes_of other id) ≡ []
+      → held_runs telling all id (bytes_of one id) (bytes_of other id) ≡ []
   none_of_buffer [] none id b found = let bad : ◌≡◌ {A = Option Buffer} None (Some b) = found in cc
   none_of_buffer (n ∷ ns) none id b found = go (none_of_buffer ns (behind_nil (line n) (flat_map line ns) none) id b) (store_size n.op) refl
     where
-      go : (find (λ (b : Buffer). b.id == id) (filter_map declared_buffer ns) ≡ Some b → held_runs all id (bytes_of one id) (bytes_of other id) ≡ []) → (size : Option ℕ) → store_size n.op ≡ size
-          → held_runs all id (bytes_of one id) (bytes_of other id) ≡ []
+      go : (find (λ (b : Buffer). b.id == id) (filter_map declared_buffer ns) ≡ Some b → held_runs telling all id (bytes_of one id) (bytes_of other id) ≡ []) → (size : Option ℕ) → store_size n.op ≡ size
+          → held_runs telling all id (bytes_of one id) (bytes_of other id) ≡ []
       go later None e = later (rw e at found)
       go later (Some size) e = elim (cases_Bool (store_id n.op == id)) [
-        | inl same ↦ subst (λ (i : ℕ). held_runs all i (bytes_of one i) (bytes_of other i) ≡ []) (eqb-true (store_id n.op) id same) (front_nil (line n) (flat_map line ns) none)
+        | inl same ↦ subst (λ (i : ℕ). held_runs telling all i (bytes_of one i) (bytes_of other i) ≡ []) (eqb-true (store_id n.op) id same) (front_nil (line n) (flat_map line ns) none)
         | inr apart ↦ later (rw (e, apart) at found)
       ]
 
 -- stores of one layout that differ in no byte hold the same
-same_held_bytes : (ns : List Node) (one other : StoreMap) → shape_of one ≡ layout_of ns → shape_of other ≡ layout_of ns → bytes_text ns one other ≡ [] → (id : ℕ) → bytes_of one id ≡ bytes_of other id
-same_held_bytes ns one other laid other_laid none id = go (bytes_of one id) (bytes_of other id) refl refl
+same_held_bytes : (telling : Telling) (ns : List Node) (one other : StoreMap) → shape_of one ≡ layout_of ns → shape_of other ≡ layout_of ns → bytes_told telling ns one other ≡ [] → (id : ℕ) → bytes_of one id ≡ bytes_of other id
+same_held_bytes telling ns one other laid other_laid none id = go (bytes_of one id) (bytes_of other id) refl refl
   where
     size : size_of (layout_of ns) id ≡ option_map (λ (bytes : List ℕ). length bytes) (bytes_of one id)
     size = ap (λ (shape : Shape). size_of shape id) (sym laid) ∙ sizes one id
@@ -118,7 +132,7 @@ same_held_bytes ns one other laid other_laid none id = go (bytes_of one id) (byt
         → find (λ (b : Buffer). b.id == id) (layout_of ns).buffers ≡ found → option_map (λ (b : Buffer). b.size) found ≡ Some (length xs) → xs ≡ ys
     there xs ys here now as_long None is has = let bad : ◌≡◌ {A = Option ℕ} None (Some (length xs)) = has in cc
     there xs ys here now as_long (Some b) is has =
-        no_runs ns id 0 xs ys as_long (rw (here, now) at (none_of_buffer ns one other (filter is_store ns) none id b is))
+        no_runs telling ns id 0 xs ys as_long (rw (here, now) at (none_of_buffer telling ns one other (filter is_store ns) none id b is))
 
     go : (x y : Option (List ℕ)) → bytes_of one id ≡ x → bytes_of other id ≡ y → bytes_of one id ≡ bytes_of other id
     go None None here now = here ∙ sym now
@@ -165,15 +179,15 @@ same_stores (s ∷ ss) (t ∷ ts) laid apart same =
     ] in
     ap₂ (λ (x : Store) (xs : List Store). x ∷ xs) (ap₂ (λ (i : ℕ) (b : List ℕ). record { id = i; bytes = b }) ids bytes) (same_stores ss ts later apart.1 rest)
 
-pub told_same : (a b : Audited) → shape_of a.stores ≡ layout_of a.world.nodes → shape_of b.stores ≡ layout_of a.world.nodes → HasNone (IsStoreFault a.world.nodes)
-    → difference_text a b ≡ [] → a.stores ≡ b.stores
-told_same a b laid other_laid apart none =
+pub told_same : (telling : Telling) (a b : Audited) → shape_of a.stores ≡ layout_of a.world.nodes → shape_of b.stores ≡ layout_of a.world.nodes → HasNone (IsStoreFault a.world.nodes)
+    → difference_told telling a b ≡ [] → a.stores ≡ b.stores
+told_same telling a b laid other_laid apart none =
     let ns = a.world.nodes in
     let qs = questions ns in
-    let front = front_nil (values_text a b ++ gaps_text ns a.stores b.stores) (verdicts_text a b) none in
-    let values = no_values a b (filter (holds_others a.stores b.stores) qs) (front_nil (values_text a b) (gaps_text ns a.stores b.stores) front) in
-    let gaps = rw values at (behind_nil (values_text a b) (gaps_text ns a.stores b.stores) front) in
-    let held = same_held_bytes ns a.stores b.stores laid other_laid gaps in
+    let front = front_nil (values_told telling a b ++ gaps_told telling ns a.stores b.stores) (verdicts_told telling a b) none in
+    let values = no_values telling a b (filter (holds_others a.stores b.stores) qs) (front_nil (values_told telling a b) (gaps_told telling ns a.stores b.stores) front) in
+    let gaps = rw values at (behind_nil (values_told telling a b) (gaps_told telling ns a.stores b.stores) front) in
+    let held = same_held_bytes telling ns a.stores b.stores laid other_laid gaps in
     let shapes = laid ∙ sym other_laid in
     let distinct = stores_differ ns apart in
     let stores = same_stores a.stores.stores b.stores.stores (ap (λ (s : Shape). s.buffers) shapes)

@@ -9,7 +9,8 @@ use Rattle.hii_bytes.specs.code.Writing.{Stands}
 use Rattle.hii_bytes.proofs.WritingLemmas.{past_piece}
 use Rattle.ifr_opcodes.specs.Forest.{Node}
 use Rattle.audit_text.specs.Texts.{digits_of}
-use Rattle.image_audit.specs.Lines.{bytes_lines, piece_line}
+use Rattle.audit_json.specs.declared.telling.Telling.{Telling}
+use Rattle.image_audit.specs.Lines.{bytes_told, piece_told}
 
 -- the first eight bytes, or all of fewer, and those behind them
 eight : (all chunk rest : List ℕ) → all ≡ chunk ++ rest → length chunk ≡ min 8 (length all) → (take 8 all ≡ chunk) × (drop 8 all ≡ rest)
@@ -27,18 +28,18 @@ eight all chunk rest parts size =
           )
     ]
 
--- the line of a piece, and then those of the bytes behind it
-pub one_piece : (ns : List Node) (store at : ℕ) (all chunk rest : List ℕ) → all ≡ chunk ++ rest → length chunk ≡ min 8 (length all) → 0 < length all
-    → bytes_lines ns store at all ≡ piece_line ns store at chunk ++ bytes_lines ns store (at + 8) rest
-one_piece ns store at all chunk rest parts size some =
+-- a piece is told, and then the bytes behind it
+pub one_piece : (telling : Telling) (ns : List Node) (id store at : ℕ) (all chunk rest : List ℕ) → all ≡ chunk ++ rest → length chunk ≡ min 8 (length all) → 0 < length all
+    → bytes_told telling ns id store at all ≡ piece_told telling ns id store at chunk ++ bytes_told telling ns id store (at + 8) rest
+one_piece telling ns id store at all chunk rest parts size some =
     let sum = ap length parts ∙ length-append chunk rest in
     let count : (length all + 7) / 8 ≡ suc ((length rest + 7) / 8) = omega (arith, size, sum, some) in
     let cut = eight all chunk rest parts size in
     rw (count, cut.0, cut.1) refl
 
--- no bytes have no lines
-pub no_piece : (ns : List Node) (store at : ℕ) (bytes : List ℕ) → length bytes ≡ 0 → bytes_lines ns store at bytes ≡ []
-no_piece ns store at bytes none = rw none refl
+-- of no bytes nothing is told
+pub no_piece : (telling : Telling) (ns : List Node) (id store at : ℕ) (bytes : List ℕ) → length bytes ≡ 0 → bytes_told telling ns id store at bytes ≡ []
+no_piece telling ns id store at bytes none = rw none refl
 
 -- the digits of the last byte, and then those of the bytes before it
 pub last_digits : (all front : List ℕ) (byte : ℕ) → all ≡ front ++ byte ∷ [] → digits_of false (reverse all) ≡ hex_of byte ++ digits_of false (reverse front)

@@ -6,7 +6,12 @@ use Rattle.hii_varstore.specs.Stores.{StoreMap}
 use Rattle.hii_questions.specs.Changes.{field_bytes, holds_others}
 use Rattle.hii_questions.specs.Fields.{Asked, Field, is_password, questions}
 use Rattle.audit_text.specs.Texts.{digits_of}
-use Rattle.form_audit.specs.QuestionLines.{field_text}
+use Rattle.form_audit.specs.QuestionLines.{field_text, name_of, store_with}
+use Rattle.audit_json.specs.Objects.{number_member, object, text_member}
+use Rattle.audit_json.specs.Telling.{told_as}
+use Rattle.audit_json.specs.declared.telling.Telling.{Telling}
+use Rattle.byteorder.specs.Endian.{little_number}
+use Rattle.ifr_opcodes.specs.Fields.{question_id}
 
 -- bytes, the lowest first, as one number, in two hex digits each
 abbrev pub number_digits : List ℕ → List ℕ
@@ -21,23 +26,40 @@ piece_line ns store at bytes =
     field_text ns record { store = store; offset = at; width = length bytes }
     ++ codes "=" ++ number_text bytes ++ codes "\n"
 
+-- as an object, with the id of the question
+abbrev pub piece_members : List Node → ℕ → ℕ → ℕ → List ℕ → List ℕ
+piece_members ns id store at bytes =
+    number_member (codes "id") id ++ text_member (codes "name") (name_of (store_with ns store))
+    ++ number_member (codes "offset") at ++ number_member (codes "width") (length bytes)
+    ++ number_member (codes "value") (little_number (length bytes) bytes)
+
+abbrev pub piece_object : List Node → ℕ → ℕ → ℕ → List ℕ → List ℕ
+piece_object ns id store at bytes = object (codes "set") (piece_members ns id store at bytes)
+
+abbrev pub piece_told : Telling → List Node → ℕ → ℕ → ℕ → List ℕ → List ℕ
+piece_told telling ns id store at bytes =
+    told_as telling (piece_line ns store at bytes) (piece_object ns id store at bytes)
+
 -- this many pieces of 8 bytes, of which the last may have fewer
-abbrev pub pieces_text : ℕ → List Node → ℕ → ℕ → List ℕ → List ℕ
-pieces_text zero ns store at bytes = []
-pieces_text (suc n) ns store at bytes =
-    piece_line ns store at (take 8 bytes) ++ pieces_text n ns store (at + 8) (drop 8 bytes)
+abbrev pub pieces_told : ℕ → Telling → List Node → ℕ → ℕ → ℕ → List ℕ → List ℕ
+pieces_told zero telling ns id store at bytes = []
+pieces_told (suc n) telling ns id store at bytes =
+    piece_told telling ns id store at (take 8 bytes)
+    ++ pieces_told n telling ns id store (at + 8) (drop 8 bytes)
 
 -- all of them
-abbrev pub bytes_lines : List Node → ℕ → ℕ → List ℕ → List ℕ
-bytes_lines ns store at bytes = pieces_text ((length bytes + 7) / 8) ns store at bytes
+abbrev pub bytes_told : Telling → List Node → ℕ → ℕ → ℕ → List ℕ → List ℕ
+bytes_told telling ns id store at bytes =
+    pieces_told ((length bytes + 7) / 8) telling ns id store at bytes
 
-abbrev pub held_lines : List Node → Field → Option (List ℕ) → List ℕ
-held_lines ns field None = []
-held_lines ns field (Some bytes) = bytes_lines ns field.store field.offset bytes
+abbrev pub held_told : Telling → List Node → ℕ → Field → Option (List ℕ) → List ℕ
+held_told telling ns id field None = []
+held_told telling ns id field (Some bytes) = bytes_told telling ns id field.store field.offset bytes
 
-abbrev pub field_lines : List Node → StoreMap → Option Field → List ℕ
-field_lines ns stores None = []
-field_lines ns stores (Some field) = held_lines ns field (field_bytes stores (Some field))
+abbrev pub field_told : Telling → List Node → StoreMap → ℕ → Option Field → List ℕ
+field_told telling ns stores id None = []
+field_told telling ns stores id (Some field) =
+    held_told telling ns id field (field_bytes stores (Some field))
 
 -- A question is told that is for no password; where there are other stores, those alone whose fields hold other bytes there.
 abbrev pub differs_from : StoreMap → Option StoreMap → Asked → Bool
@@ -48,6 +70,9 @@ abbrev pub is_told : StoreMap → Option StoreMap → Asked → Bool
 is_told stores others q = not (is_password q.node) && differs_from stores others q
 
 -- the fields of all questions that are told, by place
-abbrev pub lines_text : List Node → StoreMap → Option StoreMap → List ℕ
-lines_text ns stores others =
-    flat_map (λ q. field_lines ns stores q.field) (filter (is_told stores others) (questions ns))
+abbrev pub question_told : Telling → List Node → StoreMap → Asked → List ℕ
+question_told telling ns stores q = field_told telling ns stores (question_id q.node.op) q.field
+
+abbrev pub fields_told : Telling → List Node → StoreMap → Option StoreMap → List ℕ
+fields_told telling ns stores others =
+    flat_map (question_told telling ns stores) (filter (is_told stores others) (questions ns))

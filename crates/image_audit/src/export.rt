@@ -10,8 +10,9 @@ ghost use Rattle.ifr_scopes.specs.Stores.{store_id};
 ghost use Rattle.ifr_scopes.specs.code.Lists.{store_node};
 ghost use Rattle.audit_text.specs.Passing.{PassesOn};
 ghost use Rattle.form_audit.specs.QuestionLines.{name_of, store_with};
-ghost use Rattle.image_audit.specs.Export.{PutsBytes, store_line};
+ghost use Rattle.image_audit.specs.Export.{PutsBytes, store_line, store_members, store_object, store_told};
 
+use audit_json::{Telling, end_object, put_kind, put_number, put_string};
 use audit_text::put_ascii_name;
 use hii_bytes::Watched;
 use ifr_scopes::{Forms, Varstore};
@@ -53,8 +54,42 @@ fn put_store_line<W: Write>(forms: &Forms<'_>, id: u16, bytes: &[u8], out: &mut 
     out.put(b"\n");
 }
 
-/// Writes the line of a store, which is passed on, and then its bytes into a file, unless the answers fail.
+// Writes that as an object.
+fn put_store_object<W: Write>(forms: &Forms<'_>, id: u16, bytes: &[u8], out: &mut Watched<W>)
+    ensures { Puts W.contents out.old out.new (store_object (nodes_of forms.now) id bytes.now) }
+{
+    put_kind(b"store", out);
+    put_store_members(forms, id, bytes, out);
+    end_object(out);
+}
+
+fn put_store_members<W: Write>(forms: &Forms<'_>, id: u16, bytes: &[u8], out: &mut Watched<W>)
+    ensures { Puts W.contents out.old out.new (store_members (nodes_of forms.now) id bytes.now) }
+{
+    put_number(b"id", u64::from(id), out);
+    put_string(b"name", name_of(forms, id), out);
+    put_number(b"size", bytes.len() as u64, out);
+}
+
+// Tells a store.
+fn put_told<W: Write>(
+    telling: Telling,
+    forms: &Forms<'_>,
+    id: u16,
+    bytes: &[u8],
+    out: &mut Watched<W>,
+)
+    ensures { Puts W.contents out.old out.new (store_told telling (nodes_of forms.now) id bytes.now) }
+{
+    match telling {
+        Telling::Lines => put_store_line(forms, id, bytes, out),
+        Telling::Objects => put_store_object(forms, id, bytes, out),
+    }
+}
+
+/// Tells a store, which is passed on, and then its bytes into a file, unless the answers fail.
 pub fn put_store<W: Write + Drop, F: Write>(
+    telling: Telling,
     forms: &Forms<'_>,
     id: u16,
     bytes: &[u8],
@@ -62,11 +97,11 @@ pub fn put_store<W: Write + Drop, F: Write>(
     file: &mut Watched<F>,
 )
     ensures told { PassesOn (pen_of (writer_contents W.contents) out.old)
-        (pen_of (writer_contents W.contents) out.new) (store_line (nodes_of forms.now) id bytes.now) }
+        (pen_of (writer_contents W.contents) out.new) (store_told telling (nodes_of forms.now) id bytes.now) }
     ensures held { PutsBytes bytes.now (has_failed out.new) F.contents file.old file.new }
     ensures none_held { has_failed out.new ≡ false → writer_buffer (inner_of out.new) ≡ [] }
 {
-    put_store_line(forms, id, bytes, out);
+    put_told(telling, forms, id, bytes, out);
     if out.pass_on().is_ok() {
         file.put(bytes);
     }

@@ -11,10 +11,13 @@ ghost use Rattle.hii_questions.specs.Fields as fields;
 ghost use Rattle.hii_questions.specs.Fields.{is_password};
 ghost use Rattle.hii_questions.specs.code.LyingIn.{LieIn, LiesIn};
 ghost use Rattle.hii_questions.specs.code.Views.{question_node, question_view};
-ghost use Rattle.image_audit.specs.Lines.{bytes_lines, field_lines, is_told, lines_text, number_text, piece_line};
+ghost use Rattle.image_audit.specs.Lines.{bytes_told, fields_told, is_told, number_text, piece_line, piece_members, piece_object, piece_told, question_told};
+ghost use Rattle.byteorder.specs.Endian.{little_number};
 
 use crate::fields::differs;
 use crate::range::put_range;
+use audit_json::{Telling, end_object, put_kind, put_number, put_string};
+use byteorder::{ByteOrder, LittleEndian};
 use form_audit::StoreNames;
 use hii_bytes::{Fault, Watched};
 use hii_questions::{Question, Questions, WIDEST_FIELD};
@@ -23,11 +26,11 @@ use ifr_scopes::Forms;
 use std::alloc::Global;
 use std::io::Write;
 
-// How many bytes a line tells.
+// How many bytes are told as one number.
 const PIECE: usize = 8;
 
 // Writes bytes, the lowest first, as one number, in two hex digits each.
-fn put_number<W: Write>(bytes: &[u8], out: &mut Watched<W>)
+fn put_hex_number<W: Write>(bytes: &[u8], out: &mut Watched<W>)
     ensures { Puts W.contents out.old out.new (number_text bytes.now) }
 {
     out.put(b"0x");
@@ -39,7 +42,7 @@ fn put_number<W: Write>(bytes: &[u8], out: &mut Watched<W>)
 }
 
 // Writes the line of bytes of a store from an offset on.
-fn put_piece<W: Write>(
+fn put_piece_line<W: Write>(
     names: &StoreNames<'_>,
     store: u16,
     offset: usize,
@@ -50,13 +53,81 @@ fn put_piece<W: Write>(
 {
     put_range(names, store, offset, bytes.len(), out);
     out.put(b"=");
-    put_number(bytes, out);
+    put_hex_number(bytes, out);
     out.put(b"\n");
 }
 
-// Writes the lines of bytes of a store from an offset on, in pieces of 8.
-fn put_bytes<W: Write>(
+// Bytes, 8 at most, as one number, the lowest first.
+fn number_of(bytes: &[u8]) -> u64
+    requires { length bytes.now ≤ 8 }
+    ensures { result ≡ little_number (length bytes.now) bytes.now }
+{
+    if bytes.is_empty() {
+        return 0;
+    }
+    LittleEndian::read_uint(bytes, bytes.len())
+}
+
+// Writes the members of bytes of a store from an offset on, which are those of a question.
+fn put_piece_members<W: Write>(
     names: &StoreNames<'_>,
+    id: u16,
+    store: u16,
+    offset: usize,
+    bytes: &[u8],
+    out: &mut Watched<W>,
+)
+    requires { length bytes.now ≤ 8 }
+    ensures { Puts W.contents out.old out.new (piece_members (nodes_of names.now) id store offset bytes.now) }
+{
+    put_number(b"id", u64::from(id), out);
+    put_string(b"name", names.name(store), out);
+    put_number(b"offset", offset as u64, out);
+    put_number(b"width", bytes.len() as u64, out);
+    put_number(b"value", number_of(bytes), out);
+}
+
+// Writes these bytes as an object.
+fn put_piece_object<W: Write>(
+    names: &StoreNames<'_>,
+    id: u16,
+    store: u16,
+    offset: usize,
+    bytes: &[u8],
+    out: &mut Watched<W>,
+)
+    requires { length bytes.now ≤ 8 }
+    ensures { Puts W.contents out.old out.new (piece_object (nodes_of names.now) id store offset bytes.now) }
+{
+    put_kind(b"set", out);
+    put_piece_members(names, id, store, offset, bytes, out);
+    end_object(out);
+}
+
+// Tells bytes of a store from an offset on.
+fn put_piece<W: Write>(
+    telling: Telling,
+    names: &StoreNames<'_>,
+    id: u16,
+    store: u16,
+    offset: usize,
+    bytes: &[u8],
+    out: &mut Watched<W>,
+)
+    requires { length bytes.now ≤ 8 }
+    ensures { Puts W.contents out.old out.new (piece_told telling (nodes_of names.now) id store offset bytes.now) }
+{
+    match telling {
+        Telling::Lines => put_piece_line(names, store, offset, bytes, out),
+        Telling::Objects => put_piece_object(names, id, store, offset, bytes, out),
+    }
+}
+
+// Tells bytes of a store from an offset on, in pieces of 8.
+fn put_bytes<W: Write>(
+    telling: Telling,
+    names: &StoreNames<'_>,
+    id: u16,
     store: u16,
     offset: u16,
     bytes: &[u8],
@@ -64,17 +135,18 @@ fn put_bytes<W: Write>(
 )
     requires { length bytes.now ≤ WIDEST_FIELD }
     ensures { Puts W.contents out.old out.new
-        (bytes_lines (nodes_of names.now) store offset bytes.now) }
+        (bytes_told telling (nodes_of names.now) id store offset bytes.now) }
 {
     let mut at = usize::from(offset);
     for piece in bytes.chunks(PIECE) {
-        put_piece(names, store, at, piece, out);
+        put_piece(telling, names, id, store, at, piece, out);
         at += PIECE;
     }
 }
 
-// Writes the lines of the field of a question that is for no password in some stores, if it has one.
+// Tells the field of a question that is for no password in some stores, if it has one.
 fn put_field<W: Write>(
+    telling: Telling,
     names: &StoreNames<'_>,
     question: Question<'_>,
     stores: &Stores,
@@ -83,14 +155,22 @@ fn put_field<W: Write>(
     requires lies { LiesIn (shape_of stores.now) (question_view question) }
     requires narrow { is_password (question_node question) ≡ false }
     ensures { Puts W.contents out.old out.new
-        (field_lines (nodes_of names.now) stores.now (question_view question.entry).field) }
+        (question_told telling (nodes_of names.now) stores.now (question_view question.entry)) }
 {
     let Some(field) = question.field() else {
         return;
     };
     let offset = usize::from(field.offset);
     if let Some(bytes) = stores.field(field.store, offset, field.width) {
-        put_bytes(names, field.store, field.offset, bytes, out);
+        put_bytes(
+            telling,
+            names,
+            question.id(),
+            field.store,
+            field.offset,
+            bytes,
+            out,
+        );
     }
 }
 
@@ -109,8 +189,9 @@ fn is_told(question: Question<'_>, stores: &Stores, others: Option<&Stores>) -> 
     }
 }
 
-// Writes the lines of the fields of all questions that are told, by place.
-fn put_fields<W: Write>(
+// Tells the fields of all questions that are told, by place.
+fn put_told_fields<W: Write>(
+    telling: Telling,
     names: &StoreNames<'_>,
     questions: &Questions<'_>,
     stores: &Stores,
@@ -121,20 +202,21 @@ fn put_fields<W: Write>(
     requires same { IfSome others (λ others. shape_of stores.now ≡ shape_of others.now) }
     requires lie { LieIn (shape_of stores.now) (fields.questions (nodes_of questions.now.ifr)) }
     ensures { Puts W.contents out.old out.new
-        (lines_text (nodes_of questions.now.ifr) stores.now (option_copied others.entry)) }
+        (fields_told telling (nodes_of questions.now.ifr) stores.now (option_copied others.entry)) }
 {
     let mut left = questions.all();
     while let Some(question) = left.next() {
         if is_told(question, stores, others) {
-            put_field(names, question, stores, out);
+            put_field(telling, names, question, stores, out);
         }
     }
 }
 
-/// Writes a line for each field of a question, by place, but those of passwords: where it lies, and what the stores of an image hold
-/// there, as one number, the lowest byte first; of a field above 8 bytes a line for each 8. With other stores those alone are told in
+/// Tells each field of a question, by place, but those of passwords: where it lies, and what the stores of an image hold
+/// there, as one number, the lowest byte first; of a field above 8 bytes each 8 by themselves. With other stores those alone are told in
 /// which these differ. Where an allocation fails nothing is written.
-pub fn put_lines<W: Write>(
+pub fn put_fields<W: Write>(
+    telling: Telling,
     alloc: Global,
     forms: &Forms<'_>,
     layout: &Layout<'_>,
@@ -148,11 +230,11 @@ pub fn put_lines<W: Write>(
     requires laid { shape_of stores.now ≡ layout_of (nodes_of forms.now) }
     requires others { IfSome others (λ others. shape_of others.now ≡ layout_of (nodes_of forms.now)) }
     ensures written { OnOk result (Puts W.contents out.old out.new
-        (lines_text (nodes_of forms.now) stores.now (option_copied others.entry))) }
+        (fields_told telling (nodes_of forms.now) stores.now (option_copied others.entry))) }
     ensures nothing { IfErr result (λ fault. (fault ≡ out_of_memory) × (out.new ≡ out.old)) }
 {
     let names = StoreNames::read(alloc, forms)?;
     let questions = Questions::read(alloc, forms, layout)?;
-    put_fields(&names, &questions, stores, others, out);
+    put_told_fields(telling, &names, &questions, stores, others, out);
     Ok(())
 }

@@ -29,7 +29,7 @@ and_right true b e = e
 and_right false b e = absurd (false≢true e)
 
 -- one more opcode
-first_of : (fuel : ℕ) (rest : List ℕ) → length rest ≤ fuel → fits rest ≡ true → (less : ℕ) × (fuel ≡ suc less)
+pub first_of : (fuel : ℕ) (rest : List ℕ) → length rest ≤ fuel → fits rest ≡ true → (less : ℕ) × (fuel ≡ suc less)
 first_of zero rest enough fit = absurd (none rest enough fit)
   where
     none : (rest : List ℕ) → length rest ≤ 0 → fits rest ≡ true → ⊥

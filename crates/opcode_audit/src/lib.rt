@@ -14,4 +14,5 @@ mod walk;
 mod words;
 
 pub use strings::FirstStrings;
-pub use walk::put_opcodes;
+pub use walk::{put_opcodes, split_front};
+pub use words::{put_bytes, put_name, put_quoted_bytes};

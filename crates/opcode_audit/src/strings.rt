@@ -65,7 +65,7 @@ impl<'a> FirstStrings<'a> {
     }
 
     /// What is shown of a string id.
-    pub(crate) fn shown(&self, id: u16) -> Shown<'a>
+    pub fn shown(&self, id: u16) -> Shown<'a>
         ensures { text_of result ≡ chapter.shown self.now (Some 0) id }
     {
         if id == 0 {

@@ -52,8 +52,8 @@ pub fn put_opcodes<W: Write>(
     }
 }
 
-// The opcode with which bytes begin, and what comes behind it, if its length fits.
-fn split_front(bytes: &[u8]) -> Option<(&[u8], &[u8])>
+/// The opcode with which bytes begin, and what comes behind it, if its length fits: at least 2, and no more than there are bytes.
+pub fn split_front(bytes: &[u8]) -> Option<(&[u8], &[u8])>
     ensures { MatchOption result (fits bytes.entry.now ≡ false)
         (λ parts. (fits bytes.entry.now ≡ true)
         × (parts.0.now ≡ take (stated_length bytes.entry.now) bytes.entry.now)

@@ -21,7 +21,7 @@ use hii_bytes::{Guid, Watched};
 use std::io::Write;
 
 /// Writes the name of a number, or the number in hex digits.
-pub(crate) fn put_name<W: Write>(code: u8, out: &mut Watched<W>)
+pub fn put_name<W: Write>(code: u8, out: &mut Watched<W>)
     ensures { Puts W.contents out.old out.new (name_or_number code) }
 {
     let name = opcode_name(code);
@@ -34,7 +34,7 @@ pub(crate) fn put_name<W: Write>(code: u8, out: &mut Watched<W>)
 }
 
 /// Writes bytes in lower-case hex digits.
-pub(crate) fn put_bytes<W: Write>(bytes: &[u8], out: &mut Watched<W>)
+pub fn put_bytes<W: Write>(bytes: &[u8], out: &mut Watched<W>)
     ensures { Puts W.contents out.old out.new (digits_of false bytes.now) }
 {
     let mut rest = bytes;
@@ -45,7 +45,7 @@ pub(crate) fn put_bytes<W: Write>(bytes: &[u8], out: &mut Watched<W>)
 }
 
 /// Writes bytes in hex digits between quotation marks.
-pub(crate) fn put_quoted_bytes<W: Write>(bytes: &[u8], out: &mut Watched<W>)
+pub fn put_quoted_bytes<W: Write>(bytes: &[u8], out: &mut Watched<W>)
     ensures { Puts W.contents out.old out.new (quoted (digits_of false bytes.now)) }
 {
     out.put(b"\"");

@@ -80,10 +80,13 @@ guard_facts a package_place n = flat_map (guard_fact a package_place) (guards n)
 abbrev pub is_check_of : ℕ → Node → Bool
 is_check_of id c = is_condition_number (number c.op) && (this_of c == id)
 
+abbrev pub checks : List Node → Node → List Node
+checks ns n = filter (is_check_of (question_id n.op)) ns
+
 abbrev pub check_fact : Audited → ℕ → Node → List ℕ
 check_fact a package_place c =
     condition_fact (codes "check") package_place c (state_text (value_at a c))
 
 abbrev pub check_facts : Audited → ℕ → Node → List ℕ
 check_facts a package_place n =
-    flat_map (check_fact a package_place) (filter (is_check_of (question_id n.op)) a.world.nodes)
+    flat_map (check_fact a package_place) (checks a.world.nodes n)

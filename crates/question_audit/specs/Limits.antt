@@ -1,6 +1,6 @@
 -- What the opcode of a question says of it as a question: its flags, what it takes, where it leads, and why it has no value here
 -- (own rule; flags, numbers and lengths are those of UEFI 2.8, 33.3.8.2.2 and 33.3.8.3 under the name of each opcode).
-use Rattle.std.specs.Prelude.{ℕ, true, ◌==◌, if◌then◌else◌, Option, Some, None, List, [], ◌∷◌, ◌++◌, bytes_eq, replicate, codes, decimal}
+use Rattle.std.specs.Prelude.{ℕ, true, ◌==◌, if◌then◌else◌, Option, Some, None, List, [], ◌∷◌, ◌++◌, codes, decimal}
 use Rattle.ifr_opcodes.specs.declared.codes.TheConstants.{ACTION, CHECKBOX, DATE, NUMERIC, ORDERED_LIST, PASSWORD, REF, STRING, TIME}
 use Rattle.ifr_opcodes.specs.declared.numbers.Display.{Display}
 use Rattle.ifr_opcodes.specs.declared.numbers.Display.TheVariants.{Signed, Unsigned, Hexadecimal}
@@ -15,6 +15,7 @@ use Rattle.form_page.specs.Texts.{utf8}
 use Rattle.audit_text.specs.Texts.{guid_text, joined, safe_text}
 use Rattle.audit_text.specs.Words.{word_where}
 use Rattle.form_audit.specs.Audited.{Audited}
+use Rattle.form_audit.specs.QuestionLines.{names_no_set}
 use Rattle.question_audit.specs.ConditionFacts.{fact}
 
 -- ---- flags: READ_ONLY, CALLBACK and RESET_REQUIRED
@@ -57,9 +58,13 @@ numeric_range op =
 abbrev pub span : ℕ → ℕ → List ℕ → List ℕ
 span least most what = fact (codes "length") (decimal least ++ codes " to " ++ decimal most ++ what)
 
+-- how many elements an ORDERED_LIST has at least
+abbrev pub list_least : List ℕ → ℕ
+list_least op = if has_no_empty_set op then 1 else 0
+
 abbrev pub list_length : List ℕ → List ℕ
 list_length op =
-    span (if has_no_empty_set op then 1 else 0) (ordered_list_containers op)
+    span (list_least op) (ordered_list_containers op)
     (if is_unique_set op then codes " elements, each once" else codes " elements")
 
 -- ---- where it leads: to a form of the form set, or to another form set, which zeros do not name
@@ -71,7 +76,7 @@ form_behind a id (Some form) = codes "form " ++ decimal id ++ codes " " ++ safe_
 abbrev pub set_fact : Option (List ℕ) → List ℕ
 set_fact None = []
 set_fact (Some guid) =
-    if bytes_eq guid (replicate 16 0) then [] else fact (codes "leads") (codes "form set " ++ guid_text true guid)
+    if names_no_set guid then [] else fact (codes "leads") (codes "form set " ++ guid_text true guid)
 
 abbrev pub leads_fact : Audited → List ℕ → Option ℕ → List ℕ
 leads_fact a op None = set_fact (ref_form_set op)

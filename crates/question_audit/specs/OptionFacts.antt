@@ -1,6 +1,6 @@
 -- What is known of the options of a question (own rule).
-use Rattle.std.specs.Prelude.{ℕ, ◌==◌, Bool, nat_lt, if◌then◌else◌, Option, Some, None, is_some, List, [], ◌∷◌, ◌++◌, filter, codes, decimal}
-use Rattle.std.specs.List.{flat_map}
+use Rattle.std.specs.Prelude.{ℕ, ◌==◌, Bool, nat_lt, if◌then◌else◌, Option, Some, None, is_some, option_map, List, [], ◌∷◌, ◌++◌, filter, codes, decimal}
+use Rattle.std.specs.List.{find, flat_map}
 use Rattle.ifr_opcodes.specs.Fields.{option_text, option_value}
 use Rattle.ifr_opcodes.specs.Forest.{Node}
 use Rattle.ifr_opcodes.specs.Rows.{is_among}
@@ -13,6 +13,7 @@ use Rattle.guard_policy.specs.declared.denial.Denial.{Denial}
 use Rattle.audit_text.specs.Texts.{safe_text}
 use Rattle.form_audit.specs.Audited.{Audited}
 use Rattle.form_audit.specs.FormLines.{denial_text}
+use Rattle.form_audit.specs.ScriptValues.{behind}
 use Rattle.question_audit.specs.ConditionFacts.{condition_words, fact}
 
 -- ---- what denies an option that does not deny its question
@@ -30,20 +31,27 @@ own_denial w place o = covered_by w (own_guards place o) (first_of_nodes (own_lo
 
 -- ---- its line
 
--- beside whether the question is denied
+-- where nothing denies it by itself: whether its question is denied
+abbrev pub beside_question : Bool → List ℕ
+beside_question is_denied = if is_denied then codes "as the question" else codes "open"
+
 abbrev pub option_verdict : Bool → Option Denial → List ℕ
 option_verdict is_denied (Some denial) = denial_text denial
-option_verdict is_denied None = if is_denied then codes "as the question" else codes "open"
+option_verdict is_denied None = beside_question is_denied
 
--- what the guard at a place around it says
-abbrev pub words_at : ℕ → Node → List ℕ
-words_at place o =
-    flat_map (λ g. codes ": " ++ condition_words g) (filter (λ g. g.place == place) (guards o))
+-- the guard at a place around it
+abbrev pub guard_at : ℕ → Node → Option Node
+guard_at place o = find (λ g. g.place == place) (guards o)
 
--- That stands at the first option that the guard denies, where these are the places of what denies the options before.
+-- What the guard that denies it says: this stands at the first option that it denies, where these are the places of what denies the
+-- options before.
+abbrev pub deciding_words : List ℕ → Node → Option Denial → Option (List ℕ)
+deciding_words places o None = None
+deciding_words places o (Some denial) =
+    if is_among denial.place places then None else option_map condition_words (guard_at denial.place o)
+
 abbrev pub deciding : List ℕ → Node → Option Denial → List ℕ
-deciding places o None = []
-deciding places o (Some denial) = if is_among denial.place places then [] else words_at denial.place o
+deciding places o denial = behind (codes ": ") (deciding_words places o denial)
 
 abbrev pub option_fact : Audited → ℕ → Bool → List ℕ → Node → List ℕ
 option_fact a place is_denied places o =

@@ -152,8 +152,11 @@ question_facts a is_reached origin q =
 
 -- ---- the question of an id
 
+abbrev pub no_question_words : ℕ → List ℕ
+no_question_words id = codes "NO QUESTION " ++ decimal id
+
 abbrev pub no_question : ℕ → List ℕ
-no_question id = codes "NO QUESTION " ++ decimal id ++ codes "\n"
+no_question id = no_question_words id ++ codes "\n"
 
 -- There is one, and this is what is known of it, by what tells which forms are reached; or this says that there is none.
 abbrev pub IsQuestionText : Bool → Audited → Origin → ℕ → List ℕ → Type 0

@@ -35,8 +35,11 @@ first_reason [] = None
 first_reason (denial ∷ denials) = Some denial
 
 -- and the others are told beside it
+abbrev pub further : List Denial → List Denial
+further denials = drop 1 denials
+
 abbrev pub also_fact : Denial → List ℕ
 also_fact denial = fact (codes "also") (denial_text denial)
 
 abbrev pub also_facts : List Denial → List ℕ
-also_facts denials = flat_map also_fact (drop 1 denials)
+also_facts denials = flat_map also_fact (further denials)

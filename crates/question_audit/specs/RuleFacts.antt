@@ -61,15 +61,20 @@ abbrev pub is_named : List Node → Node → ℕ → Bool
 is_named ns n place =
     list_any (names_rule ns place) (flat_map (condition_references ns) (conditions_of ns n))
 
+-- what a rule says
+abbrev pub rule_words : Node → List ℕ
+rule_words r = text (sense (as_rule r).tree)
+
 -- a rule by its id, its place in the forms package and its byte in the list, with what it says
 abbrev pub rule_fact : ℕ → Node → List ℕ
 rule_fact package_place r =
     column (codes "rule") ++ decimal (rule_id r.op) ++ codes " at " ++ place_text r.place
     ++ codes " (byte " ++ hex_text (package_place + r.place) ++ codes "): "
-    ++ text (sense (as_rule r).tree) ++ codes "\n"
+    ++ rule_words r ++ codes "\n"
 
 -- those, by place
+abbrev pub named_rules : List Node → Node → List Node
+named_rules ns n = filter (λ r. is_named ns n r.place) (filter is_rule ns)
+
 abbrev pub rule_facts : Audited → ℕ → Node → List ℕ
-rule_facts a package_place n =
-    flat_map (rule_fact package_place)
-    (filter (λ r. is_named a.world.nodes n r.place) (filter is_rule a.world.nodes))
+rule_facts a package_place n = flat_map (rule_fact package_place) (named_rules a.world.nodes n)

@@ -43,8 +43,11 @@ fn state_word(value: Value<'_>) -> &'static [u8]
     }
 }
 
-// What a condition is over the stores of a page, in a word.
-fn state_of<'a, C: Conditions>(page: Page<'a, '_, C>, condition: AnyCondition<'a>) -> &'static [u8]
+/// What a condition is over the stores of a page, in a word.
+pub fn state_of<'a, C: Conditions>(
+    page: Page<'a, '_, C>,
+    condition: AnyCondition<'a>,
+) -> &'static [u8]
     ensures { result.now
         ≡ state_text (value_at (audited page.entry) (any_condition_node condition.entry)) }
 {
@@ -98,8 +101,8 @@ fn put_condition<W: Write>(
     Ok(())
 }
 
-// How a guard stands: whether a DISABLE_IF was removed, and whether the condition of another guard holds.
-fn guard_state<'a, C: Conditions>(page: Page<'a, '_, C>, guard: Guard<'a>) -> &'static [u8]
+/// How a guard stands: whether a DISABLE_IF was removed, and whether the condition of another guard holds.
+pub fn guard_state<'a, C: Conditions>(page: Page<'a, '_, C>, guard: Guard<'a>) -> &'static [u8]
     ensures { result.now ≡ guard_state (audited page.entry) (guard_node guard.entry) }
 {
     if guard.code() != DISABLE_IF {
@@ -156,8 +159,8 @@ pub(crate) fn put_guards<'a, C: Conditions, W: Write>(
     Ok(())
 }
 
-// The number of the opcode of a check.
-fn code_of(op: ConditionOp<'_>) -> u8
+/// The number of the opcode of a check.
+pub fn code_of(op: ConditionOp<'_>) -> u8
     ensures { result ≡ number (op_bytes (condition_op op.entry)) }
 {
     match op {

@@ -38,8 +38,8 @@ fn names<'a>(forms: &Forms<'a>, guard: Guard<'a>, id: u16) -> bool
     false
 }
 
-// Of each guard of a package, by place, whether its condition depends on the answer to the question of an id.
-fn guards_naming(alloc: Global, forms: &Forms<'_>, id: u16) -> Result<Vec<bool>, AllocError>
+/// Of each guard of a package, by place, whether its condition depends on the answer to the question of an id.
+pub fn guards_naming(alloc: Global, forms: &Forms<'_>, id: u16) -> Result<Vec<bool>, AllocError>
     ensures { IfOk result (λ flags. flags.items ≡ naming (nodes_of forms.now) id) }
 {
     let mut flags = Vec::with_capacity(alloc, forms.guard_count())?;
@@ -61,8 +61,8 @@ fn counts(flags: &[bool], guard: Guard<'_>, when: When) -> bool
     when.counts(guard) && flag_of(flags, guard)
 }
 
-// Whether it depends then on the answer to a question whether another may be changed, where these are the guards whose conditions do.
-fn is_decided<'a>(
+/// Whether it depends then on the answer to a question whether another may be changed, where these are the guards whose conditions do.
+pub fn is_decided<'a>(
     policy: Policy<'a, '_>,
     flags: &[bool],
     question: Question<'a>,

@@ -43,8 +43,8 @@ fn add_named<'a>(forms: &Forms<'a>, guard: Guard<'a>, ids: &mut NumberSet)
     }
 }
 
-// The ids of the questions on whose answers it depends then whether a statement may be changed.
-fn support_of<'a>(
+/// The ids of the questions on whose answers it depends then whether a statement may be changed.
+pub fn support_of<'a>(
     alloc: Global,
     policy: Policy<'a, '_>,
     statement: Statement<'a>,

@@ -24,7 +24,7 @@ pub(crate) fn put_column<W: Write>(word: &[u8], out: &mut Watched<W>)
 }
 
 /// Writes a verdict: `open`, or the kind of the denial and the place that decides.
-pub(crate) fn put_verdict_text<W: Write>(verdict: Result<(), Denial>, out: &mut Watched<W>)
+pub fn put_verdict_text<W: Write>(verdict: Result<(), Denial>, out: &mut Watched<W>)
     ensures { (denied : Option Denied) → verdict ≡ unless denied
         → Puts W.contents out.old out.new (verdict_text denied) }
 {
@@ -35,7 +35,7 @@ pub(crate) fn put_verdict_text<W: Write>(verdict: Result<(), Denial>, out: &mut 
 }
 
 /// Writes an id in decimal and in hex digits.
-pub(crate) fn put_id<W: Write>(id: u16, out: &mut Watched<W>)
+pub fn put_id<W: Write>(id: u16, out: &mut Watched<W>)
     ensures { Puts W.contents out.old out.new (id_text id) }
 {
     out.put_decimal(u64::from(id));

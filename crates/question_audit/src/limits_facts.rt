@@ -2,7 +2,7 @@
 
 ghost use Rattle.std.specs.Prelude.{◌≡◌, Some};
 ghost use Rattle.hii_bytes.specs.Watching.{Puts};
-ghost use Rattle.ifr_opcodes.specs.Fields.{numeric_step, ref_target};
+ghost use Rattle.ifr_opcodes.specs.Fields.{display, numeric_step, ref_target};
 ghost use Rattle.ifr_opcodes.specs.code.Ops.{bytes_of as op_bytes};
 ghost use Rattle.ifr_nodes.specs.ReferenceFaults.{form_with};
 ghost use Rattle.ifr_scopes.specs.code.Lists.{statement_node};
@@ -10,7 +10,7 @@ ghost use Rattle.hii_questions.specs.code.Views.{question_node, question_view};
 ghost use Rattle.guard_policy.specs.Policy.{is_never_changed};
 ghost use Rattle.form_audit.specs.code.Pages.{audited};
 ghost use Rattle.question_audit.specs.ConditionFacts.{fact};
-ghost use Rattle.question_audit.specs.Limits.{flags_fact, form_behind, leads_fact, limits_fact, list_length, numeric_range, outside_fact, outside_text, set_fact, shown_number, span, step_text, unstored_text};
+ghost use Rattle.question_audit.specs.Limits.{flags_fact, form_behind, leads_fact, limits_fact, list_length, numeric_range, outside_fact, outside_text, set_fact, shown_number, shown_step, span, step_text, unstored_text};
 
 use crate::facts::put_column;
 use audit_text::{Case, put_guid, put_safe_shown};
@@ -64,28 +64,41 @@ pub(crate) fn put_flags_fact<W: Write>(question: QuestionOp<'_>, out: &mut Watch
     }
 }
 
-// Writes a number as a NUMERIC shows its values.
-fn put_number<C: Conditions, W: Write>(op: NumericOp<'_>, number: u64, out: &mut Watched<W>)
+/// Writes a number as a NUMERIC shows its values.
+pub fn put_shown_number<C: Conditions, W: Write>(
+    op: NumericOp<'_>,
+    number: u64,
+    out: &mut Watched<W>,
+)
     ensures { Puts W.contents out.old out.new (shown_number (op_bytes op.entry.op) number) }
 {
     let shown: RowValue<'_, '_, C> = numeric_value(op, Value::Number(number));
     put_row_value(shown, out);
 }
 
-// Writes by how much a NUMERIC changes, if it says so.
-fn put_step<C: Conditions, W: Write>(op: NumericOp<'_>, out: &mut Watched<W>)
+/// Writes by how much a NUMERIC changes: a step has no sign.
+pub fn put_shown_step<C: Conditions, W: Write>(op: NumericOp<'_>, out: &mut Watched<W>)
+    ensures { Puts W.contents out.old out.new
+        (shown_step (display (op_bytes op.entry.op)) (op_bytes op.entry.op)
+        (numeric_step (op_bytes op.entry.op))) }
+{
+    let step = op.step();
+    match op.display() {
+        Display::Hexadecimal => put_shown_number::<C, W>(op, step, out),
+        Display::Signed | Display::Unsigned => out.put_decimal(step),
+    }
+}
+
+/// Writes by how much a NUMERIC changes, if it says so.
+pub fn put_step<C: Conditions, W: Write>(op: NumericOp<'_>, out: &mut Watched<W>)
     ensures { Puts W.contents out.old out.new
         (step_text (op_bytes op.entry.op) (numeric_step (op_bytes op.entry.op))) }
 {
-    let step = op.step();
-    if step == 0 {
+    if op.step() == 0 {
         return;
     }
     out.put(b", step ");
-    match op.display() {
-        Display::Hexadecimal => put_number::<C, W>(op, step, out),
-        Display::Signed | Display::Unsigned => out.put_decimal(step),
-    }
+    put_shown_step::<C, W>(op, out);
 }
 
 // Writes which numbers a NUMERIC takes.
@@ -93,9 +106,9 @@ fn put_range<C: Conditions, W: Write>(op: NumericOp<'_>, out: &mut Watched<W>)
     ensures { Puts W.contents out.old out.new (numeric_range (op_bytes op.entry.op)) }
 {
     put_column(b"range", out);
-    put_number::<C, W>(op, op.minimum(), out);
+    put_shown_number::<C, W>(op, op.minimum(), out);
     out.put(b" to ");
-    put_number::<C, W>(op, op.maximum(), out);
+    put_shown_number::<C, W>(op, op.maximum(), out);
     put_step::<C, W>(op, out);
     out.put(b"\n");
 }
@@ -214,8 +227,8 @@ fn put_unstored<W: Write>(store: u16, out: &mut Watched<W>)
     out.put(b" is a store of names and values");
 }
 
-// Writes why a question can never be changed here.
-fn put_outside<W: Write>(question: Question<'_>, out: &mut Watched<W>)
+/// Writes why a question can never be changed here.
+pub fn put_outside<W: Write>(question: Question<'_>, out: &mut Watched<W>)
     ensures { Puts W.contents out.old out.new (outside_text (question_node question.entry)) }
 {
     match question.statement().kind() {
@@ -228,7 +241,7 @@ fn put_outside<W: Write>(question: Question<'_>, out: &mut Watched<W>)
 }
 
 /// Whether a question can never be changed here.
-pub(crate) fn is_never_changed(question: Question<'_>) -> bool
+pub fn is_never_changed(question: Question<'_>) -> bool
     ensures { result ≡ is_never_changed (question_view question.entry) }
 {
     match question.statement().kind() {

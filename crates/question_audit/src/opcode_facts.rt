@@ -69,8 +69,8 @@ fn has_within<'a>(forms: &Forms<'a>, form: Form<'a>, statement: Statement<'a>) -
     false
 }
 
-// The form in whose scope a statement stands.
-fn form_of<'a>(policy: Policy<'a, '_>, statement: Statement<'a>) -> Option<Form<'a>>
+/// The form in whose scope a statement stands.
+pub fn form_of<'a>(policy: Policy<'a, '_>, statement: Statement<'a>) -> Option<Form<'a>>
     ensures node { IfSome result (λ form. IsNodeOf (bytes_of policy.entry) (form_node form)) }
     ensures form { option_map form_node result
         ≡ form_of (nodes_of (bytes_of policy.entry)) (statement_node statement.entry) }

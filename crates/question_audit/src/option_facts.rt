@@ -1,6 +1,6 @@
 //! The options of questions.
 
-ghost use Rattle.std.specs.Prelude.{◌≡◌, ◌==◌, ℕ, List, OnOk, OnErr, is_some};
+ghost use Rattle.std.specs.Prelude.{◌≡◌, ℕ, List, IfOk, OnOk, OnErr, codes, is_some, option_map};
 ghost use Rattle.std.specs.BTreeMap.{get};
 ghost use Rattle.std.specs.Ordering.{nat_cmp};
 ghost use Rattle.hii_bytes.specs.Watching.{Puts, pen_of};
@@ -9,20 +9,23 @@ ghost use Rattle.ifr_nodes.specs.Nodes.{nodes_of};
 ghost use Rattle.ifr_nodes.specs.code.Checked.{IsNodeOf};
 ghost use Rattle.ifr_scopes.specs.code.LockIndex.{first_place};
 ghost use Rattle.ifr_scopes.specs.code.Parts.{option_node};
+ghost use Rattle.condition_text.specs.code.Conditions.{words_of};
 ghost use Rattle.hii_questions.specs.Fields.{asked};
 ghost use Rattle.hii_questions.specs.code.Views.{question_node, question_view};
 ghost use Rattle.guard_policy.specs.Policy.{fixed};
 ghost use Rattle.guard_policy.specs.code.Views.{bytes_of};
 ghost use Rattle.form_page.specs.code.PageViews.{world_of};
+ghost use Rattle.form_audit.specs.ScriptValues.{behind};
 ghost use Rattle.form_audit.specs.code.Pages.{audited};
-ghost use Rattle.question_audit.specs.OptionFacts.{deciding, option_fact, option_facts, option_verdict, own_denial as own_denial_of, with_place, words_at};
+ghost use Rattle.question_audit.specs.ConditionFacts.{condition_words};
+ghost use Rattle.question_audit.specs.OptionFacts.{deciding_words, guard_at, option_fact, option_facts, option_verdict, own_denial as own_denial_of, with_place};
 ghost use Rattle.question_audit.specs.code.Beginnings.{Begins};
 ghost use Rattle.question_audit.specs.code.Places.{has_place};
 
 use crate::facts::put_column;
+use crate::lock_places::scope_locks;
 use crate::own_denials::own_denial;
 use crate::places::add_place;
-use crate::scope_locks::scope_locks;
 use audit_text::put_safe_shown;
 use condition_text::ConditionText;
 use form_audit::put_denial;
@@ -35,61 +38,62 @@ use std::alloc::{AllocError, Global};
 use std::collections::{BTreeMap, BTreeSet};
 use std::io::Write;
 
-// Writes what the guard at a place around an option says, behind a colon. Where an allocation fails, the beginning of it may be
-// written.
-fn put_guard_at<'a, C: Conditions, W: Write>(
+// What the guard at a place around an option says, if there is one.
+fn words_at<'a, C: Conditions>(
     alloc: Global,
     page: Page<'a, '_, C>,
     option: OptionView<'a>,
     place: u32,
-    out: &mut Watched<W>,
-) -> Result<(), AllocError>
+) -> Result<Option<ConditionText<'a>>, AllocError>
     requires { IsNodeOf (bytes_of page.policy) (option_node option) }
-    ensures told { OnOk result (Puts W.contents out.old out.new
-        (words_at place (option_node option.entry))) }
-    ensures begun { OnErr result (Begins (pen_of W.contents out.old) (pen_of W.contents out.new)
-        (words_at place (option_node option.entry))) }
+    ensures { IfOk result (λ text. option_map words_of text
+        ≡ option_map condition_words (guard_at place (option_node option.entry))) }
 {
     let mut guards = page.policy().forms().guards_at(option.place());
     while let Some(guard) = guards.next() {
         if guard.place() == place {
             let text = ConditionText::of(alloc, guard.condition())?;
-            out.put(b": ");
-            text.put(out);
+            return Ok(Some(text));
         }
     }
-    Ok(())
+    Ok(None)
 }
 
-// Writes what the guard that denies an option says, where it denies none before: these are the places of what does. Where an
-// allocation fails, the beginning of it may be written.
-fn put_deciding<'a, C: Conditions, W: Write>(
+/// What the guard that denies an option says, where it denies none before: these are the places of what does, to which its own is
+/// added.
+pub fn deciding_words<'a, C: Conditions>(
     alloc: Global,
     page: Page<'a, '_, C>,
     option: OptionView<'a>,
     denial: Option<Denial>,
     told: &mut BTreeSet<u32>,
-    out: &mut Watched<W>,
-) -> Result<(), AllocError>
+) -> Result<Option<ConditionText<'a>>, AllocError>
     requires { IsNodeOf (bytes_of page.policy) (option_node option) }
-    ensures told { OnOk result ((places : List ℕ)
+    ensures words { IfOk result (λ text. (places : List ℕ)
         → ((place : ℕ) → has_place told.old place ≡ is_among place places)
-        → Puts W.contents out.old out.new (deciding places (option_node option.entry) denial)) }
+        → option_map words_of text ≡ deciding_words places (option_node option.entry) denial) }
     ensures places { OnOk result ((places : List ℕ)
         → ((place : ℕ) → has_place told.old place ≡ is_among place places)
         → (place : ℕ) → has_place told.new place ≡ is_among place (with_place denial places)) }
-    ensures begun { OnErr result ((places : List ℕ)
-        → ((place : ℕ) → has_place told.old place ≡ is_among place places)
-        → Begins (pen_of W.contents out.old) (pen_of W.contents out.new)
-        (deciding places (option_node option.entry) denial)) }
 {
     let Some(denial) = denial else {
-        return Ok(());
+        return Ok(None);
     };
     if add_place(told, denial.place)? {
-        put_guard_at(alloc, page, option, denial.place, out)?;
+        return words_at(alloc, page, option, denial.place);
     }
-    Ok(())
+    Ok(None)
+}
+
+// Writes what a guard says behind a colon, if it is told.
+fn put_words<W: Write>(words: Option<ConditionText<'_>>, out: &mut Watched<W>)
+    ensures { Puts W.contents out.old out.new
+        (behind (codes ": ") (option_map words_of words.entry)) }
+{
+    if let Some(text) = words {
+        out.put(b": ");
+        text.put(out);
+    }
 }
 
 // Writes what denies an option by itself, or else whether its question is denied.
@@ -144,13 +148,14 @@ fn put_option<'a, C: Conditions, W: Write>(
         (option_fact (audited page.entry) common.entry.place common.entry.is_denied places (option_node option.entry))) }
 {
     let denial = own_denial(page, common.locks, common.place, option);
+    let words = deciding_words(alloc, page, option, denial, told)?;
     put_column(b"option", out);
     out.put_decimal(option.op().value());
     out.put(b" ");
     put_safe_shown(page.text(option.op().text()).chars(), out);
     out.put(b": ");
     put_option_verdict(common.is_denied, denial, out);
-    put_deciding(alloc, page, option, denial, told, out)?;
+    put_words(words, out);
     out.put(b"\n");
     Ok(())
 }

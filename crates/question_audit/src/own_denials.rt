@@ -92,7 +92,7 @@ fn own_lock<'a, C: Conditions>(
 }
 
 /// What denies an option of the question at a place by itself.
-pub(crate) fn own_denial<'a, C: Conditions>(
+pub fn own_denial<'a, C: Conditions>(
     page: Page<'a, '_, C>,
     locks: &BTreeMap<u32, u32>,
     place: u32,

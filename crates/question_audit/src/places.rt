@@ -7,7 +7,7 @@ use std::alloc::AllocError;
 use std::collections::BTreeSet;
 
 /// Adds a place, and tells whether it was not there.
-pub(crate) fn add_place(places: &mut BTreeSet<u32>, place: u32) -> Result<bool, AllocError>
+pub fn add_place(places: &mut BTreeSet<u32>, place: u32) -> Result<bool, AllocError>
     ensures new { IfOk result (λ is_new. is_new ≡ not (has_place places.old place)) }
     ensures places { OnOk result ((other : ℕ)
         → has_place places.new other ≡ (place == other || has_place places.old other)) }
@@ -17,7 +17,7 @@ pub(crate) fn add_place(places: &mut BTreeSet<u32>, place: u32) -> Result<bool, 
 }
 
 /// Whether a place is there.
-pub(crate) fn has_place(places: &BTreeSet<u32>, place: u32) -> bool
+pub fn has_place(places: &BTreeSet<u32>, place: u32) -> bool
     ensures { result ≡ has_place places.now place }
 {
     places.contains(&place)

@@ -84,6 +84,24 @@ fn add_locks<'a, C: Conditions>(
     Ok(())
 }
 
+// Adds these, if there are some: where none decides, the package is not gone through.
+fn add_any_locks<'a, C: Conditions>(
+    page: Page<'a, '_, C>,
+    question: Question<'a>,
+    reasons: &mut Vec<Denial>,
+) -> Result<(), AllocError>
+    requires { IsNodeOf (bytes_of page.policy) (question_node question) }
+    ensures { OnOk result (reasons.new.items ≡ reasons.old.items
+        ++ map (policy.denied_by Locked)
+        (locks (nodes_of (bytes_of page.entry.policy)) (question_node question.entry))) }
+{
+    let around = page.policy().forms().around(question.place());
+    if around.lock().is_none() {
+        return Ok(());
+    }
+    add_locks(page, question, reasons)
+}
+
 // Adds the denials of a question by itself.
 fn add_own(question: Question<'_>, reasons: &mut Vec<Denial>) -> Result<(), AllocError>
     ensures { OnOk result (reasons.new.items
@@ -99,7 +117,7 @@ fn add_own(question: Question<'_>, reasons: &mut Vec<Denial>) -> Result<(), Allo
 }
 
 /// All reasons why a question may not be changed, in the order of the policy.
-pub(crate) fn reasons_of<'a, C: Conditions>(
+pub fn reasons_of<'a, C: Conditions>(
     alloc: Global,
     page: Page<'a, '_, C>,
     question: Question<'a>,
@@ -111,7 +129,7 @@ pub(crate) fn reasons_of<'a, C: Conditions>(
     let mut reasons = Vec::new(alloc);
     add_hiding(page, question, &mut reasons)?;
     add_graying_out(page, question, &mut reasons)?;
-    add_locks(page, question, &mut reasons)?;
+    add_any_locks(page, question, &mut reasons)?;
     add_own(question, &mut reasons)?;
     Ok(reasons)
 }

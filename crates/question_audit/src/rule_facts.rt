@@ -4,6 +4,7 @@ ghost use Rattle.std.specs.Prelude.{◌≡◌, ◌||◌, ◌+◌, ◌<◌, ◌^�
 ghost use Rattle.std.specs.List.{flat_map, list_any};
 ghost use Rattle.hii_bytes.specs.Watching.{Puts, pen_of};
 ghost use Rattle.ifr_expr.specs.code.Expressions.{tree_of};
+ghost use Rattle.ifr_opcodes.specs.Fields.{rule_id};
 ghost use Rattle.ifr_nodes.specs.Guards.{guards};
 ghost use Rattle.ifr_nodes.specs.Nodes.{nodes_of};
 ghost use Rattle.ifr_nodes.specs.Rules.{rules_among};
@@ -120,8 +121,8 @@ fn add_checked<'a>(
     Ok(())
 }
 
-// The places of the rules that the conditions of a question name.
-fn named_rules<'a>(
+/// The places of the rules that the conditions of a question name, and of those that these name in turn.
+pub fn named_rules<'a>(
     alloc: Global,
     policy: Policy<'a, '_>,
     question: Question<'a>,
@@ -136,6 +137,14 @@ fn named_rules<'a>(
     add_inside(alloc, forms, question.id(), &mut places)?;
     add_checked(alloc, forms, question.id(), &mut places)?;
     Ok(places)
+}
+
+/// The id of a rule of a package.
+pub fn id_of_rule<'a>(forms: &Forms<'a>, rule: RuleView<'a>) -> u8
+    requires { IsNodeOf forms.now (rule_node rule) }
+    ensures { result ≡ rule_id (rule_node rule.entry).op }
+{
+    node_at(forms.bytes(), rule.place()).rule().id()
 }
 
 // Writes a rule. Where an allocation fails nothing is written.
@@ -153,10 +162,10 @@ fn put_rule<'a, W: Write>(
     ensures nothing { OnErr result (out.new ≡ out.old) }
 {
     let text = ConditionText::of(alloc, rule.expression())?;
-    let op = node_at(forms.bytes(), rule.place()).rule();
+    let id = id_of_rule(forms, rule);
     let place = u64::from(rule.place());
     put_column(b"rule", out);
-    out.put_decimal(u64::from(op.id()));
+    out.put_decimal(u64::from(id));
     out.put(b" at ");
     out.put_place(place);
     out.put(b" (byte ");

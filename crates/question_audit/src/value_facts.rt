@@ -103,8 +103,8 @@ fn put_value_line<'a, C: Conditions, W: Write>(
     out.put(b"\n");
 }
 
-// Whether a value of a question is written for scripts.
-fn has_script(statement: Statement<'_>, value: Value<'_>) -> bool
+/// Whether a value of a question is written for scripts.
+pub fn has_script(statement: Statement<'_>, value: Value<'_>) -> bool
     ensures { result
         ≡ is_some (script_value (statement_node statement.entry) (value_of value.entry)) }
 {

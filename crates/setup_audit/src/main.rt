@@ -2,7 +2,7 @@
 //! a form set with what forbids their change (own rule).
 #![tactic(auto)]
 
-use audit_commands::{difference, export, image, opcodes, question, questions, split, stores};
+use audit_commands::{check, difference, opcodes, question, questions, split};
 use audit_options::{Task, read_words};
 use clap::Error;
 use clap::error::ErrorKind;
@@ -10,6 +10,7 @@ use hii_bytes::Cause;
 use setup_files::{Status, Terminals, VERSION, refused, shown, usage, words};
 use std::process::ExitCode;
 use std::rt::{Env, Files};
+use store_commands::{export, image, stores};
 
 fn main(rt: HostRuntime) -> ExitCode {
     let (Ok(status) | Err(status)) = run(&rt, Terminals::of(&rt));
@@ -26,6 +27,7 @@ fn run<R: Env + Files + Print + Eprint + AllocGlobal>(
         Ok(Task::Questions(options)) => questions::run(rt, terminals, options),
         Ok(Task::Question(options)) => question::run(rt, terminals, options),
         Ok(Task::Stores(options)) => stores::run(rt, terminals, options),
+        Ok(Task::Check(options)) => check::run(rt, terminals, options),
         Ok(Task::Opcodes(options)) => opcodes::run(rt, terminals, options),
         Ok(Task::Image(options)) => image::run(rt, terminals, &options),
         Ok(Task::Export(options)) => export::run(rt, terminals, options),

@@ -18,7 +18,8 @@ use Rattle.store_audit.specs.declared.fillings.Filling.{Filling}
 use Rattle.store_audit.specs.declared.fillings.Source.{Source}
 use Rattle.store_audit.specs.declared.fillings.Source.TheVariants.{File, Config, Zeros, Missing}
 use Rattle.store_audit.specs.Fillings.{has_bytes, buffer_stores, wanted_of, bytes_from, are_fit}
-use Rattle.store_audit.specs.code.Fillings.{filling_node, buffer_in, filling_text, filling_id, wanted, filling_buffer, filling_bytes, is_fit, is_unfit, file_bytes, filled_from, filled_with, filled_store, stores_of}
+use Rattle.audit_json.specs.declared.telling.Telling.{Telling}
+use Rattle.store_audit.specs.code.Fillings.{filling_node, buffer_in, filling_told, filling_id, wanted, filling_buffer, filling_bytes, is_fit, is_unfit, file_bytes, filled_from, filled_with, filled_store, stores_of}
 
 -- the stores, of which the first ones are filled
 abbrev pub filled_up_to : ℕ → List Filling → List Store
@@ -33,7 +34,7 @@ all_filled (f ∷ fs) = ap (λ ss. filled_store f ∷ ss) (all_filled fs)
 -- ---- what is given fits
 
 fit_bytes : (size : ℕ) (source : Source) → are_fit size source ≡ true → length (bytes_from size source) ≡ size
-fit_bytes size (File path bytes) fit = eqb-true (length bytes.items) size fit
+fit_bytes size (File path bytes is_variable) fit = eqb-true (length bytes.items) size fit
 fit_bytes size (Config given) fit = eqb-true (length given.bytes.items) size (and_parts _ _ fit).1
 fit_bytes size Zeros fit = length-replicate size 0
 fit_bytes size Missing fit = let bad : false ≡ true = fit in cc
@@ -99,7 +100,7 @@ zeros_next (f ∷ fs) (suc i) d within is = ap (λ ss. filled_store f ∷ ss) (z
 filled_next : (guid : List ℕ) (fs : List Filling) (i : ℕ) (d : Filling) (s : Source) → s ≡ (get_or fs i d).source → IsDistinct nat_eq (map (λ (b : Buffer). b.id) (map filling_buffer fs))
     → AllByRecursion (λ f. is_fit f ≡ true) fs → i < length fs → filled_from s (filling_id (get_or fs i d)) record { guid = guid; stores = filled_up_to i fs } ≡ record { guid = guid; stores = filled_up_to (suc i) fs }
 unfolding with_bytes
-filled_next guid fs i d (File path bytes) is apart fit within =
+filled_next guid fs i d (File path bytes is_variable) is apart fit within =
     let size : length bytes.items ≡ wanted (get_or fs i d) = eqb-true _ _ (subst (λ (s : Source). are_fit (wanted (get_or fs i d)) s ≡ true) (sym is) (fit_at fs i d fit within)) in
     let given : bytes.items ≡ filling_bytes (get_or fs i d) = ap (bytes_from (wanted (get_or fs i d))) is in
     ap (λ (ss : List Store). record { guid = guid; stores = ss }) (fills_next fs i d bytes.items apart within size given)
@@ -127,7 +128,7 @@ room_in (f ∷ fs) (suc i) d n apart within fits =
     rw (apart_at fs (filling_id f) i d apart.0 (omega (arith, within))) (room_in fs i d n apart.1 (omega (arith, within)) fits)
 
 file_within : (size : ℕ) (s : Source) → are_fit size s ≡ true → length (file_bytes s) ≤ size
-file_within size (File path bytes) fit = omega (arith, eqb-true (length bytes.items) size fit)
+file_within size (File path bytes is_variable) fit = omega (arith, eqb-true (length bytes.items) size fit)
 file_within size (Config given) fit = let long : length given.bytes.items ≡ size = eqb-true _ _ (and_parts _ _ fit).1 in omega (arith, long)
 file_within size Zeros fit = omega arith
 file_within size Missing fit = omega arith
@@ -174,5 +175,5 @@ all_buffers ns fs all = nodes_to_buffers fs ∙ ap (map buffer_in) all ∙ buffe
 
 -- ---- lines
 
-pub lines_more : (fs : List Filling) (i : ℕ) (d : Filling) → i < length fs → flat_map filling_text (take i fs) ++ filling_text (get_or fs i d) ≡ flat_map filling_text (take (i + 1) fs)
-lines_more fs i d within = rw (take_more fs i d within) (flat_map_more filling_text [] (take i fs) (get_or fs i d))
+pub told_more : (telling : Telling) (fs : List Filling) (i : ℕ) (d : Filling) → i < length fs → flat_map (filling_told telling) (take i fs) ++ filling_told telling (get_or fs i d) ≡ flat_map (filling_told telling) (take (i + 1) fs)
+told_more telling fs i d within = rw (take_more fs i d within) (flat_map_more (filling_told telling) [] (take i fs) (get_or fs i d))

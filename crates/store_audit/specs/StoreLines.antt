@@ -5,7 +5,7 @@ use Rattle.ifr_opcodes.specs.Forest.{Node}
 use Rattle.ifr_opcodes.specs.Opcode.{number}
 use Rattle.ifr_nodes.specs.Nodes.{is_store}
 use Rattle.ifr_scopes.specs.Stores.{store_guid, store_id, store_name, store_size}
-use Rattle.audit_json.specs.Objects.{member, number_member, object, quoted, text_member}
+use Rattle.audit_json.specs.Objects.{guid_member, number_member, object, text_member, word_member}
 use Rattle.audit_json.specs.Telling.{told_as}
 use Rattle.audit_json.specs.declared.telling.Telling.{Telling}
 use Rattle.audit_text.specs.Stores.{store_attributes}
@@ -34,15 +34,15 @@ size_member (Some size) = number_member (codes "size") size
 -- a hyphen alone stands for none
 abbrev pub attributes_member : List ℕ → List ℕ
 attributes_member words =
-    if length words == 1 then [] else member (codes "attributes") (quoted words)
+    if length words == 1 then [] else word_member (codes "attributes") words
 
 abbrev pub store_members : Node → List ℕ
 store_members n =
     number_member (codes "id") (store_id n.op)
-    ++ member (codes "opcode") (quoted (opcode_name (number n.op)))
+    ++ word_member (codes "opcode") (opcode_name (number n.op))
     ++ number_member (codes "at") n.place ++ size_member (store_size n.op)
     ++ attributes_member (store_attributes n.op)
-    ++ member (codes "guid") (quoted (guid_text true (store_guid n.op)))
+    ++ guid_member (codes "guid") (store_guid n.op)
     ++ text_member (codes "name") (store_name n.op)
 
 abbrev pub store_object : Node → List ℕ

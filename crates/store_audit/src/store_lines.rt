@@ -5,13 +5,12 @@ ghost use Rattle.hii_bytes.specs.Texts.{right_aligned};
 ghost use Rattle.ifr_nodes.specs.Nodes.{nodes_of};
 ghost use Rattle.ifr_scopes.specs.code.Lists.{store_node};
 ghost use Rattle.store_audit.specs.StoreLines.{attributes_member, size_member, size_text, store_line, store_members, store_object, store_told, stores_text};
-ghost use Rattle.std.specs.Prelude.{codes, true};
-ghost use Rattle.audit_json.specs.Objects.{member, quoted};
-ghost use Rattle.audit_text.specs.Texts.{guid_text};
 
-use audit_json::{Telling, end_object, put_kind, put_member, put_number, put_string};
+use audit_json::{
+    Telling, end_object, put_guid_member, put_kind, put_number, put_string, put_word,
+};
 use audit_text::{Case, put_ascii_name, put_guid, put_left, store_attributes, store_opcode_name};
-use hii_bytes::{Guid, Watched};
+use hii_bytes::Watched;
 use ifr_scopes::{Forms, Varstore};
 use std::io::Write;
 
@@ -43,16 +42,6 @@ fn put_store<W: Write>(store: Varstore<'_>, out: &mut Watched<W>)
     out.put(b"\n");
 }
 
-// Writes a word as the value of a member.
-fn put_word<W: Write>(key: &[u8], word: &[u8], out: &mut Watched<W>)
-    ensures { Puts W.contents out.old out.new (member key.now (quoted word.now)) }
-{
-    put_member(key, out);
-    out.put(b"\"");
-    out.put(word);
-    out.put(b"\"");
-}
-
 // Writes the member that tells how many bytes a store holds, if it holds some.
 fn put_size_member<W: Write>(size: Option<u16>, out: &mut Watched<W>)
     ensures { Puts W.contents out.old out.new (size_member size) }
@@ -71,16 +60,6 @@ fn put_attributes_member<W: Write>(words: &[u8], out: &mut Watched<W>)
     }
 }
 
-// Writes the member that tells the GUID of a store.
-fn put_guid_member<W: Write>(guid: Guid<'_>, out: &mut Watched<W>)
-    ensures { Puts W.contents out.old out.new (member (codes "guid") (quoted (guid_text true guid.entry.bytes.now))) }
-{
-    put_member(b"guid", out);
-    out.put(b"\"");
-    put_guid(out, guid, Case::Upper);
-    out.put(b"\"");
-}
-
 // Writes the members of a store.
 fn put_members<W: Write>(store: Varstore<'_>, out: &mut Watched<W>)
     ensures { Puts W.contents out.old out.new (store_members (store_node store.entry)) }
@@ -90,7 +69,7 @@ fn put_members<W: Write>(store: Varstore<'_>, out: &mut Watched<W>)
     put_number(b"at", u64::from(store.place()), out);
     put_size_member(store.size(), out);
     put_attributes_member(store_attributes(store), out);
-    put_guid_member(store.guid(), out);
+    put_guid_member(b"guid", store.guid(), out);
     put_string(b"name", store.name(), out);
 }
 

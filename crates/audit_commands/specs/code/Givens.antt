@@ -2,8 +2,8 @@
 use Rattle.setup_files.specs.declared.given.Given.{Given}
 use Rattle.audit_commands.specs.Auditing.{Asked}
 
-abbrev pub asked : Given → Asked
-asked given = record {
+abbrev pub given_asked : Given → Asked
+given_asked given = record {
   list = given.list.now;
   forms = given.forms;
   stores = given.stores.now;

@@ -5,7 +5,8 @@ use Rattle.ifr_scopes.specs.Stores.{store_id}
 use Rattle.ifr_scopes.specs.code.Lists.{store_node}
 use Rattle.hii_varstore.specs.Stores.{Store, StoreMap, with_bytes}
 use Rattle.hii_varstore.specs.declared.buffer.Buffer.{Buffer}
-use Rattle.store_audit.specs.Fillings.{wanted_of, are_fit, bytes_given, store_from, filled_line, refused_line}
+use Rattle.store_audit.specs.Fillings.{wanted_of, are_fit, bytes_given, store_from, filled_told, unfit_told}
+use Rattle.audit_json.specs.declared.telling.Telling.{Telling}
 use Rattle.store_audit.specs.declared.fillings.Filling.{Filling}
 use Rattle.store_audit.specs.declared.fillings.Source.{Source}
 use Rattle.store_audit.specs.declared.fillings.Source.TheVariants.{File, Config}
@@ -38,12 +39,12 @@ is_unfit f = not (is_fit f)
 
 -- the bytes of a file
 abbrev pub file_bytes : Source → List ℕ
-file_bytes (File path bytes) = bytes.items
+file_bytes (File path bytes is_variable) = bytes.items
 file_bytes (Config given) = given.bytes.items
 file_bytes _ = []
 
 abbrev pub filled_from : Source → ℕ → StoreMap → StoreMap
-filled_from (File path bytes) id m = with_bytes m id 0 bytes.items
+filled_from (File path bytes is_variable) id m = with_bytes m id 0 bytes.items
 filled_from (Config given) id m = with_bytes m id 0 given.bytes.items
 filled_from _ id m = m
 
@@ -58,9 +59,9 @@ filled_store f = store_from (filling_node f) f.source
 abbrev pub stores_of : List ℕ → List Filling → StoreMap
 stores_of guid fillings = record { guid = guid; stores = map filled_store fillings }
 
--- the lines of a store that is filled, and of one that is not
-abbrev pub filling_text : Filling → List ℕ
-filling_text f = filled_line (filling_node f) f.source
+-- what is told of a store that is filled, and of one that is not
+abbrev pub filling_told : Telling → Filling → List ℕ
+filling_told telling f = filled_told telling (filling_node f) f.source
 
-abbrev pub unfit_text : Filling → List ℕ
-unfit_text f = refused_line (filling_node f) f.source
+abbrev pub refused_filling : Telling → Filling → List ℕ
+refused_filling telling f = unfit_told telling (filling_node f) f.source

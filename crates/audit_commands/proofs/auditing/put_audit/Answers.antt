@@ -1,41 +1,18 @@
-use Rattle.std.proofs.Common.{◌≡◌, subst, refl, inl}
-use Rattle.std.proofs.lemmas.Result.{IfErr-weaker, err_from_is_err_and, on_ok_weaker}
-use Rattle.hii_bytes.specs.Watching.{Writes, pen_of}
-use Rattle.form_audit.specs.FormLines.{questions_text}
-use Rattle.form_audit.specs.Reach.{TellsReached}
-use Rattle.form_audit.specs.code.Pages.{audited}
-use Rattle.audit_commands.specs.Auditing.{audited_at}
+use Rattle.std.proofs.Common.{inl}
+use Rattle.std.proofs.lemmas.Result.{IfErr-weaker, err_from_is_err_and}
+use Rattle.audit_commands.specs.code.Givens.{given_asked}
 use Rattle.audit_commands.proofs.auditing.put_audit.Goals as goal
 
-pub put_questions-requires : goal.put_questions-requires
-put_questions-requires g c = rw (c.page.ensures.stores, c.page.ensures.bytes) c.page.ensures.fields
-
-pub returns-in_err-browser-clause-refused : goal.returns-in_err-browser-clause-refused
-returns-in_err-browser-clause-refused g c =
+pub returns-in_err-opened-clause-refused : goal.returns-in_err-opened-clause-refused
+returns-in_err-opened-clause-refused g c =
     let p = err_from_is_err_and c.from_residual.result c.from_residual.ensures.1 in
-    rw (p.1, p.2) c.in_err-browser.ensures.refused
+    rw (p.1, p.2) c.in_err-opened.ensures.refused
 
 pub returns-clause-told : goal.returns-clause-told
-returns-clause-told g c =
-    let s = c.in_ok-browser.browser.state in
-    let same : audited c.page.result ≡ audited_at s =
-    rw (c.page.ensures.world, c.page.ensures.spoken, c.page.ensures.language, c.page.ensures.stores, c.page.ensures.bytes) refl in
-    on_ok_weaker c.put_questions.result
-    (λ w. (
-      questions_text (audited_at s) w.0,
-      record {
-        start = s;
-        opens = c.in_ok-browser.ensures.opened.0;
-        is_reached = w.0;
-        reached = subst (λ d. TellsReached d w.0) c.page.ensures.world w.1;
-        told = refl;
-      },
-      subst (λ a. Writes (pen_of g.W.Write.contents c.args.out.now) (pen_of g.W.Write.contents c.put_questions.new.out) (questions_text a w.0)) same w.2,
-    ))
-    c.put_questions.ensures.written
+returns-clause-told g c = c.put_forms.ensures.told (given_asked c.args.given) c.args.origin c.in_ok-opened.ensures.opened
 
 pub returns-clause-refused : goal.returns-clause-refused
-returns-clause-refused g c = IfErr-weaker c.put_questions.result _ _ (λ fault p. inl p.0) c.put_questions.ensures.nothing
+returns-clause-refused g c = IfErr-weaker c.put_forms.result _ _ (λ fault p. inl p.0) c.put_forms.ensures.nothing
 
 pub returns-clause-nothing : goal.returns-clause-nothing
-returns-clause-nothing g c = IfErr-weaker c.put_questions.result _ _ (λ fault p. p.1) c.put_questions.ensures.nothing
+returns-clause-nothing g c = IfErr-weaker c.put_forms.result _ _ (λ fault p. p.1) c.put_forms.ensures.nothing

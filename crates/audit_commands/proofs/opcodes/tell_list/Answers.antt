@@ -1,4 +1,4 @@
-use Rattle.std.proofs.Common.{◌≡◌, ◌+◌, ℕ, List, [], ap, arith, inl, inr, refl}
+use Rattle.std.proofs.Common.{ℕ, List, [], ap, arith, inl, inr, refl}
 use Rattle.browser_rules.specs.Strings.{Spoken}
 use Rattle.audit_json.specs.declared.telling.Telling.{Telling}
 use Rattle.hii_bytes.proofs.WritingLemmas.{writes_nil}
@@ -6,10 +6,10 @@ use Rattle.hii_packages.specs.code.Package.{package_of}
 use Rattle.opcode_audit.specs.Lines.{opcodes_text}
 use Rattle.audit_commands.specs.Opcodes.{ListsOpcodes, SaysOpcodes}
 use Rattle.audit_commands.specs.code.Judged.{IsJudged}
-use Rattle.audit_commands.specs.declared.ended.Ended.TheVariants.{Done}
+use Rattle.audit_answers.specs.declared.ended.Ended.TheVariants.{Done}
 use Rattle.audit_commands.specs.declared.judged.JudgedPackage.{JudgedPackage}
-use Rattle.audit_commands.proofs.EndingLemmas.{is_refusal_as, tells, tells_refusal_as}
-use Rattle.audit_commands.proofs.ListingLemmas.{source_inside}
+use Rattle.audit_answers.proofs.EndingLemmas.{is_refusal, tells, tells_refusal}
+use Rattle.audit_answers.proofs.ListingLemmas.{source_inside}
 use Rattle.audit_commands.proofs.opcodes.tell_list.Goals as goal
 
 lists : (telling : Telling) (list : List ℕ) (n start : ℕ) (judged : JudgedPackage) → IsJudged list n judged → ListsOpcodes telling list n start (opcodes_text telling judged.strings start (package_of judged.source))
@@ -40,8 +40,8 @@ returns-in-Some g c =
     let is = rw c.from.ensures at c.in-Ok.ensures.read in
     let verdict = rw c.in-Some.is at is.verdict in
     let lines = lists c.args.telling list c.args.forms start c.in-Ok.judged is in
-    tells_refusal_as c.args.telling (SaysOpcodes c.args.telling list c.args.forms start) g.A.Write.contents c.args.answers.now c.put_opcodes.new.out c.refuse_as.new.answers c.in-Some.fault c.refuse_as.result
-    (λ other. (_, c.put_opcodes.ensures start refl, inr (_, lines, c.in-Some.fault, verdict.1, refl))) (λ memory. absurd (verdict.0 memory)) c.refuse_as.ensures
+    tells_refusal c.args.telling (SaysOpcodes c.args.telling list c.args.forms start) g.A.Write.contents c.args.answers.now c.put_opcodes.new.out c.refuse.new.answers c.in-Some.fault c.refuse.result
+    (λ other. (_, c.put_opcodes.ensures start refl, inr (_, lines, c.in-Some.fault, verdict.1, refl))) (λ memory. absurd (verdict.0 memory)) c.refuse.ensures
 
 pub returns-in-Ok : goal.returns-in-Ok
 returns-in-Ok g c =
@@ -54,5 +54,5 @@ returns-in-Ok g c =
 
 pub returns : goal.returns
 returns g c =
-    tells_refusal_as c.args.telling (SaysOpcodes c.args.telling c.args.list.bytes.now c.args.forms c.args.list.origin.place) g.A.Write.contents c.args.answers.now c.args.answers.now c.refuse_as-in-Err.new.answers c.in-Err.fault
-    c.refuse_as-in-Err.result (λ other. ([], writes_nil _, inl (is_refusal_as c.args.telling _ c.in-Err.fault (rw c.from.ensures at c.in-Err.ensures.refused) other))) (λ memory. ([], writes_nil _, refl)) c.refuse_as-in-Err.ensures
+    tells_refusal c.args.telling (SaysOpcodes c.args.telling c.args.list.bytes.now c.args.forms c.args.list.origin.place) g.A.Write.contents c.args.answers.now c.args.answers.now c.refuse-in-Err.new.answers c.in-Err.fault
+    c.refuse-in-Err.result (λ other. ([], writes_nil _, inl (is_refusal c.args.telling _ c.in-Err.fault (rw c.from.ensures at c.in-Err.ensures.refused) other))) (λ memory. ([], writes_nil _, refl)) c.refuse-in-Err.ensures

@@ -1,10 +1,11 @@
 use Rattle.std.proofs.Common.{[], true, false, inl, inr, refl, subst}
 use Rattle.std.specs.Io.Buffered.{writer_contents}
-use Rattle.session_steps.specs.Texts.{refused_at_text}
+use Rattle.audit_json.specs.declared.telling.Telling.TheVariants.{Lines}
+use Rattle.audit_answers.specs.Endings.{refused_at_told}
 use Rattle.audit_commands.specs.Auditing.{Asked, AuditsQuestion, BeginsAuditsQuestion, IsOpenRefusal, SaysQuestion, asked_of}
-use Rattle.audit_commands.specs.code.Listing.{listed}
-use Rattle.audit_commands.specs.declared.ended.Ended.TheVariants.{Done, Refused}
-use Rattle.audit_commands.proofs.EndingLemmas.{is_refusal, none_written, tells, tells_refusal}
+use Rattle.audit_answers.specs.code.Listing.{listed}
+use Rattle.audit_answers.specs.declared.ended.Ended.TheVariants.{Done, Refused}
+use Rattle.audit_answers.proofs.EndingLemmas.{is_refusal, none_written, tells, tells_refusal}
 use Rattle.audit_commands.proofs.question.tell_of.Goals as goal
 
 pub returns-in-Ok-true : goal.returns-in-Ok-true
@@ -29,11 +30,11 @@ returns-in-Err g c =
     let id = c.args.options.id in
     let same = c.given_of-given.ensures.asked in
     let begun = c.in-Err.ensures.begun in
-    tells_refusal (SaysQuestion (asked_of c.args.options.form_set c.args.files.now (listed c.args.list)) o id) g.A.Write.contents c.args.answers.now c.put_question_audit.new.out
+    tells_refusal Lines (SaysQuestion (asked_of c.args.options.form_set c.args.files.now (listed c.args.list)) o id) g.A.Write.contents c.args.answers.now c.put_question_audit.new.out
     c.refuse.new.answers c.in-Err.fault c.refuse.result
     (λ other. (
       [],
       none_written (writer_contents g.A.Write.contents) c.args.answers.now c.put_question_audit.new.out (c.in-Err.ensures.nothing other),
-      inr (subst (λ (a : Asked). IsOpenRefusal a (refused_at_text c.in-Err.fault)) same (is_refusal _ c.in-Err.fault c.in-Err.ensures.refused other)),
+      inr (subst (λ (a : Asked). IsOpenRefusal Lines a (refused_at_told Lines c.in-Err.fault)) same (is_refusal Lines _ c.in-Err.fault c.in-Err.ensures.refused other)),
     ))
     (λ memory. (begun.0, begun.2, (begun.0, subst (λ (a : Asked). BeginsAuditsQuestion a o id begun.0) same begun.1, refl))) c.refuse.ensures

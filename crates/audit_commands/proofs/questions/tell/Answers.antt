@@ -1,17 +1,15 @@
-use Rattle.std.proofs.Common.{subst}
-use Rattle.audit_commands.specs.Auditing.{Asked, SaysQuestions, asked_of}
-use Rattle.audit_commands.specs.Endings.{Tells}
-use Rattle.audit_commands.specs.code.Listing.{listed}
-use Rattle.audit_commands.proofs.ListingLemmas.{tells_listed, tells_unlisted}
+use Rattle.audit_json.specs.declared.telling.Telling.TheVariants.{Lines}
+use Rattle.audit_commands.specs.Auditing.{SaysQuestions, asked_of}
+use Rattle.audit_answers.specs.code.Listing.{listed}
+use Rattle.audit_answers.proofs.ListingLemmas.{tells_listed, tells_unlisted}
 use Rattle.audit_commands.proofs.questions.tell.Goals as goal
 
 pub returns-in-Ok : goal.returns-in-Ok
 returns-in-Ok g c =
-    let told = subst (λ (a : Asked). Tells (SaysQuestions a) g.A.Write.contents c.args.answers.now c.tell_of.result c.tell_of.new.answers) c.given_of.ensures.asked c.tell_of.ensures in
-    tells_listed (λ list. SaysQuestions (asked_of c.args.options c.args.files.now list)) g.A.Write.contents c.args.options.list.take c.args.files.now.list.bytes.items c.args.answers.now c.tell_of.new.answers
-    c.tell_of.result (listed c.in-Ok.list) (rw c.as_slice.ensures.value at c.in-Ok.ensures.listed) told
+    tells_listed Lines (λ list. SaysQuestions (asked_of c.args.options c.args.files.now list)) g.A.Write.contents c.args.options.list.take c.args.files.now.list.bytes.items
+    c.args.answers.now c.tell_of.new.answers c.tell_of.result (listed c.in-Ok.list) (rw c.as_slice.ensures.value at c.in-Ok.ensures.listed) c.tell_of.ensures
 
 pub returns-in-Err : goal.returns-in-Err
 returns-in-Err g c =
-    tells_unlisted (λ list. SaysQuestions (asked_of c.args.options c.args.files.now list)) g.A.Write.contents c.args.options.list.take c.args.files.now.list.bytes.items c.args.answers.now
-    c.refuse_list.new.answers c.refuse_list.result c.in-Err.none.number (rw c.as_slice.ensures.value at c.in-Err.ensures.unlisted) c.refuse_list.ensures
+    tells_unlisted Lines (λ list. SaysQuestions (asked_of c.args.options c.args.files.now list)) g.A.Write.contents c.args.options.list.take c.args.files.now.list.bytes.items
+    c.args.answers.now c.refuse_list.new.answers c.refuse_list.result c.in-Err.none.number (rw c.as_slice.ensures.value at c.in-Err.ensures.unlisted) c.refuse_list.ensures

@@ -1,18 +1,22 @@
-use Rattle.std.proofs.Common.{[], refl}
+use Rattle.std.proofs.Common.{[], refl, subst}
 use Rattle.std.specs.Io.Buffered.{writer_contents}
-use Rattle.audit_commands.specs.Auditing.{SaysQuestions}
-use Rattle.audit_commands.specs.code.Givens.{asked}
-use Rattle.audit_commands.specs.declared.ended.Ended.TheVariants.{Done}
-use Rattle.audit_commands.proofs.EndingLemmas.{is_refusal, none_written, tells, tells_refusal}
+use Rattle.audit_json.specs.declared.telling.Telling.TheVariants.{Lines}
+use Rattle.audit_answers.specs.Endings.{refused_at_told}
+use Rattle.audit_commands.specs.Auditing.{Asked, Audits, IsOpenRefusal, SaysQuestions, asked_of}
+use Rattle.audit_answers.specs.code.Listing.{listed}
+use Rattle.audit_answers.specs.declared.ended.Ended.TheVariants.{Done}
+use Rattle.audit_answers.proofs.EndingLemmas.{is_refusal, none_written, tells, tells_refusal}
 use Rattle.audit_commands.proofs.questions.tell_of.Goals as goal
 
 pub returns-in-Ok : goal.returns-in-Ok
 returns-in-Ok g c =
     let told = c.in-Ok.ensures.told in
-    tells (SaysQuestions (asked c.args.given)) g.A.Write.contents c.args.answers.now c.finish.new.answers _ Done c.finish.result told.0 told.1 told.2 c.finish.ensures
+    tells (SaysQuestions (asked_of c.args.options c.args.files.now (listed c.args.list))) g.A.Write.contents c.args.answers.now c.finish.new.answers _ Done c.finish.result told.0
+    (subst (λ (a : Asked). Audits a told.0) c.given_of-given.ensures.asked told.1) told.2 c.finish.ensures
 
 pub returns-in-Err : goal.returns-in-Err
 returns-in-Err g c =
     let none = none_written (writer_contents g.A.Write.contents) c.args.answers.now c.put_audit.new.out c.in-Err.ensures.nothing in
-    tells_refusal (SaysQuestions (asked c.args.given)) g.A.Write.contents c.args.answers.now c.put_audit.new.out c.refuse.new.answers c.in-Err.fault c.refuse.result
-    (λ other. ([], none, is_refusal _ c.in-Err.fault c.in-Err.ensures.refused other)) (λ memory. ([], none, refl)) c.refuse.ensures
+    tells_refusal Lines (SaysQuestions (asked_of c.args.options c.args.files.now (listed c.args.list))) g.A.Write.contents c.args.answers.now c.put_audit.new.out c.refuse.new.answers c.in-Err.fault c.refuse.result
+    (λ other. ([], none, subst (λ (a : Asked). IsOpenRefusal Lines a (refused_at_told Lines c.in-Err.fault)) c.given_of-given.ensures.asked (is_refusal Lines _ c.in-Err.fault c.in-Err.ensures.refused other)))
+    (λ memory. ([], none, refl)) c.refuse.ensures

@@ -12,5 +12,6 @@ returns c =
     let with_take = c.with_arg-command.ensures _ _ with_list c.take_of_dump.ensures in
     let with_image = c.with_arg-command-2.ensures _ _ with_take c.image_of_stores.ensures in
     let with_with = c.with_arg-command-3.ensures _ _ with_image is_with in
-    let with_forms = c.with_arg-command-4.ensures _ _ with_with c.forms.ensures in
+    let with_json = c.with_arg-command-4.ensures _ _ with_with c.json.ensures in
+    let with_forms = c.with_arg-command-5.ensures _ _ with_json c.forms.ensures in
     c.with_arg.ensures _ _ with_forms c.lang.ensures

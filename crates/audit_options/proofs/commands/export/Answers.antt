@@ -14,4 +14,5 @@ returns c =
     let with_out = c.with_arg-command-4.ensures _ _ with_id c.option-out.ensures in
     let with_lines = c.with_arg-command-5.ensures _ _ with_out c.flag-lines.ensures in
     let with_with = c.with_arg-command-6.ensures _ _ with_lines c.option-with.ensures in
-    c.with_arg.ensures _ _ with_with c.forms.ensures
+    let with_json = c.with_arg-command-7.ensures _ _ with_with c.json.ensures in
+    c.with_arg.ensures _ _ with_json c.forms.ensures

@@ -19,5 +19,6 @@ returns c =
     let with_config = c.with_arg-command-5.ensures _ _ with_efivars c.option-config.ensures in
     let with_zero = c.with_arg-command-6.ensures _ _ with_config c.flag-zero.ensures in
     let with_defaults = c.with_arg-command-7.ensures _ _ with_zero c.defaults.ensures in
-    let with_forms = c.with_arg-command-8.ensures _ _ with_defaults c.forms.ensures in
+    let with_json = c.with_arg-command-8.ensures _ _ with_defaults c.json.ensures in
+    let with_forms = c.with_arg-command-9.ensures _ _ with_json c.forms.ensures in
     c.with_arg.ensures _ _ with_forms c.lang.ensures

@@ -10,5 +10,6 @@ returns c =
     let with_list = IfOk-weaker c.arg-command.result _ _ (λ r adds. argument_added _ _ _ _ _ bare c.list.ensures adds) c.arg-command.ensures in
     let with_take = c.with_arg-command.ensures _ _ with_list c.take_of_dump.ensures in
     let with_image = c.with_arg-command-2.ensures _ _ with_take c.image_of_stores.ensures in
-    let with_forms = c.with_arg-command-3.ensures _ _ with_image c.forms.ensures in
+    let with_json = c.with_arg-command-3.ensures _ _ with_image c.json.ensures in
+    let with_forms = c.with_arg-command-4.ensures _ _ with_json c.forms.ensures in
     c.with_arg.ensures _ _ with_forms c.lang.ensures

@@ -10,4 +10,5 @@ returns c =
     let is_dump : IsArg (required_option (codes "dump")) c.required-dump.result = record { read_by = search rules; local = search rules } in
     let with_dump = IfOk-weaker c.arg-command.result _ _ (λ r adds. argument_added _ _ _ _ _ bare is_dump adds) c.arg-command.ensures in
     let with_take = c.with_arg-command.ensures _ _ with_dump c.take-take.ensures in
-    c.with_arg.ensures _ _ with_take c.option-out.ensures
+    let with_out = c.with_arg-command-2.ensures _ _ with_take c.option-out.ensures in
+    c.with_arg.ensures _ _ with_out c.json.ensures

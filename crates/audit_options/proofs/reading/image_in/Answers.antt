@@ -13,5 +13,6 @@ returns-clause-asked c = record {
   config = c.get_str-3.ensures ∙ first_value-rows (found_of c.args.options.now) (codes "config");
   zero = flag_read (found_of c.args.options.now) (codes "zero") _ c.get_flag.ensures.none c.get_flag.ensures.value c.get_flag.ensures.other;
   defaults = given_read 16 (found_of c.args.options.now) (codes "defaults") c.get_one.result c.get_one.ensures.none c.get_one.ensures.value;
+  json = flag_read (found_of c.args.options.now) (codes "json") _ c.get_flag-2.ensures.none c.get_flag-2.ensures.value c.get_flag-2.ensures.other;
   lang = text_read (found_of c.args.options.now) (codes "lang") c.get_str-4.result _ _ c.get_str-4.ensures c.unwrap_or-2.ensures;
 }

@@ -2,7 +2,7 @@ use Rattle.std.proofs.Common.{◌∙◌, ap, codes, inl, inr, is_some, option_ma
 use Rattle.clap.specs.Words.{found_of, one_of, rows_of}
 use Rattle.clap.proofs.WalkLemmas.{first_value-rows}
 use Rattle.audit_options.specs.Asked.{AsksTaken, ReadsIfGiven}
-use Rattle.audit_options.proofs.ReadingLemmas.{given_read, text_read}
+use Rattle.audit_options.proofs.ReadingLemmas.{flag_read, given_read, text_read}
 use Rattle.audit_options.proofs.reading.split_in.Goals.{in-Some-Some, in-None-None, in_default-via-in-Some+in_default, in_default-via-in-None+in_default}
 use Rattle.audit_options.proofs.reading.split_in.Goals as goal
 
@@ -22,6 +22,7 @@ returns-clause-asked c =
           sym (first_value-rows found (codes "out")) ∙ sym c.get_str.ensures ∙ ap (option_map (λ s. s.now)) w.in-None-None.is-1,
         )
       ];
+      json = flag_read found (codes "json") _ c.get_flag.ensures.none c.get_flag.ensures.value c.get_flag.ensures.other;
     }
 
 pub returns-in_default-clause-misused : goal.returns-in_default-clause-misused

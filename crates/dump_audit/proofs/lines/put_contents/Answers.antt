@@ -1,7 +1,8 @@
-use Rattle.std.proofs.Common.{◌≡◌, Some, sym, ap, ◌∙◌}
+use Rattle.std.proofs.Common.{◌≡◌, Some, refl, sym, ap, ◌∙◌}
 use Rattle.hii_bytes.proofs.WritingLemmas.{◌⨾◌}
 use Rattle.browser_rules.specs.Strings as chapter
 use Rattle.hii_languages.specs.code.Views.{chars_left}
+use Rattle.dump_audit.specs.Lines.{title_text}
 use Rattle.dump_audit.specs.code.Heard.{Heard, shown_in_first}
 use Rattle.dump_audit.proofs.ContentLemmas.{shown_first}
 use Rattle.dump_audit.proofs.LineLemmas.{no_title, with_title}
@@ -15,10 +16,10 @@ returns-in-Some g c = λ spoken kept.
     let languages = rw (ap (λ (h : Heard). h.languages) kept) at c.put_languages.ensures in
     let before = rw c.forms_count.ensures at (c.put.ensures ⨾ c.put_decimal.ensures ⨾ c.put_form_sets-title.ensures.text ⨾ c.put-2.ensures ⨾ languages) in
     let title = rw shown at (c.put-in-Some.ensures ⨾ c.put_safe_shown.ensures) in
-    with_title spoken _ id (sym c.put_form_sets-title.ensures.title ∙ c.in-Some.is) before title
+    with_title (title_text spoken) _ id (sym c.put_form_sets-title.ensures.title ∙ c.in-Some.is) before title
 
 pub returns-in_default : goal.returns-in_default
 returns-in_default g c = λ spoken kept.
     let languages = rw (ap (λ (h : Heard). h.languages) kept) at c.put_languages.ensures in
     let before = rw c.forms_count.ensures at (c.put.ensures ⨾ c.put_decimal.ensures ⨾ c.put_form_sets-title.ensures.text ⨾ c.put-2.ensures ⨾ languages) in
-    no_title spoken _ (sym c.put_form_sets-title.ensures.title ∙ c.in_default.is) before
+    no_title (title_text spoken) _ refl (sym c.put_form_sets-title.ensures.title ∙ c.in_default.is) before

@@ -3,7 +3,7 @@ use Rattle.ifr_scopes.specs.code.Lists.{statement_node}
 use Rattle.form_page.specs.RowValues.{choice}
 use Rattle.form_page.specs.code.PageViews.{texts_of, world_of}
 use Rattle.form_audit.specs.QuestionLines.{unguarded}
-use Rattle.form_audit.proofs.ShownLemmas.{safe_later}
+use Rattle.form_audit.proofs.ShownLemmas.{escaped_later}
 use Rattle.form_audit.proofs.shown_values.put_later_choices.Goals as goal
 
 pub loop-item-init : goal.loop-item-init
@@ -12,4 +12,4 @@ loop-item-init g c = Stands-start _ _
 pub loop-item-preserved : goal.loop-item-preserved
 loop-item-preserved g c =
     let told = choice (texts_of c.args.page) (unguarded (world_of c.args.page)) (statement_node c.args.statement) in
-    past_piece _ _ _ _ _ _ _ (safe_later told _ _ _ c.in-Some.ensures) c.loop-item.invariant (c.put.ensures ⨾ c.put_choice.ensures)
+    past_piece _ _ _ _ _ _ _ (escaped_later c.args.how told _ _ _ c.in-Some.ensures) c.loop-item.invariant (c.put.ensures ⨾ c.put_choice.ensures)

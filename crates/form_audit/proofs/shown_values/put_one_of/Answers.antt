@@ -5,10 +5,10 @@ use Rattle.ifr_scopes.specs.code.Lists.{statement_node}
 use Rattle.form_page.specs.RowValues.{choice}
 use Rattle.form_page.specs.code.PageViews.{texts_of, world_of}
 use Rattle.form_audit.specs.QuestionLines.{unguarded}
-use Rattle.form_audit.proofs.ShownLemmas.{safe_one_of}
+use Rattle.form_audit.proofs.ShownLemmas.{escaped_one_of}
 use Rattle.form_audit.proofs.shown_values.put_one_of.Goals as goal
 
 pub returns-in-Number : goal.returns-in-Number
 returns-in-Number g c =
     let its = choice (texts_of c.args.page) (unguarded (world_of c.args.page)) (statement_node c.args.statement) c.in-Number.number in
-    rw c.in-Number.is (subst (Writes _ _) (safe_one_of its) (c.put.ensures ⨾ c.put_choice.ensures ⨾ c.put-in-Number.ensures))
+    rw c.in-Number.is (subst (Writes _ _) (escaped_one_of c.args.how its) (c.put.ensures ⨾ c.put_choice.ensures ⨾ c.put-in-Number.ensures))

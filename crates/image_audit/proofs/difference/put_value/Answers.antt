@@ -1,8 +1,7 @@
-use Rattle.hii_bytes.proofs.WritingLemmas.{◌⨾◌}
 use Rattle.image_audit.proofs.difference.put_value.Goals as goal
 
-pub returns : goal.returns
-returns g c =
-    rw (c.from.ensures, c.id.ensures, c.chars.ensures, c.text.ensures, c.prompt.ensures, c.op.ensures.bytes, c.statement.ensures) at
-    (c.put.ensures ⨾ c.put_decimal.ensures ⨾ c.put-2.ensures ⨾ c.put_safe_shown.ensures ⨾ c.put-3.ensures ⨾ c.put_told_value.ensures ⨾ c.put-4.ensures ⨾ c.put_told_value-2.ensures
-    ⨾ c.put-5.ensures)
+pub returns-in-Lines : goal.returns-in-Lines
+returns-in-Lines g c = rw c.in-Lines.is c.put_value_line.ensures
+
+pub returns-in-Objects : goal.returns-in-Objects
+returns-in-Objects g c = rw c.in-Objects.is c.put_value_object.ensures

@@ -10,7 +10,7 @@ use Rattle.hii_questions.specs.code.LyingIn.{LieIn, LiesIn}
 use Rattle.hii_questions.specs.code.Views.{question_view}
 use Rattle.guard_policy.specs.code.Views.{bytes_of}
 use Rattle.form_audit.specs.code.Pages.{audited}
-use Rattle.image_audit.specs.Difference.{value_line}
+use Rattle.image_audit.specs.Difference.{value_told_as}
 use Rattle.image_audit.proofs.AskedLemmas.{IsAskedOf, questions_are_asked}
 use Rattle.image_audit.proofs.TellingLemmas.{all_left, past_failing, past_passing}
 use Rattle.image_audit.proofs.difference.put_values.Goals as goal
@@ -19,7 +19,7 @@ pub loop-question-init : goal.loop-question-init
 loop-question-init g c =
     let one = c.args.one in
     let bytes = bytes_of one.policy in
-    let line = λ (q : Asked). value_line (audited one) (audited c.args.other) q.node in
+    let line = value_told_as c.args.telling (audited one) (audited c.args.other) in
     let all : questions_left c.all-left.result ≡ questions (nodes_of bytes) = c.all-left.ensures ∙ ap (λ (b : List ℕ). questions (nodes_of b)) c.questions.ensures.own in
     record {
       can = search rules;
@@ -44,7 +44,7 @@ pub loop-question-preserved-then-differs : goal.loop-question-preserved-then-dif
 loop-question-preserved-then-differs g c =
     let one = c.args.one in
     let other = c.args.other in
-    let line = λ (q : Asked). value_line (audited one) (audited other) q.node in
+    let line = value_told_as c.args.telling (audited one) (audited other) in
     let q = question_view c.in-Some.question in
     let steps = c.in-Some.ensures.steps in
     let inv = c.loop-question.invariant in
@@ -61,7 +61,7 @@ pub loop-question-preserved : goal.loop-question-preserved
 loop-question-preserved g c =
     let one = c.args.one in
     let other = c.args.other in
-    let line = λ (q : Asked). value_line (audited one) (audited other) q.node in
+    let line = value_told_as c.args.telling (audited one) (audited other) in
     let q = question_view c.in-Some.question in
     let steps = c.in-Some.ensures.steps in
     let inv = c.loop-question.invariant in

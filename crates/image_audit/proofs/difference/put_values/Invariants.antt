@@ -8,7 +8,7 @@ use Rattle.hii_questions.specs.code.Lists.{questions_left}
 use Rattle.hii_questions.specs.code.LyingIn.{LieIn}
 use Rattle.guard_policy.specs.code.Views.{bytes_of}
 use Rattle.form_audit.specs.code.Pages.{audited}
-use Rattle.image_audit.specs.Difference.{value_line, values_text}
+use Rattle.image_audit.specs.Difference.{value_told_as, values_told}
 use Rattle.image_audit.proofs.AskedLemmas.{IsAskedOf}
 use Rattle.image_audit.proofs.difference.put_values.Given as goal
 
@@ -22,6 +22,6 @@ invariant-loop-question g l =
       ends : (goal.iterator-loop-question g).is_finite l.left;
       asked : AllByRecursion (IsAskedOf (bytes_of l.one.policy)) (questions_left l.left);
       lie : LieIn (shape_of l.one.stores.now) (questions_left l.left);
-      text : Stands (pen_of g.W.Write.contents l.fn.out) (pen_of g.W.Write.contents l.out) (values_text a b)
-          (flat_map (λ q. value_line a b q.node) (filter (holds_others a.stores b.stores) (questions_left l.left)));
+      text : Stands (pen_of g.W.Write.contents l.fn.out) (pen_of g.W.Write.contents l.out) (values_told l.telling a b)
+          (flat_map (value_told_as l.telling a b) (filter (holds_others a.stores b.stores) (questions_left l.left)));
     }

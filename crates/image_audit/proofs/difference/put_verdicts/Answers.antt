@@ -14,7 +14,7 @@ use Rattle.guard_policy.specs.declared.support.Decision.TheVariants.{Changeable}
 use Rattle.form_page.specs.code.PageViews.{world_of}
 use Rattle.form_audit.specs.code.Pages.{audited}
 use Rattle.form_audit.proofs.KeptLemmas.{kept_told}
-use Rattle.image_audit.specs.Difference.{decides_otherwise, verdict_line}
+use Rattle.image_audit.specs.Difference.{decides_otherwise, verdict_told}
 use Rattle.image_audit.proofs.AskedLemmas.{IsAskedOf, questions_are_asked}
 use Rattle.image_audit.proofs.TellingLemmas.{all_left, past_failing, past_passing}
 use Rattle.image_audit.proofs.difference.put_verdicts.Goals as goal
@@ -24,7 +24,7 @@ pub loop-question-init : goal.loop-question-init
 loop-question-init g c =
     let one = c.args.one in
     let bytes = bytes_of one.policy in
-    let line = λ (q : Asked). verdict_line (audited one) (audited c.args.other) q.node in
+    let line = λ (q : Asked). verdict_told c.args.telling (audited one) (audited c.args.other) q.node in
     let all : questions_left c.all-left.result ≡ questions (nodes_of bytes) = c.all-left.ensures ∙ ap (λ (b : List ℕ). questions (nodes_of b)) c.questions.ensures.own in
     record {
       can = search rules;
@@ -71,7 +71,7 @@ pub loop-question-preserved-then-are_other_verdicts : goal.loop-question-preserv
 loop-question-preserved-then-are_other_verdicts g c =
     let one = c.args.one in
     let other = c.args.other in
-    let line = λ (q : Asked). verdict_line (audited one) (audited other) q.node in
+    let line = λ (q : Asked). verdict_told c.args.telling (audited one) (audited other) q.node in
     let q = question_view c.in-Some.question in
     let steps = c.in-Some.ensures.steps in
     let inv = c.loop-question.invariant in
@@ -83,14 +83,14 @@ loop-question-preserved-then-are_other_verdicts g c =
       can = search rules;
       ends = search rules;
       asked = (subst (AllByRecursion (IsAskedOf (bytes_of one.policy))) steps inv.asked).1;
-      text = past_passing line (decides_otherwise (audited one) (audited other)) _ _ _ _ _ _ q steps told inv.text (c.put_verdict_line.ensures (audited other) a b);
+      text = past_passing line (decides_otherwise (audited one) (audited other)) _ _ _ _ _ _ q steps told inv.text (c.put_verdict_told.ensures (audited other) a b);
     }
 
 pub loop-question-preserved : goal.loop-question-preserved
 loop-question-preserved g c =
     let one = c.args.one in
     let other = c.args.other in
-    let line = λ (q : Asked). verdict_line (audited one) (audited other) q.node in
+    let line = λ (q : Asked). verdict_told c.args.telling (audited one) (audited other) q.node in
     let q = question_view c.in-Some.question in
     let steps = c.in-Some.ensures.steps in
     let inv = c.loop-question.invariant in

@@ -5,7 +5,7 @@ use Rattle.hii_bytes.specs.code.Writing.{Stands}
 use Rattle.hii_questions.specs.code.Lists.{questions_left}
 use Rattle.guard_policy.specs.code.Views.{bytes_of}
 use Rattle.form_audit.specs.code.Pages.{audited}
-use Rattle.image_audit.specs.Difference.{decides_otherwise, verdict_line, verdicts_text}
+use Rattle.image_audit.specs.Difference.{decides_otherwise, verdict_told, verdicts_told}
 use Rattle.image_audit.proofs.AskedLemmas.{IsAskedOf}
 use Rattle.image_audit.proofs.difference.put_verdicts.Given as goal
 
@@ -18,6 +18,6 @@ invariant-loop-question g l =
       can : (goal.iterator-loop-question g).can_next l.left;
       ends : (goal.iterator-loop-question g).is_finite l.left;
       asked : AllByRecursion (IsAskedOf (bytes_of l.one.policy)) (questions_left l.left);
-      text : Stands (pen_of g.W.Write.contents l.fn.out) (pen_of g.W.Write.contents l.out) (verdicts_text a b)
-          (flat_map (λ q. verdict_line a b q.node) (filter (decides_otherwise a b) (questions_left l.left)));
+      text : Stands (pen_of g.W.Write.contents l.fn.out) (pen_of g.W.Write.contents l.out) (verdicts_told l.telling a b)
+          (flat_map (λ q. verdict_told l.telling a b q.node) (filter (decides_otherwise a b) (questions_left l.left)));
     }

@@ -2,7 +2,7 @@ use Rattle.std.proofs.Common.{◌∙◌, ◌+◌, arith, length, length-append, 
 use Rattle.std.specs.Slice.Iter.{chunks_rest}
 use Rattle.hii_bytes.proofs.WritingLemmas.{Stands-start, past_piece}
 use Rattle.ifr_nodes.specs.Nodes.{nodes_of}
-use Rattle.image_audit.specs.Lines.{bytes_lines, piece_line}
+use Rattle.image_audit.specs.Lines.{bytes_told, piece_told}
 use Rattle.image_audit.proofs.PieceLemmas.{one_piece}
 use Rattle.image_audit.proofs.lines.put_bytes.Goals as goal
 
@@ -34,6 +34,6 @@ loop-piece-preserved g c =
       count = inv.count + 1;
       at = omega (arith, inv.at);
       left = omega (arith, inv.left, size, sum);
-      text = past_piece _ _ _ _ _ (piece_line ns c.args.store c.loop-piece.at chunk) (bytes_lines ns c.args.store (c.loop-piece.at + 8) after)
-          (one_piece ns c.args.store c.loop-piece.at left chunk after steps.1.0 size steps.1.2) inv.text c.put_piece.ensures;
+      text = past_piece _ _ _ _ _ (piece_told c.args.telling ns c.args.id c.args.store c.loop-piece.at chunk) (bytes_told c.args.telling ns c.args.id c.args.store (c.loop-piece.at + 8) after)
+          (one_piece c.args.telling ns c.args.id c.args.store c.loop-piece.at left chunk after steps.1.0 size steps.1.2) inv.text c.put_piece.ensures;
     }

@@ -1,5 +1,7 @@
-use Rattle.hii_bytes.proofs.WritingLemmas.{◌⨾◌}
 use Rattle.image_audit.proofs.lines.put_piece.Goals as goal
 
-pub returns : goal.returns
-returns g c = c.put_range.ensures ⨾ c.put.ensures ⨾ c.put_number.ensures ⨾ c.put-2.ensures
+pub returns-in-Lines : goal.returns-in-Lines
+returns-in-Lines g c = rw c.in-Lines.is c.put_piece_line.ensures
+
+pub returns-in-Objects : goal.returns-in-Objects
+returns-in-Objects g c = rw c.in-Objects.is c.put_piece_object.ensures

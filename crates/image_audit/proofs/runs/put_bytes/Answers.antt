@@ -12,12 +12,12 @@ pub loop-store-init : goal.loop-store-init
 loop-store-init g c = record {
   can = search rules;
   ends = search rules;
-  text = all_left (λ (n : Node). held_runs (nodes_of c.args.forms.now) (store_id n.op) (bytes_of c.args.one.now (store_id n.op)) (bytes_of c.args.other.now (store_id n.op))) _ _ _ c.stores-stores.ensures.stores;
+  text = all_left (λ (n : Node). held_runs c.args.telling (nodes_of c.args.forms.now) (store_id n.op) (bytes_of c.args.one.now (store_id n.op)) (bytes_of c.args.other.now (store_id n.op))) _ _ _ c.stores-stores.ensures.stores;
 }
 
 pub loop-store-preserved : goal.loop-store-preserved
 loop-store-preserved g c =
-    let line = λ (n : Node). held_runs (nodes_of c.args.forms.now) (store_id n.op) (bytes_of c.args.one.now (store_id n.op)) (bytes_of c.args.other.now (store_id n.op)) in
+    let line = λ (n : Node). held_runs c.args.telling (nodes_of c.args.forms.now) (store_id n.op) (bytes_of c.args.one.now (store_id n.op)) (bytes_of c.args.other.now (store_id n.op)) in
     record {
       can = search rules;
       ends = search rules;

@@ -1,7 +1,7 @@
-use Rattle.hii_bytes.proofs.WritingLemmas.{◌⨾◌}
 use Rattle.image_audit.proofs.runs.put_run.Goals as goal
 
-pub returns : goal.returns
-returns g c =
-    rw c.differing-width.ensures.count at
-    (c.put.ensures ⨾ c.put_range.ensures ⨾ c.put-2.ensures ⨾ c.put_digits.ensures ⨾ c.put-3.ensures ⨾ c.put_digits-2.ensures ⨾ c.put-4.ensures)
+pub returns-in-Lines : goal.returns-in-Lines
+returns-in-Lines g c = rw c.in-Lines.is c.put_run_line.ensures
+
+pub returns-in-Objects : goal.returns-in-Objects
+returns-in-Objects g c = rw c.in-Objects.is c.put_run_object.ensures

@@ -4,4 +4,4 @@ use Rattle.question_audit.proofs.limits_facts.put_range.Goals as goal
 pub returns : goal.returns
 returns g c =
     rw (c.minimum.ensures, c.maximum.ensures) at
-    (c.put_column.ensures ⨾ (c.put_number.ensures ⨾ c.put.ensures ⨾ c.put_number-2.ensures ⨾ c.put_step.ensures) ⨾ c.put-2.ensures)
+    (c.put_column.ensures ⨾ (c.put_shown_number.ensures ⨾ c.put.ensures ⨾ c.put_shown_number-2.ensures ⨾ c.put_step.ensures) ⨾ c.put-2.ensures)

@@ -1,7 +1,7 @@
-use Rattle.hii_bytes.proofs.WritingLemmas.{◌⨾◌}
 use Rattle.store_audit.proofs.fillings.put_filling.Goals as goal
 
-pub returns : goal.returns
-returns g c =
-    rw c.given.ensures
-    at (c.put.ensures ⨾ c.put_names.ensures ⨾ c.put-2.ensures ⨾ c.put_decimal.ensures ⨾ c.put-3.ensures ⨾ c.put_source.ensures ⨾ c.put-4.ensures)
+pub returns-in-Lines : goal.returns-in-Lines
+returns-in-Lines g c = rw c.in-Lines.is c.put_filling_line.ensures
+
+pub returns-in-Objects : goal.returns-in-Objects
+returns-in-Objects g c = rw c.in-Objects.is c.put_filling_object.ensures

@@ -9,4 +9,4 @@ pub returns-clause-text : goal.returns-clause-text
 returns-clause-text g c =
     let laid = rw c.forms.ensures at c.lay_defaults-count.ensures.laid in
     let count : c.lay_defaults-count.result ≡ (laid_over c.args.declared.now (defaults_view c.args.defaults) c.args.stores.now).count = sym (ap (λ (l : Laid). l.count) laid) in
-    rw count at (c.put.ensures ⨾ c.put_decimal.ensures ⨾ c.put-2.ensures ⨾ (rw c.from.ensures at c.put_decimal-2.ensures) ⨾ c.put-3.ensures)
+    c.put_count.ensures (laid_over c.args.declared.now (defaults_view c.args.defaults) c.args.stores.now) (sym count)

@@ -1,9 +1,0 @@
-use Rattle.std.proofs.Common.{inl, refl}
-use Rattle.audit_commands.specs.Imaging.{SaysImage}
-use Rattle.audit_commands.proofs.EndingLemmas.{is_refusal, tells_fault}
-use Rattle.audit_commands.proofs.image.make_of.Goals as goal
-
-pub returns-in-Err-clause-told : goal.returns-in-Err-clause-told
-returns-in-Err-clause-told g c =
-    tells_fault (SaysImage (g.F.StoreFiles.known c.args.files.now) c.args.options.now c.args.list.now) g.A.Write.contents g.O.Write.contents c.args.answers.now c.refuse.new.answers
-    c.args.out.now c.args.out.now c.in-Err.fault c.refuse.result (λ other. inl (is_refusal _ c.in-Err.fault c.in-Err.ensures.refused other)) (λ memory. refl) c.refuse.ensures refl

@@ -1,6 +1,0 @@
--- A list that is given, without where its bytes lie in memory.
-use Rattle.audit_commands.specs.Listing.{Listed}
-use Rattle.audit_commands.specs.declared.given.GivenList.{GivenList}
-
-abbrev pub listed : GivenList → Listed
-listed list = record { bytes = list.bytes.now; origin = list.origin }

@@ -1,0 +1,12 @@
+use Rattle.std.proofs.Common.{codes, [], rules}
+use Rattle.std.proofs.lemmas.Result.{IfOk-weaker}
+use Rattle.audit_options.specs.CommandLine.{IsCommand, command_of}
+use Rattle.audit_options.proofs.BuildingLemmas.{argument_added}
+use Rattle.audit_options.proofs.commands.check.Goals as goal
+
+pub returns : goal.returns
+returns c =
+    let bare : IsCommand (command_of (codes "check") []) c.about-command.result = record { read_as = search rules; local = search rules } in
+    let with_list = IfOk-weaker c.arg-command.result _ _ (λ r adds. argument_added _ _ _ _ _ bare c.list.ensures adds) c.arg-command.ensures in
+    let with_take = c.with_arg-command.ensures _ _ with_list c.take_of_dump.ensures in
+    c.with_arg.ensures _ _ with_take c.json.ensures

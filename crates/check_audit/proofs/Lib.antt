@@ -1,0 +1,5 @@
+mod CheckLemmas
+mod CountLemmas
+mod RefusalLemmas
+mod SeenLemmas
+mod SessionLemmas

@@ -1,0 +1,5 @@
+use Rattle.hii_bytes.proofs.WritingLemmas.{◌⨾◌}
+use Rattle.check_audit.proofs.refusal.put_byte_object.Goals as goal
+
+pub returns : goal.returns
+returns g c = c.put_kind.ensures ⨾ c.put_number.ensures ⨾ c.end_object.ensures

@@ -1,0 +1,5 @@
+use Rattle.hii_bytes.proofs.WritingLemmas.{◌⨾◌}
+use Rattle.check_audit.proofs.refusal.put_mostly_line.Goals as goal
+
+pub returns : goal.returns
+returns g c = c.put_left.ensures ⨾ c.put.ensures ⨾ c.put-2.ensures

@@ -1,0 +1,32 @@
+-- What is found of a forms package: how much it has, or its least fault (own rule; UEFI 2.8, 33.3.8 Forms Package).
+use Rattle.std.specs.Prelude.{◌≡◌, ℕ, Bool, true, false, List, filter, length}
+use Rattle.hii_bytes.specs.Faults.{HasNone, IsLeast, Then}
+use Rattle.hii_bytes.specs.declared.cause.Cause.{Cause}
+use Rattle.ifr_nodes.specs.Nodes.{nodes_of, is_form, is_store}
+use Rattle.hii_questions.specs.Fields.{questions}
+use Rattle.session_steps.specs.Opening.{IsFormSetFault, IsSourceFault, IsTextFault}
+use Rattle.check_audit.specs.declared.verdict.Counts.{Counts}
+use Rattle.check_audit.specs.declared.verdict.Verdict.{Verdict}
+use Rattle.check_audit.specs.declared.verdict.Verdict.TheVariants.{Good, Refused}
+
+-- the faults of a list for which none of its forms packages is looked at: of its packages, then that it has no forms package, then
+-- of its string packages
+abbrev pub IsListFault : List ℕ → Cause → ℕ → Type 0
+IsListFault list = Then (IsSourceFault list 1) (IsTextFault list)
+
+-- how many forms, questions and stores a forms package has
+abbrev pub counts_of : List ℕ → Counts
+counts_of ifr = record {
+  forms = length (filter is_form (nodes_of ifr));
+  questions = length (questions (nodes_of ifr));
+  stores = length (filter is_store (nodes_of ifr));
+}
+
+-- A forms package has no fault of its own, and this much; or this is the least fault, whatever the image of its stores.
+abbrev pub IsVerdict : List ℕ → Verdict → Type 0
+IsVerdict ifr (Good counts) = HasNone (IsFormSetFault ifr) × (counts ≡ counts_of ifr)
+IsVerdict ifr (Refused fault) = IsLeast (IsFormSetFault ifr) fault
+
+abbrev pub is_good : Verdict → Bool
+is_good (Good counts) = true
+is_good (Refused fault) = false

@@ -1,0 +1,2 @@
+-- How structs of the code are seen. No module outside of this folder cites one of it.
+pub mod Settings

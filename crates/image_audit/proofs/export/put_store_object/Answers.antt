@@ -1,0 +1,5 @@
+use Rattle.hii_bytes.proofs.WritingLemmas.{◌⨾◌}
+use Rattle.image_audit.proofs.export.put_store_object.Goals as goal
+
+pub returns : goal.returns
+returns g c = c.put_kind.ensures ⨾ c.put_store_members.ensures ⨾ c.end_object.ensures

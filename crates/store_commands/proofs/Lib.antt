@@ -1,0 +1,4 @@
+pub mod ImagingLemmas
+pub mod SourceLemmas
+pub mod TextLemmas
+pub mod ExportingLemmas

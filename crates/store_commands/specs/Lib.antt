@@ -1,0 +1,9 @@
+pub mod Saying
+pub mod Storing
+pub mod Files
+pub mod Configured
+pub mod Defaulting
+pub mod Imaging
+pub mod Sources
+pub mod Exporting
+pub mod code
