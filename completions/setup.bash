@@ -23,9 +23,10 @@ _setup_audit() {
         image) _setup_words "--list --take --out --store --efivars --config --zero --defaults --json --forms --lang --help" ;;
         questions) _setup_words "--list --take --stores --json --forms --lang --help" ;;
         question) _setup_words "--list --take --stores --id --json --forms --lang --help" ;;
+        apply) _setup_words "--list --take --stores --script --out --json --forms --lang --help" ;;
         export) _setup_words "--list --take --stores --id --out --lines --with --json --forms --help" ;;
         diff) _setup_words "--list --take --stores --with --json --forms --lang --help" ;;
-        *) _setup_words "split stores check opcodes image questions question export diff help --help --version" ;;
+        *) _setup_words "split stores check opcodes image questions question apply export diff help --help --version" ;;
     esac
 }
 

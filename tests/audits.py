@@ -63,6 +63,10 @@ def of_example(name):
     yield AuditRun("image for " + name, ["image", *words, "--zero"], told(name + ".image"), told(image), True)
     words += ["--stores", os.path.join(AUDIT, image)]
     yield AuditRun("questions of " + name, ["questions", *words], told(name + ".questions"))
+    if name == "rules":
+        yield AuditRun("questions of rules as objects", ["questions", *words, "--json"], told("rules.questions.json"))
+    else:
+        yield AuditRun("question 33 as an object", ["question", *words, "--id", "33", "--json"], told("station.question.33.json"))
     ids = [file.rsplit(".", 1)[1] for file in os.listdir(AUDIT) if re.fullmatch(name + r"\.question\.\d+", file)]
     for id in sorted(ids, key=int):
         yield AuditRun("question %s of %s" % (id, name), ["question", *words, "--id", id], told("%s.question.%s" % (name, id)))

@@ -1,3 +1,4 @@
 pub mod SplittingLemmas
 pub mod JudgingLemmas
 pub mod DifferingLemmas
+pub mod AuditingLemmas

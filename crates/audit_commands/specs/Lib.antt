@@ -3,4 +3,5 @@ pub mod Opcodes
 pub mod Auditing
 pub mod Differing
 pub mod Checking
+pub mod Applying
 pub mod code

@@ -2,6 +2,7 @@
 //! (own rule).
 #![tactic(auto)]
 
+pub mod apply;
 mod auditing;
 pub mod check;
 pub mod difference;

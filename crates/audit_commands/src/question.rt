@@ -1,7 +1,7 @@
 //! `question`: what is known of one question.
 
 ghost use Rattle.std.specs.Prelude.{◌≡◌, ◌≢◌, IfErr};
-ghost use Rattle.audit_json.specs.declared.telling.Telling.TheVariants.{Lines};
+ghost use Rattle.audit_json.specs.Telling.{asked};
 ghost use Rattle.audit_answers.specs.Endings.{Tells};
 ghost use Rattle.audit_commands.specs.Auditing.{SaysQuestion, asked_of};
 ghost use Rattle.audit_answers.specs.Listing.{SaysOfList};
@@ -14,12 +14,10 @@ use audit_answers::{
 };
 use audit_json::Telling;
 use audit_options::QuestionOptions;
-use setup_files::{FormSetFiles, Status, Terminals, usage};
+use setup_files::{FormSetFiles, Status, Terminals};
 use std::alloc::Global;
 use std::io::Write;
 use std::rt::Files;
-
-const NO_OBJECTS: &str = "error: question has no --json yet\n";
 
 /// Tells what is known of a question of a list over an image of its stores.
 pub fn run<R: Files + Print + Eprint + AllocGlobal>(
@@ -30,9 +28,6 @@ pub fn run<R: Files + Print + Eprint + AllocGlobal>(
     ensures { IfErr result (λ status. status ≢ Status.Done) }
 {
     let form_set = options.form_set;
-    if form_set.json {
-        return Err(usage(rt, &NO_OBJECTS));
-    }
     let files = FormSetFiles::read(rt, terminals, form_set.list.path, form_set.stores)?;
     let mut answers = answers(rt, terminals)?;
     let ended = tell(rt.alloc(), options, &files, &mut answers);
@@ -48,13 +43,13 @@ fn tell<A: Write + Drop>(
 ) -> Ended
     requires list { files.now.list.path.now ≡ options.form_set.list.path.now }
     requires stores { files.now.stores.path.now ≡ options.form_set.stores.now }
-    ensures { Tells (SaysOfList Lines options.entry.form_set.list.take files.now.list.bytes.items
-        (λ list. SaysQuestion (asked_of options.entry.form_set files.now list) list.origin
+    ensures { Tells (SaysOfList (asked options.entry.form_set.json) options.entry.form_set.list.take files.now.list.bytes.items
+        (λ list. SaysQuestion (asked options.entry.form_set.json) (asked_of options.entry.form_set files.now list) list.origin
         options.entry.id)) A.contents answers.old result answers.new }
 {
     match given_list(files.list.bytes.as_slice(), options.form_set.list.take) {
         Ok(list) => tell_of(alloc, options, files, list, answers),
-        Err(none) => refuse_list(Telling::Lines, none, answers),
+        Err(none) => refuse_list(Telling::of(options.form_set.json), none, answers),
     }
 }
 
@@ -66,13 +61,14 @@ fn tell_of<A: Write + Drop>(
     list: GivenList<'_>,
     answers: &mut Answers<A>,
 ) -> Ended
-    ensures { Tells (SaysQuestion (asked_of options.entry.form_set files.now (listed list.entry))
+    ensures { Tells (SaysQuestion (asked options.entry.form_set.json) (asked_of options.entry.form_set files.now (listed list.entry))
         list.entry.origin options.entry.id) A.contents answers.old result answers.new }
 {
     let given = given_of(options.form_set, files, list);
-    match put_question_audit(alloc, given, list.origin, options.id, answers) {
+    let telling = Telling::of(options.form_set.json);
+    match put_question_audit(telling, alloc, given, list.origin, options.id, answers) {
         Ok(true) => finish(Ended::Done, answers),
         Ok(false) => finish(Ended::Refused, answers),
-        Err(fault) => refuse(Telling::Lines, fault, answers),
+        Err(fault) => refuse(telling, fault, answers),
     }
 }

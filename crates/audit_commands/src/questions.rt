@@ -4,7 +4,7 @@ ghost use Rattle.std.specs.Prelude.{◌≡◌, ◌≢◌, IfErr};
 ghost use Rattle.audit_answers.specs.Endings.{Tells};
 ghost use Rattle.audit_commands.specs.Auditing.{SaysQuestions, asked_of};
 ghost use Rattle.audit_answers.specs.Listing.{SaysOfList};
-ghost use Rattle.audit_json.specs.declared.telling.Telling.TheVariants.{Lines};
+ghost use Rattle.audit_json.specs.Telling.{asked};
 ghost use Rattle.audit_answers.specs.code.Listing.{listed};
 
 use crate::auditing::put_audit;
@@ -14,12 +14,10 @@ use audit_answers::{
 };
 use audit_json::Telling;
 use audit_options::FormSetOptions;
-use setup_files::{FormSetFiles, Status, Terminals, usage};
+use setup_files::{FormSetFiles, Status, Terminals};
 use std::alloc::Global;
 use std::io::Write;
 use std::rt::Files;
-
-const NO_OBJECTS: &str = "error: questions has no --json yet\n";
 
 /// Tells the forms and the questions of a list over an image of its stores.
 pub fn run<R: Files + Print + Eprint + AllocGlobal>(
@@ -29,9 +27,6 @@ pub fn run<R: Files + Print + Eprint + AllocGlobal>(
 ) -> Result<Status, Status>
     ensures { IfErr result (λ status. status ≢ Status.Done) }
 {
-    if options.json {
-        return Err(usage(rt, &NO_OBJECTS));
-    }
     let files = FormSetFiles::read(rt, terminals, options.list.path, options.stores)?;
     let mut answers = answers(rt, terminals)?;
     let ended = tell(rt.alloc(), options, &files, &mut answers);
@@ -47,30 +42,32 @@ fn tell<A: Write + Drop>(
 ) -> Ended
     requires list { files.now.list.path.now ≡ options.list.path.now }
     requires stores { files.now.stores.path.now ≡ options.stores.now }
-    ensures { Tells (SaysOfList Lines options.entry.list.take files.now.list.bytes.items
-        (λ list. SaysQuestions (asked_of options.entry files.now list)))
+    ensures { Tells (SaysOfList (asked options.entry.json) options.entry.list.take files.now.list.bytes.items
+        (λ list. SaysQuestions (asked options.entry.json) (asked_of options.entry files.now list) list.origin))
         A.contents answers.old result answers.new }
 {
+    let telling = Telling::of(options.json);
     match given_list(files.list.bytes.as_slice(), options.list.take) {
-        Ok(list) => tell_of(alloc, options, files, list, answers),
-        Err(none) => refuse_list(Telling::Lines, none, answers),
+        Ok(list) => tell_of(telling, alloc, options, files, list, answers),
+        Err(none) => refuse_list(telling, none, answers),
     }
 }
 
 // Tells the forms and the questions of a list.
 fn tell_of<A: Write + Drop>(
+    telling: Telling,
     alloc: Global,
     options: FormSetOptions<'_>,
     files: &FormSetFiles<'_>,
     list: GivenList<'_>,
     answers: &mut Answers<A>,
 ) -> Ended
-    ensures { Tells (SaysQuestions (asked_of options.entry files.now (listed list.entry)))
+    ensures { Tells (SaysQuestions telling (asked_of options.entry files.now (listed list.entry)) list.entry.origin)
         A.contents answers.old result answers.new }
 {
     let given = given_of(options, files, list);
-    match put_audit(alloc, given, list.origin, answers) {
+    match put_audit(telling, alloc, given, list.origin, answers) {
         Ok(()) => finish(Ended::Done, answers),
-        Err(fault) => refuse(Telling::Lines, fault, answers),
+        Err(fault) => refuse(telling, fault, answers),
     }
 }

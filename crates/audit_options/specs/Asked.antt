@@ -10,11 +10,12 @@ use Rattle.audit_options.specs.Ids.{id_in}
 use Rattle.audit_options.specs.declared.reading.Misuse.{Misuse}
 use Rattle.audit_options.specs.declared.reading.Misuse.TheVariants.{NoCommand, NoId, NoPart, NoStoreFile, NoStoreId, TakeWithoutOut}
 use Rattle.audit_options.specs.declared.tasks.Task.{Task}
-use Rattle.audit_options.specs.declared.tasks.Task.TheVariants.{Split, Stores, Check, Opcodes, Image, Questions, Question, Export, Diff}
+use Rattle.audit_options.specs.declared.tasks.Task.TheVariants.{Split, Stores, Check, Opcodes, Image, Questions, Question, Apply, Export, Diff}
 use Rattle.audit_options.specs.declared.tasks.TakenList.{TakenList}
 use Rattle.audit_options.specs.declared.tasks.SplitOptions.{SplitOptions}
 use Rattle.audit_options.specs.declared.tasks.ListOptions.{ListOptions}
 use Rattle.audit_options.specs.declared.tasks.CheckOptions.{CheckOptions}
+use Rattle.audit_options.specs.declared.tasks.ApplyOptions.{ApplyOptions}
 use Rattle.audit_options.specs.declared.tasks.OpcodesOptions.{OpcodesOptions}
 use Rattle.audit_options.specs.declared.tasks.FormSetOptions.{FormSetOptions}
 use Rattle.audit_options.specs.declared.tasks.QuestionOptions.{QuestionOptions}
@@ -88,6 +89,11 @@ pub record AsksQuestion (rows : List Row) (o : QuestionOptions) : Type 0 where
   pub form_set : AsksFormSet rows o.form_set
   pub id : id_in (text_in rows (codes "id") []) ≡ Some o.id
 
+pub record AsksApply (rows : List Row) (o : ApplyOptions) : Type 0 where
+  pub form_set : AsksFormSet rows o.form_set
+  pub script : o.script.now ≡ text_in rows (codes "script") []
+  pub out : o.out.now ≡ text_in rows (codes "out") []
+
 -- A store's bytes go into a file, and no line is asked for; or lines are, and no store.
 abbrev pub AsksPart : List Row → ExportPart → Type 0
 AsksPart rows (Store id out) =
@@ -157,6 +163,7 @@ Asks (Some met) (Opcodes o) = (met.0 ≡ codes "opcodes") × AsksOpcodes met.1 o
 Asks (Some met) (Image o) = (met.0 ≡ codes "image") × AsksImage met.1 o
 Asks (Some met) (Questions o) = (met.0 ≡ codes "questions") × AsksFormSet met.1 o
 Asks (Some met) (Question o) = (met.0 ≡ codes "question") × AsksQuestion met.1 o
+Asks (Some met) (Apply o) = (met.0 ≡ codes "apply") × AsksApply met.1 o
 Asks (Some met) (Export o) = (met.0 ≡ codes "export") × AsksExport met.1 o
 Asks (Some met) (Diff o) = (met.0 ≡ codes "diff") × AsksDiff met.1 o
 
@@ -218,7 +225,8 @@ is_command name =
     || (bytes_eq name (codes "image")
     || (bytes_eq name (codes "questions")
     || (bytes_eq name (codes "question")
-    || (bytes_eq name (codes "export") || bytes_eq name (codes "diff"))))))))
+    || (bytes_eq name (codes "apply")
+    || (bytes_eq name (codes "export") || bytes_eq name (codes "diff")))))))))
 
 -- The options of the command that the words name do not go together, or the words name none.
 abbrev pub IsMisused : Option (Text × List Row) → Misuse → Type 0

@@ -103,6 +103,11 @@ abbrev pub question : Bool → Shape
 question takes_hyphen = command_of (codes "question")
     (list ∷ take ∷ stores_image ∷ required_option (codes "id") ∷ json ∷ forms ∷ lang takes_hyphen ∷ [])
 
+abbrev pub apply : Bool → Shape
+apply takes_hyphen = command_of (codes "apply")
+    (list ∷ take ∷ stores_image ∷ required_option (codes "script") ∷ required_option (codes "out")
+    ∷ json ∷ forms ∷ lang takes_hyphen ∷ [])
+
 abbrev pub export : Shape
 export = command_of (codes "export")
     (list ∷ take ∷ stores_image ∷ option (codes "id") ∷ option (codes "out")
@@ -121,7 +126,7 @@ program takes_hyphen = record {
     subcommand_required = true;
   };
   subs = split ∷ stores ∷ check ∷ opcodes ∷ image takes_hyphen ∷ questions takes_hyphen
-      ∷ question takes_hyphen ∷ export ∷ diff takes_hyphen ∷ [];
+      ∷ question takes_hyphen ∷ apply takes_hyphen ∷ export ∷ diff takes_hyphen ∷ [];
 }
 
 -- ---- what is built

@@ -33,7 +33,7 @@ its GUID and its name";
 
 const ABOUT_CHECK: &str = "\
 Tells of each forms package of the list whether setup opens it over an image of the
-right size; if not, why, what stands there, and what such a fault mostly comes from";
+right size; if not, why, and what stands there; and what in it is mostly a slip";
 
 const ABOUT_OPCODES: &str = "\
 Tells each opcode of the forms package, as far as their lengths allow: its place,
@@ -53,6 +53,11 @@ const ABOUT_QUESTION: &str = "\
 Tells what is known of one question: its opcode and field, its value and defaults,
 each guard and check around it in words, its options, on which questions it depends
 whether it may be changed, and for which questions it decides that";
+
+const ABOUT_APPLY: &str = "\
+Runs a script as setup runs it, and writes the image that it leaves, where each of
+its commands was answered OK; else tells the first that was not, why, and on which
+questions that depends";
 
 const ABOUT_EXPORT: &str = "\
 Writes the bytes of a store of an image into a file, or tells each field with its
@@ -78,6 +83,7 @@ pub(crate) fn command<'a>(
     let command = with_command(command, image(alloc, takes_hyphen));
     let command = with_command(command, questions(alloc, takes_hyphen));
     let command = with_command(command, question(alloc, takes_hyphen));
+    let command = with_command(command, apply(alloc, takes_hyphen));
     let command = with_command(command, export(alloc));
     with_command(command, diff(alloc, takes_hyphen))
 }
@@ -257,6 +263,22 @@ fn json(alloc: Global) -> Arg<'static>
         "json",
         "Tell each as an object of JSON on a line of its own",
     )
+}
+
+fn apply<'a>(alloc: Global, takes_hyphen: bool) -> Result<Command<'a>, AllocError>
+    ensures { IfOk result (IsCommand (spec.apply takes_hyphen)) }
+{
+    let script = option(alloc, "script", "F", "Commands, each on a line").required(true);
+    let out = option(alloc, "out", "F", "Image that is written").required(true);
+    let command = Command::new(alloc, "apply").about(ABOUT_APPLY);
+    let command = command.arg(list(alloc));
+    let command = with_arg(command, take_of_dump(alloc));
+    let command = with_arg(command, image_of_stores(alloc));
+    let command = with_arg(command, script);
+    let command = with_arg(command, out);
+    let command = with_arg(command, json(alloc));
+    let command = with_arg(command, forms(alloc));
+    with_arg(command, lang(alloc, takes_hyphen))
 }
 
 fn export<'a>(alloc: Global) -> Result<Command<'a>, AllocError>

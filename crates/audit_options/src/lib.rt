@@ -8,7 +8,7 @@ mod tasks;
 
 pub use reading::read_words;
 pub use tasks::{
-    CheckOptions, DiffOptions, ExportOptions, ExportPart, FormSetOptions, ImageOptions,
-    ListOptions, OpcodesOptions, QuestionOptions, SplitOptions, StoreFile, StoresOptions,
-    TakenList, Task,
+    ApplyOptions, CheckOptions, DiffOptions, ExportOptions, ExportPart, FormSetOptions,
+    ImageOptions, ListOptions, OpcodesOptions, QuestionOptions, SplitOptions, StoreFile,
+    StoresOptions, TakenList, Task,
 };

@@ -4,14 +4,14 @@ ghost use Rattle.std.specs.Prelude.{◌≡◌, ◌≢◌, List, [], codes, false
 ghost use Rattle.clap.specs.Words.{all_of, found_of, kind_of, rows_of, subcommand_of, subcommand_rows_of, takes};
 ghost use Rattle.audit_options.specs.CommandLine as spec;
 ghost use Rattle.audit_options.specs.CommandLine.{has_hyphen_language, program};
-ghost use Rattle.audit_options.specs.Asked.{AreApart, AreStoreFiles, Asks, AsksCheck, AsksDiff, AsksExport, AsksFormSet, AsksImage, AsksList, AsksOpcodes, AsksPart, AsksQuestion, AsksSplit, AsksStores, HasNoId, HasNoPart, HasNoStoreFile, IsMisused, IsMisusedExport, IsStoreFile, kind_of_misuse};
+ghost use Rattle.audit_options.specs.Asked.{AreApart, AreStoreFiles, Asks, AsksApply, AsksCheck, AsksDiff, AsksExport, AsksFormSet, AsksImage, AsksList, AsksOpcodes, AsksPart, AsksQuestion, AsksSplit, AsksStores, HasNoId, HasNoPart, HasNoStoreFile, IsMisused, IsMisusedExport, IsStoreFile, kind_of_misuse};
 
 use crate::commands::{command, split_alone};
 use crate::ids::id_in;
 use crate::tasks::{
-    CheckOptions, DiffOptions, ExportOptions, ExportPart, FormSetOptions, ImageOptions,
-    ListOptions, OpcodesOptions, QuestionOptions, SplitOptions, StoreFile, StoresOptions,
-    TakenList, Task,
+    ApplyOptions, CheckOptions, DiffOptions, ExportOptions, ExportPart, FormSetOptions,
+    ImageOptions, ListOptions, OpcodesOptions, QuestionOptions, SplitOptions, StoreFile,
+    StoresOptions, TakenList, Task,
 };
 use clap::error::ErrorKind;
 use clap::{ArgMatches, Command, Error};
@@ -136,6 +136,7 @@ fn task_in<'a>(
         "image" => image_in(alloc, options)?.map(Task::Image),
         "questions" => Ok(Task::Questions(form_set_in(options))),
         "question" => question_in(options).map(Task::Question),
+        "apply" => Ok(Task::Apply(apply_in(options))),
         "export" => export_in(options).map(Task::Export),
         "diff" => Ok(Task::Diff(diff_in(options))),
         _ => Err(Misuse::NoCommand),
@@ -252,6 +253,16 @@ fn part_in<'a>(options: &ArgMatches<'a>) -> Result<ExportPart<'a>, Misuse>
         },
         (None, None) if lines => Ok(ExportPart::Lines { with }),
         _ => Err(Misuse::NoPart),
+    }
+}
+
+fn apply_in<'a>(options: &ArgMatches<'a>) -> ApplyOptions<'a>
+    ensures { AsksApply (rows_of (found_of options.now)) result }
+{
+    ApplyOptions {
+        form_set: form_set_in(options),
+        script: options.get_str("script").unwrap_or(""),
+        out: options.get_str("out").unwrap_or(""),
     }
 }
 

@@ -7,7 +7,7 @@ pub enum Task<'a> {
     Split(SplitOptions<'a>),
     /// A line for each store.
     Stores(StoresOptions<'a>),
-    /// Whether setup opens the forms packages of a list, and where and why it does not.
+    /// Whether setup opens the forms packages of a list, and what in them is mostly a slip.
     Check(CheckOptions<'a>),
     /// A line for each opcode.
     Opcodes(OpcodesOptions<'a>),
@@ -17,6 +17,8 @@ pub enum Task<'a> {
     Questions(FormSetOptions<'a>),
     /// What is known of one question.
     Question(QuestionOptions<'a>),
+    /// What a script leaves of an image.
+    Apply(ApplyOptions<'a>),
     /// What an image holds.
     Export(ExportOptions<'a>),
     /// What two images hold differently.
@@ -101,6 +103,16 @@ pub struct QuestionOptions<'a> {
     pub form_set: FormSetOptions<'a>,
     /// The question's id.
     pub id: u16,
+}
+
+/// A script that is run over a form set and an image of its stores.
+#[derive(Clone, Copy)]
+pub struct ApplyOptions<'a> {
+    pub form_set: FormSetOptions<'a>,
+    /// The file of the script.
+    pub script: &'a str,
+    /// The file into which the image is written that it leaves.
+    pub out: &'a str,
 }
 
 /// An image of the stores of a form set, and what of it is told.

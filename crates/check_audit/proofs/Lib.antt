@@ -3,3 +3,5 @@ mod CountLemmas
 mod RefusalLemmas
 mod SeenLemmas
 mod SessionLemmas
+mod WarningCases
+mod WarningLemmas

@@ -16,8 +16,9 @@ pub record Judged : Type 0 where
   pub source : Package
   pub verdict : Verdict
 
-abbrev pub IsJudged : Judged → Type 0
-IsJudged j = IsVerdict j.source.bytes j.verdict
+-- where the first string package says this
+abbrev pub IsJudged : List Spoken → Judged → Type 0
+IsJudged spoken j = IsVerdict spoken j.source.bytes j.verdict
 
 -- How the forms packages of a list are told, by what is said of string ids, and the offset of the list in the file that was given.
 pub record Told : Type 0 where
@@ -41,7 +42,7 @@ told_of telling list start = record { telling = telling; spoken = said_first lis
 -- The text tells the first forms packages of a list, in order and numbered from 1, each with what is found of it; these are left.
 pub record TellsPackages (telling : Telling) (list : List ℕ) (start : ℕ) (left : List Package) (text : List ℕ) : Type 0 where
   pub judged : List Judged
-  pub each : AllByRecursion IsJudged judged
+  pub each : AllByRecursion (IsJudged (said_first list)) judged
   pub in_order : map (λ j. j.source) judged ++ left ≡ packages_with FORMS list
   pub written : text ≡ packages_told (told_of telling list start) 1 judged
 

@@ -1,3 +1,8 @@
+pub mod Constants
+pub mod GivenDefaults
+pub mod Overlaps
+pub mod Warnings
+pub mod WarningLines
 pub mod Verdicts
 pub mod Behind
 pub mod Mostly

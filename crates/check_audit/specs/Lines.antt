@@ -7,6 +7,7 @@ use Rattle.hii_bytes.specs.declared.cause.Cause.{Cause}
 use Rattle.hii_bytes.specs.declared.cause.Cause.TheVariants.{NoForms}
 use Rattle.hii_bytes.specs.declared.cause.Fault.{Fault}
 use Rattle.ifr_opcodes.specs.Fields.{form_set_guid, form_set_title}
+use Rattle.ifr_nodes.specs.Nodes.{nodes_of}
 use Rattle.session_steps.specs.Texts.{refused_at_text}
 use Rattle.audit_text.specs.Texts.{digits_of, guid_text, hex_text, left_aligned, safe_text}
 use Rattle.audit_json.specs.Objects.{guid_member, number_member, object, refused_at_object, text_member, word_member}
@@ -15,11 +16,14 @@ use Rattle.audit_json.specs.declared.telling.Telling.{Telling}
 use Rattle.dump_audit.specs.Contents.{begins_with_form_set, opcodes_of}
 use Rattle.opcode_audit.specs.Words.{name_or_number}
 use Rattle.check_audit.specs.Behind.{opcode_at, seen_before}
+use Rattle.check_audit.specs.Constants.{constants}
 use Rattle.check_audit.specs.Mostly.{mostly_at, mostly_of}
+use Rattle.check_audit.specs.WarningLines.{warnings_told}
 use Rattle.check_audit.specs.declared.behind.Named.{Named}
 use Rattle.check_audit.specs.declared.verdict.Counts.{Counts}
+use Rattle.check_audit.specs.declared.verdict.Good.{Good}
 use Rattle.check_audit.specs.declared.verdict.Verdict.{Verdict}
-use Rattle.check_audit.specs.declared.verdict.Verdict.TheVariants.{Good, Refused}
+use Rattle.check_audit.specs.declared.verdict.Verdict.TheVariants.{Good as IsGood, Refused}
 
 -- How a forms package is told, by what is said of string ids, and its offset in the file that was given.
 pub record Setting : Type 0 where
@@ -150,9 +154,14 @@ good_object counts =
 abbrev pub good_told : Telling → Counts → List ℕ
 good_told telling counts = told_as telling (good_line counts) (good_object counts)
 
+-- that a forms package is good, and what is strange of it
+abbrev pub warned_told : Setting → List ℕ → Good → List ℕ
+warned_told s ifr good =
+    good_told s.telling good.counts ++ warnings_told s.telling (constants (nodes_of ifr)) good.warnings.items
+
 -- what is found of a forms package
 abbrev pub verdict_told : Setting → List ℕ → Verdict → List ℕ
-verdict_told s ifr (Good counts) = good_told s.telling counts
+verdict_told s ifr (IsGood good) = warned_told s ifr good
 verdict_told s ifr (Refused fault) = refusal_told s ifr fault
 
 abbrev pub package_told : Setting → ℕ → Package → Verdict → List ℕ

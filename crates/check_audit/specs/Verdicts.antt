@@ -1,10 +1,12 @@
 -- What is found of a forms package: how much it has, or its least fault (own rule; UEFI 2.8, 33.3.8 Forms Package).
 use Rattle.std.specs.Prelude.{◌≡◌, ℕ, Bool, true, false, List, filter, length}
+use Rattle.browser_rules.specs.Strings.{Spoken}
 use Rattle.hii_bytes.specs.Faults.{HasNone, IsLeast, Then}
 use Rattle.hii_bytes.specs.declared.cause.Cause.{Cause}
 use Rattle.ifr_nodes.specs.Nodes.{nodes_of, is_form, is_store}
 use Rattle.hii_questions.specs.Fields.{questions}
 use Rattle.session_steps.specs.Opening.{IsFormSetFault, IsSourceFault, IsTextFault}
+use Rattle.check_audit.specs.Warnings.{AreWarnings}
 use Rattle.check_audit.specs.declared.verdict.Counts.{Counts}
 use Rattle.check_audit.specs.declared.verdict.Verdict.{Verdict}
 use Rattle.check_audit.specs.declared.verdict.Verdict.TheVariants.{Good, Refused}
@@ -22,11 +24,12 @@ counts_of ifr = record {
   stores = length (filter is_store (nodes_of ifr));
 }
 
--- A forms package has no fault of its own, and this much; or this is the least fault, whatever the image of its stores.
-abbrev pub IsVerdict : List ℕ → Verdict → Type 0
-IsVerdict ifr (Good counts) = HasNone (IsFormSetFault ifr) × (counts ≡ counts_of ifr)
-IsVerdict ifr (Refused fault) = IsLeast (IsFormSetFault ifr) fault
+-- A forms package has no fault of its own, this much and these warnings; or this is the least fault, whatever the image of its stores.
+abbrev pub IsVerdict : List Spoken → List ℕ → Verdict → Type 0
+IsVerdict spoken ifr (Good good) =
+    HasNone (IsFormSetFault ifr) × (good.counts ≡ counts_of ifr) × AreWarnings spoken ifr good.warnings.items
+IsVerdict spoken ifr (Refused fault) = IsLeast (IsFormSetFault ifr) fault
 
 abbrev pub is_good : Verdict → Bool
-is_good (Good counts) = true
+is_good (Good good) = true
 is_good (Refused fault) = false

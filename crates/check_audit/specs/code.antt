@@ -1,2 +1,3 @@
 -- How structs of the code are seen. No module outside of this folder cites one of it.
+pub mod Settling
 pub mod Settings

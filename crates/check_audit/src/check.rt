@@ -11,6 +11,7 @@ ghost use Rattle.check_audit.specs.Verdicts.{IsListFault, IsVerdict, is_good as 
 ghost use Rattle.check_audit.specs.code.Settings.{told_in};
 ghost use Rattle.check_audit.specs.declared.verdict.Verdict.{Verdict as Found};
 
+use crate::first_texts::FirstTexts;
 use crate::package_lines::put_package;
 use crate::refusal::put_list_refusal;
 use crate::setting::Setting;
@@ -28,6 +29,7 @@ use std::io::Write;
 struct SoundList<'a> {
     packages: PackageList<'a>,
     strings: FirstStrings<'a>,
+    texts: FirstTexts<'a>,
 }
 
 // How forms packages are told.
@@ -35,16 +37,18 @@ struct SoundList<'a> {
 struct Told<'s, 'a> {
     telling: Telling,
     strings: &'s FirstStrings<'a>,
+    texts: &'s FirstTexts<'a>,
     // The offset of the list in the file that was given.
     start: u64,
 }
 
 /// Tells of each forms package of a list, in order and numbered from 1, which form set it is and whether it has a fault, and answers
-/// whether none has one (own rule). Of one without a fault it tells how many forms, questions and stores it has; else the least fault, by
-/// which setup refuses it over any image, its byte in the file, in which the list begins at `start`, the opcode there, the last form and
-/// the last question before it, and from what such a fault mostly comes. A list with a fault of its packages (1 to 5), without a forms
-/// package (6) or with a fault of its string packages (7 to 10) is refused as a whole, by the least one. Texts are those of the first
-/// string package. Where an allocation fails, the packages before the one that it was for are told.
+/// whether none has one (own rule). Of one without a fault it tells how many forms, questions and stores it has, and what is strange of
+/// it, by place; else the least fault, by which setup refuses it over any image, its byte in the file, in which the list begins at
+/// `start`, the opcode there, the last form and the last question before it, and from what such a fault mostly comes. A list with a fault
+/// of its packages (1 to 5), without a forms package (6) or with a fault of its string packages (7 to 10) is refused as a whole, by the
+/// least one. Texts are those of the first string package. Where an allocation fails, the packages before the one that it was for are
+/// told.
 pub fn put_check<W: Write>(
     alloc: Global,
     telling: Telling,
@@ -63,6 +67,7 @@ pub fn put_check<W: Write>(
             let told = Told {
                 telling,
                 strings: &sound.strings,
+                texts: &sound.texts,
                 start,
             };
             put_packages(alloc, told, &sound.packages, out)
@@ -78,7 +83,7 @@ pub fn put_check<W: Write>(
 // The list, or the least fault for which none of its forms packages is looked at, or that an allocation failed.
 fn read_list(alloc: Global, list: &[u8]) -> Result<SoundList<'_>, Fault>
     ensures read { IfOk result (λ sound. (sound.packages ≡ list.entry.now)
-        × (sound.strings ≡ said_first list.entry.now)) }
+        × (sound.strings ≡ said_first list.entry.now) × (sound.texts ≡ said_first list.entry.now)) }
     ensures whole { IfOk result (λ sound. list_faults list.entry.now ≡ []) }
     ensures sound { IfOk result (λ sound. HasNone (IsListFault list.entry.now)) }
     ensures refused { IfErr result (Refuses (IsListFault list.entry.now)) }
@@ -87,7 +92,12 @@ fn read_list(alloc: Global, list: &[u8]) -> Result<SoundList<'_>, Fault>
     packages.forms(1)?;
     Languages::read(alloc, &packages)?;
     let strings = FirstStrings::read(alloc, &packages)?;
-    Ok(SoundList { packages, strings })
+    let texts = FirstTexts::read(alloc, &packages)?;
+    Ok(SoundList {
+        packages,
+        strings,
+        texts,
+    })
 }
 
 // Tells of a forms package whether it has a fault, and whether it has none. Where an allocation fails nothing is told.
@@ -99,18 +109,18 @@ fn put_source<W: Write>(
     out: &mut Watched<W>,
 ) -> Result<bool, AllocError>
     requires { told.start + source.place < 2 ^ 64 }
-    ensures told { IfOk result (λ is_good. (verdict : Found) × IsVerdict source.entry.bytes.now verdict
+    ensures told { IfOk result (λ is_good. (verdict : Found) × IsVerdict told.entry.texts.now source.entry.bytes.now verdict
         × (is_good ≡ is_good_verdict verdict) × Puts W.contents out.old out.new
         (judged_told (told_in told.entry) number record { source = package_of source.entry; verdict = verdict })) }
     ensures nothing { OnErr result (out.new ≡ out.old) }
 {
-    let verdict = Verdict::of(alloc, source)?;
+    let verdict = Verdict::of(alloc, told.texts, source)?;
     let setting = Setting {
         telling: told.telling,
         strings: told.strings,
         base: told.start + source.place,
     };
-    put_package(setting, number, source, verdict, out);
+    put_package(setting, number, source, &verdict, out);
     Ok(verdict.is_good())
 }
 
@@ -123,6 +133,7 @@ fn put_packages<W: Write>(
 ) -> Result<bool, AllocError>
     requires in_file { told.start + length packages.now < 2 ^ 64 }
     requires strings { told.strings.now ≡ said_first packages.now }
+    requires texts { told.texts.now ≡ said_first packages.now }
     requires sound { list_faults packages.now ≡ [] }
     ensures told { IfOk result (λ is_good. (text : List ℕ)
         × TellsAll told.entry.telling packages.now told.entry.start is_good text × Puts W.contents out.old out.new text) }

@@ -1,14 +1,18 @@
 //! What is told of a forms package.
 
+ghost use Rattle.std.specs.Prelude.{◌++◌, map};
 ghost use Rattle.hii_bytes.specs.Watching.{Puts};
 ghost use Rattle.hii_packages.specs.code.Package.{package_of};
 ghost use Rattle.check_audit.specs.Lines.{form_set_members, form_set_words, good_line, good_object, good_told, head_line, head_object, head_told, package_told, verdict_told};
-ghost use Rattle.check_audit.specs.code.Settings.{setting_of};
+ghost use Rattle.check_audit.specs.WarningLines.{warnings_told};
+ghost use Rattle.check_audit.specs.code.Settings.{HasConstants, setting_of};
+ghost use Rattle.check_audit.specs.code.Settling.{settled_of};
 
 use crate::form_set::form_set_of;
 use crate::refusal::put_refusal;
 use crate::setting::Setting;
-use crate::verdict::{Counts, Verdict};
+use crate::verdict::{Counts, Good, Verdict};
+use crate::warning_lines::put_warnings;
 use audit_json::{Telling, end_object, put_guid_member, put_kind, put_number, put_shown};
 use audit_text::{Case, put_guid, put_safe_shown};
 use hii_bytes::Watched;
@@ -20,11 +24,12 @@ pub(crate) fn put_package<W: Write>(
     setting: Setting<'_, '_>,
     number: u64,
     source: Package<'_>,
-    verdict: Verdict,
+    verdict: &Verdict<'_>,
     out: &mut Watched<W>,
 )
+    requires { HasConstants source.bytes.now verdict.now }
     ensures { Puts W.contents out.old out.new
-        (package_told (setting_of setting.entry) number (package_of source.entry) verdict) }
+        (package_told (setting_of setting.entry) number (package_of source.entry) verdict.now) }
 {
     put_head(setting, number, source, out);
     put_verdict(setting, source.bytes, verdict, out);
@@ -34,15 +39,16 @@ pub(crate) fn put_package<W: Write>(
 fn put_verdict<W: Write>(
     setting: Setting<'_, '_>,
     ifr: &[u8],
-    verdict: Verdict,
+    verdict: &Verdict<'_>,
     out: &mut Watched<W>,
 )
+    requires { HasConstants ifr.now verdict.now }
     ensures { Puts W.contents out.old out.new
-        (verdict_told (setting_of setting.entry) ifr.now verdict) }
+        (verdict_told (setting_of setting.entry) ifr.now verdict.now) }
 {
     match verdict {
-        Verdict::Good(counts) => put_good(setting.telling, counts, out),
-        Verdict::Refused(fault) => put_refusal(setting, ifr, fault, out),
+        Verdict::Good(good) => put_warned(setting.telling, good, out),
+        Verdict::Refused(fault) => put_refusal(setting, ifr, *fault, out),
     }
 }
 
@@ -124,6 +130,15 @@ fn put_form_set_members<W: Write>(
     };
     put_guid_member(b"guid", found.guid, out);
     put_shown(b"title", setting.strings.shown(found.title).chars(), out);
+}
+
+// Tells that a forms package is good, and what is strange of it.
+fn put_warned<W: Write>(telling: Telling, good: &Good<'_>, out: &mut Watched<W>)
+    ensures { Puts W.contents out.old out.new (good_told telling good.now.counts
+        ++ warnings_told telling (map settled_of good.now.settled.items) good.now.warnings.items) }
+{
+    put_good(telling, good.counts, out);
+    put_warnings(telling, &good.settled, &good.warnings, out);
 }
 
 // Tells that a forms package is good.

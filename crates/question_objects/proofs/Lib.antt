@@ -1,1 +1,6 @@
+pub mod ListingLemmas
+pub mod OptionLemmas
 pub mod MemberLemmas
+pub mod NodeLemmas
+pub mod IdLemmas
+pub mod WordLemmas

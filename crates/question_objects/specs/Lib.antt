@@ -1,2 +1,11 @@
 pub mod Members
+pub mod Heads
+pub mod Limits
 pub mod Values
+pub mod Verdicts
+pub mod Conditions
+pub mod Options
+pub mod Dependences
+pub mod Objects
+pub mod FormSets
+pub mod code

@@ -1,18 +1,32 @@
-//! Values of questions, as scripts take them.
+//! The value of a question, and its defaults.
 
-ghost use Rattle.std.specs.Prelude.{◌≡◌, ◌%◌, ℕ, List, length};
+ghost use Rattle.std.specs.Prelude.{◌≡◌, ◌%◌, ℕ, List, codes, length};
 ghost use Rattle.hii_bytes.specs.Watching.{Puts};
 ghost use Rattle.ifr_expr.specs.Values.{text as text_value};
 ghost use Rattle.ifr_expr.specs.code.Views.{value_of};
+ghost use Rattle.ifr_nodes.specs.Nodes.{nodes_of};
+ghost use Rattle.ifr_nodes.specs.code.Checked.{IsNodeOf};
 ghost use Rattle.ifr_scopes.specs.code.Lists.{statement_node};
+ghost use Rattle.hii_questions.specs.Fields.{asked};
+ghost use Rattle.hii_questions.specs.code.LyingIn.{LiesIn};
+ghost use Rattle.hii_questions.specs.code.Views.{question_node, question_view};
+ghost use Rattle.hii_varstore.specs.Stores.{shape_of};
+ghost use Rattle.guard_policy.specs.code.Views.{bytes_of};
+ghost use Rattle.form_audit.specs.QuestionLines.{value_told};
 ghost use Rattle.form_audit.specs.ScriptValues.{script_value, string_characters};
-ghost use Rattle.question_objects.specs.Values.{script_member, text_if_there, word_if_there};
+ghost use Rattle.form_audit.specs.code.Pages.{audited};
+ghost use Rattle.question_objects.specs.Members.{shown_member};
+ghost use Rattle.question_objects.specs.Values.{default_member, script_member, text_if_there, value_members, word_if_there};
 
 use audit_json::{put_member, put_shown};
-use form_audit::put_script_value;
+use form_audit::{give_back, put_json_value, put_script_value, shows_nothing, take_default};
+use form_page::Page;
 use guard_policy::Conditions;
 use hii_bytes::Watched;
 use hii_languages::Shown;
+use hii_questions::{Question, read_value};
+use hii_varstore::Stores;
+use ifr_defaults::{DEFAULT_CLASS_MANUFACTURING, DEFAULT_CLASS_STANDARD};
 use ifr_expr::Value;
 use ifr_opcodes::STRING;
 use ifr_scopes::Statement;
@@ -65,4 +79,83 @@ pub fn put_script<C: Conditions, W: Write>(
     } else {
         put_word_value::<C, W>(key, statement, value, out);
     }
+}
+
+// Writes what a page would show of the value of a question if nothing were hidden, where this is something.
+fn put_shown_value<'a, C: Conditions, W: Write>(
+    page: Page<'a, '_, C>,
+    question: Question<'a>,
+    out: &mut Watched<W>,
+)
+    requires node { IsNodeOf (bytes_of page.policy) (question_node question) }
+    requires asked { question_view question
+        ≡ asked (nodes_of (bytes_of page.policy)) (question_node question) }
+    ensures { Puts W.contents out.old out.new
+        (shown_member (codes "shown") (value_told (audited page.entry) (question_node question.entry))) }
+{
+    if !shows_nothing(page, question) {
+        put_member(b"shown", out);
+        put_json_value(page, question, out);
+    }
+}
+
+// Writes the default of a question for a class, where there is one that the question takes. `spare` are stores that hold the same as
+// those of the page, before and after.
+fn put_default<'a, C: Conditions, W: Write>(
+    page: Page<'a, '_, C>,
+    question: Question<'a>,
+    class: u16,
+    key: &[u8],
+    spare: &mut Stores,
+    out: &mut Watched<W>,
+)
+    requires lies { LiesIn (shape_of page.stores.now) (question_view question) }
+    requires same { spare.old ≡ page.stores.now }
+    ensures same { spare.new ≡ page.entry.stores.now }
+    ensures text { Puts W.contents out.old out.new
+        (default_member (audited page.entry) (question_view question.entry) class key.now) }
+{
+    if let Some(field) = take_default(page, question, class, spare) {
+        let value = read_value(question, spare);
+        put_script::<C, W>(key, question.statement(), value, out);
+        give_back(page, field, spare);
+    }
+}
+
+/// Writes the value of a question, what shows of it, and its defaults for the classes standard and manufacturing. `spare` are stores
+/// that hold the same as those of the page, before and after.
+pub(crate) fn put_values<'a, C: Conditions, W: Write>(
+    page: Page<'a, '_, C>,
+    question: Question<'a>,
+    spare: &mut Stores,
+    out: &mut Watched<W>,
+)
+    requires node { IsNodeOf (bytes_of page.policy) (question_node question) }
+    requires asked { question_view question
+        ≡ asked (nodes_of (bytes_of page.policy)) (question_node question) }
+    requires lies { LiesIn (shape_of page.stores.now) (question_view question) }
+    requires same { spare.old ≡ page.stores.now }
+    ensures same { spare.new ≡ page.entry.stores.now }
+    ensures text { Puts W.contents out.old out.new
+        (value_members (audited page.entry) (question_view question.entry)) }
+{
+    let value = read_value(question, page.stores());
+    put_script::<C, W>(b"value", question.statement(), value, out);
+    put_shown_value(page, question, out);
+    put_default(
+        page,
+        question,
+        DEFAULT_CLASS_STANDARD,
+        b"default",
+        spare,
+        out,
+    );
+    put_default(
+        page,
+        question,
+        DEFAULT_CLASS_MANUFACTURING,
+        b"manufacturing",
+        spare,
+        out,
+    );
 }

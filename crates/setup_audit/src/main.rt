@@ -2,7 +2,7 @@
 //! a form set with what forbids their change (own rule).
 #![tactic(auto)]
 
-use audit_commands::{check, difference, opcodes, question, questions, split};
+use audit_commands::{apply, check, difference, opcodes, question, questions, split};
 use audit_options::{Task, read_words};
 use clap::Error;
 use clap::error::ErrorKind;
@@ -28,6 +28,7 @@ fn run<R: Env + Files + Print + Eprint + AllocGlobal>(
         Ok(Task::Question(options)) => question::run(rt, terminals, options),
         Ok(Task::Stores(options)) => stores::run(rt, terminals, options),
         Ok(Task::Check(options)) => check::run(rt, terminals, options),
+        Ok(Task::Apply(options)) => apply::run(rt, terminals, options),
         Ok(Task::Opcodes(options)) => opcodes::run(rt, terminals, options),
         Ok(Task::Image(options)) => image::run(rt, terminals, &options),
         Ok(Task::Export(options)) => export::run(rt, terminals, options),

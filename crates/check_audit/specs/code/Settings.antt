@@ -1,11 +1,22 @@
 -- How a list is told.
+use Rattle.std.specs.Prelude.{◌≡◌, ⊤, ℕ, List, map}
+use Rattle.ifr_nodes.specs.Nodes.{nodes_of}
 use Rattle.check_audit.specs.Checks as checks
+use Rattle.check_audit.specs.Constants.{constants}
 use Rattle.check_audit.specs.Lines as lines
+use Rattle.check_audit.specs.code.Settling.{settled_of}
 use Rattle.check_audit.specs.declared.check.Told.{Told}
 use Rattle.check_audit.specs.declared.setting.Setting.{Setting}
+use Rattle.check_audit.specs.declared.verdict.Verdict.{Verdict}
+use Rattle.check_audit.specs.declared.verdict.Verdict.TheVariants.{Good, Refused}
 
 abbrev pub setting_of : Setting → lines.Setting
 setting_of s = record { telling = s.telling; spoken = s.strings.now; base = s.base }
 
 abbrev pub told_in : Told → checks.Told
 told_in t = record { telling = t.telling; spoken = t.strings.now; start = t.start }
+
+-- where a forms package is good, the guards that are told are its own
+abbrev pub HasConstants : List ℕ → Verdict → Type 0
+HasConstants ifr (Good good) = map settled_of good.settled.items ≡ constants (nodes_of ifr)
+HasConstants ifr (Refused fault) = ⊤

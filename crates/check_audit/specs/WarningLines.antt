@@ -1,0 +1,132 @@
+-- How warnings are told (own rule).
+use Rattle.std.specs.Prelude.{ℕ, Bool, ◌==◌, if◌then◌else◌, Option, Some, None, false, List, [], ◌++◌, ◌∷◌, codes, decimal, slice_get}
+use Rattle.std.specs.Fmt.{signed_decimal}
+use Rattle.hii_bytes.specs.Texts.{place_text}
+use Rattle.hii_questions.specs.Denials.{kind_name}
+use Rattle.hii_questions.specs.declared.denial.DenialKind.{DenialKind}
+use Rattle.audit_text.specs.Words.{opcode_name}
+use Rattle.audit_json.specs.Objects.{member, number_member, object, true_member, word_member}
+use Rattle.audit_json.specs.Telling.{told_as}
+use Rattle.audit_json.specs.declared.telling.Telling.{Telling}
+use Rattle.check_audit.specs.Constants.{Settled}
+use Rattle.check_audit.specs.Warnings.{order_of}
+use Rattle.check_audit.specs.declared.warning.Oddity.{Oddity}
+use Rattle.check_audit.specs.declared.warning.Oddity.TheVariants.{Asks, Bounds, Constant, Default, Overlap, Unreached}
+use Rattle.check_audit.specs.declared.warning.Refused.{Refused}
+use Rattle.check_audit.specs.declared.warning.Sharing.{Sharing}
+use Rattle.check_audit.specs.declared.warning.Span.{Span}
+use Rattle.check_audit.specs.declared.warning.Unanswered.{Unanswered}
+use Rattle.check_audit.specs.declared.warning.Warning.{Warning}
+
+abbrev pub word_of : Oddity → List ℕ
+word_of (Asks unanswered) = codes "asks"
+word_of (Bounds span) = codes "bounds"
+word_of (Constant n) = codes "constant"
+word_of (Default refused) = codes "default"
+word_of (Overlap sharing) = codes "overlap"
+word_of (Unreached form) = codes "unreached"
+
+-- ---- in a line
+
+abbrev pub lack_of : Bool → List ℕ
+lack_of is_there = if is_there then codes ": it has no answer here" else codes ": no such question"
+
+abbrev pub asks_text : Unanswered → List ℕ
+asks_text u = decimal u.question ++ lack_of u.is_there
+
+abbrev pub bounds_text : Span → List ℕ
+bounds_text span = signed_decimal span.minimum ++ codes " is above " ++ signed_decimal span.maximum
+
+abbrev pub verdict_word : Bool → List ℕ
+verdict_word holds = if holds then codes " holds: " else codes " does not hold: "
+
+-- of the guards whose conditions name no question one by its number
+abbrev pub constant_text : Option Settled → List ℕ
+constant_text None = []
+constant_text (Some s) = opcode_name s.code ++ verdict_word s.holds ++ s.words
+
+abbrev pub denial_word : Option DenialKind → List ℕ
+denial_word None = codes "no text"
+denial_word (Some kind) = kind_name kind
+
+abbrev pub default_text : Refused → List ℕ
+default_text refused =
+    decimal refused.class ++ codes " of question " ++ decimal refused.question ++ codes ": " ++ denial_word refused.denial
+
+abbrev pub overlap_text : Sharing → List ℕ
+overlap_text sharing =
+    codes "question " ++ decimal sharing.question ++ codes " shares bytes with question " ++ decimal sharing.other
+
+abbrev pub unreached_text : ℕ → List ℕ
+unreached_text form = codes "no reference names form " ++ decimal form
+
+abbrev pub oddity_text : List Settled → Oddity → List ℕ
+oddity_text settled (Asks unanswered) = asks_text unanswered
+oddity_text settled (Bounds span) = bounds_text span
+oddity_text settled (Constant n) = constant_text (slice_get settled n)
+oddity_text settled (Default refused) = default_text refused
+oddity_text settled (Overlap sharing) = overlap_text sharing
+oddity_text settled (Unreached form) = unreached_text form
+
+abbrev pub warning_line : List Settled → Warning → List ℕ
+warning_line settled w =
+    codes "WARN " ++ place_text w.place ++ codes " " ++ word_of w.oddity ++ codes " " ++ oddity_text settled w.oddity
+    ++ codes "\n"
+
+-- ---- in an object
+
+abbrev pub bounds_members : Span → List ℕ
+bounds_members span =
+    member (codes "minimum") (signed_decimal span.minimum) ++ member (codes "maximum") (signed_decimal span.maximum)
+
+abbrev pub holds_member : Bool → List ℕ
+holds_member holds = if holds then true_member (codes "holds") else []
+
+abbrev pub constant_members : Option Settled → List ℕ
+constant_members None = []
+constant_members (Some s) = holds_member s.holds ++ word_member (codes "condition") s.words
+
+abbrev pub default_members : Refused → List ℕ
+default_members refused =
+    number_member (codes "class") refused.class ++ number_member (codes "question") refused.question
+    ++ word_member (codes "denial") (denial_word refused.denial)
+
+abbrev pub overlap_members : Sharing → List ℕ
+overlap_members sharing =
+    number_member (codes "question") sharing.question ++ number_member (codes "other") sharing.other
+
+abbrev pub oddity_members : List Settled → Oddity → List ℕ
+oddity_members settled (Asks unanswered) = number_member (codes "id") unanswered.question
+oddity_members settled (Bounds span) = bounds_members span
+oddity_members settled (Constant n) = constant_members (slice_get settled n)
+oddity_members settled (Default refused) = default_members refused
+oddity_members settled (Overlap sharing) = overlap_members sharing
+oddity_members settled (Unreached form) = number_member (codes "form") form
+
+abbrev pub warning_object : List Settled → Warning → List ℕ
+warning_object settled w =
+    object (codes "warning") (number_member (codes "at") w.place ++ word_member (codes "word") (word_of w.oddity)
+    ++ oddity_members settled w.oddity)
+
+abbrev pub warning_told : Telling → List Settled → Warning → List ℕ
+warning_told telling settled w = told_as telling (warning_line settled w) (warning_object settled w)
+
+-- ---- each once
+
+-- whether a warning is of the place, the word and the id of the last one
+abbrev pub comes_again : Option ℕ → Warning → Bool
+comes_again None w = false
+comes_again (Some last) w = last == order_of w
+
+abbrev pub unlike_told : Telling → List Settled → Option ℕ → Warning → List ℕ
+unlike_told telling settled last w = if comes_again last w then [] else warning_told telling settled w
+
+-- warnings one behind the other: an expression may name a question more than once
+abbrev pub warnings_behind : Telling → List Settled → Option ℕ → List Warning → List ℕ
+warnings_behind telling settled last [] = []
+warnings_behind telling settled last (w ∷ ws) =
+    unlike_told telling settled last w ++ warnings_behind telling settled (Some (order_of w)) ws
+
+-- by what is told of the guards whose conditions name no question
+abbrev pub warnings_told : Telling → List Settled → List Warning → List ℕ
+warnings_told telling settled ws = warnings_behind telling settled None ws

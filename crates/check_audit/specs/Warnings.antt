@@ -1,0 +1,173 @@
+-- What is strange of a forms package that is good (own rule).
+use Rattle.std.specs.Prelude.{ℕ, ◌+◌, ◌*◌, Bool, true, false, ◌==◌, if◌then◌else◌, pos, int_lt, Option, Some, None, option_and_then, option_map, List, [], ◌++◌, drop, filter, length}
+use Rattle.std.specs.List.{filter_map, flat_map, list_any}
+use Rattle.std.specs.List.Sorted.{IsSortedByKey, IsStableByKey}
+use Rattle.std.specs.Ordering.{nat_cmp}
+use Rattle.browser_rules.specs.Strings.{Spoken}
+use Rattle.ifr_opcodes.specs.Fields.{display, form_id, numeric_maximum, numeric_minimum, numeric_width, password_maximum, password_minimum, ref_target, string_maximum, string_minimum}
+use Rattle.ifr_opcodes.specs.Forest.{Node}
+use Rattle.ifr_opcodes.specs.Opcode.{number}
+use Rattle.ifr_opcodes.specs.Rows.{is_condition_number}
+use Rattle.ifr_opcodes.specs.declared.codes.TheConstants.{NUMERIC, PASSWORD, STRING}
+use Rattle.ifr_expr.specs.Support.{support}
+use Rattle.ifr_expr.specs.Trees.{Tree}
+use Rattle.ifr_nodes.specs.Guards.{is_guard}
+use Rattle.ifr_nodes.specs.NodeExpressions.{expression_tree, value_tree}
+use Rattle.ifr_nodes.specs.Nodes.{defaults, is_form, is_reference, is_statement, nodes_of}
+use Rattle.ifr_nodes.specs.Rules.{as_rule, is_rule}
+use Rattle.hii_questions.specs.Fields.{Asked, Field, asked, question_with, questions}
+use Rattle.hii_questions.specs.Inputs.{number_of_bits}
+use Rattle.hii_questions.specs.Types.{is_signed}
+use Rattle.check_audit.specs.Constants.{constant_warnings}
+use Rattle.check_audit.specs.GivenDefaults.{default_warnings}
+use Rattle.check_audit.specs.Overlaps.{AreLaid, overlaps_among}
+use Rattle.check_audit.specs.declared.overlaps.Laid.{Laid}
+use Rattle.check_audit.specs.declared.warning.Oddity.{Oddity}
+use Rattle.check_audit.specs.declared.warning.Oddity.TheVariants.{Asks, Bounds, Constant, Default, Overlap, Unreached}
+use Rattle.check_audit.specs.declared.warning.Span.{Span}
+use Rattle.check_audit.specs.declared.warning.Warning.{Warning}
+
+-- ---- asks: a guard, a condition of a question, a rule or a VALUE names a question itself that has no answer (UEFI 2.8, 33.2.5.7
+-- Expressions), at the opcode
+
+-- whether there is a question that was looked for, where it has no field
+abbrev pub without_field : Option Field → Option Bool
+without_field None = Some true
+without_field (Some field) = None
+
+abbrev pub without_answer : Option Asked → Option Bool
+without_answer None = Some false
+without_answer (Some q) = without_field q.field
+
+abbrev pub is_unanswered : List Node → ℕ → Option Bool
+is_unanswered ns id = without_answer (option_map (asked ns) (question_with ns id))
+
+abbrev pub asking : ℕ → ℕ → Bool → Warning
+asking place id is_there = record { place = place; oddity = Asks record { question = id; is_there = is_there } }
+
+abbrev pub asked_at : List Node → ℕ → ℕ → Option Warning
+asked_at ns place id = option_map (asking place id) (is_unanswered ns id)
+
+abbrev pub named_at : List Node → ℕ → Tree → List Warning
+named_at ns place tree = filter_map (asked_at ns place) (support tree)
+
+abbrev pub named_in : List Node → Node → List Warning
+named_in ns n = named_at ns n.place (expression_tree n)
+
+abbrev pub asks_of_guards : List Node → List Warning
+asks_of_guards ns = flat_map (named_in ns) (filter (λ n. is_guard (number n.op)) ns)
+
+abbrev pub asks_of_conditions : List Node → List Warning
+asks_of_conditions ns = flat_map (named_in ns) (filter (λ n. is_condition_number (number n.op)) ns)
+
+abbrev pub asks_of_rule : List Node → Node → List Warning
+asks_of_rule ns n = named_at ns n.place (as_rule n).tree
+
+abbrev pub asks_of_rules : List Node → List Warning
+asks_of_rules ns = flat_map (asks_of_rule ns) (filter is_rule ns)
+
+-- a VALUE stands right behind the DEFAULT whose value it is
+abbrev pub named_by : List Node → ℕ → Option Tree → List Warning
+named_by ns place None = []
+named_by ns place (Some tree) = named_at ns place tree
+
+abbrev pub asks_of_value : List Node → Node → List Warning
+asks_of_value ns d = named_by ns (d.place + length d.op) (value_tree d)
+
+abbrev pub asks_of_question : List Node → Node → List Warning
+asks_of_question ns q = flat_map (asks_of_value ns) (defaults q)
+
+abbrev pub asks_of_asked : List Node → Asked → List Warning
+asks_of_asked ns q = asks_of_question ns q.node
+
+abbrev pub asks_of_values : List Node → List Warning
+asks_of_values ns = flat_map (asks_of_asked ns) (questions ns)
+
+abbrev pub asks_warnings : List Node → List Warning
+asks_warnings ns = asks_of_guards ns ++ asks_of_conditions ns ++ asks_of_rules ns ++ asks_of_values ns
+
+-- ---- bounds: the least number, as it is shown, or the least length is above the greatest, so that nothing meets both (33.3.8.3,
+-- EFI_IFR_NUMERIC, EFI_IFR_STRING and EFI_IFR_PASSWORD)
+
+abbrev pub numeric_span : List ℕ → Span
+numeric_span op = record {
+  minimum = number_of_bits (is_signed (display op)) (numeric_width op) (numeric_minimum op);
+  maximum = number_of_bits (is_signed (display op)) (numeric_width op) (numeric_maximum op);
+}
+
+abbrev pub span_of : Node → Option Span
+span_of n =
+    if number n.op == NUMERIC then Some (numeric_span n.op)
+    else if number n.op == STRING
+    then Some record { minimum = pos (string_minimum n.op); maximum = pos (string_maximum n.op) }
+    else if number n.op == PASSWORD
+    then Some record { minimum = pos (password_minimum n.op); maximum = pos (password_maximum n.op) }
+    else None
+
+abbrev pub crossed_at : ℕ → Span → Option Warning
+crossed_at place span =
+    if int_lt span.maximum span.minimum then Some record { place = place; oddity = Bounds span } else None
+
+abbrev pub bounds_at : Node → Option Warning
+bounds_at n = option_and_then (crossed_at n.place) (span_of n)
+
+abbrev pub bounds_warnings : List Node → List Warning
+bounds_warnings ns = filter_map bounds_at (filter is_statement ns)
+
+-- ---- unreached: a form but the first that no reference names, wherever it stands (33.3.8.3, EFI_IFR_REF)
+
+abbrev pub named_form : Node → Option ℕ
+named_form n = if is_reference n then ref_target n.op else None
+
+abbrev pub is_of_id : Option ℕ → ℕ → Bool
+is_of_id None id = false
+is_of_id (Some named) id = named == id
+
+abbrev pub names_form : ℕ → Node → Bool
+names_form id n = is_of_id (named_form n) id
+
+abbrev pub is_named : List Node → ℕ → Bool
+is_named ns id = list_any (names_form id) (filter is_statement ns)
+
+abbrev pub unreached_at : (ℕ → Bool) → Node → Option Warning
+unreached_at named form =
+    if named (form_id form.op) then None
+    else Some record { place = form.place; oddity = Unreached (form_id form.op) }
+
+abbrev pub unreached_warnings : List Node → List Warning
+unreached_warnings ns = filter_map (unreached_at (is_named ns)) (drop 1 (filter is_form ns))
+
+-- ---- all of them, by place, then word, then id
+
+-- where a word stands among all words of warnings
+abbrev pub rank_of : Oddity → ℕ
+rank_of (Asks unanswered) = 0
+rank_of (Bounds span) = 1
+rank_of (Constant n) = 2
+rank_of (Default refused) = 3
+rank_of (Overlap sharing) = 5
+rank_of (Unreached form) = 7
+
+abbrev pub id_of : Oddity → ℕ
+id_of (Asks unanswered) = unanswered.question
+id_of (Bounds span) = 0
+id_of (Constant n) = 0
+id_of (Default refused) = refused.question
+id_of (Overlap sharing) = sharing.question
+id_of (Unreached form) = form
+
+abbrev pub order_of : Warning → ℕ
+order_of w = (w.place * 8 + rank_of w.oddity) * 65536 + id_of w.oddity
+
+-- all warnings, by what the first string package says, and where the fields are laid in this order
+abbrev pub all_warnings : List Spoken → List ℕ → List Laid → List Warning
+all_warnings spoken ifr laid =
+    asks_warnings (nodes_of ifr) ++ bounds_warnings (nodes_of ifr) ++ constant_warnings (nodes_of ifr)
+    ++ default_warnings spoken (nodes_of ifr) ++ overlaps_among laid ++ unreached_warnings (nodes_of ifr)
+
+-- These are all warnings, in this order. Two of one place, word and id are the same.
+pub record AreWarnings (spoken : List Spoken) (ifr : List ℕ) (ordered : List Warning) : Type 0 where
+  pub laid : List Laid
+  pub fields : AreLaid (nodes_of ifr) laid
+  pub sorted : IsSortedByKey order_of nat_cmp ordered
+  pub all : IsStableByKey order_of nat_cmp (all_warnings spoken ifr laid) ordered

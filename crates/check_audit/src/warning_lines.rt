@@ -1,0 +1,310 @@
+//! How warnings are told.
+
+ghost use Rattle.std.specs.Prelude.{◌≡◌, Some, map, slice_get};
+ghost use Rattle.std.specs.Fmt.{signed_decimal};
+ghost use Rattle.hii_bytes.specs.Watching.{Puts};
+ghost use Rattle.condition_text.specs.code.Conditions.{words_of};
+ghost use Rattle.audit_json.specs.Objects.{member, quoted};
+ghost use Rattle.check_audit.specs.WarningLines.{asks_text, bounds_members, bounds_text, comes_again, constant_members, constant_text, default_members, default_text, denial_word, holds_member, lack_of, oddity_members, oddity_text, overlap_members, overlap_text, unlike_told, unreached_text, verdict_word, warning_line, warning_object, warning_told, warnings_told, word_of};
+ghost use Rattle.check_audit.specs.code.Settling.{settled_of};
+
+use crate::constants::Settled;
+use crate::warning::{Oddity, Refused, Sharing, Span, Unanswered, Warning};
+use audit_json::{Telling, end_object, put_kind, put_member, put_number, put_true, put_word};
+use audit_text::opcode_name;
+use condition_text::ConditionText;
+use hii_bytes::Watched;
+use hii_questions::DenialKind;
+use itoa::Buffer;
+use std::io::Write;
+
+// The word of a warning.
+fn word_of(oddity: Oddity) -> &'static [u8]
+    ensures { result.now ≡ word_of oddity }
+{
+    match oddity {
+        Oddity::Asks(_) => b"asks",
+        Oddity::Bounds(_) => b"bounds",
+        Oddity::Constant(_) => b"constant",
+        Oddity::Default(_) => b"default",
+        Oddity::Overlap(_) => b"overlap",
+        Oddity::Unreached(_) => b"unreached",
+    }
+}
+
+// Writes a number in decimal digits, with its sign where it is negative.
+fn put_signed<W: Write>(number: i128, out: &mut Watched<W>)
+    ensures { Puts W.contents out.old out.new (signed_decimal number) }
+{
+    out.put(Buffer::new().format(number).as_bytes());
+}
+
+// Why a question has no answer.
+fn lack_of(is_there: bool) -> &'static [u8]
+    ensures { result.now ≡ lack_of is_there }
+{
+    if is_there {
+        b": it has no answer here"
+    } else {
+        b": no such question"
+    }
+}
+
+// Writes which question has no answer.
+fn put_asks<W: Write>(unanswered: Unanswered, out: &mut Watched<W>)
+    ensures { Puts W.contents out.old out.new (asks_text unanswered) }
+{
+    out.put_decimal(u64::from(unanswered.question));
+    out.put(lack_of(unanswered.is_there));
+}
+
+// Writes which bounds nothing can meet.
+fn put_bounds<W: Write>(span: Span, out: &mut Watched<W>)
+    ensures { Puts W.contents out.old out.new (bounds_text span) }
+{
+    put_signed(span.minimum, out);
+    out.put(b" is above ");
+    put_signed(span.maximum, out);
+}
+
+// Whether a condition holds.
+fn verdict_word(holds: bool) -> &'static [u8]
+    ensures { result.now ≡ verdict_word holds }
+{
+    if holds {
+        b" holds: "
+    } else {
+        b" does not hold: "
+    }
+}
+
+// Writes which condition names no question.
+fn put_settled<W: Write>(settled: &Settled<'_>, out: &mut Watched<W>)
+    ensures { Puts W.contents out.old out.new (constant_text (Some (settled_of settled.now))) }
+{
+    out.put(opcode_name(settled.code));
+    out.put(verdict_word(settled.holds));
+    settled.condition.put(out);
+}
+
+// Writes which condition of some names no question.
+fn put_constant<W: Write>(settled: &[Settled<'_>], number: usize, out: &mut Watched<W>)
+    ensures { Puts W.contents out.old out.new (constant_text (slice_get (map settled_of settled.now) number)) }
+{
+    if let Some(one) = settled.get(number) {
+        put_settled(one, out);
+    }
+}
+
+// Why a default is not taken.
+fn denial_word(denial: Option<DenialKind>) -> &'static [u8]
+    ensures { result.now ≡ denial_word denial }
+{
+    match denial {
+        Some(kind) => kind.name().as_bytes(),
+        None => b"no text",
+    }
+}
+
+// Writes which default is not taken.
+fn put_default<W: Write>(refused: Refused, out: &mut Watched<W>)
+    ensures { Puts W.contents out.old out.new (default_text refused) }
+{
+    out.put_decimal(u64::from(refused.class));
+    out.put(b" of question ");
+    out.put_decimal(u64::from(refused.question));
+    out.put(b": ");
+    out.put(denial_word(refused.denial));
+}
+
+// Writes which questions share bytes.
+fn put_overlap<W: Write>(sharing: Sharing, out: &mut Watched<W>)
+    ensures { Puts W.contents out.old out.new (overlap_text sharing) }
+{
+    out.put(b"question ");
+    out.put_decimal(u64::from(sharing.question));
+    out.put(b" shares bytes with question ");
+    out.put_decimal(u64::from(sharing.other));
+}
+
+// Writes which form no reference names.
+fn put_unreached<W: Write>(form: u16, out: &mut Watched<W>)
+    ensures { Puts W.contents out.old out.new (unreached_text form) }
+{
+    out.put(b"no reference names form ");
+    out.put_decimal(u64::from(form));
+}
+
+// Writes what is strange.
+fn put_oddity<W: Write>(settled: &[Settled<'_>], oddity: Oddity, out: &mut Watched<W>)
+    ensures { Puts W.contents out.old out.new (oddity_text (map settled_of settled.now) oddity) }
+{
+    match oddity {
+        Oddity::Asks(unanswered) => put_asks(unanswered, out),
+        Oddity::Bounds(span) => put_bounds(span, out),
+        Oddity::Constant(number) => put_constant(settled, number, out),
+        Oddity::Default(refused) => put_default(refused, out),
+        Oddity::Overlap(sharing) => put_overlap(sharing, out),
+        Oddity::Unreached(form) => put_unreached(form, out),
+    }
+}
+
+// Writes the line of a warning.
+fn put_line<W: Write>(settled: &[Settled<'_>], warning: Warning, out: &mut Watched<W>)
+    ensures { Puts W.contents out.old out.new (warning_line (map settled_of settled.now) warning) }
+{
+    out.put(b"WARN ");
+    out.put_place(warning.place);
+    out.put(b" ");
+    out.put(word_of(warning.oddity));
+    out.put(b" ");
+    put_oddity(settled, warning.oddity, out);
+    out.put(b"\n");
+}
+
+// Writes a member that is a number with its sign.
+fn put_signed_member<W: Write>(key: &[u8], number: i128, out: &mut Watched<W>)
+    ensures { Puts W.contents out.old out.new (member key.now (signed_decimal number)) }
+{
+    put_member(key, out);
+    put_signed(number, out);
+}
+
+// Writes the members that tell bounds.
+fn put_bounds_members<W: Write>(span: Span, out: &mut Watched<W>)
+    ensures { Puts W.contents out.old out.new (bounds_members span) }
+{
+    put_signed_member(b"minimum", span.minimum, out);
+    put_signed_member(b"maximum", span.maximum, out);
+}
+
+// Writes that a condition holds.
+fn put_holds<W: Write>(holds: bool, out: &mut Watched<W>)
+    ensures { Puts W.contents out.old out.new (holds_member holds) }
+{
+    if holds {
+        put_true(b"holds", out);
+    }
+}
+
+// Writes a condition in words, in quotes.
+fn put_quoted_words<W: Write>(condition: &ConditionText<'_>, out: &mut Watched<W>)
+    ensures { Puts W.contents out.old out.new (quoted (words_of condition.now)) }
+{
+    out.put(b"\"");
+    condition.put(out);
+    out.put(b"\"");
+}
+
+// Writes the members that tell which condition names no question.
+fn put_settled_members<W: Write>(settled: &Settled<'_>, out: &mut Watched<W>)
+    ensures { Puts W.contents out.old out.new (constant_members (Some (settled_of settled.now))) }
+{
+    put_holds(settled.holds, out);
+    put_member(b"condition", out);
+    put_quoted_words(&settled.condition, out);
+}
+
+// Writes the members that tell which condition of some names no question.
+fn put_constant_members<W: Write>(settled: &[Settled<'_>], number: usize, out: &mut Watched<W>)
+    ensures { Puts W.contents out.old out.new (constant_members (slice_get (map settled_of settled.now) number)) }
+{
+    if let Some(one) = settled.get(number) {
+        put_settled_members(one, out);
+    }
+}
+
+// Writes the members that tell which default is not taken.
+fn put_default_members<W: Write>(refused: Refused, out: &mut Watched<W>)
+    ensures { Puts W.contents out.old out.new (default_members refused) }
+{
+    put_number(b"class", u64::from(refused.class), out);
+    put_number(b"question", u64::from(refused.question), out);
+    put_word(b"denial", denial_word(refused.denial), out);
+}
+
+// Writes the members that tell which questions share bytes.
+fn put_overlap_members<W: Write>(sharing: Sharing, out: &mut Watched<W>)
+    ensures { Puts W.contents out.old out.new (overlap_members sharing) }
+{
+    put_number(b"question", u64::from(sharing.question), out);
+    put_number(b"other", u64::from(sharing.other), out);
+}
+
+// Writes the members that tell what is strange.
+fn put_members<W: Write>(settled: &[Settled<'_>], oddity: Oddity, out: &mut Watched<W>)
+    ensures { Puts W.contents out.old out.new (oddity_members (map settled_of settled.now) oddity) }
+{
+    match oddity {
+        Oddity::Asks(unanswered) => put_number(b"id", u64::from(unanswered.question), out),
+        Oddity::Bounds(span) => put_bounds_members(span, out),
+        Oddity::Constant(number) => put_constant_members(settled, number, out),
+        Oddity::Default(refused) => put_default_members(refused, out),
+        Oddity::Overlap(sharing) => put_overlap_members(sharing, out),
+        Oddity::Unreached(form) => put_number(b"form", u64::from(form), out),
+    }
+}
+
+// Writes the object of a warning.
+fn put_object<W: Write>(settled: &[Settled<'_>], warning: Warning, out: &mut Watched<W>)
+    ensures { Puts W.contents out.old out.new (warning_object (map settled_of settled.now) warning) }
+{
+    put_kind(b"warning", out);
+    put_number(b"at", warning.place, out);
+    put_word(b"word", word_of(warning.oddity), out);
+    put_members(settled, warning.oddity, out);
+    end_object(out);
+}
+
+// Tells a warning.
+fn put_warning<W: Write>(
+    telling: Telling,
+    settled: &[Settled<'_>],
+    warning: Warning,
+    out: &mut Watched<W>,
+)
+    ensures { Puts W.contents out.old out.new (warning_told telling (map settled_of settled.now) warning) }
+{
+    match telling {
+        Telling::Lines => put_line(settled, warning, out),
+        Telling::Objects => put_object(settled, warning, out),
+    }
+}
+
+// Whether a warning is of the place, the word and the id of the last one.
+fn comes_again(last: Option<u128>, warning: Warning) -> bool
+    ensures { result ≡ comes_again last warning }
+{
+    last == Some(warning.order())
+}
+
+// Tells a warning, unless it is of the place, the word and the id of the last one.
+fn put_unlike<W: Write>(
+    telling: Telling,
+    settled: &[Settled<'_>],
+    last: Option<u128>,
+    warning: Warning,
+    out: &mut Watched<W>,
+)
+    ensures { Puts W.contents out.old out.new (unlike_told telling (map settled_of settled.now) last warning) }
+{
+    if !comes_again(last, warning) {
+        put_warning(telling, settled, warning, out);
+    }
+}
+
+/// Tells warnings, each once, with what is told of the guards whose conditions name no question.
+pub(crate) fn put_warnings<W: Write>(
+    telling: Telling,
+    settled: &[Settled<'_>],
+    warnings: &[Warning],
+    out: &mut Watched<W>,
+)
+    ensures { Puts W.contents out.old out.new (warnings_told telling (map settled_of settled.now) warnings.now) }
+{
+    let mut last = None;
+    for warning in warnings {
+        put_unlike(telling, settled, last, *warning, out);
+        last = Some(warning.order());
+    }
+}

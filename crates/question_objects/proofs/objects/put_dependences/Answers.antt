@@ -1,0 +1,5 @@
+use Rattle.hii_bytes.proofs.WritingLemmas.{writes_nil}
+use Rattle.question_objects.proofs.objects.put_dependences.Goals as goal
+
+pub returns-in-Listed-clause-told : goal.returns-in-Listed-clause-told
+returns-in-Listed-clause-told g c = rw c.in-Listed.is (writes_nil _)

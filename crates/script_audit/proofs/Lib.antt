@@ -1,0 +1,10 @@
+pub mod ScriptLemmas
+pub mod SpellingLemmas
+pub mod ValueLemmas
+pub mod WalkLemmas
+pub mod LeavingLemmas
+pub mod EndLemmas
+pub mod DependLemmas
+pub mod ReasonLemmas
+pub mod CommandLemmas
+pub mod WarningLemmas

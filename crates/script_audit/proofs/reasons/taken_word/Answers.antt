@@ -1,0 +1,17 @@
+use Rattle.std.proofs.Common.{◌≡◌, false, eqb, refl, rules}
+use Rattle.ifr_opcodes.specs.Opcode.{number}
+use Rattle.ifr_opcodes.specs.declared.codes.TheConstants.{CHECKBOX, NUMERIC, ONE_OF, ORDERED_LIST, PASSWORD, REF, STRING}
+use Rattle.ifr_scopes.specs.code.Lists.{statement_node}
+use Rattle.script_audit.proofs.reasons.taken_word.Goals as goal
+
+pub returns-in_default : goal.returns-in_default
+returns-in_default c =
+    let op = (statement_node c.args.statement).op in
+    let checkbox : eqb (number op) CHECKBOX ≡ false = search rules in
+    let numeric : eqb (number op) NUMERIC ≡ false = search rules in
+    let one : eqb (number op) ONE_OF ≡ false = search rules in
+    let string : eqb (number op) STRING ≡ false = search rules in
+    let password : eqb (number op) PASSWORD ≡ false = search rules in
+    let list : eqb (number op) ORDERED_LIST ≡ false = search rules in
+    let reference : eqb (number op) REF ≡ false = search rules in
+    rw (checkbox, numeric, one, string, password, list, reference) refl

@@ -1,0 +1,5 @@
+use Rattle.hii_bytes.proofs.WritingLemmas.{◌⨾◌}
+use Rattle.script_audit.proofs.stop.put_because.Goals as goal
+
+pub returns : goal.returns
+returns g c = c.put_front.ensures ⨾ c.put_reason.ensures ⨾ c.put_back.ensures

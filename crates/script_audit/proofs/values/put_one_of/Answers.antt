@@ -1,0 +1,14 @@
+use Rattle.std.proofs.Common.{subst}
+use Rattle.hii_bytes.specs.Watching.{Writes}
+use Rattle.hii_bytes.proofs.WritingLemmas.{◌⨾◌}
+use Rattle.ifr_scopes.specs.code.Lists.{statement_node}
+use Rattle.form_page.specs.RowValues.{choice}
+use Rattle.form_page.specs.code.PageViews.{texts_of, world_of}
+use Rattle.form_audit.specs.QuestionLines.{unguarded}
+use Rattle.script_audit.proofs.ValueLemmas.{spelled_one_of}
+use Rattle.script_audit.proofs.values.put_one_of.Goals as goal
+
+pub returns-in-Number : goal.returns-in-Number
+returns-in-Number g c =
+    let its = choice (texts_of c.args.page) (unguarded (world_of c.args.page)) (statement_node c.args.statement) c.in-Number.number in
+    rw c.in-Number.is (subst (Writes _ _) (spelled_one_of c.args.telling its) (c.put.ensures ⨾ c.put_choice.ensures ⨾ c.put-in-Number.ensures))

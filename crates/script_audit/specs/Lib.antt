@@ -1,0 +1,11 @@
+pub mod Told
+pub mod Script
+pub mod Words
+pub mod Sentences
+pub mod Values
+pub mod Depends
+pub mod Because
+pub mod Walk
+pub mod Apply
+pub mod code
+pub mod laws

@@ -1,0 +1,3 @@
+-- What the laws of the crate say, and the words that they alone need.
+pub mod Leaving
+pub mod Warnings
