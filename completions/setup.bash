@@ -5,7 +5,7 @@ _setup_words() {
     case $before in
         --list | --stores | --out | --dump | --config | --with) mapfile -t COMPREPLY < <(compgen -f -- "$word"); return ;;
         --efivars) mapfile -t COMPREPLY < <(compgen -d -- "$word"); return ;;
-        --forms | --take | --id | --lang | --store | --defaults) return ;;
+        --forms | --take | --id | --lang | --store | --defaults | --find) return ;;
     esac
     mapfile -t COMPREPLY < <(compgen -W "$1" -- "$word")
 }
@@ -23,10 +23,12 @@ _setup_audit() {
         image) _setup_words "--list --take --out --store --efivars --config --zero --defaults --json --forms --lang --help" ;;
         questions) _setup_words "--list --take --stores --json --forms --lang --help" ;;
         question) _setup_words "--list --take --stores --id --json --forms --lang --help" ;;
+        unlock) _setup_words "--list --take --stores --id --json --forms --lang --help" ;;
         apply) _setup_words "--list --take --stores --script --out --json --forms --lang --help" ;;
         export) _setup_words "--list --take --stores --id --out --lines --with --json --forms --help" ;;
         diff) _setup_words "--list --take --stores --with --json --forms --lang --help" ;;
-        *) _setup_words "split stores check opcodes image questions question apply export diff help --help --version" ;;
+        survey) _setup_words "--dump --efivars --config --zero --find --json --lang --help" ;;
+        *) _setup_words "split stores check opcodes image questions question unlock apply export diff survey help --help --version" ;;
     esac
 }
 

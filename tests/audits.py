@@ -121,6 +121,16 @@ def images_of_files(folder):
     yield AuditRun("image of variables", words + ["--efivars", folder, "--zero"], lines(variable, "zeros"), image_of_stores(held[0], bytes(4)), True)
 
 
+def of_closed():
+    """What opens the questions of the station that may not be changed, and how the lists of the dump stand over zeros."""
+    words = ["unlock", *(word for name in ("list", "stores") for word in ("--" + name, os.path.join(EXAMPLES, "station", name)))]
+    yield AuditRun("what opens questions", words, told("station.unlock"))
+    yield AuditRun("what opens questions, as objects", [*words, "--json"], told("station.unlock.json"))
+    survey = ["survey", "--dump", DUMP, "--zero", "--find", "fan"]
+    yield AuditRun("survey of a dump", survey, told("both.survey"))
+    yield AuditRun("survey of a dump as objects", [*survey, "--json"], told("both.survey.json"))
+
+
 def of_images():
     """What the stores of the station hold behind its script: the bytes of the first, and what is other than before."""
     list_, before, after = (os.path.join(EXAMPLES, "station", name) for name in ("list", "stores", "image"))
@@ -168,7 +178,7 @@ option   4 #7: locked at 00000099
 
 def audit_runs(folder):
     """All runs. The folder is for the files that are made for them."""
-    runs = [*splits(), *of_dump(), *of_text(), *of_defaults(), *images_of_files(folder), *of_images(), *reasons(folder)]
+    runs = [*splits(), *of_dump(), *of_text(), *of_defaults(), *images_of_files(folder), *of_closed(), *of_images(), *reasons(folder)]
     for name in NAMES:
         runs += of_example(name)
     station = os.path.join(EXAMPLES, "station")

@@ -16,7 +16,8 @@ use Rattle.form_audit.specs.Audited.{Audited}
 use Rattle.audit_json.specs.declared.telling.Telling.{Telling}
 use Rattle.image_audit.specs.Difference.{difference_told}
 use Rattle.image_audit.proofs.EqualLemmas.{same_told, told_same}
-use Rattle.audit_commands.specs.Auditing.{Asked, Starts, audited_at}
+use Rattle.audit_commands.specs.Auditing.{Asked, Starts}
+use Rattle.survey_audit.specs.AuditedAt.{audited_at}
 use Rattle.audit_commands.specs.Differing.{IsDiffFault, over}
 
 -- ---- what refuses

@@ -2,8 +2,7 @@
 use Rattle.std.specs.Prelude.{◌≡◌, ◌⊎◌, ◌+◌, ℕ, Bool, true, false, List, [], ◌++◌}
 use Rattle.hii_bytes.specs.declared.cause.Cause.TheVariants.{OutOfMemory}
 use Rattle.session_steps.specs.Opening.{IsOpenFault, Opens}
-use Rattle.session_steps.specs.State.{State, texts, world_of}
-use Rattle.session_steps.specs.Step.{sources}
+use Rattle.session_steps.specs.State.{State, world_of}
 use Rattle.form_audit.specs.Audited.{Audited}
 use Rattle.form_audit.specs.FormLines.{questions_text}
 use Rattle.form_audit.specs.Reach.{TellsReached}
@@ -16,19 +15,11 @@ use Rattle.question_objects.specs.Objects.{BeginsQuestionObjectText, IsQuestionO
 use Rattle.question_audit.specs.declared.origin.Origin.{Origin}
 use Rattle.audit_options.specs.declared.tasks.FormSetOptions.{FormSetOptions}
 use Rattle.setup_files.specs.declared.given.FormSetFiles.{FormSetFiles}
+use Rattle.survey_audit.specs.AuditedAt.{audited_at}
 use Rattle.audit_answers.specs.Endings.{IsRefusal, refused_told}
 use Rattle.audit_answers.specs.Listing.{Listed}
 use Rattle.audit_answers.specs.declared.ended.Ended.{Ended}
 use Rattle.audit_answers.specs.declared.ended.Ended.TheVariants.{Done, Refused, NoMemory}
-
--- what an audit looks at, of what a session begins with
-abbrev pub audited_at : State → Audited
-audited_at s = record {
-  texts = texts s;
-  world = world_of s;
-  stores = s.working;
-  sources = sources s;
-}
 
 -- what an audit is asked for: the bytes of a list, the number of a forms package, an image of its stores, a language
 pub record Asked : Type 0 where

@@ -7,7 +7,8 @@ use Rattle.session_steps.specs.Opening.{IsOpenFault}
 use Rattle.session_steps.specs.State.{State}
 use Rattle.audit_json.specs.declared.telling.Telling.{Telling}
 use Rattle.image_audit.specs.Difference.{difference_told}
-use Rattle.audit_commands.specs.Auditing.{Asked, Starts, audited_at}
+use Rattle.audit_commands.specs.Auditing.{Asked, Starts}
+use Rattle.survey_audit.specs.AuditedAt.{audited_at}
 use Rattle.audit_answers.specs.Endings.{IsRefusal, refused_told}
 use Rattle.audit_answers.specs.declared.ended.Ended.{Ended}
 use Rattle.audit_answers.specs.declared.ended.Ended.TheVariants.{Done, Refused, NoMemory}

@@ -4,4 +4,5 @@ pub mod Auditing
 pub mod Differing
 pub mod Checking
 pub mod Applying
+pub mod Unlocking
 pub mod code

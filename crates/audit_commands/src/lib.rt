@@ -13,3 +13,4 @@ mod opened;
 pub mod question;
 pub mod questions;
 pub mod split;
+pub mod unlock;

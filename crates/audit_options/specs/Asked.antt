@@ -10,7 +10,7 @@ use Rattle.audit_options.specs.Ids.{id_in}
 use Rattle.audit_options.specs.declared.reading.Misuse.{Misuse}
 use Rattle.audit_options.specs.declared.reading.Misuse.TheVariants.{NoCommand, NoId, NoPart, NoStoreFile, NoStoreId, TakeWithoutOut}
 use Rattle.audit_options.specs.declared.tasks.Task.{Task}
-use Rattle.audit_options.specs.declared.tasks.Task.TheVariants.{Split, Stores, Check, Opcodes, Image, Questions, Question, Apply, Export, Diff}
+use Rattle.audit_options.specs.declared.tasks.Task.TheVariants.{Split, Stores, Check, Opcodes, Image, Questions, Question, Unlock, Apply, Export, Diff, Survey}
 use Rattle.audit_options.specs.declared.tasks.TakenList.{TakenList}
 use Rattle.audit_options.specs.declared.tasks.SplitOptions.{SplitOptions}
 use Rattle.audit_options.specs.declared.tasks.ListOptions.{ListOptions}
@@ -25,7 +25,10 @@ use Rattle.audit_options.specs.declared.tasks.ExportPart.{ExportPart}
 use Rattle.audit_options.specs.declared.tasks.ExportPart.TheVariants.{Store, Lines}
 use Rattle.audit_options.specs.declared.tasks.ImageOptions.{ImageOptions}
 use Rattle.audit_options.specs.declared.tasks.StoreFile.{StoreFile}
+use Rattle.audit_options.specs.declared.tasks.Sources.{Sources}
 use Rattle.audit_options.specs.declared.tasks.StoresOptions.{StoresOptions}
+use Rattle.audit_options.specs.declared.tasks.SurveyOptions.{SurveyOptions}
+use Rattle.audit_options.specs.declared.tasks.UnlockOptions.{UnlockOptions}
 
 -- ---- values
 
@@ -89,6 +92,10 @@ pub record AsksQuestion (rows : List Row) (o : QuestionOptions) : Type 0 where
   pub form_set : AsksFormSet rows o.form_set
   pub id : id_in (text_in rows (codes "id") []) ≡ Some o.id
 
+pub record AsksUnlock (rows : List Row) (o : UnlockOptions) : Type 0 where
+  pub form_set : AsksFormSet rows o.form_set
+  pub id : option_map id_in (first_of (codes "id") rows) ≡ option_map Some o.id
+
 pub record AsksApply (rows : List Row) (o : ApplyOptions) : Type 0 where
   pub form_set : AsksFormSet rows o.form_set
   pub script : o.script.now ≡ text_in rows (codes "script") []
@@ -142,14 +149,26 @@ AreStoreFiles [] [] = ⊤
 AreStoreFiles (word ∷ words) (file ∷ files) = IsStoreFile word file × AreStoreFiles words files
 AreStoreFiles _ _ = ⊥
 
-pub record AsksImage (rows : List Row) (o : ImageOptions) : Type 0 where
-  pub list : AsksList rows o.list
-  pub out : o.out.now ≡ text_in rows (codes "out") []
-  pub files : AreStoreFiles (unwrap_or (all_of (codes "store") rows) []) o.files.items
+-- where the bytes of stores come from that are given no file
+pub record AsksSources (rows : List Row) (o : Sources) : Type 0 where
   pub efivars : option_map (λ folder. folder.now) o.efivars ≡ first_of (codes "efivars") rows
   pub config : option_map (λ file. file.now) o.config ≡ first_of (codes "config") rows
   pub zero : IsFlag (one_of (codes "zero") rows) o.zero
+
+pub record AsksImage (rows : List Row) (o : ImageOptions) : Type 0 where
+  pub list : AsksList rows o.list
+  pub out : o.out.now ≡ text_in rows (codes "out") []
+  pub files : AreStoreFiles (unwrap_or (all_of (codes "store") rows) []) o.sources.files.items
+  pub sources : AsksSources rows o.sources
   pub defaults : ReadsIfGiven 16 (one_of (codes "defaults") rows) o.defaults
+  pub json : IsFlag (one_of (codes "json") rows) o.json
+  pub lang : o.lang.now ≡ text_in rows (codes "lang") (codes "en-US")
+
+pub record AsksSurvey (rows : List Row) (o : SurveyOptions) : Type 0 where
+  pub dump : o.dump.now ≡ text_in rows (codes "dump") []
+  pub files : o.sources.files.items ≡ []
+  pub sources : AsksSources rows o.sources
+  pub find : option_map (λ text. text.now) o.find ≡ first_of (codes "find") rows
   pub json : IsFlag (one_of (codes "json") rows) o.json
   pub lang : o.lang.now ≡ text_in rows (codes "lang") (codes "en-US")
 
@@ -163,9 +182,11 @@ Asks (Some met) (Opcodes o) = (met.0 ≡ codes "opcodes") × AsksOpcodes met.1 o
 Asks (Some met) (Image o) = (met.0 ≡ codes "image") × AsksImage met.1 o
 Asks (Some met) (Questions o) = (met.0 ≡ codes "questions") × AsksFormSet met.1 o
 Asks (Some met) (Question o) = (met.0 ≡ codes "question") × AsksQuestion met.1 o
+Asks (Some met) (Unlock o) = (met.0 ≡ codes "unlock") × AsksUnlock met.1 o
 Asks (Some met) (Apply o) = (met.0 ≡ codes "apply") × AsksApply met.1 o
 Asks (Some met) (Export o) = (met.0 ≡ codes "export") × AsksExport met.1 o
 Asks (Some met) (Diff o) = (met.0 ≡ codes "diff") × AsksDiff met.1 o
+Asks (Some met) (Survey o) = (met.0 ≡ codes "survey") × AsksSurvey met.1 o
 
 -- ---- options that do not go together
 
@@ -207,13 +228,13 @@ HasNoPart rows =
     × (is_part (first_of (codes "id") rows) (first_of (codes "out") rows)
     (first_of (codes "with") rows) lines ≡ false)
 
--- The word that gives the id of a store is none.
-abbrev pub HasNoStoreId : List Row → Type 0
-HasNoStoreId rows = (text : Text) × (first_of (codes "id") rows ≡ Some text) × (id_in text ≡ None)
+-- A word gives an id, and is none.
+abbrev pub HasBadId : List Row → Type 0
+HasBadId rows = (text : Text) × (first_of (codes "id") rows ≡ Some text) × (id_in text ≡ None)
 
 abbrev pub IsMisusedExport : List Row → Misuse → Type 0
 IsMisusedExport rows NoPart = HasNoPart rows
-IsMisusedExport rows NoStoreId = HasNoStoreId rows
+IsMisusedExport rows NoStoreId = HasBadId rows
 IsMisusedExport rows _ = ⊥
 
 abbrev pub is_command : Text → Bool
@@ -226,7 +247,9 @@ is_command name =
     || (bytes_eq name (codes "questions")
     || (bytes_eq name (codes "question")
     || (bytes_eq name (codes "apply")
-    || (bytes_eq name (codes "export") || bytes_eq name (codes "diff")))))))))
+    || (bytes_eq name (codes "export")
+    || (bytes_eq name (codes "diff")
+    || (bytes_eq name (codes "unlock") || bytes_eq name (codes "survey")))))))))))
 
 -- The options of the command that the words name do not go together, or the words name none.
 abbrev pub IsMisused : Option (Text × List Row) → Misuse → Type 0
@@ -234,6 +257,7 @@ IsMisused None misuse = misuse ≡ NoCommand
 IsMisused (Some met) NoCommand = is_command met.0 ≡ false
 IsMisused (Some met) TakeWithoutOut = (met.0 ≡ codes "split") × AreApart met.1
 IsMisused (Some met) NoStoreFile = (met.0 ≡ codes "image") × HasNoStoreFile met.1
-IsMisused (Some met) NoId = (met.0 ≡ codes "question") × HasNoId met.1
-IsMisused (Some met) NoStoreId = (met.0 ≡ codes "export") × HasNoStoreId met.1
+IsMisused (Some met) NoId =
+    ((met.0 ≡ codes "question") × HasNoId met.1) ⊎ ((met.0 ≡ codes "unlock") × HasBadId met.1)
+IsMisused (Some met) NoStoreId = (met.0 ≡ codes "export") × HasBadId met.1
 IsMisused (Some met) NoPart = (met.0 ≡ codes "export") × HasNoPart met.1

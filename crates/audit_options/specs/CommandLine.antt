@@ -37,6 +37,9 @@ required_option name = record (option name) { required = true }
 abbrev pub list : Rule
 list = required_option (codes "list")
 
+abbrev pub dump : Rule
+dump = required_option (codes "dump")
+
 abbrev pub stores_image : Rule
 stores_image = required_option (codes "stores")
 
@@ -72,6 +75,15 @@ flag name = record (new_rule name) { long = Some name; action = Some SetTrue }
 abbrev pub json : Rule
 json = flag (codes "json")
 
+abbrev pub efivars : Rule
+efivars = option (codes "efivars")
+
+abbrev pub config : Rule
+config = option (codes "config")
+
+abbrev pub zero : Rule
+zero = flag (codes "zero")
+
 -- ---- commands
 
 abbrev pub command_of : Text → List Rule → Shape
@@ -79,7 +91,7 @@ command_of name rules = record (new_shape name) { rules = rules }
 
 abbrev pub split : Shape
 split = command_of (codes "split")
-    (required_option (codes "dump") ∷ take ∷ option (codes "out") ∷ json ∷ [])
+    (dump ∷ take ∷ option (codes "out") ∷ json ∷ [])
 
 abbrev pub stores : Shape
 stores = command_of (codes "stores") (list ∷ take ∷ flag (codes "headers") ∷ json ∷ forms ∷ [])
@@ -92,8 +104,8 @@ opcodes = command_of (codes "opcodes") (list ∷ take ∷ json ∷ forms ∷ [])
 
 abbrev pub image : Bool → Shape
 image takes_hyphen = command_of (codes "image")
-    (list ∷ take ∷ required_option (codes "out") ∷ store ∷ option (codes "efivars")
-    ∷ option (codes "config") ∷ flag (codes "zero") ∷ defaults ∷ json ∷ forms ∷ lang takes_hyphen ∷ [])
+    (list ∷ take ∷ required_option (codes "out") ∷ store ∷ efivars
+    ∷ config ∷ zero ∷ defaults ∷ json ∷ forms ∷ lang takes_hyphen ∷ [])
 
 abbrev pub questions : Bool → Shape
 questions takes_hyphen = command_of (codes "questions")
@@ -102,6 +114,10 @@ questions takes_hyphen = command_of (codes "questions")
 abbrev pub question : Bool → Shape
 question takes_hyphen = command_of (codes "question")
     (list ∷ take ∷ stores_image ∷ required_option (codes "id") ∷ json ∷ forms ∷ lang takes_hyphen ∷ [])
+
+abbrev pub unlock : Bool → Shape
+unlock takes_hyphen = command_of (codes "unlock")
+    (list ∷ take ∷ stores_image ∷ option (codes "id") ∷ json ∷ forms ∷ lang takes_hyphen ∷ [])
 
 abbrev pub apply : Bool → Shape
 apply takes_hyphen = command_of (codes "apply")
@@ -117,6 +133,10 @@ abbrev pub diff : Bool → Shape
 diff takes_hyphen = command_of (codes "diff")
     (list ∷ take ∷ stores_image ∷ required_option (codes "with") ∷ json ∷ forms ∷ lang takes_hyphen ∷ [])
 
+abbrev pub survey : Bool → Shape
+survey takes_hyphen = command_of (codes "survey")
+    (dump ∷ efivars ∷ config ∷ zero ∷ option (codes "find") ∷ json ∷ lang takes_hyphen ∷ [])
+
 -- all of it, where a language may begin with a hyphen or not
 abbrev pub program : Bool → App
 program takes_hyphen = record {
@@ -126,7 +146,8 @@ program takes_hyphen = record {
     subcommand_required = true;
   };
   subs = split ∷ stores ∷ check ∷ opcodes ∷ image takes_hyphen ∷ questions takes_hyphen
-      ∷ question takes_hyphen ∷ apply takes_hyphen ∷ export ∷ diff takes_hyphen ∷ [];
+      ∷ question takes_hyphen ∷ unlock takes_hyphen ∷ apply takes_hyphen ∷ export ∷ diff takes_hyphen
+      ∷ survey takes_hyphen ∷ [];
 }
 
 -- ---- what is built

@@ -54,6 +54,10 @@ Tells what is known of one question: its opcode and field, its value and default
 each guard and check around it in words, its options, on which questions it depends
 whether it may be changed, and for which questions it decides that";
 
+const ABOUT_UNLOCK: &str = "\
+Tells what would open each question that may not be changed: at most three commands,
+which were tried, else a write into a store that was tried; or that none can";
+
 const ABOUT_APPLY: &str = "\
 Runs a script as setup runs it, and writes the image that it leaves, where each of
 its commands was answered OK; else tells the first that was not, why, and on which
@@ -66,6 +70,10 @@ bytes as one number, as NAME:0xOFFSET(WIDTH)=0xVALUE";
 const ABOUT_DIFF: &str = "\
 Tells what another image holds differently: the values of questions, bytes that no
 question has, and verdicts";
+
+const ABOUT_SURVEY: &str = "\
+Tells of each forms package of a dump how many of its questions may be changed, over
+the image that its stores would make, and why others may not; or why none is told";
 
 /// All commands. The word behind `--lang` may begin with a hyphen where `takes_hyphen` says so.
 pub(crate) fn command<'a>(
@@ -83,9 +91,11 @@ pub(crate) fn command<'a>(
     let command = with_command(command, image(alloc, takes_hyphen));
     let command = with_command(command, questions(alloc, takes_hyphen));
     let command = with_command(command, question(alloc, takes_hyphen));
+    let command = with_command(command, unlock(alloc, takes_hyphen));
     let command = with_command(command, apply(alloc, takes_hyphen));
     let command = with_command(command, export(alloc));
-    with_command(command, diff(alloc, takes_hyphen))
+    let command = with_command(command, diff(alloc, takes_hyphen));
+    with_command(command, survey(alloc, takes_hyphen))
 }
 
 // The program without its commands.
@@ -130,11 +140,10 @@ pub(crate) fn split_alone<'a>(alloc: Global) -> Result<Command<'a>, AllocError> 
 fn split<'a>(alloc: Global) -> Result<Command<'a>, AllocError>
     ensures { IfOk result (IsCommand spec.split) }
 {
-    let dump = option(alloc, "dump", "F", "Package lists, one after the other").required(true);
     let take = take(alloc, "Number of the list that is taken, counted from 1");
     let out = option(alloc, "out", "F", "File for the list that is taken");
     let command = Command::new(alloc, "split").about(ABOUT_SPLIT);
-    let command = command.arg(dump);
+    let command = command.arg(dump(alloc));
     let command = with_arg(command, take);
     let command = with_arg(command, out);
     with_arg(command, json(alloc))
@@ -211,36 +220,51 @@ fn image<'a>(alloc: Global, takes_hyphen: bool) -> Result<Command<'a>, AllocErro
         "File of the bytes of the store with this id, as 16 or 0x10",
     )
     .action(ArgAction::Append);
-    let efivars = option(
-        alloc,
-        "efivars",
-        "DIR",
-        "Folder with a file NAME-guid for each variable: its attributes in four bytes, and its bytes",
-    );
-    let zero = flag(
-        alloc,
-        "zero",
-        "Fill stores that are given no bytes with zeros",
-    );
-    let config = option(
-        alloc,
-        "config",
-        "F",
-        "Text of the firmware's ExportConfig, with the bytes of stores that are given no file",
-    );
     let out = option(alloc, "out", "F", "Image that is written").required(true);
     let command = Command::new(alloc, "image").about(ABOUT_IMAGE);
     let command = command.arg(list(alloc));
     let command = with_arg(command, take_of_dump(alloc));
     let command = with_arg(command, out);
     let command = with_arg(command, store);
-    let command = with_arg(command, efivars);
-    let command = with_arg(command, config);
-    let command = with_arg(command, zero);
+    let command = with_arg(command, efivars(alloc));
+    let command = with_arg(command, config(alloc));
+    let command = with_arg(command, zero(alloc));
     let command = with_arg(command, defaults(alloc));
     let command = with_arg(command, json(alloc));
     let command = with_arg(command, forms(alloc));
     with_arg(command, lang(alloc, takes_hyphen))
+}
+
+fn efivars(alloc: Global) -> Arg<'static>
+    ensures { IsArg spec.efivars result }
+{
+    option(
+        alloc,
+        "efivars",
+        "DIR",
+        "Folder with a file NAME-guid for each variable: its attributes in four bytes, and its bytes",
+    )
+}
+
+fn config(alloc: Global) -> Arg<'static>
+    ensures { IsArg spec.config result }
+{
+    option(
+        alloc,
+        "config",
+        "F",
+        "Text of the firmware's ExportConfig, with the bytes of stores that are given no file",
+    )
+}
+
+fn zero(alloc: Global) -> Arg<'static>
+    ensures { IsArg spec.zero result }
+{
+    flag(
+        alloc,
+        "zero",
+        "Fill stores that are given no bytes with zeros",
+    )
 }
 
 fn defaults(alloc: Global) -> Arg<'static>
@@ -263,6 +287,44 @@ fn json(alloc: Global) -> Arg<'static>
         "json",
         "Tell each as an object of JSON on a line of its own",
     )
+}
+
+fn unlock<'a>(alloc: Global, takes_hyphen: bool) -> Result<Command<'a>, AllocError>
+    ensures { IfOk result (IsCommand (spec.unlock takes_hyphen)) }
+{
+    let id = option(
+        alloc,
+        "id",
+        "Q",
+        "Id of the question that is told alone, as 33 or 0x21",
+    );
+    let command = Command::new(alloc, "unlock").about(ABOUT_UNLOCK);
+    let command = command.arg(list(alloc));
+    let command = with_arg(command, take_of_dump(alloc));
+    let command = with_arg(command, image_of_stores(alloc));
+    let command = with_arg(command, id);
+    let command = with_arg(command, json(alloc));
+    let command = with_arg(command, forms(alloc));
+    with_arg(command, lang(alloc, takes_hyphen))
+}
+
+fn survey<'a>(alloc: Global, takes_hyphen: bool) -> Result<Command<'a>, AllocError>
+    ensures { IfOk result (IsCommand (spec.survey takes_hyphen)) }
+{
+    let find = option(
+        alloc,
+        "find",
+        "TEXT",
+        "Tell the questions whose prompt or help has this text, letters in both cases",
+    );
+    let command = Command::new(alloc, "survey").about(ABOUT_SURVEY);
+    let command = command.arg(dump(alloc));
+    let command = with_arg(command, efivars(alloc));
+    let command = with_arg(command, config(alloc));
+    let command = with_arg(command, zero(alloc));
+    let command = with_arg(command, find);
+    let command = with_arg(command, json(alloc));
+    with_arg(command, lang(alloc, takes_hyphen))
 }
 
 fn apply<'a>(alloc: Global, takes_hyphen: bool) -> Result<Command<'a>, AllocError>
@@ -317,6 +379,12 @@ fn diff<'a>(alloc: Global, takes_hyphen: bool) -> Result<Command<'a>, AllocError
     let command = with_arg(command, json(alloc));
     let command = with_arg(command, forms(alloc));
     with_arg(command, lang(alloc, takes_hyphen))
+}
+
+fn dump(alloc: Global) -> Arg<'static>
+    ensures { IsArg spec.dump result }
+{
+    option(alloc, "dump", "F", "Package lists, one after the other").required(true)
 }
 
 fn list(alloc: Global) -> Arg<'static>

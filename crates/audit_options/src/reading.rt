@@ -4,14 +4,14 @@ ghost use Rattle.std.specs.Prelude.{◌≡◌, ◌≢◌, List, [], codes, false
 ghost use Rattle.clap.specs.Words.{all_of, found_of, kind_of, rows_of, subcommand_of, subcommand_rows_of, takes};
 ghost use Rattle.audit_options.specs.CommandLine as spec;
 ghost use Rattle.audit_options.specs.CommandLine.{has_hyphen_language, program};
-ghost use Rattle.audit_options.specs.Asked.{AreApart, AreStoreFiles, Asks, AsksApply, AsksCheck, AsksDiff, AsksExport, AsksFormSet, AsksImage, AsksList, AsksOpcodes, AsksPart, AsksQuestion, AsksSplit, AsksStores, HasNoId, HasNoPart, HasNoStoreFile, IsMisused, IsMisusedExport, IsStoreFile, kind_of_misuse};
+ghost use Rattle.audit_options.specs.Asked.{AreApart, AreStoreFiles, Asks, AsksApply, AsksCheck, AsksDiff, AsksExport, AsksFormSet, AsksImage, AsksList, AsksOpcodes, AsksPart, AsksQuestion, AsksSources, AsksSplit, AsksStores, AsksSurvey, AsksUnlock, HasBadId, HasNoId, HasNoPart, HasNoStoreFile, IsMisused, IsMisusedExport, IsStoreFile, kind_of_misuse};
 
 use crate::commands::{command, split_alone};
 use crate::ids::id_in;
 use crate::tasks::{
     ApplyOptions, CheckOptions, DiffOptions, ExportOptions, ExportPart, FormSetOptions,
-    ImageOptions, ListOptions, OpcodesOptions, QuestionOptions, SplitOptions, StoreFile,
-    StoresOptions, TakenList, Task,
+    ImageOptions, ListOptions, OpcodesOptions, QuestionOptions, Sources, SplitOptions, StoreFile,
+    StoresOptions, SurveyOptions, TakenList, Task, UnlockOptions,
 };
 use clap::error::ErrorKind;
 use clap::{ArgMatches, Command, Error};
@@ -136,9 +136,11 @@ fn task_in<'a>(
         "image" => image_in(alloc, options)?.map(Task::Image),
         "questions" => Ok(Task::Questions(form_set_in(options))),
         "question" => question_in(options).map(Task::Question),
+        "unlock" => unlock_in(options).map(Task::Unlock),
         "apply" => Ok(Task::Apply(apply_in(options))),
         "export" => export_in(options).map(Task::Export),
         "diff" => Ok(Task::Diff(diff_in(options))),
+        "survey" => Ok(Task::Survey(survey_in(alloc, options))),
         _ => Err(Misuse::NoCommand),
     })
 }
@@ -226,6 +228,25 @@ fn question_in<'a>(options: &ArgMatches<'a>) -> Result<QuestionOptions<'a>, Misu
     })
 }
 
+// The questions that are asked for, unless an id is given that is none.
+fn unlock_in<'a>(options: &ArgMatches<'a>) -> Result<UnlockOptions<'a>, Misuse>
+    ensures asked { IfOk result (AsksUnlock (rows_of (found_of options.now))) }
+    ensures misused { IfErr result (λ misuse. (misuse ≡ Misuse.NoId)
+        × HasBadId (rows_of (found_of options.now))) }
+{
+    let id = match options.get_str("id") {
+        Some(word) => match id_in(word) {
+            Some(id) => Some(id),
+            None => return Err(Misuse::NoId),
+        },
+        None => None,
+    };
+    Ok(UnlockOptions {
+        form_set: form_set_in(options),
+        id,
+    })
+}
+
 // What is told of an image, unless options do not go together, or the id is none.
 fn export_in<'a>(options: &ArgMatches<'a>) -> Result<ExportOptions<'a>, Misuse>
     ensures asked { IfOk result (AsksExport (rows_of (found_of options.now))) }
@@ -289,14 +310,36 @@ fn image_in<'a>(
     Ok(Ok(ImageOptions {
         list: list_in(options),
         out: options.get_str("out").unwrap_or(""),
-        files,
-        efivars: options.get_str("efivars"),
-        config: options.get_str("config"),
-        zero: options.get_flag("zero"),
+        sources: sources_in(options, files),
         defaults: options.get_one::<u16>("defaults"),
         json: options.get_flag("json"),
         lang: options.get_str("lang").unwrap_or("en-US"),
     }))
+}
+
+fn survey_in<'a>(alloc: Global, options: &ArgMatches<'a>) -> SurveyOptions<'a>
+    ensures { AsksSurvey (rows_of (found_of options.now)) result }
+{
+    SurveyOptions {
+        dump: options.get_str("dump").unwrap_or(""),
+        sources: sources_in(options, Vec::new(alloc)),
+        find: options.get_str("find"),
+        json: options.get_flag("json"),
+        lang: options.get_str("lang").unwrap_or("en-US"),
+    }
+}
+
+// Where the bytes of stores come from that are given these files.
+fn sources_in<'a>(options: &ArgMatches<'a>, files: Vec<StoreFile<'a>>) -> Sources<'a>
+    ensures asked { AsksSources (rows_of (found_of options.now)) result }
+    ensures files { result.files.items ≡ files.entry.items }
+{
+    Sources {
+        files,
+        efivars: options.get_str("efivars"),
+        config: options.get_str("config"),
+        zero: options.get_flag("zero"),
+    }
 }
 
 // The files that are given to stores, unless one is not given as an id and a file.

@@ -17,12 +17,16 @@ pub enum Task<'a> {
     Questions(FormSetOptions<'a>),
     /// What is known of one question.
     Question(QuestionOptions<'a>),
+    /// What would open the questions that may not be changed.
+    Unlock(UnlockOptions<'a>),
     /// What a script leaves of an image.
     Apply(ApplyOptions<'a>),
     /// What an image holds.
     Export(ExportOptions<'a>),
     /// What two images hold differently.
     Diff(DiffOptions<'a>),
+    /// A line for each forms package of a dump.
+    Survey(SurveyOptions<'a>),
 }
 
 /// A dump, and what is told of it.
@@ -105,6 +109,14 @@ pub struct QuestionOptions<'a> {
     pub id: u16,
 }
 
+/// The questions of a form set for which is told what would open them.
+#[derive(Clone, Copy)]
+pub struct UnlockOptions<'a> {
+    pub form_set: FormSetOptions<'a>,
+    /// The id of the question; where it is none, all that may not be changed are told.
+    pub id: Option<u16>,
+}
+
 /// A script that is run over a form set and an image of its stores.
 #[derive(Clone, Copy)]
 pub struct ApplyOptions<'a> {
@@ -151,6 +163,34 @@ pub struct ImageOptions<'a> {
     pub list: ListOptions<'a>,
     /// The file into which the image is written.
     pub out: &'a str,
+    /// Where the bytes of stores come from.
+    pub sources: Sources<'a>,
+    /// The class of the defaults that are laid over these bytes.
+    pub defaults: Option<u16>,
+    /// Whether the stores are told as objects of JSON.
+    pub json: bool,
+    /// The language of the texts of defaults.
+    pub lang: &'a str,
+}
+
+/// A dump, and what is told of its forms packages.
+#[derive(Drop)]
+pub struct SurveyOptions<'a> {
+    /// The file of the dump.
+    pub dump: &'a str,
+    /// Where the bytes of stores come from. No store is given a file.
+    pub sources: Sources<'a>,
+    /// The text by which questions are found; where it is none, no question is told.
+    pub find: Option<&'a str>,
+    /// Whether they are told as objects of JSON.
+    pub json: bool,
+    /// The language of the texts of questions.
+    pub lang: &'a str,
+}
+
+/// Where the bytes of stores come from: the first of these that has some.
+#[derive(Drop)]
+pub struct Sources<'a> {
     /// The files that are given to stores.
     pub files: Vec<StoreFile<'a>>,
     /// The folder with files of variables.
@@ -159,12 +199,6 @@ pub struct ImageOptions<'a> {
     pub config: Option<&'a str>,
     /// Whether stores that are given no bytes hold zeros.
     pub zero: bool,
-    /// The class of the defaults that are laid over these bytes.
-    pub defaults: Option<u16>,
-    /// Whether the stores are told as objects of JSON.
-    pub json: bool,
-    /// The language of the texts of defaults.
-    pub lang: &'a str,
 }
 
 /// A file that holds the bytes of a store.

@@ -5,6 +5,7 @@ use Rattle.std.specs.List.{AllByRecursion}
 use Rattle.std.specs.Option.{option_or}
 use Rattle.std.proofs.lemmas.Bool.{cases_Bool, cond-false, and_parts, eqb-true}
 use Rattle.ifr_opcodes.specs.Forest.{Node}
+use Rattle.ifr_opcodes.specs.Fields.{is_read_only}
 use Rattle.ifr_opcodes.specs.Reading.{tree_of}
 use Rattle.ifr_nodes.specs.Accepted.{IsAccepted}
 use Rattle.ifr_nodes.specs.Nodes.{nodes_of, is_question}
@@ -16,8 +17,8 @@ use Rattle.hii_questions.specs.Fields.{Field, Asked, asked, questions, field_pas
 use Rattle.hii_questions.specs.Inputs.{field}
 use Rattle.hii_questions.specs.code.Views.{question_node, question_view}
 use Rattle.hii_questions.specs.declared.question.Question.{Question}
-use Rattle.hii_questions.specs.declared.denial.DenialKind.TheVariants.{Password}
-use Rattle.guard_policy.specs.Policy.{denied_by, fixed}
+use Rattle.hii_questions.specs.declared.denial.DenialKind.TheVariants.{Password, ReadOnly}
+use Rattle.guard_policy.specs.Policy.{covered, denied_by, fixed, fixed_itself, or_else}
 use Rattle.guard_policy.specs.World.{World}
 use Rattle.guard_policy.specs.code.Answers.{unless}
 use Rattle.guard_policy.specs.code.Surroundings.{IsAroundNode, answer_of}
@@ -119,6 +120,22 @@ pub choice_later : (policy : Policy) (working : StoreMap) (f : Field) (first : O
     → ChoiceLeft policy working f first left → unless (fixed (world policy working) (question_node question)) ≡ Err denial → ChoiceLeft policy working f first rest
 choice_later policy working f None question left rest denial some e h why = absurd cc
 choice_later policy working f (Some found) question left rest denial some e h why = next_choice policy working f (Some found) (Some found) question left rest denial e h why h.met refl
+
+-- what is READ_ONLY is fixed, whatever stands around it
+or_some : (a b : Option Denial) (d : Denial) → b ≡ Some d → (x : Denial) × (unless (or_else a b) ≡ Err x)
+or_some None b d e = (d, ap unless e)
+or_some (Some x) b d e = (x, refl)
+
+read_only_itself : (ns : List Node) (n : Node) → is_question n ≡ true → is_read_only n.op ≡ true → fixed_itself ns n ≡ Some (denied_by ReadOnly n)
+read_only_itself ns n asks only = rw (asks, only) refl
+
+pub choice_passed : (policy : Policy) (working : StoreMap) (f : Field) (first : Option (Question × Result Around Denial)) (question : Question) (left rest : List Asked) → is_some first ≡ true → is_read_only (question_node question).op ≡ true
+    → left ≡ question_view question ∷ rest → ChoiceLeft policy working f first left → ChoiceLeft policy working f first rest
+choice_passed policy working f first question left rest some only e h =
+    let n = question_node question in
+    let w = world policy working in
+    let why = or_some (covered w n) (fixed_itself w.nodes n) (denied_by ReadOnly n) (read_only_itself w.nodes n question.asks only) in
+    choice_later policy working f first question left rest why.0 some e h why.1
 
 pub choice_end : (policy : Policy) (working : StoreMap) (f : Field) (first : Option (Question × Result Around Denial)) (left : List Asked) → left ≡ [] → ChoiceLeft policy working f first left → FirstChoice policy working f first
 choice_end policy working f None left e h = rw e at h.said

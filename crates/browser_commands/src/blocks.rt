@@ -179,6 +179,10 @@ fn first_choice<'a, 's>(
     let mut first = None;
     let mut sharing = questions.with_field(field);
     while let Some(question) = sharing.next() {
+        // Whatever stands around it, this one is fixed.
+        if first.is_some() && question.op().is_read_only() {
+            continue;
+        }
         match working.changeable_question(policy, question) {
             Ok(around) => return Some((question, Ok(around))),
             Err(denial) => {

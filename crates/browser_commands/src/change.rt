@@ -25,6 +25,7 @@ const NARROW: usize = 8;
 
 /// Gives a question a value, or tells why it may not have it. The working stores then hold what they held, as the spare ones do,
 /// or new bytes in the question's field.
+#[inline(always)]
 pub(crate) fn give_value<'a, 'i>(
     policy: Policy<'a, '_>,
     question: Question<'a>,
@@ -66,6 +67,7 @@ pub(crate) fn set_value<'a, 's, 'i>(
 }
 
 // The new bytes with which a question that is not fixed has a value, where it takes the value and its options may be chosen.
+#[inline(always)]
 fn new_field<'a, 's, 'i>(
     policy: Policy<'a, 's>,
     question: Question<'a>,
@@ -84,6 +86,7 @@ fn new_field<'a, 's, 'i>(
 }
 
 // Whether an option of each of these values of a question that is not fixed may be chosen: each is looked for by itself.
+#[inline(always)]
 fn each_option_open<'a, 's>(
     policy: Policy<'a, 's>,
     question: Question<'a>,
@@ -128,6 +131,7 @@ fn all_options_open<'a, 's>(
 
 // Whether an option of each of the values that new bytes of a field name, of a question that is not fixed, may be chosen: of a number,
 // or of the elements of a list.
+#[inline(always)]
 fn options_open<'a, 's>(
     policy: Policy<'a, 's>,
     question: Question<'a>,
@@ -150,6 +154,7 @@ fn options_open<'a, 's>(
 }
 
 // The bytes of the field of a question, if it has one.
+#[inline(always)]
 pub(crate) fn bytes_in<'s>(stores: &'s Stores, question: Question<'_>) -> Option<&'s [u8]>
     requires { LiesIn (shape_of stores.now) (question_view question) }
     ensures { option_copied result ≡ field_bytes stores.now (question_view question.entry).field }
@@ -159,6 +164,7 @@ pub(crate) fn bytes_in<'s>(stores: &'s Stores, question: Question<'_>) -> Option
 }
 
 // The bytes of the field of a question, none if it has no field.
+#[inline(always)]
 fn held_in<'s>(stores: &'s Stores, question: Question<'_>) -> &'s [u8]
     requires { LiesIn (shape_of stores.now) (question_view question) }
     ensures { IsHeld stores.now (question_view question.entry) result.now }

@@ -1,20 +1,25 @@
 //! The lines of answers.
 
-ghost use Rattle.std.specs.Prelude.{◌≡◌, ◌++◌, length};
+ghost use Rattle.std.specs.Prelude.{◌≡◌, ◌++◌, length, map};
 ghost use Rattle.hii_bytes.specs.Watching.{Puts, Writes};
 ghost use Rattle.std.specs.List.{flat_map};
 ghost use Rattle.browser_rules.specs.Strings.{shown};
 ghost use Rattle.hii_languages.specs.code.Views.{chars_left, choice_of};
-ghost use Rattle.guard_policy.specs.code.WarningsLeft.{warnings_left};
+ghost use Rattle.ifr_nodes.specs.code.Checked.{IsNodeOf};
+ghost use Rattle.hii_questions.specs.code.Views.{question_node};
+ghost use Rattle.guard_policy.specs.Policy.{warned};
+ghost use Rattle.guard_policy.specs.Warned.{warning_of};
+ghost use Rattle.guard_policy.specs.code.Views.{bytes_of, world};
 ghost use Rattle.session_steps.specs.Texts.{count_text, changed_text, message_text, denied_text, warning_text, warning_line, refused_text, refused_at_text};
 
 use arrayvec::ArrayVec;
 use form_page::put_shown;
-use guard_policy::{Denial, Warning, Warnings};
+use guard_policy::{Denial, Policy, Warning};
 use hii_bytes::{Cause, Fault, Watched};
 use hii_languages::{Choice, Languages, ShownChars};
-use hii_questions::DenialKind;
+use hii_questions::{DenialKind, Question};
 use itoa::Buffer;
+use kept_conditions::KeptStores;
 use std::io::Write;
 
 /// Writes `OK n`.
@@ -90,19 +95,24 @@ fn put_warning<W: Write>(warning: Warning, message: ShownChars<'_>, out: &mut Wa
     out.put(b"\n");
 }
 
-/// Writes a line for each warning, with its text in a language.
-pub(crate) fn put_warnings<W: Write>(
-    warnings: Warnings<'_, '_>,
+/// Writes a line for each warning of a question over stores, with its text in a language.
+pub(crate) fn put_warnings<'a, W: Write>(
+    policy: Policy<'a, '_>,
+    question: Question<'a>,
+    stores: &mut KeptStores<'a>,
     languages: &Languages<'_>,
     language: Choice,
     out: &mut Watched<W>,
 )
-    ensures { Puts W.contents out.old out.new
+    requires package { bytes_of policy ≡ stores.old.ifr }
+    requires node { IsNodeOf (bytes_of policy) (question_node question) }
+    ensures text { Puts W.contents out.old out.new
         (flat_map (warning_line (shown languages.now (choice_of language)))
-        (warnings_left warnings.entry)) }
+        (map warning_of (warned (world policy.entry stores.old.stores) (question_node question.entry)))) }
+    ensures same { stores.new ≡ stores.old }
 {
-    let mut warnings = warnings;
-    while let Some(warning) = warnings.next() {
+    let mut conditions = policy.warning_conditions(question);
+    while let Some(warning) = stores.next_warning(policy, &mut conditions) {
         let message = languages.text(language, warning.message);
         put_warning(warning, message.chars(), out);
     }

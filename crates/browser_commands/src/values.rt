@@ -30,6 +30,7 @@ use std::io::Write;
 
 impl<'a> Browser<'a> {
     // The question of an id.
+    #[inline(always)]
     pub(crate) fn find(&self, id: u16) -> Result<Question<'a>, Denial>
         ensures { Finds self.now.state id result }
     {
@@ -130,8 +131,14 @@ impl<'a> Browser<'a> {
         let policy = Policy::new(&self.forms, &self.questions, &self.removed);
         let field = give_value(policy, question, input, &mut self.working, &self.spare)?;
         out.put(b"OK\n");
-        let warnings = policy.warnings(question, self.working.stores());
-        put_warnings(warnings, &self.languages, self.language, out);
+        put_warnings(
+            policy,
+            question,
+            &mut self.working,
+            &self.languages,
+            self.language,
+            out,
+        );
         field.put(&mut self.spare);
         Ok(())
     }

@@ -6,7 +6,6 @@ use Rattle.std.proofs.lemmas.Bool.{cond-true, cond-false}
 use Rattle.std.proofs.lemmas.List.{map-append, length-drop, length-take}
 use Rattle.browser_rules.specs.Faults.{list_faults, number_faults, string_faults}
 use Rattle.browser_rules.specs.Packages.{FORMS, Package, forms_package, packages_with}
-use Rattle.browser_rules.specs.Strings.{Spoken}
 use Rattle.hii_bytes.specs.Faults.{HasNone, IsAmong, IsLeastAmong, Refuses, RefusesAmong}
 use Rattle.hii_bytes.specs.Watching.{Pen, Writes}
 use Rattle.hii_bytes.specs.declared.cause.Fault.{Fault}
@@ -22,6 +21,7 @@ use Rattle.check_audit.proofs.RefusalLemmas.{refuses_second}
 use Rattle.audit_json.specs.declared.telling.Telling.{Telling}
 use Rattle.opcode_audit.specs.Lines.{said_first}
 use Rattle.check_audit.specs.Checks.{BeginsCheck, IsJudged, Judged, TellsAll, Told, all_good, judged_told, packages_told, told_of}
+use Rattle.check_audit.specs.Lacks.{lacks_in}
 use Rattle.check_audit.specs.Verdicts.{IsListFault, IsVerdict, is_good}
 use Rattle.check_audit.specs.declared.verdict.Verdict.{Verdict}
 
@@ -52,9 +52,9 @@ nothing_refused list seen source same sound found texts =
 abbrev pub is_forms : Package → Bool
 is_forms p = p.kind == FORMS
 
-all_more : (spoken : List Spoken) (js : List Judged) (j : Judged) → AllByRecursion (IsJudged spoken) js → IsJudged spoken j → AllByRecursion (IsJudged spoken) (js ++ j ∷ [])
-all_more spoken [] j each is = (is, tt)
-all_more spoken (k ∷ js) j each is = (each.0, all_more spoken js j each.1 is)
+all_more : (list : List ℕ) (js : List Judged) (j : Judged) → AllByRecursion (IsJudged list) js → IsJudged list j → AllByRecursion (IsJudged list) (js ++ j ∷ [])
+all_more list [] j each is = (is, tt)
+all_more list (k ∷ js) j each is = (each.0, all_more list js j each.1 is)
 
 packages_more : (t : Told) (number : ℕ) (js : List Judged) (j : Judged) → packages_told t number (js ++ j ∷ []) ≡ packages_told t number js ++ judged_told t (number + length js) j
 packages_more t number [] j = append-nil (judged_told t number j) ∙ ap (λ n. judged_told t n j) (omega arith)
@@ -78,7 +78,7 @@ good_more (k ∷ js) j = ap (λ b. is_good k.verdict && b) (good_more js j) ∙ 
 -- Of the packages of a list some are left, and the forms packages before them are told, as many as the number.
 pub record Goes (telling : Telling) (list : List ℕ) (start : ℕ) (left : List Package) (number : ℕ) (is : Bool) (old new : Pen) : Type 0 where
   pub judged : List Judged
-  pub each : AllByRecursion (IsJudged (said_first list)) judged
+  pub each : AllByRecursion (IsJudged list) judged
   pub in_order : map (λ j. j.source) judged ++ filter is_forms left ≡ packages_with FORMS list
   pub next : number ≡ length judged
   pub good : is ≡ all_good judged
@@ -114,7 +114,7 @@ goes_passed {telling} {list} {start} {left} {later} {number} {is} {old} {new} p 
     }
 
 pub goes_more : {telling : Telling} {list : List ℕ} {start : ℕ} {left later : List Package} {number : ℕ} {is : Bool} {old new newer : Pen} (p : Package) (verdict : Verdict) → Goes telling list start left number is old new → left ≡ p ∷ later → is_forms p ≡ true
-    → IsVerdict (said_first list) p.bytes verdict → Writes new newer (judged_told (told_of telling list start) (number + 1) record { source = p; verdict = verdict }) → Goes telling list start later (number + 1) (is && is_good verdict) old newer
+    → IsVerdict (said_first list) (lacks_in list) p.bytes verdict → Writes new newer (judged_told (told_of telling list start) (number + 1) record { source = p; verdict = verdict }) → Goes telling list start later (number + 1) (is && is_good verdict) old newer
 goes_more {telling} {list} {start} {left} {later} {number} {is} {old} {new} {newer} p verdict g steps forms found wrote =
     let j : Judged = record { source = p; verdict = verdict } in
     let source : Judged → Package = λ k. k.source in
@@ -125,7 +125,7 @@ goes_more {telling} {list} {start} {left} {later} {number} {is} {old} {new} {new
     let place : number + 1 ≡ 1 + length g.judged = omega (arith, g.next) in
     record {
       judged = g.judged ++ j ∷ [];
-      each = all_more (said_first list) g.judged j g.each found;
+      each = all_more list g.judged j g.each found;
       in_order = ap (λ (ps : List Package). ps ++ filter is_forms later) (map-append source g.judged (j ∷ [])) ∙ append_assoc (map source g.judged) (p ∷ []) (filter is_forms later)
           ∙ ap (λ (ps : List Package). map source g.judged ++ ps) (sym first) ∙ g.in_order;
       next = omega (arith, g.next, size);

@@ -1,7 +1,9 @@
-mod CheckLemmas
-mod CountLemmas
+pub mod CheckLemmas
+pub mod CountLemmas
+mod LackLemmas
 mod RefusalLemmas
 mod SeenLemmas
 mod SessionLemmas
+mod TextlessLemmas
 mod WarningCases
 mod WarningLemmas

@@ -7,6 +7,7 @@ use Rattle.hii_bytes.specs.Faults.{HasNone, IsLeast}
 use Rattle.hii_bytes.specs.declared.cause.Fault.{Fault}
 use Rattle.audit_json.specs.declared.telling.Telling.{Telling}
 use Rattle.opcode_audit.specs.Lines.{said_first}
+use Rattle.check_audit.specs.Lacks.{Lack, lacks_in}
 use Rattle.check_audit.specs.Lines.{list_refusal_told, package_told}
 use Rattle.check_audit.specs.Verdicts.{IsListFault, IsVerdict, is_good}
 use Rattle.check_audit.specs.declared.verdict.Verdict.{Verdict}
@@ -16,20 +17,22 @@ pub record Judged : Type 0 where
   pub source : Package
   pub verdict : Verdict
 
--- where the first string package says this
-abbrev pub IsJudged : List Spoken → Judged → Type 0
-IsJudged spoken j = IsVerdict spoken j.source.bytes j.verdict
+-- in a list, by what its string packages say
+abbrev pub IsJudged : List ℕ → Judged → Type 0
+IsJudged list j = IsVerdict (said_first list) (lacks_in list) j.source.bytes j.verdict
 
--- How the forms packages of a list are told, by what is said of string ids, and the offset of the list in the file that was given.
+-- How the forms packages of a list are told, by what is said of string ids, what further string packages lack, and the offset of the
+-- list in the file that was given.
 pub record Told : Type 0 where
   pub telling : Telling
   pub spoken : List Spoken
+  pub lacks : List Lack
   pub start : ℕ
 
 abbrev pub judged_told : Told → ℕ → Judged → List ℕ
 judged_told t number j =
-    package_told record { telling = t.telling; spoken = t.spoken; base = t.start + j.source.place } number j.source
-    j.verdict
+    package_told record { telling = t.telling; spoken = t.spoken; lacks = t.lacks; base = t.start + j.source.place } number
+    j.source j.verdict
 
 -- packages one behind the other, of which the first has this number
 abbrev pub packages_told : Told → ℕ → List Judged → List ℕ
@@ -37,12 +40,13 @@ packages_told t number [] = []
 packages_told t number (j ∷ js) = judged_told t number j ++ packages_told t (suc number) js
 
 abbrev pub told_of : Telling → List ℕ → ℕ → Told
-told_of telling list start = record { telling = telling; spoken = said_first list; start = start }
+told_of telling list start =
+    record { telling = telling; spoken = said_first list; lacks = lacks_in list; start = start }
 
 -- The text tells the first forms packages of a list, in order and numbered from 1, each with what is found of it; these are left.
 pub record TellsPackages (telling : Telling) (list : List ℕ) (start : ℕ) (left : List Package) (text : List ℕ) : Type 0 where
   pub judged : List Judged
-  pub each : AllByRecursion (IsJudged (said_first list)) judged
+  pub each : AllByRecursion (IsJudged list) judged
   pub in_order : map (λ j. j.source) judged ++ left ≡ packages_with FORMS list
   pub written : text ≡ packages_told (told_of telling list start) 1 judged
 

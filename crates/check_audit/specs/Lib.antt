@@ -1,4 +1,5 @@
 pub mod Constants
+pub mod Lacks
 pub mod GivenDefaults
 pub mod Overlaps
 pub mod Warnings

@@ -17,6 +17,7 @@ use Rattle.dump_audit.specs.Contents.{begins_with_form_set, opcodes_of}
 use Rattle.opcode_audit.specs.Words.{name_or_number}
 use Rattle.check_audit.specs.Behind.{opcode_at, seen_before}
 use Rattle.check_audit.specs.Constants.{constants}
+use Rattle.check_audit.specs.Lacks.{Lack}
 use Rattle.check_audit.specs.Mostly.{mostly_at, mostly_of}
 use Rattle.check_audit.specs.WarningLines.{warnings_told}
 use Rattle.check_audit.specs.declared.behind.Named.{Named}
@@ -25,10 +26,12 @@ use Rattle.check_audit.specs.declared.verdict.Good.{Good}
 use Rattle.check_audit.specs.declared.verdict.Verdict.{Verdict}
 use Rattle.check_audit.specs.declared.verdict.Verdict.TheVariants.{Good as IsGood, Refused}
 
--- How a forms package is told, by what is said of string ids, and its offset in the file that was given.
+-- How a forms package is told, by what is said of string ids, what further string packages lack, and its offset in the file that was
+-- given.
 pub record Setting : Type 0 where
   pub telling : Telling
   pub spoken : List Spoken
+  pub lacks : List Lack
   pub base : ℕ
 
 -- what is shown of a string id
@@ -157,7 +160,8 @@ good_told telling counts = told_as telling (good_line counts) (good_object count
 -- that a forms package is good, and what is strange of it
 abbrev pub warned_told : Setting → List ℕ → Good → List ℕ
 warned_told s ifr good =
-    good_told s.telling good.counts ++ warnings_told s.telling (constants (nodes_of ifr)) good.warnings.items
+    good_told s.telling good.counts
+    ++ warnings_told s.telling record { settled = constants (nodes_of ifr); lacks = s.lacks } good.warnings.items
 
 -- what is found of a forms package
 abbrev pub verdict_told : Setting → List ℕ → Verdict → List ℕ

@@ -6,6 +6,7 @@ use Rattle.hii_bytes.specs.declared.cause.Cause.{Cause}
 use Rattle.ifr_nodes.specs.Nodes.{nodes_of, is_form, is_store}
 use Rattle.hii_questions.specs.Fields.{questions}
 use Rattle.session_steps.specs.Opening.{IsFormSetFault, IsSourceFault, IsTextFault}
+use Rattle.check_audit.specs.Lacks.{Lack}
 use Rattle.check_audit.specs.Warnings.{AreWarnings}
 use Rattle.check_audit.specs.declared.verdict.Counts.{Counts}
 use Rattle.check_audit.specs.declared.verdict.Verdict.{Verdict}
@@ -25,10 +26,10 @@ counts_of ifr = record {
 }
 
 -- A forms package has no fault of its own, this much and these warnings; or this is the least fault, whatever the image of its stores.
-abbrev pub IsVerdict : List Spoken → List ℕ → Verdict → Type 0
-IsVerdict spoken ifr (Good good) =
-    HasNone (IsFormSetFault ifr) × (good.counts ≡ counts_of ifr) × AreWarnings spoken ifr good.warnings.items
-IsVerdict spoken ifr (Refused fault) = IsLeast (IsFormSetFault ifr) fault
+abbrev pub IsVerdict : List Spoken → List Lack → List ℕ → Verdict → Type 0
+IsVerdict spoken lacks ifr (Good good) =
+    HasNone (IsFormSetFault ifr) × (good.counts ≡ counts_of ifr) × AreWarnings spoken lacks ifr good.warnings.items
+IsVerdict spoken lacks ifr (Refused fault) = IsLeast (IsFormSetFault ifr) fault
 
 abbrev pub is_good : Verdict → Bool
 is_good (Good good) = true

@@ -4,26 +4,35 @@ use Rattle.std.specs.Fmt.{signed_decimal}
 use Rattle.hii_bytes.specs.Texts.{place_text}
 use Rattle.hii_questions.specs.Denials.{kind_name}
 use Rattle.hii_questions.specs.declared.denial.DenialKind.{DenialKind}
+use Rattle.audit_text.specs.Texts.{language_name}
 use Rattle.audit_text.specs.Words.{opcode_name}
-use Rattle.audit_json.specs.Objects.{member, number_member, object, true_member, word_member}
+use Rattle.audit_json.specs.Objects.{member, number_member, object, text_member, true_member, word_member}
 use Rattle.audit_json.specs.Telling.{told_as}
 use Rattle.audit_json.specs.declared.telling.Telling.{Telling}
 use Rattle.check_audit.specs.Constants.{Settled}
+use Rattle.check_audit.specs.Lacks.{Lack}
 use Rattle.check_audit.specs.Warnings.{order_of}
 use Rattle.check_audit.specs.declared.warning.Oddity.{Oddity}
-use Rattle.check_audit.specs.declared.warning.Oddity.TheVariants.{Asks, Bounds, Constant, Default, Overlap, Unreached}
+use Rattle.check_audit.specs.declared.warning.Oddity.TheVariants.{Asks, Bounds, Constant, Default, Language, Overlap, Text, Unreached}
 use Rattle.check_audit.specs.declared.warning.Refused.{Refused}
 use Rattle.check_audit.specs.declared.warning.Sharing.{Sharing}
 use Rattle.check_audit.specs.declared.warning.Span.{Span}
 use Rattle.check_audit.specs.declared.warning.Unanswered.{Unanswered}
 use Rattle.check_audit.specs.declared.warning.Warning.{Warning}
 
+-- what warnings tell by a number: the guards whose conditions name no question, and the string packages that lack texts
+pub record Details : Type 0 where
+  pub settled : List Settled
+  pub lacks : List Lack
+
 abbrev pub word_of : Oddity → List ℕ
 word_of (Asks unanswered) = codes "asks"
 word_of (Bounds span) = codes "bounds"
 word_of (Constant n) = codes "constant"
 word_of (Default refused) = codes "default"
+word_of (Language n) = codes "language"
 word_of (Overlap sharing) = codes "overlap"
+word_of (Text id) = codes "text"
 word_of (Unreached form) = codes "unreached"
 
 -- ---- in a line
@@ -53,24 +62,36 @@ abbrev pub default_text : Refused → List ℕ
 default_text refused =
     decimal refused.class ++ codes " of question " ++ decimal refused.question ++ codes ": " ++ denial_word refused.denial
 
+-- of the string packages that lack texts one by its number
+abbrev pub lack_text : Option Lack → List ℕ
+lack_text None = []
+lack_text (Some lack) =
+    language_name lack.language ++ codes ": " ++ decimal lack.lacks ++ codes " of " ++ decimal lack.texts
+    ++ codes " texts are those of " ++ language_name lack.first
+
 abbrev pub overlap_text : Sharing → List ℕ
 overlap_text sharing =
     codes "question " ++ decimal sharing.question ++ codes " shares bytes with question " ++ decimal sharing.other
 
+abbrev pub textless_text : ℕ → List ℕ
+textless_text id = decimal id ++ codes ": no text"
+
 abbrev pub unreached_text : ℕ → List ℕ
 unreached_text form = codes "no reference names form " ++ decimal form
 
-abbrev pub oddity_text : List Settled → Oddity → List ℕ
-oddity_text settled (Asks unanswered) = asks_text unanswered
-oddity_text settled (Bounds span) = bounds_text span
-oddity_text settled (Constant n) = constant_text (slice_get settled n)
-oddity_text settled (Default refused) = default_text refused
-oddity_text settled (Overlap sharing) = overlap_text sharing
-oddity_text settled (Unreached form) = unreached_text form
+abbrev pub oddity_text : Details → Oddity → List ℕ
+oddity_text d (Asks unanswered) = asks_text unanswered
+oddity_text d (Bounds span) = bounds_text span
+oddity_text d (Constant n) = constant_text (slice_get d.settled n)
+oddity_text d (Default refused) = default_text refused
+oddity_text d (Language n) = lack_text (slice_get d.lacks n)
+oddity_text d (Overlap sharing) = overlap_text sharing
+oddity_text d (Text id) = textless_text id
+oddity_text d (Unreached form) = unreached_text form
 
-abbrev pub warning_line : List Settled → Warning → List ℕ
-warning_line settled w =
-    codes "WARN " ++ place_text w.place ++ codes " " ++ word_of w.oddity ++ codes " " ++ oddity_text settled w.oddity
+abbrev pub warning_line : Details → Warning → List ℕ
+warning_line d w =
+    codes "WARN " ++ place_text w.place ++ codes " " ++ word_of w.oddity ++ codes " " ++ oddity_text d w.oddity
     ++ codes "\n"
 
 -- ---- in an object
@@ -91,25 +112,33 @@ default_members refused =
     number_member (codes "class") refused.class ++ number_member (codes "question") refused.question
     ++ word_member (codes "denial") (denial_word refused.denial)
 
+abbrev pub lack_members : Option Lack → List ℕ
+lack_members None = []
+lack_members (Some lack) =
+    text_member (codes "language") lack.language ++ number_member (codes "lacks") lack.lacks
+    ++ number_member (codes "texts") lack.texts
+
 abbrev pub overlap_members : Sharing → List ℕ
 overlap_members sharing =
     number_member (codes "question") sharing.question ++ number_member (codes "other") sharing.other
 
-abbrev pub oddity_members : List Settled → Oddity → List ℕ
-oddity_members settled (Asks unanswered) = number_member (codes "id") unanswered.question
-oddity_members settled (Bounds span) = bounds_members span
-oddity_members settled (Constant n) = constant_members (slice_get settled n)
-oddity_members settled (Default refused) = default_members refused
-oddity_members settled (Overlap sharing) = overlap_members sharing
-oddity_members settled (Unreached form) = number_member (codes "form") form
+abbrev pub oddity_members : Details → Oddity → List ℕ
+oddity_members d (Asks unanswered) = number_member (codes "id") unanswered.question
+oddity_members d (Bounds span) = bounds_members span
+oddity_members d (Constant n) = constant_members (slice_get d.settled n)
+oddity_members d (Default refused) = default_members refused
+oddity_members d (Language n) = lack_members (slice_get d.lacks n)
+oddity_members d (Overlap sharing) = overlap_members sharing
+oddity_members d (Text id) = number_member (codes "id") id
+oddity_members d (Unreached form) = number_member (codes "form") form
 
-abbrev pub warning_object : List Settled → Warning → List ℕ
-warning_object settled w =
+abbrev pub warning_object : Details → Warning → List ℕ
+warning_object d w =
     object (codes "warning") (number_member (codes "at") w.place ++ word_member (codes "word") (word_of w.oddity)
-    ++ oddity_members settled w.oddity)
+    ++ oddity_members d w.oddity)
 
-abbrev pub warning_told : Telling → List Settled → Warning → List ℕ
-warning_told telling settled w = told_as telling (warning_line settled w) (warning_object settled w)
+abbrev pub warning_told : Telling → Details → Warning → List ℕ
+warning_told telling d w = told_as telling (warning_line d w) (warning_object d w)
 
 -- ---- each once
 
@@ -118,15 +147,14 @@ abbrev pub comes_again : Option ℕ → Warning → Bool
 comes_again None w = false
 comes_again (Some last) w = last == order_of w
 
-abbrev pub unlike_told : Telling → List Settled → Option ℕ → Warning → List ℕ
-unlike_told telling settled last w = if comes_again last w then [] else warning_told telling settled w
+abbrev pub unlike_told : Telling → Details → Option ℕ → Warning → List ℕ
+unlike_told telling d last w = if comes_again last w then [] else warning_told telling d w
 
 -- warnings one behind the other: an expression may name a question more than once
-abbrev pub warnings_behind : Telling → List Settled → Option ℕ → List Warning → List ℕ
-warnings_behind telling settled last [] = []
-warnings_behind telling settled last (w ∷ ws) =
-    unlike_told telling settled last w ++ warnings_behind telling settled (Some (order_of w)) ws
+abbrev pub warnings_behind : Telling → Details → Option ℕ → List Warning → List ℕ
+warnings_behind telling d last [] = []
+warnings_behind telling d last (w ∷ ws) =
+    unlike_told telling d last w ++ warnings_behind telling d (Some (order_of w)) ws
 
--- by what is told of the guards whose conditions name no question
-abbrev pub warnings_told : Telling → List Settled → List Warning → List ℕ
-warnings_told telling settled ws = warnings_behind telling settled None ws
+abbrev pub warnings_told : Telling → Details → List Warning → List ℕ
+warnings_told telling d ws = warnings_behind telling d None ws

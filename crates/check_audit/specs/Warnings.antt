@@ -1,9 +1,9 @@
 -- What is strange of a forms package that is good (own rule).
-use Rattle.std.specs.Prelude.{ℕ, ◌+◌, ◌*◌, Bool, true, false, ◌==◌, if◌then◌else◌, pos, int_lt, Option, Some, None, option_and_then, option_map, List, [], ◌++◌, drop, filter, length}
+use Rattle.std.specs.Prelude.{ℕ, ◌+◌, ◌*◌, Bool, true, false, not, ◌==◌, ◌&&◌, if◌then◌else◌, pos, int_lt, Option, Some, None, is_none, option_and_then, option_map, List, [], ◌∷◌, ◌++◌, drop, filter, length}
 use Rattle.std.specs.List.{filter_map, flat_map, list_any}
 use Rattle.std.specs.List.Sorted.{IsSortedByKey, IsStableByKey}
 use Rattle.std.specs.Ordering.{nat_cmp}
-use Rattle.browser_rules.specs.Strings.{Spoken}
+use Rattle.browser_rules.specs.Strings.{Spoken, text_in}
 use Rattle.ifr_opcodes.specs.Fields.{display, form_id, numeric_maximum, numeric_minimum, numeric_width, password_maximum, password_minimum, ref_target, string_maximum, string_minimum}
 use Rattle.ifr_opcodes.specs.Forest.{Node}
 use Rattle.ifr_opcodes.specs.Opcode.{number}
@@ -18,14 +18,44 @@ use Rattle.ifr_nodes.specs.Rules.{as_rule, is_rule}
 use Rattle.hii_questions.specs.Fields.{Asked, Field, asked, question_with, questions}
 use Rattle.hii_questions.specs.Inputs.{number_of_bits}
 use Rattle.hii_questions.specs.Types.{is_signed}
+use Rattle.opcode_audit.specs.Facts.{string_ids}
+use Rattle.opcode_audit.specs.Walk.{opcodes_in}
 use Rattle.check_audit.specs.Constants.{constant_warnings}
 use Rattle.check_audit.specs.GivenDefaults.{default_warnings}
+use Rattle.check_audit.specs.Lacks.{Lack, language_warnings}
 use Rattle.check_audit.specs.Overlaps.{AreLaid, overlaps_among}
 use Rattle.check_audit.specs.declared.overlaps.Laid.{Laid}
 use Rattle.check_audit.specs.declared.warning.Oddity.{Oddity}
-use Rattle.check_audit.specs.declared.warning.Oddity.TheVariants.{Asks, Bounds, Constant, Default, Overlap, Unreached}
+use Rattle.check_audit.specs.declared.warning.Oddity.TheVariants.{Asks, Bounds, Constant, Default, Language, Overlap, Text, Unreached}
 use Rattle.check_audit.specs.declared.warning.Span.{Span}
 use Rattle.check_audit.specs.declared.warning.Warning.{Warning}
+
+-- ---- in which order they are told: by place, then word, then id
+
+-- where a word stands among all words of warnings
+abbrev pub rank_of : Oddity → ℕ
+rank_of (Asks unanswered) = 0
+rank_of (Bounds span) = 1
+rank_of (Constant n) = 2
+rank_of (Default refused) = 3
+rank_of (Language n) = 4
+rank_of (Overlap sharing) = 5
+rank_of (Text id) = 6
+rank_of (Unreached form) = 7
+
+-- of which id it is told, or of which number in the list
+abbrev pub id_of : Oddity → ℕ
+id_of (Asks unanswered) = unanswered.question
+id_of (Bounds span) = 0
+id_of (Constant n) = 0
+id_of (Default refused) = refused.question
+id_of (Language n) = n
+id_of (Overlap sharing) = sharing.question
+id_of (Text id) = id
+id_of (Unreached form) = form
+
+abbrev pub order_of : Warning → ℕ
+order_of w = (w.place * 8 + rank_of w.oddity) * 4294967296 + id_of w.oddity
 
 -- ---- asks: a guard, a condition of a question, a rule or a VALUE names a question itself that has no answer (UEFI 2.8, 33.2.5.7
 -- Expressions), at the opcode
@@ -137,37 +167,46 @@ unreached_at named form =
 abbrev pub unreached_warnings : List Node → List Warning
 unreached_warnings ns = filter_map (unreached_at (is_named ns)) (drop 1 (filter is_form ns))
 
--- ---- all of them, by place, then word, then id
+-- ---- text: a string id that an opcode names and that has no text in the first string package, so that a page shows its number
+-- (33.3.6 String Package), at the first opcode that names it
 
--- where a word stands among all words of warnings
-abbrev pub rank_of : Oddity → ℕ
-rank_of (Asks unanswered) = 0
-rank_of (Bounds span) = 1
-rank_of (Constant n) = 2
-rank_of (Default refused) = 3
-rank_of (Overlap sharing) = 5
-rank_of (Unreached form) = 7
+abbrev pub is_textless : List Spoken → ℕ → Bool
+is_textless spoken id = not (id == 0) && is_none (text_in spoken id (Some 0))
 
-abbrev pub id_of : Oddity → ℕ
-id_of (Asks unanswered) = unanswered.question
-id_of (Bounds span) = 0
-id_of (Constant n) = 0
-id_of (Default refused) = refused.question
-id_of (Overlap sharing) = sharing.question
-id_of (Unreached form) = form
+abbrev pub textless_at : List Spoken → ℕ → ℕ → Option Warning
+textless_at spoken place id =
+    if is_textless spoken id then Some record { place = place; oddity = Text id } else None
 
-abbrev pub order_of : Warning → ℕ
-order_of w = (w.place * 8 + rank_of w.oddity) * 65536 + id_of w.oddity
+-- of opcodes one behind the other, of which the first stands at a place
+abbrev pub textless_among : List Spoken → ℕ → List (List ℕ) → List Warning
+textless_among spoken place [] = []
+textless_among spoken place (op ∷ ops) =
+    filter_map (textless_at spoken place) (string_ids op) ++ textless_among spoken (place + length op) ops
 
--- all warnings, by what the first string package says, and where the fields are laid in this order
-abbrev pub all_warnings : List Spoken → List ℕ → List Laid → List Warning
-all_warnings spoken ifr laid =
+-- each id once, where it is named first
+abbrev pub is_of_other : Warning → Warning → Bool
+is_of_other w v = not (id_of w.oddity == id_of v.oddity)
+
+abbrev pub firsts : List Warning → List Warning
+firsts [] = []
+firsts (w ∷ ws) = w ∷ filter (is_of_other w) (firsts ws)
+
+-- behind the header of four bytes
+abbrev pub textless_warnings : List Spoken → List ℕ → List Warning
+textless_warnings spoken ifr = firsts (textless_among spoken 4 (opcodes_in (drop 4 ifr)))
+
+-- ---- all of them
+
+-- all warnings, by what the first string package says and what further ones lack, and where the fields are laid in this order
+abbrev pub all_warnings : List Spoken → List Lack → List ℕ → List Laid → List Warning
+all_warnings spoken lacks ifr laid =
     asks_warnings (nodes_of ifr) ++ bounds_warnings (nodes_of ifr) ++ constant_warnings (nodes_of ifr)
-    ++ default_warnings spoken (nodes_of ifr) ++ overlaps_among laid ++ unreached_warnings (nodes_of ifr)
+    ++ default_warnings spoken (nodes_of ifr) ++ language_warnings lacks ++ overlaps_among laid
+    ++ textless_warnings spoken ifr ++ unreached_warnings (nodes_of ifr)
 
 -- These are all warnings, in this order. Two of one place, word and id are the same.
-pub record AreWarnings (spoken : List Spoken) (ifr : List ℕ) (ordered : List Warning) : Type 0 where
+pub record AreWarnings (spoken : List Spoken) (lacks : List Lack) (ifr : List ℕ) (ordered : List Warning) : Type 0 where
   pub laid : List Laid
   pub fields : AreLaid (nodes_of ifr) laid
   pub sorted : IsSortedByKey order_of nat_cmp ordered
-  pub all : IsStableByKey order_of nat_cmp (all_warnings spoken ifr laid) ordered
+  pub all : IsStableByKey order_of nat_cmp (all_warnings spoken lacks ifr laid) ordered

@@ -7,18 +7,18 @@ ghost use Rattle.hii_bytes.specs.Watching.{Puts};
 ghost use Rattle.hii_packages.specs.code.Package.{package_of};
 ghost use Rattle.opcode_audit.specs.Lines.{said_first};
 ghost use Rattle.check_audit.specs.Checks.{BeginsCheck, IsCheck, TellsAll, judged_told};
+ghost use Rattle.check_audit.specs.Lacks.{lacks_in};
 ghost use Rattle.check_audit.specs.Verdicts.{IsListFault, IsVerdict, is_good as is_good_verdict};
 ghost use Rattle.check_audit.specs.code.Settings.{told_in};
 ghost use Rattle.check_audit.specs.declared.verdict.Verdict.{Verdict as Found};
 
-use crate::first_texts::FirstTexts;
+use crate::lacks::Lacks;
 use crate::package_lines::put_package;
 use crate::refusal::put_list_refusal;
 use crate::setting::Setting;
 use crate::verdict::Verdict;
 use audit_json::Telling;
 use hii_bytes::{Cause, Fault, Watched};
-use hii_languages::Languages;
 use hii_packages::{FORMS, Package, PackageList};
 use opcode_audit::FirstStrings;
 use std::alloc::{AllocError, Global};
@@ -29,7 +29,7 @@ use std::io::Write;
 struct SoundList<'a> {
     packages: PackageList<'a>,
     strings: FirstStrings<'a>,
-    texts: FirstTexts<'a>,
+    lacks: Lacks<'a>,
 }
 
 // How forms packages are told.
@@ -37,7 +37,7 @@ struct SoundList<'a> {
 struct Told<'s, 'a> {
     telling: Telling,
     strings: &'s FirstStrings<'a>,
-    texts: &'s FirstTexts<'a>,
+    lacks: &'s Lacks<'a>,
     // The offset of the list in the file that was given.
     start: u64,
 }
@@ -67,7 +67,7 @@ pub fn put_check<W: Write>(
             let told = Told {
                 telling,
                 strings: &sound.strings,
-                texts: &sound.texts,
+                lacks: &sound.lacks,
                 start,
             };
             put_packages(alloc, told, &sound.packages, out)
@@ -83,20 +83,19 @@ pub fn put_check<W: Write>(
 // The list, or the least fault for which none of its forms packages is looked at, or that an allocation failed.
 fn read_list(alloc: Global, list: &[u8]) -> Result<SoundList<'_>, Fault>
     ensures read { IfOk result (λ sound. (sound.packages ≡ list.entry.now)
-        × (sound.strings ≡ said_first list.entry.now) × (sound.texts ≡ said_first list.entry.now)) }
+        × (sound.strings ≡ said_first list.entry.now) × (sound.lacks ≡ lacks_in list.entry.now)) }
     ensures whole { IfOk result (λ sound. list_faults list.entry.now ≡ []) }
     ensures sound { IfOk result (λ sound. HasNone (IsListFault list.entry.now)) }
     ensures refused { IfErr result (Refuses (IsListFault list.entry.now)) }
 {
     let packages = PackageList::read(list)?;
     packages.forms(1)?;
-    Languages::read(alloc, &packages)?;
+    let lacks = Lacks::read(alloc, &packages)?;
     let strings = FirstStrings::read(alloc, &packages)?;
-    let texts = FirstTexts::read(alloc, &packages)?;
     Ok(SoundList {
         packages,
         strings,
-        texts,
+        lacks,
     })
 }
 
@@ -109,15 +108,17 @@ fn put_source<W: Write>(
     out: &mut Watched<W>,
 ) -> Result<bool, AllocError>
     requires { told.start + source.place < 2 ^ 64 }
-    ensures told { IfOk result (λ is_good. (verdict : Found) × IsVerdict told.entry.texts.now source.entry.bytes.now verdict
+    ensures told { IfOk result (λ is_good. (verdict : Found) × IsVerdict told.entry.strings.now told.entry.lacks.now
+        source.entry.bytes.now verdict
         × (is_good ≡ is_good_verdict verdict) × Puts W.contents out.old out.new
         (judged_told (told_in told.entry) number record { source = package_of source.entry; verdict = verdict })) }
     ensures nothing { OnErr result (out.new ≡ out.old) }
 {
-    let verdict = Verdict::of(alloc, told.texts, source)?;
+    let verdict = Verdict::of(alloc, told.strings, told.lacks, source)?;
     let setting = Setting {
         telling: told.telling,
         strings: told.strings,
+        lacks: told.lacks,
         base: told.start + source.place,
     };
     put_package(setting, number, source, &verdict, out);
@@ -133,7 +134,7 @@ fn put_packages<W: Write>(
 ) -> Result<bool, AllocError>
     requires in_file { told.start + length packages.now < 2 ^ 64 }
     requires strings { told.strings.now ≡ said_first packages.now }
-    requires texts { told.texts.now ≡ said_first packages.now }
+    requires lacks { told.lacks.now ≡ lacks_in packages.now }
     requires sound { list_faults packages.now ≡ [] }
     ensures told { IfOk result (λ is_good. (text : List ℕ)
         × TellsAll told.entry.telling packages.now told.entry.start is_good text × Puts W.contents out.old out.new text) }

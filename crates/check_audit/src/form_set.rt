@@ -11,13 +11,15 @@ use ifr_opcodes::FORM_SET;
 
 /// What names a form set, and the string id of its title.
 #[derive(Clone, Copy)]
-pub(crate) struct FormSet<'a> {
+pub struct FormSet<'a> {
+    /// Its GUID.
     pub guid: Guid<'a>,
+    /// The string id.
     pub title: u16,
 }
 
 /// The form set with which a forms package begins.
-pub(crate) fn form_set_of(source: Package<'_>) -> Option<FormSet<'_>>
+pub fn form_set_of(source: Package<'_>) -> Option<FormSet<'_>>
     ensures { MatchOption result (begins_with_form_set (package_of source.entry) ≡ false)
         (λ found. (begins_with_form_set (package_of source.entry) ≡ true)
         × (found.guid.bytes.now ≡ form_set_guid (opcodes_of (package_of source.entry)))

@@ -11,7 +11,6 @@ ghost use Rattle.hii_questions.specs.code.Views.{question_node, question_view};
 ghost use Rattle.ifr_defaults.specs.Defaults.{given as given_by, value_number};
 ghost use Rattle.check_audit.specs.GivenDefaults.{default_at, default_warnings, defaults_of, is_given, refusal_of, sources_without};
 
-use crate::first_texts::FirstTexts;
 use crate::warning::{Oddity, Refused, Warning};
 use hii_bytes::{number_at, u16_at};
 use hii_questions::{
@@ -22,6 +21,7 @@ use ifr_opcodes::{
     TYPE_NUM_SIZE_64, TYPE_STRING,
 };
 use ifr_scopes::DefaultView;
+use opcode_audit::FirstStrings;
 use std::alloc::AllocError;
 
 // The number that some bytes are.
@@ -36,12 +36,12 @@ fn number_of(bytes: &[u8]) -> u64
 
 // The units of the text whose string id stands in some bytes, if there is one.
 #[tactic(auto, unfolding(hii_bytes::specs::Numbers::number_in))]
-fn text_of<'a>(bytes: &[u8], texts: &FirstTexts<'a>) -> Option<&'a [u8]>
+fn text_of<'a>(bytes: &[u8], strings: &FirstStrings<'a>) -> Option<&'a [u8]>
     requires { length bytes.now ≡ 2 }
     ensures { option_map (λ units. units.now) result
-        ≡ text_in texts.now (value_number bytes.now) (Some 0) }
+        ≡ text_in strings.now (value_number bytes.now) (Some 0) }
 {
-    let units = texts.text(u16_at(bytes, 0).unwrap())?;
+    let units = strings.text(u16_at(bytes, 0).unwrap())?;
     Some(units.bytes)
 }
 
@@ -54,13 +54,13 @@ fn is_given(kind: u8) -> bool
 
 // What a DEFAULT gives that says so itself; nothing where its string id has no text.
 fn given<'a>(
-    texts: &FirstTexts<'a>,
+    strings: &FirstStrings<'a>,
     question: Question<'a>,
     default: DefaultView<'a>,
 ) -> Option<Input<'a>>
     requires { is_given (default_kind (default_node default).op) ≡ true }
     ensures value { option_map offer_of result
-        ≡ given_by (sources_without texts.now) (question_node question.entry) (default_node default.entry) }
+        ≡ given_by (sources_without strings.now) (question_node question.entry) (default_node default.entry) }
     ensures given { IfSome result (λ input. (field : Option Field) → IsGiven field input) }
 {
     let op = default.op();
@@ -70,7 +70,7 @@ fn given<'a>(
             Some(Input::Raw(number_of(value)))
         }
         TYPE_BOOLEAN => Some(Input::Raw(u64::from(number_of(value) != 0))),
-        TYPE_STRING => Some(Input::Units(text_of(value, texts)?)),
+        TYPE_STRING => Some(Input::Units(text_of(value, strings)?)),
         TYPE_BUFFER => {
             let width = element_width(question.statement());
             Some(Input::Elements(bytes_of_items(value, width)))
@@ -95,16 +95,16 @@ fn refusal_of(question: Question<'_>, input: Option<Input<'_>>) -> Option<Option
 
 // The warning of a DEFAULT that its question does not take.
 fn default_at(
-    texts: &FirstTexts<'_>,
+    strings: &FirstStrings<'_>,
     question: Question<'_>,
     default: DefaultView<'_>,
 ) -> Option<Warning>
-    ensures { result ≡ default_at texts.now (question_view question.entry) (default_node default.entry) }
+    ensures { result ≡ default_at strings.now (question_view question.entry) (default_node default.entry) }
 {
     if !is_given(default.op().kind()) {
         return None;
     }
-    let input = given(texts, question, default);
+    let input = given(strings, question, default);
     Some(Warning {
         place: u64::from(default.place()),
         oddity: Oddity::Default(Refused {
@@ -117,19 +117,19 @@ fn default_at(
 
 // Adds the DEFAULTs of a question that it does not take, where it has a field.
 fn add_of_question(
-    texts: &FirstTexts<'_>,
+    strings: &FirstStrings<'_>,
     question: Question<'_>,
     warnings: &mut Vec<Warning>,
 ) -> Result<(), AllocError>
     ensures { OnOk result (warnings.new.items
-        ≡ warnings.old.items ++ defaults_of texts.now (question_view question.entry)) }
+        ≡ warnings.old.items ++ defaults_of strings.now (question_view question.entry)) }
 {
     if question.field().is_none() {
         return Ok(());
     }
     let mut defaults = question.statement().defaults();
     while let Some(default) = defaults.next() {
-        if let Some(warning) = default_at(texts, question, default) {
+        if let Some(warning) = default_at(strings, question, default) {
             warnings.push(warning)?;
         }
     }
@@ -138,16 +138,16 @@ fn add_of_question(
 
 /// Adds the DEFAULTs that their questions do not take.
 pub(crate) fn add_defaults(
-    texts: &FirstTexts<'_>,
+    strings: &FirstStrings<'_>,
     questions: &Questions<'_>,
     warnings: &mut Vec<Warning>,
 ) -> Result<(), AllocError>
     ensures { OnOk result (warnings.new.items
-        ≡ warnings.old.items ++ default_warnings texts.now (nodes_of questions.now.ifr)) }
+        ≡ warnings.old.items ++ default_warnings strings.now (nodes_of questions.now.ifr)) }
 {
     let mut left = questions.all();
     while let Some(question) = left.next() {
-        add_of_question(texts, question, warnings)?;
+        add_of_question(strings, question, warnings)?;
     }
     Ok(())
 }

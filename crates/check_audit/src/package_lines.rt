@@ -12,11 +12,12 @@ use crate::form_set::form_set_of;
 use crate::refusal::put_refusal;
 use crate::setting::Setting;
 use crate::verdict::{Counts, Good, Verdict};
-use crate::warning_lines::put_warnings;
+use crate::warning_lines::{Details, put_warnings};
 use audit_json::{Telling, end_object, put_guid_member, put_kind, put_number, put_shown};
 use audit_text::{Case, put_guid, put_safe_shown};
 use hii_bytes::Watched;
 use hii_packages::Package;
+use opcode_audit::FirstStrings;
 use std::io::Write;
 
 /// Tells which forms package of a list this is, and what is found of it.
@@ -47,7 +48,7 @@ fn put_verdict<W: Write>(
         (verdict_told (setting_of setting.entry) ifr.now verdict.now) }
 {
     match verdict {
-        Verdict::Good(good) => put_warned(setting.telling, good, out),
+        Verdict::Good(good) => put_warned(setting, good, out),
         Verdict::Refused(fault) => put_refusal(setting, ifr, *fault, out),
     }
 }
@@ -81,14 +82,15 @@ fn put_head_line<W: Write>(
     out.put(b"FORMS ");
     out.put_decimal(number);
     out.put(b" ");
-    put_form_set(setting, source, out);
+    put_form_set(setting.strings, source, out);
     out.put(b"\n");
 }
 
-// Writes the GUID and the title of a form set.
-fn put_form_set<W: Write>(setting: Setting<'_, '_>, source: Package<'_>, out: &mut Watched<W>)
+/// Writes the GUID and the title of the form set with which a forms package begins, or a hyphen, where these are the texts of the
+/// first string package.
+pub fn put_form_set<W: Write>(strings: &FirstStrings<'_>, source: Package<'_>, out: &mut Watched<W>)
     ensures { Puts W.contents out.old out.new
-        (form_set_words (setting_of setting.entry).spoken (package_of source.entry)) }
+        (form_set_words strings.now (package_of source.entry)) }
 {
     let Some(found) = form_set_of(source) else {
         out.put(b"-");
@@ -96,7 +98,7 @@ fn put_form_set<W: Write>(setting: Setting<'_, '_>, source: Package<'_>, out: &m
     };
     put_guid(out, found.guid, Case::Upper);
     out.put(b" ");
-    put_safe_shown(setting.strings.shown(found.title).chars(), out);
+    put_safe_shown(strings.shown(found.title).chars(), out);
 }
 
 // Writes the object of a forms package.
@@ -112,33 +114,39 @@ fn put_head_object<W: Write>(
     put_kind(b"forms", out);
     put_number(b"package", number, out);
     put_number(b"at", setting.base, out);
-    put_form_set_members(setting, source, out);
+    put_form_set_members(setting.strings, source, out);
     end_object(out);
 }
 
-// Writes the members that tell a form set.
-fn put_form_set_members<W: Write>(
-    setting: Setting<'_, '_>,
+/// Writes the members that tell the GUID and the title of the form set with which a forms package begins, if it does.
+pub fn put_form_set_members<W: Write>(
+    strings: &FirstStrings<'_>,
     source: Package<'_>,
     out: &mut Watched<W>,
 )
     ensures { Puts W.contents out.old out.new
-        (form_set_members (setting_of setting.entry).spoken (package_of source.entry)) }
+        (form_set_members strings.now (package_of source.entry)) }
 {
     let Some(found) = form_set_of(source) else {
         return;
     };
     put_guid_member(b"guid", found.guid, out);
-    put_shown(b"title", setting.strings.shown(found.title).chars(), out);
+    put_shown(b"title", strings.shown(found.title).chars(), out);
 }
 
 // Tells that a forms package is good, and what is strange of it.
-fn put_warned<W: Write>(telling: Telling, good: &Good<'_>, out: &mut Watched<W>)
-    ensures { Puts W.contents out.old out.new (good_told telling good.now.counts
-        ++ warnings_told telling (map settled_of good.now.settled.items) good.now.warnings.items) }
+fn put_warned<W: Write>(setting: Setting<'_, '_>, good: &Good<'_>, out: &mut Watched<W>)
+    ensures { Puts W.contents out.old out.new (good_told setting.entry.telling good.now.counts
+        ++ warnings_told setting.entry.telling
+        record { settled = map settled_of good.now.settled.items; lacks = setting.entry.lacks.now }
+        good.now.warnings.items) }
 {
-    put_good(telling, good.counts, out);
-    put_warnings(telling, &good.settled, &good.warnings, out);
+    let details = Details {
+        settled: &good.settled,
+        lacks: setting.lacks,
+    };
+    put_good(setting.telling, good.counts, out);
+    put_warnings(setting.telling, details, &good.warnings, out);
 }
 
 // Tells that a forms package is good.

@@ -1,5 +1,6 @@
 //! How a list is told.
 
+use crate::lacks::Lacks;
 use audit_json::Telling;
 use hii_bytes::Watched;
 use opcode_audit::FirstStrings;
@@ -9,6 +10,7 @@ use opcode_audit::FirstStrings;
 pub(crate) struct Setting<'s, 'a> {
     pub telling: Telling,
     pub strings: &'s FirstStrings<'a>,
+    pub lacks: &'s Lacks<'a>,
     /// The offset of the forms package in the file that was given.
     pub base: u64,
 }

@@ -12,7 +12,7 @@ ghost use Rattle.check_audit.specs.code.Settings.{HasConstants};
 ghost use Rattle.check_audit.specs.code.Settling.{settled_of};
 
 use crate::constants::Settled;
-use crate::first_texts::FirstTexts;
+use crate::lacks::Lacks;
 use crate::warning::Warning;
 use crate::warnings::warnings_of;
 use hii_bytes::{Cause, Fault};
@@ -20,6 +20,7 @@ use hii_packages::Package;
 use hii_questions::Questions;
 use hii_varstore::Layout;
 use ifr_scopes::Forms;
+use opcode_audit::FirstStrings;
 use std::alloc::{AllocError, Global};
 
 /// How many forms, questions and stores a forms package has.
@@ -49,17 +50,18 @@ pub(crate) enum Verdict<'a> {
 }
 
 impl<'a> Verdict<'a> {
-    /// What is found of a forms package, where these are the texts of the first string package. The one error is that an allocation
-    /// failed.
+    /// What is found of a forms package, where the first string package says this, and further ones lack this. The one error is
+    /// that an allocation failed.
     pub(crate) fn of(
         alloc: Global,
-        texts: &FirstTexts<'_>,
+        strings: &FirstStrings<'_>,
+        lacks: &Lacks<'_>,
         source: Package<'a>,
     ) -> Result<Verdict<'a>, AllocError>
-        ensures found { IfOk result (IsVerdict texts.now source.entry.bytes.now) }
+        ensures found { IfOk result (IsVerdict strings.now lacks.now source.entry.bytes.now) }
         ensures settled { IfOk result (HasConstants source.entry.bytes.now) }
     {
-        match good_of(alloc, texts, source) {
+        match good_of(alloc, strings, lacks, source) {
             Ok(good) => Ok(Verdict::Good(good)),
             Err(fault) if fault.cause == Cause::OutOfMemory => Err(AllocError),
             Err(fault) => Ok(Verdict::Refused(fault)),
@@ -80,11 +82,13 @@ impl<'a> Verdict<'a> {
 // What is told of a forms package that has no fault; or its least fault, or that an allocation failed.
 fn good_of<'a>(
     alloc: Global,
-    texts: &FirstTexts<'_>,
+    strings: &FirstStrings<'_>,
+    lacks: &Lacks<'_>,
     source: Package<'a>,
 ) -> Result<Good<'a>, Fault>
     ensures counted { IfOk result (λ good. good.counts ≡ counts_of source.entry.bytes.now) }
-    ensures warned { IfOk result (λ good. AreWarnings texts.now source.entry.bytes.now good.warnings.items) }
+    ensures warned { IfOk result (λ good. AreWarnings strings.now lacks.now source.entry.bytes.now
+        good.warnings.items) }
     ensures settled { IfOk result (λ good. map settled_of good.settled.items
         ≡ constants (nodes_of source.entry.bytes.now)) }
     ensures sound { IfOk result (λ good. HasNone (IsFormSetFault source.entry.bytes.now)) }
@@ -93,7 +97,7 @@ fn good_of<'a>(
     let forms = Forms::read(alloc, source)?;
     let layout = Layout::read(alloc, &forms)?;
     let questions = Questions::read(alloc, &forms, &layout)?;
-    let found = warnings_of(alloc, texts, &forms, &questions)?;
+    let found = warnings_of(alloc, strings, lacks, &forms, &questions)?;
     Ok(Good {
         counts: counts_of(&forms, &questions),
         warnings: found.warnings,

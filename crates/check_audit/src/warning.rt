@@ -48,8 +48,12 @@ pub(crate) enum Oddity {
     Constant(usize),
     /// A question does not take its default.
     Default(Refused),
+    /// A string package lacks texts of the first one, by its number among those that do.
+    Language(u32),
     /// A field has a byte of the one before it, and is another one.
     Overlap(Sharing),
+    /// A string id that is named and has no text.
+    Text(u16),
     /// A form that no reference names.
     Unreached(u16),
 }
@@ -64,22 +68,26 @@ impl Oddity {
             Oddity::Bounds(_) => 1,
             Oddity::Constant(_) => 2,
             Oddity::Default(_) => 3,
+            Oddity::Language(_) => 4,
             Oddity::Overlap(_) => 5,
+            Oddity::Text(_) => 6,
             Oddity::Unreached(_) => 7,
         }
     }
 
-    // The id of which it is told.
-    fn id(self) -> u16
+    // The id of which it is told, or its number in the list.
+    fn id(self) -> u32
         ensures { result ≡ id_of self }
     {
         match self {
-            Oddity::Asks(unanswered) => unanswered.question,
+            Oddity::Asks(unanswered) => u32::from(unanswered.question),
             Oddity::Bounds(_) => 0,
             Oddity::Constant(_) => 0,
-            Oddity::Default(refused) => refused.question,
-            Oddity::Overlap(sharing) => sharing.question,
-            Oddity::Unreached(form) => form,
+            Oddity::Default(refused) => u32::from(refused.question),
+            Oddity::Language(number) => number,
+            Oddity::Overlap(sharing) => u32::from(sharing.question),
+            Oddity::Text(id) => u32::from(id),
+            Oddity::Unreached(form) => u32::from(form),
         }
     }
 }
@@ -96,6 +104,7 @@ impl Warning {
     pub(crate) fn order(self) -> u128
         ensures { result ≡ order_of self }
     {
-        (u128::from(self.place) * 8 + self.oddity.rank()) * 65_536 + u128::from(self.oddity.id())
+        (u128::from(self.place) * 8 + self.oddity.rank()) * 4_294_967_296
+            + u128::from(self.oddity.id())
     }
 }

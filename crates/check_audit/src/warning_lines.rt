@@ -5,18 +5,32 @@ ghost use Rattle.std.specs.Fmt.{signed_decimal};
 ghost use Rattle.hii_bytes.specs.Watching.{Puts};
 ghost use Rattle.condition_text.specs.code.Conditions.{words_of};
 ghost use Rattle.audit_json.specs.Objects.{member, quoted};
-ghost use Rattle.check_audit.specs.WarningLines.{asks_text, bounds_members, bounds_text, comes_again, constant_members, constant_text, default_members, default_text, denial_word, holds_member, lack_of, oddity_members, oddity_text, overlap_members, overlap_text, unlike_told, unreached_text, verdict_word, warning_line, warning_object, warning_told, warnings_told, word_of};
+ghost use Rattle.check_audit.specs.WarningLines.{asks_text, bounds_members, bounds_text, comes_again, constant_members, constant_text, default_members, default_text, denial_word, holds_member, lack_members, lack_of, lack_text, oddity_members, oddity_text, overlap_members, overlap_text, textless_text, unlike_told, unreached_text, verdict_word, warning_line, warning_object, warning_told, warnings_told, word_of};
+ghost use Rattle.check_audit.specs.code.Detailing.{details_of};
+ghost use Rattle.check_audit.specs.code.Lacking.{lack_seen};
 ghost use Rattle.check_audit.specs.code.Settling.{settled_of};
 
 use crate::constants::Settled;
+use crate::lacks::{Lack, Lacks};
 use crate::warning::{Oddity, Refused, Sharing, Span, Unanswered, Warning};
-use audit_json::{Telling, end_object, put_kind, put_member, put_number, put_true, put_word};
-use audit_text::opcode_name;
+use audit_json::{
+    Telling, end_object, put_kind, put_member, put_number, put_string, put_true, put_word,
+};
+use audit_text::{opcode_name, put_language};
 use condition_text::ConditionText;
 use hii_bytes::Watched;
 use hii_questions::DenialKind;
 use itoa::Buffer;
 use std::io::Write;
+
+/// What warnings tell by a number.
+#[derive(Clone, Copy)]
+pub(crate) struct Details<'s, 'a> {
+    /// The guards whose conditions name no question.
+    pub settled: &'s [Settled<'a>],
+    /// The string packages that lack texts of the first one.
+    pub lacks: &'s Lacks<'a>,
+}
 
 // The word of a warning.
 fn word_of(oddity: Oddity) -> &'static [u8]
@@ -27,7 +41,9 @@ fn word_of(oddity: Oddity) -> &'static [u8]
         Oddity::Bounds(_) => b"bounds",
         Oddity::Constant(_) => b"constant",
         Oddity::Default(_) => b"default",
+        Oddity::Language(_) => b"language",
         Oddity::Overlap(_) => b"overlap",
+        Oddity::Text(_) => b"text",
         Oddity::Unreached(_) => b"unreached",
     }
 }
@@ -117,6 +133,28 @@ fn put_default<W: Write>(refused: Refused, out: &mut Watched<W>)
     out.put(denial_word(refused.denial));
 }
 
+// Writes how many texts a string package lacks.
+fn put_lack<W: Write>(lack: Lack<'_>, out: &mut Watched<W>)
+    ensures { Puts W.contents out.old out.new (lack_text (Some (lack_seen lack.entry))) }
+{
+    put_language(out, lack.language);
+    out.put(b": ");
+    out.put_decimal(lack.lacks as u64);
+    out.put(b" of ");
+    out.put_decimal(lack.texts as u64);
+    out.put(b" texts are those of ");
+    put_language(out, lack.first);
+}
+
+// Writes how many texts one of some string packages lacks.
+fn put_lack_with<W: Write>(lacks: &Lacks<'_>, number: u32, out: &mut Watched<W>)
+    ensures { Puts W.contents out.old out.new (lack_text (slice_get lacks.now number)) }
+{
+    if let Some(lack) = lacks.get(number) {
+        put_lack(lack, out);
+    }
+}
+
 // Writes which questions share bytes.
 fn put_overlap<W: Write>(sharing: Sharing, out: &mut Watched<W>)
     ensures { Puts W.contents out.old out.new (overlap_text sharing) }
@@ -125,6 +163,14 @@ fn put_overlap<W: Write>(sharing: Sharing, out: &mut Watched<W>)
     out.put_decimal(u64::from(sharing.question));
     out.put(b" shares bytes with question ");
     out.put_decimal(u64::from(sharing.other));
+}
+
+// Writes which string id has no text.
+fn put_textless<W: Write>(id: u16, out: &mut Watched<W>)
+    ensures { Puts W.contents out.old out.new (textless_text id) }
+{
+    out.put_decimal(u64::from(id));
+    out.put(b": no text");
 }
 
 // Writes which form no reference names.
@@ -136,29 +182,31 @@ fn put_unreached<W: Write>(form: u16, out: &mut Watched<W>)
 }
 
 // Writes what is strange.
-fn put_oddity<W: Write>(settled: &[Settled<'_>], oddity: Oddity, out: &mut Watched<W>)
-    ensures { Puts W.contents out.old out.new (oddity_text (map settled_of settled.now) oddity) }
+fn put_oddity<W: Write>(details: Details<'_, '_>, oddity: Oddity, out: &mut Watched<W>)
+    ensures { Puts W.contents out.old out.new (oddity_text (details_of details.entry) oddity) }
 {
     match oddity {
         Oddity::Asks(unanswered) => put_asks(unanswered, out),
         Oddity::Bounds(span) => put_bounds(span, out),
-        Oddity::Constant(number) => put_constant(settled, number, out),
+        Oddity::Constant(number) => put_constant(details.settled, number, out),
         Oddity::Default(refused) => put_default(refused, out),
+        Oddity::Language(number) => put_lack_with(details.lacks, number, out),
         Oddity::Overlap(sharing) => put_overlap(sharing, out),
+        Oddity::Text(id) => put_textless(id, out),
         Oddity::Unreached(form) => put_unreached(form, out),
     }
 }
 
 // Writes the line of a warning.
-fn put_line<W: Write>(settled: &[Settled<'_>], warning: Warning, out: &mut Watched<W>)
-    ensures { Puts W.contents out.old out.new (warning_line (map settled_of settled.now) warning) }
+fn put_line<W: Write>(details: Details<'_, '_>, warning: Warning, out: &mut Watched<W>)
+    ensures { Puts W.contents out.old out.new (warning_line (details_of details.entry) warning) }
 {
     out.put(b"WARN ");
     out.put_place(warning.place);
     out.put(b" ");
     out.put(word_of(warning.oddity));
     out.put(b" ");
-    put_oddity(settled, warning.oddity, out);
+    put_oddity(details, warning.oddity, out);
     out.put(b"\n");
 }
 
@@ -223,6 +271,24 @@ fn put_default_members<W: Write>(refused: Refused, out: &mut Watched<W>)
     put_word(b"denial", denial_word(refused.denial), out);
 }
 
+// Writes the members that tell how many texts a string package lacks.
+fn put_lack_members<W: Write>(lack: Lack<'_>, out: &mut Watched<W>)
+    ensures { Puts W.contents out.old out.new (lack_members (Some (lack_seen lack.entry))) }
+{
+    put_string(b"language", lack.language, out);
+    put_number(b"lacks", lack.lacks as u64, out);
+    put_number(b"texts", lack.texts as u64, out);
+}
+
+// Writes the members that tell how many texts one of some string packages lacks.
+fn put_members_with<W: Write>(lacks: &Lacks<'_>, number: u32, out: &mut Watched<W>)
+    ensures { Puts W.contents out.old out.new (lack_members (slice_get lacks.now number)) }
+{
+    if let Some(lack) = lacks.get(number) {
+        put_lack_members(lack, out);
+    }
+}
+
 // Writes the members that tell which questions share bytes.
 fn put_overlap_members<W: Write>(sharing: Sharing, out: &mut Watched<W>)
     ensures { Puts W.contents out.old out.new (overlap_members sharing) }
@@ -232,42 +298,44 @@ fn put_overlap_members<W: Write>(sharing: Sharing, out: &mut Watched<W>)
 }
 
 // Writes the members that tell what is strange.
-fn put_members<W: Write>(settled: &[Settled<'_>], oddity: Oddity, out: &mut Watched<W>)
-    ensures { Puts W.contents out.old out.new (oddity_members (map settled_of settled.now) oddity) }
+fn put_members<W: Write>(details: Details<'_, '_>, oddity: Oddity, out: &mut Watched<W>)
+    ensures { Puts W.contents out.old out.new (oddity_members (details_of details.entry) oddity) }
 {
     match oddity {
         Oddity::Asks(unanswered) => put_number(b"id", u64::from(unanswered.question), out),
         Oddity::Bounds(span) => put_bounds_members(span, out),
-        Oddity::Constant(number) => put_constant_members(settled, number, out),
+        Oddity::Constant(number) => put_constant_members(details.settled, number, out),
         Oddity::Default(refused) => put_default_members(refused, out),
+        Oddity::Language(number) => put_members_with(details.lacks, number, out),
         Oddity::Overlap(sharing) => put_overlap_members(sharing, out),
+        Oddity::Text(id) => put_number(b"id", u64::from(id), out),
         Oddity::Unreached(form) => put_number(b"form", u64::from(form), out),
     }
 }
 
 // Writes the object of a warning.
-fn put_object<W: Write>(settled: &[Settled<'_>], warning: Warning, out: &mut Watched<W>)
-    ensures { Puts W.contents out.old out.new (warning_object (map settled_of settled.now) warning) }
+fn put_object<W: Write>(details: Details<'_, '_>, warning: Warning, out: &mut Watched<W>)
+    ensures { Puts W.contents out.old out.new (warning_object (details_of details.entry) warning) }
 {
     put_kind(b"warning", out);
     put_number(b"at", warning.place, out);
     put_word(b"word", word_of(warning.oddity), out);
-    put_members(settled, warning.oddity, out);
+    put_members(details, warning.oddity, out);
     end_object(out);
 }
 
 // Tells a warning.
 fn put_warning<W: Write>(
     telling: Telling,
-    settled: &[Settled<'_>],
+    details: Details<'_, '_>,
     warning: Warning,
     out: &mut Watched<W>,
 )
-    ensures { Puts W.contents out.old out.new (warning_told telling (map settled_of settled.now) warning) }
+    ensures { Puts W.contents out.old out.new (warning_told telling (details_of details.entry) warning) }
 {
     match telling {
-        Telling::Lines => put_line(settled, warning, out),
-        Telling::Objects => put_object(settled, warning, out),
+        Telling::Lines => put_line(details, warning, out),
+        Telling::Objects => put_object(details, warning, out),
     }
 }
 
@@ -281,30 +349,30 @@ fn comes_again(last: Option<u128>, warning: Warning) -> bool
 // Tells a warning, unless it is of the place, the word and the id of the last one.
 fn put_unlike<W: Write>(
     telling: Telling,
-    settled: &[Settled<'_>],
+    details: Details<'_, '_>,
     last: Option<u128>,
     warning: Warning,
     out: &mut Watched<W>,
 )
-    ensures { Puts W.contents out.old out.new (unlike_told telling (map settled_of settled.now) last warning) }
+    ensures { Puts W.contents out.old out.new (unlike_told telling (details_of details.entry) last warning) }
 {
     if !comes_again(last, warning) {
-        put_warning(telling, settled, warning, out);
+        put_warning(telling, details, warning, out);
     }
 }
 
-/// Tells warnings, each once, with what is told of the guards whose conditions name no question.
+/// Tells warnings, each once, with what is told of them by their numbers.
 pub(crate) fn put_warnings<W: Write>(
     telling: Telling,
-    settled: &[Settled<'_>],
+    details: Details<'_, '_>,
     warnings: &[Warning],
     out: &mut Watched<W>,
 )
-    ensures { Puts W.contents out.old out.new (warnings_told telling (map settled_of settled.now) warnings.now) }
+    ensures { Puts W.contents out.old out.new (warnings_told telling (details_of details.entry) warnings.now) }
 {
     let mut last = None;
     for warning in warnings {
-        put_unlike(telling, settled, last, *warning, out);
+        put_unlike(telling, details, last, *warning, out);
         last = Some(warning.order());
     }
 }

@@ -1,7 +1,7 @@
 mod CauseLemmas
 mod ContentLemmas
 mod FaultLemmas
-mod LineLemmas
+pub mod LineLemmas
 mod TextLemmas
 mod WorkedLines
 pub mod FoundLemmas

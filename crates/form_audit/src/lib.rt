@@ -24,6 +24,7 @@ pub use constant::is_constant;
 pub use defaults::{give_back, take_default};
 pub use fields::put_field_text;
 pub use guard_table::{GuardTable, flag_of};
+pub use question_line::put_question;
 pub use questions::{put_denial, put_form, put_questions};
 pub use script_values::put_script_value;
 pub use shown_values::{option_of_value, put_json_value, put_told_value, shows_nothing};

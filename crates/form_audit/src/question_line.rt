@@ -78,7 +78,7 @@ fn put_shown_value<'a, C: Conditions, W: Write>(
 }
 
 /// Writes the line of a question. `spare` are stores that hold the same as those of the page, before and after.
-pub(crate) fn put_question<'a, C: Conditions, W: Write>(
+pub fn put_question<'a, C: Conditions, W: Write>(
     page: Page<'a, '_, C>,
     tables: &Tables<'a>,
     question: Question<'a>,

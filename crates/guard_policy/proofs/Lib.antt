@@ -2,6 +2,7 @@ pub mod QuestionLemmas
 pub mod OptionLemmas
 pub mod DenialLemmas
 pub mod RemovedLemmas
+pub mod RuleValueLemmas
 pub mod ClosedLemmas
 pub mod IndexedLemmas
 pub mod CoveringLemmas

@@ -5,6 +5,7 @@ pub mod Bytes
 pub mod Effects
 pub mod KeptConditions
 pub mod OpenValues
+pub mod RuleValues
 pub mod Standings
 pub mod SupportLeft
 pub mod Surroundings

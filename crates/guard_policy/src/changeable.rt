@@ -25,6 +25,7 @@ use ifr_scopes::Around;
 
 impl<'a, 's> Policy<'a, 's> {
     // What stands around a question that may be changed, by conditions from anywhere.
+    #[inline(always)]
     fn changeable_question_with<V: Verdicts<'a>>(
         &self,
         question: Question<'a>,
@@ -48,6 +49,7 @@ impl<'a, 's> Policy<'a, 's> {
 
     /// What stands around a question of the package that may be changed, by what is kept of conditions. Where it may not, the denial
     /// is that of `question_changeable_by`.
+    #[inline(always)]
     pub fn changeable_question_by<C: Conditions>(
         &self,
         question: Question<'a>,

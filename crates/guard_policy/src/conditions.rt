@@ -6,10 +6,14 @@ ghost use Rattle.ifr_scopes.specs.code.Lists.{guard_node};
 ghost use Rattle.ifr_scopes.specs.code.Parts.{condition_node};
 ghost use Rattle.ifr_nodes.specs.Nodes.{nodes_of};
 ghost use Rattle.guard_policy.specs.World.{is_met_over};
+ghost use Rattle.guard_policy.specs.code.RuleValues.{AreRuleValues};
+ghost use Rattle.guard_policy.specs.code.Views.{bytes_of, world};
+ghost use Rattle.guard_policy.specs.code.Worlds.{is_met_at};
 
 use crate::policy::Policy;
 use hii_questions::Questions;
 use hii_varstore::Stores;
+use ifr_expr::RuleValues;
 use ifr_scopes::{AnyCondition, ConditionView, Forms, Guard};
 
 /// What is kept of conditions, by their places.
@@ -87,6 +91,28 @@ impl<'p, 'a, 's> Conditions for Evaluated<'p, 'a, 's> {
     }
 }
 
+impl<'p, 'a, 's> Evaluated<'p, 'a, 's> {
+    /// Whether the condition of the opcode at a place holds, by values of rules over the same stores. Those that it asks for are
+    /// kept there.
+    pub fn holds_by(&self, place: u32, rules: &mut RuleValues) -> bool
+        requires { AreRuleValues (bytes_of self.now.policy) self.now.stores.now rules.old }
+        ensures holds { result ≡ is_met_at (world self.now.policy self.now.stores.now) place }
+        ensures kept { AreRuleValues (bytes_of self.now.policy) self.now.stores.now rules.new }
+    {
+        let policy = self.policy;
+        match policy.forms.condition_at(place) {
+            Some(condition) => condition_holds_by(
+                condition,
+                policy.forms,
+                policy.questions,
+                self.stores,
+                rules,
+            ),
+            None => false,
+        }
+    }
+}
+
 /// Conditions that are kept.
 #[derive(Drop)]
 pub(crate) struct ByConditions<'p, C> {
@@ -95,6 +121,7 @@ pub(crate) struct ByConditions<'p, C> {
 
 impl<'p, C: Conditions> ByConditions<'p, C> {
     // Whether the condition of a guard holds.
+    #[inline(always)]
     fn guard_holds(&self, guard: Guard<'_>) -> bool
         ensures { result ≡ C.holding self.now.conditions.now (guard_node guard.entry).place }
     {
@@ -119,6 +146,7 @@ impl<'p, C: Conditions> ByConditions<'p, C> {
 impl<'p, 'a, C: Conditions> Verdicts<'a> for ByConditions<'p, C> {
     ghost met = { λ it n. C.holding it.conditions.now n.place };
 
+    #[inline(always)]
     fn is_met(&self, condition: AnyCondition<'a>) -> bool {
         match condition {
             AnyCondition::Guard(guard) => self.guard_holds(guard),
@@ -141,4 +169,23 @@ pub(crate) fn condition_holds<'a>(
     let answers = questions.over(stores);
     let expression = condition.condition();
     expression.holds(&answers, forms, condition.this())
+}
+
+/// The same, by values of rules over these stores. Those that it asks for are kept there.
+pub(crate) fn condition_holds_by<'a>(
+    condition: AnyCondition<'a>,
+    forms: &Forms<'a>,
+    questions: &Questions<'a>,
+    stores: &Stores,
+    rules: &mut RuleValues,
+) -> bool
+    requires together { questions.now.ifr ≡ forms.now }
+    requires kept { AreRuleValues forms.now stores.now rules.old }
+    ensures holds { result ≡ is_met_over (nodes_of forms.now) stores.now
+        (any_condition_node condition.entry) }
+    ensures kept { AreRuleValues forms.now stores.now rules.new }
+{
+    let answers = questions.over(stores);
+    let expression = condition.condition();
+    expression.holds_by(&answers, forms, condition.this(), rules)
 }

@@ -37,6 +37,7 @@ fn is_outside(question: Question<'_>) -> bool
 }
 
 /// Whether a question forbids a change by itself.
+#[inline(always)]
 pub(crate) fn fixed_question(question: Question<'_>) -> Result<(), Denial>
     ensures { result ≡ denying.unless (spec.fixed_question (question_view question.entry)) }
 {
@@ -267,6 +268,7 @@ impl<'a, 's> Policy<'a, 's> {
     }
 
     // Whether a question may be changed, by conditions from anywhere.
+    #[inline(always)]
     fn question_changeable_with<V: Verdicts<'a>>(
         &self,
         question: Question<'a>,
@@ -284,6 +286,7 @@ impl<'a, 's> Policy<'a, 's> {
 
     /// Whether a question of the package may be changed, by what is kept of conditions: what `changeable_by` answers of its
     /// statement, with no search for the question.
+    #[inline(always)]
     pub fn question_changeable_by<C: Conditions>(
         &self,
         question: Question<'a>,

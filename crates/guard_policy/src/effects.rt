@@ -50,6 +50,7 @@ impl Effects {
 
 impl<'a, 's> Policy<'a, 's> {
     // Whether a guard hides.
+    #[inline(always)]
     fn hides<V: Verdicts<'a>>(&self, guard: Guard<'a>, verdicts: &V) -> bool
         ensures { result ≡ spec.hides (world_by self.now (V.met verdicts.now))
             (guard_node guard.entry) }
@@ -62,6 +63,7 @@ impl<'a, 's> Policy<'a, 's> {
     }
 
     // Whether a guard grays out.
+    #[inline(always)]
     fn grays_out<V: Verdicts<'a>>(&self, guard: Guard<'a>, verdicts: &V) -> bool
         ensures { result ≡ spec.grays_out (world_by self.now (V.met verdicts.now))
             (guard_node guard.entry) }
@@ -92,6 +94,7 @@ impl<'a, 's> Policy<'a, 's> {
     }
 
     /// The denials of the guards around something.
+    #[inline(always)]
     pub(crate) fn effects<V: Verdicts<'a>>(&self, around: Around<'_, 'a>, verdicts: &V) -> Effects
         ensures guard { result.guard ≡ around_innermost around.entry }
         ensures hides { result.hides ≡ spec.hidden_among

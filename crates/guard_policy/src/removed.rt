@@ -4,14 +4,17 @@ ghost use Rattle.std.specs.Prelude.{◌≡◌, IfOk, IfErr};
 ghost use Rattle.hii_bytes.specs.Faults.{out_of_memory};
 ghost use Rattle.ifr_opcodes.specs.Rows.{is_among};
 ghost use Rattle.ifr_nodes.specs.Nodes.{nodes_of};
-ghost use Rattle.guard_policy.specs.World.{removed_at};
+ghost use Rattle.ifr_scopes.specs.code.Lists.{guard_node};
+ghost use Rattle.guard_policy.specs.World.{is_disabling, removed_at};
+ghost use Rattle.guard_policy.specs.code.RuleValues.{AreRuleValues};
 
-use crate::conditions::condition_holds;
+use crate::conditions::condition_holds_by;
 use hii_bytes::Fault;
 use hii_questions::Questions;
 use hii_varstore::Stores;
+use ifr_expr::RuleValues;
 use ifr_opcodes::DISABLE_IF;
-use ifr_scopes::{AnyCondition, Forms};
+use ifr_scopes::{AnyCondition, Forms, Guard};
 use smallvec::SmallVec;
 use std::alloc::Global;
 use std::marker::Model;
@@ -38,6 +41,26 @@ impl Model for Removed {
     ghost invariant = { λ r. Rise (λ (place : ℕ). place) 0 r.places.items };
 }
 
+// Whether a guard is a DISABLE_IF whose condition holds over these stores, by values of rules over them.
+fn disables<'a>(
+    guard: Guard<'a>,
+    forms: &Forms<'a>,
+    questions: &Questions<'a>,
+    stores: &Stores,
+    rules: &mut RuleValues,
+) -> bool
+    requires together { questions.now.ifr ≡ forms.now }
+    requires kept { AreRuleValues forms.now stores.now rules.old }
+    ensures is { result
+        ≡ is_disabling (nodes_of forms.now) stores.now (guard_node guard.entry) }
+    ensures kept { AreRuleValues forms.now stores.now rules.new }
+{
+    if guard.code() != DISABLE_IF {
+        return false;
+    }
+    condition_holds_by(AnyCondition::Guard(guard), forms, questions, stores, rules)
+}
+
 impl Removed {
     /// What is removed of a form set whose stores are these. Where an allocation fails the fault is OutOfMemory (60) at 0, and
     /// there is no other fault. The questions are those of the same package.
@@ -52,12 +75,11 @@ impl Removed {
             ≡ removed_at (nodes_of forms.now) stores.now) }
         ensures refused { IfErr result (λ fault. fault ≡ out_of_memory) }
     {
+        let mut rules = RuleValues::new(alloc, forms.rule_count())?;
         let mut places = SmallVec::new(alloc);
         let mut guards = forms.guards();
         while let Some(guard) = guards.next() {
-            if guard.code() == DISABLE_IF
-                && condition_holds(AnyCondition::Guard(guard), forms, questions, stores)
-            {
+            if disables(guard, forms, questions, stores, &mut rules) {
                 places.push(guard.place())?;
             }
         }

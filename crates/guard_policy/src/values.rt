@@ -1,7 +1,9 @@
 //! What a policy decides of the values of questions.
 
 ghost use Rattle.std.specs.Prelude.{◌≡◌, map, option_map};
+ghost use Rattle.std.specs.Iterator.{YieldsFirstBy};
 ghost use Rattle.std.specs.List.{find};
+ghost use Rattle.ifr_nodes.specs.Nodes.{warnings};
 ghost use Rattle.ifr_nodes.specs.code.Checked.{IsNodeOf};
 ghost use Rattle.ifr_scopes.specs.code.ConditionsLeft.{conditions_of_left};
 ghost use Rattle.ifr_scopes.specs.code.NoSubmitsLeft.{no_submit_node};
@@ -10,18 +12,20 @@ ghost use Rattle.hii_questions.specs.code.Views.{question_node};
 ghost use Rattle.guard_policy.specs.Policy as spec;
 ghost use Rattle.guard_policy.specs.code.Answers as denying;
 ghost use Rattle.guard_policy.specs.code.KeptConditions.{DecidesBy};
+ghost use Rattle.guard_policy.specs.code.RuleValues.{AreRuleValues};
 ghost use Rattle.guard_policy.specs.code.Views.{world, world_by};
 ghost use Rattle.guard_policy.specs.Warned.{warning_of};
-ghost use Rattle.guard_policy.specs.code.WarningsLeft.{warnings_left};
+ghost use Rattle.guard_policy.specs.code.WarningsLeft.{warnings_among, warnings_left};
 ghost use Rattle.guard_policy.specs.World.{is_met};
 ghost use Rattle.guard_policy.specs.declared.support.Decision.TheVariants.{MaySubmit};
 
-use crate::conditions::{ByConditions, Conditions, Verdicts, condition_holds};
+use crate::conditions::{ByConditions, Conditions, Verdicts, condition_holds, condition_holds_by};
 use crate::denial::Denial;
 use crate::policy::Policy;
-use crate::warnings::Warnings;
+use crate::warnings::{Warning, Warnings};
 use hii_questions::{DenialKind, Question};
 use hii_varstore::Stores;
+use ifr_expr::RuleValues;
 use ifr_opcodes::{INCONSISTENT_IF, WARNING_IF};
 use ifr_scopes::{AnyCondition, ConditionView, ConditionsOf, NoSubmit};
 
@@ -35,6 +39,27 @@ impl<'a, 's> Policy<'a, 's> {
             self.forms,
             self.questions,
             stores,
+        )
+    }
+
+    /// Whether a condition of a question holds, by values of rules over these stores. Those that it asks for are kept there.
+    pub(crate) fn condition_holds_by(
+        &self,
+        condition: ConditionView<'a>,
+        stores: &Stores,
+        rules: &mut RuleValues,
+    ) -> bool
+        requires { AreRuleValues self.now.forms.now stores.now rules.old }
+        ensures holds { result
+            ≡ is_met (world self.now stores.now) (condition_node condition.entry) }
+        ensures kept { AreRuleValues self.now.forms.now stores.now rules.new }
+    {
+        condition_holds_by(
+            AnyCondition::Question(condition),
+            self.forms,
+            self.questions,
+            stores,
+            rules,
         )
     }
 
@@ -55,6 +80,26 @@ impl<'a, 's> Policy<'a, 's> {
         None
     }
 
+    // The first of some conditions that holds, by values of rules over these stores.
+    fn first_holding_by(
+        &self,
+        mut conditions: ConditionsOf<'_, 'a>,
+        stores: &Stores,
+        rules: &mut RuleValues,
+    ) -> Option<ConditionView<'a>>
+        requires { AreRuleValues self.now.forms.now stores.now rules.old }
+        ensures first { option_map condition_node result
+            ≡ find (is_met (world self.now stores.now)) (conditions_of_left conditions.entry) }
+        ensures kept { AreRuleValues self.now.forms.now stores.now rules.new }
+    {
+        while let Some(condition) = conditions.next() {
+            if self.condition_holds_by(condition, stores, rules) {
+                return Some(condition);
+            }
+        }
+        None
+    }
+
     /// Whether the value of a question of the package is consistent: no INCONSISTENT_IF of it holds over these stores. The
     /// denial, of the kind InconsistentIf, names the first by place, and its text.
     #[tactic(auto, using(ifr_opcodes::proofs::StatementLemmas::inconsistent_is))]
@@ -67,6 +112,30 @@ impl<'a, 's> Policy<'a, 's> {
             .forms
             .conditions_of(question.statement(), INCONSISTENT_IF);
         match self.first_holding(conditions, stores) {
+            Some(condition) => Err(Denial::telling(DenialKind::InconsistentIf, condition)),
+            None => Ok(()),
+        }
+    }
+
+    /// Whether the value of a question of the package is consistent, by values of rules over these stores. Those that it asks for
+    /// are kept there.
+    #[tactic(auto, using(ifr_opcodes::proofs::StatementLemmas::inconsistent_is))]
+    pub fn consistent_by(
+        &self,
+        question: Question<'a>,
+        stores: &Stores,
+        rules: &mut RuleValues,
+    ) -> Result<(), Denial>
+        requires node { IsNodeOf self.now.forms.now (question_node question) }
+        requires kept { AreRuleValues self.now.forms.now stores.now rules.old }
+        ensures denied { result ≡ denying.unless
+            (spec.inconsistent (world self.now stores.now) (question_node question.entry)) }
+        ensures kept { AreRuleValues self.now.forms.now stores.now rules.new }
+    {
+        let inconsistents = self
+            .forms
+            .conditions_of(question.statement(), INCONSISTENT_IF);
+        match self.first_holding_by(inconsistents, stores, rules) {
             Some(condition) => Err(Denial::telling(DenialKind::InconsistentIf, condition)),
             None => Ok(()),
         }
@@ -124,5 +193,35 @@ impl<'a, 's> Policy<'a, 's> {
             stores,
             conditions: self.forms.conditions_of(question.statement(), WARNING_IF),
         }
+    }
+
+    /// The WARNING_IFs of a question of the package, by place.
+    #[tactic(auto, using(ifr_opcodes::proofs::StatementLemmas::warning_is))]
+    pub fn warning_conditions(&self, question: Question<'a>) -> ConditionsOf<'s, 'a>
+        requires { IsNodeOf self.now.forms.now (question_node question) }
+        ensures { conditions_of_left result ≡ warnings (question_node question.entry) }
+    {
+        self.forms.conditions_of(question.statement(), WARNING_IF)
+    }
+
+    /// Of what the next of some WARNING_IFs that holds over these stores warns, by values of rules over them. Those that it asks
+    /// for are kept there.
+    pub fn next_warning_by(
+        &self,
+        conditions: &mut ConditionsOf<'_, 'a>,
+        stores: &Stores,
+        rules: &mut RuleValues,
+    ) -> Option<Warning>
+        requires { AreRuleValues self.now.forms.now stores.now rules.old }
+        ensures next { YieldsFirstBy (λ warning. warning)
+            (warnings_among (world self.now stores.now)) conditions.old result conditions.new }
+        ensures kept { AreRuleValues self.now.forms.now stores.now rules.new }
+    {
+        while let Some(condition) = conditions.next() {
+            if self.condition_holds_by(condition, stores, rules) {
+                return Some(Warning::of(condition));
+            }
+        }
+        None
     }
 }

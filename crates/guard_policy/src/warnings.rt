@@ -1,8 +1,12 @@
 //! Of what questions warn.
 
+ghost use Rattle.std.specs.Prelude.{◌≡◌};
+ghost use Rattle.ifr_scopes.specs.code.Parts.{condition_node};
+ghost use Rattle.guard_policy.specs.Warned.{warning_of};
+
 use crate::policy::Policy;
 use hii_varstore::Stores;
-use ifr_scopes::ConditionsOf;
+use ifr_scopes::{ConditionView, ConditionsOf};
 
 /// A WARNING_IF whose condition holds: its place, in bytes from the header of the forms package, and the string id of its text
 /// (UEFI 2.8, 33.3.8.3, EFI_IFR_WARNING_IF).
@@ -10,6 +14,18 @@ use ifr_scopes::ConditionsOf;
 pub struct Warning {
     pub place: u32,
     pub message: u16,
+}
+
+impl Warning {
+    // Of what a WARNING_IF warns.
+    pub(crate) fn of(condition: ConditionView<'_>) -> Warning
+        ensures { result ≡ warning_of (condition_node condition.entry) }
+    {
+        Warning {
+            place: condition.place(),
+            message: condition.op().message(),
+        }
+    }
 }
 
 /// The warnings of a question that are left, by place.
@@ -33,10 +49,7 @@ impl<'a, 's> Iterator for Warnings<'a, 's> {
     fn next(&mut self) -> Option<Warning> {
         while let Some(condition) = self.conditions.next() {
             if self.policy.condition_holds(condition, self.stores) {
-                return Some(Warning {
-                    place: condition.place(),
-                    message: condition.op().message(),
-                });
+                return Some(Warning::of(condition));
             }
         }
         None

@@ -18,5 +18,6 @@ pub mod LawLemmas
 pub mod NamedLemmas
 pub mod MergeLemmas
 pub mod StepLemmas
+pub mod UnitLemmas
 pub mod ReadLemmas
 pub mod MetLemmas

@@ -24,5 +24,6 @@ pub mod StoredLeft
 pub mod Survey
 pub mod Tables
 pub mod TypeViews
+pub mod UnitBlocks
 pub mod Views
 pub mod Widths

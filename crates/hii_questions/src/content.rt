@@ -24,6 +24,10 @@ impl<'i> Content<'i> {
         requires { length (content_bytes self) ≤ length into.old }
         ensures { into.new ≡ filled (length into.old) (content_bytes self.entry) }
     {
+        if let Items::Number(Some(number)) = self.items {
+            write_number(into, number, self.width);
+            return;
+        }
         let mut end = 0;
         for item in self.items {
             write_item(into, end, item, self.width);
@@ -42,4 +46,16 @@ fn write_item(into: &mut [u8], at: usize, item: u64, width: usize)
     let mut bytes = [0; 8];
     LittleEndian::write_u64(&mut bytes, item);
     into[at..at + width].copy_from_slice(&bytes[..width]);
+}
+
+// Writes a number of `width` bytes at the front, and zeros behind it.
+fn write_number(into: &mut [u8], number: u64, width: usize)
+    requires wide { width ≤ 8 }
+    requires within { width ≤ length into.old }
+    ensures { into.new ≡ filled (length into.old) (little_bytes width number) }
+{
+    write_item(into, 0, number, width);
+    if width < into.len() {
+        into[width..].fill(0);
+    }
 }

@@ -76,6 +76,7 @@ impl<'a> FieldType<'a> {
     ghost use Rattle.hii_questions.specs.Types.{type_of};
 
     /// What the field of a statement holds, if it is a question that may have one.
+    #[inline(always)]
     pub(crate) fn of(statement: Statement<'a>) -> Option<FieldType<'a>>
         ensures held { option_map type_in result ≡ type_of (statement_node statement.entry) }
         ensures narrow { is_password (statement_node statement.entry) ≡ false

@@ -24,6 +24,7 @@ use crate::texts::{count_within, text_of};
 use hii_bytes::NumberList;
 
 /// What a field is to hold where it takes an input that is not the bytes of a field.
+#[inline(always)]
 pub(crate) fn content_of<'i>(
     field_type: FieldType<'_>,
     input: Input<'i>,
@@ -43,6 +44,7 @@ pub(crate) fn content_of<'i>(
 }
 
 /// Whether the items of a field are values of options.
+#[inline(always)]
 pub(crate) fn names_options(field_type: FieldType<'_>) -> bool
     ensures { result ≡ names_options (type_in field_type.entry) }
 {
@@ -50,6 +52,7 @@ pub(crate) fn names_options(field_type: FieldType<'_>) -> bool
 }
 
 // A number of `width` bytes.
+#[inline(always)]
 fn number_content<'i>(number: u64, width: usize) -> Content<'i>
     requires { is_width width ≡ true }
     ensures bytes { content_bytes result ≡ little_bytes width number }
@@ -61,6 +64,7 @@ fn number_content<'i>(number: u64, width: usize) -> Content<'i>
     }
 }
 
+#[inline(always)]
 fn checkbox_content(input: Input<'_>) -> Result<Content<'_>, DenialKind>
     ensures { Gives 1 (fits_type checkbox (offer_of input.entry))
         (offered_items checkbox (offer_of input.entry)) result }
@@ -73,6 +77,7 @@ fn checkbox_content(input: Input<'_>) -> Result<Content<'_>, DenialKind>
     }
 }
 
+#[inline(always)]
 fn numeric_content(numeric: NumericType, input: Input<'_>) -> Result<Content<'_>, DenialKind>
     ensures { Gives numeric.width (fits_type (numeric_in numeric) (offer_of input.entry))
         (offered_items (numeric_in numeric) (offer_of input.entry)) result }
@@ -87,6 +92,7 @@ fn numeric_content(numeric: NumericType, input: Input<'_>) -> Result<Content<'_>
 }
 
 // The number of these bits, where there are some, and it is within the bounds.
+#[inline(always)]
 fn within_bounds<'i>(numeric: NumericType, bits: Option<u64>) -> Result<Content<'i>, DenialKind>
     ensures { Gives numeric.width
         (numeric_bytes numeric.signed numeric.width numeric.minimum numeric.maximum bits)
@@ -104,6 +110,7 @@ fn within_bounds<'i>(numeric: NumericType, bits: Option<u64>) -> Result<Content<
     Ok(number_content(bits, numeric.width))
 }
 
+#[inline(always)]
 fn one_of_content<'i>(one_of: OneOfType<'_>, input: Input<'i>) -> Result<Content<'i>, DenialKind>
     ensures { Gives one_of.entry.width
         (fits_type (one_of_in one_of.entry) (offer_of input.entry))

@@ -5,6 +5,7 @@ ghost use Rattle.hii_questions.specs.Items.{bytes_of_items};
 ghost use Rattle.hii_questions.specs.code.Widths.{is_width};
 
 use crate::stored_items::StoredItems;
+use crate::unit_blocks::blocks_of_items;
 use hii_bytes::NumberList;
 
 /// The items of a field that are left, from the first to the last.
@@ -60,8 +61,9 @@ pub fn bytes_of_items(bytes: &[u8], width: usize) -> &[u8]
     requires { is_width width ≡ true }
     ensures { result.now ≡ bytes_of_items width bytes.now }
 {
-    let mut end = 0;
-    for _item in Items::Stored(StoredItems { bytes, width }) {
+    let mut end = blocks_of_items(bytes, width);
+    let bytes_left = &bytes[end..];
+    for _item in Items::Stored(StoredItems::new(bytes_left, width)) {
         end += width;
     }
     &bytes[..end]

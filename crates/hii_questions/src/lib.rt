@@ -32,6 +32,7 @@ mod store_ids;
 mod stored_items;
 mod tables;
 mod texts;
+mod unit_blocks;
 mod value;
 
 pub use denial::{DenialKind, ValueDenial};

@@ -35,6 +35,7 @@ impl<'a> Question<'a> {
     ghost use Rattle.hii_questions.specs.code.Views.{question_node, question_view};
 
     /// The question of an accepted package of which this is kept.
+    #[inline(always)]
     pub(crate) fn kept(ifr: &'a [u8], entry: QuestionEntry) -> Question<'a>
         requires accepted { IsAccepted ifr.now }
         requires kept { IsQuestionEntry ifr.now entry }
@@ -45,6 +46,7 @@ impl<'a> Question<'a> {
     }
 
     /// The question that a statement is, of which this is kept.
+    #[inline(always)]
     pub(crate) fn of(
         statement: Statement<'a>,
         op: QuestionOp<'a>,

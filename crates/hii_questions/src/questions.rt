@@ -98,6 +98,7 @@ impl<'a> Questions<'a> {
     }
 
     /// The question of an id; there is none of the id 0.
+    #[inline(always)]
     pub fn find(&self, id: u16) -> Option<Question<'a>>
         ensures { option_map question_view result
             ≡ option_map (asked (nodes_of self.now.ifr))

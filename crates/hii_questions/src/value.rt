@@ -51,6 +51,7 @@ pub(crate) fn read_number(question: Question<'_>, stores: &Stores) -> Option<u64
 
 /// The new bytes of a question's field, where the question takes the value; else why not, at the question's place. A
 /// question without a field takes none (`Kind`), nor an input of another kind.
+#[inline(always)]
 pub fn check_value<'i>(question: Question<'_>, input: Input<'i>) -> Result<Field<'i>, ValueDenial>
     requires { IsGiven (question_view question).field input }
     ensures given { Checks (question_view question.entry) (offer_of input.entry) result }

@@ -5,6 +5,7 @@ pub mod ShapeLemmas
 pub mod CheckLemmas
 pub mod ValueLemmas
 pub mod RuleLemmas
+pub mod RuleValueLemmas
 pub mod EvaluationLemmas
 pub mod DependenceLemmas
 pub mod NodeLemmas

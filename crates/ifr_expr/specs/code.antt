@@ -8,6 +8,7 @@ pub mod Names
 pub mod NamesLeft
 pub mod OpcodesLeft
 pub mod ReferencesLeft
+pub mod RuleValues
 pub mod Rules
 pub mod Stacks
 pub mod Supports

@@ -5,6 +5,7 @@ ghost use Rattle.ifr_opcodes.specs.code.Ops.{op_of};
 ghost use Rattle.ifr_opcodes.specs.code.Views.{operator, leaf_operator, values_left};
 ghost use Rattle.ifr_expr.specs.Meaning as meaning;
 ghost use Rattle.ifr_expr.specs.code.Rules as ordering;
+ghost use Rattle.ifr_expr.specs.code.RuleValues.{AreValues, IsNumberOf};
 ghost use Rattle.ifr_expr.specs.code.Stacks.{Fit, operand_value, values_behind};
 ghost use Rattle.ifr_expr.specs.Values as spec;
 ghost use Rattle.ifr_expr.specs.code.Views.{value_of, outcome_value};
@@ -15,6 +16,8 @@ use crate::counting::MAX_VALUES;
 use crate::expr::Expr;
 use crate::operations::{binary, constant, same_numbers, unary};
 use crate::operators::Operators;
+use crate::references::RuleReference;
+use crate::rule_values::Memo;
 use crate::value::{Operand, Outcome, Value};
 use ifr_opcodes::{ExprOp, LeafOp, ListValues};
 
@@ -44,6 +47,11 @@ pub(crate) trait World {
         ensures named { option_map tree_of result
             ≡ option_map (λ r. r.tree) (ordering.named (rules self.now) id place) }
         ensures before { IfSome result (λ expr. end_of expr ≤ place) };
+
+    /// The number of that rule, where it is known.
+    fn rule_number(&self, id: u8, place: u32) -> Option<usize>
+        ensures ordered { IfSome result (λ _. ordering.AreOrdered (rules self.now)) }
+        ensures number { IfSome result (IsNumberOf (rules self.now) id place) };
 }
 
 // Whether an answer is one of some numbers, where it is a number.
@@ -98,21 +106,61 @@ fn resolve<W: World>(world: &W, operand: Operand) -> Value<'_>
     }
 }
 
+// The value of a reference to a rule: that of the rule's expression.
+#[cycle(evaluation)]
+fn referred<W: World, M: Memo>(world: &W, reference: RuleReference, memo: &mut M) -> Operand
+    requires { AreValues (W.rules world.now) (W.answers world.now) (M.kept memo.old) }
+    ensures value { operand_value (W.answers world.now) result
+        ≡ meaning.rule_values (W.rules world.now) (W.answers world.now) reference.id
+        reference.place }
+    ensures kept { AreValues (W.rules world.now) (W.answers world.now) (M.kept memo.new) }
+{
+    match world.rule(reference.id, reference.place) {
+        Some(rule) => evaluate(world, rule, 0, memo),
+        None => Operand::Made(Outcome::Undefined),
+    }
+}
+
+// The value of a reference to a rule: what is kept of the rule, or its value, which is then kept.
+#[cycle(evaluation)]
+fn rule_value<W: World, M: Memo>(world: &W, reference: RuleReference, memo: &mut M) -> Operand
+    requires { AreValues (W.rules world.now) (W.answers world.now) (M.kept memo.old) }
+    ensures value { operand_value (W.answers world.now) result
+        ≡ meaning.rule_values (W.rules world.now) (W.answers world.now) reference.id
+        reference.place }
+    ensures kept { AreValues (W.rules world.now) (W.answers world.now) (M.kept memo.new) }
+{
+    let Some(number) = world.rule_number(reference.id, reference.place) else {
+        return referred(world, reference, memo);
+    };
+    if let Some(value) = memo.value(number) {
+        return value;
+    }
+    let value = referred(world, reference, memo);
+    memo.keep(number, value);
+    value
+}
+
 // The value of an operator that takes no operands.
 #[cycle(evaluation)]
 #[inline(always)]
-fn operand_of<W: World>(world: &W, op: ExprOp<'_>, this: u16) -> Operand
-    requires { takes (op_of (operator op)) ≡ Some 0 }
-    ensures { operand_value (W.answers world.now) result
+fn operand_of<W: World, M: Memo>(world: &W, op: ExprOp<'_>, this: u16, memo: &mut M) -> Operand
+    requires leaf { takes (op_of (operator op)) ≡ Some 0 }
+    requires kept { AreValues (W.rules world.now) (W.answers world.now) (M.kept memo.old) }
+    ensures value { operand_value (W.answers world.now) result
         ≡ meaning.leaf_value (meaning.rule_values (W.rules world.now) (W.answers world.now))
         (W.answers world.now) this (op_of (operator op.entry)) }
+    ensures kept { AreValues (W.rules world.now) (W.answers world.now) (M.kept memo.new) }
 {
     match op {
         ExprOp::Leaf(op) => leaf(world, op, this),
-        ExprOp::RuleRef(op) => match world.rule(op.rule(), op.op.place) {
-            Some(rule) => evaluate(world, rule, 0),
-            None => Operand::Made(Outcome::Undefined),
-        },
+        ExprOp::RuleRef(op) => {
+            let reference = RuleReference {
+                id: op.rule(),
+                place: op.op.place,
+            };
+            rule_value(world, reference, memo)
+        }
         _ => unreachable!(),
     }
 }
@@ -120,19 +168,22 @@ fn operand_of<W: World>(world: &W, op: ExprOp<'_>, this: u16) -> Operand
 // The value of an expression, by that of its first operator and the operators behind it, over room for the values that wait
 // for others.
 #[cycle(evaluation)]
-fn evaluate_behind<W: World>(
+fn evaluate_behind<W: World, M: Memo>(
     world: &W,
     first: Operand,
     mut ops: Operators<'_>,
     this: u16,
     waiting: &mut [Operand],
+    memo: &mut M,
 ) -> Operand
-    requires { Fit (length waiting.old + 1) 1 (operators_left ops) }
-    ensures { values_behind
+    requires fit { Fit (length waiting.old + 1) 1 (operators_left ops) }
+    requires kept { AreValues (W.rules world.now) (W.answers world.now) (M.kept memo.old) }
+    ensures value { values_behind
         (meaning.leaf_value (meaning.rule_values (W.rules world.now) (W.answers world.now))
         (W.answers world.now) this)
         (operand_value (W.answers world.now) first ∷ []) (operators_left ops.entry)
         ≡ operand_value (W.answers world.now) result ∷ [] }
+    ensures kept { AreValues (W.rules world.now) (W.answers world.now) (M.kept memo.new) }
 {
     let mut last = first;
     let mut count = 0;
@@ -147,27 +198,34 @@ fn evaluate_behind<W: World>(
             _ => {
                 waiting[count] = last;
                 count += 1;
-                operand_of(world, op, this)
+                operand_of(world, op, this, memo)
             }
         };
     }
     last
 }
 
-/// The value of an expression.
+/// The value of an expression, with values of rules over the same answers, which are used and added to.
 #[cycle(evaluation)]
-pub(crate) fn evaluate<W: World>(world: &W, expr: Expr<'_>, this: u16) -> Operand
-    ensures { operand_value (W.answers world.now) result
+pub(crate) fn evaluate<W: World, M: Memo>(
+    world: &W,
+    expr: Expr<'_>,
+    this: u16,
+    memo: &mut M,
+) -> Operand
+    requires { AreValues (W.rules world.now) (W.answers world.now) (M.kept memo.old) }
+    ensures value { operand_value (W.answers world.now) result
         ≡ meaning.value (W.rules world.now) (W.answers world.now) this (tree_of expr.entry) }
+    ensures kept { AreValues (W.rules world.now) (W.answers world.now) (M.kept memo.new) }
 {
     let mut ops = expr.operators();
-    let first = operand_of(world, ops.next().unwrap(), this);
+    let first = operand_of(world, ops.next().unwrap(), this, memo);
     if ops.is_done() {
         return first;
     }
     if expr.needs_few(FEW + 1) {
-        evaluate_behind(world, first, ops, this, &mut [NOTHING; FEW])
+        evaluate_behind(world, first, ops, this, &mut [NOTHING; FEW], memo)
     } else {
-        evaluate_behind(world, first, ops, this, &mut [NOTHING; MAX_VALUES])
+        evaluate_behind(world, first, ops, this, &mut [NOTHING; MAX_VALUES], memo)
     }
 }

@@ -8,7 +8,8 @@ use crate::names::Names;
 use crate::opcodes::Opcodes;
 use crate::operators::Operators;
 use crate::references::RuleReferences;
-use crate::rules::Rules;
+use crate::rule_values::RuleValues;
+use crate::rules::{NumberedRules, Rules};
 use crate::support::Support;
 use crate::value::{Answers, Value};
 use hii_bytes::{Cause, Fault};
@@ -36,6 +37,7 @@ impl<'a> Expr<'a> {
     ghost use Rattle.ifr_expr.specs.code.Supports.{ids_left};
     ghost use Rattle.ifr_expr.specs.Trees.{Tree, Means, need, post};
     ghost use Rattle.ifr_expr.specs.Values.{holds};
+    ghost use Rattle.ifr_expr.specs.code.RuleValues.{AreValues, kept_under};
     ghost use Rattle.ifr_expr.specs.code.Views.{value_of};
 
     /// The expression that stands at a range of a package, in bytes from its header: the node of an operator. It is refused
@@ -143,18 +145,41 @@ impl<'a> Expr<'a> {
         given::value(self, answers, rules, this)
     }
 
-    /// Whether it holds as a condition: its value is true, or a number other than 0.
-    pub fn holds<A: Answers<'a>, R: Rules<'a>>(self, answers: &A, rules: &R, this: u16) -> bool
-        ensures { result
-            ≡ holds (value (R.rules rules.now) (A.answers answers.now) this (tree_of self.entry)) }
+    // Whether a value is that of a condition that holds.
+    fn is_met(value: Value<'a>) -> bool
+        ensures { result ≡ holds (value_of value.entry) }
     {
-        match self.value(answers, rules, this) {
+        match value {
             Value::Boolean(holds) => holds,
             Value::Number(number) => number != 0,
             Value::Undefined => false,
             Value::Text(_) => false,
             Value::Buffer(_) => false,
         }
+    }
+
+    /// Whether it holds as a condition: its value is true, or a number other than 0.
+    pub fn holds<A: Answers<'a>, R: Rules<'a>>(self, answers: &A, rules: &R, this: u16) -> bool
+        ensures { result
+            ≡ holds (value (R.rules rules.now) (A.answers answers.now) this (tree_of self.entry)) }
+    {
+        Self::is_met(self.value(answers, rules, this))
+    }
+
+    /// The same, by values of rules over the same answers. Those that it asks for are kept there.
+    pub fn holds_by<A: Answers<'a>, R: NumberedRules<'a>>(
+        self,
+        answers: &A,
+        rules: &R,
+        this: u16,
+        values: &mut RuleValues,
+    ) -> bool
+        requires { AreValues (R.rules rules.now) (A.answers answers.now) (kept_under values.old) }
+        ensures holds { result
+            ≡ holds (value (R.rules rules.now) (A.answers answers.now) this (tree_of self.entry)) }
+        ensures kept { AreValues (R.rules rules.now) (A.answers answers.now) (kept_under values.new) }
+    {
+        Self::is_met(given::value_by(self, answers, rules, this, values))
     }
 
     /// What its operators name, by place.

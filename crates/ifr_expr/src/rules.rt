@@ -20,3 +20,15 @@ pub trait Rules<'a> {
             ≡ option_map (λ r. r.tree) (named (rules self.now) id place) }
         ensures before { IfSome result (λ expr. end_of expr ≤ place) };
 }
+
+/// The same, where rules have numbers: that of a rule is how many stand before it.
+pub trait NumberedRules<'a>: Rules<'a> {
+    ghost use Rattle.std.specs.Prelude.{IfSome};
+    ghost use Rattle.ifr_expr.specs.code.Rules.{AreOrdered};
+    ghost use Rattle.ifr_expr.specs.code.RuleValues.{IsNumberOf};
+
+    /// The number of the rule that a reference to this id at this place names. Where none is told, the rule has the same value.
+    fn rule_number(&self, id: u8, place: u32) -> Option<usize>
+        ensures ordered { IfSome result (λ _. AreOrdered (Self.rules self.now)) }
+        ensures number { IfSome result (IsNumberOf (Self.rules self.now) id place) };
+}

@@ -11,6 +11,7 @@ pub mod FormPlaceLemmas
 pub mod NamedSizeLemmas
 pub mod FrameLemmas
 pub mod RuleLookupLemmas
+pub mod RuleNumberLemmas
 pub mod AroundLemmas
 pub mod EntryLemmas
 pub mod InsideLemmas

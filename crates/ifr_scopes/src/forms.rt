@@ -43,7 +43,7 @@ use crate::guards_at::GuardsAt;
 use crate::guards_outward::GuardsOutward;
 use crate::index::{
     ConditionEntry, Entry, Index, condition_at, conditions_behind, entries_behind, entry_at,
-    guard_at, places_behind,
+    guard_at, number_of, places_behind,
 };
 use crate::indexing::index_of;
 use crate::no_submits::NoSubmits;
@@ -54,7 +54,7 @@ use crate::statements_of::StatementsOf;
 use crate::varstore::Varstores;
 use hii_bytes::Fault;
 use hii_packages::Package;
-use ifr_expr::{Expr, Rules};
+use ifr_expr::{Expr, NumberedRules, Rules};
 use ifr_nodes::{
     Node, Nodes, RuleTable, check_framing, check_references, check_structure, expression_of,
     node_at,
@@ -180,6 +180,13 @@ impl<'a> Forms<'a> {
             ifr: self.ifr,
             places: &self.index.rules,
         }
+    }
+
+    /// How many rules there are.
+    pub fn rule_count(&self) -> usize
+        ensures { result ≡ length (filter is_rule (nodes_of self.now)) }
+    {
+        self.index.rules.len()
     }
 
     // The node of the rule that a reference to an id at a place names, if there is one.
@@ -411,5 +418,12 @@ impl<'a> Rules<'a> for Forms<'a> {
     fn rule(&self, id: u8, place: u32) -> Option<Expr<'a>> {
         let node = self.node_named(id, place)?;
         Some(expression_of(node))
+    }
+}
+
+impl<'a> NumberedRules<'a> for Forms<'a> {
+    fn rule_number(&self, id: u8, place: u32) -> Option<usize> {
+        let node = self.node_named(id, place)?;
+        number_of(&self.index.rules, node.op().place)
     }
 }

@@ -2,7 +2,7 @@
 //! questions, its stores, its rules and the statements that give a default, and its forms by their ids; and how its tables are
 //! searched.
 
-ghost use Rattle.std.specs.Prelude.{◌≡◌, ◌==◌, ℕ, nat_lt, filter};
+ghost use Rattle.std.specs.Prelude.{◌≡◌, ◌==◌, ℕ, nat_lt, filter, slice_get, IfSome, Some};
 ghost use Rattle.std.specs.List.{find};
 ghost use Rattle.hii_bytes.specs.code.FirstFaults.{Rise};
 
@@ -128,6 +128,16 @@ pub(crate) fn conditions_behind(conditions: &[ConditionEntry], place: u32) -> &[
 {
     let first = conditions.partition_point(|condition| condition.place <= place);
     &conditions[first..]
+}
+
+/// How many of some places that rise stand before one of them.
+pub(crate) fn number_of(places: &[u32], place: u32) -> Option<usize>
+    ensures { IfSome result (λ number. slice_get places.now number ≡ Some place) }
+{
+    match places.binary_search(&place) {
+        Ok(number) => Some(number),
+        Err(_) => None,
+    }
 }
 
 /// Those of some places that are behind another.

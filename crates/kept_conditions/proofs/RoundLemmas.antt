@@ -1,5 +1,5 @@
 -- A round over the dependents of a package.
-use Rattle.std.proofs.Common.{◌≡◌, ℕ, ◌+◌, ◌<◌, ◌==◌, ◌||◌, Bool, true, false, List, [], ◌∷◌, length, map, filter, get_or, refl, sym, ap, ◌∙◌, subst, inl, inr, arith}
+use Rattle.std.proofs.Common.{◌≡◌, ℕ, ◌+◌, ◌<◌, ◌==◌, ◌||◌, Bool, true, false, Option, List, [], ◌∷◌, length, map, filter, get_or, refl, sym, ap, ◌∙◌, subst, inl, inr, arith}
 use Rattle.std.specs.Prelude.{All}
 use Rattle.std.specs.List.{list_any}
 use Rattle.std.specs.Vec.{vec_capacity}
@@ -8,10 +8,12 @@ use Rattle.std.proofs.lemmas.List.Sums.{sum_by-cons}
 use Rattle.std.proofs.Math.Bool.{or-false}
 use Rattle.hii_bytes.specs.code.FirstFaults.{Rise}
 use Rattle.ifr_opcodes.specs.Forest.{Node}
+use Rattle.ifr_expr.specs.declared.value.Operand.{Operand}
 use Rattle.ifr_nodes.specs.Nodes.{nodes_of}
 use Rattle.ifr_nodes.specs.Rules.{is_rule}
 use Rattle.hii_varstore.specs.Stores.{StoreMap}
 use Rattle.guard_policy.specs.code.KeptConditions.{TellsAll}
+use Rattle.guard_policy.specs.code.RuleValues.{AreRuleValues}
 use Rattle.guard_policy.specs.code.Views.{bytes_of, world}
 use Rattle.guard_policy.specs.code.Worlds.{is_met_at}
 use Rattle.guard_policy.specs.declared.policy.Policy.{Policy}
@@ -88,6 +90,14 @@ told_by policy over now stores same alike tells =
     subst (λ (p : Policy). TellsOver (is_met_at (world p stores)) ns now) (sym same)
     (subst (λ (m : StoreMap). TellsOver (is_met_at (world policy m)) ns now) (sym alike)
     (told_kept (is_met_at (world policy now)) ns policy.removed.now now tells))
+
+-- values of rules over what is evaluated, and over the stores of which it was made
+pub values_by : (policy over : Policy) (now stores : StoreMap) → over ≡ policy → stores ≡ now → (values : List (Option Operand)) → AreRuleValues (bytes_of policy) now values → AreRuleValues (bytes_of over) stores values
+values_by policy over now stores same alike values are =
+    subst (λ (p : Policy). AreRuleValues (bytes_of p) stores values) (sym same) (subst (λ (m : StoreMap). AreRuleValues (bytes_of policy) m values) (sym alike) are)
+
+pub values_for : (policy over : Policy) (now stores : StoreMap) → over ≡ policy → stores ≡ now → (values : List (Option Operand)) → AreRuleValues (bytes_of over) stores values → AreRuleValues (bytes_of policy) now values
+values_for policy over now stores same alike values are = values_by over policy stores now (sym same) (sym alike) values are
 
 module _ {ifr : List ℕ} {start fresh : Dependents} {index : Index} (begun : Begins ifr start fresh index) where
   is : IsIndex ifr start index

@@ -4,7 +4,8 @@
 //! changed, looks up a value for each guard and evaluates no expression. Only calls of `KeptStores` write the stores, so that
 //! the values are at all times those over them.
 
-ghost use Rattle.std.specs.Prelude.{◌≡◌, ◌&&◌, IfOk, IfErr, IfSome, ℕ, Some};
+ghost use Rattle.std.specs.Iterator.{YieldsFirstBy};
+ghost use Rattle.std.specs.Prelude.{◌≡◌, ◌&&◌, IfOk, IfErr, IfSome, OnOk, ℕ, Some};
 ghost use Rattle.hii_bytes.specs.Faults.{out_of_memory};
 ghost use Rattle.ifr_nodes.specs.Nodes.{nodes_of};
 ghost use Rattle.ifr_nodes.specs.code.Checked.{IsNodeOf};
@@ -12,7 +13,9 @@ ghost use Rattle.hii_varstore.specs.Stores.{StoreMap, shape_of, byte_of, bytes_o
 ghost use Rattle.hii_varstore.specs.code.Ranges.{HasRange};
 ghost use Rattle.hii_varstore.specs.code.Table.{AreBuffers};
 ghost use Rattle.hii_questions.specs.code.Views.{question_node};
-ghost use Rattle.guard_policy.specs.code.Views.{bytes_of};
+ghost use Rattle.guard_policy.specs.code.RuleValues.{AreRuleValues};
+ghost use Rattle.guard_policy.specs.code.Views.{bytes_of, world};
+ghost use Rattle.guard_policy.specs.code.WarningsLeft.{warnings_among};
 ghost use Rattle.kept_conditions.specs.Touching.{difference, range_of, renewals};
 ghost use Rattle.kept_conditions.specs.Kept.{held, kept_over, changed_to};
 ghost use Rattle.kept_conditions.specs.laws.Writes.{IsWrite};
@@ -24,10 +27,12 @@ use crate::collection::collect;
 use crate::dependents::{Dependent, Dependents, condition_dependents, guard_dependents};
 use crate::index::{Index, index_over};
 use crate::invalidation::{Ranges, renew, renew_between, renew_within};
-use guard_policy::{Conditions, Denial, Policy};
+use guard_policy::{Conditions, Denial, Policy, Warning};
 use hii_bytes::Fault;
 use hii_questions::{Field, FieldRange, Question, Questions};
 use hii_varstore::Stores;
+use ifr_expr::RuleValues;
+use ifr_scopes::ConditionsOf;
 use std::alloc::Global;
 use std::marker::Model;
 use std::mem;
@@ -64,12 +69,15 @@ impl<'a> Kept<'a> {
         policy: Policy<'a, '_>,
         questions: &Questions<'a>,
         stores: &Stores,
+        rules: &mut RuleValues,
     ) -> Result<Kept<'a>, Fault>
-        requires { questions.now.ifr ≡ bytes_of policy }
+        requires together { questions.now.ifr ≡ bytes_of policy }
+        requires values { AreRuleValues (bytes_of policy) stores.now rules.old }
         ensures kept { IfOk result (λ kept. kept ≡ kept_over (bytes_of policy.entry) stores.now) }
+        ensures values { OnOk result (AreRuleValues (bytes_of policy.entry) stores.now rules.new) }
         ensures refused { IfErr result (λ fault. fault ≡ out_of_memory) }
     {
-        let collected = collect(alloc, policy, questions, stores)?;
+        let collected = collect(alloc, policy, questions, stores, rules)?;
         let index = index_over(alloc, collected.dependencies, collected.rule_uses)?;
         let dependents = Dependents::over(alloc, collected.list)?;
         let guard_dependents = guard_dependents(alloc, policy, &dependents.list)?;
@@ -84,6 +92,7 @@ impl<'a> Kept<'a> {
     }
 
     // The dependent at a place, where it is the one that these tell for a number.
+    #[inline(always)]
     fn dependent_of(&self, dependents: &[u32], number: u32, place: u32) -> Option<Dependent>
         ensures { IfSome result
             (λ dependent. (is_condition dependent && dependent.holds) ≡ held self.now.values place) }
@@ -98,6 +107,7 @@ impl<'a> Kept<'a> {
     }
 
     // Whether the condition at a place holds, whose dependent these tell for a number. Where that is another, it is searched for.
+    #[inline(always)]
     fn holds_by(&self, dependents: &[u32], number: u32, place: u32) -> bool
         ensures { result ≡ held self.now.values place }
     {
@@ -114,16 +124,26 @@ impl<'a> Kept<'a> {
         policy: Policy<'a, '_>,
         stores: &Stores,
         written: FieldRange,
+        rules: &mut RuleValues,
     ) -> u64
-        requires { bytes_of policy ≡ self.old.ifr }
+        requires package { bytes_of policy ≡ self.old.ifr }
+        requires values { AreRuleValues self.old.ifr stores.now rules.old }
         ensures package { self.new.ifr ≡ self.old.ifr }
         ensures kept { (old : StoreMap)
             → IsWrite (range_of written.store written.offset written.width) old stores.now
             → self.old ≡ kept_over self.old.ifr old → self.new ≡ kept_over self.old.ifr stores.now }
         ensures count { result ≡ renewals (nodes_of self.old.ifr)
             (range_of written.store written.offset written.width) }
+        ensures values { AreRuleValues self.old.ifr stores.now rules.new }
     {
-        renew(&mut self.dependents, &self.index, policy, stores, written) as u64
+        renew(
+            &mut self.dependents,
+            &self.index,
+            policy,
+            stores,
+            written,
+            rules,
+        ) as u64
     }
 
     /// Evaluates the conditions anew, over new stores, that depend on one of the bytes in which these differ from old ones of the
@@ -133,15 +153,18 @@ impl<'a> Kept<'a> {
         policy: Policy<'a, '_>,
         old: &Stores,
         new: &Stores,
+        rules: &mut RuleValues,
     ) -> u64
         requires package { bytes_of policy ≡ self.old.ifr }
         requires shape { shape_of old.now ≡ shape_of new.now }
+        requires values { AreRuleValues self.old.ifr new.now rules.old }
         ensures package { self.new.ifr ≡ self.old.ifr }
         ensures kept { self.old ≡ kept_over self.old.ifr old.now
             → self.new ≡ kept_over self.old.ifr new.now }
         ensures count { result ≡ renewals (nodes_of self.old.ifr) (difference old.now new.now) }
+        ensures values { AreRuleValues self.old.ifr new.now rules.new }
     {
-        renew_between(&mut self.dependents, &self.index, policy, old, new) as u64
+        renew_between(&mut self.dependents, &self.index, policy, old, new, rules) as u64
     }
 
     /// Evaluates the conditions anew, over new stores, that depend on one of the bytes in which these differ from the old ones,
@@ -153,19 +176,30 @@ impl<'a> Kept<'a> {
         old: &mut Stores,
         new: &Stores,
         ranges: R,
+        rules: &mut RuleValues,
     ) -> u64
         requires package { bytes_of policy ≡ self.old.ifr }
         requires shape { shape_of old.old ≡ shape_of new.now }
         requires inside { HaveRanges (shape_of new.now) (R.ranges ranges) }
         requires alike { AreAlikeOutside (R.ranges ranges) old.old new.now }
+        requires values { AreRuleValues self.old.ifr new.now rules.old }
         ensures package { self.new.ifr ≡ self.old.ifr }
         ensures kept { self.old ≡ kept_over self.old.ifr old.old
             → self.new ≡ kept_over self.old.ifr new.now }
         ensures count { result ≡ renewals (nodes_of self.old.ifr) (difference old.old new.now) }
         ensures shape { shape_of old.new ≡ shape_of old.old }
         ensures same { AreAlike old.new new.now }
+        ensures values { AreRuleValues self.old.ifr new.now rules.new }
     {
-        renew_within(&mut self.dependents, &self.index, policy, old, new, ranges) as u64
+        renew_within(
+            &mut self.dependents,
+            &self.index,
+            policy,
+            old,
+            new,
+            ranges,
+            rules,
+        ) as u64
     }
 }
 
@@ -180,6 +214,7 @@ impl<'a> Conditions for Kept<'a> {
         }
     }
 
+    #[inline(always)]
     fn guard_holds(&self, number: u32, place: u32) -> bool {
         self.holds_by(&self.guard_dependents, number, place)
     }
@@ -195,6 +230,8 @@ impl<'a> Conditions for Kept<'a> {
 pub struct KeptStores<'a> {
     stores: Stores,
     kept: Kept<'a>,
+    // values of rules over the stores
+    rules: RuleValues,
     // at most 2^64 - 1
     renewed: u64,
 }
@@ -207,7 +244,7 @@ impl<'a> Model for KeptStores<'a> {
 
     ghost view = { λ s. record { ifr = s.kept.ifr; stores = s.stores; renewed = s.renewed } };
 
-    ghost invariant = { λ s. AreKept s.kept s.stores };
+    ghost invariant = { λ s. AreKept s.kept s.stores s.rules };
 }
 
 impl<'a> KeptStores<'a> {
@@ -225,10 +262,12 @@ impl<'a> KeptStores<'a> {
             it ≡ record { ifr = bytes_of policy.entry; stores = stores; renewed = 0 }) }
         ensures refused { IfErr result (λ fault. fault ≡ out_of_memory) }
     {
-        let kept = Kept::read(alloc, policy, questions, &stores)?;
+        let mut rules = RuleValues::new(alloc, policy.forms().rule_count())?;
+        let kept = Kept::read(alloc, policy, questions, &stores, &mut rules)?;
         Ok(KeptStores {
             stores,
             kept,
+            rules,
             renewed: 0,
         })
     }
@@ -238,6 +277,21 @@ impl<'a> KeptStores<'a> {
         ensures { result.now ≡ self.now.stores }
     {
         &self.stores
+    }
+
+    /// Of what the next of some WARNING_IFs that holds over them warns.
+    pub fn next_warning(
+        &mut self,
+        policy: Policy<'a, '_>,
+        conditions: &mut ConditionsOf<'_, 'a>,
+    ) -> Option<Warning>
+        requires { bytes_of policy ≡ self.old.ifr }
+        ensures next { YieldsFirstBy (λ warning. warning)
+            (warnings_among (world policy.entry self.old.stores))
+            conditions.old result conditions.new }
+        ensures same { self.new ≡ self.old }
+    {
+        policy.next_warning_by(conditions, &self.stores, &mut self.rules)
     }
 
     /// What is kept of the conditions over them.
@@ -280,11 +334,13 @@ impl<'a> KeptStores<'a> {
             self.old self.new result }
     {
         field.put(&mut self.stores);
-        if let Err(denial) = policy.consistent(question, &self.stores) {
+        self.rules.forget();
+        if let Err(denial) = policy.consistent_by(question, &self.stores, &mut self.rules) {
             // Neither the try nor taking it back is a write.
             self.stores
                 .field_mut(field.store, usize::from(field.offset), field.width)
                 .copy_from_slice(old);
+            self.rules.forget();
             return Err(denial);
         }
         let written = FieldRange {
@@ -292,7 +348,9 @@ impl<'a> KeptStores<'a> {
             offset: field.offset,
             width: field.width,
         };
-        let touched = self.kept.renew(policy, &self.stores, written);
+        let touched = self
+            .kept
+            .renew(policy, &self.stores, written, &mut self.rules);
         self.renewed = self.renewed.saturating_add(touched);
         Ok(())
     }
@@ -305,7 +363,10 @@ impl<'a> KeptStores<'a> {
         ensures { self.new ≡ changed_to self.old others.now }
     {
         self.stores.copy_from(others);
-        let changed = self.kept.renew_between(policy, before, others);
+        self.rules.forget();
+        let changed = self
+            .kept
+            .renew_between(policy, before, others, &mut self.rules);
         self.renewed = self.renewed.saturating_add(changed);
     }
 
@@ -320,7 +381,10 @@ impl<'a> KeptStores<'a> {
         ensures same { (store at : ℕ) → byte_of before.new store at ≡ byte_of before.old store at }
     {
         mem::swap(&mut self.stores, before);
-        let restored = self.kept.renew_within(policy, before, &self.stores, ranges);
+        self.rules.forget();
+        let restored = self
+            .kept
+            .renew_within(policy, before, &self.stores, ranges, &mut self.rules);
         self.renewed = self.renewed.saturating_add(restored);
     }
 }

@@ -14,6 +14,7 @@ ghost use Rattle.ifr_nodes.specs.Rules.{is_rule, rules_among};
 ghost use Rattle.ifr_scopes.specs.code.Lists.{rules_left};
 ghost use Rattle.ifr_scopes.specs.code.Frames.{ids_by};
 ghost use Rattle.hii_questions.specs.code.Ranges.{range_in};
+ghost use Rattle.guard_policy.specs.code.RuleValues.{AreRuleValues};
 ghost use Rattle.guard_policy.specs.code.Views.{bytes_of, world};
 ghost use Rattle.guard_policy.specs.code.Worlds.{is_met_at};
 ghost use Rattle.kept_conditions.specs.Touching.{field_with as field_with_id};
@@ -21,10 +22,10 @@ ghost use Rattle.kept_conditions.specs.code.Collection.{dependent_nodes, IsExpre
 
 use crate::dependents::Dependent;
 use crate::index::{Dependency, RuleUse};
-use guard_policy::{Conditions, Policy};
+use guard_policy::{Evaluated, Policy};
 use hii_questions::{FieldRange, Questions};
 use hii_varstore::Stores;
-use ifr_expr::{Expr, Name, RuleReference};
+use ifr_expr::{Expr, Name, RuleReference, RuleValues};
 use ifr_opcodes::{GRAY_OUT_IF, SUPPRESS_IF};
 use ifr_scopes::{Forms, RuleViews};
 use std::alloc::{AllocError, Global};
@@ -291,23 +292,26 @@ impl Collected {
 }
 
 // Adds the dependent of a number, and on what it depends.
-fn add_dependent<'a, C: Conditions>(
+fn add_dependent<'a>(
     collected: &mut Collected,
     source: Source<'_, '_, 'a>,
     rules: &mut RuleViews<'_, 'a>,
     number: usize,
-    now: &C,
+    now: &Evaluated<'_, '_, '_>,
+    values: &mut RuleValues,
 ) -> Result<(), AllocError>
     requires inside { number < length (dependent_nodes (nodes_of source.forms.now)) }
     requires left { rules_left rules.old
         ≡ filter is_rule (drop number (dependent_nodes (nodes_of source.forms.now))) }
-    requires before { AreCollected (nodes_of source.forms.now) (C.holding now.now) number
-        collected.old }
+    requires before { AreCollected (nodes_of source.forms.now)
+        (is_met_at (world now.now.policy now.now.stores.now)) number collected.old }
+    requires kept { AreRuleValues (bytes_of now.now.policy) now.now.stores.now values.old }
     ensures left { OnOk result (rules_left rules.new
         ≡ filter is_rule (drop (number + 1) (dependent_nodes (nodes_of source.entry.forms.now)))) }
-    ensures collected { OnOk result
-        (AreCollected (nodes_of source.entry.forms.now) (C.holding now.now) (number + 1)
-        collected.new) }
+    ensures collected { OnOk result (AreCollected (nodes_of source.entry.forms.now)
+        (is_met_at (world now.now.policy now.now.stores.now)) (number + 1) collected.new) }
+    ensures kept { OnOk result
+        (AreRuleValues (bytes_of now.now.policy) now.now.stores.now values.new) }
 {
     let dependent = expression_of(source, rules, number);
     let place = source.place_of(number);
@@ -316,7 +320,7 @@ fn add_dependent<'a, C: Conditions>(
         place,
         round: 0,
         is_rule: dependent.is_rule,
-        holds: now.holds(place),
+        holds: now.holds_by(place, values),
     })?;
     Ok(())
 }
@@ -327,11 +331,14 @@ pub(crate) fn collect<'a, 's>(
     policy: Policy<'a, 's>,
     questions: &'s Questions<'a>,
     stores: &Stores,
+    values: &mut RuleValues,
 ) -> Result<Collected, AllocError>
-    requires { questions.now.ifr ≡ bytes_of policy }
-    ensures { IfOk result (λ collected.
+    requires together { questions.now.ifr ≡ bytes_of policy }
+    requires kept { AreRuleValues (bytes_of policy) stores.now values.old }
+    ensures collected { IfOk result (λ collected.
         AreCollected (nodes_of (bytes_of policy.entry)) (is_met_at (world policy.entry stores.now))
         (length (dependent_nodes (nodes_of (bytes_of policy.entry)))) collected) }
+    ensures kept { OnOk result (AreRuleValues (bytes_of policy.entry) stores.now values.new) }
 {
     let forms = policy.forms();
     let places = dependent_places(alloc, forms)?;
@@ -348,7 +355,7 @@ pub(crate) fn collect<'a, 's>(
     let now = policy.over(stores);
     let mut rules = forms.rules();
     for number in 0..places.len() {
-        add_dependent(&mut collected, source, &mut rules, number, &now)?;
+        add_dependent(&mut collected, source, &mut rules, number, &now, values)?;
     }
     Ok(collected)
 }

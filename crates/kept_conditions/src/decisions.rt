@@ -45,6 +45,7 @@ impl<'a> KeptStores<'a> {
     }
 
     /// Whether a question may be changed over these stores, as the policy decides it of its statement.
+    #[inline(always)]
     pub fn question_changeable(
         &self,
         policy: Policy<'a, '_>,
@@ -62,6 +63,7 @@ impl<'a> KeptStores<'a> {
 
     /// What stands around a question that may be changed over these stores, as the policy decides it. Where it may not, the denial is
     /// that of `question_changeable`.
+    #[inline(always)]
     pub fn changeable_question<'s>(
         &self,
         policy: Policy<'a, 's>,

@@ -12,13 +12,16 @@ ghost use Rattle.ifr_opcodes.specs.Opcode.{number};
 ghost use Rattle.ifr_nodes.specs.Guards.{guards_among};
 ghost use Rattle.ifr_opcodes.specs.Rows.{is_condition_number};
 ghost use Rattle.ifr_nodes.specs.Nodes.{nodes_of};
-ghost use Rattle.guard_policy.specs.code.Views.{bytes_of};
+ghost use Rattle.guard_policy.specs.code.RuleValues.{AreRuleValues};
+ghost use Rattle.guard_policy.specs.code.Views.{bytes_of, world};
+ghost use Rattle.guard_policy.specs.code.Worlds.{is_met_at};
 ghost use Rattle.kept_conditions.specs.code.Dependents.{AreBefore, HasRoom, VisitsOne, at_number, is_condition, rules_in, timeless, passed, AreRuleUses, Follow, VisitsSome, KeepsFollowing, KeepsSound, Reaches};
 ghost use Rattle.kept_conditions.specs.code.Index.{RulesRise, uses};
 ghost use Rattle.kept_conditions.specs.declared.dependents.Dependent.{Dependent};
 
 use crate::index::{RuleUse, uses_of};
-use guard_policy::{Conditions, Policy};
+use guard_policy::{Evaluated, Policy};
+use ifr_expr::RuleValues;
 use std::alloc::{AllocError, Global};
 
 /// A condition that is kept, or a rule.
@@ -113,10 +116,18 @@ impl Dependents {
     /// Visits the dependent of a number, where this was not done in the round: evaluates a condition anew, the one place that
     /// does so, and makes a rule pending. It tells whether it evaluated.
     #[tactic(auto, using(crate::proofs::VisitsOneLemmas::room_for))]
-    pub(crate) fn visit<C: Conditions>(&mut self, number: u32, now: &C) -> bool
+    pub(crate) fn visit(
+        &mut self,
+        number: u32,
+        now: &Evaluated<'_, '_, '_>,
+        rules: &mut RuleValues,
+    ) -> bool
         requires inside { number < length self.old.list.items }
         requires room { HasRoom self.old }
-        ensures { VisitsOne (C.holding now.now) number self.old self.new result }
+        requires kept { AreRuleValues (bytes_of now.now.policy) now.now.stores.now rules.old }
+        ensures visits { VisitsOne (is_met_at (world now.now.policy now.now.stores.now)) number
+            self.old self.new result }
+        ensures kept { AreRuleValues (bytes_of now.now.policy) now.now.stores.now rules.new }
     {
         let mut dependent = self.list[number as usize];
         if dependent.round == self.round {
@@ -128,29 +139,33 @@ impl Dependents {
             self.pending.push_reserved(number);
             return false;
         }
-        dependent.holds = now.holds(dependent.place);
+        dependent.holds = now.holds_by(dependent.place, rules);
         self.list[number as usize] = dependent;
         true
     }
 }
 
 // Visits the dependents of a rule, and counts the conditions that it evaluates.
-fn visit_dependents<C: Conditions>(
+fn visit_dependents(
     dependents: &mut Dependents,
     rule_uses: &[RuleUse],
     rule: u32,
-    now: &C,
+    now: &Evaluated<'_, '_, '_>,
+    rules: &mut RuleValues,
 ) -> usize
     requires sorted { RulesRise rule_uses.now }
     requires are_uses { AreRuleUses dependents.old.list.items rule_uses.now }
     requires room { HasRoom dependents.old }
-    ensures visits { VisitsSome (C.holding now.now) dependents.old dependents.new result }
+    requires kept { AreRuleValues (bytes_of now.now.policy) now.now.stores.now rules.old }
+    ensures visits { VisitsSome (is_met_at (world now.now.policy now.now.stores.now)) dependents.old
+        dependents.new result }
+    ensures kept { AreRuleValues (bytes_of now.now.policy) now.now.stores.now rules.new }
     ensures reaches { Reaches (uses rule_uses.now rule) dependents.old dependents.new }
     ensures follows { KeepsFollowing dependents.old dependents.new }
 {
     let mut count = 0;
     for rule_use in uses_of(rule_uses, rule) {
-        if dependents.visit(rule_use.dependent, now) {
+        if dependents.visit(rule_use.dependent, now, rules) {
             count += 1;
         }
     }
@@ -159,23 +174,27 @@ fn visit_dependents<C: Conditions>(
 
 /// Visits the dependents of pending rules, and of those that are pending then, until none is, and counts the conditions that it
 /// evaluates.
-pub(crate) fn visit_pending<C: Conditions>(
+pub(crate) fn visit_pending(
     dependents: &mut Dependents,
     rule_uses: &[RuleUse],
-    now: &C,
+    now: &Evaluated<'_, '_, '_>,
+    rules: &mut RuleValues,
 ) -> usize
     requires sorted { RulesRise rule_uses.now }
     requires are_uses { AreRuleUses dependents.old.list.items rule_uses.now }
     requires room { HasRoom dependents.old }
     requires follow { Follow (λ _. false) rule_uses.now dependents.old }
-    ensures visits { VisitsSome (C.holding now.now) dependents.old dependents.new result }
+    requires kept { AreRuleValues (bytes_of now.now.policy) now.now.stores.now rules.old }
+    ensures visits { VisitsSome (is_met_at (world now.now.policy now.now.stores.now)) dependents.old
+        dependents.new result }
+    ensures kept { AreRuleValues (bytes_of now.now.policy) now.now.stores.now rules.new }
     ensures idle { dependents.new.pending.items ≡ [] }
     ensures follow { Follow (λ _. false) rule_uses.now dependents.new }
     ensures sound { KeepsSound rule_uses.now dependents.old dependents.new }
 {
     let mut count = 0;
     while let Some(rule) = dependents.pending.pop() {
-        count += visit_dependents(dependents, rule_uses, rule, now);
+        count += visit_dependents(dependents, rule_uses, rule, now, rules);
     }
     count
 }

@@ -7,7 +7,9 @@
 ghost use Rattle.std.specs.Prelude.{◌≡◌, length};
 ghost use Rattle.ifr_nodes.specs.Nodes.{nodes_of};
 ghost use Rattle.hii_varstore.specs.Stores.{shape_of, StoreMap};
-ghost use Rattle.guard_policy.specs.code.Views.{bytes_of};
+ghost use Rattle.guard_policy.specs.code.RuleValues.{AreRuleValues};
+ghost use Rattle.guard_policy.specs.code.Views.{bytes_of, world};
+ghost use Rattle.guard_policy.specs.code.Worlds.{is_met_at};
 ghost use Rattle.kept_conditions.specs.Touching.{difference, range_of, renewals};
 ghost use Rattle.kept_conditions.specs.Kept.{told_over};
 ghost use Rattle.kept_conditions.specs.laws.Writes.{IsWrite};
@@ -19,9 +21,10 @@ ghost use Rattle.kept_conditions.specs.code.Cache.{IsIndex, values_of};
 use crate::dependents::{Dependents, visit_pending};
 use crate::differences::{Differences, differ};
 use crate::index::{Dependency, Index, Summary, beginning_before, last_overlapping};
-use guard_policy::{Conditions, Policy};
+use guard_policy::{Evaluated, Policy};
 use hii_questions::FieldRange;
 use hii_varstore::Stores;
+use ifr_expr::RuleValues;
 
 /// Ranges of bytes of stores, one after the other.
 pub trait Ranges: Drop {
@@ -41,27 +44,31 @@ pub trait Ranges: Drop {
 
 // Visits the dependents with a dependency that overlaps the bytes from a number on up to before another, and counts the conditions
 // that it evaluates.
-fn visit_overlapping<C: Conditions>(
+fn visit_overlapping(
     dependents: &mut Dependents,
     dependencies: &[Dependency],
     summaries: &[Summary],
     from: u64,
     end: u64,
-    now: &C,
+    now: &Evaluated<'_, '_, '_>,
+    rules: &mut RuleValues,
 ) -> usize
     requires sorted { AreSorted dependencies.now }
     requires all { length summaries.now ≡ length dependencies.now }
     requires summaries { AreSummaries dependencies.now summaries.now }
     requires numbers { HaveNumbers (length dependents.old.list.items) dependencies.now }
     requires room { HasRoom dependents.old }
-    ensures visits { VisitsSome (C.holding now.now) dependents.old dependents.new result }
+    requires kept { AreRuleValues (bytes_of now.now.policy) now.now.stores.now rules.old }
+    ensures visits { VisitsSome (is_met_at (world now.now.policy now.now.stores.now)) dependents.old
+        dependents.new result }
+    ensures kept { AreRuleValues (bytes_of now.now.policy) now.now.stores.now rules.new }
     ensures reaches { Reaches (hits from end dependencies.now) dependents.old dependents.new }
     ensures follows { KeepsFollowing dependents.old dependents.new }
 {
     let mut before = beginning_before(dependencies, end);
     let mut count = 0;
     while let Some(at) = last_overlapping(dependencies, summaries, from, end, before) {
-        if dependents.visit(dependencies[at].dependent, now) {
+        if dependents.visit(dependencies[at].dependent, now, rules) {
             count += 1;
         }
         before = at;
@@ -71,17 +78,21 @@ fn visit_overlapping<C: Conditions>(
 
 // Visits the dependents that depend on one of the bytes in which two sets of stores differ, and counts the conditions that it
 // evaluates.
-fn visit_differing<C: Conditions>(
+fn visit_differing(
     dependents: &mut Dependents,
     dependencies: &[Dependency],
     old: &Stores,
     new: &Stores,
-    now: &C,
+    now: &Evaluated<'_, '_, '_>,
+    rules: &mut RuleValues,
 ) -> usize
     requires numbers { HaveNumbers (length dependents.old.list.items) dependencies.now }
     requires room { HasRoom dependents.old }
     requires shape { shape_of old.now ≡ shape_of new.now }
-    ensures visits { VisitsSome (C.holding now.now) dependents.old dependents.new result }
+    requires kept { AreRuleValues (bytes_of now.now.policy) now.now.stores.now rules.old }
+    ensures visits { VisitsSome (is_met_at (world now.now.policy now.now.stores.now)) dependents.old
+        dependents.new result }
+    ensures kept { AreRuleValues (bytes_of now.now.policy) now.now.stores.now rules.new }
     ensures reaches { Reaches (depends_on (difference old.now new.now) dependencies.now)
         dependents.old dependents.new }
     ensures follows { KeepsFollowing dependents.old dependents.new }
@@ -92,7 +103,7 @@ fn visit_differing<C: Conditions>(
         if !differences.are_in(dependency.range) {
             continue;
         }
-        if dependents.visit(dependency.dependent, now) {
+        if dependents.visit(dependency.dependent, now, rules) {
             count += 1;
         }
     }
@@ -101,14 +112,15 @@ fn visit_differing<C: Conditions>(
 
 // Visits the dependents that depend on one of the bytes of a range in which two sets of stores differ, and counts the conditions
 // that it evaluates.
-fn visit_range<C: Conditions>(
+fn visit_range(
     dependents: &mut Dependents,
     dependencies: &[Dependency],
     summaries: &[Summary],
     range: FieldRange,
     old: &Stores,
     new: &Stores,
-    now: &C,
+    now: &Evaluated<'_, '_, '_>,
+    rules: &mut RuleValues,
 ) -> usize
     requires sorted { AreSorted dependencies.now }
     requires all { length summaries.now ≡ length dependencies.now }
@@ -117,7 +129,10 @@ fn visit_range<C: Conditions>(
     requires small { AreSmall dependencies.now }
     requires room { HasRoom dependents.old }
     requires shape { shape_of old.now ≡ shape_of new.now }
-    ensures visits { VisitsSome (C.holding now.now) dependents.old dependents.new result }
+    requires kept { AreRuleValues (bytes_of now.now.policy) now.now.stores.now rules.old }
+    ensures visits { VisitsSome (is_met_at (world now.now.policy now.now.stores.now)) dependents.old
+        dependents.new result }
+    ensures kept { AreRuleValues (bytes_of now.now.policy) now.now.stores.now rules.new }
     ensures reaches { Reaches
         (depends_on (common (difference old.now new.now) (in_range range)) dependencies.now)
         dependents.old dependents.new }
@@ -133,7 +148,7 @@ fn visit_range<C: Conditions>(
         if !differ(old, new, dependency.range, range) {
             continue;
         }
-        if dependents.visit(dependency.dependent, now) {
+        if dependents.visit(dependency.dependent, now, rules) {
             count += 1;
         }
     }
@@ -142,13 +157,14 @@ fn visit_range<C: Conditions>(
 
 // Visits the dependents that depend on one of the bytes in which two sets of stores differ, which do so in some ranges alone, and
 // counts the conditions that it evaluates. The old stores become as the new ones are.
-fn visit_ranges<R: Ranges, C: Conditions>(
+fn visit_ranges<R: Ranges>(
     dependents: &mut Dependents,
     index: &Index,
     old: &mut Stores,
     new: &Stores,
     ranges: R,
-    now: &C,
+    now: &Evaluated<'_, '_, '_>,
+    rules: &mut RuleValues,
 ) -> usize
     requires sorted { AreSorted index.now.dependencies.items }
     requires all { length index.now.summaries.items ≡ length index.now.dependencies.items }
@@ -159,7 +175,10 @@ fn visit_ranges<R: Ranges, C: Conditions>(
     requires shape { shape_of old.old ≡ shape_of new.now }
     requires inside { HaveRanges (shape_of new.now) (R.ranges ranges) }
     requires alike { AreAlikeOutside (R.ranges ranges) old.old new.now }
-    ensures visits { VisitsSome (C.holding now.now) dependents.old dependents.new result }
+    requires kept { AreRuleValues (bytes_of now.now.policy) now.now.stores.now rules.old }
+    ensures visits { VisitsSome (is_met_at (world now.now.policy now.now.stores.now)) dependents.old
+        dependents.new result }
+    ensures kept { AreRuleValues (bytes_of now.now.policy) now.now.stores.now rules.new }
     ensures reaches { Reaches (depends_on (difference old.old new.now) index.now.dependencies.items)
         dependents.old dependents.new }
     ensures follows { KeepsFollowing dependents.old dependents.new }
@@ -177,6 +196,7 @@ fn visit_ranges<R: Ranges, C: Conditions>(
             old,
             new,
             now,
+            rules,
         );
         old.copy_range(new, range.store, usize::from(range.offset), range.width);
     }
@@ -193,8 +213,10 @@ pub(crate) fn renew(
     policy: Policy<'_, '_>,
     stores: &Stores,
     written: FieldRange,
+    rules: &mut RuleValues,
 ) -> usize
-    requires { IsIndex (bytes_of policy) dependents.old index.now }
+    requires index { IsIndex (bytes_of policy) dependents.old index.now }
+    requires kept { AreRuleValues (bytes_of policy) stores.now rules.old }
     ensures index { IsIndex (bytes_of policy.entry) dependents.new index.now }
     ensures values { (old : StoreMap)
         → IsWrite (range_of written.store written.offset written.width) old stores.now
@@ -202,6 +224,7 @@ pub(crate) fn renew(
         → values_of dependents.new ≡ told_over (bytes_of policy.entry) stores.now }
     ensures count { result ≡ renewals (nodes_of (bytes_of policy.entry))
         (range_of written.store written.offset written.width) }
+    ensures kept { AreRuleValues (bytes_of policy.entry) stores.now rules.new }
 {
     let now = policy.over(stores);
     dependents.next_round();
@@ -214,8 +237,9 @@ pub(crate) fn renew(
         from,
         end,
         &now,
+        rules,
     );
-    count + visit_pending(dependents, &index.rule_uses, &now)
+    count + visit_pending(dependents, &index.rule_uses, &now, rules)
 }
 
 /// Evaluates the conditions anew, over new stores, that depend on one of the bytes in which these differ from the old ones, each
@@ -226,19 +250,22 @@ pub(crate) fn renew_between(
     policy: Policy<'_, '_>,
     old: &Stores,
     new: &Stores,
+    rules: &mut RuleValues,
 ) -> usize
     requires index { IsIndex (bytes_of policy) dependents.old index.now }
     requires shape { shape_of old.now ≡ shape_of new.now }
+    requires kept { AreRuleValues (bytes_of policy) new.now rules.old }
     ensures index { IsIndex (bytes_of policy.entry) dependents.new index.now }
     ensures values { values_of dependents.old ≡ told_over (bytes_of policy.entry) old.now
         → values_of dependents.new ≡ told_over (bytes_of policy.entry) new.now }
     ensures count { result ≡ renewals (nodes_of (bytes_of policy.entry))
         (difference old.now new.now) }
+    ensures kept { AreRuleValues (bytes_of policy.entry) new.now rules.new }
 {
     let now = policy.over(new);
     dependents.next_round();
-    let count = visit_differing(dependents, &index.dependencies, old, new, &now);
-    count + visit_pending(dependents, &index.rule_uses, &now)
+    let count = visit_differing(dependents, &index.dependencies, old, new, &now, rules);
+    count + visit_pending(dependents, &index.rule_uses, &now, rules)
 }
 
 /// Evaluates the conditions anew, over new stores, that depend on one of the bytes in which these differ from the old ones, each
@@ -250,11 +277,13 @@ pub(crate) fn renew_within<R: Ranges>(
     old: &mut Stores,
     new: &Stores,
     ranges: R,
+    rules: &mut RuleValues,
 ) -> usize
     requires index { IsIndex (bytes_of policy) dependents.old index.now }
     requires shape { shape_of old.old ≡ shape_of new.now }
     requires inside { HaveRanges (shape_of new.now) (R.ranges ranges) }
     requires alike { AreAlikeOutside (R.ranges ranges) old.old new.now }
+    requires kept { AreRuleValues (bytes_of policy) new.now rules.old }
     ensures index { IsIndex (bytes_of policy.entry) dependents.new index.now }
     ensures values { values_of dependents.old ≡ told_over (bytes_of policy.entry) old.old
         → values_of dependents.new ≡ told_over (bytes_of policy.entry) new.now }
@@ -262,9 +291,10 @@ pub(crate) fn renew_within<R: Ranges>(
         (difference old.old new.now) }
     ensures shape { shape_of old.new ≡ shape_of old.old }
     ensures same { AreAlike old.new new.now }
+    ensures kept { AreRuleValues (bytes_of policy.entry) new.now rules.new }
 {
     let now = policy.over(new);
     dependents.next_round();
-    let count = visit_ranges(dependents, index, old, new, ranges, &now);
-    count + visit_pending(dependents, &index.rule_uses, &now)
+    let count = visit_ranges(dependents, index, old, new, ranges, &now, rules);
+    count + visit_pending(dependents, &index.rule_uses, &now, rules)
 }

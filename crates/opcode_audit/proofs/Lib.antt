@@ -6,4 +6,5 @@ pub mod NumberLemmas
 pub mod DigitLemmas
 pub mod TextLemmas
 pub mod TellingLemmas
+pub mod IdLemmas
 mod WorkedLines

@@ -1,5 +1,5 @@
 -- What stands behind the fields of an opcode, by its number.
-use Rattle.std.proofs.Common.{◌≡◌, ◌≢◌, ◌==◌, ℕ, List, [], refl}
+use Rattle.std.proofs.Common.{◌≡◌, ◌≢◌, ℕ, List, [], refl}
 use Rattle.std.proofs.lemmas.Bool.{ne_eqb}
 use Rattle.browser_rules.specs.Opcodes.{number, number_width}
 use Rattle.hii_bytes.specs.Numbers.{number_in}

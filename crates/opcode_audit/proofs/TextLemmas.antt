@@ -1,12 +1,12 @@
 -- No byte of what is told of an opcode ends a line.
-use Rattle.std.proofs.Common.{◌≡◌, ◌==◌, ℕ, zero, suc, ◌+◌, ◌/◌, ◌%◌, ◌-◌, ◌*◌, Bool, true, false, cond, ltb, Option, Some, None, List, [], ◌∷◌, ◌++◌, get_or, map, drop, length, replicate, option_map, unwrap_or, refl, sym, ap, ◌∙◌, arith, inl, inr}
+use Rattle.std.proofs.Common.{◌≡◌, ◌==◌, ℕ, zero, suc, ◌+◌, ◌/◌, ◌%◌, ◌-◌, Bool, true, false, cond, ltb, Option, Some, None, List, [], ◌∷◌, ◌++◌, get_or, map, drop, length, replicate, option_map, unwrap_or, refl, sym, ap, ◌∙◌, arith, inl, inr}
 use Rattle.std.specs.Prelude.{◌&&◌, ◌||◌, not, nat_le, nat_lt, codes, decimal, encode_utf8, slice_index, slice_range}
 use Rattle.std.specs.Fmt.{digit_glyph, digits, digits_onto}
 use Rattle.std.specs.Int.Digits as numbers
 use Rattle.std.specs.List.{find, flat_map, list_all}
 use Rattle.std.specs.Option.{option_or}
 use Rattle.std.proofs.lemmas.Bool.{cases_Bool, eqb-true, false≢true, ne_eqb}
-use Rattle.browser_rules.specs.Opcodes.{Layout, Row, rows, row_of, number, FLAGGED_QUESTION, field_in, field, number_width, type_width, EQ_ID_VAL_LIST, ONE_OF_OPTION, DEFAULT}
+use Rattle.browser_rules.specs.Opcodes.{Layout, Row, rows, row_of, number, FLAGGED_QUESTION, field_in, field, number_width, EQ_ID_VAL_LIST, ONE_OF_OPTION, DEFAULT}
 use Rattle.browser_rules.specs.Strings.{Spoken, shown}
 use Rattle.hii_bytes.specs.Texts.{hex_of, place_text}
 use Rattle.audit_json.specs.Json.{escape, json_char, json_text, unit_escape}

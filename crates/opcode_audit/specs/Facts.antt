@@ -1,6 +1,6 @@
 -- What is known of an opcode: its fields with what they hold (UEFI 2.8, 33.3.8.3 Opcode Reference).
-use Rattle.std.specs.Prelude.{ℕ, ◌*◌, ◌==◌, ◌||◌, nat_le, if◌then◌else◌, List, [], ◌∷◌, ◌++◌, codes, drop, length, slice_range, take}
-use Rattle.std.specs.List.{before_first}
+use Rattle.std.specs.Prelude.{ℕ, ◌*◌, ◌==◌, ◌||◌, nat_le, if◌then◌else◌, Option, Some, None, List, [], ◌∷◌, ◌++◌, codes, drop, length, slice_range, take}
+use Rattle.std.specs.List.{before_first, filter_map}
 use Rattle.browser_rules.specs.Opcodes.{number, field, field_in, two_byte_numbers, number_width, type_width, FLAGGED_QUESTION, DEFAULT, EQ_ID_VAL_LIST, ONE_OF_OPTION}
 use Rattle.hii_bytes.specs.Numbers.{number_in}
 use Rattle.ifr_opcodes.specs.declared.codes.TheConstants as code
@@ -79,3 +79,12 @@ tail_of op =
 -- the fields of an opcode that are there, from its third byte on
 abbrev pub opcode_facts : List ℕ → List Fact
 opcode_facts op = facts_in (fields_of (number op) ++ tail_of op) (drop 2 op)
+
+-- the string id that a field holds, if it is one
+abbrev pub id_in : Value → Option ℕ
+id_in (an_id id) = Some id
+id_in _ = None
+
+-- the string ids that the fields of an opcode hold
+abbrev pub string_ids : List ℕ → List ℕ
+string_ids op = filter_map (λ f. id_in f.value) (opcode_facts op)

@@ -2,8 +2,8 @@
 
 ghost use Rattle.std.specs.Prelude.{◌≡◌, ◌+◌, ◌<◌, ◌≤◌, ◌^◌, ◌++◌, ◌∷◌, [], drop, length, map};
 ghost use Rattle.hii_bytes.specs.Numbers.{number_in};
-ghost use Rattle.opcode_audit.specs.Facts.{facts_in, name_of_store, numbers, opcode_facts, tail_of, typed, values_listed};
-ghost use Rattle.opcode_audit.specs.code.Columns.{bytes_in, fact_of, head_of, listed, size_of};
+ghost use Rattle.opcode_audit.specs.Facts.{facts_in, id_in, name_of_store, numbers, opcode_facts, string_ids, tail_of, typed, values_listed};
+ghost use Rattle.opcode_audit.specs.code.Columns.{bytes_in, fact_of, head_of, listed, size_of, value_of};
 
 use crate::field::{Field, Value, Width};
 use crate::layouts::{Head, Layout, QUESTION, STATEMENT, layout_of};
@@ -37,6 +37,31 @@ pub(crate) fn facts_of(opcode: &[u8]) -> Facts<'_>
     let rest = push_fields(&own, rest, &mut facts);
     push_fields(&tail_of(opcode), rest, &mut facts);
     facts
+}
+
+/// The string ids that the fields of an opcode of two bytes or more hold, as far as their bytes are there, one behind the other.
+pub fn string_ids(opcode: &[u8]) -> ArrayVec<u16, 13>
+    requires { 2 ≤ length opcode.now }
+    ensures { result.items ≡ string_ids opcode.now }
+{
+    let facts = facts_of(opcode);
+    let mut ids = ArrayVec::new();
+    for fact in facts.as_slice() {
+        if let Some(id) = id_in(fact.value) {
+            ids.push(id);
+        }
+    }
+    ids
+}
+
+// The string id that a field holds, if it is one.
+fn id_in(value: Value<'_>) -> Option<u16>
+    ensures { result ≡ id_in (value_of value.entry) }
+{
+    match value {
+        Value::Id(id) => Some(id),
+        _ => None,
+    }
 }
 
 // Adds the fields of a kind that are there, and gives the bytes behind them.

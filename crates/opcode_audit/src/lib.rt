@@ -13,6 +13,7 @@ mod strings;
 mod walk;
 mod words;
 
+pub use facts::string_ids;
 pub use strings::FirstStrings;
 pub use walk::{put_opcodes, split_front};
 pub use words::{put_bytes, put_name, put_quoted_bytes};

@@ -57,8 +57,8 @@ impl<'a> FirstStrings<'a> {
         }
     }
 
-    // The text of a string id.
-    fn text(&self, id: u16) -> Option<Units<'a>>
+    /// The text of a string id, if it has one.
+    pub fn text(&self, id: u16) -> Option<Units<'a>>
         ensures { option_map units_in result ≡ chapter.text_in self.now id (Some 0) }
     {
         self.table.as_ref()?.text(id)

@@ -18,7 +18,7 @@ use Rattle.form_audit.specs.declared.ways.Reach.TheVariants.{Open, Hidden, Close
 use Rattle.question_audit.specs.ConditionFacts.{guard_state}
 use Rattle.question_objects.specs.Conditions.{condition_members, rule_members}
 use Rattle.question_objects.specs.Members.{denial_members, shown_member}
-use Rattle.question_objects.specs.Objects.{question_object}
+use Rattle.question_objects.specs.Objects.{question_members, question_object}
 use Rattle.question_objects.specs.declared.detail.Detail.TheVariants.{Listed}
 
 -- ---- forms
@@ -40,7 +40,11 @@ form_object a is_reached form =
     ++ shown_member (codes "title") (a.texts (form_title form.op))
     ++ reach_members (reach_of a.world is_reached form))
 
--- a question under its form
+-- a question under its form: its members, and all of its object
+abbrev pub listed_members : Audited → ℕ → Node → Node → List ℕ
+listed_members a package_place form n =
+    question_members Listed a package_place (Some form) (asked a.world.nodes n)
+
 abbrev pub listed_object : Audited → ℕ → Node → Node → List ℕ
 listed_object a package_place form n =
     question_object Listed a package_place (Some form) (asked a.world.nodes n)

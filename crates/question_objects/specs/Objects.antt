@@ -27,10 +27,13 @@ detail_members detail a package_place n =
     condition_lists detail a package_place n ++ options_member detail a n
     ++ dependence_members detail a.world.nodes n
 
+abbrev pub question_members : Detail → Audited → ℕ → Option Node → Asked → List ℕ
+question_members detail a package_place form q =
+    plain_members a package_place form q ++ detail_members detail a package_place q.node
+
 abbrev pub question_object : Detail → Audited → ℕ → Option Node → Asked → List ℕ
 question_object detail a package_place form q =
-    object (codes "question")
-    (plain_members a package_place form q ++ detail_members detail a package_place q.node)
+    object (codes "question") (question_members detail a package_place form q)
 
 -- ---- the question of an id
 

@@ -8,8 +8,9 @@ ghost use Rattle.hii_bytes.specs.code.NumberSets.{has_number};
 ghost use Rattle.ifr_nodes.specs.Nodes.{is_form, nodes_of};
 ghost use Rattle.ifr_nodes.specs.code.Checked.{IsNodeOf};
 ghost use Rattle.ifr_scopes.specs.code.Lists.{form_node};
-ghost use Rattle.hii_questions.specs.Fields.{questions};
-ghost use Rattle.hii_questions.specs.code.LyingIn.{LieIn};
+ghost use Rattle.hii_questions.specs.Fields.{asked, questions};
+ghost use Rattle.hii_questions.specs.code.LyingIn.{LieIn, LiesIn};
+ghost use Rattle.hii_questions.specs.code.Views.{question_node, question_view};
 ghost use Rattle.hii_varstore.specs.Stores.{shape_of};
 ghost use Rattle.guard_policy.specs.code.Views.{bytes_of};
 ghost use Rattle.form_page.specs.code.PageViews.{world_of};
@@ -18,22 +19,57 @@ ghost use Rattle.form_audit.specs.Reach.{TellsReached};
 ghost use Rattle.form_audit.specs.code.Closings.{TellsWays};
 ghost use Rattle.form_audit.specs.code.Pages.{audited};
 ghost use Rattle.question_audit.specs.code.Beginnings.{Begins};
-ghost use Rattle.question_objects.specs.FormSets.{form_objects, form_set_objects, listed_object};
+ghost use Rattle.question_objects.specs.FormSets.{form_objects, form_set_objects, listed_members, listed_object};
 ghost use Rattle.question_objects.specs.code.Knowing.{IsKnown};
 
 use crate::condition_objects::put_condition_objects;
 use crate::detail::Detail;
-use crate::objects::{Known, Telling, put_object};
+use crate::objects::{Known, Telling, put_members, put_object};
 use crate::reach::put_form;
 use form_audit::{Tables, Ways};
 use form_page::Page;
 use guard_policy::Conditions;
 use hii_bytes::{Fault, Watched};
+use hii_questions::Question;
 use hii_varstore::Stores;
 use ifr_scopes::Form;
 use question_audit::{Origin, scope_locks};
 use std::alloc::{AllocError, Global};
 use std::io::Write;
+
+/// Writes what is told of a question among those of its form, as members of an object behind its kind. `spare` are stores that hold the
+/// same as those of the page, before and after. The forms package stands at a place of the file. Where an allocation fails, the beginning
+/// of these members may be written.
+pub fn put_listed_members<'a, C: Conditions, W: Write>(
+    alloc: Global,
+    page: Page<'a, '_, C>,
+    known: Known<'_, 'a>,
+    package_place: u64,
+    form: Form<'a>,
+    question: Question<'a>,
+    spare: &mut Stores,
+    out: &mut Watched<W>,
+) -> Result<(), AllocError>
+    requires node { IsNodeOf (bytes_of page.policy) (question_node question) }
+    requires asked { question_view question
+        ≡ asked (nodes_of (bytes_of page.policy)) (question_node question) }
+    requires lies { LiesIn (shape_of page.stores.now) (question_view question) }
+    requires known { IsKnown (audited page) (bytes_of page.policy) known }
+    requires in_file { package_place + length (bytes_of page.policy) < 2 ^ 64 }
+    requires same { spare.old ≡ page.stores.now }
+    ensures same { spare.new ≡ page.entry.stores.now }
+    ensures told { OnOk result (Puts W.contents out.old out.new
+        (listed_members (audited page.entry) package_place (form_node form.entry) (question_node question.entry))) }
+    ensures begun { OnErr result (Begins (pen_of W.contents out.old) (pen_of W.contents out.new)
+        (listed_members (audited page.entry) package_place (form_node form.entry) (question_node question.entry))) }
+{
+    let telling = Telling {
+        detail: Detail::Listed,
+        package_place,
+        form: Some(form),
+    };
+    put_members(alloc, page, known, telling, question, spare, out)
+}
 
 // Writes the questions of a form, by place. Where an allocation fails, the beginning of these objects may be written.
 fn put_questions_of<'a, C: Conditions, W: Write>(

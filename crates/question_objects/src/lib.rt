@@ -21,7 +21,7 @@ mod rules;
 mod values;
 mod verdicts;
 
-pub use form_sets::put_questions_objects;
+pub use form_sets::{put_listed_members, put_questions_objects};
 pub use members::put_text;
-pub use objects::put_question_object;
+pub use objects::{Known, put_question_object};
 pub use values::put_script;

@@ -22,7 +22,7 @@ ghost use Rattle.question_audit.specs.Reasons.{all_reasons};
 ghost use Rattle.question_audit.specs.code.Beginnings.{Begins};
 ghost use Rattle.question_objects.specs.Conditions.{condition_lists};
 ghost use Rattle.question_objects.specs.Dependences.{dependence_members};
-ghost use Rattle.question_objects.specs.Objects.{BeginsQuestionObject, TellsQuestionObject, detail_members, lone_object, no_question_object, plain_members, question_object};
+ghost use Rattle.question_objects.specs.Objects.{BeginsQuestionObject, TellsQuestionObject, detail_members, lone_object, no_question_object, plain_members, question_members, question_object};
 ghost use Rattle.question_objects.specs.code.Knowing.{IsKnown};
 ghost use Rattle.question_objects.specs.declared.detail.Detail.TheVariants.{Alone};
 
@@ -52,7 +52,7 @@ use std::io::Write;
 
 /// What objects look up of a form set, found once for all of them.
 #[derive(Clone, Copy)]
-pub(crate) struct Known<'t, 'a> {
+pub struct Known<'t, 'a> {
     /// The stores.
     pub names: &'t StoreNames<'a>,
     /// What is known of each guard.
@@ -209,6 +209,50 @@ fn put_details<'a, C: Conditions, W: Write>(
     Ok(())
 }
 
+/// Writes what is known of a question as members of an object, behind its kind. `spare` are stores that hold the same as those of the
+/// page, before and after. Where an allocation fails, the beginning of these members may be written.
+pub(crate) fn put_members<'a, C: Conditions, W: Write>(
+    alloc: Global,
+    page: Page<'a, '_, C>,
+    known: Known<'_, 'a>,
+    telling: Telling<'a>,
+    question: Question<'a>,
+    spare: &mut Stores,
+    out: &mut Watched<W>,
+) -> Result<(), AllocError>
+    requires node { IsNodeOf (bytes_of page.policy) (question_node question) }
+    requires asked { question_view question
+        ≡ asked (nodes_of (bytes_of page.policy)) (question_node question) }
+    requires lies { LiesIn (shape_of page.stores.now) (question_view question) }
+    requires known { IsKnown (audited page) (bytes_of page.policy) known }
+    requires in_file { telling.package_place + length (bytes_of page.policy) < 2 ^ 64 }
+    requires same { spare.old ≡ page.stores.now }
+    ensures same { spare.new ≡ page.entry.stores.now }
+    ensures told { OnOk result (Puts W.contents out.old out.new
+        (question_members telling.entry.detail (audited page.entry) telling.entry.package_place
+        (option_map form_node telling.entry.form) (question_view question.entry))) }
+    ensures begun { OnErr result (Begins (pen_of W.contents out.old) (pen_of W.contents out.new)
+        (question_members telling.entry.detail (audited page.entry) telling.entry.package_place
+        (option_map form_node telling.entry.form) (question_view question.entry))) }
+{
+    let verdict = page
+        .policy()
+        .question_changeable_by(question, page.conditions());
+    let reasons = reasons_of(alloc, page, question)?;
+    put_plain(
+        page, known, telling, question, verdict, &reasons, spare, out,
+    );
+    put_details(
+        alloc,
+        page,
+        known.locks,
+        telling,
+        question,
+        verdict.is_err(),
+        out,
+    )
+}
+
 /// Writes what is known of a question as an object. `spare` are stores that hold the same as those of the page, before and after. Where
 /// an allocation fails, the beginning of the object may be written.
 pub(crate) fn put_object<'a, C: Conditions, W: Write>(
@@ -235,23 +279,8 @@ pub(crate) fn put_object<'a, C: Conditions, W: Write>(
         (question_object telling.entry.detail (audited page.entry) telling.entry.package_place
         (option_map form_node telling.entry.form) (question_view question.entry))) }
 {
-    let verdict = page
-        .policy()
-        .question_changeable_by(question, page.conditions());
-    let reasons = reasons_of(alloc, page, question)?;
     put_object_kind(b"question", out);
-    put_plain(
-        page, known, telling, question, verdict, &reasons, spare, out,
-    );
-    put_details(
-        alloc,
-        page,
-        known.locks,
-        telling,
-        question,
-        verdict.is_err(),
-        out,
-    )?;
+    put_members(alloc, page, known, telling, question, spare, out)?;
     end_object(out);
     Ok(())
 }

@@ -2,7 +2,7 @@
 //! a form set with what forbids their change (own rule).
 #![tactic(auto)]
 
-use audit_commands::{apply, check, difference, opcodes, question, questions, split};
+use audit_commands::{apply, check, difference, opcodes, question, questions, split, unlock};
 use audit_options::{Task, read_words};
 use clap::Error;
 use clap::error::ErrorKind;
@@ -11,6 +11,7 @@ use setup_files::{Status, Terminals, VERSION, refused, shown, usage, words};
 use std::process::ExitCode;
 use std::rt::{Env, Files};
 use store_commands::{export, image, stores};
+use survey_commands::survey;
 
 fn main(rt: HostRuntime) -> ExitCode {
     let (Ok(status) | Err(status)) = run(&rt, Terminals::of(&rt));
@@ -33,6 +34,8 @@ fn run<R: Env + Files + Print + Eprint + AllocGlobal>(
         Ok(Task::Image(options)) => image::run(rt, terminals, &options),
         Ok(Task::Export(options)) => export::run(rt, terminals, options),
         Ok(Task::Diff(options)) => difference::run(rt, terminals, options),
+        Ok(Task::Unlock(options)) => unlock::run(rt, terminals, options),
+        Ok(Task::Survey(options)) => survey::run(rt, terminals, &options),
         Err(e) => Ok(tell(rt, terminals, &e)),
     }
 }

@@ -8,3 +8,4 @@ pub mod IdLemmas
 pub mod FaultLemmas
 pub mod TableLemmas
 pub mod Examples
+mod SharedLemmas

@@ -5,6 +5,7 @@ ghost use Rattle.browser_rules.specs.Faults.{string_package_faults};
 ghost use Rattle.hii_bytes.specs.Faults.{RefusesAmong, out_of_memory};
 ghost use Rattle.hii_packages.specs.code.Package.{package_of};
 ghost use Rattle.browser_rules.specs.Strings.{spoken_by, text_at};
+ghost use Rattle.sibt_strings.specs.Shared.{is_in_both, texts_in_both};
 ghost use Rattle.sibt_strings.specs.code.Views.{units_in};
 
 use crate::front::split_text;
@@ -75,5 +76,25 @@ impl<'a> StringTable<'a> {
         let place = place_at(&self.places, id)?;
         let (units, _) = split_text(self.block_bytes.get(place as usize..)?)?;
         Some(units)
+    }
+
+    /// How many string ids have a text here and in another table. It looks at the ids that have one here.
+    pub fn texts_in_both(&self, other: &StringTable<'_>) -> usize
+        ensures { result ≡ texts_in_both self.now other.now }
+    {
+        let mut count = 0;
+        for place in self.places.as_slice() {
+            if self.is_in_both(other, place.id) {
+                count += 1;
+            }
+        }
+        count
+    }
+
+    // Whether a string id has a text in both.
+    fn is_in_both(&self, other: &StringTable<'_>, id: u16) -> bool
+        ensures { result ≡ is_in_both self.now other.now id }
+    {
+        self.text(id).is_some() && other.text(id).is_some()
     }
 }

@@ -53,7 +53,25 @@ impl<'a> Declared<'a> {
         ensures refused { IfErr result (Refuses (IsDeclaredFault list.entry.now number)) }
     {
         let source = forms_package(list, number)?;
-        form_set(alloc, source)
+        Declared::of_package(alloc, source)
+    }
+
+    /// The form set of a forms package, or the least fault of the package (20 to 33, 39, 40), of its stores (34) or of its questions
+    /// (35 to 38). Where an allocation fails the fault is OutOfMemory (60) at 0.
+    pub fn of_package(alloc: Global, source: Package<'a>) -> Result<Declared<'a>, Fault>
+        ensures read { IfOk result (λ declared. declared ≡ source.entry.bytes.now) }
+        ensures browsable { IfOk result IsBrowsable }
+        ensures sound { IfOk result (λ declared. HasNone (IsFormSetFault source.entry.bytes.now)) }
+        ensures refused { IfErr result (Refuses (IsFormSetFault source.entry.bytes.now)) }
+    {
+        let forms = Forms::read(alloc, source)?;
+        let layout = Layout::read(alloc, &forms)?;
+        let questions = Questions::read(alloc, &forms, &layout)?;
+        Ok(Declared {
+            forms,
+            layout,
+            questions,
+        })
     }
 
     /// The form set.
@@ -87,21 +105,4 @@ pub fn forms_package(list: &[u8], number: usize) -> Result<Package<'_>, Fault>
 {
     let packages = PackageList::read(list)?;
     packages.forms(number)
-}
-
-// What a forms package declares.
-fn form_set<'a>(alloc: Global, source: Package<'a>) -> Result<Declared<'a>, Fault>
-    ensures read { IfOk result (λ declared. declared ≡ source.entry.bytes.now) }
-    ensures browsable { IfOk result IsBrowsable }
-    ensures sound { IfOk result (λ declared. HasNone (IsFormSetFault source.entry.bytes.now)) }
-    ensures refused { IfErr result (Refuses (IsFormSetFault source.entry.bytes.now)) }
-{
-    let forms = Forms::read(alloc, source)?;
-    let layout = Layout::read(alloc, &forms)?;
-    let questions = Questions::read(alloc, &forms, &layout)?;
-    Ok(Declared {
-        forms,
-        layout,
-        questions,
-    })
 }

@@ -126,8 +126,8 @@ impl Filling<'_> {
     }
 }
 
-// The first store by place that is not given as many bytes as it holds.
-fn first_unfit<'f, 'a>(fillings: &'f [Filling<'a>]) -> Option<&'f Filling<'a>>
+/// The first store by place that is not given as many bytes as it holds.
+pub fn first_unfit<'f, 'a>(fillings: &'f [Filling<'a>]) -> Option<&'f Filling<'a>>
     ensures { option_copied result ≡ find spec.is_unfit fillings.entry.now }
 {
     for filling in fillings {
@@ -172,8 +172,8 @@ fn put_reason<W: Write>(filling: &Filling<'_>, out: &mut Watched<W>)
     }
 }
 
-// Writes the line that refuses a store.
-fn put_unfit_line<W: Write>(filling: &Filling<'_>, out: &mut Watched<W>)
+/// Writes the line that refuses a store: it is given no bytes, or not as many as it holds.
+pub fn put_unfit_line<W: Write>(filling: &Filling<'_>, out: &mut Watched<W>)
     ensures { Puts W.contents out.old out.new
         (lines.refused_line (spec.filling_node filling.now) filling.now.source) }
 {
@@ -183,8 +183,8 @@ fn put_unfit_line<W: Write>(filling: &Filling<'_>, out: &mut Watched<W>)
     out.put(b"\n");
 }
 
-// Writes that line as a string of JSON.
-fn put_unfit_string<W: Write>(filling: &Filling<'_>, out: &mut Watched<W>)
+/// Writes that line as a string of JSON.
+pub fn put_unfit_string<W: Write>(filling: &Filling<'_>, out: &mut Watched<W>)
     ensures { Puts W.contents out.old out.new
         (lines.refused_string (spec.filling_node filling.now) filling.now.source) }
 {
@@ -339,8 +339,12 @@ fn fill(stores: &mut Stores, filling: &Filling<'_>)
     }
 }
 
-// The stores of a form set, each filled with the bytes that it is given, or OutOfMemory (60) at 0 where an allocation fails.
-fn filled(alloc: Global, declared: &Declared<'_>, fillings: &[Filling<'_>]) -> Result<Stores, Fault>
+/// The stores of a form set, each filled with the bytes that it is given, or OutOfMemory (60) at 0 where an allocation fails.
+pub fn filled(
+    alloc: Global,
+    declared: &Declared<'_>,
+    fillings: &[Filling<'_>],
+) -> Result<Stores, Fault>
     requires all { map spec.filling_node fillings.now ≡ buffer_stores (nodes_of declared.now) }
     requires fit { find spec.is_unfit fillings.now ≡ None }
     ensures made { IfOk result (λ stores. stores

@@ -11,6 +11,8 @@ mod store_lines;
 
 pub use declared::{Declared, forms_package};
 pub use defaults::Defaults;
-pub use fillings::{Filling, Source, put_image};
+pub use fillings::{
+    Filling, Source, filled, first_unfit, put_image, put_unfit_line, put_unfit_string,
+};
 pub use header_lines::{device_path, put_headers};
 pub use store_lines::put_stores;

@@ -11,6 +11,7 @@ use Rattle.std.specs.List.{AllByRecursion, find, flat_map}
 use Rattle.ifr_opcodes.specs.Forest.{Node}
 use Rattle.hii_varstore.specs.Stores.{Store, StoreMap}
 use Rattle.audit_options.specs.declared.tasks.ImageOptions.{ImageOptions}
+use Rattle.audit_options.specs.declared.tasks.Sources.{Sources}
 use Rattle.audit_json.specs.Telling.{asked}
 use Rattle.audit_json.specs.declared.telling.Telling.{Telling}
 use Rattle.store_audit.specs.Fillings.{filled_told, store_from}
@@ -24,7 +25,7 @@ use Rattle.store_commands.specs.Configured.{IsText, config_in}
 use Rattle.audit_answers.specs.Endings.{TellsAndWrites}
 use Rattle.store_commands.specs.Files.{Known}
 use Rattle.store_commands.specs.Defaulting.{IsMadeOf, defaults_asked}
-use Rattle.store_commands.specs.Imaging.{AreSupplies, IsFilled, SaysImage, Supply, is_unfit, stores_given, unknown_file}
+use Rattle.store_commands.specs.Imaging.{AreSupplied, AreSupplies, IsFilled, SaysImage, Supply, is_unfit, stores_given, unknown_file}
 use Rattle.store_commands.specs.Sources.{IsSource}
 use Rattle.audit_answers.specs.code.Endings.{Commits, PassesFrom}
 use Rattle.store_commands.specs.code.Imaging.{AreFit, SaysFillings, stores_in}
@@ -56,31 +57,36 @@ supplied_unfit (f ∷ fs) = go (code.is_unfit f) (supplied_unfit fs)
     go true e = refl
     go false e = e
 
-pub supplied_sources : (known : List ℕ → Known) (options : ImageOptions) (config : Exported) (fs : List Filling) → AllByRecursion (λ f. IsSource known options config (code.filling_node f) f.source) fs
-    → AllByRecursion (λ (s : Supply). IsSource known options config s.node s.source) (map supply fs)
-supplied_sources known options config [] all = tt
-supplied_sources known options config (f ∷ fs) all = (all.0, supplied_sources known options config fs all.1)
+pub supplied_sources : (known : List ℕ → Known) (from : Sources) (config : Exported) (fs : List Filling) → AllByRecursion (λ f. IsSource known from config (code.filling_node f) f.source) fs
+    → AllByRecursion (λ (s : Supply). IsSource known from config s.node s.source) (map supply fs)
+supplied_sources known from config [] all = tt
+supplied_sources known from config (f ∷ fs) all = (all.0, supplied_sources known from config fs all.1)
+
+pub are_supplied : (known : List ℕ → Known) (from : Sources) (text ifr : List ℕ) (config : Exported) (fs : List Filling) → config_in ifr text ≡ Ok config → map code.filling_node fs ≡ buffer_stores (nodes_of ifr)
+    → AllByRecursion (λ f. IsSource known from config (code.filling_node f) f.source) fs → AreSupplied known from text ifr (map supply fs)
+are_supplied known from text ifr config fs read all sources =
+    record { config = config; read = read; stores = supplied_nodes fs ∙ all; sources = supplied_sources known from config fs sources }
+
+pub stores_are_given : (ifr : List ℕ) (fs : List Filling) → stores_in ifr fs ≡ stores_given ifr (map supply fs)
+stores_are_given ifr fs = ap (λ (ss : List Store). record { guid = (layout_of (nodes_of ifr)).guid; stores = ss }) (sym (supplied_stores fs))
 
 -- ---- what is said of fillings is what `image` says
 
 module _ (known : List ℕ → Known) (options : ImageOptions) (list ifr : List ℕ) (fs : List Filling) (made : IsMadeOf options list ifr)
-    (none : unknown_file (layout_of (nodes_of ifr)) options.files.items ≡ None) (all : map code.filling_node fs ≡ buffer_stores (nodes_of ifr))
-    (text : List ℕ) (is_text : IsText known (option_map (λ path. path.now) options.config) text) (config : Exported) (read : config_in ifr text ≡ Ok config)
-    (sources : AllByRecursion (λ f. IsSource known options config (code.filling_node f) f.source) fs)
+    (none : unknown_file (layout_of (nodes_of ifr)) options.sources.files.items ≡ None) (all : map code.filling_node fs ≡ buffer_stores (nodes_of ifr))
+    (text : List ℕ) (is_text : IsText known (option_map (λ path. path.now) options.sources.config) text) (config : Exported) (read : config_in ifr text ≡ Ok config)
+    (sources : AllByRecursion (λ f. IsSource known options.sources config (code.filling_node f) f.source) fs)
     (defaults : Option Defaults) (are_asked : defaults ≡ defaults_asked options list) where
-  supplies : AreSupplies known options ifr (map supply fs)
+  supplies : AreSupplies known options.sources ifr (map supply fs)
   supplies = record {
     none_unknown = none;
     text = text;
     is_text = is_text;
-    config = config;
-    read = read;
-    stores = supplied_nodes fs ∙ all;
-    sources = supplied_sources known options config fs sources;
+    supplied = are_supplied known options.sources text ifr config fs read all sources;
   }
 
   same_stores : stores_in ifr fs ≡ stores_given ifr (map supply fs)
-  same_stores = ap (λ (ss : List Store). record { guid = (layout_of (nodes_of ifr)).guid; stores = ss }) (sym (supplied_stores fs))
+  same_stores = stores_are_given ifr fs
 
   filled : (bytes text : List ℕ) → AreFit (asked options.json) ifr defaults fs bytes text → IsFilled known options list ifr bytes text
   filled bytes text fit = record {

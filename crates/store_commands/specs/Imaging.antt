@@ -8,6 +8,7 @@ use Rattle.hii_varstore.specs.Image.{image_of}
 use Rattle.hii_varstore.specs.Layout.{Shape, size_of}
 use Rattle.hii_varstore.specs.StoreNodes.{layout_of}
 use Rattle.audit_options.specs.declared.tasks.ImageOptions.{ImageOptions}
+use Rattle.audit_options.specs.declared.tasks.Sources.{Sources}
 use Rattle.audit_options.specs.declared.tasks.StoreFile.{StoreFile}
 use Rattle.hii_varstore.specs.Stores.{StoreMap}
 use Rattle.store_audit.specs.Defaulted.{defaults_told, left_by}
@@ -37,16 +38,19 @@ pub record Supply : Type 0 where
 abbrev pub is_unfit : Supply → Bool
 is_unfit s = not (are_fit (wanted_of s.node) s.source)
 
--- Each store of a forms package that holds bytes has a source, by place, no file is given to another store, and a configuration
--- text has no fault.
-pub record AreSupplies (known : List ℕ → Known) (options : ImageOptions) (ifr : List ℕ) (supplies : List Supply) : Type 0 where
-  pub none_unknown : unknown_file (layout_of (nodes_of ifr)) options.files.items ≡ None
-  pub text : List ℕ
-  pub is_text : IsText known (option_map (λ path. path.now) options.config) text
+-- Each store of a forms package that holds bytes has a source, by place, over a configuration text that has no fault.
+pub record AreSupplied (known : List ℕ → Known) (from : Sources) (text ifr : List ℕ) (supplies : List Supply) : Type 0 where
   pub config : Exported
   pub read : config_in ifr text ≡ Ok config
   pub stores : map (λ s. s.node) supplies ≡ buffer_stores (nodes_of ifr)
-  pub sources : AllByRecursion (λ s. IsSource known options config s.node s.source) supplies
+  pub sources : AllByRecursion (λ s. IsSource known from config s.node s.source) supplies
+
+-- They have, over the text of the file, and no file is given to another store.
+pub record AreSupplies (known : List ℕ → Known) (from : Sources) (ifr : List ℕ) (supplies : List Supply) : Type 0 where
+  pub none_unknown : unknown_file (layout_of (nodes_of ifr)) from.files.items ≡ None
+  pub text : List ℕ
+  pub is_text : IsText known (option_map (λ path. path.now) from.config) text
+  pub supplied : AreSupplied known from text ifr supplies
 
 -- the stores, each with the bytes that it is given
 abbrev pub stores_given : List ℕ → List Supply → StoreMap
@@ -59,7 +63,7 @@ stores_given ifr supplies = record {
 -- for the defaults, and the bytes are the image.
 pub record IsFilled (known : List ℕ → Known) (options : ImageOptions) (list ifr bytes text : List ℕ) : Type 0 where
   pub supplies : List Supply
-  pub given : AreSupplies known options ifr supplies
+  pub given : AreSupplies known options.sources ifr supplies
   pub fit : find is_unfit supplies ≡ None
   pub lines : text ≡ flat_map (λ s. filled_told (asked options.json) s.node s.source) supplies
       ++ defaults_told (asked options.json) ifr (defaults_asked options list) (stores_given ifr supplies)
@@ -69,11 +73,11 @@ pub record IsFilled (known : List ℕ → Known) (options : ImageOptions) (list 
 -- that is not given what it holds.
 abbrev pub IsUnfilled : (List ℕ → Known) → ImageOptions → List ℕ → List ℕ → Type 0
 IsUnfilled known options ifr text =
-    ((file : StoreFile) × (unknown_file (layout_of (nodes_of ifr)) options.files.items ≡ Some file)
+    ((file : StoreFile) × (unknown_file (layout_of (nodes_of ifr)) options.sources.files.items ≡ Some file)
     × (text ≡ no_store_told (asked options.json) file.id))
-    ⊎ (((bytes : List ℕ) × IsText known (option_map (λ path. path.now) options.config) bytes
+    ⊎ (((bytes : List ℕ) × IsText known (option_map (λ path. path.now) options.sources.config) bytes
     × (bad : BadResponse) × (config_in ifr bytes ≡ Err bad) × (text ≡ bad_response_told (asked options.json) bad))
-    ⊎ ((supplies : List Supply) × AreSupplies known options ifr supplies
+    ⊎ ((supplies : List Supply) × AreSupplies known options.sources ifr supplies
     × (unfit : Supply) × (find is_unfit supplies ≡ Some unfit)
     × (text ≡ unfit_told (asked options.json) unfit.node unfit.source)))
 

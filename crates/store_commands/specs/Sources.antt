@@ -6,7 +6,7 @@ use Rattle.std.specs.Str.{is_utf8}
 use Rattle.ifr_opcodes.specs.Forest.{Node}
 use Rattle.ifr_scopes.specs.Stores.{store_guid, store_id, store_name}
 use Rattle.audit_text.specs.Texts.{guid_text}
-use Rattle.audit_options.specs.declared.tasks.ImageOptions.{ImageOptions}
+use Rattle.audit_options.specs.declared.tasks.Sources.{Sources}
 use Rattle.audit_options.specs.declared.tasks.StoreFile.{StoreFile}
 use Rattle.store_audit.specs.declared.fillings.Source.{Source}
 use Rattle.store_audit.specs.declared.fillings.Source.TheVariants.{Config, Missing, Zeros}
@@ -60,8 +60,8 @@ IsGiven known None variable IsElse source = IsVariable known variable IsElse sou
 abbrev pub given_of : Exported.Exported → Node → Option Exported.Given
 given_of config n = Exported.given_to config (store_guid n.op) (store_name n.op) (wanted_of n)
 
-abbrev pub IsSource : (List ℕ → Known) → ImageOptions → Exported.Exported → Node → Source → Type 0
-IsSource known options config n =
-    IsGiven known (last_given options.files.items (store_id n.op))
-    (option_and_then (λ folder. variable_path folder.now n) options.efivars)
-    (IsFallback (given_of config n) options.zero)
+abbrev pub IsSource : (List ℕ → Known) → Sources → Exported.Exported → Node → Source → Type 0
+IsSource known sources config n =
+    IsGiven known (last_given sources.files.items (store_id n.op))
+    (option_and_then (λ folder. variable_path folder.now n) sources.efivars)
+    (IsFallback (given_of config n) sources.zero)

@@ -13,7 +13,7 @@ use crate::saying::{end_said, put_said};
 use crate::sources::Unsourced;
 use crate::store_files::StoreFiles;
 use audit_json::Telling;
-use audit_options::ImageOptions;
+use audit_options::Sources;
 use exported_config::{BadResponse, ExportedConfig, Part, StoreName, Unread};
 use hii_bytes::Watched;
 use ifr_scopes::Varstore;
@@ -44,15 +44,15 @@ fn names_of<'a>(alloc: Global, declared: &Declared<'a>) -> Result<Vec<StoreName<
 }
 
 /// The bytes of the configuration text, or none where there is none.
-pub(crate) fn text_of<F: StoreFiles>(
+pub fn text_of<F: StoreFiles>(
     alloc: Global,
     files: &F,
-    options: &ImageOptions<'_>,
+    sources: &Sources<'_>,
 ) -> Result<Vec<u8>, Unsourced>
-    ensures text { IfOk result (λ text. IsText (F.known files.now) (option_map (λ path. path.now) options.now.config) text.items) }
+    ensures text { IfOk result (λ text. IsText (F.known files.now) (option_map (λ path. path.now) sources.now.config) text.items) }
     ensures err { IfErr result IsUnsourced }
 {
-    let Some(path) = options.config else {
+    let Some(path) = sources.config else {
         return Ok(Vec::new(alloc));
     };
     match files.read_config(path) {
@@ -62,7 +62,7 @@ pub(crate) fn text_of<F: StoreFiles>(
 }
 
 /// What a configuration text gives to the stores of a form set.
-pub(crate) fn config_in<'t>(
+pub fn config_in<'t>(
     alloc: Global,
     declared: &Declared<'_>,
     text: &'t [u8],
@@ -89,7 +89,7 @@ fn part_word(part: Part) -> &'static [u8]
 }
 
 /// Tells what is bad in a response of a configuration text.
-pub(crate) fn put_bad_response<W: Write>(telling: Telling, bad: BadResponse, out: &mut Watched<W>)
+pub fn put_bad_response<W: Write>(telling: Telling, bad: BadResponse, out: &mut Watched<W>)
     ensures { Puts W.contents out.old out.new (bad_response_told telling bad) }
 {
     put_said(telling, out);

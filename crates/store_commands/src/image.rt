@@ -57,7 +57,7 @@ pub fn run<R: Files + Print + Eprint + AllocGlobal>(
     if is_same_file(rt, options.list.path, options.out) {
         return Err(usage(rt, &LIST_AS_OUT));
     }
-    if let Some(config) = options.config {
+    if let Some(config) = options.sources.config {
         if is_same_file(rt, config, options.out) {
             return Err(usage(rt, &CONFIG_AS_OUT));
         }
@@ -69,18 +69,22 @@ pub fn run<R: Files + Print + Eprint + AllocGlobal>(
         return Err(refused(rt, terminals, Cause::OutOfMemory));
     };
     let list = file(rt, terminals, options.list.path, "read list")?;
-    if let Some(folder) = options.efivars {
+    if let Some(folder) = options.sources.efivars {
         check_folder(rt, terminals, folder)?;
     }
-    let files = SystemFiles::new(rt, terminals, options.out);
+    let files = SystemFiles::new(rt, terminals, Some(options.out));
     let mut answers = answers(rt, terminals)?;
     let mut out = Watched::new(out);
     let ended = make(rt.alloc(), options, &list, &files, &mut answers, &mut out)?;
     Ok(told_with_file(rt, terminals, ended, answers, options.out, out))
 }
 
-// Refuses what is no folder.
-fn check_folder<R: Files + Eprint>(rt: &R, terminals: Terminals, folder: &str) -> Result<(), Status>
+/// Refuses what is no folder of variables' files.
+pub fn check_folder<R: Files + Eprint>(
+    rt: &R,
+    terminals: Terminals,
+    folder: &str,
+) -> Result<(), Status>
     ensures { IfErr result (λ status. status ≢ Status.Done) }
 {
     let reason = match fs::metadata(rt, folder) {
@@ -93,7 +97,7 @@ fn check_folder<R: Files + Eprint>(rt: &R, terminals: Terminals, folder: &str) -
 
 // Whether the file of `--out` is one of those that are given to stores.
 fn is_store_file<R: Files>(rt: &R, options: &ImageOptions<'_>) -> bool {
-    for file in options.files.as_slice() {
+    for file in options.sources.files.as_slice() {
         if is_same_file(rt, file.path, options.out) {
             return true;
         }
@@ -191,11 +195,11 @@ fn fill<'a, F: StoreFiles, A: Write + Drop, O: Write>(
     ensures err { IfErr result (λ status. status ≢ Status.Done) }
 {
     let telling = Telling::of(options.json);
-    if let Some(file) = unknown_file(declared.layout(), options.files.as_slice()) {
+    if let Some(file) = unknown_file(declared.layout(), options.sources.files.as_slice()) {
         put_no_store(telling, file.id, answers);
         return Ok(finish(Ended::Refused, answers));
     }
-    let text = match text_of(alloc, files, options) {
+    let text = match text_of(alloc, files, &options.sources) {
         Ok(text) => text,
         Err(Unsourced::NoMemory) => return Ok(refuse(telling, Fault::out_of_memory(), answers)),
         Err(Unsourced::Unread(status)) => return Err(status),
@@ -226,8 +230,8 @@ fn fill_from<'a, F: StoreFiles, A: Write + Drop, O: Write>(
     ensures told { IfOk result (λ ended. (list text : List ℕ)
         → IsMadeOf options.now list declared.now
         → option_map defaults_view defaults.entry ≡ defaults_asked options.now list
-        → unknown_file (layout_of (nodes_of declared.now)) options.now.files.items ≡ None
-        → IsText (F.known files.now) (option_map (λ path. path.now) options.now.config) text
+        → unknown_file (layout_of (nodes_of declared.now)) options.now.sources.files.items ≡ None
+        → IsText (F.known files.now) (option_map (λ path. path.now) options.now.sources.config) text
         → spec.config_in declared.now text ≡ Ok (exported_view config.now)
         → TellsAndWrites (SaysImage (F.known files.now) options.now list)
         A.contents O.contents answers.old out.old ended answers.new out.new) }
@@ -235,7 +239,7 @@ fn fill_from<'a, F: StoreFiles, A: Write + Drop, O: Write>(
     ensures err { IfErr result (λ status. status ≢ Status.Done) }
 {
     let telling = Telling::of(options.json);
-    let fillings = match fillings(alloc, files, declared, options, config) {
+    let fillings = match fillings(alloc, files, declared, &options.sources, config) {
         Ok(fillings) => fillings,
         Err(Unsourced::NoMemory) => return Ok(refuse(telling, Fault::out_of_memory(), answers)),
         Err(Unsourced::Unread(status)) => return Err(status),

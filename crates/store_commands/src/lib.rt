@@ -9,3 +9,8 @@ mod sources;
 mod store_files;
 pub mod stores;
 mod texts;
+
+pub use config::{config_in, put_bad_response, text_of};
+pub use image::check_folder;
+pub use sources::{Unsourced, fillings};
+pub use store_files::{StoreFiles, SystemFiles};

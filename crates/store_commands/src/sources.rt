@@ -13,7 +13,7 @@ ghost use Rattle.store_commands.specs.code.Sources.{IsUnsourced};
 
 use crate::config::name_of;
 use crate::store_files::StoreFiles;
-use audit_options::{ImageOptions, StoreFile};
+use audit_options::{Sources, StoreFile};
 use audit_text::{Case, guid_digits};
 use exported_config::ExportedConfig;
 use hii_bytes::laws::are_bytes;
@@ -57,13 +57,13 @@ pub fn fillings<'a, F: StoreFiles>(
     alloc: Global,
     files: &F,
     declared: &Declared<'a>,
-    options: &ImageOptions<'_>,
+    sources: &Sources<'_>,
     config: &ExportedConfig<'_>,
 ) -> Result<Vec<Filling<'a>>, Unsourced>
     ensures all { IfOk result (λ fillings. map filling_node fillings.items
         ≡ buffer_stores (nodes_of declared.now)) }
     ensures sources { IfOk result (λ fillings.
-        AllByRecursion (λ f. IsSource (F.known files.now) options.now (exported_view config.now) (filling_node f) f.source)
+        AllByRecursion (λ f. IsSource (F.known files.now) sources.now (exported_view config.now) (filling_node f) f.source)
         fillings.items) }
     ensures err { IfErr result IsUnsourced }
 {
@@ -71,7 +71,7 @@ pub fn fillings<'a, F: StoreFiles>(
     let mut stores = declared.forms().stores();
     while let Some(store) = stores.next() {
         if store.size().is_some() {
-            let source = source(alloc, files, options, config, store)?;
+            let source = source(alloc, files, sources, config, store)?;
             if fillings.push(Filling { store, source }).is_err() {
                 return Err(Unsourced::NoMemory);
             }
@@ -85,18 +85,18 @@ pub fn fillings<'a, F: StoreFiles>(
 fn source<F: StoreFiles>(
     alloc: Global,
     files: &F,
-    options: &ImageOptions<'_>,
+    sources: &Sources<'_>,
     config: &ExportedConfig<'_>,
     store: Varstore<'_>,
 ) -> Result<Source, Unsourced>
     ensures source { IfOk result
-        (IsSource (F.known files.now) options.now (exported_view config.now) (store_node store.entry)) }
+        (IsSource (F.known files.now) sources.now (exported_view config.now) (store_node store.entry)) }
     ensures err { IfErr result IsUnsourced }
 {
-    if let Some(given) = last_given(options.files.as_slice(), store.id()) {
+    if let Some(given) = last_given(sources.files.as_slice(), store.id()) {
         return file_from(alloc, files, store.id(), given.path, false);
     }
-    let path = match options.efivars {
+    let path = match sources.efivars {
         Some(folder) => variable_path(alloc, folder, store)?,
         None => None,
     };
@@ -104,7 +104,7 @@ fn source<F: StoreFiles>(
         Some(path) if files.is_there(path.as_str()) => {
             file_from(alloc, files, store.id(), path.as_str(), true)
         }
-        _ => fallback(alloc, config, store, options.zero),
+        _ => fallback(alloc, config, store, sources.zero),
     }
 }
 

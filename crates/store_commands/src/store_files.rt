@@ -39,12 +39,12 @@ pub trait StoreFiles {
 pub struct SystemFiles<'a, R> {
     rt: &'a R,
     terminals: Terminals,
-    out: &'a str,
+    out: Option<&'a str>,
 }
 
 impl<'a, R> SystemFiles<'a, R> {
-    /// The files that a run reads which writes the file of a path.
-    pub fn new(rt: &'a R, terminals: Terminals, out: &'a str) -> SystemFiles<'a, R> {
+    /// The files that a run reads, which writes the file of a path, if it writes one.
+    pub fn new(rt: &'a R, terminals: Terminals, out: Option<&'a str>) -> SystemFiles<'a, R> {
         SystemFiles { rt, terminals, out }
     }
 }
@@ -53,8 +53,10 @@ impl<R: Files + Print + Eprint + AllocGlobal> StoreFiles for SystemFiles<'_, R> 
     ghost known = { λ _ _. Unknown };
 
     fn read<'p>(&self, path: &'p str, id: u16) -> Result<WholeFile<'p>, Status> {
-        if is_same_file(self.rt, path, self.out) {
-            return Err(usage(self.rt, &VARIABLE_AS_OUT));
+        if let Some(out) = self.out {
+            if is_same_file(self.rt, path, out) {
+                return Err(usage(self.rt, &VARIABLE_AS_OUT));
+            }
         }
         let Ok(what) = what_is_read(self.rt.alloc(), id) else {
             return Err(refused(self.rt, self.terminals, Cause::OutOfMemory));

@@ -11,10 +11,10 @@ use Rattle.check_audit.specs.declared.verdict.Verdict.{Verdict}
 use Rattle.check_audit.specs.declared.verdict.Verdict.TheVariants.{Good, Refused}
 
 abbrev pub setting_of : Setting → lines.Setting
-setting_of s = record { telling = s.telling; spoken = s.strings.now; base = s.base }
+setting_of s = record { telling = s.telling; spoken = s.strings.now; lacks = s.lacks.now; base = s.base }
 
 abbrev pub told_in : Told → checks.Told
-told_in t = record { telling = t.telling; spoken = t.strings.now; start = t.start }
+told_in t = record { telling = t.telling; spoken = t.strings.now; lacks = t.lacks.now; start = t.start }
 
 -- where a forms package is good, the guards that are told are its own
 abbrev pub HasConstants : List ℕ → Verdict → Type 0

@@ -1,8 +1,9 @@
 -- What is kept, seen as values of conditions; the invariants of it; and what a set of new bytes comes to.
-use Rattle.std.specs.Prelude.{◌≡◌, ℕ, ◌<◌, ◌≤◌, Bool, All, List, [], length, map, filter, Some, None, Result, Ok, Err}
+use Rattle.std.specs.Prelude.{◌≡◌, ℕ, ◌<◌, ◌≤◌, Bool, All, Option, List, [], length, map, filter, Some, None, Result, Ok, Err}
 use Rattle.std.specs.Vec.{vec_capacity}
 use Rattle.hii_bytes.specs.code.FirstFaults.{Rise}
 use Rattle.ifr_opcodes.specs.Forest.{Node}
+use Rattle.ifr_expr.specs.declared.value.Operand.{Operand}
 use Rattle.ifr_nodes.specs.Nodes.{nodes_of}
 use Rattle.ifr_nodes.specs.Rules.{is_rule}
 use Rattle.hii_varstore.specs.code.Table.{AreBuffers}
@@ -10,6 +11,7 @@ use Rattle.hii_varstore.specs.Stores.{StoreMap, shape_of, with_bytes}
 use Rattle.hii_questions.specs.code.NewBytes.{new_bytes}
 use Rattle.hii_questions.specs.declared.field.Field.{Field}
 use Rattle.guard_policy.specs.Policy.{inconsistent}
+use Rattle.guard_policy.specs.code.RuleValues.{AreRuleValues}
 use Rattle.guard_policy.specs.code.Views.{world}
 use Rattle.guard_policy.specs.declared.denial.Denial.{Denial}
 use Rattle.guard_policy.specs.declared.policy.Policy.{Policy}
@@ -51,9 +53,10 @@ pub record IsIndex (ifr : List ℕ) (dependents : Dependents) (index : Index) : 
       → finds (nodes_of ifr) bytes index.dependencies.items index.rule_uses.items k
       ≡ is_touched (nodes_of ifr) bytes k
 
--- This is kept over these stores, of which no two have one id.
-pub record AreKept (kept : KeptValues) (stores : StoreMap) : Type 0 where
+-- This is kept over these stores, of which no two have one id, with these values of rules.
+pub record AreKept (kept : KeptValues) (stores : StoreMap) (values : List (Option Operand)) : Type 0 where
   pub over : kept ≡ kept_over kept.ifr stores
+  pub rules : AreRuleValues kept.ifr stores values
   pub buffers : AreBuffers (shape_of stores).buffers
 
 -- New bytes for a field are a write of as many bytes as it has.

@@ -10,7 +10,7 @@ use Rattle.question_audit.specs.code.Beginnings.{Begins}
 use Rattle.question_audit.specs.declared.origin.Origin.{Origin}
 use Rattle.question_objects.specs.FormSets.{form_set_objects}
 use Rattle.audit_answers.proofs.EndingLemmas.{none_written}
-use Rattle.audit_commands.specs.Auditing.{audited_at}
+use Rattle.survey_audit.specs.AuditedAt.{audited_at}
 use Rattle.audit_commands.proofs.AuditingLemmas.{of_error}
 use Rattle.audit_commands.proofs.auditing.put_forms.Goals as goal
 

@@ -5,7 +5,7 @@ use Rattle.form_audit.specs.code.Pages.{audited}
 use Rattle.question_audit.specs.QuestionFacts.{BeginsQuestionText, IsQuestionText}
 use Rattle.question_audit.specs.declared.origin.Origin.{Origin}
 use Rattle.question_objects.specs.Objects.{BeginsQuestionObjectText, IsQuestionObject}
-use Rattle.audit_commands.specs.Auditing.{audited_at}
+use Rattle.survey_audit.specs.AuditedAt.{audited_at}
 use Rattle.audit_commands.proofs.auditing.put_question.Goals as goal
 
 pub returns-in-Lines-clause-told : goal.returns-in-Lines-clause-told

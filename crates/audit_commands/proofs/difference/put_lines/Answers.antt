@@ -5,7 +5,7 @@ use Rattle.form_audit.specs.Audited.{Audited}
 use Rattle.form_audit.specs.code.Pages.{audited}
 use Rattle.session_steps.specs.Opening.{layout_in}
 use Rattle.image_audit.specs.Difference.{difference_told}
-use Rattle.audit_commands.specs.Auditing.{audited_at}
+use Rattle.survey_audit.specs.AuditedAt.{audited_at}
 use Rattle.audit_commands.specs.code.Givens.{given_asked}
 use Rattle.audit_commands.proofs.DifferingLemmas.{one_package, one_refuses, other_refuses, tells_equal}
 use Rattle.audit_commands.proofs.difference.put_lines.Goals as goal

@@ -9,6 +9,8 @@ returns c =
     let with_image = c.with_command-command-5.ensures _ _ with_opcodes c.image.ensures in
     let with_questions = c.with_command-command-6.ensures _ _ with_image c.questions.ensures in
     let with_question = c.with_command-command-7.ensures _ _ with_questions c.question.ensures in
-    let with_apply = c.with_command-command-8.ensures _ _ with_question c.apply.ensures in
-    let with_export = c.with_command-command-9.ensures _ _ with_apply c.export.ensures in
-    c.with_command.ensures _ _ with_export c.diff.ensures
+    let with_unlock = c.with_command-command-8.ensures _ _ with_question c.unlock.ensures in
+    let with_apply = c.with_command-command-9.ensures _ _ with_unlock c.apply.ensures in
+    let with_export = c.with_command-command-10.ensures _ _ with_apply c.export.ensures in
+    let with_diff = c.with_command-command-11.ensures _ _ with_export c.diff.ensures in
+    c.with_command.ensures _ _ with_diff c.survey.ensures

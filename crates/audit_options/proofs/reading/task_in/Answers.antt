@@ -1,5 +1,5 @@
 use Rattle.std.proofs.Common.{rules}
-use Rattle.audit_options.proofs.reading.task_in.Goals.{in-split, in-stores, in-check, in-opcodes, in-image+in_ok-image_in-in-image, in-questions, in-question, in-apply, in-export, in-diff, in_default-name}
+use Rattle.audit_options.proofs.reading.task_in.Goals.{in-split, in-stores, in-check, in-opcodes, in-image+in_ok-image_in-in-image, in-questions, in-question, in-unlock, in-apply, in-export, in-diff, in-survey, in_default-name}
 use Rattle.audit_options.proofs.reading.task_in.Goals as goal
 
 pub returns-clause-asked : goal.returns-clause-asked
@@ -11,9 +11,11 @@ returns-clause-asked c = elim c.match-name.branch [
   | in-image+in_ok-image_in-in-image w ↦ search rules
   | in-questions w ↦ search rules
   | in-question w ↦ search rules
+  | in-unlock w ↦ search rules
   | in-apply w ↦ search rules
   | in-export w ↦ search rules
   | in-diff w ↦ search rules
+  | in-survey w ↦ search rules
   | in_default-name w ↦ search rules
 ]
 
@@ -26,8 +28,10 @@ returns-clause-misused c = elim c.match-name.branch [
   | in-image+in_ok-image_in-in-image w ↦ search rules
   | in-questions w ↦ search rules
   | in-question w ↦ search rules
+  | in-unlock w ↦ search rules
   | in-apply w ↦ search rules
   | in-export w ↦ search rules
   | in-diff w ↦ search rules
+  | in-survey w ↦ search rules
   | in_default-name w ↦ search rules
 ]

@@ -1,5 +1,6 @@
 use Rattle.std.proofs.Common.{◌≡◌, not, Ok, Err, sym, ap, subst, ◌∙◌}
 use Rattle.std.specs.Prelude.{IfOk}
+use Rattle.ifr_opcodes.specs.Fields.{is_read_only}
 use Rattle.guard_policy.specs.Policy.{fixed}
 use Rattle.guard_policy.specs.code.Answers.{unless}
 use Rattle.guard_policy.specs.code.Surroundings.{IsAroundNode, answer_of}
@@ -7,7 +8,7 @@ use Rattle.guard_policy.specs.code.Views.{bytes_of, world}
 use Rattle.hii_questions.specs.code.Ranges.{range_in}
 use Rattle.hii_questions.specs.code.Views.{question_node, question_view}
 use Rattle.hii_questions.specs.Fields.{Asked}
-use Rattle.browser_commands.proofs.BlockLemmas.{choice_start, choice_found, choice_later, choice_next, choice_end, each_first}
+use Rattle.browser_commands.proofs.BlockLemmas.{choice_start, choice_found, choice_later, choice_next, choice_passed, choice_end, each_first}
 use Rattle.browser_commands.proofs.blocks.first_choice.Goals as goal
 
 pub loop-question-init : goal.loop-question-init
@@ -44,3 +45,8 @@ loop-question-preserved c =
 
 pub returns : goal.returns
 returns c = choice_end c.args.policy c.args.working.now.stores (range_in c.args.field) c.loop-question.first _ c.in_default.ensures.steps.0 c.loop-question.invariant
+
+pub loop-question-preserved-then-is_read_only : goal.loop-question-preserved-then-is_read_only
+loop-question-preserved-then-is_read_only c =
+    let only = ap is_read_only (sym c.op.ensures.bytes) ∙ sym c.is_read_only.ensures ∙ c.if-is_read_only.true in
+    choice_passed c.args.policy c.args.working.now.stores (range_in c.args.field) c.loop-question.first c.in-Some.question _ _ (sym c.is_some.ensures ∙ c.if-is_some.true) only c.in-Some.ensures.steps c.loop-question.invariant

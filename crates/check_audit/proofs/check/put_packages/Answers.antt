@@ -13,13 +13,13 @@ loop-source-init g c =
 pub loop-source-preserved-then-is_good : goal.loop-source-preserved-then-is_good
 loop-source-preserved-then-is_good g c =
     let said = c.in_ok-is_next_good.ensures.told in
-    let more = goes_more (package_of c.in-Some.source) said.0 c.loop-source.invariant c.in-Some.ensures.steps (ap (λ (k : ℕ). k == FORMS) c.if-source-eq-FORMS.true) (rw c.requires.texts at said.1) (rw c.requires.strings at said.3) in
+    let more = goes_more (package_of c.in-Some.source) said.0 c.loop-source.invariant c.in-Some.ensures.steps (ap (λ (k : ℕ). k == FORMS) c.if-source-eq-FORMS.true) (rw (c.requires.strings, c.requires.lacks) at said.1) (rw (c.requires.strings, c.requires.lacks) at said.3) in
     goes_as _ _ _ _ _ _ _ (ap (λ (b : Bool). b && is_good said.0) c.if-is_good.true ∙ sym said.2) more
 
 pub loop-source-preserved-else-is_good : goal.loop-source-preserved-else-is_good
 loop-source-preserved-else-is_good g c =
     let said = c.in_ok-is_next_good.ensures.told in
-    let more = goes_more (package_of c.in-Some.source) said.0 c.loop-source.invariant c.in-Some.ensures.steps (ap (λ (k : ℕ). k == FORMS) c.if-source-eq-FORMS.true) (rw c.requires.texts at said.1) (rw c.requires.strings at said.3) in
+    let more = goes_more (package_of c.in-Some.source) said.0 c.loop-source.invariant c.in-Some.ensures.steps (ap (λ (k : ℕ). k == FORMS) c.if-source-eq-FORMS.true) (rw (c.requires.strings, c.requires.lacks) at said.1) (rw (c.requires.strings, c.requires.lacks) at said.3) in
     goes_as _ _ _ _ _ _ _ (ap (λ (b : Bool). b && is_good said.0) c.if-is_good.false ∙ sym c.if-is_good.false) more
 
 pub returns-clause-told : goal.returns-clause-told

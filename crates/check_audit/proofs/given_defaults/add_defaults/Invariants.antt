@@ -8,7 +8,7 @@ use Rattle.check_audit.proofs.given_defaults.add_defaults.Given as goal
 -- with those of the questions that are left all are added
 abbrev pub invariant-loop-question : goal.invariant-loop-question
 invariant-loop-question l =
-    l.warnings.items ++ flat_map (defaults_of l.fn.texts) (questions_left l.left) ≡ l.fn.warnings.items ++ default_warnings l.fn.texts (nodes_of l.fn.questions.ifr)
+    l.warnings.items ++ flat_map (defaults_of l.fn.strings) (questions_left l.left) ≡ l.fn.warnings.items ++ default_warnings l.fn.strings (nodes_of l.fn.questions.ifr)
 
 abbrev pub decreases-loop-question : goal.decreases-loop-question
 decreases-loop-question l = length (questions_left l.left)

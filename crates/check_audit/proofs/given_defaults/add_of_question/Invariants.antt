@@ -9,7 +9,7 @@ use Rattle.check_audit.proofs.given_defaults.add_of_question.Given as goal
 -- with those of the defaults that are left all are added
 abbrev pub invariant-loop-default : goal.invariant-loop-default
 invariant-loop-default l =
-    l.warnings.items ++ filter_map (default_at l.fn.texts (question_view l.fn.question)) (defaults_left l.defaults) ≡ l.fn.warnings.items ++ filter_map (default_at l.fn.texts (question_view l.fn.question)) (defaults (question_node l.fn.question))
+    l.warnings.items ++ filter_map (default_at l.fn.strings (question_view l.fn.question)) (defaults_left l.defaults) ≡ l.fn.warnings.items ++ filter_map (default_at l.fn.strings (question_view l.fn.question)) (defaults (question_node l.fn.question))
 
 abbrev pub decreases-loop-default : goal.decreases-loop-default
 decreases-loop-default l = length (defaults_left l.defaults)

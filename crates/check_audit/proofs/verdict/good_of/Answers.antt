@@ -28,7 +28,7 @@ returns-clause-sound c =
     subst (λ ifr. HasNone (IsFormSetFault ifr)) c.in_ok-forms.ensures.read (browsable_no_fault _ (record { accepted = c.in_ok-forms.ensures.accepted; stores = c.in_ok-layout.ensures.sound; questions = c.in_ok-questions.ensures.sound }))
 
 pub returns-clause-warned : goal.returns-clause-warned
-returns-clause-warned c = subst (λ (ifr : List ℕ). AreWarnings c.args.texts.now ifr c.in_ok-found.found.warnings.items) c.in_ok-forms.ensures.read c.in_ok-found.ensures.warned
+returns-clause-warned c = subst (λ (ifr : List ℕ). AreWarnings c.args.strings.now c.args.lacks.now ifr c.in_ok-found.found.warnings.items) c.in_ok-forms.ensures.read c.in_ok-found.ensures.warned
 
 pub returns-clause-settled : goal.returns-clause-settled
 returns-clause-settled c = c.in_ok-found.ensures.settled ∙ ap (λ (ifr : List ℕ). constants (nodes_of ifr)) c.in_ok-forms.ensures.read

@@ -13,7 +13,7 @@ pub returns-clause-warned : goal.returns-clause-warned
 returns-clause-warned c =
     let found = c.in_ok-add_overlaps.ensures in
     let defaults = rw c.requires at c.in_ok-add_defaults.ensures in
-    let all = all_added _ _ _ _ _ _ _ _ _ _ _ _ _ c.new-warnings.ensures.items c.in_ok-add_asks.ensures c.in_ok-add_bounds.ensures c.in_ok-settled.ensures.added defaults found.2 c.in_ok-add_unreached.ensures in
+    let all = all_added _ _ _ _ _ _ _ _ _ _ _ _ _ _ _ _ _ c.new-warnings.ensures.items c.in_ok-add_asks.ensures c.in_ok-add_bounds.ensures c.in_ok-settled.ensures.added defaults c.in_ok-add.ensures found.2 c.in_ok-add_textless.ensures c.in_ok-add_unreached.ensures in
     record {
       laid = found.0;
       fields = subst (λ (ifr : List ℕ). AreLaid (nodes_of ifr) found.0) c.requires found.1;

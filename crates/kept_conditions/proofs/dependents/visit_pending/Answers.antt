@@ -1,21 +1,23 @@
 use Rattle.std.proofs.Common.{◌+◌, ◌==◌, refl, subst, arith}
+use Rattle.guard_policy.specs.code.Views.{world}
+use Rattle.guard_policy.specs.code.Worlds.{is_met_at}
 use Rattle.kept_conditions.specs.code.Dependents.{VisitsSome}
 use Rattle.kept_conditions.specs.declared.dependents.Dependents.{Dependents}
 use Rattle.kept_conditions.proofs.VisitsSomeLemmas.{visits_none, visits_then, rule_uses_kept, taken_visits, taken_follows, dependents_follow, dependents_sound}
 use Rattle.kept_conditions.proofs.dependents.visit_pending.Goals as goal
 
 pub loop-rule-init : goal.loop-rule-init
-loop-rule-init g c = record { visits = visits_none (g.C.Conditions.holding c.args.now.now) c.args.dependents.now; follow = c.requires.follow; sound = λ these closed sound. sound }
+loop-rule-init c = record { visits = visits_none (is_met_at (world c.args.now.now.policy c.args.now.now.stores.now)) c.args.dependents.now; follow = c.requires.follow; sound = λ these closed sound. sound; kept = c.requires.kept }
 
 pub visit_dependents-count-requires-clause-room : goal.visit_dependents-count-requires-clause-room
-visit_dependents-count-requires-clause-room g c =
+visit_dependents-count-requires-clause-room c =
     let before = c.loop-rule.dependents in
     let taken : Dependents = record { list = before.list; round = before.round; pending = c.pop.new.self } in
-    (taken_visits (g.C.Conditions.holding c.args.now.now) before taken c.in-Some.rule refl refl c.in-Some.ensures.items c.in-Some.ensures.capacity).room (c.loop-rule.invariant.visits.room c.requires.room)
+    (taken_visits (is_met_at (world c.args.now.now.policy c.args.now.now.stores.now)) before taken c.in-Some.rule refl refl c.in-Some.ensures.items c.in-Some.ensures.capacity).room (c.loop-rule.invariant.visits.room c.requires.room)
 
 pub loop-rule-preserved : goal.loop-rule-preserved
-loop-rule-preserved g c =
-    let holding = g.C.Conditions.holding c.args.now.now in
+loop-rule-preserved c =
+    let holding = is_met_at (world c.args.now.now.policy c.args.now.now.stores.now) in
     let start = c.args.dependents.now in
     let before = c.loop-rule.dependents in
     let taken : Dependents = record { list = before.list; round = before.round; pending = c.pop.new.self } in
@@ -34,4 +36,5 @@ loop-rule-preserved g c =
       sound = λ these closed sound k less.
           dependents_sound holding before taken rule refl refl c.in-Some.ensures.items c.in-Some.ensures.capacity new rule_uses these its_uses.reaches (so_far.visits.room c.requires.room) closed
           (λ j inside. so_far.sound these closed sound j (omega (arith, inside, so_far.visits.size))) k (omega (arith, less, so_far.visits.size));
+      kept = its_uses.kept;
     }

@@ -6,7 +6,7 @@ use Rattle.kept_conditions.specs.code.Dependents.{Reaches}
 use Rattle.kept_conditions.specs.code.Index.{depends_on}
 use Rattle.kept_conditions.specs.declared.index.Dependency.{Dependency}
 use Rattle.kept_conditions.proofs.DifferenceLemmas.{differing}
-use Rattle.kept_conditions.proofs.RoundLemmas.{Begins, VisitsTouched, Ends, fresh_room, mid_ready, finished_count, finished_index, finished_values, told_by}
+use Rattle.kept_conditions.proofs.RoundLemmas.{Begins, VisitsTouched, Ends, fresh_room, mid_ready, finished_count, finished_index, finished_values, told_by, values_by, values_for}
 use Rattle.kept_conditions.proofs.invalidation.renew_between.Goals.{After-next_round, After-visit_differing-count, After-visit_pending}
 use Rattle.kept_conditions.proofs.invalidation.renew_between.Goals as goal
 
@@ -43,4 +43,13 @@ pub visit_differing-count-requires-clause-room : goal.visit_differing-count-requ
 visit_differing-count-requires-clause-room c = fresh_room (begun (goal.at.visit_differing-count-requires-clause-room c).After-next_round)
 
 pub visit_pending-requires : goal.visit_pending-requires
-visit_pending-requires c = let at = goal.at.visit_pending-requires c in mid_ready (begun at.After-next_round) (touching at.After-visit_differing-count) _ c.deref-2.ensures.value
+visit_pending-requires c =
+    let at = goal.at.visit_pending-requires c in
+    let ready = mid_ready (begun at.After-next_round) (touching at.After-visit_differing-count) _ c.deref-2.ensures.value in
+    record { sorted = ready.sorted; are_uses = ready.are_uses; room = ready.room; follow = ready.follow; kept = c.visit_differing-count.ensures.kept }
+
+pub visit_differing-count-requires-clause-kept : goal.visit_differing-count-requires-clause-kept
+visit_differing-count-requires-clause-kept c = values_by c.args.policy c.over-now.result.policy c.args.new.now c.over-now.result.stores.now c.over-now.ensures.policy c.over-now.ensures.stores c.args.rules.now c.requires.kept
+
+pub returns-clause-kept : goal.returns-clause-kept
+returns-clause-kept c = values_for c.args.policy c.over-now.result.policy c.args.new.now c.over-now.result.stores.now c.over-now.ensures.policy c.over-now.ensures.stores c.visit_pending.new.rules c.visit_pending.ensures.kept

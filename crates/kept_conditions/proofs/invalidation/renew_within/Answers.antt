@@ -2,7 +2,7 @@ use Rattle.guard_policy.specs.code.Views.{bytes_of, world}
 use Rattle.guard_policy.specs.code.Worlds.{is_met_at}
 use Rattle.kept_conditions.specs.Touching.{difference}
 use Rattle.kept_conditions.proofs.DifferenceLemmas.{differing}
-use Rattle.kept_conditions.proofs.RoundLemmas.{Begins, VisitsTouched, Ends, fresh_room, mid_ready, finished_count, finished_index, finished_values, told_by}
+use Rattle.kept_conditions.proofs.RoundLemmas.{Begins, VisitsTouched, Ends, fresh_room, mid_ready, finished_count, finished_index, finished_values, told_by, values_by, values_for}
 use Rattle.kept_conditions.proofs.invalidation.renew_within.Given.{Over}
 use Rattle.kept_conditions.proofs.invalidation.renew_within.Goals.{After-next_round, After-visit_ranges-count, After-visit_pending}
 use Rattle.kept_conditions.proofs.invalidation.renew_within.Goals as goal
@@ -34,4 +34,13 @@ pub visit_ranges-count-requires-clause-room : goal.visit_ranges-count-requires-c
 visit_ranges-count-requires-clause-room g c = fresh_room (begun g (goal.at.visit_ranges-count-requires-clause-room g c).After-next_round)
 
 pub visit_pending-requires : goal.visit_pending-requires
-visit_pending-requires g c = let at = goal.at.visit_pending-requires g c in mid_ready (begun g at.After-next_round) (touching g at.After-visit_ranges-count) _ c.deref.ensures.value
+visit_pending-requires g c =
+    let at = goal.at.visit_pending-requires g c in
+    let ready = mid_ready (begun g at.After-next_round) (touching g at.After-visit_ranges-count) _ c.deref.ensures.value in
+    record { sorted = ready.sorted; are_uses = ready.are_uses; room = ready.room; follow = ready.follow; kept = c.visit_ranges-count.ensures.kept }
+
+pub visit_ranges-count-requires-clause-kept : goal.visit_ranges-count-requires-clause-kept
+visit_ranges-count-requires-clause-kept g c = values_by c.args.policy c.over-now.result.policy c.args.new.now c.over-now.result.stores.now c.over-now.ensures.policy c.over-now.ensures.stores c.args.rules.now c.requires.kept
+
+pub returns-clause-kept : goal.returns-clause-kept
+returns-clause-kept g c = values_for c.args.policy c.over-now.result.policy c.args.new.now c.over-now.result.stores.now c.over-now.ensures.policy c.over-now.ensures.stores c.visit_pending.new.rules c.visit_pending.ensures.kept

@@ -4,23 +4,23 @@ use Rattle.kept_conditions.specs.code.Index.{at_place, no_dependency, is_depende
 use Rattle.kept_conditions.proofs.VisitsSomeLemmas.{any_more, none_visited, one_more, same_ones}
 use Rattle.kept_conditions.proofs.FilterLemmas.{one}
 use Rattle.kept_conditions.proofs.WithinLemmas.{its_dependency, other_dependency}
-use Rattle.kept_conditions.proofs.invalidation.visit_differing.Given.{Over}
 use Rattle.kept_conditions.proofs.invalidation.visit_differing.Goals.{After-are_in, then-visit, else-visit}
 use Rattle.kept_conditions.proofs.invalidation.visit_differing.Goals as goal
 
 pub loop-dependency-init : goal.loop-dependency-init
-loop-dependency-init g c = record {
+loop-dependency-init c = record {
   one = c.between-differences.ensures.one;
   other = c.between-differences.ensures.other;
   visited = none_visited _ _ c.args.dependents.now (λ k less. refl);
+  kept = c.requires.kept;
 }
 
 -- whether the dependency has a byte in which the stores differ
-asked : (g : Over) (c : After-are_in g) → let r = (at_place c.args.dependencies.now c.loop-dependency.dependency-index).range in c.are_in.result ≡ has_one (difference c.args.old.now c.args.new.now) r.store r.offset r.width
-asked g c = rw (c.loop-dependency.invariant.one, c.loop-dependency.invariant.other) at c.are_in.ensures.differ
+asked : (c : After-are_in) → let r = (at_place c.args.dependencies.now c.loop-dependency.dependency-index).range in c.are_in.result ≡ has_one (difference c.args.old.now c.args.new.now) r.store r.offset r.width
+asked c = rw (c.loop-dependency.invariant.one, c.loop-dependency.invariant.other) at c.are_in.ensures.differ
 
 pub loop-dependency-preserved-then-not-are_in : goal.loop-dependency-preserved-then-not-are_in
-loop-dependency-preserved-then-not-are_in g c =
+loop-dependency-preserved-then-not-are_in c =
     let rs = c.args.dependencies.now in
     let i = c.loop-dependency.dependency-index in
     let bytes = difference c.args.old.now c.args.new.now in
@@ -30,11 +30,12 @@ loop-dependency-preserved-then-not-are_in g c =
       visited = same_ones c.loop-dependency.invariant.visited (λ k less.
           any_more (is_dependency bytes k) rs i no_dependency c.loop-dependency-test.true
           ∙ ap (λ (b : Bool). b || depends_on bytes (take i rs) k)
-          (other_dependency bytes (at_place rs i) k (sym (asked g (goal.at.loop-dependency-preserved-then-not-are_in g c).After-are_in) ∙ c.if-not-are_in.true)));
+          (other_dependency bytes (at_place rs i) k (sym (asked (goal.at.loop-dependency-preserved-then-not-are_in c).After-are_in) ∙ c.if-not-are_in.true)));
+      kept = c.loop-dependency.invariant.kept;
     }
 
 pub loop-dependency-preserved : goal.loop-dependency-preserved
-loop-dependency-preserved g c =
+loop-dependency-preserved c =
     let rs = c.args.dependencies.now in
     let i = c.loop-dependency.dependency-index in
     let bytes = difference c.args.old.now c.args.new.now in
@@ -42,8 +43,9 @@ loop-dependency-preserved g c =
     record {
       one = c.are_in.ensures.one ∙ c.loop-dependency.invariant.one;
       other = c.are_in.ensures.other ∙ c.loop-dependency.invariant.other;
-      visited = one_more c.loop-dependency.invariant.visited (c.requires.numbers i no_dependency c.loop-dependency-test.true) c.visit.ensures sum (λ k less.
+      visited = one_more c.loop-dependency.invariant.visited (c.requires.numbers i no_dependency c.loop-dependency-test.true) c.visit.ensures.visits sum (λ k less.
           any_more (is_dependency bytes k) rs i no_dependency c.loop-dependency-test.true
           ∙ ap (λ (b : Bool). b || depends_on bytes (take i rs) k)
-          (its_dependency bytes (at_place rs i) k (sym (asked g (goal.at.loop-dependency-preserved g c).After-are_in) ∙ c.if-not-are_in.false)));
+          (its_dependency bytes (at_place rs i) k (sym (asked (goal.at.loop-dependency-preserved c).After-are_in) ∙ c.if-not-are_in.false)));
+      kept = c.visit.ensures.kept;
     }

@@ -1,40 +1,45 @@
 use Rattle.std.proofs.Common.{◌≡◌, ◌≤◌, ◌+◌, ◌||◌, ℕ, Bool, length, drop, sym, ap, ◌∙◌, arith}
+use Rattle.guard_policy.specs.code.RuleValues.{AreRuleValues}
+use Rattle.guard_policy.specs.code.Views.{bytes_of, world}
+use Rattle.guard_policy.specs.code.Worlds.{is_met_at}
 use Rattle.kept_conditions.specs.code.Dependents.{was_visited}
 use Rattle.kept_conditions.specs.code.Index.{no_dependency, hits}
 use Rattle.kept_conditions.proofs.VisitsSomeLemmas.{AreVisited, none_visited, one_more}
 use Rattle.kept_conditions.proofs.OverlapLemmas.{hits_skip, hits_visited, none_behind}
 use Rattle.kept_conditions.proofs.FilterLemmas.{one}
-use Rattle.kept_conditions.proofs.invalidation.visit_overlapping.Given.{Over}
 use Rattle.kept_conditions.proofs.invalidation.visit_overlapping.Goals.{After-visit}
 use Rattle.kept_conditions.proofs.invalidation.visit_overlapping.Goals as goal
 
 pub loop-at-init : goal.loop-at-init
-loop-at-init g c = record {
+loop-at-init c = record {
   within = c.beginning_before-before.ensures.bound;
   visited = none_visited _ _ c.args.dependents.now (λ k less. none_behind c.args.from c.args.end c.args.dependencies.now c.beginning_before-before.result k c.beginning_before-before.ensures.bound c.beginning_before-before.ensures.behind);
+  kept = c.requires.kept;
 }
 
 -- one dependent more is visited
-visited : (g : Over) (c : After-visit g) (total : ℕ) → total ≡ c.loop-at.count + one c.visit.result → record {
+visited : (c : After-visit) (total : ℕ) → total ≡ c.loop-at.count + one c.visit.result → record {
   within : c.in-Some.at ≤ length c.args.dependencies.now;
-  visited : AreVisited (g.C.Conditions.holding c.args.now.now) (hits c.args.from c.args.end (drop c.in-Some.at c.args.dependencies.now)) c.args.dependents.now c.visit.new.self total;
+  visited : AreVisited (is_met_at (world c.args.now.now.policy c.args.now.now.stores.now)) (hits c.args.from c.args.end (drop c.in-Some.at c.args.dependencies.now)) c.args.dependents.now c.visit.new.self total;
+  kept : AreRuleValues (bytes_of c.args.now.now.policy) c.args.now.now.stores.now c.visit.new.rules;
 }
-visited g c total sum =
+visited c total sum =
     let so_far = c.loop-at.invariant in
     let last = c.in-Some.ensures in
     record {
       within = omega (arith, last.0, so_far.within);
-      visited = one_more so_far.visited (c.requires.numbers c.in-Some.at no_dependency (omega (arith, last.0, so_far.within))) c.visit.ensures sum
+      visited = one_more so_far.visited (c.requires.numbers c.in-Some.at no_dependency (omega (arith, last.0, so_far.within))) c.visit.ensures.visits sum
           (λ k less. hits_visited c.args.from c.args.end c.args.dependencies.now c.in-Some.at c.loop-at.before k last.0 so_far.within last.1 last.2);
+      kept = c.visit.ensures.kept;
     }
 
 pub loop-at-preserved-then-visit : goal.loop-at-preserved-then-visit
-loop-at-preserved-then-visit g c = visited g (goal.at.loop-at-preserved-then-visit g c).After-visit (c.loop-at.count + 1) (omega (arith, ap one c.if-visit.true))
+loop-at-preserved-then-visit c = visited (goal.at.loop-at-preserved-then-visit c).After-visit (c.loop-at.count + 1) (omega (arith, ap one c.if-visit.true))
 
 pub loop-at-preserved : goal.loop-at-preserved
-loop-at-preserved g c = visited g (goal.at.loop-at-preserved g c).After-visit c.loop-at.count (omega (arith, ap one c.if-visit.false))
+loop-at-preserved c = visited (goal.at.loop-at-preserved c).After-visit c.loop-at.count (omega (arith, ap one c.if-visit.false))
 
 pub returns-clause-reaches : goal.returns-clause-reaches
-returns-clause-reaches g c = λ k less.
+returns-clause-reaches c = λ k less.
     c.loop-at.invariant.visited.reaches k less
     ∙ ap (λ (b : Bool). b || was_visited c.args.dependents.now k) (sym (hits_skip c.args.from c.args.end c.args.dependencies.now 0 c.loop-at.before k (omega arith) c.loop-at.invariant.within c.in_default.ensures))

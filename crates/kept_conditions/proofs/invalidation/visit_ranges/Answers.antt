@@ -4,6 +4,8 @@ use Rattle.hii_varstore.specs.Layout.{Shape}
 use Rattle.hii_varstore.specs.Stores.{bytes_of_field, shape_of, with_bytes}
 use Rattle.hii_varstore.specs.code.Ranges.{HasRange}
 use Rattle.hii_questions.specs.declared.field_range.FieldRange.{FieldRange}
+use Rattle.guard_policy.specs.code.Views.{world}
+use Rattle.guard_policy.specs.code.Worlds.{is_met_at}
 use Rattle.kept_conditions.specs.Touching.{difference}
 use Rattle.kept_conditions.specs.code.Invalidation.{common, HaveRanges, AreAlikeOutside, in_range}
 use Rattle.kept_conditions.specs.code.Dependents.{Reaches, was_visited}
@@ -23,7 +25,7 @@ joined false left visited = refl
 pub loop-range-preserved : goal.loop-range-preserved
 loop-range-preserved g c =
     let so_far = c.loop-range.invariant in
-    let holding = g.C.Conditions.holding c.args.now.now in
+    let holding = is_met_at (world c.args.now.now.policy c.args.now.now.stores.now) in
     let start = c.args.dependents.now in
     let visited = c.loop-range.dependents in
     let new = c.visit_range-count.new.dependents in
@@ -50,6 +52,7 @@ loop-range-preserved g c =
       shape = c.copy_range.ensures.shape ∙ so_far.shape;
       inside = ranges.1;
       alike = alike_still old from c.copy_range.new.self r shape range copied rest alike;
+      kept = c.visit_range-count.ensures.kept;
     }
 
 pub returns-clause-reaches : goal.returns-clause-reaches

@@ -1,4 +1,3 @@
-use Rattle.std.proofs.Common.{arith}
 use Rattle.opcode_audit.proofs.NumberLemmas.{two_bytes}
 use Rattle.opcode_audit.proofs.facts.count_at.Goals as goal
 

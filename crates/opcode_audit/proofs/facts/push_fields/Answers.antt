@@ -1,4 +1,4 @@
-use Rattle.std.proofs.Common.{◌≡◌, ◌+◌, ◌++◌, ◌∷◌, List, [], Option, None, drop, get_or, length, map, ap, append_assoc, arith, sym, ◌∙◌}
+use Rattle.std.proofs.Common.{◌+◌, ◌++◌, ◌∷◌, List, [], Option, None, drop, get_or, map, ap, append_assoc, arith, sym, ◌∙◌}
 use Rattle.std.proofs.lemmas.List.{at_drop_more}
 use Rattle.opcode_audit.specs.Facts.{Fact, facts_in}
 use Rattle.opcode_audit.specs.code.Columns.{fact_of, listed, size_of}

@@ -1,8 +1,6 @@
-use Rattle.std.proofs.Common.{◌+◌, ℕ, arith, drop, subst}
-use Rattle.hii_bytes.specs.Watching.{Writes}
+use Rattle.std.proofs.Common.{arith}
 use Rattle.std.proofs.lemmas.List.{take_rest}
-use Rattle.opcode_audit.specs.Lines.{Setting, lines}
-use Rattle.opcode_audit.specs.Walk.{opcodes_in}
+use Rattle.opcode_audit.specs.Lines.{Setting}
 use Rattle.opcode_audit.proofs.LineLemmas.{begun_within, depth_less, opcode_size, scope_more, walk_begun, walk_end, walk_more}
 use Rattle.opcode_audit.proofs.walk.put_opcodes.Goals as goal
 

@@ -14,6 +14,6 @@ abbrev pub invariant-loop-store : goal.invariant-loop-store
 invariant-loop-store g l = record {
   can : (goal.iterator-loop-store g).can_next l.stores;
   ends : (goal.iterator-loop-store g).is_finite l.stores;
-  sources : AllByRecursion (λ f. IsSource (g.F.StoreFiles.known l.files) l.options (exported_view l.config) (filling_node f) f.source) l.fillings.items;
+  sources : AllByRecursion (λ f. IsSource (g.F.StoreFiles.known l.files) l.sources (exported_view l.config) (filling_node f) f.source) l.fillings.items;
   found : map filling_node l.fillings.items ++ filter has_bytes (stores_left l.stores) ≡ buffer_stores (nodes_of l.declared);
 }

@@ -39,7 +39,7 @@ module _ (c : In_ok-dependents) where
   }
 
   made : IsIndex bytes c.in_ok-dependents.dependents c.in_ok-index.index
-  made = is_index bytes accepted holding c.in_ok-collected.collected c.in_ok-collected.ensures c.in_ok-dependents.dependents c.in_ok-index.index over
+  made = is_index bytes accepted holding c.in_ok-collected.collected c.in_ok-collected.ensures.collected c.in_ok-dependents.dependents c.in_ok-index.index over
 
   tells : TellsOver holding (nodes_of bytes) c.args.stores.now
   tells = told_kept holding (nodes_of bytes) c.args.policy.removed.now c.args.stores.now (evaluated_told bytes c.args.policy.removed.now c.args.stores.now accepted)
@@ -67,4 +67,4 @@ returns-clause-kept c =
     let at = (goal.at.returns-clause-kept c).In_ok-dependents in
     ap (λ (b : List ℕ). record { ifr = b; values = values_of c.in_ok-dependents.dependents }) (same_bytes c)
     ∙ ap (λ (values : List Told). record { ifr = bytes at; values = values })
-    (values_read (bytes at) (accepted at) (holding at) c.in_ok-collected.collected c.in_ok-collected.ensures c.in_ok-dependents.dependents c.in_ok-index.index (over at) c.args.stores.now (tells at))
+    (values_read (bytes at) (accepted at) (holding at) c.in_ok-collected.collected c.in_ok-collected.ensures.collected c.in_ok-dependents.dependents c.in_ok-index.index (over at) c.args.stores.now (tells at))

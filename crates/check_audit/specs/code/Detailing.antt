@@ -1,0 +1,8 @@
+-- What warnings tell by a number.
+use Rattle.std.specs.Prelude.{map}
+use Rattle.check_audit.specs.WarningLines as spec
+use Rattle.check_audit.specs.code.Settling.{settled_of}
+use Rattle.check_audit.specs.declared.warning_lines.Details.{Details}
+
+abbrev pub details_of : Details → spec.Details
+details_of d = record { settled = map settled_of d.settled.now; lacks = d.lacks.now }

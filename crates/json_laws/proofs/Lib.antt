@@ -1,0 +1,10 @@
+pub mod WordLemmas
+pub mod ConditionLemmas
+pub mod ShownLemmas
+pub mod TextLemmas
+pub mod NumberLemmas
+pub mod ValueLemmas
+pub mod SpellingLemmas
+pub mod ObjectLemmas
+pub mod TellingLemmas
+pub mod WorkedCases

@@ -1,0 +1,14 @@
+use Rattle.object_laws.proofs.CheckLemmas.{byte_back, head_back, mostly_back, opcode_at_back}
+use Rattle.object_laws.proofs.check.objects_of_check_are_read_back.Goals as goal
+
+pub returns-clause-head : goal.returns-clause-head
+returns-clause-head c = head_back
+
+pub returns-clause-byte : goal.returns-clause-byte
+returns-clause-byte c = byte_back
+
+pub returns-clause-opcode : goal.returns-clause-opcode
+returns-clause-opcode c = opcode_at_back
+
+pub returns-clause-mostly : goal.returns-clause-mostly
+returns-clause-mostly c = mostly_back

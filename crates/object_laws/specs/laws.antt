@@ -1,0 +1,3 @@
+-- What fits into objects.
+pub mod Stores
+pub mod Survey

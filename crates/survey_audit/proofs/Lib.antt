@@ -1,0 +1,3 @@
+mod TallyLemmas
+mod FoundLemmas
+mod SurveyCases

@@ -1,0 +1,24 @@
+use Rattle.std.specs.Prelude.{◌≡◌, filter}
+use Rattle.std.specs.List.{flat_map}
+use Rattle.hii_bytes.specs.Watching.{pen_of}
+use Rattle.hii_bytes.specs.code.Writing.{Stands}
+use Rattle.ifr_nodes.specs.Nodes.{is_form, nodes_of}
+use Rattle.ifr_nodes.specs.code.Checked.{AreNodesOf}
+use Rattle.ifr_scopes.specs.code.Lists.{forms_left}
+use Rattle.guard_policy.specs.code.Views.{bytes_of}
+use Rattle.form_audit.specs.code.Pages.{audited}
+use Rattle.survey_audit.specs.Opened.{form_found_told}
+use Rattle.survey_audit.specs.code.Headings.{heading_of}
+use Rattle.survey_audit.proofs.found.put_found.Given as goal
+
+-- the forms before those that are left were written
+abbrev pub invariant-loop-form : goal.invariant-loop-form
+invariant-loop-form g l =
+    let told = form_found_told (heading_of l.fn.heading) (audited l.fn.page) l.fn.letters in
+    record {
+      can : (goal.iterator-loop-form g).can_next l.forms;
+      ends : (goal.iterator-loop-form g).is_finite l.forms;
+      nodes : AreNodesOf (bytes_of l.fn.page.policy) (forms_left l.forms);
+      same : l.spare ≡ l.fn.page.stores.now;
+      text : Stands (pen_of g.W.Write.contents l.fn.out) (pen_of g.W.Write.contents l.out) (flat_map told (filter is_form (nodes_of (bytes_of l.fn.page.policy)))) (flat_map told (forms_left l.forms));
+    }

@@ -1,0 +1,3 @@
+-- How structs of the code are seen. No definition outside of this folder cites one of it.
+pub mod Headings
+pub mod Room

@@ -1,0 +1,4 @@
+mod PackageLemmas
+mod ListLemmas
+mod SetLemmas
+mod ConfigLemmas

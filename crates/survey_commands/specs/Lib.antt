@@ -1,0 +1,3 @@
+pub mod Surveying
+pub mod Survey
+pub mod code

@@ -1,0 +1,14 @@
+pub mod CountLemmas
+pub mod RisingLemmas
+pub mod SearchLemmas
+pub mod AskingLemmas
+pub mod IdLemmas
+pub mod OfferedLemmas
+pub mod MoveLemmas
+pub mod RunLemmas
+pub mod SoundLemmas
+pub mod NeverLemmas
+pub mod WorkedCases
+pub mod AnswerLemmas
+pub mod FieldLemmas
+pub mod ToldLemmas

@@ -1,0 +1,18 @@
+use Rattle.std.proofs.Common.{refl, ap, ◌∙◌}
+use Rattle.hii_questions.specs.code.Views.{question_node}
+use Rattle.guard_policy.specs.Policy.{fixed}
+use Rattle.guard_policy.specs.code.Answers.{unless}
+use Rattle.guard_policy.specs.code.Views.{world}
+use Rattle.guard_policy.specs.declared.policy.Policy.{Policy}
+use Rattle.guard_policy.specs.declared.support.Decision.TheVariants.{Changeable}
+use Rattle.form_audit.proofs.KeptLemmas.{kept_told}
+use Rattle.unlock_audit.proofs.reasons.verdict_of.Goals as goal
+
+pub returns : goal.returns
+returns g c =
+    let page = c.args.page in
+    let stores = page.stores.now in
+    let n = question_node c.args.question in
+    let statement = c.args.question.statement in
+    let tells = kept_told page.policy c.policy.result stores (g.C.Conditions.holding c.conditions.result.now) (Changeable statement) c.policy.ensures c.conditions.ensures c.requires.node refl in
+    c.question_changeable_by.ensures statement refl stores tells ∙ ap (λ (p : Policy). unless (fixed (world p stores) n)) c.policy.ensures

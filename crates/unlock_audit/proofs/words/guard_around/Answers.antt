@@ -1,0 +1,14 @@
+use Rattle.std.proofs.Common.{List, sym, ap}
+use Rattle.std.specs.Prelude.{◌==◌}
+use Rattle.std.specs.List.{find}
+use Rattle.ifr_opcodes.specs.Forest.{Node}
+use Rattle.hii_questions.specs.code.Views.{question_node}
+use Rattle.guard_policy.proofs.IndexedLemmas.{of_statement}
+use Rattle.form_audit.proofs.AroundLemmas.{guards_found}
+use Rattle.unlock_audit.proofs.words.guard_around.Goals as goal
+
+pub loop-guard-init : goal.loop-guard-init
+loop-guard-init c =
+    let n = question_node c.args.question in
+    ap (λ (gs : List Node). find (λ g. g.place == c.args.place) gs)
+    (guards_found c.args.policy n _ c.place.result _ c.requires (of_statement n c.args.question.statement.statement) (sym c.place.ensures) c.forms.ensures c.guards_at-guards.ensures.guards)

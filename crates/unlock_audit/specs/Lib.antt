@@ -1,0 +1,9 @@
+pub mod Rising
+pub mod Asking
+pub mod Constants
+pub mod Moves
+pub mod Tries
+pub mod Unlock
+pub mod Told
+pub mod code
+pub mod laws
