@@ -1,12 +1,13 @@
 //! The blocks of a configuration text, and the questions that they set.
 
-ghost use Rattle.std.specs.Prelude.{◌≡◌, ◌<◌, ◌^◌, Some, length, take};
+ghost use Rattle.std.specs.Prelude.{◌≡◌, ◌<◌, ◌^◌, Some, Ok, length, take};
 ghost use Rattle.config_text.specs.code.BlocksLeft.{blocks_left};
 ghost use Rattle.config_text.specs.code.Views.{block_view};
 ghost use Rattle.hii_questions.specs.code.Ranges.{range_in};
 ghost use Rattle.hii_varstore.specs.code.Ranges.{HasRange};
 ghost use Rattle.hii_varstore.specs.Stores.{bytes_of_field, shape_of};
 ghost use Rattle.guard_policy.specs.code.Views.{bytes_of};
+ghost use Rattle.session_steps.specs.Configuration.{block_field};
 ghost use Rattle.browser_commands.specs.code.Changing.{Chooses, CopiesBlocks, FirstChoice, HaveRanges, IsBrowsed, SetsBlock, SetsBlocks, range_of_block};
 
 use crate::change::set_value;
@@ -17,6 +18,9 @@ use hii_questions::{DenialKind, FieldRange, Input, Question, Questions, WIDEST_F
 use hii_varstore::Stores;
 use ifr_scopes::Around;
 use kept_conditions::{KeptStores, Ranges};
+
+// The most bytes that a number has. Room for them is made in no time, where that for the widest field takes some.
+const WIDEST_NUMBER: usize = 8;
 
 /// Sets the question of each block of a store, one after the other, and tells how many blocks there are; or tells why one is
 /// denied, and none is set. The spare stores hold what the working ones do, before and afterwards: they follow in the fields of the
@@ -123,12 +127,38 @@ fn set_block<'a>(
 {
     let range = field_of(store, block);
     let (question, around) = question_with(policy, questions, range, working)?;
-    let mut new = [0; WIDEST_FIELD];
-    let new = &mut new[..range.width];
+    if range.width <= WIDEST_NUMBER {
+        let (mut new, mut old) = ([0; WIDEST_NUMBER], [0; WIDEST_NUMBER]);
+        let (new, old) = (&mut new[..range.width], &mut old[..range.width]);
+        return set_bytes(policy, store, question, around, block, working, new, old);
+    }
+    let (mut new, mut old) = ([0; WIDEST_FIELD], [0; WIDEST_FIELD]);
+    let (new, old) = (&mut new[..range.width], &mut old[..range.width]);
+    set_bytes(policy, store, question, around, block, working, new, old)
+}
+
+// Sets the question of a block, which is chosen, or tells why it is denied. There is room for the new bytes of its field, and for
+// the old ones.
+fn set_bytes<'a, 's>(
+    policy: Policy<'a, 's>,
+    store: u16,
+    question: Question<'a>,
+    around: Around<'s, 'a>,
+    block: Block<'_>,
+    working: &mut KeptStores<'a>,
+    new: &mut [u8],
+    old: &mut [u8],
+) -> Result<(), Denial>
+    requires browsed { IsBrowsed policy working.old }
+    requires chosen { Chooses policy working.old.stores (block_field store (block_view block))
+        (Ok (question, around)) }
+    requires new { length new.old ≡ block.width }
+    requires old { length old.old ≡ block.width }
+    ensures { SetsBlock policy.entry store (block_view block.entry) working.old working.new result }
+{
+    let range = field_of(store, block);
     block.value_into(new);
     are_bytes(new);
-    let mut old = [0; WIDEST_FIELD];
-    let old = &mut old[..range.width];
     keep_field(working.stores(), range, old);
     set_value(policy, question, around, Input::Field(new), working, old)?;
     Ok(())

@@ -47,6 +47,7 @@ pub(crate) fn give_value<'a, 'i>(
 
 /// Gives a question that is not fixed, around which this stands, a value, or tells why it may not have it. `old` are the bytes of
 /// its field, if it has one. The working stores then hold what they held, or new bytes in this field.
+#[inline(always)]
 pub(crate) fn set_value<'a, 's, 'i>(
     policy: Policy<'a, 's>,
     question: Question<'a>,

@@ -94,6 +94,7 @@ impl<'p, 'a, 's> Conditions for Evaluated<'p, 'a, 's> {
 impl<'p, 'a, 's> Evaluated<'p, 'a, 's> {
     /// Whether the condition of the opcode at a place holds, by values of rules over the same stores. Those that it asks for are
     /// kept there.
+    #[inline(always)]
     pub fn holds_by(&self, place: u32, rules: &mut RuleValues) -> bool
         requires { AreRuleValues (bytes_of self.now.policy) self.now.stores.now rules.old }
         ensures holds { result ≡ is_met_at (world self.now.policy self.now.stores.now) place }
@@ -172,6 +173,7 @@ pub(crate) fn condition_holds<'a>(
 }
 
 /// The same, by values of rules over these stores. Those that it asks for are kept there.
+#[inline(always)]
 pub(crate) fn condition_holds_by<'a>(
     condition: AnyCondition<'a>,
     forms: &Forms<'a>,

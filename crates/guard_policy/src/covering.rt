@@ -1,6 +1,6 @@
 //! What guards and LOCKED do to what they stand around.
 
-ghost use Rattle.std.specs.Prelude.{◌≡◌, true, IfSome, option_map};
+ghost use Rattle.std.specs.Prelude.{◌≡◌, true, None, IfSome, option_map};
 ghost use Rattle.std.specs.List.{find, list_any};
 ghost use Rattle.ifr_opcodes.specs.Forest.{Node};
 ghost use Rattle.ifr_nodes.specs.Guards.{guards};
@@ -106,7 +106,26 @@ impl<'a, 's> Policy<'a, 's> {
         }
     }
 
+    // Whether none of the guards around something denies anything, as is mostly so.
+    #[inline(always)]
+    fn deny_nothing<V: Verdicts<'a>>(&self, around: Around<'_, 'a>, verdicts: &V) -> bool
+        ensures hides { result ≡ true → spec.hidden_among
+            (world_by self.now (V.met verdicts.now)) (around_guards around.entry) ≡ None }
+        ensures grays_out { result ≡ true → option_map (spec.denied_by GrayOutIf)
+            (find (spec.grays_out (world_by self.now (V.met verdicts.now)))
+            (around_guards around.entry)) ≡ None }
+    {
+        let mut guards = around.guards();
+        while let Some(guard) = guards.next() {
+            if self.hides(guard, verdicts) || self.grays_out(guard, verdicts) {
+                return false;
+            }
+        }
+        true
+    }
+
     /// What of that around which this stands may not be changed.
+    #[inline(always)]
     pub(crate) fn unless_covered<V: Verdicts<'a>>(
         &self,
         around: Around<'_, 'a>,
@@ -116,6 +135,9 @@ impl<'a, 's> Policy<'a, 's> {
             (spec.covered_by (world_by self.now (V.met verdicts.now))
             (around_guards around.entry) (around_lock around.entry)) }
     {
+        if self.deny_nothing(around, verdicts) {
+            return unless_grayed_out(None, around.lock());
+        }
         let effects = self.effects(around, verdicts);
         unless_denied(effects, around.lock())
     }

@@ -27,6 +27,7 @@ use hii_varstore::Stores;
 use ifr_scopes::{Form, OptionView, Statement, StatementKind};
 
 // Whether a question lacks what it needs to be changed: a reference a form to which it leads, another a field.
+#[inline(always)]
 fn is_outside(question: Question<'_>) -> bool
     ensures { result ≡ spec.is_never_changed (question_view question.entry) }
 {

@@ -51,7 +51,7 @@ impl Effects {
 impl<'a, 's> Policy<'a, 's> {
     // Whether a guard hides.
     #[inline(always)]
-    fn hides<V: Verdicts<'a>>(&self, guard: Guard<'a>, verdicts: &V) -> bool
+    pub(crate) fn hides<V: Verdicts<'a>>(&self, guard: Guard<'a>, verdicts: &V) -> bool
         ensures { result ≡ spec.hides (world_by self.now (V.met verdicts.now))
             (guard_node guard.entry) }
     {
@@ -64,7 +64,7 @@ impl<'a, 's> Policy<'a, 's> {
 
     // Whether a guard grays out.
     #[inline(always)]
-    fn grays_out<V: Verdicts<'a>>(&self, guard: Guard<'a>, verdicts: &V) -> bool
+    pub(crate) fn grays_out<V: Verdicts<'a>>(&self, guard: Guard<'a>, verdicts: &V) -> bool
         ensures { result ≡ spec.grays_out (world_by self.now (V.met verdicts.now))
             (guard_node guard.entry) }
     {

@@ -197,6 +197,7 @@ impl<'a, 's> Policy<'a, 's> {
 
     /// The WARNING_IFs of a question of the package, by place.
     #[tactic(auto, using(ifr_opcodes::proofs::StatementLemmas::warning_is))]
+    #[inline(always)]
     pub fn warning_conditions(&self, question: Question<'a>) -> ConditionsOf<'s, 'a>
         requires { IsNodeOf self.now.forms.now (question_node question) }
         ensures { conditions_of_left result ≡ warnings (question_node question.entry) }

@@ -1,26 +1,30 @@
 //! The string packages of a list.
 
-ghost use Rattle.std.specs.Prelude.{◌≡◌, ◌==◌, if◌then◌else◌, [], length, Some, None, IfOk, IfErr, option_map, position};
-ghost use Rattle.std.specs.Str.{str_eq_ignore_ascii_case};
+ghost use Rattle.std.specs.Prelude.{◌≡◌, ◌==◌, if◌then◌else◌, ℕ, List, [], length, Some, None, IfOk, IfErr, option_map};
 ghost use Rattle.browser_rules.specs.Faults.{string_faults};
 ghost use Rattle.browser_rules.specs.Strings.{spoken_in, primary, chosen, shown};
 ghost use Rattle.browser_rules.specs.Strings as chapter;
 ghost use Rattle.hii_bytes.specs.Faults.{RefusesAmong, out_of_memory};
 ghost use Rattle.sibt_strings.specs.code.Views.{units_in};
+ghost use Rattle.hii_languages.specs.code.Names.{number_of, with_language, with_subtag};
 ghost use Rattle.hii_languages.specs.code.Views.{choice_of, text_of, Tells};
 
 use crate::choice::Choice;
+use crate::names::{Name, Names};
 use crate::shown::Shown;
 use hii_bytes::{Fault, first_place};
 use hii_packages::{PackageList, STRINGS};
 use sibt_strings::{StringTable, Units};
-use std::alloc::Global;
+use std::alloc::{AllocError, Global};
 use std::marker::Model;
 
 /// The string packages of a list, seen as what each says, in order.
 #[derive(Drop)]
 pub struct Languages<'a> {
     tables: Vec<StringTable<'a>>,
+    // The numbers of the string packages by their languages, and by their primary subtags.
+    by_language: Names<'a>,
+    by_subtag: Names<'a>,
 }
 
 impl<'a> Model for Languages<'a> {
@@ -29,7 +33,11 @@ impl<'a> Model for Languages<'a> {
 
     ghost Value = { List Spoken };
 
+    ghost use Rattle.hii_languages.specs.code.Names.{AreNamed};
+
     ghost view = { λ s. s.tables.items };
+
+    ghost invariant = { λ s. AreNamed s.tables.items s.by_language s.by_subtag };
 }
 
 // The part of a language before its first hyphen, or all of it.
@@ -42,11 +50,32 @@ fn primary_subtag_of(language: &[u8]) -> &[u8]
     }
 }
 
-// Whether two languages are equal, ignoring ASCII case.
-fn is_same(language: &[u8], other: &[u8]) -> bool
-    ensures { result ≡ str_eq_ignore_ascii_case language.now other.now }
+// The languages of string packages, each with its number.
+fn languages_of<'a>(alloc: Global, tables: &[StringTable<'a>]) -> Result<Vec<Name<'a>>, AllocError>
+    ensures { IfOk result (λ names. (text : List ℕ)
+        → number_of names.items text ≡ with_language tables.now text) }
 {
-    language.eq_ignore_ascii_case(other)
+    let mut names = Vec::with_capacity(alloc, tables.len())?;
+    for table in tables {
+        let number = names.len();
+        let text = table.language();
+        names.push(Name { text, number })?;
+    }
+    Ok(names)
+}
+
+// The primary subtags of string packages, each with its number.
+fn subtags_of<'a>(alloc: Global, tables: &[StringTable<'a>]) -> Result<Vec<Name<'a>>, AllocError>
+    ensures { IfOk result (λ names. (text : List ℕ)
+        → number_of names.items text ≡ with_subtag tables.now text) }
+{
+    let mut names = Vec::with_capacity(alloc, tables.len())?;
+    for table in tables {
+        let number = names.len();
+        let text = primary_subtag_of(table.language());
+        names.push(Name { text, number })?;
+    }
+    Ok(names)
 }
 
 impl<'a> Languages<'a> {
@@ -67,7 +96,20 @@ impl<'a> Languages<'a> {
                 tables.push(table)?;
             }
         }
-        Ok(Languages { tables })
+        Ok(Languages::over(alloc, tables)?)
+    }
+
+    // String packages that were read.
+    fn over(alloc: Global, tables: Vec<StringTable<'a>>) -> Result<Languages<'a>, AllocError>
+        ensures { IfOk result (λ spoken. spoken ≡ tables.entry.items) }
+    {
+        let by_language = Names::of(languages_of(alloc, &tables)?)?;
+        let by_subtag = Names::of(subtags_of(alloc, &tables)?)?;
+        Ok(Languages {
+            tables,
+            by_language,
+            by_subtag,
+        })
     }
 
     /// The string package that is chosen for a language: the first whose language is equal, ignoring ASCII case; else the
@@ -86,30 +128,13 @@ impl<'a> Languages<'a> {
     fn number_for(&self, language: &[u8]) -> Option<usize>
         ensures { result ≡ chosen self.now language.now }
     {
-        match self.with_language(language) {
+        match self.by_language.find(language) {
             Some(number) => Some(number),
-            None => self.with_primary_subtag(language).or(self.first()),
+            None => self
+                .by_subtag
+                .find(primary_subtag_of(language))
+                .or(self.first()),
         }
-    }
-
-    // The first string package of a language.
-    fn with_language(&self, language: &[u8]) -> Option<usize>
-        ensures { result
-            ≡ position (λ s. str_eq_ignore_ascii_case s.language language.now) self.now }
-    {
-        self.tables
-            .iter()
-            .position(|table| is_same(table.language(), language))
-    }
-
-    // The first string package of a language with the same primary subtag.
-    fn with_primary_subtag(&self, language: &[u8]) -> Option<usize>
-        ensures { result
-            ≡ position (λ s. str_eq_ignore_ascii_case (primary s.language)
-            (primary language.now)) self.now }
-    {
-        let primary = primary_subtag_of(language);
-        self.tables.iter().position(|table| is_same(primary_subtag_of(table.language()), primary))
     }
 
     // The first string package.

@@ -5,6 +5,7 @@
 mod choice;
 mod languages;
 pub mod laws;
+mod names;
 mod shown;
 
 pub use choice::Choice;

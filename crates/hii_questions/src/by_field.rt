@@ -1,7 +1,8 @@
 //! The questions of a form set by their fields.
 
-ghost use Rattle.std.specs.Prelude.{◌≡◌, IfOk, filter};
-ghost use Rattle.hii_questions.specs.code.ByField.{AreByField, FieldsRise, has_range};
+ghost use Rattle.std.specs.Prelude.{◌≡◌, ◌≤◌, true, false, IfOk, filter, length};
+ghost use Rattle.std.specs.List.Sorted.{IsPartitionPoint, IsPartitionedBy};
+ghost use Rattle.hii_questions.specs.code.ByField.{AreByField, FieldsRise, has_range, is_up_to};
 
 use crate::entry::QuestionEntry;
 use crate::field_range::FieldRange;
@@ -27,6 +28,28 @@ pub(crate) fn questions_with(by_field: &[QuestionEntry], field: FieldRange) -> &
     let wanted = Some(field);
     let first = by_field.partition_point(|question| question.field().cmp(&wanted).is_lt());
     let from = &by_field[first..];
-    let count = from.partition_point(|question| question.field().cmp(&wanted).is_le());
-    &from[..count]
+    &from[..count_up_to(from, field)]
+}
+
+// Whether a question does not stand behind a field.
+fn is_up_to(question: QuestionEntry, field: FieldRange) -> bool
+    ensures { result ≡ is_up_to field question }
+{
+    question.field().cmp(&Some(field)).is_le()
+}
+
+// How many questions do not stand behind a field: those at the front, of which there is mostly one.
+fn count_up_to(questions: &[QuestionEntry], field: FieldRange) -> usize
+    requires { IsPartitionedBy (is_up_to field) questions.now }
+    ensures bound { result ≤ length questions.now }
+    ensures point { IsPartitionPoint (λ q. is_up_to field q ≡ true)
+        (λ q. is_up_to field q ≡ false) questions.now result }
+{
+    if questions.len() > 1 && is_up_to(questions[1], field) {
+        return questions.partition_point(|question| is_up_to(*question, field));
+    }
+    if questions.len() > 0 && is_up_to(questions[0], field) {
+        return 1;
+    }
+    0
 }

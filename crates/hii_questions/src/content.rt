@@ -20,6 +20,7 @@ impl<'i> Content<'i> {
     ghost use Rattle.hii_questions.specs.code.Contents.{content_bytes};
 
     /// Writes it over all of some bytes.
+    #[inline(always)]
     pub(crate) fn write(self, into: &mut [u8])
         requires { length (content_bytes self) ≤ length into.old }
         ensures { into.new ≡ filled (length into.old) (content_bytes self.entry) }
@@ -38,6 +39,7 @@ impl<'i> Content<'i> {
 }
 
 // Writes a number of `width` bytes at an offset.
+#[inline(always)]
 fn write_item(into: &mut [u8], at: usize, item: u64, width: usize)
     requires wide { width ≤ 8 }
     requires within { at + width ≤ length into.old }
@@ -49,6 +51,7 @@ fn write_item(into: &mut [u8], at: usize, item: u64, width: usize)
 }
 
 // Writes a number of `width` bytes at the front, and zeros behind it.
+#[inline(always)]
 fn write_number(into: &mut [u8], number: u64, width: usize)
     requires wide { width ≤ 8 }
     requires within { width ≤ length into.old }

@@ -29,6 +29,7 @@ impl<'i> Field<'i> {
     ghost use Rattle.hii_questions.specs.code.NewBytes.{new_bytes, new_items};
 
     /// Writes the new bytes into the store.
+    #[inline(always)]
     pub fn put(self, stores: &mut Stores)
         requires { HasRange (shape_of stores.old) self.store self.offset self.width }
         ensures written { stores.new

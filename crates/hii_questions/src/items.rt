@@ -41,6 +41,7 @@ impl<'i> Iterator for Items<'i> {
 
     ghost remaining = { item_count items_left };
 
+    #[inline(always)]
     fn next(&mut self) -> Option<u64> {
         match self {
             Items::Number(number) => number.take(),

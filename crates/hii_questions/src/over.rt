@@ -24,6 +24,7 @@ impl<'s, 'a> Answers<'s> for Over<'s, 'a> {
         }
     }
 
+    #[inline(always)]
     fn number(&self, question: u16) -> Option<u64> {
         read_number(self.questions.find(question)?, self.stores)
     }

@@ -120,6 +120,7 @@ impl<'a> Questions<'a> {
     }
 
     /// The question at the place of a statement, with no search where the statement comes from the index.
+    #[inline(always)]
     pub fn of_statement(&self, statement: Statement<'_>) -> Option<Question<'a>>
         ensures { option_map question_view result
             ≡ first_at (questions (nodes_of self.now.ifr)) (statement_node statement.entry).place }
@@ -129,6 +130,7 @@ impl<'a> Questions<'a> {
     }
 
     // The question at a place, which is looked for first where it is the one of a number.
+    #[inline(always)]
     fn at_number(&self, place: u32, number: u32) -> Option<Question<'a>>
         ensures { option_map question_view result
             ≡ first_at (questions (nodes_of self.now.ifr)) place }

@@ -39,6 +39,7 @@ pub fn read_value<'s>(question: Question<'_>, stores: &'s Stores) -> Value<'s>
 
 /// The value that a question has in the stores (`read_value`), where a number is wanted. Of a text and a list nothing is
 /// read.
+#[inline(always)]
 pub(crate) fn read_number(question: Question<'_>, stores: &Stores) -> Option<u64>
     ensures { result ≡ as_number (value_of_field stores.now (question_node question.entry)
         (question_view question.entry).field) }

@@ -100,6 +100,7 @@ impl Stores {
     }
 
     /// The bytes of the store of an id, if there is one.
+    #[inline(always)]
     pub fn bytes(&self, id: u16) -> Option<&[u8]>
         ensures { option_copied result ≡ bytes_of self.now id }
     {
@@ -108,6 +109,7 @@ impl Stores {
     }
 
     /// The `width` bytes of the store of an id from an offset in bytes on, if the store holds all of them.
+    #[inline(always)]
     pub fn field(&self, id: u16, offset: usize, width: usize) -> Option<&[u8]>
         ensures { MatchOption result (IsCut width (bytes_of_field self.now id offset width))
             (λ bytes. (bytes_of_field self.now id offset width ≡ Some bytes.now)
@@ -129,6 +131,7 @@ impl Stores {
     }
 
     /// The `width` bytes of the store of an id from an offset in bytes on, to be written.
+    #[inline(always)]
     pub fn field_mut(&mut self, id: u16, offset: usize, width: usize) -> &mut [u8]
         requires { HasRange (shape_of self.old) id offset width }
         ensures* lends { sem 𝓛 (LendsField self.entry id offset result) }

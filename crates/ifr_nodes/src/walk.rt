@@ -88,6 +88,7 @@ impl<'a> Walk<'a> {
     }
 
     /// Goes to the next node.
+    #[inline(always)]
     pub(crate) fn step(&mut self) -> Option<Visit<'a>>
         ensures none { IfNone result ((left self.old ≡ []) × (left self.new ≡ [])) }
         ensures some { IfSome result (λ visit. Meets self.old visit self.new) }

@@ -63,6 +63,7 @@ impl<'a> NumericOp<'a> {
     }
 
     /// The least number, as a bit pattern.
+    #[inline(always)]
     pub fn minimum(self) -> u64
         ensures { result ≡ numeric_minimum (bytes_of self.entry.op) }
     {
@@ -70,6 +71,7 @@ impl<'a> NumericOp<'a> {
     }
 
     /// The greatest number, as a bit pattern.
+    #[inline(always)]
     pub fn maximum(self) -> u64
         ensures { result ≡ numeric_maximum (bytes_of self.entry.op) }
     {

@@ -86,6 +86,7 @@ fn list_len(op: Op) -> usize
 
 /// Whether an opcode lacks bytes of its fields.
 #[tactic(auto, using(crate::proofs::SizeLemmas::short))]
+#[inline(always)]
 pub fn is_short(op: Op) -> bool
     ensures { result ≡ rows.is_short (bytes_of op.entry) }
 {

@@ -41,6 +41,7 @@ impl<'a> AnyCondition<'a> {
     }
 
     /// What is to hold: the expression with which its opcode's scope begins.
+    #[inline(always)]
     pub fn condition(self) -> Expr<'a>
         ensures { tree_of result ≡ expression_tree (any_condition_node self.entry) }
     {

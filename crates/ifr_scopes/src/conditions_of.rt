@@ -31,6 +31,7 @@ impl<'s, 'a> Iterator for ConditionsOf<'s, 'a> {
 
     ghost remaining = { item_count conditions_of_left };
 
+    #[inline(always)]
     fn next(&mut self) -> Option<ConditionView<'a>> {
         while let Some((first, kept)) = self.kept.split_first() {
             if first.question != self.question {

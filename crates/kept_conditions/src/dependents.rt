@@ -174,6 +174,7 @@ fn visit_dependents(
 
 /// Visits the dependents of pending rules, and of those that are pending then, until none is, and counts the conditions that it
 /// evaluates.
+#[inline(always)]
 pub(crate) fn visit_pending(
     dependents: &mut Dependents,
     rule_uses: &[RuleUse],

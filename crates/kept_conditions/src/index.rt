@@ -114,6 +114,7 @@ pub(crate) fn beginning_before(dependencies: &[Dependency], end: u64) -> usize
 }
 
 /// The last dependency before a place that overlaps the bytes from a number on up to before another.
+#[inline(always)]
 pub(crate) fn last_overlapping(
     dependencies: &[Dependency],
     summaries: &[Summary],

@@ -1,9 +1,9 @@
 -- Questions in the order of their fields.
-use Rattle.std.specs.Prelude.{◌≡◌, Bool, List, filter, option_map}
+use Rattle.std.specs.Prelude.{◌≡◌, Bool, List, Some, filter, option_map}
 use Rattle.std.specs.List.Sorted.{IsSortedByKey}
 use Rattle.std.specs.Option.{option_cmp}
 use Rattle.std.specs.declared.cmp.Ordering.{Ordering}
-use Rattle.std.specs.Ordering.{nat_cmp, ordering_then}
+use Rattle.std.specs.Ordering.{is_le, nat_cmp, ordering_then}
 use Rattle.hii_questions.specs.Fields.{field_passes, is_same_field}
 use Rattle.hii_questions.specs.code.Entries.{entry_field}
 use Rattle.hii_questions.specs.code.Ranges.{range_in}
@@ -19,6 +19,10 @@ range_cmp f g =
 -- Questions without a field stand first.
 abbrev pub FieldsRise : List QuestionEntry → Type 0
 FieldsRise es = IsSortedByKey entry_field (option_cmp range_cmp) es
+
+-- a question does not stand behind a field
+abbrev pub is_up_to : FieldRange → QuestionEntry → Bool
+is_up_to f e = is_le (option_cmp range_cmp (entry_field e) (Some f))
 
 -- a question that is kept has exactly this field
 abbrev pub has_range : FieldRange → QuestionEntry → Bool

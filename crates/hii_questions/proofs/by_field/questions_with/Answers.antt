@@ -1,4 +1,4 @@
-use Rattle.std.proofs.Common.{◌-◌, Some, length, take, drop, filter, is_lt, is_le, rules, ap, ◌∙◌}
+use Rattle.std.proofs.Common.{◌-◌, Some, length, take, drop, filter, is_lt, rules, ap, ◌∙◌}
 use Rattle.std.specs.Option.{option_cmp}
 use Rattle.std.proofs.lemmas.List.{take_rest}
 use Rattle.std.proofs.lemmas.List.Sorted.{IsPartitionPoint-from_clause}
@@ -9,16 +9,20 @@ use Rattle.hii_questions.proofs.FieldLemmas.{range_total, ties_are}
 use Rattle.hii_questions.proofs.OrderLemmas.{found_between, parted_le, parted_lt}
 use Rattle.hii_questions.proofs.by_field.questions_with.Goals as goal
 
+pub count_up_to-requires : goal.count_up_to-requires
+count_up_to-requires c =
+    let xs = c.args.by_field.now in
+    let from = c.partition_point-first.result in
+    parted_le range_total entry_field (Some c.args.field) xs (take (length xs - from) (drop from xs)) from (take_rest xs from) c.requires
+
 pub returns : goal.returns
 returns c =
     let xs = c.args.by_field.now in
     let from = c.partition_point-first.result in
-    let count = c.partition_point-count.result in
+    let count = c.count_up_to.result in
     let wanted = Some c.args.field in
     let rest = take (length xs - from) (drop from xs) in
     let is = take_rest xs from in
     let below = IsPartitionPoint-from_clause (λ (q : QuestionEntry). is_lt (option_cmp range_cmp (entry_field q) wanted)) xs from c.partition_point-first.ensures.partitioned
     (parted_lt range_total entry_field wanted xs c.requires) (λ a r q called. search rules) in
-    let within = IsPartitionPoint-from_clause (λ (q : QuestionEntry). is_le (option_cmp range_cmp (entry_field q) wanted)) rest count c.partition_point-count.ensures.partitioned
-    (parted_le range_total entry_field wanted xs rest from is c.requires) (λ a r q called. search rules) in
-    found_between range_total entry_field wanted xs rest from count is below within ∙ ap (λ p. filter p xs) (ties_are c.args.field)
+    found_between range_total entry_field wanted xs rest from count is below c.count_up_to.ensures.point ∙ ap (λ p. filter p xs) (ties_are c.args.field)

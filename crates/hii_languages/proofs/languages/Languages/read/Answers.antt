@@ -30,8 +30,8 @@ returns-in_err-table-clause-accepted c = λ none.
       | inr least ↦ absurd (some_least _ _ (read_fault (packages_of c.args.list.now) c.loop-source.tables.items (package_of c.in-Some.source) _ _ r strings least) none)
     ])
 
-pub loop-source-preserved-in-Continue-branch-2 : goal.loop-source-preserved-in-Continue-branch-2
-loop-source-preserved-in-Continue-branch-2 c =
+pub loop-source-preserved-in_ok-push : goal.loop-source-preserved-in_ok-push
+loop-source-preserved-in_ok-push c =
     let r = rw c.in-Some.ensures.steps at c.loop-source.invariant in
     let strings : is_strings (package_of c.in-Some.source) ≡ true = grind (arith, nat_tests) in
     let pushed : c.push.new.self.items ≡ c.loop-source.tables.items ++ c.in_ok-table.table ∷ [] = grind (arith, common_steps) in
