@@ -1,2 +1,3 @@
 pub mod EndingLemmas
 pub mod ListingLemmas
+pub mod GivenFileLemmas

@@ -1,3 +1,4 @@
 pub mod Endings
 pub mod Listing
+pub mod GivenFiles
 pub mod code

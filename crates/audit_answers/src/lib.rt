@@ -3,10 +3,12 @@
 
 mod ended;
 mod given;
+mod given_files;
 mod listing;
 mod writing;
 
 pub use ended::Ended;
 pub use given::{GivenList, NoList};
+pub use given_files::last_given;
 pub use listing::{given_list, refuse_list};
 pub use writing::{Answers, Output, answers, commit, finish, refuse, told, told_with_file};

@@ -1,5 +1,6 @@
 -- Commands that are built up of arguments and of subcommands.
-use Rattle.std.proofs.Common.{◌≡◌, ◌∙◌, ◌&&◌, ◌∷◌, Bool, true, false, not, [], ap, ap₂, refl, is_some}
+use Rattle.std.proofs.Common.{◌≡◌, ◌∙◌, ◌&&◌, ◌∷◌, ◌++◌, ◌+◌, ◌<◌, ◌≤◌, ℕ, Bool, List, true, false, not, [], ap, ap₂, get_or, length, map, refl, is_some, take}
+use Rattle.std.proofs.lemmas.List.{map-append, take_all, take_more}
 use Rattle.std.specs.Borrow.{Bor}
 use Rattle.clap.specs.Built.{AddsArg, AddsSubcommand}
 use Rattle.clap.specs.Simple.{App, Shape, with_rule, with_subcommand}
@@ -7,8 +8,10 @@ use Rattle.clap.specs.Walk.{Rule, Text, is_empty, is_simple_arg}
 use Rattle.clap.specs.declared.builder.arg.Arg.{Arg}
 use Rattle.clap.specs.declared.builder.command.Command.{Command}
 use Rattle.clap.specs.declared.builder.texts.Texts.TheVariants.{One}
-use Rattle.audit_options.specs.CommandLine.{IsArg, IsCommand, IsProgram}
-use Rattle.audit_options.specs.code.Building.{with_argument, with_command}
+use Rattle.audit_options.specs.CommandLine.{IsArg, IsCommand, IsProgram, command_of}
+use Rattle.audit_options.specs.code.Building.{row_rule, row_shape, with_argument, with_command, with_commands}
+use Rattle.audit_options.specs.declared.commands.CommandRow.{CommandRow}
+use Rattle.audit_options.specs.declared.commands.OptionRow.{OptionRow}
 
 pub argument_added : (shape : Shape) (rule : Rule) (old : Command) (arg : Arg) (new : Command) → IsCommand shape old → IsArg rule arg → AddsArg old arg new
     → IsCommand (with_argument shape rule) new
@@ -23,6 +26,36 @@ command_added app shape old sub new program command adds = record {
   read_as = adds.shape command.local ∙ ap₂ with_subcommand program.read_as (ap (λ (a : App). a.top) command.read_as);
   local = rw (adds.globals, program.local, command.local) refl;
 }
+
+-- ---- the rows so far
+
+-- one more option
+pub option_added : (t : Bool) (name : Text) (options : List OptionRow) (i : ℕ) (d : OptionRow) (old : Command) (arg : Arg) (new : Command)
+    → IsCommand (command_of name (map (row_rule t) (take i options))) old → i < length options → IsArg (row_rule t (get_or options i d)) arg → AddsArg old arg new
+    → IsCommand (command_of name (map (row_rule t) (take (i + 1) options))) new
+option_added t name options i d old arg new command within option adds =
+    rw (take_more options i d within, map-append (row_rule t) (take i options) (get_or options i d ∷ []))
+    (argument_added (command_of name (map (row_rule t) (take i options))) (row_rule t (get_or options i d)) old arg new command option adds)
+
+pub all_options : (t : Bool) (name : Text) (options : List OptionRow) (i : ℕ) (command : Command) → length options ≤ i
+    → IsCommand (command_of name (map (row_rule t) (take i options))) command → IsCommand (command_of name (map (row_rule t) options)) command
+all_options t name options i command past is = rw (take_all i options past) at is
+
+more_commands : (shapes : List Shape) (shape : Shape) → with_commands (shapes ++ shape ∷ []) ≡ with_command (with_commands shapes) shape
+more_commands [] shape = refl
+more_commands (s ∷ shapes) shape = refl
+
+-- one more command
+pub row_added : (t : Bool) (rows : List CommandRow) (i : ℕ) (d : CommandRow) (old sub new : Command)
+    → IsProgram (with_commands (map (row_shape t) (take i rows))) old → i < length rows → IsCommand (row_shape t (get_or rows i d)) sub → AddsSubcommand old sub new
+    → IsProgram (with_commands (map (row_shape t) (take (i + 1) rows))) new
+row_added t rows i d old sub new program within command adds =
+    rw (take_more rows i d within, map-append (row_shape t) (take i rows) (get_or rows i d ∷ []), more_commands (map (row_shape t) (take i rows)) (row_shape t (get_or rows i d)))
+    (command_added (with_commands (map (row_shape t) (take i rows))) (row_shape t (get_or rows i d)) old sub new program command adds)
+
+pub all_rows : (t : Bool) (rows items : List CommandRow) (i : ℕ) (command : Command) → items ≡ rows → length items ≤ i
+    → IsProgram (with_commands (map (row_shape t) (take i items))) command → IsProgram (with_commands (map (row_shape t) rows)) command
+all_rows t rows items i command same past is = rw (← same) (rw (take_all i items past) at is)
 
 -- ---- an argument whose value may begin with a hyphen
 

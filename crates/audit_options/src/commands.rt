@@ -1,10 +1,9 @@
 //! The commands and options, in the order in which help lists them.
 
-ghost use Rattle.std.specs.Prelude.{IfOk, codes};
-ghost use Rattle.clap.specs.Words.{App, Rule, Shape};
+ghost use Rattle.std.specs.Prelude.{IfOk};
 ghost use Rattle.audit_options.specs.CommandLine as spec;
 ghost use Rattle.audit_options.specs.CommandLine.{IsArg, IsCommand, IsProgram};
-ghost use Rattle.audit_options.specs.code.Building.{bare, with_argument, with_command};
+ghost use Rattle.audit_options.specs.code.Building.{bare, class_rule, language_rule, list_number_rule, package_number_rule, repeated_rule, row_rule, row_shape};
 
 use clap::{Arg, ArgAction, Command};
 use std::alloc::{AllocError, Global};
@@ -75,6 +74,301 @@ const ABOUT_SURVEY: &str = "\
 Tells of each forms package of a dump how many of its questions may be changed, over
 the image that its stores would make, and why others may not; or why none is told";
 
+// What stands behind the name of an option.
+enum Takes {
+    // Nothing: the option is a flag.
+    Nothing,
+    Word,
+    // A word, without which the command is refused.
+    WantedWord,
+    // A word each time that the option stands there.
+    Words,
+    // The number of a list in a dump.
+    ListNumber,
+    // The number of a forms package in a list.
+    PackageNumber,
+    // A class of defaults.
+    Class,
+    // A language, which begins with a hyphen only where that is asked for.
+    Language,
+}
+
+// An option: its name, what help calls its value, and what it says of it.
+struct OptionRow {
+    name: &'static str,
+    value: &'static str,
+    help: &'static str,
+    takes: Takes,
+}
+
+// A command: its name, what help says of it, and its options.
+struct CommandRow {
+    name: &'static str,
+    about: &'static str,
+    options: &'static [OptionRow],
+}
+
+const DUMP: OptionRow = OptionRow {
+    name: "dump",
+    value: "F",
+    help: "Package lists, one after the other",
+    takes: Takes::WantedWord,
+};
+
+const LIST: OptionRow = OptionRow {
+    name: "list",
+    value: "F",
+    help: "Package list with the forms package",
+    takes: Takes::WantedWord,
+};
+
+const TAKEN: OptionRow = OptionRow {
+    name: "take",
+    value: "N",
+    help: "Number of the list that is taken, counted from 1",
+    takes: Takes::ListNumber,
+};
+
+const TAKE: OptionRow = OptionRow {
+    name: "take",
+    value: "N",
+    help: "Which list of F is opened, counted from 1, where F is a dump",
+    takes: Takes::ListNumber,
+};
+
+const LIST_FILE: OptionRow = OptionRow {
+    name: "out",
+    value: "F",
+    help: "File for the list that is taken",
+    takes: Takes::Word,
+};
+
+const HEADERS: OptionRow = OptionRow {
+    name: "headers",
+    value: "",
+    help: "Tell of each store with bytes the header with which a configuration text names it",
+    takes: Takes::Nothing,
+};
+
+const IMAGE_FILE: OptionRow = OptionRow {
+    name: "out",
+    value: "F",
+    help: "Image that is written",
+    takes: Takes::WantedWord,
+};
+
+const STORE_FILE: OptionRow = OptionRow {
+    name: "store",
+    value: "ID=F",
+    help: "File of the bytes of the store with this id, as 16 or 0x10",
+    takes: Takes::Words,
+};
+
+const EFIVARS: OptionRow = OptionRow {
+    name: "efivars",
+    value: "DIR",
+    help: "Folder with a file NAME-guid for each variable: its attributes in four bytes, and its bytes",
+    takes: Takes::Word,
+};
+
+const CONFIG: OptionRow = OptionRow {
+    name: "config",
+    value: "F",
+    help: "Text of the firmware's ExportConfig, with the bytes of stores that are given no file",
+    takes: Takes::Word,
+};
+
+const ZERO: OptionRow = OptionRow {
+    name: "zero",
+    value: "",
+    help: "Fill stores that are given no bytes with zeros",
+    takes: Takes::Nothing,
+};
+
+const DEFAULTS: OptionRow = OptionRow {
+    name: "defaults",
+    value: "D",
+    help: "Class of defaults that questions take over these bytes: 0 standard, 1 manufacturing",
+    takes: Takes::Class,
+};
+
+const STORES_IMAGE: OptionRow = OptionRow {
+    name: "stores",
+    value: "F",
+    help: "Image of the variable stores",
+    takes: Takes::WantedWord,
+};
+
+const QUESTION: OptionRow = OptionRow {
+    name: "id",
+    value: "Q",
+    help: "Id of the question, as 33 or 0x21",
+    takes: Takes::WantedWord,
+};
+
+const QUESTION_ALONE: OptionRow = OptionRow {
+    name: "id",
+    value: "Q",
+    help: "Id of the question that is told alone, as 33 or 0x21",
+    takes: Takes::Word,
+};
+
+const SCRIPT: OptionRow = OptionRow {
+    name: "script",
+    value: "F",
+    help: "Commands, each on a line",
+    takes: Takes::WantedWord,
+};
+
+const STORE: OptionRow = OptionRow {
+    name: "id",
+    value: "N",
+    help: "Id of the store, as 16 or 0x10",
+    takes: Takes::Word,
+};
+
+const BYTES_FILE: OptionRow = OptionRow {
+    name: "out",
+    value: "F",
+    help: "File for the bytes of the store",
+    takes: Takes::Word,
+};
+
+const LINES: OptionRow = OptionRow {
+    name: "lines",
+    value: "",
+    help: "Tell each field, but that of a password",
+    takes: Takes::Nothing,
+};
+
+const DIFFERING_FROM: OptionRow = OptionRow {
+    name: "with",
+    value: "B",
+    help: "Image: tell the fields alone that differ from it",
+    takes: Takes::Word,
+};
+
+const OTHER_IMAGE: OptionRow = OptionRow {
+    name: "with",
+    value: "B",
+    help: "The other image",
+    takes: Takes::WantedWord,
+};
+
+const FIND: OptionRow = OptionRow {
+    name: "find",
+    value: "TEXT",
+    help: "Tell the questions whose prompt or help has this text, letters in both cases",
+    takes: Takes::Word,
+};
+
+const JSON: OptionRow = OptionRow {
+    name: "json",
+    value: "",
+    help: "Tell each as an object of JSON on a line of its own",
+    takes: Takes::Nothing,
+};
+
+const FORMS: OptionRow = OptionRow {
+    name: "forms",
+    value: "N",
+    help: "Which forms package of the list is opened, counted from 1",
+    takes: Takes::PackageNumber,
+};
+
+const LANG: OptionRow = OptionRow {
+    name: "lang",
+    value: "L",
+    help: "Language of the texts, as de or en-US",
+    takes: Takes::Language,
+};
+
+const SPLIT: CommandRow = CommandRow {
+    name: "split",
+    about: ABOUT_SPLIT,
+    options: &[DUMP, TAKEN, LIST_FILE, JSON],
+};
+
+static COMMANDS: [CommandRow; 12] = [
+    SPLIT,
+    CommandRow {
+        name: "stores",
+        about: ABOUT_STORES,
+        options: &[LIST, TAKE, HEADERS, JSON, FORMS],
+    },
+    CommandRow {
+        name: "check",
+        about: ABOUT_CHECK,
+        options: &[LIST, TAKE, JSON],
+    },
+    CommandRow {
+        name: "opcodes",
+        about: ABOUT_OPCODES,
+        options: &[LIST, TAKE, JSON, FORMS],
+    },
+    CommandRow {
+        name: "image",
+        about: ABOUT_IMAGE,
+        options: &[
+            LIST, TAKE, IMAGE_FILE, STORE_FILE, EFIVARS, CONFIG, ZERO, DEFAULTS, JSON, FORMS, LANG,
+        ],
+    },
+    CommandRow {
+        name: "questions",
+        about: ABOUT_QUESTIONS,
+        options: &[LIST, TAKE, STORES_IMAGE, JSON, FORMS, LANG],
+    },
+    CommandRow {
+        name: "question",
+        about: ABOUT_QUESTION,
+        options: &[LIST, TAKE, STORES_IMAGE, QUESTION, JSON, FORMS, LANG],
+    },
+    CommandRow {
+        name: "unlock",
+        about: ABOUT_UNLOCK,
+        options: &[LIST, TAKE, STORES_IMAGE, QUESTION_ALONE, JSON, FORMS, LANG],
+    },
+    CommandRow {
+        name: "apply",
+        about: ABOUT_APPLY,
+        options: &[
+            LIST,
+            TAKE,
+            STORES_IMAGE,
+            SCRIPT,
+            IMAGE_FILE,
+            JSON,
+            FORMS,
+            LANG,
+        ],
+    },
+    CommandRow {
+        name: "export",
+        about: ABOUT_EXPORT,
+        options: &[
+            LIST,
+            TAKE,
+            STORES_IMAGE,
+            STORE,
+            BYTES_FILE,
+            LINES,
+            DIFFERING_FROM,
+            JSON,
+            FORMS,
+        ],
+    },
+    CommandRow {
+        name: "diff",
+        about: ABOUT_DIFF,
+        options: &[LIST, TAKE, STORES_IMAGE, OTHER_IMAGE, JSON, FORMS, LANG],
+    },
+    CommandRow {
+        name: "survey",
+        about: ABOUT_SURVEY,
+        options: &[DUMP, EFIVARS, CONFIG, ZERO, FIND, JSON, LANG],
+    },
+];
+
 /// All commands. The word behind `--lang` may begin with a hyphen where `takes_hyphen` says so.
 pub(crate) fn command<'a>(
     alloc: Global,
@@ -83,19 +377,11 @@ pub(crate) fn command<'a>(
 ) -> Result<Command<'a>, AllocError>
     ensures { IfOk result (IsProgram (spec.program takes_hyphen)) }
 {
-    let command = program(alloc, version);
-    let command = with_command(command, split(alloc));
-    let command = with_command(command, stores(alloc));
-    let command = with_command(command, check(alloc));
-    let command = with_command(command, opcodes(alloc));
-    let command = with_command(command, image(alloc, takes_hyphen));
-    let command = with_command(command, questions(alloc, takes_hyphen));
-    let command = with_command(command, question(alloc, takes_hyphen));
-    let command = with_command(command, unlock(alloc, takes_hyphen));
-    let command = with_command(command, apply(alloc, takes_hyphen));
-    let command = with_command(command, export(alloc));
-    let command = with_command(command, diff(alloc, takes_hyphen));
-    with_command(command, survey(alloc, takes_hyphen))
+    let mut command = program(alloc, version)?;
+    for row in COMMANDS.as_slice() {
+        command = command.subcommand(subcommand(alloc, row, takes_hyphen)?)?;
+    }
+    Ok(command)
 }
 
 // The program without its commands.
@@ -110,325 +396,79 @@ fn program<'a>(alloc: Global, version: &'static str) -> Result<Command<'a>, Allo
     command.bin_name("setup_audit")
 }
 
-// A program with one more command.
-fn with_command<'a>(
-    program: Result<Command<'a>, AllocError>,
-    command: Result<Command<'a>, AllocError>,
-) -> Result<Command<'a>, AllocError>
-    ensures { (app : App) (shape : Shape) → IfOk program.entry (IsProgram app)
-        → IfOk command.entry (IsCommand shape) → IfOk result (IsProgram (with_command app shape)) }
-{
-    program?.subcommand(command?)
-}
-
-// A command with one more argument.
-fn with_arg<'a>(
-    command: Result<Command<'a>, AllocError>,
-    arg: Arg<'a>,
-) -> Result<Command<'a>, AllocError>
-    ensures { (shape : Shape) (rule : Rule) → IfOk command.entry (IsCommand shape) → IsArg rule arg.entry
-        → IfOk result (IsCommand (with_argument shape rule)) }
-{
-    command?.arg(arg)
-}
-
 /// `split` alone, to say how it is called.
 pub(crate) fn split_alone<'a>(alloc: Global) -> Result<Command<'a>, AllocError> {
-    split(alloc)?.bin_name("setup_audit split")
+    subcommand(alloc, &SPLIT, false)?.bin_name("setup_audit split")
 }
 
-fn split<'a>(alloc: Global) -> Result<Command<'a>, AllocError>
-    ensures { IfOk result (IsCommand spec.split) }
+fn subcommand<'a>(
+    alloc: Global,
+    row: &'static CommandRow,
+    takes_hyphen: bool,
+) -> Result<Command<'a>, AllocError>
+    ensures { IfOk result (IsCommand (row_shape takes_hyphen row.now)) }
 {
-    let take = take(alloc, "Number of the list that is taken, counted from 1");
-    let out = option(alloc, "out", "F", "File for the list that is taken");
-    let command = Command::new(alloc, "split").about(ABOUT_SPLIT);
-    let command = command.arg(dump(alloc));
-    let command = with_arg(command, take);
-    let command = with_arg(command, out);
-    with_arg(command, json(alloc))
+    let mut command = Command::new(alloc, row.name).about(row.about);
+    for option in row.options {
+        command = command.arg(arg(alloc, option, takes_hyphen))?;
+    }
+    Ok(command)
 }
 
-fn questions<'a>(alloc: Global, takes_hyphen: bool) -> Result<Command<'a>, AllocError>
-    ensures { IfOk result (IsCommand (spec.questions takes_hyphen)) }
+fn arg(alloc: Global, row: &'static OptionRow, takes_hyphen: bool) -> Arg<'static>
+    ensures { IsArg (row_rule takes_hyphen row.now) result }
 {
-    let command = Command::new(alloc, "questions").about(ABOUT_QUESTIONS);
-    let command = command.arg(list(alloc));
-    let command = with_arg(command, take_of_dump(alloc));
-    let command = with_arg(command, image_of_stores(alloc));
-    let command = with_arg(command, json(alloc));
-    let command = with_arg(command, forms(alloc));
-    with_arg(command, lang(alloc, takes_hyphen))
+    match row.takes {
+        Takes::Nothing => flag(alloc, row.name, row.help),
+        Takes::Word => option(alloc, row.name, row.value, row.help),
+        Takes::WantedWord => wanted(alloc, row),
+        Takes::Words => repeated(alloc, row),
+        Takes::ListNumber => list_number(alloc, row),
+        Takes::PackageNumber => package_number(alloc, row),
+        Takes::Class => class(alloc, row),
+        Takes::Language => language(alloc, row, takes_hyphen),
+    }
 }
 
-fn question<'a>(alloc: Global, takes_hyphen: bool) -> Result<Command<'a>, AllocError>
-    ensures { IfOk result (IsCommand (spec.question takes_hyphen)) }
+fn wanted(alloc: Global, row: &'static OptionRow) -> Arg<'static>
+    ensures { IsArg (spec.required_option row.now.name.now) result }
 {
-    let id = option(alloc, "id", "Q", "Id of the question, as 33 or 0x21").required(true);
-    let command = Command::new(alloc, "question").about(ABOUT_QUESTION);
-    let command = command.arg(list(alloc));
-    let command = with_arg(command, take_of_dump(alloc));
-    let command = with_arg(command, image_of_stores(alloc));
-    let command = with_arg(command, id);
-    let command = with_arg(command, json(alloc));
-    let command = with_arg(command, forms(alloc));
-    with_arg(command, lang(alloc, takes_hyphen))
+    option(alloc, row.name, row.value, row.help).required(true)
 }
 
-fn stores<'a>(alloc: Global) -> Result<Command<'a>, AllocError>
-    ensures { IfOk result (IsCommand spec.stores) }
+fn repeated(alloc: Global, row: &'static OptionRow) -> Arg<'static>
+    ensures { IsArg (repeated_rule row.now.name.now) result }
 {
-    let headers = flag(
-        alloc,
-        "headers",
-        "Tell of each store with bytes the header with which a configuration text names it",
-    );
-    let command = Command::new(alloc, "stores").about(ABOUT_STORES);
-    let command = command.arg(list(alloc));
-    let command = with_arg(command, take_of_dump(alloc));
-    let command = with_arg(command, headers);
-    let command = with_arg(command, json(alloc));
-    with_arg(command, forms(alloc))
+    option(alloc, row.name, row.value, row.help).action(ArgAction::Append)
 }
 
-fn check<'a>(alloc: Global) -> Result<Command<'a>, AllocError>
-    ensures { IfOk result (IsCommand spec.check) }
+fn list_number(alloc: Global, row: &'static OptionRow) -> Arg<'static>
+    ensures { IsArg (list_number_rule row.now.name.now) result }
 {
-    let command = Command::new(alloc, "check").about(ABOUT_CHECK);
-    let command = command.arg(list(alloc));
-    let command = with_arg(command, take_of_dump(alloc));
-    with_arg(command, json(alloc))
+    option(alloc, row.name, row.value, row.help).value_parser(clap::value_parser!(u64).range(1..))
 }
 
-fn opcodes<'a>(alloc: Global) -> Result<Command<'a>, AllocError>
-    ensures { IfOk result (IsCommand spec.opcodes) }
+fn class(alloc: Global, row: &'static OptionRow) -> Arg<'static>
+    ensures { IsArg (class_rule row.now.name.now) result }
 {
-    let command = Command::new(alloc, "opcodes").about(ABOUT_OPCODES);
-    let command = command.arg(list(alloc));
-    let command = with_arg(command, take_of_dump(alloc));
-    let command = with_arg(command, json(alloc));
-    with_arg(command, forms(alloc))
+    option(alloc, row.name, row.value, row.help).value_parser(clap::value_parser!(u16).range(0..))
 }
 
-fn image<'a>(alloc: Global, takes_hyphen: bool) -> Result<Command<'a>, AllocError>
-    ensures { IfOk result (IsCommand (spec.image takes_hyphen)) }
+fn language(alloc: Global, row: &'static OptionRow, takes_hyphen: bool) -> Arg<'static>
+    ensures { IsArg (language_rule takes_hyphen row.now.name.now) result }
 {
-    let store = option(
-        alloc,
-        "store",
-        "ID=F",
-        "File of the bytes of the store with this id, as 16 or 0x10",
-    )
-    .action(ArgAction::Append);
-    let out = option(alloc, "out", "F", "Image that is written").required(true);
-    let command = Command::new(alloc, "image").about(ABOUT_IMAGE);
-    let command = command.arg(list(alloc));
-    let command = with_arg(command, take_of_dump(alloc));
-    let command = with_arg(command, out);
-    let command = with_arg(command, store);
-    let command = with_arg(command, efivars(alloc));
-    let command = with_arg(command, config(alloc));
-    let command = with_arg(command, zero(alloc));
-    let command = with_arg(command, defaults(alloc));
-    let command = with_arg(command, json(alloc));
-    let command = with_arg(command, forms(alloc));
-    with_arg(command, lang(alloc, takes_hyphen))
-}
-
-fn efivars(alloc: Global) -> Arg<'static>
-    ensures { IsArg spec.efivars result }
-{
-    option(
-        alloc,
-        "efivars",
-        "DIR",
-        "Folder with a file NAME-guid for each variable: its attributes in four bytes, and its bytes",
-    )
-}
-
-fn config(alloc: Global) -> Arg<'static>
-    ensures { IsArg spec.config result }
-{
-    option(
-        alloc,
-        "config",
-        "F",
-        "Text of the firmware's ExportConfig, with the bytes of stores that are given no file",
-    )
-}
-
-fn zero(alloc: Global) -> Arg<'static>
-    ensures { IsArg spec.zero result }
-{
-    flag(
-        alloc,
-        "zero",
-        "Fill stores that are given no bytes with zeros",
-    )
-}
-
-fn defaults(alloc: Global) -> Arg<'static>
-    ensures { IsArg spec.defaults result }
-{
-    option(
-        alloc,
-        "defaults",
-        "D",
-        "Class of defaults that questions take over these bytes: 0 standard, 1 manufacturing",
-    )
-    .value_parser(clap::value_parser!(u16).range(0..))
-}
-
-fn json(alloc: Global) -> Arg<'static>
-    ensures { IsArg spec.json result }
-{
-    flag(
-        alloc,
-        "json",
-        "Tell each as an object of JSON on a line of its own",
-    )
-}
-
-fn unlock<'a>(alloc: Global, takes_hyphen: bool) -> Result<Command<'a>, AllocError>
-    ensures { IfOk result (IsCommand (spec.unlock takes_hyphen)) }
-{
-    let id = option(
-        alloc,
-        "id",
-        "Q",
-        "Id of the question that is told alone, as 33 or 0x21",
-    );
-    let command = Command::new(alloc, "unlock").about(ABOUT_UNLOCK);
-    let command = command.arg(list(alloc));
-    let command = with_arg(command, take_of_dump(alloc));
-    let command = with_arg(command, image_of_stores(alloc));
-    let command = with_arg(command, id);
-    let command = with_arg(command, json(alloc));
-    let command = with_arg(command, forms(alloc));
-    with_arg(command, lang(alloc, takes_hyphen))
-}
-
-fn survey<'a>(alloc: Global, takes_hyphen: bool) -> Result<Command<'a>, AllocError>
-    ensures { IfOk result (IsCommand (spec.survey takes_hyphen)) }
-{
-    let find = option(
-        alloc,
-        "find",
-        "TEXT",
-        "Tell the questions whose prompt or help has this text, letters in both cases",
-    );
-    let command = Command::new(alloc, "survey").about(ABOUT_SURVEY);
-    let command = command.arg(dump(alloc));
-    let command = with_arg(command, efivars(alloc));
-    let command = with_arg(command, config(alloc));
-    let command = with_arg(command, zero(alloc));
-    let command = with_arg(command, find);
-    let command = with_arg(command, json(alloc));
-    with_arg(command, lang(alloc, takes_hyphen))
-}
-
-fn apply<'a>(alloc: Global, takes_hyphen: bool) -> Result<Command<'a>, AllocError>
-    ensures { IfOk result (IsCommand (spec.apply takes_hyphen)) }
-{
-    let script = option(alloc, "script", "F", "Commands, each on a line").required(true);
-    let out = option(alloc, "out", "F", "Image that is written").required(true);
-    let command = Command::new(alloc, "apply").about(ABOUT_APPLY);
-    let command = command.arg(list(alloc));
-    let command = with_arg(command, take_of_dump(alloc));
-    let command = with_arg(command, image_of_stores(alloc));
-    let command = with_arg(command, script);
-    let command = with_arg(command, out);
-    let command = with_arg(command, json(alloc));
-    let command = with_arg(command, forms(alloc));
-    with_arg(command, lang(alloc, takes_hyphen))
-}
-
-fn export<'a>(alloc: Global) -> Result<Command<'a>, AllocError>
-    ensures { IfOk result (IsCommand spec.export) }
-{
-    let id = option(alloc, "id", "N", "Id of the store, as 16 or 0x10");
-    let out = option(alloc, "out", "F", "File for the bytes of the store");
-    let lines = flag(alloc, "lines", "Tell each field, but that of a password");
-    let with = option(
-        alloc,
-        "with",
-        "B",
-        "Image: tell the fields alone that differ from it",
-    );
-    let command = Command::new(alloc, "export").about(ABOUT_EXPORT);
-    let command = command.arg(list(alloc));
-    let command = with_arg(command, take_of_dump(alloc));
-    let command = with_arg(command, image_of_stores(alloc));
-    let command = with_arg(command, id);
-    let command = with_arg(command, out);
-    let command = with_arg(command, lines);
-    let command = with_arg(command, with);
-    let command = with_arg(command, json(alloc));
-    with_arg(command, forms(alloc))
-}
-
-fn diff<'a>(alloc: Global, takes_hyphen: bool) -> Result<Command<'a>, AllocError>
-    ensures { IfOk result (IsCommand (spec.diff takes_hyphen)) }
-{
-    let with = option(alloc, "with", "B", "The other image").required(true);
-    let command = Command::new(alloc, "diff").about(ABOUT_DIFF);
-    let command = command.arg(list(alloc));
-    let command = with_arg(command, take_of_dump(alloc));
-    let command = with_arg(command, image_of_stores(alloc));
-    let command = with_arg(command, with);
-    let command = with_arg(command, json(alloc));
-    let command = with_arg(command, forms(alloc));
-    with_arg(command, lang(alloc, takes_hyphen))
-}
-
-fn dump(alloc: Global) -> Arg<'static>
-    ensures { IsArg spec.dump result }
-{
-    option(alloc, "dump", "F", "Package lists, one after the other").required(true)
-}
-
-fn list(alloc: Global) -> Arg<'static>
-    ensures { IsArg spec.list result }
-{
-    option(alloc, "list", "F", "Package list with the forms package").required(true)
-}
-
-fn take(alloc: Global, help: &'static str) -> Arg<'static>
-    ensures { IsArg spec.take result }
-{
-    option(alloc, "take", "N", help).value_parser(clap::value_parser!(u64).range(1..))
-}
-
-fn take_of_dump(alloc: Global) -> Arg<'static>
-    ensures { IsArg spec.take result }
-{
-    take(
-        alloc,
-        "Which list of F is opened, counted from 1, where F is a dump",
-    )
-}
-
-fn image_of_stores(alloc: Global) -> Arg<'static>
-    ensures { IsArg spec.stores_image result }
-{
-    option(alloc, "stores", "F", "Image of the variable stores").required(true)
-}
-
-fn lang(alloc: Global, takes_hyphen: bool) -> Arg<'static>
-    ensures { IsArg (spec.lang takes_hyphen) result }
-{
-    option(alloc, "lang", "L", "Language of the texts, as de or en-US")
+    option(alloc, row.name, row.value, row.help)
         .allow_hyphen_values(takes_hyphen)
         .default_value("en-US")
 }
 
-fn forms(alloc: Global) -> Arg<'static>
-    ensures { IsArg spec.forms result }
+fn package_number(alloc: Global, row: &'static OptionRow) -> Arg<'static>
+    ensures { IsArg (package_number_rule row.now.name.now) result }
 {
-    Arg::new(alloc, "forms")
-        .long("forms")
-        .value_name("N")
-        .help("Which forms package of the list is opened, counted from 1")
+    Arg::new(alloc, row.name)
+        .long(row.name)
+        .value_name(row.value)
+        .help(row.help)
         .value_parser(clap::value_parser!(u16).range(1..))
         .default_value("1")
 }

@@ -1,25 +1,19 @@
 -- Where the bytes of a store come from (own rule).
-use Rattle.std.specs.Prelude.{◌≡◌, ◌⊎◌, ◌==◌, ◌&&◌, not, ℕ, Bool, true, false, if◌then◌else◌, Option, Some, None, option_and_then, List, [], ◌∷◌, ◌++◌, codes}
+use Rattle.std.specs.Prelude.{◌≡◌, ◌⊎◌, ◌==◌, ◌&&◌, not, ℕ, Bool, true, false, if◌then◌else◌, Option, Some, None, option_and_then, List, ◌++◌, codes}
 use Rattle.std.specs.List.{list_any}
-use Rattle.std.specs.Option.{option_or}
 use Rattle.std.specs.Str.{is_utf8}
 use Rattle.ifr_opcodes.specs.Forest.{Node}
 use Rattle.ifr_scopes.specs.Stores.{store_guid, store_id, store_name}
 use Rattle.audit_text.specs.Texts.{guid_text}
 use Rattle.audit_options.specs.declared.tasks.Sources.{Sources}
 use Rattle.audit_options.specs.declared.tasks.StoreFile.{StoreFile}
+use Rattle.audit_answers.specs.GivenFiles.{last_given}
 use Rattle.store_audit.specs.declared.fillings.Source.{Source}
 use Rattle.store_audit.specs.declared.fillings.Source.TheVariants.{Config, Missing, Zeros}
 use Rattle.exported_config.specs.Giving as Exported
 use Rattle.exported_config.specs.declared.giving.Given.{Given}
 use Rattle.store_audit.specs.Fillings.{wanted_of}
 use Rattle.store_commands.specs.Files.{IsFile, IsThere, Known}
-
--- the last file that is given to the store of an id
-abbrev pub last_given : List StoreFile → ℕ → Option StoreFile
-last_given [] id = None
-last_given (file ∷ files) id =
-    option_or (last_given files id) (if file.id == id then Some file else None)
 
 abbrev pub is_slash : ℕ → Bool
 is_slash c = c == 47

@@ -1,6 +1,6 @@
 //! Where the bytes of an image come from.
 
-ghost use Rattle.std.specs.Prelude.{◌≡◌, IfErr, IfOk, drop, map, option_copied, option_map, string_bytes};
+ghost use Rattle.std.specs.Prelude.{◌≡◌, IfErr, IfOk, drop, map, option_map, string_bytes};
 ghost use Rattle.std.specs.List.{AllByRecursion};
 ghost use Rattle.ifr_nodes.specs.Nodes.{nodes_of};
 ghost use Rattle.ifr_scopes.specs.code.Lists.{store_node};
@@ -8,12 +8,13 @@ ghost use Rattle.store_audit.specs.Fillings.{buffer_stores};
 ghost use Rattle.store_audit.specs.code.Fillings.{filling_node};
 ghost use Rattle.exported_config.specs.code.Views.{exported_view};
 ghost use Rattle.store_commands.specs.Files.{IsFile, attributes};
-ghost use Rattle.store_commands.specs.Sources.{IsFallback, IsSource, filler, given_of, last_given, variable_path};
+ghost use Rattle.store_commands.specs.Sources.{IsFallback, IsSource, filler, given_of, variable_path};
 ghost use Rattle.store_commands.specs.code.Sources.{IsUnsourced};
 
 use crate::config::name_of;
 use crate::store_files::StoreFiles;
-use audit_options::{Sources, StoreFile};
+use audit_answers::last_given;
+use audit_options::Sources;
 use audit_text::{Case, guid_digits};
 use exported_config::ExportedConfig;
 use hii_bytes::laws::are_bytes;
@@ -129,19 +130,6 @@ fn filler(zero: bool) -> Source
     ensures { result ≡ filler zero }
 {
     if zero { Source::Zeros } else { Source::Missing }
-}
-
-// The last file that is given to the store of an id.
-fn last_given<'f, 'a>(files: &'f [StoreFile<'a>], id: u16) -> Option<&'f StoreFile<'a>>
-    ensures { option_copied result ≡ last_given files.entry.now id }
-{
-    let mut last = None;
-    for file in files {
-        if file.id == id {
-            last = Some(file);
-        }
-    }
-    last
 }
 
 // The bytes of a file for the store of an id, without the attributes of a variable.

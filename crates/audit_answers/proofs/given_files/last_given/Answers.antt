@@ -1,8 +1,8 @@
 use Rattle.std.proofs.Common.{◌∙◌, ap}
 use Rattle.std.specs.Option.{option_copied}
-use Rattle.store_commands.proofs.SourceLemmas.{last_found, last_other}
-use Rattle.store_commands.proofs.sources.last_given.Goals.{then-file-id, else-file-id}
-use Rattle.store_commands.proofs.sources.last_given.Goals as goal
+use Rattle.audit_answers.proofs.GivenFileLemmas.{last_found, last_other}
+use Rattle.audit_answers.proofs.given_files.last_given.Goals.{then-file-id, else-file-id}
+use Rattle.audit_answers.proofs.given_files.last_given.Goals as goal
 
 pub loop-file-preserved : goal.loop-file-preserved
 loop-file-preserved c = elim c.if-file-id.branch [

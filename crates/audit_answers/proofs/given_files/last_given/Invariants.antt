@@ -1,7 +1,7 @@
 use Rattle.std.proofs.Common.{◌≡◌, take}
 use Rattle.std.specs.Option.{option_copied}
-use Rattle.store_commands.specs.Sources.{last_given}
-use Rattle.store_commands.proofs.sources.last_given.Given as goal
+use Rattle.audit_answers.specs.GivenFiles.{last_given}
+use Rattle.audit_answers.proofs.given_files.last_given.Given as goal
 
 -- the last of the files so far
 abbrev pub invariant-loop-file : goal.invariant-loop-file

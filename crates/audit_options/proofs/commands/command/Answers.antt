@@ -1,16 +1,16 @@
+use Rattle.std.proofs.Common.{rules}
+use Rattle.audit_options.proofs.BuildingLemmas.{all_rows, row_added}
 use Rattle.audit_options.proofs.commands.command.Goals as goal
+
+pub loop-row-preserved : goal.loop-row-preserved
+loop-row-preserved c =
+    row_added c.args.takes_hyphen c.as_slice-row-items.result.now c.loop-row.row-index _ c.loop-row.command c.in_ok-subcommand.field-0 c.in_ok-command-2.command c.loop-row.invariant (search rules)
+    c.in_ok-subcommand.ensures c.in_ok-command-2.ensures
 
 pub returns : goal.returns
 returns c =
-    let with_split = c.with_command-command.ensures _ _ c.program-command.ensures c.split.ensures in
-    let with_stores = c.with_command-command-2.ensures _ _ with_split c.stores.ensures in
-    let with_check = c.with_command-command-3.ensures _ _ with_stores c.check.ensures in
-    let with_opcodes = c.with_command-command-4.ensures _ _ with_check c.opcodes.ensures in
-    let with_image = c.with_command-command-5.ensures _ _ with_opcodes c.image.ensures in
-    let with_questions = c.with_command-command-6.ensures _ _ with_image c.questions.ensures in
-    let with_question = c.with_command-command-7.ensures _ _ with_questions c.question.ensures in
-    let with_unlock = c.with_command-command-8.ensures _ _ with_question c.unlock.ensures in
-    let with_apply = c.with_command-command-9.ensures _ _ with_unlock c.apply.ensures in
-    let with_export = c.with_command-command-10.ensures _ _ with_apply c.export.ensures in
-    let with_diff = c.with_command-command-11.ensures _ _ with_export c.diff.ensures in
-    c.with_command.ensures _ _ with_diff c.survey.ensures
+    let all = all_rows c.args.takes_hyphen _ c.as_slice-row-items.result.now c.loop-row.row-index c.loop-row.command c.as_slice-row-items.ensures (search rules) c.loop-row.invariant in
+    all
+
+pub loop-row-init : goal.loop-row-init
+loop-row-init c = c.in_ok-command.ensures
