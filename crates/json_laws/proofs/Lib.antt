@@ -1,5 +1,6 @@
 pub mod WordLemmas
 pub mod ConditionLemmas
+pub mod ListLemmas
 pub mod ShownLemmas
 pub mod TextLemmas
 pub mod NumberLemmas

@@ -1,7 +1,7 @@
 -- What is shown of string ids is characters.
 use Rattle.std.proofs.Common.{◌≡◌, ◌==◌, ◌&&◌, ◌||◌, ℕ, zero, suc, ◌+◌, ◌-◌, ◌^◌, ◌<◌, nat_lt, Bool, true, false, cond, List, [], ◌∷◌, ◌++◌, length, map, take, drop, slice_get, slice_index, replicate, Option, Some, None, IfSome, option_map, option_and_then, unwrap_or, Ok, Err, Result, IfOk, decimal, refl, arith}
 use Rattle.std.specs.Bool.{⊤}
-use Rattle.std.specs.List.{AllByRecursion, filter}
+use Rattle.std.specs.List.{AllByRecursion}
 use Rattle.std.specs.Option.{option_or}
 use Rattle.std.specs.Result.{result_unwrap_or}
 use Rattle.std.specs.Str.{all_scalars}
@@ -11,6 +11,7 @@ use Rattle.browser_rules.specs.Packages.{END_PACKAGE, Package, STRINGS, is_bad, 
 use Rattle.browser_rules.specs.Strings.{Front, Spoken, Texts, block, characters, cut_block, cut_text, cut_texts, end_block, extension, front_of, info_offset, language_in, language_of, no_block, shown, spoken_by, spoken_in, text_at, text_in, text_of, texts_block, texts_from, texts_of, with_front}
 use Rattle.browser_rules.specs.Words.{Cause, number_in}
 use Rattle.hii_bytes.specs.Numbers.{AreBytes}
+use Rattle.json_laws.proofs.ListLemmas.{some_of}
 use Rattle.json_laws.proofs.WordLemmas.{Bytes, all_bytes, bytes_drop, bytes_take, decimal_word, shown_are_text, word_is_text}
 
 -- ---- texts of bytes
@@ -146,10 +147,6 @@ packages_bytes (suc n) at bytes all =
     HaveBytes (λ _. tt)
     (λ _. (bytes_take (package_length bytes) bytes all, packages_bytes n (at + package_length bytes) (drop (package_length bytes) bytes) (bytes_drop (package_length bytes) bytes all)))
 
-pub some_bytes : (test : Package → Bool) (ps : List Package) → HaveBytes ps → HaveBytes (filter test ps)
-some_bytes test [] all = tt
-some_bytes test (p ∷ ps) all = cond_both (test p) (p ∷ filter test ps) (filter test ps) HaveBytes (λ _. (all.0, some_bytes test ps all.1)) (λ _. some_bytes test ps all.1)
-
 pub no_spoken : AreSpoken []
 unfolding AreSpoken
 no_spoken = tt
@@ -178,7 +175,7 @@ first_got None other good too = too
 first_got (Some text) other good too = good
 
 text_shown : (o : Option (List ℕ)) (id : ℕ) → id < 2 ^ 64 → IfSome o Bytes → all_scalars (unwrap_or (option_map characters o) (35 ∷ decimal id)) ≡ true
-text_shown None id small good = word_is_text (35 ∷ decimal id) (and_from _ _ refl (decimal_word id small))
+text_shown None id small good = word_is_text (35 ∷ decimal id) (and_from _ _ refl (decimal_word id))
 text_shown (Some text) id small good = shown_are_text text good
 
 pub shown_by : (spoken : List Spoken) (choice : Option ℕ) (id : ℕ) → AreSpoken spoken → id < 2 ^ 64 → all_scalars (shown spoken choice id) ≡ true
@@ -190,7 +187,7 @@ pub strings_have_bytes : (list : List ℕ) → AreBytes list → HaveBytes (pack
 strings_have_bytes list are =
     let whole = take (list_length list) list in
     let all : Bytes (drop 20 whole) = bytes_drop 20 whole (bytes_take (list_length list) list (all_bytes list are)) in
-    some_bytes (λ p. p.kind == STRINGS) (packages_from (length list) 20 (drop 20 whole)) (packages_bytes (length list) 20 (drop 20 whole) all)
+    some_of (λ (p : Package). Bytes p.bytes) (λ p. p.kind == STRINGS) (packages_from (length list) 20 (drop 20 whole)) (packages_bytes (length list) 20 (drop 20 whole) all)
 
 pub shown_are_characters : (list : List ℕ) (choice : Option ℕ) (id : ℕ) → AreBytes list → id < 2 ^ 64 → all_scalars (shown (spoken_in list) choice id) ≡ true
 shown_are_characters list choice id are small = shown_by (spoken_in list) choice id (said_good (packages_with STRINGS list) (strings_have_bytes list are)) small

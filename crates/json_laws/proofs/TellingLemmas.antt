@@ -1,6 +1,7 @@
 -- What tells facts, part by part.
-use Rattle.std.proofs.Common.{◌≡◌, ℤ, pos, nat_abs, ℕ, ◌^◌, ◌<◌, true, List, [], ◌∷◌, ◌++◌, decimal, codes, refl, sym, ap, ap₂, subst, ◌∙◌}
+use Rattle.std.proofs.Common.{◌≡◌, ℤ, pos, nat_abs, ℕ, ◌^◌, ◌<◌, true, List, [], ◌∷◌, ◌++◌, map, decimal, codes, refl, sym, ap, ap₂, subst, ◌∙◌}
 use Rattle.std.specs.Fmt.{signed_decimal}
+use Rattle.std.specs.List.{AllByRecursion}
 use Rattle.std.specs.Str.{all_scalars}
 use Rattle.std.proofs.str.Laws.{scalars-append}
 use Rattle.audit_json.specs.Json.{escaped, json_text}
@@ -8,9 +9,9 @@ use Rattle.audit_json.specs.Objects.{array_member, fault_member, first_member, i
 use Rattle.hii_bytes.specs.declared.cause.Fault.{Fault}
 use Rattle.json_laws.specs.Reading.{Value, number, string, array, object, Items, no_items, item, no_facts, fact, decoded}
 use Rattle.json_laws.specs.laws.Written.{CanBeTold, IsWord, alone, behind, each_written, fault_facts, line_of, written}
-use Rattle.json_laws.specs.laws.Telling.{IsReadBack, TellsFacts, TellsValue, TellValues}
+use Rattle.json_laws.specs.laws.Telling.{IsReadBack, SpellsText, TellsFacts, TellsValue, TellValues}
 use Rattle.json_laws.proofs.ObjectLemmas.{array_told, can_behind, fault_can, fault_told, member_told, object_back, told_behind}
-use Rattle.json_laws.proofs.WordLemmas.{text_between, word_is_quoted, word_is_text}
+use Rattle.json_laws.proofs.WordLemmas.{escaped_behind, word_escaped, word_is_quoted, word_is_text}
 
 -- ---- values
 
@@ -29,12 +30,23 @@ tells_text characters scalars = tells_value (string characters) scalars
 pub tells_word : (w : List ℕ) → IsWord w → TellsValue (quoted w)
 tells_word w plain = record { value = string w; good = word_is_text w plain; same = word_is_quoted w plain }
 
-pub tells_text_between : (one characters other : List ℕ) → IsWord one → all_scalars characters ≡ true → IsWord other → TellsValue (quoted (one ++ escaped characters ++ other))
-tells_text_between one characters other plain scalars too = record {
-  value = string (one ++ characters ++ other);
-  good = scalars-append (one ++ characters) other (scalars-append one characters (word_is_text one plain) scalars) (word_is_text other too);
-  same = text_between one characters other plain too;
+-- ---- texts between quotation marks, piece by piece
+
+pub spells_text : (characters : List ℕ) → all_scalars characters ≡ true → SpellsText (escaped characters)
+spells_text characters scalars = record { characters = characters; good = scalars; same = refl }
+
+pub spells_word : (w : List ℕ) → IsWord w → SpellsText w
+spells_word w plain = record { characters = w; good = word_is_text w plain; same = sym (word_escaped w plain) }
+
+pub spells_behind : {one other : List ℕ} → SpellsText one → SpellsText other → SpellsText (one ++ other)
+spells_behind {one} {other} a b = record {
+  characters = a.characters ++ b.characters;
+  good = scalars-append a.characters b.characters a.good b.good;
+  same = ap₂ (λ (l m : List ℕ). l ++ m) a.same b.same ∙ sym (escaped_behind a.characters b.characters);
 }
+
+pub tells_spelled : {spelled : List ℕ} → SpellsText spelled → TellsValue (quoted spelled)
+tells_spelled {spelled} s = record { value = string s.characters; good = s.good; same = ap quoted s.same }
 
 pub tell_none : TellValues []
 tell_none = record { values = no_items; good = tt; same = refl }
@@ -45,6 +57,10 @@ tell_more {text} {texts} one others = record {
   good = (one.good, others.good);
   same = ap₂ (λ (l : List ℕ) (ls : List (List ℕ)). l ∷ ls) one.same others.same;
 }
+
+pub each_told : {X : Type 0} (P : X → Type 0) (f : X → List ℕ) (xs : List X) → ((x : X) → P x → TellsValue (f x)) → AllByRecursion P xs → TellValues (map f xs)
+each_told P f [] one all = tell_none
+each_told P f (x ∷ xs) one all = tell_more (one x all.0) (each_told P f xs one all.1)
 
 pub tells_array : {texts : List (List ℕ)} → TellValues texts → TellsValue (codes "[" ++ joined texts ++ codes "]")
 tells_array {texts} t = record {

@@ -1,17 +1,14 @@
 -- Words, of which nothing is escaped.
-use Rattle.std.proofs.Common.{◌≡◌, ◌⊎◌, ◌*◌, nat_lt, ◌==◌, ◌||◌, ◌&&◌, not, nat_le, ℤ, pos, negsuc, nat_abs, zero, suc, ℕ, ◌+◌, ◌/◌, ◌%◌, ◌^◌, ◌<◌, ◌≤◌, Bool, true, false, cond, List, [], ◌∷◌, ◌++◌, take, drop, map, slice_index, slice_index_or, slice_range, decimal, codes, refl, sym, ap, ap₂, ◌∙◌, arith, inl, inr}
-use Rattle.std.specs.Fmt.{digit_glyph, signed_decimal}
+use Rattle.std.proofs.Common.{◌≡◌, ◌⊎◌, ◌*◌, nat_lt, ◌==◌, ◌||◌, ◌&&◌, not, nat_le, ℤ, pos, negsuc, zero, suc, ℕ, ◌+◌, ◌/◌, ◌%◌, ◌<◌, ◌≤◌, Bool, true, false, cond, List, [], ◌∷◌, ◌++◌, take, drop, map, slice_index, slice_index_or, slice_range, decimal, codes, refl, sym, ap, ap₂, ◌∙◌, arith, inl, inr}
+use Rattle.std.specs.Fmt.{digit_glyph, digits, digits_onto, signed_decimal}
 use Rattle.std.specs.List.{AllByRecursion, list_all}
 use Rattle.std.specs.Str.{all_scalars}
 use Rattle.std.specs.Int.Digits as numbers
 use Rattle.std.specs.Int.Digits.{AllBelowBase}
-use Rattle.std.specs.Str.Parse.{AllDigits}
-use Rattle.std.proofs.lemmas.Bool.{agree_below_at, and_cases, and_from, and_parts, cond_both, cond-false, le-leb, leb-false, leb-true, lt-ltb, ltb-false, ne_eqb, not-true, not_from_false, or_from}
-use Rattle.std.proofs.lemmas.Fmt.{decimal_is_IsNumeral}
+use Rattle.std.proofs.lemmas.Bool.{agree_below_at, and_cases, and_from, and_parts, cond_both, cond-false, le-leb, leb-false, leb-true, lt-ltb, ltb-false, not-true, or_from}
 use Rattle.std.proofs.lemmas.Int.Digits.{all_below_base_digits_of}
 use Rattle.std.proofs.lemmas.List.Concat.{flat_map-append}
 use Rattle.std.proofs.lemmas.Str.{encode_ascii}
-use Rattle.std.proofs.lemmas.Str.Parse.{digit_from_value}
 use lib.Utf8.{encode, low_scalar, scalar}
 use Rattle.std.proofs.str.Laws.{scalars-append}
 use Rattle.browser_rules.specs.Strings.{characters, shown_unit}
@@ -87,26 +84,24 @@ word_behind (c ∷ w) other plain too =
     let p = and_parts (is_plain c) (list_all is_plain w) plain in
     and_from _ _ p.0 (word_behind w other p.1 too)
 
-plain_glyph : (upper : Bool) (d : ℕ) → d < 16 → is_plain (digit_glyph upper d) ≡ true
+pub plain_glyph : (upper : Bool) (d : ℕ) → d < 16 → is_plain (digit_glyph upper d) ≡ true
 plain_glyph true d h = agree_below_at (λ d. is_plain (digit_glyph true d)) (λ _. true) 16 d refl h
 plain_glyph false d h = agree_below_at (λ d. is_plain (digit_glyph false d)) (λ _. true) 16 d refl h
 
-digits_word : (ds : List ℕ) → AllDigits 10 ds → IsWord ds
-digits_word [] digits = refl
-digits_word (d ∷ ds) digits =
-    let range = digit_from_value d digits.0 in
-    let no_quote : (d == 34) ≡ false = ne_eqb d 34 (λ e. omega arith) in
-    let no_backslash : (d == 92) ≡ false = ne_eqb d 92 (λ e. omega arith) in
-    let plain : is_plain d ≡ true =
-    and_from _ _ (and_from _ _ (and_from _ _ (le-leb 0x20 d (omega arith)) (le-leb d 0x7E (omega arith))) (not_from_false _ no_quote)) (not_from_false _ no_backslash) in
-    and_from _ _ plain (digits_word ds digits.1)
+onto_word : (count n : ℕ) (behind : List ℕ) → IsWord behind → IsWord (digits_onto count 10 false n behind)
+onto_word zero n behind plain = plain
+onto_word (suc count) n behind plain =
+    let d = n % 10 in
+    let next : IsWord (digit_glyph false d ∷ behind) = and_from _ _ (plain_glyph false d (omega arith)) plain in
+    cond_both (n / 10 == 0) (digit_glyph false d ∷ behind) (digits_onto count 10 false (n / 10) (digit_glyph false d ∷ behind)) IsWord (λ _. next) (λ _. onto_word count (n / 10) (digit_glyph false d ∷ behind) next)
 
-pub decimal_word : (n : ℕ) → n < 2 ^ 64 → IsWord (decimal n)
-decimal_word n small = digits_word (decimal n) (decimal_is_IsNumeral n small).0.1
+pub decimal_word : (n : ℕ) → IsWord (decimal n)
+unfolding digits
+decimal_word n = onto_word 64 n [] refl
 
-pub signed_word : (z : ℤ) → nat_abs z < 2 ^ 64 → IsWord (signed_decimal z)
-signed_word (pos n) small = decimal_word n small
-signed_word (negsuc n) small = decimal_word (suc n) small
+pub signed_word : (z : ℤ) → IsWord (signed_decimal z)
+signed_word (pos n) = decimal_word n
+signed_word (negsuc n) = decimal_word (suc n)
 
 abbrev pub Bytes : List ℕ → Type 0
 Bytes bytes = AllByRecursion (λ b. b < 256) bytes

@@ -5,7 +5,7 @@ ghost use Rattle.std.specs.Fmt.{signed_decimal};
 ghost use Rattle.std.specs.List.{AllByRecursion};
 ghost use Rattle.std.specs.Str.{IsUtf8, all_scalars, chars};
 ghost use Rattle.browser_rules.specs.Strings.{characters, shown, spoken_in};
-ghost use Rattle.condition_text.specs.Senses.{IsGood, Sense};
+ghost use Rattle.condition_text.specs.Senses.{Sense};
 ghost use Rattle.condition_text.specs.Texts.{text as said_in_words};
 ghost use Rattle.hii_bytes.specs.Numbers.{AreBytes};
 ghost use Rattle.audit_json.specs.Json.{escaped, json_text};
@@ -40,14 +40,14 @@ pub fn words_are_texts()
 
 /// Numbers, bytes and GUIDs are words in digits, and so are names of opcodes and attributes, and what is said of a condition.
 pub fn what_is_quoted_is_words()
-    ensures natural { (n : ℕ) → n < 2 ^ 64 → IsWord (decimal n) }
-    ensures integer { (n : ℤ) → nat_abs n < 2 ^ 64 → IsWord (signed_decimal n) }
+    ensures natural { (n : ℕ) → IsWord (decimal n) }
+    ensures integer { (n : ℤ) → IsWord (signed_decimal n) }
     ensures hexadecimal { (n : ℕ) → IsWord (hex_text n) }
     ensures digits { (upper : Bool) (bytes : List ℕ) → AreBytes bytes → IsWord (digits_of upper bytes) }
     ensures guid { (upper : Bool) (guid : List ℕ) → AreBytes guid → IsWord (guid_text upper guid) }
     ensures opcode { (code : ℕ) → IsWord (opcode_name code) }
     ensures attributes { (attributes : ℕ) → IsWord (attributes_text attributes) }
-    ensures condition { (said : Sense) → IsGood said → IsWord (said_in_words said) }
+    ensures condition { (said : Sense) → IsWord (said_in_words said) }
     ensures behind { (one other : List ℕ) → IsWord one → IsWord other → IsWord (one ++ other) }
 {}
 

@@ -1,7 +1,6 @@
 -- Objects of `export`, and those of `diff` that tell bytes, tell facts.
-use Rattle.std.proofs.Common.{◌==◌, ℕ, ◌^◌, ◌<◌, ◌≤◌, Bool, false, List, [], ◌∷◌, length, take, Option, Some, None, IfSome, codes, refl, arith}
-use Rattle.std.specs.List.{AllByRecursion, filter, find}
-use Rattle.std.proofs.lemmas.Bool.{cond_both}
+use Rattle.std.proofs.Common.{◌==◌, ℕ, ◌^◌, ◌<◌, ◌≤◌, false, List, [], ◌∷◌, length, take, Option, Some, None, IfSome, codes, refl, arith}
+use Rattle.std.specs.List.{AllByRecursion, filter}
 use Rattle.byteorder.specs.Endian.{little_number}
 use Rattle.hii_bytes.specs.Numbers.{AreBytes, number_in}
 use Rattle.ifr_opcodes.specs.Forest.{Node}
@@ -14,6 +13,7 @@ use Rattle.image_audit.specs.Difference.{differing, run_object}
 use Rattle.image_audit.specs.Export.{store_object}
 use Rattle.image_audit.specs.Lines.{piece_object}
 use Rattle.json_laws.specs.laws.Telling.{IsReadBack, TellsFacts}
+use Rattle.json_laws.proofs.ListLemmas.{found_of, some_of}
 use Rattle.json_laws.proofs.TellingLemmas.{read_back, tells_behind, tells_member, tells_text, tells_word}
 use Rattle.json_laws.proofs.WordLemmas.{Bytes, all_bytes, are_bytes, bytes_are_text, bytes_take, bytes_word}
 use Rattle.object_laws.proofs.CheckLemmas.{number_member_told}
@@ -23,14 +23,6 @@ use Rattle.object_laws.proofs.StoreLemmas.{name_bytes_of}
 abbrev HaveBytes : List Node → Type 0
 HaveBytes ns = AllByRecursion (λ n. Bytes n.op) ns
 
-some_bytes : (test : Node → Bool) (ns : List Node) → HaveBytes ns → HaveBytes (filter test ns)
-some_bytes test [] all = tt
-some_bytes test (n ∷ ns) all = cond_both (test n) (n ∷ filter test ns) (filter test ns) HaveBytes (λ _. (all.0, some_bytes test ns all.1)) (λ _. some_bytes test ns all.1)
-
-found_bytes : (test : Node → Bool) (ns : List Node) → HaveBytes ns → IfSome (find test ns) (λ n. Bytes n.op)
-found_bytes test [] all = tt
-found_bytes test (n ∷ ns) all = cond_both (test n) (Some n) (find test ns) (λ o. IfSome o (λ n. Bytes n.op)) (λ _. all.0) (λ _. found_bytes test ns all.1)
-
 name_bytes : (o : Option Node) → IfSome o (λ n. Bytes n.op) → Bytes (name_of o)
 name_bytes None all = tt
 name_bytes (Some store) all = name_bytes_of store.op all
@@ -39,10 +31,10 @@ all_nodes : (ns : List Node) → AllByRecursion (λ n. AreBytes n.op) ns → Hav
 all_nodes [] are = tt
 all_nodes (n ∷ ns) are = (all_bytes n.op are.0, all_nodes ns are.1)
 
-name_told : (ns : List Node) (id : ℕ) → AllByRecursion (λ n. AreBytes n.op) ns → TellsFacts (text_member (codes "name") (name_of (store_with ns id)))
+pub name_told : (ns : List Node) (id : ℕ) → AllByRecursion (λ n. AreBytes n.op) ns → TellsFacts (text_member (codes "name") (name_of (store_with ns id)))
 name_told ns id are =
     let name = name_of (store_with ns id) in
-    let all : Bytes name = name_bytes (store_with ns id) (found_bytes (λ n. store_id n.op == id) (filter is_store ns) (some_bytes is_store ns (all_nodes ns are))) in
+    let all : Bytes name = name_bytes (store_with ns id) (found_of (λ (n : Node). Bytes n.op) (λ n. store_id n.op == id) (filter is_store ns) (some_of (λ (n : Node). Bytes n.op) is_store ns (all_nodes ns are))) in
     tells_member (codes "name") refl (tells_text name (bytes_are_text name (are_bytes name all)))
 
 pub store_held_back : (ns : List Node) (id : ℕ) (bytes : List ℕ) → AllByRecursion (λ n. AreBytes n.op) ns → id < 2 ^ 64 → length bytes < 2 ^ 64

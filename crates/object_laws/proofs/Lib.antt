@@ -4,3 +4,11 @@ pub mod CheckLemmas
 pub mod StoreLemmas
 pub mod SurveyLemmas
 pub mod ExportLemmas
+pub mod FieldLemmas
+pub mod MemberLemmas
+pub mod QuestionLemmas
+pub mod TextPieceLemmas
+pub mod DifferenceLemmas
+pub mod UnlockLemmas
+pub mod LossyLemmas
+pub mod ScriptLemmas

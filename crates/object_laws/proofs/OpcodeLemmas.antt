@@ -130,7 +130,7 @@ either_fields : (b : Bool) (fs gs : List Field) → AreGood fs → AreGood gs �
 either_fields true fs gs e h = e
 either_fields false fs gs e h = h
 
-power_few : (n : ℕ) → n < 4 → nat_le (2 ^ n) 8 ≡ true
+pub power_few : (n : ℕ) → n < 4 → nat_le (2 ^ n) 8 ≡ true
 power_few zero few = refl
 power_few (suc zero) few = refl
 power_few (suc (suc zero)) few = refl

@@ -17,7 +17,8 @@ use Rattle.dump_audit.specs.Contents.{begins_with_form_set, first_title, form_se
 use Rattle.dump_audit.specs.Findings.{Contents, Refused}
 use Rattle.dump_audit.specs.Objects.{contents_members, guid_value, head_members, list_object, no_list_object, rest_object, title_member}
 use Rattle.json_laws.specs.laws.Telling.{IsReadBack, TellsFacts, TellsValue, TellValues}
-use Rattle.json_laws.proofs.ShownLemmas.{HaveBytes, languages_are_characters, packages_bytes, shown_are_characters, some_bytes}
+use Rattle.json_laws.proofs.ListLemmas.{some_of}
+use Rattle.json_laws.proofs.ShownLemmas.{HaveBytes, languages_are_characters, packages_bytes, shown_are_characters}
 use Rattle.json_laws.proofs.TellingLemmas.{read_back, tell_more, tell_none, tells_array_member, tells_behind, tells_fault, tells_member, tells_nothing, tells_number, tells_text, tells_word}
 use Rattle.json_laws.proofs.WordLemmas.{Bytes, all_bytes, are_bytes, bytes_drop, bytes_take, decimal_word, guid_word, word_behind}
 
@@ -77,7 +78,7 @@ contents_told : (list : List ℕ) → AreBytes list → length list < 2 ^ 64 →
 contents_told list are small =
     let packages = packages_of list in
     let all : HaveBytes packages = packages_have_bytes list are in
-    let sets : HaveBytes (form_sets packages) = some_bytes begins_with_form_set packages all in
+    let sets : HaveBytes (form_sets packages) = some_of (λ (p : Package). Bytes p.bytes) begins_with_form_set packages all in
     let few : length (forms_in packages) < 2 ^ 64 = omega (arith, fewer (λ p. p.kind == FORMS) packages, packages_of_few list) in
     tells_behind
     (tells_behind (tells_behind (tells_member (codes "forms") refl (tells_number (length (forms_in packages)) few)) (tells_array_member (codes "guids") refl (guids_told (form_sets packages) sets)))
@@ -106,6 +107,5 @@ rest_back place byte bytes small size =
     read_back (codes "rest") refl
     (tells_behind (tells_member (codes "at") refl (tells_number place small)) (tells_member (codes "size") refl (tells_number (length (byte ∷ bytes)) size)))
 
-pub none_back : (number : ℕ) → number < 2 ^ 64 → IsReadBack (codes "error") (no_list_object number)
-none_back number small =
-    read_back (codes "error") refl (tells_member (codes "text") refl (tells_word (codes "NO LIST " ++ decimal number) (word_behind (codes "NO LIST ") (decimal number) refl (decimal_word number small))))
+pub none_back : (number : ℕ) → IsReadBack (codes "error") (no_list_object number)
+none_back number = read_back (codes "error") refl (tells_member (codes "text") refl (tells_word (codes "NO LIST " ++ decimal number) (word_behind (codes "NO LIST ") (decimal number) refl (decimal_word number))))

@@ -1,5 +1,5 @@
 -- Objects of `stores` and `image` tell facts.
-use Rattle.std.proofs.Common.{◌≡◌, ◌==◌, ℕ, ◌/◌, ◌%◌, ◌^◌, ◌<◌, Bool, true, false, cond, nat_le, ◌&&◌, List, [], ◌∷◌, ◌++◌, length, map, drop, Option, Some, None, IfSome, option_map, unwrap_or, decimal, codes, refl, arith}
+use Rattle.std.proofs.Common.{◌≡◌, ◌==◌, ℕ, ◌/◌, ◌%◌, ◌^◌, ◌<◌, Bool, true, false, cond, nat_le, ◌&&◌, List, [], ◌∷◌, ◌++◌, length, map, drop, Option, Some, None, IfSome, option_map, decimal, codes, refl, arith}
 use Rattle.std.specs.List.{before_first, flat_map, position_or_len}
 use Rattle.std.specs.Prelude.{string_bytes, chars}
 use Rattle.std.specs.Str.{all_scalars}
@@ -28,7 +28,7 @@ use Rattle.store_audit.specs.declared.fillings.Source.{Source}
 use Rattle.store_audit.specs.declared.fillings.Source.TheVariants.{File, Config, Zeros, Missing}
 use Rattle.json_laws.specs.laws.Telling.{IsReadBack, TellsFacts, TellsValue}
 use Rattle.json_laws.specs.laws.Written.{IsWord}
-use Rattle.json_laws.proofs.TellingLemmas.{read_back, tells_behind, tells_member, tells_nothing, tells_text, tells_text_between, tells_word}
+use Rattle.json_laws.proofs.TellingLemmas.{read_back, tells_behind, tells_member, tells_nothing, spells_behind, spells_text, spells_word, tells_spelled, tells_text, tells_word}
 use Rattle.json_laws.proofs.WordLemmas.{Bytes, all_bytes, are_bytes, attributes_word, bytes_are_text, bytes_drop, bytes_take, bytes_word, decimal_word, guid_word, opcode_word, word_behind}
 use Rattle.object_laws.specs.laws.Stores.{HasAlias}
 use Rattle.object_laws.proofs.CheckLemmas.{number_member_told}
@@ -51,11 +51,7 @@ size_small op are =
     (λ _. small_field (varstore_size op) (number_in-lt op _ 2 are))
     (λ _. cond_both (number op == VARSTORE_EFI) (Some (varstore_efi_size op)) None (λ o. IfSome o (λ n. n < 2 ^ 64)) (λ _. small_field (varstore_efi_size op) (number_in-lt op _ 2 are)) (λ _. tt))
 
-wanted_small : (o : Option ℕ) → IfSome o (λ n. n < 2 ^ 64) → unwrap_or o 0 < 2 ^ 64
-wanted_small None small = omega arith
-wanted_small (Some n) small = small
-
-guid_bytes_of : (op : List ℕ) → Bytes op → Bytes (store_guid op)
+pub guid_bytes_of : (op : List ℕ) → Bytes op → Bytes (store_guid op)
 guid_bytes_of op all =
     cond_both (number op == VARSTORE) (varstore_guid op) (cond (number op == VARSTORE_EFI) (varstore_efi_guid op) (name_value_guid op)) Bytes (λ _. bytes_take 16 (drop 2 op) (bytes_drop 2 op all))
     (λ _. cond_both (number op == VARSTORE_EFI) (varstore_efi_guid op) (name_value_guid op) Bytes (λ _. bytes_take 16 (drop 4 op) (bytes_drop 4 op all)) (λ _. bytes_take 16 (drop 4 op) (bytes_drop 4 op all)))
@@ -146,20 +142,17 @@ source_told (Config given) alias =
 source_told Zeros alias = tells_member (codes "source") refl (tells_word (codes "zeros") refl)
 source_told Missing alias = tells_nothing
 
-counts_word : (one other : ℕ) → one < 2 ^ 64 → other < 2 ^ 64 → IsWord (codes ": " ++ decimal one ++ codes " bytes given, " ++ decimal other ++ codes " wanted")
-counts_word one other small too =
+counts_word : (one other : ℕ) → IsWord (codes ": " ++ decimal one ++ codes " bytes given, " ++ decimal other ++ codes " wanted")
+counts_word one other =
     word_behind (codes ": " ++ decimal one ++ codes " bytes given, " ++ decimal other) (codes " wanted")
     (word_behind (codes ": " ++ decimal one ++ codes " bytes given, ") (decimal other)
-    (word_behind (codes ": " ++ decimal one) (codes " bytes given, ") (word_behind (codes ": ") (decimal one) refl (decimal_word one small)) refl) (decimal_word other too)) refl
+    (word_behind (codes ": " ++ decimal one) (codes " bytes given, ") (word_behind (codes ": ") (decimal one) refl (decimal_word one)) refl) (decimal_word other)) refl
 
-wanted_few : (n : Node) → AreBytes n.op → wanted_of n < 2 ^ 64
-wanted_few n are = wanted_small (store_size n.op) (size_small n.op are)
+reason_word : (n : Node) (source : Source) → IsWord (reason n source)
+reason_word n Missing = refl
+reason_word n source = counts_word (count_from (wanted_of n) source) (wanted_of n)
 
-reason_word : (n : Node) (source : Source) → AreBytes n.op → count_from (wanted_of n) source < 2 ^ 64 → IsWord (reason n source)
-reason_word n Missing are small = refl
-reason_word n source are small = counts_word (count_from (wanted_of n) source) (wanted_of n) small (wanted_few n are)
-
-byte_shown : (b : ℕ) → shown_byte b < 128
+pub byte_shown : (b : ℕ) → shown_byte b < 128
 byte_shown b = cond_both (nat_le 0x20 b && nat_le b 0x7E) b 63 (λ n. n < 128) (λ e. omega (arith, leb-true b 0x7E (and_parts (nat_le 0x20 b) (nat_le b 0x7E) e).1)) (λ _. omega arith)
 
 bytes_shown : (name : List ℕ) → all_scalars (map shown_byte name) ≡ true
@@ -178,14 +171,14 @@ filled_back n source are small alias =
     (number_member_told (codes "size") (count_from (wanted_of n) source) refl small))
     (source_told source alias))
 
-pub refused_told : (n : Node) (source : Source) → AreBytes n.op → count_from (wanted_of n) source < 2 ^ 64 → TellsValue (refused_string n source)
-refused_told n source are small =
+pub refused_told : (n : Node) (source : Source) → TellsValue (refused_string n source)
+refused_told n source =
     let front = codes "store " ++ decimal (store_id n.op) ++ codes " " in
-    let plain : IsWord front = word_behind (codes "store " ++ decimal (store_id n.op)) (codes " ") (word_behind (codes "store ") (decimal (store_id n.op)) refl (decimal_word (store_id n.op) (id_small n.op are))) refl in
-    tells_text_between front (ascii_name (store_name n.op)) (reason n source) plain (name_is_text (store_name n.op)) (reason_word n source are small)
+    let plain : IsWord front = word_behind (codes "store " ++ decimal (store_id n.op)) (codes " ") (word_behind (codes "store ") (decimal (store_id n.op)) refl (decimal_word (store_id n.op))) refl in
+    tells_spelled (spells_behind (spells_behind (spells_word front plain) (spells_text (ascii_name (store_name n.op)) (name_is_text (store_name n.op)))) (spells_word (reason n source) (reason_word n source)))
 
-pub refused_back : (n : Node) (source : Source) → AreBytes n.op → count_from (wanted_of n) source < 2 ^ 64 → IsReadBack (codes "error") (refused_object n source)
-refused_back n source are small = read_back (codes "error") refl (tells_member (codes "text") refl (refused_told n source are small))
+pub refused_back : (n : Node) (source : Source) → IsReadBack (codes "error") (refused_object n source)
+refused_back n source = read_back (codes "error") refl (tells_member (codes "text") refl (refused_told n source))
 
 pub count_back : (laid : Laid) (class : ℕ) → laid.count < 2 ^ 64 → class < 2 ^ 64 → IsReadBack (codes "defaults") (count_object laid class)
 count_back laid class count small =

@@ -1,11 +1,9 @@
 -- Objects of `survey` tell facts.
 use Rattle.std.proofs.Common.{ℕ, ◌^◌, ◌<◌, [], codes, refl}
 use Rattle.std.proofs.lemmas.Bool.{cond_both}
-use Rattle.hii_bytes.specs.Numbers.{AreBytes}
 use Rattle.hii_bytes.specs.declared.cause.Fault.{Fault}
 use Rattle.ifr_opcodes.specs.Forest.{Node}
 use Rattle.dump_audit.specs.Contents.{begins_with_form_set}
-use Rattle.store_audit.specs.Fillings.{count_from, wanted_of}
 use Rattle.store_audit.specs.declared.fillings.Source.{Source}
 use Rattle.survey_audit.specs.Lines.{Heading, counts_object, fault_object, head_members, list_fault_object, numbers_members, tally_members, unfit_object}
 use Rattle.survey_audit.specs.declared.counts.Counts.{Counts}
@@ -40,9 +38,8 @@ counts_back h c can few =
     (tells_behind (tells_behind (number_member_told (codes "forms") c.forms refl few.forms) (number_member_told (codes "questions") c.questions refl few.questions))
     (tally_told c.tally few.changeable few.grayed few.hidden few.disabled few.fixed few.constant)))
 
-pub unfit_back : (h : Heading) (n : Node) (source : Source) → CanHead h → AreBytes n.op → count_from (wanted_of n) source < 2 ^ 64 → IsReadBack (codes "set") (unfit_object h n source)
-unfit_back h n source can are small =
-    read_back (codes "set") refl (tells_behind (head_told h can) (tells_member (codes "reason") refl (refused_told n source are small)))
+pub unfit_back : (h : Heading) (n : Node) (source : Source) → CanHead h → IsReadBack (codes "set") (unfit_object h n source)
+unfit_back h n source can = read_back (codes "set") refl (tells_behind (head_told h can) (tells_member (codes "reason") refl (refused_told n source)))
 
 pub set_fault_back : (h : Heading) (fault : Fault) → CanHead h → fault.place < 2 ^ 64 → IsReadBack (codes "set") (fault_object h fault)
 set_fault_back h fault can place =

@@ -1,9 +1,13 @@
 //! That objects of audits are read back as their facts, command by command. Laws alone, no code that runs.
 #![tactic(auto)]
 
+pub mod apply;
 pub mod check;
+pub mod diff;
 pub mod export;
 pub mod opcodes;
+pub mod questions;
 pub mod split;
 pub mod stores;
 pub mod survey;
+pub mod unlock;

@@ -18,5 +18,5 @@ pub fn objects_of_split_are_read_back()
         → IsReadBack (codes "list") (list_object number list (Refused fault)) }
     ensures rest { (place byte : ℕ) (bytes : List ℕ) → place < 2 ^ 64 → length (byte ∷ bytes) < 2 ^ 64
         → IsReadBack (codes "rest") (rest_object place (byte ∷ bytes)) }
-    ensures none { (number : ℕ) → number < 2 ^ 64 → IsReadBack (codes "error") (no_list_object number) }
+    ensures none { (number : ℕ) → IsReadBack (codes "error") (no_list_object number) }
 {}

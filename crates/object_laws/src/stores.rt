@@ -21,6 +21,6 @@ pub fn objects_of_stores_are_read_back()
 /// What `image` tells of a store that it fills, of one that it does not, and of defaults is read back.
 pub fn objects_of_image_are_read_back()
     ensures filled { (n : Node) (source : Source) → AreBytes n.op → count_from (wanted_of n) source < 2 ^ 64 → HasAlias source → IsReadBack (codes "store") (filled_object n source) }
-    ensures refused { (n : Node) (source : Source) → AreBytes n.op → count_from (wanted_of n) source < 2 ^ 64 → IsReadBack (codes "error") (refused_object n source) }
+    ensures refused { (n : Node) (source : Source) → IsReadBack (codes "error") (refused_object n source) }
     ensures defaults { (laid : Laid) (class : ℕ) → laid.count < 2 ^ 64 → class < 2 ^ 64 → IsReadBack (codes "defaults") (count_object laid class) }
 {}

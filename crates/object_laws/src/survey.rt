@@ -1,10 +1,8 @@
 //! Objects of `survey` that tell of no question.
 
 ghost use Rattle.std.specs.Prelude.{◌<◌, ◌^◌, ℕ, codes};
-ghost use Rattle.hii_bytes.specs.Numbers.{AreBytes};
 ghost use Rattle.hii_bytes.specs.declared.cause.Fault.{Fault};
 ghost use Rattle.ifr_opcodes.specs.Forest.{Node};
-ghost use Rattle.store_audit.specs.Fillings.{count_from, wanted_of};
 ghost use Rattle.store_audit.specs.declared.fillings.Source.{Source};
 ghost use Rattle.survey_audit.specs.Lines.{Heading, counts_object, fault_object, list_fault_object, unfit_object};
 ghost use Rattle.survey_audit.specs.declared.counts.Counts.{Counts};
@@ -14,8 +12,7 @@ ghost use Rattle.object_laws.specs.laws.Survey.{AreFew, CanHead};
 /// What is told of a forms package of a dump, of a store that is not given what it holds, and of a fault is read back.
 pub fn objects_of_survey_are_read_back()
     ensures counts { (h : Heading) (c : Counts) → CanHead h → AreFew c → IsReadBack (codes "set") (counts_object h c) }
-    ensures unfit { (h : Heading) (n : Node) (source : Source) → CanHead h → AreBytes n.op → count_from (wanted_of n) source < 2 ^ 64
-        → IsReadBack (codes "set") (unfit_object h n source) }
+    ensures unfit { (h : Heading) (n : Node) (source : Source) → CanHead h → IsReadBack (codes "set") (unfit_object h n source) }
     ensures fault { (h : Heading) (fault : Fault) → CanHead h → fault.place < 2 ^ 64 → IsReadBack (codes "set") (fault_object h fault) }
     ensures list { (list : ℕ) (fault : Fault) → list < 2 ^ 64 → fault.place < 2 ^ 64 → IsReadBack (codes "set") (list_fault_object list fault) }
 {}
