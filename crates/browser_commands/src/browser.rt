@@ -30,7 +30,6 @@ use std::marker::Model;
 
 /// A form set, the stores as they were last submitted, the stores that commands read and change, the current form, and those
 /// that references have led away from.
-#[derive(Drop)]
 pub struct Browser<'a> {
     pub(crate) forms: Forms<'a>,
     // the body of the list's first DEVICE_PATH package, or empty
@@ -52,6 +51,28 @@ pub struct Browser<'a> {
     pub(crate) changed: Vec<u16>,
     pub(crate) form: Form<'a>,
     pub(crate) history: History,
+}
+
+impl<'a> Drop for Browser<'a> {
+    fn drop(self) {
+        let Browser {
+            forms: _,
+            path: _,
+            varstores: _,
+            languages: _,
+            language: _,
+            questions: _,
+            removed: _,
+            committed: _,
+            working: _,
+            spare: _,
+            is_written: _,
+            submission: _,
+            changed: _,
+            form: _,
+            history: _,
+        } = self;
+    }
 }
 
 impl<'a> Model for Browser<'a> {

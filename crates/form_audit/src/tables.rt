@@ -13,11 +13,20 @@ use guard_policy::Conditions;
 use std::alloc::{AllocError, Global};
 
 /// What lines look up of a form set, found once for all of them.
-#[derive(Drop)]
 pub struct Tables<'a> {
     pub ways: Ways,
     pub names: StoreNames<'a>,
     pub guards: GuardTable,
+}
+
+impl<'a> Drop for Tables<'a> {
+    fn drop(self) {
+        let Tables {
+            ways: _,
+            names: _,
+            guards: _,
+        } = self;
+    }
 }
 
 impl<'a> Tables<'a> {

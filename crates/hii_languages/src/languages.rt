@@ -19,12 +19,21 @@ use std::alloc::{AllocError, Global};
 use std::marker::Model;
 
 /// The string packages of a list, seen as what each says, in order.
-#[derive(Drop)]
 pub struct Languages<'a> {
     tables: Vec<StringTable<'a>>,
     // The numbers of the string packages by their languages, and by their primary subtags.
     by_language: Names<'a>,
     by_subtag: Names<'a>,
+}
+
+impl<'a> Drop for Languages<'a> {
+    fn drop(self) {
+        let Languages {
+            tables: _,
+            by_language: _,
+            by_subtag: _,
+        } = self;
+    }
 }
 
 impl<'a> Model for Languages<'a> {

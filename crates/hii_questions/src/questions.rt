@@ -37,7 +37,6 @@ use std::marker::Model;
 
 /// The questions of a form set by place, which are found by their places, by their ids and by their fields. They are seen as
 /// the package.
-#[derive(Drop)]
 pub struct Questions<'a> {
     ifr: &'a [u8],
     by_place: Vec<QuestionEntry>,
@@ -47,6 +46,20 @@ pub struct Questions<'a> {
     by_field: Vec<QuestionEntry>,
     passwords: Vec<QuestionEntry>,
     password_steps: Vec<Step>,
+}
+
+impl<'a> Drop for Questions<'a> {
+    fn drop(self) {
+        let Questions {
+            ifr: _,
+            by_place: _,
+            near: _,
+            by_id: _,
+            by_field: _,
+            passwords: _,
+            password_steps: _,
+        } = self;
+    }
 }
 
 impl<'a> Model for Questions<'a> {

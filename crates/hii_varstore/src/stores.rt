@@ -24,11 +24,20 @@ use std::marker::Model;
 
 /// The bytes of the buffer stores of a form set, by the ids of the stores (UEFI 2.8, 33.2.5.6 Storage), and the form set's
 /// GUID. The image in which they are kept is an own rule.
-#[derive(Drop)]
 pub struct Stores {
     guid: [u8; 16],
     table: Table,
     stores: Vec<Store>,
+}
+
+impl Drop for Stores {
+    fn drop(self) {
+        let Stores {
+            guid: _,
+            table: _,
+            stores: _,
+        } = self;
+    }
 }
 
 impl Model for Stores {

@@ -9,10 +9,18 @@ use std::alloc::{AllocError, Global};
 use std::marker::Model;
 
 /// The buffer stores by place, with an index by id.
-#[derive(Drop)]
 pub(crate) struct Table {
     buffers: Vec<Buffer>,
     places: IdTable,
+}
+
+impl Drop for Table {
+    fn drop(self) {
+        let Table {
+            buffers: _,
+            places: _,
+        } = self;
+    }
 }
 
 impl Model for Table {

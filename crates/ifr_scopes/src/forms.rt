@@ -63,11 +63,20 @@ use std::alloc::Global;
 use std::marker::Model;
 
 /// The form set of a forms package (UEFI 2.8, 33.2.5.1 Form Sets), seen as the package's bytes.
-#[derive(Drop)]
 pub struct Forms<'a> {
     ifr: &'a [u8],
     rules: RuleTable,
     index: Index,
+}
+
+impl<'a> Drop for Forms<'a> {
+    fn drop(self) {
+        let Forms {
+            ifr: _,
+            rules: _,
+            index: _,
+        } = self;
+    }
 }
 
 impl<'a> Model for Forms<'a> {

@@ -52,7 +52,6 @@ pub struct ConditionEntry {
 }
 
 /// The tables of a package.
-#[derive(Drop)]
 pub struct Index {
     /// The forms, statements and options, by place.
     pub(crate) entries: Vec<Entry>,
@@ -68,6 +67,20 @@ pub struct Index {
     pub(crate) rules: Vec<u32>,
     /// The places of the statements that give a default.
     pub(crate) giving: Vec<u32>,
+}
+
+impl Drop for Index {
+    fn drop(self) {
+        let Index {
+            entries: _,
+            guards: _,
+            conditions: _,
+            forms: _,
+            stores: _,
+            rules: _,
+            giving: _,
+        } = self;
+    }
 }
 
 /// The form, statement or option at a place, which is looked for first at this position.

@@ -39,7 +39,6 @@ use std::mem;
 
 /// Whether the conditions of the SUPPRESS_IFs, GRAY_OUT_IFs and NO_SUBMIT_IFs of a package hold over some stores, kept by their
 /// places, with the bytes of stores on which each depends. What a rule depends on is kept once, for all that use it.
-#[derive(Drop)]
 pub struct Kept<'a> {
     ifr: &'a [u8],
     dependents: Dependents,
@@ -48,6 +47,18 @@ pub struct Kept<'a> {
     guard_dependents: Vec<u32>,
     // The same for each condition of a question.
     condition_dependents: Vec<u32>,
+}
+
+impl<'a> Drop for Kept<'a> {
+    fn drop(self) {
+        let Kept {
+            ifr: _,
+            dependents: _,
+            index: _,
+            guard_dependents: _,
+            condition_dependents: _,
+        } = self;
+    }
 }
 
 impl<'a> Model for Kept<'a> {
@@ -226,7 +237,6 @@ impl<'a> Conditions for Kept<'a> {
 
 /// Stores that are written, what is kept of the conditions of their package over them at all times, and how many conditions were
 /// evaluated anew.
-#[derive(Drop)]
 pub struct KeptStores<'a> {
     stores: Stores,
     kept: Kept<'a>,
@@ -234,6 +244,17 @@ pub struct KeptStores<'a> {
     rules: RuleValues,
     // at most 2^64 - 1
     renewed: u64,
+}
+
+impl<'a> Drop for KeptStores<'a> {
+    fn drop(self) {
+        let KeptStores {
+            stores: _,
+            kept: _,
+            rules: _,
+            renewed: _,
+        } = self;
+    }
 }
 
 impl<'a> Model for KeptStores<'a> {

@@ -143,7 +143,6 @@ pub(crate) fn last_overlapping(
 }
 
 /// On what dependents depend, each once.
-#[derive(Drop)]
 pub(crate) struct Index {
     /// By the first byte.
     pub(crate) dependencies: Vec<Dependency>,
@@ -151,6 +150,16 @@ pub(crate) struct Index {
     pub(crate) summaries: Vec<Summary>,
     /// By the number of the rule.
     pub(crate) rule_uses: Vec<RuleUse>,
+}
+
+impl Drop for Index {
+    fn drop(self) {
+        let Index {
+            dependencies: _,
+            summaries: _,
+            rule_uses: _,
+        } = self;
+    }
 }
 
 // Puts dependencies into the order of their first bytes, each once.

@@ -20,11 +20,20 @@ use std::alloc::Global;
 use std::marker::Model;
 
 /// The form set of a package list, its buffer stores, and its questions, which are sound. They are seen as the forms package.
-#[derive(Drop)]
 pub struct Declared<'a> {
     forms: Forms<'a>,
     layout: Layout<'a>,
     questions: Questions<'a>,
+}
+
+impl<'a> Drop for Declared<'a> {
+    fn drop(self) {
+        let Declared {
+            forms: _,
+            layout: _,
+            questions: _,
+        } = self;
+    }
 }
 
 impl<'a> Model for Declared<'a> {

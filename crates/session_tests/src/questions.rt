@@ -1,0 +1,142 @@
+//! Questions with their fields, their answers and the values that they take.
+
+ghost use Rattle.std.specs.Prelude.{◌≡◌, IfOk};
+ghost use Rattle.hii_bytes.specs.Faults.{HasNone};
+ghost use Rattle.ifr_nodes.specs.Nodes.{nodes_of};
+ghost use Rattle.hii_varstore.specs.StoreNodes.{layout_of};
+ghost use Rattle.hii_varstore.specs.Stores.{shape_of};
+ghost use Rattle.hii_questions.specs.Faults.{IsQuestionFault};
+
+use crate::forms::{image, read_forms};
+use hii_questions::{
+    FieldRange, Input, Question, Questions, StoredItems, ValueDenial, check_value, element_width,
+    read_value, shown,
+};
+use hii_varstore::{Layout, Stores};
+use ifr_expr::{Answers, Value};
+use ifr_scopes::Forms;
+use std::alloc::Global;
+use std::process::Abort;
+use std::test::Fail;
+
+// So many bytes of the store 1.
+fn range(offset: u16, width: usize) -> FieldRange {
+    FieldRange {
+        store: 1,
+        offset,
+        width,
+    }
+}
+
+#[test]
+fn fields_meet_where_they_have_a_byte_in_common(rt: HostRuntime) {
+    let field = range(4, 2);
+    assert!(rt; field.meets(range(3, 2)) && !field.meets(range(2, 2)));
+    assert!(rt; field.first() == 131_076 && field.behind() == 131_078);
+}
+
+// The id of a question, if there is one.
+fn id_of(question: Option<Question<'_>>) -> Option<u16> {
+    Some(question?.id())
+}
+
+// The place of a question and of its statement, the id in its opcode, and the width of its field.
+fn seen(question: Option<Question<'_>>) -> Option<([u32; 2], u16, usize)> {
+    let question = question?;
+    let places = [question.place(), question.statement().place()];
+    Some((places, question.op().id(), question.field()?.width))
+}
+
+fn questions_are_found(rt: &impl Abort, questions: &Questions<'_>) {
+    assert!(rt; seen(questions.all().next()) == Some(([65, 65], 7, 1)));
+    assert!(rt; id_of(questions.at(162)) == Some(5));
+    assert!(rt; id_of(questions.with_field(range(2, 1)).next()) == Some(5));
+}
+
+fn a_password_is_found(rt: &impl Abort, questions: &Questions<'_>) {
+    assert!(rt; id_of(questions.password_in(range(5, 1))) == Some(9));
+    let password = questions.find(9).expect(rt, "question 9");
+    assert!(rt; password.is_password());
+}
+
+// Why a question does not take a number.
+fn denial_of(question: Question<'_>, number: i128) -> Option<ValueDenial> {
+    check_value(question, Input::Number(number)).err()
+}
+
+// The first item of the value that a number is for a question.
+fn first_item(question: Question<'_>, number: i128) -> Option<u64> {
+    match check_value(question, Input::Number(number)) {
+        Ok(field) => field.items().next(),
+        Err(_) => None,
+    }
+}
+
+fn a_choice_takes_its_options(rt: &impl Abort, questions: &Questions<'_>) {
+    let choice = questions.find(5).expect(rt, "question 5");
+    assert!(rt; element_width(choice.statement()) == 1);
+    assert!(rt; first_item(choice, 2) == Some(2));
+    let denial = denial_of(choice, 3).expect(rt, "a denial");
+    assert!(rt; denial.kind.name() == "nooption" && denial.place == 162);
+}
+
+pub(crate) fn questions_are_told(rt: &impl Abort, questions: &Questions<'_>) {
+    questions_are_found(rt, questions);
+    a_password_is_found(rt, questions);
+    a_choice_takes_its_options(rt, questions);
+}
+
+pub(crate) fn values_are_told(rt: &impl Abort, questions: &Questions<'_>, stores: &Stores) {
+    let over = questions.over(stores);
+    assert!(rt; matches!(over.answer(7), Value::Boolean(false)));
+    let choice = questions.find(5).expect(rt, "question 5");
+    assert!(rt; matches!(read_value(choice, stores), Value::Number(2)));
+}
+
+// Gives the question of an id a number, where there is one.
+fn give_number(
+    questions: &Questions<'_>,
+    stores: &mut Stores,
+    id: u16,
+    number: i128,
+) -> Result<(), ValueDenial>
+    requires sound { HasNone (IsQuestionFault (nodes_of questions.now.ifr)) }
+    requires laid { shape_of stores.old ≡ layout_of (nodes_of questions.now.ifr) }
+    ensures { shape_of stores.new ≡ shape_of stores.old }
+{
+    if let Some(question) = questions.find(id) {
+        check_value(question, Input::Number(number))?.put(stores);
+    }
+    Ok(())
+}
+
+// The byte 1 of the store 1.
+fn byte_of(stores: &Stores) -> Option<u8> {
+    stores.bytes(1)?.get(1).copied()
+}
+
+// The byte of the question 7, when it was given 1.
+fn given_byte(alloc: Global, forms: &Forms<'_>) -> Result<Option<u8>, Fail> {
+    let layout = Layout::read(alloc, forms)?;
+    let questions = Questions::read(alloc, forms, &layout)?;
+    let mut stores = Stores::read(alloc, &layout, image())?;
+    let byte = match give_number(&questions, &mut stores, 7, 1) {
+        Ok(()) => byte_of(&stores),
+        Err(_) => None,
+    };
+    Ok(byte)
+}
+
+#[test]
+fn a_question_is_given_a_number(rt: HostRuntime) -> Result<(), Fail> {
+    let forms = read_forms(rt.alloc())?;
+    assert!(rt; given_byte(rt.alloc(), &forms)? == Some(1));
+    Ok(())
+}
+
+#[test]
+fn numbers_in_bytes(rt: HostRuntime) {
+    assert!(rt; shown(true, 1, 0x80) == -128);
+    let mut items = StoredItems::new(b"\x02\x01\x00\x00", 2);
+    assert!(rt; items.step() == Some(0x102));
+}
