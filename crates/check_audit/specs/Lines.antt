@@ -1,8 +1,11 @@
 -- How what is found of a forms package is told (own rule).
 use Rattle.std.specs.Prelude.{ℕ, ◌+◌, ◌^◌, nat_lt, if◌then◌else◌, true, false, Option, Some, None, List, [], ◌++◌, codes, decimal}
+use Rattle.std.specs.List.{flat_map}
 use Rattle.browser_rules.specs.Opcodes.{number}
 use Rattle.browser_rules.specs.Packages.{Package}
 use Rattle.browser_rules.specs.Strings.{Spoken, shown}
+use Rattle.hii_bytes.specs.Cause.{name_of, number_of}
+use Rattle.hii_bytes.specs.Texts.{place_text}
 use Rattle.hii_bytes.specs.declared.cause.Cause.{Cause}
 use Rattle.hii_bytes.specs.declared.cause.Cause.TheVariants.{NoForms}
 use Rattle.hii_bytes.specs.declared.cause.Fault.{Fault}
@@ -10,7 +13,7 @@ use Rattle.ifr_opcodes.specs.Fields.{form_set_guid, form_set_title}
 use Rattle.ifr_nodes.specs.Nodes.{nodes_of}
 use Rattle.session_steps.specs.Texts.{refused_at_text}
 use Rattle.audit_text.specs.Texts.{digits_of, guid_text, hex_text, left_aligned, safe_text}
-use Rattle.audit_json.specs.Objects.{guid_member, number_member, object, refused_at_object, text_member, word_member}
+use Rattle.audit_json.specs.Objects.{cause_members, guid_member, number_member, object, refused_at_object, text_member, word_member}
 use Rattle.audit_json.specs.Telling.{told_as}
 use Rattle.audit_json.specs.declared.telling.Telling.{Telling}
 use Rattle.dump_audit.specs.Contents.{begins_with_form_set, opcodes_of}
@@ -104,6 +107,26 @@ refusal_told s ifr fault =
     ++ named_told s (codes "behind") (seen_before ifr fault.place).question
     ++ mostly_told s.telling (mostly_at fault.cause (opcode_at ifr fault.place))
 
+-- another fault of the same pass, with its byte in the file
+abbrev pub also_line : Fault → ℕ → List ℕ
+also_line fault byte =
+    begun (codes "also") ++ decimal (number_of fault.cause) ++ codes " " ++ name_of fault.cause ++ codes " at "
+    ++ place_text fault.place ++ codes ", byte " ++ hex_text byte ++ codes " of the file\n"
+
+abbrev pub also_object : Fault → ℕ → List ℕ
+also_object fault byte =
+    object (codes "also") (cause_members fault.cause ++ number_member (codes "at") fault.place
+    ++ number_member (codes "byte") byte)
+
+-- where the offset of the byte has 64 bits
+abbrev pub also_told : Telling → ℕ → Fault → List ℕ
+also_told telling base fault =
+    if nat_lt (base + fault.place) (2 ^ 64)
+    then told_as telling (also_line fault (base + fault.place)) (also_object fault (base + fault.place)) else []
+
+abbrev pub others_told : Telling → ℕ → List Fault → List ℕ
+others_told telling base others = flat_map (also_told telling base) others
+
 -- that there is no forms package has no byte
 abbrev pub list_byte_told : Telling → Cause → ℕ → List ℕ
 list_byte_told telling NoForms byte = []
@@ -166,7 +189,7 @@ warned_told s ifr good =
 -- what is found of a forms package
 abbrev pub verdict_told : Setting → List ℕ → Verdict → List ℕ
 verdict_told s ifr (IsGood good) = warned_told s ifr good
-verdict_told s ifr (Refused fault) = refusal_told s ifr fault
+verdict_told s ifr (Refused r) = refusal_told s ifr r.fault ++ others_told s.telling s.base r.others.items
 
 abbrev pub package_told : Setting → ℕ → Package → Verdict → List ℕ
 package_told s number p verdict = head_told s number p ++ verdict_told s p.bytes verdict

@@ -3,15 +3,15 @@
 ghost use Rattle.std.specs.Prelude.{◌++◌, map};
 ghost use Rattle.hii_bytes.specs.Watching.{Puts};
 ghost use Rattle.hii_packages.specs.code.Package.{package_of};
-ghost use Rattle.check_audit.specs.Lines.{form_set_members, form_set_words, good_line, good_object, good_told, head_line, head_object, head_told, package_told, verdict_told};
+ghost use Rattle.check_audit.specs.Lines.{form_set_members, form_set_words, good_line, good_object, good_told, head_line, head_object, head_told, others_told, package_told, refusal_told, verdict_told};
 ghost use Rattle.check_audit.specs.WarningLines.{warnings_told};
 ghost use Rattle.check_audit.specs.code.Settings.{HasConstants, setting_of};
 ghost use Rattle.check_audit.specs.code.Settling.{settled_of};
 
 use crate::form_set::form_set_of;
-use crate::refusal::put_refusal;
+use crate::refusal::{put_others, put_refusal};
 use crate::setting::Setting;
-use crate::verdict::{Counts, Good, Verdict};
+use crate::verdict::{Counts, Good, Refusal, Verdict};
 use crate::warning_lines::{Details, put_warnings};
 use audit_json::{Telling, end_object, put_guid_member, put_kind, put_number, put_shown};
 use audit_text::{Case, put_guid, put_safe_shown};
@@ -49,8 +49,22 @@ fn put_verdict<W: Write>(
 {
     match verdict {
         Verdict::Good(good) => put_warned(setting, good, out),
-        Verdict::Refused(fault) => put_refusal(setting, ifr, *fault, out),
+        Verdict::Refused(refusal) => put_refused(setting, ifr, refusal, out),
     }
+}
+
+// Tells by which fault a forms package is refused, and the others that are told beside it.
+fn put_refused<W: Write>(
+    setting: Setting<'_, '_>,
+    ifr: &[u8],
+    refusal: &Refusal,
+    out: &mut Watched<W>,
+)
+    ensures { Puts W.contents out.old out.new (refusal_told (setting_of setting.entry) ifr.now refusal.now.fault
+        ++ others_told setting.entry.telling setting.entry.base refusal.now.others.items) }
+{
+    put_refusal(setting, ifr, refusal.fault, out);
+    put_others(setting, &refusal.others, out);
 }
 
 // Tells which forms package this is.

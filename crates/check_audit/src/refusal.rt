@@ -3,14 +3,15 @@
 ghost use Rattle.std.specs.Prelude.{◌+◌, ◌≤◌, IfSome, length, option_map};
 ghost use Rattle.hii_bytes.specs.Watching.{Puts};
 ghost use Rattle.session_steps.specs.Texts.{refused_at_text};
-ghost use Rattle.check_audit.specs.Lines.{byte_line, byte_object, byte_told, fault_told, list_byte_told, list_refusal_told, mostly_line, mostly_object, mostly_told, named_line, named_object, named_told, opcode_line, opcode_object, opcode_told, refusal_told};
+ghost use Rattle.check_audit.specs.Lines.{also_line, also_object, also_told, byte_line, byte_object, byte_told, fault_told, list_byte_told, list_refusal_told, mostly_line, mostly_object, mostly_told, named_line, named_object, named_told, opcode_line, opcode_object, opcode_told, others_told, refusal_told};
 ghost use Rattle.check_audit.specs.code.Settings.{setting_of};
 
 use crate::behind::{Named, opcode_at, seen_before};
 use crate::mostly::{mostly_at, mostly_of};
 use crate::setting::Setting;
 use audit_json::{
-    Telling, end_object, put_kind, put_member, put_number, put_refused_at, put_shown, put_word,
+    Telling, end_object, put_kind, put_member, put_number, put_refused_at, put_shown, put_string,
+    put_word,
 };
 use audit_text::{put_hexadecimal, put_left, put_safe_shown};
 use hii_bytes::{Cause, Fault, Watched};
@@ -52,6 +53,55 @@ pub(crate) fn put_refusal<W: Write>(
     put_named(setting, b"form", seen.form, out);
     put_named(setting, b"behind", seen.question, out);
     put_mostly(setting.telling, mostly_at(fault.cause, opcode), out);
+}
+
+/// Tells the other faults of the pass by which a forms package is refused.
+pub(crate) fn put_others<W: Write>(setting: Setting<'_, '_>, others: &[Fault], out: &mut Watched<W>)
+    ensures { Puts W.contents out.old out.new (others_told setting.entry.telling setting.entry.base others.now) }
+{
+    for fault in others {
+        put_also(setting.telling, setting.base, *fault, out);
+    }
+}
+
+// Tells another fault, and its byte in the file, behind an offset of it, where the byte's offset has 64 bits.
+fn put_also<W: Write>(telling: Telling, base: u64, fault: Fault, out: &mut Watched<W>)
+    ensures { Puts W.contents out.old out.new (also_told telling base fault) }
+{
+    let Some(byte) = base.checked_add(fault.place) else {
+        return;
+    };
+    match telling {
+        Telling::Lines => put_also_line(fault, byte, out),
+        Telling::Objects => put_also_object(fault, byte, out),
+    }
+}
+
+// Writes the line of another fault.
+fn put_also_line<W: Write>(fault: Fault, byte: u64, out: &mut Watched<W>)
+    ensures { Puts W.contents out.old out.new (also_line fault byte) }
+{
+    put_left(out, 9, b"also");
+    out.put_decimal(u64::from(fault.cause.number()));
+    out.put(b" ");
+    out.put(fault.cause.name().as_bytes());
+    out.put(b" at ");
+    out.put_place(fault.place);
+    out.put(b", byte ");
+    put_hexadecimal(out, byte);
+    out.put(b" of the file\n");
+}
+
+// Writes the object of another fault.
+fn put_also_object<W: Write>(fault: Fault, byte: u64, out: &mut Watched<W>)
+    ensures { Puts W.contents out.old out.new (also_object fault byte) }
+{
+    put_kind(b"also", out);
+    put_number(b"cause", u64::from(fault.cause.number()), out);
+    put_string(b"name", fault.cause.name().as_bytes(), out);
+    put_number(b"at", fault.place, out);
+    put_number(b"byte", byte, out);
+    end_object(out);
 }
 
 // Tells a fault as setup does.

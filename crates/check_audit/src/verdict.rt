@@ -1,11 +1,12 @@
 //! Whether a forms package can be opened.
 
-ghost use Rattle.std.specs.Prelude.{◌≡◌, IfOk, IfErr, filter, length, map};
-ghost use Rattle.hii_bytes.specs.Faults.{HasNone, Refuses};
-ghost use Rattle.ifr_nodes.specs.Accepted.{IsAccepted};
+ghost use Rattle.std.specs.Prelude.{◌≡◌, ◌∷◌, ◌<◌, true, false, IfOk, filter, length, map};
+ghost use Rattle.hii_bytes.specs.Faults.{HasNone, IsLeast};
+ghost use Rattle.ifr_nodes.specs.Accepted.{IsAccepted, IsPackageFault};
+ghost use Rattle.ifr_nodes.specs.Checked.{IsChecked};
 ghost use Rattle.ifr_nodes.specs.Nodes.{is_form, is_store, nodes_of};
-ghost use Rattle.session_steps.specs.Opening.{IsFormSetFault};
-ghost use Rattle.check_audit.specs.Verdicts.{IsVerdict, counts_of, is_good};
+ghost use Rattle.hii_varstore.specs.StoreNodes.{IsStoreFault, layout_of};
+ghost use Rattle.check_audit.specs.Verdicts.{IsRefusal, IsVerdict, counts_of, is_good};
 ghost use Rattle.check_audit.specs.Constants.{constants};
 ghost use Rattle.check_audit.specs.Warnings.{AreWarnings};
 ghost use Rattle.check_audit.specs.code.Settings.{HasConstants};
@@ -19,8 +20,10 @@ use hii_bytes::{Cause, Fault};
 use hii_packages::Package;
 use hii_questions::Questions;
 use hii_varstore::Layout;
+use ifr_nodes::{check_framing, check_structure};
 use ifr_scopes::Forms;
 use opcode_audit::FirstStrings;
+use package_faults::{question_faults, reference_faults, store_faults};
 use std::alloc::{AllocError, Global};
 
 /// How many forms, questions and stores a forms package has.
@@ -40,13 +43,57 @@ pub(crate) struct Good<'a> {
     pub settled: Vec<Settled<'a>>,
 }
 
+/// By which fault a forms package is refused.
+#[derive(Drop)]
+pub(crate) struct Refusal {
+    /// The least fault.
+    pub fault: Fault,
+    /// The others of the same pass, where all of it are told, by place and then by cause.
+    pub others: Vec<Fault>,
+}
+
+impl Refusal {
+    // The first of these faults, and the others.
+    fn of(faults: Vec<Fault>) -> Refusal
+        requires { 0 < length faults.items }
+        ensures { result.fault ∷ result.others.items ≡ faults.items }
+    {
+        let mut others = faults;
+        let fault = others.remove(0);
+        Refusal { fault, others }
+    }
+
+    // The refusal of a package by the least fault of its nodes.
+    fn by_nodes(alloc: Global, source: Package<'_>, fault: Fault) -> Result<Refusal, AllocError>
+        requires { IsLeast (IsPackageFault source.bytes.now) fault }
+        ensures { IfOk result (IsRefusal source.entry.bytes.now) }
+    {
+        if is_checked(source) {
+            let faults = reference_faults(alloc, source.bytes)?;
+            return Ok(Refusal::of(faults));
+        }
+        Ok(Refusal {
+            fault,
+            others: Vec::new(alloc),
+        })
+    }
+}
+
+// Whether the framing of a package and its nodes by themselves have no fault.
+fn is_checked(source: Package<'_>) -> bool
+    ensures is { result ≡ true → IsChecked source.entry.bytes.now }
+    ensures not { result ≡ false → IsChecked source.entry.bytes.now → ⊥ }
+{
+    check_framing(source.bytes).is_ok() && check_structure(source.bytes).is_ok()
+}
+
 /// What is found of a forms package.
 #[derive(Drop)]
 pub(crate) enum Verdict<'a> {
     /// It has no fault.
     Good(Good<'a>),
-    /// Its least fault.
-    Refused(Fault),
+    /// Its least fault, and others.
+    Refused(Refusal),
 }
 
 impl<'a> Verdict<'a> {
@@ -61,10 +108,58 @@ impl<'a> Verdict<'a> {
         ensures found { IfOk result (IsVerdict strings.now lacks.now source.entry.bytes.now) }
         ensures settled { IfOk result (HasConstants source.entry.bytes.now) }
     {
-        match good_of(alloc, strings, lacks, source) {
-            Ok(good) => Ok(Verdict::Good(good)),
+        match Forms::read(alloc, source) {
+            Ok(forms) => Verdict::over_forms(alloc, strings, lacks, &forms),
             Err(fault) if fault.cause == Cause::OutOfMemory => Err(AllocError),
-            Err(fault) => Ok(Verdict::Refused(fault)),
+            Err(fault) => Ok(Verdict::Refused(Refusal::by_nodes(alloc, source, fault)?)),
+        }
+    }
+
+    // The same of one whose nodes have no fault.
+    fn over_forms(
+        alloc: Global,
+        strings: &FirstStrings<'_>,
+        lacks: &Lacks<'_>,
+        forms: &Forms<'a>,
+    ) -> Result<Verdict<'a>, AllocError>
+        requires { IsAccepted forms.now }
+        ensures found { IfOk result (IsVerdict strings.now lacks.now forms.now) }
+        ensures settled { IfOk result (HasConstants forms.now) }
+    {
+        match Layout::read(alloc, forms) {
+            Ok(layout) => Verdict::over_layout(alloc, strings, lacks, forms, &layout),
+            Err(fault) if fault.cause == Cause::OutOfMemory => Err(AllocError),
+            Err(_) => {
+                let faults = store_faults(alloc, forms)?;
+                Ok(Verdict::Refused(Refusal::of(faults)))
+            }
+        }
+    }
+
+    // The same of one whose stores have none either.
+    fn over_layout(
+        alloc: Global,
+        strings: &FirstStrings<'_>,
+        lacks: &Lacks<'_>,
+        forms: &Forms<'a>,
+        layout: &Layout<'a>,
+    ) -> Result<Verdict<'a>, AllocError>
+        requires accepted { IsAccepted forms.now }
+        requires laid { layout.now ≡ layout_of (nodes_of forms.now) }
+        requires sound { HasNone (IsStoreFault (nodes_of forms.now)) }
+        ensures found { IfOk result (IsVerdict strings.now lacks.now forms.now) }
+        ensures settled { IfOk result (HasConstants forms.now) }
+    {
+        match Questions::read(alloc, forms, layout) {
+            Ok(questions) => {
+                let good = good_of(alloc, strings, lacks, forms, &questions)?;
+                Ok(Verdict::Good(good))
+            }
+            Err(fault) if fault.cause == Cause::OutOfMemory => Err(AllocError),
+            Err(_) => {
+                let faults = question_faults(alloc, forms, layout)?;
+                Ok(Verdict::Refused(Refusal::of(faults)))
+            }
         }
     }
 
@@ -79,27 +174,23 @@ impl<'a> Verdict<'a> {
     }
 }
 
-// What is told of a forms package that has no fault; or its least fault, or that an allocation failed.
+// What is told of a forms package that has no fault.
 fn good_of<'a>(
     alloc: Global,
     strings: &FirstStrings<'_>,
     lacks: &Lacks<'_>,
-    source: Package<'a>,
-) -> Result<Good<'a>, Fault>
-    ensures counted { IfOk result (λ good. good.counts ≡ counts_of source.entry.bytes.now) }
-    ensures warned { IfOk result (λ good. AreWarnings strings.now lacks.now source.entry.bytes.now
-        good.warnings.items) }
-    ensures settled { IfOk result (λ good. map settled_of good.settled.items
-        ≡ constants (nodes_of source.entry.bytes.now)) }
-    ensures sound { IfOk result (λ good. HasNone (IsFormSetFault source.entry.bytes.now)) }
-    ensures refused { IfErr result (Refuses (IsFormSetFault source.entry.bytes.now)) }
+    forms: &Forms<'a>,
+    questions: &Questions<'a>,
+) -> Result<Good<'a>, AllocError>
+    requires accepted { IsAccepted forms.now }
+    requires same { questions.now.ifr ≡ forms.now }
+    ensures counted { IfOk result (λ good. good.counts ≡ counts_of forms.now) }
+    ensures warned { IfOk result (λ good. AreWarnings strings.now lacks.now forms.now good.warnings.items) }
+    ensures settled { IfOk result (λ good. map settled_of good.settled.items ≡ constants (nodes_of forms.now)) }
 {
-    let forms = Forms::read(alloc, source)?;
-    let layout = Layout::read(alloc, &forms)?;
-    let questions = Questions::read(alloc, &forms, &layout)?;
-    let found = warnings_of(alloc, strings, lacks, &forms, &questions)?;
+    let found = warnings_of(alloc, strings, lacks, forms, questions)?;
     Ok(Good {
-        counts: counts_of(&forms, &questions),
+        counts: counts_of(forms, questions),
         warnings: found.warnings,
         settled: found.settled,
     })

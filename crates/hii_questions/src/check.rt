@@ -25,8 +25,9 @@ use ifr_opcodes::{ONE_OF, ORDERED_LIST};
 use ifr_scopes::{Forms, OptionView, StatementKind};
 use std::alloc::{AllocError, Global};
 
-// Whether a question names a store, and none that is there. Its store holds so many bytes, if any.
-fn lacks_store(
+/// Whether a question names a store, and none that is there. Its store holds so many bytes, if any. The ids of all stores are
+/// gathered when they are first wanted.
+pub fn lacks_store(
     alloc: Global,
     forms: &Forms<'_>,
     ids: &mut Option<NumberSet>,
@@ -48,8 +49,8 @@ fn lacks_store(
     Ok(!has)
 }
 
-// Whether the field of a question reaches past the end of its store, which holds so many bytes.
-fn is_outside(question: Question<'_>, size: Option<u16>) -> bool
+/// Whether the field of a question reaches past the end of its store, which holds so many bytes.
+pub fn is_outside(question: Question<'_>, size: Option<u16>) -> bool
     ensures { result ≡ reaches_past (question_view question.entry).field size }
 {
     let (Some(field), Some(size)) = (question.field, size) else {
@@ -60,8 +61,12 @@ fn is_outside(question: Question<'_>, size: Option<u16>) -> bool
     size < offset || size - offset < field.width
 }
 
-// What is wrong with an option of a question, whose first option is of this Type.
-fn option_fault(question: Question<'_>, first: Option<u8>, option: OptionView<'_>) -> Option<Cause>
+/// What is wrong with an option of a question, whose first option is of this Type.
+pub fn option_fault(
+    question: Question<'_>,
+    first: Option<u8>,
+    option: OptionView<'_>,
+) -> Option<Cause>
     requires { first ≡ first_kind_of (options (question_node question)) }
     ensures { result ≡ first_cause (has_option_fault (question_node question.entry))
         (option_node option.entry) question_causes }

@@ -11,7 +11,7 @@ use ifr_opcodes::{TYPE_NUM_SIZE_16, TYPE_NUM_SIZE_32, TYPE_NUM_SIZE_64};
 use ifr_scopes::Statement;
 
 /// The Type of the first option.
-pub(crate) fn first_kind(statement: Statement<'_>) -> Option<u8>
+pub fn first_kind(statement: Statement<'_>) -> Option<u8>
     ensures first { result ≡ types.first_kind (options (statement_node statement.entry)) }
     ensures numeric { IfSome result (λ kind. kind ≤ TYPE_BOOLEAN) }
 {

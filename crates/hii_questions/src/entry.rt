@@ -37,7 +37,7 @@ impl FieldEntry {
 
 /// A question.
 #[derive(Clone, Copy)]
-pub(crate) struct QuestionEntry {
+pub struct QuestionEntry {
     /// The place of the question, in bytes from the package's header.
     pub(crate) place: u32,
     /// The position of its statement in the index of the package.
@@ -48,11 +48,7 @@ pub(crate) struct QuestionEntry {
 
 impl QuestionEntry {
     /// What is kept of the question that a statement is, whose store holds so many bytes, if any.
-    pub(crate) fn of(
-        statement: Statement<'_>,
-        op: QuestionOp<'_>,
-        size: Option<u16>,
-    ) -> QuestionEntry
+    pub fn of(statement: Statement<'_>, op: QuestionOp<'_>, size: Option<u16>) -> QuestionEntry
         requires same { op_of op.op ≡ mark (statement_node statement) }
         requires asks { is_question (statement_node statement) ≡ true }
         ensures { (shape : Shape)

@@ -35,8 +35,10 @@ mod texts;
 mod unit_blocks;
 mod value;
 
+pub use check::{is_outside, lacks_store, option_fault};
 pub use denial::{DenialKind, ValueDenial};
-pub use elements::element_width;
+pub use elements::{element_width, first_kind};
+pub use entry::QuestionEntry;
 pub use field::Field;
 pub use field_range::{FieldRange, WIDEST_FIELD};
 pub use input::Input;

@@ -47,11 +47,7 @@ impl<'a> Question<'a> {
 
     /// The question that a statement is, of which this is kept.
     #[inline(always)]
-    pub(crate) fn of(
-        statement: Statement<'a>,
-        op: QuestionOp<'a>,
-        entry: QuestionEntry,
-    ) -> Question<'a>
+    pub fn of(statement: Statement<'a>, op: QuestionOp<'a>, entry: QuestionEntry) -> Question<'a>
         requires same { op_of op.op ≡ mark (statement_node statement) }
         requires asks { is_question (statement_node statement) ≡ true }
         requires wide { HasWidth (statement_node statement) (entry_field entry) }

@@ -11,7 +11,7 @@ use ifr_opcodes::{END, op_at, split_opcode};
 /// Where the node at a place of a package ends: behind the END of its scope, or behind its opcode where it has none.
 /// Both are in bytes from the package's header.
 #[inline(always)]
-pub(crate) fn end_of(bytes: &[u8], place: u32) -> u32
+pub fn end_of(bytes: &[u8], place: u32) -> u32
     requires small { length bytes.now < 2 ^ 32 }
     requires spelled { SpellsForest bytes.now (tree_of bytes.now) }
     requires there { has_node bytes.now place ≡ true }

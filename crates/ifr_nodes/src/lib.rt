@@ -19,6 +19,7 @@ mod structure;
 mod table;
 mod walk;
 
+pub use ends::end_of;
 pub use framing::check_framing;
 pub use guard_place::GuardPlace;
 pub use node::Node;

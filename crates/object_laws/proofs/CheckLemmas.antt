@@ -1,5 +1,5 @@
 -- Objects of `check` tell facts.
-use Rattle.std.proofs.Common.{◌≡◌, ℕ, ◌^◌, ◌<◌, true, false, List, [], Option, codes, refl, arith}
+use Rattle.std.proofs.Common.{◌≡◌, ℕ, ◌^◌, ◌<◌, true, false, List, [], ◌++◌, Option, codes, refl, arith}
 use Rattle.std.specs.Str.{all_scalars}
 use Rattle.std.proofs.lemmas.Bool.{cond_both}
 use Rattle.browser_rules.specs.Opcodes.{number}
@@ -7,16 +7,19 @@ use Rattle.browser_rules.specs.Packages.{Package}
 use Rattle.browser_rules.specs.Strings.{Spoken}
 use Rattle.hii_bytes.specs.Numbers.{AreBytes}
 use Rattle.hii_bytes.specs.declared.cause.Cause.{Cause}
+use Rattle.hii_bytes.specs.Cause.{name_of, number_of}
 use Rattle.hii_bytes.specs.declared.cause.Cause.TheVariants.{NoForms, OpOutside}
+use Rattle.hii_bytes.specs.declared.cause.Fault.{Fault}
 use Rattle.ifr_opcodes.specs.Fields.{form_set_guid, form_set_title}
 use Rattle.audit_text.specs.Texts.{digits_of, guid_text}
-use Rattle.audit_json.specs.Objects.{guid_member, number_member}
+use Rattle.audit_json.specs.Objects.{cause_members, guid_member, number_member}
 use Rattle.dump_audit.specs.Contents.{begins_with_form_set, opcodes_of}
 use Rattle.opcode_audit.specs.Words.{name_or_number}
-use Rattle.check_audit.specs.Lines.{Setting, byte_object, form_set_members, head_object, mostly_object, opcode_object, text_of}
+use Rattle.check_audit.specs.Lines.{Setting, also_object, byte_object, form_set_members, head_object, mostly_object, opcode_object, text_of}
 use Rattle.check_audit.specs.Mostly.{is_guid, mostly_at, mostly_of}
 use Rattle.json_laws.specs.laws.Telling.{IsReadBack, TellsFacts}
 use Rattle.json_laws.specs.laws.Written.{IsWord}
+use Rattle.json_laws.proofs.ObjectLemmas.{fault_can}
 use Rattle.json_laws.proofs.TellingLemmas.{read_back, tells_behind, tells_member, tells_nothing, tells_number, tells_text, tells_word}
 use Rattle.json_laws.proofs.WordLemmas.{all_bytes, are_bytes, bytes_drop, bytes_word, guid_word}
 use Rattle.object_laws.proofs.OpcodeLemmas.{name_word}
@@ -72,3 +75,14 @@ opcode_at_back op are =
 
 pub mostly_back : (cause : Cause) (op : Option (List ℕ)) → IsReadBack (codes "mostly") (mostly_object (mostly_at cause op))
 mostly_back cause op = read_back (codes "mostly") refl (tells_member (codes "text") refl (tells_word (mostly_at cause op) (mostly_word cause op)))
+
+-- a fault with its place
+place_told : (fault : Fault) → fault.place < 2 ^ 64 → TellsFacts (cause_members fault.cause ++ number_member (codes "at") fault.place)
+place_told fault place =
+    let can = fault_can fault place in
+    tells_behind
+    (tells_behind (number_member_told (codes "cause") (number_of fault.cause) refl can.1) (tells_member (codes "name") refl (tells_text (name_of fault.cause) can.2.1)))
+    (number_member_told (codes "at") fault.place refl place)
+
+pub also_back : (fault : Fault) (byte : ℕ) → fault.place < 2 ^ 64 → byte < 2 ^ 64 → IsReadBack (codes "also") (also_object fault byte)
+also_back fault byte place small = read_back (codes "also") refl (tells_behind (place_told fault place) (number_member_told (codes "byte") byte refl small))

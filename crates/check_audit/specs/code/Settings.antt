@@ -19,4 +19,4 @@ told_in t = record { telling = t.telling; spoken = t.strings.now; lacks = t.lack
 -- where a forms package is good, the guards that are told are its own
 abbrev pub HasConstants : List ℕ → Verdict → Type 0
 HasConstants ifr (Good good) = map settled_of good.settled.items ≡ constants (nodes_of ifr)
-HasConstants ifr (Refused fault) = ⊤
+HasConstants ifr (Refused refusal) = ⊤

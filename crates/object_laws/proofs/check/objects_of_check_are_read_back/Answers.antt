@@ -1,4 +1,4 @@
-use Rattle.object_laws.proofs.CheckLemmas.{byte_back, head_back, mostly_back, opcode_at_back}
+use Rattle.object_laws.proofs.CheckLemmas.{also_back, byte_back, head_back, mostly_back, opcode_at_back}
 use Rattle.object_laws.proofs.check.objects_of_check_are_read_back.Goals as goal
 
 pub returns-clause-head : goal.returns-clause-head
@@ -12,3 +12,6 @@ returns-clause-opcode c = opcode_at_back
 
 pub returns-clause-mostly : goal.returns-clause-mostly
 returns-clause-mostly c = mostly_back
+
+pub returns-clause-also : goal.returns-clause-also
+returns-clause-also c = also_back

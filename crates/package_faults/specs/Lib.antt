@@ -1,0 +1,2 @@
+pub mod AllFaults
+pub mod code
