@@ -12,7 +12,7 @@ use Rattle.session_steps.specs.Opening.{IsOpenFault, layout_in}
 use Rattle.session_steps.specs.State.{State}
 use Rattle.session_steps.proofs.SourceLemmas.{one_source}
 use Rattle.browser_commands.proofs.OpeningLemmas.{opens_no_fault, refuses_second}
-use Rattle.form_audit.specs.Audited.{Audited}
+use Rattle.question_audit.specs.Audited.{Audited}
 use Rattle.audit_json.specs.declared.telling.Telling.{Telling}
 use Rattle.image_audit.specs.Difference.{difference_told}
 use Rattle.image_audit.proofs.EqualLemmas.{same_told, told_same}

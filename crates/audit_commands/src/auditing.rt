@@ -10,9 +10,8 @@ ghost use Rattle.audit_commands.specs.code.Opened.{IsOpened};
 
 use crate::opened::Opened;
 use audit_json::Telling;
-use form_audit::put_questions;
 use hii_bytes::{Cause, Fault, Watched};
-use question_audit::{Origin, put_question_with_id};
+use question_audit::{Origin, put_question_with_id, put_questions};
 use question_objects::{put_question_object, put_questions_objects};
 use setup_files::Given;
 use std::alloc::Global;

@@ -30,14 +30,14 @@ pub(crate) fn form_among(bytes: &[u8], places: &[u32]) -> Option<u32>
 
 /// A form, by its place, and where it ends: both in bytes from the package's header.
 #[derive(Clone, Copy)]
-pub(crate) struct FormEnd {
-    pub(crate) place: u32,
-    pub(crate) ends: u32,
+pub struct FormEnd {
+    pub place: u32,
+    pub ends: u32,
 }
 
 impl FormEnd {
     /// The end of the form at a place, which may be the one that is known.
-    pub(crate) fn at(ifr: &[u8], place: u32, known: Option<FormEnd>) -> FormEnd
+    pub fn at(ifr: &[u8], place: u32, known: Option<FormEnd>) -> FormEnd
         requires checked { IsChecked ifr.now }
         requires there { has_node ifr.now place ≡ true }
         requires known { IfSome known (λ form. form.ends

@@ -20,14 +20,15 @@ mod table;
 mod walk;
 
 pub use ends::end_of;
+pub use form_end::FormEnd;
 pub use framing::check_framing;
 pub use guard_place::GuardPlace;
 pub use node::Node;
 pub use nodes::Nodes;
 pub use nodes_of::NodesOf;
 pub use places::node_at;
-pub use references::check_references;
-pub use rules::{KeptRule, RuleSize, RuleTable, expression_of};
+pub use references::{check_references, has_form};
+pub use rules::{KeptRule, RuleSize, RuleTable, add_to, expression_of, last_ended};
 pub use scoped_nodes::{ScopedNode, ScopedNodes};
 pub use structure::check_structure;
 pub use table::wants_value;

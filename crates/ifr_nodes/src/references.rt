@@ -170,8 +170,8 @@ fn repeats_question(ids: &mut NumberSet, node: Node) -> bool
     !ids.insert(id) && id != 0
 }
 
-// Whether a package has a form.
-fn has_form(ifr: &[u8]) -> bool
+/// Whether a package, whose framing and nodes have no fault, has a form.
+pub fn has_form(ifr: &[u8]) -> bool
     requires { IsChecked ifr.now }
     ensures { result ≡ list_any is_form (nodes_of ifr.now) }
 {

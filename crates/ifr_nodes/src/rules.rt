@@ -62,8 +62,9 @@ pub fn expression_of(rule: Node<'_>) -> Expr<'_>
     Expr::over(rule.ifr, from, to)
 }
 
-// The last rule of a list that ends at or before a place, if one does.
-fn last_ended(rules: &[KeptRule], place: u32) -> Option<KeptRule>
+/// The last rule of a list that ends at or before a place (bytes from the package's header), if one does. The rules stand by where they
+/// end.
+pub fn last_ended(rules: &[KeptRule], place: u32) -> Option<KeptRule>
     ensures { IsNonDecreasingBy (λ (r : KeptRule). r.ends) rules.now
         → result ≡ find (λ r. nat_le r.ends place) (reverse rules.now) }
 {
@@ -87,8 +88,8 @@ fn add_lists(lists: &mut Vec<Vec<KeptRule>>, id: u8) -> Result<(), AllocError>
     Ok(())
 }
 
-// Adds a rule to the list of its id.
-fn add_to(lists: &mut Vec<Vec<KeptRule>>, id: u8, rule: KeptRule) -> Result<(), AllocError>
+/// Adds a rule to the list of its id, with empty lists of the ids before it where there are none.
+pub fn add_to(lists: &mut Vec<Vec<KeptRule>>, id: u8, rule: KeptRule) -> Result<(), AllocError>
     ensures { OnOk result ((other : ℕ) → list_of lists.new.items other
         ≡ list_of lists.old.items other ++ (if id == other then rule ∷ [] else [])) }
 {

@@ -18,11 +18,11 @@ use Rattle.hii_questions.specs.Denials.{kind_name}
 use Rattle.guard_policy.specs.Policy.{fixed}
 use Rattle.guard_policy.specs.declared.denial.Denial.{Denial}
 use Rattle.hii_bytes.specs.Faults.{HasNone}
-use Rattle.form_audit.specs.Audited.{Audited}
+use Rattle.question_audit.specs.Audited.{Audited}
 use Rattle.image_audit.proofs.DistinctLemmas.{stores_differ}
 use Rattle.audit_json.specs.declared.telling.Telling.TheVariants.{Lines, Objects}
 use Rattle.audit_json.specs.declared.telling.Telling.{Telling}
-use Rattle.form_audit.specs.QuestionLines.{word_where}
+use Rattle.question_audit.specs.QuestionLines.{word_where}
 use Rattle.image_audit.specs.Difference.{are_other_verdicts, bytes_told, decides_otherwise, difference_told, gaps_told, held_runs, run_told, runs_told, value_told_as, values_told, verdicts_told}
 
 front_nil : (xs ys : List ℕ) → xs ++ ys ≡ [] → xs ≡ []

@@ -7,7 +7,7 @@ use Rattle.hii_bytes.specs.code.Writing.{Stands}
 use Rattle.hii_bytes.proofs.WritingLemmas.{past_piece}
 use Rattle.ifr_opcodes.specs.Forest.{Node}
 use Rattle.audit_text.specs.Texts.{digits_of}
-use Rattle.form_audit.specs.QuestionLines.{word_where}
+use Rattle.question_audit.specs.QuestionLines.{word_where}
 use Rattle.audit_json.specs.declared.telling.Telling.{Telling}
 use Rattle.image_audit.specs.Difference.{differing, run_told, runs_told}
 

@@ -20,9 +20,9 @@ use Rattle.audit_json.specs.Telling.{told_as}
 use Rattle.audit_json.specs.declared.telling.Telling.{Telling}
 use Rattle.question_objects.specs.Members.{shown_member}
 use Rattle.question_objects.specs.Values.{script_member}
-use Rattle.form_audit.specs.Audited.{Audited}
-use Rattle.form_audit.specs.FormLines.{denial_text}
-use Rattle.form_audit.specs.QuestionLines.{field_text, name_of, store_with, told_value, value_told, word_where}
+use Rattle.question_audit.specs.Audited.{Audited}
+use Rattle.question_audit.specs.FormLines.{denial_text}
+use Rattle.question_audit.specs.QuestionLines.{field_text, name_of, store_with, told_value, value_told, word_where}
 
 -- ---- values: the questions whose fields hold other bytes, by place
 

@@ -7,7 +7,7 @@ use Rattle.audit_text.specs.Texts.{ascii_name}
 use Rattle.audit_json.specs.Objects.{number_member, object, text_member}
 use Rattle.audit_json.specs.Telling.{told_as}
 use Rattle.audit_json.specs.declared.telling.Telling.{Telling}
-use Rattle.form_audit.specs.QuestionLines.{name_of, store_with}
+use Rattle.question_audit.specs.QuestionLines.{name_of, store_with}
 
 -- the id and the name of a store, and how many bytes it holds
 abbrev pub store_line : List Node → ℕ → List ℕ → List ℕ

@@ -6,7 +6,7 @@ use Rattle.hii_varstore.specs.Stores.{StoreMap}
 use Rattle.hii_questions.specs.Changes.{field_bytes, holds_others}
 use Rattle.hii_questions.specs.Fields.{Asked, Field, is_password, questions}
 use Rattle.audit_text.specs.Texts.{digits_of}
-use Rattle.form_audit.specs.QuestionLines.{field_text, name_of, store_with}
+use Rattle.question_audit.specs.QuestionLines.{field_text, name_of, store_with}
 use Rattle.audit_json.specs.Objects.{number_member, object, text_member}
 use Rattle.audit_json.specs.Telling.{told_as}
 use Rattle.audit_json.specs.declared.telling.Telling.{Telling}

@@ -14,8 +14,8 @@ ghost use Rattle.guard_policy.specs.code.Answers.{unless};
 ghost use Rattle.guard_policy.specs.code.Views.{bytes_of};
 ghost use Rattle.guard_policy.specs.declared.denial.Denial.{Denial as Denied};
 ghost use Rattle.form_page.specs.code.PageViews.{world_of};
-ghost use Rattle.form_audit.specs.Audited.{Audited};
-ghost use Rattle.form_audit.specs.code.Pages.{audited};
+ghost use Rattle.question_audit.specs.Audited.{Audited};
+ghost use Rattle.question_audit.specs.code.Pages.{audited};
 ghost use Rattle.audit_json.specs.Objects.{word_member};
 ghost use Rattle.image_audit.specs.Difference as spec;
 
@@ -24,11 +24,11 @@ use crate::runs::put_bytes;
 use crate::value_objects::{put_question_members, put_value_object};
 use audit_json::{Telling, end_object, put_kind, put_member};
 use audit_text::put_safe_shown;
-use form_audit::{StoreNames, put_denial, put_told_value};
 use form_page::Page;
 use guard_policy::{Conditions, Denial};
 use hii_bytes::{Fault, Watched};
 use hii_questions::Question;
+use question_audit::{StoreNames, put_denial, put_told_value};
 use std::alloc::Global;
 use std::io::Write;
 

@@ -9,7 +9,7 @@ ghost use Rattle.ifr_opcodes.specs.Forest.{Node};
 ghost use Rattle.ifr_scopes.specs.Stores.{store_id};
 ghost use Rattle.ifr_scopes.specs.code.Lists.{store_node};
 ghost use Rattle.audit_text.specs.Passing.{PassesOn};
-ghost use Rattle.form_audit.specs.QuestionLines.{name_of, store_with};
+ghost use Rattle.question_audit.specs.QuestionLines.{name_of, store_with};
 ghost use Rattle.image_audit.specs.Export.{PutsBytes, store_line, store_members, store_object, store_told};
 
 use audit_json::{Telling, end_object, put_kind, put_number, put_string};

@@ -7,7 +7,7 @@ ghost use Rattle.hii_bytes.specs.Faults.{HasNone};
 ghost use Rattle.hii_bytes.specs.Numbers.{AreBytes};
 ghost use Rattle.hii_varstore.specs.StoreNodes.{IsStoreFault, layout_of};
 ghost use Rattle.hii_varstore.specs.Stores.{shape_of};
-ghost use Rattle.form_audit.specs.Audited.{Audited};
+ghost use Rattle.question_audit.specs.Audited.{Audited};
 ghost use Rattle.audit_json.specs.declared.telling.Telling.{Telling};
 ghost use Rattle.image_audit.specs.Difference.{difference_told};
 ghost use Rattle.image_audit.specs.Lines.{number_digits};

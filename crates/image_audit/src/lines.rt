@@ -18,11 +18,11 @@ use crate::fields::differs;
 use crate::range::put_range;
 use audit_json::{Telling, end_object, put_kind, put_number, put_string};
 use byteorder::{ByteOrder, LittleEndian};
-use form_audit::StoreNames;
 use hii_bytes::{Fault, Watched};
 use hii_questions::{Question, Questions, WIDEST_FIELD};
 use hii_varstore::{Layout, Stores};
 use ifr_scopes::Forms;
+use question_audit::StoreNames;
 use std::alloc::Global;
 use std::io::Write;
 

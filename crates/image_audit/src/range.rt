@@ -2,11 +2,11 @@
 
 ghost use Rattle.hii_bytes.specs.Watching.{Puts};
 ghost use Rattle.ifr_nodes.specs.Nodes.{nodes_of};
-ghost use Rattle.form_audit.specs.QuestionLines.{field_text};
+ghost use Rattle.question_audit.specs.QuestionLines.{field_text};
 
 use audit_text::{put_ascii_name, put_hexadecimal};
-use form_audit::StoreNames;
 use hii_bytes::Watched;
+use question_audit::StoreNames;
 use std::io::Write;
 
 /// Writes where bytes of a store lie, as NAME:0xOFFSET(WIDTH).

@@ -6,15 +6,15 @@ ghost use Rattle.ifr_nodes.specs.Nodes.{nodes_of};
 ghost use Rattle.hii_varstore.specs.Stores.{bytes_of};
 ghost use Rattle.audit_text.specs.Texts.{digits_of};
 ghost use Rattle.audit_json.specs.Objects.{word_member};
-ghost use Rattle.form_audit.specs.QuestionLines.{word_where};
+ghost use Rattle.question_audit.specs.QuestionLines.{word_where};
 ghost use Rattle.image_audit.specs.Difference as spec;
 
 use crate::range::put_range;
 use audit_json::{Telling, end_object, put_kind, put_member, put_number, put_string};
-use form_audit::StoreNames;
 use hii_bytes::Watched;
 use hii_varstore::Stores;
 use ifr_scopes::Forms;
+use question_audit::StoreNames;
 use std::io::Write;
 
 // How many bytes from the first on differ.

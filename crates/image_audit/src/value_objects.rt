@@ -8,16 +8,16 @@ ghost use Rattle.hii_questions.specs.Fields.{asked};
 ghost use Rattle.hii_questions.specs.code.Views.{question_node, question_view};
 ghost use Rattle.hii_questions.specs.code.Ranges.{range_in};
 ghost use Rattle.guard_policy.specs.code.Views.{bytes_of};
-ghost use Rattle.form_audit.specs.code.Pages.{audited};
+ghost use Rattle.question_audit.specs.code.Pages.{audited};
 ghost use Rattle.image_audit.specs.Difference as spec;
 
 use audit_json::{end_object, put_escaped_name, put_kind, put_member, put_number};
 use audit_text::put_hexadecimal;
-use form_audit::{StoreNames, put_json_value};
 use form_page::Page;
 use guard_policy::Conditions;
 use hii_bytes::Watched;
 use hii_questions::{FieldRange, Question, read_value};
+use question_audit::{StoreNames, put_json_value};
 use question_objects::{put_script, put_text};
 use std::io::Write;
 

@@ -8,8 +8,8 @@ use Rattle.hii_questions.specs.Fields.{Field, asked}
 use Rattle.guard_policy.specs.Policy.{fixed}
 use Rattle.guard_policy.specs.declared.denial.Denial.{Denial}
 use Rattle.audit_text.specs.Texts.{ascii_name}
-use Rattle.form_audit.specs.Audited.{Audited}
-use Rattle.form_audit.specs.QuestionLines.{name_of, store_with, value_told}
+use Rattle.question_audit.specs.Audited.{Audited}
+use Rattle.question_audit.specs.QuestionLines.{name_of, store_with, value_told}
 use Rattle.image_audit.specs.Difference.{question_members, range_member, shown_string, value_in, value_object, verdict_object, verdict_text}
 use Rattle.json_laws.specs.laws.Telling.{IsReadBack, TellsFacts}
 use Rattle.json_laws.specs.laws.Written.{IsWord}

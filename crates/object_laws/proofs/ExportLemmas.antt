@@ -8,7 +8,7 @@ use Rattle.ifr_nodes.specs.Nodes.{is_store}
 use Rattle.ifr_scopes.specs.Stores.{store_id}
 use Rattle.audit_text.specs.Texts.{digits_of}
 use Rattle.audit_json.specs.Objects.{text_member}
-use Rattle.form_audit.specs.QuestionLines.{name_of, store_with}
+use Rattle.question_audit.specs.QuestionLines.{name_of, store_with}
 use Rattle.image_audit.specs.Difference.{differing, run_object}
 use Rattle.image_audit.specs.Export.{store_object}
 use Rattle.image_audit.specs.Lines.{piece_object}

@@ -23,8 +23,8 @@ use Rattle.condition_text.specs.Senses.{sense}
 use Rattle.audit_text.specs.Texts.{guid_text}
 use Rattle.audit_text.specs.Words.{opcode_name, word_where}
 use Rattle.audit_json.specs.Objects.{first_member, guid_member, inner_object, quoted, text_member, true_member, word_member}
-use Rattle.form_audit.specs.Audited.{Audited}
-use Rattle.form_audit.specs.QuestionLines.{has_no_text, is_undefined, names_no_set, store_with}
+use Rattle.question_audit.specs.Audited.{Audited}
+use Rattle.question_audit.specs.QuestionLines.{has_no_text, is_undefined, names_no_set, store_with}
 use Rattle.question_audit.specs.ConditionFacts.{condition_words, guard_state, state_text, value_at}
 use Rattle.question_audit.specs.Limits.{flag_words, list_least, outside_text, shown_number, shown_step, unstored_text}
 use Rattle.question_audit.specs.RuleFacts.{rule_words}

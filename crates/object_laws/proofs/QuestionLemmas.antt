@@ -27,12 +27,12 @@ use Rattle.form_page.specs.RowValues as shown
 use Rattle.form_page.specs.RowValues.{checkbox_shown, choice, choice_text, later_text, list_shown, number_text, numeric_shown, one_of_shown, option_with, password_shown, question_shown, reference_text, stored_shown, string_shown, value_shown}
 use Rattle.audit_text.specs.Words.{opcode_name}
 use Rattle.audit_json.specs.Objects.{first_member, inner_object, quoted}
-use Rattle.form_audit.specs.Audited.{Audited}
-use Rattle.form_audit.specs.QuestionLines.{is_constant, is_undefined_guard, undefined_guards, unguarded, value_told}
-use Rattle.form_audit.specs.Reach.{reach_of}
-use Rattle.form_audit.specs.ScriptValues.{checkbox_script, default_taken, list_script, list_text, numeric_script, one_of_script, script_value, string_characters, string_script}
-use Rattle.form_audit.specs.declared.ways.Reach.{Reach}
-use Rattle.form_audit.specs.declared.ways.Reach.TheVariants.{Open, Hidden, Closed, Below, Unnamed}
+use Rattle.question_audit.specs.Audited.{Audited}
+use Rattle.question_audit.specs.QuestionLines.{is_constant, is_undefined_guard, undefined_guards, unguarded, value_told}
+use Rattle.question_audit.specs.Reach.{reach_of}
+use Rattle.question_audit.specs.ScriptValues.{checkbox_script, default_taken, list_script, list_text, numeric_script, one_of_script, script_value, string_characters, string_script}
+use Rattle.question_audit.specs.declared.ways.Reach.{Reach}
+use Rattle.question_audit.specs.declared.ways.Reach.TheVariants.{Open, Hidden, Closed, Below, Unnamed}
 use Rattle.question_audit.specs.ConditionFacts.{checks, condition_words, guard_state}
 use Rattle.question_audit.specs.Dependences.{all_ids, decided_by, depends_word, is_decided_by, support_ids, supports}
 use Rattle.question_audit.specs.OptionFacts.{beside_question, deciding_words, guard_at, own_denial, with_place}

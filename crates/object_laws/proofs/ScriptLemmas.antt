@@ -28,8 +28,8 @@ use Rattle.audit_text.specs.Texts.{ascii_name, hex_text}
 use Rattle.audit_text.specs.Words.{opcode_name}
 use Rattle.audit_json.specs.Objects.{member_key, number_member, object_kind}
 use Rattle.audit_json.specs.declared.telling.Telling.TheVariants.{Objects}
-use Rattle.form_audit.specs.QuestionLines.{is_undefined, name_of as name_of_store, store_with}
-use Rattle.form_audit.specs.ScriptValues.{behind, script_value}
+use Rattle.question_audit.specs.QuestionLines.{is_undefined, name_of as name_of_store, store_with}
+use Rattle.question_audit.specs.ScriptValues.{behind, script_value}
 use Rattle.session_steps.specs.declared.reply.Reply.{Reply}
 use Rattle.session_steps.specs.declared.reply.Reply.TheVariants.{Accepted, Denied, Refused}
 use Rattle.question_audit.specs.ConditionFacts.{condition_words, id_text, verdict_text}

@@ -16,8 +16,8 @@ use Rattle.hii_questions.specs.declared.denial.DenialKind.{DenialKind}
 use Rattle.guard_policy.specs.declared.denial.Denial.{Denial}
 use Rattle.audit_text.specs.Texts.{ascii_name, shown_byte}
 use Rattle.audit_json.specs.declared.telling.Telling.TheVariants.{Objects}
-use Rattle.form_audit.specs.FormLines.{denial_text}
-use Rattle.form_audit.specs.QuestionLines.{name_of, store_with}
+use Rattle.question_audit.specs.FormLines.{denial_text}
+use Rattle.question_audit.specs.QuestionLines.{name_of, store_with}
 use Rattle.question_audit.specs.ConditionFacts.{condition_words}
 use Rattle.image_audit.specs.Lines.{number_digits, number_text}
 use Rattle.session_steps.specs.State.{State, texts}

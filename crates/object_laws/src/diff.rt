@@ -4,7 +4,7 @@ ghost use Rattle.std.specs.Prelude.{◌≡◌, ◌<◌, ◌^◌, codes};
 ghost use Rattle.hii_bytes.specs.Numbers.{AreBytes};
 ghost use Rattle.hii_questions.specs.Fields.{asked};
 ghost use Rattle.ifr_opcodes.specs.Forest.{Node};
-ghost use Rattle.form_audit.specs.Audited.{Audited};
+ghost use Rattle.question_audit.specs.Audited.{Audited};
 ghost use Rattle.image_audit.specs.Difference.{value_object, verdict_object};
 ghost use Rattle.json_laws.specs.laws.Telling.{IsReadBack};
 ghost use Rattle.object_laws.specs.laws.Differences.{CanTellValue};

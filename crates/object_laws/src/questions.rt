@@ -4,8 +4,8 @@ ghost use Rattle.std.specs.Prelude.{◌<◌, ◌^◌, ℕ, Bool, IfSome, Option,
 ghost use Rattle.hii_bytes.specs.Numbers.{AreBytes};
 ghost use Rattle.ifr_opcodes.specs.Forest.{Node};
 ghost use Rattle.hii_questions.specs.Fields.{asked};
-ghost use Rattle.form_audit.specs.Audited.{Audited};
-ghost use Rattle.form_audit.specs.Reach.{reach_of};
+ghost use Rattle.question_audit.specs.Audited.{Audited};
+ghost use Rattle.question_audit.specs.Reach.{reach_of};
 ghost use Rattle.question_objects.specs.FormSets.{form_object, guard_object, rule_object};
 ghost use Rattle.question_objects.specs.Objects.{no_question_object, question_object};
 ghost use Rattle.question_objects.specs.declared.detail.Detail.{Detail};

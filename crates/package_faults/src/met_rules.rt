@@ -15,7 +15,7 @@ ghost use Rattle.ifr_nodes.specs.code.Views.{node_of};
 ghost use Rattle.package_faults.specs.code.MetRules.{AreMetRules, capped, capped_rule};
 
 use ifr_expr::Expr;
-use ifr_nodes::{KeptRule, Node, RuleSize, end_of};
+use ifr_nodes::{KeptRule, Node, RuleSize, add_to, end_of, last_ended};
 use std::alloc::{AllocError, Global};
 
 /// The least depth of rules that name one another which is too large.
@@ -36,41 +36,6 @@ pub(crate) fn is_too_large(size: RuleSize) -> bool
     ensures { (s : Sized) → size ≡ capped s → result ≡ rules.is_rule_too_large s }
 {
     size.depth >= TOO_DEEP || usize::from(size.weight) >= TOO_HEAVY
-}
-
-// The last rule of a list that ends at or before a place, if one does.
-fn last_ended(rules: &[KeptRule], place: u32) -> Option<KeptRule>
-    ensures { IsNonDecreasingBy (λ (r : KeptRule). r.ends) rules.now
-        → result ≡ find (λ r. nat_le r.ends place) (reverse rules.now) }
-{
-    let ended = rules.partition_point(|rule| rule.ends <= place);
-    if ended == 0 {
-        return None;
-    }
-    Some(rules[ended - 1])
-}
-
-// Adds empty lists until there is one of an id.
-fn add_lists(lists: &mut Vec<Vec<KeptRule>>, id: u8) -> Result<(), AllocError>
-    ensures reached { OnOk result (id < length lists.new.items) }
-    ensures stays { OnOk result ((other : ℕ)
-        → list_of lists.new.items other ≡ list_of lists.old.items other) }
-{
-    let alloc = *lists.allocator();
-    while lists.len() <= usize::from(id) {
-        lists.push(Vec::new(alloc))?;
-    }
-    Ok(())
-}
-
-// Adds a rule to the list of its id.
-fn add_to(lists: &mut Vec<Vec<KeptRule>>, id: u8, rule: KeptRule) -> Result<(), AllocError>
-    ensures { OnOk result ((other : ℕ) → list_of lists.new.items other
-        ≡ list_of lists.old.items other ++ (if id == other then rule ∷ [] else [])) }
-{
-    add_lists(lists, id)?;
-    lists[usize::from(id)].push(rule)?;
-    Ok(())
 }
 
 impl MetRules {

@@ -14,18 +14,11 @@ ghost use Rattle.package_faults.specs.AllFaults.{AreAll};
 use crate::gathering::add_where;
 use crate::met_rules::{MetRules, is_too_large};
 use hii_bytes::{Cause, Fault, NumberSet};
-use ifr_nodes::{Node, Nodes, ScopedNode, ScopedNodes, end_of, expression_of};
+use ifr_nodes::{FormEnd, Node, Nodes, ScopedNode, ScopedNodes, expression_of, has_form};
 use std::alloc::{AllocError, Global};
 
 /// Where the nodes of a package begin, behind its header (UEFI 2.8, 33.3.1.2 EFI_HII_PACKAGE_HEADER).
 const HEADER: u32 = 4;
-
-/// A form, by its place, and where it ends: both in bytes from the package's header.
-#[derive(Clone, Copy)]
-struct FormEnd {
-    place: u32,
-    ends: u32,
-}
 
 /// What was met of a package: the ids of its forms and of its questions, its rules, and the form in which the last of these stands;
 /// beside the ids of all its forms.
@@ -70,14 +63,9 @@ impl<'f> Met<'f> {
         ensures stays { (self.new.all ≡ self.old.all) × (self.new.forms ≡ self.old.forms)
             × (self.new.questions ≡ self.old.questions) × (self.new.rules ≡ self.old.rules) }
     {
-        if let Some(form) = self.form {
-            if form.place == place {
-                return form.ends;
-            }
-        }
-        let ends = end_of(ifr, place);
-        self.form = Some(FormEnd { place, ends });
-        ends
+        let form = FormEnd::at(ifr, place, self.form);
+        self.form = Some(form);
+        form.ends
     }
 
     /// Meets the next node, and adds its faults beside those before it.
@@ -193,20 +181,6 @@ fn form_ids(alloc: Global, ifr: &[u8]) -> Result<NumberSet, AllocError>
         }
     }
     Ok(ids)
-}
-
-// Whether a package has a form.
-fn has_form(ifr: &[u8]) -> bool
-    requires { IsChecked ifr.now }
-    ensures { result ≡ list_any is_form (nodes_of ifr.now) }
-{
-    let mut nodes = Nodes::over(ifr);
-    while let Some(node) = nodes.step() {
-        if node.is_form() {
-            return true;
-        }
-    }
-    false
 }
 
 /// All faults of the forms, questions, references and rules of a package whose framing and nodes have none, by place and then by

@@ -7,7 +7,7 @@ use Rattle.hii_bytes.specs.Watching.{Pen, Writes}
 use Rattle.hii_bytes.specs.code.Writing.{Stands}
 use Rattle.hii_bytes.proofs.WritingLemmas.{Stands-start, Stands-all, past_piece}
 use Rattle.audit_text.specs.Texts.{safe_text}
-use Rattle.form_audit.specs.QuestionLines.{word_where}
+use Rattle.question_audit.specs.QuestionLines.{word_where}
 use Rattle.question_audit.specs.ConditionFacts.{fact}
 use Rattle.question_audit.specs.QuestionFacts.{help_fact}
 

@@ -9,7 +9,7 @@ use Rattle.ifr_opcodes.specs.Forest.{Node}
 use Rattle.ifr_opcodes.specs.Rows.{is_among}
 use Rattle.guard_policy.specs.code.Answers.{unless}
 use Rattle.guard_policy.specs.declared.denial.Denial.{Denial}
-use Rattle.form_audit.specs.Audited.{Audited}
+use Rattle.question_audit.specs.Audited.{Audited}
 use Rattle.question_audit.specs.OptionFacts.{option_fact, option_facts_behind, own_denial, with_place}
 use Rattle.question_audit.specs.code.Beginnings.{Begins}
 use Rattle.question_audit.proofs.BeginningLemmas.{piece_begun, stands_begun}

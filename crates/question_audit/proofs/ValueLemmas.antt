@@ -4,8 +4,8 @@ use Rattle.std.specs.Prelude.{is_some}
 use Rattle.ifr_expr.specs.code.Views.{value_of}
 use Rattle.ifr_expr.specs.declared.value.Value.{Value}
 use Rattle.ifr_expr.specs.declared.value.Value.TheVariants.{Undefined, Boolean, Number, Text, Buffer}
-use Rattle.form_audit.specs.QuestionLines.{is_undefined}
-use Rattle.form_audit.specs.ScriptValues.{behind}
+use Rattle.question_audit.specs.QuestionLines.{is_undefined}
+use Rattle.question_audit.specs.ScriptValues.{behind}
 use Rattle.question_audit.specs.ConditionFacts.{column}
 use Rattle.question_audit.specs.QuestionFacts.{told_default}
 

@@ -18,9 +18,9 @@ use Rattle.audit_text.specs.Texts.{hex_text, left_aligned}
 use Rattle.audit_text.specs.Words.{opcode_name}
 use Rattle.condition_text.specs.Senses.{sense}
 use Rattle.condition_text.specs.Texts as conditions
-use Rattle.form_audit.specs.Audited.{Audited}
-use Rattle.form_audit.specs.FormLines.{denial_text}
-use Rattle.form_audit.specs.QuestionLines.{is_undefined}
+use Rattle.question_audit.specs.Audited.{Audited}
+use Rattle.question_audit.specs.FormLines.{denial_text}
+use Rattle.question_audit.specs.QuestionLines.{is_undefined}
 
 -- a word in its column, eight wide, and a space
 abbrev pub column : List ℕ → List ℕ

@@ -10,9 +10,9 @@ use Rattle.hii_questions.specs.Fields.{Asked, Field, asked, question_with, quest
 use Rattle.guard_policy.specs.Conditions.{condition_ids}
 use Rattle.guard_policy.specs.Policy.{fixed}
 use Rattle.audit_text.specs.Texts.{safe_text}
-use Rattle.form_audit.specs.Audited.{Audited}
-use Rattle.form_audit.specs.QuestionLines.{field_text, is_undefined, told_value}
-use Rattle.form_audit.specs.ScriptValues.{behind, stored_value}
+use Rattle.question_audit.specs.Audited.{Audited}
+use Rattle.question_audit.specs.QuestionLines.{field_text, is_undefined, told_value}
+use Rattle.question_audit.specs.ScriptValues.{behind, stored_value}
 use Rattle.question_audit.specs.ConditionFacts.{fact, id_text, verdict_text}
 use Rattle.question_audit.specs.Times.{counts_when}
 use Rattle.question_audit.specs.declared.when.When.{When}

@@ -1,3 +1,8 @@
+pub mod Audited
+pub mod Reach
+pub mod ScriptValues
+pub mod QuestionLines
+pub mod FormLines
 pub mod Origins
 pub mod ConditionFacts
 pub mod Dependences

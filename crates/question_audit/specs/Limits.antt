@@ -14,8 +14,8 @@ use Rattle.form_page.specs.RowValues.{number_text}
 use Rattle.form_page.specs.Texts.{utf8}
 use Rattle.audit_text.specs.Texts.{guid_text, joined, safe_text}
 use Rattle.audit_text.specs.Words.{word_where}
-use Rattle.form_audit.specs.Audited.{Audited}
-use Rattle.form_audit.specs.QuestionLines.{names_no_set}
+use Rattle.question_audit.specs.Audited.{Audited}
+use Rattle.question_audit.specs.QuestionLines.{names_no_set}
 use Rattle.question_audit.specs.ConditionFacts.{fact}
 
 -- ---- flags: READ_ONLY, CALLBACK and RESET_REQUIRED

@@ -11,9 +11,9 @@ use Rattle.guard_policy.specs.Policy.{covered_by, fixed}
 use Rattle.guard_policy.specs.World.{World}
 use Rattle.guard_policy.specs.declared.denial.Denial.{Denial}
 use Rattle.audit_text.specs.Texts.{safe_text}
-use Rattle.form_audit.specs.Audited.{Audited}
-use Rattle.form_audit.specs.FormLines.{denial_text}
-use Rattle.form_audit.specs.ScriptValues.{behind}
+use Rattle.question_audit.specs.Audited.{Audited}
+use Rattle.question_audit.specs.FormLines.{denial_text}
+use Rattle.question_audit.specs.ScriptValues.{behind}
 use Rattle.question_audit.specs.ConditionFacts.{condition_words, fact}
 
 -- ---- what denies an option that does not deny its question

@@ -16,11 +16,11 @@ use Rattle.guard_policy.specs.Policy.{fixed}
 use Rattle.form_page.specs.RowValues.{choice}
 use Rattle.audit_text.specs.Texts.{guid_text, hex_text, safe_text}
 use Rattle.audit_text.specs.Words.{opcode_name}
-use Rattle.form_audit.specs.Audited.{Audited}
-use Rattle.form_audit.specs.FormLines.{form_text}
-use Rattle.form_audit.specs.QuestionLines.{field_text, is_undefined, store_with, unguarded}
-use Rattle.form_audit.specs.Reach.{TellsReached}
-use Rattle.form_audit.specs.ScriptValues.{behind, default_taken, script_value}
+use Rattle.question_audit.specs.Audited.{Audited}
+use Rattle.question_audit.specs.FormLines.{form_text}
+use Rattle.question_audit.specs.QuestionLines.{field_text, is_undefined, store_with, unguarded}
+use Rattle.question_audit.specs.Reach.{TellsReached}
+use Rattle.question_audit.specs.ScriptValues.{behind, default_taken, script_value}
 use Rattle.question_audit.specs.ConditionFacts.{check_facts, fact, guard_facts, id_text, verdict_text}
 use Rattle.question_audit.specs.Dependences.{all_decides_facts, depends_facts}
 use Rattle.question_audit.specs.Limits.{flags_fact, limits_fact, outside_fact}

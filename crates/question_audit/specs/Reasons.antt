@@ -10,7 +10,7 @@ use Rattle.hii_questions.specs.declared.denial.DenialKind.TheVariants.{GrayOutIf
 use Rattle.guard_policy.specs.Policy.{denied_by, grays_out, hides, hiding, is_never_changed}
 use Rattle.guard_policy.specs.World.{World}
 use Rattle.guard_policy.specs.declared.denial.Denial.{Denial}
-use Rattle.form_audit.specs.FormLines.{denial_text}
+use Rattle.question_audit.specs.FormLines.{denial_text}
 use Rattle.question_audit.specs.ConditionFacts.{fact}
 
 -- each of some guards that hides, then each GRAY_OUT_IF of them that holds

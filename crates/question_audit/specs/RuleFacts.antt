@@ -17,7 +17,7 @@ use Rattle.ifr_nodes.specs.Rules.{as_rule, is_rule, rule_nodes, rules_among}
 use Rattle.audit_text.specs.Texts.{hex_text}
 use Rattle.condition_text.specs.Senses.{sense}
 use Rattle.condition_text.specs.Texts.{text}
-use Rattle.form_audit.specs.Audited.{Audited}
+use Rattle.question_audit.specs.Audited.{Audited}
 use Rattle.question_audit.specs.ConditionFacts.{column, is_check_of}
 
 -- ---- references

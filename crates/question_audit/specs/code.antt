@@ -1,5 +1,15 @@
--- What the code decides step by step. No module outside of this folder cites one of it; contracts of
--- question_objects do.
+-- How structs of the code are seen, and what the code decides step by step. No definition outside of this folder cites one of these;
+-- contracts of question_objects do.
+pub mod Pages
+pub mod Names
+pub mod Taking
+pub mod Meeting
+pub mod MetForms
+pub mod Closings
+pub mod GuardTables
+pub mod Choices
+pub mod Escaped
+pub mod Looking
 pub mod Beginnings
 pub mod Naming
 pub mod Places

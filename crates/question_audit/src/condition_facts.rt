@@ -11,7 +11,7 @@ ghost use Rattle.ifr_scopes.specs.code.Lists.{guard_node, statement_node};
 ghost use Rattle.ifr_scopes.specs.code.Parts.{condition_node, condition_op};
 ghost use Rattle.hii_questions.specs.code.Views.{question_node};
 ghost use Rattle.guard_policy.specs.code.Views.{bytes_of};
-ghost use Rattle.form_audit.specs.code.Pages.{audited};
+ghost use Rattle.question_audit.specs.code.Pages.{audited};
 ghost use Rattle.question_audit.specs.ConditionFacts.{check_fact, check_facts, condition_fact, guard_fact, guard_facts, guard_state, state_text, value_at};
 ghost use Rattle.question_audit.specs.code.Beginnings.{Begins};
 

@@ -9,14 +9,14 @@ ghost use Rattle.ifr_nodes.specs.code.Checked.{IsNodeOf};
 ghost use Rattle.ifr_scopes.specs.code.Lists.{guard_node, guard_package};
 ghost use Rattle.hii_questions.specs.code.Views.{question_node, question_view};
 ghost use Rattle.guard_policy.specs.code.Views.{bytes_of};
-ghost use Rattle.form_audit.specs.code.Pages.{audited};
+ghost use Rattle.question_audit.specs.code.Pages.{audited};
 ghost use Rattle.question_audit.specs.Dependences.{all_decides_facts, decided_by, decides_fact, is_decided_by, when_text};
 ghost use Rattle.question_audit.specs.code.Naming.{counts, names, naming};
 
 use crate::facts::put_column;
+use crate::guard_table::flag_of;
 use crate::when::When;
 use audit_text::put_safe_shown;
-use form_audit::flag_of;
 use form_page::Page;
 use guard_policy::{Conditions, Policy};
 use hii_bytes::Watched;

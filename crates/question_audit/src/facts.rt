@@ -6,8 +6,8 @@ ghost use Rattle.guard_policy.specs.code.Answers.{unless};
 ghost use Rattle.guard_policy.specs.declared.denial.Denial.{Denial as Denied};
 ghost use Rattle.question_audit.specs.ConditionFacts.{column, id_text, verdict_text};
 
+use crate::questions::put_denial;
 use audit_text::{put_hexadecimal, put_left};
-use form_audit::put_denial;
 use guard_policy::Denial;
 use hii_bytes::Watched;
 use std::io::Write;

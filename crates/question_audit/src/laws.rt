@@ -1,9 +1,11 @@
-//! Laws of what is known of one question.
+//! Laws of what is told of the questions of a form set, and of one of them.
 
-ghost use Rattle.std.specs.Prelude.{◌≡◌, ℕ, List, true};
-ghost use Rattle.ifr_opcodes.specs.Forest.{Node};
+ghost use Rattle.std.specs.Prelude.{◌≡◌, ℕ, ◌<◌, filter, length, slice_index, List, true};
+ghost use Rattle.std.specs.List.{flat_map};
+ghost use Rattle.ifr_opcodes.specs.Forest.{places, Node};
+ghost use Rattle.ifr_nodes.specs.Nodes.{is_form, is_question, nodes_of};
+ghost use Rattle.question_audit.specs.FormLines.{form_questions};
 ghost use Rattle.ifr_opcodes.specs.Rows.{is_among};
-ghost use Rattle.ifr_nodes.specs.Nodes.{is_question};
 ghost use Rattle.hii_questions.specs.Fields.{asked};
 ghost use Rattle.guard_policy.specs.Policy.{fixed};
 ghost use Rattle.guard_policy.specs.World.{World};
@@ -11,6 +13,20 @@ ghost use Rattle.guard_policy.specs.laws.Support.{around, support_over};
 ghost use Rattle.question_audit.specs.Dependences.{depends_on};
 ghost use Rattle.question_audit.specs.Reasons.{all_reasons, first_reason};
 ghost use Rattle.question_audit.specs.declared.when.When.TheVariants.{AtCommands};
+
+use ifr_scopes::Forms;
+
+/// Each question of a form set has one line: the questions of its forms, form by form, are all questions by place, and no two
+/// of these have one place.
+pub fn each_question_has_one_line(forms: &Forms<'_>)
+    ensures lines { flat_map form_questions (filter is_form (nodes_of forms.now))
+        ≡ filter is_question (nodes_of forms.now) }
+    ensures rise { (i j : ℕ) → i < j → j < length (filter is_question (nodes_of forms.now))
+        → slice_index (places (filter is_question (nodes_of forms.now))) i
+        < slice_index (places (filter is_question (nodes_of forms.now))) j }
+{
+    forms.bytes();
+}
 
 /// A change depends at commands on the answers that `Policy::support_of` gives for it, through rules too.
 pub fn depends_are_the_support_of_a_change()

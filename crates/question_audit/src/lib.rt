@@ -1,29 +1,51 @@
-//! What is known of one question of a form set (own rule; questions are those of UEFI 2.8, 33.2.5.4).
+//! The questions of a form set, each with its reason, and what is known of one of them (own rule; questions are those of UEFI 2.8,
+//! 33.2.5.4).
 #![tactic(auto)]
 
 mod condition_facts;
+mod constant;
 mod decides_facts;
+mod defaults;
 mod depends_facts;
+mod escaping;
 mod facts;
+mod fields;
+mod formsets;
+mod guard_table;
 mod guard_verdicts;
 pub mod laws;
 mod limits_facts;
 mod lock_places;
+mod numbered;
 mod opcode_facts;
 mod option_facts;
 mod origin;
 mod own_denials;
 mod places;
 mod question_facts;
+mod question_line;
+mod questions;
+mod reach;
 mod reasons;
 mod rule_facts;
+mod script_values;
+mod shown_values;
+mod store_names;
+mod tables;
+mod undefined;
 mod value_facts;
+mod verdicts;
+mod ways;
 mod when;
 
 pub use condition_facts::{code_of, guard_state, state_of};
+pub use constant::is_constant;
 pub use decides_facts::{guards_naming, is_decided};
+pub use defaults::{give_back, take_default};
 pub use depends_facts::support_of;
 pub use facts::{put_id, put_verdict_text};
+pub use fields::put_field_text;
+pub use guard_table::{GuardTable, flag_of};
 pub use limits_facts::{is_never_changed, put_outside, put_shown_number, put_shown_step, put_step};
 pub use lock_places::scope_locks;
 pub use opcode_facts::form_of;
@@ -32,7 +54,14 @@ pub use origin::{Holder, Origin};
 pub use own_denials::own_denial;
 pub use places::{add_place, has_place};
 pub use question_facts::put_question_with_id;
+pub use question_line::put_question;
+pub use questions::{put_denial, put_questions};
 pub use reasons::reasons_of;
 pub use rule_facts::{id_of_rule, named_rules};
+pub use script_values::put_script_value;
+pub use shown_values::{option_of_value, put_json_value, put_told_value, shows_nothing};
+pub use store_names::StoreNames;
+pub use tables::Tables;
 pub use value_facts::has_script;
+pub use ways::{Reach, Ways};
 pub use when::When;

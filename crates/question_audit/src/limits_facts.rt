@@ -8,7 +8,7 @@ ghost use Rattle.ifr_nodes.specs.ReferenceFaults.{form_with};
 ghost use Rattle.ifr_scopes.specs.code.Lists.{statement_node};
 ghost use Rattle.hii_questions.specs.code.Views.{question_node, question_view};
 ghost use Rattle.guard_policy.specs.Policy.{is_never_changed};
-ghost use Rattle.form_audit.specs.code.Pages.{audited};
+ghost use Rattle.question_audit.specs.code.Pages.{audited};
 ghost use Rattle.question_audit.specs.ConditionFacts.{fact};
 ghost use Rattle.question_audit.specs.Limits.{flags_fact, form_behind, leads_fact, limits_fact, list_length, numeric_range, outside_fact, outside_text, set_fact, shown_number, shown_step, span, step_text, unstored_text};
 

@@ -16,7 +16,7 @@ ghost use Rattle.question_audit.specs.Reasons.{all_reasons, also_fact, also_fact
 use crate::facts::put_column;
 use crate::guard_verdicts::{grays_out, hides, hiding};
 use crate::limits_facts::is_never_changed;
-use form_audit::put_denial;
+use crate::questions::put_denial;
 use form_page::Page;
 use guard_policy::{Conditions, Denial};
 use hii_bytes::Watched;

@@ -12,7 +12,7 @@ ghost use Rattle.ifr_nodes.specs.code.Checked.{IsNodeOf};
 ghost use Rattle.ifr_scopes.specs.code.Lists.{rule_node};
 ghost use Rattle.hii_questions.specs.code.Views.{question_node};
 ghost use Rattle.guard_policy.specs.code.Views.{bytes_of};
-ghost use Rattle.form_audit.specs.code.Pages.{audited};
+ghost use Rattle.question_audit.specs.code.Pages.{audited};
 ghost use Rattle.question_audit.specs.ConditionFacts.{is_check_of};
 ghost use Rattle.question_audit.specs.RuleFacts.{condition_references, is_guard_in, is_named, names_rule, references_over, rule_fact, rule_facts, rule_references};
 ghost use Rattle.question_audit.specs.code.Beginnings.{Begins};

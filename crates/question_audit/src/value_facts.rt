@@ -10,13 +10,15 @@ ghost use Rattle.hii_questions.specs.code.LyingIn.{LiesIn};
 ghost use Rattle.hii_questions.specs.code.Views.{question_node, question_view};
 ghost use Rattle.hii_varstore.specs.Stores.{shape_of};
 ghost use Rattle.guard_policy.specs.code.Views.{bytes_of};
-ghost use Rattle.form_audit.specs.ScriptValues.{script_value};
-ghost use Rattle.form_audit.specs.code.Pages.{audited};
+ghost use Rattle.question_audit.specs.ScriptValues.{script_value};
+ghost use Rattle.question_audit.specs.code.Pages.{audited};
 ghost use Rattle.question_audit.specs.QuestionFacts.{choice_behind, default_fact, named_default, option_behind, value_facts, value_line, value_text};
 
+use crate::defaults::{give_back, take_default};
 use crate::facts::put_column;
+use crate::script_values::put_script_value;
+use crate::shown_values::option_of_value;
 use audit_text::put_safe_shown;
-use form_audit::{give_back, option_of_value, put_script_value, take_default};
 use form_page::Page;
 use guard_policy::Conditions;
 use hii_bytes::Watched;

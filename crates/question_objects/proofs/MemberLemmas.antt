@@ -2,7 +2,7 @@
 use Rattle.std.proofs.Common.{◌≡◌, ℕ, true, false, Option, Some, None, List, [], ◌∷◌, ◌++◌, codes, refl}
 use Rattle.std.specs.Prelude.{MatchOption, is_some}
 use Rattle.audit_json.specs.Objects.{member_key, text_member}
-use Rattle.form_audit.specs.ScriptValues.{behind}
+use Rattle.question_audit.specs.ScriptValues.{behind}
 use Rattle.question_objects.specs.Members.{shown_member}
 use Rattle.question_objects.specs.Values.{word_if_there}
 

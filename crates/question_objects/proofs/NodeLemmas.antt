@@ -7,7 +7,7 @@ use Rattle.ifr_opcodes.specs.Opcode.{number}
 use Rattle.ifr_opcodes.specs.declared.codes.TheConstants.{RULE}
 use Rattle.ifr_nodes.specs.Guards.{is_guard}
 use Rattle.ifr_nodes.specs.Rules.{is_rule}
-use Rattle.form_audit.specs.Audited.{Audited}
+use Rattle.question_audit.specs.Audited.{Audited}
 use Rattle.question_objects.specs.FormSets.{condition_object, guard_object, rule_object}
 
 -- the first of those that pass a test is the first of all, where this passes it

@@ -2,7 +2,7 @@
 use Rattle.std.proofs.Common.{◌≡◌, ℕ, Bool, true, false, List, [], ◌∷◌, ◌++◌, codes, sym, ap, subst}
 use Rattle.hii_bytes.specs.Watching.{Pen, Writes}
 use Rattle.ifr_opcodes.specs.Forest.{Node}
-use Rattle.form_audit.specs.Audited.{Audited}
+use Rattle.question_audit.specs.Audited.{Audited}
 use Rattle.audit_json.specs.Objects.{array_end, array_member, before_item}
 use Rattle.audit_json.proofs.ArrayLemmas.{Lists, lists_end, lists_start}
 use Rattle.question_audit.specs.OptionFacts.{own_denial, with_place}

@@ -7,7 +7,7 @@ use Rattle.ifr_nodes.specs.Guards.{guards}
 use Rattle.ifr_nodes.specs.NodeExpressions.{message}
 use Rattle.audit_json.specs.Objects.{array_member, first_member, inner_object, quoted, word_member}
 use Rattle.audit_text.specs.Words.{opcode_name}
-use Rattle.form_audit.specs.Audited.{Audited}
+use Rattle.question_audit.specs.Audited.{Audited}
 use Rattle.question_audit.specs.ConditionFacts.{checks, condition_words, guard_state, state_text, value_at}
 use Rattle.question_audit.specs.RuleFacts.{named_rules, rule_words}
 use Rattle.question_objects.specs.Members.{place_members, shown_member}

@@ -10,11 +10,11 @@ use Rattle.ifr_nodes.specs.Rules.{is_rule}
 use Rattle.hii_questions.specs.Fields.{asked}
 use Rattle.audit_json.specs.Objects.{number_member, object, word_member}
 use Rattle.audit_text.specs.Words.{opcode_name}
-use Rattle.form_audit.specs.Audited.{Audited}
-use Rattle.form_audit.specs.FormLines.{form_questions}
-use Rattle.form_audit.specs.Reach.{reach_of}
-use Rattle.form_audit.specs.declared.ways.Reach.{Reach}
-use Rattle.form_audit.specs.declared.ways.Reach.TheVariants.{Open, Hidden, Closed, Below, Unnamed}
+use Rattle.question_audit.specs.Audited.{Audited}
+use Rattle.question_audit.specs.FormLines.{form_questions}
+use Rattle.question_audit.specs.Reach.{reach_of}
+use Rattle.question_audit.specs.declared.ways.Reach.{Reach}
+use Rattle.question_audit.specs.declared.ways.Reach.TheVariants.{Open, Hidden, Closed, Below, Unnamed}
 use Rattle.question_audit.specs.ConditionFacts.{guard_state}
 use Rattle.question_objects.specs.Conditions.{condition_members, rule_members}
 use Rattle.question_objects.specs.Members.{denial_members, shown_member}

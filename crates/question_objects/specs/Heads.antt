@@ -7,8 +7,8 @@ use Rattle.ifr_scopes.specs.Stores.{store_guid}
 use Rattle.hii_questions.specs.Fields.{Asked, Field}
 use Rattle.audit_json.specs.Objects.{guid_member, number_member, text_member, word_member}
 use Rattle.audit_text.specs.Words.{opcode_name}
-use Rattle.form_audit.specs.Audited.{Audited}
-use Rattle.form_audit.specs.QuestionLines.{name_of, store_with}
+use Rattle.question_audit.specs.Audited.{Audited}
+use Rattle.question_audit.specs.QuestionLines.{name_of, store_with}
 use Rattle.question_objects.specs.Members.{place_members, shown_member}
 
 -- the form in which it stands

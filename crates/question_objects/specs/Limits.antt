@@ -6,7 +6,7 @@ use Rattle.ifr_opcodes.specs.Opcode.{number}
 use Rattle.hii_questions.specs.Fields.{Asked}
 use Rattle.guard_policy.specs.Policy.{is_never_changed}
 use Rattle.audit_json.specs.Objects.{array_member, guid_member, number_member, quoted, word_member}
-use Rattle.form_audit.specs.QuestionLines.{names_no_set}
+use Rattle.question_audit.specs.QuestionLines.{names_no_set}
 use Rattle.question_audit.specs.Limits.{flag_words, list_least, outside_text, shown_number, shown_step}
 use Rattle.question_objects.specs.Members.{member_where}
 

@@ -4,7 +4,7 @@ use Rattle.ifr_opcodes.specs.Forest.{Node}
 use Rattle.hii_questions.specs.Denials.{kind_name}
 use Rattle.guard_policy.specs.declared.denial.Denial.{Denial}
 use Rattle.audit_json.specs.Objects.{number_member, text_member, true_member, word_member}
-use Rattle.form_audit.specs.QuestionLines.{has_no_text}
+use Rattle.question_audit.specs.QuestionLines.{has_no_text}
 
 -- a text that is shown; of one without characters there is no member
 abbrev pub shown_member : List ℕ → List ℕ → List ℕ

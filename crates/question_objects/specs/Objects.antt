@@ -4,7 +4,7 @@ use Rattle.hii_bytes.specs.Watching.{Pen, Writes}
 use Rattle.ifr_opcodes.specs.Forest.{Node}
 use Rattle.hii_questions.specs.Fields.{Asked, asked, question_with}
 use Rattle.audit_json.specs.Objects.{object, word_member}
-use Rattle.form_audit.specs.Audited.{Audited}
+use Rattle.question_audit.specs.Audited.{Audited}
 use Rattle.question_audit.specs.QuestionFacts.{form_of, no_question_words}
 use Rattle.question_audit.specs.declared.origin.Origin.{Origin}
 use Rattle.question_objects.specs.Conditions.{condition_lists}

@@ -6,7 +6,7 @@ use Rattle.ifr_nodes.specs.Nodes.{options}
 use Rattle.guard_policy.specs.Policy.{fixed}
 use Rattle.guard_policy.specs.declared.denial.Denial.{Denial}
 use Rattle.audit_json.specs.Objects.{array_member, first_member, inner_object, quoted, word_member}
-use Rattle.form_audit.specs.Audited.{Audited}
+use Rattle.question_audit.specs.Audited.{Audited}
 use Rattle.question_audit.specs.OptionFacts.{beside_question, deciding_words, own_denial, with_place}
 use Rattle.question_objects.specs.Members.{denial_members, shown_member}
 use Rattle.question_objects.specs.Values.{word_if_there}

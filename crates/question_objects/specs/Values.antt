@@ -7,9 +7,9 @@ use Rattle.ifr_expr.specs.Values.{Value}
 use Rattle.hii_questions.specs.Answers.{value_of_field}
 use Rattle.hii_questions.specs.Fields.{Asked}
 use Rattle.audit_json.specs.Objects.{text_member, word_member}
-use Rattle.form_audit.specs.Audited.{Audited}
-use Rattle.form_audit.specs.QuestionLines.{value_told}
-use Rattle.form_audit.specs.ScriptValues.{default_taken, script_value, string_characters}
+use Rattle.question_audit.specs.Audited.{Audited}
+use Rattle.question_audit.specs.QuestionLines.{value_told}
+use Rattle.question_audit.specs.ScriptValues.{default_taken, script_value, string_characters}
 use Rattle.question_objects.specs.Members.{shown_member}
 
 -- the characters of a text

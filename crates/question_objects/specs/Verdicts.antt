@@ -6,8 +6,8 @@ use Rattle.hii_questions.specs.Fields.{Asked}
 use Rattle.guard_policy.specs.Policy.{fixed}
 use Rattle.guard_policy.specs.declared.denial.Denial.{Denial}
 use Rattle.audit_json.specs.Objects.{array_member, first_member, inner_object, number_member, quoted, word_member}
-use Rattle.form_audit.specs.Audited.{Audited}
-use Rattle.form_audit.specs.QuestionLines.{is_constant, undefined_guards}
+use Rattle.question_audit.specs.Audited.{Audited}
+use Rattle.question_audit.specs.QuestionLines.{is_constant, undefined_guards}
 use Rattle.question_audit.specs.Reasons.{all_reasons, further}
 use Rattle.question_objects.specs.Members.{denial_members, member_where}
 

@@ -6,7 +6,7 @@ ghost use Rattle.audit_json.specs.Objects.{before_item};
 ghost use Rattle.ifr_scopes.specs.code.Parts.{condition_node};
 ghost use Rattle.hii_questions.specs.code.Views.{question_node};
 ghost use Rattle.guard_policy.specs.code.Views.{bytes_of};
-ghost use Rattle.form_audit.specs.code.Pages.{audited};
+ghost use Rattle.question_audit.specs.code.Pages.{audited};
 ghost use Rattle.question_audit.specs.code.Beginnings.{Begins};
 ghost use Rattle.question_objects.specs.Conditions.{check_item, checks_member};
 

@@ -7,7 +7,7 @@ ghost use Rattle.ifr_nodes.specs.Nodes.{nodes_of};
 ghost use Rattle.ifr_nodes.specs.code.Checked.{IsNodeOf};
 ghost use Rattle.ifr_scopes.specs.code.Lists.{guard_node, rule_node};
 ghost use Rattle.guard_policy.specs.code.Views.{bytes_of};
-ghost use Rattle.form_audit.specs.code.Pages.{audited};
+ghost use Rattle.question_audit.specs.code.Pages.{audited};
 ghost use Rattle.question_audit.specs.code.Beginnings.{Begins};
 ghost use Rattle.question_objects.specs.FormSets.{condition_object, guard_object, rule_object};
 

@@ -7,7 +7,7 @@ ghost use Rattle.ifr_opcodes.specs.Opcode.{number};
 ghost use Rattle.ifr_nodes.specs.code.Checked.{IsNodeOf};
 ghost use Rattle.ifr_scopes.specs.code.Lists.{guard_node, statement_node};
 ghost use Rattle.guard_policy.specs.code.Views.{bytes_of};
-ghost use Rattle.form_audit.specs.code.Pages.{audited};
+ghost use Rattle.question_audit.specs.code.Pages.{audited};
 ghost use Rattle.question_audit.specs.ConditionFacts.{guard_state};
 ghost use Rattle.question_audit.specs.code.Beginnings.{Begins};
 ghost use Rattle.question_objects.specs.Conditions.{guard_item, guards_member};

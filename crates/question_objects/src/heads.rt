@@ -7,18 +7,18 @@ ghost use Rattle.ifr_scopes.specs.code.Lists.{form_node};
 ghost use Rattle.hii_questions.specs.code.Ranges.{range_in};
 ghost use Rattle.hii_questions.specs.code.Views.{question_node, question_view};
 ghost use Rattle.guard_policy.specs.code.Views.{bytes_of};
-ghost use Rattle.form_audit.specs.code.Pages.{audited};
+ghost use Rattle.question_audit.specs.code.Pages.{audited};
 ghost use Rattle.question_objects.specs.Heads.{field_members, form_member, head_members, id_members, store_members, text_members};
 
 use crate::members::{put_places, put_text};
 use audit_json::{put_guid_member, put_number, put_string, put_word};
 use audit_text::opcode_name;
-use form_audit::StoreNames;
 use form_page::Page;
 use guard_policy::Conditions;
 use hii_bytes::Watched;
 use hii_questions::{FieldRange, Question};
 use ifr_scopes::Form;
+use question_audit::StoreNames;
 use std::io::Write;
 
 fn put_form_id<W: Write>(form: Option<Form<'_>>, out: &mut Watched<W>)

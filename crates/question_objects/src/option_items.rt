@@ -14,7 +14,7 @@ ghost use Rattle.hii_questions.specs.code.Views.{question_node};
 ghost use Rattle.guard_policy.specs.Policy.{fixed};
 ghost use Rattle.guard_policy.specs.code.Views.{bytes_of};
 ghost use Rattle.form_page.specs.code.PageViews.{world_of};
-ghost use Rattle.form_audit.specs.code.Pages.{audited};
+ghost use Rattle.question_audit.specs.code.Pages.{audited};
 ghost use Rattle.question_audit.specs.OptionFacts.{own_denial as own_denial_of, with_place};
 ghost use Rattle.question_audit.specs.code.Beginnings.{Begins};
 ghost use Rattle.question_audit.specs.code.Places.{has_place};

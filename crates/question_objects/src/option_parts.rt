@@ -8,7 +8,7 @@ ghost use Rattle.ifr_opcodes.specs.Rows.{is_among};
 ghost use Rattle.ifr_nodes.specs.code.Checked.{IsNodeOf};
 ghost use Rattle.ifr_scopes.specs.code.Parts.{option_node};
 ghost use Rattle.guard_policy.specs.code.Views.{bytes_of};
-ghost use Rattle.form_audit.specs.code.Pages.{audited};
+ghost use Rattle.question_audit.specs.code.Pages.{audited};
 ghost use Rattle.question_audit.specs.OptionFacts.{with_place};
 ghost use Rattle.question_audit.specs.code.Places.{has_place};
 ghost use Rattle.question_objects.specs.Options.{option_members, option_verdict_members, told_words as words_told};

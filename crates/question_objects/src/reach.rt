@@ -6,17 +6,17 @@ ghost use Rattle.ifr_nodes.specs.code.Checked.{IsNodeOf};
 ghost use Rattle.ifr_scopes.specs.code.Lists.{form_node};
 ghost use Rattle.guard_policy.specs.code.Views.{bytes_of};
 ghost use Rattle.form_page.specs.code.PageViews.{world_of};
-ghost use Rattle.form_audit.specs.code.Closings.{TellsWays};
-ghost use Rattle.form_audit.specs.code.Pages.{audited};
+ghost use Rattle.question_audit.specs.code.Closings.{TellsWays};
+ghost use Rattle.question_audit.specs.code.Pages.{audited};
 ghost use Rattle.question_objects.specs.FormSets.{form_object, reach_members};
 
 use crate::members::{put_denial, put_text};
 use audit_json::{end_object, put_kind, put_number, put_word};
-use form_audit::{Reach, Ways};
 use form_page::Page;
 use guard_policy::Conditions;
 use hii_bytes::Watched;
 use ifr_scopes::Form;
+use question_audit::{Reach, Ways};
 use std::io::Write;
 
 // Writes how a form is reached, and what decides on it.

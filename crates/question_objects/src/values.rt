@@ -12,14 +12,13 @@ ghost use Rattle.hii_questions.specs.code.LyingIn.{LiesIn};
 ghost use Rattle.hii_questions.specs.code.Views.{question_node, question_view};
 ghost use Rattle.hii_varstore.specs.Stores.{shape_of};
 ghost use Rattle.guard_policy.specs.code.Views.{bytes_of};
-ghost use Rattle.form_audit.specs.QuestionLines.{value_told};
-ghost use Rattle.form_audit.specs.ScriptValues.{script_value, string_characters};
-ghost use Rattle.form_audit.specs.code.Pages.{audited};
+ghost use Rattle.question_audit.specs.QuestionLines.{value_told};
+ghost use Rattle.question_audit.specs.ScriptValues.{script_value, string_characters};
+ghost use Rattle.question_audit.specs.code.Pages.{audited};
 ghost use Rattle.question_objects.specs.Members.{shown_member};
 ghost use Rattle.question_objects.specs.Values.{default_member, script_member, text_if_there, value_members, word_if_there};
 
 use audit_json::{put_member, put_shown};
-use form_audit::{give_back, put_json_value, put_script_value, shows_nothing, take_default};
 use form_page::Page;
 use guard_policy::Conditions;
 use hii_bytes::Watched;
@@ -30,7 +29,9 @@ use ifr_defaults::{DEFAULT_CLASS_MANUFACTURING, DEFAULT_CLASS_STANDARD};
 use ifr_expr::Value;
 use ifr_opcodes::STRING;
 use ifr_scopes::Statement;
-use question_audit::has_script;
+use question_audit::{
+    give_back, has_script, put_json_value, put_script_value, shows_nothing, take_default,
+};
 use sibt_strings::Units;
 use std::io::Write;
 

@@ -11,20 +11,20 @@ ghost use Rattle.guard_policy.specs.code.Answers.{unless};
 ghost use Rattle.guard_policy.specs.code.Views.{bytes_of};
 ghost use Rattle.guard_policy.specs.declared.denial.Denial.{Denial as Denied};
 ghost use Rattle.form_page.specs.code.PageViews.{world_of};
-ghost use Rattle.form_audit.specs.code.GuardTables.{TellsGuards};
-ghost use Rattle.form_audit.specs.code.Pages.{audited};
+ghost use Rattle.question_audit.specs.code.GuardTables.{TellsGuards};
+ghost use Rattle.question_audit.specs.code.Pages.{audited};
 ghost use Rattle.audit_json.specs.Objects.{before_item};
 ghost use Rattle.question_audit.specs.Reasons.{all_reasons};
 ghost use Rattle.question_objects.specs.Verdicts.{all_verdict_members, also_member, reason_object, undefined_member, verdict_members};
 
 use crate::members::{put_denial, put_where};
 use audit_json::{put_array_end, put_before_item, put_first_member, put_number, put_word};
-use form_audit::{GuardTable, flag_of, is_constant};
 use form_page::Page;
 use guard_policy::{Conditions, Denial};
 use hii_bytes::Watched;
 use hii_questions::Question;
 use ifr_scopes::Statement;
+use question_audit::{GuardTable, flag_of, is_constant};
 use std::io::Write;
 
 // Writes a verdict.

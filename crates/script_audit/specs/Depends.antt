@@ -9,7 +9,7 @@ use Rattle.hii_questions.specs.Fields.{Asked, Field, asked, question_with}
 use Rattle.guard_policy.specs.Conditions.{condition_ids}
 use Rattle.guard_policy.specs.Policy.{fixed}
 use Rattle.audit_json.specs.declared.telling.Telling.{Telling}
-use Rattle.form_audit.specs.QuestionLines.{is_undefined}
+use Rattle.question_audit.specs.QuestionLines.{is_undefined}
 use Rattle.question_audit.specs.ConditionFacts.{id_text, verdict_text}
 use Rattle.question_audit.specs.Dependences.{all_ids}
 use Rattle.script_audit.specs.Told.{back, front, spelled}

@@ -11,8 +11,8 @@ use Rattle.guard_policy.specs.World.{World}
 use Rattle.form_page.specs.RowValues.{value_shown}
 use Rattle.audit_text.specs.Texts.{ascii_name, hex_text}
 use Rattle.audit_json.specs.declared.telling.Telling.{Telling}
-use Rattle.form_audit.specs.QuestionLines.{name_of, store_with, unguarded}
-use Rattle.form_audit.specs.ScriptValues.{behind, script_value}
+use Rattle.question_audit.specs.QuestionLines.{name_of, store_with, unguarded}
+use Rattle.question_audit.specs.ScriptValues.{behind, script_value}
 use Rattle.script_audit.specs.Told.{spelled}
 
 -- a form set over some stores: the characters that are shown of each string id, and what decides

@@ -1,7 +1,7 @@
 -- What an audit looks at, of what a session begins with (own rule).
 use Rattle.session_steps.specs.State.{State, texts, world_of}
 use Rattle.session_steps.specs.Step.{sources}
-use Rattle.form_audit.specs.Audited.{Audited}
+use Rattle.question_audit.specs.Audited.{Audited}
 
 abbrev pub audited_at : State → Audited
 audited_at s = record {

@@ -9,7 +9,7 @@ use Rattle.hii_questions.specs.declared.denial.DenialKind.TheVariants.{DisableIf
 use Rattle.guard_policy.specs.Policy.{fixed}
 use Rattle.guard_policy.specs.World.{World}
 use Rattle.guard_policy.specs.declared.denial.Denial.{Denial}
-use Rattle.form_audit.specs.QuestionLines.{is_constant}
+use Rattle.question_audit.specs.QuestionLines.{is_constant}
 use Rattle.survey_audit.specs.declared.counts.Counts.{Counts}
 use Rattle.survey_audit.specs.declared.standing.Standing.{Standing}
 use Rattle.survey_audit.specs.declared.standing.Standing.TheVariants.{Open, Grayed, Hidden, Disabled, Fixed}

@@ -4,7 +4,7 @@ use Rattle.std.specs.Char.{to_ascii_lowercase}
 use Rattle.std.specs.List.{starts_with}
 use Rattle.ifr_opcodes.specs.Fields.{statement_help, statement_prompt}
 use Rattle.ifr_opcodes.specs.Forest.{Node}
-use Rattle.form_audit.specs.Audited.{Audited}
+use Rattle.question_audit.specs.Audited.{Audited}
 
 -- a text with small letters of ASCII for its great ones
 abbrev pub small : List ℕ → List ℕ

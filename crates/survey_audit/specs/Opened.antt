@@ -6,9 +6,9 @@ use Rattle.ifr_nodes.specs.Nodes.{is_form}
 use Rattle.hii_questions.specs.Fields.{asked}
 use Rattle.audit_json.specs.Objects.{object}
 use Rattle.audit_json.specs.Telling.{told_as}
-use Rattle.form_audit.specs.Audited.{Audited}
-use Rattle.form_audit.specs.FormLines.{form_questions}
-use Rattle.form_audit.specs.QuestionLines.{question_line}
+use Rattle.question_audit.specs.Audited.{Audited}
+use Rattle.question_audit.specs.FormLines.{form_questions}
+use Rattle.question_audit.specs.QuestionLines.{question_line}
 use Rattle.question_objects.specs.FormSets.{listed_members}
 use Rattle.survey_audit.specs.Counts.{counts_of}
 use Rattle.survey_audit.specs.Finding.{is_found}

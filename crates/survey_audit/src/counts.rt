@@ -11,8 +11,8 @@ ghost use Rattle.guard_policy.specs.Policy.{fixed};
 ghost use Rattle.guard_policy.specs.code.Answers.{unless};
 ghost use Rattle.guard_policy.specs.code.Views.{bytes_of};
 ghost use Rattle.form_page.specs.code.PageViews.{world_of};
-ghost use Rattle.form_audit.specs.code.GuardTables.{TellsGuards};
-ghost use Rattle.form_audit.specs.code.Pages.{audited};
+ghost use Rattle.question_audit.specs.code.GuardTables.{TellsGuards};
+ghost use Rattle.question_audit.specs.code.Pages.{audited};
 ghost use Rattle.survey_audit.specs.Counts as spec;
 ghost use Rattle.survey_audit.specs.Lines.{counts_line, counts_members, counts_object, counts_told, counts_words};
 ghost use Rattle.survey_audit.specs.code.Headings.{heading_of};
@@ -21,12 +21,12 @@ use crate::heading::{Heading, put_head, put_head_members};
 use crate::standing::Standing;
 use crate::tally::{Tally, put_tally_members, put_tally_words};
 use audit_json::{Telling, end_object, put_kind, put_number};
-use form_audit::{GuardTable, is_constant};
 use form_page::Page;
 use guard_policy::{Conditions, Denial};
 use hii_bytes::Watched;
 use hii_questions::Question;
 use ifr_scopes::Forms;
+use question_audit::{GuardTable, is_constant};
 use std::io::Write;
 
 /// How many forms and questions a form set has, and how many of the questions stand so (own rule).

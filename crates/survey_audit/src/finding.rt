@@ -5,7 +5,7 @@ ghost use Rattle.ifr_nodes.specs.code.Checked.{IsNodeOf};
 ghost use Rattle.hii_languages.specs.code.Views.{chars_left};
 ghost use Rattle.hii_questions.specs.code.Views.{question_node};
 ghost use Rattle.guard_policy.specs.code.Views.{bytes_of};
-ghost use Rattle.form_audit.specs.code.Pages.{audited};
+ghost use Rattle.question_audit.specs.code.Pages.{audited};
 ghost use Rattle.survey_audit.specs.Finding as spec;
 ghost use Rattle.survey_audit.specs.Finding.{small};
 

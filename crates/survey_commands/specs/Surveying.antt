@@ -11,7 +11,7 @@ use Rattle.session_steps.specs.State.{State}
 use Rattle.audit_json.specs.declared.telling.Telling.{Telling}
 use Rattle.audit_options.specs.declared.tasks.Sources.{Sources}
 use Rattle.dump_audit.specs.Lines.{has_lists, no_lists_told}
-use Rattle.form_audit.specs.Audited.{Audited}
+use Rattle.question_audit.specs.Audited.{Audited}
 use Rattle.opcode_audit.specs.Lines.{said_first}
 use Rattle.check_audit.specs.Verdicts.{IsListFault}
 use Rattle.survey_audit.specs.AuditedAt.{audited_at}

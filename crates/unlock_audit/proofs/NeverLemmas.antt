@@ -31,7 +31,7 @@ use Rattle.guard_policy.specs.Policy.{denied_by, fixed, grays_out, hides, hiding
 use Rattle.guard_policy.specs.World.{World, is_disabling, is_met_over, removed_at, world_over}
 use Rattle.guard_policy.specs.laws.Support.{AnswersAgree}
 use Rattle.guard_policy.specs.declared.denial.Denial.{Denial}
-use Rattle.form_audit.specs.QuestionLines.{is_constant, is_constant_at, is_constant_guard, names_none}
+use Rattle.question_audit.specs.QuestionLines.{is_constant, is_constant_at, is_constant_guard, names_none}
 use Rattle.question_audit.specs.Reasons.{all_reasons, first_reason, guard_reasons, own_reasons}
 use Rattle.question_audit.proofs.ReasonLemmas.{first_is_verdict}
 use Rattle.session_steps.specs.State.{State, world_of, world_with}

@@ -13,7 +13,7 @@ use Rattle.hii_questions.specs.declared.denial.DenialKind.{DenialKind}
 use Rattle.hii_varstore.specs.Layout.{Shape}
 use Rattle.hii_varstore.specs.code.Ranges.{HasRange}
 use Rattle.hii_questions.specs.code.LyingIn.{LieIn, LiesIn}
-use Rattle.form_audit.proofs.QuestionsLemmas.{question_lies}
+use Rattle.question_audit.proofs.QuestionsLemmas.{question_lies}
 use Rattle.question_audit.proofs.AskedLemmas.{IsFoundWith, with_id_asks}
 use Rattle.guard_policy.specs.World.{world_over}
 use Rattle.guard_policy.specs.Policy.{fixed, unsubmitted}

@@ -18,8 +18,8 @@ use Rattle.guard_policy.specs.Policy.{fixed, is_never_changed}
 use Rattle.guard_policy.specs.World.{World}
 use Rattle.guard_policy.specs.code.Answers.{unless}
 use Rattle.guard_policy.specs.declared.denial.Denial.{Denial}
-use Rattle.form_audit.specs.FormLines.{denial_text}
-use Rattle.form_audit.specs.ScriptValues.{behind}
+use Rattle.question_audit.specs.FormLines.{denial_text}
+use Rattle.question_audit.specs.ScriptValues.{behind}
 use Rattle.session_steps.specs.State.{State}
 use Rattle.unlock_audit.specs.Told.{each_told, reason_text, unlock_told}
 use Rattle.unlock_audit.specs.Unlock.{is_asked_over, most_tries, never, unlock}

@@ -18,8 +18,8 @@ use Rattle.audit_json.specs.Objects.{array_member, number_member, object, quoted
 use Rattle.audit_json.specs.Telling.{told_as}
 use Rattle.audit_json.specs.declared.telling.Telling.{Telling}
 use Rattle.audit_json.specs.declared.telling.Telling.TheVariants.{Lines, Objects}
-use Rattle.form_audit.specs.FormLines.{denial_text}
-use Rattle.form_audit.specs.QuestionLines.{name_of, store_with, verdict_columns}
+use Rattle.question_audit.specs.FormLines.{denial_text}
+use Rattle.question_audit.specs.QuestionLines.{name_of, store_with, verdict_columns}
 use Rattle.question_audit.specs.ConditionFacts.{condition_words}
 use Rattle.question_audit.specs.QuestionFacts.{no_question, no_question_words}
 use Rattle.image_audit.specs.Lines.{number_text}

@@ -10,7 +10,7 @@ use Rattle.hii_questions.specs.declared.denial.DenialKind.TheVariants.{DisableIf
 use Rattle.guard_policy.specs.Policy.{fixed, is_never_changed}
 use Rattle.guard_policy.specs.World.{World}
 use Rattle.guard_policy.specs.declared.denial.Denial.{Denial}
-use Rattle.form_audit.specs.QuestionLines.{is_constant}
+use Rattle.question_audit.specs.QuestionLines.{is_constant}
 use Rattle.question_audit.specs.Reasons.{all_reasons}
 use Rattle.session_steps.specs.State.{State, world_of}
 use Rattle.unlock_audit.specs.Asking.{asking}

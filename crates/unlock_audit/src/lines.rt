@@ -10,7 +10,7 @@ ghost use Rattle.unlock_audit.specs.Tries.{discarded};
 ghost use Rattle.unlock_audit.specs.code.Answers.{answer_meant, denial_in, unlock_meant};
 ghost use Rattle.unlock_audit.specs.code.Details.{AreDetails};
 ghost use Rattle.audit_text.specs.Texts.{joined};
-ghost use Rattle.form_audit.specs.QuestionLines.{verdict_columns};
+ghost use Rattle.question_audit.specs.QuestionLines.{verdict_columns};
 
 use crate::answer::{Answer, Unlock};
 use crate::moves::Move;
@@ -18,10 +18,10 @@ use crate::words::{Details, put_reason, put_set, put_written};
 use audit_json::Telling;
 use audit_text::{put_left, put_safe_shown};
 use browser_commands::Browser;
-use form_audit::StoreNames;
 use guard_policy::Denial;
 use hii_bytes::Watched;
 use hii_questions::Question;
+use question_audit::StoreNames;
 use std::io::Write;
 
 // Writes whether a question may be changed, in columns.

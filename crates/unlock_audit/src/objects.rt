@@ -19,10 +19,10 @@ use audit_json::{
     put_shown, put_word,
 };
 use browser_commands::Browser;
-use form_audit::StoreNames;
 use guard_policy::Denial;
 use hii_bytes::Watched;
 use hii_questions::Question;
+use question_audit::StoreNames;
 use std::io::Write;
 
 // Writes whether it may be changed.

@@ -12,7 +12,7 @@ ghost use Rattle.guard_policy.specs.Policy.{fixed};
 ghost use Rattle.guard_policy.specs.code.Answers.{unless};
 ghost use Rattle.form_page.specs.code.PageViews.{world_of};
 ghost use Rattle.guard_policy.specs.code.Views.{bytes_of};
-ghost use Rattle.form_audit.specs.QuestionLines.{is_constant_at, is_constant_guard};
+ghost use Rattle.question_audit.specs.QuestionLines.{is_constant_at, is_constant_guard};
 ghost use Rattle.unlock_audit.specs.Unlock as spec;
 
 use form_page::Page;

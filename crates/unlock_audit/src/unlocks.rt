@@ -26,12 +26,11 @@ use crate::runs::discard;
 use crate::words::Details;
 use audit_json::{Telling, end_object, put_kind, put_member};
 use browser_commands::Browser;
-use form_audit::StoreNames;
 use form_page::Page;
 use guard_policy::Conditions;
 use hii_bytes::{Fault, Watched};
 use hii_questions::Question;
-use question_audit::is_never_changed;
+use question_audit::{StoreNames, is_never_changed};
 use std::alloc::{AllocError, Global};
 use std::io::Write;
 

@@ -12,10 +12,10 @@ use Rattle.hii_questions.specs.Fields.{Field, asked}
 use Rattle.guard_policy.specs.Policy.{fixed}
 use Rattle.guard_policy.specs.World.{World}
 use Rattle.guard_policy.specs.declared.denial.Denial.{Denial}
-use Rattle.form_audit.specs.Audited.{Audited}
-use Rattle.form_audit.specs.ScriptValues.{default_taken}
-use Rattle.form_audit.specs.declared.ways.Reach.{Reach}
-use Rattle.form_audit.specs.declared.ways.Reach.TheVariants.{Open, Hidden, Closed, Below, Unnamed}
+use Rattle.question_audit.specs.Audited.{Audited}
+use Rattle.question_audit.specs.ScriptValues.{default_taken}
+use Rattle.question_audit.specs.declared.ways.Reach.{Reach}
+use Rattle.question_audit.specs.declared.ways.Reach.TheVariants.{Open, Hidden, Closed, Below, Unnamed}
 use Rattle.question_audit.specs.ConditionFacts.{checks}
 use Rattle.question_audit.specs.OptionFacts.{own_denial}
 use Rattle.question_audit.specs.Reasons.{all_reasons}

@@ -11,7 +11,7 @@ use Rattle.ifr_nodes.specs.code.Views.{node_of}
 use Rattle.ifr_nodes.specs.declared.node.Node.{Node}
 use Rattle.package_faults.specs.code.MetRules.{AreMetRules}
 use Rattle.package_faults.specs.code.Parts.{faults_of_node}
-use Rattle.package_faults.specs.declared.references.FormEnd.{FormEnd}
+use Rattle.ifr_nodes.specs.declared.form_end.FormEnd.{FormEnd}
 use Rattle.package_faults.specs.declared.references.Met.{Met}
 
 -- a form ends where that of its place does

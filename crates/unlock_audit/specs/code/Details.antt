@@ -4,7 +4,7 @@ use Rattle.std.specs.List.{find}
 use Rattle.ifr_nodes.specs.Guards.{guards}
 use Rattle.hii_questions.specs.Fields.{Asked}
 use Rattle.condition_text.specs.code.Conditions.{words_of}
-use Rattle.form_audit.specs.ScriptValues.{behind}
+use Rattle.question_audit.specs.ScriptValues.{behind}
 use Rattle.session_steps.specs.State.{State}
 use Rattle.unlock_audit.specs.Told.{short_condition}
 use Rattle.unlock_audit.specs.Tries.{with_written}

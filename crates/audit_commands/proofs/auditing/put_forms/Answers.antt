@@ -2,10 +2,10 @@ use Rattle.std.proofs.Common.{◌≡◌, ◌+◌, ◌<◌, ◌^◌, ℕ, [], ap,
 use Rattle.std.proofs.lemmas.Result.{IfErr-weaker, on_ok_weaker, on_err_weaker}
 use Rattle.hii_bytes.specs.Watching.{Writes, pen_of}
 use Rattle.hii_bytes.proofs.WritingLemmas.{writes_nil}
-use Rattle.form_audit.specs.Audited.{Audited}
-use Rattle.form_audit.specs.FormLines.{questions_text}
-use Rattle.form_audit.specs.Reach.{TellsReached}
-use Rattle.form_audit.specs.code.Pages.{audited}
+use Rattle.question_audit.specs.Audited.{Audited}
+use Rattle.question_audit.specs.FormLines.{questions_text}
+use Rattle.question_audit.specs.Reach.{TellsReached}
+use Rattle.question_audit.specs.code.Pages.{audited}
 use Rattle.question_audit.specs.code.Beginnings.{Begins}
 use Rattle.question_audit.specs.declared.origin.Origin.{Origin}
 use Rattle.question_objects.specs.FormSets.{form_set_objects}

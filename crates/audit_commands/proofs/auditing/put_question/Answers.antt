@@ -1,7 +1,7 @@
 use Rattle.std.proofs.Common.{◌≡◌, ℕ, ap, subst, refl, inr}
 use Rattle.std.proofs.lemmas.Result.{IfOk-weaker, on_err_weaker}
-use Rattle.form_audit.specs.Audited.{Audited}
-use Rattle.form_audit.specs.code.Pages.{audited}
+use Rattle.question_audit.specs.Audited.{Audited}
+use Rattle.question_audit.specs.code.Pages.{audited}
 use Rattle.question_audit.specs.QuestionFacts.{BeginsQuestionText, IsQuestionText}
 use Rattle.question_audit.specs.declared.origin.Origin.{Origin}
 use Rattle.question_objects.specs.Objects.{BeginsQuestionObjectText, IsQuestionObject}

@@ -1,8 +1,8 @@
 use Rattle.std.proofs.Common.{◌≡◌, ◌∙◌, ap, inl, refl, subst, sym}
 use Rattle.std.proofs.lemmas.Result.{IfErr-weaker, err_from_is_err_and, on_ok_weaker}
 use Rattle.hii_bytes.specs.Watching.{Writes, pen_of}
-use Rattle.form_audit.specs.Audited.{Audited}
-use Rattle.form_audit.specs.code.Pages.{audited}
+use Rattle.question_audit.specs.Audited.{Audited}
+use Rattle.question_audit.specs.code.Pages.{audited}
 use Rattle.session_steps.specs.Opening.{layout_in}
 use Rattle.image_audit.specs.Difference.{difference_told}
 use Rattle.survey_audit.specs.AuditedAt.{audited_at}

@@ -9,7 +9,7 @@ use Rattle.hii_questions.specs.code.Lists.{questions_left}
 use Rattle.hii_questions.specs.code.LyingIn.{LieIn, LiesIn}
 use Rattle.hii_questions.specs.code.Views.{question_view}
 use Rattle.guard_policy.specs.code.Views.{bytes_of}
-use Rattle.form_audit.specs.code.Pages.{audited}
+use Rattle.question_audit.specs.code.Pages.{audited}
 use Rattle.image_audit.specs.Difference.{value_told_as}
 use Rattle.image_audit.proofs.AskedLemmas.{IsAskedOf, questions_are_asked}
 use Rattle.image_audit.proofs.TellingLemmas.{all_left, past_failing, past_passing}

@@ -7,7 +7,7 @@ use Rattle.hii_questions.specs.Changes.{holds_others}
 use Rattle.hii_questions.specs.code.Lists.{questions_left}
 use Rattle.hii_questions.specs.code.LyingIn.{LieIn}
 use Rattle.guard_policy.specs.code.Views.{bytes_of}
-use Rattle.form_audit.specs.code.Pages.{audited}
+use Rattle.question_audit.specs.code.Pages.{audited}
 use Rattle.image_audit.specs.Difference.{value_told_as, values_told}
 use Rattle.image_audit.proofs.AskedLemmas.{IsAskedOf}
 use Rattle.image_audit.proofs.difference.put_values.Given as goal

@@ -12,8 +12,8 @@ use Rattle.guard_policy.specs.code.Views.{bytes_of, world}
 use Rattle.guard_policy.specs.declared.policy.Policy.{Policy}
 use Rattle.guard_policy.specs.declared.support.Decision.TheVariants.{Changeable}
 use Rattle.form_page.specs.code.PageViews.{world_of}
-use Rattle.form_audit.specs.code.Pages.{audited}
-use Rattle.form_audit.proofs.KeptLemmas.{kept_told}
+use Rattle.question_audit.specs.code.Pages.{audited}
+use Rattle.question_audit.proofs.KeptLemmas.{kept_told}
 use Rattle.image_audit.specs.Difference.{decides_otherwise, verdict_told}
 use Rattle.image_audit.proofs.AskedLemmas.{IsAskedOf, questions_are_asked}
 use Rattle.image_audit.proofs.TellingLemmas.{all_left, past_failing, past_passing}

@@ -4,7 +4,7 @@ use Rattle.hii_bytes.specs.Watching.{pen_of}
 use Rattle.hii_bytes.specs.code.Writing.{Stands}
 use Rattle.hii_questions.specs.code.Lists.{questions_left}
 use Rattle.guard_policy.specs.code.Views.{bytes_of}
-use Rattle.form_audit.specs.code.Pages.{audited}
+use Rattle.question_audit.specs.code.Pages.{audited}
 use Rattle.image_audit.specs.Difference.{decides_otherwise, verdict_told, verdicts_told}
 use Rattle.image_audit.proofs.AskedLemmas.{IsAskedOf}
 use Rattle.image_audit.proofs.difference.put_verdicts.Given as goal

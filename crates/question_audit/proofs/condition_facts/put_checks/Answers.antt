@@ -17,9 +17,9 @@ use Rattle.ifr_scopes.specs.code.Parts.{condition_node}
 use Rattle.hii_questions.specs.code.Views.{question_node}
 use Rattle.guard_policy.specs.code.Views.{bytes_of}
 use Rattle.guard_policy.proofs.OptionLemmas.{first_of, rest_of}
-use Rattle.form_audit.specs.code.Pages.{audited}
+use Rattle.question_audit.specs.code.Pages.{audited}
 use Rattle.question_audit.specs.ConditionFacts.{check_fact, is_check_of}
-use Rattle.form_audit.proofs.AroundLemmas.{same_forms}
+use Rattle.question_audit.proofs.AroundLemmas.{same_forms}
 use Rattle.question_audit.proofs.BeginningLemmas.{at_error, stands_begun}
 use Rattle.question_audit.proofs.FactLemmas.{all_left, filter_both, past_failing, past_passing}
 use Rattle.question_audit.proofs.condition_facts.put_checks.Goals as goal

@@ -9,7 +9,7 @@ use Rattle.ifr_nodes.specs.code.Checked.{AreNodesOf}
 use Rattle.ifr_scopes.specs.code.AllConditionsLeft.{all_conditions_left}
 use Rattle.hii_questions.specs.code.Views.{question_node}
 use Rattle.guard_policy.specs.code.Views.{bytes_of}
-use Rattle.form_audit.specs.code.Pages.{audited}
+use Rattle.question_audit.specs.code.Pages.{audited}
 use Rattle.question_audit.specs.ConditionFacts.{check_fact, check_facts}
 use Rattle.question_audit.proofs.condition_facts.put_checks.Given as goal
 

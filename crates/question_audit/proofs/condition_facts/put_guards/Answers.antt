@@ -4,10 +4,10 @@ use Rattle.ifr_nodes.specs.Guards.{guards}
 use Rattle.ifr_scopes.specs.code.Lists.{guard_node, guards_left, statement_node}
 use Rattle.guard_policy.specs.code.Views.{bytes_of}
 use Rattle.guard_policy.proofs.IndexedLemmas.{of_statement}
-use Rattle.form_audit.specs.code.Pages.{audited}
+use Rattle.question_audit.specs.code.Pages.{audited}
 use Rattle.question_audit.specs.ConditionFacts.{guard_fact}
-use Rattle.form_audit.proofs.AroundLemmas.{guards_found, same_forms}
-use Rattle.form_audit.proofs.FlagLemmas.{guard_below}
+use Rattle.question_audit.proofs.AroundLemmas.{guards_found, same_forms}
+use Rattle.question_audit.proofs.FlagLemmas.{guard_below}
 use Rattle.question_audit.proofs.BeginningLemmas.{at_error, stands_begun}
 use Rattle.question_audit.proofs.FactLemmas.{all_left, past_item}
 use Rattle.question_audit.proofs.condition_facts.put_guards.Goals as goal

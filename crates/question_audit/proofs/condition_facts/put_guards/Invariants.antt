@@ -4,7 +4,7 @@ use Rattle.hii_bytes.specs.Watching.{pen_of}
 use Rattle.hii_bytes.specs.code.Writing.{Stands}
 use Rattle.ifr_scopes.specs.code.Lists.{guards_left, statement_node}
 use Rattle.guard_policy.specs.code.Views.{bytes_of}
-use Rattle.form_audit.specs.code.Pages.{audited}
+use Rattle.question_audit.specs.code.Pages.{audited}
 use Rattle.question_audit.specs.ConditionFacts.{guard_fact, guard_facts}
 use Rattle.question_audit.proofs.condition_facts.put_guards.Given as goal
 

@@ -8,7 +8,7 @@ use Rattle.hii_questions.specs.code.Views.{question_node}
 use Rattle.guard_policy.specs.code.Views.{bytes_of}
 use Rattle.guard_policy.proofs.IndexedLemmas.{of_statement}
 use Rattle.question_audit.specs.code.Naming.{counts, naming}
-use Rattle.form_audit.proofs.AroundLemmas.{guards_found}
+use Rattle.question_audit.proofs.AroundLemmas.{guards_found}
 use Rattle.question_audit.proofs.DependLemmas.{any_guard}
 use Rattle.question_audit.proofs.decides_facts.is_decided.Goals as goal
 

@@ -10,7 +10,7 @@ use Rattle.hii_questions.specs.code.Views.{question_node, question_view}
 use Rattle.guard_policy.specs.code.Views.{bytes_of}
 use Rattle.guard_policy.specs.declared.policy.Policy.{Policy}
 use Rattle.guard_policy.proofs.OptionLemmas.{first_of, rest_of}
-use Rattle.form_audit.specs.code.Pages.{audited}
+use Rattle.question_audit.specs.code.Pages.{audited}
 use Rattle.question_audit.specs.Dependences.{decided_by, decides_fact, is_decided_by}
 use Rattle.question_audit.specs.code.Naming.{naming}
 use Rattle.question_audit.proofs.AskedLemmas.{question_nodes, questions_are_nodes}

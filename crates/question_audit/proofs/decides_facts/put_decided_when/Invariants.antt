@@ -7,7 +7,7 @@ use Rattle.ifr_nodes.specs.Nodes.{nodes_of}
 use Rattle.ifr_nodes.specs.code.Checked.{AreNodesOf}
 use Rattle.hii_questions.specs.code.Lists.{questions_left}
 use Rattle.guard_policy.specs.code.Views.{bytes_of}
-use Rattle.form_audit.specs.code.Pages.{audited}
+use Rattle.question_audit.specs.code.Pages.{audited}
 use Rattle.question_audit.specs.Dependences.{decided_by, decides_fact, is_decided_by}
 use Rattle.question_audit.specs.code.Naming.{naming}
 use Rattle.question_audit.proofs.AskedLemmas.{question_nodes}

@@ -4,7 +4,7 @@ use Rattle.ifr_opcodes.specs.Fields.{question_id}
 use Rattle.ifr_nodes.specs.Nodes.{nodes_of}
 use Rattle.hii_questions.specs.code.Views.{question_node}
 use Rattle.guard_policy.specs.code.Views.{bytes_of}
-use Rattle.form_audit.proofs.AroundLemmas.{same_forms}
+use Rattle.question_audit.proofs.AroundLemmas.{same_forms}
 use Rattle.question_audit.specs.code.Naming.{naming}
 use Rattle.question_audit.proofs.decides_facts.put_decides.Goals as goal
 

@@ -13,8 +13,8 @@ use Rattle.guard_policy.specs.declared.policy.Policy.{Policy}
 use Rattle.guard_policy.specs.declared.support.Decision.TheVariants.{Changeable}
 use Rattle.form_page.proofs.WholeTexts.{whole_texts}
 use Rattle.condition_text.proofs.WriteLemmas.{written_as}
-use Rattle.form_audit.specs.QuestionLines.{is_undefined}
-use Rattle.form_audit.proofs.KeptLemmas.{kept_told}
+use Rattle.question_audit.specs.QuestionLines.{is_undefined}
+use Rattle.question_audit.proofs.KeptLemmas.{kept_told}
 use Rattle.question_audit.proofs.ValueLemmas.{defined}
 use Rattle.question_audit.proofs.depends_facts.put_answer.Goals as goal
 

@@ -7,7 +7,7 @@ use Rattle.ifr_nodes.specs.Nodes.{nodes_of}
 use Rattle.ifr_scopes.specs.code.Lists.{statement_node}
 use Rattle.guard_policy.specs.code.Views.{bytes_of}
 use Rattle.guard_policy.specs.declared.policy.Policy.{Policy}
-use Rattle.form_audit.specs.code.Pages.{audited}
+use Rattle.question_audit.specs.code.Pages.{audited}
 use Rattle.question_audit.specs.Dependences.{all_ids, depends_fact, depends_on, supports}
 use Rattle.question_audit.proofs.FactLemmas.{all_left, none_left, past_either}
 use Rattle.question_audit.proofs.RangeLemmas.{all_at_start, next_id, no_more}

@@ -6,7 +6,7 @@ use Rattle.hii_bytes.specs.code.Writing.{Stands}
 use Rattle.ifr_nodes.specs.Nodes.{nodes_of}
 use Rattle.ifr_scopes.specs.code.Lists.{statement_node}
 use Rattle.guard_policy.specs.code.Views.{bytes_of}
-use Rattle.form_audit.specs.code.Pages.{audited}
+use Rattle.question_audit.specs.code.Pages.{audited}
 use Rattle.question_audit.specs.Dependences.{depends_fact, depends_facts, supports}
 use Rattle.question_audit.proofs.depends_facts.put_depends.Given as goal
 

@@ -6,7 +6,7 @@ use Rattle.hii_questions.specs.code.Views.{question_node, question_view}
 use Rattle.guard_policy.specs.code.Views.{bytes_of}
 use Rattle.audit_text.specs.Texts.{safe_text}
 use Rattle.condition_text.proofs.WriteLemmas.{written_as}
-use Rattle.form_audit.specs.code.Pages.{audited}
+use Rattle.question_audit.specs.code.Pages.{audited}
 use Rattle.question_audit.specs.Dependences.{answer_text, dependence_text}
 use Rattle.question_audit.proofs.AskedLemmas.{found_with, none_with}
 use Rattle.question_audit.proofs.depends_facts.put_question_with.Goals as goal

@@ -8,7 +8,7 @@ use Rattle.ifr_scopes.specs.code.Lists.{guard_node, statement_node}
 use Rattle.guard_policy.specs.Conditions.{condition_ids}
 use Rattle.guard_policy.specs.code.Views.{bytes_of}
 use Rattle.guard_policy.proofs.IndexedLemmas.{of_statement}
-use Rattle.form_audit.proofs.AroundLemmas.{guards_found}
+use Rattle.question_audit.proofs.AroundLemmas.{guards_found}
 use Rattle.question_audit.specs.Times.{counts_when}
 use Rattle.question_audit.proofs.DependLemmas.{ids_added, ids_passed}
 use Rattle.question_audit.proofs.depends_facts.support_of.Goals as goal

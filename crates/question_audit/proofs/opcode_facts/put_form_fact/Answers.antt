@@ -7,7 +7,7 @@ use Rattle.ifr_scopes.specs.code.Lists.{form_node, statement_node}
 use Rattle.guard_policy.specs.code.Views.{bytes_of}
 use Rattle.guard_policy.specs.declared.policy.Policy.{Policy}
 use Rattle.condition_text.proofs.WriteLemmas.{written_as}
-use Rattle.form_audit.specs.code.Pages.{audited}
+use Rattle.question_audit.specs.code.Pages.{audited}
 use Rattle.question_audit.specs.QuestionFacts.{form_fact, form_of}
 use Rattle.question_audit.proofs.opcode_facts.put_form_fact.Goals as goal
 

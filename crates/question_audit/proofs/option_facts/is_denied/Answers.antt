@@ -5,7 +5,7 @@ use Rattle.guard_policy.specs.code.Answers.{unless}
 use Rattle.guard_policy.specs.code.Views.{world}
 use Rattle.guard_policy.specs.declared.policy.Policy.{Policy}
 use Rattle.guard_policy.specs.declared.support.Decision.TheVariants.{Changeable}
-use Rattle.form_audit.proofs.KeptLemmas.{kept_told}
+use Rattle.question_audit.proofs.KeptLemmas.{kept_told}
 use Rattle.question_audit.proofs.OptionLemmas.{error_where_denied}
 use Rattle.question_audit.proofs.option_facts.is_denied.Goals as goal
 

@@ -9,7 +9,7 @@ use Rattle.hii_questions.specs.code.Views.{question_node}
 use Rattle.guard_policy.specs.Policy.{fixed}
 use Rattle.guard_policy.specs.code.Views.{bytes_of}
 use Rattle.guard_policy.proofs.OptionLemmas.{first_of, options_are_nodes, rest_of}
-use Rattle.form_audit.specs.code.Pages.{audited}
+use Rattle.question_audit.specs.code.Pages.{audited}
 use Rattle.question_audit.specs.OptionFacts.{option_facts, option_facts_behind}
 use Rattle.question_audit.specs.code.Places.{has_place}
 use Rattle.question_audit.proofs.BeginningLemmas.{at_error}

@@ -6,7 +6,7 @@ use Rattle.ifr_scopes.specs.code.OptionsLeft.{options_of_left}
 use Rattle.hii_questions.specs.code.Views.{question_node}
 use Rattle.guard_policy.specs.Policy.{fixed}
 use Rattle.guard_policy.specs.code.Views.{bytes_of}
-use Rattle.form_audit.specs.code.Pages.{audited}
+use Rattle.question_audit.specs.code.Pages.{audited}
 use Rattle.question_audit.specs.OptionFacts.{option_facts}
 use Rattle.question_audit.specs.code.Places.{has_place}
 use Rattle.question_audit.proofs.OptionLemmas.{AreWritten}

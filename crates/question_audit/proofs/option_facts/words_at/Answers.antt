@@ -4,7 +4,7 @@ use Rattle.std.specs.List.{find}
 use Rattle.ifr_opcodes.specs.Forest.{Node}
 use Rattle.ifr_scopes.specs.code.Parts.{option_node}
 use Rattle.guard_policy.proofs.IndexedLemmas.{of_option}
-use Rattle.form_audit.proofs.AroundLemmas.{guards_found, same_forms}
+use Rattle.question_audit.proofs.AroundLemmas.{guards_found, same_forms}
 use Rattle.question_audit.proofs.option_facts.words_at.Goals as goal
 
 abbrev is_at : ℕ → Node → Bool

@@ -6,7 +6,7 @@ use Rattle.ifr_scopes.specs.code.Parts.{option_node}
 use Rattle.guard_policy.specs.Policy.{hides}
 use Rattle.guard_policy.proofs.IndexedLemmas.{of_option}
 use Rattle.form_page.specs.code.PageViews.{world_of}
-use Rattle.form_audit.proofs.AroundLemmas.{guards_found, same_forms}
+use Rattle.question_audit.proofs.AroundLemmas.{guards_found, same_forms}
 use Rattle.question_audit.proofs.OwnLemmas.{is_inside}
 use Rattle.question_audit.proofs.own_denials.own_hiding.Goals as goal
 

@@ -11,7 +11,7 @@ use Rattle.ifr_scopes.specs.code.LockIndex.{first_place}
 use Rattle.guard_policy.specs.code.Views.{bytes_of}
 use Rattle.guard_policy.specs.declared.denial.Denial.{Denial}
 use Rattle.guard_policy.proofs.IndexedLemmas.{of_option}
-use Rattle.form_audit.proofs.AroundLemmas.{guards_found, same_forms}
+use Rattle.question_audit.proofs.AroundLemmas.{guards_found, same_forms}
 use Rattle.question_audit.proofs.OwnLemmas.{inside_at, is_inside, lock_found, lock_passed, locked_by}
 use Rattle.question_audit.proofs.own_denials.own_lock.Goals as goal
 

@@ -11,7 +11,7 @@ use Rattle.hii_questions.specs.declared.denial.DenialKind.TheVariants.{Locked}
 use Rattle.guard_policy.specs.Policy.{denied_by}
 use Rattle.guard_policy.specs.code.Views.{bytes_of}
 use Rattle.guard_policy.proofs.IndexedLemmas.{lock_there, of_statement}
-use Rattle.form_audit.proofs.AroundLemmas.{same_forms}
+use Rattle.question_audit.proofs.AroundLemmas.{same_forms}
 use Rattle.question_audit.proofs.reasons.add_any_locks.Goals as goal
 
 -- where there is no first one there is none

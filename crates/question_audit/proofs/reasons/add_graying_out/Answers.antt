@@ -7,7 +7,7 @@ use Rattle.hii_questions.specs.declared.denial.DenialKind.TheVariants.{GrayOutIf
 use Rattle.guard_policy.specs.Policy.{denied_by, grays_out}
 use Rattle.guard_policy.proofs.IndexedLemmas.{of_statement}
 use Rattle.form_page.specs.code.PageViews.{world_of}
-use Rattle.form_audit.proofs.AroundLemmas.{guards_found, same_forms}
+use Rattle.question_audit.proofs.AroundLemmas.{guards_found, same_forms}
 use Rattle.question_audit.proofs.ReasonLemmas.{reason_passed}
 use Rattle.question_audit.proofs.reasons.add_graying_out.Goals as goal
 

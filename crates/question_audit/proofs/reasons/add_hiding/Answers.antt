@@ -6,7 +6,7 @@ use Rattle.hii_questions.specs.code.Views.{question_node}
 use Rattle.guard_policy.specs.Policy.{hides, hiding}
 use Rattle.guard_policy.proofs.IndexedLemmas.{of_statement}
 use Rattle.form_page.specs.code.PageViews.{world_of}
-use Rattle.form_audit.proofs.AroundLemmas.{guards_found, same_forms}
+use Rattle.question_audit.proofs.AroundLemmas.{guards_found, same_forms}
 use Rattle.question_audit.proofs.ReasonLemmas.{reason_passed}
 use Rattle.question_audit.proofs.reasons.add_hiding.Goals as goal
 

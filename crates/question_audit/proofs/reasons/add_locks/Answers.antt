@@ -10,7 +10,7 @@ use Rattle.hii_questions.specs.code.Views.{question_node}
 use Rattle.hii_questions.specs.declared.denial.DenialKind.TheVariants.{Locked}
 use Rattle.guard_policy.specs.Policy.{denied_by}
 use Rattle.guard_policy.specs.code.Views.{bytes_of}
-use Rattle.form_audit.proofs.AroundLemmas.{same_forms}
+use Rattle.question_audit.proofs.AroundLemmas.{same_forms}
 use Rattle.question_audit.proofs.reasons.add_locks.Goals as goal
 use Rattle.question_audit.proofs.reasons.add_locks.Goals.{After-place}
 

@@ -5,7 +5,7 @@ use Rattle.ifr_scopes.specs.code.Lists.{guard_node}
 use Rattle.hii_questions.specs.code.Views.{question_node}
 use Rattle.guard_policy.specs.code.Views.{bytes_of}
 use Rattle.guard_policy.proofs.IndexedLemmas.{of_statement}
-use Rattle.form_audit.proofs.AroundLemmas.{guards_found}
+use Rattle.question_audit.proofs.AroundLemmas.{guards_found}
 use Rattle.question_audit.specs.RuleFacts.{condition_references}
 use Rattle.question_audit.specs.code.Places.{has_place}
 use Rattle.question_audit.proofs.NamingLemmas.{all_named, all_to_name, condition_added}

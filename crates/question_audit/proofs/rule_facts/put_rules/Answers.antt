@@ -14,7 +14,7 @@ use Rattle.hii_questions.specs.code.Views.{question_node}
 use Rattle.guard_policy.specs.code.Views.{bytes_of}
 use Rattle.guard_policy.specs.declared.policy.Policy.{Policy}
 use Rattle.guard_policy.proofs.OptionLemmas.{first_of, rest_of}
-use Rattle.form_audit.proofs.AroundLemmas.{same_forms}
+use Rattle.question_audit.proofs.AroundLemmas.{same_forms}
 use Rattle.question_audit.specs.RuleFacts.{is_named, rule_fact}
 use Rattle.question_audit.proofs.BeginningLemmas.{at_error}
 use Rattle.question_audit.proofs.FactLemmas.{all_left, past_failing, past_passing}

@@ -6,8 +6,8 @@ use Rattle.ifr_scopes.specs.code.Lists.{statement_node}
 use Rattle.ifr_scopes.specs.code.Parts.{option_node}
 use Rattle.condition_text.proofs.WriteLemmas.{written_as}
 use Rattle.form_page.specs.code.PageViews.{texts_of, world_of}
-use Rattle.form_audit.specs.code.Pages.{audited}
-use Rattle.form_audit.proofs.ShownLemmas.{shown_choice}
+use Rattle.question_audit.specs.code.Pages.{audited}
+use Rattle.question_audit.proofs.ShownLemmas.{shown_choice}
 use Rattle.question_audit.specs.QuestionFacts.{behind_number, choice_behind}
 use Rattle.question_audit.proofs.value_facts.put_choice.Goals as goal
 

@@ -8,7 +8,7 @@ use Rattle.hii_questions.specs.code.Views.{question_node, question_view}
 use Rattle.guard_policy.specs.code.Views.{bytes_of}
 use Rattle.condition_text.proofs.WriteLemmas.{written_as}
 use Rattle.form_page.proofs.WholeTexts.{whole_texts}
-use Rattle.form_audit.specs.code.Pages.{audited}
+use Rattle.question_audit.specs.code.Pages.{audited}
 use Rattle.question_audit.specs.QuestionFacts.{named_default}
 use Rattle.question_audit.proofs.value_facts.put_default_fact.Goals as goal
 

@@ -4,8 +4,8 @@ use Rattle.hii_bytes.proofs.WritingLemmas.{◌⨾◌, writes_nil}
 use Rattle.ifr_expr.specs.code.Views.{value_of}
 use Rattle.ifr_scopes.specs.code.Lists.{statement_node}
 use Rattle.condition_text.proofs.WriteLemmas.{written_as}
-use Rattle.form_audit.specs.ScriptValues.{script_value}
-use Rattle.form_audit.specs.code.Pages.{audited}
+use Rattle.question_audit.specs.ScriptValues.{script_value}
+use Rattle.question_audit.specs.code.Pages.{audited}
 use Rattle.question_audit.specs.QuestionFacts.{option_behind}
 use Rattle.question_audit.proofs.ValueLemmas.{told, not_told}
 use Rattle.question_audit.proofs.value_facts.put_named_default.Goals as goal

@@ -4,7 +4,7 @@ use Rattle.ifr_opcodes.specs.Opcode.{number}
 use Rattle.ifr_nodes.specs.NodeExpressions.{message}
 use Rattle.ifr_scopes.specs.code.Parts.{condition_node}
 use Rattle.condition_text.proofs.WriteLemmas.{written_as}
-use Rattle.form_audit.specs.code.Pages.{audited}
+use Rattle.question_audit.specs.code.Pages.{audited}
 use Rattle.question_objects.specs.Conditions.{named_condition}
 use Rattle.question_objects.specs.Members.{shown_member}
 use Rattle.question_objects.proofs.WordLemmas.{words_over}

@@ -16,8 +16,8 @@ use Rattle.ifr_scopes.specs.code.Parts.{condition_node}
 use Rattle.hii_questions.specs.code.Views.{question_node}
 use Rattle.guard_policy.specs.code.Views.{bytes_of}
 use Rattle.guard_policy.proofs.OptionLemmas.{first_of, rest_of}
-use Rattle.form_audit.specs.code.Pages.{audited}
-use Rattle.form_audit.proofs.AroundLemmas.{same_forms}
+use Rattle.question_audit.specs.code.Pages.{audited}
+use Rattle.question_audit.proofs.AroundLemmas.{same_forms}
 use Rattle.question_audit.proofs.BeginningLemmas.{at_error}
 use Rattle.question_audit.proofs.FactLemmas.{filter_both}
 use Rattle.question_objects.specs.Conditions.{check_item}

@@ -7,7 +7,7 @@ use Rattle.ifr_nodes.specs.code.Checked.{AreNodesOf}
 use Rattle.ifr_scopes.specs.code.AllConditionsLeft.{all_conditions_left}
 use Rattle.hii_questions.specs.code.Views.{question_node}
 use Rattle.guard_policy.specs.code.Views.{bytes_of}
-use Rattle.form_audit.specs.code.Pages.{audited}
+use Rattle.question_audit.specs.code.Pages.{audited}
 use Rattle.audit_json.proofs.ArrayLemmas.{Lists}
 use Rattle.question_audit.specs.ConditionFacts.{checks}
 use Rattle.question_objects.specs.Conditions.{check_item}

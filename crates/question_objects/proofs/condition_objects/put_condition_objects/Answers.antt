@@ -17,8 +17,8 @@ use Rattle.ifr_scopes.specs.code.Lists.{guard_node, rule_node}
 use Rattle.guard_policy.specs.code.Views.{bytes_of}
 use Rattle.guard_policy.proofs.OptionLemmas.{first_of, rest_of}
 use Rattle.condition_text.proofs.WriteLemmas.{written_as}
-use Rattle.form_audit.specs.code.Pages.{audited}
-use Rattle.form_audit.proofs.AroundLemmas.{same_forms}
+use Rattle.question_audit.specs.code.Pages.{audited}
+use Rattle.question_audit.proofs.AroundLemmas.{same_forms}
 use Rattle.question_audit.proofs.FactLemmas.{all_left}
 use Rattle.question_objects.specs.FormSets.{condition_object}
 use Rattle.question_objects.proofs.NodeLemmas.{guard_is_no_rule, met, of_another, of_guard, of_rule, passed_over}

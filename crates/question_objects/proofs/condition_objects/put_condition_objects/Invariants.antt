@@ -10,7 +10,7 @@ use Rattle.ifr_nodes.specs.code.Checked.{AreNodesOf}
 use Rattle.ifr_nodes.specs.code.Views.{nodes_left}
 use Rattle.ifr_scopes.specs.code.Lists.{all_guards_left, rules_left}
 use Rattle.guard_policy.specs.code.Views.{bytes_of}
-use Rattle.form_audit.specs.code.Pages.{audited}
+use Rattle.question_audit.specs.code.Pages.{audited}
 use Rattle.question_objects.specs.FormSets.{condition_object}
 use Rattle.question_objects.proofs.condition_objects.put_condition_objects.Given as goal
 

@@ -9,8 +9,8 @@ use Rattle.ifr_nodes.specs.code.Checked.{AreNodesOf}
 use Rattle.ifr_scopes.specs.code.Lists.{form_node, forms_left}
 use Rattle.guard_policy.specs.code.Views.{bytes_of}
 use Rattle.guard_policy.proofs.OptionLemmas.{first_of, rest_of}
-use Rattle.form_audit.specs.code.Pages.{audited}
-use Rattle.form_audit.proofs.QuestionsLemmas.{forms_are_nodes}
+use Rattle.question_audit.specs.code.Pages.{audited}
+use Rattle.question_audit.proofs.QuestionsLemmas.{forms_are_nodes}
 use Rattle.question_audit.proofs.BeginningLemmas.{at_error, piece_begun}
 use Rattle.question_objects.specs.FormSets.{form_objects}
 use Rattle.question_objects.proofs.form_sets.put_forms.Goals as goal

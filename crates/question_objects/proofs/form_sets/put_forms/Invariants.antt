@@ -7,7 +7,7 @@ use Rattle.ifr_nodes.specs.Nodes.{is_form, nodes_of}
 use Rattle.ifr_nodes.specs.code.Checked.{AreNodesOf}
 use Rattle.ifr_scopes.specs.code.Lists.{forms_left}
 use Rattle.guard_policy.specs.code.Views.{bytes_of}
-use Rattle.form_audit.specs.code.Pages.{audited}
+use Rattle.question_audit.specs.code.Pages.{audited}
 use Rattle.question_objects.specs.FormSets.{form_objects}
 use Rattle.question_objects.proofs.form_sets.put_forms.Given as goal
 

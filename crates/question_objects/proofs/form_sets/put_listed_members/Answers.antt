@@ -3,7 +3,7 @@ use Rattle.std.specs.Prelude.{OnErr, OnOk}
 use Rattle.hii_bytes.specs.Watching.{Writes, pen_of}
 use Rattle.ifr_scopes.specs.code.Lists.{form_node}
 use Rattle.hii_questions.specs.Fields.{Asked}
-use Rattle.form_audit.specs.code.Pages.{audited}
+use Rattle.question_audit.specs.code.Pages.{audited}
 use Rattle.question_audit.specs.code.Beginnings.{Begins}
 use Rattle.question_objects.specs.Objects.{question_members}
 use Rattle.question_objects.specs.declared.detail.Detail.TheVariants.{Listed}

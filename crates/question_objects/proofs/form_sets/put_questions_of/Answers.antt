@@ -18,9 +18,9 @@ use Rattle.guard_policy.specs.code.Views.{bytes_of}
 use Rattle.guard_policy.specs.declared.policy.Policy.{Policy}
 use Rattle.guard_policy.proofs.OptionLemmas.{first_of, rest_of}
 use Rattle.condition_text.proofs.WriteLemmas.{written_as}
-use Rattle.form_audit.specs.FormLines.{form_questions}
-use Rattle.form_audit.specs.code.Pages.{audited}
-use Rattle.form_audit.proofs.QuestionsLemmas.{question_of, no_question_of, with_question, without_question, question_lies}
+use Rattle.question_audit.specs.FormLines.{form_questions}
+use Rattle.question_audit.specs.code.Pages.{audited}
+use Rattle.question_audit.proofs.QuestionsLemmas.{question_of, no_question_of, with_question, without_question, question_lies}
 use Rattle.question_audit.specs.code.Beginnings.{Begins}
 use Rattle.question_audit.proofs.BeginningLemmas.{at_error, piece_begun}
 use Rattle.question_objects.specs.FormSets.{listed_object}

@@ -7,8 +7,8 @@ use Rattle.ifr_nodes.specs.code.Checked.{AreNodesOf}
 use Rattle.ifr_scopes.specs.code.Lists.{form_node}
 use Rattle.ifr_scopes.specs.code.StatementsLeft.{statements_of_left}
 use Rattle.guard_policy.specs.code.Views.{bytes_of}
-use Rattle.form_audit.specs.FormLines.{form_questions}
-use Rattle.form_audit.specs.code.Pages.{audited}
+use Rattle.question_audit.specs.FormLines.{form_questions}
+use Rattle.question_audit.specs.code.Pages.{audited}
 use Rattle.question_objects.specs.FormSets.{listed_object}
 use Rattle.question_objects.proofs.form_sets.put_questions_of.Given as goal
 

@@ -3,9 +3,9 @@ use Rattle.hii_bytes.specs.Watching.{pen_of}
 use Rattle.ifr_scopes.specs.code.Lists.{guard_node, statement_node}
 use Rattle.guard_policy.specs.code.Views.{bytes_of}
 use Rattle.guard_policy.proofs.IndexedLemmas.{of_statement}
-use Rattle.form_audit.specs.code.Pages.{audited}
-use Rattle.form_audit.proofs.AroundLemmas.{guards_found, same_forms}
-use Rattle.form_audit.proofs.FlagLemmas.{guard_below}
+use Rattle.question_audit.specs.code.Pages.{audited}
+use Rattle.question_audit.proofs.AroundLemmas.{guards_found, same_forms}
+use Rattle.question_audit.proofs.FlagLemmas.{guard_below}
 use Rattle.question_audit.proofs.BeginningLemmas.{at_error}
 use Rattle.question_objects.specs.Conditions.{guard_item}
 use Rattle.question_objects.proofs.ListingLemmas.{first_left, item_next, listed_begun, none_left}

@@ -3,7 +3,7 @@ use Rattle.hii_bytes.specs.Watching.{pen_of}
 use Rattle.ifr_nodes.specs.Guards.{guards}
 use Rattle.ifr_scopes.specs.code.Lists.{guards_left, statement_node}
 use Rattle.guard_policy.specs.code.Views.{bytes_of}
-use Rattle.form_audit.specs.code.Pages.{audited}
+use Rattle.question_audit.specs.code.Pages.{audited}
 use Rattle.audit_json.proofs.ArrayLemmas.{Lists}
 use Rattle.question_objects.specs.Conditions.{guard_item}
 use Rattle.question_objects.proofs.guards.put_guards.Given as goal

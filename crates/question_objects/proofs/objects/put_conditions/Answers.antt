@@ -4,7 +4,7 @@ use Rattle.ifr_opcodes.specs.Forest.{Node}
 use Rattle.ifr_nodes.specs.code.Checked.{IsNodeOf}
 use Rattle.guard_policy.specs.code.Views.{bytes_of}
 use Rattle.condition_text.proofs.WriteLemmas.{written_as}
-use Rattle.form_audit.specs.code.Pages.{audited}
+use Rattle.question_audit.specs.code.Pages.{audited}
 use Rattle.question_audit.specs.code.Beginnings.{Begins}
 use Rattle.question_audit.proofs.BeginningLemmas.{at_error, begun_before, begun_behind}
 use Rattle.question_objects.specs.Conditions.{guards_member}

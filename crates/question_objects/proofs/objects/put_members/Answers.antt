@@ -10,7 +10,7 @@ use Rattle.guard_policy.specs.code.Answers.{unless}
 use Rattle.guard_policy.specs.code.Views.{bytes_of, world}
 use Rattle.guard_policy.specs.declared.policy.Policy.{Policy}
 use Rattle.guard_policy.specs.declared.support.Decision.TheVariants.{Changeable}
-use Rattle.form_audit.proofs.KeptLemmas.{kept_told}
+use Rattle.question_audit.proofs.KeptLemmas.{kept_told}
 use Rattle.question_audit.proofs.BeginningLemmas.{at_error, begun_before, begun_behind}
 use Rattle.question_audit.proofs.OptionLemmas.{error_where_denied, nothing_begun}
 use Rattle.question_objects.proofs.objects.put_members.Goals as goal

@@ -4,7 +4,7 @@ use Rattle.hii_varstore.specs.Stores.{shape_of}
 use Rattle.hii_questions.specs.code.LyingIn.{LiesIn}
 use Rattle.hii_questions.specs.code.Views.{question_view}
 use Rattle.guard_policy.specs.code.Views.{bytes_of}
-use Rattle.form_audit.proofs.QuestionsLemmas.{question_lies}
+use Rattle.question_audit.proofs.QuestionsLemmas.{question_lies}
 use Rattle.question_audit.proofs.AskedLemmas.{found_with, none_with, with_id_asks}
 use Rattle.question_audit.proofs.BeginningLemmas.{at_error}
 use Rattle.question_objects.proofs.objects.put_question_object.Goals as goal

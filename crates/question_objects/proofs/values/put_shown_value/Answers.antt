@@ -1,8 +1,8 @@
 use Rattle.std.proofs.Common.{◌≡◌, true, false, sym, ◌∙◌}
 use Rattle.hii_bytes.proofs.WritingLemmas.{◌⨾◌, writes_nil}
 use Rattle.hii_questions.specs.code.Views.{question_node}
-use Rattle.form_audit.specs.QuestionLines.{has_no_text, value_told}
-use Rattle.form_audit.specs.code.Pages.{audited}
+use Rattle.question_audit.specs.QuestionLines.{has_no_text, value_told}
+use Rattle.question_audit.specs.code.Pages.{audited}
 use Rattle.question_objects.proofs.values.put_shown_value.Goals as goal
 
 pub returns-then-not-shows_nothing : goal.returns-then-not-shows_nothing

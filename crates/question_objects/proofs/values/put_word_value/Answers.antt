@@ -4,7 +4,7 @@ use Rattle.hii_bytes.proofs.WritingLemmas.{◌⨾◌, writes_nil}
 use Rattle.ifr_expr.specs.code.Views.{value_of}
 use Rattle.ifr_scopes.specs.code.Lists.{statement_node}
 use Rattle.condition_text.proofs.WriteLemmas.{written_as}
-use Rattle.form_audit.specs.ScriptValues.{script_value}
+use Rattle.question_audit.specs.ScriptValues.{script_value}
 use Rattle.question_objects.proofs.MemberLemmas.{told_word, untold_word}
 use Rattle.question_objects.proofs.values.put_word_value.Goals as goal
 

@@ -5,10 +5,10 @@ use Rattle.hii_bytes.proofs.WritingLemmas.{◌⨾◌}
 use Rattle.ifr_scopes.specs.code.Lists.{guard_node, guard_package, statement_node}
 use Rattle.guard_policy.specs.code.Views.{bytes_of}
 use Rattle.guard_policy.proofs.IndexedLemmas.{of_statement}
-use Rattle.form_audit.specs.QuestionLines.{is_undefined_guard}
-use Rattle.form_audit.specs.code.Pages.{audited}
-use Rattle.form_audit.proofs.AroundLemmas.{guards_found, same_forms}
-use Rattle.form_audit.proofs.TableLemmas.{flags_all, flags_there}
+use Rattle.question_audit.specs.QuestionLines.{is_undefined_guard}
+use Rattle.question_audit.specs.code.Pages.{audited}
+use Rattle.question_audit.proofs.AroundLemmas.{guards_found, same_forms}
+use Rattle.question_audit.proofs.TableLemmas.{flags_all, flags_there}
 use Rattle.question_objects.specs.Verdicts.{place_of}
 use Rattle.question_objects.proofs.ListingLemmas.{failing_next, first_left, none_left, passing_next}
 use Rattle.question_objects.proofs.verdicts.put_undefined.Goals as goal

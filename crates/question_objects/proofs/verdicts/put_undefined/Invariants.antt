@@ -3,8 +3,8 @@ use Rattle.std.specs.Prelude.{filter}
 use Rattle.hii_bytes.specs.Watching.{pen_of}
 use Rattle.ifr_scopes.specs.code.Lists.{guards_left, statement_node}
 use Rattle.guard_policy.specs.code.Views.{bytes_of}
-use Rattle.form_audit.specs.QuestionLines.{is_undefined_guard, undefined_guards}
-use Rattle.form_audit.specs.code.Pages.{audited}
+use Rattle.question_audit.specs.QuestionLines.{is_undefined_guard, undefined_guards}
+use Rattle.question_audit.specs.code.Pages.{audited}
 use Rattle.audit_json.proofs.ArrayLemmas.{Lists}
 use Rattle.question_objects.specs.Verdicts.{place_of}
 use Rattle.question_objects.proofs.verdicts.put_undefined.Given as goal

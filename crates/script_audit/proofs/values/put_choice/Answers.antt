@@ -4,7 +4,7 @@ use Rattle.ifr_scopes.specs.code.Lists.{statement_node}
 use Rattle.ifr_scopes.specs.code.Parts.{option_node}
 use Rattle.form_page.specs.RowValues.{choice_text}
 use Rattle.form_page.specs.code.PageViews.{texts_of, world_of}
-use Rattle.form_audit.proofs.ShownLemmas.{shown_choice}
+use Rattle.question_audit.proofs.ShownLemmas.{shown_choice}
 use Rattle.script_audit.specs.Told.{spelled}
 use Rattle.script_audit.proofs.ValueLemmas.{spelled_mark}
 use Rattle.script_audit.proofs.values.put_choice.Goals as goal

@@ -2,7 +2,7 @@ use Rattle.hii_bytes.proofs.WritingLemmas.{Stands-start, ◌⨾◌, past_piece}
 use Rattle.ifr_scopes.specs.code.Lists.{statement_node}
 use Rattle.form_page.specs.RowValues.{choice}
 use Rattle.form_page.specs.code.PageViews.{texts_of, world_of}
-use Rattle.form_audit.specs.QuestionLines.{unguarded}
+use Rattle.question_audit.specs.QuestionLines.{unguarded}
 use Rattle.script_audit.proofs.ValueLemmas.{spelled_later}
 use Rattle.script_audit.proofs.values.put_later_choices.Goals as goal
 

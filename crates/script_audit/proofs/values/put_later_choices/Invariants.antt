@@ -5,8 +5,8 @@ use Rattle.ifr_scopes.specs.code.Lists.{statement_node}
 use Rattle.hii_questions.specs.code.StoredLeft.{stored_left}
 use Rattle.form_page.specs.RowValues.{later_text}
 use Rattle.form_page.specs.code.PageViews.{texts_of, world_of}
-use Rattle.form_audit.specs.QuestionLines.{unguarded}
-use Rattle.form_audit.specs.code.Choices.{choices}
+use Rattle.question_audit.specs.QuestionLines.{unguarded}
+use Rattle.question_audit.specs.code.Choices.{choices}
 use Rattle.script_audit.specs.Told.{spelled}
 use Rattle.script_audit.proofs.values.put_later_choices.Given as goal
 

@@ -5,7 +5,7 @@ use Rattle.ifr_scopes.specs.code.Lists.{statement_node}
 use Rattle.hii_questions.specs.Items.{items_in}
 use Rattle.form_page.specs.RowValues.{choice}
 use Rattle.form_page.specs.code.PageViews.{texts_of, world_of}
-use Rattle.form_audit.specs.QuestionLines.{unguarded}
+use Rattle.question_audit.specs.QuestionLines.{unguarded}
 use Rattle.script_audit.proofs.ValueLemmas.{spelled_list}
 use Rattle.script_audit.proofs.values.put_list.Goals as goal
 

@@ -4,7 +4,7 @@ use Rattle.ifr_opcodes.specs.Forest.{Node}
 use Rattle.hii_questions.specs.code.Views.{question_node}
 use Rattle.form_page.specs.RowValues.{value_shown}
 use Rattle.form_page.specs.code.PageViews.{texts_of, world_of}
-use Rattle.form_audit.proofs.ShownLemmas.{other_kind, same_shown}
+use Rattle.question_audit.proofs.ShownLemmas.{other_kind, same_shown}
 use Rattle.script_audit.specs.Told.{spelled}
 use Rattle.script_audit.proofs.values.put_value.Goals as goal
 

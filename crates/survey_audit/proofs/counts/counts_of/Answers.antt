@@ -1,6 +1,6 @@
 use Rattle.std.proofs.Common.{refl, subst, sym}
 use Rattle.ifr_nodes.specs.Accepted.{IsAccepted}
-use Rattle.form_audit.proofs.AroundLemmas.{same_forms}
+use Rattle.question_audit.proofs.AroundLemmas.{same_forms}
 use Rattle.survey_audit.proofs.counts.counts_of.Goals as goal
 
 pub forms_count-requires : goal.forms_count-requires

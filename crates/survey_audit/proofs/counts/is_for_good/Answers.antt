@@ -7,7 +7,7 @@ use Rattle.hii_questions.specs.code.Views.{question_node}
 use Rattle.guard_policy.specs.Policy.{fixed}
 use Rattle.guard_policy.specs.code.Views.{bytes_of}
 use Rattle.form_page.specs.code.PageViews.{world_of}
-use Rattle.form_audit.specs.QuestionLines.{is_constant}
+use Rattle.question_audit.specs.QuestionLines.{is_constant}
 use Rattle.survey_audit.specs.Counts.{is_guarded, standing}
 use Rattle.survey_audit.proofs.counts.is_for_good.Goals as goal
 

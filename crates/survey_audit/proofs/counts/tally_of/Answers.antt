@@ -11,7 +11,7 @@ use Rattle.guard_policy.specs.code.Views.{bytes_of, world}
 use Rattle.guard_policy.specs.declared.policy.Policy.{Policy}
 use Rattle.guard_policy.specs.declared.support.Decision.TheVariants.{Changeable}
 use Rattle.form_page.specs.code.PageViews.{world_of}
-use Rattle.form_audit.proofs.KeptLemmas.{kept_told}
+use Rattle.question_audit.proofs.KeptLemmas.{kept_told}
 use Rattle.image_audit.proofs.AskedLemmas.{IsAskedOf, questions_are_asked}
 use Rattle.survey_audit.proofs.TallyLemmas.{counted_all, counted_more, counted_room, counted_start, few_questions}
 use Rattle.survey_audit.proofs.counts.tally_of.Goals.{After-question_changeable_by-verdict}

@@ -6,7 +6,7 @@ use Rattle.ifr_nodes.specs.Nodes.{is_form, nodes_of}
 use Rattle.ifr_nodes.specs.code.Checked.{AreNodesOf}
 use Rattle.ifr_scopes.specs.code.Lists.{forms_left}
 use Rattle.guard_policy.specs.code.Views.{bytes_of}
-use Rattle.form_audit.specs.code.Pages.{audited}
+use Rattle.question_audit.specs.code.Pages.{audited}
 use Rattle.survey_audit.specs.Opened.{form_found_told}
 use Rattle.survey_audit.specs.code.Headings.{heading_of}
 use Rattle.survey_audit.proofs.found.put_found.Given as goal

@@ -7,8 +7,8 @@ use Rattle.ifr_nodes.specs.code.Checked.{AreNodesOf}
 use Rattle.ifr_scopes.specs.code.Lists.{form_node}
 use Rattle.ifr_scopes.specs.code.StatementsLeft.{statements_of_left}
 use Rattle.guard_policy.specs.code.Views.{bytes_of}
-use Rattle.form_audit.specs.FormLines.{form_questions}
-use Rattle.form_audit.specs.code.Pages.{audited}
+use Rattle.question_audit.specs.FormLines.{form_questions}
+use Rattle.question_audit.specs.code.Pages.{audited}
 use Rattle.survey_audit.specs.Finding.{is_found}
 use Rattle.survey_audit.specs.Opened.{found_told}
 use Rattle.survey_audit.specs.code.Headings.{heading_of}

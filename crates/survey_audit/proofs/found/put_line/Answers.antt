@@ -1,8 +1,8 @@
 use Rattle.std.proofs.Common.{ap}
 use Rattle.hii_bytes.proofs.WritingLemmas.{◌⨾◌}
 use Rattle.condition_text.proofs.WriteLemmas.{written_as}
-use Rattle.form_audit.specs.QuestionLines.{question_line}
-use Rattle.form_audit.specs.code.Pages.{audited}
+use Rattle.question_audit.specs.QuestionLines.{question_line}
+use Rattle.question_audit.specs.code.Pages.{audited}
 use Rattle.survey_audit.proofs.found.put_line.Goals as goal
 
 pub returns-clause-text : goal.returns-clause-text

@@ -7,8 +7,8 @@ use Rattle.hii_questions.specs.code.Views.{question_node}
 use Rattle.audit_json.specs.Telling.{told_as}
 use Rattle.audit_json.specs.declared.telling.Telling.{Telling}
 use Rattle.audit_json.specs.declared.telling.Telling.TheVariants.{Lines, Objects}
-use Rattle.form_audit.specs.Audited.{Audited}
-use Rattle.form_audit.specs.code.Pages.{audited}
+use Rattle.question_audit.specs.Audited.{Audited}
+use Rattle.question_audit.specs.code.Pages.{audited}
 use Rattle.question_audit.specs.code.Beginnings.{Begins}
 use Rattle.survey_audit.specs.Lines.{Heading}
 use Rattle.survey_audit.specs.Opened.{found_line, found_object, found_told}

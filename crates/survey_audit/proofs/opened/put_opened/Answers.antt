@@ -2,8 +2,8 @@ use Rattle.std.proofs.Common.{◌≡◌, ◌∙◌, ◌++◌, ℕ, Bor, List, No
 use Rattle.std.proofs.lemmas.Result.{on_err_weaker, on_ok_weaker}
 use Rattle.hii_bytes.proofs.WritingLemmas.{◌⨾◌}
 use Rattle.condition_text.proofs.WriteLemmas.{written_as}
-use Rattle.form_audit.specs.Audited.{Audited}
-use Rattle.form_audit.specs.code.Pages.{audited}
+use Rattle.question_audit.specs.Audited.{Audited}
+use Rattle.question_audit.specs.code.Pages.{audited}
 use Rattle.question_audit.specs.code.Beginnings.{Begins}
 use Rattle.question_audit.proofs.BeginningLemmas.{at_error, begun_behind}
 use Rattle.question_audit.proofs.OptionLemmas.{nothing_begun}

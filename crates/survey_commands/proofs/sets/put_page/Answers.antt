@@ -15,8 +15,8 @@ use Rattle.guard_policy.specs.code.Views.{world}
 use Rattle.kept_conditions.specs.Kept.{KeptValues, held, kept_over}
 use Rattle.session_steps.specs.Opening.{Opens}
 use Rattle.condition_text.proofs.WriteLemmas.{written_as}
-use Rattle.form_audit.specs.Audited.{Audited}
-use Rattle.form_audit.specs.code.Pages.{audited}
+use Rattle.question_audit.specs.Audited.{Audited}
+use Rattle.question_audit.specs.code.Pages.{audited}
 use Rattle.question_audit.specs.code.Beginnings.{Begins}
 use Rattle.question_audit.proofs.BeginningLemmas.{at_error}
 use Rattle.survey_audit.specs.AuditedAt.{audited_at}

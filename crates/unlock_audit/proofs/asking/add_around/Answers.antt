@@ -3,7 +3,7 @@ use Rattle.ifr_opcodes.specs.Forest.{Node}
 use Rattle.ifr_scopes.specs.code.Lists.{guard_node}
 use Rattle.hii_questions.specs.code.Views.{question_node}
 use Rattle.guard_policy.proofs.IndexedLemmas.{of_statement}
-use Rattle.form_audit.proofs.AroundLemmas.{guards_found}
+use Rattle.question_audit.proofs.AroundLemmas.{guards_found}
 use Rattle.unlock_audit.proofs.AskingLemmas.{all_added, one_added}
 use Rattle.unlock_audit.proofs.asking.add_around.Goals as goal
 

@@ -4,7 +4,7 @@ use Rattle.ifr_opcodes.specs.Forest.{Node}
 use Rattle.ifr_scopes.specs.code.Lists.{guard_node}
 use Rattle.ifr_scopes.specs.code.Parts.{option_node}
 use Rattle.guard_policy.proofs.IndexedLemmas.{of_option}
-use Rattle.form_audit.proofs.AroundLemmas.{guards_found}
+use Rattle.question_audit.proofs.AroundLemmas.{guards_found}
 use Rattle.question_audit.proofs.OwnLemmas.{is_inside}
 use Rattle.unlock_audit.proofs.asking.add_own.Goals as goal
 

@@ -1,7 +1,7 @@
 use Rattle.std.proofs.Common.{ap, sym}
 use Rattle.hii_bytes.proofs.WritingLemmas.{◌⨾◌}
 use Rattle.condition_text.proofs.WriteLemmas.{written_as}
-use Rattle.form_audit.specs.QuestionLines.{verdict_columns}
+use Rattle.question_audit.specs.QuestionLines.{verdict_columns}
 use Rattle.unlock_audit.specs.code.Answers.{denial_in}
 use Rattle.unlock_audit.proofs.lines.put_verdict.Goals as goal
 

@@ -5,8 +5,8 @@ use Rattle.ifr_nodes.specs.Nodes.{nodes_of}
 use Rattle.hii_questions.specs.code.Views.{question_node}
 use Rattle.guard_policy.specs.code.Views.{bytes_of}
 use Rattle.guard_policy.proofs.IndexedLemmas.{of_statement}
-use Rattle.form_audit.specs.QuestionLines.{is_constant_at}
-use Rattle.form_audit.proofs.AroundLemmas.{guards_found}
+use Rattle.question_audit.specs.QuestionLines.{is_constant_at}
+use Rattle.question_audit.proofs.AroundLemmas.{guards_found}
 use Rattle.unlock_audit.proofs.reasons.is_constant.Goals as goal
 
 pub loop-guard-init : goal.loop-guard-init

@@ -5,7 +5,7 @@ use Rattle.ifr_nodes.specs.Nodes.{nodes_of}
 use Rattle.ifr_scopes.specs.code.Lists.{guards_left}
 use Rattle.hii_questions.specs.code.Views.{question_node}
 use Rattle.guard_policy.specs.code.Views.{bytes_of}
-use Rattle.form_audit.specs.QuestionLines.{is_constant_at}
+use Rattle.question_audit.specs.QuestionLines.{is_constant_at}
 use Rattle.unlock_audit.proofs.reasons.is_constant.Given as goal
 
 -- one of the guards that are left is such, if one of all is

@@ -5,7 +5,7 @@ use Rattle.guard_policy.specs.code.Answers.{unless}
 use Rattle.guard_policy.specs.code.Views.{world}
 use Rattle.guard_policy.specs.declared.policy.Policy.{Policy}
 use Rattle.guard_policy.specs.declared.support.Decision.TheVariants.{Changeable}
-use Rattle.form_audit.proofs.KeptLemmas.{kept_told}
+use Rattle.question_audit.proofs.KeptLemmas.{kept_told}
 use Rattle.unlock_audit.proofs.reasons.verdict_of.Goals as goal
 
 pub returns : goal.returns

@@ -4,7 +4,7 @@ use Rattle.std.specs.List.{find}
 use Rattle.ifr_opcodes.specs.Forest.{Node}
 use Rattle.hii_questions.specs.code.Views.{question_node}
 use Rattle.guard_policy.proofs.IndexedLemmas.{of_statement}
-use Rattle.form_audit.proofs.AroundLemmas.{guards_found}
+use Rattle.question_audit.proofs.AroundLemmas.{guards_found}
 use Rattle.unlock_audit.proofs.words.guard_around.Goals as goal
 
 pub loop-guard-init : goal.loop-guard-init

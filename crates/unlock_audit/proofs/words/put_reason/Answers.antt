@@ -4,8 +4,8 @@ use Rattle.condition_text.proofs.WriteLemmas.{written_as}
 use Rattle.std.proofs.Common.{◌++◌, codes}
 use Rattle.std.specs.Prelude.{option_map}
 use Rattle.condition_text.specs.code.Conditions.{words_of}
-use Rattle.form_audit.specs.FormLines.{denial_text}
-use Rattle.form_audit.specs.ScriptValues.{behind}
+use Rattle.question_audit.specs.FormLines.{denial_text}
+use Rattle.question_audit.specs.ScriptValues.{behind}
 use Rattle.unlock_audit.proofs.words.put_reason.Goals as goal
 
 pub returns-in-Some : goal.returns-in-Some

@@ -1,5 +1,5 @@
 use Rattle.std.proofs.Common.{◌∙◌, ap, sym}
-use Rattle.form_audit.proofs.LineLemmas.{none_forbids, one_forbids}
+use Rattle.question_audit.proofs.LineLemmas.{none_forbids, one_forbids}
 use Rattle.survey_audit.specs.Counts.{standing_of}
 use Rattle.survey_audit.proofs.standing.Standing.of.Goals as goal
 

@@ -1,9 +1,0 @@
-use Rattle.hii_bytes.specs.Watching.{pen_of}
-use Rattle.hii_bytes.specs.code.Writing.{Stands}
-use Rattle.hii_languages.specs.code.Views.{chars_left}
-use Rattle.form_audit.specs.code.Escaped.{escaped_text}
-use Rattle.form_audit.proofs.escaping.Escaping.put_shown.Given as goal
-
--- the characters before those that are left are written
-abbrev pub invariant-loop-c : goal.invariant-loop-c
-invariant-loop-c g l = Stands (pen_of g.W.Write.contents l.fn.out) (pen_of g.W.Write.contents l.out) (escaped_text l.fn.self (chars_left l.fn.text)) (escaped_text l.fn.self (chars_left l.text))

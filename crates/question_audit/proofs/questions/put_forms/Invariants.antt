@@ -1,0 +1,22 @@
+use Rattle.std.specs.Prelude.{◌≡◌}
+use Rattle.std.specs.List.{flat_map}
+use Rattle.hii_bytes.specs.Watching.{pen_of}
+use Rattle.hii_bytes.specs.code.NumberSets.{has_number}
+use Rattle.hii_bytes.specs.code.Writing.{Stands}
+use Rattle.ifr_nodes.specs.code.Checked.{AreNodesOf}
+use Rattle.ifr_scopes.specs.code.Lists.{forms_left}
+use Rattle.guard_policy.specs.code.Views.{bytes_of}
+use Rattle.question_audit.specs.FormLines.{form_lines, questions_text}
+use Rattle.question_audit.specs.code.Pages.{audited}
+use Rattle.question_audit.proofs.questions.put_forms.Given as goal
+
+-- the lines of the forms before those that are left were written
+abbrev pub invariant-loop-form : goal.invariant-loop-form
+invariant-loop-form g l = record {
+  can : (goal.iterator-loop-form g).can_next l.forms;
+  ends : (goal.iterator-loop-form g).is_finite l.forms;
+  nodes : AreNodesOf (bytes_of l.fn.page.policy) (forms_left l.forms);
+  same : l.spare ≡ l.fn.page.stores.now;
+  text : Stands (pen_of g.W.Write.contents l.fn.out) (pen_of g.W.Write.contents l.out) (questions_text (audited l.fn.page) (has_number l.fn.tables.ways.reached))
+      (flat_map (form_lines (audited l.fn.page) (has_number l.fn.tables.ways.reached)) (forms_left l.forms));
+}
