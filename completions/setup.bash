@@ -27,8 +27,9 @@ _setup_audit() {
         apply) _setup_words "--list --take --stores --script --out --json --forms --lang --help" ;;
         export) _setup_words "--list --take --stores --id --out --lines --with --json --forms --help" ;;
         diff) _setup_words "--list --take --stores --with --json --forms --lang --help" ;;
+        report) _setup_words "--list --take --stores --out --forms --lang --help" ;;
         survey) _setup_words "--dump --efivars --config --zero --find --json --lang --help" ;;
-        *) _setup_words "split stores check opcodes image questions question unlock apply export diff survey help --help --version" ;;
+        *) _setup_words "split stores check opcodes image questions question unlock apply export diff report survey help --help --version" ;;
     esac
 }
 

@@ -131,6 +131,14 @@ def of_closed():
     yield AuditRun("survey of a dump as objects", [*survey, "--json"], told("both.survey.json"))
 
 
+def reports():
+    """Pages on the station, before and behind its script, and on rules."""
+    for name, file in ("station", "stores"), ("station", "image"), ("rules", "stores"):
+        words = ["report", "--list", os.path.join(EXAMPLES, name, "list"), "--stores", os.path.join(EXAMPLES, name, file)]
+        page = "%s.%sreport.html" % (name, "" if file == "stores" else file + ".")
+        yield AuditRun("page on %s over %s" % (name, file), words, b"", told(page), True)
+
+
 def of_images():
     """What the stores of the station hold behind its script: the bytes of the first, and what is other than before."""
     list_, before, after = (os.path.join(EXAMPLES, "station", name) for name in ("list", "stores", "image"))
@@ -178,7 +186,7 @@ option   4 #7: locked at 00000099
 
 def audit_runs(folder):
     """All runs. The folder is for the files that are made for them."""
-    runs = [*splits(), *of_dump(), *of_text(), *of_defaults(), *images_of_files(folder), *of_closed(), *of_images(), *reasons(folder)]
+    runs = [*splits(), *of_dump(), *of_text(), *of_defaults(), *images_of_files(folder), *of_closed(), *of_images(), *reports(), *reasons(folder)]
     for name in NAMES:
         runs += of_example(name)
     station = os.path.join(EXAMPLES, "station")

@@ -4,5 +4,6 @@ pub mod Auditing
 pub mod Differing
 pub mod Checking
 pub mod Applying
+pub mod Reporting
 pub mod Unlocking
 pub mod code

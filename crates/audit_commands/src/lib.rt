@@ -12,5 +12,6 @@ pub mod opcodes;
 mod opened;
 pub mod question;
 pub mod questions;
+pub mod report;
 pub mod split;
 pub mod unlock;

@@ -1,5 +1,5 @@
 -- Commands that are built up of arguments and of subcommands.
-use Rattle.std.proofs.Common.{◌≡◌, ◌∙◌, ◌&&◌, ◌∷◌, ◌++◌, ◌+◌, ◌<◌, ◌≤◌, ℕ, Bool, List, true, false, not, [], ap, ap₂, get_or, length, map, refl, is_some, take}
+use Rattle.std.proofs.Common.{◌≡◌, ◌∙◌, ◌&&◌, ◌∷◌, ◌++◌, ◌+◌, ◌<◌, ◌≤◌, ℕ, Bool, List, true, false, not, [], ap, ap₂, get_or, length, map, refl, is_some, take, append_assoc}
 use Rattle.std.proofs.lemmas.List.{map-append, take_all, take_more}
 use Rattle.std.specs.Borrow.{Bor}
 use Rattle.clap.specs.Built.{AddsArg, AddsSubcommand}
@@ -46,16 +46,18 @@ more_commands [] shape = refl
 more_commands (s ∷ shapes) shape = refl
 
 -- one more command
-pub row_added : (t : Bool) (rows : List CommandRow) (i : ℕ) (d : CommandRow) (old sub new : Command)
-    → IsProgram (with_commands (map (row_shape t) (take i rows))) old → i < length rows → IsCommand (row_shape t (get_or rows i d)) sub → AddsSubcommand old sub new
-    → IsProgram (with_commands (map (row_shape t) (take (i + 1) rows))) new
-row_added t rows i d old sub new program within command adds =
-    rw (take_more rows i d within, map-append (row_shape t) (take i rows) (get_or rows i d ∷ []), more_commands (map (row_shape t) (take i rows)) (row_shape t (get_or rows i d)))
-    (command_added (with_commands (map (row_shape t) (take i rows))) (row_shape t (get_or rows i d)) old sub new program command adds)
+pub row_added : (t : Bool) (others : List Shape) (rows : List CommandRow) (i : ℕ) (d : CommandRow) (old sub new : Command)
+    → IsProgram (with_commands (others ++ map (row_shape t) (take i rows))) old → i < length rows → IsCommand (row_shape t (get_or rows i d)) sub → AddsSubcommand old sub new
+    → IsProgram (with_commands (others ++ map (row_shape t) (take (i + 1) rows))) new
+row_added t others rows i d old sub new program within command adds =
+    let shape = row_shape t (get_or rows i d) in
+    let front = map (row_shape t) (take i rows) in
+    rw (take_more rows i d within, map-append (row_shape t) (take i rows) (get_or rows i d ∷ []), ← append_assoc others front (shape ∷ []), more_commands (others ++ front) shape)
+    (command_added (with_commands (others ++ front)) shape old sub new program command adds)
 
-pub all_rows : (t : Bool) (rows items : List CommandRow) (i : ℕ) (command : Command) → items ≡ rows → length items ≤ i
-    → IsProgram (with_commands (map (row_shape t) (take i items))) command → IsProgram (with_commands (map (row_shape t) rows)) command
-all_rows t rows items i command same past is = rw (← same) (rw (take_all i items past) at is)
+pub all_rows : (t : Bool) (others : List Shape) (rows : List CommandRow) (i : ℕ) (command : Command) → length rows ≤ i
+    → IsProgram (with_commands (others ++ map (row_shape t) (take i rows))) command → IsProgram (with_commands (others ++ map (row_shape t) rows)) command
+all_rows t others rows i command past is = rw (take_all i rows past) at is
 
 -- ---- an argument whose value may begin with a hyphen
 

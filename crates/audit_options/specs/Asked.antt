@@ -10,7 +10,7 @@ use Rattle.audit_options.specs.Ids.{id_in}
 use Rattle.audit_options.specs.declared.reading.Misuse.{Misuse}
 use Rattle.audit_options.specs.declared.reading.Misuse.TheVariants.{NoCommand, NoId, NoPart, NoStoreFile, NoStoreId, TakeWithoutOut}
 use Rattle.audit_options.specs.declared.tasks.Task.{Task}
-use Rattle.audit_options.specs.declared.tasks.Task.TheVariants.{Split, Stores, Check, Opcodes, Image, Questions, Question, Unlock, Apply, Export, Diff, Survey}
+use Rattle.audit_options.specs.declared.tasks.Task.TheVariants.{Split, Stores, Check, Opcodes, Image, Questions, Question, Unlock, Apply, Export, Diff, Report, Survey}
 use Rattle.audit_options.specs.declared.tasks.TakenList.{TakenList}
 use Rattle.audit_options.specs.declared.tasks.SplitOptions.{SplitOptions}
 use Rattle.audit_options.specs.declared.tasks.ListOptions.{ListOptions}
@@ -24,6 +24,7 @@ use Rattle.audit_options.specs.declared.tasks.ExportOptions.{ExportOptions}
 use Rattle.audit_options.specs.declared.tasks.ExportPart.{ExportPart}
 use Rattle.audit_options.specs.declared.tasks.ExportPart.TheVariants.{Store, Lines}
 use Rattle.audit_options.specs.declared.tasks.ImageOptions.{ImageOptions}
+use Rattle.audit_options.specs.declared.tasks.ReportOptions.{ReportOptions}
 use Rattle.audit_options.specs.declared.tasks.StoreFile.{StoreFile}
 use Rattle.audit_options.specs.declared.tasks.Sources.{Sources}
 use Rattle.audit_options.specs.declared.tasks.StoresOptions.{StoresOptions}
@@ -122,6 +123,10 @@ pub record AsksDiff (rows : List Row) (o : DiffOptions) : Type 0 where
   pub form_set : AsksFormSet rows o.form_set
   pub with : o.with.now ≡ text_in rows (codes "with") []
 
+pub record AsksReport (rows : List Row) (o : ReportOptions) : Type 0 where
+  pub form_set : AsksFormSet rows o.form_set
+  pub out : o.out.now ≡ text_in rows (codes "out") []
+
 -- The list of a number is taken into a file; or there is neither.
 abbrev pub AsksTaken : List Row → Option TakenList → Type 0
 AsksTaken rows None =
@@ -186,6 +191,7 @@ Asks (Some met) (Unlock o) = (met.0 ≡ codes "unlock") × AsksUnlock met.1 o
 Asks (Some met) (Apply o) = (met.0 ≡ codes "apply") × AsksApply met.1 o
 Asks (Some met) (Export o) = (met.0 ≡ codes "export") × AsksExport met.1 o
 Asks (Some met) (Diff o) = (met.0 ≡ codes "diff") × AsksDiff met.1 o
+Asks (Some met) (Report o) = (met.0 ≡ codes "report") × AsksReport met.1 o
 Asks (Some met) (Survey o) = (met.0 ≡ codes "survey") × AsksSurvey met.1 o
 
 -- ---- options that do not go together
@@ -237,19 +243,25 @@ IsMisusedExport rows NoPart = HasNoPart rows
 IsMisusedExport rows NoStoreId = HasBadId rows
 IsMisusedExport rows _ = ⊥
 
-abbrev pub is_command : Text → Bool
-is_command name =
+abbrev pub is_list_command : Text → Bool
+is_list_command name =
     bytes_eq name (codes "split")
     || (bytes_eq name (codes "stores")
     || (bytes_eq name (codes "check")
-    || (bytes_eq name (codes "opcodes")
-    || (bytes_eq name (codes "image")
-    || (bytes_eq name (codes "questions")
+    || (bytes_eq name (codes "opcodes") || bytes_eq name (codes "image"))))
+
+abbrev pub is_form_set_command : Text → Bool
+is_form_set_command name =
+    bytes_eq name (codes "questions")
     || (bytes_eq name (codes "question")
+    || (bytes_eq name (codes "unlock")
     || (bytes_eq name (codes "apply")
     || (bytes_eq name (codes "export")
     || (bytes_eq name (codes "diff")
-    || (bytes_eq name (codes "unlock") || bytes_eq name (codes "survey")))))))))))
+    || (bytes_eq name (codes "report") || bytes_eq name (codes "survey")))))))
+
+abbrev pub is_command : Text → Bool
+is_command name = is_list_command name || is_form_set_command name
 
 -- The options of the command that the words name do not go together, or the words name none.
 abbrev pub IsMisused : Option (Text × List Row) → Misuse → Type 0

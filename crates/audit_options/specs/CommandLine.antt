@@ -1,5 +1,5 @@
 -- The commands of `setup_audit` and their options, as clap reads them (own rule).
-use Rattle.std.specs.Prelude.{◌≡◌, ◌==◌, ◌&&◌, ◌||◌, Bool, true, false, not, pos, Some, List, [], ◌∷◌, codes}
+use Rattle.std.specs.Prelude.{◌≡◌, ◌==◌, ◌&&◌, ◌||◌, Bool, true, false, not, pos, Some, List, [], ◌∷◌, ◌++◌, codes}
 use Rattle.std.specs.Str.{bytes_eq}
 use Rattle.clap.specs.Words.{App, Rule, Shape, Text, app_of, new_rule, rule_of}
 use Rattle.clap.specs.Simple.{new_shape}
@@ -133,11 +133,25 @@ abbrev pub diff : Bool → Shape
 diff takes_hyphen = command_of (codes "diff")
     (list ∷ take ∷ stores_image ∷ required_option (codes "with") ∷ json ∷ forms ∷ lang takes_hyphen ∷ [])
 
+abbrev pub report : Bool → Shape
+report takes_hyphen = command_of (codes "report")
+    (list ∷ take ∷ stores_image ∷ required_option (codes "out") ∷ forms ∷ lang takes_hyphen ∷ [])
+
 abbrev pub survey : Bool → Shape
 survey takes_hyphen = command_of (codes "survey")
     (dump ∷ efivars ∷ config ∷ zero ∷ option (codes "find") ∷ json ∷ lang takes_hyphen ∷ [])
 
--- all of it, where a language may begin with a hyphen or not
+-- where a language may begin with a hyphen or not: the commands on lists and what their stores are to hold, and those on form sets and
+-- what their stores hold
+abbrev pub list_commands : Bool → List Shape
+list_commands takes_hyphen = split ∷ stores ∷ check ∷ opcodes ∷ image takes_hyphen ∷ []
+
+abbrev pub form_set_commands : Bool → List Shape
+form_set_commands takes_hyphen =
+    questions takes_hyphen ∷ question takes_hyphen ∷ unlock takes_hyphen ∷ apply takes_hyphen ∷ export
+    ∷ diff takes_hyphen ∷ report takes_hyphen ∷ survey takes_hyphen ∷ []
+
+-- all of it
 abbrev pub program : Bool → App
 program takes_hyphen = record {
   top = record (new_shape (codes "setup_audit")) {
@@ -145,9 +159,7 @@ program takes_hyphen = record {
     has_version = true;
     subcommand_required = true;
   };
-  subs = split ∷ stores ∷ check ∷ opcodes ∷ image takes_hyphen ∷ questions takes_hyphen
-      ∷ question takes_hyphen ∷ unlock takes_hyphen ∷ apply takes_hyphen ∷ export ∷ diff takes_hyphen
-      ∷ survey takes_hyphen ∷ [];
+  subs = list_commands takes_hyphen ++ form_set_commands takes_hyphen;
 }
 
 -- ---- what is built

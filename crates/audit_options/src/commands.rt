@@ -1,9 +1,10 @@
 //! The commands and options, in the order in which help lists them.
 
-ghost use Rattle.std.specs.Prelude.{IfOk};
+ghost use Rattle.std.specs.Prelude.{◌++◌, IfOk, List, map};
+ghost use Rattle.clap.specs.Words.{Shape};
 ghost use Rattle.audit_options.specs.CommandLine as spec;
 ghost use Rattle.audit_options.specs.CommandLine.{IsArg, IsCommand, IsProgram};
-ghost use Rattle.audit_options.specs.code.Building.{bare, class_rule, language_rule, list_number_rule, package_number_rule, repeated_rule, row_rule, row_shape};
+ghost use Rattle.audit_options.specs.code.Building.{bare, class_rule, language_rule, list_number_rule, package_number_rule, repeated_rule, row_rule, row_shape, with_commands};
 
 use clap::{Arg, ArgAction, Command};
 use std::alloc::{AllocError, Global};
@@ -69,6 +70,10 @@ bytes as one number, as NAME:0xOFFSET(WIDTH)=0xVALUE";
 const ABOUT_DIFF: &str = "\
 Tells what another image holds differently: the values of questions, bytes that no
 question has, and verdicts";
+
+const ABOUT_REPORT: &str = "\
+Writes a page of HTML on the form set over an image of the stores: each form, and each
+of its questions with its value, what forbids its change, and what depends on it";
 
 const ABOUT_SURVEY: &str = "\
 Tells of each forms package of a dump how many of its questions may be changed, over
@@ -199,7 +204,7 @@ const STORES_IMAGE: OptionRow = OptionRow {
     takes: Takes::WantedWord,
 };
 
-const QUESTION: OptionRow = OptionRow {
+const QUESTION_ID: OptionRow = OptionRow {
     name: "id",
     value: "Q",
     help: "Id of the question, as 33 or 0x21",
@@ -255,6 +260,13 @@ const OTHER_IMAGE: OptionRow = OptionRow {
     takes: Takes::WantedWord,
 };
 
+const PAGE_FILE: OptionRow = OptionRow {
+    name: "out",
+    value: "F",
+    help: "Page that is written",
+    takes: Takes::WantedWord,
+};
+
 const FIND: OptionRow = OptionRow {
     name: "find",
     value: "TEXT",
@@ -289,84 +301,105 @@ const SPLIT: CommandRow = CommandRow {
     options: &[DUMP, TAKEN, LIST_FILE, JSON],
 };
 
-static COMMANDS: [CommandRow; 12] = [
-    SPLIT,
-    CommandRow {
-        name: "stores",
-        about: ABOUT_STORES,
-        options: &[LIST, TAKE, HEADERS, JSON, FORMS],
-    },
-    CommandRow {
-        name: "check",
-        about: ABOUT_CHECK,
-        options: &[LIST, TAKE, JSON],
-    },
-    CommandRow {
-        name: "opcodes",
-        about: ABOUT_OPCODES,
-        options: &[LIST, TAKE, JSON, FORMS],
-    },
-    CommandRow {
-        name: "image",
-        about: ABOUT_IMAGE,
-        options: &[
-            LIST, TAKE, IMAGE_FILE, STORE_FILE, EFIVARS, CONFIG, ZERO, DEFAULTS, JSON, FORMS, LANG,
-        ],
-    },
-    CommandRow {
-        name: "questions",
-        about: ABOUT_QUESTIONS,
-        options: &[LIST, TAKE, STORES_IMAGE, JSON, FORMS, LANG],
-    },
-    CommandRow {
-        name: "question",
-        about: ABOUT_QUESTION,
-        options: &[LIST, TAKE, STORES_IMAGE, QUESTION, JSON, FORMS, LANG],
-    },
-    CommandRow {
-        name: "unlock",
-        about: ABOUT_UNLOCK,
-        options: &[LIST, TAKE, STORES_IMAGE, QUESTION_ALONE, JSON, FORMS, LANG],
-    },
-    CommandRow {
-        name: "apply",
-        about: ABOUT_APPLY,
-        options: &[
-            LIST,
-            TAKE,
-            STORES_IMAGE,
-            SCRIPT,
-            IMAGE_FILE,
-            JSON,
-            FORMS,
-            LANG,
-        ],
-    },
-    CommandRow {
-        name: "export",
-        about: ABOUT_EXPORT,
-        options: &[
-            LIST,
-            TAKE,
-            STORES_IMAGE,
-            STORE,
-            BYTES_FILE,
-            LINES,
-            DIFFERING_FROM,
-            JSON,
-            FORMS,
-        ],
-    },
-    CommandRow {
-        name: "diff",
-        about: ABOUT_DIFF,
-        options: &[LIST, TAKE, STORES_IMAGE, OTHER_IMAGE, JSON, FORMS, LANG],
-    },
-    CommandRow {
-        name: "survey",
-        about: ABOUT_SURVEY,
-        options: &[DUMP, EFIVARS, CONFIG, ZERO, FIND, JSON, LANG],
-    },
+const STORES: CommandRow = CommandRow {
+    name: "stores",
+    about: ABOUT_STORES,
+    options: &[LIST, TAKE, HEADERS, JSON, FORMS],
+};
+
+const CHECK: CommandRow = CommandRow {
+    name: "check",
+    about: ABOUT_CHECK,
+    options: &[LIST, TAKE, JSON],
+};
+
+const OPCODES: CommandRow = CommandRow {
+    name: "opcodes",
+    about: ABOUT_OPCODES,
+    options: &[LIST, TAKE, JSON, FORMS],
+};
+
+const IMAGE: CommandRow = CommandRow {
+    name: "image",
+    about: ABOUT_IMAGE,
+    options: &[
+        LIST, TAKE, IMAGE_FILE, STORE_FILE, EFIVARS, CONFIG, ZERO, DEFAULTS, JSON, FORMS, LANG,
+    ],
+};
+
+const QUESTIONS: CommandRow = CommandRow {
+    name: "questions",
+    about: ABOUT_QUESTIONS,
+    options: &[LIST, TAKE, STORES_IMAGE, JSON, FORMS, LANG],
+};
+
+const QUESTION: CommandRow = CommandRow {
+    name: "question",
+    about: ABOUT_QUESTION,
+    options: &[LIST, TAKE, STORES_IMAGE, QUESTION_ID, JSON, FORMS, LANG],
+};
+
+const UNLOCK: CommandRow = CommandRow {
+    name: "unlock",
+    about: ABOUT_UNLOCK,
+    options: &[LIST, TAKE, STORES_IMAGE, QUESTION_ALONE, JSON, FORMS, LANG],
+};
+
+const APPLY: CommandRow = CommandRow {
+    name: "apply",
+    about: ABOUT_APPLY,
+    options: &[
+        LIST,
+        TAKE,
+        STORES_IMAGE,
+        SCRIPT,
+        IMAGE_FILE,
+        JSON,
+        FORMS,
+        LANG,
+    ],
+};
+
+const EXPORT: CommandRow = CommandRow {
+    name: "export",
+    about: ABOUT_EXPORT,
+    options: &[
+        LIST,
+        TAKE,
+        STORES_IMAGE,
+        STORE,
+        BYTES_FILE,
+        LINES,
+        DIFFERING_FROM,
+        JSON,
+        FORMS,
+    ],
+};
+
+const DIFF: CommandRow = CommandRow {
+    name: "diff",
+    about: ABOUT_DIFF,
+    options: &[LIST, TAKE, STORES_IMAGE, OTHER_IMAGE, JSON, FORMS, LANG],
+};
+
+const REPORT: CommandRow = CommandRow {
+    name: "report",
+    about: ABOUT_REPORT,
+    options: &[LIST, TAKE, STORES_IMAGE, PAGE_FILE, FORMS, LANG],
+};
+
+const SURVEY: CommandRow = CommandRow {
+    name: "survey",
+    about: ABOUT_SURVEY,
+    options: &[DUMP, EFIVARS, CONFIG, ZERO, FIND, JSON, LANG],
+};
+
+// The commands on lists and what their stores are to hold.
+static LIST_COMMANDS: [CommandRow; 5] = [SPLIT, STORES, CHECK, OPCODES, IMAGE];
+
+// Those on form sets and what their stores hold.
+static FORM_SET_COMMANDS: [CommandRow; 8] = [
+    QUESTIONS, QUESTION, UNLOCK, APPLY, EXPORT, DIFF, REPORT, SURVEY,
 ];
 
 /// All commands. The word behind `--lang` may begin with a hyphen where `takes_hyphen` says so.
@@ -377,8 +410,44 @@ pub(crate) fn command<'a>(
 ) -> Result<Command<'a>, AllocError>
     ensures { IfOk result (IsProgram (spec.program takes_hyphen)) }
 {
-    let mut command = program(alloc, version)?;
-    for row in COMMANDS.as_slice() {
+    let command = with_list_commands(alloc, program(alloc, version)?, takes_hyphen)?;
+    with_form_set_commands(alloc, command, takes_hyphen)
+}
+
+fn with_list_commands<'a>(
+    alloc: Global,
+    command: Command<'a>,
+    takes_hyphen: bool,
+) -> Result<Command<'a>, AllocError>
+    requires { IsProgram bare command }
+    ensures { IfOk result (IsProgram (with_commands (spec.list_commands takes_hyphen))) }
+{
+    with_commands(alloc, command, LIST_COMMANDS.as_slice(), takes_hyphen)
+}
+
+fn with_form_set_commands<'a>(
+    alloc: Global,
+    command: Command<'a>,
+    takes_hyphen: bool,
+) -> Result<Command<'a>, AllocError>
+    requires { IsProgram (with_commands (spec.list_commands takes_hyphen)) command }
+    ensures { IfOk result (IsProgram (spec.program takes_hyphen)) }
+{
+    with_commands(alloc, command, FORM_SET_COMMANDS.as_slice(), takes_hyphen)
+}
+
+// A program with these commands behind its others.
+fn with_commands<'a>(
+    alloc: Global,
+    command: Command<'a>,
+    rows: &'static [CommandRow],
+    takes_hyphen: bool,
+) -> Result<Command<'a>, AllocError>
+    ensures { (others : List Shape) → IsProgram (with_commands others) command.entry
+        → IfOk result (IsProgram (with_commands (others ++ map (row_shape takes_hyphen) rows.now))) }
+{
+    let mut command = command;
+    for row in rows {
         command = command.subcommand(subcommand(alloc, row, takes_hyphen)?)?;
     }
     Ok(command)

@@ -9,6 +9,6 @@ mod tasks;
 pub use reading::read_words;
 pub use tasks::{
     ApplyOptions, CheckOptions, DiffOptions, ExportOptions, ExportPart, FormSetOptions,
-    ImageOptions, ListOptions, OpcodesOptions, QuestionOptions, Sources, SplitOptions, StoreFile,
-    StoresOptions, SurveyOptions, TakenList, Task, UnlockOptions,
+    ImageOptions, ListOptions, OpcodesOptions, QuestionOptions, ReportOptions, Sources,
+    SplitOptions, StoreFile, StoresOptions, SurveyOptions, TakenList, Task, UnlockOptions,
 };

@@ -1,17 +1,17 @@
 //! The words of a command line.
 
-ghost use Rattle.std.specs.Prelude.{◌≡◌, ◌≢◌, List, [], codes, false, true, IfErr, IfOk, MatchOption, map, string_bytes, unwrap_or};
+ghost use Rattle.std.specs.Prelude.{◌≡◌, ◌≢◌, List, [], codes, false, true, IfErr, IfOk, IfSome, MatchOption, map, string_bytes, unwrap_or};
 ghost use Rattle.clap.specs.Words.{all_of, found_of, kind_of, rows_of, subcommand_of, subcommand_rows_of, takes};
 ghost use Rattle.audit_options.specs.CommandLine as spec;
 ghost use Rattle.audit_options.specs.CommandLine.{has_hyphen_language, program};
-ghost use Rattle.audit_options.specs.Asked.{AreApart, AreStoreFiles, Asks, AsksApply, AsksCheck, AsksDiff, AsksExport, AsksFormSet, AsksImage, AsksList, AsksOpcodes, AsksPart, AsksQuestion, AsksSources, AsksSplit, AsksStores, AsksSurvey, AsksUnlock, HasBadId, HasNoId, HasNoPart, HasNoStoreFile, IsMisused, IsMisusedExport, IsStoreFile, kind_of_misuse};
+ghost use Rattle.audit_options.specs.Asked.{AreApart, AreStoreFiles, Asks, AsksApply, AsksCheck, AsksDiff, AsksExport, AsksFormSet, AsksImage, AsksList, AsksOpcodes, AsksPart, AsksQuestion, AsksReport, AsksSources, AsksSplit, AsksStores, AsksSurvey, AsksUnlock, HasBadId, HasNoId, HasNoPart, HasNoStoreFile, IsMisused, IsMisusedExport, IsStoreFile, is_list_command, kind_of_misuse};
 
 use crate::commands::{command, split_alone};
 use crate::ids::id_in;
 use crate::tasks::{
     ApplyOptions, CheckOptions, DiffOptions, ExportOptions, ExportPart, FormSetOptions,
-    ImageOptions, ListOptions, OpcodesOptions, QuestionOptions, Sources, SplitOptions, StoreFile,
-    StoresOptions, SurveyOptions, TakenList, Task, UnlockOptions,
+    ImageOptions, ListOptions, OpcodesOptions, QuestionOptions, ReportOptions, Sources,
+    SplitOptions, StoreFile, StoresOptions, SurveyOptions, TakenList, Task, UnlockOptions,
 };
 use clap::error::ErrorKind;
 use clap::{ArgMatches, Command, Error};
@@ -128,21 +128,56 @@ fn task_in<'a>(
     let Some((name, options)) = matches.subcommand() else {
         return Ok(Err(Misuse::NoCommand));
     };
-    Ok(match name {
+    match list_task_in(alloc, name, options)? {
+        Some(task) => Ok(task),
+        None => Ok(form_set_task_in(alloc, name, options)),
+    }
+}
+
+// What a command on lists and what their stores are to hold asks for, if the name is that of one, or why its options do not go together.
+fn list_task_in<'a>(
+    alloc: Global,
+    name: &str,
+    options: &ArgMatches<'a>,
+) -> Result<Option<Result<Task<'a>, Misuse>>, AllocError>
+    ensures asked { IfOk result (λ met. IfSome met (λ read.
+        IfOk read (Asks (Some (name.now, rows_of (found_of options.now)))))) }
+    ensures misused { IfOk result (λ met. IfSome met (λ read.
+        IfErr read (IsMisused (Some (name.now, rows_of (found_of options.now)))))) }
+    ensures other { IfOk result (λ met. met ≡ None → is_list_command name.now ≡ false) }
+{
+    Ok(Some(match name {
         "split" => split_in(options).map(Task::Split),
         "stores" => Ok(Task::Stores(stores_in(options))),
         "check" => Ok(Task::Check(check_in(options))),
         "opcodes" => Ok(Task::Opcodes(opcodes_in(options))),
         "image" => image_in(alloc, options)?.map(Task::Image),
+        _ => return Ok(None),
+    }))
+}
+
+// What a command on form sets and what their stores hold asks for, or why its options do not go together. The name is that of no
+// command on lists.
+fn form_set_task_in<'a>(
+    alloc: Global,
+    name: &str,
+    options: &ArgMatches<'a>,
+) -> Result<Task<'a>, Misuse>
+    ensures asked { IfOk result (Asks (Some (name.now, rows_of (found_of options.now)))) }
+    ensures misused { is_list_command name.now ≡ false
+        → IfErr result (IsMisused (Some (name.now, rows_of (found_of options.now)))) }
+{
+    match name {
         "questions" => Ok(Task::Questions(form_set_in(options))),
         "question" => question_in(options).map(Task::Question),
         "unlock" => unlock_in(options).map(Task::Unlock),
         "apply" => Ok(Task::Apply(apply_in(options))),
         "export" => export_in(options).map(Task::Export),
         "diff" => Ok(Task::Diff(diff_in(options))),
+        "report" => Ok(Task::Report(report_in(options))),
         "survey" => Ok(Task::Survey(survey_in(alloc, options))),
         _ => Err(Misuse::NoCommand),
-    })
+    }
 }
 
 // What is told of a dump, unless a list is to be taken into no file, or none into a file.
@@ -293,6 +328,15 @@ fn diff_in<'a>(options: &ArgMatches<'a>) -> DiffOptions<'a>
     DiffOptions {
         form_set: form_set_in(options),
         with: options.get_str("with").unwrap_or(""),
+    }
+}
+
+fn report_in<'a>(options: &ArgMatches<'a>) -> ReportOptions<'a>
+    ensures { AsksReport (rows_of (found_of options.now)) result }
+{
+    ReportOptions {
+        form_set: form_set_in(options),
+        out: options.get_str("out").unwrap_or(""),
     }
 }
 

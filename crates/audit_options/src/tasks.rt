@@ -25,6 +25,8 @@ pub enum Task<'a> {
     Export(ExportOptions<'a>),
     /// What two images hold differently.
     Diff(DiffOptions<'a>),
+    /// A page on a form set.
+    Report(ReportOptions<'a>),
     /// A line for each forms package of a dump.
     Survey(SurveyOptions<'a>),
 }
@@ -155,6 +157,14 @@ pub struct DiffOptions<'a> {
     pub form_set: FormSetOptions<'a>,
     /// The file of the second.
     pub with: &'a str,
+}
+
+/// A form set over an image of its stores, and the page on it, which is told in no other way.
+#[derive(Clone, Copy)]
+pub struct ReportOptions<'a> {
+    pub form_set: FormSetOptions<'a>,
+    /// The file into which the page is written.
+    pub out: &'a str,
 }
 
 /// What an image is made of.

@@ -2,7 +2,9 @@
 //! a form set with what forbids their change (own rule).
 #![tactic(auto)]
 
-use audit_commands::{apply, check, difference, opcodes, question, questions, split, unlock};
+use audit_commands::{
+    apply, check, difference, opcodes, question, questions, report, split, unlock,
+};
 use audit_options::{Task, read_words};
 use clap::Error;
 use clap::error::ErrorKind;
@@ -35,6 +37,7 @@ fn run<R: Env + Files + Print + Eprint + AllocGlobal>(
         Ok(Task::Export(options)) => export::run(rt, terminals, options),
         Ok(Task::Diff(options)) => difference::run(rt, terminals, options),
         Ok(Task::Unlock(options)) => unlock::run(rt, terminals, options),
+        Ok(Task::Report(options)) => report::run(rt, terminals, options),
         Ok(Task::Survey(options)) => survey::run(rt, terminals, &options),
         Err(e) => Ok(tell(rt, terminals, &e)),
     }

@@ -1,0 +1,17 @@
+use Rattle.std.proofs.Common.{length}
+use Rattle.std.specs.List.{flat_map}
+use Rattle.hii_bytes.specs.Watching.{pen_of}
+use Rattle.hii_bytes.specs.code.Writing.{Stands}
+use Rattle.ifr_scopes.specs.code.Lists.{guards_left, statement_node}
+use Rattle.question_audit.specs.code.Pages.{audited}
+use Rattle.question_rows.specs.Conditions.{guard_part, guards_part}
+use Rattle.question_rows.proofs.guards.put_guards.Given as goal
+
+-- the guards before those that are left were written
+abbrev pub invariant-loop-guard : goal.invariant-loop-guard
+invariant-loop-guard g l =
+    let a = audited l.page in
+    Stands (pen_of g.W.Write.contents l.fn.out) (pen_of g.W.Write.contents l.out) (guards_part a (statement_node l.statement)) (flat_map (guard_part a) (guards_left l.guards))
+
+abbrev pub decreases-loop-guard : goal.decreases-loop-guard
+decreases-loop-guard g l = length (guards_left l.guards)

@@ -1,0 +1,16 @@
+pub mod Elements
+pub mod Links
+pub mod Referring
+pub mod States
+pub mod Subjects
+pub mod Shown
+pub mod Defaults
+pub mod Limits
+pub mod Leads
+pub mod Options
+pub mod Values
+pub mod Conditions
+pub mod Dependences
+pub mod Rows
+pub mod code
+pub mod laws

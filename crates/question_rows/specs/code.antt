@@ -1,0 +1,4 @@
+-- How structs of the code are seen. No definition outside of this folder cites one of it.
+pub mod Buffers
+pub mod Knowing
+pub mod Marks

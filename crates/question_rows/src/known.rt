@@ -1,0 +1,13 @@
+//! What rows look up of a form set.
+
+use question_audit::StoreNames;
+use std::collections::BTreeMap;
+
+/// What rows look up of a form set, found once for all of them.
+#[derive(Clone, Copy)]
+pub struct Known<'t, 'a> {
+    /// The stores.
+    pub names: &'t StoreNames<'a>,
+    /// The place of the first LOCKED directly in each scope.
+    pub locks: &'t BTreeMap<u32, u32>,
+}

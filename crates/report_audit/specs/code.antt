@@ -1,0 +1,2 @@
+-- How structs of the code are seen. No definition outside of this folder cites one of it.
+pub mod Holding

@@ -1,0 +1,2 @@
+-- What the laws of the crate say, and the words that they alone need.
+pub mod Tags
