@@ -16,6 +16,7 @@ pub mod AroundLemmas
 pub mod TableLemmas
 pub mod BeginningLemmas
 pub mod FactLemmas
+pub mod IdLemmas
 pub mod DependLemmas
 pub mod ValueLemmas
 pub mod AskedLemmas

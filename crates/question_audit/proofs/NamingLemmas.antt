@@ -181,7 +181,7 @@ passing p left rest c e is = ap (filter p) e ∙ cond-true (p c) (c ∷ filter p
 pub all_to_name : (ns : List Node) (had : ℕ → Bool) (all left : List RuleReference) → left ≡ all → IsNamedSoFar ns had had all left
 all_to_name ns had all left e place = ap (λ (l : List RuleReference). had place || list_any (names_rule ns place) l) e
 
-or_false : (a : Bool) → a || false ≡ a
+pub or_false : (a : Bool) → a || false ≡ a
 or_false true = refl
 or_false false = refl
 

@@ -13,11 +13,20 @@ use Rattle.ifr_nodes.proofs.ViewLemmas.{contains_found}
 use Rattle.hii_varstore.specs.Layout.{Shape}
 use Rattle.hii_questions.specs.Fields.{Asked, asked, questions}
 use Rattle.hii_questions.specs.code.LyingIn.{LieIn, LiesIn}
+use Rattle.guard_policy.specs.code.Views.{bytes_of}
+use Rattle.guard_policy.specs.declared.policy.Policy.{Policy}
 
 -- what a statement says that is a question, and one that is none
 pub question_of : (asks : Bool) (q r : Asked) → Some q ≡ (if asks then Some r else None) → (asks ≡ true) × (q ≡ r)
 question_of true q r e = (refl, cc)
 question_of false q r e = absurd cc
+
+-- the question that a statement is, over the package of another policy that is the same
+pub said_of : (n : Node) (q : Asked) (other policy : Policy) → other ≡ policy → Some q ≡ (if is_question n then Some (asked (nodes_of (bytes_of other)) n) else None)
+    → (is_question n ≡ true) × (q ≡ asked (nodes_of (bytes_of policy)) n)
+said_of n q other policy same e =
+    question_of (is_question n) q (asked (nodes_of (bytes_of policy)) n)
+    (subst (λ (p : Policy). Some q ≡ (if is_question n then Some (asked (nodes_of (bytes_of p)) n) else None)) same e)
 
 pub no_question_of : (asks : Bool) (r : Asked) → None ≡ (if asks then Some r else None) → asks ≡ false
 no_question_of true r e = absurd cc

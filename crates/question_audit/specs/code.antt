@@ -13,3 +13,4 @@ pub mod Looking
 pub mod Beginnings
 pub mod Naming
 pub mod Places
+pub mod Ids

@@ -2,7 +2,6 @@
 
 ghost use Rattle.std.specs.Prelude.{◌≡◌, ◌||◌, ℕ, IfOk, OnOk, OnErr, option_map};
 ghost use Rattle.hii_bytes.specs.Watching.{Puts};
-ghost use Rattle.hii_bytes.specs.code.NumberSets.{has_number};
 ghost use Rattle.ifr_opcodes.specs.Rows.{is_among};
 ghost use Rattle.ifr_nodes.specs.Nodes.{nodes_of};
 ghost use Rattle.ifr_nodes.specs.code.Checked.{IsNodeOf};
@@ -12,12 +11,13 @@ ghost use Rattle.hii_questions.specs.code.Ranges.{range_in};
 ghost use Rattle.hii_questions.specs.code.Views.{question_node, question_view};
 ghost use Rattle.guard_policy.specs.Conditions.{condition_ids};
 ghost use Rattle.guard_policy.specs.code.Views.{bytes_of};
-ghost use Rattle.question_audit.specs.QuestionLines.{word_where};
+ghost use Rattle.question_audit.specs.code.Ids.{AreIds, has_id};
 ghost use Rattle.question_audit.specs.code.Pages.{audited};
-ghost use Rattle.question_audit.specs.Dependences.{answer_text, dependence_text, depends_fact, depends_facts, depends_on, depends_word, field_behind};
+ghost use Rattle.question_audit.specs.Dependences.{answer_text, dependence_text, depends_fact, depends_facts, depends_word, field_behind, support_ids};
 
 use crate::facts::{put_column, put_id, put_verdict_text};
 use crate::fields::put_field_text;
+use crate::ids::add_id;
 use crate::script_values::put_script_value;
 use crate::shown_values::put_told_value;
 use crate::store_names::StoreNames;
@@ -25,44 +25,49 @@ use crate::when::When;
 use audit_text::put_safe_shown;
 use form_page::Page;
 use guard_policy::{Conditions, Policy};
-use hii_bytes::{NumberSet, Watched};
+use hii_bytes::Watched;
 use hii_questions::{FieldRange, Question, read_value};
 use ifr_expr::Value;
 use ifr_scopes::{Forms, Guard, Statement};
 use std::alloc::{AllocError, Global};
+use std::collections::BTreeSet;
 use std::io::Write;
 
-// How many ids there are.
-const IDS: u32 = 65_536;
-
 // Adds the ids of the questions on whose answers the condition of a guard depends.
-fn add_named<'a>(forms: &Forms<'a>, guard: Guard<'a>, ids: &mut NumberSet)
-    ensures { (id : ℕ) → has_number ids.new id
-        ≡ (has_number ids.old id || is_among id (condition_ids (nodes_of forms.now) (guard_node guard.entry))) }
+fn add_named<'a>(
+    forms: &Forms<'a>,
+    guard: Guard<'a>,
+    ids: &mut BTreeSet<u16>,
+) -> Result<(), AllocError>
+    ensures named { OnOk result ((id : ℕ) → has_id ids.new id
+        ≡ (has_id ids.old id || is_among id (condition_ids (nodes_of forms.now) (guard_node guard.entry)))) }
+    ensures are { AreIds ids.old → OnOk result (AreIds ids.new) }
 {
     let mut named = forms.dependence(guard.condition(), guard.this());
     while let Some(id) = named.next() {
-        ids.insert(id);
+        add_id(ids, id)?;
     }
+    Ok(())
 }
 
-/// The ids of the questions on whose answers it depends then whether a statement may be changed.
+/// The ids of the questions on whose answers it depends then whether a statement may be changed, rising. The one error is that an
+/// allocation failed.
 pub fn support_of<'a>(
     alloc: Global,
     policy: Policy<'a, '_>,
     statement: Statement<'a>,
     when: When,
-) -> Result<NumberSet, AllocError>
+) -> Result<BTreeSet<u16>, AllocError>
     requires { IsNodeOf (bytes_of policy) (statement_node statement) }
-    ensures { IfOk result (λ ids. (id : ℕ) → has_number ids id
-        ≡ is_among id (depends_on when (nodes_of (bytes_of policy.entry)) (statement_node statement.entry))) }
+    ensures { IfOk result (λ ids. ids.keys
+        ≡ support_ids when (nodes_of (bytes_of policy.entry)) (statement_node statement.entry)) }
 {
-    let mut ids = NumberSet::new(alloc)?;
+    let mut ids = BTreeSet::new(alloc);
     let forms = policy.forms();
     let mut guards = forms.guards_at(statement.place());
     while let Some(guard) = guards.next() {
         if when.counts(guard) {
-            add_named(forms, guard, &mut ids);
+            add_named(forms, guard, &mut ids)?;
         }
     }
     Ok(ids)
@@ -164,24 +169,6 @@ fn put_dependence<'a, C: Conditions, W: Write>(
     out.put(b"\n");
 }
 
-// Writes the question of an id with its answer, if it is one of some ids.
-fn put_if_among<'a, C: Conditions, W: Write>(
-    page: Page<'a, '_, C>,
-    names: &StoreNames<'a>,
-    when: When,
-    ids: &NumberSet,
-    id: u16,
-    out: &mut Watched<W>,
-)
-    requires { names.now ≡ bytes_of page.policy }
-    ensures { Puts W.contents out.old out.new
-        (word_where (has_number ids.now id) (depends_fact when (audited page.entry) id)) }
-{
-    if ids.contains(id) {
-        put_dependence(page, names, when, id, out);
-    }
-}
-
 /// Writes the questions on whose answers it depends then whether a statement may be changed, by rising ids. Where an allocation fails
 /// nothing is written.
 pub(crate) fn put_depends<'a, C: Conditions, W: Write>(
@@ -199,10 +186,9 @@ pub(crate) fn put_depends<'a, C: Conditions, W: Write>(
     ensures nothing { OnErr result (out.new ≡ out.old) }
 {
     let ids = support_of(alloc, page.policy(), statement, when)?;
-    let mut number = 0;
-    while number < IDS {
-        put_if_among(page, names, when, &ids, number as u16, out);
-        number += 1;
+    let mut left = ids.iter();
+    while let Some(id) = left.next() {
+        put_dependence(page, names, when, *id, out);
     }
     Ok(())
 }

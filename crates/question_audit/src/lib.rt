@@ -13,6 +13,7 @@ mod fields;
 mod formsets;
 mod guard_table;
 mod guard_verdicts;
+mod ids;
 pub mod laws;
 mod limits_facts;
 mod lock_places;

@@ -2,5 +2,4 @@ pub mod ListingLemmas
 pub mod OptionLemmas
 pub mod MemberLemmas
 pub mod NodeLemmas
-pub mod IdLemmas
 pub mod WordLemmas

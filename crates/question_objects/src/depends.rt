@@ -1,26 +1,23 @@
 //! On which questions it depends whether a question may be changed.
 
-ghost use Rattle.std.specs.Prelude.{◌≡◌, ◌++◌, OnOk, OnErr, codes, decimal, ℕ, if◌then◌else◌, [], map, filter};
+ghost use Rattle.std.specs.Prelude.{◌≡◌, ◌++◌, OnOk, OnErr, codes, decimal, ℕ, if◌then◌else◌, [], map};
 ghost use Rattle.hii_bytes.specs.Watching.{Puts};
-ghost use Rattle.hii_bytes.specs.code.NumberSets.{has_number};
 ghost use Rattle.audit_json.specs.Objects.{array_member};
 ghost use Rattle.ifr_nodes.specs.Nodes.{nodes_of};
 ghost use Rattle.ifr_nodes.specs.code.Checked.{IsNodeOf};
 ghost use Rattle.ifr_scopes.specs.code.Lists.{statement_node};
 ghost use Rattle.guard_policy.specs.code.Views.{bytes_of};
-ghost use Rattle.question_audit.specs.Dependences.{all_ids, depends_word};
+ghost use Rattle.question_audit.specs.Dependences.{depends_word};
 ghost use Rattle.question_objects.specs.Dependences.{depends_member};
 
 use audit_json::{put_array_end, put_before_item};
 use guard_policy::Policy;
-use hii_bytes::{NumberSet, Watched};
+use hii_bytes::Watched;
 use ifr_scopes::Statement;
 use question_audit::{When, support_of};
 use std::alloc::{AllocError, Global};
+use std::collections::BTreeSet;
 use std::io::Write;
-
-// How many ids there are.
-const IDS: u32 = 65_536;
 
 // The key for the questions that decide then.
 fn key_of(when: When) -> &'static [u8]
@@ -33,20 +30,14 @@ fn key_of(when: When) -> &'static [u8]
 }
 
 // Writes a member that is an array of ids, rising.
-fn put_ids<W: Write>(key: &[u8], ids: &NumberSet, out: &mut Watched<W>)
-    ensures { Puts W.contents out.old out.new
-        (array_member key.now (map decimal (filter (has_number ids.now) all_ids))) }
+fn put_ids<W: Write>(key: &[u8], ids: &BTreeSet<u16>, out: &mut Watched<W>)
+    ensures { Puts W.contents out.old out.new (array_member key.now (map decimal ids.now.keys)) }
 {
-    let mut number = 0;
+    let mut left = ids.iter();
     let mut is_first = true;
-    while number < IDS {
-        let id = number as u16;
-        number += 1;
-        if !ids.contains(id) {
-            continue;
-        }
+    while let Some(id) = left.next() {
         put_before_item(key, is_first, out);
-        out.put_decimal(u64::from(id));
+        out.put_decimal(u64::from(*id));
         is_first = false;
     }
     put_array_end(is_first, out);

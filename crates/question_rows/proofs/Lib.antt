@@ -2,6 +2,7 @@ mod BufferLemmas
 mod DefaultLemmas
 mod FieldLemmas
 mod LinkLemmas
+mod DecidingLemmas
 pub mod PlainLemmas
 mod RunLemmas
 mod TextLemmas

@@ -1,6 +1,6 @@
 //! Which questions depend on other ones where it is asked whether they may be changed.
 
-ghost use Rattle.std.specs.Prelude.{◌≡◌, ◌&&◌, ℕ, Bool, OnOk, OnErr, codes, length};
+ghost use Rattle.std.specs.Prelude.{◌≡◌, ◌&&◌, ℕ, Bool, IfSome, OnOk, OnErr, codes, length, map};
 ghost use Rattle.hii_bytes.specs.Watching.{Puts};
 ghost use Rattle.ifr_opcodes.specs.Fields.{question_id};
 ghost use Rattle.ifr_nodes.specs.Guards.{guards_among};
@@ -12,7 +12,10 @@ ghost use Rattle.question_audit.specs.Dependences.{when_text};
 ghost use Rattle.question_audit.specs.code.Naming.{naming};
 ghost use Rattle.question_rows.specs.Dependences.{decided_item, decided_items, decides_part};
 ghost use Rattle.question_rows.specs.Elements.{has_none, run};
+ghost use Rattle.question_rows.specs.code.Deciding.{TellsDecisions};
+ghost use Rattle.question_rows.specs.declared.decisions.Decision.{Decision};
 
+use crate::decisions::{Decision, Decisions, decisions_by};
 use crate::elements::{put_before_item, put_end};
 use crate::links::put_question_link;
 use form_page::Page;
@@ -76,9 +79,48 @@ fn put_decided<'a, C: Conditions, W: Write>(
     is_next_first
 }
 
-/// Writes the questions whose changing depends on the answer to a question, by place: those at commands, then those at opening. Where an
-/// allocation fails nothing is written.
-pub(crate) fn put_decides<'a, C: Conditions, W: Write>(
+// Writes these, where they are kept as the decisions of the id of the question. Tells whether the next one is the first.
+fn put_kept<'a, C: Conditions, W: Write>(
+    page: Page<'a, '_, C>,
+    decisions: &[Decision<'a>],
+    when: When,
+    is_first: bool,
+    out: &mut Watched<W>,
+) -> bool
+    ensures text { Puts W.contents out.old out.new
+        (run (codes "<p class=\"small\">decides ") (codes ", ") is_first
+        (map (λ (d : Decision). decided_item when (audited page.entry) (question_view d.on)) decisions.now)) }
+    ensures first { result ≡ (is_first && has_none
+        (map (λ (d : Decision). decided_item when (audited page.entry) (question_view d.on)) decisions.now)) }
+{
+    let mut is_next_first = is_first;
+    for decision in decisions {
+        put_before_item(b"<p class=\"small\">decides ", b", ", is_next_first, out);
+        put_item(page, decision.on, when, out);
+        is_next_first = false;
+    }
+    is_next_first
+}
+
+// Writes the questions whose changing depends on the answer to the question of an id, by place: those at commands, then those at opening.
+fn put_kept_decides<'a, C: Conditions, W: Write>(
+    page: Page<'a, '_, C>,
+    decisions: &Decisions<'a>,
+    id: u16,
+    out: &mut Watched<W>,
+)
+    requires { TellsDecisions (nodes_of (bytes_of page.policy)) decisions.now }
+    ensures { Puts W.contents out.old out.new (decides_part (audited page.entry) id) }
+{
+    let at_commands = decisions_by(&decisions.at_commands, id);
+    let is_first = put_kept(page, at_commands, When::AtCommands, true, out);
+    let at_opening = decisions_by(&decisions.at_opening, id);
+    let is_none = put_kept(page, at_opening, When::AtOpening, is_first, out);
+    put_end(b"</p>", is_none, out);
+}
+
+// The same, where nothing is kept. Where an allocation fails nothing is written.
+fn put_asked_decides<'a, C: Conditions, W: Write>(
     alloc: Global,
     page: Page<'a, '_, C>,
     question: Question<'a>,
@@ -93,4 +135,27 @@ pub(crate) fn put_decides<'a, C: Conditions, W: Write>(
     let is_none = put_decided(page, &flags, When::AtOpening, is_first, out);
     put_end(b"</p>", is_none, out);
     Ok(())
+}
+
+/// Writes the questions whose changing depends on the answer to a question, by place: those at commands, then those at opening. Where an
+/// allocation fails nothing is written.
+pub(crate) fn put_decides<'a, C: Conditions, W: Write>(
+    alloc: Global,
+    page: Page<'a, '_, C>,
+    decisions: Option<&Decisions<'a>>,
+    question: Question<'a>,
+    out: &mut Watched<W>,
+) -> Result<(), AllocError>
+    requires { IfSome decisions (λ kept. TellsDecisions (nodes_of (bytes_of page.policy)) kept.now) }
+    ensures told { OnOk result (Puts W.contents out.old out.new
+        (decides_part (audited page.entry) (question_id (question_node question.entry).op))) }
+    ensures nothing { OnErr result (out.new ≡ out.old) }
+{
+    match decisions {
+        Some(kept) => {
+            put_kept_decides(page, kept, question.id(), out);
+            Ok(())
+        }
+        None => put_asked_decides(alloc, page, question, out),
+    }
 }

@@ -25,9 +25,6 @@ use question_audit::{When, support_of};
 use std::alloc::{AllocError, Global};
 use std::io::Write;
 
-// How many ids there are.
-const IDS: u32 = 65_536;
-
 // What stands before a question on which it depends.
 fn start_of(when: When) -> &'static [u8]
     ensures { result.now ≡ depends_start when }
@@ -151,13 +148,9 @@ pub(crate) fn put_depends<'a, C: Conditions, W: Write>(
         (depends_part when (audited page.entry) (statement_node statement.entry))) }
 {
     let ids = support_of(alloc, page.policy(), statement, when)?;
-    let mut number = 0;
-    while number < IDS {
-        let id = number as u16;
-        number += 1;
-        if ids.contains(id) {
-            put_dependence(alloc, page, when, id, out)?;
-        }
+    let mut left = ids.iter();
+    while let Some(id) = left.next() {
+        put_dependence(alloc, page, when, *id, out)?;
     }
     Ok(())
 }

@@ -5,6 +5,7 @@
 mod buffers;
 mod checks;
 mod decided;
+mod decisions;
 mod defaults;
 mod depends;
 mod elements;
@@ -24,6 +25,7 @@ mod states;
 mod subjects;
 mod values;
 
+pub use decisions::{Decision, Decisions};
 pub use known::Known;
 pub use links::put_form_title;
 pub use rows::put_row;

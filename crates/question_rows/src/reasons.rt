@@ -1,7 +1,8 @@
 //! Why questions may not be changed, and what depends on them.
 
-ghost use Rattle.std.specs.Prelude.{◌≡◌, OnOk, OnErr};
+ghost use Rattle.std.specs.Prelude.{◌≡◌, IfSome, OnOk, OnErr};
 ghost use Rattle.hii_bytes.specs.Watching.{Puts, pen_of};
+ghost use Rattle.ifr_nodes.specs.Nodes.{nodes_of};
 ghost use Rattle.ifr_nodes.specs.code.Checked.{IsNodeOf};
 ghost use Rattle.hii_questions.specs.code.Views.{question_node, question_view};
 ghost use Rattle.guard_policy.specs.code.Views.{bytes_of};
@@ -10,9 +11,11 @@ ghost use Rattle.question_audit.specs.code.Beginnings.{Begins};
 ghost use Rattle.question_rows.specs.Conditions.{conditions_part, outside_part};
 ghost use Rattle.question_rows.specs.Dependences.{dependences_part};
 ghost use Rattle.question_rows.specs.Rows.{reason_cell};
+ghost use Rattle.question_rows.specs.code.Deciding.{TellsDecisions};
 
 use crate::checks::put_checks;
 use crate::decided::put_decides;
+use crate::decisions::Decisions;
 use crate::depends::put_depends;
 use crate::guards::put_guards;
 use crate::rules::put_rules;
@@ -60,10 +63,12 @@ fn put_conditions<'a, C: Conditions, W: Write>(
 fn put_dependences<'a, C: Conditions, W: Write>(
     alloc: Global,
     page: Page<'a, '_, C>,
+    decisions: Option<&Decisions<'a>>,
     question: Question<'a>,
     out: &mut Watched<W>,
 ) -> Result<(), AllocError>
-    requires { IsNodeOf (bytes_of page.policy) (question_node question) }
+    requires node { IsNodeOf (bytes_of page.policy) (question_node question) }
+    requires decisions { IfSome decisions (λ kept. TellsDecisions (nodes_of (bytes_of page.policy)) kept.now) }
     ensures told { OnOk result (Puts W.contents out.old out.new
         (dependences_part (audited page.entry) (question_node question.entry))) }
     ensures begun { OnErr result (Begins (pen_of W.contents out.old) (pen_of W.contents out.new)
@@ -72,7 +77,7 @@ fn put_dependences<'a, C: Conditions, W: Write>(
     let statement = question.statement();
     put_depends(alloc, page, statement, When::AtCommands, out)?;
     put_depends(alloc, page, statement, When::AtOpening, out)?;
-    put_decides(alloc, page, question, out)?;
+    put_decides(alloc, page, decisions, question, out)?;
     Ok(())
 }
 
@@ -80,16 +85,18 @@ fn put_dependences<'a, C: Conditions, W: Write>(
 pub(crate) fn put_reason_cell<'a, C: Conditions, W: Write>(
     alloc: Global,
     page: Page<'a, '_, C>,
+    decisions: Option<&Decisions<'a>>,
     question: Question<'a>,
     out: &mut Watched<W>,
 ) -> Result<(), AllocError>
-    requires { IsNodeOf (bytes_of page.policy) (question_node question) }
+    requires node { IsNodeOf (bytes_of page.policy) (question_node question) }
+    requires decisions { IfSome decisions (λ kept. TellsDecisions (nodes_of (bytes_of page.policy)) kept.now) }
     ensures told { OnOk result (Puts W.contents out.old out.new
         (reason_cell (audited page.entry) (question_view question.entry))) }
     ensures begun { OnErr result (Begins (pen_of W.contents out.old) (pen_of W.contents out.new)
         (reason_cell (audited page.entry) (question_view question.entry))) }
 {
     put_conditions(alloc, page, question, out)?;
-    put_dependences(alloc, page, question, out)?;
+    put_dependences(alloc, page, decisions, question, out)?;
     Ok(())
 }

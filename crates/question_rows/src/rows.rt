@@ -77,7 +77,7 @@ pub fn put_row<'a, C: Conditions, W: Write>(
     out.put(b"</div><div>");
     put_value_cell(alloc, page, known, question, spare, out)?;
     out.put(b"</div><div>");
-    put_reason_cell(alloc, page, question, out)?;
+    put_reason_cell(alloc, page, known.decisions, question, out)?;
     out.put(b"</div></div>");
     Ok(())
 }

@@ -22,7 +22,7 @@ use form_page::Page;
 use guard_policy::Conditions;
 use hii_bytes::{Fault, Watched};
 use question_audit::{Tables, scope_locks};
-use question_rows::Known;
+use question_rows::{Decisions, Known};
 use std::alloc::{AllocError, Global};
 use std::io::Write;
 
@@ -48,9 +48,11 @@ pub fn put_report<'a, C: Conditions, W: Write>(
     let tables = Tables::read(alloc, page)?;
     let locks = scope_locks(alloc, page.policy().forms().bytes())?;
     let mut spare = page.stores().copy(alloc)?;
+    let decisions = Decisions::read(alloc, page)?;
     let known = Known {
         names: &tables.names,
         locks: &locks,
+        decisions: decisions.as_ref(),
     };
     put_head(page, out);
     put_heading(page, out);

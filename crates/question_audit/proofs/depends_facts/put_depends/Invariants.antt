@@ -1,25 +1,17 @@
-use Rattle.std.proofs.Common.{◌-◌, ◌≤◌}
-use Rattle.std.specs.Prelude.{filter}
-use Rattle.std.specs.List.{flat_map, range_with_len}
+use Rattle.std.proofs.Common.{length}
+use Rattle.std.specs.List.{flat_map}
 use Rattle.hii_bytes.specs.Watching.{pen_of}
 use Rattle.hii_bytes.specs.code.Writing.{Stands}
-use Rattle.ifr_nodes.specs.Nodes.{nodes_of}
 use Rattle.ifr_scopes.specs.code.Lists.{statement_node}
-use Rattle.guard_policy.specs.code.Views.{bytes_of}
 use Rattle.question_audit.specs.code.Pages.{audited}
-use Rattle.question_audit.specs.Dependences.{depends_fact, depends_facts, supports}
+use Rattle.question_audit.specs.Dependences.{depends_fact, depends_facts}
 use Rattle.question_audit.proofs.depends_facts.put_depends.Given as goal
 
--- the ids below the number were written
-abbrev pub invariant-loop-number : goal.invariant-loop-number
-invariant-loop-number g l =
+-- those of the ids before those that are left were written
+abbrev pub invariant-loop-id : goal.invariant-loop-id
+invariant-loop-id g l =
     let a = audited l.page in
-    let n = statement_node l.statement in
-    record {
-      few : l.number ≤ 65536;
-      written : Stands (pen_of g.W.Write.contents l.fn.out) (pen_of g.W.Write.contents l.out) (depends_facts l.when a n)
-          (flat_map (depends_fact l.when a) (filter (supports l.when (nodes_of (bytes_of l.page.policy)) n) (range_with_len l.number (65536 - l.number))));
-    }
+    Stands (pen_of g.W.Write.contents l.fn.out) (pen_of g.W.Write.contents l.out) (depends_facts l.when a (statement_node l.statement)) (flat_map (depends_fact l.when a) l.left)
 
-abbrev pub decreases-loop-number : goal.decreases-loop-number
-decreases-loop-number g l = 65536 - l.number
+abbrev pub decreases-loop-id : goal.decreases-loop-id
+decreases-loop-id g l = length l.left

@@ -21,7 +21,7 @@ use Rattle.guard_policy.proofs.OptionLemmas.{first_of, rest_of}
 use Rattle.question_audit.specs.FormLines.{form_lines, form_text}
 use Rattle.question_audit.specs.QuestionLines.{question_line}
 use Rattle.question_audit.specs.code.Pages.{audited}
-use Rattle.question_audit.proofs.QuestionsLemmas.{question_of, no_question_of, with_question, without_question, question_lies}
+use Rattle.question_audit.proofs.QuestionsLemmas.{no_question_of, question_lies, said_of, with_question, without_question}
 use Rattle.question_audit.proofs.questions.put_form_lines.Goals as goal
 
 pub loop-statement-init : goal.loop-statement-init
@@ -47,13 +47,6 @@ question-requires g c =
     let n = statement_node c.in-Some.statement in
     subst (λ (p : Policy). IsNodeOf (bytes_of p) n) (sym c.policy-in-Some.ensures)
     (first_of (bytes_of c.args.page.policy) (statements_of_left c.loop-statement.statements) n (statements_of_left c.next.new.self) c.in-Some.ensures.steps c.loop-statement.invariant.nodes)
-
--- the question that a statement is, over the package of another policy that is the same
-pub said_of : (n : Node) (q : Asked) (other policy : Policy) → other ≡ policy → Some q ≡ (if is_question n then Some (asked (nodes_of (bytes_of other)) n) else None)
-    → (is_question n ≡ true) × (q ≡ asked (nodes_of (bytes_of policy)) n)
-said_of n q other policy same e =
-    question_of (is_question n) q (asked (nodes_of (bytes_of policy)) n)
-    (subst (λ (p : Policy). Some q ≡ (if is_question n then Some (asked (nodes_of (bytes_of p)) n) else None)) same e)
 
 pub put_question-requires-clause-node : goal.put_question-requires-clause-node
 put_question-requires-clause-node g c =

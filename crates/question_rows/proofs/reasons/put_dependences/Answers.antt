@@ -12,10 +12,10 @@ use Rattle.question_rows.specs.Dependences.{depends_part}
 use Rattle.question_rows.proofs.reasons.put_dependences.Goals as goal
 
 pub put_depends-requires : goal.put_depends-requires
-put_depends-requires g c = subst (λ (n : Node). IsNodeOf (bytes_of c.args.page.policy) n) (sym c.statement-statement.ensures) c.requires
+put_depends-requires g c = subst (λ (n : Node). IsNodeOf (bytes_of c.args.page.policy) n) (sym c.statement-statement.ensures) c.requires.node
 
 pub put_depends-requires-2 : goal.put_depends-requires-2
-put_depends-requires-2 g c = subst (λ (n : Node). IsNodeOf (bytes_of c.args.page.policy) n) (sym c.statement-statement.ensures) c.requires
+put_depends-requires-2 g c = subst (λ (n : Node). IsNodeOf (bytes_of c.args.page.policy) n) (sym c.statement-statement.ensures) c.requires.node
 
 pub returns-clause-told : goal.returns-clause-told
 returns-clause-told g c =

@@ -20,7 +20,7 @@ use Rattle.guard_policy.proofs.OptionLemmas.{first_of, rest_of}
 use Rattle.condition_text.proofs.WriteLemmas.{written_as}
 use Rattle.question_audit.specs.FormLines.{form_questions}
 use Rattle.question_audit.specs.code.Pages.{audited}
-use Rattle.question_audit.proofs.QuestionsLemmas.{question_of, no_question_of, question_lies}
+use Rattle.question_audit.proofs.QuestionsLemmas.{no_question_of, question_lies, said_of}
 use Rattle.question_audit.specs.code.Beginnings.{Begins}
 use Rattle.question_audit.proofs.BeginningLemmas.{at_error, piece_begun}
 use Rattle.survey_audit.specs.Finding.{is_found}
@@ -53,13 +53,6 @@ question-requires g c =
     let n = statement_node c.in-Some.statement in
     subst (λ (p : Policy). IsNodeOf (bytes_of p) n) (sym c.policy-in-Some.ensures)
     (first_of (bytes_of c.args.page.policy) (statements_of_left c.loop-statement.statements) n (statements_of_left c.next.new.self) c.in-Some.ensures.steps c.loop-statement.invariant.nodes)
-
--- the question that a statement is, over the package of another policy that is the same
-said_of : (n : Node) (q : Asked) (other policy : Policy) → other ≡ policy → Some q ≡ (if is_question n then Some (asked (nodes_of (bytes_of other)) n) else None)
-    → (is_question n ≡ true) × (q ≡ asked (nodes_of (bytes_of policy)) n)
-said_of n q other policy same e =
-    question_of (is_question n) q (asked (nodes_of (bytes_of policy)) n)
-    (subst (λ (p : Policy). Some q ≡ (if is_question n then Some (asked (nodes_of (bytes_of p)) n) else None)) same e)
 
 -- the statement is a node, and the question is asked of it
 module _ (g : _) (c : In-Some-question g) where

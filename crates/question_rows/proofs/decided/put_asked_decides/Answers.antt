@@ -11,7 +11,7 @@ use Rattle.question_audit.specs.code.Naming.{naming}
 use Rattle.question_audit.specs.declared.when.When.TheVariants.{AtCommands, AtOpening}
 use Rattle.question_rows.specs.Dependences.{decided_items}
 use Rattle.question_rows.proofs.RunLemmas.{listed_both}
-use Rattle.question_rows.proofs.decided.put_decides.Goals as goal
+use Rattle.question_rows.proofs.decided.put_asked_decides.Goals as goal
 
 pub returns-clause-told : goal.returns-clause-told
 returns-clause-told g c =
