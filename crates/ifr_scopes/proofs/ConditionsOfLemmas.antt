@@ -10,13 +10,14 @@ use Rattle.ifr_opcodes.specs.Forest.{Ancestor, Node, as_ancestor, nodes_at, belo
 use Rattle.ifr_opcodes.specs.Reading.{tree_of}
 use Rattle.ifr_opcodes.proofs.StatementLemmas.{question_is_statement}
 use Rattle.ifr_nodes.specs.Checked.{IsChecked}
-use Rattle.ifr_nodes.specs.code.Checked.{IsNodeOf}
+use Rattle.ifr_nodes.specs.code.Checked.{IsNodeOf, node_in}
 use Rattle.ifr_opcodes.specs.Rows.{is_condition_number}
 use Rattle.ifr_nodes.specs.Nodes.{nodes_of, is_question, of_question}
 use Rattle.ifr_scopes.specs.code.Tables.{IsConditionEntry, AreConditionEntries, is_question_condition, kept_condition, conditions_among, condition_table, parent_place}
 use Rattle.ifr_scopes.specs.declared.index.ConditionEntry.{ConditionEntry}
 use Rattle.ifr_scopes.proofs.BehindPlaceLemmas.{apart, entries_behind, front, no_front}
 use Rattle.ifr_scopes.proofs.ConditionsLeftLemmas.{left_of}
+use Rattle.ifr_scopes.proofs.EntryLemmas.{nodes_again}
 use Rattle.ifr_scopes.proofs.InsideLemmas.{behind_node}
 use Rattle.ifr_scopes.proofs.ConditionFacts.{has_question, question_place}
 use Rattle.ifr_scopes.proofs.NoSubmitLemmas.{again, all_entries, of_number}
@@ -78,13 +79,14 @@ named_of_other bytes m checked within other =
     ap (take_while names) (behind_it bytes m) ∙ no_front is_question_condition (kept_condition (nodes_of bytes)) names behind
     (λ n w is. ne_eqb (parent_place n) m.place (λ e. false≢true (sym other ∙ (of_place bytes m n checked within (kept (λ p. nat_lt m.place p.place) (nodes_of bytes) n w) is e).0)))
 
--- those of a number are the conditions of this number in the scope of the question
-conditions_named : (bytes : List ℕ) (m : Node) (code : ℕ) → IsChecked bytes → Contains (nodes_of bytes) m → is_condition_number code ≡ true → of_number bytes code (named bytes m) ≡ of_question (λ n. number n.op == code) m
-conditions_named bytes m code checked within condition = elim (cases_Bool (is_question m)) [
-  | inl asks ↦
-      rw asks (ap (of_number bytes code) (named_of_question bytes m checked within asks)
-      ∙ again bytes code (below m) condition checked.spelled (λ n w. below_within (tree_of bytes) 4 [] m n within w))
-  | inr other ↦ rw other (ap (of_number bytes code) (named_of_other bytes m checked within other))
+-- those in the scope of a question; none of what is none
+abbrev in_scope : List ℕ → Node → List ConditionEntry
+in_scope bytes m = map (kept_condition (nodes_of bytes)) (of_question is_question_condition m)
+
+named_in_scope : (bytes : List ℕ) (m : Node) → IsChecked bytes → Contains (nodes_of bytes) m → named bytes m ≡ in_scope bytes m
+named_in_scope bytes m checked within = elim (cases_Bool (is_question m)) [
+  | inl asks ↦ rw asks (named_of_question bytes m checked within asks)
+  | inr other ↦ rw other (named_of_other bytes m checked within other)
 ]
 
 -- where no scope is opened there is none
@@ -108,12 +110,33 @@ kept_are bytes m its checked e = elim (cases_Bool (has_scope m.op)) [
   | inr bare ↦ All-same (λ one. IsConditionEntry bytes one) its [] (e ∙ cond-false (has_scope m.op) _ _ bare) (All-nil (λ one. IsConditionEntry bytes one))
 ]
 
+-- what is kept and names the place of a node is in its scope
+kept_named : (bytes : List ℕ) (m : Node) (place : ℕ) (its : List ConditionEntry) → IsChecked bytes → Contains (nodes_of bytes) m → place ≡ m.place → its ≡ kept_behind bytes m
+    → take_while (λ one. one.question == place) its ≡ in_scope bytes m
+kept_named bytes m place its checked within same e =
+    let behind : List ConditionEntry = filter (λ one. nat_lt m.place one.place) (condition_table (nodes_of bytes)) in
+    let first : List ConditionEntry → List ConditionEntry = take_while (λ one. one.question == m.place) in
+    ap (λ (p : ℕ). take_while (λ (one : ConditionEntry). one.question == p) its) same ∙ ap first e ∙ elim (cases_Bool (has_scope m.op)) [
+      | inl scoped ↦ ap first (cond-true (has_scope m.op) behind [] scoped) ∙ named_in_scope bytes m checked within
+      | inr bare ↦ ap first (cond-false (has_scope m.op) behind [] bare) ∙ sym (ap (map (kept_condition (nodes_of bytes))) (none_inside bytes m is_question_condition checked within bare))
+    ]
+
+-- those of a number are the conditions of this number in the scope of the question
 pub conditions_kept : (bytes : List ℕ) (m : Node) (code place : ℕ) (its : List ConditionEntry) → IsChecked bytes → IsNodeOf bytes m → is_condition_number code ≡ true → place ≡ m.place → its ≡ kept_behind bytes m
     → left_of bytes place code its ≡ of_question (λ n. number n.op == code) m
 conditions_kept bytes m code place its checked is condition same e =
     let within = contains_found (nodes_of bytes) m.place m is in
-    ap (λ (p : ℕ). left_of bytes p code its) same ∙ ap (left_of bytes m.place code) e ∙ elim (cases_Bool (has_scope m.op)) [
-      | inl scoped ↦ ap (left_of bytes m.place code) (cond-true (has_scope m.op) (filter (λ one. nat_lt m.place one.place) (condition_table (nodes_of bytes))) [] scoped) ∙ conditions_named bytes m code checked within condition
-      | inr bare ↦ ap (left_of bytes m.place code) (cond-false (has_scope m.op) (filter (λ one. nat_lt m.place one.place) (condition_table (nodes_of bytes))) [] bare)
-          ∙ sym (none_inside bytes m (λ n. number n.op == code) checked within bare)
+    ap (of_number bytes code) (kept_named bytes m place its checked within same e) ∙ elim (cases_Bool (is_question m)) [
+      | inl asks ↦ rw asks (again bytes code (below m) condition checked.spelled (λ n w. below_within (tree_of bytes) 4 [] m n within w))
+      | inr other ↦ rw other refl
+    ]
+
+-- those of any number are all conditions in the scope of the question
+pub all_kept : (bytes : List ℕ) (m : Node) (place : ℕ) (its : List ConditionEntry) → IsChecked bytes → IsNodeOf bytes m → place ≡ m.place → its ≡ kept_behind bytes m
+    → map (λ one. node_in bytes one.place) (take_while (λ one. one.question == place) its) ≡ of_question is_question_condition m
+all_kept bytes m place its checked is same e =
+    let within = contains_found (nodes_of bytes) m.place m is in
+    ap (map (λ (one : ConditionEntry). node_in bytes one.place)) (kept_named bytes m place its checked within same e) ∙ elim (cases_Bool (is_question m)) [
+      | inl asks ↦ rw asks (nodes_again bytes (λ (one : ConditionEntry). one.place) is_question_condition (kept_condition (nodes_of bytes)) (below m) (λ n. refl) checked.spelled (λ n w. below_within (tree_of bytes) 4 [] m n within w))
+      | inr other ↦ rw other refl
     ]

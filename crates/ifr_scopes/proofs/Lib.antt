@@ -21,6 +21,8 @@ pub mod ConditionsLeftLemmas
 pub mod ConditionsOfLemmas
 pub mod OptionFacts
 pub mod OptionsOfLemmas
+pub mod GuardsInLemmas
+pub mod OfQuestionLemmas
 pub mod FormFacts
 pub mod StatementsOfLemmas
 pub mod NumberLemmas

@@ -36,7 +36,8 @@ first_options bytes its = map (λ one. node_in bytes one.place) (take_while (λ 
 
 -- ---- options among forms, statements and options
 
-filters : (p q : Node → Bool) (ns : List Node) → ((n : Node) → Contains ns n → p n ≡ q n) → filter p ns ≡ filter q ns
+-- two tests that agree on some nodes
+pub filters : (p q : Node → Bool) (ns : List Node) → ((n : Node) → Contains ns n → p n ≡ q n) → filter p ns ≡ filter q ns
 filters p q [] same = refl
 filters p q (n ∷ ns) same =
     ap (λ (b : Bool). cond b (n ∷ filter p ns) (filter p ns)) (same n (0, omega arith, refl))

@@ -2,11 +2,13 @@
 pub mod AllConditionsLeft
 pub mod AnyConditions
 pub mod AroundViews
+pub mod ConditionsInLeft
 pub mod ConditionsLeft
 pub mod DependenceLeft
 pub mod Frames
 pub mod Giving
 pub mod GivingLeft
+pub mod GuardsInLeft
 pub mod Index
 pub mod Lists
 pub mod LockIndex

@@ -11,10 +11,12 @@ ghost use Rattle.ifr_nodes.specs.Accepted.{IsAccepted, IsPackageFault};
 ghost use Rattle.ifr_scopes.specs.code.AllConditionsLeft.{all_conditions_left};
 ghost use Rattle.ifr_scopes.specs.code.AnyConditions.{any_condition_node};
 ghost use Rattle.ifr_nodes.specs.code.Checked.{IsNodeOf, has_form};
+ghost use Rattle.ifr_scopes.specs.code.ConditionsInLeft.{conditions_in_left};
 ghost use Rattle.ifr_scopes.specs.code.ConditionsLeft.{conditions_of_left};
 ghost use Rattle.ifr_scopes.specs.code.Giving.{is_giving};
 ghost use Rattle.ifr_scopes.specs.code.GivingLeft.{giving_left};
 ghost use Rattle.ifr_nodes.specs.Guards.{is_guard};
+ghost use Rattle.ifr_scopes.specs.code.GuardsInLeft.{guards_in_left};
 ghost use Rattle.ifr_scopes.specs.code.Index.{conditional_at, guards_of_indexed, indexed_at, lock_of_indexed};
 ghost use Rattle.ifr_scopes.specs.code.Lists.{form_node, form_set_node, rule_node, stores_left, all_guards_left, forms_left, rules_left, all_statements_left, statement_node, guards_left};
 ghost use Rattle.ifr_scopes.specs.code.AroundViews.{around_guards, around_lock, around_package};
@@ -34,16 +36,18 @@ use crate::all_statements::AllStatements;
 use crate::any_condition::AnyCondition;
 use crate::around::{Around, guard_number, lock_place};
 use crate::condition_view::ConditionView;
+use crate::conditions_in::ConditionsIn;
 use crate::conditions_of::ConditionsOf;
 use crate::form::{Form, FormViews};
 use crate::form_set::FormSet;
 use crate::giving::GivingStatements;
 use crate::guard::{Guard, GuardViews};
 use crate::guards_at::GuardsAt;
+use crate::guards_in::{GuardsIn, guards_end};
 use crate::guards_outward::GuardsOutward;
 use crate::index::{
     ConditionEntry, Entry, Index, condition_at, conditions_behind, entries_behind, entry_at,
-    guard_at, number_of, places_behind,
+    guard_at, guards_behind, number_of, places_behind,
 };
 use crate::indexing::index_of;
 use crate::no_submits::NoSubmits;
@@ -304,6 +308,36 @@ impl<'a> Forms<'a> {
             kept: self.conditions_behind(statement),
             question: statement.place(),
             code,
+        }
+    }
+
+    /// All conditions, of any number, that stand in the scope of the question that a statement is, by place, found in one
+    /// search; none of a statement that is none.
+    pub fn conditions_in(&self, statement: Statement<'a>) -> ConditionsIn<'_, 'a>
+        requires node { IsNodeOf self.now (statement_node statement) }
+        ensures { conditions_in_left result
+            ≡ of_question (λ n. is_condition_number (number n.op)) (statement_node statement.entry) }
+    {
+        ConditionsIn {
+            ifr: self.ifr,
+            kept: self.conditions_behind(statement),
+            question: statement.place(),
+        }
+    }
+
+    /// The guards that stand in the scope of the question that a statement is, as those around its options do, by place; none
+    /// of a statement that is none. They are found in one search, and if there may be some the question is gone through for
+    /// its end.
+    pub fn guards_in(&self, statement: Statement<'a>) -> GuardsIn<'_, 'a>
+        requires node { IsNodeOf self.now (statement_node statement) }
+        ensures { guards_in_left result
+            ≡ of_question (λ n. is_guard (number n.op)) (statement_node statement.entry) }
+    {
+        let guards = guards_behind(&self.index.guards, statement.place());
+        GuardsIn {
+            ifr: self.ifr,
+            guards,
+            ends: guards_end(self.ifr, statement.node, guards),
         }
     }
 

@@ -143,6 +143,15 @@ pub(crate) fn conditions_behind(conditions: &[ConditionEntry], place: u32) -> &[
     &conditions[first..]
 }
 
+/// The guards behind a place.
+pub(crate) fn guards_behind(guards: &[GuardEntry], place: u32) -> &[GuardEntry]
+    ensures { (low : ℕ) → Rise (λ (g : GuardEntry). g.place) low guards.now
+        → result.now ≡ filter (λ g. nat_lt place g.place) guards.now }
+{
+    let first = guards.partition_point(|guard| guard.place <= place);
+    &guards[first..]
+}
+
 /// How many of some places that rise stand before one of them.
 pub(crate) fn number_of(places: &[u32], place: u32) -> Option<usize>
     ensures { IfSome result (λ number. slice_get places.now number ≡ Some place) }

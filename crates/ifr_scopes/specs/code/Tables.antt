@@ -1,5 +1,5 @@
 -- The tables of a package's index.
-use Rattle.std.specs.Prelude.{◌≡◌, ◌<◌, ℕ, ◌-◌, Bool, true, nat_lt, Option, Some, None, option_map, unwrap_or, All, IfSome, List, [], ◌∷◌, ◌++◌, length, filter, map}
+use Rattle.std.specs.Prelude.{◌≡◌, ◌<◌, ℕ, ◌-◌, Bool, true, false, ◌==◌, nat_lt, Option, Some, None, option_map, unwrap_or, All, IfSome, List, [], ◌∷◌, ◌++◌, length, filter, map}
 use Rattle.std.specs.List.{last_or, slice_get}
 use Rattle.std.specs.Option.{option_flatten}
 use Rattle.std.proofs.Props.{props}
@@ -110,6 +110,11 @@ AreGuardEntries bytes guards = All (λ one. IsGuardEntry bytes one) guards
 pub AreGuardEntries-prop : (bytes : List ℕ) (guards : List GuardEntry)
     → IsProp (AreGuardEntries bytes guards)
 AreGuardEntries-prop bytes guards = hlevel (props, IsGuardEntry-prop)
+
+-- whether the first of some guards is told to stand in the scope of a question of this id
+abbrev pub begin_in : ℕ → List GuardEntry → Bool
+begin_in id [] = false
+begin_in id (first ∷ rest) = first.this == id
 
 -- a form, a statement or an option, with the innermost guard around it, as long as nothing is known that locks it
 abbrev pub entry_of_node : Option ℕ → Node → Entry

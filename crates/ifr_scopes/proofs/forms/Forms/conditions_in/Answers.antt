@@ -1,0 +1,22 @@
+use Rattle.std.proofs.Common.{◌≡◌, ℕ, List, sym, subst}
+use Rattle.ifr_nodes.specs.code.Checked.{IsNodeOf}
+use Rattle.ifr_scopes.specs.code.Lists.{statement_node}
+use Rattle.ifr_scopes.proofs.ConditionsOfLemmas.{kept_behind, kept_are, all_kept}
+use Rattle.ifr_scopes.proofs.forms.Forms.conditions_in.Goals as goal
+use Rattle.ifr_scopes.proofs.forms.Forms.conditions_in.Goals.{After-conditions_behind}
+
+-- what is kept behind the statement
+behind : (c : After-conditions_behind) → c.conditions_behind.result.now ≡ kept_behind c.self.inside.ifr.now (statement_node c.args.statement)
+behind c = subst (λ (b : List ℕ). c.conditions_behind.result.now ≡ kept_behind b (statement_node c.args.statement)) (sym c.self.view_is) c.conditions_behind.ensures
+
+pub invariant_of-result : goal.invariant_of-result
+invariant_of-result c =
+    let checked = c.self.invariant.accepted.checked in
+    record { checked = checked; conditions = kept_are c.self.inside.ifr.now (statement_node c.args.statement) _ checked (behind (goal.at.invariant_of-result c).After-conditions_behind) }
+
+pub returns : goal.returns
+returns c =
+    let m = statement_node c.args.statement in
+    let bytes = c.self.inside.ifr.now in
+    let node = subst (λ (b : List ℕ). IsNodeOf b m) (sym c.self.view_is) c.requires.node in
+    all_kept bytes m c.place.result c.conditions_behind.result.now c.self.invariant.accepted.checked node c.place.ensures (behind (goal.at.returns c).After-conditions_behind)

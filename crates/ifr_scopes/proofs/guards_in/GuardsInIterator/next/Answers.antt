@@ -1,0 +1,10 @@
+use Rattle.std.proofs.Common.{subst}
+use Rattle.std.proofs.lemmas.List.Elements.{All-tail}
+use Rattle.ifr_scopes.specs.code.Tables.{IsGuardEntry, AreGuardEntries}
+use Rattle.ifr_scopes.proofs.guards_in.GuardsInIterator.next.Goals as goal
+
+pub invariant_of-self : goal.invariant_of-self
+invariant_of-self c =
+    let it = c.args.self.now in
+    let first = c.in_ok-first.first.now in
+    record { checked = it.checked; entries = All-tail (λ one. IsGuardEntry it.ifr.now one) first c.in_ok-first.guards.now (subst (AreGuardEntries it.ifr.now) c.in_ok-first.ensures.cases.0 it.entries) }

@@ -1,0 +1,42 @@
+//! All conditions of one question, found in the index.
+
+ghost use Rattle.ifr_nodes.specs.Checked.{IsChecked};
+ghost use Rattle.ifr_nodes.specs.code.Checked.{IsChecked-prop};
+ghost use Rattle.ifr_scopes.specs.code.Tables.{AreConditionEntries, AreConditionEntries-prop};
+
+use crate::condition_view::ConditionView;
+use crate::index::ConditionEntry;
+
+/// The conditions, of any number, that are left of a question, by place.
+#[derive(Drop)]
+pub struct ConditionsIn<'s, 'a> {
+    pub(crate) ifr: &'a [u8],
+    // First come the conditions that are left of the question, then those of others.
+    pub(crate) kept: &'s [ConditionEntry],
+    // The place of the question.
+    pub(crate) question: u32,
+    pub ghost checked: { IsChecked ifr.now } by { IsChecked-prop ifr.now },
+    pub ghost conditions: { AreConditionEntries ifr.now kept.now } by { AreConditionEntries-prop ifr.now kept.now },
+}
+
+impl<'s, 'a> Iterator for ConditionsIn<'s, 'a> {
+    ghost use Rattle.std.specs.Iterator.{YieldsFirstBy, item_count};
+    ghost use Rattle.ifr_scopes.specs.code.ConditionsInLeft.{conditions_in_left};
+    ghost use Rattle.ifr_scopes.specs.code.Parts.{condition_node};
+
+    type Item = ConditionView<'a>;
+
+    ghost next_gives = { YieldsFirstBy condition_node conditions_in_left };
+
+    ghost remaining = { item_count conditions_in_left };
+
+    #[inline(always)]
+    fn next(&mut self) -> Option<ConditionView<'a>> {
+        let (first, kept) = self.kept.split_first()?;
+        if first.question != self.question {
+            return None;
+        }
+        self.kept = kept;
+        Some(ConditionView::kept(self.ifr, *first))
+    }
+}
