@@ -13,11 +13,12 @@ use Rattle.ifr_scopes.specs.declared.around.Around.{Around}
 use Rattle.ifr_nodes.proofs.PlaceLemmas.{is_found}
 use Rattle.ifr_nodes.proofs.ViewLemmas.{further}
 use Rattle.hii_varstore.specs.Stores.{StoreMap}
-use Rattle.hii_questions.specs.Fields.{Field, Asked, asked, questions, field_passes, is_same_field, has_field, is_password}
-use Rattle.hii_questions.specs.Inputs.{field}
+use Rattle.hii_values.specs.Types.{is_password}
+use Rattle.hii_values.specs.Inputs.{field}
+use Rattle.hii_values.specs.declared.denial.DenialKind.TheVariants.{Password, ReadOnly}
+use Rattle.hii_questions.specs.Fields.{Field, Asked, asked, questions, field_passes, is_same_field, has_field}
 use Rattle.hii_questions.specs.code.Views.{question_node, question_view}
 use Rattle.hii_questions.specs.declared.question.Question.{Question}
-use Rattle.hii_questions.specs.declared.denial.DenialKind.TheVariants.{Password, ReadOnly}
 use Rattle.guard_policy.specs.Policy.{covered, denied_by, fixed, fixed_itself, or_else}
 use Rattle.guard_policy.specs.World.{World}
 use Rattle.guard_policy.specs.code.Answers.{unless}

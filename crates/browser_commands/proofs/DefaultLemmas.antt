@@ -6,7 +6,7 @@ use Rattle.ifr_opcodes.specs.Forest.{Node}
 use Rattle.ifr_opcodes.specs.Opcode.{number}
 use Rattle.ifr_opcodes.proofs.StatementLemmas.{question_is_statement}
 use Rattle.ifr_nodes.specs.Nodes.{nodes_of, is_question, statements}
-use Rattle.ifr_scopes.specs.code.Giving.{is_giving}
+use Rattle.ifr_index.specs.code.Giving.{is_giving}
 use Rattle.ifr_scopes.specs.code.Lists.{form_node}
 use Rattle.hii_languages.specs.code.Views.{choice_of}
 use Rattle.ifr_defaults.specs.Defaults as defaults
@@ -16,9 +16,9 @@ use Rattle.ifr_defaults.specs.declared.defaults.DefaultSource.{DefaultSource}
 use Rattle.ifr_defaults.proofs.NoSourceLemmas.{no_default}
 use Rattle.ifr_defaults.proofs.SourceLemmas.{gives_default}
 use Rattle.hii_varstore.specs.Stores.{StoreMap, shape_of}
+use Rattle.hii_values.specs.Inputs.{Offer}
 use Rattle.hii_questions.specs.Fields as fields
 use Rattle.hii_questions.specs.Fields.{Asked, field_of}
-use Rattle.hii_questions.specs.Inputs.{Offer}
 use Rattle.hii_questions.specs.code.Checks.{range_of}
 use Rattle.hii_questions.specs.declared.field.Field.{Field}
 use Rattle.guard_policy.specs.code.Views.{bytes_of}

@@ -14,7 +14,7 @@ use Rattle.ifr_nodes.specs.ReferenceFaults.{has_form_id, form_with}
 use Rattle.ifr_nodes.specs.code.Checked.{IsNodeOf, has_form, node_in, or_empty}
 use Rattle.ifr_scopes.proofs.FormPlaceLemmas.{found}
 use Rattle.ifr_nodes.proofs.PlaceLemmas.{is_found}
-use Rattle.hii_questions.specs.declared.denial.DenialKind.TheVariants.{NotRef, Outside}
+use Rattle.hii_values.specs.declared.denial.DenialKind.TheVariants.{NotRef, Outside}
 use Rattle.guard_policy.specs.Policy.{denied_by, hidden, fixed}
 use Rattle.guard_policy.specs.code.Answers.{unless}
 use Rattle.guard_policy.specs.declared.denial.Denial.{Denial}

@@ -11,6 +11,7 @@ use Rattle.hii_varstore.specs.code.Ranges.{HasRange}
 use Rattle.hii_varstore.specs.code.Table.{AreBuffers}
 use Rattle.hii_varstore.specs.Stores.{byte_of, StoreMap, shape_of, bytes_of_field, with_bytes}
 use Rattle.hii_varstore.proofs.WriteLemmas.{byte_after, shape_after}
+use Rattle.hii_values.specs.Inputs.{field}
 use Rattle.hii_questions.specs.Fields as fields
 use Rattle.hii_questions.specs.Fields.{Asked, field_of}
 use Rattle.kept_conditions.specs.Kept as kept
@@ -18,7 +19,6 @@ use Rattle.kept_conditions.specs.Kept.{KeptMap, written, changed_to}
 use Rattle.kept_conditions.specs.Touching.{difference, range_of_field, renewals}
 use Rattle.kept_conditions.specs.code.Invalidation.{LiesWithin}
 use Rattle.kept_conditions.proofs.CopyLemmas.{copied_agree}
-use Rattle.hii_questions.specs.Inputs.{field}
 use Rattle.hii_questions.specs.code.Checks.{range_of}
 use Rattle.hii_questions.specs.code.NewBytes.{new_bytes}
 use Rattle.hii_questions.specs.code.Views.{question_node, question_view}

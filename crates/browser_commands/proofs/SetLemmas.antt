@@ -12,15 +12,15 @@ use Rattle.ifr_nodes.proofs.ViewLemmas.{contains_found}
 use Rattle.hii_varstore.specs.Layout.{Shape}
 use Rattle.hii_varstore.specs.code.Ranges.{HasRange}
 use Rattle.hii_varstore.specs.Stores.{StoreMap, shape_of, with_bytes}
+use Rattle.hii_values.specs.Types.{type_of}
+use Rattle.hii_values.specs.Inputs.{Offer}
+use Rattle.hii_values.specs.declared.denial.DenialKind.{DenialKind}
 use Rattle.hii_questions.specs.code.Checks.{Checks, NamesItems, range_of}
 use Rattle.hii_questions.specs.Fields as fields
 use Rattle.hii_questions.specs.Fields.{Asked, asked, field_of, question_with}
 use Rattle.hii_questions.specs.Fits.{fits, fits_field, values_offered}
-use Rattle.hii_questions.specs.Types.{type_of}
-use Rattle.hii_questions.specs.Inputs.{Offer}
 use Rattle.hii_questions.specs.code.NewBytes.{new_bytes, new_items}
 use Rattle.hii_questions.specs.declared.field.Field.{Field}
-use Rattle.hii_questions.specs.declared.denial.DenialKind.{DenialKind}
 use Rattle.hii_questions.proofs.LawLemmas.{finds_questions, holds_fields, fits_wide}
 use Rattle.guard_policy.specs.Policy.{or_else, fixed, first_closed, inconsistent, unsubmitted}
 use Rattle.guard_policy.specs.World.{World}

@@ -1,11 +1,12 @@
 //! New values of questions.
 
 ghost use Rattle.std.specs.Prelude.{◌≡◌, option_copied};
+ghost use Rattle.hii_values.specs.code.ItemsLeft.{items_left};
+ghost use Rattle.hii_values.specs.code.Offers.{offer_of};
 ghost use Rattle.hii_questions.specs.Changes.{field_bytes};
-ghost use Rattle.hii_questions.specs.code.ItemsLeft.{items_left};
 ghost use Rattle.hii_questions.specs.code.LyingIn.{LiesIn};
 ghost use Rattle.hii_questions.specs.code.NewBytes.{new_items};
-ghost use Rattle.hii_questions.specs.code.Offers.{offer_of, IsGiven};
+ghost use Rattle.hii_questions.specs.code.Offers.{IsGiven};
 ghost use Rattle.hii_questions.specs.code.Views.{question_node, question_view};
 ghost use Rattle.hii_varstore.specs.Stores.{shape_of};
 ghost use Rattle.guard_policy.specs.Policy.{first_closed};

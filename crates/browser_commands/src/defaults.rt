@@ -7,7 +7,7 @@ ghost use Rattle.ifr_scopes.specs.code.Lists.{statement_node};
 ghost use Rattle.ifr_scopes.specs.code.GivingLeft.{giving_left};
 ghost use Rattle.ifr_nodes.specs.Nodes.{nodes_of};
 ghost use Rattle.ifr_defaults.specs.code.DefaultSources.{gives};
-ghost use Rattle.hii_questions.specs.code.Offers.{offer_of};
+ghost use Rattle.hii_values.specs.code.Offers.{offer_of};
 ghost use Rattle.hii_questions.specs.code.Views.{question_node};
 ghost use Rattle.guard_policy.specs.code.Views.{bytes_of};
 ghost use Rattle.session_steps.specs.Renewed.{field_writes, pressed_if};

@@ -7,8 +7,8 @@ use Rattle.std.proofs.lemmas.List.Elements.{Contains-append_left, Contains-appen
 use Rattle.ifr_opcodes.specs.Fields.{option_value}
 use Rattle.ifr_opcodes.specs.Forest.{Node}
 use Rattle.ifr_nodes.specs.Nodes.{options, inconsistents, warnings}
-use Rattle.ifr_scopes.proofs.OptionsOfLemmas.{passes}
-use Rattle.ifr_scopes.proofs.PathLemmas.{kept}
+use Rattle.ifr_index.proofs.OptionsOfLemmas.{passes}
+use Rattle.ifr_index.proofs.PathLemmas.{kept}
 use Rattle.ifr_nodes.proofs.ViewLemmas.{further}
 use Rattle.hii_questions.specs.code.Views.{question_node}
 use Rattle.hii_questions.specs.declared.question.Question.{Question}

@@ -15,7 +15,7 @@ use Rattle.ifr_opcodes.specs.Forest.{Node, below, node_at}
 use Rattle.ifr_opcodes.specs.Reading.{tree_of}
 use Rattle.ifr_nodes.specs.Nodes.{nodes_of, is_question, is_statement, statements}
 use Rattle.ifr_scopes.proofs.FormPlaceLemmas.{found}
-use Rattle.ifr_scopes.proofs.OptionsOfLemmas.{passes}
+use Rattle.ifr_index.proofs.OptionsOfLemmas.{passes}
 use Rattle.ifr_nodes.proofs.ViewLemmas.{below_within, contains_found, further}
 use Rattle.hii_varstore.specs.Stores.{StoreMap, shape_of, are_same_bytes, bytes_of, byte_of}
 use Rattle.hii_varstore.proofs.WriteLemmas.{byte_after}
@@ -23,15 +23,16 @@ use Rattle.browser_rules.specs.Configuration.{Header, Block}
 use Rattle.config_text.specs.Reading.{configuration_in}
 use Rattle.config_text.specs.declared.kind.TextKind.TheVariants.{Ask, Tell}
 use Rattle.hii_bytes.specs.declared.cause.Cause.{Cause}
+use Rattle.hii_values.specs.Types.{is_password}
+use Rattle.hii_values.specs.Inputs as inputs
+use Rattle.hii_values.specs.Inputs.{Offer, whole, listed, utf8}
+use Rattle.hii_values.specs.declared.denial.DenialKind.{DenialKind}
+use Rattle.hii_values.specs.declared.denial.DenialKind.TheVariants.{NotButton, Password}
 use Rattle.hii_questions.specs.Changes.{field_bytes, with_field}
-use Rattle.hii_questions.specs.Fields.{Field, Asked, asked, questions, has_field, field_of, question_with, is_password}
+use Rattle.hii_questions.specs.Fields.{Field, Asked, asked, questions, has_field, field_of, question_with}
 use Rattle.hii_questions.specs.Fits.{fits, values_offered}
-use Rattle.hii_questions.specs.Inputs as inputs
-use Rattle.hii_questions.specs.Inputs.{Offer, whole, listed, utf8}
 use Rattle.hii_questions.proofs.FieldLemmas.{passing, have_the_field}
 use Rattle.hii_questions.proofs.LawLemmas.{fits_wide}
-use Rattle.hii_questions.specs.declared.denial.DenialKind.{DenialKind}
-use Rattle.hii_questions.specs.declared.denial.DenialKind.TheVariants.{NotButton, Password}
 use Rattle.ifr_defaults.specs.Defaults.{default_of}
 use Rattle.guard_policy.specs.Policy.{denied_by, fixed, unsubmitted}
 use Rattle.guard_policy.specs.World.{World}

@@ -12,12 +12,12 @@ use Rattle.ifr_opcodes.specs.declared.codes.TheConstants.{RESET_BUTTON}
 use Rattle.ifr_nodes.specs.Nodes.{nodes_of, is_reference}
 use Rattle.ifr_nodes.specs.ReferenceFaults.{form_with}
 use Rattle.hii_varstore.specs.Stores.{StoreMap}
+use Rattle.hii_values.specs.Inputs.{Offer, whole, listed, utf8}
+use Rattle.hii_values.specs.declared.denial.DenialKind.{DenialKind}
+use Rattle.hii_values.specs.declared.denial.DenialKind.TheVariants.{NotRef, NotButton, DeepHistory}
 use Rattle.hii_questions.specs.Changes.{with_field}
 use Rattle.hii_questions.specs.Fields.{field_of, question_with}
 use Rattle.hii_questions.specs.Fits.{fits, values_offered}
-use Rattle.hii_questions.specs.Inputs.{Offer, whole, listed, utf8}
-use Rattle.hii_questions.specs.declared.denial.DenialKind.{DenialKind}
-use Rattle.hii_questions.specs.declared.denial.DenialKind.TheVariants.{NotRef, NotButton, DeepHistory}
 use Rattle.guard_policy.specs.Policy.{denied_by, hidden, fixed, unsubmitted}
 use Rattle.guard_policy.specs.declared.denial.Denial.{Denial}
 use Rattle.browser_rules.specs.Script as script

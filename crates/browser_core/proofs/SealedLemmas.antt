@@ -11,12 +11,12 @@ use Rattle.ifr_nodes.proofs.ViewLemmas.{further}
 use Rattle.hii_varstore.specs.Layout.{Shape, size_of}
 use Rattle.hii_varstore.specs.Stores.{StoreMap, shape_of, bytes_of, overwritten}
 use Rattle.hii_varstore.proofs.WriteLemmas.{bytes_after, sizes}
+use Rattle.hii_values.specs.Inputs.{Offer, whole, listed, utf8}
+use Rattle.hii_values.specs.Types.{type_of}
+use Rattle.hii_values.specs.declared.denial.DenialKind.{DenialKind}
 use Rattle.hii_questions.specs.Answers.{answers, answer_of, value_of_field, value_of_bytes}
 use Rattle.hii_questions.specs.Fields.{Field, field_of, question_with}
 use Rattle.hii_questions.specs.Fits.{fits, values_offered}
-use Rattle.hii_questions.specs.Inputs.{Offer, whole, listed, utf8}
-use Rattle.hii_questions.specs.Types.{type_of}
-use Rattle.hii_questions.specs.declared.denial.DenialKind.{DenialKind}
 use Rattle.hii_questions.specs.Changes.{field_bytes, with_field}
 use Rattle.guard_policy.specs.Policy.{or_else, fixed, closed, first_closed, inconsistent, warned}
 use Rattle.guard_policy.specs.laws.Support.{around, support_over}

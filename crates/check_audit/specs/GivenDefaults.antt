@@ -8,11 +8,11 @@ use Rattle.ifr_opcodes.specs.Forest.{Node}
 use Rattle.ifr_opcodes.specs.declared.kinds.TheConstants.{TYPE_BOOLEAN, TYPE_BUFFER, TYPE_STRING}
 use Rattle.ifr_expr.specs.Values.{undefined}
 use Rattle.ifr_nodes.specs.Nodes.{defaults}
+use Rattle.hii_values.specs.Inputs.{Offer}
+use Rattle.hii_values.specs.Types.{type_of}
+use Rattle.hii_values.specs.declared.denial.DenialKind.{DenialKind}
 use Rattle.hii_questions.specs.Fields.{Asked, questions}
 use Rattle.hii_questions.specs.Fits.{fits_field}
-use Rattle.hii_questions.specs.Inputs.{Offer}
-use Rattle.hii_questions.specs.Types.{type_of}
-use Rattle.hii_questions.specs.declared.denial.DenialKind.{DenialKind}
 use Rattle.ifr_defaults.specs.Defaults.{Sources, given}
 use Rattle.check_audit.specs.declared.warning.Oddity.TheVariants.{Default}
 use Rattle.check_audit.specs.declared.warning.Warning.{Warning}

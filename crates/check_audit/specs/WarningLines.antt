@@ -2,8 +2,8 @@
 use Rattle.std.specs.Prelude.{ℕ, Bool, ◌==◌, if◌then◌else◌, Option, Some, None, false, List, [], ◌++◌, ◌∷◌, codes, decimal, slice_get}
 use Rattle.std.specs.Fmt.{signed_decimal}
 use Rattle.hii_bytes.specs.Texts.{place_text}
-use Rattle.hii_questions.specs.Denials.{kind_name}
-use Rattle.hii_questions.specs.declared.denial.DenialKind.{DenialKind}
+use Rattle.hii_values.specs.Denials.{kind_name}
+use Rattle.hii_values.specs.declared.denial.DenialKind.{DenialKind}
 use Rattle.audit_text.specs.Texts.{language_name}
 use Rattle.audit_text.specs.Words.{opcode_name}
 use Rattle.audit_json.specs.Objects.{member, number_member, object, text_member, true_member, word_member}

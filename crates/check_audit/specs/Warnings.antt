@@ -15,9 +15,9 @@ use Rattle.ifr_nodes.specs.Guards.{is_guard}
 use Rattle.ifr_nodes.specs.NodeExpressions.{expression_tree, value_tree}
 use Rattle.ifr_nodes.specs.Nodes.{defaults, is_form, is_reference, is_statement, nodes_of}
 use Rattle.ifr_nodes.specs.Rules.{as_rule, is_rule}
+use Rattle.hii_values.specs.Inputs.{number_of_bits}
+use Rattle.hii_values.specs.Types.{is_signed}
 use Rattle.hii_questions.specs.Fields.{Asked, Field, asked, question_with, questions}
-use Rattle.hii_questions.specs.Inputs.{number_of_bits}
-use Rattle.hii_questions.specs.Types.{is_signed}
 use Rattle.opcode_audit.specs.Facts.{string_ids}
 use Rattle.opcode_audit.specs.Walk.{opcodes_in}
 use Rattle.check_audit.specs.Constants.{constant_warnings}

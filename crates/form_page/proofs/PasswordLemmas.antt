@@ -7,11 +7,12 @@ use Rattle.ifr_opcodes.specs.Forest.{Node}
 use Rattle.ifr_opcodes.specs.Opcode.{number}
 use Rattle.ifr_opcodes.specs.declared.codes.TheConstants.{PASSWORD}
 use Rattle.hii_varstore.specs.code.Ranges.{IsCut}
-use Rattle.hii_questions.specs.Answers.{answer_in, value_of_bytes}
-use Rattle.hii_questions.specs.FieldTypes.{FieldType, text, size_of_type}
-use Rattle.hii_questions.specs.Fields.{Field, field_width, is_password}
-use Rattle.hii_questions.specs.Items.{items_in, bytes_of_items}
-use Rattle.hii_questions.specs.Types.{type_of}
+use Rattle.hii_values.specs.Answers.{answer_in}
+use Rattle.hii_values.specs.FieldTypes.{FieldType, text, size_of_type}
+use Rattle.hii_values.specs.Types.{is_password, type_of}
+use Rattle.hii_values.specs.Items.{items_in, bytes_of_items}
+use Rattle.hii_questions.specs.Answers.{value_of_bytes}
+use Rattle.hii_questions.specs.Fields.{Field, field_width}
 use Rattle.hii_questions.specs.code.Ranges.{HasWidth, range_in}
 use Rattle.hii_questions.specs.declared.field_range.FieldRange.{FieldRange}
 use Rattle.guard_policy.specs.World.{World}

@@ -4,12 +4,13 @@ use Rattle.std.proofs.lemmas.Bool.{cases_Bool, cond-true, cond-false}
 use Rattle.ifr_expr.specs.Values.{text as text_value}
 use Rattle.ifr_opcodes.specs.Forest.{Node}
 use Rattle.hii_varstore.specs.Stores.{StoreMap, bytes_of_field as field_bytes}
-use Rattle.hii_questions.specs.Answers.{answer_in, value_of_bytes, value_of_field}
-use Rattle.hii_questions.specs.FieldTypes.{FieldType, checkbox, numeric, one_of, text, ordered_list, size_of_type}
+use Rattle.hii_values.specs.Answers.{answer_in}
+use Rattle.hii_values.specs.FieldTypes.{FieldType, checkbox, numeric, one_of, text, ordered_list, size_of_type}
+use Rattle.hii_values.specs.Items.{items_in, bytes_of_items}
+use Rattle.hii_values.specs.Types.{type_of}
+use Rattle.hii_values.proofs.ItemLemmas.{items_within}
+use Rattle.hii_questions.specs.Answers.{value_of_bytes, value_of_field}
 use Rattle.hii_questions.specs.Fields.{Field}
-use Rattle.hii_questions.specs.Items.{items_in, bytes_of_items}
-use Rattle.hii_questions.specs.Types.{type_of}
-use Rattle.hii_questions.proofs.ItemLemmas.{items_within}
 
 whole : (bytes : List ℕ) → length (bytes_of_items 2 bytes) % 2 ≡ 0
 whole bytes =

@@ -12,11 +12,11 @@ use Rattle.ifr_opcodes.specs.Forest.{Node}
 use Rattle.ifr_expr.specs.Values.{Value, boolean, natural, text, buffer}
 use Rattle.ifr_nodes.specs.Nodes.{options, is_question}
 use Rattle.hii_varstore.specs.Stores.{StoreMap}
+use Rattle.hii_values.specs.Inputs.{number_of_bits}
+use Rattle.hii_values.specs.Items.{items_in}
+use Rattle.hii_values.specs.Types.{element_width}
 use Rattle.hii_questions.specs.Answers.{value_of_field}
 use Rattle.hii_questions.specs.Fields.{field_of}
-use Rattle.hii_questions.specs.Inputs.{number_of_bits}
-use Rattle.hii_questions.specs.Items.{items_in}
-use Rattle.hii_questions.specs.Types.{element_width}
 use Rattle.guard_policy.specs.Policy.{hidden}
 use Rattle.guard_policy.specs.World.{World}
 

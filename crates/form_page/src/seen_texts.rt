@@ -6,7 +6,7 @@ ghost use Rattle.ifr_nodes.specs.Nodes.{options};
 ghost use Rattle.ifr_nodes.specs.code.Checked.{IsNodeOf};
 ghost use Rattle.ifr_scopes.specs.code.Lists.{statement_node};
 ghost use Rattle.ifr_scopes.specs.code.Parts.{option_node};
-ghost use Rattle.hii_questions.specs.code.MetValues.{is_met, is_sought};
+ghost use Rattle.hii_values.specs.code.MetValues.{is_met, is_sought};
 ghost use Rattle.guard_policy.specs.code.Effects.{AreEffectsBy};
 ghost use Rattle.guard_policy.specs.code.Views.{bytes_of};
 ghost use Rattle.form_page.specs.code.PageViews.{world_of};

@@ -10,8 +10,8 @@ use Rattle.ifr_opcodes.specs.Forest.{Node}
 use Rattle.ifr_opcodes.specs.Opcode.{number}
 use Rattle.ifr_opcodes.specs.Rows.{row_of, is_question_number}
 use Rattle.ifr_nodes.specs.Nodes.{is_option, is_question}
-use Rattle.hii_questions.specs.code.MetValues.{is_met, is_sought}
-use Rattle.hii_questions.specs.declared.met_values.MetValues.{MetValues}
+use Rattle.hii_values.specs.code.MetValues.{is_met, is_sought}
+use Rattle.hii_values.specs.declared.met_values.MetValues.{MetValues}
 use Rattle.guard_policy.specs.Policy.{covered, fixed, all_fixed}
 use Rattle.guard_policy.specs.World.{World}
 use Rattle.guard_policy.specs.code.OpenValues.{opens}

@@ -14,8 +14,8 @@ use Rattle.ifr_opcodes.specs.Rows.{is_among}
 use Rattle.ifr_nodes.specs.Guards.{guards}
 use Rattle.ifr_nodes.specs.Locks.{first_lock}
 use Rattle.ifr_nodes.specs.Nodes.{is_question}
+use Rattle.hii_values.specs.declared.denial.DenialKind.TheVariants.{GrayOutIf, Locked}
 use Rattle.hii_questions.specs.Fields.{Asked, asked}
-use Rattle.hii_questions.specs.declared.denial.DenialKind.TheVariants.{GrayOutIf, Locked}
 use Rattle.guard_policy.specs.Policy.{covered, denied_by, fixed, fixed_itself, fixed_question, grays_out, hidden, hides, or_else}
 use Rattle.guard_policy.specs.World.{World, is_met}
 use Rattle.guard_policy.specs.declared.denial.Denial.{Denial}

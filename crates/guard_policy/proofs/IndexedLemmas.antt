@@ -5,10 +5,10 @@ use Rattle.ifr_opcodes.specs.Forest.{Node, SpellsForest}
 use Rattle.ifr_opcodes.specs.Reading.{tree_of}
 use Rattle.ifr_nodes.specs.Guards.{guards}
 use Rattle.ifr_nodes.specs.code.Checked.{IsNodeOf}
-use Rattle.ifr_scopes.specs.code.Index.{is_indexed, guards_of_indexed, lock_of_indexed}
+use Rattle.ifr_index.specs.code.Index.{is_indexed, guards_of_indexed, lock_of_indexed}
 use Rattle.ifr_nodes.specs.Locks.{first_lock}
 use Rattle.ifr_nodes.specs.Nodes.{nodes_of, is_form, is_statement, is_option}
-use Rattle.ifr_scopes.proofs.PathLemmas.{own_guards, own_lock}
+use Rattle.ifr_index.proofs.PathLemmas.{own_guards, own_lock}
 use Rattle.ifr_nodes.proofs.ViewLemmas.{contains_found}
 
 pub of_form : (n : Node) → is_form n ≡ true → is_indexed n ≡ true

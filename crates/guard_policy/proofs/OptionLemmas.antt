@@ -7,7 +7,7 @@ use Rattle.ifr_opcodes.specs.Forest.{Node, below, SpellsForest}
 use Rattle.ifr_opcodes.specs.Reading.{tree_of}
 use Rattle.ifr_nodes.specs.code.Checked.{IsNodeOf, AreNodesOf}
 use Rattle.ifr_nodes.specs.Nodes.{nodes_of, is_option, is_question, options}
-use Rattle.ifr_scopes.proofs.PathLemmas.{kept}
+use Rattle.ifr_index.proofs.PathLemmas.{kept}
 use Rattle.ifr_nodes.proofs.PlaceLemmas.{is_found}
 use Rattle.ifr_nodes.proofs.ViewLemmas.{below_within, contains_found}
 

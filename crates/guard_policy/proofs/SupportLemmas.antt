@@ -18,9 +18,9 @@ use Rattle.ifr_nodes.specs.Locks.{first_lock}
 use Rattle.ifr_nodes.specs.Nodes.{is_no_submit, options, inconsistents, warnings, this_of}
 use Rattle.ifr_nodes.specs.Rules.{rules_among}
 use Rattle.hii_varstore.specs.Stores.{StoreMap}
+use Rattle.hii_values.specs.declared.denial.DenialKind.TheVariants.{GrayOutIf, Locked, InconsistentIf, NoSubmitIf}
 use Rattle.hii_questions.specs.Answers.{answers}
 use Rattle.hii_questions.specs.code.Views.{question_node}
-use Rattle.hii_questions.specs.declared.denial.DenialKind.TheVariants.{GrayOutIf, Locked, InconsistentIf, NoSubmitIf}
 use Rattle.guard_policy.specs.Policy.{denied_by, told, or_else, is_removed, hides, hiding, hidden, grays_out, fixed_itself, fixed, all_fixed, closed, inconsistent, unsubmitted, warned}
 use Rattle.guard_policy.specs.Conditions.{condition_ids}
 use Rattle.guard_policy.specs.laws.Support.{suppressing, graying_out, around, counts, conditions, denial, warning_of, support_over, AnswersAgree, until_met, is_by_first}

@@ -9,9 +9,9 @@ use Rattle.ifr_nodes.specs.Guards.{guards}
 use Rattle.ifr_nodes.specs.Locks.{first_lock}
 use Rattle.ifr_nodes.specs.Nodes.{nodes_of}
 use Rattle.ifr_scopes.specs.code.AroundViews.{around_guards, around_innermost, around_lock, around_package}
-use Rattle.ifr_scopes.specs.code.Tables.{guards_from}
+use Rattle.ifr_index.specs.code.Tables.{guards_from}
 use Rattle.ifr_scopes.specs.declared.around.Around.{Around}
-use Rattle.hii_questions.specs.declared.denial.DenialKind.TheVariants.{GrayOutIf}
+use Rattle.hii_values.specs.declared.denial.DenialKind.TheVariants.{GrayOutIf}
 use Rattle.guard_policy.specs.Policy.{or_else, covered_by, covered, denied_by, fixed, fixed_itself, grays_out, hidden_among}
 use Rattle.guard_policy.specs.World.{World}
 use Rattle.guard_policy.specs.code.Effects.{AreEffects}

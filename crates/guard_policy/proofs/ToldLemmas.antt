@@ -13,7 +13,7 @@ use Rattle.ifr_opcodes.specs.Reading.{tree_of}
 use Rattle.ifr_nodes.specs.Accepted.{IsAccepted}
 use Rattle.ifr_nodes.specs.code.Checked.{IsNodeOf, or_empty}
 use Rattle.ifr_nodes.specs.Guards.{is_guard, nodes_on, ancestors, guards}
-use Rattle.ifr_scopes.specs.code.Index.{is_conditional, kind_at}
+use Rattle.ifr_index.specs.code.Index.{is_conditional, kind_at}
 use Rattle.ifr_opcodes.specs.Rows.{row_of, is_condition_number}
 use Rattle.ifr_scopes.specs.code.Lists.{form_node, statement_node}
 use Rattle.ifr_nodes.specs.Nodes.{nodes_of, is_no_submit, options}

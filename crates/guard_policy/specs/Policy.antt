@@ -11,9 +11,9 @@ use Rattle.ifr_nodes.specs.NodeExpressions.{message}
 use Rattle.ifr_nodes.specs.Guards.{guards}
 use Rattle.ifr_nodes.specs.Locks.{first_lock}
 use Rattle.ifr_nodes.specs.Nodes.{is_question, is_reference, is_no_submit, options, inconsistents, warnings}
+use Rattle.hii_values.specs.declared.denial.DenialKind.{DenialKind}
+use Rattle.hii_values.specs.declared.denial.DenialKind.TheVariants.{DisableIf, SuppressIf, GrayOutIf, Locked, ReadOnly, Outside, InconsistentIf, NoSubmitIf}
 use Rattle.hii_questions.specs.Fields.{Asked, asked}
-use Rattle.hii_questions.specs.declared.denial.DenialKind.{DenialKind}
-use Rattle.hii_questions.specs.declared.denial.DenialKind.TheVariants.{DisableIf, SuppressIf, GrayOutIf, Locked, ReadOnly, Outside, InconsistentIf, NoSubmitIf}
 use Rattle.guard_policy.specs.World.{World, is_met}
 use Rattle.guard_policy.specs.declared.denial.Denial.{Denial}
 

@@ -4,7 +4,7 @@ ghost use Rattle.std.specs.Prelude.{◌≡◌, true};
 ghost use Rattle.std.specs.Iterator.{YieldsFirstBy};
 ghost use Rattle.ifr_opcodes.specs.Forest.{Node};
 ghost use Rattle.ifr_nodes.specs.code.Checked.{IsNodeOf};
-ghost use Rattle.ifr_scopes.specs.code.Index.{is_indexed};
+ghost use Rattle.ifr_index.specs.code.Index.{is_indexed};
 ghost use Rattle.ifr_scopes.specs.code.Lists.{guard_node};
 ghost use Rattle.guard_policy.specs.code.AskedLeft.{numbered_left, around_left, around_one_left};
 ghost use Rattle.guard_policy.specs.laws.Support.{suppressing, around};

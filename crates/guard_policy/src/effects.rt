@@ -4,7 +4,7 @@ ghost use Rattle.std.specs.Prelude.{◌≡◌, None, option_map};
 ghost use Rattle.std.specs.List.{find};
 ghost use Rattle.ifr_scopes.specs.code.AroundViews.{around_guards, around_innermost, around_package};
 ghost use Rattle.ifr_scopes.specs.code.Lists.{guard_node};
-ghost use Rattle.hii_questions.specs.declared.denial.DenialKind.TheVariants.{GrayOutIf};
+ghost use Rattle.hii_values.specs.declared.denial.DenialKind.TheVariants.{GrayOutIf};
 ghost use Rattle.guard_policy.specs.Policy as spec;
 ghost use Rattle.guard_policy.specs.World.{World};
 ghost use Rattle.guard_policy.specs.code.Effects.{AreEffects};

@@ -6,7 +6,7 @@ use Rattle.ifr_opcodes.specs.Forest.{Node, as_ancestor, below}
 use Rattle.ifr_opcodes.specs.Reading.{tree_of}
 use Rattle.ifr_nodes.specs.Checked.{IsChecked}
 use Rattle.ifr_nodes.specs.Nodes.{nodes_of, is_question}
-use Rattle.ifr_scopes.proofs.QuestionFacts.{no_statement_inside}
+use Rattle.ifr_index.proofs.QuestionFacts.{no_statement_inside}
 use Rattle.ifr_nodes.proofs.ScopeLemmas.{path_inside}
 use Rattle.ifr_nodes.proofs.ViewLemmas.{below_within, further}
 use Rattle.hii_questions.proofs.QuestionLemmas.{question_is_statement}

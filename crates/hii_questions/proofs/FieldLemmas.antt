@@ -12,7 +12,8 @@ use Rattle.ifr_nodes.specs.Nodes.{nodes_of}
 use Rattle.ifr_nodes.specs.code.Checked.{node_in}
 use Rattle.ifr_nodes.proofs.ViewLemmas.{further}
 use Rattle.hii_varstore.proofs.TableLemmas.{is_eq-nat_cmp}
-use Rattle.hii_questions.specs.Fields.{Field, questions, field_passes, is_same_field, has_field, is_password, is_password_in}
+use Rattle.hii_values.specs.Types.{is_password}
+use Rattle.hii_questions.specs.Fields.{Field, questions, field_passes, is_same_field, has_field, is_password_in}
 use Rattle.hii_questions.specs.code.ByField.{has_range, range_cmp}
 use Rattle.hii_questions.specs.code.Entries.{AreQuestionEntries, IsQuestionEntry, entry_field, entry_view}
 use Rattle.hii_questions.specs.code.Ranges.{range_in}

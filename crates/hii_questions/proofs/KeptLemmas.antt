@@ -12,15 +12,15 @@ use Rattle.byteorder.specs.Numbers.{little_number-reads_back, length-bytes_low_f
 use Rattle.hii_bytes.specs.Numbers.{AreBytes}
 use Rattle.ifr_expr.specs.Values as values
 use Rattle.ifr_expr.specs.Values.{natural, buffer}
-use Rattle.hii_questions.specs.Answers.{answer_in}
-use Rattle.hii_questions.specs.FieldTypes.{FieldType, checkbox, numeric, one_of, text, ordered_list, size_of_type}
-use Rattle.hii_questions.specs.Inputs.{Offer, whole, raw, utf8, units, listed, elements, fits_type, checkbox_number, bits_of, fitting_bits, numeric_bytes, number_of_bits, is_offered, offered, chosen_bytes, text_bytes, is_text, is_bad_character, element_denial, bytes_unless, list_bytes}
-use Rattle.hii_questions.specs.Items.{items_in, is_item, spelled, filled, numbers, bytes_of_items}
+use Rattle.hii_values.specs.Answers.{answer_in}
+use Rattle.hii_values.specs.FieldTypes.{FieldType, checkbox, numeric, one_of, text, ordered_list, size_of_type}
+use Rattle.hii_values.specs.Inputs.{Offer, whole, raw, utf8, units, listed, elements, fits_type, checkbox_number, bits_of, fitting_bits, numeric_bytes, number_of_bits, is_offered, offered, chosen_bytes, text_bytes, is_text, is_bad_character, element_denial, bytes_unless, list_bytes}
+use Rattle.hii_values.specs.Items.{items_in, is_item, spelled, filled, numbers, bytes_of_items}
+use Rattle.hii_values.specs.declared.denial.DenialKind.{DenialKind}
+use Rattle.hii_values.specs.declared.denial.DenialKind.TheVariants.{Range, NoOption, Length, EmptySet, BadText}
+use Rattle.hii_values.proofs.ItemLemmas.{while_more}
+use Rattle.hii_values.proofs.ListLemmas.{length_spelled}
 use Rattle.hii_questions.specs.laws.Fields.{complement, choice, taken_as, HasBytes}
-use Rattle.hii_questions.specs.declared.denial.DenialKind.{DenialKind}
-use Rattle.hii_questions.specs.declared.denial.DenialKind.TheVariants.{Range, NoOption, Length, EmptySet, BadText}
-use Rattle.hii_questions.proofs.ItemLemmas.{while_more}
-use Rattle.hii_questions.proofs.ListLemmas.{length_spelled}
 use Rattle.hii_questions.proofs.SpellLemmas.{AreItems, bytes_back}
 
 -- the values of options fit

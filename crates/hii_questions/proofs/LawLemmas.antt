@@ -19,14 +19,14 @@ use Rattle.hii_varstore.specs.code.Ranges.{HasRange}
 use Rattle.hii_varstore.specs.StoreNodes.{layout_of}
 use Rattle.hii_varstore.specs.Stores.{StoreMap, shape_of, with_bytes, bytes_of_field as field_bytes}
 use Rattle.hii_varstore.proofs.WriteLemmas.{field_back, field_after}
+use Rattle.hii_values.specs.FieldTypes.{FieldType, checkbox, numeric, one_of, text, ordered_list, size_of_type}
+use Rattle.hii_values.specs.Inputs.{Offer, units, field, field_as, read_as, is_offered}
+use Rattle.hii_values.specs.Types.{is_signed, element_width, type_of, option_values}
 use Rattle.hii_questions.specs.Answers.{value_of_bytes}
 use Rattle.hii_questions.specs.Faults.{IsQuestionFault, itself, option, has_field_fault, has_option_fault, parts_of, is_known, is_past, is_field_outside, is_option_too_large}
 use Rattle.hii_questions.specs.Fields.{Field, Asked, asked, questions, field_in, field_of, field_width, question_with}
-use Rattle.hii_questions.specs.FieldTypes.{FieldType, checkbox, numeric, one_of, text, ordered_list, size_of_type}
 use Rattle.hii_questions.specs.Fits.{fits_field}
-use Rattle.hii_questions.specs.Inputs.{Offer, units, field, field_as, read_as, is_offered}
 use Rattle.hii_questions.specs.laws.Fields.{HoldsFields, FindsQuestions, ReadsBack, LeavesOthers, HasBytes, taken_value, FillsFields}
-use Rattle.hii_questions.specs.Types.{is_signed, element_width, type_of, option_values}
 use Rattle.hii_questions.proofs.KeptLemmas.{IsSound, kept, wide}
 
 pub finds_questions : FindsQuestions

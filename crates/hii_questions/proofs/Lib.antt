@@ -1,5 +1,3 @@
-pub mod ItemLemmas
-pub mod ListLemmas
 pub mod FaultLemmas
 pub mod QuestionLemmas
 pub mod DifferingLemmas
@@ -18,6 +16,4 @@ pub mod LawLemmas
 pub mod NamedLemmas
 pub mod MergeLemmas
 pub mod StepLemmas
-pub mod UnitLemmas
 pub mod ReadLemmas
-pub mod MetLemmas

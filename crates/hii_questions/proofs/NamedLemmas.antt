@@ -16,26 +16,27 @@ use Rattle.ifr_opcodes.specs.Reading.{tree_of}
 use Rattle.ifr_opcodes.specs.declared.codes.TheConstants.{ORDERED_LIST}
 use Rattle.ifr_nodes.specs.Accepted.{IsAccepted}
 use Rattle.ifr_nodes.specs.Nodes.{nodes_of, is_option, is_question, options}
-use Rattle.ifr_scopes.proofs.PathLemmas.{kept}
+use Rattle.ifr_index.proofs.PathLemmas.{kept}
 use Rattle.ifr_nodes.proofs.PlaceLemmas.{node_stands}
 use Rattle.ifr_nodes.proofs.ViewLemmas.{below_within}
-use Rattle.hii_questions.specs.Answers.{answer_in, value_of_bytes}
+use Rattle.hii_values.specs.Answers.{answer_in}
+use Rattle.hii_values.specs.FieldTypes.{FieldType, checkbox, numeric, one_of, text, ordered_list, size_of_type}
+use Rattle.hii_values.specs.Inputs.{Offer, whole, raw, listed, elements, read_as, fits_type, is_offered, offered, chosen_bytes, list_bytes, number_named, values_in}
+use Rattle.hii_values.specs.Items.{items_in, spelled, filled}
+use Rattle.hii_values.specs.Types.{element_width, first_kind, width_of_kind, type_of, option_values}
+use Rattle.hii_values.specs.code.Fitting.{one_item, offered_items, names_options, denial_behind}
+use Rattle.hii_values.specs.declared.denial.DenialKind.TheVariants.{NoOption, Repeat}
+use Rattle.hii_values.proofs.ListLemmas.{first_denied}
+use Rattle.hii_questions.specs.Answers.{value_of_bytes}
 use Rattle.hii_questions.specs.Faults.{IsQuestionFault, is_mixed, is_of_another_type}
 use Rattle.hii_varstore.specs.code.Ranges.{HasRange}
 use Rattle.hii_varstore.specs.Stores.{shape_of, with_bytes, bytes_of_field as field_bytes}
 use Rattle.hii_varstore.proofs.WriteLemmas.{field_back}
 use Rattle.hii_questions.specs.Fields.{Field, field_of}
 use Rattle.hii_questions.specs.Fits.{fits_field, values_for}
-use Rattle.hii_questions.specs.FieldTypes.{FieldType, checkbox, numeric, one_of, text, ordered_list, size_of_type}
-use Rattle.hii_questions.specs.Inputs.{Offer, whole, raw, listed, elements, read_as, fits_type, is_offered, offered, chosen_bytes, list_bytes, number_named, values_in}
-use Rattle.hii_questions.specs.Items.{items_in, spelled, filled}
-use Rattle.hii_questions.specs.Types.{element_width, first_kind, width_of_kind, type_of, option_values}
 use Rattle.hii_questions.specs.code.Checks.{ValuesFit}
-use Rattle.hii_questions.specs.code.Fitting.{one_item, offered_items, names_options, denial_behind}
 use Rattle.hii_questions.specs.laws.Fields.{named_values, NamesWhatWasOffered}
-use Rattle.hii_questions.specs.declared.denial.DenialKind.TheVariants.{NoOption, Repeat}
 use Rattle.hii_questions.proofs.KeptLemmas.{IsSound, number_back, chosen_are, list_are, wide}
-use Rattle.hii_questions.proofs.ListLemmas.{first_denied}
 use Rattle.hii_questions.proofs.LawLemmas.{SoundWith, by_type, option_sound, with_value, type_sound, fits_wide}
 use Rattle.hii_questions.proofs.SpellLemmas.{AreItems, items_back}
 

@@ -16,7 +16,8 @@ use Rattle.ifr_nodes.specs.Nodes.{is_question, is_store, nodes_of, options}
 use Rattle.ifr_scopes.specs.Stores.{store_id, store_size}
 use Rattle.hii_varstore.specs.Layout.{Shape, size_of}
 use Rattle.hii_varstore.specs.StoreNodes.{declared_buffer, layout_of}
-use Rattle.hii_questions.specs.Fields.{Asked, Field, asked_at, field_at, field_in, field_width, is_password, questions}
+use Rattle.hii_values.specs.Types.{is_password}
+use Rattle.hii_questions.specs.Fields.{Asked, Field, asked_at, field_at, field_in, field_width, questions}
 use Rattle.hii_questions.specs.Faults.{parts_of, is_known, lacks_store, is_field_outside, is_past}
 use Rattle.hii_questions.specs.code.Entries.{entry_view}
 use Rattle.hii_questions.specs.code.FaultTells.{TellsFault, first_part_fault, first_option_fault, reaches_past}

@@ -4,9 +4,9 @@ use Rattle.std.proofs.lemmas.Bool.{cases_Bool, ltb-true, ltb-false, ne_eqb}
 use Rattle.std.proofs.lemmas.List.{drop_at, take_at, get_or-replicate, get_or_past, length-replicate}
 use Rattle.byteorder.specs.Endian.{little_from, little_bytes}
 use Rattle.byteorder.specs.Numbers.{little_number-reads_back, length-bytes_low_first}
-use Rattle.hii_questions.specs.Items.{items_in, bytes_of_items, spelled, filled}
-use Rattle.hii_questions.proofs.ItemLemmas.{items_short, items_end, items_more}
-use Rattle.hii_questions.proofs.ListLemmas.{length_spelled}
+use Rattle.hii_values.specs.Items.{items_in, bytes_of_items, spelled, filled}
+use Rattle.hii_values.proofs.ItemLemmas.{items_short, items_end, items_more}
+use Rattle.hii_values.proofs.ListLemmas.{length_spelled}
 
 zero_at : (k i : ℕ) → ◌≡◌ {A = ℕ} (get_or (replicate k 0) i 0) 0
 zero_at k i = elim (cases_Bool (ltb i k)) [

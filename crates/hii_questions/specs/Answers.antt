@@ -1,24 +1,12 @@
--- What questions answer: the values of their fields (UEFI 2.8, 33.2.5.4 Questions; which value a field's bytes are is an own
--- rule).
-use Rattle.std.specs.Prelude.{ℕ, ◌==◌, not, if◌then◌else◌, Option, Some, None, List, length, slice_index}
-use Rattle.byteorder.specs.Endian.{little_number}
+-- What questions answer: the values of their fields (UEFI 2.8, 33.2.5.4 Questions).
+use Rattle.std.specs.Prelude.{ℕ, ◌==◌, if◌then◌else◌, Option, Some, None, List, length}
 use Rattle.ifr_opcodes.specs.Forest.{Node}
-use Rattle.ifr_expr.specs.Values as values
-use Rattle.ifr_expr.specs.Values.{Value, undefined, boolean, natural, buffer}
+use Rattle.ifr_expr.specs.Values.{Value, undefined}
 use Rattle.hii_varstore.specs.Stores.{StoreMap, bytes_of_field as field_bytes}
-use Rattle.hii_questions.specs.FieldTypes.{FieldType, checkbox, numeric, one_of, text, ordered_list, size_of_type}
+use Rattle.hii_values.specs.Answers.{answer_in}
+use Rattle.hii_values.specs.FieldTypes.{FieldType, size_of_type}
+use Rattle.hii_values.specs.Types.{type_of}
 use Rattle.hii_questions.specs.Fields.{Field, field_of, question_with}
-use Rattle.hii_questions.specs.Items.{bytes_of_items}
-use Rattle.hii_questions.specs.Types.{type_of}
-
--- A checkbox is true where its byte is not 0. A number has no sign, whatever is shown. A text ends at its first zero unit. A
--- list is the whole field.
-abbrev pub answer_in : FieldType → List ℕ → Value
-answer_in checkbox bytes = boolean (not (slice_index bytes 0 == 0))
-answer_in (numeric signed width minimum maximum) bytes = natural (little_number width bytes)
-answer_in (one_of width values) bytes = natural (little_number width bytes)
-answer_in (text minimum maximum) bytes = values.text (bytes_of_items 2 bytes)
-answer_in (ordered_list width most unique some values) bytes = buffer bytes
 
 -- A store that does not hold the whole field gives no value.
 abbrev pub value_of_bytes : Option FieldType → Option (List ℕ) → Value

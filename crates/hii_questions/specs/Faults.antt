@@ -12,8 +12,8 @@ use Rattle.ifr_nodes.specs.Nodes.{is_store, options}
 use Rattle.ifr_scopes.specs.Stores.{store_id}
 use Rattle.hii_varstore.specs.Layout.{Shape, size_of}
 use Rattle.hii_varstore.specs.StoreNodes.{layout_of}
+use Rattle.hii_values.specs.Types.{first_kind}
 use Rattle.hii_questions.specs.Fields.{Field, Asked, questions}
-use Rattle.hii_questions.specs.Types.{first_kind}
 
 -- a store of any kind has the id
 abbrev pub is_known : List Node → ℕ → Bool

@@ -4,13 +4,11 @@ use Rattle.std.specs.Prelude.{ℕ, ◌+◌, Bool, false, ◌==◌, ◌&&◌, nat
 use Rattle.std.specs.List.{find}
 use Rattle.ifr_opcodes.specs.Forest.{Node}
 use Rattle.ifr_opcodes.specs.Fields.{question_id, question_store, question_offset}
-use Rattle.ifr_opcodes.specs.Opcode.{number}
-use Rattle.ifr_opcodes.specs.declared.codes.TheConstants.{PASSWORD}
 use Rattle.ifr_nodes.specs.Nodes.{is_question}
 use Rattle.hii_varstore.specs.Layout.{Shape, size_of}
 use Rattle.hii_varstore.specs.StoreNodes.{layout_of}
-use Rattle.hii_questions.specs.FieldTypes.{size_of_type}
-use Rattle.hii_questions.specs.Types.{type_of}
+use Rattle.hii_values.specs.FieldTypes.{size_of_type}
+use Rattle.hii_values.specs.Types.{is_password, type_of}
 
 -- bytes of a store
 pub record Field : Type 0 where
@@ -76,10 +74,6 @@ abbrev pub meets : Field → Field → Bool
 meets f g =
     f.store == g.store && nat_lt 0 f.width && nat_lt 0 g.width
     && nat_lt f.offset (g.offset + g.width) && nat_lt g.offset (f.offset + f.width)
-
--- EFI_IFR_PASSWORD
-abbrev pub is_password : Node → Bool
-is_password n = number n.op == PASSWORD
 
 -- A question is for a password, and its field has one of these bytes.
 abbrev pub is_password_in : Field → Asked → Bool

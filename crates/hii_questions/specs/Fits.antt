@@ -1,12 +1,12 @@
 -- What a question takes as its value (own rule).
 use Rattle.std.specs.Prelude.{ℕ, Option, Some, None, Result, Err, List, []}
 use Rattle.ifr_opcodes.specs.Forest.{Node}
-use Rattle.hii_questions.specs.FieldTypes.{FieldType}
+use Rattle.hii_values.specs.FieldTypes.{FieldType}
+use Rattle.hii_values.specs.Inputs.{Offer, read_as, fits_type, values_in}
+use Rattle.hii_values.specs.Types.{type_of}
+use Rattle.hii_values.specs.declared.denial.DenialKind.{DenialKind}
+use Rattle.hii_values.specs.declared.denial.DenialKind.TheVariants.{Kind}
 use Rattle.hii_questions.specs.Fields.{Field, field_of}
-use Rattle.hii_questions.specs.Inputs.{Offer, read_as, fits_type, values_in}
-use Rattle.hii_questions.specs.Types.{type_of}
-use Rattle.hii_questions.specs.declared.denial.DenialKind.{DenialKind}
-use Rattle.hii_questions.specs.declared.denial.DenialKind.TheVariants.{Kind}
 
 -- A question without a field takes nothing.
 abbrev pub fits_field : Option FieldType → Option Field → Offer → Result (List ℕ) DenialKind

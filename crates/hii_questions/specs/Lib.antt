@@ -1,8 +1,3 @@
-pub mod Items
-pub mod FieldTypes
-pub mod Inputs
-pub mod Denials
-pub mod Types
 pub mod Fields
 pub mod Answers
 pub mod Changes

@@ -3,10 +3,9 @@
 ghost use Rattle.std.specs.Prelude.{◌≡◌, ◌≤◌, length};
 ghost use Rattle.hii_varstore.specs.code.Ranges.{HasRange};
 ghost use Rattle.hii_varstore.specs.Stores.{shape_of, with_bytes};
-ghost use Rattle.hii_questions.specs.code.Contents.{content_bytes};
+ghost use Rattle.hii_values.specs.code.Contents.{content_bytes};
 
-use crate::content::Content;
-use crate::items::Items;
+use hii_values::{Content, Items};
 use hii_varstore::Stores;
 
 /// New bytes for the field of a question (UEFI 2.8, 33.2.5.6 Storage).
@@ -25,7 +24,7 @@ pub struct Field<'i> {
 }
 
 impl<'i> Field<'i> {
-    ghost use Rattle.hii_questions.specs.code.ItemsLeft.{items_left};
+    ghost use Rattle.hii_values.specs.code.ItemsLeft.{items_left};
     ghost use Rattle.hii_questions.specs.code.NewBytes.{new_bytes, new_items};
 
     /// Writes the new bytes into the store.

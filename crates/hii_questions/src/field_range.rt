@@ -1,9 +1,5 @@
 //! Where a field lies, as the code tells it.
 
-/// How many bytes the field of a question has at most that is no PASSWORD: those of an ORDERED_LIST of 255 elements of 8
-/// bytes (UEFI 2.8, 33.3.8.3, EFI_IFR_ORDERED_LIST).
-pub const WIDEST_FIELD: usize = 2040;
-
 /// Where the field of a question lies. Fields follow one another by store, offset and width.
 #[derive(Clone, Copy, PartialEq, Eq, PartialOrd, Ord)]
 pub struct FieldRange {

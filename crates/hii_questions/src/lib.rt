@@ -4,50 +4,32 @@
 
 mod by_field;
 mod check;
-mod choices;
-mod content;
-mod denial;
 mod differing;
-mod elements;
 mod entry;
 mod field;
 mod field_range;
-mod field_type;
-mod fitting;
-mod input;
-mod items;
 pub mod laws;
-mod lists;
 mod locate;
 mod merging;
-mod met_values;
-mod numbers;
 mod over;
 mod question;
 mod questions;
 mod questions_by_place;
-mod reading;
 mod steps;
 mod store_ids;
-mod stored_items;
 mod tables;
-mod texts;
-mod unit_blocks;
 mod value;
 
 pub use check::{is_outside, lacks_store, option_fault};
-pub use denial::{DenialKind, ValueDenial};
-pub use elements::{element_width, first_kind};
 pub use entry::QuestionEntry;
 pub use field::Field;
-pub use field_range::{FieldRange, WIDEST_FIELD};
-pub use input::Input;
-pub use items::{Items, bytes_of_items};
-pub use met_values::MetValues;
-pub use numbers::shown;
+pub use field_range::FieldRange;
+pub use hii_values::{
+    DenialKind, Input, Items, MetValues, StoredItems, ValueDenial, WIDEST_FIELD, bytes_of_items,
+    element_width, first_kind, shown,
+};
 pub use over::Over;
 pub use question::Question;
 pub use questions::Questions;
 pub use questions_by_place::QuestionsByPlace;
-pub use stored_items::StoredItems;
 pub use value::{check_value, read_value};

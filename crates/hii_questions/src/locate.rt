@@ -10,7 +10,7 @@ ghost use Rattle.hii_questions.specs.code.Entries.{entry_range};
 ghost use Rattle.hii_questions.specs.code.Ranges.{range_in, HasWidth, IsNarrow};
 
 use crate::entry::FieldEntry;
-use crate::field_type::FieldType;
+use hii_values::FieldType;
 use ifr_opcodes::QuestionOp;
 use ifr_scopes::Statement;
 

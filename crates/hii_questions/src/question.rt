@@ -29,7 +29,7 @@ impl<'a> Question<'a> {
     ghost use Rattle.ifr_opcodes.specs.Fields.{question_id};
     ghost use Rattle.ifr_opcodes.specs.code.Ops.{bytes_of};
     ghost use Rattle.ifr_nodes.specs.Accepted.{IsAccepted};
-    ghost use Rattle.hii_questions.specs.Fields.{is_password};
+    ghost use Rattle.hii_values.specs.Types.{is_password};
     ghost use Rattle.hii_questions.specs.code.Entries.{IsQuestionEntry, entry_field, entry_view};
     ghost use Rattle.hii_questions.specs.code.Ranges.{range_in};
     ghost use Rattle.hii_questions.specs.code.Views.{question_node, question_view};

@@ -3,18 +3,17 @@
 ghost use Rattle.std.specs.Prelude.{◌≡◌, IfOk};
 ghost use Rattle.ifr_expr.specs.Values.{as_number};
 ghost use Rattle.ifr_expr.specs.code.Views.{value_of};
+ghost use Rattle.hii_values.specs.code.Offers.{offer_of};
 ghost use Rattle.hii_questions.specs.Answers.{value_of_field};
 ghost use Rattle.hii_questions.specs.code.Checks.{Checks, NamesItems};
-ghost use Rattle.hii_questions.specs.code.Offers.{offer_of, IsGiven};
+ghost use Rattle.hii_questions.specs.code.Offers.{IsGiven};
 ghost use Rattle.hii_questions.specs.code.Views.{question_node, question_view};
 
-use crate::denial::{DenialKind, ValueDenial};
 use crate::field::Field;
-use crate::field_type::FieldType;
-use crate::fitting::{content_of, names_options};
-use crate::input::Input;
 use crate::question::Question;
-use crate::reading::{number_in, value_in};
+use hii_values::{
+    DenialKind, FieldType, Input, ValueDenial, content_of, names_options, number_in, value_in,
+};
 use hii_varstore::Stores;
 use ifr_expr::Value;
 

@@ -17,7 +17,7 @@ use Rattle.ifr_nodes.specs.Accepted.{IsAccepted}
 use Rattle.ifr_nodes.specs.Nodes.{nodes_of, is_store}
 use Rattle.ifr_nodes.specs.ReferenceFaults.{Ranked, ranked}
 use Rattle.ifr_scopes.specs.Stores.{store_id, store_size}
-use Rattle.ifr_scopes.proofs.IndexLemmas.{nodes_rise}
+use Rattle.ifr_index.proofs.IndexLemmas.{nodes_rise}
 use Rattle.hii_varstore.specs.declared.buffer.Buffer.{Buffer}
 use Rattle.hii_varstore.specs.StoreNodes.{declared_buffer, is_taken, repeats_store, IsRepeatedStore}
 use Rattle.hii_varstore.specs.code.Ids.{AreIdsOf}

@@ -8,9 +8,9 @@ use Rattle.ifr_opcodes.specs.Fields.{default_id, option_value, is_default_option
 use Rattle.ifr_opcodes.specs.Forest.{Node, below}
 use Rattle.ifr_opcodes.specs.Opcode.{number}
 use Rattle.ifr_nodes.specs.Nodes.{is_default, is_option, is_question, is_statement}
-use Rattle.ifr_scopes.specs.code.Giving.{is_giving, gives_default}
-use Rattle.ifr_scopes.proofs.GivingFacts.{checkbox_gives, default_gives, option_gives}
-use Rattle.hii_questions.specs.Inputs.{raw}
+use Rattle.ifr_index.specs.code.Giving.{is_giving, gives_default}
+use Rattle.ifr_index.proofs.GivingFacts.{checkbox_gives, default_gives, option_gives}
+use Rattle.hii_values.specs.Inputs.{raw}
 use Rattle.ifr_defaults.specs.Defaults.{Sources, default_of, default_with, flagged, given_or_flagged, is_checked_for, is_chosen_for}
 use Rattle.ifr_defaults.specs.declared.classes.TheConstants.{DEFAULT_CLASS_STANDARD, DEFAULT_CLASS_MANUFACTURING}
 

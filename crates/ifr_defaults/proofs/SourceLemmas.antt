@@ -12,7 +12,7 @@ use Rattle.ifr_nodes.proofs.NodeFactLemmas.{is_node}
 use Rattle.ifr_nodes.proofs.PlaceLemmas.{node_stands}
 use Rattle.ifr_scopes.specs.code.Lists.{statement_node}
 use Rattle.ifr_scopes.specs.declared.statement.Statement.{Statement}
-use Rattle.hii_questions.specs.Inputs.{raw}
+use Rattle.hii_values.specs.Inputs.{raw}
 use Rattle.ifr_defaults.specs.Defaults.{Sources, default_of, given_or_flagged}
 use Rattle.ifr_defaults.specs.code.DefaultSources.{IsSource, gives}
 use Rattle.ifr_defaults.specs.declared.defaults.DefaultSource.{DefaultSource}

@@ -9,7 +9,7 @@ use Rattle.ifr_expr.specs.Meaning.{leaf_value}
 use Rattle.ifr_expr.specs.Reading.{trees_of, tree_of_opcodes}
 use Rattle.ifr_expr.specs.Values.{undefined, natural, constant_value, binary_value, number_value}
 use Rattle.ifr_nodes.specs.Nodes.{nodes_of}
-use Rattle.hii_questions.specs.Inputs.{Offer, raw, units, elements}
+use Rattle.hii_values.specs.Inputs.{Offer, raw, units, elements}
 use Rattle.ifr_defaults.specs.Defaults.{Sources, default_of}
 
 -- Question 1 answers 9, and string id 7 has the text A.

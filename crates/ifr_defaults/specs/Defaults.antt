@@ -13,9 +13,9 @@ use Rattle.ifr_expr.specs.Trees.{Tree}
 use Rattle.ifr_expr.specs.Values.{Value, as_number}
 use Rattle.ifr_nodes.specs.NodeExpressions.{value_tree}
 use Rattle.ifr_nodes.specs.Nodes.{options, defaults}
-use Rattle.hii_questions.specs.Inputs.{Offer, raw, units, elements}
-use Rattle.hii_questions.specs.Items.{bytes_of_items}
-use Rattle.hii_questions.specs.Types.{element_width}
+use Rattle.hii_values.specs.Inputs.{Offer, raw, units, elements}
+use Rattle.hii_values.specs.Items.{bytes_of_items}
+use Rattle.hii_values.specs.Types.{element_width}
 use Rattle.ifr_defaults.specs.declared.classes.TheConstants.{DEFAULT_CLASS_STANDARD, DEFAULT_CLASS_MANUFACTURING}
 
 -- what a default is taken from: the rules, what questions answer, and the text of each string id

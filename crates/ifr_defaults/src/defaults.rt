@@ -3,8 +3,9 @@
 ghost use Rattle.std.specs.Prelude.{◌≡◌, Option, option_map, IfSome};
 ghost use Rattle.ifr_scopes.specs.code.Lists.{statement_node};
 ghost use Rattle.ifr_scopes.specs.code.Parts.{default_node};
+ghost use Rattle.hii_values.specs.code.Offers.{offer_of};
 ghost use Rattle.hii_questions.specs.Fields.{Field};
-ghost use Rattle.hii_questions.specs.code.Offers.{offer_of, IsGiven};
+ghost use Rattle.hii_questions.specs.code.Offers.{IsGiven};
 ghost use Rattle.hii_questions.specs.code.Views.{question_node};
 ghost use Rattle.hii_languages.specs.code.Views.{choice_of};
 ghost use Rattle.ifr_defaults.specs.Defaults as spec;

@@ -4,8 +4,9 @@ ghost use Rattle.std.specs.Prelude.{◌≡◌, ◌⊎◌, Option, length, option
 ghost use Rattle.ifr_expr.specs.Values.{as_number};
 ghost use Rattle.ifr_expr.specs.code.Views.{value_of};
 ghost use Rattle.ifr_scopes.specs.code.Parts.{default_node};
+ghost use Rattle.hii_values.specs.code.Offers.{offer_of};
 ghost use Rattle.hii_questions.specs.Fields.{Field};
-ghost use Rattle.hii_questions.specs.code.Offers.{offer_of, IsGiven};
+ghost use Rattle.hii_questions.specs.code.Offers.{IsGiven};
 ghost use Rattle.hii_questions.specs.code.Views.{question_node};
 ghost use Rattle.browser_rules.specs.Strings as chapter;
 ghost use Rattle.hii_languages.specs.code.Views.{choice_of};

@@ -8,7 +8,7 @@ use Rattle.ifr_nodes.specs.Nodes.{nodes_of}
 use Rattle.ifr_nodes.specs.code.Checked.{or_empty, node_in, has_node}
 use Rattle.ifr_nodes.specs.declared.guard_place.GuardPlace.{GuardPlace}
 use Rattle.ifr_nodes.proofs.ViewLemmas.{some_there, contains_found}
-use Rattle.ifr_scopes.proofs.PathLemmas.{Keeps, keeps}
+use Rattle.ifr_index.proofs.PathLemmas.{Keeps, keeps}
 
 pub around : (bytes : List ℕ) (place : ℕ) (kept : List GuardPlace) → SpellsForest bytes (tree_of bytes) → has_node bytes place ≡ true → kept ≡ kept_guards (node_in bytes place) → Keeps bytes kept (guards_of_node (node_in bytes place))
 unfolding node_in

@@ -10,14 +10,14 @@ use Rattle.ifr_opcodes.specs.Reading.{tree_of}
 use Rattle.ifr_nodes.specs.Guards.{is_guard}
 use Rattle.ifr_nodes.specs.Nodes.{nodes_of}
 use Rattle.ifr_nodes.specs.code.Checked.{node_in}
-use Rattle.ifr_scopes.specs.code.Index.{kind_at, conditional_at}
-use Rattle.ifr_scopes.specs.code.Tables.{inner_guard, guard_entry, is_question_condition, kept_condition, IsGuardEntry, IsConditionEntry}
-use Rattle.ifr_scopes.specs.declared.index.GuardEntry.{GuardEntry}
-use Rattle.ifr_scopes.specs.declared.index.ConditionEntry.{ConditionEntry}
-use Rattle.ifr_scopes.proofs.IndexLemmas.{behind, nodes_rise}
-use Rattle.ifr_scopes.proofs.NoSubmitLemmas.{is_entry}
-use Rattle.ifr_scopes.proofs.NumberLemmas.{is_guard_entry}
-use Rattle.ifr_scopes.proofs.PathLemmas.{find_within}
+use Rattle.ifr_index.specs.code.Index.{kind_at, conditional_at}
+use Rattle.ifr_index.specs.code.Tables.{inner_guard, guard_entry, is_question_condition, kept_condition, IsGuardEntry, IsConditionEntry}
+use Rattle.ifr_index.specs.declared.index.GuardEntry.{GuardEntry}
+use Rattle.ifr_index.specs.declared.index.ConditionEntry.{ConditionEntry}
+use Rattle.ifr_index.proofs.IndexLemmas.{behind, nodes_rise}
+use Rattle.ifr_index.proofs.NoSubmitLemmas.{is_entry}
+use Rattle.ifr_index.proofs.NumberLemmas.{is_guard_entry}
+use Rattle.ifr_index.proofs.PathLemmas.{find_within}
 use Rattle.ifr_nodes.proofs.ViewLemmas.{node_in_place}
 
 abbrev place_of : Node → ℕ

@@ -13,8 +13,8 @@ use Rattle.ifr_nodes.specs.Rules.{forms_among}
 use Rattle.ifr_nodes.specs.Table.{row, class_of, guarded, class_around}
 use Rattle.ifr_nodes.specs.declared.table.Class.TheVariants.{OfForm, OfNothing}
 use Rattle.ifr_nodes.proofs.ClassLemmas.{class-guard, class-other}
-use Rattle.ifr_scopes.proofs.InsideLemmas.{inside_node}
-use Rattle.ifr_scopes.proofs.OptionFacts.{between, holder_there}
+use Rattle.ifr_index.proofs.InsideLemmas.{inside_node}
+use Rattle.ifr_index.proofs.OptionFacts.{between, holder_there}
 use Rattle.ifr_nodes.proofs.RuleFacts.{around_subtitle, held, no_form_around, no_root, not_wanted}
 use Rattle.ifr_nodes.proofs.ScopeLemmas.{path_inside}
 use Rattle.ifr_nodes.proofs.TableLemmas.{guarded_form, holds_statement, of_form, statement_apart}

@@ -13,16 +13,16 @@ use Rattle.ifr_nodes.specs.Checked.{IsChecked}
 use Rattle.ifr_nodes.specs.Nodes.{nodes_of}
 use Rattle.ifr_nodes.specs.code.Checked.{node_in}
 use Rattle.ifr_nodes.proofs.ViewLemmas.{further, node_in_place}
-use Rattle.ifr_scopes.specs.code.Giving.{is_giving, gives_at, AreGiving}
-use Rattle.ifr_scopes.specs.code.Index.{is_indexed}
-use Rattle.ifr_scopes.specs.code.Tables.{IsEntry, AreEntries, kept_entry, places_of}
-use Rattle.ifr_scopes.specs.declared.index.Entry.{Entry}
-use Rattle.ifr_scopes.proofs.BehindPlaceLemmas.{entries_behind}
-use Rattle.ifr_scopes.proofs.GivingFacts.{gives_states}
-use Rattle.ifr_scopes.proofs.IndexLemmas.{nodes_rise, table_rises}
-use Rattle.ifr_scopes.proofs.KindLemmas.{is_kept, stated}
-use Rattle.ifr_scopes.proofs.OptionsOfLemmas.{behind_it}
-use Rattle.ifr_scopes.proofs.PathLemmas.{kept}
+use Rattle.ifr_index.specs.code.Giving.{is_giving, gives_at, AreGiving}
+use Rattle.ifr_index.specs.code.Index.{is_indexed}
+use Rattle.ifr_index.specs.code.Tables.{IsEntry, AreEntries, kept_entry, places_of}
+use Rattle.ifr_index.specs.declared.index.Entry.{Entry}
+use Rattle.ifr_index.proofs.BehindPlaceLemmas.{entries_behind}
+use Rattle.ifr_index.proofs.GivingFacts.{gives_states}
+use Rattle.ifr_index.proofs.IndexLemmas.{nodes_rise, table_rises}
+use Rattle.ifr_index.proofs.KindLemmas.{is_kept, stated}
+use Rattle.ifr_index.proofs.OptionsOfLemmas.{behind_it}
+use Rattle.ifr_index.proofs.PathLemmas.{kept}
 use Rattle.ifr_scopes.proofs.StatementsOfLemmas.{all_behind, first_statements}
 
 abbrev no_form : Entry → Bool

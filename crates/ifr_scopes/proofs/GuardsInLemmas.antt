@@ -15,14 +15,14 @@ use Rattle.ifr_nodes.specs.Nodes.{nodes_of, end_of, is_question, of_question, th
 use Rattle.ifr_nodes.specs.code.Checked.{IsNodeOf, node_in}
 use Rattle.ifr_nodes.proofs.BehindLemmas.{below_or_behind}
 use Rattle.ifr_nodes.proofs.ViewLemmas.{below_within, contains_found}
-use Rattle.ifr_scopes.specs.code.Tables.{AreGuardEntries, IsGuardEntry, begin_in, guard_entry, guard_table, inner_guard}
-use Rattle.ifr_scopes.specs.declared.index.GuardEntry.{GuardEntry}
-use Rattle.ifr_scopes.proofs.BehindPlaceLemmas.{apart, entries_behind, front, no_front}
-use Rattle.ifr_scopes.proofs.EntryLemmas.{all_guards_kept, nodes_again}
-use Rattle.ifr_scopes.proofs.InsideLemmas.{behind_node}
-use Rattle.ifr_scopes.proofs.OptionFacts.{between}
-use Rattle.ifr_scopes.proofs.OptionsOfLemmas.{is_after}
-use Rattle.ifr_scopes.proofs.PathLemmas.{kept}
+use Rattle.ifr_index.specs.code.Tables.{AreGuardEntries, IsGuardEntry, begin_in, guard_entry, guard_table, inner_guard}
+use Rattle.ifr_index.specs.declared.index.GuardEntry.{GuardEntry}
+use Rattle.ifr_index.proofs.BehindPlaceLemmas.{apart, entries_behind, front, no_front}
+use Rattle.ifr_index.proofs.EntryLemmas.{all_guards_kept, nodes_again}
+use Rattle.ifr_index.proofs.InsideLemmas.{behind_node}
+use Rattle.ifr_index.proofs.OptionFacts.{between}
+use Rattle.ifr_index.proofs.OptionsOfLemmas.{is_after}
+use Rattle.ifr_index.proofs.PathLemmas.{kept}
 use Rattle.ifr_scopes.proofs.ThisLemmas.{this_below}
 
 abbrev guarding : Node → Bool

@@ -6,12 +6,12 @@ use Rattle.std.proofs.lemmas.Bool.{cases_Bool, cond-true, cond-false, and_parts}
 use Rattle.ifr_opcodes.specs.Forest.{Node, SpellsForest}
 use Rattle.ifr_opcodes.specs.Reading.{tree_of}
 use Rattle.ifr_nodes.specs.code.Checked.{node_in, has_node}
-use Rattle.ifr_scopes.specs.code.Index.{indexed_at, entry_of, lock_of_indexed}
+use Rattle.ifr_index.specs.code.Index.{indexed_at, entry_of, lock_of_indexed}
 use Rattle.ifr_scopes.specs.code.Locked.{IsLockedPlace}
 use Rattle.ifr_nodes.specs.Locks.{is_locked, locks_scope, locked_in, chain, first_of_nodes, first_lock}
-use Rattle.ifr_scopes.specs.code.Tables.{kept_entry}
+use Rattle.ifr_index.specs.code.Tables.{kept_entry}
 use Rattle.ifr_nodes.specs.Nodes.{nodes_of}
-use Rattle.ifr_scopes.specs.declared.index.Entry.{Entry}
+use Rattle.ifr_index.specs.declared.index.Entry.{Entry}
 use Rattle.ifr_nodes.proofs.ViewLemmas.{further, node_in_place, is_at}
 
 -- One of these nodes, and a LOCKED.

@@ -17,10 +17,10 @@ use Rattle.ifr_nodes.specs.Guards.{is_guard}
 use Rattle.ifr_nodes.specs.Nodes.{nodes_of, is_question, of_question, questions_among, id_or_0, this_of}
 use Rattle.ifr_nodes.specs.ReferenceFaults.{Ranked, ranked, has_question_id, has_reference_fault}
 use Rattle.ifr_nodes.proofs.ViewLemmas.{further}
-use Rattle.ifr_scopes.proofs.BehindPlaceLemmas.{apart, rise_rest}
-use Rattle.ifr_scopes.proofs.IndexLemmas.{nodes_rise}
-use Rattle.ifr_scopes.proofs.InsideLemmas.{holder, split_node}
-use Rattle.ifr_scopes.proofs.OptionsOfLemmas.{filters}
+use Rattle.ifr_index.proofs.BehindPlaceLemmas.{apart, rise_rest}
+use Rattle.ifr_index.proofs.IndexLemmas.{nodes_rise}
+use Rattle.ifr_index.proofs.InsideLemmas.{holder, split_node}
+use Rattle.ifr_index.proofs.OptionsOfLemmas.{filters}
 use Rattle.ifr_scopes.proofs.ThisLemmas.{this_below}
 
 -- ---- lists

@@ -6,14 +6,14 @@ use Rattle.ifr_opcodes.specs.Reading.{tree_of}
 use Rattle.ifr_nodes.specs.Guards.{guards}
 use Rattle.ifr_nodes.specs.Nodes.{nodes_of}
 use Rattle.ifr_nodes.specs.code.Checked.{node_in}
-use Rattle.ifr_scopes.specs.code.Index.{is_indexed, indexed_at, entry_of, or_none, guards_of_indexed}
-use Rattle.ifr_scopes.specs.code.Tables.{inner_guard, guards_from, IsNumber, innermost_at, kept_entry, IsConditionEntry}
-use Rattle.ifr_scopes.specs.declared.index.Entry.{Entry}
-use Rattle.ifr_scopes.specs.declared.index.ConditionEntry.{ConditionEntry}
-use Rattle.ifr_scopes.proofs.IndexingLemmas.{nodes_follow, path_few}
-use Rattle.ifr_scopes.proofs.NoSubmitLemmas.{stands}
-use Rattle.ifr_scopes.proofs.NumberLemmas.{guards_are, few_guards}
-use Rattle.ifr_scopes.proofs.PathLemmas.{find_within}
+use Rattle.ifr_index.specs.code.Index.{is_indexed, indexed_at, entry_of, or_none, guards_of_indexed}
+use Rattle.ifr_index.specs.code.Tables.{inner_guard, guards_from, IsNumber, innermost_at, kept_entry, IsConditionEntry}
+use Rattle.ifr_index.specs.declared.index.Entry.{Entry}
+use Rattle.ifr_index.specs.declared.index.ConditionEntry.{ConditionEntry}
+use Rattle.ifr_index.proofs.IndexingLemmas.{nodes_follow, path_few}
+use Rattle.ifr_index.proofs.NoSubmitLemmas.{stands}
+use Rattle.ifr_index.proofs.NumberLemmas.{guards_are, few_guards}
+use Rattle.ifr_index.proofs.PathLemmas.{find_within}
 
 -- The number is that of a guard of the package, if it is one, and the guards from it on are few.
 pub record AreOutward (bytes : List ℕ) (next : Option ℕ) (its : List Node) : Type 0 where

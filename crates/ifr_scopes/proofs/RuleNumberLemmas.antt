@@ -14,9 +14,9 @@ use Rattle.ifr_nodes.specs.code.Checked.{node_in}
 use Rattle.ifr_nodes.specs.code.Rules.{rules_of}
 use Rattle.ifr_nodes.proofs.RuleOrderLemmas.{rule_there}
 use Rattle.ifr_nodes.proofs.ViewLemmas.{node_in_place}
-use Rattle.ifr_scopes.specs.code.Tables.{places_of}
+use Rattle.ifr_index.specs.code.Tables.{places_of}
 use Rattle.ifr_scopes.proofs.FormPlaceLemmas.{found}
-use Rattle.ifr_scopes.proofs.KindLemmas.{kind_again}
+use Rattle.ifr_index.proofs.KindLemmas.{kind_again}
 use Rattle.ifr_scopes.proofs.RuleLookupLemmas.{named_some}
 
 pub told_if : (P : Type 0) (number : Option ℕ) → P → IfSome number (λ _. P)

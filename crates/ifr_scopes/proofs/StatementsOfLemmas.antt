@@ -13,15 +13,15 @@ use Rattle.ifr_opcodes.specs.Reading.{tree_of}
 use Rattle.ifr_opcodes.specs.Rows.{is_statement_number}
 use Rattle.ifr_nodes.specs.Checked.{IsChecked}
 use Rattle.ifr_nodes.specs.code.Checked.{IsNodeOf, node_in}
-use Rattle.ifr_scopes.specs.code.Index.{is_indexed}
-use Rattle.ifr_scopes.specs.code.Tables.{kept_entry, entry_table}
+use Rattle.ifr_index.specs.code.Index.{is_indexed}
+use Rattle.ifr_index.specs.code.Tables.{kept_entry, entry_table}
 use Rattle.ifr_nodes.specs.Nodes.{nodes_of, is_form, is_statement, statements}
-use Rattle.ifr_scopes.specs.declared.index.Entry.{Entry}
-use Rattle.ifr_scopes.proofs.BehindPlaceLemmas.{HasBefore, all_front, apart, none_before, past, rise_rest}
+use Rattle.ifr_index.specs.declared.index.Entry.{Entry}
+use Rattle.ifr_index.proofs.BehindPlaceLemmas.{HasBefore, all_front, apart, none_before, past, rise_rest}
 use Rattle.ifr_scopes.proofs.FormFacts.{behind_form, form_there, no_form_below, statement_form}
-use Rattle.ifr_scopes.proofs.InsideLemmas.{behind_node}
-use Rattle.ifr_scopes.proofs.KindLemmas.{again, stated}
-use Rattle.ifr_scopes.proofs.OptionsOfLemmas.{behind_it, is_after, passes}
+use Rattle.ifr_index.proofs.InsideLemmas.{behind_node}
+use Rattle.ifr_index.proofs.KindLemmas.{again, stated}
+use Rattle.ifr_index.proofs.OptionsOfLemmas.{behind_it, is_after, passes}
 use Rattle.ifr_nodes.proofs.ViewLemmas.{below_within, contains_found, further}
 
 -- whether one is no form

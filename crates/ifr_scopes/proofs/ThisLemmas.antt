@@ -15,9 +15,9 @@ use Rattle.ifr_nodes.specs.Nodes.{nodes_of, is_question, of_question, questions_
 use Rattle.ifr_nodes.specs.code.PartsLeft.{HaveThis}
 use Rattle.ifr_nodes.specs.code.Views.{node_of}
 use Rattle.ifr_nodes.specs.declared.node.Node.{Node}
-use Rattle.ifr_scopes.proofs.PathLemmas.{kept}
+use Rattle.ifr_index.proofs.PathLemmas.{kept}
 use Rattle.ifr_nodes.proofs.PlaceLemmas.{is_found}
-use Rattle.ifr_scopes.proofs.QuestionFacts.{no_statement_inside}
+use Rattle.ifr_index.proofs.QuestionFacts.{no_statement_inside}
 use Rattle.ifr_nodes.proofs.InnermostLemmas.{last_or-push}
 use Rattle.ifr_nodes.proofs.ScopeLemmas.{ancestor_node, path_inside}
 use Rattle.ifr_opcodes.proofs.StatementLemmas.{question_is_statement}

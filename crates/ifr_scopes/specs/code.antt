@@ -6,12 +6,9 @@ pub mod ConditionsInLeft
 pub mod ConditionsLeft
 pub mod DependenceLeft
 pub mod Frames
-pub mod Giving
 pub mod GivingLeft
 pub mod GuardsInLeft
-pub mod Index
 pub mod Lists
-pub mod LockIndex
 pub mod Locked
 pub mod LocksLeft
 pub mod NoSubmitsLeft
@@ -19,4 +16,3 @@ pub mod OptionsLeft
 pub mod Parts
 pub mod ReadForms
 pub mod StatementsLeft
-pub mod Tables

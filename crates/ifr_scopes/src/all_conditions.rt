@@ -2,10 +2,10 @@
 
 ghost use Rattle.ifr_nodes.specs.Checked.{IsChecked};
 ghost use Rattle.ifr_nodes.specs.code.Checked.{IsChecked-prop};
-ghost use Rattle.ifr_scopes.specs.code.Tables.{AreConditionEntries, AreConditionEntries-prop};
+ghost use Rattle.ifr_index.specs.code.Tables.{AreConditionEntries, AreConditionEntries-prop};
 
 use crate::condition_view::ConditionView;
-use crate::index::ConditionEntry;
+use ifr_index::ConditionEntry;
 
 /// The conditions of questions that are left of all of a package, by place.
 #[derive(Drop)]

@@ -2,10 +2,10 @@
 
 ghost use Rattle.ifr_nodes.specs.Checked.{IsChecked};
 ghost use Rattle.ifr_nodes.specs.code.Checked.{IsChecked-prop};
-ghost use Rattle.ifr_scopes.specs.code.Tables.{AreEntries, AreEntries-prop};
+ghost use Rattle.ifr_index.specs.code.Tables.{AreEntries, AreEntries-prop};
 
-use crate::index::Entry;
 use crate::statement::Statement;
+use ifr_index::Entry;
 use ifr_nodes::node_at;
 use ifr_opcodes::is_statement;
 

@@ -1,12 +1,12 @@
 //! What stands around forms, statements and options.
 
 ghost use Rattle.std.specs.Prelude.{◌≡◌, option_and_then, option_map, reverse};
-ghost use Rattle.ifr_scopes.specs.declared.index.Entry.{Entry};
+ghost use Rattle.ifr_index.specs.declared.index.Entry.{Entry};
 ghost use Rattle.ifr_scopes.specs.code.Locked.{IsLockedPlace, IsLockedPlace-prop};
 
 use crate::guards_outward::GuardsOutward;
-use crate::index::Entry;
 use crate::locks::LockView;
+use ifr_index::Entry;
 use ifr_nodes::node_at;
 
 /// What stands around a form, a statement or an option: its guards, and the LOCKED that decides for it.

@@ -8,11 +8,11 @@ ghost use Rattle.ifr_nodes.specs.Checked.{IsChecked};
 ghost use Rattle.ifr_nodes.specs.code.Checked.{node_in};
 ghost use Rattle.ifr_nodes.specs.code.Ends.{expression_end};
 ghost use Rattle.ifr_nodes.specs.code.PartsLeft.{parts_left, HaveThis, HaveThis-prop};
-ghost use Rattle.ifr_scopes.specs.code.Tables.{AreConditionsBefore, AreConditionsBefore-prop, IsConditionEntry};
+ghost use Rattle.ifr_index.specs.code.Tables.{AreConditionsBefore, AreConditionsBefore-prop, IsConditionEntry};
 ghost use Rattle.ifr_nodes.specs.code.Views.{node_of};
 
-use crate::index::ConditionEntry;
 use ifr_expr::Expr;
+use ifr_index::ConditionEntry;
 use ifr_nodes::{Node, NodesOf, node_at};
 use ifr_opcodes::{
     INCONSISTENT_IF, InconsistentIfOp, NO_SUBMIT_IF, NoSubmitIfOp, Op, WARNING_IF, WarningIfOp,

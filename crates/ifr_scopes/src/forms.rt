@@ -13,11 +13,11 @@ ghost use Rattle.ifr_scopes.specs.code.AnyConditions.{any_condition_node};
 ghost use Rattle.ifr_nodes.specs.code.Checked.{IsNodeOf, has_form};
 ghost use Rattle.ifr_scopes.specs.code.ConditionsInLeft.{conditions_in_left};
 ghost use Rattle.ifr_scopes.specs.code.ConditionsLeft.{conditions_of_left};
-ghost use Rattle.ifr_scopes.specs.code.Giving.{is_giving};
+ghost use Rattle.ifr_index.specs.code.Giving.{is_giving};
 ghost use Rattle.ifr_scopes.specs.code.GivingLeft.{giving_left};
 ghost use Rattle.ifr_nodes.specs.Guards.{is_guard};
 ghost use Rattle.ifr_scopes.specs.code.GuardsInLeft.{guards_in_left};
-ghost use Rattle.ifr_scopes.specs.code.Index.{conditional_at, guards_of_indexed, indexed_at, lock_of_indexed};
+ghost use Rattle.ifr_index.specs.code.Index.{conditional_at, guards_of_indexed, indexed_at, lock_of_indexed};
 ghost use Rattle.ifr_scopes.specs.code.Lists.{form_node, form_set_node, rule_node, stores_left, all_guards_left, forms_left, rules_left, all_statements_left, statement_node, guards_left};
 ghost use Rattle.ifr_scopes.specs.code.AroundViews.{around_guards, around_lock, around_package};
 ghost use Rattle.ifr_opcodes.specs.Rows.{is_condition_number};
@@ -28,7 +28,7 @@ ghost use Rattle.ifr_scopes.specs.code.StatementsLeft.{statements_of_left};
 ghost use Rattle.ifr_nodes.specs.ReferenceFaults.{form_with};
 ghost use Rattle.ifr_nodes.specs.Rules.{is_rule, as_rule, rule_nodes};
 ghost use Rattle.ifr_nodes.specs.code.Rules.{rules_of};
-ghost use Rattle.ifr_scopes.specs.code.Tables.{kept_entry, condition_table, entry_table};
+ghost use Rattle.ifr_index.specs.code.Tables.{kept_entry, condition_table, entry_table};
 ghost use Rattle.ifr_nodes.specs.code.Views.{node_of};
 
 use crate::all_conditions::AllConditions;
@@ -45,11 +45,6 @@ use crate::guard::{Guard, GuardViews};
 use crate::guards_at::GuardsAt;
 use crate::guards_in::{GuardsIn, guards_end};
 use crate::guards_outward::GuardsOutward;
-use crate::index::{
-    ConditionEntry, Entry, Index, condition_at, conditions_behind, entries_behind, entry_at,
-    guard_at, guards_behind, number_of, places_behind,
-};
-use crate::indexing::index_of;
 use crate::no_submits::NoSubmits;
 use crate::options_of::OptionsOf;
 use crate::rule::{RuleView, RuleViews};
@@ -59,6 +54,10 @@ use crate::varstore::Varstores;
 use hii_bytes::Fault;
 use hii_packages::Package;
 use ifr_expr::{Expr, NumberedRules, Rules};
+use ifr_index::{
+    ConditionEntry, Entry, Index, condition_at, conditions_behind, entries_behind, entry_at,
+    guard_at, guards_behind, index_of, number_of, places_behind,
+};
 use ifr_nodes::{
     Node, Nodes, RuleTable, check_framing, check_references, check_structure, expression_of,
     node_at,

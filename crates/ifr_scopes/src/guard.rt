@@ -7,11 +7,11 @@ ghost use Rattle.ifr_nodes.specs.Nodes.{nodes_of, this_of};
 ghost use Rattle.ifr_nodes.specs.Checked.{IsChecked};
 ghost use Rattle.ifr_nodes.specs.code.Checked.{IsChecked-prop, has_guard, node_in};
 ghost use Rattle.ifr_nodes.specs.code.Ends.{expression_end};
-ghost use Rattle.ifr_scopes.specs.code.Tables.{AreBefore, AreBefore-prop, AreGuardEntries, AreGuardEntries-prop, IsGuardEntry, guards_before};
+ghost use Rattle.ifr_index.specs.code.Tables.{AreBefore, AreBefore-prop, AreGuardEntries, AreGuardEntries-prop, IsGuardEntry, guards_before};
 ghost use Rattle.ifr_nodes.specs.code.Views.{node_of};
 
-use crate::index::GuardEntry;
 use ifr_expr::Expr;
+use ifr_index::GuardEntry;
 use ifr_nodes::{Node, node_at};
 use ifr_opcodes::Op;
 

@@ -4,11 +4,11 @@ ghost use Rattle.std.specs.Prelude.{◌≡◌, true, IfSome, is_some};
 ghost use Rattle.ifr_nodes.specs.Checked.{IsChecked};
 ghost use Rattle.ifr_nodes.specs.Nodes.{nodes_of};
 ghost use Rattle.ifr_nodes.specs.code.Checked.{IsChecked-prop};
-ghost use Rattle.ifr_scopes.specs.code.Tables.{IsGuardTable, IsGuardTable-prop, AreNumbers, AreNumbers-prop};
+ghost use Rattle.ifr_index.specs.code.Tables.{IsGuardTable, IsGuardTable-prop, AreNumbers, AreNumbers-prop};
 
 use crate::guard::Guard;
-use crate::index::GuardEntry;
 use arrayvec::ArrayVec;
+use ifr_index::GuardEntry;
 
 /// The guards of a form, a statement or an option that are left, the outermost first.
 #[derive(Drop)]

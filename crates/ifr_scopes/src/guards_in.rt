@@ -6,10 +6,10 @@ ghost use Rattle.ifr_nodes.specs.Checked.{IsChecked};
 ghost use Rattle.ifr_nodes.specs.Nodes.{end_of as node_end, is_question};
 ghost use Rattle.ifr_nodes.specs.code.Checked.{IsChecked-prop, has_node, node_in};
 ghost use Rattle.ifr_nodes.specs.code.Views.{node_of};
-ghost use Rattle.ifr_scopes.specs.code.Tables.{AreGuardEntries, AreGuardEntries-prop, begin_in};
+ghost use Rattle.ifr_index.specs.code.Tables.{AreGuardEntries, AreGuardEntries-prop, begin_in};
 
 use crate::guard::Guard;
-use crate::index::GuardEntry;
+use ifr_index::GuardEntry;
 use ifr_nodes::{Node, end_of};
 
 /// The guards that are left in the scope of a question, by place.

@@ -4,12 +4,12 @@ ghost use Rattle.std.specs.Prelude.{◌≡◌, ◌≤◌, IfSome, length, revers
 ghost use Rattle.ifr_nodes.specs.Checked.{IsChecked};
 ghost use Rattle.ifr_nodes.specs.Nodes.{nodes_of};
 ghost use Rattle.ifr_nodes.specs.code.Checked.{IsChecked-prop};
-ghost use Rattle.ifr_scopes.specs.code.Tables.{IsGuardTable, IsGuardTable-prop, IsNumber, IsNumber-prop, guards_from};
+ghost use Rattle.ifr_index.specs.code.Tables.{IsGuardTable, IsGuardTable-prop, IsNumber, IsNumber-prop, guards_from};
 
 use crate::guard::Guard;
 use crate::guards_at::GuardsAt;
-use crate::index::GuardEntry;
 use arrayvec::ArrayVec;
+use ifr_index::GuardEntry;
 
 /// The guards of a form, a statement or an option that are left, the innermost first.
 #[derive(Clone, Copy)]

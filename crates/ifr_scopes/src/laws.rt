@@ -8,7 +8,7 @@ ghost use Rattle.ifr_opcodes.specs.Reading.{tree_of};
 ghost use Rattle.ifr_nodes.specs.Framing.{IsFramingFault};
 ghost use Rattle.ifr_nodes.specs.code.Checked.{AreNodesOf, IsNodeOf};
 ghost use Rattle.ifr_nodes.specs.Guards.{guards};
-ghost use Rattle.ifr_scopes.specs.code.Index.{is_indexed, guards_of_indexed, lock_of_indexed};
+ghost use Rattle.ifr_index.specs.code.Index.{is_indexed, guards_of_indexed, lock_of_indexed};
 ghost use Rattle.ifr_nodes.specs.Accepted.{IsAccepted};
 ghost use Rattle.ifr_scopes.specs.code.Lists.{form_node, form_package, statement_node, statement_package};
 ghost use Rattle.ifr_nodes.specs.Locks.{first_lock};

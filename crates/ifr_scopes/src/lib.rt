@@ -20,8 +20,6 @@ mod guards_at;
 mod guards_in;
 mod guards_of;
 mod guards_outward;
-mod index;
-mod indexing;
 pub mod laws;
 mod locks;
 mod no_submits;

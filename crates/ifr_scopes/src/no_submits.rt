@@ -6,11 +6,11 @@ ghost use Rattle.ifr_nodes.specs.code.Checked.{IsChecked-prop, nodes_prop};
 ghost use Rattle.ifr_nodes.specs.Guards.{guards as guards_of_node};
 ghost use Rattle.ifr_scopes.specs.code.Lists.{outward_left};
 ghost use Rattle.ifr_scopes.specs.code.Parts.{condition_node};
-ghost use Rattle.ifr_scopes.specs.code.Tables.{AreConditionEntries, AreConditionEntries-prop, IsGuardTable, IsGuardTable-prop};
+ghost use Rattle.ifr_index.specs.code.Tables.{AreConditionEntries, AreConditionEntries-prop, IsGuardTable, IsGuardTable-prop};
 
 use crate::condition_view::ConditionView;
 use crate::guards_outward::GuardsOutward;
-use crate::index::{ConditionEntry, GuardEntry};
+use ifr_index::{ConditionEntry, GuardEntry};
 use ifr_opcodes::NO_SUBMIT_IF;
 
 /// A condition that denies a submission while it holds, and the guards around it, which are those of its question (UEFI

@@ -4,7 +4,7 @@ ghost use Rattle.std.specs.Prelude.{◌≡◌, true};
 ghost use Rattle.ifr_nodes.specs.Checked.{IsChecked};
 ghost use Rattle.ifr_nodes.specs.Rules.{is_rule};
 ghost use Rattle.ifr_nodes.specs.code.Checked.{IsChecked-prop};
-ghost use Rattle.ifr_scopes.specs.code.Tables.{AreOfKind, AreOfKind-prop};
+ghost use Rattle.ifr_index.specs.code.Tables.{AreOfKind, AreOfKind-prop};
 ghost use Rattle.ifr_nodes.specs.code.Views.{node_of};
 
 use ifr_expr::Expr;

@@ -12,9 +12,9 @@ use Rattle.hii_varstore.specs.StoreNodes.{IsStoreFault, declared_buffer, layout_
 use Rattle.hii_varstore.specs.Stores.{Store, StoreMap, are_same_bytes, buffer_of, bytes_of, shape_of}
 use Rattle.hii_varstore.proofs.WriteLemmas.{sizes}
 use Rattle.hii_varstore.specs.declared.buffer.Buffer.{Buffer}
+use Rattle.hii_values.specs.Denials.{kind_name}
 use Rattle.hii_questions.specs.Changes.{field_bytes, holds_others}
 use Rattle.hii_questions.specs.Fields.{Asked, questions}
-use Rattle.hii_questions.specs.Denials.{kind_name}
 use Rattle.guard_policy.specs.Policy.{fixed}
 use Rattle.guard_policy.specs.declared.denial.Denial.{Denial}
 use Rattle.hii_bytes.specs.Faults.{HasNone}

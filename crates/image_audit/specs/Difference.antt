@@ -7,9 +7,9 @@ use Rattle.ifr_nodes.specs.Nodes.{is_store}
 use Rattle.ifr_scopes.specs.Stores.{store_id}
 use Rattle.hii_varstore.specs.Stores.{StoreMap, bytes_of}
 use Rattle.ifr_expr.specs.Values.{Value}
+use Rattle.hii_values.specs.Denials.{kind_name}
 use Rattle.hii_questions.specs.Answers.{value_of_field}
 use Rattle.hii_questions.specs.Changes.{field_bytes, holds_others, with_field}
-use Rattle.hii_questions.specs.Denials.{kind_name}
 use Rattle.hii_questions.specs.Fields.{Asked, Field, questions}
 use Rattle.guard_policy.specs.Policy.{fixed}
 use Rattle.guard_policy.specs.declared.denial.Denial.{Denial}

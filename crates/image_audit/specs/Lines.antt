@@ -3,8 +3,9 @@ use Rattle.std.specs.Prelude.{ℕ, zero, suc, ◌+◌, ◌/◌, Bool, true, fals
 use Rattle.std.specs.List.{flat_map}
 use Rattle.ifr_opcodes.specs.Forest.{Node}
 use Rattle.hii_varstore.specs.Stores.{StoreMap}
+use Rattle.hii_values.specs.Types.{is_password}
 use Rattle.hii_questions.specs.Changes.{field_bytes, holds_others}
-use Rattle.hii_questions.specs.Fields.{Asked, Field, is_password, questions}
+use Rattle.hii_questions.specs.Fields.{Asked, Field, questions}
 use Rattle.audit_text.specs.Texts.{digits_of}
 use Rattle.question_audit.specs.QuestionLines.{field_text, name_of, store_with}
 use Rattle.audit_json.specs.Objects.{number_member, object, text_member}

@@ -7,7 +7,7 @@ use Rattle.std.proofs.lemmas.Option.{slice_get-get_or, slice_get_cases}
 use Rattle.hii_varstore.specs.Layout.{Shape, size_of}
 use Rattle.hii_varstore.specs.Stores.{StoreMap, shape_of, bytes_of, byte_of, with_bytes}
 use Rattle.hii_varstore.proofs.WriteLemmas.{sizes, byte_after, shape_after}
-use Rattle.hii_questions.specs.Items.{filled}
+use Rattle.hii_values.specs.Items.{filled}
 use Rattle.kept_conditions.specs.code.Invalidation.{other_at}
 use Rattle.kept_conditions.specs.Touching.{has_one, is_same, difference, range_of}
 use Rattle.kept_conditions.specs.laws.Writes.{IsWrite, PutsAreWrites}

@@ -10,7 +10,7 @@ use Rattle.ifr_opcodes.specs.Reading.{tree_of}
 use Rattle.ifr_nodes.specs.Accepted.{IsAccepted}
 use Rattle.ifr_nodes.specs.code.Checked.{or_empty}
 use Rattle.ifr_nodes.specs.Guards.{is_guard}
-use Rattle.ifr_scopes.specs.code.Index.{is_conditional, conditional_at}
+use Rattle.ifr_index.specs.code.Index.{is_conditional, conditional_at}
 use Rattle.ifr_scopes.specs.code.Lists.{rule_node, rules_left}
 use Rattle.ifr_opcodes.specs.Rows.{row_of, is_condition_number}
 use Rattle.ifr_nodes.specs.Nodes.{nodes_of}

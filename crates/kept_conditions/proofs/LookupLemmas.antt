@@ -13,7 +13,7 @@ use Rattle.hii_bytes.proofs.SearchLemmas.{searched, not_found}
 use Rattle.ifr_opcodes.specs.Forest.{Node}
 use Rattle.ifr_nodes.specs.Accepted.{IsAccepted}
 use Rattle.ifr_nodes.specs.Nodes.{nodes_of}
-use Rattle.ifr_scopes.proofs.IndexLemmas.{nodes_rise}
+use Rattle.ifr_index.proofs.IndexLemmas.{nodes_rise}
 use Rattle.guard_policy.proofs.RemovedLemmas.{Ascend, from_zero, places_ascend}
 use Rattle.kept_conditions.specs.Kept.{Told, held, holds_if}
 use Rattle.kept_conditions.specs.code.Cache.{value_of}

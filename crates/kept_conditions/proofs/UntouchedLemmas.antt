@@ -17,9 +17,9 @@ use Rattle.hii_varstore.specs.Layout.{Shape, size_of}
 use Rattle.hii_varstore.specs.Stores.{StoreMap}
 use Rattle.hii_varstore.proofs.WriteLemmas.{sizes}
 use Rattle.hii_varstore.specs.Stores as stores
+use Rattle.hii_values.specs.Types.{type_of}
 use Rattle.hii_questions.specs.Answers.{answers, answer_of, value_of_field, value_of_bytes}
 use Rattle.hii_questions.specs.Fields.{Field, field_of, question_with}
-use Rattle.hii_questions.specs.Types.{type_of}
 use Rattle.guard_policy.specs.Conditions.{condition_ids}
 use Rattle.kept_conditions.specs.Touching.{has_one, has_byte, field_with}
 use Rattle.kept_conditions.specs.laws.Writes.{IsWrite, LeavesUntouched}

@@ -7,13 +7,13 @@ use Rattle.ifr_opcodes.specs.declared.kinds.TheConstants.{TYPE_OTHER}
 use Rattle.ifr_nodes.specs.Nodes.{nodes_of}
 use Rattle.ifr_nodes.specs.Rules.{rules_among}
 use Rattle.hii_varstore.specs.Stores.{StoreMap}
+use Rattle.hii_values.specs.Inputs.{Offer}
+use Rattle.hii_values.specs.Types.{type_of}
+use Rattle.hii_values.specs.declared.denial.DenialKind.{DenialKind}
 use Rattle.hii_questions.specs.Answers.{answers}
 use Rattle.hii_questions.specs.Changes.{with_field}
 use Rattle.hii_questions.specs.Fields.{Asked, questions}
 use Rattle.hii_questions.specs.Fits.{fits_field}
-use Rattle.hii_questions.specs.Inputs.{Offer}
-use Rattle.hii_questions.specs.Types.{type_of}
-use Rattle.hii_questions.specs.declared.denial.DenialKind.{DenialKind}
 use Rattle.ifr_defaults.specs.Defaults.{Sources, default_of, default_with}
 
 -- a forms package, and the string packages of its list, of which one is chosen

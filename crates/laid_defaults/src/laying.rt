@@ -3,9 +3,10 @@
 ghost use Rattle.std.specs.Prelude.{◌≡◌, ◌<◌, ◌≤◌, ◌^◌, ℕ, Option, IfSome, filter, length, option_map};
 ghost use Rattle.ifr_nodes.specs.Nodes.{nodes_of};
 ghost use Rattle.hii_varstore.specs.Stores.{shape_of};
+ghost use Rattle.hii_values.specs.code.Offers.{offer_of};
 ghost use Rattle.hii_questions.specs.Fields.{Field as Lying, questions as questions_of};
 ghost use Rattle.hii_questions.specs.code.LyingIn.{LiesIn, LieIn};
-ghost use Rattle.hii_questions.specs.code.Offers.{IsGiven, offer_of};
+ghost use Rattle.hii_questions.specs.code.Offers.{IsGiven};
 ghost use Rattle.hii_questions.specs.code.Views.{question_node, question_view};
 ghost use Rattle.ifr_defaults.specs.Defaults.{default_of};
 ghost use Rattle.laid_defaults.specs.Laying as spec;

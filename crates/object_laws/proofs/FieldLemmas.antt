@@ -10,7 +10,7 @@ use Rattle.ifr_opcodes.specs.declared.codes.TheConstants.{INCONSISTENT_IF, NO_SU
 use Rattle.ifr_opcodes.specs.declared.numbers.Display.{Display}
 use Rattle.ifr_opcodes.specs.declared.numbers.Display.TheVariants.{Signed, Unsigned, Hexadecimal}
 use Rattle.ifr_nodes.specs.NodeExpressions.{message}
-use Rattle.hii_questions.specs.Inputs.{number_of_bits}
+use Rattle.hii_values.specs.Inputs.{number_of_bits}
 use Rattle.form_page.specs.RowValues.{hex_digits, number_text}
 use Rattle.form_page.specs.Texts.{utf8}
 use Rattle.question_audit.specs.Limits.{shown_number, shown_step}

@@ -13,10 +13,10 @@ use Rattle.ifr_nodes.specs.NodeExpressions.{expression_tree, message}
 use Rattle.ifr_nodes.specs.Nodes.{is_store}
 use Rattle.ifr_nodes.specs.Rules.{as_rule}
 use Rattle.ifr_scopes.specs.Stores.{store_guid, store_id}
-use Rattle.hii_questions.specs.Denials.{kind_name}
+use Rattle.hii_values.specs.Denials.{kind_name}
+use Rattle.hii_values.specs.declared.denial.DenialKind.{DenialKind}
+use Rattle.hii_values.specs.declared.denial.DenialKind.TheVariants.{DisableIf}
 use Rattle.hii_questions.specs.Fields.{Asked, Field}
-use Rattle.hii_questions.specs.declared.denial.DenialKind.{DenialKind}
-use Rattle.hii_questions.specs.declared.denial.DenialKind.TheVariants.{DisableIf}
 use Rattle.guard_policy.specs.Policy.{is_never_changed, is_removed}
 use Rattle.guard_policy.specs.declared.denial.Denial.{Denial}
 use Rattle.condition_text.specs.Senses.{sense}

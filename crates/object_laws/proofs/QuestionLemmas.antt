@@ -15,11 +15,11 @@ use Rattle.ifr_expr.specs.Values.{Value, boolean, natural, text, buffer}
 use Rattle.ifr_nodes.specs.Guards.{guards}
 use Rattle.ifr_nodes.specs.Nodes.{is_question, options}
 use Rattle.hii_varstore.specs.Stores.{StoreMap}
+use Rattle.hii_values.specs.Denials.{kind_name}
+use Rattle.hii_values.specs.Items.{items_in}
+use Rattle.hii_values.specs.Types.{element_width}
 use Rattle.hii_questions.specs.Answers.{value_of_field}
-use Rattle.hii_questions.specs.Denials.{kind_name}
 use Rattle.hii_questions.specs.Fields.{Asked, asked, field_of, questions}
-use Rattle.hii_questions.specs.Items.{items_in}
-use Rattle.hii_questions.specs.Types.{element_width}
 use Rattle.guard_policy.specs.Policy.{fixed}
 use Rattle.guard_policy.specs.World.{World}
 use Rattle.guard_policy.specs.declared.denial.Denial.{Denial}

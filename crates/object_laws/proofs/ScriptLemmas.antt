@@ -17,11 +17,11 @@ use Rattle.ifr_opcodes.specs.Opcode.{number}
 use Rattle.ifr_expr.specs.Values.{Value, text}
 use Rattle.ifr_nodes.specs.Nodes.{options}
 use Rattle.hii_varstore.specs.Stores.{StoreMap}
+use Rattle.hii_values.specs.Denials.{has_text, kind_name}
+use Rattle.hii_values.specs.declared.denial.DenialKind.{DenialKind}
+use Rattle.hii_values.specs.declared.denial.DenialKind.TheVariants.{Kind, Length, NoOption, NotButton, NotRef, Outside, Range, Locked}
 use Rattle.hii_questions.specs.Answers.{value_of_field}
-use Rattle.hii_questions.specs.Denials.{has_text, kind_name}
 use Rattle.hii_questions.specs.Fields.{Asked, Field, asked, question_with}
-use Rattle.hii_questions.specs.declared.denial.DenialKind.{DenialKind}
-use Rattle.hii_questions.specs.declared.denial.DenialKind.TheVariants.{Kind, Length, NoOption, NotButton, NotRef, Outside, Range, Locked}
 use Rattle.guard_policy.specs.Policy.{fixed}
 use Rattle.guard_policy.specs.declared.denial.Denial.{Denial}
 use Rattle.audit_text.specs.Texts.{ascii_name, hex_text}

@@ -2,7 +2,7 @@
 use Rattle.std.proofs.Common.{ℕ, ◌/◌, ◌%◌, false, List, [], ◌∷◌, ◌++◌, decimal, codes, refl, arith}
 use Rattle.hii_bytes.specs.Texts.{hex_of, place_text}
 use Rattle.guard_policy.specs.declared.denial.Denial.{Denial}
-use Rattle.hii_questions.specs.Denials.{kind_name}
+use Rattle.hii_values.specs.Denials.{kind_name}
 use Rattle.audit_text.specs.Texts.{hex_text}
 use Rattle.question_audit.specs.FormLines.{denial_text}
 use Rattle.json_laws.specs.laws.Telling.{SpellsText}

@@ -4,7 +4,7 @@ use Rattle.ifr_opcodes.specs.Forest.{Node}
 use Rattle.ifr_nodes.specs.Guards.{guards}
 use Rattle.ifr_nodes.specs.Nodes.{nodes_of}
 use Rattle.ifr_nodes.specs.code.Checked.{IsNodeOf}
-use Rattle.ifr_scopes.specs.code.Index.{guards_of_indexed, is_indexed}
+use Rattle.ifr_index.specs.code.Index.{guards_of_indexed, is_indexed}
 use Rattle.guard_policy.specs.code.Views.{bytes_of}
 use Rattle.guard_policy.specs.declared.policy.Policy.{Policy}
 use Rattle.guard_policy.proofs.IndexedLemmas.{guards_there}

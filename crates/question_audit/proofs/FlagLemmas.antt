@@ -13,9 +13,9 @@ use Rattle.ifr_nodes.specs.Checked.{IsChecked}
 use Rattle.ifr_nodes.specs.Guards.{guards_among, is_guard}
 use Rattle.ifr_nodes.specs.Nodes.{nodes_of}
 use Rattle.ifr_nodes.specs.code.Checked.{has_guard, node_in, or_empty}
-use Rattle.ifr_scopes.specs.code.Tables.{guards_before}
-use Rattle.ifr_scopes.proofs.IndexLemmas.{nodes_rise}
-use Rattle.ifr_scopes.proofs.NumberLemmas.{so_many_before}
+use Rattle.ifr_index.specs.code.Tables.{guards_before}
+use Rattle.ifr_index.proofs.IndexLemmas.{nodes_rise}
+use Rattle.ifr_index.proofs.NumberLemmas.{so_many_before}
 use Rattle.ifr_nodes.proofs.ConditionLemmas.{place_below}
 use Rattle.ifr_nodes.proofs.ViewLemmas.{contains_found, some_there}
 

@@ -5,8 +5,8 @@ use Rattle.std.specs.List.{find, flat_map}
 use Rattle.std.proofs.lemmas.Bool.{cond-true, cond-false, lt-ltb}
 use Rattle.ifr_opcodes.specs.Forest.{Node}
 use Rattle.ifr_nodes.specs.Locks.{first_of_nodes, locked_in}
-use Rattle.hii_questions.specs.declared.denial.DenialKind.{DenialKind}
-use Rattle.ifr_scopes.specs.code.LockIndex.{first_place}
+use Rattle.hii_values.specs.declared.denial.DenialKind.{DenialKind}
+use Rattle.ifr_index.specs.code.LockIndex.{first_place}
 use Rattle.guard_policy.specs.Policy.{denied_by}
 use Rattle.guard_policy.specs.declared.denial.Denial.{Denial}
 

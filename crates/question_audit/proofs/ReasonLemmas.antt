@@ -8,8 +8,8 @@ use Rattle.ifr_opcodes.specs.Forest.{Node}
 use Rattle.ifr_nodes.specs.Guards.{guards}
 use Rattle.ifr_nodes.specs.Locks.{first_lock, first_of_nodes, locks}
 use Rattle.ifr_nodes.specs.Nodes.{is_question}
+use Rattle.hii_values.specs.declared.denial.DenialKind.TheVariants.{GrayOutIf, Locked}
 use Rattle.hii_questions.specs.Fields.{Asked, asked}
-use Rattle.hii_questions.specs.declared.denial.DenialKind.TheVariants.{GrayOutIf, Locked}
 use Rattle.guard_policy.specs.Policy.{denied_by, fixed, fixed_itself, fixed_question, grays_out, hidden_among, hides, hiding, is_never_changed, or_else}
 use Rattle.guard_policy.specs.World.{World}
 use Rattle.guard_policy.specs.declared.denial.Denial.{Denial}

@@ -5,7 +5,7 @@ use Rattle.hii_bytes.specs.Texts.{place_text}
 use Rattle.ifr_opcodes.specs.Fields.{form_id, form_title}
 use Rattle.ifr_opcodes.specs.Forest.{Node}
 use Rattle.ifr_nodes.specs.Nodes.{is_form, is_question, statements}
-use Rattle.hii_questions.specs.Denials.{kind_name}
+use Rattle.hii_values.specs.Denials.{kind_name}
 use Rattle.hii_questions.specs.Fields.{asked}
 use Rattle.guard_policy.specs.declared.denial.Denial.{Denial}
 use Rattle.audit_text.specs.Texts.{safe_text}

@@ -12,7 +12,7 @@ use Rattle.ifr_nodes.specs.NodeExpressions.{expression_tree}
 use Rattle.ifr_nodes.specs.Guards.{guards}
 use Rattle.ifr_nodes.specs.Nodes.{is_store, this_of}
 use Rattle.ifr_scopes.specs.Stores.{store_id, store_name}
-use Rattle.hii_questions.specs.Denials.{kind_name}
+use Rattle.hii_values.specs.Denials.{kind_name}
 use Rattle.hii_questions.specs.Fields.{Asked, Field}
 use Rattle.guard_policy.specs.Conditions.{condition_ids}
 use Rattle.guard_policy.specs.Policy.{fixed}

@@ -5,8 +5,8 @@ use Rattle.ifr_opcodes.specs.Fields.{is_read_only}
 use Rattle.ifr_opcodes.specs.Forest.{Node}
 use Rattle.ifr_nodes.specs.Guards.{guards}
 use Rattle.ifr_nodes.specs.Locks.{locks}
+use Rattle.hii_values.specs.declared.denial.DenialKind.TheVariants.{GrayOutIf, Locked, Outside, ReadOnly}
 use Rattle.hii_questions.specs.Fields.{Asked}
-use Rattle.hii_questions.specs.declared.denial.DenialKind.TheVariants.{GrayOutIf, Locked, Outside, ReadOnly}
 use Rattle.guard_policy.specs.Policy.{denied_by, grays_out, hides, hiding, is_never_changed}
 use Rattle.guard_policy.specs.World.{World}
 use Rattle.guard_policy.specs.declared.denial.Denial.{Denial}

@@ -8,14 +8,14 @@ use Rattle.ifr_opcodes.specs.Forest.{Node}
 use Rattle.ifr_opcodes.specs.Opcode.{number}
 use Rattle.ifr_expr.specs.Values.{Value, boolean, natural, text, buffer}
 use Rattle.hii_varstore.specs.Stores.{StoreMap}
+use Rattle.hii_values.specs.Inputs.{Offer}
+use Rattle.hii_values.specs.Items.{items_in}
+use Rattle.hii_values.specs.Types.{element_width, type_of}
+use Rattle.hii_values.specs.declared.denial.DenialKind.{DenialKind}
 use Rattle.hii_questions.specs.Answers.{value_of_field}
 use Rattle.hii_questions.specs.Changes.{with_field}
 use Rattle.hii_questions.specs.Fields.{Asked}
 use Rattle.hii_questions.specs.Fits.{fits_field}
-use Rattle.hii_questions.specs.Inputs.{Offer}
-use Rattle.hii_questions.specs.Items.{items_in}
-use Rattle.hii_questions.specs.Types.{element_width, type_of}
-use Rattle.hii_questions.specs.declared.denial.DenialKind.{DenialKind}
 use Rattle.ifr_defaults.specs.Defaults.{default_of}
 use Rattle.form_page.specs.RowValues.{number_text}
 use Rattle.form_page.specs.Texts.{utf8}

@@ -3,9 +3,10 @@
 ghost use Rattle.std.specs.Prelude.{◌≡◌, IfSome, Option, option_map};
 ghost use Rattle.hii_bytes.specs.Watching.{Puts};
 ghost use Rattle.ifr_defaults.specs.Defaults.{default_of};
+ghost use Rattle.hii_values.specs.code.Offers.{offer_of};
 ghost use Rattle.hii_questions.specs.Fields.{Field as Lying};
 ghost use Rattle.hii_questions.specs.code.LyingIn.{LiesIn};
-ghost use Rattle.hii_questions.specs.code.Offers.{IsGiven, offer_of};
+ghost use Rattle.hii_questions.specs.code.Offers.{IsGiven};
 ghost use Rattle.hii_questions.specs.code.Views.{question_node, question_view};
 ghost use Rattle.hii_varstore.specs.Stores.{shape_of};
 ghost use Rattle.question_audit.specs.ScriptValues.{behind, default_value};

@@ -8,7 +8,7 @@ ghost use Rattle.ifr_nodes.specs.Checked.{IsChecked};
 ghost use Rattle.ifr_nodes.specs.Nodes.{nodes_of};
 ghost use Rattle.ifr_nodes.specs.code.Around.{IsAround};
 ghost use Rattle.ifr_nodes.specs.code.Views.{node_of};
-ghost use Rattle.ifr_scopes.specs.code.LockIndex.{Finds, first_place};
+ghost use Rattle.ifr_index.specs.code.LockIndex.{Finds, first_place};
 
 use ifr_nodes::{ScopedNode, ScopedNodes};
 use ifr_opcodes::LOCKED;

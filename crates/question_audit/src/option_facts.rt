@@ -7,7 +7,7 @@ ghost use Rattle.hii_bytes.specs.Watching.{Puts, pen_of};
 ghost use Rattle.ifr_opcodes.specs.Rows.{is_among};
 ghost use Rattle.ifr_nodes.specs.Nodes.{nodes_of};
 ghost use Rattle.ifr_nodes.specs.code.Checked.{IsNodeOf};
-ghost use Rattle.ifr_scopes.specs.code.LockIndex.{first_place};
+ghost use Rattle.ifr_index.specs.code.LockIndex.{first_place};
 ghost use Rattle.ifr_scopes.specs.code.Parts.{option_node};
 ghost use Rattle.condition_text.specs.code.Conditions.{words_of};
 ghost use Rattle.hii_questions.specs.Fields.{asked};

@@ -7,7 +7,7 @@ ghost use Rattle.ifr_opcodes.specs.code.Ops.{bytes_of as op_bytes};
 ghost use Rattle.ifr_expr.specs.Values.{text as text_value};
 ghost use Rattle.ifr_expr.specs.code.Views.{value_of};
 ghost use Rattle.ifr_scopes.specs.code.Lists.{statement_node};
-ghost use Rattle.hii_questions.specs.code.StoredLeft.{stored_left};
+ghost use Rattle.hii_values.specs.code.StoredLeft.{stored_left};
 ghost use Rattle.question_audit.specs.ScriptValues.{behind, checkbox_script, list_script, list_text, numeric_script, one_of_script, script_value, string_script};
 
 use audit_text::put_safe_shown;

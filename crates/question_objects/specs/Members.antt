@@ -1,7 +1,7 @@
 -- Members that objects of questions share (own rule).
 use Rattle.std.specs.Prelude.{ℕ, ◌+◌, Bool, if◌then◌else◌, List, [], ◌++◌, codes}
 use Rattle.ifr_opcodes.specs.Forest.{Node}
-use Rattle.hii_questions.specs.Denials.{kind_name}
+use Rattle.hii_values.specs.Denials.{kind_name}
 use Rattle.guard_policy.specs.declared.denial.Denial.{Denial}
 use Rattle.audit_json.specs.Objects.{number_member, text_member, true_member, word_member}
 use Rattle.question_audit.specs.QuestionLines.{has_no_text}

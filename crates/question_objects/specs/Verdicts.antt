@@ -1,7 +1,7 @@
 -- Whether a question may be changed (own rule).
 use Rattle.std.specs.Prelude.{ℕ, Option, Some, None, List, ◌++◌, codes, decimal, map}
 use Rattle.ifr_opcodes.specs.Forest.{Node}
-use Rattle.hii_questions.specs.Denials.{kind_name}
+use Rattle.hii_values.specs.Denials.{kind_name}
 use Rattle.hii_questions.specs.Fields.{Asked}
 use Rattle.guard_policy.specs.Policy.{fixed}
 use Rattle.guard_policy.specs.declared.denial.Denial.{Denial}

@@ -7,7 +7,7 @@ ghost use Rattle.hii_bytes.specs.Faults.{out_of_memory};
 ghost use Rattle.hii_bytes.specs.Watching.{Puts, pen_of};
 ghost use Rattle.ifr_nodes.specs.Nodes.{nodes_of};
 ghost use Rattle.ifr_nodes.specs.code.Checked.{IsNodeOf};
-ghost use Rattle.ifr_scopes.specs.code.LockIndex.{first_place};
+ghost use Rattle.ifr_index.specs.code.LockIndex.{first_place};
 ghost use Rattle.ifr_scopes.specs.code.Lists.{form_node};
 ghost use Rattle.hii_questions.specs.Fields.{asked, questions};
 ghost use Rattle.hii_questions.specs.code.LyingIn.{LiesIn, LieIn};

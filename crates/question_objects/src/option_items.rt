@@ -8,7 +8,7 @@ ghost use Rattle.audit_json.specs.Objects.{before_item};
 ghost use Rattle.ifr_opcodes.specs.Rows.{is_among};
 ghost use Rattle.ifr_nodes.specs.Nodes.{nodes_of};
 ghost use Rattle.ifr_nodes.specs.code.Checked.{IsNodeOf};
-ghost use Rattle.ifr_scopes.specs.code.LockIndex.{first_place};
+ghost use Rattle.ifr_index.specs.code.LockIndex.{first_place};
 ghost use Rattle.ifr_scopes.specs.code.Parts.{option_node};
 ghost use Rattle.hii_questions.specs.code.Views.{question_node};
 ghost use Rattle.guard_policy.specs.Policy.{fixed};

@@ -7,10 +7,10 @@ use Rattle.ifr_opcodes.specs.Forest.{Node}
 use Rattle.ifr_opcodes.specs.Opcode.{number}
 use Rattle.ifr_nodes.specs.Guards.{guards}
 use Rattle.ifr_nodes.specs.NodeExpressions.{message}
-use Rattle.hii_questions.specs.Denials.{kind_name}
+use Rattle.hii_values.specs.Denials.{kind_name}
+use Rattle.hii_values.specs.declared.denial.DenialKind.{DenialKind}
+use Rattle.hii_values.specs.declared.denial.DenialKind.TheVariants.{DisableIf, SuppressIf, GrayOutIf}
 use Rattle.hii_questions.specs.Fields.{Asked}
-use Rattle.hii_questions.specs.declared.denial.DenialKind.{DenialKind}
-use Rattle.hii_questions.specs.declared.denial.DenialKind.TheVariants.{DisableIf, SuppressIf, GrayOutIf}
 use Rattle.guard_policy.specs.Policy.{is_never_changed}
 use Rattle.audit_html.specs.Html.{isolated}
 use Rattle.audit_text.specs.Words.{opcode_name}

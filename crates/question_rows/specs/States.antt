@@ -1,9 +1,9 @@
 -- Whether a question may be changed (own rule).
 use Rattle.std.specs.Prelude.{ℕ, Option, Some, None, option_map, List, ◌++◌, codes}
 use Rattle.ifr_opcodes.specs.Forest.{Node}
-use Rattle.hii_questions.specs.Denials.{kind_name}
-use Rattle.hii_questions.specs.declared.denial.DenialKind.{DenialKind}
-use Rattle.hii_questions.specs.declared.denial.DenialKind.TheVariants.{DisableIf, SuppressIf, GrayOutIf, ReadOnly}
+use Rattle.hii_values.specs.Denials.{kind_name}
+use Rattle.hii_values.specs.declared.denial.DenialKind.{DenialKind}
+use Rattle.hii_values.specs.declared.denial.DenialKind.TheVariants.{DisableIf, SuppressIf, GrayOutIf, ReadOnly}
 use Rattle.guard_policy.specs.Policy.{fixed}
 use Rattle.guard_policy.specs.declared.denial.Denial.{Denial}
 use Rattle.question_audit.specs.Audited.{Audited}

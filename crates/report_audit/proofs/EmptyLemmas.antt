@@ -8,10 +8,10 @@ use Rattle.ifr_opcodes.specs.Opcode.{number}
 use Rattle.ifr_expr.specs.Values.{Value, undefined, boolean, natural, text, buffer}
 use Rattle.ifr_nodes.specs.Nodes.{is_question, options}
 use Rattle.hii_varstore.specs.Stores.{StoreMap}
+use Rattle.hii_values.specs.Items.{items_in}
+use Rattle.hii_values.specs.Types.{element_width}
 use Rattle.hii_questions.specs.Answers.{value_of_field}
 use Rattle.hii_questions.specs.Fields.{field_of}
-use Rattle.hii_questions.specs.Items.{items_in}
-use Rattle.hii_questions.specs.Types.{element_width}
 use Rattle.guard_policy.specs.World.{World}
 use Rattle.form_page.specs.RowValues.{choice, choice_text, later_text, list_shown, list_text, one_of_shown, option_with, stored_shown, value_shown}
 use Rattle.question_audit.specs.QuestionLines.{has_no_text}

@@ -1,9 +1,9 @@
 -- How many questions may be changed, and how many not, by what decides on them (own rule).
 use Rattle.std.specs.Prelude.{ℕ, ◌==◌, Bool, if◌then◌else◌, Option, Some, None, List, [], ◌∷◌, ◌++◌, bytes_eq, codes, decimal, filter, length}
 use Rattle.std.specs.List.{flat_map}
+use Rattle.hii_values.specs.declared.denial.DenialKind.{DenialKind}
+use Rattle.hii_values.specs.declared.denial.DenialKind.TheVariants.{GrayOutIf, SuppressIf, DisableIf, Locked, ReadOnly, Outside}
 use Rattle.hii_questions.specs.Fields.{Asked, questions}
-use Rattle.hii_questions.specs.declared.denial.DenialKind.{DenialKind}
-use Rattle.hii_questions.specs.declared.denial.DenialKind.TheVariants.{GrayOutIf, SuppressIf, DisableIf, Locked, ReadOnly, Outside}
 use Rattle.guard_policy.specs.Policy.{fixed}
 use Rattle.guard_policy.specs.World.{World}
 use Rattle.question_rows.specs.States.{standing_class, standing_of, standing_word}

@@ -25,9 +25,9 @@ use Rattle.ifr_nodes.specs.NodeExpressions.{tree_of_value, value_tree}
 use Rattle.ifr_nodes.specs.Nodes as node
 use Rattle.ifr_nodes.specs.Nodes.{is_question}
 use Rattle.ifr_nodes.specs.Table.{wants_value}
-use Rattle.hii_questions.specs.Inputs.{Offer, raw, units}
-use Rattle.hii_questions.specs.Items.{bytes_of_items}
-use Rattle.hii_questions.specs.Types.{element_width}
+use Rattle.hii_values.specs.Inputs.{Offer, raw, units}
+use Rattle.hii_values.specs.Items.{bytes_of_items}
+use Rattle.hii_values.specs.Types.{element_width}
 use Rattle.ifr_defaults.specs.Defaults.{Sources, default_of, default_with, evaluated, flagged, given, given_or_flagged, is_checked_for, is_chosen_for, value_number}
 use Rattle.rules_laws.specs.laws.Defaults.{HasSameValue}
 use Rattle.rules_laws.specs.laws.Opcodes.{value_for}

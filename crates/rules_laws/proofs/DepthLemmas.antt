@@ -21,7 +21,7 @@ use Rattle.ifr_nodes.specs.declared.rules.RuleSize.{RuleSize}
 use Rattle.ifr_nodes.proofs.KeptRuleLemmas.{one_rule}
 use Rattle.ifr_nodes.proofs.NamedLemmas.{each}
 use Rattle.ifr_scopes.proofs.NamedSizeLemmas.{found_size}
-use Rattle.ifr_scopes.proofs.OptionFacts.{between}
+use Rattle.ifr_index.proofs.OptionFacts.{between}
 use Rattle.ifr_nodes.proofs.RuleOrderLemmas.{descend_of}
 use Rattle.ifr_scopes.proofs.RulesOrderedLemmas.{are_ordered}
 use Rattle.ifr_nodes.proofs.ViewLemmas.{below_within, further}

@@ -15,9 +15,9 @@ use Rattle.ifr_nodes.specs.Nodes.{is_store, is_question, options}
 use Rattle.ifr_scopes.specs.Stores.{store_id}
 use Rattle.hii_varstore.specs.Layout.{size_of}
 use Rattle.hii_varstore.specs.StoreNodes.{layout_of}
+use Rattle.hii_values.specs.Types.{first_kind}
 use Rattle.hii_questions.specs.Faults.{is_known, lacks_store, is_past, is_field_outside, is_option_too_large, is_of_another_type, is_mixed, QuestionPart, itself, option, has_question_fault, parts_of, IsQuestionFault}
 use Rattle.hii_questions.specs.Fields.{Field, Asked, asked, field_of, questions}
-use Rattle.hii_questions.specs.Types.{first_kind}
 use Rattle.hii_questions.proofs.LawLemmas.{option_sound}
 use Rattle.hii_questions.proofs.FieldLemmas.{passing}
 use Rattle.rules_laws.specs.laws.Ids.{store_ids}

@@ -13,9 +13,9 @@ use Rattle.ifr_nodes.specs.Nodes.{nodes_of, end_of}
 use Rattle.ifr_nodes.specs.Rules.{is_rule, forms_among}
 use Rattle.ifr_nodes.proofs.BehindLemmas.{are_inside, below_or_behind}
 use Rattle.ifr_scopes.proofs.FormFacts.{IsBelowForm, behind_form, form_there}
-use Rattle.ifr_scopes.proofs.InsideLemmas.{inside_node}
-use Rattle.ifr_scopes.proofs.OptionFacts.{between}
-use Rattle.ifr_scopes.proofs.OptionsOfLemmas.{passes}
+use Rattle.ifr_index.proofs.InsideLemmas.{inside_node}
+use Rattle.ifr_index.proofs.OptionFacts.{between}
+use Rattle.ifr_index.proofs.OptionsOfLemmas.{passes}
 use Rattle.ifr_nodes.proofs.RuleFacts.{one_place, rule_fact}
 use Rattle.ifr_nodes.proofs.ScopeLemmas.{path_inside}
 use Rattle.ifr_nodes.proofs.ViewLemmas.{below_within}

@@ -14,7 +14,7 @@ use Rattle.ifr_nodes.specs.Nodes.{nodes_of, is_form, is_question, is_reference}
 use Rattle.ifr_nodes.specs.ReferenceFaults.{Ranked, ranked, has_form_id, has_question_id, has_reference_fault, is_lost, IsReferenceFault}
 use Rattle.ifr_nodes.specs.Rules.{is_rule, as_rule, rules_among, size, is_rule_too_large}
 use Rattle.ifr_nodes.specs.declared.rules.RuleSize.{RuleSize}
-use Rattle.ifr_scopes.proofs.OptionsOfLemmas.{passes}
+use Rattle.ifr_index.proofs.OptionsOfLemmas.{passes}
 use Rattle.hii_questions.proofs.FieldLemmas.{passing}
 use Rattle.rules_laws.specs.laws.Ids.{AreReferred, form_ids, is_id, question_ids}
 use Rattle.rules_laws.specs.laws.Naming.{IsSmallRule, HasDepth, weight}

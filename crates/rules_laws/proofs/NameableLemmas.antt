@@ -13,7 +13,7 @@ use Rattle.ifr_nodes.specs.Nodes.{nodes_of, end_of}
 use Rattle.ifr_nodes.specs.Rules.{is_rule, as_rule, rules_among, form_end, end_or_0}
 use Rattle.ifr_nodes.proofs.BehindLemmas.{below_or_behind}
 use Rattle.ifr_scopes.proofs.FormFacts.{IsBelowForm, behind_form}
-use Rattle.ifr_scopes.proofs.OptionFacts.{between}
+use Rattle.ifr_index.proofs.OptionFacts.{between}
 use Rattle.rules_laws.specs.laws.Naming.{place_or_0, form_around, is_inside, is_nameable, named_rule}
 use Rattle.rules_laws.proofs.FoundLemmas.{alike, found_from_behind}
 use Rattle.rules_laws.proofs.HolderLemmas.{before_it_ends, ends_before, around_is, form_of_rule, innermost_is}

@@ -27,13 +27,14 @@ use Rattle.ifr_nodes.specs.Nodes.{nodes_of}
 use Rattle.ifr_nodes.proofs.ViewLemmas.{below_within, further}
 use Rattle.hii_varstore.specs.StoreNodes.{layout_of}
 use Rattle.hii_varstore.specs.Stores.{StoreMap, shape_of}
-use Rattle.hii_questions.specs.Answers.{answer_in, value_of_bytes, value_of_field}
+use Rattle.hii_values.specs.Answers.{answer_in}
+use Rattle.hii_values.specs.FieldTypes.{FieldType, size_of_type}
+use Rattle.hii_values.specs.Items.{items_in}
+use Rattle.hii_values.specs.Types.{element_width, type_of}
+use Rattle.hii_questions.specs.Answers.{value_of_bytes, value_of_field}
 use Rattle.hii_questions.specs.Changes.{field_bytes}
 use Rattle.hii_questions.specs.Faults.{IsQuestionFault}
 use Rattle.hii_questions.specs.Fields.{Field, field_of}
-use Rattle.hii_questions.specs.FieldTypes.{FieldType, size_of_type}
-use Rattle.hii_questions.specs.Items.{items_in}
-use Rattle.hii_questions.specs.Types.{element_width, type_of}
 use Rattle.hii_questions.proofs.FieldLemmas.{passing}
 use Rattle.guard_policy.specs.Policy.{hidden, fixed}
 use Rattle.guard_policy.specs.World.{World}

@@ -26,12 +26,12 @@ use Rattle.ifr_nodes.proofs.ViewLemmas.{below_within, further}
 use Rattle.hii_varstore.specs.Layout.{size_of}
 use Rattle.hii_varstore.specs.StoreNodes.{layout_of}
 use Rattle.hii_varstore.specs.Stores.{StoreMap}
-use Rattle.hii_questions.specs.Denials.{kind_name}
-use Rattle.hii_questions.specs.FieldTypes.{FieldType, size_of_type}
+use Rattle.hii_values.specs.Denials.{kind_name}
+use Rattle.hii_values.specs.FieldTypes.{FieldType, size_of_type}
+use Rattle.hii_values.specs.Types.{type_of}
+use Rattle.hii_values.specs.declared.denial.DenialKind.{DenialKind}
+use Rattle.hii_values.specs.declared.denial.DenialKind.TheVariants.{DisableIf, SuppressIf, GrayOutIf, Locked, ReadOnly, Outside, Kind, Range, NoOption, Length, Repeat, EmptySet, BadText, InconsistentIf, NoSubmitIf, NoQuestion, NotRef, NotButton, NoRow, NoBack, DeepHistory, NoStore, NoField, Password}
 use Rattle.hii_questions.specs.Fields as fields
-use Rattle.hii_questions.specs.Types.{type_of}
-use Rattle.hii_questions.specs.declared.denial.DenialKind.{DenialKind}
-use Rattle.hii_questions.specs.declared.denial.DenialKind.TheVariants.{DisableIf, SuppressIf, GrayOutIf, Locked, ReadOnly, Outside, Kind, Range, NoOption, Length, Repeat, EmptySet, BadText, InconsistentIf, NoSubmitIf, NoQuestion, NotRef, NotButton, NoRow, NoBack, DeepHistory, NoStore, NoField, Password}
 use Rattle.hii_questions.proofs.FieldLemmas.{passing}
 use Rattle.guard_policy.specs.Policy as policy
 use Rattle.guard_policy.specs.Policy.{all_fixed, closed, denied_by, denies_submission, first_closed, fixed, fixed_itself, grays_out, hidden, hides, hiding, inconsistent, or_else, told, unsubmitted, warned}

@@ -14,9 +14,9 @@ use Rattle.ifr_opcodes.specs.declared.codes.TheConstants.{ONE_OF, ORDERED_LIST}
 use Rattle.ifr_nodes.specs.Nodes.{is_question, is_store, options}
 use Rattle.hii_varstore.specs.Layout.{size_of}
 use Rattle.hii_varstore.specs.StoreNodes.{layout_of}
+use Rattle.hii_values.specs.Types.{first_kind}
 use Rattle.hii_questions.specs.Faults.{QuestionPart, itself, option, IsQuestionFault, has_question_fault, is_field_outside, is_known, is_mixed, is_of_another_type, is_option_too_large, is_past, lacks_store, parts_of, place_of}
 use Rattle.hii_questions.specs.Fields.{Field, Asked, asked, field_of, questions}
-use Rattle.hii_questions.specs.Types.{first_kind}
 use Rattle.browser_rules.specs.Faults.{Fault, question_faults, fault_if}
 use Rattle.browser_rules.specs.Nodes as chapter_nodes
 use Rattle.browser_rules.specs.Opcodes.{number_width}

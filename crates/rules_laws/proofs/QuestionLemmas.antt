@@ -26,17 +26,18 @@ use Rattle.hii_varstore.specs.code.Ranges.{HasRange}
 use Rattle.hii_varstore.specs.StoreNodes.{layout_of}
 use Rattle.hii_varstore.specs.Stores.{StoreMap, bytes_of, shape_of}
 use Rattle.hii_varstore.proofs.WriteLemmas.{sizes}
-use Rattle.hii_questions.specs.Answers.{answer_in, answer_of, answers, value_of_bytes, value_of_field}
+use Rattle.hii_values.specs.Answers.{answer_in}
+use Rattle.hii_values.specs.FieldTypes.{FieldType, checkbox, numeric, one_of, text, ordered_list, size_of_type}
+use Rattle.hii_values.specs.Inputs.{Offer, Element, whole, raw, utf8, units, listed, elements, field, bits_of, bytes_unless, chosen_bytes, checkbox_number, denial_of, elements_behind, fits_type, fitting_bits, is_offered, list_bytes, numeric_bytes, offered, read_as, text_bytes, values_in}
+use Rattle.hii_values.specs.Items.{items_in}
+use Rattle.hii_values.specs.Types.{element_width, first_kind, is_signed, option_values, type_of, width_of_kind}
+use Rattle.hii_values.specs.declared.denial.DenialKind.{DenialKind}
+use Rattle.hii_values.specs.declared.denial.DenialKind.TheVariants.{BadText, EmptySet, Length, NoOption, Range, Repeat}
+use Rattle.hii_questions.specs.Answers.{answer_of, answers, value_of_bytes, value_of_field}
 use Rattle.hii_questions.specs.Changes.{field_bytes, with_field}
 use Rattle.hii_questions.specs.Faults.{IsQuestionFault}
 use Rattle.hii_questions.specs.Fields.{Field, asked, field_in, field_of, field_width, question_with, questions}
-use Rattle.hii_questions.specs.FieldTypes.{FieldType, checkbox, numeric, one_of, text, ordered_list, size_of_type}
 use Rattle.hii_questions.specs.Fits.{fits, fits_field, values_for, values_offered}
-use Rattle.hii_questions.specs.Inputs.{Offer, Element, whole, raw, utf8, units, listed, elements, field, bits_of, bytes_unless, chosen_bytes, checkbox_number, denial_of, elements_behind, fits_type, fitting_bits, is_offered, list_bytes, numeric_bytes, offered, read_as, text_bytes, values_in}
-use Rattle.hii_questions.specs.Items.{items_in}
-use Rattle.hii_questions.specs.Types.{element_width, first_kind, is_signed, option_values, type_of, width_of_kind}
-use Rattle.hii_questions.specs.declared.denial.DenialKind.{DenialKind}
-use Rattle.hii_questions.specs.declared.denial.DenialKind.TheVariants.{BadText, EmptySet, Length, NoOption, Range, Repeat}
 use Rattle.hii_questions.proofs.LawLemmas.{finds_questions, holds_fields}
 use Rattle.rules_laws.specs.laws.Opcodes.{value_for}
 use Rattle.rules_laws.specs.laws.Questions.{HoldsWhole, bytes_or_denial, field_for, offer_for, type_for}

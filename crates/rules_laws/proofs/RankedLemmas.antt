@@ -8,7 +8,7 @@ use Rattle.std.proofs.lemmas.List.Elements.{Contains-append_right}
 use Rattle.ifr_opcodes.specs.Forest.{Node}
 use Rattle.ifr_nodes.specs.ReferenceFaults.{Ranked, ranked}
 use Rattle.ifr_nodes.proofs.NamedLemmas.{each}
-use Rattle.ifr_scopes.proofs.OptionsOfLemmas.{passes}
+use Rattle.ifr_index.proofs.OptionsOfLemmas.{passes}
 use Rattle.ifr_nodes.proofs.ViewLemmas.{further}
 use Rattle.hii_questions.proofs.FieldLemmas.{passing}
 use Rattle.rules_laws.proofs.FoundLemmas.{nothing, first_or_later, gives, given, any_passes, some_passes}

@@ -1,8 +1,8 @@
 -- Denials of which the question says nothing.
 use Rattle.std.proofs.Common.{◌≡◌, [], refl}
 use Rattle.ifr_opcodes.specs.Forest.{Node}
-use Rattle.hii_questions.specs.declared.denial.DenialKind.{DenialKind}
-use Rattle.hii_questions.specs.declared.denial.DenialKind.TheVariants.{DisableIf, SuppressIf, GrayOutIf, Locked, ReadOnly, Outside, Kind, Range, NoOption, Length, Repeat, EmptySet, BadText, InconsistentIf, NoSubmitIf, NoQuestion, NotRef, NotButton, NoRow, NoBack, DeepHistory, NoStore, NoField, Password}
+use Rattle.hii_values.specs.declared.denial.DenialKind.{DenialKind}
+use Rattle.hii_values.specs.declared.denial.DenialKind.TheVariants.{DisableIf, SuppressIf, GrayOutIf, Locked, ReadOnly, Outside, Kind, Range, NoOption, Length, Repeat, EmptySet, BadText, InconsistentIf, NoSubmitIf, NoQuestion, NotRef, NotButton, NoRow, NoBack, DeepHistory, NoStore, NoField, Password}
 use Rattle.script_audit.specs.Because.{question_words}
 
 pub no_words : (kind : DenialKind) (n : Node) → (kind ≡ Outside → ⊥) → (kind ≡ Kind → ⊥) → (kind ≡ Range → ⊥) → (kind ≡ Length → ⊥) → (kind ≡ NoOption → ⊥) → (kind ≡ NotRef → ⊥) → question_words kind n ≡ []

@@ -5,11 +5,11 @@ use Rattle.std.specs.List.{flat_map}
 use Rattle.ifr_opcodes.specs.Forest.{Node}
 use Rattle.ifr_nodes.specs.Nodes.{nodes_of}
 use Rattle.hii_varstore.specs.Stores.{StoreMap}
+use Rattle.hii_values.specs.Inputs.{Offer}
+use Rattle.hii_values.specs.declared.denial.DenialKind.{DenialKind}
 use Rattle.hii_questions.specs.Changes.{with_field}
 use Rattle.hii_questions.specs.Fields.{field_of}
 use Rattle.hii_questions.specs.Fits.{fits, values_offered}
-use Rattle.hii_questions.specs.Inputs.{Offer}
-use Rattle.hii_questions.specs.declared.denial.DenialKind.{DenialKind}
 use Rattle.guard_policy.specs.Policy.{fixed}
 use Rattle.guard_policy.specs.declared.denial.Denial.{Denial}
 use Rattle.session_steps.specs.State.{State, texts, world_of}

@@ -20,11 +20,11 @@ use Rattle.ifr_nodes.specs.NodeExpressions.{message}
 use Rattle.ifr_nodes.specs.Nodes.{is_question, nodes_of}
 use Rattle.ifr_nodes.proofs.ViewLemmas.{further}
 use Rattle.hii_varstore.specs.Stores.{StoreMap}
+use Rattle.hii_values.specs.Inputs.{Offer}
+use Rattle.hii_values.specs.declared.denial.DenialKind.{DenialKind}
 use Rattle.hii_questions.specs.Changes.{with_field}
 use Rattle.hii_questions.specs.Fields.{field_of}
 use Rattle.hii_questions.specs.Fits.{fits, values_offered}
-use Rattle.hii_questions.specs.Inputs.{Offer}
-use Rattle.hii_questions.specs.declared.denial.DenialKind.{DenialKind}
 use Rattle.hii_questions.proofs.FieldLemmas.{passing}
 use Rattle.guard_policy.specs.Policy.{first_closed, fixed, inconsistent}
 use Rattle.guard_policy.specs.Warned.{warning_of}

@@ -8,8 +8,8 @@ use Rattle.browser_rules.specs.Words as words
 use Rattle.hii_bytes.specs.Texts.{place_text}
 use Rattle.hii_bytes.specs.declared.cause.Cause.{Cause}
 use Rattle.hii_bytes.specs.declared.cause.Fault.{Fault}
-use Rattle.hii_questions.specs.Denials.{kind_name, has_text}
-use Rattle.hii_questions.specs.declared.denial.DenialKind.{DenialKind}
+use Rattle.hii_values.specs.Denials.{kind_name, has_text}
+use Rattle.hii_values.specs.declared.denial.DenialKind.{DenialKind}
 use Rattle.guard_policy.specs.declared.denial.Denial.{Denial}
 use Rattle.form_page.specs.Texts.{utf8}
 use Rattle.session_steps.specs.State.{State, texts}

@@ -16,9 +16,10 @@ use Rattle.ifr_opcodes.specs.Fields.{reset_default}
 use Rattle.ifr_opcodes.specs.Forest.{Node}
 use Rattle.ifr_nodes.specs.Nodes.{nodes_of}
 use Rattle.hii_varstore.specs.Stores.{StoreMap}
-use Rattle.hii_questions.specs.Fields.{Field, field_of, is_password, question_with}
-use Rattle.hii_questions.specs.Inputs as inputs
-use Rattle.hii_questions.specs.declared.denial.DenialKind.TheVariants.{Password}
+use Rattle.hii_values.specs.Types.{is_password}
+use Rattle.hii_values.specs.Inputs as inputs
+use Rattle.hii_values.specs.declared.denial.DenialKind.TheVariants.{Password}
+use Rattle.hii_questions.specs.Fields.{Field, field_of, question_with}
 use Rattle.guard_policy.specs.Conditions.{is_kept}
 use Rattle.guard_policy.specs.Policy.{denied_by}
 use Rattle.kept_conditions.specs.Touching.{difference}

@@ -20,9 +20,10 @@ use Rattle.ifr_nodes.specs.Nodes.{is_question, is_store, nodes_of}
 use Rattle.ifr_scopes.specs.Stores as node
 use Rattle.ifr_scopes.proofs.FormPlaceLemmas.{found}
 use Rattle.hii_varstore.specs.Stores.{StoreMap, bytes_of}
-use Rattle.hii_questions.specs.Fields.{Asked, Field, asked, field_of, field_passes, has_field, is_password, is_password_in, is_same_field, meets}
-use Rattle.hii_questions.specs.Inputs as inputs
-use Rattle.hii_questions.specs.declared.denial.DenialKind.TheVariants.{NoField, NoStore, Password}
+use Rattle.hii_values.specs.Types.{is_password}
+use Rattle.hii_values.specs.Inputs as inputs
+use Rattle.hii_values.specs.declared.denial.DenialKind.TheVariants.{NoField, NoStore, Password}
+use Rattle.hii_questions.specs.Fields.{Asked, Field, asked, field_of, field_passes, has_field, is_password_in, is_same_field, meets}
 use Rattle.hii_questions.proofs.FieldLemmas.{passing}
 use Rattle.guard_policy.specs.Policy.{denied_by, fixed}
 use Rattle.guard_policy.specs.declared.denial.Denial.{Denial}

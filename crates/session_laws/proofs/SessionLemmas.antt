@@ -15,8 +15,8 @@ use Rattle.browser_rules.specs.Session as chapter
 use Rattle.browser_rules.specs.Opcodes.{field, REF, RESET_BUTTON}
 use Rattle.browser_rules.specs.Stores as held
 use Rattle.browser_rules.specs.Strings.{chosen}
-use Rattle.hii_questions.specs.Denials.{has_text}
-use Rattle.hii_questions.specs.declared.denial.DenialKind.{DenialKind}
+use Rattle.hii_values.specs.Denials.{has_text}
+use Rattle.hii_values.specs.declared.denial.DenialKind.{DenialKind}
 use Rattle.rules_laws.specs.Denials.{kind_for}
 use Rattle.browser_rules.specs.Words as words
 use Rattle.browser_rules.specs.Words.{is_some_and}
@@ -34,10 +34,10 @@ use Rattle.ifr_nodes.proofs.ViewLemmas.{further}
 use Rattle.hii_varstore.specs.Layout.{Shape}
 use Rattle.hii_varstore.specs.Stores.{Store, StoreMap, are_same_bytes, buffer_of, bytes_of, bytes_of_field, shape_of}
 use Rattle.hii_varstore.specs.declared.buffer.Buffer.{Buffer}
+use Rattle.hii_values.specs.Inputs.{Offer, whole, listed, utf8}
+use Rattle.hii_values.specs.declared.denial.DenialKind.TheVariants.{DeepHistory, NoBack, NoQuestion, NoRow, NotButton, NotRef, Outside}
 use Rattle.hii_questions.specs.Changes.{field_bytes}
 use Rattle.hii_questions.specs.Fields.{Field, field_of, question_with}
-use Rattle.hii_questions.specs.Inputs.{Offer, whole, listed, utf8}
-use Rattle.hii_questions.specs.declared.denial.DenialKind.TheVariants.{DeepHistory, NoBack, NoQuestion, NoRow, NotButton, NotRef, Outside}
 use Rattle.hii_questions.proofs.FieldLemmas.{passing}
 use Rattle.hii_questions.proofs.LawLemmas.{finds_questions}
 use Rattle.guard_policy.specs.Policy.{denied_by, fixed, hidden, unsubmitted}

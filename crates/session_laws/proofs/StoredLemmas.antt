@@ -17,17 +17,18 @@ use Rattle.ifr_expr.specs.Values.{undefined}
 use Rattle.ifr_nodes.specs.Nodes.{options}
 use Rattle.hii_varstore.specs.Stores.{Store, StoreMap, bytes_of, bytes_of_field, overwritten, store_with, with_bytes}
 use Rattle.hii_varstore.proofs.WriteLemmas.{shape_after}
-use Rattle.hii_questions.specs.Answers.{answers, answer_in, answer_of, value_of_bytes, value_of_field}
+use Rattle.hii_values.specs.Answers.{answer_in}
+use Rattle.hii_values.specs.Denials.{has_text}
+use Rattle.hii_values.specs.FieldTypes.{FieldType, checkbox, numeric, one_of, text, ordered_list, size_of_type}
+use Rattle.hii_values.specs.Inputs.{Element, Offer, whole, raw, utf8, units, listed, elements, field, fits_type, read_as, elements_behind, is_offered, is_text, number_of_bits, checkbox_number, checkbox_bits, bits_of, fitting_bits, numeric_bytes, offered, chosen_bytes, text_bytes, bytes_unless, denial_of, element_denial, list_denial, list_bytes}
+use Rattle.hii_values.specs.Items.{filled, items_in, spelled}
+use Rattle.hii_values.specs.Types.{element_width, is_signed, option_values, type_of}
+use Rattle.hii_values.specs.declared.denial.DenialKind.{DenialKind}
+use Rattle.hii_values.specs.declared.denial.DenialKind.TheVariants.{BadText, EmptySet, Length, NoOption, Range, Repeat}
+use Rattle.hii_questions.specs.Answers.{answers, answer_of, value_of_bytes, value_of_field}
 use Rattle.hii_questions.specs.Changes.{with_field}
-use Rattle.hii_questions.specs.Denials.{has_text}
 use Rattle.hii_questions.specs.Fields.{Field, field_of, question_with}
-use Rattle.hii_questions.specs.FieldTypes.{FieldType, checkbox, numeric, one_of, text, ordered_list, size_of_type}
 use Rattle.hii_questions.specs.Fits.{fits, fits_field}
-use Rattle.hii_questions.specs.Inputs.{Element, Offer, whole, raw, utf8, units, listed, elements, field, fits_type, read_as, elements_behind, is_offered, is_text, number_of_bits, checkbox_number, checkbox_bits, bits_of, fitting_bits, numeric_bytes, offered, chosen_bytes, text_bytes, bytes_unless, denial_of, element_denial, list_denial, list_bytes}
-use Rattle.hii_questions.specs.Items.{filled, items_in, spelled}
-use Rattle.hii_questions.specs.Types.{element_width, is_signed, option_values, type_of}
-use Rattle.hii_questions.specs.declared.denial.DenialKind.{DenialKind}
-use Rattle.hii_questions.specs.declared.denial.DenialKind.TheVariants.{BadText, EmptySet, Length, NoOption, Range, Repeat}
 use Rattle.rules_laws.specs.laws.Opcodes.{IsSmall}
 use Rattle.session_laws.specs.laws.Session.{AreStored}
 

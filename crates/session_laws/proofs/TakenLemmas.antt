@@ -23,7 +23,7 @@ use Rattle.ifr_nodes.specs.Table.{wants_expression, wants_value}
 use Rattle.ifr_scopes.proofs.FormPlaceLemmas.{found}
 use Rattle.ifr_nodes.proofs.NodeFactLemmas.{has_value}
 use Rattle.ifr_nodes.proofs.ViewLemmas.{further}
-use Rattle.hii_questions.specs.Inputs.{Offer}
+use Rattle.hii_values.specs.Inputs.{Offer}
 use Rattle.hii_questions.proofs.FieldLemmas.{passing}
 use Rattle.hii_varstore.specs.Stores.{StoreMap}
 use Rattle.ifr_defaults.specs.Defaults.{default_of, default_with}

@@ -5,7 +5,7 @@ use Rattle.ifr_opcodes.specs.Fields.{ref_target}
 use Rattle.ifr_opcodes.specs.Forest.{Node}
 use Rattle.ifr_nodes.specs.Nodes.{nodes_of, is_reference}
 use Rattle.ifr_nodes.specs.ReferenceFaults.{form_with}
-use Rattle.hii_questions.specs.declared.denial.DenialKind.TheVariants.{NotRef, DeepHistory}
+use Rattle.hii_values.specs.declared.denial.DenialKind.TheVariants.{NotRef, DeepHistory}
 use Rattle.guard_policy.specs.Policy.{denied_by, hidden, fixed}
 use Rattle.guard_policy.specs.declared.denial.Denial.{Denial}
 use Rattle.session_steps.specs.State.{State, world_of}

@@ -11,12 +11,13 @@ use Rattle.browser_rules.specs.Configuration.{Header, Block}
 use Rattle.config_text.specs.Reading.{configuration_in}
 use Rattle.config_text.specs.declared.kind.TextKind.TheVariants.{Ask, Tell}
 use Rattle.hii_bytes.specs.declared.cause.Cause.{Cause}
-use Rattle.hii_questions.specs.Fields.{Field, field_of, question_with, is_password}
+use Rattle.hii_values.specs.Types.{is_password}
+use Rattle.hii_values.specs.Inputs as inputs
+use Rattle.hii_values.specs.Inputs.{Offer, whole, listed, utf8}
+use Rattle.hii_values.specs.declared.denial.DenialKind.{DenialKind}
+use Rattle.hii_values.specs.declared.denial.DenialKind.TheVariants.{NotButton, Password}
+use Rattle.hii_questions.specs.Fields.{Field, field_of, question_with}
 use Rattle.hii_questions.specs.Fits.{fits, values_offered}
-use Rattle.hii_questions.specs.Inputs as inputs
-use Rattle.hii_questions.specs.Inputs.{Offer, whole, listed, utf8}
-use Rattle.hii_questions.specs.declared.denial.DenialKind.{DenialKind}
-use Rattle.hii_questions.specs.declared.denial.DenialKind.TheVariants.{NotButton, Password}
 use Rattle.hii_questions.specs.Changes.{with_field}
 use Rattle.ifr_defaults.specs.Defaults.{default_of}
 use Rattle.guard_policy.specs.Policy.{denied_by, fixed, unsubmitted}

@@ -17,14 +17,15 @@ use Rattle.ifr_nodes.specs.ReferenceFaults.{form_with}
 use Rattle.ifr_nodes.specs.Rules.{rules_among}
 use Rattle.browser_rules.specs.Strings.{chosen, text_of}
 use Rattle.hii_varstore.specs.Stores.{StoreMap, are_same_bytes, bytes_of}
+use Rattle.hii_values.specs.Types.{is_password}
+use Rattle.hii_values.specs.Inputs as inputs
+use Rattle.hii_values.specs.Inputs.{Offer, whole, listed, utf8}
+use Rattle.hii_values.specs.declared.denial.DenialKind.{DenialKind}
+use Rattle.hii_values.specs.declared.denial.DenialKind.TheVariants.{NoQuestion, NotRef, NotButton, NoRow, NoBack, DeepHistory, NoStore, NoField, Password, Outside}
 use Rattle.hii_questions.specs.Answers.{answers}
 use Rattle.hii_questions.specs.Changes.{field_bytes, with_field}
-use Rattle.hii_questions.specs.Fields.{field_of, question_with, is_password}
-use Rattle.hii_questions.specs.Inputs as inputs
-use Rattle.hii_questions.specs.Inputs.{Offer, whole, listed, utf8}
+use Rattle.hii_questions.specs.Fields.{field_of, question_with}
 use Rattle.hii_questions.specs.Fits.{fits, values_offered}
-use Rattle.hii_questions.specs.declared.denial.DenialKind.{DenialKind}
-use Rattle.hii_questions.specs.declared.denial.DenialKind.TheVariants.{NoQuestion, NotRef, NotButton, NoRow, NoBack, DeepHistory, NoStore, NoField, Password, Outside}
 use Rattle.ifr_defaults.specs.Defaults.{Sources, default_of}
 use Rattle.guard_policy.specs.Policy.{denied_by, or_else, hidden, fixed, first_closed, inconsistent, warned, unsubmitted}
 use Rattle.guard_policy.specs.Warned.{warning_of}

@@ -3,8 +3,8 @@ use Rattle.std.specs.Prelude.{ℕ, if◌then◌else◌, List, [], ◌++◌, code
 use Rattle.hii_bytes.specs.Texts.{place_text, cause_text, fault_text}
 use Rattle.hii_bytes.specs.declared.cause.Cause.{Cause}
 use Rattle.hii_bytes.specs.declared.cause.Fault.{Fault}
-use Rattle.hii_questions.specs.Denials.{kind_name, has_text}
-use Rattle.hii_questions.specs.declared.denial.DenialKind.{DenialKind}
+use Rattle.hii_values.specs.Denials.{kind_name, has_text}
+use Rattle.hii_values.specs.declared.denial.DenialKind.{DenialKind}
 use Rattle.guard_policy.specs.declared.denial.Denial.{Denial}
 use Rattle.guard_policy.specs.declared.warnings.Warning.{Warning}
 use Rattle.form_page.specs.Texts.{utf8}

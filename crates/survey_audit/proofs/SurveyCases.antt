@@ -4,7 +4,7 @@ use Rattle.std.specs.Prelude.{codes}
 use Rattle.std.specs.Fmt.{digits}
 use Rattle.hii_bytes.specs.declared.cause.Cause.TheVariants.{NoForms, StringBlock}
 use Rattle.hii_bytes.specs.declared.cause.Fault.{Fault}
-use Rattle.hii_questions.specs.declared.denial.DenialKind.TheVariants.{DisableIf, GrayOutIf, Locked, Outside, ReadOnly, SuppressIf}
+use Rattle.hii_values.specs.declared.denial.DenialKind.TheVariants.{DisableIf, GrayOutIf, Locked, Outside, ReadOnly, SuppressIf}
 use Rattle.audit_json.specs.declared.telling.Telling.TheVariants.{Lines, Objects}
 use Rattle.survey_audit.specs.Counts.{standing_of}
 use Rattle.survey_audit.specs.Finding.{has_within, small}

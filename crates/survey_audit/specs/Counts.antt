@@ -3,9 +3,9 @@ use Rattle.std.specs.Prelude.{ℕ, Bool, true, false, ◌&&◌, ◌||◌, Option
 use Rattle.std.specs.List.{count_by}
 use Rattle.ifr_opcodes.specs.Forest.{Node}
 use Rattle.ifr_nodes.specs.Nodes.{is_form}
+use Rattle.hii_values.specs.declared.denial.DenialKind.{DenialKind}
+use Rattle.hii_values.specs.declared.denial.DenialKind.TheVariants.{DisableIf, GrayOutIf, SuppressIf}
 use Rattle.hii_questions.specs.Fields.{Asked, questions}
-use Rattle.hii_questions.specs.declared.denial.DenialKind.{DenialKind}
-use Rattle.hii_questions.specs.declared.denial.DenialKind.TheVariants.{DisableIf, GrayOutIf, SuppressIf}
 use Rattle.guard_policy.specs.Policy.{fixed}
 use Rattle.guard_policy.specs.World.{World}
 use Rattle.guard_policy.specs.declared.denial.Denial.{Denial}

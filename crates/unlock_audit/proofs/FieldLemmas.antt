@@ -7,12 +7,12 @@ use Rattle.ifr_nodes.specs.Nodes.{nodes_of}
 use Rattle.hii_varstore.specs.Stores.{StoreMap, bytes_of_field, shape_of, with_bytes}
 use Rattle.hii_varstore.specs.code.Ranges.{HasRange, IsCut}
 use Rattle.hii_varstore.proofs.WriteLemmas.{field_back}
-use Rattle.hii_questions.specs.FieldTypes.{FieldType}
+use Rattle.hii_values.specs.FieldTypes.{FieldType}
+use Rattle.hii_values.specs.Inputs.{whole}
+use Rattle.hii_values.specs.Types.{type_of}
+use Rattle.hii_values.specs.declared.denial.DenialKind.{DenialKind}
 use Rattle.hii_questions.specs.Fields.{Asked, Field, asked, question_with}
 use Rattle.hii_questions.specs.Fits.{fits_field}
-use Rattle.hii_questions.specs.Inputs.{whole}
-use Rattle.hii_questions.specs.Types.{type_of}
-use Rattle.hii_questions.specs.declared.denial.DenialKind.{DenialKind}
 use Rattle.hii_questions.proofs.LawLemmas.{fits_wide}
 use Rattle.audit_json.specs.declared.telling.Telling.{Telling}
 use Rattle.question_audit.proofs.AskedLemmas.{IsFoundWith}

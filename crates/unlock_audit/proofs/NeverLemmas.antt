@@ -23,9 +23,9 @@ use Rattle.ifr_nodes.proofs.PlaceLemmas.{is_found}
 use Rattle.ifr_nodes.proofs.ScopeLemmas.{ancestor_node}
 use Rattle.ifr_nodes.proofs.ViewLemmas.{contains_found, further}
 use Rattle.hii_varstore.specs.Stores.{StoreMap}
+use Rattle.hii_values.specs.declared.denial.DenialKind.TheVariants.{GrayOutIf, Locked}
 use Rattle.hii_questions.specs.Answers.{answers}
 use Rattle.hii_questions.specs.Fields.{Asked, asked}
-use Rattle.hii_questions.specs.declared.denial.DenialKind.TheVariants.{GrayOutIf, Locked}
 use Rattle.guard_policy.specs.Conditions.{condition_ids}
 use Rattle.guard_policy.specs.Policy.{denied_by, fixed, grays_out, hides, hiding, is_removed, suppresses}
 use Rattle.guard_policy.specs.World.{World, is_disabling, is_met_over, removed_at, world_over}

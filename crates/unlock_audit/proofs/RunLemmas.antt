@@ -5,11 +5,11 @@ use Rattle.browser_rules.specs.Script as script
 use Rattle.ifr_opcodes.specs.Forest.{Node}
 use Rattle.ifr_nodes.specs.Nodes.{nodes_of}
 use Rattle.hii_varstore.specs.Stores.{StoreMap}
+use Rattle.hii_values.specs.Inputs.{Offer, whole}
+use Rattle.hii_values.specs.declared.denial.DenialKind.{DenialKind}
 use Rattle.hii_questions.specs.Changes.{with_field}
 use Rattle.hii_questions.specs.Fields.{Asked, Field, asked, field_of, question_with, questions}
 use Rattle.hii_questions.specs.Fits.{fits, values_offered}
-use Rattle.hii_questions.specs.Inputs.{Offer, whole}
-use Rattle.hii_questions.specs.declared.denial.DenialKind.{DenialKind}
 use Rattle.hii_varstore.specs.Layout.{Shape}
 use Rattle.hii_varstore.specs.code.Ranges.{HasRange}
 use Rattle.hii_questions.specs.code.LyingIn.{LieIn, LiesIn}

@@ -10,10 +10,10 @@ use Rattle.ifr_opcodes.specs.Forest.{Node}
 use Rattle.ifr_opcodes.specs.Opcode.{number}
 use Rattle.ifr_opcodes.specs.Rows.{is_among}
 use Rattle.ifr_nodes.specs.Nodes.{options}
+use Rattle.hii_values.specs.Inputs.{number_of_bits, whole}
+use Rattle.hii_values.specs.Types.{is_signed, option_values, type_of}
 use Rattle.hii_questions.specs.Fields.{Asked, asked, question_with}
 use Rattle.hii_questions.specs.Fits.{fits_field}
-use Rattle.hii_questions.specs.Inputs.{number_of_bits, whole}
-use Rattle.hii_questions.specs.Types.{is_signed, option_values, type_of}
 use Rattle.guard_policy.specs.Conditions.{condition_ids}
 use Rattle.unlock_audit.specs.Asking.{Asking}
 use Rattle.unlock_audit.specs.Constants.{constants}

@@ -8,9 +8,9 @@ use Rattle.ifr_opcodes.specs.Fields.{question_id, statement_prompt}
 use Rattle.ifr_opcodes.specs.Forest.{Node}
 use Rattle.ifr_nodes.specs.Guards.{guards}
 use Rattle.ifr_nodes.specs.Nodes.{nodes_of}
-use Rattle.hii_questions.specs.Denials.{kind_name}
+use Rattle.hii_values.specs.Denials.{kind_name}
+use Rattle.hii_values.specs.declared.denial.DenialKind.{DenialKind}
 use Rattle.hii_questions.specs.Fields.{Asked, Field, asked, question_with}
-use Rattle.hii_questions.specs.declared.denial.DenialKind.{DenialKind}
 use Rattle.guard_policy.specs.declared.denial.Denial.{Denial}
 use Rattle.audit_text.specs.Texts.{ascii_name, hex_text, joined, safe_text}
 use Rattle.audit_json.specs.Json.{escaped}

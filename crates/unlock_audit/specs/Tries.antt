@@ -4,12 +4,12 @@ use Rattle.std.specs.List.{flat_map}
 use Rattle.browser_rules.specs.Script as script
 use Rattle.ifr_nodes.specs.Nodes.{nodes_of}
 use Rattle.hii_varstore.specs.Stores.{StoreMap}
+use Rattle.hii_values.specs.Inputs.{whole}
+use Rattle.hii_values.specs.Types.{type_of}
+use Rattle.hii_values.specs.declared.denial.DenialKind.{DenialKind}
 use Rattle.hii_questions.specs.Changes.{with_field}
 use Rattle.hii_questions.specs.Fields.{Asked, Field, asked, question_with}
 use Rattle.hii_questions.specs.Fits.{fits_field}
-use Rattle.hii_questions.specs.Inputs.{whole}
-use Rattle.hii_questions.specs.Types.{type_of}
-use Rattle.hii_questions.specs.declared.denial.DenialKind.{DenialKind}
 use Rattle.guard_policy.specs.World.{removed_at}
 use Rattle.session_steps.specs.State.{State}
 use Rattle.session_steps.specs.Step.{Outcome, step}

@@ -4,9 +4,9 @@ use Rattle.std.specs.List.{find, list_any}
 use Rattle.ifr_opcodes.specs.Fields.{question_id}
 use Rattle.ifr_opcodes.specs.Forest.{Node}
 use Rattle.ifr_nodes.specs.Nodes.{nodes_of}
+use Rattle.hii_values.specs.declared.denial.DenialKind.{DenialKind}
+use Rattle.hii_values.specs.declared.denial.DenialKind.TheVariants.{DisableIf, Locked, Outside, ReadOnly}
 use Rattle.hii_questions.specs.Fields.{Asked, questions}
-use Rattle.hii_questions.specs.declared.denial.DenialKind.{DenialKind}
-use Rattle.hii_questions.specs.declared.denial.DenialKind.TheVariants.{DisableIf, Locked, Outside, ReadOnly}
 use Rattle.guard_policy.specs.Policy.{fixed, is_never_changed}
 use Rattle.guard_policy.specs.World.{World}
 use Rattle.guard_policy.specs.declared.denial.Denial.{Denial}

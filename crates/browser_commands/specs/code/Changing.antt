@@ -8,9 +8,10 @@ use Rattle.ifr_scopes.specs.declared.around.Around.{Around}
 use Rattle.hii_varstore.specs.Layout.{Shape}
 use Rattle.hii_varstore.specs.code.Ranges.{HasRange}
 use Rattle.hii_varstore.specs.Stores.{bytes_of_field, byte_of, StoreMap, shape_of, with_bytes}
+use Rattle.hii_values.specs.Types.{is_password}
+use Rattle.hii_values.specs.Inputs.{Offer}
 use Rattle.hii_questions.specs.Fields as fields
-use Rattle.hii_questions.specs.Fields.{Asked, is_password}
-use Rattle.hii_questions.specs.Inputs.{Offer}
+use Rattle.hii_questions.specs.Fields.{Asked}
 use Rattle.hii_questions.specs.code.Checks.{range_of}
 use Rattle.hii_questions.specs.code.NewBytes.{new_bytes}
 use Rattle.hii_questions.specs.code.Views.{question_node, question_view}

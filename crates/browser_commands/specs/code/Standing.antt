@@ -9,13 +9,13 @@ use Rattle.ifr_scopes.specs.declared.form.Form.{Form}
 use Rattle.ifr_nodes.specs.Nodes.{nodes_of, is_question}
 use Rattle.hii_varstore.specs.code.Table.{AreBuffers}
 use Rattle.hii_varstore.specs.Stores.{StoreMap, shape_of}
+use Rattle.hii_values.specs.Inputs.{Offer}
+use Rattle.hii_values.specs.declared.input.Input.{Input}
 use Rattle.hii_questions.specs.Fields as fields
-use Rattle.hii_questions.specs.Inputs.{Offer}
 use Rattle.hii_questions.specs.code.Offers.{IsGiven}
 use Rattle.hii_questions.specs.code.Survey.{Survey}
 use Rattle.hii_questions.specs.code.Views.{question_node, question_view}
 use Rattle.hii_questions.specs.declared.question.Question.{Question}
-use Rattle.hii_questions.specs.declared.input.Input.{Input}
 use Rattle.guard_policy.specs.Policy.{unsubmitted}
 use Rattle.guard_policy.specs.World.{world_over}
 use Rattle.guard_policy.specs.code.Answers.{unless}

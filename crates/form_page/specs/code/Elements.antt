@@ -1,7 +1,7 @@
 -- What the elements of a list have before them.
 use Rattle.std.specs.Prelude.{ℕ, Option, List, map}
 use Rattle.ifr_scopes.specs.code.Lists.{statement_node}
-use Rattle.hii_questions.specs.code.StoredLeft.{stored_left}
+use Rattle.hii_values.specs.code.StoredLeft.{stored_left}
 use Rattle.guard_policy.specs.declared.conditions.Conditions.{Ghosts}
 use Rattle.form_page.specs.code.PageViews.{texts_of, world_of}
 use Rattle.form_page.specs.RowValues.{choice}

@@ -4,7 +4,7 @@ use Rattle.std.specs.List.{find}
 use Rattle.std.specs.Option.{option_or}
 use Rattle.ifr_opcodes.specs.Fields.{option_text}
 use Rattle.ifr_opcodes.specs.Forest.{Node}
-use Rattle.hii_questions.specs.code.MetValues.{is_met, is_sought}
+use Rattle.hii_values.specs.code.MetValues.{is_met, is_sought}
 use Rattle.guard_policy.specs.World.{World}
 use Rattle.form_page.specs.RowValues.{option_with}
 use Rattle.form_page.specs.declared.seen_texts.SeenText.{SeenText}

@@ -2,8 +2,8 @@
 use Rattle.std.specs.Prelude.{◌≡◌, ℕ, Bool, Option, option_map}
 use Rattle.std.specs.List.{find}
 use Rattle.std.proofs.Props.{props}
-use Rattle.ifr_scopes.specs.code.Tables.{guards_from}
-use Rattle.hii_questions.specs.declared.denial.DenialKind.TheVariants.{GrayOutIf}
+use Rattle.ifr_index.specs.code.Tables.{guards_from}
+use Rattle.hii_values.specs.declared.denial.DenialKind.TheVariants.{GrayOutIf}
 use Rattle.guard_policy.specs.Policy.{denied_by, grays_out, hidden_among}
 use Rattle.guard_policy.specs.World.{World}
 use Rattle.guard_policy.specs.code.Views.{world_by}

@@ -1,7 +1,7 @@
 -- Worlds by the places of conditions.
 use Rattle.std.specs.Prelude.{ℕ, Bool, false, Option, Some, None}
 use Rattle.ifr_opcodes.specs.Forest.{Node}
-use Rattle.ifr_scopes.specs.code.Index.{conditional_at}
+use Rattle.ifr_index.specs.code.Index.{conditional_at}
 use Rattle.guard_policy.specs.World.{World, is_met}
 
 -- whether the condition at a place holds; not so where none stands

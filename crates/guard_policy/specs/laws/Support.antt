@@ -8,7 +8,7 @@ use Rattle.ifr_opcodes.specs.Opcode.{number}
 use Rattle.ifr_expr.specs.laws.Agreement.{Agree}
 use Rattle.ifr_nodes.specs.code.Checked.{IsNodeOf}
 use Rattle.ifr_nodes.specs.Guards.{guards}
-use Rattle.ifr_scopes.specs.code.Index.{conditional_at}
+use Rattle.ifr_index.specs.code.Index.{conditional_at}
 use Rattle.ifr_scopes.specs.code.Lists.{form_node, statement_node}
 use Rattle.ifr_nodes.specs.Nodes.{is_no_submit, options, inconsistents, warnings}
 use Rattle.hii_varstore.specs.Stores.{StoreMap}

@@ -2,13 +2,13 @@
 use Rattle.std.specs.Prelude.{◌≡◌, ◌<◌, ◌^◌, Some, Result, Ok, Err, List, Contains}
 use Rattle.ifr_opcodes.specs.Fields.{type_width, option_kind, option_value}
 use Rattle.ifr_opcodes.specs.Forest.{Node}
+use Rattle.hii_values.specs.Inputs.{Offer}
+use Rattle.hii_values.specs.Types.{type_of}
+use Rattle.hii_values.specs.declared.denial.ValueDenial.{ValueDenial}
 use Rattle.hii_questions.specs.Fields as fields
 use Rattle.hii_questions.specs.Fields.{Asked}
 use Rattle.hii_questions.specs.Fits.{fits_field, values_offered}
-use Rattle.hii_questions.specs.Inputs.{Offer}
 use Rattle.hii_questions.specs.code.NewBytes.{new_bytes, new_items}
-use Rattle.hii_questions.specs.Types.{type_of}
-use Rattle.hii_questions.specs.declared.denial.ValueDenial.{ValueDenial}
 use Rattle.hii_questions.specs.declared.field.Field.{Field}
 
 -- the bytes of a store that are to be new

@@ -1,8 +1,8 @@
 -- The new bytes of a `Field` of the code.
 use Rattle.std.specs.Prelude.{ℕ, if◌then◌else◌, List, []}
-use Rattle.hii_questions.specs.code.Contents.{content_bytes}
-use Rattle.hii_questions.specs.code.ItemsLeft.{items_left}
-use Rattle.hii_questions.specs.Items.{filled}
+use Rattle.hii_values.specs.code.Contents.{content_bytes}
+use Rattle.hii_values.specs.code.ItemsLeft.{items_left}
+use Rattle.hii_values.specs.Items.{filled}
 use Rattle.hii_questions.specs.declared.field.Field.{Field}
 
 -- as many bytes as the field has

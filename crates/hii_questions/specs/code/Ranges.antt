@@ -3,9 +3,10 @@ use Rattle.std.specs.Prelude.{◌≡◌, ◌≤◌, false, Option, Some, None, �
 use Rattle.std.specs.Coded.{Unit-prop}
 use Rattle.std.proofs.Props.{props}
 use Rattle.ifr_opcodes.specs.Forest.{Node}
-use Rattle.hii_questions.specs.Fields.{Field, field_width, is_password}
+use Rattle.hii_values.specs.Types.{is_password}
+use Rattle.hii_values.specs.declared.field_type.TheConstants.{WIDEST_FIELD}
+use Rattle.hii_questions.specs.Fields.{Field, field_width}
 use Rattle.hii_questions.specs.declared.field_range.FieldRange.{FieldRange}
-use Rattle.hii_questions.specs.declared.field_range.TheConstants.{WIDEST_FIELD}
 
 abbrev pub range_in : FieldRange → Field
 range_in range = record { store = range.store; offset = range.offset; width = range.width }

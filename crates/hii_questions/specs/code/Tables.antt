@@ -6,7 +6,8 @@ use Rattle.ifr_opcodes.specs.Fields.{question_id}
 use Rattle.ifr_nodes.specs.Accepted.{IsAccepted}
 use Rattle.ifr_nodes.specs.Nodes.{nodes_of}
 use Rattle.ifr_nodes.specs.code.Checked.{node_in}
-use Rattle.hii_questions.specs.Fields.{Asked, questions, is_password}
+use Rattle.hii_values.specs.Types.{is_password}
+use Rattle.hii_questions.specs.Fields.{Asked, questions}
 use Rattle.hii_questions.specs.code.ByField.{AreByField}
 use Rattle.hii_questions.specs.code.Entries.{AreQuestionEntries, entry_view}
 use Rattle.hii_questions.specs.code.Ids.{AreIds}

@@ -11,14 +11,14 @@ use Rattle.ifr_nodes.specs.Nodes.{nodes_of, is_question}
 use Rattle.hii_varstore.specs.code.Ranges.{HasRange}
 use Rattle.hii_varstore.specs.StoreNodes.{layout_of}
 use Rattle.hii_varstore.specs.Stores.{StoreMap, shape_of, with_bytes}
+use Rattle.hii_values.specs.FieldTypes.{FieldType, checkbox, numeric, one_of, text, ordered_list}
+use Rattle.hii_values.specs.Inputs.{Offer, whole, raw, utf8, units, listed, elements, field, read_as}
+use Rattle.hii_values.specs.Items.{items_in, spelled, filled}
+use Rattle.hii_values.specs.Types.{type_of}
 use Rattle.hii_questions.specs.Answers.{value_of_field}
 use Rattle.hii_questions.specs.Faults.{IsQuestionFault}
 use Rattle.hii_questions.specs.Fields.{Field, Asked, field_of, question_with, has_field}
-use Rattle.hii_questions.specs.FieldTypes.{FieldType, checkbox, numeric, one_of, text, ordered_list}
 use Rattle.hii_questions.specs.Fits.{fits, values_offered}
-use Rattle.hii_questions.specs.Inputs.{Offer, whole, raw, utf8, units, listed, elements, field, read_as}
-use Rattle.hii_questions.specs.Items.{items_in, spelled, filled}
-use Rattle.hii_questions.specs.Types.{type_of}
 
 -- Where no question has a fault, each field lies in its store.
 abbrev pub HoldsFields : Type 0

@@ -2,7 +2,7 @@
 use Rattle.std.specs.Prelude.{◌≡◌, ℕ, Option, Some, None}
 use Rattle.ifr_opcodes.specs.Forest.{Node}
 use Rattle.ifr_scopes.specs.code.Parts.{default_node}
-use Rattle.hii_questions.specs.Inputs.{Offer, raw}
+use Rattle.hii_values.specs.Inputs.{Offer, raw}
 use Rattle.ifr_defaults.specs.Defaults.{Sources, default_with, flagged, given}
 use Rattle.ifr_defaults.specs.declared.defaults.DefaultSource.{DefaultSource}
 use Rattle.ifr_defaults.specs.declared.defaults.DefaultSource.TheVariants.{Opcode, Flags}

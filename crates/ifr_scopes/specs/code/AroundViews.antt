@@ -3,7 +3,7 @@ use Rattle.std.specs.Prelude.{ℕ, Option, option_map, List}
 use Rattle.ifr_opcodes.specs.Forest.{Node}
 use Rattle.ifr_nodes.specs.Nodes.{nodes_of}
 use Rattle.ifr_nodes.specs.code.Checked.{node_in}
-use Rattle.ifr_scopes.specs.code.Tables.{guards_from}
+use Rattle.ifr_index.specs.code.Tables.{guards_from}
 use Rattle.ifr_scopes.specs.declared.around.Around.{Around}
 
 -- the bytes of the package

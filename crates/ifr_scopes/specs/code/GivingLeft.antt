@@ -4,7 +4,7 @@ use Rattle.std.specs.List.{take_while}
 use Rattle.ifr_opcodes.specs.declared.codes.TheConstants.{FORM}
 use Rattle.ifr_opcodes.specs.Forest.{Node}
 use Rattle.ifr_nodes.specs.code.Checked.{node_in}
-use Rattle.ifr_scopes.specs.code.Giving.{gives_at}
+use Rattle.ifr_index.specs.code.Giving.{gives_at}
 use Rattle.ifr_scopes.specs.declared.giving.GivingStatements.{GivingStatements}
 
 abbrev pub giving_left : GivingStatements → List Node

@@ -6,7 +6,7 @@ use Rattle.ifr_opcodes.specs.declared.op.Op.{Op}
 use Rattle.ifr_nodes.specs.code.Checked.{node_in}
 use Rattle.ifr_opcodes.specs.Rows.{is_statement_number}
 use Rattle.ifr_nodes.specs.Nodes.{nodes_of, is_form, is_statement}
-use Rattle.ifr_scopes.specs.code.Tables.{guard_of_number, guards_from}
+use Rattle.ifr_index.specs.code.Tables.{guard_of_number, guards_from}
 use Rattle.ifr_nodes.specs.code.Views.{node_of, nodes_left}
 use Rattle.ifr_scopes.specs.declared.all_statements.AllStatements.{AllStatements}
 use Rattle.ifr_scopes.specs.declared.guard.Guard.{Guard}

@@ -4,7 +4,7 @@ use Rattle.ifr_opcodes.specs.declared.codes.TheConstants.{NO_SUBMIT_IF}
 use Rattle.ifr_opcodes.specs.Forest.{Node}
 use Rattle.ifr_nodes.specs.code.Checked.{node_in}
 use Rattle.ifr_scopes.specs.code.Parts.{condition_node}
-use Rattle.ifr_scopes.specs.declared.index.ConditionEntry.{ConditionEntry}
+use Rattle.ifr_index.specs.declared.index.ConditionEntry.{ConditionEntry}
 use Rattle.ifr_scopes.specs.declared.no_submits.NoSubmit.{NoSubmit}
 use Rattle.ifr_scopes.specs.declared.no_submits.NoSubmits.{NoSubmits}
 

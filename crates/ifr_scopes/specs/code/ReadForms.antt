@@ -2,9 +2,9 @@
 use Rattle.std.specs.Prelude.{ℕ, List}
 use Rattle.ifr_nodes.specs.Accepted.{IsAccepted}
 use Rattle.ifr_nodes.specs.code.KeptRules.{AreKeptRules}
-use Rattle.ifr_scopes.specs.code.Tables.{IsIndexOf}
+use Rattle.ifr_index.specs.code.Tables.{IsIndexOf}
 use Rattle.ifr_nodes.specs.Nodes.{nodes_of}
-use Rattle.ifr_scopes.specs.declared.index.Index.{Index}
+use Rattle.ifr_index.specs.declared.index.Index.{Index}
 use Rattle.ifr_nodes.specs.declared.rules.RuleTable.{RuleTable}
 
 -- The package is accepted, and these are its rules and its index.

@@ -3,7 +3,7 @@ use Rattle.std.specs.Prelude.{◌≡◌, ℕ, List, IfSome}
 use Rattle.std.specs.BTreeMap.{get}
 use Rattle.std.specs.Ordering.{nat_cmp}
 use Rattle.ifr_nodes.specs.Nodes.{nodes_of}
-use Rattle.ifr_scopes.specs.code.LockIndex.{first_place}
+use Rattle.ifr_index.specs.code.LockIndex.{first_place}
 use Rattle.question_rows.specs.code.Deciding.{TellsDecisions}
 use Rattle.question_rows.specs.declared.known.Known.{Known}
 

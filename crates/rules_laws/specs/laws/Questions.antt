@@ -2,11 +2,11 @@
 use Rattle.std.specs.Prelude.{◌≡◌, ℕ, List, Result, Ok, Err, Some, IfSome, length}
 use Rattle.browser_rules.specs.Questions as chapter
 use Rattle.hii_varstore.specs.Stores.{StoreMap}
+use Rattle.hii_values.specs.FieldTypes.{FieldType, checkbox, numeric, one_of, text, ordered_list}
+use Rattle.hii_values.specs.Inputs.{Offer, whole, raw, utf8, units, listed, elements, field}
+use Rattle.hii_values.specs.declared.denial.DenialKind.{DenialKind}
 use Rattle.hii_questions.specs.Changes.{field_bytes}
 use Rattle.hii_questions.specs.Fields.{Field, Asked}
-use Rattle.hii_questions.specs.FieldTypes.{FieldType, checkbox, numeric, one_of, text, ordered_list}
-use Rattle.hii_questions.specs.Inputs.{Offer, whole, raw, utf8, units, listed, elements, field}
-use Rattle.hii_questions.specs.declared.denial.DenialKind.{DenialKind}
 use Rattle.rules_laws.specs.Denials.{kind_for}
 
 abbrev pub type_for : FieldType → chapter.FieldType

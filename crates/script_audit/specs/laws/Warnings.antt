@@ -2,7 +2,7 @@
 use Rattle.std.specs.Prelude.{◌≡◌, Option, ◌++◌}
 use Rattle.std.specs.List.{flat_map}
 use Rattle.ifr_opcodes.specs.Forest.{Node}
-use Rattle.hii_questions.specs.Inputs.{Offer}
+use Rattle.hii_values.specs.Inputs.{Offer}
 use Rattle.session_steps.specs.State.{State, texts}
 use Rattle.session_steps.specs.Step.{set_question}
 use Rattle.session_steps.specs.Texts.{ok_text, warning_line}

@@ -4,8 +4,8 @@ use Rattle.std.specs.List.{list_any}
 use Rattle.ifr_opcodes.specs.Fields.{option_value}
 use Rattle.ifr_opcodes.specs.Forest.{Node}
 use Rattle.ifr_nodes.specs.Nodes.{options}
-use Rattle.hii_questions.specs.code.ItemsLeft.{items_left}
-use Rattle.hii_questions.specs.code.MetValues.{is_sought}
+use Rattle.hii_values.specs.code.ItemsLeft.{items_left}
+use Rattle.hii_values.specs.code.MetValues.{is_sought}
 use Rattle.hii_questions.specs.code.Views.{question_node}
 use Rattle.guard_policy.specs.Policy.{closed, first_closed, or_else}
 use Rattle.guard_policy.specs.World.{World}

@@ -1,5 +1,5 @@
 use Rattle.std.proofs.Common.{◌≡◌, length}
-use Rattle.hii_questions.specs.code.ItemsLeft.{items_left}
+use Rattle.hii_values.specs.code.ItemsLeft.{items_left}
 use Rattle.hii_questions.specs.code.Views.{question_node}
 use Rattle.guard_policy.specs.Policy.{first_closed}
 use Rattle.guard_policy.specs.code.Views.{world}

@@ -2,8 +2,8 @@ use Rattle.std.proofs.Common.{◌≡◌, Err, refl, sym, ap, subst, ◌∙◌}
 use Rattle.std.proofs.lemmas.Result.{err_from_is_err_and}
 use Rattle.hii_varstore.specs.Layout.{Shape}
 use Rattle.hii_varstore.specs.Stores.{StoreMap, shape_of}
+use Rattle.hii_values.specs.code.Offers.{offer_of}
 use Rattle.hii_questions.specs.code.LyingIn.{LiesIn}
-use Rattle.hii_questions.specs.code.Offers.{offer_of}
 use Rattle.hii_questions.specs.code.Views.{question_node, question_view}
 use Rattle.guard_policy.specs.Policy.{fixed}
 use Rattle.guard_policy.specs.World.{World}

@@ -1,6 +1,6 @@
 use Rattle.std.proofs.Common.{sym}
 use Rattle.std.proofs.lemmas.Result.{err_from_is_err_and}
-use Rattle.hii_questions.specs.code.Offers.{offer_of}
+use Rattle.hii_values.specs.code.Offers.{offer_of}
 use Rattle.hii_questions.specs.code.Views.{question_view}
 use Rattle.browser_commands.proofs.SetLemmas.{takes_field, takes_closed, takes_nothing}
 use Rattle.browser_commands.proofs.change.new_field.Goals as goal

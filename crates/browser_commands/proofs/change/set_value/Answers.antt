@@ -1,6 +1,6 @@
 use Rattle.std.proofs.lemmas.Result.{err_from_is_err_and}
+use Rattle.hii_values.specs.code.Offers.{offer_of}
 use Rattle.hii_questions.specs.code.Checks.{range_of}
-use Rattle.hii_questions.specs.code.Offers.{offer_of}
 use Rattle.hii_questions.specs.code.Views.{question_view}
 use Rattle.browser_commands.proofs.SetLemmas.{denies_value, leaves_all, sets_value}
 use Rattle.browser_commands.proofs.change.set_value.Goals as goal

@@ -3,9 +3,9 @@ use Rattle.std.proofs.lemmas.List.Elements.{All-filter}
 use Rattle.ifr_opcodes.specs.Forest.{Node}
 use Rattle.ifr_nodes.specs.Nodes.{statements}
 use Rattle.ifr_nodes.specs.code.Checked.{IsNodeOf}
-use Rattle.ifr_scopes.specs.code.Giving.{is_giving}
+use Rattle.ifr_index.specs.code.Giving.{is_giving}
 use Rattle.ifr_scopes.specs.code.Lists.{form_node}
-use Rattle.ifr_scopes.proofs.IndexingLemmas.{few_of}
+use Rattle.ifr_index.proofs.IndexingLemmas.{few_of}
 use Rattle.hii_varstore.specs.Stores.{shape_of}
 use Rattle.browser_commands.proofs.Browsers.{stands_with}
 use Rattle.browser_commands.proofs.DefaultLemmas.{sources_in, takes_all, takes_giving}

@@ -1,9 +1,9 @@
 use Rattle.std.proofs.Common.{subst}
 use Rattle.std.specs.Prelude.{IfSome, Option}
+use Rattle.hii_values.specs.declared.input.Input.{Input}
 use Rattle.hii_questions.specs.Fields.{Field}
 use Rattle.hii_questions.specs.code.Offers.{IsGiven}
 use Rattle.hii_questions.specs.code.Views.{question_view}
-use Rattle.hii_questions.specs.declared.input.Input.{Input}
 use Rattle.check_audit.proofs.given_defaults.refusal_of.Goals as goal
 
 pub check_value-requires : goal.check_value-requires

@@ -1,9 +1,9 @@
 use Rattle.std.proofs.Common.{◌≡◌, ℕ, if◌then◌else◌, Bool, codes, Option, MatchOption, List, [], ◌∷◌, sym, ap, subst, ◌∙◌}
 use Rattle.hii_varstore.specs.Stores.{bytes_of_field}
+use Rattle.hii_values.specs.Types.{type_of}
+use Rattle.hii_values.specs.code.StoredLeft.{stored_left}
 use Rattle.hii_questions.specs.Answers.{value_of_bytes, value_of_field}
 use Rattle.hii_questions.specs.Fields.{Field}
-use Rattle.hii_questions.specs.Types.{type_of}
-use Rattle.hii_questions.specs.code.StoredLeft.{stored_left}
 use Rattle.hii_questions.specs.code.Views.{question_node}
 use Rattle.form_page.specs.RowValues.{password_shown}
 use Rattle.form_page.proofs.PasswordLemmas.{whole_password, wide_as}

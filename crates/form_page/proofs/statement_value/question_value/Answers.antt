@@ -3,8 +3,9 @@ use Rattle.std.specs.Prelude.{option_map}
 use Rattle.std.proofs.lemmas.Bool.{cond-true}
 use Rattle.ifr_scopes.specs.code.Lists.{statement_node}
 use Rattle.ifr_nodes.specs.Nodes.{nodes_of, is_question}
+use Rattle.hii_values.specs.Types.{is_password}
 use Rattle.hii_questions.specs.Answers.{value_of_field}
-use Rattle.hii_questions.specs.Fields.{Asked, field_of, is_password}
+use Rattle.hii_questions.specs.Fields.{Asked, field_of}
 use Rattle.hii_questions.specs.code.Views.{question_node, question_view}
 use Rattle.guard_policy.specs.code.Views.{bytes_of}
 use Rattle.form_page.specs.code.PageViews.{texts_of, world_of}

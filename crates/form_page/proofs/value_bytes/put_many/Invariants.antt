@@ -1,7 +1,7 @@
 use Rattle.std.proofs.Common.{length, map}
 use Rattle.hii_bytes.specs.Watching.{pen_of}
 use Rattle.ifr_scopes.specs.code.Lists.{statement_node}
-use Rattle.hii_questions.specs.code.StoredLeft.{stored_left}
+use Rattle.hii_values.specs.code.StoredLeft.{stored_left}
 use Rattle.form_page.specs.RowValues.{choice, later_text, list_text}
 use Rattle.form_page.specs.Texts.{utf8}
 use Rattle.form_page.specs.code.Elements.{elements_left}

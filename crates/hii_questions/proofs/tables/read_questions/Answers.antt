@@ -11,7 +11,8 @@ use Rattle.ifr_nodes.specs.Nodes.{nodes_of, is_question, is_statement}
 use Rattle.ifr_nodes.proofs.ViewLemmas.{further, node_in_place}
 use Rattle.hii_varstore.specs.Layout.{Shape, size_of}
 use Rattle.hii_varstore.specs.StoreNodes.{layout_of}
-use Rattle.hii_questions.specs.Fields.{Asked, asked, is_password, questions}
+use Rattle.hii_values.specs.Types.{is_password}
+use Rattle.hii_questions.specs.Fields.{Asked, asked, questions}
 use Rattle.hii_questions.specs.Faults.{is_known, parts_of}
 use Rattle.hii_questions.specs.code.Entries.{IsEntryOf, IsQuestionEntry, entry_view}
 use Rattle.hii_questions.specs.code.FaultTells.{first_part_fault}

@@ -6,7 +6,8 @@ use Rattle.ifr_nodes.specs.code.Checked.{node_in}
 use Rattle.ifr_scopes.specs.code.Lists.{all_statements_left}
 use Rattle.ifr_nodes.specs.Nodes.{nodes_of, is_question}
 use Rattle.hii_varstore.specs.StoreNodes.{layout_of}
-use Rattle.hii_questions.specs.Fields.{asked, is_password, questions}
+use Rattle.hii_values.specs.Types.{is_password}
+use Rattle.hii_questions.specs.Fields.{asked, questions}
 use Rattle.hii_questions.specs.Faults.{is_known, parts_of}
 use Rattle.hii_questions.specs.code.Entries.{AreQuestionEntries, entry_view}
 use Rattle.hii_questions.specs.code.FaultTells.{first_part_fault}

@@ -1,14 +1,14 @@
 use Rattle.std.proofs.Common.{◌≡◌, Ok, ap, subst, ◌∙◌}
-use Rattle.hii_questions.specs.code.Contents.{content_bytes}
-use Rattle.hii_questions.specs.code.Fitting.{offered_items}
-use Rattle.hii_questions.specs.code.ItemsLeft.{items_left}
-use Rattle.hii_questions.specs.code.Offers.{offer_of}
-use Rattle.hii_questions.specs.code.TypeViews.{type_in}
+use Rattle.hii_values.specs.code.Contents.{content_bytes}
+use Rattle.hii_values.specs.code.Fitting.{offered_items}
+use Rattle.hii_values.specs.code.ItemsLeft.{items_left}
+use Rattle.hii_values.specs.code.Offers.{offer_of}
+use Rattle.hii_values.specs.code.TypeViews.{type_in}
+use Rattle.hii_values.specs.FieldTypes.{size_of_type}
+use Rattle.hii_values.specs.Inputs.{Offer, fits_type}
+use Rattle.hii_values.specs.Items.{filled}
+use Rattle.hii_values.specs.Types.{type_of}
 use Rattle.hii_questions.specs.code.Views.{question_node}
-use Rattle.hii_questions.specs.FieldTypes.{size_of_type}
-use Rattle.hii_questions.specs.Inputs.{Offer, fits_type}
-use Rattle.hii_questions.specs.Items.{filled}
-use Rattle.hii_questions.specs.Types.{type_of}
 use Rattle.hii_questions.proofs.NamedLemmas.{new_items_named}
 use Rattle.hii_questions.proofs.value.check_value.Goals as goal
 

@@ -1,5 +1,5 @@
 use Rattle.ifr_nodes.proofs.ViewLemmas.{contains_found}
-use Rattle.ifr_scopes.proofs.PathLemmas.{own_guards, own_lock}
+use Rattle.ifr_index.proofs.PathLemmas.{own_guards, own_lock}
 use Rattle.ifr_nodes.specs.Nodes.{nodes_of}
 use Rattle.ifr_scopes.proofs.laws.guards_and_locks_are_found.Goals as goal
 

@@ -1,4 +1,4 @@
-use Rattle.ifr_scopes.proofs.PathLemmas.{statements_of}
+use Rattle.ifr_index.proofs.PathLemmas.{statements_of}
 use Rattle.ifr_scopes.proofs.laws.statements_are_nodes.Goals as goal
 
 pub returns : goal.returns

@@ -4,7 +4,8 @@ use Rattle.std.specs.Option.{option_copied}
 use Rattle.hii_bytes.specs.Watching.{Writes, pen_of}
 use Rattle.ifr_nodes.specs.Nodes.{nodes_of}
 use Rattle.hii_varstore.specs.Stores.{shape_of}
-use Rattle.hii_questions.specs.Fields.{Asked, is_password}
+use Rattle.hii_values.specs.Types.{is_password}
+use Rattle.hii_questions.specs.Fields.{Asked}
 use Rattle.hii_questions.specs.code.LyingIn.{LieIn}
 use Rattle.hii_questions.specs.code.Views.{question_view}
 use Rattle.image_audit.specs.Lines.{differs_from, question_told, is_told}

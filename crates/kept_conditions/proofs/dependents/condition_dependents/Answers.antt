@@ -2,7 +2,7 @@ use Rattle.std.proofs.Common.{◌≡◌, ℕ, List, ◌++◌, map, filter, sym, 
 use Rattle.std.proofs.lemmas.List.{append-nil}
 use Rattle.hii_bytes.specs.code.FirstFaults.{Rise}
 use Rattle.ifr_opcodes.specs.Forest.{Node}
-use Rattle.ifr_scopes.specs.code.Tables.{is_question_condition}
+use Rattle.ifr_index.specs.code.Tables.{is_question_condition}
 use Rattle.ifr_nodes.specs.Nodes.{nodes_of}
 use Rattle.ifr_scopes.specs.code.AllConditionsLeft.{all_conditions_left}
 use Rattle.guard_policy.specs.code.Views.{bytes_of}

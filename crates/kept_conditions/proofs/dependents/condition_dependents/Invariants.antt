@@ -1,6 +1,6 @@
 use Rattle.std.proofs.Common.{◌≡◌, ◌++◌, length, map, filter}
 use Rattle.ifr_opcodes.specs.Forest.{Node}
-use Rattle.ifr_scopes.specs.code.Tables.{is_question_condition}
+use Rattle.ifr_index.specs.code.Tables.{is_question_condition}
 use Rattle.ifr_nodes.specs.Nodes.{nodes_of}
 use Rattle.ifr_scopes.specs.code.AllConditionsLeft.{all_conditions_left}
 use Rattle.guard_policy.specs.code.Views.{bytes_of}

@@ -3,7 +3,7 @@ use Rattle.std.proofs.lemmas.Grind.{common_steps}
 use Rattle.ifr_nodes.specs.Guards.{guards_among}
 use Rattle.ifr_nodes.specs.Nodes.{nodes_of}
 use Rattle.ifr_scopes.specs.code.Lists.{guard_node, guard_package}
-use Rattle.ifr_scopes.specs.code.Tables.{guards_before}
+use Rattle.ifr_index.specs.code.Tables.{guards_before}
 use Rattle.question_audit.proofs.FlagLemmas.{flag_there}
 use Rattle.question_audit.proofs.guard_table.flag_of.Goals as goal
 

@@ -5,7 +5,7 @@ use Rattle.std.specs.Ordering.{nat_cmp}
 use Rattle.ifr_opcodes.specs.Forest.{Node}
 use Rattle.ifr_nodes.specs.Nodes.{nodes_of}
 use Rattle.ifr_nodes.specs.code.Visits.{left}
-use Rattle.ifr_scopes.specs.code.LockIndex.{Finds, first_place}
+use Rattle.ifr_index.specs.code.LockIndex.{Finds, first_place}
 use Rattle.question_audit.proofs.lock_places.scope_locks.Goals as goal
 
 or_nothing : (o : Option ℕ) → option_or o None ≡ o

@@ -3,7 +3,7 @@ use Rattle.std.specs.BTreeMap.{get}
 use Rattle.std.specs.Ordering.{nat_cmp}
 use Rattle.ifr_nodes.specs.Nodes.{nodes_of}
 use Rattle.ifr_nodes.specs.code.Visits.{left}
-use Rattle.ifr_scopes.specs.code.LockIndex.{Finds, first_place}
+use Rattle.ifr_index.specs.code.LockIndex.{Finds, first_place}
 use Rattle.question_audit.proofs.lock_places.scope_locks.Given as goal
 
 -- what was found so far, else what is found among the nodes that are left

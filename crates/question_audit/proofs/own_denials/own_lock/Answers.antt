@@ -6,8 +6,8 @@ use Rattle.ifr_opcodes.specs.Forest.{Node}
 use Rattle.ifr_nodes.specs.Nodes.{nodes_of}
 use Rattle.ifr_scopes.specs.code.Lists.{guard_node}
 use Rattle.ifr_scopes.specs.code.Parts.{option_node}
-use Rattle.hii_questions.specs.declared.denial.DenialKind.TheVariants.{Locked}
-use Rattle.ifr_scopes.specs.code.LockIndex.{first_place}
+use Rattle.hii_values.specs.declared.denial.DenialKind.TheVariants.{Locked}
+use Rattle.ifr_index.specs.code.LockIndex.{first_place}
 use Rattle.guard_policy.specs.code.Views.{bytes_of}
 use Rattle.guard_policy.specs.declared.denial.Denial.{Denial}
 use Rattle.guard_policy.proofs.IndexedLemmas.{of_option}

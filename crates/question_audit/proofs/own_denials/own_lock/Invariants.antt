@@ -3,7 +3,7 @@ use Rattle.std.specs.Prelude.{filter}
 use Rattle.ifr_nodes.specs.Nodes.{nodes_of}
 use Rattle.ifr_scopes.specs.code.Lists.{guards_left}
 use Rattle.ifr_scopes.specs.code.Parts.{option_node}
-use Rattle.hii_questions.specs.declared.denial.DenialKind.TheVariants.{Locked}
+use Rattle.hii_values.specs.declared.denial.DenialKind.TheVariants.{Locked}
 use Rattle.guard_policy.specs.code.Views.{bytes_of}
 use Rattle.question_audit.specs.OptionFacts.{own_guards}
 use Rattle.question_audit.proofs.OwnLemmas.{is_inside, locked_by}

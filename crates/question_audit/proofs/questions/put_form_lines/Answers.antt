@@ -10,7 +10,7 @@ use Rattle.ifr_nodes.specs.Nodes.{is_question, nodes_of}
 use Rattle.ifr_nodes.specs.code.Checked.{AreNodesOf, IsNodeOf}
 use Rattle.ifr_scopes.specs.code.Lists.{form_node, statement_node}
 use Rattle.ifr_scopes.specs.code.StatementsLeft.{statements_of_left}
-use Rattle.ifr_scopes.proofs.PathLemmas.{statements_of}
+use Rattle.ifr_index.proofs.PathLemmas.{statements_of}
 use Rattle.hii_varstore.specs.Stores.{shape_of}
 use Rattle.hii_questions.specs.Fields.{Asked, asked}
 use Rattle.hii_questions.specs.code.LyingIn.{LiesIn}

@@ -3,11 +3,11 @@ use Rattle.std.specs.Prelude.{is_some, not}
 use Rattle.ifr_opcodes.specs.Forest.{Node}
 use Rattle.ifr_nodes.specs.Locks.{first_of_nodes, locks}
 use Rattle.ifr_nodes.specs.Nodes.{nodes_of}
-use Rattle.ifr_scopes.specs.code.Index.{lock_of_indexed}
+use Rattle.ifr_index.specs.code.Index.{lock_of_indexed}
 use Rattle.ifr_scopes.specs.code.LocksLeft.{lock_node}
 use Rattle.ifr_scopes.specs.declared.locks.LockView.{LockView}
+use Rattle.hii_values.specs.declared.denial.DenialKind.TheVariants.{Locked}
 use Rattle.hii_questions.specs.code.Views.{question_node}
-use Rattle.hii_questions.specs.declared.denial.DenialKind.TheVariants.{Locked}
 use Rattle.guard_policy.specs.Policy.{denied_by}
 use Rattle.guard_policy.specs.code.Views.{bytes_of}
 use Rattle.guard_policy.proofs.IndexedLemmas.{lock_there, of_statement}

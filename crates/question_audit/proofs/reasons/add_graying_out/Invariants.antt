@@ -2,8 +2,8 @@ use Rattle.std.proofs.Common.{◌≡◌, ◌++◌, length, map}
 use Rattle.std.specs.Prelude.{filter}
 use Rattle.ifr_nodes.specs.Guards.{guards}
 use Rattle.ifr_scopes.specs.code.Lists.{guards_left}
+use Rattle.hii_values.specs.declared.denial.DenialKind.TheVariants.{GrayOutIf}
 use Rattle.hii_questions.specs.code.Views.{question_node}
-use Rattle.hii_questions.specs.declared.denial.DenialKind.TheVariants.{GrayOutIf}
 use Rattle.guard_policy.specs.Policy.{denied_by, grays_out}
 use Rattle.guard_policy.specs.code.Views.{bytes_of}
 use Rattle.form_page.specs.code.PageViews.{world_of}

@@ -6,8 +6,8 @@ use Rattle.ifr_nodes.specs.Nodes.{is_statement, nodes_of}
 use Rattle.ifr_nodes.specs.code.Checked.{has_node, has_statement, node_in}
 use Rattle.ifr_nodes.proofs.ViewLemmas.{contains_found, node_in_place}
 use Rattle.ifr_scopes.specs.code.Lists.{statement_node}
+use Rattle.hii_values.specs.declared.denial.DenialKind.TheVariants.{Locked}
 use Rattle.hii_questions.specs.code.Views.{question_node}
-use Rattle.hii_questions.specs.declared.denial.DenialKind.TheVariants.{Locked}
 use Rattle.guard_policy.specs.Policy.{denied_by}
 use Rattle.guard_policy.specs.code.Views.{bytes_of}
 use Rattle.question_audit.proofs.AroundLemmas.{same_forms}

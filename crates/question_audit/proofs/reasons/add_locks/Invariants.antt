@@ -2,8 +2,8 @@ use Rattle.std.proofs.Common.{◌≡◌, ◌++◌, length, map}
 use Rattle.ifr_nodes.specs.Locks.{locks}
 use Rattle.ifr_nodes.specs.Nodes.{nodes_of}
 use Rattle.ifr_scopes.specs.code.LocksLeft.{locks_left}
+use Rattle.hii_values.specs.declared.denial.DenialKind.TheVariants.{Locked}
 use Rattle.hii_questions.specs.code.Views.{question_node}
-use Rattle.hii_questions.specs.declared.denial.DenialKind.TheVariants.{Locked}
 use Rattle.guard_policy.specs.Policy.{denied_by}
 use Rattle.guard_policy.specs.code.Views.{bytes_of}
 use Rattle.question_audit.proofs.reasons.add_locks.Given as goal

@@ -2,7 +2,7 @@ use Rattle.std.proofs.Common.{length, ◌++◌, codes, decimal}
 use Rattle.std.specs.List.{flat_map}
 use Rattle.hii_bytes.specs.Watching.{pen_of}
 use Rattle.hii_bytes.specs.code.Writing.{Stands}
-use Rattle.hii_questions.specs.code.StoredLeft.{stored_left}
+use Rattle.hii_values.specs.code.StoredLeft.{stored_left}
 use Rattle.question_audit.proofs.script_values.put_later.Given as goal
 
 -- the numbers before those that are left were written

@@ -2,7 +2,7 @@ use Rattle.std.proofs.Common.{ℕ, ap, subst, sym, ◌∙◌}
 use Rattle.hii_bytes.specs.Watching.{Writes}
 use Rattle.hii_bytes.proofs.WritingLemmas.{◌⨾◌, writes_nil}
 use Rattle.ifr_scopes.specs.code.Lists.{statement_node}
-use Rattle.hii_questions.specs.Items.{items_in}
+use Rattle.hii_values.specs.Items.{items_in}
 use Rattle.form_page.specs.RowValues.{choice}
 use Rattle.form_page.specs.code.PageViews.{texts_of, world_of}
 use Rattle.question_audit.specs.QuestionLines.{unguarded}

@@ -3,7 +3,7 @@ use Rattle.std.specs.Prelude.{filter}
 use Rattle.hii_bytes.proofs.WritingLemmas.{◌⨾◌, writes_nil}
 use Rattle.ifr_opcodes.specs.Forest.{Node}
 use Rattle.ifr_nodes.specs.Nodes.{nodes_of}
-use Rattle.ifr_scopes.specs.code.Index.{guards_of_indexed}
+use Rattle.ifr_index.specs.code.Index.{guards_of_indexed}
 use Rattle.ifr_scopes.specs.code.Lists.{guard_node, guards_left, statement_node}
 use Rattle.guard_policy.specs.code.Views.{bytes_of}
 use Rattle.guard_policy.proofs.IndexedLemmas.{guards_there, of_statement}

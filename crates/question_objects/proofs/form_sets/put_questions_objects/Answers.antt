@@ -2,7 +2,7 @@ use Rattle.std.proofs.Common.{ℕ, List, ap, inr, ◌∙◌}
 use Rattle.hii_bytes.specs.code.NumberSets.{has_number}
 use Rattle.hii_bytes.proofs.WritingLemmas.{◌⨾◌}
 use Rattle.ifr_nodes.specs.Nodes.{nodes_of}
-use Rattle.ifr_scopes.specs.code.LockIndex.{first_place}
+use Rattle.ifr_index.specs.code.LockIndex.{first_place}
 use Rattle.question_audit.proofs.AroundLemmas.{same_forms}
 use Rattle.question_audit.proofs.BeginningLemmas.{at_error, begun_before, begun_behind}
 use Rattle.question_objects.proofs.form_sets.put_questions_objects.Goals as goal

@@ -2,7 +2,7 @@ use Rattle.std.proofs.Common.{◌≡◌, ◌+◌, ◌++◌, ℕ, List, Option, N
 use Rattle.std.specs.List.{flat_map}
 use Rattle.std.proofs.lemmas.List.{at_drop_all, at_drop_more}
 use Rattle.hii_bytes.proofs.WritingLemmas.{◌⨾◌, Stands-all, past_piece}
-use Rattle.hii_questions.specs.declared.denial.DenialKind.{DenialKind}
+use Rattle.hii_values.specs.declared.denial.DenialKind.{DenialKind}
 use Rattle.condition_text.proofs.WriteLemmas.{written_as}
 use Rattle.form_page.specs.code.PageViews.{world_of}
 use Rattle.report_audit.specs.Counts.{standing_item}

@@ -4,7 +4,7 @@ use Rattle.std.specs.Option.{IfSome, option_copied}
 use Rattle.hii_bytes.specs.code.NumberSets.{has_number}
 use Rattle.hii_bytes.proofs.WritingLemmas.{◌⨾◌}
 use Rattle.ifr_nodes.specs.Nodes.{nodes_of}
-use Rattle.ifr_scopes.specs.code.LockIndex.{first_place}
+use Rattle.ifr_index.specs.code.LockIndex.{first_place}
 use Rattle.question_audit.proofs.AroundLemmas.{same_forms}
 use Rattle.question_audit.proofs.BeginningLemmas.{at_error, begun_before, begun_behind}
 use Rattle.guard_policy.specs.code.Views.{bytes_of}

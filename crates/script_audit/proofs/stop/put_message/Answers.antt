@@ -2,7 +2,7 @@ use Rattle.std.proofs.Common.{◌≡◌, true, subst, sym, ◌∙◌}
 use Rattle.std.proofs.lemmas.Bool.{cond-true}
 use Rattle.hii_bytes.specs.Watching.{Writes}
 use Rattle.hii_bytes.proofs.WritingLemmas.{◌⨾◌}
-use Rattle.hii_questions.specs.Denials.{has_text}
+use Rattle.hii_values.specs.Denials.{has_text}
 use Rattle.script_audit.proofs.stop.put_message.Goals as goal
 
 pub returns-then-has_text : goal.returns-then-has_text

@@ -2,7 +2,7 @@ use Rattle.std.proofs.Common.{length}
 use Rattle.hii_bytes.specs.Watching.{pen_of}
 use Rattle.hii_bytes.specs.code.Writing.{Stands}
 use Rattle.ifr_scopes.specs.code.Lists.{statement_node}
-use Rattle.hii_questions.specs.code.StoredLeft.{stored_left}
+use Rattle.hii_values.specs.code.StoredLeft.{stored_left}
 use Rattle.form_page.specs.RowValues.{later_text}
 use Rattle.form_page.specs.code.PageViews.{texts_of, world_of}
 use Rattle.question_audit.specs.QuestionLines.{unguarded}

@@ -1,6 +1,6 @@
 use Rattle.std.proofs.Common.{◌∙◌, ℕ, List, ap}
 use Rattle.ifr_nodes.specs.Nodes.{nodes_of}
-use Rattle.ifr_scopes.specs.code.LockIndex.{first_place}
+use Rattle.ifr_index.specs.code.LockIndex.{first_place}
 use Rattle.question_audit.proofs.AroundLemmas.{same_forms}
 use Rattle.question_audit.proofs.BeginningLemmas.{at_error}
 use Rattle.question_audit.proofs.OptionLemmas.{nothing_begun}

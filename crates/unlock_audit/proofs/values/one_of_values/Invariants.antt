@@ -3,7 +3,7 @@ use Rattle.std.specs.Prelude.{pos}
 use Rattle.std.specs.Ordering.{int_eq}
 use Rattle.ifr_scopes.specs.code.Lists.{statement_node}
 use Rattle.ifr_scopes.specs.code.OptionsLeft.{options_of_left}
-use Rattle.hii_questions.specs.Types.{option_values}
+use Rattle.hii_values.specs.Types.{option_values}
 use Rattle.unlock_audit.specs.Moves.{one_of_values}
 use Rattle.unlock_audit.specs.Rising.{appended_each}
 use Rattle.unlock_audit.proofs.values.one_of_values.Given as goal

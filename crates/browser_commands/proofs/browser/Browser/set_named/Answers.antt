@@ -4,8 +4,8 @@ use Rattle.hii_bytes.specs.Watching.{pen_of, Writes}
 use Rattle.hii_bytes.proofs.WritingLemmas.{writes_nil}
 use Rattle.ifr_opcodes.specs.Forest.{Node}
 use Rattle.ifr_nodes.specs.Nodes.{nodes_of}
+use Rattle.hii_values.specs.code.Offers.{offer_of}
 use Rattle.hii_questions.specs.Fields.{question_with}
-use Rattle.hii_questions.specs.code.Offers.{offer_of}
 use Rattle.hii_questions.specs.code.Views.{question_node}
 use Rattle.session_steps.specs.Step.{set_question}
 use Rattle.browser_commands.specs.code.Standing.{written_of}

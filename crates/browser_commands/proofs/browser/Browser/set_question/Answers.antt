@@ -6,7 +6,7 @@ use Rattle.ifr_nodes.specs.code.Checked.{IsNodeOf}
 use Rattle.hii_varstore.specs.Layout.{Shape}
 use Rattle.hii_varstore.specs.Stores.{shape_of}
 use Rattle.hii_varstore.specs.code.Ranges.{HasRange}
-use Rattle.hii_questions.specs.code.Offers.{offer_of}
+use Rattle.hii_values.specs.code.Offers.{offer_of}
 use Rattle.hii_questions.specs.code.Views.{question_node, question_view}
 use Rattle.session_steps.specs.Step.{Outcome}
 use Rattle.kept_conditions.specs.Kept.{KeptMap}

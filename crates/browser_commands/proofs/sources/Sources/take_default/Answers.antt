@@ -3,8 +3,8 @@ use Rattle.ifr_opcodes.specs.Forest.{Node}
 use Rattle.ifr_scopes.specs.code.Lists.{statement_node}
 use Rattle.ifr_defaults.specs.code.DefaultSources.{IsSource}
 use Rattle.hii_varstore.specs.Stores.{StoreMap, shape_of, with_bytes}
+use Rattle.hii_values.specs.code.Offers.{offer_of}
 use Rattle.hii_questions.specs.code.NewBytes.{new_bytes}
-use Rattle.hii_questions.specs.code.Offers.{offer_of}
 use Rattle.hii_questions.specs.code.Views.{question_view}
 use Rattle.guard_policy.specs.code.Views.{bytes_of}
 use Rattle.kept_conditions.specs.Kept.{KeptMap}

@@ -1,8 +1,8 @@
 use Rattle.std.proofs.Common.{ap, subst, sym, ◌∙◌}
 use Rattle.ifr_nodes.specs.Checked.{IsChecked}
-use Rattle.ifr_scopes.specs.code.Index.{guards_of_indexed}
+use Rattle.ifr_index.specs.code.Index.{guards_of_indexed}
 use Rattle.ifr_nodes.specs.Nodes.{nodes_of}
-use Rattle.ifr_scopes.proofs.PathLemmas.{own_guards}
+use Rattle.ifr_index.proofs.PathLemmas.{own_guards}
 use Rattle.ifr_nodes.proofs.ViewLemmas.{contains_found}
 use Rattle.guard_policy.proofs.AskedLemmas.{suppressing_there}
 use Rattle.guard_policy.proofs.around.Around.hiding.Goals as goal

@@ -1,7 +1,7 @@
 use Rattle.std.proofs.Common.{◌≡◌, None}
 use Rattle.std.specs.Prelude.{option_map}
 use Rattle.std.specs.List.{find}
-use Rattle.hii_questions.specs.declared.denial.DenialKind.TheVariants.{GrayOutIf}
+use Rattle.hii_values.specs.declared.denial.DenialKind.TheVariants.{GrayOutIf}
 use Rattle.ifr_scopes.specs.code.AroundViews.{around_guards}
 use Rattle.ifr_scopes.specs.code.Lists.{outward_left}
 use Rattle.guard_policy.specs.Policy.{denied_by, grays_out, hidden_among, hides, hiding}

@@ -1,5 +1,5 @@
 use Rattle.std.proofs.Common.{◌≡◌, ℕ, Some, rules, sym, ap, ◌∙◌, true, false}
-use Rattle.hii_questions.specs.declared.denial.DenialKind.TheVariants.{GrayOutIf}
+use Rattle.hii_values.specs.declared.denial.DenialKind.TheVariants.{GrayOutIf}
 use Rattle.ifr_scopes.specs.code.AroundViews.{around_guards}
 use Rattle.ifr_scopes.specs.code.Lists.{guard_node, outward_left}
 use Rattle.guard_policy.specs.Policy.{denied_by, grays_out, hides, hiding}

@@ -2,7 +2,7 @@ use Rattle.std.proofs.Common.{◌≡◌, ◌&&◌, not, sym, ap, ◌∙◌, ℕ}
 use Rattle.std.specs.Prelude.{is_none, is_ok}
 use Rattle.ifr_opcodes.specs.Fields.{option_value}
 use Rattle.ifr_scopes.specs.code.Parts.{option_node}
-use Rattle.hii_questions.specs.code.MetValues.{is_met, is_sought}
+use Rattle.hii_values.specs.code.MetValues.{is_met, is_sought}
 use Rattle.guard_policy.specs.Policy.{fixed}
 use Rattle.guard_policy.specs.code.Views.{world_by}
 use Rattle.guard_policy.proofs.ClosedLemmas.{not_free, not_lacked}

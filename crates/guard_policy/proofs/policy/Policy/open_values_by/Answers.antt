@@ -4,7 +4,7 @@ use Rattle.std.specs.List.{list_any}
 use Rattle.ifr_opcodes.specs.Fields.{option_value}
 use Rattle.ifr_opcodes.specs.Forest.{Node}
 use Rattle.ifr_nodes.specs.Nodes.{options}
-use Rattle.hii_questions.specs.code.MetValues.{is_sought}
+use Rattle.hii_values.specs.code.MetValues.{is_sought}
 use Rattle.hii_questions.specs.code.Views.{question_node}
 use Rattle.guard_policy.specs.code.Views.{world, world_by}
 use Rattle.guard_policy.specs.declared.support.Decision.TheVariants.{OptionOpen}

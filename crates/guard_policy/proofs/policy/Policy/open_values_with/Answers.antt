@@ -5,7 +5,7 @@ use Rattle.ifr_nodes.specs.code.Checked.{AreNodesOf}
 use Rattle.ifr_nodes.specs.Nodes.{options}
 use Rattle.ifr_scopes.specs.code.OptionsLeft.{options_of_left}
 use Rattle.ifr_scopes.specs.code.Parts.{option_node}
-use Rattle.hii_questions.specs.code.MetValues.{is_met, is_sought}
+use Rattle.hii_values.specs.code.MetValues.{is_met, is_sought}
 use Rattle.hii_questions.specs.code.Views.{question_node}
 use Rattle.guard_policy.specs.code.OpenValues.{opens}
 use Rattle.guard_policy.specs.code.Views.{world_by}

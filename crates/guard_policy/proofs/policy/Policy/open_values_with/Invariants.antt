@@ -4,8 +4,8 @@ use Rattle.std.specs.List.{list_any}
 use Rattle.ifr_nodes.specs.Nodes.{options}
 use Rattle.ifr_nodes.specs.code.Checked.{AreNodesOf}
 use Rattle.ifr_scopes.specs.code.OptionsLeft.{options_of_left}
-use Rattle.hii_questions.specs.code.ItemsLeft.{items_left}
-use Rattle.hii_questions.specs.code.MetValues.{is_met, is_sought}
+use Rattle.hii_values.specs.code.ItemsLeft.{items_left}
+use Rattle.hii_values.specs.code.MetValues.{is_met, is_sought}
 use Rattle.hii_questions.specs.code.Views.{question_node}
 use Rattle.guard_policy.specs.code.Effects.{AreEffects}
 use Rattle.guard_policy.specs.code.OpenValues.{opens}

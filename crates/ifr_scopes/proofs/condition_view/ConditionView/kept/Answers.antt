@@ -4,7 +4,7 @@ use Rattle.ifr_opcodes.specs.Forest.{Node}
 use Rattle.ifr_opcodes.specs.Rows.{is_condition_number}
 use Rattle.ifr_nodes.specs.Nodes.{nodes_of, this_of}
 use Rattle.ifr_nodes.specs.code.Ends.{expression_end}
-use Rattle.ifr_scopes.specs.code.Tables.{conditions_before}
+use Rattle.ifr_index.specs.code.Tables.{conditions_before}
 use Rattle.ifr_nodes.proofs.EndLemmas.{stands_there}
 use Rattle.ifr_scopes.proofs.condition_view.ConditionView.kept.Goals as goal
 

@@ -1,6 +1,6 @@
 use Rattle.std.proofs.Common.{sym, subst}
 use Rattle.ifr_nodes.specs.Nodes.{nodes_of}
-use Rattle.ifr_scopes.specs.code.Tables.{AreConditionsBefore}
+use Rattle.ifr_index.specs.code.Tables.{AreConditionsBefore}
 use Rattle.ifr_scopes.proofs.condition_view.ConditionView.number.Goals as goal
 
 pub returns-clause-counted : goal.returns-clause-counted

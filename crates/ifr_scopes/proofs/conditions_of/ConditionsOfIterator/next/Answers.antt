@@ -3,7 +3,7 @@ use Rattle.std.proofs.lemmas.Bool.{eq-eqb, ne_eqb}
 use Rattle.ifr_opcodes.specs.Forest.{Node}
 use Rattle.ifr_scopes.specs.code.ConditionsLeft.{conditions_of_left}
 use Rattle.ifr_scopes.specs.code.Parts.{condition_node}
-use Rattle.ifr_scopes.proofs.ConditionsLeftLemmas.{left_of, left_first, left_passed}
+use Rattle.ifr_index.proofs.ConditionsLeftLemmas.{left_of, left_first, left_passed}
 use Rattle.ifr_scopes.proofs.conditions_of.ConditionsOfIterator.next.Goals as goal
 use Rattle.ifr_scopes.proofs.conditions_of.ConditionsOfIterator.next.Goals.{After-kept}
 

@@ -1,9 +1,9 @@
 use Rattle.std.proofs.Common.{ℕ, List, sym, ap, ◌∙◌}
 use Rattle.ifr_nodes.specs.Nodes.{nodes_of}
-use Rattle.ifr_scopes.specs.code.Index.{indexed_at, guards_of_indexed, lock_of_indexed}
+use Rattle.ifr_index.specs.code.Index.{indexed_at, guards_of_indexed, lock_of_indexed}
 use Rattle.ifr_opcodes.specs.Forest.{Node}
 use Rattle.std.specs.Prelude.{option_map}
-use Rattle.ifr_scopes.specs.code.Tables.{innermost_at}
+use Rattle.ifr_index.specs.code.Tables.{innermost_at}
 use Rattle.ifr_scopes.proofs.KeptLockLemmas.{IsKeptLock, lock_kept, lock_told}
 use Rattle.ifr_scopes.proofs.OutwardLemmas.{AreOutward, guard_told, outward}
 use Rattle.ifr_scopes.proofs.forms.Forms.around_at.Goals as goal

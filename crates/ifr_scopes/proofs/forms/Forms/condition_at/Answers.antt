@@ -5,12 +5,12 @@ use Rattle.ifr_opcodes.specs.Opcode.{number}
 use Rattle.ifr_nodes.specs.Guards.{is_guard}
 use Rattle.ifr_nodes.specs.Nodes.{nodes_of}
 use Rattle.ifr_scopes.specs.code.AnyConditions.{any_condition_node}
-use Rattle.ifr_scopes.specs.code.Index.{kind_at, conditional_at}
-use Rattle.ifr_scopes.specs.code.Tables.{inner_guard, guard_entry, is_question_condition, kept_condition}
-use Rattle.ifr_scopes.specs.declared.index.GuardEntry.{GuardEntry}
-use Rattle.ifr_scopes.specs.declared.index.ConditionEntry.{ConditionEntry}
+use Rattle.ifr_index.specs.code.Index.{kind_at, conditional_at}
+use Rattle.ifr_index.specs.code.Tables.{inner_guard, guard_entry, is_question_condition, kept_condition}
+use Rattle.ifr_index.specs.declared.index.GuardEntry.{GuardEntry}
+use Rattle.ifr_index.specs.declared.index.ConditionEntry.{ConditionEntry}
 use Rattle.ifr_scopes.proofs.ConditionAtLemmas.{guard_some, condition_some, none_there}
-use Rattle.ifr_scopes.proofs.IndexLemmas.{looked_up, nodes_rise}
+use Rattle.ifr_index.proofs.IndexLemmas.{looked_up, nodes_rise}
 use Rattle.ifr_scopes.proofs.forms.Forms.condition_at.Goals as goal
 use Rattle.ifr_scopes.proofs.forms.Forms.condition_at.Goals.{After-guard_at, After-condition_at}
 

@@ -1,7 +1,7 @@
 use Rattle.std.proofs.Common.{◌≡◌, ℕ, List, filter, length, rules, ap, ◌∙◌}
 use Rattle.ifr_nodes.specs.Nodes.{nodes_of}
-use Rattle.ifr_scopes.specs.code.Tables.{is_question_condition}
-use Rattle.ifr_scopes.proofs.NoSubmitLemmas.{condition_entries}
+use Rattle.ifr_index.specs.code.Tables.{is_question_condition}
+use Rattle.ifr_index.proofs.NoSubmitLemmas.{condition_entries}
 use Rattle.ifr_scopes.proofs.forms.Forms.condition_count.Goals as goal
 
 pub returns : goal.returns

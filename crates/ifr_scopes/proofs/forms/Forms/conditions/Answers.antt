@@ -2,9 +2,9 @@ use Rattle.std.proofs.Common.{◌≡◌, ℕ, List, map, filter, sym, ap, subst,
 use Rattle.ifr_nodes.specs.Accepted.{IsAccepted}
 use Rattle.ifr_nodes.specs.Nodes.{nodes_of}
 use Rattle.ifr_nodes.specs.code.Checked.{node_in}
-use Rattle.ifr_scopes.specs.code.Tables.{AreConditionEntries, is_question_condition}
-use Rattle.ifr_scopes.specs.declared.index.ConditionEntry.{ConditionEntry}
-use Rattle.ifr_scopes.proofs.NoSubmitLemmas.{all_conditions_again, all_entries}
+use Rattle.ifr_index.specs.code.Tables.{AreConditionEntries, is_question_condition}
+use Rattle.ifr_index.specs.declared.index.ConditionEntry.{ConditionEntry}
+use Rattle.ifr_index.proofs.NoSubmitLemmas.{all_conditions_again, all_entries}
 use Rattle.ifr_scopes.proofs.forms.Forms.conditions.Goals as goal
 
 pub invariant_of-result : goal.invariant_of-result

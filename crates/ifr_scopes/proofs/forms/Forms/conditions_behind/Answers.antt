@@ -5,9 +5,9 @@ use Rattle.ifr_opcodes.specs.Opcode.{has_scope}
 use Rattle.ifr_opcodes.proofs.OpcodeLemmas.{has_scope_spelled}
 use Rattle.ifr_nodes.specs.Nodes.{nodes_of}
 use Rattle.ifr_scopes.specs.code.Lists.{statement_node}
-use Rattle.ifr_scopes.specs.code.Tables.{is_question_condition, kept_condition, condition_table}
-use Rattle.ifr_scopes.specs.declared.index.ConditionEntry.{ConditionEntry}
-use Rattle.ifr_scopes.proofs.IndexLemmas.{nodes_rise, table_rises}
+use Rattle.ifr_index.specs.code.Tables.{is_question_condition, kept_condition, condition_table}
+use Rattle.ifr_index.specs.declared.index.ConditionEntry.{ConditionEntry}
+use Rattle.ifr_index.proofs.IndexLemmas.{nodes_rise, table_rises}
 use Rattle.ifr_scopes.proofs.forms.Forms.conditions_behind.Goals as goal
 
 pub returns-then-op : goal.returns-then-op

@@ -1,7 +1,7 @@
 use Rattle.std.proofs.Common.{◌≡◌, ℕ, List, sym, subst}
 use Rattle.ifr_nodes.specs.code.Checked.{IsNodeOf}
 use Rattle.ifr_scopes.specs.code.Lists.{statement_node}
-use Rattle.ifr_scopes.proofs.ConditionsOfLemmas.{kept_behind, kept_are, all_kept}
+use Rattle.ifr_index.proofs.ConditionsOfLemmas.{kept_behind, kept_are, all_kept}
 use Rattle.ifr_scopes.proofs.forms.Forms.conditions_in.Goals as goal
 use Rattle.ifr_scopes.proofs.forms.Forms.conditions_in.Goals.{After-conditions_behind}
 

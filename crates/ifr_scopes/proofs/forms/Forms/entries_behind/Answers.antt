@@ -4,11 +4,11 @@ use Rattle.hii_bytes.specs.code.FirstFaults.{Rise}
 use Rattle.ifr_opcodes.specs.Opcode.{has_scope}
 use Rattle.ifr_opcodes.proofs.OpcodeLemmas.{has_scope_spelled}
 use Rattle.ifr_nodes.specs.Nodes.{nodes_of}
-use Rattle.ifr_scopes.specs.code.Index.{is_indexed}
+use Rattle.ifr_index.specs.code.Index.{is_indexed}
 use Rattle.ifr_scopes.specs.code.Lists.{statement_node}
-use Rattle.ifr_scopes.specs.code.Tables.{kept_entry, entry_table}
-use Rattle.ifr_scopes.specs.declared.index.Entry.{Entry}
-use Rattle.ifr_scopes.proofs.IndexLemmas.{nodes_rise, table_rises}
+use Rattle.ifr_index.specs.code.Tables.{kept_entry, entry_table}
+use Rattle.ifr_index.specs.declared.index.Entry.{Entry}
+use Rattle.ifr_index.proofs.IndexLemmas.{nodes_rise, table_rises}
 use Rattle.ifr_scopes.proofs.forms.Forms.entries_behind.Goals as goal
 
 pub returns-then-op : goal.returns-then-op

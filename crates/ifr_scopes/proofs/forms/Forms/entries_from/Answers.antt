@@ -2,12 +2,12 @@ use Rattle.std.proofs.Common.{◌≡◌, ◌≤◌, ℕ, List, nat_lt, length, r
 use Rattle.std.specs.Prelude.{filter}
 use Rattle.hii_bytes.specs.code.FirstFaults.{Rise}
 use Rattle.ifr_nodes.specs.Nodes.{nodes_of}
-use Rattle.ifr_scopes.specs.code.Index.{is_indexed}
+use Rattle.ifr_index.specs.code.Index.{is_indexed}
 use Rattle.ifr_scopes.specs.code.Lists.{form_node}
-use Rattle.ifr_scopes.specs.code.Tables.{kept_entry, entry_table}
-use Rattle.ifr_scopes.specs.declared.index.Entry.{Entry}
-use Rattle.ifr_scopes.proofs.IndexLemmas.{nodes_rise, table_rises}
-use Rattle.ifr_scopes.proofs.IndexingLemmas.{few_entries, few_of}
+use Rattle.ifr_index.specs.code.Tables.{kept_entry, entry_table}
+use Rattle.ifr_index.specs.declared.index.Entry.{Entry}
+use Rattle.ifr_index.proofs.IndexLemmas.{nodes_rise, table_rises}
+use Rattle.ifr_index.proofs.IndexingLemmas.{few_entries, few_of}
 use Rattle.ifr_scopes.proofs.StatementsOfLemmas.{all_behind}
 use Rattle.ifr_scopes.proofs.forms.Forms.entries_from.Goals as goal
 use Rattle.ifr_scopes.proofs.forms.Forms.entries_from.Goals.{After-entries_behind-kept}

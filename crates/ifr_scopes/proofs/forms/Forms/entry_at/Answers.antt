@@ -1,10 +1,10 @@
 use Rattle.std.proofs.Common.{ℕ, List, refl, ap, ◌∙◌}
 use Rattle.std.specs.Prelude.{option_map}
 use Rattle.ifr_nodes.specs.Nodes.{nodes_of}
-use Rattle.ifr_scopes.specs.code.Index.{is_indexed, indexed_at}
-use Rattle.ifr_scopes.specs.code.Tables.{kept_entry}
-use Rattle.ifr_scopes.specs.declared.index.Entry.{Entry}
-use Rattle.ifr_scopes.proofs.IndexLemmas.{looked_up, nodes_rise}
+use Rattle.ifr_index.specs.code.Index.{is_indexed, indexed_at}
+use Rattle.ifr_index.specs.code.Tables.{kept_entry}
+use Rattle.ifr_index.specs.declared.index.Entry.{Entry}
+use Rattle.ifr_index.proofs.IndexLemmas.{looked_up, nodes_rise}
 use Rattle.ifr_scopes.proofs.forms.Forms.entry_at.Goals as goal
 
 pub returns : goal.returns

@@ -4,7 +4,7 @@ use Rattle.ifr_opcodes.specs.Reading.{tree_of}
 use Rattle.ifr_nodes.specs.code.Checked.{IsNodeOf, has_node, node_in}
 use Rattle.ifr_nodes.specs.code.Views.{node_of}
 use Rattle.ifr_nodes.proofs.EndLemmas.{stands_there}
-use Rattle.ifr_scopes.proofs.NoSubmitLemmas.{stands}
+use Rattle.ifr_index.proofs.NoSubmitLemmas.{stands}
 use Rattle.ifr_nodes.proofs.PlaceLemmas.{is_found}
 use Rattle.ifr_scopes.proofs.forms.Forms.form_at.Goals as goal
 

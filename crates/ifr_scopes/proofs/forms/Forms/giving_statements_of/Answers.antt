@@ -3,12 +3,12 @@ use Rattle.std.specs.Prelude.{filter}
 use Rattle.hii_bytes.specs.code.FirstFaults.{Rise}
 use Rattle.ifr_nodes.specs.Nodes.{nodes_of}
 use Rattle.ifr_nodes.specs.code.Checked.{IsNodeOf}
-use Rattle.ifr_scopes.specs.code.Giving.{is_giving, AreGiving}
+use Rattle.ifr_index.specs.code.Giving.{is_giving, AreGiving}
 use Rattle.ifr_scopes.specs.code.Lists.{form_node}
-use Rattle.ifr_scopes.specs.code.Tables.{AreEntries, places_of}
-use Rattle.ifr_scopes.specs.declared.index.Entry.{Entry}
+use Rattle.ifr_index.specs.code.Tables.{AreEntries, places_of}
+use Rattle.ifr_index.specs.declared.index.Entry.{Entry}
 use Rattle.ifr_scopes.proofs.GivingOfLemmas.{giving_behind, giving_rises, giving_stated}
-use Rattle.ifr_scopes.proofs.OptionsOfLemmas.{are_behind}
+use Rattle.ifr_index.proofs.OptionsOfLemmas.{are_behind}
 use Rattle.ifr_scopes.proofs.StatementsOfLemmas.{all_behind, statements_kept}
 use Rattle.ifr_scopes.proofs.forms.Forms.giving_statements_of.Goals as goal
 use Rattle.ifr_scopes.proofs.forms.Forms.giving_statements_of.Goals.{After-places_behind}

@@ -1,7 +1,7 @@
 use Rattle.std.proofs.Common.{◌≡◌, ℕ, List, length, rules, ap, ◌∙◌}
 use Rattle.ifr_nodes.specs.Guards.{guards_among}
 use Rattle.ifr_nodes.specs.Nodes.{nodes_of}
-use Rattle.ifr_scopes.proofs.NumberLemmas.{as_long}
+use Rattle.ifr_index.proofs.NumberLemmas.{as_long}
 use Rattle.ifr_scopes.proofs.forms.Forms.guard_count.Goals as goal
 
 pub returns : goal.returns

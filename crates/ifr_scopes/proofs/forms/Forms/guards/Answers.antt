@@ -3,9 +3,9 @@ use Rattle.ifr_nodes.specs.Accepted.{IsAccepted}
 use Rattle.ifr_nodes.specs.Guards.{guards_among}
 use Rattle.ifr_nodes.specs.Nodes.{nodes_of}
 use Rattle.ifr_nodes.specs.code.Checked.{node_in}
-use Rattle.ifr_scopes.specs.code.Tables.{AreGuardEntries}
-use Rattle.ifr_scopes.specs.declared.index.GuardEntry.{GuardEntry}
-use Rattle.ifr_scopes.proofs.EntryLemmas.{all_guards_kept, all_guards_again}
+use Rattle.ifr_index.specs.code.Tables.{AreGuardEntries}
+use Rattle.ifr_index.specs.declared.index.GuardEntry.{GuardEntry}
+use Rattle.ifr_index.proofs.EntryLemmas.{all_guards_kept, all_guards_again}
 use Rattle.ifr_scopes.proofs.forms.Forms.guards.Goals as goal
 
 pub invariant_of-result : goal.invariant_of-result

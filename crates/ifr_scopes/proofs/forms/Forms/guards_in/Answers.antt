@@ -9,10 +9,10 @@ use Rattle.ifr_nodes.specs.Nodes.{nodes_of, end_of, is_question}
 use Rattle.ifr_nodes.specs.code.Checked.{IsNodeOf, node_in}
 use Rattle.ifr_nodes.proofs.ViewLemmas.{contains_found, node_in_place}
 use Rattle.ifr_scopes.specs.code.Lists.{statement_node}
-use Rattle.ifr_scopes.specs.code.Tables.{begin_in, guard_entry, inner_guard}
-use Rattle.ifr_scopes.specs.declared.index.GuardEntry.{GuardEntry}
+use Rattle.ifr_index.specs.code.Tables.{begin_in, guard_entry, inner_guard}
+use Rattle.ifr_index.specs.declared.index.GuardEntry.{GuardEntry}
 use Rattle.ifr_scopes.proofs.GuardsInLemmas.{are_behind, guards_behind, guards_kept}
-use Rattle.ifr_scopes.proofs.IndexLemmas.{nodes_rise, table_rises}
+use Rattle.ifr_index.proofs.IndexLemmas.{nodes_rise, table_rises}
 use Rattle.ifr_scopes.proofs.forms.Forms.guards_in.Goals as goal
 use Rattle.ifr_scopes.proofs.forms.Forms.guards_in.Goals.{After-guards_behind-guards}
 

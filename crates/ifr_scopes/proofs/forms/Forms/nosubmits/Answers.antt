@@ -1,7 +1,7 @@
 use Rattle.std.proofs.Common.{◌≡◌, ℕ, List, filter, sym, ap, subst, ◌∙◌}
 use Rattle.ifr_nodes.specs.Nodes.{nodes_of, is_no_submit}
-use Rattle.ifr_scopes.specs.code.Tables.{AreConditionEntries}
-use Rattle.ifr_scopes.proofs.NoSubmitLemmas.{all_again, all_entries, denying}
+use Rattle.ifr_index.specs.code.Tables.{AreConditionEntries}
+use Rattle.ifr_index.proofs.NoSubmitLemmas.{all_again, all_entries, denying}
 use Rattle.ifr_scopes.proofs.forms.Forms.nosubmits.Goals as goal
 
 pub invariant_of-result : goal.invariant_of-result

@@ -1,7 +1,7 @@
 use Rattle.std.proofs.Common.{◌≡◌, ℕ, List, sym, subst}
 use Rattle.ifr_nodes.specs.code.Checked.{IsNodeOf}
 use Rattle.ifr_scopes.specs.code.Lists.{statement_node}
-use Rattle.ifr_scopes.proofs.OptionsOfLemmas.{kept_behind, entries_kept, fewer_kept, options_kept}
+use Rattle.ifr_index.proofs.OptionsOfLemmas.{kept_behind, entries_kept, fewer_kept, options_kept}
 use Rattle.ifr_scopes.proofs.forms.Forms.options_of.Goals as goal
 
 pub position_of-requires : goal.position_of-requires

@@ -1,8 +1,8 @@
 use Rattle.std.proofs.Common.{◌≡◌, ◌-◌, ℕ, List, length, ap, ◌∙◌, arith}
 use Rattle.ifr_nodes.specs.Nodes.{nodes_of}
-use Rattle.ifr_scopes.specs.code.Tables.{entry_table}
-use Rattle.ifr_scopes.specs.declared.index.Entry.{Entry}
-use Rattle.ifr_scopes.proofs.IndexingLemmas.{few_entries}
+use Rattle.ifr_index.specs.code.Tables.{entry_table}
+use Rattle.ifr_index.specs.declared.index.Entry.{Entry}
+use Rattle.ifr_index.proofs.IndexingLemmas.{few_entries}
 use Rattle.ifr_scopes.proofs.forms.Forms.position_of.Goals as goal
 use Rattle.ifr_scopes.proofs.forms.Forms.position_of.Goals.{After-len}
 

@@ -2,8 +2,8 @@ use Rattle.std.proofs.Common.{◌≡◌, ℕ, List, map, filter, sym, ap, subst,
 use Rattle.ifr_nodes.specs.Nodes.{nodes_of}
 use Rattle.ifr_nodes.specs.Rules.{is_rule}
 use Rattle.ifr_nodes.specs.code.Checked.{node_in}
-use Rattle.ifr_scopes.specs.code.Tables.{AreOfKind}
-use Rattle.ifr_scopes.proofs.KindLemmas.{all_of_kind, kind_again}
+use Rattle.ifr_index.specs.code.Tables.{AreOfKind}
+use Rattle.ifr_index.proofs.KindLemmas.{all_of_kind, kind_again}
 use Rattle.ifr_scopes.proofs.forms.Forms.rules.Goals as goal
 
 pub invariant_of-result : goal.invariant_of-result

@@ -1,7 +1,7 @@
 use Rattle.std.proofs.Common.{◌≡◌, ℕ, List, filter, sym, ap, subst, ◌∙◌}
 use Rattle.ifr_nodes.specs.Nodes.{nodes_of, is_statement}
-use Rattle.ifr_scopes.specs.code.Tables.{AreEntries}
-use Rattle.ifr_scopes.proofs.KindLemmas.{all_are_entries, stated, statements_again}
+use Rattle.ifr_index.specs.code.Tables.{AreEntries}
+use Rattle.ifr_index.proofs.KindLemmas.{all_are_entries, stated, statements_again}
 use Rattle.ifr_scopes.proofs.forms.Forms.statements.Goals as goal
 
 pub invariant_of-result : goal.invariant_of-result

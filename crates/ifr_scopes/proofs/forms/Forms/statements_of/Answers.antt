@@ -1,8 +1,8 @@
 use Rattle.std.proofs.Common.{◌≡◌, ℕ, List, sym, ap, subst, ◌∙◌}
 use Rattle.ifr_nodes.specs.code.Checked.{IsNodeOf}
 use Rattle.ifr_scopes.specs.code.Lists.{form_node}
-use Rattle.ifr_scopes.specs.code.Tables.{AreEntries}
-use Rattle.ifr_scopes.proofs.OptionsOfLemmas.{are_behind}
+use Rattle.ifr_index.specs.code.Tables.{AreEntries}
+use Rattle.ifr_index.proofs.OptionsOfLemmas.{are_behind}
 use Rattle.ifr_scopes.proofs.StatementsOfLemmas.{all_behind, statements_kept}
 use Rattle.ifr_scopes.proofs.forms.Forms.statements_of.Goals as goal
 

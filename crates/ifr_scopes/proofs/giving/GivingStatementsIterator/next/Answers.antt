@@ -4,10 +4,10 @@ use Rattle.std.proofs.lemmas.List.Elements.{All-tail}
 use Rattle.ifr_opcodes.specs.declared.codes.TheConstants.{FORM}
 use Rattle.ifr_opcodes.specs.Forest.{Node}
 use Rattle.ifr_nodes.specs.code.Views.{node_of}
-use Rattle.ifr_scopes.specs.code.Giving.{AreGiving, is_giving}
+use Rattle.ifr_index.specs.code.Giving.{AreGiving, is_giving}
 use Rattle.ifr_scopes.specs.code.GivingLeft.{giving_left}
-use Rattle.ifr_scopes.specs.code.Tables.{IsEntry, AreEntries}
-use Rattle.ifr_scopes.proofs.GivingFacts.{gives_states}
+use Rattle.ifr_index.specs.code.Tables.{IsEntry, AreEntries}
+use Rattle.ifr_index.proofs.GivingFacts.{gives_states}
 use Rattle.ifr_scopes.proofs.GivingOfLemmas.{first_giving, first_given, is_there, left_behind, none_left, still_giving}
 use Rattle.ifr_scopes.proofs.giving.GivingStatementsIterator.next.Goals as goal
 use Rattle.ifr_scopes.proofs.giving.GivingStatementsIterator.next.Goals.{After-node_at}

@@ -1,6 +1,6 @@
 use Rattle.std.proofs.Common.{sym, subst}
 use Rattle.ifr_nodes.specs.Nodes.{nodes_of}
-use Rattle.ifr_scopes.specs.code.Tables.{AreBefore}
+use Rattle.ifr_index.specs.code.Tables.{AreBefore}
 use Rattle.ifr_scopes.proofs.GuardLemmas.{is_placed}
 use Rattle.ifr_scopes.proofs.guard.Guard.number.Goals as goal
 

@@ -3,8 +3,8 @@ use Rattle.std.specs.Prelude.{reverse}
 use Rattle.std.proofs.lemmas.List.{reverse-append}
 use Rattle.ifr_opcodes.specs.Forest.{Node}
 use Rattle.ifr_nodes.specs.Nodes.{nodes_of}
-use Rattle.ifr_scopes.specs.code.Tables.{guard_of_number, guards_before}
-use Rattle.ifr_scopes.proofs.NumberLemmas.{leads_on, last_number}
+use Rattle.ifr_index.specs.code.Tables.{guard_of_number, guards_before}
+use Rattle.ifr_index.proofs.NumberLemmas.{leads_on, last_number}
 use Rattle.ifr_scopes.proofs.guards_at.GuardsAt.step.Goals as goal
 
 pub kept-guard-requires-clause-kept : goal.kept-guard-requires-clause-kept

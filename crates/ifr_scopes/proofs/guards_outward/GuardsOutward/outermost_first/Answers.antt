@@ -1,6 +1,6 @@
 use Rattle.std.proofs.Common.{ℕ, List, [], ◌∷◌, length, ap, ◌∙◌, arith, length-append}
 use Rattle.ifr_nodes.specs.Nodes.{nodes_of}
-use Rattle.ifr_scopes.proofs.NumberLemmas.{no_guard, leads_on, number_within, joined, more_numbers}
+use Rattle.ifr_index.proofs.NumberLemmas.{no_guard, leads_on, number_within, joined, more_numbers}
 use Rattle.ifr_scopes.proofs.guards_outward.GuardsOutward.outermost_first.Goals as goal
 
 pub loop-next-smaller : goal.loop-next-smaller

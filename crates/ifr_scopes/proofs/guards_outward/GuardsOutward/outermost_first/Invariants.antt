@@ -1,7 +1,7 @@
 use Rattle.std.proofs.Common.{◌≡◌, ◌+◌, ◌≤◌, ◌++◌, length, map}
 use Rattle.std.specs.Prelude.{reverse}
 use Rattle.ifr_nodes.specs.Nodes.{nodes_of}
-use Rattle.ifr_scopes.specs.code.Tables.{guard_of_number, guards_from, IsNumber, AreNumbers}
+use Rattle.ifr_index.specs.code.Tables.{guard_of_number, guards_from, IsNumber, AreNumbers}
 use Rattle.ifr_scopes.proofs.guards_outward.GuardsOutward.outermost_first.Given as goal
 
 -- the guards from the next number, and those of the numbers so far

@@ -2,8 +2,8 @@ use Rattle.std.proofs.Common.{ℕ, List, ◌∷◌, get_or, sym, ap, ◌∙◌, 
 use Rattle.std.specs.Prelude.{reverse}
 use Rattle.ifr_opcodes.specs.Forest.{Node}
 use Rattle.ifr_nodes.specs.Nodes.{nodes_of}
-use Rattle.ifr_scopes.specs.code.Tables.{guards_before, guards_from}
-use Rattle.ifr_scopes.proofs.NumberLemmas.{no_guard, leads_on, number_within, turned}
+use Rattle.ifr_index.specs.code.Tables.{guards_before, guards_from}
+use Rattle.ifr_index.proofs.NumberLemmas.{no_guard, leads_on, number_within, turned}
 use Rattle.ifr_scopes.proofs.guards_outward.GuardsOutward.step.Goals as goal
 
 pub kept-view-requires-clause-kept : goal.kept-view-requires-clause-kept

@@ -3,7 +3,7 @@ use Rattle.std.specs.Prelude.{reverse}
 use Rattle.std.proofs.lemmas.List.Elements.{All-head}
 use Rattle.ifr_nodes.specs.code.Checked.{node_in}
 use Rattle.ifr_nodes.specs.Guards.{guards}
-use Rattle.ifr_scopes.specs.code.Tables.{IsConditionEntry, AreConditionEntries}
+use Rattle.ifr_index.specs.code.Tables.{IsConditionEntry, AreConditionEntries}
 use Rattle.ifr_scopes.proofs.OutwardLemmas.{AreOutward, outward_at}
 use Rattle.ifr_scopes.proofs.no_submits.NoSubmitsIterator.next.Goals as goal
 use Rattle.ifr_scopes.proofs.no_submits.NoSubmitsIterator.next.Goals.{After-kept}

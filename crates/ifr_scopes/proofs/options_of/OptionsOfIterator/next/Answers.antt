@@ -1,6 +1,6 @@
 use Rattle.std.proofs.Common.{subst}
 use Rattle.std.proofs.lemmas.List.Elements.{All-tail}
-use Rattle.ifr_scopes.specs.code.Tables.{IsEntry, AreEntries}
+use Rattle.ifr_index.specs.code.Tables.{IsEntry, AreEntries}
 use Rattle.ifr_scopes.proofs.options_of.OptionsOfIterator.next.Goals as goal
 
 pub invariant_of-self : goal.invariant_of-self

@@ -1,7 +1,7 @@
 use Rattle.std.proofs.Common.{subst}
 use Rattle.std.proofs.lemmas.List.Elements.{All-tail}
 use Rattle.ifr_nodes.specs.Rules.{is_rule}
-use Rattle.ifr_scopes.specs.code.Tables.{AreOfKind, IsOfKind}
+use Rattle.ifr_index.specs.code.Tables.{AreOfKind, IsOfKind}
 use Rattle.ifr_scopes.proofs.rule.RuleViewsIterator.next.Goals as goal
 
 pub invariant_of-self : goal.invariant_of-self

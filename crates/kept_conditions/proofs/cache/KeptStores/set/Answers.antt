@@ -2,7 +2,7 @@ use Rattle.std.proofs.Common.{◌≡◌, ℕ, List, sym, ap, ◌∙◌, subst}
 use Rattle.hii_varstore.specs.Layout.{Shape}
 use Rattle.hii_varstore.specs.Stores.{StoreMap, shape_of, with_bytes}
 use Rattle.hii_varstore.specs.code.Table.{AreBuffers}
-use Rattle.hii_questions.specs.code.Contents.{content_bytes}
+use Rattle.hii_values.specs.code.Contents.{content_bytes}
 use Rattle.hii_questions.specs.code.NewBytes.{new_bytes}
 use Rattle.hii_questions.specs.code.Views.{question_node}
 use Rattle.guard_policy.specs.Policy.{inconsistent}

@@ -1,0 +1,4 @@
+pub mod ItemLemmas
+pub mod ListLemmas
+pub mod UnitLemmas
+pub mod MetLemmas

@@ -1,0 +1,15 @@
+use Rattle.std.proofs.Common.{rules, sym}
+use Rattle.std.proofs.lemmas.List.Sorted.{answers_always}
+use Rattle.ifr_index.specs.declared.index.ConditionEntry.{ConditionEntry}
+use Rattle.hii_bytes.proofs.SearchLemmas.{searched, not_found}
+use Rattle.ifr_index.proofs.index.condition_at.Goals as goal
+
+pub returns-in-Ok : goal.returns-in-Ok
+returns-in-Ok c = λ low rise.
+    let by_key = c.in-Ok.ensures.position (λ x. x.place) (answers_always _ _ _ (λ f a r g called. search rules)) in
+    sym (searched (λ (x : ConditionEntry). x.place) low c.args.place c.args.conditions.now c.in-Ok.at _ rise c.in-Ok.ensures.bound by_key)
+
+pub returns-in-Err : goal.returns-in-Err
+returns-in-Err c = λ low rise.
+    let by_key = c.in-Err.ensures.position (λ x. x.place) (answers_always _ _ _ (λ f a r g called. search rules)) in
+    sym (not_found (λ (x : ConditionEntry). x.place) low c.args.place c.args.conditions.now _ rise c.in-Err.ensures.bound by_key)

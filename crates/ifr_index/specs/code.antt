@@ -1,0 +1,5 @@
+-- What the tables of the index hold. No module outside of these folders and of laws cites one of it.
+pub mod Giving
+pub mod Index
+pub mod LockIndex
+pub mod Tables
