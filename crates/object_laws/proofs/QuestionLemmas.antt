@@ -248,7 +248,7 @@ conditions_told detail a package_place n can =
     (tells_behind
     (tells_array_member (codes "guards") refl (each_told (IsPlaced package_place) (guard_item detail a package_place) (guards n) (guard_item_told detail a package_place) can.guards))
     (tells_array_member (codes "checks") refl
-    (each_told (IsPlaced package_place) (check_item a package_place) (checks a.world.nodes n) (λ c is. check_item_told a package_place c can.texts is) can.checks)))
+    (each_told (IsPlaced package_place) (check_item a package_place) (checks n) (λ c is. check_item_told a package_place c can.texts is) can.checks)))
     (rules_told detail a.world.nodes package_place n can.rules)
 
 -- ---- options

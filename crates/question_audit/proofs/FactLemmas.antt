@@ -1,6 +1,6 @@
 -- Facts are written line by line.
 use Rattle.std.proofs.Common.{◌≡◌, ℕ, Bool, true, false, Option, Some, None, List, [], ◌∷◌, codes, refl, sym, ap, subst, ◌∙◌, inl, inr}
-use Rattle.std.specs.Prelude.{◌&&◌, MatchOption, filter, is_some}
+use Rattle.std.specs.Prelude.{MatchOption, filter, is_some}
 use Rattle.std.specs.List.{flat_map}
 use Rattle.std.proofs.lemmas.Bool.{cases_Bool, cond-true, cond-false}
 use Rattle.hii_bytes.specs.Watching.{Pen, Writes}
@@ -26,17 +26,6 @@ pub past_failing : {X : Type 0} (line : X → List ℕ) (test : X → Bool) (a b
     → Stands a b text (flat_map line (filter test left)) → Stands a b text (flat_map line (filter test rest))
 past_failing line test a b text left rest x e is s =
     subst (λ (l : List _). Stands a b text (flat_map line l)) (ap (filter test) e ∙ cond-false (test x) (x ∷ filter test rest) (filter test rest) is) s
-
--- what passes two tests
-pub filter_both : {X : Type 0} (p q : X → Bool) (xs : List X) → filter (λ x. p x && q x) xs ≡ filter q (filter p xs)
-filter_both p q [] = refl
-filter_both p q (x ∷ xs) = elim (cases_Bool (p x)) [
-  | inl is ↦ rw is (elim (cases_Bool (q x)) [
-    | inl too ↦ rw too (ap (λ (l : List _). x ∷ l) (filter_both p q xs))
-    | inr nor ↦ rw nor (filter_both p q xs)
-  ])
-  | inr other ↦ rw other (filter_both p q xs)
-]
 
 -- a help text that has a first character
 pub told_help : (text after : List ℕ) (r : Option ℕ) → MatchOption r ((text ≡ []) × (after ≡ [])) (λ c. text ≡ c ∷ after) → is_some r ≡ true → fact (codes "help") (safe_text text) ≡ help_fact text

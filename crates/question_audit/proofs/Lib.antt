@@ -13,6 +13,7 @@ pub mod ClosingLemmas
 pub mod ShownLemmas
 pub mod FlagLemmas
 pub mod AroundLemmas
+pub mod InsideLemmas
 pub mod TableLemmas
 pub mod BeginningLemmas
 pub mod FactLemmas

@@ -1,6 +1,6 @@
 -- Which rules are named, reference by reference.
 use Rattle.std.proofs.Common.{◌≡◌, ℕ, ◌<◌, Bool, true, false, eqb, Option, Some, None, List, [], ◌∷◌, ◌++◌, append_assoc, reverse, refl, sym, ap, ◌∙◌, inl, inr}
-use Rattle.std.specs.Prelude.{◌==◌, ◌||◌, filter}
+use Rattle.std.specs.Prelude.{◌==◌, ◌||◌}
 use Rattle.std.specs.List.{find, flat_map, list_any}
 use Rattle.std.proofs.lemmas.Bool.{cases_Bool, cond-true, cond-false}
 use Rattle.std.proofs.lemmas.Grind.{flat_map-append}
@@ -166,16 +166,6 @@ condition_added ns had has new all left rest c e added so place =
     ap (λ (l : List Node). list_any (names_rule ns place) (flat_map (condition_references ns) l)) e ∙ list_any-append (names_rule ns place) (condition_references ns c) more in
     ap (λ (b : Bool). b || list_any (names_rule ns place) more) (added place) ∙ grouped (has place) (list_any (names_rule ns place) (condition_references ns c)) (list_any (names_rule ns place) more)
     ∙ ap (λ (b : Bool). has place || b) (sym next) ∙ so place
-
--- of those that pass a test
-pub condition_passed : (ns : List Node) (p : Node → Bool) (had has : ℕ → Bool) (all : List RuleReference) (left rest : List Node) (c : Node) → left ≡ c ∷ rest → p c ≡ false
-    → IsNamedSoFar ns had has all (flat_map (condition_references ns) (filter p left)) → IsNamedSoFar ns had has all (flat_map (condition_references ns) (filter p rest))
-condition_passed ns p had has all left rest c e other so place =
-    let same : filter p left ≡ filter p rest = ap (filter p) e ∙ cond-false (p c) (c ∷ filter p rest) (filter p rest) other in
-    ap (λ (l : List Node). has place || list_any (names_rule ns place) (flat_map (condition_references ns) l)) (sym same) ∙ so place
-
-pub passing : (p : Node → Bool) (left rest : List Node) (c : Node) → left ≡ c ∷ rest → p c ≡ true → filter p left ≡ c ∷ filter p rest
-passing p left rest c e is = ap (filter p) e ∙ cond-true (p c) (c ∷ filter p rest) (filter p rest) is
 
 -- when all are left, and when none is
 pub all_to_name : (ns : List Node) (had : ℕ → Bool) (all left : List RuleReference) → left ≡ all → IsNamedSoFar ns had had all left

@@ -1,8 +1,7 @@
 -- Facts of conditions: of guards and of the checks of a question (own rule).
-use Rattle.std.specs.Prelude.{ℕ, ◌+◌, Bool, ◌==◌, ◌&&◌, if◌then◌else◌, Option, Some, None, List, ◌++◌, filter, codes, decimal}
+use Rattle.std.specs.Prelude.{ℕ, ◌+◌, ◌==◌, if◌then◌else◌, Option, Some, None, List, ◌++◌, codes, decimal}
 use Rattle.std.specs.List.{flat_map}
 use Rattle.hii_bytes.specs.Texts.{place_text}
-use Rattle.ifr_opcodes.specs.Fields.{question_id}
 use Rattle.ifr_opcodes.specs.Forest.{Node}
 use Rattle.ifr_opcodes.specs.Opcode.{number}
 use Rattle.ifr_opcodes.specs.declared.codes.TheConstants.{DISABLE_IF}
@@ -11,7 +10,7 @@ use Rattle.ifr_expr.specs.Values.{Value, holds}
 use Rattle.ifr_nodes.specs.NodeExpressions.{expression_tree}
 use Rattle.ifr_nodes.specs.Guards.{guards}
 use Rattle.ifr_opcodes.specs.Rows.{is_condition_number}
-use Rattle.ifr_nodes.specs.Nodes.{this_of}
+use Rattle.ifr_nodes.specs.Nodes.{of_question, this_of}
 use Rattle.guard_policy.specs.Policy.{is_removed}
 use Rattle.guard_policy.specs.declared.denial.Denial.{Denial}
 use Rattle.audit_text.specs.Texts.{hex_text, left_aligned}
@@ -76,17 +75,14 @@ guard_fact a package_place g = condition_fact (codes "guard") package_place g (g
 abbrev pub guard_facts : Audited → ℕ → Node → List ℕ
 guard_facts a package_place n = flat_map (guard_fact a package_place) (guards n)
 
--- the INCONSISTENT_IFs, NO_SUBMIT_IFs and WARNING_IFs in the scope of the question of an id, by place
-abbrev pub is_check_of : ℕ → Node → Bool
-is_check_of id c = is_condition_number (number c.op) && (this_of c == id)
-
-abbrev pub checks : List Node → Node → List Node
-checks ns n = filter (is_check_of (question_id n.op)) ns
+-- the INCONSISTENT_IFs, NO_SUBMIT_IFs and WARNING_IFs in the scope of a question, by place (UEFI 2.8, 33.3.8.3,
+-- EFI_IFR_INCONSISTENT_IF, EFI_IFR_NO_SUBMIT_IF and EFI_IFR_WARNING_IF)
+abbrev pub checks : Node → List Node
+checks n = of_question (λ c. is_condition_number (number c.op)) n
 
 abbrev pub check_fact : Audited → ℕ → Node → List ℕ
 check_fact a package_place c =
     condition_fact (codes "check") package_place c (state_text (value_at a c))
 
 abbrev pub check_facts : Audited → ℕ → Node → List ℕ
-check_facts a package_place n =
-    flat_map (check_fact a package_place) (checks a.world.nodes n)
+check_facts a package_place n = flat_map (check_fact a package_place) (checks n)

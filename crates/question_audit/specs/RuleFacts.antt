@@ -1,9 +1,9 @@
 -- The rules that the conditions of a question name (own rule; a RULE and its references are those of UEFI 2.8, 33.3.8.3,
 -- EFI_IFR_RULE and EFI_IFR_RULE_REF).
-use Rattle.std.specs.Prelude.{ℕ, ◌+◌, Bool, false, ◌==◌, ◌&&◌, if◌then◌else◌, Option, Some, None, List, [], ◌∷◌, ◌++◌, filter, codes, decimal}
+use Rattle.std.specs.Prelude.{ℕ, ◌+◌, Bool, false, ◌==◌, if◌then◌else◌, Option, Some, None, List, [], ◌∷◌, ◌++◌, filter, codes, decimal}
 use Rattle.std.specs.List.{find, flat_map, list_any}
 use Rattle.hii_bytes.specs.Texts.{place_text}
-use Rattle.ifr_opcodes.specs.Fields.{question_id, rule_id}
+use Rattle.ifr_opcodes.specs.Fields.{rule_id}
 use Rattle.ifr_opcodes.specs.Forest.{Node}
 use Rattle.ifr_opcodes.specs.Opcode.{number}
 use Rattle.ifr_expr.specs.Meaning.{Rule, names}
@@ -12,13 +12,13 @@ use Rattle.ifr_expr.specs.Trees.{Tree}
 use Rattle.ifr_expr.specs.declared.references.RuleReference.{RuleReference}
 use Rattle.ifr_nodes.specs.Guards.{guards, is_guard}
 use Rattle.ifr_nodes.specs.NodeExpressions.{expression_tree}
-use Rattle.ifr_nodes.specs.Nodes.{this_of}
+use Rattle.ifr_nodes.specs.Nodes.{of_question}
 use Rattle.ifr_nodes.specs.Rules.{as_rule, is_rule, rule_nodes, rules_among}
 use Rattle.audit_text.specs.Texts.{hex_text}
 use Rattle.condition_text.specs.Senses.{sense}
 use Rattle.condition_text.specs.Texts.{text}
 use Rattle.question_audit.specs.Audited.{Audited}
-use Rattle.question_audit.specs.ConditionFacts.{column, is_check_of}
+use Rattle.question_audit.specs.ConditionFacts.{checks, column}
 
 -- ---- references
 
@@ -47,19 +47,19 @@ names_rule ns place r = stands_at place (find (λ n. names r.id r.place (as_rule
 
 -- ---- of a question
 
--- the guards in the scope of the question of an id: those of its options
-abbrev pub is_guard_in : ℕ → Node → Bool
-is_guard_in id g = is_guard (number g.op) && (this_of g == id)
+-- the SUPPRESS_IFs, GRAY_OUT_IFs and DISABLE_IFs in the scope of a question, as those around its options, by place (33.3.8.3,
+-- EFI_IFR_SUPPRESS_IF, EFI_IFR_GRAY_OUT_IF and EFI_IFR_DISABLE_IF)
+abbrev pub inner_guards : Node → List Node
+inner_guards n = of_question (λ g. is_guard (number g.op)) n
 
 -- the guards around a question, those in its scope, and its checks
-abbrev pub conditions_of : List Node → Node → List Node
-conditions_of ns n =
-    guards n ++ filter (is_guard_in (question_id n.op)) ns ++ filter (is_check_of (question_id n.op)) ns
+abbrev pub conditions_of : Node → List Node
+conditions_of n = guards n ++ inner_guards n ++ checks n
 
 -- whether they name the rule at a place
 abbrev pub is_named : List Node → Node → ℕ → Bool
 is_named ns n place =
-    list_any (names_rule ns place) (flat_map (condition_references ns) (conditions_of ns n))
+    list_any (names_rule ns place) (flat_map (condition_references ns) (conditions_of n))
 
 -- what a rule says
 abbrev pub rule_words : Node → List ℕ

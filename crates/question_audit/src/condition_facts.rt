@@ -201,17 +201,16 @@ pub(crate) fn put_checks<'a, C: Conditions, W: Write>(
     question: Question<'a>,
     out: &mut Watched<W>,
 ) -> Result<(), AllocError>
-    requires { package_place + length (bytes_of page.policy) < 2 ^ 64 }
+    requires node { IsNodeOf (bytes_of page.policy) (question_node question) }
+    requires in_list { package_place + length (bytes_of page.policy) < 2 ^ 64 }
     ensures told { OnOk result (Puts W.contents out.old out.new
         (check_facts (audited page.entry) package_place (question_node question.entry))) }
     ensures begun { OnErr result (Begins (pen_of W.contents out.old) (pen_of W.contents out.new)
         (check_facts (audited page.entry) package_place (question_node question.entry))) }
 {
-    let mut checks = page.policy().forms().conditions();
+    let mut checks = page.policy().forms().conditions_in(question.statement());
     while let Some(check) = checks.next() {
-        if check.this() == question.id() {
-            put_check(alloc, page, package_place, check, out)?;
-        }
+        put_check(alloc, page, package_place, check, out)?;
     }
     Ok(())
 }

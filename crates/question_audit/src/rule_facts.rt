@@ -1,6 +1,6 @@
 //! The rules that the conditions of a question name.
 
-ghost use Rattle.std.specs.Prelude.{◌≡◌, ◌||◌, ◌+◌, ◌<◌, ◌^◌, ℕ, IfOk, OnOk, OnErr, filter, length};
+ghost use Rattle.std.specs.Prelude.{◌≡◌, ◌||◌, ◌+◌, ◌<◌, ◌^◌, ℕ, IfOk, OnOk, OnErr, length};
 ghost use Rattle.std.specs.List.{flat_map, list_any};
 ghost use Rattle.hii_bytes.specs.Watching.{Puts, pen_of};
 ghost use Rattle.ifr_expr.specs.code.Expressions.{tree_of};
@@ -13,8 +13,8 @@ ghost use Rattle.ifr_scopes.specs.code.Lists.{rule_node};
 ghost use Rattle.hii_questions.specs.code.Views.{question_node};
 ghost use Rattle.guard_policy.specs.code.Views.{bytes_of};
 ghost use Rattle.question_audit.specs.code.Pages.{audited};
-ghost use Rattle.question_audit.specs.ConditionFacts.{is_check_of};
-ghost use Rattle.question_audit.specs.RuleFacts.{condition_references, is_guard_in, is_named, names_rule, references_over, rule_fact, rule_facts, rule_references};
+ghost use Rattle.question_audit.specs.ConditionFacts.{checks};
+ghost use Rattle.question_audit.specs.RuleFacts.{condition_references, inner_guards, is_named, names_rule, references_over, rule_fact, rule_facts, rule_references};
 ghost use Rattle.question_audit.specs.code.Beginnings.{Begins};
 ghost use Rattle.question_audit.specs.code.Places.{has_place};
 
@@ -81,42 +81,42 @@ fn add_around<'a>(
     Ok(())
 }
 
-// Adds those that the guards in the scope of the question of an id name.
+// Adds those that the guards in the scope of a question name.
 fn add_inside<'a>(
     alloc: Global,
-    forms: &Forms<'a>,
-    id: u16,
+    policy: Policy<'a, '_>,
+    question: Question<'a>,
     places: &mut BTreeSet<u32>,
 ) -> Result<(), AllocError>
+    requires { IsNodeOf (bytes_of policy) (question_node question) }
     ensures { OnOk result ((place : ℕ) → has_place places.new place ≡ (has_place places.old place
-        || list_any (names_rule (nodes_of forms.now) place)
-        (flat_map (condition_references (nodes_of forms.now)) (filter (is_guard_in id) (nodes_of forms.now))))) }
+        || list_any (names_rule (nodes_of (bytes_of policy.entry)) place)
+        (flat_map (condition_references (nodes_of (bytes_of policy.entry))) (inner_guards (question_node question.entry))))) }
 {
-    let mut guards = forms.guards();
+    let forms = policy.forms();
+    let mut guards = forms.guards_in(question.statement());
     while let Some(guard) = guards.next() {
-        if guard.this() == id {
-            add_named(alloc, forms, guard.condition(), places)?;
-        }
+        add_named(alloc, forms, guard.condition(), places)?;
     }
     Ok(())
 }
 
-// Adds those that the checks in the scope of the question of an id name.
+// Adds those that the checks of a question name.
 fn add_checked<'a>(
     alloc: Global,
-    forms: &Forms<'a>,
-    id: u16,
+    policy: Policy<'a, '_>,
+    question: Question<'a>,
     places: &mut BTreeSet<u32>,
 ) -> Result<(), AllocError>
+    requires { IsNodeOf (bytes_of policy) (question_node question) }
     ensures { OnOk result ((place : ℕ) → has_place places.new place ≡ (has_place places.old place
-        || list_any (names_rule (nodes_of forms.now) place)
-        (flat_map (condition_references (nodes_of forms.now)) (filter (is_check_of id) (nodes_of forms.now))))) }
+        || list_any (names_rule (nodes_of (bytes_of policy.entry)) place)
+        (flat_map (condition_references (nodes_of (bytes_of policy.entry))) (checks (question_node question.entry))))) }
 {
-    let mut checks = forms.conditions();
+    let forms = policy.forms();
+    let mut checks = forms.conditions_in(question.statement());
     while let Some(check) = checks.next() {
-        if check.this() == id {
-            add_named(alloc, forms, check.condition(), places)?;
-        }
+        add_named(alloc, forms, check.condition(), places)?;
     }
     Ok(())
 }
@@ -131,11 +131,10 @@ pub fn named_rules<'a>(
     ensures { IfOk result (λ places. (place : ℕ) → has_place places place
         ≡ is_named (nodes_of (bytes_of policy.entry)) (question_node question.entry) place) }
 {
-    let forms = policy.forms();
     let mut places = BTreeSet::new(alloc);
     add_around(alloc, policy, question, &mut places)?;
-    add_inside(alloc, forms, question.id(), &mut places)?;
-    add_checked(alloc, forms, question.id(), &mut places)?;
+    add_inside(alloc, policy, question, &mut places)?;
+    add_checked(alloc, policy, question, &mut places)?;
     Ok(places)
 }
 

@@ -48,7 +48,7 @@ check_item a package_place c =
 
 abbrev pub checks_member : Audited → ℕ → Node → List ℕ
 checks_member a package_place n =
-    array_member (codes "checks") (map (check_item a package_place) (checks a.world.nodes n))
+    array_member (codes "checks") (map (check_item a package_place) (checks n))
 
 -- ---- the rules that these, its guards and those of its options name, and those that these name in turn, by place
 

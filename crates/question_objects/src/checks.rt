@@ -3,6 +3,7 @@
 ghost use Rattle.std.specs.Prelude.{◌≡◌, ◌++◌, ◌+◌, ◌<◌, ◌^◌, OnOk, OnErr, codes, length};
 ghost use Rattle.hii_bytes.specs.Watching.{Puts, pen_of};
 ghost use Rattle.audit_json.specs.Objects.{before_item};
+ghost use Rattle.ifr_nodes.specs.code.Checked.{IsNodeOf};
 ghost use Rattle.ifr_scopes.specs.code.Parts.{condition_node};
 ghost use Rattle.hii_questions.specs.code.Views.{question_node};
 ghost use Rattle.guard_policy.specs.code.Views.{bytes_of};
@@ -61,18 +62,16 @@ pub(crate) fn put_checks<'a, C: Conditions, W: Write>(
     question: Question<'a>,
     out: &mut Watched<W>,
 ) -> Result<(), AllocError>
-    requires { package_place + length (bytes_of page.policy) < 2 ^ 64 }
+    requires node { IsNodeOf (bytes_of page.policy) (question_node question) }
+    requires in_file { package_place + length (bytes_of page.policy) < 2 ^ 64 }
     ensures told { OnOk result (Puts W.contents out.old out.new
         (checks_member (audited page.entry) package_place (question_node question.entry))) }
     ensures begun { OnErr result (Begins (pen_of W.contents out.old) (pen_of W.contents out.new)
         (checks_member (audited page.entry) package_place (question_node question.entry))) }
 {
-    let mut checks = page.policy().forms().conditions();
+    let mut checks = page.policy().forms().conditions_in(question.statement());
     let mut is_first = true;
     while let Some(check) = checks.next() {
-        if check.this() != question.id() {
-            continue;
-        }
         put_check(alloc, page, package_place, check, is_first, out)?;
         is_first = false;
     }

@@ -70,7 +70,7 @@ abbrev pub check_part : Audited → Node → List ℕ
 check_part a c = check_stated a c (state_text (value_at a c))
 
 abbrev pub checks_part : Audited → Node → List ℕ
-checks_part a n = flat_map (check_part a) (checks a.world.nodes n)
+checks_part a n = flat_map (check_part a) (checks n)
 
 -- ---- the rules that these, its guards and those of its options name, and those that these name in turn, by place
 

@@ -2,8 +2,10 @@
 
 ghost use Rattle.std.specs.Prelude.{◌≡◌, OnOk, OnErr};
 ghost use Rattle.hii_bytes.specs.Watching.{Puts, pen_of};
+ghost use Rattle.ifr_nodes.specs.code.Checked.{IsNodeOf};
 ghost use Rattle.ifr_scopes.specs.code.Parts.{condition_node};
 ghost use Rattle.hii_questions.specs.code.Views.{question_node};
+ghost use Rattle.guard_policy.specs.code.Views.{bytes_of};
 ghost use Rattle.question_audit.specs.code.Pages.{audited};
 ghost use Rattle.question_audit.specs.ConditionFacts.{condition_words};
 ghost use Rattle.question_audit.specs.code.Beginnings.{Begins};
@@ -77,16 +79,15 @@ pub(crate) fn put_checks<'a, C: Conditions, W: Write>(
     question: Question<'a>,
     out: &mut Watched<W>,
 ) -> Result<(), AllocError>
+    requires { IsNodeOf (bytes_of page.policy) (question_node question) }
     ensures told { OnOk result (Puts W.contents out.old out.new
         (checks_part (audited page.entry) (question_node question.entry))) }
     ensures begun { OnErr result (Begins (pen_of W.contents out.old) (pen_of W.contents out.new)
         (checks_part (audited page.entry) (question_node question.entry))) }
 {
-    let mut checks = page.policy().forms().conditions();
+    let mut checks = page.policy().forms().conditions_in(question.statement());
     while let Some(check) = checks.next() {
-        if check.this() == question.id() {
-            put_check(alloc, page, check, out)?;
-        }
+        put_check(alloc, page, check, out)?;
     }
     Ok(())
 }

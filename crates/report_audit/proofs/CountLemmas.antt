@@ -1,10 +1,10 @@
 -- Forms and questions are counted.
-use Rattle.std.proofs.Common.{◌≡◌, ◌∙◌, ℕ, ◌+◌, ◌<◌, ◌≤◌, ◌^◌, Bool, true, false, cond, Option, Some, None, List, [], ◌∷◌, length, if◌then◌else◌, option_map, ap, arith, refl, subst}
+use Rattle.std.proofs.Common.{◌≡◌, ℕ, ◌+◌, ◌<◌, ◌^◌, Bool, true, false, Option, Some, None, List, [], ◌∷◌, length, if◌then◌else◌, option_map, ap, arith, refl, subst}
 use Rattle.std.specs.Prelude.{filter, is_some}
 use Rattle.std.proofs.lemmas.List.Sums.{count_by-le-length, length-filter}
 use Rattle.ifr_opcodes.specs.Forest.{Node}
 use Rattle.ifr_nodes.specs.Accepted.{IsAccepted}
-use Rattle.ifr_nodes.specs.Nodes.{is_form, is_question, nodes_of}
+use Rattle.ifr_nodes.specs.Nodes.{is_form, nodes_of}
 use Rattle.ifr_nodes.proofs.WalkLemmas.{at_first, few_left}
 
 -- a package has few forms

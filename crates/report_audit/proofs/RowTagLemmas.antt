@@ -2,7 +2,7 @@
 use Rattle.std.proofs.Common.{◌≡◌, ℕ, Bool, true, false, Option, Some, None, List, [], ◌∷◌, ◌++◌, codes, map, refl, subst}
 use Rattle.std.specs.Prelude.{◌==◌, bytes_eq, decimal, if◌then◌else◌, is_some}
 use Rattle.ifr_opcodes.specs.declared.codes.TheConstants.{CHECKBOX, ONE_OF, REF}
-use Rattle.ifr_opcodes.specs.Fields.{form_title, option_text, option_value, question_id, ref_form_set, ref_target, statement_help, statement_prompt}
+use Rattle.ifr_opcodes.specs.Fields.{form_title, option_text, option_value, question_id, ref_target, statement_help, statement_prompt}
 use Rattle.ifr_opcodes.specs.Forest.{Node}
 use Rattle.ifr_opcodes.specs.Opcode.{number}
 use Rattle.ifr_expr.specs.Values.{Value, undefined, boolean, natural, text, buffer}
@@ -15,25 +15,25 @@ use Rattle.form_page.specs.RowValues.{choice}
 use Rattle.audit_html.specs.Html.{html_text, isolated, link_to, title_text}
 use Rattle.audit_text.specs.Words.{opcode_name}
 use Rattle.question_audit.specs.Audited.{Audited}
-use Rattle.question_audit.specs.QuestionLines.{has_no_text, is_undefined, told_value, unguarded, value_told}
+use Rattle.question_audit.specs.QuestionLines.{has_no_text, is_undefined, told_value, unguarded}
 use Rattle.question_audit.specs.ScriptValues.{behind, default_taken, script_value, stored_value}
 use Rattle.question_audit.specs.ConditionFacts.{checks, condition_words, state_text, value_at}
 use Rattle.question_audit.specs.Dependences.{decided_by, support_ids, when_text}
 use Rattle.question_audit.specs.OptionFacts.{own_denial}
 use Rattle.question_audit.specs.declared.when.When.{When}
 use Rattle.question_audit.specs.declared.when.When.TheVariants.{AtCommands, AtOpening}
-use Rattle.question_rows.specs.Conditions.{check_part, check_stated, check_words, checks_part, conditions_part, guards_part, is_in_force, outside_part, rules_part, stated}
-use Rattle.question_rows.specs.Defaults.{behind_number, choice_behind, default_part, default_words, option_behind, other_default, script_default, taken_default}
-use Rattle.question_rows.specs.Dependences.{answer_words, decided_item, decided_items, decides_part, dependence_of, dependence_part, dependences_part, depends_part, depends_start, known_dependence}
+use Rattle.question_rows.specs.Conditions.{check_part, check_stated, checks_part, guards_part, is_in_force, outside_part, rules_part, stated}
+use Rattle.question_rows.specs.Defaults.{behind_number, choice_behind, default_part, default_words, option_behind, script_default, taken_default}
+use Rattle.question_rows.specs.Dependences.{answer_words, decided_item, decided_items, decides_part, dependence_of, dependence_part, depends_part, depends_start}
 use Rattle.question_rows.specs.Elements.{dim, html_line, isolated_line, small}
-use Rattle.question_rows.specs.Leads.{form_part, leads_part, led_part}
+use Rattle.question_rows.specs.Leads.{form_part, led_part}
 use Rattle.question_rows.specs.Limits.{limits_part}
 use Rattle.question_rows.specs.Links.{question_link}
 use Rattle.question_rows.specs.Options.{option_item, option_start, options_part}
 use Rattle.question_rows.specs.laws.Plain.{are_plain}
 use Rattle.question_rows.specs.Rows.{reason_cell, row, row_head}
 use Rattle.question_rows.specs.Shown.{on_or_off, shown_words, told_words, value_part}
-use Rattle.question_rows.specs.Subjects.{help_part, opcode_part, prompt_part, prompt_words, subject_cell}
+use Rattle.question_rows.specs.Subjects.{help_part, opcode_part, prompt_part, subject_cell}
 use Rattle.question_rows.specs.Values.{field_part, value_cell}
 use Rattle.question_rows.proofs.PlainLemmas.{line_plain, text_plain}
 use Rattle.report_audit.specs.laws.Tags.{AreEmptyAlike, with_texts}
@@ -164,7 +164,7 @@ module _ (a : Audited) (others : ℕ → List ℕ) (alike : AreEmptyAlike a.text
       (behind_it (opcode_name (number c.op) ++ stated a.world.nodes state (condition_words c) ++ codes " ") (alike_isolated (a.texts (message c.op)) (others (message c.op)))))
 
   at_checks : (n : Node) → Alike (checks_part a n) (checks_part other n)
-  at_checks n = alike_each (check_part a) (check_part other) (λ (c : Node). at_check_stated c (state_text (value_at a c))) (checks a.world.nodes n)
+  at_checks n = alike_each (check_part a) (check_part other) (λ (c : Node). at_check_stated c (state_text (value_at a c))) (checks n)
 
   at_link : (n : Node) → Alike (question_link a n) (question_link other n)
   at_link n =

@@ -66,6 +66,6 @@ pub record CanShow (a : Audited) (package_place : ℕ) (n : Node) : Type 0 where
   pub verdict : IfSome (fixed a.world n) IsNear
   pub reasons : AllByRecursion IsNear (all_reasons a.world (asked a.world.nodes n))
   pub guards : AllByRecursion (IsPlaced package_place) (guards n)
-  pub checks : AllByRecursion (IsPlaced package_place) (checks a.world.nodes n)
+  pub checks : AllByRecursion (IsPlaced package_place) (checks n)
   pub rules : AllByRecursion (IsPlaced package_place) (named_rules a.world.nodes n)
   pub options : AllByRecursion (IsOption a.world n.place) (options n)

@@ -1,4 +1,4 @@
-use Rattle.std.proofs.Common.{◌≡◌, ℕ, Bool, List, ap, inl, inr, refl, subst, sym}
+use Rattle.std.proofs.Common.{ℕ, Bool, List, ap, inl, inr, refl, subst}
 use Rattle.std.specs.Io.Buffered.{writer_contents}
 use Rattle.hii_bytes.specs.Watching.{has_failed, pen_of}
 use Rattle.hii_bytes.specs.declared.cause.Fault.{Fault}
@@ -6,7 +6,7 @@ use Rattle.hii_varstore.specs.Image.{image_of}
 use Rattle.hii_varstore.specs.Stores.{StoreMap}
 use Rattle.question_audit.specs.declared.origin.Origin.{Origin}
 use Rattle.store_audit.specs.Images.{WritesImage}
-use Rattle.script_audit.specs.Apply.{Applied, applied}
+use Rattle.script_audit.specs.Apply.{applied}
 use Rattle.audit_answers.proofs.EndingLemmas.{left_image, tells_and_writes, tells_fault_behind, tells_refused}
 use Rattle.audit_commands.specs.Applying.{Applies, SaysApply}
 use Rattle.audit_commands.specs.Auditing.{Asked}

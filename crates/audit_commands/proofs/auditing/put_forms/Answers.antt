@@ -1,7 +1,6 @@
-use Rattle.std.proofs.Common.{◌≡◌, ◌+◌, ◌<◌, ◌^◌, ℕ, [], ap, arith, length, subst, refl, sym, inl, inr}
+use Rattle.std.proofs.Common.{◌≡◌, ◌+◌, ℕ, [], ap, subst, refl, inl, inr}
 use Rattle.std.proofs.lemmas.Result.{IfErr-weaker, on_ok_weaker, on_err_weaker}
 use Rattle.hii_bytes.specs.Watching.{Writes, pen_of}
-use Rattle.hii_bytes.proofs.WritingLemmas.{writes_nil}
 use Rattle.question_audit.specs.Audited.{Audited}
 use Rattle.question_audit.specs.FormLines.{questions_text}
 use Rattle.question_audit.specs.Reach.{TellsReached}

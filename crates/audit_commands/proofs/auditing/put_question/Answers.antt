@@ -1,4 +1,4 @@
-use Rattle.std.proofs.Common.{◌≡◌, ℕ, ap, subst, refl, inr}
+use Rattle.std.proofs.Common.{◌≡◌, subst, refl, inr}
 use Rattle.std.proofs.lemmas.Result.{IfOk-weaker, on_err_weaker}
 use Rattle.question_audit.specs.Audited.{Audited}
 use Rattle.question_audit.specs.code.Pages.{audited}

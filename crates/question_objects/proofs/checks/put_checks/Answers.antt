@@ -1,45 +1,33 @@
-use Rattle.std.proofs.Common.{◌≡◌, ℕ, Bool, List, true, false, arith, sym, ap, subst, ◌∙◌}
-use Rattle.std.specs.Prelude.{◌==◌, filter}
-use Rattle.std.proofs.lemmas.Bool.{eq-eqb, ne_eqb}
-use Rattle.std.proofs.lemmas.List.Elements.{All-filter}
+use Rattle.std.proofs.Common.{arith, sym, ap, subst, ◌∙◌}
 use Rattle.hii_bytes.specs.Watching.{pen_of}
-use Rattle.ifr_opcodes.specs.Fields.{question_id}
 use Rattle.ifr_opcodes.specs.Forest.{Node}
 use Rattle.ifr_opcodes.specs.Opcode.{number}
 use Rattle.ifr_opcodes.specs.Rows.{is_condition_number}
-use Rattle.ifr_nodes.specs.Nodes.{nodes_of, this_of}
-use Rattle.ifr_nodes.specs.code.Checked.{AreNodesOf, IsNodeOf}
+use Rattle.ifr_nodes.specs.Nodes.{nodes_of}
+use Rattle.ifr_nodes.specs.code.Checked.{AreNodesOf}
 use Rattle.ifr_nodes.proofs.ConditionLemmas.{place_below}
-use Rattle.ifr_nodes.proofs.ScopeLemmas.{all_nodes}
 use Rattle.ifr_nodes.proofs.ViewLemmas.{contains_found}
 use Rattle.ifr_scopes.specs.code.Parts.{condition_node}
 use Rattle.hii_questions.specs.code.Views.{question_node}
 use Rattle.guard_policy.specs.code.Views.{bytes_of}
 use Rattle.guard_policy.proofs.OptionLemmas.{first_of, rest_of}
 use Rattle.question_audit.specs.code.Pages.{audited}
-use Rattle.question_audit.proofs.AroundLemmas.{same_forms}
+use Rattle.question_audit.specs.ConditionFacts.{checks}
 use Rattle.question_audit.proofs.BeginningLemmas.{at_error}
-use Rattle.question_audit.proofs.FactLemmas.{filter_both}
+use Rattle.question_audit.proofs.InsideLemmas.{inside_are_nodes}
 use Rattle.question_objects.specs.Conditions.{check_item}
-use Rattle.question_objects.proofs.ListingLemmas.{failing_next, first_left, listed_begun, none_left, passing_next}
+use Rattle.question_objects.proofs.ListingLemmas.{first_left, item_next, listed_begun, none_left}
 use Rattle.question_objects.proofs.checks.put_checks.Goals as goal
-
-abbrev is_of : ℕ → Node → Bool
-is_of id n = this_of n == id
-
-abbrev is_condition : Node → Bool
-is_condition n = is_condition_number (number n.op)
 
 pub loop-check-init : goal.loop-check-init
 loop-check-init g c =
     let page = c.args.page in
     let bytes = bytes_of page.policy in
-    let id = question_id (question_node c.args.question).op in
-    let ns = nodes_of bytes in
-    let all = c.conditions-checks.ensures.conditions ∙ ap (λ (b : List ℕ). filter is_condition (nodes_of b)) (same_forms _ c.policy.result page.policy c.forms.ensures c.policy.ensures) in
+    let n = question_node c.args.question in
+    let all = c.conditions_in-checks.ensures ∙ ap checks c.statement.ensures in
     record {
-      written = first_left _ (check_item (audited page) c.args.package_place) (pen_of g.W.Write.contents c.args.out.now) _ _ (ap (filter (is_of id)) all ∙ sym (filter_both is_condition (is_of id) ns));
-      nodes = subst (AreNodesOf bytes) (sym all) (All-filter is_condition (IsNodeOf bytes) ns (all_nodes bytes page.policy.accepted.checked.spelled));
+      written = first_left _ (check_item (audited page) c.args.package_place) (pen_of g.W.Write.contents c.args.out.now) _ _ all;
+      nodes = subst (AreNodesOf bytes) (sym all) (inside_are_nodes bytes (λ (m : Node). is_condition_number (number m.op)) n page.policy.accepted.checked.spelled c.requires.node);
     }
 
 pub put_check-requires : goal.put_check-requires
@@ -48,32 +36,16 @@ put_check-requires g c =
     let n = condition_node c.in-Some.check in
     let node = first_of bytes _ n _ c.in-Some.ensures.steps c.loop-check.invariant.nodes in
     let below = place_below bytes n c.args.page.policy.accepted.checked (contains_found (nodes_of bytes) n.place n node) in
-    omega (arith, below, c.requires)
+    omega (arith, below, c.requires.in_file)
 
 pub loop-check-preserved : goal.loop-check-preserved
-loop-check-preserved g c =
-    let id = question_id (question_node c.args.question).op in
-    let n = condition_node c.in-Some.check in
-    let is : is_of id n ≡ true = eq-eqb _ _ (sym c.this.ensures ∙ c.if-this-id.false ∙ c.id.ensures) in
-    record {
-      written = passing_next (check_item (audited c.args.page) c.args.package_place) (is_of id) n c.in-Some.ensures.steps is c.loop-check.invariant.written c.in_ok-put_check.ensures.told;
-      nodes = rest_of (bytes_of c.args.page.policy) _ _ _ c.in-Some.ensures.steps c.loop-check.invariant.nodes;
-    }
-
-pub loop-check-preserved-then-this-id : goal.loop-check-preserved-then-this-id
-loop-check-preserved-then-this-id g c =
-    let id = question_id (question_node c.args.question).op in
-    let n = condition_node c.in-Some.check in
-    let other : is_of id n ≡ false = ne_eqb _ _ (λ same. c.if-this-id.true (c.this.ensures ∙ same ∙ sym c.id.ensures)) in
-    record {
-      written = failing_next (check_item (audited c.args.page) c.args.package_place) (is_of id) n c.in-Some.ensures.steps other c.loop-check.invariant.written;
-      nodes = rest_of (bytes_of c.args.page.policy) _ _ _ c.in-Some.ensures.steps c.loop-check.invariant.nodes;
-    }
+loop-check-preserved g c = record {
+  written = item_next (check_item (audited c.args.page) c.args.package_place) (condition_node c.in-Some.check) c.in-Some.ensures.steps c.loop-check.invariant.written c.in_ok-put_check.ensures.told;
+  nodes = rest_of (bytes_of c.args.page.policy) _ _ _ c.in-Some.ensures.steps c.loop-check.invariant.nodes;
+}
 
 pub returns-in_err-put_check-clause-begun : goal.returns-in_err-put_check-clause-begun
 returns-in_err-put_check-clause-begun g c = at_error c.from_residual.result (rw c.in_err-put_check.ensures.nothing (listed_begun c.loop-check.invariant.written))
 
 pub returns-clause-told : goal.returns-clause-told
-returns-clause-told g c =
-    let id = question_id (question_node c.args.question).op in
-    none_left (check_item (audited c.args.page) c.args.package_place) (ap (filter (is_of id)) c.in_default.ensures.steps.0) c.loop-check.invariant.written c.put_array_end.ensures
+returns-clause-told g c = none_left (check_item (audited c.args.page) c.args.package_place) c.in_default.ensures.steps.0 c.loop-check.invariant.written c.put_array_end.ensures

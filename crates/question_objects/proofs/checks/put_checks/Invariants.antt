@@ -1,10 +1,7 @@
 use Rattle.std.proofs.Common.{codes, length, map}
-use Rattle.std.specs.Prelude.{◌==◌, filter}
 use Rattle.hii_bytes.specs.Watching.{pen_of}
-use Rattle.ifr_opcodes.specs.Fields.{question_id}
-use Rattle.ifr_nodes.specs.Nodes.{this_of}
 use Rattle.ifr_nodes.specs.code.Checked.{AreNodesOf}
-use Rattle.ifr_scopes.specs.code.AllConditionsLeft.{all_conditions_left}
+use Rattle.ifr_scopes.specs.code.ConditionsInLeft.{conditions_in_left}
 use Rattle.hii_questions.specs.code.Views.{question_node}
 use Rattle.guard_policy.specs.code.Views.{bytes_of}
 use Rattle.question_audit.specs.code.Pages.{audited}
@@ -13,17 +10,14 @@ use Rattle.question_audit.specs.ConditionFacts.{checks}
 use Rattle.question_objects.specs.Conditions.{check_item}
 use Rattle.question_objects.proofs.checks.put_checks.Given as goal
 
--- the checks before the conditions that are left were written
+-- the checks before those that are left were written
 abbrev pub invariant-loop-check : goal.invariant-loop-check
 invariant-loop-check g l =
-    let a = audited l.page in
-    let n = question_node l.question in
-    let item = check_item a l.package_place in
+    let item = check_item (audited l.page) l.package_place in
     record {
-      written : Lists (codes "checks") (map item (checks a.world.nodes n)) (map item (filter (λ c. this_of c == question_id n.op) (all_conditions_left l.checks))) l.is_first
-          (pen_of g.W.Write.contents l.fn.out) (pen_of g.W.Write.contents l.out);
-      nodes : AreNodesOf (bytes_of l.page.policy) (all_conditions_left l.checks);
+      written : Lists (codes "checks") (map item (checks (question_node l.question))) (map item (conditions_in_left l.checks)) l.is_first (pen_of g.W.Write.contents l.fn.out) (pen_of g.W.Write.contents l.out);
+      nodes : AreNodesOf (bytes_of l.page.policy) (conditions_in_left l.checks);
     }
 
 abbrev pub decreases-loop-check : goal.decreases-loop-check
-decreases-loop-check g l = length (all_conditions_left l.checks)
+decreases-loop-check g l = length (conditions_in_left l.checks)

@@ -1,4 +1,4 @@
-use Rattle.std.proofs.Common.{◌≡◌, ◌+◌, ◌<◌, ◌^◌, true, arith, sym, ◌∙◌, length}
+use Rattle.std.proofs.Common.{◌≡◌, ◌+◌, ◌<◌, ◌^◌, true, arith, sym, ◌∙◌}
 use Rattle.ifr_nodes.specs.Nodes.{is_question, statements}
 use Rattle.ifr_scopes.specs.code.Lists.{form_node, statement_node}
 use Rattle.report_audit.proofs.CountLemmas.{is_asked, room}

@@ -1,4 +1,4 @@
-use Rattle.std.proofs.Common.{◌≡◌, ◌==◌, false, arith, subst, sym}
+use Rattle.std.proofs.Common.{◌≡◌, ◌==◌, false, subst, sym}
 use Rattle.std.proofs.lemmas.Bool.{cond-false, ne_eqb}
 use Rattle.hii_bytes.specs.Watching.{Writes}
 use Rattle.hii_bytes.proofs.WritingLemmas.{◌⨾◌}

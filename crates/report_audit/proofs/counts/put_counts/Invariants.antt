@@ -1,9 +1,9 @@
-use Rattle.std.proofs.Common.{◌≡◌, ◌++◌, codes, drop}
+use Rattle.std.proofs.Common.{◌++◌, codes, drop}
 use Rattle.std.specs.List.{flat_map}
 use Rattle.hii_bytes.specs.Watching.{pen_of}
 use Rattle.hii_bytes.specs.code.Writing.{Stands}
 use Rattle.form_page.specs.code.PageViews.{world_of}
-use Rattle.report_audit.specs.Counts.{standing_item, standings}
+use Rattle.report_audit.specs.Counts.{standing_item}
 use Rattle.report_audit.proofs.counts.put_counts.Given as goal
 
 -- the counts before those that are left are written

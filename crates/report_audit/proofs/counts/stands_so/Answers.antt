@@ -1,5 +1,4 @@
-use Rattle.std.proofs.Common.{◌≡◌, ◌∙◌, Option, ap, refl}
-use Rattle.hii_values.specs.declared.denial.DenialKind.{DenialKind}
+use Rattle.std.proofs.Common.{◌≡◌, ◌∙◌, ap, refl}
 use Rattle.hii_questions.specs.code.Views.{question_node}
 use Rattle.guard_policy.specs.Policy.{fixed}
 use Rattle.guard_policy.specs.code.Answers.{unless}

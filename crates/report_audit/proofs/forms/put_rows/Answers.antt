@@ -1,4 +1,4 @@
-use Rattle.std.proofs.Common.{◌≡◌, true, codes, List, ℕ, Some, None, [], ap, subst, rules, sym, ◌∙◌, if◌then◌else◌}
+use Rattle.std.proofs.Common.{true, codes, List, ℕ, [], ap, subst, rules, sym, ◌∙◌}
 use Rattle.std.specs.Prelude.{filter}
 use Rattle.std.specs.List.{flat_map}
 use Rattle.hii_bytes.specs.Watching.{pen_of}
