@@ -20,6 +20,8 @@ mod questions;
 #[cfg(test)]
 mod scopes;
 #[cfg(test)]
+mod stores;
+#[cfg(test)]
 mod streams;
 #[cfg(test)]
 mod strings;

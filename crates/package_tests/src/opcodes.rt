@@ -1,490 +1,247 @@
 //! Opcodes and their fields.
 
-use crate::form_packages::front;
 use hii_bytes::Guid;
-use ifr_opcodes::laws::{
-    kinds_of_values_have_the_numbers_of_the_standard, opcodes_have_the_numbers_of_the_standard,
-};
 use ifr_opcodes::*;
 use std::process::Abort;
-use std::test::*;
 
-static OPCODES: [u8; 42] = [
+// Opcodes, one behind the other. Every statement but that at 26 has the prompt 1 and the help 2, and every question but that the id 3,
+// the store 4, the offset 5 and the flags 6. Every GUID is that at 2.
+static OPCODES: [u8; 432] = [
     0x24, 26, 1, 2, 3, 4, 5, 6, 7, 8, 9, 10, 11, 12, 13, 14, 15, 16, 1, 0, 16, 0, 65, 98, 0, 9, // VARSTORE, at 0
     0x06, 14, 2, 0, 3, 0, 11, 0, 1, 0, 4, 0, 1, 2, // CHECKBOX, at 26
     0x29, 2, // END, at 40
-];
-
-// In what follows every statement has the prompt 1 and the help 2, and every question the id 3, the store 4, the offset 5
-// and the flags 6.
-
-static TEXTS: [u8; 23] = [
-    0x02, 7, 1, 0, 2, 0, 9, // SUBTITLE, at 0
-    0x03, 8, 1, 0, 2, 0, 0x34, 0x12, // TEXT, at 7
-    0x0d, 8, 1, 0, 2, 0, 0x34, 0x12, // RESET_BUTTON, at 15
-];
-
-static NUMERICS: [u8; 75] = [
-    7, 20, 1, 0, 2, 0, 3, 0, 4, 0, 5, 0, 6, 0x21, 1, 2, 3, 4, 5, 6, // hexadecimal, of two bytes, at 0
-    7, 17, 1, 0, 2, 0, 3, 0, 4, 0, 5, 0, 6, 0x00, 0x80, 0x7f, 1, // signed, of a byte, at 20
+    0x02, 7, 1, 0, 2, 0, 9, // SUBTITLE, at 42
+    0x03, 8, 1, 0, 2, 0, 0x34, 0x12, // TEXT, at 49
+    0x0d, 8, 1, 0, 2, 0, 0x34, 0x12, // RESET_BUTTON, at 57
+    7, 20, 1, 0, 2, 0, 3, 0, 4, 0, 5, 0, 6, 0x21, 1, 2, 3, 4, 5, 6, // NUMERIC, hexadecimal, of two bytes, at 65
     5, 0xa6, 1, 0, 2, 0, 3, 0, 4, 0, 5, 0, 6, 0x33, 1, 0, 0, 0, 0, 0, 0, 0, 2, 3, 0, 0, 0, 0, 0, 0,
-    4, 0, 0, 0, 0, 0, 0, 5, // ONE_OF, of eight bytes, at 37
-];
-
-static STRINGS: [u8; 76] = [
-    0x1c, 16, 1, 0, 2, 0, 3, 0, 4, 0, 5, 0, 6, 7, 8, 9, // STRING, at 0
-    0x08, 17, 1, 0, 2, 0, 3, 0, 4, 0, 5, 0, 6, 7, 1, 8, 2, // PASSWORD, at 16
-    0x23, 15, 1, 0, 2, 0, 3, 0, 4, 0, 5, 0, 6, 7, 2, // ORDERED_LIST, at 33
-    0x1a, 14, 1, 0, 2, 0, 3, 0, 4, 0, 5, 0, 6, 7, // DATE, at 48
-    0x1b, 14, 1, 0, 2, 0, 3, 0, 4, 0, 5, 0, 6, 7, // TIME, at 62
-];
-
-static ACTIONS: [u8; 28] = [
-    0x0c, 13, 1, 0, 2, 0, 3, 0, 4, 0, 5, 0, 6, // ACTION without a text, at 0
-    0x0c, 15, 1, 0, 2, 0, 3, 0, 4, 0, 5, 0, 6, 7, 1, // ACTION with one, at 13
-];
-
-static REFS: [u8; 81] = [
-    0x0f, 14, 1, 0, 2, 0, 3, 0, 4, 0, 5, 0, 6, 7, // too short for a form, at 0
-    0x0f, 17, 1, 0, 2, 0, 3, 0, 4, 0, 5, 0, 6, 7, 1, 8, 2, // a question of a form, at 14
-    0x0f, 15, 1, 0, 2, 0, 3, 0, 4, 0, 5, 0, 6, 0, 0, // the form 0, at 31
+    4, 0, 0, 0, 0, 0, 0, 5, // ONE_OF, of eight bytes, at 85
+    0x1c, 16, 1, 0, 2, 0, 3, 0, 4, 0, 5, 0, 6, 7, 8, 9, // STRING, at 123
+    0x08, 17, 1, 0, 2, 0, 3, 0, 4, 0, 5, 0, 6, 7, 1, 8, 2, // PASSWORD, at 139
+    0x23, 15, 1, 0, 2, 0, 3, 0, 4, 0, 5, 0, 6, 7, 2, // ORDERED_LIST, at 156
+    0x1a, 14, 1, 0, 2, 0, 3, 0, 4, 0, 5, 0, 6, 7, // DATE, at 171
+    0x1b, 14, 1, 0, 2, 0, 3, 0, 4, 0, 5, 0, 6, 7, // TIME, at 185
+    0x0c, 15, 1, 0, 2, 0, 3, 0, 4, 0, 5, 0, 6, 7, 1, // ACTION, at 199
+    0x0f, 17, 1, 0, 2, 0, 3, 0, 4, 0, 5, 0, 6, 7, 1, 8, 2, // REF to a question of a form, at 214
     0x0f, 35, 1, 0, 2, 0, 3, 0, 4, 0, 5, 0, 6, 7, 1, 8, 2, 1, 2, 3, 4, 5, 6, 7, 8, 9, 10, 11, 12,
-    13, 14, 15, 16, 9, 3, // another form set's, of a device, at 46
-];
-
-static DEFAULTS: [u8; 33] = [
-    0x5b, 6, 1, 0, 0, 7, // a number, at 0
-    0x5b, 8, 1, 0, 0x0b, 7, 8, 9, // a buffer, at 6
-    0x5b, 0x85, 1, 0, 8, // an expression, at 14
-    0x5c, 6, 1, 0, 2, 0, // DEFAULTSTORE, at 19
-    9, 8, 1, 0, 0x10, 1, 0x34, 0x12, // ONE_OF_OPTION, at 25
-];
-
-static STORES: [u8; 49] = [
+    13, 14, 15, 16, 9, 3, // REF to one of another form set, of a device, at 231
+    0x5b, 8, 1, 0, 0x0b, 7, 8, 9, // DEFAULT of a buffer, at 266
+    0x5c, 6, 1, 0, 2, 0, // DEFAULTSTORE, at 274
+    9, 8, 1, 0, 0x10, 1, 0x34, 0x12, // ONE_OF_OPTION, at 280
     0x26, 29, 1, 0, 1, 2, 3, 4, 5, 6, 7, 8, 9, 10, 11, 12, 13, 14, 15, 16, 4, 3, 2, 1, 16, 0, 65,
-    98, 0, // VARSTORE_EFI, at 0
-    0x25, 20, 2, 0, 1, 2, 3, 4, 5, 6, 7, 8, 9, 10, 11, 12, 13, 14, 15, 16, // VARSTORE_NAME_VALUE, at 29
+    98, 0, // VARSTORE_EFI, at 288
+    0x25, 20, 2, 0, 1, 2, 3, 4, 5, 6, 7, 8, 9, 10, 11, 12, 13, 14, 15, 16, // VARSTORE_NAME_VALUE, at 317
+    0x11, 0x84, 1, 2, // INCONSISTENT_IF, at 337
+    0x10, 0x84, 3, 4, // NO_SUBMIT_IF, at 341
+    0x63, 0x85, 5, 6, 7, // WARNING_IF, at 345
+    0x18, 0x83, 7, // RULE, at 350
+    0x0e, 0x97, 1, 2, 3, 4, 5, 6, 7, 8, 9, 10, 11, 12, 13, 14, 15, 16, 0x21, 0x43, 5, 0, 1, // FORM_SET, at 353
+    0x01, 0x86, 7, 0, 8, 0, // FORM, at 376
+    0x02, 6, 1, 0, 2, 0, // SUBTITLE without flags, at 382
+    0x12, 6, 11, 0, 0x34, 0x12, // EQ_ID_VAL, at 388
+    0x14, 11, 9, 0, 2, 0, 5, 0, 7, 1, 99, // EQ_ID_VAL_LIST, at 394
+    0x13, 6, 1, 2, 3, 4, // EQ_ID_ID, at 405
+    0x40, 0x84, 7, 0, // QUESTION_REF1, at 411
+    0x3f, 3, 8, // RULE_REF, at 415
+    0x44, 6, 4, 3, 2, 1, // UINT32, at 418
+    0x54, 2, // ONES, at 424
+    0x17, 2, // NOT, at 426
+    0x3b, 2, // SUBTRACT, at 428
+    0x58, 2, // THIS, at 430
 ];
 
-static CONDITIONS: [u8; 16] = [
-    0x11, 0x84, 1, 2, // INCONSISTENT_IF, at 0
-    0x10, 0x84, 3, 4, // NO_SUBMIT_IF, at 4
-    0x63, 0x85, 5, 6, 7, // WARNING_IF, at 8
-    0x18, 0x83, 7, // RULE, at 13
-];
-
-// The bytes of the cases come from functions without clauses, so that no proof computes with them.
-
+// The opcodes come from a function without a clause, so that no proof computes with them.
 fn opcodes() -> &'static [u8] {
     &OPCODES
 }
 
-fn texts() -> &'static [u8] {
-    &TEXTS
+fn op(rt: &impl Abort, place: u32) -> Op<'static> {
+    op_at(opcodes(), place).expect(rt, "an opcode")
 }
 
-fn numerics() -> &'static [u8] {
-    &NUMERICS
+fn operator(rt: &impl Abort, place: u32) -> ExprOp<'static> {
+    ExprOp::read(op(rt, place)).expect(rt, "an operator")
 }
 
-fn strings() -> &'static [u8] {
-    &STRINGS
-}
-
-fn actions() -> &'static [u8] {
-    &ACTIONS
-}
-
-fn refs() -> &'static [u8] {
-    &REFS
-}
-
-fn defaults() -> &'static [u8] {
-    &DEFAULTS
-}
-
-fn stores() -> &'static [u8] {
-    &STORES
-}
-
-fn conditions() -> &'static [u8] {
-    &CONDITIONS
-}
-
-// The opcode at a place. Neither this nor what follows has a clause, so that no function carries the contracts of two views.
-fn op(bytes: &[u8], place: u32) -> Option<Op<'_>> {
-    op_at(bytes, place).ok()
-}
-
-fn has_guid(bytes: &[u8], place: usize, guid: Guid<'_>) -> bool {
-    match bytes.split_at_checked(place) {
-        Some((_, behind)) => behind.starts_with(guid.bytes()),
-        None => false,
-    }
-}
-
-fn form_set_fields() -> Option<(bool, [u16; 2], u8)> {
-    let view = FormSetOp::read(op(front(), 4)?).ok()?;
-    let is_named = has_guid(front(), 6, view.guid());
-    Some((is_named, [view.title(), view.help()], view.flags()))
-}
-
-fn form_fields() -> Option<[u16; 2]> {
-    let view = FormOp::read(op(front(), 27)?).ok()?;
-    Some([view.id(), view.title()])
+fn is_of_cases(guid: Guid<'_>) -> bool {
+    opcodes().get(2..18) == Some(guid.bytes())
 }
 
 #[test]
-fn form_set_and_form(rt: HostRuntime) -> Result<(), Fail> {
-    let op = op(front(), 4).ok_or("no opcode")?;
-    assert!(rt; op.code == FORM_SET && op.scope && op.len() == 23);
-    assert!(rt; form_set_fields() == Some((true, [0x4321, 5], 1)));
-    assert!(rt; form_fields() == Some([7, 8]));
-    Ok(())
-}
-
-fn statement_fields(op: Op<'_>) -> Option<[u16; 2]> {
-    let view = StatementOp::read(op).ok()?;
-    Some([view.prompt(), view.help()])
-}
-
-fn question_fields(op: Op<'_>) -> Option<([u16; 4], u8, bool)> {
-    let view = QuestionOp::read(op).ok()?;
-    let prompt = view.statement().prompt();
-    let fields = [prompt, view.id(), view.store(), view.offset()];
-    Some((fields, view.flags(), view.is_read_only()))
-}
-
-fn checkbox_fields(op: Op<'_>) -> Option<(u16, u8, [bool; 2])> {
-    let view = CheckboxOp::read(op).ok()?;
-    let defaults = [view.is_default(), view.is_manufacturing_default()];
-    Some((view.question().id(), view.flags(), defaults))
+fn form_set_and_form(rt: HostRuntime) {
+    let first = op(&rt, 353);
+    assert!(rt; first.code == FORM_SET && first.scope && first.len() == 23);
+    let form_set = FormSetOp::read(first).expect(&rt, "FORM_SET");
+    assert!(rt; is_of_cases(form_set.guid()) && form_set.title() == 0x4321);
+    assert!(rt; form_set.help() == 5 && form_set.flags() == 1);
+    let form = FormOp::read(op(&rt, 376)).expect(&rt, "FORM");
+    assert!(rt; form.id() == 7 && form.title() == 8);
 }
 
 #[test]
-fn checkbox(rt: HostRuntime) -> Result<(), Fail> {
-    let op = op(opcodes(), 26).ok_or("no opcode")?;
-    assert!(rt; statement_fields(op) == Some([2, 3]));
-    assert!(rt; question_fields(op) == Some(([2, 11, 1, 4], 1, true)));
-    assert!(rt; checkbox_fields(op) == Some((11, 2, [false, true])));
-    Ok(())
-}
-
-// Whether an opcode is one that no list may have, and whether it is too short.
-fn faults_of(bytes: &[u8], place: u32) -> Option<[bool; 2]> {
-    let op = op(bytes, place)?;
-    Some([is_outside(op), is_short(op)])
+fn statement_and_question(rt: HostRuntime) {
+    let checkbox = op(&rt, 26);
+    let statement = StatementOp::read(checkbox).expect(&rt, "a statement");
+    assert!(rt; statement.prompt() == 2 && statement.help() == 3);
+    let question = QuestionOp::read(checkbox).expect(&rt, "a question");
+    assert!(rt; question.statement().prompt() == 2 && question.id() == 11);
+    assert!(rt; question.store() == 1 && question.offset() == 4);
+    assert!(rt; question.flags() == 1 && question.is_read_only());
 }
 
 #[test]
-fn faults_of_opcodes(rt: HostRuntime) {
-    assert!(rt; faults_of(opcodes(), 40) == Some([true, false]));
-    // a SUBTITLE without flags
-    assert!(rt; faults_of(&[0x02, 6, 1, 0, 2, 0], 0) == Some([false, true]));
-}
-
-fn subtitle_fields() -> Option<(u16, u8)> {
-    let view = SubtitleOp::read(op(texts(), 0)?).ok()?;
-    Some((view.statement().prompt(), view.flags()))
-}
-
-fn text_fields() -> Option<[u16; 2]> {
-    let view = TextOp::read(op(texts(), 7)?).ok()?;
-    Some([view.statement().prompt(), view.second()])
-}
-
-fn button_fields() -> Option<[u16; 2]> {
-    let view = ResetButtonOp::read(op(texts(), 15)?).ok()?;
-    Some([view.statement().prompt(), view.default_id()])
+fn plain_statements(rt: HostRuntime) {
+    let subtitle = SubtitleOp::read(op(&rt, 42)).expect(&rt, "SUBTITLE");
+    assert!(rt; subtitle.statement().prompt() == 1 && subtitle.flags() == 9);
+    let text = TextOp::read(op(&rt, 49)).expect(&rt, "TEXT");
+    assert!(rt; text.statement().prompt() == 1 && text.second() == 0x1234);
+    let button = ResetButtonOp::read(op(&rt, 57)).expect(&rt, "RESET_BUTTON");
+    assert!(rt; button.statement().prompt() == 1 && button.default_id() == 0x1234);
 }
 
 #[test]
-fn statements(rt: HostRuntime) {
-    assert!(rt; subtitle_fields() == Some((1, 9)));
-    assert!(rt; text_fields() == Some([1, 0x1234]));
-    assert!(rt; button_fields() == Some([1, 0x1234]));
-}
-
-fn numeric_fields(place: u32) -> Option<(u16, u8, [u64; 3], usize, Display)> {
-    let view = NumericOp::read(op(numerics(), place)?).ok()?;
-    let bounds = [view.minimum(), view.maximum(), view.step()];
-    let id = view.question().id();
-    Some((id, view.flags(), bounds, view.width(), view.display()))
-}
-
-fn one_of_fields() -> Option<(u16, u8, [u64; 3], usize)> {
-    let view = OneOfOp::read(op(numerics(), 37)?).ok()?;
-    let bounds = [view.minimum(), view.maximum(), view.step()];
-    Some((view.question().offset(), view.flags(), bounds, view.width()))
+fn checkbox(rt: HostRuntime) {
+    let view = CheckboxOp::read(op(&rt, 26)).expect(&rt, "CHECKBOX");
+    assert!(rt; view.question().id() == 11 && view.flags() == 2);
+    assert!(rt; !view.is_default() && view.is_manufacturing_default());
 }
 
 #[test]
-fn numbers(rt: HostRuntime) {
-    let wide = Some((3, 0x21, [0x201, 0x403, 0x605], 2, Display::Hexadecimal));
-    assert!(rt; numeric_fields(0) == wide);
-    let signed = Some((3, 0, [0x80, 0x7f, 1], 1, Display::Signed));
-    assert!(rt; numeric_fields(20) == signed);
-    let choice = Some((5, 0x33, [1, 0x302, 0x0500_0000_0000_0004], 8));
-    assert!(rt; one_of_fields() == choice);
-}
-
-fn string_fields() -> Option<(u16, [u8; 3])> {
-    let view = StringOp::read(op(strings(), 0)?).ok()?;
-    let fields = [view.minimum(), view.maximum(), view.flags()];
-    Some((view.question().id(), fields))
-}
-
-fn password_fields() -> Option<[u16; 3]> {
-    let view = PasswordOp::read(op(strings(), 16)?).ok()?;
-    Some([view.question().id(), view.minimum(), view.maximum()])
-}
-
-fn list_fields() -> Option<(u16, [u8; 2], [bool; 2])> {
-    let view = OrderedListOp::read(op(strings(), 33)?).ok()?;
-    let flags = [view.is_unique_set(), view.has_no_empty_set()];
-    let fields = [view.max_containers(), view.flags()];
-    Some((view.question().id(), fields, flags))
-}
-
-fn date_fields() -> Option<(u16, u8)> {
-    let view = DateOp::read(op(strings(), 48)?).ok()?;
-    Some((view.question().id(), view.flags()))
-}
-
-fn time_fields() -> Option<(u16, u8)> {
-    let view = TimeOp::read(op(strings(), 62)?).ok()?;
-    Some((view.question().store(), view.flags()))
+fn date_and_time(rt: HostRuntime) {
+    let date = DateOp::read(op(&rt, 171)).expect(&rt, "DATE");
+    assert!(rt; date.question().id() == 3 && date.flags() == 7);
+    let time = TimeOp::read(op(&rt, 185)).expect(&rt, "TIME");
+    assert!(rt; time.question().store() == 4 && time.flags() == 7);
 }
 
 #[test]
-fn strings_lists_and_clocks(rt: HostRuntime) {
-    assert!(rt; string_fields() == Some((3, [7, 8, 9])));
-    assert!(rt; password_fields() == Some([3, 0x107, 0x208]));
-    assert!(rt; list_fields() == Some((3, [7, 2], [false, true])));
-    assert!(rt; date_fields() == Some((3, 7)));
-    assert!(rt; time_fields() == Some((4, 7)));
+fn numeric(rt: HostRuntime) {
+    let view = NumericOp::read(op(&rt, 65)).expect(&rt, "NUMERIC");
+    assert!(rt; view.question().id() == 3 && view.flags() == 0x21 && view.width() == 2);
+    assert!(rt; view.minimum() == 0x201 && view.maximum() == 0x403 && view.step() == 0x605);
+    assert!(rt; matches!(view.display(), Display::Hexadecimal));
 }
 
-fn action_fields(place: u32) -> Option<(u16, Option<u16>)> {
-    let view = ActionOp::read(op(actions(), place)?).ok()?;
-    Some((view.question().id(), view.text()))
+#[test]
+fn one_of(rt: HostRuntime) {
+    let view = OneOfOp::read(op(&rt, 85)).expect(&rt, "ONE_OF");
+    assert!(rt; view.question().offset() == 5 && view.flags() == 0x33 && view.width() == 8);
+    assert!(rt; view.minimum() == 1 && view.maximum() == 0x302);
+    assert!(rt; view.step() == 0x0500_0000_0000_0004);
 }
 
-// The id, what the reference names, the form that it leads to, and whether it has the GUID of another form set.
-fn ref_fields(place: u32) -> Option<(u16, [Option<u16>; 4], bool)> {
-    let view = RefOp::read(op(refs(), place)?).ok()?;
-    let form_set = match view.form_set() {
-        Some(guid) => has_guid(refs(), 63, guid),
-        None => false,
-    };
-    let named = [
-        view.form_id(),
-        view.question_id(),
-        view.device_path(),
-        view.target(),
-    ];
-    Some((view.question().id(), named, form_set))
+#[test]
+fn string_password_and_list(rt: HostRuntime) {
+    let string = StringOp::read(op(&rt, 123)).expect(&rt, "STRING");
+    assert!(rt; string.question().id() == 3 && string.flags() == 9);
+    assert!(rt; string.minimum() == 7 && string.maximum() == 8);
+    let password = PasswordOp::read(op(&rt, 139)).expect(&rt, "PASSWORD");
+    assert!(rt; password.question().id() == 3);
+    assert!(rt; password.minimum() == 0x107 && password.maximum() == 0x208);
+    let list = OrderedListOp::read(op(&rt, 156)).expect(&rt, "ORDERED_LIST");
+    assert!(rt; list.question().id() == 3 && list.max_containers() == 7);
+    assert!(rt; list.flags() == 2 && !list.is_unique_set() && list.has_no_empty_set());
 }
 
+// The form that a reference leads to is one of its own form set.
 #[test]
 fn actions_and_references(rt: HostRuntime) {
-    assert!(rt; action_fields(0) == Some((3, None)));
-    assert!(rt; action_fields(13) == Some((3, Some(0x107))));
-    let nothing = [None; 4];
-    let own = [Some(0x107), Some(0x208), None, Some(0x107)];
-    let elsewhere = [Some(0x107), Some(0x208), Some(0x309), None];
-    for (place, named, form_set) in [(0, nothing, false), (14, own, false), (46, elsewhere, true)] {
-        assert!(rt; ref_fields(place) == Some((3, named, form_set)));
-    }
-    assert!(rt; ref_fields(31) == Some((3, [Some(0), None, None, None], false)));
-}
-
-fn option_fields() -> Option<(u16, [u8; 2], u64, [bool; 2])> {
-    let view = OptionOp::read(op(defaults(), 25)?).ok()?;
-    let flags = [view.is_default(), view.is_manufacturing_default()];
-    Some((
-        view.text(),
-        [view.flags(), view.kind()],
-        view.value(),
-        flags,
-    ))
-}
-
-// The id and the kind of a default, and whether its value has these bytes.
-fn default_fields(place: u32, value: &[u8]) -> Option<(u16, u8, bool)> {
-    let view = DefaultOp::read(op(defaults(), place)?).ok()?;
-    Some((view.id(), view.kind(), view.value() == value))
-}
-
-fn default_store_fields() -> Option<[u16; 2]> {
-    let view = DefaultStoreOp::read(op(defaults(), 19)?).ok()?;
-    Some([view.name(), view.id()])
+    let action = ActionOp::read(op(&rt, 199)).expect(&rt, "ACTION");
+    assert!(rt; action.question().id() == 3 && action.text() == Some(0x107));
+    let inner = RefOp::read(op(&rt, 214)).expect(&rt, "REF");
+    assert!(rt; inner.question().id() == 3 && inner.question_id() == Some(0x208));
+    assert!(rt; inner.form_id() == Some(0x107) && inner.target() == Some(0x107));
+    let outer = RefOp::read(op(&rt, 231)).expect(&rt, "REF");
+    assert!(rt; outer.device_path() == Some(0x309) && outer.target().is_none());
+    assert!(rt; outer.form_set().is_some_and(is_of_cases));
 }
 
 #[test]
 fn option_and_defaults(rt: HostRuntime) {
-    let option = Some((1, [0x10, TYPE_NUM_SIZE_16], 0x1234, [true, false]));
-    assert!(rt; option_fields() == option);
-    assert!(rt; default_fields(0, &[7]) == Some((1, TYPE_NUM_SIZE_8, true)));
-    assert!(rt; default_fields(6, &[7, 8, 9]) == Some((1, TYPE_BUFFER, true)));
-    assert!(rt; default_fields(14, &[]) == Some((1, TYPE_OTHER, true)));
-    assert!(rt; default_store_fields() == Some([1, 2]));
-}
-
-fn buffer_store_fields() -> Option<([u16; 2], [bool; 2])> {
-    let view = VarstoreOp::read(op(opcodes(), 0)?).ok()?;
-    let is_named = view.name() == b"Ab".as_slice();
-    Some((
-        [view.id(), view.size()],
-        [is_named, has_guid(opcodes(), 2, view.guid())],
-    ))
-}
-
-fn efi_store_fields() -> Option<([u16; 2], u32, [bool; 2])> {
-    let view = VarstoreEfiOp::read(op(stores(), 0)?).ok()?;
-    let is_named = view.name() == b"Ab".as_slice();
-    let is_of_guid = has_guid(stores(), 4, view.guid());
-    Some((
-        [view.id(), view.size()],
-        view.attributes(),
-        [is_named, is_of_guid],
-    ))
-}
-
-fn pair_store_fields() -> Option<(u16, bool)> {
-    let view = VarstoreNameValueOp::read(op(stores(), 29)?).ok()?;
-    Some((view.id(), has_guid(stores(), 33, view.guid())))
+    let option = OptionOp::read(op(&rt, 280)).expect(&rt, "ONE_OF_OPTION");
+    assert!(rt; option.text() == 1 && option.value() == 0x1234);
+    assert!(rt; option.flags() == 0x10 && option.kind() == TYPE_NUM_SIZE_16);
+    assert!(rt; option.is_default() && !option.is_manufacturing_default());
+    let default = DefaultOp::read(op(&rt, 266)).expect(&rt, "DEFAULT");
+    assert!(rt; default.id() == 1 && default.kind() == TYPE_BUFFER);
+    assert!(rt; default.value() == b"\x07\x08\x09".as_slice());
+    let store = DefaultStoreOp::read(op(&rt, 274)).expect(&rt, "DEFAULTSTORE");
+    assert!(rt; store.name() == 1 && store.id() == 2);
 }
 
 #[test]
 fn stores_of_each_kind(rt: HostRuntime) {
-    assert!(rt; buffer_store_fields() == Some(([1, 16], [true; 2])));
-    assert!(rt; efi_store_fields() == Some(([1, 16], 0x01020304, [true; 2])));
-    assert!(rt; pair_store_fields() == Some((2, true)));
-}
-
-fn inconsistent_text() -> Option<u16> {
-    Some(InconsistentIfOp::read(op(conditions(), 0)?).ok()?.error())
-}
-
-fn no_submit_text() -> Option<u16> {
-    Some(NoSubmitIfOp::read(op(conditions(), 4)?).ok()?.error())
-}
-
-fn warning_fields() -> Option<(u16, u8)> {
-    let view = WarningIfOp::read(op(conditions(), 8)?).ok()?;
-    Some((view.text(), view.timeout()))
-}
-
-fn rule_id() -> Option<u8> {
-    Some(RuleOp::read(op(conditions(), 13)?).ok()?.id())
+    let buffer = VarstoreOp::read(op(&rt, 0)).expect(&rt, "VARSTORE");
+    assert!(rt; buffer.id() == 1 && buffer.size() == 16 && is_of_cases(buffer.guid()));
+    assert!(rt; buffer.name() == b"Ab".as_slice());
+    let variable = VarstoreEfiOp::read(op(&rt, 288)).expect(&rt, "VARSTORE_EFI");
+    assert!(rt; variable.id() == 1 && variable.size() == 16 && is_of_cases(variable.guid()));
+    assert!(rt; variable.attributes() == 0x01020304 && variable.name() == b"Ab".as_slice());
+    let pairs = VarstoreNameValueOp::read(op(&rt, 317)).expect(&rt, "VARSTORE_NAME_VALUE");
+    assert!(rt; pairs.id() == 2 && is_of_cases(pairs.guid()));
 }
 
 #[test]
 fn conditions_and_rules(rt: HostRuntime) {
-    assert!(rt; inconsistent_text() == Some(0x201));
-    assert!(rt; no_submit_text() == Some(0x403));
-    assert!(rt; warning_fields() == Some((0x605, 7)));
-    assert!(rt; rule_id() == Some(7));
-}
-
-// The operator that these bytes begin with.
-fn operator(bytes: &[u8]) -> Option<ExprOp<'_>> {
-    let (op, _) = split_opcode(bytes, 0)?;
-    ExprOp::read(op).ok()
-}
-
-fn a_value_is_compared(rt: &impl Abort) {
-    let Some(ExprOp::Leaf(LeafOp::EqIdVal(view))) = operator(&[0x12, 6, 11, 0, 0x34, 0x12]) else {
-        panic!(rt; "no EQ_ID_VAL");
-    };
-    assert!(rt; (view.question(), view.value()) == (11, 0x1234));
-}
-
-fn values_are_compared(rt: &impl Abort) {
-    let list = [0x14, 11, 9, 0, 2, 0, 5, 0, 7, 1, 99];
-    let Some(ExprOp::Leaf(LeafOp::EqIdValList(view))) = operator(&list) else {
-        panic!(rt; "no EQ_ID_VAL_LIST");
-    };
-    assert!(rt; (view.question(), view.count()) == (9, 2));
-    let mut values = view.values();
-    for value in [Some(5), Some(0x107), None] {
-        assert!(rt; values.next() == value);
-    }
+    let inconsistent = InconsistentIfOp::read(op(&rt, 337)).expect(&rt, "INCONSISTENT_IF");
+    let no_submit = NoSubmitIfOp::read(op(&rt, 341)).expect(&rt, "NO_SUBMIT_IF");
+    assert!(rt; inconsistent.error() == 0x201 && no_submit.error() == 0x403);
+    let warning = WarningIfOp::read(op(&rt, 345)).expect(&rt, "WARNING_IF");
+    let rule = RuleOp::read(op(&rt, 350)).expect(&rt, "RULE");
+    assert!(rt; warning.text() == 0x605 && warning.timeout() == 7 && rule.id() == 7);
 }
 
 #[test]
 fn values_of_questions(rt: HostRuntime) {
-    a_value_is_compared(&rt);
-    values_are_compared(&rt);
-}
-
-fn two_questions_are_named(rt: &impl Abort) {
-    let Some(ExprOp::Leaf(LeafOp::EqIdId(view))) = operator(&[0x13, 6, 1, 2, 3, 4]) else {
-        panic!(rt; "no EQ_ID_ID");
+    let ExprOp::Leaf(LeafOp::EqIdVal(value)) = operator(&rt, 388) else {
+        panic!(rt; "no EQ_ID_VAL");
     };
-    assert!(rt; (view.first(), view.second()) == (0x0201, 0x0403));
-}
-
-fn a_question_is_named(rt: &impl Abort) {
-    let Some(ExprOp::Leaf(LeafOp::QuestionRef(view))) = operator(&[0x40, 0x84, 7, 0]) else {
-        panic!(rt; "no QUESTION_REF1");
+    assert!(rt; value.question() == 11 && value.value() == 0x1234);
+    let ExprOp::Leaf(LeafOp::EqIdValList(list)) = operator(&rt, 394) else {
+        panic!(rt; "no EQ_ID_VAL_LIST");
     };
-    assert!(rt; view.question() == 7);
-}
-
-fn a_rule_is_named(rt: &impl Abort) {
-    let Some(ExprOp::RuleRef(view)) = operator(&[0x3f, 3, 8]) else {
-        panic!(rt; "no RULE_REF");
-    };
-    assert!(rt; view.rule() == 8);
+    assert!(rt; list.question() == 9 && list.count() == 2 && list.values().eq([5, 0x107]));
 }
 
 #[test]
 fn names_of_questions_and_rules(rt: HostRuntime) {
-    two_questions_are_named(&rt);
-    a_question_is_named(&rt);
-    a_rule_is_named(&rt);
-}
-
-fn a_number_stands_behind(rt: &impl Abort) {
-    let Some(ExprOp::Leaf(LeafOp::Uint(view))) = operator(&[0x44, 6, 4, 3, 2, 1]) else {
-        panic!(rt; "no UINT32");
+    let ExprOp::Leaf(LeafOp::EqIdId(both)) = operator(&rt, 405) else {
+        panic!(rt; "no EQ_ID_ID");
     };
-    assert!(rt; view.value() == 0x01020304);
-}
-
-fn a_constant_is_named(rt: &impl Abort) {
-    let Some(ExprOp::Leaf(LeafOp::Constant(view))) = operator(&[0x54, 2]) else {
-        panic!(rt; "no ONES");
+    assert!(rt; both.first() == 0x0201 && both.second() == 0x0403);
+    let ExprOp::Leaf(LeafOp::QuestionRef(question)) = operator(&rt, 411) else {
+        panic!(rt; "no QUESTION_REF1");
     };
-    assert!(rt; view.constant == Constant::Ones);
-}
-
-fn operators_are_named(rt: &impl Abort) {
-    let not = operator(&[0x17, 2]);
-    assert!(rt; matches!(not, Some(ExprOp::Unary(view)) if view.operator == Unary::Not));
-    let less = operator(&[0x3b, 2]);
-    assert!(rt; matches!(less, Some(ExprOp::Binary(view)) if view.operator == Binary::Subtract));
-    let this = operator(&[0x58, 2]).expect(rt, "THIS");
-    assert!(rt; this.op().code == THIS);
+    let ExprOp::RuleRef(rule) = operator(&rt, 415) else {
+        panic!(rt; "no RULE_REF");
+    };
+    assert!(rt; question.question() == 7 && rule.rule() == 8);
 }
 
 #[test]
 fn constants_and_operators(rt: HostRuntime) {
-    a_number_stands_behind(&rt);
-    a_constant_is_named(&rt);
-    operators_are_named(&rt);
+    let ExprOp::Leaf(LeafOp::Uint(number)) = operator(&rt, 418) else {
+        panic!(rt; "no UINT32");
+    };
+    let ExprOp::Leaf(LeafOp::Constant(ones)) = operator(&rt, 424) else {
+        panic!(rt; "no ONES");
+    };
+    assert!(rt; number.value() == 0x01020304 && matches!(ones.constant, Constant::Ones));
+    let ExprOp::Unary(not) = operator(&rt, 426) else {
+        panic!(rt; "no NOT");
+    };
+    let ExprOp::Binary(less) = operator(&rt, 428) else {
+        panic!(rt; "no SUBTRACT");
+    };
+    assert!(rt; matches!(not.operator, Unary::Not) && matches!(less.operator, Binary::Subtract));
+    assert!(rt; operator(&rt, 430).op().code == THIS);
 }
 
 #[test]
-fn numbers_of_opcodes(rt: HostRuntime) {
-    opcodes_have_the_numbers_of_the_standard();
-    kinds_of_values_have_the_numbers_of_the_standard();
-    assert_eq!(rt; (operands(MODULO), operands(FORM)), (Some(2), None));
-    assert!(rt; is_operator(THIS) && is_listed(FORM) && !is_operator(FORM));
-    assert!(rt; is_statement(TEXT) && is_question(CHECKBOX) && !is_question(TEXT));
-    assert!(rt;
-        is_store(VARSTORE) && is_condition(WARNING_IF) && is_ignored(GUID) && !is_ignored(TEXT)
-    );
+fn kinds_of_opcodes(rt: HostRuntime) {
+    assert!(rt; is_outside(op(&rt, 40)) && is_short(op(&rt, 382)));
+    assert!(rt; operands(MODULO) == Some(2) && operands(FORM).is_none());
+    assert!(rt; is_operator(THIS) && is_listed(FORM) && is_statement(TEXT));
+    assert!(rt; is_question(CHECKBOX) && is_store(VARSTORE) && is_condition(WARNING_IF));
+    assert!(rt; is_ignored(GUID) && split_opcode(opcodes(), 9).is_some());
 }

@@ -1,64 +1,29 @@
-//! Guards, rules and the form set.
+//! The form set, its forms, guards, locks and rules.
 
-use crate::form_packages::{forms_of, guarded, with};
 use ifr_expr::{Answers, Value};
-use ifr_scopes::{Form, Forms, Guard, RuleView};
+use ifr_opcodes::{LOCKED, SUPPRESS_IF};
+use ifr_scopes::{AnyCondition, Forms, Guard, Statement};
 use std::process::Abort;
-use std::test::Fail;
 
-// The question 7 answers 1.
-const ANSWERED: [u8; 6] = [0x12, 6, 7, 0, 1, 0];
-
-// What follows has no clause, so that no test carries the contracts of two views.
-
-// The place of a guard, its question, its code, its number, and the first question that its condition asks.
-fn guard_fields(guard: Option<Guard<'_>>) -> Option<(u32, u16, [u8; 2], Option<u32>, Option<u16>)> {
-    let guard = guard?;
-    let asked = guard.condition().support().next();
-    let codes = [guard.code(), guard.op().code];
-    Some((guard.place(), guard.this(), codes, guard.number(), asked))
-}
-
-fn first_form<'a>(rt: &impl Abort, forms: &Forms<'a>) -> Form<'a> {
-    forms.forms().next().expect(rt, "a form")
-}
-
-#[test]
-fn guards_in_no_question(rt: HostRuntime) -> Result<(), Fail> {
-    let bytes = guarded(rt.alloc(), &ANSWERED)?;
-    let forms = forms_of(rt.alloc(), bytes.as_slice())?;
-    let form = first_form(&rt, &forms);
-    let by_place = Some((27, 0, [0x0a; 2], Some(0), Some(7)));
-    assert!(rt; guard_fields(forms.guards_at(form.place()).next()) == by_place);
-    let by_walk = guard_fields(form.guards().next()).expect(&rt, "a guard");
-    assert!(rt; (by_walk.0, by_walk.4) == (27, Some(7)));
-    assert_eq!(rt; forms.guard_count(), 1);
-    Ok(())
-}
-
-// The place and the title of a form set.
-fn form_set_fields(forms: &Forms<'_>) -> (u32, u16) {
+pub(crate) fn form_set_and_form_are_told(rt: &impl Abort, forms: &Forms<'_>) {
     let form_set = forms.formset();
-    (form_set.place(), form_set.op().title())
+    assert!(rt; form_set.place() == 4 && form_set.op().title() == 0x4321);
+    let form = forms.forms().next().expect(rt, "a form");
+    assert!(rt; form.place() == 146 && form.op().id() == 7);
+    assert!(rt; form.guards().next().map(Guard::place) == Some(98));
+    assert!(rt; form.statements().next().map(Statement::place) == Some(156));
 }
 
-#[test]
-fn the_form_set_is_the_root(rt: HostRuntime) -> Result<(), Fail> {
-    let bytes = with(rt.alloc(), b"")?;
-    let forms = forms_of(rt.alloc(), bytes.as_slice())?;
-    assert!(rt; form_set_fields(&forms) == (4, 0x4321));
-    Ok(())
-}
-
-// A rule, and a guard with a reference to it on each side.
-const RULED: [u8; 21] = [
-    0x0a, 0x82, 0x3f, 3, 5, 0x29, 2, // SUPPRESS_IF with RULE_REF 5, at 33
-    0x18, 0x83, 5, 0x46, 2, 0x29, 2, // the rule 5: TRUE, at 40
-    0x0a, 0x82, 0x3f, 3, 5, 0x29, 2, // SUPPRESS_IF with RULE_REF 5, at 47
-];
-
-fn ruled() -> &'static [u8] {
-    &RULED
+pub(crate) fn guards_and_locks_are_told(rt: &impl Abort, forms: &Forms<'_>) {
+    assert!(rt; forms.guard_count() == 6);
+    // of the form, in no question
+    let guard = forms.guards_at(146).next().expect(rt, "a guard");
+    assert!(rt; guard.place() == 98 && guard.this() == 0 && guard.number() == Some(0));
+    assert!(rt; guard.code() == SUPPRESS_IF && guard.op().code == SUPPRESS_IF);
+    // of an option and a default
+    let lock = forms.around(216).lock().expect(rt, "a lock");
+    assert!(rt; lock.place() == 265 && lock.op().code == LOCKED);
+    assert!(rt; forms.around(236).lock().is_none());
 }
 
 // Questions without answers.
@@ -78,64 +43,33 @@ impl<'v> Answers<'v> for Nobody {
     }
 }
 
-// Whether the condition of a guard has a value, and whether it holds.
-fn decided(guard: Option<Guard<'_>>, forms: &Forms<'_>) -> Option<[bool; 2]> {
-    let condition = guard?.condition();
+// The question of the condition at a place, whether it is that of a guard, whether it has a value, and whether it holds.
+fn condition_at(rt: &impl Abort, forms: &Forms<'_>, place: u32) -> (u16, [bool; 3]) {
+    let found = forms.condition_at(place).expect(rt, "a condition");
+    assert!(rt; found.place() == place);
+    let is_guard = matches!(found, AnyCondition::Guard(_));
+    let condition = found.condition();
     let is_undefined = matches!(condition.value(&Nobody, forms, 0), Value::Undefined);
-    Some([!is_undefined, condition.holds(&Nobody, forms, 0)])
+    let holds = condition.holds(&Nobody, forms, 0);
+    (found.this(), [is_guard, !is_undefined, holds])
 }
 
-#[test]
-fn rules_before_and_behind(rt: HostRuntime) -> Result<(), Fail> {
-    let bytes = with(rt.alloc(), ruled())?;
-    let forms = forms_of(rt.alloc(), bytes.as_slice())?;
-    let mut guards = forms.guards();
-    for wanted in [[false; 2], [true; 2]] {
-        assert!(rt; decided(guards.next(), &forms) == Some(wanted));
-    }
-    Ok(())
+fn conditions_are_found(rt: &impl Abort, forms: &Forms<'_>) {
+    // The rule 5 stands behind the one guard and before the other.
+    assert!(rt; condition_at(rt, forms, 267) == (0, [true, false, false]));
+    assert!(rt; condition_at(rt, forms, 281) == (0, [true; 3]));
+    // NO_SUBMIT_IF
+    assert!(rt; condition_at(rt, forms, 170) == (1, [false, true, true]));
 }
 
-// A rule over a question, and a guard over the rule and THIS.
-const DEPENDENT: [u8; 24] = [
-    0x18, 0x83, 5, 0x12, 6, 7, 0, 1, 0, 0x29, 2, // the rule 5: the question 7 answers 1, at 33
-    0x0a, 0x82, 0x3f, 0x83, 5, 0x58, 2, 0x15, 2, 0x29, 2, 0x29, 2, // SUPPRESS_IF with RULE_REF 5 and THIS, at 44
-];
-
-fn dependent() -> &'static [u8] {
-    &DEPENDENT
-}
-
-// The first two questions on which the first guard depends, within a question.
-fn dependence(forms: &Forms<'_>, this: u16) -> Option<[Option<u16>; 2]> {
-    let condition = forms.guards().next()?.condition();
-    let mut ids = forms.dependence(condition, this);
-    Some([ids.next(), ids.next()])
-}
-
-#[test]
-fn questions_behind_rules(rt: HostRuntime) -> Result<(), Fail> {
-    let bytes = with(rt.alloc(), dependent())?;
-    let forms = forms_of(rt.alloc(), bytes.as_slice())?;
-    assert!(rt; dependence(&forms, 9) == Some([Some(7), Some(9)]));
-    assert!(rt; dependence(&forms, 0) == Some([Some(7), None]));
-    Ok(())
-}
-
-// The place of a rule, and the first question that it asks.
-fn rule_fields(rule: Option<RuleView<'_>>) -> Option<(u32, Option<u16>)> {
-    let rule = rule?;
-    Some((rule.place(), rule.expression().support().next()))
-}
-
-#[test]
-fn rules_by_place_and_by_id(rt: HostRuntime) -> Result<(), Fail> {
-    let bytes = with(rt.alloc(), dependent())?;
-    let forms = forms_of(rt.alloc(), bytes.as_slice())?;
-    let rule = Some((33, Some(7)));
-    assert!(rt; rule_fields(forms.rules().next()) == rule);
-    assert!(rt; rule_fields(forms.rule_named(5, 46)) == rule);
-    // a place inside of the rule
-    assert!(rt; forms.rule_named(5, 43).is_none());
-    Ok(())
+pub(crate) fn rules_are_told(rt: &impl Abort, forms: &Forms<'_>) {
+    conditions_are_found(rt, forms);
+    assert!(rt; forms.rules().next().expect(rt, "a rule").place() == 274);
+    let rule = forms.rule_named(6, 301).expect(rt, "the rule 6");
+    assert!(rt; rule.place() == 288 && rule.expression().support().next() == Some(7));
+    let condition = forms
+        .condition_at(299)
+        .expect(rt, "a condition")
+        .condition();
+    assert!(rt; forms.dependence(condition, 9).eq([7, 9]));
 }

@@ -2,7 +2,6 @@
 
 use hii_bytes::Watched;
 use std::io::{BufWriter, Read, Write};
-use std::test::Fail;
 
 // A piece that is larger than the buffers of a program.
 static PIECE: [u8; 10_000] = [b'x'; 10_000];
@@ -12,13 +11,11 @@ fn piece() -> &'static [u8] {
 }
 
 #[test]
-fn a_reader_that_is_at_its_end_has_not_failed(rt: HostRuntime) -> Result<(), Fail> {
-    let mut reader = Watched::new(piece());
-    let mut room = vec![in rt.alloc(); 0u8; 10_001]?;
-    assert!(rt; reader.read(room.as_mut_slice()).ok() == Some(10_000));
-    assert!(rt; reader.read(room.as_mut_slice()).ok() == Some(0));
-    assert!(rt; !reader.failed());
-    Ok(())
+fn a_reader_that_is_at_its_end_has_not_failed(rt: HostRuntime) {
+    let mut reader = Watched::new(b"some".as_slice());
+    let mut room = [0u8; 5];
+    assert!(rt; reader.read(&mut room).ok() == Some(4));
+    assert!(rt; reader.read(&mut room).ok() == Some(0) && !reader.failed());
 }
 
 #[test]
@@ -27,27 +24,20 @@ fn a_writer_takes_a_piece_at_once(rt: HostRuntime) {
     assert!(rt; out.write(piece()).ok() == Some(10_000));
     // An empty piece is no fault.
     assert!(rt; out.write(b"").ok() == Some(0) && !out.failed());
-    assert!(rt; out.taken() == 10_000 && !out.has_passed_on());
+    assert!(rt; out.taken() == 10_000);
     out.restart();
-    assert!(rt; out.taken() == 0);
 }
 
 #[test]
-fn a_flush_is_passed_on(rt: HostRuntime) -> Result<(), Fail> {
-    let mut out = Watched::new(BufWriter::new(rt.alloc(), Vec::new(rt.alloc()))?);
-    out.put(b"some");
-    assert!(rt; out.flush().is_ok() && !out.failed() && out.has_passed_on());
+fn a_buffer_is_passed_on_and_flushed(rt: HostRuntime) {
+    let buffer = BufWriter::new(rt.alloc(), Vec::new(rt.alloc())).expect(&rt, "a buffer");
+    let mut out = Watched::new(buffer);
+    out.put(b"so");
+    assert!(rt; out.pass_on().is_ok() && out.has_passed_on());
+    out.put(b"me");
+    assert!(rt; out.flush().is_ok() && out.has_passed_on());
     let (inner, held) = out.into_inner().into_parts();
     assert!(rt; inner.as_slice() == b"some".as_slice() && held.is_empty());
-    Ok(())
-}
-
-#[test]
-fn a_buffer_is_passed_on(rt: HostRuntime) -> Result<(), Fail> {
-    let mut out = Watched::new(BufWriter::new(rt.alloc(), Vec::new(rt.alloc()))?);
-    out.put(b"some");
-    assert!(rt; out.pass_on().is_ok() && !out.failed() && out.has_passed_on());
-    Ok(())
 }
 
 // It is asked for nothing more from then on.

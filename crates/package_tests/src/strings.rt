@@ -3,7 +3,6 @@
 use hii_packages::{Package, STRINGS};
 use sibt_strings::{StringTable, Strings, Units};
 use std::process::Abort;
-use std::test::Fail;
 
 static PACKAGE: [u8; 61] = [
     61, 0, 0, 4, 46, 0, 0, 0, 52, 0, 0, 0, // the header, of 46 bytes
@@ -30,26 +29,17 @@ fn package(rt: &impl Abort) -> Package<'static> {
 }
 
 #[test]
-fn a_walk_finds_texts(rt: HostRuntime) -> Result<(), Fail> {
-    let strings = Strings::read(package(&rt))?;
-    assert!(rt; strings.language() == b"en-US".as_slice());
-    let text = strings.text(2).ok_or("no text")?;
-    assert!(rt; text.bytes == b"A\0".as_slice());
-    Ok(())
-}
-
-#[test]
-fn a_table_finds_texts(rt: HostRuntime) -> Result<(), Fail> {
-    let table = StringTable::of_package(rt.alloc(), package(&rt))?;
+fn a_walk_and_a_table_find_texts(rt: HostRuntime) {
+    let walk = Strings::read(package(&rt)).expect(&rt, "strings");
+    assert!(rt; walk.language() == b"en-US".as_slice());
+    assert!(rt; walk.text(2).expect(&rt, "the text 2").bytes == b"A\0".as_slice());
+    let table = StringTable::of_package(rt.alloc(), package(&rt)).expect(&rt, "a table");
     assert!(rt; table.language() == b"en-US".as_slice());
-    let text = table.text(2).ok_or("no text")?;
-    assert!(rt; text.bytes == b"A\0".as_slice());
-    Ok(())
+    assert!(rt; table.text(2).expect(&rt, "the text 2").bytes == b"A\0".as_slice());
 }
 
 #[test]
 fn a_text_has_characters(rt: HostRuntime) {
     let mut chars = Units::new(&[0x00, 0xd8, 0x42, 0]).chars();
-    assert!(rt; chars.next() == Some('\u{fffd}'));
-    assert!(rt; chars.next() == Some('B'));
+    assert!(rt; [chars.next(), chars.next()] == [Some('\u{fffd}'), Some('B')]);
 }
