@@ -1,40 +1,22 @@
 //! Files that are read or fail, and what is told of them.
 
+use crate::broken::Broken;
 use hii_bytes::{Cause, Watched};
 use setup_files::{Noted, ReadError, Status, Terminals, read_whole, shown, tell_refused};
-use std::io;
 use std::io::{ErrorKind, Read};
 use std::process::Abort;
-use std::test::Fail;
-
-/// Gives these bytes, and then errs.
-#[derive(Drop)]
-struct Broken {
-    bytes: &'static [u8],
-}
-
-impl Read for Broken {
-    fn read(&mut self, buf: &mut [u8]) -> io::Result<usize> {
-        if self.bytes.is_empty() {
-            return Err(io::Error::from(ErrorKind::Other));
-        }
-        self.bytes.read(buf)
-    }
-}
 
 #[test]
-fn a_file_is_read_whole(rt: HostRuntime) -> Result<(), Fail> {
+fn a_file_is_read_whole(rt: HostRuntime) {
     let mut reader = Watched::new(b"some".as_slice());
     let read = read_whole(rt.alloc(), &mut reader).ok();
-    assert!(rt; read.ok_or("not read")?.as_slice() == b"some".as_slice());
-    Ok(())
+    assert!(rt; read.expect(&rt, "a file").as_slice() == b"some".as_slice());
 }
 
 #[test]
 fn a_file_may_fail(rt: HostRuntime) {
     let mut broken = Watched::new(Broken { bytes: b"some" });
-    let error = read_whole(rt.alloc(), &mut broken).err();
-    assert!(rt; error == Some(ReadError::Fault));
+    assert!(rt; matches!(read_whole(rt.alloc(), &mut broken), Err(ReadError::Fault)));
 }
 
 #[test]
@@ -42,11 +24,8 @@ fn the_reason_of_a_fault_is_kept(rt: HostRuntime) {
     let mut broken = Noted::new(Broken { bytes: b"" });
     let mut piece = [0; 2];
     assert!(rt; broken.read(&mut piece).is_err());
-    let kind = match broken.error() {
-        Some(error) => Some(error.kind()),
-        None => None,
-    };
-    assert!(rt; kind == Some(ErrorKind::Other));
+    let error = broken.error().expect(&rt, "a reason");
+    assert!(rt; error.kind() == ErrorKind::Interrupted);
 }
 
 #[test]

@@ -13,7 +13,6 @@ use hii_varstore::{Layout, Stores};
 use ifr_scopes::laws::a_node_is_that_of_its_place;
 use ifr_scopes::{Form, Forms};
 use std::alloc::Global;
-use std::test::Fail;
 
 static PACKAGE: [u8; 224] = [
     0, 0, 0, 2, // the package's header

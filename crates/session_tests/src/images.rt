@@ -10,7 +10,6 @@ use hii_bytes::Watched;
 use std::alloc::{AllocError, Global};
 use std::io::BufWriter;
 use std::process::Abort;
-use std::test::Fail;
 use store_audit::{Declared, Filling, Source, device_path, put_headers, put_image, put_stores};
 
 // A list with a forms package of one form and a store of two bytes.
@@ -22,53 +21,27 @@ static LIST: &[u8] = b"\x11\x11\x11\x11\x11\x11\x11\x11\x11\x11\x11\x11\x11\x11\
 \x29\x02\x29\x02\
 \x04\0\0\xdf";
 
-static LINE: &[u8] =
-    b"    1 VARSTORE                2 -        30313233-4041-5051-6061-707172737475 V\n";
+// The line of the store, and its header.
+const LINES: &[u8] =
+    b"    1 VARSTORE                2 -        30313233-4041-5051-6061-707172737475 V\n\
+GUID=33323130414051506061707172737475&NAME=0056&PATH=\n";
 
-static HEADER: &[u8] = b"GUID=33323130414051506061707172737475&NAME=0056&PATH=\n";
+const OBJECT: &[u8] =
+    b"{\"kind\":\"store\",\"id\":1,\"name\":\"V\",\"size\":2,\"source\":\"zeros\"}\n";
 
-static IMAGE: &[u8] = b"HVS2\"\"\"\"\"\"\"\"\"\"\"\"\"\"\"\"\x01\0\x01\0\x02\0\0\0";
+const IMAGE: &[u8] = b"HVS2\"\"\"\"\"\"\"\"\"\"\"\"\"\"\"\"\x01\0\x01\0\x02\0\0\0";
 
-// The bytes of the cases come from functions without clauses, so that no proof computes with them.
-
+// The list, of whose bytes proofs know nothing.
 fn list() -> &'static [u8] {
     LIST
 }
 
-fn line() -> &'static [u8] {
-    LINE
-}
-
-fn header() -> &'static [u8] {
-    HEADER
-}
-
-fn image() -> &'static [u8] {
-    IMAGE
-}
-
-#[test]
-fn stores_are_told(rt: HostRuntime) -> Result<(), Fail> {
-    let declared = Declared::read(rt.alloc(), list(), 1)?;
-    let mut out = Watched::new(Vec::new(rt.alloc()));
+fn stores_and_headers_are_told(rt: &impl Abort, alloc: Global, declared: &Declared<'_>) {
+    let path = device_path(list()).expect(rt, "a list");
+    let mut out = Watched::new(Vec::new(alloc));
     put_stores(Telling::Lines, declared.forms(), &mut out);
-    assert!(rt; out.into_inner().as_slice() == line());
-    assert!(rt; declared.layout().size(1) == Some(2));
-    Ok(())
-}
-
-#[test]
-fn headers_are_told(rt: HostRuntime) -> Result<(), Fail> {
-    let declared = Declared::read(rt.alloc(), list(), 1)?;
-    let mut out = Watched::new(Vec::new(rt.alloc()));
-    put_headers(
-        Telling::Lines,
-        declared.forms(),
-        device_path(list())?,
-        &mut out,
-    );
-    assert!(rt; out.into_inner().as_slice() == header());
-    Ok(())
+    put_headers(Telling::Lines, declared.forms(), path, &mut out);
+    assert!(rt; out.into_inner().as_slice() == LINES);
 }
 
 fn fillings<'a>(alloc: Global, declared: &Declared<'a>) -> Result<Vec<Filling<'a>>, AllocError>
@@ -87,39 +60,32 @@ fn fillings<'a>(alloc: Global, declared: &Declared<'a>) -> Result<Vec<Filling<'a
 }
 
 // Fills the stores: what is told and the image.
-fn are_filled<R: Abort + AllocGlobal>(
-    rt: &R,
-    declared: &Declared<'_>,
-    fillings: &[Filling<'_>],
-) -> Result<(), Fail>
+fn are_filled<R: Abort + AllocGlobal>(rt: &R, declared: &Declared<'_>, fillings: &[Filling<'_>])
     requires { map filling_node fillings.now ≡ buffer_stores (nodes_of declared.now) }
 {
-    let mut lines = Watched::new(BufWriter::new(rt.alloc(), Vec::new(rt.alloc()))?);
-    let mut image_file = Watched::new(Vec::new(rt.alloc()));
-    assert!(rt;
-        put_image(
-            Telling::Objects,
-            rt.alloc(),
-            declared,
-            fillings,
-            None,
-            &mut lines,
-            &mut image_file
-        )?
+    let buffer = BufWriter::new(rt.alloc(), Vec::new(rt.alloc())).expect(rt, "a buffer");
+    let mut out = Watched::new(buffer);
+    let mut file = Watched::new(Vec::new(rt.alloc()));
+    let telling = Telling::Objects;
+    let put = put_image(
+        telling,
+        rt.alloc(),
+        declared,
+        fillings,
+        None,
+        &mut out,
+        &mut file,
     );
-    assert!(rt; lines.has_passed_on());
-    let told = lines.into_inner().into_parts().0;
-    assert!(rt;
-        told.as_slice()
-            == b"{\"kind\":\"store\",\"id\":1,\"name\":\"V\",\"size\":2,\"source\":\"zeros\"}\n".as_slice()
-    );
-    assert!(rt; image_file.into_inner().as_slice() == image());
-    Ok(())
+    assert!(rt; matches!(put, Ok(true)));
+    assert!(rt; out.into_inner().into_parts().0.as_slice() == OBJECT);
+    assert!(rt; file.into_inner().as_slice() == IMAGE);
 }
 
 #[test]
-fn a_store_is_filled_with_zeros(rt: HostRuntime) -> Result<(), Fail> {
-    let declared = Declared::read(rt.alloc(), list(), 1)?;
-    let fillings = fillings(rt.alloc(), &declared)?;
-    are_filled(&rt, &declared, fillings.as_slice())
+fn stores_are_told_and_filled_with_zeros(rt: HostRuntime) {
+    let declared = Declared::read(rt.alloc(), list(), 1).expect(&rt, "a form set");
+    assert!(rt; declared.layout().size(1) == Some(2));
+    stores_and_headers_are_told(&rt, rt.alloc(), &declared);
+    let fillings = fillings(rt.alloc(), &declared).expect(&rt, "fillings");
+    are_filled(&rt, &declared, fillings.as_slice());
 }

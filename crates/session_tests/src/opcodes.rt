@@ -4,7 +4,6 @@ use audit_json::Telling;
 use hii_bytes::Watched;
 use hii_packages::PackageList;
 use opcode_audit::{FirstStrings, put_opcodes};
-use std::test::Fail;
 
 // A list with a text `a"b` and a forms package of a FORM in a SUPPRESS_IF, behind which no opcode fits.
 static LIST: &[u8] = b"\x11\x11\x11\x11\x11\x11\x11\x11\x11\x11\x11\x11\x11\x11\x11\x11\x6b\0\0\0\
@@ -19,34 +18,23 @@ en-US\0\
 \x24\x04\0\
 \x04\0\0\xdf";
 
-static LINES: &[u8] = b"00000004 00000156 SUPPRESS_IF ; 0a82\n\
+const LINES: &[u8] = b"00000004 00000156 SUPPRESS_IF ; 0a82\n\
 00000006 00000158   TRUE ; 4602\n\
 00000008 0000015a   FORM FormId=1 FormTitle=1 \"a\\\"b\" ; 018601000100\n\
 0000000e 00000160   END ; 2902\n\
 00000010 00000162 END ; 2902\n";
 
-// The bytes of the case come from functions without clauses, so that no proof computes with them.
-
+// The list, of whose bytes proofs know nothing.
 fn list() -> &'static [u8] {
     LIST
 }
 
-fn lines() -> &'static [u8] {
-    LINES
-}
-
 #[test]
-fn opcodes_are_told(rt: HostRuntime) -> Result<(), Fail> {
-    let packages = PackageList::read(list())?;
-    let strings = FirstStrings::read(rt.alloc(), &packages)?;
+fn opcodes_are_told(rt: HostRuntime) {
+    let packages = PackageList::read(list()).expect(&rt, "a list");
+    let strings = FirstStrings::read(rt.alloc(), &packages).expect(&rt, "strings");
+    let forms = packages.forms(1).expect(&rt, "a forms package");
     let mut out = Watched::new(Vec::new(rt.alloc()));
-    put_opcodes(
-        Telling::Lines,
-        &strings,
-        0x152,
-        packages.forms(1)?,
-        &mut out,
-    );
-    assert!(rt; out.into_inner().as_slice() == lines());
-    Ok(())
+    put_opcodes(Telling::Lines, &strings, 0x152, forms, &mut out);
+    assert!(rt; out.into_inner().as_slice() == LINES);
 }

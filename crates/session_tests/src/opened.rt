@@ -14,7 +14,6 @@ use hii_questions::Questions;
 use hii_varstore::Stores;
 use ifr_scopes::Forms;
 use std::process::Abort;
-use std::test::Fail;
 
 fn decisions_and_pages_are_told<'a, R: Abort + AllocGlobal>(
     rt: &R,
@@ -22,57 +21,27 @@ fn decisions_and_pages_are_told<'a, R: Abort + AllocGlobal>(
     questions: &Questions<'a>,
     stores: &Stores,
     languages: &Languages<'a>,
-) -> Result<(), Fail>
+)
     requires accepted { IsAccepted forms.now }
     requires together { questions.now.ifr ≡ forms.now }
 {
-    let removed = Removed::at_open(rt.alloc(), forms, questions, stores)?;
+    let removed = Removed::at_open(rt.alloc(), forms, questions, stores).expect(rt, "guards");
     let policy = Policy::new(forms, questions, &removed);
     let form = first_form(forms).expect(rt, "a form");
     stores_decide(rt, policy, questions, stores, form);
     conditions_decide(rt, policy, questions, form);
     conditions_are_found(rt, policy, stores);
     page_is_shown(rt, form, policy, questions, stores, languages);
-    Ok(())
-}
-
-fn texts_are_read<'a, R: Abort + AllocGlobal>(
-    rt: &R,
-    forms: &Forms<'a>,
-    questions: &Questions<'a>,
-    stores: &Stores,
-) -> Result<(), Fail>
-    requires accepted { IsAccepted forms.now }
-    requires together { questions.now.ifr ≡ forms.now }
-{
-    let languages = read_languages(rt.alloc())?;
-    a_default_is_told(rt, forms, questions, stores, &languages);
-    decisions_and_pages_are_told(rt, forms, questions, stores, &languages)
-}
-
-fn stores_are_read<'a, R: Abort + AllocGlobal>(
-    rt: &R,
-    forms: &Forms<'a>,
-    questions: &Questions<'a>,
-) -> Result<(), Fail>
-    requires accepted { IsAccepted forms.now }
-    requires together { questions.now.ifr ≡ forms.now }
-{
-    let stores = read_stores(rt.alloc(), forms)?;
-    values_are_told(rt, questions, &stores);
-    texts_are_read(rt, forms, questions, &stores)
-}
-
-fn questions_are_read<R: Abort + AllocGlobal>(rt: &R, forms: &Forms<'_>) -> Result<(), Fail>
-    requires { IsAccepted forms.now }
-{
-    let questions = read_questions(rt.alloc(), forms)?;
-    questions_are_told(rt, &questions);
-    stores_are_read(rt, forms, &questions)
 }
 
 #[test]
-fn a_form_set_is_opened(rt: HostRuntime) -> Result<(), Fail> {
-    let forms = read_forms(rt.alloc())?;
-    questions_are_read(&rt, &forms)
+fn a_form_set_is_opened(rt: HostRuntime) {
+    let forms = read_forms(rt.alloc()).expect(&rt, "a form set");
+    let questions = read_questions(rt.alloc(), &forms).expect(&rt, "questions");
+    let stores = read_stores(rt.alloc(), &forms).expect(&rt, "stores");
+    let languages = read_languages(rt.alloc()).expect(&rt, "languages");
+    questions_are_told(&rt, &questions);
+    values_are_told(&rt, &questions, &stores);
+    a_default_is_told(&rt, &forms, &questions, &stores, &languages);
+    decisions_and_pages_are_told(&rt, &forms, &questions, &stores, &languages);
 }

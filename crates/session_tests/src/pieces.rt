@@ -8,7 +8,6 @@ use std::cell::Cell;
 use std::io;
 use std::io::{BufWriter, Read, Write};
 use std::process::Abort;
-use std::test::Fail;
 
 // A line, the length of its answer, and how often it stands in a script. The most bytes of a piece are no number of lines.
 const LINE: &[u8] = b"why 1\n";
@@ -72,11 +71,7 @@ impl Read for Looking<'_> {
 }
 
 // At each read of a script that comes in such steps all lines are answered that were read before, behind a buffer, too.
-fn come_before_the_next_read<R: Abort + AllocGlobal>(
-    rt: &R,
-    step: usize,
-    lines: &[u8],
-) -> Result<(), Fail> {
+fn come_before_the_next_read<R: Abort + AllocGlobal>(rt: &R, step: usize, lines: &[u8]) {
     let written = Cell::new(0);
     let mut script = Watched::new(Looking {
         script: lines,
@@ -85,19 +80,17 @@ fn come_before_the_next_read<R: Abort + AllocGlobal>(
         written: &written,
         is_as_wanted: true,
     });
-    let buffer = BufWriter::new(rt.alloc(), Counting { written: &written })?;
+    let buffer = BufWriter::new(rt.alloc(), Counting { written: &written }).expect(rt, "a buffer");
     let mut out = Watched::new(buffer);
-    let (end, _) = after(rt.alloc(), &mut script, &mut out)?;
+    let (end, _) = after(rt, &mut script, &mut out);
     assert!(rt; end == Ok(End::Done));
     assert!(rt; script.into_inner().is_as_wanted, "in steps of {step}");
-    Ok(())
 }
 
 #[test]
-fn answers_come_before_the_next_read(rt: HostRuntime) -> Result<(), Fail> {
-    let lines = lines(rt.alloc())?;
+fn answers_come_before_the_next_read(rt: HostRuntime) {
+    let lines = lines(rt.alloc()).expect(&rt, "a script");
     for step in [7, PIECE] {
-        come_before_the_next_read(&rt, step, lines.as_slice())?;
+        come_before_the_next_read(&rt, step, lines.as_slice());
     }
-    Ok(())
 }

@@ -8,6 +8,7 @@ ghost use Rattle.hii_varstore.specs.Stores.{shape_of};
 ghost use Rattle.hii_questions.specs.Faults.{IsQuestionFault};
 
 use crate::forms::{image, read_forms};
+use hii_bytes::Fault;
 use hii_questions::{
     FieldRange, Input, Question, Questions, StoredItems, ValueDenial, check_value, element_width,
     read_value, shown,
@@ -17,7 +18,6 @@ use ifr_expr::{Answers, Value};
 use ifr_scopes::Forms;
 use std::alloc::Global;
 use std::process::Abort;
-use std::test::Fail;
 
 // So many bytes of the store 1.
 fn range(offset: u16, width: usize) -> FieldRange {
@@ -35,28 +35,14 @@ fn fields_meet_where_they_have_a_byte_in_common(rt: HostRuntime) {
     assert!(rt; field.first() == 131_076 && field.behind() == 131_078);
 }
 
-// The id of a question, if there is one.
-fn id_of(question: Option<Question<'_>>) -> Option<u16> {
-    Some(question?.id())
-}
-
-// The place of a question and of its statement, the id in its opcode, and the width of its field.
-fn seen(question: Option<Question<'_>>) -> Option<([u32; 2], u16, usize)> {
-    let question = question?;
-    let places = [question.place(), question.statement().place()];
-    Some((places, question.op().id(), question.field()?.width))
-}
-
 fn questions_are_found(rt: &impl Abort, questions: &Questions<'_>) {
-    assert!(rt; seen(questions.all().next()) == Some(([65, 65], 7, 1)));
-    assert!(rt; id_of(questions.at(162)) == Some(5));
-    assert!(rt; id_of(questions.with_field(range(2, 1)).next()) == Some(5));
-}
-
-fn a_password_is_found(rt: &impl Abort, questions: &Questions<'_>) {
-    assert!(rt; id_of(questions.password_in(range(5, 1))) == Some(9));
-    let password = questions.find(9).expect(rt, "question 9");
-    assert!(rt; password.is_password());
+    let first = questions.all().next().expect(rt, "a question");
+    assert!(rt; first.place() == 65 && first.statement().place() == 65 && first.op().id() == 7);
+    assert!(rt; first.field().expect(rt, "a field").width == 1);
+    assert!(rt; questions.at(162).map(Question::id) == Some(5));
+    assert!(rt; questions.with_field(range(2, 1)).next().map(Question::id) == Some(5));
+    let password = questions.password_in(range(5, 1)).expect(rt, "a password");
+    assert!(rt; password.id() == 9 && password.is_password());
 }
 
 // Why a question does not take a number.
@@ -82,7 +68,6 @@ fn a_choice_takes_its_options(rt: &impl Abort, questions: &Questions<'_>) {
 
 pub(crate) fn questions_are_told(rt: &impl Abort, questions: &Questions<'_>) {
     questions_are_found(rt, questions);
-    a_password_is_found(rt, questions);
     a_choice_takes_its_options(rt, questions);
 }
 
@@ -115,23 +100,21 @@ fn byte_of(stores: &Stores) -> Option<u8> {
     stores.bytes(1)?.get(1).copied()
 }
 
-// The byte of the question 7, when it was given 1.
-fn given_byte(alloc: Global, forms: &Forms<'_>) -> Result<Option<u8>, Fail> {
+// The byte of the question 7, where it was given 1.
+fn given_byte(alloc: Global, forms: &Forms<'_>) -> Result<Option<u8>, Fault> {
     let layout = Layout::read(alloc, forms)?;
     let questions = Questions::read(alloc, forms, &layout)?;
     let mut stores = Stores::read(alloc, &layout, image())?;
-    let byte = match give_number(&questions, &mut stores, 7, 1) {
-        Ok(()) => byte_of(&stores),
-        Err(_) => None,
-    };
-    Ok(byte)
+    match give_number(&questions, &mut stores, 7, 1) {
+        Ok(()) => Ok(byte_of(&stores)),
+        Err(_) => Ok(None),
+    }
 }
 
 #[test]
-fn a_question_is_given_a_number(rt: HostRuntime) -> Result<(), Fail> {
-    let forms = read_forms(rt.alloc())?;
-    assert!(rt; given_byte(rt.alloc(), &forms)? == Some(1));
-    Ok(())
+fn a_question_is_given_a_number(rt: HostRuntime) {
+    let forms = read_forms(rt.alloc()).expect(&rt, "a form set");
+    assert!(rt; matches!(given_byte(rt.alloc(), &forms), Ok(Some(1))));
 }
 
 #[test]

@@ -1,14 +1,12 @@
 //! The steps by which a file takes the place of another one, each of which may fail.
 
 use setup_files::{is_same_file, out_file};
-use std::alloc::{Allocator, Global};
+use std::alloc::{AllocError, Allocator, Global};
 use std::cell::{Cell, RefCell};
 use std::fs::{FileTimes, Metadata, OpenFile, OpenOptions, Permissions};
 use std::io;
 use std::io::{ErrorKind, Read, Seek, SeekFrom, Write};
-use std::process::Abort;
 use std::rt::Files;
-use std::test::Fail;
 
 // The names of the file that is replaced, and of the one that takes its place.
 const OLD: &str = "stores";
@@ -198,14 +196,16 @@ impl<'d> Files for Shelf<'d> {
     }
 }
 
-// Writes two pieces over the old bytes, and gives whether that was done.
-fn replaces(folder: &Folder) -> Result<bool, Fail> {
+// Writes two pieces over the old bytes.
+fn replace(folder: &Folder) -> io::Result<()> {
     let shelf = (Shelf { folder }, folder.alloc);
     let mut out = out_file(&shelf, OLD)?;
-    Ok(out.write_all(b"ne").is_ok() && out.write_all(b"w").is_ok() && out.flush().is_ok())
+    out.write_all(b"ne")?;
+    out.write_all(b"w")?;
+    out.flush()
 }
 
-fn folder_with(alloc: Global, steps_left: u32) -> Result<Folder, Fail> {
+fn folder_with(alloc: Global, steps_left: u32) -> Result<Folder, AllocError> {
     Ok(Folder {
         alloc,
         old: RefCell::new(Vec::from_slice(alloc, b"old")?),
@@ -215,19 +215,18 @@ fn folder_with(alloc: Global, steps_left: u32) -> Result<Folder, Fail> {
     })
 }
 
-// What stands under the name of the old file.
-fn stands<R: Abort>(rt: &R, folder: &Folder, wanted: &[u8]) {
-    let stands = match folder.old.try_borrow() {
-        Ok(old) => old.as_slice() == wanted,
-        Err(_) => false,
-    };
-    assert!(rt; stands);
+// Whether these bytes stand under the name of the old file, and the new one is gone.
+fn is_left(folder: &Folder, wanted: &[u8]) -> bool {
+    match (folder.old.try_borrow(), folder.new.try_borrow()) {
+        (Ok(old), Ok(new)) => old.as_slice() == wanted && new.is_none(),
+        _ => false,
+    }
 }
 
-fn has_new(folder: &Folder) -> bool {
-    match folder.new.try_borrow() {
-        Ok(new) => new.is_some(),
-        Err(_) => true,
+fn has_done(folder: &Folder, steps: &[&'static str]) -> bool {
+    match folder.done.try_borrow() {
+        Ok(done) => done.as_slice() == steps,
+        Err(_) => false,
     }
 }
 
@@ -243,34 +242,19 @@ const STEPS: [&str; 8] = [
 ];
 
 #[test]
-fn a_file_takes_the_place_of_another_one(rt: HostRuntime) -> Result<(), Fail> {
-    let folder = folder_with(rt.alloc(), 100)?;
-    assert!(rt; replaces(&folder)?);
-    stands(&rt, &folder, b"new");
-    let in_order = match folder.done.try_borrow() {
-        Ok(done) => done.as_slice() == STEPS.as_slice(),
-        Err(_) => false,
-    };
-    assert!(rt; in_order);
-    assert!(rt; !has_new(&folder));
-    Ok(())
-}
-
-#[test]
-fn a_file_is_the_same_as_itself(rt: HostRuntime) -> Result<(), Fail> {
-    let folder = folder_with(rt.alloc(), 100)?;
+fn a_file_takes_the_place_of_another_one(rt: HostRuntime) {
+    let folder = folder_with(rt.alloc(), 100).expect(&rt, "a folder");
+    assert!(rt; replace(&folder).is_ok() && is_left(&folder, b"new"));
+    assert!(rt; has_done(&folder, STEPS.as_slice()));
     assert!(rt; is_same_file(&Shelf { folder: &folder }, OLD, OLD));
-    Ok(())
 }
 
+// Where the target can't be looked up the old file is written as it stands, which the folder refuses.
 #[test]
-fn each_step_may_fail(rt: HostRuntime) -> Result<(), Fail> {
+fn each_step_may_fail(rt: HostRuntime) {
     for step in 0..STEPS.len() as u32 {
-        let folder = folder_with(rt.alloc(), step)?;
-        // Where the target can't be looked up the old file is written as it stands, which the folder refuses.
-        assert!(rt; !replaces(&folder)?, "at {step}");
-        stands(&rt, &folder, b"old");
-        assert!(rt; !has_new(&folder), "at {step}");
+        let folder = folder_with(rt.alloc(), step).expect(&rt, "a folder");
+        let is_kept = replace(&folder).is_err() && is_left(&folder, b"old");
+        assert!(rt; is_kept, "at {step}");
     }
-    Ok(())
 }

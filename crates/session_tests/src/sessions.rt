@@ -1,13 +1,12 @@
 //! Sessions: scripts, a reader and a writer that fail, and commands.
 
+use crate::broken::Broken;
 use browser_core::{End, Reply, RunFault, Session};
-use hii_bytes::{Fault, Watched, WriteFault};
+use hii_bytes::{Watched, WriteFault};
 use hii_commands::Command;
 use hii_varstore::Stores;
-use std::alloc::Global;
-use std::io;
-use std::io::{ErrorKind, Read, Write};
-use std::test::Fail;
+use std::io::{Read, Write};
+use std::process::Abort;
 
 // A list with a forms package of one form, over a store of two bytes: a checkbox of the id 1 over the first byte, which is hidden while
 // the question 2 is 1, and one of the id 2 over the second.
@@ -49,8 +48,10 @@ fn answers() -> &'static [u8] {
 
 // The two bytes of the store.
 fn pair(stores: &Stores) -> Option<[u8; 2]> {
-    let bytes = stores.bytes(1)?;
-    Some([*bytes.first()?, *bytes.get(1)?])
+    match stores.bytes(1) {
+        Some([first, second]) => Some([*first, *second]),
+        _ => None,
+    }
 }
 
 // The bytes that commands change, and those that were last submitted.
@@ -60,64 +61,47 @@ fn pairs(session: &Session<'_>) -> [Option<[u8; 2]>; 2] {
 
 // How a session ends that is opened for a script alone, and the bytes that it leaves. Neither this nor what calls a session below has a
 // clause, so that no test carries more than one contract.
-pub(crate) fn after(
-    alloc: Global,
+pub(crate) fn after<R: Abort + AllocGlobal>(
+    rt: &R,
     script: &mut Watched<impl Read>,
     out: &mut Watched<impl Write>,
-) -> Result<(Result<End, RunFault>, [Option<[u8; 2]>; 2]), Fault> {
-    let mut session = Session::open(alloc, list(), 1, stores(), b"en-US")?;
+) -> (Result<End, RunFault>, [Option<[u8; 2]>; 2]) {
+    let opened = Session::open(rt.alloc(), list(), 1, stores(), b"en-US");
+    let mut session = opened.expect(rt, "a session");
     let end = session.run_script(script, out);
-    Ok((end, pairs(&session)))
+    (end, pairs(&session))
 }
 
 #[test]
-fn a_script_is_answered(rt: HostRuntime) -> Result<(), Fail> {
+fn a_script_is_answered(rt: HostRuntime) {
     let mut script = Watched::new(script_text());
     let mut out = Watched::new(Vec::new(rt.alloc()));
-    let ran = after(rt.alloc(), &mut script, &mut out)?;
+    let ran = after(&rt, &mut script, &mut out);
     assert!(rt; ran == (Ok(End::Done), [Some([1, 1]), Some([1, 0])]));
     assert!(rt; out.into_inner().as_slice() == answers());
-    Ok(())
 }
 
 // The command at whose answer the writer fails is carried out.
 #[test]
-fn a_writer_fails(rt: HostRuntime) -> Result<(), Fail> {
+fn a_writer_fails(rt: HostRuntime) {
     let mut room = [0u8; 5];
     let mut script = Watched::new(script_text());
     let mut out = Watched::new(room.as_mut_slice());
-    let ran = after(rt.alloc(), &mut script, &mut out)?;
+    let ran = after(&rt, &mut script, &mut out);
     assert!(rt; ran == (Err(RunFault::Write), [Some([1, 0]), Some([1, 0])]));
     assert!(rt; answers().starts_with(&room));
-    Ok(())
-}
-
-// Gives these bytes, and then errs.
-#[derive(Drop)]
-struct Broken {
-    bytes: &'static [u8],
-}
-
-impl Read for Broken {
-    fn read(&mut self, buf: &mut [u8]) -> io::Result<usize> {
-        if self.bytes.is_empty() {
-            return Err(io::Error::from(ErrorKind::Interrupted));
-        }
-        self.bytes.read(buf)
-    }
 }
 
 // The lines that were whole are answered.
 #[test]
-fn a_reader_fails(rt: HostRuntime) -> Result<(), Fail> {
+fn a_reader_fails(rt: HostRuntime) {
     let mut script = Watched::new(Broken {
         bytes: b"set 1 1\nsubmit",
     });
     let mut out = Watched::new(Vec::new(rt.alloc()));
-    let ran = after(rt.alloc(), &mut script, &mut out)?;
+    let ran = after(&rt, &mut script, &mut out);
     assert!(rt; ran == (Err(RunFault::Read), [Some([1, 0]), Some([0, 0])]));
     assert!(rt; out.into_inner().as_slice() == b"OK\n".as_slice());
-    Ok(())
 }
 
 // How a session answers the command that hides the question 1.
@@ -138,21 +122,17 @@ fn page_cut_short(session: &mut Session<'_>) -> Result<Reply, WriteFault> {
     session.run(Command::Page, &mut out)
 }
 
-// How many conditions were evaluated anew, and the question in the first row of the page.
-fn renewed_and_shown(session: &Session<'_>) -> (u64, Option<u16>) {
-    let first = match session.page().rows().next() {
-        Some(row) => row.question,
-        None => None,
-    };
-    (session.renewed(), first)
+// The question in the first row of the page.
+fn first_shown(session: &Session<'_>) -> Option<u16> {
+    session.page().rows().next()?.question
 }
 
 #[test]
-fn a_command_is_carried_out(rt: HostRuntime) -> Result<(), Fail> {
-    let mut session = Session::open(rt.alloc(), list(), 1, stores(), b"en-US")?;
+fn a_command_is_carried_out(rt: HostRuntime) {
+    let opened = Session::open(rt.alloc(), list(), 1, stores(), b"en-US");
+    let mut session = opened.expect(&rt, "a session");
     assert!(rt; set(&mut session) == Ok(Reply::Accepted));
-    assert!(rt; renewed_and_shown(&session) == (1, Some(2)));
-    let cut_short = Err(WriteFault { written: 5 });
-    assert!(rt; page_cut_short(&mut session) == cut_short);
-    Ok(())
+    // one condition was evaluated anew
+    assert!(rt; session.renewed() == 1 && first_shown(&session) == Some(2));
+    assert!(rt; page_cut_short(&mut session) == Err(WriteFault { written: 5 }));
 }

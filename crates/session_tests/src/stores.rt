@@ -4,7 +4,7 @@ use crate::forms::{image, read_forms};
 use hii_bytes::{Fault, Watched, WriteFault};
 use hii_varstore::{Buffer, Layout, Stores, laws};
 use std::alloc::Global;
-use std::test::Fail;
+use std::process::Abort;
 
 // What the form set declares, which does not borrow what was read of it.
 fn declared(alloc: Global) -> Result<Layout<'static>, Fault> {
@@ -12,38 +12,24 @@ fn declared(alloc: Global) -> Result<Layout<'static>, Fault> {
     Layout::read(alloc, &forms)
 }
 
-#[test]
-fn stores_are_declared(rt: HostRuntime) -> Result<(), Fail> {
-    let layout = declared(rt.alloc())?;
+fn are_declared(rt: &impl Abort, layout: &Layout<'_>) {
     assert!(rt; layout.guid().bytes().first() == Some(&0x22));
     assert!(rt; layout.buffers().first() == Some(&Buffer { id: 1, size: 6 }));
     assert!(rt; layout.size(1) == Some(6));
-    Ok(())
 }
 
-fn read(alloc: Global) -> Result<Stores, Fault> {
-    let layout = declared(alloc)?;
-    Stores::read(alloc, &layout, image())
-}
-
-#[test]
-fn an_image_is_read_and_written(rt: HostRuntime) -> Result<(), Fail> {
-    let stores = read(rt.alloc())?;
-    let mut out = Watched::new(Vec::new(rt.alloc()));
+fn image_is_written(rt: &impl Abort, alloc: Global, stores: &Stores) {
+    let mut out = Watched::new(Vec::new(alloc));
     assert!(rt; stores.image_into(&mut out) == Ok(()));
     assert!(rt; out.into_inner().as_slice() == image());
-    Ok(())
 }
 
 // A writer takes 27 bytes.
-#[test]
-fn an_image_is_cut_short(rt: HostRuntime) -> Result<(), Fail> {
-    let stores = read(rt.alloc())?;
+fn image_is_cut_short(rt: &impl Abort, stores: &Stores) {
     let mut room = [0u8; 27];
     let mut out = Watched::new(room.as_mut_slice());
     assert!(rt; stores.image_into(&mut out) == Err(WriteFault { written: 27 }));
     assert!(rt; image().starts_with(&room));
-    Ok(())
 }
 
 // The byte 2 of the store 1.
@@ -67,9 +53,12 @@ fn changed_and_copied(alloc: Global, layout: &Layout<'_>) -> Result<[Option<u8>;
 }
 
 #[test]
-fn bytes_are_written_and_copied(rt: HostRuntime) -> Result<(), Fail> {
-    let layout = declared(rt.alloc())?;
-    let told = changed_and_copied(rt.alloc(), &layout)?;
+fn stores_are_read_and_written(rt: HostRuntime) {
+    let layout = declared(rt.alloc()).expect(&rt, "a layout");
+    are_declared(&rt, &layout);
+    let stores = Stores::read(rt.alloc(), &layout, image()).expect(&rt, "stores");
+    image_is_written(&rt, rt.alloc(), &stores);
+    image_is_cut_short(&rt, &stores);
+    let told = changed_and_copied(rt.alloc(), &layout).expect(&rt, "a copy");
     assert!(rt; told == [Some(b'x'), Some(2)]);
-    Ok(())
 }
