@@ -84,7 +84,7 @@ impl<'p, 'a, 's> Conditions for Evaluated<'p, 'a, 's> {
     ghost holding = { λ it place. is_met_at (world it.policy it.stores.now) place };
 
     fn holds(&self, place: u32) -> bool {
-        match self.policy.forms.condition_at(place) {
+        match self.policy.forms.condition_at(place, 0) {
             Some(condition) => self.is_met(condition),
             None => false,
         }
@@ -93,15 +93,16 @@ impl<'p, 'a, 's> Conditions for Evaluated<'p, 'a, 's> {
 
 impl<'p, 'a, 's> Evaluated<'p, 'a, 's> {
     /// Whether the condition of the opcode at a place holds, by values of rules over the same stores. Those that it asks for are
-    /// kept there.
+    /// kept there. The position is how many guards of the package, or conditions of questions, stand before it: it may spare a
+    /// search, and is not what decides.
     #[inline(always)]
-    pub fn holds_by(&self, place: u32, rules: &mut RuleValues) -> bool
+    pub fn holds_by(&self, place: u32, position: u32, rules: &mut RuleValues) -> bool
         requires { AreRuleValues (bytes_of self.now.policy) self.now.stores.now rules.old }
         ensures holds { result ≡ is_met_at (world self.now.policy self.now.stores.now) place }
         ensures kept { AreRuleValues (bytes_of self.now.policy) self.now.stores.now rules.new }
     {
         let policy = self.policy;
-        match policy.forms.condition_at(place) {
+        match policy.forms.condition_at(place, position) {
             Some(condition) => condition_holds_by(
                 condition,
                 policy.forms,

@@ -67,7 +67,7 @@ impl<'a, 's> Policy<'a, 's> {
     pub fn support_at(&self, place: u32) -> SupportAt<'a, 's>
         ensures { support_at_left result ≡ support_at (nodes_of self.now.forms.now) place }
     {
-        match self.forms.condition_at(place) {
+        match self.forms.condition_at(place, 0) {
             Some(condition) => SupportAt {
                 ids: Some(ids_of(condition, self.forms)),
             },

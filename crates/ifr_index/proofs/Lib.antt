@@ -12,6 +12,7 @@ pub mod ConditionsLeftLemmas
 pub mod ConditionsOfLemmas
 pub mod OptionFacts
 pub mod OptionsOfLemmas
+pub mod PositionLemmas
 pub mod NumberLemmas
 pub mod IndexingLemmas
 pub mod LockingLemmas

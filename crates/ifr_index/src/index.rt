@@ -112,22 +112,36 @@ pub fn entries_behind(entries: &[Entry], place: u32, position: u32) -> &[Entry]
     &entries[first..]
 }
 
-/// The guard at a place.
-pub fn guard_at(guards: &[GuardEntry], place: u32) -> Option<GuardEntry>
+/// The guard at a place, which is looked for first at this position.
+pub fn guard_at(guards: &[GuardEntry], place: u32, position: u32) -> Option<GuardEntry>
     ensures { (low : ℕ) → Rise (λ (g : GuardEntry). g.place) low guards.now
         → result ≡ find (λ g. g.place == place) guards.now }
 {
+    if let Some(guard) = guards.get(position as usize) {
+        if guard.place == place {
+            return Some(*guard);
+        }
+    }
     match guards.binary_search_by_key(&place, |guard| guard.place) {
         Ok(at) => Some(guards[at]),
         Err(_) => None,
     }
 }
 
-/// The condition of a question at a place.
-pub fn condition_at(conditions: &[ConditionEntry], place: u32) -> Option<ConditionEntry>
+/// The condition of a question at a place, which is looked for first at this position.
+pub fn condition_at(
+    conditions: &[ConditionEntry],
+    place: u32,
+    position: u32,
+) -> Option<ConditionEntry>
     ensures { (low : ℕ) → Rise (λ (c : ConditionEntry). c.place) low conditions.now
         → result ≡ find (λ c. c.place == place) conditions.now }
 {
+    if let Some(condition) = conditions.get(position as usize) {
+        if condition.place == place {
+            return Some(*condition);
+        }
+    }
     match conditions.binary_search_by_key(&place, |condition| condition.place) {
         Ok(at) => Some(conditions[at]),
         Err(_) => None,

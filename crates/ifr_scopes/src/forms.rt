@@ -442,14 +442,16 @@ impl<'a> Forms<'a> {
         self.around(place).guards().outermost_first()
     }
 
-    /// The condition of the opcode at a place, in bytes from the package's header, if it has one.
-    pub fn condition_at(&self, place: u32) -> Option<AnyCondition<'a>>
+    /// The condition of the opcode at a place, in bytes from the package's header, if it has one. It is looked for first where as many
+    /// guards stand before it as the position says, and then, behind a search among the guards, where as many conditions of
+    /// questions do. A position of 0 will do.
+    pub fn condition_at(&self, place: u32, position: u32) -> Option<AnyCondition<'a>>
         ensures { option_map any_condition_node result ≡ conditional_at (nodes_of self.now) place }
     {
-        if let Some(guard) = guard_at(&self.index.guards, place) {
+        if let Some(guard) = guard_at(&self.index.guards, place, position) {
             return Some(AnyCondition::Guard(Guard::kept(self.ifr, guard)));
         }
-        let condition = condition_at(&self.index.conditions, place)?;
+        let condition = condition_at(&self.index.conditions, place, position)?;
         Some(AnyCondition::Question(ConditionView::kept(self.ifr, condition)))
     }
 }

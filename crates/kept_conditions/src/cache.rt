@@ -90,7 +90,7 @@ impl<'a> Kept<'a> {
     {
         let collected = collect(alloc, policy, questions, stores, rules)?;
         let index = index_over(alloc, collected.dependencies, collected.rule_uses)?;
-        let dependents = Dependents::over(alloc, collected.list)?;
+        let dependents = Dependents::over(alloc, collected.list, collected.positions)?;
         let guard_dependents = guard_dependents(alloc, policy, &dependents.list)?;
         let condition_dependents = condition_dependents(alloc, policy, &dependents.list)?;
         Ok(Kept {

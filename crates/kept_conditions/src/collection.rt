@@ -27,7 +27,7 @@ use hii_questions::{FieldRange, Questions};
 use hii_varstore::Stores;
 use ifr_expr::{Expr, Name, RuleReference, RuleValues};
 use ifr_opcodes::{GRAY_OUT_IF, SUPPRESS_IF};
-use ifr_scopes::{Forms, RuleViews};
+use ifr_scopes::{AnyCondition, Forms, GuardViews, RuleViews};
 use std::alloc::{AllocError, Global};
 
 /// A package, which is accepted, its questions, and the places of its dependents.
@@ -76,6 +76,44 @@ impl<'p, 's, 'a> Source<'p, 's, 'a> {
     }
 }
 
+/// The guards of a package that are left behind those that were passed. It serves to spare searches, and nothing rests on it.
+#[derive(Drop)]
+pub(crate) struct PassedGuards<'s, 'a> {
+    left: GuardViews<'s, 'a>,
+    // How many were passed.
+    count: u32,
+}
+
+impl<'s, 'a> PassedGuards<'s, 'a> {
+    // All guards of a package are left.
+    fn none(forms: &'s Forms<'a>) -> PassedGuards<'s, 'a> {
+        PassedGuards {
+            left: forms.guards(),
+            count: 0,
+        }
+    }
+
+    // Passes the guards up to the one at a place, and tells how many stand before that.
+    fn pass(&mut self, place: u32) -> u32 {
+        while let Some(guard) = self.left.next() {
+            let before = self.count;
+            self.count = before.saturating_add(1);
+            if guard.place() == place {
+                return before;
+            }
+        }
+        0
+    }
+
+    // How many guards, or conditions of questions, stand before a condition.
+    fn position_of(&mut self, condition: AnyCondition<'a>) -> u32 {
+        match condition {
+            AnyCondition::Guard(guard) => self.pass(guard.place()),
+            AnyCondition::Question(condition) => condition.number().unwrap_or(0),
+        }
+    }
+}
+
 /// The expression of a dependent.
 #[derive(Clone, Copy)]
 pub(crate) struct DependentExpression<'a> {
@@ -84,12 +122,15 @@ pub(crate) struct DependentExpression<'a> {
     pub(crate) this: u16,
     /// Whether it is that of a rule.
     pub(crate) is_rule: bool,
+    /// How many guards, or conditions of questions, stand before a condition.
+    pub(crate) position: u32,
 }
 
 // The expression of the dependent of a number, where the rules are left that do not stand before it.
 fn expression_of<'a>(
     source: Source<'_, '_, 'a>,
     rules: &mut RuleViews<'_, 'a>,
+    guards: &mut PassedGuards<'_, 'a>,
     number: usize,
 ) -> DependentExpression<'a>
     requires inside { number < length (dependent_nodes (nodes_of source.forms.now)) }
@@ -99,11 +140,13 @@ fn expression_of<'a>(
     ensures left { rules_left rules.new
         ≡ filter is_rule (drop (number + 1) (dependent_nodes (nodes_of source.entry.forms.now))) }
 {
-    if let Some(condition) = source.forms.condition_at(source.place_of(number)) {
+    let passed = guards.count;
+    if let Some(condition) = source.forms.condition_at(source.place_of(number), passed) {
         return DependentExpression {
             expression: condition.condition(),
             this: condition.this(),
             is_rule: false,
+            position: guards.position_of(condition),
         };
     }
     let rule = rules.next().unwrap();
@@ -111,6 +154,7 @@ fn expression_of<'a>(
         expression: rule.expression(),
         this: 0,
         is_rule: true,
+        position: 0,
     }
 }
 
@@ -174,6 +218,8 @@ fn dependent_places(alloc: Global, forms: &Forms<'_>) -> Result<Vec<u32>, AllocE
 #[derive(Drop)]
 pub(crate) struct Collected {
     pub(crate) list: Vec<Dependent>,
+    /// For each of them how many guards, or conditions of questions, stand before it.
+    pub(crate) positions: Vec<u32>,
     pub(crate) dependencies: Vec<Dependency>,
     pub(crate) rule_uses: Vec<RuleUse>,
 }
@@ -296,6 +342,7 @@ fn add_dependent<'a>(
     collected: &mut Collected,
     source: Source<'_, '_, 'a>,
     rules: &mut RuleViews<'_, 'a>,
+    guards: &mut PassedGuards<'_, 'a>,
     number: usize,
     now: &Evaluated<'_, '_, '_>,
     values: &mut RuleValues,
@@ -313,15 +360,16 @@ fn add_dependent<'a>(
     ensures kept { OnOk result
         (AreRuleValues (bytes_of now.now.policy) now.now.stores.now values.new) }
 {
-    let dependent = expression_of(source, rules, number);
+    let dependent = expression_of(source, rules, guards, number);
     let place = source.place_of(number);
     collected.add_names(number as u32, dependent, source)?;
     collected.list.push(Dependent {
         place,
         round: 0,
         is_rule: dependent.is_rule,
-        holds: now.holds_by(place, values),
+        holds: now.holds_by(place, dependent.position, values),
     })?;
+    collected.positions.push(dependent.position)?;
     Ok(())
 }
 
@@ -349,13 +397,23 @@ pub(crate) fn collect<'a, 's>(
     };
     let mut collected = Collected {
         list: Vec::with_capacity(alloc, places.len())?,
+        positions: Vec::with_capacity(alloc, places.len())?,
         dependencies: Vec::new(alloc),
         rule_uses: Vec::new(alloc),
     };
     let now = policy.over(stores);
     let mut rules = forms.rules();
+    let mut guards = PassedGuards::none(forms);
     for number in 0..places.len() {
-        add_dependent(&mut collected, source, &mut rules, number, &now, values)?;
+        add_dependent(
+            &mut collected,
+            source,
+            &mut rules,
+            &mut guards,
+            number,
+            &now,
+            values,
+        )?;
     }
     Ok(collected)
 }

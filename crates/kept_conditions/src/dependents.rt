@@ -50,6 +50,9 @@ impl Dependent {
 #[derive(Drop)]
 pub(crate) struct Dependents {
     pub(crate) list: Vec<Dependent>,
+    /// For each of them how many guards of the package, or conditions of questions, stand before it. This may spare a search, and
+    /// nothing rests on it.
+    pub(crate) positions: Vec<u32>,
     /// The number of the last write.
     pub(crate) round: u32,
     /// The rules that were visited after it, and their dependents not yet. There is room for all rules.
@@ -81,7 +84,11 @@ fn forget_rounds(list: &mut [Dependent])
 
 impl Dependents {
     /// Some dependents, of which none was visited yet.
-    pub(crate) fn over(alloc: Global, list: Vec<Dependent>) -> Result<Dependents, AllocError>
+    pub(crate) fn over(
+        alloc: Global,
+        list: Vec<Dependent>,
+        positions: Vec<u32>,
+    ) -> Result<Dependents, AllocError>
         ensures list { IfOk result (λ dependents. dependents.list.items ≡ list.items) }
         ensures round { IfOk result (λ dependents. dependents.round ≡ 0) }
         ensures idle { IfOk result (λ dependents. dependents.pending.items ≡ []) }
@@ -91,6 +98,7 @@ impl Dependents {
         let pending = Vec::with_capacity(alloc, count_rules(&list))?;
         Ok(Dependents {
             list,
+            positions,
             round: 0,
             pending,
         })
@@ -110,6 +118,14 @@ impl Dependents {
                 forget_rounds(&mut self.list);
                 self.round = 1;
             }
+        }
+    }
+
+    // How many guards, or conditions of questions, stand before the dependent of a number, if that is kept.
+    fn position_of(&self, number: u32) -> u32 {
+        match self.positions.get(number as usize) {
+            Some(position) => *position,
+            None => 0,
         }
     }
 
@@ -139,7 +155,7 @@ impl Dependents {
             self.pending.push_reserved(number);
             return false;
         }
-        dependent.holds = now.holds_by(dependent.place, rules);
+        dependent.holds = now.holds_by(dependent.place, self.position_of(number), rules);
         self.list[number as usize] = dependent;
         true
     }

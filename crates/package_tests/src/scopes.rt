@@ -45,7 +45,7 @@ impl<'v> Answers<'v> for Nobody {
 
 // The question of the condition at a place, whether it is that of a guard, whether it has a value, and whether it holds.
 fn condition_at(rt: &impl Abort, forms: &Forms<'_>, place: u32) -> (u16, [bool; 3]) {
-    let found = forms.condition_at(place).expect(rt, "a condition");
+    let found = forms.condition_at(place, 0).expect(rt, "a condition");
     assert!(rt; found.place() == place);
     let is_guard = matches!(found, AnyCondition::Guard(_));
     let condition = found.condition();
@@ -68,7 +68,7 @@ pub(crate) fn rules_are_told(rt: &impl Abort, forms: &Forms<'_>) {
     let rule = forms.rule_named(6, 301).expect(rt, "the rule 6");
     assert!(rt; rule.place() == 288 && rule.expression().support().next() == Some(7));
     let condition = forms
-        .condition_at(299)
+        .condition_at(299, 0)
         .expect(rt, "a condition")
         .condition();
     assert!(rt; forms.dependence(condition, 9).eq([7, 9]));

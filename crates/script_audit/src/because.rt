@@ -52,7 +52,7 @@ pub(crate) fn what_forbids<'a>(forms: &Forms<'a>, reply: Reply) -> Option<Forbid
         return None;
     };
     let state = state_words(denial.kind)?;
-    let condition = forms.condition_at(denial.place)?;
+    let condition = forms.condition_at(denial.place, 0)?;
     Some(Forbidding { state, condition })
 }
 

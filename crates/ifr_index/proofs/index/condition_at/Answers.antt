@@ -1,7 +1,9 @@
-use Rattle.std.proofs.Common.{rules, sym}
+use Rattle.std.proofs.Common.{length, rules, sym}
+use Rattle.std.proofs.lemmas.Bool.{ltb-true}
 use Rattle.std.proofs.lemmas.List.Sorted.{answers_always}
 use Rattle.ifr_index.specs.declared.index.ConditionEntry.{ConditionEntry}
 use Rattle.hii_bytes.proofs.SearchLemmas.{searched, not_found}
+use Rattle.ifr_index.proofs.PositionLemmas.{found_there}
 use Rattle.ifr_index.proofs.index.condition_at.Goals as goal
 
 pub returns-in-Ok : goal.returns-in-Ok
@@ -13,3 +15,8 @@ pub returns-in-Err : goal.returns-in-Err
 returns-in-Err c = λ low rise.
     let by_key = c.in-Err.ensures.position (λ x. x.place) (answers_always _ _ _ (λ f a r g called. search rules)) in
     sym (not_found (λ (x : ConditionEntry). x.place) low c.args.place c.args.conditions.now _ rise c.in-Err.ensures.bound by_key)
+
+pub returns-then-condition-place : goal.returns-then-condition-place
+returns-then-condition-place c = λ low rise.
+    found_there (λ (x : ConditionEntry). x.place) low c.args.place c.args.position c.args.conditions.now c.in-Some.condition.now rise
+    (ltb-true c.args.position (length c.args.conditions.now) (sym c.in-Some.ensures.lookup.0)) c.in-Some.ensures.lookup.1 c.if-condition-place.true

@@ -1,7 +1,9 @@
-use Rattle.std.proofs.Common.{rules, sym}
+use Rattle.std.proofs.Common.{length, rules, sym}
+use Rattle.std.proofs.lemmas.Bool.{ltb-true}
 use Rattle.std.proofs.lemmas.List.Sorted.{answers_always}
 use Rattle.ifr_index.specs.declared.index.GuardEntry.{GuardEntry}
 use Rattle.hii_bytes.proofs.SearchLemmas.{searched, not_found}
+use Rattle.ifr_index.proofs.PositionLemmas.{found_there}
 use Rattle.ifr_index.proofs.index.guard_at.Goals as goal
 
 pub returns-in-Ok : goal.returns-in-Ok
@@ -13,3 +15,8 @@ pub returns-in-Err : goal.returns-in-Err
 returns-in-Err c = λ low rise.
     let by_key = c.in-Err.ensures.position (λ x. x.place) (answers_always _ _ _ (λ f a r g called. search rules)) in
     sym (not_found (λ (x : GuardEntry). x.place) low c.args.place c.args.guards.now _ rise c.in-Err.ensures.bound by_key)
+
+pub returns-then-guard-place : goal.returns-then-guard-place
+returns-then-guard-place c = λ low rise.
+    found_there (λ (x : GuardEntry). x.place) low c.args.place c.args.position c.args.guards.now c.in-Some.guard.now rise
+    (ltb-true c.args.position (length c.args.guards.now) (sym c.in-Some.ensures.lookup.0)) c.in-Some.ensures.lookup.1 c.if-guard-place.true

@@ -12,7 +12,7 @@ loop-rule-init c = record { visits = visits_none (is_met_at (world c.args.now.no
 pub visit_dependents-count-requires-clause-room : goal.visit_dependents-count-requires-clause-room
 visit_dependents-count-requires-clause-room c =
     let before = c.loop-rule.dependents in
-    let taken : Dependents = record { list = before.list; round = before.round; pending = c.pop.new.self } in
+    let taken : Dependents = record { list = before.list; positions = before.positions; round = before.round; pending = c.pop.new.self } in
     (taken_visits (is_met_at (world c.args.now.now.policy c.args.now.now.stores.now)) before taken c.in-Some.rule refl refl c.in-Some.ensures.items c.in-Some.ensures.capacity).room (c.loop-rule.invariant.visits.room c.requires.room)
 
 pub loop-rule-preserved : goal.loop-rule-preserved
@@ -20,7 +20,7 @@ loop-rule-preserved c =
     let holding = is_met_at (world c.args.now.now.policy c.args.now.now.stores.now) in
     let start = c.args.dependents.now in
     let before = c.loop-rule.dependents in
-    let taken : Dependents = record { list = before.list; round = before.round; pending = c.pop.new.self } in
+    let taken : Dependents = record { list = before.list; positions = before.positions; round = before.round; pending = c.pop.new.self } in
     let new = c.visit_dependents-count.new.dependents in
     let rule = c.in-Some.rule in
     let rule_uses = c.args.rule_uses.now in
