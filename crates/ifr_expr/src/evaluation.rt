@@ -205,6 +205,27 @@ fn evaluate_behind<W: World, M: Memo>(
     last
 }
 
+// The same, where many values may wait. A function makes its room where it begins, so few are to pay for this one.
+#[cycle(evaluation)]
+fn evaluate_wide<W: World, M: Memo>(
+    world: &W,
+    first: Operand,
+    ops: Operators<'_>,
+    this: u16,
+    memo: &mut M,
+) -> Operand
+    requires fit { Fit 65 1 (operators_left ops) }
+    requires kept { AreValues (W.rules world.now) (W.answers world.now) (M.kept memo.old) }
+    ensures value { values_behind
+        (meaning.leaf_value (meaning.rule_values (W.rules world.now) (W.answers world.now))
+        (W.answers world.now) this)
+        (operand_value (W.answers world.now) first ∷ []) (operators_left ops.entry)
+        ≡ operand_value (W.answers world.now) result ∷ [] }
+    ensures kept { AreValues (W.rules world.now) (W.answers world.now) (M.kept memo.new) }
+{
+    evaluate_behind(world, first, ops, this, &mut [NOTHING; MAX_VALUES], memo)
+}
+
 /// The value of an expression, with values of rules over the same answers, which are used and added to.
 #[cycle(evaluation)]
 pub(crate) fn evaluate<W: World, M: Memo>(
@@ -226,6 +247,6 @@ pub(crate) fn evaluate<W: World, M: Memo>(
     if expr.needs_few(FEW + 1) {
         evaluate_behind(world, first, ops, this, &mut [NOTHING; FEW], memo)
     } else {
-        evaluate_behind(world, first, ops, this, &mut [NOTHING; MAX_VALUES], memo)
+        evaluate_wide(world, first, ops, this, memo)
     }
 }

@@ -36,7 +36,7 @@ evaluate-returns-else-needs_few-clause-value g t c =
     let answers = g.W.World.answers c.args.world.now in
     let rules = rule_values (g.W.World.rules c.args.world.now) answers in
     let b = begun rules answers c.args.this 64 c.args.expr c.operators-ops.result c.next.new.self c.next.result c.unwrap.result c.operators-ops.ensures c.next.ensures.steps c.unwrap.ensures c.args.expr.checked.within in
-    is_goal _ _ _ _ _ (operators_left c.next.new.self) c.operand_of-first.ensures.value c.evaluate_behind-else-needs_few.ensures.value b.leads
+    is_goal _ _ _ _ _ (operators_left c.next.new.self) c.operand_of-first.ensures.value c.evaluate_wide.ensures.value b.leads
 
 pub evaluate_behind-loop-op-init : goal.evaluate_behind-loop-op-init
 evaluate_behind-loop-op-init g t c = record { stands = at_first _ _ _ c.args.first c.args.waiting.now (operators_left c.args.ops) c.requires.fit (omega arith); kept = c.requires.kept }
@@ -99,9 +99,11 @@ evaluate-evaluate_behind-requires g t c κs within =
     let b = begun rules answers c.args.this 9 c.args.expr c.operators-ops.result c.next.new.self c.next.result c.unwrap.result c.operators-ops.ensures c.next.ensures.steps c.unwrap.ensures (c.needs_few.ensures c.if-needs_few.true) in
     (omega (arith, c.decreases, b.inside), (within.0, (within.1, (b.fits, c.operand_of-first.ensures.kept))))
 
-pub evaluate-evaluate_behind-requires-else-needs_few :
-    goal.evaluate-evaluate_behind-requires-else-needs_few
-evaluate-evaluate_behind-requires-else-needs_few g t c κs within =
+pub evaluate_wide-evaluate_behind-requires : goal.evaluate_wide-evaluate_behind-requires
+evaluate_wide-evaluate_behind-requires g t c κs within = (omega (arith, c.decreases), (within.0, (within.1, (c.requires.fit, c.requires.kept))))
+
+pub evaluate-evaluate_wide-requires : goal.evaluate-evaluate_wide-requires
+evaluate-evaluate_wide-requires g t c κs within =
     let answers = g.W.World.answers c.args.world.now in
     let rules = rule_values (g.W.World.rules c.args.world.now) answers in
     let b = begun rules answers c.args.this 65 c.args.expr c.operators-ops.result c.next.new.self c.next.result c.unwrap.result c.operators-ops.ensures c.next.ensures.steps c.unwrap.ensures (omega (arith, c.args.expr.checked.within)) in

@@ -10,19 +10,22 @@ use Rattle.ifr_expr.proofs.ValueLemmas.{limit}
 use Rattle.ifr_expr.proofs.evaluation.+evaluation.Given as goal
 
 abbrev pub decreases-evaluate : goal.decreases-evaluate
-decreases-evaluate g l = 5 * end_of l.expr + 2
+decreases-evaluate g l = 6 * end_of l.expr + 3
+
+abbrev pub decreases-evaluate_wide : goal.decreases-evaluate_wide
+decreases-evaluate_wide g l = 6 * limit (operators_left l.ops) + 2
 
 abbrev pub decreases-evaluate_behind : goal.decreases-evaluate_behind
-decreases-evaluate_behind g l = 5 * limit (operators_left l.ops) + 1
+decreases-evaluate_behind g l = 6 * limit (operators_left l.ops) + 1
 
 abbrev pub decreases-operand_of : goal.decreases-operand_of
-decreases-operand_of g l = 5 * (op_of (operator l.op)).place + 5
+decreases-operand_of g l = 6 * (op_of (operator l.op)).place + 6
 
 abbrev pub decreases-rule_value : goal.decreases-rule_value
-decreases-rule_value g l = 5 * l.reference.place + 4
+decreases-rule_value g l = 6 * l.reference.place + 5
 
 abbrev pub decreases-referred : goal.decreases-referred
-decreases-referred g l = 5 * l.reference.place + 3
+decreases-referred g l = 6 * l.reference.place + 4
 
 abbrev pub invariant-evaluate_behind-loop-op : goal.invariant-evaluate_behind-loop-op
 invariant-evaluate_behind-loop-op g l =
