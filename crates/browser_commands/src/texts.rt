@@ -10,6 +10,7 @@ ghost use Rattle.hii_questions.specs.code.Views.{question_node};
 ghost use Rattle.guard_policy.specs.Policy.{warned};
 ghost use Rattle.guard_policy.specs.Warned.{warning_of};
 ghost use Rattle.guard_policy.specs.code.Views.{bytes_of, world};
+ghost use Rattle.guard_policy.specs.code.WarningsLeft.{warnings_among};
 ghost use Rattle.session_steps.specs.Texts.{count_text, changed_text, message_text, denied_text, warning_text, warning_line, refused_text, refused_at_text};
 
 use arrayvec::ArrayVec;
@@ -18,6 +19,7 @@ use guard_policy::{Denial, Policy, Warning};
 use hii_bytes::{Cause, Fault, Watched};
 use hii_languages::{Choice, Languages, ShownChars};
 use hii_questions::{DenialKind, Question};
+use ifr_scopes::ConditionsOf;
 use itoa::Buffer;
 use kept_conditions::KeptStores;
 use std::io::Write;
@@ -95,7 +97,8 @@ fn put_warning<W: Write>(warning: Warning, message: ShownChars<'_>, out: &mut Wa
     out.put(b"\n");
 }
 
-/// Writes a line for each warning of a question over stores, with its text in a language.
+/// Writes a line for each warning of a question over stores, with its text in a language. Of most questions none is asked.
+#[inline(always)]
 pub(crate) fn put_warnings<'a, W: Write>(
     policy: Policy<'a, '_>,
     question: Question<'a>,
@@ -111,7 +114,28 @@ pub(crate) fn put_warnings<'a, W: Write>(
         (map warning_of (warned (world policy.entry stores.old.stores) (question_node question.entry)))) }
     ensures same { stores.new ≡ stores.old }
 {
-    let mut conditions = policy.warning_conditions(question);
+    let conditions = policy.warning_conditions(question);
+    if !conditions.is_done() {
+        put_each_warning(policy, conditions, stores, languages, language, out);
+    }
+}
+
+// Writes a line for each of some WARNING_IFs that holds over stores, with its text in a language.
+#[inline(never)]
+fn put_each_warning<'a, W: Write>(
+    policy: Policy<'a, '_>,
+    mut conditions: ConditionsOf<'_, 'a>,
+    stores: &mut KeptStores<'a>,
+    languages: &Languages<'_>,
+    language: Choice,
+    out: &mut Watched<W>,
+)
+    requires { bytes_of policy ≡ stores.old.ifr }
+    ensures text { Puts W.contents out.old out.new
+        (flat_map (warning_line (shown languages.now (choice_of language)))
+        (warnings_among (world policy.entry stores.old.stores) conditions.entry)) }
+    ensures same { stores.new ≡ stores.old }
+{
     while let Some(warning) = stores.next_warning(policy, &mut conditions) {
         let message = languages.text(language, warning.message);
         put_warning(warning, message.chars(), out);

@@ -20,6 +20,23 @@ pub struct ConditionsOf<'s, 'a> {
     pub ghost conditions: { AreConditionEntries ifr.now kept.now } by { AreConditionEntries-prop ifr.now kept.now },
 }
 
+impl<'s, 'a> ConditionsOf<'s, 'a> {
+    ghost use Rattle.std.specs.Prelude.{◌≡◌, ◌↔◌, [], IsTrue};
+    ghost use Rattle.ifr_scopes.specs.code.ConditionsLeft.{conditions_of_left, entries_left};
+
+    /// Whether the question has no conditions that are left, of any number.
+    #[inline(always)]
+    pub fn is_done(&self) -> bool
+        ensures exactly { IsTrue result ↔ (entries_left self.now ≡ []) }
+        ensures none { IsTrue result → conditions_of_left self.now ≡ [] }
+    {
+        match self.kept.split_first() {
+            Some((first, _)) => first.question != self.question,
+            None => true,
+        }
+    }
+}
+
 impl<'s, 'a> Iterator for ConditionsOf<'s, 'a> {
     ghost use Rattle.std.specs.Iterator.{YieldsFirstBy, item_count};
     ghost use Rattle.ifr_scopes.specs.code.ConditionsLeft.{conditions_of_left};
