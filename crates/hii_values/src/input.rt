@@ -32,6 +32,7 @@ pub enum Input<'i> {
 
 impl<'i> Input<'i> {
     /// The bytes of a field as what the field holds.
+    #[inline(always)]
     pub fn read_as(self, field_type: FieldType<'_>) -> Input<'i>
         requires { HasField (type_in field_type) self }
         ensures value { offer_of result ≡ read_as (type_in field_type.entry) (offer_of self.entry) }

@@ -60,6 +60,7 @@ impl<'a> StatementKind<'a> {
     ghost use Rattle.ifr_scopes.specs.code.Lists.{kind_op, statement_numbers};
 
     // The view of an opcode that has all its fields.
+    #[inline(always)]
     fn of(op: Op<'a>) -> StatementKind<'a>
         requires statement { is_among op.code statement_numbers ≡ true }
         requires sized { least_length (bytes_of op) ≤ length (bytes_of op) }
@@ -162,6 +163,7 @@ impl<'a> Statement<'a> {
     }
 
     /// The opcode of the statement, by what it is.
+    #[inline(always)]
     pub fn kind(self) -> StatementKind<'a>
         ensures place { (kind_op result).place ≡ (statement_node self.entry).place }
         ensures bytes { bytes_of (kind_op result) ≡ (statement_node self.entry).op }
