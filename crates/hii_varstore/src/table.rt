@@ -74,6 +74,7 @@ impl Table {
     }
 
     /// The place among the stores of the one of an id.
+    #[inline(always)]
     pub(crate) fn find(&self, id: u16) -> Option<usize>
         ensures { result ≡ place_of self.now id }
     {

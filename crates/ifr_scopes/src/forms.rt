@@ -296,6 +296,7 @@ impl<'a> Forms<'a> {
 
     /// The conditions of a number that stand in the scope of the question that a statement is, by place, found in one search;
     /// none of a statement that is none.
+    #[inline(always)]
     pub fn conditions_of(&self, statement: Statement<'a>, code: u8) -> ConditionsOf<'_, 'a>
         requires node { IsNodeOf self.now (statement_node statement) }
         requires condition { is_condition_number code ≡ true }
