@@ -280,6 +280,7 @@ impl<'a> Forms<'a> {
     }
 
     // The conditions behind a statement that opens a scope; none behind another.
+    #[inline(always)]
     fn conditions_behind(&self, statement: Statement<'a>) -> &[ConditionEntry]
         ensures { result.now ≡ (if has_scope (statement_node statement.entry).op
             then filter (λ c. nat_lt (statement_node statement.entry).place c.place)
