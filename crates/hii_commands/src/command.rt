@@ -8,7 +8,7 @@ ghost use Rattle.browser_rules.specs.Script.{command_of, without_return};
 ghost use Rattle.hii_bytes.specs.NumberList.{IsList, numbers_of};
 ghost use Rattle.hii_commands.specs.Meaning.{HasList, command_meant, cause_meant, cause_of};
 ghost use Rattle.hii_commands.specs.code.Reading as reading;
-ghost use Rattle.hii_commands.specs.code.Reading.{command_in, set_in, order_in, text_in, list_in, is_one_word, why_in, go_in, press_in, defaults_in, numbered_in, worded_in, word_command, lang_in, plain_in, value_in, question_in, default_class_in, row_number_in, cut_word};
+ghost use Rattle.hii_commands.specs.code.Reading.{command_in, set_in, order_in, text_in, list_in, is_one_word, why_in, go_in, press_in, defaults_in, numbered_in, worded_in, spaced_in, word_command, lang_in, plain_in, value_in, question_in, front_digits_in, front_question_in, default_class_in, row_number_in, cut_word};
 
 use crate::limits::LINE_LIMIT;
 use hii_bytes::{Cause, first_place, is_number_list, number_of_digits};
@@ -104,23 +104,18 @@ fn drop_return(line: &[u8]) -> &[u8]
     }
 }
 
+#[tactic(auto, using(crate::proofs::FrontLemmas::spaced_text))]
 fn command_in(text: &[u8]) -> Option<Command<'_>>
     ensures command { option_map command_meant result ≡ command_in text.now }
     ensures list { IfSome result HasList }
 {
+    // What a script says most.
+    if let Some(rest) = text.strip_prefix(b"set ") {
+        return set_command(rest);
+    }
     match split_word(text) {
         (word, None) => plain_command(word),
-        (word, Some(rest)) => {
-            if is_word(word, b"set") {
-                set_command(rest)
-            } else if is_word(word, b"order") {
-                order_command(rest)
-            } else if is_word(word, b"text") {
-                text_command(rest)
-            } else {
-                worded_command(word, rest)
-            }
-        }
+        (word, Some(rest)) => spaced_command(word, rest),
     }
 }
 
@@ -157,13 +152,26 @@ fn plain_command(word: &[u8]) -> Option<Command<'_>>
     }
 }
 
+// The command of a word other than `set` that a space follows.
+fn spaced_command<'a>(word: &[u8], rest: &'a [u8]) -> Option<Command<'a>>
+    ensures command { option_map command_meant result ≡ spaced_in word.now rest.now }
+    ensures list { IfSome result HasList }
+{
+    if is_word(word, b"order") {
+        order_command(rest)
+    } else if is_word(word, b"text") {
+        text_command(rest)
+    } else {
+        worded_command(word, rest)
+    }
+}
+
 fn set_command(rest: &[u8]) -> Option<Command<'_>>
     ensures command { option_map command_meant result ≡ set_in (cut_word rest.now) }
     ensures list { IfSome result HasList }
 {
-    let (question, value) = split_word(rest);
-    let question = question_of(question)?;
-    let value = value_of(value?)?;
+    let (question, behind) = front_question(rest)?;
+    let value = value_of(behind.strip_prefix(b" ")?)?;
     Some(Command::Set { question, value })
 }
 
@@ -342,6 +350,37 @@ fn question_of(text: &[u8]) -> Option<u16>
     u16::try_from(number).ok()
 }
 
+// How many digits a text begins with, and the number that they write; none where there are more than those of an id.
+#[inline(always)]
+fn front_digits(text: &[u8]) -> Option<(usize, u32)>
+    ensures { result ≡ front_digits_in text.now }
+{
+    let mut number = 0;
+    for (count, byte) in text.iter().enumerate() {
+        if !byte.is_ascii_digit() {
+            return Some((count, number));
+        }
+        if count == 5 {
+            return None;
+        }
+        number = 10 * number + u32::from(*byte - b'0');
+    }
+    Some((text.len(), number))
+}
+
+// The id of a question that the digits at the front of a text write, and what stands behind them.
+#[inline(always)]
+fn front_question(text: &[u8]) -> Option<(u16, &[u8])>
+    ensures { option_map (λ front. (front.0, front.1.now)) result ≡ front_question_in text.now }
+{
+    let (count, number) = front_digits(text)?;
+    if count == 0 {
+        return None;
+    }
+    let question = u16::try_from(number).ok()?;
+    Some((question, &text[count..]))
+}
+
 // A class has the digits of a question's id.
 fn class_of(text: &[u8]) -> Option<u16>
     ensures { result ≡ default_class_in text.now }
@@ -357,9 +396,15 @@ fn row_of(text: &[u8]) -> Option<u32>
     u32::try_from(number).ok()
 }
 
+#[tactic(auto, using(crate::proofs::FrontLemmas::one_digit))]
 fn value_of(text: &[u8]) -> Option<i128>
     ensures { result ≡ value_in text.now }
 {
+    if let [digit] = text
+        && digit.is_ascii_digit()
+    {
+        return Some(i128::from(*digit - b'0'));
+    }
     if let Some(digits) = text.strip_prefix(b"-") {
         let magnitude = number_of_digits(digits, 10, 20)?;
         return Some(-i128::from(magnitude));

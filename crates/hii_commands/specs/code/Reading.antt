@@ -1,15 +1,32 @@
 -- What a line means, as the code reads it. A lemma says that it is what the rules say.
 use Rattle.std.specs.Prelude.{ℕ, ℤ, pos, neg_ℤ, ◌^◌, ◌==◌, ◌&&◌, ◌||◌, not, nat_le, if◌then◌else◌, Bool, List, [], ◌∷◌, length, take, drop, codes, Option, Some, None, option_map}
-use Rattle.std.specs.Char.{is_ascii_alphanumeric}
-use Rattle.std.specs.List.{list_all}
+use Rattle.std.specs.Char.{is_ascii_alphanumeric, is_ascii_digit}
+use Rattle.std.specs.List.{list_all, prefix_len}
 use Rattle.std.specs.Option.{unwrap_or}
 use Rattle.std.specs.Str.{bytes_eq}
+use Rattle.std.specs.Str.Parse.{digits_value}
 use Rattle.browser_rules.specs.Script.{Command, Page, Set, Order, Text, Why, Go, Back, Press, Defaults, Extract, Route, Lang, Submit, Discard}
 use Rattle.hii_bytes.specs.Digits.{number_below}
 use Rattle.hii_bytes.specs.NumberList.{is_number_list, numbers_of}
 
 abbrev pub question_in : List ℕ → Option ℕ
 question_in text = number_below 65536 10 5 text
+
+-- how many digits a text begins with
+abbrev pub digit_count : List ℕ → ℕ
+digit_count text = prefix_len is_ascii_digit text
+
+-- how many digits a text begins with, five at most, and the number that they write
+abbrev pub front_digits_in : List ℕ → Option (ℕ × ℕ)
+front_digits_in text =
+    if nat_le (digit_count text) 5
+    then Some (digit_count text, digits_value 10 (take (digit_count text) text)) else None
+
+-- the id of a question that the digits at the front of a text write, and what stands behind them
+abbrev pub front_question_in : List ℕ → Option (ℕ × List ℕ)
+front_question_in text =
+    option_map (λ question. (question, drop (digit_count text) text))
+    (question_in (take (digit_count text) text))
 
 -- the id of a default class
 abbrev pub default_class_in : List ℕ → Option ℕ
@@ -125,14 +142,18 @@ worded_in word rest =
     else if bytes_eq word (codes "route") then word_command Route rest
     else numbered_in word rest
 
+-- the command of a first word other than `set` and the rest behind its space
+abbrev pub spaced_in : List ℕ → List ℕ → Option Command
+spaced_in word rest =
+    if bytes_eq word (codes "order") then order_in (cut_word rest)
+    else if bytes_eq word (codes "text") then text_in (cut_word rest)
+    else worded_in word rest
+
 -- the command of a first word and the rest behind its space
 abbrev pub words_in : List ℕ × Option (List ℕ) → Option Command
 words_in (word, None) = plain_in word
 words_in (word, Some rest) =
-    if bytes_eq word (codes "set") then set_in (cut_word rest)
-    else if bytes_eq word (codes "order") then order_in (cut_word rest)
-    else if bytes_eq word (codes "text") then text_in (cut_word rest)
-    else worded_in word rest
+    if bytes_eq word (codes "set") then set_in (cut_word rest) else spaced_in word rest
 
 -- the command that a text without LF and CR is
 abbrev pub command_in : List ℕ → Option Command
