@@ -90,9 +90,6 @@ impl<'a> FieldType<'a> {
         ensures narrow { is_password (statement_node statement.entry) ≡ false
             → IfSome result (λ t. size_of_type (type_in t) ≤ WIDEST_FIELD) }
     {
-        let choices = Choices {
-            question: statement,
-        };
         match statement.kind() {
             StatementKind::Checkbox(_) => Some(FieldType::Checkbox),
             StatementKind::Numeric(numeric) => Some(FieldType::Numeric(NumericType {
@@ -103,7 +100,9 @@ impl<'a> FieldType<'a> {
             })),
             StatementKind::OneOf(one_of) => Some(FieldType::OneOf(OneOfType {
                 width: one_of.width(),
-                choices,
+                choices: Choices {
+                    question: statement,
+                },
             })),
             StatementKind::String(text) => Some(FieldType::Text(TextType {
                 minimum: u16::from(text.minimum()),
@@ -117,7 +116,9 @@ impl<'a> FieldType<'a> {
                 most: list.max_containers(),
                 unique: list.is_unique_set(),
                 some: list.has_no_empty_set(),
-                choices,
+                choices: Choices {
+                    question: statement,
+                },
             })),
             _ => None,
         }
