@@ -48,6 +48,22 @@ fn write_item(into: &mut [u8], at: usize, item: u64, width: usize)
 {
     let mut bytes = [0; 8];
     LittleEndian::write_u64(&mut bytes, item);
+    // A copy of so many bytes as are known is no call.
+    match width {
+        1 => into[at] = bytes[0],
+        2 => write_front(into, at, &bytes, 2),
+        4 => write_front(into, at, &bytes, 4),
+        _ => write_front(into, at, &bytes, width),
+    }
+}
+
+// Writes the first `width` of some bytes at an offset.
+#[inline(always)]
+fn write_front(into: &mut [u8], at: usize, bytes: &[u8], width: usize)
+    requires front { width ≤ length bytes.now }
+    requires within { at + width ≤ length into.old }
+    ensures { take (at + width) into.new ≡ take at into.old ++ take width bytes.now }
+{
     into[at..at + width].copy_from_slice(&bytes[..width]);
 }
 
