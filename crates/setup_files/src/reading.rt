@@ -27,7 +27,8 @@ const LIMIT: usize = FILE_LIMIT as usize;
 const PIECE: usize = 4096;
 
 /// All bytes that the reader has, at most 16,777,216, where no read failed. More are refused by `TooLong`; a fault and an allocation
-/// that fails are told apart by whether the reader has failed.
+/// that fails are told apart by whether the reader has failed. The bytes take no more room than they need; where there is none for
+/// the smaller block, they keep the larger one.
 pub fn read_whole<R: Read>(alloc: Global, reader: &mut Watched<R>) -> Result<Vec<u8>, ReadError>
     ensures whole { IfSome (R.remaining (inner_of reader.old)) (λ all. MatchResult result
         (λ bytes. (bytes.items ≡ all) × (length all ≤ FILE_LIMIT)) (λ e. e ≡ ReadError.TooLong
@@ -47,6 +48,7 @@ pub fn read_whole<R: Read>(alloc: Global, reader: &mut Watched<R>) -> Result<Vec
             Err(_) => return Err(ReadError::Fault),
         };
         if n == 0 {
+            bytes.shrink_to_fit();
             return Ok(bytes);
         }
         if bytes.extend_from_slice(&buf[..n]).is_err() {
