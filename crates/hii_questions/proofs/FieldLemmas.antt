@@ -1,20 +1,22 @@
 -- The questions of a package by their fields, and its passwords.
-use Rattle.std.proofs.Common.{◌≡◌, ℕ, zero, suc, Bool, true, false, eqb, ◌==◌, ◌&&◌, Option, Some, None, List, [], ◌∷◌, map, refl, sym, ap, subst, ◌∙◌, arith, inl, inr, filter, find, is_eq, option_map, Contains}
+use Rattle.std.proofs.Common.{◌≡◌, ℕ, zero, suc, ◌<◌, Bool, true, false, eqb, ◌==◌, ◌&&◌, Option, Some, None, List, [], ◌∷◌, length, map, refl, sym, ap, subst, ◌∙◌, arith, inl, inr, filter, find, is_eq, option_map, Contains}
 use Rattle.std.specs.Cmp.{IsTotalOrder, nat_cmp_total, on_total, then_total}
 use Rattle.std.specs.Cmp.Lexicographic.{options_total}
+use Rattle.std.specs.List.Sorted.{IsPermutation, IsStableByKey}
 use Rattle.std.specs.Option.{option_cmp}
 use Rattle.std.specs.declared.cmp.Ordering.{Ordering}
 use Rattle.std.specs.declared.cmp.Ordering.TheVariants.{Less, Equal, Greater}
 use Rattle.std.specs.Ordering.{nat_cmp, ordering_then}
 use Rattle.std.proofs.lemmas.Bool.{and_parts, cases_Bool, eqb-true}
 use Rattle.std.proofs.lemmas.List.Elements.{All-filter}
+use Rattle.std.proofs.lemmas.List.Sorted.{All-permutation}
 use Rattle.ifr_nodes.specs.Nodes.{nodes_of}
 use Rattle.ifr_nodes.specs.code.Checked.{node_in}
 use Rattle.ifr_nodes.proofs.ViewLemmas.{further}
 use Rattle.hii_varstore.proofs.TableLemmas.{is_eq-nat_cmp}
 use Rattle.hii_values.specs.Types.{is_password}
 use Rattle.hii_questions.specs.Fields.{Field, questions, field_passes, is_same_field, has_field, is_password_in}
-use Rattle.hii_questions.specs.code.ByField.{has_range, range_cmp}
+use Rattle.hii_questions.specs.code.ByField.{AreAllNumbers, AreByField, AreNumbers, FieldsRise, entries_at, entry_at, has_range, has_range_at, numbered_field, range_cmp}
 use Rattle.hii_questions.specs.code.Entries.{AreQuestionEntries, IsQuestionEntry, entry_field, entry_view}
 use Rattle.hii_questions.specs.code.Ranges.{range_in}
 use Rattle.hii_questions.specs.code.Tables.{AreQuestions}
@@ -24,7 +26,7 @@ use Rattle.hii_questions.specs.declared.field_range.FieldRange.{FieldRange}
 use Rattle.hii_questions.specs.declared.merging.Step.{Step}
 use Rattle.hii_questions.specs.laws.Fields.{HaveTheField}
 use Rattle.hii_questions.proofs.EntryLemmas.{found_holds}
-use Rattle.hii_questions.proofs.OrderLemmas.{filter_mapped}
+use Rattle.hii_questions.proofs.OrderLemmas.{filter_mapped, kept_at}
 use Rattle.hii_questions.proofs.QuestionLemmas.{found_among, found_mapped}
 use Rattle.hii_questions.proofs.StepLemmas.{meets_in}
 
@@ -56,12 +58,27 @@ tells (Some g) f = same_tells g f
 pub ties_are : (f : FieldRange) → ◌≡◌ {A = QuestionEntry → Bool} (λ e. is_eq (option_cmp range_cmp (entry_field e) (Some f))) (has_range f)
 ties_are f = λ i e. tells (entry_field e) f i
 
-module _ (ifr : List ℕ) (es : List QuestionEntry) (ids : List IdEntry) (fs ps : List QuestionEntry) (ss : List Step) (are : AreQuestions ifr es ids fs ps ss) (f : FieldRange) where
-  pub fields_are : map (entry_view ifr) (filter (has_range f) fs) ≡ filter (has_field (range_in f)) (questions (nodes_of ifr))
+-- and so it does for the numbers of these
+pub ties_at : (es : List QuestionEntry) (f : FieldRange) → ◌≡◌ {A = ℕ → Bool} (λ n. is_eq (option_cmp range_cmp (numbered_field es n) (Some f))) (has_range_at es f)
+ties_at es f = λ i n. ties_are f i (entry_at es n)
+
+-- A stable sort of all numbers by the fields of their questions puts them into the order of these.
+pub sorted_numbers : (es : List QuestionEntry) (ms ns : List ℕ) → AreAllNumbers es ms → IsPermutation ms ns → FieldsRise es ns → IsStableByKey (numbered_field es) (option_cmp range_cmp) ms ns → AreByField es ns
+sorted_numbers es ms ns are shuffled rise stable =
+    let same : (f : FieldRange) → filter (has_range_at es f) ns ≡ filter (has_range_at es f) ms = λ f.
+    ap (λ p. filter p ns) (sym (ties_at es f)) ∙ kept_at range_total (numbered_field es) (Some f) ms ns shuffled stable ∙ ap (λ p. filter p ms) (ties_at es f) in
+    record {
+      within = All-permutation (λ n. n < length es) ms ns shuffled are.within;
+      rise = rise;
+      kept = λ f. ap (entries_at es) (same f) ∙ sym (filter_mapped (entry_at es) (has_range f) ms) ∙ ap (filter (has_range f)) are.all;
+    }
+
+module _ (ifr : List ℕ) (es : List QuestionEntry) (ids : List IdEntry) (fs : List ℕ) (ps : List QuestionEntry) (ss : List Step) (are : AreQuestions ifr es ids fs ps ss) (f : FieldRange) where
+  pub fields_are : map (entry_view ifr) (entries_at es (filter (has_range_at es f) fs)) ≡ filter (has_field (range_in f)) (questions (nodes_of ifr))
   fields_are = ap (map (entry_view ifr)) (are.ordered.kept f) ∙ sym (filter_mapped (entry_view ifr) (has_field (range_in f)) es) ∙ ap (filter (has_field (range_in f))) are.placed
 
-  pub fields_kept : AreQuestionEntries ifr (filter (has_range f) fs)
-  fields_kept = subst (AreQuestionEntries ifr) (sym (are.ordered.kept f)) (All-filter (has_range f) (λ e. IsQuestionEntry ifr e) es are.kept)
+  pub fields_within : AreNumbers es (filter (has_range_at es f) fs)
+  fields_within = All-filter (has_range_at es f) (λ n. n < length es) fs are.ordered.within
 
   pub first_password : option_map (entry_view ifr) (find (λ e. meets_in f (entry_field e)) ps) ≡ find (is_password_in (range_in f)) (questions (nodes_of ifr))
   first_password =

@@ -38,7 +38,7 @@ unnumbered id k (q ∷ qs) e = elim (cases_Bool (question_id q.node.op == id)) [
   | inr other ↦ rw other (unnumbered id (k + 1) qs (rw other at e))
 ]
 
-module _ (ifr : List ℕ) (es : List QuestionEntry) (ids : List IdEntry) (fs ps : List QuestionEntry) (ss : List Step) (are : AreQuestions ifr es ids fs ps ss) (id : ℕ) where
+module _ (ifr : List ℕ) (es : List QuestionEntry) (ids : List IdEntry) (fs : List ℕ) (ps : List QuestionEntry) (ss : List Step) (are : AreQuestions ifr es ids fs ps ss) (id : ℕ) where
   number : (r : ℕ) → number_with ids id ≡ Some r → (j : ℕ) × (r ≡ j) × (j < length (questions (nodes_of ifr))) × ((d : Asked) → first_with (questions (nodes_of ifr)) id ≡ Some (get_or (questions (nodes_of ifr)) j d))
   number r told =
       let its = numbered id 0 r (questions (nodes_of ifr)) (sym (are.found id) ∙ told) in

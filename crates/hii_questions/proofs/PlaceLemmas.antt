@@ -49,7 +49,7 @@ questions_rise ifr es accepted are placed =
     let within = some_within is_question ns 4 high (nodes_within f 4 [] s.are_nodes) in
     rise_asked ifr (layout_of ns) (filter is_question ns) es 0 high s are (lower (filter is_question ns) 4 high 0 high within (omega arith) (omega arith)) placed
 
-module _ (ifr : List ℕ) (es : List QuestionEntry) (ids : List IdEntry) (fs ps : List QuestionEntry) (ss : List Step) (are : AreQuestions ifr es ids fs ps ss) (p at : ℕ) where
+module _ (ifr : List ℕ) (es : List QuestionEntry) (ids : List IdEntry) (fs : List ℕ) (ps : List QuestionEntry) (ss : List Step) (are : AreQuestions ifr es ids fs ps ss) (p at : ℕ) where
   first_is : first_at (questions (nodes_of ifr)) p ≡ option_map (entry_view ifr) (find (λ e. eqb (place_of e) p) es)
   first_is =
       ap (λ (all : List Asked). first_at all p) (sym are.placed) ∙ found_mapped (entry_view ifr) (λ (a : Asked). eqb a.node.place p) es

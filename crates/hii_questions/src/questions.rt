@@ -12,7 +12,7 @@ ghost use Rattle.hii_questions.specs.Faults.{IsQuestionFault};
 ghost use Rattle.hii_questions.specs.Fields.{questions, asked, question_with, has_field, is_password_in};
 ghost use Rattle.hii_questions.specs.Changes.{holds_others};
 ghost use Rattle.hii_questions.specs.code.Ids.{ids_of};
-ghost use Rattle.hii_questions.specs.code.Lists.{questions_left};
+ghost use Rattle.hii_questions.specs.code.Lists.{questions_left, with_field_left};
 ghost use Rattle.hii_questions.specs.code.LyingIn.{LieIn};
 ghost use Rattle.hii_questions.specs.code.Over.{answers_over};
 ghost use Rattle.hii_questions.specs.code.Ranges.{range_in};
@@ -27,6 +27,7 @@ use crate::merging::Step;
 use crate::over::Over;
 use crate::question::Question;
 use crate::questions_by_place::QuestionsByPlace;
+use crate::questions_with_field::QuestionsWithField;
 use crate::steps::{first_in, steps_among};
 use crate::tables::{numbers_near, read_questions};
 use hii_bytes::{Fault, IdTable};
@@ -43,7 +44,8 @@ pub struct Questions<'a> {
     // For each position of the index how many questions stand before it, to find a statement's question first there.
     near: Vec<u32>,
     by_id: IdTable,
-    by_field: Vec<QuestionEntry>,
+    // The numbers of the questions in the order of their fields.
+    by_field: Vec<u32>,
     passwords: Vec<QuestionEntry>,
     password_steps: Vec<Step>,
 }
@@ -163,11 +165,12 @@ impl<'a> Questions<'a> {
     }
 
     /// The questions whose field is exactly this one, by place.
-    pub fn with_field(&self, field: FieldRange) -> QuestionsByPlace<'_, 'a>
-        ensures { questions_left result
+    pub fn with_field(&self, field: FieldRange) -> QuestionsWithField<'_, 'a>
+        ensures { with_field_left result
             ≡ filter (has_field (range_in field)) (questions (nodes_of self.now.ifr)) }
     {
-        QuestionsByPlace::over(self.ifr, questions_with(&self.by_field, field))
+        let numbers = questions_with(&self.by_place, &self.by_field, field);
+        QuestionsWithField::over(self.ifr, &self.by_place, numbers)
     }
 
     /// The first question by place that is for a password, and whose field has a byte of this one.

@@ -24,10 +24,10 @@ first_with qs id = find (λ q. question_id q.node.op == id) qs
 abbrev pub first_at : List Asked → ℕ → Option Asked
 first_at qs place = find (λ q. q.node.place == place) qs
 
--- These are the questions of an accepted package, whose places rise, the numbers of these by their ids, those in the order of
+-- These are the questions of an accepted package, whose places rise, the numbers of these by their ids, and in the order of
 -- their fields, and the passwords among them, with the steps that tell of each byte the first of these.
 pub record AreQuestions (ifr : List ℕ) (by_place : List QuestionEntry) (by_id : List IdEntry)
-    (by_field passwords : List QuestionEntry) (steps : List Step) : Type 0 where
+    (by_field : List ℕ) (passwords : List QuestionEntry) (steps : List Step) : Type 0 where
   pub accepted : IsAccepted ifr
   pub placed : map (entry_view ifr) by_place ≡ questions (nodes_of ifr)
   pub kept : AreQuestionEntries ifr by_place

@@ -1,12 +1,11 @@
-use Rattle.std.proofs.Common.{◌≡◌, ◌∙◌, ◌<◌, Bool, true, false, None, List, length, get_or, inl, inr, rules, sym, ap, arith}
+use Rattle.std.proofs.Common.{◌≡◌, ◌∙◌, ◌<◌, Bool, true, false, List, length, get_or, inl, inr, rules, sym, ap, arith}
 use Rattle.std.specs.List.Sorted.{IsPartitionPoint, IsPartitionedBy}
 use Rattle.std.proofs.lemmas.Bool.{cases_Bool, true≢false}
 use Rattle.std.proofs.lemmas.List.{get_or_default}
 use Rattle.std.proofs.lemmas.List.Sorted.{IsPartitionPoint-from_clause}
 use Rattle.hii_questions.specs.code.ByField.{is_up_to}
-use Rattle.hii_questions.specs.declared.entry.QuestionEntry.{QuestionEntry}
 use Rattle.hii_questions.proofs.by_field.count_up_to.Goals as goal
-use Rattle.hii_questions.proofs.by_field.count_up_to.Goals.{else-questions-gt1-via-then-questions-gt1+else-is_up_to, else-questions-gt1-via-else-questions-gt1, else-questions-gt0-via-then-questions-gt0+else-is_up_to-2, else-questions-gt0-via-else-questions-gt0}
+use Rattle.hii_questions.proofs.by_field.count_up_to.Goals.{else-numbers-gt1-via-then-numbers-gt1+else-is_up_to, else-numbers-gt1-via-else-numbers-gt1, else-numbers-gt0-via-then-numbers-gt0+else-is_up_to-2, else-numbers-gt0-via-else-numbers-gt0}
 
 module _ {X : Type 0} (p : X → Bool) (xs : List X) (d : X) where
   none : (0 < length xs → p (get_or xs 0 d) ≡ false) → IsPartitionedBy p xs → IsPartitionPoint (λ x. p x ≡ true) (λ x. p x ≡ false) xs 0
@@ -29,24 +28,24 @@ module _ {X : Type 0} (p : X → Bool) (xs : List X) (d : X) where
   )
 
 pub returns-then-is_up_to-clause-point : goal.returns-then-is_up_to-clause-point
-returns-then-is_up_to-clause-point c = IsPartitionPoint-from_clause (is_up_to c.args.field) c.args.questions.now c.partition_point.result c.partition_point.ensures.partitioned c.requires (λ a r q called. search rules)
+returns-then-is_up_to-clause-point c = IsPartitionPoint-from_clause (is_up_to c.args.questions.now c.args.field) c.args.numbers.now c.partition_point.result c.partition_point.ensures.partitioned c.requires (λ a r q called. search rules)
 
 pub returns-then-is_up_to-2-clause-point : goal.returns-then-is_up_to-2-clause-point
 returns-then-is_up_to-2-clause-point c =
-    let xs = c.args.questions.now in
-    let d : QuestionEntry = record { place = 0; position = 0; field = None } in
-    let second : 1 < length xs → is_up_to c.args.field (get_or xs 1 d) ≡ false = elim c.else-questions-gt1.branch [
-      | else-questions-gt1-via-then-questions-gt1+else-is_up_to w ↦ λ lt. sym w.is_up_to.ensures ∙ w.if-is_up_to.false
-      | else-questions-gt1-via-else-questions-gt1 w ↦ λ lt. absurd (omega (arith, w.if-questions-gt1.false, lt))
+    let up = is_up_to c.args.questions.now c.args.field in
+    let xs = c.args.numbers.now in
+    let second : 1 < length xs → up (get_or xs 1 0) ≡ false = elim c.else-numbers-gt1.branch [
+      | else-numbers-gt1-via-then-numbers-gt1+else-is_up_to w ↦ λ lt. sym w.is_up_to.ensures ∙ w.if-is_up_to.false
+      | else-numbers-gt1-via-else-numbers-gt1 w ↦ λ lt. absurd (omega (arith, w.if-numbers-gt1.false, lt))
     ] in
-    one (is_up_to c.args.field) xs d c.if-questions-gt0.true (sym c.is_up_to-then-questions-gt0.ensures ∙ c.if-is_up_to-2.true) second c.requires
+    one up xs 0 c.if-numbers-gt0.true (sym c.is_up_to-then-numbers-gt0.ensures ∙ c.if-is_up_to-2.true) second c.requires
 
 pub returns-clause-point : goal.returns-clause-point
 returns-clause-point c =
-    let xs = c.args.questions.now in
-    let d : QuestionEntry = record { place = 0; position = 0; field = None } in
-    let first : 0 < length xs → is_up_to c.args.field (get_or xs 0 d) ≡ false = elim c.else-questions-gt0.branch [
-      | else-questions-gt0-via-then-questions-gt0+else-is_up_to-2 w ↦ λ lt. sym w.is_up_to-then-questions-gt0.ensures ∙ w.if-is_up_to-2.false
-      | else-questions-gt0-via-else-questions-gt0 w ↦ λ lt. absurd (omega (arith, w.if-questions-gt0.false, lt))
+    let up = is_up_to c.args.questions.now c.args.field in
+    let xs = c.args.numbers.now in
+    let first : 0 < length xs → up (get_or xs 0 0) ≡ false = elim c.else-numbers-gt0.branch [
+      | else-numbers-gt0-via-then-numbers-gt0+else-is_up_to-2 w ↦ λ lt. sym w.is_up_to-then-numbers-gt0.ensures ∙ w.if-is_up_to-2.false
+      | else-numbers-gt0-via-else-numbers-gt0 w ↦ λ lt. absurd (omega (arith, w.if-numbers-gt0.false, lt))
     ] in
-    none (is_up_to c.args.field) xs d first c.requires
+    none up xs 0 first c.requires

@@ -1,10 +1,14 @@
-use Rattle.std.proofs.Common.{◌≡◌, ℕ, List, subst, inl, inr}
+use Rattle.std.proofs.Common.{◌≡◌, ℕ, List, length, ap, subst, inl, inr, arith}
+use Rattle.std.proofs.lemmas.List.{length-map}
 use Rattle.std.proofs.lemmas.Result.{err_from_is_err_and}
 use Rattle.hii_bytes.specs.code.IdTables.{number_with}
 use Rattle.hii_bytes.specs.declared.id_table.IdEntry.{IdEntry}
+use Rattle.hii_questions.specs.Fields.{Asked}
 use Rattle.hii_questions.specs.code.ByField.{AreByField}
+use Rattle.hii_questions.specs.code.Entries.{entry_view}
 use Rattle.hii_questions.specs.code.Steps.{AreSteps}
 use Rattle.hii_questions.specs.declared.entry.QuestionEntry.{QuestionEntry}
+use Rattle.hii_questions.proofs.EntryLemmas.{few_questions}
 use Rattle.hii_questions.proofs.PlaceLemmas.{questions_rise}
 use Rattle.hii_questions.proofs.RefusalLemmas.{refused_among, sound_among}
 use Rattle.hii_questions.proofs.questions.Questions.read.Goals as goal
@@ -27,6 +31,17 @@ returns-in_err-by_place-clause-accepted c = λ none.
       | inl memory ↦ memory
       | inr told ↦ absurd (none fault.cause fault.place (refused_among c.args.forms.now fault c.bytes-ifr.ensures.accepted told).told)
     ])
+
+pub questions_by_field-requires : goal.questions_by_field-requires
+questions_by_field-requires c =
+    let es = c.in_ok-by_place.by_place.items in
+    omega (
+      arith,
+      ap (λ (l : List QuestionEntry). length l) c.deref.ensures.value,
+      length-map es (entry_view c.args.forms.now),
+      ap (λ (l : List Asked). length l) c.in_ok-by_place.ensures.placed,
+      few_questions c.args.forms.now c.bytes-ifr.ensures.accepted,
+    )
 
 pub invariant_of-result : goal.invariant_of-result
 invariant_of-result c =
