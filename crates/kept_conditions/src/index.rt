@@ -6,7 +6,7 @@
 
 ghost use Rattle.std.specs.Prelude.{nat_lt, false, ◌≡◌, ◌==◌, filter, ◌<◌, ◌≤◌, ◌+◌, length, IfOk, Some, None};
 ghost use Rattle.std.specs.List.{AllWithin};
-ghost use Rattle.kept_conditions.specs.code.Index.{first_of, behind_of, overlaps, RulesRise, IsSummary, AreSummaries, IsLastOverlapping, HasSame, AreSmall, AreSorted};
+ghost use Rattle.kept_conditions.specs.code.Index.{first_of, behind_of, overlaps, RulesRise, AllEndBy, IsSummary, AreSummaries, IsLastOverlapping, HasSame, AreSmall, AreSorted};
 
 use hii_questions::FieldRange;
 use std::alloc::{AllocError, Global};
@@ -68,6 +68,23 @@ pub(crate) fn uses_of(rule_uses: &[RuleUse], rule: u32) -> &[RuleUse]
 pub(crate) struct Summary {
     pub(crate) len: usize,
     pub(crate) max_end: u64,
+    /// The greatest end of all dependencies up to the one that ends the block.
+    pub(crate) reach: u64,
+}
+
+// The greatest end of the dependencies up to a place, of which those before it have their summaries.
+fn reach_at(dependencies: &[Dependency], summaries: &[Summary], at: usize) -> u64
+    requires inside { at < length dependencies.now }
+    requires behind { length summaries.now ≡ at }
+    requires summaries { AreSummaries dependencies.now summaries.now }
+    ensures { AllEndBy dependencies.now at result }
+{
+    let end = dependencies[at].behind();
+    if at == 0 {
+        end
+    } else {
+        end.max(summaries[at - 1].reach)
+    }
 }
 
 // The summary of the dependency at a place behind others that have theirs: blocks of the same length are joined.
@@ -77,6 +94,7 @@ fn summary_at(dependencies: &[Dependency], summaries: &[Summary], at: usize) -> 
     requires summaries { AreSummaries dependencies.now summaries.now }
     ensures { IsSummary dependencies.now at result }
 {
+    let reach = reach_at(dependencies, summaries, at);
     let mut max_end = dependencies[at].behind();
     let mut len = 1;
     while len <= at && summaries[at - len].len == len {
@@ -84,7 +102,11 @@ fn summary_at(dependencies: &[Dependency], summaries: &[Summary], at: usize) -> 
         max_end = max_end.max(before.max_end);
         len += before.len;
     }
-    Summary { len, max_end }
+    Summary {
+        len,
+        max_end,
+        reach,
+    }
 }
 
 /// The summaries of some dependencies.
@@ -130,6 +152,10 @@ pub(crate) fn last_overlapping(
     let mut left = before;
     while left > 0 {
         let at = left - 1;
+        if summaries[at].reach <= from {
+            // None up to here reaches so far.
+            return None;
+        }
         if summaries[at].max_end <= from {
             // None of the block reaches so far.
             left -= summaries[at].len;

@@ -29,16 +29,21 @@ no_dependency = record { range = record { store = 0; offset = 0; width = 0 }; de
 abbrev pub at_place : List Dependency → ℕ → Dependency
 at_place rs k = slice_index_or rs k no_dependency
 
--- No dependency of a block that is summed up ends behind its `max_end`.
+-- No dependency up to a place ends behind a number.
+abbrev pub AllEndBy : List Dependency → ℕ → ℕ → Type 0
+AllEndBy rs at reach = (j : ℕ) → j ≤ at → behind_of (at_place rs j) ≤ reach
+
+-- No dependency of a block that is summed up ends behind its `max_end`, and none up to it behind its `reach`.
 pub record IsSummary (rs : List Dependency) (at : ℕ) (summary : Summary) : Type 0 where
   pub some : 1 ≤ summary.len
   pub within : summary.len ≤ at + 1
   pub below : (j : ℕ) → j ≤ at → at < j + summary.len → behind_of (at_place rs j) ≤ summary.max_end
+  pub reached : AllEndBy rs at summary.reach
 
 abbrev pub AreSummaries : List Dependency → List Summary → Type 0
 AreSummaries rs summaries =
     (k : ℕ) → k < length summaries
-    → IsSummary rs k (slice_index_or summaries k record { len = 0; max_end = 0 })
+    → IsSummary rs k (slice_index_or summaries k record { len = 0; max_end = 0; reach = 0 })
 
 -- None of the dependencies from a place on up to before another overlaps these bytes.
 abbrev pub NoneOverlaps : ℕ → ℕ → List Dependency → ℕ → ℕ → Type 0
