@@ -1,6 +1,6 @@
 -- Dependencies that overlap a write, by ranges of stores and by the numbers of all bytes, from the last one on.
 use Rattle.std.proofs.Common.{◌≡◌, ℕ, zero, suc, ◌+◌, ◌<◌, ◌≤◌, ◌==◌, ◌&&◌, ◌||◌, nat_le, nat_lt, Bool, true, false, List, [], ◌∷◌, refl, sym, ap, ◌∙◌, inl, inr, arith, ◌-◌, length, drop, get_or}
-use Rattle.std.proofs.lemmas.Bool.{cases_Bool, cases_lt, false≢true, and_from, and_parts, eqb-true, eq-eqb, ltb-true, lt-ltb, leb-true, le-leb, and_right}
+use Rattle.std.proofs.lemmas.Bool.{cases_Bool, cases_lt, false≢true, and_from, and_parts, eqb-true, eq-eqb, ltb-true, lt-ltb, le-ltb, leb-true, le-leb, and_right}
 use Rattle.std.specs.List.{list_any, AllWithin}
 use Rattle.std.proofs.lemmas.List.{drop_more, drop_all}
 use Rattle.hii_questions.specs.declared.field_range.FieldRange.{FieldRange}
@@ -136,3 +136,8 @@ parted «end» rs sorted i j d ordered within before =
     let above : first_of (get_or rs j d) < «end» = ltb-true (first_of (get_or rs j d)) «end» before in
     let rise : first_of (get_or rs i d) ≤ first_of (get_or rs j d) = sorted i j d ordered within in
     lt-ltb (first_of (get_or rs i d)) «end» (omega (arith, above, rise))
+
+-- Where one of them does not begin before a number, none behind it does.
+pub begin_behind : («end» : ℕ) (rs : List Dependency) (at : ℕ) → AreSorted rs → ((d : Dependency) → «end» ≤ first_of (get_or rs at d)) → AllWithin (λ (r : Dependency). nat_lt (first_of r) «end» ≡ false) rs at (length rs)
+begin_behind «end» rs at sorted here j d above below =
+    le-ltb (first_of (get_or rs j d)) «end» (omega (arith, here d, sorted at j d above below))

@@ -2,9 +2,10 @@
 //!
 //! Dependencies stand by their first byte, each with a summary of a block that it ends: how far that block reaches. So a search
 //! for those that overlap some bytes passes over whole blocks, and a write costs a few steps for each dependency that it hits,
-//! however many there are. On what a rule depends is kept once, and not again for each that uses the rule.
+//! however many there are. From where to search, behind those that begin before the end of the bytes, is mostly looked up. On what
+//! a rule depends is kept once, and not again for each that uses the rule.
 
-ghost use Rattle.std.specs.Prelude.{nat_lt, false, ◌≡◌, ◌==◌, filter, ◌<◌, ◌≤◌, ◌+◌, length, IfOk, Some, None};
+ghost use Rattle.std.specs.Prelude.{nat_lt, true, false, ◌≡◌, ◌==◌, filter, ◌<◌, ◌≤◌, ◌+◌, length, IfOk, Some, None};
 ghost use Rattle.std.specs.List.{AllWithin};
 ghost use Rattle.kept_conditions.specs.code.Index.{first_of, behind_of, overlaps, RulesRise, AllEndBy, IsSummary, AreSummaries, IsLastOverlapping, HasSame, AreSmall, AreSorted};
 
@@ -125,14 +126,118 @@ pub(crate) fn summaries_of(
     Ok(summaries)
 }
 
-/// How many dependencies begin before a number.
-pub(crate) fn beginning_before(dependencies: &[Dependency], end: u64) -> usize
+/// How many dependencies begin before each of some steps, which follow one another from the first byte of all on. How many begin
+/// before a number is looked up there, and compared with the dependencies: nothing rests on it.
+#[derive(Drop)]
+pub(crate) struct Starts {
+    // The number of the first byte.
+    first: u64,
+    // A step has 2 to the power of this bytes, and there are no more steps than dependencies.
+    power: u32,
+    // By the number of the step, up to the last in which a dependency begins.
+    counts: Vec<u32>,
+}
+
+impl Starts {
+    // The number of the step in which a byte lies.
+    #[inline(always)]
+    fn step_of(&self, number: u64) -> usize {
+        number.saturating_sub(self.first).wrapping_shr(self.power) as usize
+    }
+
+    // How many of so many dependencies begin before the step in which a byte lies, and how many before the next step.
+    #[inline(always)]
+    fn around(&self, number: u64, all: usize) -> (usize, usize) {
+        match self.counts.get(self.step_of(number)..) {
+            Some([low, high, ..]) => (*low as usize, *high as usize),
+            Some([low]) => (*low as usize, all),
+            _ => (all, all),
+        }
+    }
+
+    // How many dependencies begin before a number, if these are their starts.
+    #[inline(always)]
+    fn likely_before(&self, dependencies: &[Dependency], end: u64) -> usize
+        ensures { result ≤ length dependencies.now }
+    {
+        let (low, high) = self.around(end, dependencies.len());
+        match dependencies.get(low..high) {
+            Some(near) => low + near.partition_point(|dependency| dependency.first() < end),
+            None => dependencies.len(),
+        }
+    }
+}
+
+// The power of two that steps have as bytes, where the first of some dependencies begins at a number.
+fn power_from(dependencies: &[Dependency], first: u64) -> u32 {
+    let Some(last) = dependencies.last() else {
+        return 0;
+    };
+    let gap = last.first().saturating_sub(first) / dependencies.len() as u64;
+    match gap.checked_ilog2() {
+        Some(power) => power + 1,
+        None => 0,
+    }
+}
+
+/// Where some dependencies begin.
+pub(crate) fn starts_of(alloc: Global, dependencies: &[Dependency]) -> Result<Starts, AllocError> {
+    let first = match dependencies.first() {
+        Some(dependency) => dependency.first(),
+        None => 0,
+    };
+    let mut starts = Starts {
+        first,
+        power: power_from(dependencies, first),
+        counts: Vec::with_capacity(alloc, dependencies.len())?,
+    };
+    let mut count = 0u32;
+    for dependency in dependencies {
+        let step = starts.step_of(dependency.first());
+        starts.counts.resize(step.saturating_add(1), count)?;
+        count = count.wrapping_add(1);
+    }
+    Ok(starts)
+}
+
+// Whether none of the dependencies from a place on begins before a number.
+#[inline(always)]
+fn none_begins_before(dependencies: &[Dependency], at: usize, end: u64) -> bool
+    requires { AreSorted dependencies.now }
+    ensures { result ≡ true → AllWithin (λ (r : Dependency). nat_lt (first_of r) end ≡ false)
+        dependencies.now at (length dependencies.now) }
+{
+    match dependencies.get(at) {
+        Some(next) => end <= next.first(),
+        None => true,
+    }
+}
+
+// How many dependencies begin before a number, found in a search among all.
+#[inline(never)]
+fn searched_before(dependencies: &[Dependency], end: u64) -> usize
     requires { AreSorted dependencies.now }
     ensures bound { result ≤ length dependencies.now }
     ensures behind { AllWithin (λ (r : Dependency). nat_lt (first_of r) end ≡ false)
         dependencies.now result (length dependencies.now) }
 {
     dependencies.partition_point(|dependency| dependency.first() < end)
+}
+
+/// How many dependencies begin before a number.
+#[inline(always)]
+pub(crate) fn beginning_before(dependencies: &[Dependency], starts: &Starts, end: u64) -> usize
+    requires { AreSorted dependencies.now }
+    ensures bound { result ≤ length dependencies.now }
+    ensures behind { AllWithin (λ (r : Dependency). nat_lt (first_of r) end ≡ false)
+        dependencies.now result (length dependencies.now) }
+{
+    let likely = starts.likely_before(dependencies, end);
+    if none_begins_before(dependencies, likely, end) {
+        likely
+    } else {
+        searched_before(dependencies, end)
+    }
 }
 
 /// The last dependency before a place that overlaps the bytes from a number on up to before another.
@@ -174,6 +279,8 @@ pub(crate) struct Index {
     pub(crate) dependencies: Vec<Dependency>,
     /// One for each dependency.
     pub(crate) summaries: Vec<Summary>,
+    /// Where the dependencies begin.
+    pub(crate) starts: Starts,
     /// By the number of the rule.
     pub(crate) rule_uses: Vec<RuleUse>,
 }
@@ -183,6 +290,7 @@ impl Drop for Index {
         let Index {
             dependencies: _,
             summaries: _,
+            starts: _,
             rule_uses: _,
         } = self;
     }
@@ -226,9 +334,11 @@ pub(crate) fn index_over(
     order_dependencies(&mut dependencies);
     order_rule_uses(&mut rule_uses);
     let summaries = summaries_of(alloc, &dependencies)?;
+    let starts = starts_of(alloc, &dependencies)?;
     Ok(Index {
         dependencies,
         summaries,
+        starts,
         rule_uses,
     })
 }

@@ -20,7 +20,7 @@ ghost use Rattle.kept_conditions.specs.code.Cache.{IsIndex, values_of};
 
 use crate::dependents::{Dependents, visit_pending};
 use crate::differences::{Differences, differ};
-use crate::index::{Dependency, Index, Summary, beginning_before, last_overlapping};
+use crate::index::{Dependency, Index, Starts, Summary, beginning_before, last_overlapping};
 use guard_policy::{Evaluated, Policy};
 use hii_questions::FieldRange;
 use hii_varstore::Stores;
@@ -48,6 +48,7 @@ fn visit_overlapping(
     dependents: &mut Dependents,
     dependencies: &[Dependency],
     summaries: &[Summary],
+    starts: &Starts,
     from: u64,
     end: u64,
     now: &Evaluated<'_, '_, '_>,
@@ -65,7 +66,7 @@ fn visit_overlapping(
     ensures reaches { Reaches (hits from end dependencies.now) dependents.old dependents.new }
     ensures follows { KeepsFollowing dependents.old dependents.new }
 {
-    let mut before = beginning_before(dependencies, end);
+    let mut before = beginning_before(dependencies, starts, end);
     let mut count = 0;
     while let Some(at) = last_overlapping(dependencies, summaries, from, end, before) {
         if dependents.visit(dependencies[at].dependent, now, rules) {
@@ -116,6 +117,7 @@ fn visit_range(
     dependents: &mut Dependents,
     dependencies: &[Dependency],
     summaries: &[Summary],
+    starts: &Starts,
     range: FieldRange,
     old: &Stores,
     new: &Stores,
@@ -140,7 +142,7 @@ fn visit_range(
 {
     let from = range.first();
     let end = range.behind();
-    let mut before = beginning_before(dependencies, end);
+    let mut before = beginning_before(dependencies, starts, end);
     let mut count = 0;
     while let Some(at) = last_overlapping(dependencies, summaries, from, end, before) {
         before = at;
@@ -192,6 +194,7 @@ fn visit_ranges<R: Ranges>(
             dependents,
             &index.dependencies,
             &index.summaries,
+            &index.starts,
             range,
             old,
             new,
@@ -234,6 +237,7 @@ pub(crate) fn renew(
         dependents,
         &index.dependencies,
         &index.summaries,
+        &index.starts,
         from,
         end,
         &now,
