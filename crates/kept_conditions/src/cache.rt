@@ -130,6 +130,7 @@ impl<'a> Kept<'a> {
 
     /// Evaluates the conditions anew, over the stores after a write of so many bytes, that depend on one of these bytes, and
     /// counts them. The policy is that of the package.
+    #[inline(always)]
     pub(crate) fn renew(
         &mut self,
         policy: Policy<'a, '_>,
@@ -339,6 +340,7 @@ impl<'a> KeptStores<'a> {
 
     /// Puts the new bytes of a field of a question of the package, unless an INCONSISTENT_IF of it holds over the stores with them,
     /// which then stay as they are. `old` are the bytes that the field has.
+    #[inline(always)]
     pub fn set(
         &mut self,
         policy: Policy<'a, '_>,

@@ -44,6 +44,7 @@ pub trait Ranges: Drop {
 
 // Visits the dependents with a dependency that overlaps the bytes from a number on up to before another, and counts the conditions
 // that it evaluates.
+#[inline(always)]
 fn visit_overlapping(
     dependents: &mut Dependents,
     dependencies: &[Dependency],
@@ -210,6 +211,7 @@ fn visit_ranges<R: Ranges>(
 
 /// Evaluates the conditions anew, over the stores after a write of so many bytes, that depend on one of these bytes, each once,
 /// and counts them.
+#[inline(always)]
 pub(crate) fn renew(
     dependents: &mut Dependents,
     index: &Index,
