@@ -218,6 +218,7 @@ impl<'a> Kept<'a> {
 impl<'a> Conditions for Kept<'a> {
     ghost holding = { λ kept place. held kept.values place };
 
+    #[inline(never)]
     fn holds(&self, place: u32) -> bool {
         let dependents = &self.dependents.list;
         match dependents.binary_search_by_key(&place, |dependent| dependent.place) {
