@@ -1,6 +1,6 @@
 -- The questions of a package among its nodes.
 use Rattle.std.proofs.Common.{◌≡◌, ℕ, Bool, true, false, eqb, cond, Some, None, List, [], ◌∷◌, map, refl, sym, ap, ◌∙◌, inl, inr}
-use Rattle.std.specs.Prelude.{◌&&◌, ◌==◌, option_map, filter}
+use Rattle.std.specs.Prelude.{◌&&◌, ◌==◌, Option, option_and_then, option_map, filter}
 use Rattle.std.specs.List.{find}
 use Rattle.std.proofs.lemmas.Bool.{cases_Bool, cond-false}
 use Rattle.ifr_opcodes.specs.Fields.{question_id}
@@ -9,7 +9,7 @@ use Rattle.ifr_opcodes.specs.Opcode.{number}
 use Rattle.ifr_opcodes.proofs.StatementLemmas.{question_is_statement as number_is_statement}
 use Rattle.ifr_nodes.specs.Nodes.{is_question, is_statement}
 use Rattle.hii_varstore.specs.Layout.{Shape}
-use Rattle.hii_questions.specs.Fields.{Asked, asked_at, question_with}
+use Rattle.hii_questions.specs.Fields.{Asked, asked, asked_at, field_of, question_with}
 use Rattle.hii_questions.specs.code.Tables.{first_with}
 
 -- what is found among those that pass a first test
@@ -52,3 +52,8 @@ question_is_statement n is = number_is_statement (number n.op) is
 
 pub among_statements : (ns : List Node) → filter is_question (filter is_statement ns) ≡ filter is_question ns
 among_statements ns = filter_twice is_statement is_question ns question_is_statement
+
+-- the field of a question, if there is one
+pub field_found : (ns : List Node) (o : Option Node) → option_and_then (λ (q : Asked). q.field) (option_map (asked ns) o) ≡ option_and_then (field_of ns) o
+field_found ns None = refl
+field_found ns (Some n) = refl

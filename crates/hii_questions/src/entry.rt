@@ -14,17 +14,20 @@ use crate::locate::field_in;
 use ifr_opcodes::QuestionOp;
 use ifr_scopes::Statement;
 
-/// Where a field lies, in less room than a `FieldRange` takes.
-#[derive(Clone, Copy)]
-pub(crate) struct FieldEntry {
-    pub(crate) store: u16,
-    pub(crate) offset: u16,
-    pub(crate) width: u32,
+/// Where a field lies, in less room than a `FieldRange` takes. Fields follow one another by store, offset and width.
+#[derive(Clone, Copy, PartialEq, Eq, PartialOrd, Ord)]
+pub struct FieldEntry {
+    /// The id of the store.
+    pub store: u16,
+    /// The offset of the field in the store, in bytes.
+    pub offset: u16,
+    /// How many bytes the field has.
+    pub width: u32,
 }
 
 impl FieldEntry {
     /// Where the field lies.
-    pub(crate) fn range(self) -> FieldRange
+    pub fn range(self) -> FieldRange
         ensures { result ≡ entry_range self }
     {
         FieldRange {

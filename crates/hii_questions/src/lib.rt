@@ -22,7 +22,7 @@ mod tables;
 mod value;
 
 pub use check::{is_outside, lacks_store, option_fault};
-pub use entry::QuestionEntry;
+pub use entry::{FieldEntry, QuestionEntry};
 pub use field::Field;
 pub use field_range::FieldRange;
 pub use hii_values::{

@@ -1,6 +1,6 @@
 //! All questions of a form set.
 
-ghost use Rattle.std.specs.Prelude.{◌≡◌, ◌≤◌, IfOk, IfErr, filter, length, option_map, vec_capacity};
+ghost use Rattle.std.specs.Prelude.{◌≡◌, ◌≤◌, IfOk, IfErr, IfSome, filter, length, option_and_then, option_map, vec_capacity};
 ghost use Rattle.std.specs.List.{find};
 ghost use Rattle.hii_bytes.specs.Faults.{HasNone, Refuses, out_of_memory};
 ghost use Rattle.ifr_nodes.specs.Nodes.{nodes_of};
@@ -9,8 +9,9 @@ ghost use Rattle.hii_varstore.specs.StoreNodes.{layout_of};
 ghost use Rattle.hii_varstore.specs.Stores.{shape_of};
 ghost use Rattle.hii_questions.specs.Answers.{answers};
 ghost use Rattle.hii_questions.specs.Faults.{IsQuestionFault};
-ghost use Rattle.hii_questions.specs.Fields.{questions, asked, question_with, has_field, is_password_in};
+ghost use Rattle.hii_questions.specs.Fields.{questions, asked, field_of, question_with, has_field, is_password_in};
 ghost use Rattle.hii_questions.specs.Changes.{holds_others};
+ghost use Rattle.hii_questions.specs.code.Entries.{IsQuestionEntry, entry_range, entry_view};
 ghost use Rattle.hii_questions.specs.code.Ids.{ids_of};
 ghost use Rattle.hii_questions.specs.code.Lists.{questions_left, with_field_left};
 ghost use Rattle.hii_questions.specs.code.LyingIn.{LieIn};
@@ -21,7 +22,7 @@ ghost use Rattle.hii_questions.specs.code.Views.{question_view};
 
 use crate::by_field::{questions_by_field, questions_with};
 use crate::differing::differs;
-use crate::entry::QuestionEntry;
+use crate::entry::{FieldEntry, QuestionEntry};
 use crate::field_range::FieldRange;
 use crate::merging::Step;
 use crate::over::Over;
@@ -119,11 +120,33 @@ impl<'a> Questions<'a> {
             ≡ option_map (asked (nodes_of self.now.ifr))
             (question_with (nodes_of self.now.ifr) id) }
     {
+        let entry = self.entry_of(id)?;
+        Some(Question::kept(self.ifr, entry))
+    }
+
+    /// Where the field of the question of an id lies, if there is this question and it has one.
+    pub fn field_of(&self, id: u16) -> Option<FieldEntry>
+        ensures { option_map range_in (option_map entry_range result)
+            ≡ option_and_then (field_of (nodes_of self.now.ifr))
+            (question_with (nodes_of self.now.ifr) id) }
+    {
+        let entry = self.entry_of(id)?;
+        entry.field
+    }
+
+    // What is kept of the question of an id.
+    #[inline(always)]
+    fn entry_of(&self, id: u16) -> Option<QuestionEntry>
+        ensures found { option_map (entry_view self.now.ifr) result
+            ≡ option_map (asked (nodes_of self.now.ifr))
+            (question_with (nodes_of self.now.ifr) id) }
+        ensures kept { IfSome result (λ entry. IsQuestionEntry self.now.ifr entry) }
+    {
         if id == 0 {
             return None;
         }
         let number = self.by_id.find(id)?;
-        Some(Question::kept(self.ifr, self.by_place[number as usize]))
+        Some(self.by_place[number as usize])
     }
 
     /// The question at a place, in bytes from the package's header.

@@ -31,6 +31,7 @@ use Rattle.ifr_scopes.proofs.FrameLemmas.{ids_of_names}
 use Rattle.ifr_scopes.proofs.RuleLookupLemmas.{named_node, named_none, named_some, named_before}
 use Rattle.ifr_nodes.proofs.RuleOrderLemmas.{rule_there}
 use Rattle.ifr_scopes.proofs.RulesOrderedLemmas.{are_ordered}
+use Rattle.hii_questions.specs.code.Entries.{entry_range}
 use Rattle.hii_questions.specs.code.Ranges.{range_in}
 use Rattle.kept_conditions.specs.code.Collection.{Adds, AreCollected, IsBefore, entry, IsRuleUse, finds, is_used, dependent_nodes, dependent_node, this_in, dependency_ids, is_touched, some_has_byte}
 use Rattle.kept_conditions.specs.code.Index.{AreSmall, HaveNumbers, is_dependency, depends_on}
@@ -75,13 +76,13 @@ adds_then ns number xs ys a b c first second = record {
 
 -- ---- a question
 
-module _ (ns : List Node) (number id : ℕ) (old new : Collected) (r : Dependency) (inside : number < length (dependent_nodes ns)) (is : field_with ns id ≡ Some (range_in r.range)) (mine : r.dependent ≡ number) (small : r.range.offset < 65536)
+module _ (ns : List Node) (number id : ℕ) (old new : Collected) (r : Dependency) (inside : number < length (dependent_nodes ns)) (is : field_with ns id ≡ Some (range_in (entry_range r.field))) (mine : r.dependent ≡ number) (small : r.field.offset < 65536)
     (list : new.list ≡ old.list) (dependencies : new.dependencies.items ≡ old.dependencies.items ++ r ∷ []) (rule_uses : new.rule_uses ≡ old.rule_uses) where
   depends_found : (bytes : ℕ → ℕ → Bool) (k : ℕ) → depends_on bytes new.dependencies.items k ≡ (depends_on bytes old.dependencies.items k || (number == k && some_has_byte ns bytes (id ∷ [])))
   depends_found bytes k =
       ap (λ rs. depends_on bytes rs k) dependencies ∙ list_any-append (is_dependency bytes k) old.dependencies.items (r ∷ [])
       ∙ ap (λ b. depends_on bytes old.dependencies.items k || b)
-      (or-false (is_dependency bytes k r) ∙ ap (λ n. n == k && has_byte bytes (Some (range_in r.range))) mine
+      (or-false (is_dependency bytes k r) ∙ ap (λ n. n == k && has_byte bytes (Some (range_in (entry_range r.field)))) mine
       ∙ ap (λ b. number == k && b) (ap (has_byte bytes) (sym is) ∙ sym (or-false (has_byte bytes (field_with ns id)))))
 
   pub adds_question : Adds ns number (id ∷ []) old new
@@ -89,7 +90,7 @@ module _ (ns : List Node) (number id : ℕ) (old new : Collected) (r : Dependenc
     list = list;
     sound = λ sound. record {
       numbers = subst (HaveNumbers (length (dependent_nodes ns))) (sym dependencies) (All-push (λ (x : Dependency). x.dependent < length (dependent_nodes ns)) old.dependencies.items r sound.numbers (subst (λ n. n < length (dependent_nodes ns)) (sym mine) inside));
-      small = subst AreSmall (sym dependencies) (All-push (λ (x : Dependency). x.range.offset < 65536) old.dependencies.items r sound.small small);
+      small = subst AreSmall (sym dependencies) (All-push (λ (x : Dependency). x.field.offset < 65536) old.dependencies.items r sound.small small);
       are_uses = subst (λ v. All (IsRuleUse ns) v.items) (sym rule_uses) sound.are_uses;
     };
     found = λ bytes k.
@@ -244,7 +245,7 @@ none_collected holding ns it list dependencies rule_uses = record {
   list = list;
   sound = record {
     numbers = subst (HaveNumbers (length (dependent_nodes ns))) (sym dependencies) (All-nil (λ (r : Dependency). r.dependent < length (dependent_nodes ns)));
-    small = subst AreSmall (sym dependencies) (All-nil (λ (r : Dependency). r.range.offset < 65536));
+    small = subst AreSmall (sym dependencies) (All-nil (λ (r : Dependency). r.field.offset < 65536));
     are_uses = subst (All (IsRuleUse ns)) (sym rule_uses) (All-nil (IsRuleUse ns));
   };
   found = λ bytes k. ap (λ rs. finds ns bytes rs it.rule_uses.items k) dependencies ∙ ap (λ ls. list_any (is_used (is_touched ns bytes) k) ls) rule_uses ∙ sym (ap (λ b. b && is_touched ns bytes k) (le-ltb k 0 (omega arith)));

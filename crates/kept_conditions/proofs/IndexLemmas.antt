@@ -85,7 +85,7 @@ module _ (bytes : List ℕ) (accepted : IsAccepted bytes) (holding : ℕ → Boo
     all = over.all;
     summed = over.summed;
     numbers = all_same (λ (r : Dependency). r.dependent < length (dependent_nodes ns)) collected.dependencies.items index.dependencies.items over.dependencies it.sound.numbers;
-    small = all_same (λ (r : Dependency). r.range.offset < 65536) collected.dependencies.items index.dependencies.items over.dependencies it.sound.small;
+    small = all_same (λ (r : Dependency). r.field.offset < 65536) collected.dependencies.items index.dependencies.items over.dependencies it.sound.small;
     by_rule = over.rise;
     are_uses = all_same (IsRuleUse ns) collected.rule_uses.items index.rule_uses.items over.rule_uses it.sound.are_uses;
     found = found;

@@ -4,6 +4,7 @@ use Rattle.std.proofs.lemmas.Bool.{cases_Bool, cases_lt, false≢true, and_from,
 use Rattle.std.specs.List.{list_any, AllWithin}
 use Rattle.std.proofs.lemmas.List.{drop_more, drop_all}
 use Rattle.hii_questions.specs.declared.field_range.FieldRange.{FieldRange}
+use Rattle.hii_questions.specs.code.Entries.{entry_range}
 use Rattle.hii_questions.specs.code.Numbers as numbers
 use Rattle.kept_conditions.specs.code.Index.{AreSmall, overlaps, hits, is_dependency, depends_on, first_of, behind_of, no_dependency, at_place, NoneOverlaps, AreSorted, is_hit}
 use Rattle.kept_conditions.specs.Touching.{has_one, range_of}
@@ -33,17 +34,17 @@ has_some bytes store width offset at from before e = elim (cases_Bool (has_one b
   | inr none ↦ absurd (false≢true (sym (none_has bytes store width offset at none from before) ∙ e))
 ]
 
-pub overlaps_range : (written : FieldRange) (r : Dependency) → written.offset < 65536 → r.range.offset < 65536
-    → overlaps (numbers.first_of written) (numbers.behind_of written) r ≡ has_one (range_of written.store written.offset written.width) r.range.store r.range.offset r.range.width
+pub overlaps_range : (written : FieldRange) (r : Dependency) → written.offset < 65536 → r.field.offset < 65536
+    → overlaps (numbers.first_of written) (numbers.behind_of written) r ≡ has_one (range_of written.store written.offset written.width) r.field.store r.field.offset r.field.width
 overlaps_range written r small small' =
     let store = written.store in
     let offset = written.offset in
     let width = written.width in
     let from = numbers.first_of written in
     let behind = numbers.behind_of written in
-    let from' = numbers.first_of r.range in
-    let behind' = numbers.behind_of r.range in
-    alike (overlaps from behind r) (has_one (range_of store offset width) r.range.store r.range.offset r.range.width)
+    let from' = numbers.first_of (entry_range r.field) in
+    let behind' = numbers.behind_of (entry_range r.field) in
+    alike (overlaps from behind r) (has_one (range_of store offset width) r.field.store r.field.offset r.field.width)
     (λ visited.
     let first = and_parts (nat_lt from behind) (nat_lt from' behind' && (nat_lt from' behind && nat_lt from behind')) visited in
     let second = and_parts (nat_lt from' behind') (nat_lt from' behind && nat_lt from behind') first.1 in
@@ -52,23 +53,23 @@ overlaps_range written r small small' =
     let some' : from' < behind' = ltb-true from' behind' second.0 in
     let left : from' < behind = ltb-true from' behind third.0 in
     let right : from < behind' = ltb-true from behind' third.1 in
-    let same : r.range.store ≡ store = omega (arith, small, small', left, right) in
-    elim (cases_lt offset r.range.offset) [
+    let same : r.field.store ≡ store = omega (arith, small, small', left, right) in
+    elim (cases_lt offset r.field.offset) [
       | inl before ↦
-          has_some (range_of store offset width) r.range.store r.range.width r.range.offset r.range.offset (omega arith) (omega (arith, some'))
-          (and_from (r.range.store == store) (nat_le offset r.range.offset && nat_lt r.range.offset (offset + width)) (eq-eqb r.range.store store same)
-          (and_from (nat_le offset r.range.offset) (nat_lt r.range.offset (offset + width)) (le-leb offset r.range.offset (omega (arith, before))) (lt-ltb r.range.offset (offset + width) (omega (arith, left, same)))))
+          has_some (range_of store offset width) r.field.store r.field.width r.field.offset r.field.offset (omega arith) (omega (arith, some'))
+          (and_from (r.field.store == store) (nat_le offset r.field.offset && nat_lt r.field.offset (offset + width)) (eq-eqb r.field.store store same)
+          (and_from (nat_le offset r.field.offset) (nat_lt r.field.offset (offset + width)) (le-leb offset r.field.offset (omega (arith, before))) (lt-ltb r.field.offset (offset + width) (omega (arith, left, same)))))
       | inr behind ↦
-          has_some (range_of store offset width) r.range.store r.range.width r.range.offset offset behind (omega (arith, right, same))
-          (and_from (r.range.store == store) (nat_le offset offset && nat_lt offset (offset + width)) (eq-eqb r.range.store store same)
+          has_some (range_of store offset width) r.field.store r.field.width r.field.offset offset behind (omega (arith, right, same))
+          (and_from (r.field.store == store) (nat_le offset offset && nat_lt offset (offset + width)) (eq-eqb r.field.store store same)
           (and_from (nat_le offset offset) (nat_lt offset (offset + width)) (le-leb offset offset (omega arith)) (lt-ltb offset (offset + width) (omega (arith, some)))))
     ])
     (λ has.
-    let found = some_has (range_of store offset width) r.range.store r.range.width r.range.offset has in
+    let found = some_has (range_of store offset width) r.field.store r.field.width r.field.offset has in
     let at = found.0 in
-    let first = and_parts (r.range.store == store) (nat_le offset at && nat_lt at (offset + width)) found.3 in
+    let first = and_parts (r.field.store == store) (nat_le offset at && nat_lt at (offset + width)) found.3 in
     let second = and_parts (nat_le offset at) (nat_lt at (offset + width)) first.1 in
-    let same : r.range.store ≡ store = eqb-true r.range.store store first.0 in
+    let same : r.field.store ≡ store = eqb-true r.field.store store first.0 in
     let low : offset ≤ at = leb-true offset at second.0 in
     let high : at < offset + width = ltb-true at (offset + width) second.1 in
     and_from (nat_lt from behind) (nat_lt from' behind' && (nat_lt from' behind && nat_lt from behind')) (lt-ltb from behind (omega (arith, low, high)))

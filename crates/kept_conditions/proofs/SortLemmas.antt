@@ -14,6 +14,7 @@ use Rattle.std.proofs.lemmas.List.Filters.{All-dedup, dedup_is}
 use Rattle.std.proofs.lemmas.List.Kept.{Contains-from_dedup}
 use Rattle.std.proofs.lemmas.List.Sorted.{Contains-permutation, IsPermutation-sym, IsNonDecreasingBy-from_all_adjacent, list_any-IsPermutation}
 use Rattle.hii_questions.specs.code.ByField.{range_cmp}
+use Rattle.hii_questions.specs.code.Entries.{entry_range}
 use Rattle.kept_conditions.specs.code.Index.{HasSame, RulesRise, first_of, AreSmall, AreSorted}
 use Rattle.kept_conditions.specs.declared.index.RuleUse.{RuleUse}
 use Rattle.kept_conditions.specs.declared.index.Dependency.{Dependency}
@@ -86,7 +87,7 @@ all_same P olds news same all k d less = All-contains P olds (get_or news k d) a
 -- ---- dependencies
 
 abbrev pub dependency_cmp : Dependency → Dependency → Ordering
-dependency_cmp a b = ordering_then (range_cmp a.range b.range) (nat_cmp a.dependent b.dependent)
+dependency_cmp a b = ordering_then (range_cmp (entry_range a.field) (entry_range b.field)) (nat_cmp a.dependent b.dependent)
 
 less_first : (a b : ℕ) (o : Ordering) → a < b → is_lt (ordering_then (nat_cmp a b) o) ≡ true
 less_first a b o less = ap (λ r. is_lt (ordering_then r o)) (sym (nat_cmp_is a b Less less))
@@ -99,15 +100,15 @@ less_then Less o e = refl
 less_then Equal o e = absurd (false≢true e)
 less_then Greater o e = absurd (false≢true e)
 
-not_below : (y x : Dependency) → y.range.offset < 65536 → x.range.offset < 65536 → is_lt (dependency_cmp y x) ≡ false → first_of x ≤ first_of y
-not_below y x small small' e = elim (cases_lt y.range.store x.range.store) [
-  | inl less ↦ absurd (false≢true (sym e ∙ less_then (range_cmp y.range x.range) (nat_cmp y.dependent x.dependent) (less_first y.range.store x.range.store _ less)))
-  | inr from ↦ elim (cases_eq y.range.store x.range.store) [
-    | inl same ↦ elim (cases_lt y.range.offset x.range.offset) [
-      | inl less ↦ absurd (false≢true (sym e ∙ less_then (range_cmp y.range x.range) (nat_cmp y.dependent x.dependent) (less_second y.range.store x.range.store _ same (less_first y.range.offset x.range.offset _ less))))
+not_below : (y x : Dependency) → y.field.offset < 65536 → x.field.offset < 65536 → is_lt (dependency_cmp y x) ≡ false → first_of x ≤ first_of y
+not_below y x small small' e = elim (cases_lt y.field.store x.field.store) [
+  | inl less ↦ absurd (false≢true (sym e ∙ less_then (range_cmp (entry_range y.field) (entry_range x.field)) (nat_cmp y.dependent x.dependent) (less_first y.field.store x.field.store _ less)))
+  | inr from ↦ elim (cases_eq y.field.store x.field.store) [
+    | inl same ↦ elim (cases_lt y.field.offset x.field.offset) [
+      | inl less ↦ absurd (false≢true (sym e ∙ less_then (range_cmp (entry_range y.field) (entry_range x.field)) (nat_cmp y.dependent x.dependent) (less_second y.field.store x.field.store _ same (less_first y.field.offset x.field.offset _ less))))
       | inr up ↦ omega (arith, same, up)
     ]
-    | inr other ↦ let more : x.range.store < y.range.store = grind (arith) in omega (arith, more, small')
+    | inr other ↦ let more : x.field.store < y.field.store = grind (arith) in omega (arith, more, small')
   ]
 ]
 
@@ -115,17 +116,17 @@ pub dependencies_rise : (rs : List Dependency) → AreSmall rs → IsSorted depe
 dependencies_rise rs small sorted = IsNonDecreasingBy-from_all_adjacent first_of rs (λ k d less. not_below (get_or rs (k + 1) d) (get_or rs k d) (small (k + 1) d less) (small k d (omega (arith, less))) (sorted k d (omega arith) less))
 
 abbrev pub dependency_eq : Dependency → Dependency → Bool
-dependency_eq a b = (a.range.store == b.range.store && (a.range.offset == b.range.offset && a.range.width == b.range.width)) && a.dependent == b.dependent
+dependency_eq a b = (a.field.store == b.field.store && (a.field.offset == b.field.offset && a.field.width == b.field.width)) && a.dependent == b.dependent
 
 pub same_dependency : (x y : Dependency) → dependency_eq x y ≡ true → x ≡ y
 same_dependency x y e =
-    let whole = and_parts (x.range.store == y.range.store && (x.range.offset == y.range.offset && x.range.width == y.range.width)) (x.dependent == y.dependent) e in
-    let first = and_parts (x.range.store == y.range.store) (x.range.offset == y.range.offset && x.range.width == y.range.width) whole.0 in
-    let second = and_parts (x.range.offset == y.range.offset) (x.range.width == y.range.width) first.1 in
-    ap (λ (n : ℕ). record { range = record { store = n; offset = x.range.offset; width = x.range.width }; dependent = x.dependent }) (eqb-true x.range.store y.range.store first.0)
-    ∙ ap (λ (n : ℕ). record { range = record { store = y.range.store; offset = n; width = x.range.width }; dependent = x.dependent }) (eqb-true x.range.offset y.range.offset second.0)
-    ∙ ap (λ (n : ℕ). record { range = record { store = y.range.store; offset = y.range.offset; width = n }; dependent = x.dependent }) (eqb-true x.range.width y.range.width second.1)
-    ∙ ap (λ (n : ℕ). record { range = y.range; dependent = n }) (eqb-true x.dependent y.dependent whole.1)
+    let whole = and_parts (x.field.store == y.field.store && (x.field.offset == y.field.offset && x.field.width == y.field.width)) (x.dependent == y.dependent) e in
+    let first = and_parts (x.field.store == y.field.store) (x.field.offset == y.field.offset && x.field.width == y.field.width) whole.0 in
+    let second = and_parts (x.field.offset == y.field.offset) (x.field.width == y.field.width) first.1 in
+    ap (λ (n : ℕ). record { field = record { store = n; offset = x.field.offset; width = x.field.width }; dependent = x.dependent }) (eqb-true x.field.store y.field.store first.0)
+    ∙ ap (λ (n : ℕ). record { field = record { store = y.field.store; offset = n; width = x.field.width }; dependent = x.dependent }) (eqb-true x.field.offset y.field.offset second.0)
+    ∙ ap (λ (n : ℕ). record { field = record { store = y.field.store; offset = y.field.offset; width = n }; dependent = x.dependent }) (eqb-true x.field.width y.field.width second.1)
+    ∙ ap (λ (n : ℕ). record { field = y.field; dependent = n }) (eqb-true x.dependent y.dependent whole.1)
 
 -- ---- rule uses
 

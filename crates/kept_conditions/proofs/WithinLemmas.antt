@@ -8,7 +8,9 @@ use Rattle.std.proofs.lemmas.List.Folds.{list_any_none}
 use Rattle.ifr_opcodes.specs.Forest.{Node}
 use Rattle.hii_varstore.specs.Stores.{StoreMap, shape_of, bytes_of, byte_of}
 use Rattle.hii_questions.specs.Fields.{Field}
+use Rattle.hii_questions.specs.code.Entries.{entry_range}
 use Rattle.hii_questions.specs.code.Numbers.{first_of, behind_of}
+use Rattle.hii_questions.specs.declared.entry.FieldEntry.{FieldEntry}
 use Rattle.hii_questions.specs.declared.field_range.FieldRange.{FieldRange}
 use Rattle.kept_conditions.specs.code.Invalidation.{common, other_at, other_bytes, LiesWithin, AreAlike, in_range}
 use Rattle.kept_conditions.specs.code.Index.{AreSmall, NoneOverlaps, at_place, is_dependency, overlaps, no_dependency, depends_on}
@@ -97,9 +99,9 @@ module _ (bytes some others : ℕ → ℕ → Bool) (is : (store at : ℕ) → b
   pub split_depends_on : (rs : List Dependency) (k : ℕ) → depends_on bytes rs k ≡ (depends_on some rs k || depends_on others rs k)
   split_depends_on [] k = refl
   split_depends_on (r ∷ rs) k =
-      ap (λ b. (r.dependent == k && b) || depends_on bytes rs k) (split_one r.range.store r.range.width r.range.offset)
-      ∙ ap (λ b. (r.dependent == k && (has_one some r.range.store r.range.offset r.range.width || has_one others r.range.store r.range.offset r.range.width)) || b) (split_depends_on rs k)
-      ∙ turned (r.dependent == k) (has_one some r.range.store r.range.offset r.range.width) (has_one others r.range.store r.range.offset r.range.width) (depends_on some rs k) (depends_on others rs k)
+      ap (λ b. (r.dependent == k && b) || depends_on bytes rs k) (split_one r.field.store r.field.width r.field.offset)
+      ∙ ap (λ b. (r.dependent == k && (has_one some r.field.store r.field.offset r.field.width || has_one others r.field.store r.field.offset r.field.width)) || b) (split_depends_on rs k)
+      ∙ turned (r.dependent == k) (has_one some r.field.store r.field.offset r.field.width) (has_one others r.field.store r.field.offset r.field.width) (depends_on some rs k) (depends_on others rs k)
     where
       turned : (n a b x y : Bool) → ((n && (a || b)) || (x || y)) ≡ (((n && a) || x) || ((n && b) || y))
       turned false a b x y = refl
@@ -112,7 +114,7 @@ module _ (bytes some others : ℕ → ℕ → Bool) (is : (store at : ℕ) → b
 pub depends_on_nothing : (bytes : ℕ → ℕ → Bool) → ((store at : ℕ) → bytes store at ≡ false) → (rs : List Dependency) (k : ℕ) → depends_on bytes rs k ≡ false
 depends_on_nothing bytes none [] k = refl
 depends_on_nothing bytes none (r ∷ rs) k =
-    ap (λ b. (r.dependent == k && b) || depends_on bytes rs k) (none_one bytes r.range.store r.range.width r.range.offset (λ at from before. none r.range.store at))
+    ap (λ b. (r.dependent == k && b) || depends_on bytes rs k) (none_one bytes r.field.store r.field.width r.field.offset (λ at from before. none r.field.store at))
     ∙ ap (λ b. b || depends_on bytes rs k) (and_right (r.dependent == k) false refl) ∙ depends_on_nothing bytes none rs k
 
 -- ---- bytes that are the same
@@ -140,18 +142,23 @@ none_renewed ns m =
     list_any_none (λ id. has_byte (difference m m) (field_with ns id)) (condition_ids ns c) (λ k d less. untouched_field (difference m m) (field_with ns (get_or (condition_ids ns c) k d)) none))
 
 -- a dependency that has no byte of a range has none that is among others, too
-pub apart_dependency : (bytes : ℕ → ℕ → Bool) (range : FieldRange) (r : Dependency) (k : ℕ) → range.offset < 65536 → r.range.offset < 65536 → overlaps (first_of range) (behind_of range) r ≡ false → is_dependency (common bytes (in_range range)) k r ≡ false
+pub apart_dependency : (bytes : ℕ → ℕ → Bool) (range : FieldRange) (r : Dependency) (k : ℕ) → range.offset < 65536 → r.field.offset < 65536 → overlaps (first_of range) (behind_of range) r ≡ false → is_dependency (common bytes (in_range range)) k r ≡ false
 apart_dependency bytes range r k small small' none =
-    let away : has_one (in_range range) r.range.store r.range.offset r.range.width ≡ false = sym (overlaps_range range r small small') ∙ none in
-    and_right (r.dependent == k) (has_one (common bytes (in_range range)) r.range.store r.range.offset r.range.width)
-    (none_one (common bytes (in_range range)) r.range.store r.range.width r.range.offset (λ at from before.
-    and_right (bytes r.range.store at) (in_range range r.range.store at) (none_has (in_range range) r.range.store r.range.width r.range.offset at away from before)))
+    let away : has_one (in_range range) r.field.store r.field.offset r.field.width ≡ false = sym (overlaps_range range r small small') ∙ none in
+    and_right (r.dependent == k) (has_one (common bytes (in_range range)) r.field.store r.field.offset r.field.width)
+    (none_one (common bytes (in_range range)) r.field.store r.field.width r.field.offset (λ at from before.
+    and_right (bytes r.field.store at) (in_range range r.field.store at) (none_has (in_range range) r.field.store r.field.width r.field.offset at away from before)))
+
+-- what is told of where a field lies
+pub range_told : (bytes : ℕ → ℕ → Bool) (told : Bool) (range : FieldRange) (f : FieldEntry) → told ≡ has_one bytes range.store range.offset range.width → range ≡ entry_range f
+    → told ≡ has_one bytes f.store f.offset f.width
+range_told bytes told range f is lies = is ∙ ap (λ (r : FieldRange). has_one bytes r.store r.offset r.width) lies
 
 -- whether a dependency is that of a dependent, by whether it has one of the bytes
-pub other_dependency : (bytes : ℕ → ℕ → Bool) (r : Dependency) (k : ℕ) → has_one bytes r.range.store r.range.offset r.range.width ≡ false → is_dependency bytes k r ≡ false
-other_dependency bytes r k none = and_right (r.dependent == k) (has_one bytes r.range.store r.range.offset r.range.width) none
+pub other_dependency : (bytes : ℕ → ℕ → Bool) (r : Dependency) (k : ℕ) → has_one bytes r.field.store r.field.offset r.field.width ≡ false → is_dependency bytes k r ≡ false
+other_dependency bytes r k none = and_right (r.dependent == k) (has_one bytes r.field.store r.field.offset r.field.width) none
 
-pub its_dependency : (bytes : ℕ → ℕ → Bool) (r : Dependency) (k : ℕ) → has_one bytes r.range.store r.range.offset r.range.width ≡ true → is_dependency bytes k r ≡ (r.dependent == k)
+pub its_dependency : (bytes : ℕ → ℕ → Bool) (r : Dependency) (k : ℕ) → has_one bytes r.field.store r.field.offset r.field.width ≡ true → is_dependency bytes k r ≡ (r.dependent == k)
 its_dependency bytes r k has = ap (λ b. r.dependent == k && b) has ∙ and-true (r.dependent == k)
 
 -- ---- dependencies, from the last one on, of which those are told that overlap a range
@@ -176,10 +183,10 @@ module _ (bytes : ℕ → ℕ → Bool) (range : FieldRange) (rs : List Dependen
         ap (λ l. depends_on (common bytes (in_range range)) l k) (drop_more rs at no_dependency (omega (arith, less, within)))
         ∙ ap (λ b. is_dependency (common bytes (in_range range)) k (at_place rs at) || b) (depends_skip (at + 1) before k (omega (arith, less)) within none)
 
-    pub depends_past : has_one (common bytes (in_range range)) (at_place rs at).range.store (at_place rs at).range.offset (at_place rs at).range.width ≡ false
+    pub depends_past : has_one (common bytes (in_range range)) (at_place rs at).field.store (at_place rs at).field.offset (at_place rs at).field.width ≡ false
         → depends_on (common bytes (in_range range)) (drop at rs) k ≡ depends_on (common bytes (in_range range)) (drop before rs) k
     depends_past away = depends_next ∙ ap (λ b. b || depends_on (common bytes (in_range range)) (drop before rs) k) (other_dependency (common bytes (in_range range)) (at_place rs at) k away)
 
-    pub depends_more : has_one (common bytes (in_range range)) (at_place rs at).range.store (at_place rs at).range.offset (at_place rs at).range.width ≡ true
+    pub depends_more : has_one (common bytes (in_range range)) (at_place rs at).field.store (at_place rs at).field.offset (at_place rs at).field.width ≡ true
         → depends_on (common bytes (in_range range)) (drop at rs) k ≡ ((at_place rs at).dependent == k || depends_on (common bytes (in_range range)) (drop before rs) k)
     depends_more has = depends_next ∙ ap (λ b. b || depends_on (common bytes (in_range range)) (drop before rs) k) (its_dependency (common bytes (in_range range)) (at_place rs at) k has)

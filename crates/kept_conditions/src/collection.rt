@@ -13,6 +13,7 @@ ghost use Rattle.ifr_nodes.specs.Nodes.{nodes_of, is_no_submit, end_of};
 ghost use Rattle.ifr_nodes.specs.Rules.{is_rule, rules_among};
 ghost use Rattle.ifr_scopes.specs.code.Lists.{rules_left};
 ghost use Rattle.ifr_scopes.specs.code.Frames.{ids_by};
+ghost use Rattle.hii_questions.specs.code.Entries.{entry_range};
 ghost use Rattle.hii_questions.specs.code.Ranges.{range_in};
 ghost use Rattle.guard_policy.specs.code.RuleValues.{AreRuleValues};
 ghost use Rattle.guard_policy.specs.code.Views.{bytes_of, world};
@@ -23,7 +24,7 @@ ghost use Rattle.kept_conditions.specs.code.Collection.{dependent_nodes, IsExpre
 use crate::dependents::Dependent;
 use crate::index::{Dependency, RuleUse};
 use guard_policy::{Evaluated, Policy};
-use hii_questions::{FieldRange, Questions};
+use hii_questions::{FieldEntry, Questions};
 use hii_varstore::Stores;
 use ifr_expr::{Expr, Name, RuleReference, RuleValues};
 use ifr_opcodes::{GRAY_OUT_IF, SUPPRESS_IF};
@@ -46,11 +47,11 @@ impl<'p, 's, 'a> Source<'p, 's, 'a> {
     ghost use Rattle.std.specs.Prelude.{Contains};
 
     // The field of the question of an id, if there is one.
-    fn field_with(self, id: u16) -> Option<FieldRange>
-        ensures { option_map range_in result ≡ field_with_id (nodes_of self.entry.forms.now) id }
+    fn field_with(self, id: u16) -> Option<FieldEntry>
+        ensures { option_map range_in (option_map entry_range result)
+            ≡ field_with_id (nodes_of self.entry.forms.now) id }
     {
-        let question = self.questions.find(id)?;
-        question.field()
+        self.questions.field_of(id)
     }
 
     // The place of the dependent of a number.
@@ -226,13 +227,13 @@ pub(crate) struct Collected {
 
 impl Collected {
     // Adds that a dependent depends on a field: that of the question of an id that it names.
-    fn add_dependency(&mut self, number: u32, range: FieldRange) -> Result<(), AllocError>
+    fn add_dependency(&mut self, number: u32, field: FieldEntry) -> Result<(), AllocError>
         ensures { OnOk result ((ns : List Node) (id : ℕ) → number < length (dependent_nodes ns)
-            → field_with_id ns id ≡ Some (range_in range)
+            → field_with_id ns id ≡ Some (range_in (entry_range field))
             → Adds ns number (id ∷ []) self.old self.new) }
     {
         self.dependencies.push(Dependency {
-            range,
+            field,
             dependent: number,
         })?;
         Ok(())
@@ -249,8 +250,8 @@ impl Collected {
         ensures { OnOk result (Adds (nodes_of source.entry.forms.now) number (id ∷ [])
             self.old self.new) }
     {
-        if let Some(range) = source.field_with(id) {
-            self.add_dependency(number, range)?;
+        if let Some(field) = source.field_with(id) {
+            self.add_dependency(number, field)?;
         }
         Ok(())
     }

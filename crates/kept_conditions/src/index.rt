@@ -7,33 +7,41 @@
 
 ghost use Rattle.std.specs.Prelude.{nat_lt, true, false, ◌≡◌, ◌==◌, filter, ◌<◌, ◌≤◌, ◌+◌, length, IfOk, Some, None};
 ghost use Rattle.std.specs.List.{AllWithin};
+ghost use Rattle.hii_questions.specs.code.Entries.{entry_range};
 ghost use Rattle.kept_conditions.specs.code.Index.{first_of, behind_of, overlaps, RulesRise, AllEndBy, IsSummary, AreSummaries, IsLastOverlapping, HasSame, AreSmall, AreSorted};
 
-use hii_questions::FieldRange;
+use hii_questions::{FieldEntry, FieldRange};
 use std::alloc::{AllocError, Global};
 
 /// Bytes on which a dependent depends: those of the field of a question that it names. Dependencies follow one another by field and
 /// dependent.
 #[derive(Clone, Copy, PartialEq, Eq, PartialOrd, Ord)]
 pub(crate) struct Dependency {
-    pub(crate) range: FieldRange,
+    pub(crate) field: FieldEntry,
     /// The number of the dependent.
     pub(crate) dependent: u32,
 }
 
 impl Dependency {
+    /// Where the bytes lie.
+    pub(crate) fn range(self) -> FieldRange
+        ensures { result ≡ entry_range self.field }
+    {
+        self.field.range()
+    }
+
     /// The number of the first byte.
     pub(crate) fn first(self) -> u64
         ensures { result ≡ first_of self }
     {
-        self.range.first()
+        self.range().first()
     }
 
     /// The number behind the last.
     pub(crate) fn behind(self) -> u64
         ensures { result ≡ behind_of self }
     {
-        self.range.behind()
+        self.range().behind()
     }
 
     /// Whether one of these bytes is among those from a number on up to before another.

@@ -102,7 +102,7 @@ fn visit_differing(
     let mut differences = Differences::between(old, new);
     let mut count = 0;
     for dependency in dependencies {
-        if !differences.are_in(dependency.range) {
+        if !differences.are_in(dependency.range()) {
             continue;
         }
         if dependents.visit(dependency.dependent, now, rules) {
@@ -148,7 +148,7 @@ fn visit_range(
     while let Some(at) = last_overlapping(dependencies, summaries, from, end, before) {
         before = at;
         let dependency = dependencies[at];
-        if !differ(old, new, dependency.range, range) {
+        if !differ(old, new, dependency.range(), range) {
             continue;
         }
         if dependents.visit(dependency.dependent, now, rules) {

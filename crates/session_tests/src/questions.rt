@@ -41,6 +41,8 @@ fn questions_are_found(rt: &impl Abort, questions: &Questions<'_>) {
     assert!(rt; first.field().expect(rt, "a field").width == 1);
     assert!(rt; questions.at(162).map(Question::id) == Some(5));
     assert!(rt; questions.with_field(range(2, 1)).next().map(Question::id) == Some(5));
+    let field = questions.field_of(5).expect(rt, "a field");
+    assert!(rt; field.range() == range(2, 1));
     let password = questions.password_in(range(5, 1)).expect(rt, "a password");
     assert!(rt; password.id() == 9 && password.is_password());
 }

@@ -2,6 +2,7 @@
 use Rattle.std.specs.Prelude.{◌≡◌, ℕ, ◌+◌, ◌<◌, ◌≤◌, ◌==◌, ◌&&◌, nat_lt, Bool, true, false, All, Option, Some, None, List, length, slice_index_or, Contains}
 use Rattle.std.specs.List.{list_any}
 use Rattle.std.specs.List.Sorted.{IsNonDecreasingBy}
+use Rattle.hii_questions.specs.code.Entries.{entry_range}
 use Rattle.hii_questions.specs.code.Numbers as numbers
 use Rattle.kept_conditions.specs.Touching.{has_one}
 use Rattle.kept_conditions.specs.declared.index.Dependency.{Dependency}
@@ -10,10 +11,10 @@ use Rattle.kept_conditions.specs.declared.index.RuleUse.{RuleUse}
 
 -- the number of its first byte, and the one behind the last
 abbrev pub first_of : Dependency → ℕ
-first_of r = numbers.first_of r.range
+first_of r = numbers.first_of (entry_range r.field)
 
 abbrev pub behind_of : Dependency → ℕ
-behind_of r = numbers.behind_of r.range
+behind_of r = numbers.behind_of (entry_range r.field)
 
 -- a byte of the dependency is among those from a number on up to before another
 abbrev pub overlaps : ℕ → ℕ → Dependency → Bool
@@ -24,7 +25,7 @@ overlaps from end r =
 
 -- a dependency of nothing, and the dependency at a place
 abbrev pub no_dependency : Dependency
-no_dependency = record { range = record { store = 0; offset = 0; width = 0 }; dependent = 0 }
+no_dependency = record { field = record { store = 0; offset = 0; width = 0 }; dependent = 0 }
 
 abbrev pub at_place : List Dependency → ℕ → Dependency
 at_place rs k = slice_index_or rs k no_dependency
@@ -66,7 +67,7 @@ HaveNumbers count rs = All (λ (r : Dependency). r.dependent < count) rs
 
 -- Offsets have two bytes.
 abbrev pub AreSmall : List Dependency → Type 0
-AreSmall rs = All (λ (r : Dependency). r.range.offset < 65536) rs
+AreSmall rs = All (λ (r : Dependency). r.field.offset < 65536) rs
 
 -- ---- which dependents
 
@@ -79,7 +80,7 @@ hits from end rs k = list_any (is_hit from end k) rs
 
 -- the dependent of a number depends on one of some bytes
 abbrev pub is_dependency : (ℕ → ℕ → Bool) → ℕ → Dependency → Bool
-is_dependency bytes k r = r.dependent == k && has_one bytes r.range.store r.range.offset r.range.width
+is_dependency bytes k r = r.dependent == k && has_one bytes r.field.store r.field.offset r.field.width
 
 abbrev pub depends_on : (ℕ → ℕ → Bool) → List Dependency → ℕ → Bool
 depends_on bytes rs k = list_any (is_dependency bytes k) rs

@@ -10,5 +10,5 @@ returns-clause-same c = has_same dependency_eq same_dependency _ _ _ c.sort_unst
 
 pub returns-clause-sorted : goal.returns-clause-sorted
 returns-clause-sorted c =
-    let small = All-permutation (λ (r : Dependency). r.range.offset < 65536) _ _ c.sort_unstable.ensures.permutation c.requires in
+    let small = All-permutation (λ (r : Dependency). r.field.offset < 65536) _ _ c.sort_unstable.ensures.permutation c.requires in
     rises_still dependency_eq first_of _ _ c.dedup.ensures.filtered (dependencies_rise _ small c.sort_unstable.ensures.sorted)

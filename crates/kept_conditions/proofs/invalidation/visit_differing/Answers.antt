@@ -3,7 +3,7 @@ use Rattle.kept_conditions.specs.Touching.{difference, has_one}
 use Rattle.kept_conditions.specs.code.Index.{at_place, no_dependency, is_dependency, depends_on}
 use Rattle.kept_conditions.proofs.VisitsSomeLemmas.{any_more, none_visited, one_more, same_ones}
 use Rattle.kept_conditions.proofs.FilterLemmas.{one}
-use Rattle.kept_conditions.proofs.WithinLemmas.{its_dependency, other_dependency}
+use Rattle.kept_conditions.proofs.WithinLemmas.{its_dependency, other_dependency, range_told}
 use Rattle.kept_conditions.proofs.invalidation.visit_differing.Goals.{After-are_in, then-visit, else-visit}
 use Rattle.kept_conditions.proofs.invalidation.visit_differing.Goals as goal
 
@@ -16,8 +16,11 @@ loop-dependency-init c = record {
 }
 
 -- whether the dependency has a byte in which the stores differ
-asked : (c : After-are_in) → let r = (at_place c.args.dependencies.now c.loop-dependency.dependency-index).range in c.are_in.result ≡ has_one (difference c.args.old.now c.args.new.now) r.store r.offset r.width
-asked c = rw (c.loop-dependency.invariant.one, c.loop-dependency.invariant.other) at c.are_in.ensures.differ
+asked : (c : After-are_in) → let r = (at_place c.args.dependencies.now c.loop-dependency.dependency-index).field in c.are_in.result ≡ has_one (difference c.args.old.now c.args.new.now) r.store r.offset r.width
+asked c =
+    let told = rw (c.loop-dependency.invariant.one, c.loop-dependency.invariant.other) at c.are_in.ensures.differ in
+    let field = (at_place c.args.dependencies.now c.loop-dependency.dependency-index).field in
+    range_told (difference c.args.old.now c.args.new.now) c.are_in.result c.range.result field told c.range.ensures
 
 pub loop-dependency-preserved-then-not-are_in : goal.loop-dependency-preserved-then-not-are_in
 loop-dependency-preserved-then-not-are_in c =

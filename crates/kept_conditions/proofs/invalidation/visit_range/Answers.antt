@@ -5,10 +5,10 @@ use Rattle.guard_policy.specs.code.Worlds.{is_met_at}
 use Rattle.kept_conditions.specs.Touching.{difference}
 use Rattle.kept_conditions.specs.code.Invalidation.{common, in_range}
 use Rattle.kept_conditions.specs.code.Dependents.{was_visited}
-use Rattle.kept_conditions.specs.code.Index.{no_dependency, depends_on}
+use Rattle.kept_conditions.specs.code.Index.{at_place, no_dependency, depends_on}
 use Rattle.kept_conditions.proofs.VisitsSomeLemmas.{AreVisited, none_visited, one_more, same_ones}
 use Rattle.kept_conditions.proofs.FilterLemmas.{one}
-use Rattle.kept_conditions.proofs.WithinLemmas.{depends_behind, depends_more, depends_past, depends_skip}
+use Rattle.kept_conditions.proofs.WithinLemmas.{depends_behind, depends_more, depends_past, depends_skip, range_told}
 use Rattle.kept_conditions.proofs.invalidation.visit_range.Goals.{After-visit}
 use Rattle.kept_conditions.proofs.invalidation.visit_range.Goals as goal
 
@@ -25,11 +25,12 @@ pub loop-at-preserved-then-not-differ : goal.loop-at-preserved-then-not-differ
 loop-at-preserved-then-not-differ c =
     let so_far = c.loop-at.invariant in
     let last = c.in-Some.ensures in
+    let asked = range_told (common (difference c.args.old.now c.args.new.now) (in_range c.args.range)) c.differ.result c.range.result (at_place c.args.dependencies.now c.in-Some.at).field c.differ.ensures c.range.ensures in
     record {
       within = omega (arith, last.0, so_far.within);
       visited = same_ones so_far.visited (λ k less.
           depends_past (difference c.args.old.now c.args.new.now) c.args.range c.args.dependencies.now c.first-from.result c.behind-end.result c.first-from.ensures.number c.behind-end.ensures c.first-from.ensures.small c.requires.small
-          c.in-Some.at c.loop-at.before k last.0 so_far.within last.2 (sym c.differ.ensures ∙ c.if-not-differ.true));
+          c.in-Some.at c.loop-at.before k last.0 so_far.within last.2 (sym asked ∙ c.if-not-differ.true));
       kept = so_far.kept;
     }
 
@@ -42,11 +43,12 @@ visited : (c : After-visit) (total : ℕ) → total ≡ c.loop-at.count + one c.
 visited c total sum =
     let so_far = c.loop-at.invariant in
     let last = c.in-Some.ensures in
+    let asked = range_told (common (difference c.args.old.now c.args.new.now) (in_range c.args.range)) c.differ.result c.range.result (at_place c.args.dependencies.now c.in-Some.at).field c.differ.ensures c.range.ensures in
     record {
       within = omega (arith, last.0, so_far.within);
       visited = one_more so_far.visited (c.requires.numbers c.in-Some.at no_dependency (omega (arith, last.0, so_far.within))) c.visit.ensures.visits sum (λ k less.
           depends_more (difference c.args.old.now c.args.new.now) c.args.range c.args.dependencies.now c.first-from.result c.behind-end.result c.first-from.ensures.number c.behind-end.ensures c.first-from.ensures.small c.requires.small
-          c.in-Some.at c.loop-at.before k last.0 so_far.within last.2 (sym c.differ.ensures ∙ c.if-not-differ.false));
+          c.in-Some.at c.loop-at.before k last.0 so_far.within last.2 (sym asked ∙ c.if-not-differ.false));
       kept = c.visit.ensures.kept;
     }
 
