@@ -146,6 +146,9 @@ fn options_open<'a, 's>(
         ≡ unless (first_closed (world policy.entry working.now.stores) (question_node question.entry)
         (new_items field.entry)) }
 {
+    if !field.names_options() {
+        return Ok(());
+    }
     let values = field.items();
     match values {
         Items::List(_) | Items::Stored(_) if field.width > NARROW => {

@@ -24,6 +24,7 @@ pub struct Field<'i> {
 }
 
 impl<'i> Field<'i> {
+    ghost use Rattle.std.specs.Prelude.{false, []};
     ghost use Rattle.hii_values.specs.code.ItemsLeft.{items_left};
     ghost use Rattle.hii_questions.specs.code.NewBytes.{new_bytes, new_items};
 
@@ -37,6 +38,16 @@ impl<'i> Field<'i> {
     {
         let bytes = stores.field_mut(self.store, usize::from(self.offset), self.width);
         self.content.write(bytes);
+    }
+
+    /// Whether the question names the values of options once it has the new bytes, where these are any. A checkbox and a text name
+    /// none.
+    #[inline(always)]
+    pub fn names_options(self) -> bool
+        ensures names { result ≡ self.entry.names }
+        ensures none { result ≡ false → new_items self.entry ≡ [] }
+    {
+        self.names
     }
 
     /// The values of options that the question names once it has the new bytes: its number, or the elements of its list. A
