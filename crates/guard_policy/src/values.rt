@@ -81,6 +81,7 @@ impl<'a, 's> Policy<'a, 's> {
     }
 
     // The first of some conditions that holds, by values of rules over these stores.
+    #[inline(never)]
     fn first_holding_by(
         &self,
         mut conditions: ConditionsOf<'_, 'a>,
@@ -120,6 +121,7 @@ impl<'a, 's> Policy<'a, 's> {
     /// Whether the value of a question of the package is consistent, by values of rules over these stores. Those that it asks for
     /// are kept there.
     #[tactic(auto, using(ifr_opcodes::proofs::StatementLemmas::inconsistent_is))]
+    #[inline(always)]
     pub fn consistent_by(
         &self,
         question: Question<'a>,
@@ -135,6 +137,9 @@ impl<'a, 's> Policy<'a, 's> {
         let inconsistents = self
             .forms
             .conditions_of(question.statement(), INCONSISTENT_IF);
+        if inconsistents.is_done() {
+            return Ok(());
+        }
         match self.first_holding_by(inconsistents, stores, rules) {
             Some(condition) => Err(Denial::telling(DenialKind::InconsistentIf, condition)),
             None => Ok(()),
