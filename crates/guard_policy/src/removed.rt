@@ -86,8 +86,20 @@ impl Removed {
         Ok(Removed { places })
     }
 
-    /// Whether the DISABLE_IF at a place is one of them.
+    /// Whether the DISABLE_IF at a place is one of them. Mostly there are none.
+    #[inline(always)]
     pub(crate) fn has(&self, place: u32) -> bool
+        ensures { result ≡ is_among place self.now }
+    {
+        if self.places.is_empty() {
+            return false;
+        }
+        self.has_among(place)
+    }
+
+    // The same, found in a search.
+    #[inline(never)]
+    fn has_among(&self, place: u32) -> bool
         ensures { result ≡ is_among place self.now }
     {
         self.places.as_slice().binary_search(&place).is_ok()

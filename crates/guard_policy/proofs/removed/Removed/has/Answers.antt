@@ -1,11 +1,11 @@
-use Rattle.std.proofs.Common.{ap, subst, ◌∙◌, List, ℕ}
-use Rattle.std.specs.List.Sorted.{IsBinarySearchResult}
-use Rattle.std.specs.Ordering.{nat_cmp}
+use Rattle.std.proofs.Common.{◌≡◌, length, sym, ap, ◌∙◌}
+use Rattle.std.proofs.lemmas.Bool.{eqb-true}
+use Rattle.std.proofs.lemmas.List.{nil_from_length}
 use Rattle.ifr_opcodes.specs.Rows.{is_among}
-use Rattle.guard_policy.proofs.RemovedLemmas.{is_there}
 use Rattle.guard_policy.proofs.removed.Removed.has.Goals as goal
 
-pub returns : goal.returns
-returns c =
-    let found = subst (λ (xs : List ℕ). IsBinarySearchResult (λ y. nat_cmp y c.args.place) xs c.binary_search.result) c.as_slice.ensures c.binary_search.ensures.position in
-    c.is_ok.ensures.value ∙ is_there c.self.inside.places.items c.args.place c.binary_search.result c.self.invariant found ∙ ap (is_among c.args.place) c.self.view_is
+pub returns-then-is_empty : goal.returns-then-is_empty
+returns-then-is_empty c =
+    let places = c.self.inside.places.items in
+    let none : length places ≡ 0 = eqb-true (length places) 0 (sym c.is_empty.ensures ∙ c.if-is_empty.true) in
+    ap (is_among c.args.place) (sym (nil_from_length places none) ∙ c.self.view_is)
