@@ -31,7 +31,11 @@ impl<'a> Browser<'a> {
         ensures reply { result ≡ (step self.old.state (command_meant command.entry)).reply }
     {
         self.count_anew();
-        self.obey(command, out)
+        match command {
+            // What scripts say most takes no further call.
+            Command::Set { question, value } => self.set(question, Input::Number(value), out),
+            other => self.obey(other, out),
+        }
     }
 
     /// Carries the line that is held out and writes its text as far as the writer takes it; or writes why it is refused.
