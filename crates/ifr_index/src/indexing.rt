@@ -257,6 +257,7 @@ pub fn index_of(alloc: Global, ifr: &[u8]) -> Result<Index, AllocError>
         add_lock(&mut locks, &nodes, &met)?;
     }
     lock_entries(ifr, &locks, &mut entries);
+    guards.shrink_to_fit();
     Ok(Index {
         entries,
         guards,

@@ -58,7 +58,7 @@ returns c =
     let all = made_all ns _ _ _ _ _ _ (get nat_cmp c.loop-met.locks) _ (left c.loop-met.nodes.walk) c.loop-met.invariant.made c.in_default.ensures.none.0 in
     record {
       entries = c.lock_entries.ensures;
-      guards = all.guards_are;
+      guards = c.shrink_to_fit.ensures.items ∙ all.guards_are;
       conditions = all.conditions_are;
       forms = λ id. c.in_ok-of.ensures id ∙ ap (λ (l : List IdEntry). number_with l id) all.forms_are ∙ place_with ns id;
       stores = all.stores_are;
