@@ -1,4 +1,4 @@
--- The digits at the front of a text, and the command that sets a question, read by them.
+-- The digits at the front of a text, and the commands that set a question and that ask why, read by them.
 use Rattle.std.proofs.Common.{◌≡◌, ◌==◌, ◌&&◌, ℕ, ℤ, pos, suc, ◌+◌, ◌-◌, ◌^◌, ◌<◌, ◌≤◌, Bool, true, false, List, [], ◌∷◌, ◌++◌, length, take, drop, get_or, Option, Some, None, codes, nat_lt, nat_le, if◌then◌else◌, option_map, refl, sym, ap, subst, ◌∙◌, arith, inl, inr, ltb, leb, append-nil, get_or-take}
 use Rattle.std.specs.Char.{digit_value, is_ascii_digit}
 use Rattle.std.specs.Int.{IsInRange}
@@ -13,10 +13,10 @@ use Rattle.std.proofs.lemmas.Slice.Eq.{bytes_eq-Decides}
 use Rattle.std.proofs.lemmas.Str.{digit_value_digit}
 use Rattle.std.proofs.lemmas.Str.Parse.{digit_at, digit_from_value}
 use Rattle.std.proofs.Math.Nat.{pow-le-pow_right}
-use Rattle.browser_rules.specs.Script.{Command, Set}
+use Rattle.browser_rules.specs.Script.{Command, Set, Why}
 use Rattle.hii_bytes.specs.Digits.{IsNumber}
 use Rattle.hii_bytes.proofs.DigitLemmas.{number_below-from, number_below-none}
-use Rattle.hii_commands.specs.code.Reading.{begins_with, command_in, cut_word, digit_count, front_digits_in, front_question_in, question_command, question_in, set_in, spaced_in, value_in, words_in}
+use Rattle.hii_commands.specs.code.Reading.{begins_with, command_in, cut_word, digit_count, front_digits_in, front_question_in, question_command, question_in, set_in, spaced_in, value_in, why_in, words_in}
 use Rattle.hii_commands.specs.laws.Lines.{Lacks}
 use Rattle.hii_commands.proofs.WordLemmas.{Lacks-digits, begins, cut_word-alone, cut_word-spaced, cut_word-together, together}
 
@@ -262,3 +262,36 @@ other_word text word rest other cut = elim (cases_Bool (bytes_eq word (codes "se
 pub spaced_text : (text word rest : List ℕ) → begins_with text (codes "set ") ≡ false → cut_word text ≡ (word, Some rest) → spaced_in word rest ≡ command_in text
 spaced_text text word rest other cut =
     sym (cond-false (bytes_eq word (codes "set")) (set_in (cut_word rest)) (spaced_in word rest) (other_word text word rest other cut)) ∙ ap words_in (sym cut)
+
+-- the command of `why` over the id and what stands behind it
+abbrev pub why_behind : Option (ℕ × List ℕ) → Option Command
+why_behind None = None
+why_behind (Some (question, [])) = Some (Why question)
+why_behind (Some (question, b ∷ rest)) = None
+
+why_alone : (question : Option ℕ) → option_map Why question ≡ why_behind (with_rest [] question)
+why_alone None = refl
+why_alone (Some q) = refl
+
+why_followed : (question : Option ℕ) (b : ℕ) (rest : List ℕ) → why_behind (with_rest (b ∷ rest) question) ≡ None
+why_followed None b rest = refl
+why_followed (Some q) b rest = refl
+
+why_parts : (front rest : List ℕ) → ((b : ℕ) (behind : List ℕ) → rest ≡ b ∷ behind → is_ascii_digit b ≡ false)
+    → why_in (front ++ rest) ≡ why_behind (with_rest rest (question_in front))
+why_parts front [] ends = ap why_in (append-nil front) ∙ why_alone (question_in front)
+why_parts front (b ∷ behind) ends =
+    ap (option_map Why) (no_question front b behind (ends b behind refl)) ∙ sym (why_followed (question_in front) b behind)
+
+pub why_by_front : (text : List ℕ) → why_in text ≡ why_behind (front_question_in text)
+why_by_front text =
+    let n = digit_count text in
+    ap why_in (sym (take-append-drop n text)) ∙ why_parts (take n text) (drop n text) (ends_digits text)
+
+pub why_more : (text rest : List ℕ) (question : ℕ) → with_rest rest (Some question) ≡ front_question_in text → 0 < length rest → None ≡ why_in text
+why_more text [] question e some = absurd (omega (arith, some))
+why_more text (b ∷ rest) question e some = ap why_behind e ∙ sym (why_by_front text)
+
+-- a text that begins with `why` and a space
+pub why_text : (text rest : List ℕ) → begins_with text (codes "why ") ≡ true → rest ≡ drop 4 text → why_in rest ≡ command_in text
+why_text text rest begun is = ap why_in is ∙ sym (ap command_in (begins text (codes "why ") begun))

@@ -109,9 +109,12 @@ fn command_in(text: &[u8]) -> Option<Command<'_>>
     ensures command { option_map command_meant result ≡ command_in text.now }
     ensures list { IfSome result HasList }
 {
-    // What a script says most.
+    // What scripts say most.
     if let Some(rest) = text.strip_prefix(b"set ") {
         return set_command(rest);
+    }
+    if let Some(rest) = text.strip_prefix(b"why ") {
+        return why_command(rest);
     }
     match split_word(text) {
         (word, None) => plain_command(word),
@@ -289,8 +292,12 @@ fn why_command(rest: &[u8]) -> Option<Command<'_>>
     ensures command { option_map command_meant result ≡ why_in rest.now }
     ensures list { IfSome result HasList }
 {
-    let question = question_of(rest)?;
-    Some(Command::Why(question))
+    let (question, behind) = front_question(rest)?;
+    if behind.is_empty() {
+        Some(Command::Why(question))
+    } else {
+        None
+    }
 }
 
 fn go_command(rest: &[u8]) -> Option<Command<'_>>
