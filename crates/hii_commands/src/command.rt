@@ -288,6 +288,7 @@ fn numbered_command<'a>(word: &[u8], rest: &'a [u8]) -> Option<Command<'a>>
     }
 }
 
+#[inline(always)]
 fn why_command(rest: &[u8]) -> Option<Command<'_>>
     ensures command { option_map command_meant result ≡ why_in rest.now }
     ensures list { IfSome result HasList }
