@@ -34,6 +34,7 @@ impl<'a> Browser<'a> {
         match command {
             // What scripts say most takes no further call.
             Command::Set { question, value } => self.set(question, Input::Number(value), out),
+            Command::Why(question) => self.answer(self.why(question), out),
             other => self.obey(other, out),
         }
     }
