@@ -52,6 +52,7 @@ impl<'a> Browser<'a> {
     }
 
     // Whether a question of the session may be changed.
+    #[inline(always)]
     pub(crate) fn question_changeable(&self, question: Question<'a>) -> Result<(), Denial>
         requires { IsQuestionIn self.now.state.ifr (question_view question) }
         ensures denied { result
