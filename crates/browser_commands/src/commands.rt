@@ -13,7 +13,7 @@ ghost use Rattle.session_steps.specs.Step.{step, step_line, denied};
 ghost use Rattle.browser_commands.specs.code.Standing.{answered};
 
 use crate::browser::Browser;
-use crate::texts::{put_denial, put_refusal};
+use crate::texts::{put_denial, put_done, put_refusal};
 use guard_policy::Denial;
 use hii_bytes::{Cause, Watched};
 use hii_commands::{Command, LineBuffer, is_blank, read_line};
@@ -112,7 +112,7 @@ impl<'a> Browser<'a> {
             Command::Why(question) => self.answer(self.why(question), out),
             Command::Lang(language) => {
                 self.choose_language(language);
-                out.put(b"OK\n");
+                put_done(out);
                 Reply::Accepted
             }
             Command::Submit => self.submit(out),
@@ -139,7 +139,7 @@ impl<'a> Browser<'a> {
     {
         match done {
             Ok(()) => {
-                out.put(b"OK\n");
+                put_done(out);
                 Reply::Accepted
             }
             Err(denial) => self.deny(denial, out),

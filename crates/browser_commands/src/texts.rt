@@ -11,7 +11,7 @@ ghost use Rattle.guard_policy.specs.Policy.{warned};
 ghost use Rattle.guard_policy.specs.Warned.{warning_of};
 ghost use Rattle.guard_policy.specs.code.Views.{bytes_of, world};
 ghost use Rattle.guard_policy.specs.code.WarningsLeft.{warnings_among};
-ghost use Rattle.session_steps.specs.Texts.{count_text, changed_text, message_text, denied_text, warning_text, warning_line, refused_text, refused_at_text};
+ghost use Rattle.session_steps.specs.Texts.{ok_text, count_text, changed_text, message_text, denied_text, warning_text, warning_line, refused_text, refused_at_text};
 
 use arrayvec::ArrayVec;
 use form_page::put_shown;
@@ -23,6 +23,20 @@ use ifr_scopes::ConditionsOf;
 use itoa::Buffer;
 use kept_conditions::KeptStores;
 use std::io::Write;
+
+const DONE: &[u8] = b"OK\n";
+
+/// Writes that a command was carried out.
+#[inline(always)]
+pub(crate) fn put_done<W: Write>(out: &mut Watched<W>)
+    ensures { Puts W.contents out.old out.new ok_text }
+{
+    if let Ok(taken) = out.write(DONE) {
+        if 0 < taken && taken < DONE.len() {
+            out.put(&DONE[taken..]);
+        }
+    }
+}
 
 /// Writes `OK n`.
 pub(crate) fn put_count<W: Write>(n: u64, out: &mut Watched<W>)

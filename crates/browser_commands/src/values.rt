@@ -20,7 +20,7 @@ ghost use Rattle.session_steps.specs.Opening.{layout_in, IsBrowsable};
 
 use crate::browser::Browser;
 use crate::change::give_value;
-use crate::texts::put_warnings;
+use crate::texts::{put_done, put_warnings};
 use guard_policy::{Denial, Policy};
 use hii_bytes::Watched;
 use hii_questions::{DenialKind, Input, Question};
@@ -131,7 +131,7 @@ impl<'a> Browser<'a> {
         self.submission = None;
         let policy = Policy::new(&self.forms, &self.questions, &self.removed);
         let field = give_value(policy, question, input, &mut self.working, &self.spare)?;
-        out.put(b"OK\n");
+        put_done(out);
         put_warnings(
             policy,
             question,

@@ -135,7 +135,7 @@ pub returns-in-Lang-clause-state : goal.returns-in-Lang-clause-state
 returns-in-Lang-clause-state g c = meant_state c.args.self.now.state _ _ _ c.in-Lang.is c.choose_language.ensures.state
 
 pub returns-in-Lang-clause-text : goal.returns-in-Lang-clause-text
-returns-in-Lang-clause-text g c = meant_text c.args.self.now.state _ _ c.in-Lang.is c.put.ensures
+returns-in-Lang-clause-text g c = meant_text c.args.self.now.state _ _ c.in-Lang.is c.put_done.ensures
 
 pub returns-in-Lang-clause-reply : goal.returns-in-Lang-clause-reply
 returns-in-Lang-clause-reply g c = meant_reply c.args.self.now.state _ _ _ c.in-Lang.is refl
@@ -159,7 +159,7 @@ pub returns-in-Discard-clause-state : goal.returns-in-Discard-clause-state
 returns-in-Discard-clause-state g c = meant_state c.args.self.now.state _ _ _ c.in-Discard.is c.discard.ensures.state
 
 pub returns-in-Discard-clause-text : goal.returns-in-Discard-clause-text
-returns-in-Discard-clause-text g c = meant_text c.args.self.now.state _ _ c.in-Discard.is c.put-in-Discard.ensures
+returns-in-Discard-clause-text g c = meant_text c.args.self.now.state _ _ c.in-Discard.is c.put.ensures
 
 pub returns-in-Discard-clause-reply : goal.returns-in-Discard-clause-reply
 returns-in-Discard-clause-reply g c = meant_reply c.args.self.now.state _ _ _ c.in-Discard.is refl

@@ -51,8 +51,8 @@ put_warnings-requires-clause-node g c =
     let its = over c.new-policy.result c.self.inside c.args.self.now.state (seen c.self.view_is) c.new-policy.ensures.forms c.new-policy.ensures.removed in
     subst (λ (ifr : List ℕ). IsNodeOf ifr (question_node c.args.question)) (sym its.ifr) c.requires.question.node
 
-pub put-requires-2 : goal.put-requires-2
-put-requires-2 g c =
+pub put-requires : goal.put-requires
+put-requires g c =
     let field = c.in_ok-field.field in
     subst (λ (sh : Shape). HasRange sh field.store field.offset field.width) (ap shape_of (sym c.self.invariant.same)) c.in_ok-field.ensures.4
 
@@ -68,10 +68,10 @@ returns-clause-text g c =
     let its = over c.new-policy.result c.self.inside c.args.self.now.state (seen c.self.view_is) c.new-policy.ensures.forms c.new-policy.ensures.removed in
     let made = changes c.new-policy.result c.self.inside c.args.self.now (question_view c.args.question) (offer_of c.args.input) c.give_value.new.working c.in_ok-field.field c.self.view_is c.self.invariant.kept c.requires.question its c.in_ok-field.ensures in
     let told = rw (c.new-policy.ensures.forms, c.new-policy.ensures.removed) at c.put_warnings.ensures.text in
-    subst (λ (o : Outcome). Writes (pen_of g.W.Write.contents c.args.out.now) (pen_of g.W.Write.contents c.put_warnings.new.out) o.text) (sym made.0) (c.put.ensures ⨾ told)
+    subst (λ (o : Outcome). Writes (pen_of g.W.Write.contents c.args.out.now) (pen_of g.W.Write.contents c.put_warnings.new.out) o.text) (sym made.0) (c.put_done.ensures ⨾ told)
 
 pub invariant_of-self : goal.invariant_of-self
 invariant_of-self g c = stands_still c.self.inside c.give_value.new.working true None c.self.invariant (ap (λ (m : KeptMap). m.ifr) c.in_err-field.ensures.0) (ap (λ (m : KeptMap). m.stores) c.in_err-field.ensures.0) (λ e. absurd cc) (λ answer e. absurd cc)
 
 pub invariant_of-self-2 : goal.invariant_of-self-2
-invariant_of-self-2 g c = stands_set c.self.inside c.put_warnings.new.stores c.put-2.new.stores c.in_ok-field.field c.self.invariant (c.put_warnings.ensures.same ∙ c.in_ok-field.ensures.0) c.put-2.ensures.written c.put-2.ensures.shape
+invariant_of-self-2 g c = stands_set c.self.inside c.put_warnings.new.stores c.put.new.stores c.in_ok-field.field c.self.invariant (c.put_warnings.ensures.same ∙ c.in_ok-field.ensures.0) c.put.ensures.written c.put.ensures.shape
