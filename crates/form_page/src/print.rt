@@ -15,6 +15,7 @@ use guard_policy::Conditions;
 use hii_bytes::{Watched, WriteFault};
 use std::io::Write;
 
+#[inline(never)]
 fn put_rows<C: Conditions, W: Write>(rows: Rows<'_, '_, C>, out: &mut Watched<W>)
     ensures { Puts W.contents out.old out.new (flat_map pages.row_text (rows_left rows.entry)) }
 {
