@@ -1,5 +1,5 @@
 -- Numbers in columns, digit by digit.
-use Rattle.std.proofs.Common.{◌≡◌, ◌≢◌, ℕ, zero, suc, ◌+◌, ◌-◌, ◌/◌, ◌%◌, ◌^◌, ◌<◌, ◌==◌, if◌then◌else◌, decimal, replicate, List, [], ◌∷◌, ◌++◌, length, refl, sym, ap, ◌∙◌, inl, inr, append_assoc, append-nil, length-append, arith}
+use Rattle.std.proofs.Common.{◌≡◌, ◌≢◌, ℕ, zero, suc, ◌+◌, ◌-◌, ◌/◌, ◌%◌, ◌^◌, ◌≤◌, ◌<◌, ◌==◌, if◌then◌else◌, decimal, replicate, List, [], ◌∷◌, ◌++◌, length, refl, sym, ap, ◌∙◌, inl, inr, append_assoc, append-nil, length-append, arith}
 use Rattle.std.proofs.lemmas.Bool.{cond-true, cond-false, cases_eq, cases_lt, eq-eqb, ne_eqb}
 use Rattle.std.proofs.lemmas.Fmt.{decimal_digit, decimal_step}
 use Rattle.hii_bytes.specs.Texts.{right_aligned}
@@ -72,6 +72,13 @@ in_three n small =
     ∙ ap (λ (l : List ℕ). l ++ (48 + n % 10) ∷ []) (column 1 (n / 10) (omega (arith, small))
     ∙ ap (λ (l : List ℕ). l ++ last_digit (n / 10) ∷ []) (column 0 (n / 10 / 10) (omega (arith, small))
     ∙ ap (λ (l : List ℕ). l ++ last_digit (n / 10 / 10) ∷ []) (before (n / 10 / 10 / 10) none)))
+
+pub in_four : (n : ℕ) → 1000 ≤ n → n < 10000 → decimal n ≡ (48 + n / 10 / 10 / 10) ∷ (48 + n / 10 / 10 % 10) ∷ (48 + n / 10 % 10) ∷ (48 + n % 10) ∷ []
+in_four n least most =
+    decimal_step n (omega (arith, least)) (omega (arith, most))
+    ∙ ap (λ (l : List ℕ). l ++ (48 + n % 10) ∷ []) (decimal_step (n / 10) (omega (arith, least)) (omega (arith, most))
+    ∙ ap (λ (l : List ℕ). l ++ (48 + n / 10 % 10) ∷ []) (decimal_step (n / 10 / 10) (omega (arith, least)) (omega (arith, most))
+    ∙ ap (λ (l : List ℕ). l ++ (48 + n / 10 / 10 % 10) ∷ []) (decimal_digit (n / 10 / 10 / 10) (omega (arith, most)))))
 
 pub in_five : (n : ℕ) → n < 2 ^ 16
     → right_aligned 5 (decimal n) ≡ last_digit (n / 10 / 10 / 10 / 10) ∷ last_digit (n / 10 / 10 / 10) ∷ last_digit (n / 10 / 10) ∷ last_digit (n / 10) ∷ (48 + n % 10) ∷ []

@@ -37,6 +37,14 @@ infixl 10 ◌▹◌
 pub ◌▹◌ : {a b c : Pen} {l m n : Line} {s t : List ℕ} → Adds a l b m s → Adds b m c n t → Adds a l c n (s ++ t)
 ◌▹◌ {a} {b} {c} {l} {m} {n} {s} {t} p q = λ start text g. subst (Gathers start c n) (append_assoc text s t) (q start (text ++ s) (p start text g))
 
+-- five pieces behind others, which are added together
+pub five_more : {a b c : Pen} {l m n : Line} {s : List ℕ} (p q r t u : List ℕ) → Adds a l b m s → Adds b m c n (p ++ q ++ r ++ t ++ u) → Adds a l c n (s ++ p ++ q ++ r ++ t ++ u)
+five_more {a} {b} {c} {l} {m} {n} {s} p q r t u first more =
+    let parts : s ++ (p ++ q ++ r ++ t ++ u) ≡ s ++ p ++ q ++ r ++ t ++ u =
+    sym (append_assoc s (p ++ q ++ r ++ t) u) ∙ ap (λ (l : List ℕ). l ++ u) (sym (append_assoc s (p ++ q ++ r) t)
+    ∙ ap (λ (l : List ℕ). l ++ t) (sym (append_assoc s (p ++ q) r) ∙ ap (λ (l : List ℕ). l ++ r) (sym (append_assoc s p q)))) in
+    λ start text g. subst (λ (l : List ℕ). Gathers start c n (text ++ l)) parts ((first ▹ more) start text g)
+
 -- a whole line, which is written at its end
 pub whole_line : (a b c : Pen) (line full : Line) (text : List ℕ) → line.held.items ≡ [] → Adds a line b full text → Writes b c full.held.items → Writes a c text
 whole_line a b c line full text none added told =

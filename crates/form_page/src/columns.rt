@@ -1,6 +1,6 @@
 //! Numbers in columns.
 
-ghost use Rattle.std.specs.Prelude.{◌≡◌, ◌<◌, decimal};
+ghost use Rattle.std.specs.Prelude.{◌≡◌, ◌≤◌, ◌<◌, decimal};
 ghost use Rattle.hii_bytes.specs.Texts.{right_aligned};
 ghost use Rattle.form_page.specs.code.Columns as columns;
 
@@ -23,6 +23,22 @@ pub(crate) fn three_columns(n: u32) -> [u8; 3]
     [
         last_digit(tens / 10),
         last_digit(tens),
+        b'0' + (n % 10) as u8,
+    ]
+}
+
+/// A number of four digits.
+pub(crate) fn four_columns(n: u32) -> [u8; 4]
+    requires least { 1000 ≤ n }
+    requires most { n < 10000 }
+    ensures { result ≡ decimal n }
+{
+    let tens = n / 10;
+    let hundreds = tens / 10;
+    [
+        b'0' + (hundreds / 10) as u8,
+        b'0' + (hundreds % 10) as u8,
+        b'0' + (tens % 10) as u8,
         b'0' + (n % 10) as u8,
     ]
 }

@@ -1,6 +1,6 @@
 //! Rows of a page.
 
-ghost use Rattle.std.specs.Prelude.{decimal};
+ghost use Rattle.std.specs.Prelude.{◌≡◌, ◌∷◌, ◌++◌, [], codes, decimal};
 ghost use Rattle.hii_bytes.specs.Texts.{right_aligned};
 ghost use Rattle.hii_bytes.specs.Watching.{pen_of, Puts};
 ghost use Rattle.form_page.specs.Texts.{utf8};
@@ -9,7 +9,7 @@ ghost use Rattle.form_page.specs.code.Lines.{Adds};
 ghost use Rattle.form_page.specs.code.RowViews.{value_text};
 ghost use Rattle.form_page.specs.code.Views.{row_seen};
 
-use crate::columns::{five_columns, three_columns};
+use crate::columns::{five_columns, four_columns, three_columns};
 use crate::line::Line;
 use crate::row_value::RowValue;
 use crate::shown::put_in_columns;
@@ -50,19 +50,30 @@ fn put_number<W: Write>(number: u32, line: &mut Line, out: &mut Watched<W>)
 {
     if number < 1000 {
         line.put(&three_columns(number), out);
-        return;
+    } else if number < 10_000 {
+        line.put(&four_columns(number), out);
+    } else {
+        line.put_decimal_right(3, u64::from(number), out);
     }
-    line.put_decimal_right(3, u64::from(number), out);
 }
 
-fn put_id<W: Write>(question: Option<u16>, line: &mut Line, out: &mut Watched<W>)
-    ensures { Adds (pen_of W.contents out.old) line.old (pen_of W.contents out.new) line.new
-        (id_text question) }
+// The id of a question in five columns, or a hyphen for none.
+fn id_columns(question: Option<u16>) -> [u8; 5]
+    ensures { result ≡ id_text question }
 {
     match question {
-        Some(id) => line.put(&five_columns(id), out),
-        None => line.put(b"    -", out),
+        Some(id) => five_columns(id),
+        None => *b"    -",
     }
+}
+
+// Adds a mark and the id of a question, each between spaces.
+fn put_mark_and_id<W: Write>(mark: u8, question: Option<u16>, line: &mut Line, out: &mut Watched<W>)
+    ensures { Adds (pen_of W.contents out.old) line.old (pen_of W.contents out.new) line.new
+        (codes " " ++ (mark ∷ []) ++ codes " " ++ id_text question ++ codes " ") }
+{
+    let [a, b, c, d, e] = id_columns(question);
+    line.put(&[b' ', mark, b' ', a, b, c, d, e, b' '], out);
 }
 
 /// Writes a row.
@@ -71,11 +82,7 @@ pub(crate) fn put_row<C: Conditions, W: Write>(row: &Row<'_, '_, C>, out: &mut W
 {
     let mut line = Line::new();
     put_number(row.number, &mut line, out);
-    line.put_byte(b' ', out);
-    line.put_byte(row.mark, out);
-    line.put_byte(b' ', out);
-    put_id(row.question, &mut line, out);
-    line.put_byte(b' ', out);
+    put_mark_and_id(row.mark, row.question, &mut line, out);
     put_in_columns(row.prompt, &mut line, out);
     line.put(b" [", out);
     put_value(&row.value, &mut line, out);
