@@ -54,6 +54,31 @@ whole_line a b c line full text none added told =
 pub nothing_added : (pen : Pen) (line : Line) → Adds pen line pen line []
 nothing_added pen line = λ start before g. subst (Gathers start pen line) (sym (append-nil before)) g
 
+-- ---- row by row
+
+-- what was gathered of a text so far, and what is left
+pub record GathersFront (start now : Pen) (line : Line) (text left : List ℕ) : Type 0 where
+  pub front : List ℕ
+  pub parts : text ≡ front ++ left
+  pub gathered : Gathers start now line front
+
+pub none_gathered : (pen : Pen) (line : Line) (text : List ℕ) → line.held.items ≡ [] → GathersFront pen pen line text text
+none_gathered pen line text none = record { front = []; parts = refl; gathered = record { front = []; parts = sym none; written = writes_nil pen } }
+
+pub one_gathered : (start old now : Pen) (line longer : Line) (text left front later : List ℕ) → left ≡ front ++ later → GathersFront start old line text left → Adds old line now longer front
+    → GathersFront start now longer text later
+one_gathered start old now line longer text left front later e so_far more = record {
+  front = so_far.front ++ front;
+  parts = so_far.parts ∙ ap (λ (l : List ℕ). so_far.front ++ l) e ∙ sym (append_assoc so_far.front front later);
+  gathered = more start so_far.front so_far.gathered;
+}
+
+-- nothing is left, and what is held is written
+pub all_gathered : (start old now : Pen) (line : Line) (text left : List ℕ) → left ≡ [] → GathersFront start old line text left → Writes old now line.held.items → Writes start now text
+all_gathered start old now line text left none so_far told =
+    let whole = so_far.parts ∙ ap (λ (l : List ℕ). so_far.front ++ l) none ∙ append-nil so_far.front ∙ so_far.gathered.parts in
+    subst (Writes start now) (sym whole) (writes_trans so_far.gathered.written told)
+
 -- ---- character by character
 
 -- what was added of a text so far, and what is left

@@ -17,7 +17,7 @@ const SPACES: [u8; 24] = [b' '; 24];
 /// Bytes of a line that are not written yet: they are gathered, so that they are written together.
 #[derive(Drop)]
 pub(crate) struct Line {
-    pub(crate) held: ArrayVec<u8, 128>,
+    pub(crate) held: ArrayVec<u8, 512>,
 }
 
 impl Line {

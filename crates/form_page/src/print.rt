@@ -7,6 +7,7 @@ ghost use Rattle.form_page.specs.code.PageViews.{texts_of, world_of};
 ghost use Rattle.form_page.specs.Pages as pages;
 ghost use Rattle.form_page.specs.code.Views.{rows_left};
 
+use crate::line::Line;
 use crate::page::Page;
 use crate::row::put_row;
 use crate::rows::Rows;
@@ -20,9 +21,11 @@ fn put_rows<C: Conditions, W: Write>(rows: Rows<'_, '_, C>, out: &mut Watched<W>
     ensures { Puts W.contents out.old out.new (flat_map pages.row_text (rows_left rows.entry)) }
 {
     let mut rows = rows;
+    let mut line = Line::new();
     while let Some(row) = rows.next() {
-        put_row(&row, out);
+        put_row(&row, &mut line, out);
     }
+    line.end(out);
 }
 
 impl<'a, 's, C: Conditions> Page<'a, 's, C> {

@@ -76,16 +76,19 @@ fn put_mark_and_id<W: Write>(mark: u8, question: Option<u16>, line: &mut Line, o
     line.put(&[b' ', mark, b' ', a, b, c, d, e, b' '], out);
 }
 
-/// Writes a row.
-pub(crate) fn put_row<C: Conditions, W: Write>(row: &Row<'_, '_, C>, out: &mut Watched<W>)
-    ensures { Puts W.contents out.old out.new (row_text (row_seen row.now)) }
+/// Adds a row.
+pub(crate) fn put_row<C: Conditions, W: Write>(
+    row: &Row<'_, '_, C>,
+    line: &mut Line,
+    out: &mut Watched<W>,
+)
+    ensures { Adds (pen_of W.contents out.old) line.old (pen_of W.contents out.new) line.new
+        (row_text (row_seen row.now)) }
 {
-    let mut line = Line::new();
-    put_number(row.number, &mut line, out);
-    put_mark_and_id(row.mark, row.question, &mut line, out);
-    put_in_columns(row.prompt, &mut line, out);
+    put_number(row.number, line, out);
+    put_mark_and_id(row.mark, row.question, line, out);
+    put_in_columns(row.prompt, line, out);
     line.put(b" [", out);
-    put_value(&row.value, &mut line, out);
+    put_value(&row.value, line, out);
     line.put(b"]\n", out);
-    line.end(out);
 }
