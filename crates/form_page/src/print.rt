@@ -9,9 +9,9 @@ ghost use Rattle.form_page.specs.code.Views.{rows_left};
 
 use crate::line::Line;
 use crate::page::Page;
-use crate::row::put_row;
 use crate::rows::Rows;
 use crate::shown::put_shown;
+use crate::statement_row::put_row_of;
 use guard_policy::Conditions;
 use hii_bytes::{Watched, WriteFault};
 use std::io::Write;
@@ -22,8 +22,13 @@ fn put_rows<C: Conditions, W: Write>(rows: Rows<'_, '_, C>, out: &mut Watched<W>
 {
     let mut rows = rows;
     let mut line = Line::new();
-    while let Some(row) = rows.next() {
-        put_row(&row, &mut line, out);
+    let page = rows.listed.page;
+    while let Some(statement) = rows.listed.take_first() {
+        let number = rows.number;
+        let listed = &mut rows.listed;
+        if put_row_of(page, number, statement, &mut listed.last, &mut line, out) {
+            rows.number += 1;
+        }
     }
     line.end(out);
 }

@@ -3,11 +3,11 @@
 ghost use Rattle.std.specs.Prelude.{◌≡◌, ◌∷◌, ◌++◌, [], codes, decimal};
 ghost use Rattle.hii_bytes.specs.Texts.{right_aligned};
 ghost use Rattle.hii_bytes.specs.Watching.{pen_of, Puts};
-ghost use Rattle.form_page.specs.Texts.{utf8};
-ghost use Rattle.form_page.specs.Pages.{id_text, row_text};
+ghost use Rattle.hii_languages.specs.code.Views.{text_of};
+ghost use Rattle.form_page.specs.Texts.{in_columns, utf8};
+ghost use Rattle.form_page.specs.Pages.{id_text};
 ghost use Rattle.form_page.specs.code.Lines.{Adds};
 ghost use Rattle.form_page.specs.code.RowViews.{value_text};
-ghost use Rattle.form_page.specs.code.Views.{row_seen};
 
 use crate::columns::{five_columns, four_columns, three_columns};
 use crate::line::Line;
@@ -76,19 +76,20 @@ fn put_mark_and_id<W: Write>(mark: u8, question: Option<u16>, line: &mut Line, o
     line.put(&[b' ', mark, b' ', a, b, c, d, e, b' '], out);
 }
 
-/// Adds a row.
-pub(crate) fn put_row<C: Conditions, W: Write>(
-    row: &Row<'_, '_, C>,
+/// Adds what of a row stands before its brackets.
+pub(crate) fn put_front<W: Write>(
+    number: u32,
+    mark: u8,
+    question: Option<u16>,
+    prompt: Shown<'_>,
     line: &mut Line,
     out: &mut Watched<W>,
 )
     ensures { Adds (pen_of W.contents out.old) line.old (pen_of W.contents out.new) line.new
-        (row_text (row_seen row.now)) }
+        (right_aligned 3 (decimal number) ++ codes " " ++ (mark ∷ []) ++ codes " "
+        ++ id_text question ++ codes " " ++ in_columns 24 (text_of prompt.entry)) }
 {
-    put_number(row.number, line, out);
-    put_mark_and_id(row.mark, row.question, line, out);
-    put_in_columns(row.prompt, line, out);
-    line.put(b" [", out);
-    put_value(&row.value, line, out);
-    line.put(b"]\n", out);
+    put_number(number, line, out);
+    put_mark_and_id(mark, question, line, out);
+    put_in_columns(prompt, line, out);
 }
