@@ -16,4 +16,5 @@ pub mod LawLemmas
 pub mod NamedLemmas
 pub mod MergeLemmas
 pub mod StepLemmas
+pub mod BehindLemmas
 pub mod ReadLemmas

@@ -171,7 +171,7 @@ apart f (Some g) at small small' none low high = elim (cases_Bool (has_number (S
 
 -- ---- the first of some questions
 
-first_between : (none k : ℕ) (qs : List QuestionEntry) (at : ℕ) → k + length qs ≤ none → (k ≤ first_from none k qs at) × (first_from none k qs at ≤ none)
+pub first_between : (none k : ℕ) (qs : List QuestionEntry) (at : ℕ) → k + length qs ≤ none → (k ≤ first_from none k qs at) × (first_from none k qs at ≤ none)
 first_between none k [] at long = (omega (arith, long), omega arith)
 first_between none k (q ∷ qs) at long = elim (cases_Bool (has_number (entry_field q) at)) [
   | inl has ↦ rw has (omega arith, omega (arith, long))

@@ -1,11 +1,11 @@
 //! Which of some fields is the first that has a byte, for all bytes of the stores.
 
-ghost use Rattle.std.specs.Prelude.{◌≡◌, ◌+◌, ◌≤◌, ◌<◌, ℕ, IfOk, length, option_map};
+ghost use Rattle.std.specs.Prelude.{◌≡◌, ◌+◌, ◌++◌, ◌≤◌, ◌<◌, ℕ, IfOk, IfSome, OnOk, length, option_map};
 ghost use Rattle.std.specs.List.{find};
 ghost use Rattle.hii_questions.specs.Fields.{field_passes, meets};
 ghost use Rattle.hii_questions.specs.code.Entries.{entry_field};
 ghost use Rattle.hii_questions.specs.code.Ranges.{range_in};
-ghost use Rattle.hii_questions.specs.code.Steps.{AreSmall, AreSteps, IsLeastWithin, StepsRise, first_from, is_small, least_met, tells_first, told_behind, value_at};
+ghost use Rattle.hii_questions.specs.code.Steps.{AreSmall, AreSteps, IsLeastWithin, StepsRise, first_from, is_small, least_met, steps_behind, tells_first, told_behind, value_at};
 
 use crate::entry::QuestionEntry;
 use crate::field_range::FieldRange;
@@ -67,6 +67,57 @@ fn steps_of(
     }
 }
 
+// Adds the step of a field of a number behind fields that end at a byte, and before it one for the bytes between them.
+fn add_behind(
+    steps: &mut Vec<Step>,
+    end: u64,
+    from: u64,
+    number: usize,
+    none: usize,
+) -> Result<(), AllocError>
+    ensures { OnOk result (steps.new.items ≡ steps.old.items ++ steps_behind none end from number) }
+{
+    if end < from {
+        steps.push(Step {
+            from: end,
+            first: none,
+        })?;
+    }
+    steps.push(Step {
+        from,
+        first: number,
+    })?;
+    Ok(())
+}
+
+// The steps of the fields of some questions, if each has a byte and begins where those before it end, or behind that.
+fn steps_in_order(
+    alloc: Global,
+    questions: &[QuestionEntry],
+) -> Result<Option<Vec<Step>>, AllocError>
+    ensures { IfOk result (λ made. IfSome made (λ steps. AreSteps questions.now steps.items)) }
+{
+    let none = questions.len();
+    let mut steps = Vec::with_capacity(alloc, 2 * none + 1)?;
+    let mut end = 0;
+    for (number, question) in questions.iter().enumerate() {
+        if let Some(field) = question.field() {
+            let from = field.first();
+            if from < end || field.width == 0 {
+                return Ok(None);
+            }
+            add_behind(&mut steps, end, from, number, none)?;
+            end = field.behind();
+        }
+    }
+    steps.push(Step {
+        from: end,
+        first: none,
+    })?;
+    steps.shrink_to_fit();
+    Ok(Some(steps))
+}
+
 /// The steps that tell of each byte the first of some questions whose field has it.
 pub(crate) fn steps_among(
     alloc: Global,
@@ -74,7 +125,13 @@ pub(crate) fn steps_among(
 ) -> Result<Vec<Step>, AllocError>
     ensures { IfOk result (λ steps. AreSteps questions.now steps.items) }
 {
-    steps_of(alloc, questions, 0, questions.len())
+    if questions.is_empty() {
+        return Ok(Vec::new(alloc));
+    }
+    match steps_in_order(alloc, questions)? {
+        Some(steps) => Ok(steps),
+        None => steps_of(alloc, questions, 0, questions.len()),
+    }
 }
 
 // The least number that steps tell up to before a byte, but for what is before the first step.

@@ -38,6 +38,13 @@ first_from none number [] at = none
 first_from none number (q ∷ qs) at =
     if has_number (entry_field q) at then number else first_from none (number + 1) qs at
 
+-- the steps of a field of a number behind fields that end at a byte: its own, and before it one for the bytes between them
+abbrev pub steps_behind : ℕ → ℕ → ℕ → ℕ → List Step
+steps_behind none end from number =
+    if nat_lt end from
+    then record { from = end; first = none } ∷ record { from = from; first = number } ∷ []
+    else record { from = from; first = number } ∷ []
+
 -- the least number that steps tell, up to a byte
 abbrev pub least_met : ℕ → ℕ → List Step → ℕ
 least_met none end [] = none
