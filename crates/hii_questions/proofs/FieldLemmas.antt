@@ -1,26 +1,29 @@
 -- The questions of a package by their fields, and its passwords.
-use Rattle.std.proofs.Common.{◌≡◌, ℕ, zero, suc, ◌<◌, Bool, true, false, eqb, ◌==◌, ◌&&◌, Option, Some, None, List, [], ◌∷◌, length, map, refl, sym, ap, subst, ◌∙◌, arith, inl, inr, filter, find, is_eq, option_map, Contains}
-use Rattle.std.specs.Cmp.{IsTotalOrder, nat_cmp_total, on_total, then_total}
+use Rattle.std.proofs.Common.{◌≡◌, ℕ, zero, suc, ◌+◌, ◌<◌, get_or, Bool, true, false, eqb, ◌==◌, ◌&&◌, Option, Some, None, List, [], ◌∷◌, length, map, refl, sym, ap, subst, ◌∙◌, arith, inl, inr, filter, find, is_eq, is_le, is_lt, option_map, Contains}
+use Rattle.std.specs.Cmp.{IsTotalOrder, Some-then, nat_cmp_total, on_total, then_total}
 use Rattle.std.specs.Cmp.Lexicographic.{options_total}
 use Rattle.std.specs.List.Sorted.{IsPermutation, IsStableByKey}
-use Rattle.std.specs.Option.{option_cmp}
+use Rattle.std.specs.List.{AllAdjacentBelow}
+use Rattle.std.specs.Option.{option_cmp, option_partial_cmp}
 use Rattle.std.specs.declared.cmp.Ordering.{Ordering}
 use Rattle.std.specs.declared.cmp.Ordering.TheVariants.{Less, Equal, Greater}
-use Rattle.std.specs.Ordering.{nat_cmp, ordering_then}
+use Rattle.std.specs.Ordering.{is_some_and, nat_cmp, ordering_reverse, ordering_then, partial_le, partial_ordering_then}
 use Rattle.std.proofs.lemmas.Bool.{and_parts, cases_Bool, eqb-true}
+use Rattle.std.proofs.lemmas.List.{get_or-map, length-map}
 use Rattle.std.proofs.lemmas.List.Elements.{All-filter}
-use Rattle.std.proofs.lemmas.List.Sorted.{All-permutation}
+use Rattle.std.proofs.lemmas.List.Sorted.{All-permutation, IsPermutation-refl}
 use Rattle.ifr_nodes.specs.Nodes.{nodes_of}
 use Rattle.ifr_nodes.specs.code.Checked.{node_in}
 use Rattle.ifr_nodes.proofs.ViewLemmas.{further}
 use Rattle.hii_varstore.proofs.TableLemmas.{is_eq-nat_cmp}
 use Rattle.hii_values.specs.Types.{is_password}
 use Rattle.hii_questions.specs.Fields.{Field, questions, field_passes, is_same_field, has_field, is_password_in}
-use Rattle.hii_questions.specs.code.ByField.{AreAllNumbers, AreByField, AreNumbers, FieldsRise, entries_at, entry_at, has_range, has_range_at, numbered_field, range_cmp}
-use Rattle.hii_questions.specs.code.Entries.{AreQuestionEntries, IsQuestionEntry, entry_field, entry_view}
+use Rattle.hii_questions.specs.code.ByField.{AreAllNumbers, AreByField, AreNumbers, FieldsRise, entries_at, entry_at, has_range, has_range_at, no_entry, numbered_field, range_cmp}
+use Rattle.hii_questions.specs.code.Entries.{AreQuestionEntries, IsQuestionEntry, entry_field, entry_range, entry_view}
 use Rattle.hii_questions.specs.code.Ranges.{range_in}
 use Rattle.hii_questions.specs.code.Tables.{AreQuestions}
 use Rattle.hii_bytes.specs.declared.id_table.IdEntry.{IdEntry}
+use Rattle.hii_questions.specs.declared.entry.FieldEntry.{FieldEntry}
 use Rattle.hii_questions.specs.declared.entry.QuestionEntry.{QuestionEntry}
 use Rattle.hii_questions.specs.declared.field_range.FieldRange.{FieldRange}
 use Rattle.hii_questions.specs.declared.merging.Step.{Step}
@@ -72,6 +75,43 @@ sorted_numbers es ms ns are shuffled rise stable =
       rise = rise;
       kept = λ f. ap (entries_at es) (same f) ∙ sym (filter_mapped (entry_at es) (has_range f) ms) ∙ ap (filter (has_range f)) are.all;
     }
+
+-- ---- fields that rise as they stand
+
+-- where a field stands to another, as it is kept
+abbrev entry_cmp : FieldEntry → FieldEntry → Option Ordering
+entry_cmp f g =
+    partial_ordering_then (Some (nat_cmp f.store g.store))
+    (partial_ordering_then (Some (nat_cmp f.offset g.offset)) (Some (nat_cmp f.width g.width)))
+
+cmp_is : (f g : FieldEntry) → entry_cmp f g ≡ Some (range_cmp (entry_range f) (entry_range g))
+cmp_is f g =
+    ap (partial_ordering_then (Some (nat_cmp f.store g.store))) (Some-then (nat_cmp f.offset g.offset) (nat_cmp f.width g.width))
+    ∙ Some-then (nat_cmp f.store g.store) (ordering_then (nat_cmp f.offset g.offset) (nat_cmp f.width g.width))
+
+not_less : (r s : Ordering) → r ≡ ordering_reverse s → true ≡ is_le r → is_lt s ≡ false
+not_less r Less e h = absurd (let up = h ∙ ap is_le e in (cc))
+not_less r Equal e h = refl
+not_less r Greater e h = refl
+
+up_or_same : (o p : Option FieldEntry) → true ≡ partial_le (option_partial_cmp entry_cmp) o p → is_lt (option_cmp range_cmp (option_map entry_range p) (option_map entry_range o)) ≡ false
+up_or_same None None h = refl
+up_or_same None (Some g) h = refl
+up_or_same (Some f) None h = absurd (cc)
+up_or_same (Some f) (Some g) h =
+    let a = entry_range f in
+    let b = entry_range g in
+    not_less (range_cmp a b) (range_cmp b a) (range_total.antisymm (Some a) (Some b)) (h ∙ ap (is_some_and is_le) (cmp_is f g))
+
+-- Where no field stands before that of the question before, the numbers of the questions are in the order of fields as they stand.
+pub numbers_in_order : (es : List QuestionEntry) (ns : List ℕ) → AreAllNumbers es ns
+    → AllAdjacentBelow (λ (e f : QuestionEntry). true ≡ partial_le (option_partial_cmp entry_cmp) e.field f.field) es (length es) → AreByField es ns
+numbers_in_order es ns are up =
+    let many : length ns ≡ length es = sym (length-map ns (entry_at es)) ∙ ap length are.all in
+    let at : (k d : ℕ) → k < length ns → entry_at es (get_or ns k d) ≡ get_or es k no_entry = λ k d lt. sym (get_or-map (entry_at es) ns k d no_entry lt) ∙ ap (λ (l : List QuestionEntry). get_or l k no_entry) are.all in
+    let rise : FieldsRise es ns =
+    λ k d low high. rw (at (k + 1) d high, at k d (omega (arith, high))) (up_or_same (get_or es k no_entry).field (get_or es (k + 1) no_entry).field (up k no_entry (omega (arith, high, many)))) in
+    sorted_numbers es ns ns are (IsPermutation-refl ns) rise (λ n. refl)
 
 module _ (ifr : List ℕ) (es : List QuestionEntry) (ids : List IdEntry) (fs : List ℕ) (ps : List QuestionEntry) (ss : List Step) (are : AreQuestions ifr es ids fs ps ss) (f : FieldRange) where
   pub fields_are : map (entry_view ifr) (entries_at es (filter (has_range_at es f) fs)) ≡ filter (has_field (range_in f)) (questions (nodes_of ifr))

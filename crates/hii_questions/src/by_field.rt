@@ -39,7 +39,9 @@ pub(crate) fn questions_by_field(
     ensures { IfOk result (λ by_field. AreByField questions.now by_field.items) }
 {
     let mut by_field = numbers_of(alloc, questions)?;
-    by_field.sort_by_key(|number| numbered_field(questions, *number))?;
+    if !questions.is_sorted_by_key(|question| question.field) {
+        by_field.sort_by_key(|number| numbered_field(questions, *number))?;
+    }
     Ok(by_field)
 }
 
