@@ -1,6 +1,6 @@
 //! The questions of a form set as they are kept.
 
-ghost use Rattle.std.specs.Prelude.{◌≡◌, ◌⊎◌, IfOk, IfErr, None, Some, filter, map};
+ghost use Rattle.std.specs.Prelude.{◌≡◌, ◌⊎◌, ◌-◌, ◌++◌, IfOk, IfErr, OnOk, None, Some, filter, length, map, replicate};
 ghost use Rattle.std.specs.List.{flat_map};
 ghost use Rattle.hii_bytes.specs.Faults.{out_of_memory};
 ghost use Rattle.ifr_nodes.specs.Accepted.{IsAccepted};
@@ -68,15 +68,29 @@ pub(crate) fn read_questions(
     Ok((by_place, numbers, passwords))
 }
 
+// Adds a number as often as it takes for so many.
+fn fill(numbers: &mut Vec<u32>, count: usize, number: u32) -> Result<(), AllocError>
+    ensures { OnOk result (numbers.new.items
+        ≡ numbers.old.items ++ replicate (count - length numbers.old.items) number) }
+{
+    while numbers.len() < count {
+        numbers.push(number)?;
+    }
+    Ok(())
+}
+
 /// For each position of the index, up to that of the last question, how many questions stand before it.
 pub(crate) fn numbers_near(
     alloc: Global,
     questions: &[QuestionEntry],
 ) -> Result<Vec<u32>, AllocError> {
-    let mut near = Vec::new(alloc);
+    let Some(last) = questions.last() else {
+        return Ok(Vec::new(alloc));
+    };
+    let mut near = Vec::with_capacity(alloc, last.position as usize + 1)?;
     let mut number = 0u32;
     for question in questions {
-        near.resize(question.position as usize + 1, number)?;
+        fill(&mut near, question.position as usize + 1, number)?;
         number = number.wrapping_add(1);
     }
     Ok(near)
