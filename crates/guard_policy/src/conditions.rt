@@ -4,7 +4,12 @@ ghost use Rattle.std.specs.Prelude.{◌≡◌};
 ghost use Rattle.ifr_scopes.specs.code.AnyConditions.{any_condition_node};
 ghost use Rattle.ifr_scopes.specs.code.Lists.{guard_node};
 ghost use Rattle.ifr_scopes.specs.code.Parts.{condition_node};
+ghost use Rattle.ifr_expr.specs.Meaning.{value};
+ghost use Rattle.ifr_expr.specs.Values.{holds};
+ghost use Rattle.ifr_expr.specs.code.Expressions.{tree_of};
 ghost use Rattle.ifr_nodes.specs.Nodes.{nodes_of};
+ghost use Rattle.ifr_nodes.specs.code.Rules.{rules_of};
+ghost use Rattle.hii_questions.specs.Answers.{answers};
 ghost use Rattle.guard_policy.specs.World.{is_met_over};
 ghost use Rattle.guard_policy.specs.code.RuleValues.{AreRuleValues};
 ghost use Rattle.guard_policy.specs.code.Views.{bytes_of, world};
@@ -13,7 +18,7 @@ ghost use Rattle.guard_policy.specs.code.Worlds.{is_met_at};
 use crate::policy::Policy;
 use hii_questions::Questions;
 use hii_varstore::Stores;
-use ifr_expr::RuleValues;
+use ifr_expr::{Expr, RuleValues};
 use ifr_scopes::{AnyCondition, ConditionView, Forms, Guard};
 
 /// What is kept of conditions, by their places.
@@ -112,6 +117,26 @@ impl<'p, 'a, 's> Evaluated<'p, 'a, 's> {
             ),
             None => false,
         }
+    }
+
+    /// Whether an expression holds in the scope of the question of an id, or of 0 for none, by values of rules over the same stores.
+    /// Those that it asks for are kept there.
+    #[inline(always)]
+    pub fn expression_holds_by(
+        &self,
+        expression: Expr<'a>,
+        this: u16,
+        rules: &mut RuleValues,
+    ) -> bool
+        requires { AreRuleValues (bytes_of self.now.policy) self.now.stores.now rules.old }
+        ensures holds { result ≡ holds (value (rules_of (bytes_of self.now.policy))
+            (answers (nodes_of (bytes_of self.now.policy)) self.now.stores.now) this
+            (tree_of expression.entry)) }
+        ensures kept { AreRuleValues (bytes_of self.now.policy) self.now.stores.now rules.new }
+    {
+        let policy = self.policy;
+        let answers = policy.questions.over(self.stores);
+        expression.holds_by(&answers, policy.forms, this, rules)
     }
 }
 

@@ -1,27 +1,37 @@
 -- The expression of a dependent, at whose place a condition stands or which is the next rule.
 use Rattle.std.proofs.Common.{None, Some, Option, ◌≡◌, ℕ, ◌+◌, ◌<◌, ◌==◌, ◌&&◌, ◌||◌, not, true, false, List, [], ◌∷◌, length, map, filter, drop, get_or, refl, sym, ap, ◌∙◌, inl, inr}
 use Rattle.std.specs.Iterator.{YieldsFirstBy}
-use Rattle.std.proofs.lemmas.Bool.{cases_Bool, cond-true, cond-false, eqb-true, and_parts, false≢true}
+use Rattle.std.proofs.lemmas.Bool.{cases_Bool, cond-true, cond-false, eqb-true, and_parts, false≢true, true≢false}
 use Rattle.std.proofs.lemmas.List.{drop_more, get_or-map}
 use Rattle.ifr_opcodes.specs.declared.codes.TheConstants.{RULE}
 use Rattle.ifr_opcodes.specs.Forest.{Node}
 use Rattle.ifr_opcodes.specs.Opcode.{number}
 use Rattle.ifr_opcodes.specs.Reading.{tree_of}
+use Rattle.ifr_expr.specs.Trees.{Tree}
+use Rattle.ifr_expr.specs.Meaning.{value}
+use Rattle.ifr_expr.specs.Values.{holds}
+use Rattle.ifr_expr.specs.code.Expressions.{tree_of as expression_of}
 use Rattle.ifr_nodes.specs.Accepted.{IsAccepted}
 use Rattle.ifr_nodes.specs.code.Checked.{or_empty}
 use Rattle.ifr_nodes.specs.Guards.{is_guard}
 use Rattle.ifr_index.specs.code.Index.{is_conditional, conditional_at}
 use Rattle.ifr_scopes.specs.code.Lists.{rule_node, rules_left}
 use Rattle.ifr_opcodes.specs.Rows.{row_of, is_condition_number}
-use Rattle.ifr_nodes.specs.Nodes.{nodes_of}
+use Rattle.ifr_nodes.specs.Nodes.{nodes_of, this_of}
 use Rattle.ifr_nodes.specs.Rules.{is_rule}
 use Rattle.ifr_scopes.specs.declared.rule.RuleView.{RuleView}
 use Rattle.ifr_scopes.specs.declared.rule.RuleViews.{RuleViews}
 use Rattle.ifr_scopes.proofs.FormPlaceLemmas.{found}
 use Rattle.ifr_nodes.proofs.PlaceLemmas.{is_found}
+use Rattle.ifr_nodes.specs.code.Rules.{rules_of}
+use Rattle.hii_questions.specs.Answers.{answers}
+use Rattle.hii_varstore.specs.Stores.{StoreMap}
 use Rattle.guard_policy.specs.Conditions.{is_kept}
+use Rattle.guard_policy.specs.World.{world_over}
+use Rattle.guard_policy.specs.code.Worlds.{is_met_at, is_met_if}
 use Rattle.guard_policy.proofs.ToldLemmas.{kept_conditional, kind_found}
-use Rattle.kept_conditions.specs.code.Collection.{dependent_nodes, dependent_node}
+use Rattle.kept_conditions.specs.code.Collection.{IsExpressionOf, dependent_nodes, dependent_node}
+use Rattle.kept_conditions.specs.declared.collection.DependentExpression.{DependentExpression}
 use Rattle.kept_conditions.proofs.DependentLemmas.{dependent_among, dependent_is, node_is_dependent, dependent_kind}
 
 -- ---- kinds
@@ -62,14 +72,34 @@ module _ (bytes : List ℕ) (accepted : IsAccepted bytes) (k : ℕ) (less : k < 
         ],
       )
 
+  -- what is no rule has a condition
+  has_condition : is_rule n ≡ false → conditional_at ns n.place ≡ Some n
+  has_condition other = kind_found is_conditional ns n (is_found bytes (tree_of bytes) n accepted.checked.spelled (dependent_among ns k less)) (kept_conditional n (kept other))
+
   rule_there : None ≡ conditional_at ns n.place → is_rule n ≡ true
   rule_there e = elim (cases_Bool (is_rule n)) [
     | inl rule ↦ rule
     | inr other ↦
-        let there : conditional_at ns n.place ≡ Some n = kind_found is_conditional ns n (is_found bytes (tree_of bytes) n accepted.checked.spelled (dependent_among ns k less)) (kept_conditional n (kept other)) in
+        let there = has_condition other in
         let bad : ◌≡◌ {A = Option Node} None (Some n) = e ∙ there in
         absurd cc
   ]
+
+  no_condition : (o : Option Node) → conditional_at ns n.place ≡ o → is_rule n ≡ true → o ≡ None
+  no_condition None e rule = refl
+  no_condition (Some m) e rule = absurd (true≢false (sym rule ∙ (condition_there m n.place refl (sym e)).1))
+
+  -- no condition holds at the place of a rule
+  pub none_holds : (removed : List ℕ) (stores : StoreMap) → is_rule n ≡ true → false ≡ is_met_at (world_over ns removed stores) n.place
+  none_holds removed stores rule = sym (ap (is_met_if (world_over ns removed stores)) (no_condition (conditional_at ns n.place) refl rule))
+
+  -- at that of another the one holds whose expression does
+  pub expression_holds : (removed : List ℕ) (stores : StoreMap) (d : DependentExpression) → IsExpressionOf n d → is_rule n ≡ false
+      → holds (value (rules_of bytes) (answers ns stores) d.this (expression_of d.expression)) ≡ is_met_at (world_over ns removed stores) n.place
+  expression_holds removed stores d is other =
+      let by = value (rules_of bytes) (answers ns stores) in
+      ap (λ (this : ℕ). holds (by this (expression_of d.expression))) (is.this ∙ cond-false (is_rule n) 0 (this_of n) other)
+      ∙ ap (λ (e : Tree). holds (by (this_of n) e)) is.tree ∙ sym (ap (is_met_if (world_over ns removed stores)) (has_condition other))
 
   -- ---- the rules that are left
 

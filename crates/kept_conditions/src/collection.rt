@@ -345,10 +345,11 @@ fn add_dependent<'a>(
     rules: &mut RuleViews<'_, 'a>,
     guards: &mut PassedGuards<'_, 'a>,
     number: usize,
-    now: &Evaluated<'_, '_, '_>,
+    now: &Evaluated<'_, 'a, '_>,
     values: &mut RuleValues,
 ) -> Result<(), AllocError>
     requires inside { number < length (dependent_nodes (nodes_of source.forms.now)) }
+    requires together { bytes_of now.now.policy ≡ source.forms.now }
     requires left { rules_left rules.old
         ≡ filter is_rule (drop number (dependent_nodes (nodes_of source.forms.now))) }
     requires before { AreCollected (nodes_of source.forms.now)
@@ -364,11 +365,13 @@ fn add_dependent<'a>(
     let dependent = expression_of(source, rules, guards, number);
     let place = source.place_of(number);
     collected.add_names(number as u32, dependent, source)?;
+    let holds = !dependent.is_rule
+        && now.expression_holds_by(dependent.expression, dependent.this, values);
     collected.list.push(Dependent {
         place,
         round: 0,
         is_rule: dependent.is_rule,
-        holds: now.holds_by(place, dependent.position, values),
+        holds,
     })?;
     collected.positions.push(dependent.position)?;
     Ok(())
