@@ -45,8 +45,9 @@ pub(crate) fn read_questions(
         ⊎ (first_part_fault (layout_of (nodes_of forms.now)) (is_known (nodes_of forms.now))
         (flat_map parts_of (questions (nodes_of forms.now))) ≡ Some fault)) }
 {
-    let mut by_place = Vec::new(alloc);
-    let mut numbers = Vec::new(alloc);
+    let count = forms.question_count();
+    let mut by_place = Vec::with_capacity(alloc, count)?;
+    let mut numbers = Vec::with_capacity(alloc, count)?;
     let mut passwords = Vec::new(alloc);
     let mut store_ids = None;
     for statement in forms.statements() {

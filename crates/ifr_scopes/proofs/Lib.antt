@@ -15,3 +15,4 @@ pub mod GuardLemmas
 pub mod ConditionAtLemmas
 pub mod OutwardLemmas
 pub mod GivingOfLemmas
+pub mod QuestionCountLemmas

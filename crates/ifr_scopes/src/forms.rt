@@ -1,6 +1,6 @@
 //! A forms package that was read.
 
-ghost use Rattle.std.specs.Prelude.{◌≡◌, ◌-◌, ◌≤◌, ◌==◌, ◌∷◌, [], true, nat_lt, if◌then◌else◌, List, IfOk, IfErr, IfSome, filter, length, option_map};
+ghost use Rattle.std.specs.Prelude.{◌≡◌, ◌-◌, ◌≤◌, ◌==◌, ◌∷◌, [], true, nat_lt, if◌then◌else◌, List, IfOk, IfErr, IfSome, count_by, filter, length, option_map};
 ghost use Rattle.std.specs.List.{find};
 ghost use Rattle.hii_bytes.specs.Faults.{Refuses};
 ghost use Rattle.ifr_opcodes.specs.Forest.{Node as Placed};
@@ -20,8 +20,8 @@ ghost use Rattle.ifr_scopes.specs.code.GuardsInLeft.{guards_in_left};
 ghost use Rattle.ifr_index.specs.code.Index.{conditional_at, guards_of_indexed, indexed_at, lock_of_indexed};
 ghost use Rattle.ifr_scopes.specs.code.Lists.{form_node, form_set_node, rule_node, stores_left, all_guards_left, forms_left, rules_left, all_statements_left, statement_node, guards_left};
 ghost use Rattle.ifr_scopes.specs.code.AroundViews.{around_guards, around_lock, around_package};
-ghost use Rattle.ifr_opcodes.specs.Rows.{is_condition_number};
-ghost use Rattle.ifr_nodes.specs.Nodes.{nodes_of, is_form, is_store, is_statement, is_no_submit, of_question, options, statements};
+ghost use Rattle.ifr_opcodes.specs.Rows.{is_condition_number, is_question_number};
+ghost use Rattle.ifr_nodes.specs.Nodes.{nodes_of, is_form, is_question, is_store, is_statement, is_no_submit, of_question, options, statements};
 ghost use Rattle.ifr_scopes.specs.code.NoSubmitsLeft.{no_submits_left};
 ghost use Rattle.ifr_scopes.specs.code.OptionsLeft.{options_of_left};
 ghost use Rattle.ifr_scopes.specs.code.StatementsLeft.{statements_of_left};
@@ -62,8 +62,22 @@ use ifr_nodes::{
     Node, Nodes, RuleTable, check_framing, check_references, check_structure, expression_of,
     node_at,
 };
+use ifr_opcodes::is_question;
 use std::alloc::Global;
 use std::marker::Model;
+
+// How many of some forms, statements and options are questions.
+fn count_questions(entries: &[Entry]) -> usize
+    ensures { result ≡ count_by (λ e. is_question_number e.code) entries.now }
+{
+    let mut count = 0;
+    for entry in entries {
+        if is_question(entry.code) {
+            count += 1;
+        }
+    }
+    count
+}
 
 /// The form set of a forms package (UEFI 2.8, 33.2.5.1 Form Sets), seen as the package's bytes.
 pub struct Forms<'a> {
@@ -231,6 +245,13 @@ impl<'a> Forms<'a> {
             entries: &self.index.entries,
             position: 0,
         }
+    }
+
+    /// How many questions there are.
+    pub fn question_count(&self) -> usize
+        ensures { result ≡ length (filter is_question (nodes_of self.now)) }
+    {
+        count_questions(&self.index.entries)
     }
 
     // How many forms, statements and options stand before these, which are the last of them.

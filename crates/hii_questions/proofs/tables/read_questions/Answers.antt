@@ -39,10 +39,10 @@ loop-statement-init c =
       can = tt;
       ends = tt;
       within = λ n there. (passing is_statement ns n (subst (λ (l : List Node). Contains l n) all there)).0;
-      kept = rw c.new-by_place.ensures.items (λ k d lt. absurd (omega (arith, lt)));
-      found = ap (λ (es : List QuestionEntry). map (entry_view ifr) es ++ map (asked ns) (filter is_question (all_statements_left it))) c.new-by_place.ensures.items ∙ left;
-      numbered = c.new-numbers.ensures.items ∙ ap (λ (es : List QuestionEntry). ids_from 0 (map (entry_view ifr) es)) (sym c.new-by_place.ensures.items);
-      secret = c.new-passwords.ensures.items ∙ ap (λ (es : List QuestionEntry). filter (λ e. is_password (node_in ifr e.place)) es) (sym c.new-by_place.ensures.items);
+      kept = rw c.in_ok-by_place.ensures.items (λ k d lt. absurd (omega (arith, lt)));
+      found = ap (λ (es : List QuestionEntry). map (entry_view ifr) es ++ map (asked ns) (filter is_question (all_statements_left it))) c.in_ok-by_place.ensures.items ∙ left;
+      numbered = c.in_ok-numbers.ensures.items ∙ ap (λ (es : List QuestionEntry). ids_from 0 (map (entry_view ifr) es)) (sym c.in_ok-by_place.ensures.items);
+      secret = c.new-passwords.ensures.items ∙ ap (λ (es : List QuestionEntry). filter (λ e. is_password (node_in ifr e.place)) es) (sym c.in_ok-by_place.ensures.items);
       same = ap (λ (l : List Asked). first_part_fault (layout_of ns) (is_known ns) (flat_map parts_of l)) left;
       gathered = tt;
     }
@@ -72,7 +72,7 @@ returns-in_err-check_question-clause-refused c =
     let ns = nodes_of c.args.forms.now in
     let left = map (asked ns) (filter is_question (all_statements_left c.loop-statement.statement-iterator)) in
     let rest = map (asked ns) (filter is_question (all_statements_left c.next.new.self)) in
-    let p = err_from_is_err_and c.from_residual.result c.from_residual.ensures.1 in
+    let p = err_from_is_err_and c.from_residual-in_err-check_question.result c.from_residual-in_err-check_question.ensures.1 in
     rw (p.1, p.2)
     (elim c.in_err-check_question.ensures.told [
       | inl memory ↦ inl memory
@@ -85,8 +85,8 @@ overflow_cast-len c =
     let few = few_so_far c.args.forms.now c.loop-statement.by_place.items _ c.requires.accepted c.loop-statement.invariant.found in
     omega (arith, c.len.ensures, few)
 
-pub loop-statement-preserved-in-Continue-branch-4 : goal.loop-statement-preserved-in-Continue-branch-4
-loop-statement-preserved-in-Continue-branch-4 c =
+pub loop-statement-preserved-in-Continue-branch-6 : goal.loop-statement-preserved-in-Continue-branch-6
+loop-statement-preserved-in-Continue-branch-6 c =
     let ifr = c.args.forms.now in
     let ns = nodes_of ifr in
     let s = c.requires.accepted.checked.spelled in
@@ -97,7 +97,7 @@ loop-statement-preserved-in-Continue-branch-4 c =
     let here : Contains left n = subst (λ (l : List Node). Contains l n) (sym steps) (0, omega arith, refl) in
     let within = c.loop-statement.invariant.within n here in
     let e = c.of-entry.result in
-    let at = goal.at.loop-statement-preserved-in-Continue-branch-4 c in
+    let at = goal.at.loop-statement-preserved-in-Continue-branch-6 c in
     let of = kept at.After-of-question in
     let es = c.loop-statement.by_place.items in
     let node : node_in ifr e.place ≡ n = ap (node_in ifr) of.place ∙ node_in_place ifr n s within in
