@@ -120,8 +120,22 @@ impl<'a, 's> Policy<'a, 's> {
         }
     }
 
+    // The denials of the guards around something. Beside others it is seldom asked.
+    #[inline(never)]
+    fn effects_anew<V: Verdicts<'a>>(&self, around: Around<'_, 'a>, verdicts: &V) -> Effects
+        ensures guard { result.guard ≡ around_innermost around.entry }
+        ensures hides { result.hides ≡ spec.hidden_among
+            (world_by self.now (V.met verdicts.now)) (around_guards around.entry) }
+        ensures grays_out { result.grays_out ≡ option_map (spec.denied_by GrayOutIf)
+            (find (spec.grays_out (world_by self.now (V.met verdicts.now)))
+            (around_guards around.entry)) }
+    {
+        self.effects(around, verdicts)
+    }
+
     /// The denials of the guards around something take the place of those that were asked last. The same guards are not asked
     /// again.
+    #[inline(always)]
     pub(crate) fn effects_beside<V: Verdicts<'a>>(
         &self,
         around: Around<'_, 'a>,
@@ -138,7 +152,7 @@ impl<'a, 's> Policy<'a, 's> {
         ensures last { AreEffects (world_by self.now (V.met verdicts.now)) last.new }
     {
         if around.innermost() != last.guard {
-            *last = self.effects(around, verdicts);
+            *last = self.effects_anew(around, verdicts);
         }
     }
 }

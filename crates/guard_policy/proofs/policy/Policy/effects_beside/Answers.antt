@@ -23,4 +23,4 @@ returns-else-ne-clause-grays_out g c =
 pub returns-then-ne-clause-last : goal.returns-then-ne-clause-last
 returns-then-ne-clause-last g c =
     let w = world_by c.args.self.now (g.V.Verdicts.met c.args.verdicts.now) in
-    effects_around w c.args.around c.effects.result (ap nodes_of (sym c.requires.package)) c.effects.ensures.guard c.effects.ensures.hides c.effects.ensures.grays_out
+    effects_around w c.args.around c.effects_anew.result (ap nodes_of (sym c.requires.package)) c.effects_anew.ensures.guard c.effects_anew.ensures.hides c.effects_anew.ensures.grays_out
