@@ -20,6 +20,7 @@ use ifr_expr::Value;
 /// The value that a question has in the stores: that of its field, undefined where it has none there. A checkbox is true
 /// where its byte is not 0; a number has no sign; a text is its units up to the first that is 0; a list is the whole field
 /// (own rule).
+#[inline(always)]
 pub fn read_value<'s>(question: Question<'_>, stores: &'s Stores) -> Value<'s>
     ensures { value_of result ≡ value_of_field stores.now (question_node question.entry)
         (question_view question.entry).field }

@@ -13,6 +13,7 @@ use crate::numbers::number_of;
 use ifr_expr::Value;
 
 /// The value that the bytes of a field are.
+#[inline(always)]
 pub fn value_in<'s>(field_type: FieldType<'_>, bytes: &'s [u8]) -> Value<'s>
     requires { length bytes.now ≡ size_of_type (type_in field_type) }
     ensures { value_of result ≡ answer_in (type_in field_type.entry) bytes.now }
