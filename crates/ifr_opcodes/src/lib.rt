@@ -165,6 +165,7 @@ pub use rows::is_listed;
 pub use rows::is_outside;
 pub use rows::is_short;
 pub use split::op_at;
+pub use split::op_there;
 pub use split::split_opcode;
 pub use statements::is_condition;
 pub use statements::is_ignored;

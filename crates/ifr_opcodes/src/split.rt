@@ -47,6 +47,23 @@ pub(crate) fn rest_from(bytes: &[u8], place: u32) -> &[u8]
     bytes.get(place as usize..).unwrap_or(&[])
 }
 
+/// The whole opcode that stands at a place of a package, an offset in bytes from its header, where one does.
+#[inline(always)]
+pub fn op_there(bytes: &[u8], place: u32) -> Op<'_>
+    requires { IsWhole (mark_at bytes.now place).op }
+    ensures { op_of result ≡ mark_at bytes.entry.now place }
+{
+    let at = place as usize;
+    let sized = bytes[at + 1];
+    let end = at + usize::from(sized & 0x7f);
+    Op {
+        place,
+        code: bytes[at],
+        scope: sized >= SCOPE,
+        body: &bytes[at + 2..end],
+    }
+}
+
 /// The whole opcode that stands at a place of a package, an offset in bytes from its header. Where none does, also past
 /// the package's end, it is refused by OpLength there.
 pub fn op_at(bytes: &[u8], place: u32) -> Result<Op<'_>, Fault>
