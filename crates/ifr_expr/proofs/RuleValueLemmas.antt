@@ -8,7 +8,7 @@ use Rattle.std.proofs.lemmas.Option.{slice_get-map, slice_get_past, slice_get_wi
 use Rattle.ifr_expr.specs.Meaning.{Rule, rule_values, value}
 use Rattle.ifr_expr.specs.Values.{Value}
 use Rattle.ifr_expr.specs.code.Rules.{AreOrdered}
-use Rattle.ifr_expr.specs.code.RuleValues.{AddsValue, AreUpTo, AreValues, IsNumberOf, KeepsNothing, in_round, kept_under, known, rule_of_number}
+use Rattle.ifr_expr.specs.code.RuleValues.{AddsValue, AreUpTo, AreValues, IsNumberOf, KeepsNothing, in_round, kept_operand, kept_under, known, rule_of_number}
 use Rattle.ifr_expr.specs.code.Stacks.{operand_value}
 use Rattle.ifr_expr.specs.declared.value.Operand.{Operand}
 use Rattle.ifr_expr.specs.declared.rule_values.KeptValue.{KeptValue}
@@ -43,7 +43,7 @@ pub up_later : (low high : ℕ) (values : List KeptValue) → low ≤ high → A
 up_later low high values le h k d less = omega (arith, h k d less)
 
 before_round : (round : ℕ) (kept : KeptValue) → kept.round < round → in_round round kept ≡ None
-before_round round kept less = cond-false (kept.round == round) (Some kept.value) None (ne_eqb kept.round round (λ e. omega (arith, e, less)))
+before_round round kept less = cond-false (kept.round == round) (Some (kept_operand kept)) None (ne_eqb kept.round round (λ e. omega (arith, e, less)))
 
 -- no value of an earlier round is kept
 pub all_forgotten : (low round : ℕ) (values : List KeptValue) → low < round → AreUpTo low values → KeepsNothing (kept_under (map (in_round round) values))
@@ -69,10 +69,9 @@ same_value : (x y : Operand) → Some x ≡ Some y → y ≡ x
 same_value x y e = cc
 
 -- a value that is kept in this round
-pub value_added : (round number : ℕ) (values : List KeptValue) (operand : Operand) → number < length values
-    → AddsValue number operand (kept_under (map (in_round round) values)) (kept_under (map (in_round round) (set values number (record { round = round; value = operand }))))
-value_added round number values operand inside other kept is =
-    let new : KeptValue = record { round = round; value = operand } in
+pub value_added : (round number : ℕ) (values : List KeptValue) (operand : Operand) (new : KeptValue) → new.round ≡ round → kept_operand new ≡ operand → number < length values
+    → AddsValue number operand (kept_under (map (in_round round) values)) (kept_under (map (in_round round) (set values number new)))
+value_added round number values operand new found holds inside other kept is =
     let told : known (option_map (in_round round) (slice_get (set values number new) other)) ≡ Some kept = ap known (sym (slice_get-map (in_round round) (set values number new) other)) ∙ is in
     elim (cases_eq other number) [
       | inl same ↦
@@ -80,11 +79,11 @@ value_added round number values operand inside other kept is =
           ap (slice_get (set values number new)) same
           ∙ slice_get-get_or (set values number new) number new (omega (arith, inside, length-set values number new))
           ∙ ap (λ (x : KeptValue). Some x) (get_or-set_same values number new new inside) in
-          let now : in_round round new ≡ Some operand = cond-true (round == round) (Some operand) None (eq-eqb round round refl) in
+          let now : in_round round new ≡ Some operand = cond-true (new.round == round) (Some (kept_operand new)) None (eq-eqb new.round round found) ∙ ap (λ (x : Operand). Some x) holds in
           inr (same, same_value operand kept (sym now ∙ ap (λ (o : Option KeptValue). known (option_map (in_round round) o)) (sym there) ∙ told))
       | inr apart ↦ inl (ap known (slice_get-map (in_round round) values other) ∙ ap (λ (o : Option KeptValue). known (option_map (in_round round) o)) (sym (other_kept values number other new apart)) ∙ told)
     ]
 
 -- a value more is no later one
-pub up_with : (round number : ℕ) (values : List KeptValue) (operand : Operand) → AreUpTo round values → AreUpTo round (set values number (record { round = round; value = operand }))
-up_with round number values operand up = All-set (λ (x : KeptValue). x.round ≤ round) values number (record { round = round; value = operand }) (omega arith) up
+pub up_with : (round number : ℕ) (values : List KeptValue) (new : KeptValue) → new.round ≡ round → AreUpTo round values → AreUpTo round (set values number new)
+up_with round number values new found up = All-set (λ (x : KeptValue). x.round ≤ round) values number new (omega (arith, found)) up

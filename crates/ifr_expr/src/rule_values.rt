@@ -4,7 +4,7 @@
 //! answer changes. Each value has the number of its round, so that a round begins without a walk over the rules.
 
 ghost use Rattle.std.specs.Prelude.{◌≡◌, IfOk, length};
-ghost use Rattle.ifr_expr.specs.code.RuleValues.{KeepsNothing, AreUpTo, kept_under};
+ghost use Rattle.ifr_expr.specs.code.RuleValues.{KeepsNothing, AreUpTo, kept_operand, kept_under};
 
 use crate::value::{Operand, Outcome};
 use std::alloc::{AllocError, Global};
@@ -44,18 +44,72 @@ impl Memo for NoValues {
     fn keep(&mut self, _number: usize, _value: Operand) {}
 }
 
-/// The value of a rule, and the round in which it was found.
+/// What the value of a rule is.
+#[derive(Clone, Copy)]
+pub(crate) enum ValueKind {
+    Undefined,
+    True,
+    False,
+    Number,
+    Answer,
+}
+
+/// The value of a rule, and the round in which it was found. It takes less room than an operand with its round.
 #[derive(Clone, Copy)]
 pub(crate) struct KeptValue {
+    /// The number, if it is one.
+    pub(crate) number: u64,
     pub(crate) round: u32,
-    pub(crate) value: Operand,
+    /// The id of the question that answers, if it is an answer.
+    pub(crate) question: u16,
+    pub(crate) kind: ValueKind,
 }
 
 /// What is kept of a rule whose value was not found yet.
 const NOTHING: KeptValue = KeptValue {
+    number: 0,
     round: 0,
-    value: Operand::Made(Outcome::Undefined),
+    question: 0,
+    kind: ValueKind::Undefined,
 };
+
+impl KeptValue {
+    // A value that was found in a round.
+    fn of(value: Operand, round: u32) -> KeptValue
+        ensures value { kept_operand result ≡ value }
+        ensures round { result.round ≡ round }
+    {
+        let mut kept = NOTHING;
+        kept.round = round;
+        match value {
+            Operand::Made(Outcome::Undefined) => {}
+            Operand::Made(Outcome::Boolean(true)) => kept.kind = ValueKind::True,
+            Operand::Made(Outcome::Boolean(false)) => kept.kind = ValueKind::False,
+            Operand::Made(Outcome::Number(number)) => {
+                kept.kind = ValueKind::Number;
+                kept.number = number;
+            }
+            Operand::Answer(question) => {
+                kept.kind = ValueKind::Answer;
+                kept.question = question;
+            }
+        }
+        kept
+    }
+
+    // The value.
+    fn value(self) -> Operand
+        ensures { result ≡ kept_operand self }
+    {
+        match self.kind {
+            ValueKind::Undefined => Operand::Made(Outcome::Undefined),
+            ValueKind::True => Operand::Made(Outcome::Boolean(true)),
+            ValueKind::False => Operand::Made(Outcome::Boolean(false)),
+            ValueKind::Number => Operand::Made(Outcome::Number(self.number)),
+            ValueKind::Answer => Operand::Answer(self.question),
+        }
+    }
+}
 
 /// The values of the rules of a form set that were found since answers changed last. They are seen as what is kept of each rule,
 /// by place.
@@ -119,7 +173,7 @@ impl Memo for RuleValues {
     fn value(&self, number: usize) -> Option<Operand> {
         let kept = *self.values.get(number)?;
         if kept.round == self.round {
-            Some(kept.value)
+            Some(kept.value())
         } else {
             None
         }
@@ -127,10 +181,7 @@ impl Memo for RuleValues {
 
     fn keep(&mut self, number: usize, value: Operand) {
         if number < self.values.len() {
-            self.values[number] = KeptValue {
-                round: self.round,
-                value,
-            };
+            self.values[number] = KeptValue::of(value, self.round);
         }
     }
 }

@@ -8,7 +8,7 @@ use Rattle.std.proofs.lemmas.List.Sums.{sum_by-cons}
 use Rattle.std.proofs.Math.Bool.{or-false}
 use Rattle.hii_bytes.specs.code.FirstFaults.{Rise}
 use Rattle.ifr_opcodes.specs.Forest.{Node}
-use Rattle.ifr_expr.specs.declared.value.Operand.{Operand}
+use Rattle.ifr_expr.specs.code.RuleValues.{KnownValues}
 use Rattle.ifr_nodes.specs.Nodes.{nodes_of}
 use Rattle.ifr_nodes.specs.Rules.{is_rule}
 use Rattle.hii_varstore.specs.Stores.{StoreMap}
@@ -92,11 +92,11 @@ told_by policy over now stores same alike tells =
     (told_kept (is_met_at (world policy now)) ns policy.removed.now now tells))
 
 -- values of rules over what is evaluated, and over the stores of which it was made
-pub values_by : (policy over : Policy) (now stores : StoreMap) → over ≡ policy → stores ≡ now → (values : List (Option Operand)) → AreRuleValues (bytes_of policy) now values → AreRuleValues (bytes_of over) stores values
+pub values_by : (policy over : Policy) (now stores : StoreMap) → over ≡ policy → stores ≡ now → (values : KnownValues) → AreRuleValues (bytes_of policy) now values → AreRuleValues (bytes_of over) stores values
 values_by policy over now stores same alike values are =
     subst (λ (p : Policy). AreRuleValues (bytes_of p) stores values) (sym same) (subst (λ (m : StoreMap). AreRuleValues (bytes_of policy) m values) (sym alike) are)
 
-pub values_for : (policy over : Policy) (now stores : StoreMap) → over ≡ policy → stores ≡ now → (values : List (Option Operand)) → AreRuleValues (bytes_of over) stores values → AreRuleValues (bytes_of policy) now values
+pub values_for : (policy over : Policy) (now stores : StoreMap) → over ≡ policy → stores ≡ now → (values : KnownValues) → AreRuleValues (bytes_of over) stores values → AreRuleValues (bytes_of policy) now values
 values_for policy over now stores same alike values are = values_by over policy stores now (sym same) (sym alike) values are
 
 module _ {ifr : List ℕ} {start fresh : Dependents} {index : Index} (begun : Begins ifr start fresh index) where

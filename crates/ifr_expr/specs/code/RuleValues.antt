@@ -1,11 +1,15 @@
 -- Values of rules that are kept while answers stay.
-use Rattle.std.specs.Prelude.{◌≡◌, ◌⊎◌, ℕ, ◌≤◌, ◌==◌, if◌then◌else◌, All, Option, Some, None, List, reverse, slice_get}
+use Rattle.std.specs.Prelude.{◌≡◌, ◌⊎◌, ℕ, ◌≤◌, ◌==◌, if◌then◌else◌, true, false, All, Option, Some, None, List, reverse, slice_get}
 use Rattle.ifr_expr.specs.Meaning.{Rule, value}
 use Rattle.ifr_expr.specs.Values.{Value}
 use Rattle.ifr_expr.specs.code.Rules.{named}
 use Rattle.ifr_expr.specs.code.Stacks.{operand_value}
 use Rattle.ifr_expr.specs.declared.value.Operand.{Operand}
+use Rattle.ifr_expr.specs.declared.value.Operand.TheVariants.{Made, Answer}
+use Rattle.ifr_expr.specs.declared.value.Outcome.TheVariants as outcome
 use Rattle.ifr_expr.specs.declared.rule_values.KeptValue.{KeptValue}
+use Rattle.ifr_expr.specs.declared.rule_values.ValueKind.{ValueKind}
+use Rattle.ifr_expr.specs.declared.rule_values.ValueKind.TheVariants as kind
 
 -- the rule of a number, before which so many stand
 abbrev pub rule_of_number : List Rule → ℕ → Option Rule
@@ -22,7 +26,11 @@ abbrev pub known : Option (Option Operand) → Option Operand
 known None = None
 known (Some kept) = kept
 
-abbrev pub kept_under : List (Option Operand) → ℕ → Option Operand
+-- what is kept of each rule, by place
+abbrev pub KnownValues : Type 0
+KnownValues = List (Option Operand)
+
+abbrev pub kept_under : KnownValues → ℕ → Option Operand
 kept_under values number = known (slice_get values number)
 
 -- What is kept under the number of a rule is the value of that rule over these answers.
@@ -42,9 +50,21 @@ AddsValue number operand old new =
 
 -- ---- rounds
 
+-- a value of a kind, with this number, or with what this question answers
+abbrev pub operand_of : ValueKind → ℕ → ℕ → Operand
+operand_of kind.Undefined number question = Made outcome.Undefined
+operand_of kind.True number question = Made (outcome.Boolean true)
+operand_of kind.False number question = Made (outcome.Boolean false)
+operand_of kind.Number number question = Made (outcome.Number number)
+operand_of kind.Answer number question = Answer question
+
+-- the value that is kept
+abbrev pub kept_operand : KeptValue → Operand
+kept_operand kept = operand_of kept.kind kept.number kept.question
+
 -- what was kept of a rule in a round
 abbrev pub in_round : ℕ → KeptValue → Option Operand
-in_round round kept = if kept.round == round then Some kept.value else None
+in_round round kept = if kept.round == round then Some (kept_operand kept) else None
 
 -- None was kept in a later round.
 abbrev pub AreUpTo : ℕ → List KeptValue → Type 0

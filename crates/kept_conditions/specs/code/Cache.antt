@@ -3,7 +3,7 @@ use Rattle.std.specs.Prelude.{◌≡◌, ℕ, ◌<◌, ◌≤◌, Bool, All, Opt
 use Rattle.std.specs.Vec.{vec_capacity}
 use Rattle.hii_bytes.specs.code.FirstFaults.{Rise}
 use Rattle.ifr_opcodes.specs.Forest.{Node}
-use Rattle.ifr_expr.specs.declared.value.Operand.{Operand}
+use Rattle.ifr_expr.specs.code.RuleValues.{KnownValues}
 use Rattle.ifr_nodes.specs.Nodes.{nodes_of}
 use Rattle.ifr_nodes.specs.Rules.{is_rule}
 use Rattle.hii_varstore.specs.code.Table.{AreBuffers}
@@ -54,7 +54,7 @@ pub record IsIndex (ifr : List ℕ) (dependents : Dependents) (index : Index) : 
       ≡ is_touched (nodes_of ifr) bytes k
 
 -- This is kept over these stores, of which no two have one id, with these values of rules.
-pub record AreKept (kept : KeptValues) (stores : StoreMap) (values : List (Option Operand)) : Type 0 where
+pub record AreKept (kept : KeptValues) (stores : StoreMap) (values : KnownValues) : Type 0 where
   pub over : kept ≡ kept_over kept.ifr stores
   pub rules : AreRuleValues kept.ifr stores values
   pub buffers : AreBuffers (shape_of stores).buffers
