@@ -40,7 +40,7 @@ pub fn lacks_store(
         ≡ lacks_store (is_known (nodes_of forms.now)) (question_node question.entry)) }
     ensures gathered { AreGathered (nodes_of forms.now) ids.new }
 {
-    let store = question.op.store();
+    let store = question.op().store();
     if store == 0 || size.is_some() {
         return Ok(false);
     }
@@ -87,7 +87,7 @@ pub fn option_fault(
 fn is_choice(question: Question<'_>) -> bool
     ensures { result ≡ is_choice (question_node question.entry) }
 {
-    question.op.op.code == ONE_OF || question.op.op.code == ORDERED_LIST
+    question.op().op.code == ONE_OF || question.op().op.code == ORDERED_LIST
 }
 
 // Refuses the first option of a question with a fault.
@@ -131,10 +131,10 @@ pub(crate) fn check_question(
     ensures gathered { AreGathered (nodes_of forms.now) ids.new }
 {
     if lacks_store(alloc, forms, ids, question, size)? {
-        return Err(question.op.op.fault(Cause::UnknownVarstore));
+        return Err(question.op().op.fault(Cause::UnknownVarstore));
     }
     if is_outside(question, size) {
-        return Err(question.op.op.fault(Cause::FieldOutside));
+        return Err(question.op().op.fault(Cause::FieldOutside));
     }
     check_options(question)
 }

@@ -52,6 +52,7 @@ impl<'i> Field<'i> {
 
     /// The values of options that the question names once it has the new bytes: its number, or the elements of its list. A
     /// checkbox and a text name none.
+    #[inline(always)]
     pub fn items(self) -> Items<'i>
         ensures { items_left result ≡ new_items self.entry }
     {

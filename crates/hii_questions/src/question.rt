@@ -16,9 +16,7 @@ use ifr_scopes::Statement;
 #[derive(Clone, Copy)]
 pub struct Question<'a> {
     pub(crate) statement: Statement<'a>,
-    pub(crate) op: QuestionOp<'a>,
     pub(crate) field: Option<FieldRange>,
-    pub ghost same: { op_of op.op ≡ mark (statement_node statement) },
     pub ghost asks: { is_question (statement_node statement) ≡ true },
     pub ghost wide: { HasWidth (statement_node statement) field } by { HasWidth-prop (statement_node statement) field },
     pub ghost narrow: { IsNarrow (statement_node statement) field } by { IsNarrow-prop (statement_node statement) field },
@@ -42,13 +40,12 @@ impl<'a> Question<'a> {
         ensures { question_view result ≡ entry_view ifr.entry.now entry }
     {
         let statement = Statement::at(ifr, entry.place, entry.position);
-        Question::of(statement, statement.question().unwrap(), entry)
+        Question::of(statement, entry)
     }
 
     /// The question that a statement is, of which this is kept.
     #[inline(always)]
-    pub fn of(statement: Statement<'a>, op: QuestionOp<'a>, entry: QuestionEntry) -> Question<'a>
-        requires same { op_of op.op ≡ mark (statement_node statement) }
+    pub fn of(statement: Statement<'a>, entry: QuestionEntry) -> Question<'a>
         requires asks { is_question (statement_node statement) ≡ true }
         requires wide { HasWidth (statement_node statement) (entry_field entry) }
         requires narrow { IsNarrow (statement_node statement) (entry_field entry) }
@@ -59,7 +56,6 @@ impl<'a> Question<'a> {
     {
         Question {
             statement,
-            op,
             field: entry.field(),
         }
     }
@@ -75,7 +71,7 @@ impl<'a> Question<'a> {
     pub fn id(self) -> u16
         ensures { result ≡ question_id (question_node self.entry).op }
     {
-        self.op.id()
+        self.op().id()
     }
 
     /// The place of the question, in bytes from the package's header.
@@ -90,7 +86,7 @@ impl<'a> Question<'a> {
         ensures place { result.op.place ≡ (question_node self.entry).place }
         ensures bytes { bytes_of result.op ≡ (question_node self.entry).op }
     {
-        self.op
+        self.statement.question_op()
     }
 
     /// Where its field lies, if it has one. That of a question that is no PASSWORD has at most `WIDEST_FIELD` bytes.
@@ -105,6 +101,6 @@ impl<'a> Question<'a> {
     pub fn is_password(self) -> bool
         ensures { result ≡ is_password (question_node self.entry) }
     {
-        self.op.op.code == PASSWORD
+        self.op().op.code == PASSWORD
     }
 }

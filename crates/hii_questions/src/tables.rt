@@ -54,7 +54,7 @@ pub(crate) fn read_questions(
         if let Some(op) = statement.question() {
             let size = layout.size(op.store());
             let entry = QuestionEntry::of(statement, op, size);
-            let question = Question::of(statement, op, entry);
+            let question = Question::of(statement, entry);
             check_question(alloc, forms, &mut store_ids, question, size)?;
             numbers.push(IdEntry {
                 id: question.id(),

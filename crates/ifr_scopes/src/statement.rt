@@ -1,10 +1,12 @@
 //! Statements.
 
-ghost use Rattle.std.specs.Prelude.{◌≡◌, true, Some, None, option_map, if◌then◌else◌};
+ghost use Rattle.std.specs.Prelude.{◌≡◌, true, false, Bool, [], Some, None, option_map, if◌then◌else◌};
+ghost use Rattle.ifr_opcodes.specs.Forest.{Node as Placed};
+ghost use Rattle.ifr_opcodes.specs.Opcode.{has_scope};
 ghost use Rattle.ifr_opcodes.specs.code.Marks.{mark};
 ghost use Rattle.ifr_opcodes.specs.code.Ops.{op_of};
 ghost use Rattle.ifr_nodes.specs.Accepted.{IsAccepted};
-ghost use Rattle.ifr_nodes.specs.Nodes.{is_statement, is_question, options, defaults, inconsistents, no_submits, warnings};
+ghost use Rattle.ifr_nodes.specs.Nodes.{is_statement, is_question, of_question, options, defaults, inconsistents, no_submits, warnings};
 ghost use Rattle.ifr_nodes.specs.code.Checked.{has_statement, node_in};
 ghost use Rattle.ifr_nodes.specs.code.Views.{node_of};
 
@@ -105,6 +107,7 @@ impl<'a> Statement<'a> {
 
     /// The statement at a place of an accepted package, in bytes from its header, where one stands, with its position as
     /// `position` gave it.
+    #[inline(always)]
     pub fn at(ifr: &'a [u8], place: u32, position: u32) -> Statement<'a>
         requires accepted { IsAccepted ifr.now }
         requires there { has_statement ifr.now place ≡ true }
@@ -160,6 +163,26 @@ impl<'a> Statement<'a> {
         } else {
             None
         }
+    }
+
+    /// Whether it opens a scope. Where it does not, it has no conditions, and nothing else stands in its scope.
+    #[inline(always)]
+    pub fn opens_scope(self) -> bool
+        ensures scope { result ≡ has_scope (statement_node self.entry).op }
+        ensures none { result ≡ false
+            → (which : Placed → Bool) → of_question which (statement_node self.entry) ≡ [] }
+    {
+        self.node.op().scope
+    }
+
+    /// The opcode of the statement, which is a question, as that of one.
+    #[inline(always)]
+    pub fn question_op(self) -> QuestionOp<'a>
+        requires { is_question (statement_node self) ≡ true }
+        ensures place { result.op.place ≡ (statement_node self.entry).place }
+        ensures bytes { bytes_of result.op ≡ (statement_node self.entry).op }
+    {
+        self.node.question()
     }
 
     /// The opcode of the statement, by what it is.

@@ -52,7 +52,7 @@ fn faults_of_all(
         if let Some(op) = statement.question() {
             let size = layout.size(op.store());
             let entry = QuestionEntry::of(statement, op, size);
-            let question = Question::of(statement, op, entry);
+            let question = Question::of(statement, entry);
             add_of_question(alloc, forms, &mut store_ids, question, size, &mut faults)?;
         }
     }
