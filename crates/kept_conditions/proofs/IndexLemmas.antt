@@ -12,6 +12,7 @@ use Rattle.ifr_nodes.specs.Nodes.{nodes_of}
 use Rattle.ifr_nodes.specs.Rules.{is_rule}
 use Rattle.ifr_nodes.proofs.PlaceLemmas.{nodes_within}
 use Rattle.ifr_nodes.proofs.StructureLemmas.{rising}
+use Rattle.hii_bytes.specs.code.FirstFaults.{Rise}
 use Rattle.hii_varstore.specs.Stores.{StoreMap}
 use Rattle.guard_policy.proofs.RemovedLemmas.{Ascend, places_ascend, from_zero}
 use Rattle.guard_policy.specs.Conditions.{is_kept}
@@ -100,3 +101,23 @@ module _ (bytes : List ℕ) (accepted : IsAccepted bytes) (holding : ℕ → Boo
       let n = dependent_node ns k in
       ap value_of (at k inside) ∙ ap (λ (b : Bool). record { place = n.place; holds = b }) (tells k inside (sym (kept_at ns dependents.list.items placed kinds k less) ∙ condition)))
       ∙ ap (map (told ns stores)) (kept_dependents ns)
+
+-- Nothing of an index rests on positions.
+pub with_positions : (ifr : List ℕ) (a b : Dependents) (index : Index) → b.list ≡ a.list → b.round ≡ a.round → b.pending ≡ a.pending → IsIndex ifr a index → IsIndex ifr b index
+with_positions ifr a b index list round pending it = record {
+  placed = ap (λ v. map (λ (r : Dependent). r.place) v.items) list ∙ it.placed;
+  kinds = ap (λ v. map (λ (r : Dependent). r.is_rule) v.items) list ∙ it.kinds;
+  rise = subst (λ v. Rise (λ (x : ℕ). x) 0 (map (λ (r : Dependent). r.place) v.items)) (sym list) it.rise;
+  rounds = subst (λ v. (k : ℕ) → k < length v.items → (at_number v.items k).round ≤ b.round) (sym list)
+      (subst (λ n. (k : ℕ) → k < length a.list.items → (at_number a.list.items k).round ≤ n) (sym round) it.rounds);
+  idle = ap (λ v. v.items) pending ∙ it.idle;
+  room = subst (λ v. rules_in v.items ≤ vec_capacity b.pending) (sym list) (subst (λ v. rules_in a.list.items ≤ vec_capacity v) (sym pending) it.room);
+  sorted = it.sorted;
+  all = it.all;
+  summed = it.summed;
+  numbers = it.numbers;
+  small = it.small;
+  by_rule = it.by_rule;
+  are_uses = it.are_uses;
+  found = it.found;
+}

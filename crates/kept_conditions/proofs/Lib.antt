@@ -13,6 +13,7 @@ pub mod VisitsSomeLemmas
 pub mod KeptLemmas
 pub mod RoundLemmas
 pub mod SortLemmas
+pub mod SummaryLemmas
 pub mod ExpressionLemmas
 pub mod CollectionLemmas
 pub mod IndexLemmas

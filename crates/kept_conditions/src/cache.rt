@@ -24,7 +24,7 @@ ghost use Rattle.kept_conditions.specs.code.Dependents.{is_condition};
 ghost use Rattle.kept_conditions.specs.code.Cache.{SetsField};
 
 use crate::collection::collect;
-use crate::dependents::{Dependent, Dependents, condition_dependents, guard_dependents};
+use crate::dependents::{Dependents, condition_dependents, guard_dependents, put_positions};
 use crate::index::{Index, index_over};
 use crate::invalidation::{Ranges, renew, renew_between, renew_within};
 use guard_policy::{Conditions, Denial, Policy, Warning};
@@ -88,11 +88,19 @@ impl<'a> Kept<'a> {
         ensures values { OnOk result (AreRuleValues (bytes_of policy.entry) stores.now rules.new) }
         ensures refused { IfErr result (λ fault. fault ≡ out_of_memory) }
     {
-        let collected = collect(alloc, policy, questions, stores, rules)?;
+        let (collected, places) = collect(alloc, policy, questions, stores, rules)?;
         let index = index_over(alloc, collected.dependencies, collected.rule_uses)?;
-        let dependents = Dependents::over(alloc, collected.list, collected.positions)?;
+        // The places stand in the list, too: their room is that of the positions.
+        let mut dependents = Dependents::over(alloc, collected.list, places)?;
         let guard_dependents = guard_dependents(alloc, policy, &dependents.list)?;
         let condition_dependents = condition_dependents(alloc, policy, &dependents.list)?;
+        put_positions(
+            &mut dependents.positions,
+            policy.forms(),
+            &dependents.list,
+            &guard_dependents,
+            &condition_dependents,
+        );
         Ok(Kept {
             ifr: policy.forms().bytes(),
             dependents,
@@ -102,30 +110,19 @@ impl<'a> Kept<'a> {
         })
     }
 
-    // The dependent at a place, where it is the one that these tell for a number.
-    #[inline(always)]
-    fn dependent_of(&self, dependents: &[u32], number: u32, place: u32) -> Option<Dependent>
-        ensures { IfSome result
-            (λ dependent. (is_condition dependent && dependent.holds) ≡ held self.now.values place) }
-    {
-        let at = *dependents.get(number as usize)?;
-        let dependent = *self.dependents.list.get(at as usize)?;
-        if dependent.place == place {
-            Some(dependent)
-        } else {
-            None
-        }
-    }
-
     // Whether the condition at a place holds, whose dependent these tell for a number. Where that is another, it is searched for.
     #[inline(always)]
     fn holds_by(&self, dependents: &[u32], number: u32, place: u32) -> bool
         ensures { result ≡ held self.now.values place }
     {
-        match self.dependent_of(dependents, number, place) {
-            Some(dependent) => dependent.condition_holds(),
-            None => self.holds(place),
+        if let Some(at) = dependents.get(number as usize) {
+            if let Some(dependent) = self.dependents.list.get(*at as usize) {
+                if dependent.place == place {
+                    return dependent.condition_holds();
+                }
+            }
         }
+        self.holds(place)
     }
 
     /// Evaluates the conditions anew, over the stores after a write of so many bytes, that depend on one of these bytes, and

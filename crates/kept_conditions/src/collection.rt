@@ -219,8 +219,6 @@ fn dependent_places(alloc: Global, forms: &Forms<'_>) -> Result<Vec<u32>, AllocE
 #[derive(Drop)]
 pub(crate) struct Collected {
     pub(crate) list: Vec<Dependent>,
-    /// For each of them how many guards, or conditions of questions, stand before it.
-    pub(crate) positions: Vec<u32>,
     pub(crate) dependencies: Vec<Dependency>,
     pub(crate) rule_uses: Vec<RuleUse>,
 }
@@ -373,23 +371,23 @@ fn add_dependent<'a>(
         is_rule: dependent.is_rule,
         holds,
     })?;
-    collected.positions.push(dependent.position)?;
     Ok(())
 }
 
-/// The dependents of a package by place, the conditions with their values over some stores, and on what they depend.
+/// The dependents of a package by place, the conditions with their values over some stores, and on what they depend; and the places
+/// of the dependents.
 pub(crate) fn collect<'a, 's>(
     alloc: Global,
     policy: Policy<'a, 's>,
     questions: &'s Questions<'a>,
     stores: &Stores,
     values: &mut RuleValues,
-) -> Result<Collected, AllocError>
+) -> Result<(Collected, Vec<u32>), AllocError>
     requires together { questions.now.ifr ≡ bytes_of policy }
     requires kept { AreRuleValues (bytes_of policy) stores.now values.old }
-    ensures collected { IfOk result (λ collected.
+    ensures collected { IfOk result (λ it.
         AreCollected (nodes_of (bytes_of policy.entry)) (is_met_at (world policy.entry stores.now))
-        (length (dependent_nodes (nodes_of (bytes_of policy.entry)))) collected) }
+        (length (dependent_nodes (nodes_of (bytes_of policy.entry)))) it.0) }
     ensures kept { OnOk result (AreRuleValues (bytes_of policy.entry) stores.now values.new) }
 {
     let forms = policy.forms();
@@ -401,7 +399,6 @@ pub(crate) fn collect<'a, 's>(
     };
     let mut collected = Collected {
         list: Vec::with_capacity(alloc, places.len())?,
-        positions: Vec::with_capacity(alloc, places.len())?,
         dependencies: Vec::new(alloc),
         rule_uses: Vec::new(alloc),
     };
@@ -419,5 +416,5 @@ pub(crate) fn collect<'a, 's>(
             values,
         )?;
     }
-    Ok(collected)
+    Ok((collected, places))
 }

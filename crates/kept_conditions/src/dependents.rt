@@ -1,8 +1,8 @@
 //! The dependents of a package: the conditions that are kept and the rules, by place.
 //!
-//! A write begins a round, in which each dependent is visited once at most: it keeps the number of the round, so that no table
-//! is cleared. A visit evaluates a condition; a rule is pending until its dependents are visited. The numbers of dependents are
-//! at hand for guards and for conditions of questions: who asks for a value finds it by one look-up.
+//! A write begins a round, in which each dependent is visited once at most: it keeps the number of the round, so that all are
+//! cleared before one write in 65,535 alone. A visit evaluates a condition; a rule is pending until its dependents are visited.
+//! The numbers of dependents are at hand for guards and for conditions of questions: who asks for a value finds it by one look-up.
 
 ghost use Rattle.std.specs.Prelude.{◌≡◌, ◌<◌, ◌≤◌, ◌&&◌, ℕ, [], IfOk, length, map, ◌+◌, drop, filter, false};
 ghost use Rattle.std.specs.Vec.{vec_capacity};
@@ -22,6 +22,7 @@ ghost use Rattle.kept_conditions.specs.declared.dependents.Dependent.{Dependent}
 use crate::index::{RuleUse, uses_of};
 use guard_policy::{Evaluated, Policy};
 use ifr_expr::RuleValues;
+use ifr_scopes::Forms;
 use std::alloc::{AllocError, Global};
 
 /// A condition that is kept, or a rule.
@@ -30,7 +31,7 @@ pub(crate) struct Dependent {
     /// Where its opcode stands, in bytes from the header of the forms package.
     pub(crate) place: u32,
     /// The number of the write after which it was visited last.
-    pub(crate) round: u32,
+    pub(crate) round: u16,
     /// Whether it is a rule.
     pub(crate) is_rule: bool,
     /// Whether the condition holds.
@@ -54,7 +55,7 @@ pub(crate) struct Dependents {
     /// nothing rests on it.
     pub(crate) positions: Vec<u32>,
     /// The number of the last write.
-    pub(crate) round: u32,
+    pub(crate) round: u16,
     /// The rules that were visited after it, and their dependents not yet. There is room for all rules.
     pub(crate) pending: Vec<u32>,
 }
@@ -284,4 +285,73 @@ pub(crate) fn condition_dependents(
     }
     number_dependents(&mut numbers, dependents);
     Ok(numbers)
+}
+
+// ---- how many stand before each
+
+// Puts a position for the dependent of a number, where that is the one at a place.
+fn put_position(
+    positions: &mut [u32],
+    dependents: &[Dependent],
+    number: u32,
+    place: u32,
+    position: u32,
+) {
+    let at = number as usize;
+    if at < positions.len() && at < dependents.len() && dependents[at].place == place {
+        positions[at] = position;
+    }
+}
+
+// Puts how many guards stand before each dependent that is one. For each guard this tells the number of its dependent.
+fn put_guards(
+    positions: &mut [u32],
+    forms: &Forms<'_>,
+    dependents: &[Dependent],
+    guard_dependents: &[u32],
+) {
+    let mut guards = forms.guards();
+    let mut before = 0u32;
+    for number in guard_dependents {
+        let Some(guard) = guards.next() else {
+            return;
+        };
+        put_position(positions, dependents, *number, guard.place(), before);
+        before = before.wrapping_add(1);
+    }
+}
+
+// Puts how many conditions of questions stand before each dependent that is one. For each of them this tells the number of its
+// dependent.
+fn put_conditions(
+    positions: &mut [u32],
+    forms: &Forms<'_>,
+    dependents: &[Dependent],
+    condition_dependents: &[u32],
+) {
+    let mut conditions = forms.conditions();
+    let mut before = 0u32;
+    for number in condition_dependents {
+        let Some(condition) = conditions.next() else {
+            return;
+        };
+        put_position(positions, dependents, *number, condition.place(), before);
+        before = before.wrapping_add(1);
+    }
+}
+
+/// Puts for each dependent how many guards, or conditions of questions, stand before it. These tell the numbers of the dependents of
+/// guards and of conditions. It serves to spare searches, and nothing rests on it.
+pub(crate) fn put_positions(
+    positions: &mut [u32],
+    forms: &Forms<'_>,
+    dependents: &[Dependent],
+    guard_dependents: &[u32],
+    condition_dependents: &[u32],
+) {
+    for position in positions.iter_mut() {
+        *position = 0;
+    }
+    put_guards(positions, forms, dependents, guard_dependents);
+    put_conditions(positions, forms, dependents, condition_dependents);
 }

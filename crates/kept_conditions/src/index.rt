@@ -5,10 +5,10 @@
 //! however many there are. From where to search, behind those that begin before the end of the bytes, is mostly looked up. On what
 //! a rule depends is kept once, and not again for each that uses the rule.
 
-ghost use Rattle.std.specs.Prelude.{nat_lt, true, false, ◌≡◌, ◌==◌, filter, ◌<◌, ◌≤◌, ◌+◌, length, IfOk, Some, None};
+ghost use Rattle.std.specs.Prelude.{nat_lt, true, false, ◌≡◌, ◌==◌, filter, ◌<◌, ◌≤◌, ◌+◌, ◌^◌, length, IfOk, Some, None};
 ghost use Rattle.std.specs.List.{AllWithin};
 ghost use Rattle.hii_questions.specs.code.Entries.{entry_range};
-ghost use Rattle.kept_conditions.specs.code.Index.{first_of, behind_of, overlaps, RulesRise, AllEndBy, IsSummary, AreSummaries, IsLastOverlapping, HasSame, AreSmall, AreSorted};
+ghost use Rattle.kept_conditions.specs.code.Index.{first_of, behind_of, overlaps, RulesRise, AllEndBy, IsNear, IsSummary, AreSummaries, IsLastOverlapping, HasSame, AreSmall, AreSorted};
 
 use hii_questions::{FieldEntry, FieldRange};
 use std::alloc::{AllocError, Global};
@@ -44,6 +44,15 @@ impl Dependency {
         self.range().behind()
     }
 
+    /// The number of the byte that lies so far behind the first.
+    #[inline(always)]
+    fn past_first(self, distance: u32) -> u64
+        ensures is { result ≡ first_of self + distance }
+        ensures near { result < first_of self + 2 ^ 32 }
+    {
+        self.first() + u64::from(distance)
+    }
+
     /// Whether one of these bytes is among those from a number on up to before another.
     pub(crate) fn overlaps(self, from: u64, end: u64) -> bool
         ensures { result ≡ overlaps from end self }
@@ -72,49 +81,56 @@ pub(crate) fn uses_of(rule_uses: &[RuleUse], rule: u32) -> &[RuleUse]
     &from[..count]
 }
 
-/// A block of dependencies that ends with one: how many they are, and the greatest end of these.
+/// How many dependencies a block has at most that is joined with another.
+const MOST_JOINED: usize = 65536;
+
+/// A block of dependencies that ends with one: how many they are, and how far they reach behind the first byte of that one.
 #[derive(Clone, Copy, Default)]
 pub(crate) struct Summary {
-    pub(crate) len: usize,
-    pub(crate) max_end: u64,
-    /// The greatest end of all dependencies up to the one that ends the block.
-    pub(crate) reach: u64,
+    pub(crate) len: u32,
+    /// From that byte to the greatest end of these.
+    pub(crate) to_end: u32,
+    /// From that byte to the greatest end of all dependencies up to it.
+    pub(crate) to_reach: u32,
 }
 
 // The greatest end of the dependencies up to a place, of which those before it have their summaries.
 fn reach_at(dependencies: &[Dependency], summaries: &[Summary], at: usize) -> u64
     requires inside { at < length dependencies.now }
     requires behind { length summaries.now ≡ at }
+    requires sorted { AreSorted dependencies.now }
     requires summaries { AreSummaries dependencies.now summaries.now }
-    ensures { AllEndBy dependencies.now at result }
+    ensures all { AllEndBy dependencies.now at result }
+    ensures near { IsNear dependencies.now at result }
 {
     let end = dependencies[at].behind();
     if at == 0 {
-        end
-    } else {
-        end.max(summaries[at - 1].reach)
+        return end;
     }
+    end.max(dependencies[at - 1].past_first(summaries[at - 1].to_reach))
 }
 
 // The summary of the dependency at a place behind others that have theirs: blocks of the same length are joined.
 fn summary_at(dependencies: &[Dependency], summaries: &[Summary], at: usize) -> Summary
     requires inside { at < length dependencies.now }
     requires behind { length summaries.now ≡ at }
+    requires sorted { AreSorted dependencies.now }
     requires summaries { AreSummaries dependencies.now summaries.now }
     ensures { IsSummary dependencies.now at result }
 {
     let reach = reach_at(dependencies, summaries, at);
     let mut max_end = dependencies[at].behind();
     let mut len = 1;
-    while len <= at && summaries[at - len].len == len {
-        let before = summaries[at - len];
-        max_end = max_end.max(before.max_end);
-        len += before.len;
+    while len <= at && len <= MOST_JOINED && summaries[at - len].len as usize == len {
+        let before = dependencies[at - len].past_first(summaries[at - len].to_end);
+        max_end = max_end.max(before);
+        len += len;
     }
+    let first = dependencies[at].first();
     Summary {
-        len,
-        max_end,
-        reach,
+        len: len as u32,
+        to_end: (max_end - first) as u32,
+        to_reach: (reach - first) as u32,
     }
 }
 
@@ -123,6 +139,7 @@ pub(crate) fn summaries_of(
     alloc: Global,
     dependencies: &[Dependency],
 ) -> Result<Vec<Summary>, AllocError>
+    requires { AreSorted dependencies.now }
     ensures { IfOk result (λ summaries.
         (length summaries.items ≡ length dependencies.now) × AreSummaries dependencies.now summaries.items) }
 {
@@ -265,14 +282,15 @@ pub(crate) fn last_overlapping(
     let mut left = before;
     while left > 0 {
         let at = left - 1;
-        if summaries[at].reach <= from {
+        let dependency = dependencies[at];
+        if dependency.past_first(summaries[at].to_reach) <= from {
             // None up to here reaches so far.
             return None;
         }
-        if summaries[at].max_end <= from {
+        if dependency.past_first(summaries[at].to_end) <= from {
             // None of the block reaches so far.
-            left -= summaries[at].len;
-        } else if dependencies[at].overlaps(from, end) {
+            left -= summaries[at].len as usize;
+        } else if dependency.overlaps(from, end) {
             return Some(at);
         } else {
             left = at;

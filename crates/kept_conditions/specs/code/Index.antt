@@ -1,5 +1,5 @@
 -- Bytes and rules on which dependents depend, in order, and how those are found that overlap a write.
-use Rattle.std.specs.Prelude.{◌≡◌, ℕ, ◌+◌, ◌<◌, ◌≤◌, ◌==◌, ◌&&◌, nat_lt, Bool, true, false, All, Option, Some, None, List, length, slice_index_or, Contains}
+use Rattle.std.specs.Prelude.{◌≡◌, ℕ, ◌+◌, ◌<◌, ◌≤◌, ◌^◌, ◌==◌, ◌&&◌, nat_lt, Bool, true, false, All, Option, Some, None, List, length, slice_index_or, Contains}
 use Rattle.std.specs.List.{list_any}
 use Rattle.std.specs.List.Sorted.{IsNonDecreasingBy}
 use Rattle.hii_questions.specs.code.Entries.{entry_range}
@@ -34,17 +34,24 @@ at_place rs k = slice_index_or rs k no_dependency
 abbrev pub AllEndBy : List Dependency → ℕ → ℕ → Type 0
 AllEndBy rs at reach = (j : ℕ) → j ≤ at → behind_of (at_place rs j) ≤ reach
 
--- No dependency of a block that is summed up ends behind its `max_end`, and none up to it behind its `reach`.
+-- A number is not before the first byte of the dependency at a place, nor 2^32 or more behind it.
+pub record IsNear (rs : List Dependency) (at number : ℕ) : Type 0 where
+  pub above : first_of (at_place rs at) ≤ number
+  pub below : number < first_of (at_place rs at) + 2 ^ 32
+
+-- No dependency of a block that is summed up ends behind its `to_end`, and none up to it behind its `to_reach`, both counted from the
+-- first byte of the last.
 pub record IsSummary (rs : List Dependency) (at : ℕ) (summary : Summary) : Type 0 where
   pub some : 1 ≤ summary.len
   pub within : summary.len ≤ at + 1
-  pub below : (j : ℕ) → j ≤ at → at < j + summary.len → behind_of (at_place rs j) ≤ summary.max_end
-  pub reached : AllEndBy rs at summary.reach
+  pub below : (j : ℕ) → j ≤ at → at < j + summary.len
+      → behind_of (at_place rs j) ≤ first_of (at_place rs at) + summary.to_end
+  pub reached : AllEndBy rs at (first_of (at_place rs at) + summary.to_reach)
 
 abbrev pub AreSummaries : List Dependency → List Summary → Type 0
 AreSummaries rs summaries =
     (k : ℕ) → k < length summaries
-    → IsSummary rs k (slice_index_or summaries k record { len = 0; max_end = 0; reach = 0 })
+    → IsSummary rs k (slice_index_or summaries k record { len = 0; to_end = 0; to_reach = 0 })
 
 -- None of the dependencies from a place on up to before another overlaps these bytes.
 abbrev pub NoneOverlaps : ℕ → ℕ → List Dependency → ℕ → ℕ → Type 0

@@ -1,4 +1,4 @@
-use Rattle.std.proofs.Common.{◌≡◌, ℕ, Bool, List, sym, ap, ◌∙◌, subst}
+use Rattle.std.proofs.Common.{◌≡◌, ℕ, Bool, List, refl, sym, ap, ◌∙◌, subst}
 use Rattle.hii_bytes.specs.code.FirstFaults.{Rise}
 use Rattle.ifr_nodes.specs.Accepted.{IsAccepted}
 use Rattle.ifr_nodes.specs.Nodes.{nodes_of}
@@ -8,7 +8,7 @@ use Rattle.guard_policy.proofs.ToldLemmas.{evaluated_told}
 use Rattle.kept_conditions.specs.Kept.{Told}
 use Rattle.kept_conditions.specs.code.Cache.{IsIndex, values_of}
 use Rattle.kept_conditions.specs.declared.dependents.Dependent.{Dependent}
-use Rattle.kept_conditions.proofs.IndexLemmas.{IsOver, is_index, values_read}
+use Rattle.kept_conditions.proofs.IndexLemmas.{IsOver, is_index, values_read, with_positions}
 use Rattle.kept_conditions.proofs.LookupLemmas.{rise_from}
 use Rattle.kept_conditions.proofs.DependentLemmas.{TellsOver, told_kept}
 use Rattle.kept_conditions.proofs.cache.Kept.read.Goals.{After-bytes, In_ok-dependents}
@@ -55,12 +55,13 @@ condition_dependents-requires c =
     subst (Rise (λ (r : Dependent). r.place) 0) (sym c.deref-2.ensures.value) (rise_from 0 c.in_ok-dependents.dependents.list.items (made at).rise)
 
 same_bytes : (c : After-bytes) → c.bytes.result.now ≡ bytes_of c.args.policy
-same_bytes c = c.bytes.ensures.bytes ∙ c.forms.ensures
+same_bytes c = c.bytes.ensures.bytes ∙ c.forms-2.ensures
 
 pub invariant_of-result : goal.invariant_of-result
 invariant_of-result c =
     let at = (goal.at.invariant_of-result c).In_ok-dependents in
-    subst (λ (b : List ℕ). IsIndex b c.in_ok-dependents.dependents c.in_ok-index.index) (sym (same_bytes c)) (made at)
+    with_positions c.bytes.result.now c.in_ok-dependents.dependents _ c.in_ok-index.index refl refl refl
+    (subst (λ (b : List ℕ). IsIndex b c.in_ok-dependents.dependents c.in_ok-index.index) (sym (same_bytes c)) (made at))
 
 pub returns-clause-kept : goal.returns-clause-kept
 returns-clause-kept c =

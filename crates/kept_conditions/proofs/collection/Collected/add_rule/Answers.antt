@@ -16,7 +16,7 @@ pub returns-in_ok-push : goal.returns-in_ok-push
 returns-in_ok-push c =
     let m = rule_node c.in-Some.rule in
     let l : RuleUse = record { rule = c.number_of.result; dependent = c.args.number } in
-    let new : Collected = record { list = c.args.self.now.list; positions = c.args.self.now.positions; dependencies = c.args.self.now.dependencies; rule_uses = c.push.new.self } in
+    let new : Collected = record { list = c.args.self.now.list; dependencies = c.args.self.now.dependencies; rule_uses = c.push.new.self } in
     adds_rule c.args.source.forms.now c.args.source.accepted c.args.number c.args.reference.id c.args.reference.place m c.in-Some.ensures l c.requires.inside refl c.number_of.ensures.within
     (c.number_of.ensures.there ∙ c.place.ensures) c.requires.before c.args.self.now new refl refl c.in_ok-push.ensures.items
 
