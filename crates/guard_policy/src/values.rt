@@ -1,8 +1,9 @@
 //! What a policy decides of the values of questions.
 
-ghost use Rattle.std.specs.Prelude.{◌≡◌, map, option_map};
+ghost use Rattle.std.specs.Prelude.{◌≡◌, true, map, option_map, IsErr};
 ghost use Rattle.std.specs.Iterator.{YieldsFirstBy};
 ghost use Rattle.std.specs.List.{find};
+ghost use Rattle.ifr_opcodes.specs.Opcode.{has_scope};
 ghost use Rattle.ifr_nodes.specs.Nodes.{warnings};
 ghost use Rattle.ifr_nodes.specs.code.Checked.{IsNodeOf};
 ghost use Rattle.ifr_scopes.specs.code.ConditionsLeft.{conditions_of_left};
@@ -119,7 +120,7 @@ impl<'a, 's> Policy<'a, 's> {
     }
 
     /// Whether the value of a question of the package is consistent, by values of rules over these stores. Those that it asks for
-    /// are kept there.
+    /// are kept there. Its conditions are looked for first near a position, and then near that where they stand.
     #[tactic(auto, using(ifr_opcodes::proofs::StatementLemmas::inconsistent_is))]
     #[inline(always)]
     pub fn consistent_by(
@@ -127,6 +128,31 @@ impl<'a, 's> Policy<'a, 's> {
         question: Question<'a>,
         stores: &Stores,
         rules: &mut RuleValues,
+        near: &mut usize,
+    ) -> Result<(), Denial>
+        requires node { IsNodeOf self.now.forms.now (question_node question) }
+        requires kept { AreRuleValues self.now.forms.now stores.now rules.old }
+        ensures denied { result ≡ denying.unless
+            (spec.inconsistent (world self.now stores.now) (question_node question.entry)) }
+        // Where the question opens no scope, there is no denial.
+        ensures scoped { IsErr result → has_scope (question_node question.entry).op ≡ true }
+        ensures kept { AreRuleValues self.now.forms.now stores.now rules.new }
+    {
+        if !question.statement().opens_scope() {
+            return Ok(());
+        }
+        self.consistent_inside(question, stores, rules, near)
+    }
+
+    // The same, of a question that opens a scope.
+    #[tactic(auto, using(ifr_opcodes::proofs::StatementLemmas::inconsistent_is))]
+    #[inline(never)]
+    fn consistent_inside(
+        &self,
+        question: Question<'a>,
+        stores: &Stores,
+        rules: &mut RuleValues,
+        near: &mut usize,
     ) -> Result<(), Denial>
         requires node { IsNodeOf self.now.forms.now (question_node question) }
         requires kept { AreRuleValues self.now.forms.now stores.now rules.old }
@@ -136,10 +162,8 @@ impl<'a, 's> Policy<'a, 's> {
     {
         let inconsistents = self
             .forms
-            .conditions_of(question.statement(), INCONSISTENT_IF);
-        if inconsistents.is_done() {
-            return Ok(());
-        }
+            .conditions_near(question.statement(), INCONSISTENT_IF, *near);
+        *near = self.forms.position_of_conditions(&inconsistents);
         match self.first_holding_by(inconsistents, stores, rules) {
             Some(condition) => Err(Denial::telling(DenialKind::InconsistentIf, condition)),
             None => Ok(()),

@@ -16,3 +16,4 @@ pub mod ConditionAtLemmas
 pub mod OutwardLemmas
 pub mod GivingOfLemmas
 pub mod QuestionCountLemmas
+pub mod NearLemmas

@@ -39,6 +39,7 @@ impl<'s, 'a> Around<'s, 'a> {
     }
 
     /// The LOCKED that decides, if it is locked.
+    #[inline(always)]
     pub fn lock(self) -> Option<LockView<'a>>
         ensures { option_map lock_node result ≡ around_lock self.entry }
     {

@@ -37,6 +37,7 @@ use crate::any_condition::AnyCondition;
 use crate::around::{Around, guard_number, lock_place};
 use crate::condition_view::ConditionView;
 use crate::conditions_in::ConditionsIn;
+use crate::conditions_near::conditions_behind_near;
 use crate::conditions_of::ConditionsOf;
 use crate::form::{Form, FormViews};
 use crate::form_set::FormSet;
@@ -316,6 +317,21 @@ impl<'a> Forms<'a> {
         }
     }
 
+    // The same, with no search where they stand near a position.
+    fn conditions_behind_near(&self, statement: Statement<'a>, near: usize) -> &[ConditionEntry]
+        ensures { result.now ≡ (if has_scope (statement_node statement.entry).op
+            then filter (λ c. nat_lt (statement_node statement.entry).place c.place)
+            (condition_table (nodes_of self.now))
+            else []) }
+    {
+        let op = statement.op().op;
+        if op.scope {
+            conditions_behind_near(&self.index.conditions, op.place, near)
+        } else {
+            &[]
+        }
+    }
+
     /// The conditions of a number that stand in the scope of the question that a statement is, by place, found in one search;
     /// none of a statement that is none.
     #[inline(always)]
@@ -331,6 +347,34 @@ impl<'a> Forms<'a> {
             question: statement.place(),
             code,
         }
+    }
+
+    /// The same, with no search where they stand near a position.
+    pub fn conditions_near(
+        &self,
+        statement: Statement<'a>,
+        code: u8,
+        near: usize,
+    ) -> ConditionsOf<'_, 'a>
+        requires node { IsNodeOf self.now (statement_node statement) }
+        requires condition { is_condition_number code ≡ true }
+        ensures { conditions_of_left result
+            ≡ of_question (λ n. number n.op == code) (statement_node statement.entry) }
+    {
+        ConditionsOf {
+            ifr: self.ifr,
+            kept: self.conditions_behind_near(statement, near),
+            question: statement.place(),
+            code,
+        }
+    }
+
+    /// Near which position conditions that were found stand.
+    pub fn position_of_conditions(&self, conditions: &ConditionsOf<'_, 'a>) -> usize {
+        self.index
+            .conditions
+            .len()
+            .saturating_sub(conditions.kept.len())
     }
 
     /// All conditions, of any number, that stand in the scope of the question that a statement is, by place, found in one
@@ -441,6 +485,7 @@ impl<'a> Forms<'a> {
     }
 
     /// The same, with no search where as many forms, statements and options stand before the place as the position says.
+    #[inline(always)]
     pub fn around_at(&self, place: u32, position: u32) -> Around<'_, 'a>
         ensures guards { around_guards result ≡ guards_of_indexed (nodes_of self.now) place }
         ensures lock { around_lock result ≡ lock_of_indexed (nodes_of self.now) place }

@@ -8,6 +8,7 @@ mod any_condition;
 mod around;
 mod condition_view;
 mod conditions_in;
+mod conditions_near;
 mod conditions_of;
 mod default_view;
 mod dependence;

@@ -5,8 +5,9 @@
 //! the values are at all times those over them.
 
 ghost use Rattle.std.specs.Iterator.{YieldsFirstBy};
-ghost use Rattle.std.specs.Prelude.{◌≡◌, ◌&&◌, IfOk, IfErr, IfSome, OnOk, ℕ, Some};
+ghost use Rattle.std.specs.Prelude.{◌≡◌, ◌&&◌, true, IfOk, IfErr, IfSome, OnOk, ℕ, Some};
 ghost use Rattle.hii_bytes.specs.Faults.{out_of_memory};
+ghost use Rattle.ifr_opcodes.specs.Opcode.{has_scope};
 ghost use Rattle.ifr_nodes.specs.Nodes.{nodes_of};
 ghost use Rattle.ifr_nodes.specs.code.Checked.{IsNodeOf};
 ghost use Rattle.hii_varstore.specs.Stores.{StoreMap, shape_of, byte_of, bytes_of_field};
@@ -243,6 +244,8 @@ pub struct KeptStores<'a> {
     rules: RuleValues,
     // at most 2^64 - 1
     renewed: u64,
+    // Near which position conditions of questions were found last. It may spare a search, and nothing rests on it.
+    near: usize,
 }
 
 impl<'a> Drop for KeptStores<'a> {
@@ -252,6 +255,7 @@ impl<'a> Drop for KeptStores<'a> {
             kept: _,
             rules: _,
             renewed: _,
+            near: _,
         } = self;
     }
 }
@@ -289,6 +293,7 @@ impl<'a> KeptStores<'a> {
             kept,
             rules,
             renewed: 0,
+            near: 0,
         })
     }
 
@@ -337,7 +342,7 @@ impl<'a> KeptStores<'a> {
     }
 
     /// Puts the new bytes of a field of a question of the package, unless an INCONSISTENT_IF of it holds over the stores with them,
-    /// which then stay as they are. `old` are the bytes that the field has.
+    /// which then stay as they are. `old` are the bytes that the field has, where the question opens a scope.
     #[inline(always)]
     pub fn set(
         &mut self,
@@ -349,14 +354,15 @@ impl<'a> KeptStores<'a> {
         requires package { bytes_of policy ≡ self.old.ifr }
         requires node { IsNodeOf (bytes_of policy) (question_node question) }
         requires range { HasRange (shape_of self.old.stores) field.store field.offset field.width }
-        requires bytes { bytes_of_field self.old.stores field.store field.offset field.width
-            ≡ Some old.now }
+        requires bytes { has_scope (question_node question).op ≡ true
+            → bytes_of_field self.old.stores field.store field.offset field.width ≡ Some old.now }
         ensures { SetsField policy.entry (question_node question.entry) field.entry
             self.old self.new result }
     {
         field.put(&mut self.stores);
         self.rules.forget();
-        if let Err(denial) = policy.consistent_by(question, &self.stores, &mut self.rules) {
+        let (rules, near) = (&mut self.rules, &mut self.near);
+        if let Err(denial) = policy.consistent_by(question, &self.stores, rules, near) {
             // Neither the try nor taking it back is a write.
             self.stores
                 .field_mut(field.store, usize::from(field.offset), field.width)

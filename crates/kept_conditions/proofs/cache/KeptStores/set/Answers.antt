@@ -1,4 +1,5 @@
-use Rattle.std.proofs.Common.{◌≡◌, ℕ, List, sym, ap, ◌∙◌, subst}
+use Rattle.std.proofs.Common.{◌≡◌, ℕ, List, refl, sym, ap, ◌∙◌, subst}
+use Rattle.std.specs.Prelude.{IsErr}
 use Rattle.hii_varstore.specs.Layout.{Shape}
 use Rattle.hii_varstore.specs.Stores.{StoreMap, shape_of, with_bytes}
 use Rattle.hii_varstore.specs.code.Table.{AreBuffers}
@@ -22,7 +23,7 @@ use Rattle.kept_conditions.proofs.cache.KeptStores.set.Goals as goal
 pub copy_from_slice-requires : goal.copy_from_slice-requires
 copy_from_slice-requires c =
     let field = c.args.field in
-    c.field_mut.ensures.size ∙ sym (field_size c.args.self.now.stores field.store field.offset field.width c.args.old.now c.requires.range c.requires.bytes)
+    c.field_mut.ensures.size ∙ sym (field_size c.args.self.now.stores field.store field.offset field.width c.args.old.now c.requires.range (c.requires.bytes (c.consistent_by.ensures.scoped (subst IsErr (sym c.in-Err.is) refl))))
 
 -- the stores are what they were
 back : (c : After-copy_from_slice) → with_bytes c.put.new.stores c.args.field.store c.from.result c.copy_from_slice.new.self ≡ c.args.self.now.stores
@@ -34,7 +35,7 @@ back c =
     ap (λ (at : ℕ). with_bytes c.put.new.stores field.store at c.copy_from_slice.new.self) c.from.ensures
     ∙ ap (λ (bytes : List ℕ). with_bytes c.put.new.stores field.store field.offset bytes) c.copy_from_slice.ensures.after
     ∙ ap (λ (m : StoreMap). with_bytes m field.store field.offset c.args.old.now) put
-    ∙ taken_back old field.store field.offset field.width (new_bytes field) c.args.old.now sound c.requires.range c.requires.bytes (filled_wide field.width (content_bytes field.content) field.fits)
+    ∙ taken_back old field.store field.offset field.width (new_bytes field) c.args.old.now sound c.requires.range (c.requires.bytes (c.consistent_by.ensures.scoped (subst IsErr (sym c.in-Err.is) refl))) (filled_wide field.width (content_bytes field.content) field.fits)
 
 pub invariant_of-self : goal.invariant_of-self
 invariant_of-self c =
