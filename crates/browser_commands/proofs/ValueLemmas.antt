@@ -58,13 +58,10 @@ pub denies : (policy : Policy) (core : Inside) (shown : Shown) (q : Asked) (offe
     → SetsQuestion policy q offer core.working now (Err denial) → Changes shown q.node offer (with_stores core now) (Err denial)
 denies policy core shown q offer now denial same its sets = (sets.1 shown.state its, ap (with_stores core) sets.0 ∙ same)
 
--- the spare stores follow in the field
-pub stands_set : (core : Inside) (now : KeptMap) (spare : StoreMap) (field : Field) → IsStanding core → now ≡ put_in core.working field → spare ≡ with_bytes core.spare field.store field.offset (new_bytes field)
-    → shape_of spare ≡ shape_of core.spare → IsStandingWith core now spare true None
-stands_set core now spare field stands is follows shape =
-    stands_with core now spare true stands (ap (λ (m : KeptMap). m.ifr) is) (shape ∙ ap shape_of stands.same ∙ stands.laid)
-    (follows ∙ ap (λ (m : StoreMap). with_bytes m field.store field.offset (new_bytes field)) stands.same ∙ sym (ap (λ (m : KeptMap). m.stores) is))
-    (λ e. absurd cc)
+-- the spare stores follow
+pub stands_given : (core : Inside) (now : KeptMap) (spare : StoreMap) → IsStanding core → now.ifr ≡ core.working.ifr → spare ≡ now.stores → shape_of spare ≡ shape_of core.spare → IsStandingWith core now spare true None
+stands_given core now spare stands ifr follows shape =
+    stands_with core now spare true stands ifr (shape ∙ ap shape_of stands.same ∙ stands.laid) follows (λ e. absurd cc)
 
 -- so it is with the question of an id
 pub sets_named : (s now : Shown) (q : Option Node) (n : Node) (offer : Offer) (r : Result (Unit {0}) Denial) → q ≡ Some n → Changes s n offer now r → Sets s q offer now r

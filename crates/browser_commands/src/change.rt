@@ -12,7 +12,7 @@ ghost use Rattle.hii_varstore.specs.Stores.{shape_of};
 ghost use Rattle.guard_policy.specs.Policy.{first_closed};
 ghost use Rattle.guard_policy.specs.code.Answers.{unless};
 ghost use Rattle.guard_policy.specs.code.Views.{bytes_of, world};
-ghost use Rattle.browser_commands.specs.code.Changing.{IsBrowsed, IsFreeQuestion, IsHeld, TakesField, SetsQuestion, SetsValue};
+ghost use Rattle.browser_commands.specs.code.Changing.{GivesValue, GoesBack, IsBrowsed, IsFreeQuestion, TakesField, SetsValue};
 ghost use Rattle.browser_commands.specs.code.Standing.{IsOffered, IsQuestionIn};
 
 use guard_policy::{Denial, Policy};
@@ -24,30 +24,34 @@ use kept_conditions::KeptStores;
 // Up to how many bytes a field has so few elements that each is looked for by itself: what is kept for many would take longer.
 const NARROW: usize = 8;
 
-/// Gives a question a value, or tells why it may not have it. The working stores then hold what they held, as the spare ones do,
-/// or new bytes in the question's field.
+/// Gives a question a value, or tells why it may not have it. The working stores then hold what they held, or new bytes in the
+/// question's field. The spare stores, which hold what the working ones do, follow.
 #[inline(always)]
-pub(crate) fn give_value<'a, 'i>(
+pub(crate) fn give_value<'a>(
     policy: Policy<'a, '_>,
     question: Question<'a>,
-    input: Input<'i>,
+    input: Input<'_>,
     working: &mut KeptStores<'a>,
-    spare: &Stores,
-) -> Result<Field<'i>, Denial>
+    spare: &mut Stores,
+) -> Result<(), Denial>
     requires question { IsQuestionIn (bytes_of policy) (question_view question) }
     requires browsed { IsBrowsed policy working.old }
-    requires same { spare.now ≡ working.old.stores }
+    requires same { spare.old ≡ working.old.stores }
     requires input { IsOffered input }
-    ensures { SetsQuestion policy.entry (question_view question.entry) (offer_of input.entry)
+    ensures gives { GivesValue policy.entry (question_view question.entry) (offer_of input.entry)
         working.old working.new result }
+    ensures same { spare.new ≡ working.new.stores }
+    ensures shape { shape_of spare.new ≡ shape_of spare.old }
 {
     let around = working.changeable_question(policy, question)?;
     let old = held_in(spare, question);
-    set_value(policy, question, around, input, working, old)
+    let field = set_value(policy, question, around, input, working, old)?;
+    field.put(spare);
+    Ok(())
 }
 
 /// Gives a question that is not fixed, around which this stands, a value, or tells why it may not have it. `old` are the bytes of
-/// its field, if it has one. The working stores then hold what they held, or new bytes in this field.
+/// its field, if it has one and opens a scope. The working stores then hold what they held, or new bytes in this field.
 #[inline(always)]
 pub(crate) fn set_value<'a, 's, 'i>(
     policy: Policy<'a, 's>,
@@ -58,7 +62,7 @@ pub(crate) fn set_value<'a, 's, 'i>(
     old: &[u8],
 ) -> Result<Field<'i>, Denial>
     requires free { IsFreeQuestion policy working.old question around }
-    requires held { IsHeld working.old.stores (question_view question) old.now }
+    requires held { GoesBack working.old.stores (question_view question) old.now }
     requires input { IsGiven (question_view question).field input }
     ensures { SetsValue policy.entry (question_view question.entry) (offer_of input.entry)
         working.old working.new result }
@@ -168,12 +172,16 @@ pub(crate) fn bytes_in<'s>(stores: &'s Stores, question: Question<'_>) -> Option
     stores.field(field.store, usize::from(field.offset), field.width)
 }
 
-// The bytes of the field of a question, none if it has no field.
+// The bytes of the field of a question that opens a scope, none if it has no field: where an INCONSISTENT_IF in the scope holds, they
+// are put back. Of a question that opens none they are not looked up.
 #[inline(always)]
 fn held_in<'s>(stores: &'s Stores, question: Question<'_>) -> &'s [u8]
     requires { LiesIn (shape_of stores.now) (question_view question) }
-    ensures { IsHeld stores.now (question_view question.entry) result.now }
+    ensures { GoesBack stores.now (question_view question.entry) result.now }
 {
+    if !question.statement().opens_scope() {
+        return &[];
+    }
     match bytes_in(stores, question) {
         Some(bytes) => bytes,
         None => &[],

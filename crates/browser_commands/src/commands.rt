@@ -94,9 +94,9 @@ impl<'a> Browser<'a> {
                 self.put_page(out);
                 Reply::Accepted
             }
-            Command::Set { question, value } => self.set(question, Input::Number(value), out),
-            Command::Order { question, list } => self.set(question, Input::List(list), out),
-            Command::Text { question, text } => self.set(question, Input::Utf8(text), out),
+            Command::Set { question, value } => self.set_apart(question, Input::Number(value), out),
+            Command::Order { question, list } => self.set_apart(question, Input::List(list), out),
+            Command::Text { question, text } => self.set_apart(question, Input::Utf8(text), out),
             Command::Go(question) => {
                 let followed = self.follow(question);
                 self.answer(followed, out)

@@ -126,10 +126,7 @@ impl<'a, 's> Sources<'a, 's> {
             return false;
         };
         match give_value(self.policy, question, input, working, spare) {
-            Ok(field) => {
-                field.put(spare);
-                true
-            }
+            Ok(()) => true,
             Err(_) => false,
         }
     }

@@ -128,8 +128,8 @@ pub(crate) fn put_warnings<'a, W: Write>(
         (map warning_of (warned (world policy.entry stores.old.stores) (question_node question.entry)))) }
     ensures same { stores.new ≡ stores.old }
 {
-    let conditions = policy.warning_conditions(question);
-    if !conditions.is_done() {
+    if question.statement().opens_scope() {
+        let conditions = policy.warning_conditions(question);
         put_each_warning(policy, conditions, stores, languages, language, out);
     }
 }

@@ -73,6 +73,7 @@ impl<'a> Browser<'a> {
     }
 
     // Sets the question of an id to a value and writes of what it warns, or writes why it is denied.
+    #[inline(always)]
     pub(crate) fn set<W: Write>(&mut self, id: u16, input: Input<'_>, out: &mut Watched<W>) -> Reply
         requires { IsOffered input }
         ensures state { self.new.state
@@ -94,7 +95,33 @@ impl<'a> Browser<'a> {
         }
     }
 
+    // The same as `set`, by a call of its own.
+    #[inline(never)]
+    pub(crate) fn set_apart<W: Write>(
+        &mut self,
+        id: u16,
+        input: Input<'_>,
+        out: &mut Watched<W>,
+    ) -> Reply
+        requires { IsOffered input }
+        ensures state { self.new.state
+            ≡ (set_question self.old.state (question_with (nodes_of self.old.state.ifr) id)
+            (offer_of input.entry)).state }
+        ensures text { Puts W.contents out.old out.new
+            (set_question self.old.state (question_with (nodes_of self.old.state.ifr) id)
+            (offer_of input.entry)).text }
+        ensures reply { result
+            ≡ (set_question self.old.state (question_with (nodes_of self.old.state.ifr) id)
+            (offer_of input.entry)).reply }
+        ensures renewed { self.new.renewed ≡ counted_all self.old.renewed
+            (nodes_of self.old.state.ifr) (field_writes (nodes_of self.old.state.ifr)
+            (named_if (question_with (nodes_of self.old.state.ifr) id) result)) }
+    {
+        self.set(id, input, out)
+    }
+
     // Sets the question of an id to a value and writes of what it warns, or tells why it may not have it.
+    #[inline(always)]
     fn set_named<W: Write>(
         &mut self,
         id: u16,
@@ -113,6 +140,7 @@ impl<'a> Browser<'a> {
     }
 
     // Sets a question to a value and writes of what it warns then, or tells why it may not have it.
+    #[inline(always)]
     fn set_question<W: Write>(
         &mut self,
         question: Question<'a>,
@@ -130,7 +158,7 @@ impl<'a> Browser<'a> {
         self.is_written = true;
         self.submission = None;
         let policy = Policy::new(&self.forms, &self.questions, &self.removed);
-        let field = give_value(policy, question, input, &mut self.working, &self.spare)?;
+        give_value(policy, question, input, &mut self.working, &mut self.spare)?;
         put_done(out);
         put_warnings(
             policy,
@@ -140,7 +168,6 @@ impl<'a> Browser<'a> {
             self.language,
             out,
         );
-        field.put(&mut self.spare);
         Ok(())
     }
 }

@@ -1,8 +1,9 @@
 -- What the steps of a change of stores come to.
-use Rattle.std.specs.Prelude.{◌≡◌, ℕ, false, List, [], ◌∷◌, ◌++◌, length, map, take, Option, Some, None, Result, Ok, Err, IfOk}
+use Rattle.std.specs.Prelude.{◌≡◌, ℕ, true, false, List, [], ◌∷◌, ◌++◌, length, map, take, Option, Some, None, Result, Ok, Err, IfOk}
 use Rattle.std.specs.List.{AllByRecursion}
 use Rattle.browser_rules.specs.Configuration.{Block}
 use Rattle.ifr_opcodes.specs.Forest.{Node}
+use Rattle.ifr_opcodes.specs.Opcode.{has_scope}
 use Rattle.ifr_nodes.specs.Nodes.{nodes_of}
 use Rattle.ifr_scopes.specs.declared.around.Around.{Around}
 use Rattle.hii_varstore.specs.Layout.{Shape}
@@ -68,6 +69,10 @@ IsHeld stores q bytes =
     (f : fields.Field) → q.field ≡ Some f
     → bytes_of_field stores f.store f.offset f.width ≡ Some bytes
 
+-- These are they, if the question opens a scope, in which an INCONSISTENT_IF may stand: where that holds, they are put back.
+abbrev pub GoesBack : StoreMap → Asked → List ℕ → Type 0
+GoesBack stores q bytes = has_scope q.node.op ≡ true → IsHeld stores q bytes
+
 -- The package that a policy decides over can be browsed, and these stores are its own.
 pub record IsBrowsed (policy : Policy) (working : KeptMap) : Type 0 where
   pub browsable : IsBrowsable (bytes_of policy)
@@ -103,6 +108,11 @@ SetsValue policy q offer old new result =
 abbrev pub SetsQuestion : Policy → Asked → Offer → KeptMap → KeptMap → Result Field Denial → Type 0
 SetsQuestion policy q offer old new result =
     SetsTo (λ s. set_question s (Some q.node) offer) policy q old new result
+
+-- So it is with one that may be, where new bytes fill some field.
+abbrev pub GivesValue : Policy → Asked → Offer → KeptMap → KeptMap → Result (Unit {0}) Denial → Type 0
+GivesValue policy q offer old new (Ok done) = (field : Field) × SetsQuestion policy q offer old new (Ok field)
+GivesValue policy q offer old new (Err denial) = SetsQuestion policy q offer old new (Err denial)
 
 -- ---- blocks of configuration texts
 

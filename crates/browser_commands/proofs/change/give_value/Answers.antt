@@ -1,22 +1,25 @@
-use Rattle.std.proofs.Common.{◌≡◌, Err, refl, sym, ap, subst, ◌∙◌}
+use Rattle.std.proofs.Common.{◌≡◌, Ok, Err, refl, sym, ap, subst, ◌∙◌}
 use Rattle.std.proofs.lemmas.Result.{err_from_is_err_and}
 use Rattle.hii_varstore.specs.Layout.{Shape}
-use Rattle.hii_varstore.specs.Stores.{StoreMap, shape_of}
+use Rattle.hii_varstore.specs.Stores.{StoreMap, shape_of, with_bytes}
+use Rattle.hii_varstore.specs.code.Ranges.{HasRange}
 use Rattle.hii_values.specs.code.Offers.{offer_of}
 use Rattle.hii_questions.specs.code.LyingIn.{LiesIn}
+use Rattle.hii_questions.specs.code.NewBytes.{new_bytes}
 use Rattle.hii_questions.specs.code.Views.{question_node, question_view}
 use Rattle.guard_policy.specs.Policy.{fixed}
 use Rattle.guard_policy.specs.World.{World}
 use Rattle.guard_policy.specs.code.Answers.{unless}
 use Rattle.guard_policy.specs.code.Views.{bytes_of}
 use Rattle.guard_policy.proofs.DenialLemmas.{none_of}
+use Rattle.kept_conditions.specs.Kept.{KeptMap}
 use Rattle.session_steps.specs.State.{world_of}
-use Rattle.browser_commands.specs.code.Changing.{IsHeld}
+use Rattle.browser_commands.specs.code.Changing.{GoesBack}
 use Rattle.browser_commands.proofs.SetLemmas.{fixed_question, lies_in, over_world, sets_free}
 use Rattle.browser_commands.proofs.change.give_value.Goals as goal
 
-pub returns-in_err-around : goal.returns-in_err-around
-returns-in_err-around c =
+pub returns-in_err-around-clause-gives : goal.returns-in_err-around-clause-gives
+returns-in_err-around-clause-gives c =
     let n = question_node c.args.question in
     let denial = c.in_err-around.field-0.0 in
     let p = err_from_is_err_and c.from_residual.result c.from_residual.ensures.1 in
@@ -42,10 +45,31 @@ set_value-requires-clause-free c = record {
 }
 
 pub set_value-requires-clause-held : goal.set_value-requires-clause-held
-set_value-requires-clause-held c = subst (λ (m : StoreMap). IsHeld m (question_view c.args.question) c.held_in-old.result.now) c.requires.same c.held_in-old.ensures
+set_value-requires-clause-held c = subst (λ (m : StoreMap). GoesBack m (question_view c.args.question) c.held_in-old.result.now) c.requires.same c.held_in-old.ensures
 
 pub set_value-requires-clause-input : goal.set_value-requires-clause-input
 set_value-requires-clause-input c = c.requires.input (question_view c.args.question).field
 
-pub returns : goal.returns
-returns c = sets_free c.args.policy (question_view c.args.question) (offer_of c.args.input) c.args.working.now c.set_value.new.working c.set_value.result (none_of _ (sym c.in_ok-around.ensures.answer)) c.set_value.ensures
+pub put-requires : goal.put-requires
+put-requires c =
+    let field = c.in_ok-field.field in
+    subst (λ (sh : Shape). HasRange sh field.store field.offset field.width) (ap shape_of (sym c.requires.same)) c.in_ok-field.ensures.4
+
+pub returns-in_err-field-clause-gives : goal.returns-in_err-field-clause-gives
+returns-in_err-field-clause-gives c =
+    let p = err_from_is_err_and c.from_residual-in_err-field.result c.from_residual-in_err-field.ensures.1 in
+    rw (p.1, p.2) (sets_free c.args.policy (question_view c.args.question) (offer_of c.args.input) c.args.working.now c.set_value.new.working (Err c.in_err-field.field-0.0) (none_of _ (sym c.in_ok-around.ensures.answer)) c.in_err-field.ensures)
+
+pub returns-in_err-field-clause-same : goal.returns-in_err-field-clause-same
+returns-in_err-field-clause-same c = c.requires.same ∙ sym (ap (λ (m : KeptMap). m.stores) c.in_err-field.ensures.0)
+
+pub returns-clause-gives : goal.returns-clause-gives
+returns-clause-gives c = (
+  c.in_ok-field.field,
+  sets_free c.args.policy (question_view c.args.question) (offer_of c.args.input) c.args.working.now c.set_value.new.working (Ok c.in_ok-field.field) (none_of _ (sym c.in_ok-around.ensures.answer)) c.in_ok-field.ensures,
+)
+
+pub returns-clause-same : goal.returns-clause-same
+returns-clause-same c =
+    let field = c.in_ok-field.field in
+    c.put.ensures.written ∙ ap (λ (m : StoreMap). with_bytes m field.store field.offset (new_bytes field)) c.requires.same ∙ sym (ap (λ (m : KeptMap). m.stores) c.in_ok-field.ensures.0)

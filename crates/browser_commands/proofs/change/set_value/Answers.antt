@@ -11,7 +11,7 @@ returns-in_err-field c =
     rw (p.1, p.2) (leaves_all c.args.policy (question_view c.args.question) (offer_of c.args.input) c.args.working.now c.in_err-field.field-0.0 c.in_err-field.ensures)
 
 pub set-requires-clause-bytes : goal.set-requires-clause-bytes
-set-requires-clause-bytes c = λ scoped. c.requires.held (range_of c.in_ok-field.field) c.in_ok-field.ensures.2
+set-requires-clause-bytes c = λ scoped. c.requires.held scoped (range_of c.in_ok-field.field) c.in_ok-field.ensures.2
 
 pub returns-in_err-set : goal.returns-in_err-set
 returns-in_err-set c =

@@ -24,28 +24,28 @@ pub returns-in-Page-clause-renewed : goal.returns-in-Page-clause-renewed
 returns-in-Page-clause-renewed g c = meant_count c.args.self.now _ _ _ c.in-Page.is refl
 
 pub returns-in-Order-clause-state : goal.returns-in-Order-clause-state
-returns-in-Order-clause-state g c = meant_state c.args.self.now.state _ _ _ c.in-Order.is c.set-in-Order.ensures.state
+returns-in-Order-clause-state g c = meant_state c.args.self.now.state _ _ _ c.in-Order.is c.set_apart-in-Order.ensures.state
 
 pub returns-in-Order-clause-text : goal.returns-in-Order-clause-text
-returns-in-Order-clause-text g c = meant_text c.args.self.now.state _ _ c.in-Order.is c.set-in-Order.ensures.text
+returns-in-Order-clause-text g c = meant_text c.args.self.now.state _ _ c.in-Order.is c.set_apart-in-Order.ensures.text
 
 pub returns-in-Order-clause-reply : goal.returns-in-Order-clause-reply
-returns-in-Order-clause-reply g c = meant_reply c.args.self.now.state _ _ _ c.in-Order.is c.set-in-Order.ensures.reply
+returns-in-Order-clause-reply g c = meant_reply c.args.self.now.state _ _ _ c.in-Order.is c.set_apart-in-Order.ensures.reply
 
 pub returns-in-Order-clause-renewed : goal.returns-in-Order-clause-renewed
-returns-in-Order-clause-renewed g c = meant_count c.args.self.now _ _ _ c.in-Order.is (by_reply c.args.self.now (λ (r : Reply). field_writes (nodes_of c.args.self.now.state.ifr) (named_if (question_with (nodes_of c.args.self.now.state.ifr) c.in-Order.question) r)) _ _ _ c.set-in-Order.ensures.renewed c.set-in-Order.ensures.reply)
+returns-in-Order-clause-renewed g c = meant_count c.args.self.now _ _ _ c.in-Order.is (by_reply c.args.self.now (λ (r : Reply). field_writes (nodes_of c.args.self.now.state.ifr) (named_if (question_with (nodes_of c.args.self.now.state.ifr) c.in-Order.question) r)) _ _ _ c.set_apart-in-Order.ensures.renewed c.set_apart-in-Order.ensures.reply)
 
 pub returns-in-Text-clause-state : goal.returns-in-Text-clause-state
-returns-in-Text-clause-state g c = meant_state c.args.self.now.state _ _ _ c.in-Text.is c.set-in-Text.ensures.state
+returns-in-Text-clause-state g c = meant_state c.args.self.now.state _ _ _ c.in-Text.is c.set_apart-in-Text.ensures.state
 
 pub returns-in-Text-clause-text : goal.returns-in-Text-clause-text
-returns-in-Text-clause-text g c = meant_text c.args.self.now.state _ _ c.in-Text.is c.set-in-Text.ensures.text
+returns-in-Text-clause-text g c = meant_text c.args.self.now.state _ _ c.in-Text.is c.set_apart-in-Text.ensures.text
 
 pub returns-in-Text-clause-reply : goal.returns-in-Text-clause-reply
-returns-in-Text-clause-reply g c = meant_reply c.args.self.now.state _ _ _ c.in-Text.is c.set-in-Text.ensures.reply
+returns-in-Text-clause-reply g c = meant_reply c.args.self.now.state _ _ _ c.in-Text.is c.set_apart-in-Text.ensures.reply
 
 pub returns-in-Text-clause-renewed : goal.returns-in-Text-clause-renewed
-returns-in-Text-clause-renewed g c = meant_count c.args.self.now _ _ _ c.in-Text.is (by_reply c.args.self.now (λ (r : Reply). field_writes (nodes_of c.args.self.now.state.ifr) (named_if (question_with (nodes_of c.args.self.now.state.ifr) c.in-Text.question) r)) _ _ _ c.set-in-Text.ensures.renewed c.set-in-Text.ensures.reply)
+returns-in-Text-clause-renewed g c = meant_count c.args.self.now _ _ _ c.in-Text.is (by_reply c.args.self.now (λ (r : Reply). field_writes (nodes_of c.args.self.now.state.ifr) (named_if (question_with (nodes_of c.args.self.now.state.ifr) c.in-Text.question) r)) _ _ _ c.set_apart-in-Text.ensures.renewed c.set_apart-in-Text.ensures.reply)
 
 pub returns-in-Go-clause-state : goal.returns-in-Go-clause-state
 returns-in-Go-clause-state g c = meant_state c.args.self.now.state _ _ _ c.in-Go.is (sym (ap (λ (o : Outcome). o.state) c.follow-followed.ensures.answer ∙ answered_state c.follow-followed.new.self.state c.follow-followed.result))

@@ -25,7 +25,7 @@ returns-in-Err-clause-takes c =
     let source = subst (λ (node : Node). IsSource node c.args.class (Some c.in-Some.source)) (sym at.1) c.in-Some.ensures in
     subst (λ (node : Node). TakesDefault c.args.self c.args.class node c.args.working.now c.give_value.new.working false) at.1
     (takes_denied c.args.self c.args.class q c.in-Some.source (offer_of c.in-Some-given_by.input) c.args.working.now c.give_value.new.working _ at.0.asks source
-    (sym (rw c.stores.ensures at c.in-Some-given_by.ensures.default)) c.in-Err.ensures)
+    (sym (rw c.stores.ensures at c.in-Some-given_by.ensures.default)) c.in-Err.ensures.gives)
 
 pub returns-in-Ok-clause-takes : goal.returns-in-Ok-clause-takes
 returns-in-Ok-clause-takes c =
@@ -33,9 +33,7 @@ returns-in-Ok-clause-takes c =
     let q = question_view c.in-Some-question.question in
     let at = is_question_at (bytes_of c.args.self.policy) n q c.requires.node c.in-Some-question.ensures in
     let source = subst (λ (node : Node). IsSource node c.args.class (Some c.in-Some.source)) (sym at.1) c.in-Some.ensures in
-    let field = c.in-Ok.field in
-    let follows : c.put.new.stores ≡ c.give_value.new.working.stores = c.put.ensures.written ∙ ap (λ (m : StoreMap). with_bytes m field.store field.offset (new_bytes field)) c.requires.same ∙ sym (ap (λ (m : KeptMap). m.stores) c.in-Ok.ensures.0) in
-    let shape = ap shape_of (sym follows) ∙ c.put.ensures.shape ∙ ap shape_of c.requires.same in
+    let shape = ap shape_of (sym c.give_value.ensures.same) ∙ c.give_value.ensures.shape ∙ ap shape_of c.requires.same in
     subst (λ (node : Node). TakesDefault c.args.self c.args.class node c.args.working.now c.give_value.new.working true) at.1
-    (takes_set c.args.self c.args.class q c.in-Some.source (offer_of c.in-Some-given_by.input) c.args.working.now c.give_value.new.working field at.0 c.requires.browsed source
-    (sym (rw c.stores.ensures at c.in-Some-given_by.ensures.default)) c.in-Ok.ensures shape)
+    (takes_set c.args.self c.args.class q c.in-Some.source (offer_of c.in-Some-given_by.input) c.args.working.now c.give_value.new.working c.in-Ok.ensures.gives.0 at.0 c.requires.browsed source
+    (sym (rw c.stores.ensures at c.in-Some-given_by.ensures.default)) c.in-Ok.ensures.gives.1 shape)
