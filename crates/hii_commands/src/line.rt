@@ -76,6 +76,7 @@ impl LineBuffer {
         }
     }
 
+    #[inline(always)]
     fn append(&mut self, part: &[u8])
         ensures { (line : List ℕ) → self.old ≡ held_of line
             → self.new ≡ held_of (line ++ part.now) }
