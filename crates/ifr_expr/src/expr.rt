@@ -145,6 +145,22 @@ impl<'a> Expr<'a> {
         given::value(self, answers, rules, this)
     }
 
+    /// The same, by values of rules over the same answers. Those that it asks for are kept there.
+    pub fn value_by<A: Answers<'a>, R: NumberedRules<'a>>(
+        self,
+        answers: &A,
+        rules: &R,
+        this: u16,
+        values: &mut RuleValues,
+    ) -> Value<'a>
+        requires { AreValues (R.rules rules.now) (A.answers answers.now) (kept_under values.old) }
+        ensures value { value_of result
+            ≡ value (R.rules rules.now) (A.answers answers.now) this (tree_of self.entry) }
+        ensures kept { AreValues (R.rules rules.now) (A.answers answers.now) (kept_under values.new) }
+    {
+        given::value_by(self, answers, rules, this, values)
+    }
+
     // Whether a value is that of a condition that holds.
     fn is_met(value: Value<'a>) -> bool
         ensures { result ≡ holds (value_of value.entry) }
@@ -179,7 +195,7 @@ impl<'a> Expr<'a> {
             ≡ holds (value (R.rules rules.now) (A.answers answers.now) this (tree_of self.entry)) }
         ensures kept { AreValues (R.rules rules.now) (A.answers answers.now) (kept_under values.new) }
     {
-        Self::is_met(given::value_by(self, answers, rules, this, values))
+        Self::is_met(self.value_by(answers, rules, this, values))
     }
 
     /// What its operators name, by place.

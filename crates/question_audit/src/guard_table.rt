@@ -6,13 +6,15 @@ ghost use Rattle.ifr_expr.specs.code.Views.{value_of};
 ghost use Rattle.ifr_nodes.specs.Guards.{guards_among};
 ghost use Rattle.ifr_nodes.specs.Nodes.{nodes_of};
 ghost use Rattle.ifr_scopes.specs.code.Lists.{guard_node, guard_package};
+ghost use Rattle.guard_policy.specs.code.RuleValues.{AreRuleValues};
+ghost use Rattle.guard_policy.specs.code.Views.{bytes_of};
 ghost use Rattle.question_audit.specs.QuestionLines.{is_constant_guard, is_undefined, is_undefined_guard};
 ghost use Rattle.question_audit.specs.code.GuardTables.{TellsGuards};
 ghost use Rattle.question_audit.specs.code.Pages.{audited};
 
 use form_page::Page;
 use guard_policy::Conditions;
-use ifr_expr::Value;
+use ifr_expr::{RuleValues, Value};
 use ifr_scopes::{Forms, Guard};
 use std::alloc::{AllocError, Global};
 
@@ -34,15 +36,23 @@ fn is_undefined(value: Value<'_>) -> bool
     }
 }
 
-// Whether the condition of a guard is undefined over the stores of the page.
-fn is_undefined_guard<'a, C: Conditions>(page: Page<'a, '_, C>, guard: Guard<'a>) -> bool
-    ensures { result ≡ is_undefined_guard (audited page.entry) (guard_node guard.entry) }
+// Whether the condition of a guard is undefined over the stores of the page, by values of rules over them. Those that it asks for are
+// kept there.
+fn is_undefined_guard<'a, C: Conditions>(
+    page: Page<'a, '_, C>,
+    guard: Guard<'a>,
+    rules: &mut RuleValues,
+) -> bool
+    requires kept { AreRuleValues (bytes_of page.policy) page.stores.now rules.old }
+    ensures told { result ≡ is_undefined_guard (audited page.entry) (guard_node guard.entry) }
+    ensures kept { AreRuleValues (bytes_of page.entry.policy) page.entry.stores.now rules.new }
 {
+    let forms = page.policy().forms();
     let answers = page.questions().over(page.stores());
     is_undefined(
         guard
             .condition()
-            .value(&answers, page.policy().forms(), guard.this()),
+            .value_by(&answers, forms, guard.this(), rules),
     )
 }
 
@@ -78,9 +88,10 @@ impl GuardTable {
         let forms = page.policy().forms();
         let mut undefined = Vec::with_capacity(alloc, forms.guard_count())?;
         let mut constant = Vec::with_capacity(alloc, forms.guard_count())?;
+        let mut rules = RuleValues::new(alloc, forms.rule_count())?;
         let mut guards = forms.guards();
         while let Some(guard) = guards.next() {
-            undefined.push(is_undefined_guard(page, guard))?;
+            undefined.push(is_undefined_guard(page, guard, &mut rules))?;
             constant.push(is_constant_guard(forms, guard))?;
         }
         Ok(GuardTable {
