@@ -15,6 +15,13 @@ pub mod OptionsOfLemmas
 pub mod PositionLemmas
 pub mod NumberLemmas
 pub mod IndexingLemmas
+pub mod MakingLemmas
+pub mod WalkedLemmas
 pub mod LockingLemmas
 pub mod GivingFacts
 pub mod GivingLemmas
+pub mod LevelLemmas
+pub mod SoundLemmas
+pub mod MetLemmas
+pub mod FieldLemmas
+pub mod AddingLemmas

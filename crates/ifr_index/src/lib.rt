@@ -1,10 +1,14 @@
-//! An index of a checked forms package: its tables, how one walk makes them, and how they are searched (UEFI 2.8, 33.3.8 Forms Package;
-//! what a LOCKED locks is an own rule).
+//! An index of a forms package whose nodes have no fault: its tables, how one walk checks the nodes and makes them, and how they are
+//! searched (UEFI 2.8, 33.3.8 Forms Package; what a LOCKED locks and what is a fault are own rules).
 #![tactic(auto)]
 
 mod giving;
 mod index;
 mod indexing;
+mod level;
+mod locking;
+mod soundness;
+mod tables;
 
 pub use index::{
     ConditionEntry, Entry, GuardEntry, Index, condition_at, conditions_behind, entries_behind,

@@ -1,14 +1,13 @@
 -- The places of a path, from the innermost outwards.
-use Rattle.std.proofs.Common.{◌≡◌, ℕ, ◌<◌, All, Bool, true, false, List, [], ◌∷◌, ◌++◌, length, map, get_or, take, drop, refl, ap, ◌∙◌, subst, arith}
+use Rattle.std.proofs.Common.{◌≡◌, ℕ, ◌<◌, All, Bool, true, false, List, [], ◌∷◌, ◌++◌, length, map, get_or, drop, refl, ap, ◌∙◌, subst, arith}
 use Rattle.std.specs.Prelude.{filter}
-use Rattle.std.proofs.lemmas.List.{append-nil, length-append, map-append, length-take, take_all, take-append-le, get_or-take, get_or-drop}
+use Rattle.std.proofs.lemmas.List.{append-nil, length-append, map-append, length-take, get_or-take, get_or-drop}
 use Rattle.std.proofs.Math.ListN.{get_or-append}
 use Rattle.std.proofs.Math.Seq.{get_or-append_seam}
 use Rattle.std.proofs.lemmas.List.Elements.{filter-append}
 use Rattle.ifr_opcodes.specs.Opcode.{number, stated_length, IsWhole}
 use Rattle.ifr_opcodes.specs.Forest.{Ancestor}
 use Rattle.ifr_opcodes.specs.code.Marks.{mark_at, ancestor_at}
-use Rattle.ifr_nodes.specs.code.Scopes.{IsScope, AreScopes}
 
 -- the number of what stands at a place is the byte there
 pub number_there : (bytes : List ℕ) (place : ℕ) → IsWhole (mark_at bytes place).op → number (ancestor_at bytes place).op ≡ get_or bytes place 0
@@ -34,18 +33,3 @@ pub last_fails : (is : Ancestor → Bool) (bytes outer : List ℕ) (place : ℕ)
     → filter is (map (ancestor_at bytes) (outer ++ place ∷ [])) ≡ filter is (map (ancestor_at bytes) outer)
 last_fails is bytes outer place other =
     ap (filter is) (map-append (ancestor_at bytes) outer (place ∷ [])) ∙ filter-append is (map (ancestor_at bytes) outer) (ancestor_at bytes place ∷ []) ∙ rw other (append-nil (filter is (map (ancestor_at bytes) outer)))
-
--- a scope among others whose last is one, and these others
-pub last_scope : (bytes outer : List ℕ) (place : ℕ) (all : List ℕ) → all ≡ outer ++ place ∷ [] → AreScopes bytes all → IsScope bytes outer place
-last_scope bytes outer place all e scopes =
-    let its = scopes (length outer) (omega (arith, ap (λ (l : List ℕ). length l) e, length-append outer (place ∷ []))) in
-    let before : take (length outer) all ≡ outer = ap (take (length outer)) e ∙ take-append-le (length outer) outer (place ∷ []) (omega arith) ∙ take_all (length outer) outer (omega arith) in
-    let here : get_or all (length outer) 0 ≡ place = ap (λ (l : List ℕ). get_or l (length outer) 0) e ∙ get_or-append_seam outer place [] 0 in
-    subst (λ (p : ℕ). IsScope bytes outer p) here (subst (λ (l : List ℕ). IsScope bytes l (get_or all (length outer) 0)) before its)
-
-pub outer_scopes : (bytes outer : List ℕ) (place : ℕ) (all : List ℕ) → all ≡ outer ++ place ∷ [] → AreScopes bytes all → AreScopes bytes outer
-outer_scopes bytes outer place all e scopes = λ i lt.
-    let its = scopes i (omega (arith, lt, ap (λ (l : List ℕ). length l) e, length-append outer (place ∷ []))) in
-    let before : take i all ≡ take i outer = ap (take i) e ∙ take-append-le i outer (place ∷ []) (omega (arith, lt)) in
-    let here : get_or all i 0 ≡ get_or outer i 0 = ap (λ (l : List ℕ). get_or l i 0) e ∙ get_or-append outer (place ∷ []) 0 i lt in
-    subst (λ (p : ℕ). IsScope bytes (take i outer) p) here (subst (λ (l : List ℕ). IsScope bytes l (get_or all i 0)) before its)

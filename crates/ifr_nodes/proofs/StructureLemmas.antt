@@ -44,7 +44,7 @@ abbrev pub first_of : List Node → Option Fault
 first_of ns = first_fault (λ (n : Node). n.place) has_structure_fault structure_causes ns
 
 -- a cause that a node has is one of the seven
-among : (n : Node) (d : Cause) → has_structure_fault n d ≡ true → Contains structure_causes d
+pub among : (n : Node) (d : Cause) → has_structure_fault n d ≡ true → Contains structure_causes d
 among n NotFormSet h = (0, omega arith, refl)
 among n AfterFormSet h = (1, omega arith, refl)
 among n OpOutside h = (2, omega arith, refl)

@@ -10,7 +10,7 @@ use hii_bytes::{Cause, Fault};
 use ifr_opcodes::{END, split_opcode};
 
 /// The bytes of a package's header (UEFI 2.8, 33.3.1.2 EFI_HII_PACKAGE_HEADER).
-pub(crate) const HEADER: usize = 4;
+pub const HEADER: usize = 4;
 
 /// So many scopes may be open at once (own rule).
 const MAX_DEPTH: usize = 64;

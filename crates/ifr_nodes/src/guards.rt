@@ -1,9 +1,8 @@
-//! The guards around a node, and the question in whose scope it stands.
+//! The guards around a node, each with the question in whose scope it stands.
 
-ghost use Rattle.std.specs.Prelude.{◌≡◌, ◌≤◌, ◌∷◌, ◌++◌, [], List, All, length, map};
+ghost use Rattle.std.specs.Prelude.{◌≡◌, ◌≤◌, ◌∷◌, ◌++◌, [], List, length, map};
 ghost use Rattle.ifr_opcodes.specs.Forest.{Ancestor, as_ancestor};
-ghost use Rattle.ifr_opcodes.specs.Opcode.{IsWhole};
-ghost use Rattle.ifr_opcodes.specs.code.Marks.{ancestor_at, mark_at};
+ghost use Rattle.ifr_opcodes.specs.code.Marks.{ancestor_at};
 ghost use Rattle.ifr_nodes.specs.Checked.{IsChecked};
 ghost use Rattle.ifr_nodes.specs.Guards.{is_guard as is_guard_spec, guards_among as guards_among_spec, nodes_on};
 ghost use Rattle.ifr_nodes.specs.code.Kept.{kept_guard};
@@ -15,10 +14,10 @@ use crate::guard_place::GuardPlace;
 use crate::node::Node;
 use crate::places::node_at;
 use arrayvec::ArrayVec;
-use ifr_opcodes::{DISABLE_IF, GRAY_OUT_IF, SUPPRESS_IF, is_question};
+use ifr_opcodes::{DISABLE_IF, GRAY_OUT_IF, SUPPRESS_IF};
 
 /// Whether this is the number of a guard.
-pub(crate) fn is_guard(code: u8) -> bool
+pub fn is_guard(code: u8) -> bool
     ensures { result ≡ is_guard_spec code }
 {
     code == SUPPRESS_IF || code == GRAY_OUT_IF || code == DISABLE_IF
@@ -34,24 +33,6 @@ fn this_within(node: Node<'_>, this: u16) -> u16
     } else {
         this
     }
-}
-
-/// The id of the innermost question among the nodes at these places, each in the scope of the one before it; 0 where
-/// there is none.
-pub(crate) fn this_among(ifr: &[u8], places: &[u32]) -> u16
-    requires checked { IsChecked ifr.now }
-    requires whole { All (λ place. IsWhole (mark_at ifr.now place).op) places.now }
-    requires scopes { AreScopes ifr.now places.now }
-    ensures { result ≡ this_among_spec (map (ancestor_at ifr.now) places.now) }
-{
-    let mut left = places;
-    while let Some((place, outer)) = left.split_last() {
-        if is_question(ifr[*place as usize]) {
-            return node_at(ifr, *place).question().id();
-        }
-        left = outer;
-    }
-    0
 }
 
 /// The guards among the nodes at these places, each in the scope of the one before it.

@@ -3,12 +3,12 @@
 ghost use Rattle.std.specs.Prelude.{◌≡◌, ◌∷◌, [], IfNone, IfSome};
 ghost use Rattle.ifr_nodes.specs.Checked.{IsChecked};
 ghost use Rattle.ifr_nodes.specs.code.Checked.{IsChecked-prop, AreNodesOf, AreNodesOf-prop};
-ghost use Rattle.ifr_nodes.specs.Nodes.{nodes_of, this_of};
+ghost use Rattle.ifr_nodes.specs.Nodes.{nodes_of};
 ghost use Rattle.ifr_nodes.specs.code.Visits.{left};
 
 use crate::form_end::form_among;
 use crate::guard_place::GuardPlace;
-use crate::guards::{guards_among, this_among};
+use crate::guards::guards_among;
 use crate::node::Node;
 use crate::walk::Walk;
 use arrayvec::ArrayVec;
@@ -75,14 +75,6 @@ impl<'a> ScopedNodes<'a> {
         ensures { result.items ≡ kept_guards (node_of met.now.node) }
     {
         guards_among(self.walk.bytes(), self.walk.around(met.depth))
-    }
-
-    /// The id of the question in whose scope the node stands that was met last, or 0.
-    pub fn this(&self, met: &ScopedNode) -> u16
-        requires { IsAround self.now met.now }
-        ensures { result ≡ this_of (node_of met.now.node) }
-    {
-        this_among(self.walk.bytes(), self.walk.around(met.depth))
     }
 
     /// The place of what the node stands in that was met last, if it stands in something.

@@ -26,7 +26,8 @@ use hii_bytes::{Cause, Fault};
 use ifr_expr::Expr;
 use ifr_opcodes::{FORM_SET, Op, VALUE, is_listed, is_operator, is_outside, is_short, op_at};
 
-fn has_wrong_scope(op: Op, operand: bool) -> bool
+/// Whether it is wrong that an opcode has Scope, or has none, where it stands in the scope of an operator or does not.
+pub fn has_wrong_scope(op: Op, operand: bool) -> bool
     ensures { result ≡ structure.has_wrong_scope (table.row op.entry.code) operand
         (bytes_of op.entry) }
 {
@@ -158,8 +159,8 @@ fn lacks_value(first: Option<u8>) -> bool
     }
 }
 
-// Whether an opcode, by the number of its first child, does not begin with what it wants.
-fn lacks_wanted(op: Op, first: Option<u8>) -> bool
+/// Whether an opcode, by the number of its first child, does not begin with what it wants.
+pub fn lacks_wanted(op: Op, first: Option<u8>) -> bool
     ensures { (children : Forest) → structure.first_number children ≡ first →
         result ≡ structure.lacks_wanted (bytes_of op.entry) children }
 {

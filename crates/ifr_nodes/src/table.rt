@@ -60,7 +60,8 @@ pub(crate) fn row_of(code: u8) -> Option<OpcodeRow>
 }
 
 /// Whether an opcode of this number may stand in a scope of this class.
-pub(crate) fn admits(class: Class, code: u8) -> bool
+#[inline(always)]
+pub fn admits(class: Class, code: u8) -> bool
     ensures { result ≡ table.admits class code }
 {
     match class {
@@ -101,7 +102,7 @@ pub(crate) fn admits(class: Class, code: u8) -> bool
 }
 
 /// Whether an opcode of this number begins with an expression.
-pub(crate) fn wants_expression(code: u8) -> bool
+pub fn wants_expression(code: u8) -> bool
     ensures { result ≡ table.wants_expression code }
 {
     is_guard(code) || code == RULE || code == VALUE || is_condition(code)
@@ -116,7 +117,7 @@ pub fn wants_value(op: Op) -> bool
 }
 
 /// What may stand in the scope of an opcode.
-pub(crate) fn class_of(code: u8) -> Class
+pub fn class_of(code: u8) -> Class
     ensures { result ≡ table.class_of (table.row code) }
 {
     match row_of(code) {
@@ -126,7 +127,7 @@ pub(crate) fn class_of(code: u8) -> Class
 }
 
 /// What a guard in a scope of this class admits behind its condition.
-pub(crate) fn guarded(class: Class) -> Class
+pub fn guarded(class: Class) -> Class
     ensures { result ≡ table.guarded class }
 {
     match class {

@@ -89,7 +89,7 @@ impl<'a> Walk<'a> {
 
     /// Goes to the next node.
     #[inline(always)]
-    pub(crate) fn step(&mut self) -> Option<Visit<'a>>
+    pub fn step(&mut self) -> Option<Visit<'a>>
         ensures none { IfNone result ((left self.old ≡ []) × (left self.new ≡ [])) }
         ensures some { IfSome result (λ visit. Meets self.old visit self.new) }
         ensures kept { self.new.bytes.now ≡ self.old.bytes.now }
@@ -124,7 +124,7 @@ impl<'a> Walk<'a> {
     ghost use Rattle.ifr_nodes.specs.Structure.{first_number};
 
     /// The number of the first child of the node that the walk met last.
-    pub(crate) fn first_child(&self, visit: &Visit) -> Option<u8>
+    pub fn first_child(&self, visit: &Visit) -> Option<u8>
         ensures { result ≡ first_number
             (inside (bytes_of visit.now.op) (opcodes_in (drop self.now.at self.now.bytes.now))) }
     {

@@ -119,8 +119,11 @@ impl<'a> Forms<'a> {
     {
         let ifr = source.bytes;
         check_framing(ifr)?;
-        check_structure(ifr)?;
-        let index = index_of(alloc, ifr)?;
+        let Some(index) = index_of(alloc, ifr)? else {
+            check_structure(ifr)?;
+            // a package without a fault up to here has an index
+            unreachable!()
+        };
         let rules = check_references(alloc, ifr, &index.forms)?;
         Ok(Forms { ifr, rules, index })
     }

@@ -1,7 +1,6 @@
 -- The tables of a package's index.
-use Rattle.std.specs.Prelude.{◌≡◌, ◌<◌, ℕ, ◌-◌, Bool, true, false, ◌==◌, nat_lt, Option, Some, None, option_map, unwrap_or, All, IfSome, List, [], ◌∷◌, ◌++◌, length, filter, map}
+use Rattle.std.specs.Prelude.{◌≡◌, ◌<◌, ℕ, Bool, true, false, ◌==◌, nat_lt, Option, Some, None, option_map, unwrap_or, All, IfSome, List, [], ◌∷◌, ◌++◌, length, filter, map}
 use Rattle.std.specs.List.{last_or, slice_get}
-use Rattle.std.specs.Option.{option_flatten}
 use Rattle.std.proofs.Props.{props}
 use Rattle.ifr_opcodes.specs.Forest.{Ancestor, Node}
 use Rattle.ifr_opcodes.specs.Opcode.{number}
@@ -73,10 +72,6 @@ IsNumber-prop ns (Some k) = hlevel props
 
 pub AreNumbers-prop : (ns : List Node) (numbers : List ℕ) → IsProp (AreNumbers ns numbers)
 AreNumbers-prop ns numbers = hlevel props
-
--- the last of the numbers along a path
-abbrev pub inner_last : List (Option ℕ) → Option ℕ
-inner_last numbers = option_flatten (slice_get numbers (length numbers - 1))
 
 -- ---- the tables
 

@@ -1,8 +1,9 @@
-use Rattle.std.proofs.Common.{inl, inr}
+use Rattle.std.proofs.Common.{rules, inl, inr}
 use Rattle.std.proofs.lemmas.Result.{err_from_is_err_and}
 use Rattle.hii_bytes.specs.Faults.{Then}
 use Rattle.hii_bytes.proofs.FaultLemmas.{then_first, then_second}
 use Rattle.ifr_opcodes.specs.Reading.{tree_of}
+use Rattle.ifr_nodes.specs.Checked.{IsChecked}
 use Rattle.ifr_nodes.specs.Framing.{IsFramingFault}
 use Rattle.ifr_nodes.specs.Structure.{IsStructureFault}
 use Rattle.ifr_nodes.specs.ReferenceFaults.{IsReferenceFault}
@@ -27,10 +28,11 @@ returns-in_err-check_structure-clause-refused c =
 pub returns-in_err-rules-clause-refused : goal.returns-in_err-rules-clause-refused
 returns-in_err-rules-clause-refused c =
     let bytes = c.args.source.bytes.now in
+    let checked : IsChecked bytes = search rules in
     let framed = none_where_spelled bytes (tree_of bytes) c.in_ok-check_framing.ensures.spelled in
     let p = err_from_is_err_and c.from_residual-in_err-rules.result c.from_residual-in_err-rules.ensures.1 in
     rw (p.1, p.2) (elim c.in_err-rules.ensures.refused [
       | inl memory ↦ inl memory
       | inr least ↦ inr (then_second (IsFramingFault bytes) (Then (IsStructureFault (nodes_of bytes)) (IsReferenceFault (nodes_of bytes))) _ framed
-          (then_second (IsStructureFault (nodes_of bytes)) (IsReferenceFault (nodes_of bytes)) _ c.in_ok-check_structure.ensures.sound least))
+          (then_second (IsStructureFault (nodes_of bytes)) (IsReferenceFault (nodes_of bytes)) _ checked.sound least))
     ])

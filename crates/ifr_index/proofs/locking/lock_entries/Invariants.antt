@@ -2,7 +2,7 @@ use Rattle.std.proofs.Common.{◌≡◌, length}
 use Rattle.ifr_nodes.specs.Nodes.{nodes_of}
 use Rattle.ifr_nodes.specs.code.Visits.{left}
 use Rattle.ifr_index.proofs.LockingLemmas.{Locking}
-use Rattle.ifr_index.proofs.indexing.lock_entries.Given as goal
+use Rattle.ifr_index.proofs.locking.lock_entries.Given as goal
 
 abbrev pub invariant-loop-met : goal.invariant-loop-met
 invariant-loop-met l = record {

@@ -8,7 +8,7 @@ use Rattle.ifr_nodes.specs.code.Views.{node_of}
 use Rattle.ifr_nodes.specs.code.Visits.{left}
 use Rattle.ifr_index.specs.declared.index.Entry.{Entry}
 use Rattle.ifr_index.proofs.LockingLemmas.{Locking, no_entries, is_next, locking_one, locking_other, unlocked}
-use Rattle.ifr_index.proofs.indexing.lock_entries.Goals as goal
+use Rattle.ifr_index.proofs.locking.lock_entries.Goals as goal
 
 pub returns-then-is_empty : goal.returns-then-is_empty
 returns-then-is_empty c =

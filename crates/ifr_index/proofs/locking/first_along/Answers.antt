@@ -2,7 +2,7 @@ use Rattle.std.proofs.Common.{sym, ◌∙◌, arith}
 use Rattle.std.specs.BTreeMap.{get}
 use Rattle.std.specs.Ordering.{nat_cmp}
 use Rattle.ifr_index.proofs.LockLemmas.{found_next, passed}
-use Rattle.ifr_index.proofs.indexing.first_along.Goals as goal
+use Rattle.ifr_index.proofs.locking.first_along.Goals as goal
 
 pub returns-in-Some : goal.returns-in-Some
 returns-in-Some c =
