@@ -18,6 +18,7 @@ use crate::role::Role;
 use crate::stores::before_nul;
 
 // How many bytes an opcode has at least: those of its fields and the two in front of them (UEFI 2.8, 33.3.8.3).
+#[inline(always)]
 pub(crate) fn least_len(op: Op) -> usize
     ensures { result ≡ tables.least_length (bytes_of op.entry) }
 {
@@ -118,6 +119,7 @@ pub(crate) fn is_left_out(op: Op) -> bool
 
 /// Whether an opcode is refused by OpOutside: its number is not known, or it is left out.
 #[tactic(auto, using(crate::proofs::RowLemmas::outside))]
+#[inline(always)]
 pub fn is_outside(op: Op) -> bool
     ensures { result ≡ rows.is_outside (bytes_of op.entry) }
 {
