@@ -69,6 +69,11 @@ stands_line start now stepped pen mid new bytes p after within state text next t
       sound = sound;
     }
 
+-- an LF ends the line, after which none has begun
+pub rest_of-ended : (bytes front p : List ℕ) → IsWithinLine p → rest_of (bytes ++ (front ++ (p ++ 10 ∷ []))) ≡ []
+rest_of-ended bytes front p within =
+    ap rest_of (sym (append_assoc bytes front (p ++ 10 ∷ []))) ∙ ap (λ (c : List (List ℕ) × List ℕ). c.1) (cut-ended (bytes ++ front) p within)
+
 -- the answers of a piece are passed on
 pub stands_passing : (start now : Shown) (pen mid new : Pen) (bytes : List ℕ) (line : Held) → (mid.broken ≡ false → Stands start pen bytes now line mid) → Flushes mid new
     → new.broken ≡ false → Stands start pen bytes now line new

@@ -1,10 +1,11 @@
 //! The lines of a script, one after the other.
 
-ghost use Rattle.std.specs.Prelude.{◌≡◌, ◌++◌, ℕ, List, length, IfOk, OnOk, IsErr, true, false, not, Err, is_err};
+ghost use Rattle.std.specs.Prelude.{◌≡◌, ◌++◌, ◌∷◌, ℕ, List, [], length, IfOk, OnOk, IsErr, MatchOption, true, false, not, Err, is_err};
+ghost use Rattle.std.specs.List.{before_first, position};
 ghost use Rattle.std.specs.Io.{ReadsAtMost};
 ghost use Rattle.std.specs.Io.KnownBytes.{ReadConsumes};
 ghost use Rattle.hii_bytes.specs.Watching.{Pen, pen_of, inner_of, has_failed, has_passed_on, Flushes};
-ghost use Rattle.hii_commands.specs.code.Lines.{whole_lines};
+ghost use Rattle.hii_commands.specs.code.Lines.{whole_lines, ends_line};
 ghost use Rattle.browser_core.specs.Shown.{Shown};
 ghost use Rattle.browser_core.specs.Run.{Runs, StopsAtLine};
 ghost use Rattle.browser_core.specs.code.Reading.{Stands};
@@ -13,6 +14,7 @@ use crate::browsed::Browsed;
 use browser_commands::put_refusal;
 use hii_bytes::{Cause, Watched};
 use hii_commands::{LineBuffer, SCRIPT_LIMIT};
+use memchr::memchr_iter;
 use session_steps::{End, RunFault};
 use std::io;
 use std::io::{Read, Write};
@@ -100,7 +102,8 @@ fn read_piece<R: Read, W: Write>(
     script.read(buf)
 }
 
-// Feeds the piece, and runs each line that it ends, unless the writer fails.
+// Runs each line that the piece ends, unless the writer fails, and holds what stands behind its last LF. Only the first of these
+// lines may have begun before the piece: the others are run from the piece itself.
 fn run_piece<W: Write>(
     core: &mut Browsed<'_>,
     line: &mut LineBuffer,
@@ -117,16 +120,41 @@ fn run_piece<W: Write>(
         → StopsAtLine start pen (length (whole_lines bytes)) (whole_lines (bytes ++ piece.now))
         core.new (pen_of W.contents out.new) }
 {
-    let mut rest = piece;
-    while !rest.is_empty() {
-        let fed = line.feed(rest);
-        rest = &rest[fed.taken..];
-        if fed.complete {
-            core.run_line(line, out);
-            line.clear();
-            if out.failed() {
-                return;
-            }
-        }
+    let fed = line.feed(piece);
+    if !fed.complete {
+        return;
     }
+    core.run_line(line, out);
+    line.clear();
+    if out.failed() {
+        return;
+    }
+    let mut rest = &piece[fed.taken..];
+    while let Some((whole, behind)) = split_line(rest) {
+        core.run_bytes(whole, out);
+        if out.failed() {
+            return;
+        }
+        rest = behind;
+    }
+    line.feed(rest);
+}
+
+// The bytes before the first LF and those behind it, or none where no line ends.
+#[inline(always)]
+fn split_line(bytes: &[u8]) -> Option<(&[u8], &[u8])>
+    ensures { MatchOption result (before_first ends_line bytes.now ≡ bytes.now)
+        (λ parts. (parts.0.now ≡ before_first ends_line bytes.now)
+        × (bytes.now ≡ (parts.0.now ++ 10 ∷ []) ++ parts.1.now)) }
+{
+    let end = first_end(bytes)?;
+    Some((&bytes[..end], &bytes[end + 1..]))
+}
+
+// The place of the first LF, which is likely to be near.
+#[inline(always)]
+fn first_end(bytes: &[u8]) -> Option<usize>
+    ensures { result ≡ position ends_line bytes.now }
+{
+    memchr_iter(b'\n', bytes).next()
 }

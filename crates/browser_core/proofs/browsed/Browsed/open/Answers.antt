@@ -1,4 +1,3 @@
-use Rattle.std.proofs.Common.{sym, subst}
 use Rattle.std.proofs.lemmas.Result.{err_from_is_err_and}
 use Rattle.session_laws.proofs.OpenedLemmas.{stands_opened}
 use Rattle.browser_core.proofs.BrowsedLemmas.{only_memory, opens, refused}
