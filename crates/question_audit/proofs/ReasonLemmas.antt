@@ -1,6 +1,6 @@
 -- The first of all reasons is the one that decides.
-use Rattle.std.proofs.Common.{◌≡◌, Bool, true, false, Option, Some, None, List, [], ◌∷◌, ◌++◌, map, refl, sym, ap, ◌∙◌, append_assoc, inl, inr}
-use Rattle.std.specs.Prelude.{filter, option_map}
+use Rattle.std.proofs.Common.{◌≡◌, Bool, true, false, Option, Some, None, List, [], ◌∷◌, ◌++◌, drop, map, refl, sym, ap, ◌∙◌, inl, inr}
+use Rattle.std.specs.Prelude.{MatchOption, filter, is_some, option_map}
 use Rattle.std.specs.List.{find}
 use Rattle.std.proofs.lemmas.Bool.{cases_Bool}
 use Rattle.ifr_opcodes.specs.Fields.{is_read_only}
@@ -13,7 +13,7 @@ use Rattle.hii_questions.specs.Fields.{Asked, asked}
 use Rattle.guard_policy.specs.Policy.{denied_by, fixed, fixed_itself, fixed_question, grays_out, hidden_among, hides, hiding, is_never_changed, or_else}
 use Rattle.guard_policy.specs.World.{World}
 use Rattle.guard_policy.specs.declared.denial.Denial.{Denial}
-use Rattle.question_audit.specs.Reasons.{all_reasons, first_reason, guard_reasons, own_reasons}
+use Rattle.question_audit.specs.Reasons.{all_reasons, first_reason, further, guard_reasons, own_reasons}
 
 first_append : (xs ys : List Denial) → first_reason (xs ++ ys) ≡ or_else (first_reason xs) (first_reason ys)
 first_append [] ys = refl
@@ -65,23 +65,29 @@ first_is_verdict w n asks =
     ∙ ap (λ (o : Option Denial). or_else o (first_reason (own_reasons q))) (or_else_assoc hidden grayed lock)
     ∙ ap (or_else (or_else hidden (or_else grayed lock))) (first_own q ∙ itself)
 
--- ---- reasons that are added node by node
+-- ---- reasons that are found node by node
 
 -- the next is one
-pub reason_added : (f : Node → Denial) (p : Node → Bool) (denials all : List Denial) (left rest : List Node) (n : Node) → left ≡ n ∷ rest → p n ≡ true → denials ++ map f (filter p left) ≡ all
-    → (denials ++ f n ∷ []) ++ map f (filter p rest) ≡ all
-reason_added f p denials all left rest n e is so =
-    let next : map f (filter p left) ≡ f n ∷ map f (filter p rest) = ap (λ (l : List Node). map f (filter p l)) e ∙ rw is refl in
-    append_assoc denials (f n ∷ []) (map f (filter p rest)) ∙ ap (λ (l : List Denial). denials ++ l) (sym next) ∙ so
+pub reason_next : (f : Node → Denial) (p : Node → Bool) (left rest : List Node) (n : Node) → left ≡ n ∷ rest → p n ≡ true → map f (filter p left) ≡ f n ∷ map f (filter p rest)
+reason_next f p left rest n e is = ap (λ (l : List Node). map f (filter p l)) e ∙ rw is refl
 
 -- or it is none
-pub reason_passed : (f : Node → Denial) (p : Node → Bool) (denials all : List Denial) (left rest : List Node) (n : Node) → left ≡ n ∷ rest → p n ≡ false → denials ++ map f (filter p left) ≡ all
-    → denials ++ map f (filter p rest) ≡ all
-reason_passed f p denials all left rest n e other so =
-    let next : map f (filter p left) ≡ map f (filter p rest) = ap (λ (l : List Node). map f (filter p l)) e ∙ rw other refl in
-    ap (λ (l : List Denial). denials ++ l) (sym next) ∙ so
+pub reason_passed : (f : Node → Denial) (p : Node → Bool) (left rest : List Node) (n : Node) → left ≡ n ∷ rest → p n ≡ false → map f (filter p rest) ≡ map f (filter p left)
+reason_passed f p left rest n e other = sym (ap (λ (l : List Node). map f (filter p l)) e ∙ rw other refl)
 
--- each is one
-pub reason_next : (f : Node → Denial) (denials all : List Denial) (left rest : List Node) (n : Node) → left ≡ n ∷ rest → denials ++ map f left ≡ all → (denials ++ f n ∷ []) ++ map f rest ≡ all
-reason_next f denials all left rest n e so =
-    append_assoc denials (f n ∷ []) (map f rest) ∙ ap (λ (l : List Node). denials ++ map f l) (sym e) ∙ so
+-- ---- all but the first
+
+-- what is left behind the first
+pub behind_first : (first : Option Denial) (old new : List Denial) → MatchOption first ((old ≡ []) × (new ≡ [])) (λ denial. old ≡ denial ∷ new) → new ≡ further old
+behind_first None old new (none, nothing) = nothing ∙ sym (ap (drop 1) none)
+behind_first (Some denial) old new steps = sym (ap (drop 1) steps)
+
+-- where none is there, there is none
+pub no_first : (first : Option Denial) (old new : List Denial) → is_some first ≡ false → MatchOption first ((old ≡ []) × (new ≡ [])) (λ denial. old ≡ denial ∷ new) → old ≡ []
+no_first None old new e (none, nothing) = none
+no_first (Some denial) old new e steps = absurd cc
+
+-- all reasons, kind by kind
+pub reasons_there : (w : World) (q : Asked) (hiding_guards graying_guards : List Node) (locked own : List Denial) → hiding_guards ≡ guards q.node → graying_guards ≡ guards q.node → locked ≡ map (denied_by Locked) (locks w.nodes q.node)
+    → own ≡ own_reasons q → (map hiding (filter (hides w) hiding_guards) ++ map (denied_by GrayOutIf) (filter (grays_out w) graying_guards)) ++ locked ++ own ≡ all_reasons w q
+reasons_there w q hiding_guards graying_guards locked own e f g h = rw (e, f, g, h) refl

@@ -14,3 +14,5 @@ pub mod Beginnings
 pub mod Naming
 pub mod Places
 pub mod Ids
+pub mod ReasonParts
+pub mod ReasonsLeft

@@ -14,7 +14,6 @@ ghost use Rattle.form_page.specs.code.PageViews.{world_of};
 ghost use Rattle.question_audit.specs.Reach.{TellsReached};
 ghost use Rattle.question_audit.specs.code.Pages.{audited};
 ghost use Rattle.question_audit.specs.QuestionFacts.{BeginsQuestion, TellsQuestion, condition_facts, dependence_facts, kind_facts, question_facts, verdict_fact, verdict_facts};
-ghost use Rattle.question_audit.specs.Reasons.{all_reasons};
 ghost use Rattle.question_audit.specs.code.Beginnings.{Begins};
 
 use crate::condition_facts::{put_checks, put_guards};
@@ -25,14 +24,14 @@ use crate::limits_facts::{put_flags_fact, put_limits_fact, put_outside_fact};
 use crate::opcode_facts::put_opcode_facts;
 use crate::option_facts::put_options;
 use crate::origin::Origin;
-use crate::reasons::{put_also, reasons_of};
+use crate::reasons::put_also;
 use crate::rule_facts::put_rules;
 use crate::store_names::StoreNames;
 use crate::value_facts::put_value_facts;
 use crate::ways::Ways;
 use crate::when::When;
 use form_page::Page;
-use guard_policy::{Conditions, Denial};
+use guard_policy::Conditions;
 use hii_bytes::{Fault, Watched};
 use hii_questions::Question;
 use std::alloc::{AllocError, Global};
@@ -72,22 +71,20 @@ fn put_kind_facts<'a, C: Conditions, W: Write>(
     put_outside_fact(question, out);
 }
 
-// Writes whether a question may be changed, and why else it may not be: these are all reasons.
+// Writes whether a question may be changed, and why else it may not be.
 fn put_verdict_facts<'a, C: Conditions, W: Write>(
     page: Page<'a, '_, C>,
     question: Question<'a>,
-    reasons: &[Denial],
     out: &mut Watched<W>,
 )
     requires node { IsNodeOf (bytes_of page.policy) (question_node question) }
     requires asked { question_view question
         ≡ asked (nodes_of (bytes_of page.policy)) (question_node question) }
-    requires reasons { reasons.now ≡ all_reasons (world_of page) (question_view question) }
     ensures { Puts W.contents out.old out.new
         (verdict_facts (audited page.entry) (question_view question.entry)) }
 {
     put_verdict_fact(page, question, out);
-    put_also(reasons, out);
+    put_also(page, question, out);
 }
 
 // Writes the conditions around a question and in it, the rules that they name, and its options. Where an allocation fails, the
@@ -165,11 +162,10 @@ fn put_question_facts<'a, C: Conditions, W: Write>(
     let ways = Ways::read(alloc, page)?;
     let names = StoreNames::read(alloc, page.policy().forms())?;
     let mut spare = page.stores().copy(alloc)?;
-    let reasons = reasons_of(alloc, page, question)?;
     put_opcode_facts(page, &ways, &names, origin, question, out);
     put_kind_facts(page, question, out);
     put_value_facts(page, question, &mut spare, out);
-    put_verdict_facts(page, question, &reasons, out);
+    put_verdict_facts(page, question, out);
     put_condition_facts(alloc, page, origin.place, question, out)?;
     put_dependence_facts(alloc, page, &names, question, out)?;
     Ok(())

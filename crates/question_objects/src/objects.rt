@@ -18,7 +18,6 @@ ghost use Rattle.guard_policy.specs.code.Answers.{unless};
 ghost use Rattle.guard_policy.specs.code.Views.{bytes_of};
 ghost use Rattle.form_page.specs.code.PageViews.{world_of};
 ghost use Rattle.question_audit.specs.code.Pages.{audited};
-ghost use Rattle.question_audit.specs.Reasons.{all_reasons};
 ghost use Rattle.question_audit.specs.code.Beginnings.{Begins};
 ghost use Rattle.question_objects.specs.Conditions.{condition_lists};
 ghost use Rattle.question_objects.specs.Dependences.{dependence_members};
@@ -44,7 +43,7 @@ use hii_bytes::{Fault, Watched};
 use hii_questions::Question;
 use hii_varstore::Stores;
 use ifr_scopes::Form;
-use question_audit::{GuardTable, Origin, StoreNames, When, form_of, reasons_of, scope_locks};
+use question_audit::{GuardTable, Origin, StoreNames, When, form_of, scope_locks};
 use std::alloc::{AllocError, Global};
 use std::collections::BTreeMap;
 use std::io::Write;
@@ -70,14 +69,13 @@ pub(crate) struct Telling<'a> {
     pub form: Option<Form<'a>>,
 }
 
-// Writes what is told of each question, where these are its verdict and all reasons for this.
+// Writes what is told of each question, where this is its verdict.
 fn put_plain<'a, C: Conditions, W: Write>(
     page: Page<'a, '_, C>,
     known: Known<'_, 'a>,
     telling: Telling<'a>,
     question: Question<'a>,
     verdict: Result<(), Denial>,
-    reasons: &[Denial],
     spare: &mut Stores,
     out: &mut Watched<W>,
 )
@@ -88,7 +86,6 @@ fn put_plain<'a, C: Conditions, W: Write>(
     requires known { IsKnown (audited page) (bytes_of page.policy) known }
     requires in_file { telling.package_place + (question_node question).place < 2 ^ 64 }
     requires verdict { verdict ≡ unless (fixed (world_of page) (question_node question)) }
-    requires reasons { reasons.now ≡ all_reasons (world_of page) (question_view question) }
     requires same { spare.old ≡ page.stores.now }
     ensures same { spare.new ≡ page.entry.stores.now }
     ensures text { Puts W.contents out.old out.new
@@ -105,7 +102,7 @@ fn put_plain<'a, C: Conditions, W: Write>(
     );
     put_kind::<C, W>(question, out);
     put_values(page, question, spare, out);
-    put_verdicts(page, known.guards, question, verdict, reasons, out);
+    put_verdicts(page, known.guards, question, verdict, out);
 }
 
 // Writes the conditions around a question and in it, and the rules that they name, in this detail. Where an allocation fails, the
@@ -237,10 +234,7 @@ pub(crate) fn put_members<'a, C: Conditions, W: Write>(
     let verdict = page
         .policy()
         .question_changeable_by(question, page.conditions());
-    let reasons = reasons_of(alloc, page, question)?;
-    put_plain(
-        page, known, telling, question, verdict, &reasons, spare, out,
-    );
+    put_plain(page, known, telling, question, verdict, spare, out);
     put_details(
         alloc,
         page,

@@ -24,7 +24,7 @@ use guard_policy::{Conditions, Denial};
 use hii_bytes::Watched;
 use hii_questions::Question;
 use ifr_scopes::Statement;
-use question_audit::{GuardTable, flag_of, is_constant};
+use question_audit::{GuardTable, Reasons, flag_of, is_constant};
 use std::io::Write;
 
 // Writes a verdict.
@@ -52,16 +52,23 @@ fn put_reason<W: Write>(denial: Denial, out: &mut Watched<W>)
 }
 
 // Writes all reasons but for the first, which the verdict tells.
-fn put_also<W: Write>(reasons: &[Denial], out: &mut Watched<W>)
-    ensures { Puts W.contents out.old out.new (also_member reasons.now) }
+fn put_also<'a, C: Conditions, W: Write>(
+    page: Page<'a, '_, C>,
+    question: Question<'a>,
+    out: &mut Watched<W>,
+)
+    requires { IsNodeOf (bytes_of page.policy) (question_node question) }
+    ensures { Puts W.contents out.old out.new
+        (also_member (all_reasons (world_of page.entry) (question_view question.entry))) }
 {
-    let Some((_, further)) = reasons.split_first() else {
+    let mut reasons = Reasons::of(page, question);
+    if reasons.next().is_none() {
         return;
-    };
+    }
     let mut is_first = true;
-    for denial in further {
+    while let Some(denial) = reasons.next() {
         put_before_item(b"also", is_first, out);
-        put_reason(*denial, out);
+        put_reason(denial, out);
         is_first = false;
     }
     put_array_end(is_first, out);
@@ -92,19 +99,17 @@ fn put_undefined<'a, C: Conditions, W: Write>(
     put_array_end(is_first, out);
 }
 
-/// Writes whether a question may be changed, and why not: these are all reasons, of which the first is the verdict's.
+/// Writes whether a question may be changed, and why not.
 pub(crate) fn put_verdicts<'a, C: Conditions, W: Write>(
     page: Page<'a, '_, C>,
     table: &GuardTable,
     question: Question<'a>,
     verdict: Result<(), Denial>,
-    reasons: &[Denial],
     out: &mut Watched<W>,
 )
     requires node { IsNodeOf (bytes_of page.policy) (question_node question) }
     requires told { TellsGuards (audited page) table.now }
     requires verdict { verdict ≡ unless (fixed (world_of page) (question_node question)) }
-    requires reasons { reasons.now ≡ all_reasons (world_of page) (question_view question) }
     ensures { Puts W.contents out.old out.new
         (all_verdict_members (audited page.entry) (question_view question.entry)) }
 {
@@ -115,6 +120,6 @@ pub(crate) fn put_verdicts<'a, C: Conditions, W: Write>(
         b"constant",
         out,
     );
-    put_also(reasons, out);
+    put_also(page, question, out);
     put_undefined(page, table, statement, out);
 }

@@ -23,7 +23,6 @@ use browser_commands::Browser;
 use guard_policy::Denial;
 use hii_bytes::Fault;
 use hii_questions::Question;
-use question_audit::reasons_of;
 use std::alloc::Global;
 
 /// What opens a question, or why nothing does.
@@ -96,13 +95,11 @@ impl Unlock {
         ensures refused { IfErr result (λ fault. fault ≡ out_of_memory) }
     {
         let page = browser.page();
-        let policy = page.policy();
-        let reasons = reasons_of(alloc, page, question)?;
-        if let Some(reason) = final_reason(policy, question, reasons.as_slice()) {
+        if let Some(reason) = final_reason(page, question) {
             return Ok(Unlock::untried(Err(verdict), Answer::Never(reason)));
         }
-        let asking = Asking::of(alloc, policy, page.questions(), question)?;
-        let again = needs_new_run(reasons.as_slice());
+        let asking = Asking::of(alloc, page.policy(), page.questions(), question)?;
+        let again = needs_new_run(page, question);
         searched(alloc, browser, question, most, again, asking, verdict)
     }
 

@@ -13,12 +13,14 @@ ghost use Rattle.guard_policy.specs.code.Answers.{unless};
 ghost use Rattle.form_page.specs.code.PageViews.{world_of};
 ghost use Rattle.guard_policy.specs.code.Views.{bytes_of};
 ghost use Rattle.question_audit.specs.QuestionLines.{is_constant_at, is_constant_guard};
+ghost use Rattle.question_audit.specs.Reasons.{all_reasons};
 ghost use Rattle.unlock_audit.specs.Unlock as spec;
 
 use form_page::Page;
 use guard_policy::{Conditions, Denial, Policy};
 use hii_questions::{DenialKind, Question};
 use ifr_scopes::{Forms, Guard};
+use question_audit::Reasons;
 
 // Whether the condition of a guard asks no question.
 fn asks_none<'a>(forms: &Forms<'a>, guard: Guard<'a>) -> bool
@@ -70,28 +72,35 @@ fn is_final<'a>(policy: Policy<'a, '_>, question: Question<'a>, reason: Denial) 
     }
 }
 
-/// The first such of some reasons.
-pub(crate) fn final_reason<'a>(
-    policy: Policy<'a, '_>,
+/// The first of the reasons why a question may not be changed that no command takes away.
+pub(crate) fn final_reason<'a, C: Conditions>(
+    page: Page<'a, '_, C>,
     question: Question<'a>,
-    reasons: &[Denial],
 ) -> Option<Denial>
-    requires { IsNodeOf (bytes_of policy) (question_node question) }
-    ensures { result ≡ find (spec.is_final (nodes_of (bytes_of policy.entry)) (question_node question.entry)) reasons.now }
+    requires { IsNodeOf (bytes_of page.policy) (question_node question) }
+    ensures { result ≡ find (spec.is_final (nodes_of (bytes_of page.entry.policy)) (question_node question.entry))
+        (all_reasons (world_of page.entry) (question_view question.entry)) }
 {
-    for reason in reasons {
-        if is_final(policy, question, *reason) {
-            return Some(*reason);
+    let mut reasons = Reasons::of(page, question);
+    while let Some(reason) = reasons.next() {
+        if is_final(page.policy(), question, reason) {
+            return Some(reason);
         }
     }
     None
 }
 
-/// Whether a DISABLE_IF that was removed is among some reasons.
-pub(crate) fn needs_new_run(reasons: &[Denial]) -> bool
-    ensures { result ≡ list_any spec.is_removal reasons.now }
+/// Whether a DISABLE_IF that was removed is among the reasons why a question may not be changed.
+pub(crate) fn needs_new_run<'a, C: Conditions>(
+    page: Page<'a, '_, C>,
+    question: Question<'a>,
+) -> bool
+    requires { IsNodeOf (bytes_of page.policy) (question_node question) }
+    ensures { result ≡ list_any spec.is_removal
+        (all_reasons (world_of page.entry) (question_view question.entry)) }
 {
-    for reason in reasons {
+    let mut reasons = Reasons::of(page, question);
+    while let Some(reason) = reasons.next() {
         if let DenialKind::DisableIf = reason.kind {
             return true;
         }

@@ -11,8 +11,8 @@ use Rattle.guard_policy.specs.code.Views.{bytes_of, world}
 use Rattle.guard_policy.specs.declared.policy.Policy.{Policy}
 use Rattle.guard_policy.specs.declared.support.Decision.TheVariants.{Changeable}
 use Rattle.question_audit.proofs.KeptLemmas.{kept_told}
-use Rattle.question_audit.proofs.BeginningLemmas.{at_error, begun_before, begun_behind}
-use Rattle.question_audit.proofs.OptionLemmas.{error_where_denied, nothing_begun}
+use Rattle.question_audit.proofs.BeginningLemmas.{begun_behind}
+use Rattle.question_audit.proofs.OptionLemmas.{error_where_denied}
 use Rattle.question_objects.proofs.objects.put_members.Goals as goal
 use Rattle.question_objects.proofs.objects.put_members.Goals.{After-question_changeable_by-verdict}
 
@@ -43,9 +43,6 @@ put_details-requires-clause-denied g c =
 
 pub returns-clause-told : goal.returns-clause-told
 returns-clause-told g c = on_ok_weaker c.put_details.result (λ told. c.put_plain.ensures.text ⨾ told) c.put_details.ensures.told
-
-pub returns-in_err-reasons-clause-begun : goal.returns-in_err-reasons-clause-begun
-returns-in_err-reasons-clause-begun g c = at_error c.from_residual.result (nothing_begun _ _)
 
 pub returns-clause-begun : goal.returns-clause-begun
 returns-clause-begun g c = on_err_weaker c.put_details.result (λ begun. begun_behind c.put_plain.ensures.text begun) c.put_details.ensures.begun

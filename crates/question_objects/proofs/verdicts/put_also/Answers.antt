@@ -1,23 +1,32 @@
-use Rattle.std.proofs.Common.{◌≡◌, ◌∷◌, List, ap, arith, refl, sym}
-use Rattle.std.proofs.lemmas.List.{at_drop_more, drop_all}
-use Rattle.hii_bytes.specs.Watching.{pen_of}
-use Rattle.hii_bytes.proofs.WritingLemmas.{◌⨾◌}
+use Rattle.std.proofs.Common.{◌≡◌, [], List, ap, subst, sym, ◌∙◌}
+use Rattle.std.specs.Prelude.{not}
+use Rattle.hii_bytes.specs.Watching.{Pen, Writes, pen_of}
+use Rattle.hii_bytes.proofs.WritingLemmas.{writes_nil, ◌⨾◌}
+use Rattle.hii_questions.specs.code.Views.{question_view}
 use Rattle.guard_policy.specs.declared.denial.Denial.{Denial}
-use Rattle.condition_text.proofs.WriteLemmas.{written_as}
+use Rattle.form_page.specs.code.PageViews.{world_of}
+use Rattle.question_audit.specs.Reasons.{all_reasons, further}
+use Rattle.question_audit.proofs.ReasonLemmas.{behind_first, no_first}
 use Rattle.question_objects.specs.Verdicts.{also_member, reason_object}
 use Rattle.question_objects.proofs.ListingLemmas.{first_left, item_next, none_left}
 use Rattle.question_objects.proofs.verdicts.put_also.Goals as goal
 
+-- of no reasons nothing is written
+nothing_also : (pen : Pen) (denials : List Denial) → denials ≡ [] → Writes pen pen (also_member denials)
+nothing_also pen denials none = subst (λ (ds : List Denial). Writes pen pen (also_member ds)) (sym none) (writes_nil pen)
+
+pub returns-then-is_none : goal.returns-then-is_none
+returns-then-is_none g c =
+    let none = sym c.of-reasons.ensures ∙ no_first c.next.result _ _ (c.is_none.ensures ∙ ap not c.if-is_none.true) c.next.ensures.steps in
+    nothing_also (pen_of g.W.Write.contents c.args.out.now) _ none
+
 pub loop-denial-init : goal.loop-denial-init
-loop-denial-init g c = first_left _ reason_object (pen_of g.W.Write.contents c.args.out.now) c.in-Some.further.now c.in-Some.further.now refl
+loop-denial-init g c =
+    let all = all_reasons (world_of c.args.page) (question_view c.args.question) in
+    first_left _ reason_object (pen_of g.W.Write.contents c.args.out.now) (further all) _ (behind_first c.next.result _ _ c.next.ensures.steps ∙ ap further c.of-reasons.ensures)
 
 pub loop-denial-preserved : goal.loop-denial-preserved
-loop-denial-preserved g c =
-    item_next reason_object _ (at_drop_more (λ (l : List Denial). l) c.in-Some.further.now c.loop-denial.denial-index _ c.loop-denial-test.true) c.loop-denial.invariant (c.put_before_item.ensures ⨾ c.put_reason.ensures)
+loop-denial-preserved g c = item_next reason_object _ c.in-Some.ensures.steps c.loop-denial.invariant (c.put_before_item.ensures ⨾ c.put_reason.ensures)
 
 pub returns : goal.returns
-returns g c =
-    let all = c.in-Some.further.now in
-    let none = drop_all c.loop-denial.denial-index all (omega (arith, c.loop-denial-test.false)) in
-    let split : c.args.reasons.now ≡ c.in-Some.field-0-0.now ∷ all = c.in-Some.ensures.cases.0 in
-    written_as (none_left reason_object none c.loop-denial.invariant c.put_array_end.ensures) (ap also_member (sym split))
+returns g c = none_left reason_object c.in_default.ensures.steps.0 c.loop-denial.invariant c.put_array_end.ensures
