@@ -153,6 +153,20 @@ at_last bytes at around k missing = go (opcodes_in (drop at bytes)) k.whole k.jo
     go [] u e = refl
     go (op ∷ ops) u e = absurd (missing op (concat ops) u.0 (sym e))
 
+-- where some bytes are left, a whole opcode stands in front of them
+pub opcode_here : (bytes : List ℕ) (at : ℕ) (around : List ℕ) → IsWalking bytes at around → at < length bytes
+    → IsWhole (mark_at bytes at).op × (drop at bytes ≡ (mark_at bytes at).op ++ drop (length (mark_at bytes at).op) (drop at bytes))
+opcode_here bytes at around k some = go (opcodes_in (drop at bytes)) k.whole k.joined
+  where
+    Here : List ℕ → Type 0
+    Here op = IsWhole op × (drop at bytes ≡ op ++ drop (length op) (drop at bytes))
+
+    go : (ops : List (List ℕ)) → AllWhole ops → concat ops ≡ drop at bytes → Here (mark_at bytes at).op
+    go [] u e = absurd (omega (arith, some, ap length e, length-drop at bytes))
+    go (op ∷ ops) u e =
+        let behind_it : drop (length op) (drop at bytes) ≡ concat ops = ap (drop (length op)) (sym e) ∙ drop_at op (concat ops) (length op) refl in
+        subst Here (sym (ap (λ (m : Mark). m.op) (marked_at bytes at op (concat ops) u.0 (sym e)))) (u.0, sym e ∙ ap (λ (l : List ℕ). op ++ l) (sym behind_it))
+
 -- a walk over these opcodes may begin
 begins : (bytes : List ℕ) (at : ℕ) (ops : List (List ℕ)) → length bytes < 2 ^ 32 → at ≤ length bytes → drop at bytes ≡ concat ops → AllWhole ops → is_shallow 0 ops ≡ true → IsWalking bytes at []
 begins bytes at ops small within e w shallow =

@@ -1,16 +1,17 @@
 //! A way through the nodes of a package.
 
-ghost use Rattle.std.specs.Prelude.{◌≡◌, ◌≤◌, ◌<◌, ◌^◌, ◌+◌, ◌++◌, ◌∷◌, [], Some, length, map, if◌then◌else◌, IfNone, IfSome, IsSome};
+ghost use Rattle.std.specs.Prelude.{◌≡◌, ◌≤◌, ◌<◌, ◌^◌, ◌+◌, ◌++◌, ◌∷◌, [], ℕ, List, Some, length, map, drop, if◌then◌else◌, IfNone, IfSome, IsSome, MatchOption};
 ghost use Rattle.ifr_opcodes.specs.Forest.{Node, SpellsForest, as_ancestor, nodes, node_at, below};
 ghost use Rattle.ifr_opcodes.specs.code.Marks.{mark};
 ghost use Rattle.ifr_opcodes.specs.Opcode.{has_scope, IsWhole};
 ghost use Rattle.ifr_opcodes.specs.Reading.{tree_of};
 ghost use Rattle.ifr_opcodes.specs.code.Marks.{mark_at};
+ghost use Rattle.ifr_opcodes.specs.code.Ops.{bytes_of};
 ghost use Rattle.ifr_nodes.specs.code.Walking.{IsWalking, IsWalking-prop};
 
 use crate::framing::HEADER;
 use arrayvec::ArrayVec;
-use ifr_opcodes::{END, Op, op_at, split_opcode};
+use ifr_opcodes::{END, Op, op_at, op_there};
 
 /// A node that a walk meets.
 #[derive(Clone, Copy)]
@@ -87,6 +88,22 @@ impl<'a> Walk<'a> {
         self.bytes
     }
 
+    // The opcode where the walk stands, if one is left.
+    #[inline(always)]
+    fn next_op(&self) -> Option<Op<'a>>
+        ensures { MatchOption result
+            ((op more : List ℕ) → IsWhole op
+            → drop self.now.at self.now.bytes.now ≡ op ++ more → ⊥)
+            (λ op. (op.place ≡ self.now.at) × (drop self.now.at self.now.bytes.now
+            ≡ bytes_of op ++ drop (length (bytes_of op)) (drop self.now.at self.now.bytes.now))) }
+    {
+        if self.at < self.bytes.len() {
+            Some(op_there(self.bytes, self.at as u32))
+        } else {
+            None
+        }
+    }
+
     /// Goes to the next node.
     #[inline(always)]
     pub fn step(&mut self) -> Option<Visit<'a>>
@@ -94,7 +111,7 @@ impl<'a> Walk<'a> {
         ensures some { IfSome result (λ visit. Meets self.old visit self.new) }
         ensures kept { self.new.bytes.now ≡ self.old.bytes.now }
     {
-        while let Some((op, _)) = split_opcode(&self.bytes[self.at..], self.at as u32) {
+        while let Some(op) = self.next_op() {
             if op.code != END {
                 let depth = self.around.len();
                 let visit = Visit { op, depth };
@@ -117,13 +134,13 @@ impl<'a> Walk<'a> {
 
 impl<'a> Walk<'a> {
     ghost use Rattle.std.specs.Prelude.{take};
-    ghost use Rattle.std.specs.Prelude.{All, drop};
-    ghost use Rattle.ifr_opcodes.specs.code.Ops.{bytes_of};
+    ghost use Rattle.std.specs.Prelude.{All};
     ghost use Rattle.ifr_opcodes.specs.code.Marks.{inside};
     ghost use Rattle.ifr_opcodes.specs.Reading.{opcodes_in};
     ghost use Rattle.ifr_nodes.specs.Structure.{first_number};
 
     /// The number of the first child of the node that the walk met last.
+    #[inline(always)]
     pub fn first_child(&self, visit: &Visit) -> Option<u8>
         ensures { result ≡ first_number
             (inside (bytes_of visit.now.op) (opcodes_in (drop self.now.at self.now.bytes.now))) }
@@ -131,8 +148,8 @@ impl<'a> Walk<'a> {
         if !visit.op.scope {
             return None;
         }
-        match split_opcode(&self.bytes[self.at..], self.at as u32) {
-            Some((op, _)) => { if op.code == END { None } else { Some(op.code) } }
+        match self.next_op() {
+            Some(op) => { if op.code == END { None } else { Some(op.code) } }
             None => None,
         }
     }

@@ -1,5 +1,4 @@
 use Rattle.std.proofs.Common.{sym, ◌∙◌}
-use Rattle.std.proofs.lemmas.List.{take_rest}
 use Rattle.std.proofs.lemmas.Bool.{cond-true, cond-false, eq-eqb, ne_eqb}
 use Rattle.ifr_opcodes.specs.declared.codes.TheConstants.{END}
 use Rattle.ifr_opcodes.specs.code.Ops.{bytes_of}
@@ -12,7 +11,7 @@ returns-then-op-eq-END c =
     let it = c.args.self.now in
     let parent = c.args.visit.now.op in
     let op = c.in-Some.op in
-    sym (first_inside it.bytes.now it.at it.around.items (bytes_of parent) (bytes_of op) _ it.walking (has_scope_spelled parent.code parent.scope parent.body.now parent.whole ∙ c.if-not-visit.false) op.whole (sym (take_rest it.bytes.now it.at) ∙ c.in-Some.ensures.1)
+    sym (first_inside it.bytes.now it.at it.around.items (bytes_of parent) (bytes_of op) _ it.walking (has_scope_spelled parent.code parent.scope parent.body.now parent.whole ∙ c.if-not-visit.false) op.whole c.in-Some.ensures.1
     ∙ cond-true _ _ _ (eq-eqb op.code END c.if-op-eq-END.true))
 
 pub returns-else-op-eq-END : goal.returns-else-op-eq-END
@@ -20,10 +19,10 @@ returns-else-op-eq-END c =
     let it = c.args.self.now in
     let parent = c.args.visit.now.op in
     let op = c.in-Some.op in
-    sym (first_inside it.bytes.now it.at it.around.items (bytes_of parent) (bytes_of op) _ it.walking (has_scope_spelled parent.code parent.scope parent.body.now parent.whole ∙ c.if-not-visit.false) op.whole (sym (take_rest it.bytes.now it.at) ∙ c.in-Some.ensures.1)
+    sym (first_inside it.bytes.now it.at it.around.items (bytes_of parent) (bytes_of op) _ it.walking (has_scope_spelled parent.code parent.scope parent.body.now parent.whole ∙ c.if-not-visit.false) op.whole c.in-Some.ensures.1
     ∙ cond-false _ _ _ (ne_eqb op.code END c.if-op-eq-END.false))
 
 pub returns-in-None : goal.returns-in-None
 returns-in-None c =
     let it = c.args.self.now in
-    sym (first_missing it.bytes.now it.at it.around.items (bytes_of c.args.visit.now.op) it.walking (λ op more w e. c.in-None.ensures op more w (take_rest it.bytes.now it.at ∙ e)))
+    sym (first_missing it.bytes.now it.at it.around.items (bytes_of c.args.visit.now.op) it.walking c.in-None.ensures)
