@@ -4,6 +4,7 @@ pub mod LockLemmas
 pub mod KindLemmas
 pub mod PathLemmas
 pub mod QuestionFacts
+pub mod ReferredLemmas
 pub mod EntryLemmas
 pub mod InsideLemmas
 pub mod ConditionFacts

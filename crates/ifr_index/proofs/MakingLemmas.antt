@@ -17,6 +17,7 @@ use Rattle.ifr_nodes.specs.Nodes.{nodes_of, is_form, is_store}
 use Rattle.ifr_nodes.specs.Rules.{is_rule}
 use Rattle.ifr_index.specs.code.Index.{is_indexed}
 use Rattle.ifr_index.specs.code.LockIndex.{Finds, first_place}
+use Rattle.ifr_index.specs.code.References.{AreReferencesOf}
 use Rattle.ifr_index.specs.code.Tables.{guards_before, inner_guard, guard_entry, entry_of_node, is_question_condition, conditions_before, condition_entry, kept_condition, conditions_among, places_of}
 use Rattle.ifr_nodes.specs.code.FormIds.{form_entry}
 use Rattle.ifr_index.specs.code.Adding.{Adds, AreOfAll, IsStart}
@@ -27,6 +28,7 @@ use Rattle.ifr_index.specs.declared.level.Level.{Level}
 use Rattle.ifr_index.specs.declared.tables.Tables.{Tables}
 use Rattle.ifr_index.proofs.GivingLemmas.{HasAdded, none_added, added_next, all_added}
 use Rattle.ifr_index.proofs.NumberLemmas.{so_many_before}
+use Rattle.ifr_index.proofs.ReferredLemmas.{referred_next}
 use Rattle.ifr_index.proofs.IndexingLemmas.{Follows, nodes_follow, entered, cut, few_of, few_nodes}
 
 abbrev place_of : Node → ℕ
@@ -49,6 +51,7 @@ pub record Made (ns : List Node) (t : Tables) (levels : List Level) (left : List
   pub rules : t.rules.items ≡ places_of is_rule before
   pub giving : HasAdded ns t.giving.items t.last left
   pub locks : Finds (first_place ns) (get nat_cmp t.locks) left
+  pub references : AreReferencesOf before t.references
 
 pub made_start : (bytes : List ℕ) (t : Tables) (levels : List Level) (left : List Node) → SpellsForest bytes (tree_of bytes) → IsStart t → levels ≡ [] → left ≡ nodes_of bytes → Made (nodes_of bytes) t levels left
 made_start bytes t levels left s start no_level all = record {
@@ -65,6 +68,7 @@ made_start bytes t levels left s start no_level all = record {
   rules = start.rules;
   giving = rw start.last (none_added (nodes_of bytes) t.giving.items left start.giving all);
   locks = λ scope. rw (start.locks scope) (ap (λ (l : List Node). first_place l scope) all);
+  references = start.references;
 }
 
 -- one more of a kind
@@ -112,6 +116,7 @@ made_next ns old new levels more n rest guard r m is adds opened =
       rules = more_of is_rule place_of place_of m.before n old.rules.items new.rules.items m.rules refl adds.rules;
       giving = added_next ns old.giving.items new.giving.items old.last new.last n rest m.giving adds.giving adds.last;
       locks = adds.locks (first_place ns) rest m.locks;
+      references = referred_next m.before n old.references new.references m.references adds.references;
     }
 
 -- all nodes were met
@@ -129,6 +134,7 @@ made_all bytes t levels left checked m ended =
       rules = m.rules ∙ ap (places_of is_rule) all;
       giving = all_added bytes t.giving.items t.last left checked m.giving ended;
       locks = λ scope. sym (or_nothing (found scope)) ∙ ap (λ (l : List Node). option_or (found scope) (first_place l scope)) (sym ended) ∙ m.locks scope;
+      references = subst (λ (l : List Node). AreReferencesOf l t.references) all m.references;
     }
   where
     or_nothing : (o : Option ℕ) → option_or o None ≡ o

@@ -4,4 +4,5 @@ pub mod Giving
 pub mod Index
 pub mod Levels
 pub mod LockIndex
+pub mod References
 pub mod Tables

@@ -67,6 +67,8 @@ pub struct Index {
     pub rules: Vec<u32>,
     /// The places of the statements that give a default.
     pub giving: Vec<u32>,
+    /// Whether it is known that no node has a fault beside the others, and that there is no rule.
+    pub referred: bool,
 }
 
 impl Drop for Index {
@@ -79,6 +81,7 @@ impl Drop for Index {
             stores: _,
             rules: _,
             giving: _,
+            referred: _,
         } = self;
     }
 }

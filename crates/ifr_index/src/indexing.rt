@@ -24,6 +24,7 @@ use std::alloc::{AllocError, Global};
 
 // Goes to a node, by its opcode, the innermost scope around it, whether it is the root, and the number of its first child. It
 // is added to the tables if it has no fault, nor the expression at it.
+#[inline(always)]
 fn pass(
     tables: &mut Tables,
     ifr: &[u8],
@@ -73,7 +74,7 @@ pub fn index_of(alloc: Global, ifr: &[u8]) -> Result<Option<Index>, AllocError>
         return Ok(None);
     }
     let outside = Level::outside();
-    let mut tables = Tables::new(alloc);
+    let mut tables = Tables::new(alloc)?;
     let mut levels: ArrayVec<Level, 64> = ArrayVec::new();
     let mut walk = Walk::over(ifr);
     while let Some(visit) = walk.step() {

@@ -7,6 +7,8 @@ mod index;
 mod indexing;
 mod level;
 mod locking;
+mod references;
+mod ruling;
 mod soundness;
 mod tables;
 
@@ -15,3 +17,4 @@ pub use index::{
     entry_at, guard_at, guards_behind, number_of, places_behind,
 };
 pub use indexing::index_of;
+pub use ruling::rules_of;

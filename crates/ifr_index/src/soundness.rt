@@ -18,6 +18,7 @@ use ifr_nodes::{HEADER, end_of, has_wrong_scope, lacks_wanted};
 use ifr_opcodes::{FORM_SET, Op, is_outside, is_short};
 
 /// Whether a statement in a form has no fault.
+#[inline(always)]
 pub(crate) fn is_sound_statement(op: Op) -> bool
     requires { is_statement_number op.code ≡ true }
     ensures { (path : List Ancestor) (children : Forest) → class_around path ≡ OfForm

@@ -24,6 +24,7 @@ use crate::giving::add_giving;
 use crate::index::{ConditionEntry, Entry, GuardEntry, Index};
 use crate::level::Level;
 use crate::locking::lock_entries;
+use crate::references::References;
 use hii_bytes::{IdEntry, IdTable};
 use ifr_nodes::{end_of, is_guard};
 use ifr_opcodes::{
@@ -179,16 +180,18 @@ pub(crate) struct Tables {
     // The place of the last statement, as long as it is not known to give a default.
     last: Option<u32>,
     locks: BTreeMap<u32, u32>,
+    references: References,
 }
 
 impl Tables {
     ghost use Rattle.ifr_index.specs.code.Adding.{Adds, AreOfAll, IsStart};
+    ghost use Rattle.ifr_index.specs.code.References.{AreReferred};
 
     /// Tables without entries.
-    pub(crate) fn new(alloc: Global) -> Tables
-        ensures { IsStart result }
+    pub(crate) fn new(alloc: Global) -> Result<Tables, AllocError>
+        ensures { IfOk result IsStart }
     {
-        Tables {
+        Ok(Tables {
             entries: Vec::new(alloc),
             guards: Vec::new(alloc),
             conditions: Vec::new(alloc),
@@ -198,7 +201,8 @@ impl Tables {
             giving: Vec::new(alloc),
             last: None,
             locks: BTreeMap::new(alloc),
-        }
+            references: References::new(alloc)?,
+        })
     }
 
     /// How many guards there are.
@@ -218,6 +222,7 @@ impl Tables {
     {
         add_entry(&mut self.entries, op, guard)?;
         add_giving(&mut self.giving, &mut self.last, op)?;
+        self.references.meet_statement(op)?;
         Ok(())
     }
 
@@ -236,7 +241,21 @@ impl Tables {
         add_store(&mut self.stores, op)?;
         add_rule(&mut self.rules, op)?;
         add_lock(&mut self.locks, op, level.place)?;
+        self.references.meet(op)?;
         Ok(())
+    }
+
+    // Whether it is known of the nodes that were added that none has a fault beside the others, and that none is a rule.
+    fn are_referred(&self) -> bool
+        ensures { result ≡ true → (ns : List Placed) → AreOfAll ns self.now → AreReferred ns }
+    {
+        if self.forms.is_empty() {
+            return false;
+        }
+        if !self.rules.is_empty() {
+            return false;
+        }
+        self.references.are_distinct()
     }
 
     /// The index of a package, of which all nodes were added.
@@ -245,6 +264,7 @@ impl Tables {
         requires all { AreOfAll (nodes_of ifr.now) self }
         ensures { IfOk result (IsIndexOf (nodes_of ifr.now)) }
     {
+        let referred = self.are_referred();
         let Tables {
             mut entries,
             mut guards,
@@ -255,6 +275,7 @@ impl Tables {
             giving,
             last: _,
             locks,
+            references: _,
         } = self;
         lock_entries(ifr, &locks, &mut entries);
         guards.shrink_to_fit();
@@ -266,6 +287,7 @@ impl Tables {
             stores,
             rules,
             giving,
+            referred,
         })
     }
 }

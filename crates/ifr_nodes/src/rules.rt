@@ -100,7 +100,7 @@ pub fn add_to(lists: &mut Vec<Vec<KeptRule>>, id: u8, rule: KeptRule) -> Result<
 
 impl RuleTable {
     /// No rules.
-    pub(crate) fn new(alloc: Global) -> RuleTable
+    pub fn new(alloc: Global) -> RuleTable
         ensures { AreKeptRules [] result }
     {
         RuleTable {

@@ -27,6 +27,7 @@ use ifr_expr::Expr;
 use ifr_opcodes::{FORM_SET, Op, VALUE, is_listed, is_operator, is_outside, is_short, op_at};
 
 /// Whether it is wrong that an opcode has Scope, or has none, where it stands in the scope of an operator or does not.
+#[inline(always)]
 pub fn has_wrong_scope(op: Op, operand: bool) -> bool
     ensures { result ≡ structure.has_wrong_scope (table.row op.entry.code) operand
         (bytes_of op.entry) }
@@ -160,6 +161,7 @@ fn lacks_value(first: Option<u8>) -> bool
 }
 
 /// Whether an opcode, by the number of its first child, does not begin with what it wants.
+#[inline(always)]
 pub fn lacks_wanted(op: Op, first: Option<u8>) -> bool
     ensures { (children : Forest) → structure.first_number children ≡ first →
         result ≡ structure.lacks_wanted (bytes_of op.entry) children }

@@ -57,12 +57,9 @@ use hii_packages::Package;
 use ifr_expr::{Expr, NumberedRules, Rules};
 use ifr_index::{
     ConditionEntry, Entry, Index, condition_at, conditions_behind, entries_behind, entry_at,
-    guard_at, guards_behind, index_of, number_of, places_behind,
+    guard_at, guards_behind, index_of, number_of, places_behind, rules_of,
 };
-use ifr_nodes::{
-    Node, Nodes, RuleTable, check_framing, check_references, check_structure, expression_of,
-    node_at,
-};
+use ifr_nodes::{Node, Nodes, RuleTable, check_framing, check_structure, expression_of, node_at};
 use ifr_opcodes::is_question;
 use std::alloc::Global;
 use std::marker::Model;
@@ -124,7 +121,7 @@ impl<'a> Forms<'a> {
             // a package without a fault up to here has an index
             unreachable!()
         };
-        let rules = check_references(alloc, ifr, &index.forms)?;
+        let rules = rules_of(alloc, ifr, &index)?;
         Ok(Forms { ifr, rules, index })
     }
 

@@ -10,6 +10,7 @@ use Rattle.ifr_nodes.specs.code.FormIds.{form_entry}
 use Rattle.ifr_index.specs.code.Giving.{added, last_behind, is_giving}
 use Rattle.ifr_index.specs.code.Index.{is_indexed}
 use Rattle.ifr_index.specs.code.LockIndex.{Finds, first_place}
+use Rattle.ifr_index.specs.code.References.{AreReferencesOf, Refers}
 use Rattle.ifr_index.specs.code.Tables.{entry_of_node, guard_entry, guard_table, condition_entry, condition_table, entries_unlocked, is_question_condition, places_of}
 use Rattle.ifr_index.specs.declared.tables.Tables.{Tables}
 
@@ -30,6 +31,7 @@ pub record Adds (guard : Option ℕ) (n : Node) (old new : Tables) : Type 0 wher
   pub locks : (all : ℕ → Option ℕ) (left : List Node)
       → Finds all (get nat_cmp old.locks) (n ∷ left)
       → Finds all (get nat_cmp new.locks) left
+  pub references : Refers n old.references new.references
 
 -- They have no entries.
 pub record IsStart (tables : Tables) : Type 0 where
@@ -42,6 +44,7 @@ pub record IsStart (tables : Tables) : Type 0 where
   pub giving : tables.giving.items ≡ []
   pub last : tables.last ≡ None
   pub locks : (scope : ℕ) → get nat_cmp tables.locks scope ≡ None
+  pub references : AreReferencesOf [] tables.references
 
 -- All nodes were met, and no entry has what locks it yet.
 pub record AreOfAll (ns : List Node) (tables : Tables) : Type 0 where
@@ -53,3 +56,4 @@ pub record AreOfAll (ns : List Node) (tables : Tables) : Type 0 where
   pub rules : tables.rules.items ≡ places_of is_rule ns
   pub giving : tables.giving.items ≡ places_of is_giving ns
   pub locks : (scope : ℕ) → get nat_cmp tables.locks scope ≡ first_place ns scope
+  pub references : AreReferencesOf ns tables.references

@@ -15,6 +15,7 @@ use Rattle.ifr_index.specs.code.Index.{is_indexed, entry_at}
 use Rattle.ifr_nodes.specs.code.FormIds.{AreFormEntries}
 use Rattle.ifr_index.specs.code.Giving.{is_giving}
 use Rattle.ifr_index.specs.code.LockIndex.{lock_place}
+use Rattle.ifr_index.specs.code.References.{AreReferred}
 use Rattle.ifr_index.specs.declared.index.Index.{Index}
 use Rattle.ifr_index.specs.declared.index.Entry.{Entry}
 use Rattle.ifr_index.specs.declared.index.GuardEntry.{GuardEntry}
@@ -235,7 +236,7 @@ pub AreConditionEntries-prop : (bytes : List ℕ) (kept : List ConditionEntry)
     → IsProp (AreConditionEntries bytes kept)
 AreConditionEntries-prop bytes kept = hlevel (props, IsConditionEntry-prop)
 
--- These are the tables of a package's nodes.
+-- These are the tables of a package's nodes, and what is known of them.
 pub record IsIndexOf (ns : List Node) (index : Index) : Type 0 where
   pub entries : index.entries.items ≡ entry_table ns
   pub guards : index.guards.items ≡ guard_table ns
@@ -244,6 +245,7 @@ pub record IsIndexOf (ns : List Node) (index : Index) : Type 0 where
   pub stores : index.stores.items ≡ places_of is_store ns
   pub rules : index.rules.items ≡ places_of is_rule ns
   pub giving : index.giving.items ≡ places_of is_giving ns
+  pub referred : index.referred ≡ true → AreReferred ns
 
 guard_entry_prop : (a b : GuardEntry) → IsProp (a ≡ b)
 guard_entry_prop a b = hlevel (props, option_prop)

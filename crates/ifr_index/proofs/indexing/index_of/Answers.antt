@@ -28,7 +28,7 @@ returns-then-ifr-eq-HEADER-clause-faulty c = λ is sound.
 
 pub loop-visit-init : goal.loop-visit-init
 loop-visit-init c = record {
-  made = made_start c.args.ifr.now c.new-tables.result c.new-levels.result.items (left c.over-walk.result) c.requires.spelled c.new-tables.ensures c.new-levels.ensures c.over-walk.ensures.nodes;
+  made = made_start c.args.ifr.now c.in_ok-tables.tables c.new-levels.result.items (left c.over-walk.result) c.requires.spelled c.in_ok-tables.ensures c.new-levels.ensures c.over-walk.ensures.nodes;
   stands = at_start (nodes_of c.args.ifr.now) (left c.over-walk.result) c.over-walk.ensures.nodes;
   kept = c.over-walk.ensures.kept;
 }

@@ -15,6 +15,7 @@ use Rattle.ifr_nodes.specs.code.FormIds.{form_entry}
 use Rattle.ifr_index.specs.code.Giving.{added, last_behind}
 use Rattle.ifr_index.specs.code.Index.{is_indexed}
 use Rattle.ifr_index.specs.code.LockIndex.{Finds}
+use Rattle.ifr_index.specs.code.References.{Refers}
 use Rattle.ifr_index.specs.code.Tables.{entry_of_node, places_of}
 use Rattle.ifr_index.specs.declared.level.Level.{Level}
 use Rattle.ifr_index.proofs.MetLemmas.{met_is}
@@ -29,6 +30,9 @@ add_giving-requires-clause-known c = ap is_left_out (sym c.requires.met.stands.o
 
 pub add_form-requires : goal.add_form-requires
 add_form-requires c = ap is_short (sym c.requires.met.stands.opcode) ∙ clear_long (node_in c.args.ifr.now c.args.op.place) c.requires.clear
+
+pub meet-requires : goal.meet-requires
+meet-requires c = ap is_short (sym c.requires.met.stands.opcode) ∙ clear_long (node_in c.args.ifr.now c.args.op.place) c.requires.clear
 
 pub returns : goal.returns
 returns c =
@@ -49,4 +53,5 @@ returns c =
       locks = λ all left finds. c.in_ok-add_lock.ensures n.path n.children
           (λ is. subst (λ (k : ℕ). has_place k (innermost n.path) ≡ true) (sym scope) (locked_in_scope n c.requires.clear (ap number c.requires.met.stands.opcode ∙ is)))
           all left (subst (λ (m : Node). Finds all (get nat_cmp old.locks) (m ∷ left)) (sym same) finds);
+      references = subst (λ (m : Node). Refers m old.references c.meet.new.self) same (c.in_ok-meet.ensures n.path n.children);
     }

@@ -32,4 +32,5 @@ returns c = λ path children.
       giving = c.in_ok-add_giving.ensures.added path children;
       last = c.in_ok-add_giving.ensures.last path children;
       locks = λ all left. lock_other all (get nat_cmp old.locks) n left is.no_lock;
+      references = c.in_ok-meet_statement.ensures path children;
     }

@@ -16,4 +16,5 @@ returns c =
       stores = all.stores;
       rules = all.rules;
       giving = all.giving;
+      referred = λ known. c.are_referred-referred.ensures known (nodes_of c.args.ifr.now) all;
     }
