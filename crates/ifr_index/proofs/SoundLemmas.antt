@@ -8,7 +8,7 @@ use Rattle.hii_bytes.specs.declared.cause.Cause.{Cause}
 use Rattle.hii_bytes.specs.declared.cause.Cause.TheVariants.{NotFormSet, AfterFormSet, OpOutside, OpSize, Misplaced, ScopeBit, ExprShape}
 use Rattle.ifr_opcodes.specs.Opcode.{number}
 use Rattle.ifr_opcodes.specs.Forest.{Node, Ancestor}
-use Rattle.ifr_opcodes.specs.Rows.{row_of, operands, is_operator, is_listed, is_left_out, is_outside, is_short, is_statement_number, is_store_number, is_condition_number}
+use Rattle.ifr_opcodes.specs.Rows.{row_of, operands, is_operator, is_listed, is_left_out, is_outside, is_short, is_question_number, is_statement_number, is_store_number, is_condition_number}
 use Rattle.ifr_opcodes.specs.declared.codes.TheConstants.{FORM, FORM_SET, RULE, DEFAULT, GUID, VARSTORE_EFI, ONE_OF_OPTION, LOCKED}
 use Rattle.ifr_opcodes.proofs.RowLemmas.{refused, inside, inside_parts}
 use Rattle.ifr_opcodes.proofs.StatementLemmas.{none_states}
@@ -196,6 +196,64 @@ placed_later n inner later = in_scope n inner (none_first (eqb n.place 4) (numbe
 pub placed_set : (n : Node) → is_root n ≡ false → (number n.op == FORM_SET) ≡ true → admits (class_around n.path) (number n.op) || is_wanted n ≡ is_placed n
 placed_set n inner set = in_scope n inner (set_first (eqb n.place 4) (number n.op == FORM_SET) set)
 
+-- ---- what a number is not
+
+pub record Alone (code : ℕ) : Type 0 where
+  pub no_guard : is_guard code ≡ false
+  pub no_condition : is_condition_number code ≡ false
+  pub no_form : (code == FORM) ≡ false
+  pub no_store : is_store_number code ≡ false
+  pub no_rule : (code == RULE) ≡ false
+  pub no_lock : (code == LOCKED) ≡ false
+
+and_none : (a b : Bool) → b ≡ false → a && b ≡ false
+and_none true b e = e
+and_none false b e = refl
+
+-- ---- an option among options
+
+option_free : is_free (row ONE_OF_OPTION) ≡ true
+unfolding is_free row row_of
+option_free = refl
+
+option_says_nothing : (wants_expression ONE_OF_OPTION ≡ false) × (is_operator ONE_OF_OPTION ≡ false)
+unfolding is_condition_number operands row_of
+option_says_nothing = (refl, refl)
+
+held_inside : (path : List Ancestor) (code : ℕ) → admits (class_around path) code ≡ true → (length path == 0) ≡ false
+held_inside [] code held = absurd (false≢true held)
+held_inside (a ∷ path) code held = ne_eqb (length (a ∷ path)) 0 (λ zero. omega (arith, zero))
+
+by_two : (outside short : Bool) → not outside && (not short && true) ≡ not outside && not short
+by_two true short = refl
+by_two false true = refl
+by_two false false = refl
+
+pub option_clear : (n : Node) → number n.op ≡ ONE_OF_OPTION → admits (class_around n.path) ONE_OF_OPTION ≡ true → is_clear n ≡ (not (eqb n.place 4) && (not (is_outside n.op) && not (is_short n.op)))
+option_clear n is held = clear_is n ∙ elim (cases_Bool (eqb n.place 4)) [
+  | inl first ↦
+      let set : (number n.op == FORM_SET) ≡ false = ap (λ (k : ℕ). k == FORM_SET) is in
+      rw (first, set) refl
+  | inr later ↦
+      let here : admits (class_around n.path) (number n.op) ≡ true = ap (admits (class_around n.path)) is ∙ held in
+      let placed : is_placed n ≡ true = sym (placed_later n (held_inside n.path ONE_OF_OPTION held) later) ∙ ap (λ (b : Bool). b || is_wanted n) here in
+      let scoped : has_wrong_scope (row (number n.op)) (is_operand n) n.op ≡ false = free_scope (row (number n.op)) (is_operand n) n.op (ap (λ (k : ℕ). is_free (row k)) is ∙ option_free) in
+      let says : wants_expression (number n.op) ≡ false = ap wants_expression is ∙ option_says_nothing.0 in
+      let no_default : (number n.op == DEFAULT) ≡ false = ap (λ (k : ℕ). k == DEFAULT) is in
+      rw (placed, scoped, says, no_default, later) (by_two (is_outside n.op) (is_short n.op))
+]
+
+pub option_no_expression : (n : Node) → number n.op ≡ ONE_OF_OPTION → is_expression n ≡ false
+option_no_expression n is = and_none (is_condition n) (is_operator (number n.op)) (ap is_operator is ∙ option_says_nothing.1)
+
+pub option_alone : Alone ONE_OF_OPTION
+unfolding is_condition_number is_store_number row_of
+option_alone = record { no_guard = refl; no_condition = refl; no_form = refl; no_store = refl; no_rule = refl; no_lock = refl }
+
+pub option_asks_none : is_question_number ONE_OF_OPTION ≡ false
+unfolding is_question_number row_of
+option_asks_none = refl
+
 -- ---- what a statement is not
 
 abbrev is_alone : ℕ → Bool
@@ -205,14 +263,6 @@ is_alone c =
 all_alone : map (λ c. not (is_statement_number c) || is_alone c) numbers ≡ map (λ c. true) numbers
 unfolding is_statement_number is_condition_number is_store_number row_of
 all_alone = refl
-
-pub record Alone (code : ℕ) : Type 0 where
-  pub no_guard : is_guard code ≡ false
-  pub no_condition : is_condition_number code ≡ false
-  pub no_form : (code == FORM) ≡ false
-  pub no_store : is_store_number code ≡ false
-  pub no_rule : (code == RULE) ≡ false
-  pub no_lock : (code == LOCKED) ≡ false
 
 pub alone : (code : ℕ) → is_statement_number code ≡ true → Alone code
 alone code is =
@@ -235,10 +285,6 @@ statement_known op is = (inside_parts op (plain op is).inside).1
 
 pub statement_no_expression : (n : Node) → is_statement_number (number n.op) ≡ true → is_expression n ≡ false
 statement_no_expression n is = and_none (is_condition n) (is_operator (number n.op)) (plain n.op is).no_operator
-  where
-    and_none : (a b : Bool) → b ≡ false → a && b ≡ false
-    and_none true b e = e
-    and_none false b e = refl
 
 -- ---- a fault of its own
 

@@ -15,11 +15,11 @@ ghost use Rattle.ifr_index.specs.code.Tables.{IsIndexOf};
 
 use crate::index::Index;
 use crate::level::{Level, innermost};
-use crate::soundness::{has_sound_expression, is_sound, is_sound_statement};
+use crate::soundness::{has_sound_expression, is_sound, is_sound_option, is_sound_statement};
 use crate::tables::Tables;
 use arrayvec::ArrayVec;
-use ifr_nodes::{Class, HEADER, Walk};
-use ifr_opcodes::{Op, is_statement};
+use ifr_nodes::{Class, HEADER, Walk, admits};
+use ifr_opcodes::{ONE_OF_OPTION, Op, is_statement};
 use std::alloc::{AllocError, Global};
 
 // Goes to a node, by its opcode, the innermost scope around it, whether it is the root, and the number of its first child. It
@@ -47,6 +47,13 @@ fn pass(
             return Ok(false);
         }
         tables.add_statement(op, level.guard)?;
+        return Ok(true);
+    }
+    if op.code == ONE_OF_OPTION && admits(level.class, ONE_OF_OPTION) {
+        if !is_sound_option(op) {
+            return Ok(false);
+        }
+        tables.add_option(op, level.guard)?;
         return Ok(true);
     }
     if !is_sound(op, level, is_root, first) {

@@ -4,10 +4,11 @@ ghost use Rattle.std.specs.Prelude.{◌≡◌, List, Option, true, false};
 ghost use Rattle.hii_bytes.specs.Faults.{HasNone};
 ghost use Rattle.ifr_opcodes.specs.Forest.{Forest, Ancestor, Node as Placed};
 ghost use Rattle.ifr_opcodes.specs.Rows.{is_statement_number};
+ghost use Rattle.ifr_opcodes.specs.declared.codes.TheConstants as codes;
 ghost use Rattle.ifr_nodes.specs.Nodes.{nodes_of};
 ghost use Rattle.ifr_nodes.specs.Structure as structure;
 ghost use Rattle.ifr_nodes.specs.Structure.{IsStructureFault};
-ghost use Rattle.ifr_nodes.specs.Table.{class_around};
+ghost use Rattle.ifr_nodes.specs.Table.{admits, class_around};
 ghost use Rattle.ifr_nodes.specs.declared.table.Class.TheVariants.{OfForm};
 ghost use Rattle.ifr_nodes.specs.code.Checked.{node_in};
 ghost use Rattle.ifr_index.specs.code.Levels.{level_of, node_with, is_clear, is_placed as is_placed_node, IsMet, IsPassed};
@@ -25,6 +26,20 @@ pub(crate) fn is_sound_statement(op: Op) -> bool
         → result ≡ is_clear (node_with op.entry path children) }
 {
     op.place != HEADER as u32 && !is_short(op)
+}
+
+/// Whether an option among options has no fault.
+#[inline(always)]
+pub(crate) fn is_sound_option(op: Op) -> bool
+    requires { op.code ≡ codes.ONE_OF_OPTION }
+    ensures { (path : List Ancestor) (children : Forest)
+        → admits (class_around path) codes.ONE_OF_OPTION ≡ true
+        → result ≡ is_clear (node_with op.entry path children) }
+{
+    if op.place == HEADER as u32 {
+        return false;
+    }
+    !is_outside(op) && !is_short(op)
 }
 
 // Whether an opcode may stand where it stands, with the innermost scope around it, or as the root.

@@ -4,6 +4,7 @@ ghost use Rattle.std.specs.Prelude.{◌≡◌, ◌<◌, ◌^◌, ◌||◌, ◌==
 ghost use Rattle.std.specs.BTreeMap.{get};
 ghost use Rattle.std.specs.Ordering.{nat_cmp};
 ghost use Rattle.ifr_opcodes.specs.Forest.{Forest, Ancestor, Node as Placed};
+ghost use Rattle.ifr_opcodes.specs.Fields.{is_left_out};
 ghost use Rattle.ifr_opcodes.specs.Rows.{is_short, is_statement_number};
 ghost use Rattle.ifr_opcodes.specs.code.Ops.{bytes_of};
 ghost use Rattle.ifr_opcodes.specs.declared.codes.TheConstants as codes;
@@ -223,6 +224,20 @@ impl Tables {
         add_entry(&mut self.entries, op, guard)?;
         add_giving(&mut self.giving, &mut self.last, op)?;
         self.references.meet_statement(op)?;
+        Ok(())
+    }
+
+    /// Adds an option, with the innermost guard around it.
+    #[inline(always)]
+    pub(crate) fn add_option(&mut self, op: Op, guard: Option<u32>) -> Result<(), AllocError>
+        requires option { op.code ≡ codes.ONE_OF_OPTION }
+        requires whole { is_short (bytes_of op) ≡ false }
+        requires known { is_left_out (bytes_of op) ≡ false }
+        ensures { OnOk result ((path : List Ancestor) (children : Forest)
+            → Adds guard (node_with op.entry path children) self.old self.new) }
+    {
+        add_entry(&mut self.entries, op, guard)?;
+        add_giving(&mut self.giving, &mut self.last, op)?;
         Ok(())
     }
 
