@@ -1,23 +1,14 @@
 -- Texts are found unit by unit, and text by text.
-use Rattle.std.proofs.Common.{◌≡◌, ◌⊎◌, inl, inr, ℕ, zero, suc, ◌-◌, ◌<◌, ◌≤◌, ◌%◌, ◌==◌, ◌&&◌, if◌then◌else◌, Bool, true, false, List, [], ◌∷◌, ◌++◌, length, take, drop, get_or, Option, None, Some, refl, ap, sym, ◌∙◌, subst, arith, append_assoc, length-append}
+use Rattle.std.proofs.Common.{◌≡◌, ◌⊎◌, inl, inr, ℕ, zero, suc, ◌+◌, ◌-◌, ◌<◌, ◌≤◌, ◌%◌, ◌==◌, ◌&&◌, if◌then◌else◌, Bool, true, false, List, [], ◌∷◌, ◌++◌, length, take, drop, get_or, Option, None, Some, refl, ap, sym, ◌∙◌, subst, arith, append_assoc, length-append}
 use Rattle.std.specs.Option.{option_map, is_some}
 use Rattle.std.specs.List.{slice_get}
-use Rattle.std.proofs.lemmas.Bool.{false≢true}
-use Rattle.std.proofs.lemmas.List.{append-nil, take_at}
+use Rattle.std.proofs.lemmas.Bool.{cases_Bool, eqb-true, false≢true}
+use Rattle.std.proofs.lemmas.List.{append-nil, drop-drop, length-drop, take_at}
+use Rattle.hii_bytes.specs.Numbers.{number_in}
+use Rattle.hii_bytes.proofs.NumberLemmas.{number_in-drop}
 use Rattle.browser_rules.specs.Strings.{cut_text, cut_texts}
+use Rattle.sibt_strings.specs.code.Texts.{AreUnits, IsRest, behind_front}
 use Rattle.sibt_strings.specs.code.Views.{EndsWith, whole_texts}
-
--- a text with these bytes in front
-abbrev pub behind_front : List ℕ → Option (List ℕ × List ℕ) → Option (List ℕ × List ℕ)
-behind_front front None = None
-behind_front front (Some t) = Some (front ++ t.0, t.1)
-
--- the rest of a text, of which whole units stand before
-pub record IsRest (bytes rest : List ℕ) : Type 0 where
-  pub front : List ℕ
-  pub parts : bytes ≡ front ++ rest
-  pub even : length front % 2 ≡ 0
-  pub text : behind_front front (cut_text rest) ≡ cut_text bytes
 
 -- a unit that is not zero goes to the front
 pub rest_more : (bytes rest : List ℕ) → IsRest bytes rest → 2 ≤ length rest → ((get_or rest 0 0 == 0) && (get_or rest 1 0 == 0)) ≡ false → IsRest bytes (drop 2 rest)
@@ -37,6 +28,32 @@ rest_more bytes (low ∷ high ∷ rest) r two some = record {
     joined : (t : Option (List ℕ × List ℕ)) → behind_front (r.front ++ low ∷ high ∷ []) t ≡ behind_front r.front (option_map (λ t. (low ∷ high ∷ t.0, t.1)) t)
     joined None = refl
     joined (Some t) = ap (λ x. Some (x, t.1)) (append_assoc r.front (low ∷ high ∷ []) t.0)
+
+-- ---- several units that are not zero
+
+both : (a b : Bool) → a && b ≡ true → (a ≡ true) × (b ≡ true)
+both true b e = (refl, e)
+both false b e = absurd (false≢true e)
+
+not_zero : (bytes : List ℕ) → 2 ≤ length bytes → (number_in bytes 0 2 ≡ 0 → ⊥) → ((get_or bytes 0 0 == 0) && (get_or bytes 1 0 == 0)) ≡ false
+unfolding number_in
+not_zero [] two some = absurd (omega arith)
+not_zero (low ∷ []) two some = absurd (omega arith)
+not_zero (low ∷ high ∷ rest) two some = elim (cases_Bool ((low == 0) && (high == 0))) [
+  | inl zeros ↦
+      let parts = both (low == 0) (high == 0) zeros in
+      absurd (some (ap (λ (l : ℕ). number_in (l ∷ high ∷ rest) 0 2) (eqb-true low 0 parts.0) ∙ ap (λ (h : ℕ). number_in (0 ∷ h ∷ rest) 0 2) (eqb-true high 0 parts.1)))
+  | inr other ↦ other
+]
+
+pub one_unit : (bytes : List ℕ) (at : ℕ) → at + 2 ≤ length bytes → (number_in bytes at 2 ≡ 0 → ⊥) → AreUnits bytes at (at + 2)
+one_unit bytes at within some =
+    let long : 2 ≤ length (drop at bytes) = omega (arith, within, length-drop at bytes) in
+    let here : number_in (drop at bytes) 0 2 ≡ number_in bytes at 2 = number_in-drop bytes at 0 2 ∙ ap (λ (k : ℕ). number_in bytes k 2) (omega arith) in
+    record { within = within; passed = λ text r. subst (IsRest text) (drop-drop 2 at bytes) (rest_more text (drop at bytes) r long (not_zero (drop at bytes) long (λ zero. some (sym here ∙ zero)))) }
+
+pub more_units : (bytes : List ℕ) (at mid to : ℕ) → AreUnits bytes at mid → AreUnits bytes mid to → AreUnits bytes at to
+more_units bytes at mid to first second = record { within = second.within; passed = λ text r. second.passed text (first.passed text r) }
 
 -- the zero unit ends the text
 pub rest_found : (bytes rest : List ℕ) (r : IsRest bytes rest) → 2 ≤ length rest → get_or rest 0 0 ≡ 0 → get_or rest 1 0 ≡ 0 → cut_text bytes ≡ Some (r.front, drop 2 rest)

@@ -3,4 +3,5 @@ pub mod Blocks
 pub mod Ends
 pub mod Parts
 pub mod Table
+pub mod Texts
 pub mod Views

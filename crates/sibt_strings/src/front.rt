@@ -1,9 +1,10 @@
 //! The block at the front of the bytes of blocks.
 
-ghost use Rattle.std.specs.Prelude.{◌≡◌, ◌+◌, ◌<◌, length, IfSome, MatchOption, option_map};
+ghost use Rattle.std.specs.Prelude.{◌≡◌, ◌+◌, ◌<◌, ◌≤◌, true, length, IfSome, MatchOption, option_map};
 ghost use Rattle.browser_rules.specs.Strings.{cut_text, cut_texts};
 ghost use Rattle.sibt_strings.specs.code.Blocks.{front_of, texts_block, extension_block};
 ghost use Rattle.sibt_strings.specs.code.Ends.{Stops};
+ghost use Rattle.sibt_strings.specs.code.Texts.{AreUnits, IsRest};
 ghost use Rattle.sibt_strings.specs.code.Views.{units_in, head_seen, head_or_bad, front_seen, EndsWith, HasBehind, LiesIn, LeavesLess, SplitsInto};
 
 use crate::block::{Block, Texts};
@@ -38,12 +39,55 @@ pub(crate) enum Front<'a> {
     BadBlock,
 }
 
+// Whether a unit that is not zero stands at an index.
+#[inline(always)]
+fn has_unit(bytes: &[u8], at: usize) -> bool
+    ensures { result ≡ true → AreUnits bytes.now at (at + 2) }
+{
+    match u16_at(bytes, at) {
+        Some(unit) => unit != 0,
+        None => false,
+    }
+}
+
+// Whether two such units stand there.
+#[inline(always)]
+fn has_two_units(bytes: &[u8], at: usize) -> bool
+    requires { at + 4 ≤ length bytes.now }
+    ensures { result ≡ true → AreUnits bytes.now at (at + 4) }
+{
+    has_unit(bytes, at) && has_unit(bytes, at + 2)
+}
+
+// Whether four such units stand at the front.
+#[inline(always)]
+fn has_four_units(bytes: &[u8]) -> bool
+    ensures { result ≡ true → AreUnits bytes.now 0 8 }
+{
+    if bytes.len() < 8 {
+        return false;
+    }
+    has_two_units(bytes, 0) && has_two_units(bytes, 4)
+}
+
+// The bytes behind the units at the front, four at a time, of which none is zero.
+#[inline(always)]
+fn behind_units(bytes: &[u8]) -> &[u8]
+    ensures { IsRest bytes.entry.now result.now }
+{
+    let mut rest = bytes;
+    while has_four_units(rest) {
+        rest = &rest[8..];
+    }
+    rest
+}
+
 /// The units of a text without its zero unit, and the bytes behind that unit.
 pub(crate) fn split_text(bytes: &[u8]) -> Option<(Units<'_>, &[u8])>
     ensures text { option_map (λ t. (units_in t.0, t.1.now)) result ≡ cut_text bytes.now }
     ensures rest { IfSome result (λ t. EndsWith bytes.now t.1.now) }
 {
-    let mut rest = bytes;
+    let mut rest = behind_units(bytes);
     while let [low, high, behind @ ..] = rest {
         if *low == 0 && *high == 0 {
             return Some((Units::new(&bytes[..bytes.len() - rest.len()]), behind));

@@ -1,5 +1,5 @@
 use Rattle.std.proofs.Common.{length}
-use Rattle.sibt_strings.proofs.TextLemmas.{IsRest}
+use Rattle.sibt_strings.specs.code.Texts.{IsRest}
 use Rattle.sibt_strings.proofs.front.split_text.Given as goal
 
 abbrev pub invariant-loop-rest : goal.invariant-loop-rest
