@@ -55,7 +55,7 @@ pub(crate) fn read_questions(
             let size = layout.size(op.store());
             let entry = QuestionEntry::of(statement, op, size);
             let question = Question::of(statement, entry);
-            check_question(alloc, forms, &mut store_ids, question, size)?;
+            check_question(alloc, forms, &mut store_ids, question, entry, size)?;
             numbers.push(IdEntry {
                 id: question.id(),
                 number: by_place.len() as u32,

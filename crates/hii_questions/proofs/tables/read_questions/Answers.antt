@@ -67,6 +67,24 @@ first c =
     let view : question_view c.of-question.result ≡ asked ns n = c.of-question.ensures ∙ (λ i. record { node = n; field = of.field i }) in
     question_steps (layout_of ns) n (all_statements_left c.loop-statement.statement-iterator) (all_statements_left c.next.new.self) of.asks c.in-Some.ensures.steps ∙ ap (λ (a : Asked). a ∷ rest) (sym view)
 
+-- the statement is a node of the package
+within : (c : After-of-question) → Contains (nodes_of c.args.forms.now) (statement_node c.in-Some.statement)
+within c =
+    let left = all_statements_left c.loop-statement.statement-iterator in
+    c.loop-statement.invariant.within (statement_node c.in-Some.statement) (subst (λ (l : List Node). Contains l (statement_node c.in-Some.statement)) (sym c.in-Some.ensures.steps) (0, omega arith, refl))
+
+pub check_question-requires-clause-kept : goal.check_question-requires-clause-kept
+check_question-requires-clause-kept c =
+    let at = (goal.at.check_question-requires-clause-kept c).After-of-question in
+    let ifr = c.args.forms.now in
+    entry_kept ifr (layout_of (nodes_of ifr)) (statement_node c.in-Some.statement) c.of-entry.result c.requires.accepted.checked.spelled (within at) (kept at)
+
+pub check_question-requires-clause-same : goal.check_question-requires-clause-same
+check_question-requires-clause-same c =
+    let at = (goal.at.check_question-requires-clause-same c).After-of-question in
+    let ifr = c.args.forms.now in
+    ap (node_in ifr) (kept at).place ∙ node_in_place ifr (statement_node c.in-Some.statement) c.requires.accepted.checked.spelled (within at) ∙ sym (ap (λ (a : Asked). a.node) c.of-question.ensures)
+
 pub returns-in_err-check_question-clause-refused : goal.returns-in_err-check_question-clause-refused
 returns-in_err-check_question-clause-refused c =
     let ns = nodes_of c.args.forms.now in
