@@ -283,7 +283,7 @@ impl Tables {
         let Tables {
             mut entries,
             mut guards,
-            conditions,
+            mut conditions,
             forms,
             stores,
             rules,
@@ -293,7 +293,9 @@ impl Tables {
             references: _,
         } = self;
         lock_entries(ifr, &locks, &mut entries);
+        entries.shrink_to_fit();
         guards.shrink_to_fit();
+        conditions.shrink_to_fit();
         Ok(Index {
             entries,
             guards,

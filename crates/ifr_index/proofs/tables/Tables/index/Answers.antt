@@ -9,9 +9,9 @@ pub returns : goal.returns
 returns c =
     let all = c.requires.all in
     record {
-      entries = c.lock_entries.ensures;
-      guards = c.shrink_to_fit.ensures.items ∙ all.guards;
-      conditions = all.conditions;
+      entries = c.shrink_to_fit.ensures.items ∙ c.lock_entries.ensures;
+      guards = c.shrink_to_fit-2.ensures.items ∙ all.guards;
+      conditions = c.shrink_to_fit-3.ensures.items ∙ all.conditions;
       forms = λ id. c.in_ok-of.ensures id ∙ ap (λ (l : List IdEntry). number_with l id) all.forms ∙ place_with (nodes_of c.args.ifr.now) id;
       stores = all.stores;
       rules = all.rules;
