@@ -19,7 +19,7 @@ use Rattle.guard_policy.specs.Conditions.{is_kept}
 use Rattle.kept_conditions.specs.Kept.{kept_nodes, told}
 use Rattle.kept_conditions.specs.code.Collection.{AreCollected, entry, IsRuleUse, finds, is_used, is_dependent, dependent_nodes, dependent_node, is_touched}
 use Rattle.kept_conditions.specs.code.Cache.{IsIndex, value_of, values_of}
-use Rattle.kept_conditions.specs.code.Index.{HasSame, RulesRise, AreSorted, AreSummaries, is_dependency, depends_on}
+use Rattle.kept_conditions.specs.code.Index.{HasSame, RulesRise, AreSorted, AreSummaries, AreGaps, is_dependency, depends_on}
 use Rattle.kept_conditions.specs.code.Dependents.{no_dependent, at_number, is_condition, rules_in}
 use Rattle.kept_conditions.specs.declared.collection.Collected.{Collected}
 use Rattle.kept_conditions.specs.declared.index.Index.{Index}
@@ -39,6 +39,7 @@ pub record IsOver (collected : Collected) (dependents : Dependents) (index : Ind
   pub sorted : AreSorted index.dependencies.items
   pub all : length index.summaries.items ≡ length index.dependencies.items
   pub summed : AreSummaries index.dependencies.items index.summaries.items
+  pub gaps : AreGaps index.dependencies.items index.gaps
   pub rise : RulesRise index.rule_uses.items
   pub dependencies : HasSame collected.dependencies.items index.dependencies.items
   pub rule_uses : HasSame collected.rule_uses.items index.rule_uses.items
@@ -85,6 +86,7 @@ module _ (bytes : List ℕ) (accepted : IsAccepted bytes) (holding : ℕ → Boo
     sorted = over.sorted;
     all = over.all;
     summed = over.summed;
+    gaps = over.gaps;
     numbers = all_same (λ (r : Dependency). r.dependent < length (dependent_nodes ns)) collected.dependencies.items index.dependencies.items over.dependencies it.sound.numbers;
     small = all_same (λ (r : Dependency). r.field.offset < 65536) collected.dependencies.items index.dependencies.items over.dependencies it.sound.small;
     by_rule = over.rise;
@@ -115,6 +117,7 @@ with_positions ifr a b index list round pending it = record {
   sorted = it.sorted;
   all = it.all;
   summed = it.summed;
+  gaps = it.gaps;
   numbers = it.numbers;
   small = it.small;
   by_rule = it.by_rule;

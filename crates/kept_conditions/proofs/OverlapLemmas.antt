@@ -1,7 +1,7 @@
 -- Dependencies that overlap a write, by ranges of stores and by the numbers of all bytes, from the last one on.
 use Rattle.std.proofs.Common.{◌≡◌, ℕ, zero, suc, ◌+◌, ◌<◌, ◌≤◌, ◌==◌, ◌&&◌, ◌||◌, nat_le, nat_lt, Bool, true, false, List, [], ◌∷◌, refl, sym, ap, ◌∙◌, inl, inr, arith, ◌-◌, length, drop, get_or}
-use Rattle.std.proofs.lemmas.Bool.{cases_Bool, cases_lt, false≢true, and_from, and_parts, eqb-true, eq-eqb, ltb-true, lt-ltb, le-ltb, leb-true, le-leb, and_right}
-use Rattle.std.specs.List.{list_any, AllWithin}
+use Rattle.std.proofs.lemmas.Bool.{cases_Bool, cases_lt, false≢true, and_from, and_parts, eqb-true, eq-eqb, ltb-true, lt-ltb, leb-true, le-leb, and_right}
+use Rattle.std.specs.List.{list_any}
 use Rattle.std.proofs.lemmas.List.{drop_more, drop_all}
 use Rattle.hii_questions.specs.declared.field_range.FieldRange.{FieldRange}
 use Rattle.hii_questions.specs.code.Entries.{entry_range}
@@ -124,12 +124,9 @@ second_false true true c d e = ap (λ x. x && d) e
 pub unmet_behind : (from «end» : ℕ) (r : Dependency) → nat_lt (first_of r) «end» ≡ false → overlaps from «end» r ≡ false
 unmet_behind from «end» r behind = second_false (nat_lt from «end») (nat_lt (first_of r) (behind_of r)) (nat_lt (first_of r) «end») (nat_lt from (behind_of r)) behind
 
-pub none_behind : (from «end» : ℕ) (rs : List Dependency) (place k : ℕ) → place ≤ length rs → AllWithin (λ (r : Dependency). nat_lt (first_of r) «end» ≡ false) rs place (length rs)
-    → hits from «end» (drop place rs) k ≡ false
-none_behind from «end» rs place k within behind =
-    hits_skip from «end» rs place (length rs) k within (omega arith) (λ j above below.
-    second_false (nat_lt from «end») (nat_lt (first_of (at_place rs j)) (behind_of (at_place rs j))) (nat_lt (first_of (at_place rs j)) «end») (nat_lt from (behind_of (at_place rs j))) (behind j no_dependency above below))
-    ∙ ap (list_any (is_hit from «end» k)) (drop_all (length rs) rs (omega arith))
+pub none_behind : (from «end» : ℕ) (rs : List Dependency) (place k : ℕ) → place ≤ length rs → NoneOverlaps from «end» rs place (length rs) → hits from «end» (drop place rs) k ≡ false
+none_behind from «end» rs place k within none =
+    hits_skip from «end» rs place (length rs) k within (omega arith) none ∙ ap (list_any (is_hit from «end» k)) (drop_all (length rs) rs (omega arith))
 
 -- Sorted dependencies are parted by where they begin.
 pub parted : («end» : ℕ) (rs : List Dependency) → AreSorted rs → (i j : ℕ) (d : Dependency) → i ≤ j → j < length rs → nat_lt (first_of (get_or rs j d)) «end» ≡ true → nat_lt (first_of (get_or rs i d)) «end» ≡ true
@@ -137,8 +134,3 @@ parted «end» rs sorted i j d ordered within before =
     let above : first_of (get_or rs j d) < «end» = ltb-true (first_of (get_or rs j d)) «end» before in
     let rise : first_of (get_or rs i d) ≤ first_of (get_or rs j d) = sorted i j d ordered within in
     lt-ltb (first_of (get_or rs i d)) «end» (omega (arith, above, rise))
-
--- Where one of them does not begin before a number, none behind it does.
-pub begin_behind : («end» : ℕ) (rs : List Dependency) (at : ℕ) → AreSorted rs → ((d : Dependency) → «end» ≤ first_of (get_or rs at d)) → AllWithin (λ (r : Dependency). nat_lt (first_of r) «end» ≡ false) rs at (length rs)
-begin_behind «end» rs at sorted here j d above below =
-    le-ltb (first_of (get_or rs j d)) «end» (omega (arith, here d, sorted at j d above below))

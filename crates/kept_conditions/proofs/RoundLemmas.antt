@@ -1,5 +1,5 @@
 -- A round over the dependents of a package.
-use Rattle.std.proofs.Common.{◌≡◌, ℕ, ◌+◌, ◌<◌, ◌==◌, ◌||◌, Bool, true, false, Option, List, [], ◌∷◌, length, map, filter, get_or, refl, sym, ap, ◌∙◌, subst, inl, inr, arith}
+use Rattle.std.proofs.Common.{◌≡◌, ℕ, ◌+◌, ◌<◌, ◌==◌, ◌||◌, Bool, true, false, List, [], ◌∷◌, length, map, filter, get_or, refl, sym, ap, ◌∙◌, subst, inl, inr, arith}
 use Rattle.std.specs.Prelude.{All}
 use Rattle.std.specs.List.{list_any}
 use Rattle.std.specs.Vec.{vec_capacity}
@@ -204,6 +204,7 @@ module _ {ifr : List ℕ} {start fresh : Dependents} {index : Index} (begun : Be
         sorted = is.sorted;
         all = is.all;
         summed = is.summed;
+        gaps = is.gaps;
         numbers = is.numbers;
         small = is.small;
         by_rule = is.by_rule;

@@ -1,5 +1,5 @@
 -- Where sorted dependencies end, counted from the first byte of one of them.
-use Rattle.std.proofs.Common.{◌≡◌, ◌≤◌, ◌<◌, ◌+◌, ◌-◌, ◌*◌, ◌^◌, ℕ, List, length, max, min, inl, inr, arith}
+use Rattle.std.proofs.Common.{◌≡◌, ◌≤◌, ◌<◌, ◌+◌, ◌-◌, ◌^◌, ℕ, List, length, max, inl, inr, arith}
 use Rattle.std.proofs.Math.Nat.{le-max_left, le-max_right, max-le}
 use Rattle.std.proofs.lemmas.Bool.{cases_lt}
 use Rattle.kept_conditions.specs.code.Index.{AreSorted, IsNear, IsSummary, at_place, behind_of, first_of, no_dependency}

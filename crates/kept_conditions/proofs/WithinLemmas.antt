@@ -1,6 +1,5 @@
 -- Bytes of fields that lie within ranges, and in which stores differ.
 use Rattle.std.proofs.Common.{◌≡◌, ℕ, zero, suc, min, max, ◌+◌, ◌-◌, ◌<◌, ◌≤◌, ◌==◌, ◌&&◌, ◌||◌, nat_le, nat_lt, not, Bool, true, false, Option, None, Some, List, [], ◌∷◌, length, drop, get_or, count_by, filter, refl, sym, ap, ◌∙◌, inl, inr, arith}
-use Rattle.std.specs.List.{AllWithin}
 use Rattle.std.proofs.lemmas.List.{drop_more, drop_all}
 use Rattle.std.proofs.lemmas.Bool.{cases_lt, and_from, and_parts, eqb-true, eq-eqb, leb-true, le-leb, ltb-true, lt-ltb, false≢true, and_right, false_from_ne_true}
 use Rattle.std.proofs.Math.Bool.{and-true}
@@ -17,11 +16,10 @@ use Rattle.kept_conditions.specs.code.Index.{AreSmall, NoneOverlaps, at_place, i
 use Rattle.guard_policy.specs.Conditions.{condition_ids, is_kept}
 use Rattle.kept_conditions.specs.Touching.{difference, field_with, has_byte, has_one, is_same, renewals, touches}
 use Rattle.kept_conditions.specs.declared.index.Dependency.{Dependency}
-use Rattle.kept_conditions.specs.code.Index as dependencies
 use Rattle.kept_conditions.proofs.DifferenceLemmas.{difference_at, equal_behind, none_one, one_size}
 use Rattle.kept_conditions.proofs.FilterLemmas.{none_count}
 use Rattle.kept_conditions.proofs.UntouchedLemmas.{none_has}
-use Rattle.kept_conditions.proofs.OverlapLemmas.{alike, has_some, overlaps_range, some_has, skip, unmet_behind}
+use Rattle.kept_conditions.proofs.OverlapLemmas.{alike, has_some, overlaps_range, some_has, skip}
 
 -- ---- a byte of a range
 
@@ -171,9 +169,9 @@ module _ (bytes : ℕ → ℕ → Bool) (range : FieldRange) (rs : List Dependen
       let r = at_place rs j in
       apart_dependency bytes range r k small (all j no_dependency (omega (arith, below, within))) (sym (ap (λ n. overlaps n behind r) first ∙ ap (λ n. overlaps (first_of range) n r) last) ∙ none j above below))
 
-  pub depends_behind : (place k : ℕ) → place ≤ length rs → AllWithin (λ (r : Dependency). nat_lt (dependencies.first_of r) behind ≡ false) rs place (length rs) → depends_on (common bytes (in_range range)) (drop place rs) k ≡ false
+  pub depends_behind : (place k : ℕ) → place ≤ length rs → NoneOverlaps from behind rs place (length rs) → depends_on (common bytes (in_range range)) (drop place rs) k ≡ false
   depends_behind place k within none =
-      depends_skip place (length rs) k within (omega arith) (λ j above below. unmet_behind from behind (at_place rs j) (none j no_dependency above below))
+      depends_skip place (length rs) k within (omega arith) none
       ∙ ap (λ l. depends_on (common bytes (in_range range)) l k) (drop_all (length rs) rs (omega arith))
 
   -- the one at a place and those behind it, where none overlaps them up to another place

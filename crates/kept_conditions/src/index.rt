@@ -2,13 +2,14 @@
 //!
 //! Dependencies stand by their first byte, each with a summary of a block that it ends: how far that block reaches. So a search
 //! for those that overlap some bytes passes over whole blocks, and a write costs a few steps for each dependency that it hits,
-//! however many there are. From where to search, behind those that begin before the end of the bytes, is mostly looked up. On what
-//! a rule depends is kept once, and not again for each that uses the rule.
+//! however many there are. Of most bytes that none has this is known by a look-up. On what a rule depends is kept once, and not
+//! again for each that uses the rule.
 
-ghost use Rattle.std.specs.Prelude.{nat_lt, true, false, ◌≡◌, ◌==◌, filter, ◌<◌, ◌≤◌, ◌+◌, ◌^◌, length, IfOk, Some, None};
+ghost use Rattle.std.specs.Prelude.{nat_lt, true, false, ◌≡◌, ◌==◌, filter, ◌<◌, ◌≤◌, ◌+◌, ◌^◌, ℕ, List, length, slice_get, IfOk, Some, None};
 ghost use Rattle.std.specs.List.{AllWithin};
 ghost use Rattle.hii_questions.specs.code.Entries.{entry_range};
-ghost use Rattle.kept_conditions.specs.code.Index.{first_of, behind_of, overlaps, RulesRise, AllEndBy, IsNear, IsSummary, AreSummaries, IsLastOverlapping, HasSame, AreSmall, AreSorted};
+ghost use Rattle.kept_conditions.specs.code.Index.{first_of, behind_of, overlaps, RulesRise, AllEndBy, IsNear, IsSummary, AreSummaries, IsLastOverlapping, HasSame, AreSmall, AreSorted, NoneOverlaps, NoneHas, EndBy, BeginFrom, AreGapSteps, AreGaps, at_place, step_start};
+ghost use Rattle.kept_conditions.specs.declared.index.Dependency.{Dependency};
 
 use hii_questions::{FieldEntry, FieldRange};
 use std::alloc::{AllocError, Global};
@@ -151,96 +152,195 @@ pub(crate) fn summaries_of(
     Ok(summaries)
 }
 
-/// How many dependencies begin before each of some steps, which follow one another from the first byte of all on. How many begin
-/// before a number is looked up there, and compared with the dependencies: nothing rests on it.
-#[derive(Drop)]
-pub(crate) struct Starts {
-    // The number of the first byte.
-    first: u64,
-    // A step has 2 to the power of this bytes, and there are no more steps than dependencies.
-    power: u32,
-    // By the number of the step, up to the last in which a dependency begins.
-    counts: Vec<u32>,
+// The number of the first byte of a step, where steps of 2 to a power of bytes follow one another from a number on.
+#[inline(always)]
+fn start_of(first: u64, power: u32, step: usize) -> u64
+    ensures { result ≡ step_start first power step }
+{
+    first.wrapping_add((step as u64).wrapping_shl(power))
 }
 
-impl Starts {
+/// Where no dependency has a byte: before and behind all of them, and in some of the steps of as many bytes each which follow one
+/// another from the first byte on.
+#[derive(Drop)]
+pub(crate) struct Gaps {
+    // The number of the first byte of all dependencies, and the one behind the last.
+    first: u64,
+    behind: u64,
+    // A step has 2 to the power of this bytes, and there are no more steps than dependencies.
+    power: u32,
+    // By the number of the step, whether no dependency has a byte of it.
+    steps: Vec<bool>,
+}
+
+impl Gaps {
     // The number of the step in which a byte lies.
     #[inline(always)]
     fn step_of(&self, number: u64) -> usize {
-        number.saturating_sub(self.first).wrapping_shr(self.power) as usize
+        number.wrapping_sub(self.first).wrapping_shr(self.power) as usize
     }
 
-    // How many of so many dependencies begin before the step in which a byte lies, and how many before the next step.
+    // Whether the bytes from a number on up to before another lie in a step that no dependency has a byte of.
     #[inline(always)]
-    fn around(&self, number: u64, all: usize) -> (usize, usize) {
-        match self.counts.get(self.step_of(number)..) {
-            Some([low, high, ..]) => (*low as usize, *high as usize),
-            Some([low]) => (*low as usize, all),
-            _ => (all, all),
-        }
-    }
-
-    // How many dependencies begin before a number, if these are their starts.
-    #[inline(always)]
-    fn likely_before(&self, dependencies: &[Dependency], end: u64) -> usize
-        ensures { result ≤ length dependencies.now }
+    fn has_in_step(&self, from: u64, end: u64) -> bool
+        ensures { result ≡ true → (step : ℕ) × (slice_get self.now.steps.items step ≡ Some true)
+            × (step_start self.now.first self.now.power step ≤ from)
+            × (end ≤ step_start self.now.first self.now.power (step + 1)) }
     {
-        let (low, high) = self.around(end, dependencies.len());
-        match dependencies.get(low..high) {
-            Some(near) => low + near.partition_point(|dependency| dependency.first() < end),
-            None => dependencies.len(),
+        let step = self.step_of(from);
+        match self.steps.get(step) {
+            Some(true) => {
+                start_of(self.first, self.power, step) <= from
+                    && end <= start_of(self.first, self.power, step + 1)
+            }
+            _ => false,
         }
+    }
+
+    // Whether it is known that no dependency has one of the bytes from a number on up to before another.
+    #[inline(always)]
+    fn has(&self, from: u64, end: u64) -> bool
+        ensures { (rs : List Dependency) → AreGaps rs self.now → result ≡ true → NoneHas rs from end }
+    {
+        end <= self.first || self.behind <= from || self.has_in_step(from, end)
     }
 }
 
-// The power of two that steps have as bytes, where the first of some dependencies begins at a number.
-fn power_from(dependencies: &[Dependency], first: u64) -> u32 {
-    let Some(last) = dependencies.last() else {
+// The first dependencies, up to one that does not begin before some byte.
+#[derive(Clone, Copy)]
+struct Passed {
+    count: usize,
+    // No number behind the last byte of one of them is above this.
+    reach: u64,
+}
+
+// How many dependencies there are up to the first, from a place on, that does not begin before a number.
+#[inline(always)]
+fn count_before(dependencies: &[Dependency], from: usize, end: u64) -> usize
+    requires { from ≤ length dependencies.now }
+    ensures within { result ≤ length dependencies.now }
+    ensures next { result < length dependencies.now → end ≤ first_of (at_place dependencies.now result) }
+{
+    let mut count = from;
+    while count < dependencies.len() && dependencies[count].first() < end {
+        count += 1;
+    }
+    count
+}
+
+// A number that no end of so many dependencies is above.
+#[inline(always)]
+fn reach_of(dependencies: &[Dependency], summaries: &[Summary], count: usize) -> u64
+    requires within { count ≤ length dependencies.now }
+    requires all { length summaries.now ≡ length dependencies.now }
+    requires summaries { AreSummaries dependencies.now summaries.now }
+    ensures { EndBy dependencies.now count result }
+{
+    if count == 0 {
+        return 0;
+    }
+    dependencies[count - 1].past_first(summaries[count - 1].to_reach)
+}
+
+// Passes over the dependencies, from the next on, that begin before a number.
+#[inline(always)]
+fn pass_before(
+    dependencies: &[Dependency],
+    summaries: &[Summary],
+    passed: Passed,
+    end: u64,
+) -> Passed
+    requires sorted { AreSorted dependencies.now }
+    requires all { length summaries.now ≡ length dependencies.now }
+    requires summaries { AreSummaries dependencies.now summaries.now }
+    requires within { passed.count ≤ length dependencies.now }
+    requires reach { EndBy dependencies.now passed.count passed.reach }
+    ensures within { result.count ≤ length dependencies.now }
+    ensures reach { EndBy dependencies.now result.count result.reach }
+    ensures others { BeginFrom dependencies.now result.count end }
+{
+    let count = count_before(dependencies, passed.count, end);
+    if count == passed.count {
+        return passed;
+    }
+    Passed {
+        count,
+        reach: reach_of(dependencies, summaries, count),
+    }
+}
+
+// Whether no dependency has a byte of each of so many steps.
+fn gap_steps(
+    alloc: Global,
+    dependencies: &[Dependency],
+    summaries: &[Summary],
+    first: u64,
+    power: u32,
+    count: usize,
+) -> Result<Vec<bool>, AllocError>
+    requires sorted { AreSorted dependencies.now }
+    requires all { length summaries.now ≡ length dependencies.now }
+    requires summaries { AreSummaries dependencies.now summaries.now }
+    requires few { count ≤ length dependencies.now }
+    ensures { IfOk result (λ steps. AreGapSteps dependencies.now first power steps.items) }
+{
+    let mut steps = Vec::with_capacity(alloc, count)?;
+    let mut passed = Passed { count: 0, reach: 0 };
+    for step in 0..count {
+        passed = pass_before(
+            dependencies,
+            summaries,
+            passed,
+            start_of(first, power, step + 1),
+        );
+        steps.push(passed.reach <= start_of(first, power, step))?;
+    }
+    Ok(steps)
+}
+
+// The power of two that steps have as bytes, of which there are so many at most over so many bytes.
+fn power_for(bytes: u64, most: usize) -> u32 {
+    let Some(mean) = bytes.checked_div(most as u64) else {
         return 0;
     };
-    let gap = last.first().saturating_sub(first) / dependencies.len() as u64;
-    match gap.checked_ilog2() {
+    match mean.checked_ilog2() {
         Some(power) => power + 1,
         None => 0,
     }
 }
 
-/// Where some dependencies begin.
-pub(crate) fn starts_of(alloc: Global, dependencies: &[Dependency]) -> Result<Starts, AllocError> {
+// Where some dependencies have no byte.
+fn gaps_of(
+    alloc: Global,
+    dependencies: &[Dependency],
+    summaries: &[Summary],
+) -> Result<Gaps, AllocError>
+    requires sorted { AreSorted dependencies.now }
+    requires all { length summaries.now ≡ length dependencies.now }
+    requires summaries { AreSummaries dependencies.now summaries.now }
+    ensures { IfOk result (AreGaps dependencies.now) }
+{
     let first = match dependencies.first() {
         Some(dependency) => dependency.first(),
         None => 0,
     };
-    let mut starts = Starts {
+    let behind = reach_of(dependencies, summaries, dependencies.len());
+    let bytes = behind.wrapping_sub(first);
+    let power = power_for(bytes, dependencies.len());
+    let count = (bytes.wrapping_shr(power) as usize)
+        .saturating_add(1)
+        .min(dependencies.len());
+    Ok(Gaps {
         first,
-        power: power_from(dependencies, first),
-        counts: Vec::with_capacity(alloc, dependencies.len())?,
-    };
-    let mut count = 0u32;
-    for dependency in dependencies {
-        let step = starts.step_of(dependency.first());
-        starts.counts.resize(step.saturating_add(1), count)?;
-        count = count.wrapping_add(1);
-    }
-    Ok(starts)
+        behind,
+        power,
+        steps: gap_steps(alloc, dependencies, summaries, first, power, count)?,
+    })
 }
 
-// Whether none of the dependencies from a place on begins before a number.
-#[inline(always)]
-fn none_begins_before(dependencies: &[Dependency], at: usize, end: u64) -> bool
-    requires { AreSorted dependencies.now }
-    ensures { result ≡ true → AllWithin (λ (r : Dependency). nat_lt (first_of r) end ≡ false)
-        dependencies.now at (length dependencies.now) }
-{
-    match dependencies.get(at) {
-        Some(next) => end <= next.first(),
-        None => true,
-    }
-}
-
-// How many dependencies begin before a number, found in a search among all.
+// How many dependencies begin before a number.
 #[inline(never)]
-fn searched_before(dependencies: &[Dependency], end: u64) -> usize
+fn beginning_before(dependencies: &[Dependency], end: u64) -> usize
     requires { AreSorted dependencies.now }
     ensures bound { result ≤ length dependencies.now }
     ensures behind { AllWithin (λ (r : Dependency). nat_lt (first_of r) end ≡ false)
@@ -249,19 +349,18 @@ fn searched_before(dependencies: &[Dependency], end: u64) -> usize
     dependencies.partition_point(|dependency| dependency.first() < end)
 }
 
-/// How many dependencies begin before a number.
+/// A place from which on no dependency overlaps the bytes from a number on up to before another.
 #[inline(always)]
-pub(crate) fn beginning_before(dependencies: &[Dependency], starts: &Starts, end: u64) -> usize
-    requires { AreSorted dependencies.now }
+pub(crate) fn place_behind(dependencies: &[Dependency], gaps: &Gaps, from: u64, end: u64) -> usize
+    requires sorted { AreSorted dependencies.now }
+    requires gaps { AreGaps dependencies.now gaps.now }
     ensures bound { result ≤ length dependencies.now }
-    ensures behind { AllWithin (λ (r : Dependency). nat_lt (first_of r) end ≡ false)
-        dependencies.now result (length dependencies.now) }
+    ensures behind { NoneOverlaps from end dependencies.now result (length dependencies.now) }
 {
-    let likely = starts.likely_before(dependencies, end);
-    if none_begins_before(dependencies, likely, end) {
-        likely
+    if gaps.has(from, end) {
+        0
     } else {
-        searched_before(dependencies, end)
+        beginning_before(dependencies, end)
     }
 }
 
@@ -305,8 +404,8 @@ pub(crate) struct Index {
     pub(crate) dependencies: Vec<Dependency>,
     /// One for each dependency.
     pub(crate) summaries: Vec<Summary>,
-    /// Where the dependencies begin.
-    pub(crate) starts: Starts,
+    /// Where none of them has a byte.
+    pub(crate) gaps: Gaps,
     /// By the number of the rule.
     pub(crate) rule_uses: Vec<RuleUse>,
 }
@@ -316,7 +415,7 @@ impl Drop for Index {
         let Index {
             dependencies: _,
             summaries: _,
-            starts: _,
+            gaps: _,
             rule_uses: _,
         } = self;
     }
@@ -351,6 +450,7 @@ pub(crate) fn index_over(
     ensures sorted { IfOk result (λ index. AreSorted index.dependencies.items) }
     ensures all { IfOk result (λ index. length index.summaries.items ≡ length index.dependencies.items) }
     ensures summed { IfOk result (λ index. AreSummaries index.dependencies.items index.summaries.items) }
+    ensures gaps { IfOk result (λ index. AreGaps index.dependencies.items index.gaps) }
     ensures rise { IfOk result (λ index. RulesRise index.rule_uses.items) }
     ensures dependencies { IfOk result (λ index. HasSame dependencies.items index.dependencies.items) }
     ensures rule_uses { IfOk result (λ index. HasSame rule_uses.items index.rule_uses.items) }
@@ -360,11 +460,11 @@ pub(crate) fn index_over(
     order_dependencies(&mut dependencies);
     order_rule_uses(&mut rule_uses);
     let summaries = summaries_of(alloc, &dependencies)?;
-    let starts = starts_of(alloc, &dependencies)?;
+    let gaps = gaps_of(alloc, &dependencies, &summaries)?;
     Ok(Index {
         dependencies,
         summaries,
-        starts,
+        gaps,
         rule_uses,
     })
 }

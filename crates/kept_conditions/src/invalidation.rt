@@ -15,12 +15,12 @@ ghost use Rattle.kept_conditions.specs.Kept.{told_over};
 ghost use Rattle.kept_conditions.specs.laws.Writes.{IsWrite};
 ghost use Rattle.kept_conditions.specs.code.Invalidation.{common, HaveRanges, AreAlike, AreAlikeOutside, in_range};
 ghost use Rattle.kept_conditions.specs.code.Dependents.{VisitsSome, HasRoom, KeepsFollowing, Reaches};
-ghost use Rattle.kept_conditions.specs.code.Index.{hits, AreSummaries, AreSorted, HaveNumbers, depends_on, AreSmall};
+ghost use Rattle.kept_conditions.specs.code.Index.{hits, AreGaps, AreSummaries, AreSorted, HaveNumbers, depends_on, AreSmall};
 ghost use Rattle.kept_conditions.specs.code.Cache.{IsIndex, values_of};
 
 use crate::dependents::{Dependents, visit_pending};
 use crate::differences::{Differences, differ};
-use crate::index::{Dependency, Index, Starts, Summary, beginning_before, last_overlapping};
+use crate::index::{Dependency, Gaps, Index, Summary, last_overlapping, place_behind};
 use guard_policy::{Evaluated, Policy};
 use hii_questions::FieldRange;
 use hii_varstore::Stores;
@@ -49,7 +49,7 @@ fn visit_overlapping(
     dependents: &mut Dependents,
     dependencies: &[Dependency],
     summaries: &[Summary],
-    starts: &Starts,
+    gaps: &Gaps,
     from: u64,
     end: u64,
     now: &Evaluated<'_, '_, '_>,
@@ -58,6 +58,7 @@ fn visit_overlapping(
     requires sorted { AreSorted dependencies.now }
     requires all { length summaries.now ≡ length dependencies.now }
     requires summaries { AreSummaries dependencies.now summaries.now }
+    requires gaps { AreGaps dependencies.now gaps.now }
     requires numbers { HaveNumbers (length dependents.old.list.items) dependencies.now }
     requires room { HasRoom dependents.old }
     requires kept { AreRuleValues (bytes_of now.now.policy) now.now.stores.now rules.old }
@@ -67,7 +68,7 @@ fn visit_overlapping(
     ensures reaches { Reaches (hits from end dependencies.now) dependents.old dependents.new }
     ensures follows { KeepsFollowing dependents.old dependents.new }
 {
-    let mut before = beginning_before(dependencies, starts, end);
+    let mut before = place_behind(dependencies, gaps, from, end);
     let mut count = 0;
     while let Some(at) = last_overlapping(dependencies, summaries, from, end, before) {
         if dependents.visit(dependencies[at].dependent, now, rules) {
@@ -118,7 +119,7 @@ fn visit_range(
     dependents: &mut Dependents,
     dependencies: &[Dependency],
     summaries: &[Summary],
-    starts: &Starts,
+    gaps: &Gaps,
     range: FieldRange,
     old: &Stores,
     new: &Stores,
@@ -128,6 +129,7 @@ fn visit_range(
     requires sorted { AreSorted dependencies.now }
     requires all { length summaries.now ≡ length dependencies.now }
     requires summaries { AreSummaries dependencies.now summaries.now }
+    requires gaps { AreGaps dependencies.now gaps.now }
     requires numbers { HaveNumbers (length dependents.old.list.items) dependencies.now }
     requires small { AreSmall dependencies.now }
     requires room { HasRoom dependents.old }
@@ -143,7 +145,7 @@ fn visit_range(
 {
     let from = range.first();
     let end = range.behind();
-    let mut before = beginning_before(dependencies, starts, end);
+    let mut before = place_behind(dependencies, gaps, from, end);
     let mut count = 0;
     while let Some(at) = last_overlapping(dependencies, summaries, from, end, before) {
         before = at;
@@ -172,6 +174,7 @@ fn visit_ranges<R: Ranges>(
     requires sorted { AreSorted index.now.dependencies.items }
     requires all { length index.now.summaries.items ≡ length index.now.dependencies.items }
     requires summaries { AreSummaries index.now.dependencies.items index.now.summaries.items }
+    requires gaps { AreGaps index.now.dependencies.items index.now.gaps }
     requires numbers { HaveNumbers (length dependents.old.list.items) index.now.dependencies.items }
     requires small { AreSmall index.now.dependencies.items }
     requires room { HasRoom dependents.old }
@@ -195,7 +198,7 @@ fn visit_ranges<R: Ranges>(
             dependents,
             &index.dependencies,
             &index.summaries,
-            &index.starts,
+            &index.gaps,
             range,
             old,
             new,
@@ -239,7 +242,7 @@ pub(crate) fn renew(
         dependents,
         &index.dependencies,
         &index.summaries,
-        &index.starts,
+        &index.gaps,
         from,
         end,
         &now,

@@ -1,5 +1,5 @@
 -- What is kept, seen as values of conditions; the invariants of it; and what a set of new bytes comes to.
-use Rattle.std.specs.Prelude.{◌≡◌, ℕ, ◌<◌, ◌≤◌, Bool, All, Option, List, [], length, map, filter, Some, None, Result, Ok, Err}
+use Rattle.std.specs.Prelude.{◌≡◌, ℕ, ◌<◌, ◌≤◌, Bool, All, List, [], length, map, filter, Some, None, Result, Ok, Err}
 use Rattle.std.specs.Vec.{vec_capacity}
 use Rattle.hii_bytes.specs.code.FirstFaults.{Rise}
 use Rattle.ifr_opcodes.specs.Forest.{Node}
@@ -16,7 +16,7 @@ use Rattle.guard_policy.specs.code.Views.{world}
 use Rattle.guard_policy.specs.declared.denial.Denial.{Denial}
 use Rattle.guard_policy.specs.declared.policy.Policy.{Policy}
 use Rattle.kept_conditions.specs.Kept.{Told, KeptMap, KeptValues, kept_over, written}
-use Rattle.kept_conditions.specs.code.Index.{RulesRise, AreSorted, AreSummaries, AreSmall, HaveNumbers}
+use Rattle.kept_conditions.specs.code.Index.{RulesRise, AreSorted, AreGaps, AreSummaries, AreSmall, HaveNumbers}
 use Rattle.kept_conditions.specs.code.Collection.{dependent_nodes, is_touched, IsRuleUse, finds}
 use Rattle.kept_conditions.specs.code.Dependents.{at_number, is_condition, rules_in}
 use Rattle.kept_conditions.specs.declared.index.Index.{Index}
@@ -45,6 +45,7 @@ pub record IsIndex (ifr : List ℕ) (dependents : Dependents) (index : Index) : 
   pub sorted : AreSorted index.dependencies.items
   pub all : length index.summaries.items ≡ length index.dependencies.items
   pub summed : AreSummaries index.dependencies.items index.summaries.items
+  pub gaps : AreGaps index.dependencies.items index.gaps
   pub numbers : HaveNumbers (length (dependent_nodes (nodes_of ifr))) index.dependencies.items
   pub small : AreSmall index.dependencies.items
   pub by_rule : RulesRise index.rule_uses.items

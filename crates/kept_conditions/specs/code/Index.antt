@@ -1,11 +1,12 @@
 -- Bytes and rules on which dependents depend, in order, and how those are found that overlap a write.
-use Rattle.std.specs.Prelude.{◌≡◌, ℕ, ◌+◌, ◌<◌, ◌≤◌, ◌^◌, ◌==◌, ◌&&◌, nat_lt, Bool, true, false, All, Option, Some, None, List, length, slice_index_or, Contains}
+use Rattle.std.specs.Prelude.{◌≡◌, ◌⊎◌, ℕ, ◌+◌, ◌*◌, ◌%◌, ◌<◌, ◌≤◌, ◌^◌, ◌==◌, ◌&&◌, nat_lt, Bool, true, false, All, Option, Some, None, List, length, slice_get, slice_index_or, Contains}
 use Rattle.std.specs.List.{list_any}
 use Rattle.std.specs.List.Sorted.{IsNonDecreasingBy}
 use Rattle.hii_questions.specs.code.Entries.{entry_range}
 use Rattle.hii_questions.specs.code.Numbers as numbers
 use Rattle.kept_conditions.specs.Touching.{has_one}
 use Rattle.kept_conditions.specs.declared.index.Dependency.{Dependency}
+use Rattle.kept_conditions.specs.declared.index.Gaps.{Gaps}
 use Rattle.kept_conditions.specs.declared.index.Summary.{Summary}
 use Rattle.kept_conditions.specs.declared.index.RuleUse.{RuleUse}
 
@@ -63,6 +64,35 @@ abbrev pub IsLastOverlapping : ℕ → ℕ → List Dependency → ℕ → Optio
 IsLastOverlapping from end rs before None = NoneOverlaps from end rs 0 before
 IsLastOverlapping from end rs before (Some k) =
     (k < before) × (overlaps from end (at_place rs k) ≡ true) × NoneOverlaps from end rs (k + 1) before
+
+-- ---- bytes that no dependency has
+
+-- No dependency has a byte from a number on up to before another.
+abbrev pub NoneHas : List Dependency → ℕ → ℕ → Type 0
+NoneHas rs from end =
+    (j : ℕ) → j < length rs → (behind_of (at_place rs j) ≤ from) ⊎ (end ≤ first_of (at_place rs j))
+
+-- No end of the first dependencies, of which there are so many, is above a number; and those behind do not begin before one.
+abbrev pub EndBy : List Dependency → ℕ → ℕ → Type 0
+EndBy rs count reach = (j : ℕ) → j < count → behind_of (at_place rs j) ≤ reach
+
+abbrev pub BeginFrom : List Dependency → ℕ → ℕ → Type 0
+BeginFrom rs count end = (j : ℕ) → count ≤ j → j < length rs → end ≤ first_of (at_place rs j)
+
+-- the number of the first byte of a step, in 64 bits
+abbrev pub step_start : ℕ → ℕ → ℕ → ℕ
+step_start first power step = (first + (step * 2 ^ (power % 64)) % 2 ^ 64) % 2 ^ 64
+
+-- No dependency has a byte of a step that is told to be one.
+abbrev pub AreGapSteps : List Dependency → ℕ → ℕ → List Bool → Type 0
+AreGapSteps rs first power steps =
+    (step : ℕ) → slice_get steps step ≡ Some true
+    → NoneHas rs (step_start first power step) (step_start first power (step + 1))
+
+pub record AreGaps (rs : List Dependency) (gaps : Gaps) : Type 0 where
+  pub after : BeginFrom rs 0 gaps.first
+  pub before : EndBy rs (length rs) gaps.behind
+  pub steps : AreGapSteps rs gaps.first gaps.power gaps.steps.items
 
 -- The first bytes of the dependencies do not fall.
 abbrev pub AreSorted : List Dependency → Type 0

@@ -1,5 +1,5 @@
-use Rattle.std.proofs.Common.{◌≡◌, ◌≤◌, ◌+◌, ◌-◌, ℕ, sym, subst, arith}
-use Rattle.kept_conditions.specs.code.Index.{IsNear, at_place}
+use Rattle.std.proofs.Common.{◌-◌, sym, subst, arith}
+use Rattle.kept_conditions.specs.code.Index.{IsNear}
 use Rattle.kept_conditions.proofs.SummaryLemmas.{below_later, near_greater, near_own_end}
 use Rattle.kept_conditions.proofs.index.reach_at.Goals as goal
 

@@ -1,6 +1,5 @@
-use Rattle.std.proofs.Common.{◌≡◌, ◌≤◌, ◌<◌, ◌+◌, ◌-◌, ℕ, sym, subst, arith}
-use Rattle.kept_conditions.specs.code.Index.{IsNear, IsSummary, at_place, behind_of}
-use Rattle.kept_conditions.specs.declared.index.Summary.{Summary}
+use Rattle.std.proofs.Common.{◌≤◌, ◌-◌, ℕ, sym, subst, arith}
+use Rattle.kept_conditions.specs.code.Index.{IsNear, at_place, behind_of}
 use Rattle.kept_conditions.proofs.SummaryLemmas.{below_later, joined, near_greater}
 use Rattle.kept_conditions.proofs.index.summary_at.Goals as goal
 

@@ -1,5 +1,5 @@
-use Rattle.std.proofs.Common.{◌≡◌, ◌≤◌, ◌<◌, ◌+◌, ◌-◌, ◌^◌, ℕ}
-use Rattle.kept_conditions.specs.code.Index.{AllEndBy, IsNear, at_place, behind_of}
+use Rattle.std.proofs.Common.{◌≤◌, ◌<◌, ◌+◌, ◌-◌, ℕ}
+use Rattle.kept_conditions.specs.code.Index.{IsNear, at_place, behind_of}
 use Rattle.kept_conditions.proofs.index.summary_at.Given as goal
 
 -- the blocks so far, joined

@@ -12,8 +12,8 @@ use Rattle.kept_conditions.proofs.invalidation.visit_overlapping.Goals as goal
 
 pub loop-at-init : goal.loop-at-init
 loop-at-init c = record {
-  within = c.beginning_before-before.ensures.bound;
-  visited = none_visited _ _ c.args.dependents.now (λ k less. none_behind c.args.from c.args.end c.args.dependencies.now c.beginning_before-before.result k c.beginning_before-before.ensures.bound c.beginning_before-before.ensures.behind);
+  within = c.place_behind-before.ensures.bound;
+  visited = none_visited _ _ c.args.dependents.now (λ k less. none_behind c.args.from c.args.end c.args.dependencies.now c.place_behind-before.result k c.place_behind-before.ensures.bound c.place_behind-before.ensures.behind);
   kept = c.requires.kept;
 }
 

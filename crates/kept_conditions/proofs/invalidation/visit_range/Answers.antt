@@ -14,10 +14,10 @@ use Rattle.kept_conditions.proofs.invalidation.visit_range.Goals as goal
 
 pub loop-at-init : goal.loop-at-init
 loop-at-init c = record {
-  within = c.beginning_before-before.ensures.bound;
+  within = c.place_behind-before.ensures.bound;
   visited = none_visited _ _ c.args.dependents.now (λ k less.
       depends_behind (difference c.args.old.now c.args.new.now) c.args.range c.args.dependencies.now c.first-from.result c.behind-end.result c.first-from.ensures.number c.behind-end.ensures c.first-from.ensures.small c.requires.small
-      c.beginning_before-before.result k c.beginning_before-before.ensures.bound c.beginning_before-before.ensures.behind);
+      c.place_behind-before.result k c.place_behind-before.ensures.bound c.place_behind-before.ensures.behind);
   kept = c.requires.kept;
 }
 

@@ -33,6 +33,7 @@ module _ (c : In_ok-dependents) where
     sorted = c.in_ok-index.ensures.sorted;
     all = c.in_ok-index.ensures.all;
     summed = c.in_ok-index.ensures.summed;
+    gaps = c.in_ok-index.ensures.gaps;
     rise = c.in_ok-index.ensures.rise;
     dependencies = c.in_ok-index.ensures.dependencies;
     rule_uses = c.in_ok-index.ensures.rule_uses;

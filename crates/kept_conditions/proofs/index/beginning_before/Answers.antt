@@ -3,7 +3,7 @@ use Rattle.std.proofs.lemmas.Fn.{answers_by}
 use Rattle.kept_conditions.specs.declared.index.Dependency.{Dependency}
 use Rattle.kept_conditions.specs.code.Index.{first_of}
 use Rattle.kept_conditions.proofs.OverlapLemmas.{parted}
-use Rattle.kept_conditions.proofs.index.searched_before.Goals as goal
+use Rattle.kept_conditions.proofs.index.beginning_before.Goals as goal
 
 pub returns-clause-behind : goal.returns-clause-behind
 returns-clause-behind c =
