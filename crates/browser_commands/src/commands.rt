@@ -55,8 +55,10 @@ impl<'a> Browser<'a> {
         }
     }
 
-    // Carries the line out, of which nothing is done where it is blank.
-    fn run_bytes<W: Write>(&mut self, line: &[u8], out: &mut Watched<W>)
+    /// The same of a line that is given: nothing is done where it is blank.
+    // Lines are read and carried out in this one place, so that what that takes is inlined.
+    #[inline(never)]
+    pub fn run_bytes<W: Write>(&mut self, line: &[u8], out: &mut Watched<W>)
         ensures shown { self.new ≡ shown_line self.old line.now }
         ensures text { Puts W.contents out.old out.new (step_line self.old.state line.now).text }
     {

@@ -26,11 +26,11 @@ ghost use Rattle.session_laws.specs.Replies.{reply_for};
 ghost use Rattle.browser_core.specs.Opening.{IsOfMemory, Opens, RefusesOpening};
 ghost use Rattle.browser_core.specs.Shown.{shown_after, shown_line};
 
-use browser_commands::{Browser, put_refusal};
+use browser_commands::Browser;
 use form_page::Page;
 use hii_bytes::laws::are_bytes;
 use hii_bytes::{Fault, Watched};
-use hii_commands::{Command, LineBuffer, is_blank, read_line};
+use hii_commands::{Command, LineBuffer};
 use hii_varstore::Stores;
 use kept_conditions::Kept;
 use session_steps::Reply;
@@ -155,14 +155,6 @@ impl<'a> Browsed<'a> {
         ensures shown { self.new ≡ shown_line self.old line.now }
         ensures text { Puts W.contents out.old out.new (step_line self.old.state line.now).text }
     {
-        if is_blank(line) {
-            return;
-        }
-        match read_line(line) {
-            Ok(command) => {
-                self.browser.carry_out(command, out);
-            }
-            Err(bad) => put_refusal(bad.cause(), out),
-        }
+        self.browser.run_bytes(line, out);
     }
 }
