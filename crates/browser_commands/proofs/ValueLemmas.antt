@@ -2,19 +2,17 @@
 use Rattle.std.proofs.Common.{◌≡◌, ℕ, true, List, ◌++◌, Option, Some, None, Result, Ok, Err, refl, sym, ap, subst, ◌∙◌, append-nil}
 use Rattle.ifr_opcodes.specs.Forest.{Node}
 use Rattle.ifr_nodes.specs.Nodes.{nodes_of}
-use Rattle.hii_varstore.specs.Stores.{StoreMap, shape_of, with_bytes}
+use Rattle.hii_varstore.specs.Stores.{StoreMap, shape_of}
 use Rattle.hii_values.specs.Inputs.{Offer}
 use Rattle.hii_questions.specs.Fields as fields
 use Rattle.hii_questions.specs.Fields.{Asked, field_of}
 use Rattle.hii_questions.specs.code.Checks.{range_of}
-use Rattle.hii_questions.specs.code.NewBytes.{new_bytes}
 use Rattle.hii_questions.specs.declared.field.Field.{Field}
 use Rattle.guard_policy.specs.code.Views.{bytes_of}
 use Rattle.guard_policy.specs.declared.denial.Denial.{Denial}
 use Rattle.guard_policy.specs.declared.policy.Policy.{Policy}
 use Rattle.kept_conditions.specs.Kept.{KeptMap, counted}
 use Rattle.kept_conditions.specs.Touching.{range_of_field, renewals}
-use Rattle.kept_conditions.specs.code.Cache.{put_in}
 use Rattle.session_steps.specs.Opening.{layout_in, IsBrowsable}
 use Rattle.session_steps.specs.Renewed.{Shown, Write, field_write, write_of}
 use Rattle.session_steps.specs.State.{State}

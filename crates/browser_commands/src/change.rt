@@ -87,6 +87,9 @@ fn new_field<'a, 's, 'i>(
         (offer_of input.entry) result }
 {
     let field = check_value(question, input)?;
+    if !field.names_options() {
+        return Ok(field);
+    }
     options_open(policy, question, around, field, working)?;
     Ok(field)
 }

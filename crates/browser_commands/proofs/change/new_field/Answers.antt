@@ -1,7 +1,10 @@
-use Rattle.std.proofs.Common.{sym}
+use Rattle.std.proofs.Common.{ap, sym}
 use Rattle.std.proofs.lemmas.Result.{err_from_is_err_and}
 use Rattle.hii_values.specs.code.Offers.{offer_of}
-use Rattle.hii_questions.specs.code.Views.{question_view}
+use Rattle.hii_questions.specs.code.Views.{question_node, question_view}
+use Rattle.guard_policy.specs.Policy.{first_closed}
+use Rattle.guard_policy.specs.code.Answers.{unless}
+use Rattle.guard_policy.specs.code.Views.{world}
 use Rattle.browser_commands.proofs.SetLemmas.{takes_field, takes_closed, takes_nothing}
 use Rattle.browser_commands.proofs.change.new_field.Goals as goal
 
@@ -21,3 +24,8 @@ pub returns : goal.returns
 returns c =
     takes_field c.args.policy c.args.working.now.stores (question_view c.args.question) (offer_of c.args.input) c.in_ok-field.field c.requires.free.browsed.browsable c.requires.free.browsed.laid c.requires.free.question c.in_ok-field.ensures.given c.in_ok-field.ensures.items
     (sym c.in_ok-options_open.ensures)
+
+pub returns-then-not-names_options : goal.returns-then-not-names_options
+returns-then-not-names_options c =
+    takes_field c.args.policy c.args.working.now.stores (question_view c.args.question) (offer_of c.args.input) c.in_ok-field.field c.requires.free.browsed.browsable c.requires.free.browsed.laid c.requires.free.question c.in_ok-field.ensures.given c.in_ok-field.ensures.items
+    (ap (λ items. unless (first_closed (world c.args.policy c.args.working.now.stores) (question_node c.args.question) items)) (c.names_options.ensures.none c.if-not-names_options.true))

@@ -1,4 +1,4 @@
-use Rattle.std.proofs.Common.{true, None, Ok, List, ℕ, sym, ap, subst, ◌∙◌}
+use Rattle.std.proofs.Common.{Ok, List, ℕ, sym, ap, subst, ◌∙◌}
 use Rattle.std.proofs.lemmas.Result.{err_from_is_err_and}
 use Rattle.hii_bytes.specs.Watching.{pen_of, Writes}
 use Rattle.hii_bytes.proofs.WritingLemmas.{writes_nil, ◌⨾◌}

@@ -1,13 +1,11 @@
-use Rattle.std.proofs.Common.{◌≡◌, Some, true, false, sym, ap, subst, ◌∙◌}
+use Rattle.std.proofs.Common.{Some, true, false, sym, ap, subst, ◌∙◌}
 use Rattle.ifr_opcodes.specs.Forest.{Node}
 use Rattle.ifr_scopes.specs.code.Lists.{statement_node}
 use Rattle.ifr_defaults.specs.code.DefaultSources.{IsSource}
-use Rattle.hii_varstore.specs.Stores.{StoreMap, shape_of, with_bytes}
+use Rattle.hii_varstore.specs.Stores.{shape_of}
 use Rattle.hii_values.specs.code.Offers.{offer_of}
-use Rattle.hii_questions.specs.code.NewBytes.{new_bytes}
 use Rattle.hii_questions.specs.code.Views.{question_view}
 use Rattle.guard_policy.specs.code.Views.{bytes_of}
-use Rattle.kept_conditions.specs.Kept.{KeptMap}
 use Rattle.browser_commands.specs.code.Defaulting.{TakesDefault}
 use Rattle.browser_commands.proofs.DefaultLemmas.{takes_denied, takes_set}
 use Rattle.browser_commands.proofs.SetLemmas.{is_question_at}
