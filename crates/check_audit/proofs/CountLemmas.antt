@@ -1,10 +1,17 @@
--- The forms and the stores of a package can be counted.
-use Rattle.std.proofs.Common.{◌≡◌, ℕ, ◌+◌, ◌≤◌, ◌<◌, ◌^◌, Bool, List, [], ◌∷◌, length, filter, arith, subst, sym, inl, inr}
+-- The forms, the stores, and what is strange of a package can be counted.
+use Rattle.std.proofs.Common.{◌≡◌, ℕ, suc, ◌+◌, ◌≤◌, ◌<◌, ◌^◌, Bool, Option, None, Some, List, [], ◌∷◌, ◌++◌, length, length-append, filter, map, ap, arith, subst, sym, ◌∙◌, inl, inr}
+use Rattle.std.specs.List.{cons_option, filter_map}
 use Rattle.std.proofs.lemmas.Bool.{cases_Bool}
+use Rattle.std.proofs.lemmas.List.{length-map}
 use Rattle.ifr_opcodes.specs.Forest.{Node}
+use Rattle.ifr_opcodes.specs.Opcode.{number}
 use Rattle.ifr_nodes.specs.Checked.{IsChecked}
-use Rattle.ifr_nodes.specs.Nodes.{nodes_of}
+use Rattle.ifr_nodes.specs.Guards.{guards_among, is_guard}
+use Rattle.ifr_nodes.specs.Nodes.{is_statement, nodes_of}
 use Rattle.ifr_nodes.proofs.WalkLemmas.{at_first, few_left}
+use Rattle.check_audit.specs.Constants.{Settled, constants, is_constant, settled_at}
+use Rattle.check_audit.specs.Warnings.{crossed_of, crossed_spans}
+use Rattle.check_audit.specs.declared.warning.Span.{Span}
 
 few_of : (is : Node → Bool) (ns : List Node) → length (filter is ns) ≤ length ns
 few_of is [] = omega arith
@@ -23,3 +30,37 @@ few bytes is left checked same =
     let most = few_of is (nodes_of bytes) in
     let all = few_nodes bytes checked in
     subst (λ (l : List Node). 0 + length l < 2 ^ 64) (sym same) (omega (arith, most, all))
+
+-- the first of some
+few_first : {X : Type 0} (front rest all : List X) (n : ℕ) → front ++ rest ≡ all → length all ≤ n → length front ≤ n
+few_first front rest all n same most =
+    let count = sym (length-append front rest) ∙ ap (λ (l : List _). length l) same in
+    omega (arith, count, most)
+
+one_more : {X : Type 0} (o : Option X) (xs : List X) (ns : List Node) → length xs ≤ length ns → length (cons_option o xs) ≤ suc (length ns)
+one_more None xs ns few = omega (arith, few)
+one_more (Some x) xs ns few = omega (arith, few)
+
+few_mapped : {X : Type 0} (f : Node → Option X) (ns : List Node) → length (filter_map f ns) ≤ length ns
+few_mapped f [] = omega arith
+few_mapped f (n ∷ ns) = one_more (f n) (filter_map f ns) ns (few_mapped f ns)
+
+-- the bounds of a package that nothing can meet, and the guards whose conditions name no question, as far as they were found
+pub few_spans : (bytes : List ℕ) (front rest : List Span) → IsChecked bytes → front ++ rest ≡ crossed_spans (nodes_of bytes) → length front < 2 ^ 32
+few_spans bytes front rest checked same =
+    let ns = nodes_of bytes in
+    let all = few_first front rest (crossed_spans ns) _ same (few_mapped crossed_of (filter is_statement ns)) in
+    let some = few_of is_statement ns in
+    let nodes = few_nodes bytes checked in
+    omega (arith, all, some, nodes)
+
+pub few_constants : {X : Type 0} (bytes : List ℕ) (items : List X) (rest : List Settled) (of : X → Settled) → IsChecked bytes → map of items ++ rest ≡ constants (nodes_of bytes) → length items < 2 ^ 32
+few_constants bytes items rest of checked same =
+    let ns = nodes_of bytes in
+    let found = filter (is_constant ns) (guards_among ns) in
+    let all = few_first (map of items) rest (constants ns) (length found) same (omega (arith, length-map found (settled_at ns))) in
+    let told = length-map items of in
+    let guards = few_of (is_constant ns) (guards_among ns) in
+    let some = few_of (λ (n : Node). is_guard (number n.op)) ns in
+    let nodes = few_nodes bytes checked in
+    omega (arith, all, told, guards, some, nodes)

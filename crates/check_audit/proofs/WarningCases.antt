@@ -2,15 +2,15 @@
 use Rattle.std.proofs.Common.{◌≡◌, ℕ, ◌+◌, Some, None, [], ◌∷◌, refl}
 use Rattle.std.specs.Prelude.{negsuc, pos}
 use Rattle.check_audit.specs.Overlaps.{overlaps_among}
-use Rattle.check_audit.specs.Warnings.{crossed_at}
+use Rattle.check_audit.specs.Warnings.{if_crossed}
 use Rattle.check_audit.specs.declared.overlaps.Laid.{Laid}
-use Rattle.check_audit.specs.declared.warning.Oddity.TheVariants.{Bounds, Overlap}
+use Rattle.check_audit.specs.declared.warning.Oddity.TheVariants.{Overlap}
 
 -- signed bounds
-crossed : crossed_at 7 record { minimum = pos 2; maximum = negsuc 0 } ≡ Some record { place = 7; oddity = Bounds record { minimum = pos 2; maximum = negsuc 0 } }
+crossed : if_crossed record { minimum = pos 2; maximum = negsuc 0 } ≡ Some record { minimum = pos 2; maximum = negsuc 0 }
 crossed = refl
 
-straight : crossed_at 7 record { minimum = negsuc 0; maximum = pos 2 } ≡ None
+straight : if_crossed record { minimum = negsuc 0; maximum = pos 2 } ≡ None
 straight = refl
 
 -- a field at an offset of store 1

@@ -10,18 +10,21 @@ use Rattle.check_audit.specs.Warnings.{unreached_at}
 use Rattle.check_audit.specs.declared.warning.Oddity.TheVariants.{Unreached}
 use Rattle.check_audit.specs.declared.warning.Warning.{Warning}
 
--- the warnings of each word
-pub all_added : (w0 w1 w2 w3 w4 w5 w6 w7 w8 a b c d e f g h : List Warning) → w0 ≡ [] → w1 ≡ w0 ++ a → w2 ≡ w1 ++ b → w3 ≡ w2 ++ c → w4 ≡ w3 ++ d → w5 ≡ w4 ++ e → w6 ≡ w5 ++ f → w7 ≡ w6 ++ g → w8 ≡ w7 ++ h
-    → w8 ≡ a ++ b ++ c ++ d ++ e ++ f ++ g ++ h
-all_added w0 w1 w2 w3 w4 w5 w6 w7 w8 a b c d e f g h e0 e1 e2 e3 e4 e5 e6 e7 e8 =
+-- the warnings of nodes, word by word
+pub all_of_nodes : (w0 w1 w2 w3 w4 w5 a b c d e : List Warning) → w0 ≡ [] → w1 ≡ w0 ++ a → w2 ≡ w1 ++ b → w3 ≡ w2 ++ c → w4 ≡ w3 ++ d → w5 ≡ w4 ++ e → w5 ≡ a ++ b ++ c ++ d ++ e
+all_of_nodes w0 w1 w2 w3 w4 w5 a b c d e e0 e1 e2 e3 e4 e5 =
     let one : w1 ≡ a = e1 ∙ ap (λ (l : List Warning). l ++ a) e0 in
     let two : w2 ≡ a ++ b = e2 ∙ ap (λ (l : List Warning). l ++ b) one in
     let three : w3 ≡ a ++ b ++ c = e3 ∙ ap (λ (l : List Warning). l ++ c) two in
     let four : w4 ≡ a ++ b ++ c ++ d = e4 ∙ ap (λ (l : List Warning). l ++ d) three in
-    let five : w5 ≡ a ++ b ++ c ++ d ++ e = e5 ∙ ap (λ (l : List Warning). l ++ e) four in
-    let six : w6 ≡ a ++ b ++ c ++ d ++ e ++ f = e6 ∙ ap (λ (l : List Warning). l ++ f) five in
-    let seven : w7 ≡ a ++ b ++ c ++ d ++ e ++ f ++ g = e7 ∙ ap (λ (l : List Warning). l ++ g) six in
-    e8 ∙ ap (λ (l : List Warning). l ++ h) seven
+    e5 ∙ ap (λ (l : List Warning). l ++ e) four
+
+-- and those behind them
+pub all_added : (w0 w1 w2 w3 n a b c : List Warning) → w0 ≡ n → w1 ≡ w0 ++ a → w2 ≡ w1 ++ b → w3 ≡ w2 ++ c → w3 ≡ n ++ a ++ b ++ c
+all_added w0 w1 w2 w3 n a b c e0 e1 e2 e3 =
+    let one : w1 ≡ n ++ a = e1 ∙ ap (λ (l : List Warning). l ++ a) e0 in
+    let two : w2 ≡ n ++ a ++ b = e2 ∙ ap (λ (l : List Warning). l ++ b) one in
+    e3 ∙ ap (λ (l : List Warning). l ++ c) two
 
 -- one more guard whose condition names no question: the first of those that are left
 pub constant_told : {S T : Type 0} (of : S → T) (old new : List S) (s : S) (front : T) (after all : List T) → new ≡ old ++ s ∷ [] → of s ≡ front → map of old ++ front ∷ after ≡ all → map of new ++ after ≡ all

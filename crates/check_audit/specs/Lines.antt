@@ -23,6 +23,7 @@ use Rattle.check_audit.specs.Constants.{constants}
 use Rattle.check_audit.specs.Lacks.{Lack}
 use Rattle.check_audit.specs.Mostly.{mostly_at, mostly_of}
 use Rattle.check_audit.specs.WarningLines.{warnings_told}
+use Rattle.check_audit.specs.Warnings.{crossed_spans}
 use Rattle.check_audit.specs.declared.behind.Named.{Named}
 use Rattle.check_audit.specs.declared.verdict.Counts.{Counts}
 use Rattle.check_audit.specs.declared.verdict.Good.{Good}
@@ -184,7 +185,7 @@ good_told telling counts = told_as telling (good_line counts) (good_object count
 abbrev pub warned_told : Setting → List ℕ → Good → List ℕ
 warned_told s ifr good =
     good_told s.telling good.counts
-    ++ warnings_told s.telling record { settled = constants (nodes_of ifr); lacks = s.lacks } good.warnings.items
+    ++ warnings_told s.telling record { spans = crossed_spans (nodes_of ifr); settled = constants (nodes_of ifr); lacks = s.lacks } good.warnings.items
 
 -- what is found of a forms package
 abbrev pub verdict_told : Setting → List ℕ → Verdict → List ℕ

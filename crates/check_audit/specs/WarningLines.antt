@@ -20,14 +20,16 @@ use Rattle.check_audit.specs.declared.warning.Span.{Span}
 use Rattle.check_audit.specs.declared.warning.Unanswered.{Unanswered}
 use Rattle.check_audit.specs.declared.warning.Warning.{Warning}
 
--- what warnings tell by a number: the guards whose conditions name no question, and the string packages that lack texts
+-- what warnings tell by a number: the bounds that nothing can meet, the guards whose conditions name no question, and the string
+-- packages that lack texts
 pub record Details : Type 0 where
+  pub spans : List Span
   pub settled : List Settled
   pub lacks : List Lack
 
 abbrev pub word_of : Oddity → List ℕ
 word_of (Asks unanswered) = codes "asks"
-word_of (Bounds span) = codes "bounds"
+word_of (Bounds n) = codes "bounds"
 word_of (Constant n) = codes "constant"
 word_of (Default refused) = codes "default"
 word_of (Language n) = codes "language"
@@ -43,8 +45,10 @@ lack_of is_there = if is_there then codes ": it has no answer here" else codes "
 abbrev pub asks_text : Unanswered → List ℕ
 asks_text u = decimal u.question ++ lack_of u.is_there
 
-abbrev pub bounds_text : Span → List ℕ
-bounds_text span = signed_decimal span.minimum ++ codes " is above " ++ signed_decimal span.maximum
+-- of the bounds that nothing can meet those of a number
+abbrev pub bounds_text : Option Span → List ℕ
+bounds_text None = []
+bounds_text (Some span) = signed_decimal span.minimum ++ codes " is above " ++ signed_decimal span.maximum
 
 abbrev pub verdict_word : Bool → List ℕ
 verdict_word holds = if holds then codes " holds: " else codes " does not hold: "
@@ -81,7 +85,7 @@ unreached_text form = codes "no reference names form " ++ decimal form
 
 abbrev pub oddity_text : Details → Oddity → List ℕ
 oddity_text d (Asks unanswered) = asks_text unanswered
-oddity_text d (Bounds span) = bounds_text span
+oddity_text d (Bounds n) = bounds_text (slice_get d.spans n)
 oddity_text d (Constant n) = constant_text (slice_get d.settled n)
 oddity_text d (Default refused) = default_text refused
 oddity_text d (Language n) = lack_text (slice_get d.lacks n)
@@ -96,8 +100,9 @@ warning_line d w =
 
 -- ---- in an object
 
-abbrev pub bounds_members : Span → List ℕ
-bounds_members span =
+abbrev pub bounds_members : Option Span → List ℕ
+bounds_members None = []
+bounds_members (Some span) =
     member (codes "minimum") (signed_decimal span.minimum) ++ member (codes "maximum") (signed_decimal span.maximum)
 
 abbrev pub holds_member : Bool → List ℕ
@@ -124,7 +129,7 @@ overlap_members sharing =
 
 abbrev pub oddity_members : Details → Oddity → List ℕ
 oddity_members d (Asks unanswered) = number_member (codes "id") unanswered.question
-oddity_members d (Bounds span) = bounds_members span
+oddity_members d (Bounds n) = bounds_members (slice_get d.spans n)
 oddity_members d (Constant n) = constant_members (slice_get d.settled n)
 oddity_members d (Default refused) = default_members refused
 oddity_members d (Language n) = lack_members (slice_get d.lacks n)

@@ -1,5 +1,5 @@
 -- What is strange of a forms package that is good (own rule).
-use Rattle.std.specs.Prelude.{ℕ, ◌+◌, ◌*◌, Bool, true, false, not, ◌==◌, ◌&&◌, if◌then◌else◌, pos, int_lt, Option, Some, None, is_none, option_and_then, option_map, List, [], ◌∷◌, ◌++◌, drop, filter, length}
+use Rattle.std.specs.Prelude.{ℕ, suc, ◌+◌, ◌*◌, Bool, true, false, not, ◌==◌, ◌&&◌, if◌then◌else◌, pos, int_lt, Option, Some, None, is_none, is_some, option_and_then, option_map, List, [], ◌∷◌, ◌++◌, drop, filter, length}
 use Rattle.std.specs.List.{filter_map, flat_map, list_any}
 use Rattle.std.specs.List.Sorted.{IsSortedByKey, IsStableByKey}
 use Rattle.std.specs.Ordering.{nat_cmp}
@@ -35,7 +35,7 @@ use Rattle.check_audit.specs.declared.warning.Warning.{Warning}
 -- where a word stands among all words of warnings
 abbrev pub rank_of : Oddity → ℕ
 rank_of (Asks unanswered) = 0
-rank_of (Bounds span) = 1
+rank_of (Bounds n) = 1
 rank_of (Constant n) = 2
 rank_of (Default refused) = 3
 rank_of (Language n) = 4
@@ -46,7 +46,7 @@ rank_of (Unreached form) = 7
 -- of which id it is told, or of which number in the list
 abbrev pub id_of : Oddity → ℕ
 id_of (Asks unanswered) = unanswered.question
-id_of (Bounds span) = 0
+id_of (Bounds n) = 0
 id_of (Constant n) = 0
 id_of (Default refused) = refused.question
 id_of (Language n) = n
@@ -134,15 +134,25 @@ span_of n =
     then Some record { minimum = pos (password_minimum n.op); maximum = pos (password_maximum n.op) }
     else None
 
-abbrev pub crossed_at : ℕ → Span → Option Warning
-crossed_at place span =
-    if int_lt span.maximum span.minimum then Some record { place = place; oddity = Bounds span } else None
+abbrev pub if_crossed : Span → Option Span
+if_crossed span = if int_lt span.maximum span.minimum then Some span else None
 
-abbrev pub bounds_at : Node → Option Warning
-bounds_at n = option_and_then (crossed_at n.place) (span_of n)
+abbrev pub crossed_of : Node → Option Span
+crossed_of n = option_and_then if_crossed (span_of n)
+
+abbrev pub crossed_spans : List Node → List Span
+crossed_spans ns = filter_map crossed_of (filter is_statement ns)
+
+abbrev pub is_crossed : Node → Bool
+is_crossed n = is_some (crossed_of n)
+
+-- each with the number of its bounds among them, from this one on
+abbrev pub numbered_bounds : ℕ → List Node → List Warning
+numbered_bounds k [] = []
+numbered_bounds k (n ∷ ns) = record { place = n.place; oddity = Bounds k } ∷ numbered_bounds (suc k) ns
 
 abbrev pub bounds_warnings : List Node → List Warning
-bounds_warnings ns = filter_map bounds_at (filter is_statement ns)
+bounds_warnings ns = numbered_bounds 0 (filter is_crossed (filter is_statement ns))
 
 -- ---- unreached: a form but the first that no reference names, wherever it stands (33.3.8.3, EFI_IFR_REF)
 
@@ -197,12 +207,16 @@ textless_warnings spoken ifr = firsts (textless_among spoken 4 (opcodes_in (drop
 
 -- ---- all of them
 
--- all warnings, by what the first string package says and what further ones lack, and where the fields are laid in this order
+-- those of nodes by themselves, by what the first string package says
+abbrev pub node_warnings : List Spoken → List Node → List Warning
+node_warnings spoken ns =
+    asks_warnings ns ++ bounds_warnings ns ++ constant_warnings ns ++ default_warnings spoken ns ++ unreached_warnings ns
+
+-- all warnings, by what further string packages lack, and where the fields are laid in this order
 abbrev pub all_warnings : List Spoken → List Lack → List ℕ → List Laid → List Warning
 all_warnings spoken lacks ifr laid =
-    asks_warnings (nodes_of ifr) ++ bounds_warnings (nodes_of ifr) ++ constant_warnings (nodes_of ifr)
-    ++ default_warnings spoken (nodes_of ifr) ++ language_warnings lacks ++ overlaps_among laid
-    ++ textless_warnings spoken ifr ++ unreached_warnings (nodes_of ifr)
+    node_warnings spoken (nodes_of ifr) ++ overlaps_among laid ++ language_warnings lacks
+    ++ textless_warnings spoken ifr
 
 -- These are all warnings, in this order. Two of one place, word and id are the same.
 pub record AreWarnings (spoken : List Spoken) (lacks : List Lack) (ifr : List ℕ) (ordered : List Warning) : Type 0 where

@@ -27,7 +27,7 @@ fn unanswered(questions: &Questions<'_>, id: u16) -> Option<bool>
 }
 
 // The warning of an expression at a place that names a question without an answer.
-fn asked_at(questions: &Questions<'_>, place: u64, id: u16) -> Option<Warning>
+fn asked_at(questions: &Questions<'_>, place: u32, id: u16) -> Option<Warning>
     ensures { result ≡ asked_at (nodes_of questions.now.ifr) place id }
 {
     Some(Warning {
@@ -42,7 +42,7 @@ fn asked_at(questions: &Questions<'_>, place: u64, id: u16) -> Option<Warning>
 // Adds the questions without an answer that an expression of an opcode at a place names.
 fn add_named(
     questions: &Questions<'_>,
-    place: u64,
+    place: u32,
     expr: Expr<'_>,
     warnings: &mut Vec<Warning>,
 ) -> Result<(), AllocError>
@@ -70,7 +70,7 @@ fn add_of_guards(
 {
     let mut guards = forms.guards();
     while let Some(guard) = guards.next() {
-        let place = u64::from(guard.place());
+        let place = guard.place();
         add_named(questions, place, guard.condition(), warnings)?;
     }
     Ok(())
@@ -88,7 +88,7 @@ fn add_of_conditions(
 {
     let mut conditions = forms.conditions();
     while let Some(condition) = conditions.next() {
-        let place = u64::from(condition.place());
+        let place = condition.place();
         add_named(questions, place, condition.condition(), warnings)?;
     }
     Ok(())
@@ -106,7 +106,7 @@ fn add_of_rules(
 {
     let mut rules = forms.rules();
     while let Some(rule) = rules.next() {
-        let place = u64::from(rule.place());
+        let place = rule.place();
         add_named(questions, place, rule.expression(), warnings)?;
     }
     Ok(())
@@ -124,7 +124,7 @@ fn add_of_value(
     let Some(value) = default.value() else {
         return Ok(());
     };
-    let place = u64::from(default.place()) + default.op().op.len() as u64;
+    let place = default.place() + default.op().op.len() as u32;
     add_named(questions, place, value, warnings)
 }
 

@@ -1,16 +1,16 @@
 //! Bounds that nothing can meet.
 
-ghost use Rattle.std.specs.Prelude.{◌≡◌, ◌++◌, OnOk};
+ghost use Rattle.std.specs.Prelude.{◌≡◌, ◌++◌, IfOk, OnOk};
 ghost use Rattle.ifr_opcodes.specs.code.Ops.{bytes_of};
 ghost use Rattle.ifr_nodes.specs.Nodes.{nodes_of};
 ghost use Rattle.ifr_scopes.specs.code.Lists.{statement_node};
-ghost use Rattle.check_audit.specs.Warnings.{bounds_at, bounds_warnings, numeric_span, span_of};
+ghost use Rattle.check_audit.specs.Warnings.{bounds_warnings, crossed_of, crossed_spans, numeric_span, span_of};
 
 use crate::warning::{Oddity, Span, Warning};
 use hii_questions::shown;
 use ifr_opcodes::{Display, NumericOp};
 use ifr_scopes::{Forms, Statement, StatementKind};
-use std::alloc::AllocError;
+use std::alloc::{AllocError, Global};
 
 // The bounds of a number, as they are shown.
 fn numeric_span(op: NumericOp<'_>) -> Span
@@ -42,30 +42,38 @@ fn span_of(statement: Statement<'_>) -> Option<Span>
     }
 }
 
-// The warning of a statement whose bounds nothing can meet.
-fn bounds_at(statement: Statement<'_>) -> Option<Warning>
-    ensures { result ≡ bounds_at (statement_node statement.entry) }
+// The bounds of a statement, if nothing can meet them.
+fn crossed_of(statement: Statement<'_>) -> Option<Span>
+    ensures { result ≡ crossed_of (statement_node statement.entry) }
 {
     let span = span_of(statement)?;
     if span.maximum < span.minimum {
-        return Some(Warning {
-            place: u64::from(statement.place()),
-            oddity: Oddity::Bounds(span),
-        });
+        return Some(span);
     }
     None
 }
 
-/// Adds the questions whose bounds nothing can meet.
-pub(crate) fn add_bounds(forms: &Forms<'_>, warnings: &mut Vec<Warning>) -> Result<(), AllocError>
-    ensures { OnOk result (warnings.new.items
+/// Adds the questions whose bounds nothing can meet, each with its number among them, and tells these bounds.
+pub(crate) fn add_bounds(
+    alloc: Global,
+    forms: &Forms<'_>,
+    warnings: &mut Vec<Warning>,
+) -> Result<Vec<Span>, AllocError>
+    ensures spans { IfOk result (λ spans. spans.items ≡ crossed_spans (nodes_of forms.now)) }
+    ensures added { OnOk result (warnings.new.items
         ≡ warnings.old.items ++ bounds_warnings (nodes_of forms.now)) }
 {
+    let _accepted = forms.bytes();
+    let mut spans = Vec::new(alloc);
     let mut statements = forms.statements();
     while let Some(statement) = statements.next() {
-        if let Some(warning) = bounds_at(statement) {
-            warnings.push(warning)?;
+        if let Some(span) = crossed_of(statement) {
+            warnings.push(Warning {
+                place: statement.place(),
+                oddity: Oddity::Bounds(spans.len() as u32),
+            })?;
+            spans.push(span)?;
         }
     }
-    Ok(())
+    Ok(spans)
 }

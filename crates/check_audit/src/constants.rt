@@ -85,8 +85,8 @@ pub(crate) fn add_constants<'a>(
     while let Some(guard) = guards.next() {
         if is_constant(forms, guard) {
             warnings.push(Warning {
-                place: u64::from(guard.place()),
-                oddity: Oddity::Constant(settled.len()),
+                place: guard.place(),
+                oddity: Oddity::Constant(settled.len() as u32),
             })?;
             settled.push(settled_at(alloc, forms, guard)?)?;
         }

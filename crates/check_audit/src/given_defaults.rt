@@ -107,7 +107,7 @@ fn default_at(
     }
     let input = given(strings, question, default);
     Some(Warning {
-        place: u64::from(default.place()),
+        place: default.place(),
         oddity: Oddity::Default(Refused {
             class: default.op().id(),
             question: question.id(),

@@ -144,7 +144,7 @@ impl<'a> Lacks<'a> {
         let mut number = 0;
         for _ in self.all.as_slice() {
             warnings.push(Warning {
-                place: HEADER as u64,
+                place: HEADER as u32,
                 oddity: Oddity::Language(number),
             })?;
             number += 1;

@@ -5,7 +5,7 @@ ghost use Rattle.hii_bytes.specs.Watching.{Puts};
 ghost use Rattle.hii_packages.specs.code.Package.{package_of};
 ghost use Rattle.check_audit.specs.Lines.{form_set_members, form_set_words, good_line, good_object, good_told, head_line, head_object, head_told, others_told, package_told, refusal_told, verdict_told};
 ghost use Rattle.check_audit.specs.WarningLines.{warnings_told};
-ghost use Rattle.check_audit.specs.code.Settings.{HasConstants, setting_of};
+ghost use Rattle.check_audit.specs.code.Settings.{HasDetails, setting_of};
 ghost use Rattle.check_audit.specs.code.Settling.{settled_of};
 
 use crate::form_set::form_set_of;
@@ -28,7 +28,7 @@ pub(crate) fn put_package<W: Write>(
     verdict: &Verdict<'_>,
     out: &mut Watched<W>,
 )
-    requires { HasConstants source.bytes.now verdict.now }
+    requires { HasDetails source.bytes.now verdict.now }
     ensures { Puts W.contents out.old out.new
         (package_told (setting_of setting.entry) number (package_of source.entry) verdict.now) }
 {
@@ -43,7 +43,7 @@ fn put_verdict<W: Write>(
     verdict: &Verdict<'_>,
     out: &mut Watched<W>,
 )
-    requires { HasConstants ifr.now verdict.now }
+    requires { HasDetails ifr.now verdict.now }
     ensures { Puts W.contents out.old out.new
         (verdict_told (setting_of setting.entry) ifr.now verdict.now) }
 {
@@ -152,10 +152,11 @@ pub fn put_form_set_members<W: Write>(
 fn put_warned<W: Write>(setting: Setting<'_, '_>, good: &Good<'_>, out: &mut Watched<W>)
     ensures { Puts W.contents out.old out.new (good_told setting.entry.telling good.now.counts
         ++ warnings_told setting.entry.telling
-        record { settled = map settled_of good.now.settled.items; lacks = setting.entry.lacks.now }
+        record { spans = good.now.spans.items; settled = map settled_of good.now.settled.items; lacks = setting.entry.lacks.now }
         good.now.warnings.items) }
 {
     let details = Details {
+        spans: &good.spans,
         settled: &good.settled,
         lacks: setting.lacks,
     };

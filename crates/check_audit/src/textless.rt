@@ -2,6 +2,7 @@
 
 ghost use Rattle.std.specs.Prelude.{◌≡◌, ◌++◌, ◌≤◌, [], OnOk, drop, length};
 ghost use Rattle.std.specs.List.{cons_option, filter_map};
+ghost use Rattle.ifr_nodes.specs.Accepted.{IsAccepted};
 ghost use Rattle.opcode_audit.specs.Facts.{string_ids};
 ghost use Rattle.check_audit.specs.Warnings as spec;
 ghost use Rattle.check_audit.specs.Warnings.{textless_at, textless_warnings};
@@ -9,7 +10,6 @@ ghost use Rattle.check_audit.specs.code.Naming.{AddsFirsts};
 
 use crate::warning::{Oddity, Warning};
 use hii_bytes::NumberSet;
-use ifr_scopes::Forms;
 use opcode_audit::{FirstStrings, split_front, string_ids};
 use std::alloc::{AllocError, Global};
 
@@ -26,7 +26,7 @@ fn is_textless(strings: &FirstStrings<'_>, id: u16) -> bool
 // Adds a string id that an opcode at a place names, if it has no text and was not added before.
 fn add_id(
     strings: &FirstStrings<'_>,
-    place: u64,
+    place: u32,
     id: u16,
     named: &mut NumberSet,
     warnings: &mut Vec<Warning>,
@@ -46,7 +46,7 @@ fn add_id(
 // Adds those that an opcode at a place names.
 fn add_of_opcode(
     strings: &FirstStrings<'_>,
-    place: u64,
+    place: u32,
     opcode: &[u8],
     named: &mut NumberSet,
     warnings: &mut Vec<Warning>,
@@ -72,22 +72,23 @@ fn behind_header(bytes: &[u8]) -> &[u8]
     }
 }
 
-/// Adds the string ids that opcodes name and that have no text, each at the first opcode that names it.
+/// Adds the string ids that opcodes of a package name and that have no text, each at the first opcode that names it.
 pub(crate) fn add_textless(
     alloc: Global,
     strings: &FirstStrings<'_>,
-    forms: &Forms<'_>,
+    ifr: &[u8],
     warnings: &mut Vec<Warning>,
 ) -> Result<(), AllocError>
+    requires { IsAccepted ifr.now }
     ensures { OnOk result (warnings.new.items
-        ≡ warnings.old.items ++ textless_warnings strings.now forms.now) }
+        ≡ warnings.old.items ++ textless_warnings strings.now ifr.now) }
 {
     let mut named = NumberSet::new(alloc)?;
-    let mut rest = behind_header(forms.bytes());
-    let mut place = HEADER as u64;
+    let mut rest = behind_header(ifr);
+    let mut place = HEADER as u32;
     while let Some((opcode, behind)) = split_front(rest) {
         add_of_opcode(strings, place, opcode, &mut named, warnings)?;
-        place += opcode.len() as u64;
+        place += opcode.len() as u32;
         rest = behind;
     }
     Ok(())

@@ -43,7 +43,7 @@ fn unreached_at(named: &NumberSet, form: Form<'_>) -> Option<Warning>
         return None;
     }
     Some(Warning {
-        place: u64::from(form.place()),
+        place: form.place(),
         oddity: Oddity::Unreached(id),
     })
 }

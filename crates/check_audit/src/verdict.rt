@@ -8,13 +8,13 @@ ghost use Rattle.ifr_nodes.specs.Nodes.{is_form, is_store, nodes_of};
 ghost use Rattle.hii_varstore.specs.StoreNodes.{IsStoreFault, layout_of};
 ghost use Rattle.check_audit.specs.Verdicts.{IsRefusal, IsVerdict, counts_of, is_good};
 ghost use Rattle.check_audit.specs.Constants.{constants};
-ghost use Rattle.check_audit.specs.Warnings.{AreWarnings};
-ghost use Rattle.check_audit.specs.code.Settings.{HasConstants};
+ghost use Rattle.check_audit.specs.Warnings.{AreWarnings, crossed_spans};
+ghost use Rattle.check_audit.specs.code.Settings.{HasDetails};
 ghost use Rattle.check_audit.specs.code.Settling.{settled_of};
 
 use crate::constants::Settled;
 use crate::lacks::Lacks;
-use crate::warning::Warning;
+use crate::warning::{Span, Warning};
 use crate::warnings::warnings_of;
 use hii_bytes::{Cause, Fault};
 use hii_packages::Package;
@@ -39,6 +39,8 @@ pub(crate) struct Counts {
 pub(crate) struct Good<'a> {
     pub counts: Counts,
     pub warnings: Vec<Warning>,
+    /// The bounds that nothing can meet.
+    pub spans: Vec<Span>,
     /// The guards whose conditions name no question.
     pub settled: Vec<Settled<'a>>,
 }
@@ -106,10 +108,10 @@ impl<'a> Verdict<'a> {
         source: Package<'a>,
     ) -> Result<Verdict<'a>, AllocError>
         ensures found { IfOk result (IsVerdict strings.now lacks.now source.entry.bytes.now) }
-        ensures settled { IfOk result (HasConstants source.entry.bytes.now) }
+        ensures details { IfOk result (HasDetails source.entry.bytes.now) }
     {
         match Forms::read(alloc, source) {
-            Ok(forms) => Verdict::over_forms(alloc, strings, lacks, &forms),
+            Ok(forms) => Verdict::over_forms(alloc, strings, lacks, forms),
             Err(fault) if fault.cause == Cause::OutOfMemory => Err(AllocError),
             Err(fault) => Ok(Verdict::Refused(Refusal::by_nodes(alloc, source, fault)?)),
         }
@@ -120,17 +122,17 @@ impl<'a> Verdict<'a> {
         alloc: Global,
         strings: &FirstStrings<'_>,
         lacks: &Lacks<'_>,
-        forms: &Forms<'a>,
+        forms: Forms<'a>,
     ) -> Result<Verdict<'a>, AllocError>
-        requires { IsAccepted forms.now }
-        ensures found { IfOk result (IsVerdict strings.now lacks.now forms.now) }
-        ensures settled { IfOk result (HasConstants forms.now) }
+        requires { IsAccepted forms }
+        ensures found { IfOk result (IsVerdict strings.now lacks.now forms.entry) }
+        ensures details { IfOk result (HasDetails forms.entry) }
     {
-        match Layout::read(alloc, forms) {
+        match Layout::read(alloc, &forms) {
             Ok(layout) => Verdict::over_layout(alloc, strings, lacks, forms, &layout),
             Err(fault) if fault.cause == Cause::OutOfMemory => Err(AllocError),
             Err(_) => {
-                let faults = store_faults(alloc, forms)?;
+                let faults = store_faults(alloc, &forms)?;
                 Ok(Verdict::Refused(Refusal::of(faults)))
             }
         }
@@ -141,23 +143,23 @@ impl<'a> Verdict<'a> {
         alloc: Global,
         strings: &FirstStrings<'_>,
         lacks: &Lacks<'_>,
-        forms: &Forms<'a>,
+        forms: Forms<'a>,
         layout: &Layout<'a>,
     ) -> Result<Verdict<'a>, AllocError>
-        requires accepted { IsAccepted forms.now }
-        requires laid { layout.now ≡ layout_of (nodes_of forms.now) }
-        requires sound { HasNone (IsStoreFault (nodes_of forms.now)) }
-        ensures found { IfOk result (IsVerdict strings.now lacks.now forms.now) }
-        ensures settled { IfOk result (HasConstants forms.now) }
+        requires accepted { IsAccepted forms }
+        requires laid { layout.now ≡ layout_of (nodes_of forms) }
+        requires sound { HasNone (IsStoreFault (nodes_of forms)) }
+        ensures found { IfOk result (IsVerdict strings.now lacks.now forms.entry) }
+        ensures details { IfOk result (HasDetails forms.entry) }
     {
-        match Questions::read(alloc, forms, layout) {
+        match Questions::read(alloc, &forms, layout) {
             Ok(questions) => {
-                let good = good_of(alloc, strings, lacks, forms, &questions)?;
+                let good = good_of(alloc, strings, lacks, forms, questions)?;
                 Ok(Verdict::Good(good))
             }
             Err(fault) if fault.cause == Cause::OutOfMemory => Err(AllocError),
             Err(_) => {
-                let faults = question_faults(alloc, forms, layout)?;
+                let faults = question_faults(alloc, &forms, layout)?;
                 Ok(Verdict::Refused(Refusal::of(faults)))
             }
         }
@@ -179,19 +181,22 @@ fn good_of<'a>(
     alloc: Global,
     strings: &FirstStrings<'_>,
     lacks: &Lacks<'_>,
-    forms: &Forms<'a>,
-    questions: &Questions<'a>,
+    forms: Forms<'a>,
+    questions: Questions<'a>,
 ) -> Result<Good<'a>, AllocError>
-    requires accepted { IsAccepted forms.now }
-    requires same { questions.now.ifr ≡ forms.now }
-    ensures counted { IfOk result (λ good. good.counts ≡ counts_of forms.now) }
-    ensures warned { IfOk result (λ good. AreWarnings strings.now lacks.now forms.now good.warnings.items) }
-    ensures settled { IfOk result (λ good. map settled_of good.settled.items ≡ constants (nodes_of forms.now)) }
+    requires accepted { IsAccepted forms }
+    requires same { questions.ifr ≡ forms }
+    ensures counted { IfOk result (λ good. good.counts ≡ counts_of forms.entry) }
+    ensures warned { IfOk result (λ good. AreWarnings strings.now lacks.now forms.entry good.warnings.items) }
+    ensures spans { IfOk result (λ good. good.spans.items ≡ crossed_spans (nodes_of forms.entry)) }
+    ensures settled { IfOk result (λ good. map settled_of good.settled.items ≡ constants (nodes_of forms.entry)) }
 {
+    let counts = counts_of(&forms, &questions);
     let found = warnings_of(alloc, strings, lacks, forms, questions)?;
     Ok(Good {
-        counts: counts_of(forms, questions),
+        counts,
         warnings: found.warnings,
+        spans: found.spans,
         settled: found.settled,
     })
 }

@@ -42,10 +42,10 @@ pub(crate) struct Sharing {
 pub(crate) enum Oddity {
     /// A guard, condition, rule or value names a question that has no answer.
     Asks(Unanswered),
-    /// The least is above the greatest.
-    Bounds(Span),
+    /// The least is above the greatest, by its number among such bounds.
+    Bounds(u32),
     /// A guard whose condition names no question, by its number among those.
-    Constant(usize),
+    Constant(u32),
     /// A question does not take its default.
     Default(Refused),
     /// A string package lacks texts of the first one, by its number among those that do.
@@ -95,9 +95,12 @@ impl Oddity {
 /// What is strange at a place of the forms package.
 #[derive(Clone, Copy)]
 pub(crate) struct Warning {
-    pub place: u64,
+    pub place: u32,
     pub oddity: Oddity,
 }
+
+// A form set may have two for each of its statements.
+const _: () = prove!(size_of::<Warning>() == 12);
 
 impl Warning {
     /// A number that rises by place, then word, then id.

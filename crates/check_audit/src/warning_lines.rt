@@ -26,6 +26,8 @@ use std::io::Write;
 /// What warnings tell by a number.
 #[derive(Clone, Copy)]
 pub(crate) struct Details<'s, 'a> {
+    /// The bounds that nothing can meet.
+    pub spans: &'s [Span],
     /// The guards whose conditions name no question.
     pub settled: &'s [Settled<'a>],
     /// The string packages that lack texts of the first one.
@@ -75,12 +77,21 @@ fn put_asks<W: Write>(unanswered: Unanswered, out: &mut Watched<W>)
 }
 
 // Writes which bounds nothing can meet.
-fn put_bounds<W: Write>(span: Span, out: &mut Watched<W>)
-    ensures { Puts W.contents out.old out.new (bounds_text span) }
+fn put_span<W: Write>(span: Span, out: &mut Watched<W>)
+    ensures { Puts W.contents out.old out.new (bounds_text (Some span)) }
 {
     put_signed(span.minimum, out);
     out.put(b" is above ");
     put_signed(span.maximum, out);
+}
+
+// Writes which bounds of some nothing can meet.
+fn put_bounds<W: Write>(spans: &[Span], number: u32, out: &mut Watched<W>)
+    ensures { Puts W.contents out.old out.new (bounds_text (slice_get spans.now number)) }
+{
+    if let Some(span) = spans.get(number as usize) {
+        put_span(*span, out);
+    }
 }
 
 // Whether a condition holds.
@@ -104,10 +115,10 @@ fn put_settled<W: Write>(settled: &Settled<'_>, out: &mut Watched<W>)
 }
 
 // Writes which condition of some names no question.
-fn put_constant<W: Write>(settled: &[Settled<'_>], number: usize, out: &mut Watched<W>)
+fn put_constant<W: Write>(settled: &[Settled<'_>], number: u32, out: &mut Watched<W>)
     ensures { Puts W.contents out.old out.new (constant_text (slice_get (map settled_of settled.now) number)) }
 {
-    if let Some(one) = settled.get(number) {
+    if let Some(one) = settled.get(number as usize) {
         put_settled(one, out);
     }
 }
@@ -187,7 +198,7 @@ fn put_oddity<W: Write>(details: Details<'_, '_>, oddity: Oddity, out: &mut Watc
 {
     match oddity {
         Oddity::Asks(unanswered) => put_asks(unanswered, out),
-        Oddity::Bounds(span) => put_bounds(span, out),
+        Oddity::Bounds(number) => put_bounds(details.spans, number, out),
         Oddity::Constant(number) => put_constant(details.settled, number, out),
         Oddity::Default(refused) => put_default(refused, out),
         Oddity::Language(number) => put_lack_with(details.lacks, number, out),
@@ -202,7 +213,7 @@ fn put_line<W: Write>(details: Details<'_, '_>, warning: Warning, out: &mut Watc
     ensures { Puts W.contents out.old out.new (warning_line (details_of details.entry) warning) }
 {
     out.put(b"WARN ");
-    out.put_place(warning.place);
+    out.put_place(u64::from(warning.place));
     out.put(b" ");
     out.put(word_of(warning.oddity));
     out.put(b" ");
@@ -219,11 +230,20 @@ fn put_signed_member<W: Write>(key: &[u8], number: i128, out: &mut Watched<W>)
 }
 
 // Writes the members that tell bounds.
-fn put_bounds_members<W: Write>(span: Span, out: &mut Watched<W>)
-    ensures { Puts W.contents out.old out.new (bounds_members span) }
+fn put_span_members<W: Write>(span: Span, out: &mut Watched<W>)
+    ensures { Puts W.contents out.old out.new (bounds_members (Some span)) }
 {
     put_signed_member(b"minimum", span.minimum, out);
     put_signed_member(b"maximum", span.maximum, out);
+}
+
+// Writes the members that tell which bounds of some nothing can meet.
+fn put_bounds_members<W: Write>(spans: &[Span], number: u32, out: &mut Watched<W>)
+    ensures { Puts W.contents out.old out.new (bounds_members (slice_get spans.now number)) }
+{
+    if let Some(span) = spans.get(number as usize) {
+        put_span_members(*span, out);
+    }
 }
 
 // Writes that a condition holds.
@@ -254,10 +274,10 @@ fn put_settled_members<W: Write>(settled: &Settled<'_>, out: &mut Watched<W>)
 }
 
 // Writes the members that tell which condition of some names no question.
-fn put_constant_members<W: Write>(settled: &[Settled<'_>], number: usize, out: &mut Watched<W>)
+fn put_constant_members<W: Write>(settled: &[Settled<'_>], number: u32, out: &mut Watched<W>)
     ensures { Puts W.contents out.old out.new (constant_members (slice_get (map settled_of settled.now) number)) }
 {
-    if let Some(one) = settled.get(number) {
+    if let Some(one) = settled.get(number as usize) {
         put_settled_members(one, out);
     }
 }
@@ -303,7 +323,7 @@ fn put_members<W: Write>(details: Details<'_, '_>, oddity: Oddity, out: &mut Wat
 {
     match oddity {
         Oddity::Asks(unanswered) => put_number(b"id", u64::from(unanswered.question), out),
-        Oddity::Bounds(span) => put_bounds_members(span, out),
+        Oddity::Bounds(number) => put_bounds_members(details.spans, number, out),
         Oddity::Constant(number) => put_constant_members(details.settled, number, out),
         Oddity::Default(refused) => put_default_members(refused, out),
         Oddity::Language(number) => put_members_with(details.lacks, number, out),
@@ -318,7 +338,7 @@ fn put_object<W: Write>(details: Details<'_, '_>, warning: Warning, out: &mut Wa
     ensures { Puts W.contents out.old out.new (warning_object (details_of details.entry) warning) }
 {
     put_kind(b"warning", out);
-    put_number(b"at", warning.place, out);
+    put_number(b"at", u64::from(warning.place), out);
     put_word(b"word", word_of(warning.oddity), out);
     put_members(details, warning.oddity, out);
     end_object(out);

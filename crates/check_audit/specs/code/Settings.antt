@@ -4,6 +4,7 @@ use Rattle.ifr_nodes.specs.Nodes.{nodes_of}
 use Rattle.check_audit.specs.Checks as checks
 use Rattle.check_audit.specs.Constants.{constants}
 use Rattle.check_audit.specs.Lines as lines
+use Rattle.check_audit.specs.Warnings.{crossed_spans}
 use Rattle.check_audit.specs.code.Settling.{settled_of}
 use Rattle.check_audit.specs.declared.check.Told.{Told}
 use Rattle.check_audit.specs.declared.setting.Setting.{Setting}
@@ -16,7 +17,8 @@ setting_of s = record { telling = s.telling; spoken = s.strings.now; lacks = s.l
 abbrev pub told_in : Told → checks.Told
 told_in t = record { telling = t.telling; spoken = t.strings.now; lacks = t.lacks.now; start = t.start }
 
--- where a forms package is good, the guards that are told are its own
-abbrev pub HasConstants : List ℕ → Verdict → Type 0
-HasConstants ifr (Good good) = map settled_of good.settled.items ≡ constants (nodes_of ifr)
-HasConstants ifr (Refused refusal) = ⊤
+-- where a forms package is good, the bounds and the guards that are told are its own
+abbrev pub HasDetails : List ℕ → Verdict → Type 0
+HasDetails ifr (Good good) =
+    (good.spans.items ≡ crossed_spans (nodes_of ifr)) × (map settled_of good.settled.items ≡ constants (nodes_of ifr))
+HasDetails ifr (Refused refusal) = ⊤

@@ -6,8 +6,8 @@ use Rattle.check_audit.proofs.textless.add_textless.Given as goal
 -- with those of the opcodes that are left all are added
 abbrev pub invariant-loop-opcode : goal.invariant-loop-opcode
 invariant-loop-opcode l = record {
-  names : Names l.fn.strings l.named l.warnings.items (l.fn.warnings.items ++ textless_warnings l.fn.strings l.fn.forms) l.place l.rest;
-  within : l.place + length l.rest ≤ length l.fn.forms + 4;
+  names : Names l.fn.strings l.named l.warnings.items (l.fn.warnings.items ++ textless_warnings l.fn.strings l.fn.ifr) l.place l.rest;
+  within : l.place + length l.rest ≤ length l.fn.ifr;
 }
 
 abbrev pub decreases-loop-opcode : goal.decreases-loop-opcode

@@ -9,15 +9,15 @@ use Rattle.check_audit.proofs.verdict.Verdict.over_forms.Goals as goal
 use Rattle.check_audit.proofs.verdict.Verdict.over_forms.Goals.{In-Err-2}
 
 -- the least fault of the stores
-least : (c : In-Err-2) → IsLeast (IsStoreFault (nodes_of c.args.forms.now)) c.in-Err-2.field-0
+least : (c : In-Err-2) → IsLeast (IsStoreFault (nodes_of c.args.forms)) c.in-Err-2.field-0
 least c =
     let other : c.in-Err-2.field-0.cause ≡ OutOfMemory → ⊥ = search rules in
-    least_of (IsStoreFault (nodes_of c.args.forms.now)) c.in-Err-2.field-0 c.in-Err-2.ensures.refused other
+    least_of (IsStoreFault (nodes_of c.args.forms)) c.in-Err-2.field-0 c.in-Err-2.ensures.refused other
 
 pub of-requires : goal.of-requires
-of-requires c = some_told (IsStoreFault (nodes_of c.args.forms.now)) _ _ _ c.in_ok-faults-in-Err-2.ensures (least (goal.at.of-requires c).In-Err-2).told
+of-requires c = some_told (IsStoreFault (nodes_of c.args.forms)) _ _ _ c.in_ok-faults-in-Err-2.ensures (least (goal.at.of-requires c).In-Err-2).told
 
-pub returns-in_ok-faults-in-Err-2-clause-found : goal.returns-in_ok-faults-in-Err-2-clause-found
-returns-in_ok-faults-in-Err-2-clause-found c =
-    told_all c.args.forms.now c.of.result _ c.requires.checked
-    (all_stores c.args.forms.now _ _ _ c.requires (least (goal.at.returns-in_ok-faults-in-Err-2-clause-found c).In-Err-2).told c.in_ok-faults-in-Err-2.ensures) c.of.ensures
+pub returns-clause-found : goal.returns-clause-found
+returns-clause-found c =
+    told_all c.args.forms c.of.result _ c.requires.checked
+    (all_stores c.args.forms _ _ _ c.requires (least (goal.at.returns-clause-found c).In-Err-2).told c.in_ok-faults-in-Err-2.ensures) c.of.ensures

@@ -9,17 +9,17 @@ use Rattle.check_audit.proofs.verdict.Verdict.over_layout.Goals as goal
 use Rattle.check_audit.proofs.verdict.Verdict.over_layout.Goals.{In-Err-2}
 
 -- the least fault of the questions
-least : (c : In-Err-2) → IsLeast (IsQuestionFault (nodes_of c.args.forms.now)) c.in-Err-2.field-0
+least : (c : In-Err-2) → IsLeast (IsQuestionFault (nodes_of c.args.forms)) c.in-Err-2.field-0
 least c =
     let other : c.in-Err-2.field-0.cause ≡ OutOfMemory → ⊥ = search rules in
-    least_of (IsQuestionFault (nodes_of c.args.forms.now)) c.in-Err-2.field-0 c.in-Err-2.ensures.refused other
+    least_of (IsQuestionFault (nodes_of c.args.forms)) c.in-Err-2.field-0 c.in-Err-2.ensures.refused other
 
 pub of-requires : goal.of-requires
-of-requires c = some_told (IsQuestionFault (nodes_of c.args.forms.now)) _ _ _ c.in_ok-faults-in-Err-2.ensures (least (goal.at.of-requires c).In-Err-2).told
+of-requires c = some_told (IsQuestionFault (nodes_of c.args.forms)) _ _ _ c.in_ok-faults-in-Err-2.ensures (least (goal.at.of-requires c).In-Err-2).told
 
-pub returns-in_ok-faults-in-Err-2-clause-found : goal.returns-in_ok-faults-in-Err-2-clause-found
-returns-in_ok-faults-in-Err-2-clause-found c =
-    told_all c.args.forms.now c.of.result _ c.requires.accepted.checked (all_questions c.args.forms.now _ c.requires.accepted c.requires.sound c.in_ok-faults-in-Err-2.ensures) c.of.ensures
+pub returns-clause-found : goal.returns-clause-found
+returns-clause-found c =
+    told_all c.args.forms c.of.result _ c.requires.accepted.checked (all_questions c.args.forms _ c.requires.accepted c.requires.sound c.in_ok-faults-in-Err-2.ensures) c.of.ensures
 
-pub returns-in_ok-good-in-Ok-clause-found : goal.returns-in_ok-good-in-Ok-clause-found
-returns-in_ok-good-in-Ok-clause-found c = (browsable_no_fault c.args.forms.now (record { accepted = c.requires.accepted; stores = c.requires.sound; questions = c.in-Ok.ensures.sound }), c.in_ok-good-in-Ok.ensures.counted, c.in_ok-good-in-Ok.ensures.warned)
+pub returns-in-Ok-clause-found : goal.returns-in-Ok-clause-found
+returns-in-Ok-clause-found c = (browsable_no_fault c.args.forms (record { accepted = c.requires.accepted; stores = c.requires.sound; questions = c.in-Ok.ensures.sound }), c.in_ok-good-in-Ok.ensures.counted, c.in_ok-good-in-Ok.ensures.warned)

@@ -1,7 +1,7 @@
 use Rattle.std.proofs.Common.{rules}
 use Rattle.std.proofs.lemmas.Int.{to_z-of_z}
 use Rattle.hii_bytes.proofs.WritingLemmas.{◌⨾◌}
-use Rattle.check_audit.proofs.warning_lines.put_bounds_members.Goals as goal
+use Rattle.check_audit.proofs.warning_lines.put_span_members.Goals as goal
 use mir.Syntax.{w128}
 use mir.Val.{SFits}
 

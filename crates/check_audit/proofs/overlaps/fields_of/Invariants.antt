@@ -4,7 +4,7 @@ use Rattle.ifr_nodes.specs.Nodes.{nodes_of}
 use Rattle.hii_questions.specs.Fields.{questions}
 use Rattle.hii_questions.specs.code.Lists.{questions_left}
 use Rattle.check_audit.specs.Overlaps.{laid_of}
-use Rattle.check_audit.proofs.overlaps.laid_fields.Given as goal
+use Rattle.check_audit.proofs.overlaps.fields_of.Given as goal
 
 -- with those of the questions that are left all fields are kept
 abbrev pub invariant-loop-question : goal.invariant-loop-question
