@@ -1,6 +1,6 @@
 //! Answers, and the file that is written behind them.
 
-ghost use Rattle.std.specs.Prelude.{◌≡◌, ◌≢◌, false, true, IfErr};
+ghost use Rattle.std.specs.Prelude.{◌≡◌, ◌≢◌, ◌⊎◌, false, true, IfErr};
 ghost use Rattle.hii_bytes.specs.Watching.{Puts, has_failed};
 ghost use Rattle.audit_answers.specs.Endings.{refused_at_told, refused_told, status_of};
 ghost use Rattle.audit_answers.specs.code.Endings.{Commits, Passes, RefusesBy};
@@ -20,12 +20,13 @@ pub type Answers<A> = Watched<BufWriter<A>>;
 /// Standard output, which keeps the reason for which a write fails.
 pub type Output<'a, R> = Noted<Printer<'a, R>>;
 
-/// Answers on standard output, or the status of a run that has no memory for them.
+/// Answers on standard output, or the status of a run that has no memory for them, or where that could not be told.
 pub fn answers<R: Print + Eprint + AllocGlobal>(
     rt: &R,
     terminals: Terminals,
 ) -> Result<Answers<Output<'_, R>>, Status>
-    ensures { IfErr result (λ status. status ≢ Status.Done) }
+    ensures memory { IfErr result (λ status. (status ≡ Status.NoMemory) ⊎ (status ≡ Status.Fault)) }
+    ensures refused { IfErr result (λ status. status ≢ Status.Done) }
 {
     match BufWriter::new(rt.alloc(), Noted::new(io::writer(rt))) {
         Ok(writer) => Ok(Watched::new(writer)),
