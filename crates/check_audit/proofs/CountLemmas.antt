@@ -54,13 +54,12 @@ few_spans bytes front rest checked same =
     let nodes = few_nodes bytes checked in
     omega (arith, all, some, nodes)
 
-pub few_constants : {X : Type 0} (bytes : List ℕ) (items : List X) (rest : List Settled) (of : X → Settled) → IsChecked bytes → map of items ++ rest ≡ constants (nodes_of bytes) → length items < 2 ^ 32
-few_constants bytes items rest of checked same =
+pub few_constants : (bytes : List ℕ) (front rest : List Settled) → IsChecked bytes → front ++ rest ≡ constants (nodes_of bytes) → length front < 2 ^ 32
+few_constants bytes front rest checked same =
     let ns = nodes_of bytes in
     let found = filter (is_constant ns) (guards_among ns) in
-    let all = few_first (map of items) rest (constants ns) (length found) same (omega (arith, length-map found (settled_at ns))) in
-    let told = length-map items of in
+    let all = few_first front rest (constants ns) (length found) same (omega (arith, length-map found (settled_at ns))) in
     let guards = few_of (is_constant ns) (guards_among ns) in
     let some = few_of (λ (n : Node). is_guard (number n.op)) ns in
     let nodes = few_nodes bytes checked in
-    omega (arith, all, told, guards, some, nodes)
+    omega (arith, all, guards, some, nodes)

@@ -4,6 +4,7 @@ mod LackLemmas
 mod RefusalLemmas
 mod SeenLemmas
 mod SessionLemmas
+mod SettledLemmas
 mod TextlessLemmas
 mod WarningCases
 mod WarningLemmas

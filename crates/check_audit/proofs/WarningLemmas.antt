@@ -26,14 +26,6 @@ all_added w0 w1 w2 w3 n a b c e0 e1 e2 e3 =
     let two : w2 ≡ n ++ a ++ b = e2 ∙ ap (λ (l : List Warning). l ++ b) one in
     e3 ∙ ap (λ (l : List Warning). l ++ c) two
 
--- one more guard whose condition names no question: the first of those that are left
-pub constant_told : {S T : Type 0} (of : S → T) (old new : List S) (s : S) (front : T) (after all : List T) → new ≡ old ++ s ∷ [] → of s ≡ front → map of old ++ front ∷ after ≡ all → map of new ++ after ≡ all
-constant_told of old new s front after all pushed is so =
-    ap (λ l. map of l ++ after) pushed ∙ ap (λ l. l ++ after) (map-append of old (s ∷ [])) ∙ append_assoc (map of old) (of s ∷ []) after ∙ ap (λ t. map of old ++ t ∷ after) is ∙ so
-
-pub constant_added : (old new : List Warning) (w : Warning) (after all : List Warning) → new ≡ old ++ w ∷ [] → old ++ w ∷ after ≡ all → new ++ after ≡ all
-constant_added old new w after all pushed so = ap (λ (l : List Warning). l ++ after) pushed ∙ append_assoc old (w ∷ []) after ∙ so
-
 -- what is left behind the first
 pub behind_first : (first : Option Form) (old new : List Node) → MatchOption first ((old ≡ []) × (new ≡ [])) (λ form. old ≡ form_node form ∷ new) → new ≡ drop 1 old
 behind_first None old new (none, nothing) = nothing ∙ sym (ap (drop 1) none)

@@ -1,25 +1,21 @@
 //! Guards whose conditions name no question.
 
-ghost use Rattle.std.specs.Prelude.{◌≡◌, ◌++◌, IfOk, OnOk, map};
+ghost use Rattle.std.specs.Prelude.{◌≡◌, ◌++◌, IfOk, OnOk};
+ghost use Rattle.ifr_expr.specs.code.Expressions.{tree_of};
 ghost use Rattle.ifr_nodes.specs.Nodes.{nodes_of};
 ghost use Rattle.ifr_scopes.specs.code.Lists.{guard_node};
-ghost use Rattle.check_audit.specs.Constants.{constant_warnings, constants, holds_always, is_constant, settled_at, unasked};
-ghost use Rattle.check_audit.specs.code.Settling.{settled_of};
+ghost use Rattle.condition_text.specs.Senses.{sense};
+ghost use Rattle.condition_text.specs.Texts.{text};
+ghost use Rattle.check_audit.specs.Constants.{constant_warnings, constants, holds_always, is_constant, unasked};
+ghost use Rattle.check_audit.specs.code.Settling.{constants_of};
 
+use crate::settled::{Constants, SettledEntry};
 use crate::warning::{Oddity, Warning};
 use condition_text::ConditionText;
-use ifr_expr::{Answers, Value};
+use hii_bytes::Watched;
+use ifr_expr::{Answers, Expr, Value};
 use ifr_scopes::{Forms, Guard};
 use std::alloc::{AllocError, Global};
-
-/// A guard whose condition names no question.
-#[derive(Drop)]
-pub(crate) struct Settled<'a> {
-    /// The number of its opcode.
-    pub code: u8,
-    pub holds: bool,
-    pub condition: ConditionText<'a>,
-}
 
 // What no question answers.
 struct Unasked {}
@@ -53,20 +49,17 @@ fn holds_always<'a>(forms: &Forms<'a>, guard: Guard<'a>) -> bool
     guard.condition().holds(&Unasked {}, forms, guard.this())
 }
 
-// What is told of a guard whose condition names no question.
-fn settled_at<'a>(
-    alloc: Global,
-    forms: &Forms<'a>,
-    guard: Guard<'a>,
-) -> Result<Settled<'a>, AllocError>
-    ensures { IfOk result (λ settled. settled_of settled
-        ≡ settled_at (nodes_of forms.now) (guard_node guard.entry)) }
+// Adds what an expression says.
+fn add_words(alloc: Global, expression: Expr<'_>, words: &mut Vec<u8>) -> Result<(), AllocError>
+    ensures { OnOk result (words.new.items ≡ words.old.items ++ text (sense (tree_of expression.entry))) }
 {
-    Ok(Settled {
-        code: guard.code(),
-        holds: holds_always(forms, guard),
-        condition: ConditionText::of(alloc, guard.condition())?,
-    })
+    let said = ConditionText::of(alloc, expression)?;
+    let mut buffer = Watched::new(Vec::new(alloc));
+    said.put(&mut buffer);
+    if buffer.failed() {
+        return Err(AllocError);
+    }
+    words.extend_from_slice(&buffer.into_inner())
 }
 
 /// Adds the guards of a form set whose conditions name no question, in the rules that they name neither, each with its number among
@@ -75,21 +68,27 @@ pub(crate) fn add_constants<'a>(
     alloc: Global,
     forms: &Forms<'a>,
     warnings: &mut Vec<Warning>,
-) -> Result<Vec<Settled<'a>>, AllocError>
-    ensures settled { IfOk result (λ settled. map settled_of settled.items ≡ constants (nodes_of forms.now)) }
+) -> Result<Constants, AllocError>
+    ensures settled { IfOk result (λ settled. constants_of settled ≡ constants (nodes_of forms.now)) }
     ensures added { OnOk result (warnings.new.items
         ≡ warnings.old.items ++ constant_warnings (nodes_of forms.now)) }
 {
-    let mut settled = Vec::new(alloc);
+    let mut entries = Vec::new(alloc);
+    let mut words = Vec::new(alloc);
     let mut guards = forms.guards();
     while let Some(guard) = guards.next() {
         if is_constant(forms, guard) {
             warnings.push(Warning {
                 place: guard.place(),
-                oddity: Oddity::Constant(settled.len() as u32),
+                oddity: Oddity::Constant(entries.len() as u32),
             })?;
-            settled.push(settled_at(alloc, forms, guard)?)?;
+            add_words(alloc, guard.condition(), &mut words)?;
+            entries.push(SettledEntry {
+                code: guard.code(),
+                holds: holds_always(forms, guard),
+                end: words.len(),
+            })?;
         }
     }
-    Ok(settled)
+    Ok(Constants { entries, words })
 }

@@ -16,6 +16,7 @@ mod overlaps;
 mod package_lines;
 mod refusal;
 mod setting;
+mod settled;
 mod textless;
 mod unreached;
 mod verdict;

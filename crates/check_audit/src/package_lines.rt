@@ -1,12 +1,12 @@
 //! What is told of a forms package.
 
-ghost use Rattle.std.specs.Prelude.{◌++◌, map};
+ghost use Rattle.std.specs.Prelude.{◌++◌};
 ghost use Rattle.hii_bytes.specs.Watching.{Puts};
 ghost use Rattle.hii_packages.specs.code.Package.{package_of};
 ghost use Rattle.check_audit.specs.Lines.{form_set_members, form_set_words, good_line, good_object, good_told, head_line, head_object, head_told, others_told, package_told, refusal_told, verdict_told};
 ghost use Rattle.check_audit.specs.WarningLines.{warnings_told};
 ghost use Rattle.check_audit.specs.code.Settings.{HasDetails, setting_of};
-ghost use Rattle.check_audit.specs.code.Settling.{settled_of};
+ghost use Rattle.check_audit.specs.code.Settling.{constants_of};
 
 use crate::form_set::form_set_of;
 use crate::refusal::{put_others, put_refusal};
@@ -25,7 +25,7 @@ pub(crate) fn put_package<W: Write>(
     setting: Setting<'_, '_>,
     number: u64,
     source: Package<'_>,
-    verdict: &Verdict<'_>,
+    verdict: &Verdict,
     out: &mut Watched<W>,
 )
     requires { HasDetails source.bytes.now verdict.now }
@@ -40,7 +40,7 @@ pub(crate) fn put_package<W: Write>(
 fn put_verdict<W: Write>(
     setting: Setting<'_, '_>,
     ifr: &[u8],
-    verdict: &Verdict<'_>,
+    verdict: &Verdict,
     out: &mut Watched<W>,
 )
     requires { HasDetails ifr.now verdict.now }
@@ -149,10 +149,10 @@ pub fn put_form_set_members<W: Write>(
 }
 
 // Tells that a forms package is good, and what is strange of it.
-fn put_warned<W: Write>(setting: Setting<'_, '_>, good: &Good<'_>, out: &mut Watched<W>)
+fn put_warned<W: Write>(setting: Setting<'_, '_>, good: &Good, out: &mut Watched<W>)
     ensures { Puts W.contents out.old out.new (good_told setting.entry.telling good.now.counts
         ++ warnings_told setting.entry.telling
-        record { spans = good.now.spans.items; settled = map settled_of good.now.settled.items; lacks = setting.entry.lacks.now }
+        record { spans = good.now.spans.items; settled = constants_of good.now.settled; lacks = setting.entry.lacks.now }
         good.now.warnings.items) }
 {
     let details = Details {

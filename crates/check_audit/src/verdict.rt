@@ -1,6 +1,6 @@
 //! Whether a forms package can be opened.
 
-ghost use Rattle.std.specs.Prelude.{◌≡◌, ◌∷◌, ◌<◌, true, false, IfOk, filter, length, map};
+ghost use Rattle.std.specs.Prelude.{◌≡◌, ◌∷◌, ◌<◌, true, false, IfOk, filter, length};
 ghost use Rattle.hii_bytes.specs.Faults.{HasNone, IsLeast};
 ghost use Rattle.ifr_nodes.specs.Accepted.{IsAccepted, IsPackageFault};
 ghost use Rattle.ifr_nodes.specs.Checked.{IsChecked};
@@ -10,10 +10,10 @@ ghost use Rattle.check_audit.specs.Verdicts.{IsRefusal, IsVerdict, counts_of, is
 ghost use Rattle.check_audit.specs.Constants.{constants};
 ghost use Rattle.check_audit.specs.Warnings.{AreWarnings, crossed_spans};
 ghost use Rattle.check_audit.specs.code.Settings.{HasDetails};
-ghost use Rattle.check_audit.specs.code.Settling.{settled_of};
+ghost use Rattle.check_audit.specs.code.Settling.{constants_of};
 
-use crate::constants::Settled;
 use crate::lacks::Lacks;
+use crate::settled::Constants;
 use crate::warning::{Span, Warning};
 use crate::warnings::warnings_of;
 use hii_bytes::{Cause, Fault};
@@ -36,13 +36,13 @@ pub(crate) struct Counts {
 
 /// What is told of a forms package that has no fault.
 #[derive(Drop)]
-pub(crate) struct Good<'a> {
+pub(crate) struct Good {
     pub counts: Counts,
     pub warnings: Vec<Warning>,
     /// The bounds that nothing can meet.
     pub spans: Vec<Span>,
     /// The guards whose conditions name no question.
-    pub settled: Vec<Settled<'a>>,
+    pub settled: Constants,
 }
 
 /// By which fault a forms package is refused.
@@ -91,22 +91,22 @@ fn is_checked(source: Package<'_>) -> bool
 
 /// What is found of a forms package.
 #[derive(Drop)]
-pub(crate) enum Verdict<'a> {
+pub(crate) enum Verdict {
     /// It has no fault.
-    Good(Good<'a>),
+    Good(Good),
     /// Its least fault, and others.
     Refused(Refusal),
 }
 
-impl<'a> Verdict<'a> {
+impl Verdict {
     /// What is found of a forms package, where the first string package says this, and further ones lack this. The one error is
     /// that an allocation failed.
     pub(crate) fn of(
         alloc: Global,
         strings: &FirstStrings<'_>,
         lacks: &Lacks<'_>,
-        source: Package<'a>,
-    ) -> Result<Verdict<'a>, AllocError>
+        source: Package<'_>,
+    ) -> Result<Verdict, AllocError>
         ensures found { IfOk result (IsVerdict strings.now lacks.now source.entry.bytes.now) }
         ensures details { IfOk result (HasDetails source.entry.bytes.now) }
     {
@@ -122,8 +122,8 @@ impl<'a> Verdict<'a> {
         alloc: Global,
         strings: &FirstStrings<'_>,
         lacks: &Lacks<'_>,
-        forms: Forms<'a>,
-    ) -> Result<Verdict<'a>, AllocError>
+        forms: Forms<'_>,
+    ) -> Result<Verdict, AllocError>
         requires { IsAccepted forms }
         ensures found { IfOk result (IsVerdict strings.now lacks.now forms.entry) }
         ensures details { IfOk result (HasDetails forms.entry) }
@@ -139,13 +139,13 @@ impl<'a> Verdict<'a> {
     }
 
     // The same of one whose stores have none either.
-    fn over_layout(
+    fn over_layout<'a>(
         alloc: Global,
         strings: &FirstStrings<'_>,
         lacks: &Lacks<'_>,
         forms: Forms<'a>,
         layout: &Layout<'a>,
-    ) -> Result<Verdict<'a>, AllocError>
+    ) -> Result<Verdict, AllocError>
         requires accepted { IsAccepted forms }
         requires laid { layout.now ≡ layout_of (nodes_of forms) }
         requires sound { HasNone (IsStoreFault (nodes_of forms)) }
@@ -183,13 +183,13 @@ fn good_of<'a>(
     lacks: &Lacks<'_>,
     forms: Forms<'a>,
     questions: Questions<'a>,
-) -> Result<Good<'a>, AllocError>
+) -> Result<Good, AllocError>
     requires accepted { IsAccepted forms }
     requires same { questions.ifr ≡ forms }
     ensures counted { IfOk result (λ good. good.counts ≡ counts_of forms.entry) }
     ensures warned { IfOk result (λ good. AreWarnings strings.now lacks.now forms.entry good.warnings.items) }
     ensures spans { IfOk result (λ good. good.spans.items ≡ crossed_spans (nodes_of forms.entry)) }
-    ensures settled { IfOk result (λ good. map settled_of good.settled.items ≡ constants (nodes_of forms.entry)) }
+    ensures settled { IfOk result (λ good. constants_of good.settled ≡ constants (nodes_of forms.entry)) }
 {
     let counts = counts_of(&forms, &questions);
     let found = warnings_of(alloc, strings, lacks, forms, questions)?;

@@ -1,23 +1,21 @@
 //! How warnings are told.
 
-ghost use Rattle.std.specs.Prelude.{◌≡◌, Some, map, slice_get};
+ghost use Rattle.std.specs.Prelude.{◌≡◌, Some, slice_get};
 ghost use Rattle.std.specs.Fmt.{signed_decimal};
 ghost use Rattle.hii_bytes.specs.Watching.{Puts};
-ghost use Rattle.condition_text.specs.code.Conditions.{words_of};
 ghost use Rattle.audit_json.specs.Objects.{member, quoted};
 ghost use Rattle.check_audit.specs.WarningLines.{asks_text, bounds_members, bounds_text, comes_again, constant_members, constant_text, default_members, default_text, denial_word, holds_member, lack_members, lack_of, lack_text, oddity_members, oddity_text, overlap_members, overlap_text, textless_text, unlike_told, unreached_text, verdict_word, warning_line, warning_object, warning_told, warnings_told, word_of};
 ghost use Rattle.check_audit.specs.code.Detailing.{details_of};
 ghost use Rattle.check_audit.specs.code.Lacking.{lack_seen};
-ghost use Rattle.check_audit.specs.code.Settling.{settled_of};
+ghost use Rattle.check_audit.specs.code.Settling.{constants_of, settled_of};
 
-use crate::constants::Settled;
 use crate::lacks::{Lack, Lacks};
+use crate::settled::{Constants, Settled};
 use crate::warning::{Oddity, Refused, Sharing, Span, Unanswered, Warning};
 use audit_json::{
     Telling, end_object, put_kind, put_member, put_number, put_string, put_true, put_word,
 };
 use audit_text::{opcode_name, put_language};
-use condition_text::ConditionText;
 use hii_bytes::Watched;
 use hii_questions::DenialKind;
 use itoa::Buffer;
@@ -29,7 +27,7 @@ pub(crate) struct Details<'s, 'a> {
     /// The bounds that nothing can meet.
     pub spans: &'s [Span],
     /// The guards whose conditions name no question.
-    pub settled: &'s [Settled<'a>],
+    pub settled: &'s Constants,
     /// The string packages that lack texts of the first one.
     pub lacks: &'s Lacks<'a>,
 }
@@ -106,19 +104,19 @@ fn verdict_word(holds: bool) -> &'static [u8]
 }
 
 // Writes which condition names no question.
-fn put_settled<W: Write>(settled: &Settled<'_>, out: &mut Watched<W>)
-    ensures { Puts W.contents out.old out.new (constant_text (Some (settled_of settled.now))) }
+fn put_settled<W: Write>(settled: Settled<'_>, out: &mut Watched<W>)
+    ensures { Puts W.contents out.old out.new (constant_text (Some (settled_of settled.entry))) }
 {
     out.put(opcode_name(settled.code));
     out.put(verdict_word(settled.holds));
-    settled.condition.put(out);
+    out.put(settled.words);
 }
 
 // Writes which condition of some names no question.
-fn put_constant<W: Write>(settled: &[Settled<'_>], number: u32, out: &mut Watched<W>)
-    ensures { Puts W.contents out.old out.new (constant_text (slice_get (map settled_of settled.now) number)) }
+fn put_constant<W: Write>(settled: &Constants, number: u32, out: &mut Watched<W>)
+    ensures { Puts W.contents out.old out.new (constant_text (slice_get (constants_of settled.now) number)) }
 {
-    if let Some(one) = settled.get(number as usize) {
+    if let Some(one) = settled.get(number) {
         put_settled(one, out);
     }
 }
@@ -256,28 +254,28 @@ fn put_holds<W: Write>(holds: bool, out: &mut Watched<W>)
 }
 
 // Writes a condition in words, in quotes.
-fn put_quoted_words<W: Write>(condition: &ConditionText<'_>, out: &mut Watched<W>)
-    ensures { Puts W.contents out.old out.new (quoted (words_of condition.now)) }
+fn put_quoted_words<W: Write>(words: &[u8], out: &mut Watched<W>)
+    ensures { Puts W.contents out.old out.new (quoted words.now) }
 {
     out.put(b"\"");
-    condition.put(out);
+    out.put(words);
     out.put(b"\"");
 }
 
 // Writes the members that tell which condition names no question.
-fn put_settled_members<W: Write>(settled: &Settled<'_>, out: &mut Watched<W>)
-    ensures { Puts W.contents out.old out.new (constant_members (Some (settled_of settled.now))) }
+fn put_settled_members<W: Write>(settled: Settled<'_>, out: &mut Watched<W>)
+    ensures { Puts W.contents out.old out.new (constant_members (Some (settled_of settled.entry))) }
 {
     put_holds(settled.holds, out);
     put_member(b"condition", out);
-    put_quoted_words(&settled.condition, out);
+    put_quoted_words(settled.words, out);
 }
 
 // Writes the members that tell which condition of some names no question.
-fn put_constant_members<W: Write>(settled: &[Settled<'_>], number: u32, out: &mut Watched<W>)
-    ensures { Puts W.contents out.old out.new (constant_members (slice_get (map settled_of settled.now) number)) }
+fn put_constant_members<W: Write>(settled: &Constants, number: u32, out: &mut Watched<W>)
+    ensures { Puts W.contents out.old out.new (constant_members (slice_get (constants_of settled.now) number)) }
 {
-    if let Some(one) = settled.get(number as usize) {
+    if let Some(one) = settled.get(number) {
         put_settled_members(one, out);
     }
 }

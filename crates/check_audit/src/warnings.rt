@@ -1,17 +1,18 @@
 //! The warnings of a form set.
 
-ghost use Rattle.std.specs.Prelude.{IfOk, ◌≡◌, map};
+ghost use Rattle.std.specs.Prelude.{IfOk, ◌≡◌};
 ghost use Rattle.ifr_nodes.specs.Nodes.{nodes_of};
 ghost use Rattle.check_audit.specs.Constants.{constants};
 ghost use Rattle.check_audit.specs.Warnings.{AreWarnings, crossed_spans, node_warnings};
-ghost use Rattle.check_audit.specs.code.Settling.{settled_of};
+ghost use Rattle.check_audit.specs.code.Settling.{constants_of};
 
 use crate::asks::add_asks;
 use crate::bounds::add_bounds;
-use crate::constants::{Settled, add_constants};
+use crate::constants::add_constants;
 use crate::given_defaults::add_defaults;
 use crate::lacks::Lacks;
 use crate::overlaps::add_overlaps;
+use crate::settled::Constants;
 use crate::textless::add_textless;
 use crate::unreached::add_unreached;
 use crate::warning::{Span, Warning};
@@ -22,12 +23,12 @@ use std::alloc::{AllocError, Global};
 
 /// The warnings of a form set, and what they tell by a number.
 #[derive(Drop)]
-pub(crate) struct Found<'a> {
+pub(crate) struct Found {
     pub warnings: Vec<Warning>,
     /// The bounds that nothing can meet.
     pub spans: Vec<Span>,
     /// The guards whose conditions name no question.
-    pub settled: Vec<Settled<'a>>,
+    pub settled: Constants,
 }
 
 // The warnings of the nodes of a form set.
@@ -36,11 +37,11 @@ fn found_in<'a>(
     strings: &FirstStrings<'_>,
     forms: &Forms<'a>,
     questions: &Questions<'_>,
-) -> Result<Found<'a>, AllocError>
+) -> Result<Found, AllocError>
     requires { questions.now.ifr ≡ forms.now }
     ensures warned { IfOk result (λ found. found.warnings.items ≡ node_warnings strings.now (nodes_of forms.now)) }
     ensures spans { IfOk result (λ found. found.spans.items ≡ crossed_spans (nodes_of forms.now)) }
-    ensures settled { IfOk result (λ found. map settled_of found.settled.items ≡ constants (nodes_of forms.now)) }
+    ensures settled { IfOk result (λ found. constants_of found.settled ≡ constants (nodes_of forms.now)) }
 {
     let mut warnings = Vec::new(alloc);
     add_asks(forms, questions, &mut warnings)?;
@@ -63,11 +64,11 @@ pub(crate) fn warnings_of<'a>(
     lacks: &Lacks<'_>,
     forms: Forms<'a>,
     questions: Questions<'_>,
-) -> Result<Found<'a>, AllocError>
+) -> Result<Found, AllocError>
     requires { questions.ifr ≡ forms }
     ensures warned { IfOk result (λ found. AreWarnings strings.now lacks.now forms.entry found.warnings.items) }
     ensures spans { IfOk result (λ found. found.spans.items ≡ crossed_spans (nodes_of forms.entry)) }
-    ensures settled { IfOk result (λ found. map settled_of found.settled.items ≡ constants (nodes_of forms.entry)) }
+    ensures settled { IfOk result (λ found. constants_of found.settled ≡ constants (nodes_of forms.entry)) }
 {
     let ifr = forms.bytes();
     let mut found = found_in(alloc, strings, &forms, &questions)?;

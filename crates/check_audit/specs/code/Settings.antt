@@ -1,11 +1,11 @@
 -- How a list is told.
-use Rattle.std.specs.Prelude.{◌≡◌, ⊤, ℕ, List, map}
+use Rattle.std.specs.Prelude.{◌≡◌, ⊤, ℕ, List}
 use Rattle.ifr_nodes.specs.Nodes.{nodes_of}
 use Rattle.check_audit.specs.Checks as checks
 use Rattle.check_audit.specs.Constants.{constants}
 use Rattle.check_audit.specs.Lines as lines
 use Rattle.check_audit.specs.Warnings.{crossed_spans}
-use Rattle.check_audit.specs.code.Settling.{settled_of}
+use Rattle.check_audit.specs.code.Settling.{constants_of}
 use Rattle.check_audit.specs.declared.check.Told.{Told}
 use Rattle.check_audit.specs.declared.setting.Setting.{Setting}
 use Rattle.check_audit.specs.declared.verdict.Verdict.{Verdict}
@@ -20,5 +20,5 @@ told_in t = record { telling = t.telling; spoken = t.strings.now; lacks = t.lack
 -- where a forms package is good, the bounds and the guards that are told are its own
 abbrev pub HasDetails : List ℕ → Verdict → Type 0
 HasDetails ifr (Good good) =
-    (good.spans.items ≡ crossed_spans (nodes_of ifr)) × (map settled_of good.settled.items ≡ constants (nodes_of ifr))
+    (good.spans.items ≡ crossed_spans (nodes_of ifr)) × (constants_of good.settled ≡ constants (nodes_of ifr))
 HasDetails ifr (Refused refusal) = ⊤
