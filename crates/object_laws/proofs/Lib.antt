@@ -7,6 +7,8 @@ pub mod ExportLemmas
 pub mod FieldLemmas
 pub mod MemberLemmas
 pub mod QuestionLemmas
+pub mod WarningLemmas
+pub mod BehindLemmas
 pub mod TextPieceLemmas
 pub mod DifferenceLemmas
 pub mod UnlockLemmas

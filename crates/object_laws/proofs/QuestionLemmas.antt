@@ -45,7 +45,7 @@ use Rattle.question_objects.specs.Conditions.{check_item, condition_lists, guard
 use Rattle.question_objects.specs.Dependences.{decides_key, decides_member, dependence_members, depends_member, id_of}
 use Rattle.question_objects.specs.FormSets.{form_object, guard_object, reach_members, rule_object}
 use Rattle.question_objects.specs.Members.{shown_member}
-use Rattle.question_objects.specs.Objects.{detail_members, no_question_object, plain_members, question_object}
+use Rattle.question_objects.specs.Objects.{detail_members, no_question_object, plain_members, question_members, question_object}
 use Rattle.question_objects.specs.Options.{option_item, option_items, option_verdict_members, told_words}
 use Rattle.question_objects.specs.Values.{script_if_there, script_member, text_if_there, value_members, word_if_there}
 use Rattle.question_objects.specs.Verdicts.{all_verdict_members, place_of, reason_object, verdict_members}
@@ -344,10 +344,13 @@ details_told detail a package_place n can =
     (tells_array_member (codes "options") refl (each_option detail a n.place (is_some (fixed a.world n)) [] (options n) can.texts can.options)))
     (dependences_told detail a.world.nodes n can.nodes)
 
+pub question_told : (detail : Detail) (a : Audited) (package_place : ℕ) (form : Option Node) (n : Node) → CanShow a package_place n → IfSome form (λ f. AreBytes f.op)
+    → TellsFacts (question_members detail a package_place form (asked a.world.nodes n))
+question_told detail a package_place form n can within = tells_behind (plain_told a package_place form n can within) (details_told detail a package_place n can)
+
 pub question_back : (detail : Detail) (a : Audited) (package_place : ℕ) (form : Option Node) (n : Node) → CanShow a package_place n → IfSome form (λ f. AreBytes f.op)
     → IsReadBack (codes "question") (question_object detail a package_place form (asked a.world.nodes n))
-question_back detail a package_place form n can within =
-    read_back (codes "question") refl (tells_behind (plain_told a package_place form n can within) (details_told detail a package_place n can))
+question_back detail a package_place form n can within = read_back (codes "question") refl (question_told detail a package_place form n can within)
 
 pub none_asked_back : (id : ℕ) → IsReadBack (codes "error") (no_question_object id)
 none_asked_back id =

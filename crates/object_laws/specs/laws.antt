@@ -5,3 +5,4 @@ pub mod Questions
 pub mod Differences
 pub mod Unlocks
 pub mod Scripts
+pub mod Checks
