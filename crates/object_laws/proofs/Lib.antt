@@ -14,3 +14,4 @@ pub mod DifferenceLemmas
 pub mod UnlockLemmas
 pub mod LossyLemmas
 pub mod ScriptLemmas
+pub mod SafeLemmas

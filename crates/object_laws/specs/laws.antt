@@ -6,3 +6,4 @@ pub mod Differences
 pub mod Unlocks
 pub mod Scripts
 pub mod Checks
+pub mod Lines

@@ -5,6 +5,7 @@ pub mod apply;
 pub mod check;
 pub mod diff;
 pub mod export;
+pub mod lines;
 pub mod opcodes;
 pub mod questions;
 pub mod split;
