@@ -35,19 +35,19 @@ opcodes_bytes (suc n) bytes all =
 -- ---- the form and the question before a place
 
 -- what is seen, of which the type has no name here
-abbrev TypeOf : {X : Type 0} → X → Type 0
+abbrev pub TypeOf : {X : Type 0} → X → Type 0
 TypeOf {X} x = X
 
-abbrev SeenOne : Type 0
+abbrev pub SeenOne : Type 0
 SeenOne = TypeOf nothing_seen.form
 
-abbrev Seen : Type 0
+abbrev pub Seen : Type 0
 Seen = TypeOf nothing_seen
 
-abbrev ShowsText : Setting → Type 0
+abbrev pub ShowsText : Setting → Type 0
 ShowsText s = (id : ℕ) → id < 2 ^ 64 → all_scalars (text_of s.spoken id) ≡ true
 
-abbrev IsShown : Setting → ℕ → ℕ → Type 0
+abbrev pub IsShown : Setting → ℕ → ℕ → Type 0
 IsShown s id text = (id < 2 ^ 64) × (all_scalars (text_of s.spoken text) ≡ true)
 
 form_shown : (s : Setting) (op : List ℕ) → ShowsText s → AreBytes op → IfSome (form_in op) (λ n. IsShown s n.id n.text)
@@ -58,7 +58,7 @@ question_shown : (s : Setting) (op : List ℕ) → ShowsText s → AreBytes op �
 question_shown s op shows are =
     cond_both {A = SeenOne} (is_question_number (number op) && nat_le 13 (length op)) (Some record { id = question_id op; text = statement_prompt op }) None (λ o. IfSome o (λ n. IsShown s n.id n.text)) (λ _. (two_bytes op 6 are, shows (statement_prompt op) (two_bytes op 2 are))) (λ _. tt)
 
-abbrev AreShown : Setting → Seen → Type 0
+abbrev pub AreShown : Setting → Seen → Type 0
 AreShown s seen = IfSome seen.form (λ n. IsShown s n.id n.text) × IfSome seen.question (λ n. IsShown s n.id n.text)
 
 shown_with : (s : Setting) (form : SeenOne) (question : SeenOne) (seen : Seen)
@@ -78,7 +78,7 @@ shown_from s (op ∷ ops) seen shows all are =
     shown_from s ops (seen_with seen op) shows all.1
     (shown_with s (form_in op) (question_in op) seen (form_shown s op shows all.0) (question_shown s op shows all.0) are)
 
-are_shown : (s : Setting) (ifr : List ℕ) (place : ℕ) → AreBytes ifr → ShowsText s → AreShown s (seen_before ifr place)
+pub are_shown : (s : Setting) (ifr : List ℕ) (place : ℕ) → AreBytes ifr → ShowsText s → AreShown s (seen_before ifr place)
 are_shown s ifr place are shows =
     let before = drop 4 (take place ifr) in
     shown_from s (opcodes_in before) nothing_seen shows (opcodes_bytes (length before) before (bytes_drop 4 (take place ifr) (bytes_take place ifr (all_bytes ifr are)))) (tt, tt)

@@ -31,7 +31,7 @@ cause_word : (cause : Cause) → IsWord (mostly_of cause)
 cause_word NoForms = refl
 cause_word _ = refl
 
-mostly_word : (cause : Cause) (op : Option (List ℕ)) → IsWord (mostly_at cause op)
+pub mostly_word : (cause : Cause) (op : Option (List ℕ)) → IsWord (mostly_at cause op)
 mostly_word OpOutside op = cond_both (is_guid op) _ (mostly_of OpOutside) IsWord (λ _. refl) (λ _. refl)
 mostly_word cause op = cause_word cause
 

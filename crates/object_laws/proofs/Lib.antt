@@ -15,3 +15,4 @@ pub mod UnlockLemmas
 pub mod LossyLemmas
 pub mod ScriptLemmas
 pub mod SafeLemmas
+pub mod LineLemmas

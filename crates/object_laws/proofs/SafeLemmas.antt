@@ -1,5 +1,5 @@
 -- Which texts are safe in a line.
-use Rattle.std.proofs.Common.{◌≡◌, ◌==◌, ◌||◌, ◌&&◌, nat_lt, nat_le, not, ℕ, zero, suc, ◌+◌, ◌-◌, ◌/◌, ◌%◌, ◌<◌, ◌≤◌, Bool, true, false, cond, ltb, List, [], ◌∷◌, ◌++◌, map, length, replicate, slice_index, codes, IsUtf8, IsAscii, refl, sym, ap, subst, ◌∙◌, append-nil, arith, inl, inr}
+use Rattle.std.proofs.Common.{◌≡◌, ◌==◌, ◌||◌, ◌&&◌, nat_lt, nat_le, not, ℕ, zero, suc, ◌+◌, ◌-◌, ◌/◌, ◌%◌, ◌<◌, ◌≤◌, Bool, true, false, cond, ltb, List, [], ◌∷◌, ◌++◌, map, length, replicate, slice_index, codes, IsUtf8, IsAscii, refl, sym, ap, subst, ◌∙◌, append-nil, append_assoc, arith, inl, inr}
 use Rattle.std.specs.List.{AllByRecursion, flat_map, list_all, list_any}
 use Rattle.std.specs.Str.{all_scalars, chars}
 use Rattle.std.proofs.lemmas.Bool.{agree_below_at, and_cases, and_from, and_parts, cond_both, false_from_ne_true, false≢true, leb-true, ltb-true, ne_eqb, or_from, or_parts}
@@ -127,6 +127,10 @@ safe_bytes text safe = ap (λ (l : List ℕ). list_any is_control l) (sym (encod
 
 pub line_safe : {words : List ℕ} → IsSafe words → IsLine (words ++ codes "\n")
 line_safe {words} safe = record { words = words; whole = refl; safe = safe; no_control = safe_bytes words safe }
+
+-- where the last words stand with the LF
+pub line_closed : {words : List ℕ} (last : List ℕ) → IsSafe words → IsSafe last → IsLine (words ++ (last ++ codes "\n"))
+line_closed {words} last safe too = subst IsLine (append_assoc words last (codes "\n")) (line_safe (safe_behind safe too))
 
 -- ---- names
 

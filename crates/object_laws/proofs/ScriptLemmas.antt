@@ -82,11 +82,11 @@ line_back line small are =
 
 -- ---- its answer
 
-cause_word : (cause : Cause) → IsWord (name_of cause)
+pub cause_word : (cause : Cause) → IsWord (name_of cause)
 cause_word NoForms = refl
 cause_word _ = refl
 
-refused_word : (cause : Cause) → IsWord (cause_text cause)
+pub refused_word : (cause : Cause) → IsWord (cause_text cause)
 refused_word cause =
     word_behind (codes "REFUSED " ++ decimal (number_of cause) ++ codes " ") (name_of cause)
     (word_behind (codes "REFUSED " ++ decimal (number_of cause)) (codes " ") (word_behind (codes "REFUSED ") (decimal (number_of cause)) refl (decimal_word (number_of cause))) refl) (cause_word cause)
@@ -328,7 +328,7 @@ field_spelled ns (Some field) =
     let name = name_of_store (store_with ns field.store) in
     spells_behind (spells_word (codes " ") refl) (field_behind field.offset field.width (spells_text (ascii_name name) (name_is_text name)))
 
-verdict_word : (o : Option Denial) → IsWord (verdict_text o)
+pub verdict_word : (o : Option Denial) → IsWord (verdict_text o)
 verdict_word None = refl
 verdict_word (Some denial) = denial_word denial
 
@@ -349,7 +349,7 @@ question_spelled a None can = spells_word (codes "no such question") refl
 question_spelled a (Some n) can =
     spells_behind (spells_behind (spells_text (a.texts (statement_prompt n.op)) (can.shows (statement_prompt n.op) (two_bytes n.op 2 can.bytes))) (spells_word (codes " ") refl)) (answer_of_spelled a n can)
 
-id_word : (id : ℕ) → IsWord (id_text id)
+pub id_word : (id : ℕ) → IsWord (id_text id)
 id_word id =
     word_behind (decimal id ++ codes " (0x" ++ hex_text id) (codes ")") (word_behind (decimal id ++ codes " (0x") (hex_text id) (word_behind (decimal id) (codes " (0x") (decimal_word id) refl) (hexadecimal_word id)) refl
 

@@ -41,7 +41,7 @@ fewer test (p ∷ ps) =
 packages_of_few : (list : List ℕ) → length (packages_of list) ≤ length list
 packages_of_few list = packages_few (length list) 20 (drop 20 (take (list_length list) list))
 
-packages_have_bytes : (list : List ℕ) → AreBytes list → HaveBytes (packages_of list)
+pub packages_have_bytes : (list : List ℕ) → AreBytes list → HaveBytes (packages_of list)
 packages_have_bytes list are =
     let whole = take (list_length list) list in
     packages_bytes (length list) 20 (drop 20 whole) (bytes_drop 20 whole (bytes_take (list_length list) list (all_bytes list are)))

@@ -64,7 +64,7 @@ name_bytes_of op all =
     cond_both (number op == VARSTORE) (varstore_name op) (cond (number op == VARSTORE_EFI) (varstore_efi_name op) []) Bytes (λ _. up_to_nul (drop 22 op) (bytes_drop 22 op all))
     (λ _. cond_both (number op == VARSTORE_EFI) (varstore_efi_name op) [] Bytes (λ _. up_to_nul (drop 26 op) (bytes_drop 26 op all)) (λ _. tt))
 
-attributes_are_word : (op : List ℕ) → IsWord (store_attributes op)
+pub attributes_are_word : (op : List ℕ) → IsWord (store_attributes op)
 attributes_are_word op =
     cond_both (number op == VARSTORE_EFI) (attributes_text (varstore_efi_attributes op)) (codes "-") IsWord (λ _. attributes_word (varstore_efi_attributes op)) (λ _. refl)
 
@@ -107,7 +107,7 @@ names_word (b ∷ bytes) all =
     let small : b < 256 = all.0 in
     word_behind (four_digits b) (flat_map four_digits bytes) (bytes_word false (b / 256 ∷ b % 256 ∷ []) (are_bytes (b / 256 ∷ b % 256 ∷ []) (omega arith, (omega arith, tt)))) (names_word bytes all.1)
 
-header_word : (guid name path : List ℕ) → Bytes guid → Bytes name → Bytes path
+pub header_word : (guid name path : List ℕ) → Bytes guid → Bytes name → Bytes path
     → IsWord (codes "GUID=" ++ flat_map hex_of guid ++ codes "&NAME=" ++ flat_map four_digits name ++ codes "&PATH=" ++ flat_map hex_of path ++ [])
 header_word guid name path g n p =
     let one = word_behind (codes "GUID=") (flat_map hex_of guid) refl (hex_word guid g) in

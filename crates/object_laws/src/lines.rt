@@ -1,10 +1,26 @@
 //! Lines of audits stay one line each, whatever the texts, names, languages and paths are that stand in them.
 
-ghost use Rattle.std.specs.Prelude.{◌≡◌, ℕ, List, false, true};
+ghost use Rattle.std.specs.Prelude.{◌≡◌, ◌<◌, ◌^◌, ℕ, IfSome, List, ◌∷◌, Option, codes, false, true};
 ghost use Rattle.std.specs.List.{list_any};
 ghost use Rattle.std.specs.Str.{all_scalars};
+ghost use Rattle.browser_rules.specs.Packages.{Package};
+ghost use Rattle.browser_rules.specs.Strings.{spoken_in};
+ghost use Rattle.hii_bytes.specs.Numbers.{AreBytes};
+ghost use Rattle.hii_bytes.specs.declared.cause.Cause.{Cause};
+ghost use Rattle.hii_bytes.specs.declared.cause.Fault.{Fault};
+ghost use Rattle.hii_dumps.specs.Dumps.{Entry};
+ghost use Rattle.hii_packages.specs.Packages.{packages_of};
+ghost use Rattle.ifr_opcodes.specs.Forest.{Node};
 ghost use Rattle.audit_text.specs.Texts.{ascii_name, language_name, safe_text};
-ghost use Rattle.object_laws.specs.laws.Lines.{IsSafe, is_control};
+ghost use Rattle.dump_audit.specs.Findings.{Contents, Refused};
+ghost use Rattle.dump_audit.specs.Lines.{line as split_line, no_list_text, rest_line};
+ghost use Rattle.check_audit.specs.Behind.{seen_before};
+ghost use Rattle.check_audit.specs.Lines.{Setting, also_line, byte_line, good_line, head_line, mostly_line, named_line, opcode_line, text_of};
+ghost use Rattle.check_audit.specs.Mostly.{mostly_at};
+ghost use Rattle.check_audit.specs.Verdicts.{counts_of};
+ghost use Rattle.store_audit.specs.HeaderLines.{header_line};
+ghost use Rattle.store_audit.specs.StoreLines.{store_line};
+ghost use Rattle.object_laws.specs.laws.Lines.{IsLine, IsSafe, is_control};
 
 /// A text of any characters, as it stands in a line, is read back as UTF-8 that has none of the unsafe characters, and so are the names
 /// of stores and languages, of any bytes. No byte of such a text is a control.
@@ -13,4 +29,35 @@ pub fn a_safe_text_has_no_unsafe_character()
     ensures name { (name : List ℕ) → IsSafe (ascii_name name) }
     ensures language { (language : List ℕ) → IsSafe (language_name language) }
     ensures bytes { (text : List ℕ) → IsSafe text → list_any is_control text ≡ false }
+{}
+
+/// Each line of `split` is one line: that of a list, with its languages and a title, or with its fault, of a rest, and that there is no
+/// list of a number.
+pub fn lines_of_split_are_lines()
+    ensures contents { (number : ℕ) (list : Entry) → AreBytes list.bytes
+        → IsLine (split_line number record { entry = list; finding = Contents (packages_of list.bytes) (spoken_in list.bytes) }) }
+    ensures fault { (number : ℕ) (list : Entry) (fault : Fault) → IsLine (split_line number record { entry = list; finding = Refused fault }) }
+    ensures rest { (place byte : ℕ) (bytes : List ℕ) → IsLine (rest_line place (byte ∷ bytes)) }
+    ensures none { (number : ℕ) → IsLine (no_list_text number) }
+{}
+
+/// Each line of `stores` is one line.
+pub fn lines_of_stores_are_lines()
+    ensures store { (n : Node) → AreBytes n.op → IsLine (store_line n) }
+    ensures header { (path : List ℕ) (n : Node) → AreBytes path → AreBytes n.op → IsLine (header_line path n) }
+{}
+
+/// Each line of `check` of a forms package and of its fault is one line.
+pub fn lines_of_check_are_lines()
+    ensures head { (s : Setting) (number : ℕ) (p : Package) → AreBytes p.bytes → ((id : ℕ) → id < 2 ^ 64 → all_scalars (text_of s.spoken id) ≡ true)
+        → IsLine (head_line s number p) }
+    ensures good { (ifr : List ℕ) → IsLine (good_line (counts_of ifr)) }
+    ensures byte { (byte : ℕ) → IsLine (byte_line byte) }
+    ensures opcode { (op : List ℕ) → AreBytes op → IsLine (opcode_line op) }
+    ensures form { (s : Setting) (ifr : List ℕ) (place : ℕ) → AreBytes ifr → ((id : ℕ) → id < 2 ^ 64 → all_scalars (text_of s.spoken id) ≡ true)
+        → IfSome (seen_before ifr place).form (λ n. IsLine (named_line s (codes "form") n)) }
+    ensures behind { (s : Setting) (ifr : List ℕ) (place : ℕ) → AreBytes ifr → ((id : ℕ) → id < 2 ^ 64 → all_scalars (text_of s.spoken id) ≡ true)
+        → IfSome (seen_before ifr place).question (λ n. IsLine (named_line s (codes "behind") n)) }
+    ensures mostly { (cause : Cause) (op : Option (List ℕ)) → IsLine (mostly_line (mostly_at cause op)) }
+    ensures also { (fault : Fault) (byte : ℕ) → IsLine (also_line fault byte) }
 {}
