@@ -16,3 +16,4 @@ pub mod LossyLemmas
 pub mod ScriptLemmas
 pub mod SafeLemmas
 pub mod LineLemmas
+pub mod QuestionLineLemmas

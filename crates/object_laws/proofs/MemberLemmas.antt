@@ -152,7 +152,7 @@ head_told a package_place form q are shows within is span =
 
 -- ---- what it takes
 
-are_words : (a b c : Bool) → AllByRecursion IsWord (word_where a (codes "readonly") ++ word_where b (codes "callback") ++ word_where c (codes "reset"))
+pub are_words : (a b c : Bool) → AllByRecursion IsWord (word_where a (codes "readonly") ++ word_where b (codes "callback") ++ word_where c (codes "reset"))
 are_words true true true = (refl, (refl, (refl, tt)))
 are_words true true false = (refl, (refl, tt))
 are_words true false true = (refl, (refl, tt))

@@ -66,12 +66,12 @@ use Rattle.object_laws.proofs.MemberLemmas.{check_item_told, condition_told, den
 abbrev IsText : List ℕ → Type 0
 IsText shown = all_scalars shown ≡ true
 
-choice_shown : (texts : ℕ → List ℕ) (w : World) (n : Node) (its : ℕ) → ShowsTexts texts → AllByRecursion (λ o. AreBytes o.op) (options n) → IfSome (choice texts w n its) IsText
+pub choice_shown : (texts : ℕ → List ℕ) (w : World) (n : Node) (its : ℕ) → ShowsTexts texts → AllByRecursion (λ o. AreBytes o.op) (options n) → IfSome (choice texts w n its) IsText
 choice_shown texts w n its shows are =
     some_with (λ (o : Node). AreBytes o.op) IsText (λ o. texts (option_text o.op)) (option_with w (options n) its) (λ o is. shows (option_text o.op) (two_bytes o.op 2 is))
     (found_of (λ (o : Node). AreBytes o.op) _ (options n) are)
 
-chosen_shown : (o : Option (List ℕ)) → IfSome o IsText → IsText (choice_text o)
+pub chosen_shown : (o : Option (List ℕ)) → IfSome o IsText → IsText (choice_text o)
 chosen_shown None good = refl
 chosen_shown (Some its) good = good
 
@@ -135,7 +135,7 @@ reference_is_text : (o : Option ℕ) → IsText (reference_text o)
 reference_is_text None = refl
 reference_is_text (Some form) = word_is_text (codes "->" ++ decimal form) (word_behind (codes "->") (decimal form) refl (decimal_word form))
 
-option_bytes : (w : World) (place : ℕ) (os : List Node) → AllByRecursion (IsOption w place) os → AllByRecursion (λ o. AreBytes o.op) os
+pub option_bytes : (w : World) (place : ℕ) (os : List Node) → AllByRecursion (IsOption w place) os → AllByRecursion (λ o. AreBytes o.op) os
 option_bytes w place [] all = tt
 option_bytes w place (o ∷ os) all = (all.0.bytes, option_bytes w place os all.1)
 
@@ -153,16 +153,16 @@ value_is_text texts world stores n shows are options_are units =
 
 -- ---- values as scripts take them
 
-checkbox_word : (v : Value) → IfSome (checkbox_script v) IsWord
+pub checkbox_word : (v : Value) → IfSome (checkbox_script v) IsWord
 checkbox_word (boolean true) = refl
 checkbox_word (boolean false) = refl
 checkbox_word _ = tt
 
-numeric_word : (v : Value) (op : List ℕ) → IfSome (numeric_script v op) IsWord
+pub numeric_word : (v : Value) (op : List ℕ) → IfSome (numeric_script v op) IsWord
 numeric_word (natural n) op = spelled_word (number_text (display op) (numeric_width op) n) (number_word (display op) (numeric_width op) n)
 numeric_word _ op = tt
 
-one_of_word : (v : Value) → IfSome (one_of_script v) IsWord
+pub one_of_word : (v : Value) → IfSome (one_of_script v) IsWord
 one_of_word (natural n) = decimal_word n
 one_of_word _ = tt
 
@@ -174,7 +174,7 @@ list_word : (ns : List ℕ) → IsWord (list_text ns)
 list_word [] = refl
 list_word (n ∷ ns) = word_behind (decimal n) (flat_map (λ m. codes "," ++ decimal m) ns) (decimal_word n) (more_word ns)
 
-elements_word : (v : Value) (n : Node) → IfSome (list_script v n) IsWord
+pub elements_word : (v : Value) (n : Node) → IfSome (list_script v n) IsWord
 elements_word (buffer bytes) n = list_word (items_in (element_width n) bytes)
 elements_word _ n = tt
 
@@ -253,7 +253,7 @@ conditions_told detail a package_place n can =
 
 -- ---- options
 
-beside_word : (is_denied : Bool) → IsWord (beside_question is_denied)
+pub beside_word : (is_denied : Bool) → IsWord (beside_question is_denied)
 beside_word true = refl
 beside_word false = refl
 
@@ -265,7 +265,7 @@ guard_words : (o : Option Node) → IfSome (option_map condition_words o) IsWord
 guard_words None = tt
 guard_words (Some g) = words_are_word g
 
-deciding_word : (places : List ℕ) (o : Node) (denial : Option Denial) → IfSome (deciding_words places o denial) IsWord
+pub deciding_word : (places : List ℕ) (o : Node) (denial : Option Denial) → IfSome (deciding_words places o denial) IsWord
 deciding_word places o None = tt
 deciding_word places o (Some denial) =
     cond_both (is_among denial.place places) None (option_map condition_words (guard_at denial.place o)) (λ words. IfSome words IsWord) (λ _. tt) (λ _. guard_words (guard_at denial.place o))
@@ -298,7 +298,7 @@ each_option detail a place is_denied places (o ∷ os) shows all =
 
 -- ---- on what it depends
 
-depends_is_word : (when : When) → IsWord (depends_word when)
+pub depends_is_word : (when : When) → IsWord (depends_word when)
 depends_is_word AtCommands = refl
 depends_is_word AtOpening = refl
 
@@ -314,7 +314,7 @@ depends_told : (when : When) (ns : List Node) (n : Node) → TellsFacts (depends
 depends_told when ns n =
     tells_array_member (depends_word when) (depends_is_word when) (each_told (λ (id : ℕ). id < 2 ^ 64) decimal (support_ids when ns n) tells_number (some_of (λ (id : ℕ). id < 2 ^ 64) (supports when ns n) all_ids ids_small))
 
-asked_bytes : (ns : List Node) → AllByRecursion (λ n. AreBytes n.op) ns → AllByRecursion (λ q. AreBytes q.node.op) (questions ns)
+pub asked_bytes : (ns : List Node) → AllByRecursion (λ n. AreBytes n.op) ns → AllByRecursion (λ q. AreBytes q.node.op) (questions ns)
 asked_bytes ns are = each_of (λ (n : Node). AreBytes n.op) (λ (q : Asked). AreBytes q.node.op) (asked ns) (filter is_question ns) (λ n is. is) (some_of (λ (n : Node). AreBytes n.op) is_question ns are)
 
 decides_told : (when : When) (ns : List Node) (id : ℕ) → AllByRecursion (λ n. AreBytes n.op) ns → TellsFacts (decides_member when ns id)

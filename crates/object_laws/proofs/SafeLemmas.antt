@@ -1,6 +1,6 @@
 -- Which texts are safe in a line.
-use Rattle.std.proofs.Common.{◌≡◌, ◌==◌, ◌||◌, ◌&&◌, nat_lt, nat_le, not, ℕ, zero, suc, ◌+◌, ◌-◌, ◌/◌, ◌%◌, ◌<◌, ◌≤◌, Bool, true, false, cond, ltb, List, [], ◌∷◌, ◌++◌, map, length, replicate, slice_index, codes, IsUtf8, IsAscii, refl, sym, ap, subst, ◌∙◌, append-nil, append_assoc, arith, inl, inr}
-use Rattle.std.specs.List.{AllByRecursion, flat_map, list_all, list_any}
+use Rattle.std.proofs.Common.{◌≡◌, ◌==◌, ◌||◌, ◌&&◌, nat_lt, nat_le, not, ℕ, zero, suc, ◌+◌, ◌-◌, ◌/◌, ◌%◌, ◌<◌, ◌≤◌, Bool, true, false, cond, ltb, List, [], ◌∷◌, ◌++◌, map, length, replicate, slice_index, codes, IsUtf8, IsAscii, refl, sym, ap, ap₂, subst, ◌∙◌, append-nil, append_assoc, arith, inl, inr}
+use Rattle.std.specs.List.{AllByRecursion, concat, flat_map, list_all, list_any}
 use Rattle.std.specs.Str.{all_scalars, chars}
 use Rattle.std.proofs.lemmas.Bool.{agree_below_at, and_cases, and_from, and_parts, cond_both, false_from_ne_true, false≢true, leb-true, ltb-true, ne_eqb, or_from, or_parts}
 use Rattle.std.proofs.lemmas.List.Folds.{list_any-append}
@@ -10,7 +10,7 @@ use Rattle.hii_bytes.specs.Texts.{right_aligned}
 use Rattle.audit_text.specs.Texts.{ascii_name, hex_text, is_unsafe, language_byte, language_name, left_aligned, name_by, safe_char, safe_text, shown_byte}
 use Rattle.json_laws.specs.laws.Written.{IsWord, is_plain}
 use Rattle.json_laws.proofs.WordLemmas.{hexadecimal_word, plain_range}
-use Rattle.object_laws.specs.laws.Lines.{IsLine, IsSafe, is_control}
+use Rattle.object_laws.specs.laws.Lines.{AreLines, IsLine, IsSafe, is_control}
 
 -- ---- printable characters of ASCII
 
@@ -178,3 +178,30 @@ each_safe P f (x ∷ xs) one all = safe_behind (one x all.0) (each_safe P f xs o
 pub any_safe : {X : Type 0} (f : X → List ℕ) (xs : List X) → ((x : X) → IsSafe (f x)) → IsSafe (flat_map f xs)
 any_safe f [] one = safe_nothing
 any_safe f (x ∷ xs) one = safe_behind (one x) (any_safe f xs one)
+
+-- ---- lines one behind the other
+
+pub no_lines : AreLines []
+no_lines = record { lines = []; each = tt; whole = refl }
+
+pub one_line : {line : List ℕ} → IsLine line → AreLines line
+one_line {line} is = record { lines = line ∷ []; each = (is, tt); whole = sym (append-nil line) }
+
+all_behind : (lines others : List (List ℕ)) → AllByRecursion IsLine lines → AllByRecursion IsLine others → AllByRecursion IsLine (lines ++ others)
+all_behind [] others all too = too
+all_behind (line ∷ lines) others all too = (all.0, all_behind lines others all.1 too)
+
+concat_behind : (lines others : List (List ℕ)) → concat lines ++ concat others ≡ concat (lines ++ others)
+concat_behind [] others = refl
+concat_behind (line ∷ lines) others = append_assoc line (concat lines) (concat others) ∙ ap (λ (l : List ℕ). line ++ l) (concat_behind lines others)
+
+pub lines_behind : {one other : List ℕ} → AreLines one → AreLines other → AreLines (one ++ other)
+lines_behind {one} {other} a b = record {
+  lines = a.lines ++ b.lines;
+  each = all_behind a.lines b.lines a.each b.each;
+  whole = ap₂ (λ (l m : List ℕ). l ++ m) a.whole b.whole ∙ concat_behind a.lines b.lines;
+}
+
+pub each_line : {X : Type 0} (P : X → Type 0) (f : X → List ℕ) (xs : List X) → ((x : X) → P x → AreLines (f x)) → AllByRecursion P xs → AreLines (flat_map f xs)
+each_line P f [] one all = no_lines
+each_line P f (x ∷ xs) one all = lines_behind (one x all.0) (each_line P f xs one all.1)

@@ -1,6 +1,6 @@
 //! Lines of audits stay one line each, whatever the texts, names, languages and paths are that stand in them.
 
-ghost use Rattle.std.specs.Prelude.{◌≡◌, ◌<◌, ◌^◌, ℕ, IfSome, List, ◌∷◌, Option, codes, false, true};
+ghost use Rattle.std.specs.Prelude.{◌≡◌, ◌<◌, ◌^◌, Bool, ℕ, IfSome, List, ◌∷◌, ◌++◌, Option, codes, false, true};
 ghost use Rattle.std.specs.List.{list_any};
 ghost use Rattle.std.specs.Str.{all_scalars};
 ghost use Rattle.browser_rules.specs.Packages.{Package};
@@ -14,13 +14,20 @@ ghost use Rattle.ifr_opcodes.specs.Forest.{Node};
 ghost use Rattle.audit_text.specs.Texts.{ascii_name, language_name, safe_text};
 ghost use Rattle.dump_audit.specs.Findings.{Contents, Refused};
 ghost use Rattle.dump_audit.specs.Lines.{line as split_line, no_list_text, rest_line};
+ghost use Rattle.hii_questions.specs.Fields.{asked};
+ghost use Rattle.question_audit.specs.Audited.{Audited};
+ghost use Rattle.question_audit.specs.FormLines.{form_text};
+ghost use Rattle.question_audit.specs.QuestionLines.{question_line};
+ghost use Rattle.question_audit.specs.ScriptValues.{default_taken};
 ghost use Rattle.check_audit.specs.Behind.{seen_before};
 ghost use Rattle.check_audit.specs.Lines.{Setting, also_line, byte_line, good_line, head_line, mostly_line, named_line, opcode_line, text_of};
 ghost use Rattle.check_audit.specs.Mostly.{mostly_at};
 ghost use Rattle.check_audit.specs.Verdicts.{counts_of};
 ghost use Rattle.store_audit.specs.HeaderLines.{header_line};
 ghost use Rattle.store_audit.specs.StoreLines.{store_line};
+ghost use Rattle.object_laws.specs.laws.Differences.{CanTellValue};
 ghost use Rattle.object_laws.specs.laws.Lines.{IsLine, IsSafe, is_control};
+ghost use Rattle.object_laws.specs.laws.Questions.{HasUnits, ShowsTexts};
 
 /// A text of any characters, as it stands in a line, is read back as UTF-8 that has none of the unsafe characters, and so are the names
 /// of stores and languages, of any bytes. No byte of such a text is a control.
@@ -60,4 +67,13 @@ pub fn lines_of_check_are_lines()
         → IfSome (seen_before ifr place).question (λ n. IsLine (named_line s (codes "behind") n)) }
     ensures mostly { (cause : Cause) (op : Option (List ℕ)) → IsLine (mostly_line (mostly_at cause op)) }
     ensures also { (fault : Fault) (byte : ℕ) → IsLine (also_line fault byte) }
+{}
+
+/// Each line of `questions` is one line, that of a form and that of a question, whatever its prompt, its value, its default and the name
+/// of its store are.
+pub fn lines_of_questions_are_lines()
+    ensures form { (a : Audited) (is_reached : ℕ → Bool) (form : Node) → ShowsTexts a.texts → AreBytes form.op
+        → IsLine (codes "FORM " ++ form_text a is_reached form ++ codes "\n") }
+    ensures question { (a : Audited) (n : Node) → CanTellValue a.texts a.world a.stores n → IfSome (default_taken a (asked a.world.nodes n) 0) HasUnits
+        → IsLine (question_line a (asked a.world.nodes n)) }
 {}

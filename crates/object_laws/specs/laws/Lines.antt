@@ -1,6 +1,6 @@
 -- Lines that stay one line, whatever stands in them.
 use Rattle.std.specs.Prelude.{◌≡◌, ℕ, ◌==◌, ◌||◌, nat_lt, Bool, false, List, ◌++◌, codes}
-use Rattle.std.specs.List.{list_any}
+use Rattle.std.specs.List.{AllByRecursion, concat, list_any}
 use Rattle.std.specs.Str.{IsUtf8, chars}
 use Rattle.audit_text.specs.Texts.{is_unsafe}
 
@@ -19,3 +19,9 @@ pub record IsLine (line : List ℕ) : Type 0 where
   pub whole : line ≡ words ++ codes "\n"
   pub safe : IsSafe words
   pub no_control : list_any is_control words ≡ false
+
+-- Lines, one behind the other.
+pub record AreLines (text : List ℕ) : Type 0 where
+  pub lines : List (List ℕ)
+  pub each : AllByRecursion IsLine lines
+  pub whole : text ≡ concat lines
