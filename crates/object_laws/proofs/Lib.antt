@@ -17,3 +17,4 @@ pub mod ScriptLemmas
 pub mod SafeLemmas
 pub mod LineLemmas
 pub mod QuestionLineLemmas
+pub mod FactLineLemmas

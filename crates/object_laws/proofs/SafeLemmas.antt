@@ -205,3 +205,7 @@ lines_behind {one} {other} a b = record {
 pub each_line : {X : Type 0} (P : X → Type 0) (f : X → List ℕ) (xs : List X) → ((x : X) → P x → AreLines (f x)) → AllByRecursion P xs → AreLines (flat_map f xs)
 each_line P f [] one all = no_lines
 each_line P f (x ∷ xs) one all = lines_behind (one x all.0) (each_line P f xs one all.1)
+
+pub any_lines : {X : Type 0} (f : X → List ℕ) (xs : List X) → ((x : X) → AreLines (f x)) → AreLines (flat_map f xs)
+any_lines f [] one = no_lines
+any_lines f (x ∷ xs) one = lines_behind (one x) (any_lines f xs one)

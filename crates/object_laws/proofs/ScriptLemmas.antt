@@ -122,7 +122,7 @@ forbidden_back package_place state c plain =
 
 -- ---- words of a denial
 
-step_is_word : (op : List ℕ) (step : ℕ) → IsWord (step_text op step)
+pub step_is_word : (op : List ℕ) (step : ℕ) → IsWord (step_text op step)
 step_is_word op step =
     cond_both (step == 0) [] (codes ", step " ++ shown_step (display op) op step) IsWord (λ _. refl)
     (λ _. word_behind (codes ", step ") (shown_step (display op) op step) refl (step_word (display op) op step))

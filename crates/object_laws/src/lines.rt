@@ -1,7 +1,7 @@
 //! Lines of audits stay one line each, whatever the texts, names, languages and paths are that stand in them.
 
 ghost use Rattle.std.specs.Prelude.{◌≡◌, ◌<◌, ◌^◌, Bool, ℕ, IfSome, List, ◌∷◌, ◌++◌, Option, codes, false, true};
-ghost use Rattle.std.specs.List.{list_any};
+ghost use Rattle.std.specs.List.{AllByRecursion, list_any};
 ghost use Rattle.std.specs.Str.{all_scalars};
 ghost use Rattle.browser_rules.specs.Packages.{Package};
 ghost use Rattle.browser_rules.specs.Strings.{spoken_in};
@@ -14,11 +14,13 @@ ghost use Rattle.ifr_opcodes.specs.Forest.{Node};
 ghost use Rattle.audit_text.specs.Texts.{ascii_name, language_name, safe_text};
 ghost use Rattle.dump_audit.specs.Findings.{Contents, Refused};
 ghost use Rattle.dump_audit.specs.Lines.{line as split_line, no_list_text, rest_line};
-ghost use Rattle.hii_questions.specs.Fields.{asked};
+ghost use Rattle.hii_questions.specs.Fields.{asked, question_with};
 ghost use Rattle.question_audit.specs.Audited.{Audited};
 ghost use Rattle.question_audit.specs.FormLines.{form_text};
+ghost use Rattle.question_audit.specs.QuestionFacts.{no_question, question_facts};
 ghost use Rattle.question_audit.specs.QuestionLines.{question_line};
 ghost use Rattle.question_audit.specs.ScriptValues.{default_taken};
+ghost use Rattle.question_audit.specs.declared.origin.Origin.{Origin};
 ghost use Rattle.check_audit.specs.Behind.{seen_before};
 ghost use Rattle.check_audit.specs.Lines.{Setting, also_line, byte_line, good_line, head_line, mostly_line, named_line, opcode_line, text_of};
 ghost use Rattle.check_audit.specs.Mostly.{mostly_at};
@@ -26,7 +28,7 @@ ghost use Rattle.check_audit.specs.Verdicts.{counts_of};
 ghost use Rattle.store_audit.specs.HeaderLines.{header_line};
 ghost use Rattle.store_audit.specs.StoreLines.{store_line};
 ghost use Rattle.object_laws.specs.laws.Differences.{CanTellValue};
-ghost use Rattle.object_laws.specs.laws.Lines.{IsLine, IsSafe, is_control};
+ghost use Rattle.object_laws.specs.laws.Lines.{AreLines, IsLine, IsSafe, is_control};
 ghost use Rattle.object_laws.specs.laws.Questions.{HasUnits, ShowsTexts};
 
 /// A text of any characters, as it stands in a line, is read back as UTF-8 that has none of the unsafe characters, and so are the names
@@ -76,4 +78,13 @@ pub fn lines_of_questions_are_lines()
         → IsLine (codes "FORM " ++ form_text a is_reached form ++ codes "\n") }
     ensures question { (a : Audited) (n : Node) → CanTellValue a.texts a.world a.stores n → IfSome (default_taken a (asked a.world.nodes n) 0) HasUnits
         → IsLine (question_line a (asked a.world.nodes n)) }
+{}
+
+/// What `question` tells is lines, one line each: all that is known of a question, where each one that has an id can be told, and that no
+/// question has the id.
+pub fn lines_of_question_are_lines()
+    ensures facts { (a : Audited) (is_reached : ℕ → Bool) (origin : Origin) (n : Node) → AllByRecursion (λ m. AreBytes m.op) a.world.nodes → CanTellValue a.texts a.world a.stores n
+        → ((class : ℕ) → IfSome (default_taken a (asked a.world.nodes n) class) HasUnits) → ((id : ℕ) → IfSome (question_with a.world.nodes id) (CanTellValue a.texts a.world a.stores))
+        → AreLines (question_facts a is_reached origin (asked a.world.nodes n)) }
+    ensures none { (id : ℕ) → IsLine (no_question id) }
 {}
