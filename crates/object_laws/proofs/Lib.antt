@@ -18,3 +18,4 @@ pub mod SafeLemmas
 pub mod LineLemmas
 pub mod QuestionLineLemmas
 pub mod FactLineLemmas
+pub mod ObjectLineLemmas

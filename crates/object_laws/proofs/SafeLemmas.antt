@@ -68,7 +68,7 @@ safe_nothing = printable_safe [] refl
 
 -- ---- texts as they stand in a line
 
-one_char : (c : ℕ) → scalar c ≡ true → is_unsafe c ≡ false → IsSafe (encode c)
+pub one_char : (c : ℕ) → scalar c ≡ true → is_unsafe c ≡ false → IsSafe (encode c)
 one_char c is safe =
     let spells : encodes (c ∷ []) ≡ encode c = append-nil (encode c) in
     let utf8 : IsUtf8 (encode c) = (c ∷ [], (and_from _ _ is refl, spells)) in

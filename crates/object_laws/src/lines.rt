@@ -27,6 +27,8 @@ ghost use Rattle.check_audit.specs.Mostly.{mostly_at};
 ghost use Rattle.check_audit.specs.Verdicts.{counts_of};
 ghost use Rattle.store_audit.specs.HeaderLines.{header_line};
 ghost use Rattle.store_audit.specs.StoreLines.{store_line};
+ghost use Rattle.json_laws.specs.laws.Telling.{IsReadBack};
+ghost use Rattle.json_laws.specs.laws.Written.{IsWord};
 ghost use Rattle.object_laws.specs.laws.Differences.{CanTellValue};
 ghost use Rattle.object_laws.specs.laws.Lines.{AreLines, IsLine, IsSafe, is_control};
 ghost use Rattle.object_laws.specs.laws.Questions.{HasUnits, ShowsTexts};
@@ -87,4 +89,9 @@ pub fn lines_of_question_are_lines()
         → ((class : ℕ) → IfSome (default_taken a (asked a.world.nodes n) class) HasUnits) → ((id : ℕ) → IfSome (question_with a.world.nodes id) (CanTellValue a.texts a.world a.stores))
         → AreLines (question_facts a is_reached origin (asked a.world.nodes n)) }
     ensures none { (id : ℕ) → IsLine (no_question id) }
+{}
+
+/// An object that is read back is one line, too: so each of those of which `object_laws` has a law.
+pub fn objects_are_lines()
+    ensures { (kind line : List ℕ) → IsWord kind → IsReadBack kind line → IsLine line }
 {}
