@@ -1,11 +1,10 @@
 -- Lines of `question` stay one line.
-use Rattle.std.proofs.Common.{◌≡◌, ◌==◌, ◌+◌, ℕ, zero, suc, Bool, true, false, cond, List, [], ◌∷◌, ◌++◌, filter, find, drop, is_some, Option, Some, None, IfSome, option_map, decimal, codes, refl}
-use Rattle.std.specs.List.{AllByRecursion, flat_map}
+use Rattle.std.proofs.Common.{◌≡◌, ◌==◌, ◌+◌, ℕ, Bool, true, false, cond, List, [], ◌∷◌, ◌++◌, filter, is_some, Option, Some, None, IfSome, codes, refl}
+use Rattle.std.specs.List.{AllByRecursion}
 use Rattle.std.specs.Str.{all_scalars}
 use Rattle.std.proofs.lemmas.Bool.{cond_both}
 use Rattle.hii_bytes.specs.Numbers.{AreBytes}
-use Rattle.hii_bytes.specs.Texts.{place_text}
-use Rattle.ifr_opcodes.specs.Fields.{display, form_title, has_flag, has_no_empty_set, is_unique_set, numeric_maximum, numeric_minimum, numeric_step, option_text, option_value, ordered_list_containers, password_maximum, password_minimum, question_flags, question_id, ref_form_set, ref_target, rule_id, statement_help, statement_prompt, string_maximum, string_minimum}
+use Rattle.ifr_opcodes.specs.Fields.{form_title, has_flag, is_unique_set, numeric_maximum, numeric_minimum, numeric_step, option_text, option_value, ordered_list_containers, password_maximum, password_minimum, question_flags, question_id, ref_form_set, ref_target, rule_id, statement_help, statement_prompt, string_maximum, string_minimum}
 use Rattle.ifr_opcodes.specs.Forest.{Node}
 use Rattle.ifr_opcodes.specs.Opcode.{number}
 use Rattle.ifr_opcodes.specs.declared.codes.TheConstants.{CHECKBOX, NUMERIC, ONE_OF, ORDERED_LIST, PASSWORD, REF, STRING}
@@ -21,20 +20,19 @@ use Rattle.guard_policy.specs.Policy.{fixed, is_never_changed}
 use Rattle.guard_policy.specs.declared.denial.Denial.{Denial}
 use Rattle.form_page.specs.RowValues.{choice}
 use Rattle.condition_text.specs.Senses.{sense}
-use Rattle.audit_text.specs.Texts.{guid_text, hex_text, left_aligned, safe_text}
+use Rattle.audit_text.specs.Texts.{guid_text, safe_text}
 use Rattle.audit_text.specs.Words as lists
 use Rattle.audit_text.specs.Words.{opcode_name}
 use Rattle.question_audit.specs.Audited.{Audited}
-use Rattle.question_audit.specs.ConditionFacts.{check_fact, check_facts, checks, column, condition_fact, condition_words, fact, guard_fact, guard_facts, guard_state, id_text, state_text, value_at, verdict_text}
-use Rattle.question_audit.specs.Dependences.{all_decides_facts, answer_text, decided_by, decides_fact, decides_facts, dependence_text, depends_fact, depends_facts, depends_word, field_behind, is_decided_by, support_ids, when_text}
-use Rattle.question_audit.specs.FormLines.{form_text}
+use Rattle.question_audit.specs.ConditionFacts.{check_fact, checks, column, condition_fact, condition_words, fact, guard_fact, guard_state, id_text, state_text, value_at, verdict_text}
+use Rattle.question_audit.specs.Dependences.{answer_text, decided_by, decides_fact, decides_facts, dependence_text, depends_fact, depends_facts, depends_word, field_behind, is_decided_by, support_ids, when_text}
 use Rattle.question_audit.specs.Limits.{flags_fact, form_behind, leads_fact, limits_fact, list_least, list_length, numeric_range, outside_fact, outside_text, set_fact, shown_number, span, step_text, words_fact}
-use Rattle.question_audit.specs.OptionFacts.{beside_question, deciding, deciding_words, option_fact, option_facts, option_facts_behind, option_verdict, own_denial, with_place}
+use Rattle.question_audit.specs.OptionFacts.{beside_question, deciding, deciding_words, option_fact, option_facts_behind, option_verdict, own_denial, with_place}
 use Rattle.question_audit.specs.Origins.{holder_text}
-use Rattle.question_audit.specs.QuestionFacts.{behind_number, choice_behind, condition_facts, default_fact, dependence_facts, field_fact, form_fact, form_of, guid_behind, has_within, help_fact, kind_facts, named_default, no_question, opcode_fact, opcode_facts, option_behind, prompt_line, question_facts, told_default, value_fact, value_facts, value_line, value_text, verdict_fact, verdict_facts}
-use Rattle.question_audit.specs.QuestionLines.{field_text, is_undefined, names_no_set, store_with, told_value, unguarded}
-use Rattle.question_audit.specs.Reasons.{all_reasons, also_fact, also_facts, further}
-use Rattle.question_audit.specs.RuleFacts.{named_rules, rule_fact, rule_facts, rule_words}
+use Rattle.question_audit.specs.QuestionFacts.{behind_number, choice_behind, condition_facts, dependence_facts, field_fact, form_fact, form_of, guid_behind, has_within, help_fact, kind_facts, named_default, no_question, opcode_fact, opcode_facts, option_behind, prompt_line, question_facts, told_default, value_facts, value_line, value_text, verdict_facts}
+use Rattle.question_audit.specs.QuestionLines.{is_undefined, names_no_set, store_with, told_value, unguarded}
+use Rattle.question_audit.specs.Reasons.{all_reasons, also_fact, further}
+use Rattle.question_audit.specs.RuleFacts.{named_rules, rule_fact, rule_words}
 use Rattle.question_audit.specs.ScriptValues.{behind, default_taken, script_value, stored_value}
 use Rattle.question_audit.specs.declared.origin.Holder.{Holder}
 use Rattle.question_audit.specs.declared.origin.Holder.TheVariants as holders

@@ -19,3 +19,4 @@ pub mod LineLemmas
 pub mod QuestionLineLemmas
 pub mod FactLineLemmas
 pub mod ObjectLineLemmas
+pub mod WarningLineLemmas

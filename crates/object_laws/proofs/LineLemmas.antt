@@ -1,6 +1,6 @@
 -- Lines of `split`, `stores` and `check` stay one line.
-use Rattle.std.proofs.Common.{◌≡◌, ◌+◌, ℕ, ◌^◌, ◌<◌, true, false, List, [], ◌∷◌, ◌++◌, length, drop, map, decimal, codes, Option, Some, None, IfSome, refl, arith}
-use Rattle.std.specs.List.{AllByRecursion, flat_map}
+use Rattle.std.proofs.Common.{◌≡◌, ℕ, ◌^◌, ◌<◌, true, false, List, [], ◌∷◌, ◌++◌, length, map, decimal, codes, Option, Some, None, IfSome, refl}
+use Rattle.std.specs.List.{flat_map}
 use Rattle.std.specs.Str.{all_scalars}
 use Rattle.std.proofs.lemmas.Bool.{cond_both}
 use Rattle.browser_rules.specs.Opcodes.{number}
@@ -22,7 +22,7 @@ use Rattle.audit_text.specs.Texts.{digits_of, guid_text, hex_text, joined, langu
 use Rattle.audit_text.specs.Words.{opcode_name}
 use Rattle.dump_audit.specs.Contents.{begins_with_form_set, first_title, form_sets, forms_in, guid_word as guid_behind, opcodes_of}
 use Rattle.dump_audit.specs.Findings.{Contents, Refused}
-use Rattle.dump_audit.specs.Lines.{contents_text, head_text, languages_text, line, no_list_text, rest_line, title_text}
+use Rattle.dump_audit.specs.Lines.{contents_text, head_text, line, no_list_text, rest_line, title_text}
 use Rattle.opcode_audit.specs.Words.{name_or_number}
 use Rattle.check_audit.specs.Behind.{seen_before}
 use Rattle.check_audit.specs.Lines.{Setting, also_line, byte_line, form_set_words, good_line, head_line, mostly_line, named_line, opcode_line, text_of}
@@ -34,10 +34,10 @@ use Rattle.json_laws.proofs.ListLemmas.{some_of}
 use Rattle.json_laws.proofs.ShownLemmas.{HaveBytes, shown_are_characters}
 use Rattle.json_laws.proofs.WordLemmas.{Bytes, all_bytes, are_bytes, bytes_drop, bytes_word, decimal_word, guid_word, hexadecimal_word, opcode_word}
 use Rattle.object_laws.specs.laws.Lines.{IsLine, IsSafe}
-use Rattle.object_laws.proofs.BehindLemmas.{IsShown, SeenOne, ShowsText, are_shown}
+use Rattle.object_laws.proofs.BehindLemmas.{IsShown, SeenOne, are_shown}
 use Rattle.object_laws.proofs.CheckLemmas.{mostly_word}
 use Rattle.object_laws.proofs.OpcodeLemmas.{name_word}
-use Rattle.object_laws.proofs.SafeLemmas.{any_safe, each_safe, language_safe, left_safe, line_closed, line_safe, right_safe, safe_behind, safe_nothing, store_name_safe, text_safe, word_safe}
+use Rattle.object_laws.proofs.SafeLemmas.{each_safe, language_safe, left_safe, line_closed, line_safe, right_safe, safe_behind, safe_nothing, store_name_safe, text_safe, word_safe}
 use Rattle.object_laws.proofs.ScriptLemmas.{cause_word, refused_word}
 use Rattle.object_laws.proofs.SplitLemmas.{guid_bytes, packages_have_bytes, title_small}
 use Rattle.object_laws.proofs.StoreLemmas.{attributes_are_word, guid_bytes_of, header_word, name_bytes_of}

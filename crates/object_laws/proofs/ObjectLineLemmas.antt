@@ -1,25 +1,31 @@
 -- Objects stay one line, and so do the lines of `opcodes`, in which texts stand as in objects.
-use Rattle.std.proofs.Common.{◌≡◌, ◌==◌, ◌||◌, ℤ, pos, ℕ, ◌+◌, ◌-◌, ◌*◌, ◌/◌, ◌%◌, ◌<◌, nat_lt, true, false, cond, List, [], ◌∷◌, ◌++◌, replicate, decimal, codes, Some, refl, sym, subst, arith, inl, inr}
+use Rattle.std.proofs.Common.{◌≡◌, ◌==◌, ◌||◌, ℕ, ◌+◌, ◌-◌, ◌*◌, ◌/◌, ◌%◌, ◌<◌, nat_lt, true, false, cond, List, [], ◌∷◌, ◌++◌, decimal, codes, Some, refl, sym, subst, arith, inl, inr}
 use Rattle.std.specs.Fmt.{signed_decimal}
-use Rattle.std.specs.List.{AllByRecursion, flat_map}
+use Rattle.std.specs.List.{flat_map}
 use Rattle.std.specs.Str.{all_scalars}
-use Rattle.std.proofs.lemmas.Bool.{and_from, and_parts, cond_both, eqb-true, lt-ltb, ltb-false, ltb-true, or_cases}
+use Rattle.std.proofs.lemmas.Bool.{and_parts, cond_both, eqb-true, ltb-true, or_cases}
 use Rattle.std.proofs.lemmas.Str.{encode_ascii}
 use lib.Utf8.{encode, scalar}
 use Rattle.browser_rules.specs.Opcodes.{number as number_of}
 use Rattle.browser_rules.specs.Strings.{Spoken, shown}
 use Rattle.hii_bytes.specs.Numbers.{AreBytes}
-use Rattle.hii_bytes.specs.Texts.{hex_of, place_text}
+use Rattle.hii_bytes.specs.Texts.{hex_of}
 use Rattle.audit_text.specs.Texts.{digits_of, guid_text, hex_text, is_unsafe}
 use Rattle.audit_json.specs.Json.{escape, escaped, json_char, json_text, unit_escape}
-use Rattle.audit_json.specs.Objects.{first_key, inner_object, joined, member_key, object as object_line, object_kind}
+use Rattle.audit_json.specs.Objects.{first_key, joined, member_key, object_kind}
+use Rattle.opcode_audit.specs.Facts as facts
+use Rattle.opcode_audit.specs.Facts.{Fact, a_guid_of, a_name, a_number, an_id, opcode_facts, some_bits, some_bytes, some_numbers}
+use Rattle.opcode_audit.specs.Lines.{Setting, line as opcode_line}
+use Rattle.opcode_audit.specs.Words.{behind_comma, fact_text, name_or_number, numbers_text, said_text, value_text}
 use Rattle.json_laws.specs.Reading.{Value, number, string, truth, array, object, Items, no_items, item, Facts, no_facts, fact}
 use Rattle.json_laws.specs.laws.Telling.{IsReadBack}
 use Rattle.json_laws.specs.laws.Written.{CanBeTold, EachCanBeTold, FactsCanBeTold, IsWord, each_written, inner_members, line_of, told, written}
 use Rattle.json_laws.proofs.TextLemmas.{scalar_bound}
-use Rattle.json_laws.proofs.WordLemmas.{Bytes, all_bytes, are_bytes, bytes_are_text, bytes_word, decimal_word, guid_word, hexadecimal_word, signed_word}
+use Rattle.json_laws.proofs.WordLemmas.{all_bytes, are_bytes, bytes_are_text, bytes_word, decimal_word, guid_word, hexadecimal_word, signed_word}
 use Rattle.object_laws.specs.laws.Lines.{IsLine, IsSafe}
-use Rattle.object_laws.proofs.SafeLemmas.{line_closed, line_safe, one_char, printable_safe, safe_behind, safe_nothing, word_safe}
+use Rattle.object_laws.proofs.LineLemmas.{place_safe}
+use Rattle.object_laws.proofs.OpcodeLemmas.{GoodFacts, IsGoodValue, Shows, name_word, opcode_facts_good}
+use Rattle.object_laws.proofs.SafeLemmas.{line_closed, line_safe, one_char, printable_safe, safe_behind, safe_nothing, spaces_safe, word_safe}
 
 -- ---- texts between quotation marks
 
@@ -95,3 +101,43 @@ facts_line kind members plain can = line_closed (codes "}") (safe_behind (kind_s
 
 pub object_is_line : (kind line : List ℕ) → IsWord kind → IsReadBack kind line → IsLine line
 object_is_line kind line plain read = subst IsLine (sym read.same) (facts_line kind read.facts plain read.good)
+
+-- ---- opcodes
+
+behind_comma_safe : (ns : List ℕ) → IsSafe (flat_map behind_comma ns)
+behind_comma_safe [] = safe_nothing
+behind_comma_safe (n ∷ ns) = safe_behind (safe_behind (word_safe (codes ",") refl) (word_safe (decimal n) (decimal_word n))) (behind_comma_safe ns)
+
+numbers_safe : (ns : List ℕ) → IsSafe (numbers_text ns)
+numbers_safe [] = safe_nothing
+numbers_safe (n ∷ ns) = safe_behind (word_safe (decimal n) (decimal_word n)) (behind_comma_safe ns)
+
+value_safe : (spoken : List Spoken) (v : facts.Value) → Shows spoken → IsGoodValue v → IsSafe (value_text spoken v)
+value_safe spoken (a_number n) shows good = word_safe (decimal n) (decimal_word n)
+value_safe spoken (some_bits n) shows good = safe_behind (word_safe (codes "0x") refl) (word_safe (hex_text n) (hexadecimal_word n))
+value_safe spoken (an_id id) shows good =
+    safe_behind (word_safe (decimal id) (decimal_word id))
+    (cond_both (id == 0) [] (codes " " ++ said_text spoken id) IsSafe (λ _. safe_nothing) (λ _. safe_behind (word_safe (codes " ") refl) (quoted_safe (shown spoken (Some 0) id) (shows id good))))
+value_safe spoken (a_guid_of bytes) shows good = word_safe (guid_text true bytes) (guid_word true bytes (are_bytes bytes good))
+value_safe spoken (some_bytes bytes) shows good = word_safe (digits_of false bytes) (bytes_word false bytes (are_bytes bytes good))
+value_safe spoken (a_name bytes) shows good = quoted_safe bytes (bytes_are_text bytes (are_bytes bytes good))
+value_safe spoken (some_numbers ns) shows good = numbers_safe ns
+
+facts_safe : (spoken : List Spoken) (fs : List Fact) → Shows spoken → GoodFacts fs → IsSafe (flat_map (fact_text spoken) fs)
+facts_safe spoken [] shows good = safe_nothing
+facts_safe spoken (f ∷ fs) shows good =
+    safe_behind
+    (safe_behind (safe_behind (safe_behind (word_safe (codes " ") refl) (word_safe f.name good.0.0)) (word_safe (codes "=") refl)) (value_safe spoken f.value shows good.0.1))
+    (facts_safe spoken fs shows good.1)
+
+pub opcode_line_is_line : (s : Setting) (place depth : ℕ) (op : List ℕ) → Shows s.spoken → AreBytes op → IsLine (opcode_line s place depth op)
+opcode_line_is_line s place depth op shows are =
+    let space : IsSafe (codes " ") = word_safe (codes " ") refl in
+    line_safe
+    (safe_behind
+    (safe_behind
+    (safe_behind
+    (safe_behind (safe_behind (safe_behind (safe_behind (place_safe place) space) (place_safe (s.base + place))) space) (spaces_safe (2 * depth)))
+    (safe_behind (word_safe (name_or_number (number_of op)) (name_word (number_of op) (are 0))) (facts_safe s.spoken (opcode_facts op) shows (opcode_facts_good op (all_bytes op are)))))
+    (word_safe (codes " ; ") refl))
+    (word_safe (digits_of false op) (bytes_word false op are)))

@@ -31,10 +31,10 @@ use Rattle.json_laws.proofs.WordLemmas.{Bytes, all_bytes, are_bytes, bytes_are_t
 
 -- ---- what fields hold
 
-abbrev AreSmall : List ℕ → Type 0
+abbrev pub AreSmall : List ℕ → Type 0
 AreSmall ns = AllByRecursion (λ n. n < 2 ^ 64) ns
 
-abbrev IsGoodValue : Value → Type 0
+abbrev pub IsGoodValue : Value → Type 0
 IsGoodValue (a_number n) = n < 2 ^ 64
 IsGoodValue (some_bits n) = n < 2 ^ 64
 IsGoodValue (an_id n) = n < 2 ^ 64
@@ -166,7 +166,7 @@ tail_good op =
 
 -- ---- facts
 
-abbrev GoodFacts : List Fact → Type 0
+abbrev pub GoodFacts : List Fact → Type 0
 GoodFacts fs = AllByRecursion (λ f. IsWord f.name × IsGoodValue f.value) fs
 
 both_facts : (fs gs : List Fact) → GoodFacts fs → GoodFacts gs → GoodFacts (fs ++ gs)
@@ -181,7 +181,7 @@ facts_good (f ∷ fs) bytes are all =
     (cond_both (nat_le f.width (length bytes)) (it ∷ []) [] GoodFacts (λ _. ((are.0.0, value_good f.kind f.width bytes are.0.1 all), tt)) (λ _. tt))
     (facts_good fs (drop f.width bytes) are.1 (bytes_drop f.width bytes all))
 
-opcode_facts_good : (op : List ℕ) → Bytes op → GoodFacts (opcode_facts op)
+pub opcode_facts_good : (op : List ℕ) → Bytes op → GoodFacts (opcode_facts op)
 opcode_facts_good op all =
     facts_good (fields_of (number op) ++ tail_of op) (drop 2 op) (both_good (fields_of (number op)) (tail_of op) (fields_good (number op)) (tail_good op)) (bytes_drop 2 op all)
 

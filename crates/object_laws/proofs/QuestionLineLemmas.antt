@@ -1,32 +1,30 @@
 -- Lines of `questions` stay one line.
-use Rattle.std.proofs.Common.{◌≡◌, ◌==◌, ◌+◌, ℕ, Bool, true, false, cond, List, [], ◌∷◌, ◌++◌, filter, map, replicate, Option, Some, None, IfSome, option_map, option_and_then, decimal, codes, refl}
-use Rattle.std.specs.List.{AllByRecursion, flat_map}
+use Rattle.std.proofs.Common.{◌==◌, ℕ, Bool, true, cond, List, [], ◌∷◌, ◌++◌, Option, Some, None, IfSome, option_and_then, codes, refl}
 use Rattle.std.proofs.lemmas.Bool.{cond_both}
 use Rattle.hii_bytes.specs.Numbers.{AreBytes}
-use Rattle.hii_bytes.specs.Texts.{place_text, right_aligned}
+use Rattle.hii_bytes.specs.Texts.{place_text}
 use Rattle.browser_rules.specs.Strings.{characters}
 use Rattle.ifr_opcodes.specs.Fields.{form_id, form_title, has_flag, question_flags, question_id, ref_form_set, statement_prompt}
 use Rattle.ifr_opcodes.specs.Forest.{Node}
 use Rattle.ifr_opcodes.specs.Opcode.{number}
 use Rattle.ifr_opcodes.specs.declared.codes.TheConstants.{CHECKBOX, NUMERIC, ONE_OF, ORDERED_LIST, REF, STRING}
 use Rattle.ifr_expr.specs.Values.{Value, text}
-use Rattle.ifr_nodes.specs.Nodes.{options}
 use Rattle.hii_values.specs.Denials.{kind_name}
 use Rattle.hii_questions.specs.Answers.{value_of_field}
 use Rattle.hii_questions.specs.Fields.{Asked, Field, asked}
 use Rattle.guard_policy.specs.Policy.{fixed}
 use Rattle.guard_policy.specs.declared.denial.Denial.{Denial}
-use Rattle.audit_text.specs.Texts.{ascii_name, guid_text, hex_text, left_aligned, safe_text}
+use Rattle.audit_text.specs.Texts.{guid_text}
 use Rattle.audit_text.specs.Words.{opcode_name}
 use Rattle.question_audit.specs.Audited.{Audited}
 use Rattle.question_audit.specs.FormLines.{denial_text, form_text, reach_text}
-use Rattle.question_audit.specs.QuestionLines.{columns_text, field_columns, field_text, flags_text, form_set_text, is_constant, led_text, name_of, names_no_set, places_behind, question_line, shown_text, store_with, told_value, undefined_guards, undefined_text, value_told, verdict_columns, word_where}
+use Rattle.question_audit.specs.QuestionLines.{columns_text, field_columns, field_text, flags_text, form_set_text, is_constant, led_text, name_of, names_no_set, question_line, shown_text, store_with, told_value, undefined_guards, undefined_text, value_told, verdict_columns, word_where}
 use Rattle.question_audit.specs.Reach.{reach_of}
-use Rattle.question_audit.specs.ScriptValues.{behind, checkbox_script, default_taken, default_value, list_script, numeric_script, one_of_script, script_value, stored_value, string_characters, string_script}
+use Rattle.question_audit.specs.ScriptValues.{behind, checkbox_script, default_taken, default_value, list_script, numeric_script, one_of_script, script_value, stored_value, string_script}
 use Rattle.question_audit.specs.declared.ways.Reach.{Reach}
 use Rattle.question_audit.specs.declared.ways.Reach.TheVariants.{Open, Hidden, Closed, Below, Unnamed}
 use Rattle.json_laws.specs.laws.Written.{IsWord}
-use Rattle.json_laws.proofs.WordLemmas.{Bytes, decimal_word, opcode_word, units_are_text}
+use Rattle.json_laws.proofs.WordLemmas.{Bytes, opcode_word, units_are_text}
 use Rattle.object_laws.specs.laws.Differences.{CanTellValue}
 use Rattle.object_laws.specs.laws.Lines.{IsLine, IsSafe}
 use Rattle.object_laws.specs.laws.Questions.{HasUnits, ShowsTexts}

@@ -1,5 +1,5 @@
 -- Which texts are safe in a line.
-use Rattle.std.proofs.Common.{◌≡◌, ◌==◌, ◌||◌, ◌&&◌, nat_lt, nat_le, not, ℕ, zero, suc, ◌+◌, ◌-◌, ◌/◌, ◌%◌, ◌<◌, ◌≤◌, Bool, true, false, cond, ltb, List, [], ◌∷◌, ◌++◌, map, length, replicate, slice_index, codes, IsUtf8, IsAscii, refl, sym, ap, ap₂, subst, ◌∙◌, append-nil, append_assoc, arith, inl, inr}
+use Rattle.std.proofs.Common.{◌≡◌, ◌==◌, ◌||◌, ◌&&◌, nat_lt, nat_le, not, ℕ, zero, suc, ◌+◌, ◌-◌, ◌/◌, ◌<◌, ◌≤◌, Bool, true, false, cond, ltb, List, [], ◌∷◌, ◌++◌, map, length, replicate, codes, IsUtf8, IsAscii, refl, sym, ap, ap₂, subst, ◌∙◌, append-nil, append_assoc, arith, inl, inr}
 use Rattle.std.specs.List.{AllByRecursion, concat, flat_map, list_all, list_any}
 use Rattle.std.specs.Str.{all_scalars, chars}
 use Rattle.std.proofs.lemmas.Bool.{agree_below_at, and_cases, and_from, and_parts, cond_both, false_from_ne_true, false≢true, leb-true, ltb-true, ne_eqb, or_from, or_parts}
@@ -9,7 +9,7 @@ use lib.Utf8.{encode, encodes, next, scalar}
 use Rattle.hii_bytes.specs.Texts.{right_aligned}
 use Rattle.audit_text.specs.Texts.{ascii_name, hex_text, is_unsafe, language_byte, language_name, left_aligned, name_by, safe_char, safe_text, shown_byte}
 use Rattle.json_laws.specs.laws.Written.{IsWord, is_plain}
-use Rattle.json_laws.proofs.WordLemmas.{hexadecimal_word, plain_range}
+use Rattle.json_laws.proofs.WordLemmas.{hexadecimal_word}
 use Rattle.object_laws.specs.laws.Lines.{AreLines, IsLine, IsSafe, is_control}
 
 -- ---- printable characters of ASCII

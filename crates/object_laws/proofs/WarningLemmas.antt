@@ -27,22 +27,22 @@ use Rattle.object_laws.proofs.FieldLemmas.{two_bytes}
 use Rattle.object_laws.proofs.MemberLemmas.{kind_word, where_told, word_told}
 
 -- what holds of each of a list holds of the one at a number, where there is one
-at_number : {X : Type 0} (P : X → Type 0) (xs : List X) (n : ℕ) → AllByRecursion P xs → IfSome (slice_get xs n) P
+pub at_number : {X : Type 0} (P : X → Type 0) (xs : List X) (n : ℕ) → AllByRecursion P xs → IfSome (slice_get xs n) P
 at_number P [] n all = tt
 at_number P (x ∷ xs) zero all = all.0
 at_number P (x ∷ xs) (suc n) all = at_number P xs n all.1
 
 -- ---- members
 
-denial_is_word : (o : Option DenialKind) → IsWord (denial_word o)
+pub denial_is_word : (o : Option DenialKind) → IsWord (denial_word o)
 denial_is_word None = refl
 denial_is_word (Some kind) = kind_word kind
 
 -- the bounds of a warning, of which the type has no name here
-abbrev ElementOf : {X : Type 0} → List X → Type 0
+abbrev pub ElementOf : {X : Type 0} → List X → Type 0
 ElementOf {X} xs = X
 
-abbrev Span : Type 0
+abbrev pub Span : Type 0
 Span = ElementOf (crossed_spans [])
 
 bounds_told : (o : Option Span) → IfSome o (λ span. (nat_abs span.minimum < 2 ^ 64) × (nat_abs span.maximum < 2 ^ 64)) → TellsFacts (bounds_members o)
