@@ -1,4 +1,5 @@
-//! That objects of audits are read back as their facts, command by command. Laws alone, no code that runs.
+//! That objects of audits are read back as their facts, command by command, and that lines and objects stay one line each. Laws alone,
+//! no code that runs.
 #![tactic(auto)]
 
 pub mod apply;
