@@ -349,4 +349,9 @@ WRONG_RULES = (
     wrong("AtFault", "a line is run when its answer is written",
           "pub state : left ≡ after_lines s (take lines (lines_in has_ended read))",
           "pub state : left ≡ after_lines s (take (lines - 1) (lines_in has_ended read))"),
+    wrong("AtFault", "a line is run as soon as its LF was read",
+          "length (cut_lines (take (length read - 512) read)).0 ≤ lines", "length (cut_lines read).0 ≤ lines"),
+    wrong("AtFault", "the answers to all lines that were run are written whole",
+          "length (concat (take (lines - 1) (answers_in s has_ended read))) ≤ length written",
+          "length (concat (take lines (answers_in s has_ended read))) ≤ length written"),
 )

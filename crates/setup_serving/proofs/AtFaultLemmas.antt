@@ -172,7 +172,7 @@ reader_fails given before after script untouched h =
       read = h.count;
       answers = text_of h.start lines;
       image = None;
-      script = inl h.read;
+      script = h.read;
       leaves = (
         opens.stores,
         after_lines h.start.state lines,
@@ -188,50 +188,56 @@ reader_fails given before after script untouched h =
       left = untouched;
     }
 
-refusal_fails : (given : Given) (before after : Ends) (script : List ℕ) → after.out ≡ before.out → FailsAtOnce given before after → IsBroken (given_for given script) chapter.WriteAnswers before after
-refusal_fails given before after script untouched h = record {
-  read = 0;
-  answers = take h.breaks.part h.text;
-  image = None;
-  script = inr h.unread;
-  leaves = (
-    refl,
-    inl (elim h.line [
-      | inl line ↦ inr (line.0, line.1, subst (λ (text : List ℕ). IsPartOf text (take h.breaks.part h.text)) line.2 (record { part = h.breaks.part; within = h.breaks.within; are = refl }))
-      | inr line ↦ inl (subst (λ (text : List ℕ). IsPartOf text (take h.breaks.part h.text)) line (record { part = h.breaks.part; within = h.breaks.within; are = refl }))
-    ]),
-  );
-  told = h.breaks.appended;
-  left = untouched;
-}
+refusal_fails : (given : Given) (before after : Ends) (script : List ℕ) → before.script ≡ Some script → after.out ≡ before.out → FailsAtOnce given before after
+    → LeavesBytes given script before WriteAnswers after
+refusal_fails given before after script known untouched h = (
+  record {
+    read = 0;
+    answers = take h.breaks.part h.text;
+    image = None;
+    script = record { within = omega arith; left_is = h.unread ∙ known };
+    leaves = (
+      refl,
+      inl (elim h.line [
+        | inl line ↦ inr (line.0, line.1, subst (λ (text : List ℕ). IsPartOf text (take h.breaks.part h.text)) line.2 (record { part = h.breaks.part; within = h.breaks.within; are = refl }))
+        | inr line ↦ inl (subst (λ (text : List ℕ). IsPartOf text (take h.breaks.part h.text)) line (record { part = h.breaks.part; within = h.breaks.within; are = refl }))
+      ]),
+    );
+    told = h.breaks.appended;
+    left = untouched;
+  },
+  refl,
+)
 
 answers_fail : (given : Given) (start now : Shown) (before after : Ends) (script : List ℕ) → after.out ≡ before.out → Starts given start
-    → Overflows start before.answers (Some script) now (with_held after) after.script → IsBroken (given_for given script) chapter.WriteAnswers before after
+    → Overflows start before.answers (Some script) now (with_held after) after.script → LeavesBytes given script before WriteAnswers after
 answers_fail given start now before after script untouched starts h =
     let opens = starts.0 in
     let read = consumed_known script h.bytes after.script h.consumed in
     let f = fails start now before.answers (with_held after) script read.0 after.script h read.1 read.2 in
-    let front : take (length h.bytes) script ≡ h.bytes = read_front script h.bytes read.0 read.2 in
-    record {
-      read = length h.bytes;
-      answers = f.written;
-      image = None;
-      script = inl (is_read script h.bytes read.0 after.script read.1 read.2);
-      leaves = (
-        refl,
-        inr (
-          opens.stores,
-          now.state,
-          f.has_ended,
-          behind_begins given script start opens,
-          f.ended,
-          subst (λ (s : State). AtWriteFault s f.has_ended (take (length h.bytes) script) now.state f.written) opens.begins
-              (subst (λ (bytes : List ℕ). AtWriteFault start.state f.has_ended bytes now.state f.written) (sym front) f.told),
-        ),
-      );
-      told = f.appended;
-      left = untouched;
-    }
+    let front : take (length h.bytes) script ≡ h.bytes = read_front script h.bytes read.0 read.2 in (
+      record {
+        read = length h.bytes;
+        answers = f.written;
+        image = None;
+        script = is_read script h.bytes read.0 after.script read.1 read.2;
+        leaves = (
+          refl,
+          inr (
+            opens.stores,
+            now.state,
+            f.has_ended,
+            behind_begins given script start opens,
+            f.ended,
+            subst (λ (s : State). AtWriteFault s f.has_ended (take (length h.bytes) script) now.state f.written) opens.begins
+                (subst (λ (bytes : List ℕ). AtWriteFault start.state f.has_ended bytes now.state f.written) (sym front) f.told),
+          ),
+        );
+        told = f.appended;
+        left = untouched;
+      },
+      tt,
+    )
 
 image_fails : (given : Given) (before after : Ends) (script : List ℕ) (run : RunsAll given script end.Done before after)
     → FailsWithin before.out after.out (image_submitted given (outcome_of run.start script).shown) → IsBroken (given_for given script) chapter.WriteImage before after
@@ -243,7 +249,7 @@ image_fails given before after script run broke =
       read = length script;
       answers = text_of_script run.start.state script;
       image = Some written;
-      script = inl (record { within = omega arith; left_is = run.left ∙ ap Some (sym (drop_all script)) });
+      script = record { within = omega arith; left_is = run.left ∙ ap Some (sym (drop_all script)) };
       leaves = (
         opens.stores,
         written,
@@ -268,7 +274,7 @@ at_fault given before after NoMemory script known h = tt
 at_fault given before after ReadScript script known h =
     reader_fails given before after script h.0 (stops_reading given h.1 h.2 before after script h.3 (subst (λ reader. BreaksOff h.1 before.answers reader h.2 after.answers after.script) known h.4))
 at_fault given before after WriteAnswers script known h = elim h.1 [
-  | inl at_once ↦ refusal_fails given before after script h.0 at_once
+  | inl at_once ↦ refusal_fails given before after script known h.0 at_once
   | inr run ↦ answers_fail given run.0 run.1 before after script h.0 run.2 (subst (λ reader. Overflows run.0 before.answers reader run.1 (with_held after) after.script) known run.3)
 ]
 at_fault given before after WriteOut script known h =

@@ -12,7 +12,6 @@ use Rattle.browser_rules.specs.Forest.{nodes_of}
 use Rattle.browser_rules.specs.Packages.{forms_bytes}
 use Rattle.browser_rules.specs.Script.{lines_run}
 use Rattle.browser_rules.specs.Stores.{image_of, shape_of}
-use Rattle.browser_rules.specs.Words as words
 use Rattle.hii_bytes.specs.Causes.{fault_for}
 use Rattle.browser_core.specs.Shown.{Shown, shown_line}
 use Rattle.browser_rules.specs.Session.{State}

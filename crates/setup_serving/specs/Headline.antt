@@ -1,5 +1,5 @@
 -- What a run leaves by the chapter Headline of `browser_rules` (own rule).
-use Rattle.std.specs.Prelude.{◌≡◌, ◌⊎◌, ℕ, List, Option, Some, None, ⊤}
+use Rattle.std.specs.Prelude.{◌≡◌, ℕ, List, Option, Some, None, ⊤}
 use Rattle.hii_bytes.specs.Watching.{Pen}
 use Rattle.browser_rules.specs.Headline as chapter
 use Rattle.setup_files.specs.declared.given.Given.{Given}
