@@ -14,7 +14,7 @@ use setup_files::{
 use setup_options::{Options, names_script, read_words};
 pub use setup_serving::{Ended, Served, serve};
 use std::io;
-use std::io::Printer;
+use std::io::{BufWriter, Printer};
 use std::process::ExitCode;
 use std::rt::{Env, Files};
 
@@ -81,11 +81,11 @@ fn run<R: Files + Input + Print + Eprint + AllocGlobal>(
     terminals.greet(rt, GREETING);
     let given = files.given(options.forms, options.lang);
     let script = Noted::new(rt.reader());
-    let answers = Noted::new(io::writer(rt));
-    match serve(rt.alloc(), given, script, answers, out) {
-        Some(served) => told(rt, terminals, options.out, served),
-        None => refused(rt, terminals, Cause::OutOfMemory),
-    }
+    let Ok(answers) = BufWriter::new(rt.alloc(), Noted::new(io::writer(rt))) else {
+        return refused(rt, terminals, Cause::OutOfMemory);
+    };
+    let served = serve(rt.alloc(), given, script, answers, out);
+    told(rt, terminals, options.out, served)
 }
 
 // Tells the read or the write that failed, if one did. What a writer that failed did not take is given up.

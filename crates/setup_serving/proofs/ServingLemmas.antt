@@ -1,11 +1,11 @@
 -- What a run leaves, by how it ended.
 use Rattle.std.proofs.Common.{◌≡◌, ◌≢◌, ℕ, Bool, true, false, List, [], ◌∷◌, ◌++◌, Option, None, Some, IfSome, Result, refl, sym, ap, ◌∙◌, subst, append-nil, inl, inr}
-use Rattle.std.specs.Io.Buffered.{writer_buffer, writer_inner}
+use Rattle.std.specs.Io.Buffered.{writer_contents}
 use Rattle.std.specs.Io.KnownBytes.{append_known}
 use Rattle.std.specs.declared.io.buffered.BufWriter.{BufWriter}
 use Rattle.hii_bytes.specs.declared.cause.Cause.TheVariants.{OutOfMemory}
 use Rattle.hii_bytes.specs.declared.cause.Fault.{Fault}
-use Rattle.hii_bytes.specs.Watching.{Pen, Flushes, BreaksWithin, inner_of, has_failed}
+use Rattle.hii_bytes.specs.Watching.{Pen, Flushes, inner_of, has_failed}
 use Rattle.hii_bytes.specs.code.Writing.{taken_of}
 use Rattle.hii_bytes.specs.declared.watched.Watched.{Watched}
 use Rattle.browser_rules.specs.Forest.{nodes_of}
@@ -27,7 +27,7 @@ use Rattle.setup_files.specs.declared.given.Given.{Given}
 use Rattle.setup_serving.specs.declared.serving.Ended.{Ended}
 use Rattle.setup_serving.specs.declared.serving.Ended.TheVariants.{Done, Refused, ReadScript, WriteAnswers, WriteOut, NoMemory}
 use Rattle.setup_serving.specs.Serving.{Starts, IsRefusedBy, IsWritten, FailsWithin, IsNamed, RunsAll, ScriptLeaves, Ends, Finished, RunLeaves, ends_before, ends_of, image_submitted, with_held}
-use Rattle.setup_serving.specs.code.Endings.{IsTold, IsImageTold}
+use Rattle.setup_serving.specs.code.Endings.{IsTold, IsImageTold, all_told}
 use Rattle.setup_serving.proofs.KnownLemmas.{runs_all, stops_reading, stops_answering}
 use Rattle.setup_serving.proofs.RunningLemmas.{runs_passed, runs_broken}
 
@@ -40,18 +40,17 @@ append_known-nil (Some xs) held none = ap (λ l. Some (xs ++ l)) none ∙ ap Som
 pub with_held-nil : (ends : Ends) → ends.held ≡ [] → with_held ends ≡ ends.answers
 with_held-nil ends none = ap (λ known. record ends.answers { known = known }) (append_known-nil ends.answers.known ends.held none)
 
--- what holds of both writers with what is held back holds of them without it
-behind : (before after : Ends) (P : Pen → Pen → Type 0) → before.held ≡ [] → after.held ≡ [] → P (with_held before) (with_held after) → P before.answers after.answers
-behind before after P empty none h =
-    subst (λ pen. P pen after.answers) (with_held-nil before empty) (subst (λ pen. P (with_held before) pen) (with_held-nil after none) h)
+-- what holds of the writer with what is held back holds of it without that
+behind : (after : Ends) (P : Pen → Type 0) → after.held ≡ [] → P (with_held after) → P after.answers
+behind after P none h = subst P (with_held-nil after none) h
 
 -- the reader and the writers of a run that begins
-pub begins_new : {R A O Z : Type 0} (remaining : R → Option (List ℕ)) (answered : A → Option (List ℕ)) (written : O → Option (List ℕ)) (script : R) (answers : A) (out : O)
-    (s : Watched R) (a : Watched (BufWriter A Z)) (o : Watched O) → inner_of s ≡ script → writer_inner (inner_of a) ≡ answers → writer_buffer (inner_of a) ≡ []
+pub begins_new : {R A O Z : Type 0} (remaining : R → Option (List ℕ)) (answered : A → Option (List ℕ)) (written : O → Option (List ℕ)) (script : R) (answers : BufWriter A Z) (out : O)
+    (s : Watched R) (a : Watched (BufWriter A Z)) (o : Watched O) → inner_of s ≡ script → inner_of a ≡ answers
     → has_failed a ≡ false → taken_of a ≡ 0 → inner_of o ≡ out → has_failed o ≡ false → taken_of o ≡ 0
-    → ends_of remaining answered written s a o ≡ ends_before (remaining script) (answered answers) (written out)
-begins_new remaining answered written script answers out s a o s_is a_is a_empty a_sound a_none o_is o_sound o_none =
-    rw (s_is, a_is, a_empty, a_sound, a_none, o_is, o_sound, o_none) refl
+    → all_told (ends_of remaining answered written s a o) ≡ ends_before (remaining script) (writer_contents answered answers) (written out)
+begins_new remaining answered written script answers out s a o s_is a_is a_sound a_none o_is o_sound o_none =
+    rw (s_is, a_is, a_sound, a_none, o_is, o_sound, o_none) refl
 
 -- ---- a refused opening
 
@@ -60,42 +59,42 @@ not_memory given fault other (inl none) = absurd (other (ap (λ (f : Fault). f.c
 not_memory given fault other (inr least) = least
 
 -- the session was not opened, and why was told
-pub refused_serves : (given : Given) (before after : Ends) (ended : Ended) (fault : Fault) → before.held ≡ [] → (ended ≢ WriteAnswers → after.held ≡ []) → after.script ≡ before.script → after.out ≡ before.out
-    → RefusesOpening given.list.now given.forms given.stores.now fault → IsTold fault (with_held before) ended (with_held after) → RunLeaves given before ended after
-refused_serves given before after Done fault empty passed unread untouched why told = absurd told
-refused_serves given before after Refused fault empty passed unread untouched why told = (
+pub refused_serves : (given : Given) (before after : Ends) (ended : Ended) (fault : Fault) → (ended ≢ WriteAnswers → after.held ≡ []) → after.script ≡ before.script → after.out ≡ before.out
+    → RefusesOpening given.list.now given.forms given.stores.now fault → IsTold fault before.answers ended (with_held after) → RunLeaves given before ended after
+refused_serves given before after Done fault passed unread untouched why told = absurd told
+refused_serves given before after Refused fault passed unread untouched why told = (
   untouched,
   inl (record {
     fault = fault_for fault.cause fault.place;
     least = not_memory given fault told.0 why;
     unread = unread;
-    text = subst (IsWritten before.answers after.answers) (sym (refusal_at_same fault)) (behind before after (λ old new. IsWritten old new (refused_at_text fault)) empty (passed (λ e. cc)) told.1);
+    text = subst (IsWritten before.answers after.answers) (sym (refusal_at_same fault)) (behind after (λ new. IsWritten before.answers new (refused_at_text fault)) (passed (λ e. cc)) told.1);
   }),
 )
-refused_serves given before after ReadScript fault empty passed unread untouched why told = absurd told
-refused_serves given before after WriteAnswers fault empty passed unread untouched why told = (
+refused_serves given before after ReadScript fault passed unread untouched why told = absurd told
+refused_serves given before after WriteAnswers fault passed unread untouched why told = (
   untouched,
   inl (elim told [
     | inl line ↦ record {
       text = refused_at_text fault;
       line = inl (fault_for fault.cause fault.place, not_memory given fault line.0 why, sym (refusal_at_same fault));
       unread = unread;
-      breaks = subst (λ pen. BreaksWithin pen (with_held after) (refused_at_text fault)) (with_held-nil before empty) line.1;
+      breaks = line.1;
     }
     | inr line ↦ record {
       text = refused_text OutOfMemory;
       line = inr (sym (refusal_same OutOfMemory));
       unread = unread;
-      breaks = subst (λ pen. BreaksWithin pen (with_held after) (refused_text OutOfMemory)) (with_held-nil before empty) line;
+      breaks = line;
     }
   ]),
 )
-refused_serves given before after WriteOut fault empty passed unread untouched why told = absurd told
-refused_serves given before after NoMemory fault empty passed unread untouched why told = (
+refused_serves given before after WriteOut fault passed unread untouched why told = absurd told
+refused_serves given before after NoMemory fault passed unread untouched why told = (
   untouched,
   record {
     unread = unread;
-    text = subst (IsWritten before.answers after.answers) (sym (refusal_same OutOfMemory)) (behind before after (λ old new. IsWritten old new (refused_text OutOfMemory)) empty (passed (λ e. cc)) told.1);
+    text = subst (IsWritten before.answers after.answers) (sym (refusal_same OutOfMemory)) (behind after (λ new. IsWritten before.answers new (refused_text OutOfMemory)) (passed (λ e. cc)) told.1);
   },
 )
 
@@ -111,27 +110,19 @@ refused_named fault NoMemory old new script out unread untouched told = (unread,
 -- ---- a session that was opened
 
 -- the answers were passed on behind the run
-pub passed : (start now : Shown) (before mid after : Ends) (ran : Result End RunFault) → before.held ≡ [] → after.held ≡ []
-    → Runs start (with_held before) before.script ran now (with_held mid) after.script → Flushes (with_held mid) (with_held after) → after.answers.broken ≡ false
+pub passed : (start now : Shown) (before mid after : Ends) (ran : Result End RunFault) → after.held ≡ []
+    → Runs start before.answers before.script ran now (with_held mid) after.script → Flushes (with_held mid) (with_held after) → after.answers.broken ≡ false
     → Runs start before.answers before.script ran now after.answers after.script
-passed start now before mid after ran empty none runs flushed sound =
-    behind before after (λ old new. Runs start old before.script ran now new after.script) empty none
-    (runs_passed start now (with_held before) (with_held mid) (with_held after) ran before.script after.script runs flushed sound)
+passed start now before mid after ran none runs flushed sound =
+    behind after (λ new. Runs start before.answers before.script ran now new after.script) none
+    (runs_passed start now before.answers (with_held mid) (with_held after) ran before.script after.script runs flushed sound)
 
 -- the answers failed as they were passed on, or before
-pub broken_serves : (given : Given) (start now : Shown) (before mid after : Ends) (ran : Result End RunFault) → Starts given start → before.held ≡ [] → after.out ≡ before.out
-    → Runs start (with_held before) before.script ran now (with_held mid) after.script → Flushes (with_held mid) (with_held after) → after.answers.broken ≡ true
+pub broken_serves : (given : Given) (start now : Shown) (before mid after : Ends) (ran : Result End RunFault) → Starts given start → after.out ≡ before.out
+    → Runs start before.answers before.script ran now (with_held mid) after.script → Flushes (with_held mid) (with_held after) → after.answers.broken ≡ true
     → RunLeaves given before WriteAnswers after
-broken_serves given start now before mid after ran starts empty untouched runs flushed broken = (
-  untouched,
-  inr (
-    start,
-    now,
-    starts,
-    subst (λ pen. Overflows start pen before.script now (with_held after) after.script) (with_held-nil before empty)
-        (runs_broken start now (with_held before) (with_held mid) (with_held after) ran before.script after.script runs flushed broken),
-  ),
-)
+broken_serves given start now before mid after ran starts untouched runs flushed broken =
+    (untouched, inr (start, now, starts, runs_broken start now before.answers (with_held mid) (with_held after) ran before.script after.script runs flushed broken))
 
 -- the lines of a script leave the forms package
 package_left : (shown : Shown) (lines : List (List ℕ)) → (shown_after_lines shown lines).state.ifr ≡ shown.state.ifr

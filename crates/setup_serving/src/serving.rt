@@ -8,7 +8,7 @@ ghost use Rattle.setup_files.specs.declared.given.Given.{Given};
 ghost use Rattle.setup_serving.specs.AtFault.{LeavesBytes};
 ghost use Rattle.setup_serving.specs.Headline.{ServesBytes};
 ghost use Rattle.setup_serving.specs.Serving.{Starts, RunLeaves, ScriptLeaves, IsNamed, ends_before, ends_of, fault_of, exit_status};
-ghost use Rattle.setup_serving.specs.code.Endings.{IsTold, IsImageTold};
+ghost use Rattle.setup_serving.specs.code.Endings.{IsTold, IsImageTold, all_told};
 
 use browser_core::{End, RunFault, Session, put_refusal, put_refusal_at};
 use hii_bytes::{Cause, Fault, Watched};
@@ -73,60 +73,60 @@ pub struct Served<R, A: Write + Drop, O> {
     pub out: Watched<O>,
 }
 
-/// Opens the session, runs the script, and writes the image that it leaves, and gives back the reader and the writers; or nothing,
-/// where there is no memory for the buffer of the answers. What refuses the bytes is told as an answer. The image is flushed
+/// Opens the session, runs the script, and writes the image that it leaves, and gives back the reader and the writers. What
+/// refuses the bytes is told as an answer. What the buffer of the answers holds back stands before them. The image is flushed
 /// once, at its end, and nowhere else.
 pub fn serve<R: Read + Drop, A: Write + Drop, O: Write + Drop>(
     alloc: Global,
     given: Given<'_>,
     script: R,
-    answers: A,
+    answers: BufWriter<A>,
     out: O,
-) -> Option<Served<R, A, O>>
+) -> Served<R, A, O>
     // Where the script's bytes are known, and no reader or writer fails.
-    ensures headline { IfSome result (λ served. IfSome (R.remaining script) (λ bytes.
-        ServesBytes given.entry bytes
-        (ends_before (R.remaining script) (A.contents answers) (O.contents out)) served.ended
-        (ends_of R.remaining A.contents O.contents served.script served.answers served.out))) }
+    ensures headline { IfSome (R.remaining script) (λ bytes. ServesBytes given.entry bytes
+        (ends_before (R.remaining script) (writer_contents A.contents answers) (O.contents out))
+        result.ended
+        (ends_of R.remaining A.contents O.contents result.script result.answers result.out)) }
     // Where the script's bytes are known, and a reader or a writer fails.
-    ensures at_fault { IfSome result (λ served. IfSome (R.remaining script) (λ bytes.
-        LeavesBytes given.entry bytes
-        (ends_before (R.remaining script) (A.contents answers) (O.contents out)) served.ended
-        (ends_of R.remaining A.contents O.contents served.script served.answers served.out))) }
+    ensures at_fault { IfSome (R.remaining script) (λ bytes. LeavesBytes given.entry bytes
+        (ends_before (R.remaining script) (writer_contents A.contents answers) (O.contents out))
+        result.ended
+        (ends_of R.remaining A.contents O.contents result.script result.answers result.out)) }
     // Where the script's bytes are known, with what is left of it.
-    ensures whole { IfSome result (λ served. IfSome (R.remaining script) (λ bytes.
-        ScriptLeaves given.entry bytes
-        (ends_before (R.remaining script) (A.contents answers) (O.contents out)) served.ended
-        (ends_of R.remaining A.contents O.contents served.script served.answers served.out))) }
+    ensures whole { IfSome (R.remaining script) (λ bytes. ScriptLeaves given.entry bytes
+        (ends_before (R.remaining script) (writer_contents A.contents answers) (O.contents out))
+        result.ended
+        (ends_of R.remaining A.contents O.contents result.script result.answers result.out)) }
     // At any reader and writers, and at their faults.
-    ensures serves { IfSome result (λ served. RunLeaves given.entry
-        (ends_before (R.remaining script) (A.contents answers) (O.contents out)) served.ended
-        (ends_of R.remaining A.contents O.contents served.script served.answers served.out)) }
+    ensures serves { RunLeaves given.entry
+        (ends_before (R.remaining script) (writer_contents A.contents answers) (O.contents out))
+        result.ended
+        (ends_of R.remaining A.contents O.contents result.script result.answers result.out) }
     // Which of them have failed.
-    ensures named { IfSome result (λ served. IsNamed served.ended
-        (has_failed served.script) (has_failed served.answers) (has_failed served.out)) }
+    ensures named { IsNamed result.ended
+        (has_failed result.script) (has_failed result.answers) (has_failed result.out) }
     // No answer is held back, but where the answers fail.
-    ensures passed_on { IfSome result (λ served. served.ended ≢ Ended.WriteAnswers
-        → writer_buffer (inner_of served.answers) ≡ []) }
-    ensures image_passed_on { IfSome result (λ served. served.ended ≡ Ended.Done
-        → has_passed_on served.out ≡ true) }
+    ensures passed_on { result.ended ≢ Ended.WriteAnswers
+        → writer_buffer (inner_of result.answers) ≡ [] }
+    ensures image_passed_on { result.ended ≡ Ended.Done → has_passed_on result.out ≡ true }
     // The writer of the image is as it was, without a flush, but where the image is written.
-    ensures untouched { IfSome result (λ served. served.ended ≢ Ended.Done
-        → served.ended ≢ Ended.WriteOut → inner_of served.out ≡ out) }
+    ensures untouched { result.ended ≢ Ended.Done → result.ended ≢ Ended.WriteOut
+        → inner_of result.out ≡ out }
 {
     let mut script = Watched::new(script);
-    let mut answers = Watched::new(BufWriter::new(alloc, answers).ok()?);
+    let mut answers = Watched::new(answers);
     let mut out = Watched::new(out);
     let ended = serve_watched(alloc, given, &mut script, &mut answers, &mut out);
-    Some(Served {
+    Served {
         ended,
         script,
         answers,
         out,
-    })
+    }
 }
 
-// RunLeaves over a reader and writers of which none has failed, and with an empty buffer.
+// RunLeaves over a reader and writers of which none has failed.
 fn serve_watched<R: Read, A: Write + Drop, O: Write>(
     alloc: Global,
     given: Given<'_>,
@@ -135,10 +135,9 @@ fn serve_watched<R: Read, A: Write + Drop, O: Write>(
     out: &mut Watched<O>,
 ) -> Ended
     requires script { has_failed script.old ≡ false }
-    requires empty { writer_buffer (inner_of answers.old) ≡ [] }
     requires out { has_failed out.old ≡ false }
     ensures serves { RunLeaves given.entry
-        (ends_of R.remaining A.contents O.contents script.old answers.old out.old) result
+        (all_told (ends_of R.remaining A.contents O.contents script.old answers.old out.old)) result
         (ends_of R.remaining A.contents O.contents script.new answers.new out.new) }
     ensures named { IsNamed result
         (has_failed script.new) (has_failed answers.new) (has_failed out.new) }
@@ -159,10 +158,9 @@ fn run<R: Read, A: Write + Drop, O: Write>(
     answers: &mut Watched<BufWriter<A>>,
     out: &mut Watched<O>,
 ) -> Ended
-    requires empty { writer_buffer (inner_of answers.old) ≡ [] }
     requires out { has_failed out.old ≡ false }
     ensures serves { (given : Given) → Starts given session.old → RunLeaves given
-        (ends_of R.remaining A.contents O.contents script.old answers.old out.old) result
+        (all_told (ends_of R.remaining A.contents O.contents script.old answers.old out.old)) result
         (ends_of R.remaining A.contents O.contents script.new answers.new out.new) }
     ensures named { IsNamed result
         (has_failed script.new) (has_failed answers.new) (has_failed out.new) }
