@@ -126,7 +126,7 @@ impl<'a> Session<'a> {
     }
 
     /// Carries the command out, and then writes its text, without a flush. Where the writer fails, the command is carried out
-    /// all the same.
+    /// all the same, and `WriteFault::written` is how many bytes of the text were written, from the first on.
     pub fn run<W: Write>(
         &mut self,
         command: Command<'_>,
@@ -151,6 +151,12 @@ impl<'a> Session<'a> {
 
     /// Runs the lines of a script, each complete line of a piece of at most 512 bytes before the next is read. It reads
     /// at most 1,048,577 bytes. The answers are flushed before each read and at the end.
+    ///
+    /// `TooLong` is a script of more than 1,048,576 bytes: the lines whose LF is among these were run, an answer tells it,
+    /// and what stands behind one byte more is not read. `RunFault::Read` is a reader that failed: the lines whose LF was
+    /// read were run, and their answers are written and flushed. `RunFault::Write` is a writer that failed, at a write or a
+    /// flush: the lines whose LF stands before the last 512 bytes that were read were run, and maybe some behind them, and
+    /// of the answers to all of these at most the last is not written whole.
     pub fn run_script<R: Read, W: Write>(
         &mut self,
         script: &mut Watched<R>,
